@@ -1,0 +1,73 @@
+use filter_words::BreakCause;
+
+/// Why a filter driver's answer for a path isn't its content.
+#[derive(Clone, Copy, Debug, PartialEq, Eq)]
+pub enum FilterCause {
+    Error,
+    /// `status=error` after the content.
+    ErrorAfter,
+    /// The driver answered `abort`, to this path or before it.
+    Abort,
+    /// The driver doesn't announce `smudge`.
+    NoSmudge,
+    /// The driver's command could not be started.
+    NotStarted,
+    Broken(BreakCause),
+}
+
+/// What is wrong with the object of a path.
+#[derive(Clone, Copy, Debug, PartialEq, Eq)]
+pub enum ObjectKind {
+    Absent,
+    Header,
+    Size,
+    WrongName,
+    TooLarge,
+}
+
+/// Why nothing is written for a path, though nothing failed.
+#[derive(Clone, Copy, Debug, PartialEq, Eq)]
+pub enum SkipCause {
+    /// A commit of another repository.
+    Gitlink,
+    /// A path with stages 1 to 3.
+    Unmerged,
+}
+
+/// Why a path failed.
+#[derive(Clone, Copy, Debug, PartialEq, Eq)]
+pub enum FailCause {
+    Filter(FilterCause),
+    /// A delayed path that its driver never listed.
+    Missing,
+    /// A required driver without `process`.
+    NoProcess,
+    Object(ObjectKind),
+    UnknownEncoding,
+    /// A path that isn't UTF-8.
+    NameNotText,
+    ReadFailed,
+    WriteFailed,
+}
+
+/// How a path of a checkout ended.
+#[derive(Clone, Copy, Debug, PartialEq, Eq)]
+pub enum Verdict {
+    /// The path has its file. `unencoded`: its content isn't UTF-8, and was written as it is.
+    Written { unencoded: bool },
+    /// The path has its file, without its driver, which isn't required.
+    Unfiltered { cause: FilterCause, unencoded: bool },
+    Failed(FailCause),
+    NoMemory,
+    Skipped(SkipCause),
+}
+
+/// What befell a path itself, apart from its driver.
+#[derive(Clone, Copy, Debug, PartialEq, Eq)]
+pub enum Own {
+    Fine { unencoded: bool },
+    Object(ObjectKind),
+    ReadFailed,
+    WriteFailed,
+    NoMemory,
+}
