@@ -1,0 +1,84 @@
+use super::*;
+use std::test::Fail;
+
+#[test]
+fn paths_have_their_first_fault(rt: HostRuntime) -> Result<(), Fail> {
+    let longest = vec![in rt.alloc(); b'a'; 4096]?;
+    let too_long = vec![in rt.alloc(); b'a'; 4097]?;
+    let table: [(&[u8], Result<(), PathFault>); 12] = [
+        (b"", Err(PathFault::Empty)),
+        (b"a//b", Err(PathFault::EmptyPart)),
+        (b"/a", Err(PathFault::EmptyPart)),
+        (b"a/", Err(PathFault::EmptyPart)),
+        (b"./a", Err(PathFault::Dot)),
+        (b"a/..", Err(PathFault::DotDot)),
+        (b".Git", Err(PathFault::DotGit)),
+        (too_long.as_slice(), Err(PathFault::TooLong)),
+        (b"...", Ok(())),
+        (b".gitx", Ok(())),
+        (longest.as_slice(), Ok(())),
+        (b"../.git", Err(PathFault::DotDot)),
+    ];
+    for (path, want) in table {
+        assert!(rt; check_path(path) == want, "at {path:?}");
+    }
+    Ok(())
+}
+
+#[test]
+fn paths_are_quoted_as_in_c(rt: HostRuntime) -> Result<(), Fail> {
+    let table: [(&[u8], &[u8]); 6] = [
+        (b"\xC3\xA9", b"\"\\303\\251\""),
+        (b"\xFF", b"\"\\377\""),
+        (b"a b~", b"a b~"),
+        (b"", b""),
+        (
+            b"a\x07\x08\t\n\x0B\x0C\r\"\\z",
+            b"\"a\\a\\b\\t\\n\\v\\f\\r\\\"\\\\z\"",
+        ),
+        (b"\x00\x1F\x7F ", b"\"\\000\\037\\177 \""),
+    ];
+    for (path, want) in table {
+        let text = quote_path(rt.alloc(), path)?;
+        assert!(rt; text.as_slice() == want, "at {path:?}");
+    }
+    Ok(())
+}
+
+#[test]
+fn decimals_are_read_within_a_limit(rt: HostRuntime) {
+    let table: [(&[u8], u64, Option<u64>); 13] = [
+        (b"0", 0, Some(0)),
+        (b"7", 9, Some(7)),
+        (b"10", 10, Some(10)),
+        (b"11", 10, None),
+        (
+            b"18446744073709551615",
+            u64::MAX,
+            Some(18_446_744_073_709_551_615),
+        ),
+        (b"18446744073709551616", u64::MAX, None),
+        (b"99999999999999999999999999999999999999999", u64::MAX, None),
+        (b"", 9, None),
+        (b"00", 9, None),
+        (b"01", 9, None),
+        (b"+1", 9, None),
+        (b"1 ", 9, None),
+        (b"1a", 99, None),
+    ];
+    for (text, most, want) in table {
+        assert!(rt; read_decimal(text, most) == want, "at {text:?}");
+    }
+}
+
+#[test]
+fn copies_keep_their_values(rt: HostRuntime) -> Result<(), Fail> {
+    let copy = Bytes::copy_of(rt.alloc(), b"ab")?;
+    assert!(rt; copy.as_slice() == b"ab".as_slice());
+    let whole = Bytes::from_vec([1, 2].to_vec(rt.alloc())?);
+    assert!(rt; whole.as_slice() == [1u8, 2].as_slice());
+    let items = Items::from_vec([3u32, 4].to_vec(rt.alloc())?);
+    assert!(rt; items.as_slice() == [3u32, 4].as_slice());
+    assert!(rt; items.into_vec().as_slice() == [3u32, 4].as_slice());
+    Ok(())
+}
