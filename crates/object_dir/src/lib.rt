@@ -1,0 +1,16 @@
+//! Objects of a repository: what a blob's stored bytes are, how a content is stored, under which name and where.
+//!
+//! An object is stored as `blob`, a space, the decimal size, a NUL and the content, uncompressed, and its name is the
+//! SHA-1 of all of that.
+#![tactic(auto)]
+
+mod fault;
+mod reading;
+mod spelling;
+
+pub use fault::ObjectFault;
+pub use reading::read_blob;
+pub use spelling::{blob_name, object_path, spell_blob};
+
+#[cfg(test)]
+mod tests;
