@@ -1,7 +1,7 @@
 -- What an object's stored bytes hold.
-use Rattle.std.specs.Prelude.{◌≡◌, ℕ, Bool, ◌&&◌, ◌==◌, not, nat_eq, nat_lt, List, length, drop, codes, Option, Some, None, Result, Ok, Err, if◌then◌else◌}
+use Rattle.std.specs.Prelude.{◌≡◌, ℕ, Bool, ◌&&◌, ◌==◌, not, nat_lt, List, length, take, drop, codes, is_some, position, Result, Ok, Err, if◌then◌else◌}
 use Rattle.std.specs.Global.{Vec}
-use Rattle.std.specs.List.{starts_with, list_any, before_first, after_first}
+use Rattle.std.specs.List.{before_first, after_first}
 use Rattle.std.specs.Str.{bytes_eq}
 use Rattle.std.specs.Str.Parse.{digits_value}
 use Rattle.byte_path.specs.Decimal.{is_decimal}
@@ -27,7 +27,7 @@ content_of stored = after_first is_nul (drop 5 stored)
 
 -- whether the stored bytes begin with `blob `, a decimal and a NUL
 abbrev pub has_header : List ℕ → Bool
-has_header stored = starts_with nat_eq stored (codes "blob ") && list_any is_nul (drop 5 stored) && is_decimal (size_text stored)
+has_header stored = bytes_eq (take 5 stored) (codes "blob ") && is_some (position is_nul (drop 5 stored)) && is_decimal (size_text stored)
 
 -- the content of stored bytes under a name, or the first fault
 unfoldable pub stored_content : List ℕ → List ℕ → Result (List ℕ) ObjectFault

@@ -1,5 +1,7 @@
-ghost use Rattle.std.specs.Prelude.{◌≡◌, ◌≤◌, true, false, length, drop, MatchOption, MatchResult};
-ghost use Rattle.object_dir.specs.Object.{has_header, size_text, content_of, stored_content, IsObject, AfterRead};
+ghost use Rattle.std.specs.Prelude.{◌≡◌, ◌≤◌, ◌==◌, true, false, length, drop, position, MatchOption, MatchResult};
+ghost use Rattle.std.specs.Str.Parse.{digits_value};
+ghost use Rattle.byte_path.specs.Decimal.{is_decimal};
+ghost use Rattle.object_dir.specs.Object.{is_nul, has_header, size_text, content_of, stored_content, IsObject, AfterRead};
 
 use crate::fault::ObjectFault;
 use byte_path::{is_decimal, read_decimal};
@@ -9,19 +11,35 @@ use sha1::Sha1;
 /// The most stored bytes: those of a content of 67,108,864 bytes.
 const MAX_STORED: u64 = 67_108_878;
 
+/// The place of the first NUL.
+fn nul_place(bytes: &[u8]) -> Option<usize>
+    ensures { result ≡ position is_nul bytes.now }
+{
+    bytes.iter().position(|b| *b == 0)
+}
+
 /// The text of the size and the content, or `None` where the header doesn't read.
 fn split_stored(stored: &[u8]) -> Option<(&[u8], &[u8])>
     ensures { MatchOption result (has_header stored.now ≡ false) (λ parts.
-        (has_header stored.now ≡ true) × (parts.0.now ≡ size_text stored.now) × (parts.1.now ≡ content_of stored.now)) }
+        (has_header stored.now ≡ true) × (is_decimal parts.0.now ≡ true) × (parts.0.now ≡ size_text stored.now) × (parts.1.now ≡ content_of stored.now)) }
 {
     let rest = stored.strip_prefix(b"blob ")?;
-    let end = rest.iter().position(|b| *b == 0)?;
+    let end = nul_place(rest)?;
     let (size, ended) = rest.split_at(end);
     if !is_decimal(size) {
         return None;
     }
     let (_, content) = ended.split_at(1);
     Some((size, content))
+}
+
+/// Whether a decimal is that length.
+fn is_length(size: &[u8], len: usize) -> bool
+    requires { is_decimal size.now ≡ true }
+    ensures { result ≡ (digits_value 10 size.now == len) }
+{
+    let len = len as u64;
+    read_decimal(size, len) == Some(len)
 }
 
 /// Where the content begins in the stored bytes of the object of that name.
@@ -34,8 +52,7 @@ fn content_start(stored: &[u8], name: &[u8; 20]) -> Result<usize, ObjectFault>
     let Some((size, content)) = split_stored(stored) else {
         return Err(ObjectFault::Header);
     };
-    let len = content.len() as u64;
-    if read_decimal(size, len) != Some(len) {
+    if !is_length(size, content.len()) {
         return Err(ObjectFault::Size);
     }
     let found = Sha1::digest(stored);
