@@ -1,0 +1,3 @@
+pub mod Growth
+pub mod PathEnds
+pub mod PathsEnd

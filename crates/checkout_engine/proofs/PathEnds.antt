@@ -1,0 +1,173 @@
+-- How a path ends, by what was given back.
+use Rattle.std.proofs.Common.{◌≡◌, ◌⊎◌, ℕ, ◌<◌, Bool, true, false, List, [], ◌∷◌, ◌++◌, Option, Some, None, Ok, refl, sym, ap, ◌∙◌, subst, inl, inr, append-nil}
+use Rattle.std.specs.Option.{option_map}
+use Rattle.std.specs.Str.{IsUtf8}
+use Rattle.edge_kit.specs.Told.{Told, Tells, MayFail}
+use Rattle.edge_kit.specs.Files.{with_file, files_with, MayGainPart, JoinsLeaf}
+use Rattle.edge_kit.specs.declared.leaf_state.LeafState.{LeafState}
+use Rattle.edge_kit.specs.declared.leaf_state.LeafState.TheVariants.{Fresh, Sealed, Gone, Stuck}
+use Rattle.edge_kit.specs.declared.leaf_state.Mark.{Mark}
+use Rattle.edge_kit.specs.declared.tree_file.TreeFile.{TreeFile}
+use Rattle.object_dir.specs.Object.{Gives}
+use Rattle.checkout_core.specs.declared.verdict.Verdict.{Verdict}
+use Rattle.checkout_core.specs.declared.verdict.Verdict.TheVariants as verdict
+use Rattle.checkout_core.specs.declared.verdict.FailCause.TheVariants as fail
+use Rattle.checkout_engine.specs.declared.plan.PathPlan.{PathPlan}
+use Rattle.checkout_engine.specs.Outcome.{Outcome, IsGivenUp, EndsPath, IsOpenPath, IsUntouched, MayLeavePart, LeavesPart, HasVerdict, joined}
+use Rattle.checkout_engine.specs.Paths.{Given, EndsOne}
+
+-- the told files grow by this one, if there is one
+abbrev FilesGrow : Option (List TreeFile) → Option TreeFile → Option (List TreeFile) → Type 0
+FilesGrow old file new = (fs : List TreeFile) → Tells old fs → Tells new (joined file fs)
+
+files_stay : (old new : Option (List TreeFile)) → new ≡ old → FilesGrow old None new
+files_stay old new same fs tells = subst (λ (told : Option (List TreeFile)). Tells told fs) (sym same) tells
+
+told_with : (old : Option (List TreeFile)) (f : TreeFile) (fs : List TreeFile) → Tells old fs → Tells (option_map (with_file f) old) (with_file f fs)
+told_with None f fs tells = tt
+told_with (Some gs) f fs tells = ap (with_file f) tells
+
+file_joins : (old : Option (List TreeFile)) (path : List ℕ) (told : Option (List ℕ)) (content : List ℕ) (mark : Mark) (fs : List TreeFile) → Tells told content → Tells old fs
+    → Tells (files_with old path told mark) (with_file (record { path = path; bytes = content; mark = mark }) fs)
+file_joins None path told content mark fs is tells = tt
+file_joins (Some gs) path None content mark fs is tells = tt
+file_joins (Some gs) path (Some bytes) content mark fs is tells = rw (is, tells) refl
+
+-- a sealed leaf adds its file
+seals : (old new : Option (List TreeFile)) (path : List ℕ) (told : Option (List ℕ)) (content : List ℕ) (mark : Mark) (state : LeafState) → state ≡ Sealed mark → Tells told content
+    → JoinsLeaf old path told state new → FilesGrow old (Some (record { path = path; bytes = content; mark = mark })) new
+seals old new path told content mark state is tells joins fs had =
+    let joined_so : new ≡ files_with old path told mark = subst (λ (s : LeafState). JoinsLeaf old path told s new) is joins in
+    subst (λ (files : Option (List TreeFile)). Tells files (with_file (record { path = path; bytes = content; mark = mark }) fs)) (sym joined_so) (file_joins old path told content mark fs tells had)
+
+-- what stays of a leaf, and what that makes of the files
+record Stays (old : Option (List TreeFile)) (path : List ℕ) (state : LeafState) (new : Option (List TreeFile)) : Type 0 where
+  file : Option TreeFile
+  part : LeavesPart path state file
+  grow : FilesGrow old file new
+
+record Keeps (old : Option (List TreeFile)) (path : List ℕ) (new : Option (List TreeFile)) : Type 0 where
+  file : Option TreeFile
+  part : MayLeavePart path file
+  grow : FilesGrow old file new
+
+gains : (old new : Option (List TreeFile)) (path : List ℕ) → MayGainPart old path new → Keeps old path new
+gains old new path (inl same) = record { file = None; part = tt; grow = files_stay old new same }
+gains old new path (inr (f, is, grew)) = record {
+  file = Some f;
+  part = is;
+  grow = λ fs tells. subst (λ (files : Option (List TreeFile)). Tells files (with_file f fs)) (sym grew) (told_with old f fs tells);
+}
+
+stays : (old new : Option (List TreeFile)) (path : List ℕ) (told : Option (List ℕ)) (state : LeafState) → IsGivenUp state → JoinsLeaf old path told state new → Stays old path state new
+stays old new path told state (inl gone) joins = record {
+  file = None;
+  part = subst (λ (s : LeafState). LeavesPart path s None) (sym gone) refl;
+  grow = files_stay old new (subst (λ (s : LeafState). JoinsLeaf old path told s new) gone joins);
+}
+stays old new path told state (inr stuck) joins =
+    let kept = gains old new path (subst (λ (s : LeafState). JoinsLeaf old path told s new) stuck joins) in
+    record {
+  file = kept.file;
+  part = subst (λ (s : LeafState). LeavesPart path s kept.file) (sym stuck) kept.part;
+  grow = kept.grow;
+}
+
+keeps : (old new : Option (List TreeFile)) (path : List ℕ) (told : Option (List ℕ)) (state : LeafState) → (state ≡ Fresh) ⊎ IsGivenUp state → JoinsLeaf old path told state new → Keeps old path new
+keeps old new path told state (inl fresh) joins = record { file = None; part = tt; grow = files_stay old new (subst (λ (s : LeafState). JoinsLeaf old path told s new) fresh joins) }
+keeps old new path told state (inr (inl gone)) joins = record { file = None; part = tt; grow = files_stay old new (subst (λ (s : LeafState). JoinsLeaf old path told s new) gone joins) }
+keeps old new path told state (inr (inr stuck)) joins = gains old new path (subst (λ (s : LeafState). JoinsLeaf old path told s new) stuck joins)
+
+abbrev counted : LeafState → ℕ → Option (LeafState × ℕ)
+counted state count = Some (state, count)
+
+same_count : (s t : LeafState) (m n : ℕ) → s ≡ t → m ≡ n → counted s m ≡ counted t n
+same_count s t m n first second = rw (first, second) refl
+
+-- nothing was made for the path
+abbrev untouched : Verdict → Outcome
+untouched v = record { verdict = v; blob = None; leaf = None; file = None }
+
+pub ends_untouched : (object : List ℕ → Told) (p : PathPlan) (v : Verdict) (before after : Given)
+    → after.blobs ≡ before.blobs → after.leaves ≡ before.leaves → after.files ≡ before.files
+    → HasVerdict (object p.object) p (untouched v) v → EndsOne object p v before after
+ends_untouched object p v before after blobs leaves files has = record {
+  outcome = untouched v;
+  same = refl;
+  fits = has;
+  blobs = blobs ∙ sym (append-nil before.blobs);
+  leaves = leaves ∙ sym (append-nil before.leaves);
+  files = files_stay before.files after.files files;
+}
+
+-- a blob was made and given back, and no leaf
+pub ends_unread : (object : List ℕ → Told) (p : PathPlan) (before after : Given) → IsOpenPath p
+    → after.blobs ≡ before.blobs ++ (p.object, 0) ∷ [] → after.leaves ≡ before.leaves → after.files ≡ before.files
+    → EndsOne object p verdict.NoMemory before after
+ends_unread object p before after opened blobs leaves files = record {
+  outcome = record { verdict = verdict.NoMemory; blob = Some 0; leaf = None; file = None };
+  same = refl;
+  fits = (opened, tt);
+  blobs = blobs;
+  leaves = leaves ∙ sym (append-nil before.leaves);
+  files = files_stay before.files after.files files;
+}
+
+-- A path that was read and written: its blob and its leaf are given back.
+pub record IsBack (p : PathPlan) (blob : ℕ) (state : LeafState) (content : Option (List ℕ)) (leaf : ℕ) (before after : Given) : Type 0 where
+  pub blobs : after.blobs ≡ before.blobs ++ (p.object, blob) ∷ []
+  pub leaves : after.leaves ≡ before.leaves ++ (p.path, state, leaf) ∷ []
+  pub files : JoinsLeaf before.files p.path content state after.files
+
+ends_with : (object : List ℕ → Told) (p : PathPlan) (v : Verdict) (blob : ℕ) (state : LeafState) (content : Option (List ℕ)) (leaf : ℕ) (before after : Given)
+    (file : Option TreeFile) → IsBack p blob state content leaf before after → FilesGrow before.files file after.files
+    → HasVerdict (object p.object) p (record { verdict = v; blob = Some blob; leaf = Some (state, leaf); file = file }) v → EndsOne object p v before after
+ends_with object p v blob state content leaf before after file back grow has = record {
+  outcome = record { verdict = v; blob = Some blob; leaf = Some (state, leaf); file = file };
+  same = refl;
+  fits = has;
+  blobs = back.blobs;
+  leaves = back.leaves;
+  files = grow;
+}
+
+pub ends_read : (object : List ℕ → Told) (p : PathPlan) (v : Verdict) (blob : ℕ) (state : LeafState) (content : Option (List ℕ)) (leaf : ℕ) (before after : Given)
+    → IsOpenPath p → EndsPath (object p.object) p v blob state content leaf → IsBack p blob state content leaf before after → EndsOne object p v before after
+ends_read object p (verdict.Written false) blob state content leaf before after opened (bytes, gives, unread, ended) back =
+    ends_with object p (verdict.Written false) blob state content leaf before after (Some (record { path = p.path; bytes = bytes; mark = p.mark })) back
+    (seals before.files after.files p.path content bytes p.mark state ended.0 ended.1 back.files)
+    (opened, (ap Some unread, same_count state (Sealed p.mark) leaf 0 ended.0 ended.2), (bytes, gives, refl))
+ends_read object p (verdict.Written true) blob state content leaf before after opened ends back = absurd ends
+ends_read object p (verdict.Unfiltered cause unencoded) blob state content leaf before after opened ends back = absurd ends
+ends_read object p (verdict.Failed fail.ReadFailed) blob state content leaf before after opened (may, failed, fresh, unfailed) back =
+    ends_with object p (verdict.Failed fail.ReadFailed) blob state content leaf before after None back
+    (files_stay before.files after.files (subst (λ (s : LeafState). JoinsLeaf before.files p.path content s after.files) fresh back.files))
+    (opened, may, (blob, failed, (refl, same_count state Fresh leaf 0 fresh unfailed)), refl)
+ends_read object p (verdict.Failed (fail.Object k)) blob state content leaf before after opened (wrong, unread, fresh, unfailed) back =
+    ends_with object p (verdict.Failed (fail.Object k)) blob state content leaf before after None back
+    (files_stay before.files after.files (subst (λ (s : LeafState). JoinsLeaf before.files p.path content s after.files) fresh back.files))
+    (opened, wrong, (ap Some unread, same_count state Fresh leaf 0 fresh unfailed), refl)
+ends_read object p (verdict.Failed fail.WriteFailed) blob state content leaf before after opened (bytes, gives, unread, ended) back =
+    let kept = stays before.files after.files p.path content state ended.0 back.files in
+    ends_with object p (verdict.Failed fail.WriteFailed) blob state content leaf before after kept.file back kept.grow
+    (opened, (bytes, gives), (state, leaf, ended.1, (ap Some unread, refl), kept.part))
+ends_read object p (verdict.Failed (fail.Filter cause)) blob state content leaf before after opened ends back = absurd ends
+ends_read object p (verdict.Failed fail.Missing) blob state content leaf before after opened ends back = absurd ends
+ends_read object p (verdict.Failed fail.NoProcess) blob state content leaf before after opened ends back = absurd ends
+ends_read object p (verdict.Failed fail.UnknownEncoding) blob state content leaf before after opened ends back = absurd ends
+ends_read object p (verdict.Failed fail.NameNotText) blob state content leaf before after opened ends back = absurd ends
+ends_read object p verdict.NoMemory blob state content leaf before after opened ends back =
+    let kept = keeps before.files after.files p.path content state ends back.files in
+    ends_with object p verdict.NoMemory blob state content leaf before after kept.file back kept.grow (opened, kept.part)
+ends_read object p (verdict.Skipped cause) blob state content leaf before after opened ends back = absurd ends
+
+-- what joined a list that was as before
+pub blob_joins : (old mid new : List (List ℕ × ℕ)) (n name : List ℕ) (k count : ℕ) → new ≡ mid ++ (n, k) ∷ [] → mid ≡ old → n ≡ name → k ≡ count → new ≡ old ++ (name, count) ∷ []
+blob_joins old mid new n name k count joins kept same times = rw (joins, kept, same, times) refl
+
+pub leaf_joins : (old mid new : List (List ℕ × LeafState × ℕ)) (n name : List ℕ) (state : LeafState) (count : ℕ) → new ≡ mid ++ (n, state, count) ∷ [] → mid ≡ old → n ≡ name
+    → new ≡ old ++ (name, state, count) ∷ []
+leaf_joins old mid new n name state count joins kept same = rw (joins, kept, same) refl
+
+pub files_join : (old mid new : Option (List TreeFile)) (n name : List ℕ) (content : Option (List ℕ)) (state : LeafState) → JoinsLeaf mid n content state new → mid ≡ old → n ≡ name → JoinsLeaf old name content state new
+files_join old mid new n name content state joins kept same = subst (λ (x : Option (List TreeFile)). JoinsLeaf x name content state new) kept (subst (λ (x : List ℕ). JoinsLeaf mid x content state new) same joins)

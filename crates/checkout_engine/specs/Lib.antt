@@ -1,0 +1,4 @@
+pub mod Plan
+pub mod Output
+pub mod Outcome
+pub mod Paths

@@ -1,0 +1,111 @@
+-- What befalls one path of a checkout.
+use Rattle.std.specs.Prelude.{◌≡◌, ◌⊎◌, ℕ, ◌<◌, Bool, true, false, List, [], ◌∷◌, Option, Some, None, Err, Ok}
+use Rattle.std.specs.Str.{IsUtf8}
+use Rattle.edge_kit.specs.Told.{Told, Tells, MayFail}
+use Rattle.edge_kit.specs.Files.{with_file}
+use Rattle.edge_kit.specs.declared.leaf_state.LeafState.{LeafState}
+use Rattle.edge_kit.specs.declared.leaf_state.LeafState.TheVariants.{Fresh, Partly, Sealed, Gone, Broken, Stuck}
+use Rattle.edge_kit.specs.declared.leaf_state.Mark.{Mark}
+use Rattle.edge_kit.specs.declared.tree_file.TreeFile.{TreeFile}
+use Rattle.object_dir.specs.Object.{Gives, IsObject}
+use Rattle.object_dir.specs.declared.fault.ObjectFault.TheVariants as object
+use Rattle.checkout_core.specs.declared.verdict.Verdict.{Verdict}
+use Rattle.checkout_core.specs.declared.verdict.Verdict.TheVariants as verdict
+use Rattle.checkout_core.specs.declared.verdict.FailCause.{FailCause}
+use Rattle.checkout_core.specs.declared.verdict.FailCause.TheVariants as fail
+use Rattle.checkout_core.specs.declared.verdict.ObjectKind.{ObjectKind}
+use Rattle.checkout_core.specs.declared.verdict.ObjectKind.TheVariants as kind
+use Rattle.checkout_engine.specs.declared.plan.PathPlan.{PathPlan}
+
+-- a leaf that was given up: no file is there, or a part of it may stay where the discard failed
+abbrev pub IsGivenUp : LeafState → Type 0
+IsGivenUp state = (state ≡ Gone) ⊎ (state ≡ Stuck)
+
+-- how the writing of a content ends: the verdict, and the leaf's state, told content and count of faults
+abbrev pub EndsLeaf : Mark → List ℕ → Verdict → LeafState → Option (List ℕ) → ℕ → Type 0
+EndsLeaf mark content (verdict.Written false) state told count = (state ≡ Sealed mark) × Tells told content × (count ≡ 0)
+EndsLeaf mark content (verdict.Failed fail.WriteFailed) state told count = IsGivenUp state × (0 < count)
+EndsLeaf mark content verdict.NoMemory state told count = IsGivenUp state
+EndsLeaf mark content v state told count = ⊥
+
+-- what is wrong with the object of that name, by what is told
+abbrev pub FitsKind : Told → List ℕ → ObjectKind → Type 0
+FitsKind told name kind.Absent = IsObject told name (Err object.Absent)
+FitsKind told name kind.TooLarge = IsObject told name (Err object.TooLarge)
+FitsKind told name kind.Header = IsObject told name (Err object.Header)
+FitsKind told name kind.Size = IsObject told name (Err object.Size)
+FitsKind told name kind.WrongName = (found : List ℕ) × IsObject told name (Err (object.WrongName found))
+
+-- how a path that is open ends: the verdict, the blob's count, and the leaf's state, told content and count
+abbrev pub EndsPath : Told → PathPlan → Verdict → ℕ → LeafState → Option (List ℕ) → ℕ → Type 0
+EndsPath told p (verdict.Written false) blob state content leaf = (bytes : List ℕ) × Gives told p.object (Ok bytes) × (blob ≡ 0) × EndsLeaf p.mark bytes (verdict.Written false) state content leaf
+EndsPath told p (verdict.Failed fail.ReadFailed) blob state content leaf = MayFail told × (0 < blob) × (state ≡ Fresh) × (leaf ≡ 0)
+EndsPath told p (verdict.Failed (fail.Object k)) blob state content leaf = FitsKind told p.object k × (blob ≡ 0) × (state ≡ Fresh) × (leaf ≡ 0)
+EndsPath told p (verdict.Failed fail.WriteFailed) blob state content leaf = (bytes : List ℕ) × Gives told p.object (Ok bytes) × (blob ≡ 0) × EndsLeaf p.mark bytes (verdict.Failed fail.WriteFailed) state content leaf
+EndsPath told p verdict.NoMemory blob state content leaf = (state ≡ Fresh) ⊎ IsGivenUp state
+EndsPath told p v blob state content leaf = ⊥
+
+-- What a checkout leaves of one path: its verdict, its blob's count, its leaf's state and count, and its file.
+pub record Outcome : Type 0 where
+  pub verdict : Verdict
+  pub blob : Option ℕ
+  pub leaf : Option (LeafState × ℕ)
+  pub file : Option TreeFile
+
+-- nothing was made for the path
+pub record IsUntouched (o : Outcome) : Type 0 where
+  pub blob : o.blob ≡ None
+  pub leaf : o.leaf ≡ None
+  pub file : o.file ≡ None
+
+-- a path that is read and written
+pub record IsOpenPath (p : PathPlan) : Type 0 where
+  pub wanted : p.skipped ≡ None
+  pub text : IsUtf8 p.path
+
+-- no file, or some file of that path
+abbrev pub MayLeavePart : List ℕ → Option TreeFile → Type 0
+MayLeavePart path None = Unit {0}
+MayLeavePart path (Some f) = f.path ≡ path
+
+-- what stays of a leaf that was given up
+abbrev pub LeavesPart : List ℕ → LeafState → Option TreeFile → Type 0
+LeavesPart path Gone file = file ≡ None
+LeavesPart path Stuck file = MayLeavePart path file
+LeavesPart path state file = ⊥
+
+-- the blob's and the leaf's counts
+abbrev pub HasCounts : Outcome → ℕ → LeafState → ℕ → Type 0
+HasCounts o blob state leaf = (o.blob ≡ Some blob) × (o.leaf ≡ Some (state, leaf))
+
+-- The verdict of a path, with what shows it: what its object tells, and its own counts of faults.
+abbrev pub HasVerdict : Told → PathPlan → Outcome → Verdict → Type 0
+HasVerdict told p o (verdict.Skipped cause) = (p.skipped ≡ Some cause) × IsUntouched o
+HasVerdict told p o (verdict.Failed fail.NameNotText) = (p.skipped ≡ None) × (¬ (IsUtf8 p.path)) × IsUntouched o
+HasVerdict told p o verdict.NoMemory = IsOpenPath p × MayLeavePart p.path o.file
+HasVerdict told p o (verdict.Failed fail.ReadFailed) = IsOpenPath p × MayFail told × ((count : ℕ) × (0 < count) × HasCounts o count Fresh 0) × (o.file ≡ None)
+HasVerdict told p o (verdict.Failed (fail.Object k)) = IsOpenPath p × FitsKind told p.object k × HasCounts o 0 Fresh 0 × (o.file ≡ None)
+HasVerdict told p o (verdict.Failed fail.WriteFailed) =
+    IsOpenPath p × ((content : List ℕ) × Gives told p.object (Ok content))
+    × ((state : LeafState) × (count : ℕ) × (0 < count) × HasCounts o 0 state count × LeavesPart p.path state o.file)
+HasVerdict told p o (verdict.Written false) =
+    IsOpenPath p × HasCounts o 0 (Sealed p.mark) 0
+    × ((content : List ℕ) × Gives told p.object (Ok content) × (o.file ≡ Some (record { path = p.path; bytes = content; mark = p.mark })))
+HasVerdict told p o v = ⊥
+
+abbrev pub IsOutcome : Told → PathPlan → Outcome → Type 0
+IsOutcome told p o = HasVerdict told p o o.verdict
+
+-- what a path adds to the lists of blobs and leaves that were given back
+abbrev pub blob_back : PathPlan → Option ℕ → List (List ℕ × ℕ)
+blob_back p None = []
+blob_back p (Some count) = (p.object, count) ∷ []
+
+abbrev pub leaf_back : PathPlan → Option (LeafState × ℕ) → List (List ℕ × LeafState × ℕ)
+leaf_back p None = []
+leaf_back p (Some leaf) = (p.path, leaf.0, leaf.1) ∷ []
+
+-- the files with one more, if there is one
+abbrev pub joined : Option TreeFile → List TreeFile → List TreeFile
+joined None files = files
+joined (Some f) files = with_file f files

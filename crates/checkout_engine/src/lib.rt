@@ -1,0 +1,8 @@
+//! A worktree from an index and its objects.
+#![tactic(auto)]
+
+mod leaf;
+mod output;
+mod path;
+mod paths;
+mod plan;
