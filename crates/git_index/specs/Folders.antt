@@ -1,0 +1,2 @@
+-- The paths that a later path may begin with.
+use Rattle.std.specs.Prelude.{ℕ}
