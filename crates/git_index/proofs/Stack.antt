@@ -1,5 +1,5 @@
 -- The stack of open paths tells whether a folder of the next path is an earlier one.
-use Rattle.std.proofs.Common.{◌≡◌, ℕ, zero, suc, ◌+◌, ◌-◌, ◌<◌, ◌≤◌, Bool, true, false, not, ◌&&◌, ◌||◌, eqb, ltb, List, [], ◌∷◌, ◌++◌, length, take, get_or, Option, Some, None, refl, sym, ap, subst, ◌∙◌, arith, inl, inr, ◌⊎◌}
+use Rattle.std.proofs.Common.{◌≡◌, ℕ, zero, suc, ◌+◌, ◌-◌, ◌<◌, ◌≤◌, Bool, true, false, not, ◌&&◌, ◌||◌, eqb, ltb, List, [], ◌∷◌, ◌++◌, length, take, get_or, Option, Some, None, refl, sym, ap, subst, ◌∙◌, arith, append_assoc, inl, inr, ◌⊎◌}
 use Rattle.std.specs.Prelude.{nat_eq, MatchOption, slice_get}
 use Rattle.std.specs.List.{list_all, list_any, starts_with}
 use Rattle.std.proofs.lemmas.Bool.{and_parts, and_from, and_left, and_right, ltb-true, lt-ltb, eqb-true, eq-eqb, not-true, not_from_true, not_from_false, false_from_ne_true, cases_Bool}
@@ -239,3 +239,16 @@ told_by true earlier old new e clash stage known above step =
 
 pub told : (earlier : List Entry) (old new : List (List ℕ)) (e : Entry) (clash : Bool) → AreOpen earlier old → list_all (λ b. is_below b e) earlier ≡ true → Opens e old new clash → Told earlier new e clash
 told earlier old new e clash known above step = told_by (eqb e.stage 0) earlier old new e clash refl known above step
+
+-- what a loop has closed
+pub record ClosedSoFar (path : List ℕ) (old new : List (List ℕ)) : Type 0 where
+  pub dropped : List (List ℕ)
+  pub parts : old ≡ new ++ dropped
+  pub gone : list_all (λ d. not (starts_with nat_eq path d)) dropped ≡ true
+
+pub ClosedSoFar-more : (path d : List ℕ) (old new newer : List (List ℕ)) → ClosedSoFar path old new → new ≡ newer ++ d ∷ [] → starts_with nat_eq path d ≡ false → ClosedSoFar path old newer
+ClosedSoFar-more path d old new newer c parts no_beginning = record {
+  dropped = d ∷ c.dropped;
+  parts = c.parts ∙ ap (λ (xs : List (List ℕ)). xs ++ c.dropped) parts ∙ append_assoc newer (d ∷ []) c.dropped;
+  gone = and_from _ _ (not_from_false _ no_beginning) c.gone;
+}

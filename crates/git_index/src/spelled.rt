@@ -1,5 +1,5 @@
 //! One entry and one extension, as they are spelled.
-ghost use Rattle.std.specs.Prelude.{◌≡◌, ◌≤◌, length, take};
+ghost use Rattle.std.specs.Prelude.{◌≡◌, ◌<◌, ◌≤◌, length, take, IfOk};
 ghost use Rattle.git_index.specs.Reading.{seen_by, sized_at, path_at, made_at, flagged_at, entry_at, extension_at};
 ghost use Rattle.git_index.specs.Seen.{read_of};
 
@@ -109,8 +109,9 @@ fn signature_of(bytes: &[u8]) -> [u8; 4]
 
 /// The bytes behind the extension that they begin with.
 #[tactic(auto, unfolding(crate::specs::Reading::extension_at))]
-fn extension_of(bytes: &[u8]) -> Result<&[u8], IndexFault>
-    ensures { seen_by (λ x. x.now) result ≡ extension_at bytes.now }
+pub fn extension_of(bytes: &[u8]) -> Result<&[u8], IndexFault>
+    ensures value { seen_by (λ x. x.now) result ≡ extension_at bytes.now }
+    ensures shorter { IfOk result (λ x. length x.now < length bytes.now) }
 {
     if bytes.len() < 8 {
         return Err(IndexFault::Short);
