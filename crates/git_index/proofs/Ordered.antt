@@ -72,6 +72,16 @@ ordered_more earlier e made ordered is =
       apart = pairwise-push is_no_clash earlier e ∙ and_from _ _ ordered.apart apart;
     })
 
+pub placed_is : (earlier : List Entry) (e made : Entry) → placed_at earlier e ≡ Ok made → e ≡ made
+unfolding placed_at
+placed_is earlier e made is =
+    let k : ℕ = length earlier in
+    let r2 : Result Entry IndexFault = want (not (list_any (λ b. is_clash b e) earlier)) (FolderClash k) (Ok e) in
+    let r1 : Result Entry IndexFault = want (is_none_or (λ b. is_alone b e) (last_of earlier)) (BadEntry k MixedStage) r2 in
+    let a = want_ok (is_none_or (λ b. is_below b e) (last_of earlier)) (Order k) r1 made is in
+    let b = want_ok (is_none_or (λ b. is_alone b e) (last_of earlier)) (BadEntry k MixedStage) r2 made a.1 in
+    ok_is e made (want_ok (not (list_any (λ b. is_clash b e) earlier)) (FolderClash k) (Ok e) made b.1).1
+
 -- what a test of each two entries says of one entry and those before it
 of_earlier : (test : Entry → Entry → Bool) (earlier : List Entry) (e : Entry) (es : List Entry) → pairwise test (earlier ++ e ∷ es) ≡ true → list_all (λ b. test b e) earlier ≡ true
 of_earlier test earlier e es h =
