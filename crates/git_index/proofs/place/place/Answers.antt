@@ -1,0 +1,29 @@
+use Rattle.std.proofs.Common.{rules, ◌≡◌, ◌++◌, ◌∷◌, [], Bool, true, false, Ok, List, ℕ, refl, subst, sym, ap, ◌∙◌}
+use Rattle.std.proofs.lemmas.Bool.{not-false}
+use Rattle.git_index.specs.declared.entry.Entry.{Entry}
+use Rattle.git_index.specs.Spelling.{is_below, is_alone}
+use Rattle.git_index.specs.Reading.{is_none_or, last_of, placed_at}
+use Rattle.git_index.specs.Seen.{entry_of_spelled}
+use Rattle.git_index.specs.Folders.{paths, AreOpen, Opens}
+use Rattle.git_index.proofs.Placed.{IsPlaced, placed-ok}
+use Rattle.git_index.proofs.place.place.Goals as goal
+
+pub returns-clause-placed : goal.returns-clause-placed
+returns-clause-placed c =
+    let earlier = c.args.entries.now.items in
+    let e = entry_of_spelled c.args.found.now in
+    let above : is_none_or (λ b. is_below b e) (last_of earlier) ≡ true = search rules in
+    let alone : is_none_or (λ b. is_alone b e) (last_of earlier) ≡ true = search rules in
+    let step : Opens e (paths c.args.stack.now.items) (paths c.open_path.new.stack.items) false = subst (Opens e (paths c.args.stack.now.items) (paths c.open_path.new.stack.items)) c.if-branch.false c.in_ok-open_path.ensures in
+    (placed-ok earlier (paths c.args.stack.now.items) (paths c.open_path.new.stack.items) e c.requires.known above alone step).placed
+
+pub returns-clause-still : goal.returns-clause-still
+returns-clause-still c =
+    let earlier = c.args.entries.now.items in
+    let e = entry_of_spelled c.args.found.now in
+    let above : is_none_or (λ b. is_below b e) (last_of earlier) ≡ true = search rules in
+    let alone : is_none_or (λ b. is_alone b e) (last_of earlier) ≡ true = search rules in
+    let step : Opens e (paths c.args.stack.now.items) (paths c.open_path.new.stack.items) false = subst (Opens e (paths c.args.stack.now.items) (paths c.open_path.new.stack.items)) c.if-branch.false c.in_ok-open_path.ensures in
+    let placed = placed-ok earlier (paths c.args.stack.now.items) (paths c.open_path.new.stack.items) e c.requires.known above alone step in
+    let grown : c.push.new.self.items ≡ earlier ++ e ∷ [] = c.in_ok-push.ensures.items ∙ ap (λ (x : Entry). earlier ++ x ∷ []) c.in_ok-copied.ensures in
+    subst (λ (es : List Entry). AreOpen es (paths c.open_path.new.stack.items)) (sym grown) placed.known

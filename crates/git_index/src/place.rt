@@ -1,0 +1,83 @@
+//! An entry in its place behind the earlier ones.
+ghost use Rattle.std.specs.Prelude.{◌≡◌, ◌++◌, ◌∷◌, [], length, IfOk, OnOk, IfErr};
+ghost use Rattle.git_index.specs.Spelling.{is_below, is_alone};
+ghost use Rattle.git_index.specs.Reading.{is_none_or, last_of, placed_at};
+ghost use Rattle.git_index.specs.Seen.{entry_of_spelled};
+ghost use Rattle.git_index.specs.Folders.{paths, AreOpen};
+
+use crate::entry::Entry;
+use crate::fault::{EntryKind, IndexFault};
+use crate::folders::open_path;
+use crate::spelled::Spelled;
+use byte_path::Bytes;
+use std::alloc::{AllocError, Global};
+use std::cmp::Ordering;
+
+fn is_below(before: &Entry, found: &Spelled) -> bool
+    ensures { result ≡ is_below before.now (entry_of_spelled found.now) }
+{
+    match before.path.as_slice().cmp(&found.path) {
+        Ordering::Less => true,
+        Ordering::Equal => before.stage < found.stage,
+        Ordering::Greater => false,
+    }
+}
+
+fn is_alone(before: &Entry, found: &Spelled) -> bool
+    ensures { result ≡ is_alone before.now (entry_of_spelled found.now) }
+{
+    before.path.as_slice() != found.path || before.stage != 0
+}
+
+fn rises(earlier: &[Entry], found: &Spelled) -> bool
+    ensures { result ≡ is_none_or (λ b. is_below b (entry_of_spelled found.now)) (last_of earlier.now) }
+{
+    match earlier.last() {
+        Some(before) => is_below(before, found),
+        None => true,
+    }
+}
+
+fn is_unmixed(earlier: &[Entry], found: &Spelled) -> bool
+    ensures { result ≡ is_none_or (λ b. is_alone b (entry_of_spelled found.now)) (last_of earlier.now) }
+{
+    match earlier.last() {
+        Some(before) => is_alone(before, found),
+        None => true,
+    }
+}
+
+fn copied(alloc: Global, found: &Spelled) -> Result<Entry, AllocError>
+    ensures { IfOk result (λ e. e ≡ entry_of_spelled found.now) }
+{
+    Ok(Entry {
+        path: Bytes::copy_of(alloc, found.path)?,
+        stage: found.stage,
+        mode: found.mode,
+        name: found.name,
+    })
+}
+
+/// Puts an entry behind the earlier ones, of which there are k.
+#[tactic(auto, using(crate::proofs::Placed::placing))]
+pub fn place<'a>(alloc: Global, k: u32, found: &Spelled<'a>, entries: &mut Vec<Entry>, stack: &mut Vec<&'a [u8]>) -> Result<(), IndexFault>
+    requires count { length entries.old.items ≡ k }
+    requires known { AreOpen entries.old.items (paths stack.old.items) }
+    ensures placed { OnOk result (placed_at entries.old.items (entry_of_spelled found.now) ≡ Ok (entry_of_spelled found.now)) }
+    ensures grown { OnOk result (entries.new.items ≡ entries.old.items ++ entry_of_spelled found.now ∷ []) }
+    ensures still { OnOk result (AreOpen entries.new.items (paths stack.new.items)) }
+    // Which fault it is.
+    ensures refused { IfErr result (λ f. (f ≡ IndexFault.NoMemory → ⊥) → placed_at entries.old.items (entry_of_spelled found.now) ≡ Err f) }
+{
+    if !rises(entries, found) {
+        return Err(IndexFault::Order(k));
+    }
+    if !is_unmixed(entries, found) {
+        return Err(IndexFault::Entry(k, EntryKind::MixedStage));
+    }
+    if open_path(stack, found)? {
+        return Err(IndexFault::FolderClash(k));
+    }
+    entries.push(copied(alloc, found)?)?;
+    Ok(())
+}
