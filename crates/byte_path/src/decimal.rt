@@ -1,4 +1,4 @@
-ghost use Rattle.std.specs.Prelude.{◌≡◌, ◌+◌, ◌*◌, ◌<◌, ◌≤◌, ◌^◌, Some};
+ghost use Rattle.std.specs.Prelude.{◌≡◌, ◌+◌, ◌*◌, ◌<◌, ◌≤◌, ◌^◌, ℕ, Some};
 ghost use Rattle.std.specs.Char.{digit_value, is_ascii_digit};
 ghost use Rattle.std.specs.Fmt.{decimal};
 ghost use Rattle.std.specs.Int.{IsInRange};
@@ -51,4 +51,9 @@ pub fn read_decimal(text: &[u8], most: u64) -> Option<u64>
 pub fn decimal_reads_back(number: u64, most: u64)
     requires { number ≤ most }
     ensures { decimal_within (decimal number) most ≡ Some number }
+{}
+
+/// The law that what reads as a number is the decimal of that number. It does nothing.
+pub fn number_has_one_decimal(text: &[u8], most: u64)
+    ensures { (number : ℕ) → decimal_within text.now most ≡ Some number → text.now ≡ decimal number }
 {}

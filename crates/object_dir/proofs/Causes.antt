@@ -1,5 +1,5 @@
 -- What is found in stored bytes is what the object gives.
-use Rattle.std.proofs.Common.{◌≡◌, ℕ, ◌<◌, ◌≤◌, Bool, true, false, not, cond, eqb, nat_lt, List, length, Option, Some, Result, Ok, Err, MatchResult, refl, sym, ◌∙◌, ap, subst, arith, rules}
+use Rattle.std.proofs.Common.{◌≡◌, ℕ, ◌≤◌, Bool, true, false, not, cond, eqb, List, length, Option, Some, Result, Ok, Err, MatchResult, refl, ◌∙◌, subst}
 use Rattle.std.proofs.lemmas.Bool.{le-ltb}
 use Rattle.std.specs.Global.{Vec}
 use Rattle.std.specs.Str.{bytes_eq}
@@ -33,8 +33,8 @@ unfolding stored_content
 stored_content-found stored name =
     by_tests (has_header stored) (eqb (digits_value 10 (size_text stored)) (length (content_of stored))) (bytes_eq (sha1 stored) name) (content_of stored) (sha1 stored)
 
-within : (stored name : List ℕ) → length stored ≤ max_stored → object_of stored name ≡ stored_content stored name
-within stored name few = rw (le-ltb max_stored (length stored) few) refl
+pub object_of-within : (stored name : List ℕ) → length stored ≤ max_stored → object_of stored name ≡ stored_content stored name
+object_of-within stored name few = rw (le-ltb max_stored (length stored) few) refl
 
 -- what stored bytes give
 abbrev pub IsAnswerOf : List ℕ → List ℕ → Result (Vec ℕ) ObjectFault → Type 0
@@ -45,13 +45,13 @@ never stored name fault is = subst IsFound is (stored_content-found stored name)
 
 pub IsObject-stored : (told : Told) (stored name : List ℕ) (r : Result (Vec ℕ) ObjectFault) → TellsBytes told stored → length stored ≤ max_stored
     → IsAnswerOf stored name r → IsObject told name r
-IsObject-stored told stored name (Ok content) tells few is = (stored, tells, within stored name few ∙ is)
+IsObject-stored told stored name (Ok content) tells few is = (stored, tells, object_of-within stored name few ∙ is)
 IsObject-stored told stored name (Err ReadFailed) tells few is = absurd (never stored name ReadFailed is)
 IsObject-stored told stored name (Err Absent) tells few is = absurd (never stored name Absent is)
 IsObject-stored told stored name (Err TooLarge) tells few is = absurd (never stored name TooLarge is)
-IsObject-stored told stored name (Err Header) tells few is = (stored, tells, within stored name few ∙ is)
-IsObject-stored told stored name (Err Size) tells few is = (stored, tells, within stored name few ∙ is)
-IsObject-stored told stored name (Err (WrongName found)) tells few is = (stored, tells, within stored name few ∙ is)
+IsObject-stored told stored name (Err Header) tells few is = (stored, tells, object_of-within stored name few ∙ is)
+IsObject-stored told stored name (Err Size) tells few is = (stored, tells, object_of-within stored name few ∙ is)
+IsObject-stored told stored name (Err (WrongName found)) tells few is = (stored, tells, object_of-within stored name few ∙ is)
 IsObject-stored told stored name (Err NoMemory) tells few is = tt
 
 pub AfterRead-stored : (stored name : List ℕ) (before after : ℕ) (r : Result (Vec ℕ) ObjectFault) → IsAnswerOf stored name r → after ≡ before → AfterRead before after r

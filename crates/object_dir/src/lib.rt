@@ -5,10 +5,12 @@
 #![tactic(auto)]
 
 mod fault;
+mod laws;
 mod reading;
 mod spelling;
 
 pub use fault::ObjectFault;
+pub use laws::{content_has_one_spelling, spelling_gives_its_content};
 pub use reading::read_blob;
 pub use spelling::{blob_name, object_path, spell_blob};
 

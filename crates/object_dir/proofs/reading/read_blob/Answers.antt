@@ -8,7 +8,7 @@ pub returns-in-Ok-Some-clause-object : goal.returns-in-Ok-Some-clause-object
 returns-in-Ok-Some-clause-object g c =
     let stored : List ℕ = c.in-Ok-Some.stored.items in
     let bytes : TellsBytes (g.B.Blob.told c.args.blob.now) stored × (length stored ≤ max_stored) =
-        takes_some (g.B.Blob.told c.args.blob.now) max_stored c.in-Ok-Some.field-0 c.in-Ok-Some.stored c.in-Ok-Some.field-0-is c.in-Ok-Some.ensures.bytes in
+    takes_some (g.B.Blob.told c.args.blob.now) max_stored c.in-Ok-Some.field-0 c.in-Ok-Some.stored c.in-Ok-Some.field-0-is c.in-Ok-Some.ensures.bytes in
     IsObject-stored (g.B.Blob.told c.args.blob.now) stored c.args.name.now c.content_in.result bytes.0 bytes.1 c.content_in.ensures
 
 pub returns-in-Ok-Some-clause-faults : goal.returns-in-Ok-Some-clause-faults
