@@ -2,3 +2,5 @@ pub mod Plan
 pub mod Output
 pub mod Outcome
 pub mod Paths
+pub mod Input
+pub mod RefusalText

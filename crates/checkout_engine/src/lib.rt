@@ -1,8 +1,11 @@
 //! A worktree from an index and its objects.
 #![tactic(auto)]
 
+mod input;
 mod leaf;
 mod output;
 mod path;
 mod paths;
 mod plan;
+mod refusal;
+mod stop;
