@@ -4,3 +4,4 @@ pub mod Outcome
 pub mod Paths
 pub mod Input
 pub mod RefusalText
+pub mod Report

@@ -8,4 +8,6 @@ mod path;
 mod paths;
 mod plan;
 mod refusal;
+mod report;
+mod status;
 mod stop;

@@ -4,4 +4,4 @@
 mod report;
 mod words;
 
-pub use report::{ReportPath, report_text};
+pub use report::{ReportPath, is_failed, report_text};

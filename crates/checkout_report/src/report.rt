@@ -47,7 +47,7 @@ fn is_unfiltered(verdict: &Verdict) -> bool
     matches!(verdict, Verdict::Unfiltered { .. })
 }
 
-/// Whether the path failed.
+/// Whether the path of a verdict failed.
 pub fn is_failed(verdict: &Verdict) -> bool
     ensures { result ≡ is_failed verdict.now }
 {

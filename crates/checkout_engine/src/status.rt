@@ -1,0 +1,16 @@
+/// How a run ends. The number of each is the status that the program ends with.
+#[derive(Clone, Copy, Debug, PartialEq, Eq)]
+pub enum Status {
+    Done = 0,
+    /// Some path failed.
+    DoneWithFailures = 1,
+    /// The words are no command.
+    Usage = 2,
+    /// The repository can't be checked out: a line says why.
+    Refused = 3,
+    OutputNotWritten = 4,
+    OutOfMemory = 5,
+    ReadFault = 6,
+    /// The worktree isn't empty.
+    NotEmpty = 7,
+}
