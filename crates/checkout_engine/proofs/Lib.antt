@@ -1,3 +1,4 @@
 pub mod Growth
 pub mod PathEnds
 pub mod PathsEnd
+pub mod Order

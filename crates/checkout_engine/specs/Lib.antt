@@ -5,3 +5,4 @@ pub mod Paths
 pub mod Input
 pub mod RefusalText
 pub mod Report
+pub mod Run

@@ -1,6 +1,7 @@
 //! A worktree from an index and its objects.
 #![tactic(auto)]
 
+mod command;
 mod input;
 mod leaf;
 mod output;

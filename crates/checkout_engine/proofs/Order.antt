@@ -1,0 +1,163 @@
+-- Files join in the order of the paths, each behind the others.
+use Rattle.std.proofs.Common.{◌≡◌, ◌⊎◌, ℕ, Bool, true, false, ◌&&◌, if◌then◌else◌, Ordering, Less, Equal, Greater, List, [], ◌∷◌, ◌++◌, Option, Some, None, refl, sym, ap, subst, ◌∙◌, append_assoc, append-nil, inl, inr}
+use Rattle.std.specs.List.{list_all, filter_map, AllByRecursion}
+use Rattle.std.specs.Ordering.{nat_cmp, is_lt, ordering_reverse}
+use Rattle.std.specs.Cmp.Lexicographic.{slice_cmp}
+use Rattle.std.specs.Str.{bytes_eq}
+use Rattle.std.proofs.lemmas.Cmp.{nat_list_cmp_total}
+use Rattle.std.proofs.lemmas.Bool.{and_parts, and_from}
+use Rattle.std.proofs.lemmas.Slice.Eq.{bytes_eq-Decides}
+use Rattle.edge_kit.specs.Told.{Told}
+use Rattle.edge_kit.specs.Files.{with_file}
+use Rattle.edge_kit.specs.declared.leaf_state.LeafState.{LeafState}
+use Rattle.edge_kit.specs.declared.leaf_state.LeafState.TheVariants.{Fresh, Partly, Sealed, Gone, Broken, Stuck}
+use Rattle.edge_kit.specs.declared.tree_file.TreeFile.{TreeFile}
+use Rattle.git_index.specs.declared.entry.Entry.{Entry}
+use Rattle.git_index.specs.Spelling.{pairwise, is_before, is_below}
+use Rattle.git_index.proofs.PathOrder.{is_before-trans, is_below-cases}
+use Rattle.checkout_core.specs.declared.verdict.Verdict.{Verdict}
+use Rattle.checkout_core.specs.declared.verdict.Verdict.TheVariants as verdict
+use Rattle.checkout_core.specs.declared.verdict.FailCause.TheVariants as fail
+use Rattle.checkout_engine.specs.declared.plan.PathPlan.{PathPlan}
+use Rattle.checkout_engine.specs.Plan.{planned, plan_after}
+use Rattle.checkout_engine.specs.Outcome.{Outcome, HasVerdict, IsOutcome, MayLeavePart, LeavesPart, joined}
+use Rattle.checkout_engine.specs.Paths.{AreOutcomes, all_joined}
+use Rattle.checkout_engine.specs.Run.{files_of}
+
+abbrev pub precedes : PathPlan → PathPlan → Bool
+precedes p q = is_before p.path q.path
+
+-- the path is the entry's, or comes before it
+abbrev IsUpTo : List ℕ → Entry → Type 0
+IsUpTo path e = (e.path ≡ path) ⊎ (is_before path e.path ≡ true)
+
+up_to_below : (e : Entry) (es : List Entry) → list_all (is_below e) es ≡ true → AllByRecursion (IsUpTo e.path) es
+up_to_below e [] h = tt
+up_to_below e (f ∷ es) h =
+    let p = and_parts (is_below e f) (list_all (is_below e) es) h in
+    let first : IsUpTo e.path f = elim (is_below-cases e f p.0) [ inl before ↦ inr before | inr tied ↦ inl (sym tied.0) ] in
+    (first, up_to_below e es p.1)
+
+-- where an entry has another path than the last one, its path comes behind that
+other_is_behind : (path : List ℕ) (e : Entry) → bytes_eq e.path path ≡ false → IsUpTo path e → is_before path e.path ≡ true
+other_is_behind path e other (inl same) = let no : true ≡ false = sym ((bytes_eq-Decides e.path path).1 same) ∙ other in absurd cc
+other_is_behind path e other (inr before) = before
+
+-- what is planned behind a path comes behind each path up to that
+plan_is_behind : (b c : List ℕ) (es : List Entry) → (b ≡ c) ⊎ (is_before b c ≡ true) → AllByRecursion (IsUpTo c) es → pairwise is_below es ≡ true
+    → list_all (λ q. is_before b q.path) (plan_after c es) ≡ true
+plan_is_behind b c [] up all rise = refl
+plan_is_behind b c (e ∷ es) up all rise = elim (bytes_eq e.path c) as (λ t. bytes_eq e.path c ≡ t
+    → list_all (λ q. is_before b q.path) (if t then plan_after c es else planned e ∷ plan_after e.path es) ≡ true) [
+  | true ↦ λ same. plan_is_behind b c es up all.1 (and_parts (list_all (is_below e) es) (pairwise is_below es) rise).1
+  | false ↦ λ other.
+      let parts = and_parts (list_all (is_below e) es) (pairwise is_below es) rise in
+      let behind : is_before b e.path ≡ true = elim up [
+        | inl same ↦ subst (λ (p : List ℕ). is_before p e.path ≡ true) (sym same) (other_is_behind c e other all.0)
+        | inr before ↦ is_before-trans b c e.path before (other_is_behind c e other all.0)
+      ] in
+      and_from (is_before b e.path) (list_all (λ q. is_before b q.path) (plan_after e.path es)) behind (plan_is_behind b e.path es (inr behind) (up_to_below e es parts.0) parts.1)
+] refl
+
+pub plan_rises : (c : List ℕ) (es : List Entry) → pairwise is_below es ≡ true → pairwise precedes (plan_after c es) ≡ true
+plan_rises c [] rise = refl
+plan_rises c (e ∷ es) rise = elim (bytes_eq e.path c) as (λ t. bytes_eq e.path c ≡ t
+    → pairwise precedes (if t then plan_after c es else planned e ∷ plan_after e.path es) ≡ true) [
+  | true ↦ λ same. plan_rises c es (and_parts (list_all (is_below e) es) (pairwise is_below es) rise).1
+  | false ↦ λ other.
+      let parts = and_parts (list_all (is_below e) es) (pairwise is_below es) rise in
+      and_from (list_all (λ q. is_before e.path q.path) (plan_after e.path es)) (pairwise precedes (plan_after e.path es))
+      (plan_is_behind e.path e.path es (inl refl) (up_to_below e es parts.0) parts.1) (plan_rises e.path es parts.1)
+] refl
+
+-- no path comes before the file
+abbrev Follow : TreeFile → List PathPlan → Type 0
+Follow f ps = AllByRecursion (λ p. is_before p.path f.path ≡ false) ps
+
+-- no path comes before any of the files
+abbrev AllFollow : List TreeFile → List PathPlan → Type 0
+AllFollow fs ps = AllByRecursion (λ f. Follow f ps) fs
+
+reversed : (o p : Ordering) → p ≡ ordering_reverse o → is_lt o ≡ true → is_lt p ≡ false
+reversed Less p e h = rw e refl
+reversed Equal p e h = absurd cc
+reversed Greater p e h = absurd cc
+
+not_before : (p q : List ℕ) → is_before p q ≡ true → is_before q p ≡ false
+not_before p q h = reversed (slice_cmp nat_cmp p q) (slice_cmp nat_cmp q p) (nat_list_cmp_total.antisymm q p) h
+
+with_file-last : (f : TreeFile) (fs : List TreeFile) → AllByRecursion (λ g. is_before f.path g.path ≡ false) fs → with_file f fs ≡ fs ++ f ∷ []
+with_file-last f [] all = refl
+with_file-last f (g ∷ gs) all = rw all.0 (ap (λ (hs : List TreeFile). g ∷ hs) (with_file-last f gs all.1))
+
+heads : (p : PathPlan) (f : TreeFile) (fs : List TreeFile) (ps : List PathPlan) → f.path ≡ p.path → AllFollow fs (p ∷ ps) → AllByRecursion (λ g. is_before f.path g.path ≡ false) fs
+heads p f [] ps is all = tt
+heads p f (g ∷ fs) ps is all = (subst (λ (path : List ℕ). is_before path g.path ≡ false) (sym is) all.0.0, heads p f fs ps is all.1)
+
+tails : (p : PathPlan) (fs : List TreeFile) (ps : List PathPlan) → AllFollow fs (p ∷ ps) → AllFollow fs ps
+tails p [] ps all = tt
+tails p (g ∷ fs) ps all = (all.0.1, tails p fs ps all.1)
+
+follows : (p : PathPlan) (f : TreeFile) (ps : List PathPlan) → f.path ≡ p.path → list_all (precedes p) ps ≡ true → Follow f ps
+follows p f [] is h = tt
+follows p f (q ∷ ps) is h =
+    let parts = and_parts (precedes p q) (list_all (precedes p) ps) h in
+    (subst (λ (path : List ℕ). is_before q.path path ≡ false) (sym is) (not_before p.path q.path parts.0), follows p f ps is parts.1)
+
+one_more : (fs : List TreeFile) (f : TreeFile) (ps : List PathPlan) → AllFollow fs ps → Follow f ps → AllFollow (fs ++ f ∷ []) ps
+one_more [] f ps all one = (one, tt)
+one_more (g ∷ fs) f ps all one = (all.0, one_more fs f ps all.1 one)
+
+-- the file of a path's outcome is that path's
+part_is : (p : PathPlan) (state : LeafState) (file : Option TreeFile) → LeavesPart p.path state file → MayLeavePart p.path file
+part_is p Gone file part = subst (λ (x : Option TreeFile). MayLeavePart p.path x) (sym part) tt
+part_is p Stuck file part = part
+part_is p Fresh file part = absurd part
+part_is p Partly file part = absurd part
+part_is p (Sealed mark) file part = absurd part
+part_is p Broken file part = absurd part
+
+file_is : (told : Told) (p : PathPlan) (o : Outcome) (v : Verdict) → HasVerdict told p o v → MayLeavePart p.path o.file
+file_is told p o (verdict.Skipped cause) has = subst (λ (x : Option TreeFile). MayLeavePart p.path x) (sym has.1.file) tt
+file_is told p o (verdict.Failed fail.NameNotText) has = subst (λ (x : Option TreeFile). MayLeavePart p.path x) (sym has.2.file) tt
+file_is told p o verdict.NoMemory has = has.1
+file_is told p o (verdict.Failed fail.ReadFailed) has = subst (λ (x : Option TreeFile). MayLeavePart p.path x) (sym has.3) tt
+file_is told p o (verdict.Failed (fail.Object k)) has = subst (λ (x : Option TreeFile). MayLeavePart p.path x) (sym has.3) tt
+file_is told p o (verdict.Failed fail.WriteFailed) (opened, gives, (state, count, failed, counts, part)) = part_is p state o.file part
+file_is told p o (verdict.Written false) (opened, counts, (content, gives, file)) = subst (λ (x : Option TreeFile). MayLeavePart p.path x) (sym file) refl
+file_is told p o (verdict.Written true) has = absurd has
+file_is told p o (verdict.Unfiltered cause unencoded) has = absurd has
+file_is told p o (verdict.Failed (fail.Filter cause)) has = absurd has
+file_is told p o (verdict.Failed fail.Missing) has = absurd has
+file_is told p o (verdict.Failed fail.NoProcess) has = absurd has
+file_is told p o (verdict.Failed fail.UnknownEncoding) has = absurd has
+
+abbrev with_part : Option TreeFile → List TreeFile → List TreeFile
+with_part None fs = fs
+with_part (Some f) fs = f ∷ fs
+
+files_of-cons : (o : Outcome) (os : List Outcome) → files_of (o ∷ os) ≡ with_part o.file (files_of os)
+files_of-cons o os = elim o.file as (λ file. o.file ≡ file → files_of (o ∷ os) ≡ with_part file (files_of os)) [
+  | None ↦ λ is. rw is refl
+  | Some f ↦ λ is. rw is refl
+] refl
+
+joined_in_order : (object : List ℕ → Told) (ps : List PathPlan) (os : List Outcome) (fs : List TreeFile) → pairwise precedes ps ≡ true → AreOutcomes object ps os → AllFollow fs ps
+    → all_joined os fs ≡ fs ++ files_of os
+joined_in_order object [] [] fs rise fit all = sym (append-nil fs)
+joined_in_order object [] (o ∷ os) fs rise fit all = absurd fit
+joined_in_order object (p ∷ ps) [] fs rise fit all = absurd fit
+joined_in_order object (p ∷ ps) (o ∷ os) fs rise fit all =
+    let parts = and_parts (list_all (precedes p) ps) (pairwise precedes ps) rise in
+    let step : (file : Option TreeFile) → MayLeavePart p.path file → all_joined os (joined file fs) ≡ fs ++ with_part file (files_of os) = λ file. elim file as (λ x. MayLeavePart p.path x → all_joined os (joined x fs) ≡ fs ++ with_part x (files_of os)) [
+      | None ↦ λ part. joined_in_order object ps os fs parts.1 fit.1 (tails p fs ps all)
+      | Some f ↦ λ part.
+          ap (all_joined os) (with_file-last f fs (heads p f fs ps part all))
+              ∙ joined_in_order object ps os (fs ++ f ∷ []) parts.1 fit.1 (one_more fs f ps (tails p fs ps all) (follows p f ps part parts.0))
+              ∙ append_assoc fs (f ∷ []) (files_of os)
+    ] in
+    step o.file (file_is (object p.object) p o o.verdict fit.0) ∙ ap (λ (gs : List TreeFile). fs ++ gs) (sym (files_of-cons o os))
+
+-- the files of outcomes, in the order of the paths, are what joins an empty worktree
+pub all_joined-files_of : (object : List ℕ → Told) (ps : List PathPlan) (os : List Outcome) → pairwise precedes ps ≡ true → AreOutcomes object ps os → all_joined os [] ≡ files_of os
+all_joined-files_of object ps os rise fit = joined_in_order object ps os [] rise fit tt
