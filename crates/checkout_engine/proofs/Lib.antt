@@ -2,3 +2,4 @@ pub mod Growth
 pub mod PathEnds
 pub mod PathsEnd
 pub mod Order
+pub mod Done

@@ -158,6 +158,14 @@ EndsAt told empty old new status.OutOfMemory = (IsUntouched old new × IsSilent 
 EndsAt told empty old new status.ReadFault = (Rose old.tree.faults new.tree.faults ⊎ Rose old.repo.faults new.repo.faults) × IsUntouched old new × IsSilent old new
 EndsAt told empty old new status.NotEmpty = Tells empty false × IsUntouched old new × IsSilent old new
 
+-- how the run over planned paths ends
+abbrev pub EndsPlanned : RepoTold → Seen → Seen → Status → Type 0
+EndsPlanned told old new status.Done = IsDone told status.Done old new
+EndsPlanned told old new status.DoneWithFailures = IsDone told status.DoneWithFailures old new
+EndsPlanned told old new status.OutputNotWritten = Rose old.sink.faults new.sink.faults × IsCutOff told old new
+EndsPlanned told old new status.OutOfMemory = Unit {0}
+EndsPlanned told old new s = ⊥
+
 -- how a run ends with these words: a checkout, or nothing at all
 abbrev pub Ends : Bool → RepoTold → Option Bool → Seen → Seen → Status → Type 0
 Ends true told empty old new s = EndsAt told empty old new s

@@ -2,7 +2,7 @@ ghost use Rattle.std.specs.Prelude.{◌≡◌, ◌⊎◌, [], OnOk, IfOk, length
 ghost use Rattle.edge_kit.specs.Faults.{Rose};
 ghost use Rattle.edge_kit.specs.Told.{Tells};
 ghost use Rattle.checkout_engine.specs.Input.{IsPlanned, IsRefused};
-ghost use Rattle.checkout_engine.specs.Run.{words_of, is_checkout, repo_seen, tree_seen, sink_seen, seen, IsGivenBack, IsRefusedWith, EndsAt, Ends, number_of, StopsRun, StopsTree, Refuses};
+ghost use Rattle.checkout_engine.specs.Run.{words_of, is_checkout, repo_seen, tree_seen, sink_seen, seen, EndsPlanned, Ends, number_of, StopsRun, StopsTree, Refuses};
 
 use crate::input::read_plan;
 use crate::paths::check_out_paths;
@@ -61,4 +61,28 @@ fn refuse<O: Sink>(alloc: Global, out: &mut O, refusal: Refusal) -> Status
         Err(SendFault::Failed) => Status::OutputNotWritten,
         Err(SendFault::NoMemory) => Status::OutOfMemory,
     }
+}
+
+/// Reads and writes the paths, and reports them.
+fn check_out<R: Repo, T: Worktree, O: Sink>(
+    alloc: Global,
+    repo: &mut R,
+    tree: &mut T,
+    out: &mut O,
+    paths: Vec<PathPlan>,
+) -> Status
+    requires no_file { Tells (T.files tree.old) [] }
+    requires planned { IsPlanned (R.told repo.old) paths.items }
+    ensures ends { EndsPlanned (R.told repo.old)
+        (seen (repo_seen (R.faults repo.old) (R.out repo.old) (R.returned repo.old)) (tree_seen (T.faults tree.old) (T.out tree.old) (T.returned tree.old) (T.files tree.old)) (sink_seen (O.faults out.old) (O.written out.old)))
+        (seen (repo_seen (R.faults repo.new) (R.out repo.new) (R.returned repo.new)) (tree_seen (T.faults tree.new) (T.out tree.new) (T.returned tree.new) (T.files tree.new)) (sink_seen (O.faults out.new) (O.written out.new)))
+        result }
+    ensures told { R.told repo.new ≡ R.told repo.old }
+    ensures repo_faults { R.faults repo.new ≡ R.faults repo.old }
+    ensures tree_faults { T.faults tree.new ≡ T.faults tree.old }
+{
+    let Ok(verdicts) = check_out_paths(alloc, repo, tree, &paths) else {
+        return Status::OutOfMemory;
+    };
+    write_report(alloc, out, paths, &verdicts)
 }
