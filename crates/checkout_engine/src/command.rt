@@ -2,7 +2,7 @@ ghost use Rattle.std.specs.Prelude.{◌≡◌, ◌⊎◌, [], OnOk, IfOk, length
 ghost use Rattle.edge_kit.specs.Faults.{Rose};
 ghost use Rattle.edge_kit.specs.Told.{Tells};
 ghost use Rattle.checkout_engine.specs.Input.{IsPlanned, IsRefused};
-ghost use Rattle.checkout_engine.specs.Run.{words_of, is_checkout, repo_seen, tree_seen, sink_seen, seen, EndsPlanned, Ends, number_of, StopsRun, StopsTree, Refuses};
+ghost use Rattle.checkout_engine.specs.Run.{words_of, is_checkout, repo_seen, tree_seen, sink_seen, seen, EndsPlanned, EndsAt, Ends, number_of, StopsRun, StopsTree, Refuses};
 
 use crate::input::read_plan;
 use crate::paths::check_out_paths;
@@ -85,4 +85,35 @@ fn check_out<R: Repo, T: Worktree, O: Sink>(
         return Status::OutOfMemory;
     };
     write_report(alloc, out, paths, &verdicts)
+}
+
+/// Whether the words are the command: three, the last of which is `checkout`.
+fn is_checkout(words: &[String]) -> bool
+    ensures { result ≡ is_checkout (words_of words.now) }
+{
+    match words {
+        [_, _, command] => command.as_str() == "checkout",
+        _ => false,
+    }
+}
+
+/// A checkout: it reads what it needs, and refuses, or writes the paths and reports them.
+fn checkout<R: Repo, T: Worktree, O: Sink>(
+    alloc: Global,
+    repo: &mut R,
+    tree: &mut T,
+    out: &mut O,
+) -> Status
+    ensures ends { EndsAt (R.told repo.old) (T.empty tree.old)
+        (seen (repo_seen (R.faults repo.old) (R.out repo.old) (R.returned repo.old)) (tree_seen (T.faults tree.old) (T.out tree.old) (T.returned tree.old) (T.files tree.old)) (sink_seen (O.faults out.old) (O.written out.old)))
+        (seen (repo_seen (R.faults repo.new) (R.out repo.new) (R.returned repo.new)) (tree_seen (T.faults tree.new) (T.out tree.new) (T.returned tree.new) (T.files tree.new)) (sink_seen (O.faults out.new) (O.written out.new)))
+        result }
+{
+    match prepare(alloc, repo, tree) {
+        Ok(paths) => check_out(alloc, repo, tree, out, paths),
+        Err(Stop::NotEmpty) => Status::NotEmpty,
+        Err(Stop::ReadFault) => Status::ReadFault,
+        Err(Stop::NoMemory) => Status::OutOfMemory,
+        Err(Stop::Refused(refusal)) => refuse(alloc, out, refusal),
+    }
 }

@@ -29,9 +29,9 @@ is_before-cons x y xs ys h =
     elim (cases_order x y) [
       | inl same ↦ inr (same, rw (le-ltb x y (omega arith), eq-eqb x y same) at h)
       | inr other ↦ elim other [
-          | inl less ↦ inl less
-          | inr more ↦ let no : true ≡ false = sym (rw (le-ltb x y (omega arith), ne_eqb x y (λ e. omega (arith, e))) at h) in absurd cc
-        ]
+        | inl less ↦ inl less
+        | inr more ↦ let no : true ≡ false = sym (rw (le-ltb x y (omega arith), ne_eqb x y (λ e. omega (arith, e))) at h) in absurd cc
+      ]
     ]
 
 pub starts_with-cons : (x y : ℕ) (xs ys : List ℕ) → starts_with nat_eq (y ∷ ys) (x ∷ xs) ≡ true → (x ≡ y) × (starts_with nat_eq ys xs ≡ true)
@@ -47,13 +47,13 @@ starts_with-between (x ∷ t) (z ∷ e) (y ∷ q) s a b =
     let same = starts_with-cons x y t q s in
     elim (is_before-cons x z t e a) [
       | inl less ↦ elim (is_before-cons z y e q b) [
-          | inl more ↦ absurd (omega (arith, less, more, same.0))
-          | inr other ↦ absurd (omega (arith, less, other.0, same.0))
-        ]
+        | inl more ↦ absurd (omega (arith, less, more, same.0))
+        | inr other ↦ absurd (omega (arith, less, other.0, same.0))
+      ]
       | inr tied ↦ elim (is_before-cons z y e q b) [
-          | inl more ↦ absurd (omega (arith, tied.0, more, same.0))
-          | inr other ↦ and_from (eqb x z) (starts_with nat_eq e t) (eq-eqb x z tied.0) (starts_with-between t e q same.1 tied.1 other.1)
-        ]
+        | inl more ↦ absurd (omega (arith, tied.0, more, same.0))
+        | inr other ↦ and_from (eqb x z) (starts_with nat_eq e t) (eq-eqb x z tied.0) (starts_with-between t e q same.1 tied.1 other.1)
+      ]
     ]
 
 pub starts_with-trans : (d t e : List ℕ) → starts_with nat_eq t d ≡ true → starts_with nat_eq e t ≡ true → starts_with nat_eq e d ≡ true
@@ -94,9 +94,9 @@ nat_less a b h =
     elim (cases_order a b) [
       | inl same ↦ let no : true ≡ false = sym (rw (le-ltb a b (omega arith), eq-eqb a b same) at h) in absurd cc
       | inr other ↦ elim other [
-          | inl less ↦ less
-          | inr more ↦ let no : true ≡ false = sym (rw (le-ltb a b (omega arith), ne_eqb a b (λ e. omega (arith, e))) at h) in absurd cc
-        ]
+        | inl less ↦ less
+        | inr more ↦ let no : true ≡ false = sym (rw (le-ltb a b (omega arith), ne_eqb a b (λ e. omega (arith, e))) at h) in absurd cc
+      ]
     ]
 
 -- the paths decide, or else the stages do
@@ -125,13 +125,13 @@ pub is_below-trans : (e f g : Entry) → is_below e f ≡ true → is_below f g 
 is_below-trans e f g a b =
     elim (is_below-cases e f a) [
       | inl before ↦ elim (is_below-cases f g b) [
-          | inl more ↦ is_below-before e g (is_before-trans e.path f.path g.path before more)
-          | inr tied ↦ is_below-before e g (subst (λ (p : List ℕ). is_before e.path p ≡ true) tied.0 before)
-        ]
+        | inl more ↦ is_below-before e g (is_before-trans e.path f.path g.path before more)
+        | inr tied ↦ is_below-before e g (subst (λ (p : List ℕ). is_before e.path p ≡ true) tied.0 before)
+      ]
       | inr tied ↦ elim (is_below-cases f g b) [
-          | inl more ↦ is_below-before e g (subst (λ (p : List ℕ). is_before p g.path ≡ true) (sym tied.0) more)
-          | inr other ↦ is_below-tied e g (tied.0 ∙ other.0) (omega (arith, tied.1, other.1))
-        ]
+        | inl more ↦ is_below-before e g (subst (λ (p : List ℕ). is_before p g.path ≡ true) (sym tied.0) more)
+        | inr other ↦ is_below-tied e g (tied.0 ∙ other.0) (omega (arith, tied.1, other.1))
+      ]
     ]
 
 -- an entry of stage 0 is above all entries of smaller paths alone
@@ -149,14 +149,14 @@ not_before_itself p q r a b same = let no : Less ≡ Equal = sym (less_from _ (i
 pub is_alone-through : (e f g : Entry) → is_below e f ≡ true → is_below f g ≡ true → is_alone e f ≡ true → is_alone e g ≡ true
 is_alone-through e f g a b alone =
     not_from_false _ (false_from_ne_true _ (λ both.
-      let p = and_parts (bytes_eq e.path g.path) (eqb e.stage 0) both in
-      let same : e.path ≡ g.path = (bytes_eq-Decides e.path g.path).0 p.0 in
-      elim (is_below-cases e f a) [
-        | inl before ↦ elim (is_below-cases f g b) [
-            | inl more ↦ not_before_itself e.path f.path g.path before more same
-            | inr tied ↦ let no : Less ≡ Equal = sym (less_from _ before) ∙ slice_cmp-same e.path f.path (same ∙ sym tied.0) in absurd cc
-          ]
-        | inr tied ↦
-            let yes : (bytes_eq e.path f.path && eqb e.stage 0) ≡ true = and_from _ _ ((bytes_eq-Decides e.path f.path).1 tied.0) p.1 in
-            let no : false ≡ true = sym (not_from_true _ yes) ∙ alone in absurd cc
-      ]))
+    let p = and_parts (bytes_eq e.path g.path) (eqb e.stage 0) both in
+    let same : e.path ≡ g.path = (bytes_eq-Decides e.path g.path).0 p.0 in
+    elim (is_below-cases e f a) [
+      | inl before ↦ elim (is_below-cases f g b) [
+        | inl more ↦ not_before_itself e.path f.path g.path before more same
+        | inr tied ↦ let no : Less ≡ Equal = sym (less_from _ before) ∙ slice_cmp-same e.path f.path (same ∙ sym tied.0) in absurd cc
+      ]
+      | inr tied ↦
+          let yes : (bytes_eq e.path f.path && eqb e.stage 0) ≡ true = and_from _ _ ((bytes_eq-Decides e.path f.path).1 tied.0) p.1 in
+          let no : false ≡ true = sym (not_from_true _ yes) ∙ alone in absurd cc
+    ]))

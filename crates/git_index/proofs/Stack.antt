@@ -17,10 +17,10 @@ regroup true false false d = refl
 regroup false b c d = refl
 
 one : {X : Type 0} (test : X → Bool) (x : X) → list_all test (x ∷ []) ≡ test x
-one test x = elim (test x) as (λ b. (b && true) ≡ b) [ | true ↦ refl | false ↦ refl ]
+one test x = elim (test x) as (λ b. (b && true) ≡ b) [ true ↦ refl | false ↦ refl ]
 
 some_one : {X : Type 0} (test : X → Bool) (x : X) → list_any test (x ∷ []) ≡ test x
-some_one test x = elim (test x) as (λ b. (b || false) ≡ b) [ | true ↦ refl | false ↦ refl ]
+some_one test x = elim (test x) as (λ b. (b || false) ≡ b) [ true ↦ refl | false ↦ refl ]
 
 pub list_all-push : {X : Type 0} (test : X → Bool) (xs : List X) (x : X) → list_all test (xs ++ x ∷ []) ≡ (list_all test xs && test x)
 list_all-push test xs x = list_all-append test xs (x ∷ []) ∙ ap (λ (b : Bool). list_all test xs && b) (one test x)
@@ -81,9 +81,9 @@ no_folder d e h = and_left _ _ (and_left _ _ (not-true _ h))
 no_later_folder : (e q d : List ℕ) → is_before e q ≡ true → not (starts_with nat_eq e d) ≡ true → is_before d e ≡ true → is_in_folder d q ≡ false
 no_later_folder e q d b h a =
     false_from_ne_true _ (λ yes.
-      let p = and_parts (starts_with nat_eq q d && ltb (length d) (length q)) (eqb (get_or q (length d) 0) 47) yes in
-      let begins : starts_with nat_eq e d ≡ true = starts_with-between d e q (and_parts (starts_with nat_eq q d) (ltb (length d) (length q)) p.0).0 a b in
-      let no : false ≡ true = sym (not_from_true _ begins) ∙ h in absurd cc)
+    let p = and_parts (starts_with nat_eq q d && ltb (length d) (length q)) (eqb (get_or q (length d) 0) 47) yes in
+    let begins : starts_with nat_eq e d ≡ true = starts_with-between d e q (and_parts (starts_with nat_eq q d) (ltb (length d) (length q)) p.0).0 a b in
+    let no : false ≡ true = sym (not_from_true _ begins) ∙ h in absurd cc)
 
 -- a path is under each later one, up to the top and beyond
 record Under (d t : List ℕ) : Type 0 where
@@ -205,13 +205,13 @@ stage_zero earlier old kept e known above stage before closed under =
       rising = rising_next earlier e known.rising above;
       chain = pairwise-push is_under kept e.path ∙ and_from _ _ (pairwise-front is_under kept closed.dropped (subst (λ (ks : List (List ℕ)). pairwise is_under ks ≡ true) closed.parts known.chain)) under;
       within = λ q h.
-        let p = after_parts earlier e q h in
-        list_all-push (λ d. is_before d q) kept e.path ∙ and_from _ _ (list_all-front (λ d. is_before d q) kept closed.dropped old closed.parts (known.within q p.0)) p.1;
+          let p = after_parts earlier e q h in
+          list_all-push (λ d. is_before d q) kept e.path ∙ and_from _ _ (list_all-front (λ d. is_before d q) kept closed.dropped old closed.parts (known.within q p.0)) p.1;
       same = λ q h.
-        let p = after_parts earlier e q h in
-        let old_same : list_any (λ b. is_folder_of b q) earlier ≡ list_any (λ d. is_in_folder d q) kept = known.same q p.0 ∙ closed_later e.path q old kept closed.dropped closed.parts closed.gone before p.1 in
-        let here : is_folder_of e q ≡ is_in_folder e.path q = ap (λ (b : Bool). b && is_in_folder e.path q) stage in
-        list_any-push (λ b. is_folder_of b q) earlier e ∙ ap (λ (b : Bool). b || is_folder_of e q) old_same ∙ ap (λ (b : Bool). list_any (λ d. is_in_folder d q) kept || b) here ∙ sym (list_any-push (λ d. is_in_folder d q) kept e.path);
+          let p = after_parts earlier e q h in
+          let old_same : list_any (λ b. is_folder_of b q) earlier ≡ list_any (λ d. is_in_folder d q) kept = known.same q p.0 ∙ closed_later e.path q old kept closed.dropped closed.parts closed.gone before p.1 in
+          let here : is_folder_of e q ≡ is_in_folder e.path q = ap (λ (b : Bool). b && is_in_folder e.path q) stage in
+          list_any-push (λ b. is_folder_of b q) earlier e ∙ ap (λ (b : Bool). b || is_folder_of e q) old_same ∙ ap (λ (b : Bool). list_any (λ d. is_in_folder d q) kept || b) here ∙ sym (list_any-push (λ d. is_in_folder d q) kept e.path);
     }
 
 -- What befell the stack tells the clash, and where there is none, the stack serves the entries with this one.

@@ -107,15 +107,15 @@ mode_takes n m e =
     elim (eqb n 0x81A4) as (λ b. eqb n 0x81A4 ≡ b → cond b (Some Plain) (cond (eqb n 0x81ED) (Some Executable) (cond (eqb n 0xA000) (Some Link) (cond (eqb n 0xE000) (Some Gitlink) None))) ≡ Some m → n ≡ mode_number m) [
       | true ↦ λ is h. let same : Plain ≡ m = cc in eqb-true n 0x81A4 is ∙ ap mode_number same
       | false ↦ λ not_plain. elim (eqb n 0x81ED) as (λ b. eqb n 0x81ED ≡ b → cond b (Some Executable) (cond (eqb n 0xA000) (Some Link) (cond (eqb n 0xE000) (Some Gitlink) None)) ≡ Some m → n ≡ mode_number m) [
-          | true ↦ λ is h. let same : Executable ≡ m = cc in eqb-true n 0x81ED is ∙ ap mode_number same
-          | false ↦ λ not_executable. elim (eqb n 0xA000) as (λ b. eqb n 0xA000 ≡ b → cond b (Some Link) (cond (eqb n 0xE000) (Some Gitlink) None) ≡ Some m → n ≡ mode_number m) [
-              | true ↦ λ is h. let same : Link ≡ m = cc in eqb-true n 0xA000 is ∙ ap mode_number same
-              | false ↦ λ not_link. elim (eqb n 0xE000) as (λ b. eqb n 0xE000 ≡ b → cond b (Some Gitlink) None ≡ Some m → n ≡ mode_number m) [
-                  | true ↦ λ is h. let same : Gitlink ≡ m = cc in eqb-true n 0xE000 is ∙ ap mode_number same
-                  | false ↦ λ not_gitlink h. absurd cc
-                ] refl
-            ] refl
+        | true ↦ λ is h. let same : Executable ≡ m = cc in eqb-true n 0x81ED is ∙ ap mode_number same
+        | false ↦ λ not_executable. elim (eqb n 0xA000) as (λ b. eqb n 0xA000 ≡ b → cond b (Some Link) (cond (eqb n 0xE000) (Some Gitlink) None) ≡ Some m → n ≡ mode_number m) [
+          | true ↦ λ is h. let same : Link ≡ m = cc in eqb-true n 0xA000 is ∙ ap mode_number same
+          | false ↦ λ not_link. elim (eqb n 0xE000) as (λ b. eqb n 0xE000 ≡ b → cond b (Some Gitlink) None ≡ Some m → n ≡ mode_number m) [
+            | true ↦ λ is h. let same : Gitlink ≡ m = cc in eqb-true n 0xE000 is ∙ ap mode_number same
+            | false ↦ λ not_gitlink h. absurd cc
+          ] refl
         ] refl
+      ] refl
     ] refl e
 
 -- an entry's fixed part, cut into its fields

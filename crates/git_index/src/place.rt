@@ -60,7 +60,13 @@ fn copied(alloc: Global, found: &Spelled) -> Result<Entry, AllocError>
 
 /// Puts an entry behind the earlier ones, of which there are k.
 #[tactic(auto, using(crate::proofs::Placed::placing))]
-pub fn place<'a>(alloc: Global, k: u32, found: &Spelled<'a>, entries: &mut Vec<Entry>, stack: &mut Vec<&'a [u8]>) -> Result<(), IndexFault>
+pub fn place<'a>(
+    alloc: Global,
+    k: u32,
+    found: &Spelled<'a>,
+    entries: &mut Vec<Entry>,
+    stack: &mut Vec<&'a [u8]>,
+) -> Result<(), IndexFault>
     requires count { length entries.old.items ≡ k }
     requires known { AreOpen entries.old.items (paths stack.old.items) }
     ensures placed { OnOk result (placed_at entries.old.items (entry_of_spelled found.now) ≡ Ok (entry_of_spelled found.now)) }

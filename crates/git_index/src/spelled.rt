@@ -19,7 +19,12 @@ pub struct Spelled<'a> {
 }
 
 #[tactic(auto, unfolding(crate::specs::Reading::sized_at))]
-fn sized_of<'a>(k: u32, told: usize, len: usize, tail: &'a [u8]) -> Result<(&'a [u8], &'a [u8]), IndexFault>
+fn sized_of<'a>(
+    k: u32,
+    told: usize,
+    len: usize,
+    tail: &'a [u8],
+) -> Result<(&'a [u8], &'a [u8]), IndexFault>
     ensures { seen_by (λ x. (x.0.now, x.1.now)) result ≡ sized_at k told len tail.now }
 {
     if tail.len() < len {
@@ -55,7 +60,13 @@ fn path_of<'a>(k: u32, told: usize, tail: &'a [u8]) -> Result<(&'a [u8], &'a [u8
 
 /// Mode and path of an entry, in this order; its flags are good.
 #[tactic(auto, unfolding(crate::specs::Reading::made_at))]
-fn made_of<'a>(k: u32, flags: u16, bytes: &[u8], path: &'a [u8], rest: &'a [u8]) -> Result<Spelled<'a>, IndexFault>
+fn made_of<'a>(
+    k: u32,
+    flags: u16,
+    bytes: &[u8],
+    path: &'a [u8],
+    rest: &'a [u8],
+) -> Result<Spelled<'a>, IndexFault>
     requires { 62 ≤ length bytes.now }
     ensures { seen_by read_of result ≡ made_at k flags bytes.now (path.now, rest.now) }
 {

@@ -1,0 +1,41 @@
+ghost use Rattle.std.specs.Prelude.{◌≡◌, ◌++◌, OnOk, IfOk};
+ghost use Rattle.std.specs.List.{flat_map};
+ghost use Rattle.list_index.specs.Listing.{octal, line};
+
+use git_index::{Entry, Mode};
+use std::alloc::{AllocError, Global};
+
+fn octal_of(mode: Mode) -> &'static [u8]
+    ensures { result.now ≡ octal mode }
+{
+    match mode {
+        Mode::Plain => b"100644",
+        Mode::Executable => b"100755",
+        Mode::Link => b"120000",
+        Mode::Gitlink => b"160000",
+    }
+}
+
+fn push_line(text: &mut Vec<u8>, alloc: Global, entry: &Entry) -> Result<(), AllocError>
+    ensures { OnOk result (text.new.items ≡ text.old.items ++ line entry.now) }
+{
+    let name = hex::encode(alloc, entry.name)?;
+    text.extend_from_slice(octal_of(entry.mode))?;
+    text.push(b' ')?;
+    text.extend_from_slice(name.as_bytes())?;
+    text.extend_from_slice(&[b' ', b'0' + entry.stage % 10, b'\t'])?;
+    text.extend_from_slice(entry.path.as_slice())?;
+    text.push(b'\n')?;
+    Ok(())
+}
+
+/// A line for each entry.
+pub fn listing_of(alloc: Global, entries: &[Entry]) -> Result<Vec<u8>, AllocError>
+    ensures { IfOk result (λ text. text.items ≡ flat_map line entries.now) }
+{
+    let mut text = Vec::new(alloc);
+    for entry in entries {
+        push_line(&mut text, alloc, entry)?;
+    }
+    Ok(text)
+}
