@@ -1,16 +1,15 @@
 -- A stretch of a quoted text: plain bytes, and a closing quote or an escape.
-use Rattle.std.proofs.Common.{◌≡◌, ◌≢◌, ℕ, zero, suc, ◌+◌, ◌-◌, ◌<◌, ◌≤◌, Bool, true, false, cond, eqb, nat_le, List, [], ◌∷◌, ◌++◌, length, get_or, take, drop, Option, Some, None, Result, Ok, Err, refl, sym, ◌∙◌, ap, subst, append_assoc, arith, rules}
+use Rattle.std.proofs.Common.{◌≡◌, ◌≢◌, ℕ, zero, suc, ◌+◌, ◌<◌, ◌≤◌, Bool, true, false, cond, eqb, List, [], ◌∷◌, ◌++◌, length, get_or, take, drop, Option, Some, None, Result, Ok, Err, refl, sym, ◌∙◌, ap, append_assoc, arith}
 use Rattle.std.proofs.Math.Seq.{drop-cons}
-use Rattle.std.proofs.lemmas.Bool.{eq-eqb, ne_eqb}
 use Rattle.std.proofs.lemmas.Grind.{common_steps}
 use Rattle.std.proofs.lemmas.List.{append-nil, drop_all, length-drop, drop-drop}
 use Rattle.memchr.specs.Find.{is_byte2}
 use Rattle.byte_path.specs.declared.unquoting.QuoteFault.{QuoteFault}
-use Rattle.byte_path.specs.declared.unquoting.QuoteFault.TheVariants.{Unclosed, BadEscape, NoMemory}
-use Rattle.byte_path.specs.Unquote.{byte_of_letter, has_octal, letter_or_octal, octal_value, escape_at, prefixed, escaped, unquoted_behind, unquoted}
+use Rattle.byte_path.specs.declared.unquoting.QuoteFault.TheVariants.{Unclosed, BadEscape}
+use Rattle.byte_path.specs.Unquote.{byte_of_letter, has_octal, letter_or_octal, octal_value, escape_at, prefixed, escaped, unquoted_behind}
 
 -- what an answer is
-abbrev Answer : Type 0
+abbrev pub Answer : Type 0
 Answer = Result (List ℕ × ℕ) QuoteFault
 
 prefixed-none : (r : Answer) → prefixed [] 0 r ≡ r
@@ -18,18 +17,18 @@ prefixed-none (Ok answer) = let size : 0 + answer.1 ≡ answer.1 = omega arith i
 prefixed-none (Err fault) = refl
 
 -- two prefixes are one
-prefixed-prefixed : (a b : List ℕ) (m n : ℕ) (r : Answer) → prefixed a m (prefixed b n r) ≡ prefixed (a ++ b) (m + n) r
+pub prefixed-prefixed : (a b : List ℕ) (m n : ℕ) (r : Answer) → prefixed a m (prefixed b n r) ≡ prefixed (a ++ b) (m + n) r
 prefixed-prefixed a b m n (Ok answer) =
     let bytes : a ++ (b ++ answer.0) ≡ (a ++ b) ++ answer.0 = sym (append_assoc a b answer.0) in
     let size : m + (n + answer.1) ≡ (m + n) + answer.1 = omega arith in
     rw (bytes, size) refl
 prefixed-prefixed a b m n (Err fault) = refl
 
-prefixed-count : (a : List ℕ) (m n : ℕ) (r : Answer) → m ≡ n → prefixed a m r ≡ prefixed a n r
+pub prefixed-count : (a : List ℕ) (m n : ℕ) (r : Answer) → m ≡ n → prefixed a m r ≡ prefixed a n r
 prefixed-count a m n r same = ap (λ (k : ℕ). prefixed a k r) same
 
 -- the bytes of an escape are passed over
-unquoted_behind-skip : (n : ℕ) (text : List ℕ) → n ≤ length text → unquoted_behind n text ≡ prefixed [] n (unquoted_behind 0 (drop n text))
+pub unquoted_behind-skip : (n : ℕ) (text : List ℕ) → n ≤ length text → unquoted_behind n text ≡ prefixed [] n (unquoted_behind 0 (drop n text))
 unquoted_behind-skip zero text le = sym (prefixed-none (unquoted_behind 0 text))
 unquoted_behind-skip (suc n) [] le = absurd (omega arith)
 unquoted_behind-skip (suc n) (b ∷ text) le =

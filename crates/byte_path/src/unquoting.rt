@@ -1,5 +1,7 @@
-ghost use Rattle.std.specs.Prelude.{◌≡◌, Some, slice_get};
-ghost use Rattle.byte_path.specs.Unquote.{byte_of_letter, escape_at, IsStretch, IsUnquoted};
+ghost use Rattle.std.specs.Prelude.{◌≡◌, ◌++◌, Ok, Some, true, length, slice_get};
+ghost use Rattle.std.specs.List.{list_any};
+ghost use Rattle.byte_path.specs.Quote.{needs_escape, quoted};
+ghost use Rattle.byte_path.specs.Unquote.{byte_of_letter, escape_at, IsStretch, IsUnquoted, unquoted};
 ghost use Rattle.byte_path.specs.declared.unquoting.QuoteFault.TheVariants as quote;
 
 use crate::bytes::Bytes;
@@ -117,3 +119,9 @@ pub fn unquote(alloc: Global, text: &[u8]) -> Result<(Bytes, usize), QuoteFault>
         }
     }
 }
+
+/// The law that a path that is shown in quotes reads back as itself, whatever stands behind it. It does nothing.
+pub fn quoted_path_reads_back(path: &[u8], behind: &[u8])
+    requires { list_any needs_escape path.now ≡ true }
+    ensures { unquoted (quoted path.now ++ behind.now) ≡ Ok (path.now, length (quoted path.now)) }
+{}

@@ -1,4 +1,4 @@
-use Rattle.std.proofs.Common.{◌≡◌, ℕ, ◌+◌, ◌<◌, List, [], ◌∷◌, ◌++◌, length, take, drop, Some, sym, ◌∙◌, ap, arith, rules}
+use Rattle.std.proofs.Common.{◌≡◌, ◌+◌, [], ◌∷◌, ◌++◌, take, drop, arith, rules}
 use Rattle.byte_path.proofs.Stretches.{stretch-unclosed, stretch-closed, stretch-bad, stretch-escaped, escape_of}
 use Rattle.byte_path.specs.Unquote.{escape_at}
 use Rattle.byte_path.proofs.unquoting.push_stretch.Goals as goal
