@@ -1,4 +1,5 @@
 use super::*;
+use std::alloc::Global;
 use std::test::Fail;
 
 #[test]
@@ -81,4 +82,53 @@ fn copies_keep_their_values(rt: HostRuntime) -> Result<(), Fail> {
     assert!(rt; items.as_slice() == [3u32, 4].as_slice());
     assert!(rt; items.into_vec().as_slice() == [3u32, 4].as_slice());
     Ok(())
+}
+
+/// What a text gives that begins with a double quote.
+fn read_quoted(alloc: Global, text: &[u8]) -> Result<(Bytes, usize), QuoteFault> {
+    match text {
+        [b'"', ..] => unquote(alloc, text),
+        _ => Err(QuoteFault::NoMemory),
+    }
+}
+
+#[test]
+fn quoted_texts_are_read_to_their_end(rt: HostRuntime) -> Result<(), Fail> {
+    let table: [(&[u8], &[u8], usize); 5] = [
+        (b"\"a\\101\"x", b"aA", 7),
+        (b"\"\"", b"", 2),
+        (
+            b"\"\\a\\b\\t\\n\\v\\f\\r\\\"\\\\\"",
+            b"\x07\x08\t\n\x0B\x0C\r\"\\",
+            20,
+        ),
+        (b"\"\\000\\377\\303\\251\" x", b"\x00\xFF\xC3\xA9", 18),
+        (b"\"a b\xFF#\" text", b"a b\xFF#", 7),
+    ];
+    for (text, want, len) in table {
+        let (bytes, read) = read_quoted(rt.alloc(), text)?;
+        assert!(rt; bytes.as_slice() == want, "at {text:?}");
+        assert!(rt; read == len, "at {text:?}");
+    }
+    Ok(())
+}
+
+#[test]
+fn quoted_texts_have_their_first_fault(rt: HostRuntime) {
+    let table: [(&[u8], QuoteFault); 8] = [
+        (b"\"a\\q\"", QuoteFault::BadEscape),
+        (b"\"a", QuoteFault::Unclosed),
+        (b"\"", QuoteFault::Unclosed),
+        (b"\"a\\\"", QuoteFault::Unclosed),
+        (b"\"\\q", QuoteFault::BadEscape),
+        (b"\"\\400\"", QuoteFault::BadEscape),
+        (b"\"\\18\"", QuoteFault::BadEscape),
+        (b"\"\\12", QuoteFault::BadEscape),
+    ];
+    for (text, fault) in table {
+        assert!(rt;
+            read_quoted(rt.alloc(), text).err() == Some(fault),
+            "at {text:?}"
+        );
+    }
 }

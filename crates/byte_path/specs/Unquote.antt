@@ -1,0 +1,79 @@
+-- What a quoted text stands for.
+use Rattle.std.specs.Prelude.{◌≡◌, ℕ, zero, suc, ◌+◌, ◌-◌, ◌*◌, ◌<◌, ◌≤◌, Bool, ◌&&◌, ◌==◌, nat_le, List, [], ◌∷◌, ◌++◌, length, drop, slice_index, Option, Some, None, Result, Ok, Err, if◌then◌else◌}
+use Rattle.byte_path.specs.declared.unquoting.QuoteFault.{QuoteFault}
+use Rattle.byte_path.specs.declared.unquoting.Stretch.{Stretch}
+use Rattle.byte_path.specs.declared.unquoting.Stretch.TheVariants.{Closed, Escaped}
+use Rattle.byte_path.specs.declared.unquoting.QuoteFault.TheVariants.{Unclosed, BadEscape, NoMemory}
+
+-- the byte of a, b, t, n, v, f, r, `"` or `\` behind a backslash
+abbrev pub byte_of_letter : ℕ → Option ℕ
+byte_of_letter c =
+    if c == 97 then Some 7
+    else if c == 98 then Some 8
+    else if c == 116 then Some 9
+    else if c == 110 then Some 10
+    else if c == 118 then Some 11
+    else if c == 102 then Some 12
+    else if c == 114 then Some 13
+    else if c == 34 then Some 34
+    else if c == 92 then Some 92
+    else None
+
+-- a digit from `0` to `most`
+abbrev pub is_digit_to : ℕ → ℕ → Bool
+is_digit_to most c = nat_le 48 c && nat_le c most
+
+-- whether a text begins with three octal digits, 000 to 377
+abbrev pub has_octal : List ℕ → Bool
+has_octal text = nat_le 3 (length text) && is_digit_to 51 (slice_index text 0) && is_digit_to 55 (slice_index text 1) && is_digit_to 55 (slice_index text 2)
+
+-- their number
+abbrev pub octal_value : List ℕ → ℕ
+octal_value text = (slice_index text 0 - 48) * 64 + (slice_index text 1 - 48) * 8 + (slice_index text 2 - 48)
+
+-- a letter's byte, and else that of three octal digits, each with how many bytes it takes
+abbrev pub letter_or_octal : Option ℕ → List ℕ → Option (ℕ × ℕ)
+letter_or_octal (Some byte) text = Some (byte, 1)
+letter_or_octal None text = if has_octal text then Some (octal_value text, 3) else None
+
+-- the escape behind a backslash
+abbrev pub escape_at : List ℕ → Option (ℕ × ℕ)
+escape_at text = letter_or_octal (byte_of_letter (slice_index text 0)) text
+
+-- an answer behind these bytes, for which n bytes of the text were read
+abbrev pub prefixed : List ℕ → ℕ → Result (List ℕ × ℕ) QuoteFault → Result (List ℕ × ℕ) QuoteFault
+prefixed bytes n (Ok answer) = Ok (bytes ++ answer.0, n + answer.1)
+prefixed bytes n (Err fault) = Err fault
+
+-- an escape's byte, and what comes behind the escape
+abbrev pub escaped : Option (ℕ × ℕ) → (ℕ → Result (List ℕ × ℕ) QuoteFault) → Result (List ℕ × ℕ) QuoteFault
+escaped None behind = Err BadEscape
+escaped (Some escape) behind = prefixed (escape.0 ∷ []) 1 (behind escape.1)
+
+-- the bytes up to the closing quote, behind `skip` bytes of an escape, and how many bytes of the text that takes
+abbrev pub unquoted_behind : ℕ → List ℕ → Result (List ℕ × ℕ) QuoteFault
+unquoted_behind skip [] = Err Unclosed
+unquoted_behind (suc skip) (b ∷ text) = prefixed [] 1 (unquoted_behind skip text)
+unquoted_behind zero (b ∷ text) =
+    if b == 34 then Ok ([], 1)
+    else if b == 92 then escaped (escape_at text) (λ skip. unquoted_behind skip text)
+    else prefixed (b ∷ []) 1 (unquoted_behind 0 text)
+
+-- the same of a text that begins with a quote
+abbrev pub unquoted : List ℕ → Result (List ℕ × ℕ) QuoteFault
+unquoted text = prefixed [] 1 (unquoted_behind 0 (drop 1 text))
+
+-- this answer, or want of memory
+abbrev pub IsUnquoted : List ℕ → Result (List ℕ × ℕ) QuoteFault → Type 0
+IsUnquoted text (Ok answer) = unquoted text ≡ Ok answer
+IsUnquoted text (Err Unclosed) = unquoted text ≡ Err Unclosed
+IsUnquoted text (Err BadEscape) = unquoted text ≡ Err BadEscape
+IsUnquoted text (Err NoMemory) = Unit {0}
+
+-- what one stretch of a text appends to the bytes so far: it closes the text, or goes on behind an escape
+abbrev pub IsStretch : List ℕ → List ℕ → List ℕ → Result Stretch QuoteFault → Type 0
+IsStretch old text new (Ok (Closed n)) = (n ≤ length text) × (prefixed old 0 (unquoted_behind 0 text) ≡ Ok (new, n))
+IsStretch old text new (Ok (Escaped n)) = (0 < n) × (n ≤ length text) × (prefixed old 0 (unquoted_behind 0 text) ≡ prefixed new n (unquoted_behind 0 (drop n text)))
+IsStretch old text new (Err Unclosed) = unquoted_behind 0 text ≡ Err Unclosed
+IsStretch old text new (Err BadEscape) = unquoted_behind 0 text ≡ Err BadEscape
+IsStretch old text new (Err NoMemory) = Unit {0}
