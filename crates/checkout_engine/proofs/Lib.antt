@@ -3,3 +3,4 @@ pub mod PathEnds
 pub mod PathsEnd
 pub mod Order
 pub mod Done
+pub mod Completeness

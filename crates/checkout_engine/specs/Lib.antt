@@ -6,3 +6,4 @@ pub mod Input
 pub mod RefusalText
 pub mod Report
 pub mod Run
+pub mod Complete

@@ -1,4 +1,6 @@
-ghost use Rattle.std.specs.Prelude.{◌≡◌, ◌⊎◌, [], OnOk, IfOk, length};
+ghost use Rattle.std.specs.Prelude.{◌≡◌, ◌⊎◌, ◌↔◌, [], OnOk, IfOk, true, false};
+ghost use Rattle.checkout_engine.specs.Complete.{IsReady, IsUnfailed};
+ghost use Rattle.checkout_engine.specs.declared.status.Status.{Status};
 ghost use Rattle.edge_kit.specs.Faults.{Rose};
 ghost use Rattle.edge_kit.specs.Told.{Tells};
 ghost use Rattle.checkout_engine.specs.Input.{IsPlanned, IsRefused};
@@ -116,4 +118,43 @@ fn checkout<R: Repo, T: Worktree, O: Sink>(
         Err(Stop::NoMemory) => Status::OutOfMemory,
         Err(Stop::Refused(refusal)) => refuse(alloc, out, refusal),
     }
+}
+
+/// The number of a status, which the program ends with.
+fn number_of(status: Status) -> u8
+    ensures { result ≡ number_of status }
+{
+    status as u8
+}
+
+/// The command: what these words say, done on the repository, the worktree and the sink.
+///
+/// The words are the repository's folder, the worktree's folder and `checkout`. The answer is 0 for a checkout that is
+/// done, 1 for one in which some path failed, 2 for other words, 3 for a repository that is refused, 4 for a sink that
+/// failed, 5 for want of memory, 6 for a read that failed before a file was touched, and 7 for a worktree that isn't
+/// empty.
+pub fn run<R: Repo, T: Worktree, O: Sink>(
+    alloc: Global,
+    words: &[String],
+    repo: &mut R,
+    tree: &mut T,
+    out: &mut O,
+) -> u8
+    // How it ends, by its status: the files, the report and the verdicts, or the cause.
+    ensures ends {
+        let old = seen (repo_seen (R.faults repo.old) (R.out repo.old) (R.returned repo.old)) (tree_seen (T.faults tree.old) (T.out tree.old) (T.returned tree.old) (T.files tree.old)) (sink_seen (O.faults out.old) (O.written out.old)) in
+        let new = seen (repo_seen (R.faults repo.new) (R.out repo.new) (R.returned repo.new)) (tree_seen (T.faults tree.new) (T.out tree.new) (T.returned tree.new) (T.files tree.new)) (sink_seen (O.faults out.new) (O.written out.new)) in
+        (s : Status) × (result ≡ number_of s) × Ends (is_checkout (words_of words.now)) (R.told repo.old) (T.empty tree.old) old new s }
+    // Other words are 2, and nothing else is.
+    ensures usage { (result ≡ 2) ↔ (is_checkout (words_of words.now) ≡ false) }
+    // A checkout that has all that it needs is done, or wants memory.
+    ensures complete {
+        let old = seen (repo_seen (R.faults repo.old) (R.out repo.old) (R.returned repo.old)) (tree_seen (T.faults tree.old) (T.out tree.old) (T.returned tree.old) (T.files tree.old)) (sink_seen (O.faults out.old) (O.written out.old)) in
+        let new = seen (repo_seen (R.faults repo.new) (R.out repo.new) (R.returned repo.new)) (tree_seen (T.faults tree.new) (T.out tree.new) (T.returned tree.new) (T.files tree.new)) (sink_seen (O.faults out.new) (O.written out.new)) in
+        is_checkout (words_of words.now) ≡ true → IsReady (R.told repo.old) (T.empty tree.old) → IsUnfailed old new → (result ≡ 0) ⊎ (result ≡ 5) }
+{
+    if !is_checkout(words) {
+        return number_of(Status::Usage);
+    }
+    number_of(checkout(alloc, repo, tree, out))
 }

@@ -12,3 +12,5 @@ mod refusal;
 mod report;
 mod status;
 mod stop;
+
+pub use command::run;
