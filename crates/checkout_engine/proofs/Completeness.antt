@@ -121,11 +121,11 @@ no_failure told empty s old new ready unfailed done =
     let ends = done.checked_out.ends in
     let as_planned : done.checked_out.paths ≡ plan_of ready.entries = planned.planned ∙ ap plan_of (same_entries told empty planned.entries ready planned.index) in
     let right : AllByRecursion (λ p. p.skipped ≡ None → IsRightPath told.object p) done.checked_out.paths =
-        subst (λ (ps : List PathPlan). AllByRecursion (λ p. p.skipped ≡ None → IsRightPath told.object p) ps) (sym as_planned) ready.right in
+    subst (λ (ps : List PathPlan). AllByRecursion (λ p. p.skipped ≡ None → IsRightPath told.object p) ps) (sym as_planned) ready.right in
     let grew : failed_leaves new.tree.returned ≡ failed_leaves old.tree.returned + failed_leaves (leaves_back done.checked_out.paths ends.outcomes) =
-        ap failed_leaves ends.leaves ∙ sum_by-append (λ l. l.2) old.tree.returned (leaves_back done.checked_out.paths ends.outcomes) in
+    ap failed_leaves ends.leaves ∙ sum_by-append (λ l. l.2) old.tree.returned (leaves_back done.checked_out.paths ends.outcomes) in
     ap (list_any is_failed) (sym ends.same)
-        ∙ paths_fail_not told.object done.checked_out.paths ends.outcomes right ends.fit (omega (arith, grew, unfailed.leaves))
+    ∙ paths_fail_not told.object done.checked_out.paths ends.outcomes right ends.fit (omega (arith, grew, unfailed.leaves))
 
 status_is_done : (vs : List Verdict) → list_any is_failed vs ≡ false → status_of vs ≡ status.DoneWithFailures → ⊥
 status_is_done vs none is = elim (lacks_memory vs) as (λ lacks. lacks_memory vs ≡ lacks → ⊥) [

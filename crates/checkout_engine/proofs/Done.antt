@@ -36,11 +36,11 @@ abbrev checks_out : (told : RepoTold) (ps : List PathPlan) (vs : List Verdict) (
 checks_out told ps vs before after planned empty ends =
     let rise : pairwise precedes ps ≡ true = subst (λ (qs : List PathPlan). pairwise precedes qs ≡ true) (sym planned.planned) (plan_rises [] planned.entries planned.index.is_index.rising) in
     record {
-  paths = ps;
-  planned = planned;
-  ends = ends;
-  files = subst (λ (fs : List TreeFile). Tells after.files fs) (all_joined-files_of told.object ps ends.outcomes rise ends.fit) (ends.files [] empty);
-}
+      paths = ps;
+      planned = planned;
+      ends = ends;
+      files = subst (λ (fs : List TreeFile). Tells after.files fs) (all_joined-files_of told.object ps ends.outcomes rise ends.fit) (ends.files [] empty);
+    }
 
 pub ends_planned : (told : RepoTold) (ps : List PathPlan) (vs : List Verdict) (old new : Seen) (s : Status) → IsPlanned told ps → Tells old.tree.files []
     → EndsAll told.object ps vs (given_at old) (given_at new) → IsGivenBack old new
@@ -59,13 +59,16 @@ ends_planned told ps vs old new status.DoneWithFailures planned empty ends back 
   report = reports.1;
   back = back;
 }
-ends_planned told ps vs old new status.OutputNotWritten planned empty ends back reports = (reports.2, record {
-  verdicts = vs;
-  checked_out = checks_out told ps vs (given_at old) (given_at new) planned empty ends;
-  in_memory = reports.0;
-  report = reports.1;
-  back = back;
-})
+ends_planned told ps vs old new status.OutputNotWritten planned empty ends back reports = (
+  reports.2,
+  record {
+    verdicts = vs;
+    checked_out = checks_out told ps vs (given_at old) (given_at new) planned empty ends;
+    in_memory = reports.0;
+    report = reports.1;
+    back = back;
+  },
+)
 ends_planned told ps vs old new status.OutOfMemory planned empty ends back reports = tt
 ends_planned told ps vs old new status.Usage planned empty ends back reports = absurd reports
 ends_planned told ps vs old new status.Refused planned empty ends back reports = absurd reports

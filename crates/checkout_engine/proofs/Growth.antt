@@ -16,8 +16,8 @@ pub grown-more : (old mid : Option (List ℕ)) (text : List ℕ) (start n : ℕ)
     → grown mid (take n (drop start text)) ≡ grown old (take (start + n) text)
 grown-more old mid text start n is =
     ap (λ (told : Option (List ℕ)). grown told (take n (drop start text))) is
-        ∙ grown-grown old (take start text) (take n (drop start text))
-        ∙ ap (grown old) (sym (take-add start n text))
+    ∙ grown-grown old (take start text) (take n (drop start text))
+    ∙ ap (grown old) (sym (take-add start n text))
 
 -- a write that fails in such a piece leaves a first part of the text
 pub cut_at : (T : Type 0) (old mid new : Option (List ℕ)) (text : List ℕ) (start m : ℕ) (fault : SendFault)
@@ -26,8 +26,8 @@ pub cut_at : (T : Type 0) (old mid new : Option (List ℕ)) (text : List ℕ) (s
 cut_at T old mid new text start m send.Failed within is (n, le, grew) =
     let few : n ≤ m = omega (arith, length-take m (drop start text)) in
     record {
-  taken = start + n;
-  within = omega arith;
-  written = grew ∙ ap (grown mid) (take-take n m (drop start text) few) ∙ grown-more old mid text start n is;
-}
+      taken = start + n;
+      within = omega arith;
+      written = grew ∙ ap (grown mid) (take-take n m (drop start text) few) ∙ grown-more old mid text start n is;
+    }
 cut_at T old mid new text start m send.NoMemory within is same = record { taken = start; within = omega arith; written = same ∙ is }

@@ -49,26 +49,26 @@ plan_is_behind : (b c : List ℕ) (es : List Entry) → (b ≡ c) ⊎ (is_before
 plan_is_behind b c [] up all rise = refl
 plan_is_behind b c (e ∷ es) up all rise = elim (bytes_eq e.path c) as (λ t. bytes_eq e.path c ≡ t
     → list_all (λ q. is_before b q.path) (if t then plan_after c es else planned e ∷ plan_after e.path es) ≡ true) [
-  | true ↦ λ same. plan_is_behind b c es up all.1 (and_parts (list_all (is_below e) es) (pairwise is_below es) rise).1
-  | false ↦ λ other.
-      let parts = and_parts (list_all (is_below e) es) (pairwise is_below es) rise in
-      let behind : is_before b e.path ≡ true = elim up [
-        | inl same ↦ subst (λ (p : List ℕ). is_before p e.path ≡ true) (sym same) (other_is_behind c e other all.0)
-        | inr before ↦ is_before-trans b c e.path before (other_is_behind c e other all.0)
-      ] in
-      and_from (is_before b e.path) (list_all (λ q. is_before b q.path) (plan_after e.path es)) behind (plan_is_behind b e.path es (inr behind) (up_to_below e es parts.0) parts.1)
-] refl
+      | true ↦ λ same. plan_is_behind b c es up all.1 (and_parts (list_all (is_below e) es) (pairwise is_below es) rise).1
+      | false ↦ λ other.
+          let parts = and_parts (list_all (is_below e) es) (pairwise is_below es) rise in
+          let behind : is_before b e.path ≡ true = elim up [
+            | inl same ↦ subst (λ (p : List ℕ). is_before p e.path ≡ true) (sym same) (other_is_behind c e other all.0)
+            | inr before ↦ is_before-trans b c e.path before (other_is_behind c e other all.0)
+          ] in
+          and_from (is_before b e.path) (list_all (λ q. is_before b q.path) (plan_after e.path es)) behind (plan_is_behind b e.path es (inr behind) (up_to_below e es parts.0) parts.1)
+    ] refl
 
 pub plan_rises : (c : List ℕ) (es : List Entry) → pairwise is_below es ≡ true → pairwise precedes (plan_after c es) ≡ true
 plan_rises c [] rise = refl
 plan_rises c (e ∷ es) rise = elim (bytes_eq e.path c) as (λ t. bytes_eq e.path c ≡ t
     → pairwise precedes (if t then plan_after c es else planned e ∷ plan_after e.path es) ≡ true) [
-  | true ↦ λ same. plan_rises c es (and_parts (list_all (is_below e) es) (pairwise is_below es) rise).1
-  | false ↦ λ other.
-      let parts = and_parts (list_all (is_below e) es) (pairwise is_below es) rise in
-      and_from (list_all (λ q. is_before e.path q.path) (plan_after e.path es)) (pairwise precedes (plan_after e.path es))
-      (plan_is_behind e.path e.path es (inl refl) (up_to_below e es parts.0) parts.1) (plan_rises e.path es parts.1)
-] refl
+      | true ↦ λ same. plan_rises c es (and_parts (list_all (is_below e) es) (pairwise is_below es) rise).1
+      | false ↦ λ other.
+          let parts = and_parts (list_all (is_below e) es) (pairwise is_below es) rise in
+          and_from (list_all (λ q. is_before e.path q.path) (plan_after e.path es)) (pairwise precedes (plan_after e.path es))
+          (plan_is_behind e.path e.path es (inl refl) (up_to_below e es parts.0) parts.1) (plan_rises e.path es parts.1)
+    ] refl
 
 -- no path comes before the file
 abbrev Follow : TreeFile → List PathPlan → Type 0
@@ -153,8 +153,8 @@ joined_in_order object (p ∷ ps) (o ∷ os) fs rise fit all =
       | None ↦ λ part. joined_in_order object ps os fs parts.1 fit.1 (tails p fs ps all)
       | Some f ↦ λ part.
           ap (all_joined os) (with_file-last f fs (heads p f fs ps part all))
-              ∙ joined_in_order object ps os (fs ++ f ∷ []) parts.1 fit.1 (one_more fs f ps (tails p fs ps all) (follows p f ps part parts.0))
-              ∙ append_assoc fs (f ∷ []) (files_of os)
+          ∙ joined_in_order object ps os (fs ++ f ∷ []) parts.1 fit.1 (one_more fs f ps (tails p fs ps all) (follows p f ps part parts.0))
+          ∙ append_assoc fs (f ∷ []) (files_of os)
     ] in
     step o.file (file_is (object p.object) p o o.verdict fit.0) ∙ ap (λ (gs : List TreeFile). fs ++ gs) (sym (files_of-cons o os))
 

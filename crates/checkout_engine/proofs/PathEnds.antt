@@ -68,10 +68,10 @@ stays old new path told state (inl gone) joins = record {
 stays old new path told state (inr stuck) joins =
     let kept = gains old new path (subst (λ (s : LeafState). JoinsLeaf old path told s new) stuck joins) in
     record {
-  file = kept.file;
-  part = subst (λ (s : LeafState). LeavesPart path s kept.file) (sym stuck) kept.part;
-  grow = kept.grow;
-}
+      file = kept.file;
+      part = subst (λ (s : LeafState). LeavesPart path s kept.file) (sym stuck) kept.part;
+      grow = kept.grow;
+    }
 
 keeps : (old new : Option (List TreeFile)) (path : List ℕ) (told : Option (List ℕ)) (state : LeafState) → (state ≡ Fresh) ⊎ IsGivenUp state → JoinsLeaf old path told state new → Keeps old path new
 keeps old new path told state (inl fresh) joins = record { file = None; part = tt; grow = files_stay old new (subst (λ (s : LeafState). JoinsLeaf old path told s new) fresh joins) }

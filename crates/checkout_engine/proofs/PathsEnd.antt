@@ -35,7 +35,7 @@ leaves_back-more object [] (b ∷ os) p o all = absurd all
 leaves_back-more object (a ∷ ps) [] p o all = absurd all
 leaves_back-more object (a ∷ ps) (b ∷ os) p o all =
     ap (λ (l : List (List ℕ × LeafState × ℕ)). leaf_back a b.leaf ++ l) (leaves_back-more object ps os p o all.1)
-        ∙ sym (append_assoc (leaf_back a b.leaf) (leaves_back ps os) (leaf_back p o.leaf))
+    ∙ sym (append_assoc (leaf_back a b.leaf) (leaves_back ps os) (leaf_back p o.leaf))
 
 all_joined-more : (os : List Outcome) (o : Outcome) (fs : List TreeFile) → all_joined (os ++ o ∷ []) fs ≡ joined o.file (all_joined os fs)
 all_joined-more [] o fs = refl

@@ -141,15 +141,13 @@ pub fn run<R: Repo, T: Worktree, O: Sink>(
     out: &mut O,
 ) -> u8
     // How it ends, by its status: the files, the report and the verdicts, or the cause.
-    ensures ends {
-        let old = seen (repo_seen (R.faults repo.old) (R.out repo.old) (R.returned repo.old)) (tree_seen (T.faults tree.old) (T.out tree.old) (T.returned tree.old) (T.files tree.old)) (sink_seen (O.faults out.old) (O.written out.old)) in
+    ensures ends { let old = seen (repo_seen (R.faults repo.old) (R.out repo.old) (R.returned repo.old)) (tree_seen (T.faults tree.old) (T.out tree.old) (T.returned tree.old) (T.files tree.old)) (sink_seen (O.faults out.old) (O.written out.old)) in
         let new = seen (repo_seen (R.faults repo.new) (R.out repo.new) (R.returned repo.new)) (tree_seen (T.faults tree.new) (T.out tree.new) (T.returned tree.new) (T.files tree.new)) (sink_seen (O.faults out.new) (O.written out.new)) in
         (s : Status) × (result ≡ number_of s) × Ends (is_checkout (words_of words.now)) (R.told repo.old) (T.empty tree.old) old new s }
     // Other words are 2, and nothing else is.
     ensures usage { (result ≡ 2) ↔ (is_checkout (words_of words.now) ≡ false) }
     // A checkout that has all that it needs is done, or wants memory.
-    ensures complete {
-        let old = seen (repo_seen (R.faults repo.old) (R.out repo.old) (R.returned repo.old)) (tree_seen (T.faults tree.old) (T.out tree.old) (T.returned tree.old) (T.files tree.old)) (sink_seen (O.faults out.old) (O.written out.old)) in
+    ensures complete { let old = seen (repo_seen (R.faults repo.old) (R.out repo.old) (R.returned repo.old)) (tree_seen (T.faults tree.old) (T.out tree.old) (T.returned tree.old) (T.files tree.old)) (sink_seen (O.faults out.old) (O.written out.old)) in
         let new = seen (repo_seen (R.faults repo.new) (R.out repo.new) (R.returned repo.new)) (tree_seen (T.faults tree.new) (T.out tree.new) (T.returned tree.new) (T.files tree.new)) (sink_seen (O.faults out.new) (O.written out.new)) in
         is_checkout (words_of words.now) ≡ true → IsReady (R.told repo.old) (T.empty tree.old) → IsUnfailed old new → (result ≡ 0) ⊎ (result ≡ 5) }
 {

@@ -14,3 +14,6 @@ mod status;
 mod stop;
 
 pub use command::run;
+
+#[cfg(test)]
+mod tests;

@@ -52,11 +52,7 @@ fn shown(path: PathPlan) -> ReportPath
 }
 
 /// The report of the paths with these verdicts.
-fn report(
-    alloc: Global,
-    paths: Vec<PathPlan>,
-    verdicts: &[Verdict],
-) -> Result<Vec<u8>, AllocError>
+fn report(alloc: Global, paths: Vec<PathPlan>, verdicts: &[Verdict]) -> Result<Vec<u8>, AllocError>
     requires { length paths.items ≡ length verdicts.now }
     ensures { IfOk result (λ v. v.items ≡ report paths.items verdicts.now) }
 {

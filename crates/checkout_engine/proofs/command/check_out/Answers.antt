@@ -14,11 +14,11 @@ write_report-requires g c =
 pub returns-clause-ends : goal.returns-clause-ends
 returns-clause-ends g c =
     let old = seen (repo_seen (g.R.Repo.faults c.args.repo.now) (g.R.Repo.out c.args.repo.now) (g.R.Repo.returned c.args.repo.now))
-        (tree_seen (g.T.Worktree.faults c.args.tree.now) (g.T.Worktree.out c.args.tree.now) (g.T.Worktree.returned c.args.tree.now) (g.T.Worktree.files c.args.tree.now))
-        (sink_seen (g.O.Sink.faults c.args.out.now) (g.O.Sink.written c.args.out.now)) in
+    (tree_seen (g.T.Worktree.faults c.args.tree.now) (g.T.Worktree.out c.args.tree.now) (g.T.Worktree.returned c.args.tree.now) (g.T.Worktree.files c.args.tree.now))
+    (sink_seen (g.O.Sink.faults c.args.out.now) (g.O.Sink.written c.args.out.now)) in
     let new = seen (repo_seen (g.R.Repo.faults c.check_out_paths.new.repo) (g.R.Repo.out c.check_out_paths.new.repo) (g.R.Repo.returned c.check_out_paths.new.repo))
-        (tree_seen (g.T.Worktree.faults c.check_out_paths.new.tree) (g.T.Worktree.out c.check_out_paths.new.tree) (g.T.Worktree.returned c.check_out_paths.new.tree) (g.T.Worktree.files c.check_out_paths.new.tree))
-        (sink_seen (g.O.Sink.faults c.write_report.new.out) (g.O.Sink.written c.write_report.new.out)) in
+    (tree_seen (g.T.Worktree.faults c.check_out_paths.new.tree) (g.T.Worktree.out c.check_out_paths.new.tree) (g.T.Worktree.returned c.check_out_paths.new.tree) (g.T.Worktree.files c.check_out_paths.new.tree))
+    (sink_seen (g.O.Sink.faults c.write_report.new.out) (g.O.Sink.written c.write_report.new.out)) in
     ends_planned (g.R.Repo.told c.args.repo.now) c.args.paths.items c.in-Ok.verdicts.items old new c.write_report.result c.requires.planned c.requires.no_file
     (subst (λ (ps : List PathPlan). EndsAll (g.R.Repo.told c.args.repo.now).object ps c.in-Ok.verdicts.items (given_at old) (given_at new)) c.deref.ensures.value c.in-Ok.ensures.ended)
     (record { blobs = c.in-Ok.ensures.blobs_out; leaves = c.in-Ok.ensures.leaves_out })

@@ -10,13 +10,13 @@ loop-start-preserved g c =
     let n = c.line_len.result in
     let line : c.split_at-in-loop-start.result.0.now ≡ take n (drop start text) = c.split_at-in-loop-start.ensures.front ∙ ap (take n) c.split_at.ensures.back in
     record {
-  bound = omega (arith, c.split_at-in-loop-start.ensures.front_len, c.split_at.ensures.back_len, c.line_len.ensures.within);
-  written = c.in-Ok.ensures.written
-      ∙ ap (grown (g.O.Sink.written c.loop-start.out)) line
-      ∙ grown-more (g.O.Sink.written c.args.out.now) (g.O.Sink.written c.loop-start.out) text start n c.loop-start.invariant.written
-      ∙ ap (λ (k : ℕ). grown (g.O.Sink.written c.args.out.now) (take (start + k) text)) (sym c.split_at-in-loop-start.ensures.front_len);
-  faults = c.in-Ok.ensures.faults ∙ c.loop-start.invariant.faults;
-}
+      bound = omega (arith, c.split_at-in-loop-start.ensures.front_len, c.split_at.ensures.back_len, c.line_len.ensures.within);
+      written = c.in-Ok.ensures.written
+          ∙ ap (grown (g.O.Sink.written c.loop-start.out)) line
+          ∙ grown-more (g.O.Sink.written c.args.out.now) (g.O.Sink.written c.loop-start.out) text start n c.loop-start.invariant.written
+          ∙ ap (λ (k : ℕ). grown (g.O.Sink.written c.args.out.now) (take (start + k) text)) (sym c.split_at-in-loop-start.ensures.front_len);
+      faults = c.in-Ok.ensures.faults ∙ c.loop-start.invariant.faults;
+    }
 
 pub returns-in-Err-clause-written : goal.returns-in-Err-clause-written
 returns-in-Err-clause-written g c =

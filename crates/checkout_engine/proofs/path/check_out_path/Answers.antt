@@ -38,7 +38,7 @@ returns-clause-ended g c =
     ends_read (g.R.Repo.told c.args.repo.now).object c.args.path.now c.write_object-verdict.result _ _ _ _ _ _ opened
     (subst (λ (told : Told). EndsPath told c.args.path.now c.write_object-verdict.result (g.R.Blob.Blob.faults c.write_object-verdict.new.blob) (g.T.Leaf.Leaf.state c.write_object-verdict.new.leaf) (g.T.Leaf.Leaf.content c.write_object-verdict.new.leaf) (g.T.Leaf.Leaf.faults c.write_object-verdict.new.leaf)) c.in-Ok-blob.ensures.tells c.write_object-verdict.ensures.ended)
     (record {
-  blobs = blob_joins _ _ _ _ _ _ _ c.take_back-2.ensures.returned c.in-Ok-blob.ensures.returned (c.write_object-verdict.ensures.name ∙ c.in-Ok-blob.ensures.name) refl;
-  leaves = leaf_joins _ _ _ _ _ _ _ c.take_back-3.ensures.returned c.in-Ok-leaf.ensures.returned (c.write_object-verdict.ensures.path ∙ (c.in-Ok-leaf.ensures.path ∙ (c.in-Ok.ensures.cases.0 ∙ c.as_slice.ensures)));
-  files = files_join _ _ _ _ _ _ _ c.take_back-3.ensures.files c.in-Ok-leaf.ensures.files (c.write_object-verdict.ensures.path ∙ (c.in-Ok-leaf.ensures.path ∙ (c.in-Ok.ensures.cases.0 ∙ c.as_slice.ensures)));
-})
+      blobs = blob_joins _ _ _ _ _ _ _ c.take_back-2.ensures.returned c.in-Ok-blob.ensures.returned (c.write_object-verdict.ensures.name ∙ c.in-Ok-blob.ensures.name) refl;
+      leaves = leaf_joins _ _ _ _ _ _ _ c.take_back-3.ensures.returned c.in-Ok-leaf.ensures.returned (c.write_object-verdict.ensures.path ∙ (c.in-Ok-leaf.ensures.path ∙ (c.in-Ok.ensures.cases.0 ∙ c.as_slice.ensures)));
+      files = files_join _ _ _ _ _ _ _ c.take_back-3.ensures.files c.in-Ok-leaf.ensures.files (c.write_object-verdict.ensures.path ∙ (c.in-Ok-leaf.ensures.path ∙ (c.in-Ok.ensures.cases.0 ∙ c.as_slice.ensures)));
+    })
