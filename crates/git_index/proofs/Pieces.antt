@@ -1,5 +1,5 @@
 -- A text that is spelled piece by piece.
-use Rattle.std.proofs.Common.{◌≡◌, ℕ, ◌+◌, ◌-◌, ◌%◌, ◌<◌, ◌≤◌, List, [], ◌∷◌, ◌++◌, length, take, replicate, refl, sym, ap, subst, ◌∙◌, append_assoc, arith}
+use Rattle.std.proofs.Common.{◌≡◌, ℕ, List, ◌++◌, take, replicate, append_assoc, arith}
 use Rattle.std.proofs.lemmas.List.{take-replicate}
 use Rattle.git_index.specs.Spelling.{padding}
 

@@ -1,17 +1,16 @@
 -- An entry behind the earlier ones.
-use Rattle.std.proofs.Common.{◌≡◌, ℕ, ◌+◌, ◌-◌, Bool, true, false, not, ◌&&◌, List, [], ◌∷◌, ◌++◌, length, Option, Some, None, Result, Ok, Err, refl, sym, ap, subst, ◌∙◌}
+use Rattle.std.proofs.Common.{◌≡◌, ℕ, ◌-◌, true, false, List, [], ◌∷◌, ◌++◌, length, Option, Some, None, Ok, Err, refl, sym, ap, ◌∙◌}
 use Rattle.std.specs.Prelude.{slice_get}
-use Rattle.std.specs.List.{list_all, list_any}
-use Rattle.std.proofs.lemmas.Bool.{and_parts, and_from, not_from_false, not_from_true}
+use Rattle.std.specs.List.{list_all}
+use Rattle.std.proofs.lemmas.Bool.{and_parts, and_from}
 use Rattle.git_index.specs.declared.entry.Entry.{Entry}
 use Rattle.git_index.specs.declared.fault.EntryKind.TheVariants.{MixedStage}
-use Rattle.git_index.specs.declared.fault.IndexFault.{IndexFault}
 use Rattle.git_index.specs.declared.fault.IndexFault.TheVariants.{Order, FolderClash, Entry as BadEntry}
-use Rattle.git_index.specs.Spelling.{pairwise, is_below, is_alone, is_clash}
-use Rattle.git_index.specs.Reading.{want, last_of, is_none_or, placed_at}
+use Rattle.git_index.specs.Spelling.{pairwise, is_below, is_alone}
+use Rattle.git_index.specs.Reading.{last_of, is_none_or, placed_at}
 use Rattle.git_index.specs.Folders.{AreOpen, Opens}
-use Rattle.git_index.proofs.PathOrder.{is_below-trans, is_alone-through}
-use Rattle.git_index.proofs.Stack.{pairwise-push, list_all-push, list_all-each, last-splits, last-none, Told, told}
+use Rattle.git_index.proofs.PathOrder.{is_below-trans}
+use Rattle.git_index.proofs.Stack.{pairwise-push, list_all-push, list_all-each, last-splits, last-none, told}
 
 rises_by : (earlier : List Entry) (e : Entry) (o : Option Entry) → slice_get earlier (length earlier - 1) ≡ o → pairwise is_below earlier ≡ true → is_none_or (λ b. is_below b e) o ≡ true → list_all (λ b. is_below b e) earlier ≡ true
 rises_by earlier e None g rising above = ap (list_all (λ b. is_below b e)) (last-none earlier g)

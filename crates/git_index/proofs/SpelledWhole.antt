@@ -1,8 +1,7 @@
 -- The text of entries of some index is an index of them.
-use Rattle.std.proofs.Common.{◌≡◌, ℕ, zero, suc, ◌+◌, ◌-◌, ◌%◌, ◌^◌, ◌<◌, ◌≤◌, Bool, true, false, List, [], ◌∷◌, ◌++◌, length, get_or, take, drop, replicate, Option, Some, None, refl, sym, ap, subst, ◌∙◌, append_assoc, add-one, arith}
-use Rattle.std.specs.Prelude.{map, All}
+use Rattle.std.proofs.Common.{◌≡◌, ℕ, zero, suc, ◌+◌, ◌<◌, ◌≤◌, true, List, [], ◌∷◌, ◌++◌, length, get_or, take, replicate, refl, sym, ap, subst, ◌∙◌, append_assoc, add-one, arith}
+use Rattle.std.specs.Prelude.{map}
 use Rattle.std.specs.List.{flat_map, AllByRecursion}
-use Rattle.std.specs.Str.{bytes_eq}
 use Rattle.std.specs.Int.{w16, w32, to_be_bytes}
 use Rattle.std.proofs.lemmas.Bool.{or_right}
 use Rattle.std.proofs.lemmas.List.{length-append, append-nil, length-map, length-replicate, take_all}
@@ -12,7 +11,7 @@ use Rattle.std.proofs.lemmas.List.Concat.{flat_map-cons}
 use Rattle.std.proofs.lemmas.Slice.Eq.{bytes_eq-Decides}
 use Rattle.sha1.specs.Sha1.{sha1}
 use Rattle.git_index.specs.declared.entry.Entry.{Entry}
-use Rattle.git_index.specs.Spelling.{Written, IsWritten, mode_number, padding, flags, spelled, Extension, spelled_extension, IsPassedOver, header, body, is_hash_of, IsIndex, plain, plain_body, plain_text, AreEntries}
+use Rattle.git_index.specs.Spelling.{Written, IsWritten, mode_number, padding, flags, spelled, spelled_extension, header, body, is_hash_of, IsIndex, plain, plain_body, plain_text}
 use Rattle.git_index.proofs.Whole.{entries_of}
 use Rattle.git_index.proofs.AgainWhole.{length-sha1, length-hash}
 

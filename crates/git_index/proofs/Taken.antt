@@ -1,11 +1,10 @@
 -- What is read as an entry or an extension is spelled so.
-use Rattle.std.proofs.Common.{◌≡◌, ℕ, zero, suc, ◌+◌, ◌-◌, ◌*◌, ◌/◌, ◌%◌, ◌^◌, ◌<◌, ◌≤◌, min, Bool, true, false, cond, not, eqb, ltb, leb, List, [], ◌∷◌, ◌++◌, length, get_or, take, drop, replicate, Option, Some, None, Result, Ok, Err, refl, sym, ap, subst, ◌∙◌, append_assoc, arith, ◌&&◌, inl, inr}
-use Rattle.std.specs.Prelude.{map, ok_or}
-use Rattle.std.specs.List.{list_all, flat_map, AllByRecursion}
+use Rattle.std.proofs.Common.{◌≡◌, ℕ, ◌+◌, ◌*◌, ◌/◌, ◌%◌, ◌^◌, ◌<◌, ◌≤◌, min, true, false, cond, eqb, ltb, leb, List, [], ◌∷◌, ◌++◌, length, get_or, take, drop, replicate, Option, Some, None, Result, Ok, Err, refl, sym, ap, subst, ◌∙◌, append_assoc, arith, inl, inr}
+use Rattle.std.specs.Prelude.{ok_or}
+use Rattle.std.specs.List.{list_all}
 use Rattle.std.specs.Int.{w16, w32, to_be_bytes, from_be_bytes}
-use Rattle.std.proofs.lemmas.Bool.{leb-true, ltb-true, ltb-false, lt-ltb, and_parts, eqb-true, cases_lt}
-use Rattle.std.proofs.lemmas.List.{take-append-drop, drop_at, length-take, length-drop, length-append, drop-drop, get_or-drop, get_or-take, get_or_past}
-use Rattle.std.proofs.lemmas.List.Concat.{flat_map-cons}
+use Rattle.std.proofs.lemmas.Bool.{leb-true, ltb-true, lt-ltb, and_parts, eqb-true, cases_lt}
+use Rattle.std.proofs.lemmas.List.{take-append-drop, drop_at, length-take, length-drop, drop-drop, get_or-drop, get_or-take, get_or_past}
 use Rattle.std.proofs.lemmas.Nat.{be_bytes_2, be_bytes_4}
 use Rattle.byte_path.specs.declared.path.PathFault.{PathFault}
 use Rattle.byte_path.specs.Path.{path_fault}
@@ -14,10 +13,10 @@ use Rattle.git_index.specs.declared.entry.Mode.{Mode}
 use Rattle.git_index.specs.declared.entry.Mode.TheVariants.{Plain, Executable, Link, Gitlink}
 use Rattle.git_index.specs.declared.fault.EntryKind.TheVariants.{Extended, Name, Padding}
 use Rattle.git_index.specs.declared.fault.IndexFault.{IndexFault}
-use Rattle.git_index.specs.declared.fault.IndexFault.TheVariants.{Short, Entry as BadEntry, Mode as BadMode, Path as BadPath, Extension as BadExtension}
-use Rattle.git_index.specs.Spelling.{Written, IsWritten, mode_number, padding, flags, spelled, is_nul, is_not_nul, Extension, spelled_extension, is_optional, IsPassedOver}
-use Rattle.git_index.specs.Reading.{◌>>=◌, want, length_at, sized_at, path_at, mode_at, want_path, made_at, flagged_at, entry_at, entries_at, placed_at, extension_at, fault_or, extensions_fault}
-use Rattle.git_index.proofs.Ordered.{want_ok, ok_is, IsOrdered, ordered_more}
+use Rattle.git_index.specs.declared.fault.IndexFault.TheVariants.{Short, Entry as BadEntry, Mode as BadMode}
+use Rattle.git_index.specs.Spelling.{Written, IsWritten, mode_number, padding, flags, spelled, is_nul, is_not_nul}
+use Rattle.git_index.specs.Reading.{◌>>=◌, want, length_at, sized_at, path_at, mode_at, want_path, made_at, flagged_at, entry_at}
+use Rattle.git_index.proofs.Ordered.{want_ok, ok_is}
 
 abbrev pub IsBytes : List ℕ → Type 0
 IsBytes bytes = (i : ℕ) → get_or bytes i 0 < 256

@@ -1,11 +1,10 @@
-use Rattle.std.proofs.Common.{rules, ◌≡◌, ◌++◌, ◌∷◌, [], Bool, true, false, Ok, List, ℕ, refl, subst, sym, ap, ◌∙◌}
-use Rattle.std.proofs.lemmas.Bool.{not-false}
+use Rattle.std.proofs.Common.{rules, ◌≡◌, ◌++◌, ◌∷◌, [], true, false, List, subst, sym, ap, ◌∙◌}
 use Rattle.git_index.specs.declared.entry.Entry.{Entry}
 use Rattle.git_index.specs.Spelling.{is_below, is_alone}
-use Rattle.git_index.specs.Reading.{is_none_or, last_of, placed_at}
+use Rattle.git_index.specs.Reading.{is_none_or, last_of}
 use Rattle.git_index.specs.Seen.{entry_of_spelled}
 use Rattle.git_index.specs.Folders.{paths, AreOpen, Opens}
-use Rattle.git_index.proofs.Placed.{IsPlaced, placed-ok}
+use Rattle.git_index.proofs.Placed.{placed-ok}
 use Rattle.git_index.proofs.place.place.Goals as goal
 
 pub returns-clause-placed : goal.returns-clause-placed

@@ -1,6 +1,6 @@
-use Rattle.std.proofs.Common.{◌≡◌, ◌++◌, ℕ, List, length, take, replicate, sym, ap, ◌∙◌}
+use Rattle.std.proofs.Common.{◌++◌, ℕ, List, length, take, replicate, ap, ◌∙◌}
 use Rattle.std.specs.Int.{w16, w32, to_be_bytes}
-use Rattle.git_index.specs.Spelling.{mode_number, padding, flags, spelled, plain}
+use Rattle.git_index.specs.Spelling.{mode_number, padding, flags, plain}
 use Rattle.git_index.proofs.Pieces.{pieces, zeros_cut}
 use Rattle.git_index.proofs.spelling.push_entry.Goals as goal
 
