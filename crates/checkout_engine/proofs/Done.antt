@@ -74,26 +74,3 @@ ends_planned told ps vs old new status.Usage planned empty ends back reports = a
 ends_planned told ps vs old new status.Refused planned empty ends back reports = absurd reports
 ends_planned told ps vs old new status.ReadFault planned empty ends back reports = absurd reports
 ends_planned told ps vs old new status.NotEmpty planned empty ends back reports = absurd reports
-
--- how a checkout ends that reached its paths
-pub ends_run : (told : RepoTold) (empty : Option Bool) (old new : Seen) (s : Status) → ((paths : List PathPlan) × IsPlanned told paths) → EndsPlanned told old new s → EndsAt told empty old new s
-ends_run told empty old new status.Done planned done = done
-ends_run told empty old new status.DoneWithFailures planned done = done
-ends_run told empty old new status.OutputNotWritten planned done = (done.0, inr done.1)
-ends_run told empty old new status.OutOfMemory planned done = inr planned
-ends_run told empty old new status.Usage planned done = absurd done
-ends_run told empty old new status.Refused planned done = absurd done
-ends_run told empty old new status.ReadFault planned done = absurd done
-ends_run told empty old new status.NotEmpty planned done = absurd done
-
--- how a checkout ends that was refused
-pub ends_refused : (told : RepoTold) (empty : Option Bool) (refusal : Refusal) (old new : Seen) (s : Status) → IsRefused told refusal → IsUntouched old new → Refuses refusal old.sink new.sink s
-    → EndsAt told empty old new s
-ends_refused told empty refusal old new status.Refused cause untouched line = record { refusal = refusal; cause = cause; line = line; untouched = untouched }
-ends_refused told empty refusal old new status.OutputNotWritten cause untouched cut = (cut.0, inl (record { refusal = refusal; cause = cause; line = cut.1; untouched = untouched }))
-ends_refused told empty refusal old new status.OutOfMemory cause untouched silent = inl (untouched, silent)
-ends_refused told empty refusal old new status.Done cause untouched none = absurd none
-ends_refused told empty refusal old new status.DoneWithFailures cause untouched none = absurd none
-ends_refused told empty refusal old new status.Usage cause untouched none = absurd none
-ends_refused told empty refusal old new status.ReadFault cause untouched none = absurd none
-ends_refused told empty refusal old new status.NotEmpty cause untouched none = absurd none

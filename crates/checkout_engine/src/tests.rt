@@ -41,34 +41,34 @@ const ONE_ENTRY: [u8; 20] = [
 
 /// An entry of an index as a test spells it.
 #[derive(Clone, Copy)]
-struct Row<'a> {
+struct Row {
     mode: u32,
     stage: u16,
     name: [u8; 20],
-    path: &'a [u8],
+    path: &'static [u8],
 }
 
 /// What a run meets, and what it leaves: its output, its status, and a line for each file.
 #[derive(Clone, Copy)]
 struct Case<'a> {
-    command: &'a str,
-    rows: &'a [Row<'a>],
+    command: &'static str,
+    rows: &'a [Row],
     /// Extensions.
-    more: &'a [u8],
+    more: &'static [u8],
     hash: [u8; 20],
     /// What the object of the name `HI` holds.
-    stored: &'a [u8],
-    config: Option<&'a [u8]>,
-    info: Option<&'a [u8]>,
+    stored: &'static [u8],
+    config: Option<&'static [u8]>,
+    info: Option<&'static [u8]>,
     fails: Option<RepoFail>,
-    leaf_fails: Option<(&'a [u8], LeafCall)>,
+    leaf_fails: Option<(&'static [u8], LeafCall)>,
     empty: bool,
     check_fails: bool,
     sink_fails: Option<u32>,
-    wanted: &'a str,
+    wanted: &'static str,
 }
 
-fn stage(stage: u16, mode: u32, name: [u8; 20], path: &[u8]) -> Row<'_> {
+fn stage(stage: u16, mode: u32, name: [u8; 20], path: &'static [u8]) -> Row {
     Row {
         mode,
         stage,
@@ -77,12 +77,12 @@ fn stage(stage: u16, mode: u32, name: [u8; 20], path: &[u8]) -> Row<'_> {
     }
 }
 
-fn plain(path: &[u8]) -> Row<'_> {
+fn plain(path: &'static [u8]) -> Row {
     stage(0, PLAIN, HI, path)
 }
 
 /// A checkout in which nothing fails.
-fn checkout<'a>(rows: &'a [Row<'a>], wanted: &'a str) -> Case<'a> {
+fn checkout<'a>(rows: &'a [Row], wanted: &'static str) -> Case<'a> {
     Case {
         command: "checkout",
         rows,
@@ -187,32 +187,38 @@ fn seen_of(alloc: Global, case: &Case) -> Result<String, Fail> {
     Ok(seen)
 }
 
-fn check(rt: &impl Abort, alloc: Global, cases: &[Case]) -> Result<(), Fail> {
-    for case in cases {
-        let seen = seen_of(alloc, case)?;
-        assert_eq!(rt; seen.as_str(), case.wanted);
-    }
+fn check(rt: &impl Abort, alloc: Global, case: &Case) -> Result<(), Fail> {
+    let seen = seen_of(alloc, case)?;
+    assert_eq!(rt; seen.as_str(), case.wanted);
     Ok(())
 }
 
 #[test]
 fn an_index_is_checked_out(rt: HostRuntime) -> Result<(), Fail> {
     let one = [plain(b"a")];
-    let mut one_file = checkout(&one, "written - - - a\ndone 1 0 0 0\nstatus 0\na: hi\n");
-    one_file.hash = ONE_ENTRY;
-    let mut no_entries = checkout(&[], "done 0 0 0 0\nstatus 0\n");
-    no_entries.hash = NO_ENTRIES;
-    let mut passed_over = one_file;
-    passed_over.hash = [0; 20];
-    passed_over.more = b"TREE\0\0\0\0";
-    let mut other_words = one_file;
-    other_words.command = "plan";
-    other_words.wanted = "status 2\n";
+    let written = "written - - - a\ndone 1 0 0 0\nstatus 0\na: hi\n";
+    let mut case = checkout(&one, written);
     check(
         &rt,
         rt.alloc(),
-        &[one_file, no_entries, passed_over, other_words],
-    )
+        &Case {
+            hash: ONE_ENTRY,
+            ..case
+        },
+    )?;
+    case.more = b"TREE\0\0\0\0";
+    check(&rt, rt.alloc(), &case)?;
+    case.command = "plan";
+    case.wanted = "status 2\n";
+    check(&rt, rt.alloc(), &case)
+}
+
+#[test]
+fn an_index_of_no_entries_is_done(rt: HostRuntime) -> Result<(), Fail> {
+    let rows: [Row; 0] = [];
+    let mut case = checkout(&rows, "done 0 0 0 0\nstatus 0\n");
+    case.hash = NO_ENTRIES;
+    check(&rt, rt.alloc(), &case)
 }
 
 #[test]
@@ -225,134 +231,169 @@ fn executables_and_links_are_marked_and_others_skipped(rt: HostRuntime) -> Resul
         stage(2, PLAIN, HI, b"u"),
         stage(3, PLAIN, HI, b"u"),
     ];
-    let marked = checkout(
-        &rows,
-        "written x - - bin\nwritten l - - ln\nskipped - - gitlink sub\nskipped - - unmerged u\ndone 2 0 0 2\nstatus 0\nbin: hi\nln: bin",
-    );
-    let names = [plain(b"\xc3\xa9"), plain(b"\xff")];
-    let quoted = checkout(
-        &names,
-        "written - - - \"\\303\\251\"\nfailed - - name \"\\377\"\ndone 1 0 1 0\nstatus 1\n\u{e9}: hi\n",
-    );
-    check(&rt, rt.alloc(), &[marked, quoted])
+    let wanted =
+        "written x - - bin\nwritten l - - ln\nskipped - - gitlink sub\nskipped - - unmerged u\ndone 2 0 0 2\nstatus 0\nbin: hi\nln: bin";
+    check(&rt, rt.alloc(), &checkout(&rows, wanted))
+}
+
+#[test]
+fn names_are_quoted_and_must_be_text(rt: HostRuntime) -> Result<(), Fail> {
+    let rows = [plain(b"\xc3\xa9"), plain(b"\xff")];
+    let wanted =
+        "written - - - \"\\303\\251\"\nfailed - - name \"\\377\"\ndone 1 0 1 0\nstatus 1\n\u{e9}: hi\n";
+    check(&rt, rt.alloc(), &checkout(&rows, wanted))
 }
 
 #[test]
 fn an_object_that_is_not_right_fails_its_path(rt: HostRuntime) -> Result<(), Fail> {
     let rows = [plain(b"a"), stage(0, LINK, BIN, b"b")];
-    let mut name = checkout(
+    let mut case = checkout(
         &rows,
         "failed - - object-name a\nwritten l - - b\ndone 1 0 1 0\nstatus 1\nb: bin",
     );
-    name.stored = b"blob 3\0ho\n";
-    let mut size = name;
-    size.stored = b"blob 4\0hi\n";
-    size.wanted = "failed - - object-size a\nwritten l - - b\ndone 1 0 1 0\nstatus 1\nb: bin";
-    let mut compressed = name;
-    compressed.stored = b"x\x01K\xca\xc9O";
-    compressed.wanted =
-        "failed - - object-header a\nwritten l - - b\ndone 1 0 1 0\nstatus 1\nb: bin";
-    let mut unreadable = name;
-    unreadable.fails = Some(RepoFail::Object(HI));
-    unreadable.wanted = "failed - - read a\nwritten l - - b\ndone 1 0 1 0\nstatus 1\nb: bin";
-    let lone = [stage(0, PLAIN, [9; 20], b"a")];
-    let absent = checkout(
-        &lone,
-        "failed - - object-absent a\ndone 0 0 1 0\nstatus 1\n",
-    );
-    check(
-        &rt,
-        rt.alloc(),
-        &[name, size, compressed, unreadable, absent],
-    )
+    case.stored = b"blob 3\0ho\n";
+    check(&rt, rt.alloc(), &case)?;
+    case.stored = b"blob 4\0hi\n";
+    case.wanted = "failed - - object-size a\nwritten l - - b\ndone 1 0 1 0\nstatus 1\nb: bin";
+    check(&rt, rt.alloc(), &case)?;
+    // what zlib makes of an object
+    case.stored = b"x\x01K\xca\xc9O";
+    case.wanted = "failed - - object-header a\nwritten l - - b\ndone 1 0 1 0\nstatus 1\nb: bin";
+    check(&rt, rt.alloc(), &case)?;
+    case.fails = Some(RepoFail::Object(HI));
+    case.wanted = "failed - - read a\nwritten l - - b\ndone 1 0 1 0\nstatus 1\nb: bin";
+    check(&rt, rt.alloc(), &case)
+}
+
+#[test]
+fn an_object_that_is_absent_fails_its_path(rt: HostRuntime) -> Result<(), Fail> {
+    let rows = [stage(0, PLAIN, [9; 20], b"a")];
+    let wanted = "failed - - object-absent a\ndone 0 0 1 0\nstatus 1\n";
+    check(&rt, rt.alloc(), &checkout(&rows, wanted))
 }
 
 #[test]
 fn a_leaf_that_fails_fails_its_path_alone(rt: HostRuntime) -> Result<(), Fail> {
     let rows = [plain(b"p1"), plain(b"p2"), plain(b"p3")];
-    let mut seal = checkout(
+    let mut case = checkout(
         &rows,
         "written - - - p1\nfailed - - write p2\nwritten - - - p3\ndone 2 0 1 0\nstatus 1\np1: hi\np3: hi\n",
     );
-    seal.leaf_fails = Some((b"p2", LeafCall::Seal));
-    let mut put = seal;
-    put.leaf_fails = Some((b"p2", LeafCall::Put));
-    check(&rt, rt.alloc(), &[seal, put])
+    case.leaf_fails = Some((b"p2", LeafCall::Seal));
+    check(&rt, rt.alloc(), &case)?;
+    case.leaf_fails = Some((b"p2", LeafCall::Put));
+    check(&rt, rt.alloc(), &case)
 }
 
 #[test]
 fn a_sink_that_fails_cuts_the_output(rt: HostRuntime) -> Result<(), Fail> {
     let rows = [plain(b"a")];
-    let mut first = checkout(&rows, "status 4\na: hi\n");
-    first.sink_fails = Some(0);
-    let mut second = first;
-    second.sink_fails = Some(1);
-    second.wanted = "written - - - a\nstatus 4\na: hi\n";
-    let mut refusal = first;
-    refusal.more = b"link\0\0\0\0";
-    refusal.wanted = "status 4\n";
-    check(&rt, rt.alloc(), &[first, second, refusal])
+    let mut case = checkout(&rows, "status 4\na: hi\n");
+    case.sink_fails = Some(0);
+    check(&rt, rt.alloc(), &case)?;
+    case.sink_fails = Some(1);
+    case.wanted = "written - - - a\nstatus 4\na: hi\n";
+    check(&rt, rt.alloc(), &case)?;
+    case.sink_fails = Some(0);
+    case.more = b"link\0\0\0\0";
+    case.wanted = "status 4\n";
+    check(&rt, rt.alloc(), &case)
 }
 
 #[test]
-fn an_index_that_is_not_right_is_refused(rt: HostRuntime) -> Result<(), Fail> {
-    let one = [plain(b"a")];
-    let mut link = checkout(&one, "refused index extension 6c696e6b\nstatus 3\n");
-    link.more = b"link\0\0\0\0";
-    let mut short = link;
-    short.more = b"TREE\0\0\0";
-    short.wanted = "refused index short\nstatus 3\n";
-    let mut hash = checkout(&one, "refused index hash\nstatus 3\n");
-    hash.hash = [1; 20];
-    let git = [plain(b"a/.GIT/x")];
-    let dot_git = checkout(&git, "refused index path 0 dot-git\nstatus 3\n");
-    let twice = [plain(b"a"), plain(b"a")];
-    let order = checkout(&twice, "refused index order 1\nstatus 3\n");
-    let folder = [plain(b"a"), plain(b"a/b")];
-    let clash = checkout(&folder, "refused index clash 1\nstatus 3\n");
-    let both = [plain(b"a"), stage(2, PLAIN, HI, b"a")];
-    let mixed = checkout(&both, "refused index entry 1 mixed-stage\nstatus 3\n");
-    let odd = [stage(0, 0o100600, HI, b"a")];
-    let mode = checkout(&odd, "refused index mode 0\nstatus 3\n");
-    check(
+fn an_index_whose_tail_is_not_right_is_refused(rt: HostRuntime) -> Result<(), Fail> {
+    let rows = [plain(b"a")];
+    let mut case = checkout(&rows, "refused index extension 6c696e6b\nstatus 3\n");
+    case.more = b"link\0\0\0\0";
+    check(&rt, rt.alloc(), &case)?;
+    case.more = b"TREE\0\0\0";
+    case.wanted = "refused index short\nstatus 3\n";
+    check(&rt, rt.alloc(), &case)?;
+    case.more = b"";
+    case.hash = [1; 20];
+    case.wanted = "refused index hash\nstatus 3\n";
+    check(&rt, rt.alloc(), &case)
+}
+
+fn check_refused(
+    rt: &impl Abort,
+    alloc: Global,
+    first: Row,
+    second: Row,
+    wanted: &'static str,
+) -> Result<(), Fail> {
+    let rows = [first, second];
+    check(rt, alloc, &checkout(&rows, wanted))
+}
+
+#[test]
+fn an_index_whose_entries_are_not_right_is_refused(rt: HostRuntime) -> Result<(), Fail> {
+    let alloc = rt.alloc();
+    let a = plain(b"a");
+    check_refused(
         &rt,
-        rt.alloc(),
-        &[link, short, hash, dot_git, order, clash, mixed, mode],
-    )
+        alloc,
+        plain(b"a/.GIT/x"),
+        a,
+        "refused index path 0 dot-git\nstatus 3\n",
+    )?;
+    check_refused(&rt, alloc, a, a, "refused index order 1\nstatus 3\n")?;
+    check_refused(
+        &rt,
+        alloc,
+        a,
+        plain(b"a/b"),
+        "refused index clash 1\nstatus 3\n",
+    )?;
+    let mixed = "refused index entry 1 mixed-stage\nstatus 3\n";
+    check_refused(&rt, alloc, a, stage(2, PLAIN, HI, b"a"), mixed)?;
+    let odd = stage(0, 0o100600, HI, b"b");
+    check_refused(&rt, alloc, a, odd, "refused index mode 1\nstatus 3\n")
 }
 
 #[test]
 fn what_is_not_built_yet_is_refused(rt: HostRuntime) -> Result<(), Fail> {
-    let one = [plain(b"a")];
-    let mut config = checkout(&one, "refused unbuilt\nstatus 3\n");
-    config.config = Some(b"");
-    let mut info = config;
-    info.config = None;
-    info.info = Some(b"#\n");
-    let at_top = [plain(b".gitattributes")];
-    let top = checkout(&at_top, "refused unbuilt\nstatus 3\n");
-    let in_folder = [stage(0, EXECUTABLE, HI, b"d/.gitattributes")];
-    let below = checkout(&in_folder, "refused unbuilt\nstatus 3\n");
-    let as_link = [stage(0, LINK, BIN, b".gitattributes")];
-    let link = checkout(
-        &as_link,
-        "written l - - .gitattributes\ndone 1 0 0 0\nstatus 0\n.gitattributes: bin",
-    );
-    check(&rt, rt.alloc(), &[config, info, top, below, link])
+    let alloc = rt.alloc();
+    let a = plain(b"a");
+    let wanted = "refused unbuilt\nstatus 3\n";
+    check_refused(&rt, alloc, plain(b".gitattributes"), a, wanted)?;
+    check_refused(
+        &rt,
+        alloc,
+        a,
+        stage(0, EXECUTABLE, HI, b"d/.gitattributes"),
+        wanted,
+    )?;
+    let rows = [a];
+    let mut case = checkout(&rows, wanted);
+    case.config = Some(b"");
+    check(&rt, alloc, &case)?;
+    case.config = None;
+    case.info = Some(b"#\n");
+    check(&rt, alloc, &case)
+}
+
+#[test]
+fn a_link_that_is_named_as_an_attribute_file_is_written(rt: HostRuntime) -> Result<(), Fail> {
+    let rows = [stage(0, LINK, BIN, b".gitattributes")];
+    let wanted = "written l - - .gitattributes\ndone 1 0 0 0\nstatus 0\n.gitattributes: bin";
+    check(&rt, rt.alloc(), &checkout(&rows, wanted))
 }
 
 #[test]
 fn a_full_worktree_and_a_read_that_fails_stop_it(rt: HostRuntime) -> Result<(), Fail> {
-    let one = [plain(b"a")];
-    let mut full = checkout(&one, "status 7\n");
-    full.empty = false;
-    let mut unread = checkout(&one, "status 6\n");
-    unread.check_fails = true;
-    let mut index = checkout(&one, "status 6\n");
-    index.fails = Some(RepoFail::Index);
-    let mut config = index;
-    config.fails = Some(RepoFail::Config);
-    let mut info = index;
-    info.fails = Some(RepoFail::Info);
-    check(&rt, rt.alloc(), &[full, unread, index, config, info])
+    let rows = [plain(b"a")];
+    let mut case = checkout(&rows, "status 7\n");
+    case.empty = false;
+    check(&rt, rt.alloc(), &case)?;
+    case.check_fails = true;
+    case.wanted = "status 6\n";
+    check(&rt, rt.alloc(), &case)?;
+    case.check_fails = false;
+    case.empty = true;
+    for fail in [RepoFail::Index, RepoFail::Config, RepoFail::Info] {
+        case.fails = Some(fail);
+        check(&rt, rt.alloc(), &case)?;
+    }
+    Ok(())
 }
