@@ -1,17 +1,15 @@
 -- A checkout that has all that it needs is done, or wants memory.
-use Rattle.std.proofs.Common.{◌≡◌, ◌≢◌, ◌⊎◌, ℕ, ◌+◌, ◌<◌, ◌≤◌, Bool, true, false, ◌||◌, List, [], ◌∷◌, ◌++◌, length, map, Option, Some, None, Result, Ok, Err, sum_by, refl, sym, ap, ◌∙◌, subst, inl, inr, arith}
+use Rattle.std.proofs.Common.{◌≡◌, ◌⊎◌, ℕ, ◌+◌, ◌<◌, Bool, true, false, ◌||◌, List, [], ◌∷◌, length, map, Option, Some, None, Result, Ok, Err, refl, sym, ap, ◌∙◌, subst, inl, inr, arith}
 use Rattle.std.specs.List.{list_any, AllByRecursion}
-use Rattle.std.specs.Str.{IsUtf8}
 use Rattle.std.proofs.lemmas.Bool.{lt-ltb}
 use Rattle.std.proofs.lemmas.List.Sums.{sum_by-append}
-use Rattle.edge_kit.specs.Told.{Told, Raw, Absent, RepoTold, TellsBytes, TellsNone, TellsLong, MayFail, Tells}
+use Rattle.edge_kit.specs.Told.{Told, Raw, RepoTold, TellsBytes, TellsNone, TellsLong, MayFail, Tells}
 use Rattle.edge_kit.specs.declared.leaf_state.LeafState.{LeafState}
 use Rattle.git_index.specs.declared.entry.Entry.{Entry}
-use Rattle.git_index.specs.declared.fault.IndexFault.{IndexFault}
 use Rattle.git_index.specs.Spelling.{IsIndex}
-use Rattle.git_index.specs.Reading.{index_at, index_fault}
+use Rattle.git_index.specs.Reading.{index_fault}
 use Rattle.git_index.proofs.AgainWhole.{index_again, one_reading}
-use Rattle.object_dir.specs.Object.{Gives, IsObject, object_of, max_stored}
+use Rattle.object_dir.specs.Object.{Gives, object_of, max_stored}
 use Rattle.object_dir.specs.declared.fault.ObjectFault.{ObjectFault}
 use Rattle.object_dir.specs.declared.fault.ObjectFault.TheVariants as object
 use Rattle.checkout_core.specs.declared.verdict.Verdict.{Verdict}
@@ -28,7 +26,7 @@ use Rattle.checkout_engine.specs.declared.status.Status.TheVariants as status
 use Rattle.checkout_engine.specs.Plan.{plan_of, has_attribute_file}
 use Rattle.checkout_engine.specs.Outcome.{Outcome, FitsKind, HasVerdict, leaf_back}
 use Rattle.checkout_engine.specs.Paths.{AreOutcomes, leaves_back}
-use Rattle.checkout_engine.specs.Input.{IsRefused, IsThere, HasIndex, max_index}
+use Rattle.checkout_engine.specs.Input.{IsRefused, HasIndex, max_index}
 use Rattle.checkout_engine.specs.Report.{lacks_memory, status_of}
 use Rattle.checkout_engine.specs.Run.{Seen, EndsAt, Ends, IsDone, number_of}
 use Rattle.checkout_engine.specs.Complete.{IsRightPath, IsReady, failed_leaves, IsUnfailed}

@@ -1,6 +1,5 @@
 -- A run over planned paths.
-use Rattle.std.proofs.Common.{◌≡◌, ℕ, suc, Bool, true, false, List, [], ◌∷◌, length, map, Option, refl, sym, ap, ◌∙◌, subst, inl, inr}
-use Rattle.std.specs.List.{AllZip}
+use Rattle.std.proofs.Common.{◌≡◌, ℕ, suc, true, List, [], ◌∷◌, length, map, refl, sym, ap, ◌∙◌, subst}
 use Rattle.edge_kit.specs.Told.{Told, RepoTold, Tells}
 use Rattle.edge_kit.specs.declared.tree_file.TreeFile.{TreeFile}
 use Rattle.git_index.specs.Spelling.{pairwise}
@@ -8,12 +7,11 @@ use Rattle.checkout_core.specs.declared.verdict.Verdict.{Verdict}
 use Rattle.checkout_engine.specs.declared.plan.PathPlan.{PathPlan}
 use Rattle.checkout_engine.specs.declared.status.Status.{Status}
 use Rattle.checkout_engine.specs.declared.status.Status.TheVariants as status
-use Rattle.checkout_engine.specs.declared.stop.Refusal.{Refusal}
-use Rattle.checkout_engine.specs.Outcome.{Outcome, IsOutcome}
-use Rattle.checkout_engine.specs.Paths.{Given, EndsAll, AreOutcomes, all_joined}
-use Rattle.checkout_engine.specs.Input.{IsPlanned, IsRefused}
+use Rattle.checkout_engine.specs.Outcome.{Outcome}
+use Rattle.checkout_engine.specs.Paths.{Given, EndsAll, AreOutcomes}
+use Rattle.checkout_engine.specs.Input.{IsPlanned}
 use Rattle.checkout_engine.specs.Report.{report, Reports}
-use Rattle.checkout_engine.specs.Run.{Seen, given_at, IsGivenBack, IsUntouched, files_of, IsCheckedOut, IsDone, Refuses, EndsPlanned, EndsAt}
+use Rattle.checkout_engine.specs.Run.{Seen, given_at, IsGivenBack, IsCheckedOut, EndsPlanned}
 use Rattle.checkout_engine.proofs.Order.{precedes, plan_rises, all_joined-files_of}
 
 outcomes_length : (object : List ℕ → Told) (ps : List PathPlan) (os : List Outcome) → AreOutcomes object ps os → length ps ≡ length os

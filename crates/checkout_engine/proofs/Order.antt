@@ -1,6 +1,6 @@
 -- Files join in the order of the paths, each behind the others.
-use Rattle.std.proofs.Common.{◌≡◌, ◌⊎◌, ℕ, Bool, true, false, ◌&&◌, if◌then◌else◌, Ordering, Less, Equal, Greater, List, [], ◌∷◌, ◌++◌, Option, Some, None, refl, sym, ap, subst, ◌∙◌, append_assoc, append-nil, inl, inr}
-use Rattle.std.specs.List.{list_all, filter_map, AllByRecursion}
+use Rattle.std.proofs.Common.{◌≡◌, ◌⊎◌, ℕ, Bool, true, false, if◌then◌else◌, Ordering, Less, Equal, Greater, List, [], ◌∷◌, ◌++◌, Option, Some, None, refl, sym, ap, subst, ◌∙◌, append_assoc, append-nil, inl, inr}
+use Rattle.std.specs.List.{list_all, AllByRecursion}
 use Rattle.std.specs.Ordering.{nat_cmp, is_lt, ordering_reverse}
 use Rattle.std.specs.Cmp.Lexicographic.{slice_cmp}
 use Rattle.std.specs.Str.{bytes_eq}
@@ -20,7 +20,7 @@ use Rattle.checkout_core.specs.declared.verdict.Verdict.TheVariants as verdict
 use Rattle.checkout_core.specs.declared.verdict.FailCause.TheVariants as fail
 use Rattle.checkout_engine.specs.declared.plan.PathPlan.{PathPlan}
 use Rattle.checkout_engine.specs.Plan.{planned, plan_after}
-use Rattle.checkout_engine.specs.Outcome.{Outcome, HasVerdict, IsOutcome, MayLeavePart, LeavesPart, joined}
+use Rattle.checkout_engine.specs.Outcome.{Outcome, HasVerdict, MayLeavePart, LeavesPart, joined}
 use Rattle.checkout_engine.specs.Paths.{AreOutcomes, all_joined}
 use Rattle.checkout_engine.specs.Run.{files_of}
 

@@ -1,19 +1,17 @@
 -- How a path ends, by what was given back.
-use Rattle.std.proofs.Common.{◌≡◌, ◌⊎◌, ℕ, ◌<◌, Bool, true, false, List, [], ◌∷◌, ◌++◌, Option, Some, None, Ok, refl, sym, ap, ◌∙◌, subst, inl, inr, append-nil}
+use Rattle.std.proofs.Common.{◌≡◌, ◌⊎◌, ℕ, true, false, List, [], ◌∷◌, ◌++◌, Option, Some, None, refl, sym, ap, ◌∙◌, subst, inl, inr, append-nil}
 use Rattle.std.specs.Option.{option_map}
-use Rattle.std.specs.Str.{IsUtf8}
-use Rattle.edge_kit.specs.Told.{Told, Tells, MayFail}
+use Rattle.edge_kit.specs.Told.{Told, Tells}
 use Rattle.edge_kit.specs.Files.{with_file, files_with, MayGainPart, JoinsLeaf}
 use Rattle.edge_kit.specs.declared.leaf_state.LeafState.{LeafState}
-use Rattle.edge_kit.specs.declared.leaf_state.LeafState.TheVariants.{Fresh, Sealed, Gone, Stuck}
+use Rattle.edge_kit.specs.declared.leaf_state.LeafState.TheVariants.{Fresh, Sealed}
 use Rattle.edge_kit.specs.declared.leaf_state.Mark.{Mark}
 use Rattle.edge_kit.specs.declared.tree_file.TreeFile.{TreeFile}
-use Rattle.object_dir.specs.Object.{Gives}
 use Rattle.checkout_core.specs.declared.verdict.Verdict.{Verdict}
 use Rattle.checkout_core.specs.declared.verdict.Verdict.TheVariants as verdict
 use Rattle.checkout_core.specs.declared.verdict.FailCause.TheVariants as fail
 use Rattle.checkout_engine.specs.declared.plan.PathPlan.{PathPlan}
-use Rattle.checkout_engine.specs.Outcome.{Outcome, IsGivenUp, EndsPath, IsOpenPath, IsUntouched, MayLeavePart, LeavesPart, HasVerdict, joined}
+use Rattle.checkout_engine.specs.Outcome.{Outcome, IsGivenUp, EndsPath, IsOpenPath, MayLeavePart, LeavesPart, HasVerdict, joined}
 use Rattle.checkout_engine.specs.Paths.{Given, EndsOne}
 
 -- the told files grow by this one, if there is one

@@ -1,14 +1,14 @@
 -- One more path at the end.
-use Rattle.std.proofs.Common.{◌≡◌, ℕ, suc, ◌+◌, ◌<◌, List, [], ◌∷◌, ◌++◌, length, get_or, take, map, Option, Some, None, refl, sym, ap, ◌∙◌, subst, append-nil, append_assoc, arith}
+use Rattle.std.proofs.Common.{◌≡◌, ℕ, ◌+◌, ◌<◌, List, [], ◌∷◌, ◌++◌, length, get_or, take, map, refl, sym, ap, ◌∙◌, append-nil, append_assoc}
 use Rattle.std.specs.List.{AllZip}
 use Rattle.std.proofs.lemmas.List.{take_more}
-use Rattle.edge_kit.specs.Told.{Told, Tells}
+use Rattle.edge_kit.specs.Told.{Told}
 use Rattle.edge_kit.specs.declared.leaf_state.LeafState.{LeafState}
 use Rattle.edge_kit.specs.declared.tree_file.TreeFile.{TreeFile}
 use Rattle.checkout_core.specs.declared.verdict.Verdict.{Verdict}
 use Rattle.checkout_engine.specs.declared.plan.PathPlan.{PathPlan}
 use Rattle.checkout_engine.specs.Outcome.{Outcome, IsOutcome, blob_back, leaf_back, joined}
-use Rattle.checkout_engine.specs.Paths.{Given, given, EndsOne, EndsAll, AreOutcomes, blobs_back, leaves_back, all_joined}
+use Rattle.checkout_engine.specs.Paths.{Given, EndsOne, EndsAll, AreOutcomes, blobs_back, leaves_back, all_joined}
 
 AllZip-both : {X Y : Type 0} (R : X → Y → Type 0) (xs : List X) (ys : List Y) (x : X) (y : Y) → AllZip R xs ys → R x y → AllZip R (xs ++ x ∷ []) (ys ++ y ∷ [])
 AllZip-both R [] [] x y all one = (one, tt)

@@ -1,5 +1,5 @@
 -- What a checkout reads before it touches a file, and why it stops there.
-use Rattle.std.specs.Prelude.{◌≡◌, ◌≢◌, ◌⊎◌, ℕ, Bool, true, false, List, Option, Some, None, Result, Ok, Err}
+use Rattle.std.specs.Prelude.{◌≡◌, ◌≢◌, ◌⊎◌, ℕ, true, false, List, Option, Some, None, Result, Ok, Err}
 use Rattle.std.specs.Global.{Vec}
 use Rattle.edge_kit.specs.Faults.{Rose}
 use Rattle.edge_kit.specs.declared.faults.TakeFault.{TakeFault}

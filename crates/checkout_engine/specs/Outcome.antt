@@ -1,17 +1,16 @@
 -- What befalls one path of a checkout.
-use Rattle.std.specs.Prelude.{◌≡◌, ◌⊎◌, ℕ, ◌<◌, Bool, true, false, List, [], ◌∷◌, Option, Some, None, Err, Ok}
+use Rattle.std.specs.Prelude.{◌≡◌, ◌⊎◌, ℕ, ◌<◌, false, List, [], ◌∷◌, Option, Some, None, Err, Ok}
 use Rattle.std.specs.Str.{IsUtf8}
 use Rattle.edge_kit.specs.Told.{Told, Tells, MayFail}
 use Rattle.edge_kit.specs.Files.{with_file}
 use Rattle.edge_kit.specs.declared.leaf_state.LeafState.{LeafState}
-use Rattle.edge_kit.specs.declared.leaf_state.LeafState.TheVariants.{Fresh, Partly, Sealed, Gone, Broken, Stuck}
+use Rattle.edge_kit.specs.declared.leaf_state.LeafState.TheVariants.{Fresh, Sealed, Gone, Stuck}
 use Rattle.edge_kit.specs.declared.leaf_state.Mark.{Mark}
 use Rattle.edge_kit.specs.declared.tree_file.TreeFile.{TreeFile}
 use Rattle.object_dir.specs.Object.{Gives, IsObject}
 use Rattle.object_dir.specs.declared.fault.ObjectFault.TheVariants as object
 use Rattle.checkout_core.specs.declared.verdict.Verdict.{Verdict}
 use Rattle.checkout_core.specs.declared.verdict.Verdict.TheVariants as verdict
-use Rattle.checkout_core.specs.declared.verdict.FailCause.{FailCause}
 use Rattle.checkout_core.specs.declared.verdict.FailCause.TheVariants as fail
 use Rattle.checkout_core.specs.declared.verdict.ObjectKind.{ObjectKind}
 use Rattle.checkout_core.specs.declared.verdict.ObjectKind.TheVariants as kind

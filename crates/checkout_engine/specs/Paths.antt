@@ -1,5 +1,5 @@
 -- What befalls the paths of a checkout, one after the other.
-use Rattle.std.specs.Prelude.{◌≡◌, ℕ, List, [], ◌∷◌, ◌++◌, map, Option, Some, None}
+use Rattle.std.specs.Prelude.{◌≡◌, ℕ, List, [], ◌∷◌, ◌++◌, map, Option}
 use Rattle.std.specs.List.{AllZip}
 use Rattle.edge_kit.specs.Told.{Told, Tells}
 use Rattle.edge_kit.specs.declared.leaf_state.LeafState.{LeafState}

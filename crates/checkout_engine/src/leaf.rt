@@ -36,15 +36,13 @@ pub fn write_leaf<L: Leaf>(leaf: &mut L, content: &[u8], mark: Mark) -> Verdict
     ensures path { L.path leaf.new ≡ L.path leaf.old }
     ensures ended { EndsLeaf mark content.now result (L.state leaf.new) (L.content leaf.new) (L.faults leaf.new) }
 {
-    match put_and_seal(leaf, content, mark) {
+    let written = put_and_seal(leaf, content, mark);
+    if written.is_err() {
+        let _ = leaf.discard();
+    }
+    match written {
         Ok(()) => Verdict::Written { unencoded: false },
-        Err(SendFault::Failed) => {
-            let _ = leaf.discard();
-            Verdict::Failed(FailCause::WriteFailed)
-        }
-        Err(SendFault::NoMemory) => {
-            let _ = leaf.discard();
-            Verdict::NoMemory
-        }
+        Err(SendFault::Failed) => Verdict::Failed(FailCause::WriteFailed),
+        Err(SendFault::NoMemory) => Verdict::NoMemory,
     }
 }

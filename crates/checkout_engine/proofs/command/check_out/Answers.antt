@@ -1,7 +1,7 @@
-use Rattle.std.proofs.Common.{◌≡◌, ◌∙◌, ap, List, length, sym, refl, subst}
+use Rattle.std.proofs.Common.{◌∙◌, ap, List, length, sym, subst}
 use Rattle.checkout_core.specs.declared.verdict.Verdict.{Verdict}
 use Rattle.checkout_engine.specs.declared.plan.PathPlan.{PathPlan}
-use Rattle.checkout_engine.specs.Paths.{given, EndsAll}
+use Rattle.checkout_engine.specs.Paths.{EndsAll}
 use Rattle.checkout_engine.specs.Report.{report, Reports}
 use Rattle.checkout_engine.specs.Run.{seen, repo_seen, tree_seen, sink_seen, given_at}
 use Rattle.checkout_engine.proofs.Done.{ended_length, ends_planned}

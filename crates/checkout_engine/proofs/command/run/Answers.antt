@@ -1,4 +1,4 @@
-use Rattle.std.proofs.Common.{◌≡◌, sym, ◌∙◌}
+use Rattle.std.proofs.Common.{sym, ◌∙◌}
 use Rattle.checkout_engine.specs.declared.status.Status.TheVariants as status
 use Rattle.checkout_engine.proofs.Completeness.{completes, completes_number, other_words}
 use Rattle.checkout_engine.proofs.command.run.Goals as goal

@@ -1,4 +1,4 @@
-use Rattle.std.proofs.Common.{◌≡◌, ℕ, ◌+◌, List, [], take, refl, sym, ◌∙◌, subst}
+use Rattle.std.proofs.Common.{◌+◌, List, [], take, refl, sym, ◌∙◌, subst}
 use Rattle.edge_kit.specs.Told.{RepoTold}
 use Rattle.checkout_core.specs.declared.verdict.Verdict.{Verdict}
 use Rattle.checkout_engine.specs.Paths.{given, EndsOne, EndsAll}
