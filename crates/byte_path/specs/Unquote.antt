@@ -1,5 +1,5 @@
 -- What a quoted text stands for.
-use Rattle.std.specs.Prelude.{◌≡◌, ℕ, zero, suc, ◌+◌, ◌-◌, ◌*◌, ◌<◌, ◌≤◌, Bool, ◌&&◌, ◌==◌, nat_le, List, [], ◌∷◌, ◌++◌, length, drop, slice_index, Option, Some, None, Result, Ok, Err, if◌then◌else◌}
+use Rattle.std.specs.Prelude.{◌≡◌, ℕ, zero, suc, ◌+◌, ◌-◌, ◌*◌, ◌<◌, ◌≤◌, Bool, true, false, ◌&&◌, ◌==◌, nat_le, List, [], ◌∷◌, ◌++◌, length, drop, slice_index, Option, Some, None, Result, Ok, Err, if◌then◌else◌}
 use Rattle.byte_path.specs.declared.unquoting.QuoteFault.{QuoteFault}
 use Rattle.byte_path.specs.declared.unquoting.Stretch.{Stretch}
 use Rattle.byte_path.specs.declared.unquoting.Stretch.TheVariants.{Closed, Escaped}
@@ -50,14 +50,17 @@ abbrev pub escaped : Option (ℕ × ℕ) → (ℕ → Result (List ℕ × ℕ) Q
 escaped None behind = Err BadEscape
 escaped (Some escape) behind = prefixed (escape.0 ∷ []) 1 (behind escape.1)
 
+-- a byte that is a quote, a backslash or neither, and what comes behind it; the cases are equations, so that only one is computed
+abbrev pub from_byte : Bool → Bool → ℕ → List ℕ → (ℕ → Result (List ℕ × ℕ) QuoteFault) → Result (List ℕ × ℕ) QuoteFault
+from_byte true is_backslash b text behind = Ok ([], 1)
+from_byte false true b text behind = escaped (escape_at text) behind
+from_byte false false b text behind = prefixed (b ∷ []) 1 (behind 0)
+
 -- the bytes up to the closing quote, behind `skip` bytes of an escape, and how many bytes of the text that takes
 abbrev pub unquoted_behind : ℕ → List ℕ → Result (List ℕ × ℕ) QuoteFault
 unquoted_behind skip [] = Err Unclosed
 unquoted_behind (suc skip) (b ∷ text) = prefixed [] 1 (unquoted_behind skip text)
-unquoted_behind zero (b ∷ text) =
-    if b == 34 then Ok ([], 1)
-    else if b == 92 then escaped (escape_at text) (λ skip. unquoted_behind skip text)
-    else prefixed (b ∷ []) 1 (unquoted_behind 0 text)
+unquoted_behind zero (b ∷ text) = from_byte (b == 34) (b == 92) b text (λ skip. unquoted_behind skip text)
 
 -- the same of a text that begins with a quote
 abbrev pub unquoted : List ℕ → Result (List ℕ × ℕ) QuoteFault
