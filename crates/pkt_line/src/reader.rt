@@ -94,7 +94,7 @@ impl PktReader {
         Ok(lend(front, unread))
     }
 
-    /// Drops the packet at the front, which takes `size` bytes.
+    /// Drops `size` bytes at the front: those of the packet that `peek` showed.
     pub fn skip(&mut self, size: usize)
         requires { size ≤ length self.old.unread }
         ensures { self.new ≡ without size self.old }
