@@ -1,6 +1,14 @@
-//! The texts of requests to a filter driver, and its answers, of gitattributes(5), "Long Running Filter Process".
+//! The texts of requests to a filter driver, and its answers: gitattributes(5), "Long Running Filter Process".
 #![tactic(auto)]
 
+mod packet;
 mod reply;
+mod smudge_reply;
+mod turn;
+mod words;
 
+pub use packet::ReadPacket;
 pub use reply::{BreakCause, Caps, ListReply, Reply};
+pub use smudge_reply::{GoodReply, ReplyPhase, reply_after_flush, reply_after_line, smudge_reply_of};
+pub use turn::{MOST_ANSWER, Turn};
+pub use words::{Status, key_value, next_status, read_status};
