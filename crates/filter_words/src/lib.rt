@@ -1,12 +1,16 @@
 //! The texts of requests to a filter driver, and its answers: gitattributes(5), "Long Running Filter Process".
 #![tactic(auto)]
 
+mod handshake;
+mod listing;
 mod packet;
 mod reply;
 mod smudge_reply;
 mod turn;
 mod words;
 
+pub use handshake::{HandshakePhase, handshake_after_flush, handshake_after_line, handshake_of};
+pub use listing::{ListEnd, ListPart, Listing, list_after_flush, listed_name};
 pub use packet::ReadPacket;
 pub use reply::{BreakCause, Caps, ListReply, Reply};
 pub use smudge_reply::{GoodReply, ReplyPhase, reply_after_flush, reply_after_line, smudge_reply_of};
