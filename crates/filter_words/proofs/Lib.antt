@@ -3,3 +3,4 @@ pub mod Runs
 pub mod Reading
 pub mod Names
 pub mod LateList
+pub mod Texts

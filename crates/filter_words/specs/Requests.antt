@@ -16,12 +16,16 @@ caps_packets = line (codes "capability=clean") ∷ line (codes "capability=smudg
 abbrev pub list_packets : List Packet
 list_packets = line (codes "command=list_available_blobs") ∷ Flush ∷ []
 
-abbrev pub can_delay_lines : Bool → List Packet
-can_delay_lines can_delay = if can_delay then line (codes "can-delay=1") ∷ [] else []
+abbrev pub can_delay_line : Bool → List Packet
+can_delay_line can_delay = if can_delay then line (codes "can-delay=1") ∷ [] else []
+
+-- the key list of a request for a path
+abbrev pub smudge_keys : List ℕ → Bool → List Packet
+smudge_keys path can_delay =
+    line (codes "command=smudge") ∷ line (codes "pathname=" ++ path) ∷ can_delay_line can_delay ++ Flush ∷ []
 
 abbrev pub smudge_packets : List ℕ → Bool → List ℕ → List Packet
-smudge_packets path can_delay content =
-    line (codes "command=smudge") ∷ line (codes "pathname=" ++ path) ∷ can_delay_lines can_delay ++ Flush ∷ content_packets content ++ Flush ∷ []
+smudge_packets path can_delay content = smudge_keys path can_delay ++ content_packets content ++ Flush ∷ []
 
 abbrev pub hello_text : List ℕ
 hello_text = spelling_all hello_packets

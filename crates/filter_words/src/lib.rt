@@ -5,6 +5,7 @@ mod handshake;
 mod listing;
 mod packet;
 mod reply;
+mod requests;
 mod smudge_reply;
 mod turn;
 mod words;
@@ -13,6 +14,7 @@ pub use handshake::{HandshakePhase, handshake_after_flush, handshake_after_line,
 pub use listing::{ListEnd, ListPart, Listing, list_after_flush, listed_name};
 pub use packet::ReadPacket;
 pub use reply::{BreakCause, Caps, ListReply, Reply};
+pub use requests::{push_caps, push_hello, push_list, push_smudge};
 pub use smudge_reply::{GoodReply, ReplyPhase, reply_after_flush, reply_after_line, smudge_reply_of};
 pub use turn::{MOST_ANSWER, Turn};
 pub use words::{Status, key_value, next_status, read_status};
