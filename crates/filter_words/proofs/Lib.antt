@@ -4,3 +4,9 @@ pub mod Reading
 pub mod Names
 pub mod LateList
 pub mod Texts
+pub mod GrammarLaws
+pub mod Same
+pub mod ReplyRuns
+pub mod Equal
+pub mod ListRuns
+pub mod HandshakeRuns

@@ -5,3 +5,7 @@ pub mod SmudgeReply
 pub mod Handshake
 pub mod Listing
 pub mod ListTurn
+pub mod Grammar
+pub mod ReplyGrammar
+pub mod ListGrammar
+pub mod HandshakeGrammar

@@ -2,6 +2,7 @@
 #![tactic(auto)]
 
 mod handshake;
+mod laws;
 mod listing;
 mod packet;
 mod reply;
@@ -11,6 +12,7 @@ mod turn;
 mod words;
 
 pub use handshake::{HandshakePhase, handshake_after_flush, handshake_after_line, handshake_of};
+pub use laws::{handshake_grammar, list_grammar, one_handshake, one_list, one_reply, reply_grammar};
 pub use listing::{ListEnd, ListPart, Listing, list_after_flush, listed_name};
 pub use packet::ReadPacket;
 pub use reply::{BreakCause, Caps, ListReply, Reply};

@@ -65,7 +65,7 @@ same_fronts p q h k r s x y a b e =
 pub spelled_apart : (a b x y h r k s : List ℕ) → a ≡ h ++ r → b ≡ k ++ s → a ++ x ≡ b ++ y → (h ++ r) ++ x ≡ (k ++ s) ++ y
 spelled_apart a b x y h r k s ea eb e = sym (ap (λ (z : List ℕ). z ++ x) ea) ∙ (e ∙ ap (λ (z : List ℕ). z ++ y) eb)
 
-none_then_some : (q : Packet) (b x y k s : List ℕ) → Spells q k → b ≡ k ++ s → x ≡ b ++ y → HasNoPacket x → ⊥
+pub none_then_some : (q : Packet) (b x y k s : List ℕ) → Spells q k → b ≡ k ++ s → x ≡ b ++ y → HasNoPacket x → ⊥
 none_then_some q b x y k s t eb e none =
     not_none q x (shows q k (s ++ y) x t (e ∙ (ap (λ (z : List ℕ). z ++ y) eb ∙ append_assoc k s y))) none
 
