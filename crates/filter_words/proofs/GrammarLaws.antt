@@ -47,7 +47,10 @@ pub broken_reading : {P G : Type 0} (step : P → Packet → Turn P G) (start : 
 broken_reading step start good r ps why e =
     let b = breaks_at step limit start ps why e in
     record {
-      before = b.before; last = b.last; whole = b.whole; fitted = b.fitted;
+      before = b.before;
+      last = b.last;
+      whole = b.whole;
+      fitted = b.fitted;
       was_open = open_run step start good r b.before b.phase b.was_on;
       cause_is = elim b.cause_is [ inl l ↦ inl l | inr x ↦ inr (x.0, no_good step start good r ps why x.1) ];
     }

@@ -124,9 +124,13 @@ good_runs (Payload l ∷ ps) g e =
     let t = line_take l (codes "git-filter-server") Version _ ps g refl e in
     let r = version_takes ps g t.1 in
     record {
-      server = l; version = r.version; lines = r.lines;
+      server = l;
+      version = r.version;
+      lines = r.lines;
       whole = ap (λ (z : List Packet). Payload l ∷ z) r.whole;
-      server_is = t.0; version_is = r.version_is; caps_are = r.told;
+      server_is = t.0;
+      version_is = r.version_is;
+      caps_are = r.told;
     }
 
 -- ---- each phase can still end well

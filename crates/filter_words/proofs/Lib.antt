@@ -10,3 +10,5 @@ pub mod ReplyRuns
 pub mod Equal
 pub mod ListRuns
 pub mod HandshakeRuns
+pub mod Contents
+pub mod OneAnswer

@@ -115,7 +115,9 @@ name_take : (delayed listed : List (List ℕ)) (name : List ℕ) (known new : Bo
 name_take delayed listed name true false ps g a b again e =
     let r = again (listed ++ name ∷ []) (rw (expected_name delayed listed name a b) at e) in
     record {
-      lines = r.lines; keys = r.keys; whole = r.whole;
+      lines = r.lines;
+      keys = r.keys;
+      whole = r.whole;
       expected = (a, b, r.expected);
       ends = rw (append_assoc listed (name ∷ []) (names_of r.lines)) at r.ends;
     }
@@ -138,7 +140,10 @@ names_take delayed listed (Payload l ∷ ps) g e =
 names_take delayed listed (Flush ∷ ps) g e =
     let r = keys_take delayed listed None ps g e in
     record {
-      lines = []; keys = r.keys; whole = ap (λ (z : List Packet). Flush ∷ z) r.whole; expected = tt;
+      lines = [];
+      keys = r.keys;
+      whole = ap (λ (z : List Packet). Flush ∷ z) r.whole;
+      expected = tt;
       ends = subst (λ (z : List (List ℕ)). EndsList (last_status None r.keys) z g) (sym (append-nil listed)) r.ends;
     }
 

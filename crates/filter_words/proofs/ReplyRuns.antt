@@ -185,7 +185,6 @@ ends_well d (KeyList s) = refl
 ends_well d Content = refl
 ends_well d (LastKeyList s) = refl
 
-
 pub reads_reply : (d : Bool) → Reads (reply_step d) (KeyList None) (IsReply d)
 reads_reply d = record {
   reads = run_good d;

@@ -97,28 +97,40 @@ pub record BreaksAt {P G : Type 0} (step : P → Packet → Turn P G) (room : �
 
 breaks_now : {P G : Type 0} (step : P → Packet → Turn P G) (room : ℕ) (p : P) (x : Packet) (c : BreakCause) → size x ≤ room → step p x ≡ Broken c → BreaksAt step room p (x ∷ []) c
 breaks_now step room p x c le e = record {
-  before = []; last = x; phase = p; whole = refl; was_on = refl; fitted = omega arith;
+  before = [];
+  last = x;
+  phase = p;
+  whole = refl;
+  was_on = refl;
+  fitted = omega arith;
   cause_is = inr (omega arith, e);
 }
 
 breaks_long : {P G : Type 0} (step : P → Packet → Turn P G) (room : ℕ) (p : P) (x : Packet) (c : BreakCause) → room < size x → cause.TooLong ≡ c → BreaksAt step room p (x ∷ []) c
 breaks_long step room p x c lt e = record {
-  before = []; last = x; phase = p; whole = refl; was_on = refl; fitted = omega arith;
+  before = [];
+  last = x;
+  phase = p;
+  whole = refl;
+  was_on = refl;
+  fitted = omega arith;
   cause_is = inl (sym e, omega arith);
 }
 
 breaks_later : {P G : Type 0} (step : P → Packet → Turn P G) (room : ℕ) (p q : P) (x : Packet) (ps : List Packet) (c : BreakCause)
     → size x ≤ room → step p x ≡ On q → BreaksAt step (room - size x) q ps c → BreaksAt step room p (x ∷ ps) c
 breaks_later step room p q x ps c le e b = record {
-  before = x ∷ b.before; last = b.last; phase = b.phase;
+  before = x ∷ b.before;
+  last = b.last;
+  phase = b.phase;
   whole = ap (λ (r : List Packet). x ∷ r) b.whole;
   was_on = rw e b.was_on;
   fitted = let f = b.fitted in omega arith;
   cause_is =
-    elim b.cause_is [
-      | inl l ↦ inl (l.0, let f = l.1 in omega arith)
-      | inr r ↦ inr (let f = r.0 in omega arith, rw e r.1)
-    ];
+      elim b.cause_is [
+        | inl l ↦ inl (l.0, let f = l.1 in omega arith)
+        | inr r ↦ inr (let f = r.0 in omega arith, rw e r.1)
+      ];
 }
 
 breaks_step : {P G : Type 0} (step : P → Packet → Turn P G) (room : ℕ) (p : P) (x y : Packet) (ps : List Packet) (c : BreakCause) (t : Turn P G)

@@ -35,14 +35,14 @@ pub three_texts : {A E : Type 0} (r : Result A E) (old one two new : List ℕ) (
 three_texts r old one two new ps qs p f g =
     on_ok r _ _
     (λ (k : new ≡ two ++ spelling p).
-      k
-      ∙ (ap (λ (z : List ℕ). z ++ spelling p) (g ∙ ap (λ (z : List ℕ). z ++ spelling_all qs) f)
-      ∙ (append_assoc (old ++ spelling_all ps) (spelling_all qs) (spelling p)
-      ∙ (append_assoc old (spelling_all ps) (spelling_all qs ++ spelling p)
-      ∙ ap (λ (z : List ℕ). old ++ z)
-        (ap (λ (z : List ℕ). spelling_all ps ++ (spelling_all qs ++ z)) (sym (append-nil (spelling p)))
-        ∙ (sym (append_assoc (spelling_all ps) (spelling_all qs) (spelling_all (p ∷ [])))
-        ∙ (ap (λ (z : List ℕ). z ++ spelling_all (p ∷ [])) (sym (spelling_all-append ps qs)) ∙ sym (spelling_all-append (ps ++ qs) (p ∷ [])))))))))
+    k
+    ∙ (ap (λ (z : List ℕ). z ++ spelling p) (g ∙ ap (λ (z : List ℕ). z ++ spelling_all qs) f)
+    ∙ (append_assoc (old ++ spelling_all ps) (spelling_all qs) (spelling p)
+    ∙ (append_assoc old (spelling_all ps) (spelling_all qs ++ spelling p)
+    ∙ ap (λ (z : List ℕ). old ++ z)
+    (ap (λ (z : List ℕ). spelling_all ps ++ (spelling_all qs ++ z)) (sym (append-nil (spelling p)))
+    ∙ (sym (append_assoc (spelling_all ps) (spelling_all qs) (spelling_all (p ∷ [])))
+    ∙ (ap (λ (z : List ℕ). z ++ spelling_all (p ∷ [])) (sym (spelling_all-append ps qs)) ∙ sym (spelling_all-append (ps ++ qs) (p ∷ [])))))))))
 
 -- two packets, then packets, and then one
 pub keys_texts : {A E : Type 0} (r : Result A E) (old one two three new : List ℕ) (p q t : Packet) (ps : List Packet)
@@ -51,5 +51,5 @@ pub keys_texts : {A E : Type 0} (r : Result A E) (old one two three new : List �
 keys_texts r old one two three new p q t ps f g h =
     on_ok r _ _
     (λ (k : new ≡ three ++ spelling t).
-      four_texts old one two three new (spelling p) (spelling q) (spelling_all ps) (spelling t ++ []) f g h (k ∙ ap (λ (z : List ℕ). three ++ z) (sym (append-nil (spelling t))))
-      ∙ ap (λ (z : List ℕ). old ++ (spelling p ++ (spelling q ++ z))) (sym (spelling_all-append ps (t ∷ []))))
+    four_texts old one two three new (spelling p) (spelling q) (spelling_all ps) (spelling t ++ []) f g h (k ∙ ap (λ (z : List ℕ). three ++ z) (sym (append-nil (spelling t))))
+    ∙ ap (λ (z : List ℕ). old ++ (spelling p ++ (spelling q ++ z))) (sym (spelling_all-append ps (t ∷ []))))

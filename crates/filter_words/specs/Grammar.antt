@@ -22,4 +22,4 @@ pub record IsBroken (G : Type 0) (good : List Packet → G → Type 0) (ps : Lis
   pub was_open : IsOpen G good before
   pub fitted : total before ≤ limit
   pub cause_is : ((why ≡ cause.TooLong) × (limit < total ps))
-    ⊎ ((total ps ≤ limit) × ((more : List Packet) (g : G) → good (ps ++ more) g → ⊥))
+      ⊎ ((total ps ≤ limit) × ((more : List Packet) (g : G) → good (ps ++ more) g → ⊥))

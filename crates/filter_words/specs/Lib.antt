@@ -9,3 +9,4 @@ pub mod Grammar
 pub mod ReplyGrammar
 pub mod ListGrammar
 pub mod HandshakeGrammar
+pub mod Answer

@@ -16,10 +16,13 @@ abbrev pub list_phase : ListPart → List (List ℕ) → ListPhase
 list_phase Names names = listing.Names names
 list_phase (KeyList s) names = listing.KeyList names s
 
+abbrev pub good_list : ListEnd → List (List ℕ) → GoodList
+good_list Success names = listing.Listed names
+good_list Abort names = listing.Aborted
+
 abbrev pub list_turn : Turn ListPart ListEnd → List (List ℕ) → Turn ListPhase GoodList
 list_turn (On part) names = On (list_phase part names)
-list_turn (Done Success) names = Done (listing.Listed names)
-list_turn (Done Abort) names = Done listing.Aborted
+list_turn (Done end) names = Done (good_list end names)
 list_turn (Broken why) names = Broken why
 list_turn Late names = Late
 

@@ -1,5 +1,5 @@
 -- The answer to a request for a list of delayed paths, packet by packet.
-use Rattle.std.specs.Prelude.{ℕ, Bool, ◌&&◌, not, if◌then◌else◌, Option, Some, None, List, [], ◌∷◌, ◌++◌, codes}
+use Rattle.std.specs.Prelude.{ℕ, Bool, ◌&&◌, not, if◌then◌else◌, Option, Some, None, List, [], ◌∷◌, ◌++◌, length, codes}
 use Rattle.std.specs.List.{list_any}
 use Rattle.std.specs.Str.{bytes_eq}
 use Rattle.pkt_line.specs.Packets.{Packet, Payload, Flush}
@@ -7,6 +7,8 @@ use Rattle.filter_words.specs.Words.{status_after, value_of}
 use Rattle.filter_words.specs.declared.words.Status.{Status}
 use Rattle.filter_words.specs.declared.words.Status.TheVariants as status
 use Rattle.filter_words.specs.declared.reply.BreakCause.TheVariants as cause
+use Rattle.filter_words.specs.declared.reply.ListReply.{ListReply}
+use Rattle.filter_words.specs.declared.reply.ListReply.TheVariants as reply
 use Rattle.filter_words.specs.declared.turn.Turn.{Turn}
 use Rattle.filter_words.specs.declared.turn.Turn.TheVariants.{On, Done, Broken, Late}
 
@@ -16,7 +18,7 @@ pub data ListPhase : Type 0 where
   KeyList : List (List ℕ) → Option Status → ListPhase
 
 pub data GoodList : Type 0 where
-  Listed : List (List ℕ) → GoodList      -- success, with these names
+  Listed : List (List ℕ) → GoodList  -- success, with these names
   Aborted : GoodList
 
 abbrev pub name_in : List (List ℕ) → List ℕ → Bool
@@ -48,3 +50,16 @@ list_step delayed (KeyList listed s) Flush = list_status listed s
 
 abbrev pub list_start : Turn ListPhase GoodList
 list_start = On (Names [])
+
+-- how many paths are named, or that none is
+abbrev pub reply_of_good : GoodList → ListReply
+reply_of_good (Listed []) = reply.Empty
+reply_of_good (Listed (name ∷ names)) = reply.Names (length (name ∷ names))
+reply_of_good Aborted = reply.Abort
+
+-- the reply that has come to its end
+abbrev pub list_reply_in : Turn ListPhase GoodList → Option ListReply
+list_reply_in (On phase) = None
+list_reply_in (Done g) = Some (reply_of_good g)
+list_reply_in (Broken why) = Some (reply.Broken why)
+list_reply_in Late = None

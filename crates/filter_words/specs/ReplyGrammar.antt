@@ -1,5 +1,5 @@
 -- Good replies to a smudge request.
-use Rattle.std.specs.Prelude.{◌≡◌, ℕ, ◌⊎◌, Bool, true, Option, Some, None, List, ◌++◌}
+use Rattle.std.specs.Prelude.{◌≡◌, ℕ, ◌⊎◌, Bool, true, Option, Some, None, List, [], ◌∷◌, ◌++◌}
 use Rattle.pkt_line.specs.Packets.{Packet}
 use Rattle.filter_words.specs.Words.{last_status}
 use Rattle.filter_words.specs.Grammar.{block}
@@ -42,3 +42,7 @@ pub record IsLongReply (ps : List Packet) (g : GoodReply) : Type 0 where
 -- `d` says that `can-delay=1` was sent
 abbrev pub IsReply : Bool → List Packet → GoodReply → Type 0
 IsReply d ps g = IsShortReply d ps g ⊎ IsLongReply ps g
+
+abbrev pub joined : List (List ℕ) → List ℕ
+joined [] = []
+joined (piece ∷ pieces) = piece ++ joined pieces

@@ -5,6 +5,8 @@ use Rattle.filter_words.specs.Words.{status_after}
 use Rattle.filter_words.specs.declared.words.Status.{Status}
 use Rattle.filter_words.specs.declared.words.Status.TheVariants as status
 use Rattle.filter_words.specs.declared.reply.BreakCause.TheVariants as cause
+use Rattle.filter_words.specs.declared.reply.Reply.{Reply}
+use Rattle.filter_words.specs.declared.reply.Reply.TheVariants as reply
 use Rattle.filter_words.specs.declared.smudge_reply.GoodReply.{GoodReply}
 use Rattle.filter_words.specs.declared.smudge_reply.GoodReply.TheVariants as good
 use Rattle.filter_words.specs.declared.smudge_reply.ReplyPhase.{ReplyPhase}
@@ -57,3 +59,17 @@ turn_after d Late p = Late
 abbrev pub content_in : Bool → Turn ReplyPhase GoodReply → List Packet → List ℕ
 content_in d turn [] = []
 content_in d turn (p ∷ ps) = piece_in turn p ++ content_in d (turn_after d turn p) ps
+
+abbrev pub reply_of_good : GoodReply → Reply
+reply_of_good good.Content = reply.Content
+reply_of_good good.Error = reply.Error
+reply_of_good good.ErrorAfter = reply.ErrorAfter
+reply_of_good good.Abort = reply.Abort
+reply_of_good good.Delayed = reply.Delayed
+
+-- the reply that has come to its end
+abbrev pub reply_in : Turn ReplyPhase GoodReply → Option Reply
+reply_in (On phase) = None
+reply_in (Done g) = Some (reply_of_good g)
+reply_in (Broken why) = Some (reply.Broken why)
+reply_in Late = None

@@ -31,7 +31,9 @@ pub fn handshake_after_line(phase: HandshakePhase, line: &[u8]) -> Turn<Handshak
         HandshakePhase::Server => wanted(line, b"git-filter-server", HandshakePhase::Version),
         HandshakePhase::Version => wanted(line, b"version=2", HandshakePhase::EndOfHello),
         HandshakePhase::EndOfHello => Turn::Broken(BreakCause::BadHandshake),
-        HandshakePhase::Capabilities(caps) => Turn::On(HandshakePhase::Capabilities(more_caps(caps, line))),
+        HandshakePhase::Capabilities(caps) => Turn::On(HandshakePhase::Capabilities(more_caps(
+            caps, line,
+        ))),
     }
 }
 
@@ -82,7 +84,11 @@ pub fn handshake_of(packets: &[ReadPacket<'_>]) -> Turn<HandshakePhase, Caps>
 }
 
 /// One more packet, and how much room is left.
-fn handshake_after_packet(room: u64, turn: Turn<HandshakePhase, Caps>, packet: &ReadPacket<'_>) -> (u64, Turn<HandshakePhase, Caps>)
+fn handshake_after_packet(
+    room: u64,
+    turn: Turn<HandshakePhase, Caps>,
+    packet: &ReadPacket<'_>,
+) -> (u64, Turn<HandshakePhase, Caps>)
     ensures { (rest : List Packet) → outcome handshake_step result.0 result.1 rest ≡ outcome handshake_step room turn (packet_of packet.now ∷ rest) }
 {
     let Turn::On(phase) = turn else {

@@ -1,19 +1,18 @@
-ghost use Rattle.std.specs.Prelude.{◌≡◌, ◌&&◌, not, ◌∷◌, ◌++◌, [], List, ℕ, map, codes, IfOk};
+ghost use Rattle.std.specs.Prelude.{◌≡◌, ◌<◌, ◌^◌, vec_len, length, ◌&&◌, not, ◌∷◌, ◌++◌, [], List, ℕ, map, codes, IfOk};
 ghost use Rattle.pkt_line.specs.Packets.{Packet, Payload, Flush, size};
 ghost use Rattle.std.specs.Option.{option_map};
 ghost use Rattle.std.specs.List.{list_any};
 ghost use Rattle.std.specs.Str.{bytes_eq};
 ghost use Rattle.filter_words.specs.Turn.{outcome, limit, packet_of};
 ghost use Rattle.filter_words.specs.Words.{value_of};
-ghost use Rattle.filter_words.specs.Listing.{name_in, after_name, after_value, list_step, list_status, list_start};
-ghost use Rattle.filter_words.specs.ListTurn.{list_turn, list_phase, bytes_of};
-
-use std::alloc::{AllocError, Global};
+ghost use Rattle.filter_words.specs.Listing.{reply_of_good, list_reply_in, name_in, after_name, after_value, list_step, list_status, list_start};
+ghost use Rattle.filter_words.specs.ListTurn.{good_list, list_turn, list_phase, bytes_of};
 
 use crate::packet::ReadPacket;
-use crate::reply::BreakCause;
+use crate::reply::{BreakCause, ListReply};
 use crate::turn::{MOST_ANSWER, Turn};
 use crate::words::{Status, next_status, value_of};
+use std::alloc::{AllocError, Global};
 
 /// In which part of the answer to `list_available_blobs` its reading stands: gitattributes(5), "Long Running Filter
 /// Process".
@@ -38,6 +37,36 @@ pub enum ListEnd {
 pub struct Listing<'a> {
     pub turn: Turn<ListPart, ListEnd>,
     pub names: Vec<&'a [u8]>,
+}
+
+/// The reply to a list request that ended well and named so many paths.
+pub fn list_reply(end: ListEnd, count: u32) -> ListReply
+    ensures { (names : List (List ℕ)) → count ≡ length names → result ≡ reply_of_good (good_list end names) }
+{
+    match end {
+        ListEnd::Success => {
+            if count == 0 {
+                ListReply::Empty
+            } else {
+                ListReply::Names(count)
+            }
+        }
+        ListEnd::Abort => ListReply::Abort,
+    }
+}
+
+impl Listing<'_> {
+    /// The reply that has come to its end.
+    pub fn reply(&self) -> Option<ListReply>
+        requires { vec_len self.now.names < 2 ^ 32 }
+        ensures { result ≡ list_reply_in (list_turn self.now.turn (map bytes_of self.now.names.items)) }
+    {
+        match &self.turn {
+            Turn::Done(end) => Some(list_reply(*end, self.names.len() as u32)),
+            Turn::Broken(cause) => Some(ListReply::Broken(*cause)),
+            Turn::On(_) | Turn::Late => None,
+        }
+    }
 }
 
 /// What a flush packet makes of the answer to a list request.
@@ -82,7 +111,11 @@ fn is_expected(delayed: &[&[u8]], listed: &[&[u8]], name: &[u8]) -> bool
 }
 
 /// What the answer is after a line that names this path: one that is delayed, and wasn't listed before.
-fn name_listed<'a>(delayed: &[&[u8]], mut names: Vec<&'a [u8]>, name: &'a [u8]) -> Result<Listing<'a>, AllocError>
+fn name_listed<'a>(
+    delayed: &[&[u8]],
+    mut names: Vec<&'a [u8]>,
+    name: &'a [u8],
+) -> Result<Listing<'a>, AllocError>
     ensures { IfOk result (λ l. list_turn l.turn (map bytes_of l.names.items) ≡ after_name (map bytes_of delayed.now) (map bytes_of names.entry.items) name.now) }
 {
     if is_expected(delayed, names.as_slice(), name) {
@@ -100,7 +133,12 @@ fn name_listed<'a>(delayed: &[&[u8]], mut names: Vec<&'a [u8]>, name: &'a [u8]) 
 }
 
 /// What the answer is after a line that belongs to it.
-fn list_after_line<'a>(delayed: &[&[u8]], part: ListPart, names: Vec<&'a [u8]>, line: &'a [u8]) -> Result<Listing<'a>, AllocError>
+fn list_after_line<'a>(
+    delayed: &[&[u8]],
+    part: ListPart,
+    names: Vec<&'a [u8]>,
+    line: &'a [u8],
+) -> Result<Listing<'a>, AllocError>
     ensures { IfOk result (λ l. list_turn l.turn (map bytes_of l.names.items) ≡ list_step (map bytes_of delayed.now) (list_phase part (map bytes_of names.entry.items)) (Payload line.now)) }
 {
     match part {
@@ -119,7 +157,11 @@ fn list_after_line<'a>(delayed: &[&[u8]], part: ListPart, names: Vec<&'a [u8]>, 
 }
 
 /// What whole packets make of the answer to a list request, read one by one, where these paths are delayed.
-pub fn listing_of<'a>(alloc: Global, delayed: &[&[u8]], packets: &[ReadPacket<'a>]) -> Result<Listing<'a>, AllocError>
+pub fn listing_of<'a>(
+    alloc: Global,
+    delayed: &[&[u8]],
+    packets: &[ReadPacket<'a>],
+) -> Result<Listing<'a>, AllocError>
     ensures { IfOk result (λ l. list_turn l.turn (map bytes_of l.names.items) ≡ outcome (list_step (map bytes_of delayed.now)) limit list_start (map packet_of packets.now)) }
 {
     let mut room = MOST_ANSWER;
@@ -134,7 +176,12 @@ pub fn listing_of<'a>(alloc: Global, delayed: &[&[u8]], packets: &[ReadPacket<'a
 }
 
 /// One more packet, and how much room is left.
-fn list_after_packet<'a>(delayed: &[&[u8]], room: u64, listing: Listing<'a>, packet: &ReadPacket<'a>) -> Result<(u64, Listing<'a>), AllocError>
+fn list_after_packet<'a>(
+    delayed: &[&[u8]],
+    room: u64,
+    listing: Listing<'a>,
+    packet: &ReadPacket<'a>,
+) -> Result<(u64, Listing<'a>), AllocError>
     ensures { IfOk result (λ next. (rest : List Packet) → outcome (list_step (map bytes_of delayed.now)) next.0 (list_turn next.1.turn (map bytes_of next.1.names.items)) rest
         ≡ outcome (list_step (map bytes_of delayed.now)) room (list_turn listing.entry.turn (map bytes_of listing.entry.names.items)) (packet_of packet.now ∷ rest)) }
 {

@@ -2,9 +2,8 @@ ghost use Rattle.std.specs.Prelude.{◌≡◌, ◌≤◌, ◌++◌, take, length
 ghost use Rattle.pkt_line.specs.Spelling.{spelling, spelling_all};
 ghost use Rattle.filter_words.specs.Requests.{line, hello_packets, caps_packets, list_packets, can_delay_line, smudge_keys, smudge_packets, hello_text, caps_text, list_text, first_text};
 
-use std::alloc::{AllocError, Global};
-
 use pkt_line::{push_content, push_flush, push_line};
+use std::alloc::{AllocError, Global};
 
 /// Appends what a client sends first: the lines `git-filter-client` and `version=2`, and flush.
 ///
@@ -44,7 +43,13 @@ pub fn push_list(alloc: Global, out: &mut Vec<u8>) -> Result<(), AllocError>
 /// Appends the request to smudge a content for a path of 1 to 4,096 bytes: the lines `command=smudge` and
 /// `pathname=<path>`, the line `can-delay=1` where `can_delay`, flush, the content, and flush. A path that was delayed
 /// is asked for again without `can_delay` and with an empty content.
-pub fn push_smudge(alloc: Global, out: &mut Vec<u8>, path: &[u8], can_delay: bool, content: &[u8]) -> Result<(), AllocError>
+pub fn push_smudge(
+    alloc: Global,
+    out: &mut Vec<u8>,
+    path: &[u8],
+    can_delay: bool,
+    content: &[u8],
+) -> Result<(), AllocError>
     requires some { 1 ≤ length path.now }
     requires few { length path.now ≤ 4096 }
     ensures ok { OnOk result (out.new.items ≡ out.old.items ++ first_text path.now can_delay content.now) }
@@ -56,7 +61,11 @@ pub fn push_smudge(alloc: Global, out: &mut Vec<u8>, path: &[u8], can_delay: boo
 }
 
 /// Keeps what was pushed, or cuts `out` back where the pushing failed.
-fn whole_or_nothing(out: &mut Vec<u8>, before: usize, pushed: Result<(), AllocError>) -> Result<(), AllocError>
+fn whole_or_nothing(
+    out: &mut Vec<u8>,
+    before: usize,
+    pushed: Result<(), AllocError>,
+) -> Result<(), AllocError>
     ensures same { result ≡ pushed }
     ensures ok { OnOk result (out.new.items ≡ out.old.items) }
     ensures err { OnErr result (out.new.items ≡ take before out.old.items) }
@@ -94,7 +103,13 @@ fn push_list_packets(alloc: Global, out: &mut Vec<u8>) -> Result<(), AllocError>
     push_flush(alloc, out)
 }
 
-fn push_smudge_packets(alloc: Global, out: &mut Vec<u8>, path: &[u8], can_delay: bool, content: &[u8]) -> Result<(), AllocError>
+fn push_smudge_packets(
+    alloc: Global,
+    out: &mut Vec<u8>,
+    path: &[u8],
+    can_delay: bool,
+    content: &[u8],
+) -> Result<(), AllocError>
     requires { length path.now ≤ 4096 }
     ensures ok { OnOk result (out.new.items ≡ out.old.items ++ spelling_all (smudge_packets path.now can_delay content.now)) }
     ensures err { OnErr result (take (vec_len out.old) out.new.items ≡ out.old.items) }
@@ -104,7 +119,12 @@ fn push_smudge_packets(alloc: Global, out: &mut Vec<u8>, path: &[u8], can_delay:
     push_flush(alloc, out)
 }
 
-fn push_smudge_keys(alloc: Global, out: &mut Vec<u8>, path: &[u8], can_delay: bool) -> Result<(), AllocError>
+fn push_smudge_keys(
+    alloc: Global,
+    out: &mut Vec<u8>,
+    path: &[u8],
+    can_delay: bool,
+) -> Result<(), AllocError>
     requires { length path.now ≤ 4096 }
     ensures ok { OnOk result (out.new.items ≡ out.old.items ++ spelling_all (smudge_keys path.now can_delay)) }
     ensures err { OnErr result (take (vec_len out.old) out.new.items ≡ out.old.items) }

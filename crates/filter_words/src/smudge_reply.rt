@@ -1,10 +1,10 @@
 ghost use Rattle.std.specs.Prelude.{◌≡◌, ◌∷◌, List, ℕ, Bool, map};
 ghost use Rattle.pkt_line.specs.Packets.{Packet, Payload, Flush, size};
 ghost use Rattle.filter_words.specs.Turn.{outcome, limit, packet_of};
-ghost use Rattle.filter_words.specs.SmudgeReply.{reply_step, reply_start, first_turn, last_turn};
+ghost use Rattle.filter_words.specs.SmudgeReply.{reply_in, reply_step, reply_start, first_turn, last_turn};
 
 use crate::packet::ReadPacket;
-use crate::reply::BreakCause;
+use crate::reply::{BreakCause, Reply};
 use crate::turn::{MOST_ANSWER, Turn};
 use crate::words::{Status, next_status};
 
@@ -26,6 +26,34 @@ pub enum ReplyPhase {
     Content,
     /// The key list behind the content.
     LastKeyList(Option<Status>),
+}
+
+impl From<GoodReply> for Reply {
+    ghost use Rattle.std.specs.Prelude.{◌≡◌};
+    ghost use Rattle.filter_words.specs.SmudgeReply.{reply_of_good};
+
+    ghost from_gives = { λ good reply. reply ≡ reply_of_good good };
+
+    fn from(good: GoodReply) -> Reply {
+        match good {
+            GoodReply::Content => Reply::Content,
+            GoodReply::Error => Reply::Error,
+            GoodReply::ErrorAfter => Reply::ErrorAfter,
+            GoodReply::Abort => Reply::Abort,
+            GoodReply::Delayed => Reply::Delayed,
+        }
+    }
+}
+
+/// The reply that has come to its end.
+pub fn reply_of(turn: Turn<ReplyPhase, GoodReply>) -> Option<Reply>
+    ensures { result ≡ reply_in turn }
+{
+    match turn {
+        Turn::Done(good) => Some(Reply::from(good)),
+        Turn::Broken(cause) => Some(Reply::Broken(cause)),
+        Turn::On(_) | Turn::Late => None,
+    }
 }
 
 /// What a payload makes of a reply.
@@ -92,7 +120,12 @@ pub fn smudge_reply_of(can_delay: bool, packets: &[ReadPacket<'_>]) -> Turn<Repl
 }
 
 /// One more packet, and how much room is left.
-fn reply_after_packet(can_delay: bool, room: u64, turn: Turn<ReplyPhase, GoodReply>, packet: &ReadPacket<'_>) -> (u64, Turn<ReplyPhase, GoodReply>)
+fn reply_after_packet(
+    can_delay: bool,
+    room: u64,
+    turn: Turn<ReplyPhase, GoodReply>,
+    packet: &ReadPacket<'_>,
+) -> (u64, Turn<ReplyPhase, GoodReply>)
     ensures { (rest : List Packet) → outcome (reply_step can_delay) result.0 result.1 rest ≡ outcome (reply_step can_delay) room turn (packet_of packet.now ∷ rest) }
 {
     let Turn::On(phase) = turn else {

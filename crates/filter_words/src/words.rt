@@ -70,13 +70,7 @@ pub(crate) fn value_of<'a>(key: &[u8], line: &'a [u8]) -> Option<&'a [u8]>
     ensures { option_map (λ value. value.now) result ≡ value_of key.now line.now }
 {
     match key_value(line) {
-        Some((found, value)) => {
-            if found == key {
-                Some(value)
-            } else {
-                None
-            }
-        }
+        Some((found, value)) => { if found == key { Some(value) } else { None } }
         None => None,
     }
 }

@@ -1,7 +1,7 @@
 -- Where no packet stands at the front, and that bytes are read in one way.
 use Rattle.std.proofs.Common.{◌≡◌, inl, inr, ℕ, ◌≤◌, List, [], ◌∷◌, ◌++◌, length, take, drop, Option, Some, Result, Ok, Err, refl, sym, ap, subst, ◌∙◌, append_assoc, arith}
 use Rattle.std.proofs.lemmas.List.{length-append, take-append-drop}
-use Rattle.pkt_line.specs.Packets.{Packet, Payload, Flush, Spells, SpellAll, Stands, IsPartial, IsShortOf, HasBadDigits, HasBadLength, HasNoPacket, IsBadLength, number_at, pkt_len, size}
+use Rattle.pkt_line.specs.Packets.{Packet, Payload, Flush, Spells, SpellAll, Stands, IsPartial, IsShortOf, HasBadDigits, HasBadLength, HasFault, HasNoPacket, IsBadLength, number_at, pkt_len, size}
 use Rattle.pkt_line.specs.Reading.{Reading, with_bytes}
 use Rattle.pkt_line.specs.Reader.{Answer, Gives, Wants, Refuses, answer_of, Peeks, IsFaultOf}
 use Rattle.pkt_line.specs.declared.reader.Next.{Next}
@@ -109,12 +109,22 @@ short_is_good : (n k : ℕ) → IsShortOf (Some n) k → IsBadLength n → ⊥
 short_is_good n k h (inl b) = let x = h.0 in let y = b.1 in omega arith
 short_is_good n k h (inr b) = let x = h.1 in omega arith
 
+partial_digits : (bytes : List ℕ) → IsPartial bytes → HasBadDigits bytes → ⊥
+partial_digits bytes (inl few) h = let l = h.0 in omega arith
+partial_digits bytes (inr more) h = subst (λ (o : Option ℕ). IsShortOf o (length bytes)) h.1 more
+
+partial_length : (bytes : List ℕ) (n : ℕ) → IsPartial bytes → HasBadLength bytes n → ⊥
+partial_length bytes n (inl few) h = let l = h.0 in omega arith
+partial_length bytes n (inr more) h =
+    short_is_good n (length bytes) (subst (λ (o : Option ℕ). IsShortOf o (length bytes)) h.1 more) h.2
+
+pub partial_fault : (bytes : List ℕ) → IsPartial bytes → HasFault bytes → ⊥
+partial_fault bytes part (inl h) = partial_digits bytes part h
+partial_fault bytes part (inr h) = partial_length bytes h.0 part h.1
+
 no_want : (f : PktFault) (r : Reading) → IsPartial r.unread → IsFaultOf f r → ⊥
-no_want (fault.BadDigits place) r (inl few) h = let l = h.0.0 in omega arith
-no_want (fault.BadDigits place) r (inr more) h = subst (λ (o : Option ℕ). IsShortOf o (length r.unread)) h.0.1 more
-no_want (fault.BadLength place n) r (inl few) h = let l = h.0.0 in omega arith
-no_want (fault.BadLength place n) r (inr more) h =
-    short_is_good n (length r.unread) (subst (λ (o : Option ℕ). IsShortOf o (length r.unread)) h.0.1 more) h.0.2
+no_want (fault.BadDigits place) r part h = partial_digits r.unread part h.0
+no_want (fault.BadLength place n) r part h = partial_length r.unread n part h.0
 
 one_fault : (f g : PktFault) (r : Reading) → IsFaultOf f r → IsFaultOf g r → f ≡ g
 one_fault (fault.BadDigits a) (fault.BadDigits b) r h k = ap fault.BadDigits (h.1 ∙ sym k.1)
@@ -147,8 +157,16 @@ one_answer a b r h k = one_of (answer_of a) (answer_of b) r (holds a r h) (holds
 longer : (bytes more : List ℕ) → 4 ≤ length bytes → 4 ≤ length (bytes ++ more)
 longer bytes more le = omega (arith, length-append bytes more)
 
+digits_stay : (bytes more : List ℕ) → HasBadDigits bytes → HasBadDigits (bytes ++ more)
+digits_stay bytes more h = (longer bytes more h.0, number_front bytes more h.0 ∙ h.1)
+
+length_stays : (bytes more : List ℕ) (n : ℕ) → HasBadLength bytes n → HasBadLength (bytes ++ more) n
+length_stays bytes more n h = (longer bytes more h.0, number_front bytes more h.0 ∙ h.1, h.2)
+
+pub fault_more : (bytes more : List ℕ) → HasFault bytes → HasFault (bytes ++ more)
+fault_more bytes more (inl h) = inl (digits_stay bytes more h)
+fault_more bytes more (inr h) = inr (h.0, length_stays bytes more h.0 h.1)
+
 pub fault_stays : (f : PktFault) (r : Reading) (more : List ℕ) → IsFaultOf f r → IsFaultOf f (with_bytes more r)
-fault_stays (fault.BadDigits place) r more h =
-    ((longer r.unread more h.0.0, number_front r.unread more h.0.0 ∙ h.0.1), h.1)
-fault_stays (fault.BadLength place n) r more h =
-    ((longer r.unread more h.0.0, number_front r.unread more h.0.0 ∙ h.0.1, h.0.2), h.1)
+fault_stays (fault.BadDigits place) r more h = (digits_stay r.unread more h.0, h.1)
+fault_stays (fault.BadLength place n) r more h = (length_stays r.unread more n h.0, h.1)

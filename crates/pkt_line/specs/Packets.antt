@@ -77,6 +77,10 @@ IsShortOf (Some n) count = (4 ≤ n) × (n ≤ 65520) × (count < n)
 abbrev pub IsPartial : List ℕ → Type 0
 IsPartial bytes = (length bytes < 4) ⊎ IsShortOf (number_at bytes) (length bytes)
 
+-- the front begins no packet, whatever follows
+abbrev pub HasFault : List ℕ → Type 0
+HasFault bytes = HasBadDigits bytes ⊎ ((n : ℕ) × HasBadLength bytes n)
+
 -- no packet stands at the front
 abbrev pub HasNoPacket : List ℕ → Type 0
-HasNoPacket bytes = IsPartial bytes ⊎ (HasBadDigits bytes ⊎ ((n : ℕ) × HasBadLength bytes n))
+HasNoPacket bytes = IsPartial bytes ⊎ HasFault bytes
