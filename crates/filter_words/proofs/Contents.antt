@@ -1,14 +1,14 @@
 -- The content of a reply.
-use Rattle.std.proofs.Common.{◌≡◌, ℕ, Bool, true, false, List, [], ◌∷◌, ◌++◌, map, Option, Some, None, refl, ap, ◌∙◌}
-use Rattle.pkt_line.specs.Packets.{Packet, Payload, Flush}
+use Rattle.std.proofs.Common.{◌≡◌, ℕ, Bool, List, [], ◌∷◌, ◌++◌, Option, Some, None, refl, ap, ◌∙◌}
+use Rattle.pkt_line.specs.Packets.{Packet}
 use Rattle.filter_words.specs.Words.{status_after, last_status}
-use Rattle.filter_words.specs.SmudgeReply.{first_turn, last_turn, content_in, reply_start}
+use Rattle.filter_words.specs.SmudgeReply.{content_in, reply_start}
 use Rattle.filter_words.specs.Grammar.{block}
 use Rattle.filter_words.specs.ReplyGrammar.{joined}
 use Rattle.filter_words.specs.declared.words.Status.{Status}
 use Rattle.filter_words.specs.declared.words.Status.TheVariants as status
 use Rattle.filter_words.specs.declared.smudge_reply.ReplyPhase.TheVariants.{KeyList, Content, LastKeyList}
-use Rattle.filter_words.specs.declared.turn.Turn.TheVariants.{On, Done, Broken, Late}
+use Rattle.filter_words.specs.declared.turn.Turn.TheVariants.{On}
 
 content_last : (d : Bool) (s : Option Status) (keys : List (List ℕ)) → content_in d (On (LastKeyList s)) (block keys) ≡ []
 content_last d s [] = refl

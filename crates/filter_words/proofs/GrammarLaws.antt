@@ -1,13 +1,12 @@
 -- What joins a grammar and the reading of its answers.
-use Rattle.std.proofs.Common.{◌≡◌, ℕ, ◌<◌, ◌≤◌, ◌⊎◌, inl, inr, List, ◌∷◌, ◌++◌, refl, sym, ap, ◌∙◌}
+use Rattle.std.proofs.Common.{◌≡◌, ◌≤◌, inl, inr, List, ◌++◌, sym, ap, ◌∙◌}
 use Rattle.pkt_line.specs.Packets.{Packet, total}
 use Rattle.filter_words.specs.Turn.{outcome, limit}
 use Rattle.filter_words.specs.Grammar.{IsOpen, IsBroken}
 use Rattle.filter_words.specs.declared.reply.BreakCause.{BreakCause}
-use Rattle.filter_words.specs.declared.reply.BreakCause.TheVariants as cause
 use Rattle.filter_words.specs.declared.turn.Turn.{Turn}
-use Rattle.filter_words.specs.declared.turn.Turn.TheVariants.{On, Done, Broken, Late}
-use Rattle.filter_words.proofs.Runs.{run, run-append, broken_stays, outcome-run, fits_of, BreaksAt, breaks_at}
+use Rattle.filter_words.specs.declared.turn.Turn.TheVariants.{On, Done, Broken}
+use Rattle.filter_words.proofs.Runs.{run, run-append, broken_stays, outcome-run, fits_of, breaks_at}
 
 -- The reading ends well on exactly the answers of the grammar, and from each phase it can.
 pub record Reads {P G : Type 0} (step : P → Packet → Turn P G) (start : P) (good : List Packet → G → Type 0) : Type 0 where

@@ -1,5 +1,5 @@
 -- Good answers to a handshake are those of the grammar.
-use Rattle.std.proofs.Common.{◌≡◌, ℕ, Bool, true, false, cond, List, [], ◌∷◌, ◌++◌, map, refl, sym, ap, ◌∙◌}
+use Rattle.std.proofs.Common.{◌≡◌, ℕ, Bool, true, false, List, [], ◌∷◌, refl, sym, ap, ◌∙◌}
 use Rattle.std.specs.Prelude.{codes, ◌||◌}
 use Rattle.std.specs.Str.{bytes_eq}
 use Rattle.std.proofs.Math.Bool.{or_assoc}
@@ -11,10 +11,9 @@ use Rattle.filter_words.specs.HandshakeGrammar.{has_line, caps_in, IsHandshake}
 use Rattle.filter_words.specs.declared.reply.Caps.{Caps}
 use Rattle.filter_words.specs.declared.handshake.HandshakePhase.{HandshakePhase}
 use Rattle.filter_words.specs.declared.handshake.HandshakePhase.TheVariants.{Server, Version, EndOfHello, Capabilities}
-use Rattle.filter_words.specs.declared.turn.Turn.{Turn}
-use Rattle.filter_words.specs.declared.turn.Turn.TheVariants.{On, Done, Broken, Late}
+use Rattle.filter_words.specs.declared.turn.Turn.TheVariants.{On, Done}
 use Rattle.filter_words.proofs.Equal.{bytes_eq-true, bytes_eq-same}
-use Rattle.filter_words.proofs.Runs.{run, run-append, broken_stays, over_takes}
+use Rattle.filter_words.proofs.Runs.{run, broken_stays, over_takes}
 use Rattle.filter_words.proofs.GrammarLaws.{Reads}
 
 -- capabilities, and those of more lines

@@ -1,11 +1,10 @@
 -- What a driver sends holds one answer at its front, however much of it was taken.
-use Rattle.std.proofs.Common.{◌≡◌, ◌⊎◌, inl, inr, ℕ, List, [], ◌∷◌, ◌++◌, refl, sym, ap, subst, ◌∙◌, append_assoc}
+use Rattle.std.proofs.Common.{◌≡◌, ◌⊎◌, inl, inr, ℕ, List, [], ◌++◌, refl, sym, ap, subst, ◌∙◌, append_assoc}
 use Rattle.std.proofs.lemmas.List.{append-nil}
 use Rattle.pkt_line.specs.Packets.{Packet, SpellAll, IsPartial, HasFault, HasNoPacket}
 use Rattle.pkt_line.proofs.NoPacket.{one_reading, fault_more, partial_fault}
-use Rattle.filter_words.specs.Turn.{outcome, limit, IsEnd}
+use Rattle.filter_words.specs.Turn.{outcome, limit}
 use Rattle.filter_words.specs.Answer.{StopsWith, IsAnswer}
-use Rattle.filter_words.specs.declared.reply.BreakCause.{BreakCause}
 use Rattle.filter_words.specs.declared.reply.BreakCause.TheVariants as cause
 use Rattle.filter_words.specs.declared.turn.Turn.{Turn}
 use Rattle.filter_words.specs.declared.turn.Turn.TheVariants.{On, Done, Broken, Late}

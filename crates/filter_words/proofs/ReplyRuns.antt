@@ -1,11 +1,11 @@
 -- Good replies are those of the grammar.
-use Rattle.std.proofs.Common.{◌≡◌, ℕ, ◌⊎◌, inl, inr, Bool, true, false, List, [], ◌∷◌, ◌++◌, map, Option, Some, None, refl, ap, subst}
+use Rattle.std.proofs.Common.{◌≡◌, ℕ, ◌⊎◌, inl, inr, Bool, true, false, List, [], ◌∷◌, ◌++◌, Option, Some, None, refl, ap, subst}
 use Rattle.std.specs.Prelude.{codes}
 use Rattle.pkt_line.specs.Packets.{Packet, Payload, Flush}
 use Rattle.filter_words.specs.Words.{status_after, last_status}
 use Rattle.filter_words.specs.SmudgeReply.{reply_step, first_turn, last_turn}
 use Rattle.filter_words.specs.Grammar.{block}
-use Rattle.filter_words.specs.ReplyGrammar.{EndsShort, EndsLong, IsShortReply, IsLongReply, IsReply}
+use Rattle.filter_words.specs.ReplyGrammar.{EndsShort, EndsLong, IsReply}
 use Rattle.filter_words.specs.declared.words.Status.{Status}
 use Rattle.filter_words.specs.declared.words.Status.TheVariants as status
 use Rattle.filter_words.specs.declared.smudge_reply.GoodReply.{GoodReply}

@@ -1,7 +1,7 @@
 -- Answers at the front of the same bytes.
-use Rattle.std.proofs.Common.{◌≡◌, ◌⊎◌, inl, inr, ℕ, ◌+◌, ◌-◌, ◌<◌, ◌≤◌, Bool, true, false, cond, ltb, List, [], ◌∷◌, ◌++◌, refl, sym, ap, ◌∙◌, append_assoc}
+use Rattle.std.proofs.Common.{◌≡◌, inl, inr, ℕ, ◌-◌, cond, ltb, List, [], ◌∷◌, ◌++◌, refl, sym, ap, ◌∙◌}
 use Rattle.std.proofs.lemmas.Bool.{lt-ltb, le-ltb, cases_lt}
-use Rattle.pkt_line.specs.Packets.{Packet, Spells, SpellAll, HasNoPacket, size}
+use Rattle.pkt_line.specs.Packets.{Packet, SpellAll, HasNoPacket, size}
 use Rattle.pkt_line.proofs.NoPacket.{same_fronts, spelled_apart, none_then_some}
 use Rattle.filter_words.specs.Turn.{outcome, IsEnd}
 use Rattle.filter_words.specs.declared.reply.BreakCause.TheVariants as cause

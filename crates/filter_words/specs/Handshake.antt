@@ -1,5 +1,5 @@
 -- The two answers of a driver to a handshake, packet by packet.
-use Rattle.std.specs.Prelude.{ℕ, Bool, false, ◌||◌, if◌then◌else◌, List, codes}
+use Rattle.std.specs.Prelude.{ℕ, false, ◌||◌, if◌then◌else◌, List, codes}
 use Rattle.std.specs.Str.{bytes_eq}
 use Rattle.pkt_line.specs.Packets.{Packet, Payload, Flush}
 use Rattle.filter_words.specs.Words.{without_lf}
@@ -8,7 +8,7 @@ use Rattle.filter_words.specs.declared.reply.Caps.{Caps}
 use Rattle.filter_words.specs.declared.handshake.HandshakePhase.{HandshakePhase}
 use Rattle.filter_words.specs.declared.handshake.HandshakePhase.TheVariants.{Server, Version, EndOfHello, Capabilities}
 use Rattle.filter_words.specs.declared.turn.Turn.{Turn}
-use Rattle.filter_words.specs.declared.turn.Turn.TheVariants.{On, Done, Broken, Late}
+use Rattle.filter_words.specs.declared.turn.Turn.TheVariants.{On, Done, Broken}
 
 -- no other line than this one
 abbrev pub wanted_line : List ℕ → List ℕ → HandshakePhase → Turn HandshakePhase Caps

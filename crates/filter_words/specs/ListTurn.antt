@@ -1,7 +1,6 @@
 -- The answer to a list request as the code holds it.
-use Rattle.std.specs.Prelude.{ℕ, Option, None, List}
+use Rattle.std.specs.Prelude.{ℕ, List}
 use Rattle.std.specs.Borrow.{Bor}
-use Rattle.pkt_line.specs.Packets.{Packet, Payload, Flush}
 use Rattle.filter_words.specs.Listing as listing
 use Rattle.filter_words.specs.Listing.{ListPhase, GoodList, list_step}
 use Rattle.filter_words.specs.declared.listing.ListPart.{ListPart}

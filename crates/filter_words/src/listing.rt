@@ -156,7 +156,8 @@ fn list_after_line<'a>(
     }
 }
 
-/// What whole packets make of the answer to a list request, read one by one, where these paths are delayed.
+/// What whole packets make of the answer to a list request, read one by one, where these paths are delayed. It looks
+/// for each name by a scan over the paths.
 pub fn listing_of<'a>(
     alloc: Global,
     delayed: &[&[u8]],
