@@ -1,6 +1,31 @@
-//! The texts of requests to a filter driver, and its answers, of gitattributes(5), "Long Running Filter Process".
+//! The texts of requests to a filter driver, and its answers: gitattributes(5), "Long Running Filter Process".
 #![tactic(auto)]
 
+mod handshake;
+mod laws;
+mod listing;
+mod packet;
 mod reply;
+mod requests;
+mod smudge_reply;
+#[cfg(test)]
+mod tests;
+mod turn;
+mod words;
 
+pub use handshake::{HandshakePhase, handshake_after_flush, handshake_after_line, handshake_of};
+pub use laws::{
+    handshake_grammar, list_grammar, one_handshake, one_list, one_reply, reply_content,
+    reply_grammar,
+};
+pub use listing::{
+    ListEnd, ListPart, Listing, list_after_flush, list_reply, listed_name, listing_of,
+};
+pub use packet::ReadPacket;
 pub use reply::{BreakCause, Caps, ListReply, Reply};
+pub use requests::{push_caps, push_hello, push_list, push_smudge};
+pub use smudge_reply::{
+    GoodReply, ReplyPhase, reply_after_flush, reply_after_line, reply_of, smudge_reply_of,
+};
+pub use turn::{MOST_ANSWER, Turn};
+pub use words::{Status, key_value, next_status, read_status};

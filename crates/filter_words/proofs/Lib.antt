@@ -1,0 +1,14 @@
+pub mod Cutting
+pub mod Runs
+pub mod Reading
+pub mod Names
+pub mod LateList
+pub mod Texts
+pub mod GrammarLaws
+pub mod Same
+pub mod ReplyRuns
+pub mod Equal
+pub mod ListRuns
+pub mod HandshakeRuns
+pub mod Contents
+pub mod OneAnswer

@@ -1,0 +1,14 @@
+use Rattle.filter_words.specs.Turn.{limit}
+use Rattle.filter_words.specs.Handshake.{handshake_step, handshake_start}
+use Rattle.filter_words.proofs.OneAnswer.{one_answer}
+use Rattle.filter_words.proofs.Same.{same, longer}
+use Rattle.filter_words.proofs.laws.one_handshake.Goals as goal
+
+pub returns-clause-same : goal.returns-clause-same
+returns-clause-same c ps qs a b x y u v sa sb e f g hu hv = same handshake_step limit handshake_start ps qs a b x y u v sa sb e f g hu hv
+
+pub returns-clause-none_longer : goal.returns-clause-none_longer
+returns-clause-none_longer c ps qs a b x y p v sa sb e none f g hv = longer handshake_step limit handshake_start ps qs a b x y p v sa sb e none f g hv
+
+pub returns-clause-heard : goal.returns-clause-heard
+returns-clause-heard c output u v one two = one_answer handshake_step handshake_start output u v one two

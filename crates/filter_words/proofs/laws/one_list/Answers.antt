@@ -1,0 +1,14 @@
+use Rattle.filter_words.specs.Turn.{limit}
+use Rattle.filter_words.specs.Listing.{list_step, list_start}
+use Rattle.filter_words.proofs.OneAnswer.{one_answer}
+use Rattle.filter_words.proofs.Same.{same, longer}
+use Rattle.filter_words.proofs.laws.one_list.Goals as goal
+
+pub returns-clause-same : goal.returns-clause-same
+returns-clause-same c d ps qs a b x y u v sa sb e f g hu hv = same (list_step d) limit list_start ps qs a b x y u v sa sb e f g hu hv
+
+pub returns-clause-none_longer : goal.returns-clause-none_longer
+returns-clause-none_longer c d ps qs a b x y p v sa sb e none f g hv = longer (list_step d) limit list_start ps qs a b x y p v sa sb e none f g hv
+
+pub returns-clause-heard : goal.returns-clause-heard
+returns-clause-heard c d output u v one two = one_answer (list_step d) list_start output u v one two

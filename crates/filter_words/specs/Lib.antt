@@ -1,0 +1,12 @@
+pub mod Words
+pub mod Requests
+pub mod Turn
+pub mod SmudgeReply
+pub mod Handshake
+pub mod Listing
+pub mod ListTurn
+pub mod Grammar
+pub mod ReplyGrammar
+pub mod ListGrammar
+pub mod HandshakeGrammar
+pub mod Answer

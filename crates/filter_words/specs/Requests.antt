@@ -1,0 +1,45 @@
+-- What a client sends: gitattributes(5), "Long Running Filter Process".
+use Rattle.std.specs.Prelude.{ℕ, Bool, false, if◌then◌else◌, List, [], ◌∷◌, ◌++◌, codes}
+use Rattle.pkt_line.specs.Packets.{Packet, Payload, Flush}
+use Rattle.pkt_line.specs.Spelling.{spelling_all, content_packets}
+
+-- a text and LF
+abbrev pub line : List ℕ → Packet
+line text = Payload (text ++ 10 ∷ [])
+
+abbrev pub hello_packets : List Packet
+hello_packets = line (codes "git-filter-client") ∷ line (codes "version=2") ∷ Flush ∷ []
+
+abbrev pub caps_packets : List Packet
+caps_packets = line (codes "capability=clean") ∷ line (codes "capability=smudge") ∷ line (codes "capability=delay") ∷ Flush ∷ []
+
+abbrev pub list_packets : List Packet
+list_packets = line (codes "command=list_available_blobs") ∷ Flush ∷ []
+
+abbrev pub can_delay_line : Bool → List Packet
+can_delay_line can_delay = if can_delay then line (codes "can-delay=1") ∷ [] else []
+
+-- the key list of a request for a path
+abbrev pub smudge_keys : List ℕ → Bool → List Packet
+smudge_keys path can_delay =
+    line (codes "command=smudge") ∷ line (codes "pathname=" ++ path) ∷ can_delay_line can_delay ++ Flush ∷ []
+
+abbrev pub smudge_packets : List ℕ → Bool → List ℕ → List Packet
+smudge_packets path can_delay content = smudge_keys path can_delay ++ content_packets content ++ Flush ∷ []
+
+abbrev pub hello_text : List ℕ
+hello_text = spelling_all hello_packets
+
+abbrev pub caps_text : List ℕ
+caps_text = spelling_all caps_packets
+
+abbrev pub list_text : List ℕ
+list_text = spelling_all list_packets
+
+-- the first request for a path
+abbrev pub first_text : List ℕ → Bool → List ℕ → List ℕ
+first_text path can_delay content = spelling_all (smudge_packets path can_delay content)
+
+-- the request for a path that was delayed and then listed
+abbrev pub second_text : List ℕ → List ℕ
+second_text path = first_text path false []

@@ -1,0 +1,105 @@
+ghost use Rattle.std.specs.Prelude.{◌≡◌, ◌∷◌, List, map};
+ghost use Rattle.pkt_line.specs.Packets.{Packet, Payload, Flush, size};
+ghost use Rattle.filter_words.specs.Turn.{outcome, limit, packet_of};
+ghost use Rattle.filter_words.specs.Words.{without_lf};
+ghost use Rattle.filter_words.specs.Handshake.{handshake_step, handshake_start, wanted_line, with_capability};
+
+use crate::packet::ReadPacket;
+use crate::reply::{BreakCause, Caps};
+use crate::turn::{MOST_ANSWER, Turn};
+use crate::words::without_end;
+
+/// In which part of a handshake the reading of a driver's answers stands: gitattributes(5), "Long Running Filter
+/// Process". The first answer is three packets, and the second is lines of capabilities.
+#[derive(Clone, Copy, Debug, PartialEq, Eq)]
+pub enum HandshakePhase {
+    /// The line `git-filter-server` is wanted.
+    Server,
+    /// The line `version=2` is.
+    Version,
+    /// The flush packet that ends the first answer is.
+    EndOfHello,
+    /// The capabilities that the second answer has named so far.
+    Capabilities(Caps),
+}
+
+/// What a payload makes of a handshake.
+pub fn handshake_after_line(phase: HandshakePhase, line: &[u8]) -> Turn<HandshakePhase, Caps>
+    ensures { result ≡ handshake_step phase (Payload line.now) }
+{
+    match phase {
+        HandshakePhase::Server => wanted(line, b"git-filter-server", HandshakePhase::Version),
+        HandshakePhase::Version => wanted(line, b"version=2", HandshakePhase::EndOfHello),
+        HandshakePhase::EndOfHello => Turn::Broken(BreakCause::BadHandshake),
+        HandshakePhase::Capabilities(caps) => Turn::On(HandshakePhase::Capabilities(more_caps(
+            caps, line,
+        ))),
+    }
+}
+
+/// What a flush packet makes of a handshake.
+pub fn handshake_after_flush(phase: HandshakePhase) -> Turn<HandshakePhase, Caps>
+    ensures { result ≡ handshake_step phase Flush }
+{
+    match phase {
+        HandshakePhase::Server | HandshakePhase::Version => Turn::Broken(BreakCause::BadHandshake),
+        HandshakePhase::EndOfHello => Turn::On(HandshakePhase::Capabilities(Caps {
+            smudge: false,
+            delay: false,
+        })),
+        HandshakePhase::Capabilities(caps) => Turn::Done(caps),
+    }
+}
+
+fn wanted(line: &[u8], text: &[u8], next: HandshakePhase) -> Turn<HandshakePhase, Caps>
+    ensures { result ≡ wanted_line line.now text.now next }
+{
+    if without_end(line) == text {
+        Turn::On(next)
+    } else {
+        Turn::Broken(BreakCause::BadHandshake)
+    }
+}
+
+fn more_caps(caps: Caps, line: &[u8]) -> Caps
+    ensures { result ≡ with_capability caps line.now }
+{
+    let text = without_end(line);
+    Caps {
+        smudge: caps.smudge || text == b"capability=smudge".as_slice(),
+        delay: caps.delay || text == b"capability=delay".as_slice(),
+    }
+}
+
+/// What whole packets make of a handshake's two answers, read one by one.
+pub fn handshake_of(packets: &[ReadPacket<'_>]) -> Turn<HandshakePhase, Caps>
+    ensures { result ≡ outcome handshake_step limit handshake_start (map packet_of packets.now) }
+{
+    let mut room = MOST_ANSWER;
+    let mut turn = Turn::On(HandshakePhase::Server);
+    for packet in packets {
+        (room, turn) = handshake_after_packet(room, turn, packet);
+    }
+    turn
+}
+
+/// One more packet, and how much room is left.
+fn handshake_after_packet(
+    room: u64,
+    turn: Turn<HandshakePhase, Caps>,
+    packet: &ReadPacket<'_>,
+) -> (u64, Turn<HandshakePhase, Caps>)
+    ensures { (rest : List Packet) → outcome handshake_step result.0 result.1 rest ≡ outcome handshake_step room turn (packet_of packet.now ∷ rest) }
+{
+    let Turn::On(phase) = turn else {
+        return (room, Turn::Late);
+    };
+    let size = packet.size();
+    if size > room {
+        return (room, Turn::Broken(BreakCause::TooLong));
+    }
+    match packet {
+        ReadPacket::Payload(line) => (room - size, handshake_after_line(phase, line)),
+        ReadPacket::Flush => (room - size, handshake_after_flush(phase)),
+    }
+}

@@ -1,0 +1,89 @@
+ghost use Rattle.std.specs.Prelude.{◌≡◌, ◌≤◌, ◌++◌, [], List, ℕ, Bool};
+ghost use Rattle.pkt_line.specs.Packets.{Packet, SpellAll, HasNoPacket, total};
+ghost use Rattle.filter_words.specs.Turn.{outcome, limit, IsEnd};
+ghost use Rattle.filter_words.specs.Answer.{IsAnswer};
+ghost use Rattle.filter_words.specs.Grammar.{block, IsOpen, IsBroken};
+ghost use Rattle.filter_words.specs.SmudgeReply.{reply_step, reply_start, content_in};
+ghost use Rattle.filter_words.specs.Words.{last_status};
+ghost use Rattle.filter_words.specs.ReplyGrammar.{IsReply, joined};
+ghost use Rattle.filter_words.specs.Listing.{ListPhase, GoodList, list_step, list_start};
+ghost use Rattle.filter_words.specs.ListGrammar.{IsList};
+ghost use Rattle.filter_words.specs.Handshake.{handshake_step, handshake_start};
+ghost use Rattle.filter_words.specs.HandshakeGrammar.{IsHandshake};
+ghost use Rattle.filter_words.specs.declared.reply.Caps.{Caps};
+ghost use Rattle.filter_words.specs.declared.handshake.HandshakePhase.{HandshakePhase};
+ghost use Rattle.filter_words.specs.declared.reply.BreakCause.{BreakCause};
+ghost use Rattle.filter_words.specs.declared.smudge_reply.GoodReply.{GoodReply};
+ghost use Rattle.filter_words.specs.declared.smudge_reply.ReplyPhase.{ReplyPhase};
+ghost use Rattle.filter_words.specs.declared.turn.Turn.{Turn};
+ghost use Rattle.filter_words.specs.declared.turn.Turn.TheVariants as turn;
+
+use crate::words::Status;
+
+/// A reply to a smudge request ends well exactly by its grammar and within the limit. While it is open it can still
+/// become good. It is broken at the first packet that passes the limit, or else at the first after which no
+/// continuation is good.
+pub fn reply_grammar()
+    ensures good { (d : Bool) (ps : List Packet) (g : GoodReply) → outcome (reply_step d) limit reply_start ps ≡ turn.Done g → IsReply d ps g × (total ps ≤ limit) }
+    ensures again { (d : Bool) (ps : List Packet) (g : GoodReply) → IsReply d ps g → total ps ≤ limit → outcome (reply_step d) limit reply_start ps ≡ turn.Done g }
+    ensures opened { (d : Bool) (ps : List Packet) (p : ReplyPhase) → outcome (reply_step d) limit reply_start ps ≡ turn.On p → IsOpen GoodReply (IsReply d) ps × (total ps ≤ limit) }
+    ensures broken { (d : Bool) (ps : List Packet) (why : BreakCause) → outcome (reply_step d) limit reply_start ps ≡ turn.Broken why → IsBroken GoodReply (IsReply d) ps why }
+{}
+
+/// The content of a reply is what stands between its two key lists, and a reply of one key list has none.
+pub fn reply_content()
+    ensures long { (d : Bool) (keys pieces last_keys : List (List ℕ)) → last_status None keys ≡ Some Status.Success
+        → content_in d reply_start (block keys ++ (block pieces ++ block last_keys)) ≡ joined pieces }
+    ensures short { (d : Bool) (keys : List (List ℕ)) → content_in d reply_start (block keys) ≡ [] }
+{}
+
+/// Replies that stand at the front of the same bytes and have come to their ends are one. Where no packet stands behind
+/// an open reply, no longer one that has ended stands at the front of the same bytes. So what a driver sends holds one
+/// reply at its front, however it is cut and however much of it was taken.
+pub fn one_reply()
+    ensures same { (d : Bool) (ps qs : List Packet) (a b x y : List ℕ) (u v : Turn ReplyPhase GoodReply) → SpellAll ps a → SpellAll qs b → a ++ x ≡ b ++ y
+        → outcome (reply_step d) limit reply_start ps ≡ u → outcome (reply_step d) limit reply_start qs ≡ v → IsEnd u → IsEnd v
+        → (ps ≡ qs) × (a ≡ b) × (u ≡ v) }
+    ensures none_longer { (d : Bool) (ps qs : List Packet) (a b x y : List ℕ) (p : ReplyPhase) (v : Turn ReplyPhase GoodReply) → SpellAll ps a → SpellAll qs b → a ++ x ≡ b ++ y → HasNoPacket x
+        → outcome (reply_step d) limit reply_start ps ≡ turn.On p → outcome (reply_step d) limit reply_start qs ≡ v → IsEnd v → ⊥ }
+    ensures heard { (d : Bool) (output : List ℕ) (u v : Turn ReplyPhase GoodReply) (one : IsAnswer (reply_step d) reply_start output u) (two : IsAnswer (reply_step d) reply_start output v)
+        → (u ≡ v) × ((g : GoodReply) → u ≡ turn.Done g → one.used ≡ two.used) }
+{}
+
+/// The same of the answer to a list request, where these paths are delayed.
+pub fn list_grammar()
+    ensures good { (delayed : List (List ℕ)) (ps : List Packet) (g : GoodList) → outcome (list_step delayed) limit list_start ps ≡ turn.Done g → IsList delayed ps g × (total ps ≤ limit) }
+    ensures again { (delayed : List (List ℕ)) (ps : List Packet) (g : GoodList) → IsList delayed ps g → total ps ≤ limit → outcome (list_step delayed) limit list_start ps ≡ turn.Done g }
+    ensures opened { (delayed : List (List ℕ)) (ps : List Packet) (p : ListPhase) → outcome (list_step delayed) limit list_start ps ≡ turn.On p → IsOpen GoodList (IsList delayed) ps × (total ps ≤ limit) }
+    ensures broken { (delayed : List (List ℕ)) (ps : List Packet) (why : BreakCause) → outcome (list_step delayed) limit list_start ps ≡ turn.Broken why → IsBroken GoodList (IsList delayed) ps why }
+{}
+
+/// The same of two answers to a list request.
+pub fn one_list()
+    ensures same { (delayed : List (List ℕ)) (ps qs : List Packet) (a b x y : List ℕ) (u v : Turn ListPhase GoodList) → SpellAll ps a → SpellAll qs b → a ++ x ≡ b ++ y
+        → outcome (list_step delayed) limit list_start ps ≡ u → outcome (list_step delayed) limit list_start qs ≡ v → IsEnd u → IsEnd v
+        → (ps ≡ qs) × (a ≡ b) × (u ≡ v) }
+    ensures none_longer { (delayed : List (List ℕ)) (ps qs : List Packet) (a b x y : List ℕ) (p : ListPhase) (v : Turn ListPhase GoodList) → SpellAll ps a → SpellAll qs b → a ++ x ≡ b ++ y → HasNoPacket x
+        → outcome (list_step delayed) limit list_start ps ≡ turn.On p → outcome (list_step delayed) limit list_start qs ≡ v → IsEnd v → ⊥ }
+    ensures heard { (delayed : List (List ℕ)) (output : List ℕ) (u v : Turn ListPhase GoodList) (one : IsAnswer (list_step delayed) list_start output u) (two : IsAnswer (list_step delayed) list_start output v)
+        → (u ≡ v) × ((g : GoodList) → u ≡ turn.Done g → one.used ≡ two.used) }
+{}
+
+/// The same of the two answers to a handshake.
+pub fn handshake_grammar()
+    ensures good { (ps : List Packet) (caps : Caps) → outcome handshake_step limit handshake_start ps ≡ turn.Done caps → IsHandshake ps caps × (total ps ≤ limit) }
+    ensures again { (ps : List Packet) (caps : Caps) → IsHandshake ps caps → total ps ≤ limit → outcome handshake_step limit handshake_start ps ≡ turn.Done caps }
+    ensures opened { (ps : List Packet) (p : HandshakePhase) → outcome handshake_step limit handshake_start ps ≡ turn.On p → IsOpen Caps IsHandshake ps × (total ps ≤ limit) }
+    ensures broken { (ps : List Packet) (why : BreakCause) → outcome handshake_step limit handshake_start ps ≡ turn.Broken why → IsBroken Caps IsHandshake ps why }
+{}
+
+/// The same of two handshakes.
+pub fn one_handshake()
+    ensures same { (ps qs : List Packet) (a b x y : List ℕ) (u v : Turn HandshakePhase Caps) → SpellAll ps a → SpellAll qs b → a ++ x ≡ b ++ y
+        → outcome handshake_step limit handshake_start ps ≡ u → outcome handshake_step limit handshake_start qs ≡ v → IsEnd u → IsEnd v
+        → (ps ≡ qs) × (a ≡ b) × (u ≡ v) }
+    ensures none_longer { (ps qs : List Packet) (a b x y : List ℕ) (p : HandshakePhase) (v : Turn HandshakePhase Caps) → SpellAll ps a → SpellAll qs b → a ++ x ≡ b ++ y → HasNoPacket x
+        → outcome handshake_step limit handshake_start ps ≡ turn.On p → outcome handshake_step limit handshake_start qs ≡ v → IsEnd v → ⊥ }
+    ensures heard { (output : List ℕ) (u v : Turn HandshakePhase Caps) (one : IsAnswer handshake_step handshake_start output u) (two : IsAnswer handshake_step handshake_start output v)
+        → (u ≡ v) × ((caps : Caps) → u ≡ turn.Done caps → one.used ≡ two.used) }
+{}

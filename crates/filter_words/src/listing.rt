@@ -1,0 +1,209 @@
+ghost use Rattle.std.specs.Prelude.{◌≡◌, ◌<◌, ◌^◌, vec_len, length, ◌&&◌, not, ◌∷◌, ◌++◌, [], List, ℕ, map, codes, IfOk};
+ghost use Rattle.pkt_line.specs.Packets.{Packet, Payload, Flush, size};
+ghost use Rattle.std.specs.Option.{option_map};
+ghost use Rattle.std.specs.List.{list_any};
+ghost use Rattle.std.specs.Str.{bytes_eq};
+ghost use Rattle.filter_words.specs.Turn.{outcome, limit, packet_of};
+ghost use Rattle.filter_words.specs.Words.{value_of};
+ghost use Rattle.filter_words.specs.Listing.{reply_of_good, list_reply_in, name_in, after_name, after_value, list_step, list_status, list_start};
+ghost use Rattle.filter_words.specs.ListTurn.{good_list, list_turn, list_phase, bytes_of};
+
+use crate::packet::ReadPacket;
+use crate::reply::{BreakCause, ListReply};
+use crate::turn::{MOST_ANSWER, Turn};
+use crate::words::{Status, next_status, value_of};
+use std::alloc::{AllocError, Global};
+
+/// In which part of the answer to `list_available_blobs` its reading stands: gitattributes(5), "Long Running Filter
+/// Process".
+#[derive(Clone, Copy, Debug, PartialEq, Eq)]
+pub enum ListPart {
+    /// Lines, of which each `pathname=` line names a path.
+    Names,
+    /// The key list behind them, and the status that it has named so far.
+    KeyList(Option<Status>),
+}
+
+/// How such an answer ended well.
+#[derive(Clone, Copy, Debug, PartialEq, Eq)]
+pub enum ListEnd {
+    /// With `status=success`.
+    Success,
+    Abort,
+}
+
+/// The answer to a list request as it is read, and the paths that it has named so far, in its order.
+#[derive(Drop)]
+pub struct Listing<'a> {
+    pub turn: Turn<ListPart, ListEnd>,
+    pub names: Vec<&'a [u8]>,
+}
+
+/// The reply to a list request that ended well and named so many paths.
+pub fn list_reply(end: ListEnd, count: u32) -> ListReply
+    ensures { (names : List (List ℕ)) → count ≡ length names → result ≡ reply_of_good (good_list end names) }
+{
+    match end {
+        ListEnd::Success => {
+            if count == 0 {
+                ListReply::Empty
+            } else {
+                ListReply::Names(count)
+            }
+        }
+        ListEnd::Abort => ListReply::Abort,
+    }
+}
+
+impl Listing<'_> {
+    /// The reply that has come to its end.
+    pub fn reply(&self) -> Option<ListReply>
+        requires { vec_len self.now.names < 2 ^ 32 }
+        ensures { result ≡ list_reply_in (list_turn self.now.turn (map bytes_of self.now.names.items)) }
+    {
+        match &self.turn {
+            Turn::Done(end) => Some(list_reply(*end, self.names.len() as u32)),
+            Turn::Broken(cause) => Some(ListReply::Broken(*cause)),
+            Turn::On(_) | Turn::Late => None,
+        }
+    }
+}
+
+/// What a flush packet makes of the answer to a list request.
+pub fn list_after_flush(part: ListPart) -> Turn<ListPart, ListEnd>
+    ensures { (delayed names : List (List ℕ)) → list_turn result names ≡ list_step delayed (list_phase part names) Flush }
+{
+    match part {
+        ListPart::Names => Turn::On(ListPart::KeyList(None)),
+        ListPart::KeyList(status) => after_list_status(status),
+    }
+}
+
+fn after_list_status(status: Option<Status>) -> Turn<ListPart, ListEnd>
+    ensures { (names : List (List ℕ)) → list_turn result names ≡ list_status names status }
+{
+    match status {
+        Some(Status::Success) => Turn::Done(ListEnd::Success),
+        Some(Status::Abort) => Turn::Done(ListEnd::Abort),
+        Some(Status::Error) => Turn::Broken(BreakCause::ListRefused),
+        Some(Status::Delayed | Status::Other) | None => Turn::Broken(BreakCause::UnknownStatus),
+    }
+}
+
+/// The path that a line names.
+pub fn listed_name(line: &[u8]) -> Option<&[u8]>
+    ensures { option_map (λ name. name.now) result ≡ value_of (codes "pathname") line.now }
+{
+    value_of(b"pathname", line)
+}
+
+fn has_slice(names: &[&[u8]], name: &[u8]) -> bool
+    ensures { result ≡ list_any (λ known. bytes_eq known.now name.now) names.now }
+{
+    names.iter().any(|known| *known == name)
+}
+
+/// Whether a path is delayed and wasn't listed before.
+fn is_expected(delayed: &[&[u8]], listed: &[&[u8]], name: &[u8]) -> bool
+    ensures { result ≡ (name_in (map bytes_of delayed.now) name.now && not (name_in (map bytes_of listed.now) name.now)) }
+{
+    has_slice(delayed, name) && !has_slice(listed, name)
+}
+
+/// What the answer is after a line that names this path: one that is delayed, and wasn't listed before.
+fn name_listed<'a>(
+    delayed: &[&[u8]],
+    mut names: Vec<&'a [u8]>,
+    name: &'a [u8],
+) -> Result<Listing<'a>, AllocError>
+    ensures { IfOk result (λ l. list_turn l.turn (map bytes_of l.names.items) ≡ after_name (map bytes_of delayed.now) (map bytes_of names.entry.items) name.now) }
+{
+    if is_expected(delayed, names.as_slice(), name) {
+        names.push(name)?;
+        Ok(Listing {
+            turn: Turn::On(ListPart::Names),
+            names,
+        })
+    } else {
+        Ok(Listing {
+            turn: Turn::Broken(BreakCause::StrangePath),
+            names,
+        })
+    }
+}
+
+/// What the answer is after a line that belongs to it.
+fn list_after_line<'a>(
+    delayed: &[&[u8]],
+    part: ListPart,
+    names: Vec<&'a [u8]>,
+    line: &'a [u8],
+) -> Result<Listing<'a>, AllocError>
+    ensures { IfOk result (λ l. list_turn l.turn (map bytes_of l.names.items) ≡ list_step (map bytes_of delayed.now) (list_phase part (map bytes_of names.entry.items)) (Payload line.now)) }
+{
+    match part {
+        ListPart::Names => match listed_name(line) {
+            Some(name) => name_listed(delayed, names, name),
+            None => Ok(Listing {
+                turn: Turn::On(ListPart::Names),
+                names,
+            }),
+        },
+        ListPart::KeyList(status) => Ok(Listing {
+            turn: Turn::On(ListPart::KeyList(next_status(status, line))),
+            names,
+        }),
+    }
+}
+
+/// What whole packets make of the answer to a list request, read one by one, where these paths are delayed. It looks
+/// for each name by a scan over the paths.
+pub fn listing_of<'a>(
+    alloc: Global,
+    delayed: &[&[u8]],
+    packets: &[ReadPacket<'a>],
+) -> Result<Listing<'a>, AllocError>
+    ensures { IfOk result (λ l. list_turn l.turn (map bytes_of l.names.items) ≡ outcome (list_step (map bytes_of delayed.now)) limit list_start (map packet_of packets.now)) }
+{
+    let mut room = MOST_ANSWER;
+    let mut listing = Listing {
+        turn: Turn::On(ListPart::Names),
+        names: Vec::new(alloc),
+    };
+    for packet in packets {
+        (room, listing) = list_after_packet(delayed, room, listing, packet)?;
+    }
+    Ok(listing)
+}
+
+/// One more packet, and how much room is left.
+fn list_after_packet<'a>(
+    delayed: &[&[u8]],
+    room: u64,
+    listing: Listing<'a>,
+    packet: &ReadPacket<'a>,
+) -> Result<(u64, Listing<'a>), AllocError>
+    ensures { IfOk result (λ next. (rest : List Packet) → outcome (list_step (map bytes_of delayed.now)) next.0 (list_turn next.1.turn (map bytes_of next.1.names.items)) rest
+        ≡ outcome (list_step (map bytes_of delayed.now)) room (list_turn listing.entry.turn (map bytes_of listing.entry.names.items)) (packet_of packet.now ∷ rest)) }
+{
+    let Listing { turn, names } = listing;
+    let Turn::On(part) = turn else {
+        let turn = Turn::Late;
+        return Ok((room, Listing { turn, names }));
+    };
+    let size = packet.size();
+    if size > room {
+        let turn = Turn::Broken(BreakCause::TooLong);
+        return Ok((room, Listing { turn, names }));
+    }
+    match packet {
+        ReadPacket::Payload(line) => {
+            let next = list_after_line(delayed, part, names, line)?;
+            Ok((room - size, next))
+        }
+        ReadPacket::Flush => {
+            let turn = list_after_flush(part);
+            Ok((room - size, Listing { turn, names }))
+        }
+    }
+}

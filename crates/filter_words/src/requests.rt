@@ -1,0 +1,157 @@
+ghost use Rattle.std.specs.Prelude.{◌≡◌, ◌≤◌, ◌++◌, take, length, codes, OnOk, OnErr, vec_len};
+ghost use Rattle.pkt_line.specs.Spelling.{spelling, spelling_all};
+ghost use Rattle.filter_words.specs.Requests.{line, hello_packets, caps_packets, list_packets, can_delay_line, smudge_keys, smudge_packets, hello_text, caps_text, list_text, first_text};
+
+use pkt_line::{push_content, push_flush, push_line};
+use std::alloc::{AllocError, Global};
+
+/// Appends what a client sends first: the lines `git-filter-client` and `version=2`, and flush.
+///
+/// This call and the three below append texts of gitattributes(5), "Long Running Filter Process", and leave `out` as it
+/// was after an error, which is want of memory alone.
+pub fn push_hello(alloc: Global, out: &mut Vec<u8>) -> Result<(), AllocError>
+    ensures ok { OnOk result (out.new.items ≡ out.old.items ++ hello_text) }
+    ensures err { OnErr result (out.new.items ≡ out.old.items) }
+{
+    let before = out.len();
+    let pushed = push_hello_packets(alloc, out);
+    whole_or_nothing(out, before, pushed)
+}
+
+/// Appends the capabilities that a client announces: the lines `capability=clean`, `capability=smudge` and
+/// `capability=delay`, in this order, and flush.
+pub fn push_caps(alloc: Global, out: &mut Vec<u8>) -> Result<(), AllocError>
+    ensures ok { OnOk result (out.new.items ≡ out.old.items ++ caps_text) }
+    ensures err { OnErr result (out.new.items ≡ out.old.items) }
+{
+    let before = out.len();
+    let pushed = push_caps_packets(alloc, out);
+    whole_or_nothing(out, before, pushed)
+}
+
+/// Appends the request for a list of the delayed paths that are ready: the line `command=list_available_blobs`, and
+/// flush.
+pub fn push_list(alloc: Global, out: &mut Vec<u8>) -> Result<(), AllocError>
+    ensures ok { OnOk result (out.new.items ≡ out.old.items ++ list_text) }
+    ensures err { OnErr result (out.new.items ≡ out.old.items) }
+{
+    let before = out.len();
+    let pushed = push_list_packets(alloc, out);
+    whole_or_nothing(out, before, pushed)
+}
+
+/// Appends the request to smudge a content for a path of 1 to 4,096 bytes: the lines `command=smudge` and
+/// `pathname=<path>`, the line `can-delay=1` where `can_delay`, flush, the content, and flush. A path that was delayed
+/// is asked for again without `can_delay` and with an empty content.
+pub fn push_smudge(
+    alloc: Global,
+    out: &mut Vec<u8>,
+    path: &[u8],
+    can_delay: bool,
+    content: &[u8],
+) -> Result<(), AllocError>
+    requires some { 1 ≤ length path.now }
+    requires few { length path.now ≤ 4096 }
+    ensures ok { OnOk result (out.new.items ≡ out.old.items ++ first_text path.now can_delay content.now) }
+    ensures err { OnErr result (out.new.items ≡ out.old.items) }
+{
+    let before = out.len();
+    let pushed = push_smudge_packets(alloc, out, path, can_delay, content);
+    whole_or_nothing(out, before, pushed)
+}
+
+/// Keeps what was pushed, or cuts `out` back where the pushing failed.
+fn whole_or_nothing(
+    out: &mut Vec<u8>,
+    before: usize,
+    pushed: Result<(), AllocError>,
+) -> Result<(), AllocError>
+    ensures same { result ≡ pushed }
+    ensures ok { OnOk result (out.new.items ≡ out.old.items) }
+    ensures err { OnErr result (out.new.items ≡ take before out.old.items) }
+{
+    if pushed.is_err() {
+        out.truncate(before);
+    }
+    pushed
+}
+
+fn push_hello_packets(alloc: Global, out: &mut Vec<u8>) -> Result<(), AllocError>
+    ensures ok { OnOk result (out.new.items ≡ out.old.items ++ spelling_all hello_packets) }
+    ensures err { OnErr result (take (vec_len out.old) out.new.items ≡ out.old.items) }
+{
+    push_line(alloc, out, b"git-filter-client")?;
+    push_line(alloc, out, b"version=2")?;
+    push_flush(alloc, out)
+}
+
+fn push_caps_packets(alloc: Global, out: &mut Vec<u8>) -> Result<(), AllocError>
+    ensures ok { OnOk result (out.new.items ≡ out.old.items ++ spelling_all caps_packets) }
+    ensures err { OnErr result (take (vec_len out.old) out.new.items ≡ out.old.items) }
+{
+    push_line(alloc, out, b"capability=clean")?;
+    push_line(alloc, out, b"capability=smudge")?;
+    push_line(alloc, out, b"capability=delay")?;
+    push_flush(alloc, out)
+}
+
+fn push_list_packets(alloc: Global, out: &mut Vec<u8>) -> Result<(), AllocError>
+    ensures ok { OnOk result (out.new.items ≡ out.old.items ++ spelling_all list_packets) }
+    ensures err { OnErr result (take (vec_len out.old) out.new.items ≡ out.old.items) }
+{
+    push_line(alloc, out, b"command=list_available_blobs")?;
+    push_flush(alloc, out)
+}
+
+fn push_smudge_packets(
+    alloc: Global,
+    out: &mut Vec<u8>,
+    path: &[u8],
+    can_delay: bool,
+    content: &[u8],
+) -> Result<(), AllocError>
+    requires { length path.now ≤ 4096 }
+    ensures ok { OnOk result (out.new.items ≡ out.old.items ++ spelling_all (smudge_packets path.now can_delay content.now)) }
+    ensures err { OnErr result (take (vec_len out.old) out.new.items ≡ out.old.items) }
+{
+    push_smudge_keys(alloc, out, path, can_delay)?;
+    push_content(alloc, out, content)?;
+    push_flush(alloc, out)
+}
+
+fn push_smudge_keys(
+    alloc: Global,
+    out: &mut Vec<u8>,
+    path: &[u8],
+    can_delay: bool,
+) -> Result<(), AllocError>
+    requires { length path.now ≤ 4096 }
+    ensures ok { OnOk result (out.new.items ≡ out.old.items ++ spelling_all (smudge_keys path.now can_delay)) }
+    ensures err { OnErr result (take (vec_len out.old) out.new.items ≡ out.old.items) }
+{
+    push_line(alloc, out, b"command=smudge")?;
+    push_pathname(alloc, out, path)?;
+    push_can_delay(alloc, out, can_delay)?;
+    push_flush(alloc, out)
+}
+
+fn push_can_delay(alloc: Global, out: &mut Vec<u8>, can_delay: bool) -> Result<(), AllocError>
+    ensures ok { OnOk result (out.new.items ≡ out.old.items ++ spelling_all (can_delay_line can_delay)) }
+    ensures err { OnErr result (out.new.items ≡ out.old.items) }
+{
+    if can_delay {
+        push_line(alloc, out, b"can-delay=1")
+    } else {
+        Ok(())
+    }
+}
+
+fn push_pathname(alloc: Global, out: &mut Vec<u8>, path: &[u8]) -> Result<(), AllocError>
+    requires { length path.now ≤ 4096 }
+    ensures ok { OnOk result (out.new.items ≡ out.old.items ++ spelling (line (codes "pathname=" ++ path.now))) }
+    ensures err { OnErr result (out.new.items ≡ out.old.items) }
+{
+    let mut text = Vec::from_slice(alloc, b"pathname=")?;
+    text.extend_from_slice(path)?;
+    push_line(alloc, out, text.as_slice())
+}

@@ -1,0 +1,243 @@
+use super::*;
+use std::alloc::Global;
+use std::test::Fail;
+
+const FLUSH: ReadPacket<'static> = ReadPacket::Flush;
+
+fn line(text: &[u8]) -> ReadPacket<'_> {
+    ReadPacket::Payload(text)
+}
+
+#[test]
+fn requests_are_spelled(rt: HostRuntime) -> Result<(), Fail> {
+    let alloc = rt.alloc();
+    let mut out = Vec::new(alloc);
+    push_hello(alloc, &mut out)?;
+    push_caps(alloc, &mut out)?;
+    push_list(alloc, &mut out)?;
+    push_smudge(alloc, &mut out, b"big.psd", true, b"pointer")?;
+    push_smudge(alloc, &mut out, b"big.psd", false, b"")?;
+    push_smudge(alloc, &mut out, b"a", false, b"x")?;
+    let want =
+        b"0016git-filter-client\n000eversion=2\n00000015capability=clean\n0016capability=smudge\n0015capability=delay\n0000\
+0021command=list_available_blobs\n0000\
+0013command=smudge\n0015pathname=big.psd\n0010can-delay=1\n0000000bpointer0000\
+0013command=smudge\n0015pathname=big.psd\n00000000\
+0013command=smudge\n000fpathname=a\n00000005x0000";
+    assert_eq!(rt; out.as_slice(), want.as_slice());
+    Ok(())
+}
+
+#[test]
+fn lines_are_cut_at_the_first_equals_sign(rt: HostRuntime) {
+    assert_eq!(rt;
+        key_value(b"status=success\n"),
+        Some((b"status".as_slice(), b"success".as_slice()))
+    );
+    assert_eq!(rt;
+        key_value(b"pathname=a=b\n\n"),
+        Some((b"pathname".as_slice(), b"a=b\n".as_slice()))
+    );
+    assert_eq!(rt; key_value(b"="), Some((b"".as_slice(), b"".as_slice())));
+    assert_eq!(rt; key_value(b"status\n"), None);
+    assert_eq!(rt; next_status(None, b"status=delayed"), Some(Status::Delayed));
+    assert_eq!(rt;
+        next_status(Some(Status::Error), b"statuses=abort\n"),
+        Some(Status::Error)
+    );
+    assert_eq!(rt; read_status(b"Success"), Status::Other);
+}
+
+#[test]
+fn each_status_of_a_reply(rt: HostRuntime) {
+    let unknown = Some(Reply::Broken(BreakCause::UnknownStatus));
+    let strange = Some(Reply::Broken(BreakCause::StrangeDelay));
+    let cases: [(&[u8], Option<Reply>, Option<Reply>); 6] = [
+        (b"status=success\n", None, None),
+        (b"status=error\n", Some(Reply::Error), Some(Reply::Error)),
+        (b"status=abort\n", Some(Reply::Abort), Some(Reply::Abort)),
+        (b"status=delayed\n", strange, Some(Reply::Delayed)),
+        (b"status=new\n", unknown, unknown),
+        (b"version=2\n", unknown, unknown),
+    ];
+    for (text, plain, delayable) in cases {
+        let packets = [line(text), FLUSH];
+        assert_eq!(rt;
+            reply_of(smudge_reply_of(false, &packets)),
+            plain,
+            "{text:?}"
+        );
+        assert_eq!(rt;
+            reply_of(smudge_reply_of(true, &packets)),
+            delayable,
+            "{text:?}"
+        );
+    }
+}
+
+#[test]
+fn each_status_behind_a_content(rt: HostRuntime) {
+    let unknown = Reply::Broken(BreakCause::UnknownStatus);
+    let cases: [(&[u8], Reply); 6] = [
+        (b"status=success\n", Reply::Content),
+        (b"status=error\n", Reply::ErrorAfter),
+        (b"status=abort\n", Reply::Abort),
+        (b"status=delayed\n", unknown),
+        (b"status=new\n", unknown),
+        (b"nothing\n", Reply::Content),
+    ];
+    for (text, want) in cases {
+        let packets = [
+            line(b"status=success\n"),
+            FLUSH,
+            line(b"status=error"),
+            FLUSH,
+            line(text),
+            FLUSH,
+        ];
+        assert_eq!(rt;
+            reply_of(smudge_reply_of(true, &packets)),
+            Some(want),
+            "{text:?}"
+        );
+    }
+}
+
+#[test]
+fn the_last_status_counts(rt: HostRuntime) {
+    let packets = [
+        line(b"status=error\n"),
+        line(b"status=abort\n"),
+        line(b"stat=error\n"),
+        FLUSH,
+    ];
+    assert_eq!(rt;
+        reply_of(smudge_reply_of(false, &packets)),
+        Some(Reply::Abort)
+    );
+    let behind = [line(b"status=error"), FLUSH, FLUSH];
+    assert_eq!(rt; smudge_reply_of(true, &behind), Turn::Late);
+}
+
+/// 19 bytes and 4 bytes, then 8,194 packets of 65,520 bytes, leave nine of the 536,870,912 bytes.
+#[test]
+fn the_limit_of_a_reply(rt: HostRuntime) -> Result<(), Fail> {
+    let mut longest = Vec::new(rt.alloc());
+    longest.resize(65_516, b'c')?;
+    let mut packets = Vec::new(rt.alloc());
+    packets.push(line(b"status=success\n"))?;
+    packets.push(FLUSH)?;
+    for _ in 0..8194 {
+        packets.push(line(longest.as_slice()))?;
+    }
+    packets.push(FLUSH)?;
+    packets.push(line(b"k"))?;
+    assert_eq!(rt;
+        smudge_reply_of(true, packets.as_slice()),
+        Turn::On(ReplyPhase::LastKeyList(None))
+    );
+    packets.push(FLUSH)?;
+    assert_eq!(rt;
+        reply_of(smudge_reply_of(true, packets.as_slice())),
+        Some(Reply::Broken(BreakCause::TooLong))
+    );
+    Ok(())
+}
+
+#[test]
+fn handshakes(rt: HostRuntime) {
+    let server = line(b"git-filter-server\n");
+    let version = line(b"version=2\n");
+    let caps = [
+        server,
+        version,
+        FLUSH,
+        line(b"capability=clean\n"),
+        line(b"capability=delay"),
+        FLUSH,
+    ];
+    assert_eq!(rt;
+        handshake_of(&caps),
+        Turn::Done(Caps {
+            smudge: false,
+            delay: true
+        })
+    );
+    let both = [
+        server,
+        version,
+        FLUSH,
+        line(b"capability=smudge\n"),
+        line(b"capability=delay\n"),
+        FLUSH,
+    ];
+    assert_eq!(rt;
+        handshake_of(&both),
+        Turn::Done(Caps {
+            smudge: true,
+            delay: true
+        })
+    );
+    let strange = Turn::Broken(BreakCause::BadHandshake);
+    assert_eq!(rt; handshake_of(&[line(b"git-filter-client\n")]), strange);
+    assert_eq!(rt; handshake_of(&[FLUSH]), strange);
+    assert_eq!(rt; handshake_of(&[server, line(b"version=3\n")]), strange);
+    assert_eq!(rt;
+        handshake_of(&[server, version, line(b"version=3\n")]),
+        strange
+    );
+    assert_eq!(rt;
+        handshake_of(&[server, version]),
+        Turn::On(HandshakePhase::EndOfHello)
+    );
+}
+
+fn list_reply_to(alloc: Global, packets: &[ReadPacket<'_>]) -> Result<Option<ListReply>, Fail> {
+    let listing = listing_of(alloc, &[b"p1", b"p2", b"p3"], packets)?;
+    if listing.names.len() > 9 {
+        return Ok(None);
+    }
+    Ok(listing.reply())
+}
+
+#[test]
+fn lists_of_delayed_paths(rt: HostRuntime) -> Result<(), Fail> {
+    let (p1, p3) = (line(b"pathname=p1\n"), line(b"pathname=p3\n"));
+    let success = line(b"status=success\n");
+    let broken = |cause| Some(ListReply::Broken(cause));
+    let alloc = rt.alloc();
+    assert_eq!(rt;
+        list_reply_to(alloc, &[p3, line(b"size=4\n"), p1, FLUSH, success, FLUSH])?,
+        Some(ListReply::Names(2))
+    );
+    assert_eq!(rt;
+        list_reply_to(alloc, &[FLUSH, success, FLUSH])?,
+        Some(ListReply::Empty)
+    );
+    assert_eq!(rt;
+        list_reply_to(alloc, &[p1, FLUSH, success, line(b"status=abort\n"), FLUSH])?,
+        Some(ListReply::Abort)
+    );
+    assert_eq!(rt;
+        list_reply_to(alloc, &[FLUSH, line(b"status=error\n"), FLUSH])?,
+        broken(BreakCause::ListRefused)
+    );
+    assert_eq!(rt;
+        list_reply_to(alloc, &[FLUSH, line(b"status=delayed\n"), FLUSH])?,
+        broken(BreakCause::UnknownStatus)
+    );
+    assert_eq!(rt;
+        list_reply_to(alloc, &[FLUSH, FLUSH])?,
+        broken(BreakCause::UnknownStatus)
+    );
+    assert_eq!(rt;
+        list_reply_to(alloc, &[line(b"pathname=p4\n")])?,
+        broken(BreakCause::StrangePath)
+    );
+    assert_eq!(rt;
+        list_reply_to(alloc, &[p1, p3, p1])?,
+        broken(BreakCause::StrangePath)
+    );
+    assert_eq!(rt; list_reply_to(alloc, &[p1, FLUSH, success])?, None);
+    Ok(())
+}

@@ -1,0 +1,40 @@
+ghost use Rattle.std.specs.Prelude.{◌≡◌, ◌≤◌, ◌++◌, [], List, ℕ, Result};
+ghost use Rattle.pkt_line.specs.Packets.{Packet, Spells, SpellAll, HasNoPacket, pkt_len};
+ghost use Rattle.pkt_line.specs.Spelling.{spelling};
+ghost use Rattle.pkt_line.specs.Reading.{Reading, Move, MovesAll, IsRead, bytes_taken, packets_given, with_bytes};
+ghost use Rattle.pkt_line.specs.Reader.{Peeks, IsFaultOf, answer_of};
+ghost use Rattle.pkt_line.specs.declared.reader.PktFault.{PktFault};
+ghost use Rattle.pkt_line.specs.declared.reader.Next.{Next};
+
+/// No packet's spelling is a proper prefix of another's: what stands at the front of bytes is one packet.
+pub fn prefix_free()
+    ensures { (p q : Packet) (a b x y : List ℕ) → Spells p a → Spells q b → a ++ x ≡ b ++ y → (p ≡ q) × (a ≡ b) × (x ≡ y) }
+{}
+
+/// The same bytes are the same packets, and then bytes at whose front no packet stands.
+pub fn one_reading()
+    ensures { (ps qs : List Packet) (a b x y : List ℕ) → SpellAll ps a → SpellAll qs b → a ++ x ≡ b ++ y → HasNoPacket x → HasNoPacket y
+        → (ps ≡ qs) × (a ≡ b) × (x ≡ y) }
+{}
+
+/// For every way of cutting the input, the packets that a reader gave so far are those whose spelling is the bytes read
+/// so far.
+pub fn given_so_far()
+    ensures { (moves : List Move) (left : Reading) → MovesAll (record { unread = []; place = 0 }) moves left
+        → IsRead (bytes_taken moves) (packets_given moves) left }
+{}
+
+/// What `next` and `peek` answer is decided by what the reader holds.
+pub fn one_answer()
+    ensures { (a b : Result Next PktFault) (r : Reading) → Peeks a r → Peeks b r → answer_of a ≡ answer_of b }
+{}
+
+/// A fault stays whatever bytes follow, and so no packet stands there.
+pub fn fault_stays()
+    ensures { (fault : PktFault) (r : Reading) (more : List ℕ) → IsFaultOf fault r → IsFaultOf fault (with_bytes more r) }
+{}
+
+/// What the writers append spells its packet.
+pub fn spells()
+    ensures { (p : Packet) → pkt_len p ≤ 65520 → Spells p (spelling p) }
+{}

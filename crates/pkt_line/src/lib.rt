@@ -1,0 +1,14 @@
+//! Packets of Git's protocols, gitprotocol-common(5) under "pkt-line Format": a reader that takes bytes in whatever
+//! pieces they come, and writers.
+#![tactic(auto)]
+
+mod laws;
+mod length;
+mod reader;
+#[cfg(test)]
+mod tests;
+mod writing;
+
+pub use laws::{fault_stays, given_so_far, one_answer, one_reading, prefix_free, spells};
+pub use reader::{Next, PktFault, PktReader};
+pub use writing::{push_content, push_flush, push_line, push_payload};
