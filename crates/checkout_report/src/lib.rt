@@ -5,3 +5,6 @@ mod report;
 mod words;
 
 pub use report::{ReportPath, is_failed, report_text};
+
+#[cfg(test)]
+mod tests;
