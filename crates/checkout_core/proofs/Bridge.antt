@@ -1,0 +1,53 @@
+-- An effect, as code makes it: a place is set, and a loop goes over all.
+use Rattle.std.proofs.Common.{◌≡◌, ◌==◌, ℕ, zero, suc, ◌+◌, ◌⊎◌, inl, inr, ⊎_elim, Bool, true, false, cond, List, [], ◌∷◌, map, set, Option, Some, None, refl, sym, ap, ◌∙◌, subst, eq-eqb, arith}
+use Rattle.std.specs.Prelude.{slice_get}
+use Rattle.checkout_core.specs.declared.path.PathState.{PathState}
+use Rattle.checkout_core.specs.declared.path.Path.{Path}
+use Rattle.checkout_core.specs.declared.driver.DriverState.{DriverState}
+use Rattle.checkout_core.specs.declared.verdict.FilterCause.{FilterCause}
+use Rattle.std.specs.Prelude.{length, ◌<◌}
+use Rattle.std.proofs.lemmas.Bool.{lt-ltb}
+use Rattle.checkout_core.specs.declared.path.PathState.TheVariants.{Waiting, Held}
+use Rattle.checkout_core.specs.declared.event.Event.TheVariants.{Claim}
+use Rattle.checkout_core.specs.Steps.{Core, after, done, step_of, claim_at, claim, with_path, Effect, Moves, Turns, Both, Sweep, each, path_after, driver_after, with_state, swept_path}
+use Rattle.checkout_core.proofs.Basics.{none_is_some, some_is, eqb_self, same_or}
+
+module _ {A : Type 0} where
+  each_map : (f : A → A) (h : ℕ → A → A) (xs : List A) → ((q : ℕ) (w : A) → h q w ≡ f w) → each h xs ≡ map f xs
+  each_map f h [] same = refl
+  each_map f h (x ∷ xs) same = ap (λ y. y ∷ each (λ i. h (suc i)) xs) (same zero x) ∙ ap (λ (ys : List A). f x ∷ ys) (each_map f (λ i. h (suc i)) xs (λ q w. same (suc q) w))
+
+  each_set : (f : A → A) (h : ℕ → A → A) (xs : List A) (p : ℕ) (x v : A) → slice_get xs p ≡ Some x → h p x ≡ v → ((q : ℕ) (w : A) → (q ≡ p → ⊥) → h q w ≡ f w) → each h xs ≡ set (map f xs) p v
+  each_set f h [] p x v there here same = none_is_some there
+  each_set f h (y ∷ xs) zero x v there here same =
+      ap (λ z. z ∷ each (λ i. h (suc i)) xs) (ap (h zero) (some_is y x there) ∙ here) ∙ ap (λ (ys : List A). v ∷ ys) (each_map f (λ i. h (suc i)) xs (λ q w. same (suc q) w (λ e. absurd (cc (e)))))
+  each_set f h (y ∷ xs) (suc p) x v there here same =
+      ap (λ z. z ∷ each (λ i. h (suc i)) xs) (same zero y (λ e. absurd (cc (e)))) ∙ ap (λ (ys : List A). f y ∷ ys) (each_set f (λ i. h (suc i)) xs p x v there here (λ q w n. same (suc q) w (λ e. n (let k : q ≡ p = omega arith in k))))
+
+not_same : (p q : ℕ) → (p ≡ q → ⊥) → (p == q) ≡ false
+not_same p q n = ⊎_elim (λ (k : (p ≡ q) × ((p == q) ≡ true)). absurd (n k.0)) (λ (k : (p == q) ≡ false). k) (same_or p q)
+
+pub both_set : (rs : List Path) (p : ℕ) (r : Path) (s : PathState) (d : ℕ) (t : DriverState) (w : Sweep) → slice_get rs p ≡ Some r → each (path_after (Both p s d t w)) rs ≡ set (map (swept_path d w) rs) p (with_state r s)
+both_set rs p r s d t w there = each_set (swept_path d w) (path_after (Both p s d t w)) rs p r (with_state r s) there
+    (ap (λ b. cond b (with_state r s) (swept_path d w r)) (eqb_self p))
+    (λ q v n. ap (λ b. cond b (with_state v s) (swept_path d w v)) (not_same q p n))
+
+pub turn_set : (xs : List DriverState) (d : ℕ) (x t : DriverState) (w : Sweep) → slice_get xs d ≡ Some x → each (driver_after (Turns d t w)) xs ≡ set (map (λ y. y) xs) d t
+turn_set xs d x t w there = each_set (λ y. y) (driver_after (Turns d t w)) xs d x t there (ap (λ b. cond b t x) (eqb_self d)) (λ q v n. ap (λ b. cond b t v) (not_same q d n))
+
+each_none : {A : Type 0} (xs : List A) → each (λ e x. x) xs ≡ xs
+each_none [] = refl
+each_none (x ∷ xs) = ap (λ ys. x ∷ ys) (each_none xs)
+
+map_none : {A : Type 0} (xs : List A) → map (λ x. x) xs ≡ xs
+map_none [] = refl
+map_none (x ∷ xs) = ap (λ ys. x ∷ ys) (map_none xs)
+
+pub moves_after : (c : Core) (p : ℕ) (r : Path) (s : PathState) → slice_get c.paths p ≡ Some r → after c (Moves p s) ≡ with_path c p r s
+moves_after c p r s there =
+    let rows : each (path_after (Moves p s)) c.paths ≡ set (map (λ x. x) c.paths) p (with_state r s) = each_set (λ x. x) (path_after (Moves p s)) c.paths p r (with_state r s) there (ap (λ b. with_state r (cond b s r.state)) (eqb_self p)) (λ q v n. ap (λ b. with_state v (cond b s v.state)) (not_same q p n)) in
+    ap (λ (ds : List DriverState). record { workers = c.workers; drivers = ds; paths = each (path_after (Moves p s)) c.paths }) (each_none c.drivers)
+    ∙ ap (λ (rs : List Path). record { workers = c.workers; drivers = c.drivers; paths = rs }) (rows ∙ ap (λ (rs : List Path). set rs p (with_state r s)) (map_none c.paths))
+
+pub claims_some : (c : Core) (p a : ℕ) (r : Path) (raw : Option FilterCause) → slice_get c.paths p ≡ Some r → a < c.workers + length c.drivers → r.state ≡ Waiting raw → step_of c (Claim p a) ≡ Some (with_path c p r (Held a raw))
+claims_some c p a r raw there less is = ap (done c) (ap (λ (o : Option Path). elim o as (λ _. Option Effect) [ None ↦ None | Some r ↦ claim_at c p a r ]) there ∙ (ap (λ b. cond b (claim p a r.state) None) (lt-ltb a (c.workers + length c.drivers) less) ∙ ap (claim p a) is)) ∙ ap (λ x. Some x) (moves_after c p r (Held a raw) there)

@@ -1,0 +1,11 @@
+pub mod Examples
+pub mod Views
+pub mod Fates
+pub mod Runs
+pub mod Verdicts
+pub mod Picks
+pub mod Turns
+pub mod Sims
+pub mod Once
+pub mod Measure
+pub mod Progress

@@ -1,0 +1,234 @@
+-- What the laws speak of.
+use Rattle.std.specs.Prelude.{◌≡◌, ◌==◌, ◌&&◌, ◌||◌, ◌<◌, ◌≤◌, ℕ, zero, suc, ◌+◌, ◌*◌, nat_lt, Bool, true, false, not, cond, List, [], ◌∷◌, length, map, Option, Some, None, slice_get}
+use Rattle.checkout_core.specs.declared.verdict.FilterCause.{FilterCause}
+use Rattle.checkout_core.specs.declared.verdict.FilterCause.TheVariants as cause
+use Rattle.filter_words.specs.declared.reply.Reply.{Reply}
+use Rattle.filter_words.specs.declared.reply.Reply.TheVariants as reply
+use Rattle.filter_words.specs.declared.reply.ListReply.{ListReply}
+use Rattle.filter_words.specs.declared.reply.ListReply.TheVariants as list
+use Rattle.checkout_core.specs.declared.verdict.FailCause.{FailCause}
+use Rattle.checkout_core.specs.declared.verdict.FailCause.TheVariants as fail
+use Rattle.checkout_core.specs.declared.verdict.Verdict.{Verdict}
+use Rattle.checkout_core.specs.declared.verdict.Verdict.TheVariants as verdict
+use Rattle.checkout_core.specs.declared.verdict.Own.{Own}
+use Rattle.checkout_core.specs.declared.verdict.Own.TheVariants as own
+use Rattle.filter_words.specs.declared.reply.Caps.{Caps}
+use Rattle.checkout_core.specs.declared.path.Heard.{Heard}
+use Rattle.checkout_core.specs.declared.path.Heard.TheVariants as heard
+use Rattle.checkout_core.specs.declared.path.PathState.{PathState}
+use Rattle.checkout_core.specs.declared.path.PathState.TheVariants as path
+use Rattle.checkout_core.specs.declared.path.PathState.TheVariants.{Waiting, Held, Unasked, Closed}
+use Rattle.checkout_core.specs.declared.path.Start.{Start}
+use Rattle.checkout_core.specs.declared.path.Start.TheVariants.{Pool, Desk, Done}
+use Rattle.checkout_core.specs.declared.path.Path.{Path}
+use Rattle.checkout_core.specs.declared.driver.DriverState.{DriverState}
+use Rattle.checkout_core.specs.declared.driver.DriverState.TheVariants as driver
+use Rattle.checkout_core.specs.declared.event.Event.{Event}
+use Rattle.checkout_core.specs.declared.event.Event.TheVariants.{Claim, Close, Opened, OpenFailed, Answered, Named, Listed, Redone, HandBack, Shut}
+use Rattle.checkout_core.specs.Steps.{Core, replay, start, step_of, is_at, is_unasked, refused_verdict, heard_verdict, raw_verdict, write_failed, heard_opening}
+
+-- the driver's notes in a history
+abbrev pub is_of : List Start → ℕ → ℕ → Bool
+is_of starts d p = elim (slice_get starts p) [ None ↦ false | Some s ↦ is_at d s ]
+
+abbrev pub is_note : List Start → ℕ → Event → Bool
+is_note starts d (Opened e caps) = d == e
+is_note starts d (OpenFailed p o) = is_of starts d p
+is_note starts d (Answered p y) = is_of starts d p
+is_note starts d (Named p) = is_of starts d p
+is_note starts d (Listed e y) = d == e
+is_note starts d (Redone p y) = is_of starts d p
+is_note starts d (Shut e) = d == e
+is_note starts d (Claim p a) = false
+is_note starts d (Close p a o) = false
+is_note starts d (HandBack p) = false
+
+abbrev pub notes : List Start → ℕ → List Event → List Event
+notes starts d [] = []
+notes starts d (e ∷ es) = cond (is_note starts d e) (e ∷ notes starts d es) (notes starts d es)
+
+-- how often the history closes the path, and with what own outcome
+abbrev pub closing_of : ℕ → Event → ℕ
+closing_of p (Close q a o) = cond (p == q) 1 0
+closing_of p _ = 0
+
+abbrev pub closes : ℕ → List Event → ℕ
+closes p [] = 0
+closes p (e ∷ es) = closing_of p e + closes p es
+
+abbrev pub own_after : ℕ → Option Own → Event → Option Own
+own_after p o (Close q a x) = cond (p == q) (Some x) o
+own_after p o _ = o
+
+abbrev pub own_of : ℕ → Option Own → List Event → Option Own
+own_of p o [] = o
+own_of p o (e ∷ es) = own_of p (own_after p o e) es
+
+abbrev pub IsClosed : Core → ℕ → Verdict → Type 0
+IsClosed c p v = (r : Path) × (slice_get c.paths p ≡ Some r) × (r.state ≡ Closed v)
+
+abbrev pub verdict_of : PathState → Option Verdict
+verdict_of (Closed v) = Some v
+verdict_of _ = None
+
+abbrev pub verdict_at : Core → ℕ → Option Verdict
+verdict_at c p = elim (slice_get c.paths p) [ None ↦ None | Some r ↦ verdict_of r.state ]
+
+-- what the notes of a driver tell of one of its paths
+pub data Fate : Type 0 where
+  Untold : Fate
+  Later : Fate
+  Known : (h : Heard) → Fate
+
+-- what the end of a session makes of a path that was delayed in it
+abbrev pub fate_lost : Fate → Fate
+fate_lost Later = Known heard.Lost
+fate_lost f = f
+
+abbrev pub fate_wanted : Fate → Fate
+fate_wanted Later = Known heard.Wanted
+fate_wanted f = f
+
+-- an abort refuses those that weren't asked too
+abbrev pub fate_aborted : Fate → Fate
+fate_aborted Later = Known heard.Lost
+fate_aborted Untold = Known (heard.Refused cause.Abort)
+fate_aborted f = f
+
+-- a session without smudge refuses all that weren't asked
+abbrev pub fate_opened : Bool → Fate → Fate
+fate_opened false Untold = Known (heard.Refused cause.NoSmudge)
+fate_opened _ f = f
+
+-- of the path itself, and of the others
+abbrev pub fate_here : Reply → Fate
+fate_here reply.Content = Known heard.Got
+fate_here reply.Error = Known (heard.Refused cause.Error)
+fate_here reply.ErrorAfter = Known (heard.Refused cause.ErrorAfter)
+fate_here reply.Delayed = Later
+fate_here reply.Abort = Known (heard.Refused cause.Abort)
+fate_here (reply.Broken b) = Known (heard.Refused (cause.Broken b))
+fate_here reply.NoMemory = Known heard.Wanted
+
+abbrev pub fate_there : Reply → Fate → Fate
+fate_there reply.Abort f = fate_aborted f
+fate_there (reply.Broken b) f = fate_lost f
+fate_there reply.NoMemory f = fate_wanted f
+fate_there _ f = f
+
+abbrev pub fate_listed : ListReply → Fate → Fate
+fate_listed (list.Names n) f = f
+fate_listed list.Empty f = fate_lost f
+fate_listed list.Abort f = fate_aborted f
+fate_listed (list.Broken b) f = fate_lost f
+fate_listed list.NoMemory f = fate_wanted f
+
+abbrev pub fate_moves : ℕ → Event → Fate → Fate
+fate_moves p (Opened d caps) f = fate_opened caps.smudge f
+fate_moves p (OpenFailed q o) f = cond (p == q) (Known (heard_opening o)) f
+fate_moves p (Answered q y) f = cond (p == q) (fate_here y) (fate_there y f)
+fate_moves p (Redone q y) f = cond (p == q) (fate_here y) (fate_there y f)
+fate_moves p (Listed d y) f = fate_listed y f
+fate_moves p _ f = f
+
+-- what is known stays
+abbrev pub fate_after : ℕ → Fate → Event → Fate
+fate_after p (Known h) e = Known h
+fate_after p Untold e = fate_moves p e Untold
+fate_after p Later e = fate_moves p e Later
+
+abbrev pub fate_of : ℕ → Fate → List Event → Fate
+fate_of p f [] = f
+fate_of p f (e ∷ es) = fate_of p (fate_after p f e) es
+
+-- the verdict of a path, from its start, what its driver's notes tell and its own outcome
+abbrev pub pool_verdict : Own → Verdict
+pool_verdict (own.Fine u) = verdict.Written u
+pool_verdict own.WriteFailed = verdict.Failed fail.WriteFailed
+pool_verdict own.NoMemory = verdict.NoMemory
+pool_verdict (own.Object k) = verdict.Failed (fail.Object k)
+pool_verdict own.ReadFailed = verdict.Failed fail.ReadFailed
+
+abbrev pub known_verdict : Bool → Heard → Own → Verdict
+known_verdict required h (own.Fine u) = heard_verdict required h u
+known_verdict required h own.WriteFailed = write_failed h
+known_verdict required h o = pool_verdict o
+
+abbrev pub desk_verdict : Bool → Fate → Own → Verdict
+desk_verdict required (Known h) o = known_verdict required h o
+desk_verdict required Later o = pool_verdict o
+desk_verdict required Untold o = pool_verdict o
+
+-- every path is closed
+abbrev pub IsComplete : Core → Type 0
+IsComplete c = (p : ℕ) (r : Path) → slice_get c.paths p ≡ Some r → (v : Verdict) × (r.state ≡ Closed v)
+
+-- each driver that a start names is below this number
+abbrev pub AreBelow : ℕ → List Start → Type 0
+AreBelow drivers starts = (p : ℕ) (d : ℕ) (required : Bool) → slice_get starts p ≡ Some (Desk d required) → d < drivers
+
+-- the verdict of a path, from its start, its driver's notes and its own outcome
+abbrev pub verdict_from : Start → Fate → Option Own → Option Verdict
+verdict_from (Done v) f o = Some v
+verdict_from Pool f (Some w) = Some (pool_verdict w)
+verdict_from (Desk d required) f (Some w) = Some (desk_verdict required f w)
+verdict_from _ f None = None
+
+abbrev pub driver_of : Start → ℕ
+driver_of (Desk d required) = d
+driver_of _ = zero
+
+abbrev pub told_verdict : List Start → List Event → ℕ → Start → Option Verdict
+told_verdict starts history p s = verdict_from s (fate_of p Untold (notes starts (driver_of s) history)) (own_of p None history)
+
+abbrev pub is_closed : PathState → Bool
+is_closed (Closed v) = true
+is_closed s = false
+
+-- some path is not closed
+abbrev pub HasOpen : Core → Type 0
+HasOpen c = (p : ℕ) × (r : Path) × (slice_get c.paths p ≡ Some r) × (is_closed r.state ≡ false)
+
+-- the actor of an event
+abbrev pub desk_of : List Start → ℕ → ℕ → ℕ
+desk_of starts workers p = elim (slice_get starts p) [ None ↦ workers | Some s ↦ workers + driver_of s ]
+
+abbrev pub actor_of : List Start → ℕ → Event → ℕ
+actor_of starts workers (Claim p a) = a
+actor_of starts workers (Close p a o) = a
+actor_of starts workers (Opened d caps) = workers + d
+actor_of starts workers (OpenFailed p o) = desk_of starts workers p
+actor_of starts workers (Answered p y) = desk_of starts workers p
+actor_of starts workers (Named p) = desk_of starts workers p
+actor_of starts workers (Listed d y) = workers + d
+actor_of starts workers (Redone p y) = desk_of starts workers p
+actor_of starts workers (HandBack p) = desk_of starts workers p
+actor_of starts workers (Shut d) = workers + d
+
+-- the entries of an actor
+abbrev pub own_entries : List Start → ℕ → ℕ → List Event → List Event
+own_entries starts workers a [] = []
+own_entries starts workers a (e ∷ es) = cond (actor_of starts workers e == a) (e ∷ own_entries starts workers a es) (own_entries starts workers a es)
+
+-- whether a card in hand was handed back before
+abbrev pub is_ready : PathState → Bool
+is_ready (Held a (Some c)) = true
+is_ready s = false
+
+abbrev pub ready_at : Core → ℕ → Bool
+ready_at c p = elim (slice_get c.paths p) [ None ↦ false | Some r ↦ is_ready r.state ]
+
+abbrev pub is_claim : Event → Bool
+is_claim (Claim p a) = true
+is_claim e = false
+
+abbrev pub is_step : Core → Event → Bool
+is_step c e = elim (step_of c e) [ None ↦ false | Some x ↦ true ]
+
+abbrev pub AlikeCards : Core → Core → Event → Type 0
+AlikeCards c x (Close p a o) = ready_at c p ≡ ready_at x p
+AlikeCards c x e = Unit {0}
+
+-- whether an event of an actor is a step comes from what the actor itself did
+abbrev pub OwnDecides : Type 0
+OwnDecides = (starts : List Start) (workers drivers : ℕ) (history other : List Event) (x y : Core) (e : Event) → AreBelow drivers starts → replay (start starts workers drivers) history ≡ Some x → replay (start starts workers drivers) other ≡ Some y → own_entries starts workers (actor_of starts workers e) history ≡ own_entries starts workers (actor_of starts workers e) other → is_claim e ≡ false → AlikeCards x y e → is_step x e ≡ is_step y e
