@@ -1,2 +1,4 @@
 pub mod Basics
 pub mod Bridge
+pub mod Counts
+pub mod Follows

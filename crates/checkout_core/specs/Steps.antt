@@ -28,6 +28,10 @@ use Rattle.checkout_core.specs.declared.path.Path.{Path}
 use Rattle.checkout_core.specs.declared.driver.Session.{Session}
 use Rattle.checkout_core.specs.declared.driver.DriverState.{DriverState}
 use Rattle.checkout_core.specs.declared.driver.DriverState.TheVariants as driver
+pub use Rattle.checkout_core.specs.declared.effect.Sweep.{Sweep}
+pub use Rattle.checkout_core.specs.declared.effect.Sweep.TheVariants.{Keep, Lose, Want}
+pub use Rattle.checkout_core.specs.declared.effect.Effect.{Effect}
+pub use Rattle.checkout_core.specs.declared.effect.Effect.TheVariants.{Moves, Turns, Both}
 use Rattle.checkout_core.specs.declared.event.Event.{Event}
 use Rattle.checkout_core.specs.declared.event.Event.TheVariants.{Claim, Close, Opened, OpenFailed, Answered, Named, Listed, Redone, HandBack, Shut}
 
@@ -66,10 +70,14 @@ abbrev pub none_of : ℕ → (PathState → Bool) → List Path → Bool
 none_of d f [] = true
 none_of d f (r ∷ rs) = not (is_at d r.start && f r.state) && none_of d f rs
 
+-- how many paths of the driver are so
+abbrev pub path_count : ℕ → (PathState → Bool) → List Path → ℕ
+path_count d f [] = 0
+path_count d f (r ∷ rs) = cond (is_at d r.start && f r.state) 1 0 + path_count d f rs
+
 -- how many paths of the driver are listed and not asked again
 abbrev pub named_count : ℕ → List Path → ℕ
-named_count d [] = 0
-named_count d (r ∷ rs) = cond (is_at d r.start && is_named r.state) 1 0 + named_count d rs
+named_count d rs = path_count d is_named rs
 
 -- the lowest path of the driver that is unasked
 abbrev pub add_one : Option ℕ → Option ℕ
@@ -80,12 +88,6 @@ abbrev pub lowest_unasked : ℕ → List Path → Option ℕ
 lowest_unasked d [] = None
 lowest_unasked d (r ∷ rs) = cond (is_at d r.start && is_unasked r.state) (Some zero) (add_one (lowest_unasked d rs))
 
--- what a step does: a path may get a new state, and a driver may, whose later paths may be lost or wanted
-pub data Sweep : Type 0 where
-  Keep : Sweep
-  Lose : Sweep
-  Want : Sweep
-
 abbrev pub ended : Sweep → PathState → PathState
 ended Keep s = s
 ended Lose s = path.Heard heard.Lost
@@ -95,11 +97,6 @@ abbrev pub swept : Sweep → PathState → PathState
 swept w path.Delayed = ended w path.Delayed
 swept w (path.Named t) = ended w (path.Named t)
 swept w s = s
-
-pub data Effect : Type 0 where
-  Moves : (p : ℕ) (s : PathState) → Effect
-  Turns : (d : ℕ) (s : DriverState) (w : Sweep) → Effect
-  Both : (p : ℕ) (s : PathState) (d : ℕ) (t : DriverState) (w : Sweep) → Effect
 
 abbrev pub with_state : Path → PathState → Path
 with_state r s = record { start = r.start; state = s }
@@ -415,3 +412,24 @@ start starts workers drivers = record { workers = workers; drivers = offs driver
 
 abbrev pub with_path : Core → ℕ → Path → PathState → Core
 with_path c p r s = record { workers = c.workers; drivers = c.drivers; paths = slice_set c.paths p (with_state r s) }
+
+-- the verdict of a closed path
+abbrev pub verdict_of : PathState → Option Verdict
+verdict_of (Closed v) = Some v
+verdict_of _ = None
+
+abbrev pub verdict_at : Core → ℕ → Option Verdict
+verdict_at c p = elim (slice_get c.paths p) [ None ↦ None | Some r ↦ verdict_of r.state ]
+
+-- how many paths aren't closed
+abbrev pub is_closed : PathState → Bool
+is_closed (Closed v) = true
+is_closed s = false
+
+abbrev pub unclosed_count : List Path → ℕ
+unclosed_count [] = 0
+unclosed_count (r ∷ rs) = cond (is_closed r.state) 0 1 + unclosed_count rs
+
+-- each driver that a start names is below this number
+abbrev pub AreBelow : ℕ → List Start → Type 0
+AreBelow drivers starts = (p : ℕ) (d : ℕ) (required : Bool) → slice_get starts p ≡ Some (Desk d required) → d < drivers

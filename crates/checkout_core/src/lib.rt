@@ -1,12 +1,18 @@
 //! What can befall the paths of a checkout: a state machine over the events of its actors.
 #![tactic(auto)]
 
+mod card;
+mod conditions;
+mod cursor;
 mod driver;
+mod effect;
 mod event;
 mod path;
+mod state;
 mod verdict;
 
 pub use driver::{DriverState, Session};
 pub use event::{Event, OpenCause};
 pub use path::{Heard, Path, PathState, Start};
+pub use state::State;
 pub use verdict::{FailCause, FilterCause, ObjectKind, Own, SkipCause, Verdict};

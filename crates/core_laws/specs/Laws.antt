@@ -26,6 +26,7 @@ use Rattle.checkout_core.specs.declared.driver.DriverState.TheVariants as driver
 use Rattle.checkout_core.specs.declared.event.Event.{Event}
 use Rattle.checkout_core.specs.declared.event.Event.TheVariants.{Claim, Close, Opened, OpenFailed, Answered, Named, Listed, Redone, HandBack, Shut}
 use Rattle.checkout_core.specs.Steps.{Core, replay, start, step_of, is_at, is_unasked, refused_verdict, heard_verdict, raw_verdict, write_failed, heard_opening}
+pub use Rattle.checkout_core.specs.Steps.{verdict_of, verdict_at, is_closed, AreBelow}
 
 -- the driver's notes in a history
 abbrev pub is_of : List Start → ℕ → ℕ → Bool
@@ -66,13 +67,6 @@ own_of p o (e ∷ es) = own_of p (own_after p o e) es
 
 abbrev pub IsClosed : Core → ℕ → Verdict → Type 0
 IsClosed c p v = (r : Path) × (slice_get c.paths p ≡ Some r) × (r.state ≡ Closed v)
-
-abbrev pub verdict_of : PathState → Option Verdict
-verdict_of (Closed v) = Some v
-verdict_of _ = None
-
-abbrev pub verdict_at : Core → ℕ → Option Verdict
-verdict_at c p = elim (slice_get c.paths p) [ None ↦ None | Some r ↦ verdict_of r.state ]
 
 -- what the notes of a driver tell of one of its paths
 pub data Fate : Type 0 where
@@ -163,10 +157,6 @@ desk_verdict required Untold o = pool_verdict o
 abbrev pub IsComplete : Core → Type 0
 IsComplete c = (p : ℕ) (r : Path) → slice_get c.paths p ≡ Some r → (v : Verdict) × (r.state ≡ Closed v)
 
--- each driver that a start names is below this number
-abbrev pub AreBelow : ℕ → List Start → Type 0
-AreBelow drivers starts = (p : ℕ) (d : ℕ) (required : Bool) → slice_get starts p ≡ Some (Desk d required) → d < drivers
-
 -- the verdict of a path, from its start, its driver's notes and its own outcome
 abbrev pub verdict_from : Start → Fate → Option Own → Option Verdict
 verdict_from (Done v) f o = Some v
@@ -180,10 +170,6 @@ driver_of _ = zero
 
 abbrev pub told_verdict : List Start → List Event → ℕ → Start → Option Verdict
 told_verdict starts history p s = verdict_from s (fate_of p Untold (notes starts (driver_of s) history)) (own_of p None history)
-
-abbrev pub is_closed : PathState → Bool
-is_closed (Closed v) = true
-is_closed s = false
 
 -- some path is not closed
 abbrev pub HasOpen : Core → Type 0
