@@ -2,3 +2,4 @@ pub mod Basics
 pub mod Bridge
 pub mod Counts
 pub mod Follows
+pub mod Desks

@@ -336,9 +336,10 @@ impl State {
             return None;
         };
         let asked = self.all_asked(card.driver);
+        let unnamed = self.none_named(card.driver);
         let turn = self.named_count(card.driver);
         let delayed = matches!(card.path.state, PathState::Delayed);
-        if !(session.had && asked && delayed && (session.naming || turn == 0)) {
+        if !(session.had && asked && delayed && (session.naming || unnamed)) {
             return None;
         }
         Some(Effect::Both {
@@ -376,12 +377,12 @@ impl State {
         ensures same { self.new ≡ self.old }
         ensures allowed { result ≡ list_allowed self.old driver session reply }
     {
-        let named = self.named_count(driver);
         match reply {
-            ListReply::Names(count) => session.naming && count == named,
+            ListReply::Names(count) => session.naming && count == self.named_count(driver),
             _ => {
                 let asked = self.all_asked(driver);
-                session.had && !session.naming && asked && named == 0
+                let unnamed = self.none_named(driver);
+                session.had && !session.naming && asked && unnamed
             }
         }
     }

@@ -1,5 +1,5 @@
 ghost use Rattle.std.specs.Prelude.{◌≡◌, ◌==◌, ◌+◌, ◌<◌, ◌≤◌, ◌^◌, ◌&&◌, nat_lt, length, ℕ, true, false, IsTrue, slice_get, Some, MatchOption, IfSome};
-ghost use Rattle.checkout_core.specs.Steps.{Core, verdict_at, unclosed_count, is_at, is_unasked, lowest_unasked, none_below, none_of, named_count, is_named_below};
+ghost use Rattle.checkout_core.specs.Steps.{Core, verdict_at, unclosed_count, is_at, is_unasked, lowest_unasked, none_below, none_of, named_count, is_named, is_named_below};
 ghost use Rattle.checkout_core.specs.Cursors.{IsSound, asks, IsCursor, NamedThere, HoldsAt};
 ghost use Rattle.checkout_core.specs.declared.path.Path.{Path};
 
@@ -162,6 +162,14 @@ impl State {
         ensures { result ≡ named_count driver self.now.paths }
     {
         self.cursor(driver).named
+    }
+
+    /// Whether none of the driver's paths is named.
+    pub(crate) fn none_named(&self, driver: u32) -> bool
+        requires { driver < length self.now.drivers }
+        ensures { result ≡ none_of driver is_named self.now.paths }
+    {
+        self.named_count(driver) == 0
     }
 
     /// Whether no path of the driver is named at a lower turn than this path.
