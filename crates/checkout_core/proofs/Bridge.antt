@@ -7,9 +7,10 @@ use Rattle.checkout_core.specs.declared.driver.DriverState.{DriverState}
 use Rattle.checkout_core.specs.declared.verdict.FilterCause.{FilterCause}
 use Rattle.std.specs.Prelude.{length, ◌<◌}
 use Rattle.std.proofs.lemmas.Bool.{lt-ltb}
-use Rattle.checkout_core.specs.declared.path.PathState.TheVariants.{Waiting, Held}
+use Rattle.checkout_core.specs.declared.path.PathState.TheVariants as path
+use Rattle.checkout_core.specs.declared.path.PathState.TheVariants.{Waiting, Held, Unasked, Closed}
 use Rattle.checkout_core.specs.declared.event.Event.TheVariants.{Claim}
-use Rattle.checkout_core.specs.Steps.{Core, after, done, step_of, claim_at, claim, with_path, Effect, Moves, Turns, Both, Sweep, each, path_after, driver_after, with_state, swept_path}
+use Rattle.checkout_core.specs.Steps.{Core, after, done, step_of, claim_at, claim, with_path, Effect, Moves, Turns, Both, Sweep, each, path_after, driver_after, with_state, swept_path, swept, Keep, is_at}
 use Rattle.checkout_core.proofs.Basics.{none_is_some, some_is, eqb_self, same_or}
 
 module _ {A : Type 0} where
@@ -35,13 +36,65 @@ both_set rs p r s d t w there = each_set (swept_path d w) (path_after (Both p s 
 pub turn_set : (xs : List DriverState) (d : ℕ) (x t : DriverState) (w : Sweep) → slice_get xs d ≡ Some x → each (driver_after (Turns d t w)) xs ≡ set (map (λ y. y) xs) d t
 turn_set xs d x t w there = each_set (λ y. y) (driver_after (Turns d t w)) xs d x t there (ap (λ b. cond b t x) (eqb_self d)) (λ q v n. ap (λ b. cond b t v) (not_same q d n))
 
-each_none : {A : Type 0} (xs : List A) → each (λ e x. x) xs ≡ xs
+pub each_none : {A : Type 0} (xs : List A) → each (λ e x. x) xs ≡ xs
 each_none [] = refl
 each_none (x ∷ xs) = ap (λ ys. x ∷ ys) (each_none xs)
 
-map_none : {A : Type 0} (xs : List A) → map (λ x. x) xs ≡ xs
+pub map_none : {A : Type 0} (xs : List A) → map (λ x. x) xs ≡ xs
 map_none [] = refl
 map_none (x ∷ xs) = ap (λ ys. x ∷ ys) (map_none xs)
+
+pub swept_keep : (s : PathState) → swept Keep s ≡ s
+swept_keep path.Delayed = refl
+swept_keep (path.Named t) = refl
+swept_keep Unasked = refl
+swept_keep (path.Heard h) = refl
+swept_keep (Waiting raw) = refl
+swept_keep (Held a raw) = refl
+swept_keep (Closed v) = refl
+
+kept_path : (d : ℕ) (r : Path) → swept_path d Keep r ≡ r
+kept_path d r = ap (λ s. with_state r s) (go (is_at d r.start))
+  where
+    go : (b : Bool) → cond b (swept Keep r.state) r.state ≡ r.state
+    go true = swept_keep r.state
+    go false = refl
+
+pub kept_paths : (d : ℕ) (rs : List Path) → map (swept_path d Keep) rs ≡ rs
+kept_paths d [] = refl
+kept_paths d (r ∷ rs) = ap (λ (x : Path). x ∷ map (swept_path d Keep) rs) (kept_path d r) ∙ ap (λ (xs : List Path). r ∷ xs) (kept_paths d rs)
+
+-- a driver turns: each of its paths is swept
+pub turned_paths : (d : ℕ) (t : DriverState) (w : Sweep) (rs : List Path) → each (path_after (Turns d t w)) rs ≡ map (swept_path d w) rs
+turned_paths d t w rs = each_map (swept_path d w) (path_after (Turns d t w)) rs (λ q r. refl)
+
+swept_twice : (d : ℕ) (w : Sweep) (r : Path) → swept_path d w (swept_path d Keep r) ≡ swept_path d w r
+swept_twice d w r = ap (swept_path d w) (kept_path d r)
+
+-- the driver turns first, and its paths are swept then
+pub turn_swept : (c : Core) (d : ℕ) (t : DriverState) (w : Sweep) → record { workers = c.workers; drivers = (after c (Turns d t Keep)).drivers; paths = map (swept_path d w) (after c (Turns d t Keep)).paths } ≡ after c (Turns d t w)
+turn_swept c d t w = ap (λ (rs : List Path). record { workers = c.workers; drivers = each (driver_after (Turns d t w)) c.drivers; paths = rs })
+    (ap (map (swept_path d w)) (turned_paths d t Keep c.paths ∙ kept_paths d c.paths) ∙ sym (turned_paths d t w c.paths))
+
+map_each : (f : Path → Path) (h : ℕ → Path → Path) (rs : List Path) → map f (each h rs) ≡ each (λ q r. f (h q r)) rs
+map_each f h [] = refl
+map_each f h (r ∷ rs) = ap (λ (xs : List Path). f (h zero r) ∷ xs) (map_each f (λ q. h (suc q)) rs)
+
+each_same : (g h : ℕ → Path → Path) (rs : List Path) → ((q : ℕ) (r : Path) → g q r ≡ h q r) → each g rs ≡ each h rs
+each_same g h [] same = refl
+each_same g h (r ∷ rs) same = ap (λ (x : Path). x ∷ each (λ i. g (suc i)) rs) (same zero r) ∙ ap (λ (xs : List Path). h zero r ∷ xs) (each_same (λ i. g (suc i)) (λ i. h (suc i)) rs (λ q w. same (suc q) w))
+
+-- the path and the driver move first
+pub both_swept : (c : Core) (p : ℕ) (s : PathState) (d : ℕ) (t : DriverState) (w : Sweep) → swept w s ≡ s → record { workers = c.workers; drivers = (after c (Both p s d t Keep)).drivers; paths = map (swept_path d w) (after c (Both p s d t Keep)).paths } ≡ after c (Both p s d t w)
+both_swept c p s d t w stays = ap (λ (rs : List Path). record { workers = c.workers; drivers = each (driver_after (Both p s d t w)) c.drivers; paths = rs })
+    (map_each (swept_path d w) (path_after (Both p s d t Keep)) c.paths ∙ each_same (λ q r. swept_path d w (path_after (Both p s d t Keep) q r)) (path_after (Both p s d t w)) c.paths (λ q r. go r (q == p)))
+  where
+    same : (r : Path) (b : Bool) → cond b (swept w s) s ≡ s
+    same r true = stays
+    same r false = refl
+    go : (r : Path) (b : Bool) → swept_path d w (cond b (with_state r s) (swept_path d Keep r)) ≡ cond b (with_state r s) (swept_path d w r)
+    go r true = ap (λ z. with_state r z) (same r (is_at d r.start))
+    go r false = swept_twice d w r
 
 pub moves_after : (c : Core) (p : ℕ) (r : Path) (s : PathState) → slice_get c.paths p ≡ Some r → after c (Moves p s) ≡ with_path c p r s
 moves_after c p r s there =

@@ -3,3 +3,4 @@ pub mod Bridge
 pub mod Counts
 pub mod Follows
 pub mod Desks
+pub mod Changes

@@ -1,5 +1,5 @@
 -- What is kept of each driver's paths beside them, so that a step needs no look at all of them.
-use Rattle.std.specs.Prelude.{◌≡◌, ◌==◌, ◌&&◌, ◌||◌, ◌<◌, ◌≤◌, ◌^◌, ℕ, ◌+◌, nat_lt, nat_le, Bool, true, false, not, cond, List, length, Some, slice_get}
+use Rattle.std.specs.Prelude.{◌≡◌, ◌==◌, ◌&&◌, ◌||◌, ◌<◌, ◌≤◌, ◌^◌, ℕ, ◌+◌, nat_lt, nat_le, min, max, ◌-◌, map, Bool, true, false, not, cond, List, length, Some, slice_get}
 use Rattle.checkout_core.specs.declared.path.PathState.{PathState}
 use Rattle.checkout_core.specs.declared.path.PathState.TheVariants as path
 use Rattle.checkout_core.specs.declared.path.PathState.TheVariants.{Unasked}
@@ -7,7 +7,7 @@ use Rattle.checkout_core.specs.declared.path.Path.{Path}
 use Rattle.checkout_core.specs.declared.driver.DriverState.{DriverState}
 use Rattle.checkout_core.specs.declared.driver.DriverState.TheVariants as driver
 use Rattle.checkout_core.specs.declared.cursor.Cursor.{Cursor}
-use Rattle.checkout_core.specs.Steps.{Core, Effect, Moves, Turns, Both, swept, is_at, is_unasked, is_named, is_named_below, is_closed, none_of, path_count, named_count, unclosed_count}
+use Rattle.checkout_core.specs.Steps.{Core, Effect, Moves, Turns, Both, Sweep, swept, swept_path, is_at, is_unasked, is_named, is_named_below, is_closed, none_of, path_count, named_count, unclosed_count}
 
 abbrev pub is_pending : PathState → Bool
 is_pending path.Delayed = true
@@ -33,13 +33,16 @@ HoldsAt f paths p = (r : Path) × (slice_get paths p ≡ Some r) × (f r ≡ tru
 abbrev pub NamedThere : Core → ℕ → ℕ → ℕ → Type 0
 NamedThere c p d t = (r : Path) × (slice_get c.paths p ≡ Some r) × (is_at d r.start ≡ true) × (r.state ≡ path.Named t)
 
+-- the driver's delayed and named paths lie from `first` on, before `end`
+abbrev pub IsWithin : List Path → ℕ → ℕ → ℕ → Type 0
+IsWithin paths d first end = (p : ℕ) (r : Path) → slice_get paths p ≡ Some r → is_at d r.start ≡ true → is_pending r.state ≡ true → (first ≤ p) × (p < end)
+
 -- the cursor of the driver d follows its paths
 pub record Follows (paths : List Path) (naming : Bool) (d : ℕ) (k : Cursor) : Type 0 where
   -- no path below this one is unasked
   pub unasked : (p : ℕ) (r : Path) → slice_get paths p ≡ Some r → is_at d r.start ≡ true → is_unasked r.state ≡ true → k.unasked ≤ p
   pub unasked_fits : k.unasked ≤ length paths
-  -- the delayed and the named lie from `first` on, before `end`
-  pub pending : (p : ℕ) (r : Path) → slice_get paths p ≡ Some r → is_at d r.start ≡ true → is_pending r.state ≡ true → (k.first ≤ p) × (p < k.end)
+  pub pending : IsWithin paths d k.first k.end
   pub end_fits : k.end ≤ length paths
   pub named : named_count d paths ≡ k.named
   -- one path is named at each turn from `turn` on
@@ -80,3 +83,35 @@ abbrev pub IsFollowable : Core → Effect → Type 0
 IsFollowable c (Moves p s) = (r : Path) × (slice_get c.paths p ≡ Some r) × (settles r.state s ≡ true)
 IsFollowable c (Turns d t w) = (x : DriverState) × (slice_get c.drivers d ≡ Some x) × (is_naming t ≡ false)
 IsFollowable c (Both p s d t w) = (r : Path) × (x : DriverState) × (slice_get c.paths p ≡ Some r) × (is_at d r.start ≡ true) × (slice_get c.drivers d ≡ Some x) × (swept w s ≡ s) × (advances (named_count d c.paths) (is_naming x) (is_naming t) (λ u. none_of d (is_named_below u) c.paths) r.state s ≡ true)
+
+-- the cursor after one of the driver's paths advanced
+abbrev pub delayed_after : Cursor → ℕ → Cursor
+delayed_after k p = cond (nat_lt k.first k.end)
+    (record { unasked = k.unasked; first = min k.first p; end = max k.end (p + 1); named = k.named; turn = k.turn })
+    (record { unasked = k.unasked; first = p; end = p + 1; named = k.named; turn = k.turn })
+
+abbrev pub named_after : Cursor → Cursor
+named_after k = record { unasked = k.unasked; first = k.first; end = k.end; named = k.named + 1; turn = 0 }
+
+abbrev pub redone_after : Cursor → Cursor
+redone_after k = record { unasked = k.unasked; first = k.first; end = k.end; named = k.named - 1; turn = k.turn + 1 }
+
+abbrev pub cursor_after : Cursor → ℕ → PathState → PathState → Cursor
+cursor_after k p Unasked path.Delayed = delayed_after k p
+cursor_after k p path.Delayed (path.Named t) = named_after k
+cursor_after k p (path.Named t) (path.Heard h) = redone_after k
+cursor_after k p _ _ = k
+
+-- it fits its numbers
+abbrev pub CanFollow : Cursor → ℕ → PathState → PathState → Type 0
+CanFollow k p Unasked path.Delayed = p + 1 < 2 ^ 32
+CanFollow k p path.Delayed (path.Named t) = k.named + 1 < 2 ^ 32
+CanFollow k p (path.Named t) (path.Heard h) = (1 ≤ k.named) × (k.turn + 1 < 2 ^ 32)
+CanFollow k p _ _ = Unit {0}
+
+-- all paths of the driver are swept
+abbrev pub swept_paths : ℕ → Sweep → List Path → List Path
+swept_paths d w rs = map (λ r. swept_path d w r) rs
+
+abbrev pub all_swept : ℕ → Sweep → Core → Core
+all_swept d w c = record { workers = c.workers; drivers = c.drivers; paths = swept_paths d w c.paths }

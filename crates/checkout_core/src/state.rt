@@ -3,6 +3,8 @@ ghost use Rattle.checkout_core.specs.Steps.{Core, verdict_at, unclosed_count, is
 ghost use Rattle.checkout_core.specs.Cursors.{IsSound, asks, IsCursor, NamedThere, HoldsAt};
 ghost use Rattle.checkout_core.specs.declared.path.Path.{Path};
 
+mod apply;
+
 use crate::cursor::Cursor;
 use crate::driver::DriverState;
 use crate::path::{Path, PathState, Start};
