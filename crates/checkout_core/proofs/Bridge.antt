@@ -14,7 +14,7 @@ use Rattle.checkout_core.specs.Steps.{Core, after, done, step_of, claim_at, clai
 use Rattle.checkout_core.proofs.Basics.{none_is_some, some_is, eqb_self, same_or}
 
 module _ {A : Type 0} where
-  each_map : (f : A → A) (h : ℕ → A → A) (xs : List A) → ((q : ℕ) (w : A) → h q w ≡ f w) → each h xs ≡ map f xs
+  pub each_map : (f : A → A) (h : ℕ → A → A) (xs : List A) → ((q : ℕ) (w : A) → h q w ≡ f w) → each h xs ≡ map f xs
   each_map f h [] same = refl
   each_map f h (x ∷ xs) same = ap (λ y. y ∷ each (λ i. h (suc i)) xs) (same zero x) ∙ ap (λ (ys : List A). f x ∷ ys) (each_map f (λ i. h (suc i)) xs (λ q w. same (suc q) w))
 
@@ -104,3 +104,19 @@ moves_after c p r s there =
 
 pub claims_some : (c : Core) (p a : ℕ) (r : Path) (raw : Option FilterCause) → slice_get c.paths p ≡ Some r → a < c.workers + length c.drivers → r.state ≡ Waiting raw → step_of c (Claim p a) ≡ Some (with_path c p r (Held a raw))
 claims_some c p a r raw there less is = ap (done c) (ap (λ (o : Option Path). elim o as (λ _. Option Effect) [ None ↦ None | Some r ↦ claim_at c p a r ]) there ∙ (ap (λ b. cond b (claim p a r.state) None) (lt-ltb a (c.workers + length c.drivers) less) ∙ ap (claim p a) is)) ∙ ap (λ x. Some x) (moves_after c p r (Held a raw) there)
+
+-- one place of a list changes
+module _ {A : Type 0} where
+  pub each_alike : (g h : ℕ → A → A) (xs : List A) → ((q : ℕ) (x : A) → slice_get xs q ≡ Some x → g q x ≡ h q x) → each g xs ≡ each h xs
+  each_alike g h [] same = refl
+  each_alike g h (x ∷ xs) same = ap (λ y. y ∷ each (λ i. g (suc i)) xs) (same zero x refl) ∙ ap (λ (ys : List A). h zero x ∷ ys) (each_alike (λ i. g (suc i)) (λ i. h (suc i)) xs (λ q w e. same (suc q) w e))
+
+  pub each_step : (g h : ℕ → A → A) (xs : List A) (p : ℕ) (x v : A) → slice_get xs p ≡ Some x → h p x ≡ v → ((q : ℕ) (w : A) → (q ≡ p → ⊥) → h q w ≡ g q w) → set (each g xs) p v ≡ each h xs
+  each_step g h [] p x v there here same = none_is_some there
+  each_step g h (y ∷ xs) zero x v there here same =
+      sym (ap (λ z. z ∷ each (λ i. h (suc i)) xs) (ap (h zero) (some_is y x there) ∙ here) ∙ ap (λ (ys : List A). v ∷ ys) (each_alike (λ i. h (suc i)) (λ i. g (suc i)) xs (λ q w e. same (suc q) w (λ e. absurd (cc (e))))))
+  each_step g h (y ∷ xs) (suc p) x v there here same =
+      ap (λ z. z ∷ set (each (λ i. g (suc i)) xs) p v) (sym (same zero y (λ e. absurd (cc (e))))) ∙ ap (λ (ys : List A). h zero y ∷ ys) (each_step (λ i. g (suc i)) (λ i. h (suc i)) xs p x v there here (λ q w n. same (suc q) w (λ e. n (let k : q ≡ p = omega arith in k))))
+
+  pub each_nothing : (g : ℕ → A → A) (xs : List A) → ((q : ℕ) (x : A) → slice_get xs q ≡ Some x → g q x ≡ x) → xs ≡ each g xs
+  each_nothing g xs same = sym (each_none xs) ∙ each_alike (λ q x. x) g xs (λ q x e. sym (same q x e))

@@ -4,3 +4,4 @@ pub mod Counts
 pub mod Follows
 pub mod Desks
 pub mod Changes
+pub mod Sweeps
