@@ -120,3 +120,7 @@ module _ {A : Type 0} where
 
   pub each_nothing : (g : ℕ → A → A) (xs : List A) → ((q : ℕ) (x : A) → slice_get xs q ≡ Some x → g q x ≡ x) → xs ≡ each g xs
   each_nothing g xs same = sym (each_none xs) ∙ each_alike (λ q x. x) g xs (λ q x e. sym (same q x e))
+
+  pub length_each : (g : ℕ → A → A) (xs : List A) → length (each g xs) ≡ length xs
+  length_each g [] = refl
+  length_each g (x ∷ xs) = ap suc (length_each (λ i. g (suc i)) xs)

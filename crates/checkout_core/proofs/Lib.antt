@@ -5,3 +5,6 @@ pub mod Follows
 pub mod Desks
 pub mod Changes
 pub mod Sweeps
+pub mod Applies
+pub mod Inverses
+pub mod Followable

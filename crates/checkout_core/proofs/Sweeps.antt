@@ -77,10 +77,6 @@ sweep_ends rs d w first end at within le =
     go q r there true l = refl
     go q r there false l = sym (unswept d w r (λ i j. let x = within q r there i j in let y = ltb-false q at l in let z = x.1 in absurd (omega arith)))
 
-pub length_each : (g : ℕ → Path → Path) (rs : List Path) → length (each g rs) ≡ length rs
-length_each g [] = refl
-length_each g (r ∷ rs) = ap suc (length_each (λ i. g (suc i)) rs)
-
 -- where nothing lies, nothing is swept
 pub sweep_empty : (rs : List Path) (d : ℕ) (w : Sweep) (first end : ℕ) → IsWithin rs d first end → end ≤ first → rs ≡ swept_paths d w rs
 sweep_empty rs d w first end within le = sweep_begins rs d w first end within ∙ sweep_ends rs d w first end first within le

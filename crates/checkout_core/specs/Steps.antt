@@ -433,3 +433,7 @@ unclosed_count (r ∷ rs) = cond (is_closed r.state) 0 1 + unclosed_count rs
 -- each driver that a start names is below this number
 abbrev pub AreBelow : ℕ → List Start → Type 0
 AreBelow drivers starts = (p : ℕ) (d : ℕ) (required : Bool) → slice_get starts p ≡ Some (Desk d required) → d < drivers
+
+-- the event at this place is the first that is no step, and x is the state before it
+abbrev pub StopsAt : Core → List Event → Core → ℕ → Type 0
+StopsAt c es x n = (replay c (take n es) ≡ Some x) × (e : Event) × (slice_get es n ≡ Some e) × (step_of x e ≡ None)

@@ -9,10 +9,12 @@ mod effect;
 mod event;
 mod path;
 mod state;
+mod steps;
 mod verdict;
 
 pub use driver::{DriverState, Session};
 pub use event::{Event, OpenCause};
 pub use path::{Heard, Path, PathState, Start};
 pub use state::State;
+pub use steps::{Refused, replay, step};
 pub use verdict::{FailCause, FilterCause, ObjectKind, Own, SkipCause, Verdict};

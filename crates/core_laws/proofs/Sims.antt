@@ -26,7 +26,9 @@ use Rattle.checkout_core.specs.Steps.{none_of, Core, Effect, Moves, Turns, Both,
 use Rattle.core_laws.specs.Laws.{is_of, is_note, notes, own_after, AreBelow}
 use Rattle.core_laws.specs.Talks.{Round, Talk, Between, Refusing, InRound, Ended, talk_step, in_session, ask, answered, opened, name, list_end, list_may, redone, ask_again, is_talk, is_empty, contains, without, talk_paths, skipped, skips, to_ask}
 use Rattle.checkout_core.proofs.Basics.{none_is_some, some_is, eqb_self, get_each, each_is, start_after, step_is, first_step, same_row, same_desk, same_or, AtBoth, at_both_is, at_path_is, at_driver_is, at_session_is, given_is, cond_is, cond_not, desk_is, required_is}
-use Rattle.core_laws.proofs.Views.{View, Same, Claimed, HandedBack, ClosedHeld, ClosedTold, ClosedUnasked, SeesOpened, NotOpened, OtherNotOpened, IsAnswered, OtherAnswered, IsRedone, OtherRedone, IsNamed, OtherNamed, SeesListed, SeesShut, Begun, Scene, see, Kept, Sane, sits, is_sane, not_false, here, there, turned, move_here, move_there, swept_keep, is_of_is, at_it, at_other, eqb_swap, none_says, unasked_is, late_is, off_is, redo_is, open_is, claim_is, back_is, close_moves}
+use Rattle.core_laws.proofs.Views.{View, Same, Claimed, HandedBack, ClosedHeld, ClosedTold, ClosedUnasked, SeesOpened, NotOpened, OtherNotOpened, IsAnswered, OtherAnswered, IsRedone, OtherRedone, IsNamed, OtherNamed, SeesListed, SeesShut, Begun, Scene, see, Kept, Sane, sits, is_sane, here, there, turned, move_here, move_there, is_of_is, at_it, at_other, eqb_swap, none_says}
+use Rattle.checkout_core.proofs.Inverses.{not_false, unasked_is, late_is, off_is, redo_is, open_is, claim_is, back_is, close_moves}
+use Rattle.checkout_core.proofs.Bridge.{swept_keep}
 use Rattle.core_laws.proofs.Runs.{Good, good_step, unasked_replied}
 use Rattle.core_laws.proofs.Picks.{picks_none, picks_some, taken, rest_same, rest_first, view_of, at_says, first_stays, asked_stays}
 use Rattle.core_laws.proofs.Verdicts.{good_start, get_offs, map_get}
