@@ -1,9 +1,8 @@
 -- What a step is made of.
-use Rattle.std.proofs.Common.{◌≡◌, ◌≢◌, ◌==◌, ℕ, zero, suc, ◌+◌, ◌≤◌, ◌⊎◌, inl, inr, ⊎_elim, Bool, true, false, cond, List, [], ◌∷◌, Option, Some, None, refl, sym, ap, ◌∙◌, subst, arith, eqb, eq-eqb, ne_eqb}
-use Rattle.std.specs.Prelude.{slice_get, ◌&&◌, not}
+use Rattle.std.proofs.Common.{◌≡◌, ◌==◌, ℕ, zero, suc, ◌⊎◌, inl, inr, Bool, true, false, cond, List, [], ◌∷◌, Option, Some, None, refl, sym, ap, ◌∙◌, eq-eqb, ne_eqb}
+use Rattle.std.specs.Prelude.{slice_get}
 use mathlib.Core.Logic.{dite}
 use native.Mathlib.Decide.{ℕ_discrete}
-use Rattle.checkout_core.specs.declared.path.PathState.{PathState}
 use Rattle.checkout_core.specs.declared.path.Start.{Start}
 use Rattle.checkout_core.specs.declared.path.Start.TheVariants.{Pool, Desk, Done}
 use Rattle.checkout_core.specs.declared.path.Path.{Path}
@@ -11,7 +10,7 @@ use Rattle.checkout_core.specs.declared.driver.Session.{Session}
 use Rattle.checkout_core.specs.declared.driver.DriverState.{DriverState}
 use Rattle.checkout_core.specs.declared.driver.DriverState.TheVariants as driver
 use Rattle.checkout_core.specs.declared.event.Event.{Event}
-use Rattle.checkout_core.specs.Steps.{Core, Effect, step_of, effect_of, after, done, each, given, at_path, at_driver, of_driver, at_session, at_both, is_at, Moves, Turns, Both, Sweep, with_state, swept_path, path_after, driver_after, replay}
+use Rattle.checkout_core.specs.Steps.{Core, Effect, step_of, effect_of, after, done, each, given, at_path, at_driver, of_driver, at_session, at_both, Moves, Turns, Both, with_state, swept_path, path_after, replay}
 
 module _ {A : Type 0} where
   pub get_each : (f : ℕ → A → A) (xs : List A) (i : ℕ) (a : A) → slice_get xs i ≡ Some a → slice_get (each f xs) i ≡ Some (f i a)

@@ -1,5 +1,5 @@
 -- An effect, as code makes it: a place is set, and a loop goes over all.
-use Rattle.std.proofs.Common.{◌≡◌, ◌==◌, ℕ, zero, suc, ◌+◌, ◌⊎◌, inl, inr, ⊎_elim, Bool, true, false, cond, List, [], ◌∷◌, map, set, Option, Some, None, refl, sym, ap, ◌∙◌, subst, eq-eqb, arith}
+use Rattle.std.proofs.Common.{◌≡◌, ◌==◌, ℕ, zero, suc, ◌+◌, ⊎_elim, Bool, true, false, cond, List, [], ◌∷◌, map, set, Option, Some, None, refl, sym, ap, ◌∙◌, arith}
 use Rattle.std.specs.Prelude.{slice_get}
 use Rattle.checkout_core.specs.declared.path.PathState.{PathState}
 use Rattle.checkout_core.specs.declared.path.Path.{Path}
@@ -92,6 +92,7 @@ both_swept c p s d t w stays = ap (λ (rs : List Path). record { workers = c.wor
     same : (r : Path) (b : Bool) → cond b (swept w s) s ≡ s
     same r true = stays
     same r false = refl
+
     go : (r : Path) (b : Bool) → swept_path d w (cond b (with_state r s) (swept_path d Keep r)) ≡ cond b (with_state r s) (swept_path d w r)
     go r true = ap (λ z. with_state r z) (same r (is_at d r.start))
     go r false = swept_twice d w r

@@ -1,12 +1,12 @@
 -- How many paths of a driver pass a test, and which is the lowest.
-use Rattle.std.proofs.Common.{◌≡◌, ◌≢◌, ◌==◌, ℕ, zero, suc, ◌+◌, ◌<◌, ◌≤◌, ◌⊎◌, inl, inr, ⊎_elim, Bool, true, false, cond, List, [], ◌∷◌, length, set, Option, Some, None, refl, sym, ap, ◌∙◌, subst, eq-eqb, ne_eqb, arith}
-use Rattle.std.specs.Prelude.{slice_get, ◌&&◌, ◌||◌, not, take, nat_lt, is_none}
-use Rattle.std.proofs.lemmas.Bool.{and_parts, and_from, cases_Bool, lt-ltb, ltb-true, ltb-false, le-ltb, not-true}
+use Rattle.std.proofs.Common.{◌≡◌, ◌==◌, ℕ, zero, suc, ◌+◌, ◌<◌, ◌≤◌, ◌⊎◌, inl, inr, Bool, true, false, cond, List, [], ◌∷◌, length, set, Option, Some, None, refl, sym, ap, ◌∙◌, subst, eq-eqb, ne_eqb, arith}
+use Rattle.std.specs.Prelude.{slice_get, ◌&&◌, not, take, nat_lt, is_none}
+use Rattle.std.proofs.lemmas.Bool.{and_parts, and_from, lt-ltb, ltb-true, not-true}
 use Rattle.checkout_core.specs.declared.path.PathState.{PathState}
 use Rattle.checkout_core.specs.declared.path.PathState.TheVariants as path
 use Rattle.checkout_core.specs.declared.path.PathState.TheVariants.{Waiting, Held, Unasked, Closed}
 use Rattle.checkout_core.specs.declared.path.Path.{Path}
-use Rattle.checkout_core.specs.Steps.{is_at, is_unasked, is_named, is_named_below, is_closed, none_of, path_count, unclosed_count, lowest_unasked, add_one, with_state}
+use Rattle.checkout_core.specs.Steps.{is_at, is_unasked, is_named, is_named_below, is_closed, none_of, path_count, unclosed_count, lowest_unasked, add_one}
 use Rattle.checkout_core.specs.Cursors.{asks, is_named_at}
 use Rattle.checkout_core.proofs.Basics.{none_is_some, some_is}
 
@@ -41,7 +41,7 @@ count_set d f [] p r v e = none_is_some e
 count_set d f (x ∷ xs) zero r v e =
     let one : x ≡ r = some_is x r e in
     subst (λ (y : Path). (num (is_at d v.start && f v.state) + path_count d f xs) + num (is_at d y.start && f y.state) ≡ (num (is_at d x.start && f x.state) + path_count d f xs) + num (is_at d v.start && f v.state)) one
-      (swap (num (is_at d v.start && f v.state)) (path_count d f xs) (num (is_at d x.start && f x.state)))
+    (swap (num (is_at d v.start && f v.state)) (path_count d f xs) (num (is_at d x.start && f x.state)))
   where
     swap : (a b c : ℕ) → (a + b) + c ≡ (c + b) + a
     swap a b c = omega arith
@@ -56,7 +56,7 @@ unclosed_set [] p r v e = none_is_some e
 unclosed_set (x ∷ xs) zero r v e =
     let one : x ≡ r = some_is x r e in
     subst (λ (y : Path). (cond (is_closed v.state) 0 1 + unclosed_count xs) + cond (is_closed y.state) 0 1 ≡ (cond (is_closed x.state) 0 1 + unclosed_count xs) + cond (is_closed v.state) 0 1) one
-      (swap (cond (is_closed v.state) 0 1) (unclosed_count xs) (cond (is_closed x.state) 0 1))
+    (swap (cond (is_closed v.state) 0 1) (unclosed_count xs) (cond (is_closed x.state) 0 1))
   where
     swap : (a b c : ℕ) → (a + b) + c ≡ (c + b) + a
     swap a b c = omega arith
@@ -90,6 +90,7 @@ count_none d f (x ∷ xs) none =
     go : (b : Bool) → is_at d x.start ≡ b → num (is_at d x.start && f x.state) ≡ 0
     go true i = ap (λ b. num (b && f x.state)) i ∙ ap num (none zero x refl i)
     go false i = ap (λ b. num (b && f x.state)) i
+
     both : (a b : ℕ) → a ≡ 0 → b ≡ 0 → a + b ≡ 0
     both a b i j = omega arith
 
@@ -102,12 +103,15 @@ count_length d f (x ∷ xs) zero r e n =
     go : (a b : Bool) → b ≡ false → num (a && b) ≡ 0
     go true b i = ap num i
     go false b i = refl
+
     small : (b : Bool) → num b ≤ 1
     small true = omega arith
     small false = omega arith
+
     count_most : (ys : List Path) → path_count d f ys ≤ length ys
     count_most [] = omega arith
     count_most (y ∷ ys) = let s = small (is_at d y.start && f y.state) in let t = count_most ys in omega (arith, s, t)
+
     less : (a b c : ℕ) → a ≡ 0 → b ≤ c → a + b < suc c
     less a b c i j = omega arith
 count_length d f (x ∷ xs) (suc p) r e n =
@@ -116,6 +120,7 @@ count_length d f (x ∷ xs) (suc p) r e n =
     small : (b : Bool) → num b ≤ 1
     small true = omega arith
     small false = omega arith
+
     more : (a b c : ℕ) → a ≤ 1 → b < c → a + b < suc c
     more a b c i j = omega arith
 
@@ -163,7 +168,7 @@ next_lowest d [] p r e at = none_is_some e
 next_lowest d (x ∷ xs) zero r e at =
     let one : x ≡ r = some_is x r e in
     subst (λ (y : Path). holds_number zero (cond (is_at d x.start && is_unasked x.state) (Some zero) (add_one (lowest_unasked d xs))) ≡ (is_unasked y.state && true)) one
-      (go (is_at d x.start) (is_unasked x.state) (lowest_unasked d xs) (ap (λ (y : Path). is_at d y.start) one ∙ at))
+    (go (is_at d x.start) (is_unasked x.state) (lowest_unasked d xs) (ap (λ (y : Path). is_at d y.start) one ∙ at))
   where
     go : (a b : Bool) (o : Option ℕ) → a ≡ true → holds_number zero (cond (a && b) (Some zero) (add_one o)) ≡ (b && true)
     go true true o i = refl
@@ -189,9 +194,11 @@ none_count d t u (x ∷ xs) less none =
   where
     both : (a b : ℕ) → a ≡ 0 → b ≡ 0 → a + b ≡ 0
     both a b i j = omega arith
+
     at : (v : ℕ) → (b : Bool) → (u == v) ≡ b → nat_lt v t ≡ false → num b ≡ 0
     at v true e n = let k : u ≡ v = grind (arith, e) in let z = lt-ltb v t (subst (λ (y : ℕ). y < t) k less) in absurd (cc (z, n))
     at v false e n = refl
+
     go : (a : Bool) (s : PathState) → (a && is_named_below t s) ≡ false → num (a && is_named_at u s) ≡ 0
     go false s n = refl
     go true (path.Named v) n = at v (u == v) refl n
@@ -208,13 +215,17 @@ none_false d t (x ∷ xs) none = go (λ n. rest (none_false d t xs n)) (is_at d 
   where
     more : (a b : ℕ) → 1 ≤ b → 1 ≤ a + b
     more a b i = omega arith
+
     one : (a b : ℕ) → a ≡ 1 → 1 ≤ a + b
     one a b i = omega arith
+
     rest : (u : ℕ) × (u < t) × (1 ≤ path_count d (is_named_at u) xs) → (u : ℕ) × (u < t) × (1 ≤ path_count d (is_named_at u) (x ∷ xs))
     rest k = (k.0, k.1, more (num (is_at d x.start && is_named_at k.0 x.state)) (path_count d (is_named_at k.0) xs) k.2)
+
     at : (none_of d (is_named_below t) xs ≡ false → (u : ℕ) × (u < t) × (1 ≤ path_count d (is_named_at u) (x ∷ xs))) → (v : ℕ) (b : Bool) → nat_lt v t ≡ b → is_at d x.start ≡ true → x.state ≡ path.Named v → (not b && none_of d (is_named_below t) xs) ≡ false → (u : ℕ) × (u < t) × (1 ≤ path_count d (is_named_at u) (x ∷ xs))
     at f v true l i s n = (v, ltb-true v t l, one (num (is_at d x.start && is_named_at v x.state)) (path_count d (is_named_at v) xs) (ap (λ b. num (b && is_named_at v x.state)) i ∙ (ap (λ z. num (is_named_at v z)) s ∙ ap num (eq-eqb v v refl))))
     at f v false l i s n = f n
+
     go : (none_of d (is_named_below t) xs ≡ false → (u : ℕ) × (u < t) × (1 ≤ path_count d (is_named_at u) (x ∷ xs))) → (a : Bool) (s : PathState) → is_at d x.start ≡ a → x.state ≡ s → (not (a && is_named_below t s) && none_of d (is_named_below t) xs) ≡ false → (u : ℕ) × (u < t) × (1 ≤ path_count d (is_named_at u) (x ∷ xs))
     go f false s i e n = f n
     go f true (path.Named v) i e n = at f v (nat_lt v t) refl i e n

@@ -1,7 +1,7 @@
 -- Each step's effect is one that the cursors can follow.
-use Rattle.std.proofs.Common.{◌≡◌, ◌==◌, ℕ, ◌+◌, ◌⊎◌, inl, inr, ⊎_elim, Bool, true, false, cond, Option, Some, None, refl, sym, ap, ◌∙◌, subst, eq-eqb}
-use Rattle.std.specs.Prelude.{slice_get, ◌&&◌, ◌||◌, not}
-use Rattle.std.proofs.lemmas.Bool.{and_parts, and_from, not-true, or_cases, cases_Bool}
+use Rattle.std.proofs.Common.{◌≡◌, ℕ, Bool, true, false, Some, refl, ap, ◌∙◌, subst, eq-eqb}
+use Rattle.std.specs.Prelude.{◌&&◌, ◌||◌, not}
+use Rattle.std.proofs.lemmas.Bool.{and_parts, and_from, not-true}
 use Rattle.filter_words.specs.declared.reply.Reply.{Reply}
 use Rattle.filter_words.specs.declared.reply.Reply.TheVariants as reply
 use Rattle.filter_words.specs.declared.reply.ListReply.{ListReply}
@@ -9,23 +9,22 @@ use Rattle.filter_words.specs.declared.reply.ListReply.TheVariants as list
 use Rattle.checkout_core.specs.declared.verdict.FilterCause.{FilterCause}
 use Rattle.checkout_core.specs.declared.verdict.Verdict.{Verdict}
 use Rattle.checkout_core.specs.declared.verdict.Own.{Own}
-use Rattle.checkout_core.specs.declared.path.Heard.{Heard}
 use Rattle.checkout_core.specs.declared.path.Heard.TheVariants as heard
 use Rattle.checkout_core.specs.declared.path.PathState.{PathState}
 use Rattle.checkout_core.specs.declared.path.PathState.TheVariants as path
 use Rattle.checkout_core.specs.declared.path.PathState.TheVariants.{Waiting, Held, Unasked, Closed}
 use Rattle.checkout_core.specs.declared.path.Start.{Start}
-use Rattle.checkout_core.specs.declared.path.Start.TheVariants.{Pool, Desk, Done}
+use Rattle.checkout_core.specs.declared.path.Start.TheVariants.{Desk}
 use Rattle.checkout_core.specs.declared.path.Path.{Path}
 use Rattle.checkout_core.specs.declared.driver.Session.{Session}
 use Rattle.checkout_core.specs.declared.driver.DriverState.{DriverState}
 use Rattle.checkout_core.specs.declared.driver.DriverState.TheVariants as driver
 use Rattle.checkout_core.specs.declared.event.Event.{Event}
 use Rattle.checkout_core.specs.declared.event.Event.TheVariants as ev
-use Rattle.checkout_core.specs.Steps.{Core, Effect, Moves, Turns, Both, Keep, swept, effect_of, is_at, is_unasked, is_named, is_named_below, heard_opening, replied_state, replied_desk, replied_sweep, list_desk, list_sweep, list_allowed, named, refused_cause, unasked_cause, hand_back, close_at, desk_close, closing, heard_close, unasked_close, held_close, none_of, named_count, lowest_unasked, is_delay, replied, claim, claim_at, open_at, fresh, fail_at, answer_in, answer_at, name_in, name_at, list_at, list_step, redo, redo_at, hand_back_at, shut_in, shut_at}
+use Rattle.checkout_core.specs.Steps.{Core, Effect, Moves, Turns, Both, Keep, swept, effect_of, is_at, is_named, is_named_below, heard_opening, replied_state, replied_desk, replied_sweep, list_desk, list_sweep, list_allowed, named, refused_cause, hand_back, close_at, none_of, named_count, lowest_unasked, is_delay, replied, claim, claim_at, open_at, fail_at, answer_in, answer_at, name_in, name_at, list_at, list_step, redo, redo_at, hand_back_at, shut_in, shut_at}
 use Rattle.checkout_core.specs.Cursors.{settles, advances, is_naming, IsFollowable}
-use Rattle.checkout_core.proofs.Basics.{none_is_some, some_is, given_is, cond_is, cond_not, at_path_is, at_driver_is, at_session_is, at_both_is, eqb_self}
-use Rattle.checkout_core.proofs.Inverses.{unasked_is, late_is, off_is, redo_is, claim_is, back_is, closing_is, open_is, close_moves}
+use Rattle.checkout_core.proofs.Basics.{none_is_some, given_is, cond_is, cond_not, at_path_is, at_driver_is, at_session_is, at_both_is, eqb_self}
+use Rattle.checkout_core.proofs.Inverses.{unasked_is, late_is, redo_is, claim_is, back_is, open_is, close_moves}
 use Rattle.checkout_core.proofs.Counts.{none_named}
 
 at_it : (d : ℕ) (b : Bool) (s : Start) → s ≡ Desk d b → is_at d s ≡ true
@@ -122,10 +121,16 @@ followable c (ev.Answered q y) m h =
     let t = and_parts _ _ b.0 in
     let u = and_parts _ _ t.1 in
     let seat = at.desk ∙ ap (λ z. Some z) k.1 in
-    subst (λ (z : Effect). IsFollowable c z) b.1
-      (at.row, driver.On k.0, at.there, at_it at.driver at.required (at.row).start at.begun, seat, stays y,
-        ap (λ s. advances (named_count at.driver c.paths) (k.0).naming (is_naming (replied_desk k.0 y)) (λ u. none_of at.driver (is_named_below u) c.paths) s (replied_state y)) (unasked_is (at.row).state u.0)
-        ∙ answer_advances (named_count at.driver c.paths) (λ u. none_of at.driver (is_named_below u) c.paths) k.0 y)
+    subst (λ (z : Effect). IsFollowable c z) b.1 (
+      at.row,
+      driver.On k.0,
+      at.there,
+      at_it at.driver at.required (at.row).start at.begun,
+      seat,
+      stays y,
+      ap (λ s. advances (named_count at.driver c.paths) (k.0).naming (is_naming (replied_desk k.0 y)) (λ u. none_of at.driver (is_named_below u) c.paths) s (replied_state y)) (unasked_is (at.row).state u.0)
+          ∙ answer_advances (named_count at.driver c.paths) (λ u. none_of at.driver (is_named_below u) c.paths) k.0 y,
+    )
 followable c (ev.Named q) m h =
     let at = at_both_is c q (name_at c q) m h in
     let k = at_session_is at.state (λ s. name_in c q (at.row).state at.driver s) m at.holds in
@@ -134,10 +139,16 @@ followable c (ev.Named q) m h =
     let u = and_parts _ _ t.1 in
     let v = and_parts _ _ u.1 in
     let seat = at.desk ∙ ap (λ z. Some z) k.1 in
-    subst (λ (z : Effect). IsFollowable c z) b.1
-      (at.row, driver.On k.0, at.there, at_it at.driver at.required (at.row).start at.begun, seat, refl,
-        ap (λ s. advances (named_count at.driver c.paths) (k.0).naming true (λ u. none_of at.driver (is_named_below u) c.paths) s (path.Named (named_count at.driver c.paths))) (late_is (at.row).state v.0)
-        ∙ and_from _ _ (eq-eqb (named_count at.driver c.paths) (named_count at.driver c.paths) refl) (ap (λ z. (k.0).naming || z) (none_named at.driver c.paths) ∙ may_name (k.0).naming (none_of at.driver is_named c.paths) v.1))
+    subst (λ (z : Effect). IsFollowable c z) b.1 (
+      at.row,
+      driver.On k.0,
+      at.there,
+      at_it at.driver at.required (at.row).start at.begun,
+      seat,
+      refl,
+      ap (λ s. advances (named_count at.driver c.paths) (k.0).naming true (λ u. none_of at.driver (is_named_below u) c.paths) s (path.Named (named_count at.driver c.paths))) (late_is (at.row).state v.0)
+          ∙ and_from _ _ (eq-eqb (named_count at.driver c.paths) (named_count at.driver c.paths) refl) (ap (λ z. (k.0).naming || z) (none_named at.driver c.paths) ∙ may_name (k.0).naming (none_of at.driver is_named c.paths) v.1),
+    )
 followable c (ev.Listed d y) m h =
     let at = at_driver_is c d (list_at c d y) m h in
     let k = at_session_is at.state (λ s. list_step c d s y) m at.holds in
@@ -151,10 +162,16 @@ followable c (ev.Redone q y) m h =
     let u = and_parts _ _ t.1 in
     let v = and_parts _ _ u.1 in
     let seat = at.desk ∙ ap (λ z. Some z) k.1 in
-    subst (λ (z : Effect). IsFollowable c z) b.3
-      (at.row, driver.On k.0, at.there, at_it at.driver at.required (at.row).start at.begun, seat, stays y,
-        ap (λ s. advances (named_count at.driver c.paths) (k.0).naming (is_naming (replied_desk k.0 y)) (λ u. none_of at.driver (is_named_below u) c.paths) s (replied_state y)) b.1
-        ∙ redo_advances (named_count at.driver c.paths) (k.0).naming (λ u. none_of at.driver (is_named_below u) c.paths) k.0 y b.0 (not-true _ u.0) t.0 v.1)
+    subst (λ (z : Effect). IsFollowable c z) b.3 (
+      at.row,
+      driver.On k.0,
+      at.there,
+      at_it at.driver at.required (at.row).start at.begun,
+      seat,
+      stays y,
+      ap (λ s. advances (named_count at.driver c.paths) (k.0).naming (is_naming (replied_desk k.0 y)) (λ u. none_of at.driver (is_named_below u) c.paths) s (replied_state y)) b.1
+          ∙ redo_advances (named_count at.driver c.paths) (k.0).naming (λ u. none_of at.driver (is_named_below u) c.paths) k.0 y b.0 (not-true _ u.0) t.0 v.1,
+    )
 followable c (ev.HandBack q) m h =
     let at = at_both_is c q (hand_back_at q) m h in
     let b = cond_not at.required (hand_back q (refused_cause at.state (at.row).state)) m at.holds in

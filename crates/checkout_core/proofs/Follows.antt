@@ -1,34 +1,34 @@
 -- The cursors follow the paths.
-use Rattle.std.proofs.Common.{◌≡◌, ◌==◌, ℕ, zero, suc, ◌+◌, ◌<◌, ◌≤◌, ◌⊎◌, inl, inr, ⊎_elim, Bool, true, false, cond, List, [], ◌∷◌, length, set, get_or, Option, Some, None, refl, sym, ap, ◌∙◌, subst, eq-eqb, ne_eqb, arith}
-use Rattle.std.specs.Prelude.{slice_get, ◌&&◌, ◌||◌, not, nat_lt, nat_le}
-use Rattle.std.proofs.lemmas.Bool.{and_parts, and_from, cases_Bool, lt-ltb, ltb-true, ltb-false, le-ltb, leb-true, le-leb, not-true}
+use Rattle.std.proofs.Common.{◌≡◌, ◌==◌, ℕ, zero, suc, ◌+◌, ◌<◌, ◌≤◌, ◌⊎◌, inl, inr, ⊎_elim, Bool, true, false, List, [], ◌∷◌, length, set, get_or, Some, None, refl, sym, ap, ◌∙◌, subst, eq-eqb, ne_eqb, arith}
+use Rattle.std.specs.Prelude.{slice_get, ◌&&◌, nat_lt, nat_le}
+use Rattle.std.proofs.lemmas.Bool.{and_from, cases_Bool, lt-ltb, ltb-true, ltb-false, leb-true, le-leb}
 use Rattle.std.proofs.lemmas.List.{length-set}
 use Rattle.std.proofs.lemmas.Option.{slice_get_within, slice_get_read}
-use Rattle.checkout_core.specs.declared.path.PathState.{PathState}
 use Rattle.checkout_core.specs.declared.path.PathState.TheVariants as path
 use Rattle.checkout_core.specs.declared.path.PathState.TheVariants.{Waiting, Held, Unasked, Closed}
 use Rattle.checkout_core.specs.declared.path.Path.{Path}
 use Rattle.checkout_core.specs.declared.driver.DriverState.{DriverState}
 use Rattle.checkout_core.specs.declared.cursor.Cursor.{Cursor}
-use Rattle.checkout_core.specs.Steps.{Core, is_at, is_unasked, is_named, is_named_below, is_closed, none_of, path_count, named_count, unclosed_count, lowest_unasked, with_state}
-use Rattle.checkout_core.specs.Cursors.{asks, is_named_at, is_naming, is_pending, Follows, AllFollow, IsSound, IsCursor, HoldsAt}
-use Rattle.checkout_core.proofs.Basics.{none_is_some, some_is}
+use Rattle.checkout_core.specs.Steps.{Core, is_at, is_unasked, is_named_below, none_of, path_count, lowest_unasked}
+use Rattle.checkout_core.specs.Cursors.{asks, is_named_at, is_naming, Follows, AllFollow, IsSound, IsCursor, HoldsAt}
+use Rattle.checkout_core.proofs.Basics.{some_is}
 use Rattle.checkout_core.proofs.Counts.{num, set_cases, count_some, none_count, none_false, lowest_some, lowest_none}
 
 -- the driver d gets another cursor
 pub follow_cursor : (paths : List Path) (drivers : List DriverState) (cursors : List Cursor) (d : ℕ) (x : DriverState) (k : Cursor) → AllFollow paths drivers cursors → slice_get drivers d ≡ Some x → Follows paths (is_naming x) d k → AllFollow paths drivers (set cursors d k)
 follow_cursor paths drivers cursors d x k all there new = record {
-    same_length = length-set cursors d k ∙ all.same_length;
-    follow = λ e y j i g. go e y j i g;
-  }
+  same_length = length-set cursors d k ∙ all.same_length;
+  follow = λ e y j i g. go e y j i g;
+}
   where
     less : d < length cursors
     less = let l : d < length drivers = slice_get_within drivers d x there in let s = all.same_length in omega arith
+
     go : (e : ℕ) (y : DriverState) (j : Cursor) → slice_get drivers e ≡ Some y → slice_get (set cursors d k) e ≡ Some j → Follows paths (is_naming y) e j
     go e y j i g = ⊎_elim
         (λ (s : (e ≡ d) × (k ≡ j)).
-            let same : y ≡ x = some_is y x (sym i ∙ (ap (λ z. slice_get drivers z) s.0 ∙ there)) in
-            subst (λ (z : DriverState). Follows paths (is_naming z) e j) (sym same) (subst (λ (z : ℕ). Follows paths (is_naming x) z j) (sym s.0) (subst (λ (z : Cursor). Follows paths (is_naming x) d z) s.1 new)))
+        let same : y ≡ x = some_is y x (sym i ∙ (ap (λ z. slice_get drivers z) s.0 ∙ there)) in
+        subst (λ (z : DriverState). Follows paths (is_naming z) e j) (sym same) (subst (λ (z : ℕ). Follows paths (is_naming x) z j) (sym s.0) (subst (λ (z : Cursor). Follows paths (is_naming x) d z) s.1 new)))
         (λ (s : (e ≡ d → ⊥) × (slice_get cursors e ≡ Some j)). all.follow e y j i s.1)
         (set_cases cursors d e (get cursors d less).0 k j (get cursors d less).1 g)
       where
@@ -54,12 +54,13 @@ lowest_turn paths n d k p t r f there at is = go (none_of d (is_named_below t) p
   where
     mine : (k.turn ≤ t) × (t < k.turn + k.named)
     mine = turn_within paths n d k t f (count_some d (is_named_at t) paths p r there at (ap (is_named_at t) is ∙ eq-eqb t t refl))
+
     go : (b : Bool) → none_of d (is_named_below t) paths ≡ b → (t == k.turn) ≡ b
     go true none = ⊎_elim
         (λ (l : k.turn < t).
-            let zero0 : path_count d (is_named_at k.turn) paths ≡ 0 = none_count d t k.turn paths l none in
-            let one : path_count d (is_named_at k.turn) paths ≡ 1 = f.turns k.turn ∙ ap num (and_from _ _ (le-leb k.turn k.turn (omega arith)) (lt-ltb k.turn (k.turn + k.named) (let m = mine.1 in omega arith))) in
-            absurd (omega arith))
+        let zero0 : path_count d (is_named_at k.turn) paths ≡ 0 = none_count d t k.turn paths l none in
+        let one : path_count d (is_named_at k.turn) paths ≡ 1 = f.turns k.turn ∙ ap num (and_from _ _ (le-leb k.turn k.turn (omega arith)) (lt-ltb k.turn (k.turn + k.named) (let m = mine.1 in omega arith))) in
+        absurd (omega arith))
         (λ (l : t ≤ k.turn). eq-eqb t k.turn (let m = mine.0 in omega arith))
         (order k.turn t)
       where

@@ -1,30 +1,20 @@
 -- What a step says of the state before it.
-use Rattle.std.proofs.Common.{◌≡◌, ◌==◌, ℕ, ◌+◌, ◌⊎◌, inl, inr, ⊎_elim, Bool, true, false, cond, Option, Some, None, refl, sym, ap, ◌∙◌, subst, eq-eqb}
-use Rattle.std.specs.Prelude.{slice_get, ◌&&◌, ◌||◌, not}
-use Rattle.std.proofs.lemmas.Bool.{and_parts, and_from, not-true, or_cases, cases_Bool}
+use Rattle.std.proofs.Common.{◌≡◌, ◌==◌, ℕ, ◌+◌, Bool, true, false, cond, Option, Some, None, refl}
+use Rattle.std.specs.Prelude.{◌&&◌, not}
 use Rattle.filter_words.specs.declared.reply.Caps.{Caps}
 use Rattle.filter_words.specs.declared.reply.Reply.{Reply}
-use Rattle.filter_words.specs.declared.reply.Reply.TheVariants as reply
-use Rattle.filter_words.specs.declared.reply.ListReply.{ListReply}
-use Rattle.filter_words.specs.declared.reply.ListReply.TheVariants as list
 use Rattle.checkout_core.specs.declared.verdict.FilterCause.{FilterCause}
 use Rattle.checkout_core.specs.declared.verdict.Verdict.{Verdict}
 use Rattle.checkout_core.specs.declared.verdict.Own.{Own}
-use Rattle.checkout_core.specs.declared.path.Heard.{Heard}
-use Rattle.checkout_core.specs.declared.path.Heard.TheVariants as heard
 use Rattle.checkout_core.specs.declared.path.PathState.{PathState}
 use Rattle.checkout_core.specs.declared.path.PathState.TheVariants as path
 use Rattle.checkout_core.specs.declared.path.PathState.TheVariants.{Waiting, Held, Unasked, Closed}
-use Rattle.checkout_core.specs.declared.path.Start.{Start}
-use Rattle.checkout_core.specs.declared.path.Start.TheVariants.{Pool, Desk, Done}
 use Rattle.checkout_core.specs.declared.path.Path.{Path}
 use Rattle.checkout_core.specs.declared.driver.Session.{Session}
 use Rattle.checkout_core.specs.declared.driver.DriverState.{DriverState}
 use Rattle.checkout_core.specs.declared.driver.DriverState.TheVariants as driver
-use Rattle.checkout_core.specs.declared.event.Event.{Event}
-use Rattle.checkout_core.specs.declared.event.Event.TheVariants as ev
-use Rattle.checkout_core.specs.Steps.{Core, Effect, Moves, Turns, Both, Sweep, Keep, Lose, Want, swept, effect_of, is_at, is_unasked, is_delayed, is_named, is_named_below, claim, heard_opening, replied_state, replied_desk, replied_sweep, list_desk, list_sweep, list_allowed, named, listed, redo, refused_cause, unasked_cause, hand_back, held_close, heard_close, unasked_close, closing, close_at, desk_close, is_off, none_below, none_of, named_count, lowest_unasked, is_good_opening, is_good_reply, is_delay, given, replied, of_driver, at_driver, at_session, claim_at, open_at, open_first, fresh, fail_at, answer_in, answer_at, name_in, name_at, list_at, list_step, redo_at, hand_back_at, shut_in, shut_at}
-use Rattle.checkout_core.proofs.Basics.{none_is_some, some_is, given_is, cond_is, cond_not, AtPath, at_path_is, AtDriver, at_driver_is, of_driver_is, at_session_is, AtBoth, at_both_is, eqb_self}
+use Rattle.checkout_core.specs.Steps.{Core, Effect, Moves, Turns, Keep, is_unasked, is_delayed, is_named_below, claim, redo, hand_back, held_close, heard_close, unasked_close, closing, close_at, desk_close, is_off, none_of, is_good_reply, is_delay, replied, at_driver, open_first, fresh}
+use Rattle.checkout_core.proofs.Basics.{none_is_some, some_is, given_is, cond_is, at_driver_is, of_driver_is}
 
 -- no path of the driver is so
 pub not_false : (b : Bool) → not b ≡ true → b ≡ false

@@ -8,3 +8,5 @@ pub mod Sweeps
 pub mod Applies
 pub mod Inverses
 pub mod Followable
+pub mod Replays
+pub mod Starts

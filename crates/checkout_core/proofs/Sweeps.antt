@@ -1,8 +1,8 @@
 -- The sweep of a driver's delayed and named paths.
-use Rattle.std.proofs.Common.{◌≡◌, ◌==◌, ℕ, zero, suc, ◌+◌, ◌<◌, ◌≤◌, ◌⊎◌, inl, inr, ⊎_elim, Bool, true, false, cond, List, [], ◌∷◌, length, set, get_or, map, Option, Some, None, refl, sym, ap, ◌∙◌, subst, ne_eqb, arith}
+use Rattle.std.proofs.Common.{◌≡◌, ◌==◌, ℕ, zero, suc, ◌+◌, ◌<◌, ◌≤◌, ◌⊎◌, inl, inr, ⊎_elim, Bool, true, false, cond, List, [], ◌∷◌, length, set, get_or, Some, refl, sym, ap, ◌∙◌, subst, ne_eqb, arith}
 use Rattle.std.specs.Prelude.{slice_get, ◌&&◌, nat_lt, nat_le, take, drop, ◌++◌}
 use Rattle.std.proofs.lemmas.Grind.{common_steps}
-use Rattle.std.proofs.lemmas.Bool.{and_parts, and_from, cases_Bool, ltb-true, ltb-false, lt-ltb, le-ltb, true_from_ne_false, false_from_ne_true}
+use Rattle.std.proofs.lemmas.Bool.{cases_Bool, ltb-true, ltb-false, lt-ltb, le-ltb}
 use Rattle.std.proofs.lemmas.List.{length-set}
 use Rattle.std.proofs.lemmas.Option.{slice_get_within, get_or_from_slice_get}
 use Rattle.checkout_core.specs.declared.path.PathState.{PathState}
@@ -13,8 +13,8 @@ use Rattle.checkout_core.specs.declared.path.Start.{Start}
 use Rattle.checkout_core.specs.declared.path.Start.TheVariants.{Pool, Desk, Done}
 use Rattle.checkout_core.specs.declared.driver.DriverState.{DriverState}
 use Rattle.checkout_core.specs.declared.cursor.Cursor.{Cursor}
-use Rattle.checkout_core.specs.Steps.{Core, Sweep, Keep, Lose, Want, each, swept, swept_path, is_at, is_unasked, is_named, is_closed, path_count, named_count, unclosed_count, with_state}
-use Rattle.checkout_core.specs.Cursors.{is_named_at, is_naming, is_pending, IsWithin, Follows, AllFollow, IsSound, IsCursor, swept_paths, all_swept}
+use Rattle.checkout_core.specs.Steps.{Core, Sweep, Keep, Lose, Want, each, swept, swept_path, is_at, is_unasked, is_named, is_closed, path_count, unclosed_count, with_state}
+use Rattle.checkout_core.specs.Cursors.{is_named_at, is_naming, is_pending, IsWithin, Follows, IsSound, IsCursor, swept_paths, all_swept}
 use Rattle.checkout_core.proofs.Basics.{none_is_some, some_is, same_or, get_each}
 use Rattle.checkout_core.proofs.Bridge.{each_alike, each_step, each_nothing, each_map, kept_paths}
 use Rattle.checkout_core.proofs.Counts.{num, set_cases, count_none}
@@ -51,15 +51,16 @@ pub sweep_goes_on : (rs now : List Path) (d : ℕ) (w : Sweep) (at : ℕ) (v x :
 sweep_goes_on rs now d w at v x0 same less is =
     let r = get rs at less in
     let here : get_or now at x0 ≡ r.0 = ap (λ (xs : List Path). get_or xs at x0) same ∙
-      get_or_from_slice_get (each (swept_before at d w) rs) at r.0 x0 (get_each (swept_before at d w) rs at r.0 r.1 ∙ ap (λ b. Some (cond b (swept_path d w r.0) r.0)) (le-ltb at at (omega arith))) in
+    get_or_from_slice_get (each (swept_before at d w) rs) at r.0 x0 (get_each (swept_before at d w) rs at r.0 r.1 ∙ ap (λ b. Some (cond b (swept_path d w r.0) r.0)) (le-ltb at at (omega arith))) in
     ap (λ (xs : List Path). set xs at v) same ∙ each_step (swept_before at d w) (swept_before (at + 1) d w) rs at r.0 v r.1
-      (ap (λ b. cond b (swept_path d w r.0) r.0) (lt-ltb at (at + 1) (omega arith)) ∙ (ap (swept_path d w) (sym here) ∙ sym is))
-      (λ q x n. ap (λ b. cond b (swept_path d w x) x) (other q n))
+    (ap (λ b. cond b (swept_path d w r.0) r.0) (lt-ltb at (at + 1) (omega arith)) ∙ (ap (swept_path d w) (sym here) ∙ sym is))
+    (λ q x n. ap (λ b. cond b (swept_path d w x) x) (other q n))
   where
     get : (xs : List Path) (i : ℕ) → i < length xs → (x : Path) × (slice_get xs i ≡ Some x)
     get [] i l = absurd (omega arith)
     get (x ∷ xs) zero l = (x, refl)
     get (x ∷ xs) (suc i) l = get xs i (omega arith)
+
     other : (q : ℕ) → (q ≡ at → ⊥) → nat_lt q (at + 1) ≡ nat_lt q at
     other q n = ⊎_elim
         (λ (i : nat_lt q at ≡ true). let l = ltb-true q at i in lt-ltb q (at + 1) (omega arith) ∙ sym i)
@@ -167,37 +168,38 @@ length_swept d w (r ∷ rs) = ap suc (length_swept d w rs)
 
 follows_away : (rs : List Path) (n : Bool) (e d : ℕ) (w : Sweep) (k : Cursor) → (e ≡ d → ⊥) → Follows rs n e k → Follows (swept_paths d w rs) n e k
 follows_away rs n e d w k other f = record {
-    unasked = λ q x i at un. let r = swept_at d w rs q x i in let at0 : is_at e (r.0).start ≡ true = ap (λ (z : Path). is_at e z.start) r.2 ∙ at in
+  unasked = λ q x i at un. let r = swept_at d w rs q x i in let at0 : is_at e (r.0).start ≡ true = ap (λ (z : Path). is_at e z.start) r.2 ∙ at in
       f.unasked q r.0 r.1 at0 (ap (λ (z : Path). is_unasked z.state) (sym (away_same e d w other r.0 at0) ∙ r.2) ∙ un);
-    unasked_fits = let l = length_swept d w rs in let g = f.unasked_fits in omega arith;
-    pending = λ q x i at pe. let r = swept_at d w rs q x i in let at0 : is_at e (r.0).start ≡ true = ap (λ (z : Path). is_at e z.start) r.2 ∙ at in
+  unasked_fits = let l = length_swept d w rs in let g = f.unasked_fits in omega arith;
+  pending = λ q x i at pe. let r = swept_at d w rs q x i in let at0 : is_at e (r.0).start ≡ true = ap (λ (z : Path). is_at e z.start) r.2 ∙ at in
       f.pending q r.0 r.1 at0 (ap (λ (z : Path). is_pending z.state) (sym (away_same e d w other r.0 at0) ∙ r.2) ∙ pe);
-    end_fits = let l = length_swept d w rs in let g = f.end_fits in omega arith;
-    named = count_away e d w other is_named rs ∙ f.named;
-    turns = λ t. count_away e d w other (is_named_at t) rs ∙ f.turns t;
-    turn_fits = let l = length_swept d w rs in let g = f.turn_fits in omega arith;
-    begins = f.begins;
-  }
+  end_fits = let l = length_swept d w rs in let g = f.end_fits in omega arith;
+  named = count_away e d w other is_named rs ∙ f.named;
+  turns = λ t. count_away e d w other (is_named_at t) rs ∙ f.turns t;
+  turn_fits = let l = length_swept d w rs in let g = f.turn_fits in omega arith;
+  begins = f.begins;
+}
 
 -- the driver's own lists are empty then
 follows_swept : (rs : List Path) (n : Bool) (d : ℕ) (w : Sweep) (k : Cursor) → (w ≡ Keep → ⊥) → Follows rs n d k → Follows (swept_paths d w rs) n d (record { unasked = k.unasked; first = 0; end = 0; named = 0; turn = 0 })
 follows_swept rs n d w k ends f = record {
-    unasked = λ q x i at un. let r = swept_at d w rs q x i in let at0 : is_at d (r.0).start ≡ true = ap (λ (z : Path). is_at d z.start) r.2 ∙ at in
+  unasked = λ q x i at un. let r = swept_at d w rs q x i in let at0 : is_at d (r.0).start ≡ true = ap (λ (z : Path). is_at d z.start) r.2 ∙ at in
       f.unasked q r.0 r.1 at0 (sym (either is_unasked (is_at d (r.0).start) (swept w (r.0).state) (r.0).state (swept_unasked w (r.0).state)) ∙ (ap (λ (z : Path). is_unasked z.state) r.2 ∙ un));
-    unasked_fits = let l = length_swept d w rs in let g = f.unasked_fits in omega arith;
-    pending = λ q x i at pe. let z = none q x i at in absurd (cc (z, pe));
-    end_fits = omega arith;
-    named = count_none d is_named (swept_paths d w rs) (λ q x i at. not_named x.state (none q x i at));
-    turns = λ t. count_none d (is_named_at t) (swept_paths d w rs) (λ q x i at. not_at t x.state (none q x i at)) ∙ sym (empty (nat_le 0 t) (nat_lt t (0 + 0)) (le-ltb t (0 + 0) (omega arith)));
-    turn_fits = omega arith;
-    begins = λ h. refl;
-  }
+  unasked_fits = let l = length_swept d w rs in let g = f.unasked_fits in omega arith;
+  pending = λ q x i at pe. let z = none q x i at in absurd (cc (z, pe));
+  end_fits = omega arith;
+  named = count_none d is_named (swept_paths d w rs) (λ q x i at. not_named x.state (none q x i at));
+  turns = λ t. count_none d (is_named_at t) (swept_paths d w rs) (λ q x i at. not_at t x.state (none q x i at)) ∙ sym (empty (nat_le 0 t) (nat_lt t (0 + 0)) (le-ltb t (0 + 0) (omega arith)));
+  turn_fits = omega arith;
+  begins = λ h. refl;
+}
   where
     none : (q : ℕ) (x : Path) → slice_get (swept_paths d w rs) q ≡ Some x → is_at d x.start ≡ true → is_pending x.state ≡ false
     none q x i at =
         let r = swept_at d w rs q x i in
         let at0 : is_at d (r.0).start ≡ true = ap (λ (z : Path). is_at d z.start) r.2 ∙ at in
         ap (λ (z : Path). is_pending z.state) (sym r.2) ∙ (ap (λ b. is_pending (cond b (swept w (r.0).state) (r.0).state)) at0 ∙ swept_pending w (r.0).state ends)
+
     not_named : (s : PathState) → is_pending s ≡ false → is_named s ≡ false
     not_named (path.Named t) e = absurd (cc (e))
     not_named path.Delayed e = refl
@@ -206,6 +208,7 @@ follows_swept rs n d w k ends f = record {
     not_named (Waiting raw) e = refl
     not_named (Held a raw) e = refl
     not_named (Closed v) e = refl
+
     not_at : (t : ℕ) (s : PathState) → is_pending s ≡ false → is_named_at t s ≡ false
     not_at t (path.Named u) e = absurd (cc (e))
     not_at t path.Delayed e = refl
@@ -214,34 +217,37 @@ follows_swept rs n d w k ends f = record {
     not_at t (Waiting raw) e = refl
     not_at t (Held a raw) e = refl
     not_at t (Closed v) e = refl
+
     empty : (a b : Bool) → b ≡ false → num (a && b) ≡ 0
     empty true b e = ap num e
     empty false b e = refl
 
 pub sweep_sound : (workers : ℕ) (rs : List Path) (drivers : List DriverState) (cursors : List Cursor) (unclosed d : ℕ) (w : Sweep) (k : Cursor) → (w ≡ Keep → ⊥) → IsSound workers rs drivers cursors unclosed → IsCursor (record { workers = workers; drivers = drivers; paths = rs }) d k → IsSound workers (swept_paths d w rs) drivers (set cursors d (record { unasked = k.unasked; first = 0; end = 0; named = 0; turn = 0 })) unclosed
 sweep_sound workers rs drivers cursors unclosed d w k ends sound cur = record {
-    few_workers = sound.few_workers;
-    few_drivers = sound.few_drivers;
-    few_paths = let l = length_swept d w rs in let g = sound.few_paths in omega arith;
-    cursors_follow = record {
-      same_length = length-set cursors d new ∙ sound.cursors_follow.same_length;
-      follow = λ e y j i g. ⊎_elim
-          (λ (h : (e ≡ d) × (new ≡ j)).
-              let seat : cur.0 ≡ y = some_is cur.0 y (sym cur.1 ∙ (ap (λ z. slice_get drivers z) (sym h.0) ∙ i)) in
-              subst (λ (z : ℕ). Follows (swept_paths d w rs) (is_naming y) z j) (sym h.0)
-                (subst (λ (z : Cursor). Follows (swept_paths d w rs) (is_naming y) d z) h.1 (follows_swept rs (is_naming y) d w k ends (subst (λ (z : DriverState). Follows rs (is_naming z) d k) seat cur.2))))
-          (λ (h : (e ≡ d → ⊥) × (slice_get cursors e ≡ Some j)). follows_away rs (is_naming y) e d w j h.0 (sound.cursors_follow.follow e y j i h.1))
-          (set_cases cursors d e old.0 new j old.1 g);
-    };
-    unclosed_is = closed_swept d w rs ∙ sound.unclosed_is;
-  }
+  few_workers = sound.few_workers;
+  few_drivers = sound.few_drivers;
+  few_paths = let l = length_swept d w rs in let g = sound.few_paths in omega arith;
+  cursors_follow = record {
+    same_length = length-set cursors d new ∙ sound.cursors_follow.same_length;
+    follow = λ e y j i g. ⊎_elim
+        (λ (h : (e ≡ d) × (new ≡ j)).
+        let seat : cur.0 ≡ y = some_is cur.0 y (sym cur.1 ∙ (ap (λ z. slice_get drivers z) (sym h.0) ∙ i)) in
+        subst (λ (z : ℕ). Follows (swept_paths d w rs) (is_naming y) z j) (sym h.0)
+        (subst (λ (z : Cursor). Follows (swept_paths d w rs) (is_naming y) d z) h.1 (follows_swept rs (is_naming y) d w k ends (subst (λ (z : DriverState). Follows rs (is_naming z) d k) seat cur.2))))
+        (λ (h : (e ≡ d → ⊥) × (slice_get cursors e ≡ Some j)). follows_away rs (is_naming y) e d w j h.0 (sound.cursors_follow.follow e y j i h.1))
+        (set_cases cursors d e old.0 new j old.1 g);
+  };
+  unclosed_is = closed_swept d w rs ∙ sound.unclosed_is;
+}
   where
     new : Cursor
     new = record { unasked = k.unasked; first = 0; end = 0; named = 0; turn = 0 }
+
     get : (xs : List Cursor) (i : ℕ) → i < length xs → (v : Cursor) × (slice_get xs i ≡ Some v)
     get [] i l = absurd (omega arith)
     get (v ∷ vs) zero l = (v, refl)
     get (v ∷ vs) (suc i) l = get vs i (omega arith)
+
     old : (v : Cursor) × (slice_get cursors d ≡ Some v)
     old = get cursors d (let l = slice_get_within drivers d cur.0 cur.1 in let s = sound.cursors_follow.same_length in omega arith)
 

@@ -1,5 +1,5 @@
 -- A path of a driver, as one value.
-use Rattle.std.specs.Prelude.{◌≡◌, ◌==◌, ◌+◌, ℕ, Bool, true, false, cond, Option, Some, None, slice_get}
+use Rattle.std.specs.Prelude.{◌≡◌, ◌==◌, ◌+◌, ℕ, Bool, true, cond, Option, Some, None, slice_get}
 use Rattle.checkout_core.specs.declared.path.Path.{Path}
 use Rattle.checkout_core.specs.declared.path.Start.TheVariants.{Desk}
 use Rattle.checkout_core.specs.declared.driver.DriverState.{DriverState}

@@ -7,7 +7,7 @@ use Rattle.checkout_core.specs.declared.path.Path.{Path}
 use Rattle.checkout_core.specs.declared.driver.DriverState.{DriverState}
 use Rattle.checkout_core.specs.declared.driver.DriverState.TheVariants as driver
 use Rattle.checkout_core.specs.declared.cursor.Cursor.{Cursor}
-use Rattle.checkout_core.specs.Steps.{Core, Effect, Moves, Turns, Both, Sweep, swept, swept_path, is_at, is_unasked, is_named, is_named_below, is_closed, none_of, path_count, named_count, unclosed_count}
+use Rattle.checkout_core.specs.Steps.{Core, Effect, Moves, Turns, Both, Sweep, swept, swept_path, is_at, is_unasked, is_named_below, is_closed, none_of, path_count, named_count, unclosed_count}
 
 abbrev pub is_pending : PathState → Bool
 is_pending path.Delayed = true
@@ -115,3 +115,7 @@ swept_paths d w rs = map (λ r. swept_path d w r) rs
 
 abbrev pub all_swept : ℕ → Sweep → Core → Core
 all_swept d w c = record { workers = c.workers; drivers = c.drivers; paths = swept_paths d w c.paths }
+
+-- the cursor of a driver that wasn't asked yet
+abbrev pub new_cursor : Cursor
+new_cursor = record { unasked = 0; first = 0; end = 0; named = 0; turn = 0 }

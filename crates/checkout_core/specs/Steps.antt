@@ -9,7 +9,6 @@ use Rattle.filter_words.specs.declared.reply.ListReply.TheVariants as list
 use Rattle.filter_words.specs.declared.reply.Caps.{Caps}
 use Rattle.checkout_core.specs.declared.verdict.FilterCause.{FilterCause}
 use Rattle.checkout_core.specs.declared.verdict.FilterCause.TheVariants as cause
-use Rattle.checkout_core.specs.declared.verdict.FailCause.{FailCause}
 use Rattle.checkout_core.specs.declared.verdict.FailCause.TheVariants as fail
 use Rattle.checkout_core.specs.declared.verdict.Verdict.{Verdict}
 use Rattle.checkout_core.specs.declared.verdict.Verdict.TheVariants as verdict

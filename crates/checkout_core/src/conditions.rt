@@ -67,7 +67,10 @@ fn replied_desk(session: Session, reply: Reply) -> DriverState
     ensures { result ≡ replied_desk session reply }
 {
     match reply {
-        Reply::Delayed => DriverState::On(Session { had: true, ..session }),
+        Reply::Delayed => DriverState::On(Session {
+            had: true,
+            ..session
+        }),
         Reply::Abort => DriverState::Aborted,
         Reply::Broken(_) | Reply::NoMemory => DriverState::Off,
         Reply::Content | Reply::Error | Reply::ErrorAfter => DriverState::On(session),
@@ -100,7 +103,10 @@ fn list_desk(session: Session, reply: ListReply) -> DriverState
     ensures { result ≡ list_desk session reply }
 {
     match reply {
-        ListReply::Names(_) => DriverState::On(Session { naming: false, ..session }),
+        ListReply::Names(_) => DriverState::On(Session {
+            naming: false,
+            ..session
+        }),
         ListReply::Empty => DriverState::Done,
         ListReply::Abort => DriverState::Aborted,
         ListReply::Broken(_) | ListReply::NoMemory => DriverState::Off,

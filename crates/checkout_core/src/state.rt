@@ -4,6 +4,7 @@ ghost use Rattle.checkout_core.specs.Cursors.{IsSound, asks, IsCursor, NamedTher
 ghost use Rattle.checkout_core.specs.declared.path.Path.{Path};
 
 mod apply;
+mod start;
 
 use crate::cursor::Cursor;
 use crate::driver::DriverState;
@@ -70,7 +71,12 @@ impl State {
         ensures { result ≡ verdict_at self.now path }
     {
         match self.path_at(path) {
-            Some(Path { state: PathState::Closed(verdict), .. }) => Some(verdict),
+            Some(
+                Path {
+                    state: PathState::Closed(verdict),
+                    ..
+                },
+            ) => Some(verdict),
             _ => None,
         }
     }

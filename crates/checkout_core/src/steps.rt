@@ -27,8 +27,9 @@ pub fn replay(state: &mut State, events: &[Event]) -> Result<(), u32>
 {
     let end = events.len() as u32;
     for at in 0..end {
-        if step(state, events[at as usize]).is_err() {
-            return Err(at);
+        match step(state, events[at as usize]) {
+            Ok(()) => {}
+            Err(Refused) => return Err(at),
         }
     }
     Ok(())

@@ -174,7 +174,13 @@ impl State {
             return;
         }
         let cursor = self.cursor(driver);
-        sweep_paths(self.paths.as_mut_slice(), driver, sweep, cursor.first, cursor.end);
+        sweep_paths(
+            self.paths.as_mut_slice(),
+            driver,
+            sweep,
+            cursor.first,
+            cursor.end,
+        );
         self.cursors[driver as usize] = Cursor {
             unasked: cursor.unasked,
             first: 0,

@@ -1,4 +1,4 @@
-use Rattle.std.proofs.Common.{◌∙◌, ap, sym, ◌≡◌, Bool, Option, ℕ, refl, true, false, Some, None}
+use Rattle.std.proofs.Common.{◌∙◌, ap, ◌≡◌, Bool, Option, ℕ, refl, true, false, Some, None}
 use Rattle.std.specs.Prelude.{is_none, is_some, not}
 use Rattle.checkout_core.proofs.Counts.{none_lowest}
 use Rattle.checkout_core.proofs.state.State.all_asked.Goals as goal

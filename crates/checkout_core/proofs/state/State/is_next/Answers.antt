@@ -1,4 +1,4 @@
-use Rattle.std.proofs.Common.{◌∙◌, ap, sym}
+use Rattle.std.proofs.Common.{◌∙◌, ap}
 use Rattle.checkout_core.proofs.Counts.{next_lowest, holds_number}
 use Rattle.checkout_core.proofs.state.State.is_next.Goals as goal
 

@@ -1,4 +1,4 @@
-use Rattle.std.proofs.Common.{◌≡◌, ◌∙◌, ◌≤◌, ◌<◌, ⊎_elim, length, arith}
+use Rattle.std.proofs.Common.{◌∙◌, arith}
 use Rattle.checkout_core.proofs.Sweeps.{sweep_begins, sweep_goes_on, sweep_ends}
 use Rattle.checkout_core.proofs.state.apply.sweep_paths.Goals as goal
 
