@@ -3,7 +3,10 @@ use Rattle.std.proofs.Common.{◌≡◌, ◌∙◌, ◌<◌, ℕ, sym, ap, subst
 use Rattle.std.proofs.lemmas.Option.{slice_get_within}
 use Rattle.checkout_core.specs.declared.path.PathState.{PathState}
 use Rattle.checkout_core.specs.declared.driver.DriverState.{DriverState}
-use Rattle.checkout_core.specs.Steps.{Core, Sweep, Turns, Both, Keep, after, driver_after}
+use Rattle.checkout_core.specs.declared.effect.Effect.TheVariants.{Turns, Both}
+use Rattle.checkout_core.specs.declared.effect.Sweep.{Sweep}
+use Rattle.checkout_core.specs.declared.effect.Sweep.TheVariants.{Keep}
+use Rattle.checkout_core.specs.Steps.{Core, after, driver_after}
 use Rattle.checkout_core.specs.Cursors.{IsFollowable, all_swept}
 use Rattle.checkout_core.proofs.Bridge.{turn_swept, both_swept, length_each}
 

@@ -10,7 +10,11 @@ use Rattle.std.proofs.lemmas.Bool.{lt-ltb}
 use Rattle.checkout_core.specs.declared.path.PathState.TheVariants as path
 use Rattle.checkout_core.specs.declared.path.PathState.TheVariants.{Waiting, Held, Unasked, Closed}
 use Rattle.checkout_core.specs.declared.event.Event.TheVariants.{Claim}
-use Rattle.checkout_core.specs.Steps.{Core, after, done, step_of, claim_at, claim, with_path, Effect, Moves, Turns, Both, Sweep, each, path_after, driver_after, with_state, swept_path, swept, Keep, is_at}
+use Rattle.checkout_core.specs.declared.effect.Effect.{Effect}
+use Rattle.checkout_core.specs.declared.effect.Effect.TheVariants.{Moves, Turns, Both}
+use Rattle.checkout_core.specs.declared.effect.Sweep.{Sweep}
+use Rattle.checkout_core.specs.declared.effect.Sweep.TheVariants.{Keep}
+use Rattle.checkout_core.specs.Steps.{Core, after, done, step_of, claim_at, claim, with_path, each, path_after, driver_after, with_state, swept_path, swept, is_at}
 use Rattle.checkout_core.proofs.Basics.{none_is_some, some_is, eqb_self, same_or}
 
 module _ {A : Type 0} where

@@ -13,7 +13,10 @@ use Rattle.checkout_core.specs.declared.path.Path.{Path}
 use Rattle.checkout_core.specs.declared.driver.Session.{Session}
 use Rattle.checkout_core.specs.declared.driver.DriverState.{DriverState}
 use Rattle.checkout_core.specs.declared.driver.DriverState.TheVariants as driver
-use Rattle.checkout_core.specs.Steps.{Core, Effect, Moves, Turns, Keep, is_unasked, is_delayed, is_named_below, claim, redo, hand_back, held_close, heard_close, unasked_close, closing, close_at, desk_close, is_off, none_of, is_good_reply, is_delay, replied, at_driver, open_first, fresh}
+use Rattle.checkout_core.specs.declared.effect.Effect.{Effect}
+use Rattle.checkout_core.specs.declared.effect.Effect.TheVariants.{Moves, Turns}
+use Rattle.checkout_core.specs.declared.effect.Sweep.TheVariants.{Keep}
+use Rattle.checkout_core.specs.Steps.{Core, is_unasked, is_delayed, is_named_below, claim, redo, hand_back, held_close, heard_close, unasked_close, closing, close_at, desk_close, is_off, none_of, is_good_reply, is_delay, replied, at_driver, open_first, fresh}
 use Rattle.checkout_core.proofs.Basics.{none_is_some, some_is, given_is, cond_is, at_driver_is, of_driver_is}
 
 -- no path of the driver is so

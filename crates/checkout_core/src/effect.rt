@@ -3,7 +3,7 @@ use crate::path::PathState;
 
 /// What becomes of a driver's delayed and named paths.
 #[derive(Clone, Copy, Debug, PartialEq, Eq)]
-pub(crate) enum Sweep {
+pub enum Sweep {
     Keep,
     /// Each is heard as lost.
     Lose,
@@ -13,7 +13,7 @@ pub(crate) enum Sweep {
 
 /// What a step changes.
 #[derive(Clone, Copy, Debug, PartialEq, Eq)]
-pub(crate) enum Effect {
+pub enum Effect {
     Moves {
         path: u32,
         state: PathState,

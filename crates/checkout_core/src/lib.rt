@@ -13,6 +13,7 @@ mod steps;
 mod verdict;
 
 pub use driver::{DriverState, Session};
+pub use effect::{Effect, Sweep};
 pub use event::{Event, OpenCause};
 pub use path::{Heard, Path, PathState, Start};
 pub use state::State;

@@ -11,8 +11,7 @@ use Rattle.checkout_core.specs.declared.path.Start.TheVariants.{Pool, Desk, Done
 use Rattle.checkout_core.specs.declared.path.Path.{Path}
 use Rattle.checkout_core.specs.declared.event.Event.{Event}
 use Rattle.checkout_core.specs.declared.event.Event.TheVariants.{Claim, Close, Opened, OpenFailed, Answered, Named, Listed, Redone, HandBack, Shut}
-use Rattle.checkout_core.specs.Steps.{Core, start, replay, step_of}
-use Rattle.core_laws.specs.Laws.{verdict_of}
+use Rattle.checkout_core.specs.Steps.{Core, start, replay, step_of, verdict_of}
 use Rattle.filter_words.specs.declared.reply.Caps.{Caps}
 use Rattle.core_laws.specs.Talks.{Between, is_talk}
 

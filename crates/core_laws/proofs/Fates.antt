@@ -27,7 +27,10 @@ use Rattle.checkout_core.specs.declared.driver.DriverState.{DriverState}
 use Rattle.checkout_core.specs.declared.driver.DriverState.TheVariants as driver
 use Rattle.checkout_core.specs.declared.event.Event.{Event}
 use Rattle.checkout_core.specs.declared.event.Event.TheVariants as ev
-use Rattle.checkout_core.specs.Steps.{Core, Effect, Sweep, Keep, Lose, Want, swept, ended, is_unasked, is_delay, is_names, replied_state, replied_desk, replied_sweep, list_desk, list_sweep, heard_opening, refused_cause, unasked_cause, held_close, heard_close, unasked_close, unasked_fine, refused_verdict, is_first, lacks_smudge, named, listed, delayed}
+use Rattle.checkout_core.specs.declared.effect.Effect.{Effect}
+use Rattle.checkout_core.specs.declared.effect.Sweep.{Sweep}
+use Rattle.checkout_core.specs.declared.effect.Sweep.TheVariants.{Keep, Lose, Want}
+use Rattle.checkout_core.specs.Steps.{Core, swept, ended, is_unasked, is_delay, is_names, replied_state, replied_desk, replied_sweep, list_desk, list_sweep, heard_opening, refused_cause, unasked_cause, held_close, heard_close, unasked_close, unasked_fine, refused_verdict, is_first, lacks_smudge, named, listed, delayed}
 use Rattle.core_laws.specs.Laws.{own_after, Fate, Untold, Later, Known, fate_after, fate_moves, fate_here, fate_there, fate_opened, fate_listed, pool_verdict, known_verdict, desk_verdict}
 use Rattle.checkout_core.proofs.Basics.{none_is_some, eqb_self}
 use Rattle.core_laws.proofs.Views.{View, Same, Claimed, HandedBack, ClosedHeld, ClosedTold, ClosedUnasked, SeesOpened, NotOpened, OtherNotOpened, IsAnswered, OtherAnswered, IsRedone, OtherRedone, IsNamed, OtherNamed, SeesListed, SeesShut}

@@ -21,8 +21,12 @@ use Rattle.checkout_core.specs.declared.driver.DriverState.{DriverState}
 use Rattle.checkout_core.specs.declared.driver.DriverState.TheVariants as driver
 use Rattle.checkout_core.specs.declared.event.Event.{Event}
 use Rattle.checkout_core.specs.declared.event.Event.TheVariants as ev
-use Rattle.checkout_core.specs.Steps.{Core, Effect, Moves, Turns, Both, Sweep, Keep, Lose, Want, each, effect_of, after, step_of, replay, path_after, driver_after, swept, start, offs, path_of, begins, refused_cause, replied_state, replied_desk, replied_sweep, list_desk, list_sweep, is_unasked, is_first, is_names, is_delay, heard_opening, named, listed, delayed, fresh, list_allowed, named_count, claim_at, claim, close_at, fail_at, hand_back_at, hand_back, answer_at, answer_in, redo_at, redo, name_at, name_in, list_at, list_step, shut_at, shut_in, open_at, lowest_unasked, replied}
-use Rattle.core_laws.specs.Laws.{is_note, own_after, AreBelow}
+use Rattle.checkout_core.specs.declared.effect.Effect.{Effect}
+use Rattle.checkout_core.specs.declared.effect.Effect.TheVariants.{Moves, Turns, Both}
+use Rattle.checkout_core.specs.declared.effect.Sweep.{Sweep}
+use Rattle.checkout_core.specs.declared.effect.Sweep.TheVariants.{Keep, Lose, Want}
+use Rattle.checkout_core.specs.Steps.{Core, each, effect_of, after, step_of, replay, path_after, driver_after, swept, start, offs, path_of, begins, refused_cause, replied_state, replied_desk, replied_sweep, list_desk, list_sweep, is_unasked, is_first, is_names, is_delay, heard_opening, named, listed, delayed, fresh, list_allowed, named_count, claim_at, claim, close_at, fail_at, hand_back_at, hand_back, answer_at, answer_in, redo_at, redo, name_at, name_in, list_at, list_step, shut_at, shut_in, open_at, lowest_unasked, replied, AreBelow}
+use Rattle.core_laws.specs.Laws.{is_note, own_after}
 use Rattle.checkout_core.proofs.Basics.{none_is_some, some_is, eqb_self, get_each, start_after, step_is, first_step, same_or, AtBoth, at_both_is, at_path_is, at_driver_is, at_session_is, given_is, cond_is, cond_not}
 use Rattle.core_laws.proofs.Views.{View, Same, Claimed, HandedBack, ClosedHeld, ClosedTold, ClosedUnasked, SeesOpened, NotOpened, OtherNotOpened, IsAnswered, OtherAnswered, IsRedone, OtherRedone, IsNamed, OtherNamed, SeesListed, SeesShut, see, hits, turned}
 use Rattle.checkout_core.proofs.Inverses.{unasked_is, claim_is, close_moves, closing_is, back_is, open_is, redo_is}

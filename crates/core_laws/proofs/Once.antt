@@ -13,8 +13,11 @@ use Rattle.checkout_core.specs.declared.path.Path.{Path}
 use Rattle.checkout_core.specs.declared.driver.DriverState.{DriverState}
 use Rattle.checkout_core.specs.declared.event.Event.{Event}
 use Rattle.checkout_core.specs.declared.event.Event.TheVariants as ev
-use Rattle.checkout_core.specs.Steps.{Core, Effect, Moves, Sweep, effect_of, after, step_of, replay, path_after, driver_after, swept, start, refused_cause, replied_sweep, list_sweep, close_at}
-use Rattle.core_laws.specs.Laws.{is_note, own_after, AreBelow, IsClosed, closing_of, closes}
+use Rattle.checkout_core.specs.declared.effect.Effect.{Effect}
+use Rattle.checkout_core.specs.declared.effect.Effect.TheVariants.{Moves}
+use Rattle.checkout_core.specs.declared.effect.Sweep.{Sweep}
+use Rattle.checkout_core.specs.Steps.{Core, effect_of, after, step_of, replay, path_after, driver_after, swept, start, refused_cause, replied_sweep, list_sweep, close_at, AreBelow}
+use Rattle.core_laws.specs.Laws.{is_note, own_after, IsClosed, closing_of, closes}
 use Rattle.checkout_core.proofs.Basics.{none_is_some, some_is, get_each, step_is, first_step, same_or, at_path_is}
 use Rattle.core_laws.proofs.Views.{View, Same, Claimed, HandedBack, ClosedHeld, ClosedTold, ClosedUnasked, SeesOpened, NotOpened, OtherNotOpened, IsAnswered, OtherAnswered, IsRedone, OtherRedone, IsNamed, OtherNamed, SeesListed, SeesShut, see}
 use Rattle.checkout_core.proofs.Inverses.{close_moves}

@@ -20,7 +20,9 @@ use Rattle.checkout_core.specs.declared.driver.DriverState.{DriverState}
 use Rattle.checkout_core.specs.declared.driver.DriverState.TheVariants as driver
 use Rattle.checkout_core.specs.declared.event.Event.{Event}
 use Rattle.checkout_core.specs.declared.event.Event.TheVariants as ev
-use Rattle.checkout_core.specs.Steps.{none_of, Core, Effect, each, effect_of, after, step_of, replay, is_at, is_unasked, is_first, lacks_smudge, path_after, driver_after, unasked_cause, refused_cause, unasked_close, unasked_fine, replied_sweep, list_sweep, swept, Keep, replied_desk, list_desk, is_names, listed}
+use Rattle.checkout_core.specs.declared.effect.Effect.{Effect}
+use Rattle.checkout_core.specs.declared.effect.Sweep.TheVariants.{Keep}
+use Rattle.checkout_core.specs.Steps.{none_of, Core, each, effect_of, after, step_of, replay, is_at, is_unasked, is_first, lacks_smudge, path_after, driver_after, unasked_cause, refused_cause, unasked_close, unasked_fine, replied_sweep, list_sweep, swept, replied_desk, list_desk, is_names, listed}
 use Rattle.core_laws.specs.Laws.{is_note, own_after}
 use Rattle.core_laws.specs.Talks.{picks, to_ask, skips, skipped, skip_at, skip_start, skip_here, is_alone, talk_paths}
 use Rattle.checkout_core.proofs.Basics.{none_is_some, some_is, eqb_self, get_each, start_after, step_is, first_step, same_or}

@@ -21,8 +21,11 @@ use Rattle.checkout_core.specs.declared.driver.DriverState.{DriverState}
 use Rattle.checkout_core.specs.declared.driver.DriverState.TheVariants as driver
 use Rattle.checkout_core.specs.declared.event.Event.{Event}
 use Rattle.checkout_core.specs.declared.event.Event.TheVariants as ev
-use Rattle.checkout_core.specs.Steps.{Core, Effect, Moves, Turns, Both, Want, Keep, listed, effect_of, after, done, step_of, replay, start, path_of, begins, at_path, at_driver, of_driver, at_session, at_both, given, claim_at, claim, close_at, held_close, heard_close, unasked_close, closing, desk_close, is_first, lacks_smudge, answer_at, list_at, redo_at, redo, replied, none_of, is_unasked, is_at, is_named, is_named_below, named_count, none_below}
-use Rattle.core_laws.specs.Laws.{AreBelow, own_of, is_closed}
+use Rattle.checkout_core.specs.declared.effect.Effect.{Effect}
+use Rattle.checkout_core.specs.declared.effect.Effect.TheVariants.{Moves, Turns, Both}
+use Rattle.checkout_core.specs.declared.effect.Sweep.TheVariants.{Want, Keep}
+use Rattle.checkout_core.specs.Steps.{Core, listed, effect_of, after, done, step_of, replay, start, path_of, begins, at_path, at_driver, of_driver, at_session, at_both, given, claim_at, claim, close_at, held_close, heard_close, unasked_close, closing, desk_close, is_first, lacks_smudge, answer_at, list_at, redo_at, redo, replied, none_of, is_unasked, is_at, is_named, is_named_below, named_count, none_below, AreBelow, is_closed}
+use Rattle.core_laws.specs.Laws.{own_of}
 use Rattle.checkout_core.proofs.Basics.{none_is_some, some_is, eqb_self, step_is, first_step, same_or}
 use Rattle.core_laws.proofs.Views.{at_it, sits, is_sane}
 use Rattle.checkout_core.proofs.Inverses.{not_false, unasked_is}

@@ -5,7 +5,8 @@ use Rattle.checkout_core.specs.declared.path.PathState.{PathState}
 use Rattle.checkout_core.specs.declared.path.PathState.TheVariants as path
 use Rattle.checkout_core.specs.declared.path.PathState.TheVariants.{Waiting, Held, Unasked, Closed}
 use Rattle.checkout_core.specs.declared.path.Path.{Path}
-use Rattle.checkout_core.specs.Steps.{Core, Effect, each, after, is_at, is_delayed, is_named, path_after, named_count}
+use Rattle.checkout_core.specs.declared.effect.Effect.{Effect}
+use Rattle.checkout_core.specs.Steps.{Core, each, after, is_at, is_delayed, is_named, path_after, named_count}
 use Rattle.core_laws.specs.Talks.{contains, without}
 use Rattle.checkout_core.proofs.Basics.{none_is_some, some_is, eqb_self, get_each, each_is, start_after, same_or}
 

@@ -22,7 +22,11 @@ use Rattle.checkout_core.specs.declared.driver.DriverState.{DriverState}
 use Rattle.checkout_core.specs.declared.driver.DriverState.TheVariants as driver
 use Rattle.checkout_core.specs.declared.event.Event.{Event}
 use Rattle.checkout_core.specs.declared.event.Event.TheVariants as ev
-use Rattle.checkout_core.specs.Steps.{Core, Effect, Moves, Turns, Both, Sweep, Keep, Lose, Want, swept, effect_of, after, is_at, is_unasked, is_delayed, is_named, is_named_below, path_after, driver_after, swept_path, with_state, claim, heard_opening, replied_state, replied_desk, replied_sweep, list_desk, list_sweep, list_allowed, is_names, named, listed, redo, refused_cause, hand_back, held_close, heard_close, unasked_close, closing, close_at, desk_close, is_off, none_below, none_of, named_count, lowest_unasked, add_one, is_good_opening, is_good_reply, is_delay, given, replied, of_driver, at_driver, at_session, claim_at, open_at, open_first, fresh, fail_at, answer_in, answer_at, name_in, name_at, list_at, list_step, redo_at, hand_back_at, shut_in, shut_at}
+use Rattle.checkout_core.specs.declared.effect.Effect.{Effect}
+use Rattle.checkout_core.specs.declared.effect.Effect.TheVariants.{Moves, Turns, Both}
+use Rattle.checkout_core.specs.declared.effect.Sweep.{Sweep}
+use Rattle.checkout_core.specs.declared.effect.Sweep.TheVariants.{Keep, Lose, Want}
+use Rattle.checkout_core.specs.Steps.{Core, swept, effect_of, after, is_at, is_unasked, is_delayed, is_named, is_named_below, path_after, driver_after, swept_path, with_state, claim, heard_opening, replied_state, replied_desk, replied_sweep, list_desk, list_sweep, list_allowed, is_names, named, listed, redo, refused_cause, hand_back, held_close, heard_close, unasked_close, closing, close_at, desk_close, is_off, none_below, none_of, named_count, lowest_unasked, add_one, is_good_opening, is_good_reply, is_delay, given, replied, of_driver, at_driver, at_session, claim_at, open_at, open_first, fresh, fail_at, answer_in, answer_at, name_in, name_at, list_at, list_step, redo_at, hand_back_at, shut_in, shut_at}
 use Rattle.core_laws.specs.Laws.{is_of, is_note, own_after}
 use Rattle.checkout_core.proofs.Bridge.{swept_keep}
 use Rattle.checkout_core.proofs.Inverses.{not_false, unasked_is, late_is, off_is, redo_is, claim_is, back_is, closing_is, open_is, close_moves}

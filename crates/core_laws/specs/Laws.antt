@@ -25,8 +25,7 @@ use Rattle.checkout_core.specs.declared.driver.DriverState.{DriverState}
 use Rattle.checkout_core.specs.declared.driver.DriverState.TheVariants as driver
 use Rattle.checkout_core.specs.declared.event.Event.{Event}
 use Rattle.checkout_core.specs.declared.event.Event.TheVariants.{Claim, Close, Opened, OpenFailed, Answered, Named, Listed, Redone, HandBack, Shut}
-use Rattle.checkout_core.specs.Steps.{Core, replay, start, step_of, is_at, is_unasked, refused_verdict, heard_verdict, raw_verdict, write_failed, heard_opening}
-pub use Rattle.checkout_core.specs.Steps.{verdict_of, verdict_at, is_closed, AreBelow}
+use Rattle.checkout_core.specs.Steps.{Core, AreBelow, is_closed, replay, start, step_of, is_at, is_unasked, refused_verdict, heard_verdict, raw_verdict, write_failed, heard_opening}
 
 -- the driver's notes in a history
 abbrev pub is_of : List Start → ℕ → ℕ → Bool

@@ -3,8 +3,8 @@ ghost use Rattle.std.specs.Prelude.{◌≡◌, ◌≤◌, ◌<◌, ◌*◌, ℕ,
 ghost use Rattle.checkout_core.specs.declared.event.Event.{Event};
 ghost use Rattle.checkout_core.specs.declared.path.Start.{Start};
 ghost use Rattle.checkout_core.specs.declared.verdict.Verdict.{Verdict};
-ghost use Rattle.checkout_core.specs.Steps.{Core, replay, start, step_of};
-ghost use Rattle.core_laws.specs.Laws.{AreBelow, IsComplete, IsClosed, notes, own_of, verdict_at, closes, HasOpen};
+ghost use Rattle.checkout_core.specs.Steps.{Core, replay, start, step_of, AreBelow, verdict_at};
+ghost use Rattle.core_laws.specs.Laws.{IsComplete, IsClosed, notes, own_of, closes, HasOpen};
 ghost use Rattle.core_laws.specs.Talks.{Between, is_talk, talk_paths};
 
 /// A closed path stays closed, with its verdict.
