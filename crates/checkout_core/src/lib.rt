@@ -19,3 +19,6 @@ pub use path::{Heard, Path, PathState, Start};
 pub use state::State;
 pub use steps::{Refused, replay, step};
 pub use verdict::{FailCause, FilterCause, ObjectKind, Own, SkipCause, Verdict};
+
+#[cfg(test)]
+mod tests;
