@@ -70,13 +70,8 @@ impl State {
     pub fn verdict(&self, path: u32) -> Option<Verdict>
         ensures { result ≡ verdict_at self.now path }
     {
-        match self.path_at(path) {
-            Some(
-                Path {
-                    state: PathState::Closed(verdict),
-                    ..
-                },
-            ) => Some(verdict),
+        match self.path_at(path)?.state {
+            PathState::Closed(verdict) => Some(verdict),
             _ => None,
         }
     }

@@ -9,3 +9,4 @@ pub mod Sims
 pub mod Once
 pub mod Measure
 pub mod Progress
+pub mod Owns

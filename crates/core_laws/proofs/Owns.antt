@@ -1,0 +1,620 @@
+-- Whether an event of an actor is a step comes from what the actor itself did.
+use Rattle.std.proofs.Common.{◌≡◌, ◌==◌, ℕ, zero, suc, ◌+◌, ◌<◌, ◌≤◌, ◌⊎◌, inl, inr, ⊎_elim, Bool, true, false, cond, List, [], ◌∷◌, length, map, Option, Some, None, refl, sym, ap, ◌∙◌, subst, eq-eqb, arith}
+use Rattle.std.specs.Prelude.{slice_get, ◌&&◌, ◌||◌, not, take, nat_lt}
+use Rattle.filter_words.specs.declared.reply.Caps.{Caps}
+use Rattle.filter_words.specs.declared.reply.Reply.{Reply}
+use Rattle.filter_words.specs.declared.reply.Reply.TheVariants as reply
+use Rattle.filter_words.specs.declared.reply.ListReply.{ListReply}
+use Rattle.filter_words.specs.declared.reply.ListReply.TheVariants as list
+use Rattle.std.proofs.lemmas.Bool.{and_parts, and_from}
+use Rattle.checkout_core.specs.declared.verdict.FilterCause.{FilterCause}
+use Rattle.checkout_core.specs.declared.verdict.Verdict.{Verdict}
+use Rattle.checkout_core.specs.declared.verdict.Own.{Own}
+use Rattle.checkout_core.specs.declared.verdict.Own.TheVariants as own
+use Rattle.checkout_core.specs.declared.event.OpenCause.{OpenCause}
+use Rattle.checkout_core.specs.declared.path.Heard.{Heard}
+use Rattle.checkout_core.specs.declared.path.Heard.TheVariants as heard
+use Rattle.checkout_core.specs.declared.path.PathState.{PathState}
+use Rattle.checkout_core.specs.declared.path.PathState.TheVariants as path
+use Rattle.checkout_core.specs.declared.path.PathState.TheVariants.{Waiting, Held, Unasked, Closed}
+use Rattle.checkout_core.specs.declared.path.Start.{Start}
+use Rattle.checkout_core.specs.declared.path.Start.TheVariants.{Pool, Desk, Done}
+use Rattle.checkout_core.specs.declared.path.Path.{Path}
+use Rattle.checkout_core.specs.declared.driver.Session.{Session}
+use Rattle.checkout_core.specs.declared.driver.DriverState.{DriverState}
+use Rattle.checkout_core.specs.declared.driver.DriverState.TheVariants as driver
+use Rattle.checkout_core.specs.declared.event.Event.{Event}
+use Rattle.checkout_core.specs.declared.event.Event.TheVariants as ev
+use Rattle.checkout_core.specs.declared.effect.Effect.{Effect}
+use Rattle.checkout_core.specs.declared.effect.Effect.TheVariants.{Moves, Turns, Both}
+use Rattle.checkout_core.specs.declared.effect.Sweep.{Sweep}
+use Rattle.checkout_core.specs.declared.effect.Sweep.TheVariants.{Keep, Lose, Want}
+use Rattle.checkout_core.specs.Steps.{Core, AreBelow, effect_of, step_of, after, done, replay, start, offs, path_of, begins, each, path_after, driver_after, swept_path, swept, with_state, at_path, at_driver, at_both, of_driver, at_session, given, is_at, is_unasked, is_delayed, is_named, is_named_below, none_of, path_count, named_count, lowest_unasked, add_one, none_below, is_off, is_good_opening, is_good_reply, is_delay, claim, claim_at, heard_opening, replied, replied_state, replied_desk, replied_sweep, named, listed, list_desk, list_sweep, list_allowed, list_step, list_at, redo, redo_at, unasked_cause, refused_cause, hand_back, hand_back_at, closing, close_at, desk_close, held_close, heard_close, unasked_close, fresh, open_first, open_at, fail_at, answer_in, answer_at, name_in, name_at, shut_in, shut_at}
+use Rattle.core_laws.specs.Laws.{actor_of, desk_of, driver_of, own_entries, is_claim, is_step, ready_at, AlikeCards}
+use Rattle.checkout_core.proofs.Basics.{none_is_some, some_is, given_is, cond_is, cond_not, of_driver_is, at_path_is, at_driver_is, at_both_is, at_session_is, step_is, first_step, get_each, each_is, start_after, same_or, eqb_self}
+use Rattle.checkout_core.proofs.Inverses.{claim_is, close_moves, closing_is, redo_is, back_is, open_is, unasked_is, late_is}
+use Rattle.core_laws.proofs.Views.{Begun}
+use Rattle.core_laws.proofs.Runs.{Good, good_step}
+use Rattle.core_laws.proofs.Verdicts.{good_start}
+
+-- where the path is in the hands of the actor
+abbrev pub is_held : ℕ → PathState → Bool
+is_held a (Held b raw) = a == b
+is_held a s = false
+
+-- what a driver's desk knows of its path: those that wait, are held or closed are away
+abbrev pub known : PathState → PathState
+known (Waiting raw) = Waiting None
+known (Held b raw) = Waiting None
+known (Closed v) = Waiting None
+known s = s
+
+-- two paths that the actor knows alike
+abbrev pub AlikeState : ℕ → ℕ → Start → PathState → PathState → Type 0
+AlikeState workers a s u v = (is_held a u ≡ is_held a v) × ((d : ℕ) → a ≡ workers + d → is_at d s ≡ true → known u ≡ known v)
+
+abbrev pub AlikePath : ℕ → ℕ → Option Path → Option Path → Type 0
+AlikePath workers a None None = Unit {0}
+AlikePath workers a (Some r) (Some s) = (r.start ≡ s.start) × AlikeState workers a r.start r.state s.state
+AlikePath workers a None (Some s) = ⊥
+AlikePath workers a (Some r) None = ⊥
+
+pub record Alike (workers a : ℕ) (c x : Core) : Type 0 where
+  pub few : c.workers ≡ workers
+  pub few_too : x.workers ≡ workers
+  pub paths : (p : ℕ) → AlikePath workers a (slice_get c.paths p) (slice_get x.paths p)
+  pub drivers : (d : ℕ) → a ≡ workers + d → slice_get c.drivers d ≡ slice_get x.drivers d
+
+path_refl : (workers a : ℕ) (o : Option Path) → AlikePath workers a o o
+path_refl workers a None = tt
+path_refl workers a (Some r) = (refl, (refl, λ d i at. refl))
+
+path_sym : (workers a : ℕ) (o q : Option Path) → AlikePath workers a o q → AlikePath workers a q o
+path_sym workers a None None h = tt
+path_sym workers a (Some r) (Some s) h = (sym h.0, (sym h.1.0, λ d i at. sym (h.1.1 d i (ap (is_at d) h.0 ∙ at))))
+path_sym workers a None (Some s) h = h
+path_sym workers a (Some r) None h = h
+
+path_trans : (workers a : ℕ) (o q u : Option Path) → AlikePath workers a o q → AlikePath workers a q u → AlikePath workers a o u
+path_trans workers a None None None h k = tt
+path_trans workers a (Some r) (Some s) (Some t) h k = (h.0 ∙ k.0, (h.1.0 ∙ k.1.0, λ d i at. h.1.1 d i at ∙ k.1.1 d i (ap (is_at d) (sym h.0) ∙ at)))
+path_trans workers a None None (Some t) h k = k
+path_trans workers a None (Some s) u h k = absurd h
+path_trans workers a (Some r) None u h k = absurd h
+path_trans workers a (Some r) (Some s) None h k = k
+
+alike_refl : (workers a : ℕ) (c : Core) → c.workers ≡ workers → Alike workers a c c
+alike_refl workers a c few = record { few = few; few_too = few; paths = λ p. path_refl workers a (slice_get c.paths p); drivers = λ d i. refl }
+
+alike_sym : (workers a : ℕ) (c x : Core) → Alike workers a c x → Alike workers a x c
+alike_sym workers a c x h = record { few = h.few_too; few_too = h.few; paths = λ p. path_sym workers a (slice_get c.paths p) (slice_get x.paths p) (h.paths p); drivers = λ d i. sym (h.drivers d i) }
+
+alike_trans : (workers a : ℕ) (c x y : Core) → Alike workers a c x → Alike workers a x y → Alike workers a c y
+alike_trans workers a c x y h k = record { few = h.few; few_too = k.few_too; paths = λ p. path_trans workers a (slice_get c.paths p) (slice_get x.paths p) (slice_get y.paths p) (h.paths p) (k.paths p); drivers = λ d i. h.drivers d i ∙ k.drivers d i }
+
+-- sweeps
+held_swept : (a : ℕ) (w : Sweep) (s : PathState) → is_held a (swept w s) ≡ is_held a s
+held_swept a Keep path.Delayed = refl
+held_swept a Lose path.Delayed = refl
+held_swept a Want path.Delayed = refl
+held_swept a Keep (path.Named t) = refl
+held_swept a Lose (path.Named t) = refl
+held_swept a Want (path.Named t) = refl
+held_swept a w Unasked = refl
+held_swept a w (path.Heard h) = refl
+held_swept a w (Waiting raw) = refl
+held_swept a w (Held b raw) = refl
+held_swept a w (Closed v) = refl
+
+known_swept : (w : Sweep) (s : PathState) → known (swept w s) ≡ known (swept w (known s))
+known_swept w path.Delayed = refl
+known_swept w (path.Named t) = refl
+known_swept w Unasked = refl
+known_swept w (path.Heard h) = refl
+known_swept w (Waiting raw) = refl
+known_swept w (Held b raw) = refl
+known_swept w (Closed v) = refl
+
+either : {A : Type 0} (f : PathState → A) (b : Bool) (s t : PathState) → f s ≡ f t → f (cond b s t) ≡ f t
+either f true s t e = e
+either f false s t e = refl
+
+sweep_held : (a d : ℕ) (w : Sweep) (r : Path) → is_held a (swept_path d w r).state ≡ is_held a r.state
+sweep_held a d w r = either (is_held a) (is_at d r.start) (swept w r.state) r.state (held_swept a w r.state)
+
+sweep_known : (d : ℕ) (w : Sweep) (r s : Path) → r.start ≡ s.start → known r.state ≡ known s.state → known (swept_path d w r).state ≡ known (swept_path d w s).state
+sweep_known d w r s same k = go (is_at d r.start) (is_at d s.start) (ap (is_at d) same)
+  where
+    go : (b e : Bool) → b ≡ e → known (cond b (swept w r.state) r.state) ≡ known (cond e (swept w s.state) s.state)
+    go true true i = known_swept w r.state ∙ (ap (λ z. known (swept w z)) k ∙ sym (known_swept w s.state))
+    go false false i = k
+    go true false i = absurd (cc (i))
+    go false true i = absurd (cc (i))
+
+-- a place of a list, after a change of each item
+get_after : {A : Type 0} (f : ℕ → A → A) (xs : List A) (i : ℕ) → slice_get (each f xs) i ≡ (elim (slice_get xs i) as (λ _. Option A) [ None ↦ None | Some x ↦ Some (f i x) ])
+get_after f [] i = refl
+get_after f (x ∷ xs) zero = refl
+get_after f (x ∷ xs) (suc i) = get_after (λ j. f (suc j)) xs i
+
+-- the same effect on two that are alike
+module _ (workers a : ℕ) (c x : Core) (alike : Alike workers a c x) where
+  row_same : (m : Effect) (p : ℕ) (r s : Path) → r.start ≡ s.start → AlikeState workers a r.start r.state s.state → AlikeState workers a (path_after m p r).start (path_after m p r).state (path_after m p s).state
+  row_same (Moves q u) p r s same h = go (p == q)
+    where
+      go : (b : Bool) → AlikeState workers a r.start (cond b u r.state) (cond b u s.state)
+      go true = (refl, λ d i at. refl)
+      go false = h
+  row_same (Turns d t w) p r s same h = (sweep_held a d w r ∙ (h.0 ∙ sym (sweep_held a d w s)), λ e i at. sweep_known d w r s same (h.1 e i at))
+  row_same (Both q u d t w) p r s same h = go (p == q)
+    where
+      go : (b : Bool) → AlikeState workers a (cond b (with_state r u) (swept_path d w r)).start (cond b (with_state r u) (swept_path d w r)).state (cond b (with_state s u) (swept_path d w s)).state
+      go true = (refl, λ d i at. refl)
+      go false = (sweep_held a d w r ∙ (h.0 ∙ sym (sweep_held a d w s)), λ e i at. sweep_known d w r s same (h.1 e i at))
+
+  path_same : (m : Effect) (p : ℕ) (o q : Option Path) → AlikePath workers a o q → AlikePath workers a (elim o as (λ _. Option Path) [ None ↦ None | Some r ↦ Some (path_after m p r) ]) (elim q as (λ _. Option Path) [ None ↦ None | Some r ↦ Some (path_after m p r) ])
+  path_same m p None None h = tt
+  path_same m p (Some r) (Some s) h = (start_after m p r ∙ (h.0 ∙ sym (start_after m p s)), row_same m p r s h.0 h.1)
+  path_same m p None (Some s) h = h
+  path_same m p (Some r) None h = h
+
+  pub same_effect : (m : Effect) → Alike workers a (after c m) (after x m)
+  same_effect m = record {
+      few = alike.few;
+      few_too = alike.few_too;
+      paths = λ p. subst (λ (o : Option Path). AlikePath workers a o (slice_get (each (path_after m) x.paths) p)) (sym (get_after (path_after m) c.paths p))
+        (subst (λ (o : Option Path). AlikePath workers a (elim (slice_get c.paths p) as (λ _. Option Path) [ None ↦ None | Some r ↦ Some (path_after m p r) ]) o) (sym (get_after (path_after m) x.paths p))
+          (path_same m p (slice_get c.paths p) (slice_get x.paths p) (alike.paths p)));
+      drivers = λ d i. get_after (driver_after m) c.drivers d ∙ (ap (λ (o : Option DriverState). elim o as (λ _. Option DriverState) [ None ↦ None | Some y ↦ Some (driver_after m d y) ]) (alike.drivers d i) ∙ sym (get_after (driver_after m) x.drivers d));
+    }
+
+  -- a path that moves to states that are alike
+  move_path : (q : ℕ) (u v : PathState) → is_held a u ≡ is_held a v → known u ≡ known v → (p : ℕ) (o k : Option Path) → AlikePath workers a o k → AlikePath workers a (elim o as (λ _. Option Path) [ None ↦ None | Some r ↦ Some (path_after (Moves q u) p r) ]) (elim k as (λ _. Option Path) [ None ↦ None | Some r ↦ Some (path_after (Moves q v) p r) ])
+  move_path q u v i j p None None h = tt
+  move_path q u v i j p (Some r) (Some s) h = (h.0, go (p == q))
+    where
+      go : (b : Bool) → AlikeState workers a r.start (cond b u r.state) (cond b v s.state)
+      go true = (i, λ d k at. j)
+      go false = h.1
+  move_path q u v i j p None (Some s) h = h
+  move_path q u v i j p (Some r) None h = h
+
+  pub moves_alike : (q : ℕ) (u v : PathState) → is_held a u ≡ is_held a v → known u ≡ known v → Alike workers a (after c (Moves q u)) (after x (Moves q v))
+  moves_alike q u v i j = record {
+      few = alike.few;
+      few_too = alike.few_too;
+      paths = λ p. subst (λ (o : Option Path). AlikePath workers a o (slice_get (each (path_after (Moves q v)) x.paths) p)) (sym (get_after (path_after (Moves q u)) c.paths p))
+        (subst (λ (o : Option Path). AlikePath workers a (elim (slice_get c.paths p) as (λ _. Option Path) [ None ↦ None | Some r ↦ Some (path_after (Moves q u) p r) ]) o) (sym (get_after (path_after (Moves q v)) x.paths p))
+          (move_path q u v i j p (slice_get c.paths p) (slice_get x.paths p) (alike.paths p)));
+      drivers = λ d i. get_after (driver_after (Moves q u)) c.drivers d ∙ (ap (λ (o : Option DriverState). elim o as (λ _. Option DriverState) [ None ↦ None | Some y ↦ Some y ]) (alike.drivers d i) ∙ sym (get_after (driver_after (Moves q v)) x.drivers d));
+    }
+
+-- the effects of a driver's events are on its own paths
+abbrev pub is_in_hand : PathState → Bool
+is_in_hand (Held b raw) = true
+is_in_hand s = false
+
+not_held : (a : ℕ) (s : PathState) → is_in_hand s ≡ false → is_held a s ≡ false
+not_held a (Held b raw) e = absurd (cc (e))
+not_held a path.Delayed e = refl
+not_held a (path.Named t) e = refl
+not_held a Unasked e = refl
+not_held a (path.Heard h) e = refl
+not_held a (Waiting raw) e = refl
+not_held a (Closed v) e = refl
+
+abbrev pub MovesOf : Core → ℕ → ℕ → PathState → Type 0
+MovesOf c d p s = (r : Path) × (slice_get c.paths p ≡ Some r) × (is_at d r.start ≡ true) × (is_in_hand r.state ≡ false) × (is_in_hand s ≡ false)
+
+abbrev pub IsOf : Core → ℕ → Effect → Type 0
+IsOf c d (Moves p s) = MovesOf c d p s
+IsOf c d (Turns e t w) = e ≡ d
+IsOf c d (Both p s e t w) = MovesOf c d p s × (e ≡ d)
+
+two_at : (d e : ℕ) (s : Start) → is_at d s ≡ true → is_at e s ≡ true → d ≡ e
+two_at d e (Desk f b) i j = number d f i ∙ sym (number e f j)
+  where
+    number : (a b : ℕ) → (a == b) ≡ true → a ≡ b
+    number a b e = ⊎_elim (λ (h : (a ≡ b) × ((a == b) ≡ true)). h.0) (λ (h : (a == b) ≡ false). absurd (cc (h, e))) (same_or a b)
+two_at d e Pool i j = absurd (cc (i))
+two_at d e (Done v) i j = absurd (cc (i))
+
+at_desk : (d : ℕ) (b : Bool) (s : Start) → s ≡ Desk d b → is_at d s ≡ true
+at_desk d b s e = ap (is_at d) e ∙ eqb_self d
+
+-- one that moves, and is none of what the actor knows
+module _ (workers a : ℕ) (c : Core) (few : c.workers ≡ workers) where
+  still : (m : Effect) → ((p : ℕ) (r : Path) → slice_get c.paths p ≡ Some r → AlikeState workers a r.start r.state (path_after m p r).state) → ((d : ℕ) (y : DriverState) → a ≡ workers + d → driver_after m d y ≡ y) → Alike workers a c (after c m)
+  still m rows turns = record {
+      few = few;
+      few_too = few;
+      paths = λ p. subst (λ (o : Option Path). AlikePath workers a (slice_get c.paths p) o) (sym (get_after (path_after m) c.paths p)) (go p (slice_get c.paths p) refl);
+      drivers = λ d i. at_d d i (slice_get c.drivers d) ∙ sym (get_after (driver_after m) c.drivers d);
+    }
+    where
+      go : (p : ℕ) (o : Option Path) → slice_get c.paths p ≡ o → AlikePath workers a o (elim o as (λ _. Option Path) [ None ↦ None | Some r ↦ Some (path_after m p r) ])
+      go p None i = tt
+      go p (Some r) i = (sym (start_after m p r), rows p r i)
+      at_d : (d : ℕ) → a ≡ workers + d → (o : Option DriverState) → o ≡ (elim o as (λ _. Option DriverState) [ None ↦ None | Some y ↦ Some (driver_after m d y) ])
+      at_d d i None = refl
+      at_d d i (Some y) = ap (λ z. Some z) (sym (turns d y i))
+
+  moved_alone : (q : ℕ) (r : Path) (s : PathState) → slice_get c.paths q ≡ Some r → is_held a r.state ≡ is_held a s → ((d : ℕ) → a ≡ workers + d → is_at d r.start ≡ true → known r.state ≡ known s) → Alike workers a c (after c (Moves q s))
+  moved_alone q r s there held same = still (Moves q s) (λ p w i. ⊎_elim
+        (λ (h : (p ≡ q) × ((p == q) ≡ true)).
+            let one : r ≡ w = some_is r w (sym there ∙ (ap (λ z. slice_get c.paths z) (sym h.0) ∙ i)) in
+            subst (λ (b : Bool). AlikeState workers a w.start w.state (cond b s w.state)) (sym h.1)
+              (subst (λ (z : Path). AlikeState workers a z.start z.state s) one (held, same)))
+        (λ (h : (p == q) ≡ false). subst (λ (b : Bool). AlikeState workers a w.start w.state (cond b s w.state)) (sym h) (refl, λ d k at. refl))
+        (same_or p q))
+      (λ d y i. refl)
+
+  of_leaves : (d : ℕ) (m : Effect) → IsOf c d m → (a ≡ workers + d → ⊥) → Alike workers a c (after c m)
+  of_leaves d (Moves q s) h other =
+      moved_alone q h.0 s h.1 (not_held a (h.0).state h.3 ∙ sym (not_held a s h.4)) (λ e i at. absurd (other (i ∙ ap (λ z. workers + z) (two_at e d (h.0).start at h.2))))
+  of_leaves d (Turns e t w) h other = still (Turns e t w)
+      (λ p r i. (sym (sweep_held a e w r), λ f k at. away f k r at))
+      (λ f y k. ap (λ b. cond b t y) (not_same f e (λ z. other (k ∙ ap (λ u. workers + u) (z ∙ h)))))
+    where
+      not_same : (p q : ℕ) → (p ≡ q → ⊥) → (p == q) ≡ false
+      not_same p q n = ⊎_elim (λ (k : (p ≡ q) × ((p == q) ≡ true)). absurd (n k.0)) (λ (k : (p == q) ≡ false). k) (same_or p q)
+      away : (f : ℕ) → a ≡ workers + f → (r : Path) → is_at f r.start ≡ true → known r.state ≡ known (swept_path e w r).state
+      away f k r at = go (is_at e r.start) refl
+        where
+          go : (b : Bool) → is_at e r.start ≡ b → known r.state ≡ known (cond b (swept w r.state) r.state)
+          go true i = absurd (other (k ∙ ap (λ u. workers + u) (two_at f e r.start at i ∙ h)))
+          go false i = refl
+  of_leaves d (Both q s e t w) h other = still (Both q s e t w)
+      (λ p r i. ⊎_elim
+        (λ (k : (p ≡ q) × ((p == q) ≡ true)).
+            let one : h.0.0 ≡ r = some_is h.0.0 r (sym h.0.1 ∙ (ap (λ z. slice_get c.paths z) (sym k.0) ∙ i)) in
+            subst (λ (b : Bool). AlikeState workers a r.start r.state (cond b (with_state r s) (swept_path e w r)).state) (sym k.1)
+              (subst (λ (z : Path). AlikeState workers a z.start z.state s) one
+                (not_held a (h.0.0).state h.0.3 ∙ sym (not_held a s h.0.4), λ f j at. absurd (other (j ∙ ap (λ z. workers + z) (two_at f d (h.0.0).start at h.0.2))))))
+        (λ (k : (p == q) ≡ false).
+            subst (λ (b : Bool). AlikeState workers a r.start r.state (cond b (with_state r s) (swept_path e w r)).state) (sym k)
+              (sym (sweep_held a e w r), λ f j at. away f j r at))
+        (same_or p q))
+      (λ f y k. ap (λ b. cond b t y) (not_same f e (λ z. other (k ∙ ap (λ u. workers + u) (z ∙ h.1)))))
+    where
+      not_same : (p q : ℕ) → (p ≡ q → ⊥) → (p == q) ≡ false
+      not_same p q n = ⊎_elim (λ (k : (p ≡ q) × ((p == q) ≡ true)). absurd (n k.0)) (λ (k : (p == q) ≡ false). k) (same_or p q)
+      away : (f : ℕ) → a ≡ workers + f → (r : Path) → is_at f r.start ≡ true → known r.state ≡ known (swept_path e w r).state
+      away f k r at = go (is_at e r.start) refl
+        where
+          go : (b : Bool) → is_at e r.start ≡ b → known r.state ≡ known (cond b (swept w r.state) r.state)
+          go true i = absurd (other (k ∙ ap (λ u. workers + u) (two_at f e r.start at i ∙ h.1)))
+          go false i = refl
+
+-- the events of a driver
+replied_not : (y : Reply) → is_in_hand (replied_state y) ≡ false
+replied_not reply.Content = refl
+replied_not reply.Error = refl
+replied_not reply.ErrorAfter = refl
+replied_not reply.Delayed = refl
+replied_not reply.Abort = refl
+replied_not (reply.Broken b) = refl
+replied_not reply.NoMemory = refl
+
+refused_not : (x : DriverState) (s : PathState) (k : FilterCause) → refused_cause x s ≡ Some k → is_in_hand s ≡ false
+refused_not x (path.Heard h) k e = refl
+refused_not x Unasked k e = refl
+refused_not x (Waiting raw) k e = refl
+refused_not x (Held b raw) k e = none_is_some e
+refused_not x path.Delayed k e = refl
+refused_not x (path.Named t) k e = refl
+refused_not x (Closed v) k e = refl
+
+abbrev pub is_drivers : Event → Bool
+is_drivers (ev.Claim p a) = false
+is_drivers (ev.Close p a o) = false
+is_drivers e = true
+
+desk_at : (starts : List Start) (workers p d : ℕ) (b : Bool) (s : Start) → slice_get starts p ≡ Some s → s ≡ Desk d b → desk_of starts workers p ≡ workers + d
+desk_at starts workers p d b s there is = ap (λ (o : Option Start). elim o as (λ _. ℕ) [ None ↦ workers | Some s ↦ workers + driver_of s ]) there ∙ ap (λ z. workers + driver_of z) is
+
+drivers_step : (starts : List Start) (workers : ℕ) (c : Core) (e : Event) (m : Effect) → Begun starts c → is_drivers e ≡ true → effect_of c e ≡ Some m → (d : ℕ) × (actor_of starts workers e ≡ workers + d) × IsOf c d m
+drivers_step starts workers c (ev.Claim q b) m g is h = absurd (cc (is))
+drivers_step starts workers c (ev.Close q b o) m g is h = absurd (cc (is))
+drivers_step starts workers c (ev.Opened d caps) m g is h =
+    let at = at_driver_is c d (open_at c d caps) m h in
+    let k = open_is d caps at.state (lowest_unasked d c.paths) m at.holds in
+    (d, refl, subst (λ (z : Effect). IsOf c d z) k.3 refl)
+drivers_step starts workers c (ev.OpenFailed q o) m g is h =
+    let at = at_both_is c q (fail_at c q o) m h in
+    let b = given_is _ (Moves q (path.Heard (heard_opening o))) m at.holds in
+    let u = and_parts _ _ ((and_parts _ _ b.0).1) in
+    (at.driver, desk_at starts workers q at.driver at.required (at.row).start (g q at.row at.there) at.begun,
+      subst (λ (z : Effect). IsOf c at.driver z) b.1 (at.row, at.there, at_desk at.driver at.required (at.row).start at.begun, ap is_in_hand (unasked_is (at.row).state u.0), refl))
+drivers_step starts workers c (ev.Answered q y) m g is h =
+    let at = at_both_is c q (answer_at c q y) m h in
+    let k = at_session_is at.state (λ s. answer_in c q y (at.row).state at.driver s) m at.holds in
+    let b = given_is _ (replied q at.driver k.0 y) m k.2 in
+    let u = and_parts _ _ ((and_parts _ _ b.0).1) in
+    (at.driver, desk_at starts workers q at.driver at.required (at.row).start (g q at.row at.there) at.begun,
+      subst (λ (z : Effect). IsOf c at.driver z) b.1 ((at.row, at.there, at_desk at.driver at.required (at.row).start at.begun, ap is_in_hand (unasked_is (at.row).state u.0), replied_not y), refl))
+drivers_step starts workers c (ev.Named q) m g is h =
+    let at = at_both_is c q (name_at c q) m h in
+    let k = at_session_is at.state (λ s. name_in c q (at.row).state at.driver s) m at.holds in
+    let b = given_is _ (Both q (path.Named (named_count at.driver c.paths)) at.driver (driver.On (named k.0)) Keep) m k.2 in
+    let v = and_parts _ _ ((and_parts _ _ ((and_parts _ _ b.0).1)).1) in
+    (at.driver, desk_at starts workers q at.driver at.required (at.row).start (g q at.row at.there) at.begun,
+      subst (λ (z : Effect). IsOf c at.driver z) b.1 ((at.row, at.there, at_desk at.driver at.required (at.row).start at.begun, ap is_in_hand (late_is (at.row).state v.0), refl), refl))
+drivers_step starts workers c (ev.Listed d y) m g is h =
+    let at = at_driver_is c d (list_at c d y) m h in
+    let k = at_session_is at.state (λ s. list_step c d s y) m at.holds in
+    let l = given_is (list_allowed c d k.0 y) _ m k.2 in
+    (d, refl, subst (λ (z : Effect). IsOf c d z) l.1 refl)
+drivers_step starts workers c (ev.Redone q y) m g is h =
+    let at = at_both_is c q (redo_at c q y) m h in
+    let k = at_session_is at.state (λ s. redo c q y at.driver s (at.row).state) m at.holds in
+    let b = redo_is c q y at.driver k.0 (at.row).state m k.2 in
+    (at.driver, desk_at starts workers q at.driver at.required (at.row).start (g q at.row at.there) at.begun,
+      subst (λ (z : Effect). IsOf c at.driver z) b.3 ((at.row, at.there, at_desk at.driver at.required (at.row).start at.begun, ap is_in_hand b.1, replied_not y), refl))
+drivers_step starts workers c (ev.HandBack q) m g is h =
+    let at = at_both_is c q (hand_back_at q) m h in
+    let b = cond_not at.required (hand_back q (refused_cause at.state (at.row).state)) m at.holds in
+    let k = back_is q (refused_cause at.state (at.row).state) m b.1 in
+    (at.driver, desk_at starts workers q at.driver at.required (at.row).start (g q at.row at.there) at.begun,
+      subst (λ (z : Effect). IsOf c at.driver z) k.2 (at.row, at.there, at_desk at.driver at.required (at.row).start at.begun, refused_not at.state (at.row).state k.0 k.1, refl))
+drivers_step starts workers c (ev.Shut d) m g is h =
+    let at = at_driver_is c d (shut_at c d) m h in
+    let k = at_session_is at.state (λ s. shut_in c d s) m at.holds in
+    let l = given_is _ (Turns d driver.Done Keep) m k.2 in
+    (d, refl, subst (λ (z : Effect). IsOf c d z) l.1 refl)
+
+desk_from : (c : Core) (q b : ℕ) (r : Path) (f : Bool → DriverState → Option Verdict) (m : Effect) → of_driver r.start (λ d required. at_driver c d (λ x. cond (b == c.workers + d) (closing q (f required x)) None)) ≡ Some m → (d : ℕ) × (u : Bool) × (r.start ≡ Desk d u) × (b ≡ c.workers + d)
+desk_from c q b r f m h =
+    let k = of_driver_is r.start (λ d required. at_driver c d (λ x. cond (b == c.workers + d) (closing q (f required x)) None)) m h in
+    let l = at_driver_is c k.0 (λ x. cond (b == c.workers + k.0) (closing q (f k.1 x)) None) m k.3 in
+    let n = cond_is _ (closing q (f k.1 l.state)) m l.holds in
+    (k.0, k.1, k.2, number b (c.workers + k.0) n.0)
+  where
+    number : (a b : ℕ) → (a == b) ≡ true → a ≡ b
+    number a b e = ⊎_elim (λ (h : (a ≡ b) × ((a == b) ≡ true)). h.0) (λ (h : (a == b) ≡ false). absurd (cc (h, e))) (same_or a b)
+
+-- whose card a close may be of
+close_from : (c : Core) (q b : ℕ) (o : Own) (r : Path) (s : PathState) (m : Effect) → close_at c q b o r s ≡ Some m → ((raw : Option FilterCause) × (s ≡ Held b raw)) ⊎ ((is_in_hand s ≡ false) × ((d : ℕ) × (u : Bool) × (r.start ≡ Desk d u) × (b ≡ c.workers + d)))
+close_from c q b o r (Held e raw) m h =
+    let u = cond_is (b == e) (closing q (held_close raw o)) m h in
+    inl (raw, ap (λ z. Held z raw) (sym (number b e u.0)))
+  where
+    number : (a b : ℕ) → (a == b) ≡ true → a ≡ b
+    number a b e = ⊎_elim (λ (h : (a ≡ b) × ((a == b) ≡ true)). h.0) (λ (h : (a == b) ≡ false). absurd (cc (h, e))) (same_or a b)
+close_from c q b o r (path.Heard t) m h = inr (refl, desk_from c q b r (λ required x. heard_close required t o) m h)
+close_from c q b o r Unasked m h = inr (refl, desk_from c q b r (λ required x. unasked_close required x q o) m h)
+close_from c q b o r (Waiting raw) m h = none_is_some h
+close_from c q b o r path.Delayed m h = none_is_some h
+close_from c q b o r (path.Named t) m h = none_is_some h
+close_from c q b o r (Closed v) m h = none_is_some h
+
+-- another actor's step leaves what the actor knows
+others_leave : (starts : List Start) (workers a : ℕ) (c : Core) (e : Event) (m : Effect) → Begun starts c → c.workers ≡ workers → effect_of c e ≡ Some m → (actor_of starts workers e ≡ a → ⊥) → Alike workers a c (after c m)
+others_leave starts workers a c (ev.Claim q b) m g few h other =
+    let at = at_path_is c q (claim_at c q b) m h in
+    let u = cond_is _ (claim q b (at.row).state) m at.holds in
+    let k = claim_is q b (at.row).state m u.1 in
+    subst (λ (z : Effect). Alike workers a c (after c z)) k.2
+      (moved_alone workers a c few q at.row (Held b k.0) at.there (ap (is_held a) k.1 ∙ sym (not_same a b (λ i. other (sym i)))) (λ d i j. ap known k.1))
+  where
+    not_same : (p q : ℕ) → (p ≡ q → ⊥) → (p == q) ≡ false
+    not_same p q n = ⊎_elim (λ (k : (p ≡ q) × ((p == q) ≡ true)). absurd (n k.0)) (λ (k : (p == q) ≡ false). k) (same_or p q)
+others_leave starts workers a c (ev.Close q b o) m g few h other =
+    let at = at_path_is c q (λ r. close_at c q b o r r.state) m h in
+    let k = close_moves c q b o at.row (at.row).state m at.holds in
+    subst (λ (z : Effect). Alike workers a c (after c z)) k.1
+      (⊎_elim
+        (λ (s : (raw : Option FilterCause) × ((at.row).state ≡ Held b raw)).
+            moved_alone workers a c few q at.row (Closed k.0) at.there (ap (is_held a) s.1 ∙ not_same a b (λ i. other (sym i))) (λ d i j. ap known s.1))
+        (λ (s : (is_in_hand (at.row).state ≡ false) × ((d : ℕ) × (u : Bool) × ((at.row).start ≡ Desk d u) × (b ≡ c.workers + d))).
+            moved_alone workers a c few q at.row (Closed k.0) at.there (not_held a (at.row).state s.0)
+              (λ d i j. absurd (other (s.1.3 ∙ (ap (λ z. z + s.1.0) few ∙ sym (i ∙ ap (λ z. workers + z) (two_at d s.1.0 (at.row).start j (at_desk s.1.0 s.1.1 (at.row).start s.1.2))))))))
+        (close_from c q b o at.row (at.row).state m at.holds))
+  where
+    not_same : (p q : ℕ) → (p ≡ q → ⊥) → (p == q) ≡ false
+    not_same p q n = ⊎_elim (λ (k : (p ≡ q) × ((p == q) ≡ true)). absurd (n k.0)) (λ (k : (p == q) ≡ false). k) (same_or p q)
+others_leave starts workers a c (ev.Opened d caps) m g few h other = let k = drivers_step starts workers c (ev.Opened d caps) m g refl h in of_leaves workers a c few k.0 m k.2 (λ i. other (k.1 ∙ sym i))
+others_leave starts workers a c (ev.OpenFailed q o) m g few h other = let k = drivers_step starts workers c (ev.OpenFailed q o) m g refl h in of_leaves workers a c few k.0 m k.2 (λ i. other (k.1 ∙ sym i))
+others_leave starts workers a c (ev.Answered q y) m g few h other = let k = drivers_step starts workers c (ev.Answered q y) m g refl h in of_leaves workers a c few k.0 m k.2 (λ i. other (k.1 ∙ sym i))
+others_leave starts workers a c (ev.Named q) m g few h other = let k = drivers_step starts workers c (ev.Named q) m g refl h in of_leaves workers a c few k.0 m k.2 (λ i. other (k.1 ∙ sym i))
+others_leave starts workers a c (ev.Listed d y) m g few h other = let k = drivers_step starts workers c (ev.Listed d y) m g refl h in of_leaves workers a c few k.0 m k.2 (λ i. other (k.1 ∙ sym i))
+others_leave starts workers a c (ev.Redone q y) m g few h other = let k = drivers_step starts workers c (ev.Redone q y) m g refl h in of_leaves workers a c few k.0 m k.2 (λ i. other (k.1 ∙ sym i))
+others_leave starts workers a c (ev.HandBack q) m g few h other = let k = drivers_step starts workers c (ev.HandBack q) m g refl h in of_leaves workers a c few k.0 m k.2 (λ i. other (k.1 ∙ sym i))
+others_leave starts workers a c (ev.Shut d) m g few h other = let k = drivers_step starts workers c (ev.Shut d) m g refl h in of_leaves workers a c few k.0 m k.2 (λ i. other (k.1 ∙ sym i))
+
+-- what the actor knows decides the tests
+module _ (workers a d : ℕ) (mine : a ≡ workers + d) where
+  test_alike : (f : PathState → Bool) → ((s : PathState) → f s ≡ f (known s)) → (r s : Path) → AlikePath workers a (Some r) (Some s) → (is_at d r.start && f r.state) ≡ (is_at d s.start && f s.state)
+  test_alike f same r s h = go (is_at d r.start) refl
+    where
+      go : (b : Bool) → is_at d r.start ≡ b → (is_at d r.start && f r.state) ≡ (is_at d s.start && f s.state)
+      go true i = ap (λ b. is_at d r.start && b) (same r.state ∙ (ap f (h.1.1 d mine i) ∙ sym (same s.state))) ∙ ap (λ b. b && f s.state) (ap (is_at d) h.0)
+      go false i = ap (λ b. b && f r.state) i ∙ (sym (ap (λ b. b && f s.state) i) ∙ ap (λ b. b && f s.state) (ap (is_at d) h.0))
+
+  none_alike : (f : PathState → Bool) → ((s : PathState) → f s ≡ f (known s)) → (xs ys : List Path) → ((p : ℕ) → AlikePath workers a (slice_get xs p) (slice_get ys p)) → none_of d f xs ≡ none_of d f ys
+  none_alike f same [] [] h = refl
+  none_alike f same [] (y ∷ ys) h = absurd (h zero)
+  none_alike f same (x ∷ xs) [] h = absurd (h zero)
+  none_alike f same (x ∷ xs) (y ∷ ys) h =
+      ap (λ b. not b && none_of d f xs) (test_alike f same x y (h zero)) ∙ ap (λ b. not (is_at d y.start && f y.state) && b) (none_alike f same xs ys (λ p. h (suc p)))
+
+  below_alike : (f : PathState → Bool) → ((s : PathState) → f s ≡ f (known s)) → (n : ℕ) (xs ys : List Path) → ((p : ℕ) → AlikePath workers a (slice_get xs p) (slice_get ys p)) → none_of d f (take n xs) ≡ none_of d f (take n ys)
+  below_alike f same zero xs ys h = refl
+  below_alike f same (suc n) [] [] h = refl
+  below_alike f same (suc n) [] (y ∷ ys) h = absurd (h zero)
+  below_alike f same (suc n) (x ∷ xs) [] h = absurd (h zero)
+  below_alike f same (suc n) (x ∷ xs) (y ∷ ys) h =
+      ap (λ b. not b && none_of d f (take n xs)) (test_alike f same x y (h zero)) ∙ ap (λ b. not (is_at d y.start && f y.state) && b) (below_alike f same n xs ys (λ p. h (suc p)))
+
+  count_alike : (f : PathState → Bool) → ((s : PathState) → f s ≡ f (known s)) → (xs ys : List Path) → ((p : ℕ) → AlikePath workers a (slice_get xs p) (slice_get ys p)) → path_count d f xs ≡ path_count d f ys
+  count_alike f same [] [] h = refl
+  count_alike f same [] (y ∷ ys) h = absurd (h zero)
+  count_alike f same (x ∷ xs) [] h = absurd (h zero)
+  count_alike f same (x ∷ xs) (y ∷ ys) h =
+      ap (λ b. cond b 1 0 + path_count d f xs) (test_alike f same x y (h zero)) ∙ ap (λ n. cond (is_at d y.start && f y.state) 1 0 + n) (count_alike f same xs ys (λ p. h (suc p)))
+
+  unasked_known : (s : PathState) → is_unasked s ≡ is_unasked (known s)
+  unasked_known path.Delayed = refl
+  unasked_known (path.Named t) = refl
+  unasked_known Unasked = refl
+  unasked_known (path.Heard h) = refl
+  unasked_known (Waiting raw) = refl
+  unasked_known (Held b raw) = refl
+  unasked_known (Closed v) = refl
+
+  named_known : (s : PathState) → is_named s ≡ is_named (known s)
+  named_known path.Delayed = refl
+  named_known (path.Named t) = refl
+  named_known Unasked = refl
+  named_known (path.Heard h) = refl
+  named_known (Waiting raw) = refl
+  named_known (Held b raw) = refl
+  named_known (Closed v) = refl
+
+  below_known : (t : ℕ) (s : PathState) → is_named_below t s ≡ is_named_below t (known s)
+  below_known t path.Delayed = refl
+  below_known t (path.Named u) = refl
+  below_known t Unasked = refl
+  below_known t (path.Heard h) = refl
+  below_known t (Waiting raw) = refl
+  below_known t (Held b raw) = refl
+  below_known t (Closed v) = refl
+
+  delayed_known : (s : PathState) → is_delayed s ≡ is_delayed (known s)
+  delayed_known path.Delayed = refl
+  delayed_known (path.Named t) = refl
+  delayed_known Unasked = refl
+  delayed_known (path.Heard h) = refl
+  delayed_known (Waiting raw) = refl
+  delayed_known (Held b raw) = refl
+  delayed_known (Closed v) = refl
+
+  lowest_alike : (xs ys : List Path) → ((p : ℕ) → AlikePath workers a (slice_get xs p) (slice_get ys p)) → lowest_unasked d xs ≡ lowest_unasked d ys
+  lowest_alike [] [] h = refl
+  lowest_alike [] (y ∷ ys) h = absurd (h zero)
+  lowest_alike (x ∷ xs) [] h = absurd (h zero)
+  lowest_alike (x ∷ xs) (y ∷ ys) h =
+      ap (λ b. cond b (Some zero) (add_one (lowest_unasked d xs))) (test_alike is_unasked unasked_known x y (h zero)) ∙ ap (λ o. cond (is_at d y.start && is_unasked y.state) (Some zero) (add_one o)) (lowest_alike xs ys (λ p. h (suc p)))
+
+  -- each event of this driver does the same in both
+  module _ (c x : Core) (alike : Alike workers a c x) where
+    fail_alike : (p : ℕ) (o : OpenCause) (r s : Path) (b : Bool) (y : DriverState) → known r.state ≡ known s.state → fail_at c p o r d b y ≡ fail_at x p o s d b y
+    fail_alike p o r s b y k =
+        ap (λ u. given (is_off y && (u && (none_below c d p && is_good_opening o))) (Moves p (path.Heard (heard_opening o)))) (unasked_known r.state ∙ (ap is_unasked k ∙ sym (unasked_known s.state)))
+        ∙ ap (λ u. given (is_off y && (is_unasked s.state && (u && is_good_opening o))) (Moves p (path.Heard (heard_opening o)))) (below_alike is_unasked unasked_known p c.paths x.paths alike.paths)
+
+    answer_alike : (p : ℕ) (z : Reply) (r s : Path) (b : Bool) (y : DriverState) → known r.state ≡ known s.state → answer_at c p z r d b y ≡ answer_at x p z s d b y
+    answer_alike p z r s b (driver.On k) e =
+        ap (λ u. given ((k.caps).smudge && (u && (none_below c d p && (is_good_reply z && not (is_delay z && not (k.caps).delay))))) (replied p d k z)) (unasked_known r.state ∙ (ap is_unasked e ∙ sym (unasked_known s.state)))
+        ∙ ap (λ u. given ((k.caps).smudge && (is_unasked s.state && (u && (is_good_reply z && not (is_delay z && not (k.caps).delay))))) (replied p d k z)) (below_alike is_unasked unasked_known p c.paths x.paths alike.paths)
+    answer_alike p z r s b driver.Off e = refl
+    answer_alike p z r s b driver.Aborted e = refl
+    answer_alike p z r s b driver.Done e = refl
+
+    name_alike : (p : ℕ) (r s : Path) (b : Bool) (y : DriverState) → known r.state ≡ known s.state → name_at c p r d b y ≡ name_at x p s d b y
+    name_alike p r s b (driver.On k) e =
+        ap (λ u. given (k.had && (u && (is_delayed r.state && not (not k.naming && not (none_of d is_named c.paths))))) (Both p (path.Named (named_count d c.paths)) d (driver.On (named k)) Keep)) (none_alike is_unasked unasked_known c.paths x.paths alike.paths)
+        ∙ (ap (λ u. given (k.had && (none_of d is_unasked x.paths && (u && not (not k.naming && not (none_of d is_named c.paths))))) (Both p (path.Named (named_count d c.paths)) d (driver.On (named k)) Keep)) (delayed_known r.state ∙ (ap is_delayed e ∙ sym (delayed_known s.state)))
+        ∙ (ap (λ u. given (k.had && (none_of d is_unasked x.paths && (is_delayed s.state && not (not k.naming && not u)))) (Both p (path.Named (named_count d c.paths)) d (driver.On (named k)) Keep)) (none_alike is_named named_known c.paths x.paths alike.paths)
+        ∙ ap (λ n. given (k.had && (none_of d is_unasked x.paths && (is_delayed s.state && not (not k.naming && not (none_of d is_named x.paths))))) (Both p (path.Named n) d (driver.On (named k)) Keep)) (count_alike is_named named_known c.paths x.paths alike.paths)))
+    name_alike p r s b driver.Off e = refl
+    name_alike p r s b driver.Aborted e = refl
+    name_alike p r s b driver.Done e = refl
+
+    redo_known : (z : Core) (p : ℕ) (y : Reply) (k : Session) (s : PathState) → redo z p y d k s ≡ redo z p y d k (known s)
+    redo_known z p y k path.Delayed = refl
+    redo_known z p y k (path.Named t) = refl
+    redo_known z p y k Unasked = refl
+    redo_known z p y k (path.Heard h) = refl
+    redo_known z p y k (Waiting raw) = refl
+    redo_known z p y k (Held b raw) = refl
+    redo_known z p y k (Closed v) = refl
+
+    redo_both : (p : ℕ) (y : Reply) (k : Session) (s : PathState) → redo c p y d k s ≡ redo x p y d k s
+    redo_both p y k (path.Named t) = ap (λ u. given (not k.naming && (not (is_delay y) && (is_good_reply y && u))) (replied p d k y)) (none_alike (is_named_below t) (below_known t) c.paths x.paths alike.paths)
+    redo_both p y k path.Delayed = refl
+    redo_both p y k Unasked = refl
+    redo_both p y k (path.Heard h) = refl
+    redo_both p y k (Waiting raw) = refl
+    redo_both p y k (Held b raw) = refl
+    redo_both p y k (Closed v) = refl
+
+    redo_alike : (p : ℕ) (y : Reply) (r s : Path) (b : Bool) (z : DriverState) → known r.state ≡ known s.state → redo_at c p y r d b z ≡ redo_at x p y s d b z
+    redo_alike p y r s b (driver.On k) e = redo_known c p y k r.state ∙ (ap (redo c p y d k) e ∙ (sym (redo_known c p y k s.state) ∙ redo_both p y k s.state))
+    redo_alike p y r s b driver.Off e = refl
+    redo_alike p y r s b driver.Aborted e = refl
+    redo_alike p y r s b driver.Done e = refl
+
+    refused_known : (y : DriverState) (s : PathState) → refused_cause y s ≡ refused_cause y (known s)
+    refused_known y path.Delayed = refl
+    refused_known y (path.Named t) = refl
+    refused_known y Unasked = refl
+    refused_known y (path.Heard h) = refl
+    refused_known y (Waiting raw) = refl
+    refused_known y (Held b raw) = refl
+    refused_known y (Closed v) = refl
+
+    back_alike : (p : ℕ) (r s : Path) (b : Bool) (y : DriverState) → known r.state ≡ known s.state → hand_back_at p r d b y ≡ hand_back_at p s d b y
+    back_alike p r s b y e = ap (λ k. cond b None (hand_back p k)) (refused_known y r.state ∙ (ap (refused_cause y) e ∙ sym (refused_known y s.state)))
+
+    list_alike : (y : ListReply) (z : DriverState) → list_at c d y z ≡ list_at x d y z
+    list_alike y (driver.On k) = ap (λ b. given b (Turns d (list_desk k y) (list_sweep y))) (go y)
+      where
+        rest : (k.had && (not k.naming && (none_of d is_unasked c.paths && none_of d is_named c.paths))) ≡ (k.had && (not k.naming && (none_of d is_unasked x.paths && none_of d is_named x.paths)))
+        rest = ap (λ b. k.had && (not k.naming && (b && none_of d is_named c.paths))) (none_alike is_unasked unasked_known c.paths x.paths alike.paths) ∙ ap (λ b. k.had && (not k.naming && (none_of d is_unasked x.paths && b))) (none_alike is_named named_known c.paths x.paths alike.paths)
+        go : (y : ListReply) → list_allowed c d k y ≡ list_allowed x d k y
+        go (list.Names n) = ap (λ m. k.naming && (n == m)) (count_alike is_named named_known c.paths x.paths alike.paths)
+        go list.Empty = rest
+        go list.Abort = rest
+        go (list.Broken b) = rest
+        go list.NoMemory = rest
+    list_alike y driver.Off = refl
+    list_alike y driver.Aborted = refl
+    list_alike y driver.Done = refl
+
+    shut_alike : (z : DriverState) → shut_at c d z ≡ shut_at x d z
+    shut_alike (driver.On k) = ap (λ b. given (not k.had && b) (Turns d driver.Done Keep)) (none_alike is_unasked unasked_known c.paths x.paths alike.paths)
+    shut_alike driver.Off = refl
+    shut_alike driver.Aborted = refl
+    shut_alike driver.Done = refl
+
+    open_alike : (caps : Caps) (z : DriverState) → open_at c d caps z ≡ open_at x d caps z
+    open_alike caps z = ap (open_first d caps z) (lowest_alike c.paths x.paths alike.paths)
+
+    driver_alike : (f g : DriverState → Option Effect) → ((y : DriverState) → f y ≡ g y) → at_driver c d f ≡ at_driver x d g
+    driver_alike f g same = ap (λ (o : Option DriverState). elim o as (λ _. Option Effect) [ None ↦ None | Some y ↦ f y ]) (alike.drivers d mine) ∙ go (slice_get x.drivers d)
+      where
+        go : (o : Option DriverState) → (elim o as (λ _. Option Effect) [ None ↦ None | Some y ↦ f y ]) ≡ (elim o as (λ _. Option Effect) [ None ↦ None | Some y ↦ g y ])
+        go None = refl
+        go (Some y) = same y
+
+-- a path's driver is the actor's own
+both_alike : (starts : List Start) (workers a : ℕ) (c x : Core) (alike : Alike workers a c x) (p : ℕ) (f g : Path → ℕ → Bool → DriverState → Option Effect) → Begun starts c → desk_of starts workers p ≡ a → ((d : ℕ) → a ≡ workers + d → (r s : Path) (b : Bool) (y : DriverState) → known r.state ≡ known s.state → f r d b y ≡ g s d b y) → at_both c p f ≡ at_both x p g
+both_alike starts workers a c x alike p f g begun mine same = go (slice_get c.paths p) (slice_get x.paths p) refl (alike.paths p)
+  where
+    of : Core → (Path → ℕ → Bool → DriverState → Option Effect) → Option Path → Option Effect
+    of z h o = elim o as (λ _. Option Effect) [ None ↦ None | Some r ↦ of_driver r.start (λ d required. at_driver z d (λ y. h r d required y)) ]
+    at : (r s : Path) → slice_get c.paths p ≡ Some r → AlikePath workers a (Some r) (Some s) → (t : Start) → r.start ≡ t → of_driver t (λ d required. at_driver c d (λ y. f r d required y)) ≡ of_driver t (λ d required. at_driver x d (λ y. g s d required y))
+    at r s there h (Desk d b) is =
+        let own : a ≡ workers + d = sym mine ∙ desk_at starts workers p d b r.start (begun p r there) is in
+        driver_alike workers a d own c x alike (λ y. f r d b y) (λ y. g s d b y) (λ y. same d own r s b y (h.1.1 d own (at_desk d b r.start is)))
+    at r s there h Pool is = refl
+    at r s there h (Done v) is = refl
+    go : (o q : Option Path) → slice_get c.paths p ≡ o → AlikePath workers a o q → (elim o as (λ _. Option Effect) [ None ↦ None | Some r ↦ of_driver r.start (λ d required. at_driver c d (λ y. f r d required y)) ]) ≡ (elim q as (λ _. Option Effect) [ None ↦ None | Some r ↦ of_driver r.start (λ d required. at_driver x d (λ y. g r d required y)) ])
+    go None None there h = refl
+    go (Some r) (Some s) there h = at r s there h r.start refl ∙ ap (λ t. of_driver t (λ d required. at_driver x d (λ y. g s d required y))) h.0
+    go None (Some s) there h = absurd h
+    go (Some r) None there h = absurd h
+
+-- a driver's own events have equal effects
+drivers_alike : (starts : List Start) (workers a : ℕ) (c x : Core) (e : Event) → Begun starts c → Alike workers a c x → actor_of starts workers e ≡ a → is_drivers e ≡ true → effect_of c e ≡ effect_of x e
+drivers_alike starts workers a c x (ev.Claim q b) begun alike mine is = absurd (cc (is))
+drivers_alike starts workers a c x (ev.Close q b o) begun alike mine is = absurd (cc (is))
+drivers_alike starts workers a c x (ev.Opened d caps) begun alike mine is = driver_alike workers a d (sym mine) c x alike (open_at c d caps) (open_at x d caps) (λ y. open_alike workers a d (sym mine) c x alike caps y)
+drivers_alike starts workers a c x (ev.OpenFailed q o) begun alike mine is = both_alike starts workers a c x alike q (fail_at c q o) (fail_at x q o) begun mine (λ d own r s b y k. fail_alike workers a d own c x alike q o r s b y k)
+drivers_alike starts workers a c x (ev.Answered q z) begun alike mine is = both_alike starts workers a c x alike q (answer_at c q z) (answer_at x q z) begun mine (λ d own r s b y k. answer_alike workers a d own c x alike q z r s b y k)
+drivers_alike starts workers a c x (ev.Named q) begun alike mine is = both_alike starts workers a c x alike q (name_at c q) (name_at x q) begun mine (λ d own r s b y k. name_alike workers a d own c x alike q r s b y k)
+drivers_alike starts workers a c x (ev.Listed d z) begun alike mine is = driver_alike workers a d (sym mine) c x alike (list_at c d z) (list_at x d z) (λ y. list_alike workers a d (sym mine) c x alike z y)
+drivers_alike starts workers a c x (ev.Redone q z) begun alike mine is = both_alike starts workers a c x alike q (redo_at c q z) (redo_at x q z) begun mine (λ d own r s b y k. redo_alike workers a d own c x alike q z r s b y k)
+drivers_alike starts workers a c x (ev.HandBack q) begun alike mine is = both_alike starts workers a c x alike q (hand_back_at q) (hand_back_at q) begun mine (λ d own r s b y k. back_alike workers a d own c x alike q r s b y k)
+drivers_alike starts workers a c x (ev.Shut d) begun alike mine is = driver_alike workers a d (sym mine) c x alike (shut_at c d) (shut_at x d) (λ y. shut_alike workers a d (sym mine) c x alike y)
