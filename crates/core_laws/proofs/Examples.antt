@@ -1,16 +1,14 @@
 -- One run with a delayed path.
-use Rattle.std.proofs.Common.{◌≡◌, ℕ, Bool, true, false, List, [], ◌∷◌, map, Option, Some, None, refl}
-use Rattle.std.specs.Prelude.{cond}
+use Rattle.std.proofs.Common.{◌≡◌, Bool, true, false, List, [], ◌∷◌, map, Option, Some, None, refl}
 use Rattle.filter_words.specs.declared.reply.Reply.TheVariants as reply
 use Rattle.filter_words.specs.declared.reply.ListReply.TheVariants as list
 use Rattle.checkout_core.specs.declared.verdict.Own.TheVariants as own
 use Rattle.checkout_core.specs.declared.verdict.Verdict.{Verdict}
 use Rattle.checkout_core.specs.declared.verdict.Verdict.TheVariants as verdict
-use Rattle.checkout_core.specs.declared.path.PathState.TheVariants as st
-use Rattle.checkout_core.specs.declared.path.Start.TheVariants.{Pool, Desk, Done}
+use Rattle.checkout_core.specs.declared.path.Start.TheVariants.{Pool, Desk}
 use Rattle.checkout_core.specs.declared.path.Path.{Path}
 use Rattle.checkout_core.specs.declared.event.Event.{Event}
-use Rattle.checkout_core.specs.declared.event.Event.TheVariants.{Claim, Close, Opened, OpenFailed, Answered, Named, Listed, Redone, HandBack, Shut}
+use Rattle.checkout_core.specs.declared.event.Event.TheVariants.{Claim, Close, Opened, Answered, Named, Listed, Redone, HandBack, Shut}
 use Rattle.checkout_core.specs.Steps.{Core, start, replay, step_of, verdict_of}
 use Rattle.filter_words.specs.declared.reply.Caps.{Caps}
 use Rattle.core_laws.specs.Talks.{Between, is_talk}

@@ -1,15 +1,10 @@
 -- A path's verdict comes from its start, its driver's notes and its own outcome.
-use Rattle.std.proofs.Common.{◌≡◌, ◌==◌, ℕ, zero, suc, ◌+◌, ◌⊎◌, inl, inr, ⊎_elim, Bool, true, false, cond, List, [], ◌∷◌, Option, Some, None, refl, sym, ap, ◌∙◌, subst, eq-eqb}
-use Rattle.std.specs.Prelude.{slice_get, ◌&&◌, ◌||◌, not}
-use Rattle.filter_words.specs.declared.reply.Caps.{Caps}
+use Rattle.std.proofs.Common.{◌≡◌, ◌==◌, ℕ, Bool, true, false, cond, Option, Some, None, refl, sym, ap, ◌∙◌, subst}
 use Rattle.checkout_core.specs.declared.verdict.FilterCause.{FilterCause}
 use Rattle.checkout_core.specs.declared.verdict.FilterCause.TheVariants as cause
-use Rattle.checkout_core.specs.declared.verdict.FailCause.TheVariants as fail
 use Rattle.checkout_core.specs.declared.verdict.Verdict.{Verdict}
-use Rattle.checkout_core.specs.declared.verdict.Verdict.TheVariants as verdict
 use Rattle.checkout_core.specs.declared.verdict.Own.{Own}
 use Rattle.checkout_core.specs.declared.verdict.Own.TheVariants as own
-use Rattle.checkout_core.specs.declared.event.OpenCause.{OpenCause}
 use Rattle.checkout_core.specs.declared.path.Heard.{Heard}
 use Rattle.checkout_core.specs.declared.path.Heard.TheVariants as heard
 use Rattle.filter_words.specs.declared.reply.Reply.{Reply}
@@ -19,19 +14,15 @@ use Rattle.filter_words.specs.declared.reply.ListReply.TheVariants as list
 use Rattle.checkout_core.specs.declared.path.PathState.{PathState}
 use Rattle.checkout_core.specs.declared.path.PathState.TheVariants as path
 use Rattle.checkout_core.specs.declared.path.PathState.TheVariants.{Waiting, Held, Unasked, Closed}
-use Rattle.checkout_core.specs.declared.path.Start.{Start}
-use Rattle.checkout_core.specs.declared.path.Start.TheVariants.{Pool, Desk, Done}
-use Rattle.checkout_core.specs.declared.path.Path.{Path}
 use Rattle.checkout_core.specs.declared.driver.Session.{Session}
 use Rattle.checkout_core.specs.declared.driver.DriverState.{DriverState}
 use Rattle.checkout_core.specs.declared.driver.DriverState.TheVariants as driver
 use Rattle.checkout_core.specs.declared.event.Event.{Event}
 use Rattle.checkout_core.specs.declared.event.Event.TheVariants as ev
-use Rattle.checkout_core.specs.declared.effect.Effect.{Effect}
 use Rattle.checkout_core.specs.declared.effect.Sweep.{Sweep}
 use Rattle.checkout_core.specs.declared.effect.Sweep.TheVariants.{Keep, Lose, Want}
-use Rattle.checkout_core.specs.Steps.{Core, swept, ended, is_unasked, is_delay, is_names, replied_state, replied_desk, replied_sweep, list_desk, list_sweep, heard_opening, refused_cause, unasked_cause, held_close, heard_close, unasked_close, unasked_fine, refused_verdict, is_first, lacks_smudge, named, listed, delayed}
-use Rattle.core_laws.specs.Laws.{own_after, Fate, Untold, Later, Known, fate_after, fate_moves, fate_here, fate_there, fate_opened, fate_listed, pool_verdict, known_verdict, desk_verdict}
+use Rattle.checkout_core.specs.Steps.{swept, ended, is_unasked, is_names, replied_state, replied_desk, replied_sweep, list_desk, list_sweep, heard_opening, refused_cause, unasked_cause, held_close, heard_close, unasked_close, unasked_fine, named}
+use Rattle.core_laws.specs.Laws.{own_after, Fate, Untold, Later, Known, fate_after, fate_moves, fate_here, fate_there, fate_opened, fate_listed, pool_verdict, desk_verdict}
 use Rattle.checkout_core.proofs.Basics.{none_is_some, eqb_self}
 use Rattle.core_laws.proofs.Views.{View, Same, Claimed, HandedBack, ClosedHeld, ClosedTold, ClosedUnasked, SeesOpened, NotOpened, OtherNotOpened, IsAnswered, OtherAnswered, IsRedone, OtherRedone, IsNamed, OtherNamed, SeesListed, SeesShut}
 

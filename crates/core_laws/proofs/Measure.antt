@@ -1,15 +1,13 @@
 -- How long a history can be.
-use Rattle.std.proofs.Common.{◌≡◌, ◌==◌, ℕ, zero, suc, ◌+◌, ◌*◌, ◌<◌, ◌≤◌, ◌⊎◌, inl, inr, ⊎_elim, Bool, true, false, cond, List, [], ◌∷◌, length, map, Option, Some, None, refl, sym, ap, ◌∙◌, subst, eq-eqb, arith}
-use Rattle.std.specs.Prelude.{slice_get, ◌&&◌, not}
-use Rattle.std.proofs.lemmas.Bool.{and_parts, and_from}
+use Rattle.std.proofs.Common.{◌≡◌, ◌==◌, ℕ, zero, suc, ◌+◌, ◌*◌, ◌<◌, ◌≤◌, ◌⊎◌, inl, inr, ⊎_elim, Bool, true, false, cond, List, [], ◌∷◌, length, map, Option, Some, None, refl, sym, ap, ◌∙◌, subst, arith}
+use Rattle.std.specs.Prelude.{slice_get}
+use Rattle.std.proofs.lemmas.Bool.{and_parts}
 use Rattle.checkout_core.specs.declared.verdict.FilterCause.{FilterCause}
-use Rattle.checkout_core.specs.declared.verdict.Own.{Own}
 use Rattle.filter_words.specs.declared.reply.Caps.{Caps}
 use Rattle.filter_words.specs.declared.reply.Reply.{Reply}
 use Rattle.filter_words.specs.declared.reply.Reply.TheVariants as reply
 use Rattle.filter_words.specs.declared.reply.ListReply.{ListReply}
 use Rattle.filter_words.specs.declared.reply.ListReply.TheVariants as list
-use Rattle.checkout_core.specs.declared.verdict.Verdict.{Verdict}
 use Rattle.checkout_core.specs.declared.path.PathState.{PathState}
 use Rattle.checkout_core.specs.declared.path.PathState.TheVariants as path
 use Rattle.checkout_core.specs.declared.path.PathState.TheVariants.{Waiting, Held, Unasked, Closed}
@@ -25,11 +23,11 @@ use Rattle.checkout_core.specs.declared.effect.Effect.{Effect}
 use Rattle.checkout_core.specs.declared.effect.Effect.TheVariants.{Moves, Turns, Both}
 use Rattle.checkout_core.specs.declared.effect.Sweep.{Sweep}
 use Rattle.checkout_core.specs.declared.effect.Sweep.TheVariants.{Keep, Lose, Want}
-use Rattle.checkout_core.specs.Steps.{Core, each, effect_of, after, step_of, replay, path_after, driver_after, swept, start, offs, path_of, begins, refused_cause, replied_state, replied_desk, replied_sweep, list_desk, list_sweep, is_unasked, is_first, is_names, is_delay, heard_opening, named, listed, delayed, fresh, list_allowed, named_count, claim_at, claim, close_at, fail_at, hand_back_at, hand_back, answer_at, answer_in, redo_at, redo, name_at, name_in, list_at, list_step, shut_at, shut_in, open_at, lowest_unasked, replied, AreBelow}
-use Rattle.core_laws.specs.Laws.{is_note, own_after}
-use Rattle.checkout_core.proofs.Basics.{none_is_some, some_is, eqb_self, get_each, start_after, step_is, first_step, same_or, AtBoth, at_both_is, at_path_is, at_driver_is, at_session_is, given_is, cond_is, cond_not}
+use Rattle.checkout_core.specs.Steps.{Core, each, effect_of, after, replay, path_after, driver_after, swept, start, offs, path_of, begins, refused_cause, replied_state, replied_desk, replied_sweep, list_desk, list_sweep, is_unasked, is_first, is_names, is_delay, heard_opening, named, listed, fresh, list_allowed, named_count, claim_at, claim, close_at, fail_at, hand_back_at, hand_back, answer_at, answer_in, redo_at, redo, name_at, name_in, list_at, list_step, shut_at, shut_in, open_at, lowest_unasked, replied, AreBelow}
+use Rattle.core_laws.specs.Laws.{is_note}
+use Rattle.checkout_core.proofs.Basics.{none_is_some, some_is, eqb_self, get_each, start_after, step_is, first_step, same_or, at_both_is, at_path_is, at_driver_is, at_session_is, given_is, cond_is, cond_not}
 use Rattle.core_laws.proofs.Views.{View, Same, Claimed, HandedBack, ClosedHeld, ClosedTold, ClosedUnasked, SeesOpened, NotOpened, OtherNotOpened, IsAnswered, OtherAnswered, IsRedone, OtherRedone, IsNamed, OtherNamed, SeesListed, SeesShut, see, hits, turned}
-use Rattle.checkout_core.proofs.Inverses.{unasked_is, claim_is, close_moves, closing_is, back_is, open_is, redo_is}
+use Rattle.checkout_core.proofs.Inverses.{unasked_is, claim_is, close_moves, back_is, open_is, redo_is}
 use Rattle.checkout_core.proofs.Bridge.{swept_keep}
 use Rattle.core_laws.proofs.Runs.{Good, good_step}
 use Rattle.core_laws.proofs.Picks.{at_says}

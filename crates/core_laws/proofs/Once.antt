@@ -1,12 +1,11 @@
 -- No path is closed twice.
-use Rattle.std.proofs.Common.{◌≡◌, ◌==◌, ℕ, zero, suc, ◌+◌, ◌<◌, ◌≤◌, ◌⊎◌, inl, inr, ⊎_elim, Bool, true, false, cond, List, [], ◌∷◌, Option, Some, None, refl, sym, ap, ◌∙◌, subst, arith}
+use Rattle.std.proofs.Common.{◌≡◌, ◌==◌, ℕ, ◌+◌, ◌≤◌, ◌⊎◌, inl, inr, ⊎_elim, Bool, true, false, cond, List, [], ◌∷◌, Option, Some, None, refl, sym, ap, ◌∙◌, subst, arith}
 use Rattle.std.specs.Prelude.{slice_get}
 use Rattle.checkout_core.specs.declared.verdict.FilterCause.{FilterCause}
 use Rattle.checkout_core.specs.declared.verdict.Own.{Own}
 use Rattle.checkout_core.specs.declared.verdict.Verdict.{Verdict}
 use Rattle.checkout_core.specs.declared.path.PathState.{PathState}
-use Rattle.checkout_core.specs.declared.path.PathState.TheVariants as path
-use Rattle.checkout_core.specs.declared.path.PathState.TheVariants.{Waiting, Held, Unasked, Closed}
+use Rattle.checkout_core.specs.declared.path.PathState.TheVariants.{Closed}
 use Rattle.checkout_core.specs.declared.path.Start.{Start}
 use Rattle.checkout_core.specs.declared.path.Start.TheVariants.{Pool, Desk, Done}
 use Rattle.checkout_core.specs.declared.path.Path.{Path}
@@ -15,7 +14,6 @@ use Rattle.checkout_core.specs.declared.event.Event.{Event}
 use Rattle.checkout_core.specs.declared.event.Event.TheVariants as ev
 use Rattle.checkout_core.specs.declared.effect.Effect.{Effect}
 use Rattle.checkout_core.specs.declared.effect.Effect.TheVariants.{Moves}
-use Rattle.checkout_core.specs.declared.effect.Sweep.{Sweep}
 use Rattle.checkout_core.specs.Steps.{Core, effect_of, after, step_of, replay, path_after, driver_after, swept, start, refused_cause, replied_sweep, list_sweep, close_at, AreBelow}
 use Rattle.core_laws.specs.Laws.{is_note, own_after, IsClosed, closing_of, closes}
 use Rattle.checkout_core.proofs.Basics.{none_is_some, some_is, get_each, step_is, first_step, same_or, at_path_is}

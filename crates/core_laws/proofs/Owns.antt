@@ -1,19 +1,17 @@
 -- Whether an event of an actor is a step comes from what the actor itself did.
-use Rattle.std.proofs.Common.{◌≡◌, ◌==◌, ℕ, zero, suc, ◌+◌, ◌<◌, ◌≤◌, ◌⊎◌, inl, inr, ⊎_elim, Bool, true, false, cond, List, [], ◌∷◌, length, map, Option, Some, None, refl, sym, ap, ◌∙◌, subst, eq-eqb, arith}
-use Rattle.std.specs.Prelude.{slice_get, ◌&&◌, ◌||◌, not, take, nat_lt}
+use Rattle.std.proofs.Common.{◌≡◌, ◌==◌, ℕ, zero, suc, ◌+◌, ◌⊎◌, inl, inr, ⊎_elim, Bool, true, false, cond, List, [], ◌∷◌, Option, Some, None, refl, sym, ap, ◌∙◌, subst, eq-eqb}
+use Rattle.std.specs.Prelude.{slice_get, ◌&&◌, ◌||◌, not, take}
 use Rattle.filter_words.specs.declared.reply.Caps.{Caps}
 use Rattle.filter_words.specs.declared.reply.Reply.{Reply}
 use Rattle.filter_words.specs.declared.reply.Reply.TheVariants as reply
 use Rattle.filter_words.specs.declared.reply.ListReply.{ListReply}
 use Rattle.filter_words.specs.declared.reply.ListReply.TheVariants as list
-use Rattle.std.proofs.lemmas.Bool.{and_parts, and_from}
+use Rattle.std.proofs.lemmas.Bool.{and_parts}
 use Rattle.checkout_core.specs.declared.verdict.FilterCause.{FilterCause}
 use Rattle.checkout_core.specs.declared.verdict.Verdict.{Verdict}
 use Rattle.checkout_core.specs.declared.verdict.Own.{Own}
 use Rattle.checkout_core.specs.declared.verdict.Own.TheVariants as own
 use Rattle.checkout_core.specs.declared.event.OpenCause.{OpenCause}
-use Rattle.checkout_core.specs.declared.path.Heard.{Heard}
-use Rattle.checkout_core.specs.declared.path.Heard.TheVariants as heard
 use Rattle.checkout_core.specs.declared.path.PathState.{PathState}
 use Rattle.checkout_core.specs.declared.path.PathState.TheVariants as path
 use Rattle.checkout_core.specs.declared.path.PathState.TheVariants.{Waiting, Held, Unasked, Closed}
@@ -29,13 +27,14 @@ use Rattle.checkout_core.specs.declared.effect.Effect.{Effect}
 use Rattle.checkout_core.specs.declared.effect.Effect.TheVariants.{Moves, Turns, Both}
 use Rattle.checkout_core.specs.declared.effect.Sweep.{Sweep}
 use Rattle.checkout_core.specs.declared.effect.Sweep.TheVariants.{Keep, Lose, Want}
-use Rattle.checkout_core.specs.Steps.{Core, AreBelow, effect_of, step_of, after, done, replay, start, offs, path_of, begins, each, path_after, driver_after, swept_path, swept, with_state, at_path, at_driver, at_both, of_driver, at_session, given, is_at, is_unasked, is_delayed, is_named, is_named_below, none_of, path_count, named_count, lowest_unasked, add_one, none_below, is_off, is_good_opening, is_good_reply, is_delay, claim, claim_at, heard_opening, replied, replied_state, replied_desk, replied_sweep, named, listed, list_desk, list_sweep, list_allowed, list_step, list_at, redo, redo_at, unasked_cause, refused_cause, hand_back, hand_back_at, closing, close_at, desk_close, held_close, heard_close, unasked_close, fresh, open_first, open_at, fail_at, answer_in, answer_at, name_in, name_at, shut_in, shut_at}
-use Rattle.core_laws.specs.Laws.{actor_of, desk_of, driver_of, own_entries, is_claim, is_step, ready_at, AlikeCards}
-use Rattle.checkout_core.proofs.Basics.{none_is_some, some_is, given_is, cond_is, cond_not, of_driver_is, at_path_is, at_driver_is, at_both_is, at_session_is, step_is, first_step, get_each, each_is, start_after, same_or, eqb_self}
-use Rattle.checkout_core.proofs.Inverses.{claim_is, close_moves, closing_is, redo_is, back_is, open_is, unasked_is, late_is}
+use Rattle.checkout_core.specs.Steps.{Core, AreBelow, effect_of, step_of, after, done, replay, start, each, path_after, driver_after, swept_path, swept, with_state, at_driver, at_both, of_driver, given, is_at, is_unasked, is_delayed, is_named, is_named_below, none_of, path_count, named_count, lowest_unasked, add_one, none_below, is_off, is_good_opening, is_good_reply, is_delay, claim, claim_at, heard_opening, replied, replied_state, named, list_desk, list_sweep, list_allowed, list_step, list_at, redo, redo_at, refused_cause, hand_back, hand_back_at, closing, close_at, desk_close, held_close, heard_close, unasked_close, open_first, open_at, fail_at, answer_in, answer_at, name_in, name_at, shut_in, shut_at}
+use Rattle.core_laws.specs.Laws.{actor_of, desk_of, driver_of, own_entries, is_claim, is_step, is_ready, ready_at, AlikeCards}
+use Rattle.checkout_core.proofs.Basics.{none_is_some, some_is, given_is, cond_is, cond_not, of_driver_is, at_path_is, at_driver_is, at_both_is, at_session_is, step_is, first_step, start_after, same_or, eqb_self, desk_is}
+use Rattle.checkout_core.proofs.Inverses.{claim_is, close_moves, redo_is, back_is, open_is, unasked_is, late_is}
 use Rattle.core_laws.proofs.Views.{Begun}
 use Rattle.core_laws.proofs.Runs.{Good, good_step}
 use Rattle.core_laws.proofs.Verdicts.{good_start}
+use Rattle.core_laws.proofs.Once.{good_replay}
 
 -- where the path is in the hands of the actor
 abbrev pub is_held : ℕ → PathState → Bool
@@ -618,3 +617,240 @@ drivers_alike starts workers a c x (ev.Listed d z) begun alike mine is = driver_
 drivers_alike starts workers a c x (ev.Redone q z) begun alike mine is = both_alike starts workers a c x alike q (redo_at c q z) (redo_at x q z) begun mine (λ d own r s b y k. redo_alike workers a d own c x alike q z r s b y k)
 drivers_alike starts workers a c x (ev.HandBack q) begun alike mine is = both_alike starts workers a c x alike q (hand_back_at q) (hand_back_at q) begun mine (λ d own r s b y k. back_alike workers a d own c x alike q r s b y k)
 drivers_alike starts workers a c x (ev.Shut d) begun alike mine is = driver_alike workers a d (sym mine) c x alike (shut_at c d) (shut_at x d) (λ y. shut_alike workers a d (sym mine) c x alike y)
+
+-- closes
+abbrev is_there : Option Effect → Bool
+is_there None = false
+is_there (Some m) = true
+
+step_there : (c : Core) (e : Event) → is_step c e ≡ is_there (effect_of c e)
+step_there c e = go (effect_of c e)
+  where
+    go : (o : Option Effect) → (elim (done c o) as (λ _. Bool) [ None ↦ false | Some x ↦ true ]) ≡ is_there o
+    go None = refl
+    go (Some m) = refl
+
+abbrev may_close : Bool → Own → Bool
+may_close ready (own.Fine u) = true
+may_close ready own.WriteFailed = true
+may_close ready own.NoMemory = true
+may_close ready own.ReadFailed = not ready
+may_close ready (own.Object k) = not ready
+
+held_there : (c : Core) (p a : ℕ) (o : Own) (r : Path) (b : ℕ) (raw : Option FilterCause) → is_there (close_at c p a o r (Held b raw)) ≡ (is_held a (Held b raw) && may_close (is_ready a (Held b raw)) o)
+held_there c p a o r b None = go (a == b) o
+  where
+    go : (e : Bool) (o : Own) → is_there (cond e (closing p (held_close None o)) None) ≡ (e && may_close false o)
+    go false o = refl
+    go true (own.Fine u) = refl
+    go true own.WriteFailed = refl
+    go true own.NoMemory = refl
+    go true own.ReadFailed = refl
+    go true (own.Object k) = refl
+held_there c p a o r b (Some w) = go (a == b) o
+  where
+    go : (e : Bool) (o : Own) → is_there (cond e (closing p (held_close (Some w) o)) None) ≡ (e && may_close e o)
+    go false o = refl
+    go true (own.Fine u) = refl
+    go true own.WriteFailed = refl
+    go true own.NoMemory = refl
+    go true own.ReadFailed = refl
+    go true (own.Object k) = refl
+
+or_none : (b : Bool) → b ≡ (b || false)
+or_none true = refl
+or_none false = refl
+
+-- a close is of a card in hand, or of the desk's own
+close_there : (c : Core) (p a : ℕ) (o : Own) (r : Path) (s : PathState) → is_there (close_at c p a o r s) ≡ ((is_held a s && may_close (is_ready a s) o) || is_there (close_at c p a o r (known s)))
+close_there c p a o r (Held b None) = held_there c p a o r b None ∙ or_none _
+close_there c p a o r (Held b (Some k)) = held_there c p a o r b (Some k) ∙ or_none _
+close_there c p a o r path.Delayed = refl
+close_there c p a o r (path.Named t) = refl
+close_there c p a o r Unasked = refl
+close_there c p a o r (path.Heard h) = refl
+close_there c p a o r (Waiting raw) = refl
+close_there c p a o r (Closed v) = refl
+
+module _ (starts : List Start) (workers a : ℕ) (c x : Core) (alike : Alike workers a c x) (p : ℕ) (o : Own) where
+  desk_same : (r s : Path) (d : ℕ) (b : Bool) → r.start ≡ Desk d b → r.start ≡ s.start → a ≡ workers + d → (f : Bool → DriverState → Option Verdict) → desk_close c p a o r f ≡ desk_close x p a o s f
+  desk_same r s d b is same mine f =
+      ap (λ t. of_driver t (λ d required. at_driver c d (λ y. cond (a == c.workers + d) (closing p (f required y)) None))) is
+      ∙ (driver_alike workers a d mine c x alike (λ y. cond (a == c.workers + d) (closing p (f b y)) None) (λ y. cond (a == x.workers + d) (closing p (f b y)) None) (λ y. ap (λ n. cond (a == n + d) (closing p (f b y)) None) (alike.few ∙ sym alike.few_too))
+      ∙ ap (λ t. of_driver t (λ d required. at_driver x d (λ y. cond (a == x.workers + d) (closing p (f required y)) None))) (sym is ∙ same))
+
+  known_same : (r s : Path) (d : ℕ) (b : Bool) → r.start ≡ Desk d b → r.start ≡ s.start → a ≡ workers + d → (u : PathState) → close_at c p a o r (known u) ≡ close_at x p a o s (known u)
+  known_same r s d b is same mine Unasked = desk_same r s d b is same mine (λ required y. unasked_close required y p o)
+  known_same r s d b is same mine (path.Heard h) = desk_same r s d b is same mine (λ required y. heard_close required h o)
+  known_same r s d b is same mine path.Delayed = refl
+  known_same r s d b is same mine (path.Named t) = refl
+  known_same r s d b is same mine (Waiting raw) = refl
+  known_same r s d b is same mine (Held e raw) = refl
+  known_same r s d b is same mine (Closed v) = refl
+
+  none_there : (z : Core) (d : ℕ) (f : DriverState → Option Effect) → ((y : DriverState) → f y ≡ None) → at_driver z d f ≡ None
+  none_there z d f none = go (slice_get z.drivers d)
+    where
+      go : (o : Option DriverState) → (elim o as (λ _. Option Effect) [ None ↦ None | Some y ↦ f y ]) ≡ None
+      go None = refl
+      go (Some y) = none y
+
+  elsewhere : (z : Core) (r : Path) (t : Start) → r.start ≡ t → ((d : ℕ) (b : Bool) → t ≡ Desk d b → (a == z.workers + d) ≡ false) → (u : PathState) → close_at z p a o r (known u) ≡ None
+  elsewhere z r t is other u = go u
+    where
+      desk : (f : Bool → DriverState → Option Verdict) → desk_close z p a o r f ≡ None
+      desk f = ap (λ t. of_driver t (λ d required. at_driver z d (λ y. cond (a == z.workers + d) (closing p (f required y)) None))) is ∙ at t other
+        where
+          at : (t : Start) → ((d : ℕ) (b : Bool) → t ≡ Desk d b → (a == z.workers + d) ≡ false) → of_driver t (λ d required. at_driver z d (λ y. cond (a == z.workers + d) (closing p (f required y)) None)) ≡ None
+          at (Desk d b) other = none_there z d (λ y. cond (a == z.workers + d) (closing p (f b y)) None) (λ y. ap (λ e. cond e (closing p (f b y)) None) (other d b refl))
+          at Pool other = refl
+          at (Done v) other = refl
+      go : (u : PathState) → close_at z p a o r (known u) ≡ None
+      go Unasked = desk (λ required y. unasked_close required y p o)
+      go (path.Heard h) = desk (λ required y. heard_close required h o)
+      go path.Delayed = refl
+      go (path.Named t) = refl
+      go (Waiting raw) = refl
+      go (Held e raw) = refl
+      go (Closed v) = refl
+
+  own_known : (r s : Path) → (r.start ≡ s.start) × AlikeState workers a r.start r.state s.state → (t : Start) → r.start ≡ t → close_at c p a o r (known r.state) ≡ close_at x p a o s (known s.state)
+  own_known r s h (Desk d b) is = ⊎_elim
+      (λ (e : (a ≡ workers + d) × ((a == workers + d) ≡ true)).
+          known_same r s d b is h.0 e.0 r.state ∙ ap (close_at x p a o s) (h.1.1 d e.0 (at_desk d b r.start is)))
+      (λ (e : (a == workers + d) ≡ false).
+          elsewhere c r (Desk d b) is (λ f u i. ap (λ n. a == n + f) alike.few ∙ (ap (λ n. a == workers + n) (desk_is f d u b (sym i)) ∙ e)) r.state
+          ∙ sym (elsewhere x s (Desk d b) (sym h.0 ∙ is) (λ f u i. ap (λ n. a == n + f) alike.few_too ∙ (ap (λ n. a == workers + n) (desk_is f d u b (sym i)) ∙ e)) s.state))
+      (same_or a (workers + d))
+  own_known r s h Pool is = elsewhere c r Pool is (λ d b i. absurd (cc (i))) r.state ∙ sym (elsewhere x s Pool (sym h.0 ∙ is) (λ d b i. absurd (cc (i))) s.state)
+  own_known r s h (Done v) is = elsewhere c r (Done v) is (λ d b i. absurd (cc (i))) r.state ∙ sym (elsewhere x s (Done v) (sym h.0 ∙ is) (λ d b i. absurd (cc (i))) s.state)
+
+  close_alike : ready_at c a p ≡ ready_at x a p → is_step c (ev.Close p a o) ≡ is_step x (ev.Close p a o)
+  close_alike ready = step_there c (ev.Close p a o) ∙ (go (slice_get c.paths p) (slice_get x.paths p) (alike.paths p) ready ∙ sym (step_there x (ev.Close p a o)))
+    where
+      go : (u v : Option Path) → AlikePath workers a u v → (elim u as (λ _. Bool) [ None ↦ false | Some r ↦ is_ready a r.state ]) ≡ (elim v as (λ _. Bool) [ None ↦ false | Some r ↦ is_ready a r.state ]) → is_there (elim u as (λ _. Option Effect) [ None ↦ None | Some r ↦ close_at c p a o r r.state ]) ≡ is_there (elim v as (λ _. Option Effect) [ None ↦ None | Some r ↦ close_at x p a o r r.state ])
+      go None None h e = refl
+      go (Some r) (Some s) h e =
+          close_there c p a o r r.state
+          ∙ (ap (λ b. (b && may_close (is_ready a r.state) o) || is_there (close_at c p a o r (known r.state))) h.1.0
+          ∙ (ap (λ b. (is_held a s.state && may_close b o) || is_there (close_at c p a o r (known r.state))) e
+          ∙ (ap (λ k. (is_held a s.state && may_close (is_ready a s.state) o) || is_there k) (own_known r s h r.start refl)
+          ∙ sym (close_there x p a o s s.state))))
+      go None (Some s) h e = absurd h
+      go (Some r) None h e = absurd h
+
+same_own : (starts : List Start) (workers a : ℕ) (c x : Core) (e : Event) (m n : Effect) → Begun starts c → Alike workers a c x → actor_of starts workers e ≡ a → is_drivers e ≡ true → effect_of c e ≡ Some m → effect_of x e ≡ Some n → Alike workers a (after c m) (after x n)
+same_own starts workers a c x e m n begun alike mine is h k =
+    subst (λ (z : Effect). Alike workers a (after c m) (after x z)) (some_is m n (sym h ∙ (drivers_alike starts workers a c x e begun alike mine is ∙ k))) (same_effect workers a c x alike m)
+
+-- a step of the actor's own
+own_step : (starts : List Start) (workers a : ℕ) (c x : Core) (e : Event) (m n : Effect) → Begun starts c → Alike workers a c x → actor_of starts workers e ≡ a → effect_of c e ≡ Some m → effect_of x e ≡ Some n → Alike workers a (after c m) (after x n)
+own_step starts workers a c x (ev.Claim q b) m n begun alike mine h k =
+    let at = at_path_is c q (claim_at c q b) m h in
+    let u = claim_is q b (at.row).state m ((cond_is _ (claim q b (at.row).state) m at.holds).1) in
+    let at2 = at_path_is x q (claim_at x q b) n k in
+    let v = claim_is q b (at2.row).state n ((cond_is _ (claim q b (at2.row).state) n at2.holds).1) in
+    subst (λ (z : Effect). Alike workers a (after c z) (after x n)) u.2 (subst (λ (z : Effect). Alike workers a (after c (Moves q (Held b u.0))) (after x z)) v.2
+      (moves_alike workers a c x alike q (Held b u.0) (Held b v.0) refl refl))
+own_step starts workers a c x (ev.Close q b o) m n begun alike mine h k =
+    let at = at_path_is c q (λ r. close_at c q b o r r.state) m h in
+    let u = close_moves c q b o at.row (at.row).state m at.holds in
+    let at2 = at_path_is x q (λ r. close_at x q b o r r.state) n k in
+    let v = close_moves x q b o at2.row (at2.row).state n at2.holds in
+    subst (λ (z : Effect). Alike workers a (after c z) (after x n)) u.1 (subst (λ (z : Effect). Alike workers a (after c (Moves q (Closed u.0))) (after x z)) v.1
+      (moves_alike workers a c x alike q (Closed u.0) (Closed v.0) refl refl))
+own_step starts workers a c x (ev.Opened d caps) m n begun alike mine h k = same_own starts workers a c x (ev.Opened d caps) m n begun alike mine refl h k
+own_step starts workers a c x (ev.OpenFailed q o) m n begun alike mine h k = same_own starts workers a c x (ev.OpenFailed q o) m n begun alike mine refl h k
+own_step starts workers a c x (ev.Answered q y) m n begun alike mine h k = same_own starts workers a c x (ev.Answered q y) m n begun alike mine refl h k
+own_step starts workers a c x (ev.Named q) m n begun alike mine h k = same_own starts workers a c x (ev.Named q) m n begun alike mine refl h k
+own_step starts workers a c x (ev.Listed d y) m n begun alike mine h k = same_own starts workers a c x (ev.Listed d y) m n begun alike mine refl h k
+own_step starts workers a c x (ev.Redone q y) m n begun alike mine h k = same_own starts workers a c x (ev.Redone q y) m n begun alike mine refl h k
+own_step starts workers a c x (ev.HandBack q) m n begun alike mine h k = same_own starts workers a c x (ev.HandBack q) m n begun alike mine refl h k
+own_step starts workers a c x (ev.Shut d) m n begun alike mine h k = same_own starts workers a c x (ev.Shut d) m n begun alike mine refl h k
+
+-- two histories with the same entries of the actor leave what it knows the same
+own_actor : (starts : List Start) (workers a : ℕ) (e : Event) → (actor_of starts workers e == a) ≡ false → actor_of starts workers e ≡ a → ⊥
+own_actor starts workers a e other is = let z = eq-eqb (actor_of starts workers e) a is in absurd (cc (z, other))
+
+number : (a b : ℕ) → (a == b) ≡ true → a ≡ b
+number a b e = ⊎_elim (λ (h : (a ≡ b) × ((a == b) ≡ true)). h.0) (λ (h : (a == b) ≡ false). absurd (cc (h, e))) (same_or a b)
+
+pub record Ran (starts : List Start) (workers : ℕ) (c : Core) : Type 0 where
+  pub good : Good starts c
+  pub few : c.workers ≡ workers
+
+-- one event more
+ran_step : (starts : List Start) (workers : ℕ) (c d : Core) (e : Event) → Ran starts workers c → step_of c e ≡ Some d → Ran starts workers d
+ran_step starts workers c d e r h =
+    let k = step_is c d e h in
+    subst (λ (z : Core). Ran starts workers z) k.2 (record { good = good_step starts c e k.0 r.good k.1; few = r.few })
+
+step_leaves : (starts : List Start) (workers a : ℕ) (c d : Core) (e : Event) → Ran starts workers c → step_of c e ≡ Some d → (actor_of starts workers e == a) ≡ false → Alike workers a c d
+step_leaves starts workers a c d e r h other =
+    let k = step_is c d e h in
+    subst (λ (z : Core). Alike workers a c z) k.2 (others_leave starts workers a c e k.0 r.good.begun r.few k.1 (own_actor starts workers a e other))
+
+step_shared : (starts : List Start) (workers a : ℕ) (c d x y : Core) (e : Event) → Ran starts workers c → Alike workers a c x → actor_of starts workers e ≡ a → step_of c e ≡ Some d → step_of x e ≡ Some y → Alike workers a d y
+step_shared starts workers a c d x y e r alike mine h k =
+    let i = step_is c d e h in
+    let j = step_is x y e k in
+    subst (λ (z : Core). Alike workers a z y) i.2 (subst (λ (z : Core). Alike workers a (after c i.0) z) j.2 (own_step starts workers a c x e i.0 j.0 r.good.begun alike mine i.1 j.1))
+
+module _ (starts : List Start) (workers a : ℕ) where
+  -- a history without the actor
+  without_it : (x y : Core) (g : List Event) → Ran starts workers x → replay x g ≡ Some y → own_entries starts workers a g ≡ [] → Alike workers a x y
+  without_it x y [] r run none = subst (λ (z : Core). Alike workers a x z) (some_is x y run) (alike_refl workers a x r.few)
+  without_it x y (f ∷ fs) r run none =
+      let k = first_step x y f fs run in
+      go k.0 k.1 (actor_of starts workers f == a) refl none (λ none. without_it k.0 y fs (ran_step starts workers x k.0 f r k.1) k.2 none)
+    where
+      go : (z : Core) → step_of x f ≡ Some z → (b : Bool) → (actor_of starts workers f == a) ≡ b → cond b (f ∷ own_entries starts workers a fs) (own_entries starts workers a fs) ≡ [] → (own_entries starts workers a fs ≡ [] → Alike workers a z y) → Alike workers a x y
+      go z h true i none ih = absurd (cc (none))
+      go z h false i none ih = alike_trans workers a x z y (step_leaves starts workers a x z f r h i) (ih none)
+
+  -- the other history comes to the same entry
+  meet : (e : Event) (es : List Event) (c c1 c2 : Core) → Ran starts workers c → actor_of starts workers e ≡ a → step_of c e ≡ Some c1 → ((x y : Core) (g : List Event) → Ran starts workers x → Alike workers a c1 x → replay x g ≡ Some y → own_entries starts workers a es ≡ own_entries starts workers a g → Alike workers a c2 y) → (x y : Core) (g : List Event) → Ran starts workers x → Alike workers a c x → replay x g ≡ Some y → (e ∷ own_entries starts workers a es) ≡ own_entries starts workers a g → Alike workers a c2 y
+  meet e es c c1 c2 rc mine h ih x y [] r alike run same = absurd (cc (same))
+  meet e es c c1 c2 rc mine h ih x y (f ∷ fs) r alike run same =
+      let k = first_step x y f fs run in
+      go k.0 k.1 k.2 (actor_of starts workers f == a) refl same (λ z rz al run same. meet e es c c1 c2 rc mine h ih z y fs rz al run same)
+    where
+      go : (z : Core) → step_of x f ≡ Some z → replay z fs ≡ Some y → (b : Bool) → (actor_of starts workers f == a) ≡ b → (e ∷ own_entries starts workers a es) ≡ cond b (f ∷ own_entries starts workers a fs) (own_entries starts workers a fs) → ((z : Core) → Ran starts workers z → Alike workers a c z → replay z fs ≡ Some y → (e ∷ own_entries starts workers a es) ≡ own_entries starts workers a fs → Alike workers a c2 y) → Alike workers a c2 y
+      go z i run true own same more =
+          let one : e ≡ f = cc (same) in
+          let rest : own_entries starts workers a es ≡ own_entries starts workers a fs = cc (same) in
+          ih z y fs (ran_step starts workers x z f r i) (step_shared starts workers a c c1 x z e rc alike mine h (ap (step_of x) one ∙ i)) run rest
+      go z i run false own same more = more z (ran_step starts workers x z f r i) (alike_trans workers a c x z alike (step_leaves starts workers a x z f r i own)) run same
+
+  runs_alike : (c c2 : Core) (h : List Event) (x y : Core) (g : List Event) → Ran starts workers c → Ran starts workers x → Alike workers a c x → replay c h ≡ Some c2 → replay x g ≡ Some y → own_entries starts workers a h ≡ own_entries starts workers a g → Alike workers a c2 y
+  runs_alike c c2 [] x y g rc rx alike run run2 same =
+      subst (λ (z : Core). Alike workers a z y) (some_is c c2 run) (alike_trans workers a c x y alike (without_it x y g rx run2 (sym same)))
+  runs_alike c c2 (e ∷ es) x y g rc rx alike run run2 same =
+      let k = first_step c c2 e es run in
+      go k.0 k.1 (actor_of starts workers e == a) refl same (ran_step starts workers c k.0 e rc k.1) (λ x y g rx al run2 same. runs_alike k.0 c2 es x y g (ran_step starts workers c k.0 e rc k.1) rx al k.2 run2 same)
+    where
+      go : (d : Core) → step_of c e ≡ Some d → (b : Bool) → (actor_of starts workers e == a) ≡ b → cond b (e ∷ own_entries starts workers a es) (own_entries starts workers a es) ≡ own_entries starts workers a g → Ran starts workers d → ((x y : Core) (g : List Event) → Ran starts workers x → Alike workers a d x → replay x g ≡ Some y → own_entries starts workers a es ≡ own_entries starts workers a g → Alike workers a c2 y) → Alike workers a c2 y
+      go d h true own same rd ih = meet e es c d c2 rc (number (actor_of starts workers e) a own) h ih x y g rx alike run2 same
+      go d h false own same rd ih = ih x y g rx (alike_trans workers a d c x (alike_sym workers a c d (step_leaves starts workers a c d e rc h own)) alike) run2 same
+
+drivers_next : (starts : List Start) (workers : ℕ) (x y : Core) (e : Event) → Begun starts x → Alike workers (actor_of starts workers e) x y → is_drivers e ≡ true → is_step x e ≡ is_step y e
+drivers_next starts workers x y e begun alike is = step_there x e ∙ (ap is_there (drivers_alike starts workers (actor_of starts workers e) x y e begun alike refl is) ∙ sym (step_there y e))
+
+-- so whether the next event is a step is the same
+next_same : (starts : List Start) (workers : ℕ) (x y : Core) (e : Event) → Begun starts x → Alike workers (actor_of starts workers e) x y → is_claim e ≡ false → AlikeCards x y e → is_step x e ≡ is_step y e
+next_same starts workers x y (ev.Claim q b) begun alike other cards = absurd (cc (other))
+next_same starts workers x y (ev.Close q b o) begun alike other cards = close_alike starts workers b x y alike q o cards
+next_same starts workers x y (ev.Opened d caps) begun alike other cards = drivers_next starts workers x y (ev.Opened d caps) begun alike refl
+next_same starts workers x y (ev.OpenFailed q o) begun alike other cards = drivers_next starts workers x y (ev.OpenFailed q o) begun alike refl
+next_same starts workers x y (ev.Answered q z) begun alike other cards = drivers_next starts workers x y (ev.Answered q z) begun alike refl
+next_same starts workers x y (ev.Named q) begun alike other cards = drivers_next starts workers x y (ev.Named q) begun alike refl
+next_same starts workers x y (ev.Listed d z) begun alike other cards = drivers_next starts workers x y (ev.Listed d z) begun alike refl
+next_same starts workers x y (ev.Redone q z) begun alike other cards = drivers_next starts workers x y (ev.Redone q z) begun alike refl
+next_same starts workers x y (ev.HandBack q) begun alike other cards = drivers_next starts workers x y (ev.HandBack q) begun alike refl
+next_same starts workers x y (ev.Shut d) begun alike other cards = drivers_next starts workers x y (ev.Shut d) begun alike refl
+
+pub own_decides : (starts : List Start) (workers drivers : ℕ) (history other : List Event) (x y : Core) (e : Event) → AreBelow drivers starts → replay (start starts workers drivers) history ≡ Some x → replay (start starts workers drivers) other ≡ Some y → own_entries starts workers (actor_of starts workers e) history ≡ own_entries starts workers (actor_of starts workers e) other → is_claim e ≡ false → AlikeCards x y e → is_step x e ≡ is_step y e
+own_decides starts workers drivers history other x y e below run run2 same claims cards =
+    let begins : Ran starts workers (start starts workers drivers) = record { good = good_start starts workers drivers below; few = refl } in
+    let alike = runs_alike starts workers (actor_of starts workers e) (start starts workers drivers) x history (start starts workers drivers) y other begins begins (alike_refl workers (actor_of starts workers e) (start starts workers drivers) refl) run run2 same in
+    next_same starts workers x y e (good_replay starts workers drivers history x below run).begun alike claims cards

@@ -1,5 +1,5 @@
 -- Which paths of a driver are still to be asked.
-use Rattle.std.proofs.Common.{◌≡◌, ◌==◌, ℕ, zero, suc, ◌+◌, ◌<◌, ◌≤◌, ◌⊎◌, inl, inr, ⊎_elim, Bool, true, false, cond, List, [], ◌∷◌, Option, Some, None, refl, sym, ap, ◌∙◌, subst, eq-eqb, arith, map}
+use Rattle.std.proofs.Common.{◌≡◌, ◌==◌, ℕ, zero, suc, ◌<◌, ◌≤◌, ◌⊎◌, inl, inr, ⊎_elim, Bool, true, false, cond, List, [], ◌∷◌, Option, Some, None, refl, sym, ap, ◌∙◌, subst, eq-eqb, arith, map}
 use Rattle.std.specs.Prelude.{slice_get, ◌&&◌, ◌||◌, not, take}
 use Rattle.std.proofs.lemmas.Bool.{and_parts, and_from}
 use Rattle.checkout_core.specs.declared.verdict.Own.{Own}
@@ -22,11 +22,11 @@ use Rattle.checkout_core.specs.declared.event.Event.{Event}
 use Rattle.checkout_core.specs.declared.event.Event.TheVariants as ev
 use Rattle.checkout_core.specs.declared.effect.Effect.{Effect}
 use Rattle.checkout_core.specs.declared.effect.Sweep.TheVariants.{Keep}
-use Rattle.checkout_core.specs.Steps.{none_of, Core, each, effect_of, after, step_of, replay, is_at, is_unasked, is_first, lacks_smudge, path_after, driver_after, unasked_cause, refused_cause, unasked_close, unasked_fine, replied_sweep, list_sweep, swept, replied_desk, list_desk, is_names, listed}
+use Rattle.checkout_core.specs.Steps.{none_of, Core, each, effect_of, after, step_of, replay, is_at, is_unasked, is_first, lacks_smudge, path_after, driver_after, unasked_cause, refused_cause, unasked_close, unasked_fine, replied_sweep, list_sweep, swept, list_desk, is_names, listed}
 use Rattle.core_laws.specs.Laws.{is_note, own_after}
 use Rattle.core_laws.specs.Talks.{picks, to_ask, skips, skipped, skip_at, skip_start, skip_here, is_alone, talk_paths}
 use Rattle.checkout_core.proofs.Basics.{none_is_some, some_is, eqb_self, get_each, start_after, step_is, first_step, same_or}
-use Rattle.core_laws.proofs.Views.{View, Same, Claimed, HandedBack, ClosedHeld, ClosedTold, ClosedUnasked, SeesOpened, NotOpened, OtherNotOpened, IsAnswered, OtherAnswered, IsRedone, OtherRedone, IsNamed, OtherNamed, SeesListed, SeesShut, Scene, see, Kept}
+use Rattle.core_laws.proofs.Views.{View, Same, Claimed, HandedBack, ClosedHeld, ClosedTold, ClosedUnasked, SeesOpened, NotOpened, OtherNotOpened, IsAnswered, OtherAnswered, IsRedone, OtherRedone, IsNamed, OtherNamed, SeesListed, SeesShut, Scene, see}
 use Rattle.checkout_core.proofs.Inverses.{not_false}
 use Rattle.core_laws.proofs.Runs.{Good, good_step, asked_step, unasked_swept, unasked_replied}
 

@@ -1,14 +1,12 @@
 -- A state with a path that isn't closed has a step.
-use Rattle.std.proofs.Common.{◌≡◌, ◌==◌, ℕ, zero, suc, ◌+◌, ◌<◌, ◌≤◌, ◌⊎◌, inl, inr, ⊎_elim, Bool, true, false, cond, List, [], ◌∷◌, length, map, Option, Some, None, refl, sym, ap, ◌∙◌, subst, eq-eqb, arith}
-use Rattle.std.specs.Prelude.{slice_get, ◌&&◌, not, take, nat_lt}
+use Rattle.std.proofs.Common.{◌≡◌, ◌==◌, ℕ, zero, suc, ◌+◌, ◌<◌, ◌≤◌, ◌⊎◌, inl, inr, ⊎_elim, Bool, true, false, cond, List, [], ◌∷◌, length, map, Option, Some, None, refl, sym, ap, ◌∙◌, subst, arith}
+use Rattle.std.specs.Prelude.{slice_get, ◌&&◌, not, take}
 use Rattle.std.proofs.lemmas.Bool.{and_parts, and_from, lt-ltb, ltb-true}
 use Rattle.checkout_core.specs.declared.verdict.FilterCause.{FilterCause}
-use Rattle.checkout_core.specs.declared.path.Heard.{Heard}
 use Rattle.checkout_core.specs.declared.verdict.Own.{Own}
 use Rattle.checkout_core.specs.declared.verdict.Own.TheVariants as own
 use Rattle.filter_words.specs.declared.reply.Reply.TheVariants as reply
 use Rattle.filter_words.specs.declared.reply.ListReply.TheVariants as list
-use Rattle.checkout_core.specs.declared.verdict.Verdict.{Verdict}
 use Rattle.checkout_core.specs.declared.verdict.Verdict.TheVariants as verdict
 use Rattle.checkout_core.specs.declared.path.PathState.{PathState}
 use Rattle.checkout_core.specs.declared.path.PathState.TheVariants as path
@@ -22,13 +20,13 @@ use Rattle.checkout_core.specs.declared.driver.DriverState.TheVariants as driver
 use Rattle.checkout_core.specs.declared.event.Event.{Event}
 use Rattle.checkout_core.specs.declared.event.Event.TheVariants as ev
 use Rattle.checkout_core.specs.declared.effect.Effect.{Effect}
-use Rattle.checkout_core.specs.declared.effect.Effect.TheVariants.{Moves, Turns, Both}
+use Rattle.checkout_core.specs.declared.effect.Effect.TheVariants.{Moves, Turns}
 use Rattle.checkout_core.specs.declared.effect.Sweep.TheVariants.{Want, Keep}
-use Rattle.checkout_core.specs.Steps.{Core, listed, effect_of, after, done, step_of, replay, start, path_of, begins, at_path, at_driver, of_driver, at_session, at_both, given, claim_at, claim, close_at, held_close, heard_close, unasked_close, closing, desk_close, is_first, lacks_smudge, answer_at, list_at, redo_at, redo, replied, none_of, is_unasked, is_at, is_named, is_named_below, named_count, none_below, AreBelow, is_closed}
+use Rattle.checkout_core.specs.Steps.{Core, listed, effect_of, after, done, step_of, replay, start, path_of, begins, at_path, at_driver, of_driver, at_both, given, claim_at, claim, close_at, held_close, heard_close, unasked_close, closing, is_first, lacks_smudge, answer_at, list_at, redo_at, redo, replied, none_of, is_unasked, is_at, is_named, is_named_below, named_count, none_below, AreBelow, is_closed}
 use Rattle.core_laws.specs.Laws.{own_of}
-use Rattle.checkout_core.proofs.Basics.{none_is_some, some_is, eqb_self, step_is, first_step, same_or}
-use Rattle.core_laws.proofs.Views.{at_it, sits, is_sane}
-use Rattle.checkout_core.proofs.Inverses.{not_false, unasked_is}
+use Rattle.checkout_core.proofs.Basics.{some_is, eqb_self, step_is, first_step, same_or}
+use Rattle.core_laws.proofs.Views.{sits, is_sane}
+use Rattle.checkout_core.proofs.Inverses.{unasked_is}
 use Rattle.core_laws.proofs.Runs.{Good}
 use Rattle.core_laws.proofs.Picks.{at_says}
 use Rattle.core_laws.proofs.Once.{good_replay}

@@ -1,14 +1,8 @@
 -- What a whole history keeps.
-use Rattle.std.proofs.Common.{◌≡◌, ◌==◌, ℕ, zero, suc, ◌+◌, ◌<◌, ◌≤◌, ◌⊎◌, inl, inr, ⊎_elim, Bool, true, false, cond, List, [], ◌∷◌, Option, Some, None, refl, sym, ap, ◌∙◌, subst, eq-eqb, arith, map}
-use Rattle.std.specs.Prelude.{slice_get, ◌&&◌, not}
+use Rattle.std.proofs.Common.{◌≡◌, ℕ, ◌≤◌, ◌⊎◌, inl, inr, ⊎_elim, Bool, true, false, cond, List, [], ◌∷◌, Option, Some, refl, sym, ap, ◌∙◌, subst}
+use Rattle.std.specs.Prelude.{slice_get, ◌&&◌}
 use Rattle.std.proofs.lemmas.Bool.{and_parts, and_from}
-use Rattle.checkout_core.specs.declared.verdict.FilterCause.{FilterCause}
-use Rattle.checkout_core.specs.declared.verdict.FailCause.TheVariants as fail
-use Rattle.checkout_core.specs.declared.verdict.Verdict.{Verdict}
-use Rattle.checkout_core.specs.declared.verdict.Verdict.TheVariants as verdict
 use Rattle.checkout_core.specs.declared.verdict.Own.{Own}
-use Rattle.checkout_core.specs.declared.verdict.Own.TheVariants as own
-use Rattle.checkout_core.specs.declared.event.OpenCause.{OpenCause}
 use Rattle.filter_words.specs.declared.reply.Reply.{Reply}
 use Rattle.filter_words.specs.declared.reply.Reply.TheVariants as reply
 use Rattle.filter_words.specs.declared.reply.ListReply.{ListReply}
@@ -17,7 +11,7 @@ use Rattle.checkout_core.specs.declared.path.PathState.{PathState}
 use Rattle.checkout_core.specs.declared.path.PathState.TheVariants as path
 use Rattle.checkout_core.specs.declared.path.PathState.TheVariants.{Waiting, Held, Unasked, Closed}
 use Rattle.checkout_core.specs.declared.path.Start.{Start}
-use Rattle.checkout_core.specs.declared.path.Start.TheVariants.{Pool, Desk, Done}
+use Rattle.checkout_core.specs.declared.path.Start.TheVariants.{Desk}
 use Rattle.checkout_core.specs.declared.path.Path.{Path}
 use Rattle.checkout_core.specs.declared.driver.Session.{Session}
 use Rattle.checkout_core.specs.declared.driver.DriverState.{DriverState}
@@ -25,15 +19,14 @@ use Rattle.checkout_core.specs.declared.driver.DriverState.TheVariants as driver
 use Rattle.checkout_core.specs.declared.event.Event.{Event}
 use Rattle.checkout_core.specs.declared.event.Event.TheVariants as ev
 use Rattle.checkout_core.specs.declared.effect.Effect.{Effect}
-use Rattle.checkout_core.specs.declared.effect.Effect.TheVariants.{Moves, Turns, Both}
+use Rattle.checkout_core.specs.declared.effect.Effect.TheVariants.{Both}
 use Rattle.checkout_core.specs.declared.effect.Sweep.{Sweep}
 use Rattle.checkout_core.specs.declared.effect.Sweep.TheVariants.{Keep, Lose, Want}
-use Rattle.checkout_core.specs.Steps.{Core, swept, ended, effect_of, after, step_of, replay, each, is_at, path_after, driver_after, with_state, swept_path, replied_state, replied_desk, replied_sweep, list_desk, list_sweep, named, listed, is_names, is_delay, start, offs, path_of, begins, claim_at, claim, close_at, held_close, closing, desk_close, at_driver, given, heard_close, unasked_close, redo, redo_at, name_at, fail_at, answer_at, hand_back_at, open_at, list_at, shut_at, answer_in, name_in, shut_in, list_step, open_first, lowest_unasked, fresh, list_allowed, hand_back, refused_cause, heard_opening, is_unasked, named_count, delayed, none_of, AreBelow, verdict_at, verdict_of}
-use Rattle.core_laws.specs.Laws.{is_of, is_note, notes, own_after, own_of, Fate, Untold, Later, Known, fate_after, fate_of, pool_verdict, desk_verdict, IsComplete, IsClosed, closing_of, closes}
-use Rattle.checkout_core.proofs.Basics.{none_is_some, some_is, eqb_self, get_each, each_is, start_after, step_is, first_step, same_row, same_or, AtBoth, at_both_is, at_path_is, at_driver_is, at_session_is, given_is, cond_is, cond_not, of_driver_is, desk_is}
-use Rattle.core_laws.proofs.Views.{View, Same, Claimed, HandedBack, ClosedHeld, ClosedTold, ClosedUnasked, SeesOpened, NotOpened, OtherNotOpened, IsAnswered, OtherAnswered, IsRedone, OtherRedone, IsNamed, OtherNamed, SeesListed, SeesShut, Begun, Scene, Sane, Kept, Low, Parted, none_says, at_it, Seen, see, sits, is_sane}
-use Rattle.checkout_core.proofs.Inverses.{claim_is, close_moves, closing_is, open_is, redo_is, back_is}
-use Rattle.core_laws.proofs.Fates.{Fits, fate_if, fits_step, told_by}
+use Rattle.checkout_core.specs.Steps.{Core, swept, effect_of, after, step_of, replay, path_after, driver_after, replied_state, replied_desk, replied_sweep, list_desk, list_sweep, named, listed, name_at, name_in, heard_opening, is_unasked, named_count, delayed, none_of}
+use Rattle.core_laws.specs.Laws.{is_note, notes, own_after, own_of, Fate, fate_of}
+use Rattle.checkout_core.proofs.Basics.{some_is, get_each, each_is, start_after, step_is, first_step, same_row, at_both_is, at_session_is, given_is, desk_is}
+use Rattle.core_laws.proofs.Views.{View, Same, Claimed, HandedBack, ClosedHeld, ClosedTold, ClosedUnasked, SeesOpened, NotOpened, OtherNotOpened, IsAnswered, OtherAnswered, IsRedone, OtherRedone, IsNamed, OtherNamed, SeesListed, SeesShut, Begun, Kept, none_says, at_it, see, sits, is_sane}
+use Rattle.core_laws.proofs.Fates.{Fits, fate_if, fits_step}
 
 -- sanity of a path and its driver
 sane_ended : (x : DriverState) (w : Sweep) (s : PathState) → is_sane x (swept Lose s) ≡ true

@@ -1,14 +1,14 @@
 -- The delayed and the listed paths, as lists.
-use Rattle.std.proofs.Common.{◌≡◌, ◌==◌, ℕ, zero, suc, ◌+◌, ◌<◌, ◌≤◌, ◌⊎◌, inl, inr, ⊎_elim, Bool, true, false, cond, List, [], ◌∷◌, ◌++◌, length, Option, Some, None, refl, sym, ap, ◌∙◌, subst, eq-eqb, ne_eqb, arith}
-use Rattle.std.specs.Prelude.{slice_get, ◌&&◌, ◌||◌, not}
+use Rattle.std.proofs.Common.{◌≡◌, ◌==◌, ℕ, zero, suc, ◌+◌, ◌⊎◌, inl, inr, ⊎_elim, Bool, true, false, cond, List, [], ◌∷◌, ◌++◌, length, Some, refl, sym, ap, ◌∙◌, subst, eq-eqb, arith}
+use Rattle.std.specs.Prelude.{slice_get, ◌&&◌}
 use Rattle.checkout_core.specs.declared.path.PathState.{PathState}
 use Rattle.checkout_core.specs.declared.path.PathState.TheVariants as path
 use Rattle.checkout_core.specs.declared.path.PathState.TheVariants.{Waiting, Held, Unasked, Closed}
 use Rattle.checkout_core.specs.declared.path.Path.{Path}
 use Rattle.checkout_core.specs.declared.effect.Effect.{Effect}
-use Rattle.checkout_core.specs.Steps.{Core, each, after, is_at, is_delayed, is_named, path_after, named_count}
+use Rattle.checkout_core.specs.Steps.{Core, each, is_at, is_delayed, is_named, path_after, named_count}
 use Rattle.core_laws.specs.Talks.{contains, without}
-use Rattle.checkout_core.proofs.Basics.{none_is_some, some_is, eqb_self, get_each, each_is, start_after, same_or}
+use Rattle.checkout_core.proofs.Basics.{none_is_some, some_is, get_each, each_is, start_after, same_or}
 
 -- what of a state bears on the lists
 abbrev pub shadow : PathState → PathState

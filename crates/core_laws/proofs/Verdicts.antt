@@ -1,21 +1,16 @@
 -- Equal notes and equal own outcomes give equal verdicts.
-use Rattle.std.proofs.Common.{◌≡◌, ◌==◌, ℕ, zero, suc, ◌+◌, ◌<◌, ◌≤◌, ◌⊎◌, inl, inr, ⊎_elim, Bool, true, false, cond, List, [], ◌∷◌, Option, Some, None, refl, sym, ap, ◌∙◌, subst, eq-eqb, arith, map}
-use Rattle.std.specs.Prelude.{slice_get, ◌&&◌, not}
-use Rattle.std.proofs.lemmas.Bool.{and_parts, and_from}
+use Rattle.std.proofs.Common.{◌≡◌, ◌==◌, ℕ, zero, suc, ◌+◌, ◌<◌, ⊎_elim, Bool, true, false, cond, List, [], ◌∷◌, Option, Some, None, refl, sym, ap, ◌∙◌, subst, arith, map}
+use Rattle.std.specs.Prelude.{slice_get}
 use Rattle.checkout_core.specs.declared.verdict.FilterCause.{FilterCause}
 use Rattle.checkout_core.specs.declared.verdict.Verdict.{Verdict}
 use Rattle.checkout_core.specs.declared.verdict.Own.{Own}
 use Rattle.checkout_core.specs.declared.verdict.Own.TheVariants as own
-use Rattle.checkout_core.specs.declared.event.OpenCause.{OpenCause}
-use Rattle.filter_words.specs.declared.reply.Reply.{Reply}
-use Rattle.filter_words.specs.declared.reply.ListReply.{ListReply}
 use Rattle.checkout_core.specs.declared.path.PathState.{PathState}
 use Rattle.checkout_core.specs.declared.path.PathState.TheVariants as path
 use Rattle.checkout_core.specs.declared.path.PathState.TheVariants.{Waiting, Held, Unasked, Closed}
 use Rattle.checkout_core.specs.declared.path.Start.{Start}
 use Rattle.checkout_core.specs.declared.path.Start.TheVariants.{Pool, Desk, Done}
 use Rattle.checkout_core.specs.declared.path.Path.{Path}
-use Rattle.checkout_core.specs.declared.driver.Session.{Session}
 use Rattle.checkout_core.specs.declared.driver.DriverState.{DriverState}
 use Rattle.checkout_core.specs.declared.driver.DriverState.TheVariants as driver
 use Rattle.checkout_core.specs.declared.event.Event.{Event}
@@ -24,8 +19,8 @@ use Rattle.checkout_core.specs.declared.effect.Effect.{Effect}
 use Rattle.checkout_core.specs.declared.effect.Effect.TheVariants.{Moves, Turns, Both}
 use Rattle.checkout_core.specs.declared.effect.Sweep.{Sweep}
 use Rattle.checkout_core.specs.declared.effect.Sweep.TheVariants.{Keep}
-use Rattle.checkout_core.specs.Steps.{Core, effect_of, after, step_of, replay, is_at, path_after, with_state, swept_path, swept, start, offs, path_of, begins, claim_at, claim, close_at, held_close, closing, desk_close, at_driver, heard_close, unasked_close, redo_at, name_at, fail_at, answer_at, hand_back_at, open_at, list_at, shut_at, redo, answer_in, name_in, shut_in, list_step, list_allowed, list_desk, list_sweep, open_first, lowest_unasked, fresh, hand_back, refused_cause, heard_opening, named_count, named, replied, replied_desk, replied_state, replied_sweep, given, AreBelow, verdict_at, verdict_of}
-use Rattle.core_laws.specs.Laws.{notes, own_after, own_of, Fate, Untold, fate_of, pool_verdict, desk_verdict, IsComplete, verdict_from, driver_of, told_verdict}
+use Rattle.checkout_core.specs.Steps.{Core, effect_of, replay, is_at, path_after, with_state, swept_path, swept, start, offs, path_of, begins, claim_at, claim, close_at, held_close, closing, desk_close, at_driver, heard_close, unasked_close, redo_at, name_at, fail_at, answer_at, hand_back_at, open_at, list_at, shut_at, redo, answer_in, name_in, shut_in, list_step, list_allowed, list_desk, list_sweep, lowest_unasked, fresh, hand_back, refused_cause, heard_opening, named_count, named, replied, replied_desk, replied_state, replied_sweep, AreBelow, verdict_at, verdict_of}
+use Rattle.core_laws.specs.Laws.{notes, own_after, own_of, Fate, Untold, fate_of, pool_verdict, IsComplete, verdict_from, driver_of, told_verdict}
 use Rattle.checkout_core.proofs.Basics.{none_is_some, some_is, eqb_self, get_each, start_after, step_is, first_step, same_row, same_or, AtBoth, at_both_is, at_path_is, at_driver_is, at_session_is, given_is, cond_is, cond_not, of_driver_is}
 use Rattle.core_laws.proofs.Views.{is_sane, hits}
 use Rattle.checkout_core.proofs.Inverses.{claim_is, close_moves, closing_is, open_is, redo_is, back_is}

@@ -1,6 +1,6 @@
 -- A step, as one path and its driver see it.
-use Rattle.std.proofs.Common.{eq-eqb, ◌≡◌, ◌==◌, ℕ, zero, suc, ◌+◌, ◌<◌, ◌≤◌, arith, ◌⊎◌, inl, inr, ⊎_elim, Bool, true, false, cond, List, [], ◌∷◌, Option, Some, None, refl, sym, ap, ◌∙◌, subst}
-use Rattle.std.specs.Prelude.{slice_get, ◌&&◌, not, take, length, nat_lt}
+use Rattle.std.proofs.Common.{eq-eqb, ◌≡◌, ◌==◌, ℕ, zero, suc, ◌+◌, ◌<◌, ◌≤◌, arith, ⊎_elim, Bool, true, false, cond, List, [], ◌∷◌, Option, Some, None, refl, sym, ap, ◌∙◌, subst}
+use Rattle.std.specs.Prelude.{slice_get, ◌&&◌, take}
 use Rattle.std.proofs.lemmas.Bool.{and_parts, and_from}
 use Rattle.filter_words.specs.declared.reply.Caps.{Caps}
 use Rattle.checkout_core.specs.declared.verdict.FilterCause.{FilterCause}
@@ -15,7 +15,7 @@ use Rattle.checkout_core.specs.declared.path.PathState.{PathState}
 use Rattle.checkout_core.specs.declared.path.PathState.TheVariants as path
 use Rattle.checkout_core.specs.declared.path.PathState.TheVariants.{Waiting, Held, Unasked, Closed}
 use Rattle.checkout_core.specs.declared.path.Start.{Start}
-use Rattle.checkout_core.specs.declared.path.Start.TheVariants.{Pool, Desk, Done}
+use Rattle.checkout_core.specs.declared.path.Start.TheVariants.{Desk}
 use Rattle.checkout_core.specs.declared.path.Path.{Path}
 use Rattle.checkout_core.specs.declared.driver.Session.{Session}
 use Rattle.checkout_core.specs.declared.driver.DriverState.{DriverState}
@@ -25,12 +25,12 @@ use Rattle.checkout_core.specs.declared.event.Event.TheVariants as ev
 use Rattle.checkout_core.specs.declared.effect.Effect.{Effect}
 use Rattle.checkout_core.specs.declared.effect.Effect.TheVariants.{Moves, Turns, Both}
 use Rattle.checkout_core.specs.declared.effect.Sweep.{Sweep}
-use Rattle.checkout_core.specs.declared.effect.Sweep.TheVariants.{Keep, Lose, Want}
-use Rattle.checkout_core.specs.Steps.{Core, swept, effect_of, after, is_at, is_unasked, is_delayed, is_named, is_named_below, path_after, driver_after, swept_path, with_state, claim, heard_opening, replied_state, replied_desk, replied_sweep, list_desk, list_sweep, list_allowed, is_names, named, listed, redo, refused_cause, hand_back, held_close, heard_close, unasked_close, closing, close_at, desk_close, is_off, none_below, none_of, named_count, lowest_unasked, add_one, is_good_opening, is_good_reply, is_delay, given, replied, of_driver, at_driver, at_session, claim_at, open_at, open_first, fresh, fail_at, answer_in, answer_at, name_in, name_at, list_at, list_step, redo_at, hand_back_at, shut_in, shut_at}
+use Rattle.checkout_core.specs.declared.effect.Sweep.TheVariants.{Keep}
+use Rattle.checkout_core.specs.Steps.{Core, swept, effect_of, is_at, is_unasked, path_after, driver_after, swept_path, with_state, claim, heard_opening, replied_state, replied_desk, replied_sweep, list_desk, list_sweep, list_allowed, is_names, named, redo, refused_cause, hand_back, held_close, heard_close, unasked_close, closing, close_at, desk_close, none_of, named_count, lowest_unasked, add_one, is_delay, replied, of_driver, at_driver, claim_at, open_at, fresh, fail_at, answer_in, answer_at, name_in, name_at, list_at, list_step, redo_at, hand_back_at, shut_in, shut_at}
 use Rattle.core_laws.specs.Laws.{is_of, is_note, own_after}
 use Rattle.checkout_core.proofs.Bridge.{swept_keep}
 use Rattle.checkout_core.proofs.Inverses.{not_false, unasked_is, late_is, off_is, redo_is, claim_is, back_is, closing_is, open_is, close_moves}
-use Rattle.checkout_core.proofs.Basics.{none_is_some, some_is, given_is, cond_is, cond_not, AtPath, at_path_is, AtDriver, at_driver_is, of_driver_is, at_session_is, AtBoth, at_both_is, same_row, same_desk, same_or, eqb_self, desk_is, required_is}
+use Rattle.checkout_core.proofs.Basics.{none_is_some, some_is, given_is, cond_is, cond_not, at_path_is, at_driver_is, at_session_is, AtBoth, at_both_is, same_row, same_desk, same_or, eqb_self, desk_is, required_is}
 
 -- the path that an event moves
 abbrev pub hits : Event → ℕ → Bool

@@ -1,31 +1,25 @@
 -- What the laws speak of.
-use Rattle.std.specs.Prelude.{◌≡◌, ◌==◌, ◌&&◌, ◌||◌, ◌<◌, ◌≤◌, ℕ, zero, suc, ◌+◌, ◌*◌, nat_lt, Bool, true, false, not, cond, List, [], ◌∷◌, length, map, Option, Some, None, slice_get}
-use Rattle.checkout_core.specs.declared.verdict.FilterCause.{FilterCause}
+use Rattle.std.specs.Prelude.{◌≡◌, ◌==◌, ℕ, zero, ◌+◌, Bool, true, false, cond, List, [], ◌∷◌, Option, Some, None, slice_get}
 use Rattle.checkout_core.specs.declared.verdict.FilterCause.TheVariants as cause
 use Rattle.filter_words.specs.declared.reply.Reply.{Reply}
 use Rattle.filter_words.specs.declared.reply.Reply.TheVariants as reply
 use Rattle.filter_words.specs.declared.reply.ListReply.{ListReply}
 use Rattle.filter_words.specs.declared.reply.ListReply.TheVariants as list
-use Rattle.checkout_core.specs.declared.verdict.FailCause.{FailCause}
 use Rattle.checkout_core.specs.declared.verdict.FailCause.TheVariants as fail
 use Rattle.checkout_core.specs.declared.verdict.Verdict.{Verdict}
 use Rattle.checkout_core.specs.declared.verdict.Verdict.TheVariants as verdict
 use Rattle.checkout_core.specs.declared.verdict.Own.{Own}
 use Rattle.checkout_core.specs.declared.verdict.Own.TheVariants as own
-use Rattle.filter_words.specs.declared.reply.Caps.{Caps}
 use Rattle.checkout_core.specs.declared.path.Heard.{Heard}
 use Rattle.checkout_core.specs.declared.path.Heard.TheVariants as heard
 use Rattle.checkout_core.specs.declared.path.PathState.{PathState}
-use Rattle.checkout_core.specs.declared.path.PathState.TheVariants as path
-use Rattle.checkout_core.specs.declared.path.PathState.TheVariants.{Waiting, Held, Unasked, Closed}
+use Rattle.checkout_core.specs.declared.path.PathState.TheVariants.{Held, Closed}
 use Rattle.checkout_core.specs.declared.path.Start.{Start}
 use Rattle.checkout_core.specs.declared.path.Start.TheVariants.{Pool, Desk, Done}
 use Rattle.checkout_core.specs.declared.path.Path.{Path}
-use Rattle.checkout_core.specs.declared.driver.DriverState.{DriverState}
-use Rattle.checkout_core.specs.declared.driver.DriverState.TheVariants as driver
 use Rattle.checkout_core.specs.declared.event.Event.{Event}
 use Rattle.checkout_core.specs.declared.event.Event.TheVariants.{Claim, Close, Opened, OpenFailed, Answered, Named, Listed, Redone, HandBack, Shut}
-use Rattle.checkout_core.specs.Steps.{Core, AreBelow, is_closed, replay, start, step_of, is_at, is_unasked, refused_verdict, heard_verdict, raw_verdict, write_failed, heard_opening}
+use Rattle.checkout_core.specs.Steps.{Core, is_closed, step_of, is_at, heard_verdict, write_failed, heard_opening}
 
 -- the driver's notes in a history
 abbrev pub is_of : List Start → ℕ → ℕ → Bool
@@ -195,13 +189,13 @@ abbrev pub own_entries : List Start → ℕ → ℕ → List Event → List Even
 own_entries starts workers a [] = []
 own_entries starts workers a (e ∷ es) = cond (actor_of starts workers e == a) (e ∷ own_entries starts workers a es) (own_entries starts workers a es)
 
--- whether a card in hand was handed back before
-abbrev pub is_ready : PathState → Bool
-is_ready (Held a (Some c)) = true
-is_ready s = false
+-- whether the actor has the path in hand, after it was handed back
+abbrev pub is_ready : ℕ → PathState → Bool
+is_ready a (Held b (Some c)) = a == b
+is_ready a s = false
 
-abbrev pub ready_at : Core → ℕ → Bool
-ready_at c p = elim (slice_get c.paths p) [ None ↦ false | Some r ↦ is_ready r.state ]
+abbrev pub ready_at : Core → ℕ → ℕ → Bool
+ready_at c a p = elim (slice_get c.paths p) [ None ↦ false | Some r ↦ is_ready a r.state ]
 
 abbrev pub is_claim : Event → Bool
 is_claim (Claim p a) = true
@@ -211,9 +205,5 @@ abbrev pub is_step : Core → Event → Bool
 is_step c e = elim (step_of c e) [ None ↦ false | Some x ↦ true ]
 
 abbrev pub AlikeCards : Core → Core → Event → Type 0
-AlikeCards c x (Close p a o) = ready_at c p ≡ ready_at x p
+AlikeCards c x (Close p a o) = ready_at c a p ≡ ready_at x a p
 AlikeCards c x e = Unit {0}
-
--- whether an event of an actor is a step comes from what the actor itself did
-abbrev pub OwnDecides : Type 0
-OwnDecides = (starts : List Start) (workers drivers : ℕ) (history other : List Event) (x y : Core) (e : Event) → AreBelow drivers starts → replay (start starts workers drivers) history ≡ Some x → replay (start starts workers drivers) other ≡ Some y → own_entries starts workers (actor_of starts workers e) history ≡ own_entries starts workers (actor_of starts workers e) other → is_claim e ≡ false → AlikeCards x y e → is_step x e ≡ is_step y e

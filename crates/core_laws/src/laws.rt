@@ -1,10 +1,10 @@
 // Laws over all histories.
-ghost use Rattle.std.specs.Prelude.{◌≡◌, ◌≤◌, ◌<◌, ◌*◌, ℕ, List, Some, None, true, length, slice_get};
+ghost use Rattle.std.specs.Prelude.{◌≡◌, ◌≤◌, ◌<◌, ◌*◌, ℕ, List, Some, None, true, false, length, slice_get};
 ghost use Rattle.checkout_core.specs.declared.event.Event.{Event};
 ghost use Rattle.checkout_core.specs.declared.path.Start.{Start};
 ghost use Rattle.checkout_core.specs.declared.verdict.Verdict.{Verdict};
 ghost use Rattle.checkout_core.specs.Steps.{Core, replay, start, step_of, AreBelow, verdict_at};
-ghost use Rattle.core_laws.specs.Laws.{IsComplete, IsClosed, notes, own_of, closes, HasOpen};
+ghost use Rattle.core_laws.specs.Laws.{IsComplete, IsClosed, notes, own_of, closes, HasOpen, actor_of, own_entries, is_claim, is_step, AlikeCards};
 ghost use Rattle.core_laws.specs.Talks.{Between, is_talk, talk_paths};
 
 /// A closed path stays closed, with its verdict.
@@ -40,5 +40,12 @@ pub fn an_open_path_has_a_step()
 /// A history has at most nine events a path.
 pub fn a_history_is_short()
     ensures { (starts : List Start) (workers drivers : ℕ) (history : List Event) (x : Core) → AreBelow drivers starts → replay (start starts workers drivers) history ≡ Some x → length history ≤ 9 * length starts }
+{
+}
+
+/// Whether an event other than a claim is a step comes from the starts, from its actor's own
+/// entries and, for a path that the actor has in hand, from whether it was handed back.
+pub fn own_entries_decide()
+    ensures { (starts : List Start) (workers drivers : ℕ) (history other : List Event) (x y : Core) (e : Event) → AreBelow drivers starts → replay (start starts workers drivers) history ≡ Some x → replay (start starts workers drivers) other ≡ Some y → own_entries starts workers (actor_of starts workers e) history ≡ own_entries starts workers (actor_of starts workers e) other → is_claim e ≡ false → AlikeCards x y e → is_step x e ≡ is_step y e }
 {
 }
