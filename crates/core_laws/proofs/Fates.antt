@@ -22,7 +22,8 @@ use Rattle.checkout_core.specs.declared.event.Event.TheVariants as ev
 use Rattle.checkout_core.specs.declared.effect.Sweep.{Sweep}
 use Rattle.checkout_core.specs.declared.effect.Sweep.TheVariants.{Keep, Lose, Want}
 use Rattle.checkout_core.specs.Steps.{swept, ended, is_unasked, is_names, replied_state, replied_desk, replied_sweep, list_desk, list_sweep, heard_opening, refused_cause, unasked_cause, held_close, heard_close, unasked_close, unasked_fine, named}
-use Rattle.core_laws.specs.Laws.{own_after, Fate, Untold, Later, Known, fate_after, fate_moves, fate_here, fate_there, fate_opened, fate_listed, pool_verdict, desk_verdict}
+use Rattle.core_laws.specs.Closes.{own_after}
+use Rattle.core_laws.specs.Fates.{Fate, Untold, Later, Known, fate_after, fate_moves, fate_here, fate_there, fate_opened, fate_listed, pool_verdict, desk_verdict}
 use Rattle.checkout_core.proofs.Basics.{none_is_some, eqb_self}
 use Rattle.core_laws.proofs.Views.{View, Same, Claimed, HandedBack, ClosedHeld, ClosedTold, ClosedUnasked, SeesOpened, NotOpened, OtherNotOpened, IsAnswered, OtherAnswered, IsRedone, OtherRedone, IsNamed, OtherNamed, SeesListed, SeesShut}
 

@@ -24,14 +24,14 @@ use Rattle.checkout_core.specs.declared.effect.Effect.TheVariants.{Moves, Turns,
 use Rattle.checkout_core.specs.declared.effect.Sweep.{Sweep}
 use Rattle.checkout_core.specs.declared.effect.Sweep.TheVariants.{Keep, Lose, Want}
 use Rattle.checkout_core.specs.Steps.{Core, each, effect_of, after, replay, path_after, driver_after, swept, start, offs, path_of, begins, refused_cause, replied_state, replied_desk, replied_sweep, list_desk, list_sweep, is_unasked, is_first, is_names, is_delay, heard_opening, named, listed, fresh, list_allowed, named_count, claim_at, claim, close_at, fail_at, hand_back_at, hand_back, answer_at, answer_in, redo_at, redo, name_at, name_in, list_at, list_step, shut_at, shut_in, open_at, lowest_unasked, replied, AreBelow}
-use Rattle.core_laws.specs.Laws.{is_note}
+use Rattle.core_laws.specs.Notes.{is_note}
 use Rattle.checkout_core.proofs.Basics.{none_is_some, some_is, eqb_self, get_each, start_after, step_is, first_step, same_or, at_both_is, at_path_is, at_driver_is, at_session_is, given_is, cond_is, cond_not}
 use Rattle.core_laws.proofs.Views.{View, Same, Claimed, HandedBack, ClosedHeld, ClosedTold, ClosedUnasked, SeesOpened, NotOpened, OtherNotOpened, IsAnswered, OtherAnswered, IsRedone, OtherRedone, IsNamed, OtherNamed, SeesListed, SeesShut, see, hits, turned}
 use Rattle.checkout_core.proofs.Inverses.{unasked_is, claim_is, close_moves, back_is, open_is, redo_is}
 use Rattle.checkout_core.proofs.Bridge.{swept_keep}
-use Rattle.core_laws.proofs.Runs.{Good, good_step}
-use Rattle.core_laws.proofs.Picks.{at_says}
-use Rattle.core_laws.proofs.Sims.{lowest_is}
+use Rattle.core_laws.proofs.Kept.{Good, good_step}
+use Rattle.core_laws.proofs.TalkPaths.{at_says}
+use Rattle.core_laws.proofs.TalkSteps.{lowest_is}
 use Rattle.core_laws.proofs.Verdicts.{Plain, Stays, Taken, Ends, plain_see, is_plain, good_start}
 
 -- what a path may still cost

@@ -23,13 +23,13 @@ use Rattle.checkout_core.specs.declared.effect.Effect.{Effect}
 use Rattle.checkout_core.specs.declared.effect.Effect.TheVariants.{Moves, Turns}
 use Rattle.checkout_core.specs.declared.effect.Sweep.TheVariants.{Want, Keep}
 use Rattle.checkout_core.specs.Steps.{Core, listed, effect_of, after, done, step_of, replay, start, path_of, begins, at_path, at_driver, of_driver, at_both, given, claim_at, claim, close_at, held_close, heard_close, unasked_close, closing, is_first, lacks_smudge, answer_at, list_at, redo_at, redo, replied, none_of, is_unasked, is_at, is_named, is_named_below, named_count, none_below, AreBelow, is_closed}
-use Rattle.core_laws.specs.Laws.{own_of}
+use Rattle.core_laws.specs.Closes.{own_of}
 use Rattle.checkout_core.proofs.Basics.{some_is, eqb_self, step_is, first_step, same_or}
 use Rattle.core_laws.proofs.Views.{sits, is_sane}
 use Rattle.checkout_core.proofs.Inverses.{unasked_is}
-use Rattle.core_laws.proofs.Runs.{Good}
-use Rattle.core_laws.proofs.Picks.{at_says}
-use Rattle.core_laws.proofs.Once.{good_replay}
+use Rattle.core_laws.proofs.Kept.{Good}
+use Rattle.core_laws.proofs.TalkPaths.{at_says}
+use Rattle.core_laws.proofs.ClosedOnce.{good_replay}
 use Rattle.core_laws.proofs.Verdicts.{plain_runs, is_plain, StartFits, PoolFits, get_map}
 
 abbrev Moving : Core → Type 0

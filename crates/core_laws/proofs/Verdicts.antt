@@ -20,12 +20,14 @@ use Rattle.checkout_core.specs.declared.effect.Effect.TheVariants.{Moves, Turns,
 use Rattle.checkout_core.specs.declared.effect.Sweep.{Sweep}
 use Rattle.checkout_core.specs.declared.effect.Sweep.TheVariants.{Keep}
 use Rattle.checkout_core.specs.Steps.{Core, effect_of, replay, is_at, path_after, with_state, swept_path, swept, start, offs, path_of, begins, claim_at, claim, close_at, held_close, closing, desk_close, at_driver, heard_close, unasked_close, redo_at, name_at, fail_at, answer_at, hand_back_at, open_at, list_at, shut_at, redo, answer_in, name_in, shut_in, list_step, list_allowed, list_desk, list_sweep, lowest_unasked, fresh, hand_back, refused_cause, heard_opening, named_count, named, replied, replied_desk, replied_state, replied_sweep, AreBelow, verdict_at, verdict_of}
-use Rattle.core_laws.specs.Laws.{notes, own_after, own_of, Fate, Untold, fate_of, pool_verdict, IsComplete, verdict_from, driver_of, told_verdict}
+use Rattle.core_laws.specs.Notes.{notes, driver_of}
+use Rattle.core_laws.specs.Closes.{own_after, own_of, IsComplete}
+use Rattle.core_laws.specs.Fates.{Fate, Untold, fate_of, pool_verdict, verdict_from, told_verdict}
 use Rattle.checkout_core.proofs.Basics.{none_is_some, some_is, eqb_self, get_each, start_after, step_is, first_step, same_row, same_or, AtBoth, at_both_is, at_path_is, at_driver_is, at_session_is, given_is, cond_is, cond_not, of_driver_is}
 use Rattle.core_laws.proofs.Views.{is_sane, hits}
 use Rattle.checkout_core.proofs.Inverses.{claim_is, close_moves, closing_is, open_is, redo_is, back_is}
 use Rattle.core_laws.proofs.Fates.{Fits, IsSettled}
-use Rattle.core_laws.proofs.Runs.{Good, Sight, sights}
+use Rattle.core_laws.proofs.Kept.{Good, Sight, sights}
 
 abbrev pub is_plain : Start → Bool
 is_plain Pool = true

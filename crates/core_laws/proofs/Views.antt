@@ -27,7 +27,8 @@ use Rattle.checkout_core.specs.declared.effect.Effect.TheVariants.{Moves, Turns,
 use Rattle.checkout_core.specs.declared.effect.Sweep.{Sweep}
 use Rattle.checkout_core.specs.declared.effect.Sweep.TheVariants.{Keep}
 use Rattle.checkout_core.specs.Steps.{Core, swept, effect_of, is_at, is_unasked, path_after, driver_after, swept_path, with_state, claim, heard_opening, replied_state, replied_desk, replied_sweep, list_desk, list_sweep, list_allowed, is_names, named, redo, refused_cause, hand_back, held_close, heard_close, unasked_close, closing, close_at, desk_close, none_of, named_count, lowest_unasked, add_one, is_delay, replied, of_driver, at_driver, claim_at, open_at, fresh, fail_at, answer_in, answer_at, name_in, name_at, list_at, list_step, redo_at, hand_back_at, shut_in, shut_at}
-use Rattle.core_laws.specs.Laws.{is_of, is_note, own_after}
+use Rattle.core_laws.specs.Notes.{is_of, is_note}
+use Rattle.core_laws.specs.Closes.{own_after}
 use Rattle.checkout_core.proofs.Bridge.{swept_keep}
 use Rattle.checkout_core.proofs.Inverses.{not_false, unasked_is, late_is, off_is, redo_is, claim_is, back_is, closing_is, open_is, close_moves}
 use Rattle.checkout_core.proofs.Basics.{none_is_some, some_is, given_is, cond_is, cond_not, at_path_is, at_driver_is, at_session_is, AtBoth, at_both_is, same_row, same_desk, same_or, eqb_self, desk_is, required_is}

@@ -4,7 +4,10 @@ ghost use Rattle.checkout_core.specs.declared.event.Event.{Event};
 ghost use Rattle.checkout_core.specs.declared.path.Start.{Start};
 ghost use Rattle.checkout_core.specs.declared.verdict.Verdict.{Verdict};
 ghost use Rattle.checkout_core.specs.Steps.{Core, replay, start, step_of, AreBelow, verdict_at};
-ghost use Rattle.core_laws.specs.Laws.{IsComplete, IsClosed, notes, own_of, closes, HasOpen, actor_of, own_entries, is_claim, is_step, AlikeCards};
+ghost use Rattle.core_laws.specs.Notes.{notes};
+ghost use Rattle.core_laws.specs.Closes.{IsComplete, IsClosed, own_of, closes, HasOpen};
+ghost use Rattle.core_laws.specs.Actors.{actor_of, own_entries, is_claim, is_step, AlikeCards};
+ghost use Rattle.core_laws.specs.Fates.{told_verdict};
 ghost use Rattle.core_laws.specs.Talks.{Between, is_talk, talk_paths};
 
 /// A closed path stays closed, with its verdict.
@@ -22,6 +25,12 @@ pub fn no_path_is_closed_twice()
 /// The notes of a driver are a talk with it, whatever events stand between.
 pub fn notes_are_a_talk()
     ensures { (starts : List Start) (workers drivers : ℕ) (history : List Event) (x : Core) (d : ℕ) → AreBelow drivers starts → d < drivers → replay (start starts workers drivers) history ≡ Some x → is_talk (Between (talk_paths (start starts workers drivers) d history)) (notes starts d history) ≡ true }
+{
+}
+
+/// In a complete history each path's verdict is what its start, the notes of its driver and its own outcome tell.
+pub fn a_verdict_is_what_is_told()
+    ensures { (starts : List Start) (workers drivers : ℕ) (history : List Event) (x : Core) → AreBelow drivers starts → replay (start starts workers drivers) history ≡ Some x → IsComplete x → (p : ℕ) (s : Start) → slice_get starts p ≡ Some s → verdict_at x p ≡ told_verdict starts history p s }
 {
 }
 

@@ -23,7 +23,9 @@ use Rattle.checkout_core.specs.declared.effect.Effect.TheVariants.{Both}
 use Rattle.checkout_core.specs.declared.effect.Sweep.{Sweep}
 use Rattle.checkout_core.specs.declared.effect.Sweep.TheVariants.{Keep, Lose, Want}
 use Rattle.checkout_core.specs.Steps.{Core, swept, effect_of, after, step_of, replay, path_after, driver_after, replied_state, replied_desk, replied_sweep, list_desk, list_sweep, named, listed, name_at, name_in, heard_opening, is_unasked, named_count, delayed, none_of}
-use Rattle.core_laws.specs.Laws.{is_note, notes, own_after, own_of, Fate, fate_of}
+use Rattle.core_laws.specs.Notes.{is_note, notes}
+use Rattle.core_laws.specs.Closes.{own_after, own_of}
+use Rattle.core_laws.specs.Fates.{Fate, fate_of}
 use Rattle.checkout_core.proofs.Basics.{some_is, get_each, each_is, start_after, step_is, first_step, same_row, at_both_is, at_session_is, given_is, desk_is}
 use Rattle.core_laws.proofs.Views.{View, Same, Claimed, HandedBack, ClosedHeld, ClosedTold, ClosedUnasked, SeesOpened, NotOpened, OtherNotOpened, IsAnswered, OtherAnswered, IsRedone, OtherRedone, IsNamed, OtherNamed, SeesListed, SeesShut, Begun, Kept, none_says, at_it, see, sits, is_sane}
 use Rattle.core_laws.proofs.Fates.{Fits, fate_if, fits_step}

@@ -15,11 +15,12 @@ use Rattle.checkout_core.specs.declared.event.Event.TheVariants as ev
 use Rattle.checkout_core.specs.declared.effect.Effect.{Effect}
 use Rattle.checkout_core.specs.declared.effect.Effect.TheVariants.{Moves}
 use Rattle.checkout_core.specs.Steps.{Core, effect_of, after, step_of, replay, path_after, driver_after, swept, start, refused_cause, replied_sweep, list_sweep, close_at, AreBelow}
-use Rattle.core_laws.specs.Laws.{is_note, own_after, IsClosed, closing_of, closes}
+use Rattle.core_laws.specs.Notes.{is_note}
+use Rattle.core_laws.specs.Closes.{own_after, IsClosed, closing_of, closes}
 use Rattle.checkout_core.proofs.Basics.{none_is_some, some_is, get_each, step_is, first_step, same_or, at_path_is}
 use Rattle.core_laws.proofs.Views.{View, Same, Claimed, HandedBack, ClosedHeld, ClosedTold, ClosedUnasked, SeesOpened, NotOpened, OtherNotOpened, IsAnswered, OtherAnswered, IsRedone, OtherRedone, IsNamed, OtherNamed, SeesListed, SeesShut, see}
 use Rattle.checkout_core.proofs.Inverses.{close_moves}
-use Rattle.core_laws.proofs.Runs.{Good, good_step}
+use Rattle.core_laws.proofs.Kept.{Good, good_step}
 use Rattle.core_laws.proofs.Verdicts.{Plain, Stays, Taken, Ends, plain_see, is_plain, good_start}
 
 no_close : (p : ℕ) (e : Event) → ((o : Option Own) → own_after p o e ≡ o) → closing_of p e ≡ 0

@@ -1,5 +1,5 @@
--- What the laws speak of.
-use Rattle.std.specs.Prelude.{◌≡◌, ◌==◌, ℕ, zero, ◌+◌, Bool, true, false, cond, List, [], ◌∷◌, Option, Some, None, slice_get}
+-- What the notes of a driver tell of its paths, and the verdicts that follow.
+use Rattle.std.specs.Prelude.{◌==◌, ℕ, Bool, false, cond, List, [], ◌∷◌, Option, Some, None}
 use Rattle.checkout_core.specs.declared.verdict.FilterCause.TheVariants as cause
 use Rattle.filter_words.specs.declared.reply.Reply.{Reply}
 use Rattle.filter_words.specs.declared.reply.Reply.TheVariants as reply
@@ -12,54 +12,13 @@ use Rattle.checkout_core.specs.declared.verdict.Own.{Own}
 use Rattle.checkout_core.specs.declared.verdict.Own.TheVariants as own
 use Rattle.checkout_core.specs.declared.path.Heard.{Heard}
 use Rattle.checkout_core.specs.declared.path.Heard.TheVariants as heard
-use Rattle.checkout_core.specs.declared.path.PathState.{PathState}
-use Rattle.checkout_core.specs.declared.path.PathState.TheVariants.{Held, Closed}
 use Rattle.checkout_core.specs.declared.path.Start.{Start}
 use Rattle.checkout_core.specs.declared.path.Start.TheVariants.{Pool, Desk, Done}
-use Rattle.checkout_core.specs.declared.path.Path.{Path}
 use Rattle.checkout_core.specs.declared.event.Event.{Event}
-use Rattle.checkout_core.specs.declared.event.Event.TheVariants.{Claim, Close, Opened, OpenFailed, Answered, Named, Listed, Redone, HandBack, Shut}
-use Rattle.checkout_core.specs.Steps.{Core, is_closed, step_of, is_at, heard_verdict, write_failed, heard_opening}
-
--- the driver's notes in a history
-abbrev pub is_of : List Start → ℕ → ℕ → Bool
-is_of starts d p = elim (slice_get starts p) [ None ↦ false | Some s ↦ is_at d s ]
-
-abbrev pub is_note : List Start → ℕ → Event → Bool
-is_note starts d (Opened e caps) = d == e
-is_note starts d (OpenFailed p o) = is_of starts d p
-is_note starts d (Answered p y) = is_of starts d p
-is_note starts d (Named p) = is_of starts d p
-is_note starts d (Listed e y) = d == e
-is_note starts d (Redone p y) = is_of starts d p
-is_note starts d (Shut e) = d == e
-is_note starts d (Claim p a) = false
-is_note starts d (Close p a o) = false
-is_note starts d (HandBack p) = false
-
-abbrev pub notes : List Start → ℕ → List Event → List Event
-notes starts d [] = []
-notes starts d (e ∷ es) = cond (is_note starts d e) (e ∷ notes starts d es) (notes starts d es)
-
--- how often the history closes the path, and with what own outcome
-abbrev pub closing_of : ℕ → Event → ℕ
-closing_of p (Close q a o) = cond (p == q) 1 0
-closing_of p _ = 0
-
-abbrev pub closes : ℕ → List Event → ℕ
-closes p [] = 0
-closes p (e ∷ es) = closing_of p e + closes p es
-
-abbrev pub own_after : ℕ → Option Own → Event → Option Own
-own_after p o (Close q a x) = cond (p == q) (Some x) o
-own_after p o _ = o
-
-abbrev pub own_of : ℕ → Option Own → List Event → Option Own
-own_of p o [] = o
-own_of p o (e ∷ es) = own_of p (own_after p o e) es
-
-abbrev pub IsClosed : Core → ℕ → Verdict → Type 0
-IsClosed c p v = (r : Path) × (slice_get c.paths p ≡ Some r) × (r.state ≡ Closed v)
+use Rattle.checkout_core.specs.declared.event.Event.TheVariants.{Opened, OpenFailed, Answered, Listed, Redone}
+use Rattle.checkout_core.specs.Steps.{heard_verdict, write_failed, heard_opening}
+use Rattle.core_laws.specs.Notes.{notes, driver_of}
+use Rattle.core_laws.specs.Closes.{own_of}
 
 -- what the notes of a driver tell of one of its paths
 pub data Fate : Type 0 where
@@ -146,10 +105,6 @@ desk_verdict required (Known h) o = known_verdict required h o
 desk_verdict required Later o = pool_verdict o
 desk_verdict required Untold o = pool_verdict o
 
--- every path is closed
-abbrev pub IsComplete : Core → Type 0
-IsComplete c = (p : ℕ) (r : Path) → slice_get c.paths p ≡ Some r → (v : Verdict) × (r.state ≡ Closed v)
-
 -- the verdict of a path, from its start, its driver's notes and its own outcome
 abbrev pub verdict_from : Start → Fate → Option Own → Option Verdict
 verdict_from (Done v) f o = Some v
@@ -157,53 +112,5 @@ verdict_from Pool f (Some w) = Some (pool_verdict w)
 verdict_from (Desk d required) f (Some w) = Some (desk_verdict required f w)
 verdict_from _ f None = None
 
-abbrev pub driver_of : Start → ℕ
-driver_of (Desk d required) = d
-driver_of _ = zero
-
 abbrev pub told_verdict : List Start → List Event → ℕ → Start → Option Verdict
 told_verdict starts history p s = verdict_from s (fate_of p Untold (notes starts (driver_of s) history)) (own_of p None history)
-
--- some path is not closed
-abbrev pub HasOpen : Core → Type 0
-HasOpen c = (p : ℕ) × (r : Path) × (slice_get c.paths p ≡ Some r) × (is_closed r.state ≡ false)
-
--- the actor of an event
-abbrev pub desk_of : List Start → ℕ → ℕ → ℕ
-desk_of starts workers p = elim (slice_get starts p) [ None ↦ workers | Some s ↦ workers + driver_of s ]
-
-abbrev pub actor_of : List Start → ℕ → Event → ℕ
-actor_of starts workers (Claim p a) = a
-actor_of starts workers (Close p a o) = a
-actor_of starts workers (Opened d caps) = workers + d
-actor_of starts workers (OpenFailed p o) = desk_of starts workers p
-actor_of starts workers (Answered p y) = desk_of starts workers p
-actor_of starts workers (Named p) = desk_of starts workers p
-actor_of starts workers (Listed d y) = workers + d
-actor_of starts workers (Redone p y) = desk_of starts workers p
-actor_of starts workers (HandBack p) = desk_of starts workers p
-actor_of starts workers (Shut d) = workers + d
-
--- the entries of an actor
-abbrev pub own_entries : List Start → ℕ → ℕ → List Event → List Event
-own_entries starts workers a [] = []
-own_entries starts workers a (e ∷ es) = cond (actor_of starts workers e == a) (e ∷ own_entries starts workers a es) (own_entries starts workers a es)
-
--- whether the actor has the path in hand, after it was handed back
-abbrev pub is_ready : ℕ → PathState → Bool
-is_ready a (Held b (Some c)) = a == b
-is_ready a s = false
-
-abbrev pub ready_at : Core → ℕ → ℕ → Bool
-ready_at c a p = elim (slice_get c.paths p) [ None ↦ false | Some r ↦ is_ready a r.state ]
-
-abbrev pub is_claim : Event → Bool
-is_claim (Claim p a) = true
-is_claim e = false
-
-abbrev pub is_step : Core → Event → Bool
-is_step c e = elim (step_of c e) [ None ↦ false | Some x ↦ true ]
-
-abbrev pub AlikeCards : Core → Core → Event → Type 0
-AlikeCards c x (Close p a o) = ready_at c a p ≡ ready_at x a p
-AlikeCards c x e = Unit {0}

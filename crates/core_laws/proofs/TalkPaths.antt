@@ -23,12 +23,13 @@ use Rattle.checkout_core.specs.declared.event.Event.TheVariants as ev
 use Rattle.checkout_core.specs.declared.effect.Effect.{Effect}
 use Rattle.checkout_core.specs.declared.effect.Sweep.TheVariants.{Keep}
 use Rattle.checkout_core.specs.Steps.{none_of, Core, each, effect_of, after, step_of, replay, is_at, is_unasked, is_first, lacks_smudge, path_after, driver_after, unasked_cause, refused_cause, unasked_close, unasked_fine, replied_sweep, list_sweep, swept, list_desk, is_names, listed}
-use Rattle.core_laws.specs.Laws.{is_note, own_after}
+use Rattle.core_laws.specs.Notes.{is_note}
+use Rattle.core_laws.specs.Closes.{own_after}
 use Rattle.core_laws.specs.Talks.{picks, to_ask, skips, skipped, skip_at, skip_start, skip_here, is_alone, talk_paths}
 use Rattle.checkout_core.proofs.Basics.{none_is_some, some_is, eqb_self, get_each, start_after, step_is, first_step, same_or}
 use Rattle.core_laws.proofs.Views.{View, Same, Claimed, HandedBack, ClosedHeld, ClosedTold, ClosedUnasked, SeesOpened, NotOpened, OtherNotOpened, IsAnswered, OtherAnswered, IsRedone, OtherRedone, IsNamed, OtherNamed, SeesListed, SeesShut, Scene, see}
 use Rattle.checkout_core.proofs.Inverses.{not_false}
-use Rattle.core_laws.proofs.Runs.{Good, good_step, asked_step, unasked_swept, unasked_replied}
+use Rattle.core_laws.proofs.Kept.{Good, good_step, asked_step, unasked_swept, unasked_replied}
 
 pub picks_same : (f g : ℕ → Path → Bool) (h : ℕ → Path → Path) (rs : List Path) → ((p : ℕ) (r : Path) → slice_get rs p ≡ Some r → g p (h p r) ≡ f p r) → picks g (each h rs) ≡ picks f rs
 picks_same f g h [] same = refl

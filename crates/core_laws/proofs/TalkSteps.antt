@@ -27,16 +27,16 @@ use Rattle.checkout_core.specs.declared.effect.Effect.TheVariants.{Moves, Turns,
 use Rattle.checkout_core.specs.declared.effect.Sweep.{Sweep}
 use Rattle.checkout_core.specs.declared.effect.Sweep.TheVariants.{Keep, Lose, Want}
 use Rattle.checkout_core.specs.Steps.{none_of, Core, each, effect_of, after, step_of, replay, is_at, is_unasked, is_delayed, is_named, is_off, path_after, driver_after, unasked_cause, refused_cause, swept, replied, replied_state, replied_desk, replied_sweep, list_desk, list_sweep, list_allowed, heard_opening, is_good_opening, is_good_reply, is_delay, is_named_below, fresh, named, listed, delayed, named_count, lowest_unasked, add_one, answer_at, answer_in, fail_at, name_at, name_in, redo_at, redo, open_at, list_at, list_step, shut_at, shut_in, claim_at, claim, close_at, hand_back_at, hand_back, none_below, start, begins, AreBelow}
-use Rattle.core_laws.specs.Laws.{is_of, is_note, notes}
+use Rattle.core_laws.specs.Notes.{is_of, is_note, notes}
 use Rattle.core_laws.specs.Talks.{Round, Talk, Between, Refusing, InRound, Ended, talk_step, answered, opened, list_end, list_may, redone, is_talk, is_empty, contains, without, talk_paths, skipped, to_ask}
 use Rattle.checkout_core.proofs.Basics.{none_is_some, some_is, eqb_self, get_each, each_is, start_after, step_is, first_step, same_desk, same_or, at_both_is, at_path_is, at_driver_is, at_session_is, given_is, cond_is, cond_not}
 use Rattle.core_laws.proofs.Views.{View, Same, Claimed, HandedBack, ClosedHeld, ClosedTold, ClosedUnasked, SeesOpened, NotOpened, OtherNotOpened, IsAnswered, OtherAnswered, IsRedone, OtherRedone, IsNamed, OtherNamed, SeesListed, SeesShut, Begun, is_sane, here, there, turned, move_here, move_there, is_of_is, at_it, none_says}
 use Rattle.checkout_core.proofs.Inverses.{not_false, unasked_is, late_is, off_is, redo_is, open_is, claim_is, back_is, close_moves}
 use Rattle.checkout_core.proofs.Bridge.{swept_keep}
-use Rattle.core_laws.proofs.Runs.{Good, good_step, unasked_replied}
-use Rattle.core_laws.proofs.Picks.{picks_none, picks_some, taken, rest_same, rest_first, view_of, at_says, first_stays}
+use Rattle.core_laws.proofs.Kept.{Good, good_step, unasked_replied}
+use Rattle.core_laws.proofs.TalkPaths.{picks_none, picks_some, taken, rest_same, rest_first, view_of, at_says, first_stays}
 use Rattle.core_laws.proofs.Verdicts.{good_start, get_offs, map_get}
-use Rattle.core_laws.proofs.Turns.{shadow, Lists, lists_same, lists_none, lists_rebase, lists_late, lists_named, lists_redone}
+use Rattle.core_laws.proofs.TalkLists.{shadow, Lists, lists_same, lists_none, lists_rebase, lists_late, lists_named, lists_redone}
 
 abbrev round_of : Session → List ℕ → List ℕ → List ℕ → Round
 round_of k rest late turns = record { delay = k.caps.delay; had = k.had; naming = k.naming; rest = rest; late = late; turns = turns }
