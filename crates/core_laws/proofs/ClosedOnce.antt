@@ -109,12 +109,12 @@ closed_stays starts workers drivers history more c x p v below run rest shut = (
 closes_now : (c x : Core) (e : Event) (p : ℕ) → step_of c e ≡ Some x → (closing_of p e ≡ 0) ⊎ ((closing_of p e ≡ 1) × ((v : Verdict) × IsClosed x p v))
 closes_now c x (ev.Close q a o) p h = ⊎_elim
     (λ (k : (p ≡ q) × ((p == q) ≡ true)).
-        let m = step_is c x (ev.Close q a o) h in
-        let at = at_path_is c q (λ r. close_at c q a o r r.state) m.0 m.1 in
-        let w = close_moves c q a o at.row (at.row).state m.0 at.holds in
-        let there : slice_get c.paths p ≡ Some at.row = ap (λ j. slice_get c.paths j) k.0 ∙ at.there in
-        let r1 = path_after (Moves q (Closed w.0)) p at.row in
-        inr (ap (λ (b : Bool). cond b 1 0) k.1, (w.0, (r1, subst (λ (z : Core). slice_get z.paths p ≡ Some r1) m.2 (subst (λ (z : Effect). slice_get (after c z).paths p ≡ Some r1) w.1 (get_each (path_after (Moves q (Closed w.0))) c.paths p at.row there)), ap (λ (b : Bool). cond b (Closed w.0) (at.row).state) k.1))))
+    let m = step_is c x (ev.Close q a o) h in
+    let at = at_path_is c q (λ r. close_at c q a o r r.state) m.0 m.1 in
+    let w = close_moves c q a o at.row (at.row).state m.0 at.holds in
+    let there : slice_get c.paths p ≡ Some at.row = ap (λ j. slice_get c.paths j) k.0 ∙ at.there in
+    let r1 = path_after (Moves q (Closed w.0)) p at.row in
+    inr (ap (λ (b : Bool). cond b 1 0) k.1, (w.0, (r1, subst (λ (z : Core). slice_get z.paths p ≡ Some r1) m.2 (subst (λ (z : Effect). slice_get (after c z).paths p ≡ Some r1) w.1 (get_each (path_after (Moves q (Closed w.0))) c.paths p at.row there)), ap (λ (b : Bool). cond b (Closed w.0) (at.row).state) k.1))))
     (λ (k : (p == q) ≡ false). inl (ap (λ (b : Bool). cond b 1 0) k))
     (same_or p q)
 closes_now c x (ev.Claim q a) p h = inl refl
@@ -134,12 +134,13 @@ once starts c x (e ∷ es) p good h =
     let m = step_is c f.0 e f.1 in
     let good1 : Good starts f.0 = subst (λ (z : Core). Good starts z) m.2 (good_step starts c e m.0 good m.1) in
     ⊎_elim
-      (λ (k : closing_of p e ≡ 0). zero_more (closing_of p e) (closes p es) k (once starts f.0 x es p good1 f.2))
-      (λ (k : (closing_of p e ≡ 1) × ((v : Verdict) × IsClosed f.0 p v)). one_none (closing_of p e) (closes p es) k.0 ((stays starts f.0 x es p k.1.0 good1 f.2 k.1.1).1))
-      (closes_now c f.0 e p f.1)
+    (λ (k : closing_of p e ≡ 0). zero_more (closing_of p e) (closes p es) k (once starts f.0 x es p good1 f.2))
+    (λ (k : (closing_of p e ≡ 1) × ((v : Verdict) × IsClosed f.0 p v)). one_none (closing_of p e) (closes p es) k.0 ((stays starts f.0 x es p k.1.0 good1 f.2 k.1.1).1))
+    (closes_now c f.0 e p f.1)
   where
     zero_more : (a b : ℕ) → a ≡ 0 → b ≤ 1 → a + b ≤ 1
     zero_more a b i j = omega arith
+
     one_none : (a b : ℕ) → a ≡ 1 → b ≡ 0 → a + b ≤ 1
     one_none a b i j = omega arith
 

@@ -207,6 +207,7 @@ there_fate r k p q smudge n = ap (λ (b : Bool). cond b (fate_here r) (fate_ther
   where
     on : cond k.caps.smudge Untold (Known (heard.Refused cause.NoSmudge)) ≡ Untold
     on = ap (λ (b : Bool). cond b Untold (Known (heard.Refused cause.NoSmudge))) smudge
+
     go : (r : Reply) → fate_there r Untold ≡ told_by (replied_desk k r)
     go reply.Content = sym on
     go reply.Error = sym on
@@ -310,19 +311,19 @@ module _ (required : Bool) (p : ℕ) where
   fits_step d x y s t e n f o (SeesOpened caps first low nn xx yy tt ee) h =
       let k : Session = record { caps = caps; first = first; had = false; naming = false } in
       carry f o y (driver.On k) t (swept Keep s) e (ev.Opened d caps) n true yy (tt ∙ keeps s) ee nn
-        (turn_fits required p x (driver.On k) f o Keep (ev.Opened d caps) s (λ u. ap (λ (z : DriverState). fate_after p (told_by z) (ev.Opened d caps)) xx ∙ opened_fate caps.smudge) (opened_late caps.smudge) h)
+      (turn_fits required p x (driver.On k) f o Keep (ev.Opened d caps) s (λ u. ap (λ (z : DriverState). fate_after p (told_by z) (ev.Opened d caps)) xx ∙ opened_fate caps.smudge) (opened_late caps.smudge) h)
   fits_step d x y s t e n f o (NotOpened w nn xx yy ss tt ee) h = carry f o y x t (path.Heard (heard_opening w)) e (ev.OpenFailed p w) n true yy tt ee nn
       (let f0 : f ≡ Untold = subst (λ (z : PathState). Fits required x f o z) ss h ∙ ap told_by xx in ap (λ g. fate_after p g (ev.OpenFailed p w)) f0 ∙ fate_known p (heard_opening w) e Untold (p == p) (eqb_self p))
   fits_step d x y s t e n f o (OtherNotOpened q w pq nn yy tt ee) h = carry f o y x t s e (ev.OpenFailed q w) n true yy tt ee nn
       (subst (λ (g : Fate). Fits required x g o s) (sym (still p f (ev.OpenFailed q w) (ap (λ (b : Bool). cond b (Known (heard_opening w)) Untold) pq) (ap (λ (b : Bool). cond b (Known (heard_opening w)) Later) pq))) h)
   fits_step d x y s t e n f o (IsAnswered r k nn xx smudge ss yy tt ee) h = carry f o y (replied_desk k r) t (replied_state r) e (ev.Answered p r) n true yy tt ee nn
       (let f0 : f ≡ Untold = subst (λ (z : PathState). Fits required x f o z) ss h ∙ (ap told_by xx ∙ smudged k smudge) in
-       replied_fits required (replied_desk k r) (fate_after p f (ev.Answered p r)) o r (ap (λ g. fate_after p g (ev.Answered p r)) f0 ∙ ap (λ (b : Bool). cond b (fate_here r) (fate_there r Untold)) (eqb_self p)))
+      replied_fits required (replied_desk k r) (fate_after p f (ev.Answered p r)) o r (ap (λ g. fate_after p g (ev.Answered p r)) f0 ∙ ap (λ (b : Bool). cond b (fate_here r) (fate_there r Untold)) (eqb_self p)))
   fits_step d x y s t e n f o (OtherAnswered q r k below low pq nn xx smudge yy tt ee) h = carry f o y (replied_desk k r) t (swept (replied_sweep r) s) e (ev.Answered q r) n true yy tt ee nn
       (turn_fits required p x (replied_desk k r) f o (replied_sweep r) (ev.Answered q r) s (λ u. ap (λ (z : DriverState). fate_after p (told_by z) (ev.Answered q r)) xx ∙ (ap (λ g. fate_after p g (ev.Answered q r)) (smudged k smudge) ∙ (ap (λ g. cond (p == q) (fate_here r) (fate_there r g)) (sym (smudged k smudge)) ∙ there_fate r k p q smudge pq))) (other_late r p q pq) h)
   fits_step d x y s t e n f o (IsRedone r k turn nn xx ss dd yy tt ee) h = carry f o y (replied_desk k r) t (replied_state r) e (ev.Redone p r) n true yy tt ee nn
       (let f0 : f ≡ Later = subst (λ (z : PathState). Fits required x f o z) ss h in
-       replied_fits required (replied_desk k r) (fate_after p f (ev.Redone p r)) o r (ap (λ g. fate_after p g (ev.Redone p r)) f0 ∙ ap (λ (b : Bool). cond b (fate_here r) (fate_there r Later)) (eqb_self p)))
+      replied_fits required (replied_desk k r) (fate_after p f (ev.Redone p r)) o r (ap (λ g. fate_after p g (ev.Redone p r)) f0 ∙ ap (λ (b : Bool). cond b (fate_here r) (fate_there r Later)) (eqb_self p)))
   fits_step d x y s t e n f o (OtherRedone q r k un pq dd nn xx yy tt ee smudge) h = carry f o y (replied_desk k r) t (swept (replied_sweep r) s) e (ev.Redone q r) n true yy tt ee nn
       (turn_fits required p x (replied_desk k r) f o (replied_sweep r) (ev.Redone q r) s (λ u. ap (λ (z : DriverState). fate_after p (told_by z) (ev.Redone q r)) xx ∙ (ap (λ g. fate_after p g (ev.Redone q r)) (smudged k smudge) ∙ (ap (λ g. cond (p == q) (fate_here r) (fate_there r g)) (sym (smudged k smudge)) ∙ there_fate r k p q smudge pq))) (other_late r p q pq) h)
   fits_step d x y s t e n f o (IsNamed k turn nn xx ss yy tt ee) h = carry f o y (driver.On (named k)) t (path.Named turn) e (ev.Named p) n true yy tt ee nn

@@ -118,6 +118,7 @@ sane_step p d required x y s t e n (SeesShut k nn xx had un yy tt ee) h = sane_t
     no_had : (b c : Bool) → c ≡ false → (b && c) ≡ true → ⊥
     no_had true c i j = cc (i, j)
     no_had false c i j = cc (j)
+
     done_sane : (s : PathState) → is_sane (driver.On k) s ≡ true → is_sane driver.Done s ≡ true
     done_sane path.Delayed i = absurd (no_had k.caps.smudge k.had had i)
     done_sane (path.Named t) i = absurd (no_had k.caps.smudge k.had had i)
@@ -294,34 +295,34 @@ parted_step starts c e m g h q r p w d b a t i st li j su =
     let vq = see starts c q d b r y.0 (record { begun = g.begun; row = i; start = st; desk = y.1 }) g.kept e m h in
     let vp = see starts c p d a w y.0 (record { begun = g.begun; row = j; start = su; desk = y.1 }) g.kept e m h in
     let was : is_unasked w.state ≡ false = ⊎_elim
-        (λ (k : r.state ≡ path.Named t). g.kept.apart q r p w d b a t i st k j su)
-        (λ (k : e ≡ ev.Named q). none_says d is_unasked c.paths p w (named_says c q m r d b (subst (λ (z : Event). effect_of c z ≡ Some m) k h) i st) j (at_it d a w.start su))
-        (listing_step q d b y.0 (driver_after m d y.0) r.state (path_after m q r).state e (is_note starts d e) t vq li) in
+    (λ (k : r.state ≡ path.Named t). g.kept.apart q r p w d b a t i st k j su)
+    (λ (k : e ≡ ev.Named q). none_says d is_unasked c.paths p w (named_says c q m r d b (subst (λ (z : Event). effect_of c z ≡ Some m) k h) i st) j (at_it d a w.start su))
+    (listing_step q d b y.0 (driver_after m d y.0) r.state (path_after m q r).state e (is_note starts d e) t vq li) in
     asked_step p d a y.0 (driver_after m d y.0) w.state (path_after m p w).state e (is_note starts d e) vp was
 
 pub good_step : (starts : List Start) (c : Core) (e : Event) (m : Effect) → Good starts c → effect_of c e ≡ Some m → Good starts (after c m)
 good_step starts c e m g h = record {
-    begun = λ q r i. let a = each_is (path_after m) c.paths q r i in g.begun q a.0 a.1 ∙ ap (λ z. Some z) (sym (start_after m q a.0) ∙ ap (λ (z : Path). z.start) a.2);
-    seated = λ q r d b i j. let a = before starts c m e q r d b i j in let y = g.seated q a.was d b a.there a.start in (driver_after m d y.0, get_each (driver_after m) c.drivers d y.0 y.1);
-    kept = record {
-      sane = λ q r d b x i j k.
+  begun = λ q r i. let a = each_is (path_after m) c.paths q r i in g.begun q a.0 a.1 ∙ ap (λ z. Some z) (sym (start_after m q a.0) ∙ ap (λ (z : Path). z.start) a.2);
+  seated = λ q r d b i j. let a = before starts c m e q r d b i j in let y = g.seated q a.was d b a.there a.start in (driver_after m d y.0, get_each (driver_after m) c.drivers d y.0 y.1);
+  kept = record {
+    sane = λ q r d b x i j k.
         let a = before starts c m e q r d b i j in
         let y = each_is (driver_after m) c.drivers d x k in
         let v = see starts c q d b a.was y.0 (record { begun = g.begun; row = a.there; start = a.start; desk = y.1 }) g.kept e m h in
         let ok : is_sane (driver_after m d y.0) (path_after m q a.was).state ≡ true = sane_step q d b y.0 (driver_after m d y.0) (a.was).state (path_after m q a.was).state e (is_note starts d e) v (g.kept.sane q a.was d b y.0 a.there a.start y.1) in
         subst (λ (z : DriverState). is_sane z r.state ≡ true) y.2 (subst (λ (z : Path). is_sane (driver_after m d y.0) z.state ≡ true) a.is ok);
-      low = λ q r d b l i j k un.
+    low = λ q r d b l i j k un.
         let a = before starts c m e q r d b i j in
         let y = each_is (driver_after m) c.drivers d (driver.On l) k in
         let v = see starts c q d b a.was y.0 (record { begun = g.begun; row = a.there; start = a.start; desk = y.1 }) g.kept e m h in
         low_step q d b y.0 (driver_after m d y.0) (a.was).state (path_after m q a.was).state e (is_note starts d e) v
-          (λ kk on u. g.kept.low q a.was d b kk a.there a.start (y.1 ∙ ap (λ z. Some z) on) u) l y.2 (ap (λ (z : Path). is_unasked z.state) a.is ∙ un);
-      apart = λ q r p w d b0 b1 t i j st pi pj.
+        (λ kk on u. g.kept.low q a.was d b kk a.there a.start (y.1 ∙ ap (λ z. Some z) on) u) l y.2 (ap (λ (z : Path). is_unasked z.state) a.is ∙ un);
+    apart = λ q r p w d b0 b1 t i j st pi pj.
         let a = before starts c m e q r d b0 i j in
         let z = before starts c m e p w d b1 pi pj in
         ap (λ (y : Path). is_unasked y.state) (sym z.is) ∙ parted_step starts c e m g h q a.was p z.was d b0 b1 t a.there a.start (ap (λ (z : Path). z.state) a.is ∙ st) z.there z.start;
-    };
-  }
+  };
+}
 
 -- a path of a driver, as the notes and the closes tell it
 pub record Sight (starts : List Start) (c : Core) (p d : ℕ) (required : Bool) (f : Fate) (o : Option Own) : Type 0 where
@@ -338,15 +339,15 @@ sight_step starts c x p d required f o e s h =
     let k = step_is c x e h in
     let v = see starts c p d required s.row s.state (record { begun = s.good.begun; row = s.there; start = s.start; desk = s.desk }) s.good.kept e k.0 k.1 in
     subst (λ (z : Core). Sight starts z p d required (fate_if (is_note starts d e) p f e) (own_after p o e)) k.2
-      (record {
-        good = good_step starts c e k.0 s.good k.1;
-        row = path_after k.0 p s.row;
-        state = driver_after k.0 d s.state;
-        there = get_each (path_after k.0) c.paths p s.row s.there;
-        start = start_after k.0 p s.row ∙ s.start;
-        desk = get_each (driver_after k.0) c.drivers d s.state s.desk;
-        fits = fits_step required p d s.state (driver_after k.0 d s.state) (s.row).state (path_after k.0 p s.row).state e (is_note starts d e) f o v s.fits;
-      })
+    (record {
+      good = good_step starts c e k.0 s.good k.1;
+      row = path_after k.0 p s.row;
+      state = driver_after k.0 d s.state;
+      there = get_each (path_after k.0) c.paths p s.row s.there;
+      start = start_after k.0 p s.row ∙ s.start;
+      desk = get_each (driver_after k.0) c.drivers d s.state s.desk;
+      fits = fits_step required p d s.state (driver_after k.0 d s.state) (s.row).state (path_after k.0 p s.row).state e (is_note starts d e) f o v s.fits;
+    })
 
 fate_note : (p : ℕ) (f : Fate) (b : Bool) (e : Event) (ns : List Event) → fate_of p (fate_if b p f e) ns ≡ fate_of p f (cond b (e ∷ ns) ns)
 fate_note p f true e ns = refl
@@ -357,4 +358,4 @@ sights starts c x p d required f o [] s h = subst (λ (z : Core). Sight starts z
 sights starts c x p d required f o (e ∷ es) s h =
     let k = first_step c x e es h in
     subst (λ (g : Fate). Sight starts x p d required g (own_of p (own_after p o e) es)) (fate_note p f (is_note starts d e) e (notes starts d es))
-      (sights starts k.0 x p d required (fate_if (is_note starts d e) p f e) (own_after p o e) es (sight_step starts c k.0 p d required f o e s k.1) k.2)
+    (sights starts k.0 x p d required (fate_if (is_note starts d e) p f e) (own_after p o e) es (sight_step starts c k.0 p d required f o e s k.1) k.2)

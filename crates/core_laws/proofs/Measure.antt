@@ -307,6 +307,7 @@ module _ (starts : List Start) (c : Core) (e : Event) (m : Effect) (good : Good 
 
   plus_zero : (a b : ℕ) → a ≤ b → a + 0 ≤ b
   plus_zero a b i = omega arith
+
   zero_plus : (a b : ℕ) → a + 0 ≤ b → a ≤ b
   zero_plus a b i = omega arith
 
@@ -315,6 +316,7 @@ module _ (starts : List Start) (c : Core) (e : Event) (m : Effect) (good : Good 
     where
       plain : (s : Start) → r.start ≡ s → is_plain s ≡ true → ((z : PathState) (k : Core) → start_weight k p z s ≡ weight driver.Off p z) → row_weight (after c m) p (path_after m p r) ≤ row_weight c p r
       plain s st i w = subst (λ (n : ℕ). n ≤ row_weight c p r) (sym (ap (start_weight (after c m) p (path_after m p r).state) (start_after m p r ∙ st) ∙ w (path_after m p r).state (after c m))) (subst (λ (n : ℕ). weight driver.Off p (path_after m p r).state ≤ n) (sym (ap (start_weight c p r.state) st ∙ w r.state c)) (plain_least p r.state (path_after m p r).state e (plain_see c p r there (ap is_plain st ∙ i) e m run)))
+
       go : (s : Start) → r.start ≡ s → row_weight (after c m) p (path_after m p r) ≤ row_weight c p r
       go (Desk d b) st = let v = view_at p r d b there st in zero_plus (row_weight (after c m) p (path_after m p r)) (row_weight c p r) (both_weights p r d b v.0 0 there st v.1 (plus_zero (weight (driver_after m d v.0) p (path_after m p r).state) (weight v.0 p r.state) (view_least p d b v.0 (driver_after m d v.0) r.state (path_after m p r).state e (is_note starts d e) v.2)))
       go Pool st = plain Pool st refl (λ z k. refl)
@@ -333,10 +335,12 @@ module _ (starts : List Start) (c : Core) (e : Event) (m : Effect) (good : Good 
       plain_drop s t (Stays tt own far) = no_unasked (hits e p) far h
       plain_drop s t (Taken a raw ss tt ee) = subst (λ (z : PathState). weight driver.Off p z + 1 ≤ weight driver.Off p s) (sym tt) (was_to driver.Off p 2 s (Waiting raw) ss (omega arith))
       plain_drop s t (Ends a w raw v1 ss cl tt ee) = subst (λ (z : PathState). weight driver.Off p z + 1 ≤ weight driver.Off p s) (sym tt) (was_to driver.Off p 1 s (Held a raw) ss (omega arith))
+
       plain : (s : Start) → r.start ≡ s → is_plain s ≡ true → ((z : PathState) (k : Core) → start_weight k p z s ≡ weight driver.Off p z) → sum_rows (row_weight (after c m)) (each (path_after m) c.paths) + 1 ≤ sum_rows (row_weight c) c.paths
       plain s st i w = rows_drop (row_weight c) (row_weight (after c m)) (path_after m) c.paths p r 1 there
           (subst (λ (n : ℕ). n + 1 ≤ row_weight c p r) (sym (ap (start_weight (after c m) p (path_after m p r).state) (start_after m p r ∙ st) ∙ w (path_after m p r).state (after c m))) (subst (λ (n : ℕ). weight driver.Off p (path_after m p r).state + 1 ≤ n) (sym (ap (start_weight c p r.state) st ∙ w r.state c)) (plain_drop r.state (path_after m p r).state (plain_see c p r there (ap is_plain st ∙ i) e m run))))
           row_least
+
       go : (s : Start) → r.start ≡ s → sum_rows (row_weight (after c m)) (each (path_after m) c.paths) + 1 ≤ sum_rows (row_weight c) c.paths
       go (Desk d b) st = subst (λ (n : ℕ). sum_rows (row_weight (after c m)) (each (path_after m) c.paths) + n ≤ sum_rows (row_weight c) c.paths) one (rows_hit p r d b there st h)
       go Pool st = plain Pool st refl (λ z k. refl)
@@ -399,7 +403,7 @@ change_drop c m d x k t n at on rows is w =
     let change = desks_change (driver_after m) c.drivers d x at (λ e y other. is e y ∙ other_desk d t e y other) in
     let now : desk_weight (driver_after m d x) ≡ desk_weight t = ap desk_weight (is d x ∙ ap (λ b. cond b t x) (eqb_self d)) in
     some_desks (sum_rows (row_weight c) c.paths) (sum_rows (row_weight (after c m)) (each (path_after m) c.paths)) (sum_desks c.drivers) (sum_desks (each (driver_after m) c.drivers)) (desk_weight (driver.On k)) (desk_weight t) n rows
-      (ap (λ z. sum_desks (each (driver_after m) c.drivers) + desk_weight z) (sym on) ∙ (change ∙ ap (λ z. sum_desks c.drivers + z) now)) w
+    (ap (λ z. sum_desks (each (driver_after m) c.drivers) + desk_weight z) (sym on) ∙ (change ∙ ap (λ z. sum_desks c.drivers + z) now)) w
 
 open_drop : (starts : List Start) (c : Core) (d : ℕ) (caps : Caps) (m : Effect) → Good starts c → effect_of c (ev.Opened d caps) ≡ Some m → Drops c m
 open_drop starts c d caps m good run =
@@ -412,15 +416,14 @@ open_drop starts c d caps m good run =
     let now_desk : driver_after m d t.state ≡ new = sym (ap (λ w. driver_after w d t.state) k.3) ∙ ap (λ b. cond b new t.state) (eqb_self d) in
     let now_row : (path_after m k.0 f.0).state ≡ Unasked = sym (ap (λ w. (path_after w k.0 f.0).state) k.3) ∙ (turned d new Keep k.0 f.0 true f.2 ∙ (swept_keep (f.0).state ∙ unasked_is (f.0).state f.3)) in
     let h : weight (driver_after m d t.state) k.0 (path_after m k.0 f.0).state + 2 ≤ weight t.state k.0 (f.0).state =
-      opens (driver_after m d t.state) new t.state k.0 (path_after m k.0 f.0).state (f.0).state now_desk now_row k.2 (unasked_is (f.0).state f.3) (eqb_self k.0) in
+    opens (driver_after m d t.state) new t.state k.0 (path_after m k.0 f.0).state (f.0).state now_desk now_row k.2 (unasked_is (f.0).state f.3) (eqb_self k.0) in
     let rows = rows_drop (row_weight c) (row_weight (after c m)) (path_after m) c.paths k.0 f.0 2 f.1 (both_weights starts c e m good run k.0 f.0 d b.0 t.state 2 f.1 b.1 t.there h) (row_least starts c e m good run) in
     let change = desks_change (driver_after m) c.drivers d t.state t.there (λ e y other. sym (ap (λ w. driver_after w e y) k.3) ∙ other_desk d new e y other) in
     some_desks (sum_rows (row_weight c) c.paths) (sum_rows (row_weight (after c m)) (each (path_after m) c.paths)) (sum_desks c.drivers) (sum_desks (each (driver_after m) c.drivers)) 0 1 2 rows
-      (ap (λ z. sum_desks (each (driver_after m) c.drivers) + desk_weight z) (sym k.2) ∙ (change ∙ ap (λ z. sum_desks c.drivers + desk_weight z) now_desk)) (omega arith)
+    (ap (λ z. sum_desks (each (driver_after m) c.drivers) + desk_weight z) (sym k.2) ∙ (change ∙ ap (λ z. sum_desks c.drivers + desk_weight z) now_desk)) (omega arith)
   where
     opens : (y n x : DriverState) (p : ℕ) (t s : PathState) → y ≡ n → t ≡ Unasked → x ≡ driver.Off → s ≡ Unasked → is_first n p ≡ true → weight y p t + 2 ≤ weight x p s
     opens y n x p t s a b g h i = subst (λ (z : DriverState). weight z p t + 2 ≤ weight x p s) (sym a) (subst (λ (z : PathState). weight n p z + 2 ≤ weight x p s) (sym b) (subst (λ (z : DriverState). weight n p Unasked + 2 ≤ weight z p s) (sym g) (subst (λ (z : PathState). weight n p Unasked + 2 ≤ weight driver.Off p z) (sym h) (subst (λ (z : Bool). cond z 7 9 + 2 ≤ 9) (sym i) (omega arith)))))
-
 
 drop_step : (starts : List Start) (c : Core) (e : Event) (m : Effect) → Good starts c → effect_of c e ≡ Some m → Drops c m
 drop_step starts c (ev.Claim q a) m good run =

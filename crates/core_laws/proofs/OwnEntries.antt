@@ -74,23 +74,29 @@ drivers_step starts workers c (ev.Opened d caps) m g is h =
 drivers_step starts workers c (ev.OpenFailed q o) m g is h =
     let at = at_both_is c q (fail_at c q o) m h in
     let b = given_is _ (Moves q (path.Heard (heard_opening o))) m at.holds in
-    let u = and_parts _ _ ((and_parts _ _ b.0).1) in
-    (at.driver, desk_at starts workers q at.driver at.required (at.row).start (g q at.row at.there) at.begun,
-      subst (λ (z : Effect). IsOf c at.driver z) b.1 (at.row, at.there, at_desk at.driver at.required (at.row).start at.begun, ap is_in_hand (unasked_is (at.row).state u.0), refl))
+    let u = and_parts _ _ ((and_parts _ _ b.0).1) in (
+      at.driver,
+      desk_at starts workers q at.driver at.required (at.row).start (g q at.row at.there) at.begun,
+      subst (λ (z : Effect). IsOf c at.driver z) b.1 (at.row, at.there, at_desk at.driver at.required (at.row).start at.begun, ap is_in_hand (unasked_is (at.row).state u.0), refl),
+    )
 drivers_step starts workers c (ev.Answered q y) m g is h =
     let at = at_both_is c q (answer_at c q y) m h in
     let k = at_session_is at.state (λ s. answer_in c q y (at.row).state at.driver s) m at.holds in
     let b = given_is _ (replied q at.driver k.0 y) m k.2 in
-    let u = and_parts _ _ ((and_parts _ _ b.0).1) in
-    (at.driver, desk_at starts workers q at.driver at.required (at.row).start (g q at.row at.there) at.begun,
-      subst (λ (z : Effect). IsOf c at.driver z) b.1 ((at.row, at.there, at_desk at.driver at.required (at.row).start at.begun, ap is_in_hand (unasked_is (at.row).state u.0), replied_not y), refl))
+    let u = and_parts _ _ ((and_parts _ _ b.0).1) in (
+      at.driver,
+      desk_at starts workers q at.driver at.required (at.row).start (g q at.row at.there) at.begun,
+      subst (λ (z : Effect). IsOf c at.driver z) b.1 ((at.row, at.there, at_desk at.driver at.required (at.row).start at.begun, ap is_in_hand (unasked_is (at.row).state u.0), replied_not y), refl),
+    )
 drivers_step starts workers c (ev.Named q) m g is h =
     let at = at_both_is c q (name_at c q) m h in
     let k = at_session_is at.state (λ s. name_in c q (at.row).state at.driver s) m at.holds in
     let b = given_is _ (Both q (path.Named (named_count at.driver c.paths)) at.driver (driver.On (named k.0)) Keep) m k.2 in
-    let v = and_parts _ _ ((and_parts _ _ ((and_parts _ _ b.0).1)).1) in
-    (at.driver, desk_at starts workers q at.driver at.required (at.row).start (g q at.row at.there) at.begun,
-      subst (λ (z : Effect). IsOf c at.driver z) b.1 ((at.row, at.there, at_desk at.driver at.required (at.row).start at.begun, ap is_in_hand (late_is (at.row).state v.0), refl), refl))
+    let v = and_parts _ _ ((and_parts _ _ ((and_parts _ _ b.0).1)).1) in (
+      at.driver,
+      desk_at starts workers q at.driver at.required (at.row).start (g q at.row at.there) at.begun,
+      subst (λ (z : Effect). IsOf c at.driver z) b.1 ((at.row, at.there, at_desk at.driver at.required (at.row).start at.begun, ap is_in_hand (late_is (at.row).state v.0), refl), refl),
+    )
 drivers_step starts workers c (ev.Listed d y) m g is h =
     let at = at_driver_is c d (list_at c d y) m h in
     let k = at_session_is at.state (λ s. list_step c d s y) m at.holds in
@@ -99,15 +105,19 @@ drivers_step starts workers c (ev.Listed d y) m g is h =
 drivers_step starts workers c (ev.Redone q y) m g is h =
     let at = at_both_is c q (redo_at c q y) m h in
     let k = at_session_is at.state (λ s. redo c q y at.driver s (at.row).state) m at.holds in
-    let b = redo_is c q y at.driver k.0 (at.row).state m k.2 in
-    (at.driver, desk_at starts workers q at.driver at.required (at.row).start (g q at.row at.there) at.begun,
-      subst (λ (z : Effect). IsOf c at.driver z) b.3 ((at.row, at.there, at_desk at.driver at.required (at.row).start at.begun, ap is_in_hand b.1, replied_not y), refl))
+    let b = redo_is c q y at.driver k.0 (at.row).state m k.2 in (
+      at.driver,
+      desk_at starts workers q at.driver at.required (at.row).start (g q at.row at.there) at.begun,
+      subst (λ (z : Effect). IsOf c at.driver z) b.3 ((at.row, at.there, at_desk at.driver at.required (at.row).start at.begun, ap is_in_hand b.1, replied_not y), refl),
+    )
 drivers_step starts workers c (ev.HandBack q) m g is h =
     let at = at_both_is c q (hand_back_at q) m h in
     let b = cond_not at.required (hand_back q (refused_cause at.state (at.row).state)) m at.holds in
-    let k = back_is q (refused_cause at.state (at.row).state) m b.1 in
-    (at.driver, desk_at starts workers q at.driver at.required (at.row).start (g q at.row at.there) at.begun,
-      subst (λ (z : Effect). IsOf c at.driver z) k.2 (at.row, at.there, at_desk at.driver at.required (at.row).start at.begun, refused_not at.state (at.row).state k.0 k.1, refl))
+    let k = back_is q (refused_cause at.state (at.row).state) m b.1 in (
+      at.driver,
+      desk_at starts workers q at.driver at.required (at.row).start (g q at.row at.there) at.begun,
+      subst (λ (z : Effect). IsOf c at.driver z) k.2 (at.row, at.there, at_desk at.driver at.required (at.row).start at.begun, refused_not at.state (at.row).state k.0 k.1, refl),
+    )
 drivers_step starts workers c (ev.Shut d) m g is h =
     let at = at_driver_is c d (shut_at c d) m h in
     let k = at_session_is at.state (λ s. shut_in c d s) m at.holds in
@@ -146,7 +156,7 @@ others_leave starts workers a c (ev.Claim q b) m g few h other =
     let u = cond_is _ (claim q b (at.row).state) m at.holds in
     let k = claim_is q b (at.row).state m u.1 in
     subst (λ (z : Effect). Alike workers a c (after c z)) k.2
-      (moved_alone workers a c few q at.row (Held b k.0) at.there (ap (is_held a) k.1 ∙ sym (not_same a b (λ i. other (sym i)))) (λ d i j. ap known k.1))
+    (moved_alone workers a c few q at.row (Held b k.0) at.there (ap (is_held a) k.1 ∙ sym (not_same a b (λ i. other (sym i)))) (λ d i j. ap known k.1))
   where
     not_same : (p q : ℕ) → (p ≡ q → ⊥) → (p == q) ≡ false
     not_same p q n = ⊎_elim (λ (k : (p ≡ q) × ((p == q) ≡ true)). absurd (n k.0)) (λ (k : (p == q) ≡ false). k) (same_or p q)
@@ -154,13 +164,13 @@ others_leave starts workers a c (ev.Close q b o) m g few h other =
     let at = at_path_is c q (λ r. close_at c q b o r r.state) m h in
     let k = close_moves c q b o at.row (at.row).state m at.holds in
     subst (λ (z : Effect). Alike workers a c (after c z)) k.1
-      (⊎_elim
-        (λ (s : (raw : Option FilterCause) × ((at.row).state ≡ Held b raw)).
-            moved_alone workers a c few q at.row (Closed k.0) at.there (ap (is_held a) s.1 ∙ not_same a b (λ i. other (sym i))) (λ d i j. ap known s.1))
-        (λ (s : (is_in_hand (at.row).state ≡ false) × ((d : ℕ) × (u : Bool) × ((at.row).start ≡ Desk d u) × (b ≡ c.workers + d))).
-            moved_alone workers a c few q at.row (Closed k.0) at.there (not_held a (at.row).state s.0)
-              (λ d i j. absurd (other (s.1.3 ∙ (ap (λ z. z + s.1.0) few ∙ sym (i ∙ ap (λ z. workers + z) (two_at d s.1.0 (at.row).start j (at_desk s.1.0 s.1.1 (at.row).start s.1.2))))))))
-        (close_from c q b o at.row (at.row).state m at.holds))
+    (⊎_elim
+    (λ (s : (raw : Option FilterCause) × ((at.row).state ≡ Held b raw)).
+    moved_alone workers a c few q at.row (Closed k.0) at.there (ap (is_held a) s.1 ∙ not_same a b (λ i. other (sym i))) (λ d i j. ap known s.1))
+    (λ (s : (is_in_hand (at.row).state ≡ false) × ((d : ℕ) × (u : Bool) × ((at.row).start ≡ Desk d u) × (b ≡ c.workers + d))).
+    moved_alone workers a c few q at.row (Closed k.0) at.there (not_held a (at.row).state s.0)
+    (λ d i j. absurd (other (s.1.3 ∙ (ap (λ z. z + s.1.0) few ∙ sym (i ∙ ap (λ z. workers + z) (two_at d s.1.0 (at.row).start j (at_desk s.1.0 s.1.1 (at.row).start s.1.2))))))))
+    (close_from c q b o at.row (at.row).state m at.holds))
   where
     not_same : (p q : ℕ) → (p ≡ q → ⊥) → (p == q) ≡ false
     not_same p q n = ⊎_elim (λ (k : (p ≡ q) × ((p == q) ≡ true)). absurd (n k.0)) (λ (k : (p == q) ≡ false). k) (same_or p q)
@@ -313,6 +323,7 @@ module _ (workers a d : ℕ) (mine : a ≡ workers + d) where
       where
         rest : (k.had && (not k.naming && (none_of d is_unasked c.paths && none_of d is_named c.paths))) ≡ (k.had && (not k.naming && (none_of d is_unasked x.paths && none_of d is_named x.paths)))
         rest = ap (λ b. k.had && (not k.naming && (b && none_of d is_named c.paths))) (none_alike is_unasked unasked_known c.paths x.paths alike.paths) ∙ ap (λ b. k.had && (not k.naming && (none_of d is_unasked x.paths && b))) (none_alike is_named named_known c.paths x.paths alike.paths)
+
         go : (y : ListReply) → list_allowed c d k y ≡ list_allowed x d k y
         go (list.Names n) = ap (λ m. k.naming && (n == m)) (count_alike is_named named_known c.paths x.paths alike.paths)
         go list.Empty = rest
@@ -345,12 +356,14 @@ both_alike starts workers a c x alike p f g begun mine same = go (slice_get c.pa
   where
     of : Core → (Path → ℕ → Bool → DriverState → Option Effect) → Option Path → Option Effect
     of z h o = elim o as (λ _. Option Effect) [ None ↦ None | Some r ↦ of_driver r.start (λ d required. at_driver z d (λ y. h r d required y)) ]
+
     at : (r s : Path) → slice_get c.paths p ≡ Some r → AlikePath workers a (Some r) (Some s) → (t : Start) → r.start ≡ t → of_driver t (λ d required. at_driver c d (λ y. f r d required y)) ≡ of_driver t (λ d required. at_driver x d (λ y. g s d required y))
     at r s there h (Desk d b) is =
         let own : a ≡ workers + d = sym mine ∙ desk_at starts workers p d b r.start (begun p r there) is in
         driver_alike workers a d own c x alike (λ y. f r d b y) (λ y. g s d b y) (λ y. same d own r s b y (h.1.1 d own (at_desk d b r.start is)))
     at r s there h Pool is = refl
     at r s there h (Done v) is = refl
+
     go : (o q : Option Path) → slice_get c.paths p ≡ o → AlikePath workers a o q → (elim o as (λ _. Option Effect) [ None ↦ None | Some r ↦ of_driver r.start (λ d required. at_driver c d (λ y. f r d required y)) ]) ≡ (elim q as (λ _. Option Effect) [ None ↦ None | Some r ↦ of_driver r.start (λ d required. at_driver x d (λ y. g r d required y)) ])
     go None None there h = refl
     go (Some r) (Some s) there h = at r s there h r.start refl ∙ ap (λ t. of_driver t (λ d required. at_driver x d (λ y. g s d required y))) h.0
@@ -457,6 +470,7 @@ module _ (starts : List Start) (workers a : ℕ) (c x : Core) (alike : Alike wor
           at (Desk d b) other = none_there z d (λ y. cond (a == z.workers + d) (closing p (f b y)) None) (λ y. ap (λ e. cond e (closing p (f b y)) None) (other d b refl))
           at Pool other = refl
           at (Done v) other = refl
+
       go : (u : PathState) → close_at z p a o r (known u) ≡ None
       go Unasked = desk (λ required y. unasked_close required y p o)
       go (path.Heard h) = desk (λ required y. heard_close required h o)
@@ -469,10 +483,10 @@ module _ (starts : List Start) (workers a : ℕ) (c x : Core) (alike : Alike wor
   own_known : (r s : Path) → (r.start ≡ s.start) × AlikeState workers a r.start r.state s.state → (t : Start) → r.start ≡ t → close_at c p a o r (known r.state) ≡ close_at x p a o s (known s.state)
   own_known r s h (Desk d b) is = ⊎_elim
       (λ (e : (a ≡ workers + d) × ((a == workers + d) ≡ true)).
-          known_same r s d b is h.0 e.0 r.state ∙ ap (close_at x p a o s) (h.1.1 d e.0 (at_desk d b r.start is)))
+      known_same r s d b is h.0 e.0 r.state ∙ ap (close_at x p a o s) (h.1.1 d e.0 (at_desk d b r.start is)))
       (λ (e : (a == workers + d) ≡ false).
-          elsewhere c r (Desk d b) is (λ f u i. ap (λ n. a == n + f) alike.few ∙ (ap (λ n. a == workers + n) (desk_is f d u b (sym i)) ∙ e)) r.state
-          ∙ sym (elsewhere x s (Desk d b) (sym h.0 ∙ is) (λ f u i. ap (λ n. a == n + f) alike.few_too ∙ (ap (λ n. a == workers + n) (desk_is f d u b (sym i)) ∙ e)) s.state))
+      elsewhere c r (Desk d b) is (λ f u i. ap (λ n. a == n + f) alike.few ∙ (ap (λ n. a == workers + n) (desk_is f d u b (sym i)) ∙ e)) r.state
+      ∙ sym (elsewhere x s (Desk d b) (sym h.0 ∙ is) (λ f u i. ap (λ n. a == n + f) alike.few_too ∙ (ap (λ n. a == workers + n) (desk_is f d u b (sym i)) ∙ e)) s.state))
       (same_or a (workers + d))
   own_known r s h Pool is = elsewhere c r Pool is (λ d b i. absurd (cc (i))) r.state ∙ sym (elsewhere x s Pool (sym h.0 ∙ is) (λ d b i. absurd (cc (i))) s.state)
   own_known r s h (Done v) is = elsewhere c r (Done v) is (λ d b i. absurd (cc (i))) r.state ∙ sym (elsewhere x s (Done v) (sym h.0 ∙ is) (λ d b i. absurd (cc (i))) s.state)
@@ -503,14 +517,14 @@ own_step starts workers a c x (ev.Claim q b) m n begun alike mine h k =
     let at2 = at_path_is x q (claim_at x q b) n k in
     let v = claim_is q b (at2.row).state n ((cond_is _ (claim q b (at2.row).state) n at2.holds).1) in
     subst (λ (z : Effect). Alike workers a (after c z) (after x n)) u.2 (subst (λ (z : Effect). Alike workers a (after c (Moves q (Held b u.0))) (after x z)) v.2
-      (moves_alike workers a c x alike q (Held b u.0) (Held b v.0) refl refl))
+    (moves_alike workers a c x alike q (Held b u.0) (Held b v.0) refl refl))
 own_step starts workers a c x (ev.Close q b o) m n begun alike mine h k =
     let at = at_path_is c q (λ r. close_at c q b o r r.state) m h in
     let u = close_moves c q b o at.row (at.row).state m at.holds in
     let at2 = at_path_is x q (λ r. close_at x q b o r r.state) n k in
     let v = close_moves x q b o at2.row (at2.row).state n at2.holds in
     subst (λ (z : Effect). Alike workers a (after c z) (after x n)) u.1 (subst (λ (z : Effect). Alike workers a (after c (Moves q (Closed u.0))) (after x z)) v.1
-      (moves_alike workers a c x alike q (Closed u.0) (Closed v.0) refl refl))
+    (moves_alike workers a c x alike q (Closed u.0) (Closed v.0) refl refl))
 own_step starts workers a c x (ev.Opened d caps) m n begun alike mine h k = same_own starts workers a c x (ev.Opened d caps) m n begun alike mine refl h k
 own_step starts workers a c x (ev.OpenFailed q o) m n begun alike mine h k = same_own starts workers a c x (ev.OpenFailed q o) m n begun alike mine refl h k
 own_step starts workers a c x (ev.Answered q y) m n begun alike mine h k = same_own starts workers a c x (ev.Answered q y) m n begun alike mine refl h k

@@ -138,13 +138,13 @@ module _ (workers a : ℕ) (c x : Core) (alike : Alike workers a c x) where
 
   pub same_effect : (m : Effect) → Alike workers a (after c m) (after x m)
   same_effect m = record {
-      few = alike.few;
-      few_too = alike.few_too;
-      paths = λ p. subst (λ (o : Option Path). AlikePath workers a o (slice_get (each (path_after m) x.paths) p)) (sym (get_after (path_after m) c.paths p))
+    few = alike.few;
+    few_too = alike.few_too;
+    paths = λ p. subst (λ (o : Option Path). AlikePath workers a o (slice_get (each (path_after m) x.paths) p)) (sym (get_after (path_after m) c.paths p))
         (subst (λ (o : Option Path). AlikePath workers a (elim (slice_get c.paths p) as (λ _. Option Path) [ None ↦ None | Some r ↦ Some (path_after m p r) ]) o) (sym (get_after (path_after m) x.paths p))
-          (path_same m p (slice_get c.paths p) (slice_get x.paths p) (alike.paths p)));
-      drivers = λ d i. get_after (driver_after m) c.drivers d ∙ (ap (λ (o : Option DriverState). elim o as (λ _. Option DriverState) [ None ↦ None | Some y ↦ Some (driver_after m d y) ]) (alike.drivers d i) ∙ sym (get_after (driver_after m) x.drivers d));
-    }
+        (path_same m p (slice_get c.paths p) (slice_get x.paths p) (alike.paths p)));
+    drivers = λ d i. get_after (driver_after m) c.drivers d ∙ (ap (λ (o : Option DriverState). elim o as (λ _. Option DriverState) [ None ↦ None | Some y ↦ Some (driver_after m d y) ]) (alike.drivers d i) ∙ sym (get_after (driver_after m) x.drivers d));
+  }
 
   -- a path that moves to states that are alike
   pub move_path : (q : ℕ) (u v : PathState) → is_held a u ≡ is_held a v → known u ≡ known v → (p : ℕ) (o k : Option Path) → AlikePath workers a o k → AlikePath workers a (elim o as (λ _. Option Path) [ None ↦ None | Some r ↦ Some (path_after (Moves q u) p r) ]) (elim k as (λ _. Option Path) [ None ↦ None | Some r ↦ Some (path_after (Moves q v) p r) ])
@@ -159,13 +159,13 @@ module _ (workers a : ℕ) (c x : Core) (alike : Alike workers a c x) where
 
   pub moves_alike : (q : ℕ) (u v : PathState) → is_held a u ≡ is_held a v → known u ≡ known v → Alike workers a (after c (Moves q u)) (after x (Moves q v))
   moves_alike q u v i j = record {
-      few = alike.few;
-      few_too = alike.few_too;
-      paths = λ p. subst (λ (o : Option Path). AlikePath workers a o (slice_get (each (path_after (Moves q v)) x.paths) p)) (sym (get_after (path_after (Moves q u)) c.paths p))
+    few = alike.few;
+    few_too = alike.few_too;
+    paths = λ p. subst (λ (o : Option Path). AlikePath workers a o (slice_get (each (path_after (Moves q v)) x.paths) p)) (sym (get_after (path_after (Moves q u)) c.paths p))
         (subst (λ (o : Option Path). AlikePath workers a (elim (slice_get c.paths p) as (λ _. Option Path) [ None ↦ None | Some r ↦ Some (path_after (Moves q u) p r) ]) o) (sym (get_after (path_after (Moves q v)) x.paths p))
-          (move_path q u v i j p (slice_get c.paths p) (slice_get x.paths p) (alike.paths p)));
-      drivers = λ d i. get_after (driver_after (Moves q u)) c.drivers d ∙ (ap (λ (o : Option DriverState). elim o as (λ _. Option DriverState) [ None ↦ None | Some y ↦ Some y ]) (alike.drivers d i) ∙ sym (get_after (driver_after (Moves q v)) x.drivers d));
-    }
+        (move_path q u v i j p (slice_get c.paths p) (slice_get x.paths p) (alike.paths p)));
+    drivers = λ d i. get_after (driver_after (Moves q u)) c.drivers d ∙ (ap (λ (o : Option DriverState). elim o as (λ _. Option DriverState) [ None ↦ None | Some y ↦ Some y ]) (alike.drivers d i) ∙ sym (get_after (driver_after (Moves q v)) x.drivers d));
+  }
 
 -- the effects of a driver's events are on its own paths
 abbrev pub is_in_hand : PathState → Bool
@@ -204,27 +204,28 @@ at_desk d b s e = ap (is_at d) e ∙ eqb_self d
 module _ (workers a : ℕ) (c : Core) (few : c.workers ≡ workers) where
   pub still : (m : Effect) → ((p : ℕ) (r : Path) → slice_get c.paths p ≡ Some r → AlikeState workers a r.start r.state (path_after m p r).state) → ((d : ℕ) (y : DriverState) → a ≡ workers + d → driver_after m d y ≡ y) → Alike workers a c (after c m)
   still m rows turns = record {
-      few = few;
-      few_too = few;
-      paths = λ p. subst (λ (o : Option Path). AlikePath workers a (slice_get c.paths p) o) (sym (get_after (path_after m) c.paths p)) (go p (slice_get c.paths p) refl);
-      drivers = λ d i. at_d d i (slice_get c.drivers d) ∙ sym (get_after (driver_after m) c.drivers d);
-    }
+    few = few;
+    few_too = few;
+    paths = λ p. subst (λ (o : Option Path). AlikePath workers a (slice_get c.paths p) o) (sym (get_after (path_after m) c.paths p)) (go p (slice_get c.paths p) refl);
+    drivers = λ d i. at_d d i (slice_get c.drivers d) ∙ sym (get_after (driver_after m) c.drivers d);
+  }
     where
       go : (p : ℕ) (o : Option Path) → slice_get c.paths p ≡ o → AlikePath workers a o (elim o as (λ _. Option Path) [ None ↦ None | Some r ↦ Some (path_after m p r) ])
       go p None i = tt
       go p (Some r) i = (sym (start_after m p r), rows p r i)
+
       at_d : (d : ℕ) → a ≡ workers + d → (o : Option DriverState) → o ≡ (elim o as (λ _. Option DriverState) [ None ↦ None | Some y ↦ Some (driver_after m d y) ])
       at_d d i None = refl
       at_d d i (Some y) = ap (λ z. Some z) (sym (turns d y i))
 
   pub moved_alone : (q : ℕ) (r : Path) (s : PathState) → slice_get c.paths q ≡ Some r → is_held a r.state ≡ is_held a s → ((d : ℕ) → a ≡ workers + d → is_at d r.start ≡ true → known r.state ≡ known s) → Alike workers a c (after c (Moves q s))
   moved_alone q r s there held same = still (Moves q s) (λ p w i. ⊎_elim
-        (λ (h : (p ≡ q) × ((p == q) ≡ true)).
-            let one : r ≡ w = some_is r w (sym there ∙ (ap (λ z. slice_get c.paths z) (sym h.0) ∙ i)) in
-            subst (λ (b : Bool). AlikeState workers a w.start w.state (cond b s w.state)) (sym h.1)
-              (subst (λ (z : Path). AlikeState workers a z.start z.state s) one (held, same)))
-        (λ (h : (p == q) ≡ false). subst (λ (b : Bool). AlikeState workers a w.start w.state (cond b s w.state)) (sym h) (refl, λ d k at. refl))
-        (same_or p q))
+      (λ (h : (p ≡ q) × ((p == q) ≡ true)).
+      let one : r ≡ w = some_is r w (sym there ∙ (ap (λ z. slice_get c.paths z) (sym h.0) ∙ i)) in
+      subst (λ (b : Bool). AlikeState workers a w.start w.state (cond b s w.state)) (sym h.1)
+      (subst (λ (z : Path). AlikeState workers a z.start z.state s) one (held, same)))
+      (λ (h : (p == q) ≡ false). subst (λ (b : Bool). AlikeState workers a w.start w.state (cond b s w.state)) (sym h) (refl, λ d k at. refl))
+      (same_or p q))
       (λ d y i. refl)
 
   pub of_leaves : (d : ℕ) (m : Effect) → IsOf c d m → (a ≡ workers + d → ⊥) → Alike workers a c (after c m)
@@ -236,6 +237,7 @@ module _ (workers a : ℕ) (c : Core) (few : c.workers ≡ workers) where
     where
       not_same : (p q : ℕ) → (p ≡ q → ⊥) → (p == q) ≡ false
       not_same p q n = ⊎_elim (λ (k : (p ≡ q) × ((p == q) ≡ true)). absurd (n k.0)) (λ (k : (p == q) ≡ false). k) (same_or p q)
+
       away : (f : ℕ) → a ≡ workers + f → (r : Path) → is_at f r.start ≡ true → known r.state ≡ known (swept_path e w r).state
       away f k r at = go (is_at e r.start) refl
         where
@@ -244,19 +246,20 @@ module _ (workers a : ℕ) (c : Core) (few : c.workers ≡ workers) where
           go false i = refl
   of_leaves d (Both q s e t w) h other = still (Both q s e t w)
       (λ p r i. ⊎_elim
-        (λ (k : (p ≡ q) × ((p == q) ≡ true)).
-            let one : h.0.0 ≡ r = some_is h.0.0 r (sym h.0.1 ∙ (ap (λ z. slice_get c.paths z) (sym k.0) ∙ i)) in
-            subst (λ (b : Bool). AlikeState workers a r.start r.state (cond b (with_state r s) (swept_path e w r)).state) (sym k.1)
-              (subst (λ (z : Path). AlikeState workers a z.start z.state s) one
-                (not_held a (h.0.0).state h.0.3 ∙ sym (not_held a s h.0.4), λ f j at. absurd (other (j ∙ ap (λ z. workers + z) (two_at f d (h.0.0).start at h.0.2))))))
-        (λ (k : (p == q) ≡ false).
-            subst (λ (b : Bool). AlikeState workers a r.start r.state (cond b (with_state r s) (swept_path e w r)).state) (sym k)
-              (sym (sweep_held a e w r), λ f j at. away f j r at))
-        (same_or p q))
+      (λ (k : (p ≡ q) × ((p == q) ≡ true)).
+      let one : h.0.0 ≡ r = some_is h.0.0 r (sym h.0.1 ∙ (ap (λ z. slice_get c.paths z) (sym k.0) ∙ i)) in
+      subst (λ (b : Bool). AlikeState workers a r.start r.state (cond b (with_state r s) (swept_path e w r)).state) (sym k.1)
+      (subst (λ (z : Path). AlikeState workers a z.start z.state s) one
+      (not_held a (h.0.0).state h.0.3 ∙ sym (not_held a s h.0.4), λ f j at. absurd (other (j ∙ ap (λ z. workers + z) (two_at f d (h.0.0).start at h.0.2))))))
+      (λ (k : (p == q) ≡ false).
+      subst (λ (b : Bool). AlikeState workers a r.start r.state (cond b (with_state r s) (swept_path e w r)).state) (sym k)
+      (sym (sweep_held a e w r), λ f j at. away f j r at))
+      (same_or p q))
       (λ f y k. ap (λ b. cond b t y) (not_same f e (λ z. other (k ∙ ap (λ u. workers + u) (z ∙ h.1)))))
     where
       not_same : (p q : ℕ) → (p ≡ q → ⊥) → (p == q) ≡ false
       not_same p q n = ⊎_elim (λ (k : (p ≡ q) × ((p == q) ≡ true)). absurd (n k.0)) (λ (k : (p == q) ≡ false). k) (same_or p q)
+
       away : (f : ℕ) → a ≡ workers + f → (r : Path) → is_at f r.start ≡ true → known r.state ≡ known (swept_path e w r).state
       away f k r at = go (is_at e r.start) refl
         where

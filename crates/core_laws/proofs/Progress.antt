@@ -63,8 +63,10 @@ none_up_to d f (x ∷ xs) (suc n) h = and_from (not (is_at d x.start && f x.stat
   where
     less : (n q : ℕ) → suc n ≤ suc q → n ≤ q
     less n q i = omega arith
+
     not_zero : suc n ≤ zero → ⊥
     not_zero i = omega arith
+
     go : (a b : Bool) → is_at d x.start ≡ a → f x.state ≡ b → not (a && b) ≡ true
     go true true i j = absurd (not_zero (h zero x refl i j))
     go true false i j = refl
@@ -102,12 +104,18 @@ more_than : (w n : ℕ) → 1 ≤ w → 0 < w + n
 more_than w n i = omega arith
 
 move_waiting : (c : Core) (p : ℕ) (r : Path) (raw : Option FilterCause) → 1 ≤ c.workers → slice_get c.paths p ≡ Some r → r.state ≡ Waiting raw → Moving c
-move_waiting c p r raw some there is = (ev.Claim p 0, Moves p (Held 0 raw),
-    row_to c p r (claim_at c p 0) (Moves p (Held 0 raw)) there (ap (λ z. cond z (claim p 0 r.state) None) (lt-ltb 0 (c.workers + length c.drivers) (more_than c.workers (length c.drivers) some)) ∙ ap (claim p 0) is))
+move_waiting c p r raw some there is = (
+  ev.Claim p 0,
+  Moves p (Held 0 raw),
+  row_to c p r (claim_at c p 0) (Moves p (Held 0 raw)) there (ap (λ z. cond z (claim p 0 r.state) None) (lt-ltb 0 (c.workers + length c.drivers) (more_than c.workers (length c.drivers) some)) ∙ ap (claim p 0) is),
+)
 
 move_held : (c : Core) (p : ℕ) (r : Path) (a : ℕ) (raw : Option FilterCause) → slice_get c.paths p ≡ Some r → r.state ≡ Held a raw → Moving c
-move_held c p r a raw there is = (ev.Close p a own.NoMemory, Moves p (Closed verdict.NoMemory),
-    row_to c p r (λ r. close_at c p a own.NoMemory r r.state) (Moves p (Closed verdict.NoMemory)) there (ap (close_at c p a own.NoMemory r) is ∙ (ap (λ z. cond z (closing p (held_close raw own.NoMemory)) None) (eqb_self a) ∙ held raw)))
+move_held c p r a raw there is = (
+  ev.Close p a own.NoMemory,
+  Moves p (Closed verdict.NoMemory),
+  row_to c p r (λ r. close_at c p a own.NoMemory r r.state) (Moves p (Closed verdict.NoMemory)) there (ap (close_at c p a own.NoMemory r) is ∙ (ap (λ z. cond z (closing p (held_close raw own.NoMemory)) None) (eqb_self a) ∙ held raw)),
+)
   where
     held : (raw : Option FilterCause) → closing p (held_close raw own.NoMemory) ≡ Some (Moves p (Closed verdict.NoMemory))
     held None = refl
@@ -118,26 +126,33 @@ module _ (starts : List Start) (c : Core) (good : Good starts c) where
   move_unasked p r d b there st un is = let y = good.seated p r d b there st in go y.0 y.1
     where
       close : (x : DriverState) → slice_get c.drivers d ≡ Some x → (is_first x p && not (lacks_smudge x)) ≡ false → Moving c
-      close x at free = (ev.Close p (c.workers + d) own.NoMemory, Moves p (Closed verdict.NoMemory),
-          row_to c p r (λ r. close_at c p (c.workers + d) own.NoMemory r r.state) (Moves p (Closed verdict.NoMemory)) there
+      close x at free = (
+        ev.Close p (c.workers + d) own.NoMemory,
+        Moves p (Closed verdict.NoMemory),
+        row_to c p r (λ r. close_at c p (c.workers + d) own.NoMemory r r.state) (Moves p (Closed verdict.NoMemory)) there
             (ap (close_at c p (c.workers + d) own.NoMemory r) is
             ∙ (ap (λ s. of_driver s (λ d1 required. at_driver c d1 (λ x. cond ((c.workers + d) == c.workers + d1) (closing p (unasked_close required x p own.NoMemory)) None))) st
             ∙ desk_to c d x (λ x. cond ((c.workers + d) == c.workers + d) (closing p (unasked_close b x p own.NoMemory)) None) (Moves p (Closed verdict.NoMemory)) at
-                (ap (λ z. cond z (closing p (unasked_close b x p own.NoMemory)) None) (eqb_self (c.workers + d)) ∙ ap (λ z. closing p (cond z None (Some verdict.NoMemory))) free))))
+            (ap (λ z. cond z (closing p (unasked_close b x p own.NoMemory)) None) (eqb_self (c.workers + d)) ∙ ap (λ z. closing p (cond z None (Some verdict.NoMemory))) free))),
+      )
+
       sit : (k : Session) → slice_get c.drivers d ≡ Some (driver.On k) → (is_first (driver.On k) p && not (lacks_smudge (driver.On k))) ≡ true → Moving c
       sit k at busy =
           let t = and_parts (p == k.first) (not (not k.caps.smudge)) busy in
           let first : p ≡ k.first = ⊎_elim (λ (h : (p ≡ k.first) × ((p == k.first) ≡ true)). h.0) (λ (h : (p == k.first) ≡ false). absurd (let z = t.0 in cc (z, h))) (same_or p k.first) in
           let smudge : k.caps.smudge ≡ true = double k.caps.smudge t.1 in
-          let below : none_of d is_unasked (take p c.paths) ≡ true = none_up_to d is_unasked c.paths p (λ q w i at_w u. let s = at_says d w.start at_w in subst (λ (z : ℕ). z ≤ q) (sym first) (good.kept.low q w d s.0 k i s.1 at u)) in
-          (ev.Answered p reply.NoMemory, replied p d k reply.NoMemory,
+          let below : none_of d is_unasked (take p c.paths) ≡ true = none_up_to d is_unasked c.paths p (λ q w i at_w u. let s = at_says d w.start at_w in subst (λ (z : ℕ). z ≤ q) (sym first) (good.kept.low q w d s.0 k i s.1 at u)) in (
+            ev.Answered p reply.NoMemory,
+            replied p d k reply.NoMemory,
             both_to c p r d b (driver.On k) (answer_at c p reply.NoMemory) (replied p d k reply.NoMemory) there st at
-              (given_to (k.caps.smudge && (is_unasked r.state && (none_below c d p && (true && not (false && not k.caps.delay))))) (replied p d k reply.NoMemory)
-                (and_from k.caps.smudge _ smudge (and_from (is_unasked r.state) _ un (and_from (none_below c d p) _ below refl)))))
+                (given_to (k.caps.smudge && (is_unasked r.state && (none_below c d p && (true && not (false && not k.caps.delay))))) (replied p d k reply.NoMemory)
+                (and_from k.caps.smudge _ smudge (and_from (is_unasked r.state) _ un (and_from (none_below c d p) _ below refl)))),
+          )
         where
           double : (b : Bool) → not (not b) ≡ true → b ≡ true
           double true i = refl
           double false i = absurd (cc (i))
+
       go : (x : DriverState) → slice_get c.drivers d ≡ Some x → Moving c
       go driver.Off at = close driver.Off at refl
       go driver.Aborted at = close driver.Aborted at refl
@@ -154,23 +169,33 @@ module _ (starts : List Start) (c : Core) (good : Good starts c) where
     where
       smaller : (a t n : ℕ) → a < t → t < suc n → a < n
       smaller a t n i j = omega arith
+
       go : ((q1 : ℕ) (r1 : Path) (b1 : Bool) (t1 : ℕ) → t1 < t → slice_get c.paths q1 ≡ Some r1 → r1.start ≡ Desk d b1 → r1.state ≡ path.Named t1 → Moving c) → ((none_of d (is_named_below t) c.paths ≡ true) ⊎ (none_of d (is_named_below t) c.paths ≡ false)) → Moving c
-      go ih (inl none) = (ev.Redone q reply.NoMemory, replied q d k reply.NoMemory,
-          both_to c q r d b (driver.On k) (redo_at c q reply.NoMemory) (replied q d k reply.NoMemory) there st at
-            (ap (redo c q reply.NoMemory d k) li ∙ given_to (not k.naming && (true && (true && none_of d (is_named_below t) c.paths))) (replied q d k reply.NoMemory) (and_from (not k.naming) _ (ap not naming) none)))
+      go ih (inl none) = (
+        ev.Redone q reply.NoMemory,
+        replied q d k reply.NoMemory,
+        both_to c q r d b (driver.On k) (redo_at c q reply.NoMemory) (replied q d k reply.NoMemory) there st at
+            (ap (redo c q reply.NoMemory d k) li ∙ given_to (not k.naming && (true && (true && none_of d (is_named_below t) c.paths))) (replied q d k reply.NoMemory) (and_from (not k.naming) _ (ap not naming) none)),
+      )
       go ih (inr some) = let f = find d (is_named_below t) c.paths some in let s = at_says d (f.1).start f.3 in let l = below_is (f.1).state t f.4 in ih f.0 f.1 s.0 l.0 l.2 f.2 s.1 l.1
 
   move_late : (d : ℕ) (k : Session) → slice_get c.drivers d ≡ Some (driver.On k) → k.had ≡ true → Moving c
   move_late d k at had = ⊎_elim
       (λ (none : none_of d is_unasked c.paths ≡ true). ⊎_elim
-        (λ (naming : k.naming ≡ true). (ev.Listed d (list.Names (named_count d c.paths)), Turns d (driver.On (listed k)) Keep,
-            desk_to c d (driver.On k) (list_at c d (list.Names (named_count d c.paths))) (Turns d (driver.On (listed k)) Keep) at (given_to (k.naming && named_count d c.paths == named_count d c.paths) (Turns d (driver.On (listed k)) Keep) (and_from k.naming _ naming (eqb_self (named_count d c.paths))))))
-        (λ (naming : k.naming ≡ false). ⊎_elim
-          (λ (no_turn : none_of d is_named c.paths ≡ true). (ev.Listed d list.NoMemory, Turns d driver.Off Want,
-              desk_to c d (driver.On k) (list_at c d list.NoMemory) (Turns d driver.Off Want) at (given_to (k.had && (not k.naming && (none_of d is_unasked c.paths && none_of d is_named c.paths))) (Turns d driver.Off Want) (and_from k.had _ had (and_from (not k.naming) _ (ap not naming) (and_from (none_of d is_unasked c.paths) _ none no_turn))))))
-          (λ (turn : none_of d is_named c.paths ≡ false). let f = find d is_named c.paths turn in let s = at_says d (f.1).start f.3 in let l = listing_is (f.1).state f.4 in again (suc l.0) f.0 f.1 d s.0 k l.0 (omega arith) f.2 s.1 l.1 at naming)
-          (dec (none_of d is_named c.paths)))
-        (dec k.naming))
+      (λ (naming : k.naming ≡ true). (
+        ev.Listed d (list.Names (named_count d c.paths)),
+        Turns d (driver.On (listed k)) Keep,
+        desk_to c d (driver.On k) (list_at c d (list.Names (named_count d c.paths))) (Turns d (driver.On (listed k)) Keep) at (given_to (k.naming && named_count d c.paths == named_count d c.paths) (Turns d (driver.On (listed k)) Keep) (and_from k.naming _ naming (eqb_self (named_count d c.paths)))),
+      ))
+      (λ (naming : k.naming ≡ false). ⊎_elim
+      (λ (no_turn : none_of d is_named c.paths ≡ true). (
+        ev.Listed d list.NoMemory,
+        Turns d driver.Off Want,
+        desk_to c d (driver.On k) (list_at c d list.NoMemory) (Turns d driver.Off Want) at (given_to (k.had && (not k.naming && (none_of d is_unasked c.paths && none_of d is_named c.paths))) (Turns d driver.Off Want) (and_from k.had _ had (and_from (not k.naming) _ (ap not naming) (and_from (none_of d is_unasked c.paths) _ none no_turn)))),
+      ))
+      (λ (turn : none_of d is_named c.paths ≡ false). let f = find d is_named c.paths turn in let s = at_says d (f.1).start f.3 in let l = listing_is (f.1).state f.4 in again (suc l.0) f.0 f.1 d s.0 k l.0 (omega arith) f.2 s.1 l.1 at naming)
+      (dec (none_of d is_named c.paths)))
+      (dec k.naming))
       (λ (some : none_of d is_unasked c.paths ≡ false). some_unasked d some)
       (dec (none_of d is_unasked c.paths))
 
@@ -178,13 +203,15 @@ module _ (starts : List Start) (c : Core) (good : Good starts c) where
   move_desk p r d b some there st (Waiting raw) is left = move_waiting c p r raw some there is
   move_desk p r d b some there st (Held a raw) is left = move_held c p r a raw there is
   move_desk p r d b some there st Unasked is left = move_unasked p r d b there st (ap is_unasked is) is
-  move_desk p r d b some there st (path.Heard h) is left = let y = good.seated p r d b there st in
-      (ev.Close p (c.workers + d) own.NoMemory, Moves p (Closed verdict.NoMemory),
-        row_to c p r (λ r. close_at c p (c.workers + d) own.NoMemory r r.state) (Moves p (Closed verdict.NoMemory)) there
-          (ap (close_at c p (c.workers + d) own.NoMemory r) is
-          ∙ (ap (λ s. of_driver s (λ d1 required. at_driver c d1 (λ x. cond ((c.workers + d) == c.workers + d1) (closing p (heard_close required h own.NoMemory)) None))) st
-          ∙ desk_to c d y.0 (λ x. cond ((c.workers + d) == c.workers + d) (closing p (heard_close b h own.NoMemory)) None) (Moves p (Closed verdict.NoMemory)) y.1
-              (ap (λ z. cond z (Some (Moves p (Closed verdict.NoMemory))) None) (eqb_self (c.workers + d))))))
+  move_desk p r d b some there st (path.Heard h) is left = let y = good.seated p r d b there st in (
+    ev.Close p (c.workers + d) own.NoMemory,
+    Moves p (Closed verdict.NoMemory),
+    row_to c p r (λ r. close_at c p (c.workers + d) own.NoMemory r r.state) (Moves p (Closed verdict.NoMemory)) there
+        (ap (close_at c p (c.workers + d) own.NoMemory r) is
+        ∙ (ap (λ s. of_driver s (λ d1 required. at_driver c d1 (λ x. cond ((c.workers + d) == c.workers + d1) (closing p (heard_close required h own.NoMemory)) None))) st
+        ∙ desk_to c d y.0 (λ x. cond ((c.workers + d) == c.workers + d) (closing p (heard_close b h own.NoMemory)) None) (Moves p (Closed verdict.NoMemory)) y.1
+        (ap (λ z. cond z (Some (Moves p (Closed verdict.NoMemory))) None) (eqb_self (c.workers + d))))),
+  )
   move_desk p r d b some there st path.Delayed is left = let y = good.seated p r d b there st in let k = sits_is y.0 (subst (λ (z : PathState). is_sane y.0 z ≡ true) is (good.kept.sane p r d b y.0 there st y.1)) in move_late d k.0 (y.1 ∙ ap (λ z. Some z) k.1) k.2
   move_desk p r d b some there st (path.Named t) is left = let y = good.seated p r d b there st in let k = sits_is y.0 (subst (λ (z : PathState). is_sane y.0 z ≡ true) is (good.kept.sane p r d b y.0 there st y.1)) in move_late d k.0 (y.1 ∙ ap (λ z. Some z) k.1) k.2
   move_desk p r d b some there st (Closed v) is left = absurd (cc (left))
@@ -205,8 +232,10 @@ progress starts workers drivers history x p r below some run there left =
   where
     good : Good starts x
     good = good_replay starts workers drivers history x below run
+
     some_x : 1 ≤ x.workers
     some_x = subst (λ (n : ℕ). 1 ≤ n) (sym (workers_same (start starts workers drivers) x history run)) some
+
     plain : (s : Start) → r.start ≡ s → is_plain s ≡ true → Moving x
     plain s st i =
         let w = plain_runs (start starts workers drivers) x p (path_of s) None history (get_map starts p s (good.begun p r there ∙ ap (λ z. Some z) st)) i (begin s i) run in
@@ -217,6 +246,7 @@ progress starts workers drivers history x p r below some run there left =
         begin Pool i = tt
         begin (Done v) i = refl
         begin (Desk d b) i = absurd (cc (i))
+
         pool : (o : Option Own) (z : PathState) → r.state ≡ z → PoolFits o z → Moving x
         pool o (Waiting raw) is f = move_waiting x p r raw some_x there is
         pool o (Held a raw) is f = move_held x p r a raw there is
@@ -229,10 +259,12 @@ progress starts workers drivers history x p r below some run there left =
         pool (Some w) (path.Named t) is f = absurd f
         pool None (path.Heard h) is f = absurd f
         pool (Some w) (path.Heard h) is f = absurd f
+
         moves : (s : Start) (o : Option Own) (z : PathState) → r.state ≡ z → StartFits s o z → Moving x
         moves Pool o z is f = pool o z is f
         moves (Done v) o z is f = absurd (let y : true ≡ false = sym (ap is_closed (is ∙ f)) ∙ left in cc (y))
         moves (Desk d b) o z is f = absurd f
+
     go : (s : Start) → r.start ≡ s → Moving x
     go (Desk d b) st = move_desk starts x good p r d b some_x there st r.state refl left
     go Pool st = plain Pool st refl

@@ -215,6 +215,7 @@ no_skip starts c p d b r x (ev.Close q a o) g n = both (p == q) (skips_scene sta
     gone : (b : Bool) → (b && false) ≡ false
     gone true = refl
     gone false = refl
+
     both : (h : Bool) → skip_at c p o ≡ false → cond h (skip_at c p o) false ≡ false
     both true i = i
     both false i = refl
@@ -293,6 +294,7 @@ first_kept starts c p d b r x (ev.Close q a o) k g on first = both (p == q) (ski
     gone true true = refl
     gone true false = refl
     gone false b = refl
+
     both : (h : Bool) → skip_at c p o ≡ false → cond h (skip_at c p o) false ≡ false
     both true i = i
     both false i = refl
@@ -320,9 +322,9 @@ first_stays starts c x (e ∷ es) p d b r k good there st on first un h =
     let start1 : r1.start ≡ Desk d b = start_after m.0 p r ∙ st in
     let none : skips c e p ≡ false = first_kept starts c p d b r (driver.On k) e k g refl first in
     let rest : skipped f.0 es p ≡ false = ⊎_elim
-        (λ (n : is_unasked r1.state ≡ false). asked_stays starts f.0 x es p d b r1 good1 there1 start1 n f.2)
-        (λ (y : (l : Session) × (driver_after m.0 d (driver.On k) ≡ driver.On l) × (l.first ≡ p) × (is_unasked r1.state ≡ true)). first_stays starts f.0 x es p d b r1 y.0 good1 there1 start1 (desk1 ∙ ap (λ z. Some z) y.1) y.2 y.3 f.2)
-        (first_step_of p d b (driver.On k) (driver_after m.0 d (driver.On k)) r.state r1.state e (is_note starts d e) k v refl first un) in
+    (λ (n : is_unasked r1.state ≡ false). asked_stays starts f.0 x es p d b r1 good1 there1 start1 n f.2)
+    (λ (y : (l : Session) × (driver_after m.0 d (driver.On k) ≡ driver.On l) × (l.first ≡ p) × (is_unasked r1.state ≡ true)). first_stays starts f.0 x es p d b r1 y.0 good1 there1 start1 (desk1 ∙ ap (λ z. Some z) y.1) y.2 y.3 f.2)
+    (first_step_of p d b (driver.On k) (driver_after m.0 d (driver.On k)) r.state r1.state e (is_note starts d e) k v refl first un) in
     skipped_step c f.0 e es p f.1 ∙ (ap (λ z. z || skipped f.0 es p) none ∙ rest)
 
 none_take : (d : ℕ) (f : PathState → Bool) (rs : List Path) (q p : ℕ) (r : Path) → none_of d f (take q rs) ≡ true → slice_get rs p ≡ Some r → p < q → (is_at d r.start && f r.state) ≡ false
@@ -345,7 +347,7 @@ rest_first starts c z e m es d b x q r good run step rest there_d there st un no
     let later : skipped (after c m) es q ≡ false = asked_stays starts (after c m) z es q d b r1 good1 (get_each (path_after m) c.paths q r there) (start_after m q r ∙ st) no_un rest in
     let all : skipped c (e ∷ es) q ≡ false = skipped_step c (after c m) e es q step ∙ (ap (λ k. k || skipped (after c m) es q) no_sk ∙ later) in
     picks_first (to_ask d (skipped c (e ∷ es))) (to_ask d (skipped (after c m) es)) (path_after m) c.paths q r there
-      (and_from (is_at d r.start) _ at (and_from (is_unasked r.state) _ un (ap not all)))
-      (ap (λ k. k && (is_unasked r1.state && not (skipped (after c m) es q))) (start_of_after m d q r true at) ∙ ap (λ k. k && not (skipped (after c m) es q)) no_un)
-      (λ p w there_p l. and_first (is_at d w.start) (is_unasked w.state) (not (skipped c (e ∷ es) p)) (none_take d is_unasked c.paths q p w low there_p l))
-      (λ p w there_p n. test_same starts c e m es good run step d x there_d p w there_p (λ i. free p n) no_cause)
+    (and_from (is_at d r.start) _ at (and_from (is_unasked r.state) _ un (ap not all)))
+    (ap (λ k. k && (is_unasked r1.state && not (skipped (after c m) es q))) (start_of_after m d q r true at) ∙ ap (λ k. k && not (skipped (after c m) es q)) no_un)
+    (λ p w there_p l. and_first (is_at d w.start) (is_unasked w.state) (not (skipped c (e ∷ es) p)) (none_take d is_unasked c.paths q p w low there_p l))
+    (λ p w there_p n. test_same starts c e m es good run step d x there_d p w there_p (λ i. free p n) no_cause)

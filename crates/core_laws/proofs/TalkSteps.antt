@@ -239,6 +239,7 @@ lowest_is d (x ∷ xs) f e = go (λ k h. lowest_is d xs k h) (is_at d x.start &&
     more : ((k : ℕ) → lowest_unasked d xs ≡ Some k → (r : Path) × (slice_get xs k ≡ Some r) × (is_at d r.start ≡ true) × (is_unasked r.state ≡ true)) → (o : Option ℕ) → lowest_unasked d xs ≡ o → add_one o ≡ Some f → (r : Path) × (slice_get (x ∷ xs) f ≡ Some r) × (is_at d r.start ≡ true) × (is_unasked r.state ≡ true)
     more ih None l e = none_is_some e
     more ih (Some k) l e = let i = ih k l in let n : suc k ≡ f = cc (e) in (i.0, subst (λ (g : ℕ). slice_get (x ∷ xs) g ≡ Some i.0) n i.1, i.2, i.3)
+
     go : ((k : ℕ) → lowest_unasked d xs ≡ Some k → (r : Path) × (slice_get xs k ≡ Some r) × (is_at d r.start ≡ true) × (is_unasked r.state ≡ true)) → (b : Bool) → (is_at d x.start && is_unasked x.state) ≡ b → cond b (Some zero) (add_one (lowest_unasked d xs)) ≡ Some f → (r : Path) × (slice_get (x ∷ xs) f ≡ Some r) × (is_at d r.start ≡ true) × (is_unasked r.state ≡ true)
     go ih true i e = let n : zero ≡ f = cc (e) in let t = and_parts _ _ i in (x, subst (λ (g : ℕ). slice_get (x ∷ xs) g ≡ Some x) n refl, t.0, t.1)
     go ih false i e = more ih (lowest_unasked d xs) refl e
@@ -247,16 +248,16 @@ module _ (starts : List Start) (c z : Core) (es : List Event) (d : ℕ) (good : 
   -- a step whose event is no note of the driver
   quiet : (e : Event) (m : Effect) (x : DriverState) (late turns : List ℕ) (base : ℕ) → effect_of c e ≡ Some m → step_of c e ≡ Some (after c m) → slice_get c.drivers d ≡ Some x → Lists c.paths d late turns base → IsZero x base → IsSmudged x → is_note starts d e ≡ false → driver_after m d x ≡ x → Outcome starts c m e es d x late turns
   quiet e m x late turns base run step at l low sm n same = record {
-      late1 = late;
-      turns1 = turns;
-      base1 = base;
-      lists = lists_same c m d late turns base (λ p r i at_r. let v = view_of starts c e m es good run step d x at p r i at_r in quiet_shadow p d v.0 x (driver_after m d x) r.state (path_after m p r).state e (is_note starts d e) v.2 n) l;
-      low = λ k on naming. low k (sym same ∙ on) naming;
-      smudged = λ k on h. sm k (sym same ∙ on) h;
-      moves = ap (λ b. stepped b (talk_at x (talk_paths c d (e ∷ es)) late turns) e) n
+    late1 = late;
+    turns1 = turns;
+    base1 = base;
+    lists = lists_same c m d late turns base (λ p r i at_r. let v = view_of starts c e m es good run step d x at p r i at_r in quiet_shadow p d v.0 x (driver_after m d x) r.state (path_after m p r).state e (is_note starts d e) v.2 n) l;
+    low = λ k on naming. low k (sym same ∙ on) naming;
+    smudged = λ k on h. sm k (sym same ∙ on) h;
+    moves = ap (λ b. stepped b (talk_at x (talk_paths c d (e ∷ es)) late turns) e) n
         ∙ ap (λ t. Some t) (talk_rest x (talk_paths c d (e ∷ es)) (talk_paths (after c m) d es) late turns (λ no_cause. sym (rest_same starts c e m es good run step d x at (free_note starts c d e good.begun n) no_cause))
         ∙ ap (λ y. talk_at y (talk_paths (after c m) d es) late turns) (sym same));
-    }
+  }
 
   -- the rows of the driver after an effect
   keep_both : (q : ℕ) (s : PathState) (t : DriverState) (p : ℕ) (r : Path) → (p == q) ≡ false → is_at d r.start ≡ true → shadow (path_after (Both q s d t Keep) p r).state ≡ shadow r.state
@@ -267,9 +268,9 @@ module _ (starts : List Start) (c z : Core) (es : List Event) (d : ℕ) (good : 
       let a = each_is (path_after (Both q s d t w)) c.paths p r i in
       let at0 : is_at d (a.0).start ≡ true = ap (is_at d) (sym (start_after (Both q s d t w) p a.0) ∙ ap (λ (z : Path). z.start) a.2) ∙ at in
       ap (λ (z : Path). shadow z.state) (sym a.2) ∙ ⊎_elim
-        (λ (k : (p ≡ q) × ((p == q) ≡ true)). ap shadow (here p q s d t w a.0 k.1) ∙ clear)
-        (λ (k : (p == q) ≡ false). ap shadow (there p q s d t w a.0 true k at0) ∙ swept_lost w (a.0).state n)
-        (same_or p q)
+      (λ (k : (p ≡ q) × ((p == q) ≡ true)). ap shadow (here p q s d t w a.0 k.1) ∙ clear)
+      (λ (k : (p == q) ≡ false). ap shadow (there p q s d t w a.0 true k at0) ∙ swept_lost w (a.0).state n)
+      (same_or p q)
 
   lose_turn : (t : DriverState) (w : Sweep) → (w ≡ Keep → ⊥) → (p : ℕ) (r : Path) → slice_get (each (path_after (Turns d t w)) c.paths) p ≡ Some r → is_at d r.start ≡ true → shadow r.state ≡ Unasked
   lose_turn t w n p r i at =
@@ -309,10 +310,10 @@ module _ (starts : List Start) (c z : Core) (es : List Event) (d : ℕ) (good : 
         turns1 = [];
         base1 = 0;
         lists = lists_none (each (path_after m) c.paths) d (λ p r i at_r.
-          let a = each_is (path_after m) c.paths p r i in
-          let at0 : is_at d (a.0).start ≡ true = ap (is_at d) (sym (start_after m p a.0) ∙ ap (λ (z : Path). z.start) a.2) ∙ at_r in
-          let k = at_says d (a.0).start at0 in
-          ap (λ (z : Path). shadow z.state) (sym a.2) ∙ (keep_turn (driver.On (fresh caps first)) p a.0 at0 ∙ off_shadow (a.0).state (good.kept.sane p a.0 d k.0 driver.Off a.1 k.1 at)));
+            let a = each_is (path_after m) c.paths p r i in
+            let at0 : is_at d (a.0).start ≡ true = ap (is_at d) (sym (start_after m p a.0) ∙ ap (λ (z : Path). z.start) a.2) ∙ at_r in
+            let k = at_says d (a.0).start at0 in
+            ap (λ (z : Path). shadow z.state) (sym a.2) ∙ (keep_turn (driver.On (fresh caps first)) p a.0 at0 ∙ off_shadow (a.0).state (good.kept.sane p a.0 d k.0 driver.Off a.1 k.1 at)));
         low = λ k on naming. refl;
         smudged = smudged_now (driver.On (fresh caps first)) driver.Off (fresh_smudged caps first);
         moves = ap (λ b. stepped b (Between (talk_paths c d (e ∷ es))) e) (eqb_self d) ∙ (ap (λ (ns : List ℕ). talk_step (Between ns) e) (sym same ∙ pk.2) ∙ (ap (λ (ns : List ℕ). Some (opened caps ns)) (sym pk.2) ∙ ap (λ y. Some (talk_at y r1s [] [])) (sym (desk_now (driver.On (fresh caps first)) driver.Off))));
@@ -329,11 +330,11 @@ module _ (starts : List Start) (c z : Core) (es : List Event) (d : ℕ) (good : 
         turns1 = turns;
         base1 = base;
         lists = lists_same c m d late turns base (λ p w i at_w. ⊎_elim
-          (λ (k : (p ≡ q) × ((p == q) ≡ true)).
-              let one : w ≡ r = some_is w r (sym i ∙ (ap (λ z. slice_get c.paths z) k.0 ∙ there_q)) in
-              ap shadow (move_here p q (path.Heard (heard_opening o)) w k.1) ∙ sym (ap (λ (z : Path). shadow z.state) one ∙ ap shadow (unasked_is r.state un)))
-          (λ (k : (p == q) ≡ false). ap shadow (move_there p q (path.Heard (heard_opening o)) w k))
-          (same_or p q)) l;
+            (λ (k : (p ≡ q) × ((p == q) ≡ true)).
+            let one : w ≡ r = some_is w r (sym i ∙ (ap (λ z. slice_get c.paths z) k.0 ∙ there_q)) in
+            ap shadow (move_here p q (path.Heard (heard_opening o)) w k.1) ∙ sym (ap (λ (z : Path). shadow z.state) one ∙ ap shadow (unasked_is r.state un)))
+            (λ (k : (p == q) ≡ false). ap shadow (move_there p q (path.Heard (heard_opening o)) w k))
+            (same_or p q)) l;
         low = λ k on naming. absurd (cc (on));
         smudged = λ k on naming. absurd (cc (on));
         moves = ap (λ b. stepped b (Between (talk_paths c d (e ∷ es))) e) note ∙ (ap (λ (ns : List ℕ). talk_step (Between ns) e) next ∙ ap (λ b. cond b (Some (Between (talk_paths (after c m) d es))) None) (and_from (q == q) (is_good_opening o) (eqb_self q) ok));
@@ -345,8 +346,8 @@ module _ (starts : List Start) (c z : Core) (es : List Event) (d : ℕ) (good : 
   all_keep : (q : ℕ) (r : Path) (s : PathState) (t : DriverState) → slice_get c.paths q ≡ Some r → shadow s ≡ shadow r.state → (p : ℕ) (w : Path) → slice_get c.paths p ≡ Some w → is_at d w.start ≡ true → shadow (path_after (Both q s d t Keep) p w).state ≡ shadow w.state
   all_keep q r s t there_q sh p w i at_w = ⊎_elim
       (λ (k : (p ≡ q) × ((p == q) ≡ true)).
-          let one : w ≡ r = some_is w r (sym i ∙ (ap (λ z. slice_get c.paths z) k.0 ∙ there_q)) in
-          ap shadow (here p q s d t Keep w k.1) ∙ (sh ∙ ap (λ (z : Path). shadow z.state) (sym one)))
+      let one : w ≡ r = some_is w r (sym i ∙ (ap (λ z. slice_get c.paths z) k.0 ∙ there_q)) in
+      ap shadow (here p q s d t Keep w k.1) ∙ (sh ∙ ap (λ (z : Path). shadow z.state) (sym one)))
       (λ (k : (p == q) ≡ false). keep_both q s t p w k at_w)
       (same_or p q)
 
@@ -389,10 +390,10 @@ module _ (starts : List Start) (c z : Core) (es : List Event) (d : ℕ) (good : 
         low = zero_now (replied_desk k y) (driver.On k) (base_to y base) (zero_reply k y base low);
         smudged = smudged_now (replied_desk k y) (driver.On k) (replied_smudged k y smudge);
         moves = ap (λ b. stepped b (cond k.caps.smudge (InRound (round_of k (talk_paths c d (e ∷ es)) late turns)) Refusing) e) note
-          ∙ (ap (λ b. talk_step (cond b (InRound (round_of k (talk_paths c d (e ∷ es)) late turns)) Refusing) e) smudge
-          ∙ (ap (λ (ns : List ℕ). talk_step (InRound (round_of k ns late turns)) e) next
-          ∙ (ap (λ b. cond b (Some (answered (round_of k (q ∷ talk_paths (after c m) d es) late turns) q (talk_paths (after c m) d es) y)) None) (and_from (q == q) _ (eqb_self q) ok)
-          ∙ ap (λ t. Some t) (answered_is k (talk_paths (after c m) d es) late turns q y smudge ∙ ap (λ x. talk_at x (talk_paths (after c m) d es) (late_to y q late) (late_again y turns)) (sym (desk_now (replied_desk k y) (driver.On k)))))));
+            ∙ (ap (λ b. talk_step (cond b (InRound (round_of k (talk_paths c d (e ∷ es)) late turns)) Refusing) e) smudge
+            ∙ (ap (λ (ns : List ℕ). talk_step (InRound (round_of k ns late turns)) e) next
+            ∙ (ap (λ b. cond b (Some (answered (round_of k (q ∷ talk_paths (after c m) d es) late turns) q (talk_paths (after c m) d es) y)) None) (and_from (q == q) _ (eqb_self q) ok)
+            ∙ ap (λ t. Some t) (answered_is k (talk_paths (after c m) d es) late turns q y smudge ∙ ap (λ x. talk_at x (talk_paths (after c m) d es) (late_to y q late) (late_again y turns)) (sym (desk_now (replied_desk k y) (driver.On k)))))));
       }
 
   -- none is unasked, so none is left to be asked
@@ -425,6 +426,7 @@ module _ (starts : List Start) (c z : Core) (es : List Event) (d : ℕ) (good : 
               let none : is_named_below t (a.0).state ≡ false = none_says d (is_named_below t) c.paths p a.0 below a.1 a.2 in
               let less : nat_lt (base + 0) t ≡ true = lt-ltb (base + 0) t (lower_turn t base i e) in
               true_false (is_named_below t (a.0).state) (ap (is_named_below t) a.3 ∙ less) none
+
       go : (ts : List ℕ) → Lists c.paths d late ts base → slice_get ts zero ≡ Some q → Outcome starts c (replied q d k y) (ev.Redone q y) es d (driver.On k) late ts
       go [] l g = none_is_some g
       go (p ∷ qs) l g =
@@ -447,10 +449,10 @@ module _ (starts : List Start) (c z : Core) (es : List Event) (d : ℕ) (good : 
             low = zero_now (replied_desk k y) (driver.On k) (base_to y (base + 1)) (not_naming k y (base + 1) (not_false _ o.0) no_delay);
             smudged = smudged_now (replied_desk k y) (driver.On k) (replied_smudged k y smudge);
             moves = ap (λ b. stepped b (cond k.caps.smudge (InRound (round_of k (talk_paths c d (e ∷ es)) late (p ∷ qs))) Refusing) e) note
-              ∙ (ap (λ b. talk_step (cond b (InRound (round_of k (talk_paths c d (e ∷ es)) late (p ∷ qs))) Refusing) e) smudge
-              ∙ (ap (λ (ns : List ℕ). talk_step (InRound (round_of k ns late (p ∷ qs))) e) (sym rs)
-              ∙ (ap (λ b. cond b (Some (redone (round_of k (talk_paths (after c m) d es) late (p ∷ qs)) qs y)) None) (and_from (not k.naming) _ o.0 (and_from (q == p) _ (eq-eqb q p (sym pq)) (and_from (not (is_delay y)) (is_good_reply y) o1.0 o2.0)))
-              ∙ ap (λ t. Some t) (redone_is k (talk_paths (after c m) d es) late (p ∷ qs) qs y smudge no_delay ∙ ap (λ x. talk_at x (talk_paths (after c m) d es) (late_again y late) (late_again y qs)) (sym (desk_now (replied_desk k y) (driver.On k)))))));
+                ∙ (ap (λ b. talk_step (cond b (InRound (round_of k (talk_paths c d (e ∷ es)) late (p ∷ qs))) Refusing) e) smudge
+                ∙ (ap (λ (ns : List ℕ). talk_step (InRound (round_of k ns late (p ∷ qs))) e) (sym rs)
+                ∙ (ap (λ b. cond b (Some (redone (round_of k (talk_paths (after c m) d es) late (p ∷ qs)) qs y)) None) (and_from (not k.naming) _ o.0 (and_from (q == p) _ (eq-eqb q p (sym pq)) (and_from (not (is_delay y)) (is_good_reply y) o1.0 o2.0)))
+                ∙ ap (λ t. Some t) (redone_is k (talk_paths (after c m) d es) late (p ∷ qs) qs y smudge no_delay ∙ ap (λ x. talk_at x (talk_paths (after c m) d es) (late_again y late) (late_again y qs)) (sym (desk_now (replied_desk k y) (driver.On k)))))));
           }
         where
           not_naming : (k : Session) (y : Reply) (b : ℕ) → k.naming ≡ false → is_delay y ≡ false → IsZero (replied_desk k y) (base_to y b)
@@ -474,13 +476,13 @@ module _ (starts : List Start) (c z : Core) (es : List Event) (d : ℕ) (good : 
       let nil : talk_paths c d (e ∷ es) ≡ [] = rest_none c (e ∷ es) none in
       let which = names_may k (none_of d is_named c.paths) may in
       let zero0 : Lists c.paths d late turns 0 = ⊎_elim
-            (λ (n : k.naming ≡ true). subst (λ (z : ℕ). Lists c.paths d late turns z) (low k refl n) l)
-            (λ (n : none_of d is_named c.paths ≡ true). lists_rebase c.paths d late turns base (turns_none late turns base l n) l)
-            which in
+      (λ (n : k.naming ≡ true). subst (λ (z : ℕ). Lists c.paths d late turns z) (low k refl n) l)
+      (λ (n : none_of d is_named c.paths ≡ true). lists_rebase c.paths d late turns base (turns_none late turns base l n) l)
+      which in
       let empty : not (not k.naming && not (is_empty turns)) ≡ true = ⊎_elim
-            (λ (n : k.naming ≡ true). ap (λ z. not (not z && not (is_empty turns))) n)
-            (λ (n : none_of d is_named c.paths ≡ true). ap (λ (ts : List ℕ). not (not k.naming && not (is_empty ts))) (turns_none late turns base l n) ∙ and_gone (not k.naming))
-            which in
+      (λ (n : k.naming ≡ true). ap (λ z. not (not z && not (is_empty turns))) n)
+      (λ (n : none_of d is_named c.paths ≡ true). ap (λ (ts : List ℕ). not (not k.naming && not (is_empty ts))) (turns_none late turns base l n) ∙ and_gone (not k.naming))
+      which in
       record {
         late1 = without q late;
         turns1 = turns ++ (q ∷ []);
@@ -489,11 +491,11 @@ module _ (starts : List Start) (c z : Core) (es : List Event) (d : ℕ) (good : 
         low = λ l1 on naming. refl;
         smudged = smudged_now (driver.On (named k)) (driver.On k) (λ l1 on h. ap (λ (s : Session). s.caps.smudge) (let i : l1 ≡ named k = cc (on) in i) ∙ smudge);
         moves = ap (λ b. stepped b (cond k.caps.smudge (InRound (round_of k (talk_paths c d (e ∷ es)) late turns)) Refusing) e) note
-          ∙ (ap (λ b. talk_step (cond b (InRound (round_of k (talk_paths c d (e ∷ es)) late turns)) Refusing) e) smudge
-          ∙ (ap (λ b. cond b (Some (InRound (record { delay = k.caps.delay; had = k.had; naming = true; rest = talk_paths c d (e ∷ es); late = without q late; turns = turns ++ (q ∷ []) }))) None)
-              (and_from k.had _ had (and_from (is_empty (talk_paths c d (e ∷ es))) _ (ap is_empty nil) (and_from (contains q late) _ (l.late_is q r there_q at_r ∙ late_r) empty)))
-          ∙ (ap (λ (ns : List ℕ). Some (InRound (round_of (named k) ns (without q late) (turns ++ (q ∷ []))))) (sym rs)
-          ∙ ap (λ t. Some t) (in_round k (round_of (named k) (talk_paths (after c m) d es) (without q late) (turns ++ (q ∷ []))) smudge ∙ ap (λ x. talk_at x (talk_paths (after c m) d es) (without q late) (turns ++ (q ∷ []))) (sym (desk_now (driver.On (named k)) (driver.On k)))))));
+            ∙ (ap (λ b. talk_step (cond b (InRound (round_of k (talk_paths c d (e ∷ es)) late turns)) Refusing) e) smudge
+            ∙ (ap (λ b. cond b (Some (InRound (record { delay = k.caps.delay; had = k.had; naming = true; rest = talk_paths c d (e ∷ es); late = without q late; turns = turns ++ (q ∷ []) }))) None)
+            (and_from k.had _ had (and_from (is_empty (talk_paths c d (e ∷ es))) _ (ap is_empty nil) (and_from (contains q late) _ (l.late_is q r there_q at_r ∙ late_r) empty)))
+            ∙ (ap (λ (ns : List ℕ). Some (InRound (round_of (named k) ns (without q late) (turns ++ (q ∷ []))))) (sym rs)
+            ∙ ap (λ t. Some t) (in_round k (round_of (named k) (talk_paths (after c m) d es) (without q late) (turns ++ (q ∷ []))) smudge ∙ ap (λ x. talk_at x (talk_paths (after c m) d es) (without q late) (turns ++ (q ∷ []))) (sym (desk_now (driver.On (named k)) (driver.On k)))))));
       }
 
   note_listed : (y : ListReply) (k : Session) (late turns : List ℕ) (base : ℕ) → effect_of c (ev.Listed d y) ≡ Some (Turns d (list_desk k y) (list_sweep y)) → step_of c (ev.Listed d y) ≡ Some (after c (Turns d (list_desk k y) (list_sweep y))) → slice_get c.drivers d ≡ Some (driver.On k) → k.caps.smudge ≡ true → list_allowed c d k y ≡ true → Lists c.paths d late turns base → IsZero (driver.On k) base → Outcome starts c (Turns d (list_desk k y) (list_sweep y)) (ev.Listed d y) es d (driver.On k) late turns
@@ -510,9 +512,9 @@ module _ (starts : List Start) (c z : Core) (es : List Event) (d : ℕ) (good : 
         low = zero_now (list_desk k y) (driver.On k) a.2 a.4;
         smudged = smudged_now (list_desk k y) (driver.On k) (list_smudged k y smudge);
         moves = ap (λ b. stepped b (cond k.caps.smudge (InRound (round_of k (talk_paths c d (e ∷ es)) late turns)) Refusing) e) (eqb_self d)
-          ∙ (ap (λ b. talk_step (cond b (InRound (round_of k (talk_paths c d (e ∷ es)) late turns)) Refusing) e) smudge
-          ∙ (ap (λ b. cond b (Some (list_end (round_of k (talk_paths c d (e ∷ es)) late turns) y)) None) a.5
-          ∙ (ap (λ t. Some t) (a.6 ∙ (ap (λ (ns : List ℕ). talk_at (list_desk k y) ns a.0 a.1) (sym rs) ∙ ap (λ x. talk_at x (talk_paths (after c m) d es) a.0 a.1) (sym (desk_now (list_desk k y) (driver.On k))))))));
+            ∙ (ap (λ b. talk_step (cond b (InRound (round_of k (talk_paths c d (e ∷ es)) late turns)) Refusing) e) smudge
+            ∙ (ap (λ b. cond b (Some (list_end (round_of k (talk_paths c d (e ∷ es)) late turns) y)) None) a.5
+            ∙ (ap (λ t. Some t) (a.6 ∙ (ap (λ (ns : List ℕ). talk_at (list_desk k y) ns a.0 a.1) (sym rs) ∙ ap (λ x. talk_at x (talk_paths (after c m) d es) a.0 a.1) (sym (desk_now (list_desk k y) (driver.On k))))))));
       }
     where
       may_end : (rest : List ℕ) → (k.had && (not k.naming && (none_of d is_unasked c.paths && none_of d is_named c.paths))) ≡ true → (none_of d is_unasked c.paths ≡ true → rest ≡ []) → (k.had && (not k.naming && (is_empty rest && is_empty turns))) ≡ true
@@ -521,13 +523,18 @@ module _ (starts : List Start) (c z : Core) (es : List Event) (d : ℕ) (good : 
           let o1 = and_parts (not k.naming) (none_of d is_unasked c.paths && none_of d is_named c.paths) o.1 in
           let o2 = and_parts (none_of d is_unasked c.paths) (none_of d is_named c.paths) o1.1 in
           and_from k.had (not k.naming && (is_empty rest && is_empty turns)) o.0 (and_from (not k.naming) (is_empty rest && is_empty turns) o1.0 (and_from (is_empty rest) (is_empty turns) (ap is_empty (nil o2.0)) (ap is_empty (turns_none late turns base l o2.1))))
+
       after_list : (y : ListReply) (rest : List ℕ) → list_allowed c d k y ≡ true → (none_of d is_unasked c.paths ≡ true → rest ≡ []) → (late1 : List ℕ) × (turns1 : List ℕ) × (base1 : ℕ) × Lists (each (path_after (Turns d (list_desk k y) (list_sweep y))) c.paths) d late1 turns1 base1 × IsZero (list_desk k y) base1 × (list_may (round_of k rest late turns) y ≡ true) × (list_end (round_of k rest late turns) y ≡ talk_at (list_desk k y) rest late1 turns1)
       after_list (list.Names n) rest ok nil =
-          let o = and_parts k.naming (n == named_count d c.paths) ok in
-          (late, turns, base, lists_same c (Turns d (driver.On (listed k)) Keep) d late turns base (λ p r i at_r. keep_turn (driver.On (listed k)) p r at_r) l,
+          let o = and_parts k.naming (n == named_count d c.paths) ok in (
+            late,
+            turns,
+            base,
+            lists_same c (Turns d (driver.On (listed k)) Keep) d late turns base (λ p r i at_r. keep_turn (driver.On (listed k)) p r at_r) l,
             (λ l1 on naming. absurd (let i : listed k ≡ l1 = cc (on) in let z : false ≡ true = ap (λ (s : Session). s.naming) i ∙ naming in cc (z))),
             and_from k.naming (n == length turns) o.0 (ap (λ z. n == z) (sym l.count) ∙ o.1),
-            in_round k (round_of (listed k) rest late turns) smudge)
+            in_round k (round_of (listed k) rest late turns) smudge,
+          )
       after_list list.Empty rest ok nil = ([], [], 0, lists_none (each (path_after (Turns d driver.Done Lose)) c.paths) d (lose_turn driver.Done Lose (λ e. absurd (cc (e)))), (λ l1 on naming. refl), may_end rest ok nil, refl)
       after_list list.Abort rest ok nil = ([], [], 0, lists_none (each (path_after (Turns d driver.Aborted Lose)) c.paths) d (lose_turn driver.Aborted Lose (λ e. absurd (cc (e)))), (λ l1 on naming. refl), may_end rest ok nil, refl)
       after_list (list.Broken b) rest ok nil = ([], [], 0, lists_none (each (path_after (Turns d driver.Off Lose)) c.paths) d (lose_turn driver.Off Lose (λ e. absurd (cc (e)))), (λ l1 on naming. refl), may_end rest ok nil, refl)
@@ -546,8 +553,8 @@ module _ (starts : List Start) (c z : Core) (es : List Event) (d : ℕ) (good : 
         low = zero_now driver.Done (driver.On k) base (λ l1 on naming. absurd (cc (on)));
         smudged = smudged_now driver.Done (driver.On k) (λ l1 on h. absurd (cc (on)));
         moves = ap (λ b. stepped b (cond k.caps.smudge (InRound (round_of k (talk_paths c d (e ∷ es)) late turns)) Refusing) e) (eqb_self d)
-          ∙ (go k.caps.smudge (talk_paths c d (e ∷ es)) (and_from (not k.had) _ o.0 (ap is_empty (rest_none c (e ∷ es) o.1)))
-          ∙ ap (λ x. Some (talk_at x (talk_paths (after c m) d es) late turns)) (sym (desk_now driver.Done (driver.On k))));
+            ∙ (go k.caps.smudge (talk_paths c d (e ∷ es)) (and_from (not k.had) _ o.0 (ap is_empty (rest_none c (e ∷ es) o.1)))
+            ∙ ap (λ x. Some (talk_at x (talk_paths (after c m) d es) late turns)) (sym (desk_now driver.Done (driver.On k))));
       }
     where
       go : (b : Bool) (rest : List ℕ) → (not k.had && is_empty rest) ≡ true → talk_step (cond b (InRound (round_of k rest late turns)) Refusing) (ev.Shut d) ≡ Some Ended
@@ -588,15 +595,15 @@ module _ (starts : List Start) (c z : Core) (es : List Event) (d : ℕ) (good : 
       let t = at_driver_is c f (open_at c f caps) m run in
       let k = open_is f caps t.state (lowest_unasked f c.paths) m t.holds in
       ⊎_elim
-        (λ (i : (d ≡ f) × ((d == f) ≡ true)).
-            let off : x ≡ driver.Off = same_desk c d x t.state at (ap (λ j. slice_get c.drivers j) i.0 ∙ t.there) ∙ k.2 in
-            let go : Runs (ev.Opened d caps) (Turns d (driver.On (fresh caps k.0)) Keep) driver.Off late turns base = (λ run step rest at l low sm. note_opened caps k.0 late turns run step rest at (ap (λ j. lowest_unasked j c.paths) i.0 ∙ k.1)) in
-            subst (λ (y : DriverState). Runs (ev.Opened f caps) m y late turns base) (sym off)
-              (subst (λ (w : Effect). Runs (ev.Opened f caps) w driver.Off late turns base) k.3
-                (subst (λ (j : ℕ). Runs (ev.Opened j caps) (Turns j (driver.On (fresh caps k.0)) Keep) driver.Off late turns base) i.0 go))
-              run step rest at l low sm)
-        (λ (n : (d == f) ≡ false). quiet (ev.Opened f caps) m x late turns base run step at l low sm n (subst (λ (w : Effect). driver_after w d x ≡ x) k.3 (ap (λ b. cond b (driver.On (fresh caps k.0)) x) n)))
-        (same_or d f)
+      (λ (i : (d ≡ f) × ((d == f) ≡ true)).
+      let off : x ≡ driver.Off = same_desk c d x t.state at (ap (λ j. slice_get c.drivers j) i.0 ∙ t.there) ∙ k.2 in
+      let go : Runs (ev.Opened d caps) (Turns d (driver.On (fresh caps k.0)) Keep) driver.Off late turns base = (λ run step rest at l low sm. note_opened caps k.0 late turns run step rest at (ap (λ j. lowest_unasked j c.paths) i.0 ∙ k.1)) in
+      subst (λ (y : DriverState). Runs (ev.Opened f caps) m y late turns base) (sym off)
+      (subst (λ (w : Effect). Runs (ev.Opened f caps) w driver.Off late turns base) k.3
+      (subst (λ (j : ℕ). Runs (ev.Opened j caps) (Turns j (driver.On (fresh caps k.0)) Keep) driver.Off late turns base) i.0 go))
+      run step rest at l low sm)
+      (λ (n : (d == f) ≡ false). quiet (ev.Opened f caps) m x late turns base run step at l low sm n (subst (λ (w : Effect). driver_after w d x ≡ x) k.3 (ap (λ b. cond b (driver.On (fresh caps k.0)) x) n)))
+      (same_or d f)
 
   sim_shut : (f : ℕ) (m : Effect) (x : DriverState) (late turns : List ℕ) (base : ℕ) → Runs (ev.Shut f) m x late turns base
   sim_shut f m x late turns base run step rest at l low sm =
@@ -604,15 +611,15 @@ module _ (starts : List Start) (c z : Core) (es : List Event) (d : ℕ) (good : 
       let k = at_session_is t.state (λ s. shut_in c f s) m t.holds in
       let g = given_is _ (Turns f driver.Done Keep) m k.2 in
       ⊎_elim
-        (λ (i : (d ≡ f) × ((d == f) ≡ true)).
-            let on : x ≡ driver.On k.0 = same_desk c d x t.state at (ap (λ j. slice_get c.drivers j) i.0 ∙ t.there) ∙ k.1 in
-            let go : Runs (ev.Shut d) (Turns d driver.Done Keep) (driver.On k.0) late turns base = (λ run step rest at l low sm. note_shut k.0 late turns base step at (ap (λ j. not k.0.had && none_of j is_unasked c.paths) i.0 ∙ g.0) l) in
-            subst (λ (y : DriverState). Runs (ev.Shut f) m y late turns base) (sym on)
-              (subst (λ (w : Effect). Runs (ev.Shut f) w (driver.On k.0) late turns base) g.1
-                (subst (λ (j : ℕ). Runs (ev.Shut j) (Turns j driver.Done Keep) (driver.On k.0) late turns base) i.0 go))
-              run step rest at l low sm)
-        (λ (n : (d == f) ≡ false). quiet (ev.Shut f) m x late turns base run step at l low sm n (subst (λ (w : Effect). driver_after w d x ≡ x) g.1 (ap (λ b. cond b driver.Done x) n)))
-        (same_or d f)
+      (λ (i : (d ≡ f) × ((d == f) ≡ true)).
+      let on : x ≡ driver.On k.0 = same_desk c d x t.state at (ap (λ j. slice_get c.drivers j) i.0 ∙ t.there) ∙ k.1 in
+      let go : Runs (ev.Shut d) (Turns d driver.Done Keep) (driver.On k.0) late turns base = (λ run step rest at l low sm. note_shut k.0 late turns base step at (ap (λ j. not k.0.had && none_of j is_unasked c.paths) i.0 ∙ g.0) l) in
+      subst (λ (y : DriverState). Runs (ev.Shut f) m y late turns base) (sym on)
+      (subst (λ (w : Effect). Runs (ev.Shut f) w (driver.On k.0) late turns base) g.1
+      (subst (λ (j : ℕ). Runs (ev.Shut j) (Turns j driver.Done Keep) (driver.On k.0) late turns base) i.0 go))
+      run step rest at l low sm)
+      (λ (n : (d == f) ≡ false). quiet (ev.Shut f) m x late turns base run step at l low sm n (subst (λ (w : Effect). driver_after w d x ≡ x) g.1 (ap (λ b. cond b driver.Done x) n)))
+      (same_or d f)
 
   list_smudge : (k : Session) (y : ListReply) → IsSmudged (driver.On k) → list_allowed c d k y ≡ true → k.caps.smudge ≡ true
   list_smudge k y sm ok = sm k refl (go y ok)
@@ -620,9 +627,11 @@ module _ (starts : List Start) (c z : Core) (es : List Event) (d : ℕ) (good : 
       or_left : (a b : Bool) → a ≡ true → (a || b) ≡ true
       or_left true b i = refl
       or_left false b i = absurd (cc (i))
+
       or_right : (a b : Bool) → b ≡ true → (a || b) ≡ true
       or_right true b i = refl
       or_right false b i = i
+
       go : (y : ListReply) → list_allowed c d k y ≡ true → (k.had || k.naming) ≡ true
       go (list.Names n) ok = or_right k.had k.naming ((and_parts k.naming (n == named_count d c.paths) ok).0)
       go list.Empty ok = or_left k.had k.naming ((and_parts k.had (not k.naming && (none_of d is_unasked c.paths && none_of d is_named c.paths)) ok).0)
@@ -636,35 +645,35 @@ module _ (starts : List Start) (c z : Core) (es : List Event) (d : ℕ) (good : 
       let k = at_session_is t.state (λ s. list_step c f s y) m t.holds in
       let g = given_is (list_allowed c f k.0 y) (Turns f (list_desk k.0 y) (list_sweep y)) m k.2 in
       ⊎_elim
-        (λ (i : (d ≡ f) × ((d == f) ≡ true)).
-            let on : x ≡ driver.On k.0 = same_desk c d x t.state at (ap (λ j. slice_get c.drivers j) i.0 ∙ t.there) ∙ k.1 in
-            let ok : list_allowed c d k.0 y ≡ true = ap (λ j. list_allowed c j k.0 y) i.0 ∙ g.0 in
-            let go : Runs (ev.Listed d y) (Turns d (list_desk k.0 y) (list_sweep y)) (driver.On k.0) late turns base = (λ run step rest at l low sm. note_listed y k.0 late turns base run step at (list_smudge k.0 y sm ok) ok l low) in
-            subst (λ (v : DriverState). Runs (ev.Listed f y) m v late turns base) (sym on)
-              (subst (λ (w : Effect). Runs (ev.Listed f y) w (driver.On k.0) late turns base) g.1
-                (subst (λ (j : ℕ). Runs (ev.Listed j y) (Turns j (list_desk k.0 y) (list_sweep y)) (driver.On k.0) late turns base) i.0 go))
-              run step rest at l low sm)
-        (λ (n : (d == f) ≡ false). quiet (ev.Listed f y) m x late turns base run step at l low sm n (subst (λ (w : Effect). driver_after w d x ≡ x) g.1 (ap (λ b. cond b (list_desk k.0 y) x) n)))
-        (same_or d f)
+      (λ (i : (d ≡ f) × ((d == f) ≡ true)).
+      let on : x ≡ driver.On k.0 = same_desk c d x t.state at (ap (λ j. slice_get c.drivers j) i.0 ∙ t.there) ∙ k.1 in
+      let ok : list_allowed c d k.0 y ≡ true = ap (λ j. list_allowed c j k.0 y) i.0 ∙ g.0 in
+      let go : Runs (ev.Listed d y) (Turns d (list_desk k.0 y) (list_sweep y)) (driver.On k.0) late turns base = (λ run step rest at l low sm. note_listed y k.0 late turns base run step at (list_smudge k.0 y sm ok) ok l low) in
+      subst (λ (v : DriverState). Runs (ev.Listed f y) m v late turns base) (sym on)
+      (subst (λ (w : Effect). Runs (ev.Listed f y) w (driver.On k.0) late turns base) g.1
+      (subst (λ (j : ℕ). Runs (ev.Listed j y) (Turns j (list_desk k.0 y) (list_sweep y)) (driver.On k.0) late turns base) i.0 go))
+      run step rest at l low sm)
+      (λ (n : (d == f) ≡ false). quiet (ev.Listed f y) m x late turns base run step at l low sm n (subst (λ (w : Effect). driver_after w d x ≡ x) g.1 (ap (λ b. cond b (list_desk k.0 y) x) n)))
+      (same_or d f)
 
   sim_failed : (q : ℕ) (o : OpenCause) (m : Effect) (x : DriverState) (late turns : List ℕ) (base : ℕ) → Runs (ev.OpenFailed q o) m x late turns base
   sim_failed q o m x late turns base run step rest at l low sm =
       let a = at_both_is c q (fail_at c q o) m run in
       let g = given_is (is_off a.state && (is_unasked (a.row).state && (none_below c a.driver q && is_good_opening o))) (Moves q (path.Heard (heard_opening o))) m a.holds in
       ⊎_elim
-        (λ (i : (d ≡ a.driver) × ((d == a.driver) ≡ true)).
-            let t = and_parts _ _ g.0 in
-            let u = and_parts _ _ t.1 in
-            let v = and_parts _ _ u.1 in
-            let off : x ≡ driver.Off = same_desk c d x a.state at (ap (λ j. slice_get c.drivers j) i.0 ∙ a.desk) ∙ off_is a.state t.0 in
-            let st : (a.row).start ≡ Desk d a.required = a.begun ∙ ap (λ j. Desk j a.required) (sym i.0) in
-            let below : none_of d is_unasked (take q c.paths) ≡ true = ap (λ j. none_of j is_unasked (take q c.paths)) i.0 ∙ v.0 in
-            let go : Runs (ev.OpenFailed q o) (Moves q (path.Heard (heard_opening o))) driver.Off late turns base = (λ run step rest at l low sm. note_failed q o a.row a.required late turns base run step rest at a.there st u.0 below v.1 (near_note q a.row a.driver a.required a.there a.begun i.1) l) in
-            subst (λ (y : DriverState). Runs (ev.OpenFailed q o) m y late turns base) (sym off)
-              (subst (λ (w : Effect). Runs (ev.OpenFailed q o) w driver.Off late turns base) g.1 go)
-              run step rest at l low sm)
-        (λ (n : (d == a.driver) ≡ false). quiet (ev.OpenFailed q o) m x late turns base run step at l low sm (far_note q a.row a.driver a.required a.there a.begun n) (subst (λ (w : Effect). driver_after w d x ≡ x) g.1 refl))
-        (same_or d a.driver)
+      (λ (i : (d ≡ a.driver) × ((d == a.driver) ≡ true)).
+      let t = and_parts _ _ g.0 in
+      let u = and_parts _ _ t.1 in
+      let v = and_parts _ _ u.1 in
+      let off : x ≡ driver.Off = same_desk c d x a.state at (ap (λ j. slice_get c.drivers j) i.0 ∙ a.desk) ∙ off_is a.state t.0 in
+      let st : (a.row).start ≡ Desk d a.required = a.begun ∙ ap (λ j. Desk j a.required) (sym i.0) in
+      let below : none_of d is_unasked (take q c.paths) ≡ true = ap (λ j. none_of j is_unasked (take q c.paths)) i.0 ∙ v.0 in
+      let go : Runs (ev.OpenFailed q o) (Moves q (path.Heard (heard_opening o))) driver.Off late turns base = (λ run step rest at l low sm. note_failed q o a.row a.required late turns base run step rest at a.there st u.0 below v.1 (near_note q a.row a.driver a.required a.there a.begun i.1) l) in
+      subst (λ (y : DriverState). Runs (ev.OpenFailed q o) m y late turns base) (sym off)
+      (subst (λ (w : Effect). Runs (ev.OpenFailed q o) w driver.Off late turns base) g.1 go)
+      run step rest at l low sm)
+      (λ (n : (d == a.driver) ≡ false). quiet (ev.OpenFailed q o) m x late turns base run step at l low sm (far_note q a.row a.driver a.required a.there a.begun n) (subst (λ (w : Effect). driver_after w d x ≡ x) g.1 refl))
+      (same_or d a.driver)
 
   sim_answered : (q : ℕ) (y : Reply) (m : Effect) (x : DriverState) (late turns : List ℕ) (base : ℕ) → Runs (ev.Answered q y) m x late turns base
   sim_answered q y m x late turns base run step rest at l low sm =
@@ -672,19 +681,19 @@ module _ (starts : List Start) (c z : Core) (es : List Event) (d : ℕ) (good : 
       let k = at_session_is a.state (λ s. answer_in c q y (a.row).state a.driver s) m a.holds in
       let g = given_is _ (replied q a.driver k.0 y) m k.2 in
       ⊎_elim
-        (λ (i : (d ≡ a.driver) × ((d == a.driver) ≡ true)).
-            let t = and_parts _ _ g.0 in
-            let u = and_parts _ _ t.1 in
-            let v = and_parts _ _ u.1 in
-            let on : x ≡ driver.On k.0 = same_desk c d x a.state at (ap (λ j. slice_get c.drivers j) i.0 ∙ a.desk) ∙ k.1 in
-            let st : (a.row).start ≡ Desk d a.required = a.begun ∙ ap (λ j. Desk j a.required) (sym i.0) in
-            let below : none_of d is_unasked (take q c.paths) ≡ true = ap (λ j. none_of j is_unasked (take q c.paths)) i.0 ∙ v.0 in
-            let go : Runs (ev.Answered q y) (replied q d k.0 y) (driver.On k.0) late turns base = (λ run step rest at l low sm. note_answered q y a.row a.required k.0 late turns base run step rest at a.there st t.0 u.0 below v.1 (near_note q a.row a.driver a.required a.there a.begun i.1) l low) in
-            subst (λ (v : DriverState). Runs (ev.Answered q y) m v late turns base) (sym on)
-              (subst (λ (w : Effect). Runs (ev.Answered q y) w (driver.On k.0) late turns base) (ap (λ j. replied q j k.0 y) i.0 ∙ g.1) go)
-              run step rest at l low sm)
-        (λ (n : (d == a.driver) ≡ false). quiet (ev.Answered q y) m x late turns base run step at l low sm (far_note q a.row a.driver a.required a.there a.begun n) (subst (λ (w : Effect). driver_after w d x ≡ x) g.1 (ap (λ b. cond b (replied_desk k.0 y) x) n)))
-        (same_or d a.driver)
+      (λ (i : (d ≡ a.driver) × ((d == a.driver) ≡ true)).
+      let t = and_parts _ _ g.0 in
+      let u = and_parts _ _ t.1 in
+      let v = and_parts _ _ u.1 in
+      let on : x ≡ driver.On k.0 = same_desk c d x a.state at (ap (λ j. slice_get c.drivers j) i.0 ∙ a.desk) ∙ k.1 in
+      let st : (a.row).start ≡ Desk d a.required = a.begun ∙ ap (λ j. Desk j a.required) (sym i.0) in
+      let below : none_of d is_unasked (take q c.paths) ≡ true = ap (λ j. none_of j is_unasked (take q c.paths)) i.0 ∙ v.0 in
+      let go : Runs (ev.Answered q y) (replied q d k.0 y) (driver.On k.0) late turns base = (λ run step rest at l low sm. note_answered q y a.row a.required k.0 late turns base run step rest at a.there st t.0 u.0 below v.1 (near_note q a.row a.driver a.required a.there a.begun i.1) l low) in
+      subst (λ (v : DriverState). Runs (ev.Answered q y) m v late turns base) (sym on)
+      (subst (λ (w : Effect). Runs (ev.Answered q y) w (driver.On k.0) late turns base) (ap (λ j. replied q j k.0 y) i.0 ∙ g.1) go)
+      run step rest at l low sm)
+      (λ (n : (d == a.driver) ≡ false). quiet (ev.Answered q y) m x late turns base run step at l low sm (far_note q a.row a.driver a.required a.there a.begun n) (subst (λ (w : Effect). driver_after w d x ≡ x) g.1 (ap (λ b. cond b (replied_desk k.0 y) x) n)))
+      (same_or d a.driver)
 
   sim_redone : (q : ℕ) (y : Reply) (m : Effect) (x : DriverState) (late turns : List ℕ) (base : ℕ) → Runs (ev.Redone q y) m x late turns base
   sim_redone q y m x late turns base run step rest at l low sm =
@@ -692,17 +701,17 @@ module _ (starts : List Start) (c z : Core) (es : List Event) (d : ℕ) (good : 
       let k = at_session_is a.state (λ s. redo c q y a.driver s (a.row).state) m a.holds in
       let g = redo_is c q y a.driver k.0 (a.row).state m k.2 in
       ⊎_elim
-        (λ (i : (d ≡ a.driver) × ((d == a.driver) ≡ true)).
-            let on : x ≡ driver.On k.0 = same_desk c d x a.state at (ap (λ j. slice_get c.drivers j) i.0 ∙ a.desk) ∙ k.1 in
-            let st : (a.row).start ≡ Desk d a.required = a.begun ∙ ap (λ j. Desk j a.required) (sym i.0) in
-            let ok : (not k.0.naming && (not (is_delay y) && (is_good_reply y && none_of d (is_named_below g.0) c.paths))) ≡ true = ap (λ j. not k.0.naming && (not (is_delay y) && (is_good_reply y && none_of j (is_named_below g.0) c.paths))) i.0 ∙ g.2 in
-            let below : none_of d (is_named_below g.0) c.paths ≡ true = last_of (not k.0.naming) (not (is_delay y)) (is_good_reply y) (none_of d (is_named_below g.0) c.paths) ok in
-            let go : Runs (ev.Redone q y) (replied q d k.0 y) (driver.On k.0) late turns base = (λ run step rest at l low sm. note_redone q y a.row a.required k.0 g.0 late turns base run step at a.there st g.1 ok below (near_note q a.row a.driver a.required a.there a.begun i.1) l low) in
-            subst (λ (v : DriverState). Runs (ev.Redone q y) m v late turns base) (sym on)
-              (subst (λ (w : Effect). Runs (ev.Redone q y) w (driver.On k.0) late turns base) (ap (λ j. replied q j k.0 y) i.0 ∙ g.3) go)
-              run step rest at l low sm)
-        (λ (n : (d == a.driver) ≡ false). quiet (ev.Redone q y) m x late turns base run step at l low sm (far_note q a.row a.driver a.required a.there a.begun n) (subst (λ (w : Effect). driver_after w d x ≡ x) g.3 (ap (λ b. cond b (replied_desk k.0 y) x) n)))
-        (same_or d a.driver)
+      (λ (i : (d ≡ a.driver) × ((d == a.driver) ≡ true)).
+      let on : x ≡ driver.On k.0 = same_desk c d x a.state at (ap (λ j. slice_get c.drivers j) i.0 ∙ a.desk) ∙ k.1 in
+      let st : (a.row).start ≡ Desk d a.required = a.begun ∙ ap (λ j. Desk j a.required) (sym i.0) in
+      let ok : (not k.0.naming && (not (is_delay y) && (is_good_reply y && none_of d (is_named_below g.0) c.paths))) ≡ true = ap (λ j. not k.0.naming && (not (is_delay y) && (is_good_reply y && none_of j (is_named_below g.0) c.paths))) i.0 ∙ g.2 in
+      let below : none_of d (is_named_below g.0) c.paths ≡ true = last_of (not k.0.naming) (not (is_delay y)) (is_good_reply y) (none_of d (is_named_below g.0) c.paths) ok in
+      let go : Runs (ev.Redone q y) (replied q d k.0 y) (driver.On k.0) late turns base = (λ run step rest at l low sm. note_redone q y a.row a.required k.0 g.0 late turns base run step at a.there st g.1 ok below (near_note q a.row a.driver a.required a.there a.begun i.1) l low) in
+      subst (λ (v : DriverState). Runs (ev.Redone q y) m v late turns base) (sym on)
+      (subst (λ (w : Effect). Runs (ev.Redone q y) w (driver.On k.0) late turns base) (ap (λ j. replied q j k.0 y) i.0 ∙ g.3) go)
+      run step rest at l low sm)
+      (λ (n : (d == a.driver) ≡ false). quiet (ev.Redone q y) m x late turns base run step at l low sm (far_note q a.row a.driver a.required a.there a.begun n) (subst (λ (w : Effect). driver_after w d x ≡ x) g.3 (ap (λ b. cond b (replied_desk k.0 y) x) n)))
+      (same_or d a.driver)
 
   sim_named : (q : ℕ) (m : Effect) (x : DriverState) (late turns : List ℕ) (base : ℕ) → Runs (ev.Named q) m x late turns base
   sim_named q m x late turns base run step rest at l low sm =
@@ -710,19 +719,19 @@ module _ (starts : List Start) (c z : Core) (es : List Event) (d : ℕ) (good : 
       let k = at_session_is a.state (λ s. name_in c q (a.row).state a.driver s) m a.holds in
       let g = given_is _ (Both q (path.Named (named_count a.driver c.paths)) a.driver (driver.On (named k.0)) Keep) m k.2 in
       ⊎_elim
-        (λ (i : (d ≡ a.driver) × ((d == a.driver) ≡ true)).
-            let on : x ≡ driver.On k.0 = same_desk c d x a.state at (ap (λ j. slice_get c.drivers j) i.0 ∙ a.desk) ∙ k.1 in
-            let st : (a.row).start ≡ Desk d a.required = a.begun ∙ ap (λ j. Desk j a.required) (sym i.0) in
-            let ok : (k.0.had && (none_of d is_unasked c.paths && (is_delayed (a.row).state && not (not k.0.naming && not (none_of d is_named c.paths))))) ≡ true = ap (λ j. k.0.had && (none_of j is_unasked c.paths && (is_delayed (a.row).state && not (not k.0.naming && not (none_of j is_named c.paths))))) i.0 ∙ g.0 in
-            let t = and_parts _ _ ok in
-            let u = and_parts _ _ t.1 in
-            let v = and_parts _ _ u.1 in
-            let go : Runs (ev.Named q) (Both q (path.Named (named_count d c.paths)) d (driver.On (named k.0)) Keep) (driver.On k.0) late turns base = (λ run step rest at l low sm. note_named q a.row a.required k.0 late turns base run step at a.there st t.0 u.0 v.0 v.1 (near_note q a.row a.driver a.required a.there a.begun i.1) l low) in
-            subst (λ (v : DriverState). Runs (ev.Named q) m v late turns base) (sym on)
-              (subst (λ (w : Effect). Runs (ev.Named q) w (driver.On k.0) late turns base) (ap (λ j. Both q (path.Named (named_count j c.paths)) j (driver.On (named k.0)) Keep) i.0 ∙ g.1) go)
-              run step rest at l low sm)
-        (λ (n : (d == a.driver) ≡ false). quiet (ev.Named q) m x late turns base run step at l low sm (far_note q a.row a.driver a.required a.there a.begun n) (subst (λ (w : Effect). driver_after w d x ≡ x) g.1 (ap (λ b. cond b (driver.On (named k.0)) x) n)))
-        (same_or d a.driver)
+      (λ (i : (d ≡ a.driver) × ((d == a.driver) ≡ true)).
+      let on : x ≡ driver.On k.0 = same_desk c d x a.state at (ap (λ j. slice_get c.drivers j) i.0 ∙ a.desk) ∙ k.1 in
+      let st : (a.row).start ≡ Desk d a.required = a.begun ∙ ap (λ j. Desk j a.required) (sym i.0) in
+      let ok : (k.0.had && (none_of d is_unasked c.paths && (is_delayed (a.row).state && not (not k.0.naming && not (none_of d is_named c.paths))))) ≡ true = ap (λ j. k.0.had && (none_of j is_unasked c.paths && (is_delayed (a.row).state && not (not k.0.naming && not (none_of j is_named c.paths))))) i.0 ∙ g.0 in
+      let t = and_parts _ _ ok in
+      let u = and_parts _ _ t.1 in
+      let v = and_parts _ _ u.1 in
+      let go : Runs (ev.Named q) (Both q (path.Named (named_count d c.paths)) d (driver.On (named k.0)) Keep) (driver.On k.0) late turns base = (λ run step rest at l low sm. note_named q a.row a.required k.0 late turns base run step at a.there st t.0 u.0 v.0 v.1 (near_note q a.row a.driver a.required a.there a.begun i.1) l low) in
+      subst (λ (v : DriverState). Runs (ev.Named q) m v late turns base) (sym on)
+      (subst (λ (w : Effect). Runs (ev.Named q) w (driver.On k.0) late turns base) (ap (λ j. Both q (path.Named (named_count j c.paths)) j (driver.On (named k.0)) Keep) i.0 ∙ g.1) go)
+      run step rest at l low sm)
+      (λ (n : (d == a.driver) ≡ false). quiet (ev.Named q) m x late turns base run step at l low sm (far_note q a.row a.driver a.required a.there a.begun n) (subst (λ (w : Effect). driver_after w d x ≡ x) g.1 (ap (λ b. cond b (driver.On (named k.0)) x) n)))
+      (same_or d a.driver)
 
   sim_step : (e : Event) (m : Effect) (x : DriverState) (late turns : List ℕ) (base : ℕ) → Runs e m x late turns base
   sim_step (ev.Claim q a) m x late turns base = sim_claim q a m x late turns base
@@ -749,14 +758,14 @@ sim starts c z (e ∷ es) d x late turns base good run at l low sm =
     let rest : replay (after c m.0) es ≡ Some z = subst (λ (k : Core). replay k es ≡ Some z) (sym m.2) f.2 in
     let o = sim_step starts c z es d good e m.0 x late turns base m.1 step rest at l low sm in
     talk_on (is_note starts d e) (talk_at x (talk_paths c d (e ∷ es)) late turns) (talk_at (driver_after m.0 d x) (talk_paths (after c m.0) d es) o.late1 o.turns1) e (notes starts d es) o.moves
-      (sim starts (after c m.0) z es d (driver_after m.0 d x) o.late1 o.turns1 o.base1 (good_step starts c e m.0 good m.1) rest (get_each (driver_after m.0) c.drivers d x at) o.lists o.low o.smudged)
+    (sim starts (after c m.0) z es d (driver_after m.0 d x) o.late1 o.turns1 o.base1 (good_step starts c e m.0 good m.1) rest (get_each (driver_after m.0) c.drivers d x at) o.lists o.low o.smudged)
 
 pub notes_talk : (starts : List Start) (workers drivers : ℕ) (history : List Event) (x : Core) (d : ℕ) → AreBelow drivers starts → d < drivers → replay (start starts workers drivers) history ≡ Some x → is_talk (Between (talk_paths (start starts workers drivers) d history)) (notes starts d history) ≡ true
 notes_talk starts workers drivers history x d below there_d run =
     sim starts (start starts workers drivers) x history d driver.Off [] [] 0 (good_start starts workers drivers below) run (get_offs drivers d there_d)
-      (lists_none (start starts workers drivers).paths d (λ p r i at. let k = map_get starts p r i in ap (λ (z : Path). shadow z.state) (sym k.2) ∙ begins_shadow k.0))
-      (λ k on naming. refl)
-      (λ k on h. absurd (cc (on)))
+    (lists_none (start starts workers drivers).paths d (λ p r i at. let k = map_get starts p r i in ap (λ (z : Path). shadow z.state) (sym k.2) ∙ begins_shadow k.0))
+    (λ k on naming. refl)
+    (λ k on h. absurd (cc (on)))
   where
     begins_shadow : (s : Start) → shadow (begins s) ≡ Unasked
     begins_shadow Pool = refl

@@ -52,8 +52,8 @@ module _ (c : Core) (p : ℕ) (r : Path) (there : slice_get c.paths p ≡ Some r
   elsewhere : (q : ℕ) (f : Path → ℕ → Bool → DriverState → Option Effect) (m : Effect) → AtBoth c q f m → (p == q) ≡ false
   elsewhere q f m a = ⊎_elim
       (λ (h : (p ≡ q) × ((p == q) ≡ true)).
-          let row : a.row ≡ r = same_row c p a.row r (ap (λ k. slice_get c.paths k) h.0 ∙ a.there) there in
-          absurd (not_plain r.start a.driver a.required (ap (λ (z : Path). z.start) (sym row) ∙ a.begun) plain))
+      let row : a.row ≡ r = same_row c p a.row r (ap (λ k. slice_get c.paths k) h.0 ∙ a.there) there in
+      absurd (not_plain r.start a.driver a.required (ap (λ (z : Path). z.start) (sym row) ∙ a.begun) plain))
       (λ (h : (p == q) ≡ false). h)
       (same_or p q)
 
@@ -75,32 +75,33 @@ module _ (c : Core) (p : ℕ) (r : Path) (there : slice_get c.paths p ≡ Some r
       let b = cond_is _ (claim q a (at.row).state) m at.holds in
       let k = claim_is q a (at.row).state m b.1 in
       subst (λ (z : Effect). PlainSeen (ev.Claim q a) z) k.2
-        (⊎_elim
-          (λ (i : (p ≡ q) × ((p == q) ≡ true)).
-              let row : at.row ≡ r = same_row c p at.row r (ap (λ k. slice_get c.paths k) i.0 ∙ at.there) there in
-              Taken a k.0 (ap (λ (z : Path). z.state) (sym row) ∙ k.1) (ap (λ (b : Bool). cond b (Held a k.0) r.state) i.1) (ap (λ k. ev.Claim k a) (sym i.0)))
-          (λ (n : (p == q) ≡ false). Stays (moved q (Held a k.0) n) (λ o. refl) n)
-          (same_or p q))
+      (⊎_elim
+      (λ (i : (p ≡ q) × ((p == q) ≡ true)).
+      let row : at.row ≡ r = same_row c p at.row r (ap (λ k. slice_get c.paths k) i.0 ∙ at.there) there in
+      Taken a k.0 (ap (λ (z : Path). z.state) (sym row) ∙ k.1) (ap (λ (b : Bool). cond b (Held a k.0) r.state) i.1) (ap (λ k. ev.Claim k a) (sym i.0)))
+      (λ (n : (p == q) ≡ false). Stays (moved q (Held a k.0) n) (λ o. refl) n)
+      (same_or p q))
   plain_see (ev.Close q a o) m h =
       let at = at_path_is c q (λ r. close_at c q a o r r.state) m h in
       ⊎_elim
-        (λ (i : (p ≡ q) × ((p == q) ≡ true)).
-            let row : at.row ≡ r = same_row c p at.row r (ap (λ k. slice_get c.paths k) i.0 ∙ at.there) there in
-            go i.0 i.1 (r.state) refl (subst (λ (z : Path). close_at c q a o z z.state ≡ Some m) row at.holds))
-        (λ (n : (p == q) ≡ false).
-            let k = close_moves c q a o at.row (at.row).state m at.holds in
-            subst (λ (z : Effect). PlainSeen (ev.Close q a o) z) k.1 (Stays (moved q (Closed k.0) n) (λ z. ap (λ (b : Bool). cond b (Some o) z) n) n))
-        (same_or p q)
+      (λ (i : (p ≡ q) × ((p == q) ≡ true)).
+      let row : at.row ≡ r = same_row c p at.row r (ap (λ k. slice_get c.paths k) i.0 ∙ at.there) there in
+      go i.0 i.1 (r.state) refl (subst (λ (z : Path). close_at c q a o z z.state ≡ Some m) row at.holds))
+      (λ (n : (p == q) ≡ false).
+      let k = close_moves c q a o at.row (at.row).state m at.holds in
+      subst (λ (z : Effect). PlainSeen (ev.Close q a o) z) k.1 (Stays (moved q (Closed k.0) n) (λ z. ap (λ (b : Bool). cond b (Some o) z) n) n))
+      (same_or p q)
     where
       no_desk : (f : Bool → DriverState → Option Verdict) → desk_close c q a o r f ≡ Some m → ⊥
       no_desk f e = let k = of_driver_is r.start (λ d required. at_driver c d (λ x. cond (a == c.workers + d) (closing q (f required x)) None)) m e in not_plain r.start k.0 k.1 k.2 plain
+
       go : p ≡ q → (p == q) ≡ true → (s : PathState) → r.state ≡ s → close_at c q a o r s ≡ Some m → PlainSeen (ev.Close q a o) m
       go pq hit (Held b raw) is e =
           let u = cond_is (a == b) (closing q (held_close raw o)) m e in
           let k = closing_is q (held_close raw o) m u.1 in
           let mine : a ≡ b = ⊎_elim (λ (h : (a ≡ b) × ((a == b) ≡ true)). h.0) (λ (h : (a == b) ≡ false). absurd (let y = u.0 in cc (h, y))) (same_or a b) in
           subst (λ (z : Effect). PlainSeen (ev.Close q a o) z) k.2
-            (Ends a o raw k.0 (is ∙ ap (λ z. Held z raw) (sym mine)) k.1 (ap (λ (b : Bool). cond b (Closed k.0) r.state) hit) (ap (λ k. ev.Close k a o) (sym pq)))
+          (Ends a o raw k.0 (is ∙ ap (λ z. Held z raw) (sym mine)) k.1 (ap (λ (b : Bool). cond b (Closed k.0) r.state) hit) (ap (λ k. ev.Close k a o) (sym pq)))
       go pq hit (path.Heard t) is e = absurd (no_desk (λ required x. heard_close required t o) e)
       go pq hit Unasked is e = absurd (no_desk (λ required x. unasked_close required x q o) e)
       go pq hit (Waiting raw) is e = none_is_some e
@@ -224,19 +225,20 @@ offs_get (suc n) (suc d) x e = offs_get n d x e
 
 pub good_start : (starts : List Start) (workers drivers : ℕ) → AreBelow drivers starts → Good starts (start starts workers drivers)
 good_start starts workers drivers below = record {
-    begun = λ q r i. let k = map_get starts q r i in k.1 ∙ ap (λ (z : Path). Some z.start) k.2;
-    seated = λ q r d b i j. let k = map_get starts q r i in (driver.Off, get_offs drivers d (below q d b (k.1 ∙ ap (λ z. Some z) (ap (λ (z : Path). z.start) k.2 ∙ j))));
-    kept = record {
-      sane = λ q r d b x i j l. let k = map_get starts q r i in subst (λ (z : Path). is_sane x z.state ≡ true) k.2 (sane_begins x k.0);
-      low = λ q r d b k i j l u. absurd (let z = offs_get drivers d (driver.On k) l in cc (z));
-      apart = λ q r p w d b a t i j st pi pj. absurd (let k = map_get starts q r i in no_listing k.0 t (ap (λ (z : Path). z.state) k.2 ∙ st));
-    };
-  }
+  begun = λ q r i. let k = map_get starts q r i in k.1 ∙ ap (λ (z : Path). Some z.start) k.2;
+  seated = λ q r d b i j. let k = map_get starts q r i in (driver.Off, get_offs drivers d (below q d b (k.1 ∙ ap (λ z. Some z) (ap (λ (z : Path). z.start) k.2 ∙ j))));
+  kept = record {
+    sane = λ q r d b x i j l. let k = map_get starts q r i in subst (λ (z : Path). is_sane x z.state ≡ true) k.2 (sane_begins x k.0);
+    low = λ q r d b k i j l u. absurd (let z = offs_get drivers d (driver.On k) l in cc (z));
+    apart = λ q r p w d b a t i j st pi pj. absurd (let k = map_get starts q r i in no_listing k.0 t (ap (λ (z : Path). z.state) k.2 ∙ st));
+  };
+}
   where
     no_listing : (s : Start) (t : ℕ) → begins s ≡ path.Named t → ⊥
     no_listing Pool t e = cc (e)
     no_listing (Desk d b) t e = cc (e)
     no_listing (Done v) t e = cc (e)
+
     sane_begins : (x : DriverState) (s : Start) → is_sane x (begins s) ≡ true
     sane_begins x Pool = refl
     sane_begins x (Desk d b) = refl

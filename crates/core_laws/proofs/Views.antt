@@ -167,6 +167,7 @@ lowest_says d (x ∷ xs) f p r e g i u = go (λ k p l g. lowest_says d xs k p r 
     rest ih0 (Some k) (suc p) g n l a =
         let is : suc k ≡ f = cc (a) in
         let ih : k ≤ p = ih0 k p l g in omega arith
+
     go : ((k p : ℕ) → lowest_unasked d xs ≡ Some k → slice_get xs p ≡ Some r → k ≤ p) → (b : Bool) → (is_at d x.start && is_unasked x.state) ≡ b → cond b (Some zero) (add_one (lowest_unasked d xs)) ≡ Some f → f ≤ p
     go ih0 true n e = let is : zero ≡ f = cc (e) in omega arith
     go ih0 false n e = rest ih0 (lowest_unasked d xs) p g n refl e
@@ -186,27 +187,27 @@ eqb_swap d e n = ⊎_elim (λ (h : (e ≡ d) × ((e == d) ≡ true)). absurd (le
 meets : (starts : List Start) (c : Core) (p d : ℕ) (required : Bool) (r : Path) (x : DriverState) (q : ℕ) (f : Path → ℕ → Bool → DriverState → Option Effect) (m : Effect) → Scene starts c p d required r x → AtBoth c q f m → Meets starts c p d required r x q f m
 meets starts c p d required r x q f m g a = ⊎_elim
     (λ (same : (d ≡ a.driver) × ((d == a.driver) ≡ true)).
-        let desk : a.state ≡ x = same_desk c d a.state x (ap (λ k. slice_get c.drivers k) same.0 ∙ a.desk) g.desk in
-        let begun : (a.row).start ≡ Desk d a.required = a.begun ∙ ap (λ k. Desk k a.required) (sym same.0) in
-        let note : is_of starts d q ≡ true = is_of_is starts d q (a.row).start (g.begun q a.row a.there) ∙ at_it d a.required (a.row).start begun in
-        let holds : f a.row d a.required x ≡ Some m = subst (λ (z : DriverState). f a.row d a.required z ≡ Some m) desk (subst (λ (k : ℕ). f a.row k a.required a.state ≡ Some m) (sym same.0) a.holds) in
-        ⊎_elim
-        (λ (h : (p ≡ q) × ((p == q) ≡ true)).
-            let row : a.row ≡ r = same_row c p a.row r (ap (λ k. slice_get c.paths k) h.0 ∙ a.there) g.row in
-            let req : a.required ≡ required = required_is d d a.required required (sym begun ∙ (ap (λ (z : Path). z.start) row ∙ g.start)) in
-            Here h.0 note (subst (λ (z : Bool). f r d z x ≡ Some m) req (subst (λ (z : Path). f z d a.required x ≡ Some m) row holds)))
-        (λ (h : (p == q) ≡ false). There a.row a.required h note a.there begun holds)
-        (same_or p q))
+    let desk : a.state ≡ x = same_desk c d a.state x (ap (λ k. slice_get c.drivers k) same.0 ∙ a.desk) g.desk in
+    let begun : (a.row).start ≡ Desk d a.required = a.begun ∙ ap (λ k. Desk k a.required) (sym same.0) in
+    let note : is_of starts d q ≡ true = is_of_is starts d q (a.row).start (g.begun q a.row a.there) ∙ at_it d a.required (a.row).start begun in
+    let holds : f a.row d a.required x ≡ Some m = subst (λ (z : DriverState). f a.row d a.required z ≡ Some m) desk (subst (λ (k : ℕ). f a.row k a.required a.state ≡ Some m) (sym same.0) a.holds) in
+    ⊎_elim
+    (λ (h : (p ≡ q) × ((p == q) ≡ true)).
+    let row : a.row ≡ r = same_row c p a.row r (ap (λ k. slice_get c.paths k) h.0 ∙ a.there) g.row in
+    let req : a.required ≡ required = required_is d d a.required required (sym begun ∙ (ap (λ (z : Path). z.start) row ∙ g.start)) in
+    Here h.0 note (subst (λ (z : Bool). f r d z x ≡ Some m) req (subst (λ (z : Path). f z d a.required x ≡ Some m) row holds)))
+    (λ (h : (p == q) ≡ false). There a.row a.required h note a.there begun holds)
+    (same_or p q))
     (λ (other : (d == a.driver) ≡ false).
-        let note : is_of starts d q ≡ false = is_of_is starts d q (a.row).start (g.begun q a.row a.there) ∙ (ap (is_at d) a.begun ∙ other) in
-        let apart : (p == q) ≡ false = ⊎_elim
-            (λ (h : (p ≡ q) × ((p == q) ≡ true)). absurd (
-                let row : a.row ≡ r = same_row c p a.row r (ap (λ k. slice_get c.paths k) h.0 ∙ a.there) g.row in
-                let one : a.driver ≡ d = desk_is a.driver d a.required required (sym a.begun ∙ (ap (λ (z : Path). z.start) row ∙ g.start)) in
-                let yes : (d == a.driver) ≡ true = eq-eqb d a.driver (sym one) in cc (yes, other)))
-            (λ (h : (p == q) ≡ false). h)
-            (same_or p q) in
-        Apart a.row a.driver a.required a.state apart other (eqb_swap d a.driver other) note a.holds)
+    let note : is_of starts d q ≡ false = is_of_is starts d q (a.row).start (g.begun q a.row a.there) ∙ (ap (is_at d) a.begun ∙ other) in
+    let apart : (p == q) ≡ false = ⊎_elim
+    (λ (h : (p ≡ q) × ((p == q) ≡ true)). absurd (
+    let row : a.row ≡ r = same_row c p a.row r (ap (λ k. slice_get c.paths k) h.0 ∙ a.there) g.row in
+    let one : a.driver ≡ d = desk_is a.driver d a.required required (sym a.begun ∙ (ap (λ (z : Path). z.start) row ∙ g.start)) in
+    let yes : (d == a.driver) ≡ true = eq-eqb d a.driver (sym one) in cc (yes, other)))
+    (λ (h : (p == q) ≡ false). h)
+    (same_or p q) in
+    Apart a.row a.driver a.required a.state apart other (eqb_swap d a.driver other) note a.holds)
     (same_or d a.driver)
 
 desk_close_is : (c : Core) (p d : ℕ) (required : Bool) (r : Path) (x : DriverState) (q a : ℕ) (o : Own) (f : Bool → DriverState → Option Verdict) (m : Effect) → r.start ≡ Desk d required → slice_get c.drivers d ≡ Some x → desk_close c q a o r f ≡ Some m → (v : Verdict) × (f required x ≡ Some v) × (Moves q (Closed v) ≡ m)
@@ -242,18 +243,18 @@ module _ (starts : List Start) (c : Core) (p d : ℕ) (required : Bool) (r : Pat
           let t = and_parts _ _ b.0 in
           let u = and_parts _ _ t.1 in
           subst (λ (z : Effect). Seen starts p d required r x (ev.Answered q y) z) b.1
-            (IsAnswered y a.0 note a.1 t.0 (unasked_is r.state u.0) (desk_same d d (replied_desk a.0 y) x true (eqb_self d)) (here p q (replied_state y) d (replied_desk a.0 y) (replied_sweep y) r (eq-eqb p q pq)) (ap (λ k. ev.Answered k y) (sym pq)))
+          (IsAnswered y a.0 note a.1 t.0 (unasked_is r.state u.0) (desk_same d d (replied_desk a.0 y) x true (eqb_self d)) (here p q (replied_state y) d (replied_desk a.0 y) (replied_sweep y) r (eq-eqb p q pq)) (ap (λ k. ev.Answered k y) (sym pq)))
       go (There w b0 pq note there_q start_q holds) =
           let a = at_session_is x (λ s. answer_in c q y w.state d s) m holds in
           let b = given_is _ (replied q d a.0 y) m a.2 in
           let t = and_parts _ _ b.0 in
           subst (λ (z : Effect). Seen starts p d required r x (ev.Answered q y) z) b.1
-            (OtherAnswered q y a.0 (λ un. below_says d q c.paths p r ((and_parts _ _ ((and_parts _ _ t.1).1)).0) g.row (at_it d required r.start g.start) un (λ e. let z : (p == q) ≡ true = eq-eqb p q e in cc (z, pq))) (kept.low q w d b0 a.0 there_q start_q (g.desk ∙ ap (λ z. Some z) a.1) ((and_parts _ _ t.1).0)) pq note a.1 t.0 (desk_same d d (replied_desk a.0 y) x true (eqb_self d)) (there p q (replied_state y) d (replied_desk a.0 y) (replied_sweep y) r true pq (at_it d required r.start g.start)) refl)
+          (OtherAnswered q y a.0 (λ un. below_says d q c.paths p r ((and_parts _ _ ((and_parts _ _ t.1).1)).0) g.row (at_it d required r.start g.start) un (λ e. let z : (p == q) ≡ true = eq-eqb p q e in cc (z, pq))) (kept.low q w d b0 a.0 there_q start_q (g.desk ∙ ap (λ z. Some z) a.1) ((and_parts _ _ t.1).0)) pq note a.1 t.0 (desk_same d d (replied_desk a.0 y) x true (eqb_self d)) (there p q (replied_state y) d (replied_desk a.0 y) (replied_sweep y) r true pq (at_it d required r.start g.start)) refl)
       go (Apart w e b0 z pq de ed note holds) =
           let a = at_session_is z (λ s. answer_in c q y w.state e s) m holds in
           let b = given_is _ (replied q e a.0 y) m a.2 in
           subst (λ (z : Effect). Seen starts p d required r x (ev.Answered q y) z) b.1
-            (apart_both q (replied_state y) e (replied_desk a.0 y) (replied_sweep y) (ev.Answered q y) pq de ed note (λ o. refl) pq)
+          (apart_both q (replied_state y) e (replied_desk a.0 y) (replied_sweep y) (ev.Answered q y) pq de ed note (λ o. refl) pq)
 
   see_redone : Kept c → (q : ℕ) (y : Reply) (m : Effect) → effect_of c (ev.Redone q y) ≡ Some m → Seen starts p d required r x (ev.Redone q y) m
   see_redone kept q y m h = go (meets starts c p d required r x q (redo_at c q y) m g (at_both_is c q (redo_at c q y) m h))
@@ -265,7 +266,7 @@ module _ (starts : List Start) (c : Core) (p d : ℕ) (required : Bool) (r : Pat
           let t = and_parts _ _ b.2 in
           let u = and_parts _ _ t.1 in
           subst (λ (z : Effect). Seen starts p d required r x (ev.Redone q y) z) b.3
-            (IsRedone y a.0 b.0 note a.1 b.1 (not_false _ u.0) (desk_same d d (replied_desk a.0 y) x true (eqb_self d)) (here p q (replied_state y) d (replied_desk a.0 y) (replied_sweep y) r (eq-eqb p q pq)) (ap (λ k. ev.Redone k y) (sym pq)))
+          (IsRedone y a.0 b.0 note a.1 b.1 (not_false _ u.0) (desk_same d d (replied_desk a.0 y) x true (eqb_self d)) (here p q (replied_state y) d (replied_desk a.0 y) (replied_sweep y) r (eq-eqb p q pq)) (ap (λ k. ev.Redone k y) (sym pq)))
       go (There w b0 pq note there_q start_q holds) =
           let a = at_session_is x (λ s. redo c q y d s w.state) m holds in
           let b = redo_is c q y d a.0 w.state m a.2 in
@@ -273,12 +274,12 @@ module _ (starts : List Start) (c : Core) (p d : ℕ) (required : Bool) (r : Pat
           let u = and_parts _ _ t.1 in
           let ok : (a.0.caps.smudge && a.0.had) ≡ true = subst (λ (z : DriverState). is_sane z (path.Named b.0) ≡ true) a.1 (subst (λ (z : PathState). is_sane x z ≡ true) b.1 (kept.sane q w d b0 x there_q start_q g.desk)) in
           subst (λ (z : Effect). Seen starts p d required r x (ev.Redone q y) z) b.3
-            (OtherRedone q y a.0 (kept.apart q w p r d b0 required b.0 there_q start_q b.1 g.row g.start) pq (not_false _ u.0) note a.1 (desk_same d d (replied_desk a.0 y) x true (eqb_self d)) (there p q (replied_state y) d (replied_desk a.0 y) (replied_sweep y) r true pq (at_it d required r.start g.start)) refl ((and_parts _ _ ok).0))
+          (OtherRedone q y a.0 (kept.apart q w p r d b0 required b.0 there_q start_q b.1 g.row g.start) pq (not_false _ u.0) note a.1 (desk_same d d (replied_desk a.0 y) x true (eqb_self d)) (there p q (replied_state y) d (replied_desk a.0 y) (replied_sweep y) r true pq (at_it d required r.start g.start)) refl ((and_parts _ _ ok).0))
       go (Apart w e b0 z pq de ed note holds) =
           let a = at_session_is z (λ s. redo c q y e s w.state) m holds in
           let b = redo_is c q y e a.0 w.state m a.2 in
           subst (λ (z : Effect). Seen starts p d required r x (ev.Redone q y) z) b.3
-            (apart_both q (replied_state y) e (replied_desk a.0 y) (replied_sweep y) (ev.Redone q y) pq de ed note (λ o. refl) pq)
+          (apart_both q (replied_state y) e (replied_desk a.0 y) (replied_sweep y) (ev.Redone q y) pq de ed note (λ o. refl) pq)
 
   see_named : (q : ℕ) (m : Effect) → effect_of c (ev.Named q) ≡ Some m → Seen starts p d required r x (ev.Named q) m
   see_named q m h = go (meets starts c p d required r x q (name_at c q) m g (at_both_is c q (name_at c q) m h))
@@ -291,17 +292,17 @@ module _ (starts : List Start) (c : Core) (p d : ℕ) (required : Bool) (r : Pat
           let u = and_parts _ _ t.1 in
           let v = and_parts _ _ u.1 in
           subst (λ (z : Effect). Seen starts p d required r x (ev.Named q) z) b.1
-            (IsNamed a.0 (named_count d c.paths) note a.1 (late_is r.state v.0) (desk_same d d (driver.On (named a.0)) x true (eqb_self d)) (here p q (path.Named (named_count d c.paths)) d (driver.On (named a.0)) Keep r (eq-eqb p q pq)) (ap (λ k. ev.Named k) (sym pq)))
+          (IsNamed a.0 (named_count d c.paths) note a.1 (late_is r.state v.0) (desk_same d d (driver.On (named a.0)) x true (eqb_self d)) (here p q (path.Named (named_count d c.paths)) d (driver.On (named a.0)) Keep r (eq-eqb p q pq)) (ap (λ k. ev.Named k) (sym pq)))
       go (There w b0 pq note there_q start_q holds) =
           let a = at_session_is x (λ s. name_in c q w.state d s) m holds in
           let b = given_is _ (Both q (path.Named (named_count d c.paths)) d (driver.On (named a.0)) Keep) m a.2 in
           subst (λ (z : Effect). Seen starts p d required r x (ev.Named q) z) b.1
-            (OtherNamed q a.0 pq (none_says d is_unasked c.paths p r ((and_parts _ _ ((and_parts _ _ b.0).1)).0) g.row (at_it d required r.start g.start)) note a.1 (desk_same d d (driver.On (named a.0)) x true (eqb_self d)) (there p q (path.Named (named_count d c.paths)) d (driver.On (named a.0)) Keep r true pq (at_it d required r.start g.start) ∙ swept_keep r.state) refl)
+          (OtherNamed q a.0 pq (none_says d is_unasked c.paths p r ((and_parts _ _ ((and_parts _ _ b.0).1)).0) g.row (at_it d required r.start g.start)) note a.1 (desk_same d d (driver.On (named a.0)) x true (eqb_self d)) (there p q (path.Named (named_count d c.paths)) d (driver.On (named a.0)) Keep r true pq (at_it d required r.start g.start) ∙ swept_keep r.state) refl)
       go (Apart w e b0 z pq de ed note holds) =
           let a = at_session_is z (λ s. name_in c q w.state e s) m holds in
           let b = given_is _ (Both q (path.Named (named_count e c.paths)) e (driver.On (named a.0)) Keep) m a.2 in
           subst (λ (z : Effect). Seen starts p d required r x (ev.Named q) z) b.1
-            (apart_both q (path.Named (named_count e c.paths)) e (driver.On (named a.0)) Keep (ev.Named q) pq de ed note (λ o. refl) pq)
+          (apart_both q (path.Named (named_count e c.paths)) e (driver.On (named a.0)) Keep (ev.Named q) pq de ed note (λ o. refl) pq)
 
   see_failed : (q : ℕ) (y : OpenCause) (m : Effect) → effect_of c (ev.OpenFailed q y) ≡ Some m → Seen starts p d required r x (ev.OpenFailed q y) m
   see_failed q y m h = go (meets starts c p d required r x q (fail_at c q y) m g (at_both_is c q (fail_at c q y) m h))
@@ -312,15 +313,15 @@ module _ (starts : List Start) (c : Core) (p d : ℕ) (required : Bool) (r : Pat
           let t = and_parts _ _ b.0 in
           let u = and_parts _ _ t.1 in
           subst (λ (z : Effect). Seen starts p d required r x (ev.OpenFailed q y) z) b.1
-            (NotOpened y note (off_is x t.0) refl (unasked_is r.state u.0) (move_here p q (path.Heard (heard_opening y)) r (eq-eqb p q pq)) (ap (λ k. ev.OpenFailed k y) (sym pq)))
+          (NotOpened y note (off_is x t.0) refl (unasked_is r.state u.0) (move_here p q (path.Heard (heard_opening y)) r (eq-eqb p q pq)) (ap (λ k. ev.OpenFailed k y) (sym pq)))
       go (There w b0 pq note there_q start_q holds) =
           let b = given_is _ (Moves q (path.Heard (heard_opening y))) m holds in
           subst (λ (z : Effect). Seen starts p d required r x (ev.OpenFailed q y) z) b.1
-            (OtherNotOpened q y pq note refl (move_there p q (path.Heard (heard_opening y)) r pq) refl)
+          (OtherNotOpened q y pq note refl (move_there p q (path.Heard (heard_opening y)) r pq) refl)
       go (Apart w e b0 z pq de ed note holds) =
           let b = given_is _ (Moves q (path.Heard (heard_opening y))) m holds in
           subst (λ (z : Effect). Seen starts p d required r x (ev.OpenFailed q y) z) b.1
-            (Same note refl (move_there p q (path.Heard (heard_opening y)) r pq) (λ o. refl) pq)
+          (Same note refl (move_there p q (path.Heard (heard_opening y)) r pq) (λ o. refl) pq)
 
   see_back : (q : ℕ) (m : Effect) → effect_of c (ev.HandBack q) ≡ Some m → Seen starts p d required r x (ev.HandBack q) m
   see_back q m h = go (meets starts c p d required r x q (hand_back_at q) m g (at_both_is c q (hand_back_at q) m h))
@@ -330,17 +331,17 @@ module _ (starts : List Start) (c : Core) (p d : ℕ) (required : Bool) (r : Pat
           let b = cond_not required (hand_back q (refused_cause x r.state)) m holds in
           let k = back_is q (refused_cause x r.state) m b.1 in
           subst (λ (z : Effect). Seen starts p d required r x (ev.HandBack q) z) k.2
-            (HandedBack k.0 refl refl b.0 k.1 (move_here p q (Waiting (Some k.0)) r (eq-eqb p q pq)) (ap (λ k. ev.HandBack k) (sym pq)))
+          (HandedBack k.0 refl refl b.0 k.1 (move_here p q (Waiting (Some k.0)) r (eq-eqb p q pq)) (ap (λ k. ev.HandBack k) (sym pq)))
       go (There w b0 pq note there_q start_q holds) =
           let b = cond_not b0 (hand_back q (refused_cause x w.state)) m holds in
           let k = back_is q (refused_cause x w.state) m b.1 in
           subst (λ (z : Effect). Seen starts p d required r x (ev.HandBack q) z) k.2
-            (Same refl refl (move_there p q (Waiting (Some k.0)) r pq) (λ o. refl) pq)
+          (Same refl refl (move_there p q (Waiting (Some k.0)) r pq) (λ o. refl) pq)
       go (Apart w e b0 z pq de ed note holds) =
           let b = cond_not b0 (hand_back q (refused_cause z w.state)) m holds in
           let k = back_is q (refused_cause z w.state) m b.1 in
           subst (λ (z : Effect). Seen starts p d required r x (ev.HandBack q) z) k.2
-            (Same refl refl (move_there p q (Waiting (Some k.0)) r pq) (λ o. refl) pq)
+          (Same refl refl (move_there p q (Waiting (Some k.0)) r pq) (λ o. refl) pq)
 
   see_claim : (q a : ℕ) (m : Effect) → effect_of c (ev.Claim q a) ≡ Some m → Seen starts p d required r x (ev.Claim q a) m
   see_claim q a m h =
@@ -348,24 +349,24 @@ module _ (starts : List Start) (c : Core) (p d : ℕ) (required : Bool) (r : Pat
       let b = cond_is _ (claim q a (at.row).state) m at.holds in
       let k = claim_is q a (at.row).state m b.1 in
       subst (λ (z : Effect). Seen starts p d required r x (ev.Claim q a) z) k.2
-        (⊎_elim
-          (λ (i : (p ≡ q) × ((p == q) ≡ true)).
-              let row : at.row ≡ r = same_row c p at.row r (ap (λ k. slice_get c.paths k) i.0 ∙ at.there) g.row in
-              Claimed a k.0 refl refl (ap (λ (z : Path). z.state) (sym row) ∙ k.1) (move_here p q (Held a k.0) r i.1) (ap (λ k. ev.Claim k a) (sym i.0)))
-          (λ (n : (p == q) ≡ false). Same refl refl (move_there p q (Held a k.0) r n) (λ o. refl) n)
-          (same_or p q))
+      (⊎_elim
+      (λ (i : (p ≡ q) × ((p == q) ≡ true)).
+      let row : at.row ≡ r = same_row c p at.row r (ap (λ k. slice_get c.paths k) i.0 ∙ at.there) g.row in
+      Claimed a k.0 refl refl (ap (λ (z : Path). z.state) (sym row) ∙ k.1) (move_here p q (Held a k.0) r i.1) (ap (λ k. ev.Claim k a) (sym i.0)))
+      (λ (n : (p == q) ≡ false). Same refl refl (move_there p q (Held a k.0) r n) (λ o. refl) n)
+      (same_or p q))
 
   see_close : (q a : ℕ) (o : Own) (m : Effect) → effect_of c (ev.Close q a o) ≡ Some m → Seen starts p d required r x (ev.Close q a o) m
   see_close q a o m h =
       let at = at_path_is c q (λ r. close_at c q a o r r.state) m h in
       ⊎_elim
-        (λ (i : (p ≡ q) × ((p == q) ≡ true)).
-            let row : at.row ≡ r = same_row c p at.row r (ap (λ k. slice_get c.paths k) i.0 ∙ at.there) g.row in
-            go i.0 (r.state) refl (subst (λ (z : Path). close_at c q a o z z.state ≡ Some m) row at.holds))
-        (λ (n : (p == q) ≡ false).
-            let k = close_moves c q a o at.row (at.row).state m at.holds in
-            subst (λ (z : Effect). Seen starts p d required r x (ev.Close q a o) z) k.1 (Same refl refl (move_there p q (Closed k.0) r n) (λ z. ap (λ (b : Bool). cond b (Some o) z) n) n))
-        (same_or p q)
+      (λ (i : (p ≡ q) × ((p == q) ≡ true)).
+      let row : at.row ≡ r = same_row c p at.row r (ap (λ k. slice_get c.paths k) i.0 ∙ at.there) g.row in
+      go i.0 (r.state) refl (subst (λ (z : Path). close_at c q a o z z.state ≡ Some m) row at.holds))
+      (λ (n : (p == q) ≡ false).
+      let k = close_moves c q a o at.row (at.row).state m at.holds in
+      subst (λ (z : Effect). Seen starts p d required r x (ev.Close q a o) z) k.1 (Same refl refl (move_there p q (Closed k.0) r n) (λ z. ap (λ (b : Bool). cond b (Some o) z) n) n))
+      (same_or p q)
     where
       go : p ≡ q → (s : PathState) → r.state ≡ s → close_at c q a o r s ≡ Some m → Seen starts p d required r x (ev.Close q a o) m
       go pq (Held b raw) is e =
@@ -373,16 +374,16 @@ module _ (starts : List Start) (c : Core) (p d : ℕ) (required : Bool) (r : Pat
           let k = closing_is q (held_close raw o) m u.1 in
           let mine : a ≡ b = ⊎_elim (λ (h : (a ≡ b) × ((a == b) ≡ true)). h.0) (λ (h : (a == b) ≡ false). absurd (let y = u.0 in cc (h, y))) (same_or a b) in
           subst (λ (z : Effect). Seen starts p d required r x (ev.Close q a o) z) k.2
-            (ClosedHeld a o raw k.0 refl refl (is ∙ ap (λ z. Held z raw) (sym mine)) k.1 (move_here p q (Closed k.0) r (eq-eqb p q pq)) (ap (λ k. ev.Close k a o) (sym pq)))
+          (ClosedHeld a o raw k.0 refl refl (is ∙ ap (λ z. Held z raw) (sym mine)) k.1 (move_here p q (Closed k.0) r (eq-eqb p q pq)) (ap (λ k. ev.Close k a o) (sym pq)))
       go pq (path.Heard t) is e =
           let u = desk_close_is c p d required r x q a o (λ required x. heard_close required t o) m g.start g.desk e in
           subst (λ (z : Effect). Seen starts p d required r x (ev.Close q a o) z) u.2
-            (ClosedTold a o t u.0 refl refl is u.1 (move_here p q (Closed u.0) r (eq-eqb p q pq)) (ap (λ k. ev.Close k a o) (sym pq)))
+          (ClosedTold a o t u.0 refl refl is u.1 (move_here p q (Closed u.0) r (eq-eqb p q pq)) (ap (λ k. ev.Close k a o) (sym pq)))
       go pq Unasked is e =
           let u = desk_close_is c p d required r x q a o (λ required x. unasked_close required x q o) m g.start g.desk e in
           let at_p : unasked_close required x p o ≡ Some u.0 = ap (λ k. unasked_close required x k o) pq ∙ u.1 in
           subst (λ (z : Effect). Seen starts p d required r x (ev.Close q a o) z) u.2
-            (ClosedUnasked a o u.0 refl refl is at_p (move_here p q (Closed u.0) r (eq-eqb p q pq)) (ap (λ k. ev.Close k a o) (sym pq)))
+          (ClosedUnasked a o u.0 refl refl is at_p (move_here p q (Closed u.0) r (eq-eqb p q pq)) (ap (λ k. ev.Close k a o) (sym pq)))
       go pq (Waiting raw) is e = none_is_some e
       go pq path.Delayed is e = none_is_some e
       go pq (path.Named t) is e = none_is_some e
@@ -393,12 +394,12 @@ module _ (starts : List Start) (c : Core) (p d : ℕ) (required : Bool) (r : Pat
       let at = at_driver_is c e (open_at c e caps) m h in
       let k = open_is e caps at.state (lowest_unasked e c.paths) m at.holds in
       subst (λ (z : Effect). Seen starts p d required r x (ev.Opened e caps) z) k.3
-        (⊎_elim
-          (λ (i : (d ≡ e) × ((d == e) ≡ true)).
-              let same : at.state ≡ x = same_desk c d at.state x (ap (λ k. slice_get c.drivers k) i.0 ∙ at.there) g.desk in
-              SeesOpened caps k.0 (λ un. lowest_says e c.paths k.0 p r k.1 g.row (ap (λ k. is_at k r.start) (sym i.0) ∙ at_it d required r.start g.start) un) i.1 (sym same ∙ k.2) (desk_same d e (driver.On (fresh caps k.0)) x true i.1) (turned e (driver.On (fresh caps k.0)) Keep p r true (ap (λ k. is_at k r.start) (sym i.0) ∙ at_it d required r.start g.start) ∙ swept_keep r.state) (ap (λ k. ev.Opened k caps) (sym i.0)))
-          (λ (n : (d == e) ≡ false). Same n (desk_same d e (driver.On (fresh caps k.0)) x false n) (turned e (driver.On (fresh caps k.0)) Keep p r false (at_other e d required r.start g.start (eqb_swap d e n))) (λ o. refl) refl)
-          (same_or d e))
+      (⊎_elim
+      (λ (i : (d ≡ e) × ((d == e) ≡ true)).
+      let same : at.state ≡ x = same_desk c d at.state x (ap (λ k. slice_get c.drivers k) i.0 ∙ at.there) g.desk in
+      SeesOpened caps k.0 (λ un. lowest_says e c.paths k.0 p r k.1 g.row (ap (λ k. is_at k r.start) (sym i.0) ∙ at_it d required r.start g.start) un) i.1 (sym same ∙ k.2) (desk_same d e (driver.On (fresh caps k.0)) x true i.1) (turned e (driver.On (fresh caps k.0)) Keep p r true (ap (λ k. is_at k r.start) (sym i.0) ∙ at_it d required r.start g.start) ∙ swept_keep r.state) (ap (λ k. ev.Opened k caps) (sym i.0)))
+      (λ (n : (d == e) ≡ false). Same n (desk_same d e (driver.On (fresh caps k.0)) x false n) (turned e (driver.On (fresh caps k.0)) Keep p r false (at_other e d required r.start g.start (eqb_swap d e n))) (λ o. refl) refl)
+      (same_or d e))
 
   see_listed : (e : ℕ) (y : ListReply) (m : Effect) → effect_of c (ev.Listed e y) ≡ Some m → Seen starts p d required r x (ev.Listed e y) m
   see_listed e y m h =
@@ -406,13 +407,13 @@ module _ (starts : List Start) (c : Core) (p d : ℕ) (required : Bool) (r : Pat
       let k = at_session_is at.state (λ s. list_step c e s y) m at.holds in
       let l = given_is (list_allowed c e k.0 y) (Turns e (list_desk k.0 y) (list_sweep y)) m k.2 in
       subst (λ (z : Effect). Seen starts p d required r x (ev.Listed e y) z) l.1
-        (⊎_elim
-          (λ (i : (d ≡ e) × ((d == e) ≡ true)).
-              let same : at.state ≡ x = same_desk c d at.state x (ap (λ k. slice_get c.drivers k) i.0 ∙ at.there) g.desk in
-              let on : x ≡ driver.On k.0 = sym same ∙ k.1 in
-              SeesListed y k.0 i.1 on (list_says c e k.0 y (is_unasked r.state ≡ false) l.0 (λ t. none_says d is_unasked c.paths p r (ap (λ k. none_of k is_unasked c.paths) i.0 ∙ t) g.row (at_it d required r.start g.start))) (desk_same d e (list_desk k.0 y) x true i.1) (turned e (list_desk k.0 y) (list_sweep y) p r true (ap (λ k. is_at k r.start) (sym i.0) ∙ at_it d required r.start g.start)) (ap (λ k. ev.Listed k y) (sym i.0)))
-          (λ (n : (d == e) ≡ false). Same n (desk_same d e (list_desk k.0 y) x false n) (turned e (list_desk k.0 y) (list_sweep y) p r false (at_other e d required r.start g.start (eqb_swap d e n))) (λ o. refl) refl)
-          (same_or d e))
+      (⊎_elim
+      (λ (i : (d ≡ e) × ((d == e) ≡ true)).
+      let same : at.state ≡ x = same_desk c d at.state x (ap (λ k. slice_get c.drivers k) i.0 ∙ at.there) g.desk in
+      let on : x ≡ driver.On k.0 = sym same ∙ k.1 in
+      SeesListed y k.0 i.1 on (list_says c e k.0 y (is_unasked r.state ≡ false) l.0 (λ t. none_says d is_unasked c.paths p r (ap (λ k. none_of k is_unasked c.paths) i.0 ∙ t) g.row (at_it d required r.start g.start))) (desk_same d e (list_desk k.0 y) x true i.1) (turned e (list_desk k.0 y) (list_sweep y) p r true (ap (λ k. is_at k r.start) (sym i.0) ∙ at_it d required r.start g.start)) (ap (λ k. ev.Listed k y) (sym i.0)))
+      (λ (n : (d == e) ≡ false). Same n (desk_same d e (list_desk k.0 y) x false n) (turned e (list_desk k.0 y) (list_sweep y) p r false (at_other e d required r.start g.start (eqb_swap d e n))) (λ o. refl) refl)
+      (same_or d e))
 
   see_shut : (e : ℕ) (m : Effect) → effect_of c (ev.Shut e) ≡ Some m → Seen starts p d required r x (ev.Shut e) m
   see_shut e m h =
@@ -421,13 +422,13 @@ module _ (starts : List Start) (c : Core) (p d : ℕ) (required : Bool) (r : Pat
       let l = given_is _ (Turns e driver.Done Keep) m k.2 in
       let t = and_parts _ _ l.0 in
       subst (λ (z : Effect). Seen starts p d required r x (ev.Shut e) z) l.1
-        (⊎_elim
-          (λ (i : (d ≡ e) × ((d == e) ≡ true)).
-              let same : at.state ≡ x = same_desk c d at.state x (ap (λ k. slice_get c.drivers k) i.0 ∙ at.there) g.desk in
-              let on : x ≡ driver.On k.0 = sym same ∙ k.1 in
-              SeesShut k.0 i.1 on (not_false _ t.0) (none_says d is_unasked c.paths p r (ap (λ k. none_of k is_unasked c.paths) i.0 ∙ t.1) g.row (at_it d required r.start g.start)) (desk_same d e driver.Done x true i.1) (turned e driver.Done Keep p r true (ap (λ k. is_at k r.start) (sym i.0) ∙ at_it d required r.start g.start) ∙ swept_keep r.state) (ap (λ k. ev.Shut k) (sym i.0)))
-          (λ (n : (d == e) ≡ false). Same n (desk_same d e driver.Done x false n) (turned e driver.Done Keep p r false (at_other e d required r.start g.start (eqb_swap d e n))) (λ o. refl) refl)
-          (same_or d e))
+      (⊎_elim
+      (λ (i : (d ≡ e) × ((d == e) ≡ true)).
+      let same : at.state ≡ x = same_desk c d at.state x (ap (λ k. slice_get c.drivers k) i.0 ∙ at.there) g.desk in
+      let on : x ≡ driver.On k.0 = sym same ∙ k.1 in
+      SeesShut k.0 i.1 on (not_false _ t.0) (none_says d is_unasked c.paths p r (ap (λ k. none_of k is_unasked c.paths) i.0 ∙ t.1) g.row (at_it d required r.start g.start)) (desk_same d e driver.Done x true i.1) (turned e driver.Done Keep p r true (ap (λ k. is_at k r.start) (sym i.0) ∙ at_it d required r.start g.start) ∙ swept_keep r.state) (ap (λ k. ev.Shut k) (sym i.0)))
+      (λ (n : (d == e) ≡ false). Same n (desk_same d e driver.Done x false n) (turned e driver.Done Keep p r false (at_other e d required r.start g.start (eqb_swap d e n))) (λ o. refl) refl)
+      (same_or d e))
 
   -- each event, as p sees it
   pub see : Kept c → (e : Event) (m : Effect) → effect_of c e ≡ Some m → Seen starts p d required r x e m
