@@ -92,11 +92,6 @@ list_off k list.Abort = refl
 list_off k (list.Broken b) = refl
 list_off k list.NoMemory = refl
 
-may_name : (a b : Bool) → not (not a && not b) ≡ true → (a || b) ≡ true
-may_name true b e = refl
-may_name false true e = refl
-may_name false false e = absurd (cc (e))
-
 pub followable : (c : Core) (e : Event) (m : Effect) → effect_of c e ≡ Some m → IsFollowable c m
 followable c (ev.Claim q a) m h =
     let at = at_path_is c q (claim_at c q a) m h in
@@ -150,7 +145,7 @@ followable c (ev.Named q) m h =
       seat,
       refl,
       ap (λ s. advances (named_count at.driver c.paths) (k.0).naming true (λ u. none_of at.driver (is_named_below u) c.paths) s (path.Named (named_count at.driver c.paths))) (late_is (at.row).state v.0)
-          ∙ and_from _ _ (eq-eqb (named_count at.driver c.paths) (named_count at.driver c.paths) refl) (ap (λ z. (k.0).naming || z) (none_named at.driver c.paths) ∙ may_name (k.0).naming (none_of at.driver is_named c.paths) v.1),
+          ∙ and_from _ _ (eq-eqb (named_count at.driver c.paths) (named_count at.driver c.paths) refl) (ap (λ z. (k.0).naming || z) (none_named at.driver c.paths) ∙ v.1),
     )
 followable c (ev.Listed d y) m h =
     let at = at_driver_is c d (list_at c d y) m h in

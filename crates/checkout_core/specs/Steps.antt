@@ -1,5 +1,5 @@
 -- The steps of the core.
-use Rattle.std.specs.Prelude.{◌≡◌, ◌==◌, ◌&&◌, ◌<◌, ℕ, zero, suc, ◌+◌, nat_lt, Bool, true, false, not, cond, List, [], ◌∷◌, length, map, take, Option, Some, None, slice_get, slice_set}
+use Rattle.std.specs.Prelude.{◌≡◌, ◌==◌, ◌&&◌, ◌<◌, ℕ, zero, suc, ◌+◌, nat_lt, Bool, true, false, not, cond, List, [], ◌∷◌, length, map, take, Option, Some, None, slice_get, slice_set, ◌||◌}
 use Rattle.filter_words.specs.declared.reply.BreakCause.{BreakCause}
 use Rattle.filter_words.specs.declared.reply.BreakCause.TheVariants as breaks
 use Rattle.filter_words.specs.declared.reply.Reply.{Reply}
@@ -348,7 +348,7 @@ abbrev pub answer_at : Core → ℕ → Reply → Path → ℕ → Bool → Driv
 answer_at c p y r d required x = at_session x (λ s. answer_in c p y r.state d s)
 
 abbrev pub name_in : Core → ℕ → PathState → ℕ → Session → Option Effect
-name_in c p t d s = given (s.had && (none_of d is_unasked c.paths && (is_delayed t && not (not s.naming && not (none_of d is_named c.paths))))) (Both p (path.Named (named_count d c.paths)) d (driver.On (named s)) Keep)
+name_in c p t d s = given (s.had && (none_of d is_unasked c.paths && (is_delayed t && (s.naming || none_of d is_named c.paths)))) (Both p (path.Named (named_count d c.paths)) d (driver.On (named s)) Keep)
 
 abbrev pub name_at : Core → ℕ → Path → ℕ → Bool → DriverState → Option Effect
 name_at c p r d required x = at_session x (λ s. name_in c p r.state d s)

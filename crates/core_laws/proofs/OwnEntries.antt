@@ -274,10 +274,10 @@ module _ (workers a d : ℕ) (mine : a ≡ workers + d) where
 
     name_alike : (p : ℕ) (r s : Path) (b : Bool) (y : DriverState) → known r.state ≡ known s.state → name_at c p r d b y ≡ name_at x p s d b y
     name_alike p r s b (driver.On k) e =
-        ap (λ u. given (k.had && (u && (is_delayed r.state && not (not k.naming && not (none_of d is_named c.paths))))) (Both p (path.Named (named_count d c.paths)) d (driver.On (named k)) Keep)) (none_alike is_unasked unasked_known c.paths x.paths alike.paths)
-        ∙ (ap (λ u. given (k.had && (none_of d is_unasked x.paths && (u && not (not k.naming && not (none_of d is_named c.paths))))) (Both p (path.Named (named_count d c.paths)) d (driver.On (named k)) Keep)) (delayed_known r.state ∙ (ap is_delayed e ∙ sym (delayed_known s.state)))
-        ∙ (ap (λ u. given (k.had && (none_of d is_unasked x.paths && (is_delayed s.state && not (not k.naming && not u)))) (Both p (path.Named (named_count d c.paths)) d (driver.On (named k)) Keep)) (none_alike is_named named_known c.paths x.paths alike.paths)
-        ∙ ap (λ n. given (k.had && (none_of d is_unasked x.paths && (is_delayed s.state && not (not k.naming && not (none_of d is_named x.paths))))) (Both p (path.Named n) d (driver.On (named k)) Keep)) (count_alike is_named named_known c.paths x.paths alike.paths)))
+        ap (λ u. given (k.had && (u && (is_delayed r.state && (k.naming || none_of d is_named c.paths)))) (Both p (path.Named (named_count d c.paths)) d (driver.On (named k)) Keep)) (none_alike is_unasked unasked_known c.paths x.paths alike.paths)
+        ∙ (ap (λ u. given (k.had && (none_of d is_unasked x.paths && (u && (k.naming || none_of d is_named c.paths)))) (Both p (path.Named (named_count d c.paths)) d (driver.On (named k)) Keep)) (delayed_known r.state ∙ (ap is_delayed e ∙ sym (delayed_known s.state)))
+        ∙ (ap (λ u. given (k.had && (none_of d is_unasked x.paths && (is_delayed s.state && (k.naming || u)))) (Both p (path.Named (named_count d c.paths)) d (driver.On (named k)) Keep)) (none_alike is_named named_known c.paths x.paths alike.paths)
+        ∙ ap (λ n. given (k.had && (none_of d is_unasked x.paths && (is_delayed s.state && (k.naming || none_of d is_named x.paths)))) (Both p (path.Named n) d (driver.On (named k)) Keep)) (count_alike is_named named_known c.paths x.paths alike.paths)))
     name_alike p r s b driver.Off e = refl
     name_alike p r s b driver.Aborted e = refl
     name_alike p r s b driver.Done e = refl

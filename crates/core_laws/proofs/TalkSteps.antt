@@ -219,14 +219,14 @@ last_of a b c d h = (and_parts c d ((and_parts b (c && d) ((and_parts a (b && (c
 lower_turn : (t b i : ℕ) → t ≡ b + suc i → b + 0 < t
 lower_turn t b i e = omega arith
 
-and_gone : (b : Bool) → not (b && false) ≡ true
-and_gone true = refl
-and_gone false = refl
+or_gone : (b : Bool) → (b || true) ≡ true
+or_gone true = refl
+or_gone false = refl
 
-names_may : (k : Session) (b : Bool) → not (not k.naming && not b) ≡ true → (k.naming ≡ true) ⊎ (b ≡ true)
+names_may : (k : Session) (b : Bool) → (k.naming || b) ≡ true → (k.naming ≡ true) ⊎ (b ≡ true)
 names_may k b i = go k.naming refl b i
   where
-    go : (a : Bool) → k.naming ≡ a → (b : Bool) → not (not a && not b) ≡ true → (k.naming ≡ true) ⊎ (b ≡ true)
+    go : (a : Bool) → k.naming ≡ a → (b : Bool) → (a || b) ≡ true → (k.naming ≡ true) ⊎ (b ≡ true)
     go true e b i = inl e
     go false e true i = inr refl
     go false e false i = absurd (cc (i))
@@ -464,7 +464,7 @@ module _ (starts : List Start) (c z : Core) (es : List Event) (d : ℕ) (good : 
           not_naming k (reply.Broken w) b n nd = λ l on naming. refl
           not_naming k reply.NoMemory b n nd = λ l on naming. refl
 
-  note_named : (q : ℕ) (r : Path) (b : Bool) (k : Session) (late turns : List ℕ) (base : ℕ) → effect_of c (ev.Named q) ≡ Some (Both q (path.Named (named_count d c.paths)) d (driver.On (named k)) Keep) → step_of c (ev.Named q) ≡ Some (after c (Both q (path.Named (named_count d c.paths)) d (driver.On (named k)) Keep)) → slice_get c.drivers d ≡ Some (driver.On k) → slice_get c.paths q ≡ Some r → r.start ≡ Desk d b → k.had ≡ true → none_of d is_unasked c.paths ≡ true → is_delayed r.state ≡ true → not (not k.naming && not (none_of d is_named c.paths)) ≡ true → is_of starts d q ≡ true → Lists c.paths d late turns base → IsZero (driver.On k) base → Outcome starts c (Both q (path.Named (named_count d c.paths)) d (driver.On (named k)) Keep) (ev.Named q) es d (driver.On k) late turns
+  note_named : (q : ℕ) (r : Path) (b : Bool) (k : Session) (late turns : List ℕ) (base : ℕ) → effect_of c (ev.Named q) ≡ Some (Both q (path.Named (named_count d c.paths)) d (driver.On (named k)) Keep) → step_of c (ev.Named q) ≡ Some (after c (Both q (path.Named (named_count d c.paths)) d (driver.On (named k)) Keep)) → slice_get c.drivers d ≡ Some (driver.On k) → slice_get c.paths q ≡ Some r → r.start ≡ Desk d b → k.had ≡ true → none_of d is_unasked c.paths ≡ true → is_delayed r.state ≡ true → (k.naming || none_of d is_named c.paths) ≡ true → is_of starts d q ≡ true → Lists c.paths d late turns base → IsZero (driver.On k) base → Outcome starts c (Both q (path.Named (named_count d c.paths)) d (driver.On (named k)) Keep) (ev.Named q) es d (driver.On k) late turns
   note_named q r b k late turns base run step at there_q st had none late_r may note l low =
       let m = Both q (path.Named (named_count d c.paths)) d (driver.On (named k)) Keep in
       let e = ev.Named q in
@@ -479,9 +479,9 @@ module _ (starts : List Start) (c z : Core) (es : List Event) (d : ℕ) (good : 
       (λ (n : k.naming ≡ true). subst (λ (z : ℕ). Lists c.paths d late turns z) (low k refl n) l)
       (λ (n : none_of d is_named c.paths ≡ true). lists_rebase c.paths d late turns base (turns_none late turns base l n) l)
       which in
-      let empty : not (not k.naming && not (is_empty turns)) ≡ true = ⊎_elim
-      (λ (n : k.naming ≡ true). ap (λ z. not (not z && not (is_empty turns))) n)
-      (λ (n : none_of d is_named c.paths ≡ true). ap (λ (ts : List ℕ). not (not k.naming && not (is_empty ts))) (turns_none late turns base l n) ∙ and_gone (not k.naming))
+      let empty : (k.naming || is_empty turns) ≡ true = ⊎_elim
+      (λ (n : k.naming ≡ true). ap (λ z. (z || is_empty turns)) n)
+      (λ (n : none_of d is_named c.paths ≡ true). ap (λ (ts : List ℕ). (k.naming || is_empty ts)) (turns_none late turns base l n) ∙ or_gone k.naming)
       which in
       record {
         late1 = without q late;
@@ -722,7 +722,7 @@ module _ (starts : List Start) (c z : Core) (es : List Event) (d : ℕ) (good : 
       (λ (i : (d ≡ a.driver) × ((d == a.driver) ≡ true)).
       let on : x ≡ driver.On k.0 = same_desk c d x a.state at (ap (λ j. slice_get c.drivers j) i.0 ∙ a.desk) ∙ k.1 in
       let st : (a.row).start ≡ Desk d a.required = a.begun ∙ ap (λ j. Desk j a.required) (sym i.0) in
-      let ok : (k.0.had && (none_of d is_unasked c.paths && (is_delayed (a.row).state && not (not k.0.naming && not (none_of d is_named c.paths))))) ≡ true = ap (λ j. k.0.had && (none_of j is_unasked c.paths && (is_delayed (a.row).state && not (not k.0.naming && not (none_of j is_named c.paths))))) i.0 ∙ g.0 in
+      let ok : (k.0.had && (none_of d is_unasked c.paths && (is_delayed (a.row).state && (k.0.naming || none_of d is_named c.paths)))) ≡ true = ap (λ j. k.0.had && (none_of j is_unasked c.paths && (is_delayed (a.row).state && (k.0.naming || none_of j is_named c.paths)))) i.0 ∙ g.0 in
       let t = and_parts _ _ ok in
       let u = and_parts _ _ t.1 in
       let v = and_parts _ _ u.1 in

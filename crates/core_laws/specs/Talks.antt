@@ -67,7 +67,7 @@ ask r (p ∷ rest) q y = cond (q == p && (is_good_reply y && not (is_delay y && 
 
 -- a list: each name is of a delayed path, and becomes the last to be asked again
 abbrev pub name : Round → ℕ → Option Talk
-name r q = cond (r.had && (is_empty r.rest && (contains q r.late && not (not r.naming && not (is_empty r.turns)))))
+name r q = cond (r.had && (is_empty r.rest && (contains q r.late && (r.naming || is_empty r.turns))))
     (Some (InRound (record { delay = r.delay; had = r.had; naming = true; rest = r.rest; late = without q r.late; turns = r.turns ++ (q ∷ []) })))
     None
 
