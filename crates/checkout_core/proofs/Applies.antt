@@ -6,7 +6,8 @@ use Rattle.checkout_core.specs.declared.driver.DriverState.{DriverState}
 use Rattle.checkout_core.specs.declared.effect.Effect.TheVariants.{Turns, Both}
 use Rattle.checkout_core.specs.declared.effect.Sweep.{Sweep}
 use Rattle.checkout_core.specs.declared.effect.Sweep.TheVariants.{Keep}
-use Rattle.checkout_core.specs.Steps.{Core, after, driver_after}
+use Rattle.checkout_core.specs.States.{Core}
+use Rattle.checkout_core.specs.Effects.{after, driver_after}
 use Rattle.checkout_core.specs.Cursors.{IsFollowable, all_swept}
 use Rattle.checkout_core.proofs.Bridge.{turn_swept, both_swept, length_each}
 

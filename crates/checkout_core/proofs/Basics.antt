@@ -12,7 +12,10 @@ use Rattle.checkout_core.specs.declared.driver.DriverState.TheVariants as driver
 use Rattle.checkout_core.specs.declared.event.Event.{Event}
 use Rattle.checkout_core.specs.declared.effect.Effect.{Effect}
 use Rattle.checkout_core.specs.declared.effect.Effect.TheVariants.{Moves, Turns, Both}
-use Rattle.checkout_core.specs.Steps.{Core, step_of, effect_of, after, done, each, given, at_path, at_driver, of_driver, at_session, at_both, with_state, swept_path, path_after, replay}
+use Rattle.checkout_core.specs.States.{Core, with_state}
+use Rattle.checkout_core.specs.Effects.{after, each, swept_path, path_after}
+use Rattle.checkout_core.specs.Conditions.{effect_of, given, at_path, at_driver, of_driver, at_session, at_both}
+use Rattle.checkout_core.specs.Steps.{step_of, done, replay}
 
 module _ {A : Type 0} where
   pub get_each : (f : ℕ → A → A) (xs : List A) (i : ℕ) (a : A) → slice_get xs i ≡ Some a → slice_get (each f xs) i ≡ Some (f i a)

@@ -1,20 +1,17 @@
 -- An effect, as code makes it: a place is set, and a loop goes over all.
-use Rattle.std.proofs.Common.{◌≡◌, ◌==◌, ℕ, zero, suc, ◌+◌, ⊎_elim, Bool, true, false, cond, List, [], ◌∷◌, map, set, Option, Some, None, refl, sym, ap, ◌∙◌, arith}
+use Rattle.std.proofs.Common.{◌≡◌, ◌==◌, ℕ, zero, suc, ⊎_elim, Bool, true, false, cond, List, [], ◌∷◌, map, set, Some, refl, sym, ap, ◌∙◌, arith}
 use Rattle.std.specs.Prelude.{slice_get}
 use Rattle.checkout_core.specs.declared.path.PathState.{PathState}
 use Rattle.checkout_core.specs.declared.path.Path.{Path}
 use Rattle.checkout_core.specs.declared.driver.DriverState.{DriverState}
-use Rattle.checkout_core.specs.declared.verdict.FilterCause.{FilterCause}
-use Rattle.std.specs.Prelude.{length, ◌<◌}
-use Rattle.std.proofs.lemmas.Bool.{lt-ltb}
+use Rattle.std.specs.Prelude.{length}
 use Rattle.checkout_core.specs.declared.path.PathState.TheVariants as path
 use Rattle.checkout_core.specs.declared.path.PathState.TheVariants.{Waiting, Held, Unasked, Closed}
-use Rattle.checkout_core.specs.declared.event.Event.TheVariants.{Claim}
-use Rattle.checkout_core.specs.declared.effect.Effect.{Effect}
 use Rattle.checkout_core.specs.declared.effect.Effect.TheVariants.{Moves, Turns, Both}
 use Rattle.checkout_core.specs.declared.effect.Sweep.{Sweep}
 use Rattle.checkout_core.specs.declared.effect.Sweep.TheVariants.{Keep}
-use Rattle.checkout_core.specs.Steps.{Core, after, done, step_of, claim_at, claim, with_path, each, path_after, driver_after, with_state, swept_path, swept, is_at}
+use Rattle.checkout_core.specs.States.{Core, with_state, is_at}
+use Rattle.checkout_core.specs.Effects.{after, each, path_after, driver_after, swept_path, swept}
 use Rattle.checkout_core.proofs.Basics.{none_is_some, some_is, eqb_self, same_or}
 
 module _ {A : Type 0} where
@@ -101,14 +98,11 @@ both_swept c p s d t w stays = ap (λ (rs : List Path). record { workers = c.wor
     go r true = ap (λ z. with_state r z) (same r (is_at d r.start))
     go r false = swept_twice d w r
 
-pub moves_after : (c : Core) (p : ℕ) (r : Path) (s : PathState) → slice_get c.paths p ≡ Some r → after c (Moves p s) ≡ with_path c p r s
+pub moves_after : (c : Core) (p : ℕ) (r : Path) (s : PathState) → slice_get c.paths p ≡ Some r → after c (Moves p s) ≡ record { workers = c.workers; drivers = c.drivers; paths = set c.paths p (with_state r s) }
 moves_after c p r s there =
     let rows : each (path_after (Moves p s)) c.paths ≡ set (map (λ x. x) c.paths) p (with_state r s) = each_set (λ x. x) (path_after (Moves p s)) c.paths p r (with_state r s) there (ap (λ b. with_state r (cond b s r.state)) (eqb_self p)) (λ q v n. ap (λ b. with_state v (cond b s v.state)) (not_same q p n)) in
     ap (λ (ds : List DriverState). record { workers = c.workers; drivers = ds; paths = each (path_after (Moves p s)) c.paths }) (each_none c.drivers)
     ∙ ap (λ (rs : List Path). record { workers = c.workers; drivers = c.drivers; paths = rs }) (rows ∙ ap (λ (rs : List Path). set rs p (with_state r s)) (map_none c.paths))
-
-pub claims_some : (c : Core) (p a : ℕ) (r : Path) (raw : Option FilterCause) → slice_get c.paths p ≡ Some r → a < c.workers + length c.drivers → r.state ≡ Waiting raw → step_of c (Claim p a) ≡ Some (with_path c p r (Held a raw))
-claims_some c p a r raw there less is = ap (done c) (ap (λ (o : Option Path). elim o as (λ _. Option Effect) [ None ↦ None | Some r ↦ claim_at c p a r ]) there ∙ (ap (λ b. cond b (claim p a r.state) None) (lt-ltb a (c.workers + length c.drivers) less) ∙ ap (claim p a) is)) ∙ ap (λ x. Some x) (moves_after c p r (Held a raw) there)
 
 -- one place of a list changes
 module _ {A : Type 0} where

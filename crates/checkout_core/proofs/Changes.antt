@@ -14,7 +14,8 @@ use Rattle.checkout_core.specs.declared.driver.DriverState.{DriverState}
 use Rattle.checkout_core.specs.declared.cursor.Cursor.{Cursor}
 use Rattle.checkout_core.specs.declared.effect.Effect.TheVariants.{Moves, Turns, Both}
 use Rattle.checkout_core.specs.declared.effect.Sweep.TheVariants.{Keep}
-use Rattle.checkout_core.specs.Steps.{after, each, driver_after, is_at, is_unasked, is_named, is_named_below, is_closed, none_of, path_count, named_count, unclosed_count, with_state}
+use Rattle.checkout_core.specs.States.{is_at, is_unasked, is_named, is_named_below, is_closed, none_of, path_count, named_count, unclosed_count, with_state}
+use Rattle.checkout_core.specs.Effects.{after, each, driver_after}
 use Rattle.checkout_core.specs.Cursors.{is_named_at, is_naming, is_pending, settles, advances, Follows, AllFollow, IsSound, IsCursor, cursor_after, delayed_after, CanFollow, IsFollowable}
 use Rattle.checkout_core.proofs.Basics.{some_is, same_or}
 use Rattle.checkout_core.proofs.Counts.{num, set_cases, count_set, count_some, count_length, unclosed_set}

@@ -6,7 +6,7 @@ use Rattle.checkout_core.specs.declared.path.PathState.{PathState}
 use Rattle.checkout_core.specs.declared.path.PathState.TheVariants as path
 use Rattle.checkout_core.specs.declared.path.PathState.TheVariants.{Waiting, Held, Unasked, Closed}
 use Rattle.checkout_core.specs.declared.path.Path.{Path}
-use Rattle.checkout_core.specs.Steps.{is_at, is_unasked, is_named, is_named_below, is_closed, none_of, path_count, unclosed_count, lowest_unasked, add_one}
+use Rattle.checkout_core.specs.States.{is_at, is_unasked, is_named, is_named_below, is_closed, none_of, path_count, unclosed_count, lowest_unasked, add_one}
 use Rattle.checkout_core.specs.Cursors.{asks, is_named_at}
 use Rattle.checkout_core.proofs.Basics.{none_is_some, some_is}
 

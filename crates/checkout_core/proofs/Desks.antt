@@ -9,7 +9,9 @@ use Rattle.checkout_core.specs.declared.path.PathState.TheVariants.{Unasked}
 use Rattle.checkout_core.specs.declared.path.Path.{Path}
 use Rattle.checkout_core.specs.declared.driver.DriverState.{DriverState}
 use Rattle.checkout_core.specs.declared.effect.Effect.{Effect}
-use Rattle.checkout_core.specs.Steps.{Core, at_path, at_driver, of_driver, close_at, closing, heard_close, unasked_close}
+use Rattle.checkout_core.specs.States.{Core}
+use Rattle.checkout_core.specs.Verdicts.{heard_close, unasked_close}
+use Rattle.checkout_core.specs.Conditions.{at_path, at_driver, of_driver, close_at, closing}
 use Rattle.checkout_core.specs.Cards.{LacksDesk}
 
 at_path_some : (c : Core) (p : ℕ) (r : Path) (f : Path → Option Effect) → slice_get c.paths p ≡ Some r → at_path c p f ≡ f r

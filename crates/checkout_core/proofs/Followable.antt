@@ -1,6 +1,6 @@
 -- Each step's effect is one that the cursors can follow.
 use Rattle.std.proofs.Common.{◌≡◌, ℕ, Bool, true, false, Some, refl, ap, ◌∙◌, subst, eq-eqb}
-use Rattle.std.specs.Prelude.{◌&&◌, ◌||◌, not}
+use Rattle.std.specs.Prelude.{◌||◌, not}
 use Rattle.std.proofs.lemmas.Bool.{and_parts, and_from, not-true}
 use Rattle.filter_words.specs.declared.reply.Reply.{Reply}
 use Rattle.filter_words.specs.declared.reply.Reply.TheVariants as reply
@@ -24,7 +24,10 @@ use Rattle.checkout_core.specs.declared.event.Event.TheVariants as ev
 use Rattle.checkout_core.specs.declared.effect.Effect.{Effect}
 use Rattle.checkout_core.specs.declared.effect.Effect.TheVariants.{Moves, Turns, Both}
 use Rattle.checkout_core.specs.declared.effect.Sweep.TheVariants.{Keep}
-use Rattle.checkout_core.specs.Steps.{Core, swept, effect_of, is_at, is_named, is_named_below, heard_opening, replied_state, replied_desk, replied_sweep, list_desk, list_sweep, list_allowed, named, refused_cause, hand_back, close_at, none_of, named_count, lowest_unasked, is_delay, replied, claim, claim_at, open_at, fail_at, answer_in, answer_at, name_in, name_at, list_at, list_step, redo, redo_at, hand_back_at, shut_in, shut_at}
+use Rattle.checkout_core.specs.States.{Core, is_at, is_named_below, none_of, named_count, lowest_unasked}
+use Rattle.checkout_core.specs.Effects.{swept}
+use Rattle.checkout_core.specs.Verdicts.{refused_cause}
+use Rattle.checkout_core.specs.Conditions.{effect_of, heard_opening, replied_state, replied_desk, replied_sweep, list_desk, list_sweep, list_allowed, named, hand_back, close_at, is_delay, replied, claim, claim_at, open_at, fail_at, answer_in, answer_at, name_in, name_at, list_at, list_step, redo, redo_at, hand_back_at, shut_in, shut_at}
 use Rattle.checkout_core.specs.Cursors.{settles, advances, is_naming, IsFollowable}
 use Rattle.checkout_core.proofs.Basics.{none_is_some, given_is, cond_is, cond_not, at_path_is, at_driver_is, at_session_is, at_both_is, eqb_self}
 use Rattle.checkout_core.proofs.Inverses.{unasked_is, late_is, redo_is, claim_is, back_is, open_is, close_moves}

@@ -9,7 +9,7 @@ use Rattle.checkout_core.specs.declared.path.PathState.TheVariants.{Waiting, Hel
 use Rattle.checkout_core.specs.declared.path.Path.{Path}
 use Rattle.checkout_core.specs.declared.driver.DriverState.{DriverState}
 use Rattle.checkout_core.specs.declared.cursor.Cursor.{Cursor}
-use Rattle.checkout_core.specs.Steps.{Core, is_at, is_unasked, is_named_below, none_of, path_count, lowest_unasked}
+use Rattle.checkout_core.specs.States.{Core, is_at, is_unasked, is_named_below, none_of, path_count, lowest_unasked}
 use Rattle.checkout_core.specs.Cursors.{asks, is_named_at, is_naming, Follows, AllFollow, IsSound, IsCursor, HoldsAt}
 use Rattle.checkout_core.proofs.Basics.{some_is}
 use Rattle.checkout_core.proofs.Counts.{num, set_cases, count_some, none_count, none_false, lowest_some, lowest_none}

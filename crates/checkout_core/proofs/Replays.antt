@@ -2,7 +2,8 @@
 use Rattle.std.proofs.Common.{◌≡◌, ℕ, zero, suc, ◌+◌, List, [], ◌∷◌, Option, Some, None, refl, sym, ap, ◌∙◌, subst, add-one, take}
 use Rattle.std.specs.Prelude.{slice_get}
 use Rattle.checkout_core.specs.declared.event.Event.{Event}
-use Rattle.checkout_core.specs.Steps.{Core, step_of, replay}
+use Rattle.checkout_core.specs.States.{Core}
+use Rattle.checkout_core.specs.Steps.{step_of, replay}
 use Rattle.checkout_core.proofs.Basics.{none_is_some, some_is}
 
 -- after the first event

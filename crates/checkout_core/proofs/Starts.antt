@@ -11,7 +11,7 @@ use Rattle.checkout_core.specs.declared.path.Path.{Path}
 use Rattle.checkout_core.specs.declared.driver.DriverState.{DriverState}
 use Rattle.checkout_core.specs.declared.driver.DriverState.TheVariants as driver
 use Rattle.checkout_core.specs.declared.cursor.Cursor.{Cursor}
-use Rattle.checkout_core.specs.Steps.{start, offs, path_of, is_named, unclosed_count}
+use Rattle.checkout_core.specs.States.{start, offs, path_of, is_named, unclosed_count}
 use Rattle.checkout_core.specs.Cursors.{is_named_at, is_naming, is_pending, Follows, IsSound, new_cursor}
 use Rattle.checkout_core.proofs.Basics.{none_is_some, some_is}
 use Rattle.checkout_core.proofs.Counts.{num, count_none}

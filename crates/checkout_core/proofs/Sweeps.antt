@@ -15,7 +15,8 @@ use Rattle.checkout_core.specs.declared.driver.DriverState.{DriverState}
 use Rattle.checkout_core.specs.declared.cursor.Cursor.{Cursor}
 use Rattle.checkout_core.specs.declared.effect.Sweep.{Sweep}
 use Rattle.checkout_core.specs.declared.effect.Sweep.TheVariants.{Keep, Lose, Want}
-use Rattle.checkout_core.specs.Steps.{Core, each, swept, swept_path, is_at, is_unasked, is_named, is_closed, path_count, unclosed_count, with_state}
+use Rattle.checkout_core.specs.States.{Core, is_at, is_unasked, is_named, is_closed, path_count, unclosed_count, with_state}
+use Rattle.checkout_core.specs.Effects.{each, swept, swept_path}
 use Rattle.checkout_core.specs.Cursors.{is_named_at, is_naming, is_pending, IsWithin, Follows, IsSound, IsCursor, swept_paths, all_swept}
 use Rattle.checkout_core.proofs.Basics.{none_is_some, some_is, same_or, get_each}
 use Rattle.checkout_core.proofs.Bridge.{each_alike, each_step, each_nothing, each_map, kept_paths}

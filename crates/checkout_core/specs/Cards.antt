@@ -5,7 +5,8 @@ use Rattle.checkout_core.specs.declared.path.Start.TheVariants.{Desk}
 use Rattle.checkout_core.specs.declared.driver.DriverState.{DriverState}
 use Rattle.checkout_core.specs.declared.card.Card.{Card}
 use Rattle.checkout_core.specs.declared.effect.Effect.{Effect}
-use Rattle.checkout_core.specs.Steps.{Core, at_both}
+use Rattle.checkout_core.specs.States.{Core}
+use Rattle.checkout_core.specs.Conditions.{at_both}
 
 -- it stands at the place p of the state c
 pub record IsCard (c : Core) (p : ℕ) (k : Card) : Type 0 where

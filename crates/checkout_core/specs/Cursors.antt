@@ -10,7 +10,8 @@ use Rattle.checkout_core.specs.declared.cursor.Cursor.{Cursor}
 use Rattle.checkout_core.specs.declared.effect.Effect.{Effect}
 use Rattle.checkout_core.specs.declared.effect.Effect.TheVariants.{Moves, Turns, Both}
 use Rattle.checkout_core.specs.declared.effect.Sweep.{Sweep}
-use Rattle.checkout_core.specs.Steps.{Core, swept, swept_path, is_at, is_unasked, is_named_below, is_closed, none_of, path_count, named_count, unclosed_count}
+use Rattle.checkout_core.specs.States.{Core, is_at, is_unasked, is_named_below, is_closed, none_of, path_count, named_count, unclosed_count}
+use Rattle.checkout_core.specs.Effects.{swept, swept_path}
 
 abbrev pub is_pending : PathState → Bool
 is_pending path.Delayed = true

@@ -1,7 +1,8 @@
 ghost use Rattle.std.specs.Prelude.{◌≡◌, ◌&&◌, ◌<◌, length, MatchOption, not};
 ghost use Rattle.filter_words.specs.declared.reply.Reply.{Reply};
 ghost use Rattle.checkout_core.specs.declared.verdict.FilterCause.{FilterCause};
-ghost use Rattle.checkout_core.specs.Steps.{effect_of, at_path, at_driver, at_both, claim_at, open_at, fail_at, answer_at, name_at, list_at, redo_at, hand_back_at, shut_at, close_at, is_good_opening, is_good_reply, is_verdict_break, heard_opening, replied, replied_state, replied_desk, replied_sweep, unasked_cause, refused_cause, list_desk, list_sweep, list_allowed, held_close, heard_close, unasked_close, refused_verdict, heard_verdict, is_first, lacks_smudge, unasked_fine, is_delay};
+ghost use Rattle.checkout_core.specs.Verdicts.{unasked_cause, refused_cause, held_close, heard_close, unasked_close, refused_verdict, heard_verdict, is_first, lacks_smudge, unasked_fine};
+ghost use Rattle.checkout_core.specs.Conditions.{is_path_break, effect_of, at_path, at_driver, at_both, claim_at, open_at, fail_at, answer_at, name_at, list_at, redo_at, hand_back_at, shut_at, close_at, is_good_opening, is_good_reply, heard_opening, replied, replied_state, replied_desk, replied_sweep, list_desk, list_sweep, list_allowed, is_delay};
 ghost use Rattle.checkout_core.specs.Cards.{IsCard, LacksCard, IsDesk, LacksDesk};
 ghost use Rattle.checkout_core.specs.declared.event.Event.TheVariants.{Close};
 
@@ -15,8 +16,8 @@ use crate::verdict::{FailCause, FilterCause, Own, Verdict};
 use filter_words::{BreakCause, Caps, ListReply, Reply};
 
 /// A break that a path can be told of: the others come from a list alone.
-fn is_verdict_break(cause: BreakCause) -> bool
-    ensures { result ≡ is_verdict_break cause }
+fn is_path_break(cause: BreakCause) -> bool
+    ensures { result ≡ is_path_break cause }
 {
     !matches!(cause, BreakCause::StrangePath | BreakCause::ListRefused)
 }
@@ -25,7 +26,7 @@ fn is_good_opening(cause: OpenCause) -> bool
     ensures { result ≡ is_good_opening cause }
 {
     match cause {
-        OpenCause::Broken(broken) => is_verdict_break(broken),
+        OpenCause::Broken(broken) => is_path_break(broken),
         OpenCause::NotStarted | OpenCause::NoMemory => true,
     }
 }
@@ -34,7 +35,7 @@ fn is_good_reply(reply: Reply) -> bool
     ensures { result ≡ is_good_reply reply }
 {
     match reply {
-        Reply::Broken(broken) => is_verdict_break(broken),
+        Reply::Broken(broken) => is_path_break(broken),
         _ => true,
     }
 }

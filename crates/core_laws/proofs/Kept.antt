@@ -22,7 +22,10 @@ use Rattle.checkout_core.specs.declared.effect.Effect.{Effect}
 use Rattle.checkout_core.specs.declared.effect.Effect.TheVariants.{Both}
 use Rattle.checkout_core.specs.declared.effect.Sweep.{Sweep}
 use Rattle.checkout_core.specs.declared.effect.Sweep.TheVariants.{Keep, Lose, Want}
-use Rattle.checkout_core.specs.Steps.{Core, swept, effect_of, after, step_of, replay, path_after, driver_after, replied_state, replied_desk, replied_sweep, list_desk, list_sweep, named, listed, name_at, name_in, heard_opening, is_unasked, named_count, delayed, none_of}
+use Rattle.checkout_core.specs.States.{Core, is_unasked, named_count, none_of}
+use Rattle.checkout_core.specs.Effects.{swept, after, path_after, driver_after}
+use Rattle.checkout_core.specs.Conditions.{effect_of, replied_state, replied_desk, replied_sweep, list_desk, list_sweep, named, listed, name_at, name_in, heard_opening, delayed}
+use Rattle.checkout_core.specs.Steps.{step_of, replay}
 use Rattle.core_laws.specs.Notes.{is_note, notes}
 use Rattle.core_laws.specs.Closes.{own_after, own_of}
 use Rattle.core_laws.specs.Fates.{Fate, fate_of}

@@ -26,7 +26,11 @@ use Rattle.checkout_core.specs.declared.event.Event.TheVariants as ev
 use Rattle.checkout_core.specs.declared.effect.Effect.{Effect}
 use Rattle.checkout_core.specs.declared.effect.Effect.TheVariants.{Moves, Turns, Both}
 use Rattle.checkout_core.specs.declared.effect.Sweep.TheVariants.{Keep}
-use Rattle.checkout_core.specs.Steps.{Core, AreBelow, effect_of, step_of, after, done, replay, start, at_driver, at_both, of_driver, given, is_at, is_unasked, is_delayed, is_named, is_named_below, none_of, path_count, named_count, lowest_unasked, add_one, none_below, is_off, is_good_opening, is_good_reply, is_delay, claim, claim_at, heard_opening, replied, replied_state, named, list_desk, list_sweep, list_allowed, list_step, list_at, redo, redo_at, refused_cause, hand_back, hand_back_at, closing, close_at, desk_close, held_close, heard_close, unasked_close, open_first, open_at, fail_at, answer_in, answer_at, name_in, name_at, shut_in, shut_at}
+use Rattle.checkout_core.specs.States.{Core, AreBelow, start, is_at, is_unasked, is_delayed, is_named, is_named_below, none_of, path_count, named_count, lowest_unasked, add_one, none_below}
+use Rattle.checkout_core.specs.Effects.{after}
+use Rattle.checkout_core.specs.Verdicts.{refused_cause, held_close, heard_close, unasked_close}
+use Rattle.checkout_core.specs.Conditions.{effect_of, at_driver, at_both, of_driver, given, is_off, is_good_opening, is_good_reply, is_delay, claim, claim_at, heard_opening, replied, replied_state, named, list_desk, list_sweep, list_allowed, list_step, list_at, redo, redo_at, hand_back, hand_back_at, closing, close_at, desk_close, open_first, open_at, fail_at, answer_in, answer_at, name_in, name_at, shut_in, shut_at}
+use Rattle.checkout_core.specs.Steps.{step_of, done, replay}
 use Rattle.core_laws.specs.Notes.{driver_of}
 use Rattle.core_laws.specs.Actors.{actor_of, desk_of, own_entries, is_claim, is_step, is_ready, ready_at, AlikeCards}
 use Rattle.checkout_core.proofs.Basics.{none_is_some, some_is, given_is, cond_is, cond_not, of_driver_is, at_path_is, at_driver_is, at_both_is, at_session_is, step_is, first_step, same_or, desk_is}

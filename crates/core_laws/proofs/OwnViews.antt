@@ -12,7 +12,8 @@ use Rattle.checkout_core.specs.declared.effect.Effect.{Effect}
 use Rattle.checkout_core.specs.declared.effect.Effect.TheVariants.{Moves, Turns, Both}
 use Rattle.checkout_core.specs.declared.effect.Sweep.{Sweep}
 use Rattle.checkout_core.specs.declared.effect.Sweep.TheVariants.{Keep, Lose, Want}
-use Rattle.checkout_core.specs.Steps.{Core, after, each, path_after, driver_after, swept_path, swept, with_state, is_at}
+use Rattle.checkout_core.specs.States.{Core, with_state, is_at}
+use Rattle.checkout_core.specs.Effects.{after, each, path_after, driver_after, swept_path, swept}
 use Rattle.checkout_core.proofs.Basics.{some_is, start_after, same_or, eqb_self}
 
 -- where the path is in the hands of the actor

@@ -26,7 +26,11 @@ use Rattle.checkout_core.specs.declared.effect.Effect.{Effect}
 use Rattle.checkout_core.specs.declared.effect.Effect.TheVariants.{Moves, Turns, Both}
 use Rattle.checkout_core.specs.declared.effect.Sweep.{Sweep}
 use Rattle.checkout_core.specs.declared.effect.Sweep.TheVariants.{Keep, Lose, Want}
-use Rattle.checkout_core.specs.Steps.{none_of, Core, each, effect_of, after, step_of, replay, is_at, is_unasked, is_delayed, is_named, is_off, path_after, driver_after, unasked_cause, refused_cause, swept, replied, replied_state, replied_desk, replied_sweep, list_desk, list_sweep, list_allowed, heard_opening, is_good_opening, is_good_reply, is_delay, is_named_below, fresh, named, listed, delayed, named_count, lowest_unasked, add_one, answer_at, answer_in, fail_at, name_at, name_in, redo_at, redo, open_at, list_at, list_step, shut_at, shut_in, claim_at, claim, close_at, hand_back_at, hand_back, none_below, start, begins, AreBelow}
+use Rattle.checkout_core.specs.States.{none_of, Core, is_at, is_unasked, is_delayed, is_named, is_named_below, named_count, lowest_unasked, add_one, none_below, start, begins, AreBelow}
+use Rattle.checkout_core.specs.Effects.{each, after, path_after, driver_after, swept}
+use Rattle.checkout_core.specs.Verdicts.{unasked_cause, refused_cause}
+use Rattle.checkout_core.specs.Conditions.{effect_of, is_off, replied, replied_state, replied_desk, replied_sweep, list_desk, list_sweep, list_allowed, heard_opening, is_good_opening, is_good_reply, is_delay, fresh, named, listed, delayed, answer_at, answer_in, fail_at, name_at, name_in, redo_at, redo, open_at, list_at, list_step, shut_at, shut_in, claim_at, claim, close_at, hand_back_at, hand_back}
+use Rattle.checkout_core.specs.Steps.{step_of, replay}
 use Rattle.core_laws.specs.Notes.{is_of, is_note, notes}
 use Rattle.core_laws.specs.Talks.{Round, Talk, Between, Refusing, InRound, Ended, talk_step, answered, opened, list_end, list_may, redone, is_talk, is_empty, contains, without, talk_paths, skipped, to_ask}
 use Rattle.checkout_core.proofs.Basics.{none_is_some, some_is, eqb_self, get_each, each_is, start_after, step_is, first_step, same_desk, same_or, at_both_is, at_path_is, at_driver_is, at_session_is, given_is, cond_is, cond_not}

@@ -26,7 +26,10 @@ use Rattle.checkout_core.specs.declared.effect.Effect.{Effect}
 use Rattle.checkout_core.specs.declared.effect.Effect.TheVariants.{Moves, Turns, Both}
 use Rattle.checkout_core.specs.declared.effect.Sweep.{Sweep}
 use Rattle.checkout_core.specs.declared.effect.Sweep.TheVariants.{Keep}
-use Rattle.checkout_core.specs.Steps.{Core, swept, effect_of, is_at, is_unasked, path_after, driver_after, swept_path, with_state, claim, heard_opening, replied_state, replied_desk, replied_sweep, list_desk, list_sweep, list_allowed, is_names, named, redo, refused_cause, hand_back, held_close, heard_close, unasked_close, closing, close_at, desk_close, none_of, named_count, lowest_unasked, add_one, is_delay, replied, of_driver, at_driver, claim_at, open_at, fresh, fail_at, answer_in, answer_at, name_in, name_at, list_at, list_step, redo_at, hand_back_at, shut_in, shut_at}
+use Rattle.checkout_core.specs.States.{Core, is_at, is_unasked, with_state, none_of, named_count, lowest_unasked, add_one}
+use Rattle.checkout_core.specs.Effects.{swept, path_after, driver_after, swept_path}
+use Rattle.checkout_core.specs.Verdicts.{refused_cause, held_close, heard_close, unasked_close}
+use Rattle.checkout_core.specs.Conditions.{effect_of, claim, heard_opening, replied_state, replied_desk, replied_sweep, list_desk, list_sweep, list_allowed, is_names, named, redo, hand_back, closing, close_at, desk_close, is_delay, replied, of_driver, at_driver, claim_at, open_at, fresh, fail_at, answer_in, answer_at, name_in, name_at, list_at, list_step, redo_at, hand_back_at, shut_in, shut_at}
 use Rattle.core_laws.specs.Notes.{is_of, is_note}
 use Rattle.core_laws.specs.Closes.{own_after}
 use Rattle.checkout_core.proofs.Bridge.{swept_keep}

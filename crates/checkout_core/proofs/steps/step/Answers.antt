@@ -1,5 +1,5 @@
 use Rattle.std.proofs.Common.{sym, subst}
-use Rattle.checkout_core.specs.Steps.{Core}
+use Rattle.checkout_core.specs.States.{Core}
 use Rattle.checkout_core.specs.Cursors.{IsFollowable}
 use Rattle.checkout_core.proofs.Followable.{followable}
 use Rattle.checkout_core.proofs.steps.step.Goals as goal

@@ -2,7 +2,8 @@ use Rattle.std.proofs.Common.{◌≡◌, sym, subst, set, arith}
 use Rattle.checkout_core.specs.declared.cursor.Cursor.{Cursor}
 use Rattle.checkout_core.specs.declared.effect.Effect.TheVariants.{Both}
 use Rattle.checkout_core.specs.declared.effect.Sweep.TheVariants.{Keep}
-use Rattle.checkout_core.specs.Steps.{Core, after}
+use Rattle.checkout_core.specs.States.{Core}
+use Rattle.checkout_core.specs.Effects.{after}
 use Rattle.checkout_core.specs.Cursors.{IsSound, IsCursor, IsFollowable}
 use Rattle.checkout_core.proofs.Changes.{advance_sound, advance_fits, advance_is, path_within, driver_within}
 use Rattle.checkout_core.proofs.state.State.advance.Goals as goal

@@ -1,6 +1,6 @@
 use Rattle.std.proofs.Common.{◌∙◌, sym, ap, subst}
 use Rattle.checkout_core.specs.declared.effect.Effect.{Effect}
-use Rattle.checkout_core.specs.Steps.{after}
+use Rattle.checkout_core.specs.Effects.{after}
 use Rattle.checkout_core.specs.Cursors.{IsFollowable}
 use Rattle.checkout_core.proofs.Applies.{turn_seat, both_seat, turns_whole, both_whole}
 use Rattle.checkout_core.proofs.state.State.apply.Goals as goal

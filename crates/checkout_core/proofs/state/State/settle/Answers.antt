@@ -1,6 +1,7 @@
 use Rattle.std.proofs.Common.{◌≡◌, sym, subst, ◌≤◌, ◌-◌, ℕ, set, arith}
 use Rattle.checkout_core.specs.declared.effect.Effect.TheVariants.{Moves}
-use Rattle.checkout_core.specs.Steps.{Core, after}
+use Rattle.checkout_core.specs.States.{Core}
+use Rattle.checkout_core.specs.Effects.{after}
 use Rattle.checkout_core.specs.Cursors.{IsSound, IsFollowable}
 use Rattle.checkout_core.proofs.Changes.{settle_within, settle_fits, settle_sound, settle_is}
 use Rattle.checkout_core.proofs.state.State.settle.Goals as goal

@@ -1,7 +1,7 @@
 use Rattle.std.proofs.Common.{◌≡◌, ◌∙◌, ap, map, List}
 use Rattle.checkout_core.specs.declared.path.Path.{Path}
 use Rattle.checkout_core.specs.declared.path.Start.{Start}
-use Rattle.checkout_core.specs.Steps.{path_of, unclosed_count}
+use Rattle.checkout_core.specs.States.{path_of, unclosed_count}
 use Rattle.checkout_core.proofs.Starts.{start_sound, start_is}
 use Rattle.checkout_core.proofs.state.State.start.Goals as goal
 

@@ -1,7 +1,7 @@
 use Rattle.std.proofs.Common.{◌≡◌, ◌∙◌, sym, ap, subst, List, length, set, arith}
 use Rattle.checkout_core.specs.declared.path.Path.{Path}
 use Rattle.checkout_core.specs.declared.effect.Sweep.TheVariants.{Keep}
-use Rattle.checkout_core.specs.Steps.{Core}
+use Rattle.checkout_core.specs.States.{Core}
 use Rattle.checkout_core.specs.Cursors.{IsSound, IsCursor, swept_paths}
 use Rattle.checkout_core.proofs.Sweeps.{sweep_sound, sweep_kept, put_back, length_swept}
 use Rattle.checkout_core.proofs.state.State.sweep.Goals as goal

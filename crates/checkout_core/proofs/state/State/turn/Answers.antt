@@ -1,7 +1,8 @@
 use Rattle.std.proofs.Common.{◌≡◌, sym, subst, set}
 use Rattle.checkout_core.specs.declared.effect.Effect.TheVariants.{Turns}
 use Rattle.checkout_core.specs.declared.effect.Sweep.TheVariants.{Keep}
-use Rattle.checkout_core.specs.Steps.{Core, after}
+use Rattle.checkout_core.specs.States.{Core}
+use Rattle.checkout_core.specs.Effects.{after}
 use Rattle.checkout_core.specs.Cursors.{IsFollowable}
 use Rattle.checkout_core.proofs.Changes.{turn_sound, turn_is}
 use Rattle.checkout_core.proofs.state.State.turn.Goals as goal

@@ -1,5 +1,5 @@
 use Rattle.std.proofs.Common.{◌≡◌}
-use Rattle.checkout_core.specs.Steps.{each}
+use Rattle.checkout_core.specs.Effects.{each}
 use Rattle.checkout_core.proofs.Sweeps.{swept_before}
 use Rattle.checkout_core.proofs.state.apply.sweep_paths.Given as goal
 

@@ -1,5 +1,5 @@
 use Rattle.std.proofs.Common.{◌≡◌, ◌+◌, ◌≤◌, drop}
-use Rattle.checkout_core.specs.Steps.{unclosed_count}
+use Rattle.checkout_core.specs.States.{unclosed_count}
 use Rattle.checkout_core.proofs.state.start.unclosed_count.Given as goal
 
 abbrev pub invariant-loop-path : goal.invariant-loop-path
