@@ -1,5 +1,5 @@
 -- What a step is made of.
-use Rattle.std.proofs.Common.{◌≡◌, ◌==◌, ℕ, zero, suc, ◌⊎◌, inl, inr, Bool, true, false, cond, List, [], ◌∷◌, Option, Some, None, refl, sym, ap, ◌∙◌, eq-eqb, ne_eqb}
+use Rattle.std.proofs.Common.{⊎_elim, ◌≡◌, ◌==◌, ℕ, zero, suc, ◌⊎◌, inl, inr, Bool, true, false, cond, List, [], ◌∷◌, Option, Some, None, refl, sym, ap, ◌∙◌, eq-eqb, ne_eqb, ◌<◌, length, arith}
 use Rattle.std.specs.Prelude.{slice_get}
 use mathlib.Core.Logic.{dite}
 use native.Mathlib.Decide.{ℕ_discrete}
@@ -12,7 +12,7 @@ use Rattle.checkout_core.specs.declared.driver.DriverState.TheVariants as driver
 use Rattle.checkout_core.specs.declared.event.Event.{Event}
 use Rattle.checkout_core.specs.declared.effect.Effect.{Effect}
 use Rattle.checkout_core.specs.declared.effect.Effect.TheVariants.{Moves, Turns, Both}
-use Rattle.checkout_core.specs.States.{Core, with_state}
+use Rattle.checkout_core.specs.States.{Core, with_state, is_at}
 use Rattle.checkout_core.specs.Effects.{after, each, swept_path, path_after}
 use Rattle.checkout_core.specs.Conditions.{effect_of, given, at_path, at_driver, of_driver, at_session, at_both}
 use Rattle.checkout_core.specs.Steps.{step_of, done, replay}
@@ -139,3 +139,20 @@ start_after (Both p s d t w) q r = go (q == p)
     go : (b : Bool) → (cond b (with_state r s) (swept_path d w r)).start ≡ r.start
     go true = refl
     go false = refl
+
+-- equal numbers, and others
+pub same_number : (a b : ℕ) → (a == b) ≡ true → a ≡ b
+same_number a b e = ⊎_elim (λ (h : (a ≡ b) × ((a == b) ≡ true)). h.0) (λ (h : (a == b) ≡ false). absurd (cc (h, e))) (same_or a b)
+
+pub other_number : (p q : ℕ) → (p ≡ q → ⊥) → (p == q) ≡ false
+other_number p q n = ne_eqb p q n
+
+-- the item at a place within a list
+pub item_within : {A : Type 0} → (xs : List A) (i : ℕ) → i < length xs → (v : A) × (slice_get xs i ≡ Some v)
+item_within [] i l = absurd (omega arith)
+item_within (v ∷ vs) zero l = (v, refl)
+item_within (v ∷ vs) (suc i) l = item_within vs i (omega arith)
+
+-- a path of this driver
+pub at_it : (d : ℕ) (b : Bool) (s : Start) → s ≡ Desk d b → is_at d s ≡ true
+at_it d b s e = ap (is_at d) e ∙ eqb_self d

@@ -1,5 +1,5 @@
 -- An effect, as code makes it: a place is set, and a loop goes over all.
-use Rattle.std.proofs.Common.{◌≡◌, ◌==◌, ℕ, zero, suc, ⊎_elim, Bool, true, false, cond, List, [], ◌∷◌, map, set, Some, refl, sym, ap, ◌∙◌, arith}
+use Rattle.std.proofs.Common.{◌≡◌, ◌==◌, ℕ, zero, suc, Bool, true, false, cond, List, [], ◌∷◌, map, set, Some, refl, sym, ap, ◌∙◌, arith}
 use Rattle.std.specs.Prelude.{slice_get}
 use Rattle.checkout_core.specs.declared.path.PathState.{PathState}
 use Rattle.checkout_core.specs.declared.path.Path.{Path}
@@ -12,7 +12,7 @@ use Rattle.checkout_core.specs.declared.effect.Sweep.{Sweep}
 use Rattle.checkout_core.specs.declared.effect.Sweep.TheVariants.{Keep}
 use Rattle.checkout_core.specs.States.{Core, with_state, is_at}
 use Rattle.checkout_core.specs.Effects.{after, each, path_after, driver_after, swept_path, swept}
-use Rattle.checkout_core.proofs.Basics.{none_is_some, some_is, eqb_self, same_or}
+use Rattle.checkout_core.proofs.Basics.{none_is_some, some_is, eqb_self, other_number}
 
 module _ {A : Type 0} where
   pub each_map : (f : A → A) (h : ℕ → A → A) (xs : List A) → ((q : ℕ) (w : A) → h q w ≡ f w) → each h xs ≡ map f xs
@@ -26,16 +26,13 @@ module _ {A : Type 0} where
   each_set f h (y ∷ xs) (suc p) x v there here same =
       ap (λ z. z ∷ each (λ i. h (suc i)) xs) (same zero y (λ e. absurd (cc (e)))) ∙ ap (λ (ys : List A). f y ∷ ys) (each_set f (λ i. h (suc i)) xs p x v there here (λ q w n. same (suc q) w (λ e. n (let k : q ≡ p = omega arith in k))))
 
-not_same : (p q : ℕ) → (p ≡ q → ⊥) → (p == q) ≡ false
-not_same p q n = ⊎_elim (λ (k : (p ≡ q) × ((p == q) ≡ true)). absurd (n k.0)) (λ (k : (p == q) ≡ false). k) (same_or p q)
-
 pub both_set : (rs : List Path) (p : ℕ) (r : Path) (s : PathState) (d : ℕ) (t : DriverState) (w : Sweep) → slice_get rs p ≡ Some r → each (path_after (Both p s d t w)) rs ≡ set (map (swept_path d w) rs) p (with_state r s)
 both_set rs p r s d t w there = each_set (swept_path d w) (path_after (Both p s d t w)) rs p r (with_state r s) there
     (ap (λ b. cond b (with_state r s) (swept_path d w r)) (eqb_self p))
-    (λ q v n. ap (λ b. cond b (with_state v s) (swept_path d w v)) (not_same q p n))
+    (λ q v n. ap (λ b. cond b (with_state v s) (swept_path d w v)) (other_number q p n))
 
 pub turn_set : (xs : List DriverState) (d : ℕ) (x t : DriverState) (w : Sweep) → slice_get xs d ≡ Some x → each (driver_after (Turns d t w)) xs ≡ set (map (λ y. y) xs) d t
-turn_set xs d x t w there = each_set (λ y. y) (driver_after (Turns d t w)) xs d x t there (ap (λ b. cond b t x) (eqb_self d)) (λ q v n. ap (λ b. cond b t v) (not_same q d n))
+turn_set xs d x t w there = each_set (λ y. y) (driver_after (Turns d t w)) xs d x t there (ap (λ b. cond b t x) (eqb_self d)) (λ q v n. ap (λ b. cond b t v) (other_number q d n))
 
 pub each_none : {A : Type 0} (xs : List A) → each (λ e x. x) xs ≡ xs
 each_none [] = refl
@@ -100,7 +97,7 @@ both_swept c p s d t w stays = ap (λ (rs : List Path). record { workers = c.wor
 
 pub moves_after : (c : Core) (p : ℕ) (r : Path) (s : PathState) → slice_get c.paths p ≡ Some r → after c (Moves p s) ≡ record { workers = c.workers; drivers = c.drivers; paths = set c.paths p (with_state r s) }
 moves_after c p r s there =
-    let rows : each (path_after (Moves p s)) c.paths ≡ set (map (λ x. x) c.paths) p (with_state r s) = each_set (λ x. x) (path_after (Moves p s)) c.paths p r (with_state r s) there (ap (λ b. with_state r (cond b s r.state)) (eqb_self p)) (λ q v n. ap (λ b. with_state v (cond b s v.state)) (not_same q p n)) in
+    let rows : each (path_after (Moves p s)) c.paths ≡ set (map (λ x. x) c.paths) p (with_state r s) = each_set (λ x. x) (path_after (Moves p s)) c.paths p r (with_state r s) there (ap (λ b. with_state r (cond b s r.state)) (eqb_self p)) (λ q v n. ap (λ b. with_state v (cond b s v.state)) (other_number q p n)) in
     ap (λ (ds : List DriverState). record { workers = c.workers; drivers = ds; paths = each (path_after (Moves p s)) c.paths }) (each_none c.drivers)
     ∙ ap (λ (rs : List Path). record { workers = c.workers; drivers = c.drivers; paths = rs }) (rows ∙ ap (λ (rs : List Path). set rs p (with_state r s)) (map_none c.paths))
 

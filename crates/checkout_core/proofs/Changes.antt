@@ -1,7 +1,7 @@
 -- What each change leaves of the cursors.
-use Rattle.std.proofs.Common.{◌≡◌, ◌==◌, ℕ, zero, suc, ◌+◌, ◌-◌, ◌<◌, ◌≤◌, min, max, ◌⊎◌, inl, inr, ⊎_elim, Bool, true, false, cond, List, [], ◌∷◌, length, set, get_or, Some, refl, sym, ap, ◌∙◌, subst, eq-eqb, ne_eqb, arith}
+use Rattle.std.proofs.Common.{◌≡◌, ◌==◌, ℕ, ◌+◌, ◌-◌, ◌<◌, ◌≤◌, min, max, ◌⊎◌, inl, inr, ⊎_elim, Bool, true, false, cond, List, length, set, get_or, Some, refl, sym, ap, ◌∙◌, subst, eq-eqb, ne_eqb, arith}
 use Rattle.std.specs.Prelude.{slice_get, ◌&&◌, ◌||◌, not, nat_lt, nat_le}
-use Rattle.std.proofs.lemmas.Bool.{and_parts, and_from, cases_Bool, lt-ltb, ltb-true, ltb-false, le-ltb, le-leb, lt-leb, not-true, or_cases, or_parts}
+use Rattle.std.proofs.lemmas.Bool.{and_parts, and_from, lt-ltb, ltb-false, le-ltb, le-leb, lt-leb, not-true, or_cases, or_parts, cases_lt}
 use Rattle.std.proofs.lemmas.List.{length-set}
 use Rattle.std.proofs.lemmas.Option.{slice_get_within, get_or_from_slice_get}
 use Rattle.checkout_core.specs.declared.path.PathState.{PathState}
@@ -17,7 +17,7 @@ use Rattle.checkout_core.specs.declared.effect.Sweep.TheVariants.{Keep}
 use Rattle.checkout_core.specs.States.{is_at, is_unasked, is_named, is_named_below, is_closed, none_of, path_count, named_count, unclosed_count, with_state}
 use Rattle.checkout_core.specs.Effects.{after, each, driver_after}
 use Rattle.checkout_core.specs.Cursors.{is_named_at, is_naming, is_pending, settles, advances, Follows, AllFollow, IsSound, IsCursor, cursor_after, delayed_after, CanFollow, IsFollowable}
-use Rattle.checkout_core.proofs.Basics.{some_is, same_or}
+use Rattle.checkout_core.proofs.Basics.{some_is, same_or, same_number, item_within}
 use Rattle.checkout_core.proofs.Counts.{num, set_cases, count_set, count_some, count_length, unclosed_set}
 use Rattle.checkout_core.proofs.Follows.{lowest_turn}
 use Rattle.checkout_core.proofs.Bridge.{both_set, turn_set, moves_after, map_none, kept_paths, turned_paths}
@@ -70,9 +70,6 @@ follows_other paths n m e k p r s there was now un0 naming f = record {
   begins = λ h. f.begins (naming h);
 }
 
-order : (a b : ℕ) → (a < b) ⊎ (b ≤ a)
-order a b = ⊎_elim (λ (i : nat_lt a b ≡ true). inl (ltb-true a b i)) (λ (i : nat_lt a b ≡ false). inr (ltb-false a b i)) (cases_Bool (nat_lt a b))
-
 -- how many are named at the turn u, where n are from the turn a on
 abbrev slot : ℕ → ℕ → ℕ → ℕ
 slot a n u = num (nat_le a u && nat_lt u (a + n))
@@ -95,7 +92,7 @@ slot_first a n u (inl e) = ap (λ z. slot z n u) e
 slot_first a n u (inr e) = none a ∙ sym (none 0)
   where
     none : (b : ℕ) → slot b n u ≡ 0
-    none b = ⊎_elim (λ (h : u < b). slot_below b n u h) (λ (h : b ≤ u). slot_above b n u (omega arith)) (order u b)
+    none b = ⊎_elim (λ (h : u < b). slot_below b n u h) (λ (h : b ≤ u). slot_above b n u (omega arith)) (cases_lt u b)
 
 is_num : (u t : ℕ) → u ≡ t → num (u == t) ≡ 1
 is_num u t e = ap num (eq-eqb u t e)
@@ -108,9 +105,9 @@ slot_more n u = ⊎_elim
     (λ (h : u < n). let a = slot_in 0 n u (omega arith) (omega arith) in let b = not_num u n (λ e. absurd (omega arith)) in let c = slot_in 0 (n + 1) u (omega arith) (omega arith) in omega (arith, a, b, c))
     (λ (h : n ≤ u). ⊎_elim
     (λ (e : (u ≡ n) × ((u == n) ≡ true)). let e0 = e.0 in let a = slot_above 0 n u (omega arith) in let b = is_num u n e.0 in let c = slot_in 0 (n + 1) u (omega arith) (omega arith) in omega (arith, a, b, c))
-    (λ (e : (u == n) ≡ false). let a = slot_above 0 n u (omega arith) in let b : num (u == n) ≡ 0 = ap num e in let other : (u ≡ n → ⊥) = (λ i. let z = eq-eqb u n i in cc (z, e)) in let c = slot_above 0 (n + 1) u (let l = order n u in ⊎_elim (λ (x : n < u). omega arith) (λ (x : u ≤ n). absurd (other (omega arith))) l) in omega (arith, a, b, c))
+    (λ (e : (u == n) ≡ false). let a = slot_above 0 n u (omega arith) in let b : num (u == n) ≡ 0 = ap num e in let other : (u ≡ n → ⊥) = (λ i. let z = eq-eqb u n i in cc (z, e)) in let c = slot_above 0 (n + 1) u (let l = cases_lt n u in ⊎_elim (λ (x : n < u). omega arith) (λ (x : u ≤ n). absurd (other (omega arith))) l) in omega (arith, a, b, c))
     (same_or u n))
-    (order u n)
+    (cases_lt u n)
 
 slot_less : (a n u : ℕ) → 1 ≤ n → slot (a + 1) (n - 1) u + num (u == a) ≡ slot a n u
 slot_less a n u some = ⊎_elim
@@ -120,13 +117,13 @@ slot_less a n u some = ⊎_elim
     (λ (e : (u == a) ≡ false).
     let other : (u ≡ a → ⊥) = (λ i. let z = eq-eqb u a i in cc (z, e)) in
     let b : num (u == a) ≡ 0 = ap num e in
-    let more : a < u = ⊎_elim (λ (x : a < u). x) (λ (x : u ≤ a). absurd (other (omega arith))) (order a u) in
+    let more : a < u = ⊎_elim (λ (x : a < u). x) (λ (x : u ≤ a). absurd (other (omega arith))) (cases_lt a u) in
     ⊎_elim
     (λ (l : u < a + n). let x = slot_in (a + 1) (n - 1) u (omega arith) (omega arith) in let c = slot_in a n u h l in omega (arith, x, b, c))
     (λ (l : a + n ≤ u). let x = slot_above (a + 1) (n - 1) u (omega arith) in let c = slot_above a n u l in omega (arith, x, b, c))
-    (order u (a + n)))
+    (cases_lt u (a + n)))
     (same_or u a))
-    (order u a)
+    (cases_lt u a)
 
 -- the path of the driver itself advances
 module _ (paths : List Path) (d : ℕ) (k : Cursor) (p : ℕ) (r : Path) (there : slice_get paths p ≡ Some r) (at : is_at d r.start ≡ true) where
@@ -244,25 +241,16 @@ advance_cases paths d k p r n m Unasked (path.Heard h) there at is f ok =
     naming false n e i = absurd (cc (i))
 advance_cases paths d k p r n m path.Delayed (path.Named t) there at is f ok =
     let parts = and_parts _ _ ok in
-    names paths d k p r there at n m t is (number t (named_count d paths) parts.0 ∙ f.named)
-    (⊎_elim (λ (h : n ≡ true). inl h) (λ (h : (named_count d paths == 0) ≡ true). inr (sym f.named ∙ number (named_count d paths) 0 h)) (or_cases _ _ parts.1)) f
-  where
-    number : (a b : ℕ) → (a == b) ≡ true → a ≡ b
-    number a b e = ⊎_elim (λ (h : (a ≡ b) × ((a == b) ≡ true)). h.0) (λ (h : (a == b) ≡ false). absurd (cc (h, e))) (same_or a b)
+    names paths d k p r there at n m t is (same_number t (named_count d paths) parts.0 ∙ f.named)
+    (⊎_elim (λ (h : n ≡ true). inl h) (λ (h : (named_count d paths == 0) ≡ true). inr (sym f.named ∙ same_number (named_count d paths) 0 h)) (or_cases _ _ parts.1)) f
 advance_cases paths d k p r n m (path.Named t) (path.Heard h) there at is f ok =
     let parts = and_parts _ _ ok in
-    redoes paths d k p r there at n m t (path.Heard h) is refl refl (number t k.turn (lowest_turn paths n d k p t r f there at is ∙ parts.0))
+    redoes paths d k p r there at n m t (path.Heard h) is refl refl (same_number t k.turn (lowest_turn paths n d k p t r f there at is ∙ parts.0))
     (let z = count_some d is_named paths p r there at (ap is_named is) in let g = f.named in omega arith) (not-true m parts.1) f
-  where
-    number : (a b : ℕ) → (a == b) ≡ true → a ≡ b
-    number a b e = ⊎_elim (λ (h : (a ≡ b) × ((a == b) ≡ true)). h.0) (λ (h : (a == b) ≡ false). absurd (cc (h, e))) (same_or a b)
 advance_cases paths d k p r n m a s there at is f ok = absurd (cc (ok))
 
 is_at_other : (e d : ℕ) (s : Start) → is_at d s ≡ true → (e ≡ d → ⊥) → is_at e s ≡ false
-is_at_other e d (Desk f b) at n = ne_eqb e f (λ i. n (i ∙ sym (number d f at)))
-  where
-    number : (a b : ℕ) → (a == b) ≡ true → a ≡ b
-    number a b e = ⊎_elim (λ (h : (a ≡ b) × ((a == b) ≡ true)). h.0) (λ (h : (a == b) ≡ false). absurd (cc (h, e))) (same_or a b)
+is_at_other e d (Desk f b) at n = ne_eqb e f (λ i. n (i ∙ sym (same_number d f at)))
 is_at_other e d Pool at n = refl
 is_at_other e d (Done v) at n = refl
 
@@ -286,13 +274,8 @@ advance_all paths drivers cursors p d r s x t k all there at seat new = record {
       (set_cases drivers d e x t y seat i);
 }
   where
-    get : (xs : List Cursor) (i : ℕ) → i < length xs → (v : Cursor) × (slice_get xs i ≡ Some v)
-    get [] i l = absurd (omega arith)
-    get (v ∷ vs) zero l = (v, refl)
-    get (v ∷ vs) (suc i) l = get vs i (omega arith)
-
     old : (v : Cursor) × (slice_get cursors d ≡ Some v)
-    old = get cursors d (let l = slice_get_within drivers d x seat in let s = all.same_length in omega arith)
+    old = item_within cursors d (let l = slice_get_within drivers d x seat in let s = all.same_length in omega arith)
 
 open_counts : (a b u : ℕ) → a + 1 ≡ b + 1 → b ≡ u → a ≡ u
 open_counts a b u h i = omega arith

@@ -13,8 +13,6 @@ use Rattle.checkout_core.specs.declared.path.Heard.TheVariants as heard
 use Rattle.checkout_core.specs.declared.path.PathState.{PathState}
 use Rattle.checkout_core.specs.declared.path.PathState.TheVariants as path
 use Rattle.checkout_core.specs.declared.path.PathState.TheVariants.{Waiting, Held, Unasked, Closed}
-use Rattle.checkout_core.specs.declared.path.Start.{Start}
-use Rattle.checkout_core.specs.declared.path.Start.TheVariants.{Desk}
 use Rattle.checkout_core.specs.declared.path.Path.{Path}
 use Rattle.checkout_core.specs.declared.driver.Session.{Session}
 use Rattle.checkout_core.specs.declared.driver.DriverState.{DriverState}
@@ -24,17 +22,14 @@ use Rattle.checkout_core.specs.declared.event.Event.TheVariants as ev
 use Rattle.checkout_core.specs.declared.effect.Effect.{Effect}
 use Rattle.checkout_core.specs.declared.effect.Effect.TheVariants.{Moves, Turns, Both}
 use Rattle.checkout_core.specs.declared.effect.Sweep.TheVariants.{Keep}
-use Rattle.checkout_core.specs.States.{Core, is_at, is_named_below, none_of, named_count, lowest_unasked}
+use Rattle.checkout_core.specs.States.{Core, is_named_below, none_of, named_count, lowest_unasked}
 use Rattle.checkout_core.specs.Effects.{swept}
 use Rattle.checkout_core.specs.Verdicts.{refused_cause}
 use Rattle.checkout_core.specs.Conditions.{effect_of, heard_opening, replied_state, replied_desk, replied_sweep, list_desk, list_sweep, list_allowed, named, hand_back, close_at, is_delay, replied, claim, claim_at, open_at, fail_at, answer_in, answer_at, name_in, name_at, list_at, list_step, redo, redo_at, hand_back_at, shut_in, shut_at}
 use Rattle.checkout_core.specs.Cursors.{settles, advances, is_naming, IsFollowable}
-use Rattle.checkout_core.proofs.Basics.{none_is_some, given_is, cond_is, cond_not, at_path_is, at_driver_is, at_session_is, at_both_is, eqb_self}
+use Rattle.checkout_core.proofs.Basics.{none_is_some, given_is, cond_is, cond_not, at_path_is, at_driver_is, at_session_is, at_both_is, at_it}
 use Rattle.checkout_core.proofs.Inverses.{unasked_is, late_is, redo_is, claim_is, back_is, open_is, close_moves}
 use Rattle.checkout_core.proofs.Counts.{none_named}
-
-at_it : (d : ℕ) (b : Bool) (s : Start) → s ≡ Desk d b → is_at d s ≡ true
-at_it d b s e = ap (is_at d) e ∙ eqb_self d
 
 close_settles : (c : Core) (q a : ℕ) (o : Own) (r : Path) (s : PathState) (m : Effect) (v : Verdict) → close_at c q a o r s ≡ Some m → settles s (Closed v) ≡ true
 close_settles c q a o r (Held b raw) m v e = refl

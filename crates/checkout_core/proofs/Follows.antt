@@ -1,7 +1,7 @@
 -- The cursors follow the paths.
-use Rattle.std.proofs.Common.{◌≡◌, ◌==◌, ℕ, zero, suc, ◌+◌, ◌<◌, ◌≤◌, ◌⊎◌, inl, inr, ⊎_elim, Bool, true, false, List, [], ◌∷◌, length, set, get_or, Some, None, refl, sym, ap, ◌∙◌, subst, eq-eqb, ne_eqb, arith}
+use Rattle.std.proofs.Common.{◌≡◌, ◌==◌, ℕ, ◌+◌, ◌<◌, ◌≤◌, ⊎_elim, Bool, true, false, List, length, set, get_or, Some, None, refl, sym, ap, ◌∙◌, subst, eq-eqb, ne_eqb, arith}
 use Rattle.std.specs.Prelude.{slice_get, ◌&&◌, nat_lt, nat_le}
-use Rattle.std.proofs.lemmas.Bool.{and_from, cases_Bool, lt-ltb, ltb-true, ltb-false, leb-true, le-leb}
+use Rattle.std.proofs.lemmas.Bool.{and_from, lt-ltb, ltb-true, leb-true, le-leb, cases_lt}
 use Rattle.std.proofs.lemmas.List.{length-set}
 use Rattle.std.proofs.lemmas.Option.{slice_get_within, slice_get_read}
 use Rattle.checkout_core.specs.declared.path.PathState.TheVariants as path
@@ -11,7 +11,7 @@ use Rattle.checkout_core.specs.declared.driver.DriverState.{DriverState}
 use Rattle.checkout_core.specs.declared.cursor.Cursor.{Cursor}
 use Rattle.checkout_core.specs.States.{Core, is_at, is_unasked, is_named_below, none_of, path_count, lowest_unasked}
 use Rattle.checkout_core.specs.Cursors.{asks, is_named_at, is_naming, Follows, AllFollow, IsSound, IsCursor, HoldsAt}
-use Rattle.checkout_core.proofs.Basics.{some_is}
+use Rattle.checkout_core.proofs.Basics.{some_is, item_within}
 use Rattle.checkout_core.proofs.Counts.{num, set_cases, count_some, none_count, none_false, lowest_some, lowest_none}
 
 -- the driver d gets another cursor
@@ -30,12 +30,7 @@ follow_cursor paths drivers cursors d x k all there new = record {
         let same : y ≡ x = some_is y x (sym i ∙ (ap (λ z. slice_get drivers z) s.0 ∙ there)) in
         subst (λ (z : DriverState). Follows paths (is_naming z) e j) (sym same) (subst (λ (z : ℕ). Follows paths (is_naming x) z j) (sym s.0) (subst (λ (z : Cursor). Follows paths (is_naming x) d z) s.1 new)))
         (λ (s : (e ≡ d → ⊥) × (slice_get cursors e ≡ Some j)). all.follow e y j i s.1)
-        (set_cases cursors d e (get cursors d less).0 k j (get cursors d less).1 g)
-      where
-        get : (xs : List Cursor) (i : ℕ) → i < length xs → (v : Cursor) × (slice_get xs i ≡ Some v)
-        get [] i l = absurd (omega arith)
-        get (v ∷ vs) zero l = (v, refl)
-        get (v ∷ vs) (suc i) l = get vs i (omega arith)
+        (set_cases cursors d e (item_within cursors d less).0 k j (item_within cursors d less).1 g)
 
 in_turns : (a b t : ℕ) → 1 ≤ num (nat_le a t && nat_lt t b) → (a ≤ t) × (t < b)
 in_turns a b t h = go (nat_le a t) (nat_lt t b) refl refl h
@@ -62,10 +57,7 @@ lowest_turn paths n d k p t r f there at is = go (none_of d (is_named_below t) p
         let one : path_count d (is_named_at k.turn) paths ≡ 1 = f.turns k.turn ∙ ap num (and_from _ _ (le-leb k.turn k.turn (omega arith)) (lt-ltb k.turn (k.turn + k.named) (let m = mine.1 in omega arith))) in
         absurd (omega arith))
         (λ (l : t ≤ k.turn). eq-eqb t k.turn (let m = mine.0 in omega arith))
-        (order k.turn t)
-      where
-        order : (a b : ℕ) → (a < b) ⊎ (b ≤ a)
-        order a b = ⊎_elim (λ (i : nat_lt a b ≡ true). inl (ltb-true a b i)) (λ (i : nat_lt a b ≡ false). inr (ltb-false a b i)) (cases_Bool (nat_lt a b))
+        (cases_lt k.turn t)
     go false some =
         let u = none_false d t paths some in
         let in_u = turn_within paths n d k u.0 f u.2 in
@@ -74,13 +66,8 @@ lowest_turn paths n d k p t r f there at is = go (none_of d (is_named_below t) p
 -- the cursor that a driver has
 pub cursor_of : (paths : List Path) (drivers : List DriverState) (cursors : List Cursor) (d : ℕ) (k : Cursor) → AllFollow paths drivers cursors → d < length drivers → k ≡ get_or cursors d k → (x : DriverState) × (slice_get drivers d ≡ Some x) × Follows paths (is_naming x) d k
 cursor_of paths drivers cursors d k all less is =
-    let x = get drivers d less in
+    let x = item_within drivers d less in
     (x.0, x.1, all.follow d x.0 k x.1 (slice_get_read cursors (length drivers) d k (sym all.same_length) less is))
-  where
-    get : (xs : List DriverState) (i : ℕ) → i < length xs → (v : DriverState) × (slice_get xs i ≡ Some v)
-    get [] i l = absurd (omega arith)
-    get (v ∷ vs) zero l = (v, refl)
-    get (v ∷ vs) (suc i) l = get vs i (omega arith)
 
 pub cursor_in : (c : Core) (workers : ℕ) (paths : List Path) (drivers : List DriverState) (cursors : List Cursor) (d : ℕ) (k : Cursor) → record { workers = workers; drivers = drivers; paths = paths } ≡ c → AllFollow paths drivers cursors → d < length c.drivers → k ≡ get_or cursors d k → IsCursor c d k
 cursor_in c workers paths drivers cursors d k view all less is =
@@ -99,7 +86,7 @@ cursor_on c workers paths drivers cursors unclosed d k i view s is le none =
         unasked = λ p r there at un. ⊎_elim
             (λ (l : p < i). let z = none p r (f.unasked p r there at un) l there in let a = and_from _ _ at un in absurd (cc (z, a)))
             (λ (l : i ≤ p). l)
-            (order p i);
+            (cases_lt p i);
         unasked_fits = le;
         pending = f.pending;
         end_fits = f.end_fits;
@@ -110,9 +97,6 @@ cursor_on c workers paths drivers cursors unclosed d k i view s is le none =
       });
       unclosed_is = s.unclosed_is;
     }
-  where
-    order : (a b : ℕ) → (a < b) ⊎ (b ≤ a)
-    order a b = ⊎_elim (λ (i : nat_lt a b ≡ true). inl (ltb-true a b i)) (λ (i : nat_lt a b ≡ false). inr (ltb-false a b i)) (cases_Bool (nat_lt a b))
 
 none_before : (c : Core) (workers : ℕ) (paths : List Path) (drivers : List DriverState) (d : ℕ) (k : Cursor) (i : ℕ) → record { workers = workers; drivers = drivers; paths = paths } ≡ c → IsCursor c d k → ((p : ℕ) (r : Path) → k.unasked ≤ p → p < i → slice_get paths p ≡ Some r → asks d r ≡ false) → (p : ℕ) (r : Path) → p < i → slice_get paths p ≡ Some r → asks d r ≡ false
 none_before c workers paths drivers d k i view is none p r l there =

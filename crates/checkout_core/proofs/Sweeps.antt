@@ -1,8 +1,8 @@
 -- The sweep of a driver's delayed and named paths.
-use Rattle.std.proofs.Common.{◌≡◌, ◌==◌, ℕ, zero, suc, ◌+◌, ◌<◌, ◌≤◌, ◌⊎◌, inl, inr, ⊎_elim, Bool, true, false, cond, List, [], ◌∷◌, length, set, get_or, Some, refl, sym, ap, ◌∙◌, subst, ne_eqb, arith}
+use Rattle.std.proofs.Common.{◌≡◌, ◌==◌, ℕ, zero, suc, ◌+◌, ◌<◌, ◌≤◌, ⊎_elim, Bool, true, false, cond, List, [], ◌∷◌, length, set, get_or, Some, refl, sym, ap, ◌∙◌, subst, ne_eqb, arith}
 use Rattle.std.specs.Prelude.{slice_get, ◌&&◌, nat_lt, nat_le, take, drop, ◌++◌}
 use Rattle.std.proofs.lemmas.Grind.{common_steps}
-use Rattle.std.proofs.lemmas.Bool.{cases_Bool, ltb-true, ltb-false, lt-ltb, le-ltb}
+use Rattle.std.proofs.lemmas.Bool.{cases_Bool, ltb-true, ltb-false, lt-ltb, le-ltb, cases_lt}
 use Rattle.std.proofs.lemmas.List.{length-set}
 use Rattle.std.proofs.lemmas.Option.{slice_get_within, get_or_from_slice_get}
 use Rattle.checkout_core.specs.declared.path.PathState.{PathState}
@@ -18,7 +18,7 @@ use Rattle.checkout_core.specs.declared.effect.Sweep.TheVariants.{Keep, Lose, Wa
 use Rattle.checkout_core.specs.States.{Core, is_at, is_unasked, is_named, is_closed, path_count, unclosed_count, with_state}
 use Rattle.checkout_core.specs.Effects.{each, swept, swept_path}
 use Rattle.checkout_core.specs.Cursors.{is_named_at, is_naming, is_pending, IsWithin, Follows, IsSound, IsCursor, swept_paths, all_swept}
-use Rattle.checkout_core.proofs.Basics.{none_is_some, some_is, same_or, get_each}
+use Rattle.checkout_core.proofs.Basics.{none_is_some, some_is, same_or, get_each, item_within}
 use Rattle.checkout_core.proofs.Bridge.{each_alike, each_step, each_nothing, each_map, kept_paths}
 use Rattle.checkout_core.proofs.Counts.{num, set_cases, count_none}
 
@@ -52,26 +52,18 @@ sweep_begins rs d w first end within = each_nothing (swept_before first d w) rs 
 
 pub sweep_goes_on : (rs now : List Path) (d : ℕ) (w : Sweep) (at : ℕ) (v x : Path) → now ≡ each (swept_before at d w) rs → at < length rs → v ≡ swept_path d w (get_or now at x) → set now at v ≡ each (swept_before (at + 1) d w) rs
 sweep_goes_on rs now d w at v x0 same less is =
-    let r = get rs at less in
+    let r = item_within rs at less in
     let here : get_or now at x0 ≡ r.0 = ap (λ (xs : List Path). get_or xs at x0) same ∙
     get_or_from_slice_get (each (swept_before at d w) rs) at r.0 x0 (get_each (swept_before at d w) rs at r.0 r.1 ∙ ap (λ b. Some (cond b (swept_path d w r.0) r.0)) (le-ltb at at (omega arith))) in
     ap (λ (xs : List Path). set xs at v) same ∙ each_step (swept_before at d w) (swept_before (at + 1) d w) rs at r.0 v r.1
     (ap (λ b. cond b (swept_path d w r.0) r.0) (lt-ltb at (at + 1) (omega arith)) ∙ (ap (swept_path d w) (sym here) ∙ sym is))
     (λ q x n. ap (λ b. cond b (swept_path d w x) x) (other q n))
   where
-    get : (xs : List Path) (i : ℕ) → i < length xs → (x : Path) × (slice_get xs i ≡ Some x)
-    get [] i l = absurd (omega arith)
-    get (x ∷ xs) zero l = (x, refl)
-    get (x ∷ xs) (suc i) l = get xs i (omega arith)
-
     other : (q : ℕ) → (q ≡ at → ⊥) → nat_lt q (at + 1) ≡ nat_lt q at
     other q n = ⊎_elim
         (λ (i : nat_lt q at ≡ true). let l = ltb-true q at i in lt-ltb q (at + 1) (omega arith) ∙ sym i)
-        (λ (i : nat_lt q at ≡ false). let l = ltb-false q at i in le-ltb q (at + 1) (⊎_elim (λ (j : at < q). omega arith) (λ (j : q ≤ at). absurd (n (omega arith))) (order at q)) ∙ sym i)
+        (λ (i : nat_lt q at ≡ false). let l = ltb-false q at i in le-ltb q (at + 1) (⊎_elim (λ (j : at < q). omega arith) (λ (j : q ≤ at). absurd (n (omega arith))) (cases_lt at q)) ∙ sym i)
         (cases_Bool (nat_lt q at))
-      where
-        order : (a b : ℕ) → (a < b) ⊎ (b ≤ a)
-        order a b = ⊎_elim (λ (i : nat_lt a b ≡ true). inl (ltb-true a b i)) (λ (i : nat_lt a b ≡ false). inr (ltb-false a b i)) (cases_Bool (nat_lt a b))
 
 pub sweep_ends : (rs : List Path) (d : ℕ) (w : Sweep) (first end at : ℕ) → IsWithin rs d first end → end ≤ at → each (swept_before at d w) rs ≡ swept_paths d w rs
 sweep_ends rs d w first end at within le =
@@ -246,13 +238,8 @@ sweep_sound workers rs drivers cursors unclosed d w k ends sound cur = record {
     new : Cursor
     new = record { unasked = k.unasked; first = 0; end = 0; named = 0; turn = 0 }
 
-    get : (xs : List Cursor) (i : ℕ) → i < length xs → (v : Cursor) × (slice_get xs i ≡ Some v)
-    get [] i l = absurd (omega arith)
-    get (v ∷ vs) zero l = (v, refl)
-    get (v ∷ vs) (suc i) l = get vs i (omega arith)
-
     old : (v : Cursor) × (slice_get cursors d ≡ Some v)
-    old = get cursors d (let l = slice_get_within drivers d cur.0 cur.1 in let s = sound.cursors_follow.same_length in omega arith)
+    old = item_within cursors d (let l = slice_get_within drivers d cur.0 cur.1 in let s = sound.cursors_follow.same_length in omega arith)
 
 -- a slice is put back whole
 pub put_back : (now items : List Path) (n : ℕ) → length now ≡ length items → n ≡ length items → take n (now ++ drop (length now) items) ≡ now

@@ -33,13 +33,13 @@ use Rattle.checkout_core.specs.Conditions.{effect_of, at_driver, at_both, of_dri
 use Rattle.checkout_core.specs.Steps.{step_of, done, replay}
 use Rattle.core_laws.specs.Notes.{driver_of}
 use Rattle.core_laws.specs.Actors.{actor_of, desk_of, own_entries, is_claim, is_step, is_ready, ready_at, AlikeCards}
-use Rattle.checkout_core.proofs.Basics.{none_is_some, some_is, given_is, cond_is, cond_not, of_driver_is, at_path_is, at_driver_is, at_both_is, at_session_is, step_is, first_step, same_or, desk_is}
+use Rattle.checkout_core.proofs.Basics.{none_is_some, some_is, given_is, cond_is, cond_not, of_driver_is, at_path_is, at_driver_is, at_both_is, at_session_is, step_is, first_step, same_or, desk_is, same_number, other_number, at_it}
 use Rattle.checkout_core.proofs.Inverses.{claim_is, close_moves, redo_is, back_is, open_is, unasked_is, late_is}
 use Rattle.core_laws.proofs.Views.{Begun}
 use Rattle.core_laws.proofs.Kept.{Good, good_step}
 use Rattle.core_laws.proofs.Verdicts.{good_start}
 use Rattle.core_laws.proofs.ClosedOnce.{good_replay}
-use Rattle.core_laws.proofs.OwnViews.{is_held, known, AlikeState, AlikePath, Alike, alike_refl, alike_sym, alike_trans, same_effect, moves_alike, is_in_hand, not_held, IsOf, two_at, at_desk, moved_alone, of_leaves}
+use Rattle.core_laws.proofs.OwnViews.{is_held, known, AlikeState, AlikePath, Alike, alike_refl, alike_sym, alike_trans, same_effect, moves_alike, is_in_hand, not_held, IsOf, two_at, moved_alone, of_leaves}
 
 -- the events of a driver
 replied_not : (y : Reply) → is_in_hand (replied_state y) ≡ false
@@ -81,7 +81,7 @@ drivers_step starts workers c (ev.OpenFailed q o) m g is h =
     let u = and_parts _ _ ((and_parts _ _ b.0).1) in (
       at.driver,
       desk_at starts workers q at.driver at.required (at.row).start (g q at.row at.there) at.begun,
-      subst (λ (z : Effect). IsOf c at.driver z) b.1 (at.row, at.there, at_desk at.driver at.required (at.row).start at.begun, ap is_in_hand (unasked_is (at.row).state u.0), refl),
+      subst (λ (z : Effect). IsOf c at.driver z) b.1 (at.row, at.there, at_it at.driver at.required (at.row).start at.begun, ap is_in_hand (unasked_is (at.row).state u.0), refl),
     )
 drivers_step starts workers c (ev.Answered q y) m g is h =
     let at = at_both_is c q (answer_at c q y) m h in
@@ -90,7 +90,7 @@ drivers_step starts workers c (ev.Answered q y) m g is h =
     let u = and_parts _ _ ((and_parts _ _ b.0).1) in (
       at.driver,
       desk_at starts workers q at.driver at.required (at.row).start (g q at.row at.there) at.begun,
-      subst (λ (z : Effect). IsOf c at.driver z) b.1 ((at.row, at.there, at_desk at.driver at.required (at.row).start at.begun, ap is_in_hand (unasked_is (at.row).state u.0), replied_not y), refl),
+      subst (λ (z : Effect). IsOf c at.driver z) b.1 ((at.row, at.there, at_it at.driver at.required (at.row).start at.begun, ap is_in_hand (unasked_is (at.row).state u.0), replied_not y), refl),
     )
 drivers_step starts workers c (ev.Named q) m g is h =
     let at = at_both_is c q (name_at c q) m h in
@@ -99,7 +99,7 @@ drivers_step starts workers c (ev.Named q) m g is h =
     let v = and_parts _ _ ((and_parts _ _ ((and_parts _ _ b.0).1)).1) in (
       at.driver,
       desk_at starts workers q at.driver at.required (at.row).start (g q at.row at.there) at.begun,
-      subst (λ (z : Effect). IsOf c at.driver z) b.1 ((at.row, at.there, at_desk at.driver at.required (at.row).start at.begun, ap is_in_hand (late_is (at.row).state v.0), refl), refl),
+      subst (λ (z : Effect). IsOf c at.driver z) b.1 ((at.row, at.there, at_it at.driver at.required (at.row).start at.begun, ap is_in_hand (late_is (at.row).state v.0), refl), refl),
     )
 drivers_step starts workers c (ev.Listed d y) m g is h =
     let at = at_driver_is c d (list_at c d y) m h in
@@ -112,7 +112,7 @@ drivers_step starts workers c (ev.Redone q y) m g is h =
     let b = redo_is c q y at.driver k.0 (at.row).state m k.2 in (
       at.driver,
       desk_at starts workers q at.driver at.required (at.row).start (g q at.row at.there) at.begun,
-      subst (λ (z : Effect). IsOf c at.driver z) b.3 ((at.row, at.there, at_desk at.driver at.required (at.row).start at.begun, ap is_in_hand b.1, replied_not y), refl),
+      subst (λ (z : Effect). IsOf c at.driver z) b.3 ((at.row, at.there, at_it at.driver at.required (at.row).start at.begun, ap is_in_hand b.1, replied_not y), refl),
     )
 drivers_step starts workers c (ev.HandBack q) m g is h =
     let at = at_both_is c q (hand_back_at q) m h in
@@ -120,7 +120,7 @@ drivers_step starts workers c (ev.HandBack q) m g is h =
     let k = back_is q (refused_cause at.state (at.row).state) m b.1 in (
       at.driver,
       desk_at starts workers q at.driver at.required (at.row).start (g q at.row at.there) at.begun,
-      subst (λ (z : Effect). IsOf c at.driver z) k.2 (at.row, at.there, at_desk at.driver at.required (at.row).start at.begun, refused_not at.state (at.row).state k.0 k.1, refl),
+      subst (λ (z : Effect). IsOf c at.driver z) k.2 (at.row, at.there, at_it at.driver at.required (at.row).start at.begun, refused_not at.state (at.row).state k.0 k.1, refl),
     )
 drivers_step starts workers c (ev.Shut d) m g is h =
     let at = at_driver_is c d (shut_at c d) m h in
@@ -133,19 +133,13 @@ desk_from c q b r f m h =
     let k = of_driver_is r.start (λ d required. at_driver c d (λ x. cond (b == c.workers + d) (closing q (f required x)) None)) m h in
     let l = at_driver_is c k.0 (λ x. cond (b == c.workers + k.0) (closing q (f k.1 x)) None) m k.3 in
     let n = cond_is _ (closing q (f k.1 l.state)) m l.holds in
-    (k.0, k.1, k.2, number b (c.workers + k.0) n.0)
-  where
-    number : (a b : ℕ) → (a == b) ≡ true → a ≡ b
-    number a b e = ⊎_elim (λ (h : (a ≡ b) × ((a == b) ≡ true)). h.0) (λ (h : (a == b) ≡ false). absurd (cc (h, e))) (same_or a b)
+    (k.0, k.1, k.2, same_number b (c.workers + k.0) n.0)
 
 -- whose card a close may be of
 close_from : (c : Core) (q b : ℕ) (o : Own) (r : Path) (s : PathState) (m : Effect) → close_at c q b o r s ≡ Some m → ((raw : Option FilterCause) × (s ≡ Held b raw)) ⊎ ((is_in_hand s ≡ false) × ((d : ℕ) × (u : Bool) × (r.start ≡ Desk d u) × (b ≡ c.workers + d)))
 close_from c q b o r (Held e raw) m h =
     let u = cond_is (b == e) (closing q (held_close raw o)) m h in
-    inl (raw, ap (λ z. Held z raw) (sym (number b e u.0)))
-  where
-    number : (a b : ℕ) → (a == b) ≡ true → a ≡ b
-    number a b e = ⊎_elim (λ (h : (a ≡ b) × ((a == b) ≡ true)). h.0) (λ (h : (a == b) ≡ false). absurd (cc (h, e))) (same_or a b)
+    inl (raw, ap (λ z. Held z raw) (sym (same_number b e u.0)))
 close_from c q b o r (path.Heard t) m h = inr (refl, desk_from c q b r (λ required x. heard_close required t o) m h)
 close_from c q b o r Unasked m h = inr (refl, desk_from c q b r (λ required x. unasked_close required x q o) m h)
 close_from c q b o r (Waiting raw) m h = none_is_some h
@@ -160,24 +154,18 @@ others_leave starts workers a c (ev.Claim q b) m g few h other =
     let u = cond_is _ (claim q b (at.row).state) m at.holds in
     let k = claim_is q b (at.row).state m u.1 in
     subst (λ (z : Effect). Alike workers a c (after c z)) k.2
-    (moved_alone workers a c few q at.row (Held b k.0) at.there (ap (is_held a) k.1 ∙ sym (not_same a b (λ i. other (sym i)))) (λ d i j. ap known k.1))
-  where
-    not_same : (p q : ℕ) → (p ≡ q → ⊥) → (p == q) ≡ false
-    not_same p q n = ⊎_elim (λ (k : (p ≡ q) × ((p == q) ≡ true)). absurd (n k.0)) (λ (k : (p == q) ≡ false). k) (same_or p q)
+    (moved_alone workers a c few q at.row (Held b k.0) at.there (ap (is_held a) k.1 ∙ sym (other_number a b (λ i. other (sym i)))) (λ d i j. ap known k.1))
 others_leave starts workers a c (ev.Close q b o) m g few h other =
     let at = at_path_is c q (λ r. close_at c q b o r r.state) m h in
     let k = close_moves c q b o at.row (at.row).state m at.holds in
     subst (λ (z : Effect). Alike workers a c (after c z)) k.1
     (⊎_elim
     (λ (s : (raw : Option FilterCause) × ((at.row).state ≡ Held b raw)).
-    moved_alone workers a c few q at.row (Closed k.0) at.there (ap (is_held a) s.1 ∙ not_same a b (λ i. other (sym i))) (λ d i j. ap known s.1))
+    moved_alone workers a c few q at.row (Closed k.0) at.there (ap (is_held a) s.1 ∙ other_number a b (λ i. other (sym i))) (λ d i j. ap known s.1))
     (λ (s : (is_in_hand (at.row).state ≡ false) × ((d : ℕ) × (u : Bool) × ((at.row).start ≡ Desk d u) × (b ≡ c.workers + d))).
     moved_alone workers a c few q at.row (Closed k.0) at.there (not_held a (at.row).state s.0)
-    (λ d i j. absurd (other (s.1.3 ∙ (ap (λ z. z + s.1.0) few ∙ sym (i ∙ ap (λ z. workers + z) (two_at d s.1.0 (at.row).start j (at_desk s.1.0 s.1.1 (at.row).start s.1.2))))))))
+    (λ d i j. absurd (other (s.1.3 ∙ (ap (λ z. z + s.1.0) few ∙ sym (i ∙ ap (λ z. workers + z) (two_at d s.1.0 (at.row).start j (at_it s.1.0 s.1.1 (at.row).start s.1.2))))))))
     (close_from c q b o at.row (at.row).state m at.holds))
-  where
-    not_same : (p q : ℕ) → (p ≡ q → ⊥) → (p == q) ≡ false
-    not_same p q n = ⊎_elim (λ (k : (p ≡ q) × ((p == q) ≡ true)). absurd (n k.0)) (λ (k : (p == q) ≡ false). k) (same_or p q)
 others_leave starts workers a c (ev.Opened d caps) m g few h other = let k = drivers_step starts workers c (ev.Opened d caps) m g refl h in of_leaves workers a c few k.0 m k.2 (λ i. other (k.1 ∙ sym i))
 others_leave starts workers a c (ev.OpenFailed q o) m g few h other = let k = drivers_step starts workers c (ev.OpenFailed q o) m g refl h in of_leaves workers a c few k.0 m k.2 (λ i. other (k.1 ∙ sym i))
 others_leave starts workers a c (ev.Answered q y) m g few h other = let k = drivers_step starts workers c (ev.Answered q y) m g refl h in of_leaves workers a c few k.0 m k.2 (λ i. other (k.1 ∙ sym i))
@@ -364,7 +352,7 @@ both_alike starts workers a c x alike p f g begun mine same = go (slice_get c.pa
     at : (r s : Path) → slice_get c.paths p ≡ Some r → AlikePath workers a (Some r) (Some s) → (t : Start) → r.start ≡ t → of_driver t (λ d required. at_driver c d (λ y. f r d required y)) ≡ of_driver t (λ d required. at_driver x d (λ y. g s d required y))
     at r s there h (Desk d b) is =
         let own : a ≡ workers + d = sym mine ∙ desk_at starts workers p d b r.start (begun p r there) is in
-        driver_alike workers a d own c x alike (λ y. f r d b y) (λ y. g s d b y) (λ y. same d own r s b y (h.1.1 d own (at_desk d b r.start is)))
+        driver_alike workers a d own c x alike (λ y. f r d b y) (λ y. g s d b y) (λ y. same d own r s b y (h.1.1 d own (at_it d b r.start is)))
     at r s there h Pool is = refl
     at r s there h (Done v) is = refl
 
@@ -487,7 +475,7 @@ module _ (starts : List Start) (workers a : ℕ) (c x : Core) (alike : Alike wor
   own_known : (r s : Path) → (r.start ≡ s.start) × AlikeState workers a r.start r.state s.state → (t : Start) → r.start ≡ t → close_at c p a o r (known r.state) ≡ close_at x p a o s (known s.state)
   own_known r s h (Desk d b) is = ⊎_elim
       (λ (e : (a ≡ workers + d) × ((a == workers + d) ≡ true)).
-      known_same r s d b is h.0 e.0 r.state ∙ ap (close_at x p a o s) (h.1.1 d e.0 (at_desk d b r.start is)))
+      known_same r s d b is h.0 e.0 r.state ∙ ap (close_at x p a o s) (h.1.1 d e.0 (at_it d b r.start is)))
       (λ (e : (a == workers + d) ≡ false).
       elsewhere c r (Desk d b) is (λ f u i. ap (λ n. a == n + f) alike.few ∙ (ap (λ n. a == workers + n) (desk_is f d u b (sym i)) ∙ e)) r.state
       ∙ sym (elsewhere x s (Desk d b) (sym h.0 ∙ is) (λ f u i. ap (λ n. a == n + f) alike.few_too ∙ (ap (λ n. a == workers + n) (desk_is f d u b (sym i)) ∙ e)) s.state))
@@ -541,9 +529,6 @@ own_step starts workers a c x (ev.Shut d) m n begun alike mine h k = same_own st
 -- two histories with the same entries of the actor leave what it knows the same
 own_actor : (starts : List Start) (workers a : ℕ) (e : Event) → (actor_of starts workers e == a) ≡ false → actor_of starts workers e ≡ a → ⊥
 own_actor starts workers a e other is = let z = eq-eqb (actor_of starts workers e) a is in absurd (cc (z, other))
-
-number : (a b : ℕ) → (a == b) ≡ true → a ≡ b
-number a b e = ⊎_elim (λ (h : (a ≡ b) × ((a == b) ≡ true)). h.0) (λ (h : (a == b) ≡ false). absurd (cc (h, e))) (same_or a b)
 
 pub record Ran (starts : List Start) (workers : ℕ) (c : Core) : Type 0 where
   pub good : Good starts c
@@ -600,7 +585,7 @@ module _ (starts : List Start) (workers a : ℕ) where
       go k.0 k.1 (actor_of starts workers e == a) refl same (ran_step starts workers c k.0 e rc k.1) (λ x y g rx al run2 same. runs_alike k.0 c2 es x y g (ran_step starts workers c k.0 e rc k.1) rx al k.2 run2 same)
     where
       go : (d : Core) → step_of c e ≡ Some d → (b : Bool) → (actor_of starts workers e == a) ≡ b → cond b (e ∷ own_entries starts workers a es) (own_entries starts workers a es) ≡ own_entries starts workers a g → Ran starts workers d → ((x y : Core) (g : List Event) → Ran starts workers x → Alike workers a d x → replay x g ≡ Some y → own_entries starts workers a es ≡ own_entries starts workers a g → Alike workers a c2 y) → Alike workers a c2 y
-      go d h true own same rd ih = meet e es c d c2 rc (number (actor_of starts workers e) a own) h ih x y g rx alike run2 same
+      go d h true own same rd ih = meet e es c d c2 rc (same_number (actor_of starts workers e) a own) h ih x y g rx alike run2 same
       go d h false own same rd ih = ih x y g rx (alike_trans workers a d c x (alike_sym workers a c d (step_leaves starts workers a c d e rc h own)) alike) run2 same
 
 drivers_next : (starts : List Start) (workers : ℕ) (x y : Core) (e : Event) → Begun starts x → Alike workers (actor_of starts workers e) x y → is_drivers e ≡ true → is_step x e ≡ is_step y e

@@ -14,7 +14,7 @@ use Rattle.checkout_core.specs.declared.effect.Sweep.{Sweep}
 use Rattle.checkout_core.specs.declared.effect.Sweep.TheVariants.{Keep, Lose, Want}
 use Rattle.checkout_core.specs.States.{Core, with_state, is_at}
 use Rattle.checkout_core.specs.Effects.{after, each, path_after, driver_after, swept_path, swept}
-use Rattle.checkout_core.proofs.Basics.{some_is, start_after, same_or, eqb_self}
+use Rattle.checkout_core.proofs.Basics.{some_is, start_after, same_or, same_number, other_number}
 
 -- where the path is in the hands of the actor
 abbrev pub is_held : ℕ → PathState → Bool
@@ -191,15 +191,9 @@ IsOf c d (Turns e t w) = e ≡ d
 IsOf c d (Both p s e t w) = MovesOf c d p s × (e ≡ d)
 
 pub two_at : (d e : ℕ) (s : Start) → is_at d s ≡ true → is_at e s ≡ true → d ≡ e
-two_at d e (Desk f b) i j = number d f i ∙ sym (number e f j)
-  where
-    number : (a b : ℕ) → (a == b) ≡ true → a ≡ b
-    number a b e = ⊎_elim (λ (h : (a ≡ b) × ((a == b) ≡ true)). h.0) (λ (h : (a == b) ≡ false). absurd (cc (h, e))) (same_or a b)
+two_at d e (Desk f b) i j = same_number d f i ∙ sym (same_number e f j)
 two_at d e Pool i j = absurd (cc (i))
 two_at d e (Done v) i j = absurd (cc (i))
-
-pub at_desk : (d : ℕ) (b : Bool) (s : Start) → s ≡ Desk d b → is_at d s ≡ true
-at_desk d b s e = ap (is_at d) e ∙ eqb_self d
 
 -- one that moves, and is none of what the actor knows
 module _ (workers a : ℕ) (c : Core) (few : c.workers ≡ workers) where
@@ -234,11 +228,8 @@ module _ (workers a : ℕ) (c : Core) (few : c.workers ≡ workers) where
       moved_alone q h.0 s h.1 (not_held a (h.0).state h.3 ∙ sym (not_held a s h.4)) (λ e i at. absurd (other (i ∙ ap (λ z. workers + z) (two_at e d (h.0).start at h.2))))
   of_leaves d (Turns e t w) h other = still (Turns e t w)
       (λ p r i. (sym (sweep_held a e w r), λ f k at. away f k r at))
-      (λ f y k. ap (λ b. cond b t y) (not_same f e (λ z. other (k ∙ ap (λ u. workers + u) (z ∙ h)))))
+      (λ f y k. ap (λ b. cond b t y) (other_number f e (λ z. other (k ∙ ap (λ u. workers + u) (z ∙ h)))))
     where
-      not_same : (p q : ℕ) → (p ≡ q → ⊥) → (p == q) ≡ false
-      not_same p q n = ⊎_elim (λ (k : (p ≡ q) × ((p == q) ≡ true)). absurd (n k.0)) (λ (k : (p == q) ≡ false). k) (same_or p q)
-
       away : (f : ℕ) → a ≡ workers + f → (r : Path) → is_at f r.start ≡ true → known r.state ≡ known (swept_path e w r).state
       away f k r at = go (is_at e r.start) refl
         where
@@ -256,11 +247,8 @@ module _ (workers a : ℕ) (c : Core) (few : c.workers ≡ workers) where
       subst (λ (b : Bool). AlikeState workers a r.start r.state (cond b (with_state r s) (swept_path e w r)).state) (sym k)
       (sym (sweep_held a e w r), λ f j at. away f j r at))
       (same_or p q))
-      (λ f y k. ap (λ b. cond b t y) (not_same f e (λ z. other (k ∙ ap (λ u. workers + u) (z ∙ h.1)))))
+      (λ f y k. ap (λ b. cond b t y) (other_number f e (λ z. other (k ∙ ap (λ u. workers + u) (z ∙ h.1)))))
     where
-      not_same : (p q : ℕ) → (p ≡ q → ⊥) → (p == q) ≡ false
-      not_same p q n = ⊎_elim (λ (k : (p ≡ q) × ((p == q) ≡ true)). absurd (n k.0)) (λ (k : (p == q) ≡ false). k) (same_or p q)
-
       away : (f : ℕ) → a ≡ workers + f → (r : Path) → is_at f r.start ≡ true → known r.state ≡ known (swept_path e w r).state
       away f k r at = go (is_at e r.start) refl
         where
