@@ -1,8 +1,6 @@
 ghost use Rattle.std.specs.Prelude.{◌≡◌, ◌&&◌, ◌<◌, length, MatchOption, not};
-ghost use Rattle.filter_words.specs.declared.reply.Reply.{Reply};
-ghost use Rattle.checkout_core.specs.declared.verdict.FilterCause.{FilterCause};
 ghost use Rattle.checkout_core.specs.Verdicts.{unasked_cause, refused_cause, held_close, heard_close, unasked_close, refused_verdict, heard_verdict, is_first, lacks_smudge, unasked_fine};
-ghost use Rattle.checkout_core.specs.Conditions.{is_path_break, effect_of, at_path, at_driver, at_both, claim_at, open_at, fail_at, answer_at, name_at, list_at, redo_at, hand_back_at, shut_at, close_at, is_good_opening, is_good_reply, heard_opening, replied, replied_state, replied_desk, replied_sweep, list_desk, list_sweep, list_allowed, is_delay};
+ghost use Rattle.checkout_core.specs.Conditions.{is_path_break, effect_of, at_path, at_driver, at_both, claim_at, open_at, fail_at, answer_at, name_at, list_at, redo_at, hand_back_at, shut_at, is_good_opening, is_good_reply, heard_opening, replied, replied_state, replied_desk, replied_sweep, list_desk, list_sweep, list_allowed, is_delay};
 ghost use Rattle.checkout_core.specs.Cards.{IsCard, LacksCard, IsDesk, LacksDesk};
 ghost use Rattle.checkout_core.specs.declared.event.Event.TheVariants.{Close};
 

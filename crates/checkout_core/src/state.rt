@@ -1,4 +1,4 @@
-ghost use Rattle.std.specs.Prelude.{◌≡◌, ◌==◌, ◌+◌, ◌<◌, ◌≤◌, ◌^◌, ◌&&◌, nat_lt, length, ℕ, true, false, IsTrue, slice_get, Some, MatchOption, IfSome};
+ghost use Rattle.std.specs.Prelude.{◌≡◌, ◌==◌, ◌+◌, ◌<◌, ◌≤◌, ◌^◌, ◌&&◌, nat_lt, length, ℕ, true, false, slice_get, Some};
 ghost use Rattle.checkout_core.specs.States.{Core, verdict_at, unclosed_count, is_at, is_unasked, lowest_unasked, none_below, none_of, named_count, is_named, is_named_below};
 ghost use Rattle.checkout_core.specs.Cursors.{IsSound, asks, IsCursor, NamedThere, HoldsAt};
 ghost use Rattle.checkout_core.specs.declared.path.Path.{Path};

@@ -1,4 +1,4 @@
-ghost use Rattle.std.specs.Prelude.{◌≡◌, ◌+◌, ◌<◌, ◌≤◌, ◌^◌, length, slice_get, cond};
+ghost use Rattle.std.specs.Prelude.{◌≡◌, ◌+◌, ◌<◌, ◌≤◌, ◌^◌, length, cond};
 ghost use Rattle.checkout_core.specs.States.{is_closed};
 ghost use Rattle.checkout_core.specs.Effects.{after, swept_path};
 ghost use Rattle.checkout_core.specs.Cursors.{IsFollowable, IsWithin, CanFollow, cursor_after, delayed_after, named_after, redone_after, all_swept, swept_paths};

@@ -1,5 +1,5 @@
 ghost use Rattle.std.specs.Prelude.{◌≡◌, ◌<◌, ◌≤◌, ◌^◌, length, map, replicate, IfOk};
-ghost use Rattle.checkout_core.specs.States.{AreBelow, begins, path_of, start, offs, unclosed_count};
+ghost use Rattle.checkout_core.specs.States.{AreBelow, path_of, start, unclosed_count};
 ghost use Rattle.checkout_core.specs.Cursors.{new_cursor};
 ghost use Rattle.checkout_core.specs.declared.driver.DriverState.TheVariants.{Off};
 
