@@ -1,0 +1,12 @@
+pub mod Basics
+pub mod Bridge
+pub mod Counts
+pub mod Follows
+pub mod Desks
+pub mod Changes
+pub mod Sweeps
+pub mod Applies
+pub mod Inverses
+pub mod Followable
+pub mod Replays
+pub mod Starts

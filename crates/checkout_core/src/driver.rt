@@ -1,0 +1,25 @@
+use filter_words::Caps;
+
+/// An open session of a driver.
+#[derive(Clone, Copy, Debug, PartialEq, Eq)]
+pub struct Session {
+    pub caps: Caps,
+    /// The path for which it was opened.
+    pub first: u32,
+    /// A path was delayed in it.
+    pub had: bool,
+    /// A list is being noted.
+    pub naming: bool,
+}
+
+/// Where a driver stands.
+#[derive(Clone, Copy, Debug, PartialEq, Eq)]
+pub enum DriverState {
+    /// No session is open.
+    Off,
+    On(Session),
+    /// It answered `abort`, and isn't asked again.
+    Aborted,
+    /// Its last session is shut.
+    Done,
+}

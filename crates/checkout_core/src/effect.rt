@@ -1,0 +1,34 @@
+use crate::driver::DriverState;
+use crate::path::PathState;
+
+/// What becomes of a driver's delayed and named paths.
+#[derive(Clone, Copy, Debug, PartialEq, Eq)]
+pub enum Sweep {
+    Keep,
+    /// Each is heard as lost.
+    Lose,
+    /// Each is heard as wanted.
+    Want,
+}
+
+/// What a step changes.
+#[derive(Clone, Copy, Debug, PartialEq, Eq)]
+pub enum Effect {
+    Moves {
+        path: u32,
+        state: PathState,
+    },
+    Turns {
+        driver: u32,
+        state: DriverState,
+        sweep: Sweep,
+    },
+    /// The sweep leaves out the path that moves.
+    Both {
+        path: u32,
+        state: PathState,
+        driver: u32,
+        next: DriverState,
+        sweep: Sweep,
+    },
+}
