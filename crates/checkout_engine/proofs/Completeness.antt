@@ -105,11 +105,11 @@ not_refused told empty (refusal.Index fault) ready (inl (bytes, tells, is, real)
 not_refused told empty (refusal.Index fault) ready (inr (is, long)) =
     let more : max_index < length ready.bytes = subst (λ (t : Told). TellsLong t max_index) ready.index long in
     absurd (omega (arith, ready.is_index.small, more))
-not_refused told empty refusal.Unbuilt ready (inl (inl long)) = subst (λ (t : Told). TellsLong t 0) ready.no_config long
-not_refused told empty refusal.Unbuilt ready (inl (inr (bytes, tells))) = subst (λ (t : Told). TellsBytes t bytes) ready.no_config tells
-not_refused told empty refusal.Unbuilt ready (inr (inl (inl long))) = subst (λ (t : Told). TellsLong t 0) ready.no_info long
-not_refused told empty refusal.Unbuilt ready (inr (inl (inr (bytes, tells)))) = subst (λ (t : Told). TellsBytes t bytes) ready.no_info tells
-not_refused told empty refusal.Unbuilt ready (inr (inr (entries, has, is))) =
+not_refused told empty refusal.Unbuilt ready (index, inl (inl long)) = subst (λ (t : Told). TellsLong t 0) ready.no_config long
+not_refused told empty refusal.Unbuilt ready (index, inl (inr (bytes, tells))) = subst (λ (t : Told). TellsBytes t bytes) ready.no_config tells
+not_refused told empty refusal.Unbuilt ready (index, inr (inl (inl long))) = subst (λ (t : Told). TellsLong t 0) ready.no_info long
+not_refused told empty refusal.Unbuilt ready (index, inr (inl (inr (bytes, tells)))) = subst (λ (t : Told). TellsBytes t bytes) ready.no_info tells
+not_refused told empty refusal.Unbuilt ready (index, inr (inr (entries, has, is))) =
     let no : true ≡ false = sym is ∙ ap has_attribute_file (same_entries told empty entries ready has) ∙ ready.no_attributes in absurd cc
 
 -- the verdicts of a checkout that is ready, in which no leaf failed
@@ -134,13 +134,13 @@ status_is_done vs none is = elim (lacks_memory vs) as (λ lacks. lacks_memory vs
 pub completes : (told : RepoTold) (empty : Option Bool) (old new : Seen) (s : Status) → IsReady told empty → IsUnfailed old new → EndsAt told empty old new s → (s ≡ status.Done) ⊎ (s ≡ status.OutOfMemory)
 completes told empty old new status.Done ready unfailed ends = inl refl
 completes told empty old new status.DoneWithFailures ready unfailed ends =
-    absurd (status_is_done ends.verdicts (no_failure told empty status.DoneWithFailures old new ready unfailed ends) ends.by_verdicts)
+    absurd (status_is_done ends.1.verdicts (no_failure told empty status.DoneWithFailures old new ready unfailed ends.1) ends.1.by_verdicts)
 completes told empty old new status.Usage ready unfailed ends = absurd ends
-completes told empty old new status.Refused ready unfailed ends = absurd (not_refused told empty ends.refusal ready ends.cause)
-completes told empty old new status.OutputNotWritten ready unfailed ends = absurd (unfailed.sink ends.0)
+completes told empty old new status.Refused ready unfailed ends = absurd (not_refused told empty ends.1.refusal ready ends.1.cause)
+completes told empty old new status.OutputNotWritten ready unfailed ends = absurd (unfailed.sink ends.1)
 completes told empty old new status.OutOfMemory ready unfailed ends = inr refl
 completes told empty old new status.ReadFault ready unfailed (inl tree, untouched, silent) = absurd (unfailed.tree tree)
-completes told empty old new status.ReadFault ready unfailed (inr repo, untouched, silent) = absurd (unfailed.repo repo)
+completes told empty old new status.ReadFault ready unfailed (inr repo, untouched, silent) = absurd (unfailed.repo repo.1)
 completes told empty old new status.NotEmpty ready unfailed (tells, untouched, silent) =
     let no : true ≡ false = subst (λ (e : Option Bool). Tells e false) ready.empty_tree tells in absurd cc
 

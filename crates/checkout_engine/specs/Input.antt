@@ -49,11 +49,11 @@ stop_where_there (Err take.NoMemory) = Some stop.NoMemory
 abbrev pub HasAttributes : Told → Type 0
 HasAttributes told = (entries : List Entry) × HasIndex told entries × (has_attribute_file entries ≡ true)
 
--- what a repository tells where a checkout is refused so
+-- What a repository tells where a checkout is refused so. What isn't built is looked at behind an index.
 abbrev pub IsRefused : RepoTold → Refusal → Type 0
 IsRefused told refusal.IndexAbsent = TellsNone told.index
 IsRefused told (refusal.Index fault) = HasIndexFault told.index fault
-IsRefused told refusal.Unbuilt = IsThere told.config ⊎ IsThere told.info ⊎ HasAttributes told.index
+IsRefused told refusal.Unbuilt = ((entries : List Entry) × HasIndex told.index entries) × (IsThere told.config ⊎ IsThere told.info ⊎ HasAttributes told.index)
 
 -- What was read is right for a checkout of these paths.
 pub record IsPlanned (told : RepoTold) (paths : List PathPlan) : Type 0 where
@@ -70,6 +70,14 @@ StopsAt told before after stop.NotEmpty = ⊥
 StopsAt told before after stop.ReadFault = Rose before after
 StopsAt told before after (stop.Refused r) = (after ≡ before) × IsRefused told r
 StopsAt told before after stop.NoMemory = after ≡ before
+
+-- the same of a file that may not be there
+abbrev pub StopsWhereThere : {T : Type 0} → Told → ℕ → ℕ → Result T Stop → Type 0
+StopsWhereThere told before after (Ok x) = (after ≡ before) × TellsNone told
+StopsWhereThere told before after (Err stop.NotEmpty) = ⊥
+StopsWhereThere told before after (Err stop.ReadFault) = Rose before after
+StopsWhereThere told before after (Err (stop.Refused r)) = (after ≡ before) × (r ≡ refusal.Unbuilt) × IsThere told
+StopsWhereThere told before after (Err stop.NoMemory) = after ≡ before
 
 abbrev pub Stops : {T : Type 0} → RepoTold → ℕ → ℕ → Result T Stop → Type 0
 Stops told before after (Ok x) = after ≡ before

@@ -71,7 +71,7 @@ given_at s = given s.repo.returned s.tree.returned s.tree.files
 
 -- why a run stops at the worktree
 abbrev pub StopsTree : {T : Type 0} → Option Bool → ℕ → ℕ → Result T Stop → Type 0
-StopsTree empty before after (Ok x) = after ≡ before
+StopsTree empty before after (Ok x) = Tells empty true × (after ≡ before)
 StopsTree empty before after (Err stop.NotEmpty) = Tells empty false
 StopsTree empty before after (Err stop.ReadFault) = Rose before after
 StopsTree empty before after (Err (stop.Refused r)) = ⊥
@@ -79,10 +79,10 @@ StopsTree empty before after (Err stop.NoMemory) = ⊥
 
 -- why a run stops before it touches a file: the worktree's and the repository's counts before and after
 abbrev pub StopsRun : {T : Type 0} → RepoTold → Option Bool → ℕ → ℕ → ℕ → ℕ → Result T Stop → Type 0
-StopsRun told empty tree tree' repo repo' (Ok x) = (tree' ≡ tree) × (repo' ≡ repo)
+StopsRun told empty tree tree' repo repo' (Ok x) = Tells empty true × (tree' ≡ tree) × (repo' ≡ repo)
 StopsRun told empty tree tree' repo repo' (Err stop.NotEmpty) = Tells empty false
-StopsRun told empty tree tree' repo repo' (Err stop.ReadFault) = Rose tree tree' ⊎ Rose repo repo'
-StopsRun told empty tree tree' repo repo' (Err (stop.Refused r)) = IsRefused told r
+StopsRun told empty tree tree' repo repo' (Err stop.ReadFault) = Rose tree tree' ⊎ (Tells empty true × Rose repo repo')
+StopsRun told empty tree tree' repo repo' (Err (stop.Refused r)) = Tells empty true × IsRefused told r
 StopsRun told empty tree tree' repo repo' (Err stop.NoMemory) = Unit {0}
 
 -- as many blobs and leaves are out as before
@@ -147,15 +147,15 @@ Refuses refusal old new status.OutputNotWritten = Rose old.faults new.faults × 
 Refuses refusal old new status.OutOfMemory = new ≡ old
 Refuses refusal old new s = ⊥
 
--- How a checkout ends, by its status: what was done, or what shows why not.
+-- How a checkout ends, by its status: what was done, or what shows why not. Past the first step the worktree is empty.
 abbrev pub EndsAt : RepoTold → Option Bool → Seen → Seen → Status → Type 0
-EndsAt told empty old new status.Done = IsDone told status.Done old new
-EndsAt told empty old new status.DoneWithFailures = IsDone told status.DoneWithFailures old new
+EndsAt told empty old new status.Done = Tells empty true × IsDone told status.Done old new
+EndsAt told empty old new status.DoneWithFailures = Tells empty true × IsDone told status.DoneWithFailures old new
 EndsAt told empty old new status.Usage = ⊥
-EndsAt told empty old new status.Refused = IsRefusedWith told old new
-EndsAt told empty old new status.OutputNotWritten = Rose old.sink.faults new.sink.faults × (IsRefusalCutOff told old new ⊎ IsCutOff told old new)
+EndsAt told empty old new status.Refused = Tells empty true × IsRefusedWith told old new
+EndsAt told empty old new status.OutputNotWritten = Tells empty true × Rose old.sink.faults new.sink.faults × (IsRefusalCutOff told old new ⊎ IsCutOff told old new)
 EndsAt told empty old new status.OutOfMemory = (IsUntouched old new × IsSilent old new) ⊎ ((paths : List PathPlan) × IsPlanned told paths)
-EndsAt told empty old new status.ReadFault = (Rose old.tree.faults new.tree.faults ⊎ Rose old.repo.faults new.repo.faults) × IsUntouched old new × IsSilent old new
+EndsAt told empty old new status.ReadFault = (Rose old.tree.faults new.tree.faults ⊎ (Tells empty true × Rose old.repo.faults new.repo.faults)) × IsUntouched old new × IsSilent old new
 EndsAt told empty old new status.NotEmpty = Tells empty false × IsUntouched old new × IsSilent old new
 
 -- how the run over planned paths ends

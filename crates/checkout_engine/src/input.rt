@@ -1,6 +1,6 @@
 ghost use Rattle.std.specs.Prelude.{◌≡◌, ◌≢◌, ◌⊎◌, ℕ, List, IfOk, OnOk, Some};
 ghost use Rattle.edge_kit.specs.Told.{TellsNone};
-ghost use Rattle.checkout_engine.specs.Input.{HasIndex, HasIndexFault, IsPlanned, Stops, stop_where_there};
+ghost use Rattle.checkout_engine.specs.Input.{HasIndex, HasIndexFault, IsPlanned, Stops, StopsWhereThere, stop_where_there};
 ghost use Rattle.std.specs.Result.{result_err};
 
 use crate::plan::{PathPlan, has_attribute_file, plan_of};
@@ -53,8 +53,7 @@ fn no_config<R: Repo>(repo: &mut R) -> Result<(), Stop>
     ensures told { R.told repo.new ≡ R.told repo.old }
     ensures out { R.out repo.new ≡ R.out repo.old }
     ensures returned { R.returned repo.new ≡ R.returned repo.old }
-    ensures absent { OnOk result (TellsNone (R.told repo.old).config) }
-    ensures stops { Stops (R.told repo.old) (R.faults repo.old) (R.faults repo.new) result }
+    ensures stops { StopsWhereThere (R.told repo.old).config (R.faults repo.old) (R.faults repo.new) result }
 {
     none_there(repo.config_bytes(0))
 }
@@ -64,8 +63,7 @@ fn no_info<R: Repo>(repo: &mut R) -> Result<(), Stop>
     ensures told { R.told repo.new ≡ R.told repo.old }
     ensures out { R.out repo.new ≡ R.out repo.old }
     ensures returned { R.returned repo.new ≡ R.returned repo.old }
-    ensures absent { OnOk result (TellsNone (R.told repo.old).info) }
-    ensures stops { Stops (R.told repo.old) (R.faults repo.old) (R.faults repo.new) result }
+    ensures stops { StopsWhereThere (R.told repo.old).info (R.faults repo.old) (R.faults repo.new) result }
 {
     none_there(repo.info_attributes(0))
 }
