@@ -60,7 +60,10 @@ impl FileLeaf {
 
 /// Makes a file where none is, and never through a link.
 fn create_new(rt: HostRuntime, path: &str) -> io::Result<File> {
-    OpenOptions::new().write(true).create_new(true).open(&rt, path)
+    OpenOptions::new()
+        .write(true)
+        .create_new(true)
+        .open(&rt, path)
 }
 
 /// Makes a file where none is, and its folders as needed.

@@ -63,3 +63,6 @@ fn main(rt: HostRuntime) -> ExitCode {
     }
     ExitCode::from(status)
 }
+
+#[cfg(test)]
+mod tests;
