@@ -20,9 +20,7 @@ mark_of mode.Gitlink = mark.Plain
 
 abbrev pub skip_of_mode : Mode → Option SkipCause
 skip_of_mode mode.Gitlink = Some skip.Gitlink
-skip_of_mode mode.Plain = None
-skip_of_mode mode.Executable = None
-skip_of_mode mode.Link = None
+skip_of_mode m = None
 
 -- why nothing is written for an entry's path
 abbrev pub skip_of : Entry → Option SkipCause
@@ -44,8 +42,7 @@ plan_of es = plan_after [] es
 abbrev pub is_file_mode : Mode → Bool
 is_file_mode mode.Plain = true
 is_file_mode mode.Executable = true
-is_file_mode mode.Link = false
-is_file_mode mode.Gitlink = false
+is_file_mode m = false
 
 -- the last part of a path is `.gitattributes`
 abbrev pub names_attributes : List ℕ → Bool

@@ -13,11 +13,8 @@ use Rattle.checkout_engine.specs.declared.status.Status.TheVariants as status
 use Rattle.checkout_engine.specs.Output.{IsCut}
 
 abbrev pub is_no_memory : Verdict → Bool
-is_no_memory (verdict.Written unencoded) = false
-is_no_memory (verdict.Unfiltered cause unencoded) = false
-is_no_memory (verdict.Failed cause) = false
 is_no_memory verdict.NoMemory = true
-is_no_memory (verdict.Skipped cause) = false
+is_no_memory v = false
 
 abbrev pub lacks_memory : List Verdict → Bool
 lacks_memory verdicts = list_any is_no_memory verdicts

@@ -38,9 +38,7 @@ encoding_word unencoded = if unencoded then codes "unencoded" else codes "-"
 abbrev pub note_of : Verdict → List ℕ
 note_of (verdict.Written unencoded) = encoding_word unencoded
 note_of (verdict.Unfiltered cause unencoded) = encoding_word unencoded
-note_of (verdict.Failed cause) = codes "-"
-note_of verdict.NoMemory = codes "-"
-note_of (verdict.Skipped cause) = codes "-"
+note_of v = codes "-"
 
 abbrev pub break_word : BreakCause → List ℕ
 break_word break.Ended = codes "broken-ended"
@@ -101,31 +99,19 @@ lines_of (p ∷ ps) (v ∷ vs) = line_of p v ++ lines_of ps vs
 
 abbrev pub is_written : Verdict → Bool
 is_written (verdict.Written unencoded) = true
-is_written (verdict.Unfiltered cause unencoded) = false
-is_written (verdict.Failed cause) = false
-is_written verdict.NoMemory = false
-is_written (verdict.Skipped cause) = false
+is_written v = false
 
 abbrev pub is_unfiltered : Verdict → Bool
-is_unfiltered (verdict.Written unencoded) = false
 is_unfiltered (verdict.Unfiltered cause unencoded) = true
-is_unfiltered (verdict.Failed cause) = false
-is_unfiltered verdict.NoMemory = false
-is_unfiltered (verdict.Skipped cause) = false
+is_unfiltered v = false
 
 abbrev pub is_failed : Verdict → Bool
-is_failed (verdict.Written unencoded) = false
-is_failed (verdict.Unfiltered cause unencoded) = false
 is_failed (verdict.Failed cause) = true
-is_failed verdict.NoMemory = false
-is_failed (verdict.Skipped cause) = false
+is_failed v = false
 
 abbrev pub is_skipped : Verdict → Bool
-is_skipped (verdict.Written unencoded) = false
-is_skipped (verdict.Unfiltered cause unencoded) = false
-is_skipped (verdict.Failed cause) = false
-is_skipped verdict.NoMemory = false
 is_skipped (verdict.Skipped cause) = true
+is_skipped v = false
 
 -- the last line, of the numbers of paths that were written, unfiltered, failed and skipped
 abbrev pub numbers_line : ℕ → ℕ → ℕ → ℕ → List ℕ
