@@ -1,5 +1,6 @@
-ghost use Rattle.std.specs.Prelude.{◌+◌, ◌≤◌, vec_len, vec_capacity};
-ghost use Rattle.edge_kit.specs.Told.{Untold};
+ghost use Rattle.std.specs.Prelude.{◌≡◌, ◌+◌, ◌≤◌, vec_len, vec_capacity};
+ghost use Rattle.edge_kit.specs.Faults.{AfterTake};
+ghost use Rattle.edge_kit.specs.Told.{Untold, Takes};
 
 use crate::whole_file::read_whole;
 use edge_kit::{Blob, Repo, TakeFault};
@@ -58,10 +59,29 @@ impl FolderRepo {
             returned: Vec::new(alloc),
         }
     }
+
+    /// The whole file at this path in the folder, or `None` where there is none.
+    fn read_file(&mut self, file: &str, limit: u64) -> Result<Option<Vec<u8>>, TakeFault>
+        ensures out { self.new.out ≡ self.old.out }
+        ensures returned { self.new.returned.items ≡ self.old.returned.items }
+        ensures bytes { Takes Untold limit result }
+        ensures faults { AfterTake self.old.faults self.new.faults result }
+    {
+        let path = path_in(self.alloc, self.folder.as_str(), file)?;
+        let taken = read_whole(self.rt, self.alloc, path.as_str(), limit);
+        if let Err(TakeFault::Failed) = taken {
+            self.faults = self.faults.saturating_add(1);
+        }
+        taken
+    }
 }
 
-/// The path of a file in a folder.
+/// The path of a file in a folder. The empty text names no folder, so what would be in it has no path either: it must not
+/// become a path from the root.
 pub fn path_in(alloc: Global, folder: &str, file: &str) -> Result<String, AllocError> {
+    if folder.is_empty() {
+        return Ok(String::new(alloc));
+    }
     format!(in alloc; "{folder}/{file}")
 }
 
@@ -77,30 +97,15 @@ impl Repo for FolderRepo {
     ghost returned = { λ r. r.returned.items };
 
     fn index_bytes(&mut self, limit: u64) -> Result<Option<Vec<u8>>, TakeFault> {
-        let path = path_in(self.alloc, self.folder.as_str(), "index")?;
-        let taken = read_whole(self.rt, self.alloc, path.as_str(), limit);
-        if let Err(TakeFault::Failed) = taken {
-            self.faults = self.faults.saturating_add(1);
-        }
-        taken
+        self.read_file("index", limit)
     }
 
     fn config_bytes(&mut self, limit: u64) -> Result<Option<Vec<u8>>, TakeFault> {
-        let path = path_in(self.alloc, self.folder.as_str(), "config")?;
-        let taken = read_whole(self.rt, self.alloc, path.as_str(), limit);
-        if let Err(TakeFault::Failed) = taken {
-            self.faults = self.faults.saturating_add(1);
-        }
-        taken
+        self.read_file("config", limit)
     }
 
     fn info_attributes(&mut self, limit: u64) -> Result<Option<Vec<u8>>, TakeFault> {
-        let path = path_in(self.alloc, self.folder.as_str(), "info/attributes")?;
-        let taken = read_whole(self.rt, self.alloc, path.as_str(), limit);
-        if let Err(TakeFault::Failed) = taken {
-            self.faults = self.faults.saturating_add(1);
-        }
-        taken
+        self.read_file("info/attributes", limit)
     }
 
     fn blob(&mut self, name: &[u8; 20]) -> Result<FolderBlob, AllocError> {
