@@ -58,7 +58,7 @@ expanded_behind-skip keyword zero text = refl
 expanded_behind-skip keyword (suc n) [] = refl
 expanded_behind-skip keyword (suc n) (b ∷ text) = expanded_behind-skip keyword n text
 
-expanded-keyword : (keyword text : List ℕ) (n : ℕ) → keyword_len text ≡ Some n → expanded keyword text ≡ keyword ++ expanded keyword (drop n text)
+pub expanded-keyword : (keyword text : List ℕ) (n : ℕ) → keyword_len text ≡ Some n → expanded keyword text ≡ keyword ++ expanded keyword (drop n text)
 expanded-keyword keyword text zero is = absurd (omega (arith, (keyword_len-within text zero is).0))
 expanded-keyword keyword [] (suc n) is = absurd (omega (arith, (keyword_len-within [] (suc n) is).1))
 expanded-keyword keyword (b ∷ text) (suc n) is =

@@ -1,5 +1,5 @@
 -- The keyword `$Id$` of gitattributes(5), "ident", and a content with its keywords expanded.
-use Rattle.std.specs.Prelude.{◌≡◌, ℕ, zero, suc, ◌+◌, ◌-◌, ◌<◌, ◌≤◌, Bool, true, false, ◌&&◌, ◌||◌, ◌==◌, nat_eq, not, List, [], ◌∷◌, ◌++◌, length, take, drop, codes, position, is_some, Option, Some, None, if◌then◌else◌}
+use Rattle.std.specs.Prelude.{◌≡◌, ◌⊎◌, ℕ, zero, suc, ◌+◌, ◌-◌, ◌<◌, ◌≤◌, Bool, true, false, ◌&&◌, ◌||◌, ◌==◌, nat_eq, not, List, [], ◌∷◌, ◌++◌, length, take, drop, codes, position, is_some, Option, Some, None, if◌then◌else◌}
 use Rattle.std.specs.List.{list_any, starts_with}
 use Rattle.hex.specs.Hex.{encode_lower}
 
@@ -56,3 +56,8 @@ pub record IsFirstKeyword (text : List ℕ) (start len : ℕ) : Type 0 where
   pub some : 0 < len
   pub within : start + len ≤ length text
   pub same : (keyword : List ℕ) → expanded keyword text ≡ take start text ++ (keyword ++ expanded keyword (drop (start + len) text))
+
+-- a text begins with a keyword, and this is behind it: `$Id$`, or `$Id:`, a middle without `$` and `$`
+abbrev pub BeginsWithKeyword : List ℕ → List ℕ → Type 0
+BeginsWithKeyword text behind = (text ≡ codes "$Id$" ++ behind)
+    ⊎ ((middle : List ℕ) × (text ≡ codes "$Id:" ++ (middle ++ 36 ∷ behind)) × (list_any is_dollar middle ≡ false) × (is_middle middle ≡ true))

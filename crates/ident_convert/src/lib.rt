@@ -3,8 +3,10 @@
 
 mod expanding;
 mod keyword;
+mod laws;
 
 pub use expanding::{expand_ident, has_keyword};
+pub use laws::{keyword_is_replaced, other_byte_is_kept};
 
 #[cfg(test)]
 mod tests;
