@@ -1,0 +1,168 @@
+//! The bytes of a file by their kinds, and the ends of its lines.
+ghost use Rattle.std.specs.Prelude.{◌≡◌, ◌≤◌, IfOk, IfSome, length, position};
+ghost use Rattle.git_config.specs.Header.{lowered, is_quote, is_close};
+ghost use Rattle.git_config.specs.Text.{is_blank, is_line_end, is_comment_mark, is_key_byte, is_name_byte, is_dot, ends_blanks, ends_key, ends_name, len_to, behind_blanks, line_end, normal};
+
+use byte_path::Bytes;
+use std::alloc::{AllocError, Global};
+
+pub fn is_blank(byte: u8) -> bool
+    ensures { result ≡ is_blank byte }
+{
+    byte == b' ' || byte == b'\t'
+}
+
+pub fn is_comment_mark(byte: u8) -> bool
+    ensures { result ≡ is_comment_mark byte }
+{
+    byte == b'#' || byte == b';'
+}
+
+fn is_key_byte(byte: u8) -> bool
+    ensures { result ≡ is_key_byte byte }
+{
+    byte.is_ascii_alphanumeric() || byte == b'-'
+}
+
+fn is_name_byte(byte: u8) -> bool
+    ensures { result ≡ is_name_byte byte }
+{
+    is_key_byte(byte) || byte == b'.'
+}
+
+fn ends_key(byte: u8) -> bool
+    ensures { result ≡ ends_key byte }
+{
+    !is_key_byte(byte)
+}
+
+fn ends_name(byte: u8) -> bool
+    ensures { result ≡ ends_name byte }
+{
+    !is_name_byte(byte)
+}
+
+fn ends_blanks(byte: u8) -> bool
+    ensures { result ≡ ends_blanks byte }
+{
+    !is_blank(byte)
+}
+
+fn key_end(text: &[u8]) -> Option<usize>
+    ensures value { result ≡ position ends_key text.now }
+    ensures within { IfSome result (λ n. n ≤ length text.now) }
+{
+    text.iter().position(|b| ends_key(*b))
+}
+
+/// How many bytes of a key stand at the front.
+pub fn key_len(text: &[u8]) -> usize
+    ensures value { result ≡ len_to ends_key text.now }
+    ensures within { result ≤ length text.now }
+{
+    key_end(text).unwrap_or(text.len())
+}
+
+fn name_end(text: &[u8]) -> Option<usize>
+    ensures value { result ≡ position ends_name text.now }
+    ensures within { IfSome result (λ n. n ≤ length text.now) }
+{
+    text.iter().position(|b| ends_name(*b))
+}
+
+/// How many bytes of a section's name stand at the front.
+pub fn name_len(text: &[u8]) -> usize
+    ensures value { result ≡ len_to ends_name text.now }
+    ensures within { result ≤ length text.now }
+{
+    name_end(text).unwrap_or(text.len())
+}
+
+fn first_dot(name: &[u8]) -> Option<usize>
+    ensures value { result ≡ position is_dot name.now }
+    ensures within { IfSome result (λ n. n ≤ length name.now) }
+{
+    name.iter().position(|b| *b == b'.')
+}
+
+/// How many bytes stand before the first dot.
+pub fn dot_place(name: &[u8]) -> usize
+    ensures value { result ≡ len_to is_dot name.now }
+    ensures within { result ≤ length name.now }
+{
+    first_dot(name).unwrap_or(name.len())
+}
+
+fn blanks_end(text: &[u8]) -> Option<usize>
+    ensures value { result ≡ position ends_blanks text.now }
+    ensures within { IfSome result (λ n. n ≤ length text.now) }
+{
+    text.iter().position(|b| ends_blanks(*b))
+}
+
+/// How many blanks stand at the front.
+fn blanks_len(text: &[u8]) -> usize
+    ensures value { result ≡ len_to ends_blanks text.now }
+    ensures within { result ≤ length text.now }
+{
+    blanks_end(text).unwrap_or(text.len())
+}
+
+fn first_line_end(text: &[u8]) -> Option<usize>
+    ensures value { result ≡ position is_line_end text.now }
+    ensures within { IfSome result (λ n. n ≤ length text.now) }
+{
+    text.iter().position(|b| *b == b'\n')
+}
+
+/// How many bytes the line has.
+fn line_len(text: &[u8]) -> usize
+    ensures value { result ≡ len_to is_line_end text.now }
+    ensures within { result ≤ length text.now }
+{
+    first_line_end(text).unwrap_or(text.len())
+}
+
+#[tactic(auto, unfolding(crate::specs::Text::behind_blanks))]
+pub fn behind_blanks(text: &[u8]) -> &[u8]
+    ensures value { result.now ≡ behind_blanks text.now }
+    ensures within { length result.now ≤ length text.now }
+{
+    let (_, rest) = text.split_at(blanks_len(text));
+    rest
+}
+
+/// What is left from the end of the line on.
+#[tactic(auto, unfolding(crate::specs::Text::line_end))]
+pub fn line_end(text: &[u8]) -> &[u8]
+    ensures value { result.now ≡ line_end text.now }
+    ensures within { length result.now ≤ length text.now }
+{
+    let (_, rest) = text.split_at(line_len(text));
+    rest
+}
+
+/// A copy in lower case.
+pub fn lowered(alloc: Global, text: &[u8]) -> Result<Bytes, AllocError>
+    ensures { IfOk result (λ b. b ≡ lowered text.now) }
+{
+    let mut bytes = Vec::from_slice(alloc, text)?;
+    bytes.make_ascii_lowercase();
+    Ok(Bytes::from_vec(bytes))
+}
+
+/// The text with LF alone at the ends of its lines.
+pub fn normal_of(alloc: Global, bytes: &[u8]) -> Result<Vec<u8>, AllocError>
+    ensures value { IfOk result (λ v. v.items ≡ normal bytes.now) }
+    ensures within { IfOk result (λ v. length v.items ≤ length bytes.now) }
+{
+    let mut text = Vec::with_capacity(alloc, bytes.len())?;
+    let mut rest = bytes;
+    'bytes: while let Some((byte, behind)) = rest.split_first() {
+        if !(*byte == b'\r' && behind.first() == Some(&b'\n')) {
+            text.push(*byte)?;
+        }
+        rest = behind;
+    }
+    Ok(text)
+}
