@@ -7,7 +7,7 @@ use Rattle.git_config.specs.declared.fault.ConfigFault.TheVariants.{TooLarge, Li
 use Rattle.git_config.specs.declared.fault.LineKind.TheVariants.{Key as BadKey, NoSection}
 use Rattle.git_config.specs.declared.setting.Head.{Head}
 use Rattle.git_config.specs.declared.setting.Setting.{Setting}
-use Rattle.git_config.specs.Text.{is_blank, is_line_end, is_comment_mark, ends_key, len_to, begins, behind_blanks, line_end, normal, ◌>>=◌, want}
+use Rattle.git_config.specs.Text.{is_blank, is_line_end, is_comment_mark, ends_key, len_to, begins, behind_blanks, line_end, without_cr, ◌>>=◌, want}
 use Rattle.git_config.specs.Header.{lowered, header_at}
 use Rattle.git_config.specs.Value.{value_at}
 
@@ -82,4 +82,4 @@ text_at text = settings_at (length text) (record { line = 1; head = None; settin
 
 -- what a file is read to: its settings, or TooLarge, or the first faulty line
 unfoldable pub config_at : List ℕ → Result (List Setting) ConfigFault
-config_at bytes = want (nat_le (length bytes) 1048576) TooLarge (text_at (normal (unmarked bytes)))
+config_at bytes = want (nat_le (length bytes) 1048576) TooLarge (text_at (without_cr (unmarked bytes)))

@@ -54,9 +54,9 @@ unfoldable pub line_end : List ℕ → List ℕ
 line_end text = drop (len_to is_line_end text) text
 
 -- each CR right before LF is dropped
-abbrev pub normal : List ℕ → List ℕ
-normal [] = []
-normal (b ∷ text) = if b == 13 && begins is_line_end text then normal text else b ∷ normal text
+abbrev pub without_cr : List ℕ → List ℕ
+without_cr [] = []
+without_cr (b ∷ text) = if b == 13 && begins is_line_end text then without_cr text else b ∷ without_cr text
 
 infixl 10 ◌>>=◌
 abbrev pub ◌>>=◌ : {A B : Type 0} → Result A ConfigFault → (A → Result B ConfigFault) → Result B ConfigFault

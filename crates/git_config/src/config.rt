@@ -5,7 +5,7 @@ ghost use Rattle.git_config.specs.Reading.{unmarked, config_at};
 use crate::fault::ConfigFault;
 use crate::line::settings_of;
 use crate::setting::Setting;
-use crate::text::normal_of;
+use crate::text::without_cr;
 use std::alloc::Global;
 use std::marker::Model;
 
@@ -58,7 +58,7 @@ pub fn read_config(alloc: Global, bytes: &[u8]) -> Result<Config, ConfigFault>
     if bytes.len() > MAX_LEN {
         return Err(ConfigFault::TooLarge);
     }
-    let text = normal_of(alloc, unmarked(bytes))?;
+    let text = without_cr(alloc, unmarked(bytes))?;
     let settings = settings_of(alloc, text.as_slice())?;
     Ok(Config { settings })
 }

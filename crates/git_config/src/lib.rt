@@ -12,3 +12,6 @@ mod value;
 pub use config::{Config, read_config};
 pub use fault::{ConfigFault, LineKind};
 pub use setting::Setting;
+
+#[cfg(test)]
+mod tests;

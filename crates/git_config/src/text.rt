@@ -1,7 +1,7 @@
 //! The bytes of a file by their kinds, and the ends of its lines.
 ghost use Rattle.std.specs.Prelude.{◌≡◌, ◌≤◌, IfOk, IfSome, length, position};
 ghost use Rattle.git_config.specs.Header.{lowered, is_quote, is_close};
-ghost use Rattle.git_config.specs.Text.{is_blank, is_line_end, is_comment_mark, is_key_byte, is_name_byte, is_dot, ends_blanks, ends_key, ends_name, len_to, behind_blanks, line_end, normal};
+ghost use Rattle.git_config.specs.Text.{is_blank, is_line_end, is_comment_mark, is_key_byte, is_name_byte, is_dot, ends_blanks, ends_key, ends_name, len_to, behind_blanks, line_end, without_cr};
 
 use byte_path::Bytes;
 use std::alloc::{AllocError, Global};
@@ -152,8 +152,8 @@ pub fn lowered(alloc: Global, text: &[u8]) -> Result<Bytes, AllocError>
 }
 
 /// The text with LF alone at the ends of its lines.
-pub fn normal_of(alloc: Global, bytes: &[u8]) -> Result<Vec<u8>, AllocError>
-    ensures value { IfOk result (λ v. v.items ≡ normal bytes.now) }
+pub fn without_cr(alloc: Global, bytes: &[u8]) -> Result<Vec<u8>, AllocError>
+    ensures value { IfOk result (λ v. v.items ≡ without_cr bytes.now) }
     ensures within { IfOk result (λ v. length v.items ≤ length bytes.now) }
 {
     let mut text = Vec::with_capacity(alloc, bytes.len())?;
