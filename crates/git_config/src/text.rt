@@ -1,9 +1,11 @@
 //! The bytes of a file by their kinds, and the ends of its lines.
-ghost use Rattle.std.specs.Prelude.{◌≡◌, ◌≤◌, IfOk, IfSome, length, position};
+ghost use Rattle.std.specs.Prelude.{◌≡◌, ◌≤◌, ◌+◌, ◌++◌, IfOk, IfSome, Some, length, position, take, drop};
+ghost use Rattle.memchr.specs.Find.{IsFirstByte, is_byte};
 ghost use Rattle.git_config.specs.Header.{lowered, is_quote, is_close};
-ghost use Rattle.git_config.specs.Text.{is_blank, is_line_end, is_comment_mark, is_key_byte, is_name_byte, is_dot, ends_blanks, ends_key, ends_name, len_to, behind_blanks, line_end, without_cr};
+ghost use Rattle.git_config.specs.Text.{is_blank, is_line_end, is_comment_mark, is_key_byte, is_name_byte, is_dot, ends_blanks, ends_key, ends_name, len_to, begins, behind_blanks, line_end, without_cr};
 
 use byte_path::Bytes;
+use memchr::memchr;
 use std::alloc::{AllocError, Global};
 
 pub fn is_blank(byte: u8) -> bool
@@ -151,6 +153,25 @@ pub fn lowered(alloc: Global, text: &[u8]) -> Result<Bytes, AllocError>
     Ok(Bytes::from_vec(bytes))
 }
 
+fn begins_line_end(text: &[u8]) -> bool
+    ensures { result ≡ begins is_line_end text.now }
+{
+    text.first() == Some(&b'\n')
+}
+
+/// How many bytes up to and with the first CR stay: all, or all but the CR where LF stands behind it.
+fn kept_len(text: &[u8], cr: usize) -> usize
+    requires { IsFirstByte (is_byte 13) text.now (Some cr) }
+    ensures value { without_cr text.now ≡ take result text.now ++ without_cr (drop (cr + 1) text.now) }
+    ensures within { result ≤ cr + 1 }
+{
+    let (_, behind) = text.split_at(cr + 1);
+    if begins_line_end(behind) {
+        return cr;
+    }
+    cr + 1
+}
+
 /// The text with LF alone at the ends of its lines.
 pub fn without_cr(alloc: Global, bytes: &[u8]) -> Result<Vec<u8>, AllocError>
     ensures value { IfOk result (λ v. v.items ≡ without_cr bytes.now) }
@@ -158,11 +179,12 @@ pub fn without_cr(alloc: Global, bytes: &[u8]) -> Result<Vec<u8>, AllocError>
 {
     let mut text = Vec::with_capacity(alloc, bytes.len())?;
     let mut rest = bytes;
-    'bytes: while let Some((byte, behind)) = rest.split_first() {
-        if !(*byte == b'\r' && behind.first() == Some(&b'\n')) {
-            text.push(*byte)?;
-        }
+    'stretches: while let Some(cr) = memchr(b'\r', rest) {
+        let (kept, _) = rest.split_at(kept_len(rest, cr));
+        text.extend_from_slice(kept)?;
+        let (_, behind) = rest.split_at(cr + 1);
         rest = behind;
     }
+    text.extend_from_slice(rest)?;
     Ok(text)
 }
