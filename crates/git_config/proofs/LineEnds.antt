@@ -1,9 +1,12 @@
 -- Where a text has a CR, and where it has none.
-use Rattle.std.proofs.Common.{◌≡◌, ℕ, zero, suc, ◌+◌, ◌<◌, ◌≤◌, true, false, eqb, List, [], ◌∷◌, ◌++◌, length, get_or, take, drop, Some, refl, sym, ◌∙◌, ap, append_assoc, arith}
+use Rattle.std.proofs.Common.{◌≡◌, ℕ, zero, suc, ◌+◌, ◌<◌, ◌≤◌, true, false, eqb, List, [], ◌∷◌, ◌++◌, length, get_or, take, drop, Some, None, refl, sym, ◌∙◌, ap, append_assoc, arith}
 use Rattle.std.proofs.Math.Seq.{drop-cons, take-suc}
 use Rattle.std.proofs.lemmas.Grind.{common_steps}
 use Rattle.std.proofs.lemmas.List.{append-nil, drop_all, take_all}
-use Rattle.memchr.specs.Find.{is_byte, IsFirstByte, Nowhere, Passes}
+use Rattle.std.proofs.lemmas.Bool.{lt-ltb, le-ltb}
+use Rattle.std.proofs.lemmas.List.Sums.{position_or_len_is}
+use Rattle.std.specs.List.{position, position_or_len}
+use Rattle.memchr.specs.Find.{is_byte, IsFirstByte}
 use Rattle.git_config.specs.Text.{is_line_end, begins, without_cr}
 
 not_cr : (b : ℕ) → (is_byte 13 b ≡ true → ⊥) → eqb b 13 ≡ false
@@ -48,3 +51,19 @@ cr_kept text k first before =
     ∙ ap (λ (xs : List ℕ). take k text ++ without_cr xs) here
     ∙ rw before (sym (append_assoc (take k text) (13 ∷ []) (without_cr (drop (k + 1) text))))
     ∙ ap (λ (xs : List ℕ). xs ++ without_cr (drop (k + 1) text)) (sym front)
+
+not_end : (b : ℕ) → (is_byte 10 b ≡ true → ⊥) → is_line_end b ≡ false
+not_end b none = grind (arith, common_steps)
+
+-- where the first end of a line is
+pub line_end_found : (text : List ℕ) (k : ℕ) → IsFirstByte (is_byte 10) text (Some k) → position is_line_end text ≡ Some k
+line_end_found text k first =
+    let place : position_or_len is_line_end text ≡ k =
+    position_or_len_is is_line_end text k 0 (omega (arith, first.0.high)) (λ j less. not_end (get_or text j 0) (first.0.before j (omega arith) less)) (λ less. first.1) in
+    rw (place, lt-ltb k (length text) first.0.high) refl
+
+pub no_line_end : (text : List ℕ) → ((j : ℕ) → 0 ≤ j → j < length text → is_byte 10 (get_or text j 0) ≡ true → ⊥) → position is_line_end text ≡ None
+no_line_end text none =
+    let place : position_or_len is_line_end text ≡ length text =
+    position_or_len_is is_line_end text (length text) 0 (omega arith) (λ j less. not_end (get_or text j 0) (none j (omega arith) less)) (λ less. absurd (omega arith)) in
+    rw (place, le-ltb (length text) (length text) (omega arith)) refl

@@ -114,7 +114,10 @@ fn first_line_end(text: &[u8]) -> Option<usize>
     ensures value { result ≡ position is_line_end text.now }
     ensures within { IfSome result (λ n. n ≤ length text.now) }
 {
-    text.iter().position(|b| *b == b'\n')
+    match memchr(b'\n', text) {
+        Some(place) => Some(place),
+        None => None,
+    }
 }
 
 /// How many bytes the line has.
