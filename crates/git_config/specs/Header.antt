@@ -1,5 +1,5 @@
 -- The header of a section.
-use Rattle.std.specs.Prelude.{ℕ, ◌+◌, Bool, true, false, ◌==◌, not, nat_lt, List, [], ◌∷◌, ◌++◌, length, take, drop, map, Option, Some, None, Result, Ok, Err, if◌then◌else◌}
+use Rattle.std.specs.Prelude.{ℕ, ◌+◌, Bool, true, false, ◌==◌, not, nat_lt, List, [], ◌∷◌, ◌++◌, length, take, drop, map, Some, None, Result, Ok, Err, if◌then◌else◌}
 use Rattle.std.specs.Char.{to_ascii_lowercase}
 use Rattle.git_config.specs.declared.fault.ConfigFault.{ConfigFault}
 use Rattle.git_config.specs.declared.fault.ConfigFault.TheVariants.{Line}

@@ -8,7 +8,9 @@ ghost use Rattle.git_config.specs.declared.setting.Setting.{Setting};
 use crate::fault::{ConfigFault, LineKind};
 use crate::header::header_of;
 use crate::setting::{Head, Setting};
-use crate::text::{behind_blanks, is_blank, is_comment_mark, key_len, line_end, lowered};
+use crate::text::{
+    begins_line_end, behind_blanks, is_blank, is_comment_mark, key_len, line_end, lowered,
+};
 use crate::value::value_of;
 use byte_path::Bytes;
 use std::alloc::{AllocError, Global};
@@ -65,15 +67,7 @@ fn keyed_of<'a>(
     ensures value { Gives (λ x. (x.setting, x.lines, x.rest.now)) result (keyed_at line head.now key.now text.now) }
     ensures within { IfOk result (λ x. x.lines + length x.rest.now ≤ length text.now) }
 {
-    let Some((first, behind)) = text.split_first() else {
-        let setting = setting_of(alloc, head, key, None)?;
-        return Ok(Found {
-            setting,
-            lines: 0,
-            rest: text,
-        });
-    };
-    if *first == b'\n' {
+    if text.is_empty() || begins_line_end(text) {
         let setting = setting_of(alloc, head, key, None)?;
         return Ok(Found {
             setting,
@@ -81,9 +75,9 @@ fn keyed_of<'a>(
             rest: text,
         });
     }
-    if *first != b'=' {
+    let [b'=', behind @ ..] = text else {
         return Err(ConfigFault::Line(line, LineKind::Key));
-    }
+    };
     let value = value_of(alloc, line, behind)?;
     let setting = setting_of(alloc, head, key, Some(Bytes::from_vec(value.bytes)))?;
     Ok(Found {

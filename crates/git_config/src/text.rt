@@ -128,6 +128,7 @@ fn line_len(text: &[u8]) -> usize
     first_line_end(text).unwrap_or(text.len())
 }
 
+/// What stands behind the blanks at the front.
 #[tactic(auto, unfolding(crate::specs::Text::behind_blanks))]
 pub fn behind_blanks(text: &[u8]) -> &[u8]
     ensures value { result.now ≡ behind_blanks text.now }
@@ -156,7 +157,8 @@ pub fn lowered(alloc: Global, text: &[u8]) -> Result<Bytes, AllocError>
     Ok(Bytes::from_vec(bytes))
 }
 
-fn begins_line_end(text: &[u8]) -> bool
+/// Whether LF stands at the front.
+pub fn begins_line_end(text: &[u8]) -> bool
     ensures { result ≡ begins is_line_end text.now }
 {
     text.first() == Some(&b'\n')

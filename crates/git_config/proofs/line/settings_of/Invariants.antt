@@ -1,4 +1,4 @@
-use Rattle.std.proofs.Common.{◌≡◌, ◌+◌, ◌≤◌, length}
+use Rattle.std.proofs.Common.{◌+◌, ◌≤◌, length}
 use Rattle.git_config.specs.Reading.{text_at}
 use Rattle.git_config.specs.Seen.{place_of}
 use Rattle.git_config.proofs.Steps.{IsStepping}
