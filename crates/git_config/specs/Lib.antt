@@ -1,0 +1,5 @@
+pub mod Text
+pub mod Header
+pub mod Value
+pub mod Reading
+pub mod Seen

@@ -1,0 +1,74 @@
+-- The bytes of a configuration file, its ends of lines, and what a reader of them answers.
+use Rattle.std.specs.Prelude.{◌≡◌, ℕ, Bool, true, false, ◌&&◌, ◌||◌, ◌==◌, not, List, [], ◌∷◌, length, drop, position, Result, Ok, Err, if◌then◌else◌}
+use Rattle.std.specs.Option.{unwrap_or}
+use Rattle.std.specs.Char.{is_ascii_alphanumeric}
+use Rattle.git_config.specs.declared.fault.ConfigFault.{ConfigFault}
+use Rattle.git_config.specs.declared.fault.ConfigFault.TheVariants.{NoMemory}
+
+-- a space or TAB
+abbrev pub is_blank : ℕ → Bool
+is_blank b = b == 32 || b == 9
+
+abbrev pub is_line_end : ℕ → Bool
+is_line_end b = b == 10
+
+-- `#` or `;`
+abbrev pub is_comment_mark : ℕ → Bool
+is_comment_mark b = b == 35 || b == 59
+
+-- of a key: a letter, a digit or `-`
+abbrev pub is_key_byte : ℕ → Bool
+is_key_byte b = is_ascii_alphanumeric b || b == 45
+
+-- of a section's name: the same or `.`
+abbrev pub is_name_byte : ℕ → Bool
+is_name_byte b = is_key_byte b || b == 46
+
+abbrev pub is_dot : ℕ → Bool
+is_dot b = b == 46
+
+-- whether a text begins with a byte that passes a test
+abbrev pub begins : (ℕ → Bool) → List ℕ → Bool
+begins test [] = false
+begins test (b ∷ text) = test b
+
+abbrev pub ends_blanks : ℕ → Bool
+ends_blanks b = not (is_blank b)
+
+abbrev pub ends_key : ℕ → Bool
+ends_key b = not (is_key_byte b)
+
+abbrev pub ends_name : ℕ → Bool
+ends_name b = not (is_name_byte b)
+
+-- how many bytes stand before the first that passes a test, or all where none does
+abbrev pub len_to : (ℕ → Bool) → List ℕ → ℕ
+len_to test text = unwrap_or (position test text) (length text)
+
+-- what stands behind the blanks at the front
+unfoldable pub behind_blanks : List ℕ → List ℕ
+behind_blanks text = drop (len_to ends_blanks text) text
+
+-- what is left from the end of the line on
+unfoldable pub line_end : List ℕ → List ℕ
+line_end text = drop (len_to is_line_end text) text
+
+-- each CR right before LF is dropped
+abbrev pub without_cr : List ℕ → List ℕ
+without_cr [] = []
+without_cr (b ∷ text) = if b == 13 && begins is_line_end text then without_cr text else b ∷ without_cr text
+
+infixl 10 ◌>>=◌
+abbrev pub ◌>>=◌ : {A B : Type 0} → Result A ConfigFault → (A → Result B ConfigFault) → Result B ConfigFault
+(Ok x) >>= f = f x
+(Err e) >>= f = Err e
+
+-- a test that has to pass, and the fault where it does not
+abbrev pub want : {A : Type 0} → Bool → ConfigFault → Result A ConfigFault → Result A ConfigFault
+want true f r = r
+want false f r = Err f
+
+-- What a function returned, seen by view, is what the grammar gives, unless memory ran out.
+abbrev pub Gives : {X Y : Type 0} → (X → Y) → Result X ConfigFault → Result Y ConfigFault → Type 0
+Gives view (Ok x) read = read ≡ Ok (view x)
+Gives view (Err f) read = (f ≡ NoMemory → ⊥) → read ≡ Err f

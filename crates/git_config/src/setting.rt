@@ -1,0 +1,21 @@
+use byte_path::Bytes;
+
+/// One key of a configuration.
+#[derive(Drop)]
+pub struct Setting {
+    /// The section's name, in lower case.
+    pub section: Bytes,
+    /// The subsection: as it is written in quotes, or what stands behind the name's first dot, in lower case.
+    pub sub: Option<Bytes>,
+    /// The key, in lower case.
+    pub key: Bytes,
+    /// The value with its quotes and escapes read, or `None` where the key has no `=`.
+    pub value: Option<Bytes>,
+}
+
+/// The section that the lines below a header belong to.
+#[derive(Drop)]
+pub struct Head {
+    pub section: Bytes,
+    pub sub: Option<Bytes>,
+}
