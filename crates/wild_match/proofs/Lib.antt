@@ -1,0 +1,6 @@
+pub mod Folders
+pub mod LastPart
+pub mod Parts
+pub mod ReadMembers
+pub mod ReadPieces
+pub mod Splits

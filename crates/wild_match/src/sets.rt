@@ -1,0 +1,109 @@
+//! What stands between `[` and its `]`.
+ghost use Rattle.std.specs.Prelude.{◌≡◌, ℕ, ◌+◌, ◌<◌, ◌≤◌, length, position, IfSome};
+ghost use Rattle.wild_match.specs.Members.{class_length, end_at, has, is_close, member_at, range_at, seen, set_members};
+
+use crate::classes::{Class, class_named, is_in_class};
+
+/// What a set has: the bytes from one to another, or those of a class.
+#[derive(Clone, Copy)]
+pub enum Member {
+    Range(u8, u8),
+    Named(Class),
+}
+
+fn has(member: Member, byte: u8) -> bool
+    ensures { result ≡ has member byte }
+{
+    match member {
+        Member::Range(low, high) => low <= byte && byte <= high,
+        Member::Named(class) => is_in_class(class, byte),
+    }
+}
+
+/// A byte, or `\` and a byte, and how many bytes of the text that takes.
+#[tactic(auto, unfolding(crate::specs::Members::end_at))]
+fn end_at(text: &[u8]) -> Option<(u8, usize)>
+    ensures value { result ≡ end_at text.now }
+    ensures within { IfSome result (λ x. (0 < x.1) × (x.1 ≤ length text.now)) }
+{
+    match text {
+        [] | [b'\\'] => None,
+        [b'\\', byte, ..] => Some((*byte, 2)),
+        [byte, ..] => Some((*byte, 1)),
+    }
+}
+
+/// A range, or a byte where none begins with it, by its first end.
+#[tactic(auto, unfolding(crate::specs::Members::range_at))]
+fn range_at(text: &[u8], low: u8, len: usize) -> Option<(Member, usize)>
+    requires start { 0 < len }
+    requires end { len ≤ length text.now }
+    ensures value { result ≡ range_at text.now (low, len) }
+    ensures within { IfSome result (λ x. (0 < x.1) × (x.1 ≤ length text.now)) }
+{
+    let (_, behind) = text.split_at(len);
+    if behind.len() < 2 || behind[0] != b'-' || behind[1] == b']' {
+        return Some((Member::Range(low, low), len));
+    }
+    let (_, high_text) = text.split_at(len + 1);
+    let (high, high_len) = end_at(high_text)?;
+    Some((Member::Range(low, high), len + 1 + high_len))
+}
+
+fn close_at(text: &[u8]) -> Option<usize>
+    ensures value { result ≡ position is_close text.now }
+    ensures within { IfSome result (λ n. n < length text.now) }
+{
+    text.iter().position(|b| *b == b']')
+}
+
+/// How long the name of a class is, where the text begins with one: `[:`, the name and `:]`, which has the first `]`.
+#[tactic(auto, unfolding(crate::specs::Members::class_length))]
+fn class_length(text: &[u8]) -> Option<usize>
+    ensures value { result ≡ class_length text.now }
+    ensures within { IfSome result (λ n. n + 4 ≤ length text.now) }
+{
+    if text.len() < 2 || text[0] != b'[' || text[1] != b':' {
+        return None;
+    }
+    let (_, name) = text.split_at(2);
+    match close_at(name) {
+        Some(close) if close > 0 && name[close - 1] == b':' => Some(close - 1),
+        _ => None,
+    }
+}
+
+/// The member in front of a text, and how many bytes it takes.
+#[tactic(auto, unfolding(crate::specs::Members::member_at))]
+fn member_at(text: &[u8]) -> Option<(Member, usize)>
+    ensures value { result ≡ member_at text.now }
+    ensures within { IfSome result (λ x. (0 < x.1) × (x.1 ≤ length text.now)) }
+{
+    if let Some(len) = class_length(text) {
+        let (_, named) = text.split_at(2);
+        let (name, _) = named.split_at(len);
+        let class = class_named(name)?;
+        return Some((Member::Named(class), len + 4));
+    }
+    let (low, len) = end_at(text)?;
+    range_at(text, low, len)
+}
+
+/// Whether a byte is a member of a set, and how many bytes the set takes with its `]`. `None` where it has no `]` or an
+/// unknown class.
+pub fn is_in_members(text: &[u8], byte: u8) -> Option<(bool, usize)>
+    ensures value { result ≡ seen byte (set_members text.now) }
+    ensures within { IfSome result (λ x. (0 < x.1) × (x.1 ≤ length text.now)) }
+{
+    let mut found = false;
+    let mut place = 0;
+    'members: loop {
+        let (_, rest) = text.split_at(place);
+        if place > 0 && rest.first() == Some(&b']') {
+            return Some((found, place + 1));
+        }
+        let (member, len) = member_at(rest)?;
+        found = found || has(member, byte);
+        place += len;
+    }
+}
