@@ -2,7 +2,7 @@
 use Rattle.std.proofs.Common.{◌≡◌, ℕ, zero, suc, ◌+◌, ◌<◌, ◌≤◌, Bool, true, false, cond, ◌||◌, not, List, [], ◌∷◌, length, get_or, drop, ltb, Option, Some, None, refl, sym, ◌∙◌, ap, arith}
 use Rattle.std.specs.List.{list_any, position, position_or_len}
 use Rattle.std.proofs.Math.Seq.{drop-cons}
-use Rattle.std.proofs.lemmas.Bool.{ltb-true, eqb-true}
+use Rattle.std.proofs.lemmas.Bool.{ltb-false, eqb-true}
 use Rattle.std.proofs.lemmas.List.{drop_all}
 use Rattle.std.proofs.lemmas.List.Quantifiers.{position-Some}
 use Rattle.wild_match.specs.Fits.{is_slash, last_part}
@@ -44,3 +44,39 @@ no-slash_at false d b text rest is none later = later none
 no-slash : (text : List ℕ) → from_slash text ≡ [] → list_any is_slash text ≡ false
 no-slash [] none = refl
 no-slash (b ∷ text) none = no-slash_at (is_slash b) (list_any is_slash text) b text (from_slash text) refl none (no-slash text)
+
+has-slash_at : (c d : Bool) (b : ℕ) (text rest after : List ℕ) → cond c (b ∷ text) rest ≡ 47 ∷ after → (rest ≡ 47 ∷ after → d ≡ true) → (c || d) ≡ true
+has-slash_at true d b text rest after is later = refl
+has-slash_at false d b text rest after is later = later is
+
+pub has-slash : (text after : List ℕ) → from_slash text ≡ 47 ∷ after → list_any is_slash text ≡ true
+has-slash [] after is = absurd (cc)
+has-slash (b ∷ text) after is = has-slash_at (is_slash b) (list_any is_slash text) b text (from_slash text) after is (has-slash text after)
+
+last-from_at : (c : Bool) (b : ℕ) (text : List ℕ) → is_slash b ≡ c → (c || list_any is_slash text) ≡ true → (list_any is_slash text ≡ true → last_part text ≡ last_part (drop 1 (from_slash text)))
+    → last_part text ≡ last_part (drop 1 (cond c (b ∷ text) (from_slash text)))
+last-from_at true b text is has later = refl
+last-from_at false b text is has later = later has
+
+last-from : (text : List ℕ) → list_any is_slash text ≡ true → last_part text ≡ last_part (drop 1 (from_slash text))
+last-from [] has = absurd (cc)
+last-from (b ∷ text) has = rw has (last-from_at (is_slash b) b text refl has (last-from text))
+
+-- the last part of what is behind a `/`
+pub last-step : (text : List ℕ) (k : ℕ) → Some k ≡ position is_slash text → last_part text ≡ last_part (drop (k + 1) text)
+last-step text k is =
+    let at = found text k is in
+    last-from text (has-slash text (drop (k + 1) text) at.1) ∙ ap (λ (u : List ℕ). last_part (drop 1 u)) at.1
+
+last-none : (text : List ℕ) → list_any is_slash text ≡ false → last_part text ≡ text
+last-none [] none = refl
+last-none (b ∷ text) none = rw none refl
+
+before-all : (text : List ℕ) → None ≡ position is_slash text → length text ≤ before text
+before-all text is = ltb-false (before text) (length text) (none-at (ltb (before text) (length text)) (before text) is)
+
+pub ended : (text : List ℕ) → None ≡ position is_slash text → from_slash text ≡ []
+ended text is = from-drop text ∙ drop_all (before text) text (before-all text is)
+
+pub last-end : (text : List ℕ) → None ≡ position is_slash text → last_part text ≡ text
+last-end text is = last-none text (no-slash text (ended text is))

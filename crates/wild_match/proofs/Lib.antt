@@ -1,5 +1,6 @@
 pub mod Folders
 pub mod LastPart
+pub mod Pairs
 pub mod Parts
 pub mod ReadMembers
 pub mod ReadPieces

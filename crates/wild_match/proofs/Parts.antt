@@ -47,7 +47,7 @@ pub record IsTrying (first : List Piece) (start text pattern rest : List ℕ) (b
   pub size : length pattern ≤ length start
   pub known : IsBackOr first start text pattern rest back
 
-or-none : (a : Bool) → a ≡ (a || false)
+pub or-none : (a : Bool) → a ≡ (a || false)
 or-none true = refl
 or-none false = refl
 
@@ -68,7 +68,7 @@ split-other : (f : List ℕ → Bool) (t : List ℕ) → some_split f t ≡ (f t
 split-other f [] = or-none (f [])
 split-other f (b ∷ t) = refl
 
-absorb : (a b c : Bool) → (b ≡ true → a ≡ true) → c ≡ (a || b) → c ≡ a
+pub absorb : (a b c : Bool) → (b ≡ true → a ≡ true) → c ≡ (a || b) → c ≡ a
 absorb true b c give is = is
 absorb false true c give is = absurd (let no : false ≡ true = give refl in cc)
 absorb false false c give is = is
@@ -191,11 +191,11 @@ pub record GoesBack (pattern rest later after : List ℕ) : Type 0 where
   pub pattern_same : later ≡ pattern
   pub rest_is : rest ≡ byte ∷ after
 
-abbrev pattern_of : Option (List ℕ × List ℕ) → List ℕ
+abbrev pub pattern_of : Option (List ℕ × List ℕ) → List ℕ
 pattern_of None = []
 pattern_of (Some at) = at.0
 
-abbrev rest_of : Option (List ℕ × List ℕ) → List ℕ
+abbrev pub rest_of : Option (List ℕ × List ℕ) → List ℕ
 rest_of None = []
 rest_of (Some at) = at.1
 

@@ -1,11 +1,11 @@
 -- How the members of a set are read one by one.
-use Rattle.std.proofs.Common.{◌≡◌, ℕ, zero, suc, ◌+◌, ◌-◌, ◌<◌, ◌≤◌, Bool, true, false, ◌&&◌, ◌||◌, not, List, [], ◌∷◌, ◌++◌, length, get_or, drop, eqb, Option, Some, None, refl, sym, ◌∙◌, ap, arith, append_assoc}
+use Rattle.std.proofs.Common.{◌≡◌, ℕ, zero, suc, ◌+◌, ◌-◌, ◌<◌, ◌≤◌, Bool, true, false, ◌&&◌, ◌||◌, not, List, [], ◌∷◌, ◌++◌, length, get_or, drop, eqb, ltb, Option, Some, None, refl, sym, ◌∙◌, ap, arith, append_assoc}
 use Rattle.std.proofs.Math.Seq.{drop-cons}
-use Rattle.std.proofs.lemmas.Bool.{ne_eqb, eq-eqb}
+use Rattle.std.proofs.lemmas.Bool.{ne_eqb, eq-eqb, eqb-true, ltb-true, lt-ltb, and_parts, and_from, both_ways}
 use Rattle.std.proofs.lemmas.List.{append-nil, drop-drop}
 use Rattle.std.proofs.lemmas.List.Folds.{list_any-append}
 use Rattle.wild_match.specs.declared.sets.Member.{Member}
-use Rattle.wild_match.specs.Members.{has, is_close, member_at, behind, with_member, members_behind, is_member, seen}
+use Rattle.wild_match.specs.Members.{has, is_close, closes, member_at, behind, with_member, members_behind, is_member, seen}
 
 -- what a set reads to
 abbrev pub Read : Type 0
@@ -124,3 +124,20 @@ ends byte text rest found place so_far is some there close =
     ∙ ap (λ (xs : List ℕ). joined found place (seen byte (members_behind 0 false xs))) (sym is)
     ∙ ap (λ (r : Read). joined found place (seen byte r)) (members-close rest there close)
     ∙ ap (λ (c : Bool). Some (c, place + 1)) (or-false found)
+
+pub closed : (text : List ℕ) (place : ℕ) → closes text place ≡ true → (0 < place) × (0 < length text) × (get_or text 0 0 ≡ 93)
+closed text place h =
+    let outer = and_parts (ltb 0 place && ltb 0 (length text)) (is_close (get_or text 0 0)) h in
+    let inner = and_parts (ltb 0 place) (ltb 0 (length text)) outer.0 in
+    (ltb-true 0 place inner.0, ltb-true 0 (length text) inner.1, eqb-true (get_or text 0 0) 93 outer.1)
+
+pub not-closed : (text : List ℕ) (place : ℕ) → closes text place ≡ false → 0 < place → get_or text 0 0 ≡ 93 → ⊥
+not-closed [] place h some is = absurd (omega arith)
+not-closed (b ∷ text) place h some is =
+    both_ways (closes (b ∷ text) place) h
+    (and_from (ltb 0 place && ltb 0 (length (b ∷ text))) (is_close b) (and_from (ltb 0 place) (ltb 0 (length (b ∷ text))) (lt-ltb 0 place some) (lt-ltb 0 (length (b ∷ text)) (omega arith))) (eq-eqb b 93 is))
+
+-- what was found, one member later
+pub now-found : (found now hit : Bool) → (found ≡ true → now ≡ true) → (found ≡ false → now ≡ hit) → now ≡ (found || hit)
+now-found true now hit there none = there refl
+now-found false now hit there none = none refl

@@ -1,12 +1,13 @@
 -- How a pattern is read to pieces.
-use Rattle.std.proofs.Common.{◌≡◌, ◌≢◌, ℕ, zero, suc, ◌+◌, ◌-◌, ◌<◌, ◌≤◌, Bool, true, false, cond, ◌&&◌, ◌||◌, not, List, [], ◌∷◌, length, get_or, drop, eqb, Option, Some, None, refl, sym, ◌∙◌, ap, arith}
+use Rattle.std.proofs.Common.{◌≡◌, ◌≢◌, ℕ, zero, suc, ◌+◌, ◌-◌, ◌<◌, ◌≤◌, Bool, true, false, cond, ◌&&◌, ◌||◌, not, List, [], ◌∷◌, length, get_or, drop, eqb, ltb, Option, Some, None, refl, sym, ◌∙◌, ap, arith, length-drop}
 use Rattle.std.specs.Prelude.{nat_eq}
-use Rattle.std.proofs.lemmas.Bool.{ne_eqb, and_left, and_right}
+use Rattle.std.proofs.lemmas.Bool.{ne_eqb, and_left, and_right, false_from_ne_true}
+use Rattle.std.proofs.lemmas.Grind.{common_steps}
 use Rattle.wild_match.specs.declared.sets.Member.{Member}
 use Rattle.wild_match.specs.Members.{set_members}
 use Rattle.wild_match.specs.Pieces.{Piece, Slash, One, Run, Folders, Rest, Never, set_piece, is_negated, set_front, escape_front, plain_front, any_byte, front, is_folders, is_rest, is_fresh_behind, onto, pieces_behind, pieces}
 use Rattle.wild_match.specs.Fits.{is_slash, fits}
-use Rattle.wild_match.specs.Steps.{one_length_of, one_of, slash_length_of, slash_of, PassesByte, PassesSlash, PassesStar}
+use Rattle.wild_match.specs.Steps.{one_length_of, one_of, slash_length_of, slash_of, PassesByte, PassesSlash, PassesStar, OpensFolders}
 
 pub pieces-skip : (skip : ℕ) (fresh : Bool) (text : List ℕ) → pieces_behind skip fresh text ≡ pieces_behind 0 fresh (drop skip text)
 pieces-skip zero fresh text = refl
@@ -220,3 +221,38 @@ pub stuck-over : (pattern text : List ℕ) → length pattern ≡ 0 → 0 < leng
 stuck-over [] (b ∷ text) none there = refl
 stuck-over [] [] none there = absurd (omega arith)
 stuck-over (b ∷ pattern) text none there = absurd (omega arith)
+
+is_folders-length : (text : List ℕ) → is_folders text ≡ true → 3 ≤ length text
+is_folders-length text is = grind (arith, common_steps)
+
+folders-front : (text : List ℕ) → is_folders text ≡ true → front true text ≡ (Folders, 3)
+unfolding front
+folders-front text is = rw is refl
+
+-- `**/` at the start of a part
+pub opens-folders : (pattern text later : List ℕ) (fresh : Bool) → fresh ≡ true → is_folders pattern ≡ true → later ≡ drop 3 pattern → OpensFolders (pieces fresh pattern) pattern text later text
+opens-folders pattern text later false start is behind = absurd (cc)
+opens-folders pattern text later true start is behind =
+    let long : 3 ≤ length pattern = is_folders-length pattern is in
+    record {
+      reads = pieces-front true pattern Folders 3 (omega arith) (omega arith) (folders-front pattern is) ∙ ap (λ (p : List ℕ). Folders ∷ pieces true p) (sym behind);
+      same = refl;
+      shorter = omega (arith, ap length behind, length-drop 3 pattern);
+    }
+
+is_rest-length : (text : List ℕ) → is_rest text ≡ true → length text ≡ 2
+is_rest-length text is = grind (arith, common_steps)
+
+is_rest-no_folders : (text : List ℕ) → is_rest text ≡ true → is_folders text ≡ false
+is_rest-no_folders text is = false_from_ne_true (is_folders text) (λ h. absurd (omega (arith, is_rest-length text is, is_folders-length text h)))
+
+rest-front : (text : List ℕ) → is_rest text ≡ true → front true text ≡ (Rest, 2)
+unfolding front
+rest-front text is = rw (is_rest-no_folders text is, is) refl
+
+-- `**` at the end, at the start of a part
+pub rest-fits : (pattern text : List ℕ) (fresh : Bool) → fresh ≡ true → is_rest pattern ≡ true → fits (pieces fresh pattern) text ≡ ltb 0 (length text)
+rest-fits pattern text false start is = absurd (cc)
+rest-fits pattern text true start is =
+    let long : 0 < length pattern = omega (arith, is_rest-length pattern is) in
+    ap (λ (ps : List Piece). fits ps text) (pieces-front true pattern Rest 2 long (omega arith) (rest-front pattern is))

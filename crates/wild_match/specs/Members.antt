@@ -93,3 +93,7 @@ is_member members b = list_any (λ m. has m b) members
 abbrev pub seen : ℕ → Option (List Member × ℕ) → Option (Bool × ℕ)
 seen b None = None
 seen b (Some set) = Some (is_member set.0 b, set.1)
+
+-- whether `]` stands here, and not first
+abbrev pub closes : List ℕ → ℕ → Bool
+closes text place = nat_lt 0 place && nat_lt 0 (length text) && is_close (slice_index text 0)

@@ -1,33 +1,45 @@
 //! A whole pattern and a whole path.
 ghost use Rattle.std.specs.Prelude.{◌≡◌, ◌<◌, length, position, IfSome};
 ghost use Rattle.wild_match.specs.Fits.{fits, is_match, is_slash, last_part, without_slash};
-ghost use Rattle.wild_match.specs.Pieces.{pieces};
+ghost use Rattle.wild_match.specs.Pieces.{is_folders, is_rest, pieces};
 ghost use Rattle.wild_match.specs.Steps.{IsPart, next_folder, seen_back};
 
 use crate::part::{Part, Place, part_from};
+
+fn is_folders(pattern: &[u8]) -> bool
+    ensures { result ≡ is_folders pattern.now }
+{
+    pattern.len() >= 2 && pattern[0] == b'*' && pattern[1] == b'*' && pattern.len() >= 3 && pattern[2] == b'/'
+}
+
+fn is_rest(pattern: &[u8]) -> bool
+    ensures { result ≡ is_rest pattern.now }
+{
+    pattern.len() >= 2 && pattern[0] == b'*' && pattern[1] == b'*' && pattern.len() == 2
+}
 
 /// Goes over `**/`, over `**` at the end, or over one part. The first two are these only at the start of a part.
 fn fresh_part<'a>(at: Place<'a>, fresh: bool) -> Part<'a>
     ensures { IsPart (pieces fresh at.entry.pattern.now) at.entry.pattern.now at.entry.path.now result }
 {
-    let pattern = at.pattern;
-    match pattern {
-        [b'*', b'*', b'/', ..] if fresh => {
+    let (pattern, path) = (at.pattern, at.path);
+    if fresh {
+        if is_folders(pattern) {
             let (_, later) = pattern.split_at(3);
-            Part::Folders(Place {
+            return Part::Folders(Place {
                 pattern: later,
-                path: at.path,
-            })
+                path,
+            });
         }
-        [b'*', b'*'] if fresh => {
-            if at.path.is_empty() {
+        if is_rest(pattern) {
+            return if path.is_empty() {
                 Part::Stuck
             } else {
                 Part::Matched
-            }
+            };
         }
-        _ => part_from(at),
     }
+    part_from(at)
 }
 
 fn slash_at(text: &[u8]) -> Option<usize>

@@ -55,26 +55,26 @@ fn moved<'a>(at: Place<'a>, pattern_len: usize, path_len: usize) -> Place<'a>
 fn front_step(pattern: &[u8], path: &[u8]) -> Step
     ensures { IsStep pattern.now path.now result }
 {
-    let Some(front) = pattern.first() else {
+    if pattern.is_empty() {
         return if path.is_empty() {
             Step::Matched
         } else {
             Step::Stuck
         };
-    };
-    if *front == b'*' {
+    }
+    if pattern[0] == b'*' {
         return Step::Star(1);
     }
-    let Some(byte) = path.first() else {
+    if path.is_empty() {
         return Step::Stuck;
-    };
-    let len = if *byte == b'/' {
-        slash_length(pattern)
-    } else {
-        one_length(pattern, *byte)
-    };
-    match len {
-        Some(len) if *byte == b'/' => Step::Behind(len),
+    }
+    if path[0] == b'/' {
+        return match slash_length(pattern) {
+            Some(len) => Step::Behind(len),
+            None => Step::Stuck,
+        };
+    }
+    match one_length(pattern, path[0]) {
         Some(len) => Step::Byte(len),
         None => Step::Stuck,
     }

@@ -1,6 +1,6 @@
 //! What stands between `[` and its `]`.
 ghost use Rattle.std.specs.Prelude.{◌≡◌, ℕ, ◌+◌, ◌<◌, ◌≤◌, length, position, IfSome};
-ghost use Rattle.wild_match.specs.Members.{class_length, end_at, has, is_close, member_at, range_at, seen, set_members};
+ghost use Rattle.wild_match.specs.Members.{class_length, closes, end_at, has, is_close, member_at, range_at, seen, set_members};
 
 use crate::classes::{Class, class_named, is_in_class};
 
@@ -89,6 +89,13 @@ fn member_at(text: &[u8]) -> Option<(Member, usize)>
     range_at(text, low, len)
 }
 
+/// Whether the set ends here, so many bytes behind its start.
+fn closes(text: &[u8], place: usize) -> bool
+    ensures { result ≡ closes text.now place }
+{
+    place > 0 && !text.is_empty() && text[0] == b']'
+}
+
 /// Whether a byte is a member of a set, and how many bytes the set takes with its `]`. `None` where it has no `]` or an
 /// unknown class.
 pub fn is_in_members(text: &[u8], byte: u8) -> Option<(bool, usize)>
@@ -99,10 +106,12 @@ pub fn is_in_members(text: &[u8], byte: u8) -> Option<(bool, usize)>
     let mut place = 0;
     'members: loop {
         let (_, rest) = text.split_at(place);
-        if place > 0 && rest.first() == Some(&b']') {
+        if closes(rest, place) {
             return Some((found, place + 1));
         }
-        let (member, len) = member_at(rest)?;
+        let Some((member, len)) = member_at(rest) else {
+            return None;
+        };
         found = found || has(member, byte);
         place += len;
     }
