@@ -159,3 +159,14 @@ at-next whole fresh start text pattern rest later after (Some tried) so_far stuc
       },
       omega (arith, from_slash-shorter tried.1 after g.slash),
     )
+
+less-work : (a b n m size : ℕ) → a + 1 ≤ b → n < size → a * size + n < b * size + m
+less-work a b n m size less small =
+    let whole : (a + 1) * size ≤ b * size = grind arith in
+    let part : (a + 1) * size ≡ a * size + size = grind arith in
+    omega arith
+
+-- going back leaves less to do
+pub shrinks : (start text pattern later after : List ℕ) (back : Option (List ℕ × List ℕ)) → length after + 1 ≤ room text back → length later ≤ length start
+    → work start text later (texts later after) < work start text pattern back
+shrinks start text pattern later after back less size = less-work (length after) (room text back) (length later) (length pattern) (length start + 1) less (omega arith)
