@@ -73,11 +73,11 @@ behind-enough first later rest after same stop slash h =
     elim (or_cases (fits first rest) (some_folder (fits first) rest) h) [
       | inl here ↦ or_left (fits later after) (some_folder (fits later) after) (sym same ∙ here)
       | inr other ↦
-        let moved : (fits first after || some_folder (fits first) after) ≡ true = sym (folder-from (fits first) rest ∙ ap (some_folder (fits first)) slash) ∙ other in
-        or_right (fits later after) (some_folder (fits later) after) (elim (or_cases (fits first after) (some_folder (fits first) after) moved) [
-          | inl here ↦ behind-folder first later after stop here
-          | inr on ↦ folder-again (fits later) after (folder-each (fits first) (λ u. some_folder (fits later) u) (λ u fit. behind-folder first later u stop fit) after on)
-        ])
+          let moved : (fits first after || some_folder (fits first) after) ≡ true = sym (folder-from (fits first) rest ∙ ap (some_folder (fits first)) slash) ∙ other in
+          or_right (fits later after) (some_folder (fits later) after) (elim (or_cases (fits first after) (some_folder (fits first) after) moved) [
+            | inl here ↦ behind-folder first later after stop here
+            | inr on ↦ folder-again (fits later) after (folder-each (fits first) (λ u. some_folder (fits later) u) (λ u fit. behind-folder first later u stop fit) after on)
+          ])
     ]
 
 from_slash-shorter_at : (c : Bool) (b : ℕ) (text rest after : List ℕ) → cond c (b ∷ text) rest ≡ 47 ∷ after → (rest ≡ 47 ∷ after → length after < length text) → length after < length (b ∷ text)

@@ -101,11 +101,11 @@ goes_on byte text rest found place m n so_far is there other reads some room =
     record {
       within = omega arith;
       same = so_far.same
-      ∙ ap (λ (xs : List ℕ). joined found place (seen byte (members_behind 0 (eqb place 0) xs))) (sym is)
-      ∙ ap (λ (r : Read). joined found place (seen byte r)) step
-      ∙ seen-behind byte found place n m (members_behind 0 false (drop n rest))
-      ∙ ap (λ (xs : List ℕ). joined (found || has m byte) (place + n) (seen byte (members_behind 0 false xs))) after
-      ∙ ap (λ (first : Bool). joined (found || has m byte) (place + n) (seen byte (members_behind 0 first (drop (place + n) text)))) (sym later);
+          ∙ ap (λ (xs : List ℕ). joined found place (seen byte (members_behind 0 (eqb place 0) xs))) (sym is)
+          ∙ ap (λ (r : Read). joined found place (seen byte r)) step
+          ∙ seen-behind byte found place n m (members_behind 0 false (drop n rest))
+          ∙ ap (λ (xs : List ℕ). joined (found || has m byte) (place + n) (seen byte (members_behind 0 false xs))) after
+          ∙ ap (λ (first : Bool). joined (found || has m byte) (place + n) (seen byte (members_behind 0 first (drop (place + n) text)))) (sym later);
     }
 
 pub fails : (byte : ℕ) (text rest : List ℕ) (found : Bool) (place : ℕ) → IsReading byte text found place → rest ≡ drop place text → (0 < place → get_or rest 0 0 ≡ 93 → ⊥) → member_at rest ≡ None

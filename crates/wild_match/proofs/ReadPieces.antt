@@ -161,9 +161,10 @@ passes-star pattern there is = record {
 -- the front of a pattern that begins with no star
 front-fits : (pattern text : List ℕ) → 0 < length pattern → get_or pattern 0 0 ≢ 42 → (later : List Piece) × (pieces false pattern ≡ (plain_front pattern).0 ∷ later)
 front-fits [] text there other = absurd (omega arith)
-front-fits (b ∷ pattern) text there other =
-    ((λ (first : Piece × ℕ). pieces_behind (first.1 - 1) (is_fresh_behind first.0) pattern) (plain_front (b ∷ pattern)),
-    ap (λ (first : Piece × ℕ). onto first (λ skip fresh. pieces_behind skip fresh pattern)) (front-plain (b ∷ pattern)))
+front-fits (b ∷ pattern) text there other = (
+  (λ (first : Piece × ℕ). pieces_behind (first.1 - 1) (is_fresh_behind first.0) pattern) (plain_front (b ∷ pattern)),
+  ap (λ (first : Piece × ℕ). onto first (λ skip fresh. pieces_behind skip fresh pattern)) (front-plain (b ∷ pattern)),
+)
 
 simple-ended : (piece : Piece) (later : List Piece) → is_simple piece ≡ true → fits (piece ∷ later) [] ≡ false
 simple-ended Slash later simple = refl

@@ -1,5 +1,7 @@
 -- A pattern as the pieces that it is read to.
-use Rattle.std.specs.Prelude.{ℕ, zero, suc, ◌+◌, ◌-◌, Bool, true, false, ◌&&◌, ◌||◌, not, ◌==◌, nat_eq, nat_le, List, [], ◌∷◌, length, drop, slice_index, Option, Some, None, if◌then◌else◌}
+use Rattle.std.specs.Prelude.{ℕ, zero, suc, ◌+◌, ◌-◌, Bool, true, false, ◌&&◌, ◌||◌, not, ◌==◌, nat_eq, nat_le, List, [], ◌∷◌, length, drop, codes, slice_index, Option, Some, None, if◌then◌else◌}
+use Rattle.std.specs.List.{starts_with}
+use Rattle.std.specs.Str.{bytes_eq}
 use Rattle.wild_match.specs.declared.sets.Member.{Member}
 use Rattle.wild_match.specs.Members.{set_members, is_member}
 
@@ -55,17 +57,13 @@ plain_front text =
     else if slice_index text 0 == 92 then escape_front (drop 1 text)
     else (One (nat_eq (slice_index text 0)), 1)
 
--- whether a pattern goes on with two stars
-abbrev pub is_two_stars : List ℕ → Bool
-is_two_stars text = nat_le 2 (length text) && (slice_index text 0 == 42) && (slice_index text 1 == 42)
-
 -- `**/`
 abbrev pub is_folders : List ℕ → Bool
-is_folders text = is_two_stars text && nat_le 3 (length text) && (slice_index text 2 == 47)
+is_folders text = starts_with nat_eq text (codes "**/")
 
 -- `**` at the end
 abbrev pub is_rest : List ℕ → Bool
-is_rest text = is_two_stars text && (length text == 2)
+is_rest text = bytes_eq text (codes "**")
 
 -- the same at the start of a part, where `**/`, and `**` at the end, cross `/`. Each other star of a run splits by itself, which comes to the same.
 unfoldable pub front : Bool → List ℕ → Piece × ℕ

@@ -9,13 +9,13 @@ use crate::part::{Part, Place, part_from};
 fn is_folders(pattern: &[u8]) -> bool
     ensures { result ≡ is_folders pattern.now }
 {
-    pattern.len() >= 2 && pattern[0] == b'*' && pattern[1] == b'*' && pattern.len() >= 3 && pattern[2] == b'/'
+    pattern.starts_with(b"**/")
 }
 
 fn is_rest(pattern: &[u8]) -> bool
     ensures { result ≡ is_rest pattern.now }
 {
-    pattern.len() >= 2 && pattern[0] == b'*' && pattern[1] == b'*' && pattern.len() == 2
+    pattern == b"**".as_slice()
 }
 
 /// Goes over `**/`, over `**` at the end, or over one part. The first two are these only at the start of a part.
