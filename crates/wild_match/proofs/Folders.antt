@@ -1,10 +1,10 @@
 -- The whole: going back to the last `**/` is enough.
-use Rattle.std.proofs.Common.{◌≡◌, ℕ, zero, suc, ◌+◌, ◌-◌, ◌*◌, ◌<◌, ◌≤◌, Bool, true, false, cond, ◌&&◌, ◌||◌, not, ◌⊎◌, inl, inr, List, [], ◌∷◌, length, get_or, drop, Option, Some, None, refl, sym, ◌∙◌, ap, subst, arith, length-drop}
+use Rattle.std.proofs.Common.{◌≡◌, ℕ, ◌+◌, ◌*◌, ◌<◌, ◌≤◌, Bool, true, false, cond, ◌||◌, inl, inr, List, [], ◌∷◌, length, Option, Some, None, refl, sym, ◌∙◌, ap, arith}
 use Rattle.std.specs.List.{position}
 use Rattle.std.proofs.lemmas.Bool.{or_cases, or_left, or_right}
-use Rattle.wild_match.specs.Pieces.{Piece, Slash, One, Run, Folders, Rest, Never, pieces}
+use Rattle.wild_match.specs.Pieces.{Piece, Slash, Folders, pieces}
 use Rattle.wild_match.specs.Fits.{is_slash, some_split, some_folder, fits}
-use Rattle.wild_match.specs.Steps.{from_stop, from_slash, BehindPart, OpensFolders, behind_slash, next_part, next_folder}
+use Rattle.wild_match.specs.Steps.{from_stop, from_slash, BehindPart, behind_slash, next_folder}
 use Rattle.wild_match.proofs.Splits.{stop-split, folder-each, folder-again, folder-opens, folder-split, folder-from}
 use Rattle.wild_match.proofs.Parts.{texts, pattern_of, rest_of, room, work, absorb, or-none}
 use Rattle.wild_match.proofs.LastPart.{found, ended}

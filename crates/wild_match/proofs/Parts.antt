@@ -1,10 +1,10 @@
 -- One part: going back to its last star is enough.
-use Rattle.std.proofs.Common.{◌≡◌, ℕ, zero, suc, ◌+◌, ◌-◌, ◌*◌, ◌<◌, ◌≤◌, Bool, true, false, cond, ◌&&◌, ◌||◌, not, List, [], ◌∷◌, length, get_or, drop, Option, Some, None, refl, sym, ◌∙◌, ap, subst, arith, length-drop}
-use Rattle.std.proofs.lemmas.Bool.{and_parts, or_cases, or_left, or_right, cases_Bool, not_from_false}
-use Rattle.wild_match.specs.Pieces.{Piece, Slash, One, Run, Folders, Rest, Never, pieces}
+use Rattle.std.proofs.Common.{◌≡◌, ℕ, ◌+◌, ◌*◌, ◌≤◌, Bool, true, false, cond, ◌&&◌, ◌||◌, not, List, [], ◌∷◌, length, drop, Option, Some, None, refl, sym, ◌∙◌, ap, subst, arith, length-drop}
+use Rattle.std.proofs.lemmas.Bool.{or_left, or_right, not_from_false}
+use Rattle.wild_match.specs.Pieces.{Piece, Slash, One, Run, pieces}
 use Rattle.wild_match.specs.Fits.{is_slash, some_split, fits}
 use Rattle.wild_match.specs.Steps.{PassesByte, PassesSlash, PassesStar, from_stop, from_slash, BehindPart, next_byte, next_split}
-use Rattle.wild_match.proofs.Splits.{split-here, one-step, slash-step, star-step}
+use Rattle.wild_match.proofs.Splits.{one-step, slash-step, star-step}
 
 -- what is behind a place in a pattern that is not the start of a part
 abbrev pub inside : List ℕ → List Piece

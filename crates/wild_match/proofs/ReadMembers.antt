@@ -1,9 +1,7 @@
 -- How the members of a set are read one by one.
 use Rattle.std.proofs.Common.{◌≡◌, ℕ, zero, suc, ◌+◌, ◌-◌, ◌<◌, ◌≤◌, Bool, true, false, ◌&&◌, ◌||◌, not, List, [], ◌∷◌, ◌++◌, length, get_or, drop, eqb, ltb, Option, Some, None, refl, sym, ◌∙◌, ap, arith, append_assoc}
-use Rattle.std.proofs.Math.Seq.{drop-cons}
 use Rattle.std.proofs.lemmas.Bool.{ne_eqb, eq-eqb, eqb-true, ltb-true, lt-ltb, and_parts, and_from, both_ways}
-use Rattle.std.proofs.lemmas.List.{append-nil, drop-drop}
-use Rattle.std.proofs.lemmas.List.Folds.{list_any-append}
+use Rattle.std.proofs.lemmas.List.{drop-drop}
 use Rattle.wild_match.specs.declared.sets.Member.{Member}
 use Rattle.wild_match.specs.Members.{has, is_close, closes, member_at, behind, with_member, members_behind, is_member, seen}
 

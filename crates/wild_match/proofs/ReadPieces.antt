@@ -1,5 +1,5 @@
 -- How a pattern is read to pieces.
-use Rattle.std.proofs.Common.{◌≡◌, ◌≢◌, ℕ, zero, suc, ◌+◌, ◌-◌, ◌<◌, ◌≤◌, Bool, true, false, cond, ◌&&◌, ◌||◌, not, List, [], ◌∷◌, length, get_or, drop, eqb, ltb, Option, Some, None, refl, sym, ◌∙◌, ap, arith, length-drop}
+use Rattle.std.proofs.Common.{◌≡◌, ◌≢◌, ℕ, zero, suc, ◌-◌, ◌<◌, ◌≤◌, Bool, true, false, cond, ◌&&◌, not, List, [], ◌∷◌, length, get_or, drop, eqb, ltb, Option, Some, None, refl, sym, ◌∙◌, ap, arith, length-drop}
 use Rattle.std.specs.Prelude.{nat_eq}
 use Rattle.std.proofs.lemmas.Bool.{ne_eqb, and_left, and_right, false_from_ne_true}
 use Rattle.std.proofs.lemmas.Grind.{common_steps}

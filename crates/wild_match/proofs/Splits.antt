@@ -1,5 +1,5 @@
 -- Splits of a text behind a star, and why going back to the last star is enough.
-use Rattle.std.proofs.Common.{◌≡◌, ℕ, Bool, true, false, cond, ◌&&◌, ◌||◌, not, List, [], ◌∷◌, ◌⊎◌, inl, inr, refl, sym, ◌∙◌, ap}
+use Rattle.std.proofs.Common.{◌≡◌, ℕ, Bool, true, false, cond, ◌&&◌, not, List, [], ◌∷◌, ◌⊎◌, inl, inr, refl}
 use Rattle.std.proofs.lemmas.Bool.{and_parts, and_from, or_cases, or_left, or_right}
 use Rattle.wild_match.specs.Pieces.{Piece, Slash, One, Run, Folders, Rest, Never}
 use Rattle.wild_match.specs.Fits.{is_slash, some_split, some_folder, fits}

@@ -1,5 +1,5 @@
 -- What the steps of the scan say of a pattern and a path.
-use Rattle.std.specs.Prelude.{◌≡◌, ℕ, ◌+◌, ◌-◌, ◌<◌, ◌≤◌, Bool, true, false, ◌&&◌, not, List, [], ◌∷◌, length, drop, position, slice_index, Option, Some, None, if◌then◌else◌}
+use Rattle.std.specs.Prelude.{◌≡◌, ℕ, ◌+◌, ◌<◌, ◌≤◌, Bool, true, false, List, [], ◌∷◌, length, drop, position, slice_index, Option, Some, None, if◌then◌else◌}
 use Rattle.wild_match.specs.declared.part.Step.{Step}
 use Rattle.wild_match.specs.declared.part.Step.TheVariants.{Star, Byte, Behind, Matched, Stuck}
 use Rattle.wild_match.specs.declared.part.Place.{Place}

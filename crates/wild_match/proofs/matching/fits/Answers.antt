@@ -1,4 +1,4 @@
-use Rattle.std.proofs.Common.{◌≡◌, sym}
+use Rattle.std.proofs.Common.{sym}
 use Rattle.wild_match.specs.Steps.{seen_back}
 use Rattle.wild_match.proofs.Folders.{at-folders, at-part, at-next, is-over, shrinks}
 use Rattle.wild_match.proofs.matching.fits.Goals as goal

@@ -1,7 +1,7 @@
-use Rattle.std.proofs.Common.{◌≡◌, ◌<◌, ◌∙◌, true, false, length, sym, subst, arith, List, ℕ}
+use Rattle.std.proofs.Common.{◌≡◌, ◌∙◌, true, false, length, sym, subst, arith, List}
 use Rattle.std.proofs.lemmas.Bool.{lt-ltb, le-ltb}
 use Rattle.std.proofs.lemmas.Grind.{common_steps}
-use Rattle.wild_match.specs.Pieces.{Piece, is_folders, is_rest, pieces}
+use Rattle.wild_match.specs.Pieces.{Piece, is_folders, is_rest}
 use Rattle.wild_match.specs.Steps.{IsPart}
 use Rattle.wild_match.proofs.ReadPieces.{opens-folders, rest-fits, pieces-same}
 use Rattle.wild_match.proofs.matching.fresh_part.Goals as goal

@@ -1,7 +1,6 @@
-use Rattle.std.proofs.Common.{◌≡◌, ◌<◌, length, refl, sym, arith}
+use Rattle.std.proofs.Common.{refl, arith}
 use Rattle.std.proofs.lemmas.Grind.{common_steps}
 use Rattle.wild_match.proofs.ReadPieces.{passes-star, passes-byte, passes-slash, stuck-ended, stuck-byte, stuck-slash}
-use Rattle.wild_match.specs.Pieces.{plain_front}
 use Rattle.wild_match.proofs.part.front_step.Goals as goal
 
 pub returns-then-pattern-eq42 : goal.returns-then-pattern-eq42

@@ -1,7 +1,7 @@
-use Rattle.std.proofs.Common.{◌≡◌, ap, false, drop, List, ℕ}
+use Rattle.std.proofs.Common.{◌≡◌, false}
 use Rattle.wild_match.specs.Pieces.{pieces}
 use Rattle.wild_match.specs.Steps.{seen_back}
-use Rattle.wild_match.proofs.Parts.{at-star, at-byte, IsTrying}
+use Rattle.wild_match.proofs.Parts.{at-star, at-byte}
 use Rattle.wild_match.proofs.Pairs.{first_same, second_same}
 use Rattle.wild_match.proofs.part.part_from.Goals as goal
 

@@ -1,7 +1,7 @@
-use Rattle.std.proofs.Common.{◌≡◌, ◌<◌, ◌||◌, true, false, length, subst, sym, arith, rules, Bool}
+use Rattle.std.proofs.Common.{◌≡◌, ◌<◌, ◌||◌, length, sym, arith, rules}
 use Rattle.std.proofs.lemmas.Grind.{common_steps}
 use Rattle.wild_match.specs.Members.{has}
-use Rattle.wild_match.proofs.ReadMembers.{IsReading, goes_on, not-closed, now-found}
+use Rattle.wild_match.proofs.ReadMembers.{goes_on, not-closed, now-found}
 use Rattle.wild_match.proofs.sets.is_in_members.Goals as goal
 use Rattle.wild_match.proofs.sets.is_in_members.Goals.{then-found, else-found}
 
