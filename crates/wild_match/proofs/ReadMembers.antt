@@ -1,7 +1,10 @@
 -- How the members of a set are read one by one.
-use Rattle.std.proofs.Common.{◌≡◌, ℕ, zero, suc, ◌+◌, ◌-◌, ◌<◌, ◌≤◌, Bool, true, false, ◌&&◌, ◌||◌, not, List, [], ◌∷◌, ◌++◌, length, get_or, drop, eqb, ltb, Option, Some, None, refl, sym, ◌∙◌, ap, arith, append_assoc}
-use Rattle.std.proofs.lemmas.Bool.{ne_eqb, eq-eqb, eqb-true, ltb-true, lt-ltb, and_parts, and_from, both_ways}
+use Rattle.std.proofs.Common.{◌≡◌, ℕ, zero, suc, ◌+◌, ◌-◌, ◌<◌, ◌≤◌, Bool, true, false, ◌&&◌, ◌||◌, not, List, [], ◌∷◌, ◌++◌, cond, length, get_or, drop, eqb, ltb, Option, Some, None, refl, sym, ◌∙◌, ap, arith, append_assoc}
+use Rattle.std.specs.List.{position, position_or_len}
+use Rattle.std.proofs.lemmas.Bool.{ne_eqb, eq-eqb, eqb-true, ltb-true, ltb-false, lt-ltb, and_parts, and_from, both_ways}
 use Rattle.std.proofs.lemmas.List.{drop-drop}
+use Rattle.std.proofs.lemmas.List.Sums.{prefix_len-le-length}
+use Rattle.wild_match.specs.Steps.{IsClose}
 use Rattle.wild_match.specs.declared.sets.Member.{Member}
 use Rattle.wild_match.specs.Members.{has, is_close, closes, member_at, behind, with_member, members_behind, is_member, seen}
 
@@ -139,3 +142,35 @@ not-closed (b ∷ text) place h some is =
 pub now-found : (found now hit : Bool) → (found ≡ true → now ≡ true) → (found ≡ false → now ≡ hit) → now ≡ (found || hit)
 now-found true now hit there none = there refl
 now-found false now hit there none = none refl
+
+-- the first `]` is nearer from a later place
+close-drop_at : (c : Bool) (d n m : ℕ) → suc d ≤ cond (not c) (1 + n) 0 → (d ≤ n → m + d ≡ n) → m + suc d ≡ cond (not c) (1 + n) 0
+close-drop_at true d n m le later = absurd (omega arith)
+close-drop_at false d n m le later = omega (arith, later (omega arith))
+
+close-drop : (d : ℕ) (text : List ℕ) → d ≤ position_or_len is_close text → position_or_len is_close (drop d text) + d ≡ position_or_len is_close text
+close-drop zero text le = omega arith
+close-drop (suc d) [] le = absurd (omega arith)
+close-drop (suc d) (b ∷ text) le = close-drop_at (is_close b) d (position_or_len is_close text) (position_or_len is_close (drop d text)) le (close-drop d text)
+
+pub close-later : (text : List ℕ) (start known n : ℕ) → IsClose text start known → IsClose text (start + n) known
+close-later text start known n is far =
+    let here : known ≡ start + position_or_len is_close (drop start text) = is (omega arith) in
+    let room : n ≤ position_or_len is_close (drop start text) = omega arith in
+    omega (arith, here, close-drop n (drop start text) room, ap (λ (u : List ℕ). position_or_len is_close u) (drop-drop n start text))
+
+none-close : (c : Bool) (n : ℕ) → None ≡ cond c (Some n) None → c ≡ false
+none-close true n is = absurd (cc)
+none-close false n is = refl
+
+some-close : (c : Bool) (n k : ℕ) → Some k ≡ cond c (Some n) None → k ≡ n
+some-close true n k is = cc
+some-close false n k is = absurd (cc)
+
+pub close-none : (text : List ℕ) → None ≡ position is_close text → length text ≡ position_or_len is_close text
+close-none text is =
+    let over = ltb-false (position_or_len is_close text) (length text) (none-close (ltb (position_or_len is_close text) (length text)) (position_or_len is_close text) is) in
+    omega (arith, over, prefix_len-le-length (λ (b : ℕ). not (is_close b)) text)
+
+pub close-some : (text : List ℕ) (k : ℕ) → Some k ≡ position is_close text → k ≡ position_or_len is_close text
+close-some text k is = some-close (ltb (position_or_len is_close text) (length text)) (position_or_len is_close text) k is

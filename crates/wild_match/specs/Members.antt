@@ -43,10 +43,14 @@ is_close b = b == 93
 abbrev pub name_length : List ℕ → ℕ → Option ℕ
 name_length text close = if nat_lt 0 close && (slice_index text (close - 1) == 58) then Some (close - 1) else None
 
+-- whether a class may begin here
+abbrev pub opens_class : List ℕ → Bool
+opens_class text = nat_lt 1 (length text) && (slice_index text 0 == 91) && (slice_index text 1 == 58)
+
 -- the same, of a text that begins with `[:` if it is a class
 unfoldable pub class_length : List ℕ → Option ℕ
 class_length text =
-    if nat_lt 1 (length text) && (slice_index text 0 == 91) && (slice_index text 1 == 58) then and_then (position is_close (drop 2 text)) (name_length (drop 2 text))
+    if opens_class text then and_then (position is_close (drop 2 text)) (name_length (drop 2 text))
     else None
 
 -- a class by its name, of so many bytes

@@ -1,5 +1,7 @@
 -- What the steps of the scan say of a pattern and a path.
 use Rattle.std.specs.Prelude.{◌≡◌, ℕ, ◌+◌, ◌<◌, ◌≤◌, Bool, true, false, List, [], ◌∷◌, length, drop, position, slice_index, Option, Some, None, if◌then◌else◌}
+use Rattle.std.specs.List.{position_or_len}
+use Rattle.wild_match.specs.Members.{is_close}
 use Rattle.wild_match.specs.declared.part.Step.{Step}
 use Rattle.wild_match.specs.declared.part.Step.TheVariants.{Star, Byte, Behind, Matched, Stuck}
 use Rattle.wild_match.specs.declared.part.Place.{Place}
@@ -23,6 +25,10 @@ slash_length_of n piece = None
 
 abbrev pub slash_of : Piece × ℕ → Option ℕ
 slash_of first = slash_length_of first.1 first.0
+
+-- a place that is known for the first `]` from another on, unless it is before that one
+abbrev pub IsClose : List ℕ → ℕ → ℕ → Type 0
+IsClose text start known = start ≤ known → known ≡ start + position_or_len is_close (drop start text)
 
 -- a piece of n bytes that a text's first byte passes
 pub record PassesByte (pattern text : List ℕ) (n : ℕ) : Type 0 where
