@@ -47,7 +47,7 @@ name_length text close = if nat_lt 0 close && (slice_index text (close - 1) == 5
 abbrev pub opens_class : List ℕ → Bool
 opens_class text = nat_lt 1 (length text) && (slice_index text 0 == 91) && (slice_index text 1 == 58)
 
--- the same, of a text that begins with `[:` if it is a class
+-- how long the name is of the class that a text begins with
 unfoldable pub class_length : List ℕ → Option ℕ
 class_length text =
     if opens_class text then and_then (position is_close (drop 2 text)) (name_length (drop 2 text))

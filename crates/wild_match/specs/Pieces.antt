@@ -47,7 +47,7 @@ escape_front text =
     else if slice_index text 0 == 47 then (Slash, 2)
     else (One (nat_eq (slice_index text 0)), 2)
 
--- the piece in front of a pattern that is not empty, and how many bytes it takes, but for the two that are told from a star below
+-- the piece in front of a pattern that is not empty, and how many bytes it takes, away from the start of a part
 unfoldable pub plain_front : List ℕ → Piece × ℕ
 plain_front text =
     if slice_index text 0 == 42 then (Run, 1)
@@ -65,7 +65,7 @@ is_folders text = starts_with nat_eq text (codes "**/")
 abbrev pub is_rest : List ℕ → Bool
 is_rest text = bytes_eq text (codes "**")
 
--- the same at the start of a part, where `**/`, and `**` at the end, cross `/`. Each other star of a run splits by itself, which comes to the same.
+-- the piece in front: at the start of a part `**/`, and `**` at the end, cross `/`. Each other star of a run splits by itself, which comes to the same.
 unfoldable pub front : Bool → List ℕ → Piece × ℕ
 front fresh text =
     if fresh && is_folders text then (Folders, 3)
