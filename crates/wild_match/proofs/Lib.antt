@@ -1,0 +1,7 @@
+pub mod Folders
+pub mod LastPart
+pub mod Pairs
+pub mod Parts
+pub mod ReadMembers
+pub mod ReadPieces
+pub mod Splits

@@ -1,0 +1,41 @@
+-- The ASCII classes of a set.
+use Rattle.std.specs.Prelude.{ℕ, Bool, ◌&&◌, ◌||◌, not, ◌==◌, nat_lt, nat_le, List, codes, Option, Some, None, if◌then◌else◌}
+use Rattle.std.specs.Str.{bytes_eq}
+use Rattle.wild_match.specs.declared.classes.Class.{Class}
+use Rattle.wild_match.specs.declared.classes.Class.TheVariants.{Alnum, Alpha, Blank, Cntrl, Digit, Graph, Lower, Print, Punct, Space, Upper, Xdigit}
+
+-- the class of this name
+unfoldable pub class_named : List ℕ → Option Class
+class_named name =
+    if bytes_eq name (codes "alnum") then Some Alnum
+    else if bytes_eq name (codes "alpha") then Some Alpha
+    else if bytes_eq name (codes "blank") then Some Blank
+    else if bytes_eq name (codes "cntrl") then Some Cntrl
+    else if bytes_eq name (codes "digit") then Some Digit
+    else if bytes_eq name (codes "graph") then Some Graph
+    else if bytes_eq name (codes "lower") then Some Lower
+    else if bytes_eq name (codes "print") then Some Print
+    else if bytes_eq name (codes "punct") then Some Punct
+    else if bytes_eq name (codes "space") then Some Space
+    else if bytes_eq name (codes "upper") then Some Upper
+    else if bytes_eq name (codes "xdigit") then Some Xdigit
+    else None
+
+-- a byte from one to another, both included
+abbrev pub is_between : ℕ → ℕ → ℕ → Bool
+is_between low high b = nat_le low b && nat_le b high
+
+-- whether a byte is in a class
+abbrev pub is_in_class : Class → ℕ → Bool
+is_in_class Digit b = is_between 48 57 b
+is_in_class Lower b = is_between 97 122 b
+is_in_class Upper b = is_between 65 90 b
+is_in_class Alpha b = is_between 97 122 b || is_between 65 90 b
+is_in_class Alnum b = is_between 97 122 b || is_between 65 90 b || is_between 48 57 b
+is_in_class Blank b = (b == 32) || (b == 9)
+is_in_class Cntrl b = nat_lt b 32 || (b == 127)
+is_in_class Graph b = is_between 33 126 b
+is_in_class Print b = is_between 32 126 b
+is_in_class Punct b = is_between 33 126 b && not (is_between 97 122 b || is_between 65 90 b || is_between 48 57 b)
+is_in_class Space b = (b == 32) || is_between 9 13 b
+is_in_class Xdigit b = is_between 48 57 b || is_between 97 102 b || is_between 65 70 b

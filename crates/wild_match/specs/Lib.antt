@@ -1,0 +1,5 @@
+pub mod Classes
+pub mod Fits
+pub mod Members
+pub mod Pieces
+pub mod Steps

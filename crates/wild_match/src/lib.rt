@@ -1,0 +1,13 @@
+//! The patterns of attribute files, and the paths that they match: gitattributes(5) and gitignore(5).
+#![tactic(auto)]
+
+mod classes;
+mod front;
+mod matching;
+mod part;
+mod sets;
+
+pub use matching::matches;
+
+#[cfg(test)]
+mod tests;

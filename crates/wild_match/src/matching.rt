@@ -1,0 +1,138 @@
+//! A whole pattern and a whole path.
+ghost use Rattle.std.specs.Prelude.{◌≡◌, ◌<◌, length, position, IfSome};
+ghost use Rattle.wild_match.specs.Fits.{fits, is_match, is_slash, last_part, without_slash};
+ghost use Rattle.wild_match.specs.Pieces.{is_folders, is_rest, pieces};
+ghost use Rattle.wild_match.specs.Steps.{IsPart, next_folder, seen_back};
+
+use crate::part::{Part, Place, part_from};
+
+fn is_folders(pattern: &[u8]) -> bool
+    ensures { result ≡ is_folders pattern.now }
+{
+    pattern.starts_with(b"**/")
+}
+
+fn is_rest(pattern: &[u8]) -> bool
+    ensures { result ≡ is_rest pattern.now }
+{
+    pattern == b"**".as_slice()
+}
+
+/// Goes over `**/`, over `**` at the end, or over one part. The first two are these only at the start of a part.
+fn fresh_part<'a>(at: Place<'a>, fresh: bool) -> Part<'a>
+    ensures { IsPart (pieces fresh at.entry.pattern.now) at.entry.pattern.now at.entry.path.now result }
+{
+    let (pattern, path) = (at.pattern, at.path);
+    if fresh {
+        if is_folders(pattern) {
+            let (_, later) = pattern.split_at(3);
+            return Part::Folders(Place {
+                pattern: later,
+                path,
+            });
+        }
+        if is_rest(pattern) {
+            return if path.is_empty() {
+                Part::Stuck
+            } else {
+                Part::Matched
+            };
+        }
+    }
+    part_from(at)
+}
+
+fn slash_at(text: &[u8]) -> Option<usize>
+    ensures value { result ≡ position is_slash text.now }
+    ensures within { IfSome result (λ n. n < length text.now) }
+{
+    text.iter().position(|b| *b == b'/')
+}
+
+/// Where what follows `**/` is tried next, which is behind the next `/`.
+fn next_folder<'a>(back: Option<Place<'a>>) -> Option<Place<'a>>
+    ensures { seen_back result ≡ next_folder (seen_back back.entry) }
+{
+    let tried = back?;
+    match slash_at(tried.path) {
+        Some(slash) => {
+            let (_, path) = tried.path.split_at(slash + 1);
+            Some(Place {
+                pattern: tried.pattern,
+                path,
+            })
+        }
+        None => None,
+    }
+}
+
+/// Whether the pattern matches the path; `fresh`: its front is the start of a part.
+///
+/// It goes back to the last `**/` alone, since what an earlier one could take, the last one can take too. So the whole
+/// takes at most as many steps as the pattern has bytes times those of the path.
+fn fits(pattern: &[u8], fresh: bool, path: &[u8]) -> bool
+    ensures { result ≡ fits (pieces fresh pattern.now) path.now }
+{
+    let mut at = Place { pattern, path };
+    let mut is_fresh = fresh;
+    let mut back = None;
+    'parts: loop {
+        match fresh_part(at, is_fresh) {
+            Part::Folders(later) => {
+                at = later;
+                back = Some(later);
+            }
+            Part::Behind(later) => at = later,
+            Part::Matched => return true,
+            Part::Stuck => match next_folder(back) {
+                Some(next) => {
+                    at = next;
+                    back = Some(next);
+                }
+                None => return false,
+            },
+        }
+        is_fresh = true;
+    }
+}
+
+/// A pattern without one `/` in front.
+fn without_slash(pattern: &[u8]) -> &[u8]
+    ensures { result.now ≡ without_slash pattern.now }
+{
+    match pattern {
+        [b'/', ..] => {
+            let (_, later) = pattern.split_at(1);
+            later
+        }
+        _ => pattern,
+    }
+}
+
+/// What stands behind the last `/` of a path.
+fn last_part(path: &[u8]) -> &[u8]
+    ensures { result.now ≡ last_part path.now }
+{
+    let mut rest = path;
+    'parts: while let Some(slash) = slash_at(rest) {
+        let (_, behind) = rest.split_at(slash + 1);
+        rest = behind;
+    }
+    rest
+}
+
+/// Whether a pattern of an attribute file matches a path, which is relative to that file's folder: gitattributes(5), by
+/// the rules of gitignore(5).
+///
+/// An empty pattern and one that ends in `/` match nothing. One with a `/` is compared with the whole path, and any
+/// other with its last part. It takes no memory, and at most about pattern times path steps.
+#[tactic(auto, unfolding(crate::specs::Fits::is_match))]
+pub fn matches(pattern: &[u8], path: &[u8]) -> bool
+    ensures { result ≡ is_match pattern.now path.now }
+{
+    match pattern {
+        [] | [.., b'/'] => false,
+        _ if pattern.contains(&b'/') => fits(without_slash(pattern), true, path),
+        _ => fits(pattern, false, last_part(path)),
+    }
+}

@@ -1,0 +1,118 @@
+//! One part of a pattern and one part of a path, each up to its `/`.
+ghost use Rattle.std.specs.Prelude.{◌≡◌, ◌+◌, ◌≤◌, false, length, drop};
+ghost use Rattle.wild_match.specs.Pieces.{pieces};
+ghost use Rattle.wild_match.specs.Steps.{IsPart, IsStep, next_split, seen_back, texts_of};
+
+use crate::front::{one_length, slash_length};
+
+/// What stands in front of a pattern, in so many bytes, and whether a path goes on with it.
+#[derive(Clone, Copy)]
+pub enum Step {
+    /// A star.
+    Star(usize),
+    /// A piece for one byte, which the path's first byte passes.
+    Byte(usize),
+    /// A `/`, as in the path.
+    Behind(usize),
+    /// Nothing, and the path has ended too.
+    Matched,
+    /// The path doesn't fit.
+    Stuck,
+}
+
+/// What is left of a pattern and of a path.
+#[derive(Clone, Copy)]
+pub struct Place<'a> {
+    pub pattern: &'a [u8],
+    pub path: &'a [u8],
+}
+
+/// How a part ended.
+#[derive(Clone, Copy)]
+pub enum Part<'a> {
+    /// The pattern had `**/`, and this is behind it.
+    Folders(Place<'a>),
+    /// The part fits, and this is behind its `/`.
+    Behind(Place<'a>),
+    /// The whole pattern fits.
+    Matched,
+    /// It doesn't fit.
+    Stuck,
+}
+
+/// What is left behind so many bytes of each.
+fn moved<'a>(at: Place<'a>, pattern_len: usize, path_len: usize) -> Place<'a>
+    requires pattern { pattern_len ≤ length at.pattern.now }
+    requires path { path_len ≤ length at.path.now }
+    ensures { texts_of result ≡ (drop pattern_len at.entry.pattern.now, drop path_len at.entry.path.now) }
+{
+    let (_, pattern) = at.pattern.split_at(pattern_len);
+    let (_, path) = at.path.split_at(path_len);
+    Place { pattern, path }
+}
+
+/// One step within a part.
+fn front_step(pattern: &[u8], path: &[u8]) -> Step
+    ensures { IsStep pattern.now path.now result }
+{
+    if pattern.is_empty() {
+        return if path.is_empty() {
+            Step::Matched
+        } else {
+            Step::Stuck
+        };
+    }
+    if pattern[0] == b'*' {
+        return Step::Star(1);
+    }
+    if path.is_empty() {
+        return Step::Stuck;
+    }
+    if path[0] == b'/' {
+        return match slash_length(pattern) {
+            Some(len) => Step::Behind(len),
+            None => Step::Stuck,
+        };
+    }
+    match one_length(pattern, path[0]) {
+        Some(len) => Step::Byte(len),
+        None => Step::Stuck,
+    }
+}
+
+/// Where what follows a star is tried next, which is one byte on, but never behind a `/`.
+fn next_split<'a>(back: Option<Place<'a>>) -> Option<Place<'a>>
+    ensures { seen_back result ≡ next_split (seen_back back.entry) }
+{
+    let tried = back?;
+    match tried.path {
+        [] | [b'/', ..] => None,
+        _ => Some(moved(tried, 0, 1)),
+    }
+}
+
+/// Goes over one part. It goes back to the last star alone: what an earlier star could take, the last one can take too.
+pub fn part_from<'a>(start: Place<'a>) -> Part<'a>
+    ensures { IsPart (pieces false start.entry.pattern.now) start.entry.pattern.now start.entry.path.now result }
+{
+    let mut at = start;
+    let mut back = None;
+    'bytes: loop {
+        match front_step(at.pattern, at.path) {
+            Step::Star(len) => {
+                at = moved(at, len, 0);
+                back = Some(at);
+            }
+            Step::Byte(len) => at = moved(at, len, 1),
+            Step::Behind(len) => return Part::Behind(moved(at, len, 1)),
+            Step::Matched => return Part::Matched,
+            Step::Stuck => match next_split(back) {
+                Some(next) => {
+                    at = next;
+                    back = Some(next);
+                }
+                None => return Part::Stuck,
+            },
+        }
+    }
+}
