@@ -1,0 +1,26 @@
+/// The setting `core.autocrlf` (git-config(1)).
+#[derive(Clone, Copy, Debug, PartialEq, Eq)]
+pub enum AutoCrlf {
+    False,
+    True,
+    Input,
+}
+
+/// The setting `core.eol` (git-config(1)). The native line end is LF.
+#[derive(Clone, Copy, Debug, PartialEq, Eq)]
+pub enum EolSetting {
+    Lf,
+    Crlf,
+    Native,
+}
+
+/// What becomes of a file's line ends in the worktree.
+#[derive(Clone, Copy, Debug, PartialEq, Eq)]
+pub enum LineEnds {
+    /// They stay.
+    Keep,
+    /// Each LF that no CR stands before becomes CR LF.
+    ToCrlf,
+    /// The same, where the content is a text without a CR.
+    AutoCrlf,
+}
