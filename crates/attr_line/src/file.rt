@@ -8,7 +8,7 @@ pub struct Pair {
     pub state: AttrState,
 }
 
-/// A line that counts.
+/// A line that counts. It may have no pairs: then it says nothing, but a macro is a macro all the same.
 #[derive(Drop)]
 pub enum AttrRow {
     /// The pairs of the paths that match a pattern.
@@ -17,10 +17,10 @@ pub enum AttrRow {
     Macro { name: Bytes, pairs: Items<Pair> },
 }
 
-/// How many lines were skipped, by what is wrong with them.
+/// How many lines were skipped, by what is wrong with them. Each count stops at 4,294,967,295.
 #[derive(Clone, Copy, Debug, PartialEq, Eq)]
 pub struct Skipped {
-    /// Lines of 2,048 bytes or more.
+    /// Lines of 2,048 bytes or more without their end, comments among them.
     pub long: u32,
     /// Patterns that begin with `!`.
     pub negative: u32,

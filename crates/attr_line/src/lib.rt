@@ -2,7 +2,16 @@
 #![tactic(auto)]
 
 mod file;
+mod line;
+mod outcome;
+mod pairs;
+mod reading;
 mod state;
+mod text;
 
 pub use file::{AttrFile, AttrRow, Pair, Skipped};
+pub use reading::read_attributes;
 pub use state::AttrState;
+
+#[cfg(test)]
+mod tests;

@@ -1,0 +1,4 @@
+pub mod Places
+pub mod Cuts
+pub mod Quoted
+pub mod Taking

@@ -1,0 +1,5 @@
+pub mod Text
+pub mod Pairs
+pub mod Line
+pub mod File
+pub mod Seen

@@ -1,0 +1,44 @@
+-- What a line says of attributes: `name`, `-name`, `!name` and `name=value` (gitattributes(5), "DESCRIPTION").
+use Rattle.std.specs.Prelude.{ℕ, Bool, ◌&&◌, ◌||◌, ◌==◌, nat_lt, not, List, length, drop, map, Option, Some, None, if◌then◌else◌}
+use Rattle.std.specs.List.{list_any, list_all, before_first, after_first}
+use Rattle.std.specs.Char.{is_ascii_alphanumeric}
+use Rattle.attr_line.specs.declared.state.AttrState.{AttrState}
+use Rattle.attr_line.specs.declared.state.AttrState.TheVariants.{Set, Unset, Unspecified, Value}
+use Rattle.attr_line.specs.declared.file.Pair.{Pair}
+use Rattle.attr_line.specs.Text.{begins, words}
+
+abbrev pub is_minus : ℕ → Bool
+is_minus b = b == 45
+
+-- `!`
+abbrev pub is_bang : ℕ → Bool
+is_bang b = b == 33
+
+abbrev pub is_equals : ℕ → Bool
+is_equals b = b == 61
+
+-- a letter, a digit, `-`, `_` or `.`
+abbrev pub is_name_byte : ℕ → Bool
+is_name_byte b = is_ascii_alphanumeric b || b == 45 || b == 95 || b == 46
+
+-- the name of an attribute or of a macro
+abbrev pub is_name : List ℕ → Bool
+is_name name = nat_lt 0 (length name) && not (begins is_minus name) && list_all is_name_byte name
+
+-- behind the first `=`, where there is one
+abbrev pub value_or_set : List ℕ → AttrState
+value_or_set word = if list_any is_equals word then Value (after_first is_equals word) else Set
+
+-- Behind `-` or `!` an `=` and what follows it is passed over.
+abbrev pub pair_at : List ℕ → Pair
+pair_at word =
+    if begins is_minus word then record { name = before_first is_equals (drop 1 word); state = Unset }
+    else if begins is_bang word then record { name = before_first is_equals (drop 1 word); state = Unspecified }
+    else record { name = before_first is_equals word; state = value_or_set word }
+
+abbrev pub has_name : List ℕ → Bool
+has_name word = is_name (pair_at word).name
+
+-- the pairs of a text, or none where one of its names is bad
+abbrev pub pairs_at : List ℕ → Option (List Pair)
+pairs_at text = if list_all has_name (words text) then Some (map pair_at (words text)) else None
