@@ -1,6 +1,14 @@
 //! Line ends of the worktree (gitattributes(5), "End-of-line conversion").
 #![tactic(auto)]
 
+mod action;
+mod content;
+mod looks;
 mod setting;
 
+pub use action::line_ends_of;
+pub use content::{changes_ends, to_tree_ends};
 pub use setting::{AutoCrlf, EolSetting, LineEnds};
+
+#[cfg(test)]
+mod tests;

@@ -1,0 +1,95 @@
+//! Whether a content looks like a text.
+ghost use Rattle.std.specs.Prelude.{◌≡◌, ◌≤◌, length, count_by, false};
+ghost use Rattle.std.specs.List.{list_any};
+ghost use Rattle.eol_convert.specs.Content.{is_printing, is_non_printing, forbids_change, non_printing, is_lf_text};
+
+use memchr::memchr2;
+
+/// Sums over so many bytes fit a `u8`, so that a sum is of many bytes side by side.
+const CHUNK: usize = 240;
+
+/// A kind of bytes.
+trait Kind {
+    ghost use Rattle.std.specs.Prelude.{ℕ, Bool};
+
+    ghost has: { ℕ → Bool };
+
+    /// Without branches, so that many bytes are tested at once.
+    fn has(byte: u8) -> bool
+        ensures { result ≡ has byte };
+}
+
+/// BS, TAB, FF, ESC, and all from the space on but DEL.
+struct Printing;
+
+/// Any other byte but LF.
+struct NonPrinting;
+
+impl Kind for Printing {
+    ghost use Rattle.eol_convert.specs.Content.{is_printing};
+
+    ghost has = { is_printing };
+
+    fn has(byte: u8) -> bool {
+        (byte == 8) | (byte == 9) | (byte == 12) | (byte == 27) | ((byte >= 32) & (byte != 127))
+    }
+}
+
+impl Kind for NonPrinting {
+    ghost use Rattle.eol_convert.specs.Content.{is_non_printing};
+
+    ghost has = { is_non_printing };
+
+    fn has(byte: u8) -> bool {
+        !(Printing::has(byte) | (byte == b'\n'))
+    }
+}
+
+fn count_in<K: Kind>(chunk: &[u8]) -> u8
+    requires { length chunk.now ≤ CHUNK }
+    ensures { result ≡ count_by K.has chunk.now }
+{
+    chunk.iter().map(|b| u8::from(K::has(*b))).sum()
+}
+
+/// How many bytes are of a kind.
+fn count_of<K: Kind>(content: &[u8]) -> usize
+    ensures { result ≡ count_by K.has content.now }
+{
+    let mut count = 0;
+    let mut rest = content;
+    'chunks: while !rest.is_empty() {
+        let (chunk, behind) = rest.split_at(rest.len().min(CHUNK));
+        count += usize::from(count_in::<K>(chunk));
+        rest = behind;
+    }
+    count
+}
+
+/// Whether CR or NUL stands there.
+fn forbids_change(content: &[u8]) -> bool
+    ensures { result ≡ list_any forbids_change content.now }
+{
+    memchr2(b'\r', 0, content).is_some()
+}
+
+fn non_printing(content: &[u8]) -> usize
+    ensures { result ≡ non_printing content.now }
+{
+    let end_mark = usize::from(content.ends_with(b"\x1A"));
+    count_of::<NonPrinting>(content).saturating_sub(end_mark)
+}
+
+/// Whether a content is a text whose lines end in LF alone: it has neither CR nor NUL, and for each 128 bytes that are
+/// printing at most one that isn't.
+#[tactic(auto, unfolding(crate::specs::Content::is_lf_text))]
+pub fn is_lf_text(content: &[u8]) -> bool
+    ensures { result ≡ is_lf_text content.now }
+{
+    if forbids_change(content) {
+        return false;
+    }
+    let non_printing = non_printing(content);
+    // Most texts have none, and need no second count.
+    non_printing == 0 || non_printing <= count_of::<Printing>(content) / 128
+}
