@@ -1,0 +1,4 @@
+pub mod Named
+pub mod Encode
+pub mod Change
+pub mod Front

@@ -1,0 +1,162 @@
+//! How characters are written in units of 16 and of 32 bits.
+ghost use Rattle.std.specs.Prelude.{◌≡◌, ◌++◌, OnOk};
+ghost use Rattle.std.specs.Char.{is_ascii};
+ghost use Rattle.std.specs.List.{flat_map, list_all};
+ghost use Rattle.tree_encoding.specs.Encode.{units16};
+
+use std::alloc::AllocError;
+
+/// A form in which characters are written.
+pub trait Form {
+    ghost use Rattle.std.specs.Prelude.{◌≡◌, ◌++◌, ℕ, List, OnOk, true};
+    ghost use Rattle.std.specs.Char.{is_ascii};
+    ghost use Rattle.std.specs.List.{flat_map, list_all};
+
+    ghost bytes_of: { ℕ → List ℕ };
+
+    /// How many bytes a character of ASCII takes. No other one takes more for each of its bytes in UTF-8.
+    const WIDTH: usize;
+
+    fn push(text: &mut Vec<u8>, character: char) -> Result<(), AllocError>
+        ensures { OnOk result (text.new.items ≡ text.old.items ++ bytes_of character) };
+
+    /// Eight characters of ASCII at once.
+    fn push_eight(text: &mut Vec<u8>, ascii: &[u8; 8]) -> Result<(), AllocError>
+        requires { list_all is_ascii ascii.now ≡ true }
+        ensures { OnOk result (text.new.items ≡ text.old.items ++ flat_map bytes_of ascii.now) };
+}
+
+/// UTF-16, with the lowest byte of a unit first.
+pub struct Little16;
+
+/// UTF-16, with the highest byte of a unit first.
+pub struct Big16;
+
+/// UTF-32, with the lowest byte of a unit first.
+pub struct Little32;
+
+/// UTF-32, with the highest byte of a unit first.
+pub struct Big32;
+
+/// The order of the two bytes of a unit.
+trait Order {
+    ghost use Rattle.std.specs.Prelude.{◌≡◌, ℕ, List};
+
+    ghost bytes_of: { ℕ → List ℕ };
+
+    fn bytes_of(unit: u16) -> [u8; 2]
+        ensures { result ≡ bytes_of unit };
+}
+
+impl Order for Little16 {
+    ghost use Rattle.tree_encoding.specs.Encode.{little16};
+
+    ghost bytes_of = { little16 };
+
+    fn bytes_of(unit: u16) -> [u8; 2] {
+        unit.to_le_bytes()
+    }
+}
+
+impl Order for Big16 {
+    ghost use Rattle.tree_encoding.specs.Encode.{big16};
+
+    ghost bytes_of = { big16 };
+
+    fn bytes_of(unit: u16) -> [u8; 2] {
+        unit.to_be_bytes()
+    }
+}
+
+/// A character as one unit, or above FFFF as a high and a low surrogate (RFC 2781, 2.1).
+fn push_units<O: Order>(text: &mut Vec<u8>, character: char) -> Result<(), AllocError>
+    ensures { OnOk result (text.new.items ≡ text.old.items ++ flat_map O.bytes_of (units16 character)) }
+{
+    let code = u32::from(character);
+    if code < 0x1_0000 {
+        return text.extend_from_slice(&O::bytes_of(code as u16));
+    }
+    let over = code - 0x1_0000;
+    text.extend_from_slice(&O::bytes_of((0xD800 + over / 0x400) as u16))?;
+    text.extend_from_slice(&O::bytes_of((0xDC00 + over % 0x400) as u16))
+}
+
+impl Form for Little16 {
+    ghost use Rattle.tree_encoding.specs.Encode.{little16_of};
+
+    ghost bytes_of = { little16_of };
+
+    const WIDTH: usize = 2;
+
+    fn push(text: &mut Vec<u8>, character: char) -> Result<(), AllocError> {
+        push_units::<Little16>(text, character)
+    }
+
+    fn push_eight(text: &mut Vec<u8>, ascii: &[u8; 8]) -> Result<(), AllocError> {
+        let [a, b, c, d, e, f, g, h] = *ascii;
+        text.extend_from_slice(&[a, 0, b, 0, c, 0, d, 0, e, 0, f, 0, g, 0, h, 0])
+    }
+}
+
+impl Form for Big16 {
+    ghost use Rattle.tree_encoding.specs.Encode.{big16_of};
+
+    ghost bytes_of = { big16_of };
+
+    const WIDTH: usize = 2;
+
+    fn push(text: &mut Vec<u8>, character: char) -> Result<(), AllocError> {
+        push_units::<Big16>(text, character)
+    }
+
+    fn push_eight(text: &mut Vec<u8>, ascii: &[u8; 8]) -> Result<(), AllocError> {
+        let [a, b, c, d, e, f, g, h] = *ascii;
+        text.extend_from_slice(&[0, a, 0, b, 0, c, 0, d, 0, e, 0, f, 0, g, 0, h])
+    }
+}
+
+/// Sixteen bytes are what is built and copied at once.
+fn push_both(text: &mut Vec<u8>, first: &[u8; 16], second: &[u8; 16]) -> Result<(), AllocError>
+    ensures { OnOk result (text.new.items ≡ text.old.items ++ (first.now ++ second.now)) }
+{
+    text.extend_from_slice(first)?;
+    text.extend_from_slice(second)
+}
+
+impl Form for Little32 {
+    ghost use Rattle.tree_encoding.specs.Encode.{little32};
+
+    ghost bytes_of = { little32 };
+
+    const WIDTH: usize = 4;
+
+    fn push(text: &mut Vec<u8>, character: char) -> Result<(), AllocError> {
+        text.extend_from_slice(&u32::from(character).to_le_bytes())
+    }
+
+    fn push_eight(text: &mut Vec<u8>, ascii: &[u8; 8]) -> Result<(), AllocError> {
+        let [a, b, c, d, e, f, g, h] = *ascii;
+        let first = [a, 0, 0, 0, b, 0, 0, 0, c, 0, 0, 0, d, 0, 0, 0];
+        let second = [e, 0, 0, 0, f, 0, 0, 0, g, 0, 0, 0, h, 0, 0, 0];
+        push_both(text, &first, &second)
+    }
+}
+
+impl Form for Big32 {
+    ghost use Rattle.tree_encoding.specs.Encode.{big32};
+
+    ghost bytes_of = { big32 };
+
+    const WIDTH: usize = 4;
+
+    fn push(text: &mut Vec<u8>, character: char) -> Result<(), AllocError> {
+        text.extend_from_slice(&u32::from(character).to_be_bytes())
+    }
+
+    fn push_eight(text: &mut Vec<u8>, ascii: &[u8; 8]) -> Result<(), AllocError> {
+        let [a, b, c, d, e, f, g, h] = *ascii;
+        let first = [0, 0, 0, a, 0, 0, 0, b, 0, 0, 0, c, 0, 0, 0, d];
+        let second = [0, 0, 0, e, 0, 0, 0, f, 0, 0, 0, g, 0, 0, 0, h];
+        push_both(text, &first, &second)
+    }
+}

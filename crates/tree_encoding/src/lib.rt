@@ -1,0 +1,17 @@
+//! The encoding of a file in the worktree (gitattributes(5), "working-tree-encoding").
+#![tactic(auto)]
+
+mod encoding;
+mod form;
+mod named;
+mod prepared;
+mod text;
+mod writing;
+
+pub use encoding::{Encoding, UnknownEncoding};
+pub use named::encoding_of;
+pub use prepared::Prepared;
+pub use writing::{encode, encode_vec};
+
+#[cfg(test)]
+mod tests;

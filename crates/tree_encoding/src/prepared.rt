@@ -1,0 +1,9 @@
+use byte_path::Bytes;
+
+/// A content as it stands in the worktree.
+#[derive(Drop)]
+pub struct Prepared {
+    pub bytes: Bytes,
+    /// It isn't UTF-8, and so stays as it is though an encoding is named.
+    pub unencoded: bool,
+}
