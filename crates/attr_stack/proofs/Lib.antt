@@ -1,0 +1,5 @@
+pub mod Decisions
+pub mod Lists
+pub mod Maps
+pub mod Order
+pub mod Readings

@@ -1,0 +1,21 @@
+-- Lists that are read from their end.
+use Rattle.std.proofs.Common.{◌≡◌, ℕ, ◌+◌, ◌<◌, List, [], ◌∷◌, ◌++◌, map, reverse, take, length, get_or, sym, ◌∙◌, ap, append_assoc}
+use Rattle.std.proofs.lemmas.List.{reverse-append, map-append, take_more}
+use Rattle.std.specs.List.{flat_map}
+use denote.Ref.{Bor}
+use Rattle.attr_line.specs.declared.file.Pair.{Pair}
+use Rattle.attr_stack.specs.Seen.{from_end}
+
+pub from_end-push : (pairs : List (Bor Pair)) (pair : Bor Pair) → from_end (pairs ++ pair ∷ []) ≡ pair.now ∷ from_end pairs
+from_end-push pairs pair =
+    ap reverse (map-append (λ (p : Bor Pair). p.now) pairs (pair ∷ [])) ∙ reverse-append (map (λ (p : Bor Pair). p.now) pairs) (pair.now ∷ [])
+
+pub reverse-take : {X : Type 0} (xs : List X) (i : ℕ) (x : X) → x ≡ get_or xs i x → i < length xs → reverse (take (i + 1) xs) ≡ x ∷ reverse (take i xs)
+reverse-take xs i x is within =
+    ap reverse (take_more xs i x within) ∙ reverse-append (take i xs) (get_or xs i x ∷ []) ∙ ap (λ y. y ∷ reverse (take i xs)) (sym is)
+
+-- one more item, whose part stands before those so far
+pub flat_map-reverse-take : {X A : Type 0} (f : X → List A) (xs : List X) (i : ℕ) (x : X) (behind : List A) → x ≡ get_or xs i x → i < length xs
+    → flat_map f (reverse (take (i + 1) xs)) ++ behind ≡ f x ++ (flat_map f (reverse (take i xs)) ++ behind)
+flat_map-reverse-take f xs i x behind is within =
+    ap (λ ys. flat_map f ys ++ behind) (reverse-take xs i x is within) ∙ append_assoc (f x) (flat_map f (reverse (take i xs))) behind

@@ -1,0 +1,4 @@
+pub mod Decided
+pub mod Macros
+pub mod Pairs
+pub mod Seen

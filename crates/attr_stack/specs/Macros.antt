@@ -1,0 +1,42 @@
+-- The macros of the top files: gitattributes(5), "DEFINING MACRO ATTRIBUTES".
+use Rattle.std.specs.Prelude.{ℕ, ◌==◌, List, [], ◌∷◌, ◌++◌, length, reverse, codes, if◌then◌else◌}
+use Rattle.std.specs.List.{flat_map}
+use Rattle.std.specs.Str.{bytes_eq}
+use Rattle.attr_line.specs.declared.state.AttrState.TheVariants.{Unset}
+use Rattle.attr_line.specs.declared.file.Pair.{Pair}
+use Rattle.attr_line.specs.declared.file.AttrRow.{AttrRow}
+use Rattle.attr_line.specs.declared.file.AttrRow.TheVariants.{Rule, Macro}
+use Rattle.attr_stack.specs.declared.files.FileAt.{FileAt}
+use Rattle.attr_stack.specs.declared.files.AttrFiles.{AttrFiles}
+
+-- a macro's name, and the pairs of its line
+pub record MacroLine : Type 0 where
+  pub name : List ℕ
+  pub pairs : List Pair
+
+abbrev pub row_macros : AttrRow → List MacroLine
+row_macros (Rule pattern pairs) = []
+row_macros (Macro name pairs) = record { name = name; pairs = pairs } ∷ []
+
+abbrev pub file_macros : List AttrRow → List MacroLine
+file_macros rows = flat_map row_macros (reverse rows)
+
+-- only the top folder's file defines macros
+abbrev pub folder_macros : FileAt → List MacroLine
+folder_macros at = if length at.folder == 0 then file_macros at.file.rows else []
+
+abbrev pub unset : List ℕ → Pair
+unset name = record { name = name; state = Unset }
+
+-- the built-in macro `binary`: `-diff -merge -text`
+abbrev pub binary : MacroLine
+binary = record { name = codes "binary"; pairs = unset (codes "diff") ∷ unset (codes "merge") ∷ unset (codes "text") ∷ [] }
+
+-- the macros in the order in which rows are read: those of `info/attributes`, those of the top folder's file, and `binary`
+abbrev pub macros_of : AttrFiles → List MacroLine
+macros_of files = file_macros files.info.rows ++ flat_map folder_macros (reverse files.files) ++ binary ∷ []
+
+-- what a name stands for: the macro that is met first, or nothing
+abbrev pub meaning : List MacroLine → List ℕ → List Pair
+meaning [] name = []
+meaning (line ∷ lines) name = if bytes_eq line.name name then line.pairs else meaning lines name

@@ -1,0 +1,16 @@
+//! The attributes of a path: which file, row and macro decides each (gitattributes(5)).
+#![tactic(auto)]
+
+mod decide;
+mod files;
+mod laws;
+mod macros;
+mod reach;
+mod states;
+
+pub use files::{AttrFiles, FileAt};
+pub use laws::{deeper_folders_stand_behind, pairs_decide_by_rule};
+pub use states::attributes_of;
+
+#[cfg(test)]
+mod tests;

@@ -1,0 +1,54 @@
+ghost use Rattle.std.specs.Prelude.{◌≡◌, IfOk, map};
+ghost use Rattle.std.specs.Option.{unwrap_or};
+ghost use Rattle.attr_line.specs.declared.state.AttrState.TheVariants.{Unspecified};
+ghost use Rattle.attr_stack.specs.Decided.{state_of};
+ghost use Rattle.attr_stack.specs.Seen.{state_at};
+
+use crate::decide::{States, states_of};
+use crate::files::AttrFiles;
+use crate::macros::binary_pairs;
+use attr_line::AttrState;
+use byte_path::Bytes;
+use std::alloc::{AllocError, Global};
+
+fn copy_of(alloc: Global, state: &AttrState) -> Result<AttrState, AllocError>
+    ensures { IfOk result (λ copy. copy ≡ state.now) }
+{
+    match state {
+        AttrState::Set => Ok(AttrState::Set),
+        AttrState::Unset => Ok(AttrState::Unset),
+        AttrState::Unspecified => Ok(AttrState::Unspecified),
+        AttrState::Value(value) => Ok(AttrState::Value(Bytes::copy_of(alloc, value.as_slice())?)),
+    }
+}
+
+/// What is decided of a name.
+fn state_in(alloc: Global, states: &States<'_>, name: &[u8]) -> Result<AttrState, AllocError>
+    ensures { IfOk result (λ state. state ≡ unwrap_or (state_at states.now name.now) Unspecified) }
+{
+    match states.get(name) {
+        Some(state) => copy_of(alloc, state),
+        None => Ok(AttrState::Unspecified),
+    }
+}
+
+/// The state of each name for a path, in the order of the names (gitattributes(5), "DESCRIPTION").
+///
+/// The time is that of matching each row of the files that reach the path, and for their pairs that of a look-up among
+/// the names that are decided.
+pub fn attributes_of(
+    alloc: Global,
+    files: &AttrFiles,
+    path: &[u8],
+    names: &[Bytes],
+) -> Result<Vec<AttrState>, AllocError>
+    ensures { IfOk result (λ states. states.items ≡ map (state_of files.now path.now) names.now) }
+{
+    let built_in = binary_pairs(alloc)?;
+    let decided = states_of(alloc, files, path, built_in.as_slice())?;
+    let mut states = Vec::with_capacity(alloc, names.len())?;
+    for name in names {
+        states.push(state_in(alloc, &decided, name.as_slice())?)?;
+    }
+    Ok(states)
+}

@@ -1,0 +1,129 @@
+//! The lines of the input.
+use crate::answer::push_answer;
+use attr_line::{AttrFile, read_attributes};
+use attr_stack::{AttrFiles, FileAt, attributes_of};
+use byte_path::{Bytes, Items};
+use std::alloc::{AllocError, Global};
+
+/// The text of an attribute file: that of a folder, or `info/attributes`.
+#[derive(Drop)]
+struct Draft {
+    folder: Option<Bytes>,
+    text: Vec<u8>,
+}
+
+/// The files and the names that paths are asked of.
+#[derive(Drop)]
+struct Question {
+    files: AttrFiles,
+    names: Vec<Bytes>,
+}
+
+/// What was read, and what was answered.
+#[derive(Drop)]
+pub struct Script {
+    drafts: Vec<Draft>,
+    question: Option<Question>,
+    answers: Vec<u8>,
+}
+
+/// The files of the drafts. Without one for `info/attributes` that file is empty.
+fn files_of(alloc: Global, drafts: &[Draft]) -> Result<AttrFiles, AllocError> {
+    let mut info = read_attributes(alloc, b"", true)?;
+    let mut files = Vec::new(alloc);
+    for draft in drafts {
+        match &draft.folder {
+            Some(folder) => {
+                let folder = Bytes::copy_of(alloc, folder.as_slice())?;
+                let top = folder.as_slice().is_empty();
+                let file: AttrFile = read_attributes(alloc, draft.text.as_slice(), top)?;
+                files.push(FileAt { folder, file })?;
+            }
+            None => info = read_attributes(alloc, draft.text.as_slice(), true)?,
+        }
+    }
+    Ok(AttrFiles {
+        info,
+        files: Items::from_vec(files),
+    })
+}
+
+fn names_of(alloc: Global, text: &[u8]) -> Result<Vec<Bytes>, AllocError> {
+    let mut names = Vec::new(alloc);
+    for name in text.split(|byte| *byte == b' ') {
+        names.push(Bytes::copy_of(alloc, name)?)?;
+    }
+    Ok(names)
+}
+
+impl Script {
+    pub fn new(alloc: Global) -> Script {
+        Script {
+            drafts: Vec::new(alloc),
+            question: None,
+            answers: Vec::new(alloc),
+        }
+    }
+
+    pub fn answers(&self) -> &[u8] {
+        self.answers.as_slice()
+    }
+
+    fn begin(&mut self, alloc: Global, folder: Option<&[u8]>) -> Result<(), AllocError> {
+        let folder = match folder {
+            Some(folder) => Some(Bytes::copy_of(alloc, folder)?),
+            None => None,
+        };
+        self.drafts.push(Draft {
+            folder,
+            text: Vec::new(alloc),
+        })?;
+        Ok(())
+    }
+
+    fn add(&mut self, line: &[u8]) -> Result<(), AllocError> {
+        if let Some(draft) = self.drafts.last_mut() {
+            draft.text.extend_from_slice(line)?;
+            draft.text.push(b'\n')?;
+        }
+        Ok(())
+    }
+
+    fn ask(&mut self, alloc: Global, names: &[u8]) -> Result<(), AllocError> {
+        let files = files_of(alloc, self.drafts.as_slice())?;
+        let names = names_of(alloc, names)?;
+        self.question = Some(Question { files, names });
+        Ok(())
+    }
+
+    fn answer(&mut self, alloc: Global, path: &[u8]) -> Result<(), AllocError> {
+        let Some(question) = &self.question else {
+            return Ok(());
+        };
+        let names = question.names.as_slice();
+        let states = attributes_of(alloc, &question.files, path, names)?;
+        push_answer(&mut self.answers, alloc, path, names, states.as_slice())
+    }
+
+    fn forget(&mut self) {
+        self.drafts.clear();
+        self.question = None;
+    }
+
+    /// Does what a line says.
+    pub fn take(&mut self, alloc: Global, line: &[u8]) -> Result<(), AllocError> {
+        match line {
+            [b'\t', text @ ..] => self.add(text),
+            b"info" => self.begin(alloc, None),
+            b"top" => self.begin(alloc, Some(b"")),
+            [b'i', b'n', b' ', folder @ ..] => self.begin(alloc, Some(folder)),
+            [b'n', b'a', b'm', b'e', b's', b' ', names @ ..] => self.ask(alloc, names),
+            [b'o', b'f', b' ', path @ ..] => self.answer(alloc, path),
+            b"end" => {
+                self.forget();
+                Ok(())
+            }
+            _ => Ok(()),
+        }
+    }
+}
