@@ -1,0 +1,70 @@
+//! Converts contents of about 1 MB, and measures each conversion beside a copy of the same content.
+//!
+//! Each line of its output, in fields with a tab between, is a content, its bytes, a conversion, the bytes that come out and
+//! the one in their middle. With `time` as the argument there follow the nanoseconds of the conversion and of the copy, the
+//! least of many turns, and a sum over what was read of the results.
+#![tactic(auto)]
+
+mod content;
+mod work;
+
+use content::Content;
+use eol_convert::LineEnds;
+use std::rt::{Clock, Env};
+use std::{env, io};
+use tree_encoding::Encoding;
+use work::{Work, beside_copy};
+
+const TO_CRLF: Work = Work::Ends(LineEnds::ToCrlf);
+
+const AUTO_CRLF: Work = Work::Ends(LineEnds::AutoCrlf);
+
+const UTF_16LE: Work = Work::Encoded(Encoding::Utf16Le);
+
+const UTF_32BE: Work = Work::Encoded(Encoding::Utf32Be);
+
+/// Contents and conversions.
+const ROWS: [(&str, Content, &str, Work); 12] = [
+    ("lines of 40", Content::Lines, "crlf", TO_CRLF),
+    ("lines of 40", Content::Lines, "auto-crlf", AUTO_CRLF),
+    ("lines of 60", Content::LongLines, "crlf", TO_CRLF),
+    ("lines of 60", Content::LongLines, "auto-crlf", AUTO_CRLF),
+    ("CR LF already", Content::CrlfLines, "crlf", TO_CRLF),
+    ("CR LF already", Content::CrlfLines, "auto-crlf", AUTO_CRLF),
+    ("no `$`", Content::Lines, "ident", Work::Ident),
+    ("`$Id$` each 4 KB", Content::Keywords, "ident", Work::Ident),
+    ("ASCII", Content::Lines, "UTF-16LE", UTF_16LE),
+    ("ASCII", Content::Lines, "UTF-32BE", UTF_32BE),
+    ("1 to 4 bytes", Content::Mixed, "UTF-16LE", UTF_16LE),
+    ("1 to 4 bytes", Content::Mixed, "UTF-32BE", UTF_32BE),
+];
+
+/// Whether the argument asks for times.
+fn is_timed<R: Env + AllocGlobal>(rt: &R) -> io::Result<bool> {
+    let mut timed = false;
+    for word in env::args(rt)? {
+        timed = timed || word.as_str() == "time";
+    }
+    Ok(timed)
+}
+
+fn main(rt: HostRuntime) -> io::Result<()> {
+    let timed = is_timed(&rt)?;
+    for (about, content, name, work) in ROWS {
+        let content = content.bytes(rt.alloc())?;
+        let before = content.len();
+        let seen = work.seen(rt.alloc(), &content)?;
+        let after = seen.length;
+        let middle = seen.middle;
+        print!(rt; "{about}\t{before}\t{name}\t{after}\t{middle}")?;
+        if timed {
+            let (least, copy) = beside_copy(&rt, work, &content)?;
+            let sum = least.middles.wrapping_add(copy.middles);
+            let took = least.nanoseconds;
+            let beside = copy.nanoseconds;
+            print!(rt; "\t{took}\t{beside}\t{sum}")?;
+        }
+        println!(rt)?;
+    }
+    Ok(())
+}

@@ -1,0 +1,110 @@
+use eol_convert::{LineEnds, to_tree_ends};
+use ident_convert::expand_ident;
+use std::alloc::{AllocError, Global};
+use std::io;
+use std::rt::Clock;
+use std::time::Instant;
+use tree_encoding::{Encoding, encode};
+
+/// How often a conversion and a copy take turns.
+const TURNS: u32 = 20;
+
+/// The name of a blob.
+const NAME: [u8; 20] = [0x5A; 20];
+
+/// What is done with a content.
+#[derive(Clone, Copy)]
+pub enum Work {
+    Copy,
+    Ends(LineEnds),
+    Ident,
+    Encoded(Encoding),
+}
+
+/// What is read of a result. A compiler may leave out a result of which nothing is read.
+#[derive(Clone, Copy)]
+pub struct Seen {
+    pub length: usize,
+    /// The byte in the middle.
+    pub middle: u8,
+}
+
+impl Seen {
+    fn of(bytes: &[u8]) -> Seen {
+        let middle = bytes.get(bytes.len() / 2).copied().unwrap_or(0);
+        Seen {
+            length: bytes.len(),
+            middle,
+        }
+    }
+}
+
+impl Work {
+    pub fn seen(self, alloc: Global, content: &[u8]) -> Result<Seen, AllocError> {
+        match self {
+            Work::Copy => {
+                let copy = Vec::from_slice(alloc, content)?;
+                Ok(Seen::of(&copy))
+            }
+            Work::Ends(ends) => {
+                let text = to_tree_ends(alloc, content, ends)?;
+                Ok(Seen::of(&text))
+            }
+            Work::Ident => {
+                let text = expand_ident(alloc, content, &NAME)?;
+                Ok(Seen::of(&text))
+            }
+            Work::Encoded(encoding) => {
+                let prepared = encode(alloc, content, encoding)?;
+                Ok(Seen::of(prepared.bytes.as_slice()))
+            }
+        }
+    }
+}
+
+/// The least nanoseconds of a piece of work.
+#[derive(Drop)]
+pub struct Least {
+    pub nanoseconds: u128,
+    /// The bytes in the middle of all results, added up.
+    pub middles: u8,
+}
+
+impl Least {
+    fn new() -> Least {
+        Least {
+            nanoseconds: u128::MAX,
+            middles: 0,
+        }
+    }
+
+    /// Does the work once.
+    fn measure<R: Clock + AllocGlobal>(
+        &mut self,
+        rt: &R,
+        work: Work,
+        content: &[u8],
+    ) -> io::Result<()> {
+        let begun = Instant::now(rt)?;
+        let seen = work.seen(rt.alloc(), content)?;
+        let took = begun.elapsed(rt)?;
+        self.nanoseconds = self.nanoseconds.min(took.as_nanos());
+        self.middles = self.middles.wrapping_add(seen.middle);
+        Ok(())
+    }
+}
+
+/// What a piece of work takes, and what a copy of the same content does.
+pub fn beside_copy<R: Clock + AllocGlobal>(
+    rt: &R,
+    work: Work,
+    content: &[u8],
+) -> io::Result<(Least, Least)> {
+    let mut least = Least::new();
+    let mut copy = Least::new();
+    for _ in 0..TURNS {
+        least.measure(rt, work, content)?;
+        copy.measure(rt, Work::Copy, content)?;
+    }
+    Ok((least, copy))
+}

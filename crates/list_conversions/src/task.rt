@@ -1,0 +1,109 @@
+ghost use Rattle.std.specs.Prelude.{◌≡◌, IfOk, Ok, Some};
+ghost use Rattle.hex.specs.Hex.{decode_of};
+ghost use Rattle.tree_encoding.specs.Named.{encoding_of};
+ghost use Rattle.list_conversions.specs.Task.{ends_named, IsKind, read_bytes, converted};
+
+use anyhow::{Context, bail};
+use attr_line::AttrState;
+use byte_path::Bytes;
+use eol_convert::{LineEnds, to_tree_ends};
+use hex::FromHex;
+use ident_convert::expand_ident;
+use std::alloc::{AllocError, Global};
+use tree_encoding::{Encoding, encode, encoding_of};
+
+/// A conversion.
+#[derive(Clone, Copy)]
+pub enum Kind {
+    /// `crlf` and `auto-crlf`.
+    Ends(LineEnds),
+    /// `ident`, with the name of the blob.
+    Ident([u8; 20]),
+    /// The name of an encoding.
+    Encoded(Encoding),
+}
+
+/// What a line asks for.
+#[derive(Drop)]
+pub struct Task {
+    pub kind: Kind,
+    pub content: Vec<u8>,
+}
+
+/// The line ends of a kind.
+fn ends_named(kind: &[u8]) -> Option<LineEnds>
+    ensures { result ≡ ends_named kind.now }
+{
+    if kind == b"crlf".as_slice() {
+        Some(LineEnds::ToCrlf)
+    } else if kind == b"auto-crlf".as_slice() {
+        Some(LineEnds::AutoCrlf)
+    } else {
+        None
+    }
+}
+
+/// The name of a blob, in hex.
+fn read_name(word: &[u8]) -> Result<[u8; 20], anyhow::Error>
+    ensures { IfOk result (λ name. decode_of word.now ≡ Ok name) }
+{
+    <[u8; 20] as FromHex>::from_hex(word).context("the name")
+}
+
+/// The encoding of that name.
+fn encoding_named(alloc: Global, name: &[u8]) -> Result<Encoding, anyhow::Error>
+    ensures { IfOk result (λ encoding. encoding_of (AttrState.Value name.now) ≡ Ok (Some encoding)) }
+{
+    let state = AttrState::Value(Bytes::copy_of(alloc, name)?);
+    match encoding_of(&state) {
+        Ok(Some(encoding)) => Ok(encoding),
+        Ok(None) | Err(_) => bail!("a kind that isn't known"),
+    }
+}
+
+/// The kind of that name, with what stands behind the content.
+fn read_kind(alloc: Global, kind: &[u8], behind: &[u8]) -> Result<Kind, anyhow::Error>
+    ensures { IfOk result (IsKind kind.now behind.now) }
+{
+    if kind == b"ident".as_slice() {
+        return Ok(Kind::Ident(read_name(behind)?));
+    }
+    if let Some(ends) = ends_named(kind) {
+        return Ok(Kind::Ends(ends));
+    }
+    Ok(Kind::Encoded(encoding_named(alloc, kind)?))
+}
+
+/// Bytes in hex, or `-` for none.
+fn read_bytes(alloc: Global, word: &[u8]) -> Result<Vec<u8>, anyhow::Error>
+    ensures { IfOk result (λ bytes. read_bytes word.now ≡ Ok bytes.items) }
+{
+    match word {
+        b"-" => Ok(Vec::new(alloc)),
+        _ => hex::decode(alloc, word).context("the content"),
+    }
+}
+
+/// What a line asks for.
+pub fn read_task(alloc: Global, line: &[u8]) -> Result<Task, anyhow::Error> {
+    let mut words = line.split(|byte| *byte == b' ');
+    let kind = words.next().context("no kind")?;
+    let content = words.next().context("no content")?;
+    let kind = read_kind(alloc, kind, words.next().unwrap_or(&[]))?;
+    let content = read_bytes(alloc, content)?;
+    Ok(Task { kind, content })
+}
+
+/// The content as the worktree has it.
+pub fn convert(alloc: Global, task: &Task) -> Result<Vec<u8>, AllocError>
+    ensures { IfOk result (λ bytes. bytes.items ≡ converted task.now.kind task.now.content.items) }
+{
+    match task.kind {
+        Kind::Ends(ends) => to_tree_ends(alloc, &task.content, ends),
+        Kind::Ident(name) => expand_ident(alloc, &task.content, &name),
+        Kind::Encoded(encoding) => {
+            let prepared = encode(alloc, &task.content, encoding)?;
+            Vec::from_slice(alloc, prepared.bytes.as_slice())
+        }
+    }
+}
