@@ -1,0 +1,4 @@
+pub mod Digits
+pub mod Last
+pub mod Drafts
+pub mod Rising

@@ -1,0 +1,99 @@
+-- The filter drivers.
+use Rattle.std.specs.Prelude.{ℕ, Bool, false, ◌&&◌, ◌==◌, List, [], ◌∷◌, length, map, fold, codes, Option, Some, None, Result, Ok, Err, if◌then◌else◌}
+use Rattle.std.specs.Str.{bytes_eq}
+use Rattle.std.specs.Ordering.{nat_cmp, match_ordering}
+use Rattle.std.specs.declared.cmp.Ordering.{Ordering}
+use Rattle.std.specs.Cmp.Lexicographic.{slice_cmp}
+use Rattle.std.specs.List.Sorted.{IsStrictlySortedBy}
+use Rattle.git_config.specs.declared.setting.Setting.{Setting}
+use Rattle.settings_view.specs.declared.fault.KeyId.TheVariants.{Required}
+use Rattle.settings_view.specs.declared.fault.SettingFault.{SettingFault}
+use Rattle.settings_view.specs.declared.fault.SettingFault.TheVariants.{BadBool}
+use Rattle.settings_view.specs.declared.view.Driver.{Driver}
+use Rattle.settings_view.specs.Value.{bool_of, text_of}
+use Rattle.settings_view.specs.Keys.{last_value}
+use Rattle.settings_view.specs.Fault.{◌>>=◌}
+
+-- the driver that a setting speaks of: the subsection of `filter`
+abbrev pub driver_name : Setting → Option (List ℕ)
+driver_name s = if bytes_eq s.section (codes "filter") then s.sub else None
+
+-- the order of bytes
+abbrev pub name_order : List ℕ → List ℕ → Ordering
+name_order a b = slice_cmp nat_cmp a b
+
+-- a name at its place among names in the order of bytes, each once
+abbrev pub with_name : List ℕ → List (List ℕ) → List (List ℕ)
+with_name name [] = name ∷ []
+with_name name (n ∷ ns) = match_ordering (name_order name n) (name ∷ n ∷ ns) (n ∷ ns) (n ∷ with_name name ns)
+
+abbrev pub with_driver : List (List ℕ) → Option (List ℕ) → List (List ℕ)
+with_driver names None = names
+with_driver names (Some name) = with_name name names
+
+-- the names of the drivers
+unfoldable pub names_of : List Setting → List (List ℕ)
+names_of settings = fold (λ names s. with_driver names (driver_name s)) [] settings
+
+abbrev pub is_named : List ℕ → Option (List ℕ) → Bool
+is_named name None = false
+is_named name (Some n) = bytes_eq n name
+
+abbrev pub speaks_of : List ℕ → Setting → Bool
+speaks_of name s = is_named name (driver_name s)
+
+-- a key of a driver
+unfoldable pub is_driver_key : List ℕ → List ℕ → Setting → Bool
+is_driver_key name key s = speaks_of name s && bytes_eq s.key key
+
+abbrev pub process_text : List ℕ → Option (List ℕ)
+process_text text = if length text == 0 then None else Some text
+
+-- an empty command counts as none
+abbrev pub process_told : Option (Option (List ℕ)) → Option (List ℕ)
+process_told None = None
+process_told (Some value) = process_text (text_of value)
+
+-- a driver isn't required where nothing says so
+abbrev pub required_told : Option (Option (List ℕ)) → Option Bool
+required_told None = Some false
+required_told (Some value) = bool_of value
+
+-- what is said of a driver: its command, and whether it is required, where that is a truth value
+pub record Said : Type 0 where
+  pub process : Option (List ℕ)
+  pub required : Option Bool
+
+-- what the last values of its two keys say of a driver
+unfoldable pub said_of : List Setting → List ℕ → Said
+said_of settings name = record {
+  process = process_told (last_value (is_driver_key name (codes "process")) settings);
+  required = required_told (last_value (is_driver_key name (codes "required")) settings);
+}
+
+-- a driver, or the fault where `required` is no truth value
+abbrev pub required_driver : List ℕ → Option (List ℕ) → Option Bool → Result Driver SettingFault
+required_driver name process None = Err (BadBool Required)
+required_driver name process (Some required) = Ok (record { name = name; process = process; required = required })
+
+abbrev pub driver_from : List ℕ → Said → Result Driver SettingFault
+driver_from name said = required_driver name said.process said.required
+
+-- the drivers of these names, or the first fault
+abbrev pub drivers_named : List Setting → List (List ℕ) → Result (List Driver) SettingFault
+drivers_named settings [] = Ok []
+drivers_named settings (name ∷ names) = do
+  driver ← driver_from name (said_of settings name)
+  drivers ← drivers_named settings names
+  Ok (driver ∷ drivers)
+
+-- the drivers in order of name
+abbrev pub drivers_told : List Setting → Result (List Driver) SettingFault
+drivers_told settings = drivers_named settings (names_of settings)
+
+abbrev pub IsRising : List (List ℕ) → Type 0
+IsRising names = IsStrictlySortedBy name_order names
+
+-- each name once, in the order of bytes
+abbrev pub StandsByName : List Driver → Type 0
+StandsByName drivers = IsRising (map (λ d. d.name) drivers)

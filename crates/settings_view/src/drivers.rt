@@ -1,0 +1,127 @@
+//! The filter drivers.
+ghost use Rattle.std.specs.Prelude.{◌≡◌, ℕ, List, Some, IfOk, OnOk, map, option_copied};
+ghost use Rattle.settings_view.specs.Fault.{Gives};
+ghost use Rattle.settings_view.specs.Drivers.{driver_name, with_driver, names_of, process_told, driver_from, drivers_told, StandsByName};
+ghost use Rattle.settings_view.specs.Seen.{said_by, said_at, said_with, said_after, names_in, entries_seen, entry_of, IsInOrder};
+
+use crate::fault::{KeyId, SettingFault};
+use crate::value::bool_of;
+use crate::view::Driver;
+use byte_path::{Bytes, Items};
+use git_config::Setting;
+use std::alloc::{AllocError, Global};
+use std::collections::BTreeMap;
+
+/// What the settings so far say of a driver.
+#[derive(Clone, Copy)]
+struct Draft<'a> {
+    process: Option<&'a [u8]>,
+    /// `None` where the value is no truth value.
+    required: Option<bool>,
+}
+
+/// The driver that a setting speaks of: the subsection of `filter`.
+fn driver_name(setting: &Setting) -> Option<&[u8]>
+    ensures { option_copied result ≡ driver_name setting.now }
+{
+    if setting.section.as_slice() != b"filter".as_slice() {
+        return None;
+    }
+    match &setting.sub {
+        Some(name) => Some(name.as_slice()),
+        None => None,
+    }
+}
+
+/// The text of a command. An empty one counts as none.
+fn process_told(value: &Option<Bytes>) -> Option<&[u8]>
+    ensures { option_copied result ≡ process_told (Some value.now) }
+{
+    match value {
+        Some(text) if !text.as_slice().is_empty() => Some(text.as_slice()),
+        _ => None,
+    }
+}
+
+impl<'a> Draft<'a> {
+    /// What is said with one more setting of the driver.
+    fn with(self, setting: &'a Setting) -> Draft<'a>
+        ensures { said_by result ≡ said_with setting.now (said_by self.entry) }
+    {
+        let key = setting.key.as_slice();
+        Draft {
+            process: if key == b"process".as_slice() {
+                process_told(&setting.value)
+            } else {
+                self.process
+            },
+            required: if key == b"required".as_slice() {
+                bool_of(&setting.value)
+            } else {
+                self.required
+            },
+        }
+    }
+}
+
+/// Takes one more setting.
+fn take_setting<'a>(
+    drafts: &mut BTreeMap<&'a [u8], Draft<'a>>,
+    setting: &'a Setting,
+) -> Result<(), AllocError>
+    ensures names { OnOk result (names_in drafts.new ≡ with_driver (names_in drafts.old) (driver_name setting.now)) }
+    ensures said { OnOk result ((name : List ℕ) → said_at drafts.new name ≡ said_after setting.now name (said_at drafts.old name)) }
+    ensures ordered { OnOk result (IsInOrder drafts.old → IsInOrder drafts.new) }
+{
+    let Some(name) = driver_name(setting) else {
+        return Ok(());
+    };
+    let draft = drafts.get(&name).copied().unwrap_or(Draft {
+        process: None,
+        required: Some(false),
+    });
+    drafts.insert(name, draft.with(setting))?;
+    Ok(())
+}
+
+/// What the settings say of each driver, by name.
+fn drafts(alloc: Global, settings: &[Setting]) -> Result<BTreeMap<&[u8], Draft<'_>>, AllocError>
+    ensures { IfOk result (λ m. entries_seen m ≡ map (entry_of settings.now) (names_of settings.now)) }
+{
+    let mut drafts = BTreeMap::new(alloc);
+    for setting in settings {
+        take_setting(&mut drafts, setting)?;
+    }
+    Ok(drafts)
+}
+
+fn driver_from(alloc: Global, name: &[u8], draft: Draft) -> Result<Driver, SettingFault>
+    ensures { Gives (λ d. d) result (driver_from name.now (said_by draft.entry)) }
+{
+    let Some(required) = draft.required else {
+        return Err(SettingFault::BadBool(KeyId::Required));
+    };
+    let name = Bytes::copy_of(alloc, name)?;
+    let process = match draft.process {
+        Some(text) => Some(Bytes::copy_of(alloc, text)?),
+        None => None,
+    };
+    Ok(Driver {
+        name,
+        process,
+        required,
+    })
+}
+
+/// The filter drivers by name.
+pub fn drivers_told(alloc: Global, settings: &[Setting]) -> Result<Items<Driver>, SettingFault>
+    ensures value { Gives (λ x. x) result (drivers_told settings.now) }
+    ensures rising { IfOk result StandsByName }
+{
+    let drafts = drafts(alloc, settings)?;
+    let mut drivers = Vec::new(alloc);
+    for (name, draft) in drafts {
+        drivers.push(driver_from(alloc, name, draft)?)?;
+    }
+    Ok(Items::from_vec(drivers))
+}

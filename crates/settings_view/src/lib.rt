@@ -1,0 +1,17 @@
+//! What a configuration says of a checkout (git-config(1)).
+#![tactic(auto)]
+
+mod drivers;
+mod fault;
+mod keys;
+mod number;
+mod reading;
+mod value;
+mod view;
+
+pub use fault::{KeyId, SettingFault};
+pub use reading::{drivers_are_those_spoken_of, settings};
+pub use view::{Driver, Settings};
+
+#[cfg(test)]
+mod tests;
