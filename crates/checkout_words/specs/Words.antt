@@ -1,9 +1,11 @@
 -- The words behind the program's name, and the command that they give.
-use Rattle.std.specs.Prelude.{ℕ, ◌-◌, ◌^◌, nat_le, List, [], ◌∷◌, take, drop, codes, Option, Some, None, if◌then◌else◌}
+use Rattle.std.specs.Prelude.{ℕ, ◌-◌, ◌^◌, nat_le, List, [], ◌∷◌, take, drop, codes, Option, Some, None, Result, Ok, Err, ◌≡◌, if◌then◌else◌}
 use Rattle.std.specs.Str.{bytes_eq}
 use Rattle.byte_path.specs.Decimal.{decimal_within}
 use Rattle.checkout_words.specs.declared.Command.{Command}
 use Rattle.checkout_words.specs.declared.Command.TheVariants.{Checkout, Plan, Rehearse}
+use Rattle.checkout_words.specs.declared.WordFault.{WordFault}
+use Rattle.checkout_words.specs.declared.WordFault.TheVariants.{Usage, NoMemory}
 
 -- a number of workers that is at least 1
 abbrev pub with_workers : Option ℕ → Option Command
@@ -52,3 +54,9 @@ command_of [] = None
 command_of (repo ∷ []) = None
 command_of (repo ∷ tree ∷ []) = None
 command_of (repo ∷ tree ∷ name ∷ tail) = named_command name tail
+
+-- what words are read to: their command, or Usage where they give none, or want of memory
+abbrev pub Reads : Option Command → Result Command WordFault → Type 0
+Reads command (Ok c) = command ≡ Some c
+Reads command (Err Usage) = command ≡ None
+Reads command (Err NoMemory) = Unit {0}

@@ -2,13 +2,17 @@ use super::*;
 use std::alloc::{AllocError, Global};
 use std::test::Fail;
 
-/// What these words give.
+/// What these words give, or `None` where they are Usage.
 fn read(alloc: Global, words: &[&str]) -> Result<Option<Command>, AllocError> {
     let mut texts = Vec::new(alloc);
     for word in words {
         texts.push(String::from_str(alloc, word)?)?;
     }
-    Ok(read_words(texts.as_slice()).ok())
+    match read_words(alloc, texts.as_slice()) {
+        Ok(command) => Ok(Some(command)),
+        Err(WordFault::Usage) => Ok(None),
+        Err(WordFault::NoMemory) => Err(AllocError),
+    }
 }
 
 #[test]
@@ -45,7 +49,7 @@ fn commands_are_read(rt: HostRuntime) -> Result<(), Fail> {
 
 #[test]
 fn other_words_are_usage(rt: HostRuntime) -> Result<(), Fail> {
-    let table: [&[&str]; 18] = [
+    let table: [&[&str]; 47] = [
         &[],
         &["R", "T"],
         &["R", "T", "Checkout"],
@@ -56,13 +60,42 @@ fn other_words_are_usage(rt: HostRuntime) -> Result<(), Fail> {
         &["R", "T", "checkout", "--workers=0"],
         &["R", "T", "checkout", "--workers=01"],
         &["R", "T", "checkout", "--workers"],
+        &["R", "T", "checkout", "--workers="],
+        &["R", "T", "checkout", "--workers= 2"],
+        &["R", "T", "checkout", "--workers", "--workers"],
+        &["R", "T", "checkout", "--workers", "--workers=2"],
+        &["R", "T", "checkout", "--workers=2", "--workers"],
+        &["R", "T", "checkout", "--workers=2", "--workers=3"],
         &["R", "T", "checkout", "--workers", "2", "--workers", "3"],
+        &["R", "T", "checkout", "-w", "2"],
+        &["R", "T", "checkout", "--work", "2"],
+        &["R", "T", "checkout", "workers=2"],
+        &["R", "T", "checkout", ""],
+        &["R", "T", "checkout", "--workers", ""],
+        &["R", "T", "checkout", "-"],
+        &["R", "T", "checkout", "--workers", "-"],
+        &["R", "T", "checkout", "-é"],
+        &["R", "T", "checkout", "--é=2"],
+        &["R", "T", "checkout", "--workers", "２"],
         &["R", "T", "checkout", "--", "x"],
         &["R", "T", "checkout", "--workers=2", "--"],
         &["R", "T", "plan", "x"],
+        &["R", "T", "plan", ""],
+        &["R", "T", "plan", "-"],
+        &["R", "T", "plan", "--"],
+        &["R", "T", "plan", "--help"],
+        &["R", "T", "plan", "-é"],
         &["R", "T", "rehearse", "00", "8"],
         &["R", "T", "rehearse", "18446744073709551616", "8"],
         &["R", "T", "rehearse", "0", "100000"],
+        &["R", "T", "rehearse"],
+        &["R", "T", "rehearse", "0"],
+        &["R", "T", "rehearse", "0", ""],
+        &["R", "T", "rehearse", "0", "-8"],
+        &["R", "T", "rehearse", "-", "8"],
+        &["R", "T", "rehearse", "--help"],
+        &["R", "T", "rehearse", "０", "８"],
+        &["R", "T", "rehearse", "0", "8", "8"],
         &["R", "T", "rehearse", "--", "0", "8"],
     ];
     for words in table {

@@ -1,9 +1,9 @@
 use Rattle.std.proofs.Common.{◌≡◌, ℕ, ◌<◌, List, [], ◌∷◌, length, map, string_bytes, None, refl, arith}
 use Rattle.std.proofs.lemmas.List.{length-map}
 use Rattle.checkout_words.specs.Words.{command_of}
-use Rattle.checkout_words.proofs.read_command.Goals as goal
+use Rattle.checkout_words.proofs.read_words.Goals as goal
 
-too_few : (words : List (List ℕ)) → length words < 3 → None ≡ command_of words
+too_few : (words : List (List ℕ)) → length words < 3 → command_of words ≡ None
 too_few [] few = refl
 too_few (repo ∷ []) few = refl
 too_few (repo ∷ tree ∷ []) few = refl
