@@ -1,0 +1,47 @@
+ghost use Rattle.std.specs.Prelude.{◌≡◌, length};
+ghost use Rattle.convert_plan.specs.Conversion.{is_set, conversion_of};
+
+use attr_line::AttrState;
+use eol_convert::{AutoCrlf, EolSetting, LineEnds, line_ends_of};
+use tree_encoding::{Encoding, UnknownEncoding, encoding_of};
+
+/// What is done to a path's content.
+#[derive(Clone, Copy, Debug, PartialEq, Eq)]
+pub struct Conversion {
+    /// Whether the keyword `$Id$` is expanded.
+    pub ident: bool,
+    pub ends: LineEnds,
+    /// The encoding, or `None` for UTF-8.
+    pub encoding: Option<Encoding>,
+}
+
+fn is_set(state: &AttrState) -> bool
+    ensures { result ≡ is_set state.now }
+{
+    matches!(state, AttrState::Set)
+}
+
+/// The conversion of a path by the states of its five attributes `text`, `crlf`, `eol`, `ident` and
+/// `working-tree-encoding`, in this order, and by the settings `core.autocrlf` and `core.eol` (gitattributes(5)).
+///
+/// An error comes where the last state names no encoding that is known. It takes no memory.
+pub fn conversion_of(
+    states: &[AttrState],
+    auto: AutoCrlf,
+    setting: EolSetting,
+) -> Result<Conversion, UnknownEncoding>
+    requires { length states.now ≡ 5 }
+    ensures { result ≡ conversion_of states.now auto setting }
+{
+    let [text, crlf, eol, ident, encoding] = states else {
+        return Err(UnknownEncoding);
+    };
+    match encoding_of(encoding) {
+        Ok(encoding) => Ok(Conversion {
+            ident: is_set(ident),
+            ends: line_ends_of(text, crlf, eol, auto, setting),
+            encoding,
+        }),
+        Err(UnknownEncoding) => Err(UnknownEncoding),
+    }
+}

@@ -1,0 +1,14 @@
+//! What becomes of a path's content on its way to the worktree (gitattributes(5), "Interaction between checkin/checkout
+//! attributes").
+#![tactic(auto)]
+
+mod card;
+mod conversion;
+mod preparing;
+
+pub use card::Card;
+pub use conversion::{Conversion, conversion_of};
+pub use preparing::prepare;
+
+#[cfg(test)]
+mod tests;

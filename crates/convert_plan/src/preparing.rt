@@ -1,0 +1,70 @@
+ghost use Rattle.std.specs.Prelude.{◌≡◌, IfOk};
+ghost use Rattle.ident_convert.specs.Ident.{expanded, keyword_text};
+ghost use Rattle.eol_convert.specs.Content.{to_tree_ends};
+ghost use Rattle.convert_plan.specs.Prepared.{with_ident, in_encoding, prepared};
+
+use crate::conversion::Conversion;
+use byte_path::Bytes;
+use eol_convert::{LineEnds, changes_ends, to_tree_ends};
+use ident_convert::{expand_ident, has_keyword};
+use std::alloc::{AllocError, Global};
+use tree_encoding::{Encoding, Prepared, encode_vec};
+
+/// Expands the keyword, where that is asked. A content without one is passed on.
+fn with_ident(
+    alloc: Global,
+    ident: bool,
+    name: &[u8; 20],
+    content: Vec<u8>,
+) -> Result<Vec<u8>, AllocError>
+    ensures { IfOk result (λ v. v.items ≡ with_ident ident name.now content.items) }
+{
+    if !ident || !has_keyword(&content) {
+        return Ok(content);
+    }
+    expand_ident(alloc, &content, name)
+}
+
+/// Converts the line ends. A content that stays is passed on.
+fn with_ends(alloc: Global, ends: LineEnds, content: Vec<u8>) -> Result<Vec<u8>, AllocError>
+    ensures { IfOk result (λ v. v.items ≡ to_tree_ends content.items ends) }
+{
+    if !changes_ends(&content, ends) {
+        return Ok(content);
+    }
+    // a content that changes gets CR LF throughout, so the test under AutoCrlf isn't made again
+    to_tree_ends(alloc, &content, LineEnds::ToCrlf)
+}
+
+/// Encodes the content, where an encoding is named.
+fn in_encoding(
+    alloc: Global,
+    encoding: Option<Encoding>,
+    content: Vec<u8>,
+) -> Result<Prepared, AllocError>
+    ensures { IfOk result (λ p. p ≡ in_encoding encoding content.items) }
+{
+    match encoding {
+        Some(encoding) => encode_vec(alloc, content, encoding),
+        None => Ok(Prepared {
+            bytes: Bytes::from_vec(content),
+            unencoded: false,
+        }),
+    }
+}
+
+/// A blob's content as it stands in the worktree: the keyword first, then line ends, then the encoding.
+///
+/// `name` is the blob's name. A content that no conversion changes is passed on without a copy.
+pub fn prepare(
+    alloc: Global,
+    conversion: &Conversion,
+    name: &[u8; 20],
+    blob: Vec<u8>,
+) -> Result<Prepared, AllocError>
+    ensures { IfOk result (λ p. p ≡ prepared conversion.now name.now blob.items) }
+{
+    let named = with_ident(alloc, conversion.ident, name, blob)?;
+    let ended = with_ends(alloc, conversion.ends, named)?;
+    in_encoding(alloc, conversion.encoding, ended)
+}

@@ -1,0 +1,60 @@
+use crate::{Conversion, conversion_of, prepare};
+use attr_line::AttrState;
+use byte_path::Bytes;
+use eol_convert::{AutoCrlf, EolSetting, LineEnds};
+use std::alloc::Global;
+use std::process::Abort;
+use std::test::Fail;
+use tree_encoding::Encoding;
+
+/// The name that `git hash-object` gives to `$Id$` and a line feed.
+const KEYWORD: [u8; 20] = [
+    0x05, 0x5c, 0x87, 0x29, 0xcd, 0xcc, 0x37, 0x25, 0x00, 0xa0, 0x8d, 0xb6, 0x59, 0xc0, 0x45, 0xe1,
+    0x6c, 0x44, 0x09, 0xfb,
+];
+
+fn check(
+    rt: &impl Abort,
+    alloc: Global,
+    conversion: Conversion,
+    wanted: &'static [u8],
+) -> Result<(), Fail> {
+    let blob = Vec::from_slice(alloc, b"$Id$\n")?;
+    let prepared = prepare(alloc, &conversion, &KEYWORD, blob)?;
+    assert_eq!(rt; prepared.bytes.as_slice(), wanted);
+    Ok(())
+}
+
+#[test]
+fn conversions_follow_one_another(rt: HostRuntime) -> Result<(), Fail> {
+    let mut conversion = Conversion {
+        ident: false,
+        ends: LineEnds::ToCrlf,
+        encoding: Some(Encoding::Utf16Be),
+    };
+    let wide = b"\0$\0I\0d\0$\0\r\0\n";
+    check(&rt, rt.alloc(), conversion, wide)?;
+    conversion.encoding = None;
+    conversion.ident = true;
+    let expanded = b"$Id: 055c8729cdcc372500a08db659c045e16c4409fb $\r\n";
+    check(&rt, rt.alloc(), conversion, expanded)
+}
+
+#[test]
+fn states_give_a_conversion(rt: HostRuntime) -> Result<(), Fail> {
+    let alloc = rt.alloc();
+    let mut states = Vec::new(alloc);
+    states.push(AttrState::Set)?;
+    states.push(AttrState::Unspecified)?;
+    states.push(AttrState::Value(Bytes::copy_of(alloc, b"crlf")?))?;
+    states.push(AttrState::Set)?;
+    states.push(AttrState::Value(Bytes::copy_of(alloc, b"utf-16le")?))?;
+    let conversion = conversion_of(&states, AutoCrlf::False, EolSetting::Native);
+    let wanted = Conversion {
+        ident: true,
+        ends: LineEnds::ToCrlf,
+        encoding: Some(Encoding::Utf16Le),
+    };
+    assert!(&rt; conversion == Ok(wanted));
+    Ok(())
+}
