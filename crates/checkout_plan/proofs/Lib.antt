@@ -1,0 +1,5 @@
+pub mod Files
+pub mod Named
+pub mod Numbered
+pub mod States
+pub mod Whole

@@ -1,0 +1,4 @@
+pub mod AttributeFiles
+pub mod Paths
+pub mod Making
+pub mod Seen

@@ -1,0 +1,85 @@
+-- What the making of a plan reads, and why there is none.
+use Rattle.std.specs.Prelude.{◌≡◌, ℕ, ◌<◌, ◌≤◌, true, List, [], ◌∷◌, ◌++◌, length, take, map, slice_get, Some, Result, Ok, Err}
+use Rattle.std.specs.List.{AllZip}
+use Rattle.edge_kit.specs.Told.{Told, MayFail}
+use Rattle.git_index.specs.declared.entry.Entry.{Entry}
+use Rattle.object_dir.specs.Object.{Gives, IsObject}
+use Rattle.object_dir.specs.declared.fault.ObjectFault.TheVariants as object
+use Rattle.attr_line.specs.declared.file.AttrFile.{AttrFile}
+use Rattle.checkout_core.specs.declared.verdict.ObjectKind.{ObjectKind}
+use Rattle.checkout_core.specs.declared.verdict.ObjectKind.TheVariants as kind
+use Rattle.settings_view.specs.declared.view.Settings.{Settings}
+use Rattle.checkout_plan.specs.declared.path_plan.Plan.{Plan}
+use Rattle.checkout_plan.specs.declared.fault.PlanFault.{PlanFault}
+use Rattle.checkout_plan.specs.declared.fault.PlanFault.TheVariants as fault
+use Rattle.checkout_plan.specs.AttributeFiles.{is_attribute_file, attribute_entries}
+use Rattle.checkout_plan.specs.Paths.{plan_of}
+
+-- what is wrong with the object of that name, by what is told
+abbrev pub FitsKind : Told → List ℕ → ObjectKind → Type 0
+FitsKind told name kind.Absent = IsObject told name (Err object.Absent)
+FitsKind told name kind.TooLarge = IsObject told name (Err object.TooLarge)
+FitsKind told name kind.Header = IsObject told name (Err object.Header)
+FitsKind told name kind.Size = IsObject told name (Err object.Size)
+FitsKind told name kind.WrongName = (found : List ℕ) × IsObject told name (Err (object.WrongName found))
+
+-- the most bytes of an attribute file
+abbrev pub max_attributes : ℕ
+max_attributes = 1048576
+
+-- the content of an attribute file, by what is told of its object
+abbrev pub HasContent : Told → Entry → List ℕ → Type 0
+HasContent told e content = Gives told e.name (Ok content) × (length content ≤ max_attributes)
+
+-- the contents of the attribute files among these entries, in order
+abbrev pub HaveContents : (List ℕ → Told) → List Entry → List (List ℕ) → Type 0
+HaveContents object es contents = AllZip (λ e content. HasContent (object e.name) e content) (attribute_entries es) contents
+
+-- what the blobs of the attribute files among these entries add to the list of those that were given back, where none failed
+abbrev pub blobs_of : List Entry → List (List ℕ × ℕ)
+blobs_of es = map (λ e. (e.name, 0)) (attribute_entries es)
+
+-- The attribute file of entry k is the first that has no content.
+pub record IsFirstFault (object : List ℕ → Told) (es : List Entry) (k : ℕ) : Type 0 where
+  pub entry : Entry
+  pub there : slice_get es k ≡ Some entry
+  pub is_file : is_attribute_file entry ≡ true
+  pub contents : List (List ℕ)
+  pub read : HaveContents object (take k es) contents
+
+-- its blob has this count, and the blobs of the attribute files before it have not failed
+abbrev pub blobs_to : List Entry → ℕ → Entry → ℕ → List (List ℕ × ℕ)
+blobs_to es k entry count = blobs_of (take k es) ++ (entry.name, count) ∷ []
+
+-- the most drivers in use
+abbrev pub max_drivers : ℕ
+max_drivers = 16
+
+-- a plan of these entries, by what is told of their attribute files
+pub record HasPlan (object : List ℕ → Told) (es : List Entry) (info : AttrFile) (settings : Settings) (plan : Plan) : Type 0 where
+  pub contents : List (List ℕ)
+  pub read : HaveContents object es contents
+  pub is : plan ≡ plan_of es settings info contents
+
+-- why there is no plan, by what is told; want of memory needs no cause
+abbrev pub HasPlanFault : (List ℕ → Told) → List Entry → AttrFile → Settings → PlanFault → Type 0
+HasPlanFault object es info settings (fault.AttributeRead k) = (f : IsFirstFault object es k) × MayFail (object f.entry.name)
+HasPlanFault object es info settings (fault.Attribute k kind) = (f : IsFirstFault object es k) × FitsKind (object f.entry.name) f.entry.name kind
+HasPlanFault object es info settings (fault.AttributeTooLarge k) =
+    (f : IsFirstFault object es k) × ((content : List ℕ) × Gives (object f.entry.name) f.entry.name (Ok content) × (max_attributes < length content))
+HasPlanFault object es info settings (fault.TooManyDrivers n) = (plan : Plan) × HasPlan object es info settings plan × (n ≡ length plan.drivers) × (max_drivers < n)
+HasPlanFault object es info settings fault.NoMemory = Unit {0}
+
+-- What the making of a plan gives: the plan, or the first fault, with what shows it.
+abbrev pub MakesPlan : (List ℕ → Told) → List Entry → AttrFile → Settings → Result Plan PlanFault → Type 0
+MakesPlan object es info settings (Ok plan) = HasPlan object es info settings plan × (length plan.drivers ≤ max_drivers)
+MakesPlan object es info settings (Err f) = HasPlanFault object es info settings f
+
+-- Which blobs were given back meanwhile: those of the attribute files that were read, none of which failed, and last the one whose reading failed.
+abbrev pub GivesBack : List Entry → List (List ℕ × ℕ) → List (List ℕ × ℕ) → Result Plan PlanFault → Type 0
+GivesBack es before after (Ok plan) = after ≡ before ++ blobs_of es
+GivesBack es before after (Err (fault.AttributeRead k)) = (entry : Entry) × (slice_get es k ≡ Some entry) × ((count : ℕ) × (0 < count) × (after ≡ before ++ blobs_to es k entry count))
+GivesBack es before after (Err (fault.Attribute k kind)) = (entry : Entry) × (slice_get es k ≡ Some entry) × (after ≡ before ++ blobs_to es k entry 0)
+GivesBack es before after (Err (fault.AttributeTooLarge k)) = (entry : Entry) × (slice_get es k ≡ Some entry) × (after ≡ before ++ blobs_to es k entry 0)
+GivesBack es before after (Err (fault.TooManyDrivers n)) = after ≡ before ++ blobs_of es
+GivesBack es before after (Err fault.NoMemory) = (k : ℕ) × (k ≤ length es) × (after ≡ before ++ blobs_of (take k es))

@@ -1,0 +1,19 @@
+//! The plan of a checkout: what becomes of each path of an index, before any file is touched.
+#![tactic(auto)]
+
+mod attribute_files;
+mod drivers;
+mod fault;
+mod making;
+mod number;
+mod path_plan;
+mod paths;
+mod skipped;
+mod starts;
+
+pub use fault::PlanFault;
+pub use making::make_plan;
+pub use path_plan::{PathPlan, Plan};
+
+#[cfg(test)]
+mod tests;

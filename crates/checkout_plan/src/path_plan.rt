@@ -1,0 +1,27 @@
+use byte_path::{Bytes, Items};
+use checkout_core::Start;
+use convert_plan::Conversion;
+use edge_kit::Mark;
+use settings_view::Driver;
+
+/// A path of the checkout: its object and its mark are those of its entry with the lowest stage.
+#[derive(Drop)]
+pub struct PathPlan {
+    pub path: Bytes,
+    pub object: [u8; 20],
+    pub mark: Mark,
+    /// What is done to the content. A link and a path that is closed by the plan have none.
+    pub conversion: Conversion,
+    /// Who takes the path. A driver is numbered by its place in the plan.
+    pub start: Start,
+}
+
+/// One path for each distinct path of the index, in order.
+#[derive(Drop)]
+pub struct Plan {
+    pub paths: Items<PathPlan>,
+    /// The drivers in use, in the order of their names.
+    pub drivers: Items<Driver>,
+    /// How many lines of all attribute files were skipped.
+    pub skipped_lines: u64,
+}
