@@ -18,6 +18,7 @@ pub fn word_of(verdict: Verdict) -> &'static str
     }
 }
 
+/// The mark of a file in the report: `-`, `x` for an executable one, `l` for a link.
 pub fn mark_word(mark: Mark) -> &'static str
     ensures { result.now ≡ mark_word mark }
 {
@@ -74,7 +75,8 @@ fn filter_word(cause: FilterCause) -> &'static str
     }
 }
 
-fn object_word(kind: ObjectKind) -> &'static str
+/// What is wrong with an object, in the report's words.
+pub fn object_word(kind: ObjectKind) -> &'static str
     ensures { result.now ≡ object_word kind }
 {
     match kind {
