@@ -4,3 +4,5 @@ pub mod PathsEnd
 pub mod Order
 pub mod Done
 pub mod Completeness
+mod Planned
+mod Refused

@@ -1,5 +1,5 @@
 -- Files join in the order of the paths, each behind the others.
-use Rattle.std.proofs.Common.{◌≡◌, ◌⊎◌, ℕ, Bool, true, false, if◌then◌else◌, Ordering, Less, Equal, Greater, List, [], ◌∷◌, ◌++◌, Option, Some, None, refl, sym, ap, subst, ◌∙◌, append_assoc, append-nil, inl, inr}
+use Rattle.std.proofs.Common.{◌≡◌, ◌⊎◌, ℕ, Bool, true, false, if◌then◌else◌, Ordering, Less, Equal, Greater, List, [], ◌∷◌, ◌++◌, map, ◌==◌, Option, Some, None, Result, Ok, Err, refl, sym, ap, subst, ◌∙◌, append_assoc, append-nil, inl, inr}
 use Rattle.std.specs.List.{list_all, AllByRecursion}
 use Rattle.std.specs.Ordering.{nat_cmp, is_lt, ordering_reverse}
 use Rattle.std.specs.Cmp.Lexicographic.{slice_cmp}
@@ -18,14 +18,29 @@ use Rattle.git_index.proofs.PathOrder.{is_before-trans, is_below-cases}
 use Rattle.checkout_core.specs.declared.verdict.Verdict.{Verdict}
 use Rattle.checkout_core.specs.declared.verdict.Verdict.TheVariants as verdict
 use Rattle.checkout_core.specs.declared.verdict.FailCause.TheVariants as fail
-use Rattle.checkout_engine.specs.declared.plan.PathPlan.{PathPlan}
-use Rattle.checkout_engine.specs.Plan.{planned, plan_after}
-use Rattle.checkout_engine.specs.Outcome.{Outcome, HasVerdict, MayLeavePart, LeavesPart, joined}
+use Rattle.checkout_plan.specs.declared.path_plan.PathPlan.{PathPlan}
+use Rattle.std.specs.Str.{is_utf8}
+use Rattle.git_index.specs.declared.entry.Mode.{Mode}
+use Rattle.git_index.specs.declared.entry.Mode.TheVariants as mode
+use Rattle.attr_line.specs.declared.file.AttrFile.{AttrFile}
+use Rattle.attr_stack.specs.declared.files.AttrFiles.{AttrFiles}
+use Rattle.settings_view.specs.declared.view.Settings.{Settings}
+use Rattle.tree_encoding.specs.declared.encoding.UnknownEncoding.{UnknownEncoding}
+use Rattle.convert_plan.specs.declared.conversion.Conversion.{Conversion}
+use Rattle.checkout_core.specs.declared.path.Start.{Start}
+use Rattle.checkout_core.specs.declared.path.Start.TheVariants as start
+use Rattle.checkout_core.specs.declared.verdict.SkipCause.TheVariants as skip
+use Rattle.checkout_plan.specs.AttributeFiles.{attribute_files}
+use Rattle.checkout_plan.specs.Paths.{no_conversion, path_with, closed, converted, file_path, text_path, link_path, path_of_mode, asked_path, first_entries_after, first_entries, asked_paths, path_among, plan_of}
+use Rattle.checkout_engine.specs.Outcome.{Outcome, HasVerdict, HasOutcome, MayLeavePart, LeavesPart, joined}
 use Rattle.checkout_engine.specs.Paths.{AreOutcomes, all_joined}
 use Rattle.checkout_engine.specs.Run.{files_of}
 
 abbrev pub precedes : PathPlan → PathPlan → Bool
 precedes p q = is_before p.path q.path
+
+abbrev entry_precedes : Entry → Entry → Bool
+entry_precedes d e = is_before d.path e.path
 
 -- the path is the entry's, or comes before it
 abbrev IsUpTo : List ℕ → Entry → Type 0
@@ -43,32 +58,92 @@ other_is_behind : (path : List ℕ) (e : Entry) → bytes_eq e.path path ≡ fal
 other_is_behind path e other (inl same) = let no : true ≡ false = sym ((bytes_eq-Decides e.path path).1 same) ∙ other in absurd cc
 other_is_behind path e other (inr before) = before
 
--- what is planned behind a path comes behind each path up to that
-plan_is_behind : (b c : List ℕ) (es : List Entry) → (b ≡ c) ⊎ (is_before b c ≡ true) → AllByRecursion (IsUpTo c) es → pairwise is_below es ≡ true
-    → list_all (λ q. is_before b q.path) (plan_after c es) ≡ true
-plan_is_behind b c [] up all rise = refl
-plan_is_behind b c (e ∷ es) up all rise = elim (bytes_eq e.path c) as (λ t. bytes_eq e.path c ≡ t
-    → list_all (λ q. is_before b q.path) (if t then plan_after c es else planned e ∷ plan_after e.path es) ≡ true) [
-      | true ↦ λ same. plan_is_behind b c es up all.1 (and_parts (list_all (is_below e) es) (pairwise is_below es) rise).1
+-- the first entries behind a path come behind each path up to that
+first_is_behind : (b c : List ℕ) (es : List Entry) → (b ≡ c) ⊎ (is_before b c ≡ true) → AllByRecursion (IsUpTo c) es → pairwise is_below es ≡ true
+    → list_all (λ q. is_before b q.path) (first_entries_after c es) ≡ true
+first_is_behind b c [] up all rise = refl
+first_is_behind b c (e ∷ es) up all rise = elim (bytes_eq e.path c) as (λ t. bytes_eq e.path c ≡ t
+    → list_all (λ q. is_before b q.path) (if t then first_entries_after c es else e ∷ first_entries_after e.path es) ≡ true) [
+      | true ↦ λ same. first_is_behind b c es up all.1 (and_parts (list_all (is_below e) es) (pairwise is_below es) rise).1
       | false ↦ λ other.
           let parts = and_parts (list_all (is_below e) es) (pairwise is_below es) rise in
           let behind : is_before b e.path ≡ true = elim up [
             | inl same ↦ subst (λ (p : List ℕ). is_before p e.path ≡ true) (sym same) (other_is_behind c e other all.0)
             | inr before ↦ is_before-trans b c e.path before (other_is_behind c e other all.0)
           ] in
-          and_from (is_before b e.path) (list_all (λ q. is_before b q.path) (plan_after e.path es)) behind (plan_is_behind b e.path es (inr behind) (up_to_below e es parts.0) parts.1)
+          and_from (is_before b e.path) (list_all (λ q. is_before b q.path) (first_entries_after e.path es)) behind (first_is_behind b e.path es (inr behind) (up_to_below e es parts.0) parts.1)
     ] refl
 
-pub plan_rises : (c : List ℕ) (es : List Entry) → pairwise is_below es ≡ true → pairwise precedes (plan_after c es) ≡ true
-plan_rises c [] rise = refl
-plan_rises c (e ∷ es) rise = elim (bytes_eq e.path c) as (λ t. bytes_eq e.path c ≡ t
-    → pairwise precedes (if t then plan_after c es else planned e ∷ plan_after e.path es) ≡ true) [
-      | true ↦ λ same. plan_rises c es (and_parts (list_all (is_below e) es) (pairwise is_below es) rise).1
+first_rise : (c : List ℕ) (es : List Entry) → pairwise is_below es ≡ true → pairwise entry_precedes (first_entries_after c es) ≡ true
+first_rise c [] rise = refl
+first_rise c (e ∷ es) rise = elim (bytes_eq e.path c) as (λ t. bytes_eq e.path c ≡ t
+    → pairwise entry_precedes (if t then first_entries_after c es else e ∷ first_entries_after e.path es) ≡ true) [
+      | true ↦ λ same. first_rise c es (and_parts (list_all (is_below e) es) (pairwise is_below es) rise).1
       | false ↦ λ other.
           let parts = and_parts (list_all (is_below e) es) (pairwise is_below es) rise in
-          and_from (list_all (λ q. is_before e.path q.path) (plan_after e.path es)) (pairwise precedes (plan_after e.path es))
-          (plan_is_behind e.path e.path es (inl refl) (up_to_below e es parts.0) parts.1) (plan_rises e.path es parts.1)
+          and_from (list_all (λ q. is_before e.path q.path) (first_entries_after e.path es)) (pairwise entry_precedes (first_entries_after e.path es))
+          (first_is_behind e.path e.path es (inl refl) (up_to_below e es parts.0) parts.1) (first_rise e.path es parts.1)
     ] refl
+
+-- the plan of an entry has its path
+converted-path : (e : Entry) (begin : Start) (c : Result Conversion UnknownEncoding) → (converted e begin c).path ≡ e.path
+converted-path e (start.Done v) (Ok c) = refl
+converted-path e start.Pool (Ok c) = refl
+converted-path e (start.Desk place required) (Ok c) = refl
+converted-path e (start.Done v) (Err u) = refl
+converted-path e start.Pool (Err u) = refl
+converted-path e (start.Desk place required) (Err u) = refl
+
+text_path-path : (files : AttrFiles) (settings : Settings) (e : Entry) → (text_path files settings e).path ≡ e.path
+text_path-path files settings e = elim (is_utf8 e.path) as (λ t. (if t then file_path files settings e else closed e (verdict.Failed fail.NameNotText)).path ≡ e.path) [
+  | true ↦ converted-path e _ _
+  | false ↦ refl
+]
+
+link_path-path : (e : Entry) → (link_path e).path ≡ e.path
+link_path-path e = elim (is_utf8 e.path) as (λ t. (if t then path_with e no_conversion start.Pool else closed e (verdict.Failed fail.NameNotText)).path ≡ e.path) [
+  | true ↦ refl
+  | false ↦ refl
+]
+
+path_of_mode-path : (m : Mode) (files : AttrFiles) (settings : Settings) (e : Entry) → (path_of_mode m files settings e).path ≡ e.path
+path_of_mode-path mode.Plain files settings e = text_path-path files settings e
+path_of_mode-path mode.Executable files settings e = text_path-path files settings e
+path_of_mode-path mode.Link files settings e = link_path-path e
+path_of_mode-path mode.Gitlink files settings e = refl
+
+asked_path-path : (files : AttrFiles) (settings : Settings) (e : Entry) → (asked_path files settings e).path ≡ e.path
+asked_path-path files settings e = elim (e.stage == 0) as (λ t. (if t then path_of_mode e.mode files settings e else closed e (verdict.Skipped skip.Unmerged)).path ≡ e.path) [
+  | true ↦ path_of_mode-path e.mode files settings e
+  | false ↦ refl
+]
+
+-- values that are made of entries, each with its entry's path, rise as the entries do
+all_behind : (f : Entry → PathPlan) → ((e : Entry) → (f e).path ≡ e.path) → (d : Entry) (es : List Entry) → list_all (entry_precedes d) es ≡ true → list_all (precedes (f d)) (map f es) ≡ true
+all_behind f same d [] all = refl
+all_behind f same d (e ∷ es) all =
+    let parts = and_parts (entry_precedes d e) (list_all (entry_precedes d) es) all in
+    and_from (precedes (f d) (f e)) (list_all (precedes (f d)) (map f es)) (rw (same d, same e) parts.0) (all_behind f same d es parts.1)
+
+map_rises : (f : Entry → PathPlan) → ((e : Entry) → (f e).path ≡ e.path) → (es : List Entry) → pairwise entry_precedes es ≡ true → pairwise precedes (map f es) ≡ true
+map_rises f same [] rise = refl
+map_rises f same (e ∷ es) rise =
+    let parts = and_parts (list_all (entry_precedes e) es) (pairwise entry_precedes es) rise in
+    and_from (list_all (precedes (f e)) (map f es)) (pairwise precedes (map f es)) (all_behind f same e es parts.0) (map_rises f same es parts.1)
+
+map-map : (f : PathPlan → PathPlan) (g : Entry → PathPlan) (es : List Entry) → map f (map g es) ≡ map (λ (e : Entry). f (g e)) es
+map-map f g [] = refl
+map-map f g (e ∷ es) = ap (λ (ps : List PathPlan). f (g e) ∷ ps) (map-map f g es)
+
+-- the paths of a plan rise
+pub plan_rises : (es : List Entry) (settings : Settings) (info : AttrFile) (contents : List (List ℕ)) → pairwise is_below es ≡ true → pairwise precedes (plan_of es settings info contents).paths ≡ true
+plan_rises es settings info contents rise =
+    let files = attribute_files info es contents in
+    let asked = asked_paths files settings es in
+    let made : Entry → PathPlan = λ e. path_among asked (asked_path files settings e) in
+    unfold plan_of in
+    subst (λ (ps : List PathPlan). pairwise precedes ps ≡ true) (sym (map-map (path_among asked) (asked_path files settings) (first_entries es)))
+    (map_rises made (λ e. asked_path-path files settings e) (first_entries es) (first_rise [] es rise))
 
 -- no path comes before the file
 abbrev Follow : TreeFile → List PathPlan → Type 0
@@ -117,20 +192,24 @@ part_is p Partly file part = absurd part
 part_is p (Sealed mark) file part = absurd part
 part_is p Broken file part = absurd part
 
-file_is : (told : Told) (p : PathPlan) (o : Outcome) (v : Verdict) → HasVerdict told p o v → MayLeavePart p.path o.file
-file_is told p o (verdict.Skipped cause) has = subst (λ (x : Option TreeFile). MayLeavePart p.path x) (sym has.1.file) tt
-file_is told p o (verdict.Failed fail.NameNotText) has = subst (λ (x : Option TreeFile). MayLeavePart p.path x) (sym has.2.file) tt
-file_is told p o verdict.NoMemory has = has.1
-file_is told p o (verdict.Failed fail.ReadFailed) has = subst (λ (x : Option TreeFile). MayLeavePart p.path x) (sym has.3) tt
-file_is told p o (verdict.Failed (fail.Object k)) has = subst (λ (x : Option TreeFile). MayLeavePart p.path x) (sym has.3) tt
-file_is told p o (verdict.Failed fail.WriteFailed) (opened, gives, (state, count, failed, counts, part)) = part_is p state o.file part
-file_is told p o (verdict.Written false) (opened, counts, (content, gives, file)) = subst (λ (x : Option TreeFile). MayLeavePart p.path x) (sym file) refl
-file_is told p o (verdict.Written true) has = absurd has
-file_is told p o (verdict.Unfiltered cause unencoded) has = absurd has
-file_is told p o (verdict.Failed (fail.Filter cause)) has = absurd has
-file_is told p o (verdict.Failed fail.Missing) has = absurd has
-file_is told p o (verdict.Failed fail.NoProcess) has = absurd has
-file_is told p o (verdict.Failed fail.UnknownEncoding) has = absurd has
+file_has : (told : Told) (p : PathPlan) (o : Outcome) (v : Verdict) → HasVerdict told p o v → MayLeavePart p.path o.file
+file_has told p o (verdict.Skipped cause) has = absurd has
+file_has told p o (verdict.Failed fail.NameNotText) has = subst (λ (x : Option TreeFile). MayLeavePart p.path x) (sym has.1.file) tt
+file_has told p o verdict.NoMemory has = has.1
+file_has told p o (verdict.Failed fail.ReadFailed) has = subst (λ (x : Option TreeFile). MayLeavePart p.path x) (sym has.3) tt
+file_has told p o (verdict.Failed (fail.Object k)) has = subst (λ (x : Option TreeFile). MayLeavePart p.path x) (sym has.3) tt
+file_has told p o (verdict.Failed fail.WriteFailed) (opened, gives, (state, count, failed, counts, part)) = part_is p state o.file part
+file_has told p o (verdict.Written unencoded) (opened, counts, (content, gives, flag, file)) = subst (λ (x : Option TreeFile). MayLeavePart p.path x) (sym file) refl
+file_has told p o (verdict.Unfiltered cause unencoded) has = absurd has
+file_has told p o (verdict.Failed (fail.Filter cause)) has = absurd has
+file_has told p o (verdict.Failed fail.Missing) has = absurd has
+file_has told p o (verdict.Failed fail.NoProcess) has = absurd has
+file_has told p o (verdict.Failed fail.UnknownEncoding) has = absurd has
+
+file_is : (told : Told) (p : PathPlan) (o : Outcome) (s : Start) → HasOutcome s told p o → MayLeavePart p.path o.file
+file_is told p o (start.Done v) has = subst (λ (x : Option TreeFile). MayLeavePart p.path x) (sym has.1.file) tt
+file_is told p o start.Pool has = file_has told p o o.verdict has
+file_is told p o (start.Desk driver required) has = absurd has
 
 abbrev with_part : Option TreeFile → List TreeFile → List TreeFile
 with_part None fs = fs
@@ -156,7 +235,7 @@ joined_in_order object (p ∷ ps) (o ∷ os) fs rise fit all =
           ∙ joined_in_order object ps os (fs ++ f ∷ []) parts.1 fit.1 (one_more fs f ps (tails p fs ps all) (follows p f ps part parts.0))
           ∙ append_assoc fs (f ∷ []) (files_of os)
     ] in
-    step o.file (file_is (object p.object) p o o.verdict fit.0) ∙ ap (λ (gs : List TreeFile). fs ++ gs) (sym (files_of-cons o os))
+    step o.file (file_is (object p.object) p o p.start fit.0) ∙ ap (λ (gs : List TreeFile). fs ++ gs) (sym (files_of-cons o os))
 
 -- the files of outcomes, in the order of the paths, are what joins an empty worktree
 pub all_joined-files_of : (object : List ℕ → Told) (ps : List PathPlan) (os : List Outcome) → pairwise precedes ps ≡ true → AreOutcomes object ps os → all_joined os [] ≡ files_of os

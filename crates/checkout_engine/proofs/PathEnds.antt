@@ -1,5 +1,5 @@
 -- How a path ends, by what was given back.
-use Rattle.std.proofs.Common.{◌≡◌, ◌⊎◌, ℕ, true, false, List, [], ◌∷◌, ◌++◌, Option, Some, None, refl, sym, ap, ◌∙◌, subst, inl, inr, append-nil}
+use Rattle.std.proofs.Common.{◌≡◌, ◌⊎◌, ℕ, List, [], ◌∷◌, ◌++◌, Option, Some, None, refl, sym, ap, ◌∙◌, subst, inl, inr, append-nil}
 use Rattle.std.specs.Option.{option_map}
 use Rattle.edge_kit.specs.Told.{Told, Tells}
 use Rattle.edge_kit.specs.Files.{with_file, files_with, MayGainPart, JoinsLeaf}
@@ -10,8 +10,10 @@ use Rattle.edge_kit.specs.declared.tree_file.TreeFile.{TreeFile}
 use Rattle.checkout_core.specs.declared.verdict.Verdict.{Verdict}
 use Rattle.checkout_core.specs.declared.verdict.Verdict.TheVariants as verdict
 use Rattle.checkout_core.specs.declared.verdict.FailCause.TheVariants as fail
-use Rattle.checkout_engine.specs.declared.plan.PathPlan.{PathPlan}
-use Rattle.checkout_engine.specs.Outcome.{Outcome, IsGivenUp, EndsPath, IsOpenPath, MayLeavePart, LeavesPart, HasVerdict, joined}
+use Rattle.checkout_plan.specs.declared.path_plan.PathPlan.{PathPlan}
+use Rattle.checkout_core.specs.declared.path.Start.{Start}
+use Rattle.checkout_core.specs.declared.path.Start.TheVariants as start
+use Rattle.checkout_engine.specs.Outcome.{Outcome, IsGivenUp, EndsPath, IsOpenPath, MayLeavePart, LeavesPart, HasVerdict, HasOutcome, IsOutcome, prepared_at, joined}
 use Rattle.checkout_engine.specs.Paths.{Given, EndsOne}
 
 -- the told files grow by this one, if there is one
@@ -88,7 +90,7 @@ untouched v = record { verdict = v; blob = None; leaf = None; file = None }
 
 pub ends_untouched : (object : List ℕ → Told) (p : PathPlan) (v : Verdict) (before after : Given)
     → after.blobs ≡ before.blobs → after.leaves ≡ before.leaves → after.files ≡ before.files
-    → HasVerdict (object p.object) p (untouched v) v → EndsOne object p v before after
+    → IsOutcome (object p.object) p (untouched v) → EndsOne object p v before after
 ends_untouched object p v before after blobs leaves files has = record {
   outcome = untouched v;
   same = refl;
@@ -98,6 +100,16 @@ ends_untouched object p v before after blobs leaves files has = record {
   files = files_stay before.files after.files files;
 }
 
+-- a path that the plan closes
+pub ends_closed : (object : List ℕ → Told) (p : PathPlan) (v : Verdict) (before : Given) → p.start ≡ start.Done v → EndsOne object p v before before
+ends_closed object p v before is =
+    ends_untouched object p v before before refl refl refl
+    (subst (λ (s : Start). HasOutcome s (object p.object) p (untouched v)) (sym is) (refl, record { blob = refl; leaf = refl; file = refl }))
+
+-- the outcome of a path that the plan leaves open
+pub open_outcome : (told : Told) (p : PathPlan) (o : Outcome) → p.start ≡ start.Pool → HasVerdict told p o o.verdict → IsOutcome told p o
+open_outcome told p o is has = subst (λ (s : Start). HasOutcome s told p o) (sym is) has
+
 -- a blob was made and given back, and no leaf
 pub ends_unread : (object : List ℕ → Told) (p : PathPlan) (before after : Given) → IsOpenPath p
     → after.blobs ≡ before.blobs ++ (p.object, 0) ∷ [] → after.leaves ≡ before.leaves → after.files ≡ before.files
@@ -105,7 +117,7 @@ pub ends_unread : (object : List ℕ → Told) (p : PathPlan) (before after : Gi
 ends_unread object p before after opened blobs leaves files = record {
   outcome = record { verdict = verdict.NoMemory; blob = Some 0; leaf = None; file = None };
   same = refl;
-  fits = (opened, tt);
+  fits = open_outcome (object p.object) p _ opened.begun (opened, tt);
   blobs = blobs;
   leaves = leaves ∙ sym (append-nil before.leaves);
   files = files_stay before.files after.files files;
@@ -119,11 +131,11 @@ pub record IsBack (p : PathPlan) (blob : ℕ) (state : LeafState) (content : Opt
 
 ends_with : (object : List ℕ → Told) (p : PathPlan) (v : Verdict) (blob : ℕ) (state : LeafState) (content : Option (List ℕ)) (leaf : ℕ) (before after : Given)
     (file : Option TreeFile) → IsBack p blob state content leaf before after → FilesGrow before.files file after.files
-    → HasVerdict (object p.object) p (record { verdict = v; blob = Some blob; leaf = Some (state, leaf); file = file }) v → EndsOne object p v before after
-ends_with object p v blob state content leaf before after file back grow has = record {
+    → p.start ≡ start.Pool → HasVerdict (object p.object) p (record { verdict = v; blob = Some blob; leaf = Some (state, leaf); file = file }) v → EndsOne object p v before after
+ends_with object p v blob state content leaf before after file back grow begun has = record {
   outcome = record { verdict = v; blob = Some blob; leaf = Some (state, leaf); file = file };
   same = refl;
-  fits = has;
+  fits = open_outcome (object p.object) p _ begun has;
   blobs = back.blobs;
   leaves = back.leaves;
   files = grow;
@@ -131,23 +143,22 @@ ends_with object p v blob state content leaf before after file back grow has = r
 
 pub ends_read : (object : List ℕ → Told) (p : PathPlan) (v : Verdict) (blob : ℕ) (state : LeafState) (content : Option (List ℕ)) (leaf : ℕ) (before after : Given)
     → IsOpenPath p → EndsPath (object p.object) p v blob state content leaf → IsBack p blob state content leaf before after → EndsOne object p v before after
-ends_read object p (verdict.Written false) blob state content leaf before after opened (bytes, gives, unread, ended) back =
-    ends_with object p (verdict.Written false) blob state content leaf before after (Some (record { path = p.path; bytes = bytes; mark = p.mark })) back
-    (seals before.files after.files p.path content bytes p.mark state ended.0 ended.1 back.files)
-    (opened, (ap Some unread, same_count state (Sealed p.mark) leaf 0 ended.0 ended.2), (bytes, gives, refl))
-ends_read object p (verdict.Written true) blob state content leaf before after opened ends back = absurd ends
+ends_read object p (verdict.Written unencoded) blob state content leaf before after opened (bytes, gives, unread, (flag, sealed, tells, unfailed)) back =
+    ends_with object p (verdict.Written unencoded) blob state content leaf before after (Some (record { path = p.path; bytes = (prepared_at p bytes).bytes; mark = p.mark })) back
+    (seals before.files after.files p.path content (prepared_at p bytes).bytes p.mark state sealed tells back.files) opened.begun
+    (opened, (ap Some unread, same_count state (Sealed p.mark) leaf 0 sealed unfailed), (bytes, gives, flag, refl))
 ends_read object p (verdict.Unfiltered cause unencoded) blob state content leaf before after opened ends back = absurd ends
 ends_read object p (verdict.Failed fail.ReadFailed) blob state content leaf before after opened (may, failed, fresh, unfailed) back =
     ends_with object p (verdict.Failed fail.ReadFailed) blob state content leaf before after None back
-    (files_stay before.files after.files (subst (λ (s : LeafState). JoinsLeaf before.files p.path content s after.files) fresh back.files))
+    (files_stay before.files after.files (subst (λ (s : LeafState). JoinsLeaf before.files p.path content s after.files) fresh back.files)) opened.begun
     (opened, may, (blob, failed, (refl, same_count state Fresh leaf 0 fresh unfailed)), refl)
 ends_read object p (verdict.Failed (fail.Object k)) blob state content leaf before after opened (wrong, unread, fresh, unfailed) back =
     ends_with object p (verdict.Failed (fail.Object k)) blob state content leaf before after None back
-    (files_stay before.files after.files (subst (λ (s : LeafState). JoinsLeaf before.files p.path content s after.files) fresh back.files))
+    (files_stay before.files after.files (subst (λ (s : LeafState). JoinsLeaf before.files p.path content s after.files) fresh back.files)) opened.begun
     (opened, wrong, (ap Some unread, same_count state Fresh leaf 0 fresh unfailed), refl)
 ends_read object p (verdict.Failed fail.WriteFailed) blob state content leaf before after opened (bytes, gives, unread, ended) back =
     let kept = stays before.files after.files p.path content state ended.0 back.files in
-    ends_with object p (verdict.Failed fail.WriteFailed) blob state content leaf before after kept.file back kept.grow
+    ends_with object p (verdict.Failed fail.WriteFailed) blob state content leaf before after kept.file back kept.grow opened.begun
     (opened, (bytes, gives), (state, leaf, ended.1, (ap Some unread, refl), kept.part))
 ends_read object p (verdict.Failed (fail.Filter cause)) blob state content leaf before after opened ends back = absurd ends
 ends_read object p (verdict.Failed fail.Missing) blob state content leaf before after opened ends back = absurd ends
@@ -156,7 +167,7 @@ ends_read object p (verdict.Failed fail.UnknownEncoding) blob state content leaf
 ends_read object p (verdict.Failed fail.NameNotText) blob state content leaf before after opened ends back = absurd ends
 ends_read object p verdict.NoMemory blob state content leaf before after opened ends back =
     let kept = keeps before.files after.files p.path content state ends back.files in
-    ends_with object p verdict.NoMemory blob state content leaf before after kept.file back kept.grow (opened, kept.part)
+    ends_with object p verdict.NoMemory blob state content leaf before after kept.file back kept.grow opened.begun (opened, kept.part)
 ends_read object p (verdict.Skipped cause) blob state content leaf before after opened ends back = absurd ends
 
 -- what joined a list that was as before

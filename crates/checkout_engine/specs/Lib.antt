@@ -1,9 +1,8 @@
-pub mod Plan
-pub mod Output
+pub mod Sources
 pub mod Outcome
 pub mod Paths
-pub mod Input
-pub mod RefusalText
+pub mod Output
 pub mod Report
+pub mod RefusalText
 pub mod Run
 pub mod Complete

@@ -5,7 +5,7 @@ use Rattle.edge_kit.specs.Told.{Told, Tells}
 use Rattle.edge_kit.specs.declared.leaf_state.LeafState.{LeafState}
 use Rattle.edge_kit.specs.declared.tree_file.TreeFile.{TreeFile}
 use Rattle.checkout_core.specs.declared.verdict.Verdict.{Verdict}
-use Rattle.checkout_engine.specs.declared.plan.PathPlan.{PathPlan}
+use Rattle.checkout_plan.specs.declared.path_plan.PathPlan.{PathPlan}
 use Rattle.checkout_engine.specs.Outcome.{Outcome, IsOutcome, blob_back, leaf_back, joined}
 
 -- the blobs and the leaves that were given back so far, and the files of the worktree where they are told

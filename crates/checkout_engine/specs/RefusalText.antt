@@ -2,12 +2,22 @@
 use Rattle.std.specs.Prelude.{ℕ, List, [], ◌∷◌, ◌++◌, codes}
 use Rattle.std.specs.Fmt.{decimal}
 use Rattle.hex.specs.Hex.{encode_lower}
+use Rattle.byte_path.specs.Quote.{quoted}
+use Rattle.checkout_report.specs.Report.{object_word}
 use Rattle.byte_path.specs.declared.path.PathFault.{PathFault}
 use Rattle.byte_path.specs.declared.path.PathFault.TheVariants as path
 use Rattle.git_index.specs.declared.fault.EntryKind.{EntryKind}
 use Rattle.git_index.specs.declared.fault.EntryKind.TheVariants as kind
 use Rattle.git_index.specs.declared.fault.IndexFault.{IndexFault}
 use Rattle.git_index.specs.declared.fault.IndexFault.TheVariants as index
+use Rattle.git_config.specs.declared.fault.LineKind.{LineKind}
+use Rattle.git_config.specs.declared.fault.LineKind.TheVariants as line
+use Rattle.git_config.specs.declared.fault.ConfigFault.{ConfigFault}
+use Rattle.git_config.specs.declared.fault.ConfigFault.TheVariants as config
+use Rattle.settings_view.specs.declared.fault.KeyId.{KeyId}
+use Rattle.settings_view.specs.declared.fault.KeyId.TheVariants as key
+use Rattle.settings_view.specs.declared.fault.SettingFault.{SettingFault}
+use Rattle.settings_view.specs.declared.fault.SettingFault.TheVariants as setting
 use Rattle.checkout_engine.specs.declared.stop.Refusal.{Refusal}
 use Rattle.checkout_engine.specs.declared.stop.Refusal.TheVariants as refusal
 
@@ -44,11 +54,51 @@ index_words (index.Extension signature) = codes "extension " ++ encode_lower sig
 index_words index.Hash = codes "hash"
 index_words index.NoMemory = codes "no-memory"
 
-abbrev pub refusal_words : Refusal → List ℕ
-refusal_words refusal.IndexAbsent = codes "index absent"
-refusal_words (refusal.Index fault) = codes "index " ++ index_words fault
-refusal_words refusal.Unbuilt = codes "unbuilt"
+abbrev pub line_word : LineKind → List ℕ
+line_word line.Section = codes "section"
+line_word line.Key = codes "key"
+line_word line.Value = codes "value"
+line_word line.NoSection = codes "no-section"
 
--- the line that is written where a checkout is refused so
+abbrev pub config_words : ConfigFault → List ℕ
+config_words config.TooLarge = codes "too-large"
+config_words (config.Line n kind) = numbered (codes "line") n ++ 32 ∷ line_word kind
+config_words config.NoMemory = codes "no-memory"
+
+abbrev pub key_word : KeyId → List ℕ
+key_word key.AutoCrlf = codes "autocrlf"
+key_word key.Eol = codes "eol"
+key_word key.Workers = codes "workers"
+key_word key.Threshold = codes "threshold"
+key_word key.ObjectFormat = codes "objectformat"
+key_word key.Required = codes "required"
+
+abbrev pub setting_word : SettingFault → List ℕ
+setting_word (setting.BadBool key) = key_word key
+setting_word (setting.BadNumber key) = key_word key
+setting_word (setting.BadChoice key) = key_word key
+setting_word setting.NoMemory = codes "no-memory"
+
+-- an attribute file, its path quoted as in the report, and what is wrong with it
+abbrev pub attribute_words : List ℕ → List ℕ → List ℕ
+attribute_words path word = codes "attributes " ++ (quoted path ++ 32 ∷ word)
+
+abbrev pub plain_words : Refusal → List ℕ
+plain_words refusal.IndexAbsent = codes "index absent"
+plain_words (refusal.Index fault) = codes "index " ++ index_words fault
+plain_words (refusal.Config fault) = codes "config " ++ config_words fault
+plain_words (refusal.Setting fault) = codes "setting " ++ setting_word fault
+plain_words refusal.InfoTooLarge = codes "attributes info too-large"
+plain_words (refusal.TooManyDrivers n) = codes "drivers " ++ decimal n
+plain_words refusal.Unbuilt = codes "unbuilt"
+plain_words (refusal.Attribute path kind) = []
+plain_words (refusal.AttributeTooLarge path) = []
+
+abbrev pub refusal_words : Refusal → List ℕ
+refusal_words (refusal.Attribute path kind) = attribute_words path (object_word kind)
+refusal_words (refusal.AttributeTooLarge path) = attribute_words path (codes "too-large")
+refusal_words r = plain_words r
+
+-- the line that is written where it is refused so
 abbrev pub refusal_line : Refusal → List ℕ
-refusal_line r = codes "refused " ++ refusal_words r ++ 10 ∷ []
+refusal_line r = codes "refused " ++ (refusal_words r ++ 10 ∷ [])

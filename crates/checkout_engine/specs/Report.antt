@@ -7,7 +7,7 @@ use Rattle.checkout_core.specs.declared.verdict.Verdict.{Verdict}
 use Rattle.checkout_core.specs.declared.verdict.Verdict.TheVariants as verdict
 use Rattle.checkout_report.specs.declared.report.ReportPath.{ReportPath}
 use Rattle.checkout_report.specs.Report.{is_failed, report_of}
-use Rattle.checkout_engine.specs.declared.plan.PathPlan.{PathPlan}
+use Rattle.checkout_plan.specs.declared.path_plan.PathPlan.{PathPlan}
 use Rattle.checkout_engine.specs.declared.status.Status.{Status}
 use Rattle.checkout_engine.specs.declared.status.Status.TheVariants as status
 use Rattle.checkout_engine.specs.Output.{IsCut}

@@ -1,19 +1,22 @@
 ghost use Rattle.std.specs.Prelude.{◌≡◌, ◌⊎◌, ◌↔◌, [], OnOk, IfOk, true, false};
+ghost use Rattle.checkout_words.specs.Words.{command_of};
 ghost use Rattle.checkout_engine.specs.Complete.{IsReady, IsUnfailed};
 ghost use Rattle.checkout_engine.specs.declared.status.Status.{Status};
 ghost use Rattle.edge_kit.specs.Faults.{Rose};
 ghost use Rattle.edge_kit.specs.Told.{Tells};
-ghost use Rattle.checkout_engine.specs.Input.{IsPlanned, IsRefused};
-ghost use Rattle.checkout_engine.specs.Run.{words_of, is_checkout, repo_seen, tree_seen, sink_seen, seen, EndsPlanned, EndsAt, Ends, number_of, StopsRun, StopsTree, Refuses};
+ghost use Rattle.std.specs.List.{list_any};
+ghost use Rattle.checkout_engine.specs.Sources.{repo_seen, has_driver};
+ghost use Rattle.checkout_engine.specs.Run.{words_of, IsCheckout, IsUsage, tree_seen, sink_seen, seen, EndsPaths, EndsAt, Ends, number_of, StopsRun, StopsTree};
 
-use crate::input::read_plan;
 use crate::paths::check_out_paths;
-use crate::plan::PathPlan;
-use crate::refusal::refusal_line;
+use crate::planning::{needs_driver, read_plan};
 use crate::report::write_report;
-use crate::status::Status;
+use crate::show::{refuse, show_plan, stopped};
+use crate::status::{Status, number_of};
 use crate::stop::{Refusal, Stop};
-use edge_kit::{Failed, Repo, SendFault, Sink, Worktree};
+use checkout_plan::Plan;
+use checkout_words::{Command, WordFault, read_words};
+use edge_kit::{Failed, Repo, Sink, Worktree};
 use std::alloc::Global;
 
 /// That the worktree is empty.
@@ -31,72 +34,43 @@ fn need_empty<T: Worktree>(tree: &mut T) -> Result<(), Stop>
     }
 }
 
-/// Reads all that a checkout needs before it touches a file: the paths.
-fn prepare<R: Repo, T: Worktree>(
-    alloc: Global,
-    repo: &mut R,
-    tree: &mut T,
-) -> Result<Vec<PathPlan>, Stop>
+/// Reads all that a checkout needs before it touches a file: the plan, in which no driver is in use.
+fn prepare<R: Repo, T: Worktree>(alloc: Global, repo: &mut R, tree: &mut T) -> Result<Plan, Stop>
     ensures told { R.told repo.new ≡ R.told repo.old }
-    ensures blobs { R.out repo.new ≡ R.out repo.old }
-    ensures blobs_back { R.returned repo.new ≡ R.returned repo.old }
     ensures files { T.files tree.new ≡ T.files tree.old }
     ensures leaves { T.out tree.new ≡ T.out tree.old }
     ensures leaves_back { T.returned tree.new ≡ T.returned tree.old }
     ensures no_file { OnOk result (Tells (T.files tree.old) []) }
-    ensures planned { IfOk result (λ paths. IsPlanned (R.told repo.old) paths.items) }
-    ensures stops { StopsRun (R.told repo.old) (T.empty tree.old) (T.faults tree.old) (T.faults tree.new) (R.faults repo.old) (R.faults repo.new) result }
+    ensures stops { StopsRun (R.told repo.old) (T.empty tree.old) (T.faults tree.old) (T.faults tree.new)
+        (repo_seen (R.faults repo.old) (R.out repo.old) (R.returned repo.old)) (repo_seen (R.faults repo.new) (R.out repo.new) (R.returned repo.new)) result }
 {
     need_empty(tree)?;
-    read_plan(alloc, repo)
-}
-
-/// Writes the line that says why the checkout is refused.
-fn refuse<O: Sink>(alloc: Global, out: &mut O, refusal: Refusal) -> Status
-    ensures { Refuses refusal (sink_seen (O.faults out.old) (O.written out.old)) (sink_seen (O.faults out.new) (O.written out.new)) result }
-{
-    let Ok(line) = refusal_line(alloc, refusal) else {
-        return Status::OutOfMemory;
-    };
-    match out.write(line.as_bytes()) {
-        Ok(()) => Status::Refused,
-        Err(SendFault::Failed) => Status::OutputNotWritten,
-        Err(SendFault::NoMemory) => Status::OutOfMemory,
+    let plan = read_plan(alloc, repo)?;
+    if needs_driver(plan.paths.as_slice()) {
+        return Err(Stop::Refused(Refusal::Unbuilt));
     }
+    Ok(plan)
 }
 
-/// Reads and writes the paths, and reports them.
+/// Writes the paths of a plan, and reports them.
 fn check_out<R: Repo, T: Worktree, O: Sink>(
     alloc: Global,
     repo: &mut R,
     tree: &mut T,
     out: &mut O,
-    paths: Vec<PathPlan>,
+    plan: Plan,
 ) -> Status
-    requires no_file { Tells (T.files tree.old) [] }
-    requires planned { IsPlanned (R.told repo.old) paths.items }
-    ensures ends { EndsPlanned (R.told repo.old)
+    requires no_driver { list_any has_driver plan.paths ≡ false }
+    ensures ends { EndsPaths (R.told repo.old).object plan.paths
         (seen (repo_seen (R.faults repo.old) (R.out repo.old) (R.returned repo.old)) (tree_seen (T.faults tree.old) (T.out tree.old) (T.returned tree.old) (T.files tree.old)) (sink_seen (O.faults out.old) (O.written out.old)))
         (seen (repo_seen (R.faults repo.new) (R.out repo.new) (R.returned repo.new)) (tree_seen (T.faults tree.new) (T.out tree.new) (T.returned tree.new) (T.files tree.new)) (sink_seen (O.faults out.new) (O.written out.new)))
         result }
-    ensures told { R.told repo.new ≡ R.told repo.old }
-    ensures repo_faults { R.faults repo.new ≡ R.faults repo.old }
-    ensures tree_faults { T.faults tree.new ≡ T.faults tree.old }
 {
-    let Ok(verdicts) = check_out_paths(alloc, repo, tree, &paths) else {
+    let Plan { paths, .. } = plan;
+    let Ok(verdicts) = check_out_paths(alloc, repo, tree, paths.as_slice()) else {
         return Status::OutOfMemory;
     };
-    write_report(alloc, out, paths, &verdicts)
-}
-
-/// Whether the words are the command: three, the last of which is `checkout`.
-fn is_checkout(words: &[String]) -> bool
-    ensures { result ≡ is_checkout (words_of words.now) }
-{
-    match words {
-        [_, _, command] => command.as_str() == "checkout",
-        _ => false,
-    }
+    write_report(alloc, out, paths.into_vec(), &verdicts)
 }
 
 /// A checkout: it reads what it needs, and refuses, or writes the paths and reports them.
@@ -112,27 +86,39 @@ fn checkout<R: Repo, T: Worktree, O: Sink>(
         result }
 {
     match prepare(alloc, repo, tree) {
-        Ok(paths) => check_out(alloc, repo, tree, out, paths),
-        Err(Stop::NotEmpty) => Status::NotEmpty,
-        Err(Stop::ReadFault) => Status::ReadFault,
-        Err(Stop::NoMemory) => Status::OutOfMemory,
-        Err(Stop::Refused(refusal)) => refuse(alloc, out, refusal),
+        Ok(plan) => check_out(alloc, repo, tree, out, plan),
+        Err(stop) => stopped(alloc, out, stop),
     }
 }
 
-/// The number of a status, which the program ends with.
-fn number_of(status: Status) -> u8
-    ensures { result ≡ number_of status }
+/// What the words ask for, done on the repository, the worktree and the sink.
+fn obey<R: Repo, T: Worktree, O: Sink>(
+    alloc: Global,
+    words: &[String],
+    repo: &mut R,
+    tree: &mut T,
+    out: &mut O,
+) -> Status
+    ensures ends { Ends (command_of (words_of words.now)) (R.told repo.old) (T.empty tree.old)
+        (seen (repo_seen (R.faults repo.old) (R.out repo.old) (R.returned repo.old)) (tree_seen (T.faults tree.old) (T.out tree.old) (T.returned tree.old) (T.files tree.old)) (sink_seen (O.faults out.old) (O.written out.old)))
+        (seen (repo_seen (R.faults repo.new) (R.out repo.new) (R.returned repo.new)) (tree_seen (T.faults tree.new) (T.out tree.new) (T.returned tree.new) (T.files tree.new)) (sink_seen (O.faults out.new) (O.written out.new)))
+        result }
 {
-    status as u8
+    match read_words(alloc, words) {
+        Ok(Command::Checkout { .. }) => checkout(alloc, repo, tree, out),
+        Ok(Command::Plan) => show_plan(alloc, repo, out),
+        Ok(Command::Rehearse { .. }) => refuse(alloc, out, &Refusal::Unbuilt),
+        Err(WordFault::Usage) => Status::Usage,
+        Err(WordFault::NoMemory) => Status::OutOfMemory,
+    }
 }
 
 /// The command: what these words say, done on the repository, the worktree and the sink.
 ///
-/// The words are the repository's folder, the worktree's folder and `checkout`. The answer is 0 for a checkout that is
-/// done, 1 for one in which some path failed, 2 for other words, 3 for a repository that is refused, 4 for a sink that
-/// failed, 5 for want of memory, 6 for a read that failed before a file was touched, and 7 for a worktree that isn't
-/// empty.
+/// The words are the repository's folder, the worktree's folder, and `checkout` with its tail. The answer is 0 for a
+/// checkout that is done, 1 for one in which some path failed, 2 for words that are no command, 3 for a repository that
+/// is refused, 4 for a sink that failed, 5 for want of memory, 6 for a read that failed before a file was touched, and 7
+/// for a worktree that isn't empty. `plan` shows what a checkout would do, as `plan_text` does; `rehearse` is refused.
 pub fn run<R: Repo, T: Worktree, O: Sink>(
     alloc: Global,
     words: &[String],
@@ -143,16 +129,13 @@ pub fn run<R: Repo, T: Worktree, O: Sink>(
     // How it ends, by its status: the files, the report and the verdicts, or the cause.
     ensures ends { let old = seen (repo_seen (R.faults repo.old) (R.out repo.old) (R.returned repo.old)) (tree_seen (T.faults tree.old) (T.out tree.old) (T.returned tree.old) (T.files tree.old)) (sink_seen (O.faults out.old) (O.written out.old)) in
         let new = seen (repo_seen (R.faults repo.new) (R.out repo.new) (R.returned repo.new)) (tree_seen (T.faults tree.new) (T.out tree.new) (T.returned tree.new) (T.files tree.new)) (sink_seen (O.faults out.new) (O.written out.new)) in
-        (s : Status) × (result ≡ number_of s) × Ends (is_checkout (words_of words.now)) (R.told repo.old) (T.empty tree.old) old new s }
-    // Other words are 2, and nothing else is.
-    ensures usage { (result ≡ 2) ↔ (is_checkout (words_of words.now) ≡ false) }
+        (s : Status) × (result ≡ number_of s) × Ends (command_of (words_of words.now)) (R.told repo.old) (T.empty tree.old) old new s }
+    // Words that are no command are 2, unless memory ran out, and nothing else is.
+    ensures usage { IsUsage (command_of (words_of words.now)) result }
     // A checkout that has all that it needs is done, or wants memory.
     ensures complete { let old = seen (repo_seen (R.faults repo.old) (R.out repo.old) (R.returned repo.old)) (tree_seen (T.faults tree.old) (T.out tree.old) (T.returned tree.old) (T.files tree.old)) (sink_seen (O.faults out.old) (O.written out.old)) in
         let new = seen (repo_seen (R.faults repo.new) (R.out repo.new) (R.returned repo.new)) (tree_seen (T.faults tree.new) (T.out tree.new) (T.returned tree.new) (T.files tree.new)) (sink_seen (O.faults out.new) (O.written out.new)) in
-        is_checkout (words_of words.now) ≡ true → IsReady (R.told repo.old) (T.empty tree.old) → IsUnfailed old new → (result ≡ 0) ⊎ (result ≡ 5) }
+        IsCheckout (command_of (words_of words.now)) → IsReady (R.told repo.old) (T.empty tree.old) → IsUnfailed old new → (result ≡ 0) ⊎ (result ≡ 5) }
 {
-    if !is_checkout(words) {
-        return number_of(Status::Usage);
-    }
-    number_of(checkout(alloc, repo, tree, out))
+    number_of(obey(alloc, words, repo, tree, out))
 }

@@ -7,6 +7,7 @@ ghost use Rattle.checkout_engine.specs.Outcome.{EndsLeaf};
 
 use checkout_core::{FailCause, Verdict};
 use edge_kit::{Failed, Leaf, Mark, SendFault};
+use tree_encoding::Prepared;
 
 /// Puts the content and seals the leaf.
 fn put_and_seal<L: Leaf>(leaf: &mut L, content: &[u8], mark: Mark) -> Result<(), SendFault>
@@ -28,20 +29,22 @@ fn put_and_seal<L: Leaf>(leaf: &mut L, content: &[u8], mark: Mark) -> Result<(),
     }
 }
 
-/// Writes the content as the leaf's file. A leaf whose writing failed is discarded.
-pub fn write_leaf<L: Leaf>(leaf: &mut L, content: &[u8], mark: Mark) -> Verdict
+/// Writes a prepared content as the leaf's file. A leaf whose writing failed is discarded.
+pub fn write_leaf<L: Leaf>(leaf: &mut L, content: &Prepared, mark: Mark) -> Verdict
     requires fresh { L.state leaf.old ≡ Fresh }
     requires unfailed { L.faults leaf.old ≡ 0 }
     requires empty { Tells (L.content leaf.old) [] }
     ensures path { L.path leaf.new ≡ L.path leaf.old }
     ensures ended { EndsLeaf mark content.now result (L.state leaf.new) (L.content leaf.new) (L.faults leaf.new) }
 {
-    let written = put_and_seal(leaf, content, mark);
+    let written = put_and_seal(leaf, content.bytes.as_slice(), mark);
     if written.is_err() {
         let _ = leaf.discard();
     }
     match written {
-        Ok(()) => Verdict::Written { unencoded: false },
+        Ok(()) => Verdict::Written {
+            unencoded: content.unencoded,
+        },
         Err(SendFault::Failed) => Verdict::Failed(FailCause::WriteFailed),
         Err(SendFault::NoMemory) => Verdict::NoMemory,
     }

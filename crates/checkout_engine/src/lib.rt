@@ -2,18 +2,20 @@
 #![tactic(auto)]
 
 mod command;
-mod input;
 mod leaf;
 mod output;
 mod path;
 mod paths;
-mod plan;
+mod planning;
 mod refusal;
 mod report;
+mod show;
+mod sources;
 mod status;
 mod stop;
 
 pub use command::run;
+pub use show::plan_text;
 
 #[cfg(test)]
 mod tests;

@@ -1,9 +1,11 @@
-ghost use Rattle.std.specs.Prelude.{◌≡◌, IfOk};
+ghost use Rattle.std.specs.Prelude.{◌≡◌, IfOk, false};
+ghost use Rattle.std.specs.List.{list_any};
+ghost use Rattle.checkout_engine.specs.Sources.{has_driver};
 ghost use Rattle.checkout_engine.specs.Paths.{given, EndsAll};
 
 use crate::path::check_out_path;
-use crate::plan::PathPlan;
 use checkout_core::Verdict;
+use checkout_plan::PathPlan;
 use edge_kit::{Repo, Worktree};
 use std::alloc::{AllocError, Global};
 
@@ -14,6 +16,7 @@ pub fn check_out_paths<R: Repo, T: Worktree>(
     tree: &mut T,
     paths: &[PathPlan],
 ) -> Result<Vec<Verdict>, AllocError>
+    requires { list_any has_driver paths.now ≡ false }
     ensures told { R.told repo.new ≡ R.told repo.old }
     ensures repo_faults { R.faults repo.new ≡ R.faults repo.old }
     ensures blobs_out { R.out repo.new ≡ R.out repo.old }
@@ -25,7 +28,7 @@ pub fn check_out_paths<R: Repo, T: Worktree>(
 {
     let mut verdicts = Vec::with_capacity(alloc, paths.len())?;
     for path in paths {
-        verdicts.push(check_out_path(repo, tree, path))?;
+        verdicts.push(check_out_path(alloc, repo, tree, path))?;
     }
     Ok(verdicts)
 }

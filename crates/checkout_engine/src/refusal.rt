@@ -1,9 +1,12 @@
 ghost use Rattle.std.specs.Prelude.{◌≡◌, IfOk, string_bytes};
-ghost use Rattle.checkout_engine.specs.RefusalText.{kind_word, path_word, index_words, refusal_words, refusal_line};
+ghost use Rattle.checkout_engine.specs.RefusalText.{kind_word, path_word, index_words, line_word, config_words, key_word, setting_word, attribute_words, plain_words, refusal_words, refusal_line};
 
 use crate::stop::Refusal;
-use byte_path::PathFault;
+use byte_path::{Bytes, PathFault, quote_path};
+use checkout_report::object_word;
+use git_config::{ConfigFault, LineKind};
 use git_index::{EntryKind, IndexFault};
+use settings_view::{KeyId, SettingFault};
 use std::alloc::{AllocError, Global};
 
 fn kind_word(kind: EntryKind) -> &'static str
@@ -59,23 +62,107 @@ fn index_words(alloc: Global, fault: IndexFault) -> Result<String, AllocError>
     }
 }
 
-fn refusal_words(alloc: Global, refusal: Refusal) -> Result<String, AllocError>
-    ensures { IfOk result (λ s. string_bytes s ≡ refusal_words refusal) }
+fn line_word(kind: LineKind) -> &'static str
+    ensures { result.now ≡ line_word kind }
+{
+    match kind {
+        LineKind::Section => "section",
+        LineKind::Key => "key",
+        LineKind::Value => "value",
+        LineKind::NoSection => "no-section",
+    }
+}
+
+fn config_words(alloc: Global, fault: ConfigFault) -> Result<String, AllocError>
+    ensures { IfOk result (λ s. string_bytes s ≡ config_words fault) }
+{
+    match fault {
+        ConfigFault::TooLarge => String::from_str(alloc, "too-large"),
+        ConfigFault::Line(n, kind) => {
+            let word = line_word(kind);
+            format!(in alloc; "line {n} {word}")
+        }
+        ConfigFault::NoMemory => String::from_str(alloc, "no-memory"),
+    }
+}
+
+fn key_word(key: KeyId) -> &'static str
+    ensures { result.now ≡ key_word key }
+{
+    match key {
+        KeyId::AutoCrlf => "autocrlf",
+        KeyId::Eol => "eol",
+        KeyId::Workers => "workers",
+        KeyId::Threshold => "threshold",
+        KeyId::ObjectFormat => "objectformat",
+        KeyId::Required => "required",
+    }
+}
+
+fn setting_word(fault: SettingFault) -> &'static str
+    ensures { result.now ≡ setting_word fault }
+{
+    match fault {
+        SettingFault::BadBool(key) | SettingFault::BadNumber(key) | SettingFault::BadChoice(key) =>
+            key_word(key),
+        SettingFault::NoMemory => "no-memory",
+    }
+}
+
+/// The words of an attribute file that is refused: its path, quoted as in the report, and what is wrong.
+fn attribute_words(alloc: Global, path: &Bytes, word: &str) -> Result<Vec<u8>, AllocError>
+    ensures { IfOk result (λ v. v.items ≡ attribute_words path.now word.now) }
+{
+    let shown = quote_path(alloc, path.as_slice())?;
+    let mut words = Vec::from_slice(alloc, b"attributes ")?;
+    words.extend_from_slice(&shown)?;
+    words.push(b' ')?;
+    words.extend_from_slice(word.as_bytes())?;
+    Ok(words)
+}
+
+/// The words of a fault of the index, the configuration, or what isn't built yet.
+fn plain_words(alloc: Global, refusal: &Refusal) -> Result<String, AllocError>
+    ensures { IfOk result (λ s. string_bytes s ≡ plain_words refusal.now) }
 {
     match refusal {
         Refusal::IndexAbsent => String::from_str(alloc, "index absent"),
         Refusal::Index(fault) => {
-            let words = index_words(alloc, fault)?;
+            let words = index_words(alloc, *fault)?;
             format!(in alloc; "index {words}")
         }
+        Refusal::Config(fault) => {
+            let words = config_words(alloc, *fault)?;
+            format!(in alloc; "config {words}")
+        }
+        Refusal::Setting(fault) => {
+            let word = setting_word(*fault);
+            format!(in alloc; "setting {word}")
+        }
+        Refusal::InfoTooLarge => String::from_str(alloc, "attributes info too-large"),
+        Refusal::TooManyDrivers(n) => format!(in alloc; "drivers {n}"),
         Refusal::Unbuilt => String::from_str(alloc, "unbuilt"),
+        Refusal::Attribute(_, _) | Refusal::AttributeTooLarge(_) => Ok(String::new(alloc)),
+    }
+}
+
+fn refusal_words(alloc: Global, refusal: &Refusal) -> Result<Vec<u8>, AllocError>
+    ensures { IfOk result (λ v. v.items ≡ refusal_words refusal.now) }
+{
+    match refusal {
+        Refusal::Attribute(path, kind) => attribute_words(alloc, path, object_word(*kind)),
+        Refusal::AttributeTooLarge(path) => attribute_words(alloc, path, "too-large"),
+        _ => Vec::from_slice(alloc, plain_words(alloc, refusal)?.as_bytes()),
     }
 }
 
 /// The line that is written where a checkout is refused so.
-pub fn refusal_line(alloc: Global, refusal: Refusal) -> Result<String, AllocError>
-    ensures { IfOk result (λ s. string_bytes s ≡ refusal_line refusal) }
+pub fn refusal_line(alloc: Global, refusal: &Refusal) -> Result<Vec<u8>, AllocError>
+    ensures { IfOk result (λ v. v.items ≡ refusal_line refusal.now) }
 {
     let words = refusal_words(alloc, refusal)?;
-    format!(in alloc; "refused {words}\n")
+    let mut line = Vec::from_slice(alloc, b"refused ")?;
+    line.extend_from_slice(&words)?;
+    line.push(b'\n')?;
+    Ok(line)
 }

@@ -4,9 +4,9 @@ ghost use Rattle.checkout_report.specs.Report.{is_failed};
 ghost use Rattle.checkout_engine.specs.Report.{is_no_memory, lacks_memory, status_of, shown, report, Reports};
 
 use crate::output::write_lines;
-use crate::plan::PathPlan;
 use crate::status::Status;
 use checkout_core::Verdict;
+use checkout_plan::PathPlan;
 use checkout_report::{ReportPath, is_failed, report_text};
 use edge_kit::{SendFault, Sink};
 use std::alloc::{AllocError, Global};

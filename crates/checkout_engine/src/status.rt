@@ -1,3 +1,6 @@
+ghost use Rattle.std.specs.Prelude.{◌≡◌};
+ghost use Rattle.checkout_engine.specs.Run.{number_of};
+
 /// How a run ends. The number of each is the status that the program ends with.
 #[derive(Clone, Copy, Debug, PartialEq, Eq)]
 pub enum Status {
@@ -13,4 +16,11 @@ pub enum Status {
     ReadFault = 6,
     /// The worktree isn't empty.
     NotEmpty = 7,
+}
+
+/// The number of a status, which the program ends with.
+pub fn number_of(status: Status) -> u8
+    ensures { result ≡ number_of status }
+{
+    status as u8
 }

@@ -1,21 +1,37 @@
 ghost use Rattle.std.specs.Prelude.{◌≡◌};
 ghost use Rattle.checkout_engine.specs.declared.stop.Stop.TheVariants.{NoMemory};
 
+use byte_path::Bytes;
+use checkout_core::ObjectKind;
+use git_config::ConfigFault;
 use git_index::IndexFault;
+use settings_view::SettingFault;
 use std::alloc::{AllocError, AllocFailed};
 
-/// Why a checkout is refused before it touches a file.
-#[derive(Clone, Copy, Debug, PartialEq, Eq)]
+/// Why a repository is refused before a file is touched. Want of memory is no such fault.
+#[derive(Drop)]
 pub enum Refusal {
     IndexAbsent,
-    /// The index does not read. Want of memory is no such fault.
+    /// The index does not read.
     Index(IndexFault),
-    /// A configuration or attributes, which aren't built yet.
+    /// The configuration does not read.
+    Config(ConfigFault),
+    /// A setting has a value that is none of its kind.
+    Setting(SettingFault),
+    /// `info/attributes` is too large.
+    InfoTooLarge,
+    /// The object of an attribute file isn't right: its path, and what is wrong.
+    Attribute(Bytes, ObjectKind),
+    /// An attribute file is too large: its path.
+    AttributeTooLarge(Bytes),
+    /// So many drivers are in use.
+    TooManyDrivers(u32),
+    /// What isn't built yet: a rehearsal, or a driver in use.
     Unbuilt,
 }
 
 /// Why a checkout stops before it touches a file.
-#[derive(Clone, Copy, Debug, PartialEq, Eq)]
+#[derive(Drop)]
 pub enum Stop {
     NotEmpty,
     /// A read failed, and a count of faults rose.

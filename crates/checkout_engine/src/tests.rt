@@ -27,6 +27,53 @@ const BIN: [u8; 20] = [
     0x41, 0x90, 0xf2, 0x44,
 ];
 
+/// The name that `git hash-object` gives to `a`, LF, `b`, CR LF.
+const MIXED: [u8; 20] = [
+    0xe8, 0x9c, 0x76, 0x0d, 0x3c, 0x63, 0x6a, 0xc7, 0x16, 0xf6, 0xcb, 0xc9, 0x55, 0xbd, 0x10, 0x0a,
+    0x94, 0xaf, 0x60, 0x6d,
+];
+
+/// The name that `git hash-object` gives to `$Id$ $Id: a b $` and a line feed.
+const IDENT: [u8; 20] = [
+    0x93, 0x14, 0x61, 0x77, 0xb8, 0x3e, 0xbd, 0x89, 0xea, 0xa3, 0xcd, 0xa0, 0xf7, 0x06, 0x4a, 0x9e,
+    0x22, 0x50, 0x86, 0xb3,
+];
+
+/// The name that `git hash-object` gives to U+00E9 and U+1F600 in UTF-8.
+const WIDE: [u8; 20] = [
+    0xe6, 0xf9, 0xa5, 0x34, 0x76, 0xa0, 0x97, 0xf6, 0x0d, 0x9e, 0x9b, 0x16, 0x33, 0x5d, 0xcb, 0x9f,
+    0xbd, 0x79, 0x87, 0x8f,
+];
+
+/// The name that `git hash-object` gives to nothing.
+const EMPTY: [u8; 20] = [
+    0xe6, 0x9d, 0xe2, 0x9b, 0xb2, 0xd1, 0xd6, 0x43, 0x4b, 0x8b, 0x29, 0xae, 0x77, 0x5a, 0xd8, 0xc2,
+    0xe4, 0x8c, 0x53, 0x91,
+];
+
+/// The name that `git hash-object` gives to the byte FF.
+const ODD: [u8; 20] = [
+    0xce, 0x54, 0x2e, 0xfa, 0xa5, 0x12, 0x4a, 0x04, 0x37, 0xf0, 0xc4, 0xdb, 0x32, 0x9d, 0x7e, 0xc4,
+    0xb7, 0xba, 0x70, 0xa7,
+];
+
+/// The name that `git hash-object` gives to `*.txt text eol=crlf` and a line feed.
+const ATTRIBUTES: [u8; 20] = [
+    0xc6, 0x1b, 0x24, 0x1e, 0xb4, 0x97, 0xeb, 0x43, 0x1d, 0xf8, 0x25, 0x84, 0x1e, 0x80, 0x85, 0x03,
+    0x14, 0x56, 0x00, 0xe1,
+];
+
+/// Objects that a test may ask for, as they are stored.
+const OBJECTS: [([u8; 20], &[u8]); 7] = [
+    (BIN, b"blob 3\0bin"),
+    (MIXED, b"blob 5\0a\nb\r\n"),
+    (IDENT, b"blob 16\0$Id$ $Id: a b $\n"),
+    (WIDE, b"blob 6\0\xc3\xa9\xf0\x9f\x98\x80"),
+    (EMPTY, b"blob 0\0"),
+    (ODD, b"blob 1\0\xff"),
+    (ATTRIBUTES, b"blob 20\0*.txt text eol=crlf\n"),
+];
+
 /// The SHA-1 of the index of no entries, as `sha1sum` gives it.
 const NO_ENTRIES: [u8; 20] = [
     0x39, 0xd8, 0x90, 0x13, 0x9e, 0xe5, 0x35, 0x6c, 0x7e, 0xf5, 0x72, 0x21, 0x6c, 0xeb, 0xcd, 0x27,
@@ -51,7 +98,8 @@ struct Row {
 /// What a run meets, and what it leaves: its output, its status, and a line for each file.
 #[derive(Clone, Copy)]
 struct Case<'a> {
-    command: &'static str,
+    /// The words behind the two folders.
+    command: &'static [&'static str],
     rows: &'a [Row],
     /// Extensions.
     more: &'static [u8],
@@ -66,6 +114,10 @@ struct Case<'a> {
     check_fails: bool,
     sink_fails: Option<u32>,
     wanted: &'static str,
+}
+
+fn named(path: &'static [u8], name: [u8; 20]) -> Row {
+    stage(0, PLAIN, name, path)
 }
 
 fn stage(stage: u16, mode: u32, name: [u8; 20], path: &'static [u8]) -> Row {
@@ -84,7 +136,7 @@ fn plain(path: &'static [u8]) -> Row {
 /// A checkout in which nothing fails.
 fn checkout<'a>(rows: &'a [Row], wanted: &'static str) -> Case<'a> {
     Case {
-        command: "checkout",
+        command: &["checkout"],
         rows,
         more: &[],
         hash: [0; 20],
@@ -141,7 +193,9 @@ fn repo_of(alloc: Global, case: &Case) -> Result<MemoryRepo, AllocError> {
     let info = copied(alloc, case.info)?;
     let mut objects = Vec::new(alloc);
     objects.push((HI, Vec::from_slice(alloc, case.stored)?))?;
-    objects.push((BIN, Vec::from_slice(alloc, b"blob 3\0bin")?))?;
+    for (name, stored) in OBJECTS {
+        objects.push((name, Vec::from_slice(alloc, stored)?))?;
+    }
     let mut fails = Vec::new(alloc);
     if let Some(fail) = case.fails {
         fails.push(fail)?;
@@ -157,19 +211,34 @@ fn tree_of(alloc: Global, case: &Case) -> Result<MemoryTree, AllocError> {
     Ok(MemoryTree::new(alloc, case.empty, fails, case.check_fails))
 }
 
-fn words_of(alloc: Global, command: &str) -> Result<Vec<String>, AllocError> {
+fn words_of(alloc: Global, command: &[&str]) -> Result<Vec<String>, AllocError> {
     let mut words = Vec::new(alloc);
-    for word in ["R", "T", command] {
+    words.push(String::from_str(alloc, "R")?)?;
+    words.push(String::from_str(alloc, "T")?)?;
+    for word in command {
         words.push(String::from_str(alloc, word)?)?;
     }
     Ok(words)
+}
+
+/// A content that isn't text is shown in hex.
+fn push_content(seen: &mut String, content: &[u8]) -> Result<(), Fail> {
+    match str::from_utf8(content) {
+        Ok(text) => seen.push_str(text)?,
+        Err(_) => {
+            for byte in content {
+                write!(seen, "{byte:02x}")?;
+            }
+        }
+    }
+    Ok(())
 }
 
 fn push_files(seen: &mut String, files: &[TreeFile]) -> Result<(), Fail> {
     for file in files {
         seen.push_str(str::from_utf8(file.path.as_slice())?)?;
         seen.push_str(": ")?;
-        seen.push_str(str::from_utf8(file.bytes.as_slice())?)?;
+        push_content(seen, file.bytes.as_slice())?;
     }
     Ok(())
 }
@@ -208,9 +277,78 @@ fn an_index_is_checked_out(rt: HostRuntime) -> Result<(), Fail> {
     )?;
     case.more = b"TREE\0\0\0\0";
     check(&rt, rt.alloc(), &case)?;
-    case.command = "plan";
-    case.wanted = "status 2\n";
+    case.command = &["checkout", "--workers=16"];
     check(&rt, rt.alloc(), &case)
+}
+
+fn check_words(
+    rt: &impl Abort,
+    alloc: Global,
+    command: &'static [&'static str],
+    wanted: &'static str,
+) -> Result<(), Fail> {
+    let rows = [plain(b"a")];
+    let mut case = checkout(&rows, wanted);
+    case.command = command;
+    check(rt, alloc, &case)
+}
+
+#[test]
+fn words_that_are_no_command_end_with_2(rt: HostRuntime) -> Result<(), Fail> {
+    let alloc = rt.alloc();
+    check_words(&rt, alloc, &["checkout", "--workers", "17"], "status 2\n")?;
+    check_words(&rt, alloc, &["checkout", "--", "x"], "status 2\n")?;
+    check_words(&rt, alloc, &["--help"], "status 2\n")
+}
+
+#[test]
+fn a_rehearsal_is_not_built_yet(rt: HostRuntime) -> Result<(), Fail> {
+    let wanted = "refused unbuilt\nstatus 3\n";
+    check_words(&rt, rt.alloc(), &["rehearse", "0", "8"], wanted)
+}
+
+fn check_config(
+    rt: &impl Abort,
+    alloc: Global,
+    config: &'static [u8],
+    wanted: &'static str,
+) -> Result<(), Fail> {
+    let rows = [plain(b"a")];
+    let mut case = checkout(&rows, wanted);
+    case.config = Some(config);
+    check(rt, alloc, &case)
+}
+
+#[test]
+fn a_configuration_is_read(rt: HostRuntime) -> Result<(), Fail> {
+    let alloc = rt.alloc();
+    let written = "written - - - a\ndone 1 0 0 0\nstatus 0\na: hi\n";
+    check_config(&rt, alloc, b"", written)?;
+    check_config(
+        &rt,
+        alloc,
+        b"[core]\nautocrlf = off\n[checkout]\nworkers = 2k\n",
+        written,
+    )?;
+    let ends = "written - - - a\ndone 1 0 0 0\nstatus 0\na: hi\r\n";
+    check_config(&rt, alloc, b"[core]\nautocrlf\n", ends)
+}
+
+#[test]
+fn a_configuration_that_does_not_read_is_refused(rt: HostRuntime) -> Result<(), Fail> {
+    let alloc = rt.alloc();
+    check_config(
+        &rt,
+        alloc,
+        b"[core\n",
+        "refused config line 1 section\nstatus 3\n",
+    )?;
+    let open = "refused config line 2 value\nstatus 3\n";
+    check_config(&rt, alloc, b"[core]\neol = \"cr\n", open)?;
+    let workers = "refused setting workers\nstatus 3\n";
+    check_config(&rt, alloc, b"[checkout]\nworkers = many\n", workers)?;
+    let required = "refused setting required\nstatus 3\n";
+    check_config(&rt, alloc, b"[filter \"f\"]\nrequired = 2\n", required)
 }
 
 #[test]
@@ -351,26 +489,176 @@ fn an_index_whose_entries_are_not_right_is_refused(rt: HostRuntime) -> Result<()
     check_refused(&rt, alloc, a, odd, "refused index mode 1\nstatus 3\n")
 }
 
-#[test]
-fn what_is_not_built_yet_is_refused(rt: HostRuntime) -> Result<(), Fail> {
-    let alloc = rt.alloc();
-    let a = plain(b"a");
-    let wanted = "refused unbuilt\nstatus 3\n";
-    check_refused(&rt, alloc, plain(b".gitattributes"), a, wanted)?;
-    check_refused(
-        &rt,
-        alloc,
-        a,
-        stage(0, EXECUTABLE, HI, b"d/.gitattributes"),
-        wanted,
-    )?;
-    let rows = [a];
+fn check_attributes(
+    rt: &impl Abort,
+    alloc: Global,
+    info: &'static [u8],
+    row: Row,
+    wanted: &'static str,
+) -> Result<(), Fail> {
+    let rows = [row];
     let mut case = checkout(&rows, wanted);
-    case.config = Some(b"");
+    case.info = Some(info);
+    check(rt, alloc, &case)
+}
+
+#[test]
+fn line_ends_are_converted(rt: HostRuntime) -> Result<(), Fail> {
+    let row = named(b"a.txt", MIXED);
+    let crlf = "written - - - a.txt\ndone 1 0 0 0\nstatus 0\na.txt: a\r\nb\r\n";
+    check_attributes(&rt, rt.alloc(), b"*.txt text eol=crlf\n", row, crlf)?;
+    // an automatic conversion leaves a content with CR alone
+    let kept = "written - - - a.txt\ndone 1 0 0 0\nstatus 0\na.txt: a\nb\r\n";
+    check_attributes(&rt, rt.alloc(), b"* text=auto eol=crlf\n", row, kept)
+}
+
+#[test]
+fn a_keyword_is_expanded(rt: HostRuntime) -> Result<(), Fail> {
+    let row = named(b"a", IDENT);
+    let wanted =
+        "written - - - a\ndone 1 0 0 0\nstatus 0\na: $Id: 93146177b83ebd89eaa3cda0f7064a9e225086b3 $ $Id: a b $\n";
+    check_attributes(&rt, rt.alloc(), b"a ident\n", row, wanted)?;
+    let quoted =
+        "written - - - \"a\\tb\"\ndone 1 0 0 0\nstatus 0\na\tb: $Id: 93146177b83ebd89eaa3cda0f7064a9e225086b3 $ $Id: a b $\n";
+    let row = named(b"a\tb", IDENT);
+    check_attributes(&rt, rt.alloc(), b"\"a\\tb\" ident\n", row, quoted)
+}
+
+#[test]
+fn a_content_is_encoded(rt: HostRuntime) -> Result<(), Fail> {
+    let alloc = rt.alloc();
+    let utf16 = b"a working-tree-encoding=UTF-16\n";
+    let wide = "written - - - a\ndone 1 0 0 0\nstatus 0\na: fffee9003dd800de";
+    check_attributes(&rt, alloc, utf16, named(b"a", WIDE), wide)?;
+    let empty = "written - - - a\ndone 1 0 0 0\nstatus 0\na: ";
+    check_attributes(&rt, alloc, utf16, named(b"a", EMPTY), empty)
+}
+
+#[test]
+fn a_content_that_cannot_be_encoded_is_told(rt: HostRuntime) -> Result<(), Fail> {
+    let alloc = rt.alloc();
+    let row = named(b"b", ODD);
+    let kept = "written - unencoded - b\ndone 1 0 0 0\nstatus 0\nb: ff";
+    let utf16 = b"b working-tree-encoding=UTF-16LE\n";
+    check_attributes(&rt, alloc, utf16, row, kept)?;
+    let unknown = "failed - - encoding b\ndone 0 0 1 0\nstatus 1\n";
+    let koi8 = b"b working-tree-encoding=KOI8-R\n";
+    check_attributes(&rt, alloc, koi8, row, unknown)
+}
+
+#[test]
+fn a_link_is_not_converted(rt: HostRuntime) -> Result<(), Fail> {
+    let row = stage(0, LINK, MIXED, b"ln.txt");
+    let wanted = "written l - - ln.txt\ndone 1 0 0 0\nstatus 0\nln.txt: a\nb\r\n";
+    check_attributes(&rt, rt.alloc(), b"* text eol=crlf ident\n", row, wanted)
+}
+
+#[test]
+fn attribute_files_of_the_index_are_read(rt: HostRuntime) -> Result<(), Fail> {
+    let rows = [
+        named(b"a.txt", MIXED),
+        named(b"d/.gitattributes", ATTRIBUTES),
+        named(b"d/a.txt", MIXED),
+        named(b"d/e/a.txt", MIXED),
+    ];
+    let wanted =
+        "written - - - a.txt\nwritten - - - d/.gitattributes\nwritten - - - d/a.txt\nwritten - - - d/e/a.txt\ndone 4 0 0 0\nstatus 0\na.txt: a\nb\r\nd/.gitattributes: *.txt text eol=crlf\nd/a.txt: a\r\nb\r\nd/e/a.txt: a\r\nb\r\n";
+    check(&rt, rt.alloc(), &checkout(&rows, wanted))
+}
+
+#[test]
+fn an_attribute_file_without_its_object_is_refused(rt: HostRuntime) -> Result<(), Fail> {
+    let rows = [named(b".gitattributes", [9; 20])];
+    let wanted = "refused attributes .gitattributes object-absent\nstatus 3\n";
+    check(&rt, rt.alloc(), &checkout(&rows, wanted))?;
+    let rows = [named(b".gitattributes", ATTRIBUTES)];
+    let mut case = checkout(&rows, "status 6\n");
+    case.fails = Some(RepoFail::Object(ATTRIBUTES));
+    check(&rt, rt.alloc(), &case)
+}
+
+fn check_plan(
+    rt: &impl Abort,
+    alloc: Global,
+    config: &'static [u8],
+    info: &'static [u8],
+    row: Row,
+    wanted: &'static str,
+) -> Result<(), Fail> {
+    let rows = [row];
+    let mut case = checkout(&rows, wanted);
+    case.command = &["plan"];
+    case.config = Some(config);
+    case.info = Some(info);
+    // a plan doesn't look at the worktree
+    case.empty = false;
+    check(rt, alloc, &case)
+}
+
+#[test]
+fn a_plan_is_shown(rt: HostRuntime) -> Result<(), Fail> {
+    let alloc = rt.alloc();
+    let line_ends = "card - crlf - - - - a.txt\nskipped-lines 0\nstatus 0\n";
+    let row = named(b"a.txt", MIXED);
+    check_plan(&rt, alloc, b"", b"*.txt text eol=crlf\n", row, line_ends)?;
+    let filtered =
+        "card x auto-crlf ident UTF-16LE-BOM required \"\\377\" a\nskipped-lines 1\nstatus 0\n";
+    let config = b"[filter \"\xff\"]\nprocess = x\nrequired\n";
+    let info = b"a text=auto eol=crlf ident working-tree-encoding=utf-16le-bom filter=\xff\n!b x\n";
+    let row = stage(0, EXECUTABLE, HI, b"a");
+    check_plan(&rt, alloc, config, info, row, filtered)
+}
+
+#[test]
+fn a_required_driver_needs_its_process(rt: HostRuntime) -> Result<(), Fail> {
+    let alloc = rt.alloc();
+    let required = b"[filter \"f\"]\nrequired = true\n";
+    let row = plain(b"a");
+    let shown = "no-process - - - - - - a\nskipped-lines 0\nstatus 0\n";
+    check_plan(&rt, alloc, required, b"a filter=f\n", row, shown)?;
+    let rows = [row];
+    let mut case = checkout(&rows, "failed - - no-process a\ndone 0 0 1 0\nstatus 1\n");
+    case.config = Some(required);
+    case.info = Some(b"a filter=f\n");
     check(&rt, alloc, &case)?;
-    case.config = None;
-    case.info = Some(b"#\n");
+    case.config = Some(b"[filter \"f\"]\nrequired = false\n");
+    case.wanted = "written - - - a\ndone 1 0 0 0\nstatus 0\na: hi\n";
+    check(&rt, alloc, &case)?;
+    // a driver in use isn't built yet
+    case.config = Some(b"[filter \"f\"]\nprocess = x\n");
+    case.wanted = "refused unbuilt\nstatus 3\n";
     check(&rt, alloc, &case)
+}
+
+#[test]
+fn seventeen_drivers_are_too_many(rt: HostRuntime) -> Result<(), Fail> {
+    let rows = [
+        plain(b"a"),
+        plain(b"b"),
+        plain(b"c"),
+        plain(b"d"),
+        plain(b"e"),
+        plain(b"f"),
+        plain(b"g"),
+        plain(b"h"),
+        plain(b"i"),
+        plain(b"j"),
+        plain(b"k"),
+        plain(b"l"),
+        plain(b"m"),
+        plain(b"n"),
+        plain(b"o"),
+        plain(b"p"),
+        plain(b"q"),
+    ];
+    let mut case = checkout(&rows, "refused drivers 17\nstatus 3\n");
+    case.config = Some(
+        b"[filter \"a\"]\nprocess = x\n[filter \"b\"]\nprocess = x\n[filter \"c\"]\nprocess = x\n[filter \"d\"]\nprocess = x\n[filter \"e\"]\nprocess = x\n[filter \"f\"]\nprocess = x\n[filter \"g\"]\nprocess = x\n[filter \"h\"]\nprocess = x\n[filter \"i\"]\nprocess = x\n[filter \"j\"]\nprocess = x\n[filter \"k\"]\nprocess = x\n[filter \"l\"]\nprocess = x\n[filter \"m\"]\nprocess = x\n[filter \"n\"]\nprocess = x\n[filter \"o\"]\nprocess = x\n[filter \"p\"]\nprocess = x\n[filter \"q\"]\nprocess = x\n",
+    );
+    case.info = Some(
+        b"a filter=a\nb filter=b\nc filter=c\nd filter=d\ne filter=e\nf filter=f\ng filter=g\nh filter=h\ni filter=i\nj filter=j\nk filter=k\nl filter=l\nm filter=m\nn filter=n\no filter=o\np filter=p\nq filter=q\n",
+    );
+    check(&rt, rt.alloc(), &case)
 }
 
 #[test]
