@@ -50,6 +50,7 @@ impl FileLeaf {
     fn fail(&mut self, state: LeafState)
         ensures path { self.new.path ≡ self.old.path }
         ensures again { self.new.again ≡ self.old.again }
+        ensures made { self.new.made ≡ self.old.made }
         ensures state { self.new.state ≡ state }
         ensures faults { Rose self.old.faults self.new.faults }
     {

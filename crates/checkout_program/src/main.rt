@@ -1,5 +1,9 @@
-//! Checks out the index of a Git folder with uncompressed objects into an empty folder.
+//! Checks out the index of a Git folder with uncompressed objects into an empty folder, by its configuration and its
+//! attributes, or shows the plan of that.
 #![tactic(auto)]
+
+ghost use Rattle.std.specs.Prelude.{◌≡◌, IfOk, option_map, string_bytes};
+ghost use Rattle.checkout_program.specs.Words.{word_at, message_of};
 
 mod file_leaf;
 mod folder_repo;
@@ -29,7 +33,9 @@ fn words_of(rt: HostRuntime) -> Result<Vec<String>, AllocError> {
 }
 
 /// The word with that number, or the empty text for one that is missing.
-fn word_at(rt: HostRuntime, words: &[String], number: usize) -> Result<String, AllocError> {
+fn word_at(rt: HostRuntime, words: &[String], number: usize) -> Result<String, AllocError>
+    ensures { IfOk result (λ word. string_bytes word ≡ word_at words.now number) }
+{
     match words.get(number) {
         Some(word) => word.clone(),
         None => Ok(String::new(rt.alloc())),
@@ -37,7 +43,9 @@ fn word_at(rt: HostRuntime, words: &[String], number: usize) -> Result<String, A
 }
 
 /// What a status says on standard error.
-fn message_of(status: u8) -> Option<&'static str> {
+fn message_of(status: u8) -> Option<&'static str>
+    ensures { option_map (λ text. text.now) result ≡ message_of status }
+{
     match status {
         2 => Some("usage: REPO TREE checkout|plan|rehearse"),
         4 => Some("output not written"),

@@ -1,0 +1,18 @@
+-- The program's words, and what it says of a status.
+use Rattle.std.specs.Prelude.{ℕ, ◌==◌, if◌then◌else◌, List, [], codes, slice_get, map, Option, Some, None, string_bytes, String}
+use Rattle.std.specs.Option.{unwrap_or}
+use Rattle.std.specs.declared.alloc.Global.{Global}
+
+-- the word with that number, or the empty text for one that is missing
+abbrev pub word_at : List (String Global) → ℕ → List ℕ
+word_at words number = unwrap_or (slice_get (map string_bytes words) number) []
+
+-- what a status says on standard error
+abbrev pub message_of : ℕ → Option (List ℕ)
+message_of status =
+    if status == 2 then Some (codes "usage: REPO TREE checkout|plan|rehearse")
+    else if status == 4 then Some (codes "output not written")
+    else if status == 5 then Some (codes "out of memory")
+    else if status == 6 then Some (codes "read fault")
+    else if status == 7 then Some (codes "worktree not empty")
+    else None
