@@ -1,5 +1,6 @@
 -- What a line of the table asks for, and its answer.
-use Rattle.std.specs.Prelude.{◌≡◌, ℕ, Result, Ok, List, [], ◌∷◌, ◌++◌, codes, Option, Some, None, if◌then◌else◌}
+use Rattle.std.specs.Prelude.{◌≡◌, ℕ, Result, Ok, List, [], ◌∷◌, ◌++◌, codes, ◌==◌, Bool, Option, Some, None, if◌then◌else◌}
+use Rattle.std.specs.List.{before_first, after_first}
 use Rattle.std.specs.Str.{bytes_eq}
 use Rattle.hex.specs.Hex.{encode_lower, decode_of}
 use Rattle.hex.specs.declared.error.FromHexError.{FromHexError}
@@ -12,6 +13,7 @@ use Rattle.tree_encoding.specs.Encode.{encoded}
 use Rattle.tree_encoding.specs.Named.{encoding_of}
 use Rattle.list_conversions.specs.declared.task.Kind.{Kind}
 use Rattle.list_conversions.specs.declared.task.Kind.TheVariants.{Ends, Ident, Encoded}
+use Rattle.list_conversions.specs.declared.task.Task.{Task}
 
 -- the line ends of a kind
 abbrev pub ends_named : List ℕ → Option LineEnds
@@ -30,6 +32,15 @@ IsKind word behind (Encoded encoding) = encoding_of (Value word) ≡ Ok (Some en
 -- bytes in hex, or `-` for none
 abbrev pub read_bytes : List ℕ → Result (List ℕ) FromHexError
 read_bytes word = if bytes_eq word (codes "-") then Ok [] else decode_of word
+
+abbrev pub is_space : ℕ → Bool
+is_space b = b == 32
+
+-- a line's task: the word of its kind, the content, and what the kind needs, with a space between each two
+abbrev pub IsTask : List ℕ → Task → Type 0
+IsTask line task =
+    IsKind (before_first is_space line) (after_first is_space (after_first is_space line)) task.kind
+    × (read_bytes (before_first is_space (after_first is_space line)) ≡ Ok task.content.items)
 
 -- a content as the worktree has it
 abbrev pub converted : Kind → List ℕ → List ℕ

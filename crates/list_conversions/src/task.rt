@@ -1,7 +1,8 @@
-ghost use Rattle.std.specs.Prelude.{◌≡◌, IfOk, Ok, Some};
+ghost use Rattle.std.specs.Prelude.{◌≡◌, ◌≤◌, length, IfOk, IfSome, Ok, Some};
+ghost use Rattle.std.specs.List.{position, position_or_len, before_first, after_first};
 ghost use Rattle.hex.specs.Hex.{decode_of};
 ghost use Rattle.tree_encoding.specs.Named.{encoding_of};
-ghost use Rattle.list_conversions.specs.Task.{ends_named, IsKind, read_bytes, converted};
+ghost use Rattle.list_conversions.specs.Task.{ends_named, IsKind, read_bytes, is_space, IsTask, converted};
 
 use anyhow::{Context, bail};
 use attr_line::AttrState;
@@ -84,12 +85,43 @@ fn read_bytes(alloc: Global, word: &[u8]) -> Result<Vec<u8>, anyhow::Error>
     }
 }
 
+fn first_space(line: &[u8]) -> Option<usize>
+    ensures value { result ≡ position is_space line.now }
+    ensures within { IfSome result (λ n. n ≤ length line.now) }
+{
+    line.iter().position(|byte| *byte == b' ')
+}
+
+/// How many bytes stand before the first space.
+#[tactic(auto, using(crate::proofs::Words::len_from_position))]
+fn word_len(line: &[u8]) -> usize
+    ensures value { result ≡ position_or_len is_space line.now }
+    ensures within { result ≤ length line.now }
+{
+    first_space(line).unwrap_or(line.len())
+}
+
+/// What stands before the first space, and what behind it.
+fn cut_word(line: &[u8]) -> (&[u8], &[u8])
+    ensures before { result.0.now ≡ before_first is_space line.now }
+    ensures behind { result.1.now ≡ after_first is_space line.now }
+{
+    let len = word_len(line);
+    let (word, _) = line.split_at(len);
+    if len == line.len() {
+        return (word, &[]);
+    }
+    let (_, behind) = line.split_at(len + 1);
+    (word, behind)
+}
+
 /// What a line asks for.
-pub fn read_task(alloc: Global, line: &[u8]) -> Result<Task, anyhow::Error> {
-    let mut words = line.split(|byte| *byte == b' ');
-    let kind = words.next().context("no kind")?;
-    let content = words.next().context("no content")?;
-    let kind = read_kind(alloc, kind, words.next().unwrap_or(&[]))?;
+pub fn read_task(alloc: Global, line: &[u8]) -> Result<Task, anyhow::Error>
+    ensures { IfOk result (IsTask line.now) }
+{
+    let (kind, rest) = cut_word(line);
+    let (content, behind) = cut_word(rest);
+    let kind = read_kind(alloc, kind, behind)?;
     let content = read_bytes(alloc, content)?;
     Ok(Task { kind, content })
 }
