@@ -1,12 +1,13 @@
 //! Whether a content looks like a text.
-ghost use Rattle.std.specs.Prelude.{◌≡◌, ◌≤◌, length, count_by, false};
+ghost use Rattle.std.specs.Prelude.{◌≡◌, ◌≤◌, ◌↔◌, IsTrue, length, count_by, false};
 ghost use Rattle.std.specs.List.{list_any};
+ghost use Rattle.eol_convert.specs.Looks.{is_unusual};
 ghost use Rattle.eol_convert.specs.Content.{is_printing, is_non_printing, forbids_change, non_printing, is_lf_text};
 
 use memchr::memchr2;
 
-/// Sums over so many bytes fit a `u8`, so that a sum is of many bytes side by side.
-const CHUNK: usize = 240;
+/// Sums over so many bytes fit a `u8`, so that a sum is of many bytes side by side. It is a multiple of 32.
+const CHUNK: usize = 224;
 
 /// A kind of bytes.
 trait Kind {
@@ -25,6 +26,9 @@ struct Printing;
 /// Any other byte but LF.
 struct NonPrinting;
 
+/// What few texts have: a byte below the space but TAB and LF, or DEL. CR, NUL and all that isn't printing are among them.
+struct Unusual;
+
 impl Kind for Printing {
     ghost use Rattle.eol_convert.specs.Content.{is_printing};
 
@@ -42,6 +46,16 @@ impl Kind for NonPrinting {
 
     fn has(byte: u8) -> bool {
         !(Printing::has(byte) | (byte == b'\n'))
+    }
+}
+
+impl Kind for Unusual {
+    ghost use Rattle.eol_convert.specs.Looks.{is_unusual};
+
+    ghost has = { is_unusual };
+
+    fn has(byte: u8) -> bool {
+        ((byte < 32) & (byte != b'\t') & (byte != b'\n')) | (byte == 127)
     }
 }
 
@@ -66,6 +80,21 @@ fn count_of<K: Kind>(content: &[u8]) -> usize
     count
 }
 
+/// Whether no byte is of a kind.
+fn has_none<K: Kind>(content: &[u8]) -> bool
+    ensures { IsTrue result ↔ (count_by K.has content.now ≡ 0) }
+{
+    let mut rest = content;
+    'chunks: while !rest.is_empty() {
+        let (chunk, behind) = rest.split_at(rest.len().min(CHUNK));
+        if count_in::<K>(chunk) != 0 {
+            return false;
+        }
+        rest = behind;
+    }
+    true
+}
+
 /// Whether CR or NUL stands there.
 fn forbids_change(content: &[u8]) -> bool
     ensures { result ≡ list_any forbids_change content.now }
@@ -86,10 +115,9 @@ fn non_printing(content: &[u8]) -> usize
 pub fn is_lf_text(content: &[u8]) -> bool
     ensures { result ≡ is_lf_text content.now }
 {
-    if forbids_change(content) {
-        return false;
+    // Most texts have none, and need no second look.
+    if has_none::<Unusual>(content) {
+        return true;
     }
-    let non_printing = non_printing(content);
-    // Most texts have none, and need no second count.
-    non_printing == 0 || non_printing <= count_of::<Printing>(content) / 128
+    !forbids_change(content) && non_printing(content) <= count_of::<Printing>(content) / 128
 }
