@@ -4,21 +4,13 @@ ghost use Rattle.std.specs.List.{list_any};
 ghost use Rattle.eol_convert.specs.Looks.{is_unusual};
 ghost use Rattle.eol_convert.specs.Content.{is_printing, is_non_printing, forbids_change, non_printing, is_lf_text};
 
+use byte_path::ByteKind;
 use memchr::memchr2;
 
 /// Sums over so many bytes fit a `u8`, so that a sum is of many bytes side by side. It is a multiple of 32.
 const CHUNK: usize = 224;
 
-/// A kind of bytes.
-trait Kind {
-    ghost use Rattle.std.specs.Prelude.{ℕ, Bool};
-
-    ghost has: { ℕ → Bool };
-
-    /// Without branches, so that many bytes are tested at once.
-    fn has(byte: u8) -> bool
-        ensures { result ≡ has byte };
-}
+// Their tests have no branches, so that many bytes are tested at once.
 
 /// BS, TAB, FF, ESC, and all from the space on but DEL.
 struct Printing;
@@ -29,7 +21,7 @@ struct NonPrinting;
 /// What few texts have: a byte below the space but TAB and LF, or DEL. CR, NUL and all that isn't printing are among them.
 struct Unusual;
 
-impl Kind for Printing {
+impl ByteKind for Printing {
     ghost use Rattle.eol_convert.specs.Content.{is_printing};
 
     ghost has = { is_printing };
@@ -39,7 +31,7 @@ impl Kind for Printing {
     }
 }
 
-impl Kind for NonPrinting {
+impl ByteKind for NonPrinting {
     ghost use Rattle.eol_convert.specs.Content.{is_non_printing};
 
     ghost has = { is_non_printing };
@@ -49,7 +41,7 @@ impl Kind for NonPrinting {
     }
 }
 
-impl Kind for Unusual {
+impl ByteKind for Unusual {
     ghost use Rattle.eol_convert.specs.Looks.{is_unusual};
 
     ghost has = { is_unusual };
@@ -59,7 +51,7 @@ impl Kind for Unusual {
     }
 }
 
-fn count_in<K: Kind>(chunk: &[u8]) -> u8
+fn count_in<K: ByteKind>(chunk: &[u8]) -> u8
     requires { length chunk.now ≤ CHUNK }
     ensures { result ≡ count_by K.has chunk.now }
 {
@@ -67,7 +59,7 @@ fn count_in<K: Kind>(chunk: &[u8]) -> u8
 }
 
 /// How many bytes are of a kind.
-fn count_of<K: Kind>(content: &[u8]) -> usize
+fn count_of<K: ByteKind>(content: &[u8]) -> usize
     ensures { result ≡ count_by K.has content.now }
 {
     let mut count = 0;
@@ -81,7 +73,7 @@ fn count_of<K: Kind>(content: &[u8]) -> usize
 }
 
 /// Whether no byte is of a kind.
-fn has_none<K: Kind>(content: &[u8]) -> bool
+fn has_none<K: ByteKind>(content: &[u8]) -> bool
     ensures { IsTrue result ↔ (count_by K.has content.now ≡ 0) }
 {
     let mut rest = content;
