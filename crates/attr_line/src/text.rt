@@ -9,8 +9,8 @@ use memchr::memchr;
 /// A space, TAB or CR.
 pub struct Gap;
 
-/// Any other byte.
-struct NoGap;
+/// Each byte but these.
+struct EndsGaps;
 
 impl ByteKind for Gap {
     ghost use Rattle.attr_line.specs.Text.{is_gap};
@@ -22,7 +22,7 @@ impl ByteKind for Gap {
     }
 }
 
-impl ByteKind for NoGap {
+impl ByteKind for EndsGaps {
     ghost use Rattle.attr_line.specs.Text.{ends_gaps};
 
     ghost has = { ends_gaps };
@@ -37,7 +37,7 @@ pub fn behind_gaps(text: &[u8]) -> &[u8]
     ensures value { result.now ≡ behind_gaps text.now }
     ensures within { length result.now ≤ length text.now }
 {
-    from_first::<NoGap>(text)
+    from_first::<EndsGaps>(text)
 }
 
 /// The first word, and what stands behind it.

@@ -86,10 +86,7 @@ fn line_len(text: &[u8]) -> usize
     ensures within { result ≤ length text.now }
 {
     // Comments are long, and their bytes needn't be looked at one by one.
-    match memchr(b'\n', text) {
-        Some(place) => place,
-        None => text.len(),
-    }
+    memchr(b'\n', text).unwrap_or(text.len())
 }
 
 /// What stands behind the blanks at the front.

@@ -1,9 +1,9 @@
-use Rattle.std.proofs.Common.{sym}
-use Rattle.git_config.proofs.LineEnds.{line_end_found, no_line_end}
+use Rattle.std.proofs.Common.{◌∙◌}
+use Rattle.git_config.proofs.LineEnds.{line_end_is, line_end-within}
 use Rattle.git_config.proofs.text.line_len.Goals as goal
 
-pub returns-in-Some-clause-value : goal.returns-in-Some-clause-value
-returns-in-Some-clause-value c = sym (line_end_found c.args.text.now c.in-Some.place c.in-Some.ensures)
+pub returns-clause-value : goal.returns-clause-value
+returns-clause-value c = c.unwrap_or.ensures ∙ line_end_is c.args.text.now c.memchr.result c.memchr.ensures
 
-pub returns-in-None-clause-value : goal.returns-in-None-clause-value
-returns-in-None-clause-value c = sym (no_line_end c.args.text.now c.in-None.ensures)
+pub returns-clause-within : goal.returns-clause-within
+returns-clause-within c = rw c.unwrap_or.ensures (line_end-within c.args.text.now c.memchr.result c.memchr.ensures)
