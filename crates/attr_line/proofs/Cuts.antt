@@ -8,7 +8,8 @@ use Rattle.std.proofs.lemmas.List.Splits.{slice_split_none, slice_split_first, s
 use Rattle.std.specs.List.{filter, slice_split, position_or_len}
 use Rattle.std.specs.Str.Lines.{lines, lines_of_parts, strip_carriage_return}
 use Rattle.memchr.specs.Find.{is_byte, IsFirstByte}
-use Rattle.attr_line.specs.Text.{is_gap, ends_gaps, begins, behind_gaps, words}
+use Rattle.byte_path.specs.Front.{begins}
+use Rattle.attr_line.specs.Text.{is_gap, ends_gaps, behind_gaps, words}
 
 -- ---- words
 

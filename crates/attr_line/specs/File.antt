@@ -2,13 +2,13 @@
 use Rattle.std.specs.Prelude.{ℕ, Bool, true, false, List, map, count_by, min, Option, Some, None}
 use Rattle.std.specs.List.{filter_map}
 use Rattle.std.specs.Str.Lines.{lines}
+use Rattle.byte_path.specs.Front.{unmarked}
 use Rattle.attr_line.specs.declared.file.AttrRow.{AttrRow}
 use Rattle.attr_line.specs.declared.file.Skipped.{Skipped}
 use Rattle.attr_line.specs.declared.file.AttrFile.{AttrFile}
 use Rattle.attr_line.specs.declared.outcome.Outcome.{Outcome}
 use Rattle.attr_line.specs.declared.outcome.Outcome.TheVariants.{Nothing, Row, Skip}
 use Rattle.attr_line.specs.declared.outcome.LineFault.TheVariants.{Long, Negative, Name, Place}
-use Rattle.attr_line.specs.Text.{unmarked}
 use Rattle.attr_line.specs.Line.{line_outcome}
 
 -- A line ends at LF or at the end of the file. One CR right before the LF goes with it.

@@ -2,6 +2,7 @@
 use Rattle.std.specs.Prelude.{ℕ, Bool, true, false, ◌&&◌, ◌||◌, ◌==◌, nat_eq, nat_lt, nat_le, not, List, length, take, drop, codes, Option, Some, None, Result, Ok, Err, if◌then◌else◌}
 use Rattle.std.specs.List.{starts_with, position_or_len}
 use Rattle.byte_path.specs.declared.unquoting.QuoteFault.{QuoteFault}
+use Rattle.byte_path.specs.Front.{begins}
 use Rattle.byte_path.specs.Unquote.{unquoted}
 use Rattle.attr_line.specs.declared.file.Pair.{Pair}
 use Rattle.attr_line.specs.declared.file.AttrRow.{AttrRow}
@@ -9,7 +10,7 @@ use Rattle.attr_line.specs.declared.file.AttrRow.TheVariants.{Rule, Macro}
 use Rattle.attr_line.specs.declared.outcome.Outcome.{Outcome}
 use Rattle.attr_line.specs.declared.outcome.Outcome.TheVariants.{Nothing, Row, Skip}
 use Rattle.attr_line.specs.declared.outcome.LineFault.TheVariants.{Long, Negative, Name, Place}
-use Rattle.attr_line.specs.Text.{is_gap, begins, behind_gaps}
+use Rattle.attr_line.specs.Text.{is_gap, behind_gaps}
 use Rattle.attr_line.specs.Pairs.{is_bang, is_name, pairs_at}
 
 abbrev pub is_quote : ℕ → Bool

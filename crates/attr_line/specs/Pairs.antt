@@ -2,10 +2,11 @@
 use Rattle.std.specs.Prelude.{ℕ, Bool, ◌&&◌, ◌||◌, ◌==◌, nat_lt, not, List, length, drop, map, Option, Some, None, if◌then◌else◌}
 use Rattle.std.specs.List.{list_any, list_all, before_first, after_first}
 use Rattle.std.specs.Char.{is_ascii_alphanumeric}
+use Rattle.byte_path.specs.Front.{begins}
 use Rattle.attr_line.specs.declared.state.AttrState.{AttrState}
 use Rattle.attr_line.specs.declared.state.AttrState.TheVariants.{Set, Unset, Unspecified, Value}
 use Rattle.attr_line.specs.declared.file.Pair.{Pair}
-use Rattle.attr_line.specs.Text.{begins, words}
+use Rattle.attr_line.specs.Text.{words}
 
 abbrev pub is_minus : ℕ → Bool
 is_minus b = b == 45

@@ -1,20 +1,10 @@
 -- The bytes of an attribute file, and how they are cut into lines and words.
-use Rattle.std.specs.Prelude.{ℕ, Bool, false, ◌||◌, ◌==◌, nat_lt, not, List, [], ◌∷◌, length, take, drop, filter, if◌then◌else◌}
+use Rattle.std.specs.Prelude.{ℕ, Bool, ◌||◌, ◌==◌, nat_lt, not, List, length, drop, filter}
 use Rattle.std.specs.List.{slice_split, position_or_len}
-use Rattle.std.specs.Str.{bytes_eq}
 
 -- what stands between two words: a space, TAB or CR
 abbrev pub is_gap : ℕ → Bool
 is_gap b = b == 32 || b == 9 || b == 13
-
--- whether a text begins with a byte that passes a test
-abbrev pub begins : (ℕ → Bool) → List ℕ → Bool
-begins test [] = false
-begins test (b ∷ text) = test b
-
--- a byte order mark of UTF-8 at the start is passed over
-abbrev pub unmarked : List ℕ → List ℕ
-unmarked file = if bytes_eq (take 3 file) (0xEF ∷ 0xBB ∷ 0xBF ∷ []) then drop 3 file else file
 
 abbrev pub ends_gaps : ℕ → Bool
 ends_gaps b = not (is_gap b)

@@ -1,14 +1,13 @@
 //! One line.
-ghost use Rattle.std.specs.Prelude.{◌≡◌, ◌≤◌, IfOk, length, drop};
-ghost use Rattle.attr_line.specs.Text.{begins};
+ghost use Rattle.std.specs.Prelude.{◌≡◌, IfOk};
 ghost use Rattle.attr_line.specs.Line.{plain_head, head_at, is_macro, macro_outcome, rule_outcome, text_outcome, line_outcome};
 ghost use Rattle.attr_line.specs.Seen.{head_of};
 
 use crate::file::AttrRow;
 use crate::outcome::{LineFault, Outcome};
 use crate::pairs::{is_name, pairs_of};
-use crate::text::{behind_gaps, word_len};
-use byte_path::{Bytes, QuoteFault, unquote};
+use crate::text::{Gap, behind_gaps};
+use byte_path::{Bytes, QuoteFault, len_to, unquote};
 use std::alloc::{AllocError, Global};
 
 /// The shortest line that is too long, in bytes without its end.
@@ -31,7 +30,7 @@ struct Front<'a> {
 fn plain_front<'a>(alloc: Global, text: &'a [u8]) -> Result<Front<'a>, AllocError>
     ensures { IfOk result (λ x. head_of x ≡ plain_head text.now) }
 {
-    let (pattern, rest) = text.split_at(word_len(text));
+    let (pattern, rest) = text.split_at(len_to::<Gap>(text));
     Ok(Front {
         pattern: Bytes::copy_of(alloc, pattern)?,
         quoted: false,

@@ -1,13 +1,12 @@
 //! What a line says of attributes.
-ghost use Rattle.std.specs.Prelude.{◌≡◌, ◌≤◌, [], ◌∷◌, ◌++◌, IfOk, IfSome, length, if◌then◌else◌, Some, None, option_map};
-ghost use Rattle.std.specs.List.{list_any, list_all, position, position_or_len, before_first, after_first};
-ghost use Rattle.attr_line.specs.Text.{begins};
-ghost use Rattle.attr_line.specs.Pairs.{is_minus, is_bang, is_equals, is_name_byte, is_name, value_or_set, pair_at, has_name, pairs_at};
+ghost use Rattle.std.specs.Prelude.{◌≡◌, [], ◌∷◌, ◌++◌, IfOk, if◌then◌else◌, Some, None};
+ghost use Rattle.std.specs.List.{list_all, before_first};
+ghost use Rattle.attr_line.specs.Pairs.{is_equals, is_name_byte, is_name, value_or_set, pair_at, has_name, pairs_at};
 
 use crate::file::Pair;
 use crate::state::AttrState;
 use crate::text::next_word;
-use byte_path::{Bytes, Items};
+use byte_path::{ByteKind, Bytes, Items, len_to};
 use std::alloc::{AllocError, Global};
 
 fn is_name_byte(byte: u8) -> bool
@@ -29,27 +28,24 @@ pub fn is_name(name: &[u8]) -> bool
     !name.is_empty() && name.first() != Some(&b'-') && has_name_bytes(name)
 }
 
-fn first_equals(word: &[u8]) -> Option<usize>
-    ensures value { result ≡ position is_equals word.now }
-    ensures within { IfSome result (λ n. n ≤ length word.now) }
-{
-    word.iter().position(|b| *b == b'=')
-}
+/// `=`.
+struct Equals;
 
-/// How many bytes stand before the first `=`.
-#[tactic(auto, using(crate::proofs::Places::len_from_position))]
-fn equals_place(word: &[u8]) -> usize
-    ensures value { result ≡ position_or_len is_equals word.now }
-    ensures within { result ≤ length word.now }
-{
-    first_equals(word).unwrap_or(word.len())
+impl ByteKind for Equals {
+    ghost use Rattle.attr_line.specs.Pairs.{is_equals};
+
+    ghost has = { is_equals };
+
+    fn has(byte: u8) -> bool {
+        byte == b'='
+    }
 }
 
 /// What stands before the first `=`.
 fn before_equals(word: &[u8]) -> &[u8]
     ensures { result.now ≡ before_first is_equals word.now }
 {
-    let (name, _) = word.split_at(equals_place(word));
+    let (name, _) = word.split_at(len_to::<Equals>(word));
     name
 }
 
@@ -58,7 +54,7 @@ fn before_equals(word: &[u8]) -> &[u8]
 fn value_or_set(alloc: Global, word: &[u8]) -> Result<AttrState, AllocError>
     ensures { IfOk result (λ s. s ≡ value_or_set word.now) }
 {
-    let place = equals_place(word);
+    let place = len_to::<Equals>(word);
     if place == word.len() {
         return Ok(AttrState::Set);
     }

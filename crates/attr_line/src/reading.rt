@@ -5,8 +5,8 @@ ghost use Rattle.attr_line.specs.Seen.{with_fault, with_outcome};
 use crate::file::{AttrFile, AttrRow, Skipped};
 use crate::line::line_of;
 use crate::outcome::{LineFault, Outcome};
-use crate::text::{next_line, unmarked};
-use byte_path::Items;
+use crate::text::next_line;
+use byte_path::{Items, unmarked};
 use std::alloc::{AllocError, Global};
 
 /// What was read of a file.

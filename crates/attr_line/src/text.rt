@@ -1,48 +1,35 @@
 //! The bytes of a file by their kinds, and its lines and words.
 ghost use Rattle.std.specs.Prelude.{◌≡◌, ◌<◌, ◌≤◌, ◌∷◌, [], length, IfSome, MatchOption};
-ghost use Rattle.std.specs.List.{position, position_or_len};
 ghost use Rattle.std.specs.Str.Lines.{lines, strip_carriage_return};
-ghost use Rattle.attr_line.specs.Text.{is_gap, ends_gaps, begins, unmarked, behind_gaps, words};
+ghost use Rattle.attr_line.specs.Text.{behind_gaps, words};
 
+use byte_path::{ByteKind, from_first, len_to};
 use memchr::memchr;
 
 /// A space, TAB or CR.
-fn is_gap(byte: u8) -> bool
-    ensures { result ≡ is_gap byte }
-{
-    byte == b' ' || byte == b'\t' || byte == b'\r'
+pub struct Gap;
+
+/// Each byte but these.
+struct EndsGaps;
+
+impl ByteKind for Gap {
+    ghost use Rattle.attr_line.specs.Text.{is_gap};
+
+    ghost has = { is_gap };
+
+    fn has(byte: u8) -> bool {
+        byte == b' ' || byte == b'\t' || byte == b'\r'
+    }
 }
 
-fn first_gap(text: &[u8]) -> Option<usize>
-    ensures value { result ≡ position is_gap text.now }
-    ensures within { IfSome result (λ n. n ≤ length text.now) }
-{
-    text.iter().position(|b| is_gap(*b))
-}
+impl ByteKind for EndsGaps {
+    ghost use Rattle.attr_line.specs.Text.{ends_gaps};
 
-/// How many bytes stand before the first blank or CR.
-#[tactic(auto, using(crate::proofs::Places::len_from_position))]
-pub fn word_len(text: &[u8]) -> usize
-    ensures value { result ≡ position_or_len is_gap text.now }
-    ensures within { result ≤ length text.now }
-{
-    first_gap(text).unwrap_or(text.len())
-}
+    ghost has = { ends_gaps };
 
-fn first_of_word(text: &[u8]) -> Option<usize>
-    ensures value { result ≡ position ends_gaps text.now }
-    ensures within { IfSome result (λ n. n ≤ length text.now) }
-{
-    text.iter().position(|b| !is_gap(*b))
-}
-
-/// How many blanks and CR stand at the front.
-#[tactic(auto, using(crate::proofs::Places::len_from_position))]
-fn gaps_len(text: &[u8]) -> usize
-    ensures value { result ≡ position_or_len ends_gaps text.now }
-    ensures within { result ≤ length text.now }
-{
-    first_of_word(text).unwrap_or(text.len())
+    fn has(byte: u8) -> bool {
+        !Gap::has(byte)
+    }
 }
 
 /// What stands behind the blanks and CR at the front.
@@ -50,8 +37,7 @@ pub fn behind_gaps(text: &[u8]) -> &[u8]
     ensures value { result.now ≡ behind_gaps text.now }
     ensures within { length result.now ≤ length text.now }
 {
-    let (_, rest) = text.split_at(gaps_len(text));
-    rest
+    from_first::<EndsGaps>(text)
 }
 
 /// The first word, and what stands behind it.
@@ -63,18 +49,7 @@ pub fn next_word(text: &[u8]) -> Option<(&[u8], &[u8])>
     if text.is_empty() {
         return None;
     }
-    Some(text.split_at(word_len(text)))
-}
-
-/// What stands behind a byte order mark, if there is one.
-pub fn unmarked(file: &[u8]) -> &[u8]
-    ensures { result.now ≡ unmarked file.now }
-{
-    if !file.starts_with(b"\xEF\xBB\xBF") {
-        return file;
-    }
-    let (_, text) = file.split_at(3);
-    text
+    Some(text.split_at(len_to::<Gap>(text)))
 }
 
 /// A line without the CR at its end, if there is one.

@@ -132,3 +132,47 @@ fn quoted_texts_have_their_first_fault(rt: HostRuntime) {
         );
     }
 }
+
+/// Spaces and TABs.
+struct Blank;
+
+impl ByteKind for Blank {
+    ghost use Rattle.std.specs.Prelude.{◌||◌, ◌==◌};
+
+    ghost has = { λ b. b == 32 || b == 9 };
+
+    fn has(byte: u8) -> bool {
+        byte == b' ' || byte == b'\t'
+    }
+}
+
+#[test]
+fn texts_are_cut_at_the_first_byte_of_a_kind(rt: HostRuntime) {
+    let table: [(&[u8], usize, &[u8]); 6] = [
+        (b"ab cd ef", 2, b" cd ef"),
+        (b"a\t b", 1, b"\t b"),
+        (b" a", 0, b" a"),
+        (b"a ", 1, b" "),
+        (b"abc", 3, b""),
+        (b"", 0, b""),
+    ];
+    for (text, len, rest) in table {
+        assert!(rt; len_to::<Blank>(text) == len, "at {text:?}");
+        assert!(rt; from_first::<Blank>(text) == rest, "at {text:?}");
+    }
+}
+
+#[test]
+fn one_byte_order_mark_is_passed_over(rt: HostRuntime) {
+    let table: [(&[u8], &[u8]); 6] = [
+        (b"\xEF\xBB\xBFa", b"a"),
+        (b"\xEF\xBB\xBF", b""),
+        (b"\xEF\xBB\xBF\xEF\xBB\xBF", b"\xEF\xBB\xBF"),
+        (b"\xEF\xBBa", b"\xEF\xBBa"),
+        (b"a\xEF\xBB\xBF", b"a\xEF\xBB\xBF"),
+        (b"", b""),
+    ];
+    for (text, want) in table {
+        assert!(rt; unmarked(text) == want, "at {text:?}");
+    }
+}

@@ -8,7 +8,7 @@ use byte_path::Bytes;
 use eol_convert::{LineEnds, changes_ends, to_tree_ends};
 use ident_convert::{expand_ident, has_keyword};
 use std::alloc::{AllocError, Global};
-use tree_encoding::{Encoding, Prepared, encode_vec};
+use tree_encoding::{Encoding, Prepared, encodable_text, encode_text};
 
 /// Expands the keyword, where that is asked. A content without one is passed on.
 fn with_ident(
@@ -36,7 +36,16 @@ fn with_ends(alloc: Global, ends: LineEnds, content: Vec<u8>) -> Result<Vec<u8>,
     to_tree_ends(alloc, &content, LineEnds::ToCrlf)
 }
 
-/// Encodes the content, where an encoding is named.
+fn whole(bytes: Vec<u8>, unencoded: bool) -> Prepared
+    ensures { result ≡ record { bytes = bytes.items; unencoded = unencoded } }
+{
+    Prepared {
+        bytes: Bytes::from_vec(bytes),
+        unencoded,
+    }
+}
+
+/// Encodes the content, where an encoding is named. A content that stays is passed on.
 fn in_encoding(
     alloc: Global,
     encoding: Option<Encoding>,
@@ -44,13 +53,15 @@ fn in_encoding(
 ) -> Result<Prepared, AllocError>
     ensures { IfOk result (λ p. p ≡ in_encoding encoding content.items) }
 {
-    match encoding {
-        Some(encoding) => encode_vec(alloc, content, encoding),
-        None => Ok(Prepared {
-            bytes: Bytes::from_vec(content),
-            unencoded: false,
-        }),
+    let Some(encoding) = encoding else {
+        return Ok(whole(content, false));
+    };
+    if let Some(text) = encodable_text(&content) {
+        let text = encode_text(alloc, text, encoding)?;
+        return Ok(whole(text, false));
     }
+    let unencoded = !content.is_empty();
+    Ok(whole(content, unencoded))
 }
 
 /// A blob's content as it stands in the worktree: the keyword first, then line ends, then the encoding.

@@ -39,7 +39,7 @@ named_ending Set = None
 named_ending Unset = None
 named_ending Unspecified = None
 
--- step 2: a named line end makes a text of what isn't binary
+-- step 2: with a named line end what is automatic stays so, and all else that isn't binary is a text
 abbrev pub with_named : Option Ending → Action → Action
 with_named None asked = asked
 with_named (Some ending) action.Binary = action.Binary

@@ -1,2 +1,3 @@
 pub mod Action
 pub mod Content
+pub mod Looks

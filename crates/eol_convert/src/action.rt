@@ -70,7 +70,7 @@ fn named_ending(eol: &AttrState) -> Option<Ending>
 }
 
 impl Action {
-    /// A named line end makes a text of what isn't binary.
+    /// With a named line end what is automatic stays so, and all else that isn't binary is a text.
     fn with_named(self, named: Option<Ending>) -> Action
         ensures { result ≡ with_named named self }
     {

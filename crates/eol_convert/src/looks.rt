@@ -1,23 +1,16 @@
 //! Whether a content looks like a text.
-ghost use Rattle.std.specs.Prelude.{◌≡◌, ◌≤◌, length, count_by, false};
+ghost use Rattle.std.specs.Prelude.{◌≡◌, ◌≤◌, ◌↔◌, IsTrue, length, count_by, false};
 ghost use Rattle.std.specs.List.{list_any};
+ghost use Rattle.eol_convert.specs.Looks.{is_unusual};
 ghost use Rattle.eol_convert.specs.Content.{is_printing, is_non_printing, forbids_change, non_printing, is_lf_text};
 
+use byte_path::ByteKind;
 use memchr::memchr2;
 
-/// Sums over so many bytes fit a `u8`, so that a sum is of many bytes side by side.
-const CHUNK: usize = 240;
+/// Sums over so many bytes fit a `u8`, so that a sum is of many bytes side by side. It is a multiple of 32.
+const CHUNK: usize = 224;
 
-/// A kind of bytes.
-trait Kind {
-    ghost use Rattle.std.specs.Prelude.{ℕ, Bool};
-
-    ghost has: { ℕ → Bool };
-
-    /// Without branches, so that many bytes are tested at once.
-    fn has(byte: u8) -> bool
-        ensures { result ≡ has byte };
-}
+// Their tests have no branches, so that many bytes are tested at once.
 
 /// BS, TAB, FF, ESC, and all from the space on but DEL.
 struct Printing;
@@ -25,7 +18,10 @@ struct Printing;
 /// Any other byte but LF.
 struct NonPrinting;
 
-impl Kind for Printing {
+/// What few texts have: a byte below the space but TAB and LF, or DEL. CR, NUL and all that isn't printing are among them.
+struct Unusual;
+
+impl ByteKind for Printing {
     ghost use Rattle.eol_convert.specs.Content.{is_printing};
 
     ghost has = { is_printing };
@@ -35,7 +31,7 @@ impl Kind for Printing {
     }
 }
 
-impl Kind for NonPrinting {
+impl ByteKind for NonPrinting {
     ghost use Rattle.eol_convert.specs.Content.{is_non_printing};
 
     ghost has = { is_non_printing };
@@ -45,7 +41,17 @@ impl Kind for NonPrinting {
     }
 }
 
-fn count_in<K: Kind>(chunk: &[u8]) -> u8
+impl ByteKind for Unusual {
+    ghost use Rattle.eol_convert.specs.Looks.{is_unusual};
+
+    ghost has = { is_unusual };
+
+    fn has(byte: u8) -> bool {
+        ((byte < 32) & (byte != b'\t') & (byte != b'\n')) | (byte == 127)
+    }
+}
+
+fn count_in<K: ByteKind>(chunk: &[u8]) -> u8
     requires { length chunk.now ≤ CHUNK }
     ensures { result ≡ count_by K.has chunk.now }
 {
@@ -53,7 +59,7 @@ fn count_in<K: Kind>(chunk: &[u8]) -> u8
 }
 
 /// How many bytes are of a kind.
-fn count_of<K: Kind>(content: &[u8]) -> usize
+fn count_of<K: ByteKind>(content: &[u8]) -> usize
     ensures { result ≡ count_by K.has content.now }
 {
     let mut count = 0;
@@ -64,6 +70,21 @@ fn count_of<K: Kind>(content: &[u8]) -> usize
         rest = behind;
     }
     count
+}
+
+/// Whether no byte is of a kind.
+fn has_none<K: ByteKind>(content: &[u8]) -> bool
+    ensures { IsTrue result ↔ (count_by K.has content.now ≡ 0) }
+{
+    let mut rest = content;
+    'chunks: while !rest.is_empty() {
+        let (chunk, behind) = rest.split_at(rest.len().min(CHUNK));
+        if count_in::<K>(chunk) != 0 {
+            return false;
+        }
+        rest = behind;
+    }
+    true
 }
 
 /// Whether CR or NUL stands there.
@@ -86,10 +107,9 @@ fn non_printing(content: &[u8]) -> usize
 pub fn is_lf_text(content: &[u8]) -> bool
     ensures { result ≡ is_lf_text content.now }
 {
-    if forbids_change(content) {
-        return false;
+    // Most texts have none, and need no second look.
+    if has_none::<Unusual>(content) {
+        return true;
     }
-    let non_printing = non_printing(content);
-    // Most texts have none, and need no second count.
-    non_printing == 0 || non_printing <= count_of::<Printing>(content) / 128
+    !forbids_change(content) && non_printing(content) <= count_of::<Printing>(content) / 128
 }

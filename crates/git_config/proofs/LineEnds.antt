@@ -1,13 +1,14 @@
 -- Where a text has a CR, and where it has none.
-use Rattle.std.proofs.Common.{◌≡◌, ℕ, zero, suc, ◌+◌, ◌<◌, ◌≤◌, true, false, eqb, List, [], ◌∷◌, ◌++◌, length, get_or, take, drop, Some, None, refl, sym, ◌∙◌, ap, append_assoc, arith}
+use Rattle.std.proofs.Common.{◌≡◌, ℕ, zero, suc, ◌+◌, ◌<◌, ◌≤◌, true, false, eqb, List, [], ◌∷◌, ◌++◌, length, get_or, take, drop, Option, Some, None, refl, sym, ◌∙◌, ap, append_assoc, arith}
 use Rattle.std.proofs.Math.Seq.{drop-cons, take-suc}
 use Rattle.std.proofs.lemmas.Grind.{common_steps}
 use Rattle.std.proofs.lemmas.List.{append-nil, drop_all, take_all}
-use Rattle.std.proofs.lemmas.Bool.{lt-ltb, le-ltb}
 use Rattle.std.proofs.lemmas.List.Sums.{position_or_len_is}
-use Rattle.std.specs.List.{position, position_or_len}
+use Rattle.std.specs.List.{position_or_len}
+use Rattle.std.specs.Option.{unwrap_or}
 use Rattle.memchr.specs.Find.{is_byte, IsFirstByte}
-use Rattle.git_config.specs.Text.{is_line_end, begins, without_cr}
+use Rattle.byte_path.specs.Front.{begins}
+use Rattle.git_config.specs.Text.{is_line_end, without_cr}
 
 not_cr : (b : ℕ) → (is_byte 13 b ≡ true → ⊥) → eqb b 13 ≡ false
 not_cr b none = grind (arith, common_steps)
@@ -55,15 +56,13 @@ cr_kept text k first before =
 not_end : (b : ℕ) → (is_byte 10 b ≡ true → ⊥) → is_line_end b ≡ false
 not_end b none = grind (arith, common_steps)
 
--- where the first end of a line is
-pub line_end_found : (text : List ℕ) (k : ℕ) → IsFirstByte (is_byte 10) text (Some k) → position is_line_end text ≡ Some k
-line_end_found text k first =
-    let place : position_or_len is_line_end text ≡ k =
-    position_or_len_is is_line_end text k 0 (omega (arith, first.0.high)) (λ j less. not_end (get_or text j 0) (first.0.before j (omega arith) less)) (λ less. first.1) in
-    rw (place, lt-ltb k (length text) first.0.high) refl
+-- where the first end of a line is, or how long the text is where there is none
+pub line_end_is : (text : List ℕ) (o : Option ℕ) → IsFirstByte (is_byte 10) text o → unwrap_or o (length text) ≡ position_or_len is_line_end text
+line_end_is text (Some k) first =
+    sym (position_or_len_is is_line_end text k 0 (omega (arith, first.0.high)) (λ j less. not_end (get_or text j 0) (first.0.before j (omega arith) less)) (λ less. first.1))
+line_end_is text None none =
+    sym (position_or_len_is is_line_end text (length text) 0 (omega arith) (λ j less. not_end (get_or text j 0) (none j (omega arith) less)) (λ less. absurd (omega arith)))
 
-pub no_line_end : (text : List ℕ) → ((j : ℕ) → 0 ≤ j → j < length text → is_byte 10 (get_or text j 0) ≡ true → ⊥) → position is_line_end text ≡ None
-no_line_end text none =
-    let place : position_or_len is_line_end text ≡ length text =
-    position_or_len_is is_line_end text (length text) 0 (omega arith) (λ j less. not_end (get_or text j 0) (none j (omega arith) less)) (λ less. absurd (omega arith)) in
-    rw (place, le-ltb (length text) (length text) (omega arith)) refl
+pub line_end-within : (text : List ℕ) (o : Option ℕ) → IsFirstByte (is_byte 10) text o → unwrap_or o (length text) ≤ length text
+line_end-within text (Some k) first = omega (arith, first.0.high)
+line_end-within text None none = omega arith

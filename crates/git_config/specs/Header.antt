@@ -1,11 +1,13 @@
 -- The header of a section.
 use Rattle.std.specs.Prelude.{ℕ, ◌+◌, Bool, true, false, ◌==◌, not, nat_lt, List, [], ◌∷◌, ◌++◌, length, take, drop, map, Some, None, Result, Ok, Err, if◌then◌else◌}
+use Rattle.std.specs.List.{position_or_len}
 use Rattle.std.specs.Char.{to_ascii_lowercase}
+use Rattle.byte_path.specs.Front.{begins}
 use Rattle.git_config.specs.declared.fault.ConfigFault.{ConfigFault}
 use Rattle.git_config.specs.declared.fault.ConfigFault.TheVariants.{Line}
 use Rattle.git_config.specs.declared.fault.LineKind.TheVariants.{Section}
 use Rattle.git_config.specs.declared.setting.Head.{Head}
-use Rattle.git_config.specs.Text.{is_blank, ends_name, is_dot, len_to, begins, behind_blanks, ◌>>=◌, want}
+use Rattle.git_config.specs.Text.{is_blank, ends_name, is_dot, behind_blanks, ◌>>=◌, want}
 
 -- `"` and `]`
 abbrev pub is_quote : ℕ → Bool
@@ -25,7 +27,7 @@ dotted_at dot name = record {
 }
 
 unfoldable pub plain_head : List ℕ → Head
-plain_head name = dotted_at (len_to is_dot name) name
+plain_head name = dotted_at (position_or_len is_dot name) name
 
 -- A subsection up to its closing quote, behind the part that is read, and the text behind the quote.
 -- The flag says that a backslash stands before the text.
@@ -54,4 +56,4 @@ named_at line name text =
 
 -- a header behind its `[`, and the text behind its `]`
 unfoldable pub header_at : ℕ → List ℕ → Result (Head × List ℕ) ConfigFault
-header_at line text = named_at line (take (len_to ends_name text) text) (drop (len_to ends_name text) text)
+header_at line text = named_at line (take (position_or_len ends_name text) text) (drop (position_or_len ends_name text) text)

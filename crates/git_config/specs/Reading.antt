@@ -1,13 +1,14 @@
 -- The settings of a file, up to the first faulty line.
 use Rattle.std.specs.Prelude.{ℕ, zero, suc, ◌+◌, Bool, ◌||◌, ◌==◌, nat_le, List, [], ◌∷◌, ◌++◌, length, take, drop, Option, Some, None, Result, Ok, Err, if◌then◌else◌}
-use Rattle.std.specs.Str.{bytes_eq}
+use Rattle.std.specs.List.{position_or_len}
 use Rattle.std.specs.Char.{is_ascii_alphabetic}
+use Rattle.byte_path.specs.Front.{begins, unmarked}
 use Rattle.git_config.specs.declared.fault.ConfigFault.{ConfigFault}
 use Rattle.git_config.specs.declared.fault.ConfigFault.TheVariants.{TooLarge, Line}
 use Rattle.git_config.specs.declared.fault.LineKind.TheVariants.{Key as BadKey, NoSection}
 use Rattle.git_config.specs.declared.setting.Head.{Head}
 use Rattle.git_config.specs.declared.setting.Setting.{Setting}
-use Rattle.git_config.specs.Text.{is_blank, is_line_end, is_comment_mark, ends_key, len_to, begins, behind_blanks, line_end, without_cr, ◌>>=◌, want}
+use Rattle.git_config.specs.Text.{is_blank, is_line_end, is_comment_mark, ends_key, behind_blanks, line_end, without_cr, ◌>>=◌, want}
 use Rattle.git_config.specs.Header.{lowered, header_at}
 use Rattle.git_config.specs.Value.{value_at}
 
@@ -34,7 +35,7 @@ under_head line (Some head) key text = keyed_at line head key text
 unfoldable pub setting_at : ℕ → Option Head → List ℕ → Result (Setting × ℕ × List ℕ) ConfigFault
 setting_at line head text =
     want (begins is_ascii_alphabetic text) (Line line BadKey)
-    (under_head line head (take (len_to ends_key text) text) (behind_blanks (drop (len_to ends_key text) text)))
+    (under_head line head (take (position_or_len ends_key text) text) (behind_blanks (drop (position_or_len ends_key text) text)))
 
 -- where a reader stands: the line, the section, the settings before and the text that is left
 pub record Place : Type 0 where
@@ -72,10 +73,6 @@ step_at place (b ∷ text) = step_from place b text
 unfoldable pub settings_at : ℕ → Place → Result (List Setting) ConfigFault
 settings_at zero place = Ok place.settings
 settings_at (suc n) place = step_at place place.rest >>= λ next. settings_at n next
-
--- a byte order mark at the start is passed over
-abbrev pub unmarked : List ℕ → List ℕ
-unmarked bytes = if bytes_eq (take 3 bytes) (0xEF ∷ 0xBB ∷ 0xBF ∷ []) then drop 3 bytes else bytes
 
 unfoldable pub text_at : List ℕ → Result (List Setting) ConfigFault
 text_at text = settings_at (length text) (record { line = 1; head = None; settings = []; rest = text })

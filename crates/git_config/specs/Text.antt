@@ -1,7 +1,8 @@
 -- The bytes of a configuration file, its ends of lines, and what a reader of them answers.
-use Rattle.std.specs.Prelude.{◌≡◌, ℕ, Bool, true, false, ◌&&◌, ◌||◌, ◌==◌, not, List, [], ◌∷◌, length, drop, position, Result, Ok, Err, if◌then◌else◌}
-use Rattle.std.specs.Option.{unwrap_or}
+use Rattle.std.specs.Prelude.{◌≡◌, ℕ, Bool, true, false, ◌&&◌, ◌||◌, ◌==◌, not, List, [], ◌∷◌, drop, Result, Ok, Err, if◌then◌else◌}
+use Rattle.std.specs.List.{position_or_len}
 use Rattle.std.specs.Char.{is_ascii_alphanumeric}
+use Rattle.byte_path.specs.Front.{begins}
 use Rattle.git_config.specs.declared.fault.ConfigFault.{ConfigFault}
 use Rattle.git_config.specs.declared.fault.ConfigFault.TheVariants.{NoMemory}
 
@@ -27,11 +28,6 @@ is_name_byte b = is_key_byte b || b == 46
 abbrev pub is_dot : ℕ → Bool
 is_dot b = b == 46
 
--- whether a text begins with a byte that passes a test
-abbrev pub begins : (ℕ → Bool) → List ℕ → Bool
-begins test [] = false
-begins test (b ∷ text) = test b
-
 abbrev pub ends_blanks : ℕ → Bool
 ends_blanks b = not (is_blank b)
 
@@ -41,17 +37,13 @@ ends_key b = not (is_key_byte b)
 abbrev pub ends_name : ℕ → Bool
 ends_name b = not (is_name_byte b)
 
--- how many bytes stand before the first that passes a test, or all where none does
-abbrev pub len_to : (ℕ → Bool) → List ℕ → ℕ
-len_to test text = unwrap_or (position test text) (length text)
-
 -- what stands behind the blanks at the front
 unfoldable pub behind_blanks : List ℕ → List ℕ
-behind_blanks text = drop (len_to ends_blanks text) text
+behind_blanks text = drop (position_or_len ends_blanks text) text
 
 -- what is left from the end of the line on
 unfoldable pub line_end : List ℕ → List ℕ
-line_end text = drop (len_to is_line_end text) text
+line_end text = drop (position_or_len is_line_end text) text
 
 -- each CR right before LF is dropped
 abbrev pub without_cr : List ℕ → List ℕ

@@ -1,11 +1,12 @@
 ghost use Rattle.std.specs.Prelude.{◌≡◌};
 ghost use Rattle.git_config.specs.Text.{Gives};
-ghost use Rattle.git_config.specs.Reading.{unmarked, config_at};
+ghost use Rattle.git_config.specs.Reading.{config_at};
 
 use crate::fault::ConfigFault;
 use crate::line::settings_of;
 use crate::setting::Setting;
 use crate::text::without_cr;
+use byte_path::unmarked;
 use std::alloc::Global;
 use std::marker::Model;
 
@@ -34,17 +35,6 @@ impl Config {
     {
         &self.settings
     }
-}
-
-/// What stands behind a byte order mark, if there is one.
-fn unmarked(bytes: &[u8]) -> &[u8]
-    ensures { result.now ≡ unmarked bytes.now }
-{
-    if !bytes.starts_with(b"\xEF\xBB\xBF") {
-        return bytes;
-    }
-    let (_, text) = bytes.split_at(3);
-    text
 }
 
 /// The settings of a configuration file (git-config(1), "Syntax").

@@ -5,8 +5,8 @@ ghost use Rattle.git_config.specs.Header.{plain_head, sub_at, quoted_head_at, na
 
 use crate::fault::{ConfigFault, LineKind};
 use crate::setting::Head;
-use crate::text::{behind_blanks, dot_place, is_blank, lowered, name_len};
-use byte_path::Bytes;
+use crate::text::{Dot, EndsName, behind_blanks, is_blank, lowered};
+use byte_path::{Bytes, len_to};
 use std::alloc::Global;
 
 /// The section of a name without a subsection in quotes.
@@ -14,7 +14,7 @@ use std::alloc::Global;
 fn plain_head(alloc: Global, name: &[u8]) -> Result<Head, ConfigFault>
     ensures { Gives (λ h. h) result (Ok (plain_head name.now)) }
 {
-    let dot = dot_place(name);
+    let dot = len_to::<Dot>(name);
     let (section, _) = name.split_at(dot);
     let section = lowered(alloc, section)?;
     if dot == name.len() {
@@ -113,6 +113,6 @@ pub fn header_of(alloc: Global, line: u32, text: &[u8]) -> Result<(Head, &[u8]),
     ensures value { Gives (λ x. (x.0, x.1.now)) result (header_at line text.now) }
     ensures within { IfOk result (λ x. length x.1.now ≤ length text.now) }
 {
-    let (name, rest) = text.split_at(name_len(text));
+    let (name, rest) = text.split_at(len_to::<EndsName>(text));
     named_of(alloc, line, name, rest)
 }

@@ -9,10 +9,10 @@ use crate::fault::{ConfigFault, LineKind};
 use crate::header::header_of;
 use crate::setting::{Head, Setting};
 use crate::text::{
-    begins_line_end, behind_blanks, is_blank, is_comment_mark, key_len, line_end, lowered,
+    EndsKey, begins_line_end, behind_blanks, is_blank, is_comment_mark, line_end, lowered,
 };
 use crate::value::value_of;
-use byte_path::Bytes;
+use byte_path::{Bytes, len_to};
 use std::alloc::{AllocError, Global};
 
 /// A setting that was read.
@@ -105,7 +105,7 @@ fn found_of<'a>(
     if !first.is_ascii_alphabetic() {
         return Err(ConfigFault::Line(line, LineKind::Key));
     }
-    let (key, rest) = text.split_at(key_len(text));
+    let (key, rest) = text.split_at(len_to::<EndsKey>(text));
     match head {
         Some(head) => keyed_of(alloc, line, head, key, behind_blanks(rest)),
         None => Err(ConfigFault::Line(line, LineKind::NoSection)),

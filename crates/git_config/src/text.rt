@@ -1,10 +1,12 @@
 //! The bytes of a file by their kinds, and the ends of its lines.
-ghost use Rattle.std.specs.Prelude.{◌≡◌, ◌≤◌, ◌+◌, ◌++◌, IfOk, IfSome, Some, length, position, take, drop};
+ghost use Rattle.std.specs.Prelude.{◌≡◌, ◌≤◌, ◌+◌, ◌++◌, IfOk, Some, length, take, drop};
+ghost use Rattle.std.specs.List.{position_or_len};
 ghost use Rattle.memchr.specs.Find.{IsFirstByte, is_byte};
-ghost use Rattle.git_config.specs.Header.{lowered, is_quote, is_close};
-ghost use Rattle.git_config.specs.Text.{is_blank, is_line_end, is_comment_mark, is_key_byte, is_name_byte, is_dot, ends_blanks, ends_key, ends_name, len_to, begins, behind_blanks, line_end, without_cr};
+ghost use Rattle.byte_path.specs.Front.{begins};
+ghost use Rattle.git_config.specs.Header.{lowered};
+ghost use Rattle.git_config.specs.Text.{is_blank, is_line_end, is_comment_mark, is_key_byte, behind_blanks, line_end, without_cr};
 
-use byte_path::Bytes;
+use byte_path::{ByteKind, Bytes, from_first};
 use memchr::memchr;
 use std::alloc::{AllocError, Global};
 
@@ -26,106 +28,65 @@ fn is_key_byte(byte: u8) -> bool
     byte.is_ascii_alphanumeric() || byte == b'-'
 }
 
-fn is_name_byte(byte: u8) -> bool
-    ensures { result ≡ is_name_byte byte }
-{
-    is_key_byte(byte) || byte == b'.'
+/// Each byte that can't stand in a key.
+pub struct EndsKey;
+
+/// Each byte that can't stand in a section's name.
+pub struct EndsName;
+
+/// `.`.
+pub struct Dot;
+
+/// Each byte but a blank.
+struct EndsBlanks;
+
+impl ByteKind for EndsKey {
+    ghost use Rattle.git_config.specs.Text.{ends_key};
+
+    ghost has = { ends_key };
+
+    fn has(byte: u8) -> bool {
+        !is_key_byte(byte)
+    }
 }
 
-fn ends_key(byte: u8) -> bool
-    ensures { result ≡ ends_key byte }
-{
-    !is_key_byte(byte)
+impl ByteKind for EndsName {
+    ghost use Rattle.git_config.specs.Text.{ends_name};
+
+    ghost has = { ends_name };
+
+    fn has(byte: u8) -> bool {
+        !(is_key_byte(byte) || byte == b'.')
+    }
 }
 
-fn ends_name(byte: u8) -> bool
-    ensures { result ≡ ends_name byte }
-{
-    !is_name_byte(byte)
+impl ByteKind for Dot {
+    ghost use Rattle.git_config.specs.Text.{is_dot};
+
+    ghost has = { is_dot };
+
+    fn has(byte: u8) -> bool {
+        byte == b'.'
+    }
 }
 
-fn ends_blanks(byte: u8) -> bool
-    ensures { result ≡ ends_blanks byte }
-{
-    !is_blank(byte)
-}
+impl ByteKind for EndsBlanks {
+    ghost use Rattle.git_config.specs.Text.{ends_blanks};
 
-fn key_end(text: &[u8]) -> Option<usize>
-    ensures value { result ≡ position ends_key text.now }
-    ensures within { IfSome result (λ n. n ≤ length text.now) }
-{
-    text.iter().position(|b| ends_key(*b))
-}
+    ghost has = { ends_blanks };
 
-/// How many bytes of a key stand at the front.
-pub fn key_len(text: &[u8]) -> usize
-    ensures value { result ≡ len_to ends_key text.now }
-    ensures within { result ≤ length text.now }
-{
-    key_end(text).unwrap_or(text.len())
-}
-
-fn name_end(text: &[u8]) -> Option<usize>
-    ensures value { result ≡ position ends_name text.now }
-    ensures within { IfSome result (λ n. n ≤ length text.now) }
-{
-    text.iter().position(|b| ends_name(*b))
-}
-
-/// How many bytes of a section's name stand at the front.
-pub fn name_len(text: &[u8]) -> usize
-    ensures value { result ≡ len_to ends_name text.now }
-    ensures within { result ≤ length text.now }
-{
-    name_end(text).unwrap_or(text.len())
-}
-
-fn first_dot(name: &[u8]) -> Option<usize>
-    ensures value { result ≡ position is_dot name.now }
-    ensures within { IfSome result (λ n. n ≤ length name.now) }
-{
-    name.iter().position(|b| *b == b'.')
-}
-
-/// How many bytes stand before the first dot.
-pub fn dot_place(name: &[u8]) -> usize
-    ensures value { result ≡ len_to is_dot name.now }
-    ensures within { result ≤ length name.now }
-{
-    first_dot(name).unwrap_or(name.len())
-}
-
-fn blanks_end(text: &[u8]) -> Option<usize>
-    ensures value { result ≡ position ends_blanks text.now }
-    ensures within { IfSome result (λ n. n ≤ length text.now) }
-{
-    text.iter().position(|b| ends_blanks(*b))
-}
-
-/// How many blanks stand at the front.
-fn blanks_len(text: &[u8]) -> usize
-    ensures value { result ≡ len_to ends_blanks text.now }
-    ensures within { result ≤ length text.now }
-{
-    blanks_end(text).unwrap_or(text.len())
-}
-
-fn first_line_end(text: &[u8]) -> Option<usize>
-    ensures value { result ≡ position is_line_end text.now }
-    ensures within { IfSome result (λ n. n ≤ length text.now) }
-{
-    match memchr(b'\n', text) {
-        Some(place) => Some(place),
-        None => None,
+    fn has(byte: u8) -> bool {
+        !is_blank(byte)
     }
 }
 
 /// How many bytes the line has.
 fn line_len(text: &[u8]) -> usize
-    ensures value { result ≡ len_to is_line_end text.now }
+    ensures value { result ≡ position_or_len is_line_end text.now }
     ensures within { result ≤ length text.now }
 {
-    first_line_end(text).unwrap_or(text.len())
+    // Comments are long, and their bytes needn't be looked at one by one.
+    memchr(b'\n', text).unwrap_or(text.len())
 }
 
 /// What stands behind the blanks at the front.
@@ -134,8 +95,7 @@ pub fn behind_blanks(text: &[u8]) -> &[u8]
     ensures value { result.now ≡ behind_blanks text.now }
     ensures within { length result.now ≤ length text.now }
 {
-    let (_, rest) = text.split_at(blanks_len(text));
-    rest
+    from_first::<EndsBlanks>(text)
 }
 
 /// What is left from the end of the line on.

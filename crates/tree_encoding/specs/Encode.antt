@@ -1,5 +1,5 @@
 -- A content in an encoding other than UTF-8.
-use Rattle.std.specs.Prelude.{ℕ, ◌+◌, ◌-◌, ◌/◌, ◌%◌, Bool, true, false, nat_lt, List, [], ◌∷◌, ◌++◌, if◌then◌else◌}
+use Rattle.std.specs.Prelude.{ℕ, ◌+◌, ◌-◌, ◌/◌, ◌%◌, Bool, true, false, ◌&&◌, nat_lt, length, List, [], ◌∷◌, ◌++◌, if◌then◌else◌}
 use Rattle.std.specs.List.{flat_map}
 use Rattle.std.specs.Str.{chars, is_utf8}
 use Rattle.tree_encoding.specs.declared.encoding.Encoding.{Encoding}
@@ -55,6 +55,14 @@ mark_of Utf32Be = []
 abbrev pub text_in : Encoding → List ℕ → List ℕ
 text_in encoding [] = []
 text_in encoding (b ∷ text) = mark_of encoding ++ flat_map (bytes_of encoding) (chars (b ∷ text))
+
+-- whether an encoding makes another content of it: it is UTF-8 and not empty
+abbrev pub is_encodable : List ℕ → Bool
+is_encodable content = is_utf8 content && nat_lt 0 (length content)
+
+-- what stays: it isn't UTF-8, or there is nothing to encode
+abbrev pub kept : List ℕ → Prepared
+kept content = record { bytes = content; unencoded = nat_lt 0 (length content) }
 
 -- a content: what isn't UTF-8 stays, and the flag says so
 abbrev pub encoded_if : Bool → List ℕ → Encoding → Prepared

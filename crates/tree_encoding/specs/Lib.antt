@@ -1,4 +1,3 @@
 pub mod Named
 pub mod Encode
-pub mod Change
 pub mod Front

@@ -42,18 +42,18 @@ pub struct Big32;
 trait Order {
     ghost use Rattle.std.specs.Prelude.{◌≡◌, ℕ, List};
 
-    ghost bytes_of: { ℕ → List ℕ };
+    ghost unit_bytes: { ℕ → List ℕ };
 
-    fn bytes_of(unit: u16) -> [u8; 2]
-        ensures { result ≡ bytes_of unit };
+    fn unit_bytes(unit: u16) -> [u8; 2]
+        ensures { result ≡ unit_bytes unit };
 }
 
 impl Order for Little16 {
     ghost use Rattle.tree_encoding.specs.Encode.{little16};
 
-    ghost bytes_of = { little16 };
+    ghost unit_bytes = { little16 };
 
-    fn bytes_of(unit: u16) -> [u8; 2] {
+    fn unit_bytes(unit: u16) -> [u8; 2] {
         unit.to_le_bytes()
     }
 }
@@ -61,24 +61,24 @@ impl Order for Little16 {
 impl Order for Big16 {
     ghost use Rattle.tree_encoding.specs.Encode.{big16};
 
-    ghost bytes_of = { big16 };
+    ghost unit_bytes = { big16 };
 
-    fn bytes_of(unit: u16) -> [u8; 2] {
+    fn unit_bytes(unit: u16) -> [u8; 2] {
         unit.to_be_bytes()
     }
 }
 
 /// A character as one unit, or above FFFF as a high and a low surrogate (RFC 2781, 2.1).
 fn push_units<O: Order>(text: &mut Vec<u8>, character: char) -> Result<(), AllocError>
-    ensures { OnOk result (text.new.items ≡ text.old.items ++ flat_map O.bytes_of (units16 character)) }
+    ensures { OnOk result (text.new.items ≡ text.old.items ++ flat_map O.unit_bytes (units16 character)) }
 {
     let code = u32::from(character);
     if code < 0x1_0000 {
-        return text.extend_from_slice(&O::bytes_of(code as u16));
+        return text.extend_from_slice(&O::unit_bytes(code as u16));
     }
     let over = code - 0x1_0000;
-    text.extend_from_slice(&O::bytes_of((0xD800 + over / 0x400) as u16))?;
-    text.extend_from_slice(&O::bytes_of((0xDC00 + over % 0x400) as u16))
+    text.extend_from_slice(&O::unit_bytes((0xD800 + over / 0x400) as u16))?;
+    text.extend_from_slice(&O::unit_bytes((0xDC00 + over % 0x400) as u16))
 }
 
 impl Form for Little16 {
@@ -115,7 +115,7 @@ impl Form for Big16 {
     }
 }
 
-/// Sixteen bytes are what is built and copied at once.
+/// Appends two pieces, each as long as is built and copied at once.
 fn push_both(text: &mut Vec<u8>, first: &[u8; 16], second: &[u8; 16]) -> Result<(), AllocError>
     ensures { OnOk result (text.new.items ≡ text.old.items ++ (first.now ++ second.now)) }
 {

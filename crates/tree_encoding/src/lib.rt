@@ -11,7 +11,7 @@ mod writing;
 pub use encoding::{Encoding, UnknownEncoding};
 pub use named::encoding_of;
 pub use prepared::Prepared;
-pub use writing::{encode, encode_vec};
+pub use writing::{encodable_text, encode, encode_text};
 
 #[cfg(test)]
 mod tests;

@@ -1,8 +1,8 @@
 //! A content in an encoding.
-ghost use Rattle.std.specs.Prelude.{◌≡◌, ◌++◌, IfOk, chars};
+ghost use Rattle.std.specs.Prelude.{◌≡◌, ◌++◌, IfOk, IfSome, IfNone, false, is_some, chars};
 ghost use Rattle.std.specs.List.{flat_map};
-ghost use Rattle.tree_encoding.specs.Change.{changed_by};
-ghost use Rattle.tree_encoding.specs.Encode.{bytes_of, mark_of, encoded};
+ghost use Rattle.tree_encoding.specs.Encode.{is_encodable, text_in, kept, encoded};
+ghost use Rattle.tree_encoding.specs.declared.encoding.Encoding.{Encoding};
 
 use crate::encoding::Encoding;
 use crate::form::{Big16, Big32, Form, Little16, Little32};
@@ -26,10 +26,28 @@ fn text_in<F: Form>(alloc: Global, mark: &[u8], text: &str) -> Result<Vec<u8>, A
     Ok(out)
 }
 
-/// A text that isn't empty in an encoding.
-fn text_in_encoding(alloc: Global, text: &str, encoding: Encoding) -> Result<Vec<u8>, AllocError>
-    ensures { IfOk result (λ out. out.items ≡ mark_of encoding ++ flat_map (bytes_of encoding) (chars text.now)) }
+/// The text that a content is, where an encoding makes another content of it: where it is UTF-8 and not empty. Any other
+/// content stays, whichever encoding is asked, and the flag says whether it had anything to encode. It takes no memory.
+pub fn encodable_text(content: &[u8]) -> Option<&str>
+    ensures exact { is_some result ≡ is_encodable content.now }
+    ensures text { IfSome result (λ text. text.now ≡ content.now) }
+    ensures encoded { IfSome result (λ text. (e : Encoding) → encoded content.now e ≡ record { bytes = text_in e text.now; unencoded = false }) }
+    ensures kept { IfNone result ((e : Encoding) → encoded content.now e ≡ kept content.now) }
 {
+    match from_utf8(content) {
+        Err(_) => None,
+        Ok("") => None,
+        Ok(text) => Some(text),
+    }
+}
+
+/// A text in an encoding. An empty one stays empty.
+pub fn encode_text(alloc: Global, text: &str, encoding: Encoding) -> Result<Vec<u8>, AllocError>
+    ensures { IfOk result (λ out. out.items ≡ text_in encoding text.now) }
+{
+    if text.is_empty() {
+        return Ok(Vec::new(alloc));
+    }
     match encoding {
         Encoding::Utf16 | Encoding::Utf16LeBom => text_in::<Little16>(alloc, b"\xFF\xFE", text),
         Encoding::Utf16Le => text_in::<Little16>(alloc, b"", text),
@@ -40,58 +58,20 @@ fn text_in_encoding(alloc: Global, text: &str, encoding: Encoding) -> Result<Vec
     }
 }
 
-/// What becomes of a content.
-#[derive(Drop)]
-enum Change {
-    Stays { unencoded: bool },
-    Becomes(Vec<u8>),
-}
-
-/// What becomes of a content in an encoding. What stays isn't copied.
-fn change_of(alloc: Global, content: &[u8], encoding: Encoding) -> Result<Change, AllocError>
-    ensures { IfOk result (λ change. changed_by change content.now ≡ encoded content.now encoding) }
-{
-    match from_utf8(content) {
-        Err(_) => Ok(Change::Stays { unencoded: true }),
-        Ok("") => Ok(Change::Stays { unencoded: false }),
-        Ok(text) => Ok(Change::Becomes(text_in_encoding(alloc, text, encoding)?)),
-    }
-}
-
 /// The content of a file in the worktree in an encoding (gitattributes(5), "working-tree-encoding").
 ///
 /// An empty content stays empty. One that isn't UTF-8 is copied as it is.
 pub fn encode(alloc: Global, content: &[u8], encoding: Encoding) -> Result<Prepared, AllocError>
     ensures { IfOk result (λ p. p ≡ encoded content.now encoding) }
 {
-    match change_of(alloc, content, encoding)? {
-        Change::Stays { unencoded } => Ok(Prepared {
+    let Some(text) = encodable_text(content) else {
+        return Ok(Prepared {
             bytes: Bytes::copy_of(alloc, content)?,
-            unencoded,
-        }),
-        Change::Becomes(text) => Ok(Prepared {
-            bytes: Bytes::from_vec(text),
-            unencoded: false,
-        }),
-    }
-}
-
-/// The same of an owned content. One that stays, as it is empty or isn't UTF-8, is passed on and not copied.
-pub fn encode_vec(
-    alloc: Global,
-    content: Vec<u8>,
-    encoding: Encoding,
-) -> Result<Prepared, AllocError>
-    ensures { IfOk result (λ p. p ≡ encoded content.items encoding) }
-{
-    match change_of(alloc, &content, encoding)? {
-        Change::Stays { unencoded } => Ok(Prepared {
-            bytes: Bytes::from_vec(content),
-            unencoded,
-        }),
-        Change::Becomes(text) => Ok(Prepared {
-            bytes: Bytes::from_vec(text),
-            unencoded: false,
-        }),
-    }
+            unencoded: !content.is_empty(),
+        });
+    };
+    Ok(Prepared {
+        bytes: Bytes::from_vec(encode_text(alloc, text, encoding)?),
+        unencoded: false,
+    })
 }

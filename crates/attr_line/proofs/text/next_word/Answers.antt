@@ -13,11 +13,11 @@ returns-then-is_empty-clause-value c =
 pub returns-clause-value : goal.returns-clause-value
 returns-clause-value c =
     let some : 0 < length c.behind_gaps-text.result.now = grind (arith, common_steps) in
-    rw (c.split_at.ensures.front, c.split_at.ensures.back, c.word_len.ensures.value, c.behind_gaps-text.ensures.value)
+    rw (c.split_at.ensures.front, c.split_at.ensures.back, c.len_to.ensures.value, c.behind_gaps-text.ensures.value)
     (next_word c.args.text.now (rw c.behind_gaps-text.ensures.value at some))
 
 pub returns-clause-shorter : goal.returns-clause-shorter
 returns-clause-shorter c =
     let some : 0 < length c.behind_gaps-text.result.now = grind (arith, common_steps) in
-    rw (c.split_at.ensures.back, c.word_len.ensures.value, c.behind_gaps-text.ensures.value)
+    rw (c.split_at.ensures.back, c.len_to.ensures.value, c.behind_gaps-text.ensures.value)
     (next_shorter c.args.text.now (rw c.behind_gaps-text.ensures.value at some))

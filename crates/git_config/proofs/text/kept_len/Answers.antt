@@ -1,5 +1,6 @@
 use Rattle.std.proofs.Common.{◌≡◌, ◌+◌, true, false, drop, rules}
-use Rattle.git_config.specs.Text.{begins, is_line_end}
+use Rattle.byte_path.specs.Front.{begins}
+use Rattle.git_config.specs.Text.{is_line_end}
 use Rattle.git_config.proofs.LineEnds.{cr_dropped, cr_kept}
 use Rattle.git_config.proofs.text.kept_len.Goals as goal
 
