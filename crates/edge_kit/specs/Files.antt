@@ -31,18 +31,18 @@ files_with None path content mark = None
 files_with (Some files) path None mark = None
 files_with (Some files) path (Some bytes) mark = Some (with_file (record { path = path; bytes = bytes; mark = mark }) files)
 
--- the files as they were, or with some file of that path
-abbrev pub MayGainPart : Option (List TreeFile) → List ℕ → Option (List TreeFile) → Type 0
-MayGainPart old path new = (new ≡ old) ⊎ ((f : TreeFile) × (f.path ≡ path) × (new ≡ option_map (with_file f) old))
+-- the files as they were, or with a file of that path and some mark that holds a first part of the content, told where both are
+abbrev pub MayGainPart : Option (List TreeFile) → List ℕ → Option (List ℕ) → Option (List TreeFile) → Type 0
+MayGainPart old path content new = (new ≡ old) ⊎ ((n : ℕ) × (mark : Mark) × (new ≡ files_with old path (option_map (take n) content) mark))
 
 -- what a leaf that is given back makes of the files
 abbrev pub JoinsLeaf : Option (List TreeFile) → List ℕ → Option (List ℕ) → LeafState → Option (List TreeFile) → Type 0
 JoinsLeaf old path content (Sealed mark) new = new ≡ files_with old path content mark
 JoinsLeaf old path content Fresh new = new ≡ old
 JoinsLeaf old path content Gone new = new ≡ old
-JoinsLeaf old path content Partly new = MayGainPart old path new
-JoinsLeaf old path content Broken new = MayGainPart old path new
-JoinsLeaf old path content Stuck new = MayGainPart old path new
+JoinsLeaf old path content Partly new = MayGainPart old path content new
+JoinsLeaf old path content Broken new = MayGainPart old path content new
+JoinsLeaf old path content Stuck new = MayGainPart old path content new
 
 -- a leaf that may be put to, begun again or sealed
 abbrev pub IsOpenLeaf : LeafState → Type 0
