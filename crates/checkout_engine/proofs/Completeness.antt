@@ -87,7 +87,7 @@ open_fails_not told p o (verdict.Skipped cause) content text r has none = refl
 open_fails_not told p o (verdict.Failed fail.NameNotText) content text r has none = absurd (has.0 text)
 open_fails_not told p o (verdict.Failed fail.ReadFailed) content text r has none = absurd (subst MayFail r.there has.1)
 open_fails_not told p o (verdict.Failed (fail.Object k)) content text r has none = absurd (fits_no_kind told p.object r.raw content k r.there r.right has.1)
-open_fails_not told p o (verdict.Failed fail.WriteFailed) content text r (opened, gives, (state, count, failed, counts, part)) none =
+open_fails_not told p o (verdict.Failed fail.WriteFailed) content text r (opened, (bytes, gives, (state, count, failed, counts, part))) none =
     let sum : failed_leaves (leaf_back p (Some (state, count))) ≡ 0 = subst (λ (l : Option (LeafState × ℕ)). failed_leaves (leaf_back p l) ≡ 0) counts.1 none in
     absurd (omega (arith, sum, failed))
 open_fails_not told p o (verdict.Failed (fail.Filter cause)) content text r has none = absurd has

@@ -32,7 +32,7 @@ use Rattle.checkout_core.specs.declared.path.Start.TheVariants as start
 use Rattle.checkout_core.specs.declared.verdict.SkipCause.TheVariants as skip
 use Rattle.checkout_plan.specs.AttributeFiles.{attribute_files}
 use Rattle.checkout_plan.specs.Paths.{no_conversion, path_with, closed, converted, file_path, text_path, link_path, path_of_mode, asked_path, first_entries_after, first_entries, asked_paths, path_among, plan_of}
-use Rattle.checkout_engine.specs.Outcome.{Outcome, HasVerdict, HasOutcome, MayLeavePart, LeavesPart, joined}
+use Rattle.checkout_engine.specs.Outcome.{Outcome, HasVerdict, HasOutcome, MayLeavePart, LeavesPart, prepared_at, joined}
 use Rattle.checkout_engine.specs.Paths.{AreOutcomes, all_joined}
 use Rattle.checkout_engine.specs.Run.{files_of}
 
@@ -183,31 +183,40 @@ one_more : (fs : List TreeFile) (f : TreeFile) (ps : List PathPlan) → AllFollo
 one_more [] f ps all one = (one, tt)
 one_more (g ∷ fs) f ps all one = (all.0, one_more fs f ps all.1 one)
 
--- the file of a path's outcome is that path's
-part_is : (p : PathPlan) (state : LeafState) (file : Option TreeFile) → LeavesPart p.path state file → MayLeavePart p.path file
-part_is p Gone file part = subst (λ (x : Option TreeFile). MayLeavePart p.path x) (sym part) tt
-part_is p Stuck file part = part
-part_is p Fresh file part = absurd part
-part_is p Partly file part = absurd part
-part_is p (Sealed mark) file part = absurd part
-part_is p Broken file part = absurd part
+-- no file, or one of that path
+abbrev IsAt : List ℕ → Option TreeFile → Type 0
+IsAt path None = Unit {0}
+IsAt path (Some f) = f.path ≡ path
 
-file_has : (told : Told) (p : PathPlan) (o : Outcome) (v : Verdict) → HasVerdict told p o v → MayLeavePart p.path o.file
+part_at : (path content : List ℕ) (file : Option TreeFile) → MayLeavePart path content file → IsAt path file
+part_at path content None part = tt
+part_at path content (Some f) part = part.0
+
+-- the file of a path's outcome is that path's
+part_is : (p : PathPlan) (content : List ℕ) (state : LeafState) (file : Option TreeFile) → LeavesPart p.path content state file → IsAt p.path file
+part_is p content Gone file part = subst (λ (x : Option TreeFile). IsAt p.path x) (sym part) tt
+part_is p content Stuck file part = part_at p.path content file part
+part_is p content Fresh file part = absurd part
+part_is p content Partly file part = absurd part
+part_is p content (Sealed mark) file part = absurd part
+part_is p content Broken file part = absurd part
+
+file_has : (told : Told) (p : PathPlan) (o : Outcome) (v : Verdict) → HasVerdict told p o v → IsAt p.path o.file
 file_has told p o (verdict.Skipped cause) has = absurd has
-file_has told p o (verdict.Failed fail.NameNotText) has = subst (λ (x : Option TreeFile). MayLeavePart p.path x) (sym has.1.file) tt
-file_has told p o verdict.NoMemory has = has.1
-file_has told p o (verdict.Failed fail.ReadFailed) has = subst (λ (x : Option TreeFile). MayLeavePart p.path x) (sym has.3) tt
-file_has told p o (verdict.Failed (fail.Object k)) has = subst (λ (x : Option TreeFile). MayLeavePart p.path x) (sym has.3) tt
-file_has told p o (verdict.Failed fail.WriteFailed) (opened, gives, (state, count, failed, counts, part)) = part_is p state o.file part
-file_has told p o (verdict.Written unencoded) (opened, counts, (content, gives, flag, file)) = subst (λ (x : Option TreeFile). MayLeavePart p.path x) (sym file) refl
+file_has told p o (verdict.Failed fail.NameNotText) has = subst (λ (x : Option TreeFile). IsAt p.path x) (sym has.1.file) tt
+file_has told p o verdict.NoMemory has = part_at p.path [] o.file has.1
+file_has told p o (verdict.Failed fail.ReadFailed) has = subst (λ (x : Option TreeFile). IsAt p.path x) (sym has.3) tt
+file_has told p o (verdict.Failed (fail.Object k)) has = subst (λ (x : Option TreeFile). IsAt p.path x) (sym has.3) tt
+file_has told p o (verdict.Failed fail.WriteFailed) (opened, (content, gives, (state, count, failed, counts, part))) = part_is p (prepared_at p content).bytes state o.file part
+file_has told p o (verdict.Written unencoded) (opened, counts, (content, gives, flag, file)) = subst (λ (x : Option TreeFile). IsAt p.path x) (sym file) refl
 file_has told p o (verdict.Unfiltered cause unencoded) has = absurd has
 file_has told p o (verdict.Failed (fail.Filter cause)) has = absurd has
 file_has told p o (verdict.Failed fail.Missing) has = absurd has
 file_has told p o (verdict.Failed fail.NoProcess) has = absurd has
 file_has told p o (verdict.Failed fail.UnknownEncoding) has = absurd has
 
-file_is : (told : Told) (p : PathPlan) (o : Outcome) (s : Start) → HasOutcome s told p o → MayLeavePart p.path o.file
-file_is told p o (start.Done v) has = subst (λ (x : Option TreeFile). MayLeavePart p.path x) (sym has.1.file) tt
+file_is : (told : Told) (p : PathPlan) (o : Outcome) (s : Start) → HasOutcome s told p o → IsAt p.path o.file
+file_is told p o (start.Done v) has = subst (λ (x : Option TreeFile). IsAt p.path x) (sym has.1.file) tt
 file_is told p o start.Pool has = file_has told p o o.verdict has
 file_is told p o (start.Desk driver required) has = absurd has
 
@@ -228,7 +237,7 @@ joined_in_order object [] (o ∷ os) fs rise fit all = absurd fit
 joined_in_order object (p ∷ ps) [] fs rise fit all = absurd fit
 joined_in_order object (p ∷ ps) (o ∷ os) fs rise fit all =
     let parts = and_parts (list_all (precedes p) ps) (pairwise precedes ps) rise in
-    let step : (file : Option TreeFile) → MayLeavePart p.path file → all_joined os (joined file fs) ≡ fs ++ with_part file (files_of os) = λ file. elim file as (λ x. MayLeavePart p.path x → all_joined os (joined x fs) ≡ fs ++ with_part x (files_of os)) [
+    let step : (file : Option TreeFile) → IsAt p.path file → all_joined os (joined file fs) ≡ fs ++ with_part file (files_of os) = λ file. elim file as (λ x. IsAt p.path x → all_joined os (joined x fs) ≡ fs ++ with_part x (files_of os)) [
       | None ↦ λ part. joined_in_order object ps os fs parts.1 fit.1 (tails p fs ps all)
       | Some f ↦ λ part.
           ap (all_joined os) (with_file-last f fs (heads p f fs ps part all))

@@ -1,5 +1,8 @@
 -- How a path ends, by what was given back.
-use Rattle.std.proofs.Common.{◌≡◌, ◌⊎◌, ℕ, List, [], ◌∷◌, ◌++◌, Option, Some, None, refl, sym, ap, ◌∙◌, subst, inl, inr, append-nil}
+use Rattle.std.proofs.Common.{◌≡◌, ◌⊎◌, ℕ, ◌<◌, List, [], ◌∷◌, ◌++◌, take, Option, Some, None, refl, sym, ap, ◌∙◌, subst, inl, inr, append-nil, arith}
+use Rattle.std.proofs.lemmas.Grind.{common_steps}
+use Rattle.std.proofs.lemmas.Bool.{cases_order}
+use Rattle.std.proofs.lemmas.List.{take-take, take_all}
 use Rattle.std.specs.Option.{option_map}
 use Rattle.edge_kit.specs.Told.{Told, Tells}
 use Rattle.edge_kit.specs.Files.{with_file, files_with, MayGainPart, JoinsLeaf}
@@ -13,7 +16,7 @@ use Rattle.checkout_core.specs.declared.verdict.FailCause.TheVariants as fail
 use Rattle.checkout_plan.specs.declared.path_plan.PathPlan.{PathPlan}
 use Rattle.checkout_core.specs.declared.path.Start.{Start}
 use Rattle.checkout_core.specs.declared.path.Start.TheVariants as start
-use Rattle.checkout_engine.specs.Outcome.{Outcome, IsGivenUp, EndsPath, IsOpenPath, MayLeavePart, LeavesPart, HasVerdict, HasOutcome, IsOutcome, prepared_at, joined}
+use Rattle.checkout_engine.specs.Outcome.{Outcome, IsGivenUp, TellsPart, EndsPath, IsOpenPath, MayLeavePart, LeavesPart, HasVerdict, HasOutcome, IsOutcome, prepared_at, joined}
 use Rattle.checkout_engine.specs.Paths.{Given, EndsOne}
 
 -- the told files grow by this one, if there is one
@@ -22,10 +25,6 @@ FilesGrow old file new = (fs : List TreeFile) → Tells old fs → Tells new (jo
 
 files_stay : (old new : Option (List TreeFile)) → new ≡ old → FilesGrow old None new
 files_stay old new same fs tells = subst (λ (told : Option (List TreeFile)). Tells told fs) (sym same) tells
-
-told_with : (old : Option (List TreeFile)) (f : TreeFile) (fs : List TreeFile) → Tells old fs → Tells (option_map (with_file f) old) (with_file f fs)
-told_with None f fs tells = tt
-told_with (Some gs) f fs tells = ap (with_file f) tells
 
 file_joins : (old : Option (List TreeFile)) (path : List ℕ) (told : Option (List ℕ)) (content : List ℕ) (mark : Mark) (fs : List TreeFile) → Tells told content → Tells old fs
     → Tells (files_with old path told mark) (with_file (record { path = path; bytes = content; mark = mark }) fs)
@@ -41,42 +40,57 @@ seals old new path told content mark state is tells joins fs had =
     subst (λ (files : Option (List TreeFile)). Tells files (with_file (record { path = path; bytes = content; mark = mark }) fs)) (sym joined_so) (file_joins old path told content mark fs tells had)
 
 -- what stays of a leaf, and what that makes of the files
-record Stays (old : Option (List TreeFile)) (path : List ℕ) (state : LeafState) (new : Option (List TreeFile)) : Type 0 where
+record Stays (old : Option (List TreeFile)) (path content : List ℕ) (state : LeafState) (new : Option (List TreeFile)) : Type 0 where
   file : Option TreeFile
-  part : LeavesPart path state file
+  part : LeavesPart path content state file
   grow : FilesGrow old file new
 
-record Keeps (old : Option (List TreeFile)) (path : List ℕ) (new : Option (List TreeFile)) : Type 0 where
+-- a path's file that was kept in part, if it was, and what that makes of the files
+record Keeps (old : Option (List TreeFile)) (path content : List ℕ) (new : Option (List TreeFile)) : Type 0 where
   file : Option TreeFile
-  part : MayLeavePart path file
+  part : MayLeavePart path content file
   grow : FilesGrow old file new
 
-gains : (old new : Option (List TreeFile)) (path : List ℕ) → MayGainPart old path new → Keeps old path new
-gains old new path (inl same) = record { file = None; part = tt; grow = files_stay old new same }
-gains old new path (inr (f, is, grew)) = record {
-  file = Some f;
-  part = is;
-  grow = λ fs tells. subst (λ (files : Option (List TreeFile)). Tells files (with_file f fs)) (sym grew) (told_with old f fs tells);
+-- a first part of what is told
+part_told : (told : Option (List ℕ)) (n : ℕ) (content : List ℕ) → Tells told content → Tells (option_map (take n) told) (take n content)
+part_told None n content tells = tt
+part_told (Some bytes) n content tells = ap (take n) tells
+
+-- a first part of a first part is one
+part_by : (n m : ℕ) (xs : List ℕ) → (n ≡ m) ⊎ ((n < m) ⊎ (m < n)) → (k : ℕ) × (take n (take m xs) ≡ take k xs)
+part_by n m xs (inl same) = (n, take-take n m xs (omega arith))
+part_by n m xs (inr (inl less)) = (n, take-take n m xs (omega arith))
+part_by n m xs (inr (inr more)) = (m, take_all n (take m xs) (grind (arith, common_steps)))
+
+gains : (old new : Option (List TreeFile)) (path : List ℕ) (told : Option (List ℕ)) (content : List ℕ) → TellsPart told content → MayGainPart old path told new → Keeps old path content new
+gains old new path told content tells (inl same) = record { file = None; part = tt; grow = files_stay old new same }
+gains old new path told content (m, tells) (inr (n, mark, grew)) = record {
+  file = Some (record { path = path; bytes = take n (take m content); mark = mark });
+  part = (refl, part_by n m content (cases_order n m));
+  grow = λ fs had. subst (λ (files : Option (List TreeFile)). Tells files (with_file (record { path = path; bytes = take n (take m content); mark = mark }) fs)) (sym grew)
+      (file_joins old path (option_map (take n) told) (take n (take m content)) mark fs (part_told told n (take m content) tells) had);
 }
 
-stays : (old new : Option (List TreeFile)) (path : List ℕ) (told : Option (List ℕ)) (state : LeafState) → IsGivenUp state → JoinsLeaf old path told state new → Stays old path state new
-stays old new path told state (inl gone) joins = record {
+stays : (old new : Option (List TreeFile)) (path : List ℕ) (told : Option (List ℕ)) (content : List ℕ) (state : LeafState) → IsGivenUp state → TellsPart told content → JoinsLeaf old path told state new
+    → Stays old path content state new
+stays old new path told content state (inl gone) tells joins = record {
   file = None;
-  part = subst (λ (s : LeafState). LeavesPart path s None) (sym gone) refl;
+  part = subst (λ (s : LeafState). LeavesPart path content s None) (sym gone) refl;
   grow = files_stay old new (subst (λ (s : LeafState). JoinsLeaf old path told s new) gone joins);
 }
-stays old new path told state (inr stuck) joins =
-    let kept = gains old new path (subst (λ (s : LeafState). JoinsLeaf old path told s new) stuck joins) in
+stays old new path told content state (inr stuck) tells joins =
+    let kept = gains old new path told content tells (subst (λ (s : LeafState). JoinsLeaf old path told s new) stuck joins) in
     record {
       file = kept.file;
-      part = subst (λ (s : LeafState). LeavesPart path s kept.file) (sym stuck) kept.part;
+      part = subst (λ (s : LeafState). LeavesPart path content s kept.file) (sym stuck) kept.part;
       grow = kept.grow;
     }
 
-keeps : (old new : Option (List TreeFile)) (path : List ℕ) (told : Option (List ℕ)) (state : LeafState) → (state ≡ Fresh) ⊎ IsGivenUp state → JoinsLeaf old path told state new → Keeps old path new
+keeps : (old new : Option (List TreeFile)) (path : List ℕ) (told : Option (List ℕ)) (state : LeafState) → (state ≡ Fresh) ⊎ (IsGivenUp state × Tells told []) → JoinsLeaf old path told state new
+    → Keeps old path [] new
 keeps old new path told state (inl fresh) joins = record { file = None; part = tt; grow = files_stay old new (subst (λ (s : LeafState). JoinsLeaf old path told s new) fresh joins) }
-keeps old new path told state (inr (inl gone)) joins = record { file = None; part = tt; grow = files_stay old new (subst (λ (s : LeafState). JoinsLeaf old path told s new) gone joins) }
-keeps old new path told state (inr (inr stuck)) joins = gains old new path (subst (λ (s : LeafState). JoinsLeaf old path told s new) stuck joins)
+keeps old new path told state (inr (inl gone, tells)) joins = record { file = None; part = tt; grow = files_stay old new (subst (λ (s : LeafState). JoinsLeaf old path told s new) gone joins) }
+keeps old new path told state (inr (inr stuck, tells)) joins = gains old new path told [] (0, tells) (subst (λ (s : LeafState). JoinsLeaf old path told s new) stuck joins)
 
 abbrev counted : LeafState → ℕ → Option (LeafState × ℕ)
 counted state count = Some (state, count)
@@ -157,9 +171,9 @@ ends_read object p (verdict.Failed (fail.Object k)) blob state content leaf befo
     (files_stay before.files after.files (subst (λ (s : LeafState). JoinsLeaf before.files p.path content s after.files) fresh back.files)) opened.begun
     (opened, wrong, (ap Some unread, same_count state Fresh leaf 0 fresh unfailed), refl)
 ends_read object p (verdict.Failed fail.WriteFailed) blob state content leaf before after opened (bytes, gives, unread, ended) back =
-    let kept = stays before.files after.files p.path content state ended.0 back.files in
+    let kept = stays before.files after.files p.path content (prepared_at p bytes).bytes state ended.0 ended.2 back.files in
     ends_with object p (verdict.Failed fail.WriteFailed) blob state content leaf before after kept.file back kept.grow opened.begun
-    (opened, (bytes, gives), (state, leaf, ended.1, (ap Some unread, refl), kept.part))
+    (opened, (bytes, gives, (state, leaf, ended.1, (ap Some unread, refl), kept.part)))
 ends_read object p (verdict.Failed (fail.Filter cause)) blob state content leaf before after opened ends back = absurd ends
 ends_read object p (verdict.Failed fail.Missing) blob state content leaf before after opened ends back = absurd ends
 ends_read object p (verdict.Failed fail.NoProcess) blob state content leaf before after opened ends back = absurd ends

@@ -1,5 +1,5 @@
 -- What befalls one path of a checkout.
-use Rattle.std.specs.Prelude.{◌≡◌, ◌⊎◌, ℕ, ◌<◌, List, [], ◌∷◌, Option, Some, None, Ok}
+use Rattle.std.specs.Prelude.{◌≡◌, ◌⊎◌, ℕ, ◌<◌, List, [], ◌∷◌, take, Option, Some, None, Ok}
 use Rattle.std.specs.Str.{IsUtf8}
 use Rattle.edge_kit.specs.Told.{Told, Tells, MayFail}
 use Rattle.edge_kit.specs.Files.{with_file}
@@ -22,11 +22,15 @@ use Rattle.checkout_plan.specs.Making.{FitsKind}
 abbrev pub IsGivenUp : LeafState → Type 0
 IsGivenUp state = (state ≡ Gone) ⊎ (state ≡ Stuck)
 
+-- a first part of these bytes is what is told, if anything is
+abbrev pub TellsPart : Option (List ℕ) → List ℕ → Type 0
+TellsPart told bytes = (n : ℕ) × Tells told (take n bytes)
+
 -- how the writing of a prepared content ends: the verdict, and the leaf's state, told content and count of faults
 abbrev pub EndsLeaf : Mark → Prepared → Verdict → LeafState → Option (List ℕ) → ℕ → Type 0
 EndsLeaf mark content (verdict.Written unencoded) state told count = (unencoded ≡ content.unencoded) × (state ≡ Sealed mark) × Tells told content.bytes × (count ≡ 0)
-EndsLeaf mark content (verdict.Failed fail.WriteFailed) state told count = IsGivenUp state × (0 < count)
-EndsLeaf mark content verdict.NoMemory state told count = (state ≡ Fresh) ⊎ IsGivenUp state
+EndsLeaf mark content (verdict.Failed fail.WriteFailed) state told count = IsGivenUp state × (0 < count) × TellsPart told content.bytes
+EndsLeaf mark content verdict.NoMemory state told count = (state ≡ Fresh) ⊎ (IsGivenUp state × Tells told [])
 EndsLeaf mark content v state told count = ⊥
 
 -- a content of the path's object as it stands in the worktree
@@ -39,7 +43,7 @@ EndsPath told p (verdict.Written unencoded) blob state content leaf = (bytes : L
 EndsPath told p (verdict.Failed fail.ReadFailed) blob state content leaf = MayFail told × (0 < blob) × (state ≡ Fresh) × (leaf ≡ 0)
 EndsPath told p (verdict.Failed (fail.Object k)) blob state content leaf = FitsKind told p.object k × (blob ≡ 0) × (state ≡ Fresh) × (leaf ≡ 0)
 EndsPath told p (verdict.Failed fail.WriteFailed) blob state content leaf = (bytes : List ℕ) × Gives told p.object (Ok bytes) × (blob ≡ 0) × EndsLeaf p.mark (prepared_at p bytes) (verdict.Failed fail.WriteFailed) state content leaf
-EndsPath told p verdict.NoMemory blob state content leaf = (state ≡ Fresh) ⊎ IsGivenUp state
+EndsPath told p verdict.NoMemory blob state content leaf = (state ≡ Fresh) ⊎ (IsGivenUp state × Tells content [])
 EndsPath told p v blob state content leaf = ⊥
 
 -- What a checkout leaves of one path: its verdict, its blob's count, its leaf's state and count, and its file.
@@ -60,30 +64,31 @@ pub record IsOpenPath (p : PathPlan) : Type 0 where
   pub begun : p.start ≡ start.Pool
   pub text : IsUtf8 p.path
 
--- no file, or some file of that path
-abbrev pub MayLeavePart : List ℕ → Option TreeFile → Type 0
-MayLeavePart path None = Unit {0}
-MayLeavePart path (Some f) = f.path ≡ path
+-- no file, or a file of that path with a first part of the content
+abbrev pub MayLeavePart : List ℕ → List ℕ → Option TreeFile → Type 0
+MayLeavePart path content None = Unit {0}
+MayLeavePart path content (Some f) = (f.path ≡ path) × ((n : ℕ) × (f.bytes ≡ take n content))
 
 -- what stays of a leaf that was given up
-abbrev pub LeavesPart : List ℕ → LeafState → Option TreeFile → Type 0
-LeavesPart path Gone file = file ≡ None
-LeavesPart path Stuck file = MayLeavePart path file
-LeavesPart path state file = ⊥
+abbrev pub LeavesPart : List ℕ → List ℕ → LeafState → Option TreeFile → Type 0
+LeavesPart path content Gone file = file ≡ None
+LeavesPart path content Stuck file = MayLeavePart path content file
+LeavesPart path content state file = ⊥
 
 -- the blob's and the leaf's counts
 abbrev pub HasCounts : Outcome → ℕ → LeafState → ℕ → Type 0
 HasCounts o blob state leaf = (o.blob ≡ Some blob) × (o.leaf ≡ Some (state, leaf))
 
 -- The verdict of a path that the plan leaves open, with what shows it: what its object tells, and its own counts of faults.
+-- Want of memory comes before the first byte is put, so what may stay then is an empty file.
 abbrev pub HasVerdict : Told → PathPlan → Outcome → Verdict → Type 0
 HasVerdict told p o (verdict.Failed fail.NameNotText) = (¬ (IsUtf8 p.path)) × IsUntouched o
-HasVerdict told p o verdict.NoMemory = IsOpenPath p × MayLeavePart p.path o.file
+HasVerdict told p o verdict.NoMemory = IsOpenPath p × MayLeavePart p.path [] o.file
 HasVerdict told p o (verdict.Failed fail.ReadFailed) = IsOpenPath p × MayFail told × ((count : ℕ) × (0 < count) × HasCounts o count Fresh 0) × (o.file ≡ None)
 HasVerdict told p o (verdict.Failed (fail.Object k)) = IsOpenPath p × FitsKind told p.object k × HasCounts o 0 Fresh 0 × (o.file ≡ None)
 HasVerdict told p o (verdict.Failed fail.WriteFailed) =
-    IsOpenPath p × ((content : List ℕ) × Gives told p.object (Ok content))
-    × ((state : LeafState) × (count : ℕ) × (0 < count) × HasCounts o 0 state count × LeavesPart p.path state o.file)
+    IsOpenPath p × ((content : List ℕ) × Gives told p.object (Ok content)
+    × ((state : LeafState) × (count : ℕ) × (0 < count) × HasCounts o 0 state count × LeavesPart p.path (prepared_at p content).bytes state o.file))
 HasVerdict told p o (verdict.Written unencoded) =
     IsOpenPath p × HasCounts o 0 (Sealed p.mark) 0
     × ((content : List ℕ) × Gives told p.object (Ok content) × (unencoded ≡ (prepared_at p content).unencoded)

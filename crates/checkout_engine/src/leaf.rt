@@ -3,7 +3,7 @@ ghost use Rattle.edge_kit.specs.Faults.{AfterSend};
 ghost use Rattle.edge_kit.specs.Told.{Tells};
 ghost use Rattle.edge_kit.specs.Files.{IsOpenLeaf};
 ghost use Rattle.edge_kit.specs.declared.leaf_state.LeafState.TheVariants.{Fresh, Sealed, Partly, Broken};
-ghost use Rattle.checkout_engine.specs.Outcome.{EndsLeaf};
+ghost use Rattle.checkout_engine.specs.Outcome.{EndsLeaf, TellsPart};
 
 use checkout_core::{FailCause, Verdict};
 use edge_kit::{Failed, Leaf, Mark, SendFault};
@@ -15,8 +15,10 @@ fn put_and_seal<L: Leaf>(leaf: &mut L, content: &[u8], mark: Mark) -> Result<(),
     ensures path { L.path leaf.new ≡ L.path leaf.old }
     ensures sealed { OnOk result (L.state leaf.new ≡ Sealed mark) }
     ensures content { OnOk result (Tells (L.content leaf.old) [] → Tells (L.content leaf.new) content.now) }
+    ensures part { result ≡ Err SendFault.Failed → Tells (L.content leaf.old) [] → TellsPart (L.content leaf.new) content.now }
     ensures broken { result ≡ Err SendFault.Failed → L.state leaf.new ≡ Broken }
     ensures no_memory { result ≡ Err SendFault.NoMemory → L.state leaf.new ≡ Fresh }
+    ensures kept { result ≡ Err SendFault.NoMemory → L.content leaf.new ≡ L.content leaf.old }
     ensures faults { AfterSend (L.faults leaf.old) (L.faults leaf.new) result }
 {
     match leaf.put(content) {

@@ -70,6 +70,8 @@ impl Worktree for FolderTree {
 
     ghost empty_files = { λ _ _. tt };
 
+    ghost ordered_files = { λ _. tt };
+
     fn is_empty(&mut self) -> Result<bool, Failed> {
         match holds_nothing(self.rt, self.folder.as_str()) {
             Ok(empty) => Ok(empty),
