@@ -1,5 +1,5 @@
 //! A content with the line ends of the worktree.
-ghost use Rattle.std.specs.Prelude.{◌≡◌, ◌≢◌, ◌++◌, IfOk, OnOk};
+ghost use Rattle.std.specs.Prelude.{◌≡◌, ◌≢◌, ◌≤◌, ◌++◌, IfOk, OnOk, length, take};
 ghost use Rattle.std.specs.Bool.{OnTrue, OnFalse};
 ghost use Rattle.eol_convert.specs.Content.{line_end, with_crlf, to_tree_ends};
 
@@ -7,6 +7,9 @@ use crate::looks::is_lf_text;
 use crate::setting::LineEnds;
 use memchr::memchr;
 use std::alloc::{AllocError, Global};
+
+/// Lines of up to so many bytes are copied as blocks of this size.
+const BLOCK: usize = 128;
 
 /// Whether an LF stands there that no CR stands before.
 fn has_bare_lf(content: &[u8]) -> bool
@@ -42,16 +45,36 @@ pub fn changes_ends(content: &[u8], ends: LineEnds) -> bool
     }
 }
 
-/// A line and its end. The line has no LF itself.
-fn push_line(text: &mut Vec<u8>, line: &[u8]) -> Result<(), AllocError>
-    ensures { OnOk result (text.new.items ≡ text.old.items ++ (line.now ++ line_end line.now)) }
+/// Appends the first bytes of a content. A block of a known size is copied faster than a few bytes, so it is cut behind.
+fn push_front(text: &mut Vec<u8>, content: &[u8], count: usize) -> Result<(), AllocError>
+    requires { count ≤ length content.now }
+    ensures { OnOk result (text.new.items ≡ text.old.items ++ take count content.now) }
 {
-    text.extend_from_slice(line)?;
-    if line.ends_with(b"\r") {
-        text.push(b'\n')?;
-    } else {
-        text.extend_from_slice(b"\r\n")?;
+    match content.first_chunk::<BLOCK>() {
+        Some(block) if count <= BLOCK => {
+            let len = text.len();
+            text.extend_from_slice(block)?;
+            text.truncate(len + count);
+        }
+        _ => {
+            let (front, _) = content.split_at(count);
+            text.extend_from_slice(front)?;
+        }
     }
+    Ok(())
+}
+
+/// Appends the line with which a content begins, up to the LF at `end`, and the line's end.
+fn push_line(text: &mut Vec<u8>, content: &[u8], end: usize) -> Result<(), AllocError>
+    requires { end ≤ length content.now }
+    ensures { OnOk result (text.new.items ≡ text.old.items ++ (take end content.now ++ line_end (take end content.now))) }
+{
+    push_front(text, content, end)?;
+    let (line, _) = content.split_at(end);
+    if !line.ends_with(b"\r") {
+        text.push(b'\r')?;
+    }
+    text.push(b'\n')?;
     Ok(())
 }
 
@@ -60,11 +83,10 @@ fn with_crlf(alloc: Global, content: &[u8]) -> Result<Vec<u8>, AllocError>
     ensures { IfOk result (λ text. text.items ≡ with_crlf content.now) }
 {
     // Room for lines of 16 bytes and more.
-    let mut text = Vec::with_capacity(alloc, content.len() + content.len() / 16)?;
+    let mut text = Vec::with_capacity(alloc, content.len() + content.len() / 16 + BLOCK)?;
     let mut rest = content;
     'lines: while let Some(end) = memchr(b'\n', rest) {
-        let (line, _) = rest.split_at(end);
-        push_line(&mut text, line)?;
+        push_line(&mut text, rest, end)?;
         let (_, behind) = rest.split_at(end + 1);
         rest = behind;
     }

@@ -133,3 +133,33 @@ fn a_text_may_have_one_strange_byte_in_128(rt: HostRuntime) -> Result<(), Fail> 
     assert!(rt; !changes_ends(&content, LineEnds::AutoCrlf));
     Ok(())
 }
+
+/// A line about as long as the blocks that are copied, with more and with less than a block behind it.
+#[test]
+fn lines_of_each_length_keep_their_bytes(rt: HostRuntime) -> Result<(), Fail> {
+    let table = [
+        (0, 0),
+        (1, 125),
+        (1, 126),
+        (1, 127),
+        (2, 300),
+        (126, 0),
+        (127, 0),
+        (127, 1),
+        (128, 0),
+        (128, 300),
+        (129, 0),
+        (129, 300),
+        (130, 127),
+        (300, 300),
+    ];
+    for (length, behind) in table {
+        let line = [b'a'; 300].split_at(length).0;
+        let rest = [b'b'; 300].split_at(behind).0;
+        let content = [line, b"\n", rest].concat(rt.alloc())?;
+        let want = [line, b"\r\n", rest].concat(rt.alloc())?;
+        let text = to_tree_ends(rt.alloc(), &content, LineEnds::ToCrlf)?;
+        assert!(rt; text.as_slice() == want.as_slice(), "{length} and {behind}");
+    }
+    Ok(())
+}

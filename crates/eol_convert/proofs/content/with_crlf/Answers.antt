@@ -6,7 +6,7 @@ use Rattle.eol_convert.proofs.content.with_crlf.Goals as goal
 pub lines-preserved : goal.lines-preserved
 lines-preserved c =
     let line = one_more c.args.content.now c.lines.text.items c.lines.rest.now c.in-Some.end c.lines.invariant c.in-Some.ensures in
-    rw (c.in_ok-push_line.ensures, c.split_at.ensures.front, c.split_at-in-Some.ensures.back) line
+    rw (c.in_ok-push_line.ensures, c.split_at.ensures.back) line
 
 pub returns : goal.returns
 returns c =
