@@ -1,12 +1,12 @@
-ghost use Rattle.std.specs.Prelude.{◌≡◌, ◌≤◌, length, IfOk, IfSome, Ok, Some};
-ghost use Rattle.std.specs.List.{position, position_or_len, before_first, after_first};
+ghost use Rattle.std.specs.Prelude.{◌≡◌, IfOk, Ok, Some};
+ghost use Rattle.std.specs.List.{before_first, after_first};
 ghost use Rattle.hex.specs.Hex.{decode_of};
 ghost use Rattle.tree_encoding.specs.Named.{encoding_of};
 ghost use Rattle.list_conversions.specs.Task.{ends_named, IsKind, read_bytes, is_space, IsTask, converted};
 
 use anyhow::{Context, bail};
 use attr_line::AttrState;
-use byte_path::Bytes;
+use byte_path::{ByteKind, Bytes, len_to};
 use eol_convert::{LineEnds, to_tree_ends};
 use hex::FromHex;
 use ident_convert::expand_ident;
@@ -85,20 +85,16 @@ fn read_bytes(alloc: Global, word: &[u8]) -> Result<Vec<u8>, anyhow::Error>
     }
 }
 
-fn first_space(line: &[u8]) -> Option<usize>
-    ensures value { result ≡ position is_space line.now }
-    ensures within { IfSome result (λ n. n ≤ length line.now) }
-{
-    line.iter().position(|byte| *byte == b' ')
-}
+struct Space;
 
-/// How many bytes stand before the first space.
-#[tactic(auto, using(crate::proofs::Words::len_from_position))]
-fn word_len(line: &[u8]) -> usize
-    ensures value { result ≡ position_or_len is_space line.now }
-    ensures within { result ≤ length line.now }
-{
-    first_space(line).unwrap_or(line.len())
+impl ByteKind for Space {
+    ghost use Rattle.list_conversions.specs.Task.{is_space};
+
+    ghost has = { is_space };
+
+    fn has(byte: u8) -> bool {
+        byte == b' '
+    }
 }
 
 /// What stands before the first space, and what behind it.
@@ -106,7 +102,7 @@ fn cut_word(line: &[u8]) -> (&[u8], &[u8])
     ensures before { result.0.now ≡ before_first is_space line.now }
     ensures behind { result.1.now ≡ after_first is_space line.now }
 {
-    let len = word_len(line);
+    let len = len_to::<Space>(line);
     let (word, _) = line.split_at(len);
     if len == line.len() {
         return (word, &[]);
