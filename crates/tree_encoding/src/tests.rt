@@ -163,10 +163,13 @@ fn other_contents_stay(rt: HostRuntime) -> Result<(), Fail> {
         b"abcdefgh\xE2\x82",
     ];
     for content in table {
-        let borrowed = encode(rt.alloc(), content, Encoding::Utf16)?;
-        assert!(rt; borrowed.bytes.as_slice() == content, "at {content:?}");
-        assert!(rt; borrowed.unencoded, "at {content:?}");
         assert!(rt; encodable_text(content).is_none(), "at {content:?}");
+        let little = encode(rt.alloc(), content, Encoding::Utf16Le)?;
+        assert!(rt; little.bytes.as_slice() == content, "at {content:?}");
+        assert!(rt; little.unencoded, "at {content:?}");
+        let marked = encode(rt.alloc(), content, Encoding::Utf16)?;
+        assert!(rt; marked.bytes.as_slice() == content, "at {content:?}");
+        assert!(rt; marked.unencoded, "at {content:?}");
     }
     Ok(())
 }
