@@ -134,6 +134,11 @@ fn a_text_may_have_one_strange_byte_in_128(rt: HostRuntime) -> Result<(), Fail> 
     Ok(())
 }
 
+/// Bytes that lines are cut from.
+const FRONT: &[u8] = &[b'a'; 300];
+
+const BACK: &[u8] = &[b'b'; 300];
+
 /// A line about as long as the blocks that are copied, with more and with less than a block behind it.
 #[test]
 fn lines_of_each_length_keep_their_bytes(rt: HostRuntime) -> Result<(), Fail> {
@@ -154,8 +159,8 @@ fn lines_of_each_length_keep_their_bytes(rt: HostRuntime) -> Result<(), Fail> {
         (300, 300),
     ];
     for (length, behind) in table {
-        let line = [b'a'; 300].split_at(length).0;
-        let rest = [b'b'; 300].split_at(behind).0;
+        let line = FRONT.get(..length).unwrap_or(FRONT);
+        let rest = BACK.get(..behind).unwrap_or(BACK);
         let content = [line, b"\n", rest].concat(rt.alloc())?;
         let want = [line, b"\r\n", rest].concat(rt.alloc())?;
         let text = to_tree_ends(rt.alloc(), &content, LineEnds::ToCrlf)?;
