@@ -1,5 +1,5 @@
 -- What an object's stored bytes hold.
-use Rattle.std.specs.Prelude.{◌≡◌, ℕ, Bool, ◌&&◌, ◌==◌, not, nat_lt, List, length, take, drop, codes, is_some, position, Result, Ok, Err, if◌then◌else◌}
+use Rattle.std.specs.Prelude.{◌≡◌, ℕ, Bool, ◌&&◌, ◌==◌, not, nat_lt, List, length, take, drop, codes, is_some, position, Option, Some, None, Result, Ok, Err, if◌then◌else◌}
 use Rattle.std.specs.Global.{Vec}
 use Rattle.std.specs.List.{before_first, after_first}
 use Rattle.std.specs.Str.{bytes_eq}
@@ -7,6 +7,8 @@ use Rattle.std.specs.Str.Parse.{digits_value}
 use Rattle.byte_path.specs.Decimal.{is_decimal}
 use Rattle.edge_kit.specs.Faults.{Rose}
 use Rattle.edge_kit.specs.Told.{Told, TellsBytes, TellsNone, TellsLong, MayFail}
+use Rattle.edge_kit.specs.declared.faults.TakeFault.{TakeFault}
+use Rattle.edge_kit.specs.declared.faults.TakeFault.TheVariants as take
 use Rattle.sha1.specs.Sha1.{sha1}
 use Rattle.object_dir.specs.declared.fault.ObjectFault.{ObjectFault}
 use Rattle.object_dir.specs.declared.fault.ObjectFault.TheVariants.{ReadFailed, Absent, TooLarge, Header, Size, WrongName, NoMemory}
@@ -40,6 +42,14 @@ stored_content stored name =
 -- the same within the limit
 abbrev pub object_of : List ℕ → List ℕ → Result (List ℕ) ObjectFault
 object_of stored name = if nat_lt max_stored (length stored) then Err TooLarge else stored_content stored name
+
+-- the same by what a blob gave within the limit
+abbrev pub object_in : Result (Option (Vec ℕ)) TakeFault → List ℕ → Result (List ℕ) ObjectFault
+object_in (Ok (Some stored)) name = stored_content stored.items name
+object_in (Ok None) name = Err Absent
+object_in (Err take.TooLong) name = Err TooLarge
+object_in (Err take.Failed) name = Err ReadFailed
+object_in (Err take.NoMemory) name = Err NoMemory
 
 -- bytes that are told, if anything is, give this under the name
 abbrev pub Gives : Told → List ℕ → Result (List ℕ) ObjectFault → Type 0

@@ -19,12 +19,15 @@ pub fn blob_name(content: &[u8]) -> [u8; 20]
     hasher.finalize()
 }
 
+/// The most bytes of a header: `blob `, twenty digits and a NUL.
+const MAX_HEADER: usize = 26;
+
 /// The stored bytes of a content.
 pub fn spell_blob(alloc: Global, content: &[u8]) -> Result<Vec<u8>, AllocError>
     ensures { IfOk result (λ stored. stored.items ≡ spelled_blob content.now) }
 {
     let mut size = Buffer::new();
-    let mut stored = Vec::with_capacity(alloc, content.len())?;
+    let mut stored = Vec::with_capacity(alloc, content.len() + MAX_HEADER)?;
     stored.extend_from_slice(b"blob ")?;
     stored.extend_from_slice(size.format(content.len()).as_bytes())?;
     stored.push(0)?;

@@ -23,7 +23,7 @@ fn read_hi(
 ) -> Result<Result<Vec<u8>, ObjectFault>, AllocError> {
     let mut repo = MemoryRepo::new(alloc, None, None, None, objects, fails);
     let mut blob = repo.blob(&HI)?;
-    let answer = read_blob(&mut blob, &HI);
+    let answer = read_blob(alloc, &mut blob, &HI);
     repo.take_back(blob);
     Ok(answer)
 }
