@@ -1,7 +1,16 @@
 -- The program's words, and what it says of a status.
-use Rattle.std.specs.Prelude.{ℕ, ◌==◌, if◌then◌else◌, List, [], codes, slice_get, map, Option, Some, None, string_bytes, String}
+use Rattle.std.specs.Prelude.{ℕ, ◌==◌, if◌then◌else◌, List, [], codes, drop, slice_get, map}
+use Rattle.std.specs.Prelude.{Option, Some, None, Result, Ok, Err, string_bytes, String}
+use Rattle.std.specs.Vec.Iter.{into_iter_items}
+use Rattle.std.specs.declared.vec.IntoIter.{IntoIter}
+use Rattle.std.specs.declared.io.Error.{Error}
 use Rattle.std.specs.Option.{unwrap_or}
 use Rattle.std.specs.declared.alloc.Global.{Global}
+
+-- the words behind the program's name, or none where they can't be given
+abbrev pub words_of : Result (IntoIter (String Global) Global) Error → List (String Global)
+words_of (Ok all) = drop 1 (into_iter_items all)
+words_of (Err error) = []
 
 -- the word with that number, or the empty text for one that is missing
 abbrev pub word_at : List (String Global) → ℕ → List ℕ

@@ -2,34 +2,52 @@
 //! attributes, or shows the plan of that.
 #![tactic(auto)]
 
-ghost use Rattle.std.specs.Prelude.{◌≡◌, IfOk, option_map, string_bytes};
-ghost use Rattle.checkout_program.specs.Words.{word_at, message_of};
+ghost use Rattle.std.specs.Prelude.{◌≡◌, IfOk, IfErr, IsErr, drop, option_map, string_bytes};
+ghost use Rattle.std.specs.Vec.Iter.{into_iter_items};
+ghost use Rattle.std.specs.IoError.{error_kind};
+ghost use Rattle.std.specs.declared.io.ErrorKind.TheVariants.{OutOfMemory};
+ghost use Rattle.checkout_program.specs.Words.{word_at, words_of, message_of};
 
 mod file_leaf;
 mod folder_repo;
 mod folder_tree;
+mod folders;
 mod output_sink;
+mod paths;
 mod whole_file;
 
 use checkout_engine::run;
 use folder_repo::FolderRepo;
 use folder_tree::FolderTree;
 use output_sink::OutputSink;
-use std::alloc::AllocError;
-use std::env::args;
+use std::alloc::{AllocError, Global};
+use std::env::{Args, args};
+use std::io;
+use std::io::{ErrorKind, writer};
 use std::process::ExitCode;
 
-/// The words after the program's name, or none where one of them isn't text.
-fn words_of(rt: HostRuntime) -> Result<Vec<String>, AllocError> {
-    let alloc = rt.alloc();
+/// The words behind the first.
+fn rest_of(alloc: Global, mut all: Args) -> Result<Vec<String>, AllocError>
+    ensures { IfOk result (λ words. words.items ≡ drop 1 (into_iter_items all)) }
+{
     let mut words = Vec::new(alloc);
-    let Ok(all) = args(&rt) else {
-        return Ok(words);
-    };
-    for word in all.skip(1) {
+    let _ = all.next();
+    for word in all {
         words.push(word)?;
     }
     Ok(words)
+}
+
+/// The words after the program's name, or none where one of them isn't text.
+fn words_of(alloc: Global, all: io::Result<Args>) -> Result<Vec<String>, AllocError>
+    ensures words { IfOk result (λ words. words.items ≡ words_of all) }
+    ensures memory { IfErr all (λ e. error_kind e ≡ OutOfMemory → IsErr result) }
+{
+    match all {
+        Ok(all) => rest_of(alloc, all),
+        Err(error) if error.kind() == ErrorKind::OutOfMemory => Err(AllocError),
+        Err(_) => Ok(Vec::new(alloc)),
+    }
 }
 
 /// The word with that number, or the empty text for one that is missing.
@@ -56,11 +74,20 @@ fn message_of(status: u8) -> Option<&'static str>
     }
 }
 
+/// The Git folder and the worktree's folder, by the first and the second word. It reads nothing.
+fn folders_of(rt: HostRuntime, words: &[String]) -> Result<(FolderRepo, FolderTree), AllocError>
+    ensures repo { IfOk result (λ made. string_bytes made.0.folder ≡ word_at words.now 0) }
+    ensures tree { IfOk result (λ made. string_bytes made.1.folder ≡ word_at words.now 1) }
+{
+    let repo = word_at(rt, words, 0)?;
+    let tree = word_at(rt, words, 1)?;
+    Ok((FolderRepo::new(rt, repo), FolderTree::new(rt, tree)))
+}
+
 fn run_words(rt: HostRuntime) -> Result<u8, AllocError> {
-    let words = words_of(rt)?;
-    let mut repo = FolderRepo::new(rt, word_at(rt, &words, 0)?);
-    let mut tree = FolderTree::new(rt, word_at(rt, &words, 1)?);
-    let mut out = OutputSink::new(rt);
+    let words = words_of(rt.alloc(), args(&rt))?;
+    let (mut repo, mut tree) = folders_of(rt, &words)?;
+    let mut out = OutputSink::new(writer(&rt));
     Ok(run(rt.alloc(), &words, &mut repo, &mut tree, &mut out))
 }
 

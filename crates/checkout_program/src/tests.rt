@@ -1,51 +1,54 @@
-mod blob;
 mod leaf;
 mod repo;
+mod sink;
 mod tree;
 
-use crate::folder_repo::{FolderRepo, path_in};
+use crate::folder_repo::FolderRepo;
 use crate::folder_tree::FolderTree;
+use crate::paths::path_in;
 use std::env::temp_dir;
-use std::fs::{create_dir, remove_dir_all};
+use std::fs::{create_dir, read_to_string, remove_dir_all};
+use std::os::unix::fs::symlink;
 use std::{io, process};
 
-/// A fresh folder for the test of that name.
-fn fresh_folder(rt: HostRuntime, test: &str) -> io::Result<String> {
+/// What stands in a test's folder, each at its path.
+#[derive(Clone, Copy)]
+enum There {
+    Folder(&'static str),
+    /// A file with this text.
+    File(&'static str, &'static str),
+    /// A link to this path.
+    Link(&'static str, &'static str),
+}
+
+fn make(rt: HostRuntime, folder: &str, there: There) -> io::Result<()> {
+    match there {
+        There::Folder(path) => create_dir(&rt, path_in(rt.alloc(), folder, path)?.as_str()),
+        There::File(path, text) => {
+            std::fs::write(&rt, path_in(rt.alloc(), folder, path)?.as_str(), text)
+        }
+        There::Link(path, to) => symlink(&rt, to, path_in(rt.alloc(), folder, path)?.as_str()),
+    }
+}
+
+/// A fresh folder for the test of that name, with what is to stand in it.
+fn folder_with(rt: HostRuntime, test: &str, all: &[There]) -> io::Result<String> {
     let base = temp_dir(&rt)?;
     let id = process::id(rt.process());
     let folder = format!(in rt.alloc(); "{}/checkout-{test}-{id}", base.display())?;
     let _ = remove_dir_all(&rt, folder.as_str());
     create_dir(&rt, folder.as_str())?;
+    for there in all {
+        make(rt, folder.as_str(), *there)?;
+    }
     Ok(folder)
 }
 
-/// The Git folder at this path in a test's folder.
-fn repo_in(rt: HostRuntime, folder: &str, path: &str) -> io::Result<FolderRepo> {
-    Ok(FolderRepo::new(rt, path_in(rt.alloc(), folder, path)?))
-}
-
-/// The worktree at this path in a test's folder.
-fn tree_in(rt: HostRuntime, folder: &str, path: &str) -> io::Result<FolderTree> {
-    Ok(FolderTree::new(rt, path_in(rt.alloc(), folder, path)?))
-}
-
-/// Makes a folder in a test's folder.
-fn make_folder(rt: HostRuntime, folder: &str, path: &str) -> io::Result<()> {
-    create_dir(&rt, path_in(rt.alloc(), folder, path)?.as_str())
-}
-
-/// Makes a file in a test's folder.
-fn make_file(rt: HostRuntime, folder: &str, path: &str, text: &str) -> io::Result<()> {
-    std::fs::write(&rt, path_in(rt.alloc(), folder, path)?.as_str(), text)
-}
-
-/// Whether a file in a test's folder holds this text.
-fn file_holds(rt: HostRuntime, folder: &str, path: &str, text: &str) -> io::Result<bool> {
-    let held = std::fs::read_to_string(&rt, path_in(rt.alloc(), folder, path)?.as_str())?;
-    Ok(held.as_str() == text)
-}
-
-/// Whether anything is at a path in a test's folder.
-fn is_there(rt: HostRuntime, folder: &str, path: &str) -> io::Result<bool> {
-    std::fs::exists(&rt, path_in(rt.alloc(), folder, path)?.as_str())
+/// Whether the file at a path of a test's folder has that text, or nothing is there.
+fn holds(rt: HostRuntime, folder: &str, path: &str, text: Option<&str>) -> io::Result<bool> {
+    let path = path_in(rt.alloc(), folder, path)?;
+    match text {
+        Some(text) => Ok(read_to_string(&rt, path.as_str())?.as_str() == text),
+        None => Ok(!std::fs::exists(&rt, path.as_str())?),
+    }
 }

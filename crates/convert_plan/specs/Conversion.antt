@@ -16,11 +16,13 @@ is_set Set = true
 is_set state = false
 
 -- with the encoding that is named, if it is known
-abbrev pub with_encoding : Bool → LineEnds → Result (Option Encoding) UnknownEncoding → Result Conversion UnknownEncoding
+abbrev pub with_encoding : Bool → LineEnds → Result (Option Encoding) UnknownEncoding
+    → Result Conversion UnknownEncoding
 with_encoding ident ends (Ok encoding) = Ok (record { ident = ident; ends = ends; encoding = encoding })
 with_encoding ident ends (Err e) = Err e
 
 -- by the states of `text`, `crlf`, `eol`, `ident` and `working-tree-encoding`
 abbrev pub conversion_of : List AttrState → AutoCrlf → EolSetting → Result Conversion UnknownEncoding
-conversion_of (text ∷ crlf ∷ eol ∷ ident ∷ encoding ∷ []) auto setting = with_encoding (is_set ident) (line_ends_of text crlf eol auto setting) (encoding_of encoding)
+conversion_of (text ∷ crlf ∷ eol ∷ ident ∷ encoding ∷ []) auto setting =
+    with_encoding (is_set ident) (line_ends_of text crlf eol auto setting) (encoding_of encoding)
 conversion_of states auto setting = Err (record {})

@@ -19,4 +19,5 @@ in_encoding (Some encoding) content = encoded content encoding
 
 -- the keyword first, then line ends, then the encoding
 abbrev pub prepared : Conversion → List ℕ → List ℕ → Prepared
-prepared conversion name content = in_encoding conversion.encoding (to_tree_ends (with_ident conversion.ident name content) conversion.ends)
+prepared conversion name content =
+    in_encoding conversion.encoding (to_tree_ends (with_ident conversion.ident name content) conversion.ends)

@@ -34,7 +34,7 @@ pub fn conversion_of(
     ensures { result ≡ conversion_of states.now auto setting }
 {
     let [text, crlf, eol, ident, encoding] = states else {
-        return Err(UnknownEncoding);
+        unreachable!()
     };
     match encoding_of(encoding) {
         Ok(encoding) => Ok(Conversion {

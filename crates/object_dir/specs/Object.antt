@@ -1,5 +1,6 @@
 -- What an object's stored bytes hold.
-use Rattle.std.specs.Prelude.{◌≡◌, ℕ, Bool, ◌&&◌, ◌==◌, not, nat_lt, List, length, take, drop, codes, is_some, position, Option, Some, None, Result, Ok, Err, if◌then◌else◌}
+use Rattle.std.specs.Prelude.{◌≡◌, ℕ, Bool, ◌&&◌, ◌==◌, not, nat_lt, if◌then◌else◌}
+use Rattle.std.specs.Prelude.{List, length, take, drop, codes, position, Option, Some, None, is_some, Result, Ok, Err}
 use Rattle.std.specs.Global.{Vec}
 use Rattle.std.specs.List.{before_first, after_first}
 use Rattle.std.specs.Str.{bytes_eq}
@@ -11,7 +12,8 @@ use Rattle.edge_kit.specs.declared.faults.TakeFault.{TakeFault}
 use Rattle.edge_kit.specs.declared.faults.TakeFault.TheVariants as take
 use Rattle.sha1.specs.Sha1.{sha1}
 use Rattle.object_dir.specs.declared.fault.ObjectFault.{ObjectFault}
-use Rattle.object_dir.specs.declared.fault.ObjectFault.TheVariants.{ReadFailed, Absent, TooLarge, Header, Size, WrongName, NoMemory}
+use Rattle.object_dir.specs.declared.fault.ObjectFault.TheVariants.{ReadFailed, Absent, TooLarge, Header, Size}
+use Rattle.object_dir.specs.declared.fault.ObjectFault.TheVariants.{WrongName, NoMemory}
 
 -- the most stored bytes: `blob 67108864`, a NUL and 67,108,864 bytes
 abbrev pub max_stored : ℕ
@@ -29,7 +31,9 @@ content_of stored = after_first is_nul (drop 5 stored)
 
 -- whether the stored bytes begin with `blob `, a decimal and a NUL
 abbrev pub has_header : List ℕ → Bool
-has_header stored = bytes_eq (take 5 stored) (codes "blob ") && is_some (position is_nul (drop 5 stored)) && is_decimal (size_text stored)
+has_header stored =
+    bytes_eq (take 5 stored) (codes "blob ") && is_some (position is_nul (drop 5 stored))
+    && is_decimal (size_text stored)
 
 -- the content of stored bytes under a name, or the first fault
 unfoldable pub stored_content : List ℕ → List ℕ → Result (List ℕ) ObjectFault
@@ -41,7 +45,8 @@ stored_content stored name =
 
 -- the same within the limit
 abbrev pub object_of : List ℕ → List ℕ → Result (List ℕ) ObjectFault
-object_of stored name = if nat_lt max_stored (length stored) then Err TooLarge else stored_content stored name
+object_of stored name =
+    if nat_lt max_stored (length stored) then Err TooLarge else stored_content stored name
 
 -- the same by what a blob gave within the limit
 abbrev pub object_in : Result (Option (Vec ℕ)) TakeFault → List ℕ → Result (List ℕ) ObjectFault

@@ -6,7 +6,8 @@ ghost use Rattle.object_dir.specs.Spelling.{spelled_blob};
 /// The law that a content within the limit is what its stored bytes give under its name. It does nothing.
 pub fn spelling_gives_its_content(content: &[u8])
     requires { length content.now ≤ 67108864 }
-    ensures { let stored = spelled_blob content.now in object_of stored (sha1 stored) ≡ Ok content.now }
+    ensures { let stored = spelled_blob content.now in
+        object_of stored (sha1 stored) ≡ Ok content.now }
 {}
 
 /// The law that stored bytes give a content only where they are its spelling and have the name. It does nothing.

@@ -1,62 +1,182 @@
+use super::There::{File, Folder, Link};
 use super::*;
-use edge_kit::{Repo, TakeFault};
+use edge_kit::TakeFault::{Failed, TooLong};
+use edge_kit::{Blob, Repo, TakeFault};
 use std::test::Fail;
 
-#[test]
-fn absent_git_folder_has_no_files(rt: HostRuntime) -> Result<(), Fail> {
-    let folder = fresh_folder(rt, "absent-repo")?;
-    let mut repo = repo_in(rt, folder.as_str(), "none")?;
-    assert!(rt; repo.index_bytes(9)?.is_none());
-    assert!(rt; repo.config_bytes(9)?.is_none());
-    assert!(rt; repo.info_attributes(9)?.is_none());
-    remove_dir_all(&rt, folder.as_str())?;
-    Ok(())
+/// The name 0123456789abcdef0123456789abcdef01234567, and the path of its object.
+const NAME: [u8; 20] = [
+    0x01, 0x23, 0x45, 0x67, 0x89, 0xAB, 0xCD, 0xEF, 0x01, 0x23, 0x45, 0x67, 0x89, 0xAB, 0xCD, 0xEF,
+    0x01, 0x23, 0x45, 0x67,
+];
+
+const OBJECT: &str = "repo/objects/01/23456789abcdef0123456789abcdef01234567";
+
+/// What is read.
+#[derive(Clone, Copy)]
+enum Part {
+    Index,
+    Config,
+    Info,
+    Object,
 }
 
-#[test]
-fn index_that_is_a_folder_is_a_fault(rt: HostRuntime) -> Result<(), Fail> {
-    let folder = fresh_folder(rt, "folder-index")?;
-    make_folder(rt, folder.as_str(), "index")?;
-    let mut repo = FolderRepo::new(rt, folder.clone()?);
-    assert!(rt; repo.index_bytes(9).err() == Some(TakeFault::Failed));
-    remove_dir_all(&rt, folder.as_str())?;
-    Ok(())
+fn read(repo: &mut FolderRepo, part: Part, limit: u64) -> Result<Option<Vec<u8>>, TakeFault> {
+    match part {
+        Part::Index => repo.index_bytes(limit),
+        Part::Config => repo.config_bytes(limit),
+        Part::Info => repo.info_attributes(limit),
+        Part::Object => {
+            let mut blob = repo.blob(&NAME)?;
+            let taken = blob.take_all(limit);
+            repo.take_back(blob);
+            taken
+        }
+    }
 }
 
-#[test]
-fn file_in_the_place_of_the_git_folder_is_a_fault(rt: HostRuntime) -> Result<(), Fail> {
-    let folder = fresh_folder(rt, "file-repo")?;
-    make_file(rt, folder.as_str(), "repo", "")?;
-    let mut repo = repo_in(rt, folder.as_str(), "repo")?;
-    assert!(rt; repo.config_bytes(9).err() == Some(TakeFault::Failed));
-    assert!(rt; repo.info_attributes(9).err() == Some(TakeFault::Failed));
-    remove_dir_all(&rt, folder.as_str())?;
-    Ok(())
+type Wanted = Result<Option<&'static [u8]>, TakeFault>;
+
+fn is_wanted(taken: Result<Option<Vec<u8>>, TakeFault>, wanted: Wanted) -> bool {
+    match (taken, wanted) {
+        (Ok(Some(bytes)), Ok(Some(wanted))) => bytes.as_slice() == wanted,
+        (Ok(None), Ok(None)) => true,
+        (Err(fault), Err(wanted)) => fault == wanted,
+        _ => false,
+    }
 }
 
-#[test]
-fn index_is_read_within_its_limit(rt: HostRuntime) -> Result<(), Fail> {
-    let folder = fresh_folder(rt, "limited-index")?;
-    make_file(rt, folder.as_str(), "index", "DIRC!")?;
-    let mut repo = FolderRepo::new(rt, folder.clone()?);
-    assert!(rt; repo.index_bytes(4).err() == Some(TakeFault::TooLong));
-    let bytes = repo.index_bytes(5)?.ok_or("absent")?;
-    assert!(rt; bytes.as_slice() == b"DIRC!".as_slice());
+/// What is read of the folder `repo`, within a limit.
+type Case = (&'static [There], Part, u64, Wanted);
+
+fn is_right(rt: HostRuntime, case: Case) -> Result<bool, Fail> {
+    let (there, part, limit, wanted) = case;
+    let folder = folder_with(rt, "repo", there)?;
+    let mut repo = FolderRepo::new(rt, path_in(rt.alloc(), folder.as_str(), "repo")?);
+    let taken = read(&mut repo, part, limit);
     remove_dir_all(&rt, folder.as_str())?;
-    Ok(())
+    Ok(is_wanted(taken, wanted))
 }
 
+const REPO: There = Folder("repo");
+
+const OBJECTS: There = Folder("repo/objects");
+
+const CASES: [Case; 21] = [
+    // no Git folder
+    (&[], Part::Index, 9, Ok(None)),
+    (&[], Part::Config, 9, Ok(None)),
+    (&[], Part::Info, 9, Ok(None)),
+    (&[], Part::Object, 9, Ok(None)),
+    // each file at its place
+    (
+        &[REPO, File("repo/index", "DIRC!")],
+        Part::Index,
+        5,
+        Ok(Some(b"DIRC!")),
+    ),
+    (
+        &[REPO, File("repo/config", "[core]")],
+        Part::Config,
+        6,
+        Ok(Some(b"[core]")),
+    ),
+    (
+        &[
+            REPO,
+            Folder("repo/info"),
+            File("repo/info/attributes", "* text"),
+        ],
+        Part::Info,
+        6,
+        Ok(Some(b"* text")),
+    ),
+    (
+        &[
+            REPO,
+            OBJECTS,
+            Folder("repo/objects/01"),
+            File(OBJECT, "blob 1\0a"),
+        ],
+        Part::Object,
+        8,
+        Ok(Some(b"blob 1\0a")),
+    ),
+    (
+        &[REPO, File("repo/index", "")],
+        Part::Index,
+        0,
+        Ok(Some(b"")),
+    ),
+    // a link to a file
+    (
+        &[REPO, File("repo/a", "x"), Link("repo/index", "a")],
+        Part::Index,
+        9,
+        Ok(Some(b"x")),
+    ),
+    // over the limit
+    (
+        &[REPO, File("repo/index", "DIRC!")],
+        Part::Index,
+        4,
+        Err(TooLong),
+    ),
+    (
+        &[
+            REPO,
+            OBJECTS,
+            Folder("repo/objects/01"),
+            File(OBJECT, "blob 1\0a"),
+        ],
+        Part::Object,
+        7,
+        Err(TooLong),
+    ),
+    // an object that isn't there
+    (&[REPO, OBJECTS], Part::Object, 9, Ok(None)),
+    (
+        &[REPO, OBJECTS, Folder("repo/objects/01")],
+        Part::Object,
+        9,
+        Ok(None),
+    ),
+    // no regular file
+    (&[REPO, Folder("repo/index")], Part::Index, 9, Err(Failed)),
+    (
+        &[REPO, Link("repo/index", "/dev/null")],
+        Part::Index,
+        9,
+        Err(Failed),
+    ),
+    (
+        &[REPO, Link("repo/config", "/dev/zero")],
+        Part::Config,
+        9,
+        Err(Failed),
+    ),
+    // a link to itself
+    (
+        &[REPO, Link("repo/config", "config")],
+        Part::Config,
+        9,
+        Err(Failed),
+    ),
+    // a file in the place of a folder
+    (&[File("repo", "")], Part::Config, 9, Err(Failed)),
+    (&[File("repo", "")], Part::Info, 9, Err(Failed)),
+    (
+        &[REPO, OBJECTS, File("repo/objects/01", "")],
+        Part::Object,
+        9,
+        Err(Failed),
+    ),
+];
+
 #[test]
-fn settings_and_attributes_have_their_places(rt: HostRuntime) -> Result<(), Fail> {
-    let folder = fresh_folder(rt, "places")?;
-    make_file(rt, folder.as_str(), "config", "[core]")?;
-    make_folder(rt, folder.as_str(), "info")?;
-    make_file(rt, folder.as_str(), "info/attributes", "* text")?;
-    let mut repo = FolderRepo::new(rt, folder.clone()?);
-    let config = repo.config_bytes(6)?.ok_or("no config")?;
-    assert!(rt; config.as_slice() == b"[core]".as_slice());
-    let info = repo.info_attributes(6)?.ok_or("no attributes")?;
-    assert!(rt; info.as_slice() == b"* text".as_slice());
-    remove_dir_all(&rt, folder.as_str())?;
+fn files_of_a_git_folder_are_read_whole(rt: HostRuntime) -> Result<(), Fail> {
+    for (at, case) in CASES.into_iter().enumerate() {
+        assert!(rt; is_right(rt, case)?, "at {at}");
+    }
     Ok(())
 }

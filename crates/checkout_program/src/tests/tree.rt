@@ -1,34 +1,33 @@
+use super::There::{File, Folder};
 use super::*;
 use edge_kit::{Failed, Worktree};
 use std::test::Fail;
 
-#[test]
-fn absent_folder_is_empty(rt: HostRuntime) -> Result<(), Fail> {
-    let folder = fresh_folder(rt, "absent-tree")?;
-    let mut tree = tree_in(rt, folder.as_str(), "none")?;
-    assert!(rt; tree.is_empty()?);
-    remove_dir_all(&rt, folder.as_str())?;
-    Ok(())
-}
+const TREE: There = Folder("tree");
+
+const GIT: There = Folder("tree/.git");
+
+const A: There = File("tree/a", "");
+
+/// What stands there, and whether the folder `tree` is empty.
+const CASES: [(&[There], Result<bool, Failed>); 7] = [
+    (&[], Ok(true)),
+    (&[TREE], Ok(true)),
+    (&[TREE, GIT], Ok(true)),
+    (&[TREE, A], Ok(false)),
+    // whichever entry comes first
+    (&[TREE, GIT, A], Ok(false)),
+    (&[TREE, A, GIT], Ok(false)),
+    (&[File("tree", "")], Err(Failed)),
+];
 
 #[test]
-fn git_entry_does_not_count(rt: HostRuntime) -> Result<(), Fail> {
-    let folder = fresh_folder(rt, "git-entry")?;
-    let mut tree = FolderTree::new(rt, folder.clone()?);
-    make_folder(rt, folder.as_str(), ".git")?;
-    assert!(rt; tree.is_empty()?);
-    make_file(rt, folder.as_str(), "a", "")?;
-    assert!(rt; !tree.is_empty()?);
-    remove_dir_all(&rt, folder.as_str())?;
-    Ok(())
-}
-
-#[test]
-fn file_in_the_place_of_the_worktree_is_a_fault(rt: HostRuntime) -> Result<(), Fail> {
-    let folder = fresh_folder(rt, "file-tree")?;
-    make_file(rt, folder.as_str(), "tree", "")?;
-    let mut tree = tree_in(rt, folder.as_str(), "tree")?;
-    assert!(rt; tree.is_empty() == Err(Failed));
-    remove_dir_all(&rt, folder.as_str())?;
+fn worktrees_are_empty_but_for_git(rt: HostRuntime) -> Result<(), Fail> {
+    for (there, wanted) in CASES {
+        let folder = folder_with(rt, "tree", there)?;
+        let mut tree = FolderTree::new(rt, path_in(rt.alloc(), folder.as_str(), "tree")?);
+        assert_eq!(rt; tree.is_empty(), wanted);
+        remove_dir_all(&rt, folder.as_str())?;
+    }
     Ok(())
 }
