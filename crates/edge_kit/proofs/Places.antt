@@ -1,5 +1,5 @@
 -- Objects by their names, from the last to the first.
-use Rattle.std.proofs.Common.{◌≡◌, ℕ, ◌+◌, Bool, true, false, cond, List, [], ◌∷◌, ◌++◌, length, take, drop, Option, Some, None, refl, sym, ap, ◌∙◌, arith}
+use Rattle.std.proofs.Common.{◌≡◌, ℕ, Bool, true, false, cond, List, [], ◌∷◌, ◌++◌, length, take, drop, Option, Some, refl, sym, ap, ◌∙◌, arith}
 use Rattle.std.proofs.lemmas.List.{drop_all, take_at, drop_at, append_assoc, take-append-drop}
 use Rattle.std.proofs.lemmas.Map.Text.{is_eq-slice_cmp}
 use Rattle.std.specs.Global.{Vec}
@@ -8,7 +8,7 @@ use Rattle.std.specs.BTreeMap.{BTreeMap, get, Updates}
 use Rattle.std.specs.Str.{bytes_eq}
 use Rattle.std.specs.Ordering.{nat_cmp}
 use Rattle.std.specs.Cmp.Lexicographic.{slice_cmp}
-use Rattle.edge_kit.specs.Told.{Told, Raw, Absent}
+use Rattle.edge_kit.specs.Told.{Told, Raw}
 use Rattle.edge_kit.specs.Memory.{object_at, content_told, first_object}
 
 abbrev Objects : Type 0
