@@ -9,6 +9,10 @@ use Rattle.turn_lock.specs.declared.view.Knows.{Knows}
 use Rattle.turn_lock.specs.declared.view.Knows.TheVariants.{Spent, Seated}
 use Rattle.turn_lock.specs.Rule.{entering, leaving, gave}
 
+-- a lock's table has one word and one slot
+abbrev pub IsSmall : TableId → Type 0
+IsSmall id = (id.words ≡ 1) × (id.slots ≡ 1)
+
 pub record SeatView (E D : Type 0) : Type 0 where
   pub lock : TableId
   pub known : Knows E D

@@ -15,14 +15,25 @@ use crate::steps::RawSeat;
 use crate::view::Knows;
 use atomic_table::Table;
 use std::alloc::{AllocError, Global};
+use std::marker::Model;
 use std::snapshot::Snapshot;
 use std::sync::Wait;
 
-/// A value with a history, and the turns of its seats.
+/// A value with a history, and the turns of its seats. A contract sees the lock's identity, which its seats have too.
 #[derive(Drop)]
 pub struct TurnLock<T: Kept + Drop> {
     pub(crate) table: Table<Option<T>, Knows<T::Entry, T::Told>, Snapshot<T>, Law, Global>,
-    ghost sized: { (table.shared.table_id.words ≡ 1) × (table.shared.table_id.slots ≡ 1) },
+}
+
+impl<T: Kept + Drop> Model for TurnLock<T> {
+    ghost use Rattle.atomic_table.specs.Seated.{TableId};
+    ghost use Rattle.turn_lock.specs.Seat.{IsSmall};
+
+    ghost Value = { TableId };
+
+    ghost view = { λ s. s.table.shared.table_id };
+
+    ghost invariant = { λ s. IsSmall s.table.shared.table_id };
 }
 
 /// The value, for one turn.
@@ -42,7 +53,7 @@ impl<T: Kept + Drop> TurnLock<T> {
         requires fits { T.fits value (T.told value) }
         ensures count { IfOk result (λ r. length r.1.items ≡ seats) }
         ensures seats { IfOk result (λ r.
-            AreSeats r.0.table.shared.table_id (T.told value) 0 seats r.1.items) }
+            AreSeats r.0 (T.told value) 0 seats r.1.items) }
         ensures unseen { IfOk result (λ r. All (λ s. seen_of s ≡ []) r.1.items) }
     {
         let mut all = Vec::with_capacity(alloc, seats as usize)?;
@@ -64,7 +75,7 @@ impl<T: Kept + Drop> TurnLock<T> {
     /// Waits for the seat's turn, and gives the value. The seat's own entries are those that it made, and what it saw at
     /// its last turn is a first part of the history that it finds.
     pub fn enter<H: Wait>(&self, rt: &H, seat: &mut TurnSeat<T>) -> Turn<T>
-        requires of { (seat.old).lock ≡ self.now.table.shared.table_id }
+        requires of { (seat.old).lock ≡ self.now }
         requires out { place_of seat.old ≡ Out }
         ensures inside { seat.new ≡ entered (T.history result.value) seat.old }
         ensures fits { (d : _) → told_of seat.old ≡ Some d → T.fits result.value d }
@@ -77,7 +88,7 @@ impl<T: Kept + Drop> TurnLock<T> {
     /// Puts the value back, and passes the turn on. The history is the one that was found, or has one entry more, which
     /// is this seat's.
     pub fn leave(&self, seat: &mut TurnSeat<T>, turn: Turn<T>)
-        requires of { (seat.old).lock ≡ self.now.table.shared.table_id }
+        requires of { (seat.old).lock ≡ self.now }
         requires inside { (found : _) × (place_of seat.old ≡ Inside found)
             × Follows (number_of seat.old) found (T.history turn.value) }
         requires fits { (d : _) × (told_of seat.old ≡ Some d) × T.fits turn.value d }
@@ -88,10 +99,10 @@ impl<T: Kept + Drop> TurnLock<T> {
 
     /// Gives a seat that made no entry, into which the others can be joined.
     fn gatherer(&self, first: &mut TurnSeat<T>) -> RawSeat<T>
-        requires of { (first.old).lock ≡ self.now.table.shared.table_id }
+        requires of { (first.old).lock ≡ self.now }
         requires out { place_of first.old ≡ Out }
         requires makes { 0 < made_of first.old }
-        ensures of { result.table_id ≡ self.now.table.shared.table_id }
+        ensures of { result.table_id ≡ self.now }
         ensures first { first.new ≡ raised first.old }
         ensures result { result.me ≡ (newcomer first.old.known, []) }
     {
@@ -102,8 +113,8 @@ impl<T: Kept + Drop> TurnLock<T> {
     /// the seat's in the history, and nobody else has an entry.
     pub fn end(self, mut seats: Vec<TurnSeat<T>>) -> T
         requires all { (d : T.Told) × (0 < length seats.items)
-            × AreSeats self.table.shared.table_id d 0 (length seats.items) seats.items }
-        ensures fits { (d : T.Told) → AreSeats self.table.shared.table_id d 0 (length seats.items) seats.items
+            × AreSeats self d 0 (length seats.items) seats.items }
+        ensures fits { (d : T.Told) → AreSeats self d 0 (length seats.items) seats.items
             → T.fits result d }
         ensures seen { (i : ℕ) (s : SeatView T.Entry T.Told) → slice_get seats.items i ≡ Some s
             → Begins (seen_of s) (T.history result) }

@@ -22,7 +22,7 @@ impl<T: Kept + Drop> TurnLock<T> {
     pub(crate) fn open(alloc: Global, value: T) -> Result<(TurnLock<T>, RawSeat<T>), AllocError>
         requires empty { T.history value ≡ [] }
         requires fits { T.fits value (T.told value) }
-        ensures of { IfOk result (λ r. r.1.table_id ≡ r.0.table.shared.table_id) }
+        ensures of { IfOk result (λ r. r.1.table_id ≡ r.0) }
         ensures seat { IfOk result (λ r. r.1.me ≡ (opened (T.told value), [])) }
     {
         let told = Snapshot::of(&value);
@@ -36,7 +36,7 @@ impl<T: Kept + Drop> TurnLock<T> {
 
     /// A new seat, with the next number.
     pub(crate) fn split(&self, seat: &mut RawSeat<T>) -> RawSeat<T>
-        requires of { seat.old.table_id ≡ self.now.table.shared.table_id }
+        requires of { seat.old.table_id ≡ self.now }
         requires out { (v : View T.Entry T.Told) × IsOut seat.old.me v × (0 < v.made) }
         ensures of { (seat.new.table_id ≡ seat.old.table_id) × (result.table_id ≡ seat.old.table_id) }
         ensures seats { (v : View T.Entry T.Told) → IsOut seat.old.me v
@@ -47,8 +47,8 @@ impl<T: Kept + Drop> TurnLock<T> {
 
     /// Joins another seat into this one.
     pub(crate) fn join(&self, seat: &mut RawSeat<T>, other: RawSeat<T>)
-        requires of { (seat.old.table_id ≡ self.now.table.shared.table_id)
-            × (other.table_id ≡ self.now.table.shared.table_id) }
+        requires of { (seat.old.table_id ≡ self.now)
+            × (other.table_id ≡ self.now) }
         requires out { (v : View T.Entry T.Told) × (w : View T.Entry T.Told)
             × IsOut seat.old.me v × IsOut other.me w }
         ensures of { seat.new.table_id ≡ seat.old.table_id }
@@ -60,7 +60,7 @@ impl<T: Kept + Drop> TurnLock<T> {
 
     /// The value, at the end, from a seat into which all others were joined.
     pub(crate) fn close(self, seat: RawSeat<T>) -> T
-        requires of { seat.table_id ≡ self.table.shared.table_id }
+        requires of { seat.table_id ≡ self }
         requires all { (v : View T.Entry T.Told) × IsOut seat.me v × Covers v }
         ensures { (v : View T.Entry T.Told) → IsOut seat.me v → Covers v → Closes T.history T.fits v result }
     {
@@ -73,7 +73,7 @@ impl<T: Kept + Drop> TurnLock<T> {
 
     /// Waits for the seat's turn, and takes the value.
     pub(crate) fn take_turn<H: Wait>(&self, rt: &H, seat: &mut RawSeat<T>) -> Turn<T>
-        requires of { seat.old.table_id ≡ self.now.table.shared.table_id }
+        requires of { seat.old.table_id ≡ self.now }
         requires out { (v : View T.Entry T.Told) × IsOut seat.old.me v }
         ensures of { seat.new.table_id ≡ seat.old.table_id }
         ensures turn { (v : View T.Entry T.Told) → IsOut seat.old.me v
@@ -96,7 +96,7 @@ impl<T: Kept + Drop> TurnLock<T> {
 
     /// Puts the value back, and passes the turn on.
     pub(crate) fn give_turn(&self, seat: &mut RawSeat<T>, turn: Turn<T>)
-        requires of { seat.old.table_id ≡ self.now.table.shared.table_id }
+        requires of { seat.old.table_id ≡ self.now }
         requires inside { (v : View T.Entry T.Told) × (found : _) × IsIn seat.old.me v found
             × T.fits turn.value v.told × Follows v.number found (T.history turn.value) }
         ensures of { seat.new.table_id ≡ seat.old.table_id }

@@ -11,20 +11,20 @@ loop-seat-init g c = record {
   of = c.gatherer-all.ensures.of;
   gathered = λ d all.
       let at = first_is c.args.seats.items c.index_mut.result.now c.requires.all.1 c.index_mut.ensures.value in
-      begun c.args.self.table.shared.table_id d c.args.seats.items _ c.index_mut.result.now c.gatherer-all.result.me all at
+      begun c.args.self d c.args.seats.items _ c.index_mut.result.now c.gatherer-all.result.me all at
           (set_first c.args.seats.items c.index_mut.result.now c.gatherer-all.new.first at c.gatherer-all.ensures.first) c.gatherer-all.ensures.result;
 }
 
 pub join-requires-clause-of : goal.join-requires-clause-of
 join-requires-clause-of g c =
-    let lock = c.args.self.table.shared.table_id in
+    let lock = c.args.self in
     let r = c.requires.all in
     let j = goes_on lock r.0 c.args.seats.items c.loop-seat.seats.items c.pop.new.self.items c.in-Some.seat c.loop-seat.all.me r.2 (c.in-Some.ensures.items) (c.loop-seat.invariant.gathered r.0 r.2) in
     (c.loop-seat.invariant.of, ap (λ s. s.lock) c.seat.view_is ∙ j.of)
 
 pub join-requires-clause-out : goal.join-requires-clause-out
 join-requires-clause-out g c =
-    let lock = c.args.self.table.shared.table_id in
+    let lock = c.args.self in
     let r = c.requires.all in
     let j = goes_on lock r.0 c.args.seats.items c.loop-seat.seats.items c.pop.new.self.items c.in-Some.seat c.loop-seat.all.me r.2 (c.in-Some.ensures.items) (c.loop-seat.invariant.gathered r.0 r.2) in
     let o = out_of _ _ c.seat.invariant.0 (ap (λ s. s.known) c.seat.view_is) j.out in
@@ -32,7 +32,7 @@ join-requires-clause-out g c =
 
 pub loop-seat-preserved : goal.loop-seat-preserved
 loop-seat-preserved g c =
-    let lock = c.args.self.table.shared.table_id in
+    let lock = c.args.self in
     record {
       of = c.join.ensures.of ∙ c.loop-seat.invariant.of;
       gathered = λ d all.

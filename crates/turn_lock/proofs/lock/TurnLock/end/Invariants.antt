@@ -7,8 +7,8 @@ use Rattle.turn_lock.proofs.lock.TurnLock.end.Given as goal
 
 abbrev pub invariant-loop-seat : goal.invariant-loop-seat
 invariant-loop-seat g l = record {
-  of : l.all.table_id ≡ l.fn.self.table.shared.table_id;
-  gathered : (d : g.row.T-Told.Denot) → AreSeats l.fn.self.table.shared.table_id d 0 (length l.fn.seats.items) l.fn.seats.items
+  of : l.all.table_id ≡ l.fn.self;
+  gathered : (d : g.row.T-Told.Denot) → AreSeats l.fn.self d 0 (length l.fn.seats.items) l.fn.seats.items
       → Gathered d (first_raised l.fn.seats.items) l.seats.items l.all.me;
 }
 

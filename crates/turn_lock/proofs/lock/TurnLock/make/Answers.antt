@@ -21,7 +21,7 @@ loop-number-preserved g c =
     let told = g.T.Kept.told c.args.value in
     let v = first_at told c.loop-number.number in
     let s = c.split-seat.ensures.seats v (i.first, refl) in
-    let lock = c.in_ok-lock.lock.table.shared.table_id in
+    let lock = c.lock.inside.table.shared.table_id in
     let S : Type 0 = SeatView g.row.T-Entry.Denot g.row.T-Told.Denot in
     let new : S = record { lock = c.split-seat.result.table_id; known = c.split-seat.result.me.0 } in
     let e : c.push.new.self.items ≡ c.loop-number.all.items ++ new ∷ [] = c.in_ok-push.ensures.items in
