@@ -1,17 +1,15 @@
 -- The rule at the start and at the end.
-use Rattle.std.proofs.Common.{◌≡◌, ◌≢◌, ℕ, zero, suc, ◌⊎◌, ◌<◌, ◌≤◌, List, [], ◌∷◌, length, Option, Some, None, refl, sym, ap, ◌∙◌, subst, arith}
+use Rattle.std.proofs.Common.{◌≡◌, ℕ, zero, suc, ◌<◌, List, [], ◌∷◌, Option, Some, refl, sym, ap, ◌∙◌, subst, arith}
 use Rattle.std.specs.Prelude.{slice_index}
 use mathlib.Core.Logic.{dite}
-use mathlib.Core.Option.{some, none, some-ne-none, some-injective}
+use mathlib.Core.Option.{some, some-ne-none, some-injective}
 use native.Mathlib.Decide.{ℕ_discrete}
 use lib.ListN.{get_elem?}
 use Rattle.atomic_table.specs.Table.{State, opening, Final, Seen}
-use Rattle.turn_lock.specs.declared.view.Place.{Place}
 use Rattle.turn_lock.specs.declared.view.Place.TheVariants.{Out, Inside}
-use Rattle.turn_lock.specs.declared.view.Old.{Old}
 use Rattle.turn_lock.specs.declared.view.View.{View}
 use Rattle.turn_lock.specs.declared.view.Knows.{Knows}
-use Rattle.turn_lock.specs.declared.view.Knows.TheVariants.{Spent, Seated}
+use Rattle.turn_lock.specs.declared.view.Knows.TheVariants.{Seated}
 use Rattle.turn_lock.specs.History.{own, Begins}
 use Rattle.turn_lock.specs.Rule.{IsOld, Fits, Live, Ruled, Covers, Closes, opened}
 use Rattle.turn_lock.proofs.Seating.{live_one}

@@ -1,10 +1,9 @@
 -- The seats are gathered into one that made no entry.
-use Rattle.std.proofs.Common.{◌≡◌, ◌≢◌, ℕ, zero, suc, ◌+◌, ◌<◌, ◌≤◌, max, List, [], ◌∷◌, ◌++◌, length, length-append, Option, Some, refl, sym, ap, ◌∙◌, subst, arith, append_assoc}
+use Rattle.std.proofs.Common.{◌≡◌, ℕ, zero, suc, ◌<◌, ◌≤◌, List, [], ◌∷◌, ◌++◌, length, length-append, Option, Some, refl, sym, ap, ◌∙◌, subst, arith, append_assoc}
 use Rattle.std.specs.Prelude.{slice_get, slice_index_or, slice_set}
 use mathlib.Core.Logic.{dite}
-use mathlib.Core.Option.{some, some-ne-none}
-use native.Mathlib.Decide.{ℕ_discrete, dec_lt}
-use lib.ListN.{get_elem?}
+use mathlib.Core.Option.{some}
+use native.Mathlib.Decide.{ℕ_discrete}
 use Rattle.atomic_table.specs.Table.{Me}
 use Rattle.atomic_table.specs.Seated.{TableId}
 use Rattle.turn_lock.specs.declared.view.Place.TheVariants.{Out}
@@ -16,7 +15,7 @@ use Rattle.turn_lock.specs.History.{own, Begins}
 use Rattle.turn_lock.specs.Rule.{IsOld, old_of, with_other, new_seat, gave, newcomer, Covers, Closes}
 use Rattle.turn_lock.specs.Seat.{SeatView, place_of, seen_of, mine_of, seen, mine, number, made, raised}
 use Rattle.turn_lock.specs.Seats.{IsSeat, AreSeats}
-use Rattle.turn_lock.proofs.Rows.{Shown, shown, made_at, row_at, view_at}
+use Rattle.turn_lock.proofs.Rows.{shown, made_at, row_at, view_at}
 
 made_where : (made i : ℕ) → 0 < i → made_at made i ≡ 0
 made_where made zero h = absurd (omega arith)
@@ -32,7 +31,7 @@ module _ {A : Type 0} where
   at_end [] x rest = refl
   at_end (y ∷ xs) x rest = at_end xs x rest
 
-  in_range : (xs : List A) (i : ℕ) (x : A) → slice_get xs i ≡ Some x → i < length xs
+  pub in_range : (xs : List A) (i : ℕ) (x : A) → slice_get xs i ≡ Some x → i < length xs
   in_range [] i x e = absurd (cc (e))
   in_range (y ∷ xs) zero x e = omega arith
   in_range (y ∷ xs) (suc i) x e = let h = in_range xs i x e in omega arith
@@ -159,24 +158,24 @@ module _ {T E D : Type 0} where
         of = i.of;
         out = i.out;
         then = λ w known next is.
-          let named : w.number ≡ k = ap number known ∙ (i.named ∙ (omega arith)) in
-          let makes : w.made ≡ made_at (suc (length ss)) k = ap made known ∙ i.makes in
-          record {
-            view = with_other a w;
-            is = is;
-            out = g.out;
-            told = g.told;
-            number = g.number;
-            mine = g.mine;
-            rest = s ∷ g.rest;
-            front = sym (append_assoc new (s ∷ []) g.rest) ∙ front;
-            none_made = λ more. let m : w.made ≡ 0 = makes ∙ made_where (suc (length ss)) k more in omega arith;
-            all_made = λ last. let m : w.made ≡ suc (length ss) = makes ∙ ap (made_at (suc (length ss))) last in omega arith;
-            taken = λ i x at le. dite (ℕ_discrete i k)
-                (λ same. let one : s ≡ x = (let e : Some s ≡ Some x = sym here ∙ (ap (slice_get ss) (sym same) ∙ at) in cc (e)) in
-                    (zero, ap some (old_is w i s x (named ∙ sym same) known one)))
-                (λ apart. old_later (old_at i x) (old_of w) w.olds a.olds (g.taken i x at (omega (arith, long))));
-          };
+            let named : w.number ≡ k = ap number known ∙ (i.named ∙ (omega arith)) in
+            let makes : w.made ≡ made_at (suc (length ss)) k = ap made known ∙ i.makes in
+            record {
+              view = with_other a w;
+              is = is;
+              out = g.out;
+              told = g.told;
+              number = g.number;
+              mine = g.mine;
+              rest = s ∷ g.rest;
+              front = sym (append_assoc new (s ∷ []) g.rest) ∙ front;
+              none_made = λ more. let m : w.made ≡ 0 = makes ∙ made_where (suc (length ss)) k more in omega arith;
+              all_made = λ last. let m : w.made ≡ suc (length ss) = makes ∙ ap (made_at (suc (length ss))) last in omega arith;
+              taken = λ i x at le. dite (ℕ_discrete i k)
+                  (λ same. let one : s ≡ x = (let e : Some s ≡ Some x = sym here ∙ (ap (slice_get ss) (sym same) ∙ at) in cc (e)) in
+                  (zero, ap some (old_is w i s x (named ∙ sym same) known one)))
+                  (λ apart. old_later (old_at i x) (old_of w) w.olds a.olds (g.taken i x at (omega (arith, long))));
+            };
       }
     where
       old_is : (w : View E D) (i : ℕ) (s x : SeatView E D) → w.number ≡ i → Seated w ≡ s.known → s ≡ x → old_of w ≡ old_at i x
@@ -212,8 +211,8 @@ module _ {T E D : Type 0} (hist : T → List (ℕ × E)) (fits : T → D → Typ
       let long : length (first_raised ss) ≡ length ss = raised_length ss in
       let made : (g.view).made ≡ suc (length (first_raised ss)) = g.all_made refl in
       dite (ℕ_discrete k (length ss))
-        (λ same. ap (λ (n : ℕ). own n (hist value)) (same ∙ (sym long ∙ sym g.number)) ∙ (c.mine ∙ g.mine))
-        (λ more. c.none k (omega arith))
+      (λ same. ap (λ (n : ℕ). own n (hist value)) (same ∙ (sym long ∙ sym g.number)) ∙ (c.mine ∙ g.mine))
+      (λ more. c.none k (omega arith))
 
   pub all_fits : (d : D) (ss : List (SeatView E D)) (m : Me (Option T) (Knows E D)) (value : T) (g : Gathered d (first_raised ss) [] m) → Closes hist fits g.view value → fits value d
   all_fits d ss m value g c = subst (fits value) g.told c.fitting

@@ -1,5 +1,5 @@
 -- A try and a pass keep the rule.
-use Rattle.std.proofs.Common.{◌≡◌, ◌≢◌, ◌==◌, ℕ, ◌⊎◌, ◌<◌, ◌≤◌, Bool, true, false, List, [], ◌∷◌, ◌++◌, length, get_or, set, Option, Some, None, refl, sym, ap, ◌∙◌, subst, inl, inr, ⊎_elim, arith, length-set, get_or-set_same, eqb, eq-eqb, ne_eqb}
+use Rattle.std.proofs.Common.{◌≡◌, ◌≢◌, ◌==◌, ℕ, ◌<◌, Bool, List, [], ◌∷◌, length, get_or, set, Option, Some, refl, sym, ap, ◌∙◌, subst, ⊎_elim, arith, length-set, get_or-set_same, eq-eqb, ne_eqb}
 use Rattle.std.specs.Prelude.{slice_index, MatchBool}
 use mathlib.Core.Logic.{dite}
 use mathlib.Core.Option.{some, none}
@@ -7,14 +7,14 @@ use native.Mathlib.Decide.{ℕ_discrete}
 use lib.ListN.{get_elem?}
 use lib.Seq.{set-get_or}
 use prog.Atomic.{either}
-use Rattle.atomic_table.specs.Table.{State, Me, Step, step, keeps, takes, gives, stepped, Allows}
+use Rattle.atomic_table.specs.Table.{State, Me, step, keeps, takes, gives, stepped, Allows}
 use Rattle.atomic_table.proofs.Lists.{set_again, set_here}
 use Rattle.turn_lock.specs.declared.view.Place.{Place}
 use Rattle.turn_lock.specs.declared.view.Place.TheVariants.{Out, Inside}
 use Rattle.turn_lock.specs.declared.view.Old.{Old}
 use Rattle.turn_lock.specs.declared.view.View.{View}
 use Rattle.turn_lock.specs.declared.view.Knows.{Knows}
-use Rattle.turn_lock.specs.declared.view.Knows.TheVariants.{Spent, Seated}
+use Rattle.turn_lock.specs.declared.view.Knows.TheVariants.{Seated}
 use Rattle.turn_lock.specs.History.{own, Begins, Follows}
 use Rattle.turn_lock.specs.Rule.{IsOld, Fits, InPlace, Live, entering, leaving, Ruled, Enters, tried_by, tried, passed}
 use Rattle.turn_lock.proofs.Histories.{begins_self, follows_begins, follows_own}

@@ -1,8 +1,6 @@
 -- Seats in a row.
-use Rattle.std.proofs.Common.{◌≡◌, ℕ, zero, suc, ◌+◌, ◌-◌, ◌<◌, ◌≤◌, max, List, [], ◌∷◌, ◌++◌, map, length, length-append, Option, Some, None, refl, sym, ap, ◌∙◌, subst, arith, All}
+use Rattle.std.proofs.Common.{◌≡◌, ℕ, zero, suc, ◌+◌, ◌-◌, ◌≤◌, List, [], ◌∷◌, ◌++◌, length, Some, refl, sym, ap, ◌∙◌, subst, arith}
 use Rattle.std.specs.Prelude.{slice_get}
-use mathlib.Core.Option.{some, some-injective, some-ne-none}
-use lib.ListN.{get_elem?}
 use Rattle.atomic_table.specs.Seated.{TableId}
 use Rattle.turn_lock.specs.declared.view.Place.TheVariants.{Out}
 use Rattle.turn_lock.specs.declared.view.View.{View}
@@ -10,7 +8,7 @@ use Rattle.turn_lock.specs.declared.view.Knows.{Knows}
 use Rattle.turn_lock.specs.declared.view.Knows.TheVariants.{Spent, Seated}
 use Rattle.turn_lock.specs.Rule.{new_seat}
 use Rattle.turn_lock.specs.History.{own}
-use Rattle.turn_lock.specs.Seat.{SeatView, place_of, told_of, seen_of, mine_of, number_of, made_of}
+use Rattle.turn_lock.specs.Seat.{SeatView, number_of}
 use Rattle.turn_lock.specs.Seats.{IsSeat, AreSeats}
 
 -- how many numbers the seat at a place knows to be given
@@ -75,3 +73,19 @@ module _ {E D : Type 0} where
       later lock d k (x ∷ ss) all (suc i) s at =
           let e : suc k + i ≡ k + suc i = omega arith in
           subst (λ (n : ℕ). IsSeat lock d n 0 s) e (later lock d (suc k) ss all.1 i s at)
+
+module _ {E D : Type 0} where
+  -- seats of which each is its lock's with its number are so again
+  pub rows_again : (lock : TableId) (d : D) (k made : ℕ) (ss ts : List (SeatView E D)) → length ts ≡ length ss → AreSeats lock d k made ss
+      → ((i : ℕ) (s t : SeatView E D) → slice_get ss i ≡ Some s → slice_get ts i ≡ Some t → (m : ℕ) → IsSeat lock d (number_of s) m s → IsSeat lock d (number_of s) m t)
+      → AreSeats lock d k made ts
+  rows_again lock d k made [] [] long all each = tt
+  rows_again lock d k made [] (t ∷ ts) long all each = absurd (omega arith)
+  rows_again lock d k made (s ∷ ss) [] long all each = absurd (omega arith)
+  rows_again lock d k made (s ∷ ss) (t ∷ ts) long all each =
+      let named : number_of s ≡ k = (all.0).named in
+      let first = each zero s t refl refl made (subst (λ (n : ℕ). IsSeat lock d n made s) (sym named) all.0) in
+      (subst (λ (n : ℕ). IsSeat lock d n made t) named first, rows_again lock d (suc k) 0 ss ts (omega arith) all.1 (λ i. each (suc i)))
+
+  pub row_named : (lock : TableId) (d : D) (made : ℕ) (ss : List (SeatView E D)) → AreSeats lock d 0 made ss → (i : ℕ) (s : SeatView E D) → slice_get ss i ≡ Some s → IsSeat lock d (number_of s) (made_at made i) s
+  row_named lock d made ss all i s at = let is = row_at lock d 0 made ss all i s at in subst (λ (n : ℕ). IsSeat lock d n (made_at made i) s) (sym is.named) is

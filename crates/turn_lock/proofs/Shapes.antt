@@ -1,5 +1,5 @@
 -- A pass that is out, and one that is inside.
-use Rattle.std.proofs.Common.{◌≡◌, ℕ, List, [], ◌∷◌, Option, Some, None, sym, ap, ◌∙◌, subst}
+use Rattle.std.proofs.Common.{◌≡◌, ℕ, List, Option, Some, sym, ap, ◌∙◌, subst}
 use Rattle.atomic_table.specs.Table.{Me}
 use Rattle.turn_lock.specs.declared.view.Place.{Place}
 use Rattle.turn_lock.specs.declared.view.Place.TheVariants.{Out, Inside}
@@ -7,7 +7,7 @@ use Rattle.turn_lock.specs.declared.view.View.{View}
 use Rattle.turn_lock.specs.declared.view.Knows.{Knows}
 use Rattle.turn_lock.specs.declared.view.Knows.TheVariants.{Seated}
 use Rattle.turn_lock.specs.Rule.{IsOut, IsIn}
-use Rattle.turn_lock.specs.Seat.{SeatView, Holds, Shaped, place, told}
+use Rattle.turn_lock.specs.Seat.{Holds, Shaped, place, told}
 
 module _ {T E D : Type 0} where
   pub out_of : (m : Me (Option T) (Knows E D)) (k : Knows E D) → Shaped m → m.0 ≡ k → place k ≡ Out → (v : View E D) × IsOut m v × (Seated v ≡ k)

@@ -1,19 +1,18 @@
 -- A split and a join keep the rule.
-use Rattle.std.proofs.Common.{◌≡◌, ◌≢◌, ℕ, zero, suc, ◌+◌, ◌⊎◌, ◌<◌, ◌≤◌, max, List, [], ◌∷◌, ◌++◌, length, set, Option, Some, None, refl, sym, ap, ◌∙◌, subst, inl, inr, ⊎_elim, arith, le_refl}
+use Rattle.std.proofs.Common.{◌≡◌, ◌≢◌, ℕ, zero, suc, ◌+◌, ◌⊎◌, ◌<◌, max, List, [], ◌∷◌, ◌++◌, length, set, Option, refl, sym, ap, ◌∙◌, subst, inl, inr, ⊎_elim, arith}
 use Rattle.std.specs.Prelude.{slice_index}
 use mathlib.Core.Logic.{dite}
-use mathlib.Core.Option.{some, none, some-ne-none, some-injective}
-use native.Mathlib.Decide.{ℕ_discrete, dec_lt}
+use mathlib.Core.Option.{some, some-ne-none, some-injective}
+use native.Mathlib.Decide.{ℕ_discrete}
 use lib.ListN.{get_elem?}
 use Rattle.atomic_table.specs.Table.{State, Splits, Joins}
-use Rattle.atomic_table.proofs.Lists.{at_last, set_else}
-use Rattle.turn_lock.specs.declared.view.Place.{Place}
+use Rattle.atomic_table.proofs.Lists.{set_else}
 use Rattle.turn_lock.specs.declared.view.Place.TheVariants.{Out, Inside}
 use Rattle.turn_lock.specs.declared.view.Old.{Old}
 use Rattle.turn_lock.specs.declared.view.View.{View}
 use Rattle.turn_lock.specs.declared.view.Knows.{Knows}
 use Rattle.turn_lock.specs.declared.view.Knows.TheVariants.{Spent, Seated}
-use Rattle.turn_lock.specs.History.{own, longer, Begins}
+use Rattle.turn_lock.specs.History.{own, Begins}
 use Rattle.turn_lock.specs.Rule.{IsOld, Fits, InPlace, Live, Ruled, risen, new_seat, old_of, with_other, gave, newcomer, joined}
 use Rattle.turn_lock.proofs.Histories.{own_none, longer_begins, longer_own, longer_left, longer_right}
 use Rattle.turn_lock.proofs.Seating.{live_set, live_one, live_here, live_else, live_end, live_more, live_spent, live_not_spent}

@@ -1,12 +1,11 @@
 -- A turn of a seat.
-use Rattle.std.proofs.Common.{◌≡◌, ℕ, List, Option, Some, refl, sym, ap, ◌∙◌, subst}
+use Rattle.std.proofs.Common.{◌≡◌, ℕ, List, Some, refl, sym, ap, ◌∙◌, subst}
 use Rattle.atomic_table.specs.Seated.{TableId}
-use Rattle.turn_lock.specs.declared.view.Place.TheVariants.{Out, Inside}
 use Rattle.turn_lock.specs.declared.view.View.{View}
 use Rattle.turn_lock.specs.History.{own}
-use Rattle.turn_lock.specs.Seat.{SeatView, place_of, told_of, seen_of, mine_of, number_of, made_of, entered, left}
+use Rattle.turn_lock.specs.Seat.{SeatView, entered}
 use Rattle.turn_lock.specs.Seats.{IsSeat, Within}
-use Rattle.turn_lock.proofs.Rows.{Shown, shown, view_at}
+use Rattle.turn_lock.proofs.Rows.{shown, view_at}
 
 module _ {E D : Type 0} where
   within_at : (lock : TableId) (d : D) (n made : ℕ) (h : List (ℕ × E)) (v : View E D) → v.told ≡ d → v.number ≡ n → v.made ≡ made → Within d n made h lock (entered h (view_at lock v))

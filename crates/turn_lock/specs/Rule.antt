@@ -1,5 +1,5 @@
 -- The rule of the lock, and what its steps tell.
-use Rattle.std.specs.Prelude.{◌≡◌, ◌≢◌, ◌==◌, ℕ, ◌+◌, ◌<◌, ◌≤◌, max, Bool, true, List, [], ◌∷◌, ◌++◌, length, slice_index, Option, Some, None, MatchBool}
+use Rattle.std.specs.Prelude.{◌≡◌, ◌≢◌, ◌==◌, ℕ, ◌+◌, ◌<◌, ◌≤◌, max, List, [], ◌∷◌, ◌++◌, length, slice_index, Option, Some, None, MatchBool}
 use mathlib.Core.Option.{some}
 use lib.ListN.{get_elem?}
 use Rattle.atomic_table.specs.Table.{State, Me, Step, rest}
@@ -9,7 +9,7 @@ use Rattle.turn_lock.specs.declared.view.Old.{Old}
 use Rattle.turn_lock.specs.declared.view.View.{View}
 use Rattle.turn_lock.specs.declared.view.Knows.{Knows}
 use Rattle.turn_lock.specs.declared.view.Knows.TheVariants.{Spent, Seated}
-use Rattle.turn_lock.specs.History.{own, longer, Begins, Follows}
+use Rattle.turn_lock.specs.History.{own, longer, Begins}
 
 module _ {E : Type 0} where
   abbrev pub IsOld : Old E → List (Old E) → Type 0

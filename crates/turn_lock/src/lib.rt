@@ -5,6 +5,7 @@
 #![tactic(auto)]
 
 mod kept;
+pub mod laws;
 mod lock;
 mod rule;
 mod seat;
@@ -14,3 +15,6 @@ mod view;
 pub use kept::Kept;
 pub use lock::{Turn, TurnLock};
 pub use seat::TurnSeat;
+
+#[cfg(test)]
+mod tests;

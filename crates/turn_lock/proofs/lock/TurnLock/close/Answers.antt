@@ -1,4 +1,4 @@
-use Rattle.std.proofs.Common.{◌≡◌, Option, Some, sym, ap, ◌∙◌, subst, rules}
+use Rattle.std.proofs.Common.{◌≡◌, sym, ap, ◌∙◌, subst, rules}
 use Rattle.std.specs.Option.{IsSome}
 use mathlib.Core.Option.{some-injective}
 use Rattle.turn_lock.specs.Rule.{Closes}

@@ -1,9 +1,6 @@
-use Rattle.std.proofs.Common.{◌≡◌, ◌∷◌, ◌++◌, ◌<◌, [], ℕ, List, length, refl, sym, ap, ◌∙◌, subst, arith, Some}
-use Rattle.turn_lock.specs.Seat.{SeatView}
-use Rattle.turn_lock.specs.Seats.{AreSeats}
-use Rattle.turn_lock.proofs.Rows.{row_at}
+use Rattle.std.proofs.Common.{refl, ap, ◌∙◌, subst, arith}
 use Rattle.turn_lock.proofs.Shapes.{out_of}
-use Rattle.turn_lock.proofs.Gathering.{Gathered, first_raised, first_is, set_first, begun, raised_rows, raised_length, goes_on, covers, none_left, all_seen, nobody_else, all_fits}
+use Rattle.turn_lock.proofs.Gathering.{Gathered, first_raised, first_is, set_first, begun, goes_on, covers, none_left, all_seen, nobody_else, all_fits}
 use Rattle.turn_lock.proofs.lock.TurnLock.end.Goals as goal
 
 pub loop-seat-init : goal.loop-seat-init
@@ -12,7 +9,7 @@ loop-seat-init g c = record {
   gathered = λ d all.
       let at = first_is c.args.seats.items c.index_mut.result.now c.requires.all.1 c.index_mut.ensures.value in
       begun c.args.self d c.args.seats.items _ c.index_mut.result.now c.gatherer-all.result.me all at
-          (set_first c.args.seats.items c.index_mut.result.now c.gatherer-all.new.first at c.gatherer-all.ensures.first) c.gatherer-all.ensures.result;
+      (set_first c.args.seats.items c.index_mut.result.now c.gatherer-all.new.first at c.gatherer-all.ensures.first) c.gatherer-all.ensures.result;
 }
 
 pub join-requires-clause-of : goal.join-requires-clause-of

@@ -1,7 +1,5 @@
-use Rattle.std.proofs.Common.{◌≡◌, length, vec_len, All}
-use Rattle.turn_lock.specs.Seat.{place_of}
+use Rattle.std.proofs.Common.{◌≡◌, length, vec_len}
 use Rattle.turn_lock.specs.Seats.{AreSeats}
-use Rattle.turn_lock.specs.declared.view.Place.TheVariants.{Out}
 use Rattle.turn_lock.proofs.Gathering.{Gathered, first_raised}
 use Rattle.turn_lock.proofs.lock.TurnLock.end.Given as goal
 

@@ -1,5 +1,5 @@
-use Rattle.std.proofs.Common.{◌≡◌, [], sym, ap, ◌∙◌, subst, ◌<◌}
-use Rattle.turn_lock.specs.Rule.{risen, new_seat, gave, newcomer}
+use Rattle.std.proofs.Common.{[], sym, ap, ◌∙◌, subst, ◌<◌}
+use Rattle.turn_lock.specs.Rule.{risen, gave, newcomer}
 use Rattle.turn_lock.specs.Seat.{Holds, made, number}
 use Rattle.turn_lock.proofs.Shapes.{out_of}
 use Rattle.turn_lock.proofs.lock.TurnLock.gatherer.Goals as goal

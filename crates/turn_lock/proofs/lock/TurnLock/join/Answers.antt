@@ -1,4 +1,4 @@
-use Rattle.std.proofs.Common.{◌≡◌, sym, ap, ◌∙◌, arith}
+use Rattle.std.proofs.Common.{sym, ap, ◌∙◌, arith}
 use Rattle.turn_lock.proofs.Sharing.{joins}
 use Rattle.turn_lock.proofs.lock.TurnLock.join.Goals as goal
 

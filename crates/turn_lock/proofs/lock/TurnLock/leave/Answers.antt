@@ -1,4 +1,4 @@
-use Rattle.std.proofs.Common.{◌≡◌, sym, ap, ◌∙◌, subst}
+use Rattle.std.proofs.Common.{sym, ap, ◌∙◌, subst}
 use Rattle.turn_lock.specs.History.{Follows}
 use Rattle.turn_lock.specs.Rule.{leaving}
 use Rattle.turn_lock.specs.Seat.{leaves, number}

@@ -1,9 +1,9 @@
-use Rattle.std.proofs.Common.{◌≡◌, ◌∷◌, ◌++◌, [], List, ℕ, length, length-append, refl, sym, ap, ◌∙◌, subst, arith, ◌+◌, ◌-◌, All}
+use Rattle.std.proofs.Common.{◌≡◌, ◌∷◌, ◌++◌, [], length, length-append, refl, sym, ap, ◌∙◌, subst, arith, ◌-◌}
 use Rattle.std.proofs.lemmas.List.Elements.{All-push, All-same}
 use Rattle.turn_lock.specs.Rule.{new_seat}
 use Rattle.turn_lock.specs.Seat.{SeatView, seen_of, number}
 use Rattle.turn_lock.specs.Seats.{AreSeats}
-use Rattle.turn_lock.proofs.Rows.{first_at, seats_push, view_at, seats_two}
+use Rattle.turn_lock.proofs.Rows.{first_at, seats_push, seats_two}
 use Rattle.turn_lock.proofs.lock.TurnLock.make.Goals as goal
 
 pub split-seat-requires-clause-out : goal.split-seat-requires-clause-out

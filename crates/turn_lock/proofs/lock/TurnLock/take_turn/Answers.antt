@@ -1,7 +1,6 @@
-use Rattle.std.proofs.Common.{rules, ◌≡◌, ◌∷◌, [], Some, sym, ap, ◌∙◌, arith}
-use mathlib.Core.Option.{none}
-use Rattle.atomic_table.specs.Table.{step, rest}
-use Rattle.turn_lock.proofs.Moves.{tries, tried_true, tried_false}
+use Rattle.std.proofs.Common.{◌∷◌, Some, sym, ap, ◌∙◌, arith}
+use Rattle.atomic_table.specs.Table.{rest}
+use Rattle.turn_lock.proofs.Moves.{tries, tried_true}
 use Rattle.turn_lock.proofs.lock.TurnLock.take_turn.Goals as goal
 
 pub compare_exchange-found-requires : goal.compare_exchange-found-requires
