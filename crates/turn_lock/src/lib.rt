@@ -15,6 +15,3 @@ mod view;
 pub use kept::Kept;
 pub use lock::{Turn, TurnLock};
 pub use seat::TurnSeat;
-
-#[cfg(test)]
-mod tests;

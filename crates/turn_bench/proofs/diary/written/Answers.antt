@@ -3,15 +3,15 @@ use Rattle.std.specs.Prelude.{slice_get}
 use Rattle.std.proofs.lemmas.Option.{slice_get-get_or}
 use Rattle.turn_lock.specs.Seat.{SeatView, number_of}
 use Rattle.turn_lock.specs.Seats.{IsSeat}
-use Rattle.turn_lock.proofs.Rows.{made_at, row_named, rows_again}
-use Rattle.turn_lock.proofs.Gathering.{in_range}
-use Rattle.turn_lock.proofs.tests.written.Goals as goal
+use Rattle.turn_bench.proofs.Places.{in_range}
+use Rattle.turn_bench.proofs.diary.written.Goals as goal
 
 pub map_vec-requires-after_bounds : goal.map_vec-requires-after_bounds
 map_vec-requires-after_bounds g c κs within i x lt is =
     let seats = c.in_ok-lock.all.items in
     let at : slice_get seats i ≡ Some x = slice_get-get_or seats i x lt ∙ ap (λ z. Some z) (sym is) in
-    (7, made_at c.args.seats i, row_named c.in_ok-lock.lock 7 c.args.seats seats c.in_ok-lock.ensures.seats i x at)
+    let e = c.each_seat_has_its_place.ensures c.in_ok-lock.lock 7 c.args.seats seats i x c.in_ok-lock.ensures.seats at in
+    (7, e.0, e.1)
 
 pub end-requires : goal.end-requires
 end-requires g c =
@@ -19,7 +19,7 @@ end-requires g c =
     let seats = c.in_ok-lock.all.items in
     let long : length c.in_ok-all.all.items ≡ length seats = omega (arith, c.in_ok-all.ensures.len, c.in_ok-all.all.ok.0, c.in_ok-lock.all.ok.0) in
     let count : length seats ≡ c.args.seats = c.in_ok-lock.ensures.count in
-    let again = rows_again lock 7 0 c.args.seats seats c.in_ok-all.all.items long c.in_ok-lock.ensures.seats (λ i s t at after m held.
+    let again = c.seats_that_stay_are_all_again.ensures lock 7 c.args.seats seats c.in_ok-all.all.items long c.in_ok-lock.ensures.seats (λ i s t at after m held.
     let lt : i < length seats = in_range seats i s at in
     let e = (c.in_ok-all.ensures.each i s lt).1 in
     let k = e.call.met in

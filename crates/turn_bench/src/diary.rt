@@ -1,17 +1,18 @@
+// A diary under a lock, written by many seats.
 ghost use Rattle.std.specs.Prelude.{◌≡◌, ◌≤◌, ◌<◌, ℕ};
 ghost use Rattle.turn_lock.specs.Seat.{number_of};
 ghost use Rattle.turn_lock.specs.Seats.{IsSeat};
 
-use crate::{Kept, TurnLock, TurnSeat};
 use std::alloc::{AllocError, Global};
 use std::sync::Wait;
 use std::thread;
 use std::thread::Threads;
+use turn_lock::{Kept, TurnLock, TurnSeat, laws};
 
 /// Lines, each with the number of the seat that wrote it.
 #[derive(Drop)]
-struct Diary {
-    lines: Vec<(u32, u32)>,
+pub struct Diary {
+    pub lines: Vec<(u32, u32)>,
 }
 
 impl Kept for Diary {
@@ -46,7 +47,7 @@ fn write<H: Wait>(
 }
 
 /// A diary that so many seats wrote, each in a thread of its own.
-fn written<H: Threads + Wait + Sync>(
+pub fn written<H: Threads + Wait + Sync>(
     rt: &H,
     alloc: Global,
     seats: u32,
@@ -54,6 +55,8 @@ fn written<H: Threads + Wait + Sync>(
 ) -> Result<Diary, AllocError>
     requires { 1 ≤ seats }
 {
+    laws::each_seat_has_its_place::<Diary>();
+    laws::seats_that_stay_are_all_again::<Diary>();
     let lines = Vec::new(alloc);
     let (lock, all) = TurnLock::make(alloc, Diary { lines }, seats)?;
     let all = thread::map_vec(
@@ -69,7 +72,7 @@ fn written<H: Threads + Wait + Sync>(
 }
 
 /// The lines of one seat, counted as long as they are in order.
-fn in_order(lines: &[(u32, u32)], number: u32) -> u32 {
+pub fn in_order(lines: &[(u32, u32)], number: u32) -> u32 {
     let mut next = 0;
     for (seat, line) in lines {
         if *seat == number && *line == next && next < u32::MAX {
@@ -77,16 +80,4 @@ fn in_order(lines: &[(u32, u32)], number: u32) -> u32 {
         }
     }
     next
-}
-
-#[test]
-fn each_seat_has_its_lines_in_order_in_one_history(rt: HostRuntime) -> Result<(), AllocError> {
-    for (seats, turns) in [(1, 3), (2, 10_000), (16, 500)] {
-        let diary = written(&rt, rt.alloc(), seats, turns)?;
-        assert!(rt; diary.lines.len() as u64 == seats as u64 * turns as u64);
-        for number in 0..seats {
-            assert!(rt; in_order(&diary.lines, number) == turns);
-        }
-    }
-    Ok(())
 }
