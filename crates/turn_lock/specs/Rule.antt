@@ -28,7 +28,8 @@ module _ {E D : Type 0} where
     pub mine_is : v.mine ≡ own v.number log
     pub below : v.number < given
     pub maker : 0 < v.made → v.made ≡ given
-    pub old : (o : Old E) → IsOld o v.olds → (o.number < given) × Begins o.seen log × (o.mine ≡ own o.number log)
+    pub old : (o : Old E) → IsOld o v.olds
+        → (o.number < given) × Begins o.seen log × (o.mine ≡ own o.number log)
 
   abbrev pub Live : List (Knows E D) → ℕ → View E D → Type 0
   Live views id v = get_elem? views id ≡ some (Seated v)
@@ -38,14 +39,14 @@ module _ {E D : Type 0} where
   opened told = Seated (record { number = 0; place = Out; seen = []; mine = []; told = told; made = 1; olds = [] })
 
   abbrev pub entering : List (ℕ × E) → View E D → View E D
-  entering found v = record { number = v.number; place = Inside found; seen = v.seen; mine = v.mine; told = v.told; made = v.made; olds = v.olds }
+  entering found v = record v { place = Inside found }
 
   abbrev pub leaving : List (ℕ × E) → View E D → View E D
-  leaving seen v = record { number = v.number; place = Out; seen = seen; mine = own v.number seen; told = v.told; made = v.made; olds = v.olds }
+  leaving seen v = record v { place = Out; seen = seen; mine = own v.number seen }
 
   -- one number more was given
   abbrev pub risen : View E D → View E D
-  risen v = record { number = v.number; place = v.place; seen = v.seen; mine = v.mine; told = v.told; made = v.made + 1; olds = v.olds }
+  risen v = record v { made = v.made + 1 }
 
   -- the seat that gets the number
   abbrev pub new_seat : View E D → View E D
@@ -64,7 +65,15 @@ module _ {E D : Type 0} where
 
   -- the first seat, after it has taken in the second
   abbrev pub with_other : View E D → View E D → View E D
-  with_other v w = record { number = v.number; place = v.place; seen = longer v.seen w.seen; mine = v.mine; told = v.told; made = max v.made w.made; olds = old_of w ∷ (w.olds ++ v.olds) }
+  with_other v w = record {
+    number = v.number;
+    place = v.place;
+    seen = longer v.seen w.seen;
+    mine = v.mine;
+    told = v.told;
+    made = max v.made w.made;
+    olds = old_of w ∷ (w.olds ++ v.olds);
+  }
 
   abbrev pub joined : Knows E D → Knows E D → Knows E D
   joined Spent k = Spent
@@ -73,25 +82,37 @@ module _ {E D : Type 0} where
 
 module _ {T E D : Type 0} (hist : T → List (ℕ × E)) where
   module _ (fits : T → D → Type 0) where
-    -- the rule
+    -- What is true between any two steps. `log` is the whole history, and `given` how many numbers were given.
     pub record Ruled (told : D) (s : State (Option T) (Knows E D)) : Type 0 where
       pub log : List (ℕ × E)
       pub given : ℕ
       pub one_word : length s.words ≡ 1
       pub each : (id : ℕ) (v : View E D) → Live s.views id v → Fits told log given v
+      -- a seat that is inside found the history, and at most one is
       pub placed : (id : ℕ) (v : View E D) → Live s.views id v → InPlace (slice_index s.words 0) log v.place
-      pub alone : (i j : ℕ) (v w : View E D) (f g : List (ℕ × E)) → Live s.views i v → Live s.views j w → v.place ≡ Inside f → w.place ≡ Inside g → i ≡ j
-      pub taken : slice_index s.words 0 ≢ 0 → (id : ℕ) × (v : View E D) × (f : List (ℕ × E)) × Live s.views id v × (v.place ≡ Inside f)
-      pub home : slice_index s.words 0 ≡ 0 → (value : T) × (get_elem? s.homes 0 ≡ some (some (Some value))) × (hist value ≡ log) × fits value told
+      pub alone : (i j : ℕ) (v w : View E D) (f g : List (ℕ × E)) → Live s.views i v → Live s.views j w
+          → v.place ≡ Inside f → w.place ≡ Inside g → i ≡ j
+      -- the word is 0 exactly while none is, and then the value is at home, and its history is the whole
+      pub taken : slice_index s.words 0 ≢ 0
+          → (id : ℕ) × (v : View E D) × (f : List (ℕ × E)) × Live s.views id v × (v.place ≡ Inside f)
+      pub home : slice_index s.words 0 ≡ 0
+          → (value : T) × (get_elem? s.homes 0 ≡ some (some (Some value))) × (hist value ≡ log) × fits value told
+      -- some seat saw the whole
       pub top : (id : ℕ) × (v : View E D) × Live s.views id v × (v.seen ≡ log)
-      pub apart : (i j : ℕ) (v w : View E D) → Live s.views i v → Live s.views j w → v.number ≡ w.number → i ≡ j
-      pub makers : (i j : ℕ) (v w : View E D) → Live s.views i v → Live s.views j w → 0 < v.made → 0 < w.made → i ≡ j
+      -- numbers differ, one seat alone gives them, and one that was never given, or was joined away, isn't used
+      pub apart : (i j : ℕ) (v w : View E D) → Live s.views i v → Live s.views j w
+          → v.number ≡ w.number → i ≡ j
+      pub makers : (i j : ℕ) (v w : View E D) → Live s.views i v → Live s.views j w
+          → 0 < v.made → 0 < w.made → i ≡ j
       pub fresh : (k : ℕ) → given ≤ k → own k log ≡ []
-      pub gone : (i j : ℕ) (v w : View E D) (o : Old E) → Live s.views i v → Live s.views j w → IsOld o v.olds → w.number ≢ o.number
+      pub gone : (i j : ℕ) (v w : View E D) (o : Old E) → Live s.views i v → Live s.views j w
+          → IsOld o v.olds → w.number ≢ o.number
 
     -- what a try tells where it succeeds
     abbrev pub Enters : View E D → Me (Option T) (Knows E D) → Type 0
-    Enters v m = (value : T) × (m ≡ (Seated (entering (hist value) v), (0, Some value) ∷ [])) × fits value v.told × Begins v.seen (hist value) × (own v.number v.seen ≡ own v.number (hist value)) × (v.mine ≡ own v.number (hist value))
+    Enters v m = (value : T) × (m ≡ (Seated (entering (hist value) v), (0, Some value) ∷ [])) × fits value v.told
+        × Begins v.seen (hist value) × (own v.number v.seen ≡ own v.number (hist value))
+        × (v.mine ≡ own v.number (hist value))
 
     abbrev pub tried_by : Knows E D → ℕ → Me (Option T) (Knows E D) → Type 0
     tried_by Spent found m = Unit {0}
@@ -110,7 +131,8 @@ module _ {T E D : Type 0} (hist : T → List (ℕ × E)) where
 module _ {E D : Type 0} where
   -- each number that was given is the seat's own or that of one that it took in
   abbrev pub Covers : View E D → Type 0
-  Covers v = (0 < v.made) × ((k : ℕ) → k < v.made → k ≢ v.number → (o : Old E) × IsOld o v.olds × (o.number ≡ k))
+  Covers v = (0 < v.made)
+      × ((k : ℕ) → k < v.made → k ≢ v.number → (o : Old E) × IsOld o v.olds × (o.number ≡ k))
 
 module _ {T E D : Type 0} where
   -- a seat that is out, with this view
@@ -122,7 +144,8 @@ module _ {T E D : Type 0} where
   IsIn m v found = (m ≡ (Seated v, (0, None) ∷ [])) × (v.place ≡ Inside found)
 
 module _ {T E D : Type 0} (hist : T → List (ℕ × E)) (fits : T → D → Type 0) where
-  -- the value of a lock that was closed with the view v: its history is what the seat and those that it took in saw and made, and nothing else
+  -- The value of a lock that was closed with the view v. Its history is what the seat and those that it took in saw and
+  -- made, and nothing else.
   pub record Closes (v : View E D) (value : T) : Type 0 where
     pub history : hist value ≡ v.seen
     pub fitting : fits value v.told

@@ -6,7 +6,8 @@ use Rattle.turn_lock.specs.History.{own}
 use Rattle.turn_lock.specs.Seat.{SeatView, place_of, told_of, seen_of, mine_of, number_of, made_of, left}
 
 module _ {E D : Type 0} where
-  -- The seat of this lock with this number. `made` is how many numbers it knows to be given, and is 0 in each but the first.
+  -- The seat of this lock with this number. `made` is how many numbers it knows to be given, and is 0 in each but the
+  -- first.
   pub record IsSeat (lock : TableId) (d : D) (number made : ℕ) (s : SeatView E D) : Type 0 where
     pub of : s.lock ≡ lock
     pub out : place_of s ≡ Out
@@ -26,4 +27,5 @@ module _ {E D : Type 0} where
     pub place : place_of s ≡ Inside h
     pub told : told_of s ≡ Some d
     pub number : number_of s ≡ n
-    pub turn : (new : List (ℕ × E)) → IsSeat lock d n made (left new s) × (seen_of (left new s) ≡ new) × (mine_of (left new s) ≡ own n new)
+    pub turn : (new : List (ℕ × E))
+        → IsSeat lock d n made (left new s) × (seen_of (left new s) ≡ new) × (mine_of (left new s) ≡ own n new)

@@ -72,8 +72,8 @@ impl<T: Kept + Drop> TurnLock<T> {
         Ok((lock, all))
     }
 
-    /// Waits for the seat's turn, and gives the value. The seat's own entries are those that it made, and what it saw at
-    /// its last turn is a first part of the history that it finds.
+    /// Waits for the seat's turn, and gives the value. The seat's own entries are those that it made, and what it saw
+    /// at its last turn is a first part of the history that it finds.
     pub fn enter<H: Wait>(&self, rt: &H, seat: &mut TurnSeat<T>) -> Turn<T>
         requires of { (seat.old).lock ≡ self.now }
         requires out { place_of seat.old ≡ Out }
@@ -109,8 +109,8 @@ impl<T: Kept + Drop> TurnLock<T> {
         self.split(&mut first.seat)
     }
 
-    /// The value, at the end, from all its seats. What each seat saw is a first part of the history, its own entries are
-    /// the seat's in the history, and nobody else has an entry.
+    /// The value, at the end, from all its seats. What each seat saw is a first part of the history, its own entries
+    /// are the seat's in the history, and nobody else has an entry.
     pub fn end(self, mut seats: Vec<TurnSeat<T>>) -> T
         requires all { (d : T.Told) × (0 < length seats.items)
             × AreSeats self d 0 (length seats.items) seats.items }
