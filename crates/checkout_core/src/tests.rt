@@ -148,7 +148,7 @@ fn one_run_with_a_delayed_path(rt: HostRuntime) -> Result<(), Fail> {
     assert_eq!(rt;
         step(&mut state, listed(0, ListReply::Empty)),
         Err(Refused),
-        "while naming"
+        "while noting_list"
     );
     assert_eq!(rt; step(&mut state, listed(0, ListReply::Names(1))), Ok(()));
     assert_eq!(rt;
@@ -279,7 +279,7 @@ fn lists_are_refused(rt: HostRuntime) -> Result<(), Fail> {
         answered(1, Reply::Delayed),
         answered(2, Reply::Content),
     ];
-    let naming = [
+    let noting_list = [
         opened(0, BOTH),
         answered(1, Reply::Delayed),
         answered(2, Reply::Delayed),
@@ -299,17 +299,22 @@ fn lists_are_refused(rt: HostRuntime) -> Result<(), Fail> {
     refuses(&rt, "listed, off", &[], listed(0, ListReply::Empty))?;
     refuses(
         &rt,
-        "listed, not naming",
+        "listed, not noting_list",
         &all_asked,
         listed(0, ListReply::Names(0)),
     )?;
     refuses(
         &rt,
         "listed, another count",
-        &naming,
+        &noting_list,
         listed(0, ListReply::Names(2)),
     )?;
-    refuses(&rt, "empty, naming", &naming, listed(0, ListReply::Empty))?;
+    refuses(
+        &rt,
+        "empty, noting_list",
+        &noting_list,
+        listed(0, ListReply::Empty),
+    )?;
     refuses(
         &rt,
         "empty, one named",
@@ -338,7 +343,7 @@ fn lists_are_refused(rt: HostRuntime) -> Result<(), Fail> {
 
 #[test]
 fn second_answers_are_refused(rt: HostRuntime) -> Result<(), Fail> {
-    let naming = [
+    let noting_list = [
         opened(0, BOTH),
         answered(1, Reply::Delayed),
         answered(2, Reply::Delayed),
@@ -353,7 +358,7 @@ fn second_answers_are_refused(rt: HostRuntime) -> Result<(), Fail> {
         named(1),
         listed(0, ListReply::Names(2)),
     ];
-    refuses(&rt, "naming", &naming, redone(2, Reply::Content))?;
+    refuses(&rt, "noting_list", &noting_list, redone(2, Reply::Content))?;
     refuses(&rt, "out of turn", &listing, redone(1, Reply::Content))?;
     refuses(&rt, "delayed again", &listing, redone(2, Reply::Delayed))?;
     for cause in [BreakCause::StrangePath, BreakCause::ListRefused] {
@@ -413,8 +418,13 @@ fn ends_are_refused(rt: HostRuntime) -> Result<(), Fail> {
 fn closes_are_refused(rt: HostRuntime) -> Result<(), Fail> {
     let got = [opened(0, BOTH), answered(1, Reply::Content)];
     let raw = [opened(1, NO_SMUDGE), hand_back(3), claim(3, 0)];
-    refuses(&rt, "another's card", &[claim(0, 0)], close(0, 1, FINE))?;
-    refuses(&rt, "no card", &[], close(0, 0, FINE))?;
+    refuses(
+        &rt,
+        "another's driver_path",
+        &[claim(0, 0)],
+        close(0, 1, FINE),
+    )?;
+    refuses(&rt, "no driver_path", &[], close(0, 0, FINE))?;
     refuses(&rt, "another desk's", &got, close(1, 2, FINE))?;
     refuses(&rt, "closed", &[], close(5, 0, FINE))?;
     refuses(

@@ -1,7 +1,7 @@
 -- Answers as a whole, by their grammar, beside their reading packet by packet.
 use Rattle.std.specs.Prelude.{◌≡◌, ℕ, ◌<◌, ◌≤◌, ◌⊎◌, List, [], ◌∷◌, ◌++◌, map}
 use Rattle.pkt_line.specs.Packets.{Packet, Payload, Flush, total}
-use Rattle.filter_words.specs.Turn.{limit}
+use Rattle.filter_words.specs.Outcomes.{limit}
 use Rattle.filter_words.specs.declared.reply.BreakCause.{BreakCause}
 use Rattle.filter_words.specs.declared.reply.BreakCause.TheVariants as cause
 

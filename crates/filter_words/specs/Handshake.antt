@@ -7,11 +7,11 @@ use Rattle.filter_words.specs.declared.reply.BreakCause.TheVariants as cause
 use Rattle.filter_words.specs.declared.reply.Caps.{Caps}
 use Rattle.filter_words.specs.declared.handshake.HandshakePhase.{HandshakePhase}
 use Rattle.filter_words.specs.declared.handshake.HandshakePhase.TheVariants.{Server, Version, EndOfHello, Capabilities}
-use Rattle.filter_words.specs.declared.turn.Turn.{Turn}
-use Rattle.filter_words.specs.declared.turn.Turn.TheVariants.{On, Done, Broken}
+use Rattle.filter_words.specs.declared.answer_state.AnswerState.{AnswerState}
+use Rattle.filter_words.specs.declared.answer_state.AnswerState.TheVariants.{On, Done, Broken}
 
 -- no other line than this one
-abbrev pub wanted_line : List ℕ → List ℕ → HandshakePhase → Turn HandshakePhase Caps
+abbrev pub wanted_line : List ℕ → List ℕ → HandshakePhase → AnswerState HandshakePhase Caps
 wanted_line line text next = if bytes_eq (without_lf line) text then On next else Broken cause.BadHandshake
 
 -- two capabilities count, and every other line is passed over
@@ -25,7 +25,7 @@ abbrev pub no_caps : Caps
 no_caps = record { smudge = false; delay = false }
 
 -- the first answer is three packets, and the second is lines of capabilities up to a flush
-abbrev pub handshake_step : HandshakePhase → Packet → Turn HandshakePhase Caps
+abbrev pub handshake_step : HandshakePhase → Packet → AnswerState HandshakePhase Caps
 handshake_step Server (Payload line) = wanted_line line (codes "git-filter-server") Version
 handshake_step Server Flush = Broken cause.BadHandshake
 handshake_step Version (Payload line) = wanted_line line (codes "version=2") EndOfHello
@@ -35,5 +35,5 @@ handshake_step EndOfHello Flush = On (Capabilities no_caps)
 handshake_step (Capabilities caps) (Payload line) = On (Capabilities (with_capability caps line))
 handshake_step (Capabilities caps) Flush = Done caps
 
-abbrev pub handshake_start : Turn HandshakePhase Caps
+abbrev pub handshake_start : AnswerState HandshakePhase Caps
 handshake_start = On Server

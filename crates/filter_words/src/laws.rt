@@ -1,6 +1,6 @@
 ghost use Rattle.std.specs.Prelude.{◌≡◌, ◌≤◌, ◌++◌, [], List, ℕ, Bool};
 ghost use Rattle.pkt_line.specs.Packets.{Packet, SpellAll, HasNoPacket, total};
-ghost use Rattle.filter_words.specs.Turn.{outcome, limit, IsEnd};
+ghost use Rattle.filter_words.specs.Outcomes.{outcome, limit, IsEnd};
 ghost use Rattle.filter_words.specs.Answer.{IsAnswer};
 ghost use Rattle.filter_words.specs.Grammar.{block, IsOpen, IsBroken};
 ghost use Rattle.filter_words.specs.SmudgeReply.{reply_step, reply_start, content_in};
@@ -15,8 +15,8 @@ ghost use Rattle.filter_words.specs.declared.handshake.HandshakePhase.{Handshake
 ghost use Rattle.filter_words.specs.declared.reply.BreakCause.{BreakCause};
 ghost use Rattle.filter_words.specs.declared.smudge_reply.GoodReply.{GoodReply};
 ghost use Rattle.filter_words.specs.declared.smudge_reply.ReplyPhase.{ReplyPhase};
-ghost use Rattle.filter_words.specs.declared.turn.Turn.{Turn};
-ghost use Rattle.filter_words.specs.declared.turn.Turn.TheVariants as turn;
+ghost use Rattle.filter_words.specs.declared.answer_state.AnswerState.{AnswerState};
+ghost use Rattle.filter_words.specs.declared.answer_state.AnswerState.TheVariants as state;
 
 use crate::words::Status;
 
@@ -24,10 +24,10 @@ use crate::words::Status;
 /// become good. It is broken at the first packet that passes the limit, or else at the first after which no
 /// continuation is good.
 pub fn reply_grammar()
-    ensures good { (d : Bool) (ps : List Packet) (g : GoodReply) → outcome (reply_step d) limit reply_start ps ≡ turn.Done g → IsReply d ps g × (total ps ≤ limit) }
-    ensures again { (d : Bool) (ps : List Packet) (g : GoodReply) → IsReply d ps g → total ps ≤ limit → outcome (reply_step d) limit reply_start ps ≡ turn.Done g }
-    ensures opened { (d : Bool) (ps : List Packet) (p : ReplyPhase) → outcome (reply_step d) limit reply_start ps ≡ turn.On p → IsOpen GoodReply (IsReply d) ps × (total ps ≤ limit) }
-    ensures broken { (d : Bool) (ps : List Packet) (why : BreakCause) → outcome (reply_step d) limit reply_start ps ≡ turn.Broken why → IsBroken GoodReply (IsReply d) ps why }
+    ensures good { (d : Bool) (ps : List Packet) (g : GoodReply) → outcome (reply_step d) limit reply_start ps ≡ state.Done g → IsReply d ps g × (total ps ≤ limit) }
+    ensures again { (d : Bool) (ps : List Packet) (g : GoodReply) → IsReply d ps g → total ps ≤ limit → outcome (reply_step d) limit reply_start ps ≡ state.Done g }
+    ensures opened { (d : Bool) (ps : List Packet) (p : ReplyPhase) → outcome (reply_step d) limit reply_start ps ≡ state.On p → IsOpen GoodReply (IsReply d) ps × (total ps ≤ limit) }
+    ensures broken { (d : Bool) (ps : List Packet) (why : BreakCause) → outcome (reply_step d) limit reply_start ps ≡ state.Broken why → IsBroken GoodReply (IsReply d) ps why }
 {}
 
 /// The content of a reply is what stands between its two key lists, and a reply of one key list has none.
@@ -41,49 +41,49 @@ pub fn reply_content()
 /// an open reply, no longer one that has ended stands at the front of the same bytes. So what a driver sends holds one
 /// reply at its front, however it is cut and however much of it was taken.
 pub fn one_reply()
-    ensures same { (d : Bool) (ps qs : List Packet) (a b x y : List ℕ) (u v : Turn ReplyPhase GoodReply) → SpellAll ps a → SpellAll qs b → a ++ x ≡ b ++ y
+    ensures same { (d : Bool) (ps qs : List Packet) (a b x y : List ℕ) (u v : AnswerState ReplyPhase GoodReply) → SpellAll ps a → SpellAll qs b → a ++ x ≡ b ++ y
         → outcome (reply_step d) limit reply_start ps ≡ u → outcome (reply_step d) limit reply_start qs ≡ v → IsEnd u → IsEnd v
         → (ps ≡ qs) × (a ≡ b) × (u ≡ v) }
-    ensures none_longer { (d : Bool) (ps qs : List Packet) (a b x y : List ℕ) (p : ReplyPhase) (v : Turn ReplyPhase GoodReply) → SpellAll ps a → SpellAll qs b → a ++ x ≡ b ++ y → HasNoPacket x
-        → outcome (reply_step d) limit reply_start ps ≡ turn.On p → outcome (reply_step d) limit reply_start qs ≡ v → IsEnd v → ⊥ }
-    ensures heard { (d : Bool) (output : List ℕ) (u v : Turn ReplyPhase GoodReply) (one : IsAnswer (reply_step d) reply_start output u) (two : IsAnswer (reply_step d) reply_start output v)
-        → (u ≡ v) × ((g : GoodReply) → u ≡ turn.Done g → one.used ≡ two.used) }
+    ensures none_longer { (d : Bool) (ps qs : List Packet) (a b x y : List ℕ) (p : ReplyPhase) (v : AnswerState ReplyPhase GoodReply) → SpellAll ps a → SpellAll qs b → a ++ x ≡ b ++ y → HasNoPacket x
+        → outcome (reply_step d) limit reply_start ps ≡ state.On p → outcome (reply_step d) limit reply_start qs ≡ v → IsEnd v → ⊥ }
+    ensures heard { (d : Bool) (output : List ℕ) (u v : AnswerState ReplyPhase GoodReply) (one : IsAnswer (reply_step d) reply_start output u) (two : IsAnswer (reply_step d) reply_start output v)
+        → (u ≡ v) × ((g : GoodReply) → u ≡ state.Done g → one.used ≡ two.used) }
 {}
 
 /// The same of the answer to a list request, where these paths are delayed.
 pub fn list_grammar()
-    ensures good { (delayed : List (List ℕ)) (ps : List Packet) (g : GoodList) → outcome (list_step delayed) limit list_start ps ≡ turn.Done g → IsList delayed ps g × (total ps ≤ limit) }
-    ensures again { (delayed : List (List ℕ)) (ps : List Packet) (g : GoodList) → IsList delayed ps g → total ps ≤ limit → outcome (list_step delayed) limit list_start ps ≡ turn.Done g }
-    ensures opened { (delayed : List (List ℕ)) (ps : List Packet) (p : ListPhase) → outcome (list_step delayed) limit list_start ps ≡ turn.On p → IsOpen GoodList (IsList delayed) ps × (total ps ≤ limit) }
-    ensures broken { (delayed : List (List ℕ)) (ps : List Packet) (why : BreakCause) → outcome (list_step delayed) limit list_start ps ≡ turn.Broken why → IsBroken GoodList (IsList delayed) ps why }
+    ensures good { (delayed : List (List ℕ)) (ps : List Packet) (g : GoodList) → outcome (list_step delayed) limit list_start ps ≡ state.Done g → IsList delayed ps g × (total ps ≤ limit) }
+    ensures again { (delayed : List (List ℕ)) (ps : List Packet) (g : GoodList) → IsList delayed ps g → total ps ≤ limit → outcome (list_step delayed) limit list_start ps ≡ state.Done g }
+    ensures opened { (delayed : List (List ℕ)) (ps : List Packet) (p : ListPhase) → outcome (list_step delayed) limit list_start ps ≡ state.On p → IsOpen GoodList (IsList delayed) ps × (total ps ≤ limit) }
+    ensures broken { (delayed : List (List ℕ)) (ps : List Packet) (why : BreakCause) → outcome (list_step delayed) limit list_start ps ≡ state.Broken why → IsBroken GoodList (IsList delayed) ps why }
 {}
 
 /// The same of two answers to a list request.
 pub fn one_list()
-    ensures same { (delayed : List (List ℕ)) (ps qs : List Packet) (a b x y : List ℕ) (u v : Turn ListPhase GoodList) → SpellAll ps a → SpellAll qs b → a ++ x ≡ b ++ y
+    ensures same { (delayed : List (List ℕ)) (ps qs : List Packet) (a b x y : List ℕ) (u v : AnswerState ListPhase GoodList) → SpellAll ps a → SpellAll qs b → a ++ x ≡ b ++ y
         → outcome (list_step delayed) limit list_start ps ≡ u → outcome (list_step delayed) limit list_start qs ≡ v → IsEnd u → IsEnd v
         → (ps ≡ qs) × (a ≡ b) × (u ≡ v) }
-    ensures none_longer { (delayed : List (List ℕ)) (ps qs : List Packet) (a b x y : List ℕ) (p : ListPhase) (v : Turn ListPhase GoodList) → SpellAll ps a → SpellAll qs b → a ++ x ≡ b ++ y → HasNoPacket x
-        → outcome (list_step delayed) limit list_start ps ≡ turn.On p → outcome (list_step delayed) limit list_start qs ≡ v → IsEnd v → ⊥ }
-    ensures heard { (delayed : List (List ℕ)) (output : List ℕ) (u v : Turn ListPhase GoodList) (one : IsAnswer (list_step delayed) list_start output u) (two : IsAnswer (list_step delayed) list_start output v)
-        → (u ≡ v) × ((g : GoodList) → u ≡ turn.Done g → one.used ≡ two.used) }
+    ensures none_longer { (delayed : List (List ℕ)) (ps qs : List Packet) (a b x y : List ℕ) (p : ListPhase) (v : AnswerState ListPhase GoodList) → SpellAll ps a → SpellAll qs b → a ++ x ≡ b ++ y → HasNoPacket x
+        → outcome (list_step delayed) limit list_start ps ≡ state.On p → outcome (list_step delayed) limit list_start qs ≡ v → IsEnd v → ⊥ }
+    ensures heard { (delayed : List (List ℕ)) (output : List ℕ) (u v : AnswerState ListPhase GoodList) (one : IsAnswer (list_step delayed) list_start output u) (two : IsAnswer (list_step delayed) list_start output v)
+        → (u ≡ v) × ((g : GoodList) → u ≡ state.Done g → one.used ≡ two.used) }
 {}
 
 /// The same of the two answers to a handshake.
 pub fn handshake_grammar()
-    ensures good { (ps : List Packet) (caps : Caps) → outcome handshake_step limit handshake_start ps ≡ turn.Done caps → IsHandshake ps caps × (total ps ≤ limit) }
-    ensures again { (ps : List Packet) (caps : Caps) → IsHandshake ps caps → total ps ≤ limit → outcome handshake_step limit handshake_start ps ≡ turn.Done caps }
-    ensures opened { (ps : List Packet) (p : HandshakePhase) → outcome handshake_step limit handshake_start ps ≡ turn.On p → IsOpen Caps IsHandshake ps × (total ps ≤ limit) }
-    ensures broken { (ps : List Packet) (why : BreakCause) → outcome handshake_step limit handshake_start ps ≡ turn.Broken why → IsBroken Caps IsHandshake ps why }
+    ensures good { (ps : List Packet) (caps : Caps) → outcome handshake_step limit handshake_start ps ≡ state.Done caps → IsHandshake ps caps × (total ps ≤ limit) }
+    ensures again { (ps : List Packet) (caps : Caps) → IsHandshake ps caps → total ps ≤ limit → outcome handshake_step limit handshake_start ps ≡ state.Done caps }
+    ensures opened { (ps : List Packet) (p : HandshakePhase) → outcome handshake_step limit handshake_start ps ≡ state.On p → IsOpen Caps IsHandshake ps × (total ps ≤ limit) }
+    ensures broken { (ps : List Packet) (why : BreakCause) → outcome handshake_step limit handshake_start ps ≡ state.Broken why → IsBroken Caps IsHandshake ps why }
 {}
 
 /// The same of two handshakes.
 pub fn one_handshake()
-    ensures same { (ps qs : List Packet) (a b x y : List ℕ) (u v : Turn HandshakePhase Caps) → SpellAll ps a → SpellAll qs b → a ++ x ≡ b ++ y
+    ensures same { (ps qs : List Packet) (a b x y : List ℕ) (u v : AnswerState HandshakePhase Caps) → SpellAll ps a → SpellAll qs b → a ++ x ≡ b ++ y
         → outcome handshake_step limit handshake_start ps ≡ u → outcome handshake_step limit handshake_start qs ≡ v → IsEnd u → IsEnd v
         → (ps ≡ qs) × (a ≡ b) × (u ≡ v) }
-    ensures none_longer { (ps qs : List Packet) (a b x y : List ℕ) (p : HandshakePhase) (v : Turn HandshakePhase Caps) → SpellAll ps a → SpellAll qs b → a ++ x ≡ b ++ y → HasNoPacket x
-        → outcome handshake_step limit handshake_start ps ≡ turn.On p → outcome handshake_step limit handshake_start qs ≡ v → IsEnd v → ⊥ }
-    ensures heard { (output : List ℕ) (u v : Turn HandshakePhase Caps) (one : IsAnswer handshake_step handshake_start output u) (two : IsAnswer handshake_step handshake_start output v)
-        → (u ≡ v) × ((caps : Caps) → u ≡ turn.Done caps → one.used ≡ two.used) }
+    ensures none_longer { (ps qs : List Packet) (a b x y : List ℕ) (p : HandshakePhase) (v : AnswerState HandshakePhase Caps) → SpellAll ps a → SpellAll qs b → a ++ x ≡ b ++ y → HasNoPacket x
+        → outcome handshake_step limit handshake_start ps ≡ state.On p → outcome handshake_step limit handshake_start qs ≡ v → IsEnd v → ⊥ }
+    ensures heard { (output : List ℕ) (u v : AnswerState HandshakePhase Caps) (one : IsAnswer handshake_step handshake_start output u) (two : IsAnswer handshake_step handshake_start output v)
+        → (u ≡ v) × ((caps : Caps) → u ≡ state.Done caps → one.used ≡ two.used) }
 {}

@@ -116,7 +116,7 @@ fn the_last_status_counts(rt: HostRuntime) {
         Some(Reply::Abort)
     );
     let behind = [line(b"status=error"), FLUSH, FLUSH];
-    assert_eq!(rt; smudge_reply_of(true, &behind), Turn::Late);
+    assert_eq!(rt; smudge_reply_of(true, &behind), AnswerState::Late);
 }
 
 /// 19 bytes and 4 bytes, then 8,194 packets of 65,520 bytes, leave nine of the 536,870,912 bytes.
@@ -134,7 +134,7 @@ fn the_limit_of_a_reply(rt: HostRuntime) -> Result<(), Fail> {
     packets.push(line(b"k"))?;
     assert_eq!(rt;
         smudge_reply_of(true, packets.as_slice()),
-        Turn::On(ReplyPhase::LastKeyList(None))
+        AnswerState::On(ReplyPhase::LastKeyList(None))
     );
     packets.push(FLUSH)?;
     assert_eq!(rt;
@@ -158,7 +158,7 @@ fn handshakes(rt: HostRuntime) {
     ];
     assert_eq!(rt;
         handshake_of(&caps),
-        Turn::Done(Caps {
+        AnswerState::Done(Caps {
             smudge: false,
             delay: true
         })
@@ -173,12 +173,12 @@ fn handshakes(rt: HostRuntime) {
     ];
     assert_eq!(rt;
         handshake_of(&both),
-        Turn::Done(Caps {
+        AnswerState::Done(Caps {
             smudge: true,
             delay: true
         })
     );
-    let strange = Turn::Broken(BreakCause::BadHandshake);
+    let strange = AnswerState::Broken(BreakCause::BadHandshake);
     assert_eq!(rt; handshake_of(&[line(b"git-filter-client\n")]), strange);
     assert_eq!(rt; handshake_of(&[FLUSH]), strange);
     assert_eq!(rt; handshake_of(&[server, line(b"version=3\n")]), strange);
@@ -188,7 +188,7 @@ fn handshakes(rt: HostRuntime) {
     );
     assert_eq!(rt;
         handshake_of(&[server, version]),
-        Turn::On(HandshakePhase::EndOfHello)
+        AnswerState::On(HandshakePhase::EndOfHello)
     );
 }
 

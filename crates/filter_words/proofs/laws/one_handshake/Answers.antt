@@ -1,4 +1,4 @@
-use Rattle.filter_words.specs.Turn.{limit}
+use Rattle.filter_words.specs.Outcomes.{limit}
 use Rattle.filter_words.specs.Handshake.{handshake_step, handshake_start}
 use Rattle.filter_words.proofs.OneAnswer.{one_answer}
 use Rattle.filter_words.proofs.Same.{same, longer}

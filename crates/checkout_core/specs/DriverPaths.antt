@@ -3,24 +3,24 @@ use Rattle.std.specs.Prelude.{◌≡◌, ◌==◌, ◌+◌, ℕ, Bool, true, con
 use Rattle.checkout_core.specs.declared.path.Path.{Path}
 use Rattle.checkout_core.specs.declared.path.Start.TheVariants.{Desk}
 use Rattle.checkout_core.specs.declared.driver.DriverState.{DriverState}
-use Rattle.checkout_core.specs.declared.card.Card.{Card}
+use Rattle.checkout_core.specs.declared.driver_path.DriverPath.{DriverPath}
 use Rattle.checkout_core.specs.declared.effect.Effect.{Effect}
 use Rattle.checkout_core.specs.States.{Core}
 use Rattle.checkout_core.specs.Conditions.{at_both}
 
 -- it stands at the place p of the state c
-pub record IsCard (c : Core) (p : ℕ) (k : Card) : Type 0 where
+pub record IsDriverPath (c : Core) (p : ℕ) (k : DriverPath) : Type 0 where
   pub there : slice_get c.paths p ≡ Some k.path
   pub begun : k.path.start ≡ Desk k.driver k.required
   pub seated : slice_get c.drivers k.driver ≡ Some k.state
 
 -- no path of a driver stands there
-abbrev pub LacksCard : Core → ℕ → Type 0
-LacksCard c p = (f : Path → ℕ → Bool → DriverState → Option Effect) → at_both c p f ≡ None
+abbrev pub LacksDriverPath : Core → ℕ → Type 0
+LacksDriverPath c p = (f : Path → ℕ → Bool → DriverState → Option Effect) → at_both c p f ≡ None
 
 -- the actor a is the desk of its driver
-pub record IsDesk (c : Core) (p a : ℕ) (k : Card) : Type 0 where
-  pub card : IsCard c p k
+pub record IsDesk (c : Core) (p a : ℕ) (k : DriverPath) : Type 0 where
+  pub driver_path : IsDriverPath c p k
   pub mine : (a == c.workers + k.driver) ≡ true
 
 -- no path stands there whose desk a is

@@ -3,7 +3,7 @@ use crate::path::Path;
 
 /// A path of a driver, with where the driver stands.
 #[derive(Clone, Copy, Debug)]
-pub(crate) struct Card {
+pub(crate) struct DriverPath {
     pub(crate) path: Path,
     pub(crate) driver: u32,
     pub(crate) required: bool,
