@@ -36,7 +36,7 @@ From d Over ns = ns ≡ []
 abbrev Back : ℕ → Phase → Event → Talk → Type 0
 Back d at e u = (next : Phase) × (talk_of next ≡ u) × ((ns : List Event) → From d next ns → From d at (e ∷ ns))
 
-given_talk : (b : Bool) (x u : Talk) → cond b (Some x) None ≡ Some u → (b ≡ true) × (x ≡ u)
+pub given_talk : (b : Bool) (x u : Talk) → cond b (Some x) None ≡ Some u → (b ≡ true) × (x ≡ u)
 given_talk true x u h = (refl, some_is x u h)
 given_talk false x u h = none_is_some h
 
@@ -344,7 +344,7 @@ over_back d at u is over = done at (subst IsOver (sym is) over)
     done Over over = refl
 
 -- a run's first note
-run_first : (d : ℕ) (t u : Talk) (e : Event) (es : List Event) → talk_run d t (e ∷ es) ≡ Some u
+pub run_first : (d : ℕ) (t u : Talk) (e : Event) (es : List Event) → talk_run d t (e ∷ es) ≡ Some u
     → (is_with d e ≡ true) × ((v : Talk) × (talk_next t e ≡ Some v) × (talk_run d v es ≡ Some u))
 run_first d t u e es h = guard (is_with d e) refl (talk_next t e) refl h
   where
