@@ -60,8 +60,23 @@ stops_same step start ps qs a x b y c d (On p) Late u v sa sb e f g hu hv = absu
 stops_same step start ps qs a x b y c d (Done h) Late u v sa sb e f g hu hv = absurd hv
 stops_same step start ps qs a x b y c d (Broken h) Late u v sa sb e f g hu hv = absurd hv
 
-pub one_answer : {P G : Type 0} (step : P → Packet → AnswerState P G) (start : AnswerState P G) (output : List ℕ) (u v : AnswerState P G)
-    → (one : IsAnswer step start output u) → (two : IsAnswer step start output v) → (u ≡ v) × ((g : G) → u ≡ Done g → one.used ≡ two.used)
-one_answer step start output u v one two =
-    stops_same step start one.packets two.packets one.used one.rest two.used two.rest one.ahead two.ahead _ _ u v one.spelled two.spelled
-    (sym (append_assoc one.used one.rest one.ahead) ∙ (sym one.whole ∙ (two.whole ∙ append_assoc two.used two.rest two.ahead))) refl refl one.stops two.stops
+pub one_answer : {P G : Type 0} (step : P → Packet → AnswerState P G) (start : AnswerState P G) (a x c b y d : List ℕ) (u v : AnswerState P G)
+    → IsAnswer step start a x c u → IsAnswer step start b y d v → a ++ (x ++ c) ≡ b ++ (y ++ d) → (u ≡ v) × ((g : G) → u ≡ Done g → a ≡ b)
+one_answer step start a x c b y d u v one two same =
+    stops_same step start one.packets two.packets a x b y c d _ _ u v one.spelled two.spelled same refl refl one.stops two.stops
+
+-- more bytes behind an answer that has ended
+stops_more : {P G : Type 0} (s u : AnswerState P G) (rest ahead more later : List ℕ) → (u ≡ Broken cause.Ended → ⊥) → StopsWith s rest ahead u → StopsWith s (rest ++ more) later u
+stops_more (On p) u rest ahead more later whole (inl h) = inl (h.0, fault_more rest more h.1)
+stops_more (On p) u rest ahead more later whole (inr h) = absurd (whole h.0)
+stops_more (Done g) u rest ahead more later whole h = h
+stops_more (Broken why) u rest ahead more later whole h = h
+stops_more Late u rest ahead more later whole h = h
+
+pub answer_more : {P G : Type 0} (step : P → Packet → AnswerState P G) (start : AnswerState P G) (used rest ahead more later : List ℕ) (u : AnswerState P G)
+    → IsAnswer step start used rest ahead u → (u ≡ Broken cause.Ended → ⊥) → IsAnswer step start used (rest ++ more) later u
+answer_more step start used rest ahead more later u one whole = record {
+  packets = one.packets;
+  spelled = one.spelled;
+  stops = stops_more (outcome step limit start one.packets) u rest ahead more later whole one.stops;
+}

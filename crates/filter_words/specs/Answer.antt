@@ -15,12 +15,13 @@ StopsWith (Done good) rest ahead result = result ≡ Done good
 StopsWith (Broken why) rest ahead result = result ≡ Broken why
 StopsWith Late rest ahead result = ⊥
 
--- the answer at the front of all that a driver sends, of which a part was taken
-pub record IsAnswer {P G : Type 0} (step : P → Packet → AnswerState P G) (start : AnswerState P G) (output : List ℕ) (result : AnswerState P G) : Type 0 where
+-- The answer at the front of all that a driver sends: its packets are spelled by `used`, `rest` was taken behind them, and
+-- `ahead` was not.
+pub record IsAnswer {P G : Type 0} (step : P → Packet → AnswerState P G) (start : AnswerState P G) (used rest ahead : List ℕ) (result : AnswerState P G) : Type 0 where
   pub packets : List Packet
-  pub used : List ℕ
-  pub rest : List ℕ
-  pub ahead : List ℕ
   pub spelled : SpellAll packets used
-  pub whole : output ≡ (used ++ rest) ++ ahead
   pub stops : StopsWith (outcome step limit start packets) rest ahead result
+
+-- the packets are a part of an answer, and more belong to it
+abbrev pub IsUnfinished : {P G : Type 0} → (P → Packet → AnswerState P G) → AnswerState P G → List Packet → Type 0
+IsUnfinished {P} step start packets = (phase : P) × (outcome step limit start packets ≡ On phase)

@@ -1,7 +1,8 @@
 -- The two answers of a driver to a handshake, packet by packet.
-use Rattle.std.specs.Prelude.{ℕ, false, ◌||◌, if◌then◌else◌, List, codes}
+use Rattle.std.specs.Prelude.{◌≡◌, ℕ, false, ◌||◌, if◌then◌else◌, List, codes}
 use Rattle.std.specs.Str.{bytes_eq}
 use Rattle.pkt_line.specs.Packets.{Packet, Payload, Flush}
+use Rattle.filter_words.specs.Outcomes.{outcome, limit}
 use Rattle.filter_words.specs.Words.{without_lf}
 use Rattle.filter_words.specs.declared.reply.BreakCause.TheVariants as cause
 use Rattle.filter_words.specs.declared.reply.Caps.{Caps}
@@ -37,3 +38,7 @@ handshake_step (Capabilities caps) Flush = Done caps
 
 abbrev pub handshake_start : AnswerState HandshakePhase Caps
 handshake_start = On Server
+
+-- the packets are a right first answer: what follows them are capabilities
+abbrev pub IsHello : List Packet → Type 0
+IsHello packets = outcome handshake_step limit handshake_start packets ≡ On (Capabilities no_caps)

@@ -1,10 +1,10 @@
-ghost use Rattle.std.specs.Prelude.{◌≡◌, ◌∷◌, List, map};
+ghost use Rattle.std.specs.Prelude.{◌≡◌, ◌+◌, ◌∷◌, List, map};
 ghost use Rattle.pkt_line.specs.Packets.{Packet, Payload, Flush, size};
 ghost use Rattle.filter_words.specs.Outcomes.{outcome, limit, packet_of};
 ghost use Rattle.filter_words.specs.Words.{without_lf};
 ghost use Rattle.filter_words.specs.Handshake.{handshake_step, handshake_start, wanted_line, with_capability};
 
-use crate::answer_state::{AnswerState, MOST_ANSWER};
+use crate::answer_state::AnswerState;
 use crate::packet::ReadPacket;
 use crate::reply::{BreakCause, Caps};
 use crate::words::without_end;
@@ -73,25 +73,15 @@ fn more_caps(caps: Caps, line: &[u8]) -> Caps
     }
 }
 
-/// What whole packets make of a handshake's two answers, read one by one.
-pub fn handshake_of(packets: &[ReadPacket<'_>]) -> AnswerState<HandshakePhase, Caps>
-    ensures { result ≡ outcome handshake_step limit handshake_start (map packet_of packets.now) }
-{
-    let mut room = MOST_ANSWER;
-    let mut state = AnswerState::On(HandshakePhase::Server);
-    for packet in packets {
-        (room, state) = handshake_after_packet(room, state, packet);
-    }
-    state
-}
-
-/// One more packet, and how much room is left.
-fn handshake_after_packet(
+/// What one more packet makes of a handshake's two answers, for which there is so much room, and the room that is left.
+/// A handshake begins with `MOST_ANSWER` and `HandshakePhase::Server`.
+pub fn handshake_after_packet(
     room: u64,
     state: AnswerState<HandshakePhase, Caps>,
     packet: &ReadPacket<'_>,
 ) -> (u64, AnswerState<HandshakePhase, Caps>)
-    ensures { (rest : List Packet) → outcome handshake_step result.0 result.1 rest ≡ outcome handshake_step room state (packet_of packet.now ∷ rest) }
+    ensures counted { (next : HandshakePhase) → result.1 ≡ AnswerState.On next → result.0 + size (packet_of packet.now) ≡ room }
+    ensures outcome { (rest : List Packet) → outcome handshake_step result.0 result.1 rest ≡ outcome handshake_step room state (packet_of packet.now ∷ rest) }
 {
     let AnswerState::On(phase) = state else {
         return (room, AnswerState::Late);

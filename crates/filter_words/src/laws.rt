@@ -5,6 +5,7 @@ ghost use Rattle.filter_words.specs.Answer.{IsAnswer};
 ghost use Rattle.filter_words.specs.Grammar.{block, IsOpen, IsBroken};
 ghost use Rattle.filter_words.specs.SmudgeReply.{reply_step, reply_start, content_in};
 ghost use Rattle.filter_words.specs.Words.{last_status};
+ghost use Rattle.filter_words.specs.Requests.{first_text, keys_text, content_text};
 ghost use Rattle.filter_words.specs.ReplyGrammar.{IsReply, joined};
 ghost use Rattle.filter_words.specs.Listing.{ListPhase, GoodList, list_step, list_start};
 ghost use Rattle.filter_words.specs.ListGrammar.{IsList};
@@ -13,6 +14,7 @@ ghost use Rattle.filter_words.specs.HandshakeGrammar.{IsHandshake};
 ghost use Rattle.filter_words.specs.declared.reply.Caps.{Caps};
 ghost use Rattle.filter_words.specs.declared.handshake.HandshakePhase.{HandshakePhase};
 ghost use Rattle.filter_words.specs.declared.reply.BreakCause.{BreakCause};
+ghost use Rattle.filter_words.specs.declared.reply.BreakCause.TheVariants as cause;
 ghost use Rattle.filter_words.specs.declared.smudge_reply.GoodReply.{GoodReply};
 ghost use Rattle.filter_words.specs.declared.smudge_reply.ReplyPhase.{ReplyPhase};
 ghost use Rattle.filter_words.specs.declared.answer_state.AnswerState.{AnswerState};
@@ -39,15 +41,18 @@ pub fn reply_content()
 
 /// Replies that stand at the front of the same bytes and have come to their ends are one. Where no packet stands behind
 /// an open reply, no longer one that has ended stands at the front of the same bytes. So what a driver sends holds one
-/// reply at its front, however it is cut and however much of it was taken.
+/// reply at its front, however it is cut and however much of it was taken, and one that has ended stays so when more is
+/// sent behind it.
 pub fn one_reply()
     ensures same { (d : Bool) (ps qs : List Packet) (a b x y : List ℕ) (u v : AnswerState ReplyPhase GoodReply) → SpellAll ps a → SpellAll qs b → a ++ x ≡ b ++ y
         → outcome (reply_step d) limit reply_start ps ≡ u → outcome (reply_step d) limit reply_start qs ≡ v → IsEnd u → IsEnd v
         → (ps ≡ qs) × (a ≡ b) × (u ≡ v) }
     ensures none_longer { (d : Bool) (ps qs : List Packet) (a b x y : List ℕ) (p : ReplyPhase) (v : AnswerState ReplyPhase GoodReply) → SpellAll ps a → SpellAll qs b → a ++ x ≡ b ++ y → HasNoPacket x
         → outcome (reply_step d) limit reply_start ps ≡ state.On p → outcome (reply_step d) limit reply_start qs ≡ v → IsEnd v → ⊥ }
-    ensures heard { (d : Bool) (output : List ℕ) (u v : AnswerState ReplyPhase GoodReply) (one : IsAnswer (reply_step d) reply_start output u) (two : IsAnswer (reply_step d) reply_start output v)
-        → (u ≡ v) × ((g : GoodReply) → u ≡ state.Done g → one.used ≡ two.used) }
+    ensures heard { (d : Bool) (a x c b y z : List ℕ) (u v : AnswerState ReplyPhase GoodReply) → IsAnswer (reply_step d) reply_start a x c u → IsAnswer (reply_step d) reply_start b y z v → a ++ (x ++ c) ≡ b ++ (y ++ z)
+        → (u ≡ v) × ((g : GoodReply) → u ≡ state.Done g → a ≡ b) }
+    ensures ended { (d : Bool) (used rest ahead more later : List ℕ) (u : AnswerState ReplyPhase GoodReply) → IsAnswer (reply_step d) reply_start used rest ahead u → (u ≡ state.Broken cause.Ended → ⊥)
+        → IsAnswer (reply_step d) reply_start used (rest ++ more) later u }
 {}
 
 /// The same of the answer to a list request, where these paths are delayed.
@@ -65,8 +70,10 @@ pub fn one_list()
         → (ps ≡ qs) × (a ≡ b) × (u ≡ v) }
     ensures none_longer { (delayed : List (List ℕ)) (ps qs : List Packet) (a b x y : List ℕ) (p : ListPhase) (v : AnswerState ListPhase GoodList) → SpellAll ps a → SpellAll qs b → a ++ x ≡ b ++ y → HasNoPacket x
         → outcome (list_step delayed) limit list_start ps ≡ state.On p → outcome (list_step delayed) limit list_start qs ≡ v → IsEnd v → ⊥ }
-    ensures heard { (delayed : List (List ℕ)) (output : List ℕ) (u v : AnswerState ListPhase GoodList) (one : IsAnswer (list_step delayed) list_start output u) (two : IsAnswer (list_step delayed) list_start output v)
-        → (u ≡ v) × ((g : GoodList) → u ≡ state.Done g → one.used ≡ two.used) }
+    ensures heard { (delayed : List (List ℕ)) (a x c b y z : List ℕ) (u v : AnswerState ListPhase GoodList) → IsAnswer (list_step delayed) list_start a x c u → IsAnswer (list_step delayed) list_start b y z v → a ++ (x ++ c) ≡ b ++ (y ++ z)
+        → (u ≡ v) × ((g : GoodList) → u ≡ state.Done g → a ≡ b) }
+    ensures ended { (delayed : List (List ℕ)) (used rest ahead more later : List ℕ) (u : AnswerState ListPhase GoodList) → IsAnswer (list_step delayed) list_start used rest ahead u → (u ≡ state.Broken cause.Ended → ⊥)
+        → IsAnswer (list_step delayed) list_start used (rest ++ more) later u }
 {}
 
 /// The same of the two answers to a handshake.
@@ -84,6 +91,13 @@ pub fn one_handshake()
         → (ps ≡ qs) × (a ≡ b) × (u ≡ v) }
     ensures none_longer { (ps qs : List Packet) (a b x y : List ℕ) (p : HandshakePhase) (v : AnswerState HandshakePhase Caps) → SpellAll ps a → SpellAll qs b → a ++ x ≡ b ++ y → HasNoPacket x
         → outcome handshake_step limit handshake_start ps ≡ state.On p → outcome handshake_step limit handshake_start qs ≡ v → IsEnd v → ⊥ }
-    ensures heard { (output : List ℕ) (u v : AnswerState HandshakePhase Caps) (one : IsAnswer handshake_step handshake_start output u) (two : IsAnswer handshake_step handshake_start output v)
-        → (u ≡ v) × ((caps : Caps) → u ≡ state.Done caps → one.used ≡ two.used) }
+    ensures heard { (a x c b y z : List ℕ) (u v : AnswerState HandshakePhase Caps) → IsAnswer handshake_step handshake_start a x c u → IsAnswer handshake_step handshake_start b y z v → a ++ (x ++ c) ≡ b ++ (y ++ z)
+        → (u ≡ v) × ((g : Caps) → u ≡ state.Done g → a ≡ b) }
+    ensures ended { (used rest ahead more later : List ℕ) (u : AnswerState HandshakePhase Caps) → IsAnswer handshake_step handshake_start used rest ahead u → (u ≡ state.Broken cause.Ended → ⊥)
+        → IsAnswer handshake_step handshake_start used (rest ++ more) later u }
+{}
+
+/// The request for a path is its key list and then its content, which may be sent apart.
+pub fn request_in_parts()
+    ensures { (path : List ℕ) (d : Bool) (content : List ℕ) → first_text path d content ≡ keys_text path d ++ content_text content }
 {}

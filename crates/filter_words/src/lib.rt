@@ -14,18 +14,20 @@ mod tests;
 mod words;
 
 pub use answer_state::{AnswerState, MOST_ANSWER};
-pub use handshake::{HandshakePhase, handshake_after_flush, handshake_after_line, handshake_of};
+pub use handshake::{
+    HandshakePhase, handshake_after_flush, handshake_after_line, handshake_after_packet,
+};
 pub use laws::{
     handshake_grammar, list_grammar, one_handshake, one_list, one_reply, reply_content,
-    reply_grammar,
+    reply_grammar, request_in_parts,
 };
 pub use listing::{
-    ListEnd, ListPart, Listing, list_after_flush, list_reply, listed_name, listing_of,
+    ListEnd, ListPart, Listing, list_after_flush, list_after_packet, list_reply, listed_name,
 };
 pub use packet::ReadPacket;
 pub use reply::{BreakCause, Caps, ListReply, Reply};
-pub use requests::{push_caps, push_hello, push_list, push_smudge};
+pub use requests::{push_caps, push_hello, push_list, push_smudge, push_smudge_keys};
 pub use smudge_reply::{
-    GoodReply, ReplyPhase, reply_after_flush, reply_after_line, reply_of, smudge_reply_of,
+    GoodReply, ReplyPhase, reply_after_flush, reply_after_line, reply_after_packet, reply_of,
 };
 pub use words::{Status, key_value, next_status, read_status};

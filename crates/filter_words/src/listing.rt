@@ -1,4 +1,4 @@
-ghost use Rattle.std.specs.Prelude.{◌≡◌, ◌<◌, ◌^◌, vec_len, length, ◌&&◌, not, ◌∷◌, ◌++◌, [], List, ℕ, map, codes, IfOk};
+ghost use Rattle.std.specs.Prelude.{◌≡◌, ◌+◌, ◌<◌, ◌^◌, vec_len, length, ◌&&◌, not, ◌∷◌, ◌++◌, [], List, ℕ, map, codes, IfOk};
 ghost use Rattle.pkt_line.specs.Packets.{Packet, Payload, Flush, size};
 ghost use Rattle.std.specs.Option.{option_map};
 ghost use Rattle.std.specs.List.{list_any};
@@ -158,34 +158,17 @@ fn list_after_line<'a>(
     }
 }
 
-/// What whole packets make of the answer to a list request, read one by one, where these paths are delayed. It looks
-/// for each name by a scan over the paths.
-pub fn listing_of<'a>(
-    alloc: Global,
-    delayed: &[&[u8]],
-    packets: &[ReadPacket<'a>],
-) -> Result<Listing<'a>, AllocError>
-    ensures { IfOk result (λ l. list_state l.state (map bytes_of l.names.items) ≡ outcome (list_step (map bytes_of delayed.now)) limit list_start (map packet_of packets.now)) }
-{
-    let mut room = MOST_ANSWER;
-    let mut listing = Listing {
-        state: AnswerState::On(ListPart::Names),
-        names: Vec::new(alloc),
-    };
-    for packet in packets {
-        (room, listing) = list_after_packet(delayed, room, listing, packet)?;
-    }
-    Ok(listing)
-}
-
-/// One more packet, and how much room is left.
-fn list_after_packet<'a>(
+/// What one more packet makes of the answer to a list request, for which there is so much room, where these paths are
+/// delayed, and the room that is left. It begins with `MOST_ANSWER`, `ListPart::Names` and no names, and looks for each
+/// name by a scan over the paths.
+pub fn list_after_packet<'a>(
     delayed: &[&[u8]],
     room: u64,
     listing: Listing<'a>,
     packet: &ReadPacket<'a>,
 ) -> Result<(u64, Listing<'a>), AllocError>
-    ensures { IfOk result (λ next. (rest : List Packet) → outcome (list_step (map bytes_of delayed.now)) next.0 (list_state next.1.state (map bytes_of next.1.names.items)) rest
+    ensures counted { IfOk result (λ next. (part : ListPart) → next.1.state ≡ AnswerState.On part → next.0 + size (packet_of packet.now) ≡ room) }
+    ensures outcome { IfOk result (λ next. (rest : List Packet) → outcome (list_step (map bytes_of delayed.now)) next.0 (list_state next.1.state (map bytes_of next.1.names.items)) rest
         ≡ outcome (list_step (map bytes_of delayed.now)) room (list_state listing.entry.state (map bytes_of listing.entry.names.items)) (packet_of packet.now ∷ rest)) }
 {
     let Listing { state, names } = listing;

@@ -1,4 +1,4 @@
-ghost use Rattle.std.specs.Prelude.{◌≡◌, ◌∷◌, List, ℕ, Bool, map};
+ghost use Rattle.std.specs.Prelude.{◌≡◌, ◌+◌, ◌∷◌, List, ℕ, Bool, map};
 ghost use Rattle.pkt_line.specs.Packets.{Packet, Payload, Flush, size};
 ghost use Rattle.filter_words.specs.Outcomes.{outcome, limit, packet_of};
 ghost use Rattle.filter_words.specs.SmudgeReply.{reply_in, reply_step, reply_start, first_state, last_state};
@@ -107,29 +107,16 @@ fn after_last_key_list(status: Option<Status>) -> AnswerState<ReplyPhase, GoodRe
     }
 }
 
-/// What whole packets make of a reply, read one by one.
-pub fn smudge_reply_of(
-    can_delay: bool,
-    packets: &[ReadPacket<'_>],
-) -> AnswerState<ReplyPhase, GoodReply>
-    ensures { result ≡ outcome (reply_step can_delay) limit reply_start (map packet_of packets.now) }
-{
-    let mut room = MOST_ANSWER;
-    let mut state = AnswerState::On(ReplyPhase::KeyList(None));
-    for packet in packets {
-        (room, state) = reply_after_packet(can_delay, room, state, packet);
-    }
-    state
-}
-
-/// One more packet, and how much room is left.
-fn reply_after_packet(
+/// What one more packet makes of a reply, for which there is so much room, and the room that is left. A reply begins
+/// with `MOST_ANSWER` and `ReplyPhase::KeyList(None)`.
+pub fn reply_after_packet(
     can_delay: bool,
     room: u64,
     state: AnswerState<ReplyPhase, GoodReply>,
     packet: &ReadPacket<'_>,
 ) -> (u64, AnswerState<ReplyPhase, GoodReply>)
-    ensures { (rest : List Packet) → outcome (reply_step can_delay) result.0 result.1 rest ≡ outcome (reply_step can_delay) room state (packet_of packet.now ∷ rest) }
+    ensures counted { (next : ReplyPhase) → result.1 ≡ AnswerState.On next → result.0 + size (packet_of packet.now) ≡ room }
+    ensures outcome { (rest : List Packet) → outcome (reply_step can_delay) result.0 result.1 rest ≡ outcome (reply_step can_delay) room state (packet_of packet.now ∷ rest) }
 {
     let AnswerState::On(phase) = state else {
         return (room, AnswerState::Late);

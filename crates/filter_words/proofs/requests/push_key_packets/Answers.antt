@@ -3,7 +3,7 @@ use Rattle.std.specs.Prelude.{codes}
 use Rattle.pkt_line.specs.Packets.{Flush}
 use Rattle.filter_words.specs.Requests.{line, can_delay_line}
 use Rattle.filter_words.proofs.Texts.{keys_texts}
-use Rattle.filter_words.proofs.requests.push_smudge_keys.Goals as goal
+use Rattle.filter_words.proofs.requests.push_key_packets.Goals as goal
 
 pub returns-clause-ok : goal.returns-clause-ok
 returns-clause-ok c =
