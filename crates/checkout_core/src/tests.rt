@@ -95,107 +95,113 @@ fn one_run_with_a_delayed_path(rt: HostRuntime) -> Result<(), Fail> {
     Ok(())
 }
 
-/// Cases, each a history in the state of `fresh`. A word is an event of four letters, of which `.` says nothing: its
-/// kind, its path or driver, and what `event_of` reads of the rest. Behind it stands a space, or `!` where it is refused.
-/// A word with `=` is a path and its verdict.
-const CASES: [(&str, &[u8]); 78] = [
-    // claims
-    ("not waiting", b"C10.!"),
-    ("held already", b"C00. C01.!"),
-    ("no such actor", b"C03.!"),
-    ("no such path", b"C60.!"),
-    ("closed", b"C50.!"),
-    // openings
-    ("no such driver", b"O2b.!"),
-    ("on already", b"O0b. O0b.!"),
-    ("none unasked", b"X11o X21r O0b.!"),
-    ("after abort", b"O0b. A1a. O0b.!"),
-    ("a failure, on", b"O0b. F1s.!"),
-    ("a failure, no driver", b"F0s.!"),
-    ("a failure, not the lowest", b"F2s.!"),
-    ("a failure, not unasked", b"F1n. F1s.!"),
-    ("a failure by a strange path", b"F1p.!"),
-    ("a failure by a refused list", b"F1r.!"),
-    // answers
-    ("off", b"A1c.!"),
-    ("no smudge", b"O0n. A1c.!"),
-    ("not the lowest", b"O0b. A2c.!"),
-    ("asked already", b"O0b. A1e. A1c.!"),
-    ("no delay", b"O0s. A1d.!"),
-    ("a strange path", b"O0b. A1p.!"),
-    ("a refused list", b"O0b. A1r.!"),
-    // lists
-    ("named, off", b"N1..!"),
-    ("named, one unasked", b"O0b. A1d. N1..!"),
-    ("named, not delayed", b"O0b. A1d. A2c. N2..!"),
-    (
-        "named, a list before isn't done",
-        b"O0b. A1d. A2d. N2.. L01. N1..!",
-    ),
-    ("listed, off", b"L0e.!"),
-    ("listed, no name noted", b"O0b. A1d. A2c. L00.!"),
-    ("listed, another count", b"O0b. A1d. A2d. N2.. L02.!"),
-    ("empty, while a list is noted", b"O0b. A1d. A2d. N2.. L0e.!"),
-    ("empty, one named", b"O0b. A1d. A2d. N2.. L01. L0e.!"),
-    ("empty, one unasked", b"O0b. A1d. L0e.!"),
-    ("empty, none delayed", b"O0b. A1c. A2c. L0e.!"),
-    // second answers
-    ("while a list is noted", b"O0b. A1d. A2d. N2.. N1.. R2c.!"),
-    ("out of turn", b"O0b. A1d. A2d. N2.. N1.. L02. R1c.!"),
-    ("delayed again", b"O0b. A1d. A2d. N2.. N1.. L02. R2d.!"),
-    (
-        "a second answer's strange path",
-        b"O0b. A1d. A2d. N2.. N1.. L02. R2p.!",
-    ),
-    (
-        "a second answer's refused list",
-        b"O0b. A1d. A2d. N2.. N1.. L02. R2r.!",
-    ),
-    ("not named", b"O0b. A1d. R1c.!"),
-    // ends
-    ("back, required", b"O0b. A1e. B1..!"),
-    ("back, required and no smudge", b"O0n. B1..!"),
-    ("back, got", b"O1b. A3c. B3..!"),
-    ("back, out of memory", b"O1b. A3n. B3..!"),
-    ("back, off", b"B3..!"),
-    ("back, to be asked", b"O1b. B3..!"),
-    ("back, no driver", b"B0..!"),
-    ("shut, off", b"S0..!"),
-    ("shut, one unasked", b"O0n. S0..!"),
-    ("shut, delayed", b"O0b. A1d. A2c. S0..!"),
-    // closes
-    ("another's path", b"C00. X01f!"),
-    ("not in hand", b"X00f!"),
-    ("another desk's", b"O0b. A1c. X12f!"),
-    ("closed already", b"X50f!"),
-    ("delayed", b"O0b. A1d. X11f!"),
-    ("off, not read", b"X11f!"),
-    ("to be asked", b"O0b. X21f!"),
-    ("unasked, another desk's", b"X12o!"),
-    ("the first, its object", b"O0n. X11o!"),
-    ("the first, unread", b"O0n. X11r!"),
-    ("heard, its object", b"O0b. A1c. X11o!"),
-    ("heard, unread", b"O0b. A1c. X11r!"),
-    ("handed back, its object", b"O1n. B3.. C30. X30o!"),
-    ("handed back, unread", b"O1n. B3.. C30. X30r!"),
-    ("the first, to be asked", b"O0b. X11n!"),
-    // verdicts in hand
-    ("fine", b"C02. X02u =0u."),
-    ("object", b"C00. X00o =0o."),
-    ("no memory", b"C00. X00n =0n."),
-    ("handed back", b"O1n. B3.. C30. X30u =3s."),
-    ("handed back, not written", b"O1n. B3.. C30. X30w =3x."),
-    ("done before", b"=5g."),
-    // verdicts of a driver's paths
-    ("required", b"O0b. A1l. X11f =1l."),
-    ("not required", b"O1b. A3e. X32f =3e."),
-    ("lost", b"O0b. A1d. A2a. X11f =1m."),
-    ("out of memory", b"O0b. A1d. A2n. X11w =1n."),
-    ("unasked, aborted", b"O1b. A3a. X42f =4a."),
-    ("the first, no memory", b"O0n. X11n =1n."),
-    ("unasked, unread", b"X11r =1r."),
-    ("not opened", b"F1e. X11f =1b."),
-];
+// Cases in the state of `fresh`, one behind the other. A word is an event of four letters, of which `.` says nothing: its
+// kind, its path or driver, and what `event_of` reads of the rest. A word with `=` is a path and its verdict. Behind a word
+// stands a space, `!` where it is refused, or `;`: with these two a case ends.
+
+/// Claims: not waiting; held already; no such actor; no such path; closed.
+const CLAIMS: &[u8] = b"C10.!\
+    C00. C01.!\
+    C03.!\
+    C60.!\
+    C50.!";
+
+/// Openings: no such driver; on already; none unasked; after abort; a failure, on; a failure, no driver; a failure,
+/// not the lowest; a failure, not unasked; a failure by a strange path; a failure by a refused list.
+const OPENINGS: &[u8] = b"O2b.!\
+    O0b. O0b.!\
+    X11o X21r O0b.!\
+    O0b. A1a. O0b.!\
+    O0b. F1s.!\
+    F0s.!\
+    F2s.!\
+    F1n. F1s.!\
+    F1p.!\
+    F1r.!";
+
+/// Answers: off; no smudge; not the lowest; asked already; no delay; a strange path; a refused list.
+const ANSWERS: &[u8] = b"A1c.!\
+    O0n. A1c.!\
+    O0b. A2c.!\
+    O0b. A1e. A1c.!\
+    O0s. A1d.!\
+    O0b. A1p.!\
+    O0b. A1r.!";
+
+/// Lists: named, off; named, one unasked; named, not delayed; named, a list before isn't done; listed, off; listed,
+/// no name noted; listed, another count; empty, while a list is noted; empty, one named; empty, one unasked; empty,
+/// none delayed.
+const LISTS: &[u8] = b"N1..!\
+    O0b. A1d. N1..!\
+    O0b. A1d. A2c. N2..!\
+    O0b. A1d. A2d. N2.. L01. N1..!\
+    L0e.!\
+    O0b. A1d. A2c. L00.!\
+    O0b. A1d. A2d. N2.. L02.!\
+    O0b. A1d. A2d. N2.. L0e.!\
+    O0b. A1d. A2d. N2.. L01. L0e.!\
+    O0b. A1d. L0e.!\
+    O0b. A1c. A2c. L0e.!";
+
+/// Second answers: while a list is noted; out of turn; delayed again; a second answer's strange path; a second
+/// answer's refused list; not named.
+const SECOND_ANSWERS: &[u8] = b"O0b. A1d. A2d. N2.. N1.. R2c.!\
+    O0b. A1d. A2d. N2.. N1.. L02. R1c.!\
+    O0b. A1d. A2d. N2.. N1.. L02. R2d.!\
+    O0b. A1d. A2d. N2.. N1.. L02. R2p.!\
+    O0b. A1d. A2d. N2.. N1.. L02. R2r.!\
+    O0b. A1d. R1c.!";
+
+/// Ends: back, required; back, required and no smudge; back, got; back, out of memory; back, off; back, to be asked;
+/// back, no driver; shut, off; shut, one unasked; shut, delayed.
+const ENDS: &[u8] = b"O0b. A1e. B1..!\
+    O0n. B1..!\
+    O1b. A3c. B3..!\
+    O1b. A3n. B3..!\
+    B3..!\
+    O1b. B3..!\
+    B0..!\
+    S0..!\
+    O0n. S0..!\
+    O0b. A1d. A2c. S0..!";
+
+/// Closes: another's path; not in hand; another desk's; closed already; delayed; off, not read; to be asked; unasked,
+/// another desk's; the first, its object; the first, unread; heard, its object; heard, unread; handed back, its
+/// object; handed back, unread; the first, to be asked.
+const CLOSES: &[u8] = b"C00. X01f!\
+    X00f!\
+    O0b. A1c. X12f!\
+    X50f!\
+    O0b. A1d. X11f!\
+    X11f!\
+    O0b. X21f!\
+    X12o!\
+    O0n. X11o!\
+    O0n. X11r!\
+    O0b. A1c. X11o!\
+    O0b. A1c. X11r!\
+    O1n. B3.. C30. X30o!\
+    O1n. B3.. C30. X30r!\
+    O0b. X11n!";
+
+/// Verdicts in hand: fine; object; no memory; handed back; handed back, not written; done before.
+const IN_HAND: &[u8] = b"C02. X02u =0u.;\
+    C00. X00o =0o.;\
+    C00. X00n =0n.;\
+    O1n. B3.. C30. X30u =3s.;\
+    O1n. B3.. C30. X30w =3x.;\
+    =5g.;";
+
+/// Verdicts of a driver's paths: required; not required; lost; out of memory; unasked, aborted; the first, no memory;
+/// unasked, unread; not opened.
+const OF_A_DRIVER: &[u8] = b"O0b. A1l. X11f =1l.;\
+    O1b. A3e. X32f =3e.;\
+    O0b. A1d. A2a. X11f =1m.;\
+    O0b. A1d. A2n. X11w =1n.;\
+    O1b. A3a. X42f =4a.;\
+    O0n. X11n =1n.;\
+    X11r =1r.;\
+    F1e. X11f =1b.;";
 
 /// One worker, actor 0. Path 0 is the pool's. Paths 1 and 2 are of driver 0, which is required
 /// and whose desk is actor 1. Paths 3 and 4 are of driver 1, which isn't, with the desk 2.
@@ -342,33 +348,43 @@ fn event_of(word: &[u8]) -> Option<Event> {
 }
 
 /// One word of a case.
-fn follow(rt: &impl Abort, what: &str, state: &mut State, word: &[u8]) {
+fn follow(rt: &impl Abort, state: &mut State, word: &[u8]) {
     if letter(word, 0) == b'=' {
         let want = verdict_of(letter(word, 2));
-        assert!(rt; want.is_some(), "{what}: {word:?}");
-        assert_eq!(rt;
-            state.verdict(digit(letter(word, 1))),
-            want,
-            "{what}: {word:?}"
-        );
+        assert!(rt; want.is_some(), "{word:?}");
+        assert_eq!(rt; state.verdict(digit(letter(word, 1))), want, "{word:?}");
         return;
     }
     let event = event_of(word);
-    assert!(rt; event.is_some(), "{what}: {word:?}");
+    assert!(rt; event.is_some(), "{word:?}");
     if let Some(event) = event {
         let open = state.unclosed();
         let refused = step(state, event).is_err();
-        assert_eq!(rt; refused, letter(word, 4) == b'!', "{what}: {word:?}");
-        assert!(rt; !refused || state.unclosed() == open, "{what}: {word:?}");
+        assert_eq!(rt; refused, letter(word, 4) == b'!', "{word:?}");
+        assert!(rt; !refused || state.unclosed() == open, "{word:?}");
     }
 }
 
 #[test]
 fn each_case(rt: HostRuntime) -> Result<(), Fail> {
-    for (what, words) in CASES {
+    let themes = [
+        CLAIMS,
+        OPENINGS,
+        ANSWERS,
+        LISTS,
+        SECOND_ANSWERS,
+        ENDS,
+        CLOSES,
+        IN_HAND,
+        OF_A_DRIVER,
+    ];
+    for words in themes {
         let mut state = fresh(rt.alloc())?;
         for word in words.chunks(5) {
-            follow(&rt, what, &mut state, word);
+            follow(&rt, &mut state, word);
+            if letter(word, 4) != b' ' {
+                state = fresh(rt.alloc())?;
+            }
         }
     }
     Ok(())

@@ -41,9 +41,10 @@ no_good : {P G : Type 0} (step : P → Packet → AnswerState P G) (start : P) (
 no_good step start good r ps why e more g w =
     broken_stays step why more g (sym (ap (λ t. run step t more) e) ∙ (sym (run-append step (On start) ps more) ∙ r.reads (ps ++ more) g w))
 
-pub broken_reading : {P G : Type 0} (step : P → Packet → AnswerState P G) (start : P) (good : List Packet → G → Type 0) → Reads step start good
-    → (ps : List Packet) (why : BreakCause) → outcome step limit (On start) ps ≡ Broken why → IsBroken G good ps why
-broken_reading step start good r ps why e =
+pub broken_reading : {P G : Type 0} (step : P → Packet → AnswerState P G) (start : P) (good : List Packet → G → Type 0) (breaks : List Packet → BreakCause → Type 0)
+    → Reads step start good → ((ps : List Packet) (why : BreakCause) → run step (On start) ps ≡ Broken why → breaks ps why)
+    → (ps : List Packet) (why : BreakCause) → outcome step limit (On start) ps ≡ Broken why → IsBroken G good breaks ps why
+broken_reading step start good breaks r broke ps why e =
     let b = breaks_at step limit start ps why e in
     record {
       before = b.before;
@@ -51,5 +52,5 @@ broken_reading step start good r ps why e =
       whole = b.whole;
       fitted = b.fitted;
       was_open = open_run step start good r b.before b.phase b.was_on;
-      cause_is = elim b.cause_is [ inl l ↦ inl l | inr x ↦ inr (x.0, no_good step start good r ps why x.1) ];
+      cause_is = elim b.cause_is [ inl l ↦ inl l | inr x ↦ inr (x.0, broke ps why x.1, no_good step start good r ps why x.1) ];
     }

@@ -11,3 +11,4 @@ pub mod ListRuns
 pub mod HandshakeRuns
 pub mod Contents
 pub mod OneAnswer
+pub mod Breaks

@@ -6,11 +6,11 @@ ghost use Rattle.filter_words.specs.Grammar.{block, IsOpen, IsBroken};
 ghost use Rattle.filter_words.specs.SmudgeReply.{reply_step, reply_start, content_in};
 ghost use Rattle.filter_words.specs.Words.{last_status};
 ghost use Rattle.filter_words.specs.Requests.{first_text, keys_text, content_text};
-ghost use Rattle.filter_words.specs.ReplyGrammar.{IsReply, joined};
+ghost use Rattle.filter_words.specs.ReplyGrammar.{IsReply, BreaksReply, joined};
 ghost use Rattle.filter_words.specs.Listing.{ListPhase, GoodList, list_step, list_start};
-ghost use Rattle.filter_words.specs.ListGrammar.{IsList};
+ghost use Rattle.filter_words.specs.ListGrammar.{IsList, BreaksList};
 ghost use Rattle.filter_words.specs.Handshake.{handshake_step, handshake_start};
-ghost use Rattle.filter_words.specs.HandshakeGrammar.{IsHandshake};
+ghost use Rattle.filter_words.specs.HandshakeGrammar.{IsHandshake, BreaksHandshake};
 ghost use Rattle.filter_words.specs.declared.reply.Caps.{Caps};
 ghost use Rattle.filter_words.specs.declared.handshake.HandshakePhase.{HandshakePhase};
 ghost use Rattle.filter_words.specs.declared.reply.BreakCause.{BreakCause};
@@ -23,13 +23,13 @@ ghost use Rattle.filter_words.specs.declared.answer_state.AnswerState.TheVariant
 use crate::words::Status;
 
 /// A reply to a smudge request ends well exactly by its grammar and within the limit. While it is open it can still
-/// become good. It is broken at the first packet that passes the limit, or else at the first after which no
-/// continuation is good.
+/// become good. It is broken at the first packet that passes the limit, and then as too long, or else at the first
+/// after which no continuation is good, with the cause that its statuses give.
 pub fn reply_grammar()
     ensures good { (d : Bool) (ps : List Packet) (g : GoodReply) → outcome (reply_step d) limit reply_start ps ≡ state.Done g → IsReply d ps g × (total ps ≤ limit) }
     ensures again { (d : Bool) (ps : List Packet) (g : GoodReply) → IsReply d ps g → total ps ≤ limit → outcome (reply_step d) limit reply_start ps ≡ state.Done g }
     ensures opened { (d : Bool) (ps : List Packet) (p : ReplyPhase) → outcome (reply_step d) limit reply_start ps ≡ state.On p → IsOpen GoodReply (IsReply d) ps × (total ps ≤ limit) }
-    ensures broken { (d : Bool) (ps : List Packet) (why : BreakCause) → outcome (reply_step d) limit reply_start ps ≡ state.Broken why → IsBroken GoodReply (IsReply d) ps why }
+    ensures broken { (d : Bool) (ps : List Packet) (why : BreakCause) → outcome (reply_step d) limit reply_start ps ≡ state.Broken why → IsBroken GoodReply (IsReply d) (BreaksReply d) ps why }
 {}
 
 /// The content of a reply is what stands between its two key lists, and a reply of one key list has none.
@@ -60,7 +60,7 @@ pub fn list_grammar()
     ensures good { (delayed : List (List ℕ)) (ps : List Packet) (g : GoodList) → outcome (list_step delayed) limit list_start ps ≡ state.Done g → IsList delayed ps g × (total ps ≤ limit) }
     ensures again { (delayed : List (List ℕ)) (ps : List Packet) (g : GoodList) → IsList delayed ps g → total ps ≤ limit → outcome (list_step delayed) limit list_start ps ≡ state.Done g }
     ensures opened { (delayed : List (List ℕ)) (ps : List Packet) (p : ListPhase) → outcome (list_step delayed) limit list_start ps ≡ state.On p → IsOpen GoodList (IsList delayed) ps × (total ps ≤ limit) }
-    ensures broken { (delayed : List (List ℕ)) (ps : List Packet) (why : BreakCause) → outcome (list_step delayed) limit list_start ps ≡ state.Broken why → IsBroken GoodList (IsList delayed) ps why }
+    ensures broken { (delayed : List (List ℕ)) (ps : List Packet) (why : BreakCause) → outcome (list_step delayed) limit list_start ps ≡ state.Broken why → IsBroken GoodList (IsList delayed) (BreaksList delayed) ps why }
 {}
 
 /// The same of two answers to a list request.
@@ -81,7 +81,7 @@ pub fn handshake_grammar()
     ensures good { (ps : List Packet) (caps : Caps) → outcome handshake_step limit handshake_start ps ≡ state.Done caps → IsHandshake ps caps × (total ps ≤ limit) }
     ensures again { (ps : List Packet) (caps : Caps) → IsHandshake ps caps → total ps ≤ limit → outcome handshake_step limit handshake_start ps ≡ state.Done caps }
     ensures opened { (ps : List Packet) (p : HandshakePhase) → outcome handshake_step limit handshake_start ps ≡ state.On p → IsOpen Caps IsHandshake ps × (total ps ≤ limit) }
-    ensures broken { (ps : List Packet) (why : BreakCause) → outcome handshake_step limit handshake_start ps ≡ state.Broken why → IsBroken Caps IsHandshake ps why }
+    ensures broken { (ps : List Packet) (why : BreakCause) → outcome handshake_step limit handshake_start ps ≡ state.Broken why → IsBroken Caps IsHandshake BreaksHandshake ps why }
 {}
 
 /// The same of two handshakes.
