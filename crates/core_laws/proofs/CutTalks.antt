@@ -68,7 +68,8 @@ IsOwned f Refusing = Unit {0}
 IsOwned f (InRound r) = AllOf f r.rest × AllOf f r.late × AllOf f r.turns
 IsOwned f Ended = Unit {0}
 
-answered_owned : (f : ℕ → Bool) (r : Round) (p : ℕ) (rest : List ℕ) (y : Reply) → f p ≡ true → AllOf f rest → AllOf f r.late → AllOf f r.turns → IsOwned f (answered r p rest y)
+answered_owned : (f : ℕ → Bool) (r : Round) (p : ℕ) (rest : List ℕ) (y : Reply) → f p ≡ true → AllOf f rest
+    → AllOf f r.late → AllOf f r.turns → IsOwned f (answered r p rest y)
 answered_owned f r p rest reply.Content h a b c = (a, b, c)
 answered_owned f r p rest reply.Error h a b c = (a, b, c)
 answered_owned f r p rest reply.ErrorAfter h a b c = (a, b, c)
@@ -77,7 +78,8 @@ answered_owned f r p rest reply.Abort h a b c = tt
 answered_owned f r p rest (reply.Broken why) h a b c = a
 answered_owned f r p rest reply.NoMemory h a b c = a
 
-ask_owned : (f : ℕ → Bool) (r : Round) (rest : List ℕ) (q : ℕ) (y : Reply) (u : Talk) → AllOf f rest → AllOf f r.late → AllOf f r.turns → ask r rest q y ≡ Some u
+ask_owned : (f : ℕ → Bool) (r : Round) (rest : List ℕ) (q : ℕ) (y : Reply) (u : Talk) → AllOf f rest
+    → AllOf f r.late → AllOf f r.turns → ask r rest q y ≡ Some u
     → (f q ≡ true) × IsOwned f u
 ask_owned f r [] q y u a b c h = none_is_some h
 ask_owned f r (p ∷ rest) q y u a b c h =
@@ -85,7 +87,8 @@ ask_owned f r (p ∷ rest) q y u a b c h =
     let same = same_number q p (and_parts (q == p) (is_good_reply y && not (is_delay y && not r.delay)) g.0).0 in
     (ap f same ∙ a.0, subst (IsOwned f) g.1 (answered_owned f r p rest y a.0 a.1 b c))
 
-redone_owned : (f : ℕ → Bool) (r : Round) (turns : List ℕ) (y : Reply) → AllOf f r.rest → AllOf f r.late → AllOf f turns → IsOwned f (redone r turns y)
+redone_owned : (f : ℕ → Bool) (r : Round) (turns : List ℕ) (y : Reply) → AllOf f r.rest → AllOf f r.late
+    → AllOf f turns → IsOwned f (redone r turns y)
 redone_owned f r turns reply.Content a b c = (a, b, c)
 redone_owned f r turns reply.Error a b c = (a, b, c)
 redone_owned f r turns reply.ErrorAfter a b c = (a, b, c)
@@ -94,7 +97,8 @@ redone_owned f r turns reply.Abort a b c = tt
 redone_owned f r turns (reply.Broken why) a b c = a
 redone_owned f r turns reply.NoMemory a b c = a
 
-again_owned : (f : ℕ → Bool) (r : Round) (turns : List ℕ) (q : ℕ) (y : Reply) (u : Talk) → AllOf f r.rest → AllOf f r.late → AllOf f turns → ask_again r turns q y ≡ Some u
+again_owned : (f : ℕ → Bool) (r : Round) (turns : List ℕ) (q : ℕ) (y : Reply) (u : Talk) → AllOf f r.rest
+    → AllOf f r.late → AllOf f turns → ask_again r turns q y ≡ Some u
     → (f q ≡ true) × IsOwned f u
 again_owned f r [] q y u a b c h = none_is_some h
 again_owned f r (p ∷ turns) q y u a b c h =
@@ -103,14 +107,16 @@ again_owned f r (p ∷ turns) q y u a b c h =
     let same = same_number q p (and_parts (q == p) (not (is_delay y) && is_good_reply y) one.1).0 in
     (ap f same ∙ c.0, subst (IsOwned f) g.1 (redone_owned f r turns y a b c.1))
 
-list_owned : (f : ℕ → Bool) (r : Round) (y : ListReply) → AllOf f r.rest → AllOf f r.late → AllOf f r.turns → IsOwned f (list_end r y)
+list_owned : (f : ℕ → Bool) (r : Round) (y : ListReply) → AllOf f r.rest → AllOf f r.late → AllOf f r.turns
+    → IsOwned f (list_end r y)
 list_owned f r (list.Names n) a b c = (a, b, c)
 list_owned f r list.Empty a b c = tt
 list_owned f r list.Abort a b c = tt
 list_owned f r (list.Broken why) a b c = a
 list_owned f r list.NoMemory a b c = a
 
-name_owned : (f : ℕ → Bool) (r : Round) (q : ℕ) (u : Talk) → AllOf f r.rest → AllOf f r.late → AllOf f r.turns → name r q ≡ Some u → (f q ≡ true) × IsOwned f u
+name_owned : (f : ℕ → Bool) (r : Round) (q : ℕ) (u : Talk) → AllOf f r.rest → AllOf f r.late → AllOf f r.turns
+    → name r q ≡ Some u → (f q ≡ true) × IsOwned f u
 name_owned f r q u a b c h =
     let g = given_talk (r.any_delayed && (is_empty r.rest && (contains q r.late && (r.noting_list || is_empty r.turns))))
     (InRound (record { delay = r.delay; any_delayed = r.any_delayed; noting_list = true; rest = r.rest; late = without q r.late; turns = r.turns ++ q ∷ [] })) u h in
@@ -122,12 +128,14 @@ name_owned f r q u a b c h =
 opened_owned : (f : ℕ → Bool) (caps : Caps) (rest : List ℕ) → AllOf f rest → IsOwned f (opened caps rest)
 opened_owned f caps rest a = go caps.smudge
   where
-    go : (b : Bool) → IsOwned f (cond b (InRound (record { delay = caps.delay; any_delayed = false; noting_list = false; rest = rest; late = []; turns = [] })) Refusing)
+    go : (b : Bool)
+        → IsOwned f (cond b (InRound (record { delay = caps.delay; any_delayed = false; noting_list = false; rest = rest; late = []; turns = [] })) Refusing)
     go true = (a, tt, tt)
     go false = tt
 
 -- so a note of such a talk is the driver's
-note_owned : (starts : List Start) (d : ℕ) (t u : Talk) (e : Event) → IsOwned (is_of starts d) t → is_with d e ≡ true → talk_next t e ≡ Some u
+note_owned : (starts : List Start) (d : ℕ) (t u : Talk) (e : Event) → IsOwned (is_of starts d) t
+    → is_with d e ≡ true → talk_next t e ≡ Some u
     → (is_note starts d e ≡ true) × IsOwned (is_of starts d) u
 note_owned starts d (Between []) u e o w h = none_is_some h
 note_owned starts d (Between (p ∷ rest)) u (ev.Claim q a) o w h = none_is_some h
@@ -172,7 +180,8 @@ without_shorter : (p : ℕ) (xs : List ℕ) → length (without p xs) ≤ length
 without_shorter p [] = omega arith
 without_shorter p (x ∷ xs) = go (p == x) (without_shorter p xs)
   where
-    go : (b : Bool) → length (without p xs) ≤ length xs → length (cond b (without p xs) (x ∷ without p xs)) ≤ length (x ∷ xs)
+    go : (b : Bool) → length (without p xs) ≤ length xs
+        → length (cond b (without p xs) (x ∷ without p xs)) ≤ length (x ∷ xs)
     go true h = omega arith
     go false h = omega arith
 
@@ -182,7 +191,8 @@ first_gone p xs =
 
 module _ (starts : List Start) (workers drivers d : ℕ) (below : AreBelow drivers starts) where
   -- all that a session without smudge refused is closed
-  close_all : (n : ℕ) (given : List Event) (rest : List ℕ) (first : ℕ) → length rest ≤ n → AtDesk starts workers drivers d given rest first Refusing
+  close_all : (n : ℕ) (given : List Event) (rest : List ℕ) (first : ℕ) → length rest ≤ n
+      → AtDesk starts workers drivers d given rest first Refusing
       → (all : List Event) × AtDesk starts workers drivers d all [] first Refusing × (notes starts d all ≡ notes starts d given)
   close_all n given [] first few a = (given, a, refl)
   close_all zero given (p ∷ rest) first few a = absurd (omega arith)
@@ -198,7 +208,8 @@ module _ (starts : List Start) (workers drivers d : ℕ) (below : AreBelow drive
   IsReady given first t =
       (all : List Event) × (rest : List ℕ) × AtDesk starts workers drivers d all rest first t × IsThrough t rest × (notes starts d all ≡ notes starts d given)
 
-  ready : (given : List Event) (rest : List ℕ) (first : ℕ) (t : Talk) → AtDesk starts workers drivers d given rest first t → IsReady given first t
+  ready : (given : List Event) (rest : List ℕ) (first : ℕ) (t : Talk)
+      → AtDesk starts workers drivers d given rest first t → IsReady given first t
   ready given rest first (Between ps) a = (given, rest, a, tt, refl)
   ready given rest first (InRound r) a = (given, rest, a, tt, refl)
   ready given rest first Ended a = (given, rest, a, tt, refl)
@@ -210,7 +221,8 @@ module _ (starts : List Start) (workers drivers d : ℕ) (below : AreBelow drive
   IsFilled given es =
       (history : List Event) × (c : Core) × (replay (start starts workers drivers) history ≡ Some c) × (notes starts d history ≡ notes starts d given ++ es)
 
-  fill : (es given : List Event) (rest : List ℕ) (first : ℕ) (t u : Talk) → AtDesk starts workers drivers d given rest first t → IsOwned (is_of starts d) t
+  fill : (es given : List Event) (rest : List ℕ) (first : ℕ) (t u : Talk)
+      → AtDesk starts workers drivers d given rest first t → IsOwned (is_of starts d) t
       → talk_run d t es ≡ Some u → IsFilled given es
   fill [] given rest first t u a o run = (given, a.core, a.run, sym (append-nil (notes starts d given)))
   fill (e ∷ es) given rest first t u a o run =

@@ -27,7 +27,8 @@ at_seat workers d (Desk f required) = same_seat workers d f
 at_seat workers d Pool = refl
 at_seat workers d (Done v) = refl
 
-of_desk : (starts : List Start) (workers d p : ℕ) → is_of starts d p ≡ is_actor (workers + d) (desk_of starts workers p)
+of_desk : (starts : List Start) (workers d p : ℕ)
+    → is_of starts d p ≡ is_actor (workers + d) (desk_of starts workers p)
 of_desk starts workers d p = go (slice_get starts p)
   where
     go : (o : Option Start) → (elim o as (λ _. Bool) [ None ↦ false | Some s ↦ is_at d s ])
@@ -35,7 +36,8 @@ of_desk starts workers d p = go (slice_get starts p)
     go None = refl
     go (Some s) = at_seat workers d s
 
-note_is_own : (starts : List Start) (workers d : ℕ) (e : Event) → is_note starts d e ≡ (is_noted e && is_own starts workers (workers + d) e)
+note_is_own : (starts : List Start) (workers d : ℕ) (e : Event)
+    → is_note starts d e ≡ (is_noted e && is_own starts workers (workers + d) e)
 note_is_own starts workers d (ev.Claim p a) = refl
 note_is_own starts workers d (ev.Close p a o) = refl
 note_is_own starts workers d (ev.HandBack p) = refl
@@ -47,13 +49,15 @@ note_is_own starts workers d (ev.Listed f y) = same_seat workers d f
 note_is_own starts workers d (ev.Redone p y) = of_desk starts workers d p
 note_is_own starts workers d (ev.Shut f) = same_seat workers d f
 
-more_own : (e : Event) (b c : Bool) (ns own : List Event) → is_noted e ≡ c → ns ≡ noted own → cond (c && b) (e ∷ ns) ns ≡ noted (cond b (e ∷ own) own)
+more_own : (e : Event) (b c : Bool) (ns own : List Event) → is_noted e ≡ c → ns ≡ noted own
+    → cond (c && b) (e ∷ ns) ns ≡ noted (cond b (e ∷ own) own)
 more_own e true true ns own i h = ap (λ (z : List Event). e ∷ z) h ∙ sym (ap (λ (z : Bool). cond z (e ∷ noted own) (noted own)) i)
 more_own e true false ns own i h = h ∙ sym (ap (λ (z : Bool). cond z (e ∷ noted own) (noted own)) i)
 more_own e false true ns own i h = h
 more_own e false false ns own i h = h
 
-pub notes_own : (starts : List Start) (workers d : ℕ) (es : List Event) → notes starts d es ≡ noted (own_entries starts workers (workers + d) es)
+pub notes_own : (starts : List Start) (workers d : ℕ) (es : List Event)
+    → notes starts d es ≡ noted (own_entries starts workers (workers + d) es)
 notes_own starts workers d [] = refl
 notes_own starts workers d (e ∷ es) =
     ap (λ (b : Bool). cond b (e ∷ notes starts d es) (notes starts d es)) (note_is_own starts workers d e)

@@ -49,7 +49,8 @@ abbrev pub said : ℕ → List Exchange → End → List Event → List Event
 said d es end more = exchanges_notes d es ++ (end_notes d end ++ more)
 
 -- behind the last exchange
-last : (d : ℕ) (es : List Exchange) (end made : End) (left : List ℕ) (more : List Event) (t : Talk) → es ≡ [] → end ≡ made
+last : (d : ℕ) (es : List Exchange) (end made : End) (left : List ℕ) (more : List Event) (t : Talk) → es ≡ []
+    → end ≡ made
     → talk_run d t (end_notes d made ++ more) ≡ talk_run d (stands made left) more → talk_run d t (said d es end more) ≡ talk_run d (stands end left) more
 last d es end made left more t none is h =
     ap (λ (xs : List Exchange). talk_run d t (said d xs end more)) none
@@ -77,7 +78,8 @@ names_run d delay late turns (q ∷ names) more h =
     ∙ ap (λ (ts : List ℕ). talk_run d (talk_of (Noting delay (minus names (without q late)) ts)) more) (append_assoc turns (q ∷ []) names))
 
 -- the notes of a list, and those behind it
-pub list_said : (ns : List Event) (l : Event) (en more : List Event) → ((ns ++ l ∷ []) ++ en) ++ more ≡ ns ++ (l ∷ (en ++ more))
+pub list_said : (ns : List Event) (l : Event) (en more : List Event)
+    → ((ns ++ l ∷ []) ++ en) ++ more ≡ ns ++ (l ∷ (en ++ more))
 list_said [] l en more = refl
 list_said (n ∷ ns) l en more = ap (λ (z : List Event). n ∷ z) (list_said ns l en more)
 
@@ -116,7 +118,8 @@ second_goes d delay late turns reply.Abort es end more g ih no_delay = last d es
 second_goes d delay late turns (reply.Broken why) es end more g ih no_delay = last d es end (Broke why) [] more (Between []) g.1 g.0 refl
 second_goes d delay late turns reply.NoMemory es end more g ih no_delay = last d es end OutOfMemory [] more (Between []) g.1 g.0 refl
 
-second_step : (d : ℕ) (delay : Bool) (late turns : List ℕ) (p q : ℕ) (y : Reply) → q ≡ p → is_delay y ≡ false → is_good_reply y ≡ true
+second_step : (d : ℕ) (delay : Bool) (late turns : List ℕ) (p q : ℕ) (y : Reply) → q ≡ p → is_delay y ≡ false
+    → is_good_reply y ≡ true
     → talk_step d (talk_of (Again delay late (p ∷ turns))) (ev.Redone q y) ≡ Some (redone (round delay true false [] late (p ∷ turns)) turns y)
 second_step d delay late turns p q y same no_delay good =
     guarded (q == p && (not (is_delay y) && is_good_reply y)) (redone (round delay true false [] late (p ∷ turns)) turns y)
@@ -138,7 +141,8 @@ list_goes d delay late names (list.Broken why) es end more is g ih =
 list_goes d delay late names list.NoMemory es end more is g ih =
     last_list d delay late names list.NoMemory (Between []) es end OutOfMemory more is (of_driver d (Some (Between [])) (Between []) refl) g.0 g.1 refl
 
-rounds_run : (d : ℕ) (delay : Bool) (late turns : List ℕ) (es : List Exchange) (end : End) (more : List Event) → Rounds late turns es end
+rounds_run : (d : ℕ) (delay : Bool) (late turns : List ℕ) (es : List Exchange) (end : End) (more : List Event)
+    → Rounds late turns es end
     → talk_run d (talk_of (Again delay late turns)) (said d es end more) ≡ talk_run d (stands end []) more
 rounds_run d delay late [] [] end more h = absurd h
 rounds_run d delay late (p ∷ turns) [] end more h = absurd h
@@ -167,7 +171,8 @@ first_goes d delay p rest late (reply.Broken why) es end left more g ih =
 first_goes d delay p rest late reply.NoMemory es end left more g ih =
     last d es end OutOfMemory left more (Between rest) g.1.0 g.0 (ap (λ (z : List ℕ). talk_run d (Between z) more) (sym g.1.1))
 
-asks_run : (d : ℕ) (delay : Bool) (rest late : List ℕ) (es : List Exchange) (end : End) (left : List ℕ) (more : List Event) → Asks delay rest late es end left
+asks_run : (d : ℕ) (delay : Bool) (rest late : List ℕ) (es : List Exchange) (end : End) (left : List ℕ) (more : List Event)
+    → Asks delay rest late es end left
     → talk_run d (talk_of (Asking delay rest late)) (said d es end more) ≡ talk_run d (stands end left) more
 asks_run d delay [] [] es end left more h =
     last d es end Shut left more (talk_of (Asking delay [] [])) h.0 h.1
@@ -182,7 +187,8 @@ asks_run d delay (p ∷ rest) late (First q y ∷ es) end left more h =
     (guarded (q == p && may_reply delay y) (answered (round delay (not (is_empty late)) false (p ∷ rest) late []) p rest y) (and_from (q == p) (may_reply delay y) (same_path q p h.0) h.1))
     ∙ first_goes d delay p rest late y es end left more h.2 (λ g. asks_run d delay rest (late_after y p late) es end left more g)
 
-session_run : (d : ℕ) (smudge delay : Bool) (paths : List ℕ) (es : List Exchange) (end : End) (left : List ℕ) (more : List Event) → IsSession smudge delay paths es end left
+session_run : (d : ℕ) (smudge delay : Bool) (paths : List ℕ) (es : List Exchange) (end : End) (left : List ℕ) (more : List Event)
+    → IsSession smudge delay paths es end left
     → talk_run d (cond smudge (talk_of (Asking delay paths [])) Refusing) (said d es end more) ≡ talk_run d (stands end left) more
 session_run d true delay paths es end left more h = asks_run d delay paths [] es end left more h
 session_run d false delay paths es end left more h =
@@ -191,7 +197,8 @@ session_run d false delay paths es end left more h =
 abbrev IsWhole : ℕ → Talk → List Event → Type 0
 IsWhole d t es = (u : Talk) × (talk_run d t es ≡ Some u) × IsOver u
 
-then_run : (d : ℕ) (end : End) (left : List ℕ) (items : List Item) → Then end (IsTalk left items) (items ≡ []) → (IsTalk left items → IsWhole d (Between left) (notes_of d items))
+then_run : (d : ℕ) (end : End) (left : List ℕ) (items : List Item) → Then end (IsTalk left items) (items ≡ [])
+    → (IsTalk left items → IsWhole d (Between left) (notes_of d items))
     → IsWhole d (stands end left) (notes_of d items)
 then_run d Shut left items h ih = (Ended, ap (λ (is : List Item). talk_run d Ended (notes_of d is)) h, tt)
 then_run d NothingLeft left items h ih = (Ended, ap (λ (is : List Item). talk_run d Ended (notes_of d is)) h, tt)
@@ -199,7 +206,8 @@ then_run d Aborted left items h ih = (Ended, ap (λ (is : List Item). talk_run d
 then_run d (Broke why) left items h ih = ih h
 then_run d OutOfMemory left items h ih = ih h
 
-pub transcript_runs : (d : ℕ) (paths : List ℕ) (items : List Item) → IsTalk paths items → (u : Talk) × (talk_run d (Between paths) (notes_of d items) ≡ Some u) × IsOver u
+pub transcript_runs : (d : ℕ) (paths : List ℕ) (items : List Item) → IsTalk paths items
+    → (u : Talk) × (talk_run d (Between paths) (notes_of d items) ≡ Some u) × IsOver u
 transcript_runs d [] [] h = (Between [], refl, tt)
 transcript_runs d (p ∷ rest) [] h = absurd h
 transcript_runs d [] (item ∷ items) h = absurd h

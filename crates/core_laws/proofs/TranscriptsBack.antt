@@ -50,7 +50,8 @@ never_last : {A : Type 0} (a : Bool) → (a && false) ≡ true → A
 never_last a h = let k = (and_parts a false h).1 in absurd (cc (k))
 
 -- a second request
-second_back : (d : ℕ) (delay : Bool) (late : List ℕ) (p : ℕ) (turns : List ℕ) (q : ℕ) (y : Reply) (u : Talk) → q ≡ p → is_delay y ≡ false → is_good_reply y ≡ true
+second_back : (d : ℕ) (delay : Bool) (late : List ℕ) (p : ℕ) (turns : List ℕ) (q : ℕ) (y : Reply) (u : Talk)
+    → q ≡ p → is_delay y ≡ false → is_good_reply y ≡ true
     → redone (round delay true false [] late (p ∷ turns)) turns y ≡ u → Back d (Again delay late (p ∷ turns)) (ev.Redone q y) u
 second_back d delay late p turns q reply.Content u same no_delay good is =
     (Again delay late turns, is, λ ns f. (Second q reply.Content ∷ f.0, f.1, f.2, (same, refl, refl, f.3), f.4, more (ev.Redone q reply.Content) _ ns f.5))
@@ -84,7 +85,8 @@ name_back d delay late q u there is = (
 )
 
 -- a list that is the last
-empty_back : (d : ℕ) (delay : Bool) (late : List ℕ) (y : ListReply) (u : Talk) → talk_next (talk_of (Again delay late [])) (ev.Listed d y) ≡ Some u
+empty_back : (d : ℕ) (delay : Bool) (late : List ℕ) (y : ListReply) (u : Talk)
+    → talk_next (talk_of (Again delay late [])) (ev.Listed d y) ≡ Some u
     → Back d (Again delay late []) (ev.Listed d y) u
 empty_back d delay late (list.Names n) u h = none_is_some h
 empty_back d delay late list.Empty u h =
@@ -105,7 +107,8 @@ no_list delay late p turns d list.Abort u h = none_is_some h
 no_list delay late p turns d (list.Broken why) u h = none_is_some h
 no_list delay late p turns d list.NoMemory u h = none_is_some h
 
-again_back : (d : ℕ) (delay : Bool) (late turns : List ℕ) (e : Event) (u : Talk) → is_with d e ≡ true → talk_next (talk_of (Again delay late turns)) e ≡ Some u
+again_back : (d : ℕ) (delay : Bool) (late turns : List ℕ) (e : Event) (u : Talk) → is_with d e ≡ true
+    → talk_next (talk_of (Again delay late turns)) e ≡ Some u
     → Back d (Again delay late turns) e u
 again_back d delay late turns (ev.Claim p a) u w h = none_is_some h
 again_back d delay late turns (ev.Close p a o) u w h = none_is_some h
@@ -170,7 +173,8 @@ noting_end d delay late turns n u count is = (
   ),
 )
 
-noting_list_back : (d : ℕ) (delay : Bool) (late turns : List ℕ) (y : ListReply) (u : Talk) → talk_next (talk_of (Noting delay late turns)) (ev.Listed d y) ≡ Some u
+noting_list_back : (d : ℕ) (delay : Bool) (late turns : List ℕ) (y : ListReply) (u : Talk)
+    → talk_next (talk_of (Noting delay late turns)) (ev.Listed d y) ≡ Some u
     → Back d (Noting delay late turns) (ev.Listed d y) u
 noting_list_back d delay late turns (list.Names n) u h =
     let g = given_talk (n == length turns) (talk_of (Again delay late turns)) u h in
@@ -180,7 +184,8 @@ noting_list_back d delay late turns list.Abort u h = none_is_some h
 noting_list_back d delay late turns (list.Broken why) u h = none_is_some h
 noting_list_back d delay late turns list.NoMemory u h = none_is_some h
 
-noting_back : (d : ℕ) (delay : Bool) (late turns : List ℕ) (e : Event) (u : Talk) → is_with d e ≡ true → talk_next (talk_of (Noting delay late turns)) e ≡ Some u
+noting_back : (d : ℕ) (delay : Bool) (late turns : List ℕ) (e : Event) (u : Talk) → is_with d e ≡ true
+    → talk_next (talk_of (Noting delay late turns)) e ≡ Some u
     → Back d (Noting delay late turns) e u
 noting_back d delay late turns (ev.Claim p a) u w h = none_is_some h
 noting_back d delay late turns (ev.Close p a o) u w h = none_is_some h
@@ -198,7 +203,8 @@ noting_back d delay late turns (ev.Listed f y) u w h =
     subst (λ (z : ℕ). Back d (Noting delay late turns) (ev.Listed z y) u) (same_number d f w) (noting_list_back d delay late turns y u h)
 
 -- a first request
-first_back : (d : ℕ) (delay : Bool) (p : ℕ) (rest late : List ℕ) (q : ℕ) (y : Reply) (u : Talk) → q ≡ p → may_reply delay y ≡ true
+first_back : (d : ℕ) (delay : Bool) (p : ℕ) (rest late : List ℕ) (q : ℕ) (y : Reply) (u : Talk) → q ≡ p
+    → may_reply delay y ≡ true
     → answered (round delay (not (is_empty late)) false (p ∷ rest) late []) p rest y ≡ u → Back d (Asking delay (p ∷ rest) late) (ev.Answered q y) u
 first_back d delay p rest late q reply.Content u same may is =
     (Asking delay rest late, is, λ ns f. (First q reply.Content ∷ f.0, f.1, f.2, f.3, (same, may, f.4), f.5, more (ev.Answered q reply.Content) _ ns f.6))
@@ -224,7 +230,8 @@ early_list delay p rest late d list.Abort u h = never (not (is_empty late)) true
 early_list delay p rest late d (list.Broken why) u h = never (not (is_empty late)) true (given_talk (not (is_empty late) && (false && true)) (Between (p ∷ rest)) u h).0
 early_list delay p rest late d list.NoMemory u h = never (not (is_empty late)) true (given_talk (not (is_empty late) && (false && true)) (Between (p ∷ rest)) u h).0
 
-asking_back : (d : ℕ) (delay : Bool) (p : ℕ) (rest late : List ℕ) (e : Event) (u : Talk) → is_with d e ≡ true → talk_next (talk_of (Asking delay (p ∷ rest) late)) e ≡ Some u
+asking_back : (d : ℕ) (delay : Bool) (p : ℕ) (rest late : List ℕ) (e : Event) (u : Talk) → is_with d e ≡ true
+    → talk_next (talk_of (Asking delay (p ∷ rest) late)) e ≡ Some u
     → Back d (Asking delay (p ∷ rest) late) e u
 asking_back d delay p rest late (ev.Claim q a) u w h = none_is_some h
 asking_back d delay p rest late (ev.Close q a o) u w h = none_is_some h
@@ -244,14 +251,16 @@ asking_back d delay p rest late (ev.Answered q y) u w h =
     first_back d delay p rest late q y u (same_number q p k.0) k.1 g.1
 
 -- where nothing was delayed and all are asked for
-plain_list : {A : Type 0} (delay : Bool) (d : ℕ) (y : ListReply) (u : Talk) → talk_next (talk_of (Asking delay [] [])) (ev.Listed d y) ≡ Some u → A
+plain_list : {A : Type 0} (delay : Bool) (d : ℕ) (y : ListReply) (u : Talk)
+    → talk_next (talk_of (Asking delay [] [])) (ev.Listed d y) ≡ Some u → A
 plain_list delay d (list.Names n) u h = none_is_some h
 plain_list delay d list.Empty u h = none_is_some h
 plain_list delay d list.Abort u h = none_is_some h
 plain_list delay d (list.Broken why) u h = none_is_some h
 plain_list delay d list.NoMemory u h = none_is_some h
 
-plain_back : (d : ℕ) (delay : Bool) (e : Event) (u : Talk) → is_with d e ≡ true → talk_next (talk_of (Asking delay [] [])) e ≡ Some u → Back d (Asking delay [] []) e u
+plain_back : (d : ℕ) (delay : Bool) (e : Event) (u : Talk) → is_with d e ≡ true
+    → talk_next (talk_of (Asking delay [] [])) e ≡ Some u → Back d (Asking delay [] []) e u
 plain_back d delay (ev.Claim q a) u w h = none_is_some h
 plain_back d delay (ev.Close q a o) u w h = none_is_some h
 plain_back d delay (ev.Opened f caps) u w h = none_is_some h
@@ -265,10 +274,12 @@ plain_back d delay (ev.Shut f) u w h =
     (Over, some_is Ended u h, λ ns f1. ([], Shut, [], [], (refl, refl, refl), refl, ap (λ (z : ℕ). ev.Shut z ∷ []) (same_number d f w) ∙ more (ev.Shut f) [] ns (sym f1)))
 
 -- the last first request is followed by rounds
-late_back : (d : ℕ) (delay : Bool) (l : ℕ) (late : List ℕ) (e : Event) (u : Talk) → Back d (Again delay (l ∷ late) []) e u → Back d (Asking delay [] (l ∷ late)) e u
+late_back : (d : ℕ) (delay : Bool) (l : ℕ) (late : List ℕ) (e : Event) (u : Talk)
+    → Back d (Again delay (l ∷ late) []) e u → Back d (Asking delay [] (l ∷ late)) e u
 late_back d delay l late e u b = (b.0, b.1, λ ns f. let k = b.2 ns f in (k.0, k.1, [], k.2, (k.3, refl), k.4, k.5))
 
-opened_back : (d : ℕ) (p : ℕ) (rest : List ℕ) (caps : Caps) (u : Talk) (smudge : Bool) → caps.smudge ≡ smudge → opened caps (p ∷ rest) ≡ u
+opened_back : (d : ℕ) (p : ℕ) (rest : List ℕ) (caps : Caps) (u : Talk) (smudge : Bool) → caps.smudge ≡ smudge
+    → opened caps (p ∷ rest) ≡ u
     → Back d (Before (p ∷ rest)) (ev.Opened d caps) u
 opened_back d p rest caps u true with_it is = (
   Asking caps.delay (p ∷ rest) [],
@@ -289,7 +300,8 @@ opened_back d p rest caps u false with_it is = (
   ),
 )
 
-before_back : (d p : ℕ) (rest : List ℕ) (e : Event) (u : Talk) → is_with d e ≡ true → talk_next (talk_of (Before (p ∷ rest))) e ≡ Some u → Back d (Before (p ∷ rest)) e u
+before_back : (d p : ℕ) (rest : List ℕ) (e : Event) (u : Talk) → is_with d e ≡ true
+    → talk_next (talk_of (Before (p ∷ rest))) e ≡ Some u → Back d (Before (p ∷ rest)) e u
 before_back d p rest (ev.Claim q a) u w h = none_is_some h
 before_back d p rest (ev.Close q a o) u w h = none_is_some h
 before_back d p rest (ev.HandBack q) u w h = none_is_some h
@@ -306,7 +318,8 @@ before_back d p rest (ev.Opened f caps) u w h =
     subst (λ (z : ℕ). Back d (Before (p ∷ rest)) (ev.Opened z caps) u) (same_number d f w)
     (opened_back d p rest caps u caps.smudge refl (some_is (opened caps (p ∷ rest)) u h))
 
-refuses_back : (d : ℕ) (e : Event) (u : Talk) → is_with d e ≡ true → talk_next Refusing e ≡ Some u → Back d Refuses e u
+refuses_back : (d : ℕ) (e : Event) (u : Talk) → is_with d e ≡ true → talk_next Refusing e ≡ Some u
+    → Back d Refuses e u
 refuses_back d (ev.Claim q a) u w h = none_is_some h
 refuses_back d (ev.Close q a o) u w h = none_is_some h
 refuses_back d (ev.Opened f caps) u w h = none_is_some h
@@ -319,7 +332,8 @@ refuses_back d (ev.Listed f y) u w h = none_is_some h
 refuses_back d (ev.Shut f) u w h =
     (Over, some_is Ended u h, λ ns f1. more (ev.Shut f) ns [] f1 ∙ ap (λ (z : ℕ). ev.Shut z ∷ []) (sym (same_number d f w)))
 
-step_back : (d : ℕ) (at : Phase) (e : Event) (u : Talk) → is_with d e ≡ true → talk_next (talk_of at) e ≡ Some u → Back d at e u
+step_back : (d : ℕ) (at : Phase) (e : Event) (u : Talk) → is_with d e ≡ true → talk_next (talk_of at) e ≡ Some u
+    → Back d at e u
 step_back d (Before []) e u w h = none_is_some h
 step_back d (Before (p ∷ rest)) e u w h = before_back d p rest e u w h
 step_back d Refuses e u w h = refuses_back d e u w h
@@ -355,13 +369,15 @@ run_first d t u e es h = guard (is_with d e) refl (talk_next t e) refl h
     guard true w None n k = none_is_some k
     guard true w (Some v) n k = (w, (v, n, k))
 
-run_back : (d : ℕ) (es : List Event) (at : Phase) (u : Talk) → talk_run d (talk_of at) es ≡ Some u → IsOver u → From d at es
+run_back : (d : ℕ) (es : List Event) (at : Phase) (u : Talk) → talk_run d (talk_of at) es ≡ Some u → IsOver u
+    → From d at es
 run_back d [] at u run over = over_back d at u (some_is (talk_of at) u run) over
 run_back d (e ∷ es) at u run over =
     let f = run_first d (talk_of at) u e es run in
     let b = step_back d at e f.1.0 f.0 f.1.1 in
     b.2 es (run_back d es b.0 u (ap (λ (z : Talk). talk_run d z es) b.1 ∙ f.1.2) over)
 
-pub talk_transcript : (d : ℕ) (paths : List ℕ) (es : List Event) (u : Talk) → talk_run d (Between paths) es ≡ Some u → IsOver u
+pub talk_transcript : (d : ℕ) (paths : List ℕ) (es : List Event) (u : Talk)
+    → talk_run d (Between paths) es ≡ Some u → IsOver u
     → (items : List Item) × IsTalk paths items × (notes_of d items ≡ es)
 talk_transcript d paths es u run over = run_back d es (Before paths) u run over
