@@ -12,3 +12,4 @@ pub mod HandshakeRuns
 pub mod Contents
 pub mod OneAnswer
 pub mod Breaks
+pub mod OwnCauses

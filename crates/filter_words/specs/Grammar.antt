@@ -23,3 +23,9 @@ pub record IsBroken (G : Type 0) (good : List Packet → G → Type 0) (breaks :
   pub fitted : total before ≤ limit
   pub cause_is : ((why ≡ cause.TooLong) × (limit < total ps))
       ⊎ ((total ps ≤ limit) × breaks ps why × ((more : List Packet) (g : G) → good (ps ++ more) g → ⊥))
+
+-- a cause that an answer for one path, or a handshake, may have: the two others come from a list alone
+abbrev pub IsOwnCause : BreakCause → Type 0
+IsOwnCause cause.StrangePath = ⊥
+IsOwnCause cause.ListRefused = ⊥
+IsOwnCause why = Unit {0}

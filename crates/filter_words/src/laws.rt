@@ -1,8 +1,8 @@
-ghost use Rattle.std.specs.Prelude.{◌≡◌, ◌≤◌, ◌++◌, [], List, ℕ, Bool};
+ghost use Rattle.std.specs.Prelude.{◌≡◌, ◌≤◌, ◌++◌, [], List, ℕ, Bool, true};
 ghost use Rattle.pkt_line.specs.Packets.{Packet, SpellAll, HasNoPacket, total};
 ghost use Rattle.filter_words.specs.Outcomes.{outcome, limit, IsEnd};
 ghost use Rattle.filter_words.specs.Answer.{IsAnswer};
-ghost use Rattle.filter_words.specs.Grammar.{block, IsOpen, IsBroken};
+ghost use Rattle.filter_words.specs.Grammar.{block, IsOpen, IsBroken, IsOwnCause};
 ghost use Rattle.filter_words.specs.SmudgeReply.{reply_step, reply_start, content_in};
 ghost use Rattle.filter_words.specs.Words.{last_status};
 ghost use Rattle.filter_words.specs.Requests.{first_text, keys_text, content_text};
@@ -16,6 +16,7 @@ ghost use Rattle.filter_words.specs.declared.handshake.HandshakePhase.{Handshake
 ghost use Rattle.filter_words.specs.declared.reply.BreakCause.{BreakCause};
 ghost use Rattle.filter_words.specs.declared.reply.BreakCause.TheVariants as cause;
 ghost use Rattle.filter_words.specs.declared.smudge_reply.GoodReply.{GoodReply};
+ghost use Rattle.filter_words.specs.declared.smudge_reply.GoodReply.TheVariants as good;
 ghost use Rattle.filter_words.specs.declared.smudge_reply.ReplyPhase.{ReplyPhase};
 ghost use Rattle.filter_words.specs.declared.answer_state.AnswerState.{AnswerState};
 ghost use Rattle.filter_words.specs.declared.answer_state.AnswerState.TheVariants as state;
@@ -95,6 +96,13 @@ pub fn one_handshake()
         → (u ≡ v) × ((g : Caps) → u ≡ state.Done g → a ≡ b) }
     ensures ended { (used rest ahead more later : List ℕ) (u : AnswerState HandshakePhase Caps) → IsAnswer handshake_step handshake_start used rest ahead u → (u ≡ state.Broken cause.Ended → ⊥)
         → IsAnswer handshake_step handshake_start used (rest ++ more) later u }
+{}
+
+/// A reply is broken only with a cause of its own, and so is a handshake. It is delayed only where that was allowed.
+pub fn own_causes()
+    ensures reply { (d : Bool) (ps : List Packet) (why : BreakCause) → outcome (reply_step d) limit reply_start ps ≡ state.Broken why → IsOwnCause why }
+    ensures handshake { (ps : List Packet) (why : BreakCause) → outcome handshake_step limit handshake_start ps ≡ state.Broken why → IsOwnCause why }
+    ensures delayed { (d : Bool) (ps : List Packet) → outcome (reply_step d) limit reply_start ps ≡ state.Done good.Delayed → d ≡ true }
 {}
 
 /// The request for a path is its key list and then its content, which may be sent apart.

@@ -18,7 +18,7 @@ pub use handshake::{
     HandshakePhase, handshake_after_flush, handshake_after_line, handshake_after_packet,
 };
 pub use laws::{
-    handshake_grammar, list_grammar, one_handshake, one_list, one_reply, reply_content,
+    handshake_grammar, list_grammar, one_handshake, one_list, one_reply, own_causes, reply_content,
     reply_grammar, request_in_parts,
 };
 pub use listing::{
