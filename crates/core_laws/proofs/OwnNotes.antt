@@ -8,7 +8,7 @@ use Rattle.checkout_core.specs.declared.event.Event.TheVariants as ev
 use Rattle.checkout_core.specs.States.{is_at}
 use Rattle.checkout_core.specs.Actors.{seat, desk_of, is_actor, is_own, own_entries}
 use Rattle.checkout_core.specs.Notes.{is_of, is_note, notes, is_noted, noted}
-use Rattle.checkout_core.proofs.Basics.{same_or, eqb_self, other_number, same_number}
+use Rattle.checkout_core.proofs.Basics.{same_or, eqb_self, other_number}
 
 same_seat : (workers d f : ℕ) → (d == f) ≡ (workers + f == workers + d)
 same_seat workers d f = ⊎_elim

@@ -1,6 +1,6 @@
 -- What an effect does to the lists of a driver's talk.
-use Rattle.std.proofs.Common.{◌≡◌, ◌==◌, ℕ, zero, suc, ◌+◌, ◌<◌, ◌⊎◌, inl, inr, ⊎_elim, Bool, true, false, cond, List, [], ◌∷◌, ◌++◌, Option, Some, None, refl, sym, ap, ◌∙◌, subst, arith}
-use Rattle.std.specs.Prelude.{slice_get, ◌&&◌, ◌||◌, not}
+use Rattle.std.proofs.Common.{◌≡◌, ◌==◌, ℕ, zero, suc, ◌+◌, ◌<◌, ◌⊎◌, inl, inr, ⊎_elim, Bool, true, false, cond, List, [], ◌∷◌, Option, Some, None, refl, sym, ap, ◌∙◌, subst, arith}
+use Rattle.std.specs.Prelude.{slice_get, ◌&&◌, ◌||◌}
 use Rattle.std.proofs.lemmas.Bool.{and_parts}
 use Rattle.filter_words.specs.declared.reply.Caps.{Caps}
 use Rattle.checkout_core.specs.declared.verdict.FilterCause.{FilterCause}
@@ -27,9 +27,9 @@ use Rattle.checkout_core.specs.Effects.{each, after, path_after, driver_after, s
 use Rattle.checkout_core.specs.Verdicts.{unasked_cause, refused_cause}
 use Rattle.checkout_core.specs.Conditions.{replied_desk, list_desk, is_delay, fresh, listed, delayed}
 use Rattle.checkout_core.specs.Notes.{is_of, is_note}
-use Rattle.checkout_core.specs.Talks.{Round, Talk, Between, Refusing, InRound, talk_next, answered, redone, without, talk_paths}
+use Rattle.checkout_core.specs.Talks.{Round, Talk, Between, Refusing, InRound, talk_next, answered, redone, talk_paths}
 use Rattle.checkout_core.proofs.Basics.{none_is_some, same_or}
-use Rattle.core_laws.proofs.Views.{View, Same, Claimed, HandedBack, ClosedHeld, ClosedTold, ClosedUnasked, SeesOpened, NotOpened, OtherNotOpened, IsAnswered, OtherAnswered, IsRedone, OtherRedone, IsNamed, OtherNamed, SeesListed, SeesShut, Begun, is_sane, there, is_of_is}
+use Rattle.core_laws.proofs.Views.{View, Same, Claimed, HandedBack, ClosedHeld, ClosedTold, ClosedUnasked, SeesOpened, NotOpened, OtherNotOpened, IsAnswered, OtherAnswered, IsRedone, OtherRedone, IsNamed, OtherNamed, SeesListed, SeesShut, Begun, is_sane, is_of_is}
 use Rattle.core_laws.proofs.TalkPaths.{taken}
 use Rattle.checkout_core.specs.Agreements.{Lists, IsZero, IsSmudged, round_of, talk_at}
 use Rattle.core_laws.proofs.TalkLists.{shadow}

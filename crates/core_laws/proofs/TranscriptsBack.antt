@@ -11,9 +11,9 @@ use Rattle.filter_words.specs.declared.reply.ListReply.TheVariants as list
 use Rattle.checkout_core.specs.declared.event.Event.{Event}
 use Rattle.checkout_core.specs.declared.event.Event.TheVariants as ev
 use Rattle.checkout_core.specs.Conditions.{is_good_opening, is_good_reply, is_delay}
-use Rattle.checkout_core.specs.Talks.{Talk, Between, Refusing, InRound, Ended, talk_next, talk_step, talk_run, is_with, IsOver, opened, answered, redone, contains, without, is_empty}
-use Rattle.checkout_core.specs.Transcripts.{Exchange, First, Listing, Second, End, Shut, NothingLeft, Aborted, Broke, OutOfMemory, Item, NoSession, Session, reply_end, list_reply_end, GoesOn, IsList, are_late, minus, Rounds, may_reply, late_after, Asks, IsSession, Then, IsTalk, exchanges_notes, end_notes, notes_of}
-use Rattle.checkout_core.proofs.Basics.{none_is_some, some_is, same_number, eqb_self}
+use Rattle.checkout_core.specs.Talks.{Talk, Between, Refusing, InRound, Ended, talk_next, talk_run, is_with, IsOver, opened, answered, redone, contains, without, is_empty}
+use Rattle.checkout_core.specs.Transcripts.{Exchange, First, Listing, Second, End, Shut, NothingLeft, Aborted, Broke, OutOfMemory, Item, NoSession, Session, are_late, minus, Rounds, may_reply, Asks, IsSession, Then, IsTalk, exchanges_notes, end_notes, notes_of}
+use Rattle.checkout_core.proofs.Basics.{none_is_some, some_is, same_number}
 use Rattle.core_laws.proofs.Transcripts.{Phase, Before, Refuses, Asking, Again, Noting, Over, round, talk_of, said, list_said}
 
 -- these notes bring the talk from this phase to its end, as a transcript does
