@@ -1,16 +1,16 @@
 -- With what cause an answer breaks within the limit.
-use Rattle.std.proofs.Common.{◌≡◌, ◌⊎◌, inl, inr, ℕ, ◌≤◌, Bool, true, false, List, [], ◌∷◌, ◌++◌, Option, Some, None, refl, sym, ap, subst, ◌∙◌, append_assoc, arith}
-use Rattle.std.specs.Prelude.{◌&&◌, not, map, length, codes, if◌then◌else◌}
+use Rattle.std.proofs.Common.{◌≡◌, ◌⊎◌, inl, inr, ℕ, ◌≤◌, Bool, true, false, List, [], ◌∷◌, ◌++◌, Option, Some, None, refl, sym, ap, subst, append_assoc, arith}
+use Rattle.std.specs.Prelude.{map, length, codes}
 use Rattle.std.specs.Str.{bytes_eq}
 use Rattle.std.proofs.lemmas.List.{append-nil}
 use Rattle.pkt_line.specs.Packets.{Packet, Payload, Flush}
 use Rattle.filter_words.specs.Words.{status_after, last_status, value_of, without_lf}
 use Rattle.filter_words.specs.Grammar.{block}
 use Rattle.filter_words.specs.SmudgeReply.{reply_step, first_state, last_state}
-use Rattle.filter_words.specs.ReplyGrammar.{BreaksFirst, BreaksLast, BreaksShort, BreaksLong, BreaksReply}
+use Rattle.filter_words.specs.ReplyGrammar.{BreaksFirst, BreaksLast, BreaksReply}
 use Rattle.filter_words.specs.Listing.{ListPhase, Names, GoodList, name_in, after_name, after_value, list_step, list_status}
 use Rattle.filter_words.specs.Listing as listing
-use Rattle.filter_words.specs.ListGrammar.{with_name, names_of, AreExpected, is_strange, HasStrangeName, BreaksEnd, HasBadStatus, BreaksFrom}
+use Rattle.filter_words.specs.ListGrammar.{with_name, names_of, AreExpected, is_strange, BreaksEnd, BreaksFrom}
 use Rattle.filter_words.specs.Handshake.{handshake_step, wanted_line, with_capability}
 use Rattle.filter_words.specs.HandshakeGrammar.{BreaksHandshake}
 use Rattle.filter_words.specs.declared.reply.Caps.{Caps}
@@ -22,7 +22,7 @@ use Rattle.filter_words.specs.declared.words.Status.{Status}
 use Rattle.filter_words.specs.declared.words.Status.TheVariants as status
 use Rattle.filter_words.specs.declared.smudge_reply.ReplyPhase.TheVariants.{KeyList, Content, LastKeyList}
 use Rattle.filter_words.specs.declared.answer_state.AnswerState.{AnswerState}
-use Rattle.filter_words.specs.declared.answer_state.AnswerState.TheVariants.{On, Done, Broken, Late}
+use Rattle.filter_words.specs.declared.answer_state.AnswerState.TheVariants.{On, Done, Broken}
 use Rattle.filter_words.proofs.Runs.{run}
 
 -- what is over isn't broken, and what is broken has its cause and takes no packet more

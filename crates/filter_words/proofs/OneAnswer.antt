@@ -1,5 +1,5 @@
 -- What a driver sends holds one answer at its front, however much of it was taken.
-use Rattle.std.proofs.Common.{◌≡◌, ◌⊎◌, inl, inr, ℕ, List, [], ◌++◌, refl, sym, ap, subst, ◌∙◌, append_assoc}
+use Rattle.std.proofs.Common.{◌≡◌, ◌⊎◌, inl, inr, ℕ, List, [], ◌++◌, refl, sym, ap, subst, ◌∙◌}
 use Rattle.std.proofs.lemmas.List.{append-nil}
 use Rattle.pkt_line.specs.Packets.{Packet, SpellAll, IsPartial, HasFault, HasNoPacket}
 use Rattle.pkt_line.proofs.NoPacket.{one_reading, fault_more, partial_fault}

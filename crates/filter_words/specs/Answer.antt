@@ -1,5 +1,5 @@
 -- An answer in what a driver sends.
-use Rattle.std.specs.Prelude.{◌≡◌, ℕ, ◌⊎◌, List, [], ◌++◌}
+use Rattle.std.specs.Prelude.{◌≡◌, ℕ, ◌⊎◌, List, []}
 use Rattle.pkt_line.specs.Packets.{Packet, SpellAll, IsPartial, HasFault}
 use Rattle.filter_words.specs.Outcomes.{outcome, limit}
 use Rattle.filter_words.specs.declared.reply.BreakCause.TheVariants as cause

@@ -1,5 +1,5 @@
-use Rattle.std.proofs.Common.{◌≡◌, ◌∷◌, [], ◌++◌, List, ap, ◌∙◌, append_assoc}
-use Rattle.pkt_line.specs.Packets.{Packet, Flush}
+use Rattle.std.proofs.Common.{◌∷◌, [], ◌++◌, ap, ◌∙◌, append_assoc}
+use Rattle.pkt_line.specs.Packets.{Flush}
 use Rattle.pkt_line.specs.Spelling.{spelling_all, content_packets}
 use Rattle.filter_words.specs.Requests.{smudge_keys, first_text, keys_text, content_text}
 use Rattle.filter_words.proofs.Texts.{spelling_all-append}
