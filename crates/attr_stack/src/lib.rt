@@ -11,6 +11,3 @@ mod states;
 pub use files::{AttrFiles, FileAt};
 pub use laws::{deeper_folders_stand_behind, pairs_decide_by_rule};
 pub use states::attributes_of;
-
-#[cfg(test)]
-mod tests;

@@ -12,6 +12,3 @@ mod value;
 pub use config::{Config, read_config};
 pub use fault::{ConfigFault, LineKind};
 pub use setting::Setting;
-
-#[cfg(test)]
-mod tests;

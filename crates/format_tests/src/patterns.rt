@@ -1,4 +1,4 @@
-use super::*;
+use wild_match::matches;
 
 /// Patterns, paths, and whether the one matches the other, as gitattributes(5) has it.
 const TABLE: &[(&[u8], &[u8], bool)] = &[
