@@ -12,12 +12,13 @@ fn file_at(alloc: Global, folder: &[u8], text: &[u8]) -> Result<FileAt, AllocErr
     })
 }
 
+/// The files in an order that means nothing.
 fn files_of(alloc: Global, texts: &[&[u8]; 4]) -> Result<AttrFiles, AllocError> {
     let [info, top, a, deep] = *texts;
     let mut files = Vec::new(alloc);
+    files.push(file_at(alloc, b"a/b", deep)?)?;
     files.push(file_at(alloc, b"", top)?)?;
     files.push(file_at(alloc, b"a", a)?)?;
-    files.push(file_at(alloc, b"a/b", deep)?)?;
     Ok(AttrFiles {
         info: read_attributes(alloc, info, true)?,
         files: Items::from_vec(files),
