@@ -122,3 +122,18 @@ fn the_limit_is_on_the_bytes(rt: HostRuntime) -> Result<(), Fail> {
     assert!(rt; fault_of(rt.alloc(), &text) == Some(ConfigFault::TooLarge));
     Ok(())
 }
+
+/// A file with a header of half its bytes and a key in each two of the others.
+#[test]
+fn a_long_section_is_kept_once(rt: HostRuntime) -> Result<(), Fail> {
+    let name = vec![in rt.alloc(); b'a'; 524_280]?;
+    let mut text = Vec::from_slice(rt.alloc(), b"[")?;
+    text.extend_from_slice(&name)?;
+    text.extend_from_slice(b"]\n")?;
+    for _ in 0..262_140 {
+        text.extend_from_slice(b"k\n")?;
+    }
+    let config = read_config(rt.alloc(), &text)?;
+    assert!(rt; config.settings().len() == 262_140);
+    Ok(())
+}

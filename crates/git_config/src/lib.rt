@@ -6,9 +6,11 @@ mod fault;
 mod header;
 mod line;
 mod setting;
+mod shared;
 mod text;
 mod value;
 
 pub use config::{Config, read_config};
 pub use fault::{ConfigFault, LineKind};
 pub use setting::Setting;
+pub use shared::Shared;
