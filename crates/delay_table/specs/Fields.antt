@@ -20,7 +20,8 @@ left_to_list [] = 0
 left_to_list (p ∷ ps) = one_left p + left_to_list ps
 
 -- There is room for each place that may still be listed.
-pub record IsKept (names : List (List ℕ)) (places : List Place) (order : List ℕ) (room delivered lowest : ℕ) : Type 0 where
+pub record IsKept (names : List (List ℕ)) (places : List Place) (order : List ℕ)
+    (room delivered lowest : ℕ) : Type 0 where
   pub rising : IsRising names
   pub few : length names < 2 ^ 32
   pub same : length places ≡ length names

@@ -1,5 +1,6 @@
 // A name is found by halving, and a place by passing over others.
-ghost use Rattle.std.specs.Prelude.{◌≡◌, ◌≤◌, ◌<◌, ℕ, Some, MatchBool, MatchOption, ◌≢◌, true, false, length, slice_get};
+ghost use Rattle.std.specs.Prelude.{◌≡◌, ◌≢◌, ◌≤◌, ◌<◌, ℕ, true, false, length, slice_get};
+ghost use Rattle.std.specs.Prelude.{Some, MatchBool, MatchOption};
 ghost use Rattle.std.specs.List.Sorted.{IsPartitionPoint};
 ghost use Rattle.delay_table.specs.Table.{IsRising, is_pending, stands_before};
 
@@ -24,7 +25,8 @@ fn is_same(other: &Bytes, name: &[u8]) -> bool
 fn before(names: &[Bytes], name: &[u8]) -> usize
     requires { IsRising names.now }
     ensures within { result ≤ length names.now }
-    ensures point { IsPartitionPoint (λ n. stands_before n name.now ≡ true) (λ n. stands_before n name.now ≡ false)
+    ensures point { IsPartitionPoint
+        (λ n. stands_before n name.now ≡ true) (λ n. stands_before n name.now ≡ false)
         names.now result }
 {
     names.partition_point(|other| is_before(other, name))

@@ -1,5 +1,6 @@
 // The table.
-ghost use Rattle.std.specs.Prelude.{◌≡◌, ◌<◌, ◌^◌, ◌++◌, ◌∷◌, [], ℕ, List, Some, IfOk, MatchOption, length, map, slice_get, slice_set};
+ghost use Rattle.std.specs.Prelude.{◌≡◌, ◌<◌, ◌^◌, ◌++◌, ◌∷◌, [], ℕ, List, length, map};
+ghost use Rattle.std.specs.Prelude.{Some, IfOk, MatchOption, slice_get, slice_set};
 ghost use Rattle.delay_table.specs.Table.{IsRising, IsDelayed, IsLowest, NoneIsPending, AreListed};
 ghost use Rattle.delay_table.specs.Table.{idle_table, with_place, without};
 ghost use Rattle.delay_table.specs.declared.place.Place.TheVariants.{Idle, Delayed, Listed, Done};
@@ -37,7 +38,8 @@ impl Model for DelayTable {
       turns = turns_of t.delivered t.order.items;
     } };
 
-    ghost invariant = { λ t. IsKept t.names.items t.places.items t.order.items (vec_capacity t.order) t.delivered t.lowest };
+    ghost invariant = { λ t. IsKept t.names.items t.places.items
+        t.order.items (vec_capacity t.order) t.delivered t.lowest };
 }
 
 impl DelayTable {
@@ -109,8 +111,8 @@ impl DelayTable {
         Some(place)
     }
 
-    /// The lowest place that is delayed or listed, which is now done. `None` comes exactly where there is none. A caller
-    /// that delivers the listed ones first pays only for the places that it passes over.
+    /// The lowest place that is delayed or listed, which is now done. `None` comes exactly where there is none.
+    /// A caller that delivers the listed ones first pays only for the places that it passes over.
     pub fn rest(&mut self) -> Option<u32>
         ensures { MatchOption result
             (NoneIsPending self.old × (self.new ≡ self.old))
