@@ -1,6 +1,18 @@
 #!/bin/sh
-# Replays runs of 10,000 and of 100,000 paths. Each prints its run, and the time of the replay alone.
+# Replays runs of 10,000, 30,000, 100,000 and 300,000 paths, five times each, and prints a table: the paths, the events, the
+# least time of the replay alone in nanoseconds an event, and the peak of memory of the whole program.
 cd "$(dirname "$0")/../crates/replay_bench" || exit 1
-for paths in 10000 100000; do
-    rt run -- "$paths" 2>&1 | grep -E 'paths|microseconds'
+program=out/replay_bench
+rt run -- 1000 >/dev/null 2>&1
+[ -x "$program" ] || { echo "replay: the build failed" >&2; exit 1; }
+echo '| Paths | Events | ns an event | MiB |'
+echo '|---|---|---|---|'
+for paths in 10000 30000 100000 300000; do
+    for run in 1 2 3 4 5; do
+        /usr/bin/time -f '%M kibibytes' "$program" "$paths" 2>&1 || exit 1
+    done | awk '
+        / paths, / { paths = $1; events = $3 }
+        / microseconds/ { if (!least || $1 < least) least = $1 }
+        / kibibytes/ { if ($1 > peak) peak = $1 }
+        END { printf "| %d | %d | %.0f | %.1f |\n", paths, events, 1000 * least / events, peak / 1024 }'
 done

@@ -12,6 +12,3 @@ mod text;
 pub use file::{AttrFile, AttrRow, Pair, Skipped};
 pub use reading::read_attributes;
 pub use state::AttrState;
-
-#[cfg(test)]
-mod tests;

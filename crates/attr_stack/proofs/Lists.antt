@@ -1,9 +1,11 @@
 -- Lists that are read from their end.
-use Rattle.std.proofs.Common.{◌≡◌, ℕ, ◌+◌, ◌<◌, List, [], ◌∷◌, ◌++◌, map, reverse, take, length, get_or, sym, ◌∙◌, ap, append_assoc}
+use Rattle.std.proofs.Common.{◌≡◌, ℕ, suc, ◌+◌, ◌<◌, List, [], ◌∷◌, ◌++◌, map, reverse, take, length, get_or, sym, ◌∙◌, ap, append_assoc, subst, arith}
 use Rattle.std.proofs.lemmas.List.{reverse-append, map-append, take_more}
 use Rattle.std.specs.List.{flat_map}
 use denote.Ref.{Bor}
 use Rattle.attr_line.specs.declared.file.Pair.{Pair}
+use Rattle.attr_stack.specs.declared.files.FileAt.{FileAt}
+use Rattle.attr_stack.specs.Pairs.{pairs_before, pairs_ending}
 use Rattle.attr_stack.specs.Seen.{from_end}
 
 pub from_end-push : (pairs : List (Bor Pair)) (pair : Bor Pair) → from_end (pairs ++ pair ∷ []) ≡ pair.now ∷ from_end pairs
@@ -19,3 +21,14 @@ pub flat_map-reverse-take : {X A : Type 0} (f : X → List A) (xs : List X) (i :
     → flat_map f (reverse (take (i + 1) xs)) ++ behind ≡ f x ++ (flat_map f (reverse (take i xs)) ++ behind)
 flat_map-reverse-take f xs i x behind is within =
     ap (λ ys. flat_map f ys ++ behind) (reverse-take xs i x is within) ∙ append_assoc (f x) (flat_map f (reverse (take i xs))) behind
+
+folders-apart : (files : List FileAt) (path : List ℕ) (place : ℕ) (behind : List Pair)
+    → pairs_before files path (suc place) ++ behind ≡ pairs_ending files path place ++ (pairs_before files path place ++ behind)
+folders-apart files path place behind = append_assoc (pairs_ending files path place) (pairs_before files path place) behind
+
+-- the folder whose name ends at one place more stands before those so far
+pub pairs_before-more : (files : List FileAt) (path : List ℕ) (place : ℕ) (behind : List Pair)
+    → pairs_before files path (place + 1) ++ behind ≡ pairs_ending files path place ++ (pairs_before files path place ++ behind)
+pairs_before-more files path place behind =
+    let next : suc place ≡ place + 1 = omega arith in
+    subst (λ n. pairs_before files path n ++ behind ≡ pairs_ending files path place ++ (pairs_before files path place ++ behind)) next (folders-apart files path place behind)

@@ -1,11 +1,13 @@
 -- The macros of the top files: gitattributes(5), "DEFINING MACRO ATTRIBUTES".
-use Rattle.std.specs.Prelude.{ℕ, ◌==◌, List, [], ◌∷◌, ◌++◌, length, reverse, codes, if◌then◌else◌}
+use Rattle.std.specs.Prelude.{ℕ, List, [], ◌∷◌, ◌++◌, reverse, codes, Option, Some, None, if◌then◌else◌}
 use Rattle.std.specs.List.{flat_map}
 use Rattle.std.specs.Str.{bytes_eq}
 use Rattle.attr_line.specs.declared.state.AttrState.TheVariants.{Unset}
 use Rattle.attr_line.specs.declared.file.Pair.{Pair}
 use Rattle.attr_line.specs.declared.file.AttrRow.{AttrRow}
 use Rattle.attr_line.specs.declared.file.AttrRow.TheVariants.{Rule, Macro}
+use Rattle.attr_line.specs.declared.file.AttrFile.{AttrFile}
+use Rattle.attr_stack.specs.Pairs.{file_of}
 use Rattle.attr_stack.specs.declared.files.FileAt.{FileAt}
 use Rattle.attr_stack.specs.declared.files.AttrFiles.{AttrFiles}
 
@@ -21,9 +23,13 @@ row_macros (Macro name pairs) = record { name = name; pairs = pairs } ∷ []
 abbrev pub file_macros : List AttrRow → List MacroLine
 file_macros rows = flat_map row_macros (reverse rows)
 
--- only the top folder's file defines macros
-abbrev pub folder_macros : FileAt → List MacroLine
-folder_macros at = if length at.folder == 0 then file_macros at.file.rows else []
+abbrev pub macros_inside : Option AttrFile → List MacroLine
+macros_inside None = []
+macros_inside (Some file) = file_macros file.rows
+
+-- of the folders' files only the top folder's defines macros
+abbrev pub top_macros : List FileAt → List MacroLine
+top_macros files = macros_inside (file_of files [])
 
 abbrev pub unset : List ℕ → Pair
 unset name = record { name = name; state = Unset }
@@ -34,7 +40,7 @@ binary = record { name = codes "binary"; pairs = unset (codes "diff") ∷ unset 
 
 -- the macros in the order in which rows are read: those of `info/attributes`, those of the top folder's file, and `binary`
 abbrev pub macros_of : AttrFiles → List MacroLine
-macros_of files = file_macros files.info.rows ++ flat_map folder_macros (reverse files.files) ++ binary ∷ []
+macros_of files = file_macros files.info.rows ++ (top_macros files.files ++ binary ∷ [])
 
 -- what a name stands for: the macro that is met first, or nothing
 abbrev pub meaning : List MacroLine → List ℕ → List Pair

@@ -1,9 +1,8 @@
 -- The pairs of a path as one list, highest precedence first: gitattributes(5).
-use Rattle.std.specs.Prelude.{◌≡◌, ℕ, ◌+◌, ◌<◌, IsSome, ◌&&◌, ◌==◌, nat_eq, List, [], ◌++◌, length, drop, reverse, slice_index, Option, Some, None, if◌then◌else◌}
-use Rattle.std.specs.List.{starts_with, flat_map, AllPairs}
-use Rattle.std.specs.Cmp.Lexicographic.{slice_cmp}
-use Rattle.std.specs.Ordering.{nat_cmp}
-use Rattle.std.specs.declared.cmp.Ordering.TheVariants.{Less}
+use Rattle.std.specs.Prelude.{ℕ, zero, suc, ◌+◌, Bool, not, ◌&&◌, ◌==◌, List, [], ◌++◌, length, take, drop, reverse, slice_index, Option, Some, None, if◌then◌else◌}
+use Rattle.std.specs.List.{flat_map, find}
+use Rattle.std.specs.Option.{option_map}
+use Rattle.std.specs.Str.{bytes_eq}
 use Rattle.attr_line.specs.declared.file.Pair.{Pair}
 use Rattle.attr_line.specs.declared.file.AttrRow.{AttrRow}
 use Rattle.attr_line.specs.declared.file.AttrRow.TheVariants.{Rule, Macro}
@@ -11,13 +10,6 @@ use Rattle.attr_line.specs.declared.file.AttrFile.{AttrFile}
 use Rattle.wild_match.specs.Fits.{is_match}
 use Rattle.attr_stack.specs.declared.files.FileAt.{FileAt}
 use Rattle.attr_stack.specs.declared.files.AttrFiles.{AttrFiles}
-
--- a path in a folder, without the folder and its `/`; every path is in the top folder, whose name is empty
-abbrev pub path_in : List ℕ → List ℕ → Option (List ℕ)
-path_in folder path =
-    if length folder == 0 then Some path
-    else if starts_with nat_eq path folder && (slice_index path (length folder) == 47) then Some (drop (length folder + 1) path)
-    else None
 
 -- a row whose pattern matches gives its pairs, from last to first; a macro's line gives none
 abbrev pub row_pairs : List ℕ → AttrRow → List Pair
@@ -28,22 +20,31 @@ row_pairs path (Macro name pairs) = []
 abbrev pub file_pairs : List ℕ → AttrFile → List Pair
 file_pairs path file = flat_map (row_pairs path) (reverse file.rows)
 
--- a folder's file gives its pairs to the paths in the folder
-abbrev pub pairs_inside : AttrFile → Option (List ℕ) → List Pair
-pairs_inside file None = []
-pairs_inside file (Some path) = file_pairs path file
+-- the attribute file of a folder
+abbrev pub file_of : List FileAt → List ℕ → Option AttrFile
+file_of files folder = option_map (λ (at : FileAt). at.file) (find (λ (at : FileAt). bytes_eq at.folder folder) files)
 
-abbrev pub folder_pairs : List ℕ → FileAt → List Pair
-folder_pairs path at = pairs_inside at.file (path_in at.folder path)
+abbrev pub pairs_inside : List ℕ → Option AttrFile → List Pair
+pairs_inside path None = []
+pairs_inside path (Some file) = file_pairs path file
 
--- `info/attributes`, then the file of the path's folder, then those of its parents up to the top. The folders rise bytewise, so a folder stands behind its parents: the list is read from its end.
+-- the file of a folder gives its pairs to a path that the folder holds under this name
+abbrev pub folder_pairs : List FileAt → List ℕ → List ℕ → List Pair
+folder_pairs files folder inner = pairs_inside inner (file_of files folder)
+
+-- the name of a folder of a path ends at each `/`
+abbrev pub ends_folder : List ℕ → ℕ → Bool
+ends_folder path place = not (place == 0) && (slice_index path place == 47)
+
+-- what the folder gives whose name ends at a place of a path
+abbrev pub pairs_ending : List FileAt → List ℕ → ℕ → List Pair
+pairs_ending files path place = if ends_folder path place then folder_pairs files (take place path) (drop (place + 1) path) else []
+
+-- what the folders give whose names end before a place: the deepest first, and the top folder, which has the empty name, at the end
+abbrev pub pairs_before : List FileAt → List ℕ → ℕ → List Pair
+pairs_before files path zero = folder_pairs files [] path
+pairs_before files path (suc place) = pairs_ending files path place ++ pairs_before files path place
+
+-- those of `info/attributes`, then of the path's own folder, then of each parent up to the top
 abbrev pub pairs_of : AttrFiles → List ℕ → List Pair
-pairs_of files path = file_pairs path files.info ++ flat_map (folder_pairs path) (reverse files.files)
-
--- the folders rise strictly, compared bytewise
-abbrev pub Rises : List FileAt → Type 0
-Rises files = AllPairs (λ (a b : FileAt). slice_cmp nat_cmp a.folder b.folder ≡ Less) files
-
--- of two files that reach a path, the later is that of the deeper folder
-abbrev pub Deepens : List ℕ → List FileAt → Type 0
-Deepens path files = AllPairs (λ (a b : FileAt). IsSome (path_in a.folder path) → IsSome (path_in b.folder path) → length a.folder < length b.folder) files
+pairs_of files path = file_pairs path files.info ++ pairs_before files.files path (length path)

@@ -1,3 +1,7 @@
+ghost use Rattle.std.specs.Prelude.{◌≡◌};
+ghost use Rattle.std.specs.Option.{option_map};
+ghost use Rattle.attr_stack.specs.Pairs.{file_of};
+
 use attr_line::AttrFile;
 use byte_path::{Bytes, Items};
 
@@ -14,6 +18,14 @@ pub struct FileAt {
 pub struct AttrFiles {
     /// `info/attributes`, which reaches every path before the others.
     pub info: AttrFile,
-    /// The files of the folders. The folders rise strictly, compared bytewise.
+    /// The files of the folders, in any order, one for a folder.
     pub files: Items<FileAt>,
+}
+
+/// The attribute file of a folder.
+pub fn file_of<'a>(files: &'a [FileAt], folder: &[u8]) -> Option<&'a AttrFile>
+    ensures { option_map (λ x. x.now) result ≡ file_of files.now folder.now }
+{
+    let at = files.iter().find(|at| at.folder.as_slice() == folder)?;
+    Some(&at.file)
 }

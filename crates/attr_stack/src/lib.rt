@@ -9,8 +9,5 @@ mod reach;
 mod states;
 
 pub use files::{AttrFiles, FileAt};
-pub use laws::{deeper_folders_stand_behind, pairs_decide_by_rule};
+pub use laws::pairs_decide_by_rule;
 pub use states::attributes_of;
-
-#[cfg(test)]
-mod tests;

@@ -1,9 +1,9 @@
 //! The macros of the top files.
 ghost use Rattle.std.specs.Prelude.{◌≡◌, ◌∷◌, ◌++◌, List, IfOk, OnOk};
-ghost use Rattle.attr_stack.specs.Macros.{MacroLine, unset, binary, row_macros, file_macros, folder_macros, macros_of};
+ghost use Rattle.attr_stack.specs.Macros.{MacroLine, unset, binary, row_macros, file_macros, top_macros, macros_of};
 ghost use Rattle.attr_stack.specs.Seen.{AreMacros};
 
-use crate::files::{AttrFiles, FileAt};
+use crate::files::{AttrFiles, FileAt, file_of};
 use attr_line::{AttrRow, AttrState, Pair};
 use byte_path::Bytes;
 use std::alloc::{AllocError, Global};
@@ -59,13 +59,12 @@ fn define_rows<'a>(macros: &mut Macros<'a>, rows: &'a [AttrRow]) -> Result<(), A
     Ok(())
 }
 
-fn define_folder<'a>(macros: &mut Macros<'a>, at: &'a FileAt) -> Result<(), AllocError>
-    ensures { OnOk result ((lines : List MacroLine) → AreMacros macros.old lines → AreMacros macros.new (folder_macros at.now ++ lines)) }
+fn define_top<'a>(macros: &mut Macros<'a>, files: &'a [FileAt]) -> Result<(), AllocError>
+    ensures { OnOk result ((lines : List MacroLine) → AreMacros macros.old lines → AreMacros macros.new (top_macros files.now ++ lines)) }
 {
-    if at.folder.as_slice().is_empty() {
-        define_rows(macros, at.file.rows.as_slice())
-    } else {
-        Ok(())
+    match file_of(files, b"") {
+        Some(file) => define_rows(macros, file.rows.as_slice()),
+        None => Ok(()),
     }
 }
 
@@ -80,10 +79,7 @@ pub fn macros_of<'a>(
 {
     let mut macros = BTreeMap::new(alloc);
     define(&mut macros, b"binary", built_in)?;
-    let folders = files.files.as_slice();
-    for at in folders {
-        define_folder(&mut macros, at)?;
-    }
+    define_top(&mut macros, files.files.as_slice())?;
     define_rows(&mut macros, files.info.rows.as_slice())?;
     Ok(macros)
 }

@@ -1,30 +1,12 @@
 //! The pairs that reach a path.
-ghost use Rattle.std.specs.Prelude.{◌≡◌, ◌++◌, OnOk, map, reverse};
-ghost use Rattle.std.specs.Option.{option_map};
-ghost use Rattle.attr_stack.specs.Pairs.{path_in, row_pairs, file_pairs, folder_pairs, pairs_of};
+ghost use Rattle.std.specs.Prelude.{◌≡◌, ◌<◌, ◌++◌, OnOk, length, reverse};
+ghost use Rattle.attr_stack.specs.Pairs.{row_pairs, file_pairs, folder_pairs, pairs_ending, pairs_of};
 ghost use Rattle.attr_stack.specs.Seen.{from_end};
 
-use crate::files::{AttrFiles, FileAt};
+use crate::files::{AttrFiles, FileAt, file_of};
 use attr_line::{AttrFile, AttrRow, Pair};
 use std::alloc::AllocError;
 use wild_match::matches;
-
-/// A path in a folder, without the folder and its `/`.
-fn path_in<'a>(folder: &[u8], path: &'a [u8]) -> Option<&'a [u8]>
-    ensures { option_map (λ x. x.now) result ≡ path_in folder.now path.now }
-{
-    if folder.is_empty() {
-        return Some(path);
-    }
-    if !path.starts_with(folder) {
-        return None;
-    }
-    let (_, behind) = path.split_at(folder.len());
-    match behind {
-        [b'/', inner @ ..] => Some(inner),
-        _ => None,
-    }
-}
 
 /// Pairs to be read before those that wait, the last first.
 pub fn push_pairs<'a>(pending: &mut Vec<&'a Pair>, pairs: &'a [Pair]) -> Result<(), AllocError>
@@ -67,18 +49,37 @@ fn push_file<'a>(
     Ok(())
 }
 
-/// The pairs of a folder's file, if the path is in the folder.
+/// The pairs that the file of a folder gives to a path, which the folder holds under the name `inner`.
 fn push_folder<'a>(
     pending: &mut Vec<&'a Pair>,
-    at: &'a FileAt,
-    path: &[u8],
+    files: &'a [FileAt],
+    folder: &[u8],
+    inner: &[u8],
 ) -> Result<(), AllocError>
-    ensures { OnOk result (from_end pending.new.items ≡ folder_pairs path.now at.now ++ from_end pending.old.items) }
+    ensures { OnOk result (from_end pending.new.items ≡ folder_pairs files.now folder.now inner.now ++ from_end pending.old.items) }
 {
-    match path_in(at.folder.as_slice(), path) {
-        Some(inner) => push_file(pending, &at.file, inner),
+    match file_of(files, folder) {
+        Some(file) => push_file(pending, file, inner),
         None => Ok(()),
     }
+}
+
+/// The pairs of the folder whose name ends at a place of a path, if one does.
+fn push_ending<'a>(
+    pending: &mut Vec<&'a Pair>,
+    files: &'a [FileAt],
+    path: &[u8],
+    place: usize,
+) -> Result<(), AllocError>
+    requires { place < length path.now }
+    ensures { OnOk result (from_end pending.new.items ≡ pairs_ending files.now path.now place ++ from_end pending.old.items) }
+{
+    if place == 0 || path[place] != b'/' {
+        return Ok(());
+    }
+    let (folder, _) = path.split_at(place);
+    let (_, inner) = path.split_at(place + 1);
+    push_folder(pending, files, folder, inner)
 }
 
 /// All pairs of a path. The last is read first.
@@ -90,8 +91,10 @@ pub fn push_all<'a>(
     ensures { OnOk result (from_end pending.new.items ≡ pairs_of files.now path.now ++ from_end pending.old.items) }
 {
     let folders = files.files.as_slice();
-    for at in folders {
-        push_folder(pending, at, path)?;
+    push_folder(pending, folders, b"", path)?;
+    for place in 0..path.len() {
+        push_ending(pending, folders, path, place)?;
     }
-    push_file(pending, &files.info, path)
+    push_file(pending, &files.info, path)?;
+    Ok(())
 }

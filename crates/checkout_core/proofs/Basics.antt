@@ -11,7 +11,7 @@ use Rattle.checkout_core.specs.declared.driver.DriverState.{DriverState}
 use Rattle.checkout_core.specs.declared.driver.DriverState.TheVariants as driver
 use Rattle.checkout_core.specs.declared.event.Event.{Event}
 use Rattle.checkout_core.specs.declared.effect.Effect.{Effect}
-use Rattle.checkout_core.specs.declared.effect.Effect.TheVariants.{Moves, Turns, Both}
+use Rattle.checkout_core.specs.declared.effect.Effect.TheVariants.{Moves, Switches, Both}
 use Rattle.checkout_core.specs.States.{Core, with_state, is_at}
 use Rattle.checkout_core.specs.Effects.{after, each, swept_path, path_after}
 use Rattle.checkout_core.specs.Conditions.{effect_of, given, at_path, at_driver, of_driver, at_session, at_both}
@@ -133,7 +133,7 @@ module _ {A : Type 0} where
 
 pub start_after : (m : Effect) (q : ℕ) (r : Path) → (path_after m q r).start ≡ r.start
 start_after (Moves p s) q r = refl
-start_after (Turns d s w) q r = refl
+start_after (Switches d s w) q r = refl
 start_after (Both p s d t w) q r = go (q == p)
   where
     go : (b : Bool) → (cond b (with_state r s) (swept_path d w r)).start ≡ r.start

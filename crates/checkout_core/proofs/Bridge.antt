@@ -7,7 +7,7 @@ use Rattle.checkout_core.specs.declared.driver.DriverState.{DriverState}
 use Rattle.std.specs.Prelude.{length}
 use Rattle.checkout_core.specs.declared.path.PathState.TheVariants as path
 use Rattle.checkout_core.specs.declared.path.PathState.TheVariants.{Waiting, Held, Unasked, Closed}
-use Rattle.checkout_core.specs.declared.effect.Effect.TheVariants.{Moves, Turns, Both}
+use Rattle.checkout_core.specs.declared.effect.Effect.TheVariants.{Moves, Switches, Both}
 use Rattle.checkout_core.specs.declared.effect.Sweep.{Sweep}
 use Rattle.checkout_core.specs.declared.effect.Sweep.TheVariants.{Keep}
 use Rattle.checkout_core.specs.States.{Core, with_state, is_at}
@@ -31,8 +31,8 @@ both_set rs p r s d t w there = each_set (swept_path d w) (path_after (Both p s 
     (ap (λ b. cond b (with_state r s) (swept_path d w r)) (eqb_self p))
     (λ q v n. ap (λ b. cond b (with_state v s) (swept_path d w v)) (other_number q p n))
 
-pub turn_set : (xs : List DriverState) (d : ℕ) (x t : DriverState) (w : Sweep) → slice_get xs d ≡ Some x → each (driver_after (Turns d t w)) xs ≡ set (map (λ y. y) xs) d t
-turn_set xs d x t w there = each_set (λ y. y) (driver_after (Turns d t w)) xs d x t there (ap (λ b. cond b t x) (eqb_self d)) (λ q v n. ap (λ b. cond b t v) (other_number q d n))
+pub turn_set : (xs : List DriverState) (d : ℕ) (x t : DriverState) (w : Sweep) → slice_get xs d ≡ Some x → each (driver_after (Switches d t w)) xs ≡ set (map (λ y. y) xs) d t
+turn_set xs d x t w there = each_set (λ y. y) (driver_after (Switches d t w)) xs d x t there (ap (λ b. cond b t x) (eqb_self d)) (λ q v n. ap (λ b. cond b t v) (other_number q d n))
 
 pub each_none : {A : Type 0} (xs : List A) → each (λ e x. x) xs ≡ xs
 each_none [] = refl
@@ -63,15 +63,15 @@ kept_paths d [] = refl
 kept_paths d (r ∷ rs) = ap (λ (x : Path). x ∷ map (swept_path d Keep) rs) (kept_path d r) ∙ ap (λ (xs : List Path). r ∷ xs) (kept_paths d rs)
 
 -- a driver turns: each of its paths is swept
-pub turned_paths : (d : ℕ) (t : DriverState) (w : Sweep) (rs : List Path) → each (path_after (Turns d t w)) rs ≡ map (swept_path d w) rs
-turned_paths d t w rs = each_map (swept_path d w) (path_after (Turns d t w)) rs (λ q r. refl)
+pub turned_paths : (d : ℕ) (t : DriverState) (w : Sweep) (rs : List Path) → each (path_after (Switches d t w)) rs ≡ map (swept_path d w) rs
+turned_paths d t w rs = each_map (swept_path d w) (path_after (Switches d t w)) rs (λ q r. refl)
 
 swept_twice : (d : ℕ) (w : Sweep) (r : Path) → swept_path d w (swept_path d Keep r) ≡ swept_path d w r
 swept_twice d w r = ap (swept_path d w) (kept_path d r)
 
 -- the driver turns first, and its paths are swept then
-pub turn_swept : (c : Core) (d : ℕ) (t : DriverState) (w : Sweep) → record { workers = c.workers; drivers = (after c (Turns d t Keep)).drivers; paths = map (swept_path d w) (after c (Turns d t Keep)).paths } ≡ after c (Turns d t w)
-turn_swept c d t w = ap (λ (rs : List Path). record { workers = c.workers; drivers = each (driver_after (Turns d t w)) c.drivers; paths = rs })
+pub turn_swept : (c : Core) (d : ℕ) (t : DriverState) (w : Sweep) → record { workers = c.workers; drivers = (after c (Switches d t Keep)).drivers; paths = map (swept_path d w) (after c (Switches d t Keep)).paths } ≡ after c (Switches d t w)
+turn_swept c d t w = ap (λ (rs : List Path). record { workers = c.workers; drivers = each (driver_after (Switches d t w)) c.drivers; paths = rs })
     (ap (map (swept_path d w)) (turned_paths d t Keep c.paths ∙ kept_paths d c.paths) ∙ sym (turned_paths d t w c.paths))
 
 map_each : (f : Path → Path) (h : ℕ → Path → Path) (rs : List Path) → map f (each h rs) ≡ each (λ q r. f (h q r)) rs

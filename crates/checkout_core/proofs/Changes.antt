@@ -12,11 +12,11 @@ use Rattle.checkout_core.specs.declared.path.Start.{Start}
 use Rattle.checkout_core.specs.declared.path.Start.TheVariants.{Pool, Desk, Done}
 use Rattle.checkout_core.specs.declared.driver.DriverState.{DriverState}
 use Rattle.checkout_core.specs.declared.cursor.Cursor.{Cursor}
-use Rattle.checkout_core.specs.declared.effect.Effect.TheVariants.{Moves, Turns, Both}
+use Rattle.checkout_core.specs.declared.effect.Effect.TheVariants.{Moves, Switches, Both}
 use Rattle.checkout_core.specs.declared.effect.Sweep.TheVariants.{Keep}
 use Rattle.checkout_core.specs.States.{is_at, is_unasked, is_named, is_named_below, is_closed, none_of, path_count, named_count, unclosed_count, with_state}
 use Rattle.checkout_core.specs.Effects.{after, each, driver_after}
-use Rattle.checkout_core.specs.Cursors.{is_named_at, is_naming, is_pending, settles, advances, Follows, AllFollow, IsSound, IsCursor, cursor_after, delayed_after, CanFollow, IsFollowable}
+use Rattle.checkout_core.specs.Cursors.{is_named_at, is_noting_list, is_pending, settles, advances, Follows, AllFollow, IsSound, IsCursor, cursor_after, delayed_after, CanFollow, IsFollowable}
 use Rattle.checkout_core.proofs.Basics.{some_is, same_or, same_number, item_within}
 use Rattle.checkout_core.proofs.Counts.{num, set_cases, count_set, count_some, count_length, unclosed_set}
 use Rattle.checkout_core.proofs.Follows.{lowest_turn}
@@ -47,7 +47,7 @@ same_count a b c e h i j = omega arith
 
 -- a path changes that isn't one of the driver's lists, before or after
 pub follows_other : (paths : List Path) (n m : Bool) (e : ℕ) (k : Cursor) (p : ℕ) (r : Path) (s : PathState) → slice_get paths p ≡ Some r → (is_at e r.start && is_pending r.state) ≡ false → (is_at e r.start && is_pending s) ≡ false → (is_at e r.start && is_unasked s) ≡ false → (m ≡ true → n ≡ true) → Follows paths n e k → Follows (set paths p (with_state r s)) m e k
-follows_other paths n m e k p r s there was now un0 naming f = record {
+follows_other paths n m e k p r s there was now un0 noting_list f = record {
   unasked = λ q w i at un. ⊎_elim
       (λ (h : (q ≡ p) × (with_state r s ≡ w)).
       let z : (is_at e w.start && is_unasked w.state) ≡ false = subst (λ (y : Path). (is_at e y.start && is_unasked y.state) ≡ false) h.1 un0 in
@@ -67,7 +67,7 @@ follows_other paths n m e k p r s there was now un0 naming f = record {
   turns = λ t. same_count (path_count e (is_named_at t) (set paths p (with_state r s))) (num (is_at e r.start && is_named_at t r.state)) (path_count e (is_named_at t) paths) (num (is_at e r.start && is_named_at t s))
       (count_set e (is_named_at t) paths p r (with_state r s) there) (pending_at t (is_at e r.start) r.state was) (pending_at t (is_at e r.start) s now) ∙ f.turns t;
   turn_fits = let l = length-set paths p (with_state r s) in let g = f.turn_fits in omega arith;
-  begins = λ h. f.begins (naming h);
+  begins = λ h. f.begins (noting_list h);
 }
 
 -- how many are named at the turn u, where n are from the turn a on
@@ -147,7 +147,7 @@ module _ (paths : List Path) (d : ℕ) (k : Cursor) (p : ℕ) (r : Path) (there 
 
   -- the range takes the path in
   pub delays : (n m : Bool) → r.state ≡ Unasked → (m ≡ true → n ≡ true) → Follows paths n d k → Follows (set paths p (with_state r path.Delayed)) m d (delayed_after k p)
-  delays n m is naming f = go (nat_lt k.first k.end) refl
+  delays n m is noting_list f = go (nat_lt k.first k.end) refl
     where
       plain : (j : Cursor) → j.unasked ≡ k.unasked → j.named ≡ k.named → j.turn ≡ k.turn → j.end ≤ length paths → ((q : ℕ) → (q ≡ p) ⊎ ((k.first ≤ q) × (q < k.end)) → (j.first ≤ q) × (q < j.end)) → Follows (set paths p (with_state r path.Delayed)) m d j
       plain j ua na tu en range = record {
@@ -161,7 +161,7 @@ module _ (paths : List Path) (d : ℕ) (k : Cursor) (p : ℕ) (r : Path) (there 
         named = same_count _ 0 _ 0 (counted_at is_named Unasked path.Delayed is) refl refl ∙ (f.named ∙ sym na);
         turns = λ t. same_count _ 0 _ 0 (counted_at (is_named_at t) Unasked path.Delayed is) refl refl ∙ (f.turns t ∙ (ap (λ z. num (nat_le z t && nat_lt t (z + k.named))) (sym tu) ∙ ap (λ z. num (nat_le j.turn t && nat_lt t (j.turn + z))) (sym na)));
         turn_fits = fits path.Delayed (j.turn + j.named) (let g = f.turn_fits in omega (arith, tu, na));
-        begins = λ h. tu ∙ f.begins (naming h);
+        begins = λ h. tu ∙ f.begins (noting_list h);
       }
 
       go : (b : Bool) → nat_lt k.first k.end ≡ b → Follows (set paths p (with_state r path.Delayed)) m d (cond b (record { unasked = k.unasked; first = min k.first p; end = max k.end (p + 1); named = k.named; turn = k.turn }) (record { unasked = k.unasked; first = p; end = p + 1; named = k.named; turn = k.turn }))
@@ -228,17 +228,17 @@ module _ (paths : List Path) (d : ℕ) (k : Cursor) (p : ℕ) (r : Path) (there 
 
 -- the path of the driver advances, in each of the four ways
 pub advance_cases : (paths : List Path) (d : ℕ) (k : Cursor) (p : ℕ) (r : Path) (n m : Bool) (a s : PathState) → slice_get paths p ≡ Some r → is_at d r.start ≡ true → r.state ≡ a → Follows paths n d k → advances (named_count d paths) n m (λ u. none_of d (is_named_below u) paths) a s ≡ true → Follows (set paths p (with_state r s)) m d (cursor_after k p a s)
-advance_cases paths d k p r n m Unasked path.Delayed there at is f ok = delays paths d k p r there at n m is (naming m n ok) f
+advance_cases paths d k p r n m Unasked path.Delayed there at is f ok = delays paths d k p r there at n m is (noting_list m n ok) f
   where
-    naming : (m n : Bool) → (not m || n) ≡ true → m ≡ true → n ≡ true
-    naming true n e i = e
-    naming false n e i = absurd (cc (i))
+    noting_list : (m n : Bool) → (not m || n) ≡ true → m ≡ true → n ≡ true
+    noting_list true n e i = e
+    noting_list false n e i = absurd (cc (i))
 advance_cases paths d k p r n m Unasked (path.Heard h) there at is f ok =
-    follows_other paths n m d k p r (path.Heard h) there (ap (λ b. b && is_pending r.state) at ∙ ap is_pending is) (ap (λ b. b && false) at) (ap (λ b. b && false) at) (naming m n ok) f
+    follows_other paths n m d k p r (path.Heard h) there (ap (λ b. b && is_pending r.state) at ∙ ap is_pending is) (ap (λ b. b && false) at) (ap (λ b. b && false) at) (noting_list m n ok) f
   where
-    naming : (m n : Bool) → (not m || n) ≡ true → m ≡ true → n ≡ true
-    naming true n e i = e
-    naming false n e i = absurd (cc (i))
+    noting_list : (m n : Bool) → (not m || n) ≡ true → m ≡ true → n ≡ true
+    noting_list true n e i = e
+    noting_list false n e i = absurd (cc (i))
 advance_cases paths d k p r n m path.Delayed (path.Named t) there at is f ok =
     let parts = and_parts _ _ ok in
     names paths d k p r there at n m t is (same_number t (named_count d paths) parts.0 ∙ f.named)
@@ -257,19 +257,19 @@ is_at_other e d (Done v) at n = refl
 and_off : (a b : Bool) → a ≡ false → (a && b) ≡ false
 and_off a b e = ap (λ z. z && b) e
 
-pub advance_all : (paths : List Path) (drivers : List DriverState) (cursors : List Cursor) (p d : ℕ) (r : Path) (s : PathState) (x t : DriverState) (k : Cursor) → AllFollow paths drivers cursors → slice_get paths p ≡ Some r → is_at d r.start ≡ true → slice_get drivers d ≡ Some x → Follows (set paths p (with_state r s)) (is_naming t) d k → AllFollow (set paths p (with_state r s)) (set drivers d t) (set cursors d k)
+pub advance_all : (paths : List Path) (drivers : List DriverState) (cursors : List Cursor) (p d : ℕ) (r : Path) (s : PathState) (x t : DriverState) (k : Cursor) → AllFollow paths drivers cursors → slice_get paths p ≡ Some r → is_at d r.start ≡ true → slice_get drivers d ≡ Some x → Follows (set paths p (with_state r s)) (is_noting_list t) d k → AllFollow (set paths p (with_state r s)) (set drivers d t) (set cursors d k)
 advance_all paths drivers cursors p d r s x t k all there at seat new = record {
   same_length = length-set cursors d k ∙ (all.same_length ∙ sym (length-set drivers d t));
   follow = λ e y j i g. ⊎_elim
       (λ (h : (e ≡ d) × (t ≡ y)). ⊎_elim
-      (λ (f : (e ≡ d) × (k ≡ j)). subst (λ (z : ℕ). Follows (set paths p (with_state r s)) (is_naming y) z j) (sym h.0) (subst (λ (z : DriverState). Follows (set paths p (with_state r s)) (is_naming z) d j) h.1 (subst (λ (z : Cursor). Follows (set paths p (with_state r s)) (is_naming t) d z) f.1 new)))
+      (λ (f : (e ≡ d) × (k ≡ j)). subst (λ (z : ℕ). Follows (set paths p (with_state r s)) (is_noting_list y) z j) (sym h.0) (subst (λ (z : DriverState). Follows (set paths p (with_state r s)) (is_noting_list z) d j) h.1 (subst (λ (z : Cursor). Follows (set paths p (with_state r s)) (is_noting_list t) d z) f.1 new)))
       (λ (f : (e ≡ d → ⊥) × (slice_get cursors e ≡ Some j)). absurd (f.0 h.0))
       (set_cases cursors d e old.0 k j old.1 g))
       (λ (h : (e ≡ d → ⊥) × (slice_get drivers e ≡ Some y)). ⊎_elim
       (λ (f : (e ≡ d) × (k ≡ j)). absurd (h.0 f.0))
       (λ (f : (e ≡ d → ⊥) × (slice_get cursors e ≡ Some j)).
       let off : is_at e r.start ≡ false = is_at_other e d r.start at h.0 in
-      follows_other paths (is_naming y) (is_naming y) e j p r s there (and_off _ _ off) (and_off _ _ off) (and_off _ _ off) (λ z. z) (all.follow e y j h.1 f.1))
+      follows_other paths (is_noting_list y) (is_noting_list y) e j p r s there (and_off _ _ off) (and_off _ _ off) (and_off _ _ off) (λ z. z) (all.follow e y j h.1 f.1))
       (set_cases cursors d e old.0 k j old.1 g))
       (set_cases drivers d e x t y seat i);
 }
@@ -297,15 +297,15 @@ advance_sound workers paths drivers cursors unclosed p d s t k was sound cur fol
     let r = fol.0 in
     let same : r ≡ was = sym (get_or_from_slice_get paths p r was fol.2) ∙ sym is in
     let seat : cur.0 ≡ fol.1 = some_is cur.0 fol.1 (sym cur.1 ∙ fol.4) in
-    let f : Follows paths (is_naming fol.1) d k = subst (λ (z : DriverState). Follows paths (is_naming z) d k) seat cur.2 in
-    let open0 = advance_open (named_count d paths) (is_naming fol.1) (is_naming t) (λ u. none_of d (is_named_below u) paths) r.state s fol.6 in
+    let f : Follows paths (is_noting_list fol.1) d k = subst (λ (z : DriverState). Follows paths (is_noting_list z) d k) seat cur.2 in
+    let open0 = advance_open (named_count d paths) (is_noting_list fol.1) (is_noting_list t) (λ u. none_of d (is_named_below u) paths) r.state s fol.6 in
     subst (λ (z : Path). IsSound workers (set paths p (with_state z s)) (set drivers d t) (set cursors d (cursor_after k p z.state s)) unclosed) same
     (record {
       few_workers = sound.few_workers;
       few_drivers = let l = length-set drivers d t in let g = sound.few_drivers in omega arith;
       few_paths = let l = length-set paths p (with_state r s) in let g = sound.few_paths in omega arith;
       cursors_follow = advance_all paths drivers cursors p d r s fol.1 t (cursor_after k p r.state s) sound.cursors_follow fol.2 fol.3 fol.4
-          (advance_cases paths d k p r (is_naming fol.1) (is_naming t) r.state s fol.2 fol.3 refl f fol.6);
+          (advance_cases paths d k p r (is_noting_list fol.1) (is_noting_list t) r.state s fol.2 fol.3 refl f fol.6);
       unclosed_is = unclosed_stays paths p r s unclosed fol.2 open0.0 open0.1 sound.unclosed_is;
     })
 
@@ -317,7 +317,7 @@ advance_fits workers paths drivers cursors unclosed p d s t k was sound cur fol 
     r : Path
     r = fol.0
 
-    f : Follows paths (is_naming cur.0) d k
+    f : Follows paths (is_noting_list cur.0) d k
     f = cur.2
 
     go : (a s : PathState) → r.state ≡ a → CanFollow k p a s
@@ -399,7 +399,7 @@ module _ (workers : ℕ) (paths : List Path) (drivers : List DriverState) (curso
         few_paths = let l = length-set paths p (with_state fol.0 s) in let g = sound.few_paths in omega arith;
         cursors_follow = record {
           same_length = sound.cursors_follow.same_length;
-          follow = λ e y j i g. follows_other paths (is_naming y) (is_naming y) e j p fol.0 s fol.1 (off (is_at e fol.0.start) (is_pending fol.0.state) parts.0) (off (is_at e fol.0.start) (is_pending s) parts.2) (off (is_at e fol.0.start) (is_unasked s) parts.3) (λ z. z) (sound.cursors_follow.follow e y j i g);
+          follow = λ e y j i g. follows_other paths (is_noting_list y) (is_noting_list y) e j p fol.0 s fol.1 (off (is_at e fol.0.start) (is_pending fol.0.state) parts.0) (off (is_at e fol.0.start) (is_pending s) parts.2) (off (is_at e fol.0.start) (is_unasked s) parts.3) (λ z. z) (sound.cursors_follow.follow e y j i g);
         };
         unclosed_is = (unclosed_falls paths p fol.0 s unclosed fol.1 parts.1 sound.unclosed_is).1;
       })
@@ -414,7 +414,7 @@ module _ (workers : ℕ) (paths : List Path) (drivers : List DriverState) (curso
       (sym (moves_after (record { workers = workers; drivers = drivers; paths = paths }) p fol.0 s fol.1))
 
 -- a driver turns
-module _ (workers : ℕ) (paths : List Path) (drivers : List DriverState) (cursors : List Cursor) (unclosed d : ℕ) (t : DriverState) (sound : IsSound workers paths drivers cursors unclosed) (fol : IsFollowable (record { workers = workers; drivers = drivers; paths = paths }) (Turns d t Keep)) where
+module _ (workers : ℕ) (paths : List Path) (drivers : List DriverState) (cursors : List Cursor) (unclosed d : ℕ) (t : DriverState) (sound : IsSound workers paths drivers cursors unclosed) (fol : IsFollowable (record { workers = workers; drivers = drivers; paths = paths }) (Switches d t Keep)) where
   pub turn_within : d < length drivers
   turn_within = slice_get_within drivers d fol.0 fol.1
 
@@ -428,7 +428,7 @@ module _ (workers : ℕ) (paths : List Path) (drivers : List DriverState) (curso
       follow = λ e y j i g. ⊎_elim
           (λ (h : (e ≡ d) × (t ≡ y)).
           let f = sound.cursors_follow.follow d fol.0 j fol.1 (ap (λ z. slice_get cursors z) (sym h.0) ∙ g) in
-          subst (λ (z : ℕ). Follows paths (is_naming y) z j) (sym h.0) (subst (λ (z : DriverState). Follows paths (is_naming z) d j) h.1
+          subst (λ (z : ℕ). Follows paths (is_noting_list y) z j) (sym h.0) (subst (λ (z : DriverState). Follows paths (is_noting_list z) d j) h.1
           (record { unasked = f.unasked; unasked_fits = f.unasked_fits; pending = f.pending; end_fits = f.end_fits; named = f.named; turns = f.turns; turn_fits = f.turn_fits; begins = λ n. let off = fol.2 in absurd (cc (n, off)) })))
           (λ (h : (e ≡ d → ⊥) × (slice_get drivers e ≡ Some y)). sound.cursors_follow.follow e y j h.1 g)
           (set_cases drivers d e fol.0 t y fol.1 i);
@@ -436,7 +436,7 @@ module _ (workers : ℕ) (paths : List Path) (drivers : List DriverState) (curso
     unclosed_is = sound.unclosed_is;
   }
 
-  pub turn_is : record { workers = workers; drivers = set drivers d t; paths = paths } ≡ after (record { workers = workers; drivers = drivers; paths = paths }) (Turns d t Keep)
+  pub turn_is : record { workers = workers; drivers = set drivers d t; paths = paths } ≡ after (record { workers = workers; drivers = drivers; paths = paths }) (Switches d t Keep)
   turn_is =
-      sym (ap (λ (rs : List Path). record { workers = workers; drivers = each (driver_after (Turns d t Keep)) drivers; paths = rs }) (turned_paths d t Keep paths ∙ kept_paths d paths)
+      sym (ap (λ (rs : List Path). record { workers = workers; drivers = each (driver_after (Switches d t Keep)) drivers; paths = rs }) (turned_paths d t Keep paths ∙ kept_paths d paths)
       ∙ ap (λ (xs : List DriverState). record { workers = workers; drivers = xs; paths = paths }) (turn_set drivers d fol.0 t Keep fol.1 ∙ ap (λ (xs : List DriverState). set xs d t) (map_none drivers)))

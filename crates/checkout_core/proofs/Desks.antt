@@ -12,7 +12,7 @@ use Rattle.checkout_core.specs.declared.effect.Effect.{Effect}
 use Rattle.checkout_core.specs.States.{Core}
 use Rattle.checkout_core.specs.Verdicts.{heard_close, unasked_close}
 use Rattle.checkout_core.specs.Conditions.{at_path, at_driver, of_driver, close_at, closing}
-use Rattle.checkout_core.specs.Cards.{LacksDesk}
+use Rattle.checkout_core.specs.DriverPaths.{LacksDesk}
 
 at_path_some : (c : Core) (p : ℕ) (r : Path) (f : Path → Option Effect) → slice_get c.paths p ≡ Some r → at_path c p f ≡ f r
 at_path_some c p r f there = ap (λ (o : Option Path). elim o as (λ _. Option Effect) [ None ↦ None | Some w ↦ f w ]) there

@@ -20,13 +20,13 @@ use Rattle.checkout_core.specs.declared.driver.DriverState.TheVariants as driver
 use Rattle.checkout_core.specs.declared.event.Event.{Event}
 use Rattle.checkout_core.specs.declared.event.Event.TheVariants as ev
 use Rattle.checkout_core.specs.declared.effect.Effect.{Effect}
-use Rattle.checkout_core.specs.declared.effect.Effect.TheVariants.{Moves, Turns, Both}
+use Rattle.checkout_core.specs.declared.effect.Effect.TheVariants.{Moves, Switches, Both}
 use Rattle.checkout_core.specs.declared.effect.Sweep.TheVariants.{Keep}
 use Rattle.checkout_core.specs.States.{Core, is_named_below, none_of, named_count, lowest_unasked}
 use Rattle.checkout_core.specs.Effects.{swept}
 use Rattle.checkout_core.specs.Verdicts.{refused_cause}
 use Rattle.checkout_core.specs.Conditions.{effect_of, heard_opening, replied_state, replied_desk, replied_sweep, list_desk, list_sweep, list_allowed, named, hand_back, close_at, is_delay, replied, claim, claim_at, open_at, fail_at, answer_in, answer_at, name_in, name_at, list_at, list_step, redo, redo_at, hand_back_at, shut_in, shut_at}
-use Rattle.checkout_core.specs.Cursors.{settles, advances, is_naming, IsFollowable}
+use Rattle.checkout_core.specs.Cursors.{settles, advances, is_noting_list, IsFollowable}
 use Rattle.checkout_core.proofs.Basics.{none_is_some, given_is, cond_is, cond_not, at_path_is, at_driver_is, at_session_is, at_both_is, at_it}
 use Rattle.checkout_core.proofs.Inverses.{unasked_is, late_is, redo_is, claim_is, back_is, open_is, close_moves}
 use Rattle.checkout_core.proofs.Counts.{none_named}
@@ -44,7 +44,7 @@ back_settles : (x : DriverState) (s : PathState) (k : FilterCause) → refused_c
 back_settles x (path.Heard (heard.Refused b)) k e = refl
 back_settles x (path.Heard heard.Got) k e = none_is_some e
 back_settles x (path.Heard heard.Lost) k e = none_is_some e
-back_settles x (path.Heard heard.Wanted) k e = none_is_some e
+back_settles x (path.Heard heard.OutOfMemory) k e = none_is_some e
 back_settles x Unasked k e = refl
 back_settles x (Waiting raw) k e = none_is_some e
 back_settles x (Held b raw) k e = none_is_some e
@@ -61,20 +61,20 @@ stays reply.Abort = refl
 stays (reply.Broken b) = refl
 stays reply.NoMemory = refl
 
-own_naming : (b : Bool) → (not b || b) ≡ true
-own_naming true = refl
-own_naming false = refl
+own_noting : (b : Bool) → (not b || b) ≡ true
+own_noting true = refl
+own_noting false = refl
 
-answer_advances : (n : ℕ) (f : ℕ → Bool) (k : Session) (y : Reply) → advances n k.naming (is_naming (replied_desk k y)) f Unasked (replied_state y) ≡ true
-answer_advances n f k reply.Content = own_naming k.naming
-answer_advances n f k reply.Error = own_naming k.naming
-answer_advances n f k reply.ErrorAfter = own_naming k.naming
-answer_advances n f k reply.Delayed = own_naming k.naming
+answer_advances : (n : ℕ) (f : ℕ → Bool) (k : Session) (y : Reply) → advances n k.noting_list (is_noting_list (replied_desk k y)) f Unasked (replied_state y) ≡ true
+answer_advances n f k reply.Content = own_noting k.noting_list
+answer_advances n f k reply.Error = own_noting k.noting_list
+answer_advances n f k reply.ErrorAfter = own_noting k.noting_list
+answer_advances n f k reply.Delayed = own_noting k.noting_list
 answer_advances n f k reply.Abort = refl
 answer_advances n f k (reply.Broken b) = refl
 answer_advances n f k reply.NoMemory = refl
 
-redo_advances : (n : ℕ) (o : Bool) (f : ℕ → Bool) (k : Session) (y : Reply) (t : ℕ) → is_delay y ≡ false → not k.naming ≡ true → f t ≡ true → advances n o (is_naming (replied_desk k y)) f (path.Named t) (replied_state y) ≡ true
+redo_advances : (n : ℕ) (o : Bool) (f : ℕ → Bool) (k : Session) (y : Reply) (t : ℕ) → is_delay y ≡ false → not k.noting_list ≡ true → f t ≡ true → advances n o (is_noting_list (replied_desk k y)) f (path.Named t) (replied_state y) ≡ true
 redo_advances n o f k reply.Content t d i j = and_from _ _ j i
 redo_advances n o f k reply.Error t d i j = and_from _ _ j i
 redo_advances n o f k reply.ErrorAfter t d i j = and_from _ _ j i
@@ -83,7 +83,7 @@ redo_advances n o f k reply.Abort t d i j = and_from _ _ j refl
 redo_advances n o f k (reply.Broken b) t d i j = and_from _ _ j refl
 redo_advances n o f k reply.NoMemory t d i j = and_from _ _ j refl
 
-list_off : (k : Session) (y : ListReply) → is_naming (list_desk k y) ≡ false
+list_off : (k : Session) (y : ListReply) → is_noting_list (list_desk k y) ≡ false
 list_off k (list.Names n) = refl
 list_off k list.Empty = refl
 list_off k list.Abort = refl
@@ -124,7 +124,7 @@ followable c (ev.Answered q y) m h =
       at_it at.driver at.required (at.row).start at.begun,
       seat,
       stays y,
-      ap (λ s. advances (named_count at.driver c.paths) (k.0).naming (is_naming (replied_desk k.0 y)) (λ u. none_of at.driver (is_named_below u) c.paths) s (replied_state y)) (unasked_is (at.row).state u.0)
+      ap (λ s. advances (named_count at.driver c.paths) (k.0).noting_list (is_noting_list (replied_desk k.0 y)) (λ u. none_of at.driver (is_named_below u) c.paths) s (replied_state y)) (unasked_is (at.row).state u.0)
           ∙ answer_advances (named_count at.driver c.paths) (λ u. none_of at.driver (is_named_below u) c.paths) k.0 y,
     )
 followable c (ev.Named q) m h =
@@ -142,13 +142,13 @@ followable c (ev.Named q) m h =
       at_it at.driver at.required (at.row).start at.begun,
       seat,
       refl,
-      ap (λ s. advances (named_count at.driver c.paths) (k.0).naming true (λ u. none_of at.driver (is_named_below u) c.paths) s (path.Named (named_count at.driver c.paths))) (late_is (at.row).state v.0)
-          ∙ and_from _ _ (eq-eqb (named_count at.driver c.paths) (named_count at.driver c.paths) refl) (ap (λ z. (k.0).naming || z) (none_named at.driver c.paths) ∙ v.1),
+      ap (λ s. advances (named_count at.driver c.paths) (k.0).noting_list true (λ u. none_of at.driver (is_named_below u) c.paths) s (path.Named (named_count at.driver c.paths))) (late_is (at.row).state v.0)
+          ∙ and_from _ _ (eq-eqb (named_count at.driver c.paths) (named_count at.driver c.paths) refl) (ap (λ z. (k.0).noting_list || z) (none_named at.driver c.paths) ∙ v.1),
     )
 followable c (ev.Listed d y) m h =
     let at = at_driver_is c d (list_at c d y) m h in
     let k = at_session_is at.state (λ s. list_step c d s y) m at.holds in
-    let l = given_is (list_allowed c d k.0 y) (Turns d (list_desk k.0 y) (list_sweep y)) m k.2 in
+    let l = given_is (list_allowed c d k.0 y) (Switches d (list_desk k.0 y) (list_sweep y)) m k.2 in
     subst (λ (z : Effect). IsFollowable c z) l.1 (at.state, at.there, list_off k.0 y)
 followable c (ev.Redone q y) m h =
     let at = at_both_is c q (redo_at c q y) m h in
@@ -165,8 +165,8 @@ followable c (ev.Redone q y) m h =
       at_it at.driver at.required (at.row).start at.begun,
       seat,
       stays y,
-      ap (λ s. advances (named_count at.driver c.paths) (k.0).naming (is_naming (replied_desk k.0 y)) (λ u. none_of at.driver (is_named_below u) c.paths) s (replied_state y)) b.1
-          ∙ redo_advances (named_count at.driver c.paths) (k.0).naming (λ u. none_of at.driver (is_named_below u) c.paths) k.0 y b.0 (not-true _ u.0) t.0 v.1,
+      ap (λ s. advances (named_count at.driver c.paths) (k.0).noting_list (is_noting_list (replied_desk k.0 y)) (λ u. none_of at.driver (is_named_below u) c.paths) s (replied_state y)) b.1
+          ∙ redo_advances (named_count at.driver c.paths) (k.0).noting_list (λ u. none_of at.driver (is_named_below u) c.paths) k.0 y b.0 (not-true _ u.0) t.0 v.1,
     )
 followable c (ev.HandBack q) m h =
     let at = at_both_is c q (hand_back_at q) m h in
@@ -176,5 +176,5 @@ followable c (ev.HandBack q) m h =
 followable c (ev.Shut d) m h =
     let at = at_driver_is c d (shut_at c d) m h in
     let k = at_session_is at.state (λ s. shut_in c d s) m at.holds in
-    let l = given_is _ (Turns d driver.Done Keep) m k.2 in
+    let l = given_is _ (Switches d driver.Done Keep) m k.2 in
     subst (λ (z : Effect). IsFollowable c z) l.1 (at.state, at.there, refl)

@@ -10,12 +10,12 @@ use Rattle.checkout_core.specs.declared.path.Path.{Path}
 use Rattle.checkout_core.specs.declared.driver.DriverState.{DriverState}
 use Rattle.checkout_core.specs.declared.cursor.Cursor.{Cursor}
 use Rattle.checkout_core.specs.States.{Core, is_at, is_unasked, is_named_below, none_of, path_count, lowest_unasked}
-use Rattle.checkout_core.specs.Cursors.{asks, is_named_at, is_naming, Follows, AllFollow, IsSound, IsCursor, HoldsAt}
+use Rattle.checkout_core.specs.Cursors.{asks, is_named_at, is_noting_list, Follows, AllFollow, IsSound, IsCursor, HoldsAt}
 use Rattle.checkout_core.proofs.Basics.{some_is, item_within}
 use Rattle.checkout_core.proofs.Counts.{num, set_cases, count_some, none_count, none_false, lowest_some, lowest_none}
 
 -- the driver d gets another cursor
-pub follow_cursor : (paths : List Path) (drivers : List DriverState) (cursors : List Cursor) (d : ℕ) (x : DriverState) (k : Cursor) → AllFollow paths drivers cursors → slice_get drivers d ≡ Some x → Follows paths (is_naming x) d k → AllFollow paths drivers (set cursors d k)
+pub follow_cursor : (paths : List Path) (drivers : List DriverState) (cursors : List Cursor) (d : ℕ) (x : DriverState) (k : Cursor) → AllFollow paths drivers cursors → slice_get drivers d ≡ Some x → Follows paths (is_noting_list x) d k → AllFollow paths drivers (set cursors d k)
 follow_cursor paths drivers cursors d x k all there new = record {
   same_length = length-set cursors d k ∙ all.same_length;
   follow = λ e y j i g. go e y j i g;
@@ -24,11 +24,11 @@ follow_cursor paths drivers cursors d x k all there new = record {
     less : d < length cursors
     less = let l : d < length drivers = slice_get_within drivers d x there in let s = all.same_length in omega arith
 
-    go : (e : ℕ) (y : DriverState) (j : Cursor) → slice_get drivers e ≡ Some y → slice_get (set cursors d k) e ≡ Some j → Follows paths (is_naming y) e j
+    go : (e : ℕ) (y : DriverState) (j : Cursor) → slice_get drivers e ≡ Some y → slice_get (set cursors d k) e ≡ Some j → Follows paths (is_noting_list y) e j
     go e y j i g = ⊎_elim
         (λ (s : (e ≡ d) × (k ≡ j)).
         let same : y ≡ x = some_is y x (sym i ∙ (ap (λ z. slice_get drivers z) s.0 ∙ there)) in
-        subst (λ (z : DriverState). Follows paths (is_naming z) e j) (sym same) (subst (λ (z : ℕ). Follows paths (is_naming x) z j) (sym s.0) (subst (λ (z : Cursor). Follows paths (is_naming x) d z) s.1 new)))
+        subst (λ (z : DriverState). Follows paths (is_noting_list z) e j) (sym same) (subst (λ (z : ℕ). Follows paths (is_noting_list x) z j) (sym s.0) (subst (λ (z : Cursor). Follows paths (is_noting_list x) d z) s.1 new)))
         (λ (s : (e ≡ d → ⊥) × (slice_get cursors e ≡ Some j)). all.follow e y j i s.1)
         (set_cases cursors d e (item_within cursors d less).0 k j (item_within cursors d less).1 g)
 
@@ -64,7 +64,7 @@ lowest_turn paths n d k p t r f there at is = go (none_of d (is_named_below t) p
         ne_eqb t k.turn (λ e. let a = u.1 in let b = in_u.0 in absurd (omega arith))
 
 -- the cursor that a driver has
-pub cursor_of : (paths : List Path) (drivers : List DriverState) (cursors : List Cursor) (d : ℕ) (k : Cursor) → AllFollow paths drivers cursors → d < length drivers → k ≡ get_or cursors d k → (x : DriverState) × (slice_get drivers d ≡ Some x) × Follows paths (is_naming x) d k
+pub cursor_of : (paths : List Path) (drivers : List DriverState) (cursors : List Cursor) (d : ℕ) (k : Cursor) → AllFollow paths drivers cursors → d < length drivers → k ≡ get_or cursors d k → (x : DriverState) × (slice_get drivers d ≡ Some x) × Follows paths (is_noting_list x) d k
 cursor_of paths drivers cursors d k all less is =
     let x = item_within drivers d less in
     (x.0, x.1, all.follow d x.0 k x.1 (slice_get_read cursors (length drivers) d k (sym all.same_length) less is))

@@ -14,7 +14,7 @@ use Rattle.checkout_core.specs.declared.driver.Session.{Session}
 use Rattle.checkout_core.specs.declared.driver.DriverState.{DriverState}
 use Rattle.checkout_core.specs.declared.driver.DriverState.TheVariants as driver
 use Rattle.checkout_core.specs.declared.effect.Effect.{Effect}
-use Rattle.checkout_core.specs.declared.effect.Effect.TheVariants.{Moves, Turns}
+use Rattle.checkout_core.specs.declared.effect.Effect.TheVariants.{Moves, Switches}
 use Rattle.checkout_core.specs.declared.effect.Sweep.TheVariants.{Keep}
 use Rattle.checkout_core.specs.States.{Core, is_unasked, is_delayed, is_named_below, none_of}
 use Rattle.checkout_core.specs.Verdicts.{held_close, heard_close, unasked_close}
@@ -50,7 +50,7 @@ off_is (driver.On s) e = absurd (cc (e))
 off_is driver.Aborted e = absurd (cc (e))
 off_is driver.Done e = absurd (cc (e))
 
-pub redo_is : (c : Core) (p : ℕ) (y : Reply) (d : ℕ) (k : Session) (s : PathState) (m : Effect) → redo c p y d k s ≡ Some m → (t : ℕ) × (s ≡ path.Named t) × ((not k.naming && (not (is_delay y) && (is_good_reply y && none_of d (is_named_below t) c.paths))) ≡ true) × (replied p d k y ≡ m)
+pub redo_is : (c : Core) (p : ℕ) (y : Reply) (d : ℕ) (k : Session) (s : PathState) (m : Effect) → redo c p y d k s ≡ Some m → (t : ℕ) × (s ≡ path.Named t) × ((not k.noting_list && (not (is_delay y) && (is_good_reply y && none_of d (is_named_below t) c.paths))) ≡ true) × (replied p d k y ≡ m)
 redo_is c p y d k (path.Named t) m e = let g = given_is _ (replied p d k y) m e in (t, refl, g.0, g.1)
 redo_is c p y d k path.Delayed m e = none_is_some e
 redo_is c p y d k Unasked m e = none_is_some e
@@ -76,8 +76,8 @@ pub closing_is : (q : ℕ) (o : Option Verdict) (m : Effect) → closing q o ≡
 closing_is q (Some v) m e = (v, refl, some_is (Moves q (Closed v)) m e)
 closing_is q None m e = none_is_some e
 
-pub open_is : (e : ℕ) (caps : Caps) (x : DriverState) (o : Option ℕ) (m : Effect) → open_first e caps x o ≡ Some m → (p : ℕ) × (o ≡ Some p) × (x ≡ driver.Off) × (Turns e (driver.On (fresh caps p)) Keep ≡ m)
-open_is e caps x (Some p) m h = let g = given_is (is_off x) (Turns e (driver.On (fresh caps p)) Keep) m h in (p, refl, off_is x g.0, g.1)
+pub open_is : (e : ℕ) (caps : Caps) (x : DriverState) (o : Option ℕ) (m : Effect) → open_first e caps x o ≡ Some m → (p : ℕ) × (o ≡ Some p) × (x ≡ driver.Off) × (Switches e (driver.On (fresh caps p)) Keep ≡ m)
+open_is e caps x (Some p) m h = let g = given_is (is_off x) (Switches e (driver.On (fresh caps p)) Keep) m h in (p, refl, off_is x g.0, g.1)
 open_is e caps x None m h = none_is_some h
 
 desk_moves : (c : Core) (q a : ℕ) (o : Own) (r : Path) (f : Bool → DriverState → Option Verdict) (m : Effect) → desk_close c q a o r f ≡ Some m → (v : Verdict) × (Moves q (Closed v) ≡ m)

@@ -12,7 +12,7 @@ use Rattle.checkout_core.specs.declared.driver.DriverState.{DriverState}
 use Rattle.checkout_core.specs.declared.driver.DriverState.TheVariants as driver
 use Rattle.checkout_core.specs.declared.cursor.Cursor.{Cursor}
 use Rattle.checkout_core.specs.States.{start, offs, path_of, is_named, unclosed_count}
-use Rattle.checkout_core.specs.Cursors.{is_named_at, is_naming, is_pending, Follows, IsSound, new_cursor}
+use Rattle.checkout_core.specs.Cursors.{is_named_at, is_noting_list, is_pending, Follows, IsSound, new_cursor}
 use Rattle.checkout_core.proofs.Basics.{none_is_some, some_is}
 use Rattle.checkout_core.proofs.Counts.{num, count_none}
 
@@ -62,7 +62,7 @@ start_sound workers drivers unclosed starts paths states cursors few_w few_d few
     follow = λ d x k i j.
         let off : driver.Off ≡ x = get_same drivers d driver.Off x (ap (λ (zs : List DriverState). slice_get zs d) (sym xs) ∙ i) in
         let new : new_cursor ≡ k = get_same drivers d new_cursor k (ap (λ (zs : List Cursor). slice_get zs d) (sym ks) ∙ j) in
-        subst (λ (z : Cursor). Follows paths (is_naming x) d z) new (subst (λ (z : DriverState). Follows paths (is_naming z) d new_cursor) off (subst (λ (z : List Path). Follows z false d new_cursor) (sym ps) (follows_start starts d)));
+        subst (λ (z : Cursor). Follows paths (is_noting_list x) d z) new (subst (λ (z : DriverState). Follows paths (is_noting_list z) d new_cursor) off (subst (λ (z : List Path). Follows z false d new_cursor) (sym ps) (follows_start starts d)));
   };
   unclosed_is = sym un;
 }

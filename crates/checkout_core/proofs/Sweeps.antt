@@ -14,10 +14,10 @@ use Rattle.checkout_core.specs.declared.path.Start.TheVariants.{Pool, Desk, Done
 use Rattle.checkout_core.specs.declared.driver.DriverState.{DriverState}
 use Rattle.checkout_core.specs.declared.cursor.Cursor.{Cursor}
 use Rattle.checkout_core.specs.declared.effect.Sweep.{Sweep}
-use Rattle.checkout_core.specs.declared.effect.Sweep.TheVariants.{Keep, Lose, Want}
+use Rattle.checkout_core.specs.declared.effect.Sweep.TheVariants.{Keep, Lose, OutOfMemory}
 use Rattle.checkout_core.specs.States.{Core, is_at, is_unasked, is_named, is_closed, path_count, unclosed_count, with_state}
 use Rattle.checkout_core.specs.Effects.{each, swept, swept_path}
-use Rattle.checkout_core.specs.Cursors.{is_named_at, is_naming, is_pending, IsWithin, Follows, IsSound, IsCursor, swept_paths, all_swept}
+use Rattle.checkout_core.specs.Cursors.{is_named_at, is_noting_list, is_pending, IsWithin, Follows, IsSound, IsCursor, swept_paths, all_swept}
 use Rattle.checkout_core.proofs.Basics.{none_is_some, some_is, same_or, get_each, item_within}
 use Rattle.checkout_core.proofs.Bridge.{each_alike, each_step, each_nothing, each_map, kept_paths}
 use Rattle.checkout_core.proofs.Counts.{num, set_cases, count_none}
@@ -86,21 +86,21 @@ swept_pending Lose (path.Heard h) n = refl
 swept_pending Lose (Waiting raw) n = refl
 swept_pending Lose (Held a raw) n = refl
 swept_pending Lose (Closed v) n = refl
-swept_pending Want path.Delayed n = refl
-swept_pending Want (path.Named t) n = refl
-swept_pending Want Unasked n = refl
-swept_pending Want (path.Heard h) n = refl
-swept_pending Want (Waiting raw) n = refl
-swept_pending Want (Held a raw) n = refl
-swept_pending Want (Closed v) n = refl
+swept_pending OutOfMemory path.Delayed n = refl
+swept_pending OutOfMemory (path.Named t) n = refl
+swept_pending OutOfMemory Unasked n = refl
+swept_pending OutOfMemory (path.Heard h) n = refl
+swept_pending OutOfMemory (Waiting raw) n = refl
+swept_pending OutOfMemory (Held a raw) n = refl
+swept_pending OutOfMemory (Closed v) n = refl
 
 swept_closed : (w : Sweep) (s : PathState) → is_closed (swept w s) ≡ is_closed s
 swept_closed Keep path.Delayed = refl
 swept_closed Keep (path.Named t) = refl
 swept_closed Lose path.Delayed = refl
 swept_closed Lose (path.Named t) = refl
-swept_closed Want path.Delayed = refl
-swept_closed Want (path.Named t) = refl
+swept_closed OutOfMemory path.Delayed = refl
+swept_closed OutOfMemory (path.Named t) = refl
 swept_closed w Unasked = refl
 swept_closed w (path.Heard h) = refl
 swept_closed w (Waiting raw) = refl
@@ -112,8 +112,8 @@ swept_unasked Keep path.Delayed = refl
 swept_unasked Keep (path.Named t) = refl
 swept_unasked Lose path.Delayed = refl
 swept_unasked Lose (path.Named t) = refl
-swept_unasked Want path.Delayed = refl
-swept_unasked Want (path.Named t) = refl
+swept_unasked OutOfMemory path.Delayed = refl
+swept_unasked OutOfMemory (path.Named t) = refl
 swept_unasked w Unasked = refl
 swept_unasked w (path.Heard h) = refl
 swept_unasked w (Waiting raw) = refl
@@ -227,9 +227,9 @@ sweep_sound workers rs drivers cursors unclosed d w k ends sound cur = record {
     follow = λ e y j i g. ⊎_elim
         (λ (h : (e ≡ d) × (new ≡ j)).
         let seat : cur.0 ≡ y = some_is cur.0 y (sym cur.1 ∙ (ap (λ z. slice_get drivers z) (sym h.0) ∙ i)) in
-        subst (λ (z : ℕ). Follows (swept_paths d w rs) (is_naming y) z j) (sym h.0)
-        (subst (λ (z : Cursor). Follows (swept_paths d w rs) (is_naming y) d z) h.1 (follows_swept rs (is_naming y) d w k ends (subst (λ (z : DriverState). Follows rs (is_naming z) d k) seat cur.2))))
-        (λ (h : (e ≡ d → ⊥) × (slice_get cursors e ≡ Some j)). follows_away rs (is_naming y) e d w j h.0 (sound.cursors_follow.follow e y j i h.1))
+        subst (λ (z : ℕ). Follows (swept_paths d w rs) (is_noting_list y) z j) (sym h.0)
+        (subst (λ (z : Cursor). Follows (swept_paths d w rs) (is_noting_list y) d z) h.1 (follows_swept rs (is_noting_list y) d w k ends (subst (λ (z : DriverState). Follows rs (is_noting_list z) d k) seat cur.2))))
+        (λ (h : (e ≡ d → ⊥) × (slice_get cursors e ≡ Some j)). follows_away rs (is_noting_list y) e d w j h.0 (sound.cursors_follow.follow e y j i h.1))
         (set_cases cursors d e old.0 new j old.1 g);
   };
   unclosed_is = closed_swept d w rs ∙ sound.unclosed_is;

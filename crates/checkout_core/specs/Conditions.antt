@@ -25,9 +25,9 @@ use Rattle.checkout_core.specs.declared.driver.Session.{Session}
 use Rattle.checkout_core.specs.declared.driver.DriverState.{DriverState}
 use Rattle.checkout_core.specs.declared.driver.DriverState.TheVariants as driver
 use Rattle.checkout_core.specs.declared.effect.Sweep.{Sweep}
-use Rattle.checkout_core.specs.declared.effect.Sweep.TheVariants.{Keep, Lose, Want}
+use Rattle.checkout_core.specs.declared.effect.Sweep.TheVariants.{Keep, Lose, OutOfMemory}
 use Rattle.checkout_core.specs.declared.effect.Effect.{Effect}
-use Rattle.checkout_core.specs.declared.effect.Effect.TheVariants.{Moves, Turns, Both}
+use Rattle.checkout_core.specs.declared.effect.Effect.TheVariants.{Moves, Switches, Both}
 use Rattle.checkout_core.specs.declared.event.Event.{Event}
 use Rattle.checkout_core.specs.declared.event.Event.TheVariants.{Claim, Close, Opened, OpenFailed, Answered, Named, Listed, Redone, HandBack, Shut}
 use Rattle.checkout_core.specs.States.{Core, is_unasked, is_delayed, is_named, is_named_below, none_of, none_below, named_count, lowest_unasked}
@@ -95,11 +95,11 @@ claim_at c p a r = cond (nat_lt a (c.workers + length c.drivers)) (claim p a r.s
 
 -- Opened: a driver that is off and has an unasked path, of which the lowest is its first
 abbrev pub fresh : Caps → ℕ → Session
-fresh caps p = record { caps = caps; first = p; had = false; naming = false }
+fresh caps p = record { caps = caps; first = p; any_delayed = false; noting_list = false }
 
 abbrev pub open_first : ℕ → Caps → DriverState → Option ℕ → Option Effect
 open_first d caps x None = None
-open_first d caps x (Some p) = given (is_off x) (Turns d (driver.On (fresh caps p)) Keep)
+open_first d caps x (Some p) = given (is_off x) (Switches d (driver.On (fresh caps p)) Keep)
 
 abbrev pub open_at : Core → ℕ → Caps → DriverState → Option Effect
 open_at c d caps x = open_first d caps x (lowest_unasked d c.paths)
@@ -108,20 +108,20 @@ open_at c d caps x = open_first d caps x (lowest_unasked d c.paths)
 abbrev pub heard_opening : OpenCause → Heard
 heard_opening opening.NotStarted = heard.Refused cause.NotStarted
 heard_opening (opening.Broken b) = heard.Refused (cause.Broken b)
-heard_opening opening.NoMemory = heard.Wanted
+heard_opening opening.NoMemory = heard.OutOfMemory
 
 abbrev pub fail_at : Core → ℕ → OpenCause → Path → ℕ → Bool → DriverState → Option Effect
 fail_at c p o r d required x = given (is_off x && (is_unasked r.state && (none_below c d p && is_good_opening o))) (Moves p (path.Heard (heard_opening o)))
 
 -- Answered: the lowest unasked path, by a driver that is on with smudge
 abbrev pub delayed : Session → Session
-delayed s = record { caps = s.caps; first = s.first; had = true; naming = s.naming }
+delayed s = record { caps = s.caps; first = s.first; any_delayed = true; noting_list = s.noting_list }
 
 abbrev pub named : Session → Session
-named s = record { caps = s.caps; first = s.first; had = s.had; naming = true }
+named s = record { caps = s.caps; first = s.first; any_delayed = s.any_delayed; noting_list = true }
 
 abbrev pub listed : Session → Session
-listed s = record { caps = s.caps; first = s.first; had = s.had; naming = false }
+listed s = record { caps = s.caps; first = s.first; any_delayed = s.any_delayed; noting_list = false }
 
 abbrev pub replied_state : Reply → PathState
 replied_state reply.Content = path.Heard heard.Got
@@ -130,7 +130,7 @@ replied_state reply.ErrorAfter = path.Heard (heard.Refused cause.ErrorAfter)
 replied_state reply.Delayed = path.Delayed
 replied_state reply.Abort = path.Heard (heard.Refused cause.Abort)
 replied_state (reply.Broken b) = path.Heard (heard.Refused (cause.Broken b))
-replied_state reply.NoMemory = path.Heard heard.Wanted
+replied_state reply.NoMemory = path.Heard heard.OutOfMemory
 
 abbrev pub replied_desk : Session → Reply → DriverState
 replied_desk s reply.Delayed = driver.On (delayed s)
@@ -142,7 +142,7 @@ replied_desk s _ = driver.On s
 abbrev pub replied_sweep : Reply → Sweep
 replied_sweep reply.Abort = Lose
 replied_sweep (reply.Broken b) = Lose
-replied_sweep reply.NoMemory = Want
+replied_sweep reply.NoMemory = OutOfMemory
 replied_sweep _ = Keep
 
 abbrev pub replied : ℕ → ℕ → Session → Reply → Effect
@@ -156,7 +156,7 @@ answer_at c p y r d required x = at_session x (λ s. answer_in c p y r.state d s
 
 -- Named: a delayed path, where none is unasked, in the list that is being noted or in a new one
 abbrev pub name_in : Core → ℕ → PathState → ℕ → Session → Option Effect
-name_in c p t d s = given (s.had && (none_of d is_unasked c.paths && (is_delayed t && (s.naming || none_of d is_named c.paths)))) (Both p (path.Named (named_count d c.paths)) d (driver.On (named s)) Keep)
+name_in c p t d s = given (s.any_delayed && (none_of d is_unasked c.paths && (is_delayed t && (s.noting_list || none_of d is_named c.paths)))) (Both p (path.Named (named_count d c.paths)) d (driver.On (named s)) Keep)
 
 abbrev pub name_at : Core → ℕ → Path → ℕ → Bool → DriverState → Option Effect
 name_at c p r d required x = at_session x (λ s. name_in c p r.state d s)
@@ -171,22 +171,22 @@ list_desk s list.NoMemory = driver.Off
 
 abbrev pub list_sweep : ListReply → Sweep
 list_sweep (list.Names n) = Keep
-list_sweep list.NoMemory = Want
+list_sweep list.NoMemory = OutOfMemory
 list_sweep _ = Lose
 
 abbrev pub list_allowed : Core → ℕ → Session → ListReply → Bool
-list_allowed c d s (list.Names n) = s.naming && n == named_count d c.paths
-list_allowed c d s _ = s.had && (not s.naming && (none_of d is_unasked c.paths && none_of d is_named c.paths))
+list_allowed c d s (list.Names n) = s.noting_list && n == named_count d c.paths
+list_allowed c d s _ = s.any_delayed && (not s.noting_list && (none_of d is_unasked c.paths && none_of d is_named c.paths))
 
 abbrev pub list_step : Core → ℕ → Session → ListReply → Option Effect
-list_step c d s y = given (list_allowed c d s y) (Turns d (list_desk s y) (list_sweep y))
+list_step c d s y = given (list_allowed c d s y) (Switches d (list_desk s y) (list_sweep y))
 
 abbrev pub list_at : Core → ℕ → ListReply → DriverState → Option Effect
 list_at c d y x = at_session x (λ s. list_step c d s y)
 
 -- Redone: the named path of the lowest turn
 abbrev pub redo : Core → ℕ → Reply → ℕ → Session → PathState → Option Effect
-redo c p r d s (path.Named t) = given (not s.naming && (not (is_delay r) && (is_good_reply r && none_of d (is_named_below t) c.paths))) (replied p d s r)
+redo c p r d s (path.Named t) = given (not s.noting_list && (not (is_delay r) && (is_good_reply r && none_of d (is_named_below t) c.paths))) (replied p d s r)
 redo c p r d s _ = None
 
 abbrev pub redo_at : Core → ℕ → Reply → Path → ℕ → Bool → DriverState → Option Effect
@@ -202,12 +202,12 @@ hand_back_at p r d required x = cond required None (hand_back p (refused_cause x
 
 -- Shut: a session in which nothing was delayed, and which has no path left to ask for
 abbrev pub shut_in : Core → ℕ → Session → Option Effect
-shut_in c d s = given (not s.had && none_of d is_unasked c.paths) (Turns d driver.Done Keep)
+shut_in c d s = given (not s.any_delayed && none_of d is_unasked c.paths) (Switches d driver.Done Keep)
 
 abbrev pub shut_at : Core → ℕ → DriverState → Option Effect
 shut_at c d x = at_session x (λ s. shut_in c d s)
 
--- Close: a card in hand, or the desk's own
+-- Close: a path in hand, or the desk's own
 abbrev pub closing : ℕ → Option Verdict → Option Effect
 closing p None = None
 closing p (Some v) = Some (Moves p (Closed v))

@@ -8,7 +8,7 @@ use Rattle.checkout_core.specs.declared.driver.DriverState.{DriverState}
 use Rattle.checkout_core.specs.declared.driver.DriverState.TheVariants as driver
 use Rattle.checkout_core.specs.declared.cursor.Cursor.{Cursor}
 use Rattle.checkout_core.specs.declared.effect.Effect.{Effect}
-use Rattle.checkout_core.specs.declared.effect.Effect.TheVariants.{Moves, Turns, Both}
+use Rattle.checkout_core.specs.declared.effect.Effect.TheVariants.{Moves, Switches, Both}
 use Rattle.checkout_core.specs.declared.effect.Sweep.{Sweep}
 use Rattle.checkout_core.specs.States.{Core, is_at, is_unasked, is_named_below, is_closed, none_of, path_count, named_count, unclosed_count}
 use Rattle.checkout_core.specs.Effects.{swept, swept_path}
@@ -22,9 +22,9 @@ abbrev pub is_named_at : ℕ → PathState → Bool
 is_named_at t (path.Named u) = t == u
 is_named_at t s = false
 
-abbrev pub is_naming : DriverState → Bool
-is_naming (driver.On s) = s.naming
-is_naming x = false
+abbrev pub is_noting_list : DriverState → Bool
+is_noting_list (driver.On s) = s.noting_list
+is_noting_list x = false
 
 -- the driver d is to be asked for the path
 abbrev pub asks : ℕ → Path → Bool
@@ -42,7 +42,7 @@ abbrev pub IsWithin : List Path → ℕ → ℕ → ℕ → Type 0
 IsWithin paths d first end = (p : ℕ) (r : Path) → slice_get paths p ≡ Some r → is_at d r.start ≡ true → is_pending r.state ≡ true → (first ≤ p) × (p < end)
 
 -- the cursor of the driver d follows its paths
-pub record Follows (paths : List Path) (naming : Bool) (d : ℕ) (k : Cursor) : Type 0 where
+pub record Follows (paths : List Path) (noting_list : Bool) (d : ℕ) (k : Cursor) : Type 0 where
   -- no path below this one is unasked
   pub unasked : (p : ℕ) (r : Path) → slice_get paths p ≡ Some r → is_at d r.start ≡ true → is_unasked r.state ≡ true → k.unasked ≤ p
   pub unasked_fits : k.unasked ≤ length paths
@@ -53,15 +53,15 @@ pub record Follows (paths : List Path) (naming : Bool) (d : ℕ) (k : Cursor) : 
   pub turns : (t : ℕ) → path_count d (is_named_at t) paths ≡ cond (nat_le k.turn t && nat_lt t (k.turn + k.named)) 1 0
   pub turn_fits : k.turn + k.named ≤ length paths
   -- turns begin with 0 in each list
-  pub begins : naming ≡ true → k.turn ≡ 0
+  pub begins : noting_list ≡ true → k.turn ≡ 0
 
 abbrev pub IsCursor : Core → ℕ → Cursor → Type 0
-IsCursor c d k = (x : DriverState) × (slice_get c.drivers d ≡ Some x) × Follows c.paths (is_naming x) d k
+IsCursor c d k = (x : DriverState) × (slice_get c.drivers d ≡ Some x) × Follows c.paths (is_noting_list x) d k
 
 -- the cursors of all drivers do
 pub record AllFollow (paths : List Path) (drivers : List DriverState) (cursors : List Cursor) : Type 0 where
   pub same_length : length cursors ≡ length drivers
-  pub follow : (d : ℕ) (x : DriverState) (k : Cursor) → slice_get drivers d ≡ Some x → slice_get cursors d ≡ Some k → Follows paths (is_naming x) d k
+  pub follow : (d : ℕ) (x : DriverState) (k : Cursor) → slice_get drivers d ≡ Some x → slice_get cursors d ≡ Some k → Follows paths (is_noting_list x) d k
 
 pub record IsSound (workers : ℕ) (paths : List Path) (drivers : List DriverState) (cursors : List Cursor) (unclosed : ℕ) : Type 0 where
   pub few_workers : workers ≤ 16
@@ -85,8 +85,8 @@ advances n old new is_next _ _ = false
 -- an effect that the cursors can follow
 abbrev pub IsFollowable : Core → Effect → Type 0
 IsFollowable c (Moves p s) = (r : Path) × (slice_get c.paths p ≡ Some r) × (settles r.state s ≡ true)
-IsFollowable c (Turns d t w) = (x : DriverState) × (slice_get c.drivers d ≡ Some x) × (is_naming t ≡ false)
-IsFollowable c (Both p s d t w) = (r : Path) × (x : DriverState) × (slice_get c.paths p ≡ Some r) × (is_at d r.start ≡ true) × (slice_get c.drivers d ≡ Some x) × (swept w s ≡ s) × (advances (named_count d c.paths) (is_naming x) (is_naming t) (λ u. none_of d (is_named_below u) c.paths) r.state s ≡ true)
+IsFollowable c (Switches d t w) = (x : DriverState) × (slice_get c.drivers d ≡ Some x) × (is_noting_list t ≡ false)
+IsFollowable c (Both p s d t w) = (r : Path) × (x : DriverState) × (slice_get c.paths p ≡ Some r) × (is_at d r.start ≡ true) × (slice_get c.drivers d ≡ Some x) × (swept w s ≡ s) × (advances (named_count d c.paths) (is_noting_list x) (is_noting_list t) (λ u. none_of d (is_named_below u) c.paths) r.state s ≡ true)
 
 -- the cursor after one of the driver's paths advanced
 abbrev pub delayed_after : Cursor → ℕ → Cursor

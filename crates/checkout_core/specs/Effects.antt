@@ -7,16 +7,16 @@ use Rattle.checkout_core.specs.declared.path.PathState.TheVariants.{Waiting, Hel
 use Rattle.checkout_core.specs.declared.path.Path.{Path}
 use Rattle.checkout_core.specs.declared.driver.DriverState.{DriverState}
 use Rattle.checkout_core.specs.declared.effect.Sweep.{Sweep}
-use Rattle.checkout_core.specs.declared.effect.Sweep.TheVariants.{Keep, Lose, Want}
+use Rattle.checkout_core.specs.declared.effect.Sweep.TheVariants.{Keep, Lose, OutOfMemory}
 use Rattle.checkout_core.specs.declared.effect.Effect.{Effect}
-use Rattle.checkout_core.specs.declared.effect.Effect.TheVariants.{Moves, Turns, Both}
+use Rattle.checkout_core.specs.declared.effect.Effect.TheVariants.{Moves, Switches, Both}
 use Rattle.checkout_core.specs.States.{Core, is_at, with_state}
 
 -- what a path that was delayed or named becomes where its session ends so
 abbrev pub ended : Sweep → PathState → PathState
 ended Keep s = s
 ended Lose s = path.Heard heard.Lost
-ended Want s = path.Heard heard.Wanted
+ended OutOfMemory s = path.Heard heard.OutOfMemory
 
 abbrev pub swept : Sweep → PathState → PathState
 swept w path.Delayed = ended w path.Delayed
@@ -30,13 +30,13 @@ swept_path d w r = with_state r (cond (is_at d r.start) (swept w r.state) r.stat
 -- one path after the effect
 abbrev pub path_after : Effect → ℕ → Path → Path
 path_after (Moves p s) q r = with_state r (cond (q == p) s r.state)
-path_after (Turns d s w) q r = swept_path d w r
+path_after (Switches d s w) q r = swept_path d w r
 path_after (Both p s d t w) q r = cond (q == p) (with_state r s) (swept_path d w r)
 
 -- one driver after the effect
 abbrev pub driver_after : Effect → ℕ → DriverState → DriverState
 driver_after (Moves p s) e x = x
-driver_after (Turns d s w) e x = cond (e == d) s x
+driver_after (Switches d s w) e x = cond (e == d) s x
 driver_after (Both p s d t w) e x = cond (e == d) t x
 
 -- each item, by its place

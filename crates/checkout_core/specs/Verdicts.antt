@@ -40,7 +40,7 @@ abbrev pub heard_verdict : Bool → Heard → Bool → Verdict
 heard_verdict required heard.Got u = verdict.Written u
 heard_verdict required (heard.Refused c) u = refused_verdict required c u
 heard_verdict required heard.Lost u = verdict.Failed fail.Missing
-heard_verdict required heard.Wanted u = verdict.NoMemory
+heard_verdict required heard.OutOfMemory u = verdict.NoMemory
 
 -- in hand: the object may fail to be read only if it wasn't read before
 abbrev pub held_close : Option FilterCause → Own → Option Verdict
@@ -52,7 +52,7 @@ held_close None own.ReadFailed = Some (verdict.Failed fail.ReadFailed)
 held_close (Some c) _ = None
 
 abbrev pub write_failed : Heard → Verdict
-write_failed heard.Wanted = verdict.NoMemory
+write_failed heard.OutOfMemory = verdict.NoMemory
 write_failed _ = verdict.Failed fail.WriteFailed
 
 -- told of

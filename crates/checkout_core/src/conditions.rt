@@ -1,11 +1,11 @@
 ghost use Rattle.std.specs.Prelude.{◌≡◌, ◌&&◌, ◌<◌, length, MatchOption, not};
 ghost use Rattle.checkout_core.specs.Verdicts.{unasked_cause, refused_cause, held_close, heard_close, unasked_close, refused_verdict, heard_verdict, is_first, lacks_smudge, unasked_fine};
 ghost use Rattle.checkout_core.specs.Conditions.{is_path_break, effect_of, at_path, at_driver, at_both, claim_at, open_at, fail_at, answer_at, name_at, list_at, redo_at, hand_back_at, shut_at, is_good_opening, is_good_reply, heard_opening, replied, replied_state, replied_desk, replied_sweep, list_desk, list_sweep, list_allowed, is_delay};
-ghost use Rattle.checkout_core.specs.Cards.{IsCard, LacksCard, IsDesk, LacksDesk};
+ghost use Rattle.checkout_core.specs.DriverPaths.{IsDriverPath, LacksDriverPath, IsDesk, LacksDesk};
 ghost use Rattle.checkout_core.specs.declared.event.Event.TheVariants.{Close};
 
-use crate::card::Card;
 use crate::driver::{DriverState, Session};
+use crate::driver_path::DriverPath;
 use crate::effect::{Effect, Sweep};
 use crate::event::{Event, OpenCause};
 use crate::path::{Heard, PathState, Start};
@@ -44,7 +44,7 @@ fn heard_opening(cause: OpenCause) -> Heard
     match cause {
         OpenCause::NotStarted => Heard::Refused(FilterCause::NotStarted),
         OpenCause::Broken(broken) => Heard::Refused(FilterCause::Broken(broken)),
-        OpenCause::NoMemory => Heard::Wanted,
+        OpenCause::NoMemory => Heard::OutOfMemory,
     }
 }
 
@@ -58,7 +58,7 @@ fn replied_state(reply: Reply) -> PathState
         Reply::Delayed => PathState::Delayed,
         Reply::Abort => PathState::Heard(Heard::Refused(FilterCause::Abort)),
         Reply::Broken(broken) => PathState::Heard(Heard::Refused(FilterCause::Broken(broken))),
-        Reply::NoMemory => PathState::Heard(Heard::Wanted),
+        Reply::NoMemory => PathState::Heard(Heard::OutOfMemory),
     }
 }
 
@@ -67,7 +67,7 @@ fn replied_desk(session: Session, reply: Reply) -> DriverState
 {
     match reply {
         Reply::Delayed => DriverState::On(Session {
-            had: true,
+            any_delayed: true,
             ..session
         }),
         Reply::Abort => DriverState::Aborted,
@@ -81,7 +81,7 @@ fn replied_sweep(reply: Reply) -> Sweep
 {
     match reply {
         Reply::Abort | Reply::Broken(_) => Sweep::Lose,
-        Reply::NoMemory => Sweep::Want,
+        Reply::NoMemory => Sweep::OutOfMemory,
         _ => Sweep::Keep,
     }
 }
@@ -103,7 +103,7 @@ fn list_desk(session: Session, reply: ListReply) -> DriverState
 {
     match reply {
         ListReply::Names(_) => DriverState::On(Session {
-            naming: false,
+            noting_list: false,
             ..session
         }),
         ListReply::Empty => DriverState::Done,
@@ -117,7 +117,7 @@ fn list_sweep(reply: ListReply) -> Sweep
 {
     match reply {
         ListReply::Names(_) => Sweep::Keep,
-        ListReply::NoMemory => Sweep::Want,
+        ListReply::NoMemory => Sweep::OutOfMemory,
         _ => Sweep::Lose,
     }
 }
@@ -162,7 +162,7 @@ fn heard_verdict(required: bool, heard: Heard, unencoded: bool) -> Verdict
         Heard::Got => Verdict::Written { unencoded },
         Heard::Refused(cause) => refused_verdict(required, cause, unencoded),
         Heard::Lost => Verdict::Failed(FailCause::Missing),
-        Heard::Wanted => Verdict::NoMemory,
+        Heard::OutOfMemory => Verdict::NoMemory,
     }
 }
 
@@ -187,7 +187,7 @@ fn heard_close(required: bool, heard: Heard, own: Own) -> Option<Verdict>
 {
     match own {
         Own::Fine { unencoded } => Some(heard_verdict(required, heard, unencoded)),
-        Own::WriteFailed if matches!(heard, Heard::Wanted) => Some(Verdict::NoMemory),
+        Own::WriteFailed if matches!(heard, Heard::OutOfMemory) => Some(Verdict::NoMemory),
         Own::WriteFailed => Some(Verdict::Failed(FailCause::WriteFailed)),
         Own::NoMemory => Some(Verdict::NoMemory),
         Own::Object(_) | Own::ReadFailed => None,
@@ -249,15 +249,15 @@ fn may_answer(session: Session, reply: Reply) -> bool
 }
 
 impl State {
-    fn card(&self, path: u32) -> Option<Card>
-        ensures { MatchOption result (LacksCard self.now path) (IsCard self.now path) }
+    fn driver_path(&self, path: u32) -> Option<DriverPath>
+        ensures { MatchOption result (LacksDriverPath self.now path) (IsDriverPath self.now path) }
     {
         let was = self.path_at(path)?;
         let Start::Desk { driver, required } = was.start else {
             return None;
         };
         let state = self.driver_at(driver)?;
-        Some(Card {
+        Some(DriverPath {
             path: was,
             driver,
             required,
@@ -290,13 +290,13 @@ impl State {
         if !matches!(state, DriverState::Off) {
             return None;
         }
-        Some(Effect::Turns {
+        Some(Effect::Switches {
             driver,
             state: DriverState::On(Session {
                 caps,
                 first,
-                had: false,
-                naming: false,
+                any_delayed: false,
+                noting_list: false,
             }),
             sweep: Sweep::Keep,
         })
@@ -306,9 +306,9 @@ impl State {
         ensures same { self.new ≡ self.old }
         ensures effect { result ≡ at_both self.old path (fail_at self.old path cause) }
     {
-        let card = self.card(path)?;
-        let next = self.is_next(path, card.driver, card.path);
-        if !(matches!(card.state, DriverState::Off) && next && is_good_opening(cause)) {
+        let driver_path = self.driver_path(path)?;
+        let next = self.is_next(path, driver_path.driver, driver_path.path);
+        if !(matches!(driver_path.state, DriverState::Off) && next && is_good_opening(cause)) {
             return None;
         }
         Some(Effect::Moves {
@@ -321,38 +321,38 @@ impl State {
         ensures same { self.new ≡ self.old }
         ensures effect { result ≡ at_both self.old path (answer_at self.old path reply) }
     {
-        let card = self.card(path)?;
-        let DriverState::On(session) = card.state else {
+        let driver_path = self.driver_path(path)?;
+        let DriverState::On(session) = driver_path.state else {
             return None;
         };
-        let next = self.is_next(path, card.driver, card.path);
+        let next = self.is_next(path, driver_path.driver, driver_path.path);
         if !(next && may_answer(session, reply)) {
             return None;
         }
-        Some(replied(path, card.driver, session, reply))
+        Some(replied(path, driver_path.driver, session, reply))
     }
 
     fn named(&mut self, path: u32) -> Option<Effect>
         ensures same { self.new ≡ self.old }
         ensures effect { result ≡ at_both self.old path (name_at self.old path) }
     {
-        let card = self.card(path)?;
-        let DriverState::On(session) = card.state else {
+        let driver_path = self.driver_path(path)?;
+        let DriverState::On(session) = driver_path.state else {
             return None;
         };
-        let asked = self.all_asked(card.driver);
-        let unnamed = self.none_named(card.driver);
-        let turn = self.named_count(card.driver);
-        let delayed = matches!(card.path.state, PathState::Delayed);
-        if !(session.had && asked && delayed && (session.naming || unnamed)) {
+        let asked = self.all_asked(driver_path.driver);
+        let unnamed = self.none_named(driver_path.driver);
+        let turn = self.named_count(driver_path.driver);
+        let delayed = matches!(driver_path.path.state, PathState::Delayed);
+        if !(session.any_delayed && asked && delayed && (session.noting_list || unnamed)) {
             return None;
         }
         Some(Effect::Both {
             path,
             state: PathState::Named(turn),
-            driver: card.driver,
+            driver: driver_path.driver,
             next: DriverState::On(Session {
-                naming: true,
+                noting_list: true,
                 ..session
             }),
             sweep: Sweep::Keep,
@@ -370,7 +370,7 @@ impl State {
         if !self.may_list(driver, session, reply) {
             return None;
         }
-        Some(Effect::Turns {
+        Some(Effect::Switches {
             driver,
             state: list_desk(session, reply),
             sweep: list_sweep(reply),
@@ -383,11 +383,11 @@ impl State {
         ensures allowed { result ≡ list_allowed self.old driver session reply }
     {
         match reply {
-            ListReply::Names(count) => session.naming && count == self.named_count(driver),
+            ListReply::Names(count) => session.noting_list && count == self.named_count(driver),
             _ => {
                 let asked = self.all_asked(driver);
                 let unnamed = self.none_named(driver);
-                session.had && !session.naming && asked && unnamed
+                session.any_delayed && !session.noting_list && asked && unnamed
             }
         }
     }
@@ -395,28 +395,28 @@ impl State {
     fn redone(&self, path: u32, reply: Reply) -> Option<Effect>
         ensures { result ≡ at_both self.now path (redo_at self.now path reply) }
     {
-        let card = self.card(path)?;
-        let DriverState::On(session) = card.state else {
+        let driver_path = self.driver_path(path)?;
+        let DriverState::On(session) = driver_path.state else {
             return None;
         };
-        let PathState::Named(turn) = card.path.state else {
+        let PathState::Named(turn) = driver_path.path.state else {
             return None;
         };
         let again = !matches!(reply, Reply::Delayed) && is_good_reply(reply);
-        if session.naming || !again || !self.is_lowest_turn(path, card.driver, turn) {
+        if session.noting_list || !again || !self.is_lowest_turn(path, driver_path.driver, turn) {
             return None;
         }
-        Some(replied(path, card.driver, session, reply))
+        Some(replied(path, driver_path.driver, session, reply))
     }
 
     fn hand_back(&self, path: u32) -> Option<Effect>
         ensures { result ≡ at_both self.now path (hand_back_at path) }
     {
-        let card = self.card(path)?;
-        if card.required {
+        let driver_path = self.driver_path(path)?;
+        if driver_path.required {
             return None;
         }
-        let cause = refused_cause(card.state, card.path.state)?;
+        let cause = refused_cause(driver_path.state, driver_path.path.state)?;
         Some(Effect::Moves {
             path,
             state: PathState::Waiting(Some(cause)),
@@ -432,10 +432,10 @@ impl State {
             return None;
         };
         let asked = self.all_asked(driver);
-        if session.had || !asked {
+        if session.any_delayed || !asked {
             return None;
         }
-        Some(Effect::Turns {
+        Some(Effect::Switches {
             driver,
             state: DriverState::Done,
             sweep: Sweep::Keep,
@@ -450,8 +450,8 @@ impl State {
             PathState::Held(holder, raw) if actor == holder => held_close(raw, own)?,
             PathState::Heard(heard) => heard_close(self.desk(path, actor)?.required, heard, own)?,
             PathState::Unasked => {
-                let card = self.desk(path, actor)?;
-                unasked_close(card.required, card.state, path, own)?
+                let driver_path = self.desk(path, actor)?;
+                unasked_close(driver_path.required, driver_path.state, path, own)?
             }
             _ => return None,
         };
@@ -462,12 +462,12 @@ impl State {
     }
 
     /// The path, where this actor is the desk of its driver.
-    fn desk(&self, path: u32, actor: u32) -> Option<Card>
+    fn desk(&self, path: u32, actor: u32) -> Option<DriverPath>
         ensures { MatchOption result (LacksDesk self.now path actor) (IsDesk self.now path actor) }
     {
-        let card = self.card(path)?;
-        if self.is_desk(actor, card.driver) {
-            Some(card)
+        let driver_path = self.driver_path(path)?;
+        if self.is_desk(actor, driver_path.driver) {
+            Some(driver_path)
         } else {
             None
         }

@@ -7,9 +7,9 @@ pub struct Session {
     /// The path for which it was opened.
     pub first: u32,
     /// A path was delayed in it.
-    pub had: bool,
+    pub any_delayed: bool,
     /// A list is being noted.
-    pub naming: bool,
+    pub noting_list: bool,
 }
 
 /// Where a driver stands.

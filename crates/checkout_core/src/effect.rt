@@ -7,8 +7,8 @@ pub enum Sweep {
     Keep,
     /// Each is heard as lost.
     Lose,
-    /// Each is heard as wanted.
-    Want,
+    /// Each is heard as out of memory.
+    OutOfMemory,
 }
 
 /// What a step changes.
@@ -18,7 +18,7 @@ pub enum Effect {
         path: u32,
         state: PathState,
     },
-    Turns {
+    Switches {
         driver: u32,
         state: DriverState,
         sweep: Sweep,

@@ -10,7 +10,7 @@ pub enum OpenCause {
     NoMemory,
 }
 
-/// One step of a checkout: a turn of one actor. Paths, drivers and actors are numbered from 0.
+/// One step of a checkout: by one actor. Paths, drivers and actors are numbered from 0.
 #[derive(Clone, Copy, Debug, PartialEq, Eq)]
 pub enum Event {
     /// The actor takes a waiting path.

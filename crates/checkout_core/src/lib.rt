@@ -1,10 +1,10 @@
 //! What can befall the paths of a checkout: a state machine over the events of its actors.
 #![tactic(auto)]
 
-mod card;
 mod conditions;
 mod cursor;
 mod driver;
+mod driver_path;
 mod effect;
 mod event;
 mod path;

@@ -18,8 +18,8 @@ pub enum Heard {
     Refused(FilterCause),
     /// It was delayed, and its session ended before its content came.
     Lost,
-    /// Memory was wanting.
-    Wanted,
+    /// There was no memory for it.
+    OutOfMemory,
 }
 
 /// Where a path stands.

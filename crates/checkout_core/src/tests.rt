@@ -1,5 +1,3 @@
-ghost use Rattle.std.specs.Prelude.{◌<◌, ◌^◌, length};
-
 use crate::{
     Event, FailCause, FilterCause, ObjectKind, OpenCause, Own, Refused, SkipCause, Start, State,
     Verdict, replay, step,
@@ -14,19 +12,7 @@ const BOTH: Caps = Caps {
     delay: true,
 };
 
-const NO_DELAY: Caps = Caps {
-    smudge: true,
-    delay: false,
-};
-
-const NO_SMUDGE: Caps = Caps {
-    smudge: false,
-    delay: false,
-};
-
 const FINE: Own = Own::Fine { unencoded: false };
-
-const BAD: Own = Own::Object(ObjectKind::Size);
 
 const WRITTEN: Verdict = Verdict::Written { unencoded: false };
 
@@ -40,10 +26,6 @@ fn close(path: u32, actor: u32, own: Own) -> Event {
 
 fn opened(driver: u32, caps: Caps) -> Event {
     Event::Opened { driver, caps }
-}
-
-fn open_failed(path: u32, cause: OpenCause) -> Event {
-    Event::OpenFailed { path, cause }
 }
 
 fn answered(path: u32, reply: Reply) -> Event {
@@ -66,72 +48,6 @@ fn hand_back(path: u32) -> Event {
     Event::HandBack { path }
 }
 
-fn shut(driver: u32) -> Event {
-    Event::Shut { driver }
-}
-
-/// One worker, actor 0. Path 0 is the pool's. Paths 1 and 2 are of driver 0, which is required
-/// and whose desk is actor 1. Paths 3 and 4 are of driver 1, which isn't, with the desk 2.
-fn fresh(alloc: Global) -> Result<State, AllocError> {
-    let starts = vec![in alloc;
-        Start::Pool,
-        Start::Desk {
-            driver: 0,
-            required: true
-        },
-        Start::Desk {
-            driver: 0,
-            required: true
-        },
-        Start::Desk {
-            driver: 1,
-            required: false
-        },
-        Start::Desk {
-            driver: 1,
-            required: false
-        },
-        Start::Done(Verdict::Skipped(SkipCause::Gitlink)),
-    ]?;
-    State::start(alloc, starts, 1, 2)
-}
-
-/// After these events, all of which are steps, this one is refused and changes nothing.
-fn refuses(
-    rt: &(impl Abort + AllocGlobal),
-    what: &str,
-    history: &[Event],
-    event: Event,
-) -> Result<(), AllocError>
-    requires { length history.now < 2 ^ 32 }
-{
-    let mut state = fresh(rt.alloc())?;
-    let begun = replay(&mut state, history);
-    assert!(rt; begun.is_ok(), "{what}: the history");
-    let open = state.unclosed();
-    let refused = step(&mut state, event);
-    assert!(rt; refused.is_err(), "{what}");
-    assert_eq!(rt; state.unclosed(), open, "{what}");
-    Ok(())
-}
-
-/// These events are steps, and the path's verdict is this one then.
-fn gives(
-    rt: &(impl Abort + AllocGlobal),
-    what: &str,
-    history: &[Event],
-    path: u32,
-    verdict: Verdict,
-) -> Result<(), AllocError>
-    requires { length history.now < 2 ^ 32 }
-{
-    let mut state = fresh(rt.alloc())?;
-    let begun = replay(&mut state, history);
-    assert!(rt; begun.is_ok(), "{what}: the history");
-    assert_eq!(rt; state.verdict(path), Some(verdict), "{what}");
-    Ok(())
-}
-
 #[test]
 fn one_run_with_a_delayed_path(rt: HostRuntime) -> Result<(), Fail> {
     let starts = vec![in rt.alloc();
@@ -148,7 +64,7 @@ fn one_run_with_a_delayed_path(rt: HostRuntime) -> Result<(), Fail> {
     assert_eq!(rt;
         step(&mut state, listed(0, ListReply::Empty)),
         Err(Refused),
-        "while naming"
+        "while a list is noted"
     );
     assert_eq!(rt; step(&mut state, listed(0, ListReply::Names(1))), Ok(()));
     assert_eq!(rt;
@@ -179,394 +95,297 @@ fn one_run_with_a_delayed_path(rt: HostRuntime) -> Result<(), Fail> {
     Ok(())
 }
 
-#[test]
-fn claims_are_refused(rt: HostRuntime) -> Result<(), Fail> {
-    refuses(&rt, "not waiting", &[], claim(1, 0))?;
-    refuses(&rt, "held already", &[claim(0, 0)], claim(0, 1))?;
-    refuses(&rt, "no such actor", &[], claim(0, 3))?;
-    refuses(&rt, "no such path", &[], claim(6, 0))?;
-    refuses(&rt, "closed", &[], claim(5, 0))?;
-    Ok(())
+// Cases in the state of `fresh`, one behind the other. A word is an event of four letters, of which `.` says nothing: its
+// kind, its path or driver, and what `event_of` reads of the rest. A word with `=` is a path and its verdict. Behind a word
+// stands a space, `!` where it is refused, or `;`: with these two a case ends.
+
+/// Claims: not waiting; held already; no such actor; no such path; closed.
+const CLAIMS: &[u8] = b"C10.!\
+    C00. C01.!\
+    C03.!\
+    C60.!\
+    C50.!";
+
+/// Openings: no such driver; on already; none unasked; after abort; a failure, on; a failure, no driver; a failure,
+/// not the lowest; a failure, not unasked; a failure by a strange path; a failure by a refused list.
+const OPENINGS: &[u8] = b"O2b.!\
+    O0b. O0b.!\
+    X11o X21r O0b.!\
+    O0b. A1a. O0b.!\
+    O0b. F1s.!\
+    F0s.!\
+    F2s.!\
+    F1n. F1s.!\
+    F1p.!\
+    F1r.!";
+
+/// Answers: off; no smudge; not the lowest; asked already; no delay; a strange path; a refused list.
+const ANSWERS: &[u8] = b"A1c.!\
+    O0n. A1c.!\
+    O0b. A2c.!\
+    O0b. A1e. A1c.!\
+    O0s. A1d.!\
+    O0b. A1p.!\
+    O0b. A1r.!";
+
+/// Lists: named, off; named, one unasked; named, not delayed; named, a list before isn't done; listed, off; listed,
+/// no name noted; listed, another count; empty, while a list is noted; empty, one named; empty, one unasked; empty,
+/// none delayed.
+const LISTS: &[u8] = b"N1..!\
+    O0b. A1d. N1..!\
+    O0b. A1d. A2c. N2..!\
+    O0b. A1d. A2d. N2.. L01. N1..!\
+    L0e.!\
+    O0b. A1d. A2c. L00.!\
+    O0b. A1d. A2d. N2.. L02.!\
+    O0b. A1d. A2d. N2.. L0e.!\
+    O0b. A1d. A2d. N2.. L01. L0e.!\
+    O0b. A1d. L0e.!\
+    O0b. A1c. A2c. L0e.!";
+
+/// Second answers: while a list is noted; out of turn; delayed again; a second answer's strange path; a second
+/// answer's refused list; not named.
+const SECOND_ANSWERS: &[u8] = b"O0b. A1d. A2d. N2.. N1.. R2c.!\
+    O0b. A1d. A2d. N2.. N1.. L02. R1c.!\
+    O0b. A1d. A2d. N2.. N1.. L02. R2d.!\
+    O0b. A1d. A2d. N2.. N1.. L02. R2p.!\
+    O0b. A1d. A2d. N2.. N1.. L02. R2r.!\
+    O0b. A1d. R1c.!";
+
+/// Ends: back, required; back, required and no smudge; back, got; back, out of memory; back, off; back, to be asked;
+/// back, no driver; shut, off; shut, one unasked; shut, delayed.
+const ENDS: &[u8] = b"O0b. A1e. B1..!\
+    O0n. B1..!\
+    O1b. A3c. B3..!\
+    O1b. A3n. B3..!\
+    B3..!\
+    O1b. B3..!\
+    B0..!\
+    S0..!\
+    O0n. S0..!\
+    O0b. A1d. A2c. S0..!";
+
+/// Closes: another's path; not in hand; another desk's; closed already; delayed; off, not read; to be asked; unasked,
+/// another desk's; the first, its object; the first, unread; heard, its object; heard, unread; handed back, its
+/// object; handed back, unread; the first, to be asked.
+const CLOSES: &[u8] = b"C00. X01f!\
+    X00f!\
+    O0b. A1c. X12f!\
+    X50f!\
+    O0b. A1d. X11f!\
+    X11f!\
+    O0b. X21f!\
+    X12o!\
+    O0n. X11o!\
+    O0n. X11r!\
+    O0b. A1c. X11o!\
+    O0b. A1c. X11r!\
+    O1n. B3.. C30. X30o!\
+    O1n. B3.. C30. X30r!\
+    O0b. X11n!";
+
+/// Verdicts in hand: fine; object; no memory; handed back; handed back, not written; done before.
+const IN_HAND: &[u8] = b"C02. X02u =0u.;\
+    C00. X00o =0o.;\
+    C00. X00n =0n.;\
+    O1n. B3.. C30. X30u =3s.;\
+    O1n. B3.. C30. X30w =3x.;\
+    =5g.;";
+
+/// Verdicts of a driver's paths: required; not required; lost; out of memory; unasked, aborted; the first, no memory;
+/// unasked, unread; not opened.
+const OF_A_DRIVER: &[u8] = b"O0b. A1l. X11f =1l.;\
+    O1b. A3e. X32f =3e.;\
+    O0b. A1d. A2a. X11f =1m.;\
+    O0b. A1d. A2n. X11w =1n.;\
+    O1b. A3a. X42f =4a.;\
+    O0n. X11n =1n.;\
+    X11r =1r.;\
+    F1e. X11f =1b.;";
+
+/// One worker, actor 0. Path 0 is the pool's. Paths 1 and 2 are of driver 0, which is required
+/// and whose desk is actor 1. Paths 3 and 4 are of driver 1, which isn't, with the desk 2.
+fn fresh(alloc: Global) -> Result<State, AllocError> {
+    let starts = vec![in alloc;
+        Start::Pool,
+        Start::Desk {
+            driver: 0,
+            required: true
+        },
+        Start::Desk {
+            driver: 0,
+            required: true
+        },
+        Start::Desk {
+            driver: 1,
+            required: false
+        },
+        Start::Desk {
+            driver: 1,
+            required: false
+        },
+        Start::Done(Verdict::Skipped(SkipCause::Gitlink)),
+    ]?;
+    State::start(alloc, starts, 1, 2)
 }
 
-#[test]
-fn openings_are_refused(rt: HostRuntime) -> Result<(), Fail> {
-    let none_left = [close(1, 1, BAD), close(2, 1, Own::ReadFailed)];
-    refuses(&rt, "no such driver", &[], opened(2, BOTH))?;
-    refuses(&rt, "on already", &[opened(0, BOTH)], opened(0, BOTH))?;
-    refuses(&rt, "none unasked", &none_left, opened(0, BOTH))?;
-    refuses(
-        &rt,
-        "after abort",
-        &[opened(0, BOTH), answered(1, Reply::Abort)],
-        opened(0, BOTH),
-    )?;
-    refuses(
-        &rt,
-        "a failure, on",
-        &[opened(0, BOTH)],
-        open_failed(1, OpenCause::NotStarted),
-    )?;
-    refuses(
-        &rt,
-        "a failure, no driver",
-        &[],
-        open_failed(0, OpenCause::NotStarted),
-    )?;
-    refuses(
-        &rt,
-        "a failure, not the lowest",
-        &[],
-        open_failed(2, OpenCause::NotStarted),
-    )?;
-    let failed = [open_failed(1, OpenCause::NoMemory)];
-    refuses(
-        &rt,
-        "a failure, not unasked",
-        &failed,
-        open_failed(1, OpenCause::NotStarted),
-    )?;
-    for cause in [BreakCause::StrangePath, BreakCause::ListRefused] {
-        refuses(
-            &rt,
-            "a failure by a list",
-            &[],
-            open_failed(1, OpenCause::Broken(cause)),
-        )?;
+/// The letter at this place of a word.
+fn letter(word: &[u8], place: usize) -> u8 {
+    word.get(place).copied().unwrap_or(b'.')
+}
+
+fn digit(letter: u8) -> u32 {
+    u32::from(letter.wrapping_sub(b'0'))
+}
+
+fn caps_of(letter: u8) -> Option<Caps> {
+    match letter {
+        b'b' => Some(BOTH),
+        b's' => Some(Caps {
+            smudge: true,
+            delay: false,
+        }),
+        b'n' => Some(Caps {
+            smudge: false,
+            delay: false,
+        }),
+        _ => None,
     }
-    Ok(())
 }
 
-#[test]
-fn answers_are_refused(rt: HostRuntime) -> Result<(), Fail> {
-    let on = [opened(0, BOTH)];
-    refuses(&rt, "off", &[], answered(1, Reply::Content))?;
-    refuses(
-        &rt,
-        "no smudge",
-        &[opened(0, NO_SMUDGE)],
-        answered(1, Reply::Content),
-    )?;
-    refuses(&rt, "not the lowest", &on, answered(2, Reply::Content))?;
-    refuses(
-        &rt,
-        "asked already",
-        &[opened(0, BOTH), answered(1, Reply::Error)],
-        answered(1, Reply::Content),
-    )?;
-    refuses(
-        &rt,
-        "no delay",
-        &[opened(0, NO_DELAY)],
-        answered(1, Reply::Delayed),
-    )?;
-    for cause in [BreakCause::StrangePath, BreakCause::ListRefused] {
-        refuses(
-            &rt,
-            "a break of a list",
-            &on,
-            answered(1, Reply::Broken(cause)),
-        )?;
+fn cause_of(letter: u8) -> Option<OpenCause> {
+    match letter {
+        b's' => Some(OpenCause::NotStarted),
+        b'n' => Some(OpenCause::NoMemory),
+        b'e' => Some(OpenCause::Broken(BreakCause::Ended)),
+        b'p' => Some(OpenCause::Broken(BreakCause::StrangePath)),
+        b'r' => Some(OpenCause::Broken(BreakCause::ListRefused)),
+        _ => None,
     }
-    Ok(())
 }
 
-#[test]
-fn lists_are_refused(rt: HostRuntime) -> Result<(), Fail> {
-    let delayed = [opened(0, BOTH), answered(1, Reply::Delayed)];
-    let all_asked = [
-        opened(0, BOTH),
-        answered(1, Reply::Delayed),
-        answered(2, Reply::Content),
-    ];
-    let naming = [
-        opened(0, BOTH),
-        answered(1, Reply::Delayed),
-        answered(2, Reply::Delayed),
-        named(2),
-    ];
-    let listing = [
-        opened(0, BOTH),
-        answered(1, Reply::Delayed),
-        answered(2, Reply::Delayed),
-        named(2),
-        listed(0, ListReply::Names(1)),
-    ];
-    refuses(&rt, "named, off", &[], named(1))?;
-    refuses(&rt, "named, one unasked", &delayed, named(1))?;
-    refuses(&rt, "named, not delayed", &all_asked, named(2))?;
-    refuses(&rt, "named, a list before isn't done", &listing, named(1))?;
-    refuses(&rt, "listed, off", &[], listed(0, ListReply::Empty))?;
-    refuses(
-        &rt,
-        "listed, not naming",
-        &all_asked,
-        listed(0, ListReply::Names(0)),
-    )?;
-    refuses(
-        &rt,
-        "listed, another count",
-        &naming,
-        listed(0, ListReply::Names(2)),
-    )?;
-    refuses(&rt, "empty, naming", &naming, listed(0, ListReply::Empty))?;
-    refuses(
-        &rt,
-        "empty, one named",
-        &listing,
-        listed(0, ListReply::Empty),
-    )?;
-    refuses(
-        &rt,
-        "empty, one unasked",
-        &delayed,
-        listed(0, ListReply::Empty),
-    )?;
-    let plain = [
-        opened(0, BOTH),
-        answered(1, Reply::Content),
-        answered(2, Reply::Content),
-    ];
-    refuses(
-        &rt,
-        "empty, none delayed",
-        &plain,
-        listed(0, ListReply::Empty),
-    )?;
-    Ok(())
-}
-
-#[test]
-fn second_answers_are_refused(rt: HostRuntime) -> Result<(), Fail> {
-    let naming = [
-        opened(0, BOTH),
-        answered(1, Reply::Delayed),
-        answered(2, Reply::Delayed),
-        named(2),
-        named(1),
-    ];
-    let listing = [
-        opened(0, BOTH),
-        answered(1, Reply::Delayed),
-        answered(2, Reply::Delayed),
-        named(2),
-        named(1),
-        listed(0, ListReply::Names(2)),
-    ];
-    refuses(&rt, "naming", &naming, redone(2, Reply::Content))?;
-    refuses(&rt, "out of turn", &listing, redone(1, Reply::Content))?;
-    refuses(&rt, "delayed again", &listing, redone(2, Reply::Delayed))?;
-    for cause in [BreakCause::StrangePath, BreakCause::ListRefused] {
-        refuses(
-            &rt,
-            "a break of a list",
-            &listing,
-            redone(2, Reply::Broken(cause)),
-        )?;
+fn reply_of(letter: u8) -> Option<Reply> {
+    match letter {
+        b'c' => Some(Reply::Content),
+        b'e' => Some(Reply::Error),
+        b'l' => Some(Reply::ErrorAfter),
+        b'd' => Some(Reply::Delayed),
+        b'a' => Some(Reply::Abort),
+        b'n' => Some(Reply::NoMemory),
+        b'p' => Some(Reply::Broken(BreakCause::StrangePath)),
+        b'r' => Some(Reply::Broken(BreakCause::ListRefused)),
+        _ => None,
     }
-    refuses(
-        &rt,
-        "not named",
-        &[opened(0, BOTH), answered(1, Reply::Delayed)],
-        redone(1, Reply::Content),
-    )?;
-    Ok(())
 }
 
-#[test]
-fn ends_are_refused(rt: HostRuntime) -> Result<(), Fail> {
-    let refused = [opened(0, BOTH), answered(1, Reply::Error)];
-    refuses(&rt, "back, required", &refused, hand_back(1))?;
-    refuses(
-        &rt,
-        "back, required and no smudge",
-        &[opened(0, NO_SMUDGE)],
-        hand_back(1),
-    )?;
-    refuses(
-        &rt,
-        "back, got",
-        &[opened(1, BOTH), answered(3, Reply::Content)],
-        hand_back(3),
-    )?;
-    refuses(
-        &rt,
-        "back, wanted",
-        &[opened(1, BOTH), answered(3, Reply::NoMemory)],
-        hand_back(3),
-    )?;
-    refuses(&rt, "back, off", &[], hand_back(3))?;
-    refuses(&rt, "back, to be asked", &[opened(1, BOTH)], hand_back(3))?;
-    refuses(&rt, "back, no driver", &[], hand_back(0))?;
-    refuses(&rt, "shut, off", &[], shut(0))?;
-    refuses(&rt, "shut, one unasked", &[opened(0, NO_SMUDGE)], shut(0))?;
-    let delayed = [
-        opened(0, BOTH),
-        answered(1, Reply::Delayed),
-        answered(2, Reply::Content),
-    ];
-    refuses(&rt, "shut, delayed", &delayed, shut(0))?;
-    Ok(())
-}
-
-#[test]
-fn closes_are_refused(rt: HostRuntime) -> Result<(), Fail> {
-    let got = [opened(0, BOTH), answered(1, Reply::Content)];
-    let raw = [opened(1, NO_SMUDGE), hand_back(3), claim(3, 0)];
-    refuses(&rt, "another's card", &[claim(0, 0)], close(0, 1, FINE))?;
-    refuses(&rt, "no card", &[], close(0, 0, FINE))?;
-    refuses(&rt, "another desk's", &got, close(1, 2, FINE))?;
-    refuses(&rt, "closed", &[], close(5, 0, FINE))?;
-    refuses(
-        &rt,
-        "delayed",
-        &[opened(0, BOTH), answered(1, Reply::Delayed)],
-        close(1, 1, FINE),
-    )?;
-    refuses(&rt, "off", &[], close(1, 1, FINE))?;
-    refuses(&rt, "to be asked", &[opened(0, BOTH)], close(2, 1, FINE))?;
-    refuses(&rt, "unasked, another desk's", &[], close(1, 2, BAD))?;
-    for own in [BAD, Own::ReadFailed] {
-        refuses(&rt, "the first", &[opened(0, NO_SMUDGE)], close(1, 1, own))?;
-        refuses(&rt, "heard", &got, close(1, 1, own))?;
-        refuses(&rt, "handed back", &raw, close(3, 0, own))?;
+fn list_reply_of(letter: u8) -> Option<ListReply> {
+    match letter {
+        b'0' | b'1' | b'2' => Some(ListReply::Names(digit(letter))),
+        b'e' => Some(ListReply::Empty),
+        _ => None,
     }
-    refuses(
-        &rt,
-        "the first, to be asked",
-        &[opened(0, BOTH)],
-        close(1, 1, Own::NoMemory),
-    )?;
-    Ok(())
+}
+
+fn own_of(letter: u8) -> Option<Own> {
+    match letter {
+        b'f' => Some(FINE),
+        b'u' => Some(Own::Fine { unencoded: true }),
+        b'o' => Some(Own::Object(ObjectKind::Size)),
+        b'r' => Some(Own::ReadFailed),
+        b'w' => Some(Own::WriteFailed),
+        b'n' => Some(Own::NoMemory),
+        _ => None,
+    }
+}
+
+fn unfiltered(cause: FilterCause, unencoded: bool) -> Verdict {
+    Verdict::Unfiltered { cause, unencoded }
+}
+
+fn verdict_of(letter: u8) -> Option<Verdict> {
+    match letter {
+        b'u' => Some(Verdict::Written { unencoded: true }),
+        b'n' => Some(Verdict::NoMemory),
+        b'g' => Some(Verdict::Skipped(SkipCause::Gitlink)),
+        b's' => Some(unfiltered(FilterCause::NoSmudge, true)),
+        b'e' => Some(unfiltered(FilterCause::Error, false)),
+        b'a' => Some(unfiltered(FilterCause::Abort, false)),
+        _ => failure_of(letter).map(Verdict::Failed),
+    }
+}
+
+fn failure_of(letter: u8) -> Option<FailCause> {
+    match letter {
+        b'o' => Some(FailCause::Object(ObjectKind::Size)),
+        b'x' => Some(FailCause::WriteFailed),
+        b'r' => Some(FailCause::ReadFailed),
+        b'm' => Some(FailCause::Missing),
+        b'l' => Some(FailCause::Filter(FilterCause::ErrorAfter)),
+        b'b' => Some(FailCause::Filter(FilterCause::Broken(BreakCause::Ended))),
+        _ => None,
+    }
+}
+
+fn event_of(word: &[u8]) -> Option<Event> {
+    let number = digit(letter(word, 1));
+    let third = letter(word, 2);
+    match letter(word, 0) {
+        b'C' => Some(claim(number, digit(third))),
+        b'X' => Some(close(number, digit(third), own_of(letter(word, 3))?)),
+        b'O' => Some(opened(number, caps_of(third)?)),
+        b'F' => Some(Event::OpenFailed {
+            path: number,
+            cause: cause_of(third)?,
+        }),
+        b'A' => Some(answered(number, reply_of(third)?)),
+        b'N' => Some(named(number)),
+        b'L' => Some(listed(number, list_reply_of(third)?)),
+        b'R' => Some(redone(number, reply_of(third)?)),
+        b'B' => Some(hand_back(number)),
+        b'S' => Some(Event::Shut { driver: number }),
+        _ => None,
+    }
+}
+
+/// One word of a case.
+fn follow(rt: &impl Abort, state: &mut State, word: &[u8]) {
+    if letter(word, 0) == b'=' {
+        let want = verdict_of(letter(word, 2));
+        assert!(rt; want.is_some(), "{word:?}");
+        assert_eq!(rt; state.verdict(digit(letter(word, 1))), want, "{word:?}");
+        return;
+    }
+    let event = event_of(word);
+    assert!(rt; event.is_some(), "{word:?}");
+    if let Some(event) = event {
+        let open = state.unclosed();
+        let refused = step(state, event).is_err();
+        assert_eq!(rt; refused, letter(word, 4) == b'!', "{word:?}");
+        assert!(rt; !refused || state.unclosed() == open, "{word:?}");
+    }
 }
 
 #[test]
-fn verdicts_of_paths_in_hand(rt: HostRuntime) -> Result<(), Fail> {
-    let back = Verdict::Unfiltered {
-        cause: FilterCause::NoSmudge,
-        unencoded: true,
-    };
-    let fine = Own::Fine { unencoded: true };
-    gives(
-        &rt,
-        "fine",
-        &[claim(0, 2), close(0, 2, fine)],
-        0,
-        Verdict::Written { unencoded: true },
-    )?;
-    gives(
-        &rt,
-        "object",
-        &[claim(0, 0), close(0, 0, BAD)],
-        0,
-        Verdict::Failed(FailCause::Object(ObjectKind::Size)),
-    )?;
-    gives(
-        &rt,
-        "no memory",
-        &[claim(0, 0), close(0, 0, Own::NoMemory)],
-        0,
-        Verdict::NoMemory,
-    )?;
-    let raw = [
-        opened(1, NO_SMUDGE),
-        hand_back(3),
-        claim(3, 0),
-        close(3, 0, fine),
+fn each_case(rt: HostRuntime) -> Result<(), Fail> {
+    let themes = [
+        CLAIMS,
+        OPENINGS,
+        ANSWERS,
+        LISTS,
+        SECOND_ANSWERS,
+        ENDS,
+        CLOSES,
+        IN_HAND,
+        OF_A_DRIVER,
     ];
-    gives(&rt, "handed back", &raw, 3, back)?;
-    let raw = [
-        opened(1, NO_SMUDGE),
-        hand_back(3),
-        claim(3, 0),
-        close(3, 0, Own::WriteFailed),
-    ];
-    gives(
-        &rt,
-        "handed back, not written",
-        &raw,
-        3,
-        Verdict::Failed(FailCause::WriteFailed),
-    )?;
-    gives(
-        &rt,
-        "done before",
-        &[],
-        5,
-        Verdict::Skipped(SkipCause::Gitlink),
-    )?;
-    Ok(())
-}
-
-#[test]
-fn verdicts_of_paths_of_a_driver(rt: HostRuntime) -> Result<(), Fail> {
-    let error = [
-        opened(0, BOTH),
-        answered(1, Reply::ErrorAfter),
-        close(1, 1, FINE),
-    ];
-    gives(
-        &rt,
-        "required",
-        &error,
-        1,
-        Verdict::Failed(FailCause::Filter(FilterCause::ErrorAfter)),
-    )?;
-    let error = [
-        opened(1, BOTH),
-        answered(3, Reply::Error),
-        close(3, 2, FINE),
-    ];
-    let unfiltered = Verdict::Unfiltered {
-        cause: FilterCause::Error,
-        unencoded: false,
-    };
-    gives(&rt, "not required", &error, 3, unfiltered)?;
-    let lost = [
-        opened(0, BOTH),
-        answered(1, Reply::Delayed),
-        answered(2, Reply::Abort),
-        close(1, 1, FINE),
-    ];
-    gives(&rt, "lost", &lost, 1, Verdict::Failed(FailCause::Missing))?;
-    let wanted = [
-        opened(0, BOTH),
-        answered(1, Reply::Delayed),
-        answered(2, Reply::NoMemory),
-        close(1, 1, Own::WriteFailed),
-    ];
-    gives(&rt, "wanted", &wanted, 1, Verdict::NoMemory)?;
-    let aborted = [
-        opened(1, BOTH),
-        answered(3, Reply::Abort),
-        close(4, 2, FINE),
-    ];
-    let unfiltered = Verdict::Unfiltered {
-        cause: FilterCause::Abort,
-        unencoded: false,
-    };
-    gives(&rt, "unasked, aborted", &aborted, 4, unfiltered)?;
-    let first = [opened(0, NO_SMUDGE), close(1, 1, Own::NoMemory)];
-    gives(&rt, "the first, no memory", &first, 1, Verdict::NoMemory)?;
-    let unread = [close(1, 1, Own::ReadFailed)];
-    gives(
-        &rt,
-        "unasked, unread",
-        &unread,
-        1,
-        Verdict::Failed(FailCause::ReadFailed),
-    )?;
-    let missing = [
-        open_failed(1, OpenCause::Broken(BreakCause::Ended)),
-        close(1, 1, FINE),
-    ];
-    let broken = FilterCause::Broken(BreakCause::Ended);
-    gives(
-        &rt,
-        "not opened",
-        &missing,
-        1,
-        Verdict::Failed(FailCause::Filter(broken)),
-    )?;
+    for words in themes {
+        let mut state = fresh(rt.alloc())?;
+        for word in words.chunks(5) {
+            follow(&rt, &mut state, word);
+            if letter(word, 4) != b' ' {
+                state = fresh(rt.alloc())?;
+            }
+        }
+    }
     Ok(())
 }

@@ -63,6 +63,3 @@ pub fn read_words(alloc: Global, words: &[String]) -> Result<Command, WordFault>
         _ => Err(WordFault::Usage),
     }
 }
-
-#[cfg(test)]
-mod tests;

@@ -11,6 +11,9 @@ use std::alloc::{AllocError, Global};
 /// Lines of up to so many bytes are copied as blocks of this size.
 const BLOCK: usize = 128;
 
+/// And those of up to so many as blocks of this one, so that a content of short lines is copied once and not many times.
+const SHORT: usize = 16;
+
 /// Whether an LF stands there that no CR stands before.
 fn has_bare_lf(content: &[u8]) -> bool
     ensures changed { OnTrue result (with_crlf content.now ≢ content.now) }
@@ -45,17 +48,34 @@ pub fn changes_ends(content: &[u8], ends: LineEnds) -> bool
     }
 }
 
-/// Appends the first bytes of a content. A block of a known size is copied faster than a few bytes, so it is cut behind.
+/// Appends the first bytes of a block. A block of a known size is copied faster than a few bytes, so it is cut behind.
+fn push_cut<const N: usize>(
+    text: &mut Vec<u8>,
+    block: &[u8; N],
+    count: usize,
+) -> Result<(), AllocError>
+    requires { count ≤ N }
+    ensures { OnOk result (text.new.items ≡ text.old.items ++ take count block.now) }
+{
+    let len = text.len();
+    text.extend_from_slice(block)?;
+    text.truncate(len + count);
+    Ok(())
+}
+
+/// Appends the first bytes of a content.
 fn push_front(text: &mut Vec<u8>, content: &[u8], count: usize) -> Result<(), AllocError>
     requires { count ≤ length content.now }
     ensures { OnOk result (text.new.items ≡ text.old.items ++ take count content.now) }
 {
-    match content.first_chunk::<BLOCK>() {
-        Some(block) if count <= BLOCK => {
-            let len = text.len();
-            text.extend_from_slice(block)?;
-            text.truncate(len + count);
+    if count <= SHORT {
+        if let Some(block) = content.first_chunk::<SHORT>() {
+            push_cut(text, block, count)?;
+            return Ok(());
         }
+    }
+    match content.first_chunk::<BLOCK>() {
+        Some(block) if count <= BLOCK => push_cut(text, block, count)?,
         _ => {
             let (front, _) = content.split_at(count);
             text.extend_from_slice(front)?;

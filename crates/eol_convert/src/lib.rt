@@ -9,6 +9,3 @@ mod setting;
 pub use action::line_ends_of;
 pub use content::{changes_ends, to_tree_ends};
 pub use setting::{AutoCrlf, EolSetting, LineEnds};
-
-#[cfg(test)]
-mod tests;

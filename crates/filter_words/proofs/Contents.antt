@@ -8,7 +8,7 @@ use Rattle.filter_words.specs.ReplyGrammar.{joined}
 use Rattle.filter_words.specs.declared.words.Status.{Status}
 use Rattle.filter_words.specs.declared.words.Status.TheVariants as status
 use Rattle.filter_words.specs.declared.smudge_reply.ReplyPhase.TheVariants.{KeyList, Content, LastKeyList}
-use Rattle.filter_words.specs.declared.turn.Turn.TheVariants.{On}
+use Rattle.filter_words.specs.declared.answer_state.AnswerState.TheVariants.{On}
 
 content_last : (d : Bool) (s : Option Status) (keys : List (List ℕ)) → content_in d (On (LastKeyList s)) (block keys) ≡ []
 content_last d s [] = refl

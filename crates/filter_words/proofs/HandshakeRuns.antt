@@ -11,7 +11,7 @@ use Rattle.filter_words.specs.HandshakeGrammar.{has_line, caps_in, IsHandshake}
 use Rattle.filter_words.specs.declared.reply.Caps.{Caps}
 use Rattle.filter_words.specs.declared.handshake.HandshakePhase.{HandshakePhase}
 use Rattle.filter_words.specs.declared.handshake.HandshakePhase.TheVariants.{Server, Version, EndOfHello, Capabilities}
-use Rattle.filter_words.specs.declared.turn.Turn.TheVariants.{On, Done}
+use Rattle.filter_words.specs.declared.answer_state.AnswerState.TheVariants.{On, Done}
 use Rattle.filter_words.proofs.Equal.{bytes_eq-true, bytes_eq-same}
 use Rattle.filter_words.proofs.Runs.{run, broken_stays, over_takes}
 use Rattle.filter_words.proofs.GrammarLaws.{Reads}

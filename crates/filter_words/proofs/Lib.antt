@@ -1,6 +1,5 @@
 pub mod Cutting
 pub mod Runs
-pub mod Reading
 pub mod Names
 pub mod LateList
 pub mod Texts
@@ -12,3 +11,5 @@ pub mod ListRuns
 pub mod HandshakeRuns
 pub mod Contents
 pub mod OneAnswer
+pub mod Breaks
+pub mod OwnCauses

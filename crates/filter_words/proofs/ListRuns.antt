@@ -9,8 +9,8 @@ use Rattle.filter_words.specs.Grammar.{block}
 use Rattle.filter_words.specs.ListGrammar.{with_name, names_of, AreExpected, EndsList, IsList}
 use Rattle.filter_words.specs.declared.words.Status.{Status}
 use Rattle.filter_words.specs.declared.words.Status.TheVariants as status
-use Rattle.filter_words.specs.declared.turn.Turn.{Turn}
-use Rattle.filter_words.specs.declared.turn.Turn.TheVariants.{On, Done, Broken, Late}
+use Rattle.filter_words.specs.declared.answer_state.AnswerState.{AnswerState}
+use Rattle.filter_words.specs.declared.answer_state.AnswerState.TheVariants.{On, Done, Broken, Late}
 use Rattle.filter_words.proofs.Runs.{run, run-append, broken_stays, over_takes}
 use Rattle.filter_words.proofs.GrammarLaws.{Reads}
 
@@ -24,7 +24,7 @@ expected_name : (delayed listed : List (List ℕ)) (name : List ℕ) → name_in
 expected_name delayed listed name a b = rw (a, b) refl
 
 -- one line
-run_value : (delayed listed : List (List ℕ)) (o : Option (List ℕ)) (names : List (List ℕ)) (ps : List Packet) (t : Turn ListPhase GoodList)
+run_value : (delayed listed : List (List ℕ)) (o : Option (List ℕ)) (names : List (List ℕ)) (ps : List Packet) (t : AnswerState ListPhase GoodList)
     → ((before : List (List ℕ)) → AreExpected delayed before names → run (list_step delayed) (On (Names before)) ps ≡ On (KeyList (before ++ names) None))
     → AreExpected delayed listed (with_name o names)
     → run (list_step delayed) (after_value delayed listed o) ps ≡ On (KeyList (listed ++ with_name o names) None)
@@ -69,7 +69,7 @@ record KeysAre (delayed listed : List (List ℕ)) (s : Option Status) (ps : List
   pub whole : ps ≡ block keys
   pub ends : EndsList (last_status s keys) listed g
 
-keys_flush : (delayed listed : List (List ℕ)) (s : Option Status) (ps : List Packet) (g : GoodList) (t : Turn ListPhase GoodList) → list_status listed s ≡ t
+keys_flush : (delayed listed : List (List ℕ)) (s : Option Status) (ps : List Packet) (g : GoodList) (t : AnswerState ListPhase GoodList) → list_status listed s ≡ t
     → run (list_step delayed) t ps ≡ Done g → KeysAre delayed listed s (Flush ∷ ps) g
 keys_flush delayed listed s ps g (Done h) u e =
     let o = over_takes (list_step delayed) h ps g e in

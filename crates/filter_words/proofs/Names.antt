@@ -5,7 +5,7 @@ use Rattle.std.specs.Prelude.{◌||◌}
 use Rattle.std.specs.List.{list_any}
 use Rattle.std.specs.Str.{bytes_eq}
 use Rattle.filter_words.specs.Listing.{name_in}
-use Rattle.filter_words.specs.ListTurn.{bytes_of}
+use Rattle.filter_words.specs.ListStates.{bytes_of}
 
 pub name_in_slices : (names : List (Bor (List ℕ))) (name : List ℕ) → list_any (λ known. bytes_eq known.now name) names ≡ name_in (map bytes_of names) name
 name_in_slices [] name = refl

@@ -1,17 +1,17 @@
 -- What a driver sends holds one answer at its front, however much of it was taken.
-use Rattle.std.proofs.Common.{◌≡◌, ◌⊎◌, inl, inr, ℕ, List, [], ◌++◌, refl, sym, ap, subst, ◌∙◌, append_assoc}
+use Rattle.std.proofs.Common.{◌≡◌, ◌⊎◌, inl, inr, ℕ, List, [], ◌++◌, refl, sym, ap, subst, ◌∙◌}
 use Rattle.std.proofs.lemmas.List.{append-nil}
 use Rattle.pkt_line.specs.Packets.{Packet, SpellAll, IsPartial, HasFault, HasNoPacket}
 use Rattle.pkt_line.proofs.NoPacket.{one_reading, fault_more, partial_fault}
-use Rattle.filter_words.specs.Turn.{outcome, limit}
+use Rattle.filter_words.specs.Outcomes.{outcome, limit}
 use Rattle.filter_words.specs.Answer.{StopsWith, IsAnswer}
 use Rattle.filter_words.specs.declared.reply.BreakCause.TheVariants as cause
-use Rattle.filter_words.specs.declared.turn.Turn.{Turn}
-use Rattle.filter_words.specs.declared.turn.Turn.TheVariants.{On, Done, Broken, Late}
+use Rattle.filter_words.specs.declared.answer_state.AnswerState.{AnswerState}
+use Rattle.filter_words.specs.declared.answer_state.AnswerState.TheVariants.{On, Done, Broken, Late}
 use Rattle.filter_words.proofs.Same.{same, longer}
 
 -- what stands behind an open answer
-abbrev Behind : {P G : Type 0} → List ℕ → List ℕ → Turn P G → Type 0
+abbrev Behind : {P G : Type 0} → List ℕ → List ℕ → AnswerState P G → Type 0
 Behind rest ahead result = ((result ≡ Broken cause.BadPacket) × HasFault rest) ⊎ ((result ≡ Broken cause.Ended) × IsPartial rest × (ahead ≡ []))
 
 ends_here : (rest ahead : List ℕ) → ahead ≡ [] → rest ++ ahead ≡ rest
@@ -20,11 +20,11 @@ ends_here rest ahead e = ap (λ (z : List ℕ). rest ++ z) e ∙ append-nil rest
 partial_here : (rest ahead : List ℕ) → ahead ≡ [] → IsPartial rest → IsPartial (rest ++ ahead)
 partial_here rest ahead e p = subst IsPartial (sym (ends_here rest ahead e)) p
 
-none_behind : {P G : Type 0} (rest ahead : List ℕ) (result : Turn P G) → Behind rest ahead result → HasNoPacket (rest ++ ahead)
+none_behind : {P G : Type 0} (rest ahead : List ℕ) (result : AnswerState P G) → Behind rest ahead result → HasNoPacket (rest ++ ahead)
 none_behind rest ahead result (inl h) = inr (fault_more rest ahead h.1)
 none_behind rest ahead result (inr h) = inl (partial_here rest ahead h.2 h.1)
 
-one_cause : {P G : Type 0} (r a s b : List ℕ) (u v : Turn P G) → r ++ a ≡ s ++ b → Behind r a u → Behind s b v → u ≡ v
+one_cause : {P G : Type 0} (r a s b : List ℕ) (u v : AnswerState P G) → r ++ a ≡ s ++ b → Behind r a u → Behind s b v → u ≡ v
 one_cause r a s b u v e (inl h) (inl k) = h.0 ∙ sym k.0
 one_cause r a s b u v e (inr h) (inr k) = h.0 ∙ sym k.0
 one_cause r a s b u v e (inl h) (inr k) =
@@ -33,7 +33,7 @@ one_cause r a s b u v e (inr h) (inl k) =
     absurd (partial_fault (s ++ b) (subst IsPartial e (partial_here r a h.2 h.1)) (fault_more s b k.1))
 
 -- two readings of the same output, by where their packets lead
-stops_same : {P G : Type 0} (step : P → Packet → Turn P G) (start : Turn P G) (ps qs : List Packet) (a x b y : List ℕ) (c d : List ℕ) (s t u v : Turn P G)
+stops_same : {P G : Type 0} (step : P → Packet → AnswerState P G) (start : AnswerState P G) (ps qs : List Packet) (a x b y : List ℕ) (c d : List ℕ) (s t u v : AnswerState P G)
     → SpellAll ps a → SpellAll qs b → a ++ (x ++ c) ≡ b ++ (y ++ d) → outcome step limit start ps ≡ s → outcome step limit start qs ≡ t
     → StopsWith s x c u → StopsWith t y d v → (u ≡ v) × ((g : G) → u ≡ Done g → a ≡ b)
 stops_same step start ps qs a x b y c d (On p) (On q) u v sa sb e f g hu hv =
@@ -60,8 +60,23 @@ stops_same step start ps qs a x b y c d (On p) Late u v sa sb e f g hu hv = absu
 stops_same step start ps qs a x b y c d (Done h) Late u v sa sb e f g hu hv = absurd hv
 stops_same step start ps qs a x b y c d (Broken h) Late u v sa sb e f g hu hv = absurd hv
 
-pub one_answer : {P G : Type 0} (step : P → Packet → Turn P G) (start : Turn P G) (output : List ℕ) (u v : Turn P G)
-    → (one : IsAnswer step start output u) → (two : IsAnswer step start output v) → (u ≡ v) × ((g : G) → u ≡ Done g → one.used ≡ two.used)
-one_answer step start output u v one two =
-    stops_same step start one.packets two.packets one.used one.rest two.used two.rest one.ahead two.ahead _ _ u v one.spelled two.spelled
-    (sym (append_assoc one.used one.rest one.ahead) ∙ (sym one.whole ∙ (two.whole ∙ append_assoc two.used two.rest two.ahead))) refl refl one.stops two.stops
+pub one_answer : {P G : Type 0} (step : P → Packet → AnswerState P G) (start : AnswerState P G) (a x c b y d : List ℕ) (u v : AnswerState P G)
+    → IsAnswer step start a x c u → IsAnswer step start b y d v → a ++ (x ++ c) ≡ b ++ (y ++ d) → (u ≡ v) × ((g : G) → u ≡ Done g → a ≡ b)
+one_answer step start a x c b y d u v one two same =
+    stops_same step start one.packets two.packets a x b y c d _ _ u v one.spelled two.spelled same refl refl one.stops two.stops
+
+-- more bytes behind an answer that has ended
+stops_more : {P G : Type 0} (s u : AnswerState P G) (rest ahead more later : List ℕ) → (u ≡ Broken cause.Ended → ⊥) → StopsWith s rest ahead u → StopsWith s (rest ++ more) later u
+stops_more (On p) u rest ahead more later whole (inl h) = inl (h.0, fault_more rest more h.1)
+stops_more (On p) u rest ahead more later whole (inr h) = absurd (whole h.0)
+stops_more (Done g) u rest ahead more later whole h = h
+stops_more (Broken why) u rest ahead more later whole h = h
+stops_more Late u rest ahead more later whole h = h
+
+pub answer_more : {P G : Type 0} (step : P → Packet → AnswerState P G) (start : AnswerState P G) (used rest ahead more later : List ℕ) (u : AnswerState P G)
+    → IsAnswer step start used rest ahead u → (u ≡ Broken cause.Ended → ⊥) → IsAnswer step start used (rest ++ more) later u
+answer_more step start used rest ahead more later u one whole = record {
+  packets = one.packets;
+  spelled = one.spelled;
+  stops = stops_more (outcome step limit start one.packets) u rest ahead more later whole one.stops;
+}

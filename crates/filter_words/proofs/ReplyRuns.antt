@@ -3,7 +3,7 @@ use Rattle.std.proofs.Common.{◌≡◌, ℕ, ◌⊎◌, inl, inr, Bool, true, f
 use Rattle.std.specs.Prelude.{codes}
 use Rattle.pkt_line.specs.Packets.{Packet, Payload, Flush}
 use Rattle.filter_words.specs.Words.{status_after, last_status}
-use Rattle.filter_words.specs.SmudgeReply.{reply_step, first_turn, last_turn}
+use Rattle.filter_words.specs.SmudgeReply.{reply_step, first_state, last_state}
 use Rattle.filter_words.specs.Grammar.{block}
 use Rattle.filter_words.specs.ReplyGrammar.{EndsShort, EndsLong, IsReply}
 use Rattle.filter_words.specs.declared.words.Status.{Status}
@@ -12,14 +12,14 @@ use Rattle.filter_words.specs.declared.smudge_reply.GoodReply.{GoodReply}
 use Rattle.filter_words.specs.declared.smudge_reply.GoodReply.TheVariants as good
 use Rattle.filter_words.specs.declared.smudge_reply.ReplyPhase.{ReplyPhase}
 use Rattle.filter_words.specs.declared.smudge_reply.ReplyPhase.TheVariants.{KeyList, Content, LastKeyList}
-use Rattle.filter_words.specs.declared.turn.Turn.{Turn}
-use Rattle.filter_words.specs.declared.turn.Turn.TheVariants.{On, Done, Broken, Late}
+use Rattle.filter_words.specs.declared.answer_state.AnswerState.{AnswerState}
+use Rattle.filter_words.specs.declared.answer_state.AnswerState.TheVariants.{On, Done, Broken, Late}
 use Rattle.filter_words.proofs.Runs.{run, run-append, broken_stays}
 use Rattle.filter_words.proofs.GrammarLaws.{Reads}
 
 -- a block is read at one go
 
-run_keys : (d : Bool) (s : Option Status) (lines : List (List ℕ)) → run (reply_step d) (On (KeyList s)) (block lines) ≡ first_turn d (last_status s lines)
+run_keys : (d : Bool) (s : Option Status) (lines : List (List ℕ)) → run (reply_step d) (On (KeyList s)) (block lines) ≡ first_state d (last_status s lines)
 run_keys d s [] = refl
 run_keys d s (l ∷ ls) = run_keys d (status_after s l) ls
 
@@ -27,18 +27,18 @@ run_content : (d : Bool) (lines : List (List ℕ)) → run (reply_step d) (On Co
 run_content d [] = refl
 run_content d (l ∷ ls) = run_content d ls
 
-run_last : (d : Bool) (s : Option Status) (lines : List (List ℕ)) → run (reply_step d) (On (LastKeyList s)) (block lines) ≡ last_turn (last_status s lines)
+run_last : (d : Bool) (s : Option Status) (lines : List (List ℕ)) → run (reply_step d) (On (LastKeyList s)) (block lines) ≡ last_state (last_status s lines)
 run_last d s [] = refl
 run_last d s (l ∷ ls) = run_last d (status_after s l) ls
 
-keys_good : (d : Bool) (s : Option Status) (g : GoodReply) → EndsShort d s g → first_turn d s ≡ Done g
+keys_good : (d : Bool) (s : Option Status) (g : GoodReply) → EndsShort d s g → first_state d s ≡ Done g
 keys_good d s good.Error e = rw e refl
 keys_good d s good.Abort e = rw e refl
 keys_good d s good.Delayed e = rw (e.0, e.1) refl
 keys_good d s good.Content e = absurd e
 keys_good d s good.ErrorAfter e = absurd e
 
-last_good : (s : Option Status) (g : GoodReply) → EndsLong s g → last_turn s ≡ Done g
+last_good : (s : Option Status) (g : GoodReply) → EndsLong s g → last_state s ≡ Done g
 last_good s good.Content e = elim e [ inl x ↦ rw x refl | inr x ↦ rw x refl ]
 last_good s good.ErrorAfter e = rw e refl
 last_good s good.Abort e = rw e refl
@@ -53,7 +53,7 @@ run_good d ps g (inr l) =
 
 -- the other way round
 
-stops : (d : Bool) (t : Turn ReplyPhase GoodReply) (ps : List Packet) (g : GoodReply) → (t ≡ On Content → ⊥) → ((s : Option Status) → t ≡ On (KeyList s) → ⊥) → ((s : Option Status) → t ≡ On (LastKeyList s) → ⊥) → run (reply_step d) t ps ≡ Done g → (ps ≡ []) × (t ≡ Done g)
+stops : (d : Bool) (t : AnswerState ReplyPhase GoodReply) (ps : List Packet) (g : GoodReply) → (t ≡ On Content → ⊥) → ((s : Option Status) → t ≡ On (KeyList s) → ⊥) → ((s : Option Status) → t ≡ On (LastKeyList s) → ⊥) → run (reply_step d) t ps ≡ Done g → (ps ≡ []) × (t ≡ Done g)
 stops d t [] g a b c e = (refl, e)
 stops d (On Content) (p ∷ ps) g a b c e = absurd (a refl)
 stops d (On (KeyList s)) (p ∷ ps) g a b c e = absurd (b s refl)
@@ -62,7 +62,7 @@ stops d (Done h) (p ∷ ps) g a b c e = absurd (cc)
 stops d (Broken h) (p ∷ ps) g a b c e = absurd (cc)
 stops d Late (p ∷ ps) g a b c e = absurd (cc)
 
-last_ends : (s : Option Status) (g : GoodReply) → last_turn s ≡ Done g → EndsLong s g
+last_ends : (s : Option Status) (g : GoodReply) → last_state s ≡ Done g → EndsLong s g
 last_ends None good.Content e = inl refl
 last_ends (Some status.Success) good.Content e = inr refl
 last_ends (Some status.Error) good.ErrorAfter e = refl
@@ -86,7 +86,7 @@ last_ends (Some status.Abort) good.Delayed e = absurd (cc)
 last_ends (Some status.Delayed) g e = absurd (cc)
 last_ends (Some status.Other) g e = absurd (cc)
 
-last_over : (s : Option Status) → (p : ReplyPhase) → last_turn s ≡ On p → ⊥
+last_over : (s : Option Status) → (p : ReplyPhase) → last_state s ≡ On p → ⊥
 last_over None p e = cc
 last_over (Some status.Success) p e = cc
 last_over (Some status.Error) p e = cc
@@ -105,7 +105,7 @@ last_takes d s (Payload l ∷ ps) g e =
     let r = last_takes d (status_after s l) ps g e in
     record { lines = l ∷ r.lines; whole = ap (λ (x : List Packet). Payload l ∷ x) r.whole; ends = r.ends }
 last_takes d s (Flush ∷ ps) g e =
-    let r = stops d (last_turn s) ps g (last_over s Content) (λ x. last_over s (KeyList x)) (λ x. last_over s (LastKeyList x)) e in
+    let r = stops d (last_state s) ps g (last_over s Content) (λ x. last_over s (KeyList x)) (λ x. last_over s (LastKeyList x)) e in
     record { lines = []; whole = ap (λ (x : List Packet). Flush ∷ x) r.0; ends = last_ends s g r.1 }
 
 record ContentIs (ps : List Packet) (g : GoodReply) : Type 0 where
@@ -145,7 +145,7 @@ keys_short : (d : Bool) (s : Option Status) (h : GoodReply) (ps : List Packet) (
 keys_short d s h [] g w e = record { lines = []; whole = refl; ends = subst (λ (x : GoodReply). EndsShort d s x) (let f : h ≡ g = cc in f) w }
 keys_short d s h (p ∷ ps) g w e = absurd (cc)
 
-keys_flush : (d : Bool) (s : Option Status) (ps : List Packet) (g : GoodReply) → run (reply_step d) (first_turn d s) ps ≡ Done g → KeysShort d s (Flush ∷ ps) g ⊎ KeysLong s (Flush ∷ ps) g
+keys_flush : (d : Bool) (s : Option Status) (ps : List Packet) (g : GoodReply) → run (reply_step d) (first_state d s) ps ≡ Done g → KeysShort d s (Flush ∷ ps) g ⊎ KeysLong s (Flush ∷ ps) g
 keys_flush d None ps g e = absurd (broken_stays (reply_step d) _ ps g e)
 keys_flush d (Some status.Success) ps g e = inr (keys_long d ps g e)
 keys_flush d (Some status.Error) ps g e = inl (keys_short d _ good.Error ps g refl e)

@@ -2,33 +2,33 @@
 use Rattle.std.proofs.Common.{◌≡◌, ℕ, ◌-◌, ◌<◌, ◌≤◌, ◌⊎◌, inl, inr, false, ltb, List, [], ◌∷◌, ◌++◌, refl, sym, ap, ◌∙◌, arith}
 use Rattle.std.proofs.lemmas.Bool.{lt-ltb, le-ltb, cases_lt}
 use Rattle.pkt_line.specs.Packets.{Packet, size, total}
-use Rattle.filter_words.specs.Turn.{outcome}
+use Rattle.filter_words.specs.Outcomes.{outcome}
 use Rattle.filter_words.specs.declared.reply.BreakCause.{BreakCause}
 use Rattle.filter_words.specs.declared.reply.BreakCause.TheVariants as cause
-use Rattle.filter_words.specs.declared.turn.Turn.{Turn}
-use Rattle.filter_words.specs.declared.turn.Turn.TheVariants.{On, Done, Broken, Late}
+use Rattle.filter_words.specs.declared.answer_state.AnswerState.{AnswerState}
+use Rattle.filter_words.specs.declared.answer_state.AnswerState.TheVariants.{On, Done, Broken, Late}
 
 -- what the packets make of an answer, where no limit is looked at
-abbrev pub run : {P G : Type 0} → (P → Packet → Turn P G) → Turn P G → List Packet → Turn P G
-run step turn [] = turn
+abbrev pub run : {P G : Type 0} → (P → Packet → AnswerState P G) → AnswerState P G → List Packet → AnswerState P G
+run step state [] = state
 run step (On phase) (p ∷ ps) = run step (step phase p) ps
 run step (Done good) (p ∷ ps) = Late
 run step (Broken why) (p ∷ ps) = Late
 run step Late (p ∷ ps) = Late
 
-pub stays_late : {P G : Type 0} (step : P → Packet → Turn P G) (room : ℕ) (ps : List Packet) → outcome step room Late ps ≡ Late
+pub stays_late : {P G : Type 0} (step : P → Packet → AnswerState P G) (room : ℕ) (ps : List Packet) → outcome step room Late ps ≡ Late
 stays_late step room [] = refl
 stays_late step room (p ∷ ps) = refl
 
 -- a packet behind the end
-pub late_of : {P G : Type 0} (step : P → Packet → Turn P G) (room : ℕ) (t : Turn P G) (p : Packet) (ps : List Packet)
+pub late_of : {P G : Type 0} (step : P → Packet → AnswerState P G) (room : ℕ) (t : AnswerState P G) (p : Packet) (ps : List Packet)
     → ((phase : P) → t ≡ On phase → ⊥) → outcome step room Late ps ≡ outcome step room t (p ∷ ps)
 late_of step room (On phase) p ps never = absurd (never phase refl)
 late_of step room (Done good) p ps never = stays_late step room ps
 late_of step room (Broken why) p ps never = stays_late step room ps
 late_of step room Late p ps never = stays_late step room ps
 
-pub run-append : {P G : Type 0} (step : P → Packet → Turn P G) (t : Turn P G) (ps qs : List Packet) → run step t (ps ++ qs) ≡ run step (run step t ps) qs
+pub run-append : {P G : Type 0} (step : P → Packet → AnswerState P G) (t : AnswerState P G) (ps qs : List Packet) → run step t (ps ++ qs) ≡ run step (run step t ps) qs
 run-append step t [] qs = refl
 run-append step (On phase) (x ∷ ps) qs = run-append step (step phase x) ps qs
 run-append step (Done g) (x ∷ ps) [] = refl
@@ -39,17 +39,17 @@ run-append step Late (x ∷ ps) [] = refl
 run-append step Late (x ∷ ps) (q ∷ qs) = refl
 
 -- what is broken never comes to a good end
-pub broken_stays : {P G : Type 0} (step : P → Packet → Turn P G) (why : BreakCause) (ps : List Packet) (g : G) → run step (Broken why) ps ≡ Done g → ⊥
+pub broken_stays : {P G : Type 0} (step : P → Packet → AnswerState P G) (why : BreakCause) (ps : List Packet) (g : G) → run step (Broken why) ps ≡ Done g → ⊥
 broken_stays step why [] g e = cc
 broken_stays step why (p ∷ ps) g e = cc
 
 -- what is over takes no packet more
-pub over_takes : {P G : Type 0} (step : P → Packet → Turn P G) (h : G) (ps : List Packet) (g : G) → run step (Done h) ps ≡ Done g → (ps ≡ []) × (h ≡ g)
+pub over_takes : {P G : Type 0} (step : P → Packet → AnswerState P G) (h : G) (ps : List Packet) (g : G) → run step (Done h) ps ≡ Done g → (ps ≡ []) × (h ≡ g)
 over_takes step h [] g e = (refl, cc)
 over_takes step h (p ∷ ps) g e = absurd (cc)
 
 -- within the limit it makes no difference
-pub outcome-run : {P G : Type 0} (step : P → Packet → Turn P G) (room : ℕ) (t : Turn P G) (ps : List Packet) → total ps ≤ room → outcome step room t ps ≡ run step t ps
+pub outcome-run : {P G : Type 0} (step : P → Packet → AnswerState P G) (room : ℕ) (t : AnswerState P G) (ps : List Packet) → total ps ≤ room → outcome step room t ps ≡ run step t ps
 outcome-run step room t [] le = refl
 outcome-run step room (On phase) (x ∷ ps) le =
     let fits : ltb room (size x) ≡ false = le-ltb room (size x) (omega arith) in
@@ -58,13 +58,13 @@ outcome-run step room (Done g) (x ∷ ps) le = refl
 outcome-run step room (Broken g) (x ∷ ps) le = refl
 outcome-run step room Late (x ∷ ps) le = refl
 
-late_after : {P G : Type 0} (step : P → Packet → Turn P G) (room : ℕ) (ps : List Packet)
+late_after : {P G : Type 0} (step : P → Packet → AnswerState P G) (room : ℕ) (ps : List Packet)
     → (outcome step room (Broken cause.TooLong) ps ≡ Broken cause.TooLong) ⊎ (outcome step room (Broken cause.TooLong) ps ≡ Late)
 late_after step room [] = inl refl
 late_after step room (p ∷ ps) = inr refl
 
 -- past the limit the outcome is TooLong, or a packet stands behind the end
-pub outcome-past : {P G : Type 0} (step : P → Packet → Turn P G) (room : ℕ) (t : Turn P G) (ps : List Packet) → room < total ps
+pub outcome-past : {P G : Type 0} (step : P → Packet → AnswerState P G) (room : ℕ) (t : AnswerState P G) (ps : List Packet) → room < total ps
     → (outcome step room t ps ≡ Broken cause.TooLong) ⊎ (outcome step room t ps ≡ Late)
 outcome-past step room t [] lt = absurd (omega arith)
 outcome-past step room (On phase) (x ∷ ps) lt =
@@ -77,7 +77,7 @@ outcome-past step room (Broken g) (x ∷ ps) lt = inr refl
 outcome-past step room Late (x ∷ ps) lt = inr refl
 
 -- what is neither TooLong nor Late is within the limit
-pub fits_of : {P G : Type 0} (step : P → Packet → Turn P G) (room : ℕ) (t u : Turn P G) (ps : List Packet) → outcome step room t ps ≡ u
+pub fits_of : {P G : Type 0} (step : P → Packet → AnswerState P G) (room : ℕ) (t u : AnswerState P G) (ps : List Packet) → outcome step room t ps ≡ u
     → (u ≡ Broken cause.TooLong → ⊥) → (u ≡ Late → ⊥) → (total ps ≤ room) × (run step t ps ≡ u)
 fits_of step room t u ps e a b =
     elim (cases_lt room (total ps)) [
@@ -86,7 +86,7 @@ fits_of step room t u ps e a b =
     ]
 
 -- where a reading breaks
-pub record BreaksAt {P G : Type 0} (step : P → Packet → Turn P G) (room : ℕ) (start : P) (ps : List Packet) (why : BreakCause) : Type 0 where
+pub record BreaksAt {P G : Type 0} (step : P → Packet → AnswerState P G) (room : ℕ) (start : P) (ps : List Packet) (why : BreakCause) : Type 0 where
   pub before : List Packet
   pub last : Packet
   pub phase : P
@@ -95,7 +95,7 @@ pub record BreaksAt {P G : Type 0} (step : P → Packet → Turn P G) (room : �
   pub fitted : total before ≤ room
   pub cause_is : ((why ≡ cause.TooLong) × (room < total ps)) ⊎ ((total ps ≤ room) × (run step (On start) ps ≡ Broken why))
 
-breaks_now : {P G : Type 0} (step : P → Packet → Turn P G) (room : ℕ) (p : P) (x : Packet) (c : BreakCause) → size x ≤ room → step p x ≡ Broken c → BreaksAt step room p (x ∷ []) c
+breaks_now : {P G : Type 0} (step : P → Packet → AnswerState P G) (room : ℕ) (p : P) (x : Packet) (c : BreakCause) → size x ≤ room → step p x ≡ Broken c → BreaksAt step room p (x ∷ []) c
 breaks_now step room p x c le e = record {
   before = [];
   last = x;
@@ -106,7 +106,7 @@ breaks_now step room p x c le e = record {
   cause_is = inr (omega arith, e);
 }
 
-breaks_long : {P G : Type 0} (step : P → Packet → Turn P G) (room : ℕ) (p : P) (x : Packet) (c : BreakCause) → room < size x → cause.TooLong ≡ c → BreaksAt step room p (x ∷ []) c
+breaks_long : {P G : Type 0} (step : P → Packet → AnswerState P G) (room : ℕ) (p : P) (x : Packet) (c : BreakCause) → room < size x → cause.TooLong ≡ c → BreaksAt step room p (x ∷ []) c
 breaks_long step room p x c lt e = record {
   before = [];
   last = x;
@@ -117,7 +117,7 @@ breaks_long step room p x c lt e = record {
   cause_is = inl (sym e, omega arith);
 }
 
-breaks_later : {P G : Type 0} (step : P → Packet → Turn P G) (room : ℕ) (p q : P) (x : Packet) (ps : List Packet) (c : BreakCause)
+breaks_later : {P G : Type 0} (step : P → Packet → AnswerState P G) (room : ℕ) (p q : P) (x : Packet) (ps : List Packet) (c : BreakCause)
     → size x ≤ room → step p x ≡ On q → BreaksAt step (room - size x) q ps c → BreaksAt step room p (x ∷ ps) c
 breaks_later step room p q x ps c le e b = record {
   before = x ∷ b.before;
@@ -133,7 +133,7 @@ breaks_later step room p q x ps c le e b = record {
       ];
 }
 
-breaks_step : {P G : Type 0} (step : P → Packet → Turn P G) (room : ℕ) (p : P) (x y : Packet) (ps : List Packet) (c : BreakCause) (t : Turn P G)
+breaks_step : {P G : Type 0} (step : P → Packet → AnswerState P G) (room : ℕ) (p : P) (x y : Packet) (ps : List Packet) (c : BreakCause) (t : AnswerState P G)
     → size x ≤ room → step p x ≡ t → outcome step (room - size x) t (y ∷ ps) ≡ Broken c
     → ((r : ℕ) (q : P) → outcome step r (On q) (y ∷ ps) ≡ Broken c → BreaksAt step r q (y ∷ ps) c) → BreaksAt step room p (x ∷ y ∷ ps) c
 breaks_step step room p x y ps c (On q) le s e again = breaks_later step room p q x (y ∷ ps) c le s (again (room - size x) q e)
@@ -141,7 +141,7 @@ breaks_step step room p x y ps c (Done g) le s e again = absurd (cc)
 breaks_step step room p x y ps c (Broken g) le s e again = absurd (cc)
 breaks_step step room p x y ps c Late le s e again = absurd (cc)
 
-pub breaks_at : {P G : Type 0} (step : P → Packet → Turn P G) (room : ℕ) (p : P) (ps : List Packet) (c : BreakCause) → outcome step room (On p) ps ≡ Broken c → BreaksAt step room p ps c
+pub breaks_at : {P G : Type 0} (step : P → Packet → AnswerState P G) (room : ℕ) (p : P) (ps : List Packet) (c : BreakCause) → outcome step room (On p) ps ≡ Broken c → BreaksAt step room p ps c
 breaks_at step room p [] c e = absurd (cc)
 breaks_at step room p (x ∷ []) c e =
     elim (cases_lt room (size x)) [

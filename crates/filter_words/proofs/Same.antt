@@ -3,39 +3,39 @@ use Rattle.std.proofs.Common.{◌≡◌, inl, inr, ℕ, ◌-◌, cond, ltb, List
 use Rattle.std.proofs.lemmas.Bool.{lt-ltb, le-ltb, cases_lt}
 use Rattle.pkt_line.specs.Packets.{Packet, SpellAll, HasNoPacket, size}
 use Rattle.pkt_line.proofs.NoPacket.{same_fronts, spelled_apart, none_then_some}
-use Rattle.filter_words.specs.Turn.{outcome, IsEnd}
+use Rattle.filter_words.specs.Outcomes.{outcome, IsEnd}
 use Rattle.filter_words.specs.declared.reply.BreakCause.TheVariants as cause
-use Rattle.filter_words.specs.declared.turn.Turn.{Turn}
-use Rattle.filter_words.specs.declared.turn.Turn.TheVariants.{On, Done, Broken, Late}
+use Rattle.filter_words.specs.declared.answer_state.AnswerState.{AnswerState}
+use Rattle.filter_words.specs.declared.answer_state.AnswerState.TheVariants.{On, Done, Broken, Late}
 
-not_late : {P G : Type 0} (v : Turn P G) → IsEnd v → Late ≡ v → ⊥
+not_late : {P G : Type 0} (v : AnswerState P G) → IsEnd v → Late ≡ v → ⊥
 not_late (Done g) h e = cc
 not_late (Broken c) h e = cc
 not_late (On q) h e = absurd h
 not_late Late h e = absurd h
 
-not_on : {P G : Type 0} (p : P) (v : Turn P G) → IsEnd v → On p ≡ v → ⊥
+not_on : {P G : Type 0} (p : P) (v : AnswerState P G) → IsEnd v → On p ≡ v → ⊥
 not_on p (Done g) h e = cc
 not_on p (Broken c) h e = cc
 not_on p (On q) h e = absurd h
 not_on p Late h e = absurd h
 
--- the room and the turn after a packet
+-- the room and the state after a packet
 abbrev room_after : ℕ → Packet → ℕ
 room_after room p = cond (ltb room (size p)) room (room - size p)
 
-abbrev turn_after : {P G : Type 0} → (P → Packet → Turn P G) → ℕ → P → Packet → Turn P G
-turn_after step room q p = cond (ltb room (size p)) (Broken cause.TooLong) (step q p)
+abbrev state_after : {P G : Type 0} → (P → Packet → AnswerState P G) → ℕ → P → Packet → AnswerState P G
+state_after step room q p = cond (ltb room (size p)) (Broken cause.TooLong) (step q p)
 
-one_step : {P G : Type 0} (step : P → Packet → Turn P G) (room : ℕ) (q : P) (p : Packet) (ps : List Packet)
-    → outcome step room (On q) (p ∷ ps) ≡ outcome step (room_after room p) (turn_after step room q p) ps
+one_step : {P G : Type 0} (step : P → Packet → AnswerState P G) (room : ℕ) (q : P) (p : Packet) (ps : List Packet)
+    → outcome step room (On q) (p ∷ ps) ≡ outcome step (room_after room p) (state_after step room q p) ps
 one_step step room q p ps =
     elim (cases_lt room (size p)) [
       | inl less ↦ rw (lt-ltb room (size p) less) refl
       | inr more ↦ rw (le-ltb room (size p) more) refl
     ]
 
-pub same : {P G : Type 0} (step : P → Packet → Turn P G) (room : ℕ) (t : Turn P G) (ps qs : List Packet) (a b x y : List ℕ) (u v : Turn P G)
+pub same : {P G : Type 0} (step : P → Packet → AnswerState P G) (room : ℕ) (t : AnswerState P G) (ps qs : List Packet) (a b x y : List ℕ) (u v : AnswerState P G)
     → SpellAll ps a → SpellAll qs b → a ++ x ≡ b ++ y
     → outcome step room t ps ≡ u → outcome step room t qs ≡ v → IsEnd u → IsEnd v → (ps ≡ qs) × (a ≡ b) × (u ≡ v)
 same step room t [] [] a b x y u v sa sb e f g hu hv = (refl, sa ∙ sym sb, sym f ∙ g)
@@ -49,15 +49,15 @@ same step room (Broken z) (q ∷ ps) qs a b x y u v sa sb e f g hu hv = absurd (
 same step room Late (q ∷ ps) qs a b x y u v sa sb e f g hu hv = absurd (not_late u hu f)
 same step room (On r) (p ∷ ps) (q ∷ qs) a b x y u v sa sb e f g hu hv =
     let s = same_fronts p q sa.0 sb.0 sa.1 sb.1 x y sa.2 sb.2 (spelled_apart a b x y sa.0 sa.1 sb.0 sb.1 sa.4 sb.4 e) in
-    let g2 : outcome step (room_after room p) (turn_after step room r p) qs ≡ v =
+    let g2 : outcome step (room_after room p) (state_after step room r p) qs ≡ v =
     sym (one_step step room r p qs) ∙ (ap (λ (z : Packet). outcome step room (On r) (z ∷ qs)) s.0 ∙ g) in
-    let rest = same step (room_after room p) (turn_after step room r p) ps qs sa.1 sb.1 x y u v sa.3 sb.3 s.2 (sym (one_step step room r p ps) ∙ f) g2 hu hv in (
+    let rest = same step (room_after room p) (state_after step room r p) ps qs sa.1 sb.1 x y u v sa.3 sb.3 s.2 (sym (one_step step room r p ps) ∙ f) g2 hu hv in (
       ap (λ (z : Packet). z ∷ ps) s.0 ∙ ap (λ (z : List Packet). q ∷ z) rest.0,
       sa.4 ∙ (ap (λ (z : List ℕ). z ++ sa.1) s.1 ∙ (ap (λ (z : List ℕ). sb.0 ++ z) rest.1 ∙ sym sb.4)),
       rest.2,
     )
 
-pub longer : {P G : Type 0} (step : P → Packet → Turn P G) (room : ℕ) (t : Turn P G) (ps qs : List Packet) (a b x y : List ℕ) (o : P) (v : Turn P G)
+pub longer : {P G : Type 0} (step : P → Packet → AnswerState P G) (room : ℕ) (t : AnswerState P G) (ps qs : List Packet) (a b x y : List ℕ) (o : P) (v : AnswerState P G)
     → SpellAll ps a → SpellAll qs b → a ++ x ≡ b ++ y → HasNoPacket x
     → outcome step room t ps ≡ On o → outcome step room t qs ≡ v → IsEnd v → ⊥
 longer step room t [] [] a b x y o v sa sb e none f g hv = not_on o v hv (sym f ∙ g)
@@ -69,6 +69,6 @@ longer step room (Broken z) (q ∷ ps) qs a b x y o v sa sb e none f g hv = cc
 longer step room Late (q ∷ ps) qs a b x y o v sa sb e none f g hv = cc
 longer step room (On r) (p ∷ ps) (q ∷ qs) a b x y o v sa sb e none f g hv =
     let s = same_fronts p q sa.0 sb.0 sa.1 sb.1 x y sa.2 sb.2 (spelled_apart a b x y sa.0 sa.1 sb.0 sb.1 sa.4 sb.4 e) in
-    let g2 : outcome step (room_after room p) (turn_after step room r p) qs ≡ v =
+    let g2 : outcome step (room_after room p) (state_after step room r p) qs ≡ v =
     sym (one_step step room r p qs) ∙ (ap (λ (z : Packet). outcome step room (On r) (z ∷ qs)) s.0 ∙ g) in
-    longer step (room_after room p) (turn_after step room r p) ps qs sa.1 sb.1 x y o v sa.3 sb.3 s.2 none (sym (one_step step room r p ps) ∙ f) g2 hv
+    longer step (room_after room p) (state_after step room r p) ps qs sa.1 sb.1 x y o v sa.3 sb.3 s.2 none (sym (one_step step room r p ps) ∙ f) g2 hv

@@ -1,10 +1,10 @@
 pub mod Words
 pub mod Requests
-pub mod Turn
+pub mod Outcomes
 pub mod SmudgeReply
 pub mod Handshake
 pub mod Listing
-pub mod ListTurn
+pub mod ListStates
 pub mod Grammar
 pub mod ReplyGrammar
 pub mod ListGrammar

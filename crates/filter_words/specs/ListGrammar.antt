@@ -1,9 +1,11 @@
 -- Good answers to a list request.
-use Rattle.std.specs.Prelude.{◌≡◌, ℕ, true, false, Option, Some, None, List, [], ◌∷◌, ◌++◌, codes}
-use Rattle.pkt_line.specs.Packets.{Packet}
+use Rattle.std.specs.Prelude.{◌≡◌, ◌⊎◌, ◌&&◌, not, map, ℕ, Bool, true, false, Option, Some, None, List, [], ◌∷◌, ◌++◌, codes}
+use Rattle.pkt_line.specs.Packets.{Packet, Payload}
 use Rattle.filter_words.specs.Words.{value_of, last_status}
 use Rattle.filter_words.specs.Listing.{GoodList, Listed, Aborted, name_in}
 use Rattle.filter_words.specs.Grammar.{block}
+use Rattle.filter_words.specs.declared.reply.BreakCause.{BreakCause}
+use Rattle.filter_words.specs.declared.reply.BreakCause.TheVariants as cause
 use Rattle.filter_words.specs.declared.words.Status.{Status}
 use Rattle.filter_words.specs.declared.words.Status.TheVariants as status
 
@@ -33,3 +35,43 @@ pub record IsList (delayed : List (List ℕ)) (ps : List Packet) (g : GoodList) 
   pub whole : ps ≡ block lines ++ block keys
   pub expected : AreExpected delayed [] (names_of lines)
   pub ends : EndsList (last_status None keys) (names_of lines) g
+
+-- the name is of a path that isn't delayed, or that was listed before
+abbrev pub is_strange : List (List ℕ) → List (List ℕ) → List ℕ → Bool
+is_strange delayed listed name = not (name_in delayed name && not (name_in listed name))
+
+-- the last line names a strange path, and those before it expected ones
+pub record HasStrangeName (delayed before : List (List ℕ)) (ps : List Packet) : Type 0 where
+  pub lines : List (List ℕ)
+  pub line : List ℕ
+  pub name : List ℕ
+  pub whole : ps ≡ map Payload lines ++ Payload line ∷ []
+  pub expected : AreExpected delayed before (names_of lines)
+  pub names : value_of (codes "pathname") line ≡ Some name
+  pub strange : is_strange delayed (before ++ names_of lines) name ≡ true
+
+-- the statuses that break the answer
+abbrev pub BreaksEnd : Option Status → BreakCause → Type 0
+BreaksEnd s cause.ListRefused = s ≡ Some status.Error
+BreaksEnd s cause.UnknownStatus = (s ≡ None) ⊎ (s ≡ Some status.Delayed) ⊎ (s ≡ Some status.Other)
+BreaksEnd s cause.Ended = ⊥
+BreaksEnd s cause.LinkFault = ⊥
+BreaksEnd s cause.BadPacket = ⊥
+BreaksEnd s cause.BadHandshake = ⊥
+BreaksEnd s cause.StrangeDelay = ⊥
+BreaksEnd s cause.TooLong = ⊥
+BreaksEnd s cause.StrangePath = ⊥
+
+pub record HasBadStatus (delayed before : List (List ℕ)) (ps : List Packet) (why : BreakCause) : Type 0 where
+  pub lines : List (List ℕ)
+  pub keys : List (List ℕ)
+  pub whole : ps ≡ block lines ++ block keys
+  pub expected : AreExpected delayed before (names_of lines)
+  pub breaks : BreaksEnd (last_status None keys) why
+
+-- the cause of an answer that is broken within the limit, where these were listed before
+abbrev pub BreaksFrom : List (List ℕ) → List (List ℕ) → List Packet → BreakCause → Type 0
+BreaksFrom delayed before ps why = ((why ≡ cause.StrangePath) × HasStrangeName delayed before ps) ⊎ HasBadStatus delayed before ps why
+
+abbrev pub BreaksList : List (List ℕ) → List Packet → BreakCause → Type 0
+BreaksList delayed ps why = BreaksFrom delayed [] ps why

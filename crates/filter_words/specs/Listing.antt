@@ -9,8 +9,8 @@ use Rattle.filter_words.specs.declared.words.Status.TheVariants as status
 use Rattle.filter_words.specs.declared.reply.BreakCause.TheVariants as cause
 use Rattle.filter_words.specs.declared.reply.ListReply.{ListReply}
 use Rattle.filter_words.specs.declared.reply.ListReply.TheVariants as reply
-use Rattle.filter_words.specs.declared.turn.Turn.{Turn}
-use Rattle.filter_words.specs.declared.turn.Turn.TheVariants.{On, Done, Broken, Late}
+use Rattle.filter_words.specs.declared.answer_state.AnswerState.{AnswerState}
+use Rattle.filter_words.specs.declared.answer_state.AnswerState.TheVariants.{On, Done, Broken, Late}
 
 -- the names listed so far, and behind them a key list with its status so far
 pub data ListPhase : Type 0 where
@@ -25,15 +25,15 @@ abbrev pub name_in : List (List ℕ) → List ℕ → Bool
 name_in names name = list_any (λ known. bytes_eq known name) names
 
 -- a name that is delayed, and wasn't listed before
-abbrev pub after_name : List (List ℕ) → List (List ℕ) → List ℕ → Turn ListPhase GoodList
+abbrev pub after_name : List (List ℕ) → List (List ℕ) → List ℕ → AnswerState ListPhase GoodList
 after_name delayed listed name =
     if name_in delayed name && not (name_in listed name) then On (Names (listed ++ name ∷ [])) else Broken cause.StrangePath
 
-abbrev pub after_value : List (List ℕ) → List (List ℕ) → Option (List ℕ) → Turn ListPhase GoodList
+abbrev pub after_value : List (List ℕ) → List (List ℕ) → Option (List ℕ) → AnswerState ListPhase GoodList
 after_value delayed listed None = On (Names listed)
 after_value delayed listed (Some name) = after_name delayed listed name
 
-abbrev pub list_status : List (List ℕ) → Option Status → Turn ListPhase GoodList
+abbrev pub list_status : List (List ℕ) → Option Status → AnswerState ListPhase GoodList
 list_status listed (Some status.Success) = Done (Listed listed)
 list_status listed (Some status.Abort) = Done Aborted
 list_status listed (Some status.Error) = Broken cause.ListRefused
@@ -42,13 +42,13 @@ list_status listed (Some status.Other) = Broken cause.UnknownStatus
 list_status listed None = Broken cause.UnknownStatus
 
 -- a `pathname=` line names a path, and other lines are passed over
-abbrev pub list_step : List (List ℕ) → ListPhase → Packet → Turn ListPhase GoodList
+abbrev pub list_step : List (List ℕ) → ListPhase → Packet → AnswerState ListPhase GoodList
 list_step delayed (Names listed) (Payload line) = after_value delayed listed (value_of (codes "pathname") line)
 list_step delayed (Names listed) Flush = On (KeyList listed None)
 list_step delayed (KeyList listed s) (Payload line) = On (KeyList listed (status_after s line))
 list_step delayed (KeyList listed s) Flush = list_status listed s
 
-abbrev pub list_start : Turn ListPhase GoodList
+abbrev pub list_start : AnswerState ListPhase GoodList
 list_start = On (Names [])
 
 -- how many paths are named, or that none is
@@ -58,7 +58,7 @@ reply_of_good (Listed (name ∷ names)) = reply.Names (length (name ∷ names))
 reply_of_good Aborted = reply.Abort
 
 -- the reply that has come to its end
-abbrev pub list_reply_in : Turn ListPhase GoodList → Option ListReply
+abbrev pub list_reply_in : AnswerState ListPhase GoodList → Option ListReply
 list_reply_in (On phase) = None
 list_reply_in (Done g) = Some (reply_of_good g)
 list_reply_in (Broken why) = Some (reply.Broken why)

@@ -1,8 +1,10 @@
 -- Good replies to a smudge request.
-use Rattle.std.specs.Prelude.{◌≡◌, ℕ, ◌⊎◌, Bool, true, Option, Some, None, List, [], ◌∷◌, ◌++◌}
+use Rattle.std.specs.Prelude.{◌≡◌, ℕ, ◌⊎◌, Bool, true, false, Option, Some, None, List, [], ◌∷◌, ◌++◌}
 use Rattle.pkt_line.specs.Packets.{Packet}
 use Rattle.filter_words.specs.Words.{last_status}
 use Rattle.filter_words.specs.Grammar.{block}
+use Rattle.filter_words.specs.declared.reply.BreakCause.{BreakCause}
+use Rattle.filter_words.specs.declared.reply.BreakCause.TheVariants as cause
 use Rattle.filter_words.specs.declared.words.Status.{Status}
 use Rattle.filter_words.specs.declared.words.Status.TheVariants as status
 use Rattle.filter_words.specs.declared.smudge_reply.GoodReply.{GoodReply}
@@ -46,3 +48,43 @@ IsReply d ps g = IsShortReply d ps g ⊎ IsLongReply ps g
 abbrev pub joined : List (List ℕ) → List ℕ
 joined [] = []
 joined (piece ∷ pieces) = piece ++ joined pieces
+
+-- the statuses of a first key list that break a reply, and those of a key list behind a content
+abbrev pub BreaksFirst : Bool → Option Status → BreakCause → Type 0
+BreaksFirst d s cause.StrangeDelay = (s ≡ Some status.Delayed) × (d ≡ false)
+BreaksFirst d s cause.UnknownStatus = (s ≡ None) ⊎ (s ≡ Some status.Other)
+BreaksFirst d s cause.Ended = ⊥
+BreaksFirst d s cause.LinkFault = ⊥
+BreaksFirst d s cause.BadPacket = ⊥
+BreaksFirst d s cause.BadHandshake = ⊥
+BreaksFirst d s cause.TooLong = ⊥
+BreaksFirst d s cause.StrangePath = ⊥
+BreaksFirst d s cause.ListRefused = ⊥
+
+abbrev pub BreaksLast : Option Status → BreakCause → Type 0
+BreaksLast s cause.UnknownStatus = (s ≡ Some status.Delayed) ⊎ (s ≡ Some status.Other)
+BreaksLast s cause.Ended = ⊥
+BreaksLast s cause.LinkFault = ⊥
+BreaksLast s cause.BadPacket = ⊥
+BreaksLast s cause.BadHandshake = ⊥
+BreaksLast s cause.StrangeDelay = ⊥
+BreaksLast s cause.TooLong = ⊥
+BreaksLast s cause.StrangePath = ⊥
+BreaksLast s cause.ListRefused = ⊥
+
+pub record BreaksShort (d : Bool) (ps : List Packet) (why : BreakCause) : Type 0 where
+  pub keys : List (List ℕ)
+  pub whole : ps ≡ block keys
+  pub breaks : BreaksFirst d (last_status None keys) why
+
+pub record BreaksLong (ps : List Packet) (why : BreakCause) : Type 0 where
+  pub keys : List (List ℕ)
+  pub pieces : List (List ℕ)
+  pub last_keys : List (List ℕ)
+  pub whole : ps ≡ block keys ++ (block pieces ++ block last_keys)
+  pub success : last_status None keys ≡ Some status.Success
+  pub breaks : BreaksLast (last_status None last_keys) why
+
+-- the cause of a reply that is broken within the limit
+abbrev pub BreaksReply : Bool → List Packet → BreakCause → Type 0
+BreaksReply d ps why = BreaksShort d ps why ⊎ BreaksLong ps why

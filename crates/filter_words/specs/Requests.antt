@@ -27,19 +27,27 @@ smudge_keys path can_delay =
 abbrev pub smudge_packets : List ℕ → Bool → List ℕ → List Packet
 smudge_packets path can_delay content = smudge_keys path can_delay ++ content_packets content ++ Flush ∷ []
 
-abbrev pub hello_text : List ℕ
+unfoldable pub hello_text : List ℕ
 hello_text = spelling_all hello_packets
 
-abbrev pub caps_text : List ℕ
+unfoldable pub caps_text : List ℕ
 caps_text = spelling_all caps_packets
 
-abbrev pub list_text : List ℕ
+unfoldable pub list_text : List ℕ
 list_text = spelling_all list_packets
 
+-- the key list of a request, which the content follows
+unfoldable pub keys_text : List ℕ → Bool → List ℕ
+keys_text path can_delay = spelling_all (smudge_keys path can_delay)
+
+-- the packets of a content, and the flush packet behind them
+unfoldable pub content_text : List ℕ → List ℕ
+content_text content = spelling_all (content_packets content ++ Flush ∷ [])
+
 -- the first request for a path
-abbrev pub first_text : List ℕ → Bool → List ℕ → List ℕ
+unfoldable pub first_text : List ℕ → Bool → List ℕ → List ℕ
 first_text path can_delay content = spelling_all (smudge_packets path can_delay content)
 
 -- the request for a path that was delayed and then listed
-abbrev pub second_text : List ℕ → List ℕ
+unfoldable pub second_text : List ℕ → List ℕ
 second_text path = first_text path false []

@@ -11,54 +11,54 @@ use Rattle.filter_words.specs.declared.smudge_reply.GoodReply.{GoodReply}
 use Rattle.filter_words.specs.declared.smudge_reply.GoodReply.TheVariants as good
 use Rattle.filter_words.specs.declared.smudge_reply.ReplyPhase.{ReplyPhase}
 use Rattle.filter_words.specs.declared.smudge_reply.ReplyPhase.TheVariants.{KeyList, Content, LastKeyList}
-use Rattle.filter_words.specs.declared.turn.Turn.{Turn}
-use Rattle.filter_words.specs.declared.turn.Turn.TheVariants.{On, Done, Broken, Late}
+use Rattle.filter_words.specs.declared.answer_state.AnswerState.{AnswerState}
+use Rattle.filter_words.specs.declared.answer_state.AnswerState.TheVariants.{On, Done, Broken, Late}
 
 -- The first key list's status decides. `d` says that `can-delay=1` was sent.
-abbrev pub first_turn : Bool → Option Status → Turn ReplyPhase GoodReply
-first_turn d None = Broken cause.UnknownStatus
-first_turn d (Some status.Success) = On Content
-first_turn d (Some status.Error) = Done good.Error
-first_turn d (Some status.Abort) = Done good.Abort
-first_turn true (Some status.Delayed) = Done good.Delayed
-first_turn false (Some status.Delayed) = Broken cause.StrangeDelay
-first_turn d (Some status.Other) = Broken cause.UnknownStatus
+abbrev pub first_state : Bool → Option Status → AnswerState ReplyPhase GoodReply
+first_state d None = Broken cause.UnknownStatus
+first_state d (Some status.Success) = On Content
+first_state d (Some status.Error) = Done good.Error
+first_state d (Some status.Abort) = Done good.Abort
+first_state true (Some status.Delayed) = Done good.Delayed
+first_state false (Some status.Delayed) = Broken cause.StrangeDelay
+first_state d (Some status.Other) = Broken cause.UnknownStatus
 
 -- so does the status of the one behind the content
-abbrev pub last_turn : Option Status → Turn ReplyPhase GoodReply
-last_turn None = Done good.Content
-last_turn (Some status.Success) = Done good.Content
-last_turn (Some status.Error) = Done good.ErrorAfter
-last_turn (Some status.Abort) = Done good.Abort
-last_turn (Some status.Delayed) = Broken cause.UnknownStatus
-last_turn (Some status.Other) = Broken cause.UnknownStatus
+abbrev pub last_state : Option Status → AnswerState ReplyPhase GoodReply
+last_state None = Done good.Content
+last_state (Some status.Success) = Done good.Content
+last_state (Some status.Error) = Done good.ErrorAfter
+last_state (Some status.Abort) = Done good.Abort
+last_state (Some status.Delayed) = Broken cause.UnknownStatus
+last_state (Some status.Other) = Broken cause.UnknownStatus
 
-abbrev pub reply_step : Bool → ReplyPhase → Packet → Turn ReplyPhase GoodReply
+abbrev pub reply_step : Bool → ReplyPhase → Packet → AnswerState ReplyPhase GoodReply
 reply_step d (KeyList s) (Payload line) = On (KeyList (status_after s line))
-reply_step d (KeyList s) Flush = first_turn d s
+reply_step d (KeyList s) Flush = first_state d s
 reply_step d Content (Payload piece) = On Content
 reply_step d Content Flush = On (LastKeyList None)
 reply_step d (LastKeyList s) (Payload line) = On (LastKeyList (status_after s line))
-reply_step d (LastKeyList s) Flush = last_turn s
+reply_step d (LastKeyList s) Flush = last_state s
 
-abbrev pub reply_start : Turn ReplyPhase GoodReply
+abbrev pub reply_start : AnswerState ReplyPhase GoodReply
 reply_start = On (KeyList None)
 
 -- what a packet adds to the content, and what it makes of the reply
-abbrev pub piece_in : Turn ReplyPhase GoodReply → Packet → List ℕ
+abbrev pub piece_in : AnswerState ReplyPhase GoodReply → Packet → List ℕ
 piece_in (On Content) (Payload piece) = piece
-piece_in turn p = []
+piece_in state p = []
 
-abbrev pub turn_after : Bool → Turn ReplyPhase GoodReply → Packet → Turn ReplyPhase GoodReply
-turn_after d (On phase) p = reply_step d phase p
-turn_after d (Done g) p = Late
-turn_after d (Broken why) p = Late
-turn_after d Late p = Late
+abbrev pub state_after : Bool → AnswerState ReplyPhase GoodReply → Packet → AnswerState ReplyPhase GoodReply
+state_after d (On phase) p = reply_step d phase p
+state_after d (Done g) p = Late
+state_after d (Broken why) p = Late
+state_after d Late p = Late
 
 -- the content: the payloads between the two key lists, joined
-abbrev pub content_in : Bool → Turn ReplyPhase GoodReply → List Packet → List ℕ
-content_in d turn [] = []
-content_in d turn (p ∷ ps) = piece_in turn p ++ content_in d (turn_after d turn p) ps
+abbrev pub content_in : Bool → AnswerState ReplyPhase GoodReply → List Packet → List ℕ
+content_in d state [] = []
+content_in d state (p ∷ ps) = piece_in state p ++ content_in d (state_after d state p) ps
 
 abbrev pub reply_of_good : GoodReply → Reply
 reply_of_good good.Content = reply.Content
@@ -68,7 +68,7 @@ reply_of_good good.Abort = reply.Abort
 reply_of_good good.Delayed = reply.Delayed
 
 -- the reply that has come to its end
-abbrev pub reply_in : Turn ReplyPhase GoodReply → Option Reply
+abbrev pub reply_in : AnswerState ReplyPhase GoodReply → Option Reply
 reply_in (On phase) = None
 reply_in (Done g) = Some (reply_of_good g)
 reply_in (Broken why) = Some (reply.Broken why)

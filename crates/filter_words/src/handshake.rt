@@ -1,12 +1,12 @@
-ghost use Rattle.std.specs.Prelude.{◌≡◌, ◌∷◌, List, map};
+ghost use Rattle.std.specs.Prelude.{◌≡◌, ◌+◌, ◌∷◌, List, map};
 ghost use Rattle.pkt_line.specs.Packets.{Packet, Payload, Flush, size};
-ghost use Rattle.filter_words.specs.Turn.{outcome, limit, packet_of};
+ghost use Rattle.filter_words.specs.Outcomes.{outcome, limit, packet_of};
 ghost use Rattle.filter_words.specs.Words.{without_lf};
 ghost use Rattle.filter_words.specs.Handshake.{handshake_step, handshake_start, wanted_line, with_capability};
 
+use crate::answer_state::AnswerState;
 use crate::packet::ReadPacket;
 use crate::reply::{BreakCause, Caps};
-use crate::turn::{MOST_ANSWER, Turn};
 use crate::words::without_end;
 
 /// In which part of a handshake the reading of a driver's answers stands: gitattributes(5), "Long Running Filter
@@ -24,40 +24,42 @@ pub enum HandshakePhase {
 }
 
 /// What a payload makes of a handshake.
-pub fn handshake_after_line(phase: HandshakePhase, line: &[u8]) -> Turn<HandshakePhase, Caps>
+pub fn handshake_after_line(phase: HandshakePhase, line: &[u8]) -> AnswerState<HandshakePhase, Caps>
     ensures { result ≡ handshake_step phase (Payload line.now) }
 {
     match phase {
         HandshakePhase::Server => wanted(line, b"git-filter-server", HandshakePhase::Version),
         HandshakePhase::Version => wanted(line, b"version=2", HandshakePhase::EndOfHello),
-        HandshakePhase::EndOfHello => Turn::Broken(BreakCause::BadHandshake),
-        HandshakePhase::Capabilities(caps) => Turn::On(HandshakePhase::Capabilities(more_caps(
-            caps, line,
-        ))),
+        HandshakePhase::EndOfHello => AnswerState::Broken(BreakCause::BadHandshake),
+        HandshakePhase::Capabilities(caps) => AnswerState::On(HandshakePhase::Capabilities(
+            more_caps(caps, line),
+        )),
     }
 }
 
 /// What a flush packet makes of a handshake.
-pub fn handshake_after_flush(phase: HandshakePhase) -> Turn<HandshakePhase, Caps>
+pub fn handshake_after_flush(phase: HandshakePhase) -> AnswerState<HandshakePhase, Caps>
     ensures { result ≡ handshake_step phase Flush }
 {
     match phase {
-        HandshakePhase::Server | HandshakePhase::Version => Turn::Broken(BreakCause::BadHandshake),
-        HandshakePhase::EndOfHello => Turn::On(HandshakePhase::Capabilities(Caps {
+        HandshakePhase::Server | HandshakePhase::Version => AnswerState::Broken(
+            BreakCause::BadHandshake,
+        ),
+        HandshakePhase::EndOfHello => AnswerState::On(HandshakePhase::Capabilities(Caps {
             smudge: false,
             delay: false,
         })),
-        HandshakePhase::Capabilities(caps) => Turn::Done(caps),
+        HandshakePhase::Capabilities(caps) => AnswerState::Done(caps),
     }
 }
 
-fn wanted(line: &[u8], text: &[u8], next: HandshakePhase) -> Turn<HandshakePhase, Caps>
+fn wanted(line: &[u8], text: &[u8], next: HandshakePhase) -> AnswerState<HandshakePhase, Caps>
     ensures { result ≡ wanted_line line.now text.now next }
 {
     if without_end(line) == text {
-        Turn::On(next)
+        AnswerState::On(next)
     } else {
-        Turn::Broken(BreakCause::BadHandshake)
+        AnswerState::Broken(BreakCause::BadHandshake)
     }
 }
 
@@ -71,32 +73,22 @@ fn more_caps(caps: Caps, line: &[u8]) -> Caps
     }
 }
 
-/// What whole packets make of a handshake's two answers, read one by one.
-pub fn handshake_of(packets: &[ReadPacket<'_>]) -> Turn<HandshakePhase, Caps>
-    ensures { result ≡ outcome handshake_step limit handshake_start (map packet_of packets.now) }
-{
-    let mut room = MOST_ANSWER;
-    let mut turn = Turn::On(HandshakePhase::Server);
-    for packet in packets {
-        (room, turn) = handshake_after_packet(room, turn, packet);
-    }
-    turn
-}
-
-/// One more packet, and how much room is left.
-fn handshake_after_packet(
+/// What one more packet makes of a handshake's two answers, for which there is so much room, and the room that is left.
+/// A handshake begins with `MOST_ANSWER` and `HandshakePhase::Server`.
+pub fn handshake_after_packet(
     room: u64,
-    turn: Turn<HandshakePhase, Caps>,
+    state: AnswerState<HandshakePhase, Caps>,
     packet: &ReadPacket<'_>,
-) -> (u64, Turn<HandshakePhase, Caps>)
-    ensures { (rest : List Packet) → outcome handshake_step result.0 result.1 rest ≡ outcome handshake_step room turn (packet_of packet.now ∷ rest) }
+) -> (u64, AnswerState<HandshakePhase, Caps>)
+    ensures counted { (next : HandshakePhase) → result.1 ≡ AnswerState.On next → result.0 + size (packet_of packet.now) ≡ room }
+    ensures outcome { (rest : List Packet) → outcome handshake_step result.0 result.1 rest ≡ outcome handshake_step room state (packet_of packet.now ∷ rest) }
 {
-    let Turn::On(phase) = turn else {
-        return (room, Turn::Late);
+    let AnswerState::On(phase) = state else {
+        return (room, AnswerState::Late);
     };
     let size = packet.size();
     if size > room {
-        return (room, Turn::Broken(BreakCause::TooLong));
+        return (room, AnswerState::Broken(BreakCause::TooLong));
     }
     match packet {
         ReadPacket::Payload(line) => (room - size, handshake_after_line(phase, line)),

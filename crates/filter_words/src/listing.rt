@@ -1,16 +1,16 @@
-ghost use Rattle.std.specs.Prelude.{◌≡◌, ◌<◌, ◌^◌, vec_len, length, ◌&&◌, not, ◌∷◌, ◌++◌, [], List, ℕ, map, codes, IfOk};
+ghost use Rattle.std.specs.Prelude.{◌≡◌, ◌+◌, ◌<◌, ◌^◌, vec_len, length, ◌&&◌, not, ◌∷◌, ◌++◌, [], List, ℕ, map, codes, IfOk};
 ghost use Rattle.pkt_line.specs.Packets.{Packet, Payload, Flush, size};
 ghost use Rattle.std.specs.Option.{option_map};
 ghost use Rattle.std.specs.List.{list_any};
 ghost use Rattle.std.specs.Str.{bytes_eq};
-ghost use Rattle.filter_words.specs.Turn.{outcome, limit, packet_of};
+ghost use Rattle.filter_words.specs.Outcomes.{outcome, limit, packet_of};
 ghost use Rattle.filter_words.specs.Words.{value_of};
 ghost use Rattle.filter_words.specs.Listing.{reply_of_good, list_reply_in, name_in, after_name, after_value, list_step, list_status, list_start};
-ghost use Rattle.filter_words.specs.ListTurn.{good_list, list_turn, list_phase, bytes_of};
+ghost use Rattle.filter_words.specs.ListStates.{good_list, list_state, list_phase, bytes_of};
 
+use crate::answer_state::{AnswerState, MOST_ANSWER};
 use crate::packet::ReadPacket;
 use crate::reply::{BreakCause, ListReply};
-use crate::turn::{MOST_ANSWER, Turn};
 use crate::words::{Status, next_status, value_of};
 use std::alloc::{AllocError, Global};
 
@@ -35,7 +35,7 @@ pub enum ListEnd {
 /// The answer to a list request as it is read, and the paths that it has named so far, in its order.
 #[derive(Drop)]
 pub struct Listing<'a> {
-    pub turn: Turn<ListPart, ListEnd>,
+    pub state: AnswerState<ListPart, ListEnd>,
     pub names: Vec<&'a [u8]>,
 }
 
@@ -59,34 +59,36 @@ impl Listing<'_> {
     /// The reply that has come to its end.
     pub fn reply(&self) -> Option<ListReply>
         requires { vec_len self.now.names < 2 ^ 32 }
-        ensures { result ≡ list_reply_in (list_turn self.now.turn (map bytes_of self.now.names.items)) }
+        ensures { result ≡ list_reply_in (list_state self.now.state (map bytes_of self.now.names.items)) }
     {
-        match &self.turn {
-            Turn::Done(end) => Some(list_reply(*end, self.names.len() as u32)),
-            Turn::Broken(cause) => Some(ListReply::Broken(*cause)),
-            Turn::On(_) | Turn::Late => None,
+        match &self.state {
+            AnswerState::Done(end) => Some(list_reply(*end, self.names.len() as u32)),
+            AnswerState::Broken(cause) => Some(ListReply::Broken(*cause)),
+            AnswerState::On(_) | AnswerState::Late => None,
         }
     }
 }
 
 /// What a flush packet makes of the answer to a list request.
-pub fn list_after_flush(part: ListPart) -> Turn<ListPart, ListEnd>
-    ensures { (delayed names : List (List ℕ)) → list_turn result names ≡ list_step delayed (list_phase part names) Flush }
+pub fn list_after_flush(part: ListPart) -> AnswerState<ListPart, ListEnd>
+    ensures { (delayed names : List (List ℕ)) → list_state result names ≡ list_step delayed (list_phase part names) Flush }
 {
     match part {
-        ListPart::Names => Turn::On(ListPart::KeyList(None)),
+        ListPart::Names => AnswerState::On(ListPart::KeyList(None)),
         ListPart::KeyList(status) => after_list_status(status),
     }
 }
 
-fn after_list_status(status: Option<Status>) -> Turn<ListPart, ListEnd>
-    ensures { (names : List (List ℕ)) → list_turn result names ≡ list_status names status }
+fn after_list_status(status: Option<Status>) -> AnswerState<ListPart, ListEnd>
+    ensures { (names : List (List ℕ)) → list_state result names ≡ list_status names status }
 {
     match status {
-        Some(Status::Success) => Turn::Done(ListEnd::Success),
-        Some(Status::Abort) => Turn::Done(ListEnd::Abort),
-        Some(Status::Error) => Turn::Broken(BreakCause::ListRefused),
-        Some(Status::Delayed | Status::Other) | None => Turn::Broken(BreakCause::UnknownStatus),
+        Some(Status::Success) => AnswerState::Done(ListEnd::Success),
+        Some(Status::Abort) => AnswerState::Done(ListEnd::Abort),
+        Some(Status::Error) => AnswerState::Broken(BreakCause::ListRefused),
+        Some(Status::Delayed | Status::Other) | None => AnswerState::Broken(
+            BreakCause::UnknownStatus,
+        ),
     }
 }
 
@@ -116,17 +118,17 @@ fn name_listed<'a>(
     mut names: Vec<&'a [u8]>,
     name: &'a [u8],
 ) -> Result<Listing<'a>, AllocError>
-    ensures { IfOk result (λ l. list_turn l.turn (map bytes_of l.names.items) ≡ after_name (map bytes_of delayed.now) (map bytes_of names.entry.items) name.now) }
+    ensures { IfOk result (λ l. list_state l.state (map bytes_of l.names.items) ≡ after_name (map bytes_of delayed.now) (map bytes_of names.entry.items) name.now) }
 {
     if is_expected(delayed, names.as_slice(), name) {
         names.push(name)?;
         Ok(Listing {
-            turn: Turn::On(ListPart::Names),
+            state: AnswerState::On(ListPart::Names),
             names,
         })
     } else {
         Ok(Listing {
-            turn: Turn::Broken(BreakCause::StrangePath),
+            state: AnswerState::Broken(BreakCause::StrangePath),
             names,
         })
     }
@@ -139,62 +141,45 @@ fn list_after_line<'a>(
     names: Vec<&'a [u8]>,
     line: &'a [u8],
 ) -> Result<Listing<'a>, AllocError>
-    ensures { IfOk result (λ l. list_turn l.turn (map bytes_of l.names.items) ≡ list_step (map bytes_of delayed.now) (list_phase part (map bytes_of names.entry.items)) (Payload line.now)) }
+    ensures { IfOk result (λ l. list_state l.state (map bytes_of l.names.items) ≡ list_step (map bytes_of delayed.now) (list_phase part (map bytes_of names.entry.items)) (Payload line.now)) }
 {
     match part {
         ListPart::Names => match listed_name(line) {
             Some(name) => name_listed(delayed, names, name),
             None => Ok(Listing {
-                turn: Turn::On(ListPart::Names),
+                state: AnswerState::On(ListPart::Names),
                 names,
             }),
         },
         ListPart::KeyList(status) => Ok(Listing {
-            turn: Turn::On(ListPart::KeyList(next_status(status, line))),
+            state: AnswerState::On(ListPart::KeyList(next_status(status, line))),
             names,
         }),
     }
 }
 
-/// What whole packets make of the answer to a list request, read one by one, where these paths are delayed. It looks
-/// for each name by a scan over the paths.
-pub fn listing_of<'a>(
-    alloc: Global,
-    delayed: &[&[u8]],
-    packets: &[ReadPacket<'a>],
-) -> Result<Listing<'a>, AllocError>
-    ensures { IfOk result (λ l. list_turn l.turn (map bytes_of l.names.items) ≡ outcome (list_step (map bytes_of delayed.now)) limit list_start (map packet_of packets.now)) }
-{
-    let mut room = MOST_ANSWER;
-    let mut listing = Listing {
-        turn: Turn::On(ListPart::Names),
-        names: Vec::new(alloc),
-    };
-    for packet in packets {
-        (room, listing) = list_after_packet(delayed, room, listing, packet)?;
-    }
-    Ok(listing)
-}
-
-/// One more packet, and how much room is left.
-fn list_after_packet<'a>(
+/// What one more packet makes of the answer to a list request, for which there is so much room, where these paths are
+/// delayed, and the room that is left. It begins with `MOST_ANSWER`, `ListPart::Names` and no names, and looks for each
+/// name by a scan over the paths.
+pub fn list_after_packet<'a>(
     delayed: &[&[u8]],
     room: u64,
     listing: Listing<'a>,
     packet: &ReadPacket<'a>,
 ) -> Result<(u64, Listing<'a>), AllocError>
-    ensures { IfOk result (λ next. (rest : List Packet) → outcome (list_step (map bytes_of delayed.now)) next.0 (list_turn next.1.turn (map bytes_of next.1.names.items)) rest
-        ≡ outcome (list_step (map bytes_of delayed.now)) room (list_turn listing.entry.turn (map bytes_of listing.entry.names.items)) (packet_of packet.now ∷ rest)) }
+    ensures counted { IfOk result (λ next. (part : ListPart) → next.1.state ≡ AnswerState.On part → next.0 + size (packet_of packet.now) ≡ room) }
+    ensures outcome { IfOk result (λ next. (rest : List Packet) → outcome (list_step (map bytes_of delayed.now)) next.0 (list_state next.1.state (map bytes_of next.1.names.items)) rest
+        ≡ outcome (list_step (map bytes_of delayed.now)) room (list_state listing.entry.state (map bytes_of listing.entry.names.items)) (packet_of packet.now ∷ rest)) }
 {
-    let Listing { turn, names } = listing;
-    let Turn::On(part) = turn else {
-        let turn = Turn::Late;
-        return Ok((room, Listing { turn, names }));
+    let Listing { state, names } = listing;
+    let AnswerState::On(part) = state else {
+        let state = AnswerState::Late;
+        return Ok((room, Listing { state, names }));
     };
     let size = packet.size();
     if size > room {
-        let turn = Turn::Broken(BreakCause::TooLong);
-        return Ok((room, Listing { turn, names }));
+        let state = AnswerState::Broken(BreakCause::TooLong);
+        return Ok((room, Listing { state, names }));
     }
     match packet {
         ReadPacket::Payload(line) => {
@@ -202,8 +187,8 @@ fn list_after_packet<'a>(
             Ok((room - size, next))
         }
         ReadPacket::Flush => {
-            let turn = list_after_flush(part);
-            Ok((room - size, Listing { turn, names }))
+            let state = list_after_flush(part);
+            Ok((room - size, Listing { state, names }))
         }
     }
 }

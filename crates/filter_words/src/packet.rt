@@ -1,6 +1,6 @@
 ghost use Rattle.std.specs.Prelude.{◌≡◌};
 ghost use Rattle.pkt_line.specs.Packets.{size};
-ghost use Rattle.filter_words.specs.Turn.{packet_of};
+ghost use Rattle.filter_words.specs.Outcomes.{packet_of};
 
 /// A packet that was read.
 #[derive(Clone, Copy, Debug, PartialEq, Eq)]

@@ -1,6 +1,6 @@
 ghost use Rattle.std.specs.Prelude.{◌≡◌, ◌≤◌, ◌++◌, take, length, codes, OnOk, OnErr, vec_len};
 ghost use Rattle.pkt_line.specs.Spelling.{spelling, spelling_all};
-ghost use Rattle.filter_words.specs.Requests.{line, hello_packets, caps_packets, list_packets, can_delay_line, smudge_keys, smudge_packets, hello_text, caps_text, list_text, first_text};
+ghost use Rattle.filter_words.specs.Requests.{line, hello_packets, caps_packets, list_packets, can_delay_line, smudge_keys, smudge_packets, hello_text, caps_text, list_text, keys_text, first_text};
 
 use pkt_line::{push_content, push_flush, push_line};
 use std::alloc::{AllocError, Global};
@@ -9,6 +9,7 @@ use std::alloc::{AllocError, Global};
 ///
 /// This call and the three below append texts of gitattributes(5), "Long Running Filter Process", and leave `out` as it
 /// was after an error, which is want of memory alone.
+#[tactic(auto, unfolding(crate::specs::Requests::hello_text))]
 pub fn push_hello(alloc: Global, out: &mut Vec<u8>) -> Result<(), AllocError>
     ensures ok { OnOk result (out.new.items ≡ out.old.items ++ hello_text) }
     ensures err { OnErr result (out.new.items ≡ out.old.items) }
@@ -20,6 +21,7 @@ pub fn push_hello(alloc: Global, out: &mut Vec<u8>) -> Result<(), AllocError>
 
 /// Appends the capabilities that a client announces: the lines `capability=clean`, `capability=smudge` and
 /// `capability=delay`, in this order, and flush.
+#[tactic(auto, unfolding(crate::specs::Requests::caps_text))]
 pub fn push_caps(alloc: Global, out: &mut Vec<u8>) -> Result<(), AllocError>
     ensures ok { OnOk result (out.new.items ≡ out.old.items ++ caps_text) }
     ensures err { OnErr result (out.new.items ≡ out.old.items) }
@@ -31,6 +33,7 @@ pub fn push_caps(alloc: Global, out: &mut Vec<u8>) -> Result<(), AllocError>
 
 /// Appends the request for a list of the delayed paths that are ready: the line `command=list_available_blobs`, and
 /// flush.
+#[tactic(auto, unfolding(crate::specs::Requests::list_text))]
 pub fn push_list(alloc: Global, out: &mut Vec<u8>) -> Result<(), AllocError>
     ensures ok { OnOk result (out.new.items ≡ out.old.items ++ list_text) }
     ensures err { OnErr result (out.new.items ≡ out.old.items) }
@@ -43,6 +46,7 @@ pub fn push_list(alloc: Global, out: &mut Vec<u8>) -> Result<(), AllocError>
 /// Appends the request to smudge a content for a path of 1 to 4,096 bytes: the lines `command=smudge` and
 /// `pathname=<path>`, the line `can-delay=1` where `can_delay`, flush, the content, and flush. A path that was delayed
 /// is asked for again without `can_delay` and with an empty content.
+#[tactic(auto, unfolding(crate::specs::Requests::first_text))]
 pub fn push_smudge(
     alloc: Global,
     out: &mut Vec<u8>,
@@ -57,6 +61,25 @@ pub fn push_smudge(
 {
     let before = out.len();
     let pushed = push_smudge_packets(alloc, out, path, can_delay, content);
+    whole_or_nothing(out, before, pushed)
+}
+
+/// Appends the key list of such a request alone. Its content follows as packets of at most 65,516 bytes and flush, so a
+/// caller that sends a content piece by piece needs no copy of it.
+#[tactic(auto, unfolding(crate::specs::Requests::keys_text))]
+pub fn push_smudge_keys(
+    alloc: Global,
+    out: &mut Vec<u8>,
+    path: &[u8],
+    can_delay: bool,
+) -> Result<(), AllocError>
+    requires some { 1 ≤ length path.now }
+    requires few { length path.now ≤ 4096 }
+    ensures ok { OnOk result (out.new.items ≡ out.old.items ++ keys_text path.now can_delay) }
+    ensures err { OnErr result (out.new.items ≡ out.old.items) }
+{
+    let before = out.len();
+    let pushed = push_key_packets(alloc, out, path, can_delay);
     whole_or_nothing(out, before, pushed)
 }
 
@@ -114,12 +137,12 @@ fn push_smudge_packets(
     ensures ok { OnOk result (out.new.items ≡ out.old.items ++ spelling_all (smudge_packets path.now can_delay content.now)) }
     ensures err { OnErr result (take (vec_len out.old) out.new.items ≡ out.old.items) }
 {
-    push_smudge_keys(alloc, out, path, can_delay)?;
+    push_key_packets(alloc, out, path, can_delay)?;
     push_content(alloc, out, content)?;
     push_flush(alloc, out)
 }
 
-fn push_smudge_keys(
+fn push_key_packets(
     alloc: Global,
     out: &mut Vec<u8>,
     path: &[u8],

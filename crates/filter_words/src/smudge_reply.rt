@@ -1,11 +1,11 @@
-ghost use Rattle.std.specs.Prelude.{◌≡◌, ◌∷◌, List, ℕ, Bool, map};
+ghost use Rattle.std.specs.Prelude.{◌≡◌, ◌+◌, ◌∷◌, List, ℕ, Bool, map};
 ghost use Rattle.pkt_line.specs.Packets.{Packet, Payload, Flush, size};
-ghost use Rattle.filter_words.specs.Turn.{outcome, limit, packet_of};
-ghost use Rattle.filter_words.specs.SmudgeReply.{reply_in, reply_step, reply_start, first_turn, last_turn};
+ghost use Rattle.filter_words.specs.Outcomes.{outcome, limit, packet_of};
+ghost use Rattle.filter_words.specs.SmudgeReply.{reply_in, reply_step, reply_start, first_state, last_state};
 
+use crate::answer_state::{AnswerState, MOST_ANSWER};
 use crate::packet::ReadPacket;
 use crate::reply::{BreakCause, Reply};
-use crate::turn::{MOST_ANSWER, Turn};
 use crate::words::{Status, next_status};
 
 /// How a reply to a smudge request ended well: gitattributes(5), "Long Running Filter Process".
@@ -46,19 +46,19 @@ impl From<GoodReply> for Reply {
 }
 
 /// The reply that has come to its end.
-pub fn reply_of(turn: Turn<ReplyPhase, GoodReply>) -> Option<Reply>
-    ensures { result ≡ reply_in turn }
+pub fn reply_of(state: AnswerState<ReplyPhase, GoodReply>) -> Option<Reply>
+    ensures { result ≡ reply_in state }
 {
-    match turn {
-        Turn::Done(good) => Some(Reply::from(good)),
-        Turn::Broken(cause) => Some(Reply::Broken(cause)),
-        Turn::On(_) | Turn::Late => None,
+    match state {
+        AnswerState::Done(good) => Some(Reply::from(good)),
+        AnswerState::Broken(cause) => Some(Reply::Broken(cause)),
+        AnswerState::On(_) | AnswerState::Late => None,
     }
 }
 
 /// What a payload makes of a reply.
 pub fn reply_after_line(phase: ReplyPhase, line: &[u8]) -> ReplyPhase
-    ensures { (d : Bool) → reply_step d phase (Payload line.now) ≡ Turn.On result }
+    ensures { (d : Bool) → reply_step d phase (Payload line.now) ≡ AnswerState.On result }
 {
     match phase {
         ReplyPhase::KeyList(status) => ReplyPhase::KeyList(next_status(status, line)),
@@ -68,75 +68,65 @@ pub fn reply_after_line(phase: ReplyPhase, line: &[u8]) -> ReplyPhase
 }
 
 /// What a flush packet makes of a reply to a request that had `can-delay=1`, or not.
-pub fn reply_after_flush(can_delay: bool, phase: ReplyPhase) -> Turn<ReplyPhase, GoodReply>
+pub fn reply_after_flush(can_delay: bool, phase: ReplyPhase) -> AnswerState<ReplyPhase, GoodReply>
     ensures { result ≡ reply_step can_delay phase Flush }
 {
     match phase {
         ReplyPhase::KeyList(status) => after_key_list(can_delay, status),
-        ReplyPhase::Content => Turn::On(ReplyPhase::LastKeyList(None)),
+        ReplyPhase::Content => AnswerState::On(ReplyPhase::LastKeyList(None)),
         ReplyPhase::LastKeyList(status) => after_last_key_list(status),
     }
 }
 
-fn after_key_list(can_delay: bool, status: Option<Status>) -> Turn<ReplyPhase, GoodReply>
-    ensures { result ≡ first_turn can_delay status }
+fn after_key_list(can_delay: bool, status: Option<Status>) -> AnswerState<ReplyPhase, GoodReply>
+    ensures { result ≡ first_state can_delay status }
 {
     match status {
-        Some(Status::Success) => Turn::On(ReplyPhase::Content),
-        Some(Status::Error) => Turn::Done(GoodReply::Error),
-        Some(Status::Abort) => Turn::Done(GoodReply::Abort),
+        Some(Status::Success) => AnswerState::On(ReplyPhase::Content),
+        Some(Status::Error) => AnswerState::Done(GoodReply::Error),
+        Some(Status::Abort) => AnswerState::Done(GoodReply::Abort),
         Some(Status::Delayed) => {
             if can_delay {
-                Turn::Done(GoodReply::Delayed)
+                AnswerState::Done(GoodReply::Delayed)
             } else {
-                Turn::Broken(BreakCause::StrangeDelay)
+                AnswerState::Broken(BreakCause::StrangeDelay)
             }
         }
-        Some(Status::Other) | None => Turn::Broken(BreakCause::UnknownStatus),
+        Some(Status::Other) | None => AnswerState::Broken(BreakCause::UnknownStatus),
     }
 }
 
-fn after_last_key_list(status: Option<Status>) -> Turn<ReplyPhase, GoodReply>
-    ensures { result ≡ last_turn status }
+fn after_last_key_list(status: Option<Status>) -> AnswerState<ReplyPhase, GoodReply>
+    ensures { result ≡ last_state status }
 {
     match status {
-        Some(Status::Success) | None => Turn::Done(GoodReply::Content),
-        Some(Status::Error) => Turn::Done(GoodReply::ErrorAfter),
-        Some(Status::Abort) => Turn::Done(GoodReply::Abort),
-        Some(Status::Delayed | Status::Other) => Turn::Broken(BreakCause::UnknownStatus),
+        Some(Status::Success) | None => AnswerState::Done(GoodReply::Content),
+        Some(Status::Error) => AnswerState::Done(GoodReply::ErrorAfter),
+        Some(Status::Abort) => AnswerState::Done(GoodReply::Abort),
+        Some(Status::Delayed | Status::Other) => AnswerState::Broken(BreakCause::UnknownStatus),
     }
 }
 
-/// What whole packets make of a reply, read one by one.
-pub fn smudge_reply_of(can_delay: bool, packets: &[ReadPacket<'_>]) -> Turn<ReplyPhase, GoodReply>
-    ensures { result ≡ outcome (reply_step can_delay) limit reply_start (map packet_of packets.now) }
-{
-    let mut room = MOST_ANSWER;
-    let mut turn = Turn::On(ReplyPhase::KeyList(None));
-    for packet in packets {
-        (room, turn) = reply_after_packet(can_delay, room, turn, packet);
-    }
-    turn
-}
-
-/// One more packet, and how much room is left.
-fn reply_after_packet(
+/// What one more packet makes of a reply, for which there is so much room, and the room that is left. A reply begins
+/// with `MOST_ANSWER` and `ReplyPhase::KeyList(None)`.
+pub fn reply_after_packet(
     can_delay: bool,
     room: u64,
-    turn: Turn<ReplyPhase, GoodReply>,
+    state: AnswerState<ReplyPhase, GoodReply>,
     packet: &ReadPacket<'_>,
-) -> (u64, Turn<ReplyPhase, GoodReply>)
-    ensures { (rest : List Packet) → outcome (reply_step can_delay) result.0 result.1 rest ≡ outcome (reply_step can_delay) room turn (packet_of packet.now ∷ rest) }
+) -> (u64, AnswerState<ReplyPhase, GoodReply>)
+    ensures counted { (next : ReplyPhase) → result.1 ≡ AnswerState.On next → result.0 + size (packet_of packet.now) ≡ room }
+    ensures outcome { (rest : List Packet) → outcome (reply_step can_delay) result.0 result.1 rest ≡ outcome (reply_step can_delay) room state (packet_of packet.now ∷ rest) }
 {
-    let Turn::On(phase) = turn else {
-        return (room, Turn::Late);
+    let AnswerState::On(phase) = state else {
+        return (room, AnswerState::Late);
     };
     let size = packet.size();
     if size > room {
-        return (room, Turn::Broken(BreakCause::TooLong));
+        return (room, AnswerState::Broken(BreakCause::TooLong));
     }
     match packet {
-        ReadPacket::Payload(line) => (room - size, Turn::On(reply_after_line(phase, line))),
+        ReadPacket::Payload(line) => (room - size, AnswerState::On(reply_after_line(phase, line))),
         ReadPacket::Flush => (room - size, reply_after_flush(can_delay, phase)),
     }
 }

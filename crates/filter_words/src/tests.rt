@@ -8,6 +8,24 @@ fn line(text: &[u8]) -> ReadPacket<'_> {
     ReadPacket::Payload(text)
 }
 
+/// What packets make of a reply.
+fn reply_to(can_delay: bool, packets: &[ReadPacket<'_>]) -> AnswerState<ReplyPhase, GoodReply> {
+    let (mut room, mut state) = (MOST_ANSWER, AnswerState::On(ReplyPhase::KeyList(None)));
+    for packet in packets {
+        (room, state) = reply_after_packet(can_delay, room, state, packet);
+    }
+    state
+}
+
+/// What packets make of a handshake's two answers.
+fn handshake_to(packets: &[ReadPacket<'_>]) -> AnswerState<HandshakePhase, Caps> {
+    let (mut room, mut state) = (MOST_ANSWER, AnswerState::On(HandshakePhase::Server));
+    for packet in packets {
+        (room, state) = handshake_after_packet(room, state, packet);
+    }
+    state
+}
+
 #[test]
 fn requests_are_spelled(rt: HostRuntime) -> Result<(), Fail> {
     let alloc = rt.alloc();
@@ -62,16 +80,8 @@ fn each_status_of_a_reply(rt: HostRuntime) {
     ];
     for (text, plain, delayable) in cases {
         let packets = [line(text), FLUSH];
-        assert_eq!(rt;
-            reply_of(smudge_reply_of(false, &packets)),
-            plain,
-            "{text:?}"
-        );
-        assert_eq!(rt;
-            reply_of(smudge_reply_of(true, &packets)),
-            delayable,
-            "{text:?}"
-        );
+        assert_eq!(rt; reply_of(reply_to(false, &packets)), plain, "{text:?}");
+        assert_eq!(rt; reply_of(reply_to(true, &packets)), delayable, "{text:?}");
     }
 }
 
@@ -95,11 +105,7 @@ fn each_status_behind_a_content(rt: HostRuntime) {
             line(text),
             FLUSH,
         ];
-        assert_eq!(rt;
-            reply_of(smudge_reply_of(true, &packets)),
-            Some(want),
-            "{text:?}"
-        );
+        assert_eq!(rt; reply_of(reply_to(true, &packets)), Some(want), "{text:?}");
     }
 }
 
@@ -111,12 +117,9 @@ fn the_last_status_counts(rt: HostRuntime) {
         line(b"stat=error\n"),
         FLUSH,
     ];
-    assert_eq!(rt;
-        reply_of(smudge_reply_of(false, &packets)),
-        Some(Reply::Abort)
-    );
+    assert_eq!(rt; reply_of(reply_to(false, &packets)), Some(Reply::Abort));
     let behind = [line(b"status=error"), FLUSH, FLUSH];
-    assert_eq!(rt; smudge_reply_of(true, &behind), Turn::Late);
+    assert_eq!(rt; reply_to(true, &behind), AnswerState::Late);
 }
 
 /// 19 bytes and 4 bytes, then 8,194 packets of 65,520 bytes, leave nine of the 536,870,912 bytes.
@@ -133,12 +136,12 @@ fn the_limit_of_a_reply(rt: HostRuntime) -> Result<(), Fail> {
     packets.push(FLUSH)?;
     packets.push(line(b"k"))?;
     assert_eq!(rt;
-        smudge_reply_of(true, packets.as_slice()),
-        Turn::On(ReplyPhase::LastKeyList(None))
+        reply_to(true, packets.as_slice()),
+        AnswerState::On(ReplyPhase::LastKeyList(None))
     );
     packets.push(FLUSH)?;
     assert_eq!(rt;
-        reply_of(smudge_reply_of(true, packets.as_slice())),
+        reply_of(reply_to(true, packets.as_slice())),
         Some(Reply::Broken(BreakCause::TooLong))
     );
     Ok(())
@@ -157,8 +160,8 @@ fn handshakes(rt: HostRuntime) {
         FLUSH,
     ];
     assert_eq!(rt;
-        handshake_of(&caps),
-        Turn::Done(Caps {
+        handshake_to(&caps),
+        AnswerState::Done(Caps {
             smudge: false,
             delay: true
         })
@@ -172,28 +175,36 @@ fn handshakes(rt: HostRuntime) {
         FLUSH,
     ];
     assert_eq!(rt;
-        handshake_of(&both),
-        Turn::Done(Caps {
+        handshake_to(&both),
+        AnswerState::Done(Caps {
             smudge: true,
             delay: true
         })
     );
-    let strange = Turn::Broken(BreakCause::BadHandshake);
-    assert_eq!(rt; handshake_of(&[line(b"git-filter-client\n")]), strange);
-    assert_eq!(rt; handshake_of(&[FLUSH]), strange);
-    assert_eq!(rt; handshake_of(&[server, line(b"version=3\n")]), strange);
+    let strange = AnswerState::Broken(BreakCause::BadHandshake);
+    assert_eq!(rt; handshake_to(&[line(b"git-filter-client\n")]), strange);
+    assert_eq!(rt; handshake_to(&[FLUSH]), strange);
+    assert_eq!(rt; handshake_to(&[server, line(b"version=3\n")]), strange);
     assert_eq!(rt;
-        handshake_of(&[server, version, line(b"version=3\n")]),
+        handshake_to(&[server, version, line(b"version=3\n")]),
         strange
     );
     assert_eq!(rt;
-        handshake_of(&[server, version]),
-        Turn::On(HandshakePhase::EndOfHello)
+        handshake_to(&[server, version]),
+        AnswerState::On(HandshakePhase::EndOfHello)
     );
 }
 
 fn list_reply_to(alloc: Global, packets: &[ReadPacket<'_>]) -> Result<Option<ListReply>, Fail> {
-    let listing = listing_of(alloc, &[b"p1", b"p2", b"p3"], packets)?;
+    let delayed: [&[u8]; 3] = [b"p1", b"p2", b"p3"];
+    let mut room = MOST_ANSWER;
+    let mut listing = Listing {
+        state: AnswerState::On(ListPart::Names),
+        names: Vec::new(alloc),
+    };
+    for packet in packets {
+        (room, listing) = list_after_packet(&delayed, room, listing, packet)?;
+    }
     if listing.names.len() > 9 {
         return Ok(None);
     }

@@ -5,6 +5,7 @@ ghost use Rattle.git_config.specs.Header.{plain_head, sub_at, quoted_head_at, na
 
 use crate::fault::{ConfigFault, LineKind};
 use crate::setting::Head;
+use crate::shared::Shared;
 use crate::text::{Dot, EndsName, behind_blanks, is_blank, lowered};
 use byte_path::{Bytes, len_to};
 use std::alloc::Global;
@@ -16,16 +17,13 @@ fn plain_head(alloc: Global, name: &[u8]) -> Result<Head, ConfigFault>
 {
     let dot = len_to::<Dot>(name);
     let (section, _) = name.split_at(dot);
-    let section = lowered(alloc, section)?;
+    let section = Shared::from_bytes(alloc, lowered(alloc, section)?)?;
     if dot == name.len() {
         return Ok(Head { section, sub: None });
     }
     let (_, sub) = name.split_at(dot + 1);
-    let sub = lowered(alloc, sub)?;
-    Ok(Head {
-        section,
-        sub: Some(sub),
-    })
+    let sub = Some(Shared::from_bytes(alloc, lowered(alloc, sub)?)?);
+    Ok(Head { section, sub })
 }
 
 /// A subsection behind its opening quote, and the text behind its closing one.
@@ -74,8 +72,8 @@ fn quoted_head_of<'a>(
     let [b']', rest @ ..] = after else {
         return Err(ConfigFault::Line(line, LineKind::Section));
     };
-    let section = lowered(alloc, name)?;
-    let sub = Some(Bytes::from_vec(sub));
+    let section = Shared::from_bytes(alloc, lowered(alloc, name)?)?;
+    let sub = Some(Shared::from_bytes(alloc, Bytes::from_vec(sub))?);
     Ok((Head { section, sub }, rest))
 }
 

@@ -6,12 +6,11 @@ mod fault;
 mod header;
 mod line;
 mod setting;
+mod shared;
 mod text;
 mod value;
 
 pub use config::{Config, read_config};
 pub use fault::{ConfigFault, LineKind};
 pub use setting::Setting;
-
-#[cfg(test)]
-mod tests;
+pub use shared::Shared;

@@ -8,6 +8,7 @@ ghost use Rattle.git_config.specs.declared.setting.Setting.{Setting};
 use crate::fault::{ConfigFault, LineKind};
 use crate::header::header_of;
 use crate::setting::{Head, Setting};
+use crate::shared::Shared;
 use crate::text::{
     EndsKey, begins_line_end, behind_blanks, is_blank, is_comment_mark, line_end, lowered,
 };
@@ -25,11 +26,11 @@ struct Found<'a> {
     rest: &'a [u8],
 }
 
-fn copy_of(alloc: Global, bytes: &Option<Bytes>) -> Result<Option<Bytes>, AllocError>
-    ensures { IfOk result (λ o. o ≡ bytes.now) }
+fn share_of(sub: &Option<Shared>) -> Result<Option<Shared>, AllocError>
+    ensures { IfOk result (λ o. o ≡ sub.now) }
 {
-    match bytes {
-        Some(bytes) => Ok(Some(Bytes::copy_of(alloc, bytes.as_slice())?)),
+    match sub {
+        Some(sub) => Ok(Some(sub.share()?)),
         None => Ok(None),
     }
 }
@@ -43,8 +44,8 @@ fn setting_of(
 ) -> Result<Setting, AllocError>
     ensures { IfOk result (λ s. s ≡ setting_of head.now key.now value) }
 {
-    let section = Bytes::copy_of(alloc, head.section.as_slice())?;
-    let sub = copy_of(alloc, &head.sub)?;
+    let section = head.section.share()?;
+    let sub = share_of(&head.sub)?;
     let key = lowered(alloc, key)?;
     Ok(Setting {
         section,

@@ -1,12 +1,13 @@
+use crate::shared::Shared;
 use byte_path::Bytes;
 
 /// One key of a configuration.
 #[derive(Drop)]
 pub struct Setting {
-    /// The section's name, in lower case.
-    pub section: Bytes,
+    /// The section's name, in lower case. The settings of a header share it.
+    pub section: Shared,
     /// The subsection: as it is written in quotes, or what stands behind the name's first dot, in lower case.
-    pub sub: Option<Bytes>,
+    pub sub: Option<Shared>,
     /// The key, in lower case.
     pub key: Bytes,
     /// The value with its quotes and escapes read, or `None` where the key has no `=`.
@@ -16,6 +17,6 @@ pub struct Setting {
 /// The section that the lines below a header belong to.
 #[derive(Drop)]
 pub struct Head {
-    pub section: Bytes,
-    pub sub: Option<Bytes>,
+    pub section: Shared,
+    pub sub: Option<Shared>,
 }

@@ -7,6 +7,3 @@ mod laws;
 
 pub use expanding::{expand_ident, has_keyword};
 pub use laws::{keyword_is_replaced, other_byte_is_kept};
-
-#[cfg(test)]
-mod tests;

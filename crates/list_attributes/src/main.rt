@@ -2,8 +2,7 @@
 //!
 //! Each line of the input is one of these, and any other is passed over:
 //!
-//! - `info`, `top` or `in FOLDER` begins `info/attributes` or the attribute file of a folder. Folders stand in rising
-//!   order;
+//! - `info`, `top` or `in FOLDER` begins `info/attributes` or the attribute file of a folder, in any order;
 //! - a TAB and a line of the file that was begun last;
 //! - `names` and the names to ask for, one space before each. The files are read here;
 //! - `of PATH` asks for the names' states;

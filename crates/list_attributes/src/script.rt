@@ -1,4 +1,8 @@
 //! The lines of the input.
+ghost use Rattle.std.specs.Prelude.{◌≡◌, ◌++◌, IfOk, OnOk};
+ghost use Rattle.std.specs.List.{flat_map};
+ghost use Rattle.list_attributes.specs.Drafts.{files_at, files_of};
+
 use crate::answer::push_answer;
 use attr_line::{AttrFile, read_attributes};
 use attr_stack::{AttrFiles, FileAt, attributes_of};
@@ -27,25 +31,36 @@ pub struct Script {
     answers: Vec<u8>,
 }
 
-/// The files of the drafts. Without one for `info/attributes` that file is empty.
-fn files_of(alloc: Global, drafts: &[Draft]) -> Result<AttrFiles, AllocError> {
-    let mut info = read_attributes(alloc, b"", true)?;
+/// Adds the file of a draft, if it is a folder's.
+fn push_file(alloc: Global, files: &mut Vec<FileAt>, draft: &Draft) -> Result<(), AllocError>
+    ensures { OnOk result (files.new.items ≡ files.old.items ++ files_at draft.now.text.items draft.now.folder) }
+{
+    let Some(folder) = &draft.folder else {
+        return Ok(());
+    };
+    let folder = Bytes::copy_of(alloc, folder.as_slice())?;
+    let file = read_attributes(alloc, &draft.text, folder.as_slice().is_empty())?;
+    files.push(FileAt { folder, file })?;
+    Ok(())
+}
+
+/// The files of the folders, in the order of the drafts.
+fn folders_of(alloc: Global, drafts: &[Draft]) -> Result<Items<FileAt>, AllocError>
+    ensures { IfOk result (λ files. files ≡ flat_map files_of drafts.now) }
+{
     let mut files = Vec::new(alloc);
     for draft in drafts {
-        match &draft.folder {
-            Some(folder) => {
-                let folder = Bytes::copy_of(alloc, folder.as_slice())?;
-                let top = folder.as_slice().is_empty();
-                let file: AttrFile = read_attributes(alloc, draft.text.as_slice(), top)?;
-                files.push(FileAt { folder, file })?;
-            }
-            None => info = read_attributes(alloc, draft.text.as_slice(), true)?,
-        }
+        push_file(alloc, &mut files, draft)?;
     }
-    Ok(AttrFiles {
-        info,
-        files: Items::from_vec(files),
-    })
+    Ok(Items::from_vec(files))
+}
+
+/// The file of the last draft of `info/attributes`, or an empty one.
+fn info_of(alloc: Global, drafts: &[Draft]) -> Result<AttrFile, AllocError> {
+    match drafts.iter().rev().find(|draft| draft.folder.is_none()) {
+        Some(draft) => read_attributes(alloc, &draft.text, true),
+        None => read_attributes(alloc, b"", true),
+    }
 }
 
 fn names_of(alloc: Global, text: &[u8]) -> Result<Vec<Bytes>, AllocError> {
@@ -90,7 +105,12 @@ impl Script {
     }
 
     fn ask(&mut self, alloc: Global, names: &[u8]) -> Result<(), AllocError> {
-        let files = files_of(alloc, self.drafts.as_slice())?;
+        let info = info_of(alloc, self.drafts.as_slice())?;
+        let folders = folders_of(alloc, self.drafts.as_slice())?;
+        let files = AttrFiles {
+            info,
+            files: folders,
+        };
         let names = names_of(alloc, names)?;
         self.question = Some(Question { files, names });
         Ok(())

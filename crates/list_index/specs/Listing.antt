@@ -1,6 +1,7 @@
 -- What `git ls-files --stage` prints.
 use Rattle.std.specs.Prelude.{ℕ, ◌+◌, ◌%◌, List, [], ◌∷◌, ◌++◌, codes}
 use Rattle.hex.specs.Hex.{encode_lower}
+use Rattle.byte_path.specs.Quote.{quoted}
 use Rattle.git_index.specs.declared.entry.Entry.{Entry}
 use Rattle.git_index.specs.declared.entry.Mode.{Mode}
 use Rattle.git_index.specs.declared.entry.Mode.TheVariants.{Plain, Executable, Link, Gitlink}
@@ -12,6 +13,6 @@ octal Executable = codes "100755"
 octal Link = codes "120000"
 octal Gitlink = codes "160000"
 
--- the mode, the object's name, the stage, and the path behind a tab
+-- the mode, the object's name, the stage, and behind a tab the path, quoted where it has to be
 abbrev pub line : Entry → List ℕ
-line e = octal e.mode ++ 32 ∷ encode_lower e.name ++ 32 ∷ (48 + e.stage % 10) ∷ 9 ∷ e.path ++ 10 ∷ []
+line e = octal e.mode ++ 32 ∷ encode_lower e.name ++ 32 ∷ (48 + e.stage % 10) ∷ 9 ∷ quoted e.path ++ 10 ∷ []

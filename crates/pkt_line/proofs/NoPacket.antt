@@ -1,8 +1,8 @@
 -- Where no packet stands at the front, and that bytes are read in one way.
-use Rattle.std.proofs.Common.{◌≡◌, inl, inr, ℕ, ◌≤◌, List, [], ◌∷◌, ◌++◌, length, take, drop, Option, Some, Result, Ok, Err, refl, sym, ap, subst, ◌∙◌, append_assoc, arith}
+use Rattle.std.proofs.Common.{◌≡◌, inl, inr, ℕ, ◌+◌, ◌≤◌, List, [], ◌∷◌, ◌++◌, length, take, drop, Option, Some, Result, Ok, Err, refl, sym, ap, subst, ◌∙◌, append_assoc, arith}
 use Rattle.std.proofs.lemmas.List.{length-append, take-append-drop}
-use Rattle.pkt_line.specs.Packets.{Packet, Payload, Flush, Spells, SpellAll, Stands, IsPartial, IsShortOf, HasBadDigits, HasBadLength, HasFault, HasNoPacket, IsBadLength, number_at, pkt_len, size}
-use Rattle.pkt_line.specs.Reading.{Reading, with_bytes}
+use Rattle.pkt_line.specs.Packets.{Packet, Payload, Flush, Spells, SpellAll, Stands, IsPartial, IsShortOf, HasBadDigits, HasBadLength, HasFault, HasNoPacket, HasPacketOf, IsBadLength, number_at, pkt_len, size}
+use Rattle.pkt_line.specs.Reading.{Reading, Move, Took, Gave, MovesAll, with_bytes}
 use Rattle.pkt_line.specs.Reader.{Answer, Gives, Wants, Refuses, answer_of, Peeks, IsFaultOf}
 use Rattle.pkt_line.specs.declared.reader.Next.{Next}
 use Rattle.pkt_line.specs.declared.reader.Next.TheVariants as next
@@ -170,3 +170,19 @@ fault_more bytes more (inr h) = inr (h.0, length_stays bytes more h.0 h.1)
 pub fault_stays : (f : PktFault) (r : Reading) (more : List ℕ) → IsFaultOf f r → IsFaultOf f (with_bytes more r)
 fault_stays (fault.BadDigits place) r more h = (digits_stay r.unread more h.0, h.1)
 fault_stays (fault.BadLength place n) r more h = (length_stays r.unread more n h.0, h.1)
+
+-- whatever is called
+pub fault_kept : (f : PktFault) (r s : Reading) (moves : List Move) → IsFaultOf f r → MovesAll r moves s → IsFaultOf f s
+fault_kept f r s [] h m = subst (IsFaultOf f) m h
+fault_kept f r s (Took piece ∷ moves) h m = fault_kept f m.0 s moves (subst (IsFaultOf f) (sym m.1) (fault_stays f r piece h)) m.2
+fault_kept f r s (Gave p ∷ moves) h m = absurd (no_fault p f r m.1.0 h)
+
+-- a packet at the front, by the bytes that it takes
+pub packet_within : (count : ℕ) (bytes : List ℕ) → HasPacketOf count bytes → count ≤ length bytes
+packet_within count bytes h = let s = (shows_here h.0 bytes h.1).long in let n = h.2 in omega arith
+
+pub flush_there : (bytes : List ℕ) → Stands Flush bytes → HasPacketOf 4 bytes
+flush_there bytes s = (Flush, s, refl)
+
+pub payload_there : (piece bytes : List ℕ) → Stands (Payload piece) bytes → HasPacketOf (4 + length piece) bytes
+payload_there piece bytes s = (Payload piece, s, refl)

@@ -56,6 +56,10 @@ total (p ∷ ps) = size p + total ps
 abbrev pub Stands : Packet → List ℕ → Type 0
 Stands p bytes = Spells p (take (size p) bytes)
 
+-- a packet of so many bytes stands at the front
+abbrev pub HasPacketOf : ℕ → List ℕ → Type 0
+HasPacketOf count bytes = (p : Packet) × Stands p bytes × (count ≡ size p)
+
 -- no packet has this length
 abbrev pub IsBadLength : ℕ → Type 0
 IsBadLength n = ((0 < n) × (n < 4)) ⊎ (65520 < n)

@@ -29,9 +29,10 @@ pub fn one_answer()
     ensures { (a b : Result Next PktFault) (r : Reading) → Peeks a r → Peeks b r → answer_of a ≡ answer_of b }
 {}
 
-/// A fault stays whatever bytes follow, and so no packet stands there.
+/// A fault is for good: it stays whatever bytes follow and whatever is called.
 pub fn fault_stays()
-    ensures { (fault : PktFault) (r : Reading) (more : List ℕ) → IsFaultOf fault r → IsFaultOf fault (with_bytes more r) }
+    ensures fed { (fault : PktFault) (r : Reading) (more : List ℕ) → IsFaultOf fault r → IsFaultOf fault (with_bytes more r) }
+    ensures called { (fault : PktFault) (r s : Reading) (moves : List Move) → IsFaultOf fault r → MovesAll r moves s → IsFaultOf fault s }
 {}
 
 /// What the writers append spells its packet.

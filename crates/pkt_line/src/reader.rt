@@ -1,7 +1,7 @@
 ghost use Rattle.std.specs.Prelude.{◌≡◌, ◌≤◌, ◌<◌, ◌+◌, ◌-◌, ◌++◌, [], min, take, drop, length, vec_len, vec_capacity, IfOk, ⊤};
 ghost use Rattle.std.specs.Borrow.{sem, follows_so};
 ghost use mathlib.Core.Option as maybe;
-ghost use Rattle.pkt_line.specs.Packets.{number_at, IsPartial, IsShortOf};
+ghost use Rattle.pkt_line.specs.Packets.{number_at, IsPartial, IsShortOf, HasPacketOf};
 ghost use Rattle.pkt_line.specs.Reading.{with_bytes, without};
 ghost use Rattle.pkt_line.specs.Reader.{Peeks, Lends, Fronts, IsFront, size_taken, lent_size, front_size};
 ghost use Rattle.pkt_line.specs.contracts.reader.PktReader.{the_row};
@@ -94,9 +94,10 @@ impl PktReader {
         Ok(lend(front, unread))
     }
 
-    /// Drops `size` bytes at the front: those of the packet that `peek` showed.
+    /// Drops the packet at the front, which `peek` showed and which takes `size` bytes.
+    #[tactic(auto, using(crate::proofs::NoPacket::packet_within))]
     pub fn skip(&mut self, size: usize)
-        requires { size ≤ length self.old.unread }
+        requires { HasPacketOf size self.old.unread }
         ensures { self.new ≡ without size self.old }
     {
         self.start += size;

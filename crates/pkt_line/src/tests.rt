@@ -108,6 +108,14 @@ fn edges_of_lengths(rt: HostRuntime) -> Result<(), Fail> {
     Ok(())
 }
 
+/// Drops a flush packet, where one stands at the front.
+#[tactic(auto, using(crate::proofs::NoPacket::flush_there))]
+fn skip_flush(reader: &mut PktReader) {
+    if let Ok(Next::Flush) = reader.peek() {
+        reader.skip(4);
+    }
+}
+
 #[test]
 fn a_fault_stays_at_its_place(rt: HostRuntime) -> Result<(), Fail> {
     let mut reader = PktReader::reserve(rt.alloc())?;
@@ -115,7 +123,7 @@ fn a_fault_stays_at_its_place(rt: HostRuntime) -> Result<(), Fail> {
     reader.feed(b"0005a0000");
     assert_eq!(rt; reader.next(), Ok(Next::Payload(b"a")));
     assert_eq!(rt; reader.peek(), Ok(Next::Flush));
-    reader.skip(4);
+    skip_flush(&mut reader);
     reader.feed(b"00");
     assert_eq!(rt; reader.next(), Ok(Next::NeedMore));
     reader.feed(b"02");

@@ -12,6 +12,3 @@ mod view;
 pub use fault::{KeyId, SettingFault};
 pub use reading::{drivers_are_those_spoken_of, settings};
 pub use view::{Driver, Settings};
-
-#[cfg(test)]
-mod tests;

@@ -14,8 +14,8 @@ pub trait Form {
 
     ghost bytes_of: { ℕ → List ℕ };
 
-    /// How many bytes a character of ASCII takes. No other one takes more for each of its bytes in UTF-8.
-    const WIDTH: usize;
+    /// How many bytes the characters of a text take.
+    fn room(text: &str) -> usize;
 
     fn push(text: &mut Vec<u8>, character: char) -> Result<(), AllocError>
         ensures { OnOk result (text.new.items ≡ text.old.items ++ bytes_of character) };
@@ -81,12 +81,32 @@ fn push_units<O: Order>(text: &mut Vec<u8>, character: char) -> Result<(), Alloc
     text.extend_from_slice(&O::unit_bytes((0xDC00 + over % 0x400) as u16))
 }
 
+/// How many bytes of a text begin a character: all but those of the form 10xxxxxx (RFC 3629, 3).
+fn characters(text: &str) -> usize {
+    text.as_bytes()
+        .iter()
+        .filter(|b| **b & 0xC0 != 0x80)
+        .count()
+}
+
+/// A character of four bytes in UTF-8 takes two units of 16 bits, and any other one.
+fn room16(text: &str) -> usize {
+    let pairs = text.as_bytes().iter().filter(|b| **b >= 0xF0).count();
+    characters(text).saturating_add(pairs).saturating_mul(2)
+}
+
+fn room32(text: &str) -> usize {
+    characters(text).saturating_mul(4)
+}
+
 impl Form for Little16 {
     ghost use Rattle.tree_encoding.specs.Encode.{little16_of};
 
     ghost bytes_of = { little16_of };
 
-    const WIDTH: usize = 2;
+    fn room(text: &str) -> usize {
+        room16(text)
+    }
 
     fn push(text: &mut Vec<u8>, character: char) -> Result<(), AllocError> {
         push_units::<Little16>(text, character)
@@ -103,7 +123,9 @@ impl Form for Big16 {
 
     ghost bytes_of = { big16_of };
 
-    const WIDTH: usize = 2;
+    fn room(text: &str) -> usize {
+        room16(text)
+    }
 
     fn push(text: &mut Vec<u8>, character: char) -> Result<(), AllocError> {
         push_units::<Big16>(text, character)
@@ -128,7 +150,9 @@ impl Form for Little32 {
 
     ghost bytes_of = { little32 };
 
-    const WIDTH: usize = 4;
+    fn room(text: &str) -> usize {
+        room32(text)
+    }
 
     fn push(text: &mut Vec<u8>, character: char) -> Result<(), AllocError> {
         text.extend_from_slice(&u32::from(character).to_le_bytes())
@@ -147,7 +171,9 @@ impl Form for Big32 {
 
     ghost bytes_of = { big32 };
 
-    const WIDTH: usize = 4;
+    fn room(text: &str) -> usize {
+        room32(text)
+    }
 
     fn push(text: &mut Vec<u8>, character: char) -> Result<(), AllocError> {
         text.extend_from_slice(&u32::from(character).to_be_bytes())

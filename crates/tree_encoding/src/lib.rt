@@ -12,6 +12,3 @@ pub use encoding::{Encoding, UnknownEncoding};
 pub use named::encoding_of;
 pub use prepared::Prepared;
 pub use writing::{encodable_text, encode, encode_text};
-
-#[cfg(test)]
-mod tests;

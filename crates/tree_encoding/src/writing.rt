@@ -16,10 +16,7 @@ use std::alloc::{AllocError, Global};
 fn text_in<F: Form>(alloc: Global, mark: &[u8], text: &str) -> Result<Vec<u8>, AllocError>
     ensures { IfOk result (λ out. out.items ≡ mark.now ++ flat_map F.bytes_of (chars text.now)) }
 {
-    let room = text
-        .len()
-        .saturating_mul(F::WIDTH)
-        .saturating_add(mark.len());
+    let room = F::room(text).saturating_add(mark.len());
     let mut out = Vec::with_capacity(alloc, room)?;
     out.extend_from_slice(mark)?;
     push_text::<F>(&mut out, text)?;

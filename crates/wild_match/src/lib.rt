@@ -8,6 +8,3 @@ mod part;
 mod sets;
 
 pub use matching::matches;
-
-#[cfg(test)]
-mod tests;

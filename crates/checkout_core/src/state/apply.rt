@@ -2,7 +2,7 @@ ghost use Rattle.std.specs.Prelude.{◌≡◌, ◌+◌, ◌<◌, ◌≤◌, ◌^
 ghost use Rattle.checkout_core.specs.States.{is_closed};
 ghost use Rattle.checkout_core.specs.Effects.{after, swept_path};
 ghost use Rattle.checkout_core.specs.Cursors.{IsFollowable, IsWithin, CanFollow, cursor_after, delayed_after, named_after, redone_after, all_swept, swept_paths};
-ghost use Rattle.checkout_core.specs.declared.effect.Effect.TheVariants.{Moves, Turns, Both};
+ghost use Rattle.checkout_core.specs.declared.effect.Effect.TheVariants.{Moves, Switches, Both};
 ghost use Rattle.checkout_core.specs.declared.effect.Sweep.TheVariants.{Keep};
 
 use super::{State, is_at};
@@ -85,7 +85,9 @@ fn swept_path(was: Path, driver: u32, sweep: Sweep) -> Path
     let pending = matches!(was.state, PathState::Delayed | PathState::Named(_));
     let state = match sweep {
         Sweep::Lose if pending && is_at(was.start, driver) => PathState::Heard(Heard::Lost),
-        Sweep::Want if pending && is_at(was.start, driver) => PathState::Heard(Heard::Wanted),
+        Sweep::OutOfMemory if pending && is_at(was.start, driver) => PathState::Heard(
+            Heard::OutOfMemory,
+        ),
         _ => was.state,
     };
     Path {
@@ -113,7 +115,7 @@ impl State {
     {
         match effect {
             Effect::Moves { path, state } => self.settle(path, state),
-            Effect::Turns {
+            Effect::Switches {
                 driver,
                 state,
                 sweep,
@@ -147,8 +149,8 @@ impl State {
     }
 
     fn turn(&mut self, driver: u32, state: DriverState)
-        requires { IsFollowable self.old (Turns driver state Keep) }
-        ensures { self.new ≡ after self.old (Turns driver state Keep) }
+        requires { IsFollowable self.old (Switches driver state Keep) }
+        ensures { self.new ≡ after self.old (Switches driver state Keep) }
     {
         self.drivers[driver as usize] = state;
     }

@@ -1,15 +1,14 @@
-use Rattle.std.proofs.Common.{[], ◌∷◌, ◌++◌, reverse, take, cond, sym, ◌∙◌, ap}
-use Rattle.std.specs.List.{flat_map}
+use Rattle.std.proofs.Common.{[], ◌∷◌, ◌++◌, cond, ◌∙◌, ap}
 use Rattle.std.specs.Str.{bytes_eq}
-use Rattle.attr_stack.specs.Macros.{binary, folder_macros, meaning}
-use Rattle.attr_stack.proofs.Lists.{flat_map-reverse-take}
+use Rattle.attr_stack.specs.Macros.{binary, file_macros, top_macros, meaning}
+use Rattle.attr_stack.specs.Seen.{AreMacros}
 use Rattle.attr_stack.proofs.Maps.{nothing-defined}
 use Rattle.attr_stack.proofs.macros.macros_of.Goals as goal
 
-pub loop-at-init : goal.loop-at-init
-loop-at-init c = λ name. c.in_ok-define.ensures [] (nothing-defined c.new-macros.result c.new-macros.ensures.empty) name ∙ ap (λ pairs. cond (bytes_eq binary.name name) pairs []) c.requires
-
-pub loop-at-preserved : goal.loop-at-preserved
-loop-at-preserved c =
-    λ name. c.in_ok-define_folder.ensures (flat_map folder_macros (reverse (take c.loop-at.at-index c.as_slice-folders.result.now)) ++ binary ∷ []) c.loop-at.invariant name
-    ∙ ap (λ lines. meaning lines name) (sym (flat_map-reverse-take folder_macros c.as_slice-folders.result.now c.loop-at.at-index c.at-item.result (binary ∷ []) c.at-item.is c.loop-at-test.true))
+pub returns : goal.returns
+returns c =
+    let built : AreMacros c.define.new.macros (binary ∷ []) =
+    λ name. c.in_ok-define.ensures [] (nothing-defined c.new-macros.result c.new-macros.ensures.empty) name ∙ ap (λ pairs. cond (bytes_eq binary.name name) pairs []) c.requires in
+    λ name. c.in_ok-define_rows.ensures (top_macros c.as_slice.result.now ++ binary ∷ []) (c.in_ok-define_top.ensures (binary ∷ []) built) name
+    ∙ ap (λ files. meaning (file_macros c.as_slice-2.result.now ++ (top_macros files ++ binary ∷ [])) name) c.as_slice.ensures
+    ∙ ap (λ rows. meaning (file_macros rows ++ (top_macros c.args.files.now.files ++ binary ∷ [])) name) c.as_slice-2.ensures

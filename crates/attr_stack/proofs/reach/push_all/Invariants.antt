@@ -1,8 +1,7 @@
-use Rattle.std.proofs.Common.{◌≡◌, ◌++◌, reverse, take}
-use Rattle.std.specs.List.{flat_map}
-use Rattle.attr_stack.specs.Pairs.{folder_pairs}
+use Rattle.std.proofs.Common.{◌≡◌, ◌++◌}
+use Rattle.attr_stack.specs.Pairs.{pairs_before}
 use Rattle.attr_stack.specs.Seen.{from_end}
 use Rattle.attr_stack.proofs.reach.push_all.Given as goal
 
-abbrev pub invariant-loop-at : goal.invariant-loop-at
-invariant-loop-at l = from_end l.pending.items ≡ flat_map (folder_pairs l.path) (reverse (take l.at-index l.folders)) ++ from_end l.initial.pending.items
+abbrev pub invariant-loop-place : goal.invariant-loop-place
+invariant-loop-place l = from_end l.pending.items ≡ pairs_before l.folders l.path l.place ++ from_end l.fn.pending.items

@@ -1,8 +1,8 @@
 use Rattle.filter_words.specs.Handshake.{handshake_step}
-use Rattle.filter_words.specs.Turn.{packet_of}
+use Rattle.filter_words.specs.Outcomes.{packet_of}
 use Rattle.filter_words.proofs.Runs.{late_of}
 use Rattle.filter_words.proofs.handshake.handshake_after_packet.Goals as goal
 
-pub returns-in_default : goal.returns-in_default
-returns-in_default c rest =
-    late_of handshake_step c.args.room c.args.turn (packet_of c.args.packet.now) rest c.in_default.not-On
+pub returns-in_default-clause-outcome : goal.returns-in_default-clause-outcome
+returns-in_default-clause-outcome c rest =
+    late_of handshake_step c.args.room c.args.state (packet_of c.args.packet.now) rest c.in_default.not-On

@@ -1,6 +1,7 @@
 use Rattle.filter_words.specs.Handshake.{handshake_step}
-use Rattle.filter_words.specs.HandshakeGrammar.{IsHandshake}
+use Rattle.filter_words.specs.HandshakeGrammar.{IsHandshake, BreaksHandshake}
 use Rattle.filter_words.specs.declared.handshake.HandshakePhase.TheVariants.{Server}
+use Rattle.filter_words.proofs.Breaks.{breaks_handshake}
 use Rattle.filter_words.proofs.GrammarLaws.{ends_well, read_well, open_reading, broken_reading}
 use Rattle.filter_words.proofs.HandshakeRuns.{reads_handshake}
 use Rattle.filter_words.proofs.laws.handshake_grammar.Goals as goal
@@ -15,4 +16,4 @@ pub returns-clause-opened : goal.returns-clause-opened
 returns-clause-opened c ps p e = open_reading handshake_step Server IsHandshake reads_handshake ps p e
 
 pub returns-clause-broken : goal.returns-clause-broken
-returns-clause-broken c ps why e = broken_reading handshake_step Server IsHandshake reads_handshake ps why e
+returns-clause-broken c ps why e = broken_reading handshake_step Server IsHandshake BreaksHandshake reads_handshake breaks_handshake ps why e

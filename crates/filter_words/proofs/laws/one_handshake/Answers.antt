@@ -1,6 +1,6 @@
-use Rattle.filter_words.specs.Turn.{limit}
+use Rattle.filter_words.specs.Outcomes.{limit}
 use Rattle.filter_words.specs.Handshake.{handshake_step, handshake_start}
-use Rattle.filter_words.proofs.OneAnswer.{one_answer}
+use Rattle.filter_words.proofs.OneAnswer.{one_answer, answer_more}
 use Rattle.filter_words.proofs.Same.{same, longer}
 use Rattle.filter_words.proofs.laws.one_handshake.Goals as goal
 
@@ -11,4 +11,7 @@ pub returns-clause-none_longer : goal.returns-clause-none_longer
 returns-clause-none_longer c ps qs a b x y p v sa sb e none f g hv = longer handshake_step limit handshake_start ps qs a b x y p v sa sb e none f g hv
 
 pub returns-clause-heard : goal.returns-clause-heard
-returns-clause-heard c output u v one two = one_answer handshake_step handshake_start output u v one two
+returns-clause-heard c a x e b y f u v one two same = one_answer handshake_step handshake_start a x e b y f u v one two same
+
+pub returns-clause-ended : goal.returns-clause-ended
+returns-clause-ended c used rest ahead more later u one whole = answer_more handshake_step handshake_start used rest ahead more later u one whole

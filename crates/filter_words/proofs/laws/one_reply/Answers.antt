@@ -1,6 +1,6 @@
-use Rattle.filter_words.specs.Turn.{limit}
+use Rattle.filter_words.specs.Outcomes.{limit}
 use Rattle.filter_words.specs.SmudgeReply.{reply_step, reply_start}
-use Rattle.filter_words.proofs.OneAnswer.{one_answer}
+use Rattle.filter_words.proofs.OneAnswer.{one_answer, answer_more}
 use Rattle.filter_words.proofs.Same.{same, longer}
 use Rattle.filter_words.proofs.laws.one_reply.Goals as goal
 
@@ -11,4 +11,7 @@ pub returns-clause-none_longer : goal.returns-clause-none_longer
 returns-clause-none_longer c d ps qs a b x y p v sa sb e none f g hv = longer (reply_step d) limit reply_start ps qs a b x y p v sa sb e none f g hv
 
 pub returns-clause-heard : goal.returns-clause-heard
-returns-clause-heard c d output u v one two = one_answer (reply_step d) reply_start output u v one two
+returns-clause-heard c d a x e b y f u v one two same = one_answer (reply_step d) reply_start a x e b y f u v one two same
+
+pub returns-clause-ended : goal.returns-clause-ended
+returns-clause-ended c d used rest ahead more later u one whole = answer_more (reply_step d) reply_start used rest ahead more later u one whole

@@ -1,0 +1,11 @@
+use crate::driver::DriverState;
+use crate::path::Path;
+
+/// A path of a driver, with where the driver stands.
+#[derive(Clone, Copy, Debug)]
+pub(crate) struct DriverPath {
+    pub(crate) path: Path,
+    pub(crate) driver: u32,
+    pub(crate) required: bool,
+    pub(crate) state: DriverState,
+}

@@ -1,0 +1,4 @@
+pub mod Turns
+pub mod Names
+pub mod Places
+pub mod Kept

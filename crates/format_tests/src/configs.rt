@@ -1,0 +1,139 @@
+use git_config::{ConfigFault, LineKind, Setting, read_config};
+use std::alloc::{AllocError, Global};
+use std::test::Fail;
+
+/// Appends a setting as `git config --list --null` shows it.
+fn push_listed(list: &mut Vec<u8>, setting: &Setting) -> Result<(), AllocError> {
+    list.extend_from_slice(setting.section.as_slice())?;
+    if let Some(sub) = &setting.sub {
+        list.push(b'.')?;
+        list.extend_from_slice(sub.as_slice())?;
+    }
+    list.push(b'.')?;
+    list.extend_from_slice(setting.key.as_slice())?;
+    if let Some(value) = &setting.value {
+        list.push(b'\n')?;
+        list.extend_from_slice(value.as_slice())?;
+    }
+    list.push(0)?;
+    Ok(())
+}
+
+fn listed(alloc: Global, text: &[u8]) -> Result<Vec<u8>, ConfigFault> {
+    let config = read_config(alloc, text)?;
+    let mut list = Vec::new(alloc);
+    for setting in config.settings() {
+        push_listed(&mut list, setting)?;
+    }
+    Ok(list)
+}
+
+fn fault_of(alloc: Global, text: &[u8]) -> Option<ConfigFault> {
+    match read_config(alloc, text) {
+        Ok(_) => None,
+        Err(fault) => Some(fault),
+    }
+}
+
+/// Files, and what git 2.39.5 lists of them.
+const LISTED: &[(&[u8], &[u8])] = &[
+    (b"[core]\n\tautocrlf = input\n", b"core.autocrlf\ninput\0"),
+    (b"[Core]\r\nEOL = LF\r\n", b"core.eol\nLF\0"),
+    (
+        b"[filter \"lfs\"]\n\tprocess = git-lfs filter-process\n\trequired = true\n",
+        b"filter.lfs.process\ngit-lfs filter-process\0filter.lfs.required\ntrue\0",
+    ),
+    (b"[a \"x\\\"y\"]\nk\n", b"a.x\"y.k\0"),
+    (b"[A.B.C]\nKey-1 = v\n", b"a.b.c.key-1\nv\0"),
+    (b"[a.B \"S\"] k = 1\n", b"a.b.S.k\n1\0"),
+    (b"[.x]\nk=1\n", b".x.k\n1\0"),
+    (b"[a][b] k = v\n", b"b.k\nv\0"),
+    (b"[a] # note\nk = v ; note\n", b"a.k\nv\0"),
+    (b"[a]\nk = \"v ; # w\" # x\n", b"a.k\nv ; # w\0"),
+    (b"[a]\nk = \"\" x\n", b"a.k\nx\0"),
+    (b"[a]\nk = x \"\"\n", b"a.k\nx \0"),
+    (b"[a]\nk = x  \n", b"a.k\nx\0"),
+    (b"[a]\nk = x \\\n  y\n", b"a.k\nx   y\0"),
+    (b"[a]\nk = x\\\r\ny\\", b"a.k\nxy\0"),
+    (b"[a]\nk = x \\\n\nj\n", b"a.k\nx \0a.j\0"),
+    (b"[a]\nk = \\t\\n\\b\\\"\\\\.\n", b"a.k\n\t\n\x08\"\\.\0"),
+    (b"[a]\nk =\n", b"a.k\n\0"),
+    (b"[a]\nk = a\"b c\"d\n", b"a.k\nab cd\0"),
+    (b"[a \"\\a\\]\"]\nk = 1\n", b"a.a].k\n1\0"),
+    (b"\xef\xbb\xbf[a]\nk = 1", b"a.k\n1\0"),
+    (b"[a]\n  ; c\n# d\n\n\tk\n", b"a.k\0"),
+    (b"[a]\nk = \"x\\\ny\"\n", b"a.k\nxy\0"),
+    (b"[a \"S\"]\nk = 1\n[a.S]\nk = 2\n", b"a.S.k\n1\0a.s.k\n2\0"),
+    (b"[a]\nk = \"x\r\ry\"\r\n", b"a.k\nx\r\ry\0"),
+    (b"[a  \t\"\xc3\xa9 \"]k=\xff\n", b"a.\xc3\xa9 .k\n\xff\0"),
+    (b"", b""),
+];
+
+#[test]
+fn files_read_as_git_lists_them(rt: HostRuntime) -> Result<(), Fail> {
+    for (text, want) in LISTED {
+        let list = listed(rt.alloc(), text)?;
+        assert!(rt; list.as_slice() == *want, "at {text:?}");
+    }
+    Ok(())
+}
+
+/// Files, and the first faulty line with what is wrong in it.
+const FAULTY: &[(&[u8], u32, LineKind)] = &[
+    // As git 2.39.5 tells it.
+    (b"[core\n", 1, LineKind::Section),
+    (b"[]\n", 1, LineKind::Section),
+    (b"[a ]\n", 1, LineKind::Section),
+    (b"[a\"x\"]\n", 1, LineKind::Section),
+    (b"[a \"x\" ]\n", 1, LineKind::Section),
+    (b"[a \"x\n\"]\n", 1, LineKind::Section),
+    (b"\n\n[a_b]\n", 3, LineKind::Section),
+    (b"[a]\nk x\n", 2, LineKind::Key),
+    (b"[a]\nk # c\n", 2, LineKind::Key),
+    (b"[a]\n1k = x\n", 2, LineKind::Key),
+    (b"[a]\nk_x = 1\n", 2, LineKind::Key),
+    (b"[core]\neol = \"cr\n", 2, LineKind::Value),
+    (b"[a]\nk = \\x\n", 2, LineKind::Value),
+    (b"[a]\nk = \\\n \\\n x\nj = \"\n", 5, LineKind::Value),
+    // Where git tells another line, or reads on.
+    (b"k = \\x\n", 1, LineKind::NoSection),
+    (b"= x\n", 1, LineKind::Key),
+    (b"[ \"x\"]\n", 1, LineKind::Section),
+    (b"[a]\nk = \"x\\\ny\n", 2, LineKind::Value),
+    (b"[a", 1, LineKind::Section),
+];
+
+#[test]
+fn the_first_faulty_line_is_told(rt: HostRuntime) {
+    for (text, line, kind) in FAULTY {
+        let fault = fault_of(rt.alloc(), text);
+        assert!(rt;
+            fault == Some(ConfigFault::Line(*line, *kind)),
+            "at {text:?}"
+        );
+    }
+}
+
+#[test]
+fn the_limit_is_on_the_bytes(rt: HostRuntime) -> Result<(), Fail> {
+    let mut text = vec![in rt.alloc(); b'#'; 1_048_576]?;
+    assert!(rt; fault_of(rt.alloc(), &text).is_none());
+    text.push(b'#')?;
+    assert!(rt; fault_of(rt.alloc(), &text) == Some(ConfigFault::TooLarge));
+    Ok(())
+}
+
+/// A file with a header of half its bytes and a key in each two of the others.
+#[test]
+fn a_long_section_is_kept_once(rt: HostRuntime) -> Result<(), Fail> {
+    let name = vec![in rt.alloc(); b'a'; 524_280]?;
+    let mut text = Vec::from_slice(rt.alloc(), b"[")?;
+    text.extend_from_slice(&name)?;
+    text.extend_from_slice(b"]\n")?;
+    for _ in 0..262_140 {
+        text.extend_from_slice(b"k\n")?;
+    }
+    let config = read_config(rt.alloc(), &text)?;
+    assert!(rt; config.settings().len() == 262_140);
+    Ok(())
+}

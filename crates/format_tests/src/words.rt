@@ -1,0 +1,110 @@
+use checkout_words::{Command, WordFault, read_words};
+use std::alloc::{AllocError, Global};
+use std::test::Fail;
+
+/// What these words give, or `None` where they are Usage.
+fn read(alloc: Global, words: &[&str]) -> Result<Option<Command>, AllocError> {
+    let mut texts = Vec::new(alloc);
+    for word in words {
+        texts.push(String::from_str(alloc, word)?)?;
+    }
+    match read_words(alloc, texts.as_slice()) {
+        Ok(command) => Ok(Some(command)),
+        Err(WordFault::Usage) => Ok(None),
+        Err(WordFault::NoMemory) => Err(AllocError),
+    }
+}
+
+/// Words, and the command that they are.
+const READ: &[(&[&str], Command)] = &[
+    (&["R", "T", "checkout"], Command::Checkout { workers: None }),
+    (
+        &["--", "--help", "checkout", "--workers=16"],
+        Command::Checkout { workers: Some(16) },
+    ),
+    (
+        &["", "", "checkout", "--workers", "1"],
+        Command::Checkout { workers: Some(1) },
+    ),
+    (&["R", "T", "plan"], Command::Plan),
+    (
+        &["R", "T", "rehearse", "0", "8"],
+        Command::Rehearse { seed: 0, paths: 8 },
+    ),
+    (
+        &["R", "T", "rehearse", "18446744073709551615", "99999"],
+        Command::Rehearse {
+            seed: 18_446_744_073_709_551_615,
+            paths: 99_999,
+        },
+    ),
+];
+
+#[test]
+fn commands_are_read(rt: HostRuntime) -> Result<(), Fail> {
+    for (words, want) in READ {
+        let command = read(rt.alloc(), words)?;
+        assert!(rt; command == Some(*want), "at {words:?}");
+    }
+    Ok(())
+}
+
+/// Words that are no command.
+const USAGE: &[&[&str]] = &[
+    &[],
+    &["R", "T"],
+    &["R", "T", "Checkout"],
+    &["R", "T", "--help"],
+    &["R", "T", "checkout", "--help"],
+    &["R", "T", "checkout", "--version"],
+    &["R", "T", "checkout", "--workers", "17"],
+    &["R", "T", "checkout", "--workers=0"],
+    &["R", "T", "checkout", "--workers=01"],
+    &["R", "T", "checkout", "--workers"],
+    &["R", "T", "checkout", "--workers="],
+    &["R", "T", "checkout", "--workers= 2"],
+    &["R", "T", "checkout", "--workers", "--workers"],
+    &["R", "T", "checkout", "--workers", "--workers=2"],
+    &["R", "T", "checkout", "--workers=2", "--workers"],
+    &["R", "T", "checkout", "--workers=2", "--workers=3"],
+    &["R", "T", "checkout", "--workers", "2", "--workers", "3"],
+    &["R", "T", "checkout", "-w", "2"],
+    &["R", "T", "checkout", "--work", "2"],
+    &["R", "T", "checkout", "workers=2"],
+    &["R", "T", "checkout", ""],
+    &["R", "T", "checkout", "--workers", ""],
+    &["R", "T", "checkout", "-"],
+    &["R", "T", "checkout", "--workers", "-"],
+    &["R", "T", "checkout", "-é"],
+    &["R", "T", "checkout", "--é=2"],
+    &["R", "T", "checkout", "--workers", "２"],
+    &["R", "T", "checkout", "--", "x"],
+    &["R", "T", "checkout", "--workers=2", "--"],
+    &["R", "T", "plan", "x"],
+    &["R", "T", "plan", ""],
+    &["R", "T", "plan", "-"],
+    &["R", "T", "plan", "--"],
+    &["R", "T", "plan", "--help"],
+    &["R", "T", "plan", "-é"],
+    &["R", "T", "rehearse", "00", "8"],
+    &["R", "T", "rehearse", "18446744073709551616", "8"],
+    &["R", "T", "rehearse", "0", "100000"],
+    &["R", "T", "rehearse"],
+    &["R", "T", "rehearse", "0"],
+    &["R", "T", "rehearse", "0", ""],
+    &["R", "T", "rehearse", "0", "-8"],
+    &["R", "T", "rehearse", "-", "8"],
+    &["R", "T", "rehearse", "--help"],
+    &["R", "T", "rehearse", "０", "８"],
+    &["R", "T", "rehearse", "0", "8", "8"],
+    &["R", "T", "rehearse", "--", "0", "8"],
+];
+
+#[test]
+fn other_words_are_usage(rt: HostRuntime) -> Result<(), Fail> {
+    for words in USAGE {
+        let command = read(rt.alloc(), words)?;
+        assert!(rt; command.is_none(), "at {words:?}");
+    }
+    Ok(())
+}

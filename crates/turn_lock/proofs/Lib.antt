@@ -1,0 +1,9 @@
+pub mod Histories
+pub mod Seating
+pub mod Moves
+pub mod Sharing
+pub mod Ending
+pub mod Shapes
+pub mod Rows
+pub mod Gathering
+pub mod Turns

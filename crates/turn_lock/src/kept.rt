@@ -1,0 +1,20 @@
+// What a value under the lock tells.
+ghost use Rattle.std.specs.Prelude.{ℕ, List};
+
+/// A value that keeps a history. Its members stand in contracts alone, so nothing of it runs.
+pub trait Kept {
+    /// An entry of the history.
+    type Entry;
+
+    /// What is fixed when the lock is made.
+    type Told;
+
+    /// The entries, in order, each with the number of its seat.
+    ghost history: { Self → List (ℕ × Self.Entry) };
+
+    /// What the value is made for: the data that `make` fixes.
+    ghost told: { Self → Self.Told };
+
+    /// The value goes with these data.
+    ghost fits: { Self → Self.Told → Type 0 };
+}
