@@ -1,6 +1,12 @@
 use super::*;
+use crate::report::write_report;
+use crate::status::Status;
 use byte_path::Bytes;
-use edge_kit::{LeafCall, MemoryRepo, MemorySink, MemoryTree, RepoFail, TreeFile};
+use checkout_core::{Start, Verdict};
+use checkout_plan::PathPlan;
+use convert_plan::Conversion;
+use edge_kit::{LeafCall, Mark, MemoryRepo, MemorySink, MemoryTree, RepoFail, TreeFile};
+use eol_convert::LineEnds;
 use std::alloc::{AllocError, Global};
 use std::process::Abort;
 use std::string::String;
@@ -63,6 +69,12 @@ const ATTRIBUTES: [u8; 20] = [
     0x14, 0x56, 0x00, 0xe1,
 ];
 
+/// The name that `git hash-object` gives to 1,048,577 NULs.
+const NULS: [u8; 20] = [
+    0x4d, 0x43, 0x51, 0x48, 0xd9, 0x32, 0x40, 0xe4, 0xd0, 0x5d, 0x1e, 0x03, 0xe5, 0xfe, 0x5b, 0x84,
+    0xfe, 0x9a, 0x7a, 0x47,
+];
+
 /// Objects that a test may ask for, as they are stored.
 const OBJECTS: [([u8; 20], &[u8]); 7] = [
     (BIN, b"blob 3\0bin"),
@@ -100,12 +112,16 @@ struct Row {
 struct Case<'a> {
     /// The words behind the two folders.
     command: &'static [&'static str],
+    /// Whether there is an index.
+    index: bool,
     rows: &'a [Row],
     /// Extensions.
     more: &'static [u8],
     hash: [u8; 20],
-    /// What the object of the name `HI` holds.
+    /// The object that a case gives, by its name: its stored bytes, and how many NULs behind them.
+    object: [u8; 20],
     stored: &'static [u8],
+    nuls: usize,
     config: Option<&'static [u8]>,
     info: Option<&'static [u8]>,
     fails: Option<RepoFail>,
@@ -137,10 +153,13 @@ fn plain(path: &'static [u8]) -> Row {
 fn checkout<'a>(rows: &'a [Row], wanted: &'static str) -> Case<'a> {
     Case {
         command: &["checkout"],
+        index: true,
         rows,
         more: &[],
         hash: [0; 20],
+        object: HI,
         stored: b"blob 3\0hi\n",
+        nuls: 0,
         config: None,
         info: None,
         fails: None,
@@ -188,11 +207,17 @@ fn copied(alloc: Global, file: Option<&[u8]>) -> Result<Option<Vec<u8>>, AllocEr
 }
 
 fn repo_of(alloc: Global, case: &Case) -> Result<MemoryRepo, AllocError> {
-    let index = index_of(alloc, case)?;
+    let index = if case.index {
+        Some(index_of(alloc, case)?)
+    } else {
+        None
+    };
     let config = copied(alloc, case.config)?;
     let info = copied(alloc, case.info)?;
     let mut objects = Vec::new(alloc);
-    objects.push((HI, Vec::from_slice(alloc, case.stored)?))?;
+    let mut stored = Vec::from_slice(alloc, case.stored)?;
+    stored.extend_from_slice(&vec![in alloc; 0u8; case.nuls]?)?;
+    objects.push((case.object, stored))?;
     for (name, stored) in OBJECTS {
         objects.push((name, Vec::from_slice(alloc, stored)?))?;
     }
@@ -200,7 +225,7 @@ fn repo_of(alloc: Global, case: &Case) -> Result<MemoryRepo, AllocError> {
     if let Some(fail) = case.fails {
         fails.push(fail)?;
     }
-    Ok(MemoryRepo::new(alloc, Some(index), config, info, objects, fails))
+    Ok(MemoryRepo::new(alloc, index, config, info, objects, fails))
 }
 
 fn tree_of(alloc: Global, case: &Case) -> Result<MemoryTree, AllocError> {
@@ -256,112 +281,18 @@ fn seen_of(alloc: Global, case: &Case) -> Result<String, Fail> {
     Ok(seen)
 }
 
-fn check(rt: &impl Abort, alloc: Global, case: &Case) -> Result<(), Fail> {
-    let seen = seen_of(alloc, case)?;
-    assert_eq!(rt; seen.as_str(), case.wanted);
+fn check(rt: &impl Abort, alloc: Global, cases: &[Case]) -> Result<(), Fail> {
+    for case in cases {
+        let seen = seen_of(alloc, case)?;
+        assert_eq!(rt; seen.as_str(), case.wanted);
+    }
     Ok(())
 }
 
 #[test]
 fn an_index_is_checked_out(rt: HostRuntime) -> Result<(), Fail> {
     let one = [plain(b"a")];
-    let written = "written - - - a\ndone 1 0 0 0\nstatus 0\na: hi\n";
-    let mut case = checkout(&one, written);
-    check(
-        &rt,
-        rt.alloc(),
-        &Case {
-            hash: ONE_ENTRY,
-            ..case
-        },
-    )?;
-    case.more = b"TREE\0\0\0\0";
-    check(&rt, rt.alloc(), &case)?;
-    case.command = &["checkout", "--workers=16"];
-    check(&rt, rt.alloc(), &case)
-}
-
-fn check_words(
-    rt: &impl Abort,
-    alloc: Global,
-    command: &'static [&'static str],
-    wanted: &'static str,
-) -> Result<(), Fail> {
-    let rows = [plain(b"a")];
-    let mut case = checkout(&rows, wanted);
-    case.command = command;
-    check(rt, alloc, &case)
-}
-
-#[test]
-fn words_that_are_no_command_end_with_2(rt: HostRuntime) -> Result<(), Fail> {
-    let alloc = rt.alloc();
-    check_words(&rt, alloc, &["checkout", "--workers", "17"], "status 2\n")?;
-    check_words(&rt, alloc, &["checkout", "--", "x"], "status 2\n")?;
-    check_words(&rt, alloc, &["--help"], "status 2\n")
-}
-
-#[test]
-fn a_rehearsal_is_not_built_yet(rt: HostRuntime) -> Result<(), Fail> {
-    let wanted = "refused unbuilt\nstatus 3\n";
-    check_words(&rt, rt.alloc(), &["rehearse", "0", "8"], wanted)
-}
-
-fn check_config(
-    rt: &impl Abort,
-    alloc: Global,
-    config: &'static [u8],
-    wanted: &'static str,
-) -> Result<(), Fail> {
-    let rows = [plain(b"a")];
-    let mut case = checkout(&rows, wanted);
-    case.config = Some(config);
-    check(rt, alloc, &case)
-}
-
-#[test]
-fn a_configuration_is_read(rt: HostRuntime) -> Result<(), Fail> {
-    let alloc = rt.alloc();
-    let written = "written - - - a\ndone 1 0 0 0\nstatus 0\na: hi\n";
-    check_config(&rt, alloc, b"", written)?;
-    check_config(
-        &rt,
-        alloc,
-        b"[core]\nautocrlf = off\n[checkout]\nworkers = 2k\n",
-        written,
-    )?;
-    let ends = "written - - - a\ndone 1 0 0 0\nstatus 0\na: hi\r\n";
-    check_config(&rt, alloc, b"[core]\nautocrlf\n", ends)
-}
-
-#[test]
-fn a_configuration_that_does_not_read_is_refused(rt: HostRuntime) -> Result<(), Fail> {
-    let alloc = rt.alloc();
-    check_config(
-        &rt,
-        alloc,
-        b"[core\n",
-        "refused config line 1 section\nstatus 3\n",
-    )?;
-    let open = "refused config line 2 value\nstatus 3\n";
-    check_config(&rt, alloc, b"[core]\neol = \"cr\n", open)?;
-    let workers = "refused setting workers\nstatus 3\n";
-    check_config(&rt, alloc, b"[checkout]\nworkers = many\n", workers)?;
-    let required = "refused setting required\nstatus 3\n";
-    check_config(&rt, alloc, b"[filter \"f\"]\nrequired = 2\n", required)
-}
-
-#[test]
-fn an_index_of_no_entries_is_done(rt: HostRuntime) -> Result<(), Fail> {
-    let rows: [Row; 0] = [];
-    let mut case = checkout(&rows, "done 0 0 0 0\nstatus 0\n");
-    case.hash = NO_ENTRIES;
-    check(&rt, rt.alloc(), &case)
-}
-
-#[test]
-fn executables_and_links_are_marked_and_others_skipped(rt: HostRuntime) -> Result<(), Fail> {
-    let rows = [
+    let marked = [
         stage(0, EXECUTABLE, HI, b"bin"),
         stage(0, LINK, BIN, b"ln"),
         stage(0, GITLINK, HI, b"sub"),
@@ -369,319 +300,567 @@ fn executables_and_links_are_marked_and_others_skipped(rt: HostRuntime) -> Resul
         stage(2, PLAIN, HI, b"u"),
         stage(3, PLAIN, HI, b"u"),
     ];
-    let wanted =
-        "written x - - bin\nwritten l - - ln\nskipped - - gitlink sub\nskipped - - unmerged u\ndone 2 0 0 2\nstatus 0\nbin: hi\nln: bin";
-    check(&rt, rt.alloc(), &checkout(&rows, wanted))
+    let quoted = [plain(b"\xc3\xa9"), plain(b"\xff")];
+    let link = [stage(0, LINK, BIN, b".gitattributes")];
+    let usual = checkout(&one, "written - - - a\ndone 1 0 0 0\nstatus 0\na: hi\n");
+    let cases = [
+        usual,
+        Case {
+            hash: ONE_ENTRY,
+            ..usual
+        },
+        Case {
+            more: b"TREE\0\0\0\0",
+            ..usual
+        },
+        Case {
+            command: &["checkout", "--workers=16"],
+            more: b"TREE\0\0\0\0",
+            ..usual
+        },
+        Case {
+            rows: &[],
+            hash: NO_ENTRIES,
+            wanted: "done 0 0 0 0\nstatus 0\n",
+            ..usual
+        },
+        checkout(
+            &marked,
+            "written x - - bin\nwritten l - - ln\nskipped - - gitlink sub\nskipped - - unmerged u\n\
+             done 2 0 0 2\nstatus 0\nbin: hi\nln: bin",
+        ),
+        checkout(
+            &quoted,
+            "written - - - \"\\303\\251\"\nfailed - - name \"\\377\"\ndone 1 0 1 0\nstatus 1\n\u{e9}: hi\n",
+        ),
+        checkout(
+            &link,
+            "written l - - .gitattributes\ndone 1 0 0 0\nstatus 0\n.gitattributes: bin",
+        ),
+    ];
+    check(&rt, rt.alloc(), &cases)
 }
 
 #[test]
-fn names_are_quoted_and_must_be_text(rt: HostRuntime) -> Result<(), Fail> {
-    let rows = [plain(b"\xc3\xa9"), plain(b"\xff")];
-    let wanted =
-        "written - - - \"\\303\\251\"\nfailed - - name \"\\377\"\ndone 1 0 1 0\nstatus 1\n\u{e9}: hi\n";
-    check(&rt, rt.alloc(), &checkout(&rows, wanted))
+fn words_say_what_is_done(rt: HostRuntime) -> Result<(), Fail> {
+    let one = [plain(b"a")];
+    let usage = checkout(&one, "status 2\n");
+    let cases = [
+        Case {
+            command: &["checkout", "--workers", "17"],
+            ..usage
+        },
+        Case {
+            command: &["checkout", "--", "x"],
+            ..usage
+        },
+        Case {
+            command: &["--help"],
+            ..usage
+        },
+        Case {
+            command: &["rehearse", "0", "8"],
+            wanted: "refused unbuilt\nstatus 3\n",
+            ..usage
+        },
+    ];
+    check(&rt, rt.alloc(), &cases)
 }
 
 #[test]
-fn an_object_that_is_not_right_fails_its_path(rt: HostRuntime) -> Result<(), Fail> {
-    let rows = [plain(b"a"), stage(0, LINK, BIN, b"b")];
-    let mut case = checkout(
-        &rows,
-        "failed - - object-name a\nwritten l - - b\ndone 1 0 1 0\nstatus 1\nb: bin",
-    );
-    case.stored = b"blob 3\0ho\n";
-    check(&rt, rt.alloc(), &case)?;
-    case.stored = b"blob 4\0hi\n";
-    case.wanted = "failed - - object-size a\nwritten l - - b\ndone 1 0 1 0\nstatus 1\nb: bin";
-    check(&rt, rt.alloc(), &case)?;
-    // what zlib makes of an object
-    case.stored = b"x\x01K\xca\xc9O";
-    case.wanted = "failed - - object-header a\nwritten l - - b\ndone 1 0 1 0\nstatus 1\nb: bin";
-    check(&rt, rt.alloc(), &case)?;
-    case.fails = Some(RepoFail::Object(HI));
-    case.wanted = "failed - - read a\nwritten l - - b\ndone 1 0 1 0\nstatus 1\nb: bin";
-    check(&rt, rt.alloc(), &case)
+fn a_configuration_is_read_or_refused(rt: HostRuntime) -> Result<(), Fail> {
+    let one = [plain(b"a")];
+    let read = checkout(&one, "written - - - a\ndone 1 0 0 0\nstatus 0\na: hi\n");
+    let cases = [
+        Case {
+            config: Some(b""),
+            ..read
+        },
+        Case {
+            config: Some(b"[core]\nautocrlf = off\n[checkout]\nworkers = 2k\n"),
+            ..read
+        },
+        Case {
+            config: Some(b"[core]\nautocrlf\n"),
+            wanted: "written - - - a\ndone 1 0 0 0\nstatus 0\na: hi\r\n",
+            ..read
+        },
+        Case {
+            config: Some(b"[core\n"),
+            wanted: "refused config line 1 section\nstatus 3\n",
+            ..read
+        },
+        Case {
+            config: Some(b"[core]\neol = \"cr\n"),
+            wanted: "refused config line 2 value\nstatus 3\n",
+            ..read
+        },
+        Case {
+            config: Some(b"[checkout]\nworkers = many\n"),
+            wanted: "refused setting workers\nstatus 3\n",
+            ..read
+        },
+        Case {
+            config: Some(b"[filter \"f\"]\nrequired = 2\n"),
+            wanted: "refused setting required\nstatus 3\n",
+            ..read
+        },
+    ];
+    check(&rt, rt.alloc(), &cases)
 }
 
 #[test]
-fn an_object_that_is_absent_fails_its_path(rt: HostRuntime) -> Result<(), Fail> {
-    let rows = [stage(0, PLAIN, [9; 20], b"a")];
-    let wanted = "failed - - object-absent a\ndone 0 0 1 0\nstatus 1\n";
-    check(&rt, rt.alloc(), &checkout(&rows, wanted))
-}
-
-#[test]
-fn a_leaf_that_fails_fails_its_path_alone(rt: HostRuntime) -> Result<(), Fail> {
-    let rows = [plain(b"p1"), plain(b"p2"), plain(b"p3")];
-    let mut case = checkout(
-        &rows,
+fn an_object_or_a_leaf_that_fails_fails_its_path_alone(rt: HostRuntime) -> Result<(), Fail> {
+    let two = [plain(b"a"), stage(0, LINK, BIN, b"b")];
+    let absent = [stage(0, PLAIN, [9; 20], b"a")];
+    let three = [plain(b"p1"), plain(b"p2"), plain(b"p3")];
+    let usual = checkout(&two, "");
+    let leaf = checkout(
+        &three,
         "written - - - p1\nfailed - - write p2\nwritten - - - p3\ndone 2 0 1 0\nstatus 1\np1: hi\np3: hi\n",
     );
-    case.leaf_fails = Some((b"p2", LeafCall::Seal));
-    check(&rt, rt.alloc(), &case)?;
-    case.leaf_fails = Some((b"p2", LeafCall::Put));
-    check(&rt, rt.alloc(), &case)
+    let cases = [
+        Case {
+            stored: b"blob 3\0ho\n",
+            wanted: "failed - - object-name a\nwritten l - - b\ndone 1 0 1 0\nstatus 1\nb: bin",
+            ..usual
+        },
+        Case {
+            stored: b"blob 4\0hi\n",
+            wanted: "failed - - object-size a\nwritten l - - b\ndone 1 0 1 0\nstatus 1\nb: bin",
+            ..usual
+        },
+        // what zlib makes of an object
+        Case {
+            stored: b"x\x01K\xca\xc9O",
+            wanted: "failed - - object-header a\nwritten l - - b\ndone 1 0 1 0\nstatus 1\nb: bin",
+            ..usual
+        },
+        // a content of 67,108,865 bytes
+        Case {
+            stored: b"blob 67108865\0",
+            nuls: 67_108_865,
+            wanted: "failed - - object-too-large a\nwritten l - - b\ndone 1 0 1 0\nstatus 1\nb: bin",
+            ..usual
+        },
+        Case {
+            fails: Some(RepoFail::Object(HI)),
+            wanted: "failed - - read a\nwritten l - - b\ndone 1 0 1 0\nstatus 1\nb: bin",
+            ..usual
+        },
+        checkout(
+            &absent,
+            "failed - - object-absent a\ndone 0 0 1 0\nstatus 1\n",
+        ),
+        Case {
+            leaf_fails: Some((b"p2", LeafCall::Seal)),
+            ..leaf
+        },
+        Case {
+            leaf_fails: Some((b"p2", LeafCall::Put)),
+            ..leaf
+        },
+    ];
+    check(&rt, rt.alloc(), &cases)
 }
 
 #[test]
 fn a_sink_that_fails_cuts_the_output(rt: HostRuntime) -> Result<(), Fail> {
-    let rows = [plain(b"a")];
-    let mut case = checkout(&rows, "status 4\na: hi\n");
-    case.sink_fails = Some(0);
-    check(&rt, rt.alloc(), &case)?;
-    case.sink_fails = Some(1);
-    case.wanted = "written - - - a\nstatus 4\na: hi\n";
-    check(&rt, rt.alloc(), &case)?;
-    case.sink_fails = Some(0);
-    case.more = b"link\0\0\0\0";
-    case.wanted = "status 4\n";
-    check(&rt, rt.alloc(), &case)
+    let one = [plain(b"a")];
+    let usual = checkout(&one, "status 4\n");
+    let cases = [
+        Case {
+            sink_fails: Some(0),
+            wanted: "status 4\na: hi\n",
+            ..usual
+        },
+        Case {
+            sink_fails: Some(1),
+            wanted: "written - - - a\nstatus 4\na: hi\n",
+            ..usual
+        },
+        Case {
+            sink_fails: Some(0),
+            more: b"link\0\0\0\0",
+            ..usual
+        },
+        Case {
+            command: &["plan"],
+            sink_fails: Some(0),
+            ..usual
+        },
+        Case {
+            command: &["plan"],
+            sink_fails: Some(1),
+            wanted: "card - - - - - - a\nstatus 4\n",
+            ..usual
+        },
+    ];
+    check(&rt, rt.alloc(), &cases)
 }
 
 #[test]
-fn an_index_whose_tail_is_not_right_is_refused(rt: HostRuntime) -> Result<(), Fail> {
-    let rows = [plain(b"a")];
-    let mut case = checkout(&rows, "refused index extension 6c696e6b\nstatus 3\n");
-    case.more = b"link\0\0\0\0";
-    check(&rt, rt.alloc(), &case)?;
-    case.more = b"TREE\0\0\0";
-    case.wanted = "refused index short\nstatus 3\n";
-    check(&rt, rt.alloc(), &case)?;
-    case.more = b"";
-    case.hash = [1; 20];
-    case.wanted = "refused index hash\nstatus 3\n";
-    check(&rt, rt.alloc(), &case)
-}
-
-fn check_refused(
-    rt: &impl Abort,
-    alloc: Global,
-    first: Row,
-    second: Row,
-    wanted: &'static str,
-) -> Result<(), Fail> {
-    let rows = [first, second];
-    check(rt, alloc, &checkout(&rows, wanted))
-}
-
-#[test]
-fn an_index_whose_entries_are_not_right_is_refused(rt: HostRuntime) -> Result<(), Fail> {
-    let alloc = rt.alloc();
+fn an_index_that_is_not_right_is_refused(rt: HostRuntime) -> Result<(), Fail> {
     let a = plain(b"a");
-    check_refused(
-        &rt,
-        alloc,
-        plain(b"a/.GIT/x"),
-        a,
-        "refused index path 0 dot-git\nstatus 3\n",
-    )?;
-    check_refused(&rt, alloc, a, a, "refused index order 1\nstatus 3\n")?;
-    check_refused(
-        &rt,
-        alloc,
-        a,
-        plain(b"a/b"),
-        "refused index clash 1\nstatus 3\n",
-    )?;
-    let mixed = "refused index entry 1 mixed-stage\nstatus 3\n";
-    check_refused(&rt, alloc, a, stage(2, PLAIN, HI, b"a"), mixed)?;
-    let odd = stage(0, 0o100600, HI, b"b");
-    check_refused(&rt, alloc, a, odd, "refused index mode 1\nstatus 3\n")
-}
-
-fn check_attributes(
-    rt: &impl Abort,
-    alloc: Global,
-    info: &'static [u8],
-    row: Row,
-    wanted: &'static str,
-) -> Result<(), Fail> {
-    let rows = [row];
-    let mut case = checkout(&rows, wanted);
-    case.info = Some(info);
-    check(rt, alloc, &case)
-}
-
-#[test]
-fn line_ends_are_converted(rt: HostRuntime) -> Result<(), Fail> {
-    let row = named(b"a.txt", MIXED);
-    let crlf = "written - - - a.txt\ndone 1 0 0 0\nstatus 0\na.txt: a\r\nb\r\n";
-    check_attributes(&rt, rt.alloc(), b"*.txt text eol=crlf\n", row, crlf)?;
-    // an automatic conversion leaves a content with CR alone
-    let kept = "written - - - a.txt\ndone 1 0 0 0\nstatus 0\na.txt: a\nb\r\n";
-    check_attributes(&rt, rt.alloc(), b"* text=auto eol=crlf\n", row, kept)
+    let one = [a];
+    let dot_git = [plain(b"a/.GIT/x"), a];
+    let twice = [a, a];
+    let clash = [a, plain(b"a/b")];
+    let mixed = [a, stage(2, PLAIN, HI, b"a")];
+    let odd = [a, stage(0, 0o100600, HI, b"b")];
+    let usual = checkout(&one, "");
+    let cases = [
+        Case {
+            index: false,
+            wanted: "refused index absent\nstatus 3\n",
+            ..usual
+        },
+        Case {
+            more: b"link\0\0\0\0",
+            wanted: "refused index extension 6c696e6b\nstatus 3\n",
+            ..usual
+        },
+        Case {
+            more: b"TREE\0\0\0",
+            wanted: "refused index short\nstatus 3\n",
+            ..usual
+        },
+        Case {
+            hash: [1; 20],
+            wanted: "refused index hash\nstatus 3\n",
+            ..usual
+        },
+        checkout(&dot_git, "refused index path 0 dot-git\nstatus 3\n"),
+        checkout(&twice, "refused index order 1\nstatus 3\n"),
+        checkout(&clash, "refused index clash 1\nstatus 3\n"),
+        checkout(&mixed, "refused index entry 1 mixed-stage\nstatus 3\n"),
+        checkout(&odd, "refused index mode 1\nstatus 3\n"),
+    ];
+    check(&rt, rt.alloc(), &cases)
 }
 
 #[test]
-fn a_keyword_is_expanded(rt: HostRuntime) -> Result<(), Fail> {
-    let row = named(b"a", IDENT);
-    let wanted =
-        "written - - - a\ndone 1 0 0 0\nstatus 0\na: $Id: 93146177b83ebd89eaa3cda0f7064a9e225086b3 $ $Id: a b $\n";
-    check_attributes(&rt, rt.alloc(), b"a ident\n", row, wanted)?;
-    let quoted =
-        "written - - - \"a\\tb\"\ndone 1 0 0 0\nstatus 0\na\tb: $Id: 93146177b83ebd89eaa3cda0f7064a9e225086b3 $ $Id: a b $\n";
-    let row = named(b"a\tb", IDENT);
-    check_attributes(&rt, rt.alloc(), b"\"a\\tb\" ident\n", row, quoted)
-}
-
-#[test]
-fn a_content_is_encoded(rt: HostRuntime) -> Result<(), Fail> {
-    let alloc = rt.alloc();
-    let utf16 = b"a working-tree-encoding=UTF-16\n";
-    let wide = "written - - - a\ndone 1 0 0 0\nstatus 0\na: fffee9003dd800de";
-    check_attributes(&rt, alloc, utf16, named(b"a", WIDE), wide)?;
-    let empty = "written - - - a\ndone 1 0 0 0\nstatus 0\na: ";
-    check_attributes(&rt, alloc, utf16, named(b"a", EMPTY), empty)
-}
-
-#[test]
-fn a_content_that_cannot_be_encoded_is_told(rt: HostRuntime) -> Result<(), Fail> {
-    let alloc = rt.alloc();
-    let row = named(b"b", ODD);
-    let kept = "written - unencoded - b\ndone 1 0 0 0\nstatus 0\nb: ff";
-    let utf16 = b"b working-tree-encoding=UTF-16LE\n";
-    check_attributes(&rt, alloc, utf16, row, kept)?;
-    let unknown = "failed - - encoding b\ndone 0 0 1 0\nstatus 1\n";
-    let koi8 = b"b working-tree-encoding=KOI8-R\n";
-    check_attributes(&rt, alloc, koi8, row, unknown)
-}
-
-#[test]
-fn a_link_is_not_converted(rt: HostRuntime) -> Result<(), Fail> {
-    let row = stage(0, LINK, MIXED, b"ln.txt");
-    let wanted = "written l - - ln.txt\ndone 1 0 0 0\nstatus 0\nln.txt: a\nb\r\n";
-    check_attributes(&rt, rt.alloc(), b"* text eol=crlf ident\n", row, wanted)
-}
-
-#[test]
-fn attribute_files_of_the_index_are_read(rt: HostRuntime) -> Result<(), Fail> {
-    let rows = [
+fn contents_are_converted(rt: HostRuntime) -> Result<(), Fail> {
+    let text = [named(b"a.txt", MIXED)];
+    let ident = [named(b"a", IDENT)];
+    let tab = [named(b"a\tb", IDENT)];
+    let wide = [named(b"a", WIDE)];
+    let empty = [named(b"a", EMPTY)];
+    let odd = [named(b"b", ODD)];
+    let link = [stage(0, LINK, MIXED, b"ln.txt")];
+    let files = [
         named(b"a.txt", MIXED),
         named(b"d/.gitattributes", ATTRIBUTES),
         named(b"d/a.txt", MIXED),
         named(b"d/e/a.txt", MIXED),
     ];
-    let wanted =
-        "written - - - a.txt\nwritten - - - d/.gitattributes\nwritten - - - d/a.txt\nwritten - - - d/e/a.txt\ndone 4 0 0 0\nstatus 0\na.txt: a\nb\r\nd/.gitattributes: *.txt text eol=crlf\nd/a.txt: a\r\nb\r\nd/e/a.txt: a\r\nb\r\n";
-    check(&rt, rt.alloc(), &checkout(&rows, wanted))
+    let cases = [
+        Case {
+            info: Some(b"*.txt text eol=crlf\n"),
+            ..checkout(
+                &text,
+                "written - - - a.txt\ndone 1 0 0 0\nstatus 0\na.txt: a\r\nb\r\n",
+            )
+        },
+        // an automatic conversion leaves a content with CR alone
+        Case {
+            info: Some(b"* text=auto eol=crlf\n"),
+            ..checkout(
+                &text,
+                "written - - - a.txt\ndone 1 0 0 0\nstatus 0\na.txt: a\nb\r\n",
+            )
+        },
+        Case {
+            info: Some(b"a ident\n"),
+            ..checkout(
+                &ident,
+                "written - - - a\ndone 1 0 0 0\nstatus 0\na: \
+                 $Id: 93146177b83ebd89eaa3cda0f7064a9e225086b3 $ $Id: a b $\n",
+            )
+        },
+        Case {
+            info: Some(b"\"a\\tb\" ident\n"),
+            ..checkout(
+                &tab,
+                "written - - - \"a\\tb\"\ndone 1 0 0 0\nstatus 0\na\tb: \
+                 $Id: 93146177b83ebd89eaa3cda0f7064a9e225086b3 $ $Id: a b $\n",
+            )
+        },
+        Case {
+            info: Some(b"a working-tree-encoding=UTF-16\n"),
+            ..checkout(
+                &wide,
+                "written - - - a\ndone 1 0 0 0\nstatus 0\na: fffee9003dd800de",
+            )
+        },
+        Case {
+            info: Some(b"a working-tree-encoding=UTF-16\n"),
+            ..checkout(&empty, "written - - - a\ndone 1 0 0 0\nstatus 0\na: ")
+        },
+        Case {
+            info: Some(b"b working-tree-encoding=UTF-16LE\n"),
+            ..checkout(
+                &odd,
+                "written - unencoded - b\ndone 1 0 0 0\nstatus 0\nb: ff",
+            )
+        },
+        Case {
+            info: Some(b"b working-tree-encoding=KOI8-R\n"),
+            ..checkout(&odd, "failed - - encoding b\ndone 0 0 1 0\nstatus 1\n")
+        },
+        Case {
+            info: Some(b"* text eol=crlf ident\n"),
+            ..checkout(
+                &link,
+                "written l - - ln.txt\ndone 1 0 0 0\nstatus 0\nln.txt: a\nb\r\n",
+            )
+        },
+        checkout(
+            &files,
+            "written - - - a.txt\nwritten - - - d/.gitattributes\nwritten - - - d/a.txt\n\
+             written - - - d/e/a.txt\ndone 4 0 0 0\nstatus 0\na.txt: a\nb\r\n\
+             d/.gitattributes: *.txt text eol=crlf\nd/a.txt: a\r\nb\r\nd/e/a.txt: a\r\nb\r\n",
+        ),
+    ];
+    check(&rt, rt.alloc(), &cases)
 }
 
 #[test]
-fn an_attribute_file_without_its_object_is_refused(rt: HostRuntime) -> Result<(), Fail> {
-    let rows = [named(b".gitattributes", [9; 20])];
-    let wanted = "refused attributes .gitattributes object-absent\nstatus 3\n";
-    check(&rt, rt.alloc(), &checkout(&rows, wanted))?;
-    let rows = [named(b".gitattributes", ATTRIBUTES)];
-    let mut case = checkout(&rows, "status 6\n");
-    case.fails = Some(RepoFail::Object(ATTRIBUTES));
-    check(&rt, rt.alloc(), &case)
-}
-
-fn check_plan(
-    rt: &impl Abort,
-    alloc: Global,
-    config: &'static [u8],
-    info: &'static [u8],
-    row: Row,
-    wanted: &'static str,
-) -> Result<(), Fail> {
-    let rows = [row];
-    let mut case = checkout(&rows, wanted);
-    case.command = &["plan"];
-    case.config = Some(config);
-    case.info = Some(info);
-    // a plan doesn't look at the worktree
-    case.empty = false;
-    check(rt, alloc, &case)
+fn an_attribute_file_without_a_right_object_stops_it(rt: HostRuntime) -> Result<(), Fail> {
+    let absent = [named(b".gitattributes", [9; 20])];
+    let failing = [named(b".gitattributes", ATTRIBUTES)];
+    let wrong = [plain(b".gitattributes")];
+    let nuls = [named(b".gitattributes", NULS)];
+    let usual = checkout(&wrong, "");
+    let cases = [
+        checkout(
+            &absent,
+            "refused attributes .gitattributes object-absent\nstatus 3\n",
+        ),
+        Case {
+            fails: Some(RepoFail::Object(ATTRIBUTES)),
+            ..checkout(&failing, "status 6\n")
+        },
+        Case {
+            stored: b"x\x01K\xca\xc9O",
+            wanted: "refused attributes .gitattributes object-header\nstatus 3\n",
+            ..usual
+        },
+        Case {
+            stored: b"blob 4\0hi\n",
+            wanted: "refused attributes .gitattributes object-size\nstatus 3\n",
+            ..usual
+        },
+        Case {
+            stored: b"blob 3\0ho\n",
+            wanted: "refused attributes .gitattributes object-name\nstatus 3\n",
+            ..usual
+        },
+        Case {
+            object: NULS,
+            stored: b"blob 1048577\0",
+            nuls: 1_048_577,
+            ..checkout(
+                &nuls,
+                "refused attributes .gitattributes too-large\nstatus 3\n",
+            )
+        },
+    ];
+    check(&rt, rt.alloc(), &cases)
 }
 
 #[test]
 fn a_plan_is_shown(rt: HostRuntime) -> Result<(), Fail> {
-    let alloc = rt.alloc();
-    let line_ends = "card - crlf - - - - a.txt\nskipped-lines 0\nstatus 0\n";
-    let row = named(b"a.txt", MIXED);
-    check_plan(&rt, alloc, b"", b"*.txt text eol=crlf\n", row, line_ends)?;
-    let filtered =
-        "card x auto-crlf ident UTF-16LE-BOM required \"\\377\" a\nskipped-lines 1\nstatus 0\n";
-    let config = b"[filter \"\xff\"]\nprocess = x\nrequired\n";
-    let info = b"a text=auto eol=crlf ident working-tree-encoding=utf-16le-bom filter=\xff\n!b x\n";
-    let row = stage(0, EXECUTABLE, HI, b"a");
-    check_plan(&rt, alloc, config, info, row, filtered)
+    let text = [named(b"a.txt", MIXED)];
+    let executable = [stage(0, EXECUTABLE, HI, b"a")];
+    let one = [plain(b"a")];
+    // a plan doesn't look at the worktree
+    let usual = Case {
+        command: &["plan"],
+        empty: false,
+        ..checkout(&one, "")
+    };
+    let cases = [
+        Case {
+            rows: &text,
+            config: Some(b""),
+            info: Some(b"*.txt text eol=crlf\n"),
+            wanted: "card - crlf - - - - a.txt\nskipped-lines 0\nstatus 0\n",
+            ..usual
+        },
+        Case {
+            rows: &executable,
+            config: Some(b"[filter \"\xff\"]\nprocess = x\nrequired\n"),
+            info: Some(
+                b"a text=auto eol=crlf ident working-tree-encoding=utf-16le-bom filter=\xff\n!b x\n",
+            ),
+            wanted: "card x auto-crlf ident UTF-16LE-BOM required \"\\377\" a\nskipped-lines 1\nstatus 0\n",
+            ..usual
+        },
+        Case {
+            config: Some(b"[filter \"f\"]\nrequired = true\n"),
+            info: Some(b"a filter=f\n"),
+            wanted: "no-process - - - - - - a\nskipped-lines 0\nstatus 0\n",
+            ..usual
+        },
+    ];
+    check(&rt, rt.alloc(), &cases)
 }
+
+const SEVENTEEN: [&[u8]; 17] = [
+    b"a", b"b", b"c", b"d", b"e", b"f", b"g", b"h", b"i", b"j", b"k", b"l", b"m", b"n", b"o", b"p",
+    b"q",
+];
 
 #[test]
 fn a_required_driver_needs_its_process(rt: HostRuntime) -> Result<(), Fail> {
-    let alloc = rt.alloc();
-    let required = b"[filter \"f\"]\nrequired = true\n";
-    let row = plain(b"a");
-    let shown = "no-process - - - - - - a\nskipped-lines 0\nstatus 0\n";
-    check_plan(&rt, alloc, required, b"a filter=f\n", row, shown)?;
-    let rows = [row];
-    let mut case = checkout(&rows, "failed - - no-process a\ndone 0 0 1 0\nstatus 1\n");
-    case.config = Some(required);
-    case.info = Some(b"a filter=f\n");
-    check(&rt, alloc, &case)?;
-    case.config = Some(b"[filter \"f\"]\nrequired = false\n");
-    case.wanted = "written - - - a\ndone 1 0 0 0\nstatus 0\na: hi\n";
-    check(&rt, alloc, &case)?;
-    // a driver in use isn't built yet
-    case.config = Some(b"[filter \"f\"]\nprocess = x\n");
-    case.wanted = "refused unbuilt\nstatus 3\n";
-    check(&rt, alloc, &case)
-}
-
-#[test]
-fn seventeen_drivers_are_too_many(rt: HostRuntime) -> Result<(), Fail> {
-    let rows = [
-        plain(b"a"),
-        plain(b"b"),
-        plain(b"c"),
-        plain(b"d"),
-        plain(b"e"),
-        plain(b"f"),
-        plain(b"g"),
-        plain(b"h"),
-        plain(b"i"),
-        plain(b"j"),
-        plain(b"k"),
-        plain(b"l"),
-        plain(b"m"),
-        plain(b"n"),
-        plain(b"o"),
-        plain(b"p"),
-        plain(b"q"),
+    let one = [plain(b"a")];
+    let seventeen = SEVENTEEN.map(|path| plain(path));
+    let usual = Case {
+        info: Some(b"a filter=f\n"),
+        ..checkout(&one, "")
+    };
+    let cases = [
+        Case {
+            config: Some(b"[filter \"f\"]\nrequired = true\n"),
+            wanted: "failed - - no-process a\ndone 0 0 1 0\nstatus 1\n",
+            ..usual
+        },
+        Case {
+            config: Some(b"[filter \"f\"]\nrequired = false\n"),
+            wanted: "written - - - a\ndone 1 0 0 0\nstatus 0\na: hi\n",
+            ..usual
+        },
+        // a driver in use isn't built yet
+        Case {
+            config: Some(b"[filter \"f\"]\nprocess = x\n"),
+            wanted: "refused unbuilt\nstatus 3\n",
+            ..usual
+        },
+        Case {
+            rows: &seventeen,
+            config: Some(
+                b"[filter \"a\"]\nprocess = x\n[filter \"b\"]\nprocess = x\n[filter \"c\"]\nprocess = x\n\
+                [filter \"d\"]\nprocess = x\n[filter \"e\"]\nprocess = x\n[filter \"f\"]\nprocess = x\n\
+                [filter \"g\"]\nprocess = x\n[filter \"h\"]\nprocess = x\n[filter \"i\"]\nprocess = x\n\
+                [filter \"j\"]\nprocess = x\n[filter \"k\"]\nprocess = x\n[filter \"l\"]\nprocess = x\n\
+                [filter \"m\"]\nprocess = x\n[filter \"n\"]\nprocess = x\n[filter \"o\"]\nprocess = x\n\
+                [filter \"p\"]\nprocess = x\n[filter \"q\"]\nprocess = x\n",
+            ),
+            info: Some(
+                b"a filter=a\nb filter=b\nc filter=c\nd filter=d\ne filter=e\nf filter=f\ng filter=g\n\
+                h filter=h\ni filter=i\nj filter=j\nk filter=k\nl filter=l\nm filter=m\nn filter=n\n\
+                o filter=o\np filter=p\nq filter=q\n",
+            ),
+            wanted: "refused drivers 17\nstatus 3\n",
+            ..usual
+        },
     ];
-    let mut case = checkout(&rows, "refused drivers 17\nstatus 3\n");
-    case.config = Some(
-        b"[filter \"a\"]\nprocess = x\n[filter \"b\"]\nprocess = x\n[filter \"c\"]\nprocess = x\n[filter \"d\"]\nprocess = x\n[filter \"e\"]\nprocess = x\n[filter \"f\"]\nprocess = x\n[filter \"g\"]\nprocess = x\n[filter \"h\"]\nprocess = x\n[filter \"i\"]\nprocess = x\n[filter \"j\"]\nprocess = x\n[filter \"k\"]\nprocess = x\n[filter \"l\"]\nprocess = x\n[filter \"m\"]\nprocess = x\n[filter \"n\"]\nprocess = x\n[filter \"o\"]\nprocess = x\n[filter \"p\"]\nprocess = x\n[filter \"q\"]\nprocess = x\n",
-    );
-    case.info = Some(
-        b"a filter=a\nb filter=b\nc filter=c\nd filter=d\ne filter=e\nf filter=f\ng filter=g\nh filter=h\ni filter=i\nj filter=j\nk filter=k\nl filter=l\nm filter=m\nn filter=n\no filter=o\np filter=p\nq filter=q\n",
-    );
-    check(&rt, rt.alloc(), &case)
-}
-
-#[test]
-fn a_link_that_is_named_as_an_attribute_file_is_written(rt: HostRuntime) -> Result<(), Fail> {
-    let rows = [stage(0, LINK, BIN, b".gitattributes")];
-    let wanted = "written l - - .gitattributes\ndone 1 0 0 0\nstatus 0\n.gitattributes: bin";
-    check(&rt, rt.alloc(), &checkout(&rows, wanted))
+    check(&rt, rt.alloc(), &cases)
 }
 
 #[test]
 fn a_full_worktree_and_a_read_that_fails_stop_it(rt: HostRuntime) -> Result<(), Fail> {
-    let rows = [plain(b"a")];
-    let mut case = checkout(&rows, "status 7\n");
-    case.empty = false;
-    check(&rt, rt.alloc(), &case)?;
-    case.check_fails = true;
-    case.wanted = "status 6\n";
-    check(&rt, rt.alloc(), &case)?;
-    case.check_fails = false;
-    case.empty = true;
-    for fail in [RepoFail::Index, RepoFail::Config, RepoFail::Info] {
-        case.fails = Some(fail);
-        check(&rt, rt.alloc(), &case)?;
+    let one = [plain(b"a")];
+    let usual = checkout(&one, "status 6\n");
+    let cases = [
+        Case {
+            empty: false,
+            wanted: "status 7\n",
+            ..usual
+        },
+        Case {
+            empty: false,
+            check_fails: true,
+            ..usual
+        },
+        Case {
+            fails: Some(RepoFail::Index),
+            ..usual
+        },
+        Case {
+            fails: Some(RepoFail::Config),
+            ..usual
+        },
+        Case {
+            fails: Some(RepoFail::Info),
+            ..usual
+        },
+    ];
+    check(&rt, rt.alloc(), &cases)
+}
+
+/// The path of a planned file with nothing to convert.
+fn planned(alloc: Global, path: &[u8]) -> Result<PathPlan, AllocError> {
+    Ok(PathPlan {
+        path: Bytes::copy_of(alloc, path)?,
+        object: HI,
+        mark: Mark::Plain,
+        conversion: Conversion {
+            ident: false,
+            ends: LineEnds::Keep,
+            encoding: None,
+        },
+        start: Start::Pool,
+    })
+}
+
+/// The status and the text of a report of two paths, of which the second wanted memory.
+#[test]
+fn a_path_that_wanted_memory_is_reported_and_told(rt: HostRuntime) -> Result<(), Fail> {
+    let alloc = rt.alloc();
+    let verdicts = [Verdict::Written { unencoded: false }, Verdict::NoMemory];
+    let whole = "written - - - a\nno-memory - - - b\ndone 1 0 0 0\n";
+    let cases: [(Option<u32>, &str); 3] = [
+        (None, whole),
+        (Some(0), ""),
+        (Some(1), "written - - - a\n"),
+    ];
+    for (fails, wanted) in cases {
+        let mut out = MemorySink::new(alloc, fails);
+        let mut paths = Vec::new(alloc);
+        paths.push(planned(alloc, b"a")?)?;
+        paths.push(planned(alloc, b"b")?)?;
+        let status = write_report(alloc, &mut out, paths, &verdicts);
+        assert_eq!(rt; status, Status::OutOfMemory);
+        assert_eq!(rt; str::from_utf8(out.bytes())?, wanted);
     }
+    Ok(())
+}
+
+/// An index of 70,000 gitlinks and a file behind them.
+fn many_entries(alloc: Global) -> Result<Vec<u8>, AllocError> {
+    let mut index = Vec::from_slice(alloc, b"DIRC\0\0\0\x02")?;
+    index.extend_from_slice(&70_001u32.to_be_bytes())?;
+    for number in 10_000..80_000u32 {
+        let path = format!(in alloc; "p{number}")?;
+        index.extend_from_slice(&[0; 24])?;
+        index.extend_from_slice(&GITLINK.to_be_bytes())?;
+        index.extend_from_slice(&[0; 32])?;
+        index.extend_from_slice(b"\0\x06")?;
+        index.extend_from_slice(path.as_bytes())?;
+        index.extend_from_slice(b"\0\0\0\0")?;
+    }
+    push_row(&mut index, &plain(b"z"))?;
+    index.extend_from_slice(&[0; 20])?;
+    Ok(index)
+}
+
+#[test]
+fn an_index_of_70_001_entries_is_checked_out(rt: HostRuntime) -> Result<(), Fail> {
+    let alloc = rt.alloc();
+    let mut objects = Vec::new(alloc);
+    objects.push((HI, Vec::from_slice(alloc, b"blob 3\0hi\n")?))?;
+    let index = Some(many_entries(alloc)?);
+    let mut repo = MemoryRepo::new(alloc, index, None, None, objects, Vec::new(alloc));
+    let mut tree = MemoryTree::new(alloc, true, Vec::new(alloc), false);
+    let mut out = MemorySink::new(alloc, None);
+    let words = words_of(alloc, &["checkout"])?;
+    assert_eq!(rt; run(alloc, &words, &mut repo, &mut tree, &mut out), 0);
+    let text = str::from_utf8(out.bytes())?;
+    assert!(rt; text.starts_with("skipped - - gitlink p10000\nskipped - - gitlink p10001\n"));
+    assert!(rt; text.ends_with("gitlink p79999\nwritten - - - z\ndone 1 0 0 70000\n"));
+    assert_eq!(rt; text.lines().count(), 70_002);
+    assert_eq!(rt; tree.files().len(), 1);
     Ok(())
 }

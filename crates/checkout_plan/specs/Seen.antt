@@ -29,7 +29,8 @@ use Rattle.checkout_plan.specs.declared.fault.PlanFault.{PlanFault}
 use Rattle.checkout_plan.specs.declared.fault.PlanFault.TheVariants as fault
 use Rattle.checkout_plan.specs.AttributeFiles.{with_file, files_at, is_attribute_file, attribute_entries, attribute_files}
 use Rattle.checkout_plan.specs.Paths.{conversion_names, start_named, filter_start, converted, is_used, number_at}
-use Rattle.checkout_plan.specs.Making.{FitsKind, HaveContents, max_attributes, max_drivers, blobs_of}
+use Rattle.checkout_plan.specs.Making.{FitsKind, HaveContents, max_attributes, max_drivers, blobs_of, told_number}
+use Rattle.checkout_core.specs.declared.verdict.ObjectKind.TheVariants as kind
 
 -- attribute files by their folders
 abbrev pub Files : Type 0
@@ -64,6 +65,16 @@ FaultAt told e place (fault.Attribute k kind) = (k ≡ place) × FitsKind told e
 FaultAt told e place (fault.AttributeTooLarge k) = (k ≡ place) × ((content : List ℕ) × Gives told e.name (Ok content) × (max_attributes < length content))
 FaultAt told e place (fault.TooManyDrivers n) = ⊥
 FaultAt told e place fault.NoMemory = Unit {0}
+
+-- the fault of an attribute file at that place whose object gave no content
+abbrev pub unread_fault : ℕ → ObjectFault → PlanFault
+unread_fault place object.ReadFailed = fault.AttributeRead place
+unread_fault place object.Absent = fault.Attribute place kind.Absent
+unread_fault place object.TooLarge = fault.Attribute place kind.TooLarge
+unread_fault place object.Header = fault.Attribute place kind.Header
+unread_fault place object.Size = fault.Attribute place kind.Size
+unread_fault place (object.WrongName found) = fault.Attribute place kind.WrongName
+unread_fault place object.NoMemory = fault.NoMemory
 
 -- the attribute files among these entries are read, and stand at their places
 pub record Reads (object : List ℕ → Told) (es : List Entry) (before after : List FileAt) : Type 0 where
@@ -135,9 +146,9 @@ StartsWithin count s = Unit {0}
 abbrev pub IsWithin : ℕ → PathPlan → Type 0
 IsWithin count p = StartsWithin count p.start
 
--- a plan is given as it is, unless too many drivers are in use
+-- a plan is given as it is, and refused exactly where too many drivers are in use
 abbrev pub IsLimited : Plan → Result Plan PlanFault → Type 0
 IsLimited plan (Ok p) = (p ≡ plan) × (length p.drivers ≤ max_drivers)
-IsLimited plan (Err (fault.TooManyDrivers n)) = (n ≡ length plan.drivers) × (max_drivers < n)
-IsLimited plan (Err fault.NoMemory) = Unit {0}
+IsLimited plan (Err (fault.TooManyDrivers n)) =
+    (n ≡ told_number (length plan.drivers)) × (max_drivers < length plan.drivers)
 IsLimited plan (Err f) = ⊥
