@@ -26,7 +26,7 @@ use Rattle.checkout_engine.specs.Ends.{IsOutOfMemory, IsReadFault, IsNotEmpty, v
 use Rattle.checkout_engine.specs.Shown.{Refuses, EndsPlan, EndsUnbuilt}
 use Rattle.checkout_engine.specs.Output.{IsCut, with_text}
 use Rattle.checkout_engine.specs.Report.{report, status_of, lacks_memory}
-use Rattle.checkout_engine.specs.Writing.{EndsAll}
+use Rattle.checkout_engine.specs.Writing.{ArePathsDone}
 
 -- why a run stops at the worktree
 abbrev pub StopsTree : {T : Type 0} → TreeSeen → TreeSeen → Result T Stop → Type 0
@@ -54,11 +54,11 @@ StopsRun told tree tree' old new (Err stop.NoMemory) =
     (tree'.faults ≡ tree.faults) × IsRepoSteady old new × IsRepoBack old new
 
 -- how a run ends that stopped before it touched a file, by why it stopped
-abbrev pub EndsStop : Stop → SinkSeen → SinkSeen → Status → Type 0
-EndsStop (stop.Refused r) old new s = Refuses r old new s
-EndsStop stop.NotEmpty old new s = (s ≡ status.NotEmpty) × (new ≡ old)
-EndsStop stop.ReadFault old new s = (s ≡ status.ReadFault) × (new ≡ old)
-EndsStop stop.NoMemory old new s = (s ≡ status.OutOfMemory) × (new ≡ old)
+abbrev pub ReportsStop : Stop → SinkSeen → SinkSeen → Status → Type 0
+ReportsStop (stop.Refused r) old new s = Refuses r old new s
+ReportsStop stop.NotEmpty old new s = (s ≡ status.NotEmpty) × (new ≡ old)
+ReportsStop stop.ReadFault old new s = (s ≡ status.ReadFault) × (new ≡ old)
+ReportsStop stop.NoMemory old new s = (s ≡ status.OutOfMemory) × (new ≡ old)
 
 -- The report is written whole, and the status is that of the verdicts. Or a first part is: the sink
 -- failed, or memory ran out.
@@ -74,11 +74,11 @@ Reports text verdicts old new status.OutOfMemory =
 Reports text verdicts old new s = ⊥
 
 -- how the writing of open and closed paths ends, one after the other, and the report of them
-abbrev pub EndsPaths : (List ℕ → Told) → List PathPlan → Seen → Seen → Status → Type 0
-EndsPaths object paths old new s =
+abbrev pub ReportsPaths : (List ℕ → Told) → List PathPlan → Seen → Seen → Status → Type 0
+ReportsPaths object paths old new s =
     ((s ≡ status.OutOfMemory) × (new ≡ old))
     ⊎ ((verdicts : List Verdict)
-    × EndsAll object paths verdicts old.repo new.repo old.tree new.tree
+    × ArePathsDone object paths verdicts old.repo new.repo old.tree new.tree
     × Reports (report paths verdicts) verdicts old.sink new.sink s)
 
 -- the whole text was written, or some first part of it
@@ -102,15 +102,15 @@ IsDone told old new number =
     × IsReported c.plan.paths (verdicts_of c.outcomes) old.sink new.sink number
 
 -- how a checkout ends, by its status
-abbrev pub EndsAt : RepoTold → Seen → Seen → Status → Type 0
-EndsAt told old new status.Done = IsDone told old new 0
-EndsAt told old new status.DoneWithFailures = IsDone told old new 1
-EndsAt told old new status.Usage = ⊥
-EndsAt told old new status.Refused = IsRefused told old new
-EndsAt told old new status.OutputNotWritten = IsCutOff told old new
-EndsAt told old new status.OutOfMemory = IsOutOfMemory told old new
-EndsAt told old new status.ReadFault = IsReadFault told old new
-EndsAt told old new status.NotEmpty = IsNotEmpty old new
+abbrev pub EndsCheckout : RepoTold → Seen → Seen → Status → Type 0
+EndsCheckout told old new status.Done = IsDone told old new 0
+EndsCheckout told old new status.DoneWithFailures = IsDone told old new 1
+EndsCheckout told old new status.Usage = ⊥
+EndsCheckout told old new status.Refused = IsRefused told old new
+EndsCheckout told old new status.OutputNotWritten = IsCutOff told old new
+EndsCheckout told old new status.OutOfMemory = IsOutOfMemory told old new
+EndsCheckout told old new status.ReadFault = IsReadFault told old new
+EndsCheckout told old new status.NotEmpty = IsNotEmpty old new
 
 -- how words end that are no command: nothing at all was done
 pub record EndsUnasked (old new : Seen) (s : Status) : Type 0 where
@@ -120,6 +120,6 @@ pub record EndsUnasked (old new : Seen) (s : Status) : Type 0 where
 -- how a run ends with these words
 abbrev pub Ends : Option Command → RepoTold → Seen → Seen → Status → Type 0
 Ends None told old new s = EndsUnasked old new s
-Ends (Some (command.Checkout workers)) told old new s = EndsAt told old new s
+Ends (Some (command.Checkout workers)) told old new s = EndsCheckout told old new s
 Ends (Some command.Plan) told old new s = EndsPlan told old new s
 Ends (Some (command.Rehearse seed paths)) told old new s = EndsUnbuilt old new s

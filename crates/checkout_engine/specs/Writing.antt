@@ -49,32 +49,32 @@ abbrev pub IsUnput : LeafSeen → Type 0
 IsUnput leaf = (leaf.state ≡ Fresh) × (leaf.faults ≡ 0)
 
 -- how the writing of a prepared content ends: the verdict, and what is seen of the leaf
-abbrev pub EndsLeaf : Mark → Prepared → Verdict → LeafSeen → Type 0
-EndsLeaf mark content (verdict.Written unencoded) leaf =
+abbrev pub WritesContent : Mark → Prepared → Verdict → LeafSeen → Type 0
+WritesContent mark content (verdict.Written unencoded) leaf =
     (unencoded ≡ content.unencoded) × (leaf.state ≡ Sealed mark)
     × Tells leaf.content content.bytes × (leaf.faults ≡ 0)
-EndsLeaf mark content (verdict.Failed fail.WriteFailed) leaf =
+WritesContent mark content (verdict.Failed fail.WriteFailed) leaf =
     IsGivenUp leaf.state × (0 < leaf.faults) × TellsPart leaf.content content.bytes
-EndsLeaf mark content verdict.NoMemory leaf = IsUnput leaf
-EndsLeaf mark content v leaf = ⊥
+WritesContent mark content verdict.NoMemory leaf = IsUnput leaf
+WritesContent mark content v leaf = ⊥
 
 -- the object was read, and its content ends so at the leaf
-abbrev pub EndsRead : Told → PathPlan → Verdict → ℕ → LeafSeen → Type 0
-EndsRead told p v blob leaf =
+abbrev pub WritesRead : Told → PathPlan → Verdict → ℕ → LeafSeen → Type 0
+WritesRead told p v blob leaf =
     (bytes : List ℕ) × Gives told p.object (Ok bytes) × (blob ≡ 0)
-    × EndsLeaf p.mark (prepared p.conversion p.object bytes) v leaf
+    × WritesContent p.mark (prepared p.conversion p.object bytes) v leaf
 
 -- how a path that is open ends: the verdict, the blob's count, and what is seen of the leaf
-abbrev pub EndsPath : Told → PathPlan → Verdict → ℕ → LeafSeen → Type 0
-EndsPath told p (verdict.Written flag) blob leaf = EndsRead told p (verdict.Written flag) blob leaf
-EndsPath told p (verdict.Failed fail.ReadFailed) blob leaf =
+abbrev pub WritesPath : Told → PathPlan → Verdict → ℕ → LeafSeen → Type 0
+WritesPath told p (verdict.Written flag) blob leaf = WritesRead told p (verdict.Written flag) blob leaf
+WritesPath told p (verdict.Failed fail.ReadFailed) blob leaf =
     MayFail told × (0 < blob) × IsUnput leaf
-EndsPath told p (verdict.Failed (fail.Object k)) blob leaf =
+WritesPath told p (verdict.Failed (fail.Object k)) blob leaf =
     FitsKind told p.object k × (blob ≡ 0) × IsUnput leaf
-EndsPath told p (verdict.Failed fail.WriteFailed) blob leaf =
-    EndsRead told p (verdict.Failed fail.WriteFailed) blob leaf
-EndsPath told p verdict.NoMemory blob leaf = (blob ≡ 0) × IsUnput leaf
-EndsPath told p v blob leaf = ⊥
+WritesPath told p (verdict.Failed fail.WriteFailed) blob leaf =
+    WritesRead told p (verdict.Failed fail.WriteFailed) blob leaf
+WritesPath told p verdict.NoMemory blob leaf = (blob ≡ 0) × IsUnput leaf
+WritesPath told p v blob leaf = ⊥
 
 -- the verdict of a path whose object gave no content
 abbrev pub unread_verdict : ObjectFault → Verdict
@@ -96,7 +96,7 @@ AreOutcomes object ps os = AllZip (λ p o. IsOutcome (object p.object) p o) ps o
 
 -- The path ends with this verdict, its blob and its leaf are given back, and its file joins the
 -- others.
-pub record EndsOne (object : List ℕ → Told) (p : PathPlan) (verdict : Verdict)
+pub record IsPathDone (object : List ℕ → Told) (p : PathPlan) (verdict : Verdict)
     (repo repo' : RepoSeen) (tree tree' : TreeSeen) : Type 0 where
   pub outcome : Outcome
   pub same : outcome.verdict ≡ verdict
@@ -112,7 +112,7 @@ all_joined [] files = files
 all_joined (o ∷ os) files = all_joined os (joined o.file files)
 
 -- the paths end with these verdicts, one after the other
-pub record EndsAll (object : List ℕ → Told) (ps : List PathPlan) (verdicts : List Verdict)
+pub record ArePathsDone (object : List ℕ → Told) (ps : List PathPlan) (verdicts : List Verdict)
     (repo repo' : RepoSeen) (tree tree' : TreeSeen) : Type 0 where
   pub outcomes : List Outcome
   pub same : map (λ o. o.verdict) outcomes ≡ verdicts
