@@ -32,9 +32,10 @@ use Rattle.checkout_core.specs.declared.path.Start.TheVariants as start
 use Rattle.checkout_core.specs.declared.verdict.SkipCause.TheVariants as skip
 use Rattle.checkout_plan.specs.AttributeFiles.{attribute_files}
 use Rattle.checkout_plan.specs.Paths.{no_conversion, path_with, closed, converted, file_path, text_path, link_path, path_of_mode, asked_path, first_entries_after, first_entries, asked_paths, path_among, plan_of}
-use Rattle.checkout_engine.specs.Outcome.{Outcome, HasVerdict, HasOutcome, MayLeavePart, LeavesPart, prepared_at, joined}
-use Rattle.checkout_engine.specs.Paths.{AreOutcomes, all_joined}
-use Rattle.checkout_engine.specs.Run.{files_of}
+use Rattle.convert_plan.specs.Prepared.{prepared}
+use Rattle.checkout_engine.specs.Ends.{files_of}
+use Rattle.checkout_engine.specs.Outcome.{Outcome, MayLeavePart, LeavesPart, HasVerdict, HasOutcome}
+use Rattle.checkout_engine.specs.Writing.{joined, AreOutcomes, all_joined}
 
 abbrev pub precedes : PathPlan → PathPlan → Bool
 precedes p q = is_before p.path q.path
@@ -204,10 +205,10 @@ part_is p content Broken file part = absurd part
 file_has : (told : Told) (p : PathPlan) (o : Outcome) (v : Verdict) → HasVerdict told p o v → IsAt p.path o.file
 file_has told p o (verdict.Skipped cause) has = absurd has
 file_has told p o (verdict.Failed fail.NameNotText) has = subst (λ (x : Option TreeFile). IsAt p.path x) (sym has.1.file) tt
-file_has told p o verdict.NoMemory has = part_at p.path [] o.file has.1
+file_has told p o verdict.NoMemory has = subst (λ (x : Option TreeFile). IsAt p.path x) (sym has.1.file) tt
 file_has told p o (verdict.Failed fail.ReadFailed) has = subst (λ (x : Option TreeFile). IsAt p.path x) (sym has.3) tt
 file_has told p o (verdict.Failed (fail.Object k)) has = subst (λ (x : Option TreeFile). IsAt p.path x) (sym has.3) tt
-file_has told p o (verdict.Failed fail.WriteFailed) (opened, (content, gives, (state, count, failed, counts, part))) = part_is p (prepared_at p content).bytes state o.file part
+file_has told p o (verdict.Failed fail.WriteFailed) (opened, (content, gives, (state, count, failed, counts, part))) = part_is p (prepared p.conversion p.object content).bytes state o.file part
 file_has told p o (verdict.Written unencoded) (opened, counts, (content, gives, flag, file)) = subst (λ (x : Option TreeFile). IsAt p.path x) (sym file) refl
 file_has told p o (verdict.Unfiltered cause unencoded) has = absurd has
 file_has told p o (verdict.Failed (fail.Filter cause)) has = absurd has

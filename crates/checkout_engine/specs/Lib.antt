@@ -1,8 +1,15 @@
+-- what `run` promises
+pub mod Ends
+pub mod Shown
 pub mod Sources
+pub mod Causes
 pub mod Outcome
 pub mod Paths
 pub mod Output
 pub mod Report
 pub mod RefusalText
-pub mod Run
 pub mod Complete
+-- what its parts promise one another
+pub mod Reading
+pub mod Writing
+pub mod Ending

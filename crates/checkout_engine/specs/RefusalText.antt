@@ -83,21 +83,16 @@ setting_word setting.NoMemory = codes "no-memory"
 abbrev pub attribute_words : List ℕ → List ℕ → List ℕ
 attribute_words path word = codes "attributes " ++ (quoted path ++ 32 ∷ word)
 
-abbrev pub plain_words : Refusal → List ℕ
-plain_words refusal.IndexAbsent = codes "index absent"
-plain_words (refusal.Index fault) = codes "index " ++ index_words fault
-plain_words (refusal.Config fault) = codes "config " ++ config_words fault
-plain_words (refusal.Setting fault) = codes "setting " ++ setting_word fault
-plain_words refusal.InfoTooLarge = codes "attributes info too-large"
-plain_words (refusal.TooManyDrivers n) = codes "drivers " ++ decimal n
-plain_words refusal.Unbuilt = codes "unbuilt"
-plain_words (refusal.Attribute path kind) = []
-plain_words (refusal.AttributeTooLarge path) = []
-
 abbrev pub refusal_words : Refusal → List ℕ
+refusal_words refusal.IndexAbsent = codes "index absent"
+refusal_words (refusal.Index fault) = codes "index " ++ index_words fault
+refusal_words (refusal.Config fault) = codes "config " ++ config_words fault
+refusal_words (refusal.Setting fault) = codes "setting " ++ setting_word fault
+refusal_words refusal.InfoTooLarge = codes "attributes info too-large"
 refusal_words (refusal.Attribute path kind) = attribute_words path (object_word kind)
 refusal_words (refusal.AttributeTooLarge path) = attribute_words path (codes "too-large")
-refusal_words r = plain_words r
+refusal_words (refusal.TooManyDrivers n) = codes "drivers " ++ decimal n
+refusal_words refusal.Unbuilt = codes "unbuilt"
 
 -- the line that is written where it is refused so
 abbrev pub refusal_line : Refusal → List ℕ

@@ -1,5 +1,7 @@
 ghost use Rattle.std.specs.Prelude.{◌≡◌, IfOk, string_bytes};
-ghost use Rattle.checkout_engine.specs.RefusalText.{kind_word, path_word, index_words, line_word, config_words, key_word, setting_word, attribute_words, plain_words, refusal_words, refusal_line};
+ghost use Rattle.checkout_engine.specs.RefusalText.{kind_word, path_word, index_words, line_word};
+ghost use Rattle.checkout_engine.specs.RefusalText.{config_words, key_word, setting_word};
+ghost use Rattle.checkout_engine.specs.RefusalText.{attribute_words, refusal_words, refusal_line};
 
 use crate::stop::Refusal;
 use byte_path::{Bytes, PathFault, quote_path};
@@ -121,38 +123,28 @@ fn attribute_words(alloc: Global, path: &Bytes, word: &str) -> Result<Vec<u8>, A
     Ok(words)
 }
 
-/// The words of a fault of the index, the configuration, or what isn't built yet.
-fn plain_words(alloc: Global, refusal: &Refusal) -> Result<String, AllocError>
-    ensures { IfOk result (λ s. string_bytes s ≡ plain_words refusal.now) }
-{
-    match refusal {
-        Refusal::IndexAbsent => String::from_str(alloc, "index absent"),
-        Refusal::Index(fault) => {
-            let words = index_words(alloc, *fault)?;
-            format!(in alloc; "index {words}")
-        }
-        Refusal::Config(fault) => {
-            let words = config_words(alloc, *fault)?;
-            format!(in alloc; "config {words}")
-        }
-        Refusal::Setting(fault) => {
-            let word = setting_word(*fault);
-            format!(in alloc; "setting {word}")
-        }
-        Refusal::InfoTooLarge => String::from_str(alloc, "attributes info too-large"),
-        Refusal::TooManyDrivers(n) => format!(in alloc; "drivers {n}"),
-        Refusal::Unbuilt => String::from_str(alloc, "unbuilt"),
-        Refusal::Attribute(_, _) | Refusal::AttributeTooLarge(_) => Ok(String::new(alloc)),
-    }
-}
-
 fn refusal_words(alloc: Global, refusal: &Refusal) -> Result<Vec<u8>, AllocError>
     ensures { IfOk result (λ v. v.items ≡ refusal_words refusal.now) }
 {
     match refusal {
+        Refusal::IndexAbsent => Vec::from_slice(alloc, b"index absent"),
+        Refusal::Index(fault) => {
+            let words = index_words(alloc, *fault)?;
+            Ok(format!(in alloc; "index {words}")?.into_bytes())
+        }
+        Refusal::Config(fault) => {
+            let words = config_words(alloc, *fault)?;
+            Ok(format!(in alloc; "config {words}")?.into_bytes())
+        }
+        Refusal::Setting(fault) => {
+            let word = setting_word(*fault);
+            Ok(format!(in alloc; "setting {word}")?.into_bytes())
+        }
+        Refusal::InfoTooLarge => Vec::from_slice(alloc, b"attributes info too-large"),
         Refusal::Attribute(path, kind) => attribute_words(alloc, path, object_word(*kind)),
         Refusal::AttributeTooLarge(path) => attribute_words(alloc, path, "too-large"),
-        _ => Vec::from_slice(alloc, plain_words(alloc, refusal)?.as_bytes()),
+        Refusal::TooManyDrivers(n) => Ok(format!(in alloc; "drivers {n}")?.into_bytes()),
+        Refusal::Unbuilt => Vec::from_slice(alloc, b"unbuilt"),
     }
 }
 

@@ -1,5 +1,5 @@
 ghost use Rattle.std.specs.Prelude.{◌≡◌};
-ghost use Rattle.checkout_engine.specs.Run.{number_of};
+ghost use Rattle.checkout_engine.specs.Report.{number_of};
 
 /// How a run ends. The number of each is the status that the program ends with.
 #[derive(Clone, Copy, Debug, PartialEq, Eq)]

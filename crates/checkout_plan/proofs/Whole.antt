@@ -11,7 +11,6 @@ use Rattle.checkout_plan.specs.declared.fault.PlanFault.TheVariants as fault
 use Rattle.checkout_plan.specs.Paths.{plan_by, plan_of}
 use Rattle.checkout_plan.specs.Making.{HasPlan, MakesPlan, GivesBack, blobs_of}
 use Rattle.checkout_plan.specs.Seen.{ReadsAll, IsLimited}
-use Rattle.checkout_plan.proofs.Files.{all_returned}
 
 has_plan : (object : List ℕ → Told) (es : List Entry) (info : AttrFile) (settings : Settings) (files : AttrFiles) (plan : Plan) → ReadsAll object es info files → plan ≡ plan_by files settings es → HasPlan object es info settings plan
 unfolding plan_of
@@ -21,7 +20,7 @@ pub plan_made : (object : List ℕ → Told) (es : List Entry) (info : AttrFile)
     → IsLimited plan r → MakesPlan object es info settings r
 plan_made object es info settings files plan (Ok p) reads is limited = (has_plan object es info settings files p reads (limited.0 ∙ is), limited.1)
 plan_made object es info settings files plan (Err (fault.TooManyDrivers n)) reads is limited = (plan, has_plan object es info settings files plan reads is, limited.0, limited.1)
-plan_made object es info settings files plan (Err fault.NoMemory) reads is limited = tt
+plan_made object es info settings files plan (Err fault.NoMemory) reads is limited = absurd limited
 plan_made object es info settings files plan (Err (fault.AttributeRead k)) reads is limited = absurd limited
 plan_made object es info settings files plan (Err (fault.Attribute k kind)) reads is limited = absurd limited
 plan_made object es info settings files plan (Err (fault.AttributeTooLarge k)) reads is limited = absurd limited
@@ -29,7 +28,7 @@ plan_made object es info settings files plan (Err (fault.AttributeTooLarge k)) r
 pub plan_returned : (es : List Entry) (before after : List (List ℕ × ℕ)) (plan : Plan) (r : Result Plan PlanFault) → IsLimited plan r → after ≡ before ++ blobs_of es → GivesBack es before after r
 plan_returned es before after plan (Ok p) limited is = is
 plan_returned es before after plan (Err (fault.TooManyDrivers n)) limited is = is
-plan_returned es before after plan (Err fault.NoMemory) limited is = all_returned es before after is
+plan_returned es before after plan (Err fault.NoMemory) limited is = absurd limited
 plan_returned es before after plan (Err (fault.AttributeRead k)) limited is = absurd limited
 plan_returned es before after plan (Err (fault.Attribute k kind)) limited is = absurd limited
 plan_returned es before after plan (Err (fault.AttributeTooLarge k)) limited is = absurd limited

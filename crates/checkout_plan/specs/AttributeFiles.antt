@@ -1,5 +1,6 @@
 -- The attribute files of an index (gitattributes(5)).
-use Rattle.std.specs.Prelude.{ℕ, Bool, true, false, ◌-◌, ◌+◌, ◌&&◌, ◌||◌, ◌==◌, ◌^◌, nat_eq, min, sum_by, List, [], ◌∷◌, length, take, fold, filter, codes}
+use Rattle.std.specs.Prelude.{ℕ, Bool, true, false, ◌-◌, ◌+◌, ◌&&◌, ◌||◌, ◌==◌, ◌^◌, nat_eq, min}
+use Rattle.std.specs.Prelude.{sum_by, List, [], ◌∷◌, length, take, fold, filter, codes}
 use Rattle.std.specs.List.{ends_with}
 use Rattle.std.specs.Str.{bytes_eq}
 use Rattle.std.specs.Ordering.{nat_cmp, match_ordering}

@@ -1,9 +1,11 @@
 -- What the making of a plan reads, and why there is none.
-use Rattle.std.specs.Prelude.{◌≡◌, ℕ, ◌<◌, ◌≤◌, true, List, [], ◌∷◌, ◌++◌, length, take, map, slice_get, Some, Result, Ok, Err}
+use Rattle.std.specs.Prelude.{◌≡◌, ℕ, ◌<◌, ◌≤◌, ◌-◌, ◌^◌, min, true, List, [], ◌∷◌, ◌++◌, length, take, map}
+use Rattle.std.specs.Prelude.{slice_get, Option, Some, None, Result, Ok, Err}
 use Rattle.std.specs.List.{AllZip}
 use Rattle.edge_kit.specs.Told.{Told, MayFail}
 use Rattle.git_index.specs.declared.entry.Entry.{Entry}
 use Rattle.object_dir.specs.Object.{Gives, IsObject}
+use Rattle.object_dir.specs.declared.fault.ObjectFault.{ObjectFault}
 use Rattle.object_dir.specs.declared.fault.ObjectFault.TheVariants as object
 use Rattle.attr_line.specs.declared.file.AttrFile.{AttrFile}
 use Rattle.checkout_core.specs.declared.verdict.ObjectKind.{ObjectKind}
@@ -15,13 +17,21 @@ use Rattle.checkout_plan.specs.declared.fault.PlanFault.TheVariants as fault
 use Rattle.checkout_plan.specs.AttributeFiles.{is_attribute_file, attribute_entries}
 use Rattle.checkout_plan.specs.Paths.{plan_of}
 
--- what is wrong with the object of that name, by what is told
-abbrev pub FitsKind : Told → List ℕ → ObjectKind → Type 0
-FitsKind told name kind.Absent = IsObject told name (Err object.Absent)
-FitsKind told name kind.TooLarge = IsObject told name (Err object.TooLarge)
-FitsKind told name kind.Header = IsObject told name (Err object.Header)
-FitsKind told name kind.Size = IsObject told name (Err object.Size)
-FitsKind told name kind.WrongName = (found : List ℕ) × IsObject told name (Err (object.WrongName found))
+-- what is wrong with an object, where it was read
+abbrev pub object_kind : ObjectFault → Option ObjectKind
+object_kind object.Absent = Some kind.Absent
+object_kind object.TooLarge = Some kind.TooLarge
+object_kind object.Header = Some kind.Header
+object_kind object.Size = Some kind.Size
+object_kind (object.WrongName found) = Some kind.WrongName
+object_kind object.ReadFailed = None
+object_kind object.NoMemory = None
+
+-- this is wrong with the object of that name, by what is told
+pub record FitsKind (told : Told) (name : List ℕ) (kind : ObjectKind) : Type 0 where
+  pub fault : ObjectFault
+  pub is : object_kind fault ≡ Some kind
+  pub fits : IsObject told name (Err fault)
 
 -- the most bytes of an attribute file
 abbrev pub max_attributes : ℕ
@@ -31,11 +41,12 @@ max_attributes = 1048576
 abbrev pub HasContent : Told → Entry → List ℕ → Type 0
 HasContent told e content = Gives told e.name (Ok content) × (length content ≤ max_attributes)
 
--- the contents of the attribute files among these entries, in order
+-- the same for each attribute file among these entries, in order
 abbrev pub HaveContents : (List ℕ → Told) → List Entry → List (List ℕ) → Type 0
-HaveContents object es contents = AllZip (λ e content. HasContent (object e.name) e content) (attribute_entries es) contents
+HaveContents object es contents =
+    AllZip (λ e content. HasContent (object e.name) e content) (attribute_entries es) contents
 
--- what the blobs of the attribute files among these entries add to the list of those that were given back, where none failed
+-- The blobs of the attribute files among these entries, as they are given back where none failed.
 abbrev pub blobs_of : List Entry → List (List ℕ × ℕ)
 blobs_of es = map (λ e. (e.name, 0)) (attribute_entries es)
 
@@ -47,7 +58,7 @@ pub record IsFirstFault (object : List ℕ → Told) (es : List Entry) (k : ℕ)
   pub contents : List (List ℕ)
   pub read : HaveContents object (take k es) contents
 
--- its blob has this count, and the blobs of the attribute files before it have not failed
+-- The blobs of the attribute files before entry k, and that of entry k, which has this count.
 abbrev pub blobs_to : List Entry → ℕ → Entry → ℕ → List (List ℕ × ℕ)
 blobs_to es k entry count = blobs_of (take k es) ++ (entry.name, count) ∷ []
 
@@ -56,30 +67,49 @@ abbrev pub max_drivers : ℕ
 max_drivers = 16
 
 -- a plan of these entries, by what is told of their attribute files
-pub record HasPlan (object : List ℕ → Told) (es : List Entry) (info : AttrFile) (settings : Settings) (plan : Plan) : Type 0 where
+pub record HasPlan (object : List ℕ → Told) (es : List Entry) (info : AttrFile)
+    (settings : Settings) (plan : Plan) : Type 0 where
   pub contents : List (List ℕ)
   pub read : HaveContents object es contents
   pub is : plan ≡ plan_of es settings info contents
 
+-- a number as it is told: 2^32 - 1 where it is more
+abbrev pub told_number : ℕ → ℕ
+told_number n = min n (2 ^ 32 - 1)
+
 -- why there is no plan, by what is told; want of memory needs no cause
 abbrev pub HasPlanFault : (List ℕ → Told) → List Entry → AttrFile → Settings → PlanFault → Type 0
-HasPlanFault object es info settings (fault.AttributeRead k) = (f : IsFirstFault object es k) × MayFail (object f.entry.name)
-HasPlanFault object es info settings (fault.Attribute k kind) = (f : IsFirstFault object es k) × FitsKind (object f.entry.name) f.entry.name kind
+HasPlanFault object es info settings (fault.AttributeRead k) =
+    (f : IsFirstFault object es k) × MayFail (object f.entry.name)
+HasPlanFault object es info settings (fault.Attribute k kind) =
+    (f : IsFirstFault object es k) × FitsKind (object f.entry.name) f.entry.name kind
 HasPlanFault object es info settings (fault.AttributeTooLarge k) =
-    (f : IsFirstFault object es k) × ((content : List ℕ) × Gives (object f.entry.name) f.entry.name (Ok content) × (max_attributes < length content))
-HasPlanFault object es info settings (fault.TooManyDrivers n) = (plan : Plan) × HasPlan object es info settings plan × (n ≡ length plan.drivers) × (max_drivers < n)
+    (f : IsFirstFault object es k) × ((content : List ℕ)
+    × Gives (object f.entry.name) f.entry.name (Ok content) × (max_attributes < length content))
+HasPlanFault object es info settings (fault.TooManyDrivers n) =
+    (plan : Plan) × HasPlan object es info settings plan
+    × (n ≡ told_number (length plan.drivers)) × (max_drivers < length plan.drivers)
 HasPlanFault object es info settings fault.NoMemory = Unit {0}
 
 -- What the making of a plan gives: the plan, or the first fault, with what shows it.
-abbrev pub MakesPlan : (List ℕ → Told) → List Entry → AttrFile → Settings → Result Plan PlanFault → Type 0
-MakesPlan object es info settings (Ok plan) = HasPlan object es info settings plan × (length plan.drivers ≤ max_drivers)
+abbrev pub MakesPlan : (List ℕ → Told) → List Entry → AttrFile → Settings → Result Plan PlanFault
+    → Type 0
+MakesPlan object es info settings (Ok plan) =
+    HasPlan object es info settings plan × (length plan.drivers ≤ max_drivers)
 MakesPlan object es info settings (Err f) = HasPlanFault object es info settings f
 
--- Which blobs were given back meanwhile: those of the attribute files that were read, none of which failed, and last the one whose reading failed.
-abbrev pub GivesBack : List Entry → List (List ℕ × ℕ) → List (List ℕ × ℕ) → Result Plan PlanFault → Type 0
+-- Which blobs were given back meanwhile: those of the attribute files that were read, none of which
+-- failed, and last the one whose reading failed.
+abbrev pub GivesBack : List Entry → List (List ℕ × ℕ) → List (List ℕ × ℕ) → Result Plan PlanFault
+    → Type 0
 GivesBack es before after (Ok plan) = after ≡ before ++ blobs_of es
-GivesBack es before after (Err (fault.AttributeRead k)) = (entry : Entry) × (slice_get es k ≡ Some entry) × ((count : ℕ) × (0 < count) × (after ≡ before ++ blobs_to es k entry count))
-GivesBack es before after (Err (fault.Attribute k kind)) = (entry : Entry) × (slice_get es k ≡ Some entry) × (after ≡ before ++ blobs_to es k entry 0)
-GivesBack es before after (Err (fault.AttributeTooLarge k)) = (entry : Entry) × (slice_get es k ≡ Some entry) × (after ≡ before ++ blobs_to es k entry 0)
+GivesBack es before after (Err (fault.AttributeRead k)) =
+    (entry : Entry) × (slice_get es k ≡ Some entry)
+    × ((count : ℕ) × (0 < count) × (after ≡ before ++ blobs_to es k entry count))
+GivesBack es before after (Err (fault.Attribute k kind)) =
+    (entry : Entry) × (slice_get es k ≡ Some entry) × (after ≡ before ++ blobs_to es k entry 0)
+GivesBack es before after (Err (fault.AttributeTooLarge k)) =
+    (entry : Entry) × (slice_get es k ≡ Some entry) × (after ≡ before ++ blobs_to es k entry 0)
 GivesBack es before after (Err (fault.TooManyDrivers n)) = after ≡ before ++ blobs_of es
-GivesBack es before after (Err fault.NoMemory) = (k : ℕ) × (k ≤ length es) × (after ≡ before ++ blobs_of (take k es))
+GivesBack es before after (Err fault.NoMemory) =
+    (k : ℕ) × (k ≤ length es) × (after ≡ before ++ blobs_of (take k es))

@@ -1,5 +1,6 @@
 -- What becomes of each path of an index.
-use Rattle.std.specs.Prelude.{ℕ, zero, suc, Bool, true, false, ◌==◌, List, [], ◌∷◌, map, codes, Option, Some, None, Result, Ok, Err, if◌then◌else◌}
+use Rattle.std.specs.Prelude.{ℕ, zero, suc, Bool, true, false, ◌==◌, List, [], ◌∷◌, map, codes}
+use Rattle.std.specs.Prelude.{Option, Some, None, Result, Ok, Err, if◌then◌else◌}
 use Rattle.std.specs.List.{list_any}
 use Rattle.std.specs.Str.{bytes_eq, is_utf8}
 use Rattle.edge_kit.specs.declared.leaf_state.Mark.{Mark}
@@ -40,7 +41,13 @@ abbrev pub no_conversion : Conversion
 no_conversion = record { ident = false; ends = Keep; encoding = None }
 
 abbrev pub path_with : Entry → Conversion → Start → PathPlan
-path_with e conversion start = record { path = e.path; object = e.name; mark = mark_of e.mode; conversion = conversion; start = start }
+path_with e conversion start = record {
+  path = e.path;
+  object = e.name;
+  mark = mark_of e.mode;
+  conversion = conversion;
+  start = start;
+}
 
 -- a path whose verdict stands before anything is read
 abbrev pub closed : Entry → Verdict → PathPlan
@@ -85,11 +92,14 @@ file_path files settings e =
 
 -- a path that isn't UTF-8 has no file
 abbrev pub text_path : AttrFiles → Settings → Entry → PathPlan
-text_path files settings e = if is_utf8 e.path then file_path files settings e else closed e (verdict.Failed fail.NameNotText)
+text_path files settings e =
+    if is_utf8 e.path then file_path files settings e else closed e (verdict.Failed fail.NameNotText)
 
 -- a link's text is written as it is
 abbrev pub link_path : Entry → PathPlan
-link_path e = if is_utf8 e.path then path_with e no_conversion start.Pool else closed e (verdict.Failed fail.NameNotText)
+link_path e =
+    if is_utf8 e.path then path_with e no_conversion start.Pool
+    else closed e (verdict.Failed fail.NameNotText)
 
 abbrev pub path_of_mode : Mode → AttrFiles → Settings → Entry → PathPlan
 path_of_mode mode.Plain files settings e = text_path files settings e
@@ -99,14 +109,19 @@ path_of_mode mode.Gitlink files settings e = closed e (verdict.Skipped skip.Gitl
 
 -- the path of an entry with the lowest stage, with its driver numbered among all those of the settings
 abbrev pub asked_path : AttrFiles → Settings → Entry → PathPlan
-asked_path files settings e = if e.stage == 0 then path_of_mode e.mode files settings e else closed e (verdict.Skipped skip.Unmerged)
+asked_path files settings e =
+    if e.stage == 0 then path_of_mode e.mode files settings e
+    else closed e (verdict.Skipped skip.Unmerged)
 
 -- the entries whose path isn't that of the one before
 abbrev pub first_entries_after : List ℕ → List Entry → List Entry
 first_entries_after before [] = []
-first_entries_after before (e ∷ es) = if bytes_eq e.path before then first_entries_after before es else e ∷ first_entries_after e.path es
+first_entries_after before (e ∷ es) =
+    if bytes_eq e.path before then first_entries_after before es
+    else e ∷ first_entries_after e.path es
 
--- One entry for each distinct path of an index, that with the lowest stage. No path is empty, so the first entry is always one.
+-- One entry for each distinct path of an index, that with the lowest stage. No path is empty, so the
+-- first entry is always one.
 abbrev pub first_entries : List Entry → List Entry
 first_entries es = first_entries_after [] es
 
@@ -127,7 +142,9 @@ is_used paths place = list_any (asks_for place) paths
 -- the drivers that some path asks for, from that place on
 abbrev pub used_from : ℕ → List PathPlan → List Driver → List Driver
 used_from place paths [] = []
-used_from place paths (d ∷ ds) = if is_used paths place then d ∷ used_from (suc place) paths ds else used_from (suc place) paths ds
+used_from place paths (d ∷ ds) =
+    if is_used paths place then d ∷ used_from (suc place) paths ds
+    else used_from (suc place) paths ds
 
 -- how many drivers before that place are used: a driver's number among those in use
 abbrev pub number_at : List PathPlan → ℕ → ℕ
@@ -153,6 +170,7 @@ plan_with files asked settings = record {
 abbrev pub plan_by : AttrFiles → Settings → List Entry → Plan
 plan_by files settings es = plan_with files (asked_paths files settings es) settings
 
--- The plan of an index, from its entries, the settings, what `info/attributes` says, and the contents of its attribute files.
+-- The plan of an index, from its entries, the settings, what `info/attributes` says, and the contents
+-- of its attribute files.
 unfoldable pub plan_of : List Entry → Settings → AttrFile → List (List ℕ) → Plan
 plan_of es settings info contents = plan_by (attribute_files info es contents) settings es

@@ -1,5 +1,6 @@
 -- What the code holds and meets while a plan is made.
-use Rattle.std.specs.Prelude.{◌≡◌, ℕ, ◌<◌, ◌≤◌, ◌⊎◌, Bool, true, false, get_or, List, [], ◌∷◌, ◌++◌, length, map, fold, take, codes, slice_index_or, Result, Ok, Err}
+use Rattle.std.specs.Prelude.{◌≡◌, ℕ, ◌<◌, ◌≤◌, ◌⊎◌, Bool, true, false, get_or, List, [], ◌∷◌, ◌++◌}
+use Rattle.std.specs.Prelude.{length, map, fold, take, codes, slice_index_or, Result, Ok, Err}
 use Rattle.std.specs.Global.{Vec}
 use Rattle.std.specs.Borrow.{Bor}
 use Rattle.std.specs.BTreeMap.{BTreeMap, get_by}
@@ -27,9 +28,13 @@ use Rattle.checkout_plan.specs.declared.path_plan.PathPlan.{PathPlan}
 use Rattle.checkout_plan.specs.declared.path_plan.Plan.{Plan}
 use Rattle.checkout_plan.specs.declared.fault.PlanFault.{PlanFault}
 use Rattle.checkout_plan.specs.declared.fault.PlanFault.TheVariants as fault
-use Rattle.checkout_plan.specs.AttributeFiles.{with_file, files_at, is_attribute_file, attribute_entries, attribute_files}
-use Rattle.checkout_plan.specs.Paths.{conversion_names, start_named, filter_start, converted, is_used, number_at}
-use Rattle.checkout_plan.specs.Making.{FitsKind, HaveContents, max_attributes, max_drivers, blobs_of}
+use Rattle.checkout_plan.specs.AttributeFiles.{with_file, files_at, is_attribute_file}
+use Rattle.checkout_plan.specs.AttributeFiles.{attribute_entries, attribute_files}
+use Rattle.checkout_plan.specs.Paths.{conversion_names, start_named, filter_start, converted}
+use Rattle.checkout_plan.specs.Paths.{is_used, number_at}
+use Rattle.checkout_plan.specs.Making.{FitsKind, HaveContents, max_attributes, max_drivers}
+use Rattle.checkout_plan.specs.Making.{blobs_of, told_number}
+use Rattle.checkout_core.specs.declared.verdict.ObjectKind.TheVariants as kind
 
 -- attribute files by their folders
 abbrev pub Files : Type 0
@@ -45,15 +50,20 @@ files_seen m = map file_seen m.entries
 abbrev pub with_blob : List (List ℕ × ℕ) → List ℕ → ℕ → List (List ℕ × ℕ)
 with_blob returned name count = returned ++ (name, count) ∷ []
 
--- An object's blob is given back, and its count rose where reading it failed. Where memory ran out there may have been no blob.
-abbrev pub ReturnsObject : List ℕ → List (List ℕ × ℕ) → List (List ℕ × ℕ) → Result (Vec ℕ) ObjectFault → Type 0
-ReturnsObject name before after (Err object.ReadFailed) = (count : ℕ) × (0 < count) × (after ≡ with_blob before name count)
+-- An object's blob is given back, and its count rose where reading it failed. Where memory ran out
+-- there may have been no blob.
+abbrev pub ReturnsObject : List ℕ → List (List ℕ × ℕ) → List (List ℕ × ℕ)
+    → Result (Vec ℕ) ObjectFault → Type 0
+ReturnsObject name before after (Err object.ReadFailed) =
+    (count : ℕ) × (0 < count) × (after ≡ with_blob before name count)
 ReturnsObject name before after (Err object.NoMemory) = (after ≡ before) ⊎ (after ≡ with_blob before name 0)
 ReturnsObject name before after answer = after ≡ with_blob before name 0
 
 -- the same of the blob of an attribute file
-abbrev pub ReturnsFile : {T : Type 0} → List ℕ → List (List ℕ × ℕ) → List (List ℕ × ℕ) → Result T PlanFault → Type 0
-ReturnsFile name before after (Err (fault.AttributeRead k)) = (count : ℕ) × (0 < count) × (after ≡ with_blob before name count)
+abbrev pub ReturnsFile : {T : Type 0} → List ℕ → List (List ℕ × ℕ) → List (List ℕ × ℕ)
+    → Result T PlanFault → Type 0
+ReturnsFile name before after (Err (fault.AttributeRead k)) =
+    (count : ℕ) × (0 < count) × (after ≡ with_blob before name count)
 ReturnsFile name before after (Err fault.NoMemory) = (after ≡ before) ⊎ (after ≡ with_blob before name 0)
 ReturnsFile name before after answer = after ≡ with_blob before name 0
 
@@ -61,9 +71,21 @@ ReturnsFile name before after answer = after ≡ with_blob before name 0
 abbrev pub FaultAt : Told → Entry → ℕ → PlanFault → Type 0
 FaultAt told e place (fault.AttributeRead k) = (k ≡ place) × MayFail told
 FaultAt told e place (fault.Attribute k kind) = (k ≡ place) × FitsKind told e.name kind
-FaultAt told e place (fault.AttributeTooLarge k) = (k ≡ place) × ((content : List ℕ) × Gives told e.name (Ok content) × (max_attributes < length content))
+FaultAt told e place (fault.AttributeTooLarge k) =
+    (k ≡ place)
+    × ((content : List ℕ) × Gives told e.name (Ok content) × (max_attributes < length content))
 FaultAt told e place (fault.TooManyDrivers n) = ⊥
 FaultAt told e place fault.NoMemory = Unit {0}
+
+-- the fault of an attribute file at that place whose object gave no content
+abbrev pub unread_fault : ℕ → ObjectFault → PlanFault
+unread_fault place object.ReadFailed = fault.AttributeRead place
+unread_fault place object.Absent = fault.Attribute place kind.Absent
+unread_fault place object.TooLarge = fault.Attribute place kind.TooLarge
+unread_fault place object.Header = fault.Attribute place kind.Header
+unread_fault place object.Size = fault.Attribute place kind.Size
+unread_fault place (object.WrongName found) = fault.Attribute place kind.WrongName
+unread_fault place object.NoMemory = fault.NoMemory
 
 -- the attribute files among these entries are read, and stand at their places
 pub record Reads (object : List ℕ → Told) (es : List Entry) (before after : List FileAt) : Type 0 where
@@ -77,7 +99,8 @@ pub record Fails (object : List ℕ → Told) (e : Entry) (place : ℕ) (f : Pla
   pub why : FaultAt (object e.name) e place f
 
 -- the blob of an entry that is an attribute file is given back
-abbrev pub ReturnsEntry : {T : Type 0} → Entry → List (List ℕ × ℕ) → List (List ℕ × ℕ) → Result T PlanFault → Type 0
+abbrev pub ReturnsEntry : {T : Type 0} → Entry → List (List ℕ × ℕ) → List (List ℕ × ℕ)
+    → Result T PlanFault → Type 0
 ReturnsEntry {T} e before after (Ok x) = after ≡ before ++ blobs_of (e ∷ [])
 ReturnsEntry {T} e before after (Err f) = ReturnsFile {T = T} e.name before after (Err f)
 
@@ -104,7 +127,9 @@ asked_names = conversion_names ++ codes "filter" ∷ []
 
 -- a file by the states of these
 abbrev pub path_by : Settings → Entry → List AttrState → PathPlan
-path_by settings e states = converted e (filter_start settings.drivers (slice_index_or states 5 Unspecified)) (conversion_of (take 5 states) settings.autocrlf settings.eol)
+path_by settings e states =
+    converted e (filter_start settings.drivers (slice_index_or states 5 Unspecified))
+    (conversion_of (take 5 states) settings.autocrlf settings.eol)
 
 -- it asks for these attributes, and knows how the paths of the settings' drivers begin
 pub record IsReady (asking : Asking) : Type 0 where
@@ -135,9 +160,9 @@ StartsWithin count s = Unit {0}
 abbrev pub IsWithin : ℕ → PathPlan → Type 0
 IsWithin count p = StartsWithin count p.start
 
--- a plan is given as it is, unless too many drivers are in use
+-- a plan is given as it is, and refused exactly where too many drivers are in use
 abbrev pub IsLimited : Plan → Result Plan PlanFault → Type 0
 IsLimited plan (Ok p) = (p ≡ plan) × (length p.drivers ≤ max_drivers)
-IsLimited plan (Err (fault.TooManyDrivers n)) = (n ≡ length plan.drivers) × (max_drivers < n)
-IsLimited plan (Err fault.NoMemory) = Unit {0}
+IsLimited plan (Err (fault.TooManyDrivers n)) =
+    (n ≡ told_number (length plan.drivers)) × (max_drivers < length plan.drivers)
 IsLimited plan (Err f) = ⊥

@@ -1,5 +1,6 @@
 //! The drivers in use, and their numbers.
-ghost use Rattle.std.specs.Prelude.{◌≡◌, ℕ, ◌<◌, ◌||◌, ◌++◌, IfOk, List, map, length, false, slice_index_or, get_or};
+ghost use Rattle.std.specs.Prelude.{◌≡◌, ℕ, ◌<◌, ◌||◌, ◌++◌, IfOk, List, map, length, false};
+ghost use Rattle.std.specs.Prelude.{slice_index_or, get_or};
 ghost use Rattle.checkout_plan.specs.declared.path_plan.PathPlan.{PathPlan};
 ghost use Rattle.checkout_plan.specs.Paths.{is_desk_of, used_from};
 ghost use Rattle.checkout_plan.specs.Seen.{AreUsed, AreNumbers, renumbered};
@@ -13,7 +14,8 @@ use std::alloc::{AllocError, Global};
 
 /// Notes the driver of a path that begins so.
 fn note(used: &mut [bool], start: Start)
-    ensures { (k : ℕ) → k < length used.old → get_or used.new k false ≡ (get_or used.old k false || is_desk_of k start) }
+    ensures { (k : ℕ) → k < length used.old
+        → get_or used.new k false ≡ (get_or used.old k false || is_desk_of k start) }
 {
     if let Start::Desk { driver, .. } = start {
         let place = driver as usize;
@@ -52,7 +54,8 @@ fn copy_of(alloc: Global, driver: &Driver) -> Result<Driver, AllocError>
 /// The drivers that are in use.
 pub fn in_use(alloc: Global, drivers: &[Driver], used: &[bool]) -> Result<Vec<Driver>, AllocError>
     requires { length used.now ≡ length drivers.now }
-    ensures { IfOk result (λ kept. (paths : List PathPlan) → AreUsed used.now paths → kept.items ≡ used_from 0 paths drivers.now) }
+    ensures { IfOk result (λ kept. (paths : List PathPlan)
+        → AreUsed used.now paths → kept.items ≡ used_from 0 paths drivers.now) }
 {
     let mut kept = Vec::new(alloc);
     for (place, driver) in drivers.iter().enumerate() {
@@ -66,7 +69,8 @@ pub fn in_use(alloc: Global, drivers: &[Driver], used: &[bool]) -> Result<Vec<Dr
 /// The number of each driver: how many before it are in use.
 pub fn numbers_of(alloc: Global, used: &[bool]) -> Result<Vec<u32>, AllocError>
     ensures length { IfOk result (λ numbers. length numbers.items ≡ length used.now) }
-    ensures numbers { IfOk result (λ numbers. (paths : List PathPlan) → AreUsed used.now paths → AreNumbers numbers.items paths) }
+    ensures numbers { IfOk result (λ numbers. (paths : List PathPlan)
+        → AreUsed used.now paths → AreNumbers numbers.items paths) }
 {
     let mut numbers = Vec::with_capacity(alloc, used.len())?;
     let mut count = 0usize;

@@ -1,7 +1,10 @@
 ghost use Rattle.std.specs.Prelude.{◌≡◌};
 ghost use Rattle.checkout_plan.specs.declared.fault.PlanFault.TheVariants.{NoMemory};
+ghost use Rattle.checkout_plan.specs.Making.{object_kind};
+ghost use Rattle.checkout_plan.specs.Seen.{unread_fault};
 
 use checkout_core::ObjectKind;
+use object_dir::ObjectFault;
 use std::alloc::{AllocError, AllocFailed};
 
 /// Why there is no plan. An entry is named by its place in the index, from 0.
@@ -13,7 +16,7 @@ pub enum PlanFault {
     Attribute(u32, ObjectKind),
     /// An attribute file of more than 1,048,576 bytes.
     AttributeTooLarge(u32),
-    /// More than 16 drivers are in use: so many.
+    /// More than 16 drivers are in use: so many, or 2^32 - 1 where there are more.
     TooManyDrivers(u32),
     /// Want of memory.
     NoMemory,
@@ -32,5 +35,30 @@ impl<T: Drop> From<AllocFailed<T>> for PlanFault {
 
     fn from(_: AllocFailed<T>) -> Self {
         PlanFault::NoMemory
+    }
+}
+
+/// What is wrong with an object that was read, or `None` where reading it failed or memory ran out.
+pub fn object_kind(fault: ObjectFault) -> Option<ObjectKind>
+    ensures { result ≡ object_kind fault }
+{
+    match fault {
+        ObjectFault::Absent => Some(ObjectKind::Absent),
+        ObjectFault::TooLarge => Some(ObjectKind::TooLarge),
+        ObjectFault::Header => Some(ObjectKind::Header),
+        ObjectFault::Size => Some(ObjectKind::Size),
+        ObjectFault::WrongName(_) => Some(ObjectKind::WrongName),
+        ObjectFault::ReadFailed | ObjectFault::NoMemory => None,
+    }
+}
+
+/// The fault of an attribute file at that place of the index whose object gave no content.
+pub(crate) fn unread_fault(place: u32, fault: ObjectFault) -> PlanFault
+    ensures { result ≡ unread_fault place fault }
+{
+    match (object_kind(fault), fault) {
+        (Some(kind), _) => PlanFault::Attribute(place, kind),
+        (None, ObjectFault::ReadFailed) => PlanFault::AttributeRead(place),
+        (None, _) => PlanFault::NoMemory,
     }
 }

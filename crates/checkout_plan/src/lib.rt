@@ -11,7 +11,7 @@ mod paths;
 mod skipped;
 mod starts;
 
-pub use fault::PlanFault;
+pub use fault::{PlanFault, object_kind};
 pub use making::make_plan;
 pub use path_plan::{PathPlan, Plan};
 

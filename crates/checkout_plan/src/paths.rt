@@ -1,6 +1,8 @@
 //! What becomes of each path of an index.
 ghost use Rattle.std.specs.Prelude.{◌≡◌, IfOk, length};
-ghost use Rattle.checkout_plan.specs.Paths.{mark_of, no_conversion, path_with, closed, converted, file_path, text_path, link_path, path_of_mode, asked_path, asked_paths};
+ghost use Rattle.checkout_plan.specs.Paths.{mark_of, no_conversion, path_with, closed, converted};
+ghost use Rattle.checkout_plan.specs.Paths.{file_path, text_path, link_path, path_of_mode};
+ghost use Rattle.checkout_plan.specs.Paths.{asked_path, asked_paths};
 ghost use Rattle.std.specs.Str.{is_utf8};
 ghost use Rattle.checkout_plan.specs.Seen.{AreStarts, IsReady, asked_names, path_by};
 
@@ -198,7 +200,8 @@ impl<'a> Asking<'a> {
     /// One path for each distinct path of an index, in order.
     fn asked_paths(&self, alloc: Global, entries: &[Entry]) -> Result<Vec<PathPlan>, AllocError>
         requires { IsReady self.now }
-        ensures { IfOk result (λ paths. paths.items ≡ asked_paths self.now.files.now self.now.settings.now entries.now) }
+        ensures { IfOk result (λ paths. paths.items
+            ≡ asked_paths self.now.files.now self.now.settings.now entries.now) }
     {
         let mut paths = Vec::new(alloc);
         let mut before: &[u8] = &[];

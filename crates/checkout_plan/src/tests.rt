@@ -182,8 +182,8 @@ fn check(rt: &impl Abort, alloc: Global, case: &Case) -> Result<(), Fail> {
     Ok(())
 }
 
-/// As `git check-attr` and gitattributes(5) say: a deeper file comes before the top's, `info/attributes` before both, and
-/// a macro in a subfolder's file is none.
+/// As `git check-attr` and gitattributes(5) say: a deeper file comes before the top's, `info/attributes`
+/// before both, and a macro in a subfolder's file is none.
 #[test]
 fn attribute_files_reach_the_paths_below_them(rt: HostRuntime) -> Result<(), Fail> {
     let top = b"*.txt text eol=crlf\n*.id ident both\n!x text\n[attr]both text eol=crlf\n";
@@ -264,7 +264,8 @@ fn drivers_in_use_are_numbered_by_name(rt: HostRuntime) -> Result<(), Fail> {
         driver(b"z", b"run z", false),
     ];
     let info =
-        b"1 filter=z\n2 filter=a\n3 filter=needed\n4 filter=mute\n5 filter=none\n6 filter=z\n7 filter=closed working-tree-encoding\n";
+        b"1 filter=z\n2 filter=a\n3 filter=needed\n4 filter=mute\n5 filter=none\n6 filter=z\n\
+        7 filter=closed working-tree-encoding\n";
     let case = Case {
         rows: &rows,
         info,
@@ -319,7 +320,9 @@ fn seventeen_drivers_are_too_many(rt: HostRuntime) -> Result<(), Fail> {
     let drivers = SEVENTEEN.map(|name| driver(name, b"run", false));
     let case = Case {
         rows: &rows,
-        info: b"a filter=a\nb filter=b\nc filter=c\nd filter=d\ne filter=e\nf filter=f\ng filter=g\nh filter=h\ni filter=i\nj filter=j\nk filter=k\nl filter=l\nm filter=m\nn filter=n\no filter=o\np filter=p\nq filter=q\n",
+        info: b"a filter=a\nb filter=b\nc filter=c\nd filter=d\ne filter=e\nf filter=f\ng filter=g\n\
+            h filter=h\ni filter=i\nj filter=j\nk filter=k\nl filter=l\nm filter=m\nn filter=n\n\
+            o filter=o\np filter=p\nq filter=q\n",
         drivers: &drivers,
         objects: Objects::Absent,
         wanted: "TooManyDrivers(17)",

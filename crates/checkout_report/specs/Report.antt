@@ -115,10 +115,14 @@ is_skipped v = false
 
 -- the last line, of the numbers of paths that were written, unfiltered, failed and skipped
 abbrev pub numbers_line : ℕ → ℕ → ℕ → ℕ → List ℕ
-numbers_line written unfiltered failed skipped = codes "done " ++ (decimal written ++ 32 ∷ (decimal unfiltered ++ 32 ∷ (decimal failed ++ 32 ∷ (decimal skipped ++ 10 ∷ []))))
+numbers_line written unfiltered failed skipped =
+    codes "done " ++ (decimal written ++ 32 ∷ (decimal unfiltered
+    ++ 32 ∷ (decimal failed ++ 32 ∷ (decimal skipped ++ 10 ∷ []))))
 
 unfoldable pub done_line : List Verdict → List ℕ
-done_line vs = numbers_line (count_by is_written vs) (count_by is_unfiltered vs) (count_by is_failed vs) (count_by is_skipped vs)
+done_line vs =
+    numbers_line (count_by is_written vs) (count_by is_unfiltered vs)
+    (count_by is_failed vs) (count_by is_skipped vs)
 
 abbrev pub report_of : List ReportPath → List Verdict → List ℕ
 report_of ps vs = lines_of ps vs ++ done_line vs

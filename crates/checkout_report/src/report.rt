@@ -1,5 +1,6 @@
 ghost use Rattle.std.specs.Prelude.{◌≡◌, ◌++◌, ◌∷◌, IfOk, OnOk, length, count_by, string_bytes};
-ghost use Rattle.checkout_report.specs.Report.{is_written, is_unfiltered, is_failed, is_skipped, line_of, numbers_line, done_line, report_of};
+ghost use Rattle.checkout_report.specs.Report.{is_written, is_unfiltered, is_failed, is_skipped};
+ghost use Rattle.checkout_report.specs.Report.{line_of, numbers_line, done_line, report_of};
 
 use crate::words::{cause_of, mark_word, note_of, word_of};
 use byte_path::{Bytes, quote_path};

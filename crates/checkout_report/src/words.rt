@@ -1,5 +1,7 @@
 ghost use Rattle.std.specs.Prelude.{◌≡◌};
-ghost use Rattle.checkout_report.specs.Report.{word_of, mark_word, encoding_word, note_of, break_word, filter_word, object_word, fail_word, skip_word, cause_of};
+ghost use Rattle.checkout_report.specs.Report.{word_of, mark_word, encoding_word, note_of};
+ghost use Rattle.checkout_report.specs.Report.{break_word, filter_word, object_word, fail_word};
+ghost use Rattle.checkout_report.specs.Report.{skip_word, cause_of};
 
 use checkout_core::{FailCause, FilterCause, ObjectKind, SkipCause, Verdict};
 use edge_kit::Mark;

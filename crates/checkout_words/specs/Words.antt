@@ -1,4 +1,5 @@
 -- The words behind the program's name, and the command that they give.
+use Rattle.std.specs.Prelude.{Bool, false, ◌||◌}
 use Rattle.std.specs.Prelude.{ℕ, ◌-◌, ◌^◌, nat_le, List, [], ◌∷◌, take, drop, codes, Option, Some, None, Result, Ok, Err, ◌≡◌, if◌then◌else◌}
 use Rattle.std.specs.Str.{bytes_eq}
 use Rattle.byte_path.specs.Decimal.{decimal_within}
@@ -54,6 +55,17 @@ command_of [] = None
 command_of (repo ∷ []) = None
 command_of (repo ∷ tree ∷ []) = None
 command_of (repo ∷ tree ∷ name ∷ tail) = named_command name tail
+
+-- whether a command has that name, and whether words name one
+abbrev pub is_command_name : List ℕ → Bool
+is_command_name name =
+    bytes_eq name (codes "checkout") || bytes_eq name (codes "plan") || bytes_eq name (codes "rehearse")
+
+abbrev pub names_command : List (List ℕ) → Bool
+names_command [] = false
+names_command (repo ∷ []) = false
+names_command (repo ∷ tree ∷ []) = false
+names_command (repo ∷ tree ∷ name ∷ tail) = is_command_name name
 
 -- what words are read to: their command, or Usage where they give none, or want of memory
 abbrev pub Reads : Option Command → Result Command WordFault → Type 0

@@ -2,9 +2,10 @@
 //! `REPO TREE rehearse SEED PATHS`.
 #![tactic(auto)]
 
-ghost use Rattle.std.specs.Prelude.{◌≡◌, map, string_bytes};
-ghost use Rattle.checkout_words.specs.declared.WordFault.TheVariants.{NoMemory};
+ghost use Rattle.std.specs.Prelude.{◌≡◌, map, string_bytes, false, Err};
+ghost use Rattle.checkout_words.specs.declared.WordFault.TheVariants.{NoMemory, Usage};
 ghost use Rattle.checkout_words.specs.Words.{named_command, command_of, Reads};
+ghost use Rattle.checkout_words.specs.Words.{is_command_name, names_command};
 
 mod tail;
 
@@ -39,7 +40,8 @@ impl From<AllocError> for WordFault {
 
 /// The command of that name with its tail.
 fn read_named(alloc: Global, name: &str, tail: &[String]) -> Result<Command, WordFault>
-    ensures { Reads (named_command name.now (map string_bytes tail.now)) result }
+    ensures reads { Reads (named_command name.now (map string_bytes tail.now)) result }
+    ensures unnamed { is_command_name name.now ≡ false → result ≡ Err Usage }
 {
     if !tail::is_plain_tail(tail) {
         return Err(WordFault::Usage);
@@ -54,9 +56,10 @@ fn read_named(alloc: Global, name: &str, tail: &[String]) -> Result<Command, Wor
 
 /// The command of the words behind the program's name, or Usage where they are outside the set, as with `--help`.
 ///
-/// The first two words may be any text.
+/// The first two words may be any text. Words that name no command take no memory.
 pub fn read_words(alloc: Global, words: &[String]) -> Result<Command, WordFault>
-    ensures { Reads (command_of (map string_bytes words.now)) result }
+    ensures reads { Reads (command_of (map string_bytes words.now)) result }
+    ensures unnamed { names_command (map string_bytes words.now) ≡ false → result ≡ Err Usage }
 {
     match words {
         [_, _, name, tail @ ..] => read_named(alloc, name.as_str(), tail),

@@ -9,7 +9,9 @@ use Rattle.checkout_report.specs.Report.{cause_of, mark_word}
 use Rattle.eol_convert.specs.declared.setting.LineEnds.{LineEnds}
 use Rattle.eol_convert.specs.declared.setting.LineEnds.TheVariants.{Keep, ToCrlf, AutoCrlf}
 use Rattle.tree_encoding.specs.declared.encoding.Encoding.{Encoding}
-use Rattle.tree_encoding.specs.declared.encoding.Encoding.TheVariants.{Utf16, Utf16Le, Utf16Be, Utf16LeBom, Utf32, Utf32Le, Utf32Be}
+use Rattle.tree_encoding.specs.declared.encoding.Encoding.TheVariants.{Utf16, Utf16Le, Utf16Be}
+use Rattle.tree_encoding.specs.declared.encoding.Encoding.TheVariants.{Utf16LeBom, Utf32, Utf32Le}
+use Rattle.tree_encoding.specs.declared.encoding.Encoding.TheVariants.{Utf32Be}
 use Rattle.convert_plan.specs.declared.conversion.Conversion.{Conversion}
 use Rattle.settings_view.specs.declared.view.Driver.{Driver}
 use Rattle.checkout_plan.specs.declared.path_plan.PathPlan.{PathPlan}
@@ -70,7 +72,9 @@ conversion_words c = ends_word c.ends ++ 32 ∷ ident_word c.ident ++ 32 ∷ enc
 
 -- the columns before the driver: state, mark, the three of the conversion, and need, with a blank behind each
 abbrev pub front_of : PathPlan → List ℕ
-front_of p = state_word p.start ++ (32 ∷ (mark_word p.mark ++ (32 ∷ (conversion_words p.conversion ++ (32 ∷ (need_word p.start ++ 32 ∷ []))))))
+front_of p =
+    state_word p.start ++ (32 ∷ (mark_word p.mark
+    ++ (32 ∷ (conversion_words p.conversion ++ (32 ∷ (need_word p.start ++ 32 ∷ []))))))
 
 -- the line of a path: these columns, the driver and the path
 abbrev pub line_of : List Driver → PathPlan → List ℕ

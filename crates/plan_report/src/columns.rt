@@ -1,5 +1,6 @@
 ghost use Rattle.std.specs.Prelude.{◌≡◌, IfOk};
-ghost use Rattle.plan_report.specs.Lines.{state_word, ends_word, ident_word, encoding_name, encoding_word, need_word, driver_name, driver_word};
+ghost use Rattle.plan_report.specs.Lines.{state_word, ends_word, ident_word, encoding_name};
+ghost use Rattle.plan_report.specs.Lines.{encoding_word, need_word, driver_name, driver_word};
 
 use byte_path::quote_path;
 use checkout_core::Start;

@@ -10,4 +10,7 @@ too_few (repo ∷ tree ∷ []) few = refl
 too_few (repo ∷ tree ∷ name ∷ tail) few = absurd (omega arith)
 
 pub returns-in_default : goal.returns-in_default
-returns-in_default c = too_few (map string_bytes c.args.words.now) (omega (arith, length-map c.args.words.now string_bytes, c.in_default.len_below))
+returns-in_default c = record {
+  reads = too_few (map string_bytes c.args.words.now) (omega (arith, length-map c.args.words.now string_bytes, c.in_default.len_below));
+  unnamed = λ none. refl;
+}

@@ -1,0 +1,11 @@
+use Rattle.std.proofs.Common.{◌∙◌}
+use Rattle.attr_line.specs.declared.file.AttrFile.{AttrFile}
+use Rattle.checkout_engine.specs.declared.sources.Sources.{Sources}
+use Rattle.checkout_engine.proofs.Planned.{stops_behind}
+use Rattle.checkout_engine.proofs.sources.read_sources.Goals as goal
+
+pub returns-in-Err-clause-stops : goal.returns-in-Err-clause-stops
+returns-in-Err-clause-stops g c =
+    stops_behind AttrFile Sources (g.R.Repo.told c.args.repo.now) (g.R.Repo.told c.read_settings.new.repo) (g.R.Repo.seen c.args.repo.now) (g.R.Repo.seen c.read_settings.new.repo)
+    (g.R.Repo.seen c.read_info.new.repo) c.in-Err.stop (c.in_ok-settings.ensures.told ∙ c.in_ok-index.ensures.told)
+    (c.in_ok-settings.ensures.stops ∙ c.in_ok-index.ensures.stops) c.in-Err.ensures.stops

@@ -1,0 +1,125 @@
+-- What the parts of a run promise one another of its end.
+use Rattle.std.specs.Prelude.{◌≡◌, ◌⊎◌, true, false, List}
+use Rattle.std.specs.Prelude.{ℕ, Option, Some, None, Result, Ok, Err}
+use Rattle.std.specs.List.{list_any}
+use Rattle.edge_kit.specs.Faults.{Rose}
+use Rattle.edge_kit.specs.Seen.{RepoSeen, TreeSeen, SinkSeen}
+use Rattle.edge_kit.specs.declared.faults.SendFault.{SendFault}
+use Rattle.edge_kit.specs.declared.faults.SendFault.TheVariants as send
+use Rattle.edge_kit.specs.Told.{Told, RepoTold, Tells}
+use Rattle.checkout_core.specs.declared.verdict.Verdict.{Verdict}
+use Rattle.checkout_words.specs.declared.Command.{Command}
+use Rattle.checkout_words.specs.declared.Command.TheVariants as command
+use Rattle.checkout_plan.specs.declared.path_plan.PathPlan.{PathPlan}
+use Rattle.checkout_plan.specs.declared.path_plan.Plan.{Plan}
+use Rattle.checkout_engine.specs.declared.status.Status.{Status}
+use Rattle.checkout_engine.specs.declared.status.Status.TheVariants as status
+use Rattle.checkout_engine.specs.declared.stop.Refusal.{Refusal}
+use Rattle.checkout_engine.specs.declared.stop.Refusal.TheVariants as refusal
+use Rattle.checkout_engine.specs.declared.stop.Stop.{Stop}
+use Rattle.checkout_engine.specs.declared.stop.Stop.TheVariants as stop
+use Rattle.checkout_engine.specs.Sources.{has_driver}
+use Rattle.checkout_engine.specs.Causes.{IsCheckoutCause, IsReadCause, IsPlanRead, IsRepoBack}
+use Rattle.checkout_engine.specs.Causes.{IsRepoSteady}
+use Rattle.checkout_engine.specs.Ends.{Seen, IsCheckedOut, IsReported, IsRefused, IsCutOff}
+use Rattle.checkout_engine.specs.Ends.{IsOutOfMemory, IsReadFault, IsNotEmpty, verdicts_of}
+use Rattle.checkout_engine.specs.Shown.{Refuses, EndsPlan, EndsUnbuilt}
+use Rattle.checkout_engine.specs.Output.{IsCut, with_text}
+use Rattle.checkout_engine.specs.Report.{report, status_of, lacks_memory}
+use Rattle.checkout_engine.specs.Writing.{ArePathsDone}
+
+-- why a run stops at the worktree
+abbrev pub StopsTree : {T : Type 0} → TreeSeen → TreeSeen → Result T Stop → Type 0
+StopsTree old new (Ok x) = Tells old.empty true × (new.faults ≡ old.faults)
+StopsTree old new (Err stop.NotEmpty) = Tells old.empty false × (new.faults ≡ old.faults)
+StopsTree old new (Err stop.ReadFault) = Rose old.faults new.faults
+StopsTree old new (Err (stop.Refused r)) = ⊥
+StopsTree old new (Err stop.NoMemory) = ⊥
+
+-- why a checkout stops before it touches a file
+abbrev pub StopsRun : RepoTold → TreeSeen → TreeSeen → RepoSeen → RepoSeen → Result Plan Stop
+    → Type 0
+StopsRun told tree tree' old new (Ok plan) =
+    Tells tree.empty true × (tree'.faults ≡ tree.faults)
+    × IsPlanRead told plan old new × (list_any has_driver plan.paths ≡ false)
+StopsRun told tree tree' old new (Err stop.NotEmpty) =
+    Tells tree.empty false × (tree'.faults ≡ tree.faults) × (new ≡ old)
+StopsRun told tree tree' old new (Err stop.ReadFault) =
+    (Rose tree.faults tree'.faults ⊎ (Tells tree.empty true × IsReadCause told old new))
+    × IsRepoBack old new
+StopsRun told tree tree' old new (Err (stop.Refused r)) =
+    Tells tree.empty true × IsCheckoutCause told r × (tree'.faults ≡ tree.faults)
+    × IsRepoSteady old new × IsRepoBack old new
+StopsRun told tree tree' old new (Err stop.NoMemory) =
+    (tree'.faults ≡ tree.faults) × IsRepoSteady old new × IsRepoBack old new
+
+-- how a run ends that stopped before it touched a file, by why it stopped
+abbrev pub ReportsStop : Stop → SinkSeen → SinkSeen → Status → Type 0
+ReportsStop (stop.Refused r) old new s = Refuses r old new s
+ReportsStop stop.NotEmpty old new s = (s ≡ status.NotEmpty) × (new ≡ old)
+ReportsStop stop.ReadFault old new s = (s ≡ status.ReadFault) × (new ≡ old)
+ReportsStop stop.NoMemory old new s = (s ≡ status.OutOfMemory) × (new ≡ old)
+
+-- The report is written whole, and the status is that of the verdicts. Or a first part is: the sink
+-- failed, or memory ran out.
+abbrev pub Reports : List ℕ → List Verdict → SinkSeen → SinkSeen → Status → Type 0
+Reports text verdicts old new status.Done =
+    (status_of verdicts ≡ status.Done) × (new ≡ with_text text old)
+Reports text verdicts old new status.DoneWithFailures =
+    (status_of verdicts ≡ status.DoneWithFailures) × (new ≡ with_text text old)
+Reports text verdicts old new status.OutputNotWritten =
+    (lacks_memory verdicts ≡ false) × IsCut text old new × Rose old.faults new.faults
+Reports text verdicts old new status.OutOfMemory =
+    IsCut text old new × (lacks_memory verdicts ≡ false → new.faults ≡ old.faults)
+Reports text verdicts old new s = ⊥
+
+-- how the writing of open and closed paths ends, one after the other, and the report of them
+abbrev pub ReportsPaths : (List ℕ → Told) → List PathPlan → Seen → Seen → Status → Type 0
+ReportsPaths object paths old new s =
+    ((s ≡ status.OutOfMemory) × (new ≡ old))
+    ⊎ ((verdicts : List Verdict)
+    × ArePathsDone object paths verdicts old.repo new.repo old.tree new.tree
+    × Reports (report paths verdicts) verdicts old.sink new.sink s)
+
+-- the whole text was written, or some first part of it
+abbrev pub WritesLines : {T : Type 0} → List ℕ → SinkSeen → SinkSeen → Result T SendFault → Type 0
+WritesLines text old new (Ok x) = new ≡ with_text text old
+WritesLines text old new (Err send.Failed) = IsCut text old new × Rose old.faults new.faults
+WritesLines text old new (Err send.NoMemory) = IsCut text old new × (new.faults ≡ old.faults)
+
+-- how the writing of a text ends, line by line
+abbrev pub ShowsLines : List ℕ → SinkSeen → SinkSeen → Status → Type 0
+ShowsLines text old new status.Done = new ≡ with_text text old
+ShowsLines text old new status.OutputNotWritten = Rose old.faults new.faults × IsCut text old new
+ShowsLines text old new status.OutOfMemory =
+    (new.faults ≡ old.faults) × ((new ≡ old) ⊎ IsCut text old new)
+ShowsLines text old new s = ⊥
+
+-- a checkout that is done, with its report and its number
+abbrev pub IsDone : RepoTold → Seen → Seen → ℕ → Type 0
+IsDone told old new number =
+    (c : IsCheckedOut told old new)
+    × IsReported c.plan.paths (verdicts_of c.outcomes) old.sink new.sink number
+
+-- how a checkout ends, by its status
+abbrev pub EndsCheckout : RepoTold → Seen → Seen → Status → Type 0
+EndsCheckout told old new status.Done = IsDone told old new 0
+EndsCheckout told old new status.DoneWithFailures = IsDone told old new 1
+EndsCheckout told old new status.Usage = ⊥
+EndsCheckout told old new status.Refused = IsRefused told old new
+EndsCheckout told old new status.OutputNotWritten = IsCutOff told old new
+EndsCheckout told old new status.OutOfMemory = IsOutOfMemory told old new
+EndsCheckout told old new status.ReadFault = IsReadFault told old new
+EndsCheckout told old new status.NotEmpty = IsNotEmpty old new
+
+-- how words end that are no command: nothing at all was done
+pub record EndsUnasked (old new : Seen) (s : Status) : Type 0 where
+  pub is : (s ≡ status.Usage) ⊎ (s ≡ status.OutOfMemory)
+  pub same : new ≡ old
+
+-- how a run ends with these words
+abbrev pub Ends : Option Command → RepoTold → Seen → Seen → Status → Type 0
+Ends None told old new s = EndsUnasked old new s
+Ends (Some (command.Checkout workers)) told old new s = EndsCheckout told old new s
+Ends (Some command.Plan) told old new s = EndsPlan told old new s
+Ends (Some (command.Rehearse seed paths)) told old new s = EndsUnbuilt old new s

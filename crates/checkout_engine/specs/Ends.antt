@@ -1,0 +1,142 @@
+-- How a run of the command ends, and what stands at each end.
+use Rattle.std.specs.Prelude.{◌≡◌, ◌≢◌, ◌⊎◌, ℕ, true, false, List, map, Option, Some, None}
+use Rattle.std.specs.Prelude.{string_bytes, String}
+use Rattle.std.specs.declared.alloc.Global.{Global}
+use Rattle.std.specs.List.{filter_map, AllZip}
+use Rattle.edge_kit.specs.Faults.{Rose}
+use Rattle.edge_kit.specs.Seen.{RepoSeen, TreeSeen, SinkSeen}
+use Rattle.edge_kit.specs.Told.{RepoTold, Tells}
+use Rattle.edge_kit.specs.declared.tree_file.TreeFile.{TreeFile}
+use Rattle.checkout_core.specs.declared.verdict.Verdict.{Verdict}
+use Rattle.checkout_words.specs.Words.{command_of}
+use Rattle.checkout_words.specs.declared.Command.{Command}
+use Rattle.checkout_words.specs.declared.Command.TheVariants as command
+use Rattle.checkout_plan.specs.declared.path_plan.PathPlan.{PathPlan}
+use Rattle.checkout_plan.specs.declared.path_plan.Plan.{Plan}
+use Rattle.checkout_plan.specs.Making.{blobs_of}
+use Rattle.checkout_engine.specs.declared.stop.Refusal.{Refusal}
+use Rattle.checkout_engine.specs.Sources.{IsPlanned}
+use Rattle.checkout_engine.specs.Causes.{IsCheckoutCause, IsReadCause, IsRepoBack, IsRepoSteady}
+use Rattle.checkout_engine.specs.Outcome.{Outcome, IsOutcome}
+use Rattle.checkout_engine.specs.Paths.{with_blobs, blobs_back, leaves_back, GotLeaves}
+use Rattle.checkout_engine.specs.Output.{IsCut, with_text}
+use Rattle.checkout_engine.specs.Report.{status_of, lacks_memory, report, number_of}
+use Rattle.checkout_engine.specs.RefusalText.{refusal_line}
+
+-- what the words ask for
+abbrev pub asked : List (String Global) → Option Command
+asked words = command_of (map string_bytes words)
+
+-- a checkout is asked for, or a plan, or a rehearsal
+abbrev pub IsCheckout : Option Command → Type 0
+IsCheckout (Some (command.Checkout workers)) = Unit {0}
+IsCheckout c = ⊥
+
+abbrev pub IsPlan : Option Command → Type 0
+IsPlan (Some command.Plan) = Unit {0}
+IsPlan c = ⊥
+
+abbrev pub IsRehearsal : Option Command → Type 0
+IsRehearsal (Some (command.Rehearse seed paths)) = Unit {0}
+IsRehearsal c = ⊥
+
+-- all that a run can change
+pub record Seen : Type 0 where
+  pub repo : RepoSeen
+  pub tree : TreeSeen
+  pub sink : SinkSeen
+
+abbrev pub seen : RepoSeen → TreeSeen → SinkSeen → Seen
+seen repo tree sink = record { repo = repo; tree = tree; sink = sink }
+
+abbrev pub verdicts_of : List Outcome → List Verdict
+verdicts_of outcomes = map (λ o. o.verdict) outcomes
+
+-- the files of the outcomes, in the order of the paths
+abbrev pub files_of : List Outcome → List TreeFile
+files_of outcomes = filter_map (λ o. o.file) outcomes
+
+-- The worktree was empty. Each path of the plan has its outcome, and the worktree has the files of
+-- the outcomes and no other. The blobs of the attribute files, of which none failed, then those of
+-- the paths and their leaves were given back.
+pub record IsCheckedOut (told : RepoTold) (old new : Seen) : Type 0 where
+  pub empty : Tells old.tree.empty true
+  pub plan : Plan
+  pub planned : IsPlanned told plan
+  pub outcomes : List Outcome
+  pub verdicts : AllZip (λ p o. IsOutcome (told.object p.object) p o) plan.paths outcomes
+  pub files : Tells new.tree.files (files_of outcomes)
+  pub blobs : new.repo ≡ with_blobs (with_blobs old.repo (blobs_of planned.entries))
+      (blobs_back plan.paths outcomes)
+  pub leaves : GotLeaves old.tree (leaves_back plan.paths outcomes) new.tree
+
+-- The report has a line for each path, in order, with its verdict, and the number is that of the
+-- verdicts: 0, or 1 where some path failed.
+pub record IsReported (paths : List PathPlan) (verdicts : List Verdict) (old new : SinkSeen)
+    (number : ℕ) : Type 0 where
+  pub report : new ≡ with_text (report paths verdicts) old
+  pub status : number ≡ number_of (status_of verdicts)
+
+-- Neither the repository nor the worktree nor a blob has failed.
+pub record IsSteady (old new : Seen) : Type 0 where
+  pub repo : IsRepoSteady old.repo new.repo
+  pub tree : new.tree.faults ≡ old.tree.faults
+
+-- No leaf was made and no file was touched.
+pub record IsUntouched (old new : Seen) : Type 0 where
+  pub repo : IsRepoBack old.repo new.repo
+  pub tree : new.tree ≡ record old.tree { faults = new.tree.faults }
+
+-- The worktree was empty, and the repository is refused for this cause before a file is touched.
+pub record HasRefusal (told : RepoTold) (refusal : Refusal) (old new : Seen) : Type 0 where
+  pub empty : Tells old.tree.empty true
+  pub cause : IsCheckoutCause told refusal
+  pub untouched : IsUntouched old new
+  pub steady : IsSteady old new
+
+-- 3: the repository is refused, and the line says why.
+abbrev pub IsRefused : RepoTold → Seen → Seen → Type 0
+IsRefused told old new =
+    (refusal : Refusal) × HasRefusal told refusal old new
+    × (new.sink ≡ with_text (refusal_line refusal) old.sink)
+
+-- 4: the sink failed, at the line of a refusal, or in the report of a checkout that is done.
+pub record IsCutOff (told : RepoTold) (old new : Seen) : Type 0 where
+  pub failed : Rose old.sink.faults new.sink.faults
+  pub cut :
+      ((refusal : Refusal) × HasRefusal told refusal old new
+      × IsCut (refusal_line refusal) old.sink new.sink)
+      ⊎ ((c : IsCheckedOut told old new) × (lacks_memory (verdicts_of c.outcomes) ≡ false)
+      × IsCut (report c.plan.paths (verdicts_of c.outcomes)) old.sink new.sink)
+
+-- nothing was touched, and nothing was written
+pub record IsIdle (old new : Seen) : Type 0 where
+  pub untouched : IsUntouched old new
+  pub silent : new.sink ≡ old.sink
+
+-- The checkout is done, and a first part of its report was written. The sink failed only where a
+-- path wanted memory, too.
+pub record IsReportCut (told : RepoTold) (old new : Seen) : Type 0 where
+  pub checkout : IsCheckedOut told old new
+  pub report : IsCut (report checkout.plan.paths (verdicts_of checkout.outcomes)) old.sink new.sink
+  pub sink : lacks_memory (verdicts_of checkout.outcomes) ≡ false
+      → new.sink.faults ≡ old.sink.faults
+
+-- 5: memory ran out, before anything was touched or once all paths were.
+abbrev pub IsOutOfMemory : RepoTold → Seen → Seen → Type 0
+IsOutOfMemory told old new = (IsIdle old new × IsSteady old new) ⊎ IsReportCut told old new
+
+-- 6: the worktree or a read of the repository failed, before a file was touched.
+pub record IsReadFault (told : RepoTold) (old new : Seen) : Type 0 where
+  pub cause : Rose old.tree.faults new.tree.faults
+      ⊎ (Tells old.tree.empty true × IsReadCause told old.repo new.repo)
+  pub idle : IsIdle old new
+
+-- 7: the worktree wasn't empty, and nothing at all was done.
+abbrev pub IsNotEmpty : Seen → Seen → Type 0
+IsNotEmpty old new = Tells old.tree.empty false × (new ≡ old)
+
+-- words that are no command, and no others, end with 2, unless memory ran out
+abbrev pub IsUsage : Option Command → ℕ → Type 0
+IsUsage None number = (number ≡ 2) ⊎ (number ≡ 5)
+IsUsage (Some c) number = number ≢ 2

@@ -1,0 +1,64 @@
+-- How the command `plan` ends, and what stands at each end.
+use Rattle.std.specs.Prelude.{◌≡◌, ◌⊎◌}
+use Rattle.edge_kit.specs.Faults.{Rose}
+use Rattle.edge_kit.specs.Seen.{RepoSeen, SinkSeen}
+use Rattle.edge_kit.specs.Told.{RepoTold}
+use Rattle.checkout_plan.specs.declared.path_plan.Plan.{Plan}
+use Rattle.checkout_engine.specs.declared.status.Status.{Status}
+use Rattle.checkout_engine.specs.declared.status.Status.TheVariants as status
+use Rattle.checkout_engine.specs.declared.stop.Refusal.{Refusal}
+use Rattle.checkout_engine.specs.declared.stop.Refusal.TheVariants as refusal
+use Rattle.checkout_engine.specs.Causes.{IsCause, IsReadCause, IsPlanRead, IsRepoBack, IsRepoSteady}
+use Rattle.checkout_engine.specs.Ends.{Seen}
+use Rattle.checkout_engine.specs.Output.{IsCut, with_text}
+use Rattle.checkout_engine.specs.RefusalText.{refusal_line}
+use Rattle.plan_report.specs.Lines.{plan_lines}
+
+-- How the writing of a refusal's line ends, by its status.
+abbrev pub Refuses : Refusal → SinkSeen → SinkSeen → Status → Type 0
+Refuses refusal old new status.Refused = new ≡ with_text (refusal_line refusal) old
+Refuses refusal old new status.OutputNotWritten =
+    Rose old.faults new.faults × IsCut (refusal_line refusal) old new
+Refuses refusal old new status.OutOfMemory = new ≡ old
+Refuses refusal old new s = ⊥
+
+-- The repository is refused for this cause.
+pub record HasCause (told : RepoTold) (refusal : Refusal) (old new : RepoSeen) : Type 0 where
+  pub cause : IsCause told refusal
+  pub steady : IsRepoSteady old new
+  pub back : IsRepoBack old new
+
+-- The plan was read, and a first part of its text was written.
+pub record IsPlanCut (told : RepoTold) (repo repo' : RepoSeen) (sink sink' : SinkSeen) : Type 0 where
+  pub plan : Plan
+  pub read : IsPlanRead told plan repo repo'
+  pub text : IsCut (plan_lines plan) sink sink'
+
+-- How the showing of a plan ends, by its status. Where it is shown whole, exactly the blobs of the
+-- attribute files were made and given back. It doesn't look at the worktree.
+abbrev pub Shows : RepoTold → RepoSeen → RepoSeen → SinkSeen → SinkSeen → Status → Type 0
+Shows told repo repo' sink sink' status.Done =
+    (plan : Plan) × IsPlanRead told plan repo repo' × (sink' ≡ with_text (plan_lines plan) sink)
+Shows told repo repo' sink sink' status.Refused =
+    (r : Refusal) × HasCause told r repo repo' × (sink' ≡ with_text (refusal_line r) sink)
+Shows told repo repo' sink sink' status.OutputNotWritten =
+    Rose sink.faults sink'.faults
+    × (((r : Refusal) × HasCause told r repo repo' × IsCut (refusal_line r) sink sink')
+    ⊎ IsPlanCut told repo repo' sink sink')
+Shows told repo repo' sink sink' status.OutOfMemory =
+    (sink'.faults ≡ sink.faults) × IsRepoSteady repo repo' × IsRepoBack repo repo'
+    × ((sink' ≡ sink) ⊎ IsPlanCut told repo repo' sink sink')
+Shows told repo repo' sink sink' status.ReadFault =
+    IsReadCause told repo repo' × (sink' ≡ sink) × IsRepoBack repo repo'
+Shows told repo repo' sink sink' s = ⊥
+
+-- The same of `run`: the worktree stays as it is.
+pub record EndsPlan (told : RepoTold) (old new : Seen) (s : Status) : Type 0 where
+  pub shown : Shows told old.repo new.repo old.sink new.sink s
+  pub tree : new.tree ≡ old.tree
+
+-- How a refusal of what isn't built yet ends: nothing but its line is written.
+pub record EndsUnbuilt (old new : Seen) (s : Status) : Type 0 where
+  pub line : Refuses refusal.Unbuilt old.sink new.sink s
+  pub repo : new.repo ≡ old.repo
+  pub tree : new.tree ≡ old.tree
