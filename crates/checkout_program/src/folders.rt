@@ -1,8 +1,8 @@
 //! Making a file below the worktree's folder, and its folders.
 //!
-//! Each folder on the way is looked at first, and a link is a fault, also where it leads to a folder. The file itself is
-//! made where nothing is, so never through a link. The look and what follows are two calls, since the kit has no call
-//! that opens below an open folder: a link that another process puts in the place of a folder between them is followed.
+//! Each folder on the way is looked at first, and a link is a fault, also where it leads to a folder. The file itself
+//! is made where nothing is, so never through a link. The look and what follows are two calls, since the kit has no
+//! call that opens below an open folder: a link that another process puts in a folder's place between them is followed.
 //! The path of the worktree's folder itself may lead over links.
 
 use std::fs::{File, OpenOptions, create_dir, create_dir_all, symlink_metadata};

@@ -24,8 +24,8 @@ fn open_regular(rt: HostRuntime, path: &str) -> io::Result<(File, u64)> {
     Ok((File::open(&rt, path)?, found.len()))
 }
 
-/// The whole file at a path, or `None` where nothing is there. Whatever else keeps it from being read is a fault. A file
-/// that is longer than the limit isn't read.
+/// The whole file at a path, or `None` where nothing is there. Whatever else keeps it from being read is a fault.
+/// A file that is longer than the limit isn't read.
 pub fn read_whole(
     rt: HostRuntime,
     alloc: Global,
