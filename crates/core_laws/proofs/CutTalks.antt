@@ -102,7 +102,8 @@ again_owned : (f : ℕ → Bool) (r : Round) (turns : List ℕ) (q : ℕ) (y : R
     → (f q ≡ true) × IsOwned f u
 again_owned f r [] q y u a b c h = none_is_some h
 again_owned f r (p ∷ turns) q y u a b c h =
-    let g = given_talk (not r.noting_list && (q == p && (not (is_delay y) && is_good_reply y))) (redone r turns y) u h in
+    let g = given_talk (not r.noting_list && (q == p && (not (is_delay y) && is_good_reply y)))
+    (redone r turns y) u h in
     let one = and_parts (not r.noting_list) (q == p && (not (is_delay y) && is_good_reply y)) g.0 in
     let same = same_number q p (and_parts (q == p) (not (is_delay y) && is_good_reply y) one.1).0 in
     (ap f same ∙ c.0, subst (IsOwned f) g.1 (redone_owned f r turns y a b c.1))
@@ -118,9 +119,19 @@ list_owned f r list.NoMemory a b c = a
 name_owned : (f : ℕ → Bool) (r : Round) (q : ℕ) (u : Talk) → AllOf f r.rest → AllOf f r.late → AllOf f r.turns
     → name r q ≡ Some u → (f q ≡ true) × IsOwned f u
 name_owned f r q u a b c h =
-    let g = given_talk (r.any_delayed && (is_empty r.rest && (contains q r.late && (r.noting_list || is_empty r.turns))))
-    (InRound (record { delay = r.delay; any_delayed = r.any_delayed; noting_list = true; rest = r.rest; late = without q r.late; turns = r.turns ++ q ∷ [] })) u h in
-    let one = and_parts r.any_delayed (is_empty r.rest && (contains q r.late && (r.noting_list || is_empty r.turns))) g.0 in
+    let g = given_talk (r.any_delayed && (is_empty r.rest &&
+    (contains q r.late && (r.noting_list || is_empty r.turns))))
+    (InRound (record {
+      delay = r.delay;
+      any_delayed = r.any_delayed;
+      noting_list = true;
+      rest = r.rest;
+      late =
+          without q r.late;
+      turns = r.turns ++ q ∷ [];
+    })) u h in
+    let one = and_parts r.any_delayed (is_empty r.rest && (contains q r.late &&
+    (r.noting_list || is_empty r.turns))) g.0 in
     let two = and_parts (is_empty r.rest) (contains q r.late && (r.noting_list || is_empty r.turns)) one.1 in
     let mine = all_in f q r.late (and_parts (contains q r.late) (r.noting_list || is_empty r.turns) two.1).0 b in
     (mine, subst (IsOwned f) g.1 (a, all_without f q r.late b, all_more f q r.turns c mine))
@@ -129,7 +140,15 @@ opened_owned : (f : ℕ → Bool) (caps : Caps) (rest : List ℕ) → AllOf f re
 opened_owned f caps rest a = go caps.smudge
   where
     go : (b : Bool)
-        → IsOwned f (cond b (InRound (record { delay = caps.delay; any_delayed = false; noting_list = false; rest = rest; late = []; turns = [] })) Refusing)
+        → IsOwned f (cond b (InRound (record {
+          delay = caps.delay;
+          any_delayed = false;
+          noting_list = false;
+          rest =
+              rest;
+          late = [];
+          turns = [];
+        })) Refusing)
     go true = (a, tt, tt)
     go false = tt
 
@@ -150,8 +169,11 @@ note_owned starts d (Between (p ∷ rest)) u (ev.OpenFailed q why) o w h =
     let g = given_talk (q == p && is_good_opening why) (Between rest) u h in
     let same = same_number q p (and_parts (q == p) (is_good_opening why) g.0).0 in
     (ap (is_of starts d) same ∙ o.0, subst (IsOwned (is_of starts d)) g.1 o.1)
-note_owned starts d (Between (p ∷ rest)) u (ev.Opened f caps) o w h =
-    (w, subst (IsOwned (is_of starts d)) (some_is (opened caps (p ∷ rest)) u h) (opened_owned (is_of starts d) caps (p ∷ rest) o))
+note_owned starts d (Between (p ∷ rest)) u (ev.Opened f caps) o w h = (
+  w,
+  subst (IsOwned (is_of starts d)) (some_is (opened caps (p ∷ rest)) u h)
+      (opened_owned (is_of starts d) caps (p ∷ rest) o),
+)
 note_owned starts d Refusing u (ev.Claim q a) o w h = none_is_some h
 note_owned starts d Refusing u (ev.Close q a x) o w h = none_is_some h
 note_owned starts d Refusing u (ev.HandBack q) o w h = none_is_some h
@@ -170,8 +192,11 @@ note_owned starts d (InRound r) u (ev.Opened f caps) o w h = none_is_some h
 note_owned starts d (InRound r) u (ev.Answered q y) o w h = ask_owned (is_of starts d) r r.rest q y u o.0 o.1 o.2 h
 note_owned starts d (InRound r) u (ev.Named q) o w h = name_owned (is_of starts d) r q u o.0 o.1 o.2 h
 note_owned starts d (InRound r) u (ev.Redone q y) o w h = again_owned (is_of starts d) r r.turns q y u o.0 o.1 o.2 h
-note_owned starts d (InRound r) u (ev.Listed f y) o w h =
-    (w, subst (IsOwned (is_of starts d)) (given_talk (list_may r y) (list_end r y) u h).1 (list_owned (is_of starts d) r y o.0 o.1 o.2))
+note_owned starts d (InRound r) u (ev.Listed f y) o w h = (
+  w,
+  subst (IsOwned (is_of starts d)) (given_talk (list_may r y) (list_end r y) u h).1
+      (list_owned (is_of starts d) r y o.0 o.1 o.2),
+)
 note_owned starts d (InRound r) u (ev.Shut f) o w h =
     (w, subst (IsOwned (is_of starts d)) (given_talk (not r.any_delayed && is_empty r.rest) Ended u h).1 tt)
 note_owned starts d Ended u e o w h = none_is_some h
@@ -187,18 +212,21 @@ without_shorter p (x ∷ xs) = go (p == x) (without_shorter p xs)
 
 first_gone : (p : ℕ) (xs : List ℕ) → length (without p (p ∷ xs)) ≤ length xs
 first_gone p xs =
-    subst (λ (b : Bool). length (cond b (without p xs) (p ∷ without p xs)) ≤ length xs) (sym (eqb_self p)) (without_shorter p xs)
+    subst (λ (b : Bool). length (cond b (without p xs) (p ∷ without p xs)) ≤ length xs) (sym (eqb_self p))
+    (without_shorter p xs)
 
 module _ (starts : List Start) (workers drivers d : ℕ) (below : AreBelow drivers starts) where
   -- all that a session without smudge refused is closed
   close_all : (n : ℕ) (given : List Event) (rest : List ℕ) (first : ℕ) → length rest ≤ n
       → AtDesk starts workers drivers d given rest first Refusing
-      → (all : List Event) × AtDesk starts workers drivers d all [] first Refusing × (notes starts d all ≡ notes starts d given)
+      → (all : List Event) × AtDesk starts workers drivers d all [] first Refusing
+      × (notes starts d all ≡ notes starts d given)
   close_all n given [] first few a = (given, a, refl)
   close_all zero given (p ∷ rest) first few a = absurd (omega arith)
   close_all (suc n) given (p ∷ rest) first few a =
       let e = ev.Close p (workers + d) (own.Fine false) in
-      let may = desk_refuses starts workers drivers d below given (p ∷ rest) first Refusing a p refl (ap (λ (b : Bool). cond b true (contains p rest)) (eqb_self p)) in
+      let may = desk_refuses starts workers drivers d below given (p ∷ rest) first Refusing a p refl
+      (ap (λ (b : Bool). cond b true (contains p rest)) (eqb_self p)) in
       let next = desk_goes starts workers drivers d below given (p ∷ rest) first Refusing a e refl refl may in
       let fewer : length (without p (p ∷ rest)) ≤ n = let s = first_gone p rest in omega arith in
       let k = close_all n (given ++ e ∷ []) (without p (p ∷ rest)) first fewer next in
@@ -206,7 +234,8 @@ module _ (starts : List Start) (workers drivers d : ℕ) (below : AreBelow drive
 
   abbrev IsReady : List Event → ℕ → Talk → Type 0
   IsReady given first t =
-      (all : List Event) × (rest : List ℕ) × AtDesk starts workers drivers d all rest first t × IsThrough t rest × (notes starts d all ≡ notes starts d given)
+      (all : List Event) × (rest : List ℕ) × AtDesk starts workers drivers d all rest first t × IsThrough t rest
+      × (notes starts d all ≡ notes starts d given)
 
   ready : (given : List Event) (rest : List ℕ) (first : ℕ) (t : Talk)
       → AtDesk starts workers drivers d given rest first t → IsReady given first t
@@ -219,7 +248,8 @@ module _ (starts : List Start) (workers drivers d : ℕ) (below : AreBelow drive
 
   abbrev IsFilled : List Event → List Event → Type 0
   IsFilled given es =
-      (history : List Event) × (c : Core) × (replay (start starts workers drivers) history ≡ Some c) × (notes starts d history ≡ notes starts d given ++ es)
+      (history : List Event) × (c : Core) × (replay (start starts workers drivers) history ≡ Some c)
+      × (notes starts d history ≡ notes starts d given ++ es)
 
   fill : (es given : List Event) (rest : List ℕ) (first : ℕ) (t u : Talk)
       → AtDesk starts workers drivers d given rest first t → IsOwned (is_of starts d) t
@@ -232,10 +262,18 @@ module _ (starts : List Start) (workers drivers d : ℕ) (below : AreBelow drive
       let next = (desk_notes starts workers drivers d below r.0 r.1 first t r.2 f.1.0 e n.0 r.3 f.1.1).1 in
       let k = fill es (r.0 ++ e ∷ []) (rest_after e r.1) (first_after e t first) f.1.0 u next n.1 f.1.2 in
       let noted : notes starts d (r.0 ++ e ∷ []) ≡ notes starts d given ++ e ∷ [] =
-      notes_more starts d r.0 e ∙ (ap (λ (b : Bool). notes starts d r.0 ++ cond b (e ∷ []) []) n.0 ∙ ap (λ (ns : List Event). ns ++ e ∷ []) r.4) in
-      (k.0, k.1, k.2, k.3 ∙ (ap (λ (ns : List Event). ns ++ es) noted ∙ append_assoc (notes starts d given) (e ∷ []) es))
+      notes_more starts d r.0 e ∙ (ap (λ (b : Bool). notes starts d r.0 ++ cond b (e ∷ []) []) n.0
+      ∙ ap (λ (ns : List Event). ns ++ e ∷ []) r.4) in (
+        k.0,
+        k.1,
+        k.2,
+        k.3 ∙ (ap (λ (ns : List Event). ns ++ es) noted
+            ∙ append_assoc (notes starts d given) (e ∷ []) es),
+      )
 
   pub talk_history : (es : List Event) (u : Talk) → d < drivers → talk_run d (Between (paths_of d starts)) es ≡ Some u
-      → (history : List Event) × (c : Core) × (replay (start starts workers drivers) history ≡ Some c) × (notes starts d history ≡ es)
+      → (history : List Event) × (c : Core) × (replay (start starts workers drivers) history ≡ Some c)
+      × (notes starts d history ≡ es)
   talk_history es u there run =
-      fill es [] (paths_of d starts) 0 (Between (paths_of d starts)) u (desk_begins starts workers drivers d below 0 there) (all_paths d starts) run
+      fill es [] (paths_of d starts) 0 (Between (paths_of d starts)) u
+      (desk_begins starts workers drivers d below 0 there) (all_paths d starts) run

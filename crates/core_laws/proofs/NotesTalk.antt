@@ -27,7 +27,8 @@ talk_on : (starts : List Start) (d : ℕ) (n : Bool) (t u : Talk) (e : Event) (n
 talk_on starts d true t u e ns note h i = ap is_there (run_step d t u e ns (with_note starts d t e note ∙ h)) ∙ i
 talk_on starts d false t u e ns note h i = ap (λ v. is_talk d v ns) (let k : t ≡ u = cc (h) in k) ∙ i
 
-pub sim : (starts : List Start) (c z : Core) (es : List Event) (d : ℕ) (x : DriverState) (late turns : List ℕ) (base : ℕ)
+pub sim : (starts : List Start) (c z : Core) (es : List Event) (d : ℕ) (x : DriverState) (late turns : List ℕ)
+    (base : ℕ)
     → Good starts c → replay c es ≡ Some z → slice_get c.drivers d ≡ Some x → Lists c.paths d late turns base
     → IsZero x base → IsSmudged x
     → is_talk d (talk_at x (talk_paths c d es) late turns) (notes starts d es) ≡ true
@@ -38,15 +39,20 @@ sim starts c z (e ∷ es) d x late turns base good run at l low sm =
     let step : step_of c e ≡ Some (after c m.0) = f.1 ∙ ap (λ k. Some k) (sym m.2) in
     let rest : replay (after c m.0) es ≡ Some z = subst (λ (k : Core). replay k es ≡ Some z) (sym m.2) f.2 in
     let o = sim_step starts c z es d good e m.0 x late turns base m.1 step rest at l low sm in
-    talk_on starts d (is_note starts d e) (talk_at x (talk_paths c d (e ∷ es)) late turns) (talk_at (driver_after m.0 d x) (talk_paths (after c m.0) d es) o.late1 o.turns1) e (notes starts d es) refl o.moves
-    (sim starts (after c m.0) z es d (driver_after m.0 d x) o.late1 o.turns1 o.base1 (good_step starts c e m.0 good m.1) rest (get_each (driver_after m.0) c.drivers d x at) o.lists o.low o.smudged)
+    talk_on starts d (is_note starts d e) (talk_at x (talk_paths c d (e ∷ es)) late turns)
+    (talk_at (driver_after m.0 d x) (talk_paths (after c m.0) d es) o.late1 o.turns1) e
+    (notes starts d es) refl o.moves
+    (sim starts (after c m.0) z es d (driver_after m.0 d x) o.late1 o.turns1 o.base1
+    (good_step starts c e m.0 good m.1) rest (get_each (driver_after m.0) c.drivers d x at) o.lists o.low o.smudged)
 
 pub notes_talk : (starts : List Start) (workers drivers : ℕ) (history : List Event) (x : Core) (d : ℕ)
     → AreBelow drivers starts → d < drivers → replay (start starts workers drivers) history ≡ Some x
     → is_talk d (Between (talk_paths (start starts workers drivers) d history)) (notes starts d history) ≡ true
 notes_talk starts workers drivers history x d below there_d run =
-    sim starts (start starts workers drivers) x history d driver.Off [] [] 0 (good_start starts workers drivers below) run (get_offs drivers d there_d)
-    (lists_none (start starts workers drivers).paths d (λ p r i at. let k = map_get starts p r i in ap (λ (z : Path). shadow z.state) (sym k.2) ∙ begins_shadow k.0))
+    sim starts (start starts workers drivers) x history d driver.Off [] [] 0
+    (good_start starts workers drivers below) run (get_offs drivers d there_d)
+    (lists_none (start starts workers drivers).paths d (λ p r i at. let k = map_get starts p r i in
+    ap (λ (z : Path). shadow z.state) (sym k.2) ∙ begins_shadow k.0))
     (λ k on noting_list. refl)
     (λ k on h. absurd (cc (on)))
   where

@@ -12,7 +12,8 @@ use Rattle.checkout_core.proofs.Basics.{same_or, eqb_self, other_number}
 
 same_seat : (workers d f : ℕ) → (d == f) ≡ (workers + f == workers + d)
 same_seat workers d f = ⊎_elim
-    (λ (k : (d ≡ f) × ((d == f) ≡ true)). k.1 ∙ sym (ap (λ (z : ℕ). workers + f == workers + z) k.0 ∙ eqb_self (workers + f)))
+    (λ (k : (d ≡ f) × ((d == f) ≡ true)). k.1 ∙ sym (ap (λ (z : ℕ). workers + f == workers + z) k.0
+    ∙ eqb_self (workers + f)))
     (λ (k : (d == f) ≡ false). k ∙ sym (other_number (workers + f) (workers + d) (λ i. apart k i)))
     (same_or d f)
   where
@@ -51,7 +52,8 @@ note_is_own starts workers d (ev.Shut f) = same_seat workers d f
 
 more_own : (e : Event) (b c : Bool) (ns own : List Event) → is_noted e ≡ c → ns ≡ noted own
     → cond (c && b) (e ∷ ns) ns ≡ noted (cond b (e ∷ own) own)
-more_own e true true ns own i h = ap (λ (z : List Event). e ∷ z) h ∙ sym (ap (λ (z : Bool). cond z (e ∷ noted own) (noted own)) i)
+more_own e true true ns own i h = ap (λ (z : List Event). e ∷ z) h
+    ∙ sym (ap (λ (z : Bool). cond z (e ∷ noted own) (noted own)) i)
 more_own e true false ns own i h = h ∙ sym (ap (λ (z : Bool). cond z (e ∷ noted own) (noted own)) i)
 more_own e false true ns own i h = h
 more_own e false false ns own i h = h
@@ -61,4 +63,5 @@ pub notes_own : (starts : List Start) (workers d : ℕ) (es : List Event)
 notes_own starts workers d [] = refl
 notes_own starts workers d (e ∷ es) =
     ap (λ (b : Bool). cond b (e ∷ notes starts d es) (notes starts d es)) (note_is_own starts workers d e)
-    ∙ more_own e (is_own starts workers (workers + d) e) (is_noted e) (notes starts d es) (own_entries starts workers (workers + d) es) refl (notes_own starts workers d es)
+    ∙ more_own e (is_own starts workers (workers + d) e) (is_noted e) (notes starts d es)
+    (own_entries starts workers (workers + d) es) refl (notes_own starts workers d es)

@@ -38,14 +38,16 @@ abbrev pub stepped : Bool → Talk → Event → Option Talk
 stepped true t e = talk_next t e
 stepped false t e = Some t
 
-pub record Outcome (starts : List Start) (c : Core) (m : Effect) (e : Event) (es : List Event) (d : ℕ) (x : DriverState) (late turns : List ℕ) : Type 0 where
+pub record Outcome (starts : List Start) (c : Core) (m : Effect) (e : Event) (es : List Event) (d : ℕ)
+    (x : DriverState) (late turns : List ℕ) : Type 0 where
   pub late1 : List ℕ
   pub turns1 : List ℕ
   pub base1 : ℕ
   pub lists : Lists (each (path_after m) c.paths) d late1 turns1 base1
   pub low : IsZero (driver_after m d x) base1
   pub smudged : IsSmudged (driver_after m d x)
-  pub moves : stepped (is_note starts d e) (talk_at x (talk_paths c d (e ∷ es)) late turns) e ≡ Some (talk_at (driver_after m d x) (talk_paths (after c m) d es) late1 turns1)
+  pub moves : stepped (is_note starts d e) (talk_at x (talk_paths c d (e ∷ es)) late turns) e ≡ Some
+      (talk_at (driver_after m d x) (talk_paths (after c m) d es) late1 turns1)
 
 pub refused_shadow : (x : DriverState) (s : PathState) (k : FilterCause) → refused_cause x s ≡ Some k
     → shadow s ≡ Unasked
@@ -64,17 +66,22 @@ pub quiet_shadow : (p d : ℕ) (required : Bool) (x y : DriverState) (s t : Path
     → View p d required x y s t e n → n ≡ false → shadow t ≡ shadow s
 quiet_shadow p d required x y s t e n (Same nn yy tt own far) no_note = ap shadow tt
 quiet_shadow p d required x y s t e n (Claimed a raw nn yy ss tt ee) no_note = ap shadow tt ∙ sym (ap shadow ss)
-quiet_shadow p d required x y s t e n (HandedBack k nn yy req kk tt ee) no_note = ap shadow tt ∙ sym (refused_shadow x s k kk)
-quiet_shadow p d required x y s t e n (ClosedHeld a w raw v nn yy ss cl tt ee) no_note = ap shadow tt ∙ sym (ap shadow ss)
+quiet_shadow p d required x y s t e n (HandedBack k nn yy req kk tt ee) no_note = ap shadow tt
+    ∙ sym (refused_shadow x s k kk)
+quiet_shadow p d required x y s t e n (ClosedHeld a w raw v nn yy ss cl tt ee) no_note = ap shadow tt
+    ∙ sym (ap shadow ss)
 quiet_shadow p d required x y s t e n (ClosedTold a w k v nn yy ss cl tt ee) no_note = ap shadow tt ∙ sym (ap shadow ss)
-quiet_shadow p d required x y s t e n (ClosedUnasked a w v nn yy ss cl tt ee) no_note = ap shadow tt ∙ sym (ap shadow ss)
+quiet_shadow p d required x y s t e n (ClosedUnasked a w v nn yy ss cl tt ee) no_note = ap shadow tt
+    ∙ sym (ap shadow ss)
 quiet_shadow p d required x y s t e n (SeesOpened caps first low nn xx yy tt ee) no_note = true_false n nn no_note
 quiet_shadow p d required x y s t e n (NotOpened w nn xx yy ss tt ee) no_note = true_false n nn no_note
 quiet_shadow p d required x y s t e n (OtherNotOpened q w pq nn yy tt ee) no_note = true_false n nn no_note
 quiet_shadow p d required x y s t e n (IsAnswered r k nn xx smudge ss yy tt ee) no_note = true_false n nn no_note
-quiet_shadow p d required x y s t e n (OtherAnswered q r k below low pq nn xx smudge yy tt ee) no_note = true_false n nn no_note
+quiet_shadow p d required x y s t e n (OtherAnswered q r k below low pq nn xx smudge yy tt ee) no_note =
+    true_false n nn no_note
 quiet_shadow p d required x y s t e n (IsRedone r k turn nn xx ss dd yy tt ee) no_note = true_false n nn no_note
-quiet_shadow p d required x y s t e n (OtherRedone q r k no_un pq dd nn xx yy tt ee smudge) no_note = true_false n nn no_note
+quiet_shadow p d required x y s t e n (OtherRedone q r k no_un pq dd nn xx yy tt ee smudge) no_note =
+    true_false n nn no_note
 quiet_shadow p d required x y s t e n (IsNamed k turn nn xx ss yy tt ee) no_note = true_false n nn no_note
 quiet_shadow p d required x y s t e n (OtherNamed q k pq no_un nn xx yy tt ee) no_note = true_false n nn no_note
 quiet_shadow p d required x y s t e n (SeesListed r k nn xx un0 yy tt ee) no_note = true_false n nn no_note
@@ -89,8 +96,10 @@ talk_rest driver.Done rest other late turns h = refl
 talk_rest (driver.On k) rest other late turns h = go k.caps.smudge refl
   where
     go : (b : Bool) → k.caps.smudge ≡ b
-        → cond b (InRound (round_of k rest late turns)) Refusing ≡ cond b (InRound (round_of k other late turns)) Refusing
-    go true i = ap (λ (ns : List ℕ). InRound (round_of k ns late turns)) (h (ap (λ b. cond b None (Some cause.NoSmudge)) i))
+        → cond b (InRound (round_of k rest late turns)) Refusing ≡ cond b
+        (InRound (round_of k other late turns)) Refusing
+    go true i = ap (λ (ns : List ℕ). InRound (round_of k ns late turns))
+        (h (ap (λ b. cond b None (Some cause.NoSmudge)) i))
     go false i = refl
 
 pub swept_lost : (w : Sweep) (s : PathState) → (w ≡ Keep → ⊥) → shadow (swept w s) ≡ Unasked
@@ -118,8 +127,14 @@ off_shadow (Closed v) i = refl
 
 pub free_note : (starts : List Start) (c : Core) (d : ℕ) (e : Event) → Begun starts c → is_note starts d e ≡ false
     → (p : ℕ) (r : Path) → slice_get c.paths p ≡ Some r → is_at d r.start ≡ true → taken e p ≡ false
-free_note starts c d (ev.Answered q y) begun n p r i at = ⊎_elim (λ (k : (p ≡ q) × ((p == q) ≡ true)). true_false (is_of starts d q) (is_of_is starts d q r.start (ap (λ z. slice_get starts z) (sym k.0) ∙ begun p r i) ∙ at) n) (λ (k : (p == q) ≡ false). k) (same_or p q)
-free_note starts c d (ev.OpenFailed q o) begun n p r i at = ⊎_elim (λ (k : (p ≡ q) × ((p == q) ≡ true)). true_false (is_of starts d q) (is_of_is starts d q r.start (ap (λ z. slice_get starts z) (sym k.0) ∙ begun p r i) ∙ at) n) (λ (k : (p == q) ≡ false). k) (same_or p q)
+free_note starts c d (ev.Answered q y) begun n p r i at = ⊎_elim
+    (λ (k : (p ≡ q) × ((p == q) ≡ true)). true_false (is_of starts d q)
+    (is_of_is starts d q r.start (ap (λ z. slice_get starts z) (sym k.0) ∙ begun p r i) ∙ at) n)
+    (λ (k : (p == q) ≡ false). k) (same_or p q)
+free_note starts c d (ev.OpenFailed q o) begun n p r i at = ⊎_elim
+    (λ (k : (p ≡ q) × ((p == q) ≡ true)). true_false (is_of starts d q)
+    (is_of_is starts d q r.start (ap (λ z. slice_get starts z) (sym k.0) ∙ begun p r i) ∙ at) n)
+    (λ (k : (p == q) ≡ false). k) (same_or p q)
 free_note starts c d (ev.Claim q a) begun n p r i at = refl
 free_note starts c d (ev.Close q a o) begun n p r i at = refl
 free_note starts c d (ev.Opened f caps) begun n p r i at = refl
@@ -153,26 +168,30 @@ pub replied_smudged : (k : Session) (y : Reply) → k.caps.smudge ≡ true → I
 replied_smudged k reply.Content i = λ l on h. ap (λ (s : Session). s.caps.smudge) (let e : l ≡ k = cc (on) in e) ∙ i
 replied_smudged k reply.Error i = λ l on h. ap (λ (s : Session). s.caps.smudge) (let e : l ≡ k = cc (on) in e) ∙ i
 replied_smudged k reply.ErrorAfter i = λ l on h. ap (λ (s : Session). s.caps.smudge) (let e : l ≡ k = cc (on) in e) ∙ i
-replied_smudged k reply.Delayed i = λ l on h. ap (λ (s : Session). s.caps.smudge) (let e : l ≡ delayed k = cc (on) in e) ∙ i
+replied_smudged k reply.Delayed i = λ l on h. ap (λ (s : Session). s.caps.smudge)
+    (let e : l ≡ delayed k = cc (on) in e) ∙ i
 replied_smudged k reply.Abort i = λ l on h. absurd (cc (on))
 replied_smudged k (reply.Broken b) i = λ l on h. absurd (cc (on))
 replied_smudged k reply.NoMemory i = λ l on h. absurd (cc (on))
 
 pub list_smudged : (k : Session) (y : ListReply) → k.caps.smudge ≡ true → IsSmudged (list_desk k y)
-list_smudged k (list.Names n) i = λ l on h. ap (λ (s : Session). s.caps.smudge) (let e : l ≡ listed k = cc (on) in e) ∙ i
+list_smudged k (list.Names n) i = λ l on h. ap (λ (s : Session). s.caps.smudge)
+    (let e : l ≡ listed k = cc (on) in e) ∙ i
 list_smudged k list.Empty i = λ l on h. absurd (cc (on))
 list_smudged k list.Abort i = λ l on h. absurd (cc (on))
 list_smudged k (list.Broken b) i = λ l on h. absurd (cc (on))
 list_smudged k list.NoMemory i = λ l on h. absurd (cc (on))
 
 pub fresh_smudged : (caps : Caps) (first : ℕ) → IsSmudged (driver.On (fresh caps first))
-fresh_smudged caps first = λ l on h. absurd (let e : fresh caps first ≡ l = cc (on) in let y : false ≡ true = ap (λ (s : Session). s.any_delayed || s.noting_list) e ∙ h in cc (y))
+fresh_smudged caps first = λ l on h. absurd (let e : fresh caps first ≡ l = cc (on) in let y : false ≡ true =
+    ap (λ (s : Session). s.any_delayed || s.noting_list) e ∙ h in cc (y))
 
 pub in_round : (k : Session) (r : Round) → k.caps.smudge ≡ true → InRound r ≡ cond k.caps.smudge (InRound r) Refusing
 in_round k r smudge = sym (ap (λ b. cond b (InRound r) Refusing) smudge)
 
 pub answered_is : (k : Session) (rest late turns : List ℕ) (q : ℕ) (y : Reply) → k.caps.smudge ≡ true
-    → answered (round_of k (q ∷ rest) late turns) q rest y ≡ talk_at (replied_desk k y) rest (late_to y q late) (late_again y turns)
+    → answered (round_of k (q ∷ rest) late turns) q rest y ≡ talk_at (replied_desk k y) rest (late_to y q late)
+    (late_again y turns)
 answered_is k rest late turns q reply.Content smudge = in_round k (round_of k rest late turns) smudge
 answered_is k rest late turns q reply.Error smudge = in_round k (round_of k rest late turns) smudge
 answered_is k rest late turns q reply.ErrorAfter smudge = in_round k (round_of k rest late turns) smudge
@@ -197,7 +216,8 @@ pub zero_reply : (k : Session) (y : Reply) (base : ℕ) → IsZero (driver.On k)
 zero_reply k reply.Content base low = low
 zero_reply k reply.Error base low = low
 zero_reply k reply.ErrorAfter base low = low
-zero_reply k reply.Delayed base low = λ l on noting_list. low k refl (ap (λ (s : Session). s.noting_list) (let i : delayed k ≡ l = cc (on) in i) ∙ noting_list)
+zero_reply k reply.Delayed base low = λ l on noting_list. low k refl
+    (ap (λ (s : Session). s.noting_list) (let i : delayed k ≡ l = cc (on) in i) ∙ noting_list)
 zero_reply k reply.Abort base low = λ l on noting_list. refl
 zero_reply k (reply.Broken b) base low = λ l on noting_list. refl
 zero_reply k reply.NoMemory base low = λ l on noting_list. refl
@@ -226,15 +246,19 @@ pub lowest_is : (d : ℕ) (rs : List Path) (f : ℕ) → lowest_unasked d rs ≡
 lowest_is d [] f e = none_is_some e
 lowest_is d (x ∷ xs) f e = go (λ k h. lowest_is d xs k h) (is_at d x.start && is_unasked x.state) refl e
   where
-    more : ((k : ℕ) → lowest_unasked d xs ≡ Some k → (r : Path) × (slice_get xs k ≡ Some r) × (is_at d r.start ≡ true) × (is_unasked r.state ≡ true))
+    more : ((k : ℕ) → lowest_unasked d xs ≡ Some k → (r : Path) × (slice_get xs k ≡ Some r)
+        × (is_at d r.start ≡ true) × (is_unasked r.state ≡ true))
         → (o : Option ℕ) → lowest_unasked d xs ≡ o → add_one o ≡ Some f
         → (r : Path) × (slice_get (x ∷ xs) f ≡ Some r) × (is_at d r.start ≡ true) × (is_unasked r.state ≡ true)
     more ih None l e = none_is_some e
-    more ih (Some k) l e = let i = ih k l in let n : suc k ≡ f = cc (e) in (i.0, subst (λ (g : ℕ). slice_get (x ∷ xs) g ≡ Some i.0) n i.1, i.2, i.3)
+    more ih (Some k) l e = let i = ih k l in let n : suc k ≡ f = cc (e) in
+        (i.0, subst (λ (g : ℕ). slice_get (x ∷ xs) g ≡ Some i.0) n i.1, i.2, i.3)
 
-    go : ((k : ℕ) → lowest_unasked d xs ≡ Some k → (r : Path) × (slice_get xs k ≡ Some r) × (is_at d r.start ≡ true) × (is_unasked r.state ≡ true))
+    go : ((k : ℕ) → lowest_unasked d xs ≡ Some k → (r : Path) × (slice_get xs k ≡ Some r) × (is_at d r.start ≡ true)
+        × (is_unasked r.state ≡ true))
         → (b : Bool) → (is_at d x.start && is_unasked x.state) ≡ b
         → cond b (Some zero) (add_one (lowest_unasked d xs)) ≡ Some f
         → (r : Path) × (slice_get (x ∷ xs) f ≡ Some r) × (is_at d r.start ≡ true) × (is_unasked r.state ≡ true)
-    go ih true i e = let n : zero ≡ f = cc (e) in let t = and_parts _ _ i in (x, subst (λ (g : ℕ). slice_get (x ∷ xs) g ≡ Some x) n refl, t.0, t.1)
+    go ih true i e = let n : zero ≡ f = cc (e) in let t = and_parts _ _ i in
+        (x, subst (λ (g : ℕ). slice_get (x ∷ xs) g ≡ Some x) n refl, t.0, t.1)
     go ih false i e = more ih (lowest_unasked d xs) refl e

@@ -25,4 +25,5 @@ with_note starts d t e note = ap (λ (b : Bool). cond b (talk_next t e) None) (n
 -- a note and those behind it
 pub run_step : (d : ℕ) (t u : Talk) (e : Event) (es : List Event) → talk_step d t e ≡ Some u
     → talk_run d t (e ∷ es) ≡ talk_run d u es
-run_step d t u e es h = ap (λ (o : Option Talk). elim o as (λ _. Option Talk) [ None ↦ None | Some v ↦ talk_run d v es ]) h
+run_step d t u e es h = ap (λ (o : Option Talk). elim o as (λ _. Option Talk)
+    [ None ↦ None | Some v ↦ talk_run d v es ]) h

@@ -22,14 +22,17 @@ From d (Before paths) ns = (items : List Item) × IsTalk paths items × (notes_o
 From d Refuses ns = ns ≡ ev.Shut d ∷ []
 From d (Asking delay rest late) ns =
     (es : List Exchange) × (end : End) × (left : List ℕ) × (items : List Item)
-    × Asks delay rest late es end left × Then end (IsTalk left items) (items ≡ []) × (said d es end (notes_of d items) ≡ ns)
+    × Asks delay rest late es end left × Then end (IsTalk left items) (items ≡ [])
+    × (said d es end (notes_of d items) ≡ ns)
 From d (Again delay late turns) ns =
     (es : List Exchange) × (end : End) × (items : List Item)
     × Rounds late turns es end × Then end (IsTalk [] items) (items ≡ []) × (said d es end (notes_of d items) ≡ ns)
 From d (Noting delay late turns) ns =
     (names : List ℕ) × (es : List Exchange) × (end : End) × (items : List Item)
-    × (are_late names late ≡ true) × Rounds (minus names late) (turns ++ names) es end × Then end (IsTalk [] items) (items ≡ [])
-    × (map ev.Named names ++ (ev.Listed d (list.Names (length (turns ++ names))) ∷ said d es end (notes_of d items)) ≡ ns)
+    × (are_late names late ≡ true) × Rounds (minus names late) (turns ++ names) es end
+    × Then end (IsTalk [] items) (items ≡ [])
+    × (map ev.Named names ++ (ev.Listed d (list.Names (length (turns ++ names))) ∷ said d es end (notes_of d items))
+    ≡ ns)
 From d Over ns = ns ≡ []
 
 -- a note more in front
@@ -52,20 +55,81 @@ never_last a h = let k = (and_parts a false h).1 in absurd (cc (k))
 -- a second request
 second_back : (d : ℕ) (delay : Bool) (late : List ℕ) (p : ℕ) (turns : List ℕ) (q : ℕ) (y : Reply) (u : Talk)
     → q ≡ p → is_delay y ≡ false → is_good_reply y ≡ true
-    → redone (round delay true false [] late (p ∷ turns)) turns y ≡ u → Back d (Again delay late (p ∷ turns)) (ev.Redone q y) u
-second_back d delay late p turns q reply.Content u same no_delay good is =
-    (Again delay late turns, is, λ ns f. (Second q reply.Content ∷ f.0, f.1, f.2, (same, refl, refl, f.3), f.4, more (ev.Redone q reply.Content) _ ns f.5))
-second_back d delay late p turns q reply.Error u same no_delay good is =
-    (Again delay late turns, is, λ ns f. (Second q reply.Error ∷ f.0, f.1, f.2, (same, refl, refl, f.3), f.4, more (ev.Redone q reply.Error) _ ns f.5))
-second_back d delay late p turns q reply.ErrorAfter u same no_delay good is =
-    (Again delay late turns, is, λ ns f. (Second q reply.ErrorAfter ∷ f.0, f.1, f.2, (same, refl, refl, f.3), f.4, more (ev.Redone q reply.ErrorAfter) _ ns f.5))
+    → redone (round delay true false [] late (p ∷ turns)) turns y ≡ u
+    → Back d (Again delay late (p ∷ turns)) (ev.Redone q y) u
+second_back d delay late p turns q reply.Content u same no_delay good is = (
+  Again delay late turns,
+  is,
+  λ ns f. (
+    Second q reply.Content ∷ f.0,
+    f.1,
+    f.2,
+    (same, refl, refl, f.3),
+    f.4,
+    more (ev.Redone q reply.Content) _ ns f.5,
+  ),
+)
+second_back d delay late p turns q reply.Error u same no_delay good is = (
+  Again delay late turns,
+  is,
+  λ ns f. (
+    Second q reply.Error ∷ f.0,
+    f.1,
+    f.2,
+    (same, refl, refl, f.3),
+    f.4,
+    more (ev.Redone q reply.Error) _ ns f.5,
+  ),
+)
+second_back d delay late p turns q reply.ErrorAfter u same no_delay good is = (
+  Again delay late turns,
+  is,
+  λ ns f. (
+    Second q reply.ErrorAfter ∷ f.0,
+    f.1,
+    f.2,
+    (same, refl, refl, f.3),
+    f.4,
+    more (ev.Redone q reply.ErrorAfter) _ ns f.5,
+  ),
+)
 second_back d delay late p turns q reply.Delayed u same no_delay good is = absurd (cc (no_delay))
-second_back d delay late p turns q reply.Abort u same no_delay good is =
-    (Over, is, λ ns f. (Second q reply.Abort ∷ [], Aborted, [], (same, refl, refl, (refl, refl)), refl, more (ev.Redone q reply.Abort) [] ns (sym f)))
-second_back d delay late p turns q (reply.Broken why) u same no_delay good is =
-    (Before [], is, λ ns f. (Second q (reply.Broken why) ∷ [], Broke why, f.0, (same, refl, good, (refl, refl)), f.1, more (ev.Redone q (reply.Broken why)) _ ns f.2))
-second_back d delay late p turns q reply.NoMemory u same no_delay good is =
-    (Before [], is, λ ns f. (Second q reply.NoMemory ∷ [], OutOfMemory, f.0, (same, refl, refl, (refl, refl)), f.1, more (ev.Redone q reply.NoMemory) _ ns f.2))
+second_back d delay late p turns q reply.Abort u same no_delay good is = (
+  Over,
+  is,
+  λ ns f. (
+    Second q reply.Abort ∷ [],
+    Aborted,
+    [],
+    (same, refl, refl, (refl, refl)),
+    refl,
+    more (ev.Redone q reply.Abort) [] ns (sym f),
+  ),
+)
+second_back d delay late p turns q (reply.Broken why) u same no_delay good is = (
+  Before [],
+  is,
+  λ ns f. (
+    Second q (reply.Broken why) ∷ [],
+    Broke why,
+    f.0,
+    (same, refl, good, (refl, refl)),
+    f.1,
+    more (ev.Redone q (reply.Broken why)) _ ns f.2,
+  ),
+)
+second_back d delay late p turns q reply.NoMemory u same no_delay good is = (
+  Before [],
+  is,
+  λ ns f. (
+    Second q reply.NoMemory ∷ [],
+    OutOfMemory,
+    f.0,
+    (same, refl, refl, (refl, refl)),
+    f.1,
+    more (ev.Redone q reply.NoMemory) _ ns f.2,
+  ),
+)
 
 -- the first name of a list
 name_back : (d : ℕ) (delay : Bool) (late : List ℕ) (q : ℕ) (u : Talk) → contains q late ≡ true
@@ -79,7 +143,8 @@ name_back d delay late q u there is = (
     f.3,
     ((refl, refl, and_from (contains q late) (are_late f.0 (without q late)) there f.4), f.5),
     f.6,
-    list_said (map ev.Named (q ∷ f.0)) (ev.Listed d (list.Names (length (q ∷ f.0)))) (exchanges_notes d f.1) (end_notes d f.2 ++ notes_of d f.3)
+    list_said (map ev.Named (q ∷ f.0)) (ev.Listed d (list.Names (length (q ∷ f.0)))) (exchanges_notes d f.1)
+        (end_notes d f.2 ++ notes_of d f.3)
         ∙ more (ev.Named q) _ ns f.7,
   ),
 )
@@ -89,14 +154,54 @@ empty_back : (d : ℕ) (delay : Bool) (late : List ℕ) (y : ListReply) (u : Tal
     → talk_next (talk_of (Again delay late [])) (ev.Listed d y) ≡ Some u
     → Back d (Again delay late []) (ev.Listed d y) u
 empty_back d delay late (list.Names n) u h = none_is_some h
-empty_back d delay late list.Empty u h =
-    (Over, some_is Ended u h, λ ns f. (Listing [] list.Empty ∷ [], NothingLeft, [], (refl, (refl, refl)), refl, more (ev.Listed d list.Empty) [] ns (sym f)))
-empty_back d delay late list.Abort u h =
-    (Over, some_is Ended u h, λ ns f. (Listing [] list.Abort ∷ [], Aborted, [], (refl, (refl, refl)), refl, more (ev.Listed d list.Abort) [] ns (sym f)))
-empty_back d delay late (list.Broken why) u h =
-    (Before [], some_is (Between []) u h, λ ns f. (Listing [] (list.Broken why) ∷ [], Broke why, f.0, (refl, (refl, refl)), f.1, more (ev.Listed d (list.Broken why)) _ ns f.2))
-empty_back d delay late list.NoMemory u h =
-    (Before [], some_is (Between []) u h, λ ns f. (Listing [] list.NoMemory ∷ [], OutOfMemory, f.0, (refl, (refl, refl)), f.1, more (ev.Listed d list.NoMemory) _ ns f.2))
+empty_back d delay late list.Empty u h = (
+  Over,
+  some_is Ended u h,
+  λ ns f. (
+    Listing [] list.Empty ∷ [],
+    NothingLeft,
+    [],
+    (refl, (refl, refl)),
+    refl,
+    more (ev.Listed d list.Empty) [] ns (sym f),
+  ),
+)
+empty_back d delay late list.Abort u h = (
+  Over,
+  some_is Ended u h,
+  λ ns f. (
+    Listing [] list.Abort ∷ [],
+    Aborted,
+    [],
+    (refl, (refl, refl)),
+    refl,
+    more (ev.Listed d list.Abort) [] ns (sym f),
+  ),
+)
+empty_back d delay late (list.Broken why) u h = (
+  Before [],
+  some_is (Between []) u h,
+  λ ns f. (
+    Listing [] (list.Broken why) ∷ [],
+    Broke why,
+    f.0,
+    (refl, (refl, refl)),
+    f.1,
+    more (ev.Listed d (list.Broken why)) _ ns f.2,
+  ),
+)
+empty_back d delay late list.NoMemory u h = (
+  Before [],
+  some_is (Between []) u h,
+  λ ns f. (
+    Listing [] list.NoMemory ∷ [],
+    OutOfMemory,
+    f.0,
+    (refl, (refl, refl)),
+    f.1,
+    more (ev.Listed d list.NoMemory) _ ns f.2,
+  ),
+)
 
 -- while paths are listed that weren't asked again, no list comes
 no_list : {A : Type 0} (delay : Bool) (late : List ℕ) (p : ℕ) (turns : List ℕ) (d : ℕ) (y : ListReply) (u : Talk)
@@ -119,7 +224,8 @@ again_back d delay late turns (ev.HandBack q) u w h = none_is_some h
 again_back d delay late turns (ev.Shut f) u w h = none_is_some h
 again_back d delay late [] (ev.Redone q y) u w h = none_is_some h
 again_back d delay late (p ∷ turns) (ev.Redone q y) u w h =
-    let g = given_talk (q == p && (not (is_delay y) && is_good_reply y)) (redone (round delay true false [] late (p ∷ turns)) turns y) u h in
+    let g = given_talk (q == p && (not (is_delay y) && is_good_reply y))
+    (redone (round delay true false [] late (p ∷ turns)) turns y) u h in
     let one = and_parts (q == p) (not (is_delay y) && is_good_reply y) g.0 in
     let two = and_parts (not (is_delay y)) (is_good_reply y) one.1 in
     second_back d delay late p turns q y u (same_number q p one.0) (not_true (is_delay y) two.0) two.1 g.1
@@ -131,10 +237,12 @@ again_back d delay late [] (ev.Named q) u w h =
     let g = given_talk (contains q late && true) (talk_of (Noting delay (without q late) (q ∷ []))) u h in
     name_back d delay late q u (and_parts (contains q late) true g.0).0 g.1
 again_back d delay late (p ∷ turns) (ev.Named q) u w h =
-    let g = given_talk (contains q late && false) (talk_of (Noting delay (without q late) ((p ∷ turns) ++ q ∷ []))) u h in
+    let g = given_talk (contains q late && false) (talk_of (Noting delay (without q late) ((p ∷ turns) ++ q ∷ [])))
+    u h in
     never_last (contains q late) g.0
 again_back d delay late [] (ev.Listed f y) u w h =
-    subst (λ (z : ℕ). Back d (Again delay late []) (ev.Listed z y) u) (same_number d f w) (empty_back d delay late y u h)
+    subst (λ (z : ℕ). Back d (Again delay late []) (ev.Listed z y) u) (same_number d f w)
+    (empty_back d delay late y u h)
 again_back d delay late (p ∷ turns) (ev.Listed f y) u w h = no_list delay late p turns f y u h
 
 -- one more name
@@ -151,7 +259,8 @@ noting_name d delay late turns q u there is = (
     and_from (contains q late) (are_late f.0 (without q late)) there f.4,
     subst (λ (ts : List ℕ). Rounds (minus f.0 (without q late)) ts f.1 f.2) same f.5,
     f.6,
-    more (ev.Named q) _ ns (ap (λ (ts : List ℕ). map ev.Named f.0 ++ (ev.Listed d (list.Names (length ts)) ∷ said d f.1 f.2 (notes_of d f.3))) (sym same) ∙ f.7),
+    more (ev.Named q) _ ns (ap (λ (ts : List ℕ). map ev.Named f.0 ++
+        (ev.Listed d (list.Names (length ts)) ∷ said d f.1 f.2 (notes_of d f.3))) (sym same) ∙ f.7),
   ),
 )
 
@@ -169,7 +278,8 @@ noting_end d delay late turns n u count is = (
     refl,
     subst (λ (ts : List ℕ). Rounds late ts f.0 f.1) none f.3,
     f.4,
-    ap (λ (k : ℕ). ev.Listed d (list.Names k) ∷ said d f.0 f.1 (notes_of d f.2)) (ap length (append-nil turns) ∙ sym count) ∙ more (ev.Listed d (list.Names n)) _ ns f.5,
+    ap (λ (k : ℕ). ev.Listed d (list.Names k) ∷ said d f.0 f.1 (notes_of d f.2))
+        (ap length (append-nil turns) ∙ sym count) ∙ more (ev.Listed d (list.Names n)) _ ns f.5,
   ),
 )
 
@@ -200,35 +310,118 @@ noting_back d delay late turns (ev.Named q) u w h =
     let g = given_talk (contains q late && true) (talk_of (Noting delay (without q late) (turns ++ q ∷ []))) u h in
     noting_name d delay late turns q u (and_parts (contains q late) true g.0).0 g.1
 noting_back d delay late turns (ev.Listed f y) u w h =
-    subst (λ (z : ℕ). Back d (Noting delay late turns) (ev.Listed z y) u) (same_number d f w) (noting_list_back d delay late turns y u h)
+    subst (λ (z : ℕ). Back d (Noting delay late turns) (ev.Listed z y) u) (same_number d f w)
+    (noting_list_back d delay late turns y u h)
 
 -- a first request
 first_back : (d : ℕ) (delay : Bool) (p : ℕ) (rest late : List ℕ) (q : ℕ) (y : Reply) (u : Talk) → q ≡ p
     → may_reply delay y ≡ true
-    → answered (round delay (not (is_empty late)) false (p ∷ rest) late []) p rest y ≡ u → Back d (Asking delay (p ∷ rest) late) (ev.Answered q y) u
-first_back d delay p rest late q reply.Content u same may is =
-    (Asking delay rest late, is, λ ns f. (First q reply.Content ∷ f.0, f.1, f.2, f.3, (same, may, f.4), f.5, more (ev.Answered q reply.Content) _ ns f.6))
-first_back d delay p rest late q reply.Error u same may is =
-    (Asking delay rest late, is, λ ns f. (First q reply.Error ∷ f.0, f.1, f.2, f.3, (same, may, f.4), f.5, more (ev.Answered q reply.Error) _ ns f.6))
-first_back d delay p rest late q reply.ErrorAfter u same may is =
-    (Asking delay rest late, is, λ ns f. (First q reply.ErrorAfter ∷ f.0, f.1, f.2, f.3, (same, may, f.4), f.5, more (ev.Answered q reply.ErrorAfter) _ ns f.6))
-first_back d delay p rest late q reply.Delayed u same may is =
-    (Asking delay rest (p ∷ late), is, λ ns f. (First q reply.Delayed ∷ f.0, f.1, f.2, f.3, (same, may, f.4), f.5, more (ev.Answered q reply.Delayed) _ ns f.6))
-first_back d delay p rest late q reply.Abort u same may is =
-    (Over, is, λ ns f. (First q reply.Abort ∷ [], Aborted, rest, [], (same, may, (refl, (refl, refl))), refl, more (ev.Answered q reply.Abort) [] ns (sym f)))
-first_back d delay p rest late q (reply.Broken why) u same may is =
-    (Before rest, is, λ ns f. (First q (reply.Broken why) ∷ [], Broke why, rest, f.0, (same, may, (refl, (refl, refl))), f.1, more (ev.Answered q (reply.Broken why)) _ ns f.2))
-first_back d delay p rest late q reply.NoMemory u same may is =
-    (Before rest, is, λ ns f. (First q reply.NoMemory ∷ [], OutOfMemory, rest, f.0, (same, may, (refl, (refl, refl))), f.1, more (ev.Answered q reply.NoMemory) _ ns f.2))
+    → answered (round delay (not (is_empty late)) false (p ∷ rest) late []) p rest y ≡ u
+    → Back d (Asking delay (p ∷ rest) late) (ev.Answered q y) u
+first_back d delay p rest late q reply.Content u same may is = (
+  Asking delay rest late,
+  is,
+  λ ns f. (
+    First q reply.Content ∷ f.0,
+    f.1,
+    f.2,
+    f.3,
+    (same, may, f.4),
+    f.5,
+    more (ev.Answered q reply.Content) _ ns f.6,
+  ),
+)
+first_back d delay p rest late q reply.Error u same may is = (
+  Asking delay rest late,
+  is,
+  λ ns f. (
+    First q reply.Error ∷ f.0,
+    f.1,
+    f.2,
+    f.3,
+    (same, may, f.4),
+    f.5,
+    more (ev.Answered q reply.Error) _ ns f.6,
+  ),
+)
+first_back d delay p rest late q reply.ErrorAfter u same may is = (
+  Asking delay rest late,
+  is,
+  λ ns f. (
+    First q reply.ErrorAfter ∷ f.0,
+    f.1,
+    f.2,
+    f.3,
+    (same, may, f.4),
+    f.5,
+    more (ev.Answered q reply.ErrorAfter) _ ns f.6,
+  ),
+)
+first_back d delay p rest late q reply.Delayed u same may is = (
+  Asking delay rest (p ∷ late),
+  is,
+  λ ns f. (
+    First q reply.Delayed ∷ f.0,
+    f.1,
+    f.2,
+    f.3,
+    (same, may, f.4),
+    f.5,
+    more (ev.Answered q reply.Delayed) _ ns f.6,
+  ),
+)
+first_back d delay p rest late q reply.Abort u same may is = (
+  Over,
+  is,
+  λ ns f. (
+    First q reply.Abort ∷ [],
+    Aborted,
+    rest,
+    [],
+    (same, may, (refl, (refl, refl))),
+    refl,
+    more (ev.Answered q reply.Abort) [] ns (sym f),
+  ),
+)
+first_back d delay p rest late q (reply.Broken why) u same may is = (
+  Before rest,
+  is,
+  λ ns f. (
+    First q (reply.Broken why) ∷ [],
+    Broke why,
+    rest,
+    f.0,
+    (same, may, (refl, (refl, refl))),
+    f.1,
+    more (ev.Answered q (reply.Broken why)) _ ns f.2,
+  ),
+)
+first_back d delay p rest late q reply.NoMemory u same may is = (
+  Before rest,
+  is,
+  λ ns f. (
+    First q reply.NoMemory ∷ [],
+    OutOfMemory,
+    rest,
+    f.0,
+    (same, may, (refl, (refl, refl))),
+    f.1,
+    more (ev.Answered q reply.NoMemory) _ ns f.2,
+  ),
+)
 
 -- before all are asked for, no list comes
 early_list : {A : Type 0} (delay : Bool) (p : ℕ) (rest late : List ℕ) (d : ℕ) (y : ListReply) (u : Talk)
     → talk_next (talk_of (Asking delay (p ∷ rest) late)) (ev.Listed d y) ≡ Some u → A
 early_list delay p rest late d (list.Names n) u h = none_is_some h
-early_list delay p rest late d list.Empty u h = never (not (is_empty late)) true (given_talk (not (is_empty late) && (false && true)) Ended u h).0
-early_list delay p rest late d list.Abort u h = never (not (is_empty late)) true (given_talk (not (is_empty late) && (false && true)) Ended u h).0
-early_list delay p rest late d (list.Broken why) u h = never (not (is_empty late)) true (given_talk (not (is_empty late) && (false && true)) (Between (p ∷ rest)) u h).0
-early_list delay p rest late d list.NoMemory u h = never (not (is_empty late)) true (given_talk (not (is_empty late) && (false && true)) (Between (p ∷ rest)) u h).0
+early_list delay p rest late d list.Empty u h = never (not (is_empty late)) true
+    (given_talk (not (is_empty late) && (false && true)) Ended u h).0
+early_list delay p rest late d list.Abort u h = never (not (is_empty late)) true
+    (given_talk (not (is_empty late) && (false && true)) Ended u h).0
+early_list delay p rest late d (list.Broken why) u h = never (not (is_empty late)) true
+    (given_talk (not (is_empty late) && (false && true)) (Between (p ∷ rest)) u h).0
+early_list delay p rest late d list.NoMemory u h = never (not (is_empty late)) true
+    (given_talk (not (is_empty late) && (false && true)) (Between (p ∷ rest)) u h).0
 
 asking_back : (d : ℕ) (delay : Bool) (p : ℕ) (rest late : List ℕ) (e : Event) (u : Talk) → is_with d e ≡ true
     → talk_next (talk_of (Asking delay (p ∷ rest) late)) e ≡ Some u
@@ -243,10 +436,12 @@ asking_back d delay p rest late (ev.Shut f) u w h =
     never_last (not (not (is_empty late))) (given_talk (not (not (is_empty late)) && false) Ended u h).0
 asking_back d delay p rest late (ev.Named q) u w h =
     never (not (is_empty late)) (contains q late && true)
-    (given_talk (not (is_empty late) && (false && (contains q late && true))) (InRound (round delay (not (is_empty late)) true (p ∷ rest) (without q late) (q ∷ []))) u h).0
+    (given_talk (not (is_empty late) && (false && (contains q late && true)))
+    (InRound (round delay (not (is_empty late)) true (p ∷ rest) (without q late) (q ∷ []))) u h).0
 asking_back d delay p rest late (ev.Listed f y) u w h = early_list delay p rest late f y u h
 asking_back d delay p rest late (ev.Answered q y) u w h =
-    let g = given_talk (q == p && may_reply delay y) (answered (round delay (not (is_empty late)) false (p ∷ rest) late []) p rest y) u h in
+    let g = given_talk (q == p && may_reply delay y) (answered
+    (round delay (not (is_empty late)) false (p ∷ rest) late []) p rest y) u h in
     let k = and_parts (q == p) (may_reply delay y) g.0 in
     first_back d delay p rest late q y u (same_number q p k.0) k.1 g.1
 
@@ -270,8 +465,19 @@ plain_back d delay (ev.Answered q y) u w h = none_is_some h
 plain_back d delay (ev.Redone q y) u w h = none_is_some h
 plain_back d delay (ev.Named q) u w h = none_is_some h
 plain_back d delay (ev.Listed f y) u w h = plain_list delay f y u h
-plain_back d delay (ev.Shut f) u w h =
-    (Over, some_is Ended u h, λ ns f1. ([], Shut, [], [], (refl, refl, refl), refl, ap (λ (z : ℕ). ev.Shut z ∷ []) (same_number d f w) ∙ more (ev.Shut f) [] ns (sym f1)))
+plain_back d delay (ev.Shut f) u w h = (
+  Over,
+  some_is Ended u h,
+  λ ns f1. (
+    [],
+    Shut,
+    [],
+    [],
+    (refl, refl, refl),
+    refl,
+    ap (λ (z : ℕ). ev.Shut z ∷ []) (same_number d f w) ∙ more (ev.Shut f) [] ns (sym f1),
+  ),
+)
 
 -- the last first request is followed by rounds
 late_back : (d : ℕ) (delay : Bool) (l : ℕ) (late : List ℕ) (e : Event) (u : Talk)
@@ -312,8 +518,15 @@ before_back d p rest (ev.Listed f y) u w h = none_is_some h
 before_back d p rest (ev.Shut f) u w h = none_is_some h
 before_back d p rest (ev.OpenFailed q why) u w h =
     let g = given_talk (q == p && is_good_opening why) (Between rest) u h in
-    let k = and_parts (q == p) (is_good_opening why) g.0 in
-    (Before rest, g.1, λ ns f. (NoSession q why ∷ f.0, (same_number q p k.0, k.1, f.1), more (ev.OpenFailed q why) _ ns f.2))
+    let k = and_parts (q == p) (is_good_opening why) g.0 in (
+      Before rest,
+      g.1,
+      λ ns f. (
+        NoSession q why ∷ f.0,
+        (same_number q p k.0, k.1, f.1),
+        more (ev.OpenFailed q why) _ ns f.2,
+      ),
+    )
 before_back d p rest (ev.Opened f caps) u w h =
     subst (λ (z : ℕ). Back d (Before (p ∷ rest)) (ev.Opened z caps) u) (same_number d f w)
     (opened_back d p rest caps u caps.smudge refl (some_is (opened caps (p ∷ rest)) u h))
@@ -329,8 +542,12 @@ refuses_back d (ev.Answered q y) u w h = none_is_some h
 refuses_back d (ev.Redone q y) u w h = none_is_some h
 refuses_back d (ev.Named q) u w h = none_is_some h
 refuses_back d (ev.Listed f y) u w h = none_is_some h
-refuses_back d (ev.Shut f) u w h =
-    (Over, some_is Ended u h, λ ns f1. more (ev.Shut f) ns [] f1 ∙ ap (λ (z : ℕ). ev.Shut z ∷ []) (sym (same_number d f w)))
+refuses_back d (ev.Shut f) u w h = (
+  Over,
+  some_is Ended u h,
+  λ ns f1. more (ev.Shut f) ns [] f1
+      ∙ ap (λ (z : ℕ). ev.Shut z ∷ []) (sym (same_number d f w)),
+)
 
 step_back : (d : ℕ) (at : Phase) (e : Event) (u : Talk) → is_with d e ≡ true → talk_next (talk_of at) e ≡ Some u
     → Back d at e u
@@ -338,7 +555,8 @@ step_back d (Before []) e u w h = none_is_some h
 step_back d (Before (p ∷ rest)) e u w h = before_back d p rest e u w h
 step_back d Refuses e u w h = refuses_back d e u w h
 step_back d (Asking delay [] []) e u w h = plain_back d delay e u w h
-step_back d (Asking delay [] (l ∷ late)) e u w h = late_back d delay l late e u (again_back d delay (l ∷ late) [] e u w h)
+step_back d (Asking delay [] (l ∷ late)) e u w h = late_back d delay l late e u
+    (again_back d delay (l ∷ late) [] e u w h)
 step_back d (Asking delay (p ∷ rest) late) e u w h = asking_back d delay p rest late e u w h
 step_back d (Again delay late turns) e u w h = again_back d delay late turns e u w h
 step_back d (Noting delay late turns) e u w h = noting_back d delay late turns e u w h

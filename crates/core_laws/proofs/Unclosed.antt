@@ -28,7 +28,8 @@ pub none_unclosed : (rs : List Path) → AreClosed rs → unclosed_count rs ≡ 
 none_unclosed [] h = refl
 none_unclosed (r ∷ rs) h =
     let k = h zero r refl in
-    ap (λ (b : Bool). cond b 0 1 + unclosed_count rs) (ap is_closed k.1) ∙ plus_none (unclosed_count rs) (none_unclosed rs (λ p w there. h (suc p) w there))
+    ap (λ (b : Bool). cond b 0 1 + unclosed_count rs) (ap is_closed k.1)
+    ∙ plus_none (unclosed_count rs) (none_unclosed rs (λ p w there. h (suc p) w there))
 
 parts : (b : Bool) (n : ℕ) → cond b 0 1 + n ≡ 0 → (b ≡ true) × (n ≡ 0)
 parts true n h = (refl, omega arith)
