@@ -12,9 +12,10 @@ use Rattle.checkout_core.specs.declared.path.Start.{Start}
 use Rattle.checkout_core.specs.declared.path.Start.TheVariants.{Pool, Desk, Done}
 use Rattle.checkout_core.specs.declared.driver.DriverState.{DriverState}
 use Rattle.checkout_core.specs.declared.cursor.Cursor.{Cursor}
+use Rattle.checkout_core.specs.declared.effect.Effect.{Effect}
 use Rattle.checkout_core.specs.declared.effect.Effect.TheVariants.{Moves, Switches, Both}
 use Rattle.checkout_core.specs.declared.effect.Sweep.TheVariants.{Keep}
-use Rattle.checkout_core.specs.States.{is_at, is_unasked, is_named, is_named_below, is_closed, none_of, path_count, named_count, unclosed_count, with_state}
+use Rattle.checkout_core.specs.States.{Core, is_at, is_unasked, is_named, is_named_below, is_closed, none_of, path_count, named_count, unclosed_count, with_state}
 use Rattle.checkout_core.specs.Effects.{after, each, driver_after}
 use Rattle.checkout_core.specs.Cursors.{is_named_at, is_noting_list, is_pending, settles, advances, Follows, AllFollow, IsSound, IsCursor, cursor_after, delayed_after, CanFollow, IsFollowable}
 use Rattle.checkout_core.proofs.Basics.{some_is, same_or, same_number, item_within}
@@ -440,3 +441,7 @@ module _ (workers : ℕ) (paths : List Path) (drivers : List DriverState) (curso
   turn_is =
       sym (ap (λ (rs : List Path). record { workers = workers; drivers = each (driver_after (Switches d t Keep)) drivers; paths = rs }) (turned_paths d t Keep paths ∙ kept_paths d paths)
       ∙ ap (λ (xs : List DriverState). record { workers = workers; drivers = xs; paths = paths }) (turn_set drivers d fol.0 t Keep fol.1 ∙ ap (λ (xs : List DriverState). set xs d t) (map_none drivers)))
+
+-- an effect may follow a core as it is seen, and so its fields
+pub followable_in : {z w : Core} (e : Effect) → z ≡ w → IsFollowable w e → IsFollowable z e
+followable_in e same may = subst (λ (x : Core). IsFollowable x e) (sym same) may
