@@ -18,7 +18,8 @@ use Rattle.checkout_core.specs.Conditions.{effect_of, given, at_path, at_driver,
 use Rattle.checkout_core.specs.Steps.{step_of, done, replay}
 
 module _ {A : Type 0} where
-  pub get_each : (f : ℕ → A → A) (xs : List A) (i : ℕ) (a : A) → slice_get xs i ≡ Some a → slice_get (each f xs) i ≡ Some (f i a)
+  pub get_each : (f : ℕ → A → A) (xs : List A) (i : ℕ) (a : A) → slice_get xs i ≡ Some a
+      → slice_get (each f xs) i ≡ Some (f i a)
   get_each f [] i a e = absurd (cc (e))
   get_each f (x ∷ xs) zero a e = let is : x ≡ a = cc (e) in ap (λ y. Some (f zero y)) is
   get_each f (x ∷ xs) (suc i) a e = get_each (λ j. f (suc j)) xs i a e
@@ -49,7 +50,8 @@ pub record AtPath (c : Core) (p : ℕ) (f : Path → Option Effect) (m : Effect)
 pub at_path_is : (c : Core) (p : ℕ) (f : Path → Option Effect) (m : Effect) → at_path c p f ≡ Some m → AtPath c p f m
 at_path_is c p f m e = go (slice_get c.paths p) refl e
   where
-    go : (o : Option Path) → slice_get c.paths p ≡ o → (elim o as (λ _. Option Effect) [ None ↦ None | Some r ↦ f r ]) ≡ Some m → AtPath c p f m
+    go : (o : Option Path) → slice_get c.paths p ≡ o → (elim o as (λ _. Option Effect)
+        [ None ↦ None | Some r ↦ f r ]) ≡ Some m → AtPath c p f m
     go None i h = none_is_some h
     go (Some r) i h = record { row = r; there = i; holds = h }
 
@@ -58,19 +60,23 @@ pub record AtDriver (c : Core) (d : ℕ) (f : DriverState → Option Effect) (m 
   pub there : slice_get c.drivers d ≡ Some state
   pub holds : f state ≡ Some m
 
-pub at_driver_is : (c : Core) (d : ℕ) (f : DriverState → Option Effect) (m : Effect) → at_driver c d f ≡ Some m → AtDriver c d f m
+pub at_driver_is : (c : Core) (d : ℕ) (f : DriverState → Option Effect) (m : Effect) → at_driver c d f ≡ Some m
+    → AtDriver c d f m
 at_driver_is c d f m e = go (slice_get c.drivers d) refl e
   where
-    go : (o : Option DriverState) → slice_get c.drivers d ≡ o → (elim o as (λ _. Option Effect) [ None ↦ None | Some r ↦ f r ]) ≡ Some m → AtDriver c d f m
+    go : (o : Option DriverState) → slice_get c.drivers d ≡ o
+        → (elim o as (λ _. Option Effect) [ None ↦ None | Some r ↦ f r ]) ≡ Some m → AtDriver c d f m
     go None i h = none_is_some h
     go (Some r) i h = record { state = r; there = i; holds = h }
 
-pub of_driver_is : (s : Start) (f : ℕ → Bool → Option Effect) (m : Effect) → of_driver s f ≡ Some m → (d : ℕ) × (b : Bool) × (s ≡ Desk d b) × (f d b ≡ Some m)
+pub of_driver_is : (s : Start) (f : ℕ → Bool → Option Effect) (m : Effect) → of_driver s f ≡ Some m → (d : ℕ)
+    × (b : Bool) × (s ≡ Desk d b) × (f d b ≡ Some m)
 of_driver_is (Desk d b) f m e = (d, b, refl, e)
 of_driver_is Pool f m e = none_is_some e
 of_driver_is (Done v) f m e = none_is_some e
 
-pub at_session_is : (x : DriverState) (f : Session → Option Effect) (m : Effect) → at_session x f ≡ Some m → (s : Session) × (x ≡ driver.On s) × (f s ≡ Some m)
+pub at_session_is : (x : DriverState) (f : Session → Option Effect) (m : Effect) → at_session x f ≡ Some m
+    → (s : Session) × (x ≡ driver.On s) × (f s ≡ Some m)
 at_session_is (driver.On s) f m e = (s, refl, e)
 at_session_is driver.Off f m e = none_is_some e
 at_session_is driver.Aborted f m e = none_is_some e
@@ -86,31 +92,47 @@ pub record AtBoth (c : Core) (p : ℕ) (f : Path → ℕ → Bool → DriverStat
   pub desk : slice_get c.drivers driver ≡ Some state
   pub holds : f row driver required state ≡ Some m
 
-pub at_both_is : (c : Core) (p : ℕ) (f : Path → ℕ → Bool → DriverState → Option Effect) (m : Effect) → at_both c p f ≡ Some m → AtBoth c p f m
+pub at_both_is : (c : Core) (p : ℕ) (f : Path → ℕ → Bool → DriverState → Option Effect) (m : Effect)
+    → at_both c p f ≡ Some m → AtBoth c p f m
 at_both_is c p f m e =
     let a = at_path_is c p (λ r. of_driver r.start (λ d required. at_driver c d (λ x. f r d required x))) m e in
     let b = of_driver_is (a.row).start (λ d required. at_driver c d (λ x. f a.row d required x)) m a.holds in
     let g = at_driver_is c b.0 (λ x. f a.row b.0 b.1 x) m b.3 in
-    record { row = a.row; driver = b.0; required = b.1; state = g.state; there = a.there; begun = b.2; desk = g.there; holds = g.holds }
+    record {
+      row = a.row;
+      driver = b.0;
+      required = b.1;
+      state = g.state;
+      there = a.there;
+      begun = b.2;
+      desk =
+          g.there;
+      holds = g.holds;
+    }
 
-pub step_is : (c x : Core) (e : Event) → step_of c e ≡ Some x → (m : Effect) × (effect_of c e ≡ Some m) × (after c m ≡ x)
+pub step_is : (c x : Core) (e : Event) → step_of c e ≡ Some x → (m : Effect) × (effect_of c e ≡ Some m)
+    × (after c m ≡ x)
 step_is c x e h = go (effect_of c e) refl h
   where
-    go : (o : Option Effect) → effect_of c e ≡ o → done c o ≡ Some x → (m : Effect) × (effect_of c e ≡ Some m) × (after c m ≡ x)
+    go : (o : Option Effect) → effect_of c e ≡ o → done c o ≡ Some x → (m : Effect) × (effect_of c e ≡ Some m)
+        × (after c m ≡ x)
     go None i h = none_is_some h
     go (Some m) i h = (m, i, some_is (after c m) x h)
 
-pub first_step : (c d : Core) (e : Event) (es : List Event) → replay c (e ∷ es) ≡ Some d → (x : Core) × (step_of c e ≡ Some x) × (replay x es ≡ Some d)
+pub first_step : (c d : Core) (e : Event) (es : List Event) → replay c (e ∷ es) ≡ Some d → (x : Core)
+    × (step_of c e ≡ Some x) × (replay x es ≡ Some d)
 first_step c d e es h = go (step_of c e) refl h
   where
-    go : (o : Option Core) → step_of c e ≡ o → (elim o as (λ _. Option Core) [ None ↦ None | Some x ↦ replay x es ]) ≡ Some d → (x : Core) × (step_of c e ≡ Some x) × (replay x es ≡ Some d)
+    go : (o : Option Core) → step_of c e ≡ o → (elim o as (λ _. Option Core) [ None ↦ None | Some x ↦ replay x es ])
+        ≡ Some d → (x : Core) × (step_of c e ≡ Some x) × (replay x es ≡ Some d)
     go None i h = none_is_some h
     go (Some x) i h = (x, i, h)
 
 pub same_row : (c : Core) (p : ℕ) (r s : Path) → slice_get c.paths p ≡ Some r → slice_get c.paths p ≡ Some s → r ≡ s
 same_row c p r s a b = some_is r s (sym a ∙ b)
 
-pub same_desk : (c : Core) (p : ℕ) (r s : DriverState) → slice_get c.drivers p ≡ Some r → slice_get c.drivers p ≡ Some s → r ≡ s
+pub same_desk : (c : Core) (p : ℕ) (r s : DriverState) → slice_get c.drivers p ≡ Some r
+    → slice_get c.drivers p ≡ Some s → r ≡ s
 same_desk c p r s a b = some_is r s (sym a ∙ b)
 
 pub same_or : (p q : ℕ) → ((p ≡ q) × ((p == q) ≡ true)) ⊎ ((p == q) ≡ false)
@@ -126,7 +148,8 @@ pub required_is : (d e : ℕ) (b a : Bool) → Desk d b ≡ Desk e a → b ≡ a
 required_is d e b a h = cc (h)
 
 module _ {A : Type 0} where
-  pub each_is : (f : ℕ → A → A) (xs : List A) (i : ℕ) (b : A) → slice_get (each f xs) i ≡ Some b → (a : A) × (slice_get xs i ≡ Some a) × (f i a ≡ b)
+  pub each_is : (f : ℕ → A → A) (xs : List A) (i : ℕ) (b : A) → slice_get (each f xs) i ≡ Some b → (a : A)
+      × (slice_get xs i ≡ Some a) × (f i a ≡ b)
   each_is f [] i b e = none_is_some e
   each_is f (x ∷ xs) zero b e = (x, refl, some_is (f zero x) b e)
   each_is f (x ∷ xs) (suc i) b e = each_is (λ j. f (suc j)) xs i b e
@@ -142,7 +165,8 @@ start_after (Both p s d t w) q r = go (q == p)
 
 -- equal numbers, and others
 pub same_number : (a b : ℕ) → (a == b) ≡ true → a ≡ b
-same_number a b e = ⊎_elim (λ (h : (a ≡ b) × ((a == b) ≡ true)). h.0) (λ (h : (a == b) ≡ false). absurd (cc (h, e))) (same_or a b)
+same_number a b e = ⊎_elim (λ (h : (a ≡ b) × ((a == b) ≡ true)). h.0) (λ (h : (a == b) ≡ false). absurd (cc (h, e)))
+    (same_or a b)
 
 pub other_number : (p q : ℕ) → (p ≡ q → ⊥) → (p == q) ≡ false
 other_number p q n = ne_eqb p q n

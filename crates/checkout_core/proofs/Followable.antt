@@ -31,7 +31,8 @@ use Rattle.checkout_core.proofs.Basics.{none_is_some, given_is, cond_is, cond_no
 use Rattle.checkout_core.proofs.Inverses.{unasked_is, late_is, redo_is, claim_is, back_is, open_is, close_moves}
 use Rattle.checkout_core.proofs.Counts.{none_named}
 
-close_settles : (c : Core) (q a : ℕ) (o : Own) (r : Path) (s : PathState) (m : Effect) (v : Verdict) → close_at c q a o r s ≡ Some m → settles s (Closed v) ≡ true
+close_settles : (c : Core) (q a : ℕ) (o : Own) (r : Path) (s : PathState) (m : Effect) (v : Verdict)
+    → close_at c q a o r s ≡ Some m → settles s (Closed v) ≡ true
 close_settles c q a o r (Held b raw) m v e = refl
 close_settles c q a o r (path.Heard h) m v e = refl
 close_settles c q a o r Unasked m v e = refl
@@ -40,7 +41,8 @@ close_settles c q a o r path.Delayed m v e = none_is_some e
 close_settles c q a o r (path.Named t) m v e = none_is_some e
 close_settles c q a o r (Closed w) m v e = none_is_some e
 
-back_settles : (x : DriverState) (s : PathState) (k : FilterCause) → refused_cause x s ≡ Some k → settles s (Waiting (Some k)) ≡ true
+back_settles : (x : DriverState) (s : PathState) (k : FilterCause) → refused_cause x s ≡ Some k
+    → settles s (Waiting (Some k)) ≡ true
 back_settles x (path.Heard (heard.Refused b)) k e = refl
 back_settles x (path.Heard heard.Got) k e = none_is_some e
 back_settles x (path.Heard heard.Lost) k e = none_is_some e
@@ -65,7 +67,8 @@ own_noting : (b : Bool) → (not b || b) ≡ true
 own_noting true = refl
 own_noting false = refl
 
-answer_advances : (n : ℕ) (f : ℕ → Bool) (k : Session) (y : Reply) → advances n k.noting_list (is_noting_list (replied_desk k y)) f Unasked (replied_state y) ≡ true
+answer_advances : (n : ℕ) (f : ℕ → Bool) (k : Session) (y : Reply)
+    → advances n k.noting_list (is_noting_list (replied_desk k y)) f Unasked (replied_state y) ≡ true
 answer_advances n f k reply.Content = own_noting k.noting_list
 answer_advances n f k reply.Error = own_noting k.noting_list
 answer_advances n f k reply.ErrorAfter = own_noting k.noting_list
@@ -74,7 +77,9 @@ answer_advances n f k reply.Abort = refl
 answer_advances n f k (reply.Broken b) = refl
 answer_advances n f k reply.NoMemory = refl
 
-redo_advances : (n : ℕ) (o : Bool) (f : ℕ → Bool) (k : Session) (y : Reply) (t : ℕ) → is_delay y ≡ false → not k.noting_list ≡ true → f t ≡ true → advances n o (is_noting_list (replied_desk k y)) f (path.Named t) (replied_state y) ≡ true
+redo_advances : (n : ℕ) (o : Bool) (f : ℕ → Bool) (k : Session) (y : Reply) (t : ℕ) → is_delay y ≡ false
+    → not k.noting_list ≡ true → f t ≡ true → advances n o (is_noting_list (replied_desk k y)) f (path.Named t)
+    (replied_state y) ≡ true
 redo_advances n o f k reply.Content t d i j = and_from _ _ j i
 redo_advances n o f k reply.Error t d i j = and_from _ _ j i
 redo_advances n o f k reply.ErrorAfter t d i j = and_from _ _ j i
@@ -99,7 +104,11 @@ followable c (ev.Claim q a) m h =
 followable c (ev.Close q a o) m h =
     let at = at_path_is c q (λ r. close_at c q a o r r.state) m h in
     let k = close_moves c q a o at.row (at.row).state m at.holds in
-    subst (λ (z : Effect). IsFollowable c z) k.1 (at.row, at.there, close_settles c q a o at.row (at.row).state m k.0 at.holds)
+    subst (λ (z : Effect). IsFollowable c z) k.1 (
+      at.row,
+      at.there,
+      close_settles c q a o at.row (at.row).state m k.0 at.holds,
+    )
 followable c (ev.Opened d caps) m h =
     let at = at_driver_is c d (open_at c d caps) m h in
     let k = open_is d caps at.state (lowest_unasked d c.paths) m at.holds in
@@ -109,7 +118,11 @@ followable c (ev.OpenFailed q o) m h =
     let b = given_is _ (Moves q (path.Heard (heard_opening o))) m at.holds in
     let t = and_parts _ _ b.0 in
     let u = and_parts _ _ t.1 in
-    subst (λ (z : Effect). IsFollowable c z) b.1 (at.row, at.there, ap (λ s. settles s (path.Heard (heard_opening o))) (unasked_is (at.row).state u.0))
+    subst (λ (z : Effect). IsFollowable c z) b.1 (
+      at.row,
+      at.there,
+      ap (λ s. settles s (path.Heard (heard_opening o))) (unasked_is (at.row).state u.0),
+    )
 followable c (ev.Answered q y) m h =
     let at = at_both_is c q (answer_at c q y) m h in
     let k = at_session_is at.state (λ s. answer_in c q y (at.row).state at.driver s) m at.holds in
@@ -124,13 +137,15 @@ followable c (ev.Answered q y) m h =
       at_it at.driver at.required (at.row).start at.begun,
       seat,
       stays y,
-      ap (λ s. advances (named_count at.driver c.paths) (k.0).noting_list (is_noting_list (replied_desk k.0 y)) (λ u. none_of at.driver (is_named_below u) c.paths) s (replied_state y)) (unasked_is (at.row).state u.0)
+      ap (λ s. advances (named_count at.driver c.paths) (k.0).noting_list (is_noting_list (replied_desk k.0 y))
+          (λ u. none_of at.driver (is_named_below u) c.paths) s (replied_state y)) (unasked_is (at.row).state u.0)
           ∙ answer_advances (named_count at.driver c.paths) (λ u. none_of at.driver (is_named_below u) c.paths) k.0 y,
     )
 followable c (ev.Named q) m h =
     let at = at_both_is c q (name_at c q) m h in
     let k = at_session_is at.state (λ s. name_in c q (at.row).state at.driver s) m at.holds in
-    let b = given_is _ (Both q (path.Named (named_count at.driver c.paths)) at.driver (driver.On (named k.0)) Keep) m k.2 in
+    let b = given_is _ (Both q (path.Named (named_count at.driver c.paths)) at.driver (driver.On (named k.0)) Keep)
+    m k.2 in
     let t = and_parts _ _ b.0 in
     let u = and_parts _ _ t.1 in
     let v = and_parts _ _ u.1 in
@@ -142,8 +157,11 @@ followable c (ev.Named q) m h =
       at_it at.driver at.required (at.row).start at.begun,
       seat,
       refl,
-      ap (λ s. advances (named_count at.driver c.paths) (k.0).noting_list true (λ u. none_of at.driver (is_named_below u) c.paths) s (path.Named (named_count at.driver c.paths))) (late_is (at.row).state v.0)
-          ∙ and_from _ _ (eq-eqb (named_count at.driver c.paths) (named_count at.driver c.paths) refl) (ap (λ z. (k.0).noting_list || z) (none_named at.driver c.paths) ∙ v.1),
+      ap (λ s. advances (named_count at.driver c.paths) (k.0).noting_list true
+          (λ u. none_of at.driver (is_named_below u) c.paths) s (path.Named (named_count at.driver c.paths)))
+          (late_is (at.row).state v.0)
+          ∙ and_from _ _ (eq-eqb (named_count at.driver c.paths) (named_count at.driver c.paths) refl)
+          (ap (λ z. (k.0).noting_list || z) (none_named at.driver c.paths) ∙ v.1),
     )
 followable c (ev.Listed d y) m h =
     let at = at_driver_is c d (list_at c d y) m h in
@@ -165,8 +183,10 @@ followable c (ev.Redone q y) m h =
       at_it at.driver at.required (at.row).start at.begun,
       seat,
       stays y,
-      ap (λ s. advances (named_count at.driver c.paths) (k.0).noting_list (is_noting_list (replied_desk k.0 y)) (λ u. none_of at.driver (is_named_below u) c.paths) s (replied_state y)) b.1
-          ∙ redo_advances (named_count at.driver c.paths) (k.0).noting_list (λ u. none_of at.driver (is_named_below u) c.paths) k.0 y b.0 (not-true _ u.0) t.0 v.1,
+      ap (λ s. advances (named_count at.driver c.paths) (k.0).noting_list (is_noting_list (replied_desk k.0 y))
+          (λ u. none_of at.driver (is_named_below u) c.paths) s (replied_state y)) b.1
+          ∙ redo_advances (named_count at.driver c.paths) (k.0).noting_list
+          (λ u. none_of at.driver (is_named_below u) c.paths) k.0 y b.0 (not-true _ u.0) t.0 v.1,
     )
 followable c (ev.HandBack q) m h =
     let at = at_both_is c q (hand_back_at q) m h in

@@ -16,7 +16,9 @@ use Rattle.checkout_core.specs.Cursors.{is_named_at, is_noting_list, is_pending,
 use Rattle.checkout_core.proofs.Basics.{none_is_some, some_is}
 use Rattle.checkout_core.proofs.Counts.{num, count_none}
 
-begins_not : (f : PathState → Bool) → f (Waiting None) ≡ false → f Unasked ≡ false → ((v : _) → f (Closed v) ≡ false) → (starts : List Start) (p : ℕ) (r : Path) → slice_get (map path_of starts) p ≡ Some r → f r.state ≡ false
+begins_not : (f : PathState → Bool) → f (Waiting None) ≡ false → f Unasked ≡ false
+    → ((v : _) → f (Closed v) ≡ false) → (starts : List Start) (p : ℕ) (r : Path)
+    → slice_get (map path_of starts) p ≡ Some r → f r.state ≡ false
 begins_not f a b c [] p r e = none_is_some e
 begins_not f a b c (Pool ∷ ss) zero r e = ap (λ (z : Path). f z.state) (sym (some_is (path_of Pool) r e)) ∙ a
 begins_not f a b c (Desk d q ∷ ss) zero r e = ap (λ (z : Path). f z.state) (sym (some_is (path_of (Desk d q)) r e)) ∙ b
@@ -38,8 +40,11 @@ follows_start starts d = record {
   unasked_fits = omega arith;
   pending = λ p r i at pe. let z = begins_not is_pending refl refl (λ v. refl) starts p r i in absurd (cc (z, pe));
   end_fits = omega arith;
-  named = count_none d is_named (map path_of starts) (λ p r i at. begins_not is_named refl refl (λ v. refl) starts p r i);
-  turns = λ t. count_none d (is_named_at t) (map path_of starts) (λ p r i at. begins_not (is_named_at t) refl refl (λ v. refl) starts p r i) ∙ sym (empty (nat_le 0 t) (nat_lt t (0 + 0)) (le-ltb t (0 + 0) (omega arith)));
+  named = count_none d is_named (map path_of starts) (λ p r i at.
+      begins_not is_named refl refl (λ v. refl) starts p r i);
+  turns = λ t. count_none d (is_named_at t) (map path_of starts)
+      (λ p r i at. begins_not (is_named_at t) refl refl (λ v. refl) starts p r i)
+      ∙ sym (empty (nat_le 0 t) (nat_lt t (0 + 0)) (le-ltb t (0 + 0) (omega arith)));
   turn_fits = omega arith;
   begins = λ e. refl;
 }
@@ -52,21 +57,33 @@ length_map : (starts : List Start) → length (map path_of starts) ≡ length st
 length_map [] = refl
 length_map (s ∷ ss) = ap suc (length_map ss)
 
-pub start_sound : (workers drivers unclosed : ℕ) (starts : List Start) (paths : List Path) (states : List DriverState) (cursors : List Cursor) → workers ≤ 16 → drivers ≤ 16 → length starts < 2 ^ 32 → paths ≡ map path_of starts → states ≡ replicate drivers driver.Off → cursors ≡ replicate drivers new_cursor → unclosed ≡ unclosed_count paths → IsSound workers paths states cursors unclosed
+pub start_sound : (workers drivers unclosed : ℕ) (starts : List Start) (paths : List Path)
+    (states : List DriverState) (cursors : List Cursor) → workers ≤ 16 → drivers ≤ 16 → length starts < 2 ^ 32
+    → paths ≡ map path_of starts → states ≡ replicate drivers driver.Off → cursors ≡ replicate drivers new_cursor
+    → unclosed ≡ unclosed_count paths → IsSound workers paths states cursors unclosed
 start_sound workers drivers unclosed starts paths states cursors few_w few_d few_p ps xs ks un = record {
   few_workers = few_w;
   few_drivers = let l = ap length xs ∙ length-replicate drivers driver.Off in omega arith;
   few_paths = let l = ap length ps ∙ length_map starts in omega arith;
   cursors_follow = record {
-    same_length = ap length ks ∙ (length-replicate drivers new_cursor ∙ sym (ap length xs ∙ length-replicate drivers driver.Off));
+    same_length = ap length ks ∙ (length-replicate drivers new_cursor
+        ∙ sym (ap length xs ∙ length-replicate drivers driver.Off));
     follow = λ d x k i j.
-        let off : driver.Off ≡ x = get_same drivers d driver.Off x (ap (λ (zs : List DriverState). slice_get zs d) (sym xs) ∙ i) in
-        let new : new_cursor ≡ k = get_same drivers d new_cursor k (ap (λ (zs : List Cursor). slice_get zs d) (sym ks) ∙ j) in
-        subst (λ (z : Cursor). Follows paths (is_noting_list x) d z) new (subst (λ (z : DriverState). Follows paths (is_noting_list z) d new_cursor) off (subst (λ (z : List Path). Follows z false d new_cursor) (sym ps) (follows_start starts d)));
+        let off : driver.Off ≡ x = get_same drivers d driver.Off x
+        (ap (λ (zs : List DriverState). slice_get zs d) (sym xs) ∙ i) in
+        let new : new_cursor ≡ k = get_same drivers d new_cursor k
+        (ap (λ (zs : List Cursor). slice_get zs d) (sym ks) ∙ j) in
+        subst (λ (z : Cursor). Follows paths (is_noting_list x) d z) new
+        (subst (λ (z : DriverState). Follows paths (is_noting_list z) d new_cursor) off
+        (subst (λ (z : List Path). Follows z false d new_cursor) (sym ps) (follows_start starts d)));
   };
   unclosed_is = sym un;
 }
 
-pub start_is : (workers drivers : ℕ) (starts : List Start) (paths : List Path) (states : List DriverState) → paths ≡ map path_of starts → states ≡ replicate drivers driver.Off → record { workers = workers; drivers = states; paths = paths } ≡ start starts workers drivers
+pub start_is : (workers drivers : ℕ) (starts : List Start) (paths : List Path) (states : List DriverState)
+    → paths ≡ map path_of starts → states ≡ replicate drivers driver.Off
+    → record { workers = workers; drivers = states; paths = paths } ≡ start starts workers drivers
 start_is workers drivers starts paths states ps xs =
-    ap (λ (zs : List Path). record { workers = workers; drivers = states; paths = zs }) ps ∙ ap (λ (zs : List DriverState). record { workers = workers; drivers = zs; paths = map path_of starts }) (xs ∙ offs_is drivers)
+    ap (λ (zs : List Path). record { workers = workers; drivers = states; paths = zs }) ps
+    ∙ ap (λ (zs : List DriverState). record { workers = workers; drivers = zs; paths = map path_of starts })
+    (xs ∙ offs_is drivers)

@@ -38,7 +38,7 @@ abbrev pub is_named_below : ℕ → PathState → Bool
 is_named_below n (path.Named t) = nat_lt t n
 is_named_below n _ = false
 
--- how many paths aren't closed
+-- it has its verdict
 abbrev pub is_closed : PathState → Bool
 is_closed (Closed v) = true
 is_closed s = false
@@ -70,6 +70,7 @@ abbrev pub lowest_unasked : ℕ → List Path → Option ℕ
 lowest_unasked d [] = None
 lowest_unasked d (r ∷ rs) = cond (is_at d r.start && is_unasked r.state) (Some zero) (add_one (lowest_unasked d rs))
 
+-- how many paths aren't closed
 abbrev pub unclosed_count : List Path → ℕ
 unclosed_count [] = 0
 unclosed_count (r ∷ rs) = cond (is_closed r.state) 0 1 + unclosed_count rs

@@ -45,8 +45,8 @@ StopsRun told tree tree' old new (Ok plan) =
 StopsRun told tree tree' old new (Err stop.NotEmpty) =
     Tells tree.empty false × (tree'.faults ≡ tree.faults) × (new ≡ old)
 StopsRun told tree tree' old new (Err stop.ReadFault) =
-    (Rose tree.faults tree'.faults ⊎ (Tells tree.empty true × IsReadCause told old new))
-    × IsRepoBack old new
+    ((Rose tree.faults tree'.faults × (new ≡ old))
+    ⊎ (Tells tree.empty true × IsReadCause told old new)) × IsRepoBack old new
 StopsRun told tree tree' old new (Err (stop.Refused r)) =
     Tells tree.empty true × IsCheckoutCause told r × (tree'.faults ≡ tree.faults)
     × IsRepoSteady old new × IsRepoBack old new

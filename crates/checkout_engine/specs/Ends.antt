@@ -128,7 +128,7 @@ IsOutOfMemory told old new = (IsIdle old new × IsSteady old new) ⊎ IsReportCu
 
 -- 6: the worktree or a read of the repository failed, before a file was touched.
 pub record IsReadFault (told : RepoTold) (old new : Seen) : Type 0 where
-  pub cause : Rose old.tree.faults new.tree.faults
+  pub cause : (Rose old.tree.faults new.tree.faults × (new.repo ≡ old.repo))
       ⊎ (Tells old.tree.empty true × IsReadCause told old.repo new.repo)
   pub idle : IsIdle old new
 

@@ -86,6 +86,3 @@ module _ {E D : Type 0} where
       let named : number_of s ≡ k = (all.0).named in
       let first = each zero s t refl refl made (subst (λ (n : ℕ). IsSeat lock d n made s) (sym named) all.0) in
       (subst (λ (n : ℕ). IsSeat lock d n made t) named first, rows_again lock d (suc k) 0 ss ts (omega arith) all.1 (λ i. each (suc i)))
-
-  pub row_named : (lock : TableId) (d : D) (made : ℕ) (ss : List (SeatView E D)) → AreSeats lock d 0 made ss → (i : ℕ) (s : SeatView E D) → slice_get ss i ≡ Some s → IsSeat lock d (number_of s) (made_at made i) s
-  row_named lock d made ss all i s at = let is = row_at lock d 0 made ss all i s at in subst (λ (n : ℕ). IsSeat lock d n (made_at made i) s) (sym is.named) is

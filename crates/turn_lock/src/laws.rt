@@ -18,7 +18,7 @@ pub fn a_turn_keeps_a_seat<T: Kept>()
 pub fn each_seat_has_its_place<T: Kept>()
     ensures { (lock : TableId) (d : T.Told) (made : ℕ) (all : List (SeatView T.Entry T.Told))
         (i : ℕ) (s : SeatView T.Entry T.Told) → AreSeats lock d 0 made all → slice_get all i ≡ Some s
-        → (m : ℕ) × IsSeat lock d (number_of s) m s }
+        → (m : ℕ) × (number_of s ≡ i) × IsSeat lock d i m s }
 {}
 
 /// Seats that stay their lock's, each with its number, are all its seats again.

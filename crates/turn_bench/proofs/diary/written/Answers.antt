@@ -11,7 +11,7 @@ map_vec-requires-after_bounds g c κs within i x lt is =
     let seats = c.in_ok-lock.all.items in
     let at : slice_get seats i ≡ Some x = slice_get-get_or seats i x lt ∙ ap (λ z. Some z) (sym is) in
     let e = c.each_seat_has_its_place.ensures c.in_ok-lock.lock 7 c.args.seats seats i x c.in_ok-lock.ensures.seats at in
-    (7, e.0, e.1)
+    (7, e.0, subst (λ (n : ℕ). IsSeat c.in_ok-lock.lock 7 n e.0 x) (sym e.1) e.2)
 
 pub end-requires : goal.end-requires
 end-requires g c =

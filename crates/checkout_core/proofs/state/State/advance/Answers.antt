@@ -7,7 +7,7 @@ use Rattle.checkout_core.specs.declared.path.PathState.{PathState}
 use Rattle.checkout_core.specs.declared.effect.Sweep.TheVariants.{Keep}
 use Rattle.checkout_core.specs.States.{Core}
 use Rattle.checkout_core.specs.Effects.{after}
-use Rattle.checkout_core.specs.Cursors.{IsSound, IsCursor, IsFollowable}
+use Rattle.checkout_core.specs.Cursors.{IsSound, IsCursor}
 use Rattle.checkout_core.proofs.Changes.{advance_sound, advance_fits, advance_is, path_within, driver_within, followable_in}
 use Rattle.checkout_core.proofs.state.State.advance.Goals as goal
 
@@ -21,7 +21,8 @@ returns c =
     subst (λ (z : Core). record {
       workers = c.self.inside.workers;
       drivers = set c.self.inside.drivers.items c.args.driver c.args.next;
-      paths = set c.self.inside.paths.items c.args.path (record { start = c.index-was.result.now.start; state = c.args.state });
+      paths = set c.self.inside.paths.items c.args.path (record
+          { start = c.index-was.result.now.start; state = c.args.state });
     } ≡ after z (moved c.args.path c.args.state c.args.driver c.args.next)) c.self.view_is
     (advance_is c.self.inside.workers c.self.inside.paths.items c.self.inside.drivers.items c.args.path
     c.args.driver c.args.state c.args.next c.index-was.result.now fol c.index-was.ensures)
