@@ -8,7 +8,7 @@ rt run -- 1000 >/dev/null 2>&1
 echo '| Paths | Events | ns an event | MiB |'
 echo '|---|---|---|---|'
 for paths in 10000 30000 100000 300000; do
-    for run in 1 2 3 4 5; do
+    for _ in 1 2 3 4 5; do
         /usr/bin/time -f '%M kibibytes' "$program" "$paths" 2>&1 || exit 1
     done | awk '
         / paths, / { paths = $1; events = $3 }
