@@ -12,13 +12,14 @@ use Rattle.attr_line.specs.declared.outcome.Outcome.TheVariants.{Nothing, Row, S
 use Rattle.attr_line.specs.declared.outcome.LineFault.TheVariants.{Long, Negative, Name, Place}
 use Rattle.attr_line.specs.Text.{is_gap, behind_gaps}
 use Rattle.attr_line.specs.Pairs.{is_bang, is_name, pairs_at}
+use Rattle.byte_path.specs.Characters.{quote, hash}
 
 abbrev pub is_quote : ℕ → Bool
-is_quote b = b == 34
+is_quote b = b == quote
 
 -- `#`
 abbrev pub is_hash : ℕ → Bool
-is_hash b = b == 35
+is_hash b = b == hash
 
 -- the pattern at the front of a line, whether it was read as a quoted text, and what stands behind it
 pub record Head : Type 0 where

@@ -7,20 +7,21 @@ use Rattle.attr_line.specs.declared.state.AttrState.{AttrState}
 use Rattle.attr_line.specs.declared.state.AttrState.TheVariants.{Set, Unset, Unspecified, Value}
 use Rattle.attr_line.specs.declared.file.Pair.{Pair}
 use Rattle.attr_line.specs.Text.{words}
+use Rattle.byte_path.specs.Characters.{bang, hyphen, dot, equals, underscore}
 
 abbrev pub is_minus : ℕ → Bool
-is_minus b = b == 45
+is_minus b = b == hyphen
 
 -- `!`
 abbrev pub is_bang : ℕ → Bool
-is_bang b = b == 33
+is_bang b = b == bang
 
 abbrev pub is_equals : ℕ → Bool
-is_equals b = b == 61
+is_equals b = b == equals
 
 -- a letter, a digit, `-`, `_` or `.`
 abbrev pub is_name_byte : ℕ → Bool
-is_name_byte b = is_ascii_alphanumeric b || b == 45 || b == 95 || b == 46
+is_name_byte b = is_ascii_alphanumeric b || b == hyphen || b == underscore || b == dot
 
 -- the name of an attribute or of a macro
 abbrev pub is_name : List ℕ → Bool

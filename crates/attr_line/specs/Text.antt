@@ -1,10 +1,11 @@
 -- The bytes of an attribute file, and how they are cut into lines and words.
 use Rattle.std.specs.Prelude.{ℕ, Bool, ◌||◌, ◌==◌, nat_lt, not, List, length, drop, filter}
 use Rattle.std.specs.List.{slice_split, position_or_len}
+use Rattle.byte_path.specs.Characters.{tab, carriage_return, space}
 
 -- what stands between two words: a space, TAB or CR
 abbrev pub is_gap : ℕ → Bool
-is_gap b = b == 32 || b == 9 || b == 13
+is_gap b = b == space || b == tab || b == carriage_return
 
 abbrev pub ends_gaps : ℕ → Bool
 ends_gaps b = not (is_gap b)

@@ -1,29 +1,30 @@
 -- How a path is shown on a line.
 use Rattle.std.specs.Prelude.{ℕ, ◌+◌, ◌/◌, ◌%◌, Bool, ◌||◌, ◌==◌, nat_lt, List, [], ◌∷◌, ◌++◌, Option, Some, None, if◌then◌else◌}
 use Rattle.std.specs.List.{flat_map, list_any}
+use Rattle.byte_path.specs.Characters.{bell, backspace, tab, line_feed, vertical_tab, form_feed, carriage_return, space, quote, digit_0, backslash, letter_a, letter_b, letter_f, letter_n, letter_r, letter_t, letter_v, tilde}
 
 -- a byte below 20 or above 7E in hex, a `"` or a `\`
 abbrev pub needs_escape : ℕ → Bool
-needs_escape b = nat_lt b 32 || nat_lt 126 b || b == 34 || b == 92
+needs_escape b = nat_lt b space || nat_lt tilde b || b == quote || b == backslash
 
 -- what stands after the backslash in \a \b \t \n \v \f \r \" \\
 abbrev pub letter_of : ℕ → Option ℕ
 letter_of b =
-    if b == 7 then Some 97
-    else if b == 8 then Some 98
-    else if b == 9 then Some 116
-    else if b == 10 then Some 110
-    else if b == 11 then Some 118
-    else if b == 12 then Some 102
-    else if b == 13 then Some 114
-    else if b == 34 then Some 34
-    else if b == 92 then Some 92
+    if b == bell then Some letter_a
+    else if b == backspace then Some letter_b
+    else if b == tab then Some letter_t
+    else if b == line_feed then Some letter_n
+    else if b == vertical_tab then Some letter_v
+    else if b == form_feed then Some letter_f
+    else if b == carriage_return then Some letter_r
+    else if b == quote then Some quote
+    else if b == backslash then Some backslash
     else None
 
 -- a backslash, and a letter or the three octal digits of the byte
 abbrev pub escape_with : Option ℕ → ℕ → List ℕ
-escape_with (Some letter) b = 92 ∷ letter ∷ []
-escape_with None b = 92 ∷ (48 + b / 64) ∷ (48 + b / 8 % 8) ∷ (48 + b % 8) ∷ []
+escape_with (Some letter) b = backslash ∷ letter ∷ []
+escape_with None b = backslash ∷ (digit_0 + b / 64) ∷ (digit_0 + b / 8 % 8) ∷ (digit_0 + b % 8) ∷ []
 
 -- a byte as it stands between the quotes
 abbrev pub spelled_byte : ℕ → List ℕ
@@ -31,4 +32,4 @@ spelled_byte b = if needs_escape b then escape_with (letter_of b) b else b ∷ [
 
 -- a path as it is shown
 abbrev pub quoted : List ℕ → List ℕ
-quoted path = if list_any needs_escape path then 34 ∷ flat_map spelled_byte path ++ 34 ∷ [] else path
+quoted path = if list_any needs_escape path then quote ∷ flat_map spelled_byte path ++ quote ∷ [] else path

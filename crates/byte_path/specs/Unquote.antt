@@ -4,32 +4,33 @@ use Rattle.byte_path.specs.declared.unquoting.QuoteFault.{QuoteFault}
 use Rattle.byte_path.specs.declared.unquoting.Stretch.{Stretch}
 use Rattle.byte_path.specs.declared.unquoting.Stretch.TheVariants.{Closed, Escaped}
 use Rattle.byte_path.specs.declared.unquoting.QuoteFault.TheVariants.{Unclosed, BadEscape, NoMemory}
+use Rattle.byte_path.specs.Characters.{bell, backspace, tab, line_feed, vertical_tab, form_feed, carriage_return, quote, digit_0, digit_3, digit_7, backslash, letter_a, letter_b, letter_f, letter_n, letter_r, letter_t, letter_v}
 
 -- the byte of a, b, t, n, v, f, r, `"` or `\` behind a backslash
 abbrev pub byte_of_letter : ℕ → Option ℕ
 byte_of_letter c =
-    if c == 97 then Some 7
-    else if c == 98 then Some 8
-    else if c == 116 then Some 9
-    else if c == 110 then Some 10
-    else if c == 118 then Some 11
-    else if c == 102 then Some 12
-    else if c == 114 then Some 13
-    else if c == 34 then Some 34
-    else if c == 92 then Some 92
+    if c == letter_a then Some bell
+    else if c == letter_b then Some backspace
+    else if c == letter_t then Some tab
+    else if c == letter_n then Some line_feed
+    else if c == letter_v then Some vertical_tab
+    else if c == letter_f then Some form_feed
+    else if c == letter_r then Some carriage_return
+    else if c == quote then Some quote
+    else if c == backslash then Some backslash
     else None
 
 -- a digit from `0` to `most`
 abbrev pub is_digit_to : ℕ → ℕ → Bool
-is_digit_to most c = nat_le 48 c && nat_le c most
+is_digit_to most c = nat_le digit_0 c && nat_le c most
 
 -- whether a text begins with three octal digits, 000 to 377
 abbrev pub has_octal : List ℕ → Bool
-has_octal text = nat_le 3 (length text) && is_digit_to 51 (slice_index text 0) && is_digit_to 55 (slice_index text 1) && is_digit_to 55 (slice_index text 2)
+has_octal text = nat_le 3 (length text) && is_digit_to digit_3 (slice_index text 0) && is_digit_to digit_7 (slice_index text 1) && is_digit_to digit_7 (slice_index text 2)
 
 -- their number
 abbrev pub octal_value : List ℕ → ℕ
-octal_value text = (slice_index text 0 - 48) * 64 + (slice_index text 1 - 48) * 8 + (slice_index text 2 - 48)
+octal_value text = (slice_index text 0 - digit_0) * 64 + (slice_index text 1 - digit_0) * 8 + (slice_index text 2 - digit_0)
 
 -- a letter's byte, and else that of three octal digits, each with how many bytes it takes
 abbrev pub letter_or_octal : Option ℕ → List ℕ → Option (ℕ × ℕ)
@@ -60,7 +61,7 @@ from_byte false false b text behind = prefixed (b ∷ []) 1 (behind 0)
 abbrev pub unquoted_behind : ℕ → List ℕ → Result (List ℕ × ℕ) QuoteFault
 unquoted_behind skip [] = Err Unclosed
 unquoted_behind (suc skip) (b ∷ text) = prefixed [] 1 (unquoted_behind skip text)
-unquoted_behind zero (b ∷ text) = from_byte (b == 34) (b == 92) b text (λ skip. unquoted_behind skip text)
+unquoted_behind zero (b ∷ text) = from_byte (b == quote) (b == backslash) b text (λ skip. unquoted_behind skip text)
 
 -- the same of a text that begins with a quote
 abbrev pub unquoted : List ℕ → Result (List ℕ × ℕ) QuoteFault

@@ -3,15 +3,16 @@ use Rattle.std.specs.Prelude.{ℕ, ◌-◌, ◌/◌, Bool, false, ◌&&◌, ◌|
 use Rattle.std.specs.List.{list_any, ends_with}
 use Rattle.eol_convert.specs.declared.setting.LineEnds.{LineEnds}
 use Rattle.eol_convert.specs.declared.setting.LineEnds.TheVariants.{Keep, ToCrlf, AutoCrlf}
+use Rattle.byte_path.specs.Characters.{nul, backspace, tab, line_feed, form_feed, carriage_return, substitute, escape, space, delete}
 
 -- what stands for a byte, behind a CR or not: CR LF for an LF that no CR stands before, and any other byte itself
 abbrev pub crlf_for : Bool → ℕ → List ℕ
-crlf_for behind_cr b = if b == 10 && not behind_cr then 13 ∷ 10 ∷ [] else b ∷ []
+crlf_for behind_cr b = if b == line_feed && not behind_cr then carriage_return ∷ line_feed ∷ [] else b ∷ []
 
 -- position by position
 abbrev pub with_crlf_from : Bool → List ℕ → List ℕ
 with_crlf_from behind_cr [] = []
-with_crlf_from behind_cr (b ∷ content) = crlf_for behind_cr b ++ with_crlf_from (b == 13) content
+with_crlf_from behind_cr (b ∷ content) = crlf_for behind_cr b ++ with_crlf_from (b == carriage_return) content
 
 -- each LF that no CR stands before becomes CR LF
 abbrev pub with_crlf : List ℕ → List ℕ
@@ -19,23 +20,23 @@ with_crlf content = with_crlf_from false content
 
 -- what stands for the LF behind a line
 abbrev pub line_end : List ℕ → List ℕ
-line_end line = crlf_for (ends_with nat_eq line (13 ∷ [])) 10
+line_end line = crlf_for (ends_with nat_eq line (carriage_return ∷ [])) line_feed
 
 -- BS, TAB, FF, ESC, and all from the space on but DEL
 abbrev pub is_printing : ℕ → Bool
-is_printing b = b == 8 || b == 9 || b == 12 || b == 27 || (nat_le 32 b && not (b == 127))
+is_printing b = b == backspace || b == tab || b == form_feed || b == escape || (nat_le space b && not (b == delete))
 
 -- any other byte but LF
 abbrev pub is_non_printing : ℕ → Bool
-is_non_printing b = not (is_printing b || b == 10)
+is_non_printing b = not (is_printing b || b == line_feed)
 
 -- CR and NUL stand in no text that is to be changed
 abbrev pub forbids_change : ℕ → Bool
-forbids_change b = b == 13 || b == 0
+forbids_change b = b == carriage_return || b == nul
 
 -- how many bytes aren't printing: a last 1A, which ended a text under DOS, isn't counted
 abbrev pub non_printing : List ℕ → ℕ
-non_printing content = count_by is_non_printing content - (if ends_with nat_eq content (26 ∷ []) then 1 else 0)
+non_printing content = count_by is_non_printing content - (if ends_with nat_eq content (substitute ∷ []) then 1 else 0)
 
 -- Whether a content is a text whose lines end in LF alone: it has neither CR nor NUL, and for each 128 bytes that are
 -- printing at most one that isn't.

@@ -8,13 +8,14 @@ use Rattle.git_config.specs.declared.fault.ConfigFault.TheVariants.{Line}
 use Rattle.git_config.specs.declared.fault.LineKind.TheVariants.{Section}
 use Rattle.git_config.specs.declared.setting.Head.{Head}
 use Rattle.git_config.specs.Text.{is_blank, ends_name, is_dot, behind_blanks, ◌>>=◌, want}
+use Rattle.byte_path.specs.Characters.{line_feed, quote, backslash, close_bracket}
 
 -- `"` and `]`
 abbrev pub is_quote : ℕ → Bool
-is_quote b = b == 34
+is_quote b = b == quote
 
 abbrev pub is_close : ℕ → Bool
-is_close b = b == 93
+is_close b = b == close_bracket
 
 abbrev pub lowered : List ℕ → List ℕ
 lowered text = map to_ascii_lowercase text
@@ -33,11 +34,11 @@ plain_head name = dotted_at (position_or_len is_dot name) name
 -- The flag says that a backslash stands before the text.
 unfoldable pub sub_at : ℕ → Bool → List ℕ → List ℕ → Result (List ℕ × List ℕ) ConfigFault
 sub_at line escaped sub [] = Err (Line line Section)
-sub_at line true sub (b ∷ text) = want (not (b == 10)) (Line line Section) (sub_at line false (sub ++ b ∷ []) text)
+sub_at line true sub (b ∷ text) = want (not (b == line_feed)) (Line line Section) (sub_at line false (sub ++ b ∷ []) text)
 sub_at line false sub (b ∷ text) =
-    want (not (b == 10)) (Line line Section)
-    (if b == 34 then Ok (sub, text)
-    else if b == 92 then sub_at line true sub text
+    want (not (b == line_feed)) (Line line Section)
+    (if b == quote then Ok (sub, text)
+    else if b == backslash then sub_at line true sub text
     else sub_at line false (sub ++ b ∷ []) text)
 
 -- a name, blanks, the subsection in quotes, and `]`

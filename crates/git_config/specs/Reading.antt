@@ -11,10 +11,11 @@ use Rattle.git_config.specs.declared.setting.Setting.{Setting}
 use Rattle.git_config.specs.Text.{is_blank, is_line_end, is_comment_mark, ends_key, behind_blanks, line_end, without_cr, ◌>>=◌, want}
 use Rattle.git_config.specs.Header.{lowered, header_at}
 use Rattle.git_config.specs.Value.{value_at}
+use Rattle.byte_path.specs.Characters.{line_feed, equals, open_bracket}
 
 -- `=`
 abbrev pub is_equals : ℕ → Bool
-is_equals b = b == 61
+is_equals b = b == equals
 
 abbrev pub setting_of : Head → List ℕ → Option (List ℕ) → Setting
 setting_of head key value = record { section = head.section; sub = head.sub; key = lowered key; value = value }
@@ -59,10 +60,10 @@ after_setting place = do
 -- one step, from a byte and what stands behind it: the end of a line, a blank, a comment, a header, or a key with its value
 unfoldable pub step_from : Place → ℕ → List ℕ → Result Place ConfigFault
 step_from place b text =
-    if b == 10 then Ok (record place { line = place.line + 1; rest = text })
+    if b == line_feed then Ok (record place { line = place.line + 1; rest = text })
     else if is_blank b then Ok (record place { rest = text })
     else if is_comment_mark b then Ok (record place { rest = line_end text })
-    else if b == 91 then after_header (record place { rest = text })
+    else if b == open_bracket then after_header (record place { rest = text })
     else after_setting (record place { rest = b ∷ text })
 
 unfoldable pub step_at : Place → List ℕ → Result Place ConfigFault

@@ -5,28 +5,29 @@ use Rattle.std.specs.Char.{is_ascii_alphanumeric}
 use Rattle.byte_path.specs.Front.{begins}
 use Rattle.git_config.specs.declared.fault.ConfigFault.{ConfigFault}
 use Rattle.git_config.specs.declared.fault.ConfigFault.TheVariants.{NoMemory}
+use Rattle.byte_path.specs.Characters.{tab, line_feed, carriage_return, space, hash, hyphen, dot, semicolon}
 
 -- a space or TAB
 abbrev pub is_blank : ℕ → Bool
-is_blank b = b == 32 || b == 9
+is_blank b = b == space || b == tab
 
 abbrev pub is_line_end : ℕ → Bool
-is_line_end b = b == 10
+is_line_end b = b == line_feed
 
 -- `#` or `;`
 abbrev pub is_comment_mark : ℕ → Bool
-is_comment_mark b = b == 35 || b == 59
+is_comment_mark b = b == hash || b == semicolon
 
 -- of a key: a letter, a digit or `-`
 abbrev pub is_key_byte : ℕ → Bool
-is_key_byte b = is_ascii_alphanumeric b || b == 45
+is_key_byte b = is_ascii_alphanumeric b || b == hyphen
 
 -- of a section's name: the same or `.`
 abbrev pub is_name_byte : ℕ → Bool
-is_name_byte b = is_key_byte b || b == 46
+is_name_byte b = is_key_byte b || b == dot
 
 abbrev pub is_dot : ℕ → Bool
-is_dot b = b == 46
+is_dot b = b == dot
 
 abbrev pub ends_blanks : ℕ → Bool
 ends_blanks b = not (is_blank b)
@@ -48,7 +49,7 @@ line_end text = drop (position_or_len is_line_end text) text
 -- each CR right before LF is dropped
 abbrev pub without_cr : List ℕ → List ℕ
 without_cr [] = []
-without_cr (b ∷ text) = if b == 13 && begins is_line_end text then without_cr text else b ∷ without_cr text
+without_cr (b ∷ text) = if b == carriage_return && begins is_line_end text then without_cr text else b ∷ without_cr text
 
 infixl 10 ◌>>=◌
 abbrev pub ◌>>=◌ : {A B : Type 0} → Result A ConfigFault → (A → Result B ConfigFault) → Result B ConfigFault

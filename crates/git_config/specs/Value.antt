@@ -8,24 +8,25 @@ use Rattle.git_config.specs.declared.value.Mark.TheVariants.{End, Comment, Wrong
 use Rattle.git_config.specs.declared.value.Piece.{Piece}
 use Rattle.git_config.specs.declared.value.Piece.TheVariants.{Backslash, Quote, Blank, Byte, Continued}
 use Rattle.git_config.specs.Text.{is_blank, is_comment_mark, line_end}
+use Rattle.byte_path.specs.Characters.{backspace, tab, line_feed, quote, backslash, letter_b, letter_n, letter_t}
 
 -- what stands behind a backslash: the end of the line, or `"`, `\`, n, t or b
 abbrev pub escape_of : ℕ → Mark
 escape_of b =
-    if b == 10 then More Continued
-    else if b == 34 then More (Byte 34)
-    else if b == 92 then More (Byte 92)
-    else if b == 110 then More (Byte 10)
-    else if b == 116 then More (Byte 9)
-    else if b == 98 then More (Byte 8)
+    if b == line_feed then More Continued
+    else if b == quote then More (Byte quote)
+    else if b == backslash then More (Byte backslash)
+    else if b == letter_n then More (Byte line_feed)
+    else if b == letter_t then More (Byte tab)
+    else if b == letter_b then More (Byte backspace)
     else Wrong
 
 -- what a byte outside an escape is, in quotes or outside them
 abbrev pub plain_of : Bool → ℕ → Mark
 plain_of quoted b =
-    if b == 10 then End
-    else if b == 92 then More Backslash
-    else if b == 34 then More Quote
+    if b == line_feed then End
+    else if b == backslash then More Backslash
+    else if b == quote then More Quote
     else if quoted then More (Byte b)
     else if is_comment_mark b then Comment
     else if is_blank b then More (Blank b)

@@ -2,13 +2,14 @@
 use Rattle.std.specs.Prelude.{◌≡◌, ◌⊎◌, ℕ, zero, suc, ◌+◌, ◌-◌, ◌<◌, ◌≤◌, Bool, true, false, ◌&&◌, ◌||◌, ◌==◌, nat_eq, not, List, [], ◌∷◌, ◌++◌, length, take, drop, codes, position, is_some, Option, Some, None, if◌then◌else◌}
 use Rattle.std.specs.List.{list_any, starts_with}
 use Rattle.hex.specs.Hex.{encode_lower}
+use Rattle.byte_path.specs.Characters.{line_feed, space, dollar}
 
 -- `$Id: `, the object name in lower case hex, ` $`
 abbrev pub keyword_text : List ℕ → List ℕ
 keyword_text name = codes "$Id: " ++ encode_lower name ++ codes " $"
 
 abbrev pub is_dollar : ℕ → Bool
-is_dollar b = b == 36
+is_dollar b = b == dollar
 
 -- the bytes but the first and the last
 abbrev pub inner : List ℕ → List ℕ
@@ -16,7 +17,7 @@ inner bytes = take (length bytes - 2) (drop 1 bytes)
 
 -- what may stand between `$Id:` and the next `$`: no LF, and no space but as the first and as the last byte
 abbrev pub is_middle : List ℕ → Bool
-is_middle middle = not (list_any (λ b. b == 10) middle) && not (list_any (λ b. b == 32) (inner middle))
+is_middle middle = not (list_any (λ b. b == line_feed) middle) && not (list_any (λ b. b == space) (inner middle))
 
 -- how many bytes `$Id:`, a middle and a `$` take, where the next `$` stands there behind `$Id:`
 abbrev pub expanded_len : Option ℕ → List ℕ → Option ℕ
@@ -60,4 +61,4 @@ pub record IsFirstKeyword (text : List ℕ) (start len : ℕ) : Type 0 where
 -- a text begins with a keyword, and this is behind it: `$Id$`, or `$Id:`, a middle without `$` and `$`
 abbrev pub BeginsWithKeyword : List ℕ → List ℕ → Type 0
 BeginsWithKeyword text behind = (text ≡ codes "$Id$" ++ behind)
-    ⊎ ((middle : List ℕ) × (text ≡ codes "$Id:" ++ (middle ++ 36 ∷ behind)) × (list_any is_dollar middle ≡ false) × (is_middle middle ≡ true))
+    ⊎ ((middle : List ℕ) × (text ≡ codes "$Id:" ++ (middle ++ dollar ∷ behind)) × (list_any is_dollar middle ≡ false) × (is_middle middle ≡ true))

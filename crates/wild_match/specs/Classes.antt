@@ -3,6 +3,7 @@ use Rattle.std.specs.Prelude.{ℕ, Bool, ◌&&◌, ◌||◌, not, ◌==◌, nat_
 use Rattle.std.specs.Str.{bytes_eq}
 use Rattle.wild_match.specs.declared.classes.Class.{Class}
 use Rattle.wild_match.specs.declared.classes.Class.TheVariants.{Alnum, Alpha, Blank, Cntrl, Digit, Graph, Lower, Print, Punct, Space, Upper, Xdigit}
+use Rattle.byte_path.specs.Characters.{tab, carriage_return, space, bang, digit_0, digit_9, capital_a, capital_f, capital_z, letter_a, letter_f, letter_z, tilde, delete}
 
 -- the class of this name
 unfoldable pub class_named : List ℕ → Option Class
@@ -27,15 +28,15 @@ is_between low high b = nat_le low b && nat_le b high
 
 -- whether a byte is in a class
 abbrev pub is_in_class : Class → ℕ → Bool
-is_in_class Digit b = is_between 48 57 b
-is_in_class Lower b = is_between 97 122 b
-is_in_class Upper b = is_between 65 90 b
-is_in_class Alpha b = is_between 97 122 b || is_between 65 90 b
-is_in_class Alnum b = is_between 97 122 b || is_between 65 90 b || is_between 48 57 b
-is_in_class Blank b = (b == 32) || (b == 9)
-is_in_class Cntrl b = nat_lt b 32 || (b == 127)
-is_in_class Graph b = is_between 33 126 b
-is_in_class Print b = is_between 32 126 b
-is_in_class Punct b = is_between 33 126 b && not (is_between 97 122 b || is_between 65 90 b || is_between 48 57 b)
-is_in_class Space b = (b == 32) || is_between 9 13 b
-is_in_class Xdigit b = is_between 48 57 b || is_between 97 102 b || is_between 65 70 b
+is_in_class Digit b = is_between digit_0 digit_9 b
+is_in_class Lower b = is_between letter_a letter_z b
+is_in_class Upper b = is_between capital_a capital_z b
+is_in_class Alpha b = is_between letter_a letter_z b || is_between capital_a capital_z b
+is_in_class Alnum b = is_between letter_a letter_z b || is_between capital_a capital_z b || is_between digit_0 digit_9 b
+is_in_class Blank b = (b == space) || (b == tab)
+is_in_class Cntrl b = nat_lt b space || (b == delete)
+is_in_class Graph b = is_between bang tilde b
+is_in_class Print b = is_between space tilde b
+is_in_class Punct b = is_between bang tilde b && not (is_between letter_a letter_z b || is_between capital_a capital_z b || is_between digit_0 digit_9 b)
+is_in_class Space b = (b == space) || is_between tab carriage_return b
+is_in_class Xdigit b = is_between digit_0 digit_9 b || is_between letter_a letter_f b || is_between capital_a capital_f b

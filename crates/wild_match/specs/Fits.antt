@@ -2,9 +2,10 @@
 use Rattle.std.specs.Prelude.{ℕ, ◌-◌, Bool, true, false, ◌&&◌, ◌||◌, not, ◌==◌, nat_lt, List, [], ◌∷◌, length, slice_index, if◌then◌else◌}
 use Rattle.std.specs.List.{list_any}
 use Rattle.wild_match.specs.Pieces.{Piece, Slash, One, Run, Folders, Rest, Never, pieces}
+use Rattle.byte_path.specs.Characters.{slash}
 
 abbrev pub is_slash : ℕ → Bool
-is_slash b = b == 47
+is_slash b = b == slash
 
 -- some split of the text into bytes other than `/` and a rest that fits
 abbrev pub some_split : (List ℕ → Bool) → List ℕ → Bool

@@ -5,6 +5,7 @@ use Rattle.wild_match.specs.Classes.{class_named, is_between, is_in_class}
 use Rattle.wild_match.specs.declared.classes.Class.{Class}
 use Rattle.wild_match.specs.declared.sets.Member.{Member}
 use Rattle.wild_match.specs.declared.sets.Member.TheVariants.{Range, Named}
+use Rattle.byte_path.specs.Characters.{hyphen, colon, open_bracket, backslash, close_bracket}
 
 -- whether a member stands for a byte
 abbrev pub has : Member → ℕ → Bool
@@ -19,13 +20,13 @@ and_then (Some x) f = f x
 unfoldable pub end_at : List ℕ → Option (ℕ × ℕ)
 end_at text =
     if length text == 0 then None
-    else if not (slice_index text 0 == 92) then Some (slice_index text 0, 1)
+    else if not (slice_index text 0 == backslash) then Some (slice_index text 0, 1)
     else if length text == 1 then None
     else Some (slice_index text 1, 2)
 
 -- whether `-` stands behind n bytes, and then something that is not `]`
 abbrev pub is_range_at : ℕ → List ℕ → Bool
-is_range_at n text = nat_lt (n + 1) (length text) && (slice_index text n == 45) && not (slice_index text (n + 1) == 93)
+is_range_at n text = nat_lt (n + 1) (length text) && (slice_index text n == hyphen) && not (slice_index text (n + 1) == close_bracket)
 
 -- a range, by its two ends
 abbrev pub range_to : ℕ × ℕ → Option (ℕ × ℕ) → Option (Member × ℕ)
@@ -37,15 +38,15 @@ unfoldable pub range_at : List ℕ → ℕ × ℕ → Option (Member × ℕ)
 range_at text low = if is_range_at low.1 text then range_to low (end_at (drop (low.1 + 1) text)) else Some (Range low.0 low.0, low.1)
 
 abbrev pub is_close : ℕ → Bool
-is_close b = b == 93
+is_close b = b == close_bracket
 
 -- how long a class's name is, by the place of the first `]`, which a `:` stands before
 abbrev pub name_length : List ℕ → ℕ → Option ℕ
-name_length text close = if nat_lt 0 close && (slice_index text (close - 1) == 58) then Some (close - 1) else None
+name_length text close = if nat_lt 0 close && (slice_index text (close - 1) == colon) then Some (close - 1) else None
 
 -- whether a class may begin here
 abbrev pub opens_class : List ℕ → Bool
-opens_class text = nat_lt 1 (length text) && (slice_index text 0 == 91) && (slice_index text 1 == 58)
+opens_class text = nat_lt 1 (length text) && (slice_index text 0 == open_bracket) && (slice_index text 1 == colon)
 
 -- how long the name is of the class that a text begins with
 unfoldable pub class_length : List ℕ → Option ℕ

@@ -4,6 +4,7 @@ use Rattle.std.specs.List.{starts_with}
 use Rattle.std.specs.Str.{bytes_eq}
 use Rattle.wild_match.specs.declared.sets.Member.{Member}
 use Rattle.wild_match.specs.Members.{set_members, is_member}
+use Rattle.byte_path.specs.Characters.{bang, star, slash, question_mark, open_bracket, backslash, caret}
 
 pub data Piece : Type 0 where
   -- a `/`
@@ -34,7 +35,7 @@ set_piece negated n (Some set) = (One (is_in_set negated set.0), n + set.1)
 
 -- whether `!` or `^` stands in front
 abbrev pub is_negated : List ℕ → Bool
-is_negated text = nat_le 1 (length text) && ((slice_index text 0 == 33) || (slice_index text 0 == 94))
+is_negated text = nat_le 1 (length text) && ((slice_index text 0 == bang) || (slice_index text 0 == caret))
 
 -- `[` and what is behind it
 unfoldable pub set_front : List ℕ → Piece × ℕ
@@ -44,17 +45,17 @@ set_front text = if is_negated text then set_piece true 2 (set_members (drop 1 t
 unfoldable pub escape_front : List ℕ → Piece × ℕ
 escape_front text =
     if length text == 0 then (Never, 1)
-    else if slice_index text 0 == 47 then (Slash, 2)
+    else if slice_index text 0 == slash then (Slash, 2)
     else (One (nat_eq (slice_index text 0)), 2)
 
 -- the piece in front of a pattern that is not empty, and how many bytes it takes, away from the start of a part
 unfoldable pub plain_front : List ℕ → Piece × ℕ
 plain_front text =
-    if slice_index text 0 == 42 then (Run, 1)
-    else if slice_index text 0 == 47 then (Slash, 1)
-    else if slice_index text 0 == 63 then (One any_byte, 1)
-    else if slice_index text 0 == 91 then set_front (drop 1 text)
-    else if slice_index text 0 == 92 then escape_front (drop 1 text)
+    if slice_index text 0 == star then (Run, 1)
+    else if slice_index text 0 == slash then (Slash, 1)
+    else if slice_index text 0 == question_mark then (One any_byte, 1)
+    else if slice_index text 0 == open_bracket then set_front (drop 1 text)
+    else if slice_index text 0 == backslash then escape_front (drop 1 text)
     else (One (nat_eq (slice_index text 0)), 1)
 
 -- `**/`
