@@ -1,13 +1,11 @@
 -- A text's first line and its first word.
-use Rattle.std.proofs.Common.{◌≡◌, ℕ, suc, ◌+◌, ◌<◌, ◌≤◌, Bool, true, false, not, cond, eqb, ltb, List, [], ◌∷◌, length, get_or, take, drop, Some, refl, sym, ap, ◌∙◌, inl, inr, arith, length-drop, drop-cons}
+use Rattle.std.proofs.Common.{◌≡◌, ℕ, suc, ◌+◌, ◌<◌, ◌≤◌, Bool, true, false, not, cond, ltb, List, [], ◌∷◌, length, get_or, take, drop, refl, sym, ap, ◌∙◌, inl, inr, arith, length-drop, drop-cons}
 use Rattle.std.proofs.lemmas.Grind.{common_steps}
 use Rattle.std.proofs.lemmas.Bool.{cases_lt, lt-ltb}
 use Rattle.std.proofs.lemmas.List.{drop_all, take_all}
-use Rattle.std.proofs.lemmas.List.Sums.{position_or_len_is, fails_before_first, passes_at_first}
-use Rattle.std.proofs.lemmas.List.Splits.{slice_split_none, slice_split_first, slice_split-cons_yes, length-slice_split}
+use Rattle.std.proofs.lemmas.List.Sums.{fails_before_first, passes_at_first}
+use Rattle.std.proofs.lemmas.List.Splits.{slice_split_none, slice_split_first, slice_split-cons_yes}
 use Rattle.std.specs.List.{filter, slice_split, position_or_len}
-use Rattle.std.specs.Str.Lines.{lines, lines_of_parts, strip_carriage_return}
-use Rattle.memchr.specs.Find.{is_byte, IsFirstByte}
 use Rattle.byte_path.specs.Front.{begins}
 use Rattle.attr_line.specs.Text.{is_gap, ends_gaps, behind_gaps, words}
 
@@ -80,38 +78,3 @@ next_shorter text some =
 
 pub no_word : (text : List ℕ) → behind_gaps text ≡ [] → words text ≡ []
 no_word text none = (behind text).same ∙ ap words none
-
--- ---- lines
-
-abbrev feed : ℕ → Bool
-feed b = eqb b 10
-
-not_feed : (b : ℕ) → (is_byte 10 b ≡ true → ⊥) → feed b ≡ false
-not_feed b none = grind (arith, common_steps)
-
-parts-cons : (line : List ℕ) (parts : List (List ℕ)) → 0 < length parts → lines_of_parts (line ∷ parts) ≡ strip_carriage_return line ∷ lines_of_parts parts
-parts-cons line [] some = absurd (omega arith)
-parts-cons line (x ∷ parts) some = refl
-
-pub first_line : (text : List ℕ) (k : ℕ) → IsFirstByte (is_byte 10) text (Some k) → lines text ≡ strip_carriage_return (take k text) ∷ lines (drop (k + 1) text)
-first_line text k first =
-    let place : position_or_len feed text ≡ k =
-    position_or_len_is feed text k 0 (omega (arith, first.0.high)) (λ j less. not_feed (get_or text j 0) (first.0.before j (omega arith) less)) (λ less. first.1) in
-    let less : position_or_len feed text < length text = omega (arith, place, first.0.high) in
-    let some : 0 < length (slice_split feed (drop (k + 1) text)) = omega (arith, length-slice_split feed (drop (k + 1) text)) in
-    ap lines_of_parts (slice_split_first feed text 0 less)
-    ∙ ap (λ (n : ℕ). lines_of_parts (take n text ∷ slice_split feed (drop (n + 1) text))) place
-    ∙ parts-cons (take k text) (slice_split feed (drop (k + 1) text)) some
-
-some_is : (n : ℕ) → eqb (suc n) 0 ≡ false
-some_is n = grind (arith, common_steps)
-
-last_part : (line : List ℕ) → 0 < length line → lines_of_parts (line ∷ []) ≡ line ∷ []
-last_part [] some = absurd (omega arith)
-last_part (b ∷ line) some = rw (some_is (length line)) refl
-
-pub last_line : (text : List ℕ) → 0 < length text → ((j : ℕ) → 0 ≤ j → j < length text → is_byte 10 (get_or text j 0) ≡ true → ⊥) → lines text ≡ text ∷ []
-last_line text some none =
-    let place : position_or_len feed text ≡ length text =
-    position_or_len_is feed text (length text) 0 (omega arith) (λ j less. not_feed (get_or text j 0) (none j (omega arith) less)) (λ less. absurd (omega arith)) in
-    ap lines_of_parts (slice_split_none feed text (λ k d less. fails_before_first feed text k d (omega (arith, place, less)))) ∙ last_part text some

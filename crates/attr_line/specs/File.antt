@@ -1,7 +1,7 @@
 -- What an attribute file says, by its lines.
 use Rattle.std.specs.Prelude.{ℕ, Bool, true, false, List, map, count_by, min, Option, Some, None}
 use Rattle.std.specs.List.{filter_map}
-use Rattle.std.specs.Str.Lines.{lines}
+use Rattle.bstr.specs.Text.{lines_of, without_terminator}
 use Rattle.byte_path.specs.Front.{unmarked}
 use Rattle.attr_line.specs.declared.file.AttrRow.{AttrRow}
 use Rattle.attr_line.specs.declared.file.Skipped.{Skipped}
@@ -13,7 +13,7 @@ use Rattle.attr_line.specs.Line.{line_outcome}
 
 -- A line ends at LF or at the end of the file. One CR right before the LF goes with it.
 abbrev pub outcomes_at : List ℕ → Bool → List Outcome
-outcomes_at file top = map (line_outcome top) (lines (unmarked file))
+outcomes_at file top = map (line_outcome top) (map without_terminator (lines_of (unmarked file)))
 
 abbrev pub row_of : Outcome → Option AttrRow
 row_of Nothing = None

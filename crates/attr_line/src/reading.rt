@@ -5,7 +5,7 @@ ghost use Rattle.attr_line.specs.Seen.{with_fault, with_outcome};
 use crate::file::{AttrFile, AttrRow, Skipped};
 use crate::line::line_of;
 use crate::outcome::{LineFault, Outcome};
-use crate::text::next_line;
+use bstr::ByteSlice;
 use byte_path::{Items, unmarked};
 use std::alloc::{AllocError, Global};
 
@@ -73,10 +73,8 @@ pub fn read_attributes(alloc: Global, file: &[u8], top: bool) -> Result<AttrFile
             place: 0,
         },
     };
-    let mut rest = unmarked(file);
-    'lines: while let Some((line, behind)) = next_line(rest) {
+    'lines: for line in unmarked(file).lines() {
         reader.take(line_of(alloc, top, line)?)?;
-        rest = behind;
     }
     Ok(AttrFile {
         rows: Items::from_vec(reader.rows),
