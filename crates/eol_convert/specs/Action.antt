@@ -4,7 +4,9 @@ use Rattle.std.specs.Str.{bytes_eq}
 use Rattle.attr_line.specs.declared.state.AttrState.{AttrState}
 use Rattle.attr_line.specs.declared.state.AttrState.TheVariants.{Set, Unset, Unspecified, Value}
 use Rattle.eol_convert.specs.declared.action.Action.{Action}
-use Rattle.eol_convert.specs.declared.action.Action.TheVariants as action
+use Rattle.eol_convert.specs.declared.action.Action.TheVariants.{Binary, TextLf, TextCrlf, AutoLf, AutoCrlf as AutoWithCrlf}
+use Rattle.eol_convert.specs.declared.action.Asked.{Asked}
+use Rattle.eol_convert.specs.declared.action.Asked.TheVariants.{Undefined, Text, Auto, Is}
 use Rattle.eol_convert.specs.declared.action.Ending.{Ending}
 use Rattle.eol_convert.specs.declared.action.Ending.TheVariants.{Lf, Crlf}
 use Rattle.eol_convert.specs.declared.setting.AutoCrlf.{AutoCrlf}
@@ -15,18 +17,18 @@ use Rattle.eol_convert.specs.declared.setting.LineEnds.{LineEnds}
 use Rattle.eol_convert.specs.declared.setting.LineEnds.TheVariants as ends
 
 -- what one of the attributes `text` and `crlf` says
-abbrev pub said : AttrState → Action
-said Set = action.Text
-said Unset = action.Binary
-said Unspecified = action.Undefined
+abbrev pub said : AttrState → Asked
+said Set = Text
+said Unset = Is Binary
+said Unspecified = Undefined
 said (Value value) =
-    if bytes_eq value (codes "auto") then action.Auto
-    else if bytes_eq value (codes "input") then action.TextLf
-    else action.Undefined
+    if bytes_eq value (codes "auto") then Auto
+    else if bytes_eq value (codes "input") then Is TextLf
+    else Undefined
 
 -- step 1: what `text` says, and where it says nothing what `crlf` says
-abbrev pub first_said : Action → Action → Action
-first_said action.Undefined crlf = crlf
+abbrev pub first_said : Asked → Asked → Asked
+first_said Undefined crlf = crlf
 first_said text crlf = text
 
 -- the line end that `eol` names
@@ -39,21 +41,21 @@ named_ending Set = None
 named_ending Unset = None
 named_ending Unspecified = None
 
--- step 2: with a named line end what is automatic stays so, and all else that isn't binary is a text
-abbrev pub with_named : Option Ending → Action → Action
-with_named None asked = asked
-with_named (Some ending) action.Binary = action.Binary
-with_named (Some Lf) action.Auto = action.AutoLf
-with_named (Some Crlf) action.Auto = action.AutoCrlf
-with_named (Some Lf) asked = action.TextLf
-with_named (Some Crlf) asked = action.TextCrlf
+-- a text, and what is one where it looks like one, with that line end
+abbrev pub text_with : Ending → Action
+text_with Lf = TextLf
+text_with Crlf = TextCrlf
 
--- step 3: where no attribute says anything, `core.autocrlf` does
-abbrev pub with_auto : AutoCrlf → Action → Action
-with_auto False action.Undefined = action.Binary
-with_auto True action.Undefined = action.AutoCrlf
-with_auto Input action.Undefined = action.AutoLf
-with_auto auto asked = asked
+abbrev pub auto_with : Ending → Action
+auto_with Lf = AutoLf
+auto_with Crlf = AutoWithCrlf
+
+-- step 2: with a named line end what is automatic stays so, and all else that isn't binary is a text
+abbrev pub with_named : Option Ending → Asked → Asked
+with_named None asked = asked
+with_named (Some ending) (Is Binary) = Is Binary
+with_named (Some ending) Auto = Is (auto_with ending)
+with_named (Some ending) asked = Is (text_with ending)
 
 -- the line end of the settings: `core.autocrlf` stands before `core.eol`
 abbrev pub set_ending : AutoCrlf → EolSetting → Ending
@@ -63,24 +65,29 @@ set_ending False setting.Crlf = Crlf
 set_ending False setting.Lf = Lf
 set_ending False setting.Native = Lf
 
--- step 4: a text without a line end has that of the settings
-abbrev pub with_setting : Ending → Action → Action
-with_setting Crlf action.Text = action.TextCrlf
-with_setting Crlf action.Auto = action.AutoCrlf
-with_setting Lf action.Text = action.TextLf
-with_setting Lf action.Auto = action.AutoLf
-with_setting ending asked = asked
+-- steps 3 and 4: where no attribute says anything, `core.autocrlf` does, and a text without a line end has that of the
+-- settings
+abbrev pub settled : AutoCrlf → EolSetting → Asked → Action
+settled False eol Undefined = Binary
+settled True eol Undefined = AutoWithCrlf
+settled Input eol Undefined = AutoLf
+settled auto eol Text = text_with (set_ending auto eol)
+settled auto eol Auto = auto_with (set_ending auto eol)
+settled auto eol (Is action) = action
+
+-- what is done with a file's line ends: the four steps
+abbrev pub action_of : AttrState → AttrState → AttrState → AutoCrlf → EolSetting → Action
+action_of text crlf eol auto setting =
+    settled auto setting (with_named (named_ending eol) (first_said (said text) (said crlf)))
 
 -- line ends that are LF stay
 abbrev pub ends_of : Action → LineEnds
-ends_of action.TextCrlf = ends.ToCrlf
-ends_of action.AutoCrlf = ends.AutoCrlf
-ends_of asked = ends.Keep
+ends_of TextCrlf = ends.ToCrlf
+ends_of AutoWithCrlf = ends.AutoCrlf
+ends_of Binary = ends.Keep
+ends_of TextLf = ends.Keep
+ends_of AutoLf = ends.Keep
 
--- the four steps
+-- what becomes of them in a checkout
 abbrev pub line_ends_of : AttrState → AttrState → AttrState → AutoCrlf → EolSetting → LineEnds
-line_ends_of text crlf eol auto setting =
-    let asked = first_said (said text) (said crlf) in
-    let named = with_named (named_ending eol) asked in
-    let decided = with_auto auto named in
-    ends_of (with_setting (set_ending auto setting) decided)
+line_ends_of text crlf eol auto setting = ends_of (action_of text crlf eol auto setting)

@@ -1,25 +1,37 @@
 //! What the attributes and the settings ask for.
 ghost use Rattle.std.specs.Prelude.{◌≡◌};
-ghost use Rattle.eol_convert.specs.Action.{said, first_said, named_ending, with_named, with_auto, set_ending, with_setting, ends_of, line_ends_of};
+ghost use Rattle.eol_convert.specs.Action.{said, first_said, named_ending, text_with, auto_with, with_named};
+ghost use Rattle.eol_convert.specs.Action.{set_ending, settled, action_of, ends_of, line_ends_of};
 
 use crate::setting::{AutoCrlf, EolSetting, LineEnds};
 use attr_line::AttrState;
 
+/// What is done with a file's line ends, by its attributes and the settings (gitattributes(5), "End-of-line conversion").
+#[derive(Clone, Copy, Debug, PartialEq, Eq)]
+pub enum Action {
+    /// It is no text, so they stay.
+    Binary,
+    /// A text, with LF in the worktree.
+    TextLf,
+    /// A text, with CR LF in the worktree.
+    TextCrlf,
+    /// A text where it looks like one, with LF in the worktree.
+    AutoLf,
+    /// A text where it looks like one, with CR LF in the worktree.
+    AutoCrlf,
+}
+
 /// What a file's attributes ask for.
 #[derive(Clone, Copy)]
-enum Action {
-    /// A text, whose line end isn't known yet.
-    Text,
-    TextLf,
-    TextCrlf,
-    /// A text where it looks like one, whose line end isn't known yet.
-    Auto,
-    AutoLf,
-    AutoCrlf,
-    /// No text.
-    Binary,
+enum Asked {
     /// Nothing.
     Undefined,
+    /// A text, whose line end isn't known yet.
+    Text,
+    /// A text where it looks like one, whose line end isn't known yet.
+    Auto,
+    /// All is known.
+    Is(Action),
 }
 
 /// A line end of the worktree.
@@ -30,28 +42,28 @@ enum Ending {
 }
 
 /// What one of the attributes `text` and `crlf` says.
-fn said(state: &AttrState) -> Action
+fn said(state: &AttrState) -> Asked
     ensures { result ≡ said state.now }
 {
     match state {
-        AttrState::Set => Action::Text,
-        AttrState::Unset => Action::Binary,
-        AttrState::Unspecified => Action::Undefined,
+        AttrState::Set => Asked::Text,
+        AttrState::Unset => Asked::Is(Action::Binary),
+        AttrState::Unspecified => Asked::Undefined,
         AttrState::Value(value) => match value.as_slice() {
-            b"auto" => Action::Auto,
-            b"input" => Action::TextLf,
-            _ => Action::Undefined,
+            b"auto" => Asked::Auto,
+            b"input" => Asked::Is(Action::TextLf),
+            _ => Asked::Undefined,
         },
     }
 }
 
 /// What `text` says, and where it says nothing what `crlf` says.
-fn first_said(text: Action, crlf: Action) -> Action
+fn first_said(text: Asked, crlf: Asked) -> Asked
     ensures { result ≡ first_said text crlf }
 {
     match text {
-        Action::Undefined => crlf,
-        _ => text,
+        Asked::Undefined => crlf,
+        Asked::Text | Asked::Auto | Asked::Is(_) => text,
     }
 }
 
@@ -69,55 +81,52 @@ fn named_ending(eol: &AttrState) -> Option<Ending>
     }
 }
 
-impl Action {
+impl Ending {
+    fn of_text(self) -> Action
+        ensures { result ≡ text_with self }
+    {
+        match self {
+            Ending::Lf => Action::TextLf,
+            Ending::Crlf => Action::TextCrlf,
+        }
+    }
+
+    fn of_auto(self) -> Action
+        ensures { result ≡ auto_with self }
+    {
+        match self {
+            Ending::Lf => Action::AutoLf,
+            Ending::Crlf => Action::AutoCrlf,
+        }
+    }
+}
+
+impl Asked {
     /// With a named line end what is automatic stays so, and all else that isn't binary is a text.
-    fn with_named(self, named: Option<Ending>) -> Action
+    fn with_named(self, named: Option<Ending>) -> Asked
         ensures { result ≡ with_named named self }
     {
         let Some(ending) = named else {
             return self;
         };
-        match (self, ending) {
-            (Action::Binary, _) => Action::Binary,
-            (Action::Auto, Ending::Lf) => Action::AutoLf,
-            (Action::Auto, Ending::Crlf) => Action::AutoCrlf,
-            (_, Ending::Lf) => Action::TextLf,
-            (_, Ending::Crlf) => Action::TextCrlf,
+        match self {
+            Asked::Is(Action::Binary) => self,
+            Asked::Auto => Asked::Is(ending.of_auto()),
+            Asked::Undefined | Asked::Text | Asked::Is(_) => Asked::Is(ending.of_text()),
         }
     }
 
-    /// Where no attribute says anything, `core.autocrlf` does.
-    fn with_auto(self, auto: AutoCrlf) -> Action
-        ensures { result ≡ with_auto auto self }
+    /// Where no attribute says anything, `core.autocrlf` does. A text without a line end has that of the settings.
+    fn settled(self, auto: AutoCrlf, setting: EolSetting) -> Action
+        ensures { result ≡ settled auto setting self }
     {
         match (self, auto) {
-            (Action::Undefined, AutoCrlf::False) => Action::Binary,
-            (Action::Undefined, AutoCrlf::True) => Action::AutoCrlf,
-            (Action::Undefined, AutoCrlf::Input) => Action::AutoLf,
-            _ => self,
-        }
-    }
-
-    /// A text without a line end has that of the settings.
-    fn with_setting(self, ending: Ending) -> Action
-        ensures { result ≡ with_setting ending self }
-    {
-        match (self, ending) {
-            (Action::Text, Ending::Crlf) => Action::TextCrlf,
-            (Action::Auto, Ending::Crlf) => Action::AutoCrlf,
-            (Action::Text, Ending::Lf) => Action::TextLf,
-            (Action::Auto, Ending::Lf) => Action::AutoLf,
-            _ => self,
-        }
-    }
-
-    fn ends(self) -> LineEnds
-        ensures { result ≡ ends_of self }
-    {
-        match self {
-            Action::TextCrlf => LineEnds::ToCrlf,
-            Action::AutoCrlf => LineEnds::AutoCrlf,
-            _ => LineEnds::Keep,
+            (Asked::Undefined, AutoCrlf::False) => Action::Binary,
+            (Asked::Undefined, AutoCrlf::True) => Action::AutoCrlf,
+            (Asked::Undefined, AutoCrlf::Input) => Action::AutoLf,
+            (Asked::Text, _) => set_ending(auto, setting).of_text(),
+            (Asked::Auto, _) => set_ending(auto, setting).of_auto(),
+            (Asked::Is(action), _) => action,
         }
     }
 }
@@ -128,12 +137,40 @@ fn set_ending(auto: AutoCrlf, setting: EolSetting) -> Ending
 {
     match (auto, setting) {
         (AutoCrlf::True, _) | (AutoCrlf::False, EolSetting::Crlf) => Ending::Crlf,
-        _ => Ending::Lf,
+        (AutoCrlf::Input, _) | (AutoCrlf::False, EolSetting::Lf | EolSetting::Native) => Ending::Lf,
     }
 }
 
-/// What becomes of a file's line ends, from the states of its attributes `text`, `crlf` and `eol` and the settings
+/// What is done with a file's line ends, from the states of its attributes `text`, `crlf` and `eol` and the settings
 /// `core.autocrlf` and `core.eol` (gitattributes(5), "End-of-line conversion"). It takes no memory.
+pub fn action_of(
+    text: &AttrState,
+    crlf: &AttrState,
+    eol: &AttrState,
+    auto: AutoCrlf,
+    setting: EolSetting,
+) -> Action
+    ensures { result ≡ action_of text.now crlf.now eol.now auto setting }
+{
+    first_said(said(text), said(crlf))
+        .with_named(named_ending(eol))
+        .settled(auto, setting)
+}
+
+impl Action {
+    /// What a checkout does: line ends that are LF stay.
+    fn ends(self) -> LineEnds
+        ensures { result ≡ ends_of self }
+    {
+        match self {
+            Action::TextCrlf => LineEnds::ToCrlf,
+            Action::AutoCrlf => LineEnds::AutoCrlf,
+            Action::Binary | Action::TextLf | Action::AutoLf => LineEnds::Keep,
+        }
+    }
+}
+
+/// What becomes of a file's line ends in a checkout, by `action_of` the same states and settings. It takes no memory.
 pub fn line_ends_of(
     text: &AttrState,
     crlf: &AttrState,
@@ -143,9 +180,5 @@ pub fn line_ends_of(
 ) -> LineEnds
     ensures { result ≡ line_ends_of text.now crlf.now eol.now auto setting }
 {
-    first_said(said(text), said(crlf))
-        .with_named(named_ending(eol))
-        .with_auto(auto)
-        .with_setting(set_ending(auto, setting))
-        .ends()
+    action_of(text, crlf, eol, auto, setting).ends()
 }

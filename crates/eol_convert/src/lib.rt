@@ -6,6 +6,6 @@ mod content;
 mod looks;
 mod setting;
 
-pub use action::line_ends_of;
+pub use action::{Action, action_of, line_ends_of};
 pub use content::{changes_ends, to_tree_ends};
 pub use setting::{AutoCrlf, EolSetting, LineEnds};
