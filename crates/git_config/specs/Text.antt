@@ -1,11 +1,13 @@
 -- The bytes of a configuration file, its ends of lines, and what a reader of them answers.
-use Rattle.std.specs.Prelude.{◌≡◌, ℕ, Bool, true, false, ◌&&◌, ◌||◌, ◌==◌, not, List, [], ◌∷◌, drop, Result, Ok, Err, if◌then◌else◌}
+use Rattle.std.specs.Prelude.{ℕ, Bool, ◌&&◌, ◌||◌, ◌==◌, not, List, [], ◌∷◌, drop, Result, if◌then◌else◌}
 use Rattle.std.specs.List.{position_or_len}
 use Rattle.std.specs.Char.{is_ascii_alphanumeric}
 use Rattle.byte_path.specs.Front.{begins}
 use Rattle.git_config.specs.declared.fault.ConfigFault.{ConfigFault}
 use Rattle.git_config.specs.declared.fault.ConfigFault.TheVariants.{NoMemory}
 use Rattle.byte_path.specs.Characters.{tab, line_feed, carriage_return, space, hash, hyphen, dot, semicolon}
+pub use Rattle.byte_path.specs.Steps.{◌>>=◌, want}
+use Rattle.byte_path.specs.Steps.{GivesUnless}
 
 -- a space or TAB
 abbrev pub is_blank : ℕ → Bool
@@ -51,17 +53,6 @@ abbrev pub without_cr : List ℕ → List ℕ
 without_cr [] = []
 without_cr (b ∷ text) = if b == carriage_return && begins is_line_end text then without_cr text else b ∷ without_cr text
 
-infixl 10 ◌>>=◌
-abbrev pub ◌>>=◌ : {A B : Type 0} → Result A ConfigFault → (A → Result B ConfigFault) → Result B ConfigFault
-(Ok x) >>= f = f x
-(Err e) >>= f = Err e
-
--- a test that has to pass, and the fault where it does not
-abbrev pub want : {A : Type 0} → Bool → ConfigFault → Result A ConfigFault → Result A ConfigFault
-want true f r = r
-want false f r = Err f
-
 -- What a function returned, seen by view, is what the grammar gives, unless memory ran out.
 abbrev pub Gives : {X Y : Type 0} → (X → Y) → Result X ConfigFault → Result Y ConfigFault → Type 0
-Gives view (Ok x) read = read ≡ Ok (view x)
-Gives view (Err f) read = (f ≡ NoMemory → ⊥) → read ≡ Err f
+Gives = GivesUnless NoMemory
