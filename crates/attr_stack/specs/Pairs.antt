@@ -10,6 +10,7 @@ use Rattle.attr_line.specs.declared.file.AttrFile.{AttrFile}
 use Rattle.wild_match.specs.Fits.{is_match}
 use Rattle.attr_stack.specs.declared.files.FileAt.{FileAt}
 use Rattle.attr_stack.specs.declared.files.AttrFiles.{AttrFiles}
+use Rattle.byte_path.specs.Characters.{slash}
 
 -- a row whose pattern matches gives its pairs, from last to first; a macro's line gives none
 abbrev pub row_pairs : List ℕ → AttrRow → List Pair
@@ -34,7 +35,7 @@ folder_pairs files folder inner = pairs_inside inner (file_of files folder)
 
 -- the name of a folder of a path ends at each `/`
 abbrev pub ends_folder : List ℕ → ℕ → Bool
-ends_folder path place = not (place == 0) && (slice_index path place == 47)
+ends_folder path place = not (place == 0) && (slice_index path place == slash)
 
 -- what the folder gives whose name ends at a place of a path
 abbrev pub pairs_ending : List FileAt → List ℕ → ℕ → List Pair

@@ -153,6 +153,18 @@ letter_b = 98
 abbrev pub letter_f : ℕ
 letter_f = 102
 
+-- `g`
+abbrev pub letter_g : ℕ
+letter_g = 103
+
+-- `k`
+abbrev pub letter_k : ℕ
+letter_k = 107
+
+-- `m`
+abbrev pub letter_m : ℕ
+letter_m = 109
+
 -- `n`
 abbrev pub letter_n : ℕ
 letter_n = 110

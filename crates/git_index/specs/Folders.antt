@@ -4,6 +4,7 @@ use Rattle.std.specs.List.{list_all, list_any, starts_with}
 use Rattle.std.specs.Borrow.{Bor}
 use Rattle.git_index.specs.declared.entry.Entry.{Entry}
 use Rattle.git_index.specs.Spelling.{pairwise, is_before, is_below, is_in_folder, is_folder_of}
+use Rattle.byte_path.specs.Characters.{slash}
 
 -- what the references of a stack point to
 abbrev pub paths : List (Bor (List ℕ)) → List (List ℕ)
@@ -15,7 +16,7 @@ is_after es path = list_all (λ e. is_before e.path path) es
 
 -- a longer path begins with this one, which is no folder of it
 abbrev pub is_under : List ℕ → List ℕ → Bool
-is_under d t = starts_with nat_eq t d && nat_lt (length d) (length t) && not (slice_index t (length d) == 47)
+is_under d t = starts_with nat_eq t d && nat_lt (length d) (length t) && not (slice_index t (length d) == slash)
 
 -- The stack knows each earlier entry whose path can be a folder of a path that comes later.
 pub record AreOpen (earlier : List Entry) (open_paths : List (List ℕ)) : Type 0 where

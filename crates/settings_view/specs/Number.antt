@@ -4,10 +4,11 @@ use Rattle.std.specs.List.{prefix_len}
 use Rattle.std.specs.Char.{is_ascii_digit, to_ascii_lowercase}
 use Rattle.std.specs.Str.Parse.{digits_value}
 use Rattle.settings_view.specs.declared.number.Number.{Number}
+use Rattle.byte_path.specs.Characters.{hyphen, letter_g, letter_k, letter_m}
 
 -- k, m and g, in either case: 1,024, its square and its cube
 abbrev pub unit_at : ℕ → Option ℕ
-unit_at b = if b == 107 then Some 1024 else if b == 109 then Some (1024 ^ 2) else if b == 103 then Some (1024 ^ 3) else None
+unit_at b = if b == letter_k then Some 1024 else if b == letter_m then Some (1024 ^ 2) else if b == letter_g then Some (1024 ^ 3) else None
 
 -- what the text behind the digits multiplies them by
 abbrev pub factor_of : List ℕ → Option ℕ
@@ -33,7 +34,7 @@ signed negative size = option_map (λ n. record { negative = negative; size = n 
 -- a size, with or without `-` before it
 abbrev pub number_text : List ℕ → Option Number
 number_text [] = None
-number_text (b ∷ text) = if b == 45 then signed true (size_of text) else signed false (size_of (b ∷ text))
+number_text (b ∷ text) = if b == hyphen then signed true (size_of text) else signed false (size_of (b ∷ text))
 
 -- a number; a key without `=` has none
 abbrev pub number_of : Option (List ℕ) → Option Number

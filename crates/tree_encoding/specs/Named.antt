@@ -6,11 +6,12 @@ use Rattle.attr_line.specs.declared.state.AttrState.TheVariants.{Set, Unset, Uns
 use Rattle.tree_encoding.specs.declared.encoding.Encoding.{Encoding}
 use Rattle.tree_encoding.specs.declared.encoding.Encoding.TheVariants.{Utf16, Utf16Le, Utf16Be, Utf16LeBom, Utf32, Utf32Le, Utf32Be}
 use Rattle.tree_encoding.specs.declared.encoding.UnknownEncoding.{UnknownEncoding}
+use Rattle.byte_path.specs.Characters.{hyphen}
 
 -- a name without its first hyphen
 abbrev pub without_hyphen : List ℕ → List ℕ
 without_hyphen [] = []
-without_hyphen (b ∷ name) = if b == 45 then name else b ∷ without_hyphen name
+without_hyphen (b ∷ name) = if b == hyphen then name else b ∷ without_hyphen name
 
 -- whether a value is this name, with case ignored and the first hyphen of the name optional
 unfoldable pub is_name : List ℕ → List ℕ → Bool
