@@ -1,5 +1,6 @@
 -- What a step is made of.
-use Rattle.std.proofs.Common.{⊎_elim, ◌≡◌, ◌==◌, ℕ, zero, suc, ◌⊎◌, inl, inr, Bool, true, false, cond, List, [], ◌∷◌, Option, Some, None, refl, sym, ap, ◌∙◌, eq-eqb, ne_eqb, ◌<◌, length, arith}
+use Rattle.std.proofs.Common.{⊎_elim, ◌≡◌, ◌==◌, ℕ, zero, suc, ◌⊎◌, inl, inr, Bool, true, false, cond, List, [], ◌∷◌}
+use Rattle.std.proofs.Common.{Option, Some, None, refl, sym, ap, ◌∙◌, eq-eqb, ne_eqb, ◌<◌, length, arith}
 use Rattle.std.specs.Prelude.{slice_get}
 use mathlib.Core.Logic.{dite}
 use native.Mathlib.Decide.{ℕ_discrete}

@@ -1,5 +1,6 @@
 -- An effect, as code makes it: a place is set, and a loop goes over all.
-use Rattle.std.proofs.Common.{◌≡◌, ◌==◌, ℕ, zero, suc, Bool, true, false, cond, List, [], ◌∷◌, map, set, Some, refl, sym, ap, ◌∙◌, arith}
+use Rattle.std.proofs.Common.{◌≡◌, ◌==◌, ℕ, zero, suc, Bool, true, false, cond, List, [], ◌∷◌, map, set, Some, refl}
+use Rattle.std.proofs.Common.{sym, ap, ◌∙◌, arith}
 use Rattle.std.specs.Prelude.{slice_get}
 use Rattle.checkout_core.specs.declared.path.PathState.{PathState}
 use Rattle.checkout_core.specs.declared.path.Path.{Path}

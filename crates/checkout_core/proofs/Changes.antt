@@ -1,7 +1,9 @@
 -- What each change leaves of the cursors.
-use Rattle.std.proofs.Common.{◌≡◌, ◌==◌, ℕ, ◌+◌, ◌-◌, ◌<◌, ◌≤◌, min, max, ◌⊎◌, inl, inr, ⊎_elim, Bool, true, false, cond, List, length, set, get_or, Some, refl, sym, ap, ◌∙◌, subst, eq-eqb, ne_eqb, arith}
+use Rattle.std.proofs.Common.{◌≡◌, ◌==◌, ℕ, ◌+◌, ◌-◌, ◌<◌, ◌≤◌, min, max, ◌⊎◌, inl, inr, ⊎_elim, Bool, true, false}
+use Rattle.std.proofs.Common.{cond, List, length, set, get_or, Some, refl, sym, ap, ◌∙◌, subst, eq-eqb, ne_eqb, arith}
 use Rattle.std.specs.Prelude.{slice_get, ◌&&◌, ◌||◌, not, nat_lt, nat_le}
-use Rattle.std.proofs.lemmas.Bool.{and_parts, and_from, lt-ltb, ltb-false, le-ltb, le-leb, lt-leb, not-true, or_cases, or_parts, cases_lt}
+use Rattle.std.proofs.lemmas.Bool.{and_parts, and_from, lt-ltb, ltb-false, le-ltb, le-leb, lt-leb, not-true, or_cases}
+use Rattle.std.proofs.lemmas.Bool.{or_parts, cases_lt}
 use Rattle.std.proofs.lemmas.List.{length-set}
 use Rattle.std.proofs.lemmas.Option.{slice_get_within, get_or_from_slice_get}
 use Rattle.checkout_core.specs.declared.path.PathState.{PathState}
@@ -15,9 +17,11 @@ use Rattle.checkout_core.specs.declared.cursor.Cursor.{Cursor}
 use Rattle.checkout_core.specs.declared.effect.Effect.{Effect}
 use Rattle.checkout_core.specs.declared.effect.Effect.TheVariants.{Moves, Switches, Both}
 use Rattle.checkout_core.specs.declared.effect.Sweep.TheVariants.{Keep}
-use Rattle.checkout_core.specs.States.{Core, is_at, is_unasked, is_named, is_named_below, is_closed, none_of, path_count, named_count, unclosed_count, with_state}
+use Rattle.checkout_core.specs.States.{Core, is_at, is_unasked, is_named, is_named_below, is_closed, none_of}
+use Rattle.checkout_core.specs.States.{path_count, named_count, unclosed_count, with_state}
 use Rattle.checkout_core.specs.Effects.{after, each, driver_after}
-use Rattle.checkout_core.specs.Cursors.{is_named_at, is_noting_list, is_pending, settles, advances, Follows, AllFollow, IsSound, IsCursor, cursor_after, delayed_after, CanFollow, IsFollowable}
+use Rattle.checkout_core.specs.Cursors.{is_named_at, is_noting_list, is_pending, settles, advances, Follows, AllFollow}
+use Rattle.checkout_core.specs.Cursors.{IsSound, IsCursor, cursor_after, delayed_after, CanFollow, IsFollowable}
 use Rattle.checkout_core.proofs.Basics.{some_is, same_or, same_number, item_within}
 use Rattle.checkout_core.proofs.Counts.{num, set_cases, count_set, count_some, count_length, unclosed_set}
 use Rattle.checkout_core.proofs.Follows.{lowest_turn}

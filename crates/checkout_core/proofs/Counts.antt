@@ -1,12 +1,14 @@
 -- How many paths of a driver pass a test, and which is the lowest.
-use Rattle.std.proofs.Common.{◌≡◌, ◌==◌, ℕ, zero, suc, ◌+◌, ◌<◌, ◌≤◌, ◌⊎◌, inl, inr, Bool, true, false, cond, List, [], ◌∷◌, length, set, Option, Some, None, refl, sym, ap, ◌∙◌, subst, eq-eqb, ne_eqb, arith}
+use Rattle.std.proofs.Common.{◌≡◌, ◌==◌, ℕ, zero, suc, ◌+◌, ◌<◌, ◌≤◌, ◌⊎◌, inl, inr, Bool, true, false, cond, List, []}
+use Rattle.std.proofs.Common.{◌∷◌, length, set, Option, Some, None, refl, sym, ap, ◌∙◌, subst, eq-eqb, ne_eqb, arith}
 use Rattle.std.specs.Prelude.{slice_get, ◌&&◌, not, take, nat_lt, is_none}
 use Rattle.std.proofs.lemmas.Bool.{and_parts, and_from, lt-ltb, ltb-true, not-true}
 use Rattle.checkout_core.specs.declared.path.PathState.{PathState}
 use Rattle.checkout_core.specs.declared.path.PathState.TheVariants as path
 use Rattle.checkout_core.specs.declared.path.PathState.TheVariants.{Waiting, Held, Unasked, Closed}
 use Rattle.checkout_core.specs.declared.path.Path.{Path}
-use Rattle.checkout_core.specs.States.{is_at, is_unasked, is_named, is_named_below, is_closed, none_of, path_count, unclosed_count, lowest_unasked, add_one}
+use Rattle.checkout_core.specs.States.{is_at, is_unasked, is_named, is_named_below, is_closed, none_of, path_count}
+use Rattle.checkout_core.specs.States.{unclosed_count, lowest_unasked, add_one}
 use Rattle.checkout_core.specs.Cursors.{asks, is_named_at}
 use Rattle.checkout_core.proofs.Basics.{none_is_some, some_is}
 

@@ -25,9 +25,13 @@ use Rattle.checkout_core.specs.declared.effect.Sweep.TheVariants.{Keep}
 use Rattle.checkout_core.specs.States.{Core, is_named_below, none_of, named_count, lowest_unasked}
 use Rattle.checkout_core.specs.Effects.{swept}
 use Rattle.checkout_core.specs.Verdicts.{refused_cause}
-use Rattle.checkout_core.specs.Conditions.{effect_of, heard_opening, replied_state, replied_desk, replied_sweep, list_desk, list_sweep, list_allowed, named, hand_back, close_at, is_delay, replied, claim, claim_at, open_at, fail_at, answer_in, answer_at, name_in, name_at, list_at, list_step, redo, redo_at, hand_back_at, shut_in, shut_at}
+use Rattle.checkout_core.specs.Conditions.{effect_of, heard_opening, replied_state, replied_desk, replied_sweep}
+use Rattle.checkout_core.specs.Conditions.{list_desk, list_sweep, list_allowed, named, hand_back, close_at, is_delay}
+use Rattle.checkout_core.specs.Conditions.{replied, claim, claim_at, open_at, fail_at, answer_in, answer_at, name_in}
+use Rattle.checkout_core.specs.Conditions.{name_at, list_at, list_step, redo, redo_at, hand_back_at, shut_in, shut_at}
 use Rattle.checkout_core.specs.Cursors.{settles, advances, is_noting_list, IsFollowable}
-use Rattle.checkout_core.proofs.Basics.{none_is_some, given_is, cond_is, cond_not, at_path_is, at_driver_is, at_session_is, at_both_is, at_it}
+use Rattle.checkout_core.proofs.Basics.{none_is_some, given_is, cond_is, cond_not, at_path_is, at_driver_is}
+use Rattle.checkout_core.proofs.Basics.{at_session_is, at_both_is, at_it}
 use Rattle.checkout_core.proofs.Inverses.{unasked_is, late_is, redo_is, claim_is, back_is, open_is, close_moves}
 use Rattle.checkout_core.proofs.Counts.{none_named}
 

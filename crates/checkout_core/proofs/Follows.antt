@@ -1,5 +1,6 @@
 -- The cursors follow the paths.
-use Rattle.std.proofs.Common.{◌≡◌, ◌==◌, ℕ, ◌+◌, ◌<◌, ◌≤◌, ⊎_elim, Bool, true, false, List, length, set, get_or, Some, None, refl, sym, ap, ◌∙◌, subst, eq-eqb, ne_eqb, arith}
+use Rattle.std.proofs.Common.{◌≡◌, ◌==◌, ℕ, ◌+◌, ◌<◌, ◌≤◌, ⊎_elim, Bool, true, false, List, length, set, get_or, Some}
+use Rattle.std.proofs.Common.{None, refl, sym, ap, ◌∙◌, subst, eq-eqb, ne_eqb, arith}
 use Rattle.std.specs.Prelude.{slice_get, ◌&&◌, nat_lt, nat_le}
 use Rattle.std.proofs.lemmas.Bool.{and_from, lt-ltb, ltb-true, leb-true, le-leb, cases_lt}
 use Rattle.std.proofs.lemmas.List.{length-set}
@@ -10,7 +11,8 @@ use Rattle.checkout_core.specs.declared.path.Path.{Path}
 use Rattle.checkout_core.specs.declared.driver.DriverState.{DriverState}
 use Rattle.checkout_core.specs.declared.cursor.Cursor.{Cursor}
 use Rattle.checkout_core.specs.States.{Core, is_at, is_unasked, is_named_below, none_of, path_count, lowest_unasked}
-use Rattle.checkout_core.specs.Cursors.{asks, is_named_at, is_noting_list, Follows, AllFollow, IsSound, IsCursor, HoldsAt}
+use Rattle.checkout_core.specs.Cursors.{asks, is_named_at, is_noting_list, Follows, AllFollow, IsSound, IsCursor}
+use Rattle.checkout_core.specs.Cursors.{HoldsAt}
 use Rattle.checkout_core.proofs.Basics.{some_is, item_within}
 use Rattle.checkout_core.proofs.Counts.{num, set_cases, count_some, none_count, none_false, lowest_some, lowest_none}
 

@@ -18,7 +18,8 @@ use Rattle.checkout_core.specs.declared.effect.Effect.TheVariants.{Moves, Switch
 use Rattle.checkout_core.specs.declared.effect.Sweep.TheVariants.{Keep}
 use Rattle.checkout_core.specs.States.{Core, is_unasked, is_delayed, is_named_below, none_of}
 use Rattle.checkout_core.specs.Verdicts.{held_close, heard_close, unasked_close}
-use Rattle.checkout_core.specs.Conditions.{claim, redo, hand_back, closing, close_at, desk_close, is_off, is_good_reply, is_delay, replied, at_driver, open_first, fresh}
+use Rattle.checkout_core.specs.Conditions.{claim, redo, hand_back, closing, close_at, desk_close, is_off, is_good_reply}
+use Rattle.checkout_core.specs.Conditions.{is_delay, replied, at_driver, open_first, fresh}
 use Rattle.checkout_core.proofs.Basics.{none_is_some, some_is, given_is, cond_is, at_driver_is, of_driver_is}
 
 -- no path of the driver is so

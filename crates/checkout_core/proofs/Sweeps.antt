@@ -1,5 +1,6 @@
 -- The sweep of a driver's delayed and named paths.
-use Rattle.std.proofs.Common.{◌≡◌, ◌==◌, ℕ, zero, suc, ◌+◌, ◌<◌, ◌≤◌, ⊎_elim, Bool, true, false, cond, List, [], ◌∷◌, length, set, get_or, Some, refl, sym, ap, ◌∙◌, subst, ne_eqb, arith}
+use Rattle.std.proofs.Common.{◌≡◌, ◌==◌, ℕ, zero, suc, ◌+◌, ◌<◌, ◌≤◌, ⊎_elim, Bool, true, false, cond, List, [], ◌∷◌}
+use Rattle.std.proofs.Common.{length, set, get_or, Some, refl, sym, ap, ◌∙◌, subst, ne_eqb, arith}
 use Rattle.std.specs.Prelude.{slice_get, ◌&&◌, nat_lt, nat_le, take, drop, ◌++◌}
 use Rattle.std.proofs.lemmas.Grind.{common_steps}
 use Rattle.std.proofs.lemmas.Bool.{cases_Bool, ltb-true, ltb-false, lt-ltb, le-ltb, cases_lt}
@@ -15,9 +16,11 @@ use Rattle.checkout_core.specs.declared.driver.DriverState.{DriverState}
 use Rattle.checkout_core.specs.declared.cursor.Cursor.{Cursor}
 use Rattle.checkout_core.specs.declared.effect.Sweep.{Sweep}
 use Rattle.checkout_core.specs.declared.effect.Sweep.TheVariants.{Keep, Lose, OutOfMemory}
-use Rattle.checkout_core.specs.States.{Core, is_at, is_unasked, is_named, is_closed, path_count, unclosed_count, with_state}
+use Rattle.checkout_core.specs.States.{Core, is_at, is_unasked, is_named, is_closed, path_count, unclosed_count}
+use Rattle.checkout_core.specs.States.{with_state}
 use Rattle.checkout_core.specs.Effects.{each, swept, swept_path}
-use Rattle.checkout_core.specs.Cursors.{is_named_at, is_noting_list, is_pending, IsWithin, Follows, IsSound, IsCursor, swept_paths, all_swept}
+use Rattle.checkout_core.specs.Cursors.{is_named_at, is_noting_list, is_pending, IsWithin, Follows, IsSound, IsCursor}
+use Rattle.checkout_core.specs.Cursors.{swept_paths, all_swept}
 use Rattle.checkout_core.proofs.Basics.{none_is_some, some_is, same_or, get_each, item_within}
 use Rattle.checkout_core.proofs.Bridge.{each_alike, each_step, each_nothing, each_map, kept_paths}
 use Rattle.checkout_core.proofs.Counts.{num, set_cases, count_none}

@@ -1,5 +1,6 @@
 -- When each event is a step, and what it changes then.
-use Rattle.std.specs.Prelude.{◌==◌, ◌&&◌, ℕ, ◌+◌, nat_lt, Bool, true, false, not, cond, length, Option, Some, None, slice_get, ◌||◌}
+use Rattle.std.specs.Prelude.{◌==◌, ◌&&◌, ℕ, ◌+◌, nat_lt, Bool, true, false, not, cond, length, Option, Some, None}
+use Rattle.std.specs.Prelude.{slice_get, ◌||◌}
 use Rattle.filter_words.specs.declared.reply.BreakCause.{BreakCause}
 use Rattle.filter_words.specs.declared.reply.BreakCause.TheVariants as breaks
 use Rattle.filter_words.specs.declared.reply.Reply.{Reply}
@@ -29,8 +30,10 @@ use Rattle.checkout_core.specs.declared.effect.Sweep.TheVariants.{Keep, Lose, Ou
 use Rattle.checkout_core.specs.declared.effect.Effect.{Effect}
 use Rattle.checkout_core.specs.declared.effect.Effect.TheVariants.{Moves, Switches, Both}
 use Rattle.checkout_core.specs.declared.event.Event.{Event}
-use Rattle.checkout_core.specs.declared.event.Event.TheVariants.{Claim, Close, Opened, OpenFailed, Answered, Named, Listed, Redone, HandBack, Shut}
-use Rattle.checkout_core.specs.States.{Core, is_unasked, is_delayed, is_named, is_named_below, none_of, none_below, named_count, lowest_unasked}
+use Rattle.checkout_core.specs.declared.event.Event.TheVariants.{Claim, Close, Opened, OpenFailed, Answered, Named}
+use Rattle.checkout_core.specs.declared.event.Event.TheVariants.{Listed, Redone, HandBack, Shut}
+use Rattle.checkout_core.specs.States.{Core, is_unasked, is_delayed, is_named, is_named_below, none_of, none_below}
+use Rattle.checkout_core.specs.States.{named_count, lowest_unasked}
 use Rattle.checkout_core.specs.Verdicts.{refused_cause, held_close, heard_close, unasked_close}
 
 -- the effect, where the test holds
@@ -111,7 +114,8 @@ heard_opening (opening.Broken b) = heard.Refused (cause.Broken b)
 heard_opening opening.NoMemory = heard.OutOfMemory
 
 abbrev pub fail_at : Core → ℕ → OpenCause → Path → ℕ → Bool → DriverState → Option Effect
-fail_at c p o r d required x = given (is_off x && (is_unasked r.state && (none_below c d p && is_good_opening o))) (Moves p (path.Heard (heard_opening o)))
+fail_at c p o r d required x = given (is_off x && (is_unasked r.state && (none_below c d p && is_good_opening o)))
+    (Moves p (path.Heard (heard_opening o)))
 
 -- Answered: the lowest unasked path, by a driver that is on with smudge
 abbrev pub delayed : Session → Session
@@ -149,14 +153,19 @@ abbrev pub replied : ℕ → ℕ → Session → Reply → Effect
 replied p d s y = Both p (replied_state y) d (replied_desk s y) (replied_sweep y)
 
 abbrev pub answer_in : Core → ℕ → Reply → PathState → ℕ → Session → Option Effect
-answer_in c p y t d s = given (s.caps.smudge && (is_unasked t && (none_below c d p && (is_good_reply y && not (is_delay y && not s.caps.delay))))) (replied p d s y)
+answer_in c p y t d s =
+    given (s.caps.smudge
+    && (is_unasked t && (none_below c d p && (is_good_reply y && not (is_delay y && not s.caps.delay)))))
+    (replied p d s y)
 
 abbrev pub answer_at : Core → ℕ → Reply → Path → ℕ → Bool → DriverState → Option Effect
 answer_at c p y r d required x = at_session x (λ s. answer_in c p y r.state d s)
 
 -- Named: a delayed path, where none is unasked, in the list that is being noted or in a new one
 abbrev pub name_in : Core → ℕ → PathState → ℕ → Session → Option Effect
-name_in c p t d s = given (s.any_delayed && (none_of d is_unasked c.paths && (is_delayed t && (s.noting_list || none_of d is_named c.paths)))) (Both p (path.Named (named_count d c.paths)) d (driver.On (named s)) Keep)
+name_in c p t d s = given
+    (s.any_delayed && (none_of d is_unasked c.paths && (is_delayed t && (s.noting_list || none_of d is_named c.paths))))
+    (Both p (path.Named (named_count d c.paths)) d (driver.On (named s)) Keep)
 
 abbrev pub name_at : Core → ℕ → Path → ℕ → Bool → DriverState → Option Effect
 name_at c p r d required x = at_session x (λ s. name_in c p r.state d s)
@@ -176,7 +185,8 @@ list_sweep _ = Lose
 
 abbrev pub list_allowed : Core → ℕ → Session → ListReply → Bool
 list_allowed c d s (list.Names n) = s.noting_list && n == named_count d c.paths
-list_allowed c d s _ = s.any_delayed && (not s.noting_list && (none_of d is_unasked c.paths && none_of d is_named c.paths))
+list_allowed c d s _ =
+    s.any_delayed && (not s.noting_list && (none_of d is_unasked c.paths && none_of d is_named c.paths))
 
 abbrev pub list_step : Core → ℕ → Session → ListReply → Option Effect
 list_step c d s y = given (list_allowed c d s y) (Switches d (list_desk s y) (list_sweep y))
@@ -186,7 +196,9 @@ list_at c d y x = at_session x (λ s. list_step c d s y)
 
 -- Redone: the named path of the lowest turn
 abbrev pub redo : Core → ℕ → Reply → ℕ → Session → PathState → Option Effect
-redo c p r d s (path.Named t) = given (not s.noting_list && (not (is_delay r) && (is_good_reply r && none_of d (is_named_below t) c.paths))) (replied p d s r)
+redo c p r d s (path.Named t) =
+    given (not s.noting_list && (not (is_delay r) && (is_good_reply r && none_of d (is_named_below t) c.paths)))
+    (replied p d s r)
 redo c p r d s _ = None
 
 abbrev pub redo_at : Core → ℕ → Reply → Path → ℕ → Bool → DriverState → Option Effect
@@ -213,7 +225,8 @@ closing p None = None
 closing p (Some v) = Some (Moves p (Closed v))
 
 abbrev pub desk_close : Core → ℕ → ℕ → Own → Path → (Bool → DriverState → Option Verdict) → Option Effect
-desk_close c p a o r f = of_driver r.start (λ d required. at_driver c d (λ x. cond (a == c.workers + d) (closing p (f required x)) None))
+desk_close c p a o r f =
+    of_driver r.start (λ d required. at_driver c d (λ x. cond (a == c.workers + d) (closing p (f required x)) None))
 
 abbrev pub close_at : Core → ℕ → ℕ → Own → Path → PathState → Option Effect
 close_at c p a o r (Held b raw) = cond (a == b) (closing p (held_close raw o)) None

@@ -1,5 +1,6 @@
 -- What is kept of each driver's paths beside them, so that a step needs no look at all of them.
-use Rattle.std.specs.Prelude.{◌≡◌, ◌==◌, ◌&&◌, ◌||◌, ◌<◌, ◌≤◌, ◌^◌, ℕ, ◌+◌, nat_lt, nat_le, min, max, ◌-◌, map, Bool, true, false, not, cond, List, length, Some, slice_get}
+use Rattle.std.specs.Prelude.{◌≡◌, ◌==◌, ◌&&◌, ◌||◌, ◌<◌, ◌≤◌, ◌^◌, ℕ, ◌+◌, nat_lt, nat_le, min, max, ◌-◌, map, Bool}
+use Rattle.std.specs.Prelude.{true, false, not, cond, List, length, Some, slice_get}
 use Rattle.checkout_core.specs.declared.path.PathState.{PathState}
 use Rattle.checkout_core.specs.declared.path.PathState.TheVariants as path
 use Rattle.checkout_core.specs.declared.path.PathState.TheVariants.{Unasked}
@@ -10,7 +11,8 @@ use Rattle.checkout_core.specs.declared.cursor.Cursor.{Cursor}
 use Rattle.checkout_core.specs.declared.effect.Effect.{Effect}
 use Rattle.checkout_core.specs.declared.effect.Effect.TheVariants.{Moves, Switches, Both}
 use Rattle.checkout_core.specs.declared.effect.Sweep.{Sweep}
-use Rattle.checkout_core.specs.States.{Core, is_at, is_unasked, is_named_below, is_closed, none_of, path_count, named_count, unclosed_count}
+use Rattle.checkout_core.specs.States.{Core, is_at, is_unasked, is_named_below, is_closed, none_of, path_count}
+use Rattle.checkout_core.specs.States.{named_count, unclosed_count}
 use Rattle.checkout_core.specs.Effects.{swept, swept_path}
 
 abbrev pub is_pending : PathState → Bool
@@ -39,12 +41,14 @@ NamedThere c p d t = (r : Path) × (slice_get c.paths p ≡ Some r) × (is_at d 
 
 -- the driver's delayed and named paths lie from `first` on, before `end`
 abbrev pub IsWithin : List Path → ℕ → ℕ → ℕ → Type 0
-IsWithin paths d first end = (p : ℕ) (r : Path) → slice_get paths p ≡ Some r → is_at d r.start ≡ true → is_pending r.state ≡ true → (first ≤ p) × (p < end)
+IsWithin paths d first end = (p : ℕ) (r : Path) → slice_get paths p ≡ Some r → is_at d r.start ≡ true
+    → is_pending r.state ≡ true → (first ≤ p) × (p < end)
 
 -- the cursor of the driver d follows its paths
 pub record Follows (paths : List Path) (noting_list : Bool) (d : ℕ) (k : Cursor) : Type 0 where
   -- no path below this one is unasked
-  pub unasked : (p : ℕ) (r : Path) → slice_get paths p ≡ Some r → is_at d r.start ≡ true → is_unasked r.state ≡ true → k.unasked ≤ p
+  pub unasked : (p : ℕ) (r : Path) → slice_get paths p ≡ Some r → is_at d r.start ≡ true → is_unasked r.state ≡ true
+      → k.unasked ≤ p
   pub unasked_fits : k.unasked ≤ length paths
   pub pending : IsWithin paths d k.first k.end
   pub end_fits : k.end ≤ length paths
@@ -61,9 +65,11 @@ IsCursor c d k = (x : DriverState) × (slice_get c.drivers d ≡ Some x) × Foll
 -- the cursors of all drivers do
 pub record AllFollow (paths : List Path) (drivers : List DriverState) (cursors : List Cursor) : Type 0 where
   pub same_length : length cursors ≡ length drivers
-  pub follow : (d : ℕ) (x : DriverState) (k : Cursor) → slice_get drivers d ≡ Some x → slice_get cursors d ≡ Some k → Follows paths (is_noting_list x) d k
+  pub follow : (d : ℕ) (x : DriverState) (k : Cursor) → slice_get drivers d ≡ Some x → slice_get cursors d ≡ Some k
+      → Follows paths (is_noting_list x) d k
 
-pub record IsSound (workers : ℕ) (paths : List Path) (drivers : List DriverState) (cursors : List Cursor) (unclosed : ℕ) : Type 0 where
+pub record IsSound (workers : ℕ) (paths : List Path) (drivers : List DriverState) (cursors : List Cursor) (unclosed : ℕ)
+    : Type 0 where
   pub few_workers : workers ≤ 16
   pub few_drivers : length drivers ≤ 16
   pub few_paths : length paths < 2 ^ 32
@@ -86,7 +92,10 @@ advances n old new is_next _ _ = false
 abbrev pub IsFollowable : Core → Effect → Type 0
 IsFollowable c (Moves p s) = (r : Path) × (slice_get c.paths p ≡ Some r) × (settles r.state s ≡ true)
 IsFollowable c (Switches d t w) = (x : DriverState) × (slice_get c.drivers d ≡ Some x) × (is_noting_list t ≡ false)
-IsFollowable c (Both p s d t w) = (r : Path) × (x : DriverState) × (slice_get c.paths p ≡ Some r) × (is_at d r.start ≡ true) × (slice_get c.drivers d ≡ Some x) × (swept w s ≡ s) × (advances (named_count d c.paths) (is_noting_list x) (is_noting_list t) (λ u. none_of d (is_named_below u) c.paths) r.state s ≡ true)
+IsFollowable c (Both p s d t w) = (r : Path) × (x : DriverState) × (slice_get c.paths p ≡ Some r)
+    × (is_at d r.start ≡ true) × (slice_get c.drivers d ≡ Some x) × (swept w s ≡ s)
+    × (advances (named_count d c.paths) (is_noting_list x) (is_noting_list t)
+    (λ u. none_of d (is_named_below u) c.paths) r.state s ≡ true)
 
 -- the cursor after one of the driver's paths advanced
 abbrev pub delayed_after : Cursor → ℕ → Cursor

@@ -25,4 +25,5 @@ pub record IsDesk (c : Core) (p a : ℕ) (k : DriverPath) : Type 0 where
 
 -- no path stands there whose desk a is
 abbrev pub LacksDesk : Core → ℕ → ℕ → Type 0
-LacksDesk c p a = (f : Path → ℕ → Bool → DriverState → Option Effect) → at_both c p (λ r d required x. cond (a == c.workers + d) (f r d required x) None) ≡ None
+LacksDesk c p a = (f : Path → ℕ → Bool → DriverState → Option Effect)
+    → at_both c p (λ r d required x. cond (a == c.workers + d) (f r d required x) None) ≡ None

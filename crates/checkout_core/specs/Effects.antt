@@ -46,4 +46,9 @@ each f (x ∷ xs) = f zero x ∷ each (λ i. f (suc i)) xs
 
 -- the state after the effect
 abbrev pub after : Core → Effect → Core
-after c m = record { workers = c.workers; drivers = each (driver_after m) c.drivers; paths = each (path_after m) c.paths }
+after c m = record {
+  workers = c.workers;
+  drivers = each (driver_after m) c.drivers;
+  paths =
+      each (path_after m) c.paths;
+}

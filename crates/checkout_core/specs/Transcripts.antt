@@ -1,6 +1,7 @@
 -- A driver's whole talk, over results alone: what it was sent and answered, without the bytes. gitattributes(5) has it
 -- under "Long Running Filter Process".
-use Rattle.std.specs.Prelude.{◌≡◌, ◌&&◌, ◌++◌, ℕ, Bool, true, false, not, List, [], ◌∷◌, length, map, Option, Some, None}
+use Rattle.std.specs.Prelude.{◌≡◌, ◌&&◌, ◌++◌, ℕ, Bool, true, false, not, List, [], ◌∷◌, length, map, Option, Some}
+use Rattle.std.specs.Prelude.{None}
 use Rattle.filter_words.specs.declared.reply.BreakCause.{BreakCause}
 use Rattle.filter_words.specs.declared.reply.Caps.{Caps}
 use Rattle.filter_words.specs.declared.reply.Reply.{Reply}
@@ -79,7 +80,8 @@ Rounds late [] (Second q y ∷ es) end = ⊥
 Rounds late (p ∷ turns) (First q y ∷ es) end = ⊥
 Rounds late (p ∷ turns) (Listing names y ∷ es) end = ⊥
 Rounds late (p ∷ turns) (Second q y ∷ es) end =
-    (q ≡ p) × (is_delay y ≡ false) × (is_good_reply y ≡ true) × GoesOn (reply_end y) end (es ≡ []) (Rounds late turns es end)
+    (q ≡ p) × (is_delay y ≡ false) × (is_good_reply y ≡ true)
+    × GoesOn (reply_end y) end (es ≡ []) (Rounds late turns es end)
 
 -- a reply to a first request is a delay only where the driver announced it
 abbrev pub may_reply : Bool → Reply → Bool
@@ -121,7 +123,8 @@ IsTalk (p ∷ rest) [] = ⊥
 IsTalk [] (item ∷ items) = ⊥
 IsTalk (p ∷ rest) (NoSession q why ∷ items) = (q ≡ p) × (is_good_opening why ≡ true) × IsTalk rest items
 IsTalk (p ∷ rest) (Session caps es end ∷ items) =
-    (left : List ℕ) × IsSession caps.smudge caps.delay (p ∷ rest) es end left × Then end (IsTalk left items) (items ≡ [])
+    (left : List ℕ) × IsSession caps.smudge caps.delay (p ∷ rest) es end left
+    × Then end (IsTalk left items) (items ≡ [])
 
 -- each exchange with the driver d as events: a list with names is each name in order and then its end
 abbrev pub exchange_notes : ℕ → Exchange → List Event
@@ -140,4 +143,5 @@ end_notes d _ = []
 abbrev pub notes_of : ℕ → List Item → List Event
 notes_of d [] = []
 notes_of d (NoSession p why ∷ items) = event.OpenFailed p why ∷ notes_of d items
-notes_of d (Session caps es end ∷ items) = event.Opened d caps ∷ (exchanges_notes d es ++ (end_notes d end ++ notes_of d items))
+notes_of d (Session caps es end ∷ items) =
+    event.Opened d caps ∷ (exchanges_notes d es ++ (end_notes d end ++ notes_of d items))

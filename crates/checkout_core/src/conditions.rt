@@ -1,6 +1,11 @@
 ghost use Rattle.std.specs.Prelude.{◌≡◌, ◌&&◌, ◌<◌, length, MatchOption, not};
-ghost use Rattle.checkout_core.specs.Verdicts.{unasked_cause, refused_cause, held_close, heard_close, unasked_close, refused_verdict, heard_verdict, is_first, lacks_smudge, unasked_fine};
-ghost use Rattle.checkout_core.specs.Conditions.{is_path_break, effect_of, at_path, at_driver, at_both, claim_at, open_at, fail_at, answer_at, name_at, list_at, redo_at, hand_back_at, shut_at, is_good_opening, is_good_reply, heard_opening, replied, replied_state, replied_desk, replied_sweep, list_desk, list_sweep, list_allowed, is_delay};
+ghost use Rattle.checkout_core.specs.Verdicts.{unasked_cause, refused_cause, held_close, heard_close, unasked_close};
+ghost use Rattle.checkout_core.specs.Verdicts.{refused_verdict, heard_verdict, is_first, lacks_smudge, unasked_fine};
+ghost use Rattle.checkout_core.specs.Conditions.{is_path_break, effect_of, at_path, at_driver, at_both, claim_at};
+ghost use Rattle.checkout_core.specs.Conditions.{open_at, fail_at, answer_at, name_at, list_at, redo_at, hand_back_at};
+ghost use Rattle.checkout_core.specs.Conditions.{shut_at, is_good_opening, is_good_reply, heard_opening, replied};
+ghost use Rattle.checkout_core.specs.Conditions.{replied_state, replied_desk, replied_sweep, list_desk, list_sweep};
+ghost use Rattle.checkout_core.specs.Conditions.{list_allowed, is_delay};
 ghost use Rattle.checkout_core.specs.DriverPaths.{IsDriverPath, LacksDriverPath, IsDesk, LacksDesk};
 ghost use Rattle.checkout_core.specs.declared.event.Event.TheVariants.{Close};
 
@@ -242,7 +247,8 @@ fn unasked_close(required: bool, state: DriverState, path: u32, own: Own) -> Opt
 
 /// Whether a first request may be answered so.
 fn may_answer(session: Session, reply: Reply) -> bool
-    ensures { result ≡ (session.caps.smudge && (is_good_reply reply && not (is_delay reply && not session.caps.delay))) }
+    ensures { result ≡ (session.caps.smudge
+        && (is_good_reply reply && not (is_delay reply && not session.caps.delay))) }
 {
     let delayed = matches!(reply, Reply::Delayed);
     session.caps.smudge && is_good_reply(reply) && !(delayed && !session.caps.delay)

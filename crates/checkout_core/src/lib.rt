@@ -19,6 +19,3 @@ pub use path::{Heard, Path, PathState, Start};
 pub use state::State;
 pub use steps::{Refused, replay, step};
 pub use verdict::{FailCause, FilterCause, ObjectKind, Own, SkipCause, Verdict};
-
-#[cfg(test)]
-mod tests;

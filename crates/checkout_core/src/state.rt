@@ -1,5 +1,7 @@
-ghost use Rattle.std.specs.Prelude.{◌≡◌, ◌==◌, ◌+◌, ◌<◌, ◌≤◌, ◌^◌, ◌&&◌, nat_lt, length, ℕ, true, false, slice_get, Some};
-ghost use Rattle.checkout_core.specs.States.{Core, verdict_at, unclosed_count, is_at, is_unasked, lowest_unasked, none_below, none_of, named_count, is_named, is_named_below};
+ghost use Rattle.std.specs.Prelude.{◌≡◌, ◌==◌, ◌+◌, ◌<◌, ◌≤◌, ◌^◌, ◌&&◌, nat_lt, length, ℕ, true, false, slice_get};
+ghost use Rattle.std.specs.Prelude.{Some};
+ghost use Rattle.checkout_core.specs.States.{Core, verdict_at, unclosed_count, is_at, is_unasked, lowest_unasked};
+ghost use Rattle.checkout_core.specs.States.{none_below, none_of, named_count, is_named, is_named_below};
 ghost use Rattle.checkout_core.specs.Cursors.{IsSound, asks, IsCursor, NamedThere, HoldsAt};
 ghost use Rattle.checkout_core.specs.declared.path.Path.{Path};
 
@@ -53,7 +55,8 @@ fn next_unasked(paths: &[Path], driver: u32, from: u32) -> u32
     requires few { length paths.now < 2 ^ 32 }
     requires within { from ≤ length paths.now }
     ensures range { (from ≤ result) × (result ≤ length paths.now) }
-    ensures before { (p : ℕ) (r : Path) → from ≤ p → p < result → slice_get paths.now p ≡ Some r → asks driver r ≡ false }
+    ensures before { (p : ℕ) (r : Path) → from ≤ p → p < result → slice_get paths.now p ≡ Some r
+        → asks driver r ≡ false }
     ensures found { result < length paths.now → HoldsAt (λ r. asks driver r) paths.now result }
 {
     let end = paths.len() as u32;

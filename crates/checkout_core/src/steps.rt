@@ -10,7 +10,8 @@ pub struct Refused;
 
 /// Takes one event. Where it is no step, the state stays. It takes no memory.
 pub fn step(state: &mut State, event: Event) -> Result<(), Refused>
-    ensures { MatchResult result (λ _. step_of state.old event ≡ Some state.new) (λ _. (step_of state.old event ≡ None) × (state.new ≡ state.old)) }
+    ensures { MatchResult result (λ _. step_of state.old event ≡ Some state.new)
+        (λ _. (step_of state.old event ≡ None) × (state.new ≡ state.old)) }
 {
     let Some(effect) = state.effect(event) else {
         return Err(Refused);
@@ -23,7 +24,8 @@ pub fn step(state: &mut State, event: Event) -> Result<(), Refused>
 /// then the one before it. It takes no memory.
 pub fn replay(state: &mut State, events: &[Event]) -> Result<(), u32>
     requires { length events.now < 2 ^ 32 }
-    ensures { MatchResult result (λ _. replay state.old events.now ≡ Some state.new) (StopsAt state.old events.now state.new) }
+    ensures { MatchResult result (λ _. replay state.old events.now ≡ Some state.new)
+        (StopsAt state.old events.now state.new) }
 {
     let end = events.len() as u32;
     for at in 0..end {

@@ -1,6 +1,7 @@
 -- Each cut talk over the paths of a driver is the notes of some legal history: where a session without smudge is shut,
 -- the paths that it refused are closed before.
-use Rattle.std.proofs.Common.{◌≡◌, ◌==◌, ℕ, zero, suc, ◌+◌, ◌<◌, ◌≤◌, ⊎_elim, Bool, true, false, cond, List, [], ◌∷◌, ◌++◌, Some, refl, sym, ap, ◌∙◌, subst, append_assoc, arith}
+use Rattle.std.proofs.Common.{◌≡◌, ◌==◌, ℕ, zero, suc, ◌+◌, ◌<◌, ◌≤◌, ⊎_elim, Bool, true, false, cond, List, [], ◌∷◌}
+use Rattle.std.proofs.Common.{◌++◌, Some, refl, sym, ap, ◌∙◌, subst, append_assoc, arith}
 use Rattle.std.specs.Prelude.{◌&&◌, ◌||◌, not, map, length}
 use Rattle.std.proofs.lemmas.Bool.{and_parts}
 use Rattle.std.proofs.lemmas.List.{append-nil}
@@ -16,11 +17,14 @@ use Rattle.checkout_core.specs.declared.event.Event.TheVariants as ev
 use Rattle.checkout_core.specs.States.{Core, AreBelow, start, is_at}
 use Rattle.checkout_core.specs.Conditions.{is_good_opening, is_good_reply, is_delay}
 use Rattle.checkout_core.specs.Steps.{replay}
-use Rattle.checkout_core.specs.Notes.{is_of, is_note, notes}
-use Rattle.checkout_core.specs.Talks.{Round, Talk, Between, Refusing, InRound, Ended, talk_next, talk_run, is_with, opened, ask, answered, name, list_may, list_end, ask_again, redone, contains, without, is_empty}
+use Rattle.checkout_core.specs.Notes.{is_note, notes}
+use Rattle.checkout_core.specs.Talks.{Round, Talk, Between, Refusing, InRound, Ended, talk_next, talk_run, is_with}
+use Rattle.checkout_core.specs.Talks.{opened, ask, answered, name, list_may, list_end, ask_again, redone, contains}
+use Rattle.checkout_core.specs.Talks.{without, is_empty}
 use Rattle.checkout_core.specs.Agreements.{IsThrough, rest_after, first_after}
 use Rattle.checkout_core.specs.Desks.{AtDesk, paths_of}
 use Rattle.checkout_core.proofs.Basics.{none_is_some, some_is, same_number, same_or, eqb_self}
+use Rattle.core_laws.proofs.OfDriver.{is_of, at_desk}
 use Rattle.core_laws.proofs.TranscriptsBack.{given_talk, run_first}
 use Rattle.core_laws.proofs.Desks.{desk_begins, desk_notes, desk_goes, desk_refuses, notes_more}
 
@@ -54,7 +58,7 @@ all_map f (x ∷ xs) all = (all.0, all_map f xs all.1)
 
 one_more : (d : ℕ) (s : Start) (ss : List Start) (b : Bool) → is_at d s ≡ b → AllOf (is_of ss d) (paths_of d ss)
     → AllOf (is_of (s ∷ ss) d) (cond b (zero ∷ map (λ i. suc i) (paths_of d ss)) (map (λ i. suc i) (paths_of d ss)))
-one_more d s ss true i all = (i, all_map (is_of (s ∷ ss) d) (paths_of d ss) all)
+one_more d s ss true i all = (at_desk d s ∙ i, all_map (is_of (s ∷ ss) d) (paths_of d ss) all)
 one_more d s ss false i all = all_map (is_of (s ∷ ss) d) (paths_of d ss) all
 
 all_paths : (d : ℕ) (starts : List Start) → AllOf (is_of starts d) (paths_of d starts)

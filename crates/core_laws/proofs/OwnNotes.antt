@@ -1,54 +1,43 @@
 -- The notes of a driver are its desk's own entries but the claims, closes and hand backs.
 use Rattle.std.proofs.Common.{◌≡◌, ◌==◌, ℕ, ◌+◌, ⊎_elim, Bool, true, false, cond, List, [], ◌∷◌, Option, Some, None, refl, sym, ap, ◌∙◌, arith}
-use Rattle.std.specs.Prelude.{◌&&◌, slice_get}
+use Rattle.std.specs.Prelude.{◌&&◌}
 use Rattle.checkout_core.specs.declared.path.Start.{Start}
-use Rattle.checkout_core.specs.declared.path.Start.TheVariants.{Pool, Desk, Done}
 use Rattle.checkout_core.specs.declared.event.Event.{Event}
 use Rattle.checkout_core.specs.declared.event.Event.TheVariants as ev
-use Rattle.checkout_core.specs.States.{is_at}
-use Rattle.checkout_core.specs.Actors.{seat, desk_of, is_actor, is_own, own_entries}
-use Rattle.checkout_core.specs.Notes.{is_of, is_note, notes, is_noted, noted}
+use Rattle.checkout_core.specs.Actors.{driver_at, seat, is_actor, is_own, own_entries}
+use Rattle.checkout_core.specs.Notes.{is_note, notes, is_noted, noted}
 use Rattle.checkout_core.proofs.Basics.{same_or, eqb_self, other_number}
 
-same_seat : (workers d f : ℕ) → (d == f) ≡ (workers + f == workers + d)
+same_seat : (workers d f : ℕ) → (d == f) ≡ (workers + d == workers + f)
 same_seat workers d f = ⊎_elim
-    (λ (k : (d ≡ f) × ((d == f) ≡ true)). k.1 ∙ sym (ap (λ (z : ℕ). workers + f == workers + z) k.0
+    (λ (k : (d ≡ f) × ((d == f) ≡ true)). k.1 ∙ sym (ap (λ (z : ℕ). workers + z == workers + f) k.0
     ∙ eqb_self (workers + f)))
-    (λ (k : (d == f) ≡ false). k ∙ sym (other_number (workers + f) (workers + d) (λ i. apart k i)))
+    (λ (k : (d == f) ≡ false). k ∙ sym (other_number (workers + d) (workers + f) (λ i. apart k i)))
     (same_or d f)
   where
-    apart : (d == f) ≡ false → workers + f ≡ workers + d → ⊥
+    apart : (d == f) ≡ false → workers + d ≡ workers + f → ⊥
     apart k i =
         let same : d ≡ f = omega arith in
         let z : (d == f) ≡ true = ap (λ (z : ℕ). z == f) same ∙ eqb_self f in
         absurd (cc (z, k))
 
-at_seat : (workers d : ℕ) (s : Start) → is_at d s ≡ is_actor (workers + d) (seat workers s)
-at_seat workers d (Desk f required) = same_seat workers d f
-at_seat workers d Pool = refl
-at_seat workers d (Done v) = refl
-
-of_desk : (starts : List Start) (workers d p : ℕ)
-    → is_of starts d p ≡ is_actor (workers + d) (desk_of starts workers p)
-of_desk starts workers d p = go (slice_get starts p)
-  where
-    go : (o : Option Start) → (elim o as (λ _. Bool) [ None ↦ false | Some s ↦ is_at d s ])
-        ≡ is_actor (workers + d) (elim o as (λ _. Option ℕ) [ None ↦ None | Some s ↦ seat workers s ])
-    go None = refl
-    go (Some s) = at_seat workers d s
+-- a driver's desk is its own, whatever workers stand before it
+same_desk : (workers d : ℕ) (o : Option ℕ) → is_actor d o ≡ is_actor (workers + d) (seat workers o)
+same_desk workers d None = refl
+same_desk workers d (Some f) = same_seat workers d f
 
 note_is_own : (starts : List Start) (workers d : ℕ) (e : Event)
     → is_note starts d e ≡ (is_noted e && is_own starts workers (workers + d) e)
 note_is_own starts workers d (ev.Claim p a) = refl
 note_is_own starts workers d (ev.Close p a o) = refl
 note_is_own starts workers d (ev.HandBack p) = refl
-note_is_own starts workers d (ev.Opened f caps) = same_seat workers d f
-note_is_own starts workers d (ev.OpenFailed p o) = of_desk starts workers d p
-note_is_own starts workers d (ev.Answered p y) = of_desk starts workers d p
-note_is_own starts workers d (ev.Named p) = of_desk starts workers d p
-note_is_own starts workers d (ev.Listed f y) = same_seat workers d f
-note_is_own starts workers d (ev.Redone p y) = of_desk starts workers d p
-note_is_own starts workers d (ev.Shut f) = same_seat workers d f
+note_is_own starts workers d (ev.Opened f caps) = same_desk workers d (Some f)
+note_is_own starts workers d (ev.OpenFailed p o) = same_desk workers d (driver_at starts p)
+note_is_own starts workers d (ev.Answered p y) = same_desk workers d (driver_at starts p)
+note_is_own starts workers d (ev.Named p) = same_desk workers d (driver_at starts p)
+note_is_own starts workers d (ev.Listed f y) = same_desk workers d (Some f)
+note_is_own starts workers d (ev.Redone p y) = same_desk workers d (driver_at starts p)
+note_is_own starts workers d (ev.Shut f) = same_desk workers d (Some f)
 
 more_own : (e : Event) (b c : Bool) (ns own : List Event) → is_noted e ≡ c → ns ≡ noted own
     → cond (c && b) (e ∷ ns) ns ≡ noted (cond b (e ∷ own) own)

@@ -1,5 +1,6 @@
 -- What an effect does to the lists of a driver's talk.
-use Rattle.std.proofs.Common.{◌≡◌, ◌==◌, ℕ, zero, suc, ◌+◌, ◌<◌, ◌⊎◌, inl, inr, ⊎_elim, Bool, true, false, cond, List, [], ◌∷◌, Option, Some, None, refl, sym, ap, ◌∙◌, subst, arith}
+use Rattle.std.proofs.Common.{◌≡◌, ◌==◌, ℕ, zero, suc, ◌+◌, ◌<◌, ◌⊎◌, inl, inr, ⊎_elim, Bool, true, false, cond, List}
+use Rattle.std.proofs.Common.{[], ◌∷◌, Option, Some, None, refl, sym, ap, ◌∙◌, subst, arith}
 use Rattle.std.specs.Prelude.{slice_get, ◌&&◌, ◌||◌}
 use Rattle.std.proofs.lemmas.Bool.{and_parts}
 use Rattle.filter_words.specs.declared.reply.Caps.{Caps}
@@ -26,10 +27,13 @@ use Rattle.checkout_core.specs.States.{Core, is_at, is_unasked, lowest_unasked, 
 use Rattle.checkout_core.specs.Effects.{each, after, path_after, driver_after, swept}
 use Rattle.checkout_core.specs.Verdicts.{unasked_cause, refused_cause}
 use Rattle.checkout_core.specs.Conditions.{replied_desk, list_desk, is_delay, fresh, listed, delayed}
-use Rattle.checkout_core.specs.Notes.{is_of, is_note}
+use Rattle.checkout_core.specs.Notes.{is_note}
 use Rattle.checkout_core.specs.Talks.{Round, Talk, Between, Refusing, InRound, talk_next, answered, redone, talk_paths}
 use Rattle.checkout_core.proofs.Basics.{none_is_some, same_or}
-use Rattle.core_laws.proofs.Views.{View, Same, Claimed, HandedBack, ClosedHeld, ClosedTold, ClosedUnasked, SeesOpened, NotOpened, OtherNotOpened, IsAnswered, OtherAnswered, IsRedone, OtherRedone, IsNamed, OtherNamed, SeesListed, SeesShut, Begun, is_sane, is_of_is}
+use Rattle.core_laws.proofs.OfDriver.{is_of, is_of_is}
+use Rattle.core_laws.proofs.Views.{View, Same, Claimed, HandedBack, ClosedHeld, ClosedTold, ClosedUnasked, SeesOpened}
+use Rattle.core_laws.proofs.Views.{NotOpened, OtherNotOpened, IsAnswered, OtherAnswered, IsRedone, OtherRedone, IsNamed}
+use Rattle.core_laws.proofs.Views.{OtherNamed, SeesListed, SeesShut, Begun, is_sane}
 use Rattle.core_laws.proofs.TalkPaths.{taken}
 use Rattle.checkout_core.specs.Agreements.{Lists, IsZero, IsSmudged, round_of, talk_at}
 use Rattle.core_laws.proofs.TalkLists.{shadow}

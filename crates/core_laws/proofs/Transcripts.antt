@@ -1,5 +1,6 @@
 -- The notes of a whole transcript are a talk that is over.
-use Rattle.std.proofs.Common.{◌≡◌, ◌==◌, ℕ, Bool, true, false, cond, List, [], ◌∷◌, ◌++◌, Option, Some, None, refl, sym, ap, ◌∙◌, append_assoc}
+use Rattle.std.proofs.Common.{◌≡◌, ◌==◌, ℕ, Bool, true, false, cond, List, [], ◌∷◌, ◌++◌, Option, Some, None, refl, sym}
+use Rattle.std.proofs.Common.{ap, ◌∙◌, append_assoc}
 use Rattle.std.specs.Prelude.{◌&&◌, not, map, length}
 use Rattle.std.proofs.lemmas.Bool.{and_parts, and_from}
 use Rattle.std.proofs.lemmas.List.{append-nil}
@@ -10,8 +11,12 @@ use Rattle.filter_words.specs.declared.reply.ListReply.TheVariants as list
 use Rattle.checkout_core.specs.declared.event.Event.{Event}
 use Rattle.checkout_core.specs.declared.event.Event.TheVariants as ev
 use Rattle.checkout_core.specs.Conditions.{is_good_opening, is_good_reply, is_delay}
-use Rattle.checkout_core.specs.Talks.{Round, Talk, Between, Refusing, InRound, Ended, talk_step, talk_run, IsOver, opened, answered, redone, contains, without, is_empty}
-use Rattle.checkout_core.specs.Transcripts.{Exchange, First, Listing, Second, End, Shut, NothingLeft, Aborted, Broke, OutOfMemory, Item, NoSession, Session, reply_end, list_reply_end, GoesOn, IsList, are_late, minus, Rounds, may_reply, late_after, Asks, IsSession, Then, IsTalk, exchanges_notes, end_notes, notes_of}
+use Rattle.checkout_core.specs.Talks.{Round, Talk, Between, Refusing, InRound, Ended, talk_step, talk_run, IsOver}
+use Rattle.checkout_core.specs.Talks.{opened, answered, redone, contains, without, is_empty}
+use Rattle.checkout_core.specs.Transcripts.{Exchange, First, Listing, Second, End, Shut, NothingLeft, Aborted, Broke}
+use Rattle.checkout_core.specs.Transcripts.{OutOfMemory, Item, NoSession, Session, reply_end, list_reply_end, GoesOn}
+use Rattle.checkout_core.specs.Transcripts.{IsList, are_late, minus, Rounds, may_reply, late_after, Asks, IsSession}
+use Rattle.checkout_core.specs.Transcripts.{Then, IsTalk, exchanges_notes, end_notes, notes_of}
 use Rattle.checkout_core.proofs.Basics.{eqb_self}
 use Rattle.core_laws.proofs.TalkNotes.{run_step}
 

@@ -1,5 +1,6 @@
 -- A talk that is over is the notes of a whole transcript.
-use Rattle.std.proofs.Common.{◌≡◌, ◌==◌, ℕ, Bool, true, false, cond, List, [], ◌∷◌, ◌++◌, Option, Some, None, refl, sym, ap, ◌∙◌, subst, append_assoc}
+use Rattle.std.proofs.Common.{◌≡◌, ◌==◌, ℕ, Bool, true, false, cond, List, [], ◌∷◌, ◌++◌, Option, Some, None, refl, sym}
+use Rattle.std.proofs.Common.{ap, ◌∙◌, subst, append_assoc}
 use Rattle.std.specs.Prelude.{◌&&◌, not, map, length}
 use Rattle.std.proofs.lemmas.Bool.{and_parts, and_from}
 use Rattle.std.proofs.lemmas.List.{append-nil}
@@ -11,10 +12,14 @@ use Rattle.filter_words.specs.declared.reply.ListReply.TheVariants as list
 use Rattle.checkout_core.specs.declared.event.Event.{Event}
 use Rattle.checkout_core.specs.declared.event.Event.TheVariants as ev
 use Rattle.checkout_core.specs.Conditions.{is_good_opening, is_good_reply, is_delay}
-use Rattle.checkout_core.specs.Talks.{Talk, Between, Refusing, InRound, Ended, talk_next, talk_run, is_with, IsOver, opened, answered, redone, contains, without, is_empty}
-use Rattle.checkout_core.specs.Transcripts.{Exchange, First, Listing, Second, End, Shut, NothingLeft, Aborted, Broke, OutOfMemory, Item, NoSession, Session, are_late, minus, Rounds, may_reply, Asks, IsSession, Then, IsTalk, exchanges_notes, end_notes, notes_of}
+use Rattle.checkout_core.specs.Talks.{Talk, Between, Refusing, InRound, Ended, talk_next, talk_run, is_with, IsOver}
+use Rattle.checkout_core.specs.Talks.{opened, answered, redone, contains, without, is_empty}
+use Rattle.checkout_core.specs.Transcripts.{Exchange, First, Listing, Second, End, Shut, NothingLeft, Aborted, Broke}
+use Rattle.checkout_core.specs.Transcripts.{OutOfMemory, Item, NoSession, Session, are_late, minus, Rounds, may_reply}
+use Rattle.checkout_core.specs.Transcripts.{Asks, IsSession, Then, IsTalk, exchanges_notes, end_notes, notes_of}
 use Rattle.checkout_core.proofs.Basics.{none_is_some, some_is, same_number}
-use Rattle.core_laws.proofs.Transcripts.{Phase, Before, Refuses, Asking, Again, Noting, Over, round, talk_of, said, list_said}
+use Rattle.core_laws.proofs.Transcripts.{Phase, Before, Refuses, Asking, Again, Noting, Over, round, talk_of, said}
+use Rattle.core_laws.proofs.Transcripts.{list_said}
 
 -- these notes bring the talk from this phase to its end, as a transcript does
 abbrev From : ℕ → Phase → List Event → Type 0

@@ -57,11 +57,12 @@ abbrev pub without : ℕ → List ℕ → List ℕ
 without p [] = []
 without p (q ∷ qs) = cond (p == q) (without p qs) (q ∷ without p qs)
 
--- The turns are the listed places, each once.
+-- no place stands twice
 abbrev pub AreApart : List ℕ → Type 0
 AreApart [] = Unit {0}
 AreApart (p ∷ turns) = (contains p turns ≡ false) × AreApart turns
 
+-- The turns are the listed places, each once.
 pub record AreListed (t : Table) : Type 0 where
   pub each : (p : ℕ) → contains p t.turns ≡ is_listed (slice_get t.places p)
   pub once : AreApart t.turns

@@ -11,6 +11,3 @@ mod table;
 
 pub use place::Place;
 pub use table::DelayTable;
-
-#[cfg(test)]
-mod tests;

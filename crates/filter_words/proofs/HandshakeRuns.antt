@@ -27,18 +27,21 @@ or_false : (b : Bool) → (b || false) ≡ b
 or_false true = refl
 or_false false = refl
 
-same_caps : (a b c d : Bool) → a ≡ b → c ≡ d → (let x : Caps = record { smudge = a; delay = c } in x) ≡ (record { smudge = b; delay = d })
+same_caps : (a b c d : Bool) → a ≡ b → c ≡ d → (let x : Caps = record { smudge = a; delay = c } in x)
+    ≡ (record { smudge = b; delay = d })
 same_caps a b c d e f = rw (e, f) refl
 
 more_caps-nil : (caps : Caps) → more_caps caps [] ≡ caps
 unfolding more_caps
 more_caps-nil caps = same_caps _ _ _ _ (or_false caps.smudge) (or_false caps.delay)
 
-more_caps-cons : (caps : Caps) (l : List ℕ) (ls : List (List ℕ)) → more_caps (with_capability caps l) ls ≡ more_caps caps (l ∷ ls)
+more_caps-cons : (caps : Caps) (l : List ℕ) (ls : List (List ℕ)) → more_caps (with_capability caps l) ls
+    ≡ more_caps caps (l ∷ ls)
 unfolding more_caps
 more_caps-cons caps l ls =
     same_caps _ _ _ _
-    (or_assoc caps.smudge (bytes_eq (without_lf l) (codes "capability=smudge")) (has_line ls (codes "capability=smudge")))
+    (or_assoc caps.smudge (bytes_eq (without_lf l) (codes "capability=smudge"))
+    (has_line ls (codes "capability=smudge")))
     (or_assoc caps.delay (bytes_eq (without_lf l) (codes "capability=delay")) (has_line ls (codes "capability=delay")))
 
 more_caps-none : (lines : List (List ℕ)) → more_caps no_caps lines ≡ caps_in lines
@@ -47,7 +50,8 @@ more_caps-none lines = refl
 
 -- ---- what is in the grammar is read well
 
-run_caps : (caps : Caps) (lines : List (List ℕ)) → run handshake_step (On (Capabilities caps)) (block lines) ≡ Done (more_caps caps lines)
+run_caps : (caps : Caps) (lines : List (List ℕ)) → run handshake_step (On (Capabilities caps)) (block lines)
+    ≡ Done (more_caps caps lines)
 run_caps caps [] = ap Done (sym (more_caps-nil caps))
 run_caps caps (l ∷ ls) = run_caps (with_capability caps l) ls ∙ ap Done (more_caps-cons caps l ls)
 
@@ -58,11 +62,13 @@ run_wanted : (line text : List ℕ) (next : HandshakePhase) (ps : List Packet) (
     → run handshake_step (On next) ps ≡ Done g → run handshake_step (wanted_line line text next) ps ≡ Done g
 run_wanted line text next ps g e h = rw (wanted line text next e) h
 
-run_hello : (server version : List ℕ) (lines : List (List ℕ)) → without_lf server ≡ codes "git-filter-server" → without_lf version ≡ codes "version=2"
+run_hello : (server version : List ℕ) (lines : List (List ℕ)) → without_lf server ≡ codes "git-filter-server"
+    → without_lf version ≡ codes "version=2"
     → run handshake_step (On Server) (Payload server ∷ Payload version ∷ Flush ∷ block lines) ≡ Done (caps_in lines)
 run_hello server version lines s v =
     run_wanted server (codes "git-filter-server") Version (Payload version ∷ Flush ∷ block lines) (caps_in lines) s
-    (run_wanted version (codes "version=2") EndOfHello (Flush ∷ block lines) (caps_in lines) v (run_caps no_caps lines ∙ ap Done (more_caps-none lines)))
+    (run_wanted version (codes "version=2") EndOfHello (Flush ∷ block lines) (caps_in lines) v (run_caps no_caps lines
+    ∙ ap Done (more_caps-none lines)))
 
 run_good : (ps : List Packet) (caps : Caps) → IsHandshake ps caps → run handshake_step (On Server) ps ≡ Done caps
 run_good ps caps w = rw (w.whole, w.caps_are) (run_hello w.server w.version w.lines w.server_is w.version_is)
@@ -74,18 +80,26 @@ record CapsAre (caps : Caps) (ps : List Packet) (g : Caps) : Type 0 where
   pub whole : ps ≡ block lines
   pub told : g ≡ more_caps caps lines
 
-caps_take : (caps : Caps) (ps : List Packet) (g : Caps) → run handshake_step (On (Capabilities caps)) ps ≡ Done g → CapsAre caps ps g
+caps_take : (caps : Caps) (ps : List Packet) (g : Caps) → run handshake_step (On (Capabilities caps)) ps ≡ Done g
+    → CapsAre caps ps g
 caps_take caps [] g e = absurd (cc)
 caps_take caps (Payload l ∷ ps) g e =
     let r = caps_take (with_capability caps l) ps g e in
-    record { lines = l ∷ r.lines; whole = ap (λ (z : List Packet). Payload l ∷ z) r.whole; told = r.told ∙ more_caps-cons caps l r.lines }
+    record {
+      lines = l ∷ r.lines;
+      whole = ap (λ (z : List Packet). Payload l ∷ z) r.whole;
+      told = r.told
+          ∙ more_caps-cons caps l r.lines;
+    }
 caps_take caps (Flush ∷ ps) g e =
     let o = over_takes handshake_step caps ps g e in
     record { lines = []; whole = ap (λ (z : List Packet). Flush ∷ z) o.0; told = sym o.1 ∙ sym (more_caps-nil caps) }
 
 -- a line that was wanted
-line_take : (line text : List ℕ) (next : HandshakePhase) (same : Bool) (ps : List Packet) (g : Caps) → bytes_eq (without_lf line) text ≡ same
-    → run handshake_step (wanted_line line text next) ps ≡ Done g → (without_lf line ≡ text) × (run handshake_step (On next) ps ≡ Done g)
+line_take : (line text : List ℕ) (next : HandshakePhase) (same : Bool) (ps : List Packet) (g : Caps)
+    → bytes_eq (without_lf line) text ≡ same
+    → run handshake_step (wanted_line line text next) ps ≡ Done g → (without_lf line ≡ text)
+    × (run handshake_step (On next) ps ≡ Done g)
 line_take line text next true ps g s e = (bytes_eq-true (without_lf line) text s, rw s at e)
 line_take line text next false ps g s e = absurd (broken_stays handshake_step _ ps g (rw s at e))
 
@@ -99,7 +113,12 @@ end_takes [] g e = absurd (cc)
 end_takes (Payload l ∷ ps) g e = absurd (broken_stays handshake_step _ ps g e)
 end_takes (Flush ∷ ps) g e =
     let r = caps_take no_caps ps g e in
-    record { lines = r.lines; whole = ap (λ (z : List Packet). Flush ∷ z) r.whole; told = r.told ∙ more_caps-none r.lines }
+    record {
+      lines = r.lines;
+      whole = ap (λ (z : List Packet). Flush ∷ z) r.whole;
+      told = r.told
+          ∙ more_caps-none r.lines;
+    }
 
 record VersionIs (ps : List Packet) (g : Caps) : Type 0 where
   pub version : List ℕ
@@ -114,7 +133,14 @@ version_takes (Flush ∷ ps) g e = absurd (broken_stays handshake_step _ ps g e)
 version_takes (Payload l ∷ ps) g e =
     let t = line_take l (codes "version=2") EndOfHello _ ps g refl e in
     let r = end_takes ps g t.1 in
-    record { version = l; lines = r.lines; whole = ap (λ (z : List Packet). Payload l ∷ z) r.whole; version_is = t.0; told = r.told }
+    record {
+      version = l;
+      lines = r.lines;
+      whole = ap (λ (z : List Packet). Payload l ∷ z) r.whole;
+      version_is =
+          t.0;
+      told = r.told;
+    }
 
 good_runs : (ps : List Packet) (g : Caps) → run handshake_step (On Server) ps ≡ Done g → IsHandshake ps g
 good_runs [] g e = absurd (cc)

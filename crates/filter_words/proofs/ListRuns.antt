@@ -1,10 +1,12 @@
 -- Good answers to a list request are those of the grammar.
-use Rattle.std.proofs.Common.{◌≡◌, ℕ, Bool, true, false, not, List, [], ◌∷◌, ◌++◌, Option, Some, None, refl, sym, ap, subst, ◌∙◌, append_assoc}
+use Rattle.std.proofs.Common.{◌≡◌, ℕ, Bool, true, false, not, List, [], ◌∷◌, ◌++◌, Option, Some, None, refl, sym, ap}
+use Rattle.std.proofs.Common.{subst, ◌∙◌, append_assoc}
 use Rattle.std.specs.Prelude.{codes}
 use Rattle.std.proofs.lemmas.List.{append-nil}
 use Rattle.pkt_line.specs.Packets.{Packet, Payload, Flush}
 use Rattle.filter_words.specs.Words.{status_after, last_status, value_of}
-use Rattle.filter_words.specs.Listing.{ListPhase, Names, KeyList, GoodList, Listed, Aborted, name_in, after_name, after_value, list_status, list_step}
+use Rattle.filter_words.specs.Listing.{ListPhase, Names, KeyList, GoodList, Listed, Aborted, name_in, after_name}
+use Rattle.filter_words.specs.Listing.{after_value, list_status, list_step}
 use Rattle.filter_words.specs.Grammar.{block}
 use Rattle.filter_words.specs.ListGrammar.{with_name, names_of, AreExpected, EndsList, IsList}
 use Rattle.filter_words.specs.declared.words.Status.{Status}
@@ -19,42 +21,56 @@ use Rattle.filter_words.proofs.GrammarLaws.{Reads}
 not_is : (b : Bool) → b ≡ false → not b ≡ true
 not_is b e = rw e refl
 
-expected_name : (delayed listed : List (List ℕ)) (name : List ℕ) → name_in delayed name ≡ true → name_in listed name ≡ false
+expected_name : (delayed listed : List (List ℕ)) (name : List ℕ) → name_in delayed name ≡ true
+    → name_in listed name ≡ false
     → after_name delayed listed name ≡ On (Names (listed ++ name ∷ []))
 expected_name delayed listed name a b = rw (a, b) refl
 
 -- one line
-run_value : (delayed listed : List (List ℕ)) (o : Option (List ℕ)) (names : List (List ℕ)) (ps : List Packet) (t : AnswerState ListPhase GoodList)
-    → ((before : List (List ℕ)) → AreExpected delayed before names → run (list_step delayed) (On (Names before)) ps ≡ On (KeyList (before ++ names) None))
+run_value : (delayed listed : List (List ℕ)) (o : Option (List ℕ)) (names : List (List ℕ)) (ps : List Packet)
+    (t : AnswerState ListPhase GoodList)
+    → ((before : List (List ℕ)) → AreExpected delayed before names → run (list_step delayed) (On (Names before)) ps
+    ≡ On (KeyList (before ++ names) None))
     → AreExpected delayed listed (with_name o names)
     → run (list_step delayed) (after_value delayed listed o) ps ≡ On (KeyList (listed ++ with_name o names) None)
 run_value delayed listed None names ps t again w = again listed w
 run_value delayed listed (Some name) names ps t again w =
-    rw (expected_name delayed listed name w.0 w.1) (again (listed ++ name ∷ []) w.2 ∙ ap (λ (z : List (List ℕ)). On (KeyList z None)) (append_assoc listed (name ∷ []) names))
+    rw (expected_name delayed listed name w.0 w.1) (again (listed ++ name ∷ []) w.2
+    ∙ ap (λ (z : List (List ℕ)). On (KeyList z None)) (append_assoc listed (name ∷ []) names))
 
 run_names : (delayed listed lines : List (List ℕ)) → AreExpected delayed listed (names_of lines)
     → run (list_step delayed) (On (Names listed)) (block lines) ≡ On (KeyList (listed ++ names_of lines) None)
 run_names delayed listed [] w = ap (λ (z : List (List ℕ)). On (KeyList z None)) (sym (append-nil listed))
 run_names delayed listed (l ∷ ls) w =
-    run_value delayed listed (value_of (codes "pathname") l) (names_of ls) (block ls) Late (λ before v. run_names delayed before ls v) w
+    run_value delayed listed (value_of (codes "pathname") l) (names_of ls) (block ls) Late
+    (λ before v. run_names delayed before ls v) w
 
 run_keys : (delayed listed : List (List ℕ)) (s : Option Status) (keys : List (List ℕ))
     → run (list_step delayed) (On (KeyList listed s)) (block keys) ≡ list_status listed (last_status s keys)
 run_keys delayed listed s [] = refl
 run_keys delayed listed s (k ∷ ks) = run_keys delayed listed (status_after s k) ks
 
-ends_good : (s : Option Status) (names : List (List ℕ)) (g : GoodList) → EndsList s names g → list_status names s ≡ Done g
+ends_good : (s : Option Status) (names : List (List ℕ)) (g : GoodList) → EndsList s names g
+    → list_status names s ≡ Done g
 ends_good s names (Listed listed) e = rw (e.0, e.1) refl
 ends_good s names Aborted e = rw e refl
 
-run_good : (delayed : List (List ℕ)) (ps : List Packet) (g : GoodList) → IsList delayed ps g → run (list_step delayed) (On (Names [])) ps ≡ Done g
+run_good : (delayed : List (List ℕ)) (ps : List Packet) (g : GoodList) → IsList delayed ps g
+    → run (list_step delayed) (On (Names [])) ps ≡ Done g
 run_good delayed ps g w =
-    rw (w.whole, run-append (list_step delayed) (On (Names [])) (block w.lines) (block w.keys), run_names delayed [] w.lines w.expected, run_keys delayed (names_of w.lines) None w.keys)
+    rw (
+      w.whole,
+      run-append (list_step delayed) (On (Names [])) (block w.lines) (block w.keys),
+      run_names delayed []
+          w.lines w.expected,
+      run_keys delayed (names_of w.lines) None w.keys,
+    )
     (ends_good _ _ g w.ends)
 
 -- ---- what is read well is in the grammar
 
-good_ends : (s : Option Status) (names : List (List ℕ)) (g : GoodList) → list_status names s ≡ Done g → EndsList s names g
+good_ends : (s : Option Status) (names : List (List ℕ)) (g : GoodList) → list_status names s ≡ Done g
+    → EndsList s names g
 good_ends None names g e = absurd (cc)
 good_ends (Some status.Success) names (Listed listed) e = (refl, sym (cc))
 good_ends (Some status.Success) names Aborted e = absurd (cc)
@@ -69,7 +85,8 @@ record KeysAre (delayed listed : List (List ℕ)) (s : Option Status) (ps : List
   pub whole : ps ≡ block keys
   pub ends : EndsList (last_status s keys) listed g
 
-keys_flush : (delayed listed : List (List ℕ)) (s : Option Status) (ps : List Packet) (g : GoodList) (t : AnswerState ListPhase GoodList) → list_status listed s ≡ t
+keys_flush : (delayed listed : List (List ℕ)) (s : Option Status) (ps : List Packet) (g : GoodList)
+    (t : AnswerState ListPhase GoodList) → list_status listed s ≡ t
     → run (list_step delayed) t ps ≡ Done g → KeysAre delayed listed s (Flush ∷ ps) g
 keys_flush delayed listed s ps g (Done h) u e =
     let o = over_takes (list_step delayed) h ps g e in
@@ -109,7 +126,8 @@ record ValueIs (delayed listed : List (List ℕ)) (o : Option (List ℕ)) (ps : 
 
 name_take : (delayed listed : List (List ℕ)) (name : List ℕ) (known new : Bool) (ps : List Packet) (g : GoodList)
     → name_in delayed name ≡ known → name_in listed name ≡ new
-    → ((before : List (List ℕ)) → run (list_step delayed) (On (Names before)) ps ≡ Done g → NamesAre delayed before ps g)
+    → ((before : List (List ℕ)) → run (list_step delayed) (On (Names before)) ps ≡ Done g
+    → NamesAre delayed before ps g)
     → run (list_step delayed) (after_name delayed listed name) ps ≡ Done g → ValueIs delayed listed (Some name) ps g
 name_take delayed listed name true false ps g a b again e =
     let r = again (listed ++ name ∷ []) (rw (expected_name delayed listed name a b) at e) in
@@ -121,21 +139,32 @@ name_take delayed listed name true false ps g a b again e =
       ends = rw (append_assoc listed (name ∷ []) (names_of r.lines)) at r.ends;
     }
 name_take delayed listed name false new ps g a b again e = absurd (broken_stays (list_step delayed) _ ps g (rw a at e))
-name_take delayed listed name true true ps g a b again e = absurd (broken_stays (list_step delayed) _ ps g (rw (a, b) at e))
+name_take delayed listed name true true ps g a b again e =
+    absurd (broken_stays (list_step delayed) _ ps g (rw (a, b) at e))
 
 value_take : (delayed listed : List (List ℕ)) (o : Option (List ℕ)) (ps : List Packet) (g : GoodList)
-    → ((before : List (List ℕ)) → run (list_step delayed) (On (Names before)) ps ≡ Done g → NamesAre delayed before ps g)
+    → ((before : List (List ℕ)) → run (list_step delayed) (On (Names before)) ps ≡ Done g
+    → NamesAre delayed before ps g)
     → run (list_step delayed) (after_value delayed listed o) ps ≡ Done g → ValueIs delayed listed o ps g
 value_take delayed listed None ps g again e =
     let r = again listed e in
     record { lines = r.lines; keys = r.keys; whole = r.whole; expected = r.expected; ends = r.ends }
 value_take delayed listed (Some name) ps g again e = name_take delayed listed name _ _ ps g refl refl again e
 
-names_take : (delayed listed : List (List ℕ)) (ps : List Packet) (g : GoodList) → run (list_step delayed) (On (Names listed)) ps ≡ Done g → NamesAre delayed listed ps g
+names_take : (delayed listed : List (List ℕ)) (ps : List Packet) (g : GoodList)
+    → run (list_step delayed) (On (Names listed)) ps ≡ Done g → NamesAre delayed listed ps g
 names_take delayed listed [] g e = absurd (cc)
 names_take delayed listed (Payload l ∷ ps) g e =
-    let r = value_take delayed listed (value_of (codes "pathname") l) ps g (λ before f. names_take delayed before ps g f) e in
-    record { lines = l ∷ r.lines; keys = r.keys; whole = ap (λ (z : List Packet). Payload l ∷ z) r.whole; expected = r.expected; ends = r.ends }
+    let r = value_take delayed listed (value_of (codes "pathname") l) ps g
+    (λ before f. names_take delayed before ps g f) e in
+    record {
+      lines = l ∷ r.lines;
+      keys = r.keys;
+      whole = ap (λ (z : List Packet). Payload l ∷ z) r.whole;
+      expected =
+          r.expected;
+      ends = r.ends;
+    }
 names_take delayed listed (Flush ∷ ps) g e =
     let r = keys_take delayed listed None ps g e in
     record {
@@ -146,7 +175,8 @@ names_take delayed listed (Flush ∷ ps) g e =
       ends = subst (λ (z : List (List ℕ)). EndsList (last_status None r.keys) z g) (sym (append-nil listed)) r.ends;
     }
 
-good_runs : (delayed : List (List ℕ)) (ps : List Packet) (g : GoodList) → run (list_step delayed) (On (Names [])) ps ≡ Done g → IsList delayed ps g
+good_runs : (delayed : List (List ℕ)) (ps : List Packet) (g : GoodList) → run (list_step delayed) (On (Names [])) ps
+    ≡ Done g → IsList delayed ps g
 good_runs delayed ps g e =
     let r = names_take delayed [] ps g e in
     record { lines = r.lines; keys = r.keys; whole = r.whole; expected = r.expected; ends = r.ends }

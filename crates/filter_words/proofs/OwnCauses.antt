@@ -45,21 +45,26 @@ breaks_own : (d : Bool) (ps : List Packet) (why : BreakCause) → BreaksReply d 
 breaks_own d ps why (inl h) = first_own d _ why h.breaks
 breaks_own d ps why (inr h) = last_own _ why h.breaks
 
-pub reply_own : (d : Bool) (ps : List Packet) (why : BreakCause) → outcome (reply_step d) limit reply_start ps ≡ Broken why → IsOwnCause why
+pub reply_own : (d : Bool) (ps : List Packet) (why : BreakCause) → outcome (reply_step d) limit reply_start ps
+    ≡ Broken why → IsOwnCause why
 reply_own d ps why e =
-    elim (broken_reading (reply_step d) (KeyList None) (IsReply d) (BreaksReply d) (reads_reply d) (breaks_reply d) ps why e).cause_is [
+    elim (broken_reading (reply_step d) (KeyList None) (IsReply d) (BreaksReply d) (reads_reply d) (breaks_reply d) ps
+    why e).cause_is [
       | inl l ↦ subst IsOwnCause (sym l.0) tt
       | inr x ↦ breaks_own d ps why x.1
     ]
 
-pub handshake_own : (ps : List Packet) (why : BreakCause) → outcome handshake_step limit handshake_start ps ≡ Broken why → IsOwnCause why
+pub handshake_own : (ps : List Packet) (why : BreakCause) → outcome handshake_step limit handshake_start ps ≡ Broken why
+    → IsOwnCause why
 handshake_own ps why e =
-    elim (broken_reading handshake_step Server IsHandshake BreaksHandshake reads_handshake breaks_handshake ps why e).cause_is [
+    elim (broken_reading handshake_step Server IsHandshake BreaksHandshake reads_handshake breaks_handshake ps why
+    e).cause_is [
       | inl l ↦ subst IsOwnCause (sym l.0) tt
       | inr x ↦ subst IsOwnCause (sym x.1.0) tt
     ]
 
-pub reply_delayed : (d : Bool) (ps : List Packet) → outcome (reply_step d) limit reply_start ps ≡ Done good.Delayed → d ≡ true
+pub reply_delayed : (d : Bool) (ps : List Packet) → outcome (reply_step d) limit reply_start ps ≡ Done good.Delayed
+    → d ≡ true
 reply_delayed d ps e = go (ends_well (reply_step d) (KeyList None) (IsReply d) (reads_reply d) ps good.Delayed e).0
   where
     go : IsReply d ps good.Delayed → d ≡ true

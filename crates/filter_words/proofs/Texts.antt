@@ -12,9 +12,11 @@ on_ok (Err e) P Q f p = p
 pub spelling_all-append : (ps qs : List Packet) → spelling_all (ps ++ qs) ≡ spelling_all ps ++ spelling_all qs
 spelling_all-append [] qs = refl
 spelling_all-append (p ∷ ps) qs =
-    ap (λ (z : List ℕ). spelling p ++ z) (spelling_all-append ps qs) ∙ sym (append_assoc (spelling p) (spelling_all ps) (spelling_all qs))
+    ap (λ (z : List ℕ). spelling p ++ z) (spelling_all-append ps qs)
+    ∙ sym (append_assoc (spelling p) (spelling_all ps) (spelling_all qs))
 
-four_texts : (old one two three new a b c d : List ℕ) → one ≡ old ++ a → two ≡ one ++ b → three ≡ two ++ c → new ≡ three ++ d
+four_texts : (old one two three new a b c d : List ℕ) → one ≡ old ++ a → two ≡ one ++ b → three ≡ two ++ c
+    → new ≡ three ++ d
     → new ≡ old ++ (a ++ (b ++ (c ++ d)))
 four_texts old one two three new a b c d f g h k =
     k
@@ -26,7 +28,8 @@ pub four_packets : {A E : Type 0} (r : Result A E) (old one two three new : List
     → one ≡ old ++ spelling p → two ≡ one ++ spelling q → three ≡ two ++ spelling s → OnOk r (new ≡ three ++ spelling t)
     → OnOk r (new ≡ old ++ spelling_all (p ∷ q ∷ s ∷ t ∷ []))
 four_packets r old one two three new p q s t f g h =
-    on_ok r _ _ (λ (k : new ≡ three ++ spelling t). four_texts old one two three new (spelling p) (spelling q) (spelling s) (spelling t ++ []) f g h (k ∙ ap (λ (z : List ℕ). three ++ z) (sym (append-nil (spelling t)))))
+    on_ok r _ _ (λ (k : new ≡ three ++ spelling t). four_texts old one two three new (spelling p) (spelling q)
+    (spelling s) (spelling t ++ []) f g h (k ∙ ap (λ (z : List ℕ). three ++ z) (sym (append-nil (spelling t)))))
 
 -- packets, then packets, and then one
 pub three_texts : {A E : Type 0} (r : Result A E) (old one two new : List ℕ) (ps qs : List Packet) (p : Packet)
@@ -42,14 +45,17 @@ three_texts r old one two new ps qs p f g =
     ∙ ap (λ (z : List ℕ). old ++ z)
     (ap (λ (z : List ℕ). spelling_all ps ++ (spelling_all qs ++ z)) (sym (append-nil (spelling p)))
     ∙ (sym (append_assoc (spelling_all ps) (spelling_all qs) (spelling_all (p ∷ [])))
-    ∙ (ap (λ (z : List ℕ). z ++ spelling_all (p ∷ [])) (sym (spelling_all-append ps qs)) ∙ sym (spelling_all-append (ps ++ qs) (p ∷ [])))))))))
+    ∙ (ap (λ (z : List ℕ). z ++ spelling_all (p ∷ [])) (sym (spelling_all-append ps qs))
+    ∙ sym (spelling_all-append (ps ++ qs) (p ∷ [])))))))))
 
 -- two packets, then packets, and then one
 pub keys_texts : {A E : Type 0} (r : Result A E) (old one two three new : List ℕ) (p q t : Packet) (ps : List Packet)
-    → one ≡ old ++ spelling p → two ≡ one ++ spelling q → three ≡ two ++ spelling_all ps → OnOk r (new ≡ three ++ spelling t)
+    → one ≡ old ++ spelling p → two ≡ one ++ spelling q → three ≡ two ++ spelling_all ps
+    → OnOk r (new ≡ three ++ spelling t)
     → OnOk r (new ≡ old ++ spelling_all (p ∷ q ∷ ps ++ t ∷ []))
 keys_texts r old one two three new p q t ps f g h =
     on_ok r _ _
     (λ (k : new ≡ three ++ spelling t).
-    four_texts old one two three new (spelling p) (spelling q) (spelling_all ps) (spelling t ++ []) f g h (k ∙ ap (λ (z : List ℕ). three ++ z) (sym (append-nil (spelling t))))
+    four_texts old one two three new (spelling p) (spelling q) (spelling_all ps) (spelling t ++ []) f g h
+    (k ∙ ap (λ (z : List ℕ). three ++ z) (sym (append-nil (spelling t))))
     ∙ ap (λ (z : List ℕ). old ++ (spelling p ++ (spelling q ++ z))) (sym (spelling_all-append ps (t ∷ []))))

@@ -10,14 +10,17 @@ use Rattle.filter_words.specs.declared.answer_state.AnswerState.TheVariants.{On,
 -- bytes that begin no packet, or at the end of all that is sent.
 abbrev pub StopsWith : {P G : Type 0} → AnswerState P G → List ℕ → List ℕ → AnswerState P G → Type 0
 StopsWith (On phase) rest ahead result =
-    ((result ≡ Broken cause.BadPacket) × HasFault rest) ⊎ ((result ≡ Broken cause.Ended) × IsPartial rest × (ahead ≡ []))
+    ((result ≡ Broken cause.BadPacket) × HasFault rest)
+    ⊎ ((result ≡ Broken cause.Ended) × IsPartial rest × (ahead ≡ []))
 StopsWith (Done good) rest ahead result = result ≡ Done good
 StopsWith (Broken why) rest ahead result = result ≡ Broken why
 StopsWith Late rest ahead result = ⊥
 
--- The answer at the front of all that a driver sends: its packets are spelled by `used`, `rest` was taken behind them, and
+-- The answer at the front of all that a driver sends: its packets are spelled by `used`, `rest` was taken behind them,
+-- and
 -- `ahead` was not.
-pub record IsAnswer {P G : Type 0} (step : P → Packet → AnswerState P G) (start : AnswerState P G) (used rest ahead : List ℕ) (result : AnswerState P G) : Type 0 where
+pub record IsAnswer {P G : Type 0} (step : P → Packet → AnswerState P G) (start : AnswerState P G) (used rest ahead :
+    List ℕ) (result : AnswerState P G) : Type 0 where
   pub packets : List Packet
   pub spelled : SpellAll packets used
   pub stops : StopsWith (outcome step limit start packets) rest ahead result

@@ -15,7 +15,8 @@ IsOpen G good ps = (more : List Packet) × (g : G) × good (ps ++ more) g
 
 -- The last packet broke the answer: without it some continuation was good, and with it the limit is passed, or else the
 -- grammar gives the cause and no continuation is good.
-pub record IsBroken (G : Type 0) (good : List Packet → G → Type 0) (breaks : List Packet → BreakCause → Type 0) (ps : List Packet) (why : BreakCause) : Type 0 where
+pub record IsBroken (G : Type 0) (good : List Packet → G → Type 0) (breaks : List Packet → BreakCause → Type 0)
+    (ps : List Packet) (why : BreakCause) : Type 0 where
   pub before : List Packet
   pub last : Packet
   pub whole : ps ≡ before ++ last ∷ []

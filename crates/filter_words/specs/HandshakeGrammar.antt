@@ -14,7 +14,11 @@ abbrev pub has_line : List (List ℕ) → List ℕ → Bool
 has_line lines text = list_any (λ line. bytes_eq (without_lf line) text) lines
 
 abbrev pub caps_in : List (List ℕ) → Caps
-caps_in lines = record { smudge = has_line lines (codes "capability=smudge"); delay = has_line lines (codes "capability=delay") }
+caps_in lines = record {
+  smudge = has_line lines (codes "capability=smudge");
+  delay =
+      has_line lines (codes "capability=delay");
+}
 
 -- two lines and a flush packet, and then lines of capabilities up to a flush packet
 pub record IsHandshake (ps : List Packet) (caps : Caps) : Type 0 where

@@ -1,5 +1,6 @@
 -- Good answers to a list request.
-use Rattle.std.specs.Prelude.{◌≡◌, ◌⊎◌, ◌&&◌, not, map, ℕ, Bool, true, false, Option, Some, None, List, [], ◌∷◌, ◌++◌, codes}
+use Rattle.std.specs.Prelude.{◌≡◌, ◌⊎◌, ◌&&◌, not, map, ℕ, Bool, true, false, Option, Some, None, List, [], ◌∷◌, ◌++◌}
+use Rattle.std.specs.Prelude.{codes}
 use Rattle.pkt_line.specs.Packets.{Packet, Payload}
 use Rattle.filter_words.specs.Words.{value_of, last_status}
 use Rattle.filter_words.specs.Listing.{GoodList, Listed, Aborted, name_in}
@@ -71,7 +72,8 @@ pub record HasBadStatus (delayed before : List (List ℕ)) (ps : List Packet) (w
 
 -- the cause of an answer that is broken within the limit, where these were listed before
 abbrev pub BreaksFrom : List (List ℕ) → List (List ℕ) → List Packet → BreakCause → Type 0
-BreaksFrom delayed before ps why = ((why ≡ cause.StrangePath) × HasStrangeName delayed before ps) ⊎ HasBadStatus delayed before ps why
+BreaksFrom delayed before ps why = ((why ≡ cause.StrangePath) × HasStrangeName delayed before ps)
+    ⊎ HasBadStatus delayed before ps why
 
 abbrev pub BreaksList : List (List ℕ) → List Packet → BreakCause → Type 0
 BreaksList delayed ps why = BreaksFrom delayed [] ps why

@@ -27,7 +27,8 @@ name_in names name = list_any (λ known. bytes_eq known name) names
 -- a name that is delayed, and wasn't listed before
 abbrev pub after_name : List (List ℕ) → List (List ℕ) → List ℕ → AnswerState ListPhase GoodList
 after_name delayed listed name =
-    if name_in delayed name && not (name_in listed name) then On (Names (listed ++ name ∷ [])) else Broken cause.StrangePath
+    if name_in delayed name && not (name_in listed name) then On (Names (listed ++ name ∷ [])) else Broken
+    cause.StrangePath
 
 abbrev pub after_value : List (List ℕ) → List (List ℕ) → Option (List ℕ) → AnswerState ListPhase GoodList
 after_value delayed listed None = On (Names listed)

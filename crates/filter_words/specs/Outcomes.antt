@@ -13,7 +13,8 @@ limit = 536870912
 
 -- What packets make of an answer, with room for so many bytes. `step` says what one more packet makes of a phase. The
 -- room is looked at first.
-abbrev pub outcome : {P G : Type 0} → (P → Packet → AnswerState P G) → ℕ → AnswerState P G → List Packet → AnswerState P G
+abbrev pub outcome : {P G : Type 0} → (P → Packet → AnswerState P G) → ℕ → AnswerState P G → List Packet
+    → AnswerState P G
 outcome step room state [] = state
 outcome step room (On phase) (p ∷ ps) =
     if nat_lt room (size p) then outcome step room (Broken cause.TooLong) ps

@@ -11,7 +11,8 @@ abbrev pub hello_packets : List Packet
 hello_packets = line (codes "git-filter-client") ∷ line (codes "version=2") ∷ Flush ∷ []
 
 abbrev pub caps_packets : List Packet
-caps_packets = line (codes "capability=clean") ∷ line (codes "capability=smudge") ∷ line (codes "capability=delay") ∷ Flush ∷ []
+caps_packets = line (codes "capability=clean") ∷ line (codes "capability=smudge") ∷ line (codes "capability=delay")
+    ∷ Flush ∷ []
 
 abbrev pub list_packets : List Packet
 list_packets = line (codes "command=list_available_blobs") ∷ Flush ∷ []

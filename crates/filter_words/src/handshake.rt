@@ -80,8 +80,10 @@ pub fn handshake_after_packet(
     state: AnswerState<HandshakePhase, Caps>,
     packet: &ReadPacket<'_>,
 ) -> (u64, AnswerState<HandshakePhase, Caps>)
-    ensures counted { (next : HandshakePhase) → result.1 ≡ AnswerState.On next → result.0 + size (packet_of packet.now) ≡ room }
-    ensures outcome { (rest : List Packet) → outcome handshake_step result.0 result.1 rest ≡ outcome handshake_step room state (packet_of packet.now ∷ rest) }
+    ensures counted { (next : HandshakePhase) → result.1 ≡ AnswerState.On next
+        → result.0 + size (packet_of packet.now) ≡ room }
+    ensures outcome { (rest : List Packet) → outcome handshake_step result.0 result.1 rest
+        ≡ outcome handshake_step room state (packet_of packet.now ∷ rest) }
 {
     let AnswerState::On(phase) = state else {
         return (room, AnswerState::Late);

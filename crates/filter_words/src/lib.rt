@@ -9,8 +9,6 @@ mod packet;
 mod reply;
 mod requests;
 mod smudge_reply;
-#[cfg(test)]
-mod tests;
 mod words;
 
 pub use answer_state::{AnswerState, MOST_ANSWER};

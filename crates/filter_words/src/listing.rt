@@ -1,11 +1,13 @@
-ghost use Rattle.std.specs.Prelude.{◌≡◌, ◌+◌, ◌<◌, ◌^◌, vec_len, length, ◌&&◌, not, ◌∷◌, ◌++◌, [], List, ℕ, map, codes, IfOk};
+ghost use Rattle.std.specs.Prelude.{◌≡◌, ◌+◌, ◌<◌, ◌^◌, vec_len, length, ◌&&◌, not, ◌∷◌, ◌++◌, [], List, ℕ, map};
+ghost use Rattle.std.specs.Prelude.{codes, IfOk};
 ghost use Rattle.pkt_line.specs.Packets.{Packet, Payload, Flush, size};
 ghost use Rattle.std.specs.Option.{option_map};
 ghost use Rattle.std.specs.List.{list_any};
 ghost use Rattle.std.specs.Str.{bytes_eq};
 ghost use Rattle.filter_words.specs.Outcomes.{outcome, limit, packet_of};
 ghost use Rattle.filter_words.specs.Words.{value_of};
-ghost use Rattle.filter_words.specs.Listing.{reply_of_good, list_reply_in, name_in, after_name, after_value, list_step, list_status, list_start};
+ghost use Rattle.filter_words.specs.Listing.{reply_of_good, list_reply_in, name_in, after_name, after_value};
+ghost use Rattle.filter_words.specs.Listing.{list_step, list_status, list_start};
 ghost use Rattle.filter_words.specs.ListStates.{good_list, list_state, list_phase, bytes_of};
 
 use crate::answer_state::{AnswerState, MOST_ANSWER};
@@ -41,7 +43,8 @@ pub struct Listing<'a> {
 
 /// The reply to a list request that ended well and named so many paths.
 pub fn list_reply(end: ListEnd, count: u32) -> ListReply
-    ensures { (names : List (List ℕ)) → count ≡ length names → result ≡ reply_of_good (good_list end names) }
+    ensures { (names : List (List ℕ)) → count ≡ length names
+        → result ≡ reply_of_good (good_list end names) }
 {
     match end {
         ListEnd::Success => {
@@ -59,7 +62,8 @@ impl Listing<'_> {
     /// The reply that has come to its end.
     pub fn reply(&self) -> Option<ListReply>
         requires { vec_len self.now.names < 2 ^ 32 }
-        ensures { result ≡ list_reply_in (list_state self.now.state (map bytes_of self.now.names.items)) }
+        ensures { result ≡ list_reply_in
+            (list_state self.now.state (map bytes_of self.now.names.items)) }
     {
         match &self.state {
             AnswerState::Done(end) => Some(list_reply(*end, self.names.len() as u32)),
@@ -71,7 +75,8 @@ impl Listing<'_> {
 
 /// What a flush packet makes of the answer to a list request.
 pub fn list_after_flush(part: ListPart) -> AnswerState<ListPart, ListEnd>
-    ensures { (delayed names : List (List ℕ)) → list_state result names ≡ list_step delayed (list_phase part names) Flush }
+    ensures { (delayed names : List (List ℕ))
+        → list_state result names ≡ list_step delayed (list_phase part names) Flush }
 {
     match part {
         ListPart::Names => AnswerState::On(ListPart::KeyList(None)),
@@ -107,7 +112,8 @@ fn has_slice(names: &[&[u8]], name: &[u8]) -> bool
 
 /// Whether a path is delayed and wasn't listed before.
 fn is_expected(delayed: &[&[u8]], listed: &[&[u8]], name: &[u8]) -> bool
-    ensures { result ≡ (name_in (map bytes_of delayed.now) name.now && not (name_in (map bytes_of listed.now) name.now)) }
+    ensures { result ≡ (name_in (map bytes_of delayed.now) name.now
+        && not (name_in (map bytes_of listed.now) name.now)) }
 {
     has_slice(delayed, name) && !has_slice(listed, name)
 }
@@ -118,7 +124,8 @@ fn name_listed<'a>(
     mut names: Vec<&'a [u8]>,
     name: &'a [u8],
 ) -> Result<Listing<'a>, AllocError>
-    ensures { IfOk result (λ l. list_state l.state (map bytes_of l.names.items) ≡ after_name (map bytes_of delayed.now) (map bytes_of names.entry.items) name.now) }
+    ensures { IfOk result (λ l. list_state l.state (map bytes_of l.names.items)
+        ≡ after_name (map bytes_of delayed.now) (map bytes_of names.entry.items) name.now) }
 {
     if is_expected(delayed, names.as_slice(), name) {
         names.push(name)?;
@@ -141,7 +148,9 @@ fn list_after_line<'a>(
     names: Vec<&'a [u8]>,
     line: &'a [u8],
 ) -> Result<Listing<'a>, AllocError>
-    ensures { IfOk result (λ l. list_state l.state (map bytes_of l.names.items) ≡ list_step (map bytes_of delayed.now) (list_phase part (map bytes_of names.entry.items)) (Payload line.now)) }
+    ensures { IfOk result (λ l. list_state l.state (map bytes_of l.names.items)
+        ≡ list_step (map bytes_of delayed.now) (list_phase part (map bytes_of names.entry.items))
+        (Payload line.now)) }
 {
     match part {
         ListPart::Names => match listed_name(line) {
@@ -167,9 +176,14 @@ pub fn list_after_packet<'a>(
     listing: Listing<'a>,
     packet: &ReadPacket<'a>,
 ) -> Result<(u64, Listing<'a>), AllocError>
-    ensures counted { IfOk result (λ next. (part : ListPart) → next.1.state ≡ AnswerState.On part → next.0 + size (packet_of packet.now) ≡ room) }
-    ensures outcome { IfOk result (λ next. (rest : List Packet) → outcome (list_step (map bytes_of delayed.now)) next.0 (list_state next.1.state (map bytes_of next.1.names.items)) rest
-        ≡ outcome (list_step (map bytes_of delayed.now)) room (list_state listing.entry.state (map bytes_of listing.entry.names.items)) (packet_of packet.now ∷ rest)) }
+    ensures counted { IfOk result (λ next. (part : ListPart) → next.1.state ≡ AnswerState.On part
+        → next.0 + size (packet_of packet.now) ≡ room) }
+    ensures outcome { IfOk result (λ next. (rest : List Packet)
+        → outcome (list_step (map bytes_of delayed.now)) next.0
+        (list_state next.1.state (map bytes_of next.1.names.items)) rest
+        ≡ outcome (list_step (map bytes_of delayed.now)) room
+        (list_state listing.entry.state (map bytes_of listing.entry.names.items))
+        (packet_of packet.now ∷ rest)) }
 {
     let Listing { state, names } = listing;
     let AnswerState::On(part) = state else {

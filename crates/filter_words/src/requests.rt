@@ -1,6 +1,8 @@
 ghost use Rattle.std.specs.Prelude.{◌≡◌, ◌≤◌, ◌++◌, take, length, codes, OnOk, OnErr, vec_len};
 ghost use Rattle.pkt_line.specs.Spelling.{spelling, spelling_all};
-ghost use Rattle.filter_words.specs.Requests.{line, hello_packets, caps_packets, list_packets, can_delay_line, smudge_keys, smudge_packets, hello_text, caps_text, list_text, keys_text, first_text};
+ghost use Rattle.filter_words.specs.Requests.{line, hello_packets, caps_packets, list_packets, can_delay_line};
+ghost use Rattle.filter_words.specs.Requests.{smudge_keys, smudge_packets, hello_text, caps_text, list_text};
+ghost use Rattle.filter_words.specs.Requests.{keys_text, first_text};
 
 use pkt_line::{push_content, push_flush, push_line};
 use std::alloc::{AllocError, Global};
@@ -56,7 +58,8 @@ pub fn push_smudge(
 ) -> Result<(), AllocError>
     requires some { 1 ≤ length path.now }
     requires few { length path.now ≤ 4096 }
-    ensures ok { OnOk result (out.new.items ≡ out.old.items ++ first_text path.now can_delay content.now) }
+    ensures ok { OnOk result
+        (out.new.items ≡ out.old.items ++ first_text path.now can_delay content.now) }
     ensures err { OnErr result (out.new.items ≡ out.old.items) }
 {
     let before = out.len();
@@ -134,7 +137,9 @@ fn push_smudge_packets(
     content: &[u8],
 ) -> Result<(), AllocError>
     requires { length path.now ≤ 4096 }
-    ensures ok { OnOk result (out.new.items ≡ out.old.items ++ spelling_all (smudge_packets path.now can_delay content.now)) }
+    ensures ok { OnOk result
+        (out.new.items ≡ out.old.items
+        ++ spelling_all (smudge_packets path.now can_delay content.now)) }
     ensures err { OnErr result (take (vec_len out.old) out.new.items ≡ out.old.items) }
 {
     push_key_packets(alloc, out, path, can_delay)?;
@@ -149,7 +154,8 @@ fn push_key_packets(
     can_delay: bool,
 ) -> Result<(), AllocError>
     requires { length path.now ≤ 4096 }
-    ensures ok { OnOk result (out.new.items ≡ out.old.items ++ spelling_all (smudge_keys path.now can_delay)) }
+    ensures ok { OnOk result
+        (out.new.items ≡ out.old.items ++ spelling_all (smudge_keys path.now can_delay)) }
     ensures err { OnErr result (take (vec_len out.old) out.new.items ≡ out.old.items) }
 {
     push_line(alloc, out, b"command=smudge")?;
@@ -159,7 +165,8 @@ fn push_key_packets(
 }
 
 fn push_can_delay(alloc: Global, out: &mut Vec<u8>, can_delay: bool) -> Result<(), AllocError>
-    ensures ok { OnOk result (out.new.items ≡ out.old.items ++ spelling_all (can_delay_line can_delay)) }
+    ensures ok { OnOk result
+        (out.new.items ≡ out.old.items ++ spelling_all (can_delay_line can_delay)) }
     ensures err { OnErr result (out.new.items ≡ out.old.items) }
 {
     if can_delay {
@@ -171,7 +178,8 @@ fn push_can_delay(alloc: Global, out: &mut Vec<u8>, can_delay: bool) -> Result<(
 
 fn push_pathname(alloc: Global, out: &mut Vec<u8>, path: &[u8]) -> Result<(), AllocError>
     requires { length path.now ≤ 4096 }
-    ensures ok { OnOk result (out.new.items ≡ out.old.items ++ spelling (line (codes "pathname=" ++ path.now))) }
+    ensures ok { OnOk result
+        (out.new.items ≡ out.old.items ++ spelling (line (codes "pathname=" ++ path.now))) }
     ensures err { OnErr result (out.new.items ≡ out.old.items) }
 {
     let mut text = Vec::from_slice(alloc, b"pathname=")?;

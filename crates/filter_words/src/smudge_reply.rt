@@ -115,8 +115,10 @@ pub fn reply_after_packet(
     state: AnswerState<ReplyPhase, GoodReply>,
     packet: &ReadPacket<'_>,
 ) -> (u64, AnswerState<ReplyPhase, GoodReply>)
-    ensures counted { (next : ReplyPhase) → result.1 ≡ AnswerState.On next → result.0 + size (packet_of packet.now) ≡ room }
-    ensures outcome { (rest : List Packet) → outcome (reply_step can_delay) result.0 result.1 rest ≡ outcome (reply_step can_delay) room state (packet_of packet.now ∷ rest) }
+    ensures counted { (next : ReplyPhase) → result.1 ≡ AnswerState.On next
+        → result.0 + size (packet_of packet.now) ≡ room }
+    ensures outcome { (rest : List Packet) → outcome (reply_step can_delay) result.0 result.1 rest
+        ≡ outcome (reply_step can_delay) room state (packet_of packet.now ∷ rest) }
 {
     let AnswerState::On(phase) = state else {
         return (room, AnswerState::Late);

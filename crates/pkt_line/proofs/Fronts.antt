@@ -1,5 +1,6 @@
 -- What stands at the front of the bytes.
-use Rattle.std.proofs.Common.{◌≡◌, ℕ, zero, suc, ◌+◌, ◌<◌, ◌≤◌, List, [], ◌∷◌, length, take, drop, Some, refl, sym, ap, ◌∙◌, arith}
+use Rattle.std.proofs.Common.{◌≡◌, ℕ, zero, suc, ◌+◌, ◌<◌, ◌≤◌, List, [], ◌∷◌, length, take, drop, Some, refl, sym, ap}
+use Rattle.std.proofs.Common.{◌∙◌, arith}
 use Rattle.std.proofs.Math.Seq.{drop-nil}
 use Rattle.std.proofs.lemmas.List.{length-take, length-drop, get_or-take}
 use Rattle.pkt_line.specs.Packets.{Payload, Flush, number_at, Spells}
@@ -26,7 +27,8 @@ flush_stands bytes long e = record {
   payload = no_more 4 (take 4 bytes) (omega (arith, length-take 4 bytes));
 }
 
-pub payload_stands : (n : ℕ) (bytes piece : List ℕ) → 4 ≤ n → n ≤ 65520 → n ≤ length bytes → number_at bytes ≡ Some n → piece ≡ drop 4 (take n bytes) → Spells (Payload piece) (take (4 + length piece) bytes)
+pub payload_stands : (n : ℕ) (bytes piece : List ℕ) → 4 ≤ n → n ≤ 65520 → n ≤ length bytes → number_at bytes ≡ Some n
+    → piece ≡ drop 4 (take n bytes) → Spells (Payload piece) (take (4 + length piece) bytes)
 payload_stands n bytes piece some few long e p =
     let len : 4 + length piece ≡ n = omega (arith, ap length p, length-drop 4 (take n bytes), length-take n bytes) in
     rw len (record {

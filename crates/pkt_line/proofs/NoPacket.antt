@@ -1,7 +1,10 @@
 -- Where no packet stands at the front, and that bytes are read in one way.
-use Rattle.std.proofs.Common.{◌≡◌, inl, inr, ℕ, ◌+◌, ◌≤◌, List, [], ◌∷◌, ◌++◌, length, take, drop, Option, Some, Result, Ok, Err, refl, sym, ap, subst, ◌∙◌, append_assoc, arith}
+use Rattle.std.proofs.Common.{◌≡◌, inl, inr, ℕ, ◌+◌, ◌≤◌, List, [], ◌∷◌, ◌++◌, length, take, drop, Option, Some, Result}
+use Rattle.std.proofs.Common.{Ok, Err, refl, sym, ap, subst, ◌∙◌, append_assoc, arith}
 use Rattle.std.proofs.lemmas.List.{length-append, take-append-drop}
-use Rattle.pkt_line.specs.Packets.{Packet, Payload, Flush, Spells, SpellAll, Stands, IsPartial, IsShortOf, HasBadDigits, HasBadLength, HasFault, HasNoPacket, HasPacketOf, IsBadLength, number_at, pkt_len, size}
+use Rattle.pkt_line.specs.Packets.{Packet, Payload, Flush, Spells, SpellAll, Stands, IsPartial, IsShortOf, HasBadDigits}
+use Rattle.pkt_line.specs.Packets.{HasBadLength, HasFault, HasNoPacket, HasPacketOf, IsBadLength, number_at, pkt_len}
+use Rattle.pkt_line.specs.Packets.{size}
 use Rattle.pkt_line.specs.Reading.{Reading, Move, Took, Gave, MovesAll, with_bytes}
 use Rattle.pkt_line.specs.Reader.{Answer, Gives, Wants, Refuses, answer_of, Peeks, IsFaultOf}
 use Rattle.pkt_line.specs.declared.reader.Next.{Next}
@@ -40,7 +43,8 @@ good_length Flush le (inr b) = omega arith
 
 not_partial : (p : Packet) (bytes : List ℕ) → ShowsPacket p bytes → IsPartial bytes → ⊥
 not_partial p bytes s (inl few) = let l = s.long in omega (arith, at_least p)
-not_partial p bytes s (inr more) = short_of p (length bytes) (subst (λ (o : Option ℕ). IsShortOf o (length bytes)) s.number more) s.long
+not_partial p bytes s (inr more) =
+    short_of p (length bytes) (subst (λ (o : Option ℕ). IsShortOf o (length bytes)) s.number more) s.long
 
 not_digits : (p : Packet) (bytes : List ℕ) → ShowsPacket p bytes → HasBadDigits bytes → ⊥
 not_digits p bytes s h = let a = s.number in let b = h.1 in cc
@@ -54,22 +58,26 @@ not_none p bytes s (inl part) = not_partial p bytes s part
 not_none p bytes s (inr (inl h)) = not_digits p bytes s h
 not_none p bytes s (inr (inr h)) = not_length p bytes h.0 s h.1
 
+pub not_at_front : (p : Packet) (head rest : List ℕ) → Spells p head → HasNoPacket (head ++ rest) → ⊥
+not_at_front p head rest s none = not_none p (head ++ rest) (shows p head rest (head ++ rest) s refl) none
+
 -- ---- lists of packets
 
-pub same_fronts : (p q : Packet) (h k r s x y : List ℕ) → Spells p h → Spells q k → (h ++ r) ++ x ≡ (k ++ s) ++ y
+same_fronts : (p q : Packet) (h k r s x y : List ℕ) → Spells p h → Spells q k → (h ++ r) ++ x ≡ (k ++ s) ++ y
     → (p ≡ q) × (h ≡ k) × (r ++ x ≡ s ++ y)
 same_fronts p q h k r s x y a b e =
     prefix_free p q h k (r ++ x) (s ++ y) a b (sym (append_assoc h r x) ∙ (e ∙ append_assoc k s y))
 
 -- what follows packets, where they are spelled out
-pub spelled_apart : (a b x y h r k s : List ℕ) → a ≡ h ++ r → b ≡ k ++ s → a ++ x ≡ b ++ y → (h ++ r) ++ x ≡ (k ++ s) ++ y
+spelled_apart : (a b x y h r k s : List ℕ) → a ≡ h ++ r → b ≡ k ++ s → a ++ x ≡ b ++ y → (h ++ r) ++ x ≡ (k ++ s) ++ y
 spelled_apart a b x y h r k s ea eb e = sym (ap (λ (z : List ℕ). z ++ x) ea) ∙ (e ∙ ap (λ (z : List ℕ). z ++ y) eb)
 
-pub none_then_some : (q : Packet) (b x y k s : List ℕ) → Spells q k → b ≡ k ++ s → x ≡ b ++ y → HasNoPacket x → ⊥
+none_then_some : (q : Packet) (b x y k s : List ℕ) → Spells q k → b ≡ k ++ s → x ≡ b ++ y → HasNoPacket x → ⊥
 none_then_some q b x y k s t eb e none =
     not_none q x (shows q k (s ++ y) x t (e ∙ (ap (λ (z : List ℕ). z ++ y) eb ∙ append_assoc k s y))) none
 
-pub one_reading : (ps qs : List Packet) (a b x y : List ℕ) → SpellAll ps a → SpellAll qs b → a ++ x ≡ b ++ y → HasNoPacket x → HasNoPacket y
+pub one_reading : (ps qs : List Packet) (a b x y : List ℕ) → SpellAll ps a → SpellAll qs b → a ++ x ≡ b ++ y
+    → HasNoPacket x → HasNoPacket y
     → (ps ≡ qs) × (a ≡ b) × (x ≡ y)
 one_reading [] [] a b x y sa sb e nx ny =
     (refl, sa ∙ sym sb, sym (ap (λ (z : List ℕ). z ++ x) sa) ∙ (e ∙ ap (λ (z : List ℕ). z ++ y) sb))
@@ -99,7 +107,8 @@ holds (Ok next.NeedMore) r h = h
 holds (Err f) r h = h
 
 shows_here : (p : Packet) (bytes : List ℕ) → Stands p bytes → ShowsPacket p bytes
-shows_here p bytes s = shows p (take (size p) bytes) (drop (size p) bytes) bytes s (sym (take-append-drop (size p) bytes))
+shows_here p bytes s = shows p (take (size p) bytes) (drop (size p) bytes) bytes s
+    (sym (take-append-drop (size p) bytes))
 
 no_fault : (p : Packet) (f : PktFault) (r : Reading) → Stands p r.unread → IsFaultOf f r → ⊥
 no_fault p (fault.BadDigits place) r s h = not_digits p r.unread (shows_here p r.unread s) h.0
@@ -137,7 +146,8 @@ one_fault (fault.BadLength a m) (fault.BadLength b n) r h k =
 one_packet : (p q : Packet) (bytes : List ℕ) → Stands p bytes → Stands q bytes → p ≡ q
 one_packet p q bytes s t =
     let whole = take-append-drop (size p) bytes ∙ sym (take-append-drop (size q) bytes) in
-    let same = prefix_free p q (take (size p) bytes) (take (size q) bytes) (drop (size p) bytes) (drop (size q) bytes) s t whole in
+    let same = prefix_free p q (take (size p) bytes) (take (size q) bytes) (drop (size p) bytes) (drop (size q) bytes) s
+    t whole in
     same.0
 
 one_of : (a b : Answer) (r : Reading) → Holds a r → Holds b r → a ≡ b
@@ -174,7 +184,8 @@ fault_stays (fault.BadLength place n) r more h = (length_stays r.unread more n h
 -- whatever is called
 pub fault_kept : (f : PktFault) (r s : Reading) (moves : List Move) → IsFaultOf f r → MovesAll r moves s → IsFaultOf f s
 fault_kept f r s [] h m = subst (IsFaultOf f) m h
-fault_kept f r s (Took piece ∷ moves) h m = fault_kept f m.0 s moves (subst (IsFaultOf f) (sym m.1) (fault_stays f r piece h)) m.2
+fault_kept f r s (Took piece ∷ moves) h m =
+    fault_kept f m.0 s moves (subst (IsFaultOf f) (sym m.1) (fault_stays f r piece h)) m.2
 fault_kept f r s (Gave p ∷ moves) h m = absurd (no_fault p f r m.1.0 h)
 
 -- a packet at the front, by the bytes that it takes

@@ -1,5 +1,6 @@
 -- A content is written piece by piece.
-use Rattle.std.proofs.Common.{◌≡◌, ℕ, suc, ◌+◌, ◌-◌, ◌*◌, ◌≤◌, min, List, ◌∷◌, ◌++◌, length, take, drop, refl, sym, ap, ◌∙◌, arith, append_assoc}
+use Rattle.std.proofs.Common.{◌≡◌, ℕ, suc, ◌+◌, ◌-◌, ◌*◌, ◌≤◌, min, List, ◌∷◌, ◌++◌, length, take, drop, refl, sym, ap}
+use Rattle.std.proofs.Common.{◌∙◌, arith, append_assoc}
 use Rattle.std.proofs.lemmas.List.{length-drop, length-take, take_min, drop_min}
 use Rattle.pkt_line.specs.Packets.{Payload}
 use Rattle.pkt_line.specs.Spelling.{four_digits, spelling_all, content_packets, piece_count}
@@ -22,7 +23,8 @@ content_packets-cut rest some =
 
 -- before the first piece
 pub underway_first : (old out content : List ℕ) (len capacity : ℕ) → out ≡ old
-    → len + (length content + 4 * piece_count (length content)) ≤ capacity → IsUnderway out content out content len capacity
+    → len + (length content + 4 * piece_count (length content)) ≤ capacity
+    → IsUnderway out content out content len capacity
 underway_first old out content len capacity e room = record { items = refl; room = room }
 
 -- one more piece
@@ -46,5 +48,7 @@ underway_next old content out rest digits piece after next len capacity len' cap
     let head : spelling_all (content_packets rest) ≡ (digits_of ++ piece) ++ tail =
     ap spelling_all cut ∙ ap (λ (x : List ℕ). (four_digits (4 + length x) ++ x) ++ tail) (sym p2) in
     let all : ((out ++ digits_of) ++ piece) ++ tail ≡ out ++ spelling_all (content_packets rest) =
-    append_assoc (out ++ digits_of) piece tail ∙ (append_assoc out digits_of (piece ++ tail) ∙ ap (λ (x : List ℕ). out ++ x) (sym (append_assoc digits_of piece tail) ∙ sym head)) in
+    append_assoc (out ++ digits_of) piece tail
+    ∙ (append_assoc out digits_of (piece ++ tail)
+    ∙ ap (λ (x : List ℕ). out ++ x) (sym (append_assoc digits_of piece tail) ∙ sym head)) in
     record { items = rw (n, d, a2) (all ∙ u.items); room = omega arith }

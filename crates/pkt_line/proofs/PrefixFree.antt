@@ -28,7 +28,8 @@ same_packet Flush Flush e f = refl
 some_same : (m n : ℕ) → Some m ≡ Some n → m ≡ n
 some_same m n e = cc
 
-pub prefix_free : (p q : Packet) (a b x y : List ℕ) → Spells p a → Spells q b → a ++ x ≡ b ++ y → (p ≡ q) × (a ≡ b) × (x ≡ y)
+pub prefix_free : (p q : Packet) (a b x y : List ℕ) → Spells p a → Spells q b → a ++ x ≡ b ++ y → (p ≡ q) × (a ≡ b)
+    × (x ≡ y)
 prefix_free p q a b x y s t e =
     let la = s.sized in
     let lb = t.sized in

@@ -1,6 +1,7 @@
 -- What a reader answers.
 use Rattle.std.specs.Prelude.{◌≡◌, ◌≤◌, ℕ, List, length, Some, Result, Ok, Err}
-use Rattle.pkt_line.specs.Packets.{Packet, Payload, Flush, Stands, IsPartial, HasBadDigits, HasBadLength, number_at, size}
+use Rattle.pkt_line.specs.Packets.{Packet, Payload, Flush, Stands, IsPartial, HasBadDigits, HasBadLength, number_at}
+use Rattle.pkt_line.specs.Packets.{size}
 use Rattle.pkt_line.specs.Reading.{Reading}
 use Rattle.pkt_line.specs.declared.reader.Next.{Next}
 use Rattle.pkt_line.specs.declared.reader.Next.TheVariants as next

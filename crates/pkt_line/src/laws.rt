@@ -1,5 +1,5 @@
 ghost use Rattle.std.specs.Prelude.{◌≡◌, ◌≤◌, ◌++◌, [], List, ℕ, Result};
-ghost use Rattle.pkt_line.specs.Packets.{Packet, Spells, SpellAll, HasNoPacket, pkt_len};
+ghost use Rattle.pkt_line.specs.Packets.{Packet, Spells, SpellAll, IsPartial, HasFault, HasNoPacket, pkt_len};
 ghost use Rattle.pkt_line.specs.Spelling.{spelling};
 ghost use Rattle.pkt_line.specs.Reading.{Reading, Move, MovesAll, IsRead, bytes_taken, packets_given, with_bytes};
 ghost use Rattle.pkt_line.specs.Reader.{Peeks, IsFaultOf, answer_of};
@@ -8,31 +8,46 @@ ghost use Rattle.pkt_line.specs.declared.reader.Next.{Next};
 
 /// No packet's spelling is a proper prefix of another's: what stands at the front of bytes is one packet.
 pub fn prefix_free()
-    ensures { (p q : Packet) (a b x y : List ℕ) → Spells p a → Spells q b → a ++ x ≡ b ++ y → (p ≡ q) × (a ≡ b) × (x ≡ y) }
+    ensures { (p q : Packet) (a b x y : List ℕ) → Spells p a → Spells q b → a ++ x ≡ b ++ y
+        → (p ≡ q) × (a ≡ b) × (x ≡ y) }
 {}
 
 /// The same bytes are the same packets, and then bytes at whose front no packet stands.
 pub fn one_reading()
-    ensures { (ps qs : List Packet) (a b x y : List ℕ) → SpellAll ps a → SpellAll qs b → a ++ x ≡ b ++ y → HasNoPacket x → HasNoPacket y
+    ensures { (ps qs : List Packet) (a b x y : List ℕ) → SpellAll ps a → SpellAll qs b
+        → a ++ x ≡ b ++ y → HasNoPacket x → HasNoPacket y
         → (ps ≡ qs) × (a ≡ b) × (x ≡ y) }
+{}
+
+/// Where a packet stands at the front, whatever follows it, none of the ways for none to stand there holds. A fault stays
+/// one whatever follows, and is no beginning of a packet.
+pub fn no_packet()
+    ensures apart { (p : Packet) (head rest : List ℕ) → Spells p head → HasNoPacket (head ++ rest)
+        → ⊥ }
+    ensures fault { (bytes more : List ℕ) → HasFault bytes → HasFault (bytes ++ more) }
+    ensures part { (bytes : List ℕ) → IsPartial bytes → HasFault bytes → ⊥ }
 {}
 
 /// For every way of cutting the input, the packets that a reader gave so far are those whose spelling is the bytes read
 /// so far.
 pub fn given_so_far()
-    ensures { (moves : List Move) (left : Reading) → MovesAll (record { unread = []; place = 0 }) moves left
+    ensures { (moves : List Move) (left : Reading)
+        → MovesAll (record { unread = []; place = 0 }) moves left
         → IsRead (bytes_taken moves) (packets_given moves) left }
 {}
 
 /// What `next` and `peek` answer is decided by what the reader holds.
 pub fn one_answer()
-    ensures { (a b : Result Next PktFault) (r : Reading) → Peeks a r → Peeks b r → answer_of a ≡ answer_of b }
+    ensures { (a b : Result Next PktFault) (r : Reading) → Peeks a r → Peeks b r
+        → answer_of a ≡ answer_of b }
 {}
 
 /// A fault is for good: it stays whatever bytes follow and whatever is called.
 pub fn fault_stays()
-    ensures fed { (fault : PktFault) (r : Reading) (more : List ℕ) → IsFaultOf fault r → IsFaultOf fault (with_bytes more r) }
-    ensures called { (fault : PktFault) (r s : Reading) (moves : List Move) → IsFaultOf fault r → MovesAll r moves s → IsFaultOf fault s }
+    ensures fed { (fault : PktFault) (r : Reading) (more : List ℕ) → IsFaultOf fault r
+        → IsFaultOf fault (with_bytes more r) }
+    ensures called { (fault : PktFault) (r s : Reading) (moves : List Move) → IsFaultOf fault r
+        → MovesAll r moves s → IsFaultOf fault s }
 {}
 
 /// What the writers append spells its packet.

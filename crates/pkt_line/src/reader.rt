@@ -1,4 +1,5 @@
-ghost use Rattle.std.specs.Prelude.{◌≡◌, ◌≤◌, ◌<◌, ◌+◌, ◌-◌, ◌++◌, [], min, take, drop, length, vec_len, vec_capacity, IfOk, ⊤};
+ghost use Rattle.std.specs.Prelude.{◌≡◌, ◌≤◌, ◌<◌, ◌+◌, ◌-◌, ◌++◌, [], min, take, drop, length, vec_len, vec_capacity};
+ghost use Rattle.std.specs.Prelude.{IfOk, ⊤};
 ghost use Rattle.std.specs.Borrow.{sem, follows_so};
 ghost use mathlib.Core.Option as maybe;
 ghost use Rattle.pkt_line.specs.Packets.{number_at, IsPartial, IsShortOf, HasPacketOf};
@@ -79,7 +80,9 @@ impl PktReader {
     /// The next packet, which leaves the reader. Where there is none, the reader stays as it is, so after a fault the
     /// answer is the same fault for good.
     pub fn next(&mut self) -> Result<Next<'_>, PktFault>
-        ensures* rest { sem 𝓛 (follows_so the_row the_row self.entry.ghost_name maybe.none (λ _ _. ⊤) (λ n. n ≡ without (size_taken result) self.old)) }
+        ensures* rest { sem 𝓛
+            (follows_so the_row the_row self.entry.ghost_name maybe.none (λ _ _. ⊤)
+            (λ n. n ≡ without (size_taken result) self.old)) }
         ensures front { Peeks result self.old }
     {
         let front = match self.front() {

@@ -24,7 +24,8 @@ pub fn push_payload(_alloc: Global, out: &mut Vec<u8>, payload: &[u8]) -> Result
 /// Appends a text of at most 65,515 bytes and LF as one packet.
 pub fn push_line(_alloc: Global, out: &mut Vec<u8>, text: &[u8]) -> Result<(), AllocError>
     requires { length text.now ≤ 65515 }
-    ensures ok { OnOk result (out.new.items ≡ out.old.items ++ spelling (Payload (text.now ++ 10 ∷ []))) }
+    ensures ok { OnOk result
+        (out.new.items ≡ out.old.items ++ spelling (Payload (text.now ++ 10 ∷ []))) }
     ensures err { OnErr result (out.new.items ≡ out.old.items) }
 {
     out.reserve(DIGITS + text.len() + 1)?;
@@ -36,7 +37,8 @@ pub fn push_line(_alloc: Global, out: &mut Vec<u8>, text: &[u8]) -> Result<(), A
 
 /// Appends a content as packets of 65,516 bytes, the last one with the rest. An empty content appends nothing.
 pub fn push_content(_alloc: Global, out: &mut Vec<u8>, content: &[u8]) -> Result<(), AllocError>
-    ensures ok { OnOk result (out.new.items ≡ out.old.items ++ spelling_all (content_packets content.now)) }
+    ensures ok { OnOk result
+        (out.new.items ≡ out.old.items ++ spelling_all (content_packets content.now)) }
     ensures err { OnErr result (out.new.items ≡ out.old.items) }
 {
     let packets = content.len().div_ceil(MOST_PAYLOAD);

@@ -1,7 +1,8 @@
 ghost use Rattle.std.specs.Prelude.{◌≡◌, ◌+◌, ◌<◌, ◌≤◌, ◌^◌, length, cond};
 ghost use Rattle.checkout_core.specs.States.{is_closed};
 ghost use Rattle.checkout_core.specs.Effects.{after, swept_path};
-ghost use Rattle.checkout_core.specs.Cursors.{IsFollowable, IsWithin, CanFollow, cursor_after, delayed_after, named_after, redone_after, all_swept, swept_paths};
+ghost use Rattle.checkout_core.specs.Cursors.{IsFollowable, IsWithin, CanFollow, cursor_after, delayed_after};
+ghost use Rattle.checkout_core.specs.Cursors.{named_after, redone_after, all_swept, swept_paths};
 ghost use Rattle.checkout_core.specs.declared.effect.Effect.TheVariants.{Moves, Switches, Both};
 ghost use Rattle.checkout_core.specs.declared.effect.Sweep.TheVariants.{Keep};
 

@@ -16,4 +16,5 @@ pub returns-clause-opened : goal.returns-clause-opened
 returns-clause-opened c ps p e = open_reading handshake_step Server IsHandshake reads_handshake ps p e
 
 pub returns-clause-broken : goal.returns-clause-broken
-returns-clause-broken c ps why e = broken_reading handshake_step Server IsHandshake BreaksHandshake reads_handshake breaks_handshake ps why e
+returns-clause-broken c ps why e = broken_reading handshake_step Server IsHandshake BreaksHandshake reads_handshake
+    breaks_handshake ps why e

@@ -16,4 +16,5 @@ pub returns-clause-opened : goal.returns-clause-opened
 returns-clause-opened c d ps p e = open_reading (list_step d) (Names []) (IsList d) (reads_list d) ps p e
 
 pub returns-clause-broken : goal.returns-clause-broken
-returns-clause-broken c d ps why e = broken_reading (list_step d) (Names []) (IsList d) (BreaksList d) (reads_list d) (λ ps why e. breaks_list d [] ps why e) ps why e
+returns-clause-broken c d ps why e = broken_reading (list_step d) (Names []) (IsList d) (BreaksList d) (reads_list d)
+    (λ ps why e. breaks_list d [] ps why e) ps why e

@@ -17,4 +17,5 @@ pub returns-clause-opened : goal.returns-clause-opened
 returns-clause-opened c d ps p e = open_reading (reply_step d) (KeyList None) (IsReply d) (reads_reply d) ps p e
 
 pub returns-clause-broken : goal.returns-clause-broken
-returns-clause-broken c d ps why e = broken_reading (reply_step d) (KeyList None) (IsReply d) (BreaksReply d) (reads_reply d) (breaks_reply d) ps why e
+returns-clause-broken c d ps why e = broken_reading (reply_step d) (KeyList None) (IsReply d) (BreaksReply d)
+    (reads_reply d) (breaks_reply d) ps why e

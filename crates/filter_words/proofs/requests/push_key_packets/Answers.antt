@@ -7,6 +7,9 @@ use Rattle.filter_words.proofs.requests.push_key_packets.Goals as goal
 
 pub returns-clause-ok : goal.returns-clause-ok
 returns-clause-ok c =
-    keys_texts c.push_flush.result c.args.out.now.items c.push_line.new.out.items c.push_pathname.new.out.items c.push_can_delay.new.out.items c.push_flush.new.out.items
-    (line (codes "command=smudge")) (line (codes "pathname=" ++ c.args.path.now)) Flush (can_delay_line c.args.can_delay)
-    c.in_ok-push_line.ensures.ok c.in_ok-push_pathname.ensures.ok c.in_ok-push_can_delay.ensures.ok c.push_flush.ensures.ok
+    keys_texts c.push_flush.result c.args.out.now.items c.push_line.new.out.items c.push_pathname.new.out.items
+    c.push_can_delay.new.out.items c.push_flush.new.out.items
+    (line (codes "command=smudge")) (line (codes "pathname=" ++ c.args.path.now)) Flush
+    (can_delay_line c.args.can_delay)
+    c.in_ok-push_line.ensures.ok c.in_ok-push_pathname.ensures.ok c.in_ok-push_can_delay.ensures.ok
+    c.push_flush.ensures.ok

@@ -8,7 +8,8 @@ use Rattle.checkout_core.specs.declared.effect.Sweep.TheVariants.{Keep}
 use Rattle.checkout_core.specs.States.{Core}
 use Rattle.checkout_core.specs.Effects.{after}
 use Rattle.checkout_core.specs.Cursors.{IsSound, IsCursor}
-use Rattle.checkout_core.proofs.Changes.{advance_sound, advance_fits, advance_is, path_within, driver_within, followable_in}
+use Rattle.checkout_core.proofs.Changes.{advance_sound, advance_fits, advance_is, path_within, driver_within}
+use Rattle.checkout_core.proofs.Changes.{followable_in}
 use Rattle.checkout_core.proofs.state.State.advance.Goals as goal
 
 -- the effect of an advance

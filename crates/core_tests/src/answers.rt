@@ -1,4 +1,9 @@
-use super::*;
+use filter_words::{
+    AnswerState, BreakCause, Caps, GoodReply, HandshakePhase, ListPart, ListReply, Listing,
+    MOST_ANSWER, ReadPacket, Reply, ReplyPhase, Status, handshake_after_packet, key_value,
+    list_after_packet, next_status, push_caps, push_hello, push_list, push_smudge, read_status,
+    reply_after_packet, reply_of,
+};
 use std::alloc::Global;
 use std::test::Fail;
 

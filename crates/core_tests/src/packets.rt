@@ -1,4 +1,4 @@
-use super::*;
+use pkt_line::{Next, PktFault, PktReader, push_content, push_flush, push_line, push_payload};
 use std::alloc::Global;
 use std::process::Abort;
 use std::test::Fail;
@@ -109,7 +109,6 @@ fn edges_of_lengths(rt: HostRuntime) -> Result<(), Fail> {
 }
 
 /// Drops a flush packet, where one stands at the front.
-#[tactic(auto, using(crate::proofs::NoPacket::flush_there))]
 fn skip_flush(reader: &mut PktReader) {
     if let Ok(Next::Flush) = reader.peek() {
         reader.skip(4);

@@ -1,4 +1,4 @@
-use crate::{
+use checkout_core::{
     Event, FailCause, FilterCause, ObjectKind, OpenCause, Own, Refused, SkipCause, Start, State,
     Verdict, replay, step,
 };

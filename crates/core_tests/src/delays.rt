@@ -1,5 +1,5 @@
-use crate::DelayTable;
 use byte_path::Bytes;
+use delay_table::DelayTable;
 use std::test::Fail;
 
 #[test]
