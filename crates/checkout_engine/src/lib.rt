@@ -16,6 +16,3 @@ mod stop;
 
 pub use command::run;
 pub use show::plan_text;
-
-#[cfg(test)]
-mod tests;

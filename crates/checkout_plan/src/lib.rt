@@ -14,6 +14,3 @@ mod starts;
 pub use fault::{PlanFault, object_kind};
 pub use making::make_plan;
 pub use path_plan::{PathPlan, Plan};
-
-#[cfg(test)]
-mod tests;

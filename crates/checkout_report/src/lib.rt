@@ -6,6 +6,3 @@ mod words;
 
 pub use report::{ReportPath, is_failed, report_text};
 pub use words::{cause_of, mark_word, object_word};
-
-#[cfg(test)]
-mod tests;

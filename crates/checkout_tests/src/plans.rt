@@ -1,6 +1,7 @@
-use super::*;
+use crate::index::{EXECUTABLE, GITLINK, LINK, PLAIN, Row, index_bytes};
 use attr_line::read_attributes;
 use byte_path::{Bytes, Items, quote_path};
+use checkout_plan::{PathPlan, Plan, make_plan};
 use edge_kit::{MemoryRepo, RepoFail};
 use eol_convert::{AutoCrlf, EolSetting};
 use git_index::{Index, read_index};
@@ -10,20 +11,10 @@ use std::alloc::{AllocError, Global};
 use std::process::Abort;
 use std::test::Fail;
 
-const PLAIN: u32 = 0o100644;
-
-const EXECUTABLE: u32 = 0o100755;
-
-const LINK: u32 = 0o120000;
-
-const GITLINK: u32 = 0o160000;
-
 /// An entry of an index, and what its object holds.
 #[derive(Clone, Copy)]
-struct Row {
-    mode: u32,
-    stage: u16,
-    path: &'static [u8],
+struct Filled {
+    row: Row,
     content: &'static [u8],
 }
 
@@ -46,23 +37,26 @@ enum Objects {
 /// or the fault.
 #[derive(Clone, Copy)]
 struct Case<'a> {
-    rows: &'a [Row],
+    rows: &'a [Filled],
     info: &'static [u8],
     drivers: &'a [Named],
     objects: Objects,
     wanted: &'static str,
 }
 
-fn entry(mode: u32, stage: u16, path: &'static [u8], content: &'static [u8]) -> Row {
-    Row {
-        mode,
-        stage,
-        path,
+fn entry(mode: u32, stage: u16, path: &'static [u8], content: &'static [u8]) -> Filled {
+    Filled {
+        row: Row {
+            mode,
+            stage,
+            name: blob_name(content),
+            path,
+        },
         content,
     }
 }
 
-fn plain(path: &'static [u8]) -> Row {
+fn plain(path: &'static [u8]) -> Filled {
     entry(PLAIN, 0, path, b"hi\n")
 }
 
@@ -74,36 +68,20 @@ fn driver(name: &'static [u8], process: &'static [u8], required: bool) -> Named 
     }
 }
 
-fn push_row(index: &mut Vec<u8>, row: &Row) -> Result<(), AllocError> {
-    let len = row.path.len() % 0x1000;
-    let flags = (row.stage % 4) * 0x1000 + len as u16;
-    index.extend_from_slice(&[0; 24])?;
-    index.extend_from_slice(&row.mode.to_be_bytes())?;
-    index.extend_from_slice(&[0; 12])?;
-    index.extend_from_slice(&blob_name(row.content))?;
-    index.extend_from_slice(&flags.to_be_bytes())?;
-    index.extend_from_slice(row.path)?;
-    let padding = 8 - (62 + len) % 8;
-    index.extend_from_slice([0u8; 8].split_at(padding).0)?;
-    Ok(())
-}
-
-fn index_of(alloc: Global, rows: &[Row]) -> Result<Index, Fail> {
-    let mut index = Vec::from_slice(alloc, b"DIRC\0\0\0\x02")?;
-    let count = (rows.len() % 100) as u32;
-    index.extend_from_slice(&count.to_be_bytes())?;
-    for row in rows {
-        push_row(&mut index, row)?;
+fn index_of(alloc: Global, filled: &[Filled]) -> Result<Index, Fail> {
+    let mut rows = Vec::new(alloc);
+    for entry in filled {
+        rows.push(entry.row)?;
     }
-    index.extend_from_slice(&[0; 20])?;
-    Ok(read_index(alloc, &index)?)
+    let bytes = index_bytes(alloc, &rows, &[], [0; 20])?;
+    Ok(read_index(alloc, &bytes)?)
 }
 
 fn repo_of(alloc: Global, case: &Case) -> Result<MemoryRepo, AllocError> {
     let mut objects = Vec::new(alloc);
     let mut fails = Vec::new(alloc);
     for row in case.rows {
-        let name = blob_name(row.content);
+        let name = row.row.name;
         match case.objects {
             Objects::There => objects.push((name, spell_blob(alloc, row.content)?))?,
             Objects::Absent => {}

@@ -1,18 +1,11 @@
-mod cases;
-
-use crate::report::write_report;
-use crate::run;
-use crate::status::Status;
-use byte_path::Bytes;
-use cases::{
-    ATTRIBUTES, BIN, Case, EMPTY, EXECUTABLE, GITLINK, HI, IDENT, LINK, MIXED, NO_ENTRIES, NULS,
-    ODD, ONE_ENTRY, PLAIN, Row, WIDE, check, checkout, named, plain, push_row, stage, words_of,
+use crate::cases::{
+    ATTRIBUTES, BIN, Case, EMPTY, HI, IDENT, MIXED, NO_ENTRIES, NULS, ODD, ONE_ENTRY, WIDE, check,
+    checkout, named, plain, repo_of, stage, tree_of, words_of,
 };
-use checkout_core::{Start, Verdict};
-use checkout_plan::PathPlan;
-use convert_plan::Conversion;
-use edge_kit::{LeafCall, Mark, MemoryRepo, MemorySink, MemoryTree, RepoFail};
-use eol_convert::LineEnds;
+use crate::index::{EXECUTABLE, GITLINK, LINK, PLAIN, Row, push_row};
+use crate::wanting::WantingRepo;
+use checkout_engine::run;
+use edge_kit::{LeafCall, MemoryRepo, MemorySink, MemoryTree, RepoFail};
 use std::alloc::{AllocError, Global};
 use std::test::Fail;
 
@@ -543,26 +536,13 @@ fn a_full_worktree_and_a_read_that_fails_stop_it(rt: HostRuntime) -> Result<(), 
     check(&rt, rt.alloc(), &cases)
 }
 
-/// The path of a planned file with nothing to convert.
-fn planned(alloc: Global, path: &[u8]) -> Result<PathPlan, AllocError> {
-    Ok(PathPlan {
-        path: Bytes::copy_of(alloc, path)?,
-        object: HI,
-        mark: Mark::Plain,
-        conversion: Conversion {
-            ident: false,
-            ends: LineEnds::Keep,
-            encoding: None,
-        },
-        start: Start::Pool,
-    })
-}
-
 /// The status and the text of a report of two paths, of which the second wanted memory.
 #[test]
 fn a_path_that_wanted_memory_is_reported_and_told(rt: HostRuntime) -> Result<(), Fail> {
     let alloc = rt.alloc();
-    let verdicts = [Verdict::Written { unencoded: false }, Verdict::NoMemory];
+    let rows = [plain(b"a"), named(b"b", BIN)];
+    let case = checkout(&rows, "");
+    let words = words_of(alloc, &["checkout"])?;
     let whole = "written - - - a\nno-memory - - - b\ndone 1 0 0 0\n";
     let cases: [(Option<u32>, &str); 3] = [
         (None, whole),
@@ -570,13 +550,15 @@ fn a_path_that_wanted_memory_is_reported_and_told(rt: HostRuntime) -> Result<(),
         (Some(1), "written - - - a\n"),
     ];
     for (fails, wanted) in cases {
+        let mut repo = WantingRepo {
+            repo: repo_of(alloc, &case)?,
+            wanting: BIN,
+        };
+        let mut tree = tree_of(alloc, &case)?;
         let mut out = MemorySink::new(alloc, fails);
-        let mut paths = Vec::new(alloc);
-        paths.push(planned(alloc, b"a")?)?;
-        paths.push(planned(alloc, b"b")?)?;
-        let status = write_report(alloc, &mut out, paths, &verdicts);
-        assert_eq!(rt; status, Status::OutOfMemory);
+        assert_eq!(rt; run(alloc, &words, &mut repo, &mut tree, &mut out), 5);
         assert_eq!(rt; str::from_utf8(out.bytes())?, wanted);
+        assert_eq!(rt; tree.files().len(), 1);
     }
     Ok(())
 }

@@ -1,6 +1,6 @@
-use super::*;
 use byte_path::Bytes;
 use checkout_core::{FailCause, FilterCause, ObjectKind, SkipCause, Verdict};
+use checkout_report::{ReportPath, is_failed, report_text};
 use edge_kit::Mark;
 use filter_words::BreakCause;
 use std::alloc::{AllocError, Global};

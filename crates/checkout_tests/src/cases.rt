@@ -1,6 +1,7 @@
 //! The cases of the tests: what a run meets, and what it leaves.
-use crate::run;
+use crate::index::{PLAIN, Row, index_bytes};
 use byte_path::Bytes;
+use checkout_engine::run;
 use edge_kit::{LeafCall, MemoryRepo, MemorySink, MemoryTree, RepoFail, TreeFile};
 use std::alloc::{AllocError, Global};
 use std::process::Abort;
@@ -8,64 +9,56 @@ use std::string::String;
 use std::test::Fail;
 use std::vec::Vec;
 
-pub(super) const PLAIN: u32 = 0o100644;
-
-pub(super) const EXECUTABLE: u32 = 0o100755;
-
-pub(super) const LINK: u32 = 0o120000;
-
-pub(super) const GITLINK: u32 = 0o160000;
-
 /// The name that `git hash-object` gives to `hi` and a line feed.
-pub(super) const HI: [u8; 20] = [
+pub const HI: [u8; 20] = [
     0x45, 0xb9, 0x83, 0xbe, 0x36, 0xb7, 0x3c, 0x07, 0x88, 0xdc, 0x9c, 0xbc, 0xb7, 0x6c, 0xbb, 0x80,
     0xfc, 0x7b, 0xb0, 0x57,
 ];
 
 /// The name that `git hash-object` gives to `bin`.
-pub(super) const BIN: [u8; 20] = [
+pub const BIN: [u8; 20] = [
     0xc5, 0xe8, 0x2d, 0x74, 0x58, 0x5d, 0x15, 0xd6, 0xea, 0x82, 0x1b, 0x5f, 0x23, 0xcd, 0x65, 0x62,
     0x41, 0x90, 0xf2, 0x44,
 ];
 
 /// The name that `git hash-object` gives to `a`, LF, `b`, CR LF.
-pub(super) const MIXED: [u8; 20] = [
+pub const MIXED: [u8; 20] = [
     0xe8, 0x9c, 0x76, 0x0d, 0x3c, 0x63, 0x6a, 0xc7, 0x16, 0xf6, 0xcb, 0xc9, 0x55, 0xbd, 0x10, 0x0a,
     0x94, 0xaf, 0x60, 0x6d,
 ];
 
 /// The name that `git hash-object` gives to `$Id$ $Id: a b $` and a line feed.
-pub(super) const IDENT: [u8; 20] = [
+pub const IDENT: [u8; 20] = [
     0x93, 0x14, 0x61, 0x77, 0xb8, 0x3e, 0xbd, 0x89, 0xea, 0xa3, 0xcd, 0xa0, 0xf7, 0x06, 0x4a, 0x9e,
     0x22, 0x50, 0x86, 0xb3,
 ];
 
 /// The name that `git hash-object` gives to U+00E9 and U+1F600 in UTF-8.
-pub(super) const WIDE: [u8; 20] = [
+pub const WIDE: [u8; 20] = [
     0xe6, 0xf9, 0xa5, 0x34, 0x76, 0xa0, 0x97, 0xf6, 0x0d, 0x9e, 0x9b, 0x16, 0x33, 0x5d, 0xcb, 0x9f,
     0xbd, 0x79, 0x87, 0x8f,
 ];
 
 /// The name that `git hash-object` gives to nothing.
-pub(super) const EMPTY: [u8; 20] = [
+pub const EMPTY: [u8; 20] = [
     0xe6, 0x9d, 0xe2, 0x9b, 0xb2, 0xd1, 0xd6, 0x43, 0x4b, 0x8b, 0x29, 0xae, 0x77, 0x5a, 0xd8, 0xc2,
     0xe4, 0x8c, 0x53, 0x91,
 ];
 
 /// The name that `git hash-object` gives to the byte FF.
-pub(super) const ODD: [u8; 20] = [
+pub const ODD: [u8; 20] = [
     0xce, 0x54, 0x2e, 0xfa, 0xa5, 0x12, 0x4a, 0x04, 0x37, 0xf0, 0xc4, 0xdb, 0x32, 0x9d, 0x7e, 0xc4,
     0xb7, 0xba, 0x70, 0xa7,
 ];
 
 /// The name that `git hash-object` gives to `*.txt text eol=crlf` and a line feed.
-pub(super) const ATTRIBUTES: [u8; 20] = [
+pub const ATTRIBUTES: [u8; 20] = [
     0xc6, 0x1b, 0x24, 0x1e, 0xb4, 0x97, 0xeb, 0x43, 0x1d, 0xf8, 0x25, 0x84, 0x1e, 0x80, 0x85, 0x03,
     0x14, 0x56, 0x00, 0xe1,
 ];
 
 /// The name that `git hash-object` gives to 1,048,577 NULs.
-pub(super) const NULS: [u8; 20] = [
+pub const NULS: [u8; 20] = [
     0x4d, 0x43, 0x51, 0x48, 0xd9, 0x32, 0x40, 0xe4, 0xd0, 0x5d, 0x1e, 0x03, 0xe5, 0xfe, 0x5b, 0x84,
     0xfe, 0x9a, 0x7a, 0x47,
 ];
@@ -82,56 +75,47 @@ const OBJECTS: [([u8; 20], &[u8]); 7] = [
 ];
 
 /// The SHA-1 of the index of no entries, as `sha1sum` gives it.
-pub(super) const NO_ENTRIES: [u8; 20] = [
+pub const NO_ENTRIES: [u8; 20] = [
     0x39, 0xd8, 0x90, 0x13, 0x9e, 0xe5, 0x35, 0x6c, 0x7e, 0xf5, 0x72, 0x21, 0x6c, 0xeb, 0xcd, 0x27,
     0xaa, 0x41, 0xf9, 0xdf,
 ];
 
 /// The SHA-1 of the index of the one entry `a` of `HI`, as `sha1sum` gives it.
-pub(super) const ONE_ENTRY: [u8; 20] = [
+pub const ONE_ENTRY: [u8; 20] = [
     0x1c, 0x6c, 0x18, 0x59, 0xc8, 0xad, 0xa0, 0x11, 0x07, 0xc2, 0x6b, 0x97, 0x6e, 0xe0, 0x64, 0x3e,
     0xd8, 0xc1, 0xc7, 0x49,
 ];
 
-/// An entry of an index as a test spells it.
-#[derive(Clone, Copy)]
-pub(super) struct Row {
-    pub(super) mode: u32,
-    pub(super) stage: u16,
-    pub(super) name: [u8; 20],
-    pub(super) path: &'static [u8],
-}
-
 /// What a run meets, and what it leaves: its output, its status, and a line for each file.
 #[derive(Clone, Copy)]
-pub(super) struct Case<'a> {
+pub struct Case<'a> {
     /// The words behind the two folders.
-    pub(super) command: &'static [&'static str],
+    pub command: &'static [&'static str],
     /// Whether there is an index.
-    pub(super) index: bool,
-    pub(super) rows: &'a [Row],
+    pub index: bool,
+    pub rows: &'a [Row],
     /// Extensions.
-    pub(super) more: &'static [u8],
-    pub(super) hash: [u8; 20],
+    pub more: &'static [u8],
+    pub hash: [u8; 20],
     /// The object that a case gives, by its name: its stored bytes, and how many NULs behind them.
-    pub(super) object: [u8; 20],
-    pub(super) stored: &'static [u8],
-    pub(super) nuls: usize,
-    pub(super) config: Option<&'static [u8]>,
-    pub(super) info: Option<&'static [u8]>,
-    pub(super) fails: Option<RepoFail>,
-    pub(super) leaf_fails: Option<(&'static [u8], LeafCall)>,
-    pub(super) empty: bool,
-    pub(super) check_fails: bool,
-    pub(super) sink_fails: Option<u32>,
-    pub(super) wanted: &'static str,
+    pub object: [u8; 20],
+    pub stored: &'static [u8],
+    pub nuls: usize,
+    pub config: Option<&'static [u8]>,
+    pub info: Option<&'static [u8]>,
+    pub fails: Option<RepoFail>,
+    pub leaf_fails: Option<(&'static [u8], LeafCall)>,
+    pub empty: bool,
+    pub check_fails: bool,
+    pub sink_fails: Option<u32>,
+    pub wanted: &'static str,
 }
 
-pub(super) fn named(path: &'static [u8], name: [u8; 20]) -> Row {
+pub fn named(path: &'static [u8], name: [u8; 20]) -> Row {
     stage(0, PLAIN, name, path)
 }
 
-pub(super) fn stage(stage: u16, mode: u32, name: [u8; 20], path: &'static [u8]) -> Row {
+pub fn stage(stage: u16, mode: u32, name: [u8; 20], path: &'static [u8]) -> Row {
     Row {
         mode,
         stage,
@@ -140,12 +124,12 @@ pub(super) fn stage(stage: u16, mode: u32, name: [u8; 20], path: &'static [u8]) 
     }
 }
 
-pub(super) fn plain(path: &'static [u8]) -> Row {
+pub fn plain(path: &'static [u8]) -> Row {
     stage(0, PLAIN, HI, path)
 }
 
 /// A checkout in which nothing fails.
-pub(super) fn checkout<'a>(rows: &'a [Row], wanted: &'static str) -> Case<'a> {
+pub fn checkout<'a>(rows: &'a [Row], wanted: &'static str) -> Case<'a> {
     Case {
         command: &["checkout"],
         index: true,
@@ -166,34 +150,6 @@ pub(super) fn checkout<'a>(rows: &'a [Row], wanted: &'static str) -> Case<'a> {
     }
 }
 
-pub(super) fn push_row(index: &mut Vec<u8>, row: &Row) -> Result<(), AllocError> {
-    let len = row.path.len() % 0x1000;
-    let flags = (row.stage % 4) * 0x1000 + len as u16;
-    let name = row.name;
-    index.extend_from_slice(&[0; 24])?;
-    index.extend_from_slice(&row.mode.to_be_bytes())?;
-    index.extend_from_slice(&[0; 12])?;
-    index.extend_from_slice(&name)?;
-    index.extend_from_slice(&flags.to_be_bytes())?;
-    index.extend_from_slice(row.path)?;
-    let padding = 8 - (62 + len) % 8;
-    index.extend_from_slice([0u8; 8].split_at(padding).0)?;
-    Ok(())
-}
-
-fn index_of(alloc: Global, case: &Case) -> Result<Vec<u8>, AllocError> {
-    let mut index = Vec::from_slice(alloc, b"DIRC\0\0\0\x02")?;
-    let count = (case.rows.len() % 100) as u32;
-    index.extend_from_slice(&count.to_be_bytes())?;
-    for row in case.rows {
-        push_row(&mut index, row)?;
-    }
-    let hash = case.hash;
-    index.extend_from_slice(case.more)?;
-    index.extend_from_slice(&hash)?;
-    Ok(index)
-}
-
 fn copied(alloc: Global, file: Option<&[u8]>) -> Result<Option<Vec<u8>>, AllocError> {
     match file {
         Some(bytes) => Ok(Some(Vec::from_slice(alloc, bytes)?)),
@@ -201,9 +157,9 @@ fn copied(alloc: Global, file: Option<&[u8]>) -> Result<Option<Vec<u8>>, AllocEr
     }
 }
 
-fn repo_of(alloc: Global, case: &Case) -> Result<MemoryRepo, AllocError> {
+pub fn repo_of(alloc: Global, case: &Case) -> Result<MemoryRepo, AllocError> {
     let index = if case.index {
-        Some(index_of(alloc, case)?)
+        Some(index_bytes(alloc, case.rows, case.more, case.hash)?)
     } else {
         None
     };
@@ -223,7 +179,7 @@ fn repo_of(alloc: Global, case: &Case) -> Result<MemoryRepo, AllocError> {
     Ok(MemoryRepo::new(alloc, index, config, info, objects, fails))
 }
 
-fn tree_of(alloc: Global, case: &Case) -> Result<MemoryTree, AllocError> {
+pub fn tree_of(alloc: Global, case: &Case) -> Result<MemoryTree, AllocError> {
     let mut fails = Vec::new(alloc);
     if let Some((path, call)) = case.leaf_fails {
         fails.push((Bytes::copy_of(alloc, path)?, call))?;
@@ -231,7 +187,7 @@ fn tree_of(alloc: Global, case: &Case) -> Result<MemoryTree, AllocError> {
     Ok(MemoryTree::new(alloc, case.empty, fails, case.check_fails))
 }
 
-pub(super) fn words_of(alloc: Global, command: &[&str]) -> Result<Vec<String>, AllocError> {
+pub fn words_of(alloc: Global, command: &[&str]) -> Result<Vec<String>, AllocError> {
     let mut words = Vec::new(alloc);
     words.push(String::from_str(alloc, "R")?)?;
     words.push(String::from_str(alloc, "T")?)?;
@@ -276,7 +232,7 @@ fn seen_of(alloc: Global, case: &Case) -> Result<String, Fail> {
     Ok(seen)
 }
 
-pub(super) fn check(rt: &impl Abort, alloc: Global, cases: &[Case]) -> Result<(), Fail> {
+pub fn check(rt: &impl Abort, alloc: Global, cases: &[Case]) -> Result<(), Fail> {
     for case in cases {
         let seen = seen_of(alloc, case)?;
         assert_eq!(rt; seen.as_str(), case.wanted);
