@@ -1,0 +1,6 @@
+pub mod Told
+pub mod Sent
+pub mod More
+pub mod Lines
+pub mod Opens
+pub mod Hands

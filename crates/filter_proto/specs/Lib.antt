@@ -1,0 +1,7 @@
+pub mod Links
+pub mod Wires
+pub mod Sending
+pub mod Exchanges
+pub mod Replies
+pub mod Steps
+pub mod Openings
