@@ -1,0 +1,89 @@
+-- What is seen of a link to a driver, and what its calls make of that.
+use Rattle.std.specs.Prelude.{◌≡◌, ◌≤◌, ◌<◌, ℕ, List, [], ◌++◌, take, length, Bool, true, false, Option, Some, Result, Ok, Err}
+use Rattle.std.specs.Option.{option_map}
+use Rattle.edge_kit.specs.Faults.{Rose}
+use Rattle.edge_kit.specs.Told.{Tells}
+use Rattle.edge_kit.specs.Files.{grown}
+use Rattle.edge_kit.specs.declared.faults.SendFault.{SendFault}
+use Rattle.edge_kit.specs.declared.faults.Failed.{Failed}
+
+-- How far a link was shut: its input was closed, and then its end was waited for.
+pub data Stage : Type 0 where
+  Open : Stage
+  InputShut : Stage
+  Shut : Stage
+
+-- The bytes that were sent, those that were taken and those that are left to read, each where it
+-- tells; how often it has failed, how often it met an end of input, and how far it was shut.
+pub record LinkSeen : Type 0 where
+  pub sent : Option (List ℕ)
+  pub taken : Option (List ℕ)
+  pub left : Option (List ℕ)
+  pub faults : ℕ
+  pub ends : ℕ
+  pub stage : Stage
+
+abbrev pub input_shut : Stage → Stage
+input_shut Open = InputShut
+input_shut InputShut = InputShut
+input_shut Shut = Shut
+
+-- a wait counts only behind a closed input
+abbrev pub waited : Stage → Stage
+waited Open = Open
+waited InputShut = Shut
+waited Shut = Shut
+
+abbrev pub is_shut : Stage → Bool
+is_shut Open = false
+is_shut InputShut = false
+is_shut Shut = true
+
+-- bytes before what is told
+abbrev pub led : List ℕ → Option (List ℕ) → Option (List ℕ)
+led piece told = option_map (λ w. piece ++ w) told
+
+-- a link on which nothing was called
+pub record IsNewLink (link : LinkSeen) : Type 0 where
+  pub sent : Tells link.sent []
+  pub taken : Tells link.taken []
+  pub unfailed : link.faults ≡ 0
+  pub unended : link.ends ≡ 0
+  pub unshut : link.stage ≡ Open
+
+-- a proper first part of the piece was sent, or nothing
+pub record SendsPart (old : Option (List ℕ)) (piece : List ℕ) (new : Option (List ℕ)) : Type 0 where
+  pub front : List ℕ
+  pub after : List ℕ
+  pub cut : piece ≡ front ++ after
+  pub told : new ≡ grown old front
+  pub proper : 0 < length piece → 0 < length after
+
+-- a send ended early, for a fault or for want of memory
+pub record IsSendCut (piece : List ℕ) (old new : LinkSeen) : Type 0 where
+  pub part : SendsPart old.sent piece new.sent
+  pub kept : new ≡ record old { sent = new.sent; faults = new.faults }
+
+-- the piece was sent whole, or not
+abbrev pub Sends : {T : Type 0} → List ℕ → LinkSeen → LinkSeen → Result T SendFault → Type 0
+Sends piece old new (Ok x) = new ≡ record old { sent = grown old.sent piece }
+Sends piece old new (Err e) = IsSendCut piece old new
+
+-- So many bytes were taken from the front of what is left, and stand at the front of the buffer.
+-- None is an end of input.
+pub record IsRead (count : ℕ) (into : List ℕ) (old new : LinkSeen) : Type 0 where
+  pub within : count ≤ length into
+  pub left : old.left ≡ led (take count into) new.left
+  pub kept : new ≡ record old {
+    taken = grown old.taken (take count into);
+    left = new.left;
+    ends = new.ends;
+  }
+  pub ended : count ≡ 0 → Rose old.ends new.ends × Tells old.left []
+  pub going : 0 < count → new.ends ≡ old.ends
+  pub all_taken : old.left ≡ Some [] → count ≡ 0
+
+-- a read that fails has taken nothing
+abbrev pub Reads : List ℕ → LinkSeen → LinkSeen → Result ℕ Failed → Type 0
+Reads into old new (Ok count) = IsRead count into old new
+Reads into old new (Err e) = new ≡ record old { faults = new.faults }
