@@ -6,7 +6,7 @@ use Rattle.std.proofs.lemmas.List.{append-nil}
 use Rattle.pkt_line.specs.Packets.{Packet, Payload, Flush, Stands, size}
 use Rattle.filter_words.specs.Outcomes.{outcome, limit}
 use Rattle.filter_words.specs.Words.{without_lf}
-use Rattle.filter_words.specs.Handshake.{handshake_step, handshake_start, no_caps}
+use Rattle.filter_words.specs.Handshake.{handshake_step, handshake_start, no_caps, IsHello}
 use Rattle.filter_words.specs.declared.reply.BreakCause.{BreakCause}
 use Rattle.filter_words.specs.declared.reply.BreakCause.TheVariants as cause
 use Rattle.filter_words.specs.declared.reply.Caps.{Caps}
@@ -16,7 +16,7 @@ use Rattle.filter_words.specs.declared.answer_state.AnswerState.{AnswerState}
 use Rattle.filter_words.specs.declared.answer_state.AnswerState.TheVariants.{On, Done, Broken, Late}
 use Rattle.filter_proto.specs.Wires.{Wire}
 use Rattle.filter_proto.specs.Exchanges.{Ends, Good, Broke, IsReading, IsHeard}
-use Rattle.filter_proto.specs.Openings.{IsHello, LacksHello, BeginsHello, HelloBy, is_early, HandIs, TakesState, caps_end}
+use Rattle.filter_proto.specs.Openings.{LacksHello, BeginsHello, HelloBy, is_early, HandIs, TakesState, caps_end}
 use Rattle.filter_proto.specs.declared.opening.HandStep.{HandStep}
 use Rattle.filter_proto.specs.declared.opening.HandStep.TheVariants as hand
 use Rattle.filter_proto.proofs.More.{Skips, reading_on_with, heard_with, too_long, fitting, still_skip}

@@ -12,7 +12,7 @@ use Rattle.filter_words.specs.declared.answer_state.AnswerState.TheVariants.{On,
 use Rattle.edge_kit.specs.Faults.{Rose}
 use Rattle.edge_kit.specs.Files.{grown}
 use Rattle.edge_kit.specs.Told.{Tells}
-use Rattle.filter_proto.specs.Links.{led, SendsPart}
+use Rattle.edge_kit.specs.Links.{led, SendsPart}
 use Rattle.edge_kit.specs.declared.faults.SendFault.{SendFault}
 use Rattle.edge_kit.specs.declared.faults.SendFault.TheVariants as send
 use Rattle.filter_proto.specs.Wires.{Wire, Took, Filled, FillFails, IsSentPart, SendsOn}

@@ -1,6 +1,6 @@
 -- A request that is sent in parts.
 use Rattle.std.proofs.Common.{◌≡◌, ℕ, suc, ◌+◌, ◌-◌, ◌<◌, ◌≤◌, List, [], ◌∷◌, ◌++◌, length, length-append, take, drop, map, Option, Some, None, Result, Ok, Err, refl, sym, ap, subst, ◌∙◌, arith, append_assoc}
-use Rattle.std.specs.Prelude.{⊤}
+use Rattle.std.specs.Prelude.{⊤, OnOk}
 use Rattle.std.proofs.lemmas.List.{append-nil, length-drop, take_all}
 use Rattle.pkt_line.specs.Packets.{Packet, Payload, Flush}
 use Rattle.pkt_line.specs.Spelling.{spelling, spelling_all, content_packets, piece_count, pieces_of}
@@ -9,7 +9,7 @@ use Rattle.edge_kit.specs.Faults.{Rose, AfterSend}
 use Rattle.edge_kit.specs.Files.{grown}
 use Rattle.edge_kit.specs.declared.faults.SendFault.{SendFault}
 use Rattle.edge_kit.specs.declared.faults.SendFault.TheVariants as send
-use Rattle.filter_proto.specs.Links.{LinkSeen, Sends, SendsPart, IsSendCut}
+use Rattle.edge_kit.specs.Links.{LinkSeen, Sends, SendsPart, IsSendCut}
 use Rattle.filter_proto.specs.Sending.{SendsAll}
 use Rattle.filter_proto.proofs.Told.{grown_nothing, grown_both}
 
@@ -100,24 +100,24 @@ pub content_none : content_text [] ≡ spelling Flush
 unfolding content_text
 content_none = append-nil (spelling Flush)
 
+empty_is : (xs : List ℕ) → length xs ≡ 0 → xs ≡ []
+empty_is [] e = refl
+empty_is (x ∷ xs) e = absurd (omega arith)
+
 pub content_one : (piece : List ℕ) → 1 ≤ length piece → length piece ≤ 65516 → content_text piece ≡ spelling (Payload piece) ++ spelling Flush
 content_one piece some few =
     let all : take 65516 piece ≡ piece = take_all 65516 piece few in
-    let none : drop 65516 piece ≡ [] = empty_of (drop 65516 piece) (omega (arith, length-drop 65516 piece)) in
+    let none : drop 65516 piece ≡ [] = empty_is (drop 65516 piece) (omega (arith, length-drop 65516 piece)) in
     content_cut piece some ∙ (ap (λ (x : List ℕ). spelling (Payload x) ++ content_text (drop 65516 piece)) all ∙ (ap (λ (x : List ℕ). spelling (Payload piece) ++ content_text x) none ∙ ap (λ (x : List ℕ). spelling (Payload piece) ++ x) content_none))
-  where
-    empty_of : (xs : List ℕ) → length xs ≡ 0 → xs ≡ []
-    empty_of [] e = refl
-    empty_of (x ∷ xs) e = absurd (omega arith)
 
-ends_so : (ps : List Packet) → 0 < length (spelling_all (ps ++ Flush ∷ []))
-ends_so [] = omega arith
-ends_so (p ∷ ps) = let more = ends_so ps in omega (arith, length-append (spelling p) (spelling_all (ps ++ Flush ∷ [])), more)
+ends_so : length (spelling Flush) ≡ 4 → (ps : List Packet) → 0 < length (spelling_all (ps ++ Flush ∷ []))
+ends_so four [] = omega (arith, length-append (spelling Flush) [], four)
+ends_so four (p ∷ ps) = let more = ends_so four ps in omega (arith, length-append (spelling p) (spelling_all (ps ++ Flush ∷ [])), more)
 
 -- a flush stands behind each content
-pub content_some : (content : List ℕ) → 0 < length (content_text content)
+pub content_some : length (spelling Flush) ≡ 4 → (content : List ℕ) → 0 < length (content_text content)
 unfolding content_text
-content_some content = ends_so (content_packets content)
+content_some four content = ends_so four (content_packets content)
 
 -- what is held, and the content behind it, is the rest of a text whose front was sent
 pub record IsUnderway (old now : LinkSeen) (whole held rest : List ℕ) : Type 0 where
@@ -148,16 +148,28 @@ underway_next old now new whole held piece rest after none u more p a h e =
       text = rw e (behind_piece whole u.before held piece rest after u.text c ∙ sym (append_assoc u.before one (content_text after)));
     }
 
-pub underway_stops : (old now new : LinkSeen) (whole held piece rest after : List ℕ) (f : SendFault) → IsUnderway old now whole held rest → 65516 < length rest → piece ≡ take 65516 rest → after ≡ drop 65516 rest
+pub underway_stops : length (spelling Flush) ≡ 4 → (old now new : LinkSeen) (whole held piece rest after : List ℕ) (f : SendFault) → IsUnderway old now whole held rest → 65516 < length rest → piece ≡ take 65516 rest → after ≡ drop 65516 rest
     → SendsAll {T = ⊤} (held ++ spelling (Payload piece)) now new (Err f) → SendsAll {T = ⊤} whole old new (Err f)
-underway_stops old now new whole held piece rest after f u more p a h =
+underway_stops four old now new whole held piece rest after f u more p a h =
     let c : content_text rest ≡ spelling (Payload piece) ++ content_text after = rw (p, a) (content_cut rest (omega arith)) in
     let one = held ++ spelling (Payload piece) in
-    let some : 0 < length (one ++ content_text after) = let s = content_some after in omega (arith, length-append one (content_text after), s) in
+    let some : 0 < length (one ++ content_text after) = let s = content_some four after in omega (arith, length-append one (content_text after), s) in
     sent_as _ whole old new (Err f) (behind_piece whole u.before held piece rest after u.text c)
       (sent_behind u.before (one ++ content_text after) old now new (Err f) some u.sent (stopped_before one (content_text after) now new f h))
 
-pub underway_last : (old now new : LinkSeen) (whole held rest : List ℕ) (r : Result ⊤ SendFault) → IsUnderway old now whole held rest → SendsAll (held ++ content_text rest) now new r → SendsAll whole old new r
-underway_last old now new whole held rest r u h =
-    let some : 0 < length (held ++ content_text rest) = let s = content_some rest in omega (arith, length-append held (content_text rest), s) in
+pub underway_last : length (spelling Flush) ≡ 4 → (old now new : LinkSeen) (whole held rest : List ℕ) (r : Result ⊤ SendFault) → IsUnderway old now whole held rest → SendsAll (held ++ content_text rest) now new r → SendsAll whole old new r
+underway_last four old now new whole held rest r u h =
+    let some : 0 < length (held ++ content_text rest) = let s = content_some four rest in omega (arith, length-append held (content_text rest), s) in
     sent_as _ whole old new r u.text (sent_behind u.before (held ++ content_text rest) old now new r some u.sent h)
+
+-- what the last packet and the flush behind it make of the text that is held
+on_ok : {A E : Type 0} (r : Result A E) (P Q : Type 0) → (P → Q) → OnOk r P → OnOk r Q
+on_ok (Ok a) P Q f p = f p
+on_ok (Err e) P Q f p = p
+
+pub last_none : {A E : Type 0} (r : Result A E) (old new piece : List ℕ) → length piece ≡ 0 → OnOk r (new ≡ old ++ spelling Flush) → OnOk r (new ≡ old ++ content_text piece)
+last_none r old new piece e h = on_ok r _ _ (λ (k : new ≡ old ++ spelling Flush). k ∙ ap (λ (x : List ℕ). old ++ x) (sym (ap content_text (empty_is piece e) ∙ content_none))) h
+
+pub last_one : {A E : Type 0} (r : Result A E) (old mid new piece : List ℕ) → 0 < length piece → length piece ≤ 65516 → mid ≡ old ++ spelling (Payload piece) → OnOk r (new ≡ mid ++ spelling Flush) → OnOk r (new ≡ old ++ content_text piece)
+last_one r old mid new piece some few m h = on_ok r _ _ (λ (k : new ≡ mid ++ spelling Flush).
+    k ∙ (ap (λ (x : List ℕ). x ++ spelling Flush) m ∙ (append_assoc old (spelling (Payload piece)) (spelling Flush) ∙ ap (λ (x : List ℕ). old ++ x) (sym (content_one piece (omega (arith, some)) few))))) h

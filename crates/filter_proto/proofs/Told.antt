@@ -9,7 +9,7 @@ use Rattle.pkt_line.specs.declared.reader.Next.{Next}
 use Rattle.pkt_line.specs.declared.reader.PktFault.{PktFault}
 use Rattle.pkt_line.specs.declared.reader.PktFault.TheVariants as fault
 use Rattle.edge_kit.specs.Files.{grown}
-use Rattle.filter_proto.specs.Links.{led}
+use Rattle.edge_kit.specs.Links.{led}
 use Rattle.filter_words.specs.SmudgeReply.{reply_step}
 use Rattle.filter_words.specs.declared.words.Status.TheVariants as status
 use Rattle.filter_words.specs.declared.smudge_reply.ReplyPhase.{ReplyPhase}
@@ -18,10 +18,10 @@ use Rattle.filter_words.specs.declared.answer_state.AnswerState.{AnswerState}
 use Rattle.filter_words.specs.declared.answer_state.AnswerState.TheVariants.{On, Done, Broken, Late}
 use Rattle.edge_kit.specs.declared.faults.SendFault.{SendFault}
 use Rattle.edge_kit.specs.declared.faults.SendFault.TheVariants as send
-use Rattle.filter_proto.specs.Links.{LinkSeen, Sends}
+use Rattle.edge_kit.specs.Links.{LinkSeen, Sends}
 use Rattle.filter_proto.specs.Sending.{SendsAll}
 use Rattle.edge_kit.specs.Faults.{AfterSend}
-use Rattle.filter_proto.specs.Wires.{Sees, SendsOn, wire_of}
+use Rattle.filter_proto.specs.Wires.{Sees, SendsOn, SessionSeen, wire_of}
 
 pub sees : (r : Result Next PktFault) (x : Reading) → Peeks r x → Sees r x.unread
 sees (Ok n) x h = h
@@ -72,3 +72,7 @@ sends_on unread piece old new (Err send.NoMemory) h f =
 pub sends_all_on : {T : Type 0} (unread text : List ℕ) (old new : LinkSeen) (r : Result T SendFault)
     → SendsAll text old new r → SendsOn text (wire_of unread old) (wire_of unread new) r
 sends_all_on unread text old new r h = sends_on unread text old new r h.sends h.counts
+
+-- nothing but the wire changes, call by call
+pub rest_on : (a b c : SessionSeen) → b ≡ record a { wire = b.wire } → c ≡ record b { wire = c.wire } → c ≡ record a { wire = c.wire }
+rest_on a b c one two = two ∙ ap (λ (s : SessionSeen). record s { wire = c.wire }) one

@@ -1,4 +1,3 @@
-pub mod Links
 pub mod Wires
 pub mod Sending
 pub mod Exchanges

@@ -12,7 +12,7 @@ use Rattle.edge_kit.specs.Files.{grown}
 use Rattle.edge_kit.specs.Told.{Tells}
 use Rattle.edge_kit.specs.declared.faults.SendFault.{SendFault}
 use Rattle.edge_kit.specs.declared.faults.SendFault.TheVariants as send
-use Rattle.filter_proto.specs.Links.{LinkSeen, Stage, led, input_shut, waited, SendsPart}
+use Rattle.edge_kit.specs.Links.{LinkSeen, Stage, led, input_shut, waited, SendsPart}
 use Rattle.filter_proto.specs.declared.session.Standing.{Standing}
 use Rattle.filter_proto.specs.declared.session.Standing.TheVariants as standing
 

@@ -13,10 +13,9 @@ ghost use Rattle.filter_proto.specs.Replies.{IsPut, HasPut, EndPut, NotBegun, To
 ghost use Rattle.filter_proto.specs.Steps.{FlushIs, StepIs, StepBegins};
 ghost use Rattle.filter_proto.specs.declared.reading.Step.TheVariants as step;
 
-use crate::link::Link;
 use crate::reading::{Asked, Reading, Step};
 use crate::session::{Session, Standing};
-use edge_kit::{Leaf, SendFault};
+use edge_kit::{Leaf, Link, SendFault};
 use filter_words::{AnswerState, BreakCause, MOST_ANSWER, Reply, ReplyPhase};
 use filter_words::{reply_after_flush, reply_after_line};
 use pkt_line::Next;

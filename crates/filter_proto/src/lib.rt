@@ -5,14 +5,12 @@
 #![tactic(auto)]
 
 mod asking;
-mod link;
 mod listing;
 mod opening;
 mod reading;
 mod sending;
 mod session;
 
-pub use link::Link;
 pub use opening::Begun;
 pub use reading::Asked;
 pub use session::{Session, Standing};

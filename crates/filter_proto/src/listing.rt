@@ -3,8 +3,8 @@ ghost use Rattle.filter_words.specs.Listing.{list_step, list_start};
 ghost use Rattle.filter_words.specs.Requests.{list_text};
 ghost use Rattle.filter_proto.specs.Exchanges.{IsExchange, OutOfMemory};
 
-use crate::link::Link;
 use crate::session::{Session, Standing};
+use edge_kit::Link;
 use filter_words::ListReply;
 
 impl<K: Link> Session<K> {

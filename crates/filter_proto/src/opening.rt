@@ -11,9 +11,8 @@ ghost use Rattle.filter_proto.specs.Exchanges.{Good, Broke, OutOfMemory, IsReadi
 ghost use Rattle.filter_proto.specs.Openings.{IsOpening, HelloBy, is_early, HandIs, TakesState, caps_end, opening_end, GoesAfter};
 ghost use Rattle.filter_proto.specs.declared.opening.HandStep.TheVariants as hand;
 
-use crate::link::Link;
 use crate::session::{Session, Standing};
-use edge_kit::SendFault;
+use edge_kit::{Link, SendFault};
 use filter_words::{AnswerState, BreakCause, Caps, HandshakePhase, MOST_ANSWER};
 use filter_words::{handshake_after_flush, handshake_after_line, push_caps, push_hello};
 use pkt_line::{Next, PktReader};

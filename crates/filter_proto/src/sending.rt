@@ -5,10 +5,9 @@ ghost use Rattle.pkt_line.specs.Spelling.{spelling};
 ghost use Rattle.filter_words.specs.Requests.{keys_text, content_text, first_text};
 ghost use Rattle.filter_proto.specs.Sending.{SendsAll};
 
-use crate::link::Link;
-use edge_kit::SendFault;
+use edge_kit::{Link, SendFault};
 use filter_words::{push_smudge_keys, request_in_parts};
-use pkt_line::{push_flush, push_payload};
+use pkt_line::{push_flush, push_payload, spells};
 use std::alloc::{AllocError, Global};
 
 /// The most bytes of a content in one packet.
@@ -48,6 +47,7 @@ fn send_behind<K: Link>(
     ensures { SendsAll ((text.old).items ++ content_text content.now)
         (K.seen link.old) (K.seen link.new) result }
 {
+    spells();
     let mut rest = content;
     while rest.len() > MOST_PAYLOAD {
         let (piece, after) = rest.split_at(MOST_PAYLOAD);
@@ -98,6 +98,7 @@ fn send_last<K: Link>(
 }
 
 /// Appends a content of one packet, or of none where it is empty, and flush.
+#[tactic(auto, using(crate::proofs::Sent::last_none, crate::proofs::Sent::last_one))]
 fn push_last(alloc: Global, text: &mut Vec<u8>, piece: &[u8]) -> Result<(), AllocError>
     requires few { length piece.now ≤ 65516 }
     ensures ok { OnOk result ((text.new).items ≡ (text.old).items ++ content_text piece.now) }

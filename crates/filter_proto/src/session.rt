@@ -2,12 +2,11 @@ ghost use Rattle.std.specs.Prelude.{◌≡◌, IsTrue, ◌↔◌, ◌≤◌, ◌
 ghost use Rattle.pkt_line.specs.Packets.{IsPartial, HasPacketOf};
 ghost use Rattle.filter_words.specs.Requests.{first_text};
 ghost use Rattle.edge_kit.specs.Faults.{AfterCall};
-ghost use Rattle.filter_proto.specs.Links.{Reads};
+ghost use Rattle.edge_kit.specs.Links.{Reads};
 ghost use Rattle.filter_proto.specs.Wires.{wire_of, Filled, FillFails, Sees, SendsOn, IsShutAfter};
 
-use crate::link::Link;
 use crate::sending::send_smudge;
-use edge_kit::{Failed, SendFault};
+use edge_kit::{Failed, Link, SendFault};
 use filter_words::{BreakCause, Caps};
 use pkt_line::{Next, PktFault, PktReader};
 use std::alloc::Global;

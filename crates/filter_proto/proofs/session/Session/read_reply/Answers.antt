@@ -1,5 +1,5 @@
-use Rattle.std.proofs.Common.{rules, refl, ◌≡◌, ◌++◌, Ok, sym, ap, ◌∙◌}
-use Rattle.filter_proto.specs.Wires.{SessionSeen}
+use Rattle.std.proofs.Common.{rules, refl, ◌≡◌, ◌++◌, Ok, sym, ◌∙◌}
+use Rattle.filter_proto.proofs.Told.{rest_on}
 use Rattle.filter_words.specs.SmudgeReply.{reply_step, reply_start}
 use Rattle.filter_proto.specs.Replies.{IsPut}
 use Rattle.filter_proto.proofs.More.{reading_starts}
@@ -21,7 +21,7 @@ loop-reply-preserved g c = record {
   usable = c.in-On.ensures.usable;
   sent = c.in-On.ensures.sent ∙ c.loop-reply.invariant.sent;
   stage = c.in-On.ensures.stage ∙ c.loop-reply.invariant.stage;
-  rest = c.in-On.ensures.rest ∙ ap (λ (s : SessionSeen). record s { wire = c.in-On.new.self.wire }) c.loop-reply.invariant.rest;
+  rest = rest_on c.args.self.now _ _ c.loop-reply.invariant.rest c.in-On.ensures.rest;
 }
 
 pub returns-in-End-clause-heard : goal.returns-in-End-clause-heard
