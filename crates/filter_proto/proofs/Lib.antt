@@ -4,3 +4,5 @@ pub mod More
 pub mod Lines
 pub mod Opens
 pub mod Hands
+pub mod Tables
+pub mod Listings

@@ -145,7 +145,7 @@ reading_on step start s a b room left p q before after x r k fits next more =
     }
 
 -- a packet ends the answer
-heard_packet : {P G : Type 0} (step : P → Packet → AnswerState P G) (start t : AnswerState P G) (s a b : Wire) (room : ℕ) (p : P) (end : Ends G) (before after : List Packet → Type 0) (x : Packet) → IsReading step start s a room p before → Skips a x b
+pub heard_packet : {P G : Type 0} (step : P → Packet → AnswerState P G) (start t : AnswerState P G) (s a b : Wire) (room : ℕ) (p : P) (end : Ends G) (before after : List Packet → Type 0) (x : Packet) → IsReading step start s a room p before → Skips a x b
     → outcome step room (On p) (x ∷ []) ≡ t → Stops t s b end → ((ps : List Packet) → outcome step limit start ps ≡ On p → before ps → after (ps ++ x ∷ [])) → IsHeard step start s b end after
 heard_packet step start t s a b room p end before after x r k gives stops more = record {
   packets = r.packets ++ x ∷ []; used = r.used ++ take (size x) a.unread;

@@ -4,3 +4,5 @@ pub mod Exchanges
 pub mod Replies
 pub mod Steps
 pub mod Openings
+pub mod Lists
+pub mod ListSteps

@@ -2,11 +2,11 @@
 ghost use Rattle.std.specs.Prelude.{◌≡◌, ◌≤◌, ◌<◌, ◌++◌, [], length, OnOk, OnErr};
 ghost use Rattle.pkt_line.specs.Packets.{Payload};
 ghost use Rattle.pkt_line.specs.Spelling.{spelling};
-ghost use Rattle.filter_words.specs.Requests.{keys_text, content_text, first_text};
+ghost use Rattle.filter_words.specs.Requests.{content_text, first_text, list_text};
 ghost use Rattle.filter_proto.specs.Sending.{SendsAll};
 
 use edge_kit::{Link, SendFault};
-use filter_words::{push_smudge_keys, request_in_parts};
+use filter_words::{push_list, push_smudge_keys, request_in_parts};
 use pkt_line::{push_flush, push_payload, spells};
 use std::alloc::{AllocError, Global};
 
@@ -33,6 +33,22 @@ pub(crate) fn send_smudge<K: Link>(
     text.clear();
     match push_smudge_keys(alloc, text, path, can_delay) {
         Ok(()) => send_behind(alloc, link, text, content),
+        Err(_) => Err(SendFault::NoMemory),
+    }
+}
+
+/// Sends the request for a list of the delayed paths that are ready.
+#[tactic(auto, using(crate::proofs::Sent::sent_none, crate::proofs::Sent::sent_as))]
+pub(crate) fn send_list<K: Link>(
+    alloc: Global,
+    link: &mut K,
+    text: &mut Vec<u8>,
+) -> Result<(), SendFault>
+    ensures { SendsAll list_text (K.seen link.old) (K.seen link.new) result }
+{
+    text.clear();
+    match push_list(alloc, text) {
+        Ok(()) => send_held(link, text),
         Err(_) => Err(SendFault::NoMemory),
     }
 }

@@ -1,11 +1,11 @@
 ghost use Rattle.std.specs.Prelude.{◌≡◌, IsTrue, ◌↔◌, ◌≤◌, ◌<◌, IfOk, OnOk, take, drop, length, vec_len};
 ghost use Rattle.pkt_line.specs.Packets.{IsPartial, HasPacketOf};
-ghost use Rattle.filter_words.specs.Requests.{first_text};
+ghost use Rattle.filter_words.specs.Requests.{first_text, list_text};
 ghost use Rattle.edge_kit.specs.Faults.{AfterCall};
 ghost use Rattle.edge_kit.specs.Links.{Reads};
 ghost use Rattle.filter_proto.specs.Wires.{wire_of, Filled, FillFails, Sees, SendsOn, IsShutAfter};
 
-use crate::sending::send_smudge;
+use crate::sending::{send_list, send_smudge};
 use edge_kit::{Failed, Link, SendFault};
 use filter_words::{BreakCause, Caps};
 use pkt_line::{Next, PktFault, PktReader};
@@ -153,6 +153,15 @@ impl<K: Link> Session<K> {
         ensures rest { self.new ≡ record self.old { wire = self.new.wire } }
     {
         send_smudge(self.alloc, &mut self.link, &mut self.text, path, can_delay, content)
+    }
+
+    /// Sends the request for a list.
+    #[tactic(auto, using(crate::proofs::Told::sends_all_on))]
+    pub(crate) fn send_list(&mut self) -> Result<(), SendFault>
+        ensures sends { SendsOn list_text self.old.wire self.new.wire result }
+        ensures rest { self.new ≡ record self.old { wire = self.new.wire } }
+    {
+        send_list(self.alloc, &mut self.link, &mut self.text)
     }
 
     /// Takes more bytes, where less than a packet is there.
