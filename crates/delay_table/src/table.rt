@@ -63,6 +63,15 @@ impl DelayTable {
         })
     }
 
+    /// No name has two places.
+    #[tactic(auto, using(crate::proofs::Names::one_place))]
+    pub fn names_differ(&self)
+        ensures { (name : List ℕ) (p q : ℕ) → slice_get (self.now).names p ≡ Some name
+            → slice_get (self.now).names q ≡ Some name → q ≡ p }
+    {
+        let _ = &self.names;
+    }
+
     /// The driver delayed the name of this place.
     pub fn delay(&mut self, place: u32)
         requires idle { slice_get (self.old).places place ≡ Some Idle }

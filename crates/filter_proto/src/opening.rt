@@ -1,0 +1,272 @@
+// The handshake of a session, gitattributes(5), "Long Running Filter Process": two texts, and two answers that count as one.
+ghost use Rattle.std.specs.Prelude.{◌≡◌, ◌<◌, ◌+◌, ◌-◌, ◌*◌, ℕ, true, false, List, [], IfOk, OnOk, IfErr, length, vec_len};
+ghost use Rattle.pkt_line.specs.Packets.{Packet};
+ghost use Rattle.pkt_line.specs.Packets.{size as packet_size};
+ghost use Rattle.filter_words.specs.declared.reply.BreakCause.{BreakCause};
+ghost use Rattle.filter_words.specs.declared.reply.Caps.{Caps};
+ghost use Rattle.filter_words.specs.Handshake.{handshake_step, handshake_start};
+ghost use Rattle.filter_words.specs.Requests.{hello_text, caps_text};
+ghost use Rattle.filter_proto.specs.Wires.{Wire, SessionSeen, wire_of};
+ghost use Rattle.filter_proto.specs.Exchanges.{Good, Broke, OutOfMemory, IsReading, IsHeard};
+ghost use Rattle.filter_proto.specs.Openings.{IsOpening, HelloBy, is_early, HandIs, TakesState, caps_end, opening_end, GoesAfter};
+ghost use Rattle.filter_proto.specs.declared.opening.HandStep.TheVariants as hand;
+
+use crate::session::{Session, Standing};
+use edge_kit::{Link, SendFault};
+use filter_words::{AnswerState, BreakCause, Caps, HandshakePhase, MOST_ANSWER};
+use filter_words::{handshake_after_flush, handshake_after_line, push_caps, push_hello};
+use pkt_line::{Next, PktReader};
+use std::alloc::{AllocError, Global};
+
+/// What came of the opening of a session.
+#[derive(Drop)]
+pub enum Begun<K: Link> {
+    Live(Session<K>),
+    Broken(K, BreakCause),
+    NoMemory(K),
+}
+
+/// Why a handshake failed.
+#[derive(Clone, Copy, Debug, PartialEq, Eq)]
+pub(crate) enum OpenFault {
+    Broken(BreakCause),
+    NoMemory,
+}
+
+/// What one more packet, or more bytes, made of a handshake.
+#[derive(Clone, Copy, Debug, PartialEq, Eq)]
+pub(crate) enum HandStep {
+    On,
+    End(Result<Caps, BreakCause>),
+}
+
+/// A packet of so many bytes, which leads to this state. There may be no room for it.
+#[tactic(auto, using(crate::proofs::Hands::hand_late))]
+fn take_state(
+    state: AnswerState<HandshakePhase, Caps>,
+    size: u64,
+    room: &mut u64,
+    phase: &mut HandshakePhase,
+) -> HandStep
+    requires { (x : Packet) × (size ≡ packet_size x) × (state ≡ handshake_step phase.old x) }
+    ensures { (x : Packet) → size ≡ packet_size x → state ≡ handshake_step phase.old x
+        → TakesState room.old phase.old x result room.new phase.new }
+{
+    if *room < size {
+        return HandStep::End(Err(BreakCause::TooLong));
+    }
+    match state {
+        AnswerState::On(next) => {
+            *room -= size;
+            *phase = next;
+            HandStep::On
+        }
+        AnswerState::Done(caps) => HandStep::End(Ok(caps)),
+        AnswerState::Broken(cause) => HandStep::End(Err(cause)),
+        AnswerState::Late => unreachable!(),
+    }
+}
+
+impl<K: Link> Session<K> {
+    /// One more packet of a handshake, or more bytes.
+    #[tactic(auto, using(crate::proofs::More::stands_long))]
+    fn hand_step(&mut self, room: &mut u64, phase: &mut HandshakePhase) -> HandStep
+        ensures step { (start : Wire) → IsReading handshake_step handshake_start start self.old.wire room.old phase.old
+            (HelloBy (is_early phase.old)) → HandIs (is_early phase.old) start self.new.wire result room.new phase.new }
+        ensures late { is_early phase.old ≡ true → (caps : Caps) → result ≡ hand.End (Ok caps) → ⊥ }
+        ensures stays { result ≡ hand.On → is_early phase.old ≡ false → is_early phase.new ≡ false }
+        ensures smaller { result ≡ hand.On → 2 * room.new + (65520 - length self.new.wire.unread)
+            < 2 * room.old + (65520 - length self.old.wire.unread) }
+        ensures sent { self.new.wire.sent ≡ self.old.wire.sent }
+        ensures stage { self.new.wire.stage ≡ self.old.wire.stage }
+        ensures rest { self.new ≡ record self.old { wire = self.new.wire } }
+    {
+        match self.peek() {
+            Ok(Next::NeedMore) => match self.fill() {
+                Ok(()) => HandStep::On,
+                Err(cause) => HandStep::End(Err(cause)),
+            },
+            Ok(Next::Flush) => {
+                let state = handshake_after_flush(*phase);
+                let step = take_state(state, 4, room, phase);
+                self.skip(4);
+                step
+            }
+            Ok(Next::Payload(line)) => {
+                let size = 4 + line.len();
+                let state = handshake_after_line(*phase, line);
+                let step = take_state(state, size as u64, room, phase);
+                self.skip(size);
+                step
+            }
+            Err(_) => HandStep::End(Err(BreakCause::BadPacket)),
+        }
+    }
+
+    /// Reads the first answer.
+    fn read_hello(&mut self, room: &mut u64, phase: &mut HandshakePhase) -> Result<(), BreakCause>
+        requires { is_early phase.old ≡ true }
+        ensures ok { OnOk result ((start : Wire) → IsReading handshake_step handshake_start start self.old.wire room.old
+            phase.old (HelloBy true)
+            → IsReading handshake_step handshake_start start self.new.wire room.new phase.new (HelloBy false)) }
+        ensures late { OnOk result (is_early phase.new ≡ false) }
+        ensures err { IfErr result (λ why. (start : Wire) → IsReading handshake_step handshake_start start self.old.wire
+            room.old phase.old (HelloBy true)
+            → IsHeard handshake_step handshake_start start self.new.wire (Broke why) (HelloBy true)) }
+        ensures sent { self.new.wire.sent ≡ self.old.wire.sent }
+        ensures stage { self.new.wire.stage ≡ self.old.wire.stage }
+        ensures rest { self.new ≡ record self.old { wire = self.new.wire } }
+    {
+        while is_early(*phase) {
+            match self.hand_step(room, phase) {
+                HandStep::On => {}
+                HandStep::End(Err(cause)) => return Err(cause),
+                HandStep::End(Ok(_)) => unreachable!(),
+            }
+        }
+        Ok(())
+    }
+
+    /// Reads the second answer.
+    fn read_caps(
+        &mut self,
+        room: &mut u64,
+        phase: &mut HandshakePhase,
+    ) -> Result<Caps, BreakCause>
+        requires { is_early phase.old ≡ false }
+        ensures heard { (start : Wire) → IsReading handshake_step handshake_start start self.old.wire room.old phase.old
+            (HelloBy false) → IsHeard handshake_step handshake_start start self.new.wire (caps_end result) (HelloBy false) }
+        ensures sent { self.new.wire.sent ≡ self.old.wire.sent }
+        ensures stage { self.new.wire.stage ≡ self.old.wire.stage }
+        ensures rest { self.new ≡ record self.old { wire = self.new.wire } }
+    {
+        loop {
+            match self.hand_step(room, phase) {
+                HandStep::On => {}
+                HandStep::End(end) => return end,
+            }
+        }
+    }
+
+    /// Reads the first answer, sends the second text and reads the second answer.
+    fn shake_on(&mut self, caps: &[u8]) -> Result<Caps, OpenFault>
+        requires { caps.now ≡ caps_text }
+        ensures after { GoesAfter self.old.wire self.new.wire (opening_end result) }
+        ensures rest { self.new ≡ record self.old { wire = self.new.wire } }
+    {
+        let mut room = MOST_ANSWER;
+        let mut phase = HandshakePhase::Server;
+        match self.read_hello(&mut room, &mut phase) {
+            Ok(()) => self.shake_caps(caps, &mut room, &mut phase),
+            Err(cause) => Err(OpenFault::Broken(cause)),
+        }
+    }
+
+    /// Sends the second text and reads the second answer.
+    fn shake_caps(
+        &mut self,
+        caps: &[u8],
+        room: &mut u64,
+        phase: &mut HandshakePhase,
+    ) -> Result<Caps, OpenFault>
+        requires text { caps.now ≡ caps_text }
+        requires late { is_early phase.old ≡ false }
+        ensures after { (start : Wire) → self.old.wire.sent ≡ start.sent → self.old.wire.stage ≡ start.stage
+            → IsReading handshake_step handshake_start start self.old.wire room.old phase.old (HelloBy false)
+            → GoesAfter start self.new.wire (opening_end result) }
+        ensures rest { self.new ≡ record self.old { wire = self.new.wire } }
+    {
+        match self.send(caps) {
+            Ok(()) => match self.read_caps(room, phase) {
+                Ok(caps) => Ok(caps),
+                Err(cause) => Err(OpenFault::Broken(cause)),
+            },
+            Err(SendFault::Failed) => Err(OpenFault::Broken(BreakCause::LinkFault)),
+            Err(SendFault::NoMemory) => Err(OpenFault::NoMemory),
+        }
+    }
+
+    /// The handshake.
+    fn shake(&mut self, hello: &[u8], caps: &[u8]) -> Result<Caps, OpenFault>
+        requires hello { hello.now ≡ hello_text }
+        requires caps { caps.now ≡ caps_text }
+        ensures opening { IsOpening self.old.wire self.new.wire (opening_end result) }
+        ensures rest { self.new ≡ record self.old { wire = self.new.wire } }
+    {
+        match self.send(hello) {
+            Ok(()) => self.shake_on(caps),
+            Err(SendFault::Failed) => Err(OpenFault::Broken(BreakCause::LinkFault)),
+            Err(SendFault::NoMemory) => Err(OpenFault::NoMemory),
+        }
+    }
+
+    /// Opens a session over a link: the handshake and the capabilities. All the room that a reply needs is taken here.
+    pub fn begin(alloc: Global, link: K) -> Begun<K>
+        ensures live { (s : SessionSeen) → result ≡ Begun.Live s
+            → IsOpening (wire_of [] (K.seen link)) s.wire (Good s.caps) }
+        ensures standing { (s : SessionSeen) → result ≡ Begun.Live s → s.standing ≡ Standing.Live }
+        ensures broken { (l : K) (why : BreakCause) → result ≡ Begun.Broken l why
+            → (unread : List ℕ) × IsOpening (wire_of [] (K.seen link)) (wire_of unread (K.seen l)) (Broke why) }
+        ensures no_memory { (l : K) → result ≡ Begun.NoMemory l
+            → (unread : List ℕ) × IsOpening (wire_of [] (K.seen link)) (wire_of unread (K.seen l)) OutOfMemory }
+    {
+        let Ok(rooms) = rooms_for(alloc) else {
+            return Begun::NoMemory(link);
+        };
+        let Rooms {
+            reader,
+            piece,
+            hello,
+            caps,
+        } = rooms;
+        let mut session = Session::over(alloc, link, reader, piece);
+        match session.shake(hello.as_slice(), caps.as_slice()) {
+            Ok(caps) => {
+                session.set_caps(caps);
+                Begun::Live(session)
+            }
+            Err(OpenFault::Broken(cause)) => Begun::Broken(session.into_link(), cause),
+            Err(OpenFault::NoMemory) => Begun::NoMemory(session.into_link()),
+        }
+    }
+}
+
+/// What a session needs before it begins.
+#[derive(Drop)]
+struct Rooms {
+    reader: PktReader,
+    piece: Vec<u8>,
+    hello: Vec<u8>,
+    caps: Vec<u8>,
+}
+
+fn rooms_for(alloc: Global) -> Result<Rooms, AllocError>
+    ensures reader { IfOk result (λ r. r.reader.unread ≡ []) }
+    ensures piece { IfOk result (λ r. 0 < vec_len r.piece) }
+    ensures hello { IfOk result (λ r. r.hello.items ≡ hello_text) }
+    ensures caps { IfOk result (λ r. r.caps.items ≡ caps_text) }
+{
+    let reader = PktReader::reserve(alloc)?;
+    let mut piece = Vec::new(alloc);
+    piece.resize(65_520, 0)?;
+    let mut hello = Vec::new(alloc);
+    push_hello(alloc, &mut hello)?;
+    let mut caps = Vec::new(alloc);
+    push_caps(alloc, &mut caps)?;
+    Ok(Rooms {
+        reader,
+        piece,
+        hello,
+        caps,
+    })
+}
+
+/// Whether the first answer is still read.
+fn is_early(phase: HandshakePhase) -> bool
+    ensures { result ≡ is_early phase }
+{
+    match phase {
+        HandshakePhase::Server | HandshakePhase::Version | HandshakePhase::EndOfHello => true,
+        HandshakePhase::Capabilities(_) => false,
+    }
+}

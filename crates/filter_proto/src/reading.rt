@@ -1,0 +1,25 @@
+use edge_kit::SendFault;
+use filter_words::{Reply, ReplyPhase};
+
+/// How far the reading of a reply is.
+#[derive(Drop)]
+pub(crate) struct Reading {
+    pub room: u64,
+    pub phase: ReplyPhase,
+    pub put: Result<(), SendFault>,
+}
+
+/// What came of a request, and of the puts of its content.
+#[derive(Drop)]
+pub struct Asked {
+    pub reply: Reply,
+    /// An error only where a put failed or wanted memory. What came behind that was read and dropped.
+    pub put: Result<(), SendFault>,
+}
+
+/// What one more packet, or more bytes, made of a reply.
+#[derive(Clone, Copy, Debug, PartialEq, Eq)]
+pub(crate) enum Step {
+    On,
+    End(Reply),
+}

@@ -1,0 +1,137 @@
+// A request for a path is sent packet by packet, so its content is never copied as a whole.
+ghost use Rattle.std.specs.Prelude.{◌≡◌, ◌≤◌, ◌<◌, ◌++◌, [], length, OnOk, OnErr};
+ghost use Rattle.pkt_line.specs.Packets.{Payload};
+ghost use Rattle.pkt_line.specs.Spelling.{spelling};
+ghost use Rattle.filter_words.specs.Requests.{content_text, first_text, list_text};
+ghost use Rattle.filter_proto.specs.Sending.{SendsAll};
+
+use edge_kit::{Link, SendFault};
+use filter_words::{push_list, push_smudge_keys, request_in_parts};
+use pkt_line::{push_flush, push_payload, spells};
+use std::alloc::{AllocError, Global};
+
+/// The most bytes of a content in one packet.
+const MOST_PAYLOAD: usize = 65_516;
+
+/// Sends the request to smudge a content for a path of 1 to 4,096 bytes. `text` holds one packet at a time, with the key
+/// list before the first and the flush behind the last.
+#[tactic(auto, using(crate::proofs::Sent::sent_none, crate::proofs::Sent::sent_as))]
+pub(crate) fn send_smudge<K: Link>(
+    alloc: Global,
+    link: &mut K,
+    text: &mut Vec<u8>,
+    path: &[u8],
+    can_delay: bool,
+    content: &[u8],
+) -> Result<(), SendFault>
+    requires some { 1 ≤ length path.now }
+    requires few { length path.now ≤ 4096 }
+    ensures { SendsAll (first_text path.now can_delay content.now)
+        (K.seen link.old) (K.seen link.new) result }
+{
+    request_in_parts();
+    text.clear();
+    match push_smudge_keys(alloc, text, path, can_delay) {
+        Ok(()) => send_behind(alloc, link, text, content),
+        Err(_) => Err(SendFault::NoMemory),
+    }
+}
+
+/// Sends the request for a list of the delayed paths that are ready.
+#[tactic(auto, using(crate::proofs::Sent::sent_none, crate::proofs::Sent::sent_as))]
+pub(crate) fn send_list<K: Link>(
+    alloc: Global,
+    link: &mut K,
+    text: &mut Vec<u8>,
+) -> Result<(), SendFault>
+    ensures { SendsAll list_text (K.seen link.old) (K.seen link.new) result }
+{
+    text.clear();
+    match push_list(alloc, text) {
+        Ok(()) => send_held(link, text),
+        Err(_) => Err(SendFault::NoMemory),
+    }
+}
+
+/// Sends the text that is held, and behind it a content as packets, and flush.
+fn send_behind<K: Link>(
+    alloc: Global,
+    link: &mut K,
+    text: &mut Vec<u8>,
+    content: &[u8],
+) -> Result<(), SendFault>
+    ensures { SendsAll ((text.old).items ++ content_text content.now)
+        (K.seen link.old) (K.seen link.new) result }
+{
+    spells();
+    let mut rest = content;
+    while rest.len() > MOST_PAYLOAD {
+        let (piece, after) = rest.split_at(MOST_PAYLOAD);
+        match send_piece(alloc, link, text, piece) {
+            Ok(()) => rest = after,
+            Err(fault) => return Err(fault),
+        }
+    }
+    send_last(alloc, link, text, rest)
+}
+
+/// Sends the text that is held and one packet behind it, and then holds nothing.
+#[tactic(auto, using(crate::proofs::Sent::sent_none, crate::proofs::Sent::sent_as))]
+fn send_piece<K: Link>(
+    alloc: Global,
+    link: &mut K,
+    text: &mut Vec<u8>,
+    piece: &[u8],
+) -> Result<(), SendFault>
+    requires some { 1 ≤ length piece.now }
+    requires few { length piece.now ≤ 65516 }
+    ensures sends { SendsAll ((text.old).items ++ spelling (Payload piece.now))
+        (K.seen link.old) (K.seen link.new) result }
+    ensures empty { OnOk result ((text.new).items ≡ []) }
+{
+    match push_payload(alloc, text, piece) {
+        Ok(()) => send_held(link, text),
+        Err(_) => Err(SendFault::NoMemory),
+    }
+}
+
+/// Sends the text that is held, and behind it the last packet of a content, if it isn't empty, and flush.
+#[tactic(auto, using(crate::proofs::Sent::sent_none, crate::proofs::Sent::sent_as))]
+fn send_last<K: Link>(
+    alloc: Global,
+    link: &mut K,
+    text: &mut Vec<u8>,
+    piece: &[u8],
+) -> Result<(), SendFault>
+    requires few { length piece.now ≤ 65516 }
+    ensures { SendsAll ((text.old).items ++ content_text piece.now)
+        (K.seen link.old) (K.seen link.new) result }
+{
+    match push_last(alloc, text, piece) {
+        Ok(()) => send_held(link, text),
+        Err(_) => Err(SendFault::NoMemory),
+    }
+}
+
+/// Appends a content of one packet, or of none where it is empty, and flush.
+#[tactic(auto, using(crate::proofs::Sent::last_none, crate::proofs::Sent::last_one))]
+fn push_last(alloc: Global, text: &mut Vec<u8>, piece: &[u8]) -> Result<(), AllocError>
+    requires few { length piece.now ≤ 65516 }
+    ensures ok { OnOk result ((text.new).items ≡ (text.old).items ++ content_text piece.now) }
+{
+    if piece.is_empty() {
+        return push_flush(alloc, text);
+    }
+    push_payload(alloc, text, piece)?;
+    push_flush(alloc, text)
+}
+
+/// Sends the text that is held, and then holds nothing.
+fn send_held<K: Link>(link: &mut K, text: &mut Vec<u8>) -> Result<(), SendFault>
+    ensures sends { SendsAll (text.old).items (K.seen link.old) (K.seen link.new) result }
+    ensures empty { (text.new).items ≡ [] }
+{
+    let sent = link.send(text.as_slice());
+    text.clear();
+    sent
+}
