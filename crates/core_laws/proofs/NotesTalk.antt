@@ -20,7 +20,7 @@ use Rattle.checkout_core.specs.Agreements.{Lists, IsZero, IsSmudged, talk_at}
 use Rattle.core_laws.proofs.TalkNotes.{with_note, run_step}
 use Rattle.core_laws.proofs.TalkLists.{shadow, lists_none}
 use Rattle.core_laws.proofs.TalkEffects.{stepped}
-use Rattle.core_laws.proofs.TalkSteps.{sim_step}
+use Rattle.core_laws.proofs.TalkSims.{sim_step}
 
 talk_on : (starts : List Start) (d : ℕ) (n : Bool) (t u : Talk) (e : Event) (ns : List Event)
     → is_note starts d e ≡ n → stepped n t e ≡ Some u → is_talk d u ns ≡ true → is_talk d t (cond n (e ∷ ns) ns) ≡ true

@@ -16,6 +16,7 @@ use Rattle.checkout_core.specs.Talks.{Talk, Between, Refusing, InRound, Ended, t
 use Rattle.checkout_core.specs.Talks.{opened, answered, redone, contains, without, is_empty}
 use Rattle.checkout_core.specs.Transcripts.{Exchange, First, Listing, Second, End, Shut, NothingLeft, Aborted, Broke}
 use Rattle.checkout_core.specs.Transcripts.{OutOfMemory, Item, NoSession, Session, are_late, minus, Rounds, may_reply}
+use Rattle.checkout_core.specs.Transcripts.{reply_end, GoesOn, late_after}
 use Rattle.checkout_core.specs.Transcripts.{Asks, IsSession, Then, IsTalk, exchanges_notes, end_notes, notes_of}
 use Rattle.checkout_core.proofs.Basics.{none_is_some, some_is, same_number}
 use Rattle.core_laws.proofs.Transcripts.{Phase, Before, Refuses, Asking, Again, Noting, Over, round, talk_of, said}
@@ -57,47 +58,63 @@ never a b h = let k = (and_parts a (false && b) h).1 in absurd (cc (k))
 never_last : {A : Type 0} (a : Bool) → (a && false) ≡ true → A
 never_last a h = let k = (and_parts a false h).1 in absurd (cc (k))
 
+-- an answer that ends no session
+second_on : (d : ℕ) (delay : Bool) (late : List ℕ) (p : ℕ) (turns : List ℕ) (q : ℕ) (y : Reply) (u : Talk)
+    → q ≡ p → is_delay y ≡ false → is_good_reply y ≡ true → reply_end y ≡ None → talk_of (Again delay late turns) ≡ u
+    → Back d (Again delay late (p ∷ turns)) (ev.Redone q y) u
+second_on d delay late p turns q y u same no_delay good goes is = (
+  Again delay late turns,
+  is,
+  λ ns f. (
+    Second q y ∷ f.0,
+    f.1,
+    f.2,
+    (
+      same,
+      no_delay,
+      good,
+      subst (λ (o : Option End). GoesOn o f.1 (f.0 ≡ []) (Rounds late turns f.0 f.1)) (sym goes) f.3,
+    ),
+    f.4,
+    more (ev.Redone q y) _ ns f.5,
+  ),
+)
+
+first_on : (d : ℕ) (delay : Bool) (p : ℕ) (rest late more_late : List ℕ) (q : ℕ) (y : Reply) (u : Talk) → q ≡ p
+    → may_reply delay y ≡ true → reply_end y ≡ None → late_after y p late ≡ more_late
+    → talk_of (Asking delay rest more_late) ≡ u → Back d (Asking delay (p ∷ rest) late) (ev.Answered q y) u
+first_on d delay p rest late more_late q y u same may goes behind is = (
+  Asking delay rest more_late,
+  is,
+  λ ns f. (
+    First q y ∷ f.0,
+    f.1,
+    f.2,
+    f.3,
+    (
+      same,
+      may,
+      subst (λ (o : Option End). GoesOn o f.1 ((f.0 ≡ []) × (f.2 ≡ rest))
+          (Asks delay rest (late_after y p late) f.0 f.1 f.2))
+          (sym goes)
+          (subst (λ (l : List ℕ). Asks delay rest l f.0 f.1 f.2) (sym behind) f.4),
+    ),
+    f.5,
+    more (ev.Answered q y) _ ns f.6,
+  ),
+)
+
 -- a second request
 second_back : (d : ℕ) (delay : Bool) (late : List ℕ) (p : ℕ) (turns : List ℕ) (q : ℕ) (y : Reply) (u : Talk)
     → q ≡ p → is_delay y ≡ false → is_good_reply y ≡ true
     → redone (round delay true false [] late (p ∷ turns)) turns y ≡ u
     → Back d (Again delay late (p ∷ turns)) (ev.Redone q y) u
-second_back d delay late p turns q reply.Content u same no_delay good is = (
-  Again delay late turns,
-  is,
-  λ ns f. (
-    Second q reply.Content ∷ f.0,
-    f.1,
-    f.2,
-    (same, refl, refl, f.3),
-    f.4,
-    more (ev.Redone q reply.Content) _ ns f.5,
-  ),
-)
-second_back d delay late p turns q reply.Error u same no_delay good is = (
-  Again delay late turns,
-  is,
-  λ ns f. (
-    Second q reply.Error ∷ f.0,
-    f.1,
-    f.2,
-    (same, refl, refl, f.3),
-    f.4,
-    more (ev.Redone q reply.Error) _ ns f.5,
-  ),
-)
-second_back d delay late p turns q reply.ErrorAfter u same no_delay good is = (
-  Again delay late turns,
-  is,
-  λ ns f. (
-    Second q reply.ErrorAfter ∷ f.0,
-    f.1,
-    f.2,
-    (same, refl, refl, f.3),
-    f.4,
-    more (ev.Redone q reply.ErrorAfter) _ ns f.5,
-  ),
-)
+second_back d delay late p turns q reply.Content u same no_delay good is =
+    second_on d delay late p turns q reply.Content u same no_delay good refl is
+second_back d delay late p turns q reply.Error u same no_delay good is =
+    second_on d delay late p turns q reply.Error u same no_delay good refl is
+second_back d delay late p turns q reply.ErrorAfter u same no_delay good is =
+    second_on d delay late p turns q reply.ErrorAfter u same no_delay good refl is
 second_back d delay late p turns q reply.Delayed u same no_delay good is = absurd (cc (no_delay))
 second_back d delay late p turns q reply.Abort u same no_delay good is = (
   Over,
@@ -323,58 +340,14 @@ first_back : (d : ℕ) (delay : Bool) (p : ℕ) (rest late : List ℕ) (q : ℕ)
     → may_reply delay y ≡ true
     → answered (round delay (not (is_empty late)) false (p ∷ rest) late []) p rest y ≡ u
     → Back d (Asking delay (p ∷ rest) late) (ev.Answered q y) u
-first_back d delay p rest late q reply.Content u same may is = (
-  Asking delay rest late,
-  is,
-  λ ns f. (
-    First q reply.Content ∷ f.0,
-    f.1,
-    f.2,
-    f.3,
-    (same, may, f.4),
-    f.5,
-    more (ev.Answered q reply.Content) _ ns f.6,
-  ),
-)
-first_back d delay p rest late q reply.Error u same may is = (
-  Asking delay rest late,
-  is,
-  λ ns f. (
-    First q reply.Error ∷ f.0,
-    f.1,
-    f.2,
-    f.3,
-    (same, may, f.4),
-    f.5,
-    more (ev.Answered q reply.Error) _ ns f.6,
-  ),
-)
-first_back d delay p rest late q reply.ErrorAfter u same may is = (
-  Asking delay rest late,
-  is,
-  λ ns f. (
-    First q reply.ErrorAfter ∷ f.0,
-    f.1,
-    f.2,
-    f.3,
-    (same, may, f.4),
-    f.5,
-    more (ev.Answered q reply.ErrorAfter) _ ns f.6,
-  ),
-)
-first_back d delay p rest late q reply.Delayed u same may is = (
-  Asking delay rest (p ∷ late),
-  is,
-  λ ns f. (
-    First q reply.Delayed ∷ f.0,
-    f.1,
-    f.2,
-    f.3,
-    (same, may, f.4),
-    f.5,
-    more (ev.Answered q reply.Delayed) _ ns f.6,
-  ),
-)
+first_back d delay p rest late q reply.Content u same may is =
+    first_on d delay p rest late late q reply.Content u same may refl refl is
+first_back d delay p rest late q reply.Error u same may is =
+    first_on d delay p rest late late q reply.Error u same may refl refl is
+first_back d delay p rest late q reply.ErrorAfter u same may is =
+    first_on d delay p rest late late q reply.ErrorAfter u same may refl refl is
+first_back d delay p rest late q reply.Delayed u same may is =
+    first_on d delay p rest late (p ∷ late) q reply.Delayed u same may refl refl is
 first_back d delay p rest late q reply.Abort u same may is = (
   Over,
   is,
