@@ -1,14 +1,17 @@
 //! How characters are written in units of 16 and of 32 bits.
-ghost use Rattle.std.specs.Prelude.{◌≡◌, ◌++◌, OnOk};
+ghost use Rattle.std.specs.Prelude.{◌≡◌, ◌≤◌, ◌+◌, ◌++◌, OnOk, take};
 ghost use Rattle.std.specs.Char.{is_ascii};
 ghost use Rattle.std.specs.List.{flat_map, list_all};
 ghost use Rattle.tree_encoding.specs.Encode.{units16};
 
 use std::alloc::AllocError;
 
+/// Room for eight characters, each of at most four bytes.
+pub type Block = [u8; 32];
+
 /// A form in which characters are written.
 pub trait Form {
-    ghost use Rattle.std.specs.Prelude.{◌≡◌, ◌++◌, ℕ, List, OnOk, true};
+    ghost use Rattle.std.specs.Prelude.{◌≡◌, ◌≤◌, ◌+◌, ◌++◌, ℕ, List, OnOk, true, take};
     ghost use Rattle.std.specs.Char.{is_ascii};
     ghost use Rattle.std.specs.List.{flat_map, list_all};
 
@@ -17,8 +20,11 @@ pub trait Form {
     /// How many bytes the characters of a text take.
     fn room(text: &str) -> usize;
 
-    fn push(text: &mut Vec<u8>, character: char) -> Result<(), AllocError>
-        ensures { OnOk result (text.new.items ≡ text.old.items ++ bytes_of character) };
+    /// Writes a character into a block at this place, and gives the place behind it.
+    fn put(block: &mut Block, at: usize, character: char) -> usize
+        requires { at + 4 ≤ 32 }
+        ensures end { (at ≤ result) × (result ≤ at + 4) }
+        ensures written { take result block.new ≡ take at block.old ++ bytes_of character };
 
     /// Eight characters of ASCII at once.
     fn push_eight(text: &mut Vec<u8>, ascii: &[u8; 8]) -> Result<(), AllocError>
@@ -68,17 +74,45 @@ impl Order for Big16 {
     }
 }
 
+/// Writes a unit.
+fn put_unit<O: Order>(block: &mut Block, at: usize, unit: u16) -> usize
+    requires { at + 2 ≤ 32 }
+    ensures end { result ≡ at + 2 }
+    ensures written { take result block.new ≡ take at block.old ++ O.unit_bytes unit }
+{
+    let [first, second] = O::unit_bytes(unit);
+    block[at] = first;
+    block[at + 1] = second;
+    at + 2
+}
+
 /// A character as one unit, or above FFFF as a high and a low surrogate (RFC 2781, 2.1).
-fn push_units<O: Order>(text: &mut Vec<u8>, character: char) -> Result<(), AllocError>
-    ensures { OnOk result (text.new.items ≡ text.old.items ++ flat_map O.unit_bytes (units16 character)) }
+fn put_units<O: Order>(block: &mut Block, at: usize, character: char) -> usize
+    requires { at + 4 ≤ 32 }
+    ensures end { (at ≤ result) × (result ≤ at + 4) }
+    ensures written { take result block.new ≡ take at block.old ++ flat_map O.unit_bytes (units16 character) }
 {
     let code = u32::from(character);
     if code < 0x1_0000 {
-        return text.extend_from_slice(&O::unit_bytes(code as u16));
+        return put_unit::<O>(block, at, code as u16);
     }
     let over = code - 0x1_0000;
-    text.extend_from_slice(&O::unit_bytes((0xD800 + over / 0x400) as u16))?;
-    text.extend_from_slice(&O::unit_bytes((0xDC00 + over % 0x400) as u16))
+    let behind = put_unit::<O>(block, at, (0xD800 + over / 0x400) as u16);
+    put_unit::<O>(block, behind, (0xDC00 + over % 0x400) as u16)
+}
+
+/// Writes the four bytes of a unit of 32 bits.
+fn put_four(block: &mut Block, at: usize, bytes: [u8; 4]) -> usize
+    requires { at + 4 ≤ 32 }
+    ensures end { result ≡ at + 4 }
+    ensures written { take result block.new ≡ take at block.old ++ bytes }
+{
+    let [first, second, third, fourth] = bytes;
+    block[at] = first;
+    block[at + 1] = second;
+    block[at + 2] = third;
+    block[at + 3] = fourth;
+    at + 4
 }
 
 /// How many bytes of a text begin a character: all but those of the form 10xxxxxx (RFC 3629, 3).
@@ -108,8 +142,8 @@ impl Form for Little16 {
         room16(text)
     }
 
-    fn push(text: &mut Vec<u8>, character: char) -> Result<(), AllocError> {
-        push_units::<Little16>(text, character)
+    fn put(block: &mut Block, at: usize, character: char) -> usize {
+        put_units::<Little16>(block, at, character)
     }
 
     fn push_eight(text: &mut Vec<u8>, ascii: &[u8; 8]) -> Result<(), AllocError> {
@@ -127,8 +161,8 @@ impl Form for Big16 {
         room16(text)
     }
 
-    fn push(text: &mut Vec<u8>, character: char) -> Result<(), AllocError> {
-        push_units::<Big16>(text, character)
+    fn put(block: &mut Block, at: usize, character: char) -> usize {
+        put_units::<Big16>(block, at, character)
     }
 
     fn push_eight(text: &mut Vec<u8>, ascii: &[u8; 8]) -> Result<(), AllocError> {
@@ -154,8 +188,8 @@ impl Form for Little32 {
         room32(text)
     }
 
-    fn push(text: &mut Vec<u8>, character: char) -> Result<(), AllocError> {
-        text.extend_from_slice(&u32::from(character).to_le_bytes())
+    fn put(block: &mut Block, at: usize, character: char) -> usize {
+        put_four(block, at, u32::from(character).to_le_bytes())
     }
 
     fn push_eight(text: &mut Vec<u8>, ascii: &[u8; 8]) -> Result<(), AllocError> {
@@ -175,8 +209,8 @@ impl Form for Big32 {
         room32(text)
     }
 
-    fn push(text: &mut Vec<u8>, character: char) -> Result<(), AllocError> {
-        text.extend_from_slice(&u32::from(character).to_be_bytes())
+    fn put(block: &mut Block, at: usize, character: char) -> usize {
+        put_four(block, at, u32::from(character).to_be_bytes())
     }
 
     fn push_eight(text: &mut Vec<u8>, ascii: &[u8; 8]) -> Result<(), AllocError> {

@@ -4,7 +4,7 @@ ghost use Rattle.std.specs.Char.{is_ascii};
 ghost use Rattle.std.specs.List.{flat_map, list_all};
 ghost use Rattle.tree_encoding.specs.Front.{BeginsWithEight, GoesOn};
 
-use crate::form::Form;
+use crate::form::{Block, Form};
 use std::alloc::AllocError;
 
 /// Whether eight bytes are ASCII. Without branches, so that they are tested at once.
@@ -34,19 +34,22 @@ fn split_eight(text: &str) -> Option<(&[u8; 8], &str)>
     Some((eight, behind))
 }
 
-/// Writes the first characters of a text, up to eight. What is behind them is left.
+/// Writes the first characters of a text, up to eight, at once. What is behind them is left.
 fn push_few<'a, F: Form>(out: &mut Vec<u8>, text: &'a str) -> Result<&'a str, AllocError>
     requires { 0 < length text.now }
     ensures shorter { IfOk result (λ behind. length behind.now < length text.now) }
     ensures same { IfOk result (λ behind. GoesOn F.bytes_of out.old.items text.now out.new.items behind.now) }
 {
+    let mut block: Block = [0; 32];
+    let mut end = 0;
     let mut rest = text.chars();
     for _count in 0..8u8 {
         let Some(character) = rest.next() else {
             break;
         };
-        F::push(out, character)?;
+        end = F::put(&mut block, end, character);
     }
+    out.extend_from_slice(&block[..end])?;
     Ok(rest.as_str())
 }
 
