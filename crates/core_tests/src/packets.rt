@@ -17,7 +17,8 @@ fn conversation(alloc: Global) -> Result<Vec<u8>, Fail> {
     Ok(bytes)
 }
 
-/// Each packet that a reader gives of the bytes in pieces of this size, a payload between brackets and a flush packet as `~`.
+/// Each packet that a reader gives of the bytes in pieces of this size, a payload between brackets and a flush packet
+/// as `~`.
 fn packets_in(rt: &impl Abort, alloc: Global, bytes: &[u8], size: usize) -> Result<Vec<u8>, Fail> {
     let mut reader = PktReader::reserve(alloc)?;
     let mut shown = Vec::new(alloc);

@@ -1,5 +1,6 @@
 -- A table's fields stay right.
-use Rattle.std.proofs.Common.{◌≡◌, ℕ, zero, suc, ◌<◌, ◌≤◌, ◌^◌, Bool, true, false, List, [], ◌∷◌, ◌++◌, length, length-append, map, Option, Some, None, refl, sym, ap, ◌∙◌, subst, arith, min}
+use Rattle.std.proofs.Common.{◌≡◌, ℕ, zero, suc, ◌<◌, ◌≤◌, ◌^◌, Bool, true, false, List, [], ◌∷◌, ◌++◌, length}
+use Rattle.std.proofs.Common.{length-append, map, Option, Some, None, refl, sym, ap, ◌∙◌, subst, arith, min}
 use Rattle.std.specs.Prelude.{slice_get, slice_set, replicate}
 use mathlib.Core.Logic.{dite}
 use native.Mathlib.Decide.{ℕ_discrete, dec_lt}
@@ -9,16 +10,20 @@ use Rattle.delay_table.specs.declared.place.Place.TheVariants.{Idle, Delayed, Li
 use Rattle.delay_table.specs.Table.{contains, without, is_listed, is_pending, AreApart, IsRising}
 use Rattle.delay_table.specs.Fields.{left_to_list, turns_of, IsKept}
 use Rattle.delay_table.proofs.Places.{get_same, get_other, in_range, same_length, left_set}
-use Rattle.delay_table.proofs.Turns.{contains_here, contains_else, contains_last, contains_before, apart_last, without_it, without_others, without_apart, drop_more, drop_next, drop_at}
+use Rattle.delay_table.proofs.Turns.{contains_here, contains_else, contains_last, contains_before, apart_last}
+use Rattle.delay_table.proofs.Turns.{without_it, without_others, without_apart, drop_more, drop_next, drop_at}
 
 -- what a test says of each place, after one changed
-at_places : (f : Option Place → Bool) (g : ℕ → Bool) (ps : List Place) (p : ℕ) (x : Place) → p < length ps → g p ≡ f (Some x) → ((q : ℕ) → (q ≡ p → ⊥) → g q ≡ f (slice_get ps q))
+at_places : (f : Option Place → Bool) (g : ℕ → Bool) (ps : List Place) (p : ℕ) (x : Place) → p < length ps
+    → g p ≡ f (Some x) → ((q : ℕ) → (q ≡ p → ⊥) → g q ≡ f (slice_get ps q))
     → (q : ℕ) → g q ≡ f (slice_get (slice_set ps p x) q)
 at_places f g ps p x lt here else q = dite (ℕ_discrete q p)
-    (λ same. subst (λ (n : ℕ). g n ≡ f (slice_get (slice_set ps p x) n)) (sym same) (here ∙ ap f (sym (get_same ps p x lt))))
+    (λ same. subst (λ (n : ℕ). g n ≡ f (slice_get (slice_set ps p x) n)) (sym same)
+    (here ∙ ap f (sym (get_same ps p x lt))))
     (λ apart. else q apart ∙ ap f (sym (get_other ps p q x apart)))
 
-not_below : (ps : List Place) (p q : ℕ) (x : Place) → is_pending (slice_get ps q) ≡ false → (q ≡ p → ⊥) → is_pending (slice_get (slice_set ps p x) q) ≡ false
+not_below : (ps : List Place) (p q : ℕ) (x : Place) → is_pending (slice_get ps q) ≡ false → (q ≡ p → ⊥)
+    → is_pending (slice_get (slice_set ps p x) q) ≡ false
 not_below ps p q x none apart = ap is_pending (get_other ps p q x apart) ∙ none
 
 listed_is : (x : Option Place) → is_listed x ≡ true → x ≡ Some Listed
@@ -28,12 +33,15 @@ listed_is (Some Delayed) is = absurd (let e : true ≡ false = sym is in cc (e))
 listed_is (Some Listed) is = refl
 listed_is (Some Done) is = absurd (let e : true ≡ false = sym is in cc (e))
 
-module _ (names : List (List ℕ)) (ps : List Place) (order : List ℕ) (room delivered lowest : ℕ) (k : IsKept names ps order room delivered lowest) where
+module _ (names : List (List ℕ)) (ps : List Place) (order : List ℕ) (room delivered lowest : ℕ)
+    (k : IsKept names ps order room delivered lowest) where
   -- a place that is pending doesn't lie below the lowest
   above : (p : ℕ) → is_pending (slice_get ps p) ≡ true → (q : ℕ) → q < lowest → q ≡ p → ⊥
-  above p pending q lt same = let e : true ≡ false = sym pending ∙ (ap (λ (n : ℕ). is_pending (slice_get ps n)) (sym same) ∙ k.below q lt) in cc (e)
+  above p pending q lt same = let e : true ≡ false = sym pending
+      ∙ (ap (λ (n : ℕ). is_pending (slice_get ps n)) (sym same) ∙ k.below q lt) in cc (e)
 
-  pub kept_delayed : (p low : ℕ) → low ≡ min lowest p → slice_get ps p ≡ Some Idle → IsKept names (slice_set ps p Delayed) order room delivered low
+  pub kept_delayed : (p low : ℕ) → low ≡ min lowest p → slice_get ps p ≡ Some Idle
+      → IsKept names (slice_set ps p Delayed) order room delivered low
   kept_delayed p low' low_is at =
       let lt = in_range ps p Idle at in
       let left = left_set ps p Delayed Idle at in
@@ -45,19 +53,23 @@ module _ (names : List (List ℕ)) (ps : List Place) (order : List ℕ) (room de
         fits = omega arith;
         within = k.within;
         low = (let l = k.low in let e = same_length ps p Delayed in omega (arith, low_is, l, e));
-        below = λ q lower. not_below ps p q Delayed (k.below q (omega (arith, low_is, lower))) (omega (arith, low_is, lower));
-        each = at_places is_listed (λ q. contains q (turns_of delivered order)) ps p Delayed lt (k.each p ∙ ap is_listed at) (λ q apart. k.each q);
+        below = λ q lower. not_below ps p q Delayed (k.below q (omega (arith, low_is, lower)))
+            (omega (arith, low_is, lower));
+        each = at_places is_listed (λ q. contains q (turns_of delivered order)) ps p Delayed lt
+            (k.each p ∙ ap is_listed at) (λ q apart. k.each q);
         once = k.once;
       }
 
-  pub kept_listed : (p : ℕ) → slice_get ps p ≡ Some Delayed → IsKept names (slice_set ps p Listed) (order ++ p ∷ []) room delivered lowest
+  pub kept_listed : (p : ℕ) → slice_get ps p ≡ Some Delayed
+      → IsKept names (slice_set ps p Listed) (order ++ p ∷ []) room delivered lowest
   kept_listed p at =
       let lt = in_range ps p Delayed at in
       let left = left_set ps p Listed Delayed at in
       let fits = k.fits in
       let long = length-append order (p ∷ []) in
       let within = k.within in
-      let turns : turns_of delivered (order ++ p ∷ []) ≡ turns_of delivered order ++ p ∷ [] = drop_more delivered order (p ∷ []) k.within in
+      let turns : turns_of delivered (order ++ p ∷ []) ≡ turns_of delivered order ++ p ∷ [] =
+      drop_more delivered order (p ∷ []) k.within in
       let none : contains p (turns_of delivered order) ≡ false = k.each p ∙ ap is_listed at in
       record {
         rising = k.rising;
@@ -73,7 +85,8 @@ module _ (names : List (List ℕ)) (ps : List Place) (order : List ℕ) (room de
         once = subst AreApart (sym turns) (apart_last p (turns_of delivered order) none k.once);
       }
 
-  pub kept_delivered : (p : ℕ) (rest : List ℕ) → turns_of delivered order ≡ p ∷ rest → slice_get ps p ≡ Some Listed → delivered < length order → IsKept names (slice_set ps p Done) order room (suc delivered) lowest
+  pub kept_delivered : (p : ℕ) (rest : List ℕ) → turns_of delivered order ≡ p ∷ rest → slice_get ps p ≡ Some Listed
+      → delivered < length order → IsKept names (slice_set ps p Done) order room (suc delivered) lowest
   kept_delivered p rest turns at more =
       let lt = in_range ps p Listed at in
       let left = left_set ps p Done Listed at in
@@ -90,12 +103,15 @@ module _ (names : List (List ℕ)) (ps : List Place) (order : List ℕ) (room de
         below = λ q low. not_below ps p q Done (k.below q low) (above p (ap is_pending at) q low);
         each = at_places is_listed (λ q. contains q (turns_of (suc delivered) order)) ps p Done lt
             (ap (contains p) after ∙ once.0)
-            (λ q apart. ap (contains q) after ∙ (sym (contains_else q p rest apart) ∙ (ap (contains q) (sym turns) ∙ k.each q)));
+            (λ q apart. ap (contains q) after
+            ∙ (sym (contains_else q p rest apart) ∙ (ap (contains q) (sym turns) ∙ k.each q)));
         once = subst AreApart (sym after) once.1;
       }
 
   -- no place from the lowest up to a higher one is pending
-  pub kept_higher : (low : ℕ) → lowest ≤ low → low ≤ length ps → ((q : ℕ) → lowest ≤ q → q < low → is_pending (slice_get ps q) ≡ false) → IsKept names ps order room delivered low
+  pub kept_higher : (low : ℕ) → lowest ≤ low → low ≤ length ps
+      → ((q : ℕ) → lowest ≤ q → q < low → is_pending (slice_get ps q) ≡ false)
+      → IsKept names ps order room delivered low
   kept_higher low le within none = record {
     rising = k.rising;
     few = k.few;
@@ -108,7 +124,9 @@ module _ (names : List (List ℕ)) (ps : List Place) (order : List ℕ) (room de
     once = k.once;
   }
 
-  pub kept_rested : (order' : List ℕ) (x : Place) → slice_get ps lowest ≡ Some x → is_pending (Some x) ≡ true → turns_of delivered order' ≡ without lowest (turns_of delivered order) → delivered ≤ length order' → length order' ≤ length order
+  pub kept_rested : (order' : List ℕ) (x : Place) → slice_get ps lowest ≡ Some x → is_pending (Some x) ≡ true
+      → turns_of delivered order' ≡ without lowest (turns_of delivered order) → delivered ≤ length order'
+      → length order' ≤ length order
       → IsKept names (slice_set ps lowest Done) order' room delivered lowest
   kept_rested order' x at pending turns within shorter =
       let lt = in_range ps lowest x at in
@@ -133,7 +151,8 @@ module _ (names : List (List ℕ)) (ps : List Place) (order : List ℕ) (room de
   some_left p at = let fits = k.fits in let left = left_set ps p Listed Delayed at in omega arith
 
   -- the first turn is a listed place
-  pub first_turn : (p : ℕ) → slice_get order delivered ≡ Some p → (rest : List ℕ) × (turns_of delivered order ≡ p ∷ rest) × (slice_get ps p ≡ Some Listed) × (delivered < length order)
+  pub first_turn : (p : ℕ) → slice_get order delivered ≡ Some p → (rest : List ℕ)
+      × (turns_of delivered order ≡ p ∷ rest) × (slice_get ps p ≡ Some Listed) × (delivered < length order)
   first_turn p at =
       let d = drop_at delivered order p at in
       let here : is_listed (slice_get ps p) ≡ true = sym (k.each p) ∙ (ap (contains p) d.1 ∙ contains_here p d.0) in
@@ -158,7 +177,8 @@ pub all_idle : (names : List (List ℕ)) → replicate (length names) Idle ≡ m
 all_idle [] = refl
 all_idle (n ∷ names) = ap (λ l. Idle ∷ l) (all_idle names)
 
-pub kept_idle : (names : List (List ℕ)) (room : ℕ) → IsRising names → length names < 2 ^ 32 → length names ≤ room → IsKept names (replicate (length names) Idle) [] room 0 0
+pub kept_idle : (names : List (List ℕ)) (room : ℕ) → IsRising names → length names < 2 ^ 32 → length names ≤ room
+    → IsKept names (replicate (length names) Idle) [] room 0 0
 kept_idle names room rising few le =
     let left = left_idle (length names) in
     record {

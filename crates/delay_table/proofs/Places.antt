@@ -1,5 +1,6 @@
 -- One place of a table changes.
-use Rattle.std.proofs.Common.{◌≡◌, ℕ, zero, suc, ◌+◌, ◌<◌, List, [], ◌∷◌, length, get_or, Some, true, refl, sym, ap, ◌∙◌, arith}
+use Rattle.std.proofs.Common.{◌≡◌, ℕ, zero, suc, ◌+◌, ◌<◌, List, [], ◌∷◌, length, get_or, Some, true, refl, sym, ap}
+use Rattle.std.proofs.Common.{◌∙◌, arith}
 use Rattle.std.specs.Prelude.{slice_get, slice_set, nat_lt}
 use Rattle.std.proofs.lemmas.Bool.Decides.{nat_tests}
 use Rattle.delay_table.specs.declared.place.Place.{Place}
@@ -27,13 +28,16 @@ same_length [] p x = refl
 same_length (y ∷ ps) zero x = refl
 same_length (y ∷ ps) (suc p) x = ap (λ n. suc n) (same_length ps p x)
 
-pub left_set : (ps : List Place) (p : ℕ) (x y : Place) → slice_get ps p ≡ Some y → left_to_list (slice_set ps p x) + one_left y ≡ left_to_list ps + one_left x
+pub left_set : (ps : List Place) (p : ℕ) (x y : Place) → slice_get ps p ≡ Some y
+    → left_to_list (slice_set ps p x) + one_left y ≡ left_to_list ps + one_left x
 left_set [] p x y at = absurd (cc (at))
-left_set (z ∷ ps) zero x y at = let same : z ≡ y = cc (at) in let e : one_left z ≡ one_left y = ap one_left same in omega arith
+left_set (z ∷ ps) zero x y at = let same : z ≡ y = cc (at) in let e : one_left z ≡ one_left y = ap one_left same in
+    omega arith
 left_set (z ∷ ps) (suc p) x y at = let e = left_set ps p x y at in omega arith
 
 -- what was read at a place is there
-pub read_at : (ps : List Place) (p : ℕ) (x y : Place) → p < length ps → x ≡ get_or ps p x → x ≡ y → slice_get ps p ≡ Some y
+pub read_at : (ps : List Place) (p : ℕ) (x y : Place) → p < length ps → x ≡ get_or ps p x → x ≡ y
+    → slice_get ps p ≡ Some y
 read_at [] p x y lt is same = absurd (omega arith)
 read_at (z ∷ ps) zero x y lt is same = ap (λ w. Some w) (sym is ∙ same)
 read_at (z ∷ ps) (suc p) x y lt is same = read_at ps p x y (omega arith) is same
@@ -44,4 +48,5 @@ not_at (z ∷ ps) zero x y is apart at = let same : z ≡ y = cc (at) in apart (
 not_at (z ∷ ps) (suc p) x y is apart at = not_at ps p x y is apart at
 
 pub in_places : (p : ℕ) (ps qs : List Place) → qs ≡ ps → true ≡ nat_lt p (length qs) → p < length ps
-in_places p ps qs same lt = let within : p < length qs = grind (arith, nat_tests, lt) in let e = ap length same in omega (arith, within, e)
+in_places p ps qs same lt = let within : p < length qs = grind (arith, nat_tests, lt) in let e = ap length same in
+    omega (arith, within, e)

@@ -1,5 +1,6 @@
 -- A table of names: how each stands, and which the driver listed.
-use Rattle.std.specs.Prelude.{◌≡◌, ◌<◌, ◌+◌, ℕ, Bool, true, false, cond, ◌==◌, List, [], ◌∷◌, length, map, slice_get, slice_set, slice_index_or, Option, Some}
+use Rattle.std.specs.Prelude.{◌≡◌, ◌<◌, ◌+◌, ℕ, Bool, true, false, cond, ◌==◌, List, [], ◌∷◌, length, map, slice_get}
+use Rattle.std.specs.Prelude.{slice_set, slice_index_or, Option, Some}
 use Rattle.std.specs.Ordering.{nat_cmp, is_lt}
 use Rattle.std.specs.Cmp.Lexicographic.{slice_cmp}
 use Rattle.delay_table.specs.declared.place.Place.{Place}

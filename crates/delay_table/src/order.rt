@@ -21,7 +21,8 @@ pub(crate) fn strike(order: &mut Vec<u32>, from: usize, place: u32, is_listed: b
     requires listed { contains place (turns_of from (order.old).items) ≡ is_listed }
     requires within { from ≤ length (order.old).items }
     requires once { AreApart (turns_of from (order.old).items) }
-    ensures turns { turns_of from (order.new).items ≡ without place (turns_of from (order.old).items) }
+    ensures turns { turns_of from (order.new).items
+        ≡ without place (turns_of from (order.old).items) }
     ensures within { from ≤ length (order.new).items }
     ensures shorter { length (order.new).items ≤ length (order.old).items }
     ensures room { vec_capacity order.new ≡ vec_capacity order.old }

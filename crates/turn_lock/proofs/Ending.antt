@@ -38,6 +38,12 @@ module _ {T E D : Type 0} (hist : T → List (ℕ × E)) (fits : T → D → Typ
     top = (0, record { number = 0; place = Out; seen = []; mine = []; told = told; made = 1; olds = [] }, refl, refl);
     apart = λ i j a b ea eb n. (only_first i a ea).0 ∙ sym (only_first j b eb).0;
     makers = λ i j a b ea eb m n. (only_first i a ea).0 ∙ sym (only_first j b eb).0;
+    giver = (
+      0,
+      record { number = 0; place = Out; seen = []; mine = []; told = told; made = 1; olds = [] },
+      refl,
+      omega arith,
+    );
     fresh = λ k le. refl;
     gone = λ i j a b o ea eb h n. some-ne-none o (sym (subst (IsOld o) (sym (ap (λ (x : View E D). x.olds) (only_first i a ea).1)) h).1);
   }

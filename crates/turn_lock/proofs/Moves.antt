@@ -41,6 +41,23 @@ module _ {T E D : Type 0} (hist : T → List (ℕ × E)) (fits : T → D → Typ
   abbrev Told : View E D → M → Bool → Type 0
   Told v m b = MatchBool b (Enters hist fits v m) (let n : M = (Seated v, []) in m ≡ n)
 
+  -- the seat that gives numbers stays so, where this one's view changes in nothing that bears on it
+  gives_on : (s : St) (r : R s) (id : ℕ) (v w : View E D) → Live s.views id v → v.made ≡ w.made
+      → (i : ℕ) × (u : View E D) × Live (set s.views id (Seated w)) i u × (0 < u.made)
+  gives_on s r id v w at same =
+      let t = r.giver in
+      dite (ℕ_discrete t.0 id)
+      (λ here. (
+        id,
+        w,
+        live_here s.views id (Seated v) w at,
+        subst (λ (n : ℕ). 0 < n)
+            (sym (ap (λ (x : View E D). x.made)
+            (live_one s.views id v t.1 at (subst (λ (k : ℕ). Live s.views k t.1) here t.2))) ∙ same)
+            t.3,
+      ))
+      (λ else. (t.0, t.1, live_else s.views id t.0 w t.1 else t.2, t.3))
+
   entered : (s : St) (r : R s) (id : ℕ) (v : View E D) (value : T) → Live s.views id v → slice_index s.words 0 ≡ 0 → hist value ≡ r.log
       → R record { words = set s.words 0 1; homes = set s.homes 0 none; views = set s.views id (Seated (entering (hist value) v)) }
   entered s r id v value at free same =
@@ -72,6 +89,7 @@ module _ {T E D : Type 0} (hist : T → List (ℕ × E)) (fits : T → D → Typ
             (λ else. (r.top.0, r.top.1, live_else s.views id r.top.0 w r.top.1 else r.top.2, r.top.3));
         apart = λ i j a b ea eb n. let x = back i a ea in let y = back j b eb in r.apart i j x.before y.before x.live y.live (x.number ∙ (n ∙ sym y.number));
         makers = λ i j a b ea eb p q. let x = back i a ea in let y = back j b eb in r.makers i j x.before y.before x.live y.live (subst (λ (n : ℕ). 0 < n) (sym x.made) p) (subst (λ (n : ℕ). 0 < n) (sym y.made) q);
+        giver = gives_on s r id v w at refl;
         fresh = r.fresh;
         gone = λ i j a b o ea eb h n. let x = back i a ea in let y = back j b eb in r.gone i j x.before y.before o x.live y.live (subst (IsOld o) (sym x.olds) h) (y.number ∙ n);
       }
@@ -155,6 +173,7 @@ module _ {T E D : Type 0} (hist : T → List (ℕ × E)) (fits : T → D → Typ
         top = (id, w, live_here s.views id (Seated v) w at, refl);
         apart = λ i j a b ea eb n. let x = back i a ea in let y = back j b eb in r.apart i j x.before y.before x.live y.live (x.number ∙ (n ∙ sym y.number));
         makers = λ i j a b ea eb p q. let x = back i a ea in let y = back j b eb in r.makers i j x.before y.before x.live y.live (subst (λ (n : ℕ). 0 < n) (sym x.made) p) (subst (λ (n : ℕ). 0 < n) (sym y.made) q);
+        giver = gives_on s r id v w at refl;
         fresh = λ k le. follows_own k v.number r.log (hist value) more (λ n. let b : v.number < r.given = fit.below in absurd (omega arith)) ∙ r.fresh k le;
         gone = λ i j a b o ea eb h n. let x = back i a ea in let y = back j b eb in r.gone i j x.before y.before o x.live y.live (subst (IsOld o) (sym x.olds) h) (y.number ∙ n);
       }

@@ -127,6 +127,7 @@ module _ {T E D : Type 0} (hist : T → List (ℕ × E)) (fits : T → D → Typ
             (before j b eb))
             (λ (p : (i ≡ length vs) × (u ≡ a)). absurd (let x : 0 ≡ a.made = ap (λ (z : View E D). z.made) p.1 in omega arith))
             (before i a ea);
+        giver = (id, w, live_more vs (Seated u) w id (live_here s.views id (Seated v) w at), omega arith);
         fresh = λ k le. r.fresh k (omega arith);
         gone = λ i j a b o ea eb h n. ⊎_elim
             (λ (p : (y : View E D) × Live s.views i y × (y.number ≡ a.number) × (y.olds ≡ a.olds) × (0 < a.made → 0 < y.made) × (y.place ≡ a.place)). let was = subst (IsOld o) (sym p.3) h in ⊎_elim
@@ -206,6 +207,19 @@ module _ {T E D : Type 0} (hist : T → List (ℕ × E)) (fits : T → D → Typ
             (λ (q : (j ≢ id) × Live s.views j b). r.makers i j a b p.1 q.1 m n)
             k.1)
             h.1;
+        giver =
+            let t = r.giver in
+            dite (ℕ_discrete t.0 id)
+            (λ here.
+            let same = live_one s.views id v t.1 at (subst (λ (k : ℕ). Live s.views k t.1) here t.2) in
+            let gives : 0 < v.made = subst (λ (y : View E D). 0 < y.made) (sym same) t.3 in
+            (id, x, x_live, omega arith))
+            (λ else. dite (ℕ_discrete t.0 other)
+            (λ here.
+            let same = live_one s.views other w t.1 w_at (subst (λ (k : ℕ). Live s.views k t.1) here t.2) in
+            let gives : 0 < w.made = subst (λ (y : View E D). 0 < y.made) (sym same) t.3 in
+            (id, x, x_live, omega arith))
+            (λ else'. (t.0, t.1, stays t.0 t.1 else' else t.2, t.3)));
         fresh = r.fresh;
         gone = λ i j a b o ea eb c n. let h = look i a ea in let q = number j b eb in let same : (q.0).number ≡ o.number = q.2 ∙ n in ⊎_elim
             (λ (p : (i ≡ id) × (x ≡ a)). ⊎_elim

@@ -99,11 +99,12 @@ module _ {T E D : Type 0} (hist : T → List (ℕ × E)) where
           → (value : T) × (get_elem? s.homes 0 ≡ some (some (Some value))) × (hist value ≡ log) × fits value told
       -- some seat saw the whole
       pub top : (id : ℕ) × (v : View E D) × Live s.views id v × (v.seen ≡ log)
-      -- numbers differ, one seat alone gives them, and one that was never given, or was joined away, isn't used
+      -- numbers differ, one seat gives them and no other, and one that was never given, or was joined away, isn't used
       pub apart : (i j : ℕ) (v w : View E D) → Live s.views i v → Live s.views j w
           → v.number ≡ w.number → i ≡ j
       pub makers : (i j : ℕ) (v w : View E D) → Live s.views i v → Live s.views j w
           → 0 < v.made → 0 < w.made → i ≡ j
+      pub giver : (id : ℕ) × (v : View E D) × Live s.views id v × (0 < v.made)
       pub fresh : (k : ℕ) → given ≤ k → own k log ≡ []
       pub gone : (i j : ℕ) (v w : View E D) (o : Old E) → Live s.views i v → Live s.views j w
           → IsOld o v.olds → w.number ≢ o.number

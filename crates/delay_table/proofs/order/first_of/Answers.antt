@@ -11,8 +11,10 @@ loop-at-preserved c =
     record {
       within = omega (arith, c.loop-at-test.true);
       before = subst (λ (k : ℕ). contains c.args.place (take k c.args.turns.now) ≡ false) (sym next)
-          (contains_next c.args.place i c.args.turns.now _ c.loop-at.invariant.before (slice_get-get_or c.args.turns.now i 0 c.loop-at-test.true) c.if-turns-at.true);
+          (contains_next c.args.place i c.args.turns.now _ c.loop-at.invariant.before
+          (slice_get-get_or c.args.turns.now i 0 c.loop-at-test.true) c.if-turns-at.true);
     }
 
 pub returns-else-turns-at-clause-there : goal.returns-else-turns-at-clause-there
-returns-else-turns-at-clause-there c lt = slice_get-get_or c.args.turns.now c.loop-at.at 0 lt ∙ ap (λ x. Some x) c.if-turns-at.false
+returns-else-turns-at-clause-there c lt = slice_get-get_or c.args.turns.now c.loop-at.at 0 lt
+    ∙ ap (λ x. Some x) c.if-turns-at.false

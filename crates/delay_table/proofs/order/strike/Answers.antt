@@ -13,7 +13,8 @@ returns-then-at-turns-clause-turns c =
     ∙ (remove_behind c.args.from c.first_of-at.result c.args.order.now.items c.requires.within
     ∙ struck c.args.place c.first_of-at.result turns c.requires.once
     (subst (λ l. contains c.args.place (take c.first_of-at.result l) ≡ false) is c.first_of-at.ensures.before)
-    (subst (λ l. slice_get l c.first_of-at.result ≡ Some c.args.place) is (c.first_of-at.ensures.there c.if-at-turns.true)))
+    (subst (λ l. slice_get l c.first_of-at.result ≡ Some c.args.place) is
+    (c.first_of-at.ensures.there c.if-at-turns.true)))
 
 pub returns-else-at-turns-clause-turns : goal.returns-else-at-turns-clause-turns
 returns-else-at-turns-clause-turns c =
@@ -24,4 +25,6 @@ returns-else-at-turns-clause-turns c =
     (subst (λ l. contains c.args.place (take c.first_of-at.result l) ≡ false) is c.first_of-at.ensures.before))
 
 pub returns-then-not-is_listed-clause-turns : goal.returns-then-not-is_listed-clause-turns
-returns-then-not-is_listed-clause-turns c = sym (without_none c.args.place (turns_of c.args.from c.args.order.now.items) (c.requires.listed ∙ c.if-not-is_listed.true))
+returns-then-not-is_listed-clause-turns c =
+    sym (without_none c.args.place (turns_of c.args.from c.args.order.now.items)
+    (c.requires.listed ∙ c.if-not-is_listed.true))
