@@ -1,6 +1,6 @@
 -- A read takes bytes from the front of what is left.
 use Rattle.std.proofs.Common.{arith, ◌≡◌, ◌≤◌, ◌<◌, ◌+◌, ◌-◌, ℕ, List, [], ◌++◌, length, take, drop}
-use Rattle.std.proofs.Common.{Option, Some, refl, sym, ◌∙◌, ap}
+use Rattle.std.proofs.Common.{Some, refl, sym, ◌∙◌, ap}
 use Rattle.std.proofs.lemmas.List.{take-append-drop, drop-drop, drop-take, take-take, length-drop}
 use Rattle.edge_kit.specs.Links.{LinkSeen, IsRead}
 
