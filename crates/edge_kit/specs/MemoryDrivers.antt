@@ -13,8 +13,8 @@ use Rattle.edge_kit.specs.declared.script.LinkScript.{LinkScript}
 use Rattle.edge_kit.specs.declared.script.SessionScript.{SessionScript}
 use Rattle.edge_kit.specs.declared.script.DriverScript.{DriverScript}
 use Rattle.edge_kit.specs.declared.session_seen.SessionSeen.{SessionSeen}
-use Rattle.edge_kit.specs.declared.session_seen.Outcome.{Outcome}
-use Rattle.edge_kit.specs.declared.session_seen.Outcome.TheVariants as outcome
+use Rattle.edge_kit.specs.declared.session_seen.StartOutcome.{StartOutcome}
+use Rattle.edge_kit.specs.declared.session_seen.StartOutcome.TheVariants as outcome
 use Rattle.edge_kit.specs.declared.session_seen.StartSeen.{StartSeen}
 use Rattle.edge_kit.specs.declared.session_seen.DriverSeen.{DriverSeen}
 
@@ -55,7 +55,8 @@ NextHas [] script = ⊥
 NextHas (s ∷ rest) script = script ≡ link_script s
 
 -- a start uses up the next session, unless memory was wanting
-abbrev pub UsesUp : {L : Type 0} → List SessionScript → List SessionScript → Result L SendFault → Type 0
+abbrev pub UsesUp : {L : Type 0} → List SessionScript → List SessionScript
+    → Result L SendFault → Type 0
 UsesUp old new (Ok link) = new ≡ drop 1 old
 UsesUp old new (Err send.Failed) = new ≡ drop 1 old
 UsesUp old new (Err send.NoMemory) = new ≡ old
@@ -95,7 +96,7 @@ session_told s = record {
   shut = s.shut;
 }
 
-abbrev pub outcome_had : Outcome → Had
+abbrev pub outcome_had : StartOutcome → Had
 outcome_had (outcome.Session s) = Session (session_told s)
 outcome_had outcome.Failed = StartFailed
 

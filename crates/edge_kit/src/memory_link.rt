@@ -5,7 +5,8 @@ ghost use Rattle.edge_kit.specs.Faults.{AfterSend, AfterCall};
 ghost use Rattle.edge_kit.specs.Links.{Sends, Reads, IsRead, input_shut, waited};
 ghost use Rattle.edge_kit.specs.Starters.{session_had, Session};
 ghost use Rattle.edge_kit.specs.MemoryLeaves.{CountsDown};
-ghost use Rattle.edge_kit.specs.MemoryDrivers.{stage_of, new_link, read_count, CountsCalls, session_told};
+ghost use Rattle.edge_kit.specs.MemoryDrivers.{stage_of, new_link, read_count};
+ghost use Rattle.edge_kit.specs.MemoryDrivers.{CountsCalls, session_told};
 
 use crate::faults::{Failed, SendFault};
 use crate::link::Link;
@@ -92,7 +93,7 @@ impl MemoryLink {
             IsRead result into.new (seen self.old) (seen self.new) }
         ensures count { let seen = ⟦<MemoryLink as Link>⟧.seen in
             Some result ≡ option_map
-                (read_count self.old.script.piece (length into.old)) (seen self.old).left }
+            (read_count self.old.script.piece (length into.old)) (seen self.old).left }
         ensures script { self.new.script ≡ self.old.script }
     {
         let count = self.read_count(into.len());
@@ -162,7 +163,7 @@ impl Link for MemoryLink {
             AfterCall (seen self.old).faults (seen self.new).faults result }
         ensures count { let seen = ⟦<MemoryLink as Link>⟧.seen in
             IfOk result (λ n. Some n ≡ option_map
-                (read_count self.old.script.piece (length into.old)) (seen self.old).left) }
+            (read_count self.old.script.piece (length into.old)) (seen self.old).left) }
         ensures fails { CountsCalls self.old.script.fail_read self.new.script.fail_read result }
         ensures script { self.new.script ≡
             record self.old.script { fail_read = self.new.script.fail_read } }

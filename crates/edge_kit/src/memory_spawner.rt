@@ -65,7 +65,8 @@ impl MemorySpawner {
     /// A spawner of these drivers. Of two with one command the first counts.
     pub fn new(alloc: Global, scripts: Vec<DriverScript>) -> MemorySpawner
         ensures told { ⟦<MemorySpawner as Spawner>⟧.told result ≡ starts_for scripts.items }
-        ensures seen { ⟦<MemorySpawner as Spawner>⟧.seen result ≡ record { returned = []; out = 0 } }
+        ensures seen { let seen = ⟦<MemorySpawner as Spawner>⟧.seen in
+            seen result ≡ record { returned = []; out = 0 } }
         ensures scripts { result.scripts ≡ scripts }
     {
         MemorySpawner {
@@ -78,7 +79,8 @@ impl MemorySpawner {
 
     /// The drivers whose starters were given back, in order, each with its sessions.
     pub fn drivers(&self) -> &[DriverSeen]
-        ensures { map driver_back result.now ≡ (⟦<MemorySpawner as Spawner>⟧.seen self.now).returned }
+        ensures { let seen = ⟦<MemorySpawner as Spawner>⟧.seen in
+            map driver_back result.now ≡ (seen self.now).returned }
     {
         &self.returned
     }
@@ -92,7 +94,8 @@ impl Spawner for MemorySpawner {
     ghost seen = { λ s. record { returned = map driver_back s.returned.items; out = s.out } };
 
     fn starter(&mut self, command: &[u8]) -> Result<MemoryStarter, AllocError>
-        ensures told { let told = ⟦<MemorySpawner as Spawner>⟧.told in told self.new ≡ told self.old }
+        ensures told { let told = ⟦<MemorySpawner as Spawner>⟧.told in
+            told self.new ≡ told self.old }
         ensures starter { let told = ⟦<MemorySpawner as Spawner>⟧.told in
             let seen = ⟦<MemoryStarter as Starter>⟧.seen in
             IfOk result (λ s. seen s ≡ new_starter command.now (told self.old command.now)) }
@@ -114,7 +117,8 @@ impl Spawner for MemorySpawner {
     fn take_back(&mut self, starter: MemoryStarter)
         requires given { let seen = ⟦<MemorySpawner as Spawner>⟧.seen in 0 < (seen self.old).out }
         requires ended { let seen = ⟦<MemoryStarter as Starter>⟧.seen in (seen starter).out ≡ 0 }
-        ensures told { let told = ⟦<MemorySpawner as Spawner>⟧.told in told self.new ≡ told self.old }
+        ensures told { let told = ⟦<MemorySpawner as Spawner>⟧.told in
+            told self.new ≡ told self.old }
         ensures out { let seen = ⟦<MemorySpawner as Spawner>⟧.seen in
             (seen self.new).out + 1 ≡ (seen self.old).out }
         ensures back { let seen = ⟦<MemorySpawner as Spawner>⟧.seen in

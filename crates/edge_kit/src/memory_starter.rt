@@ -1,14 +1,14 @@
 ghost use Rattle.std.specs.Prelude.{◌≡◌, ◌≤◌, ◌<◌, ◌+◌, ◌^◌, ◌∷◌, ◌++◌, [], IfOk, length};
 ghost use Rattle.std.specs.Prelude.{vec_len, vec_capacity};
 ghost use Rattle.edge_kit.specs.Starters.{StartsOne, session_had, starter_back, new_starter};
-ghost use Rattle.edge_kit.specs.MemoryDrivers.{Opens, NextHas, UsesUp, starts_told, starts_had, driver_back};
-ghost use Rattle.edge_kit.specs.MemoryDrivers.{waits, outcome_had};
+ghost use Rattle.edge_kit.specs.MemoryDrivers.{Opens, NextHas, UsesUp, starts_told};
+ghost use Rattle.edge_kit.specs.MemoryDrivers.{waits, outcome_had, starts_had, driver_back};
 
 use crate::faults::SendFault;
 use crate::link::Link;
 use crate::memory_link::MemoryLink;
 use crate::script::{LinkScript, SessionScript};
-use crate::session_seen::{DriverSeen, Outcome, StartSeen};
+use crate::session_seen::{DriverSeen, StartOutcome, StartSeen};
 use crate::spawner::Starter;
 use byte_path::{Bytes, Items};
 use std::alloc::Global;
@@ -31,10 +31,7 @@ pub struct MemoryStarter {
 }
 
 /// A link for the next session, or why there is none.
-fn next_link(
-    alloc: Global,
-    sessions: &VecDeque<SessionScript>,
-) -> Result<MemoryLink, SendFault>
+fn next_link(alloc: Global, sessions: &VecDeque<SessionScript>) -> Result<MemoryLink, SendFault>
     ensures { Opens ⟦<MemoryLink as Link>⟧.seen (λ l. l.script) sessions.now.items result }
 {
     let Some(session) = sessions.front() else {
@@ -54,7 +51,7 @@ fn next_link(
 
 /// Keeps what came of a start behind those before it that wanted memory. There is room for it.
 #[tactic(auto, using(crate::proofs::Starts::starts_had_more))]
-fn keep(had: &mut Vec<StartSeen>, out_of_memory: u64, outcome: Outcome)
+fn keep(had: &mut Vec<StartSeen>, out_of_memory: u64, outcome: StartOutcome)
     requires { vec_len had.old < vec_capacity had.old }
     ensures had { starts_had had.new.items ≡
         starts_had had.old.items ++ (waits out_of_memory ++ outcome_had outcome ∷ []) }
@@ -140,7 +137,7 @@ impl Starter for MemoryStarter {
             Err(SendFault::Failed) => {
                 let _ = self.sessions.pop_front();
                 self.faults = self.faults.saturating_add(1);
-                keep(&mut self.had, self.out_of_memory, Outcome::Failed);
+                keep(&mut self.had, self.out_of_memory, StartOutcome::Failed);
                 self.out_of_memory = 0;
             }
             Err(SendFault::NoMemory) => self.out_of_memory += 1,
@@ -161,7 +158,11 @@ impl Starter for MemoryStarter {
             } }
         ensures sessions { self.new.sessions ≡ self.old.sessions }
     {
-        keep(&mut self.had, self.out_of_memory, Outcome::Session(link.into_session()));
+        keep(
+            &mut self.had,
+            self.out_of_memory,
+            StartOutcome::Session(link.into_session()),
+        );
         self.out_of_memory = 0;
         self.out -= 1;
     }

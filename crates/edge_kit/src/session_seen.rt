@@ -17,7 +17,7 @@ pub struct SessionSeen {
 
 /// What came of a start that didn't want memory.
 #[derive(Drop)]
-pub enum Outcome {
+pub enum StartOutcome {
     Session(SessionSeen),
     Failed,
 }
@@ -26,7 +26,7 @@ pub enum Outcome {
 #[derive(Drop)]
 pub struct StartSeen {
     pub out_of_memory: u64,
-    pub outcome: Outcome,
+    pub outcome: StartOutcome,
 }
 
 /// A driver whose starter was given back: what came of its starts, in order.

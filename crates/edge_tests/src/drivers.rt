@@ -3,7 +3,7 @@ ghost use Rattle.std.specs.Prelude.{◌≡◌, ◌≤◌, ◌<◌, ◌+◌, leng
 
 use byte_path::{Bytes, Items};
 use edge_kit::{
-    DriverScript, DriverSeen, Failed, Gate, Link, MemorySpawner, NoGate, Outcome, Point, SendFault,
+    DriverScript, DriverSeen, Failed, Gate, Link, MemorySpawner, NoGate, StartOutcome, Point, SendFault,
     SessionScript, Spawner, Starter,
 };
 use std::alloc::{AllocError, Global};
@@ -74,8 +74,8 @@ fn spell(alloc: Global, driver: &DriverSeen) -> Result<Vec<u8>, AllocError> {
     let mut text = Vec::from_slice(alloc, driver.command.as_slice())?;
     for start in driver.starts.as_slice() {
         match &start.outcome {
-            Outcome::Failed => text.extend_from_slice(b" !")?,
-            Outcome::Session(session) => {
+            StartOutcome::Failed => text.extend_from_slice(b" !")?,
+            StartOutcome::Session(session) => {
                 text.extend_from_slice(b" ")?;
                 text.extend_from_slice(session.sent.as_slice())?;
                 text.extend_from_slice(b">")?;
