@@ -47,28 +47,24 @@ fn requests_are_spelled(rt: HostRuntime) -> Result<(), Fail> {
 0013command=smudge\n0015pathname=big.psd\n0010can-delay=1\n0000000bpointer0000\
 0013command=smudge\n0015pathname=big.psd\n00000000\
 0013command=smudge\n000fpathname=a\n00000005x0000";
-    assert_eq!(rt; out.as_slice(), want.as_slice());
+    assert!(rt; out.as_slice() == want.as_slice(), "{out:?}");
     Ok(())
 }
 
 #[test]
 fn lines_are_cut_at_the_first_equals_sign(rt: HostRuntime) {
-    assert_eq!(rt;
-        key_value(b"status=success\n"),
-        Some((b"status".as_slice(), b"success".as_slice()))
-    );
-    assert_eq!(rt;
-        key_value(b"pathname=a=b\n\n"),
-        Some((b"pathname".as_slice(), b"a=b\n".as_slice()))
-    );
-    assert_eq!(rt; key_value(b"="), Some((b"".as_slice(), b"".as_slice())));
-    assert_eq!(rt; key_value(b"status\n"), None);
-    assert_eq!(rt; next_status(None, b"status=delayed"), Some(Status::Delayed));
-    assert_eq!(rt;
-        next_status(Some(Status::Error), b"statuses=abort\n"),
-        Some(Status::Error)
-    );
-    assert_eq!(rt; read_status(b"Success"), Status::Other);
+    let cases: [(&[u8], Option<(&[u8], &[u8])>); 4] = [
+        (b"status=success\n", Some((b"status", b"success"))),
+        (b"pathname=a=b\n\n", Some((b"pathname", b"a=b\n"))),
+        (b"=", Some((b"", b""))),
+        (b"status\n", None),
+    ];
+    for (text, want) in cases {
+        assert!(rt; key_value(text) == want, "{text:?}");
+    }
+    assert!(rt; next_status(None, b"status=delayed") == Some(Status::Delayed));
+    let kept = next_status(Some(Status::Error), b"statuses=abort\n");
+    assert!(rt; kept == Some(Status::Error) && read_status(b"Success") == Status::Other);
 }
 
 #[test]
@@ -85,8 +81,8 @@ fn each_status_of_a_reply(rt: HostRuntime) {
     ];
     for (text, plain, delayable) in cases {
         let packets = [line(text), FLUSH];
-        assert_eq!(rt; reply_of(reply_to(false, &packets)), plain, "{text:?}");
-        assert_eq!(rt; reply_of(reply_to(true, &packets)), delayable, "{text:?}");
+        assert!(rt; reply_of(reply_to(false, &packets)) == plain, "{text:?}");
+        assert!(rt; reply_of(reply_to(true, &packets)) == delayable, "{text:?}");
     }
 }
 
@@ -110,7 +106,10 @@ fn each_status_behind_a_content(rt: HostRuntime) {
             line(text),
             FLUSH,
         ];
-        assert_eq!(rt; reply_of(reply_to(true, &packets)), Some(want), "{text:?}");
+        assert!(rt;
+            reply_of(reply_to(true, &packets)) == Some(want),
+            "{text:?}"
+        );
     }
 }
 
@@ -122,9 +121,9 @@ fn the_last_status_counts(rt: HostRuntime) {
         line(b"stat=error\n"),
         FLUSH,
     ];
-    assert_eq!(rt; reply_of(reply_to(false, &packets)), Some(Reply::Abort));
+    assert!(rt; reply_of(reply_to(false, &packets)) == Some(Reply::Abort));
     let behind = [line(b"status=error"), FLUSH, FLUSH];
-    assert_eq!(rt; reply_to(true, &behind), AnswerState::Late);
+    assert!(rt; reply_to(true, &behind) == AnswerState::Late);
 }
 
 /// 19 bytes and 4 bytes, then 8,194 packets of 65,520 bytes, leave nine of the 536,870,912 bytes.
@@ -140,15 +139,11 @@ fn the_limit_of_a_reply(rt: HostRuntime) -> Result<(), Fail> {
     }
     packets.push(FLUSH)?;
     packets.push(line(b"k"))?;
-    assert_eq!(rt;
-        reply_to(true, packets.as_slice()),
-        AnswerState::On(ReplyPhase::LastKeyList(None))
-    );
+    let open = AnswerState::On(ReplyPhase::LastKeyList(None));
+    assert!(rt; reply_to(true, packets.as_slice()) == open);
     packets.push(FLUSH)?;
-    assert_eq!(rt;
-        reply_of(reply_to(true, packets.as_slice())),
-        Some(Reply::Broken(BreakCause::TooLong))
-    );
+    let long = Some(Reply::Broken(BreakCause::TooLong));
+    assert!(rt; reply_of(reply_to(true, packets.as_slice())) == long);
     Ok(())
 }
 
@@ -156,48 +151,48 @@ fn the_limit_of_a_reply(rt: HostRuntime) -> Result<(), Fail> {
 fn handshakes(rt: HostRuntime) {
     let server = line(b"git-filter-server\n");
     let version = line(b"version=2\n");
-    let caps = [
-        server,
-        version,
-        FLUSH,
-        line(b"capability=clean\n"),
-        line(b"capability=delay"),
-        FLUSH,
+    let later = line(b"version=3\n");
+    let smudge = line(b"capability=smudge\n");
+    let delay = line(b"capability=delay\n");
+    let one_delay = Caps {
+        smudge: false,
+        delay: true,
+    };
+    let both = Caps {
+        smudge: true,
+        delay: true,
+    };
+    let good: [(&[ReadPacket<'_>], Caps); 2] = [
+        (
+            &[
+                server,
+                version,
+                FLUSH,
+                line(b"capability=clean\n"),
+                line(b"capability=delay"),
+                FLUSH,
+            ],
+            one_delay,
+        ),
+        (&[server, version, FLUSH, smudge, delay, FLUSH], both),
     ];
-    assert_eq!(rt;
-        handshake_to(&caps),
-        AnswerState::Done(Caps {
-            smudge: false,
-            delay: true
-        })
-    );
-    let both = [
-        server,
-        version,
-        FLUSH,
-        line(b"capability=smudge\n"),
-        line(b"capability=delay\n"),
-        FLUSH,
+    for (packets, caps) in good {
+        assert!(rt;
+            handshake_to(packets) == AnswerState::Done(caps),
+            "{packets:?}"
+        );
+    }
+    let strange: [&[ReadPacket<'_>]; 4] = [
+        &[line(b"git-filter-client\n")],
+        &[FLUSH],
+        &[server, later],
+        &[server, version, later],
     ];
-    assert_eq!(rt;
-        handshake_to(&both),
-        AnswerState::Done(Caps {
-            smudge: true,
-            delay: true
-        })
-    );
-    let strange = AnswerState::Broken(BreakCause::BadHandshake);
-    assert_eq!(rt; handshake_to(&[line(b"git-filter-client\n")]), strange);
-    assert_eq!(rt; handshake_to(&[FLUSH]), strange);
-    assert_eq!(rt; handshake_to(&[server, line(b"version=3\n")]), strange);
-    assert_eq!(rt;
-        handshake_to(&[server, version, line(b"version=3\n")]),
-        strange
-    );
-    assert_eq!(rt;
-        handshake_to(&[server, version]),
-        AnswerState::On(HandshakePhase::EndOfHello)
-    );
+    for packets in strange {
+        let broken = AnswerState::Broken(BreakCause::BadHandshake);
+        assert!(rt; handshake_to(packets) == broken, "{packets:?}");
+    }
+    assert!(rt; handshake_to(&[server, version]) == AnswerState::On(HandshakePhase::EndOfHello));
 }
 
 fn list_reply_to(alloc: Global, packets: &[ReadPacket<'_>]) -> Result<Option<ListReply>, Fail> {
@@ -220,40 +215,27 @@ fn list_reply_to(alloc: Global, packets: &[ReadPacket<'_>]) -> Result<Option<Lis
 fn lists_of_delayed_paths(rt: HostRuntime) -> Result<(), Fail> {
     let (p1, p3) = (line(b"pathname=p1\n"), line(b"pathname=p3\n"));
     let success = line(b"status=success\n");
-    let broken = |cause| Some(ListReply::Broken(cause));
-    let alloc = rt.alloc();
-    assert_eq!(rt;
-        list_reply_to(alloc, &[p3, line(b"size=4\n"), p1, FLUSH, success, FLUSH])?,
-        Some(ListReply::Names(2))
-    );
-    assert_eq!(rt;
-        list_reply_to(alloc, &[FLUSH, success, FLUSH])?,
-        Some(ListReply::Empty)
-    );
-    assert_eq!(rt;
-        list_reply_to(alloc, &[p1, FLUSH, success, line(b"status=abort\n"), FLUSH])?,
-        Some(ListReply::Abort)
-    );
-    assert_eq!(rt;
-        list_reply_to(alloc, &[FLUSH, line(b"status=error\n"), FLUSH])?,
-        broken(BreakCause::ListRefused)
-    );
-    assert_eq!(rt;
-        list_reply_to(alloc, &[FLUSH, line(b"status=delayed\n"), FLUSH])?,
-        broken(BreakCause::UnknownStatus)
-    );
-    assert_eq!(rt;
-        list_reply_to(alloc, &[FLUSH, FLUSH])?,
-        broken(BreakCause::UnknownStatus)
-    );
-    assert_eq!(rt;
-        list_reply_to(alloc, &[line(b"pathname=p4\n")])?,
-        broken(BreakCause::StrangePath)
-    );
-    assert_eq!(rt;
-        list_reply_to(alloc, &[p1, p3, p1])?,
-        broken(BreakCause::StrangePath)
-    );
-    assert_eq!(rt; list_reply_to(alloc, &[p1, FLUSH, success])?, None);
+    let abort = line(b"status=abort\n");
+    let strange = Some(ListReply::Broken(BreakCause::StrangePath));
+    let refused = Some(ListReply::Broken(BreakCause::ListRefused));
+    let unknown = Some(ListReply::Broken(BreakCause::UnknownStatus));
+    let cases: [(&[ReadPacket<'_>], Option<ListReply>); 9] = [
+        (
+            &[p3, line(b"size=4\n"), p1, FLUSH, success, FLUSH],
+            Some(ListReply::Names(2)),
+        ),
+        (&[FLUSH, success, FLUSH], Some(ListReply::Empty)),
+        (&[p1, FLUSH, success, abort, FLUSH], Some(ListReply::Abort)),
+        (&[FLUSH, line(b"status=error\n"), FLUSH], refused),
+        (&[FLUSH, line(b"status=delayed\n"), FLUSH], unknown),
+        (&[FLUSH, FLUSH], unknown),
+        (&[line(b"pathname=p4\n")], strange),
+        (&[p1, p3, p1], strange),
+        (&[p1, FLUSH, success], None),
+    ];
+    for (packets, want) in cases {
+        let reply = list_reply_to(rt.alloc(), packets)?;
+        assert!(rt; reply == want, "{packets:?}");
+    }
     Ok(())
 }

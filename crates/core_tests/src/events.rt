@@ -1,6 +1,6 @@
 use checkout_core::{
-    Event, FailCause, FilterCause, ObjectKind, OpenCause, Own, Refused, SkipCause, Start, State,
-    Verdict, replay, step,
+    Event, FailCause, FilterCause, ObjectKind, OpenCause, Own, SkipCause, Start, State, Verdict,
+    replay, step,
 };
 use filter_words::{BreakCause, Caps, ListReply, Reply};
 use std::alloc::{AllocError, Global};
@@ -16,37 +16,98 @@ const FINE: Own = Own::Fine { unencoded: false };
 
 const WRITTEN: Verdict = Verdict::Written { unencoded: false };
 
-fn claim(path: u32, actor: u32) -> Event {
-    Event::Claim { path, actor }
-}
+/// The events of a run in which path 1 is delayed, whether each is a step, and what it is.
+const RUN: &[(Event, bool, &str)] = &[
+    (
+        Event::Opened {
+            driver: 0,
+            caps: BOTH,
+        },
+        true,
+        "the driver is started",
+    ),
+    (
+        Event::Answered {
+            path: 1,
+            reply: Reply::Delayed,
+        },
+        true,
+        "delayed",
+    ),
+    (Event::Named { path: 1 }, true, "a name"),
+    (
+        Event::Listed {
+            driver: 0,
+            reply: ListReply::Empty,
+        },
+        false,
+        "while a list is noted",
+    ),
+    (
+        Event::Listed {
+            driver: 0,
+            reply: ListReply::Names(1),
+        },
+        true,
+        "the list",
+    ),
+    (
+        Event::Redone {
+            path: 1,
+            reply: Reply::Delayed,
+        },
+        false,
+        "delayed again",
+    ),
+    (
+        Event::Redone {
+            path: 1,
+            reply: Reply::Content,
+        },
+        true,
+        "its content",
+    ),
+    (
+        Event::Listed {
+            driver: 0,
+            reply: ListReply::Empty,
+        },
+        true,
+        "an empty list",
+    ),
+    (
+        Event::Close {
+            path: 0,
+            actor: 0,
+            own: FINE,
+        },
+        false,
+        "before its claim",
+    ),
+    (Event::HandBack { path: 1 }, false, "after its reply"),
+];
 
-fn close(path: u32, actor: u32, own: Own) -> Event {
-    Event::Close { path, actor, own }
-}
+const LAST: &[Event] = &[
+    Event::Close {
+        path: 1,
+        actor: 1,
+        own: FINE,
+    },
+    Event::Close {
+        path: 1,
+        actor: 1,
+        own: FINE,
+    },
+];
 
-fn opened(driver: u32, caps: Caps) -> Event {
-    Event::Opened { driver, caps }
-}
-
-fn answered(path: u32, reply: Reply) -> Event {
-    Event::Answered { path, reply }
-}
-
-fn named(path: u32) -> Event {
-    Event::Named { path }
-}
-
-fn listed(driver: u32, reply: ListReply) -> Event {
-    Event::Listed { driver, reply }
-}
-
-fn redone(path: u32, reply: Reply) -> Event {
-    Event::Redone { path, reply }
-}
-
-fn hand_back(path: u32) -> Event {
-    Event::HandBack { path }
-}
+const CLAIMED: &[Event] = &[
+    Event::Claim { path: 0, actor: 0 },
+    Event::Close {
+        path: 0,
+        actor: 0,
+        own: FINE,
+    },
+];
 
 #[test]
 fn one_run_with_a_delayed_path(rt: HostRuntime) -> Result<(), Fail> {
@@ -58,40 +119,15 @@ fn one_run_with_a_delayed_path(rt: HostRuntime) -> Result<(), Fail> {
         },
     ]?;
     let mut state = State::start(rt.alloc(), starts, 1, 1)?;
-    assert_eq!(rt; state.unclosed(), 2);
-    let first = [opened(0, BOTH), answered(1, Reply::Delayed), named(1)];
-    assert_eq!(rt; replay(&mut state, &first), Ok(()));
-    assert_eq!(rt;
-        step(&mut state, listed(0, ListReply::Empty)),
-        Err(Refused),
-        "while a list is noted"
-    );
-    assert_eq!(rt; step(&mut state, listed(0, ListReply::Names(1))), Ok(()));
-    assert_eq!(rt;
-        step(&mut state, redone(1, Reply::Delayed)),
-        Err(Refused),
-        "delayed again"
-    );
-    let last = [redone(1, Reply::Content), listed(0, ListReply::Empty)];
-    assert_eq!(rt; replay(&mut state, &last), Ok(()));
-    assert_eq!(rt;
-        step(&mut state, close(0, 0, FINE)),
-        Err(Refused),
-        "before its claim"
-    );
-    assert_eq!(rt;
-        step(&mut state, hand_back(1)),
-        Err(Refused),
-        "after its reply"
-    );
-    let rest = [close(1, 1, FINE), close(1, 1, FINE), claim(0, 0)];
-    assert_eq!(rt; replay(&mut state, &rest), Err(1), "a second close");
-    let rest = [claim(0, 0), close(0, 0, FINE)];
-    assert_eq!(rt; replay(&mut state, &rest), Ok(()));
-    assert_eq!(rt; state.unclosed(), 0);
-    assert_eq!(rt; state.verdict(0), Some(WRITTEN));
-    assert_eq!(rt; state.verdict(1), Some(WRITTEN));
-    assert_eq!(rt; state.verdict(2), None);
+    assert!(rt; state.unclosed() == 2);
+    for (event, taken, what) in RUN {
+        assert!(rt; step(&mut state, *event).is_ok() == *taken, "{what}");
+    }
+    assert!(rt; replay(&mut state, LAST) == Err(1), "a second close");
+    assert!(rt; replay(&mut state, CLAIMED) == Ok(()));
+    assert!(rt; state.unclosed() == 0);
+    assert!(rt; state.verdict(0) == Some(WRITTEN) && state.verdict(1) == Some(WRITTEN));
+    assert!(rt; state.verdict(2).is_none());
     Ok(())
 }
 
@@ -238,110 +274,143 @@ fn digit(letter: u8) -> u32 {
     u32::from(letter.wrapping_sub(b'0'))
 }
 
-fn caps_of(letter: u8) -> Option<Caps> {
-    match letter {
-        b'b' => Some(BOTH),
-        b's' => Some(Caps {
+/// What a letter of a word stands for.
+const CAPS: &[(u8, Caps)] = &[
+    (b'b', BOTH),
+    (
+        b's',
+        Caps {
             smudge: true,
             delay: false,
-        }),
-        b'n' => Some(Caps {
+        },
+    ),
+    (
+        b'n',
+        Caps {
             smudge: false,
             delay: false,
-        }),
-        _ => None,
-    }
-}
+        },
+    ),
+];
 
-fn cause_of(letter: u8) -> Option<OpenCause> {
-    match letter {
-        b's' => Some(OpenCause::NotStarted),
-        b'n' => Some(OpenCause::NoMemory),
-        b'e' => Some(OpenCause::Broken(BreakCause::Ended)),
-        b'p' => Some(OpenCause::Broken(BreakCause::StrangePath)),
-        b'r' => Some(OpenCause::Broken(BreakCause::ListRefused)),
-        _ => None,
-    }
-}
+const CAUSES: &[(u8, OpenCause)] = &[
+    (b's', OpenCause::NotStarted),
+    (b'n', OpenCause::NoMemory),
+    (b'e', OpenCause::Broken(BreakCause::Ended)),
+    (b'p', OpenCause::Broken(BreakCause::StrangePath)),
+    (b'r', OpenCause::Broken(BreakCause::ListRefused)),
+];
 
-fn reply_of(letter: u8) -> Option<Reply> {
-    match letter {
-        b'c' => Some(Reply::Content),
-        b'e' => Some(Reply::Error),
-        b'l' => Some(Reply::ErrorAfter),
-        b'd' => Some(Reply::Delayed),
-        b'a' => Some(Reply::Abort),
-        b'n' => Some(Reply::NoMemory),
-        b'p' => Some(Reply::Broken(BreakCause::StrangePath)),
-        b'r' => Some(Reply::Broken(BreakCause::ListRefused)),
-        _ => None,
-    }
-}
+const REPLIES: &[(u8, Reply)] = &[
+    (b'c', Reply::Content),
+    (b'e', Reply::Error),
+    (b'l', Reply::ErrorAfter),
+    (b'd', Reply::Delayed),
+    (b'a', Reply::Abort),
+    (b'n', Reply::NoMemory),
+    (b'p', Reply::Broken(BreakCause::StrangePath)),
+    (b'r', Reply::Broken(BreakCause::ListRefused)),
+];
 
-fn list_reply_of(letter: u8) -> Option<ListReply> {
-    match letter {
-        b'0' | b'1' | b'2' => Some(ListReply::Names(digit(letter))),
-        b'e' => Some(ListReply::Empty),
-        _ => None,
-    }
-}
+const LIST_REPLIES: &[(u8, ListReply)] = &[
+    (b'0', ListReply::Names(0)),
+    (b'1', ListReply::Names(1)),
+    (b'2', ListReply::Names(2)),
+    (b'e', ListReply::Empty),
+];
 
-fn own_of(letter: u8) -> Option<Own> {
-    match letter {
-        b'f' => Some(FINE),
-        b'u' => Some(Own::Fine { unencoded: true }),
-        b'o' => Some(Own::Object(ObjectKind::Size)),
-        b'r' => Some(Own::ReadFailed),
-        b'w' => Some(Own::WriteFailed),
-        b'n' => Some(Own::NoMemory),
-        _ => None,
-    }
-}
+const OWNS: &[(u8, Own)] = &[
+    (b'f', FINE),
+    (b'u', Own::Fine { unencoded: true }),
+    (b'o', Own::Object(ObjectKind::Size)),
+    (b'r', Own::ReadFailed),
+    (b'w', Own::WriteFailed),
+    (b'n', Own::NoMemory),
+];
 
-fn unfiltered(cause: FilterCause, unencoded: bool) -> Verdict {
-    Verdict::Unfiltered { cause, unencoded }
-}
+const VERDICTS: &[(u8, Verdict)] = &[
+    (b'u', Verdict::Written { unencoded: true }),
+    (b'n', Verdict::NoMemory),
+    (b'g', Verdict::Skipped(SkipCause::Gitlink)),
+    (
+        b's',
+        Verdict::Unfiltered {
+            cause: FilterCause::NoSmudge,
+            unencoded: true,
+        },
+    ),
+    (
+        b'e',
+        Verdict::Unfiltered {
+            cause: FilterCause::Error,
+            unencoded: false,
+        },
+    ),
+    (
+        b'a',
+        Verdict::Unfiltered {
+            cause: FilterCause::Abort,
+            unencoded: false,
+        },
+    ),
+    (b'o', Verdict::Failed(FailCause::Object(ObjectKind::Size))),
+    (b'x', Verdict::Failed(FailCause::WriteFailed)),
+    (b'r', Verdict::Failed(FailCause::ReadFailed)),
+    (b'm', Verdict::Failed(FailCause::Missing)),
+    (
+        b'l',
+        Verdict::Failed(FailCause::Filter(FilterCause::ErrorAfter)),
+    ),
+    (
+        b'b',
+        Verdict::Failed(FailCause::Filter(FilterCause::Broken(BreakCause::Ended))),
+    ),
+];
 
-fn verdict_of(letter: u8) -> Option<Verdict> {
-    match letter {
-        b'u' => Some(Verdict::Written { unencoded: true }),
-        b'n' => Some(Verdict::NoMemory),
-        b'g' => Some(Verdict::Skipped(SkipCause::Gitlink)),
-        b's' => Some(unfiltered(FilterCause::NoSmudge, true)),
-        b'e' => Some(unfiltered(FilterCause::Error, false)),
-        b'a' => Some(unfiltered(FilterCause::Abort, false)),
-        _ => failure_of(letter).map(Verdict::Failed),
+fn find<T: Copy>(table: &[(u8, T)], letter: u8) -> Option<T> {
+    for (known, meant) in table {
+        if *known == letter {
+            return Some(*meant);
+        }
     }
-}
-
-fn failure_of(letter: u8) -> Option<FailCause> {
-    match letter {
-        b'o' => Some(FailCause::Object(ObjectKind::Size)),
-        b'x' => Some(FailCause::WriteFailed),
-        b'r' => Some(FailCause::ReadFailed),
-        b'm' => Some(FailCause::Missing),
-        b'l' => Some(FailCause::Filter(FilterCause::ErrorAfter)),
-        b'b' => Some(FailCause::Filter(FilterCause::Broken(BreakCause::Ended))),
-        _ => None,
-    }
+    None
 }
 
 fn event_of(word: &[u8]) -> Option<Event> {
     let number = digit(letter(word, 1));
     let third = letter(word, 2);
     match letter(word, 0) {
-        b'C' => Some(claim(number, digit(third))),
-        b'X' => Some(close(number, digit(third), own_of(letter(word, 3))?)),
-        b'O' => Some(opened(number, caps_of(third)?)),
+        b'C' => Some(Event::Claim {
+            path: number,
+            actor: digit(third),
+        }),
+        b'X' => Some(Event::Close {
+            path: number,
+            actor: digit(third),
+            own: find(OWNS, letter(word, 3))?,
+        }),
+        b'O' => Some(Event::Opened {
+            driver: number,
+            caps: find(CAPS, third)?,
+        }),
         b'F' => Some(Event::OpenFailed {
             path: number,
-            cause: cause_of(third)?,
+            cause: find(CAUSES, third)?,
         }),
-        b'A' => Some(answered(number, reply_of(third)?)),
-        b'N' => Some(named(number)),
-        b'L' => Some(listed(number, list_reply_of(third)?)),
-        b'R' => Some(redone(number, reply_of(third)?)),
-        b'B' => Some(hand_back(number)),
+        b'A' => Some(Event::Answered {
+            path: number,
+            reply: find(REPLIES, third)?,
+        }),
+        b'N' => Some(Event::Named { path: number }),
+        b'L' => Some(Event::Listed {
+            driver: number,
+            reply: find(LIST_REPLIES, third)?,
+        }),
+        b'R' => Some(Event::Redone {
+            path: number,
+            reply: find(REPLIES, third)?,
+        }),
+        b'B' => Some(Event::HandBack { path: number }),
         b'S' => Some(Event::Shut { driver: number }),
         _ => None,
     }
@@ -350,9 +419,9 @@ fn event_of(word: &[u8]) -> Option<Event> {
 /// One word of a case.
 fn follow(rt: &impl Abort, state: &mut State, word: &[u8]) {
     if letter(word, 0) == b'=' {
-        let want = verdict_of(letter(word, 2));
-        assert!(rt; want.is_some(), "{word:?}");
-        assert_eq!(rt; state.verdict(digit(letter(word, 1))), want, "{word:?}");
+        let want = find(VERDICTS, letter(word, 2));
+        let told = state.verdict(digit(letter(word, 1)));
+        assert!(rt; want.is_some() && told == want, "{word:?}");
         return;
     }
     let event = event_of(word);
@@ -360,8 +429,8 @@ fn follow(rt: &impl Abort, state: &mut State, word: &[u8]) {
     if let Some(event) = event {
         let open = state.unclosed();
         let refused = step(state, event).is_err();
-        assert_eq!(rt; refused, letter(word, 4) == b'!', "{word:?}");
-        assert!(rt; !refused || state.unclosed() == open, "{word:?}");
+        let same = !refused || state.unclosed() == open;
+        assert!(rt; same && refused == (letter(word, 4) == b'!'), "{word:?}");
     }
 }
 

@@ -19,8 +19,8 @@ pub fn one_reading()
         → (ps ≡ qs) × (a ≡ b) × (x ≡ y) }
 {}
 
-/// Where a packet stands at the front, whatever follows it, none of the ways for none to stand there holds. A fault stays
-/// one whatever follows, and is no beginning of a packet.
+/// Where a packet stands at the front, whatever follows it, none of the ways for none to stand there holds. A fault
+/// stays one whatever follows, and is no beginning of a packet.
 pub fn no_packet()
     ensures apart { (p : Packet) (head rest : List ℕ) → Spells p head → HasNoPacket (head ++ rest)
         → ⊥ }
