@@ -1,5 +1,5 @@
 -- Openings.
-use Rattle.std.proofs.Common.{◌≡◌, inl, inr, ℕ, true, false, List, [], ◌++◌, Option, refl, sym, ap, ◌∙◌}
+use Rattle.std.proofs.Common.{◌≡◌, inl, inr, ℕ, true, false, List, [], ◌++◌, Option, refl, sym, ap, subst, ◌∙◌}
 use Rattle.std.specs.Prelude.{⊤, Err}
 use Rattle.pkt_line.specs.Packets.{Packet}
 use Rattle.filter_words.specs.Requests.{hello_text, caps_text}
@@ -10,7 +10,9 @@ use Rattle.filter_words.specs.declared.reply.Caps.{Caps}
 use Rattle.filter_words.specs.declared.handshake.HandshakePhase.{HandshakePhase}
 use Rattle.edge_kit.specs.declared.faults.SendFault.TheVariants as send
 use Rattle.edge_kit.specs.Files.{grown}
-use Rattle.filter_proto.specs.Wires.{Wire, Took, IsSentPart, SendsOn}
+use Rattle.filter_proto.specs.Wires.{Wire, SessionSeen, Took, IsSentPart, SendsOn}
+use Rattle.edge_kit.specs.Faults.{Rose}
+use Rattle.filter_proto.specs.Complete.{BeginsGood, IsComplete}
 use Rattle.filter_proto.specs.Exchanges.{Ends, Good, Broke, OutOfMemory, Unsent, IsHeard, IsReading, IsUnsent}
 use Rattle.filter_proto.specs.Openings.{GoesAfter, HelloBy, LacksHello, BeginsHello, IsOpening, HasHello}
 use Rattle.filter_proto.proofs.Told.{grown_both}
@@ -87,3 +89,15 @@ shaken old mid new end e (inr (inr h)) = inr (inr (inr (record {
 
 pub hello_refused : (old new : Wire) (why : BreakCause) → new.sent ≡ old.sent → new.stage ≡ old.stage → IsHeard handshake_step handshake_start old new (Broke why) (HelloBy true) → GoesAfter old new (Broke why)
 hello_refused old new why se st h = inl (record { sent = se; stage = st; heard = h; broke = (why, refl) })
+
+-- the completeness of a handshake, as its caller sees it
+pub live_gives : (w over : Wire) (mid set s : SessionSeen) (known : Caps) → over ≡ w → IsComplete handshake_step handshake_start over mid.wire (Good known) → set ≡ record mid { caps = known } → set ≡ s
+    → IsComplete handshake_step handshake_start w s.wire (Good s.caps)
+live_gives w over mid set s known e h c i g b =
+    ap (λ (x : SessionSeen). x.caps) (sym i) ∙ (ap (λ (x : SessionSeen). x.caps) c ∙ h g (subst (λ (x : Wire). BeginsGood handshake_step handshake_start x g) (sym e) b))
+
+pub broken_gives : (w over mid new : Wire) (why : BreakCause) → over ≡ w → IsComplete handshake_step handshake_start over mid (Broke why) → new.faults ≡ mid.faults
+    → IsComplete handshake_step handshake_start w new (Broke why)
+broken_gives w over mid new why e h f g b =
+    let r = h g (subst (λ (x : Wire). BeginsGood handshake_step handshake_start x g) (sym e) b) in
+    (r.0, subst (λ (n : ℕ). Rose w.faults n) (sym f) (subst (λ (x : Wire). Rose x.faults mid.faults) e r.1))

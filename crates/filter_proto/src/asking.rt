@@ -10,9 +10,11 @@ ghost use Rattle.edge_kit.specs.declared.leaf_state.LeafState.TheVariants as lea
 ghost use Rattle.filter_proto.specs.Wires.{Wire};
 ghost use Rattle.filter_proto.specs.Exchanges.{IsReading, IsHeard, IsExchange};
 ghost use Rattle.filter_proto.specs.Replies.{IsPut, HasPut, EndPut, NotBegun, TouchesNot, reply_end, standing_after};
+ghost use Rattle.filter_proto.specs.Complete.{IsComplete};
 ghost use Rattle.filter_proto.specs.Steps.{FlushIs, StepIs, StepBegins};
 ghost use Rattle.filter_proto.specs.declared.reading.Step.TheVariants as step;
 
+use crate::laws::complete;
 use crate::reading::{Asked, Reading, Step};
 use crate::session::{Session, Standing};
 use edge_kit::{Leaf, Link, SendFault};
@@ -208,11 +210,14 @@ impl<K: Link> Session<K> {
             (first_text path.now self.old.caps.delay content.now) self.old.wire self.new.wire (reply_end result.reply)
             (EndPut self.old.caps.delay (L.seen leaf.old) (L.seen leaf.new) result.put (reply_end result.reply)) }
         ensures begins { TouchesNot result.reply (L.seen leaf.old) (L.seen leaf.new) result.put }
+        ensures complete { IsComplete (reply_step self.old.caps.delay) reply_start
+            self.old.wire self.new.wire (reply_end result.reply) }
         ensures standing { self.new ≡ record self.old {
             wire = self.new.wire;
             standing = standing_after result.reply;
         } }
     {
+        complete();
         let asked = self.request(path, self.caps().delay, content, leaf);
         self.set_standing(standing_after(asked.reply));
         asked
@@ -230,11 +235,13 @@ impl<K: Link> Session<K> {
             self.old.wire self.new.wire (reply_end result.reply)
             (EndPut false (L.seen leaf.old) (L.seen leaf.new) result.put (reply_end result.reply)) }
         ensures begins { TouchesNot result.reply (L.seen leaf.old) (L.seen leaf.new) result.put }
+        ensures complete { IsComplete (reply_step false) reply_start self.old.wire self.new.wire (reply_end result.reply) }
         ensures standing { self.new ≡ record self.old {
             wire = self.new.wire;
             standing = standing_after result.reply;
         } }
     {
+        complete();
         let asked = self.request(path, false, b"", leaf);
         self.set_standing(standing_after(asked.reply));
         asked

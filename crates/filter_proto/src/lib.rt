@@ -5,12 +5,14 @@
 #![tactic(auto)]
 
 mod asking;
+mod laws;
 mod listing;
 mod opening;
 mod reading;
 mod sending;
 mod session;
 
+pub use laws::same_heard;
 pub use opening::Begun;
 pub use reading::Asked;
 pub use session::{Session, Standing};

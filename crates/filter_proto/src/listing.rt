@@ -3,10 +3,13 @@ ghost use Rattle.std.specs.Prelude.{◌≡◌, ◌≤◌, ◌<◌, ◌+◌, ◌-
 ghost use Rattle.pkt_line.specs.Packets.{Payload, Flush};
 ghost use Rattle.delay_table.specs.Table.{Table};
 ghost use Rattle.filter_proto.specs.Wires.{Wire};
-ghost use Rattle.filter_proto.specs.Lists.{IsListExchange, standing_after_list};
+ghost use Rattle.filter_proto.specs.Lists.{IsListExchange, delayed_in, standing_after_list};
+ghost use Rattle.filter_proto.specs.Complete.{BeginsGood, GivesList};
+ghost use Rattle.filter_words.specs.Listing.{GoodList, list_step, list_start};
 ghost use Rattle.filter_proto.specs.ListSteps.{IsListing, IsReadList, ListStepIs, TakesName, TakesList};
 ghost use Rattle.filter_proto.specs.declared.listing.ListStep.TheVariants as step;
 
+use crate::laws::complete;
 use crate::session::{Session, Standing};
 use delay_table::DelayTable;
 use edge_kit::{Link, SendFault};
@@ -170,11 +173,14 @@ impl<K: Link> Session<K> {
     pub fn list(&mut self, table: &mut DelayTable) -> ListReply
         requires live { self.old.standing ≡ Standing.Live }
         ensures exchange { IsListExchange self.old.wire self.new.wire table.old table.new result }
+        ensures complete { (g : GoodList) → BeginsGood (list_step (delayed_in table.old)) list_start self.old.wire g
+            → GivesList g self.old.wire self.new.wire result }
         ensures standing { self.new ≡ record self.old {
             wire = self.new.wire;
             standing = standing_after_list result;
         } }
     {
+        complete();
         let reply = self.ask_list(table);
         self.set_standing(standing_after_list(reply));
         reply
