@@ -1,5 +1,5 @@
 -- One output holds one answer at its front, whatever came of it.
-use Rattle.std.proofs.Common.{◌≡◌, ◌⊎◌, inl, inr, ℕ, List, [], ◌∷◌, ◌++◌, Option, Some, None, refl, sym, ap, subst, ◌∙◌, append_assoc}
+use Rattle.std.proofs.Common.{◌≡◌, inl, inr, ℕ, List, [], ◌∷◌, ◌++◌, Option, Some, None, refl, sym, ap, subst, ◌∙◌, append_assoc}
 use Rattle.std.proofs.lemmas.List.{append-nil}
 use Rattle.pkt_line.specs.Packets.{Packet, SpellAll, IsPartial, HasFault, HasNoPacket}
 use Rattle.pkt_line.specs.Reader.{IsFaultOf}
@@ -11,7 +11,6 @@ use Rattle.filter_words.specs.Answer.{IsAnswer, StopsWith}
 use Rattle.filter_words.specs.Listing.{GoodList, Listed, Aborted}
 use Rattle.filter_words.specs.Handshake.{handshake_step, handshake_start}
 use Rattle.filter_words.specs.declared.reply.Caps.{Caps}
-use Rattle.filter_words.specs.declared.reply.BreakCause.{BreakCause}
 use Rattle.filter_words.specs.declared.reply.BreakCause.TheVariants as cause
 use Rattle.filter_words.specs.declared.reply.ListReply.{ListReply}
 use Rattle.filter_words.specs.declared.answer_state.AnswerState.{AnswerState}
@@ -20,7 +19,7 @@ use Rattle.edge_kit.specs.Faults.{Rose}
 use Rattle.edge_kit.specs.Told.{Tells}
 use Rattle.edge_kit.specs.Links.{led}
 use Rattle.filter_proto.specs.Wires.{Wire}
-use Rattle.filter_proto.specs.Exchanges.{Ends, Good, Broke, OutOfMemory, Still, Stops, Unsent, IsHeard, IsExchange}
+use Rattle.filter_proto.specs.Exchanges.{Ends, Good, Broke, OutOfMemory, Stops, Unsent, IsHeard, IsExchange}
 use Rattle.filter_proto.specs.Openings.{IsOpening}
 use Rattle.filter_proto.specs.Lists.{list_reply_of}
 use Rattle.filter_proto.proofs.More.{heard_less}
@@ -116,7 +115,7 @@ module _ {P G : Type 0} (step : P → Packet → AnswerState P G) (start : Answe
   heard_gives old new end extra h g b =
       let a = ahead_of h.took.came b.left new.left (sym h.took.left ∙ b.told) in
       let e : h.used ++ (new.unread ++ a.ahead) ≡ b.used ++ b.rest =
-        sym (joins old.unread h.took.came a.ahead h.used new.unread h.took.unread) ∙ (ap (λ (x : List ℕ). old.unread ++ x) (sym a.whole) ∙ b.whole) in
+      sym (joins old.unread h.took.came a.ahead h.used new.unread h.took.unread) ∙ (ap (λ (x : List ℕ). old.unread ++ x) (sym a.whole) ∙ b.whole) in
       any_gives (outcome step limit start h.packets) h.packets h.used old new end a.ahead g b h.spelled refl a.told e h.stops
 
   pub unsent_gives : (old new : Wire) (end : Ends G) → Unsent old new end → IsComplete step start old new end
@@ -218,8 +217,10 @@ heard_once P G step start same law output a b c d x y one two =
   where
     whole : one.heard.used ++ (b.unread ++ one.ahead) ≡ two.heard.used ++ (d.unread ++ two.ahead)
     whole = sym (joins a.unread one.heard.took.came one.ahead one.heard.used b.unread one.heard.took.unread) ∙ (sym one.whole ∙ (two.whole ∙ joins c.unread two.heard.took.came two.ahead two.heard.used d.unread two.heard.took.unread))
+
     ends : x ≡ y
     ends = same_end {P = P} x y one.settled (law one.heard.used b.unread one.ahead two.heard.used d.unread two.ahead (state_of x) (state_of y) (is_answer step start output a b x one) (is_answer step start output c d y two) whole).0
+
     packets : (g : G) → x ≡ Good g → (one.heard.packets ≡ two.heard.packets) × (one.heard.used ≡ two.heard.used)
     packets g e =
         let first = is_done (outcome step limit start one.heard.packets) a b g (subst (λ (z : Ends G). Stops (outcome step limit start one.heard.packets) a b z) e one.heard.stops) in

@@ -1,5 +1,5 @@
 -- One exchange of a session: a request, and its answer.
-use Rattle.std.specs.Prelude.{◌≡◌, ◌⊎◌, ℕ, ◌+◌, List, [], ◌++◌}
+use Rattle.std.specs.Prelude.{◌≡◌, ◌⊎◌, ℕ, ◌+◌, List, []}
 use Rattle.pkt_line.specs.Packets.{Packet, SpellAll, IsPartial, HasFault, total}
 use Rattle.filter_words.specs.Outcomes.{outcome, limit}
 use Rattle.filter_words.specs.declared.reply.BreakCause.{BreakCause}

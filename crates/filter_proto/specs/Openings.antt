@@ -1,7 +1,6 @@
 -- The opening of a session: two texts, and the two answers of a handshake.
-use Rattle.std.specs.Prelude.{◌≡◌, ◌⊎◌, ℕ, List, [], ◌++◌, Option}
+use Rattle.std.specs.Prelude.{◌≡◌, ◌⊎◌, ℕ, List, ◌++◌}
 use Rattle.pkt_line.specs.Packets.{Packet, SpellAll}
-use Rattle.filter_words.specs.Outcomes.{outcome, limit}
 use Rattle.filter_words.specs.Handshake.{handshake_step, handshake_start, IsHello}
 use Rattle.filter_words.specs.Requests.{hello_text, caps_text}
 use Rattle.filter_words.specs.declared.reply.BreakCause.{BreakCause}

@@ -1,7 +1,7 @@
 -- One packet of a reply that is being read.
-use Rattle.std.specs.Prelude.{◌≡◌, ◌⊎◌, ℕ, ◌+◌, ◌<◌, ◌≤◌, Bool, true, false, List, [], ◌++◌, Option, Some, Result, Ok, Err, ⊤}
-use Rattle.pkt_line.specs.Packets.{Packet, Payload, Flush}
-use Rattle.filter_words.specs.SmudgeReply.{reply_step, reply_start, piece_in}
+use Rattle.std.specs.Prelude.{◌≡◌, ◌⊎◌, ◌+◌, ◌<◌, ◌≤◌, Bool}
+use Rattle.pkt_line.specs.Packets.{Flush}
+use Rattle.filter_words.specs.SmudgeReply.{reply_step, reply_start}
 use Rattle.filter_words.specs.declared.reply.BreakCause.TheVariants as cause
 use Rattle.filter_words.specs.declared.smudge_reply.GoodReply.{GoodReply}
 use Rattle.filter_words.specs.declared.answer_state.AnswerState.TheVariants.{On, Done, Broken}

@@ -18,8 +18,9 @@ use crate::laws::complete;
 use crate::reading::{Asked, Reading, Step};
 use crate::session::{Session, Standing};
 use edge_kit::{Leaf, Link, SendFault};
-use filter_words::{AnswerState, BreakCause, MOST_ANSWER, Reply, ReplyPhase};
-use filter_words::{reply_after_flush, reply_after_line};
+use filter_words::{
+    AnswerState, BreakCause, MOST_ANSWER, Reply, ReplyPhase, reply_after_flush, reply_after_line,
+};
 use pkt_line::Next;
 
 /// Puts a piece, where no put failed before.
@@ -36,12 +37,7 @@ fn put_piece<L: Leaf>(put: &mut Result<(), SendFault>, leaf: &mut L, piece: &[u8
 
 /// Puts a payload of the content. The other payloads stay.
 #[tactic(auto, using(crate::proofs::Lines::begun_content, crate::proofs::Lines::begun_keys, crate::proofs::Lines::begun_last, crate::proofs::Lines::put_nothing))]
-fn put_line<L: Leaf>(
-    phase: ReplyPhase,
-    put: &mut Result<(), SendFault>,
-    leaf: &mut L,
-    line: &[u8],
-)
+fn put_line<L: Leaf>(phase: ReplyPhase, put: &mut Result<(), SendFault>, leaf: &mut L, line: &[u8])
     requires { put.old ≡ Ok tt → IsOpenLeaf (L.seen leaf.old).state }
     ensures put { (before : LeafSeen) (content : List ℕ) → IsPut before (L.seen leaf.old) put.old content
         → IsPut before (L.seen leaf.new) put.new (content ++ piece_in (state.On phase) (Payload line.now)) }
@@ -213,8 +209,8 @@ impl<K: Link> Session<K> {
         ensures complete { IsComplete (reply_step self.old.caps.delay) reply_start
             self.old.wire self.new.wire (reply_end result.reply) }
         ensures standing { self.new ≡ record self.old {
-            wire = self.new.wire;
-            standing = standing_after result.reply;
+          wire = self.new.wire;
+          standing = standing_after result.reply;
         } }
     {
         complete();
@@ -237,8 +233,8 @@ impl<K: Link> Session<K> {
         ensures begins { TouchesNot result.reply (L.seen leaf.old) (L.seen leaf.new) result.put }
         ensures complete { IsComplete (reply_step false) reply_start self.old.wire self.new.wire (reply_end result.reply) }
         ensures standing { self.new ≡ record self.old {
-            wire = self.new.wire;
-            standing = standing_after result.reply;
+          wire = self.new.wire;
+          standing = standing_after result.reply;
         } }
     {
         complete();

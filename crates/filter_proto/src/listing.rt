@@ -13,8 +13,10 @@ use crate::laws::complete;
 use crate::session::{Session, Standing};
 use delay_table::DelayTable;
 use edge_kit::{Link, SendFault};
-use filter_words::{AnswerState, BreakCause, ListPart, ListReply, MOST_ANSWER};
-use filter_words::{list_after_flush, list_reply, listed_name, next_status};
+use filter_words::{
+    AnswerState, BreakCause, ListPart, ListReply, MOST_ANSWER, list_after_flush, list_reply,
+    listed_name, next_status,
+};
 use pkt_line::Next;
 
 /// How far the reading of a list is: how many bytes its packets may still take, in which part it is, and how many paths
@@ -176,8 +178,8 @@ impl<K: Link> Session<K> {
         ensures complete { (g : GoodList) → BeginsGood (list_step (delayed_in table.old)) list_start self.old.wire g
             → GivesList g self.old.wire self.new.wire result }
         ensures standing { self.new ≡ record self.old {
-            wire = self.new.wire;
-            standing = standing_after_list result;
+          wire = self.new.wire;
+          standing = standing_after_list result;
         } }
     {
         complete();

@@ -15,8 +15,10 @@ ghost use Rattle.filter_proto.specs.declared.opening.HandStep.TheVariants as han
 use crate::laws::complete;
 use crate::session::{Session, Standing};
 use edge_kit::{Link, SendFault};
-use filter_words::{AnswerState, BreakCause, Caps, HandshakePhase, MOST_ANSWER};
-use filter_words::{handshake_after_flush, handshake_after_line, push_caps, push_hello};
+use filter_words::{
+    AnswerState, BreakCause, Caps, HandshakePhase, MOST_ANSWER, handshake_after_flush,
+    handshake_after_line, push_caps, push_hello,
+};
 use pkt_line::{Next, PktReader};
 use std::alloc::{AllocError, Global};
 
@@ -130,11 +132,7 @@ impl<K: Link> Session<K> {
     }
 
     /// Reads the second answer.
-    fn read_caps(
-        &mut self,
-        room: &mut u64,
-        phase: &mut HandshakePhase,
-    ) -> Result<Caps, BreakCause>
+    fn read_caps(&mut self, room: &mut u64, phase: &mut HandshakePhase) -> Result<Caps, BreakCause>
         requires { is_early phase.old ≡ false }
         ensures heard { (start : Wire) → IsReading handshake_step handshake_start start self.old.wire room.old phase.old
             (HelloBy false) → IsHeard handshake_step handshake_start start self.new.wire (caps_end result) (HelloBy false) }

@@ -1,4 +1,4 @@
-use Rattle.std.proofs.Common.{rules, refl, sym, ap}
+use Rattle.std.proofs.Common.{ap}
 use Rattle.filter_proto.specs.Wires.{SessionSeen}
 use Rattle.filter_proto.proofs.Once.{exchange_plain}
 use Rattle.filter_proto.proofs.session.Session.ask.Goals as goal
