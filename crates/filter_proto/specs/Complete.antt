@@ -13,7 +13,8 @@ use Rattle.filter_proto.specs.Wires.{Wire}
 use Rattle.filter_proto.specs.Exchanges.{Ends, Good, Broke, OutOfMemory, IsHeard}
 
 -- What is left unread begins with this good answer, within the limit.
-pub record BeginsGood {P G : Type 0} (step : P → Packet → AnswerState P G) (start : AnswerState P G) (wire : Wire) (g : G) : Type 0 where
+pub record BeginsGood {P G : Type 0} (step : P → Packet → AnswerState P G) (start : AnswerState P G)
+    (wire : Wire) (g : G) : Type 0 where
   pub packets : List Packet
   pub used : List ℕ
   pub rest : List ℕ
@@ -30,7 +31,8 @@ Gives g old new (Broke why) = (why ≡ cause.LinkFault) × Rose old.faults new.f
 Gives g old new OutOfMemory = Unit {0}
 
 -- a good answer that was sent is given
-abbrev pub IsComplete : {P G : Type 0} → (P → Packet → AnswerState P G) → AnswerState P G → Wire → Wire → Ends G → Type 0
+abbrev pub IsComplete : {P G : Type 0} → (P → Packet → AnswerState P G) → AnswerState P G → Wire → Wire → Ends G
+    → Type 0
 IsComplete {P} {G} step start old new end = (g : G) → BeginsGood step start old g → Gives g old new end
 
 -- the same of a list, by its reply
@@ -48,8 +50,8 @@ IsSettled (Broke cause.LinkFault) = ⊥
 IsSettled (Broke why) = Unit {0}
 IsSettled OutOfMemory = ⊥
 
--- An answer was taken from the front of a first part of this output, whatever was done with it: what was unread, what came, and what didn't come make
--- up the output. An end of input was met only where all of it came.
+-- An answer was taken from the front of a first part of this output, whatever was done with it: what was unread, what
+-- came, and what didn't come make up the output. An end of input was met only where all of it came.
 pub record IsHeardOf {P G : Type 0} (step : P → Packet → AnswerState P G) (start : AnswerState P G) (output : List ℕ)
     (old new : Wire) (end : Ends G) : Type 0 where
   pub heard : IsHeard step start old new end (λ _. Unit {0})

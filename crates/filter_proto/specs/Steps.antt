@@ -16,17 +16,21 @@ use Rattle.filter_proto.specs.declared.reading.Step.TheVariants as step
 -- how a flush ends a reply
 abbrev pub FlushEnds : Bool → Reading → Ends GoodReply → Type 0
 FlushEnds d old (Good g) = (4 ≤ old.room) × (reply_step d old.phase Flush ≡ Done g)
-FlushEnds d old (Broke why) = ((old.room < 4) × (why ≡ cause.TooLong)) ⊎ ((4 ≤ old.room) × (reply_step d old.phase Flush ≡ Broken why))
+FlushEnds d old (Broke why) = ((old.room < 4) × (why ≡ cause.TooLong))
+    ⊎ ((4 ≤ old.room) × (reply_step d old.phase Flush ≡ Broken why))
 FlushEnds d old OutOfMemory = ⊥
 
 abbrev pub FlushIs : Bool → Reading → Step → Reading → Type 0
-FlushIs d old step.On new = (new.room + 4 ≡ old.room) × (reply_step d old.phase Flush ≡ On new.phase) × (new.put ≡ old.put)
+FlushIs d old step.On new =
+    (new.room + 4 ≡ old.room) × (reply_step d old.phase Flush ≡ On new.phase) × (new.put ≡ old.put)
 FlushIs d old (step.End r) new = FlushEnds d old (reply_end r) × (new.put ≡ old.put)
 
 -- one more packet goes on or ends
 abbrev pub StepIs : Bool → Wire → Wire → Step → Reading → LeafSeen → LeafSeen → Type 0
-StepIs d start new step.On reading before leaf = IsReading (reply_step d) reply_start start new reading.room reading.phase (HasPut d before leaf reading.put)
-StepIs d start new (step.End r) reading before leaf = IsHeard (reply_step d) reply_start start new (reply_end r) (EndPut d before leaf reading.put (reply_end r))
+StepIs d start new step.On reading before leaf =
+    IsReading (reply_step d) reply_start start new reading.room reading.phase (HasPut d before leaf reading.put)
+StepIs d start new (step.End r) reading before leaf =
+    IsHeard (reply_step d) reply_start start new (reply_end r) (EndPut d before leaf reading.put (reply_end r))
 
 -- what is known of a leaf that nothing was put into
 abbrev pub StepBegins : Step → Reading → LeafSeen → LeafSeen → Type 0

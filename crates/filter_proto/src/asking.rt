@@ -58,10 +58,14 @@ fn take_line<L: Leaf>(reading: &mut Reading, leaf: &mut L, piece: &[u8]) -> bool
     ensures long { result ≡ false → reading.old.room < 4 + length piece.now }
     ensures still { result ≡ false → (reading.new ≡ reading.old) × (L.seen leaf.new ≡ L.seen leaf.old) }
     ensures room { result ≡ true → reading.new.room + (4 + length piece.now) ≡ reading.old.room }
-    ensures phase { result ≡ true → (d : Bool) → reply_step d reading.old.phase (Payload piece.now) ≡ state.On reading.new.phase }
-    ensures put { result ≡ true → (before : LeafSeen) (content : List ℕ) → IsPut before (L.seen leaf.old) reading.old.put content
-        → IsPut before (L.seen leaf.new) reading.new.put (content ++ piece_in (state.On reading.old.phase) (Payload piece.now)) }
-    ensures begun { result ≡ true → (before : LeafSeen) → NotBegun reading.old.phase before (L.seen leaf.old) reading.old.put
+    ensures phase { result ≡ true → (d : Bool)
+        → reply_step d reading.old.phase (Payload piece.now) ≡ state.On reading.new.phase }
+    ensures put { result ≡ true → (before : LeafSeen) (content : List ℕ)
+        → IsPut before (L.seen leaf.old) reading.old.put content
+        → IsPut before (L.seen leaf.new) reading.new.put
+        (content ++ piece_in (state.On reading.old.phase) (Payload piece.now)) }
+    ensures begun { result ≡ true → (before : LeafSeen)
+        → NotBegun reading.old.phase before (L.seen leaf.old) reading.old.put
         → NotBegun reading.new.phase before (L.seen leaf.new) reading.new.put }
     ensures usable { reading.new.put ≡ Ok tt → IsOpenLeaf (L.seen leaf.new).state }
 {
@@ -231,7 +235,8 @@ impl<K: Link> Session<K> {
             self.old.wire self.new.wire (reply_end result.reply)
             (EndPut false (L.seen leaf.old) (L.seen leaf.new) result.put (reply_end result.reply)) }
         ensures begins { TouchesNot result.reply (L.seen leaf.old) (L.seen leaf.new) result.put }
-        ensures complete { IsComplete (reply_step false) reply_start self.old.wire self.new.wire (reply_end result.reply) }
+        ensures complete { IsComplete (reply_step false) reply_start
+            self.old.wire self.new.wire (reply_end result.reply) }
         ensures standing { self.new ≡ record self.old {
           wire = self.new.wire;
           standing = standing_after result.reply;

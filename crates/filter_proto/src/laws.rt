@@ -27,13 +27,15 @@ pub fn same_heard()
     one_handshake();
 }
 
-/// Where what is left unread begins with a good answer, an exchange gives that answer, or its link failed, or memory ran
-/// out.
+/// Where what is left unread begins with a good answer, an exchange gives that answer, or its link failed, or memory
+/// ran out.
 pub(crate) fn complete()
     ensures reply { (d : Bool) (text : List ℕ) (old new : Wire) (end : Ends GoodReply)
-        → IsExchange (reply_step d) reply_start text old new end (λ _. Unit {0}) → IsComplete (reply_step d) reply_start old new end }
+        → IsExchange (reply_step d) reply_start text old new end (λ _. Unit {0})
+        → IsComplete (reply_step d) reply_start old new end }
     ensures list { (delayed : List (List ℕ)) (text : List ℕ) (old new : Wire) (end : Ends GoodList)
-        → IsExchange (list_step delayed) list_start text old new end (λ _. Unit {0}) → IsComplete (list_step delayed) list_start old new end }
+        → IsExchange (list_step delayed) list_start text old new end (λ _. Unit {0})
+        → IsComplete (list_step delayed) list_start old new end }
     ensures handshake { (old new : Wire) (end : Ends Caps) → IsOpening old new end
         → IsComplete handshake_step handshake_start old new end }
 {

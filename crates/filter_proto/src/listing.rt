@@ -171,7 +171,8 @@ impl<K: Link> Session<K> {
         }
     }
 
-    /// Asks which of the delayed paths are ready. Each that the driver names is listed in the table, in the driver's order.
+    /// Asks which of the delayed paths are ready. Each that the driver names is listed in the table, in the driver's
+    /// order.
     pub fn list(&mut self, table: &mut DelayTable) -> ListReply
         requires live { self.old.standing ≡ Standing.Live }
         ensures exchange { IsListExchange self.old.wire self.new.wire table.old table.new result }

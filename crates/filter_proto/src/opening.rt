@@ -1,5 +1,7 @@
-// The handshake of a session, gitattributes(5), "Long Running Filter Process": two texts, and two answers that count as one.
-ghost use Rattle.std.specs.Prelude.{◌≡◌, ◌<◌, ◌+◌, ◌-◌, ◌*◌, ℕ, true, false, List, [], IfOk, OnOk, IfErr, length, vec_len};
+// The handshake of a session, gitattributes(5), "Long Running Filter Process": two texts, and two answers that count as
+// one.
+ghost use Rattle.std.specs.Prelude.{◌≡◌, ◌<◌, ◌+◌, ◌-◌, ◌*◌, ℕ, true, false, List, []};
+ghost use Rattle.std.specs.Prelude.{IfOk, OnOk, IfErr, length, vec_len};
 ghost use Rattle.pkt_line.specs.Packets.{Packet};
 ghost use Rattle.pkt_line.specs.Packets.{size as packet_size};
 ghost use Rattle.filter_words.specs.declared.reply.BreakCause.{BreakCause};
@@ -9,7 +11,8 @@ ghost use Rattle.filter_words.specs.Requests.{hello_text, caps_text};
 ghost use Rattle.filter_proto.specs.Wires.{Wire, SessionSeen, wire_of};
 ghost use Rattle.filter_proto.specs.Exchanges.{Good, Broke, OutOfMemory, IsReading, IsHeard};
 ghost use Rattle.filter_proto.specs.Complete.{IsComplete};
-ghost use Rattle.filter_proto.specs.Openings.{IsOpening, HelloBy, is_early, HandIs, TakesState, caps_end, opening_end, GoesAfter};
+ghost use Rattle.filter_proto.specs.Openings.{IsOpening, HelloBy, is_early, HandIs, TakesState};
+ghost use Rattle.filter_proto.specs.Openings.{caps_end, opening_end, GoesAfter};
 ghost use Rattle.filter_proto.specs.declared.opening.HandStep.TheVariants as hand;
 
 use crate::laws::complete;
@@ -135,7 +138,8 @@ impl<K: Link> Session<K> {
     fn read_caps(&mut self, room: &mut u64, phase: &mut HandshakePhase) -> Result<Caps, BreakCause>
         requires { is_early phase.old ≡ false }
         ensures heard { (start : Wire) → IsReading handshake_step handshake_start start self.old.wire room.old phase.old
-            (HelloBy false) → IsHeard handshake_step handshake_start start self.new.wire (caps_end result) (HelloBy false) }
+            (HelloBy false)
+            → IsHeard handshake_step handshake_start start self.new.wire (caps_end result) (HelloBy false) }
         ensures sent { self.new.wire.sent ≡ self.old.wire.sent }
         ensures stage { self.new.wire.stage ≡ self.old.wire.stage }
         ensures rest { self.new ≡ record self.old { wire = self.new.wire } }

@@ -10,4 +10,11 @@ stage_of pipe.Input = InputShut
 stage_of pipe.Waited = Shut
 
 abbrev pub seen_of : ℕ → ℕ → Shutting → LinkSeen
-seen_of faults ends shutting = record { sent = None; taken = None; left = None; faults = faults; ends = ends; stage = stage_of shutting }
+seen_of faults ends shutting = record {
+  sent = None;
+  taken = None;
+  left = None;
+  faults = faults;
+  ends = ends;
+  stage = stage_of shutting;
+}

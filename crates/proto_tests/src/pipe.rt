@@ -100,7 +100,8 @@ impl Pipe {
     /// Copies bytes of the part that is next, and answers how many.
     fn give(&mut self, into: &mut [u8]) -> usize
         ensures within { result ≤ length into.old }
-        ensures same { seen_of self.new.faults self.new.ends self.new.shutting ≡ seen_of self.old.faults self.old.ends self.old.shutting }
+        ensures same { seen_of self.new.faults self.new.ends self.new.shutting
+            ≡ seen_of self.old.faults self.old.ends self.old.shutting }
     {
         let Some(part) = self.parts.as_slice().get(self.part) else {
             return 0;
@@ -121,7 +122,8 @@ impl Pipe {
 
     /// So many bytes of a part were given, or the whole of it.
     fn advance(&mut self, count: usize, whole: bool, times: u32)
-        ensures { seen_of self.new.faults self.new.ends self.new.shutting ≡ seen_of self.old.faults self.old.ends self.old.shutting }
+        ensures { seen_of self.new.faults self.new.ends self.new.shutting
+            ≡ seen_of self.old.faults self.old.ends self.old.shutting }
     {
         if !whole {
             self.offset = self.offset.saturating_add(count);
