@@ -1,13 +1,12 @@
 -- One more packet of a handshake.
-use Rattle.std.proofs.Common.{◌≡◌, ◌⊎◌, inl, inr, ℕ, ◌+◌, ◌<◌, ◌≤◌, Bool, true, false, List, [], ◌∷◌, ◌++◌, Option, Some, None, Result, Ok, Err, refl, sym, ap, subst, ◌∙◌, append_assoc}
+use Rattle.std.proofs.Common.{◌≡◌, ◌⊎◌, inl, inr, ℕ, Bool, true, false, List, [], ◌∷◌, ◌++◌, Ok, Err, refl, sym, ap, subst, ◌∙◌, append_assoc}
 use Rattle.std.specs.Prelude.{if◌then◌else◌, codes}
 use Rattle.std.specs.Str.{bytes_eq}
 use Rattle.std.proofs.lemmas.List.{append-nil}
-use Rattle.pkt_line.specs.Packets.{Packet, Payload, Flush, Stands, size}
+use Rattle.pkt_line.specs.Packets.{Packet, Payload, Flush}
 use Rattle.filter_words.specs.Outcomes.{outcome, limit}
 use Rattle.filter_words.specs.Words.{without_lf}
 use Rattle.filter_words.specs.Handshake.{handshake_step, handshake_start, no_caps, IsHello}
-use Rattle.filter_words.specs.declared.reply.BreakCause.{BreakCause}
 use Rattle.filter_words.specs.declared.reply.BreakCause.TheVariants as cause
 use Rattle.filter_words.specs.declared.reply.Caps.{Caps}
 use Rattle.filter_words.specs.declared.handshake.HandshakePhase.{HandshakePhase}
@@ -16,7 +15,7 @@ use Rattle.filter_words.specs.declared.answer_state.AnswerState.{AnswerState}
 use Rattle.filter_words.specs.declared.answer_state.AnswerState.TheVariants.{On, Done, Broken, Late}
 use Rattle.filter_proto.specs.Wires.{Wire}
 use Rattle.filter_proto.specs.Exchanges.{Ends, Good, Broke, IsReading, IsHeard}
-use Rattle.filter_proto.specs.Openings.{LacksHello, BeginsHello, HelloBy, is_early, HandIs, TakesState, caps_end}
+use Rattle.filter_proto.specs.Openings.{LacksHello, BeginsHello, HelloBy, is_early, HandIs, TakesState}
 use Rattle.filter_proto.specs.declared.opening.HandStep.{HandStep}
 use Rattle.filter_proto.specs.declared.opening.HandStep.TheVariants as hand
 use Rattle.filter_proto.proofs.More.{Skips, reading_on_with, heard_with, too_long, fitting, still_skip}
@@ -37,7 +36,7 @@ lacks_more : (ps : List Packet) (x : Packet) → LacksHello ps → (IsHello (ps 
 lacks_more ps x lacks none front rest e hello = elim (snoc_split ps x front rest e) [
   | inl h ↦ none (subst IsHello h hello)
   | inr h ↦ lacks front h.0 h.1 hello
-  ]
+]
 
 begins_more : (ps : List Packet) (x : Packet) → BeginsHello ps → BeginsHello (ps ++ x ∷ [])
 begins_more ps x h = (h.0, h.1 ++ x ∷ [], ap (λ (y : List Packet). y ++ x ∷ []) h.2 ∙ append_assoc h.0 h.1 (x ∷ []), h.3)
@@ -79,13 +78,13 @@ hand_turn s a b room left p q x hand.On r k t =
     reading_on_with handshake_step handshake_start s a b room left p q (HelloBy (is_early p)) (HelloBy (is_early q)) x r k t.0 t.1 (λ ps out h. on_more p q x ps t.1 out h)
 hand_turn s a b room left p q x (hand.End (Ok caps)) r k t =
     heard_with handshake_step handshake_start (Done caps) s a b room p (Good caps) (HelloBy (is_early p)) (HelloBy (is_early p)) x r k (fitting handshake_step room p x (Done caps) t.0 t.1) (refl, still_skip s a b x k r.still)
-      (λ ps out h. stays_by p ps x (λ hello. cc (sym hello ∙ out)) h)
+    (λ ps out h. stays_by p ps x (λ hello. cc (sym hello ∙ out)) h)
 hand_turn s a b room left p q x (hand.End (Err why)) r k (inl t) =
     rw t.1 (heard_with handshake_step handshake_start (Broken cause.TooLong) s a b room p (Broke cause.TooLong) (HelloBy (is_early p)) (HelloBy (is_early p)) x r k (too_long handshake_step room p x t.0) (refl, still_skip s a b x k r.still)
-      (λ ps out h. stays_by p ps x (λ hello. cc (sym hello ∙ out)) h))
+    (λ ps out h. stays_by p ps x (λ hello. cc (sym hello ∙ out)) h))
 hand_turn s a b room left p q x (hand.End (Err why)) r k (inr t) =
     heard_with handshake_step handshake_start (Broken why) s a b room p (Broke why) (HelloBy (is_early p)) (HelloBy (is_early p)) x r k (fitting handshake_step room p x (Broken why) t.0 t.1) (refl, still_skip s a b x k r.still)
-      (λ ps out h. stays_by p ps x (λ hello. cc (sym hello ∙ out)) h)
+    (λ ps out h. stays_by p ps x (λ hello. cc (sym hello ∙ out)) h)
 
 -- nothing yet
 pub lacks_nothing : LacksHello []

@@ -6,3 +6,4 @@ pub mod Opens
 pub mod Hands
 pub mod Tables
 pub mod Listings
+pub mod Once

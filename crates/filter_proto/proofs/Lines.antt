@@ -1,14 +1,13 @@
 -- Payloads and flushes of a reply.
-use Rattle.std.proofs.Common.{◌≡◌, ◌⊎◌, inl, inr, ℕ, ◌+◌, ◌-◌, ◌<◌, ◌≤◌, Bool, true, false, cond, ltb, List, [], ◌∷◌, ◌++◌, length, take, drop, Option, Some, None, Result, Ok, Err, refl, sym, ap, subst, ◌∙◌, append_assoc, arith}
+use Rattle.std.proofs.Common.{◌≡◌, inl, inr, ℕ, ◌-◌, ◌<◌, Bool, true, false, List, [], ◌∷◌, ◌++◌, Option, Some, None, Result, Ok, Err, refl, sym, ap, subst, ◌∙◌, append_assoc}
 use Rattle.std.specs.Prelude.{⊤}
 use Rattle.std.proofs.lemmas.List.{append-nil}
 use Rattle.std.proofs.lemmas.Bool.{lt-ltb, le-ltb, cases_lt}
-use Rattle.pkt_line.specs.Packets.{Packet, Payload, Flush, Stands, size}
+use Rattle.pkt_line.specs.Packets.{Packet, Payload, Flush, size}
 use Rattle.filter_words.specs.Outcomes.{outcome, limit}
 use Rattle.filter_words.specs.SmudgeReply.{reply_step, reply_start, piece_in, content_in, reply_of_good}
 use Rattle.filter_words.specs.declared.reply.BreakCause.{BreakCause}
 use Rattle.filter_words.specs.declared.reply.BreakCause.TheVariants as cause
-use Rattle.filter_words.specs.declared.reply.Reply.{Reply}
 use Rattle.filter_words.specs.declared.reply.Reply.TheVariants as reply
 use Rattle.filter_words.specs.declared.words.Status.{Status}
 use Rattle.filter_words.specs.declared.words.Status.TheVariants as status
@@ -23,7 +22,7 @@ use Rattle.edge_kit.specs.declared.faults.SendFault.{SendFault}
 use Rattle.edge_kit.specs.declared.faults.SendFault.TheVariants as send
 use Rattle.filter_proto.specs.Wires.{Wire, SendsOn}
 use Rattle.filter_proto.specs.Exchanges.{Ends, Good, Broke, OutOfMemory, IsReading, IsHeard, IsExchange}
-use Rattle.filter_proto.specs.Replies.{IsPut, IsKept, HasPut, EndPut, NotBegun, TouchesNot, IsUntouched, reply_end}
+use Rattle.filter_proto.specs.Replies.{IsPut, IsKept, HasPut, EndPut, NotBegun, IsUntouched, reply_end}
 use Rattle.filter_proto.specs.Steps.{FlushEnds, FlushIs, StepIs, StepBegins}
 use Rattle.filter_proto.specs.declared.reading.Reading.{Reading}
 use Rattle.filter_proto.specs.declared.reading.Step.{Step}
@@ -58,7 +57,7 @@ content_more d room t [] p x e = rw e (append-nil (piece_in (On p) x))
 content_more d room (On q) (y ∷ ps) p x e = elim (cases_lt room (size y)) [
   | inl less ↦ absurd (over ps (rw (lt-ltb room (size y) less) at e))
   | inr more ↦ ap (λ (r : List ℕ). piece_in (On q) y ++ r) (content_more d (room - size y) (reply_step d q y) ps p x (rw (le-ltb room (size y) more) at e)) ∙ sym (append_assoc (piece_in (On q) y) _ _)
-  ]
+]
   where
     over : (ps : List Packet) → outcome (reply_step d) room (Broken cause.TooLong) ps ≡ On p → ⊥
     over [] e = cc
@@ -82,7 +81,7 @@ piece_flush (LastKeyList s) = refl
 flush_puts : (p : ReplyPhase) (before leaf : LeafSeen) (put new : Result ⊤ SendFault) → new ≡ put → (content : List ℕ) → IsPut before leaf put content → IsPut before leaf new (content ++ piece_in (On p) Flush)
 flush_puts p before leaf put new e content h =
     subst (λ (f : Result ⊤ SendFault). IsPut before leaf f (content ++ piece_in (On p) Flush)) (sym e)
-      (subst (λ (c : List ℕ). IsPut before leaf put (content ++ c)) (sym (piece_flush p)) (put_nothing before leaf put content h))
+    (subst (λ (c : List ℕ). IsPut before leaf put (content ++ c)) (sym (piece_flush p)) (put_nothing before leaf put content h))
 
 pub kept_of : (old new : LeafSeen) (put : Result ⊤ SendFault) (content : List ℕ) → IsPut old new put content → IsKept old new put
 kept_of old new put content h = record { path = h.path; usable = h.usable; broken = h.broken }
@@ -99,7 +98,7 @@ pub line_long : (d : Bool) (s a b : Wire) (room : ℕ) (p : ReplyPhase) (before 
     → room < size x → new ≡ put → after ≡ leaf → IsHeard (reply_step d) reply_start s b (Broke cause.TooLong) (EndPut d before after new (Broke cause.TooLong))
 line_long d s a b room p before leaf after put new x r k lt e i =
     reading_long (reply_step d) reply_start s a b room p (HasPut d before leaf put) (λ _. IsKept before after new) x r k lt
-      (λ ps z h. subst (λ (l : LeafSeen). IsKept before l new) (sym i) (same_put before leaf put new e (kept_of before leaf put _ h)))
+    (λ ps z h. subst (λ (l : LeafSeen). IsKept before l new) (sym i) (same_put before leaf put new e (kept_of before leaf put _ h)))
 
 flush_ends : (d : Bool) (s a b : Wire) (old new : Reading) (end : Ends GoodReply) (before leaf : LeafSeen) → IsReading (reply_step d) reply_start s a old.room old.phase (HasPut d before leaf old.put) → Skips a Flush b
     → FlushEnds d old end → new.put ≡ old.put → IsHeard (reply_step d) reply_start s b end (EndPut d before leaf new.put end)

@@ -1,12 +1,12 @@
 -- One more packet of a list.
-use Rattle.std.proofs.Common.{◌≡◌, ℕ, ◌+◌, ◌<◌, ◌≤◌, Bool, true, false, not, List, [], ◌∷◌, ◌++◌, length, length-append, map, Option, Some, None, Result, Ok, Err, refl, sym, ap, subst, ◌∙◌, append_assoc, arith}
-use Rattle.std.specs.Prelude.{⊤, codes, if◌then◌else◌, ◌&&◌}
+use Rattle.std.proofs.Common.{◌≡◌, ℕ, ◌+◌, ◌<◌, ◌≤◌, true, false, not, List, [], ◌∷◌, ◌++◌, length, length-append, map, Option, Some, None, Err, refl, sym, ap, subst, ◌∙◌, append_assoc, arith}
+use Rattle.std.specs.Prelude.{⊤, codes, ◌&&◌}
 use Rattle.std.proofs.lemmas.List.{append-nil}
-use Rattle.pkt_line.specs.Packets.{Packet, Payload, Flush, Stands, IsPartial, HasFault, size}
-use Rattle.filter_words.specs.Outcomes.{outcome, limit}
+use Rattle.pkt_line.specs.Packets.{Packet, Payload, Flush, IsPartial, HasFault, size}
+use Rattle.filter_words.specs.Outcomes.{limit}
 use Rattle.filter_words.specs.Words.{value_of, status_after}
 use Rattle.filter_words.specs.Requests.{list_text}
-use Rattle.filter_words.specs.Listing.{GoodList, Listed, Aborted, ListPhase, Names, KeyList, name_in, after_name, after_value, list_step, list_start, list_status, reply_of_good}
+use Rattle.filter_words.specs.Listing.{GoodList, ListPhase, Names, name_in, after_name, after_value, list_step, list_start, list_status, reply_of_good}
 use Rattle.filter_words.specs.ListGrammar.{names_of, with_name}
 use Rattle.filter_words.specs.ListStates.{list_phase, list_state, good_list}
 use Rattle.filter_words.specs.declared.reply.BreakCause.{BreakCause}
@@ -25,9 +25,9 @@ use Rattle.edge_kit.specs.Files.{grown}
 use Rattle.edge_kit.specs.declared.faults.SendFault.TheVariants as send
 use Rattle.delay_table.specs.Table.{Table, IsDelayed}
 use Rattle.filter_proto.specs.Wires.{Wire, SendsOn, Filled, FillFails}
-use Rattle.filter_proto.specs.Exchanges.{Ends, Good, Broke, OutOfMemory, Still, Stops, IsReading, IsHeard, IsExchange}
-use Rattle.filter_proto.specs.Lists.{Lists, HasListed, EndLists, delayed_in, listed_at, list_reply_of, IsListExchange}
-use Rattle.filter_proto.specs.ListSteps.{IsNamed, HasNames, IsListing, IsReadList, ListStepIs, EndsSo, GoesOn, GoesEnd, TakesName, TakesList}
+use Rattle.filter_proto.specs.Exchanges.{Ends, Good, Broke, OutOfMemory, Still, Stops}
+use Rattle.filter_proto.specs.Lists.{Lists, HasListed, EndLists, delayed_in, listed_at, IsListExchange}
+use Rattle.filter_proto.specs.ListSteps.{IsNamed, HasNames, IsListing, IsReadList, ListStepIs, EndsSo, TakesName, TakesList}
 use Rattle.filter_proto.specs.declared.listing.Listing.{Listing}
 use Rattle.filter_proto.specs.declared.listing.ListStep.{ListStep}
 use Rattle.filter_proto.specs.declared.listing.ListStep.TheVariants as step
@@ -121,9 +121,10 @@ take_listed line name count told p e d at before names h =
     let has : HasNames before (listed_at p told) (names ++ name ∷ []) (count + 1) = record {
       listed = lists_more names before told name p h.listed at;
       counted = omega (arith, length-append names (name ∷ []), counted);
-    } in
-    (subst (λ (n : List (List ℕ)). HasNames before (listed_at p told) n (count + 1)) (sym all) has,
-     value_leads before names line (Some name) e ∙ (next_listed before names name (expected names before told name p d h.listed at) ∙ ap on_names (sym all)))
+    } in (
+      subst (λ (n : List (List ℕ)). HasNames before (listed_at p told) n (count + 1)) (sym all) has,
+      value_leads before names line (Some name) e ∙ (next_listed before names name (expected names before told name p d h.listed at) ∙ ap on_names (sym all)),
+    )
 
 pub take_strange : (line name : List ℕ) (count more : ℕ) (told now : Table) → value_of (codes "pathname") line ≡ Some name → ((p : ℕ) → IsDelayed name told p → ⊥) → now ≡ told → TakesName line count told false more now
 take_strange line name count more told now e none same =
@@ -259,7 +260,7 @@ list_packet s a b old new x (step.End e) before told now r k t =
     record {
       end = g.end;
       heard = heard_packet (list_step (delayed_in before)) list_start _ s a b old.room _ g.end (IsNamed old.part r.names) (EndLists before now g.end) x r.reading k refl
-        (stops_so _ s b g.end g.ends (still_skip s a b x k r.reading.still)) (λ ps q h. g.done ps h);
+          (stops_so _ s b g.end g.ends (still_skip s a b x k r.reading.still)) (λ ps q h. g.done ps h);
       reply = g.reply;
     }
 

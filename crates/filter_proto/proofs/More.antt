@@ -1,9 +1,9 @@
 -- One more packet of an answer, of whatever kind.
-use Rattle.std.proofs.Common.{◌≡◌, ◌⊎◌, inl, inr, ℕ, ◌+◌, ◌-◌, ◌<◌, ◌≤◌, Bool, true, false, cond, ltb, List, [], ◌∷◌, ◌++◌, length, take, drop, Option, Some, None, Result, Ok, Err, refl, sym, ap, subst, ◌∙◌, append_assoc, arith}
+use Rattle.std.proofs.Common.{◌≡◌, inl, inr, ℕ, ◌+◌, ◌-◌, ◌<◌, ◌≤◌, false, ltb, List, [], ◌∷◌, ◌++◌, length, take, drop, Option, Err, refl, sym, ap, subst, ◌∙◌, append_assoc, arith}
 use Rattle.std.specs.Prelude.{⊤}
 use Rattle.std.proofs.lemmas.List.{length-take, take-append-drop, append-nil}
 use Rattle.std.proofs.lemmas.Bool.{lt-ltb, le-ltb}
-use Rattle.pkt_line.specs.Packets.{Packet, Payload, Flush, Spells, SpellAll, size, total, IsPartial, HasFault, Stands}
+use Rattle.pkt_line.specs.Packets.{Packet, Payload, Spells, SpellAll, size, total, IsPartial, HasFault, Stands}
 use Rattle.filter_words.specs.Outcomes.{outcome, limit}
 use Rattle.filter_words.specs.declared.reply.BreakCause.{BreakCause}
 use Rattle.filter_words.specs.declared.reply.BreakCause.TheVariants as cause
@@ -11,12 +11,10 @@ use Rattle.filter_words.specs.declared.answer_state.AnswerState.{AnswerState}
 use Rattle.filter_words.specs.declared.answer_state.AnswerState.TheVariants.{On, Done, Broken, Late}
 use Rattle.edge_kit.specs.Faults.{Rose}
 use Rattle.edge_kit.specs.Files.{grown}
-use Rattle.edge_kit.specs.Told.{Tells}
-use Rattle.edge_kit.specs.Links.{led, SendsPart}
-use Rattle.edge_kit.specs.declared.faults.SendFault.{SendFault}
+use Rattle.edge_kit.specs.Links.{led}
 use Rattle.edge_kit.specs.declared.faults.SendFault.TheVariants as send
 use Rattle.filter_proto.specs.Wires.{Wire, Took, Filled, FillFails, IsSentPart, SendsOn}
-use Rattle.filter_proto.specs.Exchanges.{Ends, Good, Broke, OutOfMemory, Still, Stops, IsHeard, IsReading, IsUnsent, IsAnswered, IsExchange}
+use Rattle.filter_proto.specs.Exchanges.{Ends, Good, Broke, OutOfMemory, Still, Stops, IsHeard, IsReading, IsExchange}
 use Rattle.filter_proto.proofs.Told.{grown_nothing, grown_both, led_both, led_nothing}
 
 pub stands_long : (p : Packet) (bytes : List ℕ) → Stands p bytes → size p ≤ length bytes
@@ -80,14 +78,23 @@ took_nothing s = record {
 
 pub reading_fill : {P G : Type 0} (step : P → Packet → AnswerState P G) (start : AnswerState P G) (s a b : Wire) (room : ℕ) (p : P) (extra : List Packet → Type 0) → IsReading step start s a room p extra → Filled a b → IsReading step start s b room p extra
 reading_fill step start s a b room p extra r f = record {
-  packets = r.packets; used = r.used; spelled = r.spelled; gives = r.gives; fits = r.fits; done = r.done;
+  packets = r.packets;
+  used = r.used;
+  spelled = r.spelled;
+  gives = r.gives;
+  fits = r.fits;
+  done = r.done;
   took = took_fill s a b r.used r.took f.0;
   still = (f.1 ∙ r.still.0, f.2 ∙ r.still.1);
 }
 
 heard_open : {P G : Type 0} (step : P → Packet → AnswerState P G) (start : AnswerState P G) (s a b : Wire) (room : ℕ) (p : P) (end : Ends G) (extra : List Packet → Type 0) (r : IsReading step start s a room p extra) → Took s b r.used → Stops {G = G} (On p) s b end → IsHeard step start s b end extra
 heard_open step start s a b room p end extra r took stops = record {
-  packets = r.packets; used = r.used; spelled = r.spelled; took = took; done = r.done;
+  packets = r.packets;
+  used = r.used;
+  spelled = r.spelled;
+  took = took;
+  done = r.done;
   stops = rw r.gives stops;
 }
 
@@ -103,12 +110,12 @@ took_faults s a n used t = record { came = t.came; taken = t.taken; left = t.lef
 reading_ended : {P G : Type 0} (step : P → Packet → AnswerState P G) (start : AnswerState P G) (s a b : Wire) (room : ℕ) (p : P) (extra : List Packet → Type 0) → IsReading step start s a room p extra → IsPartial a.unread → FillFails a b (Err cause.Ended) → IsHeard step start s b (Broke cause.Ended) extra
 reading_ended step start s a b room p extra r part f =
     heard_open step start s a b room p (Broke cause.Ended) extra r (rw f.0 (took_ends s a b.ends r.used r.took))
-      (rw f.0 (part, rw r.still.1 at f.1, r.still.0, f.2))
+    (rw f.0 (part, rw r.still.1 at f.1, r.still.0, f.2))
 
 reading_faulty : {P G : Type 0} (step : P → Packet → AnswerState P G) (start : AnswerState P G) (s a b : Wire) (room : ℕ) (p : P) (extra : List Packet → Type 0) → IsReading step start s a room p extra → IsPartial a.unread → FillFails a b (Err cause.LinkFault) → IsHeard step start s b (Broke cause.LinkFault) extra
 reading_faulty step start s a b room p extra r part f =
     heard_open step start s a b room p (Broke cause.LinkFault) extra r (rw f.0 (took_faults s a b.faults r.used r.took))
-      (rw f.0 (part, rw r.still.0 at f.1, r.still.1))
+    (rw f.0 (part, rw r.still.0 at f.1, r.still.1))
 
 pub reading_stops : {P G : Type 0} (step : P → Packet → AnswerState P G) (start : AnswerState P G) (s a b : Wire) (room : ℕ) (p : P) (extra : List Packet → Type 0) (c : BreakCause) → IsReading step start s a room p extra → IsPartial a.unread → FillFails a b (Err c) → IsHeard step start s b (Broke c) extra
 reading_stops step start s a b room p extra cause.Ended r part f = reading_ended step start s a b room p extra r part f
@@ -135,7 +142,8 @@ pub reading_on : {P G : Type 0} (step : P → Packet → AnswerState P G) (start
 reading_on step start s a b room left p q before after x r k fits next more =
     let no : ltb room (size x) ≡ false = le-ltb room (size x) (omega arith) in
     record {
-      packets = r.packets ++ x ∷ []; used = r.used ++ take (size x) a.unread;
+      packets = r.packets ++ x ∷ [];
+      used = r.used ++ take (size x) a.unread;
       spelled = spells_more r.packets r.used x (take (size x) a.unread) r.spelled k.0;
       took = took_skip s a b r.used (size x) r.took k.1;
       gives = outcome_more step limit room start r.packets p x r.gives r.fits ∙ rw (no, next) refl;
@@ -148,7 +156,8 @@ reading_on step start s a b room left p q before after x r k fits next more =
 pub heard_packet : {P G : Type 0} (step : P → Packet → AnswerState P G) (start t : AnswerState P G) (s a b : Wire) (room : ℕ) (p : P) (end : Ends G) (before after : List Packet → Type 0) (x : Packet) → IsReading step start s a room p before → Skips a x b
     → outcome step room (On p) (x ∷ []) ≡ t → Stops t s b end → ((ps : List Packet) → outcome step limit start ps ≡ On p → before ps → after (ps ++ x ∷ [])) → IsHeard step start s b end after
 heard_packet step start t s a b room p end before after x r k gives stops more = record {
-  packets = r.packets ++ x ∷ []; used = r.used ++ take (size x) a.unread;
+  packets = r.packets ++ x ∷ [];
+  used = r.used ++ take (size x) a.unread;
   spelled = spells_more r.packets r.used x (take (size x) a.unread) r.spelled k.0;
   took = took_skip s a b r.used (size x) r.took k.1;
   stops = rw (outcome_more step limit room start r.packets p x r.gives r.fits, gives) stops;
@@ -179,9 +188,14 @@ reading_broken step start s a b room p c before after x r k le e more =
 -- nothing yet
 pub reading_starts : {P G : Type 0} (step : P → Packet → AnswerState P G) (p : P) (s : Wire) (extra : List Packet → Type 0) → extra [] → IsReading step (On p) s s limit p extra
 reading_starts step p s extra h = record {
-  packets = []; used = []; spelled = refl; gives = refl; fits = omega arith;
+  packets = [];
+  used = [];
+  spelled = refl;
+  gives = refl;
+  fits = omega arith;
   took = took_nothing s;
-  still = (refl, refl); done = h;
+  still = (refl, refl);
+  done = h;
 }
 
 -- less may be said of what was done
@@ -195,7 +209,8 @@ reading_on_with step start s a b room left p q before after x r k fits next more
     let no : ltb room (size x) ≡ false = le-ltb room (size x) (omega arith) in
     let gives = outcome_more step limit room start r.packets p x r.gives r.fits ∙ rw (no, next) refl in
     record {
-      packets = r.packets ++ x ∷ []; used = r.used ++ take (size x) a.unread;
+      packets = r.packets ++ x ∷ [];
+      used = r.used ++ take (size x) a.unread;
       spelled = spells_more r.packets r.used x (take (size x) a.unread) r.spelled k.0;
       took = took_skip s a b r.used (size x) r.took k.1;
       gives = gives;
@@ -209,7 +224,8 @@ pub heard_with : {P G : Type 0} (step : P → Packet → AnswerState P G) (start
 heard_with step start t s a b room p end before after x r k gives stops more =
     let all = outcome_more step limit room start r.packets p x r.gives r.fits ∙ gives in
     record {
-      packets = r.packets ++ x ∷ []; used = r.used ++ take (size x) a.unread;
+      packets = r.packets ++ x ∷ [];
+      used = r.used ++ take (size x) a.unread;
       spelled = spells_more r.packets r.used x (take (size x) a.unread) r.spelled k.0;
       took = took_skip s a b r.used (size x) r.took k.1;
       stops = rw all stops;
@@ -249,7 +265,10 @@ stops_from Late old mid new text end e h = absurd h
 
 pub heard_from : {P G : Type 0} (step : P → Packet → AnswerState P G) (start : AnswerState P G) (old mid new : Wire) (text : List ℕ) (end : Ends G) (extra : List Packet → Type 0) → mid ≡ record old { sent = grown old.sent text } → IsHeard step start mid new end extra → IsHeard step start old new end extra
 heard_from step start old mid new text end extra e h = record {
-  packets = h.packets; used = h.used; spelled = h.spelled; done = h.done;
+  packets = h.packets;
+  used = h.used;
+  spelled = h.spelled;
+  done = h.done;
   took = took_from old mid new h.used text e h.took;
   stops = stops_from (outcome step limit start h.packets) old mid new text end e h.stops;
 }

@@ -1,15 +1,15 @@
 -- A request that is sent in parts.
-use Rattle.std.proofs.Common.{◌≡◌, ℕ, suc, ◌+◌, ◌-◌, ◌<◌, ◌≤◌, List, [], ◌∷◌, ◌++◌, length, length-append, take, drop, map, Option, Some, None, Result, Ok, Err, refl, sym, ap, subst, ◌∙◌, arith, append_assoc}
+use Rattle.std.proofs.Common.{◌≡◌, ℕ, suc, ◌-◌, ◌<◌, ◌≤◌, List, [], ◌∷◌, ◌++◌, length, length-append, take, drop, Option, Result, Ok, Err, refl, sym, ap, subst, ◌∙◌, arith, append_assoc}
 use Rattle.std.specs.Prelude.{⊤, OnOk}
 use Rattle.std.proofs.lemmas.List.{append-nil, length-drop, take_all}
 use Rattle.pkt_line.specs.Packets.{Packet, Payload, Flush}
-use Rattle.pkt_line.specs.Spelling.{spelling, spelling_all, content_packets, piece_count, pieces_of}
+use Rattle.pkt_line.specs.Spelling.{spelling, spelling_all, content_packets, piece_count}
 use Rattle.filter_words.specs.Requests.{content_text}
-use Rattle.edge_kit.specs.Faults.{Rose, AfterSend}
+use Rattle.edge_kit.specs.Faults.{Rose}
 use Rattle.edge_kit.specs.Files.{grown}
 use Rattle.edge_kit.specs.declared.faults.SendFault.{SendFault}
 use Rattle.edge_kit.specs.declared.faults.SendFault.TheVariants as send
-use Rattle.edge_kit.specs.Links.{LinkSeen, Sends, SendsPart, IsSendCut}
+use Rattle.edge_kit.specs.Links.{LinkSeen, SendsPart, IsSendCut}
 use Rattle.filter_proto.specs.Sending.{SendsAll}
 use Rattle.filter_proto.proofs.Told.{grown_nothing, grown_both}
 
@@ -89,7 +89,7 @@ piece_count-drop n some = omega arith
 content_packets-cut : (rest : List ℕ) → 1 ≤ length rest → content_packets rest ≡ Payload (take 65516 rest) ∷ content_packets (drop 65516 rest)
 content_packets-cut rest some =
     let e : piece_count (length rest) ≡ suc (piece_count (length (drop 65516 rest))) =
-      piece_count-drop (length rest) some ∙ ap (λ (n : ℕ). suc (piece_count n)) (sym (length-drop 65516 rest)) in
+    piece_count-drop (length rest) some ∙ ap (λ (n : ℕ). suc (piece_count n)) (sym (length-drop 65516 rest)) in
     rw e refl
 
 pub content_cut : (rest : List ℕ) → 1 ≤ length rest → content_text rest ≡ spelling (Payload (take 65516 rest)) ++ content_text (drop 65516 rest)
@@ -155,7 +155,7 @@ underway_stops four old now new whole held piece rest after f u more p a h =
     let one = held ++ spelling (Payload piece) in
     let some : 0 < length (one ++ content_text after) = let s = content_some four after in omega (arith, length-append one (content_text after), s) in
     sent_as _ whole old new (Err f) (behind_piece whole u.before held piece rest after u.text c)
-      (sent_behind u.before (one ++ content_text after) old now new (Err f) some u.sent (stopped_before one (content_text after) now new f h))
+    (sent_behind u.before (one ++ content_text after) old now new (Err f) some u.sent (stopped_before one (content_text after) now new f h))
 
 pub underway_last : length (spelling Flush) ≡ 4 → (old now new : LinkSeen) (whole held rest : List ℕ) (r : Result ⊤ SendFault) → IsUnderway old now whole held rest → SendsAll (held ++ content_text rest) now new r → SendsAll whole old new r
 underway_last four old now new whole held rest r u h =

@@ -1,10 +1,8 @@
 -- Which names of a table are delayed, while some are listed.
-use Rattle.std.proofs.Common.{◌≡◌, ◌⊎◌, inl, inr, ℕ, zero, suc, ◌+◌, ◌<◌, Bool, true, false, not, List, [], ◌∷◌, ◌++◌, length, Option, Some, None, refl, sym, ap, subst, ◌∙◌, arith}
+use Rattle.std.proofs.Common.{◌≡◌, ◌⊎◌, inl, inr, ℕ, zero, suc, Bool, true, false, not, List, [], ◌∷◌, ◌++◌, Some, refl, sym, ap, subst, ◌∙◌}
 use Rattle.std.specs.Prelude.{slice_get, slice_set, ◌||◌, ◌&&◌}
 use Rattle.std.specs.Str.{bytes_eq}
 use Rattle.std.proofs.lemmas.Slice.Eq.{bytes_eq-Decides}
-use mathlib.Core.Logic.{dite}
-use native.Mathlib.Decide.{ℕ_discrete}
 use Rattle.filter_words.specs.Listing.{name_in}
 use Rattle.delay_table.specs.Table.{Table, IsDelayed}
 use Rattle.delay_table.specs.declared.place.Place.{Place}
@@ -51,7 +49,7 @@ there_of (m ∷ names) [] n e = absurd (let w : true ≡ false = sym e in cc w)
 there_of (m ∷ names) (place.Delayed ∷ places) n e = elim (in_front m (delayed_of names places) n e) [
   | inl same ↦ (zero, (ap (λ (x : List ℕ). Some x) same, refl))
   | inr more ↦ stands_next m place.Delayed names places n (there_of names places n more)
-  ]
+]
 there_of (m ∷ names) (place.Idle ∷ places) n e = stands_next m place.Idle names places n (there_of names places n e)
 there_of (m ∷ names) (place.Listed ∷ places) n e = stands_next m place.Listed names places n (there_of names places n e)
 there_of (m ∷ names) (place.Done ∷ places) n e = stands_next m place.Done names places n (there_of names places n e)
@@ -88,7 +86,7 @@ still_delayed t n m p q at there other = (there.0, get_other t.places p q place.
     clash same = let e : Some m ≡ Some n = sym there.0 ∙ (ap (λ (k : ℕ). slice_get t.names k) same ∙ at.0) in cc (e)
 
 was_delayed : (t : Table) (n m : List ℕ) (p q : ℕ) → IsDelayed n t p → IsDelayed m (listed_at p t) q → IsDelayed m t q × (q ≡ p → ⊥)
-was_delayed t n m p q at there = let apart : q ≡ p → ⊥ = gone in (( there.0, sym (get_other t.places p q place.Listed apart) ∙ there.1), apart)
+was_delayed t n m p q at there = let apart : q ≡ p → ⊥ = gone in ((there.0, sym (get_other t.places p q place.Listed apart) ∙ there.1), apart)
   where
     gone : q ≡ p → ⊥
     gone same =
@@ -118,6 +116,7 @@ still_there (n ∷ names) old now m q h there none =
   where
     other : m ≡ n → ⊥
     other same = let w : true ≡ false = sym (front_in n names m (sym same)) ∙ none in cc w
+
     rest : (b : Bool) → (b || name_in names m) ≡ false → name_in names m ≡ false
     rest true e = absurd (let w : true ≡ false = e in cc w)
     rest false e = e

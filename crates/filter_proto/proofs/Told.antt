@@ -1,8 +1,7 @@
 -- What is told, and what a flush makes of a reply.
-use Rattle.std.proofs.Common.{◌≡◌, ◌⊎◌, inl, inr, ℕ, Bool, true, false, List, [], ◌∷◌, ◌++◌, Option, Some, None, Result, Ok, Err, refl, sym, ap, ◌∙◌, append_assoc}
-use Rattle.std.specs.Option.{option_map}
+use Rattle.std.proofs.Common.{◌≡◌, inl, inr, ℕ, Bool, true, false, List, [], ◌++◌, Option, Some, None, Result, Ok, Err, refl, sym, ap, ◌∙◌, append_assoc}
 use Rattle.std.proofs.lemmas.List.{append-nil}
-use Rattle.pkt_line.specs.Packets.{Packet, Payload, Flush}
+use Rattle.pkt_line.specs.Packets.{Flush}
 use Rattle.pkt_line.specs.Reader.{Peeks}
 use Rattle.pkt_line.specs.Reading.{Reading}
 use Rattle.pkt_line.specs.declared.reader.Next.{Next}
@@ -14,8 +13,7 @@ use Rattle.filter_words.specs.SmudgeReply.{reply_step}
 use Rattle.filter_words.specs.declared.words.Status.TheVariants as status
 use Rattle.filter_words.specs.declared.smudge_reply.ReplyPhase.{ReplyPhase}
 use Rattle.filter_words.specs.declared.smudge_reply.ReplyPhase.TheVariants.{KeyList, Content, LastKeyList}
-use Rattle.filter_words.specs.declared.answer_state.AnswerState.{AnswerState}
-use Rattle.filter_words.specs.declared.answer_state.AnswerState.TheVariants.{On, Done, Broken, Late}
+use Rattle.filter_words.specs.declared.answer_state.AnswerState.TheVariants.{Late}
 use Rattle.edge_kit.specs.declared.faults.SendFault.{SendFault}
 use Rattle.edge_kit.specs.declared.faults.SendFault.TheVariants as send
 use Rattle.edge_kit.specs.Links.{LinkSeen, Sends}

@@ -1,5 +1,5 @@
 -- One exchange of a session: a request, and its answer.
-use Rattle.std.specs.Prelude.{◌≡◌, ◌⊎◌, ℕ, ◌+◌, List, [], ◌++◌}
+use Rattle.std.specs.Prelude.{◌≡◌, ◌⊎◌, ℕ, ◌+◌, List, []}
 use Rattle.pkt_line.specs.Packets.{Packet, SpellAll, IsPartial, HasFault, total}
 use Rattle.filter_words.specs.Outcomes.{outcome, limit}
 use Rattle.filter_words.specs.declared.reply.BreakCause.{BreakCause}
@@ -21,8 +21,8 @@ pub data Ends (G : Type 0) : Type 0 where
 abbrev pub Still : Wire → Wire → Type 0
 Still old new = (new.faults ≡ old.faults) × (new.ends ≡ old.ends)
 
--- How the reading of an answer stops: at its end, at bytes that begin no packet, at the end of what is sent, or at a fault
--- of the link where no whole packet is left.
+-- How the reading of an answer stops: at its end, at bytes that begin no packet, at the end of what is sent, or at a
+-- fault of the link where no whole packet is left.
 abbrev pub Stops : {P G : Type 0} → AnswerState P G → Wire → Wire → Ends G → Type 0
 Stops (On phase) old new (Good g) = ⊥
 Stops (On phase) old new OutOfMemory = ⊥
@@ -36,7 +36,8 @@ Stops (Done good) old new end = (end ≡ Good good) × Still old new
 Stops (Broken why) old new end = (end ≡ Broke why) × Still old new
 Stops Late old new end = ⊥
 
--- An answer was read: its packets left the front, and this is what it came to. `extra` is what was done with the packets.
+-- An answer was read: its packets left the front, and this is what it came to. `extra` is what was done with the
+-- packets.
 pub record IsHeard {P G : Type 0} (step : P → Packet → AnswerState P G) (start : AnswerState P G) (old new : Wire)
     (end : Ends G) (extra : List Packet → Type 0) : Type 0 where
   pub packets : List Packet
@@ -66,7 +67,8 @@ Unsent old new (Broke why) = ⊥
 Unsent old new OutOfMemory = new.faults ≡ old.faults
 
 -- a request of which a part was sent, or nothing: no answer was looked at
-pub record IsUnsent {G : Type 0} (text : List ℕ) (old new : Wire) (end : Ends G) (extra : List Packet → Type 0) : Type 0 where
+pub record IsUnsent {G : Type 0} (text : List ℕ) (old new : Wire) (end : Ends G)
+    (extra : List Packet → Type 0) : Type 0 where
   pub sent : IsSentPart text old new
   pub why : Unsent old new end
   pub done : extra []
@@ -78,7 +80,7 @@ pub record IsAnswered {P G : Type 0} (step : P → Packet → AnswerState P G) (
   pub stage : new.stage ≡ old.stage
   pub heard : IsHeard step start old new end extra
 
-abbrev pub IsExchange : {P G : Type 0} → (P → Packet → AnswerState P G) → AnswerState P G → List ℕ → Wire → Wire → Ends G
-    → (List Packet → Type 0) → Type 0
+abbrev pub IsExchange : {P G : Type 0} → (P → Packet → AnswerState P G) → AnswerState P G → List ℕ → Wire → Wire
+    → Ends G → (List Packet → Type 0) → Type 0
 IsExchange step start text old new end extra =
     IsUnsent text old new end extra ⊎ IsAnswered step start text old new end extra

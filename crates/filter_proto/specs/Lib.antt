@@ -6,3 +6,4 @@ pub mod Steps
 pub mod Openings
 pub mod Lists
 pub mod ListSteps
+pub mod Complete

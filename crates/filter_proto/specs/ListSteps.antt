@@ -36,7 +36,8 @@ pub record HasNames (before now : Table) (names : List (List ℕ)) (count : ℕ)
 pub record IsListing (start wire : Wire) (l : Listing) (before now : Table) : Type 0 where
   pub names : List (List ℕ)
   pub has : HasNames before now names l.count
-  pub reading : IsReading (list_step (delayed_in before)) list_start start wire l.room (list_phase l.part names) (IsNamed l.part names)
+  pub reading : IsReading (list_step (delayed_in before)) list_start start wire l.room
+      (list_phase l.part names) (IsNamed l.part names)
 
 -- a list was read, and this is what it came to
 pub record IsReadList (start wire : Wire) (before now : Table) (r : ListReply) : Type 0 where
@@ -65,15 +66,18 @@ TakesName line count told false more now = (now ≡ told)
     → list_step (delayed_in before) (Names names) (Payload line) ≡ Broken cause.StrangePath)
 
 -- a packet goes on: the room, the part and the names behind it
-pub record GoesOn (before : Table) (names : List (List ℕ)) (old : Listing) (x : Packet) (new : Listing) (now : Table) : Type 0 where
+pub record GoesOn (before : Table) (names : List (List ℕ)) (old : Listing) (x : Packet)
+    (new : Listing) (now : Table) : Type 0 where
   pub more : List (List ℕ)
   pub has : HasNames before now (names ++ more) new.count
   pub fits : new.room + size x ≡ old.room
   pub leads : list_step (delayed_in before) (list_phase old.part names) x ≡ On (list_phase new.part (names ++ more))
-  pub named : (packets : List Packet) → IsNamed old.part names packets → IsNamed new.part (names ++ more) (packets ++ x ∷ [])
+  pub named : (packets : List Packet) → IsNamed old.part names packets
+      → IsNamed new.part (names ++ more) (packets ++ x ∷ [])
 
 -- a packet ends the list
-pub record GoesEnd (before : Table) (names : List (List ℕ)) (old : Listing) (x : Packet) (r : ListReply) (now : Table) : Type 0 where
+pub record GoesEnd (before : Table) (names : List (List ℕ)) (old : Listing) (x : Packet)
+    (r : ListReply) (now : Table) : Type 0 where
   pub end : Ends GoodList
   pub ends : EndsSo (outcome (list_step (delayed_in before)) old.room (On (list_phase old.part names)) (x ∷ [])) end
   pub reply : r ≡ list_reply_of end

@@ -1,7 +1,6 @@
 -- The opening of a session: two texts, and the two answers of a handshake.
-use Rattle.std.specs.Prelude.{◌≡◌, ◌⊎◌, ℕ, List, [], ◌++◌, Option}
+use Rattle.std.specs.Prelude.{◌≡◌, ◌⊎◌, ℕ, List, ◌++◌}
 use Rattle.pkt_line.specs.Packets.{Packet, SpellAll}
-use Rattle.filter_words.specs.Outcomes.{outcome, limit}
 use Rattle.filter_words.specs.Handshake.{handshake_step, handshake_start, IsHello}
 use Rattle.filter_words.specs.Requests.{hello_text, caps_text}
 use Rattle.filter_words.specs.declared.reply.BreakCause.{BreakCause}
@@ -59,7 +58,8 @@ pub record IsOpened (old new : Wire) (end : Ends Caps) : Type 0 where
   pub heard : IsHeard handshake_step handshake_start old new end BeginsHello
 
 abbrev pub IsOpening : Wire → Wire → Ends Caps → Type 0
-IsOpening old new end = IsUnsent hello_text old new end (λ _. Unit {0}) ⊎ IsRefusedHello old new end ⊎ IsUnsentCaps old new end ⊎ IsOpened old new end
+IsOpening old new end = IsUnsent hello_text old new end (λ _. Unit {0}) ⊎ IsRefusedHello old new end
+    ⊎ IsUnsentCaps old new end ⊎ IsOpened old new end
 
 -- by whether the first answer is still read
 abbrev pub HelloBy : Bool → List Packet → Type 0
@@ -79,14 +79,17 @@ caps_end (Err why) = Broke why
 
 -- one more packet of a handshake goes on or ends
 abbrev pub HandIs : Bool → Wire → Wire → HandStep → ℕ → HandshakePhase → Type 0
-HandIs early start new hand.On room phase = IsReading handshake_step handshake_start start new room phase (HelloBy (is_early phase))
-HandIs early start new (hand.End end) room phase = IsHeard handshake_step handshake_start start new (caps_end end) (HelloBy early)
+HandIs early start new hand.On room phase =
+    IsReading handshake_step handshake_start start new room phase (HelloBy (is_early phase))
+HandIs early start new (hand.End end) room phase =
+    IsHeard handshake_step handshake_start start new (caps_end end) (HelloBy early)
 
 -- what a packet that was taken leads to
 abbrev pub TakesState : ℕ → HandshakePhase → Packet → HandStep → ℕ → HandshakePhase → Type 0
 TakesState room phase x hand.On left next = (left + size x ≡ room) × (handshake_step phase x ≡ On next)
 TakesState room phase x (hand.End (Ok caps)) left next = (size x ≤ room) × (handshake_step phase x ≡ Done caps)
-TakesState room phase x (hand.End (Err why)) left next = ((room < size x) × (why ≡ cause.TooLong)) ⊎ ((size x ≤ room) × (handshake_step phase x ≡ Broken why))
+TakesState room phase x (hand.End (Err why)) left next = ((room < size x) × (why ≡ cause.TooLong))
+    ⊎ ((size x ≤ room) × (handshake_step phase x ≡ Broken why))
 
 -- how a handshake failed
 abbrev pub opening_end : Result Caps OpenFault → Ends Caps
@@ -94,7 +97,8 @@ opening_end (Ok caps) = Good caps
 opening_end (Err (fault.Broken why)) = Broke why
 opening_end (Err fault.NoMemory) = OutOfMemory
 
--- after the first text: its answer was not right; or it was, and the second text was not sent whole; or that was sent too
+-- after the first text: its answer was not right; or it was, and the second text was not sent whole; or that was sent
+-- too
 pub record StaysHello (old new : Wire) (end : Ends Caps) : Type 0 where
   pub sent : new.sent ≡ old.sent
   pub stage : new.stage ≡ old.stage

@@ -1,12 +1,9 @@
 -- A smudge request and its reply, and what the leaf has of it.
-use Rattle.std.specs.Prelude.{◌≡◌, ◌≢◌, ℕ, Bool, List, [], ◌∷◌, ◌++◌, Option, Some, None, Result, Ok, Err, ⊤, ◌+◌, ◌<◌}
-use Rattle.pkt_line.specs.Packets.{Packet, Flush}
-use Rattle.filter_words.specs.Outcomes.{outcome, limit}
-use Rattle.filter_words.specs.SmudgeReply.{reply_step, reply_start, content_in}
-use Rattle.filter_words.specs.declared.reply.BreakCause.TheVariants as cause
+use Rattle.std.specs.Prelude.{◌≡◌, ◌≢◌, ℕ, Bool, List, Result, Ok, Err, ⊤}
+use Rattle.pkt_line.specs.Packets.{Packet}
+use Rattle.filter_words.specs.SmudgeReply.{reply_start, content_in}
 use Rattle.filter_words.specs.declared.reply.Reply.{Reply}
 use Rattle.filter_words.specs.declared.reply.Reply.TheVariants as reply
-use Rattle.filter_words.specs.declared.words.Status.{Status}
 use Rattle.filter_words.specs.declared.smudge_reply.GoodReply.{GoodReply}
 use Rattle.filter_words.specs.declared.smudge_reply.GoodReply.TheVariants as good
 use Rattle.filter_words.specs.declared.smudge_reply.ReplyPhase.{ReplyPhase}
@@ -16,10 +13,8 @@ use Rattle.edge_kit.specs.Seen.{LeafSeen}
 use Rattle.edge_kit.specs.Files.{grown, IsOpenLeaf}
 use Rattle.edge_kit.specs.declared.faults.SendFault.{SendFault}
 use Rattle.edge_kit.specs.declared.faults.SendFault.TheVariants as send
-use Rattle.edge_kit.specs.declared.leaf_state.LeafState.{LeafState}
 use Rattle.edge_kit.specs.declared.leaf_state.LeafState.TheVariants as leaf
-use Rattle.filter_proto.specs.Wires.{Wire}
-use Rattle.filter_proto.specs.Exchanges.{Ends, Good, Broke, OutOfMemory, IsExchange, IsHeard, IsReading}
+use Rattle.filter_proto.specs.Exchanges.{Ends, Good, Broke, OutOfMemory}
 use Rattle.filter_proto.specs.declared.session.Standing.{Standing}
 use Rattle.filter_proto.specs.declared.session.Standing.TheVariants as standing
 
@@ -81,4 +76,3 @@ abbrev pub NotBegun : ReplyPhase → LeafSeen → LeafSeen → Result ⊤ SendFa
 NotBegun (KeyList s) old new put = IsUntouched old new put
 NotBegun Content old new put = Unit {0}
 NotBegun (LastKeyList s) old new put = Unit {0}
-

@@ -10,14 +10,17 @@ ghost use Rattle.edge_kit.specs.declared.leaf_state.LeafState.TheVariants as lea
 ghost use Rattle.filter_proto.specs.Wires.{Wire};
 ghost use Rattle.filter_proto.specs.Exchanges.{IsReading, IsHeard, IsExchange};
 ghost use Rattle.filter_proto.specs.Replies.{IsPut, HasPut, EndPut, NotBegun, TouchesNot, reply_end, standing_after};
+ghost use Rattle.filter_proto.specs.Complete.{IsComplete};
 ghost use Rattle.filter_proto.specs.Steps.{FlushIs, StepIs, StepBegins};
 ghost use Rattle.filter_proto.specs.declared.reading.Step.TheVariants as step;
 
+use crate::laws::complete;
 use crate::reading::{Asked, Reading, Step};
 use crate::session::{Session, Standing};
 use edge_kit::{Leaf, Link, SendFault};
-use filter_words::{AnswerState, BreakCause, MOST_ANSWER, Reply, ReplyPhase};
-use filter_words::{reply_after_flush, reply_after_line};
+use filter_words::{
+    AnswerState, BreakCause, MOST_ANSWER, Reply, ReplyPhase, reply_after_flush, reply_after_line,
+};
 use pkt_line::Next;
 
 /// Puts a piece, where no put failed before.
@@ -34,12 +37,7 @@ fn put_piece<L: Leaf>(put: &mut Result<(), SendFault>, leaf: &mut L, piece: &[u8
 
 /// Puts a payload of the content. The other payloads stay.
 #[tactic(auto, using(crate::proofs::Lines::begun_content, crate::proofs::Lines::begun_keys, crate::proofs::Lines::begun_last, crate::proofs::Lines::put_nothing))]
-fn put_line<L: Leaf>(
-    phase: ReplyPhase,
-    put: &mut Result<(), SendFault>,
-    leaf: &mut L,
-    line: &[u8],
-)
+fn put_line<L: Leaf>(phase: ReplyPhase, put: &mut Result<(), SendFault>, leaf: &mut L, line: &[u8])
     requires { put.old ≡ Ok tt → IsOpenLeaf (L.seen leaf.old).state }
     ensures put { (before : LeafSeen) (content : List ℕ) → IsPut before (L.seen leaf.old) put.old content
         → IsPut before (L.seen leaf.new) put.new (content ++ piece_in (state.On phase) (Payload line.now)) }
@@ -60,10 +58,14 @@ fn take_line<L: Leaf>(reading: &mut Reading, leaf: &mut L, piece: &[u8]) -> bool
     ensures long { result ≡ false → reading.old.room < 4 + length piece.now }
     ensures still { result ≡ false → (reading.new ≡ reading.old) × (L.seen leaf.new ≡ L.seen leaf.old) }
     ensures room { result ≡ true → reading.new.room + (4 + length piece.now) ≡ reading.old.room }
-    ensures phase { result ≡ true → (d : Bool) → reply_step d reading.old.phase (Payload piece.now) ≡ state.On reading.new.phase }
-    ensures put { result ≡ true → (before : LeafSeen) (content : List ℕ) → IsPut before (L.seen leaf.old) reading.old.put content
-        → IsPut before (L.seen leaf.new) reading.new.put (content ++ piece_in (state.On reading.old.phase) (Payload piece.now)) }
-    ensures begun { result ≡ true → (before : LeafSeen) → NotBegun reading.old.phase before (L.seen leaf.old) reading.old.put
+    ensures phase { result ≡ true → (d : Bool)
+        → reply_step d reading.old.phase (Payload piece.now) ≡ state.On reading.new.phase }
+    ensures put { result ≡ true → (before : LeafSeen) (content : List ℕ)
+        → IsPut before (L.seen leaf.old) reading.old.put content
+        → IsPut before (L.seen leaf.new) reading.new.put
+        (content ++ piece_in (state.On reading.old.phase) (Payload piece.now)) }
+    ensures begun { result ≡ true → (before : LeafSeen)
+        → NotBegun reading.old.phase before (L.seen leaf.old) reading.old.put
         → NotBegun reading.new.phase before (L.seen leaf.new) reading.new.put }
     ensures usable { reading.new.put ≡ Ok tt → IsOpenLeaf (L.seen leaf.new).state }
 {
@@ -208,11 +210,14 @@ impl<K: Link> Session<K> {
             (first_text path.now self.old.caps.delay content.now) self.old.wire self.new.wire (reply_end result.reply)
             (EndPut self.old.caps.delay (L.seen leaf.old) (L.seen leaf.new) result.put (reply_end result.reply)) }
         ensures begins { TouchesNot result.reply (L.seen leaf.old) (L.seen leaf.new) result.put }
+        ensures complete { IsComplete (reply_step self.old.caps.delay) reply_start
+            self.old.wire self.new.wire (reply_end result.reply) }
         ensures standing { self.new ≡ record self.old {
-            wire = self.new.wire;
-            standing = standing_after result.reply;
+          wire = self.new.wire;
+          standing = standing_after result.reply;
         } }
     {
+        complete();
         let asked = self.request(path, self.caps().delay, content, leaf);
         self.set_standing(standing_after(asked.reply));
         asked
@@ -230,11 +235,14 @@ impl<K: Link> Session<K> {
             self.old.wire self.new.wire (reply_end result.reply)
             (EndPut false (L.seen leaf.old) (L.seen leaf.new) result.put (reply_end result.reply)) }
         ensures begins { TouchesNot result.reply (L.seen leaf.old) (L.seen leaf.new) result.put }
+        ensures complete { IsComplete (reply_step false) reply_start
+            self.old.wire self.new.wire (reply_end result.reply) }
         ensures standing { self.new ≡ record self.old {
-            wire = self.new.wire;
-            standing = standing_after result.reply;
+          wire = self.new.wire;
+          standing = standing_after result.reply;
         } }
     {
+        complete();
         let asked = self.request(path, false, b"", leaf);
         self.set_standing(standing_after(asked.reply));
         asked

@@ -1,16 +1,18 @@
 //! A session with a filter driver over a link: gitattributes(5), "Long Running Filter Process".
 //!
-//! Each call is one exchange: a request is sent, and its answer is taken from the front of what is left unread, whatever
-//! pieces the link gives.
+//! Each call is one exchange: a request is sent, and its answer is taken from the front of what is left unread,
+//! whatever pieces the link gives.
 #![tactic(auto)]
 
 mod asking;
+mod laws;
 mod listing;
 mod opening;
 mod reading;
 mod sending;
 mod session;
 
+pub use laws::same_heard;
 pub use opening::Begun;
 pub use reading::Asked;
 pub use session::{Session, Standing};

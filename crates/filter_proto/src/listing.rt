@@ -3,15 +3,20 @@ ghost use Rattle.std.specs.Prelude.{◌≡◌, ◌≤◌, ◌<◌, ◌+◌, ◌-
 ghost use Rattle.pkt_line.specs.Packets.{Payload, Flush};
 ghost use Rattle.delay_table.specs.Table.{Table};
 ghost use Rattle.filter_proto.specs.Wires.{Wire};
-ghost use Rattle.filter_proto.specs.Lists.{IsListExchange, standing_after_list};
+ghost use Rattle.filter_proto.specs.Lists.{IsListExchange, delayed_in, standing_after_list};
+ghost use Rattle.filter_proto.specs.Complete.{BeginsGood, GivesList};
+ghost use Rattle.filter_words.specs.Listing.{GoodList, list_step, list_start};
 ghost use Rattle.filter_proto.specs.ListSteps.{IsListing, IsReadList, ListStepIs, TakesName, TakesList};
 ghost use Rattle.filter_proto.specs.declared.listing.ListStep.TheVariants as step;
 
+use crate::laws::complete;
 use crate::session::{Session, Standing};
 use delay_table::DelayTable;
 use edge_kit::{Link, SendFault};
-use filter_words::{AnswerState, BreakCause, ListPart, ListReply, MOST_ANSWER};
-use filter_words::{list_after_flush, list_reply, listed_name, next_status};
+use filter_words::{
+    AnswerState, BreakCause, ListPart, ListReply, MOST_ANSWER, list_after_flush, list_reply,
+    listed_name, next_status,
+};
 use pkt_line::Next;
 
 /// How far the reading of a list is: how many bytes its packets may still take, in which part it is, and how many paths
@@ -166,15 +171,19 @@ impl<K: Link> Session<K> {
         }
     }
 
-    /// Asks which of the delayed paths are ready. Each that the driver names is listed in the table, in the driver's order.
+    /// Asks which of the delayed paths are ready. Each that the driver names is listed in the table, in the driver's
+    /// order.
     pub fn list(&mut self, table: &mut DelayTable) -> ListReply
         requires live { self.old.standing ≡ Standing.Live }
         ensures exchange { IsListExchange self.old.wire self.new.wire table.old table.new result }
+        ensures complete { (g : GoodList) → BeginsGood (list_step (delayed_in table.old)) list_start self.old.wire g
+            → GivesList g self.old.wire self.new.wire result }
         ensures standing { self.new ≡ record self.old {
-            wire = self.new.wire;
-            standing = standing_after_list result;
+          wire = self.new.wire;
+          standing = standing_after_list result;
         } }
     {
+        complete();
         let reply = self.ask_list(table);
         self.set_standing(standing_after_list(reply));
         reply

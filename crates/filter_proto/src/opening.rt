@@ -1,5 +1,7 @@
-// The handshake of a session, gitattributes(5), "Long Running Filter Process": two texts, and two answers that count as one.
-ghost use Rattle.std.specs.Prelude.{◌≡◌, ◌<◌, ◌+◌, ◌-◌, ◌*◌, ℕ, true, false, List, [], IfOk, OnOk, IfErr, length, vec_len};
+// The handshake of a session, gitattributes(5), "Long Running Filter Process": two texts, and two answers that count as
+// one.
+ghost use Rattle.std.specs.Prelude.{◌≡◌, ◌<◌, ◌+◌, ◌-◌, ◌*◌, ℕ, true, false, List, []};
+ghost use Rattle.std.specs.Prelude.{IfOk, OnOk, IfErr, length, vec_len};
 ghost use Rattle.pkt_line.specs.Packets.{Packet};
 ghost use Rattle.pkt_line.specs.Packets.{size as packet_size};
 ghost use Rattle.filter_words.specs.declared.reply.BreakCause.{BreakCause};
@@ -8,13 +10,18 @@ ghost use Rattle.filter_words.specs.Handshake.{handshake_step, handshake_start};
 ghost use Rattle.filter_words.specs.Requests.{hello_text, caps_text};
 ghost use Rattle.filter_proto.specs.Wires.{Wire, SessionSeen, wire_of};
 ghost use Rattle.filter_proto.specs.Exchanges.{Good, Broke, OutOfMemory, IsReading, IsHeard};
-ghost use Rattle.filter_proto.specs.Openings.{IsOpening, HelloBy, is_early, HandIs, TakesState, caps_end, opening_end, GoesAfter};
+ghost use Rattle.filter_proto.specs.Complete.{IsComplete};
+ghost use Rattle.filter_proto.specs.Openings.{IsOpening, HelloBy, is_early, HandIs, TakesState};
+ghost use Rattle.filter_proto.specs.Openings.{caps_end, opening_end, GoesAfter};
 ghost use Rattle.filter_proto.specs.declared.opening.HandStep.TheVariants as hand;
 
+use crate::laws::complete;
 use crate::session::{Session, Standing};
 use edge_kit::{Link, SendFault};
-use filter_words::{AnswerState, BreakCause, Caps, HandshakePhase, MOST_ANSWER};
-use filter_words::{handshake_after_flush, handshake_after_line, push_caps, push_hello};
+use filter_words::{
+    AnswerState, BreakCause, Caps, HandshakePhase, MOST_ANSWER, handshake_after_flush,
+    handshake_after_line, push_caps, push_hello,
+};
 use pkt_line::{Next, PktReader};
 use std::alloc::{AllocError, Global};
 
@@ -128,14 +135,11 @@ impl<K: Link> Session<K> {
     }
 
     /// Reads the second answer.
-    fn read_caps(
-        &mut self,
-        room: &mut u64,
-        phase: &mut HandshakePhase,
-    ) -> Result<Caps, BreakCause>
+    fn read_caps(&mut self, room: &mut u64, phase: &mut HandshakePhase) -> Result<Caps, BreakCause>
         requires { is_early phase.old ≡ false }
         ensures heard { (start : Wire) → IsReading handshake_step handshake_start start self.old.wire room.old phase.old
-            (HelloBy false) → IsHeard handshake_step handshake_start start self.new.wire (caps_end result) (HelloBy false) }
+            (HelloBy false)
+            → IsHeard handshake_step handshake_start start self.new.wire (caps_end result) (HelloBy false) }
         ensures sent { self.new.wire.sent ≡ self.old.wire.sent }
         ensures stage { self.new.wire.stage ≡ self.old.wire.stage }
         ensures rest { self.new ≡ record self.old { wire = self.new.wire } }
@@ -200,6 +204,18 @@ impl<K: Link> Session<K> {
         }
     }
 
+    /// The handshake, which is complete where what is left unread begins with two good answers.
+    fn shake_whole(&mut self, hello: &[u8], caps: &[u8]) -> Result<Caps, OpenFault>
+        requires hello { hello.now ≡ hello_text }
+        requires caps { caps.now ≡ caps_text }
+        ensures opening { IsOpening self.old.wire self.new.wire (opening_end result) }
+        ensures complete { IsComplete handshake_step handshake_start self.old.wire self.new.wire (opening_end result) }
+        ensures rest { self.new ≡ record self.old { wire = self.new.wire } }
+    {
+        complete();
+        self.shake(hello, caps)
+    }
+
     /// Opens a session over a link: the handshake and the capabilities. All the room that a reply needs is taken here.
     pub fn begin(alloc: Global, link: K) -> Begun<K>
         ensures live { (s : SessionSeen) → result ≡ Begun.Live s
@@ -207,6 +223,10 @@ impl<K: Link> Session<K> {
         ensures standing { (s : SessionSeen) → result ≡ Begun.Live s → s.standing ≡ Standing.Live }
         ensures broken { (l : K) (why : BreakCause) → result ≡ Begun.Broken l why
             → (unread : List ℕ) × IsOpening (wire_of [] (K.seen link)) (wire_of unread (K.seen l)) (Broke why) }
+        ensures live_complete { (s : SessionSeen) → result ≡ Begun.Live s
+            → IsComplete handshake_step handshake_start (wire_of [] (K.seen link)) s.wire (Good s.caps) }
+        ensures broken_complete { (l : K) (why : BreakCause) → result ≡ Begun.Broken l why
+            → IsComplete handshake_step handshake_start (wire_of [] (K.seen link)) (wire_of [] (K.seen l)) (Broke why) }
         ensures no_memory { (l : K) → result ≡ Begun.NoMemory l
             → (unread : List ℕ) × IsOpening (wire_of [] (K.seen link)) (wire_of unread (K.seen l)) OutOfMemory }
     {
@@ -220,7 +240,7 @@ impl<K: Link> Session<K> {
             caps,
         } = rooms;
         let mut session = Session::over(alloc, link, reader, piece);
-        match session.shake(hello.as_slice(), caps.as_slice()) {
+        match session.shake_whole(hello.as_slice(), caps.as_slice()) {
             Ok(caps) => {
                 session.set_caps(caps);
                 Begun::Live(session)

@@ -13,8 +13,8 @@ use std::alloc::{AllocError, Global};
 /// The most bytes of a content in one packet.
 const MOST_PAYLOAD: usize = 65_516;
 
-/// Sends the request to smudge a content for a path of 1 to 4,096 bytes. `text` holds one packet at a time, with the key
-/// list before the first and the flush behind the last.
+/// Sends the request to smudge a content for a path of 1 to 4,096 bytes. `text` holds one packet at a time, with the
+/// key list before the first and the flush behind the last.
 #[tactic(auto, using(crate::proofs::Sent::sent_none, crate::proofs::Sent::sent_as))]
 pub(crate) fn send_smudge<K: Link>(
     alloc: Global,

@@ -124,7 +124,7 @@ impl<K: Link> Session<K> {
     pub(crate) fn skip(&mut self, size: usize)
         requires { HasPacketOf size self.old.wire.unread }
         ensures { self.new ≡ record self.old {
-            wire = record self.old.wire { unread = drop size self.old.wire.unread };
+          wire = record self.old.wire { unread = drop size self.old.wire.unread };
         } }
     {
         self.reader.skip(size);
@@ -152,7 +152,14 @@ impl<K: Link> Session<K> {
         ensures sends { SendsOn (first_text path.now can_delay content.now) self.old.wire self.new.wire result }
         ensures rest { self.new ≡ record self.old { wire = self.new.wire } }
     {
-        send_smudge(self.alloc, &mut self.link, &mut self.text, path, can_delay, content)
+        send_smudge(
+            self.alloc,
+            &mut self.link,
+            &mut self.text,
+            path,
+            can_delay,
+            content,
+        )
     }
 
     /// Sends the request for a list.
@@ -200,7 +207,9 @@ impl<K: Link> Session<K> {
         ensures { IsShutAfter self.standing self.wire (K.seen result) }
     {
         let Session {
-            mut link, standing, ..
+            mut link,
+            standing,
+            ..
         } = self;
         match standing {
             Standing::Live | Standing::Aborted => {

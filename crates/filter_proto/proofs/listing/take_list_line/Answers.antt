@@ -1,4 +1,4 @@
-use Rattle.std.proofs.Common.{arith, refl, ◌+◌, ◌-◌}
+use Rattle.std.proofs.Common.{arith, refl}
 use Rattle.pkt_line.specs.Packets.{Payload}
 use Rattle.filter_proto.proofs.Listings.{line_too_long, line_names, line_strange, line_keys}
 use Rattle.filter_proto.proofs.listing.take_list_line.Goals as goal

@@ -1,4 +1,4 @@
-use Rattle.std.proofs.Common.{rules, arith, refl, sym, ◌≡◌, ◌<◌, ◌∙◌, length}
+use Rattle.std.proofs.Common.{arith}
 use Rattle.pkt_line.specs.Packets.{Flush}
 use Rattle.filter_proto.proofs.Sent.{underway_first, underway_next, underway_stops, underway_last}
 use Rattle.filter_proto.proofs.sending.send_behind.Goals as goal

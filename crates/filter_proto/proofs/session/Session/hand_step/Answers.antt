@@ -1,4 +1,4 @@
-use Rattle.std.proofs.Common.{refl, sym, ap, ◌∙◌}
+use Rattle.std.proofs.Common.{refl, ap}
 use Rattle.pkt_line.specs.Packets.{Payload, Flush}
 use Rattle.filter_proto.specs.Wires.{SessionSeen}
 use Rattle.filter_proto.proofs.More.{reading_fill}
@@ -15,7 +15,7 @@ returns-in-Ok-Flush-clause-step g c s r =
 pub returns-in-Ok-Payload-clause-step : goal.returns-in-Ok-Payload-clause-step
 returns-in-Ok-Payload-clause-step g c s r =
     hand_turn s _ _ _ _ _ _ (Payload c.in-Ok-Payload.line.now) _ r (rw c.in-Ok-Payload.field-0-is at c.in-Ok-Payload.ensures, ap (λ (v : SessionSeen). v.wire) c.skip-in-Ok-Payload.ensures)
-      (c.take_state-step-in-Ok-Payload.ensures (Payload c.in-Ok-Payload.line.now) refl c.handshake_after_line-state.ensures)
+    (c.take_state-step-in-Ok-Payload.ensures (Payload c.in-Ok-Payload.line.now) refl c.handshake_after_line-state.ensures)
 
 pub returns-in-Ok-Flush-clause-stays : goal.returns-in-Ok-Flush-clause-stays
 returns-in-Ok-Flush-clause-stays g c = late_stays _ _ _ _ Flush _ (c.take_state-step.ensures Flush refl c.handshake_after_flush-state.ensures)

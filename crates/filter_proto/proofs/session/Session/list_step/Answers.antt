@@ -1,4 +1,4 @@
-use Rattle.std.proofs.Common.{refl, sym, ap, ◌∙◌}
+use Rattle.std.proofs.Common.{ap}
 use Rattle.pkt_line.specs.Packets.{Payload, Flush}
 use Rattle.filter_proto.specs.Wires.{SessionSeen}
 use Rattle.filter_proto.proofs.Listings.{list_packet, list_fill, list_stops, list_bad}

@@ -1,4 +1,4 @@
-use Rattle.std.proofs.Common.{◌≡◌, ◌+◌, ◌-◌, ◌*◌, length, true, false}
+use Rattle.std.proofs.Common.{◌≡◌, ◌+◌, ◌-◌, ◌*◌, length, true}
 use Rattle.filter_words.specs.Handshake.{handshake_step, handshake_start}
 use Rattle.filter_proto.specs.Wires.{Wire}
 use Rattle.filter_proto.specs.Exchanges.{IsReading}

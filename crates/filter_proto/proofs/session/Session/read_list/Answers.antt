@@ -1,4 +1,4 @@
-use Rattle.std.proofs.Common.{arith, refl, sym, ◌∙◌}
+use Rattle.std.proofs.Common.{arith, refl, ◌∙◌}
 use Rattle.filter_proto.proofs.Told.{rest_on}
 use Rattle.filter_proto.proofs.Listings.{list_starts}
 use Rattle.filter_proto.proofs.session.Session.read_list.Goals as goal
@@ -7,7 +7,9 @@ pub loop-reply-init : goal.loop-reply-init
 loop-reply-init g c = record {
   reading = list_starts c.args.self.now.wire _ c.args.table.now refl;
   fits = omega arith;
-  sent = refl; stage = refl; rest = refl;
+  sent = refl;
+  stage = refl;
+  rest = refl;
 }
 
 pub loop-reply-preserved : goal.loop-reply-preserved

@@ -1,7 +1,5 @@
-use Rattle.std.proofs.Common.{rules, refl, ◌≡◌, ◌++◌, Ok, sym, ◌∙◌}
+use Rattle.std.proofs.Common.{refl, ◌∙◌}
 use Rattle.filter_proto.proofs.Told.{rest_on}
-use Rattle.filter_words.specs.SmudgeReply.{reply_step, reply_start}
-use Rattle.filter_proto.specs.Replies.{IsPut}
 use Rattle.filter_proto.proofs.More.{reading_starts}
 use Rattle.filter_proto.proofs.Lines.{put_starts}
 use Rattle.filter_proto.proofs.session.Session.read_reply.Goals as goal
@@ -11,7 +9,9 @@ loop-reply-init g c = record {
   reading = reading_starts _ _ c.args.self.now.wire _ (put_starts _ c.requires);
   begins = (refl, refl);
   usable = λ e. c.requires;
-  sent = refl; stage = refl; rest = refl;
+  sent = refl;
+  stage = refl;
+  rest = refl;
 }
 
 pub loop-reply-preserved : goal.loop-reply-preserved

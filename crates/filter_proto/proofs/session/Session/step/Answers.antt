@@ -1,10 +1,7 @@
-use Rattle.std.proofs.Common.{rules, arith, refl, sym, ◌∙◌, ap, subst, ◌≡◌, ℕ, ◌+◌, Ok, ◌++◌, length, drop, true}
-use Rattle.pkt_line.specs.Packets.{Payload, Flush}
-use Rattle.filter_words.specs.SmudgeReply.{reply_step, reply_start}
-use Rattle.filter_proto.specs.Wires.{Wire}
+use Rattle.std.proofs.Common.{ap}
+use Rattle.pkt_line.specs.Packets.{Payload}
 use Rattle.filter_proto.specs.Wires.{SessionSeen}
-use Rattle.filter_proto.specs.Replies.{HasPut}
-use Rattle.filter_proto.proofs.More.{reading_fill, reading_stops, reading_bad, reading_on, reading_long}
+use Rattle.filter_proto.proofs.More.{reading_fill, reading_stops, reading_bad, reading_on}
 use Rattle.filter_proto.specs.declared.reading.Reading.{Reading}
 use Rattle.filter_proto.proofs.Lines.{flush_steps, put_more, stopped, line_long}
 use Rattle.filter_proto.proofs.session.Session.step.Goals as goal
@@ -21,7 +18,7 @@ returns-then-fits-clause-step g c s before r =
     let e = c.take_line-fits.ensures in
     let yes = c.if-fits.true in
     reading_on _ _ s _ _ _ _ _ _ _ _ (Payload c.in-Ok-Payload.piece.now) r (st, ap (λ (v : SessionSeen). v.wire) c.skip-in-Ok-Payload.ensures) (e.room yes) (e.phase yes c.args.can_delay)
-      (put_more c.args.can_delay c.args.reading.now.phase (Payload c.in-Ok-Payload.piece.now) before _ _ _ _ (e.put yes before))
+    (put_more c.args.can_delay c.args.reading.now.phase (Payload c.in-Ok-Payload.piece.now) before _ _ _ _ (e.put yes before))
 
 pub returns-else-fits-clause-step : goal.returns-else-fits-clause-step
 returns-else-fits-clause-step g c s before r =

@@ -1,0 +1,16 @@
+//! The tests of sessions with a filter driver.
+//!
+//! A crate with tests is proved twice, with them and without, so those of `filter_proto` stand here, over the built
+//! library: `conversations` and `answers`, with a link and a leaf of their own. It has nothing but tests.
+#![tactic(auto)]
+
+#[cfg(test)]
+mod answers;
+#[cfg(test)]
+mod conversations;
+#[cfg(test)]
+mod page;
+#[cfg(test)]
+mod pipe;
+#[cfg(test)]
+mod speaking;

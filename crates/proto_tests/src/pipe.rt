@@ -1,0 +1,183 @@
+//! A link of a driver that has written all its output. It tells nothing.
+ghost use Rattle.std.specs.Prelude.{◌≡◌, ◌≤◌, ◌<◌, length};
+ghost use Rattle.edge_kit.specs.Faults.{AfterSend, AfterCall};
+ghost use Rattle.edge_kit.specs.Links.{Sends, Reads, input_shut, waited};
+ghost use Rattle.proto_tests.specs.Pipes.{seen_of};
+
+use edge_kit::{Failed, Link, SendFault};
+use std::alloc::{AllocError, Global};
+use std::cell::Cell;
+use std::rc::Rc;
+
+/// How far a pipe was shut.
+#[derive(Clone, Copy, Debug, PartialEq, Eq)]
+pub enum Shutting {
+    Not,
+    Input,
+    Waited,
+}
+
+/// A part of an output, which comes so many times.
+#[derive(Drop)]
+pub struct Part {
+    pub bytes: Vec<u8>,
+    pub times: u32,
+}
+
+/// A link that reads give parts of, one at a time and at most `piece` bytes.
+#[derive(Drop)]
+pub struct Pipe {
+    parts: Vec<Part>,
+    part: usize,
+    times: u32,
+    offset: usize,
+    piece: usize,
+    fails_send: bool,
+    fails_read: bool,
+    keeps: bool,
+    /// What was sent, where it keeps that.
+    pub sent: Vec<u8>,
+    /// How many puts there were at each read so far.
+    pub puts: Vec<u32>,
+    counter: Rc<Cell<u32>>,
+    pub shutting: Shutting,
+    faults: u64,
+    ends: u64,
+}
+
+impl Pipe {
+    /// A pipe with this output, in one part.
+    pub fn of(alloc: Global, output: &[u8], piece: usize) -> Result<Pipe, AllocError> {
+        let mut pipe = Pipe::new(alloc, piece)?;
+        pipe.add(alloc, output, 1)?;
+        Ok(pipe)
+    }
+
+    /// A pipe without an output.
+    pub fn new(alloc: Global, piece: usize) -> Result<Pipe, AllocError> {
+        Ok(Pipe {
+            parts: Vec::new(alloc),
+            part: 0,
+            times: 0,
+            offset: 0,
+            piece,
+            fails_send: false,
+            fails_read: false,
+            keeps: true,
+            sent: Vec::new(alloc),
+            puts: Vec::new(alloc),
+            counter: Rc::new(alloc, Cell::new(0))?,
+            shutting: Shutting::Not,
+            faults: 0,
+            ends: 0,
+        })
+    }
+
+    /// Adds a part that comes so many times.
+    pub fn add(&mut self, alloc: Global, bytes: &[u8], times: u32) -> Result<(), AllocError> {
+        let bytes = Vec::from_slice(alloc, bytes)?;
+        self.parts.push(Part { bytes, times })?;
+        Ok(())
+    }
+
+    /// It keeps nothing of what is sent.
+    pub fn forgets(mut self) -> Pipe {
+        self.keeps = false;
+        self
+    }
+
+    /// It counts the puts of pages that share its counter.
+    pub fn counter(&self) -> Result<Rc<Cell<u32>>, AllocError> {
+        Rc::clone(&self.counter)
+    }
+
+    pub fn fails(mut self, send: bool, read: bool) -> Pipe {
+        self.fails_send = send;
+        self.fails_read = read;
+        self
+    }
+
+    /// Copies bytes of the part that is next, and answers how many.
+    fn give(&mut self, into: &mut [u8]) -> usize
+        ensures within { result ≤ length into.old }
+        ensures same { seen_of self.new.faults self.new.ends self.new.shutting
+            ≡ seen_of self.old.faults self.old.ends self.old.shutting }
+    {
+        let Some(part) = self.parts.as_slice().get(self.part) else {
+            return 0;
+        };
+        let (_, rest) = part
+            .bytes
+            .as_slice()
+            .split_at(self.offset.min(part.bytes.len()));
+        let count = rest.len().min(into.len()).min(self.piece.max(1));
+        let (front, _) = into.split_at_mut(count);
+        let (bytes, _) = rest.split_at(count);
+        front.copy_from_slice(bytes);
+        let whole = count == rest.len();
+        let times = part.times;
+        self.advance(count, whole, times);
+        count
+    }
+
+    /// So many bytes of a part were given, or the whole of it.
+    fn advance(&mut self, count: usize, whole: bool, times: u32)
+        ensures { seen_of self.new.faults self.new.ends self.new.shutting
+            ≡ seen_of self.old.faults self.old.ends self.old.shutting }
+    {
+        if !whole {
+            self.offset = self.offset.saturating_add(count);
+            return;
+        }
+        self.offset = 0;
+        self.times = self.times.saturating_add(1);
+        if self.times >= times {
+            self.times = 0;
+            self.part = self.part.saturating_add(1);
+        }
+    }
+}
+
+impl Link for Pipe {
+    ghost seen = { λ p. seen_of p.faults p.ends p.shutting };
+
+    fn send(&mut self, piece: &[u8]) -> Result<(), SendFault> {
+        if self.fails_send {
+            self.faults = self.faults.saturating_add(1);
+            return Err(SendFault::Failed);
+        }
+        if self.keeps && self.sent.extend_from_slice(piece).is_err() {
+            return Err(SendFault::NoMemory);
+        }
+        Ok(())
+    }
+
+    fn read(&mut self, into: &mut [u8]) -> Result<usize, Failed> {
+        if self.fails_read {
+            self.faults = self.faults.saturating_add(1);
+            return Err(Failed);
+        }
+        if self.keeps {
+            let _ = self.puts.push(self.counter.get());
+        }
+        let count = self.give(into);
+        if count == 0 {
+            self.ends = self.ends.saturating_add(1);
+        }
+        Ok(count)
+    }
+
+    fn shut_input(&mut self) -> Result<(), Failed> {
+        if matches!(self.shutting, Shutting::Not) {
+            self.shutting = Shutting::Input;
+        }
+        Ok(())
+    }
+
+    fn wait_end(&mut self) -> Result<(), Failed> {
+        if matches!(self.shutting, Shutting::Input) {
+            self.shutting = Shutting::Waited;
+        }
+        Ok(())
+    }
+}

@@ -1,0 +1,98 @@
+//! What each test does with a session.
+ghost use Rattle.std.specs.Prelude.{◌≡◌};
+ghost use Rattle.edge_kit.specs.declared.leaf_state.LeafState.TheVariants as leaf_state;
+
+use crate::page::Page;
+use crate::pipe::Pipe;
+use byte_path::Bytes;
+use delay_table::DelayTable;
+use edge_kit::SendFault;
+use filter_proto::{Begun, Session};
+use filter_words::{ListReply, Reply};
+use std::alloc::{AllocError, Global};
+
+/// What a driver answers to a handshake, with `delay`.
+pub const HELLO: &[u8] =
+    b"0016git-filter-server\n000eversion=2\n00000016capability=smudge\n0015capability=delay\n0000";
+
+/// The same without `delay`.
+pub const HELLO_DIRECT: &[u8] =
+    b"0016git-filter-server\n000eversion=2\n00000016capability=smudge\n0000";
+
+/// A session over the pipe. Any other answer than a live session counts as a failed test.
+pub fn begin(alloc: Global, pipe: Pipe) -> Result<Session<Pipe>, AllocError> {
+    match Session::begin(alloc, pipe) {
+        Begun::Live(session) => Ok(session),
+        Begun::Broken(_, _) | Begun::NoMemory(_) => Err(AllocError),
+    }
+}
+
+/// What a request came to.
+pub type Came = (Reply, Result<(), SendFault>);
+
+/// Asks for a path, where that may be done.
+pub fn ask(
+    session: &mut Session<Pipe>,
+    path: &[u8],
+    content: &[u8],
+    page: &mut Page,
+) -> Option<Came>
+    requires { page.old.state ≡ leaf_state.Fresh }
+{
+    if !session.live() {
+        return None;
+    }
+    if !session.caps().smudge {
+        return None;
+    }
+    if path.is_empty() || path.len() > 4096 {
+        return None;
+    }
+    let asked = session.ask(path, content, page);
+    Some((asked.reply, asked.put))
+}
+
+/// Asks again for a path, where that may be done.
+pub fn ask_again(session: &mut Session<Pipe>, path: &[u8], page: &mut Page) -> Option<Came>
+    requires { page.old.state ≡ leaf_state.Fresh }
+{
+    if !session.live() {
+        return None;
+    }
+    if !session.caps().smudge {
+        return None;
+    }
+    if path.is_empty() || path.len() > 4096 {
+        return None;
+    }
+    let asked = session.ask_again(path, page);
+    Some((asked.reply, asked.put))
+}
+
+/// Asks for a list, where that may be done.
+pub fn list(session: &mut Session<Pipe>, table: &mut DelayTable) -> Option<ListReply> {
+    if !session.live() {
+        return None;
+    }
+    Some(session.list(table))
+}
+
+/// A table of one name, which is delayed.
+pub fn one_delayed(alloc: Global, name: &[u8]) -> Result<DelayTable, AllocError> {
+    let mut names = Vec::with_capacity(alloc, 1)?;
+    names.push_reserved(Bytes::copy_of(alloc, name)?);
+    let mut table = DelayTable::reserve(alloc, names)?;
+    table.delay(0);
+    Ok(table)
+}
+
+/// A table of `p1` and `p2`, which are delayed.
+pub fn both_delayed(alloc: Global) -> Result<DelayTable, AllocError> {
+    let mut names = Vec::with_capacity(alloc, 2)?;
+    names.push_reserved(Bytes::copy_of(alloc, b"p1")?);
+    names.push_reserved(Bytes::copy_of(alloc, b"p2")?);
+    let mut table = DelayTable::reserve(alloc, names)?;
+    table.delay(0);
+    table.delay(1);
+    Ok(table)
+}
