@@ -1,7 +1,8 @@
 -- The numbers that are read from text.
-use Rattle.std.specs.Prelude.{ℕ, Bool, ◌&&◌, ◌||◌, ◌==◌, not, nat_lt, nat_le, List, length, slice_index, Option, Some, None, if◌then◌else◌}
+use Rattle.std.specs.Prelude.{◌≡◌, ◌<◌, ◌^◌, true, ℕ, Bool, ◌&&◌, ◌||◌, ◌==◌, not, nat_lt, nat_le, List, length, slice_index, Option, Some, None, if◌then◌else◌}
 use Rattle.std.specs.List.{list_all}
 use Rattle.std.specs.Char.{is_ascii_digit}
+use Rattle.std.specs.Fmt.{decimal}
 use Rattle.std.specs.Str.Parse.{digits_value}
 use Rattle.byte_path.specs.Characters.{digit_0}
 
@@ -12,3 +13,11 @@ is_decimal ds = nat_lt 0 (length ds) && list_all is_ascii_digit ds && (length ds
 -- the number of a decimal, where that is at most `most`
 abbrev pub decimal_within : List ℕ → ℕ → Option ℕ
 decimal_within ds most = if is_decimal ds && nat_le (digits_value 10 ds) most then Some (digits_value 10 ds) else None
+
+-- Each number of 64 bits has one decimal: what is written of it. It has digits alone.
+pub record OneDecimal : Type 0 where
+  pub right : (n : ℕ) → n < 2 ^ 64 → is_decimal (decimal n) ≡ true
+  pub number : (n : ℕ) → n < 2 ^ 64 → digits_value 10 (decimal n) ≡ n
+  pub only : (ds : List ℕ) → is_decimal ds ≡ true → digits_value 10 ds < 2 ^ 64
+      → decimal (digits_value 10 ds) ≡ ds
+  pub digits : (ds : List ℕ) → is_decimal ds ≡ true → list_all is_ascii_digit ds ≡ true

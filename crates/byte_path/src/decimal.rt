@@ -4,7 +4,7 @@ ghost use Rattle.std.specs.Fmt.{decimal};
 ghost use Rattle.std.specs.Int.{IsInRange};
 ghost use Rattle.std.specs.List.{list_all};
 ghost use Rattle.std.specs.Option.{SomeIff};
-ghost use Rattle.byte_path.specs.Decimal.{is_decimal, decimal_within};
+ghost use Rattle.byte_path.specs.Decimal.{is_decimal, decimal_within, OneDecimal};
 
 /// Whether each byte is a digit.
 fn all_digits(text: &[u8]) -> bool
@@ -56,4 +56,9 @@ pub fn decimal_reads_back(number: u64, most: u64)
 /// The law that what reads as a number is the decimal of that number. It does nothing.
 pub fn number_has_one_decimal(text: &[u8], most: u64)
     ensures { (number : ℕ) → decimal_within text.now most ≡ Some number → text.now ≡ decimal number }
+{}
+
+/// The law that each number of 64 bits has one decimal. It does nothing.
+pub fn one_decimal()
+    ensures { OneDecimal }
 {}

@@ -13,8 +13,7 @@ use Rattle.edge_kit.specs.declared.leaf_state.LeafState.{LeafState}
 use Rattle.edge_kit.specs.declared.leaf_state.LeafState.TheVariants.{Fresh, Partly, Sealed, Gone, Broken, Stuck}
 use Rattle.edge_kit.specs.declared.tree_file.TreeFile.{TreeFile}
 use Rattle.git_index.specs.declared.entry.Entry.{Entry}
-use Rattle.git_index.specs.Spelling.{pairwise, is_before, is_below}
-use Rattle.git_index.proofs.PathOrder.{is_before-trans, is_below-cases}
+use Rattle.git_index.specs.Spelling.{pairwise, is_before, is_below, PathsAreOrdered}
 use Rattle.checkout_core.specs.declared.verdict.Verdict.{Verdict}
 use Rattle.checkout_core.specs.declared.verdict.Verdict.TheVariants as verdict
 use Rattle.checkout_core.specs.declared.verdict.FailCause.TheVariants as fail
@@ -47,12 +46,12 @@ entry_precedes d e = is_before d.path e.path
 abbrev IsUpTo : List ℕ → Entry → Type 0
 IsUpTo path e = (e.path ≡ path) ⊎ (is_before path e.path ≡ true)
 
-up_to_below : (e : Entry) (es : List Entry) → list_all (is_below e) es ≡ true → AllByRecursion (IsUpTo e.path) es
-up_to_below e [] h = tt
-up_to_below e (f ∷ es) h =
+up_to_below : PathsAreOrdered → (e : Entry) (es : List Entry) → list_all (is_below e) es ≡ true → AllByRecursion (IsUpTo e.path) es
+up_to_below law e [] h = tt
+up_to_below law e (f ∷ es) h =
     let p = and_parts (is_below e f) (list_all (is_below e) es) h in
-    let first : IsUpTo e.path f = elim (is_below-cases e f p.0) [ inl before ↦ inr before | inr tied ↦ inl (sym tied.0) ] in
-    (first, up_to_below e es p.1)
+    let first : IsUpTo e.path f = elim (law.entries e f p.0) [ inl before ↦ inr before | inr tied ↦ inl (sym tied.0) ] in
+    (first, up_to_below law e es p.1)
 
 -- where an entry has another path than the last one, its path comes behind that
 other_is_behind : (path : List ℕ) (e : Entry) → bytes_eq e.path path ≡ false → IsUpTo path e → is_before path e.path ≡ true
@@ -60,30 +59,30 @@ other_is_behind path e other (inl same) = let no : true ≡ false = sym ((bytes_
 other_is_behind path e other (inr before) = before
 
 -- the first entries behind a path come behind each path up to that
-first_is_behind : (b c : List ℕ) (es : List Entry) → (b ≡ c) ⊎ (is_before b c ≡ true) → AllByRecursion (IsUpTo c) es → pairwise is_below es ≡ true
+first_is_behind : PathsAreOrdered → (b c : List ℕ) (es : List Entry) → (b ≡ c) ⊎ (is_before b c ≡ true) → AllByRecursion (IsUpTo c) es → pairwise is_below es ≡ true
     → list_all (λ q. is_before b q.path) (first_entries_after c es) ≡ true
-first_is_behind b c [] up all rise = refl
-first_is_behind b c (e ∷ es) up all rise = elim (bytes_eq e.path c) as (λ t. bytes_eq e.path c ≡ t
+first_is_behind law b c [] up all rise = refl
+first_is_behind law b c (e ∷ es) up all rise = elim (bytes_eq e.path c) as (λ t. bytes_eq e.path c ≡ t
     → list_all (λ q. is_before b q.path) (if t then first_entries_after c es else e ∷ first_entries_after e.path es) ≡ true) [
-      | true ↦ λ same. first_is_behind b c es up all.1 (and_parts (list_all (is_below e) es) (pairwise is_below es) rise).1
+      | true ↦ λ same. first_is_behind law b c es up all.1 (and_parts (list_all (is_below e) es) (pairwise is_below es) rise).1
       | false ↦ λ other.
           let parts = and_parts (list_all (is_below e) es) (pairwise is_below es) rise in
           let behind : is_before b e.path ≡ true = elim up [
             | inl same ↦ subst (λ (p : List ℕ). is_before p e.path ≡ true) (sym same) (other_is_behind c e other all.0)
-            | inr before ↦ is_before-trans b c e.path before (other_is_behind c e other all.0)
+            | inr before ↦ law.passes b c e.path before (other_is_behind c e other all.0)
           ] in
-          and_from (is_before b e.path) (list_all (λ q. is_before b q.path) (first_entries_after e.path es)) behind (first_is_behind b e.path es (inr behind) (up_to_below e es parts.0) parts.1)
+          and_from (is_before b e.path) (list_all (λ q. is_before b q.path) (first_entries_after e.path es)) behind (first_is_behind law b e.path es (inr behind) (up_to_below law e es parts.0) parts.1)
     ] refl
 
-first_rise : (c : List ℕ) (es : List Entry) → pairwise is_below es ≡ true → pairwise entry_precedes (first_entries_after c es) ≡ true
-first_rise c [] rise = refl
-first_rise c (e ∷ es) rise = elim (bytes_eq e.path c) as (λ t. bytes_eq e.path c ≡ t
+first_rise : PathsAreOrdered → (c : List ℕ) (es : List Entry) → pairwise is_below es ≡ true → pairwise entry_precedes (first_entries_after c es) ≡ true
+first_rise law c [] rise = refl
+first_rise law c (e ∷ es) rise = elim (bytes_eq e.path c) as (λ t. bytes_eq e.path c ≡ t
     → pairwise entry_precedes (if t then first_entries_after c es else e ∷ first_entries_after e.path es) ≡ true) [
-      | true ↦ λ same. first_rise c es (and_parts (list_all (is_below e) es) (pairwise is_below es) rise).1
+      | true ↦ λ same. first_rise law c es (and_parts (list_all (is_below e) es) (pairwise is_below es) rise).1
       | false ↦ λ other.
           let parts = and_parts (list_all (is_below e) es) (pairwise is_below es) rise in
           and_from (list_all (λ q. is_before e.path q.path) (first_entries_after e.path es)) (pairwise entry_precedes (first_entries_after e.path es))
-          (first_is_behind e.path e.path es (inl refl) (up_to_below e es parts.0) parts.1) (first_rise e.path es parts.1)
+          (first_is_behind law e.path e.path es (inl refl) (up_to_below law e es parts.0) parts.1) (first_rise law e.path es parts.1)
     ] refl
 
 -- the plan of an entry has its path
@@ -137,14 +136,14 @@ map-map f g [] = refl
 map-map f g (e ∷ es) = ap (λ (ps : List PathPlan). f (g e) ∷ ps) (map-map f g es)
 
 -- the paths of a plan rise
-pub plan_rises : (es : List Entry) (settings : Settings) (info : AttrFile) (contents : List (List ℕ)) → pairwise is_below es ≡ true → pairwise precedes (plan_of es settings info contents).paths ≡ true
-plan_rises es settings info contents rise =
+pub plan_rises : PathsAreOrdered → (es : List Entry) (settings : Settings) (info : AttrFile) (contents : List (List ℕ)) → pairwise is_below es ≡ true → pairwise precedes (plan_of es settings info contents).paths ≡ true
+plan_rises law es settings info contents rise =
     let files = attribute_files info es contents in
     let asked = asked_paths files settings es in
     let made : Entry → PathPlan = λ e. path_among asked (asked_path files settings e) in
     unfold plan_of in
     subst (λ (ps : List PathPlan). pairwise precedes ps ≡ true) (sym (map-map (path_among asked) (asked_path files settings) (first_entries es)))
-    (map_rises made (λ e. asked_path-path files settings e) (first_entries es) (first_rise [] es rise))
+    (map_rises made (λ e. asked_path-path files settings e) (first_entries es) (first_rise law [] es rise))
 
 -- no path comes before the file
 abbrev Follow : TreeFile → List PathPlan → Type 0

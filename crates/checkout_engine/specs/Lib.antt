@@ -1,5 +1,6 @@
 -- what `run` promises
 pub mod Ends
+pub mod Headline
 pub mod Shown
 pub mod Sources
 pub mod Causes

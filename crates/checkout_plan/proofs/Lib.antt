@@ -3,3 +3,4 @@ pub mod Named
 pub mod Numbered
 pub mod States
 pub mod Whole
+mod Closed

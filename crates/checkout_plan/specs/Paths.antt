@@ -1,7 +1,7 @@
 -- What becomes of each path of an index.
 use Rattle.std.specs.Prelude.{ℕ, zero, suc, Bool, true, false, ◌==◌, List, [], ◌∷◌, map, codes}
 use Rattle.std.specs.Prelude.{Option, Some, None, Result, Ok, Err, if◌then◌else◌}
-use Rattle.std.specs.List.{list_any}
+use Rattle.std.specs.List.{list_any, AllByRecursion}
 use Rattle.std.specs.Str.{bytes_eq, is_utf8}
 use Rattle.edge_kit.specs.declared.leaf_state.Mark.{Mark}
 use Rattle.edge_kit.specs.declared.leaf_state.Mark.TheVariants as mark
@@ -174,3 +174,18 @@ plan_by files settings es = plan_with files (asked_paths files settings es) sett
 -- of its attribute files.
 unfoldable pub plan_of : List Entry → Settings → AttrFile → List (List ℕ) → Plan
 plan_of es settings info contents = plan_by (attribute_files info es contents) settings es
+
+-- a path that the plan closes is skipped, or fails for one of three causes
+abbrev pub HasCause : Start → Type 0
+HasCause (start.Done (verdict.Skipped cause)) = Unit {0}
+HasCause (start.Done (verdict.Failed fail.NameNotText)) = Unit {0}
+HasCause (start.Done (verdict.Failed fail.UnknownEncoding)) = Unit {0}
+HasCause (start.Done (verdict.Failed fail.NoProcess)) = Unit {0}
+HasCause (start.Done v) = ⊥
+HasCause s = Unit {0}
+
+-- No path that a plan closes has a file.
+abbrev pub ClosedPathsHaveCauses : Type 0
+ClosedPathsHaveCauses = (es : List Entry) (settings : Settings) (info : AttrFile)
+    (contents : List (List ℕ))
+    → AllByRecursion (λ p. HasCause p.start) (plan_of es settings info contents).paths

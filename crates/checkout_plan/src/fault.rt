@@ -6,19 +6,25 @@ ghost use Rattle.checkout_plan.specs.Seen.{unread_fault};
 use checkout_core::ObjectKind;
 use object_dir::ObjectFault;
 use std::alloc::{AllocError, AllocFailed};
+use thiserror::Error;
 
 /// Why there is no plan. An entry is named by its place in the index, from 0.
-#[derive(Clone, Copy, Debug, PartialEq, Eq)]
+#[derive(Error, Clone, Copy, Debug, PartialEq, Eq)]
 pub enum PlanFault {
     /// The blob of an attribute file could not be read, and its count of faults rose.
+    #[error("the attribute file of entry {0} can't be read")]
     AttributeRead(u32),
     /// The object of an attribute file isn't right.
+    #[error("the attribute file of entry {0} has no right object")]
     Attribute(u32, ObjectKind),
     /// An attribute file of more than 1,048,576 bytes.
+    #[error("the attribute file of entry {0} is too large")]
     AttributeTooLarge(u32),
     /// More than 16 drivers are in use: so many, or 2^32 - 1 where there are more.
+    #[error("{0} drivers are in use")]
     TooManyDrivers(u32),
     /// Want of memory.
+    #[error("out of memory")]
     NoMemory,
 }
 

@@ -12,5 +12,5 @@ mod skipped;
 mod starts;
 
 pub use fault::{PlanFault, object_kind};
-pub use making::make_plan;
+pub use making::{closed_paths_have_causes, make_plan};
 pub use path_plan::{PathPlan, Plan};

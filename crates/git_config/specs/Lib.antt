@@ -3,3 +3,4 @@ pub mod Header
 pub mod Value
 pub mod Reading
 pub mod Seen
+pub mod Words

@@ -3,15 +3,21 @@ ghost use Rattle.sha1.specs.Sha1.{sha1};
 ghost use Rattle.object_dir.specs.Object.{object_of};
 ghost use Rattle.object_dir.specs.Spelling.{spelled_blob};
 
+use byte_path::one_decimal;
+
 /// The law that a content within the limit is what its stored bytes give under its name. It does nothing.
 pub fn spelling_gives_its_content(content: &[u8])
     requires { length content.now ≤ 67108864 }
     ensures { let stored = spelled_blob content.now in
         object_of stored (sha1 stored) ≡ Ok content.now }
-{}
+{
+    one_decimal();
+}
 
 /// The law that stored bytes give a content only where they are its spelling and have the name. It does nothing.
 pub fn content_has_one_spelling(stored: &[u8], name: &[u8; 20])
     ensures { (content : List ℕ) → object_of stored.now name.now ≡ Ok content →
         (stored.now ≡ spelled_blob content) × (sha1 stored.now ≡ name.now) }
-{}
+{
+    one_decimal();
+}

@@ -1,5 +1,6 @@
 -- The text of a plan.
-use Rattle.std.specs.Prelude.{ℕ, Bool, true, false, List, [], ◌∷◌, ◌++◌, slice_get, codes, Option, Some, None}
+use Rattle.std.specs.Prelude.{ℕ, Bool, true, false, List, [], ◌∷◌, ◌++◌, slice_get, codes}
+use Rattle.std.specs.Prelude.{Option, Some, None}
 use Rattle.std.specs.List.{flat_map}
 use Rattle.std.specs.Fmt.{decimal}
 use Rattle.byte_path.specs.Quote.{quoted}
@@ -9,9 +10,7 @@ use Rattle.checkout_report.specs.Report.{cause_of, mark_word}
 use Rattle.eol_convert.specs.declared.setting.LineEnds.{LineEnds}
 use Rattle.eol_convert.specs.declared.setting.LineEnds.TheVariants.{Keep, ToCrlf, AutoCrlf}
 use Rattle.tree_encoding.specs.declared.encoding.Encoding.{Encoding}
-use Rattle.tree_encoding.specs.declared.encoding.Encoding.TheVariants.{Utf16, Utf16Le, Utf16Be}
-use Rattle.tree_encoding.specs.declared.encoding.Encoding.TheVariants.{Utf16LeBom, Utf32, Utf32Le}
-use Rattle.tree_encoding.specs.declared.encoding.Encoding.TheVariants.{Utf32Be}
+use Rattle.tree_encoding.specs.Named.{encoding_name}
 use Rattle.convert_plan.specs.declared.conversion.Conversion.{Conversion}
 use Rattle.settings_view.specs.declared.view.Driver.{Driver}
 use Rattle.checkout_plan.specs.declared.path_plan.PathPlan.{PathPlan}
@@ -31,15 +30,6 @@ ends_word AutoCrlf = codes "auto-crlf"
 abbrev pub ident_word : Bool → List ℕ
 ident_word true = codes "ident"
 ident_word false = codes "-"
-
-abbrev pub encoding_name : Encoding → List ℕ
-encoding_name Utf16 = codes "UTF-16"
-encoding_name Utf16Le = codes "UTF-16LE"
-encoding_name Utf16Be = codes "UTF-16BE"
-encoding_name Utf16LeBom = codes "UTF-16LE-BOM"
-encoding_name Utf32 = codes "UTF-32"
-encoding_name Utf32Le = codes "UTF-32LE"
-encoding_name Utf32Be = codes "UTF-32BE"
 
 abbrev pub encoding_word : Option Encoding → List ℕ
 encoding_word None = codes "-"
@@ -70,7 +60,8 @@ driver_word drivers (start.Done v) = codes "-"
 abbrev pub conversion_words : Conversion → List ℕ
 conversion_words c = ends_word c.ends ++ 32 ∷ ident_word c.ident ++ 32 ∷ encoding_word c.encoding
 
--- the columns before the driver: state, mark, the three of the conversion, and need, with a blank behind each
+-- the columns before the driver: state, mark, the three of the conversion, and need, with a blank
+-- behind each
 abbrev pub front_of : PathPlan → List ℕ
 front_of p =
     state_word p.start ++ (32 ∷ (mark_word p.mark

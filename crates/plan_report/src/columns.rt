@@ -1,5 +1,5 @@
 ghost use Rattle.std.specs.Prelude.{◌≡◌, IfOk};
-ghost use Rattle.plan_report.specs.Lines.{state_word, ends_word, ident_word, encoding_name};
+ghost use Rattle.plan_report.specs.Lines.{state_word, ends_word, ident_word};
 ghost use Rattle.plan_report.specs.Lines.{encoding_word, need_word, driver_name, driver_word};
 
 use byte_path::quote_path;
@@ -35,25 +35,11 @@ pub fn ident_word(ident: bool) -> &'static str
     if ident { "ident" } else { "-" }
 }
 
-fn encoding_name(encoding: Encoding) -> &'static str
-    ensures { result.now ≡ encoding_name encoding }
-{
-    match encoding {
-        Encoding::Utf16 => "UTF-16",
-        Encoding::Utf16Le => "UTF-16LE",
-        Encoding::Utf16Be => "UTF-16BE",
-        Encoding::Utf16LeBom => "UTF-16LE-BOM",
-        Encoding::Utf32 => "UTF-32",
-        Encoding::Utf32Le => "UTF-32LE",
-        Encoding::Utf32Be => "UTF-32BE",
-    }
-}
-
 pub fn encoding_word(encoding: Option<Encoding>) -> &'static str
     ensures { result.now ≡ encoding_word encoding }
 {
     match encoding {
-        Some(encoding) => encoding_name(encoding),
+        Some(encoding) => encoding.name(),
         None => "-",
     }
 }

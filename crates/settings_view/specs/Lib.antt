@@ -5,3 +5,4 @@ pub mod Keys
 pub mod Drivers
 pub mod View
 pub mod Seen
+pub mod Words

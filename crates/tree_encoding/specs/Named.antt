@@ -52,3 +52,13 @@ encoding_of Set = Err (record {})
 encoding_of (Value value) = encoding_named value
 encoding_of Unset = Ok None
 encoding_of Unspecified = Ok None
+
+-- the name of an encoding
+abbrev pub encoding_name : Encoding → List ℕ
+encoding_name Utf16 = codes "UTF-16"
+encoding_name Utf16Le = codes "UTF-16LE"
+encoding_name Utf16Be = codes "UTF-16BE"
+encoding_name Utf16LeBom = codes "UTF-16LE-BOM"
+encoding_name Utf32 = codes "UTF-32"
+encoding_name Utf32Le = codes "UTF-32LE"
+encoding_name Utf32Be = codes "UTF-32BE"

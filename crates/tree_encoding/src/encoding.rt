@@ -1,3 +1,8 @@
+ghost use Rattle.std.specs.Prelude.{◌≡◌, Ok, Some};
+ghost use Rattle.tree_encoding.specs.Named.{encoding_name, encoding_named};
+
+use thiserror::Error;
+
 /// An encoding of the worktree other than UTF-8 (gitattributes(5), "working-tree-encoding").
 #[derive(Clone, Copy, Debug, PartialEq, Eq)]
 pub enum Encoding {
@@ -14,5 +19,28 @@ pub enum Encoding {
 }
 
 /// A state that names none of the encodings.
-#[derive(Clone, Copy, Debug, PartialEq, Eq)]
+#[derive(Error, Clone, Copy, Debug, PartialEq, Eq)]
+#[error("the encoding isn't known")]
 pub struct UnknownEncoding;
+
+impl Encoding {
+    /// The encoding's name, as an attribute gives it.
+    pub fn name(self) -> &'static str
+        ensures { result.now ≡ encoding_name self }
+    {
+        match self {
+            Encoding::Utf16 => "UTF-16",
+            Encoding::Utf16Le => "UTF-16LE",
+            Encoding::Utf16Be => "UTF-16BE",
+            Encoding::Utf16LeBom => "UTF-16LE-BOM",
+            Encoding::Utf32 => "UTF-32",
+            Encoding::Utf32Le => "UTF-32LE",
+            Encoding::Utf32Be => "UTF-32BE",
+        }
+    }
+}
+
+/// The law that the name of an encoding names it. It does nothing.
+pub fn name_names_encoding(encoding: Encoding)
+    ensures { encoding_named (encoding_name encoding) ≡ Ok (Some encoding) }
+{}
