@@ -1,3 +1,4 @@
+//! The rows of an attribute file, and how many lines of it were skipped.
 use crate::state::AttrState;
 use byte_path::{Bytes, Items};
 

@@ -1,3 +1,4 @@
+//! A whole attribute file, line by line.
 ghost use Rattle.std.specs.Prelude.{◌≡◌, ◌++◌, IfOk, OnOk, option_to_list};
 ghost use Rattle.attr_line.specs.File.{attributes_at, row_of};
 ghost use Rattle.attr_line.specs.Seen.{with_fault, with_outcome};

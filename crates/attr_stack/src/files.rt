@@ -1,3 +1,4 @@
+//! The attribute files of a repository, by folder.
 ghost use Rattle.std.specs.Prelude.{◌≡◌};
 ghost use Rattle.std.specs.Option.{option_map};
 ghost use Rattle.attr_stack.specs.Pairs.{file_of};

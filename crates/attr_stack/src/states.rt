@@ -1,3 +1,4 @@
+//! The decided state of each name that is asked for.
 ghost use Rattle.std.specs.Prelude.{◌≡◌, IfOk, map};
 ghost use Rattle.std.specs.Option.{unwrap_or};
 ghost use Rattle.attr_line.specs.declared.state.AttrState.TheVariants.{Unspecified};

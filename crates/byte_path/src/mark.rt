@@ -1,3 +1,4 @@
+//! The byte order mark.
 ghost use Rattle.std.specs.Prelude.{◌≡◌};
 ghost use Rattle.byte_path.specs.Front.{unmarked};
 

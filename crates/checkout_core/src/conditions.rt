@@ -1,3 +1,4 @@
+//! Which events a state takes: one condition for each kind of event.
 ghost use Rattle.std.specs.Prelude.{◌≡◌, ◌&&◌, ◌<◌, length, MatchOption, not};
 ghost use Rattle.checkout_core.specs.Verdicts.{unasked_cause, refused_cause, held_close, heard_close, unasked_close};
 ghost use Rattle.checkout_core.specs.Verdicts.{refused_verdict, heard_verdict, is_first, lacks_smudge, unasked_fine};

@@ -1,3 +1,4 @@
+//! Where a driver's unasked and delayed paths lie, so that a step looks at none in vain.
 use crate::path::PathState;
 
 /// Where the paths of one driver stand, kept beside them.

@@ -1,3 +1,4 @@
+//! Where a driver stands.
 use filter_words::Caps;
 
 /// An open session of a driver.

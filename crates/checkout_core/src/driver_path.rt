@@ -1,3 +1,4 @@
+//! A path seen together with its driver.
 use crate::driver::DriverState;
 use crate::path::Path;
 

@@ -1,3 +1,4 @@
+//! What a step changes.
 use crate::driver::DriverState;
 use crate::path::PathState;
 

@@ -1,3 +1,4 @@
+//! The state of a checkout: its paths and its drivers.
 ghost use Rattle.std.specs.Prelude.{◌≡◌, ◌==◌, ◌+◌, ◌<◌, ◌≤◌, ◌^◌, ◌&&◌, nat_lt, length, ℕ, true, false, slice_get};
 ghost use Rattle.std.specs.Prelude.{Some};
 ghost use Rattle.checkout_core.specs.States.{Core, verdict_at, unclosed_count, is_at, is_unasked, lowest_unasked};

@@ -1,3 +1,4 @@
+//! One event, and a list of them.
 ghost use Rattle.std.specs.Prelude.{◌≡◌, ◌<◌, ◌^◌, None, Some, length, MatchResult};
 ghost use Rattle.checkout_core.specs.Steps.{step_of, replay, StopsAt};
 

@@ -1,3 +1,4 @@
+//! The line of a refusal.
 ghost use Rattle.std.specs.Prelude.{◌≡◌, IfOk, string_bytes};
 ghost use Rattle.checkout_engine.specs.RefusalText.{index_words, config_words};
 ghost use Rattle.checkout_engine.specs.RefusalText.{attribute_words, refusal_words, refusal_line};

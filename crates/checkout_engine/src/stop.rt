@@ -1,3 +1,4 @@
+//! Why a run stops before it touches a file.
 ghost use Rattle.std.specs.Prelude.{◌≡◌};
 ghost use Rattle.checkout_engine.specs.declared.stop.Stop.TheVariants.{NoMemory};
 

@@ -1,3 +1,4 @@
+//! Places and counts as numbers of 32 bits.
 ghost use Rattle.std.specs.Prelude.{◌≡◌, IfOk};
 
 use std::alloc::AllocError;

@@ -1,3 +1,4 @@
+//! The order in which places were listed.
 // The order of listing.
 ghost use Rattle.std.specs.Prelude.{◌≡◌, ◌<◌, ◌≤◌, Some, false, length, slice_get, take, vec_capacity};
 ghost use Rattle.delay_table.specs.Table.{AreApart, contains, without};

@@ -1,3 +1,4 @@
+//! A name's place among the sorted names.
 // A name is found by halving, and a place by passing over others.
 ghost use Rattle.std.specs.Prelude.{◌≡◌, ◌≢◌, ◌≤◌, ◌<◌, ℕ, true, false, length, slice_get};
 ghost use Rattle.std.specs.Prelude.{Some, MatchBool, MatchOption};

@@ -1,3 +1,4 @@
+//! How far the reading of an answer has come.
 use crate::reply::BreakCause;
 
 /// The most bytes of packets in one answer. The two answers of a handshake count as one.

@@ -1,3 +1,4 @@
+//! The answers of a handshake, packet by packet.
 ghost use Rattle.std.specs.Prelude.{◌≡◌, ◌+◌, ◌∷◌, List, map};
 ghost use Rattle.pkt_line.specs.Packets.{Packet, Payload, Flush, size};
 ghost use Rattle.filter_words.specs.Outcomes.{outcome, limit, packet_of};

@@ -1,3 +1,4 @@
+//! What the reading packet by packet has to do with the grammar of answers.
 ghost use Rattle.std.specs.Prelude.{◌≡◌, ◌≤◌, ◌++◌, [], List, ℕ, Bool, true};
 ghost use Rattle.pkt_line.specs.Packets.{Packet, SpellAll, HasNoPacket, total};
 ghost use Rattle.filter_words.specs.Outcomes.{outcome, limit, IsEnd};

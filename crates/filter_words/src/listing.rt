@@ -1,3 +1,4 @@
+//! The answer to a list request, packet by packet.
 ghost use Rattle.std.specs.Prelude.{◌≡◌, ◌+◌, ◌<◌, ◌^◌, vec_len, length, ◌&&◌, not, ◌∷◌, ◌++◌, [], List, ℕ, map};
 ghost use Rattle.std.specs.Prelude.{codes, IfOk};
 ghost use Rattle.pkt_line.specs.Packets.{Packet, Payload, Flush, size};

@@ -1,3 +1,4 @@
+//! What an answer comes to.
 /// Why an answer of a driver, or its handshake, is broken.
 ///
 /// The last two come from a list alone.

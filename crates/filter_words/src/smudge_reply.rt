@@ -1,3 +1,4 @@
+//! The reply to a smudge request, packet by packet.
 ghost use Rattle.std.specs.Prelude.{◌≡◌, ◌+◌, ◌∷◌, List, ℕ, Bool, map};
 ghost use Rattle.pkt_line.specs.Packets.{Packet, Payload, Flush, size};
 ghost use Rattle.filter_words.specs.Outcomes.{outcome, limit, packet_of};

@@ -1,3 +1,4 @@
+//! The key, the value and the status of a line.
 ghost use Rattle.std.specs.Prelude.{◌≡◌, ◌<◌, ◌==◌, length, position, IfSome};
 ghost use Rattle.std.specs.Option.{option_map};
 ghost use Rattle.filter_words.specs.Words.{without_lf, key_and_value, value_of, status_value, status_after};

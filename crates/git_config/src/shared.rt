@@ -1,3 +1,4 @@
+//! Bytes that many settings own together.
 ghost use Rattle.std.specs.Prelude.{◌≡◌, IfOk};
 
 use byte_path::Bytes;

@@ -1,3 +1,4 @@
+//! The bytes of an index.
 ghost use Rattle.std.specs.Prelude.{◌≡◌, ◌++◌, ◌<◌, ◌≤◌, length, IfOk, OnOk};
 ghost use Rattle.git_index.specs.Spelling.{IsIndex, AreEntries, mode_number, padding, flags, spelled, plain, plain_body, plain_text, header};
 

@@ -1,3 +1,4 @@
+//! A blob's object as bytes, its name and its path.
 ghost use Rattle.std.specs.Prelude.{◌≡◌, IfOk, string_bytes};
 ghost use Rattle.sha1.specs.Sha1.{sha1};
 ghost use Rattle.object_dir.specs.Spelling.{spelled_blob, path_of};

@@ -1,3 +1,4 @@
+//! The four digits in front of a packet.
 ghost use Rattle.std.specs.Prelude.{◌≡◌, ◌≤◌, ◌<◌, ◌^◌, length, IfSome};
 ghost use Rattle.pkt_line.specs.Packets.{number_at};
 ghost use Rattle.pkt_line.specs.Spelling.{four_digits};

@@ -1,3 +1,4 @@
+//! The words of the plan's columns.
 ghost use Rattle.std.specs.Prelude.{◌≡◌, IfOk};
 ghost use Rattle.plan_report.specs.Lines.{state_word, ends_word, ident_word};
 ghost use Rattle.plan_report.specs.Lines.{encoding_word, need_word, driver_name, driver_word};

@@ -1,3 +1,4 @@
+//! The plan's text, path by path.
 ghost use Rattle.std.specs.Prelude.{◌≡◌, ◌++◌, IfOk, OnOk, string_bytes};
 ghost use Rattle.plan_report.specs.Lines.{conversion_words, front_of, line_of, last_line, plan_lines};
 

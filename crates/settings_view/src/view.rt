@@ -1,3 +1,4 @@
+//! What a configuration says of a checkout.
 use byte_path::{Bytes, Items};
 use eol_convert::{AutoCrlf, EolSetting};
 

@@ -1,3 +1,4 @@
+//! The rule that each use of the lock's table keeps.
 // The rule of the table, and what each step tells.
 use crate::kept::Kept;
 use crate::view::Knows;

@@ -1,3 +1,4 @@
+//! What a contract sees of a seat.
 // What a seat knows. No value of these types is made.
 use std::collections::LinkedList;
 
