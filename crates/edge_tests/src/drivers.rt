@@ -3,8 +3,8 @@ ghost use Rattle.std.specs.Prelude.{◌≡◌, ◌≤◌, ◌<◌, ◌+◌, leng
 
 use byte_path::{Bytes, Items};
 use edge_kit::{
-    DriverScript, DriverSeen, Failed, Gate, Link, MemorySpawner, NoGate, StartOutcome, Point, SendFault,
-    SessionScript, Spawner, Starter,
+    DriverScript, DriverSeen, Failed, Gate, Link, MemorySpawner, NoGate, Point, SendFault,
+    SessionScript, Spawner, StartOutcome, Starter,
 };
 use std::alloc::{AllocError, Global};
 use std::test::Fail;
