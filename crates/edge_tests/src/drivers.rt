@@ -3,8 +3,8 @@ ghost use Rattle.std.specs.Prelude.{◌≡◌, ◌≤◌, ◌<◌, ◌+◌, leng
 
 use byte_path::{Bytes, Items};
 use edge_kit::{
-    DriverScript, DriverSeen, Failed, Gate, Link, MemorySpawner, NoGate, StartOutcome, Point, SendFault,
-    SessionScript, Spawner, Starter,
+    DriverScript, DriverSeen, Failed, Gate, Link, MemorySpawner, NoGate, Point, SendFault,
+    SessionScript, Spawner, StartOutcome, Starter,
 };
 use std::alloc::{AllocError, Global};
 use std::test::Fail;
@@ -68,8 +68,8 @@ fn driver_of(
     })
 }
 
-/// What a driver's list has: its command, and in order a `!` for a failed start and for a session what was sent and taken,
-/// its counts of faults and of ends, and a dot where it was shut.
+/// A driver's command, and in order a `!` for each failed start, and for each session what was sent
+/// and taken, its counts of faults and of ends, and a dot where it was shut.
 fn spell(alloc: Global, driver: &DriverSeen) -> Result<Vec<u8>, AllocError> {
     let mut text = Vec::from_slice(alloc, driver.command.as_slice())?;
     for start in driver.starts.as_slice() {
