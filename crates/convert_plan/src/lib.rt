@@ -9,6 +9,3 @@ mod preparing;
 pub use card::Card;
 pub use conversion::{Conversion, conversion_of};
 pub use preparing::prepare;
-
-#[cfg(test)]
-mod tests;

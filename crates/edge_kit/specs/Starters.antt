@@ -99,7 +99,9 @@ pub record IsStartFailed (old new : StarterSeen) : Type 0 where
   pub rose : Rose old.faults new.faults
 
 -- A start gave a link, or it failed, or memory was wanting, which uses up no told start.
-abbrev pub StartsOne : {L : Type 0} → (L → LinkSeen) → StarterSeen → StarterSeen → Result L SendFault → Type 0
+abbrev pub StartsOne : {L : Type 0} → (L → LinkSeen) → StarterSeen → StarterSeen
+    → Result L SendFault → Type 0
 StartsOne seen old new (Ok link) = IsStarted (seen link) old new
 StartsOne seen old new (Err send.Failed) = IsStartFailed old new
-StartsOne seen old new (Err send.NoMemory) = new ≡ record old { had = old.had ++ StartOutOfMemory ∷ [] }
+StartsOne seen old new (Err send.NoMemory) =
+    new ≡ record old { had = old.had ++ StartOutOfMemory ∷ [] }

@@ -13,6 +13,3 @@ pub use fault::ObjectFault;
 pub use laws::{content_has_one_spelling, spelling_gives_its_content};
 pub use reading::read_blob;
 pub use spelling::{blob_name, object_path, spell_blob};
-
-#[cfg(test)]
-mod tests;

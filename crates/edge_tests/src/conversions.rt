@@ -1,6 +1,7 @@
-use crate::{Conversion, conversion_of, prepare};
+//! The conversion of a path, and its content.
 use attr_line::AttrState;
 use byte_path::Bytes;
+use convert_plan::{Conversion, conversion_of, prepare};
 use eol_convert::{AutoCrlf, EolSetting, LineEnds};
 use std::alloc::Global;
 use std::process::Abort;

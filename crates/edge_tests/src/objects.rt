@@ -1,5 +1,6 @@
-use super::*;
+//! Stored objects.
 use edge_kit::{MemoryRepo, Repo, RepoFail};
+use object_dir::{ObjectFault, blob_name, object_path, read_blob, spell_blob};
 use std::alloc::{AllocError, Global};
 use std::test::Fail;
 
