@@ -1,0 +1,107 @@
+//! Holds sessions with a filter driver in memory.
+//!
+//! Without words it tells what three replies and a thousand small exchanges gave, the same at each run. With the words
+//! BYTES COUNT it holds one session of so many exchanges, each with a reply of so many bytes, and tells its time and that
+//! of a copy of the same bytes.
+#![tactic(auto)]
+
+mod driver;
+mod page;
+
+use crate::driver::{Driver, hello_of, reply_of};
+use crate::page::Page;
+use anyhow::Result;
+use filter_proto::{Begun, Session};
+use filter_words::Reply;
+use std::alloc::{AllocError, Global};
+use std::env;
+use std::io::Print;
+use std::rt::{Clock, Env};
+use std::time::Instant;
+
+/// The numbers among the words.
+fn numbers<R: Env + AllocGlobal>(rt: &R) -> Result<Vec<u32>> {
+    let mut all = Vec::new(rt.alloc());
+    for word in env::args(rt)? {
+        if let Ok(number) = word.parse::<u32>() {
+            all.push(number)?;
+        }
+    }
+    Ok(all)
+}
+
+/// How many of so many exchanges gave a content, and how many bytes these had in all.
+fn converse(
+    alloc: Global,
+    driver: Driver,
+    content: &[u8],
+    count: u32,
+) -> Result<(u32, u64), AllocError> {
+    let Begun::Live(mut session) = Session::begin(alloc, driver) else {
+        return Err(AllocError);
+    };
+    let (mut good, mut bytes) = (0, 0);
+    for _ in 0..count {
+        let mut page = Page::with_room(alloc, content.len())?;
+        if exchange(&mut session, content, &mut page) && good < u32::MAX {
+            good += 1;
+        }
+        bytes = u64::saturating_add(bytes, page.content.len() as u64);
+    }
+    let _ = session.shut();
+    Ok((good, bytes))
+}
+
+/// Asks for a path, where that may be done, and tells whether a content came.
+fn exchange(session: &mut Session<Driver>, content: &[u8], page: &mut Page) -> bool {
+    if !session.live() {
+        return false;
+    }
+    if !session.caps().smudge {
+        return false;
+    }
+    if !page.is_fresh() {
+        return false;
+    }
+    matches!(session.ask(b"path", content, page).reply, Reply::Content)
+}
+
+/// Copies so many contents, one after another, and tells how many bytes they had.
+fn copy(alloc: Global, content: &[u8], count: u32) -> Result<u64, AllocError> {
+    let mut bytes = 0;
+    for _ in 0..count {
+        let copy = Vec::from_slice(alloc, content)?;
+        bytes = u64::saturating_add(bytes, copy.len() as u64);
+    }
+    Ok(bytes)
+}
+
+/// What so many exchanges gave, as a line, and their times where they are asked for.
+fn tell<R: Clock + Print + AllocGlobal>(rt: &R, size: u32, count: u32, timed: bool) -> Result<()> {
+    let alloc = rt.alloc();
+    let mut content = Vec::new(alloc);
+    content.resize(size as usize, b'c')?;
+    let driver = Driver::new(hello_of(alloc)?, reply_of(alloc, content.as_slice())?);
+    let begun = Instant::now(rt)?;
+    let (good, bytes) = converse(alloc, driver, content.as_slice(), count)?;
+    let talk = begun.elapsed(rt)?.as_micros();
+    let begun = Instant::now(rt)?;
+    let copied = copy(alloc, content.as_slice(), count)?;
+    let copy = begun.elapsed(rt)?.as_micros();
+    println!(rt; "{count} exchanges of {size} bytes: {good} contents, {bytes} bytes of {copied}")?;
+    if timed {
+        println!(rt; "{talk} microseconds, a copy {copy}")?;
+    }
+    Ok(())
+}
+
+fn main(rt: HostRuntime) -> Result<()> {
+    let words = numbers(&rt)?;
+    if let [size, count] = words.as_slice() {
+        return tell(&rt, *size, *count, true);
+    }
+    for (size, count) in [(0, 1), (65_516, 1), (1_000_000, 1), (1000, 1000)] {
+        tell(&rt, size, count, false)?;
+    }
+    Ok(())
+}
