@@ -1,5 +1,6 @@
 -- What a line of an attribute file says: nothing, a row, or why it is skipped.
-use Rattle.std.specs.Prelude.{ℕ, Bool, true, false, ◌&&◌, ◌||◌, ◌==◌, nat_eq, nat_lt, nat_le, not, List, length, take, drop, codes, Option, Some, None, Result, Ok, Err, if◌then◌else◌}
+use Rattle.std.specs.Prelude.{ℕ, Bool, true, false, ◌&&◌, ◌||◌, ◌==◌, nat_eq, nat_lt, nat_le, not, List}
+use Rattle.std.specs.Prelude.{length, take, drop, codes, Option, Some, None, Result, Ok, Err, if◌then◌else◌}
 use Rattle.std.specs.List.{starts_with, position_or_len}
 use Rattle.byte_path.specs.declared.unquoting.QuoteFault.{QuoteFault}
 use Rattle.byte_path.specs.Front.{begins}

@@ -1,6 +1,7 @@
 //! One line.
 ghost use Rattle.std.specs.Prelude.{◌≡◌, IfOk};
-ghost use Rattle.attr_line.specs.Line.{plain_head, head_at, is_macro, macro_outcome, rule_outcome, text_outcome, line_outcome};
+ghost use Rattle.attr_line.specs.Line.{plain_head, head_at, is_macro, macro_outcome, rule_outcome};
+ghost use Rattle.attr_line.specs.Line.{text_outcome, line_outcome};
 ghost use Rattle.attr_line.specs.Seen.{head_of};
 
 use crate::file::AttrRow;

@@ -1,5 +1,6 @@
 -- The pairs of a path as one list, highest precedence first: gitattributes(5).
-use Rattle.std.specs.Prelude.{ℕ, zero, suc, ◌+◌, Bool, not, ◌&&◌, ◌==◌, List, [], ◌++◌, length, take, drop, reverse, slice_index, Option, Some, None, if◌then◌else◌}
+use Rattle.std.specs.Prelude.{ℕ, zero, suc, ◌+◌, Bool, not, ◌&&◌, ◌==◌, List, [], ◌++◌, length, take, drop}
+use Rattle.std.specs.Prelude.{reverse, slice_index, Option, Some, None, if◌then◌else◌}
 use Rattle.std.specs.List.{flat_map, find}
 use Rattle.std.specs.Option.{option_map}
 use Rattle.std.specs.Str.{bytes_eq}

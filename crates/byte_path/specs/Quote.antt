@@ -1,7 +1,10 @@
 -- How a path is shown on a line.
-use Rattle.std.specs.Prelude.{ℕ, ◌+◌, ◌/◌, ◌%◌, Bool, ◌||◌, ◌==◌, nat_lt, List, [], ◌∷◌, ◌++◌, Option, Some, None, if◌then◌else◌}
+use Rattle.std.specs.Prelude.{ℕ, ◌+◌, ◌/◌, ◌%◌, Bool, ◌||◌, ◌==◌, nat_lt, List, [], ◌∷◌, ◌++◌, Option, Some}
+use Rattle.std.specs.Prelude.{None, if◌then◌else◌}
 use Rattle.std.specs.List.{flat_map, list_any}
-use Rattle.byte_path.specs.Characters.{bell, backspace, tab, line_feed, vertical_tab, form_feed, carriage_return, space, quote, digit_0, backslash, letter_a, letter_b, letter_f, letter_n, letter_r, letter_t, letter_v, tilde}
+use Rattle.byte_path.specs.Characters.{bell, backspace, tab, line_feed, vertical_tab, form_feed}
+use Rattle.byte_path.specs.Characters.{carriage_return, space, quote, digit_0, backslash, letter_a, letter_b}
+use Rattle.byte_path.specs.Characters.{letter_f, letter_n, letter_r, letter_t, letter_v, tilde}
 
 -- a byte below 20 or above 7E in hex, a `"` or a `\`
 abbrev pub needs_escape : ℕ → Bool

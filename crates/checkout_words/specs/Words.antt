@@ -1,6 +1,7 @@
 -- The words behind the program's name, and the command that they give.
 use Rattle.std.specs.Prelude.{Bool, false, ◌||◌}
-use Rattle.std.specs.Prelude.{ℕ, ◌-◌, ◌^◌, nat_le, List, [], ◌∷◌, take, drop, codes, Option, Some, None, Result, Ok, Err, ◌≡◌, if◌then◌else◌}
+use Rattle.std.specs.Prelude.{ℕ, ◌-◌, ◌^◌, nat_le, List, [], ◌∷◌, take, drop, codes, Option, Some, None}
+use Rattle.std.specs.Prelude.{Result, Ok, Err, ◌≡◌, if◌then◌else◌}
 use Rattle.std.specs.Str.{bytes_eq}
 use Rattle.byte_path.specs.Decimal.{decimal_within}
 use Rattle.checkout_words.specs.declared.Command.{Command}

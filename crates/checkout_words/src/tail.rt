@@ -3,7 +3,8 @@ ghost use Rattle.std.specs.Prelude.{◌≡◌, true, map, codes, string_bytes, I
 ghost use Rattle.std.specs.List.{list_any};
 ghost use Rattle.std.specs.Str.{bytes_eq};
 ghost use Rattle.clap.specs.Words.{app_of, first_value, found_of, is_simple_and_free};
-ghost use Rattle.checkout_words.specs.Tail.{is_plain_tail, plan_app, checkout_app, checkout_by, rehearse_app, rehearse_by, fault_of_kind, rows_in, Finds};
+ghost use Rattle.checkout_words.specs.Tail.{is_plain_tail, plan_app, checkout_app, checkout_by, rehearse_app};
+ghost use Rattle.checkout_words.specs.Tail.{rehearse_by, fault_of_kind, rows_in, Finds};
 ghost use Rattle.checkout_words.specs.Words.{workers_command, checkout_command, plan_command, rehearse_command, Reads};
 
 use crate::{Command, WordFault};

@@ -4,7 +4,8 @@ use Rattle.std.specs.Str.{bytes_eq}
 use Rattle.attr_line.specs.declared.state.AttrState.{AttrState}
 use Rattle.attr_line.specs.declared.state.AttrState.TheVariants.{Set, Unset, Unspecified, Value}
 use Rattle.eol_convert.specs.declared.action.Action.{Action}
-use Rattle.eol_convert.specs.declared.action.Action.TheVariants.{Binary, TextLf, TextCrlf, AutoLf, AutoCrlf as AutoWithCrlf}
+use Rattle.eol_convert.specs.declared.action.Action.TheVariants.{Binary, TextLf, TextCrlf, AutoLf}
+use Rattle.eol_convert.specs.declared.action.Action.TheVariants.{AutoCrlf as AutoWithCrlf}
 use Rattle.eol_convert.specs.declared.action.Asked.{Asked}
 use Rattle.eol_convert.specs.declared.action.Asked.TheVariants.{Undefined, Text, Auto, Is}
 use Rattle.eol_convert.specs.declared.action.Ending.{Ending}

@@ -1,9 +1,11 @@
 -- A content with the line ends of the worktree (gitattributes(5), "text" and "eol").
-use Rattle.std.specs.Prelude.{ℕ, ◌-◌, ◌/◌, Bool, false, ◌&&◌, ◌||◌, ◌==◌, nat_le, not, nat_eq, List, [], ◌∷◌, ◌++◌, count_by, if◌then◌else◌}
+use Rattle.std.specs.Prelude.{ℕ, ◌-◌, ◌/◌, Bool, false, ◌&&◌, ◌||◌, ◌==◌, nat_le, not, nat_eq, List, [], ◌∷◌}
+use Rattle.std.specs.Prelude.{◌++◌, count_by, if◌then◌else◌}
 use Rattle.std.specs.List.{list_any, ends_with}
 use Rattle.eol_convert.specs.declared.setting.LineEnds.{LineEnds}
 use Rattle.eol_convert.specs.declared.setting.LineEnds.TheVariants.{Keep, ToCrlf, AutoCrlf}
-use Rattle.byte_path.specs.Characters.{nul, backspace, tab, line_feed, form_feed, carriage_return, substitute, escape, space, delete}
+use Rattle.byte_path.specs.Characters.{nul, backspace, tab, line_feed, form_feed, carriage_return, substitute}
+use Rattle.byte_path.specs.Characters.{escape, space, delete}
 
 -- what stands for a byte, behind a CR or not: CR LF for an LF that no CR stands before, and any other byte itself
 abbrev pub crlf_for : Bool → ℕ → List ℕ

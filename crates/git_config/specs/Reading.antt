@@ -1,5 +1,6 @@
 -- The settings of a file, up to the first faulty line.
-use Rattle.std.specs.Prelude.{ℕ, zero, suc, ◌+◌, Bool, ◌||◌, ◌==◌, nat_le, List, [], ◌∷◌, ◌++◌, length, take, drop, Option, Some, None, Result, Ok, Err, if◌then◌else◌}
+use Rattle.std.specs.Prelude.{ℕ, zero, suc, ◌+◌, Bool, ◌||◌, ◌==◌, nat_le, List, [], ◌∷◌, ◌++◌, length, take}
+use Rattle.std.specs.Prelude.{drop, Option, Some, None, Result, Ok, Err, if◌then◌else◌}
 use Rattle.std.specs.List.{position_or_len}
 use Rattle.std.specs.Char.{is_ascii_alphabetic}
 use Rattle.byte_path.specs.Front.{begins, unmarked}
@@ -8,7 +9,8 @@ use Rattle.git_config.specs.declared.fault.ConfigFault.TheVariants.{TooLarge, Li
 use Rattle.git_config.specs.declared.fault.LineKind.TheVariants.{Key as BadKey, NoSection}
 use Rattle.git_config.specs.declared.setting.Head.{Head}
 use Rattle.git_config.specs.declared.setting.Setting.{Setting}
-use Rattle.git_config.specs.Text.{is_blank, is_line_end, is_comment_mark, ends_key, behind_blanks, line_end, without_cr, ◌>>=◌, want}
+use Rattle.git_config.specs.Text.{is_blank, is_line_end, is_comment_mark, ends_key, behind_blanks, line_end}
+use Rattle.git_config.specs.Text.{without_cr, ◌>>=◌, want}
 use Rattle.git_config.specs.Header.{lowered, header_at}
 use Rattle.git_config.specs.Value.{value_at}
 use Rattle.byte_path.specs.Characters.{line_feed, equals, open_bracket}

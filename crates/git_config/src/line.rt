@@ -1,7 +1,8 @@
 //! The lines of a file.
 ghost use Rattle.std.specs.Prelude.{◌≡◌, ◌+◌, ◌<◌, ◌≤◌, length, map, IfOk, option_map, [], None};
 ghost use Rattle.git_config.specs.Text.{Gives};
-ghost use Rattle.git_config.specs.Reading.{keyed_at, under_head, setting_at, after_header, after_setting, step_at, text_at, setting_of};
+ghost use Rattle.git_config.specs.Reading.{keyed_at, under_head, setting_at, after_header, after_setting};
+ghost use Rattle.git_config.specs.Reading.{step_at, text_at, setting_of};
 ghost use Rattle.git_config.specs.Seen.{place_of};
 ghost use Rattle.git_config.specs.declared.setting.Setting.{Setting};
 

@@ -4,7 +4,8 @@ ghost use Rattle.std.specs.List.{position_or_len};
 ghost use Rattle.memchr.specs.Find.{IsFirstByte, is_byte};
 ghost use Rattle.byte_path.specs.Front.{begins};
 ghost use Rattle.git_config.specs.Header.{lowered};
-ghost use Rattle.git_config.specs.Text.{is_blank, is_line_end, is_comment_mark, is_key_byte, behind_blanks, line_end, without_cr};
+ghost use Rattle.git_config.specs.Text.{is_blank, is_line_end, is_comment_mark, is_key_byte, behind_blanks};
+ghost use Rattle.git_config.specs.Text.{line_end, without_cr};
 
 use byte_path::{ByteKind, Bytes, from_first};
 use memchr::memchr;

@@ -1,6 +1,7 @@
 //! The bytes of an index.
 ghost use Rattle.std.specs.Prelude.{◌≡◌, ◌++◌, ◌<◌, ◌≤◌, length, IfOk, OnOk};
-ghost use Rattle.git_index.specs.Spelling.{IsIndex, AreEntries, mode_number, padding, flags, spelled, plain, plain_body, plain_text, header};
+ghost use Rattle.git_index.specs.Spelling.{IsIndex, AreEntries, mode_number, padding, flags, spelled, plain};
+ghost use Rattle.git_index.specs.Spelling.{plain_body, plain_text, header};
 
 use crate::entry::{Entry, Mode};
 use sha1::Sha1;

@@ -1,5 +1,6 @@
 -- The keys, and the last value of each.
-use Rattle.std.specs.Prelude.{ℕ, Bool, true, ◌&&◌, List, fold, codes, Option, Some, None, option_map, ok_or, Result, Ok, if◌then◌else◌}
+use Rattle.std.specs.Prelude.{ℕ, Bool, true, ◌&&◌, List, fold, codes, Option, Some, None, option_map, ok_or}
+use Rattle.std.specs.Prelude.{Result, Ok, if◌then◌else◌}
 use Rattle.std.specs.Option.{is_none}
 use Rattle.std.specs.Str.{bytes_eq}
 use Rattle.eol_convert.specs.declared.setting.AutoCrlf.{AutoCrlf}

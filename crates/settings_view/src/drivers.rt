@@ -1,8 +1,10 @@
 //! The filter drivers.
 ghost use Rattle.std.specs.Prelude.{◌≡◌, ℕ, List, Some, IfOk, OnOk, map, option_copied};
 ghost use Rattle.settings_view.specs.Fault.{Gives};
-ghost use Rattle.settings_view.specs.Drivers.{driver_name, with_driver, names_of, process_told, driver_from, drivers_told, StandsByName};
-ghost use Rattle.settings_view.specs.Seen.{said_by, said_at, said_with, said_after, names_in, entries_seen, entry_of, IsInOrder};
+ghost use Rattle.settings_view.specs.Drivers.{driver_name, with_driver, names_of, process_told, driver_from};
+ghost use Rattle.settings_view.specs.Drivers.{drivers_told, StandsByName};
+ghost use Rattle.settings_view.specs.Seen.{said_by, said_at, said_with, said_after, names_in, entries_seen};
+ghost use Rattle.settings_view.specs.Seen.{entry_of, IsInOrder};
 
 use crate::fault::{KeyId, SettingFault};
 use crate::value::bool_of;

@@ -1,7 +1,8 @@
 //! The keys, and the last value of each.
 ghost use Rattle.std.specs.Prelude.{◌≡◌, option_copied};
 ghost use Rattle.std.specs.Prelude.{codes};
-ghost use Rattle.settings_view.specs.Keys.{is_key, last_value, crlf_told, eol_told, workers_at, workers_told, threshold_at, threshold_told, has_sha1};
+ghost use Rattle.settings_view.specs.Keys.{is_key, last_value, crlf_told, eol_told, workers_at, workers_told};
+ghost use Rattle.settings_view.specs.Keys.{threshold_at, threshold_told, has_sha1};
 
 use crate::fault::{KeyId, SettingFault};
 use crate::number::{number_of, threshold_of, workers_of};

@@ -4,7 +4,8 @@ ghost use Rattle.std.specs.Char.{digit_value, is_ascii_digit};
 ghost use Rattle.std.specs.Int.{IsInRange};
 ghost use Rattle.std.specs.List.{list_all, prefix_len};
 ghost use Rattle.std.specs.Str.Parse.{digits_value};
-ghost use Rattle.settings_view.specs.Number.{unit_at, factor_of, is_short, size_from, size_of, signed, number_text, number_of, workers_of, threshold_of};
+ghost use Rattle.settings_view.specs.Number.{unit_at, factor_of, is_short, size_from, size_of, signed};
+ghost use Rattle.settings_view.specs.Number.{number_text, number_of, workers_of, threshold_of};
 
 use byte_path::Bytes;
 

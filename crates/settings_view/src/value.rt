@@ -1,6 +1,7 @@
 //! Truth values and choices.
 ghost use Rattle.std.specs.Prelude.{◌≡◌, option_copied};
-ghost use Rattle.settings_view.specs.Value.{is_word, is_true_word, is_false_word, bool_text, bool_of, crlf_of_bool, crlf_text, crlf_of, eol_text, eol_of, is_sha1};
+ghost use Rattle.settings_view.specs.Value.{is_word, is_true_word, is_false_word, bool_text, bool_of};
+ghost use Rattle.settings_view.specs.Value.{crlf_of_bool, crlf_text, crlf_of, eol_text, eol_of, is_sha1};
 
 use byte_path::Bytes;
 use eol_convert::{AutoCrlf, EolSetting};

@@ -1,9 +1,11 @@
 -- A content in an encoding other than UTF-8.
-use Rattle.std.specs.Prelude.{ℕ, ◌+◌, ◌-◌, ◌/◌, ◌%◌, Bool, true, false, ◌&&◌, nat_lt, length, List, [], ◌∷◌, ◌++◌, if◌then◌else◌}
+use Rattle.std.specs.Prelude.{ℕ, ◌+◌, ◌-◌, ◌/◌, ◌%◌, Bool, true, false, ◌&&◌, nat_lt, length, List, [], ◌∷◌}
+use Rattle.std.specs.Prelude.{◌++◌, if◌then◌else◌}
 use Rattle.std.specs.List.{flat_map}
 use Rattle.std.specs.Str.{chars, is_utf8}
 use Rattle.tree_encoding.specs.declared.encoding.Encoding.{Encoding}
-use Rattle.tree_encoding.specs.declared.encoding.Encoding.TheVariants.{Utf16, Utf16Le, Utf16Be, Utf16LeBom, Utf32, Utf32Le, Utf32Be}
+use Rattle.tree_encoding.specs.declared.encoding.Encoding.TheVariants.{Utf16, Utf16Le, Utf16Be, Utf16LeBom}
+use Rattle.tree_encoding.specs.declared.encoding.Encoding.TheVariants.{Utf32, Utf32Le, Utf32Be}
 use Rattle.tree_encoding.specs.declared.prepared.Prepared.{Prepared}
 
 -- the units of a character in UTF-16 (RFC 2781, 2.1): itself up to FFFF, and else a high and a low surrogate

@@ -1,10 +1,12 @@
 -- The encoding that an attribute names (gitattributes(5), "working-tree-encoding").
-use Rattle.std.specs.Prelude.{ℕ, Bool, ◌==◌, ◌||◌, List, [], ◌∷◌, length, codes, Option, Some, None, Result, Ok, Err, if◌then◌else◌}
+use Rattle.std.specs.Prelude.{ℕ, Bool, ◌==◌, ◌||◌, List, [], ◌∷◌, length, codes, Option, Some, None, Result}
+use Rattle.std.specs.Prelude.{Ok, Err, if◌then◌else◌}
 use Rattle.std.specs.Str.{str_eq_ignore_ascii_case}
 use Rattle.attr_line.specs.declared.state.AttrState.{AttrState}
 use Rattle.attr_line.specs.declared.state.AttrState.TheVariants.{Set, Unset, Unspecified, Value}
 use Rattle.tree_encoding.specs.declared.encoding.Encoding.{Encoding}
-use Rattle.tree_encoding.specs.declared.encoding.Encoding.TheVariants.{Utf16, Utf16Le, Utf16Be, Utf16LeBom, Utf32, Utf32Le, Utf32Be}
+use Rattle.tree_encoding.specs.declared.encoding.Encoding.TheVariants.{Utf16, Utf16Le, Utf16Be, Utf16LeBom}
+use Rattle.tree_encoding.specs.declared.encoding.Encoding.TheVariants.{Utf32, Utf32Le, Utf32Be}
 use Rattle.tree_encoding.specs.declared.encoding.UnknownEncoding.{UnknownEncoding}
 use Rattle.byte_path.specs.Characters.{hyphen}
 

@@ -1,9 +1,12 @@
 -- The ASCII classes of a set.
-use Rattle.std.specs.Prelude.{ℕ, Bool, ◌&&◌, ◌||◌, not, ◌==◌, nat_lt, nat_le, List, codes, Option, Some, None, if◌then◌else◌}
+use Rattle.std.specs.Prelude.{ℕ, Bool, ◌&&◌, ◌||◌, not, ◌==◌, nat_lt, nat_le, List, codes, Option, Some, None}
+use Rattle.std.specs.Prelude.{if◌then◌else◌}
 use Rattle.std.specs.Str.{bytes_eq}
 use Rattle.wild_match.specs.declared.classes.Class.{Class}
-use Rattle.wild_match.specs.declared.classes.Class.TheVariants.{Alnum, Alpha, Blank, Cntrl, Digit, Graph, Lower, Print, Punct, Space, Upper, Xdigit}
-use Rattle.byte_path.specs.Characters.{tab, carriage_return, space, bang, digit_0, digit_9, capital_a, capital_f, capital_z, letter_a, letter_f, letter_z, tilde, delete}
+use Rattle.wild_match.specs.declared.classes.Class.TheVariants.{Alnum, Alpha, Blank, Cntrl, Digit, Graph}
+use Rattle.wild_match.specs.declared.classes.Class.TheVariants.{Lower, Print, Punct, Space, Upper, Xdigit}
+use Rattle.byte_path.specs.Characters.{tab, carriage_return, space, bang, digit_0, digit_9, capital_a}
+use Rattle.byte_path.specs.Characters.{capital_f, capital_z, letter_a, letter_f, letter_z, tilde, delete}
 
 -- the class of this name
 unfoldable pub class_named : List ℕ → Option Class

@@ -1,12 +1,14 @@
 -- What the steps of the scan say of a pattern and a path.
-use Rattle.std.specs.Prelude.{◌≡◌, ℕ, ◌+◌, ◌<◌, ◌≤◌, Bool, true, false, List, [], ◌∷◌, length, drop, position, slice_index, Option, Some, None, if◌then◌else◌}
+use Rattle.std.specs.Prelude.{◌≡◌, ℕ, ◌+◌, ◌<◌, ◌≤◌, Bool, true, false, List, [], ◌∷◌, length, drop, position}
+use Rattle.std.specs.Prelude.{slice_index, Option, Some, None, if◌then◌else◌}
 use Rattle.std.specs.List.{position_or_len}
 use Rattle.wild_match.specs.Members.{is_close}
 use Rattle.wild_match.specs.declared.part.Step.{Step}
 use Rattle.wild_match.specs.declared.part.Step.TheVariants.{Star, Byte, Behind, Matched, Stuck}
 use Rattle.wild_match.specs.declared.part.Place.{Place}
 use Rattle.wild_match.specs.declared.part.Part.{Part}
-use Rattle.wild_match.specs.declared.part.Part.TheVariants.{Folders as OpenFolders, Behind as PartBehind, Matched as PartMatched, Stuck as PartStuck}
+use Rattle.wild_match.specs.declared.part.Part.TheVariants.{Folders as OpenFolders, Behind as PartBehind}
+use Rattle.wild_match.specs.declared.part.Part.TheVariants.{Matched as PartMatched, Stuck as PartStuck}
 use Rattle.wild_match.specs.Pieces.{Piece, Slash, One, Run, Folders, Rest, Never, pieces}
 use Rattle.wild_match.specs.Fits.{is_slash, fits}
 

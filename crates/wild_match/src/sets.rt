@@ -2,7 +2,8 @@
 ghost use Rattle.std.specs.Prelude.{◌≡◌, ℕ, ◌+◌, ◌<◌, ◌≤◌, true, length, drop, position, IfSome};
 ghost use Rattle.std.specs.List.{position_or_len};
 ghost use Rattle.wild_match.specs.Steps.{IsClose};
-ghost use Rattle.wild_match.specs.Members.{class_length, closes, end_at, has, is_close, opens_class, member_at, range_at, seen, set_members};
+ghost use Rattle.wild_match.specs.Members.{class_length, closes, end_at, has, is_close, opens_class};
+ghost use Rattle.wild_match.specs.Members.{member_at, range_at, seen, set_members};
 
 use crate::classes::{Class, class_named, is_in_class};
 
