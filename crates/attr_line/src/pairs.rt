@@ -64,7 +64,8 @@ fn value_or_set(alloc: Global, word: &[u8]) -> Result<AttrState, AllocError>
 
 /// The pair of a name that has to be good.
 fn named(alloc: Global, name: &[u8], state: AttrState) -> Result<Option<Pair>, AllocError>
-    ensures { IfOk result (λ o. o ≡ (if is_name name.now then Some (record { name = name.now; state = state }) else None)) }
+    ensures { IfOk result (λ o. o
+        ≡ (if is_name name.now then Some (record { name = name.now; state = state }) else None)) }
 {
     if !is_name(name) {
         return Ok(None);
@@ -87,7 +88,8 @@ fn pair_of(alloc: Global, word: &[u8]) -> Result<Option<Pair>, AllocError>
 /// Appends the pair that a word says, and tells whether its name is good.
 fn push_pair(alloc: Global, pairs: &mut Vec<Pair>, word: &[u8]) -> Result<bool, AllocError>
     ensures name { IfOk result (λ good. good ≡ has_name word.now) }
-    ensures pairs { IfOk result (λ good. pairs.new.items ≡ (if good then pairs.old.items ++ pair_at word.now ∷ [] else pairs.old.items)) }
+    ensures pairs { IfOk result (λ good. pairs.new.items ≡ (if good then pairs.old.items
+        ++ pair_at word.now ∷ [] else pairs.old.items)) }
 {
     match pair_of(alloc, word)? {
         Some(pair) => {

@@ -51,7 +51,8 @@ decided macros pairs names = decided_within (most_read macros pairs) macros pair
 -- the rule in full, which no number bounds
 pub record IsDecidedByRule : Type 0 where
   pub none : (macros : List MacroLine) (names : Names) → decided macros [] names ≡ []
-  pub passed : (macros : List MacroLine) (pair : Pair) (rest : List Pair) (names : Names) → names pair.name ≡ true → decided macros (pair ∷ rest) names ≡ decided macros rest names
+  pub passed : (macros : List MacroLine) (pair : Pair) (rest : List Pair) (names : Names) → names pair.name
+      ≡ true → decided macros (pair ∷ rest) names ≡ decided macros rest names
   pub decides : (macros : List MacroLine) (pair : Pair) (rest : List Pair) (names : Names) → names pair.name ≡ false
       → decided macros (pair ∷ rest) names ≡ pair ∷ decided macros (body_of macros pair ++ rest) (with_name pair.name names)
 

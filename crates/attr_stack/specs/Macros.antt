@@ -36,7 +36,8 @@ unset name = record { name = name; state = Unset }
 
 -- the built-in macro `binary`: `-diff -merge -text`
 abbrev pub binary : MacroLine
-binary = record { name = codes "binary"; pairs = unset (codes "diff") ∷ unset (codes "merge") ∷ unset (codes "text") ∷ [] }
+binary =
+    record { name = codes "binary"; pairs = unset (codes "diff") ∷ unset (codes "merge") ∷ unset (codes "text") ∷ [] }
 
 -- the macros in the order in which rows are read: those of `info/attributes`, those of the top folder's file, and `binary`
 abbrev pub macros_of : AttrFiles → List MacroLine

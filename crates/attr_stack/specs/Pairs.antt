@@ -40,7 +40,8 @@ ends_folder path place = not (place == 0) && (slice_index path place == slash)
 
 -- what the folder gives whose name ends at a place of a path
 abbrev pub pairs_ending : List FileAt → List ℕ → ℕ → List Pair
-pairs_ending files path place = if ends_folder path place then folder_pairs files (take place path) (drop (place + 1) path) else []
+pairs_ending files path place =
+    if ends_folder path place then folder_pairs files (take place path) (drop (place + 1) path) else []
 
 -- what the folders give whose names end before a place: the deepest first, and the top folder, which has the empty name, at the end
 abbrev pub pairs_before : List FileAt → List ℕ → ℕ → List Pair

@@ -30,7 +30,8 @@ fn push_body<'a>(
     macros: &Macros<'a>,
     pair: &Pair,
 ) -> Result<(), AllocError>
-    ensures { OnOk result ((lines : List MacroLine) → AreMacros macros.now lines → from_end pending.new.items ≡ body_of lines pair.now ++ from_end pending.old.items) }
+    ensures { OnOk result ((lines : List MacroLine) → AreMacros macros.now lines
+        → from_end pending.new.items ≡ body_of lines pair.now ++ from_end pending.old.items) }
 {
     match &pair.state {
         AttrState::Set => push_pairs(pending, meaning_of(macros, pair.name.as_slice())),

@@ -35,14 +35,16 @@ pub fn binary_pairs(alloc: Global) -> Result<Vec<Pair>, AllocError>
 
 /// Adds a macro that is met before those that are there.
 fn define<'a>(macros: &mut Macros<'a>, name: &'a [u8], pairs: &'a [Pair]) -> Result<(), AllocError>
-    ensures { OnOk result ((lines : List MacroLine) → AreMacros macros.old lines → AreMacros macros.new (record { name = name.now; pairs = pairs.now } ∷ lines)) }
+    ensures { OnOk result ((lines : List MacroLine) → AreMacros macros.old lines
+        → AreMacros macros.new (record { name = name.now; pairs = pairs.now } ∷ lines)) }
 {
     macros.insert(name, pairs)?;
     Ok(())
 }
 
 fn define_row<'a>(macros: &mut Macros<'a>, row: &'a AttrRow) -> Result<(), AllocError>
-    ensures { OnOk result ((lines : List MacroLine) → AreMacros macros.old lines → AreMacros macros.new (row_macros row.now ++ lines)) }
+    ensures { OnOk result ((lines : List MacroLine) → AreMacros macros.old lines
+        → AreMacros macros.new (row_macros row.now ++ lines)) }
 {
     match row {
         AttrRow::Macro { name, pairs } => define(macros, name.as_slice(), pairs.as_slice()),
@@ -51,7 +53,8 @@ fn define_row<'a>(macros: &mut Macros<'a>, row: &'a AttrRow) -> Result<(), Alloc
 }
 
 fn define_rows<'a>(macros: &mut Macros<'a>, rows: &'a [AttrRow]) -> Result<(), AllocError>
-    ensures { OnOk result ((lines : List MacroLine) → AreMacros macros.old lines → AreMacros macros.new (file_macros rows.now ++ lines)) }
+    ensures { OnOk result ((lines : List MacroLine) → AreMacros macros.old lines
+        → AreMacros macros.new (file_macros rows.now ++ lines)) }
 {
     for row in rows {
         define_row(macros, row)?;
@@ -60,7 +63,8 @@ fn define_rows<'a>(macros: &mut Macros<'a>, rows: &'a [AttrRow]) -> Result<(), A
 }
 
 fn define_top<'a>(macros: &mut Macros<'a>, files: &'a [FileAt]) -> Result<(), AllocError>
-    ensures { OnOk result ((lines : List MacroLine) → AreMacros macros.old lines → AreMacros macros.new (top_macros files.now ++ lines)) }
+    ensures { OnOk result ((lines : List MacroLine) → AreMacros macros.old lines
+        → AreMacros macros.new (top_macros files.now ++ lines)) }
 {
     match file_of(files, b"") {
         Some(file) => define_rows(macros, file.rows.as_slice()),

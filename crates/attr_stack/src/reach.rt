@@ -56,7 +56,8 @@ fn push_folder<'a>(
     folder: &[u8],
     inner: &[u8],
 ) -> Result<(), AllocError>
-    ensures { OnOk result (from_end pending.new.items ≡ folder_pairs files.now folder.now inner.now ++ from_end pending.old.items) }
+    ensures { OnOk result (from_end pending.new.items ≡ folder_pairs files.now folder.now inner.now
+        ++ from_end pending.old.items) }
 {
     match file_of(files, folder) {
         Some(file) => push_file(pending, file, inner),
@@ -72,7 +73,8 @@ fn push_ending<'a>(
     place: usize,
 ) -> Result<(), AllocError>
     requires { place < length path.now }
-    ensures { OnOk result (from_end pending.new.items ≡ pairs_ending files.now path.now place ++ from_end pending.old.items) }
+    ensures { OnOk result (from_end pending.new.items ≡ pairs_ending files.now path.now place
+        ++ from_end pending.old.items) }
 {
     if place == 0 || path[place] != b'/' {
         return Ok(());

@@ -9,7 +9,8 @@ use Rattle.byte_path.specs.Characters.{digit_0}
 
 -- one or more digits without a leading zero; `0` alone is right
 abbrev pub is_decimal : List ℕ → Bool
-is_decimal ds = nat_lt 0 (length ds) && list_all is_ascii_digit ds && (length ds == 1 || not (slice_index ds 0 == digit_0))
+is_decimal ds =
+    nat_lt 0 (length ds) && list_all is_ascii_digit ds && (length ds == 1 || not (slice_index ds 0 == digit_0))
 
 -- the number of a decimal, where that is at most `most`
 abbrev pub decimal_within : List ℕ → ℕ → Option ℕ

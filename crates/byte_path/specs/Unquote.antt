@@ -30,11 +30,14 @@ is_digit_to most c = nat_le digit_0 c && nat_le c most
 
 -- whether a text begins with three octal digits, 000 to 377
 abbrev pub has_octal : List ℕ → Bool
-has_octal text = nat_le 3 (length text) && is_digit_to digit_3 (slice_index text 0) && is_digit_to digit_7 (slice_index text 1) && is_digit_to digit_7 (slice_index text 2)
+has_octal text =
+    nat_le 3 (length text) && is_digit_to digit_3 (slice_index text 0)
+    && is_digit_to digit_7 (slice_index text 1) && is_digit_to digit_7 (slice_index text 2)
 
 -- their number
 abbrev pub octal_value : List ℕ → ℕ
-octal_value text = (slice_index text 0 - digit_0) * 64 + (slice_index text 1 - digit_0) * 8 + (slice_index text 2 - digit_0)
+octal_value text =
+    (slice_index text 0 - digit_0) * 64 + (slice_index text 1 - digit_0) * 8 + (slice_index text 2 - digit_0)
 
 -- a letter's byte, and else that of three octal digits, each with how many bytes it takes
 abbrev pub letter_or_octal : Option ℕ → List ℕ → Option (ℕ × ℕ)
@@ -81,7 +84,9 @@ IsUnquoted text (Err NoMemory) = Unit {0}
 -- what one stretch of a text appends to the bytes so far: it closes the text, or goes on behind an escape
 abbrev pub IsStretch : List ℕ → List ℕ → List ℕ → Result Stretch QuoteFault → Type 0
 IsStretch old text new (Ok (Closed n)) = (n ≤ length text) × (prefixed old 0 (unquoted_behind 0 text) ≡ Ok (new, n))
-IsStretch old text new (Ok (Escaped n)) = (0 < n) × (n ≤ length text) × (prefixed old 0 (unquoted_behind 0 text) ≡ prefixed new n (unquoted_behind 0 (drop n text)))
+IsStretch old text new (Ok (Escaped n)) =
+    (0 < n) × (n ≤ length text) × (prefixed old 0 (unquoted_behind 0 text)
+    ≡ prefixed new n (unquoted_behind 0 (drop n text)))
 IsStretch old text new (Err Unclosed) = unquoted_behind 0 text ≡ Err Unclosed
 IsStretch old text new (Err BadEscape) = unquoted_behind 0 text ≡ Err BadEscape
 IsStretch old text new (Err NoMemory) = Unit {0}

@@ -21,7 +21,8 @@ workers_command text = with_workers (decimal_within text 16)
 -- no words, `--workers=N`, or `--workers` and N
 abbrev pub checkout_command : List (List ℕ) → Option Command
 checkout_command [] = Some (Checkout None)
-checkout_command (word ∷ []) = if bytes_eq (take 10 word) (codes "--workers=") then workers_command (drop 10 word) else None
+checkout_command (word ∷ []) =
+    if bytes_eq (take 10 word) (codes "--workers=") then workers_command (drop 10 word) else None
 checkout_command (word ∷ number ∷ []) = if bytes_eq word (codes "--workers") then workers_command number else None
 checkout_command (word ∷ number ∷ other ∷ more) = None
 

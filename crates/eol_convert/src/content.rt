@@ -87,7 +87,8 @@ fn push_front(text: &mut Vec<u8>, content: &[u8], count: usize) -> Result<(), Al
 /// Appends the line with which a content begins, up to the LF at `end`, and the line's end.
 fn push_line(text: &mut Vec<u8>, content: &[u8], end: usize) -> Result<(), AllocError>
     requires { end ≤ length content.now }
-    ensures { OnOk result (text.new.items ≡ text.old.items ++ (take end content.now ++ line_end (take end content.now))) }
+    ensures { OnOk result (text.new.items ≡ text.old.items ++ (take end content.now
+        ++ line_end (take end content.now))) }
 {
     push_front(text, content, end)?;
     let (line, _) = content.split_at(end);

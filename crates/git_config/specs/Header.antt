@@ -35,7 +35,8 @@ plain_head name = dotted_at (position_or_len is_dot name) name
 -- The flag says that a backslash stands before the text.
 unfoldable pub sub_at : ℕ → Bool → List ℕ → List ℕ → Result (List ℕ × List ℕ) ConfigFault
 sub_at line escaped sub [] = Err (Line line Section)
-sub_at line true sub (b ∷ text) = want (not (b == line_feed)) (Line line Section) (sub_at line false (sub ++ b ∷ []) text)
+sub_at line true sub (b ∷ text) =
+    want (not (b == line_feed)) (Line line Section) (sub_at line false (sub ++ b ∷ []) text)
 sub_at line false sub (b ∷ text) =
     want (not (b == line_feed)) (Line line Section)
     (if b == quote then Ok (sub, text)
@@ -47,7 +48,8 @@ unfoldable pub quoted_head_at : ℕ → List ℕ → List ℕ → Result (Head �
 quoted_head_at line name text =
     want (begins is_quote text) (Line line Section) (do
       x ← sub_at line false [] (drop 1 text)
-      want (begins is_close x.1) (Line line Section) (Ok (record { section = lowered name; sub = Some x.0 }, drop 1 x.1)))
+      want (begins is_close x.1) (Line line Section)
+      (Ok (record { section = lowered name; sub = Some x.0 }, drop 1 x.1)))
 
 -- what stands behind the name: `]`, or a subsection
 unfoldable pub named_at : ℕ → List ℕ → List ℕ → Result (Head × List ℕ) ConfigFault
@@ -58,4 +60,5 @@ named_at line name text =
 
 -- a header behind its `[`, and the text behind its `]`
 unfoldable pub header_at : ℕ → List ℕ → Result (Head × List ℕ) ConfigFault
-header_at line text = named_at line (take (position_or_len ends_name text) text) (drop (position_or_len ends_name text) text)
+header_at line text =
+    named_at line (take (position_or_len ends_name text) text) (drop (position_or_len ends_name text) text)

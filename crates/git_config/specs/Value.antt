@@ -68,7 +68,8 @@ abbrev pub ended_at : ℕ → Reading → List ℕ → Result (List ℕ × ℕ �
 ended_at line r text = ended line r.quoted (take r.kept r.bytes) r.lines text
 
 -- what a byte at the front of a text does, and what comes behind it
-abbrev pub marked : ℕ → Mark → Reading → ℕ → List ℕ → (Reading → Result (List ℕ × ℕ × List ℕ) ConfigFault) → Result (List ℕ × ℕ × List ℕ) ConfigFault
+abbrev pub marked : ℕ → Mark → Reading → ℕ → List ℕ → (Reading → Result (List ℕ × ℕ × List ℕ) ConfigFault)
+    → Result (List ℕ × ℕ × List ℕ) ConfigFault
 marked line End r b text behind = ended_at line r (b ∷ text)
 marked line Comment r b text behind = ended_at line r (line_end text)
 marked line Wrong r b text behind = Err (Line line BadValue)

@@ -24,18 +24,21 @@ pub record AreOpen (earlier : List Entry) (open_paths : List (List ℕ)) : Type 
   pub rising : pairwise is_below earlier ≡ true
   pub chain : pairwise is_under open_paths ≡ true
   pub within : (q : List ℕ) → is_after earlier q ≡ true → list_all (λ d. is_before d q) open_paths ≡ true
-  pub same : (q : List ℕ) → is_after earlier q ≡ true → list_any (λ e. is_folder_of e q) earlier ≡ list_any (λ d. is_in_folder d q) open_paths
+  pub same : (q : List ℕ) → is_after earlier q ≡ true → list_any (λ e. is_folder_of e q) earlier
+      ≡ list_any (λ d. is_in_folder d q) open_paths
 
 -- What is on top that the path does not begin with is closed. Then a folder of the path can only be on top.
 pub record Closes (path : List ℕ) (old new : List (List ℕ)) (clash : Bool) : Type 0 where
   pub dropped : List (List ℕ)
   pub parts : old ≡ new ++ dropped
   pub gone : list_all (λ d. not (starts_with nat_eq path d)) dropped ≡ true
-  pub top : MatchOption (slice_get new (length new - 1)) (clash ≡ false) (λ t. (starts_with nat_eq path t ≡ true) × (clash ≡ is_in_folder t path))
+  pub top : MatchOption (slice_get new (length new - 1)) (clash ≡ false) (λ t. (starts_with nat_eq path t
+      ≡ true) × (clash ≡ is_in_folder t path))
 
 -- what befalls the stack at an entry of stage 0, or of another stage
 abbrev pub OpensAt : Bool → Entry → List (List ℕ) → List (List ℕ) → Bool → Type 0
-OpensAt true e old new clash = (kept : List (List ℕ)) × Closes e.path old kept clash × (clash ≡ false → new ≡ kept ++ e.path ∷ [])
+OpensAt true e old new clash =
+    (kept : List (List ℕ)) × Closes e.path old kept clash × (clash ≡ false → new ≡ kept ++ e.path ∷ [])
 OpensAt false e old new clash = (clash ≡ false) × (new ≡ old)
 
 abbrev pub Opens : Entry → List (List ℕ) → List (List ℕ) → Bool → Type 0

@@ -69,11 +69,13 @@ pub fn place<'a>(
 ) -> Result<(), IndexFault>
     requires count { length entries.old.items ≡ k }
     requires known { AreOpen entries.old.items (paths stack.old.items) }
-    ensures placed { OnOk result (placed_at entries.old.items (entry_of_spelled found.now) ≡ Ok (entry_of_spelled found.now)) }
+    ensures placed { OnOk result (placed_at entries.old.items (entry_of_spelled found.now)
+        ≡ Ok (entry_of_spelled found.now)) }
     ensures grown { OnOk result (entries.new.items ≡ entries.old.items ++ entry_of_spelled found.now ∷ []) }
     ensures still { OnOk result (AreOpen entries.new.items (paths stack.new.items)) }
     // Which fault it is.
-    ensures refused { IfErr result (λ f. (f ≡ IndexFault.NoMemory → ⊥) → placed_at entries.old.items (entry_of_spelled found.now) ≡ Err f) }
+    ensures refused { IfErr result (λ f. (f ≡ IndexFault.NoMemory → ⊥)
+        → placed_at entries.old.items (entry_of_spelled found.now) ≡ Err f) }
 {
     if !rises(entries, found) {
         return Err(IndexFault::Order(k));

@@ -42,7 +42,8 @@ replaced (Some n) keyword b behind = keyword ++ behind (n - 1)
 abbrev pub expanded_behind : List ℕ → ℕ → List ℕ → List ℕ
 expanded_behind keyword skip [] = []
 expanded_behind keyword (suc skip) (b ∷ text) = expanded_behind keyword skip text
-expanded_behind keyword zero (b ∷ text) = replaced (keyword_len (b ∷ text)) keyword b (λ skip. expanded_behind keyword skip text)
+expanded_behind keyword zero (b ∷ text) =
+    replaced (keyword_len (b ∷ text)) keyword b (λ skip. expanded_behind keyword skip text)
 
 -- an empty text is empty; a keyword at the front becomes this one; any other byte is kept
 abbrev pub expanded : List ℕ → List ℕ → List ℕ
@@ -58,7 +59,8 @@ pub record IsFirstKeyword (text : List ℕ) (start len : ℕ) : Type 0 where
   pub has : has_keyword text ≡ true
   pub some : 0 < len
   pub within : start + len ≤ length text
-  pub same : (keyword : List ℕ) → expanded keyword text ≡ take start text ++ (keyword ++ expanded keyword (drop (start + len) text))
+  pub same : (keyword : List ℕ) → expanded keyword text ≡ take start text ++ (keyword
+      ++ expanded keyword (drop (start + len) text))
 
 -- a text begins with a keyword, and this is behind it: `$Id$`, or `$Id:`, a middle without `$` and `$`
 abbrev pub BeginsWithKeyword : List ℕ → List ℕ → Type 0

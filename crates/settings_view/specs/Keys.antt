@@ -27,12 +27,14 @@ unfoldable pub last_value : (Setting → Bool) → List Setting → Option (Opti
 last_value test settings = fold (later test) None settings
 
 -- what a key says: the default where it isn't there, and the fault where its value says nothing
-abbrev pub told : {A : Type 0} → A → (Option (List ℕ) → Option A) → SettingFault → Option (Option (List ℕ)) → Result A SettingFault
+abbrev pub told : {A : Type 0} → A → (Option (List ℕ) → Option A) → SettingFault → Option (Option (List ℕ))
+    → Result A SettingFault
 told default read fault None = Ok default
 told default read fault (Some value) = ok_or (read value) fault
 
 abbrev pub crlf_told : List Setting → Result AutoCrlf SettingFault
-crlf_told settings = told False crlf_of (BadChoice AutoCrlfKey) (last_value (is_key (codes "core") (codes "autocrlf")) settings)
+crlf_told settings =
+    told False crlf_of (BadChoice AutoCrlfKey) (last_value (is_key (codes "core") (codes "autocrlf")) settings)
 
 abbrev pub eol_told : List Setting → Result EolSetting SettingFault
 eol_told settings = told Native eol_of (BadChoice Eol) (last_value (is_key (codes "core") (codes "eol")) settings)
@@ -41,7 +43,8 @@ abbrev pub workers_at : Option (List ℕ) → Option ℕ
 workers_at value = option_map workers_of (number_of value)
 
 abbrev pub workers_told : List Setting → Result ℕ SettingFault
-workers_told settings = told 1 workers_at (BadNumber Workers) (last_value (is_key (codes "checkout") (codes "workers")) settings)
+workers_told settings =
+    told 1 workers_at (BadNumber Workers) (last_value (is_key (codes "checkout") (codes "workers")) settings)
 
 abbrev pub threshold_at : Option (List ℕ) → Option ℕ
 threshold_at value = option_map threshold_of (number_of value)

@@ -24,7 +24,8 @@ is_short digits = nat_lt 0 (length digits) && nat_le (length digits) 18
 
 -- digits, and a unit or nothing behind them
 abbrev pub size_from : List ℕ → List ℕ → Option ℕ
-size_from digits rest = if is_short digits then option_map (λ factor. digits_value 10 digits * factor) (factor_of rest) else None
+size_from digits rest =
+    if is_short digits then option_map (λ factor. digits_value 10 digits * factor) (factor_of rest) else None
 
 -- the size of a text: the digits at its front, and what is behind them
 abbrev pub size_of : List ℕ → Option ℕ

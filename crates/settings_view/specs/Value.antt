@@ -13,10 +13,13 @@ unfoldable pub is_word : List ℕ → List ℕ → Bool
 is_word word text = bytes_eq (lowered text) (lowered word)
 
 unfoldable pub is_true_word : List ℕ → Bool
-is_true_word text = is_word (codes "true") text || is_word (codes "yes") text || is_word (codes "on") text || is_word (codes "1") text
+is_true_word text =
+    is_word (codes "true") text || is_word (codes "yes") text || is_word (codes "on") text || is_word (codes "1") text
 
 unfoldable pub is_false_word : List ℕ → Bool
-is_false_word text = is_word (codes "false") text || is_word (codes "no") text || is_word (codes "off") text || is_word (codes "0") text || length text == 0
+is_false_word text =
+    is_word (codes "false") text || is_word (codes "no") text || is_word (codes "off") text
+    || is_word (codes "0") text || length text == 0
 
 abbrev pub bool_text : List ℕ → Option Bool
 bool_text text = if is_true_word text then Some true else if is_false_word text then Some false else None

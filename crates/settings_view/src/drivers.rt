@@ -72,7 +72,8 @@ fn take_setting<'a>(
     setting: &'a Setting,
 ) -> Result<(), AllocError>
     ensures names { OnOk result (names_in drafts.new ≡ with_driver (names_in drafts.old) (driver_name setting.now)) }
-    ensures said { OnOk result ((name : List ℕ) → said_at drafts.new name ≡ said_after setting.now name (said_at drafts.old name)) }
+    ensures said { OnOk result ((name : List ℕ) → said_at drafts.new name
+        ≡ said_after setting.now name (said_at drafts.old name)) }
     ensures ordered { OnOk result (IsInOrder drafts.old → IsInOrder drafts.new) }
 {
     let Some(name) = driver_name(setting) else {

@@ -42,5 +42,6 @@ pub fn settings(alloc: Global, config: &Config) -> Result<Settings, SettingFault
 
 /// The law that the drivers are those of which some setting speaks. It does nothing.
 pub fn drivers_are_those_spoken_of(config: &Config)
-    ensures { (name : List ℕ) → list_any (λ n. bytes_eq n name) (names_of config.now) ≡ list_any (speaks_of name) config.now }
+    ensures { (name : List ℕ) → list_any (λ n. bytes_eq n name) (names_of config.now)
+        ≡ list_any (speaks_of name) config.now }
 {}

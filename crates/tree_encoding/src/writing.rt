@@ -28,7 +28,8 @@ fn text_in<F: Form>(alloc: Global, mark: &[u8], text: &str) -> Result<Vec<u8>, A
 pub fn encodable_text(content: &[u8]) -> Option<&str>
     ensures exact { is_some result ≡ is_encodable content.now }
     ensures text { IfSome result (λ text. text.now ≡ content.now) }
-    ensures encoded { IfSome result (λ text. (e : Encoding) → encoded content.now e ≡ record { bytes = text_in e text.now; unencoded = false }) }
+    ensures encoded { IfSome result (λ text. (e : Encoding) → encoded content.now e
+        ≡ record { bytes = text_in e text.now; unencoded = false }) }
     ensures kept { IfNone result ((e : Encoding) → encoded content.now e ≡ kept content.now) }
 {
     match from_utf8(content) {

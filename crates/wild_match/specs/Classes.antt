@@ -40,6 +40,9 @@ is_in_class Blank b = (b == space) || (b == tab)
 is_in_class Cntrl b = nat_lt b space || (b == delete)
 is_in_class Graph b = is_between bang tilde b
 is_in_class Print b = is_between space tilde b
-is_in_class Punct b = is_between bang tilde b && not (is_between letter_a letter_z b || is_between capital_a capital_z b || is_between digit_0 digit_9 b)
+is_in_class Punct b =
+    is_between bang tilde b && not (is_between letter_a letter_z b || is_between capital_a capital_z b
+    || is_between digit_0 digit_9 b)
 is_in_class Space b = (b == space) || is_between tab carriage_return b
-is_in_class Xdigit b = is_between digit_0 digit_9 b || is_between letter_a letter_f b || is_between capital_a capital_f b
+is_in_class Xdigit b =
+    is_between digit_0 digit_9 b || is_between letter_a letter_f b || is_between capital_a capital_f b

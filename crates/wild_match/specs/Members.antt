@@ -28,7 +28,8 @@ end_at text =
 
 -- whether `-` stands behind n bytes, and then something that is not `]`
 abbrev pub is_range_at : ℕ → List ℕ → Bool
-is_range_at n text = nat_lt (n + 1) (length text) && (slice_index text n == hyphen) && not (slice_index text (n + 1) == close_bracket)
+is_range_at n text =
+    nat_lt (n + 1) (length text) && (slice_index text n == hyphen) && not (slice_index text (n + 1) == close_bracket)
 
 -- a range, by its two ends
 abbrev pub range_to : ℕ × ℕ → Option (ℕ × ℕ) → Option (Member × ℕ)
@@ -37,7 +38,8 @@ range_to low (Some high) = Some (Range low.0 high.0, low.1 + 1 + high.1)
 
 -- a range or a lone byte, by its first end
 unfoldable pub range_at : List ℕ → ℕ × ℕ → Option (Member × ℕ)
-range_at text low = if is_range_at low.1 text then range_to low (end_at (drop (low.1 + 1) text)) else Some (Range low.0 low.0, low.1)
+range_at text low =
+    if is_range_at low.1 text then range_to low (end_at (drop (low.1 + 1) text)) else Some (Range low.0 low.0, low.1)
 
 abbrev pub is_close : ℕ → Bool
 is_close b = b == close_bracket

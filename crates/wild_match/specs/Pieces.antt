@@ -41,7 +41,8 @@ is_negated text = nat_le 1 (length text) && ((slice_index text 0 == bang) || (sl
 
 -- `[` and what is behind it
 unfoldable pub set_front : List ℕ → Piece × ℕ
-set_front text = if is_negated text then set_piece true 2 (set_members (drop 1 text)) else set_piece false 1 (set_members text)
+set_front text =
+    if is_negated text then set_piece true 2 (set_members (drop 1 text)) else set_piece false 1 (set_members text)
 
 -- `\` and the byte that it takes the meaning from
 unfoldable pub escape_front : List ℕ → Piece × ℕ

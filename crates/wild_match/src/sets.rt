@@ -83,7 +83,8 @@ fn next_close(text: &[u8], place: usize, known: usize) -> usize
     requires place { place ≤ length text.now }
     requires known { IsClose text.now (place + 2) known }
     ensures known { IsClose text.now (place + 2) result }
-    ensures opened { opens_class (drop place text.now) ≡ true → result ≡ place + 2 + position_or_len is_close (drop (place + 2) text.now) }
+    ensures opened { opens_class (drop place text.now) ≡ true → result
+        ≡ place + 2 + position_or_len is_close (drop (place + 2) text.now) }
 {
     let (_, rest) = text.split_at(place);
     if !opens_class(rest) || place + 2 <= known {
