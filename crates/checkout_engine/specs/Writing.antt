@@ -17,10 +17,10 @@ use Rattle.checkout_core.specs.declared.verdict.FailCause.TheVariants as fail
 use Rattle.tree_encoding.specs.declared.prepared.Prepared.{Prepared}
 use Rattle.convert_plan.specs.Prepared.{prepared}
 use Rattle.checkout_plan.specs.declared.path_plan.PathPlan.{PathPlan}
-use Rattle.checkout_plan.specs.Making.{FitsKind}
+use Rattle.checkout_plan.specs.Making.{FitsKind, object_kind}
 use Rattle.object_dir.specs.declared.fault.ObjectFault.{ObjectFault}
 use Rattle.object_dir.specs.declared.fault.ObjectFault.TheVariants as object
-use Rattle.checkout_core.specs.declared.verdict.ObjectKind.TheVariants as kind
+use Rattle.checkout_core.specs.declared.verdict.ObjectKind.{ObjectKind}
 use Rattle.std.specs.Prelude.{map}
 use Rattle.std.specs.List.{AllZip}
 use Rattle.edge_kit.specs.Seen.{RepoSeen, TreeSeen}
@@ -77,14 +77,13 @@ WritesPath told p verdict.NoMemory blob leaf = (blob ≡ 0) × IsUnput leaf
 WritesPath told p v blob leaf = ⊥
 
 -- the verdict of a path whose object gave no content
+abbrev pub verdict_without : Option ObjectKind → ObjectFault → Verdict
+verdict_without (Some k) fault = verdict.Failed (fail.Object k)
+verdict_without None object.NoMemory = verdict.NoMemory
+verdict_without None fault = verdict.Failed fail.ReadFailed
+
 abbrev pub unread_verdict : ObjectFault → Verdict
-unread_verdict object.ReadFailed = verdict.Failed fail.ReadFailed
-unread_verdict object.Absent = verdict.Failed (fail.Object kind.Absent)
-unread_verdict object.TooLarge = verdict.Failed (fail.Object kind.TooLarge)
-unread_verdict object.Header = verdict.Failed (fail.Object kind.Header)
-unread_verdict object.Size = verdict.Failed (fail.Object kind.Size)
-unread_verdict (object.WrongName found) = verdict.Failed (fail.Object kind.WrongName)
-unread_verdict object.NoMemory = verdict.NoMemory
+unread_verdict fault = verdict_without (object_kind fault) fault
 
 -- the files with one more, if there is one
 abbrev pub joined : Option TreeFile → List TreeFile → List TreeFile

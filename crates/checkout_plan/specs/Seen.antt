@@ -32,9 +32,9 @@ use Rattle.checkout_plan.specs.AttributeFiles.{with_file, files_at, is_attribute
 use Rattle.checkout_plan.specs.AttributeFiles.{attribute_entries, attribute_files}
 use Rattle.checkout_plan.specs.Paths.{conversion_names, start_named, filter_start, converted}
 use Rattle.checkout_plan.specs.Paths.{is_used, number_at}
-use Rattle.checkout_plan.specs.Making.{FitsKind, HaveContents, max_attributes, max_drivers}
+use Rattle.checkout_plan.specs.Making.{FitsKind, object_kind, HaveContents, max_attributes, max_drivers}
 use Rattle.checkout_plan.specs.Making.{blobs_of, told_number}
-use Rattle.checkout_core.specs.declared.verdict.ObjectKind.TheVariants as kind
+use Rattle.checkout_core.specs.declared.verdict.ObjectKind.{ObjectKind}
 
 -- attribute files by their folders
 abbrev pub Files : Type 0
@@ -78,14 +78,13 @@ FaultAt told e place (fault.TooManyDrivers n) = ⊥
 FaultAt told e place fault.NoMemory = Unit {0}
 
 -- the fault of an attribute file at that place whose object gave no content
+abbrev pub fault_without : ℕ → Option ObjectKind → ObjectFault → PlanFault
+fault_without place (Some k) unread = fault.Attribute place k
+fault_without place None object.NoMemory = fault.NoMemory
+fault_without place None unread = fault.AttributeRead place
+
 abbrev pub unread_fault : ℕ → ObjectFault → PlanFault
-unread_fault place object.ReadFailed = fault.AttributeRead place
-unread_fault place object.Absent = fault.Attribute place kind.Absent
-unread_fault place object.TooLarge = fault.Attribute place kind.TooLarge
-unread_fault place object.Header = fault.Attribute place kind.Header
-unread_fault place object.Size = fault.Attribute place kind.Size
-unread_fault place (object.WrongName found) = fault.Attribute place kind.WrongName
-unread_fault place object.NoMemory = fault.NoMemory
+unread_fault place unread = fault_without place (object_kind unread) unread
 
 -- the attribute files among these entries are read, and stand at their places
 pub record Reads (object : List ℕ → Told) (es : List Entry) (before after : List FileAt) : Type 0 where
