@@ -1,6 +1,6 @@
 -- What the code holds and meets while a plan is made.
 use Rattle.std.specs.Prelude.{◌≡◌, ℕ, ◌<◌, ◌≤◌, ◌⊎◌, Bool, true, false, get_or, List, [], ◌∷◌, ◌++◌}
-use Rattle.std.specs.Prelude.{length, map, fold, take, codes, slice_index_or, Result, Ok, Err}
+use Rattle.std.specs.Prelude.{length, map, fold, take, codes, slice_index_or, Option, Some, None, Result, Ok, Err}
 use Rattle.std.specs.Global.{Vec}
 use Rattle.std.specs.Borrow.{Bor}
 use Rattle.std.specs.BTreeMap.{BTreeMap, get_by}

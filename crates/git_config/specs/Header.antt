@@ -49,7 +49,7 @@ quoted_head_at line name text =
     want (begins is_quote text) (Line line Section) (do
       x ← sub_at line false [] (drop 1 text)
       want (begins is_close x.1) (Line line Section)
-      (Ok (record { section = lowered name; sub = Some x.0 }, drop 1 x.1)))
+        (Ok (record { section = lowered name; sub = Some x.0 }, drop 1 x.1)))
 
 -- what stands behind the name: `]`, or a subsection
 unfoldable pub named_at : ℕ → List ℕ → List ℕ → Result (Head × List ℕ) ConfigFault
