@@ -5,10 +5,10 @@ Every difference, and no more, has a line in tests/conversion_differences.tsv wi
 Contents and answers are spelled with escapes; `m{200}` is a byte that stands there 200 times, and NAME the blob's name.
 `fails` is a path that isn't written.
 
-As it streams, git (2.39) passes over a keyword right behind the front of one that fails, and looks for a foreign keyword only
-behind `$Id: `, where any white space in the middle makes one and NUL ends the search. In memory, which it converts in under
-`text=auto`, it has this program's answers, and so has tests/make_conversion_table. Which byte order plain `UTF-16` and `UTF-32`
-have git leaves to the machine's iconv: that of glibc agrees.
+As it streams, git (2.39) ignores a keyword right after the front of one that fails. It looks for a foreign keyword only after
+`$Id: `, where any white space in the middle makes one and NUL ends the search. In memory, where it converts under `text=auto`,
+it has this program's answers, and so has tests/make_conversion_table. Git leaves the byte order of plain `UTF-16` and `UTF-32`
+to the machine's iconv: that of glibc agrees.
 
 Left out is an encoding without a value, at which git stops.
 """

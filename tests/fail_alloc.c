@@ -1,5 +1,5 @@
-/* Loaded before the C library, it makes one allocation fail, that whose number, from 1, is in FAIL_AT, and then says so on
-   standard error. */
+/* Loaded before the C library, it makes one allocation fail, and says so on standard error. The number of that allocation,
+   from 1, is in FAIL_AT. */
 #define _GNU_SOURCE
 #include <dlfcn.h>
 #include <errno.h>

@@ -1,4 +1,4 @@
-# What the scripts of this folder share. Each sources it as its first step, with its own name: . "${0%/*}/lib.sh"
+# What the scripts of this folder share. Each script sources it as its first step: . "${0%/*}/lib.sh"
 # shellcheck shell=bash
 # shellcheck disable=SC2034 # the scripts use what stands here
 set -eu
@@ -6,7 +6,7 @@ top=$(cd "${BASH_SOURCE[0]%/*}/.." && pwd)
 script=${0##*/}
 failures=0
 
-# need TOOL..: where a tool is missing, the script prints one line and exits 0
+# need TOOL..: if a tool is missing, the script prints one line and exits 0
 need() {
   local tool
   for tool in "$@"; do
@@ -14,7 +14,7 @@ need() {
   done
 }
 
-# make_work: makes a folder for files that are dropped at the end, $work, in memory where there is room
+# make_work: makes the folder $work, which is removed at the end, in memory if there is room
 make_work() {
   local room
   room=$(df --output=avail /dev/shm 2>/dev/null | tail -n 1)
@@ -23,13 +23,13 @@ make_work() {
   trap 'rm -rf "$work"' EXIT
 }
 
-# fail TEXT: a difference, which the last line counts
+# fail TEXT: prints a difference and counts it
 fail() {
   echo "$script: $1"
   failures=$((failures + 1))
 }
 
-# finish: ends with 1 where something differed, else with the line `passed`
+# finish: exits with 1 if something differed, else prints the line `passed`
 finish() {
   [ "$failures" = 0 ] || exit 1
   echo "$script: passed"
