@@ -47,7 +47,7 @@ EndsWith told p (verdict.Unfiltered cause unencoded) file = ⊥
 EndsWith told p verdict.NoMemory file = ⊥
 EndsWith told p v file = (p.start ≡ Done v) × (file ≡ None)
 
--- Each path of the repository's plan ended, the worktree has the files of these paths, in their order,
+-- Each path of the repository's plan ended, the worktree has the files of these ends, in their order,
 -- and no other, and the report has a line for each path, in order, with its verdict. The number is 1
 -- where some path failed. As many blobs and leaves are out as before.
 pub record IsHeadline (told : RepoTold) (old new : Seen) (number : ℕ) : Type 0 where

@@ -43,13 +43,16 @@ sub_at line false sub (b ∷ text) =
     else if b == backslash then sub_at line true sub text
     else sub_at line false (sub ++ b ∷ []) text)
 
+-- the header of a name and of a subsection that was read, and what stands behind its `]`
+abbrev pub head_with : List ℕ → List ℕ × List ℕ → Head × List ℕ
+head_with name x = (record { section = lowered name; sub = Some x.0 }, drop 1 x.1)
+
 -- a name, blanks, the subsection in quotes, and `]`
 unfoldable pub quoted_head_at : ℕ → List ℕ → List ℕ → Result (Head × List ℕ) ConfigFault
 quoted_head_at line name text =
     want (begins is_quote text) (Line line Section) (do
       x ← sub_at line false [] (drop 1 text)
-      want (begins is_close x.1) (Line line Section)
-        (Ok (record { section = lowered name; sub = Some x.0 }, drop 1 x.1)))
+      want (begins is_close x.1) (Line line Section) (Ok (head_with name x)))
 
 -- what stands behind the name: `]`, or a subsection
 unfoldable pub named_at : ℕ → List ℕ → List ℕ → Result (Head × List ℕ) ConfigFault
