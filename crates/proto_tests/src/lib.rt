@@ -1,7 +1,7 @@
 //! The tests of sessions with a filter driver.
 //!
 //! A crate with tests is proved twice, with them and without, so those of `filter_proto` stand here, over the built
-//! library: `conversations` and `answers`, with a link and a leaf of their own. It has nothing but tests.
+//! library: `conversations` and `answers`, with a leaf of their own and a link, `pipe`. It has nothing else.
 #![tactic(auto)]
 
 #[cfg(test)]
@@ -10,7 +10,6 @@ mod answers;
 mod conversations;
 #[cfg(test)]
 mod page;
-#[cfg(test)]
-mod pipe;
+pub mod pipe;
 #[cfg(test)]
 mod speaking;
