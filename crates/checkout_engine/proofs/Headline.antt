@@ -51,26 +51,26 @@ part_left path content (Sealed mark) file part = absurd part
 part_left path content Broken file part = absurd part
 
 -- a path that the plan leaves open, where memory was left
-open_ends : (told : Told) (p : PathPlan) (o : Outcome) (v : Verdict) → HasVerdict told p o v → is_no_memory v ≡ false → EndsWith told p v o.file
-open_ends told p o (verdict.Written unencoded) (opened, counts, (content, gives, flag, file)) left =
-    (_, record { path = refl; mark = refl; content = content; object = gives; bytes = refl; flag = flag }, file)
-open_ends told p o (verdict.Failed fail.ReadFailed) has left = (has.1, has.3)
-open_ends told p o (verdict.Failed (fail.Object kind)) has left = (has.1, has.3)
-open_ends told p o (verdict.Failed fail.WriteFailed) (opened, (content, gives, (state, count, failed, counts, part))) left =
-    (content, gives, part_left p.path (prepared p.conversion p.object content).bytes state o.file part)
-open_ends told p o (verdict.Failed fail.NameNotText) has left = (inl has.0, has.1.file)
-open_ends told p o verdict.NoMemory has left = absurd cc
-open_ends told p o (verdict.Skipped cause) has left = absurd has
-open_ends told p o (verdict.Unfiltered cause unencoded) has left = absurd has
-open_ends told p o (verdict.Failed (fail.Filter cause)) has left = absurd has
-open_ends told p o (verdict.Failed fail.Missing) has left = absurd has
-open_ends told p o (verdict.Failed fail.NoProcess) has left = absurd has
-open_ends told p o (verdict.Failed fail.UnknownEncoding) has left = absurd has
+open_ends : (told : Told) (p : PathPlan) (o : Outcome) (v : Verdict) → p.start ≡ start.Pool → HasVerdict told p o v → is_no_memory v ≡ false → EndsWith told p v o.file
+open_ends told p o (verdict.Written unencoded) is (opened, counts, (content, gives, flag, file)) left =
+    (is, _, record { path = refl; mark = refl; content = content; object = gives; bytes = refl; flag = flag }, file)
+open_ends told p o (verdict.Failed fail.ReadFailed) is has left = (is, has.1, has.3)
+open_ends told p o (verdict.Failed (fail.Object kind)) is has left = (is, has.1, has.3)
+open_ends told p o (verdict.Failed fail.WriteFailed) is (opened, (content, gives, (state, count, failed, counts, part))) left =
+    (is, content, gives, part_left p.path (prepared p.conversion p.object content).bytes state o.file part)
+open_ends told p o (verdict.Failed fail.NameNotText) is has left = (inl has.0, has.1.file)
+open_ends told p o verdict.NoMemory is has left = absurd cc
+open_ends told p o (verdict.Skipped cause) is has left = absurd has
+open_ends told p o (verdict.Unfiltered cause unencoded) is has left = absurd has
+open_ends told p o (verdict.Failed (fail.Filter cause)) is has left = absurd has
+open_ends told p o (verdict.Failed fail.Missing) is has left = absurd has
+open_ends told p o (verdict.Failed fail.NoProcess) is has left = absurd has
+open_ends told p o (verdict.Failed fail.UnknownEncoding) is has left = absurd has
 
 path_ends : (told : Told) (p : PathPlan) (o : Outcome) (s : Start) → p.start ≡ s → HasCause s → HasOutcome s told p o → is_no_memory o.verdict ≡ false → EndsWith told p o.verdict o.file
 path_ends told p o (start.Done v) is cause (same, unmade) left =
     subst (λ (w : Verdict). EndsWith told p w o.file) (sym same) (closed_ends told p v o.file is cause unmade.file)
-path_ends told p o start.Pool is cause has left = open_ends told p o o.verdict has left
+path_ends told p o start.Pool is cause has left = open_ends told p o o.verdict is has left
 path_ends told p o (start.Desk driver required) is cause has left = absurd has
 
 -- a verdict and a file of each outcome

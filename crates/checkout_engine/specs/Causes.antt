@@ -82,7 +82,7 @@ pub record IsRepoSteady (old new : RepoSeen) : Type 0 where
   pub faults : new.faults ≡ old.faults
   pub blobs : failed_blobs new.returned ≡ failed_blobs old.returned
 
--- the blob of an attribute file failed, and it is the last that was given back
+-- the blob of an attribute file failed, it is the last that was given back, and nothing else failed
 pub record IsUnreadFile (told : RepoTold) (old new : RepoSeen) : Type 0 where
   pub number : ℕ
   pub count : ℕ
@@ -90,12 +90,19 @@ pub record IsUnreadFile (told : RepoTold) (old new : RepoSeen) : Type 0 where
   pub faulty : IsFaulty told (fault.AttributeRead number)
   pub entry : Entry
   pub there : slice_get faulty.entries number ≡ Some entry
-  pub returned : new.returned ≡ old.returned ++ blobs_to faulty.entries number entry count
+  pub seen : new ≡ record old {
+    returned = old.returned ++ blobs_to faulty.entries number entry count;
+  }
 
--- a read failed: of one of the three files, whose count rose, or of an attribute file
+-- one of the three files couldn't be read: the count rose, and no blob was made
+pub record IsUnreadSource (told : RepoTold) (old new : RepoSeen) : Type 0 where
+  pub rose : Rose old.faults new.faults
+  pub unread : IsSourceUnread told
+  pub seen : new ≡ record old { faults = new.faults }
+
+-- a read failed: of one of the three files, or of an attribute file
 abbrev pub IsReadCause : RepoTold → RepoSeen → RepoSeen → Type 0
-IsReadCause told old new =
-    (Rose old.faults new.faults × IsSourceUnread told) ⊎ IsUnreadFile told old new
+IsReadCause told old new = IsUnreadSource told old new ⊎ IsUnreadFile told old new
 
 -- The plan was read. The attribute files' blobs, none of which failed, were given back.
 pub record IsPlanRead (told : RepoTold) (plan : Plan) (old new : RepoSeen) : Type 0 where

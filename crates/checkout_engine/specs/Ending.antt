@@ -46,7 +46,8 @@ StopsRun told tree tree' old new (Err stop.NotEmpty) =
     Tells tree.empty false × (tree'.faults ≡ tree.faults) × (new ≡ old)
 StopsRun told tree tree' old new (Err stop.ReadFault) =
     ((Rose tree.faults tree'.faults × (new ≡ old))
-    ⊎ (Tells tree.empty true × IsReadCause told old new)) × IsRepoBack old new
+    ⊎ (Tells tree.empty true × (tree'.faults ≡ tree.faults) × IsReadCause told old new))
+    × IsRepoBack old new
 StopsRun told tree tree' old new (Err (stop.Refused r)) =
     Tells tree.empty true × IsCheckoutCause told r × (tree'.faults ≡ tree.faults)
     × IsRepoSteady old new × IsRepoBack old new

@@ -126,10 +126,11 @@ pub record IsReportCut (told : RepoTold) (old new : Seen) : Type 0 where
 abbrev pub IsOutOfMemory : RepoTold → Seen → Seen → Type 0
 IsOutOfMemory told old new = (IsIdle old new × IsSteady old new) ⊎ IsReportCut told old new
 
--- 6: the worktree or a read of the repository failed, before a file was touched.
+-- 6: the worktree or a read of the repository failed, and nothing else, before a file was touched.
 pub record IsReadFault (told : RepoTold) (old new : Seen) : Type 0 where
   pub cause : (Rose old.tree.faults new.tree.faults × (new.repo ≡ old.repo))
-      ⊎ (Tells old.tree.empty true × IsReadCause told old.repo new.repo)
+      ⊎ (Tells old.tree.empty true × (new.tree.faults ≡ old.tree.faults)
+      × IsReadCause told old.repo new.repo)
   pub idle : IsIdle old new
 
 -- 7: the worktree wasn't empty, and nothing at all was done.

@@ -5,7 +5,7 @@ use Rattle.std.specs.Str.{IsUtf8}
 use Rattle.edge_kit.specs.Told.{Told, RepoTold, MayFail, Tells}
 use Rattle.edge_kit.specs.declared.tree_file.TreeFile.{TreeFile}
 use Rattle.object_dir.specs.Object.{Gives}
-use Rattle.checkout_core.specs.declared.path.Start.TheVariants.{Done}
+use Rattle.checkout_core.specs.declared.path.Start.TheVariants.{Done, Pool}
 use Rattle.checkout_core.specs.declared.verdict.Verdict.{Verdict}
 use Rattle.checkout_core.specs.declared.verdict.Verdict.TheVariants as verdict
 use Rattle.checkout_core.specs.declared.verdict.FailCause.TheVariants as fail
@@ -34,12 +34,13 @@ pub record IsConverted (told : Told) (p : PathPlan) (unencoded : Bool) (f : Tree
 -- removed, a first part of it may stay. Any other verdict is the plan's.
 abbrev pub EndsWith : Told → PathPlan → Verdict → Option TreeFile → Type 0
 EndsWith told p (verdict.Written unencoded) file =
-    (f : TreeFile) × IsConverted told p unencoded f × (file ≡ Some f)
-EndsWith told p (verdict.Failed fail.ReadFailed) file = MayFail told × (file ≡ None)
+    (p.start ≡ Pool) × (f : TreeFile) × IsConverted told p unencoded f × (file ≡ Some f)
+EndsWith told p (verdict.Failed fail.ReadFailed) file =
+    (p.start ≡ Pool) × MayFail told × (file ≡ None)
 EndsWith told p (verdict.Failed (fail.Object kind)) file =
-    FitsKind told p.object kind × (file ≡ None)
+    (p.start ≡ Pool) × FitsKind told p.object kind × (file ≡ None)
 EndsWith told p (verdict.Failed fail.WriteFailed) file =
-    (content : List ℕ) × Gives told p.object (Ok content)
+    (p.start ≡ Pool) × (content : List ℕ) × Gives told p.object (Ok content)
     × MayLeavePart p.path (prepared p.conversion p.object content).bytes file
 EndsWith told p (verdict.Failed fail.NameNotText) file =
     ((¬ (IsUtf8 p.path)) ⊎ (p.start ≡ Done (verdict.Failed fail.NameNotText))) × (file ≡ None)

@@ -38,30 +38,36 @@ fn causes_have_their_words(rt: HostRuntime) -> Result<(), Fail> {
                 cause: FilterCause::Error,
                 unencoded: false,
             },
-            "unfiltered l - filter-error \"\\303\\251\\t\"\ndone 0 1 0 0\n",
+            "unfiltered l - filter-error \"\\303\\251\\t\"\n\
+                done 0 1 0 0\n",
         ),
         (
             Verdict::Unfiltered {
                 cause: FilterCause::Broken(BreakCause::BadPacket),
                 unencoded: true,
             },
-            "unfiltered l unencoded broken-packet \"\\303\\251\\t\"\ndone 0 1 0 0\n",
+            "unfiltered l unencoded broken-packet \"\\303\\251\\t\"\n\
+                done 0 1 0 0\n",
         ),
         (
             Verdict::Failed(FailCause::Object(ObjectKind::Absent)),
-            "failed l - object-absent \"\\303\\251\\t\"\ndone 0 0 1 0\n",
+            "failed l - object-absent \"\\303\\251\\t\"\n\
+                done 0 0 1 0\n",
         ),
         (
             Verdict::Failed(FailCause::WriteFailed),
-            "failed l - write \"\\303\\251\\t\"\ndone 0 0 1 0\n",
+            "failed l - write \"\\303\\251\\t\"\n\
+                done 0 0 1 0\n",
         ),
         (
             Verdict::NoMemory,
-            "no-memory l - - \"\\303\\251\\t\"\ndone 0 0 0 0\n",
+            "no-memory l - - \"\\303\\251\\t\"\n\
+                done 0 0 0 0\n",
         ),
         (
             Verdict::Skipped(SkipCause::Gitlink),
-            "skipped l - gitlink \"\\303\\251\\t\"\ndone 0 0 0 1\n",
+            "skipped l - gitlink \"\\303\\251\\t\"\n\
+                done 0 0 0 1\n",
         ),
     ];
     for (verdict, want) in table {

@@ -13,7 +13,13 @@ use std::test::Fail;
 fn an_index_is_checked_out(rt: HostRuntime) -> Result<(), Fail> {
     let alloc = rt.alloc();
     let one = [plain(b"a")];
-    let usual = checkout(&one, "written - - - a\ndone 1 0 0 0\nstatus 0\na: hi\n");
+    let usual = checkout(
+        &one,
+        "written - - - a\n\
+        done 1 0 0 0\n\
+        status 0\n\
+        a: hi\n",
+    );
     let cases = [
         usual,
         Case {
@@ -33,7 +39,11 @@ fn an_index_is_checked_out(rt: HostRuntime) -> Result<(), Fail> {
     check(&rt, alloc, &cases)?;
     let none = Case {
         hash: NO_ENTRIES,
-        ..checkout(&[], "done 0 0 0 0\nstatus 0\n")
+        ..checkout(
+            &[],
+            "done 0 0 0 0\n\
+            status 0\n",
+        )
     };
     check(&rt, alloc, &[none])
 }
@@ -49,13 +59,21 @@ fn marks_names_and_skipped_entries_are_shown(rt: HostRuntime) -> Result<(), Fail
         stage(2, PLAIN, HI, b"u"),
         stage(3, PLAIN, HI, b"u"),
     ];
-    let wanted =
-        "written x - - bin\nwritten l - - ln\nskipped - - gitlink sub\nskipped - - unmerged u\n\
-        done 2 0 0 2\nstatus 0\nbin: hi\nln: bin";
+    let wanted = "written x - - bin\n\
+            written l - - ln\n\
+            skipped - - gitlink sub\n\
+            skipped - - unmerged u\n\
+            done 2 0 0 2\n\
+            status 0\n\
+            bin: hi\n\
+            ln: bin";
     check(&rt, alloc, &[checkout(&marked, wanted)])?;
     let quoted = [plain(b"\xc3\xa9"), plain(b"\xff")];
-    let wanted =
-        "written - - - \"\\303\\251\"\nfailed - - name \"\\377\"\ndone 1 0 1 0\nstatus 1\n\u{e9}: hi\n";
+    let wanted = "written - - - \"\\303\\251\"\n\
+            failed - - name \"\\377\"\n\
+            done 1 0 1 0\n\
+            status 1\n\
+            \u{e9}: hi\n";
     check(&rt, alloc, &[checkout(&quoted, wanted)])
 }
 
@@ -78,7 +96,8 @@ fn words_say_what_is_done(rt: HostRuntime) -> Result<(), Fail> {
         },
         Case {
             command: &["rehearse", "0", "8"],
-            wanted: "refused unbuilt\nstatus 3\n",
+            wanted: "refused unbuilt\n\
+                status 3\n",
             ..usage
         },
     ];
@@ -88,7 +107,13 @@ fn words_say_what_is_done(rt: HostRuntime) -> Result<(), Fail> {
 #[test]
 fn a_configuration_is_read_or_refused(rt: HostRuntime) -> Result<(), Fail> {
     let one = [plain(b"a")];
-    let read = checkout(&one, "written - - - a\ndone 1 0 0 0\nstatus 0\na: hi\n");
+    let read = checkout(
+        &one,
+        "written - - - a\n\
+        done 1 0 0 0\n\
+        status 0\n\
+        a: hi\n",
+    );
     let cases = [
         Case {
             config: Some(b""),
@@ -100,27 +125,34 @@ fn a_configuration_is_read_or_refused(rt: HostRuntime) -> Result<(), Fail> {
         },
         Case {
             config: Some(b"[core]\nautocrlf\n"),
-            wanted: "written - - - a\ndone 1 0 0 0\nstatus 0\na: hi\r\n",
+            wanted: "written - - - a\n\
+                done 1 0 0 0\n\
+                status 0\n\
+                a: hi\r\n",
             ..read
         },
         Case {
             config: Some(b"[core\n"),
-            wanted: "refused config line 1 section\nstatus 3\n",
+            wanted: "refused config line 1 section\n\
+                status 3\n",
             ..read
         },
         Case {
             config: Some(b"[core]\neol = \"cr\n"),
-            wanted: "refused config line 2 value\nstatus 3\n",
+            wanted: "refused config line 2 value\n\
+                status 3\n",
             ..read
         },
         Case {
             config: Some(b"[checkout]\nworkers = many\n"),
-            wanted: "refused setting workers\nstatus 3\n",
+            wanted: "refused setting workers\n\
+                status 3\n",
             ..read
         },
         Case {
             config: Some(b"[filter \"f\"]\nrequired = 2\n"),
-            wanted: "refused setting required\nstatus 3\n",
+            wanted: "refused setting required\n\
+                status 3\n",
             ..read
         },
     ];
@@ -134,35 +166,59 @@ fn an_object_that_is_not_right_fails_its_path_alone(rt: HostRuntime) -> Result<(
     let cases = [
         Case {
             stored: b"blob 3\0ho\n",
-            wanted: "failed - - object-name a\nwritten l - - b\ndone 1 0 1 0\nstatus 1\nb: bin",
+            wanted: "failed - - object-name a\n\
+                written l - - b\n\
+                done 1 0 1 0\n\
+                status 1\n\
+                b: bin",
             ..usual
         },
         Case {
             stored: b"blob 4\0hi\n",
-            wanted: "failed - - object-size a\nwritten l - - b\ndone 1 0 1 0\nstatus 1\nb: bin",
+            wanted: "failed - - object-size a\n\
+                written l - - b\n\
+                done 1 0 1 0\n\
+                status 1\n\
+                b: bin",
             ..usual
         },
         // what zlib makes of an object
         Case {
             stored: b"x\x01K\xca\xc9O",
-            wanted: "failed - - object-header a\nwritten l - - b\ndone 1 0 1 0\nstatus 1\nb: bin",
+            wanted: "failed - - object-header a\n\
+                written l - - b\n\
+                done 1 0 1 0\n\
+                status 1\n\
+                b: bin",
             ..usual
         },
         // a content of 67,108,865 bytes
         Case {
             stored: b"blob 67108865\0",
             nuls: 67_108_865,
-            wanted: "failed - - object-too-large a\nwritten l - - b\ndone 1 0 1 0\nstatus 1\nb: bin",
+            wanted: "failed - - object-too-large a\n\
+                written l - - b\n\
+                done 1 0 1 0\n\
+                status 1\n\
+                b: bin",
             ..usual
         },
         Case {
             object: [9; 20],
-            wanted: "failed - - object-absent a\nwritten l - - b\ndone 1 0 1 0\nstatus 1\nb: bin",
+            wanted: "failed - - object-absent a\n\
+                written l - - b\n\
+                done 1 0 1 0\n\
+                status 1\n\
+                b: bin",
             ..usual
         },
         Case {
             fails: Some(RepoFail::Object(HI)),
-            wanted: "failed - - read a\nwritten l - - b\ndone 1 0 1 0\nstatus 1\nb: bin",
+            wanted: "failed - - read a\n\
+                written l - - b\n\
+                done 1 0 1 0\n\
+                status 1\n\
+                b: bin",
             ..usual
         },
     ];
@@ -174,7 +230,13 @@ fn a_leaf_that_fails_fails_its_path_alone(rt: HostRuntime) -> Result<(), Fail> {
     let three = [plain(b"p1"), plain(b"p2"), plain(b"p3")];
     let leaf = checkout(
         &three,
-        "written - - - p1\nfailed - - write p2\nwritten - - - p3\ndone 2 0 1 0\nstatus 1\np1: hi\np3: hi\n",
+        "written - - - p1\n\
+            failed - - write p2\n\
+            written - - - p3\n\
+            done 2 0 1 0\n\
+            status 1\n\
+            p1: hi\n\
+            p3: hi\n",
     );
     let cases = [
         Case {
@@ -196,12 +258,15 @@ fn a_sink_that_fails_cuts_the_output(rt: HostRuntime) -> Result<(), Fail> {
     let cases = [
         Case {
             sink_fails: Some(0),
-            wanted: "status 4\na: hi\n",
+            wanted: "status 4\n\
+                a: hi\n",
             ..usual
         },
         Case {
             sink_fails: Some(1),
-            wanted: "written - - - a\nstatus 4\na: hi\n",
+            wanted: "written - - - a\n\
+                status 4\n\
+                a: hi\n",
             ..usual
         },
         Case {
@@ -231,22 +296,26 @@ fn an_index_that_is_not_right_is_refused(rt: HostRuntime) -> Result<(), Fail> {
     let cases = [
         Case {
             index: false,
-            wanted: "refused index absent\nstatus 3\n",
+            wanted: "refused index absent\n\
+                status 3\n",
             ..usual
         },
         Case {
             more: b"link\0\0\0\0",
-            wanted: "refused index extension 6c696e6b\nstatus 3\n",
+            wanted: "refused index extension 6c696e6b\n\
+                status 3\n",
             ..usual
         },
         Case {
             more: b"TREE\0\0\0",
-            wanted: "refused index short\nstatus 3\n",
+            wanted: "refused index short\n\
+                status 3\n",
             ..usual
         },
         Case {
             hash: [1; 20],
-            wanted: "refused index hash\nstatus 3\n",
+            wanted: "refused index hash\n\
+                status 3\n",
             ..usual
         },
     ];
@@ -259,17 +328,28 @@ fn entries_that_are_not_right_are_refused(rt: HostRuntime) -> Result<(), Fail> {
     let cases = [
         (
             [plain(b"a/.GIT/x"), a],
-            "refused index path 0 dot-git\nstatus 3\n",
+            "refused index path 0 dot-git\n\
+                status 3\n",
         ),
-        ([a, a], "refused index order 1\nstatus 3\n"),
-        ([a, plain(b"a/b")], "refused index clash 1\nstatus 3\n"),
+        (
+            [a, a],
+            "refused index order 1\n\
+            status 3\n",
+        ),
+        (
+            [a, plain(b"a/b")],
+            "refused index clash 1\n\
+            status 3\n",
+        ),
         (
             [a, stage(2, PLAIN, HI, b"a")],
-            "refused index entry 1 mixed-stage\nstatus 3\n",
+            "refused index entry 1 mixed-stage\n\
+                status 3\n",
         ),
         (
             [a, stage(0, 0o100600, HI, b"b")],
-            "refused index mode 1\nstatus 3\n",
+            "refused index mode 1\n\
+                status 3\n",
         ),
     ];
     for (rows, wanted) in cases {
@@ -288,50 +368,77 @@ fn contents_are_converted(rt: HostRuntime) -> Result<(), Fail> {
         (
             b"*.txt text eol=crlf\n",
             text,
-            "written - - - a.txt\ndone 1 0 0 0\nstatus 0\na.txt: a\r\nb\r\n",
+            "written - - - a.txt\n\
+                done 1 0 0 0\n\
+                status 0\n\
+                a.txt: a\r\n\
+                b\r\n",
         ),
         // an automatic conversion leaves a content with CR alone
         (
             b"* text=auto eol=crlf\n",
             text,
-            "written - - - a.txt\ndone 1 0 0 0\nstatus 0\na.txt: a\nb\r\n",
+            "written - - - a.txt\n\
+                done 1 0 0 0\n\
+                status 0\n\
+                a.txt: a\n\
+                b\r\n",
         ),
         (
             b"a ident\n",
             named(b"a", IDENT),
-            "written - - - a\ndone 1 0 0 0\nstatus 0\na: \
-            $Id: 93146177b83ebd89eaa3cda0f7064a9e225086b3 $ $Id: a b $\n",
+            "written - - - a\n\
+                done 1 0 0 0\n\
+                status 0\n\
+                a: $Id: 93146177b83ebd89eaa3cda0f7064a9e225086b3 $ $Id: a b $\n",
         ),
         (
             b"\"a\\tb\" ident\n",
             named(b"a\tb", IDENT),
-            "written - - - \"a\\tb\"\ndone 1 0 0 0\nstatus 0\na\tb: \
-            $Id: 93146177b83ebd89eaa3cda0f7064a9e225086b3 $ $Id: a b $\n",
+            "written - - - \"a\\tb\"\n\
+                done 1 0 0 0\n\
+                status 0\n\
+                a\tb: $Id: 93146177b83ebd89eaa3cda0f7064a9e225086b3 $ $Id: a b $\n",
         ),
         (
             b"a working-tree-encoding=UTF-16\n",
             named(b"a", WIDE),
-            "written - - - a\ndone 1 0 0 0\nstatus 0\na: fffee9003dd800de",
+            "written - - - a\n\
+                done 1 0 0 0\n\
+                status 0\n\
+                a: fffee9003dd800de",
         ),
         (
             b"a working-tree-encoding=UTF-16\n",
             named(b"a", EMPTY),
-            "written - - - a\ndone 1 0 0 0\nstatus 0\na: ",
+            "written - - - a\n\
+                done 1 0 0 0\n\
+                status 0\n\
+                a: ",
         ),
         (
             b"b working-tree-encoding=UTF-16LE\n",
             named(b"b", ODD),
-            "written - unencoded - b\ndone 1 0 0 0\nstatus 0\nb: ff",
+            "written - unencoded - b\n\
+                done 1 0 0 0\n\
+                status 0\n\
+                b: ff",
         ),
         (
             b"b working-tree-encoding=KOI8-R\n",
             named(b"b", ODD),
-            "failed - - encoding b\ndone 0 0 1 0\nstatus 1\n",
+            "failed - - encoding b\n\
+                done 0 0 1 0\n\
+                status 1\n",
         ),
         (
             b"* text eol=crlf ident\n",
             stage(0, LINK, MIXED, b"ln.txt"),
-            "written l - - ln.txt\ndone 1 0 0 0\nstatus 0\nln.txt: a\nb\r\n",
+            "written l - - ln.txt\n\
+                done 1 0 0 0\n\
+                status 0\n\
+                ln.txt: a\n\
+                b\r\n",
         ),
     ];
     for (info, row, wanted) in cases {
@@ -354,13 +461,26 @@ fn attribute_files_of_the_index_are_read(rt: HostRuntime) -> Result<(), Fail> {
         named(b"d/a.txt", MIXED),
         named(b"d/e/a.txt", MIXED),
     ];
-    let wanted = "written - - - a.txt\nwritten - - - d/.gitattributes\nwritten - - - d/a.txt\n\
-        written - - - d/e/a.txt\ndone 4 0 0 0\nstatus 0\na.txt: a\nb\r\n\
-        d/.gitattributes: *.txt text eol=crlf\nd/a.txt: a\r\nb\r\nd/e/a.txt: a\r\nb\r\n";
+    let wanted = "written - - - a.txt\n\
+        written - - - d/.gitattributes\n\
+        written - - - d/a.txt\n\
+        written - - - d/e/a.txt\n\
+        done 4 0 0 0\n\
+        status 0\n\
+        a.txt: a\n\
+        b\r\n\
+        d/.gitattributes: *.txt text eol=crlf\n\
+        d/a.txt: a\r\n\
+        b\r\n\
+        d/e/a.txt: a\r\n\
+        b\r\n";
     check(&rt, alloc, &[checkout(&files, wanted)])?;
     // a link of that name is none
     let link = [stage(0, LINK, BIN, b".gitattributes")];
-    let wanted = "written l - - .gitattributes\ndone 1 0 0 0\nstatus 0\n.gitattributes: bin";
+    let wanted = "written l - - .gitattributes\n\
+        done 1 0 0 0\n\
+        status 0\n\
+        .gitattributes: bin";
     check(&rt, alloc, &[checkout(&link, wanted)])
 }
 
@@ -372,7 +492,8 @@ fn an_attribute_file_without_a_right_object_stops_it(rt: HostRuntime) -> Result<
     let cases = [
         Case {
             object: [9; 20],
-            wanted: "refused attributes .gitattributes object-absent\nstatus 3\n",
+            wanted: "refused attributes .gitattributes object-absent\n\
+                status 3\n",
             ..usual
         },
         Case {
@@ -382,17 +503,20 @@ fn an_attribute_file_without_a_right_object_stops_it(rt: HostRuntime) -> Result<
         },
         Case {
             stored: b"x\x01K\xca\xc9O",
-            wanted: "refused attributes .gitattributes object-header\nstatus 3\n",
+            wanted: "refused attributes .gitattributes object-header\n\
+                status 3\n",
             ..usual
         },
         Case {
             stored: b"blob 4\0hi\n",
-            wanted: "refused attributes .gitattributes object-size\nstatus 3\n",
+            wanted: "refused attributes .gitattributes object-size\n\
+                status 3\n",
             ..usual
         },
         Case {
             stored: b"blob 3\0ho\n",
-            wanted: "refused attributes .gitattributes object-name\nstatus 3\n",
+            wanted: "refused attributes .gitattributes object-name\n\
+                status 3\n",
             ..usual
         },
     ];
@@ -404,7 +528,8 @@ fn an_attribute_file_without_a_right_object_stops_it(rt: HostRuntime) -> Result<
         nuls: 1_048_577,
         ..checkout(
             &nuls,
-            "refused attributes .gitattributes too-large\nstatus 3\n",
+            "refused attributes .gitattributes too-large\n\
+                status 3\n",
         )
     };
     check(&rt, alloc, &[large])
@@ -460,18 +585,24 @@ fn a_required_driver_needs_its_process(rt: HostRuntime) -> Result<(), Fail> {
     let cases = [
         Case {
             config: Some(b"[filter \"f\"]\nrequired = true\n"),
-            wanted: "failed - - no-process a\ndone 0 0 1 0\nstatus 1\n",
+            wanted: "failed - - no-process a\n\
+                done 0 0 1 0\n\
+                status 1\n",
             ..usual
         },
         Case {
             config: Some(b"[filter \"f\"]\nrequired = false\n"),
-            wanted: "written - - - a\ndone 1 0 0 0\nstatus 0\na: hi\n",
+            wanted: "written - - - a\n\
+                done 1 0 0 0\n\
+                status 0\n\
+                a: hi\n",
             ..usual
         },
         // a driver in use isn't built yet
         Case {
             config: Some(b"[filter \"f\"]\nprocess = x\n"),
-            wanted: "refused unbuilt\nstatus 3\n",
+            wanted: "refused unbuilt\n\
+                status 3\n",
             ..usual
         },
     ];
@@ -500,7 +631,11 @@ fn seventeen_drivers_are_too_many(rt: HostRuntime) -> Result<(), Fail> {
                 h filter=h\ni filter=i\nj filter=j\nk filter=k\nl filter=l\nm filter=m\nn filter=n\n\
                 o filter=o\np filter=p\nq filter=q\n",
         ),
-        ..checkout(&rows, "refused drivers 17\nstatus 3\n")
+        ..checkout(
+            &rows,
+            "refused drivers 17\n\
+            status 3\n",
+        )
     };
     check(&rt, rt.alloc(), &[case])
 }
@@ -543,7 +678,9 @@ fn a_path_that_wanted_memory_is_reported_and_told(rt: HostRuntime) -> Result<(),
     let rows = [plain(b"a"), named(b"b", BIN)];
     let case = checkout(&rows, "");
     let words = words_of(alloc, &["checkout"])?;
-    let whole = "written - - - a\nno-memory - - - b\ndone 1 0 0 0\n";
+    let whole = "written - - - a\n\
+        no-memory - - - b\n\
+        done 1 0 0 0\n";
     let cases: [(Option<u32>, &str); 3] = [
         (None, whole),
         (Some(0), ""),
@@ -593,7 +730,12 @@ fn an_index_of_70_001_entries_is_checked_out(rt: HostRuntime) -> Result<(), Fail
     let words = words_of(alloc, &["checkout"])?;
     assert_eq!(rt; run(alloc, &words, &mut repo, &mut tree, &mut out), 0);
     let text = str::from_utf8(out.bytes())?;
-    assert!(rt; text.starts_with("skipped - - gitlink p10000\nskipped - - gitlink p10001\n"));
+    assert!(rt;
+        text.starts_with(
+            "skipped - - gitlink p10000\n\
+        skipped - - gitlink p10001\n"
+        )
+    );
     assert!(rt; text.ends_with("gitlink p79999\nwritten - - - z\ndone 1 0 0 70000\n"));
     assert_eq!(rt; text.lines().count(), 70_002);
     assert_eq!(rt; tree.files().len(), 1);
