@@ -108,7 +108,7 @@ abbrev pub IsSession : Bool → Bool → List ℕ → List Exchange → End → 
 IsSession true delay paths es end left = Asks delay paths [] es end left
 IsSession false delay paths es end left = (es ≡ []) × (end ≡ Shut) × (left ≡ [])
 
--- only after a break or want of memory is the driver started again, for the paths that weren't asked for
+-- only after a break or out of memory is the driver started again, for the paths that weren't asked for
 abbrev pub Then : End → (again over : Type 0) → Type 0
 Then Shut again over = over
 Then NothingLeft again over = over

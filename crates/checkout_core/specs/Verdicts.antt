@@ -77,7 +77,7 @@ unasked_fine required (Some c) (own.Fine u) = Some (refused_verdict required c u
 unasked_fine required (Some c) own.WriteFailed = Some (verdict.Failed fail.WriteFailed)
 unasked_fine required (Some c) _ = None
 
--- not asked for: what befell the path itself decides, or that its driver refused it
+-- not asked for: what happened to the path itself decides, or that its driver refused it
 abbrev pub unasked_close : Bool → DriverState → ℕ → Own → Option Verdict
 unasked_close required x p (own.Object k) = cond (is_first x p) None (Some (verdict.Failed (fail.Object k)))
 unasked_close required x p own.ReadFailed = cond (is_first x p) None (Some (verdict.Failed fail.ReadFailed))

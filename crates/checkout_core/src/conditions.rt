@@ -480,7 +480,7 @@ impl State {
         }
     }
 
-    /// What the event changes, or `None` where it is no step.
+    /// What the event changes, or `None` if it is no step.
     pub(crate) fn effect(&mut self, event: Event) -> Option<Effect>
         ensures same { self.new ≡ self.old }
         ensures effect { result ≡ effect_of self.old event }

@@ -15,7 +15,7 @@ pub enum OpenCause {
 pub enum Event {
     /// The actor takes a waiting path.
     Claim { path: u32, actor: u32 },
-    /// The actor ends a path, with what befell the path itself.
+    /// The actor ends a path, with what happened to the path itself.
     Close { path: u32, actor: u32, own: Own },
     /// The driver's session is open, and it announced these capabilities.
     Opened { driver: u32, caps: Caps },

@@ -70,7 +70,7 @@ fn next_unasked(paths: &[Path], driver: u32, from: u32) -> u32
 }
 
 impl State {
-    /// The verdict of this path, or `None` where it isn't closed or there is no such path.
+    /// The verdict of this path, or `None` if it isn't closed or there is no such path.
     pub fn verdict(&self, path: u32) -> Option<Verdict>
         ensures { result ≡ verdict_at self.now path }
     {

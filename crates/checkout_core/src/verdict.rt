@@ -84,7 +84,7 @@ pub enum Verdict {
     Skipped(SkipCause),
 }
 
-/// What befell a path itself, apart from its driver.
+/// What happened to a path itself, apart from its driver.
 #[derive(Clone, Copy, Debug, PartialEq, Eq)]
 pub enum Own {
     Fine { unencoded: bool },

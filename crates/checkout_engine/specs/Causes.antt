@@ -38,7 +38,7 @@ pub record IsFaulty (told : RepoTold) (fault : PlanFault) : Type 0 where
   pub sources : HasSources told entries settings info
   pub has : HasPlanFault told.object entries info settings fault
 
--- the same of the attribute file with that path, and its entry's number
+-- the same for the attribute file with that path, and its entry's number
 pub record IsFaultyFile (told : RepoTold) (path : List ℕ) (fault : ℕ → PlanFault) : Type 0 where
   pub number : ℕ
   pub faulty : IsFaulty told (fault number)
@@ -61,7 +61,7 @@ IsCause told (refusal.AttributeTooLarge path) =
 IsCause told (refusal.TooManyDrivers n) = IsFaulty told (fault.TooManyDrivers n)
 IsCause told refusal.Unbuilt = ⊥
 
--- the same of a checkout: a plan with a driver in use isn't carried out yet
+-- the same for a checkout: a plan with a driver in use isn't carried out yet
 abbrev pub IsCheckoutCause : RepoTold → Refusal → Type 0
 IsCheckoutCause told refusal.Unbuilt =
     (plan : Plan) × IsPlanned told plan × (list_any has_driver plan.paths ≡ true)

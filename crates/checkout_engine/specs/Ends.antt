@@ -115,7 +115,7 @@ pub record IsIdle (old new : Seen) : Type 0 where
   pub silent : new.sink ≡ old.sink
 
 -- The checkout is done, and a first part of its report was written. The sink failed only where a
--- path wanted memory, too.
+-- path ran out of memory, too.
 pub record IsReportCut (told : RepoTold) (old new : Seen) : Type 0 where
   pub checkout : IsCheckedOut told old new
   pub report : IsCut (report checkout.plan.paths (verdicts_of checkout.outcomes)) old.sink new.sink

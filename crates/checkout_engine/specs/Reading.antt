@@ -96,7 +96,7 @@ IsWithin es (fault.Attribute k kind) = k < length es
 IsWithin es (fault.AttributeTooLarge k) = k < length es
 IsWithin es f = Unit {0}
 
--- The stop of a fault of the plan. A path that is named wants memory.
+-- The stop of a fault of the plan. A path that is named runs out of memory.
 abbrev pub IsStopOf : List Entry → PlanFault → Stop → Type 0
 IsStopOf es (fault.AttributeRead k) s = s ≡ stop.ReadFault
 IsStopOf es (fault.Attribute k kind) s =

@@ -15,7 +15,7 @@ use Rattle.git_config.specs.declared.fault.ConfigFault.TheVariants as config
 use Rattle.checkout_engine.specs.declared.stop.Refusal.{Refusal}
 use Rattle.checkout_engine.specs.declared.stop.Refusal.TheVariants as refusal
 
--- what stands behind the word of an index's fault
+-- what follows the word of an index's fault
 abbrev pub index_detail : IndexFault → List ℕ
 index_detail (index.Version n) = 32 ∷ decimal n
 index_detail (index.Count n) = 32 ∷ decimal n

@@ -52,7 +52,7 @@ Shows told repo repo' sink sink' status.ReadFault =
     IsReadCause told repo repo' × (sink' ≡ sink) × IsRepoBack repo repo'
 Shows told repo repo' sink sink' s = ⊥
 
--- The same of `run`: the worktree stays as it is.
+-- The same for `run`: the worktree stays as it is.
 pub record EndsPlan (told : RepoTold) (old new : Seen) (s : Status) : Type 0 where
   pub shown : Shows told old.repo new.repo old.sink new.sink s
   pub tree : new.tree ≡ old.tree

@@ -36,7 +36,7 @@ abbrev pub TellsPart : Option (List ℕ) → List ℕ → Type 0
 TellsPart told bytes = (n : ℕ) × Tells told (take n bytes)
 
 -- the content was put and the leaf sealed, or a first part was put and the leaf failed, or nothing
--- has changed for want of memory
+-- has changed if out of memory
 abbrev pub PutsWhole : {T : Type 0} → Mark → List ℕ → LeafSeen → LeafSeen → Result T SendFault
     → Type 0
 PutsWhole mark content old new (Ok x) =

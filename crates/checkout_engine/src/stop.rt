@@ -25,7 +25,7 @@ pub enum Refusal {
     Attribute(Bytes, ObjectKind),
     /// An attribute file is too large: its path.
     AttributeTooLarge(Bytes),
-    /// So many drivers are in use.
+    /// This many drivers are in use.
     TooManyDrivers(u32),
     /// What isn't built yet: a rehearsal, or a driver in use.
     Unbuilt,

@@ -59,7 +59,7 @@ ReturnsObject name before after (Err object.ReadFailed) =
 ReturnsObject name before after (Err object.NoMemory) = (after ≡ before) ⊎ (after ≡ with_blob before name 0)
 ReturnsObject name before after answer = after ≡ with_blob before name 0
 
--- the same of the blob of an attribute file
+-- the same for the blob of an attribute file
 abbrev pub ReturnsFile : {T : Type 0} → List ℕ → List (List ℕ × ℕ) → List (List ℕ × ℕ)
     → Result T PlanFault → Type 0
 ReturnsFile name before after (Err (fault.AttributeRead k)) =
@@ -151,7 +151,7 @@ renumbered_start numbers s = s
 abbrev pub renumbered : List ℕ → PathPlan → PathPlan
 renumbered numbers p = record p { start = renumbered_start numbers p.start }
 
--- the driver of a path is one of so many
+-- the driver of a path is one of this many
 abbrev pub StartsWithin : ℕ → Start → Type 0
 StartsWithin count (start.Desk place required) = place < count
 StartsWithin count s = Unit {0}

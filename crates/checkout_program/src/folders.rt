@@ -41,7 +41,7 @@ fn make_folder(rt: HostRuntime, path: &str) -> io::Result<()> {
     }
 }
 
-/// Makes the folders of a path, from behind its first `top` bytes on.
+/// Makes the folders of a path, from after its first `top` bytes on.
 fn make_folders(rt: HostRuntime, path: &str, top: usize) -> io::Result<()> {
     for end in top.saturating_add(1)..path.len() {
         match path.split_at_checked(end) {

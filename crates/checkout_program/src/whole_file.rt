@@ -24,7 +24,7 @@ fn open_regular(rt: HostRuntime, path: &str) -> io::Result<(File, u64)> {
     Ok((File::open(&rt, path)?, found.len()))
 }
 
-/// The whole file at a path, or `None` where nothing is there. Whatever else keeps it from being read is a fault.
+/// The whole file at a path, or `None` if nothing is there. Whatever else keeps it from being read is a fault.
 /// A file that is longer than the limit isn't read.
 pub fn read_whole(
     rt: HostRuntime,

@@ -18,7 +18,7 @@ use Rattle.checkout_core.specs.declared.verdict.Verdict.{Verdict}
 use Rattle.checkout_core.specs.declared.verdict.Verdict.TheVariants as verdict
 use Rattle.checkout_report.specs.declared.report.ReportPath.{ReportPath}
 
--- what befell the path
+-- what happened to the path
 abbrev pub word_of : Verdict → List ℕ
 word_of (verdict.Written unencoded) = codes "written"
 word_of (verdict.Unfiltered cause unencoded) = codes "unfiltered"

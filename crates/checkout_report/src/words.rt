@@ -7,7 +7,7 @@ use checkout_core::{FailCause, FilterCause, ObjectKind, SkipCause, Verdict};
 use edge_kit::Mark;
 use filter_words::BreakCause;
 
-/// What befell the path.
+/// What happened to the path.
 pub fn word_of(verdict: Verdict) -> &'static str
     ensures { result.now ≡ word_of verdict }
 {

@@ -89,7 +89,7 @@ pub const ONE_ENTRY: [u8; 20] = [
 /// What a run meets, and what it leaves: its output, its status, and a line for each file.
 #[derive(Clone, Copy)]
 pub struct Case<'a> {
-    /// The words behind the two folders.
+    /// The words after the two folders.
     pub command: &'static [&'static str],
     /// Whether there is an index.
     pub index: bool,
@@ -97,7 +97,7 @@ pub struct Case<'a> {
     /// Extensions.
     pub more: &'static [u8],
     pub hash: [u8; 20],
-    /// The object that a case gives, by its name: its stored bytes, and how many NULs behind them.
+    /// The object that a case gives, by its name: its stored bytes, and how many NULs after them.
     pub object: [u8; 20],
     pub stored: &'static [u8],
     pub nuls: usize,

@@ -536,7 +536,7 @@ fn a_full_worktree_and_a_read_that_fails_stop_it(rt: HostRuntime) -> Result<(), 
     check(&rt, rt.alloc(), &cases)
 }
 
-/// The status and the text of a report of two paths, of which the second wanted memory.
+/// The status and the text of a report of two paths, of which the second ran out of memory.
 #[test]
 fn a_path_that_wanted_memory_is_reported_and_told(rt: HostRuntime) -> Result<(), Fail> {
     let alloc = rt.alloc();
@@ -563,7 +563,7 @@ fn a_path_that_wanted_memory_is_reported_and_told(rt: HostRuntime) -> Result<(),
     Ok(())
 }
 
-/// An index of 70,000 gitlinks and a file behind them.
+/// An index of 70,000 gitlinks and a file after them.
 fn many_entries(alloc: Global) -> Result<Vec<u8>, AllocError> {
     let mut index = Vec::from_slice(alloc, b"DIRC\0\0\0\x02")?;
     index.extend_from_slice(&70_001u32.to_be_bytes())?;

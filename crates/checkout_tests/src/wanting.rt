@@ -1,4 +1,4 @@
-//! A repository whose blobs of one name want memory.
+//! A repository whose blobs of one name run out of memory.
 ghost use Rattle.std.specs.Prelude.{◌≡◌};
 
 use edge_kit::{MemoryBlob, MemoryRepo, Repo, TakeFault};

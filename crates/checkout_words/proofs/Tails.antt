@@ -39,7 +39,7 @@ strip_byte-is c (x ∷ xs) rest e = go (x == c) refl
         cc
     go false t = let bad : None ≡ Some rest = rw t at e in cc
 
--- what stands behind a long name
+-- what follows a long name
 abbrev value_part : Option Text → Text
 value_part None = []
 value_part (Some v) = 61 ∷ v
@@ -100,7 +100,7 @@ short_no_decimal word flags most e = go (strip_byte 45 word) refl
 
 -- ---- one word of a walk
 
--- what is held, where no flag of a bundle is to be passed over
+-- what is held, where no flag of a bundle is to be skipped
 abbrev held : List Row → Option (Text × List Text) → Held
 held rows pending = record { rows = rows; pending = pending; skip = 0 }
 

@@ -1,4 +1,4 @@
--- The words behind the program's name, and the command that they give.
+-- The words after the program's name, and the command that they give.
 use Rattle.std.specs.Prelude.{Bool, false, ◌||◌}
 use Rattle.std.specs.Prelude.{ℕ, ◌-◌, ◌^◌, nat_le, List, [], ◌∷◌, take, drop, codes, Option, Some, None}
 use Rattle.std.specs.Prelude.{Result, Ok, Err, ◌≡◌, if◌then◌else◌}
@@ -69,7 +69,7 @@ names_command (repo ∷ []) = false
 names_command (repo ∷ tree ∷ []) = false
 names_command (repo ∷ tree ∷ name ∷ tail) = is_command_name name
 
--- what words are read to: their command, or Usage where they give none, or want of memory
+-- what words are read to: their command, or Usage where they give none, or out of memory
 abbrev pub Reads : Option Command → Result Command WordFault → Type 0
 Reads command (Ok c) = command ≡ Some c
 Reads command (Err Usage) = command ≡ None

@@ -1,4 +1,4 @@
-//! The words behind the program's name: `REPO TREE checkout [--workers N]`, `REPO TREE plan` or
+//! The words after the program's name: `REPO TREE checkout [--workers N]`, `REPO TREE plan` or
 //! `REPO TREE rehearse SEED PATHS`.
 #![tactic(auto)]
 
@@ -18,7 +18,7 @@ pub enum Command {
     Checkout { workers: Option<u32> },
     /// Show what a checkout would do.
     Plan,
-    /// Check out a made-up repository of so many paths, to 99,999.
+    /// Check out a made-up repository of this many paths, to 99,999.
     Rehearse { seed: u64, paths: u32 },
 }
 
@@ -54,7 +54,7 @@ fn read_named(alloc: Global, name: &str, tail: &[String]) -> Result<Command, Wor
     }
 }
 
-/// The command of the words behind the program's name, or Usage where they are outside the set, as with `--help`.
+/// The command of the words after the program's name, or Usage where they are outside the set, as with `--help`.
 ///
 /// The first two words may be any text. Words that name no command take no memory.
 pub fn read_words(alloc: Global, words: &[String]) -> Result<Command, WordFault>

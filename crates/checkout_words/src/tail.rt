@@ -1,4 +1,4 @@
-//! The tail of the words, behind a command's name, read with `clap`.
+//! The tail of the words, after a command's name, read with `clap`.
 ghost use Rattle.std.specs.Prelude.{◌≡◌, true, map, codes, string_bytes, IfOk};
 ghost use Rattle.std.specs.List.{list_any};
 ghost use Rattle.std.specs.Str.{bytes_eq};
@@ -80,7 +80,7 @@ fn matches_in<'a>(
     }
 }
 
-/// A checkout with so many workers: a decimal from 1 to 16.
+/// A checkout with this many workers: a decimal from 1 to 16.
 fn with_workers(text: &[u8]) -> Option<Command>
     ensures { result ≡ workers_command text.now }
 {

@@ -70,7 +70,7 @@ fn lines(alloc: Global, mean: u8, end: &[u8]) -> Result<Vec<u8>, AllocError>
     Ok(text)
 }
 
-/// The same bytes with a keyword behind each 4 KB.
+/// The same bytes with a keyword after each 4 KB.
 fn with_keywords(alloc: Global, bytes: &[u8]) -> Result<Vec<u8>, AllocError> {
     let mut text = Vec::with_capacity(alloc, SIZE)?;
     for chunk in bytes.chunks(4096) {

@@ -131,7 +131,7 @@ fn one_run_with_a_delayed_path(rt: HostRuntime) -> Result<(), Fail> {
     Ok(())
 }
 
-// Cases in the state of `fresh`, one behind the other. A word is an event of four letters, of which `.` says nothing:
+// Cases in the state of `fresh`, one after the other. A word is an event of four letters, of which `.` says nothing:
 // its kind, its path or driver, and what `event_of` reads of the rest. A word with `=` is a path and its verdict.
 // Behind a word stands a space, `!` where it is refused, or `;`: with these two a case ends.
 

@@ -57,7 +57,7 @@ fn any_cut_gives_the_same_packets(rt: HostRuntime) -> Result<(), Fail> {
     Ok(())
 }
 
-/// The front of the bytes where they begin with these and then have so many `x`.
+/// The front of the bytes where they begin with these and then have this many `x`.
 #[test]
 fn edges_of_lengths(rt: HostRuntime) -> Result<(), Fail> {
     let mut longest = Vec::new(rt.alloc());

@@ -35,7 +35,7 @@ abbrev pub IsComplete : {P G : Type 0} → (P → Packet → AnswerState P G) �
     → Type 0
 IsComplete {P} {G} step start old new end = (g : G) → BeginsGood step start old g → Gives g old new end
 
--- the same of a list, by its reply
+-- the same for a list, by its reply
 abbrev pub GivesList : GoodList → Wire → Wire → ListReply → Type 0
 GivesList g old new (reply.Names count) = reply.Names count ≡ reply_of_good g
 GivesList g old new reply.Empty = reply.Empty ≡ reply_of_good g
@@ -43,7 +43,7 @@ GivesList g old new reply.Abort = reply.Abort ≡ reply_of_good g
 GivesList g old new (reply.Broken why) = (why ≡ cause.LinkFault) × Rose old.faults new.faults
 GivesList g old new reply.NoMemory = Unit {0}
 
--- neither a fault of the link nor want of memory
+-- neither a fault of the link nor out of memory
 abbrev pub IsSettled : {G : Type 0} → Ends G → Type 0
 IsSettled (Good g) = Unit {0}
 IsSettled (Broke cause.LinkFault) = ⊥

@@ -47,7 +47,7 @@ pub record IsHeard {P G : Type 0} (step : P → Packet → AnswerState P G) (sta
   pub stops : Stops (outcome step limit start packets) old new end
   pub done : extra packets
 
--- An answer that is being read, with room for so many bytes.
+-- An answer that is being read, with room for this many bytes.
 pub record IsReading {P G : Type 0} (step : P → Packet → AnswerState P G) (start : AnswerState P G) (old new : Wire)
     (room : ℕ) (phase : P) (extra : List Packet → Type 0) : Type 0 where
   pub packets : List Packet

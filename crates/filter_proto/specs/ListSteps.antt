@@ -19,7 +19,7 @@ use Rattle.filter_proto.specs.declared.listing.Listing.{Listing}
 use Rattle.filter_proto.specs.declared.listing.ListStep.{ListStep}
 use Rattle.filter_proto.specs.declared.listing.ListStep.TheVariants as step
 
--- the lines so far name these, and while names are read nothing stands behind the lines
+-- the lines so far name these, and while names are read nothing stands after the lines
 pub record IsNamed (p : ListPart) (names : List (List ℕ)) (packets : List Packet) : Type 0 where
   pub lines : List (List ℕ)
   pub rest : List Packet
@@ -65,7 +65,7 @@ TakesName line count told false more now = (now ≡ told)
     × ((before : Table) (names : List (List ℕ)) → HasNames before told names count
     → list_step (delayed_in before) (Names names) (Payload line) ≡ Broken cause.StrangePath)
 
--- a packet goes on: the room, the part and the names behind it
+-- a packet goes on: the room, the part and the names after it
 pub record GoesOn (before : Table) (names : List (List ℕ)) (old : Listing) (x : Packet)
     (new : Listing) (now : Table) : Type 0 where
   pub more : List (List ℕ)

@@ -26,7 +26,7 @@ delayed_of (name ∷ names) (place.Done ∷ places) = delayed_of names places
 abbrev pub delayed_in : Table → List (List ℕ)
 delayed_in t = delayed_of t.names t.places
 
--- the place is listed, behind those that were listed before
+-- the place is listed, after those that were listed before
 abbrev pub listed_at : ℕ → Table → Table
 listed_at p t = record (with_place p place.Listed t) { turns = t.turns ++ p ∷ [] }
 

@@ -51,7 +51,7 @@ fn put_line<L: Leaf>(phase: ReplyPhase, put: &mut Result<(), SendFault>, leaf: &
     }
 }
 
-/// A payload. It is false where there is no room for it.
+/// A payload. It is false if there is no room for it.
 fn take_line<L: Leaf>(reading: &mut Reading, leaf: &mut L, piece: &[u8]) -> bool
     requires long { length piece.now ≤ 65516 }
     requires usable { reading.old.put ≡ Ok tt → IsOpenLeaf (L.seen leaf.old).state }

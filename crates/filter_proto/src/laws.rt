@@ -16,7 +16,7 @@ use pkt_line::fault_stays;
 
 /// Two answers to one request that were taken from one output, in whatever pieces and however much of it, are the same,
 /// and where they are good their bytes are the same. An end of input counts only where the whole output was taken, and
-/// neither answer ended for a fault of the link or for want of memory. Of a list the same paths are delayed.
+/// neither answer ended for a fault of the link or if out of memory. Of a list the same paths are delayed.
 pub fn same_heard()
     ensures reply { (d : Bool) → IsHeardOnce ReplyPhase GoodReply (reply_step d) reply_start }
     ensures list { (delayed : List (List ℕ)) → IsHeardOnce ListPhase GoodList (list_step delayed) list_start }

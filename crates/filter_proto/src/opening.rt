@@ -47,7 +47,7 @@ pub(crate) enum HandStep {
     End(Result<Caps, BreakCause>),
 }
 
-/// A packet of so many bytes, which leads to this state. There may be no room for it.
+/// A packet of this many bytes, which leads to this state. There may be no room for it.
 #[tactic(auto, using(crate::proofs::Hands::hand_late))]
 fn take_state(
     state: AnswerState<HandshakePhase, Caps>,

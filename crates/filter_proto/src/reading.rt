@@ -13,7 +13,7 @@ pub(crate) struct Reading {
 #[derive(Drop)]
 pub struct Asked {
     pub reply: Reply,
-    /// An error only where a put failed or wanted memory. What came behind that was read and dropped.
+    /// An error only where a put failed or ran out of memory. What came after that was read and dropped.
     pub put: Result<(), SendFault>,
 }
 

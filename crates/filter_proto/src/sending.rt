@@ -14,7 +14,7 @@ use std::alloc::{AllocError, Global};
 const MOST_PAYLOAD: usize = 65_516;
 
 /// Sends the request to smudge a content for a path of 1 to 4,096 bytes. `text` holds one packet at a time, with the
-/// key list before the first and the flush behind the last.
+/// key list before the first and the flush after the last.
 #[tactic(auto, using(crate::proofs::Sent::sent_none, crate::proofs::Sent::sent_as))]
 pub(crate) fn send_smudge<K: Link>(
     alloc: Global,
@@ -53,7 +53,7 @@ pub(crate) fn send_list<K: Link>(
     }
 }
 
-/// Sends the text that is held, and behind it a content as packets, and flush.
+/// Sends the text that is held, and after it a content as packets, and flush.
 fn send_behind<K: Link>(
     alloc: Global,
     link: &mut K,
@@ -75,7 +75,7 @@ fn send_behind<K: Link>(
     send_last(alloc, link, text, rest)
 }
 
-/// Sends the text that is held and one packet behind it, and then holds nothing.
+/// Sends the text that is held and one packet after it, and then holds nothing.
 #[tactic(auto, using(crate::proofs::Sent::sent_none, crate::proofs::Sent::sent_as))]
 fn send_piece<K: Link>(
     alloc: Global,
@@ -95,7 +95,7 @@ fn send_piece<K: Link>(
     }
 }
 
-/// Sends the text that is held, and behind it the last packet of a content, if it isn't empty, and flush.
+/// Sends the text that is held, and after it the last packet of a content, if it isn't empty, and flush.
 #[tactic(auto, using(crate::proofs::Sent::sent_none, crate::proofs::Sent::sent_as))]
 fn send_last<K: Link>(
     alloc: Global,

@@ -58,7 +58,7 @@ impl<K: Link> Session<K> {
         self.caps
     }
 
-    /// Whether it can be asked: false after an abort, a break or want of memory.
+    /// Whether it can be asked: false after an abort, a break or out of memory.
     pub fn live(&self) -> bool
         ensures { IsTrue result ↔ (self.now.standing ≡ Standing.Live) }
     {
@@ -120,7 +120,7 @@ impl<K: Link> Session<K> {
         self.reader.peek()
     }
 
-    /// Drops the packet at the front, which takes so many bytes.
+    /// Drops the packet at the front, which takes this many bytes.
     pub(crate) fn skip(&mut self, size: usize)
         requires { HasPacketOf size self.old.wire.unread }
         ensures { self.new ≡ record self.old {
@@ -222,7 +222,7 @@ impl<K: Link> Session<K> {
     }
 }
 
-/// Reads at most so many bytes into a piece.
+/// Reads at most this many bytes into a piece.
 fn read_some<K: Link>(link: &mut K, piece: &mut [u8], most: usize) -> Result<usize, Failed>
     requires some { 0 < most }
     requires within { most ≤ length piece.old }

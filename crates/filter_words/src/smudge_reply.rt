@@ -25,7 +25,7 @@ pub enum GoodReply {
 pub enum ReplyPhase {
     KeyList(Option<Status>),
     Content,
-    /// The key list behind the content.
+    /// The key list after the content.
     LastKeyList(Option<Status>),
 }
 

@@ -16,7 +16,7 @@ fn push_pair(list: &mut Vec<u8>, pair: &Pair) -> Result<(), AllocError> {
     }
 }
 
-/// Appends a row: its pattern or, behind `macro `, its name, and then its pairs.
+/// Appends a row: its pattern or, after `macro `, its name, and then its pairs.
 fn push_row(list: &mut Vec<u8>, row: &AttrRow) -> Result<(), AllocError> {
     let pairs = match row {
         AttrRow::Rule { pattern, pairs } => {

@@ -4,7 +4,7 @@ use git_index::{EntryKind, IndexFault, Mode, read_index, spell_index};
 use std::alloc::Global;
 use std::test::Fail;
 
-/// The header of so many entries.
+/// The header of this many entries.
 const NONE: &[u8] = b"DIRC\0\0\0\x02\0\0\0\0";
 
 const ONE: &[u8] = b"DIRC\0\0\0\x02\0\0\0\x01";
@@ -19,14 +19,14 @@ const FOUR: &[u8] = b"DIRC\0\0\0\x02\0\0\0\x04";
 const FILE: &[u8] =
     b"\0\0\0\0\0\0\0\0\0\0\0\0\0\0\0\0\0\0\0\0\0\0\0\0\0\0\x81\xa4\0\0\0\0\0\0\0\0\0\0\0\0nnnnnnnnnnnnnnnnnnnn";
 
-/// The same of mode 040000, which an index does not have.
+/// The same for mode 040000, which an index does not have.
 const TREE: &[u8] =
     b"\0\0\0\0\0\0\0\0\0\0\0\0\0\0\0\0\0\0\0\0\0\0\0\0\0\0\x40\0\0\0\0\0\0\0\0\0\0\0\0\0nnnnnnnnnnnnnnnnnnnn";
 
 /// The flags, the path and the padding of an entry `a`.
 const A: &[u8] = b"\0\x01a\0";
 
-/// The same of an entry `a/b`.
+/// The same for an entry `a/b`.
 const A_B: &[u8] = b"\0\x03a/b\0\0\0\0\0\0\0";
 
 /// The place of a hash that was not computed.
@@ -239,7 +239,7 @@ const INDEXES: &[(&str, &[&[u8]], Option<IndexFault>)] = &[
         ],
         Some(IndexFault::FolderClash(2)),
     ),
-    // What is behind the entries is refused at its first fault.
+    // What follows the entries is refused at its first fault.
     (
         "a cut extension",
         &[NONE, b"link\0\0\0", NO_HASH],

@@ -109,7 +109,7 @@ const CONTENTS: &[(&[&[u8]], LineEnds, &[&[u8]])] = &[
         LineEnds::AutoCrlf,
         &[&[b'a'; 127], b"\x01\nb\x7F"],
     ),
-    // Lines about as long as the blocks that are copied, with more and with less than a block behind them.
+    // Lines about as long as the blocks that are copied, with more and with less than a block after them.
     (
         &[&[b'a'; 0], b"\n", &[b'b'; 0]],
         ToCrlf,

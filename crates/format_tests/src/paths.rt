@@ -158,7 +158,7 @@ impl ByteKind for Blank {
     }
 }
 
-/// Texts, and what stands in front of their first blank and behind.
+/// Texts, and what stands in front of their first blank and after.
 const CUT: &[(&[u8], usize, &[u8])] = &[
     (b"ab cd ef", 2, b" cd ef"),
     (b"a\t b", 1, b"\t b"),

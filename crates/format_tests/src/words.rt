@@ -2,7 +2,7 @@ use checkout_words::{Command, WordFault, read_words};
 use std::alloc::{AllocError, Global};
 use std::test::Fail;
 
-/// What these words give, or `None` where they are Usage.
+/// What these words give, or `None` if they are Usage.
 fn read(alloc: Global, words: &[&str]) -> Result<Option<Command>, AllocError> {
     let mut texts = Vec::new(alloc);
     for word in words {

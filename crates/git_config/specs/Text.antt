@@ -40,7 +40,7 @@ ends_key b = not (is_key_byte b)
 abbrev pub ends_name : ℕ → Bool
 ends_name b = not (is_name_byte b)
 
--- what stands behind the blanks at the front
+-- what follows the blanks at the front
 unfoldable pub behind_blanks : List ℕ → List ℕ
 behind_blanks text = drop (position_or_len ends_blanks text) text
 

@@ -1,6 +1,6 @@
 //! Prints what `git check-attr` prints, for the attribute files and the paths on standard input.
 //!
-//! Each line of the input is one of these, and any other is passed over:
+//! Each line of the input is one of these, and any other is skipped:
 //!
 //! - `info`, `top` or `in FOLDER` begins `info/attributes` or the attribute file of a folder, in any order;
 //! - a TAB and a line of the file that was begun last;

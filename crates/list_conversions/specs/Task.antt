@@ -23,7 +23,7 @@ ends_named kind =
     else if bytes_eq kind (codes "auto-crlf") then Some AutoCrlf
     else None
 
--- a kind by its word and what stands behind the content: `ident` has a name in hex there, and any other word is the name of an
+-- a kind by its word and what follows the content: `ident` has a name in hex there, and any other word is the name of an
 -- encoding
 abbrev pub IsKind : List ℕ → List ℕ → Kind → Type 0
 IsKind word behind (Ends ends) = ends_named word ≡ Some ends

@@ -62,7 +62,7 @@ fn encoding_named(alloc: Global, name: &[u8]) -> Result<Encoding, anyhow::Error>
     }
 }
 
-/// The kind of that name, with what stands behind the content.
+/// The kind of that name, with what follows the content.
 fn read_kind(alloc: Global, kind: &[u8], behind: &[u8]) -> Result<Kind, anyhow::Error>
     ensures { IfOk result (IsKind kind.now behind.now) }
 {
@@ -97,7 +97,7 @@ impl ByteKind for Space {
     }
 }
 
-/// What stands before the first space, and what behind it.
+/// What comes before the first space, and what after it.
 fn cut_word(line: &[u8]) -> (&[u8], &[u8])
     ensures before { result.0.now ≡ before_first is_space line.now }
     ensures behind { result.1.now ≡ after_first is_space line.now }

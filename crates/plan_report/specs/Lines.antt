@@ -61,7 +61,7 @@ abbrev pub conversion_words : Conversion → List ℕ
 conversion_words c = ends_word c.ends ++ 32 ∷ ident_word c.ident ++ 32 ∷ encoding_word c.encoding
 
 -- the columns before the driver: state, mark, the three of the conversion, and need, with a blank
--- behind each
+-- after each
 abbrev pub front_of : PathPlan → List ℕ
 front_of p =
     state_word p.start ++ (32 ∷ (mark_word p.mark

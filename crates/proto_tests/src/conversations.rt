@@ -28,7 +28,7 @@ const TAKEN: &[u8] = b"0016git-filter-server\n000eversion=2\n0000\
 0013status=success\n0000000bpixels\n00000000\
 00000013status=success\n0000";
 
-/// The conversation, with reads of at most so many bytes.
+/// The conversation, with reads of at most this many bytes.
 fn converse(rt: &impl Abort, alloc: Global, piece: usize) -> Result<(), Fail> {
     let pipe = Pipe::of(alloc, TAKEN, piece)?;
     let counter = pipe.counter()?;

@@ -36,7 +36,7 @@ impl Page {
         }
     }
 
-    /// The put that follows so many fails.
+    /// The put that follows this many fails.
     pub fn fails(mut self, at: u32) -> Page
         ensures { result.state ≡ self.state }
     {

@@ -52,7 +52,7 @@ impl Driver {
         count
     }
 
-    /// So many bytes of an answer were given, or the whole of it.
+    /// This many bytes of an answer were given, or the whole of it.
     fn advance(&mut self, count: usize, whole: bool)
         ensures { seen_of self.new.ends self.new.shutting ≡ seen_of self.old.ends self.old.shutting }
     {
@@ -95,7 +95,7 @@ impl Link for Driver {
     }
 }
 
-/// Copies what stands behind a place, as much as there is room for: how many bytes, and whether that was all.
+/// Copies what follows a place, as much as there is room for: how many bytes, and whether that was all.
 fn copy_rest(into: &mut [u8], answer: &[u8], at: usize) -> (usize, bool)
     ensures { result.0 ≤ length into.old }
 {

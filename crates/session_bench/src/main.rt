@@ -1,7 +1,7 @@
 //! Holds sessions with a filter driver in memory.
 //!
 //! Without words it tells what three replies and a thousand small exchanges gave, the same at each run. With the words
-//! BYTES COUNT it holds one session of so many exchanges, each with a reply of so many bytes, and tells its time and that
+//! BYTES COUNT it holds one session of this many exchanges, each with a reply of this many bytes, and tells its time and that
 //! of a copy of the same bytes.
 #![tactic(auto)]
 
@@ -30,7 +30,7 @@ fn numbers<R: Env + AllocGlobal>(rt: &R) -> Result<Vec<u32>> {
     Ok(all)
 }
 
-/// How many of so many exchanges gave a content, and how many bytes these had in all.
+/// How many of this many exchanges gave a content, and how many bytes these had in all.
 fn converse(
     alloc: Global,
     driver: Driver,
@@ -66,7 +66,7 @@ fn exchange(session: &mut Session<Driver>, content: &[u8], page: &mut Page) -> b
     matches!(session.ask(b"path", content, page).reply, Reply::Content)
 }
 
-/// Copies so many contents, one after another, and tells how many bytes they had.
+/// Copies this many contents, one after another, and tells how many bytes they had.
 fn copy(alloc: Global, content: &[u8], count: u32) -> Result<u64, AllocError> {
     let mut bytes = 0;
     for _ in 0..count {
@@ -76,7 +76,7 @@ fn copy(alloc: Global, content: &[u8], count: u32) -> Result<u64, AllocError> {
     Ok(bytes)
 }
 
-/// What so many exchanges gave, as a line, and their times where they are asked for.
+/// What this many exchanges gave, as a line, and their times where they are asked for.
 fn tell<R: Clock + Print + AllocGlobal>(rt: &R, size: u32, count: u32, timed: bool) -> Result<()> {
     let alloc = rt.alloc();
     let mut content = Vec::new(alloc);

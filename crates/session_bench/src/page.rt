@@ -13,7 +13,7 @@ pub struct Page {
 }
 
 impl Page {
-    /// A fresh page with room for so many bytes.
+    /// A fresh page with room for this many bytes.
     pub fn with_room(alloc: Global, bytes: usize) -> Result<Page, AllocError> {
         Ok(Page {
             content: Vec::with_capacity(alloc, bytes)?,

@@ -12,7 +12,7 @@ use byte_path::Bytes;
 use simdutf8::compat::from_utf8;
 use std::alloc::{AllocError, Global};
 
-/// The characters of a text in a form, behind a mark.
+/// The characters of a text in a form, after a mark.
 fn text_in<F: Form>(alloc: Global, mark: &[u8], text: &str) -> Result<Vec<u8>, AllocError>
     ensures { IfOk result (λ out. out.items ≡ mark.now ++ flat_map F.bytes_of (chars text.now)) }
 {

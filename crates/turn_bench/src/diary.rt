@@ -46,7 +46,7 @@ fn write<H: Wait>(
     seat
 }
 
-/// A diary that so many seats wrote, each in a thread of its own.
+/// A diary that this many seats wrote, each in a thread of its own.
 pub fn written<H: Threads + Wait + Sync>(
     rt: &H,
     alloc: Global,

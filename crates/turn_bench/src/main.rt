@@ -26,7 +26,7 @@ fn numbers<R: Env + AllocGlobal>(rt: &R) -> Result<Vec<u32>> {
     Ok(all)
 }
 
-/// What the diary of so many seats holds, as a line, and its time where it is asked for.
+/// What the diary of this many seats holds, as a line, and its time where it is asked for.
 fn tell<R: Clock + Print + Threads + Wait + Sync + AllocGlobal>(
     rt: &R,
     seats: u32,

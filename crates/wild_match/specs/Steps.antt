@@ -78,7 +78,7 @@ abbrev pub from_slash : List ℕ → List ℕ
 from_slash [] = []
 from_slash (b ∷ text) = if is_slash b then b ∷ text else from_slash text
 
--- both parts end in a `/`, and fit where what is behind them does
+-- both parts end in a `/`, and fit where what follows them does
 pub record BehindPart (first : List Piece) (pattern text later rest : List ℕ) : Type 0 where
   pub same : fits first text ≡ fits (pieces true later) rest
   pub stop : from_stop first ≡ Slash ∷ pieces true later

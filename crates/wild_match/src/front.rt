@@ -5,7 +5,7 @@ ghost use Rattle.wild_match.specs.Steps.{one_of, slash_of};
 
 use crate::sets::is_in_members;
 
-/// How many bytes the set behind `[` takes, with the `[`, where a byte passes it.
+/// How many bytes the set after `[` takes, with the `[`, where a byte passes it.
 #[tactic(auto, unfolding(crate::specs::Pieces::set_front))]
 fn set_length(text: &[u8], byte: u8) -> Option<usize>
     ensures value { result ≡ one_of byte (set_front text.now) }

@@ -49,7 +49,7 @@ fn slash_at(text: &[u8]) -> Option<usize>
     text.iter().position(|b| *b == b'/')
 }
 
-/// Where what follows `**/` is tried next, which is behind the next `/`.
+/// Where what follows `**/` is tried next, which is after the next `/`.
 fn next_folder<'a>(back: Option<Place<'a>>) -> Option<Place<'a>>
     ensures { seen_back result ≡ next_folder (seen_back back.entry) }
 {
@@ -109,7 +109,7 @@ fn without_slash(pattern: &[u8]) -> &[u8]
     }
 }
 
-/// What stands behind the last `/` of a path.
+/// What follows the last `/` of a path.
 fn last_part(path: &[u8]) -> &[u8]
     ensures { result.now ≡ last_part path.now }
 {
