@@ -84,7 +84,7 @@ pub enum Verdict {
     Skipped(SkipCause),
 }
 
-/// What happened to a path itself, apart from its driver.
+/// The own outcome of a path: what happened to it, whatever its driver says.
 #[derive(Clone, Copy, Debug, PartialEq, Eq)]
 pub enum Own {
     Fine { unencoded: bool },

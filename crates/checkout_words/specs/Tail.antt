@@ -52,12 +52,12 @@ unless_refused (kind ∷ more) rows = None
 abbrev pub rows_in : App → List Text → Option (List Row)
 rows_in app words = unless_refused (fault_of app words) (matches_of app words)
 
--- want of memory, or a refusal
+-- out of memory, or a refusal
 abbrev pub fault_of_kind : ErrorKind → WordFault
 fault_of_kind OutOfMemory = NoMemory
 fault_of_kind _ = Usage
 
--- what a parse gives: those arguments, or Usage where it refuses the words, or out of memory
+-- what a parse gives: those arguments, or Usage if it refuses the words, or out of memory
 abbrev pub Finds : Option (List Row) → Result ArgMatches WordFault → Type 0
 Finds rows (Ok matches) = rows ≡ Some (rows_of (found_of matches))
 Finds rows (Err Usage) = rows ≡ None

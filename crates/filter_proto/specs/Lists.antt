@@ -35,14 +35,14 @@ abbrev pub Lists : List (List ℕ) → Table → Table → Type 0
 Lists [] old new = new ≡ old
 Lists (name ∷ names) old new = (p : ℕ) × IsDelayed name old p × Lists names (listed_at p old) new
 
--- what the lines of a first part of the packets name was listed
+-- the names in the lines of a first part of the packets were listed
 pub record HasListed (old new : Table) (packets : List Packet) : Type 0 where
   pub lines : List (List ℕ)
   pub rest : List Packet
   pub whole : packets ≡ map Payload lines ++ rest
   pub listed : Lists (names_of lines) old new
 
--- the names of a good list were listed, and of any other answer those of a first part
+-- the names of a good list were listed, and for any other answer those of a first part
 abbrev pub EndLists : Table → Table → Ends GoodList → List Packet → Type 0
 EndLists old new (Good (Listed names)) packets = Lists names old new
 EndLists old new (Good Aborted) packets = HasListed old new packets

@@ -66,7 +66,7 @@ fn a_delayed_path_is_listed_and_delivered_in_any_pieces(rt: HostRuntime) -> Resu
     Ok(())
 }
 
-/// A reply of three packets of content streams: each is put before the next is read.
+/// A reply streams three packets of content: each is put before the next is read.
 #[test]
 fn a_reply_streams(rt: HostRuntime) -> Result<(), Fail> {
     let alloc = rt.alloc();

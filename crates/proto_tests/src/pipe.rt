@@ -24,7 +24,7 @@ pub struct Part {
     pub times: u32,
 }
 
-/// A link that reads give parts of, one at a time and at most `piece` bytes.
+/// A link from which reads take parts, one at a time and at most `piece` bytes.
 #[derive(Drop)]
 pub struct Pipe {
     parts: Vec<Part>,
@@ -35,7 +35,7 @@ pub struct Pipe {
     fails_send: bool,
     fails_read: bool,
     keeps: bool,
-    /// What was sent, where it keeps that.
+    /// What was sent, if it keeps that.
     pub sent: Vec<u8>,
     /// How many puts there were at each read so far.
     pub puts: Vec<u32>,
