@@ -1,4 +1,4 @@
--- Why a repository is refused, and what a read that fails leaves.
+-- Why a repository is refused, and what a failed read leaves.
 use Rattle.std.specs.Prelude.{◌≡◌, ◌⊎◌, ◌<◌, ◌++◌, ℕ, true, List, slice_get, Some}
 use Rattle.std.specs.List.{list_any}
 use Rattle.edge_kit.specs.Faults.{Rose}
@@ -24,7 +24,7 @@ IsIndexRead told = (entries : List Entry) × HasIndex told.index entries
 abbrev pub IsConfigRead : RepoTold → Type 0
 IsConfigRead told = (settings : Settings) × HasSettings told.config settings
 
--- the first of the three files that may fail, where those before it were read
+-- the first of the three files that may fail, after those before it were read
 abbrev pub IsSourceUnread : RepoTold → Type 0
 IsSourceUnread told =
     MayFail told.index ⊎ (IsIndexRead told × MayFail told.config)

@@ -50,7 +50,7 @@ fn words_of(alloc: Global, all: io::Result<Args>) -> Result<Vec<String>, AllocEr
     }
 }
 
-/// The word with that number, or the empty text for one that is missing.
+/// The word with this number, or the empty text if it is missing.
 fn word_at(rt: HostRuntime, words: &[String], number: usize) -> Result<String, AllocError>
     ensures { IfOk result (λ word. string_bytes word ≡ word_at words.now number) }
 {

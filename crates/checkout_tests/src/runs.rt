@@ -142,7 +142,7 @@ fn an_object_that_is_not_right_fails_its_path_alone(rt: HostRuntime) -> Result<(
             wanted: "failed - - object-size a\nwritten l - - b\ndone 1 0 1 0\nstatus 1\nb: bin",
             ..usual
         },
-        // what zlib makes of an object
+        // an object as zlib compresses it
         Case {
             stored: b"x\x01K\xca\xc9O",
             wanted: "failed - - object-header a\nwritten l - - b\ndone 1 0 1 0\nstatus 1\nb: bin",
@@ -278,7 +278,7 @@ fn entries_that_are_not_right_are_refused(rt: HostRuntime) -> Result<(), Fail> {
     Ok(())
 }
 
-/// The information of a path's attributes, its entry, and what is wanted.
+/// What `info/attributes` holds, an entry, and the output that is wanted.
 type Converted = (&'static [u8], Row, &'static str);
 
 #[test]
@@ -358,7 +358,7 @@ fn attribute_files_of_the_index_are_read(rt: HostRuntime) -> Result<(), Fail> {
         written - - - d/e/a.txt\ndone 4 0 0 0\nstatus 0\na.txt: a\nb\r\n\
         d/.gitattributes: *.txt text eol=crlf\nd/a.txt: a\r\nb\r\nd/e/a.txt: a\r\nb\r\n";
     check(&rt, alloc, &[checkout(&files, wanted)])?;
-    // a link of that name is none
+    // a link with that name is not an attribute file
     let link = [stage(0, LINK, BIN, b".gitattributes")];
     let wanted = "written l - - .gitattributes\ndone 1 0 0 0\nstatus 0\n.gitattributes: bin";
     check(&rt, alloc, &[checkout(&link, wanted)])
@@ -410,7 +410,7 @@ fn an_attribute_file_without_a_right_object_stops_it(rt: HostRuntime) -> Result<
     check(&rt, alloc, &[large])
 }
 
-/// A configuration, the information of attributes, an entry, and what is wanted of its plan.
+/// A configuration, what `info/attributes` holds, an entry, and the plan that is wanted.
 type Planned = (&'static [u8], &'static [u8], Row, &'static str);
 
 #[test]
@@ -536,7 +536,7 @@ fn a_full_worktree_and_a_read_that_fails_stop_it(rt: HostRuntime) -> Result<(), 
     check(&rt, rt.alloc(), &cases)
 }
 
-/// The status and the text of a report of two paths, of which the second ran out of memory.
+/// The status and the text of a report of two paths, if the second runs out of memory.
 #[test]
 fn a_path_that_wanted_memory_is_reported_and_told(rt: HostRuntime) -> Result<(), Fail> {
     let alloc = rt.alloc();

@@ -61,7 +61,7 @@ pub record IsListExchange (old new : Wire) (before after : Table) (r : ListReply
   pub exchange : IsExchange (list_step (delayed_in before)) list_start list_text old new end (EndLists before after end)
   pub reply : r ≡ list_reply_of end
 
--- a session after a list
+-- the standing of a session after a list
 abbrev pub standing_after_list : ListReply → Standing
 standing_after_list (reply.Names count) = standing.Live
 standing_after_list reply.Empty = standing.Live
