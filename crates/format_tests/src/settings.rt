@@ -93,7 +93,7 @@ fn threshold_read(alloc: Global, text: &[u8]) -> Result<u64, SettingFault> {
 }
 
 /// What follows `thresholdForParallelism`, and the number, or `None` if it is a bad one. The first nine numbers are
-/// those of `git config --type=int` 2.39.5, and it refuses the five after them too.
+/// those of `git config --type=int` 2.39.5, which refuses the next five too.
 const THRESHOLDS: &[(&[u8], Option<u64>)] = &[
     (b"=1", Some(1)),
     (b"=2k", Some(2048)),
@@ -136,7 +136,7 @@ fn numbers_and_the_threshold(rt: HostRuntime) {
     assert!(rt; threshold_read(rt.alloc(), b"") == Ok(100));
 }
 
-/// What `checkout.thresholdForParallelism` of this value is.
+/// What `checkout.thresholdForParallelism` with this value is.
 fn of_value(alloc: Global, value: &[u8]) -> Result<u64, SettingFault> {
     let mut text = Vec::from_slice(alloc, b"[checkout]\nthresholdForParallelism")?;
     text.extend_from_slice(value)?;
@@ -215,7 +215,7 @@ fn the_first_bad_key_decides(rt: HostRuntime) {
     }
 }
 
-/// Appends a driver as its name, `=` and its command where it has one, and `!` where it is required.
+/// Appends a driver as its name, `=` and its command if it has one, and `!` if it is required.
 fn push_driver(list: &mut Vec<u8>, driver: &Driver) -> Result<(), AllocError> {
     list.extend_from_slice(driver.name.as_slice())?;
     if let Some(process) = &driver.process {

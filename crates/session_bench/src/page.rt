@@ -5,7 +5,7 @@ ghost use Rattle.edge_kit.specs.declared.leaf_state.LeafState.TheVariants as lea
 use edge_kit::{Failed, Leaf, LeafState, Mark, SendFault};
 use std::alloc::{AllocError, Global};
 
-/// A leaf that keeps its content and tells nothing of it.
+/// A leaf that keeps its content, but doesn't tell it.
 #[derive(Drop)]
 pub struct Page {
     pub content: Vec<u8>,
