@@ -25,7 +25,7 @@ fn note(used: &mut [bool], start: Start)
     }
 }
 
-/// Which of this many drivers the paths ask for.
+/// Which of the drivers the paths ask for. `count` is how many drivers there are.
 pub fn used_of(alloc: Global, count: usize, paths: &[PathPlan]) -> Result<Vec<bool>, AllocError>
     ensures length { IfOk result (λ used. length used.items ≡ count) }
     ensures used { IfOk result (λ used. AreUsed used.items paths.now) }

@@ -20,7 +20,7 @@ pub enum PlanFault {
     /// An attribute file of more than 1,048,576 bytes.
     #[error("the attribute file of entry {0} is too large")]
     AttributeTooLarge(u32),
-    /// More than 16 drivers are in use: this many, or 2^32 - 1 if there are more.
+    /// More than 16 drivers are in use: their number, or 2^32 - 1 if there are more.
     #[error("{0} drivers are in use")]
     TooManyDrivers(u32),
     /// Out of memory.

@@ -101,7 +101,7 @@ fn link_path(alloc: Global, entry: &Entry) -> Result<PathPlan, AllocError>
     }
 }
 
-/// The attributes that a file is asked for, that of its filter last.
+/// The attributes that are looked up for a file, that of its filter last.
 fn asked_names(alloc: Global) -> Result<Vec<Bytes>, AllocError>
     ensures { IfOk result (λ names. names.items ≡ asked_names) }
 {
@@ -115,7 +115,7 @@ fn asked_names(alloc: Global) -> Result<Vec<Bytes>, AllocError>
     Ok(names)
 }
 
-/// What the paths of an index are asked by.
+/// What decides about the paths of an index.
 #[derive(Drop)]
 struct Asking<'a> {
     files: &'a AttrFiles,

@@ -17,8 +17,7 @@ StopsWith (Broken why) rest ahead result = result ≡ Broken why
 StopsWith Late rest ahead result = ⊥
 
 -- The answer at the front of all that a driver sends: its packets are spelled by `used`, `rest` was taken after them,
--- and
--- `ahead` was not.
+-- and `ahead` was not.
 pub record IsAnswer {P G : Type 0} (step : P → Packet → AnswerState P G) (start : AnswerState P G) (used rest ahead :
     List ℕ) (result : AnswerState P G) : Type 0 where
   pub packets : List Packet

@@ -19,7 +19,7 @@ abbrev pub names_of : List (List ℕ) → List (List ℕ)
 names_of [] = []
 names_of (line ∷ lines) = with_name (value_of (codes "pathname") line) (names_of lines)
 
--- each is delayed, and stands neither among those before nor twice
+-- each is delayed, and is neither among those before nor named twice
 abbrev pub AreExpected : List (List ℕ) → List (List ℕ) → List (List ℕ) → Type 0
 AreExpected delayed before [] = Unit {0}
 AreExpected delayed before (name ∷ names) =

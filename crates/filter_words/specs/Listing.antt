@@ -42,7 +42,7 @@ list_status listed (Some status.Delayed) = Broken cause.UnknownStatus
 list_status listed (Some status.Other) = Broken cause.UnknownStatus
 list_status listed None = Broken cause.UnknownStatus
 
--- a `pathname=` line names a path, and other lines are skipped
+-- a `pathname=` line names a path, and other lines are ignored
 abbrev pub list_step : List (List ℕ) → ListPhase → Packet → AnswerState ListPhase GoodList
 list_step delayed (Names listed) (Payload line) = after_value delayed listed (value_of (codes "pathname") line)
 list_step delayed (Names listed) Flush = On (KeyList listed None)

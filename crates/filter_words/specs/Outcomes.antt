@@ -12,7 +12,7 @@ abbrev pub limit : ℕ
 limit = 536870912
 
 -- What packets make of an answer, with room for this many bytes. `step` says what one more packet makes of a phase. The
--- room is looked at first.
+-- room is checked first.
 abbrev pub outcome : {P G : Type 0} → (P → Packet → AnswerState P G) → ℕ → AnswerState P G → List Packet
     → AnswerState P G
 outcome step room state [] = state

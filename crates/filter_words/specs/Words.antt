@@ -39,7 +39,7 @@ abbrev pub status_or : Option Status → Option (List ℕ) → Option Status
 status_or before None = before
 status_or before (Some value) = Some (status_value value)
 
--- the status after one more line of a key list: a line without `=`, and one with another key, are skipped
+-- the status after one more line of a key list: a line without `=` and one with another key are ignored
 abbrev pub status_after : Option Status → List ℕ → Option Status
 status_after before line = status_or before (value_of (codes "status") line)
 

@@ -51,10 +51,10 @@ pub fn reply_content()
     ensures short { (d : Bool) (keys : List (List ℕ)) → content_in d reply_start (block keys) ≡ [] }
 {}
 
-/// Replies that stand at the front of the same bytes and have come to their ends are one. Where no packet stands after
-/// an open reply, no longer one that has ended stands at the front of the same bytes. So what a driver sends holds one
-/// reply at its front, however it is cut and however much of it was taken, and one that has ended stays so when more is
-/// sent after it.
+/// If two replies are at the front of the same bytes and have come to their ends, they are the same. If an open reply
+/// is at the front and no packet follows it, no longer reply that has ended is at the front of the same bytes. So what
+/// a driver sends holds one reply at its front, however it is cut and however much of it was taken, and a reply that
+/// has ended stays so when more is sent after it.
 pub fn one_reply()
     ensures same { (d : Bool) (ps qs : List Packet) (a b x y : List ℕ)
         (u v : AnswerState ReplyPhase GoodReply) → SpellAll ps a → SpellAll qs b → a ++ x ≡ b ++ y
@@ -165,7 +165,7 @@ pub fn one_handshake()
     no_packet();
 }
 
-/// A reply is broken only with a cause of its own, and so is a handshake. It is delayed only where that was allowed.
+/// A reply is broken only with a cause of its own, and so is a handshake. It is delayed only if that was allowed.
 pub fn own_causes()
     ensures reply { (d : Bool) (ps : List Packet) (why : BreakCause)
         → outcome (reply_step d) limit reply_start ps ≡ state.Broken why → IsOwnCause why }

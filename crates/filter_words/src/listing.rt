@@ -168,7 +168,7 @@ fn list_after_line<'a>(
     }
 }
 
-/// What one more packet makes of the answer to a list request, for which there is so much room, where these paths are
+/// What one more packet makes of the answer to a list request, with this much room for it, while these paths are
 /// delayed, and the room that is left. It begins with `MOST_ANSWER`, `ListPart::Names` and no names, and looks for each
 /// name by a scan over the paths.
 pub fn list_after_packet<'a>(

@@ -9,8 +9,8 @@ use std::alloc::{AllocError, Global};
 
 /// Appends what a client sends first: the lines `git-filter-client` and `version=2`, and flush.
 ///
-/// This call and the three below append texts of gitattributes(5), "Long Running Filter Process", and leave `out` as it
-/// was after an error, which is always out of memory.
+/// This call and the three below append texts of gitattributes(5), "Long Running Filter Process". Their only error is
+/// out of memory, and then `out` is as it was.
 #[tactic(auto, unfolding(crate::specs::Requests::hello_text))]
 pub fn push_hello(alloc: Global, out: &mut Vec<u8>) -> Result<(), AllocError>
     ensures ok { OnOk result (out.new.items ≡ out.old.items ++ hello_text) }

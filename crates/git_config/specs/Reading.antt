@@ -72,7 +72,7 @@ unfoldable pub step_at : Place → List ℕ → Result Place ConfigFault
 step_at place [] = Ok place
 step_at place (b ∷ text) = step_from place b text
 
--- the settings after those that are read, in this many steps at most
+-- the settings after those that are read, in at most this many steps
 unfoldable pub settings_at : ℕ → Place → Result (List Setting) ConfigFault
 settings_at zero place = Ok place.settings
 settings_at (suc n) place = step_at place place.rest >>= λ next. settings_at n next
@@ -80,6 +80,6 @@ settings_at (suc n) place = step_at place place.rest >>= λ next. settings_at n 
 unfoldable pub text_at : List ℕ → Result (List Setting) ConfigFault
 text_at text = settings_at (length text) (record { line = 1; head = None; settings = []; rest = text })
 
--- what a file is read to: its settings, or TooLarge, or the first faulty line
+-- what a file is read as: its settings, or TooLarge, or the first faulty line
 unfoldable pub config_at : List ℕ → Result (List Setting) ConfigFault
 config_at bytes = want (nat_le (length bytes) 1048576) TooLarge (text_at (without_cr (unmarked bytes)))

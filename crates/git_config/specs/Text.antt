@@ -53,6 +53,6 @@ abbrev pub without_cr : List ℕ → List ℕ
 without_cr [] = []
 without_cr (b ∷ text) = if b == carriage_return && begins is_line_end text then without_cr text else b ∷ without_cr text
 
--- What a function returned, seen by view, is what the grammar gives, unless memory ran out.
+-- What a function returned, seen through `view`, is what the grammar gives, unless memory ran out.
 abbrev pub Gives : {X Y : Type 0} → (X → Y) → Result X ConfigFault → Result Y ConfigFault → Type 0
 Gives = GivesUnless NoMemory

@@ -8,7 +8,7 @@ use thiserror::Error;
 /// What is wrong with a line.
 #[derive(Error, Clone, Copy, Debug, PartialEq, Eq)]
 pub enum LineKind {
-    /// A section's header that doesn't read.
+    /// A section's header that can't be read.
     #[error("a section's header doesn't read")]
     Section,
     /// A line that begins with no letter, or a key with something other than `=` after it.

@@ -11,6 +11,6 @@ pub record BeginsWithEight (text eight behind : List ℕ) : Type 0 where
   pub utf8 : IsUtf8 behind
   pub shorter : length behind + 8 ≡ length text
 
--- what was written and what a text becomes are together what is written now and what the text after becomes
+-- what was written and what the text becomes are together what is written now and what the rest of the text becomes
 abbrev pub GoesOn : (ℕ → List ℕ) → List ℕ → List ℕ → List ℕ → List ℕ → Type 0
 GoesOn f old text new behind = new ++ flat_map f (chars behind) ≡ old ++ flat_map f (chars text)

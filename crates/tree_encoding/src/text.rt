@@ -53,7 +53,7 @@ fn push_few<'a, F: Form>(out: &mut Vec<u8>, text: &'a str) -> Result<&'a str, Al
     Ok(rest.as_str())
 }
 
-/// Writes the characters of a text, eight of ASCII at once where there are this many.
+/// Writes the characters of a text, eight of ASCII at once if there are eight.
 pub fn push_text<F: Form>(out: &mut Vec<u8>, text: &str) -> Result<(), AllocError>
     ensures { OnOk result (out.new.items ≡ out.old.items ++ flat_map F.bytes_of (chars text.now)) }
 {

@@ -58,7 +58,7 @@ class_length text =
     if opens_class text then and_then (position is_close (drop 2 text)) (name_length (drop 2 text))
     else None
 
--- a class by its name, of this many bytes
+-- a class by its name of n bytes
 abbrev pub named : ℕ → Option Class → Option (Member × ℕ)
 named n None = None
 named n (Some class) = Some (Named class, n + 4)

@@ -5,7 +5,7 @@ ghost use Rattle.wild_match.specs.Steps.{IsPart, IsStep, next_split, seen_back, 
 
 use crate::front::{one_length, slash_length};
 
-/// What stands in front of a pattern, in this many bytes, and whether a path goes on with it.
+/// What is in front of a pattern, with the number of its bytes, and whether a path goes on with it.
 #[derive(Clone, Copy)]
 pub enum Step {
     /// A star.
@@ -40,7 +40,7 @@ pub enum Part<'a> {
     Stuck,
 }
 
-/// What is left after this many bytes of each.
+/// What is left of each after this many bytes.
 fn moved<'a>(at: Place<'a>, pattern_len: usize, path_len: usize) -> Place<'a>
     requires pattern { pattern_len ≤ length at.pattern.now }
     requires path { path_len ≤ length at.path.now }
