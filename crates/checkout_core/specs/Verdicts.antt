@@ -35,7 +35,7 @@ raw_verdict (Some c) u = verdict.Unfiltered c u
 abbrev pub refused_verdict : Bool → FilterCause → Bool → Verdict
 refused_verdict required c u = cond required (verdict.Failed (fail.Filter c)) (verdict.Unfiltered c u)
 
--- by what the driver told of the path
+-- by what the driver's answers say of the path
 abbrev pub heard_verdict : Bool → Heard → Bool → Verdict
 heard_verdict required heard.Got u = verdict.Written u
 heard_verdict required (heard.Refused c) u = refused_verdict required c u
@@ -55,7 +55,7 @@ abbrev pub write_failed : Heard → Verdict
 write_failed heard.OutOfMemory = verdict.NoMemory
 write_failed _ = verdict.Failed fail.WriteFailed
 
--- a path that its driver told of
+-- a path of which the driver's answers say something
 abbrev pub heard_close : Bool → Heard → Own → Option Verdict
 heard_close required h (own.Fine u) = Some (heard_verdict required h u)
 heard_close required h own.WriteFailed = Some (write_failed h)

@@ -19,7 +19,7 @@ use crate::state::State;
 use crate::verdict::{FailCause, FilterCause, Own, Verdict};
 use filter_words::{BreakCause, Caps, ListReply, Reply};
 
-/// Whether one path can be told of this break: the other breaks come from a list alone.
+/// Whether the answer for one path can break like this: the other breaks come from a list alone.
 fn is_path_break(cause: BreakCause) -> bool
     ensures { result ≡ is_path_break cause }
 {

@@ -11,7 +11,7 @@ pub enum Start {
     Done(Verdict),
 }
 
-/// What a driver told of a path.
+/// What a driver's answers say of a path.
 #[derive(Clone, Copy, Debug, PartialEq, Eq)]
 pub enum Heard {
     Got,

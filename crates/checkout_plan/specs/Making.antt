@@ -17,7 +17,7 @@ use Rattle.checkout_plan.specs.declared.fault.PlanFault.TheVariants as fault
 use Rattle.checkout_plan.specs.AttributeFiles.{is_attribute_file, attribute_entries}
 use Rattle.checkout_plan.specs.Paths.{plan_of}
 
--- what is wrong with an object, where it was read
+-- what is wrong with an object, if it was read
 abbrev pub object_kind : ObjectFault → Option ObjectKind
 object_kind object.Absent = Some kind.Absent
 object_kind object.TooLarge = Some kind.TooLarge

@@ -159,7 +159,7 @@ start_among paths s = s
 abbrev pub path_among : List PathPlan → PathPlan → PathPlan
 path_among paths p = record p { start = start_among paths p.start }
 
--- the plan of these entries, where these attribute files reach them
+-- the plan of these entries, if these attribute files reach them
 abbrev pub plan_with : AttrFiles → List PathPlan → Settings → Plan
 plan_with files asked settings = record {
   paths = map (path_among asked) asked;

@@ -143,7 +143,7 @@ AreUsed used paths = (k : ℕ) → k < length used → get_or used k false ≡ i
 abbrev pub AreNumbers : List ℕ → List PathPlan → Type 0
 AreNumbers numbers paths = (k : ℕ) → k < length numbers → get_or numbers k 0 ≡ number_at paths k
 
--- a path's driver is renumbered, where its place has a number
+-- a path's driver is renumbered, if its place has a number
 abbrev pub renumbered_start : List ℕ → Start → Start
 renumbered_start numbers (start.Desk place required) = start.Desk (get_or numbers place place) required
 renumbered_start numbers s = s

@@ -12,7 +12,7 @@ use checkout_core::Start;
 use settings_view::Driver;
 use std::alloc::{AllocError, Global};
 
-/// Notes the driver of a path that begins so.
+/// Notes the driver of a path that begins like this.
 fn note(used: &mut [bool], start: Start)
     ensures { (k : ℕ) → k < length used.old
         → get_or used.new k false ≡ (get_or used.old k false || is_desk_of k start) }

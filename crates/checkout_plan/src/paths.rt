@@ -216,7 +216,7 @@ impl<'a> Asking<'a> {
     }
 }
 
-/// The paths of an index, where these attribute files reach them.
+/// The paths of an index, if these attribute files reach them.
 pub fn asked_paths<'a>(
     alloc: Global,
     files: &'a AttrFiles,

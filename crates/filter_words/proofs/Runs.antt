@@ -9,7 +9,7 @@ use Rattle.filter_words.specs.declared.reply.BreakCause.TheVariants as cause
 use Rattle.filter_words.specs.declared.answer_state.AnswerState.{AnswerState}
 use Rattle.filter_words.specs.declared.answer_state.AnswerState.TheVariants.{On, Done, Broken, Late}
 
--- what the packets make of an answer, where no limit is looked at
+-- what the packets make of an answer, if no limit is checked
 abbrev pub run : {P G : Type 0} → (P → Packet → AnswerState P G) → AnswerState P G → List Packet → AnswerState P G
 run step state [] = state
 run step (On phase) (p ∷ ps) = run step (step phase p) ps

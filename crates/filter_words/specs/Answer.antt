@@ -6,8 +6,8 @@ use Rattle.filter_words.specs.declared.reply.BreakCause.TheVariants as cause
 use Rattle.filter_words.specs.declared.answer_state.AnswerState.{AnswerState}
 use Rattle.filter_words.specs.declared.answer_state.AnswerState.TheVariants.{On, Done, Broken, Late}
 
--- How the reading of an answer stops, where `rest` was taken after its packets, and `ahead` was not: at its end, at
--- bytes that begin no packet, or at the end of all that is sent.
+-- How the reading of an answer stops, if `rest` was taken after its packets and `ahead` was not: at its end, at bytes
+-- that begin no packet, or at the end of all that is sent.
 abbrev pub StopsWith : {P G : Type 0} → AnswerState P G → List ℕ → List ℕ → AnswerState P G → Type 0
 StopsWith (On phase) rest ahead result =
     ((result ≡ Broken cause.BadPacket) × HasFault rest)

@@ -70,7 +70,7 @@ pub record HasBadStatus (delayed before : List (List ℕ)) (ps : List Packet) (w
   pub expected : AreExpected delayed before (names_of lines)
   pub breaks : BreaksEnd (last_status None keys) why
 
--- the cause of an answer that is broken within the limit, where these were listed before
+-- the cause of an answer that is broken within the limit, if these were listed before
 abbrev pub BreaksFrom : List (List ℕ) → List (List ℕ) → List Packet → BreakCause → Type 0
 BreaksFrom delayed before ps why = ((why ≡ cause.StrangePath) × HasStrangeName delayed before ps)
     ⊎ HasBadStatus delayed before ps why

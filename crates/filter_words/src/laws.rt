@@ -53,8 +53,8 @@ pub fn reply_content()
 
 /// If two replies are at the front of the same bytes and have come to their ends, they are the same. If an open reply
 /// is at the front and no packet follows it, no longer reply that has ended is at the front of the same bytes. So what
-/// a driver sends holds one reply at its front, however it is cut and however much of it was taken, and a reply that
-/// has ended stays so when more is sent after it.
+/// a driver sends holds one reply at its front, however it is cut and however much of it was taken. A reply that has
+/// ended, other than at the end of the output, stays so when more is sent after it.
 pub fn one_reply()
     ensures same { (d : Bool) (ps qs : List Packet) (a b x y : List ℕ)
         (u v : AnswerState ReplyPhase GoodReply) → SpellAll ps a → SpellAll qs b → a ++ x ≡ b ++ y
@@ -81,7 +81,7 @@ pub fn one_reply()
     no_packet();
 }
 
-/// The same for the answer to a list request, where these paths are delayed.
+/// The same for the answer to a list request while these paths are delayed.
 pub fn list_grammar()
     ensures good { (delayed : List (List ℕ)) (ps : List Packet) (g : GoodList)
         → outcome (list_step delayed) limit list_start ps ≡ state.Done g

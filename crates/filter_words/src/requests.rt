@@ -46,7 +46,7 @@ pub fn push_list(alloc: Global, out: &mut Vec<u8>) -> Result<(), AllocError>
 }
 
 /// Appends the request to smudge a content for a path of 1 to 4,096 bytes: the lines `command=smudge` and
-/// `pathname=<path>`, the line `can-delay=1` where `can_delay`, flush, the content, and flush. A path that was delayed
+/// `pathname=<path>`, the line `can-delay=1` if `can_delay`, flush, the content, and flush. A path that was delayed
 /// is asked for again without `can_delay` and with an empty content.
 #[tactic(auto, unfolding(crate::specs::Requests::first_text))]
 pub fn push_smudge(
@@ -86,7 +86,7 @@ pub fn push_smudge_keys(
     whole_or_nothing(out, before, pushed)
 }
 
-/// Keeps what was pushed, or cuts `out` back where the pushing failed.
+/// Keeps what was pushed, or cuts `out` back if the pushing failed.
 fn whole_or_nothing(
     out: &mut Vec<u8>,
     before: usize,

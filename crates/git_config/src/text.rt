@@ -125,7 +125,7 @@ pub fn begins_line_end(text: &[u8]) -> bool
     text.first() == Some(&b'\n')
 }
 
-/// How many bytes up to and with the first CR stay: all, or all but the CR where LF stands after it.
+/// How many bytes up to and with the first CR stay: all, or all but the CR if LF follows it.
 fn kept_len(text: &[u8], cr: usize) -> usize
     requires { IsFirstByte (is_byte 13) text.now (Some cr) }
     ensures value { without_cr text.now ≡ take result text.now ++ without_cr (drop (cr + 1) text.now) }

@@ -1,4 +1,4 @@
--- What a reader answers.
+-- What a reader returns.
 use Rattle.std.specs.Prelude.{◌≡◌, ◌≤◌, ℕ, List, length, Some, Result, Ok, Err}
 use Rattle.pkt_line.specs.Packets.{Packet, Payload, Flush, Stands, IsPartial, HasBadDigits, HasBadLength, number_at}
 use Rattle.pkt_line.specs.Packets.{size}

@@ -69,7 +69,8 @@ is_folders text = starts_with nat_eq text (codes "**/")
 abbrev pub is_rest : List ℕ → Bool
 is_rest text = bytes_eq text (codes "**")
 
--- the piece in front: at the start of a part `**/`, and `**` at the end, cross `/`. Each other star of a run splits by itself, which comes to the same.
+-- the piece in front: at the start of a part `**/`, and `**` at the end, cross `/`. Each other star of a run splits by
+-- itself, which has the same effect.
 unfoldable pub front : Bool → List ℕ → Piece × ℕ
 front fresh text =
     if fresh && is_folders text then (Folders, 3)

@@ -94,8 +94,8 @@ fn next_close(text: &[u8], place: usize, known: usize) -> usize
     place + 2 + close_at(name)
 }
 
-/// How long the name of a class is, where the text begins with one: `[:`, the name and `:]`, which has the first `]`
-/// after `[:`.
+/// How long the name of a class is, if the text begins with one: `[:`, the name and `:]`, which has the first `]` after
+/// `[:`.
 #[tactic(auto, unfolding(crate::specs::Members::class_length))]
 fn class_length(text: &[u8], close: usize) -> Option<usize>
     requires { opens_class text.now ≡ true → close ≡ position_or_len is_close (drop 2 text.now) }
