@@ -6,7 +6,7 @@ use std::rt::Clock;
 use std::time::Instant;
 use tree_encoding::{Encoding, encode};
 
-/// How often a conversion and a copy take turns.
+/// How many turns a conversion and a copy take.
 const TURNS: u32 = 20;
 
 /// The name of a blob.

@@ -105,7 +105,7 @@ fn push_line(text: &mut Vec<u8>, content: &[u8], end: usize) -> Result<(), Alloc
 fn with_crlf(alloc: Global, content: &[u8]) -> Result<Vec<u8>, AllocError>
     ensures { IfOk result (λ text. text.items ≡ with_crlf content.now) }
 {
-    // Room for lines of 16 bytes and more.
+    // Room for one more byte in each line of 16 bytes or more.
     let mut text = Vec::with_capacity(alloc, content.len() + content.len() / 16 + BLOCK)?;
     let mut rest = content;
     'lines: while let Some(end) = memchr(b'\n', rest) {

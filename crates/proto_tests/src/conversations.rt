@@ -7,7 +7,7 @@ use std::alloc::Global;
 use std::process::Abort;
 use std::test::Fail;
 
-/// A pointer to a large file of 130 bytes.
+/// A pointer of 130 bytes to a large file.
 const POINTER: &[u8] = b"version https://git-lfs.github.com/spec/v1\n\
 oid sha256:4d7a214614ab2935c943f9e0ff69d22eadbb8f32b1258daaa5e2ca24d17e2393\nsize 12345\n";
 
