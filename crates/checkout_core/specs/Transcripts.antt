@@ -70,7 +70,7 @@ IsList late names (list.Broken why) = names ≡ []
 IsList late names list.NoMemory = names ≡ []
 
 -- Rounds: a list, and a second request for each listed path in the list's order. They go on until an empty list, an
--- abort or a break.
+-- abort, a break or out of memory.
 abbrev pub Rounds : List ℕ → List ℕ → List Exchange → End → Type 0
 Rounds late turns [] end = ⊥
 Rounds late [] (First q y ∷ es) end = ⊥
@@ -91,8 +91,8 @@ abbrev pub late_after : Reply → ℕ → List ℕ → List ℕ
 late_after reply.Delayed p late = p ∷ late
 late_after _ p late = late
 
--- First requests for the paths in order, until a reply breaks the session or is an abort, or no path is left. `left`
--- are the paths that weren't asked for. If none was delayed the session is shut, or else there are rounds.
+-- First requests for the paths in order, until a reply ends the session or no path is left. `left` are the paths that
+-- weren't asked for. If none was delayed the session is shut, or else there are rounds.
 abbrev pub Asks : Bool → List ℕ → List ℕ → List Exchange → End → List ℕ → Type 0
 Asks delay [] [] es end left = (es ≡ []) × (end ≡ Shut) × (left ≡ [])
 Asks delay [] (q ∷ late) es end left = Rounds (q ∷ late) [] es end × (left ≡ [])
