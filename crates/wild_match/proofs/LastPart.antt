@@ -62,7 +62,7 @@ last-from : (text : List ℕ) → list_any is_slash text ≡ true → last_part 
 last-from [] has = absurd (cc)
 last-from (b ∷ text) has = rw has (last-from_at (is_slash b) b text refl has (last-from text))
 
--- the last part of what follows a `/`
+-- the last part of what is behind a `/`
 pub last-step : (text : List ℕ) (k : ℕ) → Some k ≡ position is_slash text → last_part text ≡ last_part (drop (k + 1) text)
 last-step text k is =
     let at = found text k is in

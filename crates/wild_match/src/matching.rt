@@ -109,7 +109,7 @@ fn without_slash(pattern: &[u8]) -> &[u8]
     }
 }
 
-/// What follows the last `/` of a path.
+/// What stands behind the last `/` of a path.
 fn last_part(path: &[u8]) -> &[u8]
     ensures { result.now ≡ last_part path.now }
 {
