@@ -13,11 +13,11 @@ import tempfile
 ENVIRONMENT = dict(os.environ, GIT_CONFIG_NOSYSTEM="1", GIT_CONFIG_GLOBAL="/dev/null", GIT_ATTR_NOSYSTEM="1")
 ENCODINGS = ["UTF-16LE", "UTF-16BE", "UTF-16LE-BOM", "UTF-32LE", "UTF-32BE"]
 
-# What git counts as no text, but CR and NUL which it looks for alone
+# The control characters. Git counts most of them as no text.
 CONTROLS = [bytes([number]) for number in (*range(0x20), 0x7F)]
-# A text with more than 128 printing bytes, so that one byte of another kind leaves it a text
+# A text with more than 128 printing bytes, so that with one byte of another kind it is still a text
 LINES = b"thirty bytes of a line of text\n" * 5
-# `eol_convert` counts printing bytes over so many at once
+# `eol_convert` counts printing bytes over this many at once
 CHUNK = 224
 
 

@@ -17,7 +17,7 @@ kept parts = filter (λ word. ltb 0 (length word)) parts
 words-gap : (b : ℕ) (text : List ℕ) → is_gap b ≡ true → words (b ∷ text) ≡ words text
 words-gap b text gap = ap kept (slice_split-cons_yes is_gap b text gap)
 
--- the gaps at the front hold no word, and end
+-- the gaps at the front have no word in them, and they end
 pub record IsBehindGaps (text rest : List ℕ) : Type 0 where
   pub same : words text ≡ words rest
   pub ended : begins is_gap rest ≡ false
@@ -66,7 +66,7 @@ first_word text some other =
           ∙ ap (λ (xs : List ℕ). take n text ∷ words xs) (sym none)
     ]
 
--- the first word behind the gaps at the front
+-- the first word after the gaps at the front
 pub next_word : (text : List ℕ) → 0 < length (behind_gaps text) → words text ≡ take (position_or_len is_gap (behind_gaps text)) (behind_gaps text) ∷ words (drop (position_or_len is_gap (behind_gaps text)) (behind_gaps text))
 next_word text some = (behind text).same ∙ first_word (behind_gaps text) some (behind text).ended
 

@@ -1,4 +1,4 @@
--- A quoted text lies within the text that it begins.
+-- A quoted text is within the text that begins with it.
 use Rattle.std.proofs.Common.{◌≡◌, ℕ, zero, suc, ◌+◌, ◌<◌, ◌≤◌, Bool, true, false, eqb, List, [], ◌∷◌, length, drop, Option, Some, None, Result, Ok, Err, ap, arith, length-drop}
 use Rattle.byte_path.specs.declared.unquoting.QuoteFault.{QuoteFault}
 use Rattle.byte_path.specs.Unquote.{prefixed, escaped, escape_at, from_byte, unquoted_behind, unquoted}

@@ -36,7 +36,7 @@ abbrev pub is_bad_place : Outcome → Bool
 is_bad_place (Skip Place) = true
 is_bad_place _ = false
 
--- how many there are, or 4,294,967,295 where there are more
+-- how many there are, up to 4,294,967,295
 abbrev pub counted : (Outcome → Bool) → List Outcome → ℕ
 counted test outcomes = min (count_by test outcomes) 4294967295
 

@@ -22,13 +22,13 @@ is_quote b = b == quote
 abbrev pub is_hash : ℕ → Bool
 is_hash b = b == hash
 
--- the pattern at the front of a line, whether it was read as a quoted text, and what stands behind it
+-- the pattern at the front of a line, whether it was read as a quoted text, and what follows it
 pub record Head : Type 0 where
   pub pattern : List ℕ
   pub quoted : Bool
   pub rest : List ℕ
 
--- up to the first blank or CR
+-- a pattern up to the first blank or CR
 abbrev pub plain_head : List ℕ → Head
 plain_head text = record {
   pattern = take (position_or_len is_gap text) text;
@@ -36,7 +36,7 @@ plain_head text = record {
   rest = drop (position_or_len is_gap text) text;
 }
 
--- up to the closing quote; a text that doesn't read as quoted is plain
+-- a pattern up to the closing quote; a text that can't be read as quoted is plain
 abbrev pub unquoted_head : Result (List ℕ × ℕ) QuoteFault → List ℕ → Head
 unquoted_head (Ok answer) text = record { pattern = answer.0; quoted = true; rest = drop answer.1 text }
 unquoted_head (Err fault) text = plain_head text
@@ -53,7 +53,7 @@ row_or_name row None = Skip Name
 abbrev pub is_macro : Head → Bool
 is_macro head = not head.quoted && starts_with nat_eq head.pattern (codes "[attr]") && nat_lt 6 (length head.pattern)
 
--- a macro of that name stands only in a file that is top
+-- a macro with that name is allowed only in a file that is `top`
 unfoldable pub macro_outcome : Bool → List ℕ → List ℕ → Outcome
 macro_outcome top name rest =
     if not top then Skip Place
@@ -70,7 +70,7 @@ head_outcome top head =
     if is_macro head then macro_outcome top (drop 6 head.pattern) head.rest
     else rule_outcome head.pattern head.rest
 
--- a line behind its leading blanks and CR
+-- a line after its leading blanks and CR
 unfoldable pub text_outcome : Bool → List ℕ → Outcome
 text_outcome top text =
     if length text == 0 || begins is_hash text then Nothing

@@ -28,11 +28,11 @@ is_name_byte b = is_ascii_alphanumeric b || b == hyphen || b == underscore || b 
 abbrev pub is_name : List ℕ → Bool
 is_name name = nat_lt 0 (length name) && not (begins is_minus name) && list_all is_name_byte name
 
--- behind the first `=`, where there is one
+-- the value after the first `=`, or `Set` if there is none
 abbrev pub value_or_set : List ℕ → AttrState
 value_or_set word = if list_any is_equals word then Value (after_first is_equals word) else Set
 
--- Behind `-` or `!` an `=` and what follows it is passed over.
+-- After a name with `-` or `!`, an `=` and what follows it are ignored.
 abbrev pub pair_at : List ℕ → Pair
 pair_at word =
     if begins is_minus word then record { name = before_first is_equals (drop 1 word); state = Unset }
@@ -42,6 +42,6 @@ pair_at word =
 abbrev pub has_name : List ℕ → Bool
 has_name word = is_name (pair_at word).name
 
--- the pairs of a text, or none where one of its names is bad
+-- the pairs of a text, or none if one of its names is bad
 abbrev pub pairs_at : List ℕ → Option (List Pair)
 pairs_at text = if list_all has_name (words text) then Some (map pair_at (words text)) else None

@@ -10,7 +10,7 @@ is_gap b = b == space || b == tab || b == carriage_return
 abbrev pub ends_gaps : ℕ → Bool
 ends_gaps b = not (is_gap b)
 
--- what stands behind the blanks and CR at the front
+-- what follows the blanks and CR at the front
 abbrev pub behind_gaps : List ℕ → List ℕ
 behind_gaps text = drop (position_or_len ends_gaps text) text
 

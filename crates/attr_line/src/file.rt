@@ -9,25 +9,25 @@ pub struct Pair {
     pub state: AttrState,
 }
 
-/// A line that counts. It may have no pairs: then it says nothing, but a macro is a macro all the same.
+/// A line that counts. If it has no pairs, a rule says nothing, but a macro is still a macro.
 #[derive(Drop)]
 pub enum AttrRow {
     /// The pairs of the paths that match a pattern.
     Rule { pattern: Bytes, pairs: Items<Pair> },
-    /// What a macro stands for where it is set.
+    /// What a macro stands for if it is set.
     Macro { name: Bytes, pairs: Items<Pair> },
 }
 
 /// How many lines were skipped, by what is wrong with them. Each count stops at 4,294,967,295.
 #[derive(Clone, Copy, Debug, PartialEq, Eq)]
 pub struct Skipped {
-    /// Lines of 2,048 bytes or more without their end, comments among them.
+    /// Lines of 2,048 bytes or more without their end, comments included.
     pub long: u32,
     /// Patterns that begin with `!`.
     pub negative: u32,
-    /// Bad names, of attributes or of a macro.
+    /// Bad names of attributes or macros.
     pub name: u32,
-    /// Macros in a file where none may stand.
+    /// Macros in a file where none is allowed.
     pub place: u32,
 }
 

@@ -23,7 +23,7 @@ struct Front<'a> {
     pattern: Bytes,
     /// Whether it was read as a quoted text.
     quoted: bool,
-    /// What stands behind it.
+    /// What follows it.
     rest: &'a [u8],
 }
 
@@ -39,7 +39,7 @@ fn plain_front<'a>(alloc: Global, text: &'a [u8]) -> Result<Front<'a>, AllocErro
     })
 }
 
-/// A pattern up to its closing quote, or a plain one where it doesn't begin with a quote or doesn't read.
+/// A pattern up to its closing quote, or a plain one if it doesn't begin with a quote or can't be read as quoted.
 #[tactic(auto, unfolding(crate::specs::Line::head_at))]
 fn front_of<'a>(alloc: Global, text: &'a [u8]) -> Result<Front<'a>, AllocError>
     ensures { IfOk result (λ x. head_of x ≡ head_at text.now) }
@@ -61,7 +61,7 @@ fn front_of<'a>(alloc: Global, text: &'a [u8]) -> Result<Front<'a>, AllocError>
     }
 }
 
-/// Whether a macro stands here.
+/// Whether the line defines a macro.
 fn is_macro(front: &Front<'_>) -> bool
     ensures { result ≡ is_macro (head_of front.now) }
 {
@@ -69,7 +69,7 @@ fn is_macro(front: &Front<'_>) -> bool
     !front.quoted && pattern.starts_with(MACRO_PREFIX) && pattern.len() > MACRO_PREFIX.len()
 }
 
-/// A macro of this name.
+/// A macro with this name.
 #[tactic(auto, unfolding(crate::specs::Line::macro_outcome))]
 fn macro_of(alloc: Global, top: bool, name: &[u8], rest: &[u8]) -> Result<Outcome, AllocError>
     ensures { IfOk result (λ o. o ≡ macro_outcome top name.now rest.now) }
@@ -87,7 +87,7 @@ fn macro_of(alloc: Global, top: bool, name: &[u8], rest: &[u8]) -> Result<Outcom
     Ok(Outcome::Row(AttrRow::Macro { name, pairs }))
 }
 
-/// A row of the paths that match this pattern.
+/// A row for the paths that match this pattern.
 #[tactic(auto, unfolding(crate::specs::Line::rule_outcome))]
 fn rule_of(alloc: Global, pattern: Bytes, rest: &[u8]) -> Result<Outcome, AllocError>
     ensures { IfOk result (λ o. o ≡ rule_outcome pattern rest.now) }
@@ -101,7 +101,7 @@ fn rule_of(alloc: Global, pattern: Bytes, rest: &[u8]) -> Result<Outcome, AllocE
     }
 }
 
-/// What a line says behind its leading blanks and CR.
+/// What a line says after its leading blanks and CR.
 #[tactic(auto, unfolding(crate::specs::Line::text_outcome, crate::specs::Line::head_outcome))]
 fn text_of(alloc: Global, top: bool, text: &[u8]) -> Result<Outcome, AllocError>
     ensures { IfOk result (λ o. o ≡ text_outcome top text.now) }

@@ -10,7 +10,7 @@ pub enum LineFault {
     Negative,
     /// A name is bad.
     Name,
-    /// A macro, in a file where none may stand.
+    /// A macro, in a file where none is allowed.
     Place,
 }
 

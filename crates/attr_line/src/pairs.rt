@@ -41,7 +41,7 @@ impl ByteKind for Equals {
     }
 }
 
-/// What stands before the first `=`.
+/// What comes before the first `=`.
 fn before_equals(word: &[u8]) -> &[u8]
     ensures { result.now ≡ before_first is_equals word.now }
 {
@@ -49,7 +49,7 @@ fn before_equals(word: &[u8]) -> &[u8]
     name
 }
 
-/// The value behind the first `=`, or `Set` where there is none.
+/// The value after the first `=`, or `Set` if there is none.
 #[tactic(auto, using(crate::proofs::Places::values))]
 fn value_or_set(alloc: Global, word: &[u8]) -> Result<AttrState, AllocError>
     ensures { IfOk result (λ s. s ≡ value_or_set word.now) }
@@ -62,7 +62,7 @@ fn value_or_set(alloc: Global, word: &[u8]) -> Result<AttrState, AllocError>
     Ok(AttrState::Value(Bytes::copy_of(alloc, value)?))
 }
 
-/// The pair of a name that has to be good.
+/// The pair of this name and this state, or `None` if the name is bad.
 fn named(alloc: Global, name: &[u8], state: AttrState) -> Result<Option<Pair>, AllocError>
     ensures { IfOk result (λ o. o
         ≡ (if is_name name.now then Some (record { name = name.now; state = state }) else None)) }
@@ -74,7 +74,7 @@ fn named(alloc: Global, name: &[u8], state: AttrState) -> Result<Option<Pair>, A
     Ok(Some(Pair { name, state }))
 }
 
-/// The pair that a word says, or `None` for a bad name.
+/// The pair that a word says, or `None` if its name is bad.
 fn pair_of(alloc: Global, word: &[u8]) -> Result<Option<Pair>, AllocError>
     ensures { IfOk result (λ o. o ≡ (if has_name word.now then Some (pair_at word.now) else None)) }
 {
@@ -85,7 +85,7 @@ fn pair_of(alloc: Global, word: &[u8]) -> Result<Option<Pair>, AllocError>
     }
 }
 
-/// Appends the pair that a word says, and tells whether its name is good.
+/// Appends the pair that a word says, and returns whether its name is good.
 fn push_pair(alloc: Global, pairs: &mut Vec<Pair>, word: &[u8]) -> Result<bool, AllocError>
     ensures name { IfOk result (λ good. good ≡ has_name word.now) }
     ensures pairs { IfOk result (λ good. pairs.new.items ≡ (if good then pairs.old.items
@@ -100,7 +100,7 @@ fn push_pair(alloc: Global, pairs: &mut Vec<Pair>, word: &[u8]) -> Result<bool, 
     }
 }
 
-/// The pairs of a text, or `None` where one of its names is bad.
+/// The pairs of a text, or `None` if one of its names is bad.
 pub fn pairs_of(alloc: Global, text: &[u8]) -> Result<Option<Items<Pair>>, AllocError>
     ensures { IfOk result (λ o. o ≡ pairs_at text.now) }
 {

@@ -42,7 +42,7 @@ fn with_fault(skipped: Skipped, fault: LineFault) -> Skipped
 }
 
 impl Reader {
-    /// Takes what the next line says.
+    /// Adds what the next line says.
     fn take(&mut self, outcome: Outcome) -> Result<(), AllocError>
         ensures rows { OnOk result (self.new.rows.items ≡ self.old.rows.items ++ option_to_list (row_of outcome)) }
         ensures skipped { OnOk result (self.new.skipped ≡ with_outcome self.old.skipped outcome) }
@@ -59,8 +59,8 @@ impl Reader {
 /// The rows of an attribute file in the order of its lines, and how many lines were skipped (gitattributes(5),
 /// "DESCRIPTION").
 ///
-/// A line that is too long, has a bad name or a negative pattern, or defines a macro in a file that isn't `top`, is
-/// skipped and counted. A count stops at 4,294,967,295. The time is linear in the bytes.
+/// A line is skipped and counted if it is too long, has a bad name or a negative pattern, or defines a macro in a file
+/// that isn't `top`. A count stops at 4,294,967,295. The time is linear in the bytes.
 #[tactic(auto, unfolding(crate::specs::File::attributes_at))]
 pub fn read_attributes(alloc: Global, file: &[u8], top: bool) -> Result<AttrFile, AllocError>
     ensures { IfOk result (λ f. f ≡ attributes_at file.now top) }

@@ -7,7 +7,7 @@ pub enum AttrState {
     Set,
     /// `-name`.
     Unset,
-    /// `!name`, or nothing said at all.
+    /// `!name`, or nothing is said.
     Unspecified,
     /// `name=value`.
     Value(Bytes),

@@ -7,7 +7,7 @@ use byte_path::{ByteKind, from_first, len_to};
 /// A space, TAB or CR.
 pub struct Gap;
 
-/// Each byte but these.
+/// Any other byte.
 struct EndsGaps;
 
 impl ByteKind for Gap {
@@ -30,7 +30,7 @@ impl ByteKind for EndsGaps {
     }
 }
 
-/// What stands behind the blanks and CR at the front.
+/// What follows the blanks and CR at the front.
 pub fn behind_gaps(text: &[u8]) -> &[u8]
     ensures value { result.now ≡ behind_gaps text.now }
     ensures within { length result.now ≤ length text.now }
@@ -38,7 +38,7 @@ pub fn behind_gaps(text: &[u8]) -> &[u8]
     from_first::<EndsGaps>(text)
 }
 
-/// The first word, and what stands behind it.
+/// The first word, and what follows it.
 pub fn next_word(text: &[u8]) -> Option<(&[u8], &[u8])>
     ensures value { MatchOption result (words text.now ≡ []) (λ x. words text.now ≡ x.0.now ∷ words x.1.now) }
     ensures shorter { IfSome result (λ x. length x.1.now < length text.now) }

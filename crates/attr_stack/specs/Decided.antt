@@ -29,7 +29,8 @@ body_at macros name state = []
 abbrev pub body_of : List MacroLine → Pair → List Pair
 body_of macros pair = body_at macros pair.name pair.state
 
--- the pairs that decide, where n pairs at most are read: the first of each name that isn't decided yet. What it sets is read before the rest.
+-- the pairs that decide, if at most n pairs are read: the first of each name that isn't decided yet. What it sets is
+-- read before the rest.
 abbrev pub decided_within : ℕ → List MacroLine → List Pair → Names → List Pair
 decided_within zero macros pairs names = []
 decided_within (suc n) macros [] names = []

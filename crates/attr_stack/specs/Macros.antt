@@ -43,7 +43,7 @@ binary =
 abbrev pub macros_of : AttrFiles → List MacroLine
 macros_of files = file_macros files.info.rows ++ (top_macros files.files ++ binary ∷ [])
 
--- what a name stands for: the macro that is met first, or nothing
+-- what a name stands for: the first macro with this name, or nothing
 abbrev pub meaning : List MacroLine → List ℕ → List Pair
 meaning [] name = []
 meaning (line ∷ lines) name = if bytes_eq line.name name then line.pairs else meaning lines name

@@ -31,7 +31,7 @@ AreMacros macros lines = (name : List ℕ) → pairs_at macros name ≡ meaning 
 abbrev pub with_state : Pair → (List ℕ → Option AttrState) → List ℕ → Option AttrState
 with_state pair states name = if bytes_eq pair.name name then Some pair.state else states name
 
--- a pair decides where nothing was decided of its name: its state is added then, and else none changes
+-- a pair decides if nothing was decided of its name: its state is added then, and otherwise none changes
 abbrev pub Notes : Pair → (List ℕ → Option AttrState) → (List ℕ → Option AttrState) → Bool → Type 0
 Notes pair old new true = (is_some (old pair.name) ≡ false) × ((name : List ℕ) → new name ≡ with_state pair old name)
 Notes pair old new false = (is_some (old pair.name) ≡ true) × ((name : List ℕ) → new name ≡ old name)

@@ -10,11 +10,11 @@ use Rattle.std.specs.List.{list_all}
 use Rattle.std.specs.Str.Parse.{digits_value}
 use Rattle.byte_path.specs.Decimal.{is_decimal, decimal_within}
 
--- what the first digits pass, all of them pass
+-- if the first digits reach a limit, so do all digits
 pub digits_value-above : (ds : List ℕ) (i limit : ℕ) → i < length ds → limit ≤ digits_value 10 (take i ds) * 10 + digit_value (get_or ds i 0) → limit ≤ digits_value 10 ds
 digits_value-above ds i limit lt above = omega (arith, digits_value_more 10 ds i lt, digits_value-take-le 10 ds (i + 1) (omega arith))
 
--- digits and their number, in the words of std's lemmas
+-- digits and their number, as std's lemmas state them
 pub digits_own : IsNumeralModel (λ ds. list_all is_ascii_digit ds ≡ true) (digits_value 10)
 digits_own = numerals_by_value _ (search rules)
 
@@ -48,7 +48,7 @@ is_decimal-digits ds right = grind (arith, common_steps)
 is_decimal-first : (ds : List ℕ) → is_decimal ds ≡ true → get_or ds 0 0 ≡ 48 → length ds ≡ 1
 is_decimal-first ds right zero_first = grind (arith, common_steps)
 
--- a decimal is what is written of its number
+-- a decimal is the text that is written for its number
 pub decimal-of_its_number : (ds : List ℕ) → is_decimal ds ≡ true → digits_value 10 ds < 2 ^ 64 → decimal (digits_value 10 ds) ≡ ds
 decimal-of_its_number ds right small =
     decimal-digits_value digits_own ds (is_decimal-digits ds right) (is_decimal-some ds right) (is_decimal-first ds right) small

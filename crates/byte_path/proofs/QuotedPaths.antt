@@ -1,4 +1,4 @@
--- A path in quotes reads back.
+-- A path in quotes is read as itself.
 use Rattle.std.proofs.Common.{◌≡◌, ℕ, zero, suc, ◌+◌, ◌-◌, ◌*◌, ◌/◌, ◌%◌, ◌<◌, Bool, true, false, ◌&&◌, cond, eqb, nat_le, List, [], ◌∷◌, ◌++◌, length, get_or, Option, Some, None, Ok, refl, sym, ◌∙◌, ap, subst, append_assoc, length-append, inl, inr, arith}
 use Rattle.std.proofs.lemmas.Bool.{cases_lt}
 use Rattle.std.proofs.lemmas.Grind.{common_steps}
@@ -16,7 +16,7 @@ abbrev holds_none : Option ℕ → Bool
 holds_none None = true
 holds_none (Some a) = false
 
--- what is written behind the backslash gives the byte
+-- what is written after the backslash gives the byte
 abbrev written_right : Option ℕ → ℕ → Bool
 written_right (Some letter) b = holds (byte_of_letter letter) b
 written_right None b =
@@ -102,7 +102,7 @@ read_spelled false b rest small is =
 abbrev counted : List ℕ → ℕ → Answer
 counted bytes n = Ok (bytes, n)
 
--- the whole path, and what stands behind the closing quote
+-- the whole path, and what follows the closing quote
 read_path : (path behind : List ℕ) → ((i : ℕ) → get_or path i 0 < 256)
     → unquoted_behind 0 (flat_map spelled_byte path ++ 34 ∷ behind) ≡ Ok (path, length (flat_map spelled_byte path) + 1)
 read_path [] behind small = refl

@@ -8,7 +8,7 @@ use Rattle.byte_path.specs.declared.unquoting.QuoteFault.{QuoteFault}
 use Rattle.byte_path.specs.declared.unquoting.QuoteFault.TheVariants.{Unclosed, BadEscape}
 use Rattle.byte_path.specs.Unquote.{byte_of_letter, has_octal, letter_or_octal, octal_value, escape_at, prefixed, escaped, unquoted_behind}
 
--- what an answer is
+-- the type of an answer
 abbrev pub Answer : Type 0
 Answer = Result (List ℕ × ℕ) QuoteFault
 
@@ -16,7 +16,7 @@ prefixed-none : (r : Answer) → prefixed [] 0 r ≡ r
 prefixed-none (Ok answer) = let size : 0 + answer.1 ≡ answer.1 = omega arith in rw size refl
 prefixed-none (Err fault) = refl
 
--- two prefixes are one
+-- two prefixes make one
 pub prefixed-prefixed : (a b : List ℕ) (m n : ℕ) (r : Answer) → prefixed a m (prefixed b n r) ≡ prefixed (a ++ b) (m + n) r
 prefixed-prefixed a b m n (Ok answer) =
     let bytes : a ++ (b ++ answer.0) ≡ (a ++ b) ++ answer.0 = sym (append_assoc a b answer.0) in
@@ -27,7 +27,7 @@ prefixed-prefixed a b m n (Err fault) = refl
 pub prefixed-count : (a : List ℕ) (m n : ℕ) (r : Answer) → m ≡ n → prefixed a m r ≡ prefixed a n r
 prefixed-count a m n r same = ap (λ (k : ℕ). prefixed a k r) same
 
--- the bytes of an escape are passed over
+-- the bytes of an escape are skipped
 pub unquoted_behind-skip : (n : ℕ) (text : List ℕ) → n ≤ length text → unquoted_behind n text ≡ prefixed [] n (unquoted_behind 0 (drop n text))
 unquoted_behind-skip zero text le = sym (prefixed-none (unquoted_behind 0 text))
 unquoted_behind-skip (suc n) [] le = absurd (omega arith)
@@ -59,7 +59,7 @@ stretch-unclosed text plain = unquoted_behind-plain text (length text) (omega ar
     at_end : prefixed (take (length text) text) (length text) (unquoted_behind 0 (drop (length text) text)) ≡ Err Unclosed
     at_end = rw (drop_all (length text) text (omega arith)) refl
 
--- where the text goes on with a quote or a backslash
+-- the text continues with a quote or a backslash
 at_quote : (text : List ℕ) (k : ℕ) → k < length text → get_or text k 0 ≡ 34 → unquoted_behind 0 (drop k text) ≡ Ok ([], 1)
 at_quote text k lt is = rw (drop-cons text k 0 lt, is) refl
 
@@ -86,7 +86,7 @@ pub stretch-bad : (text : List ℕ) (k : ℕ) → k < length text → ((j : ℕ)
 stretch-bad text k lt plain special other bad =
     rw (unquoted_behind-plain text k (omega arith) plain, at_backslash text k lt (is_backslash (get_or text k 0) special other), ← bad) refl
 
--- an escape lies within the text
+-- an escape is within the text
 letter_there : (text : List ℕ) (byte : ℕ) → byte_of_letter (get_or text 0 0) ≡ Some byte → 0 < length text
 letter_there [] byte is = cc
 letter_there (c ∷ text) byte is = omega arith
@@ -94,7 +94,7 @@ letter_there (c ∷ text) byte is = omega arith
 octal_there : (text : List ℕ) → has_octal text ≡ true → 3 ≤ length text
 octal_there text has = grind (arith, common_steps)
 
--- an escape, since a bare pair has no type of its own
+-- an escape as a pair: a bare pair has no type of its own
 abbrev pub escape_of : ℕ → ℕ → Option (ℕ × ℕ)
 escape_of byte n = Some (byte, n)
 

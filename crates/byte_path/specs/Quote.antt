@@ -10,7 +10,7 @@ use Rattle.byte_path.specs.Characters.{letter_f, letter_n, letter_r, letter_t, l
 abbrev pub needs_escape : ℕ → Bool
 needs_escape b = nat_lt b space || nat_lt tilde b || b == quote || b == backslash
 
--- what stands after the backslash in \a \b \t \n \v \f \r \" \\
+-- what follows the backslash in \a \b \t \n \v \f \r \" \\
 abbrev pub letter_of : ℕ → Option ℕ
 letter_of b =
     if b == bell then Some letter_a
@@ -24,7 +24,7 @@ letter_of b =
     else if b == backslash then Some backslash
     else None
 
--- a backslash, and a letter or the three octal digits of the byte
+-- a backslash, and then a letter or the three octal digits of the byte
 abbrev pub escape_with : Option ℕ → ℕ → List ℕ
 escape_with (Some letter) b = backslash ∷ letter ∷ []
 escape_with None b = backslash ∷ (digit_0 + b / 64) ∷ (digit_0 + b / 8 % 8) ∷ (digit_0 + b % 8) ∷ []

@@ -13,14 +13,14 @@ fn all_digits(text: &[u8]) -> bool
     text.iter().all(|b| b.is_ascii_digit())
 }
 
-/// Whether a text is one or more digits without a leading zero, as `0` and `10` are. It takes no memory.
+/// Whether a text is one or more digits without a leading zero, such as `0` and `10`. It takes no memory.
 pub fn is_decimal(text: &[u8]) -> bool
     ensures { result ≡ is_decimal text.now }
 {
     !text.is_empty() && all_digits(text) && (text.len() == 1 || text[0] != b'0')
 }
 
-/// The number with one more digit at its end, or `None` where that takes more than 64 bits.
+/// The number with one more digit at its end, or `None` if that takes more than 64 bits.
 fn with_digit(number: u64, digit: u8) -> Option<u64>
     requires { IsInRange 48 57 digit }
     ensures { SomeIff result (number * 10 + digit_value digit < 2 ^ 64) (number * 10 + digit_value digit) }
@@ -28,7 +28,7 @@ fn with_digit(number: u64, digit: u8) -> Option<u64>
     number.checked_mul(10)?.checked_add(u64::from(digit - b'0'))
 }
 
-/// The number of a decimal, or `None` where the text is no decimal or its number is above `most`.
+/// The number of a decimal, or `None` if the text isn't a decimal or its number is above `most`.
 ///
 /// The text may be of any length. It takes no memory.
 pub fn read_decimal(text: &[u8], most: u64) -> Option<u64>
@@ -47,13 +47,13 @@ pub fn read_decimal(text: &[u8], most: u64) -> Option<u64>
     if number <= most { Some(number) } else { None }
 }
 
-/// The law that the decimal of a number reads back as the number. It does nothing.
+/// The law that the decimal of a number is read as that number. It does nothing.
 pub fn decimal_reads_back(number: u64, most: u64)
     requires { number ≤ most }
     ensures { decimal_within (decimal number) most ≡ Some number }
 {}
 
-/// The law that what reads as a number is the decimal of that number. It does nothing.
+/// The law that a text which is read as a number is the decimal of that number. It does nothing.
 pub fn number_has_one_decimal(text: &[u8], most: u64)
     ensures { (number : ℕ) → decimal_within text.now most ≡ Some number → text.now ≡ decimal number }
 {}

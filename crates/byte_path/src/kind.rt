@@ -2,7 +2,7 @@
 ghost use Rattle.std.specs.Prelude.{◌≡◌, ◌≤◌, IfSome, length, drop};
 ghost use Rattle.std.specs.List.{position, position_or_len};
 
-/// A kind of bytes, as the digits are. A unit struct stands for it.
+/// A kind of bytes, such as the digits. A unit struct stands for it.
 pub trait ByteKind {
     ghost use Rattle.std.specs.Prelude.{ℕ, Bool};
 
@@ -20,7 +20,7 @@ fn first_of<K: ByteKind>(text: &[u8]) -> Option<usize>
     text.iter().position(|b| K::has(*b))
 }
 
-/// How many bytes stand before the first of a kind, or how many there are where none is of it. It takes no memory.
+/// How many bytes come before the first byte of a kind, or the length of the text if it has none. It takes no memory.
 #[tactic(auto, using(crate::proofs::Places::len_from_position))]
 pub fn len_to<K: ByteKind>(text: &[u8]) -> usize
     ensures value { result ≡ position_or_len K.has text.now }
@@ -29,7 +29,7 @@ pub fn len_to<K: ByteKind>(text: &[u8]) -> usize
     first_of::<K>(text).unwrap_or(text.len())
 }
 
-/// The text from the first byte of a kind on, or nothing where none is of it. It takes no memory.
+/// The text from the first byte of a kind on, or nothing if it has none. It takes no memory.
 pub fn from_first<K: ByteKind>(text: &[u8]) -> &[u8]
     ensures value { result.now ≡ drop (position_or_len K.has text.now) text.now }
     ensures within { length result.now ≤ length text.now }

@@ -5,9 +5,9 @@ ghost use Rattle.byte_path.specs.Front.{unmarked};
 /// The byte order mark of UTF-8.
 const MARK: &[u8; 3] = b"\xEF\xBB\xBF";
 
-/// What stands behind a byte order mark of UTF-8 at the start, or the whole text where there is none.
+/// What follows a byte order mark of UTF-8 at the start, or the whole text if it begins with none.
 ///
-/// One mark is passed over, and a second one stays. It takes no memory.
+/// Only one mark is skipped: a second one stays. It takes no memory.
 pub fn unmarked(text: &[u8]) -> &[u8]
     ensures { result.now ≡ unmarked text.now }
 {

@@ -18,7 +18,7 @@ fn any_escape(path: &[u8]) -> bool
     path.iter().any(|b| needs_escape(*b))
 }
 
-/// The letter of the escapes of C that stands after the backslash, or `None` for a byte that is written in octal.
+/// The letter after the backslash in C's escape of this byte, or `None` if the byte is written in octal.
 fn letter_of(byte: u8) -> Option<u8>
     ensures { result ≡ letter_of byte }
 {
@@ -36,7 +36,7 @@ fn letter_of(byte: u8) -> Option<u8>
     }
 }
 
-/// Appends a byte as it stands between the quotes.
+/// Appends a byte as it is written between the quotes.
 fn push_spelled(text: &mut Vec<u8>, byte: u8) -> Result<(), AllocError>
     ensures { OnOk result (text.new.items ≡ text.old.items ++ spelled_byte byte) }
 {
@@ -59,8 +59,8 @@ fn push_spelled(text: &mut Vec<u8>, byte: u8) -> Result<(), AllocError>
     Ok(())
 }
 
-/// A path as it is shown on a line: in double quotes and with C's escapes where it has a control, `"`, `\` or a byte
-/// above `~`, and as it is otherwise.
+/// A path as it is shown on a line. If it has a control, `"`, `\` or a byte above `~`, it is in double quotes and these
+/// are written as C's escapes. Any other path is shown as it is.
 pub fn quote_path(alloc: Global, path: &[u8]) -> Result<Vec<u8>, AllocError>
     ensures { IfOk result (λ v. v.items ≡ quoted path.now) }
 {

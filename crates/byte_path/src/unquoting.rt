@@ -8,14 +8,14 @@ use crate::bytes::Bytes;
 use memchr::memchr2;
 use std::alloc::{AllocError, AllocFailed, Global};
 
-/// Why a quoted text doesn't read. The first fault from the left is told.
+/// Why a quoted text can't be read: the first fault from the left.
 #[derive(Clone, Copy, Debug, PartialEq, Eq)]
 pub enum QuoteFault {
     /// It ends before a closing quote.
     Unclosed,
-    /// A backslash begins no escape, also where the text ends behind it.
+    /// A backslash begins no escape, or the text ends after it.
     BadEscape,
-    /// There was too little memory.
+    /// Memory ran out.
     NoMemory,
 }
 
@@ -35,7 +35,7 @@ impl<T: Drop> From<AllocFailed<T>> for QuoteFault {
     }
 }
 
-/// The byte of a letter behind a backslash.
+/// The byte of a letter after a backslash.
 fn byte_of_letter(letter: u8) -> Option<u8>
     ensures { result ≡ byte_of_letter letter }
 {
@@ -53,7 +53,7 @@ fn byte_of_letter(letter: u8) -> Option<u8>
     }
 }
 
-/// The byte of the escape behind a backslash, and how many bytes it takes there.
+/// The escape after a backslash: the byte that it stands for, and how many bytes the escape takes after the backslash.
 fn escape_at(text: &[u8]) -> Option<(u8, usize)>
     ensures { result ≡ escape_at text.now }
 {
@@ -81,7 +81,7 @@ enum Stretch {
     Escaped(usize),
 }
 
-/// Appends what stands before the closing quote, or before the first escape and the escape's byte.
+/// Appends the bytes before the closing quote, or those before the first escape and then the escape's byte.
 fn push_stretch(bytes: &mut Vec<u8>, text: &[u8]) -> Result<Stretch, QuoteFault>
     ensures { IsStretch bytes.old.items text.now bytes.new.items result }
 {
@@ -103,8 +103,8 @@ fn push_stretch(bytes: &mut Vec<u8>, text: &[u8]) -> Result<Stretch, QuoteFault>
     }
 }
 
-/// The bytes of a text in double quotes with C's escapes, and how many bytes of `text` that takes: what stands behind
-/// the closing quote isn't read.
+/// The bytes of a text in double quotes with C's escapes, and how many bytes of `text` these took. What follows the
+/// closing quote isn't read.
 pub fn unquote(alloc: Global, text: &[u8]) -> Result<(Bytes, usize), QuoteFault>
     requires { slice_get text.now 0 ≡ Some 34 }
     ensures { IsUnquoted text.now result }
@@ -120,7 +120,7 @@ pub fn unquote(alloc: Global, text: &[u8]) -> Result<(Bytes, usize), QuoteFault>
     }
 }
 
-/// The law that a path that is shown in quotes reads back as itself, whatever stands behind it. It does nothing.
+/// The law that a path shown in quotes is read as itself, whatever follows it. It does nothing.
 pub fn quoted_path_reads_back(path: &[u8], behind: &[u8])
     requires { list_any needs_escape path.now ≡ true }
     ensures { unquoted (quoted path.now ++ behind.now) ≡ Ok (path.now, length (quoted path.now)) }

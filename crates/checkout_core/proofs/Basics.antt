@@ -172,7 +172,7 @@ same_number a b e = ⊎_elim (λ (h : (a ≡ b) × ((a == b) ≡ true)). h.0) (�
 pub other_number : (p q : ℕ) → (p ≡ q → ⊥) → (p == q) ≡ false
 other_number p q n = ne_eqb p q n
 
--- the item at a place within a list
+-- an item at a place within a list
 pub item_within : {A : Type 0} → (xs : List A) (i : ℕ) → i < length xs → (v : A) × (slice_get xs i ≡ Some v)
 item_within [] i l = absurd (omega arith)
 item_within (v ∷ vs) zero l = (v, refl)

@@ -1,4 +1,4 @@
--- An effect, as code makes it: a place is set, and a loop goes over all.
+-- An effect as the code makes it: a place is set, and a loop goes over all paths.
 use Rattle.std.proofs.Common.{◌≡◌, ◌==◌, ℕ, zero, suc, Bool, true, false, cond, List, [], ◌∷◌, map, set, Some, refl}
 use Rattle.std.proofs.Common.{sym, ap, ◌∙◌, arith}
 use Rattle.std.specs.Prelude.{slice_get}
@@ -80,7 +80,7 @@ turned_paths d t w rs = each_map (swept_path d w) (path_after (Switches d t w)) 
 swept_twice : (d : ℕ) (w : Sweep) (r : Path) → swept_path d w (swept_path d Keep r) ≡ swept_path d w r
 swept_twice d w r = ap (swept_path d w) (kept_path d r)
 
--- the driver turns first, and its paths are swept then
+-- the driver turns first, and then its paths are swept
 pub turn_swept : (c : Core) (d : ℕ) (t : DriverState) (w : Sweep)
     → record {
       workers = c.workers;

@@ -50,7 +50,7 @@ pending_at t true (Closed v) e = refl
 same_count : (a b c e : ℕ) → a + b ≡ c + e → b ≡ 0 → e ≡ 0 → a ≡ c
 same_count a b c e h i j = omega arith
 
--- a path changes that isn't one of the driver's lists, before or after
+-- a path changes that isn't in one of the driver's lists, before or after
 pub follows_other : (paths : List Path) (n m : Bool) (e : ℕ) (k : Cursor) (p : ℕ) (r : Path) (s : PathState)
     → slice_get paths p ≡ Some r → (is_at e r.start && is_pending r.state) ≡ false
     → (is_at e r.start && is_pending s) ≡ false → (is_at e r.start && is_unasked s) ≡ false → (m ≡ true → n ≡ true)
@@ -85,7 +85,7 @@ follows_other paths n m e k p r s there was now un0 noting_list f = record {
   begins = λ h. f.begins (noting_list h);
 }
 
--- how many are named at the turn u, where n are from the turn a on
+-- how many are named at the turn u, if n are named from the turn a on
 abbrev slot : ℕ → ℕ → ℕ → ℕ
 slot a n u = num (nat_le a u && nat_lt u (a + n))
 
@@ -177,7 +177,7 @@ module _ (paths : List Path) (d : ℕ) (k : Cursor) (p : ℕ) (r : Path) (there 
   less : p < length paths
   less = slice_get_within paths p r there
 
-  -- the range takes the path in
+  -- the range takes in the path
   pub delays : (n m : Bool) → r.state ≡ Unasked → (m ≡ true → n ≡ true) → Follows paths n d k
       → Follows (set paths p (with_state r path.Delayed)) m d (delayed_after k p)
   delays n m is noting_list f = go (nat_lt k.first k.end) refl
@@ -503,7 +503,7 @@ advance_is workers paths drivers p d s t was fol is =
     }) (turn_set drivers d fol.1 t Keep fol.4
     ∙ ap (λ (xs : List DriverState). set xs d t) (map_none drivers))))
 
--- a path settles outside of lists
+-- a path changes outside of lists
 settle_parts : (a s : PathState) → settles a s ≡ true → (is_pending a ≡ false) × (is_closed a ≡ false)
     × (is_pending s ≡ false) × (is_unasked s ≡ false)
 settle_parts a s e =
@@ -622,6 +622,6 @@ module _ (workers : ℕ) (paths : List Path) (drivers : List DriverState) (curso
       ∙ ap (λ (xs : List DriverState). record { workers = workers; drivers = xs; paths = paths })
       (turn_set drivers d fol.0 t Keep fol.1 ∙ ap (λ (xs : List DriverState). set xs d t) (map_none drivers)))
 
--- an effect may follow a core as it is seen, and so its fields
+-- if an effect may follow a core as it is seen, it may follow the core's fields
 pub followable_in : {z w : Core} (e : Effect) → z ≡ w → IsFollowable w e → IsFollowable z e
 followable_in e same may = subst (λ (x : Core). IsFollowable x e) (sym same) may

@@ -145,7 +145,7 @@ count_length d f (x ∷ xs) (suc p) r e n =
     more : (a b c : ℕ) → a ≤ 1 → b < c → a + b < suc c
     more a b c i j = omega arith
 
--- the lowest path that is to be asked for
+-- the lowest path that still has to be asked for
 pub lowest_some : (d : ℕ) (rs : List Path) (i : ℕ) (r : Path) → slice_get rs i ≡ Some r → asks d r ≡ true
     → ((p : ℕ) (w : Path) → p < i → slice_get rs p ≡ Some w → asks d w ≡ false) → lowest_unasked d rs ≡ Some i
 lowest_some d [] i r e asked none = none_is_some e
@@ -282,7 +282,7 @@ none_false d t (x ∷ xs) none = go (λ n. rest (none_false d t xs n)) (is_at d 
     go f true (Held a raw) i e n = f n
     go f true (Closed v) i e n = f n
 
--- none named is none counted
+-- none is named if none is counted as named
 pub none_named : (d : ℕ) (rs : List Path) → (path_count d is_named rs == 0) ≡ none_of d is_named rs
 none_named d [] = refl
 none_named d (x ∷ xs) = go (is_at d x.start && is_named x.state) (none_named d xs)

@@ -1,4 +1,4 @@
--- A path that this actor isn't the desk of.
+-- A path whose desk isn't this actor.
 use Rattle.std.proofs.Common.{◌≡◌, ◌==◌, ◌+◌, ℕ, Bool, Option, Some, None, cond, ap, sym, ◌∙◌}
 use Rattle.std.specs.Prelude.{slice_get}
 use Rattle.checkout_core.specs.declared.verdict.Own.{Own}

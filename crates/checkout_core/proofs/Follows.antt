@@ -91,7 +91,7 @@ cursor_in c workers paths drivers cursors d k view all less is =
     subst (λ (z : Core). IsCursor z d k) view (cursor_of paths drivers cursors d k all
     (subst (λ (z : Core). d < length z.drivers) (sym view) less) is)
 
--- the cursor moves on over paths that are not to be asked for
+-- the cursor moves on over paths that don't have to be asked for
 pub cursor_on : (c : Core) (workers : ℕ) (paths : List Path) (drivers : List DriverState) (cursors : List Cursor)
     (unclosed d : ℕ) (k : Cursor) (i : ℕ) → record { workers = workers; drivers = drivers; paths = paths } ≡ c
     → IsSound workers paths drivers cursors unclosed → IsCursor c d k → i ≤ length paths

@@ -22,7 +22,7 @@ use Rattle.checkout_core.specs.Conditions.{claim, redo, hand_back, closing, clos
 use Rattle.checkout_core.specs.Conditions.{is_delay, replied, at_driver, open_first, fresh}
 use Rattle.checkout_core.proofs.Basics.{none_is_some, some_is, given_is, cond_is, at_driver_is, of_driver_is}
 
--- no path of the driver is so
+-- no path of the driver passes the test
 pub not_false : (b : Bool) → not b ≡ true → b ≡ false
 not_false false e = refl
 not_false true e = absurd (cc (e))

@@ -93,7 +93,7 @@ sweep_ends rs d w first end at within le =
     go q r there false l = sym (unswept d w r (λ i j. let x = within q r there i j in let y = ltb-false q at l in
         let z = x.1 in absurd (omega arith)))
 
--- where nothing lies, nothing is swept
+-- if no path is there, none is swept
 pub sweep_empty : (rs : List Path) (d : ℕ) (w : Sweep) (first end : ℕ) → IsWithin rs d first end → end ≤ first
     → rs ≡ swept_paths d w rs
 sweep_empty rs d w first end within le = sweep_begins rs d w first end within
@@ -205,7 +205,7 @@ follows_away rs n e d w k other f = record {
   begins = f.begins;
 }
 
--- the driver's own lists are empty then
+-- the driver's own lists are empty afterwards
 follows_swept : (rs : List Path) (n : Bool) (d : ℕ) (w : Sweep) (k : Cursor) → (w ≡ Keep → ⊥) → Follows rs n d k
     → Follows (swept_paths d w rs) n d (record { unasked = k.unasked; first = 0; end = 0; named = 0; turn = 0 })
 follows_swept rs n d w k ends f = record {

@@ -36,29 +36,29 @@ use Rattle.checkout_core.specs.States.{Core, is_unasked, is_delayed, is_named, i
 use Rattle.checkout_core.specs.States.{named_count, lowest_unasked}
 use Rattle.checkout_core.specs.Verdicts.{refused_cause, held_close, heard_close, unasked_close}
 
--- the effect, where the test holds
+-- the effect, if the test holds
 abbrev pub given : Bool → Effect → Option Effect
 given b m = cond b (Some m) None
 
--- of a path that is there
+-- for a path that is there
 abbrev pub at_path : Core → ℕ → (Path → Option Effect) → Option Effect
 at_path c p f = elim (slice_get c.paths p) [ None ↦ None | Some r ↦ f r ]
 
--- of a driver that is there
+-- for a driver that is there
 abbrev pub at_driver : Core → ℕ → (DriverState → Option Effect) → Option Effect
 at_driver c d f = elim (slice_get c.drivers d) [ None ↦ None | Some x ↦ f x ]
 
--- of a path that has a driver
+-- for a path that has a driver
 abbrev pub of_driver : Start → (ℕ → Bool → Option Effect) → Option Effect
 of_driver (Desk d required) f = f d required
 of_driver _ f = None
 
--- of a driver that is on
+-- for a driver that is on
 abbrev pub at_session : DriverState → (Session → Option Effect) → Option Effect
 at_session (driver.On s) f = f s
 at_session _ f = None
 
--- a path of a driver, and the driver's state
+-- for a path of a driver, and the driver's state
 abbrev pub at_both : Core → ℕ → (Path → ℕ → Bool → DriverState → Option Effect) → Option Effect
 at_both c p f = at_path c p (λ r. of_driver r.start (λ d required. at_driver c d (λ x. f r d required x)))
 
@@ -161,7 +161,7 @@ answer_in c p y t d s =
 abbrev pub answer_at : Core → ℕ → Reply → Path → ℕ → Bool → DriverState → Option Effect
 answer_at c p y r d required x = at_session x (λ s. answer_in c p y r.state d s)
 
--- Named: a delayed path, where none is unasked, in the list that is being noted or in a new one
+-- Named: a delayed path, if none is unasked, in the list that is being noted or in a new one
 abbrev pub name_in : Core → ℕ → PathState → ℕ → Session → Option Effect
 name_in c p t d s = given
     (s.any_delayed && (none_of d is_unasked c.paths && (is_delayed t && (s.noting_list || none_of d is_named c.paths))))
@@ -170,7 +170,7 @@ name_in c p t d s = given
 abbrev pub name_at : Core → ℕ → Path → ℕ → Bool → DriverState → Option Effect
 name_at c p r d required x = at_session x (λ s. name_in c p r.state d s)
 
--- Listed: the end of a list with n names, or a list that is the last
+-- Listed: the end of a list with n names, or a list that ends the session
 abbrev pub list_desk : Session → ListReply → DriverState
 list_desk s (list.Names n) = driver.On (listed s)
 list_desk s list.Empty = driver.Done
@@ -204,7 +204,7 @@ redo c p r d s _ = None
 abbrev pub redo_at : Core → ℕ → Reply → Path → ℕ → Bool → DriverState → Option Effect
 redo_at c p y r d required x = at_session x (λ s. redo c p y d s r.state)
 
--- HandBack: a path that its driver refused and doesn't require
+-- HandBack: a path that its driver refused and that isn't required
 abbrev pub hand_back : ℕ → Option FilterCause → Option Effect
 hand_back p None = None
 hand_back p (Some c) = Some (Moves p (Waiting (Some c)))
@@ -219,7 +219,7 @@ shut_in c d s = given (not s.any_delayed && none_of d is_unasked c.paths) (Switc
 abbrev pub shut_at : Core → ℕ → DriverState → Option Effect
 shut_at c d x = at_session x (λ s. shut_in c d s)
 
--- Close: a path in hand, or the desk's own
+-- Close: a path that the actor has in hand, or one of the desk's own
 abbrev pub closing : ℕ → Option Verdict → Option Effect
 closing p None = None
 closing p (Some v) = Some (Moves p (Closed v))
@@ -234,7 +234,7 @@ close_at c p a o r (path.Heard h) = desk_close c p a o r (λ required x. heard_c
 close_at c p a o r Unasked = desk_close c p a o r (λ required x. unasked_close required x p o)
 close_at c p a o r _ = None
 
--- what the event does, where it is a step
+-- what the event does, if it is a step
 abbrev pub effect_of : Core → Event → Option Effect
 effect_of c (Claim p a) = at_path c p (claim_at c p a)
 effect_of c (Opened d caps) = at_driver c d (open_at c d caps)

@@ -1,4 +1,4 @@
--- What is kept of each driver's paths beside them, so that a step needs no look at all of them.
+-- What is kept of each driver's paths beside them, so that a step doesn't have to look at all of them.
 use Rattle.std.specs.Prelude.{◌≡◌, ◌==◌, ◌&&◌, ◌||◌, ◌<◌, ◌≤◌, ◌^◌, ℕ, ◌+◌, nat_lt, nat_le, min, max, ◌-◌, map, Bool}
 use Rattle.std.specs.Prelude.{true, false, not, cond, List, length, Some, slice_get}
 use Rattle.checkout_core.specs.declared.path.PathState.{PathState}
@@ -28,7 +28,7 @@ abbrev pub is_noting_list : DriverState → Bool
 is_noting_list (driver.On s) = s.noting_list
 is_noting_list x = false
 
--- the driver d is to be asked for the path
+-- the driver d still has to be asked for the path
 abbrev pub asks : ℕ → Path → Bool
 asks d r = is_at d r.start && is_unasked r.state
 
@@ -39,7 +39,7 @@ HoldsAt f paths p = (r : Path) × (slice_get paths p ≡ Some r) × (f r ≡ tru
 abbrev pub NamedThere : Core → ℕ → ℕ → ℕ → Type 0
 NamedThere c p d t = (r : Path) × (slice_get c.paths p ≡ Some r) × (is_at d r.start ≡ true) × (r.state ≡ path.Named t)
 
--- the driver's delayed and named paths lie from `first` on, before `end`
+-- the driver's delayed and named paths are from `first` on, before `end`
 abbrev pub IsWithin : List Path → ℕ → ℕ → ℕ → Type 0
 IsWithin paths d first end = (p : ℕ) (r : Path) → slice_get paths p ≡ Some r → is_at d r.start ≡ true
     → is_pending r.state ≡ true → (first ≤ p) × (p < end)
@@ -62,7 +62,7 @@ pub record Follows (paths : List Path) (noting_list : Bool) (d : ℕ) (k : Curso
 abbrev pub IsCursor : Core → ℕ → Cursor → Type 0
 IsCursor c d k = (x : DriverState) × (slice_get c.drivers d ≡ Some x) × Follows c.paths (is_noting_list x) d k
 
--- the cursors of all drivers do
+-- the cursors of all drivers follow their paths
 pub record AllFollow (paths : List Path) (drivers : List DriverState) (cursors : List Cursor) : Type 0 where
   pub same_length : length cursors ≡ length drivers
   pub follow : (d : ℕ) (x : DriverState) (k : Cursor) → slice_get drivers d ≡ Some x → slice_get cursors d ≡ Some k
@@ -76,11 +76,11 @@ pub record IsSound (workers : ℕ) (paths : List Path) (drivers : List DriverSta
   pub cursors_follow : AllFollow paths drivers cursors
   pub unclosed_is : unclosed_count paths ≡ unclosed
 
--- a path that stays, or ends, outside of lists
+-- a path that changes outside of lists
 abbrev pub settles : PathState → PathState → Bool
 settles was s = not (is_pending was || is_closed was) && not (is_pending s || is_unasked s)
 
--- a path of a driver on its way through its lists: `n` are named, and `is_next` is the test of the lowest turn
+-- a path of a driver on its way through the driver's lists: `n` are named, and `is_next` is the test of the lowest turn
 abbrev pub advances : ℕ → Bool → Bool → (ℕ → Bool) → PathState → PathState → Bool
 advances n old new is_next Unasked path.Delayed = not new || old
 advances n old new is_next Unasked (path.Heard h) = not new || old
@@ -115,7 +115,7 @@ cursor_after k p path.Delayed (path.Named t) = named_after k
 cursor_after k p (path.Named t) (path.Heard h) = redone_after k
 cursor_after k p _ _ = k
 
--- it fits its numbers
+-- the cursor can follow within its numbers
 abbrev pub CanFollow : Cursor → ℕ → PathState → PathState → Type 0
 CanFollow k p Unasked path.Delayed = p + 1 < 2 ^ 32
 CanFollow k p path.Delayed (path.Named t) = k.named + 1 < 2 ^ 32

@@ -12,7 +12,7 @@ use Rattle.checkout_core.specs.declared.effect.Effect.{Effect}
 use Rattle.checkout_core.specs.declared.effect.Effect.TheVariants.{Moves, Switches, Both}
 use Rattle.checkout_core.specs.States.{Core, is_at, with_state}
 
--- what a path that was delayed or named becomes where its session ends so
+-- what a path that was delayed or named becomes if its session ends like this
 abbrev pub ended : Sweep → PathState → PathState
 ended Keep s = s
 ended Lose s = path.Heard heard.Lost
@@ -23,7 +23,7 @@ swept w path.Delayed = ended w path.Delayed
 swept w (path.Named t) = ended w (path.Named t)
 swept w s = s
 
--- a path as the end of the session of the driver d leaves it
+-- a path, as the end of the session of the driver d leaves it
 abbrev pub swept_path : ℕ → Sweep → Path → Path
 swept_path d w r = with_state r (cond (is_at d r.start) (swept w r.state) r.state)
 

@@ -39,12 +39,12 @@ abbrev pub is_named_below : ℕ → PathState → Bool
 is_named_below n (path.Named t) = nat_lt t n
 is_named_below n _ = false
 
--- it has its verdict
+-- the path has its verdict
 abbrev pub is_closed : PathState → Bool
 is_closed (Closed v) = true
 is_closed s = false
 
--- no path of the driver is so
+-- no path of the driver passes the test
 abbrev pub none_of : ℕ → (PathState → Bool) → List Path → Bool
 none_of d f [] = true
 none_of d f (r ∷ rs) = not (is_at d r.start && f r.state) && none_of d f rs
@@ -53,12 +53,12 @@ none_of d f (r ∷ rs) = not (is_at d r.start && f r.state) && none_of d f rs
 abbrev pub none_below : Core → ℕ → ℕ → Bool
 none_below c d p = none_of d is_unasked (take p c.paths)
 
--- how many paths of the driver are so
+-- how many paths of the driver pass the test
 abbrev pub path_count : ℕ → (PathState → Bool) → List Path → ℕ
 path_count d f [] = 0
 path_count d f (r ∷ rs) = cond (is_at d r.start && f r.state) 1 0 + path_count d f rs
 
--- how many paths of the driver are listed and not asked again
+-- how many paths of the driver are listed and were not asked for again
 abbrev pub named_count : ℕ → List Path → ℕ
 named_count d rs = path_count d is_named rs
 

@@ -7,7 +7,7 @@ use Rattle.checkout_core.specs.States.{Core, start}
 use Rattle.checkout_core.specs.Effects.{after}
 use Rattle.checkout_core.specs.Conditions.{effect_of}
 
--- the next state, where the event is a step
+-- the next state, if the event is a step
 abbrev pub done : Core → Option Effect → Option Core
 done c None = None
 done c (Some m) = Some (after c m)
@@ -15,12 +15,12 @@ done c (Some m) = Some (after c m)
 abbrev pub step_of : Core → Event → Option Core
 step_of c e = done c (effect_of c e)
 
--- the state after a history, where each event is a step
+-- the state after a history, if each event is a step
 abbrev pub replay : Core → List Event → Option Core
 replay c [] = Some c
 replay c (e ∷ es) = elim (step_of c e) [ None ↦ None | Some d ↦ replay d es ]
 
--- the event at this place is the first that is no step, and x is the state before it
+-- the event at this place is the first that isn't a step, and x is the state before it
 abbrev pub StopsAt : Core → List Event → Core → ℕ → Type 0
 StopsAt c es x n = (replay c (take n es) ≡ Some x) × (e : Event) × (slice_get es n ≡ Some e) × (step_of x e ≡ None)
 

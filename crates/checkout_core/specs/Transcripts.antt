@@ -1,5 +1,5 @@
--- A driver's whole talk, over results alone: what it was sent and answered, without the bytes. gitattributes(5) has it
--- under "Long Running Filter Process".
+-- A driver's whole talk, made of results alone: what was asked and answered, without the bytes. gitattributes(5)
+-- describes it under "Long Running Filter Process".
 use Rattle.std.specs.Prelude.{◌≡◌, ◌&&◌, ◌++◌, ℕ, Bool, true, false, not, List, [], ◌∷◌, length, map, Option, Some}
 use Rattle.std.specs.Prelude.{None}
 use Rattle.filter_words.specs.declared.reply.BreakCause.{BreakCause}
@@ -47,7 +47,7 @@ list_reply_end list.Abort = Some Aborted
 list_reply_end (list.Broken why) = Some (Broke why)
 list_reply_end list.NoMemory = Some OutOfMemory
 
--- the exchange is the last of its session, and the end is the one that it made, or more follow
+-- the exchange is the last of its session and made this end, or more exchanges follow
 abbrev pub GoesOn : Option End → End → (last more : Type 0) → Type 0
 GoesOn None end last more = more
 GoesOn (Some made) end last more = (end ≡ made) × last
@@ -61,7 +61,7 @@ abbrev pub minus : List ℕ → List ℕ → List ℕ
 minus [] late = late
 minus (q ∷ names) late = minus names (without q late)
 
--- the answer to a list request, where these are delayed
+-- the answer to a list request, if these paths are delayed
 abbrev pub IsList : List ℕ → List ℕ → ListReply → Type 0
 IsList late names (list.Names n) = (is_empty names ≡ false) × (n ≡ length names) × (are_late names late ≡ true)
 IsList late names list.Empty = names ≡ []
@@ -70,7 +70,7 @@ IsList late names (list.Broken why) = names ≡ []
 IsList late names list.NoMemory = names ≡ []
 
 -- Rounds: a list, and a second request for each listed path in the list's order. They go on until an empty list, an
--- abort or a break.
+-- abort, a break or out of memory.
 abbrev pub Rounds : List ℕ → List ℕ → List Exchange → End → Type 0
 Rounds late turns [] end = ⊥
 Rounds late [] (First q y ∷ es) end = ⊥
@@ -83,7 +83,7 @@ Rounds late (p ∷ turns) (Second q y ∷ es) end =
     (q ≡ p) × (is_delay y ≡ false) × (is_good_reply y ≡ true)
     × GoesOn (reply_end y) end (es ≡ []) (Rounds late turns es end)
 
--- a reply to a first request is a delay only where the driver announced it
+-- a reply to a first request is a delay only if the driver announced that
 abbrev pub may_reply : Bool → Reply → Bool
 may_reply delay y = is_good_reply y && not (is_delay y && not delay)
 
@@ -91,8 +91,8 @@ abbrev pub late_after : Reply → ℕ → List ℕ → List ℕ
 late_after reply.Delayed p late = p ∷ late
 late_after _ p late = late
 
--- First requests for the paths in order, until a reply breaks the session or is an abort, or none is left. `left` are
--- those that weren't asked for. Where none was delayed the session is shut, and else there are rounds.
+-- First requests for the paths in order, until a reply ends the session or no path is left. `left` are the paths that
+-- weren't asked for. If none was delayed the session is shut, or else there are rounds.
 abbrev pub Asks : Bool → List ℕ → List ℕ → List Exchange → End → List ℕ → Type 0
 Asks delay [] [] es end left = (es ≡ []) × (end ≡ Shut) × (left ≡ [])
 Asks delay [] (q ∷ late) es end left = Rounds (q ∷ late) [] es end × (left ≡ [])
@@ -103,12 +103,12 @@ Asks delay (p ∷ rest) late (First q y ∷ es) end left =
     (q ≡ p) × (may_reply delay y ≡ true)
     × GoesOn (reply_end y) end ((es ≡ []) × (left ≡ rest)) (Asks delay rest (late_after y p late) es end left)
 
--- a session without smudge refuses all, and is shut
+-- a session without smudge refuses all paths, and is shut
 abbrev pub IsSession : Bool → Bool → List ℕ → List Exchange → End → List ℕ → Type 0
 IsSession true delay paths es end left = Asks delay paths [] es end left
 IsSession false delay paths es end left = (es ≡ []) × (end ≡ Shut) × (left ≡ [])
 
--- only after a break or want of memory is the driver started again, for the paths that weren't asked for
+-- the driver is started again only after a break or out of memory, for the paths that weren't asked for
 abbrev pub Then : End → (again over : Type 0) → Type 0
 Then Shut again over = over
 Then NothingLeft again over = over
@@ -126,7 +126,7 @@ IsTalk (p ∷ rest) (Session caps es end ∷ items) =
     (left : List ℕ) × IsSession caps.smudge caps.delay (p ∷ rest) es end left
     × Then end (IsTalk left items) (items ≡ [])
 
--- each exchange with the driver d as events: a list with names is each name in order and then its end
+-- each exchange with the driver d as events: a list with names gives each name in order and then its end
 abbrev pub exchange_notes : ℕ → Exchange → List Event
 exchange_notes d (First q y) = event.Answered q y ∷ []
 exchange_notes d (Listing names y) = map event.Named names ++ event.Listed d y ∷ []

@@ -27,7 +27,7 @@ refused_cause x (path.Heard (heard.Refused c)) = Some c
 refused_cause x Unasked = unasked_cause x
 refused_cause x _ = None
 
--- a path in hand, by the cause that it was handed back with
+-- a path in hand, by the cause with which it was handed back
 abbrev pub raw_verdict : Option FilterCause → Bool → Verdict
 raw_verdict None u = verdict.Written u
 raw_verdict (Some c) u = verdict.Unfiltered c u
@@ -35,14 +35,14 @@ raw_verdict (Some c) u = verdict.Unfiltered c u
 abbrev pub refused_verdict : Bool → FilterCause → Bool → Verdict
 refused_verdict required c u = cond required (verdict.Failed (fail.Filter c)) (verdict.Unfiltered c u)
 
--- by what the driver told of it
+-- by what the driver's answers say of the path
 abbrev pub heard_verdict : Bool → Heard → Bool → Verdict
 heard_verdict required heard.Got u = verdict.Written u
 heard_verdict required (heard.Refused c) u = refused_verdict required c u
 heard_verdict required heard.Lost u = verdict.Failed fail.Missing
 heard_verdict required heard.OutOfMemory u = verdict.NoMemory
 
--- in hand: the object may fail to be read only if it wasn't read before
+-- a path in hand: its object may fail to be read only if it wasn't read before
 abbrev pub held_close : Option FilterCause → Own → Option Verdict
 held_close raw (own.Fine u) = Some (raw_verdict raw u)
 held_close raw own.WriteFailed = Some (verdict.Failed fail.WriteFailed)
@@ -55,14 +55,14 @@ abbrev pub write_failed : Heard → Verdict
 write_failed heard.OutOfMemory = verdict.NoMemory
 write_failed _ = verdict.Failed fail.WriteFailed
 
--- told of
+-- a path of which the driver's answers say something
 abbrev pub heard_close : Bool → Heard → Own → Option Verdict
 heard_close required h (own.Fine u) = Some (heard_verdict required h u)
 heard_close required h own.WriteFailed = Some (write_failed h)
 heard_close required h own.NoMemory = Some verdict.NoMemory
 heard_close required h _ = None
 
--- the path for which the open session was opened
+-- whether the open session was opened for this path
 abbrev pub is_first : DriverState → ℕ → Bool
 is_first (driver.On s) p = p == s.first
 is_first _ p = false
@@ -77,7 +77,7 @@ unasked_fine required (Some c) (own.Fine u) = Some (refused_verdict required c u
 unasked_fine required (Some c) own.WriteFailed = Some (verdict.Failed fail.WriteFailed)
 unasked_fine required (Some c) _ = None
 
--- not asked for: what befell the path itself decides, or that its driver refused it
+-- a path that wasn't asked for: its own outcome decides, or that its driver refused it
 abbrev pub unasked_close : Bool → DriverState → ℕ → Own → Option Verdict
 unasked_close required x p (own.Object k) = cond (is_first x p) None (Some (verdict.Failed (fail.Object k)))
 unasked_close required x p own.ReadFailed = cond (is_first x p) None (Some (verdict.Failed fail.ReadFailed))

@@ -19,7 +19,7 @@ use crate::state::State;
 use crate::verdict::{FailCause, FilterCause, Own, Verdict};
 use filter_words::{BreakCause, Caps, ListReply, Reply};
 
-/// A break that a path can be told of: the others come from a list alone.
+/// Whether the answer for one path can break like this: the other breaks come from a list alone.
 fn is_path_break(cause: BreakCause) -> bool
     ensures { result ≡ is_path_break cause }
 {
@@ -172,7 +172,7 @@ fn heard_verdict(required: bool, heard: Heard, unencoded: bool) -> Verdict
     }
 }
 
-/// The verdict of a path in hand. Its object can fail to be read only if it wasn't read before.
+/// The verdict of a path that an actor has in hand. Its object can fail to be read only if it wasn't read before.
 fn held_close(raw: Option<FilterCause>, own: Own) -> Option<Verdict>
     ensures { result ≡ held_close raw own }
 {
@@ -200,7 +200,7 @@ fn heard_close(required: bool, heard: Heard, own: Own) -> Option<Verdict>
     }
 }
 
-/// Whether this path is the one that an open session was opened for.
+/// Whether an open session was opened for this path.
 fn is_first(state: DriverState, path: u32) -> bool
     ensures { result ≡ is_first state path }
 {
@@ -246,7 +246,7 @@ fn unasked_close(required: bool, state: DriverState, path: u32, own: Own) -> Opt
     }
 }
 
-/// Whether a first request may be answered so.
+/// Whether a first request may be answered like this.
 fn may_answer(session: Session, reply: Reply) -> bool
     ensures { result ≡ (session.caps.smudge
         && (is_good_reply reply && not (is_delay reply && not session.caps.delay))) }
@@ -468,7 +468,7 @@ impl State {
         })
     }
 
-    /// The path, where this actor is the desk of its driver.
+    /// The path, if this actor is the desk of its driver.
     fn desk(&self, path: u32, actor: u32) -> Option<DriverPath>
         ensures { MatchOption result (LacksDesk self.now path actor) (IsDesk self.now path actor) }
     {
@@ -480,7 +480,7 @@ impl State {
         }
     }
 
-    /// What the event changes, or `None` where it is no step.
+    /// What the event changes, or `None` if it isn't a step.
     pub(crate) fn effect(&mut self, event: Event) -> Option<Effect>
         ensures same { self.new ≡ self.old }
         ensures effect { result ≡ effect_of self.old event }

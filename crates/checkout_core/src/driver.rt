@@ -1,4 +1,4 @@
-//! Where a driver stands.
+//! The state of a driver.
 use filter_words::Caps;
 
 /// An open session of a driver.
@@ -13,7 +13,7 @@ pub struct Session {
     pub noting_list: bool,
 }
 
-/// Where a driver stands.
+/// The state of a driver.
 #[derive(Clone, Copy, Debug, PartialEq, Eq)]
 pub enum DriverState {
     /// No session is open.

@@ -1,8 +1,8 @@
-//! A path seen together with its driver.
+//! A path, seen together with its driver.
 use crate::driver::DriverState;
 use crate::path::Path;
 
-/// A path of a driver, with where the driver stands.
+/// A path of a driver, and the driver's state.
 #[derive(Clone, Copy, Debug)]
 pub(crate) struct DriverPath {
     pub(crate) path: Path,

@@ -2,7 +2,7 @@
 use crate::driver::DriverState;
 use crate::path::PathState;
 
-/// What becomes of a driver's delayed and named paths.
+/// What happens to a driver's delayed and named paths.
 #[derive(Clone, Copy, Debug, PartialEq, Eq)]
 pub enum Sweep {
     Keep,

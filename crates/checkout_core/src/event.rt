@@ -10,14 +10,14 @@ pub enum OpenCause {
     NoMemory,
 }
 
-/// One step of a checkout: by one actor. Paths, drivers and actors are numbered from 0.
+/// One step of a checkout, made by one actor. Paths, drivers and actors are numbered from 0.
 #[derive(Clone, Copy, Debug, PartialEq, Eq)]
 pub enum Event {
     /// The actor takes a waiting path.
     Claim { path: u32, actor: u32 },
-    /// The actor ends a path, with what befell the path itself.
+    /// The actor ends a path, with the path's own outcome.
     Close { path: u32, actor: u32, own: Own },
-    /// The driver's session is open, and it announced these capabilities.
+    /// The driver's session is open, and the driver announced these capabilities.
     Opened { driver: u32, caps: Caps },
     /// The session for this path could not be opened.
     OpenFailed { path: u32, cause: OpenCause },
@@ -25,7 +25,7 @@ pub enum Event {
     Answered { path: u32, reply: Reply },
     /// The driver's list names this delayed path.
     Named { path: u32 },
-    /// The driver's list is at its end.
+    /// The driver's list has ended.
     Listed { driver: u32, reply: ListReply },
     /// The path's driver answered the second request for it.
     Redone { path: u32, reply: Reply },

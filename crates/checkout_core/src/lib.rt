@@ -1,4 +1,4 @@
-//! What can befall the paths of a checkout: a state machine over the events of its actors.
+//! What can happen to the paths of a checkout: a state machine over the events of its actors.
 #![tactic(auto)]
 
 mod conditions;

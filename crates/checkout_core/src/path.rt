@@ -1,17 +1,17 @@
 use crate::verdict::{FilterCause, Verdict};
 
-/// What a path begins as.
+/// How a path begins.
 #[derive(Clone, Copy, Debug, PartialEq, Eq)]
 pub enum Start {
     /// Any actor may take it.
     Pool,
-    /// Its driver converts it, and a required driver's refusal is a failure.
+    /// Its driver converts it. If the driver is required, its refusal is a failure.
     Desk { driver: u32, required: bool },
-    /// It was decided before.
+    /// Its verdict was decided before.
     Done(Verdict),
 }
 
-/// What a driver told of a path.
+/// What a driver's answers say of a path.
 #[derive(Clone, Copy, Debug, PartialEq, Eq)]
 pub enum Heard {
     Got,
@@ -22,24 +22,24 @@ pub enum Heard {
     OutOfMemory,
 }
 
-/// Where a path stands.
+/// The state of a path.
 #[derive(Clone, Copy, Debug, PartialEq, Eq)]
 pub enum PathState {
-    /// For any actor to take. The cause is there where its driver handed it back.
+    /// For any actor to take. There is a cause if its driver handed it back.
     Waiting(Option<FilterCause>),
-    /// In the hands of this actor, with the cause that it waited with.
+    /// In the hands of this actor, with the cause that it had while it waited.
     Held(u32, Option<FilterCause>),
     /// Its driver wasn't asked yet.
     Unasked,
     /// Its driver will list it.
     Delayed,
-    /// Its driver listed it at this turn, and it is to be asked for again.
+    /// Its driver listed it at this turn, and will be asked for it again.
     Named(u32),
     Heard(Heard),
     Closed(Verdict),
 }
 
-/// A path: how it began, and where it stands.
+/// A path: how it began, and its state.
 #[derive(Clone, Copy, Debug, PartialEq, Eq)]
 pub struct Path {
     pub start: Start,

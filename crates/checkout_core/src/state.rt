@@ -44,14 +44,14 @@ fn is_at(start: Start, driver: u32) -> bool
     }
 }
 
-/// Whether the driver is still to be asked for a path.
+/// Whether the driver still has to be asked for a path.
 fn asks(path: &Path, driver: u32) -> bool
     ensures { result ≡ asks driver path.now }
 {
     is_at(path.start, driver) && matches!(path.state, PathState::Unasked)
 }
 
-/// The first path from this one on that the driver is to be asked for, or the number of paths.
+/// The first path from this one on that the driver has to be asked for, or the number of paths.
 fn next_unasked(paths: &[Path], driver: u32, from: u32) -> u32
     requires few { length paths.now < 2 ^ 32 }
     requires within { from ≤ length paths.now }
@@ -70,7 +70,7 @@ fn next_unasked(paths: &[Path], driver: u32, from: u32) -> u32
 }
 
 impl State {
-    /// The verdict of this path, or `None` where it isn't closed or there is no such path.
+    /// The verdict of this path, or `None` if it isn't closed or there is no such path.
     pub fn verdict(&self, path: u32) -> Option<Verdict>
         ensures { result ≡ verdict_at self.now path }
     {
@@ -87,14 +87,14 @@ impl State {
         self.unclosed
     }
 
-    /// The path of this number.
+    /// The path with this number.
     pub(crate) fn path_at(&self, path: u32) -> Option<Path>
         ensures { result ≡ slice_get self.now.paths path }
     {
         self.paths.get(path as usize).copied()
     }
 
-    /// The driver of this number.
+    /// The driver with this number.
     pub(crate) fn driver_at(&self, driver: u32) -> Option<DriverState>
         ensures { result ≡ slice_get self.now.drivers driver }
     {
@@ -121,7 +121,7 @@ impl State {
         self.cursors[driver as usize]
     }
 
-    /// The lowest path that the driver is to be asked for.
+    /// The lowest path that the driver still has to be asked for.
     pub(crate) fn lowest_unasked(&mut self, driver: u32) -> Option<u32>
         requires { driver < length self.old.drivers }
         ensures same { self.new ≡ self.old }
@@ -140,7 +140,7 @@ impl State {
         }
     }
 
-    /// Whether the driver is to be asked for no path any more.
+    /// Whether the driver has no path left to be asked for.
     pub(crate) fn all_asked(&mut self, driver: u32) -> bool
         requires { driver < length self.old.drivers }
         ensures same { self.new ≡ self.old }
@@ -149,7 +149,7 @@ impl State {
         self.lowest_unasked(driver).is_none()
     }
 
-    /// Whether this path is the lowest that its driver is to be asked for.
+    /// Whether this path is the lowest that its driver still has to be asked for.
     pub(crate) fn is_next(&mut self, path: u32, driver: u32, was: Path) -> bool
         requires seated { driver < length self.old.drivers }
         requires there { slice_get self.old.paths path ≡ Some was }

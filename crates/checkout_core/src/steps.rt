@@ -5,11 +5,11 @@ ghost use Rattle.checkout_core.specs.Steps.{step_of, replay, StopsAt};
 use crate::event::Event;
 use crate::state::State;
 
-/// The event is no step of the state.
+/// The event isn't a step of the state.
 #[derive(Clone, Copy, Debug, PartialEq, Eq)]
 pub struct Refused;
 
-/// Takes one event. Where it is no step, the state stays. It takes no memory.
+/// Takes one event. If it isn't a step, the state doesn't change. It takes no memory.
 pub fn step(state: &mut State, event: Event) -> Result<(), Refused>
     ensures { MatchResult result (λ _. step_of state.old event ≡ Some state.new)
         (λ _. (step_of state.old event ≡ None) × (state.new ≡ state.old)) }
@@ -21,8 +21,8 @@ pub fn step(state: &mut State, event: Event) -> Result<(), Refused>
     Ok(())
 }
 
-/// Takes the events in order. An error tells the place of the first that is no step: the state is
-/// then the one before it. It takes no memory.
+/// Takes the events in order. An error gives the place of the first that isn't a step, and the
+/// state is then the one before it. It takes no memory.
 pub fn replay(state: &mut State, events: &[Event]) -> Result<(), u32>
     requires { length events.now < 2 ^ 32 }
     ensures { MatchResult result (λ _. replay state.old events.now ≡ Some state.new)

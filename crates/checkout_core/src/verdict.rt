@@ -75,7 +75,7 @@ pub enum FailCause {
 /// How a path of a checkout ended.
 #[derive(Clone, Copy, Debug, PartialEq, Eq)]
 pub enum Verdict {
-    /// The path has its file. `unencoded`: its content isn't UTF-8, and was written as it is.
+    /// The path has its file. `unencoded` says that its content isn't UTF-8 and was written as it is.
     Written { unencoded: bool },
     /// The path has its file, without its driver, which isn't required.
     Unfiltered { cause: FilterCause, unencoded: bool },
@@ -84,7 +84,7 @@ pub enum Verdict {
     Skipped(SkipCause),
 }
 
-/// What befell a path itself, apart from its driver.
+/// The own outcome of a path: what happened to it, whatever its driver says.
 #[derive(Clone, Copy, Debug, PartialEq, Eq)]
 pub enum Own {
     Fine { unencoded: bool },

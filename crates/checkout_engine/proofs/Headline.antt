@@ -41,7 +41,7 @@ closed_ends told p (verdict.Failed (fail.Object kind)) file is has none = absurd
 closed_ends told p (verdict.Failed (fail.Filter cause)) file is has none = absurd has
 closed_ends told p (verdict.Failed fail.Missing) file is has none = absurd has
 
--- what may stay of a leaf that was given up
+-- what may remain of a leaf that was given up
 part_left : (path content : List ℕ) (state : LeafState) (file : Option TreeFile) → LeavesPart path content state file → MayLeavePart path content file
 part_left path content Gone file part = subst (λ (x : Option TreeFile). MayLeavePart path content x) (sym part) tt
 part_left path content Stuck file part = part
@@ -73,7 +73,7 @@ path_ends told p o (start.Done v) is cause (same, unmade) left =
 path_ends told p o start.Pool is cause has left = open_ends told p o o.verdict is has left
 path_ends told p o (start.Desk driver required) is cause has left = absurd has
 
--- a verdict and a file of each outcome
+-- the verdict and the file of each outcome
 abbrev ends_of : List Outcome → List (Verdict × Option TreeFile)
 ends_of os = map (λ o. (o.verdict, o.file)) os
 

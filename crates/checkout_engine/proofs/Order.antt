@@ -1,4 +1,4 @@
--- Files join in the order of the paths, each behind the others.
+-- Files join in the order of the paths, each after the others.
 use Rattle.std.proofs.Common.{◌≡◌, ◌⊎◌, ℕ, Bool, true, false, if◌then◌else◌, Ordering, Less, Equal, Greater, List, [], ◌∷◌, ◌++◌, map, ◌==◌, Option, Some, None, Result, Ok, Err, refl, sym, ap, subst, ◌∙◌, append_assoc, append-nil, inl, inr}
 use Rattle.std.specs.List.{list_all, AllByRecursion}
 use Rattle.std.specs.Ordering.{nat_cmp, is_lt, ordering_reverse}
@@ -53,12 +53,12 @@ up_to_below law e (f ∷ es) h =
     let first : IsUpTo e.path f = elim (law.entries e f p.0) [ inl before ↦ inr before | inr tied ↦ inl (sym tied.0) ] in
     (first, up_to_below law e es p.1)
 
--- where an entry has another path than the last one, its path comes behind that
+-- if an entry has another path than the last one, its path comes after the last
 other_is_behind : (path : List ℕ) (e : Entry) → bytes_eq e.path path ≡ false → IsUpTo path e → is_before path e.path ≡ true
 other_is_behind path e other (inl same) = let no : true ≡ false = sym ((bytes_eq-Decides e.path path).1 same) ∙ other in absurd cc
 other_is_behind path e other (inr before) = before
 
--- the first entries behind a path come behind each path up to that
+-- the first entries after a path come after each path up to it
 first_is_behind : PathsAreOrdered → (b c : List ℕ) (es : List Entry) → (b ≡ c) ⊎ (is_before b c ≡ true) → AllByRecursion (IsUpTo c) es → pairwise is_below es ≡ true
     → list_all (λ q. is_before b q.path) (first_entries_after c es) ≡ true
 first_is_behind law b c [] up all rise = refl

@@ -1,4 +1,4 @@
--- Why a repository is refused, and what a read that fails leaves.
+-- Why a repository is refused, and what a failed read leaves.
 use Rattle.std.specs.Prelude.{◌≡◌, ◌⊎◌, ◌<◌, ◌++◌, ℕ, true, List, slice_get, Some}
 use Rattle.std.specs.List.{list_any}
 use Rattle.edge_kit.specs.Faults.{Rose}
@@ -24,7 +24,7 @@ IsIndexRead told = (entries : List Entry) × HasIndex told.index entries
 abbrev pub IsConfigRead : RepoTold → Type 0
 IsConfigRead told = (settings : Settings) × HasSettings told.config settings
 
--- the first of the three files that may fail, where those before it were read
+-- the first of the three files that may fail, after those before it were read
 abbrev pub IsSourceUnread : RepoTold → Type 0
 IsSourceUnread told =
     MayFail told.index ⊎ (IsIndexRead told × MayFail told.config)
@@ -38,7 +38,7 @@ pub record IsFaulty (told : RepoTold) (fault : PlanFault) : Type 0 where
   pub sources : HasSources told entries settings info
   pub has : HasPlanFault told.object entries info settings fault
 
--- the same of the attribute file with that path, and its entry's number
+-- the same for the attribute file with that path, and its entry's number
 pub record IsFaultyFile (told : RepoTold) (path : List ℕ) (fault : ℕ → PlanFault) : Type 0 where
   pub number : ℕ
   pub faulty : IsFaulty told (fault number)
@@ -61,7 +61,7 @@ IsCause told (refusal.AttributeTooLarge path) =
 IsCause told (refusal.TooManyDrivers n) = IsFaulty told (fault.TooManyDrivers n)
 IsCause told refusal.Unbuilt = ⊥
 
--- the same of a checkout: a plan with a driver in use isn't carried out yet
+-- the same for a checkout: a plan with a driver in use isn't carried out yet
 abbrev pub IsCheckoutCause : RepoTold → Refusal → Type 0
 IsCheckoutCause told refusal.Unbuilt =
     (plan : Plan) × IsPlanned told plan × (list_any has_driver plan.paths ≡ true)

@@ -1,4 +1,4 @@
--- What the parts of a run promise one another of its end.
+-- What the parts of a run promise each other about its end.
 use Rattle.std.specs.Prelude.{◌≡◌, ◌⊎◌, true, false, List}
 use Rattle.std.specs.Prelude.{ℕ, Option, Some, None, Result, Ok, Err}
 use Rattle.std.specs.List.{list_any}
@@ -61,8 +61,8 @@ ReportsStop stop.NotEmpty old new s = (s ≡ status.NotEmpty) × (new ≡ old)
 ReportsStop stop.ReadFault old new s = (s ≡ status.ReadFault) × (new ≡ old)
 ReportsStop stop.NoMemory old new s = (s ≡ status.OutOfMemory) × (new ≡ old)
 
--- The report is written whole, and the status is that of the verdicts. Or a first part is: the sink
--- failed, or memory ran out.
+-- The report is written whole, and the status is that of the verdicts. Or a first part of it is
+-- written: the sink failed, or memory ran out.
 abbrev pub Reports : List ℕ → List Verdict → SinkSeen → SinkSeen → Status → Type 0
 Reports text verdicts old new status.Done =
     (status_of verdicts ≡ status.Done) × (new ≡ with_text text old)
@@ -74,7 +74,7 @@ Reports text verdicts old new status.OutOfMemory =
     IsCut text old new × (lacks_memory verdicts ≡ false → new.faults ≡ old.faults)
 Reports text verdicts old new s = ⊥
 
--- how the writing of open and closed paths ends, one after the other, and the report of them
+-- how the writing of open and closed paths ends, one after the other, and that of their report
 abbrev pub ReportsPaths : (List ℕ → Told) → List PathPlan → Seen → Seen → Status → Type 0
 ReportsPaths object paths old new s =
     ((s ≡ status.OutOfMemory) × (new ≡ old))
@@ -113,7 +113,7 @@ EndsCheckout told old new status.OutOfMemory = IsOutOfMemory told old new
 EndsCheckout told old new status.ReadFault = IsReadFault told old new
 EndsCheckout told old new status.NotEmpty = IsNotEmpty old new
 
--- how words end that are no command: nothing at all was done
+-- how words end that are not a command: nothing at all was done
 pub record EndsUnasked (old new : Seen) (s : Status) : Type 0 where
   pub is : (s ≡ status.Usage) ⊎ (s ≡ status.OutOfMemory)
   pub same : new ≡ old

@@ -1,4 +1,4 @@
--- How a run of the command ends, and what stands at each end.
+-- How a run of the command ends, and what holds at each end.
 use Rattle.std.specs.Prelude.{◌≡◌, ◌≢◌, ◌⊎◌, ℕ, true, false, List, map, Option, Some, None}
 use Rattle.std.specs.Prelude.{string_bytes, String}
 use Rattle.std.specs.declared.alloc.Global.{Global}
@@ -23,11 +23,11 @@ use Rattle.checkout_engine.specs.Output.{IsCut, with_text}
 use Rattle.checkout_engine.specs.Report.{status_of, lacks_memory, report, number_of}
 use Rattle.checkout_engine.specs.RefusalText.{refusal_line}
 
--- what the words ask for
+-- the command that the words give
 abbrev pub asked : List (String Global) → Option Command
 asked words = command_of (map string_bytes words)
 
--- a checkout is asked for, or a plan, or a rehearsal
+-- whether the command is a checkout, a plan, or a rehearsal
 abbrev pub IsCheckout : Option Command → Type 0
 IsCheckout (Some (command.Checkout workers)) = Unit {0}
 IsCheckout c = ⊥
@@ -57,8 +57,8 @@ abbrev pub files_of : List Outcome → List TreeFile
 files_of outcomes = filter_map (λ o. o.file) outcomes
 
 -- The worktree was empty. Each path of the plan has its outcome, and the worktree has the files of
--- the outcomes and no other. The blobs of the attribute files, of which none failed, then those of
--- the paths and their leaves were given back.
+-- the outcomes and no other. The blobs of the attribute files, none of which failed, and then the
+-- blobs and the leaves of the paths were given back.
 pub record IsCheckedOut (told : RepoTold) (old new : Seen) : Type 0 where
   pub empty : Tells old.tree.empty true
   pub plan : Plan
@@ -71,7 +71,7 @@ pub record IsCheckedOut (told : RepoTold) (old new : Seen) : Type 0 where
   pub leaves : GotLeaves old.tree (leaves_back plan.paths outcomes) new.tree
 
 -- The report has a line for each path, in order, with its verdict, and the number is that of the
--- verdicts: 0, or 1 where some path failed.
+-- verdicts: 0, or 1 if some path failed.
 pub record IsReported (paths : List PathPlan) (verdicts : List Verdict) (old new : SinkSeen)
     (number : ℕ) : Type 0 where
   pub report : new ≡ with_text (report paths verdicts) old
@@ -114,15 +114,15 @@ pub record IsIdle (old new : Seen) : Type 0 where
   pub untouched : IsUntouched old new
   pub silent : new.sink ≡ old.sink
 
--- The checkout is done, and a first part of its report was written. The sink failed only where a
--- path wanted memory, too.
+-- The checkout is done, and a first part of its report was written. If no path ran out of memory,
+-- the sink didn't fail.
 pub record IsReportCut (told : RepoTold) (old new : Seen) : Type 0 where
   pub checkout : IsCheckedOut told old new
   pub report : IsCut (report checkout.plan.paths (verdicts_of checkout.outcomes)) old.sink new.sink
   pub sink : lacks_memory (verdicts_of checkout.outcomes) ≡ false
       → new.sink.faults ≡ old.sink.faults
 
--- 5: memory ran out, before anything was touched or once all paths were.
+-- 5: memory ran out, before any file was touched or after all paths were done.
 abbrev pub IsOutOfMemory : RepoTold → Seen → Seen → Type 0
 IsOutOfMemory told old new = (IsIdle old new × IsSteady old new) ⊎ IsReportCut told old new
 
@@ -137,7 +137,7 @@ pub record IsReadFault (told : RepoTold) (old new : Seen) : Type 0 where
 abbrev pub IsNotEmpty : Seen → Seen → Type 0
 IsNotEmpty old new = Tells old.tree.empty false × (new ≡ old)
 
--- words that are no command, and no others, end with 2, unless memory ran out
+-- words that are not a command, and no others, end with 2, unless memory ran out
 abbrev pub IsUsage : Option Command → ℕ → Type 0
 IsUsage None number = (number ≡ 2) ⊎ (number ≡ 5)
 IsUsage (Some c) number = number ≢ 2

@@ -21,7 +21,7 @@ use Rattle.checkout_engine.specs.Report.{report}
 use Rattle.checkout_engine.specs.Sources.{IsPlanned}
 
 -- The file of a written path: its object's content, converted, with its mark. `unencoded` says that
--- the content was left as it is, since it isn't UTF-8.
+-- the content was left as it is because it isn't UTF-8.
 pub record IsConverted (told : Told) (p : PathPlan) (unencoded : Bool) (f : TreeFile) : Type 0 where
   pub path : f.path ≡ p.path
   pub mark : f.mark ≡ p.mark
@@ -30,8 +30,8 @@ pub record IsConverted (told : Told) (p : PathPlan) (unencoded : Bool) (f : Tree
   pub bytes : f.bytes ≡ (prepared p.conversion p.object content).bytes
   pub flag : unencoded ≡ (prepared p.conversion p.object content).unencoded
 
--- A path, its verdict with its cause, and its file. Where a file could neither be written nor
--- removed, a first part of it may stay. Any other verdict is the plan's.
+-- A path, its verdict with its cause, and its file. If a file could neither be written nor removed,
+-- a first part of it may remain. Any other verdict is the plan's.
 abbrev pub EndsWith : Told → PathPlan → Verdict → Option TreeFile → Type 0
 EndsWith told p (verdict.Written unencoded) file =
     (p.start ≡ Pool) × (f : TreeFile) × IsConverted told p unencoded f × (file ≡ Some f)
@@ -48,9 +48,9 @@ EndsWith told p (verdict.Unfiltered cause unencoded) file = ⊥
 EndsWith told p verdict.NoMemory file = ⊥
 EndsWith told p v file = (p.start ≡ Done v) × (file ≡ None)
 
--- Each path of the repository's plan ended, the worktree has the files of these ends, in their order,
--- and no other, and the report has a line for each path, in order, with its verdict. The number is 1
--- where some path failed. As many blobs and leaves are out as before.
+-- Each path of the repository's plan ended, the worktree has the files of these ends, in their order, and no other, and
+-- the report has a line for each path, in order, with its verdict. The number is 1 if some path failed. As many blobs
+-- and leaves are out as before.
 pub record IsHeadline (told : RepoTold) (old new : Seen) (number : ℕ) : Type 0 where
   pub plan : Plan
   pub planned : IsPlanned told plan

@@ -10,7 +10,7 @@ pub mod Output
 pub mod Report
 pub mod RefusalText
 pub mod Complete
--- what its parts promise one another
+-- what its parts promise each other
 pub mod Reading
 pub mod Writing
 pub mod Ending

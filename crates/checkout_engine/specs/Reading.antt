@@ -1,4 +1,4 @@
--- What the parts of the reading promise one another.
+-- What the parts of the reading promise each other.
 use Rattle.std.specs.Prelude.{◌≡◌, ◌⊎◌, ◌<◌, ℕ, List, [], length, slice_get, Option, Some, None}
 use Rattle.std.specs.Prelude.{Result, Ok, Err}
 use Rattle.std.specs.Global.{Vec}
@@ -27,7 +27,7 @@ use Rattle.checkout_engine.specs.declared.stop.Stop.TheVariants as stop
 use Rattle.checkout_engine.specs.Causes.{IsCause, IsReadCause, IsRepoBack, IsRepoSteady, IsPlanRead}
 use Rattle.settings_view.specs.declared.fault.SettingFault.TheVariants as setting
 
--- the bytes that were taken of an index, which has to be there
+-- the bytes that were taken of an index, which must be there
 abbrev pub index_taken : Result (Option (Vec ℕ)) TakeFault → Result (List ℕ) Stop
 index_taken (Ok (Some bytes)) = Ok bytes.items
 index_taken (Ok None) = Err (stop.Refused refusal.IndexAbsent)
@@ -66,7 +66,7 @@ ReadsSettings bytes (Err (stop.Refused (refusal.Setting fault))) =
 ReadsSettings bytes (Err stop.NoMemory) = Unit {0}
 ReadsSettings bytes (Err s) = ⊥
 
--- The reading of a file stops at a fault only where the count rose and the file may fail, and at a
+-- The reading of a file stops at a fault only if the count rose and the file may fail, and at a
 -- refusal only by what is told.
 abbrev pub StopsFor : {T : Type 0} → (Refusal → Type 0) → Type 0 → RepoSeen → RepoSeen
     → Result T Stop → Type 0
@@ -96,7 +96,7 @@ IsWithin es (fault.Attribute k kind) = k < length es
 IsWithin es (fault.AttributeTooLarge k) = k < length es
 IsWithin es f = Unit {0}
 
--- The stop of a fault of the plan. A path that is named wants memory.
+-- The stop that a fault of the plan becomes. To name a path takes memory.
 abbrev pub IsStopOf : List Entry → PlanFault → Stop → Type 0
 IsStopOf es (fault.AttributeRead k) s = s ≡ stop.ReadFault
 IsStopOf es (fault.Attribute k kind) s =

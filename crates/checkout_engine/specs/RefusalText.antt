@@ -15,7 +15,7 @@ use Rattle.git_config.specs.declared.fault.ConfigFault.TheVariants as config
 use Rattle.checkout_engine.specs.declared.stop.Refusal.{Refusal}
 use Rattle.checkout_engine.specs.declared.stop.Refusal.TheVariants as refusal
 
--- what stands behind the word of an index's fault
+-- what follows the word for an index's fault
 abbrev pub index_detail : IndexFault → List ℕ
 index_detail (index.Version n) = 32 ∷ decimal n
 index_detail (index.Count n) = 32 ∷ decimal n
@@ -50,6 +50,6 @@ refusal_words (refusal.AttributeTooLarge path) = attribute_words path (codes "to
 refusal_words (refusal.TooManyDrivers n) = codes "drivers " ++ decimal n
 refusal_words refusal.Unbuilt = codes "unbuilt"
 
--- the line that is written where it is refused so
+-- the line that is written for this refusal
 abbrev pub refusal_line : Refusal → List ℕ
 refusal_line r = codes "refused " ++ (refusal_words r ++ 10 ∷ [])

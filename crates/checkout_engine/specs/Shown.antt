@@ -1,4 +1,4 @@
--- How the command `plan` ends, and what stands at each end.
+-- How the command `plan` ends, and what holds at each end.
 use Rattle.std.specs.Prelude.{◌≡◌, ◌⊎◌}
 use Rattle.edge_kit.specs.Faults.{Rose}
 use Rattle.edge_kit.specs.Seen.{RepoSeen, SinkSeen}
@@ -34,7 +34,7 @@ pub record IsPlanCut (told : RepoTold) (repo repo' : RepoSeen) (sink sink' : Sin
   pub read : IsPlanRead told plan repo repo'
   pub text : IsCut (plan_lines plan) sink sink'
 
--- How the showing of a plan ends, by its status. Where it is shown whole, exactly the blobs of the
+-- How the showing of a plan ends, by its status. If it is shown whole, exactly the blobs of the
 -- attribute files were made and given back. It doesn't look at the worktree.
 abbrev pub Shows : RepoTold → RepoSeen → RepoSeen → SinkSeen → SinkSeen → Status → Type 0
 Shows told repo repo' sink sink' status.Done =
@@ -52,7 +52,7 @@ Shows told repo repo' sink sink' status.ReadFault =
     IsReadCause told repo repo' × (sink' ≡ sink) × IsRepoBack repo repo'
 Shows told repo repo' sink sink' s = ⊥
 
--- The same of `run`: the worktree stays as it is.
+-- The same for `run`: the worktree doesn't change.
 pub record EndsPlan (told : RepoTold) (old new : Seen) (s : Status) : Type 0 where
   pub shown : Shows told old.repo new.repo old.sink new.sink s
   pub tree : new.tree ≡ old.tree

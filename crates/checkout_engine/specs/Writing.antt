@@ -1,4 +1,4 @@
--- What the parts of the writing promise one another.
+-- What the parts of the writing promise each other.
 use Rattle.std.specs.Prelude.{◌≡◌, ◌⊎◌, ℕ, ◌<◌, List, [], ◌∷◌, take, Option, Some, None, Ok, Result}
 use Rattle.std.specs.Prelude.{Err}
 use Rattle.edge_kit.specs.Told.{Told, Tells, MayFail}
@@ -27,7 +27,7 @@ use Rattle.edge_kit.specs.Seen.{RepoSeen, TreeSeen}
 use Rattle.checkout_engine.specs.Outcome.{Outcome, IsOutcome, blob_back, leaf_back}
 use Rattle.checkout_engine.specs.Paths.{with_blobs, GotLeaves, blobs_back, leaves_back}
 
--- a leaf that was given up: no file is there, or a part of it may stay where the discard failed
+-- a leaf that was given up: no file is there, or a part of it may remain since the discard failed
 abbrev pub IsGivenUp : LeafState → Type 0
 IsGivenUp state = (state ≡ Gone) ⊎ (state ≡ Stuck)
 
@@ -35,8 +35,8 @@ IsGivenUp state = (state ≡ Gone) ⊎ (state ≡ Stuck)
 abbrev pub TellsPart : Option (List ℕ) → List ℕ → Type 0
 TellsPart told bytes = (n : ℕ) × Tells told (take n bytes)
 
--- the content was put and the leaf sealed, or a first part was put and the leaf failed, or nothing
--- has changed for want of memory
+-- the content was put and the leaf sealed, or a first part was put and the leaf failed, or memory
+-- ran out and nothing has changed
 abbrev pub PutsWhole : {T : Type 0} → Mark → List ℕ → LeafSeen → LeafSeen → Result T SendFault
     → Type 0
 PutsWhole mark content old new (Ok x) =
@@ -58,7 +58,7 @@ WritesContent mark content (verdict.Failed fail.WriteFailed) leaf =
 WritesContent mark content verdict.NoMemory leaf = IsUnput leaf
 WritesContent mark content v leaf = ⊥
 
--- the object was read, and its content ends so at the leaf
+-- the object was read, and the writing of its content to the leaf ended like this
 abbrev pub WritesRead : Told → PathPlan → Verdict → ℕ → LeafSeen → Type 0
 WritesRead told p v blob leaf =
     (bytes : List ℕ) × Gives told p.object (Ok bytes) × (blob ≡ 0)

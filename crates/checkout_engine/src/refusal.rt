@@ -49,7 +49,7 @@ fn config_words(alloc: Global, fault: ConfigFault) -> Result<String, AllocError>
     }
 }
 
-/// The words of an attribute file that is refused: its path, quoted as in the report, and what is wrong.
+/// The words for an attribute file that is refused: its path, quoted as in the report, and what is wrong.
 fn attribute_words(alloc: Global, path: &Bytes, word: &str) -> Result<Vec<u8>, AllocError>
     ensures { IfOk result (λ v. v.items ≡ attribute_words path.now word.now) }
 {
@@ -86,7 +86,7 @@ fn refusal_words(alloc: Global, refusal: &Refusal) -> Result<Vec<u8>, AllocError
     }
 }
 
-/// The line that is written where a checkout is refused so.
+/// The line that is written if a checkout is refused like this.
 pub fn refusal_line(alloc: Global, refusal: &Refusal) -> Result<Vec<u8>, AllocError>
     ensures { IfOk result (λ v. v.items ≡ refusal_line refusal.now) }
 {

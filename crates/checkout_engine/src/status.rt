@@ -7,7 +7,7 @@ pub enum Status {
     Done = 0,
     /// Some path failed.
     DoneWithFailures = 1,
-    /// The words are no command.
+    /// The words are not a command.
     Usage = 2,
     /// The repository can't be checked out: a line says why.
     Refused = 3,

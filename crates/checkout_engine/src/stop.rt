@@ -9,15 +9,15 @@ use git_index::IndexFault;
 use settings_view::SettingFault;
 use std::alloc::{AllocError, AllocFailed};
 
-/// Why a repository is refused before a file is touched. Want of memory is no such fault.
+/// Why a repository is refused before a file is touched. Out of memory isn't a refusal.
 #[derive(Drop)]
 pub enum Refusal {
     IndexAbsent,
-    /// The index does not read.
+    /// The index can't be read.
     Index(IndexFault),
-    /// The configuration does not read.
+    /// The configuration can't be read.
     Config(ConfigFault),
-    /// A setting has a value that is none of its kind.
+    /// A setting has a value of the wrong kind.
     Setting(SettingFault),
     /// `info/attributes` is too large.
     InfoTooLarge,
@@ -25,7 +25,7 @@ pub enum Refusal {
     Attribute(Bytes, ObjectKind),
     /// An attribute file is too large: its path.
     AttributeTooLarge(Bytes),
-    /// So many drivers are in use.
+    /// Too many drivers are in use: their number.
     TooManyDrivers(u32),
     /// What isn't built yet: a rehearsal, or a driver in use.
     Unbuilt,

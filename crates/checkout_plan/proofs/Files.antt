@@ -47,7 +47,7 @@ one_read object e content m n k v is has folder file entries = record {
   stand = rw (is, entries) (put k v m.entries ∙ ap (λ (f : FileAt). with_file (map file_seen m.entries) f) (ap (λ (x : List ℕ). record { folder = x; file = v }) folder ∙ ap (λ (x : AttrFile). record { folder = folder_of e.path; file = x }) file));
 }
 
--- ---- one list of entries behind another
+-- ---- one list of entries after another
 
 abbrev pub Zips : (List ℕ → Told) → List Entry → List (List ℕ) → Type 0
 Zips object es contents = AllZip (λ e content. HasContent (object e.name) e content) es contents

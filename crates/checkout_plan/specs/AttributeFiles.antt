@@ -61,6 +61,6 @@ skipped_in file = file.skipped.long + file.skipped.negative + file.skipped.name 
 abbrev pub skipped_at : FileAt → ℕ
 skipped_at at = skipped_in at.file
 
--- how many lines of all files were skipped, or 2^64 - 1 where there are more
+-- how many lines of all files were skipped, or 2^64 - 1 if there are more
 unfoldable pub skipped_lines : AttrFiles → ℕ
 skipped_lines files = min (skipped_in files.info + sum_by skipped_at files.files) (2 ^ 64 - 1)

@@ -17,7 +17,7 @@ use Rattle.checkout_plan.specs.declared.fault.PlanFault.TheVariants as fault
 use Rattle.checkout_plan.specs.AttributeFiles.{is_attribute_file, attribute_entries}
 use Rattle.checkout_plan.specs.Paths.{plan_of}
 
--- what is wrong with an object, where it was read
+-- what is wrong with an object, if it was read
 abbrev pub object_kind : ObjectFault → Option ObjectKind
 object_kind object.Absent = Some kind.Absent
 object_kind object.TooLarge = Some kind.TooLarge
@@ -46,7 +46,7 @@ abbrev pub HaveContents : (List ℕ → Told) → List Entry → List (List ℕ)
 HaveContents object es contents =
     AllZip (λ e content. HasContent (object e.name) e content) (attribute_entries es) contents
 
--- The blobs of the attribute files among these entries, as they are given back where none failed.
+-- The blobs of the attribute files among these entries, as they are given back if none failed.
 abbrev pub blobs_of : List Entry → List (List ℕ × ℕ)
 blobs_of es = map (λ e. (e.name, 0)) (attribute_entries es)
 
@@ -73,11 +73,11 @@ pub record HasPlan (object : List ℕ → Told) (es : List Entry) (info : AttrFi
   pub read : HaveContents object es contents
   pub is : plan ≡ plan_of es settings info contents
 
--- a number as it is told: 2^32 - 1 where it is more
+-- a number as a fault gives it, up to 2^32 - 1
 abbrev pub told_number : ℕ → ℕ
 told_number n = min n (2 ^ 32 - 1)
 
--- why there is no plan, by what is told; want of memory needs no cause
+-- why there is no plan, by what is told; out of memory needs no cause
 abbrev pub HasPlanFault : (List ℕ → Told) → List Entry → AttrFile → Settings → PlanFault → Type 0
 HasPlanFault object es info settings (fault.AttributeRead k) =
     (f : IsFirstFault object es k) × MayFail (object f.entry.name)

@@ -67,7 +67,7 @@ start_by place None false = start.Pool
 abbrev pub start_at : ℕ → Driver → Start
 start_at place d = start_by place d.process d.required
 
--- the same of the driver with that name, from that place on; a name of no driver is no filter
+-- the same for the driver with that name, from that place on; a name of no driver is no filter
 abbrev pub start_named : ℕ → List Driver → List ℕ → Start
 start_named place [] name = start.Pool
 start_named place (d ∷ ds) name = if bytes_eq d.name name then start_at place d else start_named (suc place) ds name
@@ -159,7 +159,7 @@ start_among paths s = s
 abbrev pub path_among : List PathPlan → PathPlan → PathPlan
 path_among paths p = record p { start = start_among paths p.start }
 
--- the plan of these entries, where these attribute files reach them
+-- the plan of these entries, if these attribute files reach them
 abbrev pub plan_with : AttrFiles → List PathPlan → Settings → Plan
 plan_with files asked settings = record {
   paths = map (path_among asked) asked;

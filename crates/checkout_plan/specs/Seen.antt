@@ -50,8 +50,8 @@ files_seen m = map file_seen m.entries
 abbrev pub with_blob : List (List ℕ × ℕ) → List ℕ → ℕ → List (List ℕ × ℕ)
 with_blob returned name count = returned ++ (name, count) ∷ []
 
--- An object's blob is given back, and its count rose where reading it failed. Where memory ran out
--- there may have been no blob.
+-- An object's blob is given back, and its count rose if reading it failed. If memory ran out there
+-- may have been no blob.
 abbrev pub ReturnsObject : List ℕ → List (List ℕ × ℕ) → List (List ℕ × ℕ)
     → Result (Vec ℕ) ObjectFault → Type 0
 ReturnsObject name before after (Err object.ReadFailed) =
@@ -59,7 +59,7 @@ ReturnsObject name before after (Err object.ReadFailed) =
 ReturnsObject name before after (Err object.NoMemory) = (after ≡ before) ⊎ (after ≡ with_blob before name 0)
 ReturnsObject name before after answer = after ≡ with_blob before name 0
 
--- the same of the blob of an attribute file
+-- the same for the blob of an attribute file
 abbrev pub ReturnsFile : {T : Type 0} → List ℕ → List (List ℕ × ℕ) → List (List ℕ × ℕ)
     → Result T PlanFault → Type 0
 ReturnsFile name before after (Err (fault.AttributeRead k)) =
@@ -120,7 +120,7 @@ start_in starts name = unwrap_or (get_by (λ k. slice_cmp nat_cmp name k.now) st
 abbrev pub AreStarts : Starts → List Driver → Type 0
 AreStarts starts drivers = (name : List ℕ) → start_in starts name ≡ start_named 0 drivers name
 
--- the attributes that a path is asked for: those of a conversion, and `filter`
+-- the attributes that are looked up for a path: those of a conversion, and `filter`
 abbrev pub asked_names : List (List ℕ)
 asked_names = conversion_names ++ codes "filter" ∷ []
 
@@ -130,7 +130,7 @@ path_by settings e states =
     converted e (filter_start settings.drivers (slice_index_or states 5 Unspecified))
     (conversion_of (take 5 states) settings.autocrlf settings.eol)
 
--- it asks for these attributes, and knows how the paths of the settings' drivers begin
+-- it has the names of these attributes, and knows how the paths of the settings' drivers begin
 pub record IsReady (asking : Asking) : Type 0 where
   pub names : asking.names.items ≡ asked_names
   pub starts : AreStarts asking.starts asking.settings.now.drivers
@@ -143,7 +143,7 @@ AreUsed used paths = (k : ℕ) → k < length used → get_or used k false ≡ i
 abbrev pub AreNumbers : List ℕ → List PathPlan → Type 0
 AreNumbers numbers paths = (k : ℕ) → k < length numbers → get_or numbers k 0 ≡ number_at paths k
 
--- a path's driver is renumbered, where its place has a number
+-- a path's driver is renumbered, if its place has a number
 abbrev pub renumbered_start : List ℕ → Start → Start
 renumbered_start numbers (start.Desk place required) = start.Desk (get_or numbers place place) required
 renumbered_start numbers s = s
@@ -151,7 +151,7 @@ renumbered_start numbers s = s
 abbrev pub renumbered : List ℕ → PathPlan → PathPlan
 renumbered numbers p = record p { start = renumbered_start numbers p.start }
 
--- the driver of a path is one of so many
+-- the driver of a path is one of the first `count`
 abbrev pub StartsWithin : ℕ → Start → Type 0
 StartsWithin count (start.Desk place required) = place < count
 StartsWithin count s = Unit {0}
@@ -159,7 +159,7 @@ StartsWithin count s = Unit {0}
 abbrev pub IsWithin : ℕ → PathPlan → Type 0
 IsWithin count p = StartsWithin count p.start
 
--- a plan is given as it is, and refused exactly where too many drivers are in use
+-- a plan is given as it is, and refused exactly if too many drivers are in use
 abbrev pub IsLimited : Plan → Result Plan PlanFault → Type 0
 IsLimited plan (Ok p) = (p ≡ plan) × (length p.drivers ≤ max_drivers)
 IsLimited plan (Err (fault.TooManyDrivers n)) =

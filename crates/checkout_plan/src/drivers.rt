@@ -12,7 +12,7 @@ use checkout_core::Start;
 use settings_view::Driver;
 use std::alloc::{AllocError, Global};
 
-/// Notes the driver of a path that begins so.
+/// Notes the driver of a path that begins like this.
 fn note(used: &mut [bool], start: Start)
     ensures { (k : ℕ) → k < length used.old
         → get_or used.new k false ≡ (get_or used.old k false || is_desk_of k start) }
@@ -25,7 +25,7 @@ fn note(used: &mut [bool], start: Start)
     }
 }
 
-/// Which of so many drivers the paths ask for.
+/// Which of the drivers the paths ask for. `count` is how many drivers there are.
 pub fn used_of(alloc: Global, count: usize, paths: &[PathPlan]) -> Result<Vec<bool>, AllocError>
     ensures length { IfOk result (λ used. length used.items ≡ count) }
     ensures used { IfOk result (λ used. AreUsed used.items paths.now) }

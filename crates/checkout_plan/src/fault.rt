@@ -20,10 +20,10 @@ pub enum PlanFault {
     /// An attribute file of more than 1,048,576 bytes.
     #[error("the attribute file of entry {0} is too large")]
     AttributeTooLarge(u32),
-    /// More than 16 drivers are in use: so many, or 2^32 - 1 where there are more.
+    /// More than 16 drivers are in use: their number, or 2^32 - 1 if there are more.
     #[error("{0} drivers are in use")]
     TooManyDrivers(u32),
-    /// Want of memory.
+    /// Out of memory.
     #[error("out of memory")]
     NoMemory,
 }
@@ -44,7 +44,7 @@ impl<T: Drop> From<AllocFailed<T>> for PlanFault {
     }
 }
 
-/// What is wrong with an object that was read, or `None` where reading it failed or memory ran out.
+/// What is wrong with an object that was read, or `None` if reading it failed or memory ran out.
 pub fn object_kind(fault: ObjectFault) -> Option<ObjectKind>
     ensures { result ≡ object_kind fault }
 {

@@ -3,7 +3,7 @@ ghost use Rattle.std.specs.Prelude.{◌≡◌, IfOk};
 
 use std::alloc::AllocError;
 
-/// A place or a count as it is told. No index and no configuration has so many entries that one doesn't fit.
+/// A place or a count as a number of 32 bits. No index and no configuration has so many entries that one doesn't fit.
 pub fn number_of(count: usize) -> Result<u32, AllocError>
     ensures { IfOk result (λ number. number ≡ count) }
 {

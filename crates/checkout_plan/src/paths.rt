@@ -101,7 +101,7 @@ fn link_path(alloc: Global, entry: &Entry) -> Result<PathPlan, AllocError>
     }
 }
 
-/// The attributes that a file is asked for, that of its filter last.
+/// The attributes that are looked up for a file, that of its filter last.
 fn asked_names(alloc: Global) -> Result<Vec<Bytes>, AllocError>
     ensures { IfOk result (λ names. names.items ≡ asked_names) }
 {
@@ -115,7 +115,7 @@ fn asked_names(alloc: Global) -> Result<Vec<Bytes>, AllocError>
     Ok(names)
 }
 
-/// What the paths of an index are asked by.
+/// What decides about the paths of an index.
 #[derive(Drop)]
 struct Asking<'a> {
     files: &'a AttrFiles,
@@ -216,7 +216,7 @@ impl<'a> Asking<'a> {
     }
 }
 
-/// The paths of an index, where these attribute files reach them.
+/// The paths of an index, if these attribute files reach them.
 pub fn asked_paths<'a>(
     alloc: Global,
     files: &'a AttrFiles,

@@ -12,7 +12,7 @@ fn skipped_in(file: &AttrFile) -> u64
     skipped.long as u64 + skipped.negative as u64 + skipped.name as u64 + skipped.place as u64
 }
 
-/// How many lines of all files were skipped, or 2^64 - 1 where there are more.
+/// How many lines of all files were skipped, or 2^64 - 1 if there are more.
 #[tactic(auto, unfolding(crate::specs::AttributeFiles::skipped_lines))]
 pub fn skipped_lines(files: &AttrFiles) -> u64
     ensures { result ≡ skipped_lines files.now }

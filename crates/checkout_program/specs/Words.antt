@@ -7,12 +7,12 @@ use Rattle.std.specs.declared.io.Error.{Error}
 use Rattle.std.specs.Option.{unwrap_or}
 use Rattle.std.specs.declared.alloc.Global.{Global}
 
--- the words behind the program's name, or none where they can't be given
+-- the words after the program's name, or none if they can't be given
 abbrev pub words_of : Result (IntoIter (String Global) Global) Error → List (String Global)
 words_of (Ok all) = drop 1 (into_iter_items all)
 words_of (Err error) = []
 
--- the word with that number, or the empty text for one that is missing
+-- the word with this number, or the empty text if it is missing
 abbrev pub word_at : List (String Global) → ℕ → List ℕ
 word_at words number = unwrap_or (slice_get (map string_bytes words) number) []
 

@@ -1,9 +1,9 @@
-//! Making a file below the worktree's folder, and its folders.
+//! Makes a file below the worktree's folder, and its folders.
 //!
-//! Each folder on the way is looked at first, and a link is a fault, also where it leads to a folder. The file itself
-//! is made where nothing is, so never through a link. The look and what follows are two calls, since the kit has no
-//! call that opens below an open folder: a link that another process puts in a folder's place between them is followed.
-//! The path of the worktree's folder itself may lead over links.
+//! Each folder on the way is looked at first, and a link is a fault, even if it leads to a folder. The file itself is
+//! made only where nothing is, so never through a link. The look and what follows are two calls, since the kit has no
+//! call that opens below an open folder: if another process puts a link in a folder's place between them, it is
+//! followed. The path of the worktree's folder itself may lead over links.
 
 use std::fs::{File, OpenOptions, create_dir, create_dir_all, symlink_metadata};
 use std::io;
@@ -27,7 +27,7 @@ fn has_folder(rt: HostRuntime, path: &str) -> io::Result<bool> {
     }
 }
 
-/// Sees to it that a folder is at the path. Another actor may make it at the same time.
+/// Makes a folder at the path unless one is there. Another actor may make it at the same time.
 fn make_folder(rt: HostRuntime, path: &str) -> io::Result<()> {
     if has_folder(rt, path)? {
         return Ok(());
@@ -41,7 +41,7 @@ fn make_folder(rt: HostRuntime, path: &str) -> io::Result<()> {
     }
 }
 
-/// Makes the folders of a path, from behind its first `top` bytes on.
+/// Makes the folders of a path that are named after its first `top` bytes.
 fn make_folders(rt: HostRuntime, path: &str, top: usize) -> io::Result<()> {
     for end in top.saturating_add(1)..path.len() {
         match path.split_at_checked(end) {
@@ -59,7 +59,7 @@ fn create_below(rt: HostRuntime, path: &str, top: usize) -> io::Result<File> {
 }
 
 /// Makes a file where nothing is, and its folders. The first `top` bytes of the path name the worktree's folder, which
-/// is made where it isn't there.
+/// is made if it isn't there.
 pub fn create_in_tree(rt: HostRuntime, path: &str, top: usize) -> io::Result<File> {
     match create_below(rt, path, top) {
         Err(error) if error.kind() == ErrorKind::NotFound => {}

@@ -26,7 +26,7 @@ use std::io;
 use std::io::{ErrorKind, writer};
 use std::process::ExitCode;
 
-/// The words behind the first.
+/// The words after the first.
 fn rest_of(alloc: Global, mut all: Args) -> Result<Vec<String>, AllocError>
     ensures { IfOk result (λ words. words.items ≡ drop 1 (into_iter_items all)) }
 {
@@ -38,7 +38,7 @@ fn rest_of(alloc: Global, mut all: Args) -> Result<Vec<String>, AllocError>
     Ok(words)
 }
 
-/// The words after the program's name, or none where one of them isn't text.
+/// The words after the program's name, or none if one of them isn't text.
 fn words_of(alloc: Global, all: io::Result<Args>) -> Result<Vec<String>, AllocError>
     ensures words { IfOk result (λ words. words.items ≡ words_of all) }
     ensures memory { IfErr all (λ e. error_kind e ≡ OutOfMemory → IsErr result) }
@@ -50,7 +50,7 @@ fn words_of(alloc: Global, all: io::Result<Args>) -> Result<Vec<String>, AllocEr
     }
 }
 
-/// The word with that number, or the empty text for one that is missing.
+/// The word with this number, or the empty text if it is missing.
 fn word_at(rt: HostRuntime, words: &[String], number: usize) -> Result<String, AllocError>
     ensures { IfOk result (λ word. string_bytes word ≡ word_at words.now number) }
 {

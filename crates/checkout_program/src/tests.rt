@@ -11,7 +11,7 @@ use std::fs::{create_dir, read_to_string, remove_dir_all};
 use std::os::unix::fs::symlink;
 use std::{io, process};
 
-/// What stands in a test's folder, each at its path.
+/// What is in a test's folder, each at its path.
 #[derive(Clone, Copy)]
 enum There {
     Folder(&'static str),
@@ -31,7 +31,7 @@ fn make(rt: HostRuntime, folder: &str, there: There) -> io::Result<()> {
     }
 }
 
-/// A fresh folder for the test of that name, with what is to stand in it.
+/// A fresh folder for the test with this name, and what is to be in it.
 fn folder_with(rt: HostRuntime, test: &str, all: &[There]) -> io::Result<String> {
     let base = temp_dir(&rt)?;
     let id = process::id(rt.process());

@@ -13,9 +13,9 @@ fn fault_of(error: &io::Error) -> TakeFault {
     }
 }
 
-/// Opens the regular file at a path, and tells its length. Anything else, such as a FIFO or a device, is a fault, and
-/// isn't opened, since opening or reading it may wait forever. What is put in the file's place between the look and the
-/// opening is opened.
+/// Opens the regular file at a path, and returns it with its length. Anything else, such as a FIFO or a device, is a
+/// fault and isn't opened, since opening or reading it may wait forever. If something is put in the file's place
+/// between the look and the opening, that is opened.
 fn open_regular(rt: HostRuntime, path: &str) -> io::Result<(File, u64)> {
     let found = metadata(&rt, path)?;
     if !found.is_file() {
@@ -24,8 +24,8 @@ fn open_regular(rt: HostRuntime, path: &str) -> io::Result<(File, u64)> {
     Ok((File::open(&rt, path)?, found.len()))
 }
 
-/// The whole file at a path, or `None` where nothing is there. Whatever else keeps it from being read is a fault.
-/// A file that is longer than the limit isn't read.
+/// The whole file at a path, or `None` if nothing is there. Anything else that keeps it from being read is a fault. A
+/// file that is longer than the limit isn't read.
 pub fn read_whole(
     rt: HostRuntime,
     alloc: Global,

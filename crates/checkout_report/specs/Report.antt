@@ -18,7 +18,7 @@ use Rattle.checkout_core.specs.declared.verdict.Verdict.{Verdict}
 use Rattle.checkout_core.specs.declared.verdict.Verdict.TheVariants as verdict
 use Rattle.checkout_report.specs.declared.report.ReportPath.{ReportPath}
 
--- what befell the path
+-- what happened to the path
 abbrev pub word_of : Verdict → List ℕ
 word_of (verdict.Written unencoded) = codes "written"
 word_of (verdict.Unfiltered cause unencoded) = codes "unfiltered"
@@ -34,7 +34,7 @@ mark_word mark.LinkText = codes "l"
 abbrev pub encoding_word : Bool → List ℕ
 encoding_word unencoded = if unencoded then codes "unencoded" else codes "-"
 
--- whether the content was left as it is, since it isn't UTF-8
+-- whether the content was left as it is because it isn't UTF-8
 abbrev pub note_of : Verdict → List ℕ
 note_of (verdict.Written unencoded) = encoding_word unencoded
 note_of (verdict.Unfiltered cause unencoded) = encoding_word unencoded
@@ -48,7 +48,7 @@ break_word break.BadHandshake = codes "broken-handshake"
 break_word break.UnknownStatus = codes "broken-status"
 break_word break.StrangeDelay = codes "broken-delay"
 break_word break.TooLong = codes "broken-too-long"
--- these two end a list and stand in no verdict
+-- these two end a list and are in no verdict
 break_word break.StrangePath = codes "broken-path"
 break_word break.ListRefused = codes "broken-list"
 
@@ -88,7 +88,7 @@ cause_of (verdict.Failed cause) = fail_word cause
 cause_of verdict.NoMemory = codes "-"
 cause_of (verdict.Skipped cause) = skip_word cause
 
--- the line of a path: word, mark, note, cause and path, with a blank between
+-- the line of a path: word, mark, note, cause and path, with a space between
 abbrev pub line_of : ReportPath → Verdict → List ℕ
 line_of p v = word_of v ++ 32 ∷ mark_word p.mark ++ 32 ∷ note_of v ++ 32 ∷ cause_of v ++ 32 ∷ quoted p.path ++ 10 ∷ []
 

@@ -110,9 +110,9 @@ fn done_line(alloc: Global, verdicts: &[Verdict]) -> Result<String, AllocError>
     numbers_line(alloc, written, unfiltered, failed, skipped)
 }
 
-/// The report of a checkout: the line of each path, with the verdict beside it, and the line of the numbers.
+/// The report of a checkout: a line for each path with its verdict, and the line of the numbers.
 ///
-/// A line is a word, a mark, a note, a cause and the path, quoted as a list of paths quotes it, with a blank between.
+/// A line is a word, a mark, a note, a cause and the quoted path, with a space between.
 pub fn report_text(
     alloc: Global,
     paths: &[ReportPath],

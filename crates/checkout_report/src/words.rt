@@ -7,7 +7,7 @@ use checkout_core::{FailCause, FilterCause, ObjectKind, SkipCause, Verdict};
 use edge_kit::Mark;
 use filter_words::BreakCause;
 
-/// What befell the path.
+/// What happened to the path.
 pub fn word_of(verdict: Verdict) -> &'static str
     ensures { result.now ≡ word_of verdict }
 {
@@ -37,7 +37,7 @@ fn encoding_word(unencoded: bool) -> &'static str
     if unencoded { "unencoded" } else { "-" }
 }
 
-/// Whether the content was left as it is, since it isn't UTF-8.
+/// Whether the content was left as it is because it isn't UTF-8.
 pub fn note_of(verdict: Verdict) -> &'static str
     ensures { result.now ≡ note_of verdict }
 {
@@ -114,7 +114,7 @@ fn skip_word(cause: SkipCause) -> &'static str
     }
 }
 
-/// Why the path has that word.
+/// The cause of the path's word.
 pub fn cause_of(verdict: Verdict) -> &'static str
     ensures { result.now ≡ cause_of verdict }
 {

@@ -63,7 +63,7 @@ pub const NULS: [u8; 20] = [
     0xfe, 0x9a, 0x7a, 0x47,
 ];
 
-/// Objects that a test may ask for, as they are stored.
+/// Objects that a test may use, as they are stored.
 const OBJECTS: [([u8; 20], &[u8]); 7] = [
     (BIN, b"blob 3\0bin"),
     (MIXED, b"blob 5\0a\nb\r\n"),
@@ -89,15 +89,15 @@ pub const ONE_ENTRY: [u8; 20] = [
 /// What a run meets, and what it leaves: its output, its status, and a line for each file.
 #[derive(Clone, Copy)]
 pub struct Case<'a> {
-    /// The words behind the two folders.
+    /// The words after the two folders.
     pub command: &'static [&'static str],
     /// Whether there is an index.
     pub index: bool,
     pub rows: &'a [Row],
-    /// Extensions.
+    /// Extensions of the index.
     pub more: &'static [u8],
     pub hash: [u8; 20],
-    /// The object that a case gives, by its name: its stored bytes, and how many NULs behind them.
+    /// The object that a case gives, by its name: its stored bytes, and how many NULs follow them.
     pub object: [u8; 20],
     pub stored: &'static [u8],
     pub nuls: usize,

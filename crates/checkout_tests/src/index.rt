@@ -33,7 +33,7 @@ pub fn push_row(index: &mut Vec<u8>, row: &Row) -> Result<(), AllocError> {
     Ok(())
 }
 
-/// The entries, and what stands behind them: extensions and the hash.
+/// The entries, and what follows them: extensions and the hash.
 pub fn index_bytes(
     alloc: Global,
     rows: &[Row],

@@ -1,7 +1,7 @@
-//! The tests of a checkout: of its runs, of its plan, of its report and of what becomes of a content.
+//! The tests of a checkout: its runs, its plan, its report and what becomes of a content.
 //!
-//! They stand over the built libraries, as those of `format_tests` do: `runs`, `plans`, `reports` and `conversions`.
-//! It has nothing but tests.
+//! They are over the built libraries, as those of `format_tests` are: `runs`, `plans`, `reports` and `conversions`. It
+//! has nothing but tests.
 #![tactic(auto)]
 
 #[cfg(test)]

@@ -18,7 +18,7 @@ struct Filled {
     content: &'static [u8],
 }
 
-/// A driver of the settings. An empty command is none.
+/// A driver of the settings. An empty command counts as none.
 #[derive(Clone, Copy)]
 struct Named {
     name: &'static [u8],
@@ -33,8 +33,8 @@ enum Objects {
     Failing,
 }
 
-/// What a plan is made of, and how it shows: a line for each path, the drivers in use and the number of skipped lines,
-/// or the fault.
+/// What a plan is made from, and what it shows: a line for each path, the drivers in use and the number of skipped
+/// lines, or the fault.
 #[derive(Clone, Copy)]
 struct Case<'a> {
     rows: &'a [Filled],
@@ -160,8 +160,8 @@ fn check(rt: &impl Abort, alloc: Global, case: &Case) -> Result<(), Fail> {
     Ok(())
 }
 
-/// As `git check-attr` and gitattributes(5) say: a deeper file comes before the top's, `info/attributes`
-/// before both, and a macro in a subfolder's file is none.
+/// As `git check-attr` and gitattributes(5) say: a deeper file goes before the top's, `info/attributes` goes before
+/// both, and a macro in a subfolder's file isn't one.
 #[test]
 fn attribute_files_reach_the_paths_below_them(rt: HostRuntime) -> Result<(), Fail> {
     let top = b"*.txt text eol=crlf\n*.id ident both\n!x text\n[attr]both text eol=crlf\n";

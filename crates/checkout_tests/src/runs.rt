@@ -182,7 +182,7 @@ fn an_object_that_is_not_right_fails_its_path_alone(rt: HostRuntime) -> Result<(
                 b: bin",
             ..usual
         },
-        // what zlib makes of an object
+        // an object as zlib compresses it
         Case {
             stored: b"x\x01K\xca\xc9O",
             wanted: "failed - - object-header a\n\
@@ -358,7 +358,7 @@ fn entries_that_are_not_right_are_refused(rt: HostRuntime) -> Result<(), Fail> {
     Ok(())
 }
 
-/// The information of a path's attributes, its entry, and what is wanted.
+/// What `info/attributes` holds, an entry, and the output that is wanted.
 type Converted = (&'static [u8], Row, &'static str);
 
 #[test]
@@ -475,7 +475,7 @@ fn attribute_files_of_the_index_are_read(rt: HostRuntime) -> Result<(), Fail> {
         d/e/a.txt: a\r\n\
         b\r\n";
     check(&rt, alloc, &[checkout(&files, wanted)])?;
-    // a link of that name is none
+    // a link with that name is not an attribute file
     let link = [stage(0, LINK, BIN, b".gitattributes")];
     let wanted = "written l - - .gitattributes\n\
         done 1 0 0 0\n\
@@ -535,7 +535,7 @@ fn an_attribute_file_without_a_right_object_stops_it(rt: HostRuntime) -> Result<
     check(&rt, alloc, &[large])
 }
 
-/// A configuration, the information of attributes, an entry, and what is wanted of its plan.
+/// A configuration, what `info/attributes` holds, an entry, and the plan that is wanted.
 type Planned = (&'static [u8], &'static [u8], Row, &'static str);
 
 #[test]
@@ -671,7 +671,7 @@ fn a_full_worktree_and_a_read_that_fails_stop_it(rt: HostRuntime) -> Result<(), 
     check(&rt, rt.alloc(), &cases)
 }
 
-/// The status and the text of a report of two paths, of which the second wanted memory.
+/// The status and the text of a report of two paths, if the second runs out of memory.
 #[test]
 fn a_path_that_wanted_memory_is_reported_and_told(rt: HostRuntime) -> Result<(), Fail> {
     let alloc = rt.alloc();
@@ -700,7 +700,7 @@ fn a_path_that_wanted_memory_is_reported_and_told(rt: HostRuntime) -> Result<(),
     Ok(())
 }
 
-/// An index of 70,000 gitlinks and a file behind them.
+/// An index of 70,000 gitlinks and a file after them.
 fn many_entries(alloc: Global) -> Result<Vec<u8>, AllocError> {
     let mut index = Vec::from_slice(alloc, b"DIRC\0\0\0\x02")?;
     index.extend_from_slice(&70_001u32.to_be_bytes())?;

@@ -1,10 +1,10 @@
-//! A repository whose blobs of one name want memory.
+//! A repository in which a blob with one name runs out of memory.
 ghost use Rattle.std.specs.Prelude.{◌≡◌};
 
 use edge_kit::{MemoryBlob, MemoryRepo, Repo, TakeFault};
 use std::alloc::AllocError;
 
-/// A repository in memory. No blob of that name can be made.
+/// A repository in memory. No blob with the name `wanting` can be made.
 #[derive(Drop)]
 pub struct WantingRepo {
     pub repo: MemoryRepo,

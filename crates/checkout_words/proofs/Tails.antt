@@ -39,7 +39,7 @@ strip_byte-is c (x ∷ xs) rest e = go (x == c) refl
         cc
     go false t = let bad : None ≡ Some rest = rw t at e in cc
 
--- what stands behind a long name
+-- what follows a long name
 abbrev value_part : Option Text → Text
 value_part None = []
 value_part (Some v) = 61 ∷ v
@@ -100,7 +100,7 @@ short_no_decimal word flags most e = go (strip_byte 45 word) refl
 
 -- ---- one word of a walk
 
--- what is held, where no flag of a bundle is to be passed over
+-- what is held while no flag of a bundle is to be skipped
 abbrev held : List Row → Option (Text × List Text) → Held
 held rows pending = record { rows = rows; pending = pending; skip = 0 }
 
@@ -118,16 +118,16 @@ no_subcommand idle word = refl
 no_subcommand (option id) word = refl
 no_subcommand positional word = refl
 
--- the word is refused, and then it is no decimal, since it begins with a hyphen
+-- the word is refused, and since it begins with a hyphen it is no decimal
 abbrev IsRefused : Shape → Waiting → Text → Held → Type 0
 IsRefused s waiting word h = (refuses (word_fault s [] false waiting word h) ≡ true) × ((most : ℕ) → decimal_within word most ≡ None)
 
--- the word is taken as one that is no flag
+-- the word is taken as one that isn't a flag
 abbrev GoesOn : Shape → Waiting → ℕ → Text → Held → Type 0
 GoesOn s waiting position word h = (word_fault s [] false waiting word h ≡ [])
     × (word_met s.rules [] false waiting position word h ≡ plain_word s.rules waiting word h)
 
--- one of these holds at a command with no short names, where each long name is refused
+-- one of these holds for a command without short names, if each long name is refused
 word_cases : (s : Shape) (waiting : Waiting) (position : ℕ) (rows : List Row) (pending : Option (Text × List Text)) (word : Text)
     → bytes_eq word (45 ∷ 45 ∷ []) ≡ false
     → ((name : Text) (v : Option Text) → long_of word ≡ Some (name, v) → refuses (long_fault s.rules s.args_override_self (arg_by_long s.rules name) v (held rows pending)) ≡ true)
@@ -152,7 +152,7 @@ word_cases s waiting position rows pending word no_end longs shorts = go (long_o
 
 -- ---- a word that a command has no place for
 
--- where no option waits and the command has no positional, any such word is refused
+-- if no option waits and the command has no positional argument, any such word is refused
 no_place : (s : Shape) (rows : List Row) (pending : Option (Text × List Text)) (word : Text) → s.is_leaf ≡ true
     → bytes_eq word (45 ∷ 45 ∷ []) ≡ false
     → ((name : Text) (v : Option Text) → long_of word ≡ Some (name, v) → refuses (long_fault s.rules s.args_override_self (arg_by_long s.rules name) v (held rows pending)) ≡ true)
@@ -218,7 +218,7 @@ reads_found : (command found : Option Command) → command ≡ found → Reads c
 reads_found command None same = same
 reads_found command (Some c) same = same
 
--- where a parse fails, so does the reading of the command
+-- if a parse fails, so does the reading of the command
 pub reads_fault : (rows : Option (List Row)) (command : Option Command) (fault : WordFault) (result : Result Command WordFault)
     → (rows ≡ None → command ≡ None) → Finds rows (Err fault) → IsErrAnd result (λ e. e ≡ fault) → Reads command result
 reads_fault rows command fault (Ok c) none found passed = absurd passed
@@ -316,7 +316,7 @@ unfolding clap_on_literals
 attached_other number other no_end is_other =
     ap checkout_of (no_rows _ _ (or_else_first _ _ (or_else_first _ _ (no_place (built checkout_app).top _ None other refl no_end (λ name v. other_long other name v _ is_other) (λ x. refl) refl))))
 
--- where `--workers` waits for its number, each long name is refused
+-- while `--workers` waits for its number, each long name is refused
 waiting_long : (name : Text) (v : Option Text)
     → refuses (long_fault (built checkout_app).top.rules false (arg_by_long (built checkout_app).top.rules name) v (held [] (Some (codes "workers", [])))) ≡ true
 waiting_long name v = go (bytes_eq (codes "workers") name) refl v

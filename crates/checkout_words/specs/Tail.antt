@@ -1,4 +1,4 @@
--- The tail of the words, behind a command's name, as `clap` reads it.
+-- The tail of the words, after a command's name, as `clap` reads it.
 use Rattle.std.specs.Prelude.{◌≡◌, ◌-◌, ◌^◌, ◌&&◌, Bool, true, not, nat_le, List, [], ◌∷◌, length, codes}
 use Rattle.std.specs.Prelude.{Option, Some, None, Result, Ok, Err}
 use Rattle.std.specs.List.{list_any}
@@ -43,21 +43,21 @@ number_rule id = record (new_rule id) { required = true }
 abbrev pub rehearse_app : App
 rehearse_app = with_rule (with_rule plan_app (number_rule (codes "seed"))) (number_rule (codes "paths"))
 
--- the arguments that were found, or `None` where there is a kind of refusal
+-- the arguments that were found, or `None` if there is a kind of refusal
 abbrev pub unless_refused : Kinds → List Row → Option (List Row)
 unless_refused [] rows = Some rows
 unless_refused (kind ∷ more) rows = None
 
--- the arguments that `clap` finds in words, or `None` where it refuses them
+-- the arguments that `clap` finds in words, or `None` if it refuses them
 abbrev pub rows_in : App → List Text → Option (List Row)
 rows_in app words = unless_refused (fault_of app words) (matches_of app words)
 
--- want of memory, or a refusal
+-- out of memory, or a refusal
 abbrev pub fault_of_kind : ErrorKind → WordFault
 fault_of_kind OutOfMemory = NoMemory
 fault_of_kind _ = Usage
 
--- what a parse gives: those arguments, or Usage where it refuses the words, or want of memory
+-- what a parse gives: those arguments, or Usage if it refuses the words, or out of memory
 abbrev pub Finds : Option (List Row) → Result ArgMatches WordFault → Type 0
 Finds rows (Ok matches) = rows ≡ Some (rows_of (found_of matches))
 Finds rows (Err Usage) = rows ≡ None

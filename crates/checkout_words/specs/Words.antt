@@ -1,4 +1,4 @@
--- The words behind the program's name, and the command that they give.
+-- The words after the program's name, and the command that they give.
 use Rattle.std.specs.Prelude.{Bool, false, ◌||◌}
 use Rattle.std.specs.Prelude.{ℕ, ◌-◌, ◌^◌, nat_le, List, [], ◌∷◌, take, drop, codes, Option, Some, None}
 use Rattle.std.specs.Prelude.{Result, Ok, Err, ◌≡◌, if◌then◌else◌}
@@ -36,7 +36,7 @@ with_numbers None paths = None
 with_numbers (Some seed) None = None
 with_numbers (Some seed) (Some paths) = Some (Rehearse seed paths)
 
--- SEED, a decimal to 2^64 - 1, and PATHS, one to 99,999
+-- SEED, a decimal up to 2^64 - 1, and PATHS, a decimal up to 99,999
 abbrev pub rehearse_command : List (List ℕ) → Option Command
 rehearse_command [] = None
 rehearse_command (seed ∷ []) = None
@@ -58,7 +58,7 @@ command_of (repo ∷ []) = None
 command_of (repo ∷ tree ∷ []) = None
 command_of (repo ∷ tree ∷ name ∷ tail) = named_command name tail
 
--- whether a command has that name, and whether words name one
+-- whether a command has this name, and whether words name a command
 abbrev pub is_command_name : List ℕ → Bool
 is_command_name name =
     bytes_eq name (codes "checkout") || bytes_eq name (codes "plan") || bytes_eq name (codes "rehearse")
@@ -69,7 +69,7 @@ names_command (repo ∷ []) = false
 names_command (repo ∷ tree ∷ []) = false
 names_command (repo ∷ tree ∷ name ∷ tail) = is_command_name name
 
--- what words are read to: their command, or Usage where they give none, or want of memory
+-- what words are read as: their command, or Usage if they give none, or out of memory
 abbrev pub Reads : Option Command → Result Command WordFault → Type 0
 Reads command (Ok c) = command ≡ Some c
 Reads command (Err Usage) = command ≡ None

@@ -1,4 +1,4 @@
-//! The words behind the program's name: `REPO TREE checkout [--workers N]`, `REPO TREE plan` or
+//! The words after the program's name: `REPO TREE checkout [--workers N]`, `REPO TREE plan` or
 //! `REPO TREE rehearse SEED PATHS`.
 #![tactic(auto)]
 
@@ -11,21 +11,21 @@ mod tail;
 
 use std::alloc::{AllocError, Global};
 
-/// What the program is asked to do.
+/// What the program has to do.
 #[derive(Clone, Copy, Debug, PartialEq, Eq)]
 pub enum Command {
-    /// Write the worktree, with 1 to 16 workers where the words say how many.
+    /// Write the worktree, with 1 to 16 workers if the words give their number.
     Checkout { workers: Option<u32> },
     /// Show what a checkout would do.
     Plan,
-    /// Check out a made-up repository of so many paths, to 99,999.
+    /// Check out a made-up repository of this many paths, up to 99,999.
     Rehearse { seed: u64, paths: u32 },
 }
 
 /// Why words give no command.
 #[derive(Clone, Copy, Debug, PartialEq, Eq)]
 pub enum WordFault {
-    /// They are outside the set.
+    /// No command has these words.
     Usage,
     NoMemory,
 }
@@ -54,7 +54,7 @@ fn read_named(alloc: Global, name: &str, tail: &[String]) -> Result<Command, Wor
     }
 }
 
-/// The command of the words behind the program's name, or Usage where they are outside the set, as with `--help`.
+/// The command of the words after the program's name, or Usage if they give none, as with `--help`.
 ///
 /// The first two words may be any text. Words that name no command take no memory.
 pub fn read_words(alloc: Global, words: &[String]) -> Result<Command, WordFault>

@@ -1,4 +1,4 @@
-//! The tail of the words, behind a command's name, read with `clap`.
+//! The tail of the words, after a command's name, read with `clap`.
 ghost use Rattle.std.specs.Prelude.{◌≡◌, true, map, codes, string_bytes, IfOk};
 ghost use Rattle.std.specs.List.{list_any};
 ghost use Rattle.std.specs.Str.{bytes_eq};
@@ -20,7 +20,7 @@ fn has_end(tail: &[String]) -> bool
     tail.iter().any(|word| word.as_str() == "--")
 }
 
-/// Whether a tail has at most two words, none of which is `--`.
+/// Whether a tail has at most two words, and none of them is `--`.
 ///
 /// No command takes a third word, and `clap` would take `--` for the end of the options.
 pub(crate) fn is_plain_tail(tail: &[String]) -> bool
@@ -39,7 +39,7 @@ fn tail_parser<'a>(alloc: Global) -> clap::Command<'a>
         .disable_version_flag(true)
 }
 
-/// One that takes `--workers N` or `--workers=N`.
+/// A command of `clap` that takes `--workers N` or `--workers=N`.
 fn checkout_parser<'a>(alloc: Global) -> Result<clap::Command<'a>, AllocError>
     ensures { IfOk result (λ parser. app_of parser ≡ checkout_app) }
 {
@@ -47,7 +47,7 @@ fn checkout_parser<'a>(alloc: Global) -> Result<clap::Command<'a>, AllocError>
     tail_parser(alloc).arg(workers)
 }
 
-/// One that takes two words, SEED and PATHS.
+/// A command of `clap` that takes two words, SEED and PATHS.
 fn rehearse_parser<'a>(alloc: Global) -> Result<clap::Command<'a>, AllocError>
     ensures { IfOk result (λ parser. app_of parser ≡ rehearse_app) }
 {
@@ -56,7 +56,7 @@ fn rehearse_parser<'a>(alloc: Global) -> Result<clap::Command<'a>, AllocError>
     tail_parser(alloc).arg(seed)?.arg(paths)
 }
 
-/// Want of memory, or a refusal of the words.
+/// Out of memory, or a refusal of the words.
 fn fault_of_kind(kind: ErrorKind) -> WordFault
     ensures { result ≡ fault_of_kind kind }
 {
@@ -80,7 +80,7 @@ fn matches_in<'a>(
     }
 }
 
-/// A checkout with so many workers: a decimal from 1 to 16.
+/// A checkout with this many workers: a decimal from 1 to 16.
 fn with_workers(text: &[u8]) -> Option<Command>
     ensures { result ≡ workers_command text.now }
 {
@@ -93,7 +93,7 @@ fn with_workers(text: &[u8]) -> Option<Command>
     })
 }
 
-/// The checkout that the arguments of its tail ask for.
+/// The checkout that the arguments of its tail give.
 fn checkout_of(matches: &ArgMatches<'_>) -> Option<Command>
     ensures { result ≡ checkout_by (first_value (found_of matches.now) (codes "workers")) }
 {
@@ -103,7 +103,7 @@ fn checkout_of(matches: &ArgMatches<'_>) -> Option<Command>
     }
 }
 
-/// The rehearsal that the arguments of its tail ask for.
+/// The rehearsal that the arguments of its tail give.
 fn rehearsal_of(matches: &ArgMatches<'_>) -> Option<Command>
     ensures { result ≡ rehearse_by (first_value (found_of matches.now) (codes "seed")) (first_value (found_of matches.now) (codes "paths")) }
 {

@@ -21,7 +21,7 @@ const WORDS: [&str; 8] = [
     "line\n",
 ];
 
-/// A content that is converted. It is the same at each run.
+/// A content that is converted. It is the same in each run.
 #[derive(Clone, Copy)]
 pub enum Content {
     /// Lines of about 40 bytes, which end in LF.
@@ -30,13 +30,13 @@ pub enum Content {
     LongLines,
     /// Lines of about 40 bytes, which end in CR LF.
     CrlfLines,
-    /// Lines of about 40 bytes, and `$Id$` each 4 KB.
+    /// Lines of about 40 bytes, with `$Id$` after each 4 KB.
     Keywords,
     /// Characters of 1 to 4 bytes.
     Mixed,
 }
 
-/// Numbers as if drawn by lot.
+/// Pseudorandom numbers.
 #[derive(Drop)]
 struct Lot(u64);
 
@@ -53,7 +53,7 @@ impl Lot {
     }
 }
 
-/// Lines of half of `mean` bytes to half as many again.
+/// Lines of a pseudorandom length, from half of `mean` bytes to half as many again.
 fn lines(alloc: Global, mean: u8, end: &[u8]) -> Result<Vec<u8>, AllocError>
     requires { 0 < mean }
 {
@@ -70,7 +70,7 @@ fn lines(alloc: Global, mean: u8, end: &[u8]) -> Result<Vec<u8>, AllocError>
     Ok(text)
 }
 
-/// The same bytes with a keyword behind each 4 KB.
+/// The same bytes with a keyword after each 4 KB.
 fn with_keywords(alloc: Global, bytes: &[u8]) -> Result<Vec<u8>, AllocError> {
     let mut text = Vec::with_capacity(alloc, SIZE)?;
     for chunk in bytes.chunks(4096) {
@@ -80,7 +80,7 @@ fn with_keywords(alloc: Global, bytes: &[u8]) -> Result<Vec<u8>, AllocError> {
     Ok(text)
 }
 
-/// Words by lot. All of them together take 59 bytes.
+/// Pseudorandom words. All of `WORDS` together take 59 bytes.
 fn words(alloc: Global) -> Result<Vec<u8>, AllocError> {
     let mut lot = Lot(1);
     let mut text = Vec::with_capacity(alloc, SIZE)?;

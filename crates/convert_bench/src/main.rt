@@ -1,8 +1,8 @@
 //! Converts contents of about 1 MB, and measures each conversion beside a copy of the same content.
 //!
-//! Each line of its output, in fields with a tab between, is a content, its bytes, a conversion, the bytes that come out and
-//! the one in their middle. With `time` as the argument there follow the nanoseconds of the conversion and of the copy, the
-//! least of many turns, and a sum over what was read of the results.
+//! Each line of its output has fields with a tab between: a content, its bytes, a conversion, the bytes that come out
+//! and the one in their middle. With the argument `time` these follow: the nanoseconds of the conversion and of the
+//! copy, the least of many turns, and a sum over what was read of the results.
 #![tactic(auto)]
 
 mod content;

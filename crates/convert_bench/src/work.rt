@@ -6,7 +6,7 @@ use std::rt::Clock;
 use std::time::Instant;
 use tree_encoding::{Encoding, encode};
 
-/// How often a conversion and a copy take turns.
+/// How many turns a conversion and a copy take.
 const TURNS: u32 = 20;
 
 /// The name of a blob.
@@ -21,7 +21,7 @@ pub enum Work {
     Encoded(Encoding),
 }
 
-/// What is read of a result. A compiler may leave out a result of which nothing is read.
+/// What is read of a result. A compiler may leave out a result from which nothing is read.
 #[derive(Clone, Copy)]
 pub struct Seen {
     pub length: usize,
@@ -62,7 +62,7 @@ impl Work {
     }
 }
 
-/// The least nanoseconds of a piece of work.
+/// The least time of a piece of work, in nanoseconds.
 #[derive(Drop)]
 pub struct Least {
     pub nanoseconds: u128,
@@ -94,7 +94,7 @@ impl Least {
     }
 }
 
-/// What a piece of work takes, and what a copy of the same content does.
+/// The time of a piece of work, and the time of a copy of the same content.
 pub fn beside_copy<R: Clock + AllocGlobal>(
     rt: &R,
     work: Work,

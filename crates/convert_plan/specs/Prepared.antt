@@ -7,7 +7,7 @@ use Rattle.tree_encoding.specs.declared.prepared.Prepared.{Prepared}
 use Rattle.tree_encoding.specs.Encode.{encoded}
 use Rattle.convert_plan.specs.declared.conversion.Conversion.{Conversion}
 
--- with the keyword `$Id$` of a blob of that name, where it is expanded
+-- with the keyword `$Id$` of a blob with this name, if it is to be expanded
 abbrev pub with_ident : Bool → List ℕ → List ℕ → List ℕ
 with_ident true name content = expanded (keyword_text name) content
 with_ident false name content = content
@@ -17,7 +17,7 @@ abbrev pub in_encoding : Option Encoding → List ℕ → Prepared
 in_encoding None content = record { bytes = content; unencoded = false }
 in_encoding (Some encoding) content = encoded content encoding
 
--- the keyword first, then line ends, then the encoding
+-- first the keyword, then line ends, then the encoding
 abbrev pub prepared : Conversion → List ℕ → List ℕ → Prepared
 prepared conversion name content =
     in_encoding conversion.encoding (to_tree_ends (with_ident conversion.ident name content) conversion.ends)

@@ -21,10 +21,10 @@ fn is_set(state: &AttrState) -> bool
     matches!(state, AttrState::Set)
 }
 
-/// The conversion of a path by the states of its five attributes `text`, `crlf`, `eol`, `ident` and
-/// `working-tree-encoding`, in this order, and by the settings `core.autocrlf` and `core.eol` (gitattributes(5)).
+/// The conversion of a path from the states of its five attributes `text`, `crlf`, `eol`, `ident` and
+/// `working-tree-encoding`, in this order, and from the settings `core.autocrlf` and `core.eol` (gitattributes(5)).
 ///
-/// An error comes where the last state names no encoding that is known. It takes no memory.
+/// An error comes if the last state names an unknown encoding. It takes no memory.
 pub fn conversion_of(
     states: &[AttrState],
     auto: AutoCrlf,

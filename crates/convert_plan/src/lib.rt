@@ -1,4 +1,4 @@
-//! What becomes of a path's content on its way to the worktree (gitattributes(5), "Interaction between checkin/checkout
+//! What happens to a path's content on its way to the worktree (gitattributes(5), "Interaction between checkin/checkout
 //! attributes").
 #![tactic(auto)]
 

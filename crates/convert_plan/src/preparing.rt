@@ -10,7 +10,7 @@ use ident_convert::{expand_ident, has_keyword};
 use std::alloc::{AllocError, Global};
 use tree_encoding::{Encoding, Prepared, encodable_text, encode_text};
 
-/// Expands the keyword, where that is asked. A content without one is passed on.
+/// Expands the keyword, if the conversion says so. A content without one is returned as it is.
 fn with_ident(
     alloc: Global,
     ident: bool,
@@ -25,14 +25,14 @@ fn with_ident(
     expand_ident(alloc, &content, name)
 }
 
-/// Converts the line ends. A content that stays is passed on.
+/// Converts the line ends. A content that doesn't change is returned as it is.
 fn with_ends(alloc: Global, ends: LineEnds, content: Vec<u8>) -> Result<Vec<u8>, AllocError>
     ensures { IfOk result (λ v. v.items ≡ to_tree_ends content.items ends) }
 {
     if !changes_ends(&content, ends) {
         return Ok(content);
     }
-    // a content that changes gets CR LF throughout, so the test under AutoCrlf isn't made again
+    // a content that changes gets CR LF throughout, so the test of AutoCrlf isn't made again
     to_tree_ends(alloc, &content, LineEnds::ToCrlf)
 }
 
@@ -45,7 +45,7 @@ fn whole(bytes: Vec<u8>, unencoded: bool) -> Prepared
     }
 }
 
-/// Encodes the content, where an encoding is named. A content that stays is passed on.
+/// Encodes the content, if an encoding is named. A content that doesn't change is returned as it is.
 fn in_encoding(
     alloc: Global,
     encoding: Option<Encoding>,
@@ -64,9 +64,10 @@ fn in_encoding(
     Ok(whole(content, unencoded))
 }
 
-/// A blob's content as it stands in the worktree: the keyword first, then line ends, then the encoding.
+/// A blob's content as it stands in the worktree: first the keyword is expanded, then the line ends are converted, and
+/// then it is encoded.
 ///
-/// `name` is the blob's name. A content that no conversion changes is passed on without a copy.
+/// `name` is the blob's name. A content that no conversion changes is returned without a copy.
 pub fn prepare(
     alloc: Global,
     conversion: &Conversion,

@@ -1,5 +1,5 @@
--- Each cut talk over the paths of a driver is the notes of some legal history: where a session without smudge is shut,
--- the paths that it refused are closed before.
+-- Each cut talk over the paths of a driver is the notes of some legal history: before a session without smudge is shut,
+-- the paths that it refused are closed.
 use Rattle.std.proofs.Common.{◌≡◌, ◌==◌, ℕ, zero, suc, ◌+◌, ◌<◌, ◌≤◌, ⊎_elim, Bool, true, false, cond, List, [], ◌∷◌}
 use Rattle.std.proofs.Common.{◌++◌, Some, refl, sym, ap, ◌∙◌, subst, append_assoc, arith}
 use Rattle.std.specs.Prelude.{◌&&◌, ◌||◌, not, map, length}
@@ -28,7 +28,7 @@ use Rattle.core_laws.proofs.OfDriver.{is_of, at_desk}
 use Rattle.core_laws.proofs.TranscriptsBack.{given_talk, run_first}
 use Rattle.core_laws.proofs.Desks.{desk_begins, desk_notes, desk_goes, desk_refuses, notes_more}
 
--- each number is so
+-- each number passes the test
 abbrev AllOf : (ℕ → Bool) → List ℕ → Type 0
 AllOf f [] = Unit {0}
 AllOf f (p ∷ ps) = (f p ≡ true) × AllOf f ps

@@ -288,7 +288,7 @@ run_awaits d p t u f (e ∷ es) h w =
     let k = (run_first d t u e es h).1 in
     run_awaits d p k.0 u (fate_after p f e) es k.2 (next_awaits p t k.0 f e k.1 w)
 
--- behind a talk that is over nothing awaits a path
+-- after a talk that is over, nothing awaits a path
 over_tells : (p : ℕ) (u : Talk) (f : Fate) → IsOver u → Awaits p u f → (h : Heard) × (heard_by f ≡ Some h)
 over_tells p u (Known k) over w = (k, refl)
 over_tells p (Between []) Untold over w = absurd (cc (w))

@@ -193,7 +193,7 @@ desk_from c q b r f m h =
     let n = cond_is _ (closing q (f k.1 l.state)) m l.holds in
     (k.0, k.1, k.2, same_number b (c.workers + k.0) n.0)
 
--- whose path a close may be of
+-- whose path a close can be of
 pub close_from : (c : Core) (q b : ℕ) (o : Own) (r : Path) (s : PathState) (m : Effect)
     → close_at c q b o r s ≡ Some m
     → ((raw : Option FilterCause) × (s ≡ Held b raw))

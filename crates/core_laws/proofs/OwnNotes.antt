@@ -1,4 +1,4 @@
--- The notes of a driver are its desk's own entries but the claims, closes and hand backs.
+-- The notes of a driver are its desk's own entries, except the claims, closes and hand-backs.
 use Rattle.std.proofs.Common.{◌≡◌, ◌==◌, ℕ, ◌+◌, ⊎_elim, Bool, true, false, cond, List, [], ◌∷◌, Option, Some, None}
 use Rattle.std.proofs.Common.{refl, sym, ap, ◌∙◌, arith}
 use Rattle.std.specs.Prelude.{◌&&◌}

@@ -22,7 +22,7 @@ pub with_note : (starts : List Start) (d : ℕ) (t : Talk) (e : Event) → is_no
     → talk_step d t e ≡ talk_next t e
 with_note starts d t e note = ap (λ (b : Bool). cond b (talk_next t e) None) (note_is_with starts d e note)
 
--- a note and those behind it
+-- a note and those after it
 pub run_step : (d : ℕ) (t u : Talk) (e : Event) (es : List Event) → talk_step d t e ≡ Some u
     → talk_run d t (e ∷ es) ≡ talk_run d u es
 run_step d t u e es h = ap (λ (o : Option Talk). elim o as (λ _. Option Talk)

@@ -48,7 +48,7 @@ talk_of (Again delay late turns) = InRound (round delay true false [] late turns
 talk_of (Noting delay late turns) = InRound (round delay true true [] late turns)
 talk_of Over = Ended
 
--- the talk behind a session
+-- the talk after a session
 abbrev pub stands : End → List ℕ → Talk
 stands Shut left = Ended
 stands NothingLeft left = Ended
@@ -56,11 +56,11 @@ stands Aborted left = Ended
 stands (Broke why) left = Between left
 stands OutOfMemory left = Between left
 
--- the notes of a session's exchanges from here on, and those behind them
+-- the notes of a session's exchanges from here on, and those after them
 abbrev pub said : ℕ → List Exchange → End → List Event → List Event
 said d es end more = exchanges_notes d es ++ (end_notes d end ++ more)
 
--- behind the last exchange
+-- after the last exchange
 last : (d : ℕ) (es : List Exchange) (end made : End) (left : List ℕ) (more : List Event) (t : Talk) → es ≡ []
     → end ≡ made
     → talk_run d t (end_notes d made ++ more) ≡ talk_run d (stands made left) more
@@ -96,7 +96,7 @@ names_run d delay late turns (q ∷ names) more h =
     ∙ ap (λ (ts : List ℕ). talk_run d (talk_of (Noting delay (minus names (without q late)) ts)) more)
     (append_assoc turns (q ∷ []) names))
 
--- the notes of a list, and those behind it
+-- the notes of a list, and those after it
 pub list_said : (ns : List Event) (l : Event) (en more : List Event)
     → ((ns ++ l ∷ []) ++ en) ++ more ≡ ns ++ (l ∷ (en ++ more))
 list_said [] l en more = refl

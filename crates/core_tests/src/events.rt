@@ -131,9 +131,9 @@ fn one_run_with_a_delayed_path(rt: HostRuntime) -> Result<(), Fail> {
     Ok(())
 }
 
-// Cases in the state of `fresh`, one behind the other. A word is an event of four letters, of which `.` says nothing:
-// its kind, its path or driver, and what `event_of` reads of the rest. A word with `=` is a path and its verdict.
-// Behind a word stands a space, `!` where it is refused, or `;`: with these two a case ends.
+// Cases in the state of `fresh`, one after the other. A word is an event of four letters, and the letter `.` says
+// nothing. The letters are its kind, its path or driver, and what `event_of` reads of the rest. A word with `=` is a
+// path and its verdict. After a word comes a space, `!` if it is refused, or `;`. The last two end a case.
 
 /// Claims: not waiting; held already; no such actor; no such path; closed.
 const CLAIMS: &[u8] = b"C10.!\
@@ -239,8 +239,9 @@ const OF_A_DRIVER: &[u8] = b"O0b. A1l. X11f =1l.;\
     X11r =1r.;\
     F1e. X11f =1b.;";
 
-/// One worker, actor 0. Path 0 is the pool's. Paths 1 and 2 are of driver 0, which is required
-/// and whose desk is actor 1. Paths 3 and 4 are of driver 1, which isn't, with the desk 2.
+/// One worker, actor 0. Path 0 is the pool's. Paths 1 and 2 are of driver 0, which is required and
+/// whose desk is actor 1. Paths 3 and 4 are of driver 1, which isn't required and whose desk is
+/// actor 2.
 fn fresh(alloc: Global) -> Result<State, AllocError> {
     let starts = vec![in alloc;
         Start::Pool,
@@ -265,7 +266,7 @@ fn fresh(alloc: Global) -> Result<State, AllocError> {
     State::start(alloc, starts, 1, 2)
 }
 
-/// The letter at this place of a word.
+/// The letter at this place in a word, or `.`.
 fn letter(word: &[u8], place: usize) -> u8 {
     word.get(place).copied().unwrap_or(b'.')
 }

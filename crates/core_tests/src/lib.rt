@@ -1,6 +1,6 @@
-//! The tests of the crates of a talk with a filter driver and of the core.
+//! The tests of the core, and of the crates for a talk with a filter driver.
 //!
-//! A crate with tests is proved twice, with them and without, so those of these crates stand here, over the built
+//! A crate with tests is proved twice, with them and without. So the tests of these crates are here, over the built
 //! libraries: `packets` has those of `pkt_line`, `answers` of `filter_words`, `delays` of `delay_table`, and `events`
 //! of `checkout_core`. It has nothing but tests.
 #![tactic(auto)]

@@ -17,8 +17,8 @@ fn conversation(alloc: Global) -> Result<Vec<u8>, Fail> {
     Ok(bytes)
 }
 
-/// Each packet that a reader gives of the bytes in pieces of this size, a payload between brackets and a flush packet
-/// as `~`.
+/// Each packet that a reader gives of the bytes if it takes them in pieces of this size: a payload between brackets,
+/// and a flush packet as `~`.
 fn packets_in(rt: &impl Abort, alloc: Global, bytes: &[u8], size: usize) -> Result<Vec<u8>, Fail> {
     let mut reader = PktReader::reserve(alloc)?;
     let mut shown = Vec::new(alloc);
@@ -57,7 +57,7 @@ fn any_cut_gives_the_same_packets(rt: HostRuntime) -> Result<(), Fail> {
     Ok(())
 }
 
-/// The front of the bytes where they begin with these and then have so many `x`.
+/// What is at the front of bytes that begin with these four and go on with many `x`.
 #[test]
 fn edges_of_lengths(rt: HostRuntime) -> Result<(), Fail> {
     let mut longest = Vec::new(rt.alloc());
@@ -108,7 +108,7 @@ fn edges_of_lengths(rt: HostRuntime) -> Result<(), Fail> {
     Ok(())
 }
 
-/// Drops a flush packet, where one stands at the front.
+/// Drops a flush packet, if one is at the front.
 fn skip_flush(reader: &mut PktReader) {
     if let Ok(Next::Flush) = reader.peek() {
         reader.skip(4);

@@ -35,7 +35,7 @@ listed_is (Some Done) is = absurd (let e : true ≡ false = sym is in cc (e))
 
 module _ (names : List (List ℕ)) (ps : List Place) (order : List ℕ) (room delivered lowest : ℕ)
     (k : IsKept names ps order room delivered lowest) where
-  -- a place that is pending doesn't lie below the lowest
+  -- a place that is pending isn't below the lowest
   above : (p : ℕ) → is_pending (slice_get ps p) ≡ true → (q : ℕ) → q < lowest → q ≡ p → ⊥
   above p pending q lt same = let e : true ≡ false = sym pending
       ∙ (ap (λ (n : ℕ). is_pending (slice_get ps n)) (sym same) ∙ k.below q lt) in cc (e)

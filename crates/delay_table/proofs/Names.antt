@@ -1,4 +1,4 @@
--- A name among names that rise.
+-- A name in a list of names that rise.
 use Rattle.std.proofs.Common.{◌≡◌, ℕ, zero, suc, ◌+◌, ◌<◌, ◌≤◌, Bool, true, false, List, [], ◌∷◌, length, get_or, Some}
 use Rattle.std.proofs.Common.{refl, sym, ap, ◌∙◌, subst, arith}
 use Rattle.std.specs.Prelude.{slice_get}
@@ -27,7 +27,7 @@ is_true : (b : Bool) → (b ≡ false → ⊥) → b ≡ true
 is_true true h = refl
 is_true false h = absurd (h refl)
 
--- each later name stands behind each earlier one
+-- each later name comes after each earlier one
 rises_far : (names : List (List ℕ)) → IsRising names → (i j : ℕ) (d : List ℕ) → i < j → j < length names
     → stands_before (get_or names i d) (get_or names j d) ≡ true
 rises_far names rise i j d lt more = is_true (stands_before (get_or names i d) (get_or names j d)) (λ no.
@@ -49,7 +49,7 @@ at_get [] p name at = absurd (cc (at))
 at_get (x ∷ xs) zero name at = (omega arith, λ d. cc (at))
 at_get (x ∷ xs) (suc p) name at = let r = at_get xs p name at in let lt = r.0 in (omega arith, r.1)
 
--- the name is at the first place that doesn't stand before it, or nowhere
+-- the name is at the first place whose name doesn't come before it, or nowhere
 pub nowhere_else : (name : List ℕ) (names : List (List ℕ)) (i : ℕ) → IsRising names
     → IsPartitionPoint (λ other. before name other ≡ true) (λ other. before name other ≡ false) names i
     → (slice_get names i ≡ Some name → ⊥) → (p : ℕ) → slice_get names p ≡ Some name → ⊥
@@ -75,7 +75,7 @@ nowhere_else name names i rise point not_here p at =
         is_false true h = h refl
         is_false false h = refl
 
--- what stands at a place
+-- the name at a place
 pub there_is : (names : List (List ℕ)) (i : ℕ) (name : List ℕ) → i < length names → get_or names i name ≡ name
     → slice_get names i ≡ Some name
 there_is [] i name lt is = absurd (omega arith)
@@ -89,7 +89,7 @@ not_there names i name other is apart at = apart (is ∙ (at_get names i name at
 pub past_all : (names : List (List ℕ)) (i : ℕ) (name : List ℕ) → length names ≤ i → slice_get names i ≡ Some name → ⊥
 past_all names i name le at = let g = (at_get names i name at).0 in absurd (omega arith)
 
--- no two places have one name
+-- no two places have the same name
 pub one_place : (names : List (List ℕ)) → IsRising names → (name : List ℕ) (p q : ℕ) → slice_get names p ≡ Some name
     → slice_get names q ≡ Some name → q ≡ p
 one_place names rise name p q at at2 =

@@ -53,7 +53,7 @@ whole p i qs long none = without_none p qs (subst (λ l. contains p l ≡ false)
     all zero (q ∷ qs) long = absurd (omega arith)
     all (suc i) (q ∷ qs) long = ap (λ l. q ∷ l) (all i qs (omega arith))
 
--- what is removed behind the first n is removed from the rest
+-- what is removed after the first n is removed from the rest
 pub remove_behind : (n i : ℕ) (qs : List ℕ) → n ≤ length qs → drop n (remove qs (n + i)) ≡ remove (drop n qs) i
 remove_behind zero i qs le = ap (λ (k : ℕ). remove qs k) (let e : 0 + i ≡ i = omega arith in e)
 remove_behind (suc n) i [] le = absurd (omega arith)
@@ -138,7 +138,7 @@ drop_next zero (q ∷ qs) p rest e = cc (e)
 drop_next (suc n) [] p rest e = absurd (cc (e))
 drop_next (suc n) (q ∷ qs) p rest e = drop_next n qs p rest e
 
--- the turn at a place is the first behind it
+-- the turn at a place is the first after it
 pub drop_at : (n : ℕ) (qs : List ℕ) (p : ℕ) → slice_get qs n ≡ Some p → (rest : List ℕ) × (drop n qs ≡ p ∷ rest)
 drop_at n [] p at = absurd (cc (at))
 drop_at zero (q ∷ qs) p at = (qs, let same : q ≡ p = cc (at) in ap (λ x. x ∷ qs) same)

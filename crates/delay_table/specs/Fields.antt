@@ -1,4 +1,4 @@
--- What a table keeps true of its fields.
+-- What always holds of a table's fields.
 use Rattle.std.specs.Prelude.{◌≡◌, ◌<◌, ◌≤◌, ◌+◌, ◌^◌, ℕ, false, List, [], ◌∷◌, drop, length, slice_get}
 use Rattle.delay_table.specs.declared.place.Place.{Place}
 use Rattle.delay_table.specs.declared.place.Place.TheVariants.{Idle, Delayed, Listed, Done}

@@ -1,4 +1,4 @@
--- A table of names: how each stands, and which the driver listed.
+-- A table of names: the state of each, and which the driver listed.
 use Rattle.std.specs.Prelude.{◌≡◌, ◌<◌, ◌+◌, ℕ, Bool, true, false, cond, ◌==◌, List, [], ◌∷◌, length, map, slice_get}
 use Rattle.std.specs.Prelude.{slice_set, slice_index_or, Option, Some}
 use Rattle.std.specs.Ordering.{nat_cmp, is_lt}
@@ -12,11 +12,11 @@ pub record Table : Type 0 where
   pub places : List Place
   pub turns : List ℕ
 
--- whether the one name stands before the other, byte by byte
+-- whether the first name comes before the second, byte by byte
 abbrev pub stands_before : List ℕ → List ℕ → Bool
 stands_before m n = is_lt (slice_cmp nat_cmp m n)
 
--- each name stands before the next
+-- each name comes before the next
 abbrev pub IsRising : List (List ℕ) → Type 0
 IsRising names = (k : ℕ) (d : List ℕ) → k + 1 < length names
     → stands_before (slice_index_or names k d) (slice_index_or names (k + 1) d) ≡ true
@@ -24,7 +24,7 @@ IsRising names = (k : ℕ) (d : List ℕ) → k + 1 < length names
 abbrev pub idle_table : List (List ℕ) → Table
 idle_table names = record { names = names; places = map (λ n. Idle) names; turns = [] }
 
--- the same, but for one place
+-- the same table, with another place p
 abbrev pub with_place : ℕ → Place → Table → Table
 with_place p place t = record t { places = slice_set t.places p place }
 
@@ -58,7 +58,7 @@ abbrev pub without : ℕ → List ℕ → List ℕ
 without p [] = []
 without p (q ∷ qs) = cond (p == q) (without p qs) (q ∷ without p qs)
 
--- no place stands twice
+-- no place is there twice
 abbrev pub AreApart : List ℕ → Type 0
 AreApart [] = Unit {0}
 AreApart (p ∷ turns) = (contains p turns ≡ false) × AreApart turns

@@ -1,10 +1,9 @@
 //! The order in which places were listed.
-// The order of listing.
 ghost use Rattle.std.specs.Prelude.{◌≡◌, ◌<◌, ◌≤◌, Some, false, length, slice_get, take, vec_capacity};
 ghost use Rattle.delay_table.specs.Table.{AreApart, contains, without};
 ghost use Rattle.delay_table.specs.Fields.{turns_of};
 
-/// Where the place stands first among the turns, or their number where it isn't among them.
+/// Where this place comes first among the turns, or their number if it isn't among them.
 fn first_of(turns: &[u32], place: u32) -> usize
     ensures within { result ≤ length turns.now }
     ensures before { contains place (take result turns.now) ≡ false }
@@ -17,7 +16,7 @@ fn first_of(turns: &[u32], place: u32) -> usize
     at
 }
 
-/// Takes a place out of the order, from `from` on, where it is listed.
+/// Takes a place out of the order, from `from` on, if it is listed.
 pub(crate) fn strike(order: &mut Vec<u32>, from: usize, place: u32, is_listed: bool)
     requires listed { contains place (turns_of from (order.old).items) ≡ is_listed }
     requires within { from ≤ length (order.old).items }

@@ -3,7 +3,7 @@ ghost use Rattle.std.specs.Prelude.{◌≡◌, ◌≢◌, Some, MatchBool};
 ghost use Rattle.delay_table.specs.Table.{is_pending};
 ghost use Rattle.delay_table.specs.declared.place.Place.TheVariants.{Delayed, Listed};
 
-/// How one name stands.
+/// The state of one name.
 #[derive(Clone, Copy, Debug, PartialEq, Eq)]
 pub enum Place {
     /// It wasn't delayed.

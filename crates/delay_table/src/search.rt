@@ -1,5 +1,5 @@
 //! A name's place among the sorted names.
-// A name is found by halving, and a place by passing over others.
+// A name is found by halving, and a place by skipping others.
 ghost use Rattle.std.specs.Prelude.{◌≡◌, ◌≢◌, ◌≤◌, ◌<◌, ℕ, true, false, length, slice_get};
 ghost use Rattle.std.specs.Prelude.{Some, MatchBool, MatchOption};
 ghost use Rattle.std.specs.List.Sorted.{IsPartitionPoint};
@@ -8,21 +8,21 @@ ghost use Rattle.delay_table.specs.Table.{IsRising, is_pending, stands_before};
 use crate::place::Place;
 use byte_path::Bytes;
 
-/// Whether a name stands before this one.
+/// Whether a name comes before this one.
 fn is_before(other: &Bytes, name: &[u8]) -> bool
     ensures { result ≡ stands_before other.now name.now }
 {
     other.as_slice().cmp(name).is_lt()
 }
 
-/// Whether the two names are one.
+/// Whether the two names are equal.
 fn is_same(other: &Bytes, name: &[u8]) -> bool
     ensures { MatchBool result (other.now ≡ name.now) (other.now ≢ name.now) }
 {
     other.as_slice() == name
 }
 
-/// How many names stand before this one.
+/// How many names come before this one.
 fn before(names: &[Bytes], name: &[u8]) -> usize
     requires { IsRising names.now }
     ensures within { result ≤ length names.now }
@@ -33,7 +33,7 @@ fn before(names: &[Bytes], name: &[u8]) -> usize
     names.partition_point(|other| is_before(other, name))
 }
 
-/// The place of the name, or `None` exactly where it has none.
+/// The place of the name, or `None` exactly if it has none.
 pub(crate) fn place_of(names: &[Bytes], name: &[u8]) -> Option<usize>
     requires { IsRising names.now }
     ensures { MatchOption result
@@ -51,7 +51,7 @@ pub(crate) fn place_of(names: &[Bytes], name: &[u8]) -> Option<usize>
     }
 }
 
-/// The first place from `from` on that is delayed or listed, or the number of places where none is.
+/// The first place from `from` on that is delayed or listed, or the number of places if none is.
 pub(crate) fn first_pending(places: &[Place], from: usize) -> usize
     requires { from ≤ length places.now }
     ensures within { result ≤ length places.now }

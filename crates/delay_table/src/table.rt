@@ -1,4 +1,3 @@
-// The table.
 ghost use Rattle.std.specs.Prelude.{◌≡◌, ◌<◌, ◌^◌, ◌++◌, ◌∷◌, [], ℕ, List, length, map};
 ghost use Rattle.std.specs.Prelude.{Some, IfOk, MatchOption, slice_get, slice_set};
 ghost use Rattle.delay_table.specs.Table.{IsRising, IsDelayed, IsLowest, NoneIsPending, AreListed};
@@ -12,7 +11,7 @@ use byte_path::Bytes;
 use std::alloc::{AllocError, Global};
 use std::marker::Model;
 
-/// The names of a driver's paths, how each stands, and the order in which the driver listed them. A contract sees the
+/// The names of a driver's paths, the state of each, and the order in which the driver listed them. A contract sees the
 /// names, their places, and the places that are listed, in order of listing.
 #[derive(Drop)]
 pub struct DelayTable {
@@ -43,7 +42,7 @@ impl Model for DelayTable {
 }
 
 impl DelayTable {
-    /// A table of these names, each of them idle. All room is taken here: no other call can want memory.
+    /// A table of these names, each of them idle. It takes all memory here: no other call can run out of memory.
     pub fn reserve(alloc: Global, names: Vec<Bytes>) -> Result<DelayTable, AllocError>
         requires rising { IsRising names.items }
         requires few { length names.items < 2 ^ 32 }
@@ -82,8 +81,8 @@ impl DelayTable {
         self.lowest = self.lowest.min(place);
     }
 
-    /// The driver listed the name: its place, which is now listed, behind those that were listed before. `None` comes
-    /// exactly where no delayed place has this name.
+    /// The driver listed the name: returns its place, which is now listed, after those that were listed before. `None`
+    /// comes exactly if no delayed place has this name.
     pub fn list(&mut self, name: &[u8]) -> Option<u32>
         ensures { MatchOption result
             (((p : ℕ) → ¬ (IsDelayed name.now self.old p)) × (self.new ≡ self.old))
@@ -107,7 +106,7 @@ impl DelayTable {
         &self.order[self.delivered..]
     }
 
-    /// The first listed place, which is now done. `None` comes exactly where none is listed.
+    /// The first listed place, which is now done. `None` comes exactly if none is listed.
     pub fn deliver(&mut self) -> Option<u32>
         ensures { MatchOption result
             (((self.old).turns ≡ []) × (self.new ≡ self.old))
@@ -120,8 +119,8 @@ impl DelayTable {
         Some(place)
     }
 
-    /// The lowest place that is delayed or listed, which is now done. `None` comes exactly where there is none.
-    /// A caller that delivers the listed ones first pays only for the places that it passes over.
+    /// The lowest place that is delayed or listed, which is now done. `None` comes exactly if there is none. A caller
+    /// that delivers the listed ones first pays only for the places that it skips.
     pub fn rest(&mut self) -> Option<u32>
         ensures { MatchOption result
             (NoneIsPending self.old × (self.new ≡ self.old))

@@ -36,7 +36,7 @@ left : (objects rest before : Objects) (o : List ℕ × Vec ℕ) → rest ≡ ta
 left objects rest before o front is =
     ap (drop (length before)) (whole objects rest before o front is) ∙ drop_at before (o ∷ drop (length rest) objects) (length before) refl
 
--- the object that stands behind these is told at its place
+-- the object after these is told at its place
 told_at_place : (before after : Objects) (o : List ℕ × Vec ℕ) → content_told (slice_get (before ++ o ∷ after) (length before)) ≡ Raw o.1.items
 told_at_place [] after o = refl
 told_at_place (b ∷ bs) after o = told_at_place bs after o

@@ -14,14 +14,14 @@ starts_had_more (x ∷ ss) s =
     ∙ sym (append_assoc (waits x.out_of_memory ++ outcome_had x.outcome ∷ []) (starts_had ss)
     (waits s.out_of_memory ++ outcome_had s.outcome ∷ []))
 
--- one more start that wanted memory
+-- one more start that ran out of memory
 pub had_one_waits : (hs : List Had) (n : ℕ) →
     hs ++ waits (n + 1) ≡ (hs ++ waits n) ++ StartOutOfMemory ∷ []
 had_one_waits hs n =
     ap (λ rest. hs ++ rest) (sym (replicate_more n StartOutOfMemory))
     ∙ sym (append_assoc hs (waits n) (StartOutOfMemory ∷ []))
 
--- an item behind them
+-- one more outcome after them
 pub had_one_kept : (hs new : List Had) (n : ℕ) (h : Had) →
     new ≡ hs ++ (waits n ++ h ∷ []) → new ++ [] ≡ (hs ++ waits n) ++ h ∷ []
 had_one_kept hs new n h is = append-nil new ∙ is ∙ sym (append_assoc hs (waits n) (h ∷ []))

@@ -4,14 +4,14 @@ use Rattle.std.proofs.Common.{Some, refl, sym, ◌∙◌, ap}
 use Rattle.std.proofs.lemmas.List.{take-append-drop, drop-drop, drop-take, take-take, length-drop}
 use Rattle.edge_kit.specs.Links.{LinkSeen, IsRead}
 
--- so many bytes from a place on, and what is behind them
+-- this many bytes from a place on, and what follows them
 pub left_behind : (output : List ℕ) (at count : ℕ) →
     drop at output ≡ take count (drop at output) ++ drop (at + count) output
 left_behind output at count =
     sym (take-append-drop count (drop at output))
     ∙ ap (λ rest. take count (drop at output) ++ rest) (drop-drop count at output)
 
--- what is before them, and they
+-- what comes before them, and they
 pub taken_before : (output : List ℕ) (at count : ℕ) →
     take (at + count) output ≡ take at output ++ take count (drop at output)
 taken_before output at count =

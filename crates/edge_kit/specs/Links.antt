@@ -1,4 +1,4 @@
--- What is seen of a link to a driver, and what its calls make of that.
+-- What is seen of a link to a driver, and how its calls change that.
 use Rattle.std.specs.Prelude.{◌≡◌, ◌≤◌, ◌<◌, ℕ, List, [], ◌++◌, take, length, Bool, true, false}
 use Rattle.std.specs.Prelude.{Option, Some, Result, Ok, Err}
 use Rattle.std.specs.Option.{option_map}
@@ -14,8 +14,8 @@ pub data Stage : Type 0 where
   InputShut : Stage
   Shut : Stage
 
--- The bytes that were sent, those that were taken and those that are left to read, each where it
--- tells; how often it has failed, how often it met an end of input, and how far it was shut.
+-- The bytes that were sent, those that were taken and those that are left to read, each if it is
+-- told; how often it has failed, how often it met an end of input, and how far it was shut.
 pub record LinkSeen : Type 0 where
   pub sent : Option (List ℕ)
   pub taken : Option (List ℕ)
@@ -29,7 +29,7 @@ input_shut Open = InputShut
 input_shut InputShut = InputShut
 input_shut Shut = Shut
 
--- a wait counts only behind a closed input
+-- a wait counts only after a closed input
 abbrev pub waited : Stage → Stage
 waited Open = Open
 waited InputShut = Shut
@@ -60,7 +60,7 @@ pub record SendsPart (old : Option (List ℕ)) (piece : List ℕ) (new : Option 
   pub told : new ≡ grown old front
   pub proper : 0 < length piece → 0 < length after
 
--- a send ended early, for a fault or for want of memory
+-- a send ended early, by a fault or out of memory
 pub record IsSendCut (piece : List ℕ) (old new : LinkSeen) : Type 0 where
   pub part : SendsPart old.sent piece new.sent
   pub kept : new ≡ record old { sent = new.sent; faults = new.faults }
@@ -70,8 +70,8 @@ abbrev pub Sends : {T : Type 0} → List ℕ → LinkSeen → LinkSeen → Resul
 Sends piece old new (Ok x) = new ≡ record old { sent = grown old.sent piece }
 Sends piece old new (Err e) = IsSendCut piece old new
 
--- So many bytes were taken from the front of what is left, and stand at the front of the buffer.
--- None is an end of input.
+-- This many bytes were taken from the front of what is left, and are at the front of the buffer. 0
+-- bytes are an end of input.
 pub record IsRead (count : ℕ) (into : List ℕ) (old new : LinkSeen) : Type 0 where
   pub within : count ≤ length into
   pub left : old.left ≡ led (take count into) new.left

@@ -35,12 +35,12 @@ new_link output = record {
   stage = Open;
 }
 
--- How many bytes a read gives: as many as are left, as the buffer holds and as a piece has, which
--- is at least one.
+-- How many bytes a read gives: the least of what is left, what the buffer holds and the size of a
+-- piece, which is at least one.
 abbrev pub read_count : ℕ → ℕ → List ℕ → ℕ
 read_count piece room left = min (max 1 piece) (min room (length left))
 
--- Of so many calls before the one that fails, if one is to: that one fails and no other.
+-- This many calls come before the one that fails, if one is to fail. That one fails and no other.
 abbrev pub CountsCalls : {T : Type 0} → Option ℕ → Option ℕ → Result T Failed → Type 0
 CountsCalls before after (Ok x) = before ≡ option_map (λ n. n + 1) after
 CountsCalls before after (Err e) = (before ≡ Some 0) × (after ≡ None)
@@ -49,12 +49,12 @@ CountsCalls before after (Err e) = (before ≡ Some 0) × (after ≡ None)
 abbrev pub link_script : SessionScript → LinkScript
 link_script s = record { piece = s.piece; fail_send = s.fail_send; fail_read = s.fail_read }
 
--- the next session is one whose link behaves so
+-- the next session is one whose link behaves like this
 abbrev pub NextHas : List SessionScript → LinkScript → Type 0
 NextHas [] script = ⊥
 NextHas (s ∷ rest) script = script ≡ link_script s
 
--- a start uses up the next session, unless memory was wanting
+-- a start uses up the next session, unless memory ran out
 abbrev pub UsesUp : {L : Type 0} → List SessionScript → List SessionScript
     → Result L SendFault → Type 0
 UsesUp old new (Ok link) = new ≡ drop 1 old
@@ -68,7 +68,7 @@ start_told s = if s.starts then Gives s.output else Fails
 abbrev pub starts_told : List SessionScript → Starts
 starts_told sessions = Some (map start_told sessions)
 
--- what the next start gives, but for want of memory: a link for a session that starts, or a failure
+-- what the next start gives unless memory runs out: a link for a session that starts, or a failure
 abbrev pub Opens : {L : Type 0} → (L → LinkSeen) → (L → LinkScript) → List SessionScript
     → Result L SendFault → Type 0
 Opens seen script [] (Ok link) = ⊥
@@ -77,13 +77,13 @@ Opens seen script (s ∷ rest) (Ok link) =
 Opens seen script sessions (Err send.Failed) = NextFails (starts_told sessions)
 Opens seen script sessions (Err send.NoMemory) = Unit {0}
 
--- the sessions of the first driver with that command, and none where there is no such driver
+-- the sessions of the first driver with this command, and none if there is no such driver
 abbrev pub sessions_for : List DriverScript → List ℕ → List SessionScript
 sessions_for [] command = []
 sessions_for (d ∷ ds) command =
     if bytes_eq d.command command then d.sessions else sessions_for ds command
 
--- so many starts that wanted memory
+-- this many starts that ran out of memory
 abbrev pub waits : ℕ → List Had
 waits n = replicate n StartOutOfMemory
 
@@ -100,12 +100,12 @@ abbrev pub outcome_had : StartOutcome → Had
 outcome_had (outcome.Session s) = Session (session_told s)
 outcome_had outcome.Failed = StartFailed
 
--- each start behind those before it that wanted memory
+-- each start, after the starts before it that ran out of memory
 abbrev pub starts_had : List StartSeen → List Had
 starts_had [] = []
 starts_had (s ∷ ss) = (waits s.out_of_memory ++ outcome_had s.outcome ∷ []) ++ starts_had ss
 
--- a driver as the list of those that were given back has it
+-- a driver in the list of those that were given back
 abbrev pub driver_back : DriverSeen → List ℕ × List Had
 driver_back d = (d.command, starts_had d.starts ++ waits d.out_of_memory)
 

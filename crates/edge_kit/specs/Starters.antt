@@ -1,4 +1,4 @@
--- What is seen of what starts drivers, and what its calls make of that.
+-- What is seen of the starters of drivers and of their makers, and how their calls change that.
 use Rattle.std.specs.Prelude.{◌≡◌, ◌+◌, ℕ, Bool, List, [], ◌∷◌, ◌++◌, drop, Option, Some, None, Result, Ok, Err}
 use Rattle.std.specs.Option.{option_map}
 use Rattle.edge_kit.specs.Faults.{Rose}
@@ -6,7 +6,7 @@ use Rattle.edge_kit.specs.Links.{LinkSeen, IsNewLink, is_shut}
 use Rattle.edge_kit.specs.declared.faults.SendFault.{SendFault}
 use Rattle.edge_kit.specs.declared.faults.SendFault.TheVariants as send
 
--- A session that ended: the bytes sent and taken, where its link told them, how often its link had
+-- A session that ended: the bytes sent and taken, if its link told them, how often its link had
 -- failed and how often it had met an end of input, and whether it was shut.
 pub record SessionHad : Type 0 where
   pub sent : Option (List ℕ)
@@ -26,12 +26,12 @@ pub data StartTold : Type 0 where
   Fails : StartTold
   Gives : List ℕ → StartTold
 
--- the starts that follow, in order, where they are told
+-- the starts that follow, in order, if they are told
 abbrev pub Starts : Type 0
 Starts = Option (List StartTold)
 
--- The command that a starter starts, what came of its starts, in order, each session when it ended,
--- the starts that follow, how often it has failed, and how many of its links are out.
+-- The command that a starter starts, what came of its starts, in order, with each session when it
+-- ended, the starts that follow, how often it has failed, and how many of its links are out.
 pub record StarterSeen : Type 0 where
   pub command : List ℕ
   pub had : List Had
@@ -50,7 +50,7 @@ abbrev pub new_starter : List ℕ → Starts → StarterSeen
 new_starter command starts =
     record { command = command; had = []; ahead = starts; faults = 0; out = 0 }
 
--- a starter as the list of those that were given back has it
+-- a starter in the list of those that were given back
 abbrev pub starter_back : StarterSeen → List ℕ × List Had
 starter_back starter = (starter.command, starter.had)
 
@@ -64,11 +64,11 @@ session_had link = Session (record {
   shut = is_shut link.stage;
 })
 
--- the starts behind the next one, where they are told
+-- the starts after the next one, if they are told
 abbrev pub behind_next : Starts → Starts
 behind_next starts = option_map (drop 1) starts
 
--- the next start is told to give that output, if anything is told
+-- the next start is told to give this output, if anything is told
 abbrev pub NextGives : Starts → Option (List ℕ) → Type 0
 NextGives None left = Unit {0}
 NextGives (Some []) left = ⊥
@@ -98,7 +98,7 @@ pub record IsStartFailed (old new : StarterSeen) : Type 0 where
   }
   pub rose : Rose old.faults new.faults
 
--- A start gave a link, or it failed, or memory was wanting, which uses up no told start.
+-- A start gave a link, or it failed, or memory ran out. Out of memory uses up no told start.
 abbrev pub StartsOne : {L : Type 0} → (L → LinkSeen) → StarterSeen → StarterSeen
     → Result L SendFault → Type 0
 StartsOne seen old new (Ok link) = IsStarted (seen link) old new

@@ -9,7 +9,7 @@ pub enum Point {
     Closed,
 }
 
-/// What is told where each actor is, outside the lock. A test's gate holds an actor there for a while.
+/// What each actor calls at the points of its work, outside the lock. A test's gate holds an actor there for a while.
 pub trait Gate: Sync {
     fn at(&self, actor: u32, path: u32, point: Point);
 }

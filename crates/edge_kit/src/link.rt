@@ -15,7 +15,7 @@ pub trait Link: Drop {
         ensures sent { Sends piece.now (seen self.old) (seen self.new) result }
         ensures faults { AfterSend (seen self.old).faults (seen self.new).faults result };
 
-    /// Takes bytes from the front of what is left, and answers how many. None is an end of input.
+    /// Takes bytes from the front of what is left, and returns how many. 0 is an end of input.
     fn read(&mut self, into: &mut [u8]) -> Result<usize, Failed>
         requires { 0 < length into.old }
         ensures taken { Reads into.new (seen self.old) (seen self.new) result }
@@ -29,7 +29,7 @@ pub trait Link: Drop {
         } }
         ensures faults { AfterCall (seen self.old).faults (seen self.new).faults result };
 
-    /// Waits for the driver's exit. Its exit status isn't looked at.
+    /// Waits for the driver's exit, whatever its exit status.
     fn wait_end(&mut self) -> Result<(), Failed>
         ensures kept { seen self.new ≡ record (seen self.old) {
           stage = waited (seen self.old).stage;

@@ -74,7 +74,7 @@ impl MemoryLink {
         }
     }
 
-    /// How many bytes a read into so much room gives.
+    /// How many bytes a read into this much room gives.
     fn read_count(&self, room: usize) -> usize
         ensures count { result ≡
             read_count self.now.script.piece room (drop self.now.taken self.now.output.items) }
@@ -86,7 +86,7 @@ impl MemoryLink {
         piece.min(room.min(self.output.len() - self.taken))
     }
 
-    /// Takes bytes from the front of what is left, and answers how many. None is an end of input.
+    /// Takes bytes from the front of what is left, and returns how many. 0 is an end of input.
     fn take_front(&mut self, into: &mut [u8]) -> usize
         requires { 0 < length into.old }
         ensures read { let seen = ⟦<MemoryLink as Link>⟧.seen in
@@ -108,7 +108,7 @@ impl MemoryLink {
     }
 }
 
-/// Copies so many bytes to the front.
+/// Copies this many bytes to the front.
 fn copy_front(into: &mut [u8], bytes: &[u8], count: usize)
     requires room { count ≤ length into.old }
     requires enough { count ≤ length bytes.now }

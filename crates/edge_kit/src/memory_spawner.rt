@@ -11,7 +11,7 @@ use byte_path::Bytes;
 use std::alloc::{AllocError, Global};
 use std::collections::VecDeque;
 
-/// What makes starters in memory, and tells all starts.
+/// The maker of starters in memory, which tells all starts.
 #[derive(Drop)]
 pub struct MemorySpawner {
     alloc: Global,
@@ -19,7 +19,7 @@ pub struct MemorySpawner {
     pub scripts: Vec<DriverScript>,
     returned: Vec<DriverSeen>,
     out: usize,
-    // each starter that is out has room
+    // there is room for each starter that is out
     ghost room: { vec_len returned + out ≤ vec_capacity returned },
 }
 
@@ -49,7 +49,7 @@ fn copy_sessions(
     Ok(copies)
 }
 
-/// The sessions of the first driver with that command, or none.
+/// The sessions of the first driver with this command, or none if there is no such driver.
 fn sessions_for<'a>(scripts: &'a [DriverScript], command: &[u8]) -> &'a [SessionScript]
     ensures { result.now ≡ sessions_for scripts.now command.now }
 {

@@ -14,7 +14,7 @@ use byte_path::{Bytes, Items};
 use std::alloc::Global;
 use std::collections::VecDeque;
 
-/// What starts a driver in memory, which tells its starts.
+/// The starter of a driver in memory, which tells its starts.
 #[derive(Drop)]
 pub struct MemoryStarter {
     alloc: Global,
@@ -22,11 +22,11 @@ pub struct MemoryStarter {
     /// The sessions that are left, in order.
     pub sessions: VecDeque<SessionScript>,
     had: Vec<StartSeen>,
-    // how many starts behind the last of these wanted memory
+    // how many starts after the last of these ran out of memory
     out_of_memory: u64,
     out: usize,
     faults: u64,
-    // each link that is out has room
+    // there is room for each link that is out
     ghost room: { vec_len had + out ≤ vec_capacity had },
 }
 
@@ -49,7 +49,7 @@ fn next_link(alloc: Global, sessions: &VecDeque<SessionScript>) -> Result<Memory
     Ok(MemoryLink::new(alloc, output, script))
 }
 
-/// Keeps what came of a start behind those before it that wanted memory. There is room for it.
+/// Keeps what came of a start, after the starts before it that ran out of memory. There is room for it.
 #[tactic(auto, using(crate::proofs::Starts::starts_had_more))]
 fn keep(had: &mut Vec<StartSeen>, out_of_memory: u64, outcome: StartOutcome)
     requires { vec_len had.old < vec_capacity had.old }
@@ -86,7 +86,7 @@ impl MemoryStarter {
         }
     }
 
-    /// What is kept of it. It takes no memory.
+    /// What is kept of the starter. It takes no memory.
     pub(crate) fn into_driver(self) -> DriverSeen
         ensures { let seen = ⟦<MemoryStarter as Starter>⟧.seen in
             driver_back result ≡ starter_back (seen self) }

@@ -3,11 +3,11 @@ use byte_path::{Bytes, Items};
 /// How a link in memory gives its output, and which of its calls fail.
 #[derive(Clone, Copy, Debug, PartialEq, Eq)]
 pub struct LinkScript {
-    /// A read gives at most so many bytes. 0 counts as 1.
+    /// A read gives at most this many bytes. 0 counts as 1.
     pub piece: u32,
-    /// How many sends come before the one that fails, if one is to.
+    /// How many sends come before the one that fails, if one is to fail.
     pub fail_send: Option<u32>,
-    /// How many reads come before the one that fails, if one is to.
+    /// How many reads come before the one that fails, if one is to fail.
     pub fail_read: Option<u32>,
 }
 
@@ -18,11 +18,11 @@ pub struct SessionScript {
     pub starts: bool,
     /// All that the driver writes in it.
     pub output: Bytes,
-    /// A read gives at most so many bytes. 0 counts as 1.
+    /// A read gives at most this many bytes. 0 counts as 1.
     pub piece: u32,
-    /// The number of the send that fails, from 0, if one is to.
+    /// The number of the send that fails, counted from 0, if one is to fail.
     pub fail_send: Option<u32>,
-    /// The number of the read that fails, from 0, if one is to.
+    /// The number of the read that fails, counted from 0, if one is to fail.
     pub fail_read: Option<u32>,
 }
 

@@ -11,17 +11,17 @@ pub trait Starter: Drop {
     /// It can move to another thread.
     type Link: Link + Send;
 
-    /// Its command, what came of its starts, those that follow, its count of faults, and how many of
-    /// its links are out.
+    /// Its command, what came of its starts, the starts that follow, its count of faults, and how many of its links are
+    /// out.
     ghost seen: { Self → StarterSeen };
 
-    /// A new session. Where the starts are told, it fails exactly where the next one is told to fail or
-    /// none is left. `NoMemory` uses up no told start.
+    /// A new session. If the starts are told, it fails exactly if the next one is told to fail or none is left.
+    /// `NoMemory` uses up no told start.
     fn start(&mut self) -> Result<Self::Link, SendFault>
         requires { length (seen self.old).had < 2 ^ 32 }
         ensures { StartsOne Self.Link.seen (seen self.old) (seen self.new) result };
 
-    /// Takes a link of its own back, which ends the session. It takes no memory.
+    /// Takes back a link that it gave, which ends the session. It takes no memory.
     fn end(&mut self, link: Self::Link)
         requires { 0 < (seen self.old).out }
         ensures out { (seen self.new).out + 1 ≡ (seen self.old).out }
@@ -31,19 +31,19 @@ pub trait Starter: Drop {
         } };
 }
 
-/// What makes the starters of drivers.
+/// The maker of the starters of drivers.
 pub trait Spawner {
     /// It can move to another thread.
     type Starter: Starter + Send;
 
-    /// The starts of a starter for a command, where it tells. No call changes this.
+    /// What it tells of the starts of a starter for a command. No call changes this.
     ghost told: { Self → List ℕ → Starts };
 
     /// The starters that were given back, each with its command and what came of its starts, and how
     /// many are out.
     ghost seen: { Self → SpawnerSeen };
 
-    /// A value of its own that can start that command. It starts nothing.
+    /// A value that can start this command. The caller owns it. It starts nothing.
     fn starter(&mut self, command: &[u8]) -> Result<Self::Starter, AllocError>
         ensures told { told self.new ≡ told self.old }
         ensures starter { IfOk result (λ s.
@@ -52,7 +52,7 @@ pub trait Spawner {
             (seen self.new ≡ record (seen self.old) { out = (seen self.old).out + 1 }) }
         ensures kept { OnErr result (seen self.new ≡ seen self.old) };
 
-    /// Takes a starter of its own back, none of whose links is out. It takes no memory.
+    /// Takes back a starter that it gave, none of whose links is out. It takes no memory.
     fn take_back(&mut self, starter: Self::Starter)
         requires given { 0 < (seen self.old).out }
         requires ended { (Self.Starter.seen starter).out ≡ 0 }

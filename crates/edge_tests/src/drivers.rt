@@ -40,7 +40,7 @@ fn goes_so<L: Link>(link: &mut L, call: Call) -> bool {
 /// A session's script, as a table holds it: the output, the piece, and the send and the read that fail.
 type Script = (&'static [u8], u32, Option<u32>, Option<u32>);
 
-/// A start's script, or none where it is to fail.
+/// A start's script, or `None` if it is to fail.
 fn session_of(alloc: Global, script: Option<Script>) -> Result<SessionScript, AllocError> {
     let (output, piece, fail_send, fail_read) = script.unwrap_or((b"", 1, None, None));
     Ok(SessionScript {
@@ -68,8 +68,8 @@ fn driver_of(
     })
 }
 
-/// A driver's command, and in order a `!` for each failed start, and for each session what was sent
-/// and taken, its counts of faults and of ends, and a dot where it was shut.
+/// A driver's command, and then in order a `!` for each failed start, and for each session what was
+/// sent and taken, its counts of faults and of ends, and a dot if it was shut.
 fn spell(alloc: Global, driver: &DriverSeen) -> Result<Vec<u8>, AllocError> {
     let mut text = Vec::from_slice(alloc, driver.command.as_slice())?;
     for start in driver.starts.as_slice() {
@@ -90,7 +90,7 @@ fn spell(alloc: Global, driver: &DriverSeen) -> Result<Vec<u8>, AllocError> {
     Ok(text)
 }
 
-/// Makes these calls in one session of the driver `d`, and tells whether each answers as it should.
+/// Makes these calls in one session of the driver `d`, and returns whether each answers as it should.
 fn talk<P: Spawner>(spawner: &mut P, calls: &[Call]) -> Result<bool, SendFault> {
     let mut starter = spawner.starter(b"d")?;
     let answer = match starter.start() {
@@ -209,7 +209,7 @@ fn a_link_gives_its_output_in_pieces_and_fails_where_it_is_told_to(
     Ok(())
 }
 
-/// A start that gives this output, read whole, or a failure where there is none.
+/// Whether a start gives this output, read whole, or fails if there is none.
 fn starts_so<S: Starter>(starter: &mut S, wanted: Option<&'static [u8]>) -> bool
     requires { length (S.seen starter.old).had < 10 }
     ensures had { length (S.seen starter.new).had ≤ length (S.seen starter.old).had + 1 }
@@ -225,7 +225,7 @@ fn starts_so<S: Starter>(starter: &mut S, wanted: Option<&'static [u8]>) -> bool
     }
 }
 
-/// Three starts of a driver, by a starter of its own.
+/// Whether three starts of a driver, by one starter, go as they should.
 fn three_starts<P: Spawner>(
     spawner: &mut P,
     command: &[u8],
@@ -246,7 +246,7 @@ const TWO: Option<Script> = Some((b"two", 9, None, None));
 
 const SIX: Option<Script> = Some((b"six", 9, None, None));
 
-/// The driver `a` starts, fails and starts; `b` starts once; a second `a` is passed over.
+/// The driver `a` starts, fails and starts; `b` starts once; a second `a` is ignored.
 fn spawner_of_two(alloc: Global) -> Result<MemorySpawner, AllocError> {
     let mut scripts = Vec::new(alloc);
     scripts.push(driver_of(alloc, b"a", &[ONE, None, TWO])?)?;

@@ -1,7 +1,7 @@
 //! The tests of the outside and of what reads it.
 //!
-//! A crate with tests is proved twice, with them and without, so those of `edge_kit` and `object_dir` stand here, over the
-//! built libraries. It has nothing but tests.
+//! A crate with tests is proved twice, with them and without. So the tests of `edge_kit` and `object_dir` are here,
+//! over the built libraries. It has nothing but tests.
 #![tactic(auto)]
 
 #[cfg(test)]

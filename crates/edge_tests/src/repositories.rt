@@ -4,7 +4,7 @@ use std::alloc::{AllocError, Global};
 use std::test::Fail;
 use std::vec::Vec;
 
-/// What is read of a repository: a file, or the object whose name is twenty of this byte.
+/// What is read of a repository: a file, or the object whose name is this byte twenty times.
 #[derive(Clone, Copy)]
 enum Part {
     Index,
@@ -53,7 +53,7 @@ fn is_wanted(taken: Result<Option<Vec<u8>>, TakeFault>, wanted: Wanted) -> bool 
     }
 }
 
-/// What fails, what is read within which limit, and what it gives.
+/// What fails, what is read and within which limit, and what it gives.
 const READS: [(Option<RepoFail>, Part, u64, Wanted); 14] = [
     (None, Part::Index, 1, Ok(Some(&[1]))),
     (None, Part::Config, 1, Ok(Some(&[2]))),

@@ -8,7 +8,7 @@ use std::alloc::{AllocError, Global};
 use std::test::Fail;
 use std::vec::Vec;
 
-/// Makes that call on a fresh leaf, and tells whether it went well.
+/// Makes this call on a fresh leaf, and returns whether it went well.
 fn goes_well(leaf: &mut MemoryLeaf, call: LeafCall) -> bool
     requires { (⟦<MemoryLeaf as Leaf>⟧.seen leaf.old).state ≡ Fresh }
 {
@@ -20,7 +20,7 @@ fn goes_well(leaf: &mut MemoryLeaf, call: LeafCall) -> bool
     }
 }
 
-/// Whether a call on the leaf `path` goes well where that call on the leaf `a` is to fail.
+/// Whether a call on the leaf `path` goes well if the call `fail` on the leaf `a` is to fail.
 fn goes_beside(
     alloc: Global,
     fail: LeafCall,

@@ -9,7 +9,7 @@ use Rattle.std.specs.List.{ends_with}
 use Rattle.memchr.specs.Find.{is_byte, IsFirstByte}
 use Rattle.eol_convert.specs.Content.{crlf_for, with_crlf_from, with_crlf, line_end}
 
--- whether CR stands right behind a stretch that stands behind CR or not
+-- whether CR is right before the end of a stretch, which itself is after CR or not
 behind : Bool → List ℕ → Bool
 behind cr [] = cr
 behind cr (b ∷ line) = behind (eqb b 13) line
@@ -17,7 +17,7 @@ behind cr (b ∷ line) = behind (eqb b 13) line
 lf_of : (b : ℕ) → is_byte 10 b ≡ true → b ≡ 10
 lf_of b is = grind (arith, common_steps)
 
--- what has no LF stays
+-- a text without LF stays
 stays : (cr : Bool) (text : List ℕ) (k : ℕ) → k ≤ length text → ((j : ℕ) → 0 ≤ j → j < k → is_byte 10 (get_or text j 0) ≡ true → ⊥)
     → with_crlf_from cr text ≡ take k text ++ with_crlf_from (behind cr (take k text)) (drop k text)
 unfolding behind
@@ -32,7 +32,7 @@ stays cr (b ∷ text) (suc k) le none =
 turned : (b : ℕ) → eqb b 13 ≡ (eqb 13 b && true)
 turned b = grind (arith, common_steps)
 
--- CR stands behind a line that ends with it
+-- CR is right before the end of a line that ends with it
 behind-line : (line : List ℕ) → behind false line ≡ ends_with nat_eq line (13 ∷ [])
 unfolding behind
 behind-line [] = refl
@@ -44,7 +44,7 @@ behind-line (b ∷ c ∷ line) =
     ∙ ap (λ (n : ℕ). pointwise nat_eq (13 ∷ []) (drop n (c ∷ line))) one
     ∙ ap (λ (n : ℕ). pointwise nat_eq (13 ∷ []) (drop n (b ∷ c ∷ line))) two
 
--- the first LF and what is behind it
+-- the first LF and what follows it
 from_lf : (text : List ℕ) (k : ℕ) → IsFirstByte (is_byte 10) text (Some k) → drop k text ≡ 10 ∷ drop (k + 1) text
 from_lf text k first =
     let next : suc k ≡ k + 1 = omega arith in
@@ -52,7 +52,7 @@ from_lf text k first =
     ∙ ap (λ (b : ℕ). b ∷ drop (suc k) text) (lf_of (get_or text k 0) first.1)
     ∙ ap (λ (n : ℕ). 10 ∷ drop n text) next
 
--- one line, its end, and what is behind it
+-- one line, its end, and what follows it
 pub one_line : (text : List ℕ) (k : ℕ) → IsFirstByte (is_byte 10) text (Some k)
     → with_crlf text ≡ take k text ++ (line_end (take k text) ++ with_crlf (drop (k + 1) text))
 one_line text k first =
@@ -73,7 +73,7 @@ some_for : (t : Bool) (b : ℕ) → 1 ≤ length (cond t (13 ∷ 10 ∷ []) (b �
 some_for true b = omega arith
 some_for false b = omega arith
 
--- nothing gets shorter
+-- no text gets shorter
 length-with_crlf_from : (cr : Bool) (text : List ℕ) → length text ≤ length (with_crlf_from cr text)
 length-with_crlf_from cr [] = omega arith
 length-with_crlf_from cr (b ∷ text) =
@@ -81,7 +81,7 @@ length-with_crlf_from cr (b ∷ text) =
     let some : 1 ≤ length (crlf_for cr b) = some_for (eqb b 10 && not cr) b in
     omega (arith, length-append (crlf_for cr b) (with_crlf_from (eqb b 13) text))
 
--- what is done, and one line on
+-- what is done, and one line more
 pub one_more : (content done text : List ℕ) (k : ℕ) → with_crlf content ≡ done ++ with_crlf text → IsFirstByte (is_byte 10) text (Some k)
     → with_crlf content ≡ (done ++ (take k text ++ line_end (take k text))) ++ with_crlf (drop (k + 1) text)
 one_more content done text k same first =
@@ -91,7 +91,7 @@ one_more content done text k same first =
     same ∙ ap (λ (xs : List ℕ). done ++ xs) (one_line text k first ∙ sym (append_assoc line end rest))
     ∙ sym (append_assoc done (line ++ end) rest)
 
--- the LF of a line that CR doesn't end gets one
+-- the LF of a line that doesn't end in CR gets one
 pub bare_lf : (text : List ℕ) (k : ℕ) → IsFirstByte (is_byte 10) text (Some k) → ends_with nat_eq (take k text) (13 ∷ []) ≡ false
     → length text < length (with_crlf text)
 bare_lf text k first bare =
@@ -101,12 +101,12 @@ bare_lf text k first bare =
     let later : length rest ≤ length (with_crlf rest) = length-with_crlf_from false rest in
     omega (arith, first.0.high, later, ap length whole, length-append (take k text) (13 ∷ 10 ∷ with_crlf rest), length-take k text, length-drop (k + 1) text)
 
--- a text changes exactly where what is behind its first line does
+-- a text changes exactly if what follows its first line does
 pub record FollowsRest (text rest : List ℕ) : Type 0 where
   pub same : with_crlf rest ≡ rest → with_crlf text ≡ text
   pub longer : length rest < length (with_crlf rest) → length text < length (with_crlf text)
 
--- the LF of a line that CR ends stays
+-- the LF of a line that ends in CR stays
 pub kept_lf : (text : List ℕ) (k : ℕ) → IsFirstByte (is_byte 10) text (Some k) → ends_with nat_eq (take k text) (13 ∷ []) ≡ true
     → FollowsRest text (drop (k + 1) text)
 kept_lf text k first kept =

@@ -12,7 +12,7 @@ list_any-nowhere p (x ∷ xs) none =
     or_from (p x) (list_any p xs) (false_from_ne_true (p x) (none 0 (omega arith) (omega arith)))
     (list_any-nowhere p xs (λ k low high. none (suc k) (omega arith) (omega arith)))
 
--- a first byte is found exactly where some byte passes
+-- a first byte is found exactly if some byte passes
 pub is_some-first : (p : ℕ → Bool) (xs : List ℕ) (r : Option ℕ) → IsFirstByte p xs r → is_some r ≡ list_any p xs
 is_some-first p xs None none = sym (list_any-nowhere p xs none)
 is_some-first p xs (Some k) found = sym (list_any_at p xs k 0 found.0.high found.1)

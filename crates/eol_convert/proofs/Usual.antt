@@ -11,7 +11,7 @@ use Rattle.eol_convert.specs.Content.{is_non_printing, forbids_change, non_print
 usual_stays : (b : ℕ) → is_unusual b ≡ false → forbids_change b ≡ false
 usual_stays b usual = grind (arith, common_steps)
 
--- and so is each byte that isn't printing, but LF
+-- and so is each byte that isn't printing, except LF
 usual_prints : (b : ℕ) → is_unusual b ≡ false → is_non_printing b ≡ false
 usual_prints b usual = grind (arith, common_steps)
 
@@ -23,7 +23,7 @@ no_first : (t : Bool) (n : ℕ) → one_if t + n ≡ 0 → (t ≡ false) × (n �
 no_first true n none = absurd (omega arith)
 no_first false n none = (refl, omega arith)
 
--- the first byte is usual, and so are those behind it
+-- the first byte is usual, and so are those after it
 usual_first : (b : ℕ) (content : List ℕ) → count_by is_unusual (b ∷ content) ≡ 0
     → (is_unusual b ≡ false) × (count_by is_unusual content ≡ 0)
 usual_first b content none =

@@ -27,7 +27,7 @@ said (Value value) =
     else if bytes_eq value (codes "input") then Is TextLf
     else Undefined
 
--- step 1: what `text` says, and where it says nothing what `crlf` says
+-- step 1: what `text` says, or if it says nothing, what `crlf` says
 abbrev pub first_said : Asked → Asked → Asked
 first_said Undefined crlf = crlf
 first_said text crlf = text
@@ -42,7 +42,7 @@ named_ending Set = None
 named_ending Unset = None
 named_ending Unspecified = None
 
--- a text, and what is one where it looks like one, with that line end
+-- a text, and a file that is a text if it looks like one, each with that line end
 abbrev pub text_with : Ending → Action
 text_with Lf = TextLf
 text_with Crlf = TextCrlf
@@ -51,14 +51,15 @@ abbrev pub auto_with : Ending → Action
 auto_with Lf = AutoLf
 auto_with Crlf = AutoWithCrlf
 
--- step 2: with a named line end what is automatic stays so, and all else that isn't binary is a text
+-- step 2: with a line end that `eol` names, an automatic file stays automatic, and any other one that isn't binary is a
+-- text
 abbrev pub with_named : Option Ending → Asked → Asked
 with_named None asked = asked
 with_named (Some ending) (Is Binary) = Is Binary
 with_named (Some ending) Auto = Is (auto_with ending)
 with_named (Some ending) asked = Is (text_with ending)
 
--- the line end of the settings: `core.autocrlf` stands before `core.eol`
+-- the line end of the settings: `core.autocrlf` goes before `core.eol`
 abbrev pub set_ending : AutoCrlf → EolSetting → Ending
 set_ending True eol = Crlf
 set_ending Input eol = Lf
@@ -66,7 +67,7 @@ set_ending False setting.Crlf = Crlf
 set_ending False setting.Lf = Lf
 set_ending False setting.Native = Lf
 
--- steps 3 and 4: where no attribute says anything, `core.autocrlf` does, and a text without a line end has that of the
+-- steps 3 and 4: if no attribute says anything, `core.autocrlf` decides, and a text without a line end has that of the
 -- settings
 abbrev pub settled : AutoCrlf → EolSetting → Asked → Action
 settled False eol Undefined = Binary
@@ -81,7 +82,7 @@ abbrev pub action_of : AttrState → AttrState → AttrState → AutoCrlf → Eo
 action_of text crlf eol auto setting =
     settled auto setting (with_named (named_ending eol) (first_said (said text) (said crlf)))
 
--- line ends that are LF stay
+-- line ends that should be LF stay as they are
 abbrev pub ends_of : Action → LineEnds
 ends_of TextCrlf = ends.ToCrlf
 ends_of AutoWithCrlf = ends.AutoCrlf
@@ -89,6 +90,6 @@ ends_of Binary = ends.Keep
 ends_of TextLf = ends.Keep
 ends_of AutoLf = ends.Keep
 
--- what becomes of them in a checkout
+-- what becomes of the line ends in a checkout
 abbrev pub line_ends_of : AttrState → AttrState → AttrState → AutoCrlf → EolSetting → LineEnds
 line_ends_of text crlf eol auto setting = ends_of (action_of text crlf eol auto setting)

@@ -9,15 +9,15 @@ use attr_line::AttrState;
 /// What is done with a file's line ends, by its attributes and the settings (gitattributes(5), "End-of-line conversion").
 #[derive(Clone, Copy, Debug, PartialEq, Eq)]
 pub enum Action {
-    /// It is no text, so they stay.
+    /// It isn't a text, so its line ends stay.
     Binary,
     /// A text, with LF in the worktree.
     TextLf,
     /// A text, with CR LF in the worktree.
     TextCrlf,
-    /// A text where it looks like one, with LF in the worktree.
+    /// A text if it looks like one, with LF in the worktree.
     AutoLf,
-    /// A text where it looks like one, with CR LF in the worktree.
+    /// A text if it looks like one, with CR LF in the worktree.
     AutoCrlf,
 }
 
@@ -28,9 +28,9 @@ enum Asked {
     Undefined,
     /// A text, whose line end isn't known yet.
     Text,
-    /// A text where it looks like one, whose line end isn't known yet.
+    /// A text if it looks like one, whose line end isn't known yet.
     Auto,
-    /// All is known.
+    /// The action is known.
     Is(Action),
 }
 
@@ -57,7 +57,7 @@ fn said(state: &AttrState) -> Asked
     }
 }
 
-/// What `text` says, and where it says nothing what `crlf` says.
+/// What `text` says, or if it says nothing, what `crlf` says.
 fn first_said(text: Asked, crlf: Asked) -> Asked
     ensures { result ≡ first_said text crlf }
 {
@@ -102,7 +102,8 @@ impl Ending {
 }
 
 impl Asked {
-    /// With a named line end what is automatic stays so, and all else that isn't binary is a text.
+    /// With a line end that `eol` names, an automatic file stays automatic, and any other one that isn't binary is a
+    /// text.
     fn with_named(self, named: Option<Ending>) -> Asked
         ensures { result ≡ with_named named self }
     {
@@ -116,7 +117,7 @@ impl Asked {
         }
     }
 
-    /// Where no attribute says anything, `core.autocrlf` does. A text without a line end has that of the settings.
+    /// If no attribute says anything, `core.autocrlf` decides. A text without a line end has that of the settings.
     fn settled(self, auto: AutoCrlf, setting: EolSetting) -> Action
         ensures { result ≡ settled auto setting self }
     {
@@ -131,7 +132,7 @@ impl Asked {
     }
 }
 
-/// The line end of the settings: `core.autocrlf` stands before `core.eol`.
+/// The line end of the settings: `core.autocrlf` goes before `core.eol`.
 fn set_ending(auto: AutoCrlf, setting: EolSetting) -> Ending
     ensures { result ≡ set_ending auto setting }
 {
@@ -158,7 +159,7 @@ pub fn action_of(
 }
 
 impl Action {
-    /// What a checkout does: line ends that are LF stay.
+    /// What a checkout does: line ends that should be LF stay as they are.
     fn ends(self) -> LineEnds
         ensures { result ≡ ends_of self }
     {
@@ -170,7 +171,8 @@ impl Action {
     }
 }
 
-/// What becomes of a file's line ends in a checkout, by `action_of` the same states and settings. It takes no memory.
+/// What becomes of a file's line ends in a checkout, from the same states and settings as `action_of`. It takes no
+/// memory.
 pub fn line_ends_of(
     text: &AttrState,
     crlf: &AttrState,

@@ -8,13 +8,14 @@ use crate::setting::LineEnds;
 use memchr::memchr;
 use std::alloc::{AllocError, Global};
 
-/// Lines of up to so many bytes are copied as blocks of this size.
+/// Lines of up to this many bytes are copied as blocks of this size.
 const BLOCK: usize = 128;
 
-/// And those of up to so many as blocks of this one, so that a content of short lines is copied once and not many times.
+/// Lines of up to this many bytes are copied as blocks of this size, so that a content of short lines is copied once
+/// and not many times.
 const SHORT: usize = 16;
 
-/// Whether an LF stands there that no CR stands before.
+/// Whether a content has an LF without a CR before it.
 fn has_bare_lf(content: &[u8]) -> bool
     ensures changed { OnTrue result (with_crlf content.now ≢ content.now) }
     ensures same { OnFalse result (with_crlf content.now ≡ content.now) }
@@ -31,10 +32,10 @@ fn has_bare_lf(content: &[u8]) -> bool
     false
 }
 
-/// Whether the content in the worktree is another one. It takes no memory.
+/// Whether the content changes on its way to the worktree. It takes no memory.
 ///
-/// Where it isn't, a caller needs no copy of the content. Where it is, it is the one that `ToCrlf` gives, so a caller can
-/// ask for that and need no second test.
+/// If it doesn't, a caller needs no copy of the content. If it does, it becomes what `ToCrlf` gives, so a caller can
+/// ask for that and needs no second test.
 pub fn changes_ends(content: &[u8], ends: LineEnds) -> bool
     ensures changed { OnTrue result (to_tree_ends content.now ends ≢ content.now) }
     ensures same { OnFalse result (to_tree_ends content.now ends ≡ content.now) }
@@ -43,12 +44,13 @@ pub fn changes_ends(content: &[u8], ends: LineEnds) -> bool
     match ends {
         LineEnds::Keep => false,
         LineEnds::ToCrlf => has_bare_lf(content),
-        // In this order a content with CR is left at the first one.
+        // In this order the test of a content with CR ends at the first CR.
         LineEnds::AutoCrlf => is_lf_text(content) && has_bare_lf(content),
     }
 }
 
-/// Appends the first bytes of a block. A block of a known size is copied faster than a few bytes, so it is cut behind.
+/// Appends the first bytes of a block. A block of a known size is copied faster than a few bytes, so the text is cut
+/// afterwards.
 fn push_cut<const N: usize>(
     text: &mut Vec<u8>,
     block: &[u8; N],
@@ -99,11 +101,11 @@ fn push_line(text: &mut Vec<u8>, content: &[u8], end: usize) -> Result<(), Alloc
     Ok(())
 }
 
-/// A content whose every LF that no CR stands before is CR LF.
+/// A content in which each LF without a CR before it is CR LF.
 fn with_crlf(alloc: Global, content: &[u8]) -> Result<Vec<u8>, AllocError>
     ensures { IfOk result (λ text. text.items ≡ with_crlf content.now) }
 {
-    // Room for lines of 16 bytes and more.
+    // Room for one more byte in each line of 16 bytes or more.
     let mut text = Vec::with_capacity(alloc, content.len() + content.len() / 16 + BLOCK)?;
     let mut rest = content;
     'lines: while let Some(end) = memchr(b'\n', rest) {
@@ -118,8 +120,8 @@ fn with_crlf(alloc: Global, content: &[u8]) -> Result<Vec<u8>, AllocError>
 /// The content of a blob as it stands in the worktree, with these line ends (gitattributes(5), "End-of-line
 /// conversion").
 ///
-/// A content that stays is copied. gitattributes(5) leaves open which contents are texts under `AutoCrlf`: the rule is
-/// that of git 2.39.
+/// A content that doesn't change is copied. gitattributes(5) leaves open which contents are texts under `AutoCrlf`: the
+/// rule is that of git 2.39.
 pub fn to_tree_ends(alloc: Global, content: &[u8], ends: LineEnds) -> Result<Vec<u8>, AllocError>
     ensures { IfOk result (λ text. text.items ≡ to_tree_ends content.now ends) }
 {

@@ -7,18 +7,19 @@ ghost use Rattle.eol_convert.specs.Content.{is_printing, is_non_printing, forbid
 use byte_path::ByteKind;
 use memchr::memchr2;
 
-/// Sums over so many bytes fit a `u8`, so that a sum is of many bytes side by side. It is a multiple of 32.
+/// The count over this many bytes fits a `u8`, so that many bytes are counted side by side. It is a multiple of 32.
 const CHUNK: usize = 224;
 
 // Their tests have no branches, so that many bytes are tested at once.
 
-/// BS, TAB, FF, ESC, and all from the space on but DEL.
+/// BS, TAB, FF, ESC, and each byte from the space on except DEL.
 struct Printing;
 
-/// Any other byte but LF.
+/// Any other byte except LF.
 struct NonPrinting;
 
-/// What few texts have: a byte below the space but TAB and LF, or DEL. CR, NUL and all that isn't printing are among them.
+/// What few texts have: a byte below the space except TAB and LF, or DEL. CR, NUL and each byte that isn't printing are
+/// among them.
 struct Unusual;
 
 impl ByteKind for Printing {
@@ -87,7 +88,7 @@ fn has_none<K: ByteKind>(content: &[u8]) -> bool
     true
 }
 
-/// Whether CR or NUL stands there.
+/// Whether a content has CR or NUL.
 fn forbids_change(content: &[u8]) -> bool
     ensures { result ≡ list_any forbids_change content.now }
 {
@@ -101,8 +102,8 @@ fn non_printing(content: &[u8]) -> usize
     count_of::<NonPrinting>(content).saturating_sub(end_mark)
 }
 
-/// Whether a content is a text whose lines end in LF alone: it has neither CR nor NUL, and for each 128 bytes that are
-/// printing at most one that isn't.
+/// Whether a content is a text whose lines end in LF alone: it has neither CR nor NUL, and at most one byte that isn't
+/// printing for each 128 that are.
 #[tactic(auto, unfolding(crate::specs::Content::is_lf_text))]
 pub fn is_lf_text(content: &[u8]) -> bool
     ensures { result ≡ is_lf_text content.now }

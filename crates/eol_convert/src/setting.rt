@@ -17,10 +17,10 @@ pub enum EolSetting {
 /// What becomes of a file's line ends in the worktree.
 #[derive(Clone, Copy, Debug, PartialEq, Eq)]
 pub enum LineEnds {
-    /// They stay.
+    /// The line ends stay.
     Keep,
-    /// Each LF that no CR stands before becomes CR LF.
+    /// Each LF without a CR before it becomes CR LF.
     ToCrlf,
-    /// The same, where the content is a text without a CR.
+    /// The same, if the content is a text without a CR.
     AutoCrlf,
 }

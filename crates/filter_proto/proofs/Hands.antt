@@ -41,7 +41,7 @@ lacks_more ps x lacks none front rest e hello = elim (snoc_split ps x front rest
 begins_more : (ps : List Packet) (x : Packet) → BeginsHello ps → BeginsHello (ps ++ x ∷ [])
 begins_more ps x h = (h.0, h.1 ++ x ∷ [], ap (λ (y : List Packet). y ++ x ∷ []) h.2 ∙ append_assoc h.0 h.1 (x ∷ []), h.3)
 
--- a packet behind which no right first answer ends
+-- a packet after which no right first answer ends
 stays_by : (p : HandshakePhase) (ps : List Packet) (x : Packet) → (IsHello (ps ++ x ∷ []) → ⊥) → HelloBy (is_early p) ps → HelloBy (is_early p) (ps ++ x ∷ [])
 stays_by Server ps x none h = lacks_more ps x h none
 stays_by Version ps x none h = lacks_more ps x h none

@@ -202,7 +202,7 @@ reading_starts step p s extra h = record {
 pub heard_less : {P G : Type 0} (step : P → Packet → AnswerState P G) (start : AnswerState P G) (old new : Wire) (end : Ends G) (extra less : List Packet → Type 0) → IsHeard step start old new end extra → ((ps : List Packet) → extra ps → less ps) → IsHeard step start old new end less
 heard_less step start old new end extra less h f = record { packets = h.packets; used = h.used; spelled = h.spelled; took = h.took; stops = h.stops; done = f h.packets h.done }
 
--- the same, where what is said of the packets needs their outcome
+-- the same, if what is said of the packets needs their outcome
 pub reading_on_with : {P G : Type 0} (step : P → Packet → AnswerState P G) (start : AnswerState P G) (s a b : Wire) (room left : ℕ) (p q : P) (before after : List Packet → Type 0) (x : Packet) → IsReading step start s a room p before → Skips a x b
     → left + size x ≡ room → step p x ≡ On q → ((ps : List Packet) → outcome step limit start (ps ++ x ∷ []) ≡ On q → before ps → after (ps ++ x ∷ [])) → IsReading step start s b left q after
 reading_on_with step start s a b room left p q before after x r k fits next more =

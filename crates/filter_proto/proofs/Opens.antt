@@ -17,7 +17,7 @@ use Rattle.filter_proto.specs.Openings.{GoesAfter, HelloBy, LacksHello, BeginsHe
 use Rattle.filter_proto.proofs.Told.{grown_both}
 use Rattle.filter_proto.proofs.More.{heard_from, took_from, still_from, sent_nothing}
 
--- want of memory before anything was sent
+-- out of memory before anything was sent
 pub unopened : (w : Wire) → IsOpening w w OutOfMemory
 unopened w = inl (record { sent = sent_nothing hello_text w; why = refl; done = tt })
 

@@ -13,7 +13,7 @@ use Rattle.edge_kit.specs.Links.{LinkSeen, SendsPart, IsSendCut}
 use Rattle.filter_proto.specs.Sending.{SendsAll}
 use Rattle.filter_proto.proofs.Told.{grown_nothing, grown_both}
 
--- nothing was sent, for want of memory
+-- nothing was sent, since memory ran out
 pub sent_none : (text : List ℕ) (s : LinkSeen) → SendsAll {T = ⊤} text s s (Err send.NoMemory)
 sent_none text s = record {
   sends = record {
@@ -114,12 +114,12 @@ ends_so : length (spelling Flush) ≡ 4 → (ps : List Packet) → 0 < length (s
 ends_so four [] = omega (arith, length-append (spelling Flush) [], four)
 ends_so four (p ∷ ps) = let more = ends_so four ps in omega (arith, length-append (spelling p) (spelling_all (ps ++ Flush ∷ [])), more)
 
--- a flush stands behind each content
+-- a flush packet comes after each content
 pub content_some : length (spelling Flush) ≡ 4 → (content : List ℕ) → 0 < length (content_text content)
 unfolding content_text
 content_some four content = ends_so four (content_packets content)
 
--- what is held, and the content behind it, is the rest of a text whose front was sent
+-- what is held and the content after it are the rest of a text whose front was sent
 pub record IsUnderway (old now : LinkSeen) (whole held rest : List ℕ) : Type 0 where
   pub before : List ℕ
   pub sent : now ≡ record old { sent = grown old.sent before }
@@ -162,7 +162,7 @@ underway_last four old now new whole held rest r u h =
     let some : 0 < length (held ++ content_text rest) = let s = content_some four rest in omega (arith, length-append held (content_text rest), s) in
     sent_as _ whole old new r u.text (sent_behind u.before (held ++ content_text rest) old now new r some u.sent h)
 
--- what the last packet and the flush behind it make of the text that is held
+-- the text that is held, with the last packet and the flush packet after it
 on_ok : {A E : Type 0} (r : Result A E) (P Q : Type 0) → (P → Q) → OnOk r P → OnOk r Q
 on_ok (Ok a) P Q f p = f p
 on_ok (Err e) P Q f p = p

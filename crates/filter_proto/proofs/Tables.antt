@@ -78,7 +78,7 @@ get_other (y ∷ ps) zero (suc q) x apart = refl
 get_other (y ∷ ps) (suc p) zero x apart = refl
 get_other (y ∷ ps) (suc p) (suc q) x apart = get_other ps p q x (λ same. apart (ap (λ n. suc n) same))
 
--- a name that was listed isn't delayed any more, and every other one is as before
+-- a name that was listed isn't delayed any more, and every other name is as before
 still_delayed : (t : Table) (n m : List ℕ) (p q : ℕ) → IsDelayed n t p → IsDelayed m t q → (m ≡ n → ⊥) → IsDelayed m (listed_at p t) q
 still_delayed t n m p q at there other = (there.0, get_other t.places p q place.Listed (λ same. other (clash same)) ∙ there.1)
   where
@@ -137,7 +137,7 @@ differ_before names old now h d = let e = names_stay names old now h in
 both : (a b : Bool) → a ≡ true → b ≡ false → (a && not b) ≡ true
 both a b e f = rw (e, f) refl
 
--- a name may come next exactly where it is delayed now
+-- a name may come next exactly if it is delayed now
 pub expected : (names : List (List ℕ)) (old now : Table) (m : List ℕ) (q : ℕ) → Differ now → Lists names old now → IsDelayed m now q → (name_in (delayed_in old) m && not (name_in names m)) ≡ true
 expected names old now m q d h there =
     let was = not_again names old now m q (differ_before names old now h d) h there in

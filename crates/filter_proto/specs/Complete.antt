@@ -1,4 +1,4 @@
--- Which answer an exchange gives, where a good one was sent, and when two exchanges give the same.
+-- Which answer an exchange gives if a good one was sent, and when two exchanges give the same.
 use Rattle.std.specs.Prelude.{◌≡◌, ℕ, List, [], ◌++◌, Some}
 use Rattle.pkt_line.specs.Packets.{Packet, SpellAll}
 use Rattle.filter_words.specs.Outcomes.{outcome, limit}
@@ -30,12 +30,12 @@ Gives g old new (Good x) = x ≡ g
 Gives g old new (Broke why) = (why ≡ cause.LinkFault) × Rose old.faults new.faults
 Gives g old new OutOfMemory = Unit {0}
 
--- a good answer that was sent is given
+-- a good answer that was sent is given, unless the link failed or memory ran out
 abbrev pub IsComplete : {P G : Type 0} → (P → Packet → AnswerState P G) → AnswerState P G → Wire → Wire → Ends G
     → Type 0
 IsComplete {P} {G} step start old new end = (g : G) → BeginsGood step start old g → Gives g old new end
 
--- the same of a list, by its reply
+-- the same for a list, by its reply
 abbrev pub GivesList : GoodList → Wire → Wire → ListReply → Type 0
 GivesList g old new (reply.Names count) = reply.Names count ≡ reply_of_good g
 GivesList g old new reply.Empty = reply.Empty ≡ reply_of_good g
@@ -43,7 +43,7 @@ GivesList g old new reply.Abort = reply.Abort ≡ reply_of_good g
 GivesList g old new (reply.Broken why) = (why ≡ cause.LinkFault) × Rose old.faults new.faults
 GivesList g old new reply.NoMemory = Unit {0}
 
--- neither a fault of the link nor want of memory
+-- neither a fault of the link nor out of memory
 abbrev pub IsSettled : {G : Type 0} → Ends G → Type 0
 IsSettled (Good g) = Unit {0}
 IsSettled (Broke cause.LinkFault) = ⊥
@@ -51,7 +51,7 @@ IsSettled (Broke why) = Unit {0}
 IsSettled OutOfMemory = ⊥
 
 -- An answer was taken from the front of a first part of this output, whatever was done with it: what was unread, what
--- came, and what didn't come make up the output. An end of input was met only where all of it came.
+-- came, and what didn't come make up the output. An end of input was met only if all of it came.
 pub record IsHeardOf {P G : Type 0} (step : P → Packet → AnswerState P G) (start : AnswerState P G) (output : List ℕ)
     (old new : Wire) (end : Ends G) : Type 0 where
   pub heard : IsHeard step start old new end (λ _. Unit {0})
@@ -60,7 +60,7 @@ pub record IsHeardOf {P G : Type 0} (step : P → Packet → AnswerState P G) (s
   pub ended : end ≡ Broke cause.Ended → ahead ≡ []
   pub settled : IsSettled end
 
--- Two answers taken from one output came to the same, and where they are good they have the same packets and bytes.
+-- Two answers taken from one output are the same, and if they are good they have the same packets and bytes.
 abbrev pub IsHeardOnce : (P G : Type 0) → (P → Packet → AnswerState P G) → AnswerState P G → Type 0
 IsHeardOnce P G step start = (output : List ℕ) (a b c d : Wire) (x y : Ends G)
     (one : IsHeardOf step start output a b x) (two : IsHeardOf step start output c d y)

@@ -22,7 +22,7 @@ abbrev pub Still : Wire → Wire → Type 0
 Still old new = (new.faults ≡ old.faults) × (new.ends ≡ old.ends)
 
 -- How the reading of an answer stops: at its end, at bytes that begin no packet, at the end of what is sent, or at a
--- fault of the link where no whole packet is left.
+-- fault of the link with no whole packet left.
 abbrev pub Stops : {P G : Type 0} → AnswerState P G → Wire → Wire → Ends G → Type 0
 Stops (On phase) old new (Good g) = ⊥
 Stops (On phase) old new OutOfMemory = ⊥
@@ -47,7 +47,7 @@ pub record IsHeard {P G : Type 0} (step : P → Packet → AnswerState P G) (sta
   pub stops : Stops (outcome step limit start packets) old new end
   pub done : extra packets
 
--- An answer that is being read, with room for so many bytes.
+-- An answer that is being read, with room for this many bytes.
 pub record IsReading {P G : Type 0} (step : P → Packet → AnswerState P G) (start : AnswerState P G) (old new : Wire)
     (room : ℕ) (phase : P) (extra : List Packet → Type 0) : Type 0 where
   pub packets : List Packet

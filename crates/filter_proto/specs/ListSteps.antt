@@ -19,7 +19,7 @@ use Rattle.filter_proto.specs.declared.listing.Listing.{Listing}
 use Rattle.filter_proto.specs.declared.listing.ListStep.{ListStep}
 use Rattle.filter_proto.specs.declared.listing.ListStep.TheVariants as step
 
--- the lines so far name these, and while names are read nothing stands behind the lines
+-- the lines so far name these, and while names are read nothing comes after the lines
 pub record IsNamed (p : ListPart) (names : List (List ℕ)) (packets : List Packet) : Type 0 where
   pub lines : List (List ℕ)
   pub rest : List Packet
@@ -49,14 +49,14 @@ abbrev pub ListStepIs : Wire → Wire → ListStep → Listing → Table → Tab
 ListStepIs start wire step.On l before now = IsListing start wire l before now
 ListStepIs start wire (step.End r) l before now = IsReadList start wire before now r
 
--- the state is one at which a reading ends so
+-- the state is one at which a reading ends like this
 abbrev pub EndsSo : AnswerState ListPhase GoodList → Ends GoodList → Type 0
 EndsSo (Done g) end = end ≡ Good g
 EndsSo (Broken why) end = end ≡ Broke why
 EndsSo (On phase) end = ⊥
 EndsSo Late end = ⊥
 
--- what a line that may name a path leads to
+-- the result of a line that may name a path
 abbrev pub TakesName : List ℕ → ℕ → Table → Bool → ℕ → Table → Type 0
 TakesName line count told true more now = (before : Table) (names : List (List ℕ)) → HasNames before told names count
     → HasNames before now (names ++ names_of (line ∷ [])) more
@@ -65,7 +65,7 @@ TakesName line count told false more now = (now ≡ told)
     × ((before : Table) (names : List (List ℕ)) → HasNames before told names count
     → list_step (delayed_in before) (Names names) (Payload line) ≡ Broken cause.StrangePath)
 
--- a packet goes on: the room, the part and the names behind it
+-- a packet goes on: the room, the part and the names after it
 pub record GoesOn (before : Table) (names : List (List ℕ)) (old : Listing) (x : Packet)
     (new : Listing) (now : Table) : Type 0 where
   pub more : List (List ℕ)
@@ -83,7 +83,7 @@ pub record GoesEnd (before : Table) (names : List (List ℕ)) (old : Listing) (x
   pub reply : r ≡ list_reply_of end
   pub done : (packets : List Packet) → IsNamed old.part names packets → EndLists before now end (packets ++ x ∷ [])
 
--- what a packet that was taken leads to
+-- the result of a packet that was taken
 abbrev pub TakesList : Listing → Packet → ListStep → Listing → Table → Table → Type 0
 TakesList old x step.On new told now =
     (before : Table) (names : List (List ℕ)) → HasNames before told names old.count → GoesOn before names old x new now

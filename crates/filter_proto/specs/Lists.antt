@@ -26,7 +26,7 @@ delayed_of (name ∷ names) (place.Done ∷ places) = delayed_of names places
 abbrev pub delayed_in : Table → List (List ℕ)
 delayed_in t = delayed_of t.names t.places
 
--- the place is listed, behind those that were listed before
+-- the place is listed, after those that were listed before
 abbrev pub listed_at : ℕ → Table → Table
 listed_at p t = record (with_place p place.Listed t) { turns = t.turns ++ p ∷ [] }
 
@@ -35,14 +35,14 @@ abbrev pub Lists : List (List ℕ) → Table → Table → Type 0
 Lists [] old new = new ≡ old
 Lists (name ∷ names) old new = (p : ℕ) × IsDelayed name old p × Lists names (listed_at p old) new
 
--- what the lines of a first part of the packets name was listed
+-- the names in the lines of a first part of the packets were listed
 pub record HasListed (old new : Table) (packets : List Packet) : Type 0 where
   pub lines : List (List ℕ)
   pub rest : List Packet
   pub whole : packets ≡ map Payload lines ++ rest
   pub listed : Lists (names_of lines) old new
 
--- the names of a good list were listed, and of any other answer those of a first part
+-- the names of a good list were listed, and for any other answer those of a first part
 abbrev pub EndLists : Table → Table → Ends GoodList → List Packet → Type 0
 EndLists old new (Good (Listed names)) packets = Lists names old new
 EndLists old new (Good Aborted) packets = HasListed old new packets
@@ -61,7 +61,7 @@ pub record IsListExchange (old new : Wire) (before after : Table) (r : ListReply
   pub exchange : IsExchange (list_step (delayed_in before)) list_start list_text old new end (EndLists before after end)
   pub reply : r ≡ list_reply_of end
 
--- a session after a list
+-- the standing of a session after a list
 abbrev pub standing_after_list : ListReply → Standing
 standing_after_list (reply.Names count) = standing.Live
 standing_after_list reply.Empty = standing.Live

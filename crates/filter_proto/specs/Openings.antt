@@ -23,7 +23,7 @@ use Rattle.filter_proto.specs.Exchanges.{Ends, Good, Broke, OutOfMemory, Still, 
 abbrev pub LacksHello : List Packet → Type 0
 LacksHello ps = (front rest : List Packet) → ps ≡ front ++ rest → IsHello front → ⊥
 
--- some first part of the packets is
+-- some first part of the packets is a right first answer
 abbrev pub BeginsHello : List Packet → Type 0
 BeginsHello ps = (front : List Packet) × (rest : List Packet) × (ps ≡ front ++ rest) × IsHello front
 
@@ -61,7 +61,7 @@ abbrev pub IsOpening : Wire → Wire → Ends Caps → Type 0
 IsOpening old new end = IsUnsent hello_text old new end (λ _. Unit {0}) ⊎ IsRefusedHello old new end
     ⊎ IsUnsentCaps old new end ⊎ IsOpened old new end
 
--- by whether the first answer is still read
+-- the same, by whether the first answer is still being read
 abbrev pub HelloBy : Bool → List Packet → Type 0
 HelloBy true ps = LacksHello ps
 HelloBy false ps = BeginsHello ps
@@ -84,7 +84,7 @@ HandIs early start new hand.On room phase =
 HandIs early start new (hand.End end) room phase =
     IsHeard handshake_step handshake_start start new (caps_end end) (HelloBy early)
 
--- what a packet that was taken leads to
+-- the result of a packet that was taken
 abbrev pub TakesState : ℕ → HandshakePhase → Packet → HandStep → ℕ → HandshakePhase → Type 0
 TakesState room phase x hand.On left next = (left + size x ≡ room) × (handshake_step phase x ≡ On next)
 TakesState room phase x (hand.End (Ok caps)) left next = (size x ≤ room) × (handshake_step phase x ≡ Done caps)

@@ -18,7 +18,7 @@ use Rattle.filter_proto.specs.Exchanges.{Ends, Good, Broke, OutOfMemory}
 use Rattle.filter_proto.specs.declared.session.Standing.{Standing}
 use Rattle.filter_proto.specs.declared.session.Standing.TheVariants as standing
 
--- what the puts so far made of the leaf, where these bytes were to be put
+-- what the puts so far did to the leaf, if these bytes were to be put
 pub record IsPut (old new : LeafSeen) (put : Result ⊤ SendFault) (content : List ℕ) : Type 0 where
   pub path : new.path ≡ old.path
   pub holds : put ≡ Ok tt → new.content ≡ grown old.content content
@@ -35,7 +35,7 @@ pub record IsKept (old new : LeafSeen) (put : Result ⊤ SendFault) : Type 0 whe
 abbrev pub HasPut : Bool → LeafSeen → LeafSeen → Result ⊤ SendFault → List Packet → Type 0
 HasPut d old new put packets = IsPut old new put (content_in d reply_start packets)
 
--- a good reply's content was put whole, and of any other reply what came of it
+-- a good reply's content was put whole; for any other reply it isn't said what was put
 abbrev pub EndPut : Bool → LeafSeen → LeafSeen → Result ⊤ SendFault → Ends GoodReply → List Packet → Type 0
 EndPut d old new put (Good g) packets = HasPut d old new put packets
 EndPut d old new put (Broke why) packets = IsKept old new put
@@ -51,7 +51,7 @@ reply_end reply.Delayed = Good good.Delayed
 reply_end (reply.Broken why) = Broke why
 reply_end reply.NoMemory = OutOfMemory
 
--- a session after a reply
+-- the standing of a session after a reply
 abbrev pub standing_after : Reply → Standing
 standing_after reply.Content = standing.Live
 standing_after reply.Error = standing.Live

@@ -1,4 +1,4 @@
--- What a session's link tells, and what the session took and no answer used.
+-- What a session's link tells, and what the session took that no answer used.
 use Rattle.std.specs.Prelude.{◌≡◌, ◌≤◌, ℕ, List, [], ◌++◌, Option, Result, Ok, Err, ⊤}
 use Rattle.pkt_line.specs.Packets.{HasFault}
 use Rattle.pkt_line.specs.Reader.{Lends}
@@ -63,18 +63,18 @@ FillFails old new (Err cause.LinkFault) =
     (new ≡ record old { faults = new.faults }) × Rose old.faults new.faults
 FillFails old new (Err c) = ⊥
 
--- what stands at the front of the unread bytes, or that no packet will
+-- what is at the front of the unread bytes, or that no packet will be
 abbrev pub Sees : Result Next PktFault → List ℕ → Type 0
 Sees (Ok n) unread = Lends n unread
 Sees (Err fault) unread = HasFault unread
 
--- a session that could be asked, or that was aborted, has its input shut and its end waited for
+-- the input of a session that could be asked, or that was aborted, is shut and its end waited for
 abbrev pub shut_after : Standing → Stage → Stage
 shut_after standing.Live stage = waited (input_shut stage)
 shut_after standing.Aborted stage = waited (input_shut stage)
 shut_after standing.Over stage = stage
 
--- a fault is counted where something is called
+-- a fault is counted if something is called
 abbrev pub ShutsQuietly : Standing → ℕ → ℕ → Type 0
 ShutsQuietly standing.Live before after = before ≤ after
 ShutsQuietly standing.Aborted before after = before ≤ after

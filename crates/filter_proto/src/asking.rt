@@ -23,7 +23,7 @@ use filter_words::{
 };
 use pkt_line::Next;
 
-/// Puts a piece, where no put failed before.
+/// Puts a piece, if no put has failed before.
 fn put_piece<L: Leaf>(put: &mut Result<(), SendFault>, leaf: &mut L, piece: &[u8])
     requires { put.old ≡ Ok tt → IsOpenLeaf (L.seen leaf.old).state }
     ensures put { (before : LeafSeen) (content : List ℕ) → IsPut before (L.seen leaf.old) put.old content
@@ -35,7 +35,7 @@ fn put_piece<L: Leaf>(put: &mut Result<(), SendFault>, leaf: &mut L, piece: &[u8
     }
 }
 
-/// Puts a payload of the content. The other payloads stay.
+/// Puts a payload of the content. Other payloads aren't put.
 #[tactic(auto, using(crate::proofs::Lines::begun_content, crate::proofs::Lines::begun_keys, crate::proofs::Lines::begun_last, crate::proofs::Lines::put_nothing))]
 fn put_line<L: Leaf>(phase: ReplyPhase, put: &mut Result<(), SendFault>, leaf: &mut L, line: &[u8])
     requires { put.old ≡ Ok tt → IsOpenLeaf (L.seen leaf.old).state }
@@ -51,7 +51,7 @@ fn put_line<L: Leaf>(phase: ReplyPhase, put: &mut Result<(), SendFault>, leaf: &
     }
 }
 
-/// A payload. It is false where there is no room for it.
+/// Takes a payload. It returns false if there is no room for it.
 fn take_line<L: Leaf>(reading: &mut Reading, leaf: &mut L, piece: &[u8]) -> bool
     requires long { length piece.now ≤ 65516 }
     requires usable { reading.old.put ≡ Ok tt → IsOpenLeaf (L.seen leaf.old).state }
@@ -80,7 +80,7 @@ fn take_line<L: Leaf>(reading: &mut Reading, leaf: &mut L, piece: &[u8]) -> bool
     true
 }
 
-/// A flush packet.
+/// Takes a flush packet.
 #[tactic(auto, using(crate::proofs::Told::never_late))]
 fn take_flush(can_delay: bool, reading: &mut Reading) -> Step
     ensures { FlushIs can_delay reading.old result reading.new }
@@ -101,7 +101,7 @@ fn take_flush(can_delay: bool, reading: &mut Reading) -> Step
 }
 
 impl<K: Link> Session<K> {
-    /// One more packet of a reply, or more bytes.
+    /// Takes one more packet of a reply, or more bytes.
     #[tactic(auto, using(crate::proofs::More::stands_long, crate::proofs::More::payload_long))]
     fn step<L: Leaf>(&mut self, can_delay: bool, reading: &mut Reading, leaf: &mut L) -> Step
         requires { reading.old.put ≡ Ok tt → IsOpenLeaf (L.seen leaf.old).state }
@@ -198,7 +198,7 @@ impl<K: Link> Session<K> {
         }
     }
 
-    /// Asks for a path, with `can-delay=1` exactly where the driver announced `delay`. The content of the reply is put
+    /// Asks for a path, with `can-delay=1` exactly if the driver announced `delay`. The content of the reply is put
     /// into the leaf, packet by packet. After a put that failed the rest of the reply is read and dropped.
     pub fn ask<L: Leaf>(&mut self, path: &[u8], content: &[u8], leaf: &mut L) -> Asked
         requires live { self.old.standing ≡ Standing.Live }
@@ -249,7 +249,7 @@ impl<K: Link> Session<K> {
     }
 }
 
-/// What a session is after a reply.
+/// The standing of a session after a reply.
 fn standing_after(reply: Reply) -> Standing
     ensures { result ≡ standing_after reply }
 {

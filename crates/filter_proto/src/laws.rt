@@ -14,9 +14,9 @@ ghost use Rattle.filter_proto.specs.Complete.{IsComplete, IsHeardOnce};
 use filter_words::{one_handshake, one_list, one_reply};
 use pkt_line::fault_stays;
 
-/// Two answers to one request that were taken from one output, in whatever pieces and however much of it, are the same,
-/// and where they are good their bytes are the same. An end of input counts only where the whole output was taken, and
-/// neither answer ended for a fault of the link or for want of memory. Of a list the same paths are delayed.
+/// If two answers to one request were taken from one output, in pieces of any length and however much of it, they are
+/// the same, and if they are good their bytes are the same. An end of input counts only if the whole output was taken,
+/// and no answer may have ended by a fault of the link or out of memory. For a list the same paths are delayed.
 pub fn same_heard()
     ensures reply { (d : Bool) → IsHeardOnce ReplyPhase GoodReply (reply_step d) reply_start }
     ensures list { (delayed : List (List ℕ)) → IsHeardOnce ListPhase GoodList (list_step delayed) list_start }
@@ -27,8 +27,8 @@ pub fn same_heard()
     one_handshake();
 }
 
-/// Where what is left unread begins with a good answer, an exchange gives that answer, or its link failed, or memory
-/// ran out.
+/// If what is left unread begins with a good answer, an exchange gives that answer, or its link failed, or memory ran
+/// out.
 pub(crate) fn complete()
     ensures reply { (d : Bool) (text : List ℕ) (old new : Wire) (end : Ends GoodReply)
         → IsExchange (reply_step d) reply_start text old new end (λ _. Unit {0})

@@ -1,7 +1,7 @@
 //! A session with a filter driver over a link: gitattributes(5), "Long Running Filter Process".
 //!
-//! Each call is one exchange: a request is sent, and its answer is taken from the front of what is left unread,
-//! whatever pieces the link gives.
+//! Each call is one exchange: a request is sent, and its answer is taken from the front of what is left unread, in
+//! whatever pieces the link gives it.
 #![tactic(auto)]
 
 mod asking;

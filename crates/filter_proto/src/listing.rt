@@ -19,8 +19,8 @@ use filter_words::{
 };
 use pkt_line::Next;
 
-/// How far the reading of a list is: how many bytes its packets may still take, in which part it is, and how many paths
-/// it has listed.
+/// How far the reading of a list has come: how many bytes its packets may still take, in which part it is, and how many
+/// paths it has listed.
 #[derive(Drop)]
 pub(crate) struct Listing {
     pub room: u64,
@@ -35,7 +35,7 @@ pub(crate) enum ListStep {
     End(ListReply),
 }
 
-/// Lists the path that a line names, if it names one. It is false where that path isn't delayed.
+/// Lists the path that a line names, if it names one. It returns false if that path isn't delayed.
 fn take_name(count: &mut u32, table: &mut DelayTable, line: &[u8]) -> bool
     requires { count.old < 536870912 }
     ensures takes { TakesName line.now count.old table.old result count.new table.new }
@@ -54,7 +54,7 @@ fn take_name(count: &mut u32, table: &mut DelayTable, line: &[u8]) -> bool
     }
 }
 
-/// A payload.
+/// Takes a payload.
 fn take_list_line(listing: &mut Listing, table: &mut DelayTable, line: &[u8]) -> ListStep
     requires { listing.old.count + listing.old.room ≤ 536870912 }
     ensures takes { TakesList listing.old (Payload line.now) result listing.new table.old table.new }
@@ -81,7 +81,7 @@ fn take_list_line(listing: &mut Listing, table: &mut DelayTable, line: &[u8]) ->
     }
 }
 
-/// A flush packet.
+/// Takes a flush packet.
 #[tactic(auto, using(crate::proofs::Listings::line_too_long, crate::proofs::Listings::flush_on, crate::proofs::Listings::flush_done, crate::proofs::Listings::flush_broken, crate::proofs::Listings::never_late_list))]
 fn take_list_flush(listing: &mut Listing) -> ListStep
     requires { listing.old.count + listing.old.room ≤ 536870912 }
@@ -105,7 +105,7 @@ fn take_list_flush(listing: &mut Listing) -> ListStep
 }
 
 impl<K: Link> Session<K> {
-    /// One more packet of a list, or more bytes.
+    /// Takes one more packet of a list, or more bytes.
     #[tactic(auto, using(crate::proofs::More::stands_long, crate::proofs::More::payload_long))]
     fn list_step(&mut self, listing: &mut Listing, table: &mut DelayTable) -> ListStep
         requires { listing.old.count + listing.old.room ≤ 536870912 }
@@ -171,8 +171,8 @@ impl<K: Link> Session<K> {
         }
     }
 
-    /// Asks which of the delayed paths are ready. Each that the driver names is listed in the table, in the driver's
-    /// order.
+    /// Asks which of the delayed paths are ready. Each path that the driver names is listed in the table, in the
+    /// driver's order.
     pub fn list(&mut self, table: &mut DelayTable) -> ListReply
         requires live { self.old.standing ≡ Standing.Live }
         ensures exchange { IsListExchange self.old.wire self.new.wire table.old table.new result }
@@ -190,7 +190,7 @@ impl<K: Link> Session<K> {
     }
 }
 
-/// What a session is after a list.
+/// The standing of a session after a list.
 fn standing_after_list(reply: ListReply) -> Standing
     ensures { result ≡ standing_after_list reply }
 {

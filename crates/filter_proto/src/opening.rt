@@ -47,7 +47,7 @@ pub(crate) enum HandStep {
     End(Result<Caps, BreakCause>),
 }
 
-/// A packet of so many bytes, which leads to this state. There may be no room for it.
+/// Takes a packet of this many bytes, which leads to this state. There may be no room for it.
 #[tactic(auto, using(crate::proofs::Hands::hand_late))]
 fn take_state(
     state: AnswerState<HandshakePhase, Caps>,
@@ -75,7 +75,7 @@ fn take_state(
 }
 
 impl<K: Link> Session<K> {
-    /// One more packet of a handshake, or more bytes.
+    /// Takes one more packet of a handshake, or more bytes.
     #[tactic(auto, using(crate::proofs::More::stands_long))]
     fn hand_step(&mut self, room: &mut u64, phase: &mut HandshakePhase) -> HandStep
         ensures step { (start : Wire) → IsReading handshake_step handshake_start start self.old.wire room.old phase.old
@@ -204,7 +204,7 @@ impl<K: Link> Session<K> {
         }
     }
 
-    /// The handshake, which is complete where what is left unread begins with two good answers.
+    /// The handshake. It is complete if what is left unread begins with two good answers.
     fn shake_whole(&mut self, hello: &[u8], caps: &[u8]) -> Result<Caps, OpenFault>
         requires hello { hello.now ≡ hello_text }
         requires caps { caps.now ≡ caps_text }
@@ -216,7 +216,7 @@ impl<K: Link> Session<K> {
         self.shake(hello, caps)
     }
 
-    /// Opens a session over a link: the handshake and the capabilities. All the room that a reply needs is taken here.
+    /// Opens a session over a link: the handshake and the capabilities. It takes all the memory that a reply needs.
     pub fn begin(alloc: Global, link: K) -> Begun<K>
         ensures live { (s : SessionSeen) → result ≡ Begun.Live s
             → IsOpening (wire_of [] (K.seen link)) s.wire (Good s.caps) }
@@ -281,7 +281,7 @@ fn rooms_for(alloc: Global) -> Result<Rooms, AllocError>
     })
 }
 
-/// Whether the first answer is still read.
+/// Whether the first answer is still being read.
 fn is_early(phase: HandshakePhase) -> bool
     ensures { result ≡ is_early phase }
 {

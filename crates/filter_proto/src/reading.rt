@@ -1,7 +1,7 @@
 use edge_kit::SendFault;
 use filter_words::{Reply, ReplyPhase};
 
-/// How far the reading of a reply is.
+/// How far the reading of a reply has come.
 #[derive(Drop)]
 pub(crate) struct Reading {
     pub room: u64,
@@ -13,7 +13,7 @@ pub(crate) struct Reading {
 #[derive(Drop)]
 pub struct Asked {
     pub reply: Reply,
-    /// An error only where a put failed or wanted memory. What came behind that was read and dropped.
+    /// An error only if a put failed or ran out of memory. What came after that was read and dropped.
     pub put: Result<(), SendFault>,
 }
 

@@ -14,7 +14,7 @@ use std::alloc::{AllocError, Global};
 const MOST_PAYLOAD: usize = 65_516;
 
 /// Sends the request to smudge a content for a path of 1 to 4,096 bytes. `text` holds one packet at a time, with the
-/// key list before the first and the flush behind the last.
+/// key list before the first and the flush packet after the last.
 #[tactic(auto, using(crate::proofs::Sent::sent_none, crate::proofs::Sent::sent_as))]
 pub(crate) fn send_smudge<K: Link>(
     alloc: Global,
@@ -53,7 +53,7 @@ pub(crate) fn send_list<K: Link>(
     }
 }
 
-/// Sends the text that is held, and behind it a content as packets, and flush.
+/// Sends the text that is held, then a content as packets, and then a flush packet.
 fn send_behind<K: Link>(
     alloc: Global,
     link: &mut K,
@@ -75,7 +75,7 @@ fn send_behind<K: Link>(
     send_last(alloc, link, text, rest)
 }
 
-/// Sends the text that is held and one packet behind it, and then holds nothing.
+/// Sends the text that is held and then one packet. After that nothing is held.
 #[tactic(auto, using(crate::proofs::Sent::sent_none, crate::proofs::Sent::sent_as))]
 fn send_piece<K: Link>(
     alloc: Global,
@@ -95,7 +95,7 @@ fn send_piece<K: Link>(
     }
 }
 
-/// Sends the text that is held, and behind it the last packet of a content, if it isn't empty, and flush.
+/// Sends the text that is held, then the last packet of a content if it isn't empty, and then a flush packet.
 #[tactic(auto, using(crate::proofs::Sent::sent_none, crate::proofs::Sent::sent_as))]
 fn send_last<K: Link>(
     alloc: Global,
@@ -113,7 +113,7 @@ fn send_last<K: Link>(
     }
 }
 
-/// Appends a content of one packet, or of none where it is empty, and flush.
+/// Appends a content as one packet, or as none if it is empty, and then a flush packet.
 #[tactic(auto, using(crate::proofs::Sent::last_none, crate::proofs::Sent::last_one))]
 fn push_last(alloc: Global, text: &mut Vec<u8>, piece: &[u8]) -> Result<(), AllocError>
     requires few { length piece.now ≤ 65516 }
@@ -126,7 +126,7 @@ fn push_last(alloc: Global, text: &mut Vec<u8>, piece: &[u8]) -> Result<(), Allo
     push_flush(alloc, text)
 }
 
-/// Sends the text that is held, and then holds nothing.
+/// Sends the text that is held. After that nothing is held.
 fn send_held<K: Link>(link: &mut K, text: &mut Vec<u8>) -> Result<(), SendFault>
     ensures sends { SendsAll (text.old).items (K.seen link.old) (K.seen link.new) result }
     ensures empty { (text.new).items ≡ [] }

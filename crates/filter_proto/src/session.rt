@@ -58,7 +58,7 @@ impl<K: Link> Session<K> {
         self.caps
     }
 
-    /// Whether it can be asked: false after an abort, a break or want of memory.
+    /// Whether it can be asked: false after an abort, a break or out of memory.
     pub fn live(&self) -> bool
         ensures { IsTrue result ↔ (self.now.standing ≡ Standing.Live) }
     {
@@ -74,7 +74,7 @@ impl<K: Link> Session<K> {
         self.standing = standing;
     }
 
-    /// A session over a link, of which nothing was read.
+    /// A session over a link from which nothing was read.
     pub(crate) fn over(alloc: Global, link: K, reader: PktReader, piece: Vec<u8>) -> Session<K>
         requires { 0 < vec_len piece }
         ensures wire { result.wire ≡ wire_of reader.unread (K.seen link) }
@@ -112,7 +112,7 @@ impl<K: Link> Session<K> {
         self.alloc
     }
 
-    /// What stands at the front of what is unread.
+    /// What is at the front of what is unread.
     #[tactic(auto, using(crate::proofs::Told::sees))]
     pub(crate) fn peek(&self) -> Result<Next<'_>, PktFault>
         ensures { Sees result self.now.wire.unread }
@@ -120,7 +120,7 @@ impl<K: Link> Session<K> {
         self.reader.peek()
     }
 
-    /// Drops the packet at the front, which takes so many bytes.
+    /// Drops the packet at the front, which takes this many bytes.
     pub(crate) fn skip(&mut self, size: usize)
         requires { HasPacketOf size self.old.wire.unread }
         ensures { self.new ≡ record self.old {
@@ -171,7 +171,7 @@ impl<K: Link> Session<K> {
         send_list(self.alloc, &mut self.link, &mut self.text)
     }
 
-    /// Takes more bytes, where less than a packet is there.
+    /// Takes more bytes, if less than a packet is there.
     pub(crate) fn fill(&mut self) -> Result<(), BreakCause>
         requires { IsPartial self.old.wire.unread }
         ensures ok { OnOk result (Filled self.old.wire self.new.wire) }
@@ -201,8 +201,8 @@ impl<K: Link> Session<K> {
         }
     }
 
-    /// Ends a session and gives its link back. One that could be asked, or that was aborted, has its input shut and its
-    /// end waited for, and a fault there changes nothing else. Of any other nothing is called on its link.
+    /// Ends a session and gives its link back. If the session could be asked or was aborted, the input of its link is
+    /// shut and its end is waited for, and a fault there changes nothing else. On any other link nothing is called.
     pub fn shut(self) -> K
         ensures { IsShutAfter self.standing self.wire (K.seen result) }
     {
@@ -222,7 +222,7 @@ impl<K: Link> Session<K> {
     }
 }
 
-/// Reads at most so many bytes into a piece.
+/// Reads at most this many bytes into a piece.
 fn read_some<K: Link>(link: &mut K, piece: &mut [u8], most: usize) -> Result<usize, Failed>
     requires some { 0 < most }
     requires within { most ≤ length piece.old }

@@ -40,7 +40,7 @@ broken_now step c (p ∷ ps) why e = absurd (cc (e))
 
 -- ---- replies
 
--- a flush packet that breaks a reply behind its content
+-- a flush packet that breaks a reply after its content
 last_now : (d : Bool) (s : Option Status) (ps : List Packet) (why : BreakCause) → run (reply_step d) (last_state s) ps
     ≡ Broken why → (ps ≡ []) × BreaksLast s why
 last_now d None ps why e = over_not (reply_step d) _ ps why e

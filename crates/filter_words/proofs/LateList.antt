@@ -1,4 +1,4 @@
--- A packet behind the end of the answer to a list request.
+-- A packet after the end of the answer to a list request.
 use Rattle.std.proofs.Common.{◌≡◌, ℕ, List, ◌∷◌, refl}
 use Rattle.pkt_line.specs.Packets.{Packet}
 use Rattle.filter_words.specs.Outcomes.{outcome}

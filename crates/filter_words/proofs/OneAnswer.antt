@@ -9,7 +9,7 @@ use Rattle.filter_words.specs.declared.answer_state.AnswerState.{AnswerState}
 use Rattle.filter_words.specs.declared.answer_state.AnswerState.TheVariants.{On, Done, Broken, Late}
 use Rattle.filter_words.proofs.Same.{PacketLaws, same, longer}
 
--- what stands behind an open answer
+-- what follows an open answer
 abbrev Behind : {P G : Type 0} → List ℕ → List ℕ → AnswerState P G → Type 0
 Behind rest ahead result = ((result ≡ Broken cause.BadPacket) × HasFault rest)
     ⊎ ((result ≡ Broken cause.Ended) × IsPartial rest × (ahead ≡ []))
@@ -80,7 +80,7 @@ one_answer laws step start a x c b y d u v one two same =
     stops_same laws step start one.packets two.packets a x b y c d _ _ u v one.spelled two.spelled same refl refl
     one.stops two.stops
 
--- more bytes behind an answer that has ended
+-- more bytes after an answer that has ended
 stops_more : PacketLaws → {P G : Type 0} (s u : AnswerState P G) (rest ahead more later : List ℕ)
     → (u ≡ Broken cause.Ended → ⊥) → StopsWith s rest ahead u → StopsWith s (rest ++ more) later u
 stops_more laws (On p) u rest ahead more later whole (inl h) = inl (h.0, laws.fault rest more h.1)

@@ -9,7 +9,7 @@ use Rattle.filter_words.specs.declared.reply.BreakCause.TheVariants as cause
 use Rattle.filter_words.specs.declared.answer_state.AnswerState.{AnswerState}
 use Rattle.filter_words.specs.declared.answer_state.AnswerState.TheVariants.{On, Done, Broken, Late}
 
--- what the packets make of an answer, where no limit is looked at
+-- what the packets make of an answer, if no limit is checked
 abbrev pub run : {P G : Type 0} → (P → Packet → AnswerState P G) → AnswerState P G → List Packet → AnswerState P G
 run step state [] = state
 run step (On phase) (p ∷ ps) = run step (step phase p) ps
@@ -22,7 +22,7 @@ pub stays_late : {P G : Type 0} (step : P → Packet → AnswerState P G) (room 
 stays_late step room [] = refl
 stays_late step room (p ∷ ps) = refl
 
--- a packet behind the end
+-- a packet after the end
 pub late_of : {P G : Type 0} (step : P → Packet → AnswerState P G) (room : ℕ) (t : AnswerState P G) (p : Packet)
     (ps : List Packet)
     → ((phase : P) → t ≡ On phase → ⊥) → outcome step room Late ps ≡ outcome step room t (p ∷ ps)
@@ -71,7 +71,7 @@ late_after : {P G : Type 0} (step : P → Packet → AnswerState P G) (room : �
 late_after step room [] = inl refl
 late_after step room (p ∷ ps) = inr refl
 
--- past the limit the outcome is TooLong, or a packet stands behind the end
+-- past the limit the outcome is TooLong, or a packet stands after the end
 pub outcome-past : {P G : Type 0} (step : P → Packet → AnswerState P G) (room : ℕ) (t : AnswerState P G)
     (ps : List Packet) → room < total ps
     → (outcome step room t ps ≡ Broken cause.TooLong) ⊎ (outcome step room t ps ≡ Late)

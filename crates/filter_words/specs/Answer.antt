@@ -6,8 +6,8 @@ use Rattle.filter_words.specs.declared.reply.BreakCause.TheVariants as cause
 use Rattle.filter_words.specs.declared.answer_state.AnswerState.{AnswerState}
 use Rattle.filter_words.specs.declared.answer_state.AnswerState.TheVariants.{On, Done, Broken, Late}
 
--- How the reading of an answer stops, where `rest` was taken behind its packets, and `ahead` was not: at its end, at
--- bytes that begin no packet, or at the end of all that is sent.
+-- How the reading of an answer stops, if `rest` was taken after its packets and `ahead` was not: at its end, at bytes
+-- that begin no packet, or at the end of all that is sent.
 abbrev pub StopsWith : {P G : Type 0} → AnswerState P G → List ℕ → List ℕ → AnswerState P G → Type 0
 StopsWith (On phase) rest ahead result =
     ((result ≡ Broken cause.BadPacket) × HasFault rest)
@@ -16,9 +16,8 @@ StopsWith (Done good) rest ahead result = result ≡ Done good
 StopsWith (Broken why) rest ahead result = result ≡ Broken why
 StopsWith Late rest ahead result = ⊥
 
--- The answer at the front of all that a driver sends: its packets are spelled by `used`, `rest` was taken behind them,
--- and
--- `ahead` was not.
+-- The answer at the front of all that a driver sends: its packets are spelled by `used`, `rest` was taken after them,
+-- and `ahead` was not.
 pub record IsAnswer {P G : Type 0} (step : P → Packet → AnswerState P G) (start : AnswerState P G) (used rest ahead :
     List ℕ) (result : AnswerState P G) : Type 0 where
   pub packets : List Packet

@@ -15,7 +15,7 @@ use Rattle.filter_words.specs.declared.answer_state.AnswerState.TheVariants.{On,
 abbrev pub wanted_line : List ℕ → List ℕ → HandshakePhase → AnswerState HandshakePhase Caps
 wanted_line line text next = if bytes_eq (without_lf line) text then On next else Broken cause.BadHandshake
 
--- two capabilities count, and every other line is passed over
+-- two capabilities count, and every other line is ignored
 abbrev pub with_capability : Caps → List ℕ → Caps
 with_capability caps line = record {
   smudge = caps.smudge || bytes_eq (without_lf line) (codes "capability=smudge");

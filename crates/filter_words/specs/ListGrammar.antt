@@ -19,7 +19,7 @@ abbrev pub names_of : List (List ℕ) → List (List ℕ)
 names_of [] = []
 names_of (line ∷ lines) = with_name (value_of (codes "pathname") line) (names_of lines)
 
--- each is delayed, and stands neither among those before nor twice
+-- each is delayed, and is neither among those before nor named twice
 abbrev pub AreExpected : List (List ℕ) → List (List ℕ) → List (List ℕ) → Type 0
 AreExpected delayed before [] = Unit {0}
 AreExpected delayed before (name ∷ names) =
@@ -70,7 +70,7 @@ pub record HasBadStatus (delayed before : List (List ℕ)) (ps : List Packet) (w
   pub expected : AreExpected delayed before (names_of lines)
   pub breaks : BreaksEnd (last_status None keys) why
 
--- the cause of an answer that is broken within the limit, where these were listed before
+-- the cause of an answer that is broken within the limit, if these were listed before
 abbrev pub BreaksFrom : List (List ℕ) → List (List ℕ) → List Packet → BreakCause → Type 0
 BreaksFrom delayed before ps why = ((why ≡ cause.StrangePath) × HasStrangeName delayed before ps)
     ⊎ HasBadStatus delayed before ps why

@@ -12,7 +12,7 @@ use Rattle.filter_words.specs.declared.reply.ListReply.TheVariants as reply
 use Rattle.filter_words.specs.declared.answer_state.AnswerState.{AnswerState}
 use Rattle.filter_words.specs.declared.answer_state.AnswerState.TheVariants.{On, Done, Broken, Late}
 
--- the names listed so far, and behind them a key list with its status so far
+-- the names listed so far, and after them a key list with its status so far
 pub data ListPhase : Type 0 where
   Names : List (List ℕ) → ListPhase
   KeyList : List (List ℕ) → Option Status → ListPhase
@@ -42,7 +42,7 @@ list_status listed (Some status.Delayed) = Broken cause.UnknownStatus
 list_status listed (Some status.Other) = Broken cause.UnknownStatus
 list_status listed None = Broken cause.UnknownStatus
 
--- a `pathname=` line names a path, and other lines are passed over
+-- a `pathname=` line names a path, and other lines are ignored
 abbrev pub list_step : List (List ℕ) → ListPhase → Packet → AnswerState ListPhase GoodList
 list_step delayed (Names listed) (Payload line) = after_value delayed listed (value_of (codes "pathname") line)
 list_step delayed (Names listed) Flush = On (KeyList listed None)

@@ -11,8 +11,8 @@ use Rattle.filter_words.specs.declared.answer_state.AnswerState.TheVariants.{On,
 abbrev pub limit : ℕ
 limit = 536870912
 
--- What packets make of an answer, with room for so many bytes. `step` says what one more packet makes of a phase. The
--- room is looked at first.
+-- What packets make of an answer, with room for this many bytes. `step` says what one more packet makes of a phase. The
+-- room is checked first.
 abbrev pub outcome : {P G : Type 0} → (P → Packet → AnswerState P G) → ℕ → AnswerState P G → List Packet
     → AnswerState P G
 outcome step room state [] = state

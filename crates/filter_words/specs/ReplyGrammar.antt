@@ -18,7 +18,7 @@ EndsShort d s good.Delayed = (s ≡ Some status.Delayed) × (d ≡ true)
 EndsShort d s good.Content = ⊥
 EndsShort d s good.ErrorAfter = ⊥
 
--- the statuses that the key list behind a content may have
+-- the statuses that the key list after a content may have
 abbrev pub EndsLong : Option Status → GoodReply → Type 0
 EndsLong s good.Content = (s ≡ None) ⊎ (s ≡ Some status.Success)
 EndsLong s good.ErrorAfter = s ≡ Some status.Error
@@ -49,7 +49,7 @@ abbrev pub joined : List (List ℕ) → List ℕ
 joined [] = []
 joined (piece ∷ pieces) = piece ++ joined pieces
 
--- the statuses of a first key list that break a reply, and those of a key list behind a content
+-- the statuses of a first key list that break a reply, and those of a key list after a content
 abbrev pub BreaksFirst : Bool → Option Status → BreakCause → Type 0
 BreaksFirst d s cause.StrangeDelay = (s ≡ Some status.Delayed) × (d ≡ false)
 BreaksFirst d s cause.UnknownStatus = (s ≡ None) ⊎ (s ≡ Some status.Other)

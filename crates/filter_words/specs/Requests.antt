@@ -41,7 +41,7 @@ list_text = spelling_all list_packets
 unfoldable pub keys_text : List ℕ → Bool → List ℕ
 keys_text path can_delay = spelling_all (smudge_keys path can_delay)
 
--- the packets of a content, and the flush packet behind them
+-- the packets of a content, and the flush packet after them
 unfoldable pub content_text : List ℕ → List ℕ
 content_text content = spelling_all (content_packets content ++ Flush ∷ [])
 

@@ -24,7 +24,7 @@ first_state true (Some status.Delayed) = Done good.Delayed
 first_state false (Some status.Delayed) = Broken cause.StrangeDelay
 first_state d (Some status.Other) = Broken cause.UnknownStatus
 
--- so does the status of the one behind the content
+-- so does the status of the one after the content
 abbrev pub last_state : Option Status → AnswerState ReplyPhase GoodReply
 last_state None = Done good.Content
 last_state (Some status.Success) = Done good.Content

@@ -10,7 +10,7 @@ use Rattle.filter_words.specs.declared.words.Status.TheVariants.{Success, Error,
 abbrev pub without_lf : List ℕ → List ℕ
 without_lf line = if ends_with nat_eq line (10 ∷ []) then take (length line - 1) line else line
 
--- what stands before a place and after it
+-- what comes before a place and after it
 abbrev pub cut_at : Option ℕ → List ℕ → Option (List ℕ × List ℕ)
 cut_at None text = None
 cut_at (Some place) text = Some (take place text, drop (place + 1) text)
@@ -39,7 +39,7 @@ abbrev pub status_or : Option Status → Option (List ℕ) → Option Status
 status_or before None = before
 status_or before (Some value) = Some (status_value value)
 
--- the status after one more line of a key list: a line without `=`, and one with another key, are passed over
+-- the status after one more line of a key list: a line without `=` and one with another key are ignored
 abbrev pub status_after : Option Status → List ℕ → Option Status
 status_after before line = status_or before (value_of (codes "status") line)
 

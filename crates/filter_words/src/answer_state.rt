@@ -13,6 +13,6 @@ pub enum AnswerState<P, G> {
     Done(G),
     /// Its last packet is the first after which no continuation is good.
     Broken(BreakCause),
-    /// A packet stands behind its end.
+    /// A packet stands after its end.
     Late,
 }

@@ -74,8 +74,8 @@ fn more_caps(caps: Caps, line: &[u8]) -> Caps
     }
 }
 
-/// What one more packet makes of a handshake's two answers, for which there is so much room, and the room that is left.
-/// A handshake begins with `MOST_ANSWER` and `HandshakePhase::Server`.
+/// What one more packet makes of a handshake's two answers, with this much room for it, and the room that is left. A
+/// handshake begins with `MOST_ANSWER` and `HandshakePhase::Server`.
 pub fn handshake_after_packet(
     room: u64,
     state: AnswerState<HandshakePhase, Caps>,

@@ -51,10 +51,10 @@ pub fn reply_content()
     ensures short { (d : Bool) (keys : List (List ℕ)) → content_in d reply_start (block keys) ≡ [] }
 {}
 
-/// Replies that stand at the front of the same bytes and have come to their ends are one. Where no packet stands behind
-/// an open reply, no longer one that has ended stands at the front of the same bytes. So what a driver sends holds one
-/// reply at its front, however it is cut and however much of it was taken, and one that has ended stays so when more is
-/// sent behind it.
+/// If two replies are at the front of the same bytes and have come to their ends, they are the same. If an open reply
+/// is at the front and no packet follows it, no longer reply that has ended is at the front of the same bytes. So what
+/// a driver sends holds one reply at its front, however it is cut and however much of it was taken. A reply that has
+/// ended, other than at the end of the output, stays so when more is sent after it.
 pub fn one_reply()
     ensures same { (d : Bool) (ps qs : List Packet) (a b x y : List ℕ)
         (u v : AnswerState ReplyPhase GoodReply) → SpellAll ps a → SpellAll qs b → a ++ x ≡ b ++ y
@@ -81,7 +81,7 @@ pub fn one_reply()
     no_packet();
 }
 
-/// The same of the answer to a list request, where these paths are delayed.
+/// The same for the answer to a list request while these paths are delayed.
 pub fn list_grammar()
     ensures good { (delayed : List (List ℕ)) (ps : List Packet) (g : GoodList)
         → outcome (list_step delayed) limit list_start ps ≡ state.Done g
@@ -97,7 +97,7 @@ pub fn list_grammar()
         → IsBroken GoodList (IsList delayed) (BreaksList delayed) ps why }
 {}
 
-/// The same of two answers to a list request.
+/// The same for two answers to a list request.
 pub fn one_list()
     ensures same { (delayed : List (List ℕ)) (ps qs : List Packet) (a b x y : List ℕ)
         (u v : AnswerState ListPhase GoodList) → SpellAll ps a → SpellAll qs b → a ++ x ≡ b ++ y
@@ -124,7 +124,7 @@ pub fn one_list()
     no_packet();
 }
 
-/// The same of the two answers to a handshake.
+/// The same for the two answers to a handshake.
 pub fn handshake_grammar()
     ensures good { (ps : List Packet) (caps : Caps)
         → outcome handshake_step limit handshake_start ps ≡ state.Done caps
@@ -139,7 +139,7 @@ pub fn handshake_grammar()
         → IsBroken Caps IsHandshake BreaksHandshake ps why }
 {}
 
-/// The same of two handshakes.
+/// The same for two handshakes.
 pub fn one_handshake()
     ensures same { (ps qs : List Packet) (a b x y : List ℕ) (u v : AnswerState HandshakePhase Caps)
         → SpellAll ps a → SpellAll qs b → a ++ x ≡ b ++ y
@@ -165,7 +165,7 @@ pub fn one_handshake()
     no_packet();
 }
 
-/// A reply is broken only with a cause of its own, and so is a handshake. It is delayed only where that was allowed.
+/// A reply is broken only with a cause of its own, and so is a handshake. It is delayed only if that was allowed.
 pub fn own_causes()
     ensures reply { (d : Bool) (ps : List Packet) (why : BreakCause)
         → outcome (reply_step d) limit reply_start ps ≡ state.Broken why → IsOwnCause why }

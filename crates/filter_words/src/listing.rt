@@ -23,7 +23,7 @@ use std::alloc::{AllocError, Global};
 pub enum ListPart {
     /// Lines, of which each `pathname=` line names a path.
     Names,
-    /// The key list behind them, and the status that it has named so far.
+    /// The key list after them, and the status that it has named so far.
     KeyList(Option<Status>),
 }
 
@@ -42,7 +42,7 @@ pub struct Listing<'a> {
     pub names: Vec<&'a [u8]>,
 }
 
-/// The reply to a list request that ended well and named so many paths.
+/// The reply to a list request that ended well and named this many paths.
 pub fn list_reply(end: ListEnd, count: u32) -> ListReply
     ensures { (names : List (List ℕ)) → count ≡ length names
         → result ≡ reply_of_good (good_list end names) }
@@ -168,7 +168,7 @@ fn list_after_line<'a>(
     }
 }
 
-/// What one more packet makes of the answer to a list request, for which there is so much room, where these paths are
+/// What one more packet makes of the answer to a list request, with this much room for it, while these paths are
 /// delayed, and the room that is left. It begins with `MOST_ANSWER`, `ListPart::Names` and no names, and looks for each
 /// name by a scan over the paths.
 pub fn list_after_packet<'a>(

@@ -21,7 +21,7 @@ pub enum BreakCause {
     /// A status that the request doesn't allow, or none.
     #[error("the status isn't known")]
     UnknownStatus,
-    /// `status=delayed` where `can-delay=1` wasn't sent.
+    /// `status=delayed`, but `can-delay=1` wasn't sent.
     #[error("the delay wasn't allowed")]
     StrangeDelay,
     /// More than 536,870,912 bytes of packets in one answer.

@@ -9,8 +9,8 @@ use std::alloc::{AllocError, Global};
 
 /// Appends what a client sends first: the lines `git-filter-client` and `version=2`, and flush.
 ///
-/// This call and the three below append texts of gitattributes(5), "Long Running Filter Process", and leave `out` as it
-/// was after an error, which is want of memory alone.
+/// This call and the three below append texts of gitattributes(5), "Long Running Filter Process". Their only error is
+/// out of memory, and then `out` is as it was.
 #[tactic(auto, unfolding(crate::specs::Requests::hello_text))]
 pub fn push_hello(alloc: Global, out: &mut Vec<u8>) -> Result<(), AllocError>
     ensures ok { OnOk result (out.new.items ≡ out.old.items ++ hello_text) }
@@ -46,7 +46,7 @@ pub fn push_list(alloc: Global, out: &mut Vec<u8>) -> Result<(), AllocError>
 }
 
 /// Appends the request to smudge a content for a path of 1 to 4,096 bytes: the lines `command=smudge` and
-/// `pathname=<path>`, the line `can-delay=1` where `can_delay`, flush, the content, and flush. A path that was delayed
+/// `pathname=<path>`, the line `can-delay=1` if `can_delay`, flush, the content, and flush. A path that was delayed
 /// is asked for again without `can_delay` and with an empty content.
 #[tactic(auto, unfolding(crate::specs::Requests::first_text))]
 pub fn push_smudge(
@@ -86,7 +86,7 @@ pub fn push_smudge_keys(
     whole_or_nothing(out, before, pushed)
 }
 
-/// Keeps what was pushed, or cuts `out` back where the pushing failed.
+/// Keeps what was pushed, or cuts `out` back if the pushing failed.
 fn whole_or_nothing(
     out: &mut Vec<u8>,
     before: usize,

@@ -25,7 +25,7 @@ pub enum GoodReply {
 pub enum ReplyPhase {
     KeyList(Option<Status>),
     Content,
-    /// The key list behind the content.
+    /// The key list after the content.
     LastKeyList(Option<Status>),
 }
 
@@ -108,8 +108,8 @@ fn after_last_key_list(status: Option<Status>) -> AnswerState<ReplyPhase, GoodRe
     }
 }
 
-/// What one more packet makes of a reply, for which there is so much room, and the room that is left. A reply begins
-/// with `MOST_ANSWER` and `ReplyPhase::KeyList(None)`.
+/// What one more packet makes of a reply, with this much room for it, and the room that is left. A reply begins with
+/// `MOST_ANSWER` and `ReplyPhase::KeyList(None)`.
 pub fn reply_after_packet(
     can_delay: bool,
     room: u64,

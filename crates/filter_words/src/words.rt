@@ -31,7 +31,7 @@ pub fn read_status(value: &[u8]) -> Status
     }
 }
 
-/// A line without the one LF at its end, cut at its first `=`. `None` where there is no `=`.
+/// A line without the one LF at its end, cut at its first `=`. `None` if there is no `=`.
 pub fn key_value(line: &[u8]) -> Option<(&[u8], &[u8])>
     ensures { option_map (λ pair. (pair.0.now, pair.1.now)) result ≡ key_and_value line.now }
 {

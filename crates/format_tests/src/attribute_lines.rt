@@ -3,7 +3,7 @@ use attr_line::{AttrFile, AttrRow, AttrState, Pair, Skipped, read_attributes};
 use std::alloc::{AllocError, Global};
 use std::test::Fail;
 
-/// Appends a pair in the words of `git check-attr`.
+/// Appends a pair as `git check-attr` writes it.
 fn push_pair(list: &mut Vec<u8>, pair: &Pair) -> Result<(), AllocError> {
     list.push(b' ')?;
     list.extend_from_slice(pair.name.as_slice())?;
@@ -16,7 +16,7 @@ fn push_pair(list: &mut Vec<u8>, pair: &Pair) -> Result<(), AllocError> {
     }
 }
 
-/// Appends a row: its pattern or, behind `macro `, its name, and then its pairs.
+/// Appends a row: its pattern or, after `macro `, its name, and then its pairs.
 fn push_row(list: &mut Vec<u8>, row: &AttrRow) -> Result<(), AllocError> {
     let pairs = match row {
         AttrRow::Rule { pattern, pairs } => {
@@ -46,10 +46,10 @@ fn listed(alloc: Global, file: &AttrFile) -> Result<Vec<u8>, AllocError> {
     Ok(list)
 }
 
-/// Files in parts, whether they are of the top folder, their rows as `push_row` lists them, and how many of their lines are
-/// skipped: too long ones, negative patterns, bad names and macros in their wrong place.
+/// Files in parts, whether they are in the top folder, their rows as `push_row` lists them, and how many of their lines
+/// are skipped: lines that are too long, negative patterns, bad names, and macros where none is allowed.
 const FILES: &[(&[&[u8]], bool, &[&[u8]], [u32; 4])] = &[
-    // Lines that are read. The states are those that `git check-attr` of git 2.39.5 tells.
+    // Lines that are read. The states are those that `git check-attr` of git 2.39.5 prints.
     (
         &[b"*.c text -diff !merge eol=lf\n"],
         true,
@@ -119,14 +119,14 @@ const FILES: &[(&[&[u8]], bool, &[&[u8]], [u32; 4])] = &[
         &[b"[attr] text:set\n"],
         [0, 0, 0, 0],
     ),
-    // A quoted pattern makes no macro, where git makes one.
+    // A quoted pattern makes no macro here. In git it makes one.
     (
         &[b"\"[attr]m\" text\n"],
         false,
         &[b"[attr]m text:set\n"],
         [0, 0, 0, 0],
     ),
-    // Lines with a bad name, with a negative pattern, and with a macro in its wrong place.
+    // Lines with a bad name, with a negative pattern, and with a macro where none is allowed.
     (&[b"!a text\na te$t\n"], true, &[], [0, 1, 1, 0]),
     (&[b"[attr]m text\n"], false, &[], [0, 0, 0, 1]),
     (&[b"\"!a\" text\n"], true, &[], [0, 1, 0, 0]),

@@ -12,7 +12,7 @@ fn file_at(alloc: Global, folder: &[u8], text: &[u8]) -> Result<FileAt, AllocErr
     })
 }
 
-/// The files in an order that means nothing.
+/// The files, in an order that has no meaning.
 fn files_of(alloc: Global, texts: &[&[u8]; 4]) -> Result<AttrFiles, AllocError> {
     let [info, top, a, deep] = *texts;
     let mut files = Vec::new(alloc);
@@ -63,7 +63,7 @@ const CASES: &[([&[u8]; 4], &[u8], &[u8], &[u8])] = &[
     ([b"", b"", b"/b/f.c t", b""], b"a/b/f.c", b"t", b"+"),
     ([b"", b"/f.c t", b"", b"/f.c -t"], b"a/b/f.c", b"t", b"-"),
     ([b"", b"/b/f.c t", b"", b""], b"a/b/f.c", b"t", b"!"),
-    // A macro stands for its line where it is set.
+    // A macro stands for its line if it is set.
     ([b"x binary text", b"", b"", b""], b"x", b"text", b"+"),
     ([b"x binary text", b"", b"", b""], b"x", b"diff", b"-"),
     ([b"x text binary", b"", b"", b""], b"x", b"text", b"-"),

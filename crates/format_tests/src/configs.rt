@@ -80,7 +80,7 @@ fn files_read_as_git_lists_them(rt: HostRuntime) -> Result<(), Fail> {
 
 /// Files, and the first faulty line with what is wrong in it.
 const FAULTY: &[(&[u8], u32, LineKind)] = &[
-    // As git 2.39.5 tells it.
+    // As git 2.39.5 reports it.
     (b"[core\n", 1, LineKind::Section),
     (b"[]\n", 1, LineKind::Section),
     (b"[a ]\n", 1, LineKind::Section),
@@ -95,7 +95,7 @@ const FAULTY: &[(&[u8], u32, LineKind)] = &[
     (b"[core]\neol = \"cr\n", 2, LineKind::Value),
     (b"[a]\nk = \\x\n", 2, LineKind::Value),
     (b"[a]\nk = \\\n \\\n x\nj = \"\n", 5, LineKind::Value),
-    // Where git tells another line, or reads on.
+    // Here git reports another line, or reads on.
     (b"k = \\x\n", 1, LineKind::NoSection),
     (b"= x\n", 1, LineKind::Key),
     (b"[ \"x\"]\n", 1, LineKind::Section),
@@ -123,7 +123,7 @@ fn the_limit_is_on_the_bytes(rt: HostRuntime) -> Result<(), Fail> {
     Ok(())
 }
 
-/// A file with a header of half its bytes and a key in each two of the others.
+/// A file of which half is a header, and the other half keys of two bytes each.
 #[test]
 fn a_long_section_is_kept_once(rt: HostRuntime) -> Result<(), Fail> {
     let name = vec![in rt.alloc(); b'a'; 524_280]?;

@@ -39,8 +39,8 @@ fn states_name_encodings(rt: HostRuntime) -> Result<(), Fail> {
     Ok(())
 }
 
-/// The first and the last character of each length in UTF-8, and those at the surrogates: U+0000, 7F, 80, 7FF, 800, D7FF,
-/// E000, FFFF, 10000, 10FFFF.
+/// The first and the last character of each length in UTF-8, and those beside the surrogates: U+0000, 7F, 80, 7FF, 800,
+/// D7FF, E000, FFFF, 10000, 10FFFF.
 const EDGES: &[u8] =
     b"\0\x7F\xC2\x80\xDF\xBF\xE0\xA0\x80\xED\x9F\xBF\xEE\x80\x80\xEF\xBF\xBF\xF0\x90\x80\x80\xF4\x8F\xBF\xBF";
 
@@ -133,7 +133,8 @@ fn texts_are_encoded(rt: HostRuntime) -> Result<(), Fail> {
     Ok(())
 }
 
-/// A byte that is in no character, a surrogate, a form that is too long, a character above 10FFFF, and one that is cut.
+/// A byte that belongs to no character, a surrogate, a form that is too long, a character above 10FFFF, and one that is
+/// cut.
 const NO_TEXTS: &[&[u8]] = &[
     b"\xFF",
     b"a\xED\xA0\x80",

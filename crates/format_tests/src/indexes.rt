@@ -4,7 +4,7 @@ use git_index::{EntryKind, IndexFault, Mode, read_index, spell_index};
 use std::alloc::Global;
 use std::test::Fail;
 
-/// The header of so many entries.
+/// The header for this many entries.
 const NONE: &[u8] = b"DIRC\0\0\0\x02\0\0\0\0";
 
 const ONE: &[u8] = b"DIRC\0\0\0\x02\0\0\0\x01";
@@ -19,14 +19,14 @@ const FOUR: &[u8] = b"DIRC\0\0\0\x02\0\0\0\x04";
 const FILE: &[u8] =
     b"\0\0\0\0\0\0\0\0\0\0\0\0\0\0\0\0\0\0\0\0\0\0\0\0\0\0\x81\xa4\0\0\0\0\0\0\0\0\0\0\0\0nnnnnnnnnnnnnnnnnnnn";
 
-/// The same of mode 040000, which an index does not have.
+/// The same for mode 040000, which an index does not have.
 const TREE: &[u8] =
     b"\0\0\0\0\0\0\0\0\0\0\0\0\0\0\0\0\0\0\0\0\0\0\0\0\0\0\x40\0\0\0\0\0\0\0\0\0\0\0\0\0nnnnnnnnnnnnnnnnnnnn";
 
 /// The flags, the path and the padding of an entry `a`.
 const A: &[u8] = b"\0\x01a\0";
 
-/// The same of an entry `a/b`.
+/// The same for an entry `a/b`.
 const A_B: &[u8] = b"\0\x03a/b\0\0\0\0\0\0\0";
 
 /// The place of a hash that was not computed.
@@ -35,7 +35,7 @@ const NO_HASH: &[u8] = b"\0\0\0\0\0\0\0\0\0\0\0\0\0\0\0\0\0\0\0\0";
 /// The SHA-1 of `NONE`, by Python's hashlib.
 const HASH_OF_NONE: &[u8] = b"9\xd8\x90\x13\x9e\xe55l~\xf5r!l\xeb\xcd'\xaaA\xf9\xdf";
 
-/// An index of the one entry `a` whose object is a blob of `hi` and a line feed, by Python's hashlib.
+/// An index with one entry `a`, whose object is a blob of `hi` and a line feed, by Python's hashlib.
 const ONE_FILE: &[u8] =
     b"DIRC\0\0\0\x02\0\0\0\x01\0\0\0\0\0\0\0\0\0\0\0\0\0\0\0\0\0\0\0\0\0\0\0\0\0\0\x81\xa4\0\0\0\0\0\0\0\0\0\0\0\0E\xb9\x83\xbe6\xb7<\x07\x88\xdc\x9c\xbc\xb7l\xbb\x80\xfc{\xb0W\0\x01a\0\x1cl\x18Y\xc8\xad\xa0\x11\x07\xc2k\x97n\xe0d>\xd8\xc1\xc7I";
 
@@ -87,7 +87,7 @@ fn the_limit_is_on_the_bytes(rt: HostRuntime) -> Result<(), Fail> {
     Ok(())
 }
 
-/// What an index has, its parts, and its first fault: none where it is read.
+/// What an index has, its parts, and its first fault, or `None` if it is read.
 const INDEXES: &[(&str, &[&[u8]], Option<IndexFault>)] = &[
     // A header is refused at its first fault.
     (
@@ -171,7 +171,7 @@ const INDEXES: &[(&str, &[&[u8]], Option<IndexFault>)] = &[
         &[TWO, FILE, A, TREE, b"\0\x01b\0", NO_HASH],
         Some(IndexFault::Mode(1)),
     ),
-    // An order is refused at its first fault.
+    // Entries out of order are refused at their first fault.
     (
         "a path, before its order",
         &[TWO, FILE, A, FILE, b"\0\x01.\0", NO_HASH],
@@ -239,7 +239,7 @@ const INDEXES: &[(&str, &[&[u8]], Option<IndexFault>)] = &[
         ],
         Some(IndexFault::FolderClash(2)),
     ),
-    // What is behind the entries is refused at its first fault.
+    // What follows the entries is refused at its first fault.
     (
         "a cut extension",
         &[NONE, b"link\0\0\0", NO_HASH],

@@ -1,8 +1,8 @@
 //! The tests of the crates that read git's formats and convert contents.
 //!
-//! A crate with tests is proved twice, with them and without, so those of these crates stand here, over the built libraries:
-//! `paths`, `indexes`, `configs`, `settings`, `attribute_lines`, `attributes`, `line_ends`, `encodings`, `keywords`, `patterns`
-//! and `words`. It has nothing but tests.
+//! A crate with tests is proved twice, with them and without. So the tests of these crates are here, over the built
+//! libraries: `paths`, `indexes`, `configs`, `settings`, `attribute_lines`, `attributes`, `line_ends`, `encodings`,
+//! `keywords`, `patterns` and `words`. It has nothing but tests.
 #![tactic(auto)]
 
 #[cfg(test)]

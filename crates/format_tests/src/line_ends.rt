@@ -93,7 +93,7 @@ const CONTENTS: &[(&[&[u8]], LineEnds, &[&[u8]])] = &[
         &[b"\x08\t\x0C\x1B \x7E\x80\xFF\r\n"],
     ),
     (&[b"a\x7F\n"], LineEnds::AutoCrlf, &[b"a\x7F\n"]),
-    // One byte that isn't printing in 128 that are is still a text, and in 127 it isn't.
+    // One byte that isn't printing for 128 that are leaves a text. For 127 it doesn't.
     (
         &[&[b'a'; 127], b"\x01\n"],
         LineEnds::AutoCrlf,
@@ -109,7 +109,7 @@ const CONTENTS: &[(&[&[u8]], LineEnds, &[&[u8]])] = &[
         LineEnds::AutoCrlf,
         &[&[b'a'; 127], b"\x01\nb\x7F"],
     ),
-    // Lines about as long as the blocks that are copied, with more and with less than a block behind them.
+    // Lines about as long as the blocks that are copied, followed by more and by less than a block.
     (
         &[&[b'a'; 0], b"\n", &[b'b'; 0]],
         ToCrlf,

@@ -93,7 +93,7 @@ fn copies_keep_their_values(rt: HostRuntime) -> Result<(), Fail> {
     Ok(())
 }
 
-/// What a text gives that begins with a double quote.
+/// What a text that begins with a double quote gives.
 fn read_quoted(alloc: Global, text: &[u8]) -> Result<(Bytes, usize), QuoteFault> {
     match text {
         [b'"', ..] => unquote(alloc, text),
@@ -158,7 +158,7 @@ impl ByteKind for Blank {
     }
 }
 
-/// Texts, and what stands in front of their first blank and behind.
+/// Texts, how many bytes come before their first blank, and the text from there on.
 const CUT: &[(&[u8], usize, &[u8])] = &[
     (b"ab cd ef", 2, b" cd ef"),
     (b"a\t b", 1, b"\t b"),

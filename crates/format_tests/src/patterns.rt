@@ -1,6 +1,6 @@
 use wild_match::matches;
 
-/// Patterns, paths, and whether the one matches the other, as gitattributes(5) has it.
+/// Patterns, paths, and whether the pattern matches the path, as gitattributes(5) defines it.
 const TABLE: &[(&[u8], &[u8], bool)] = &[
     (b"*.txt", b"a/b.txt", true),
     (b"/*.txt", b"a/b.txt", false),

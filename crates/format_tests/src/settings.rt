@@ -16,7 +16,7 @@ fn crlf_read(alloc: Global, text: &[u8]) -> Result<AutoCrlf, SettingFault> {
     Ok(settings.autocrlf)
 }
 
-/// Files, and their `core.autocrlf`, or `None` where it is a bad choice. The first thirteen truth values are those of
+/// Files, and their `core.autocrlf`, or `None` if it is a bad choice. The first thirteen truth values are those of
 /// `git config --type=bool` 2.39.5.
 const TRUTHS: &[(&[u8], Option<AutoCrlf>)] = &[
     (b"[core]\nautocrlf = true", Some(AutoCrlf::True)),
@@ -65,7 +65,7 @@ fn eol_read(alloc: Global, text: &[u8]) -> Result<EolSetting, SettingFault> {
     Ok(settings.eol)
 }
 
-/// Files, and their `core.eol`, or `None` where it is a bad choice.
+/// Files, and their `core.eol`, or `None` if it is a bad choice.
 const LINE_ENDS: &[(&[u8], Option<EolSetting>)] = &[
     (b"[core]\neol = lf", Some(EolSetting::Lf)),
     (b"[core]\neol = CRLF", Some(EolSetting::Crlf)),
@@ -92,8 +92,8 @@ fn threshold_read(alloc: Global, text: &[u8]) -> Result<u64, SettingFault> {
     Ok(settings.threshold)
 }
 
-/// What stands behind `thresholdForParallelism`, and the number, or `None` where it is a bad one. The first nine numbers are
-/// those of `git config --type=int` 2.39.5, and it refuses the five behind them too.
+/// What follows `thresholdForParallelism`, and the number, or `None` if it is a bad one. The first nine numbers are
+/// those of `git config --type=int` 2.39.5, which refuses the next five too.
 const THRESHOLDS: &[(&[u8], Option<u64>)] = &[
     (b"=1", Some(1)),
     (b"=2k", Some(2048)),
@@ -136,7 +136,7 @@ fn numbers_and_the_threshold(rt: HostRuntime) {
     assert!(rt; threshold_read(rt.alloc(), b"") == Ok(100));
 }
 
-/// What `checkout.thresholdForParallelism` of this value is.
+/// What `checkout.thresholdForParallelism` with this value is.
 fn of_value(alloc: Global, value: &[u8]) -> Result<u64, SettingFault> {
     let mut text = Vec::from_slice(alloc, b"[checkout]\nthresholdForParallelism")?;
     text.extend_from_slice(value)?;
@@ -148,7 +148,7 @@ fn workers_read(alloc: Global, text: &[u8]) -> Result<u32, SettingFault> {
     Ok(settings.workers)
 }
 
-/// Files, and their `checkout.workers`, or `None` where it is a bad number.
+/// Files, and their `checkout.workers`, or `None` if it is a bad number.
 const WORKERS: &[(&[u8], Option<u32>)] = &[
     (b"[checkout]\nworkers = 1", Some(1)),
     (b"[checkout]\nworkers = 16", Some(16)),
@@ -215,7 +215,7 @@ fn the_first_bad_key_decides(rt: HostRuntime) {
     }
 }
 
-/// Appends a driver as its name, `=` and its command where it has one, and `!` where it is required.
+/// Appends a driver as its name, `=` and its command if it has one, and `!` if it is required.
 fn push_driver(list: &mut Vec<u8>, driver: &Driver) -> Result<(), AllocError> {
     list.extend_from_slice(driver.name.as_slice())?;
     if let Some(process) = &driver.process {

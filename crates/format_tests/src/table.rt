@@ -12,7 +12,7 @@ pub enum Said {
     Value(&'static [u8]),
 }
 
-/// The same as the crates have it.
+/// The same state, as the crates have it.
 pub fn state_of(alloc: Global, said: Said) -> Result<AttrState, AllocError> {
     Ok(match said {
         Said::Set => AttrState::Set,

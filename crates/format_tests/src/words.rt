@@ -2,7 +2,7 @@ use checkout_words::{Command, WordFault, read_words};
 use std::alloc::{AllocError, Global};
 use std::test::Fail;
 
-/// What these words give, or `None` where they are Usage.
+/// What these words give, or `None` if they give Usage.
 fn read(alloc: Global, words: &[&str]) -> Result<Option<Command>, AllocError> {
     let mut texts = Vec::new(alloc);
     for word in words {
@@ -15,7 +15,7 @@ fn read(alloc: Global, words: &[&str]) -> Result<Option<Command>, AllocError> {
     }
 }
 
-/// Words, and the command that they are.
+/// Words, and the command that they give.
 const READ: &[(&[&str], Command)] = &[
     (&["R", "T", "checkout"], Command::Checkout { workers: None }),
     (
@@ -49,7 +49,7 @@ fn commands_are_read(rt: HostRuntime) -> Result<(), Fail> {
     Ok(())
 }
 
-/// Words that are no command.
+/// Words that are not a command.
 const USAGE: &[&[&str]] = &[
     &[],
     &["R", "T"],

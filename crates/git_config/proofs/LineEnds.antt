@@ -13,7 +13,7 @@ use Rattle.git_config.specs.Text.{is_line_end, without_cr}
 not_cr : (b : ℕ) → (is_byte 13 b ≡ true → ⊥) → eqb b 13 ≡ false
 not_cr b none = grind (arith, common_steps)
 
--- what stands before the first CR stays
+-- what comes before the first CR stays
 plain : (text : List ℕ) (k : ℕ) → k ≤ length text → ((j : ℕ) → 0 ≤ j → j < k → is_byte 13 (get_or text j 0) ≡ true → ⊥) → without_cr text ≡ take k text ++ without_cr (drop k text)
 plain text zero le none = refl
 plain [] (suc k) le none = absurd (omega arith)
@@ -56,7 +56,7 @@ cr_kept text k first before =
 not_end : (b : ℕ) → (is_byte 10 b ≡ true → ⊥) → is_line_end b ≡ false
 not_end b none = grind (arith, common_steps)
 
--- where the first end of a line is, or how long the text is where there is none
+-- where the first end of a line is, or how long the text is if there is none
 pub line_end_is : (text : List ℕ) (o : Option ℕ) → IsFirstByte (is_byte 10) text o → unwrap_or o (length text) ≡ position_or_len is_line_end text
 line_end_is text (Some k) first =
     sym (position_or_len_is is_line_end text k 0 (omega (arith, first.0.high)) (λ j less. not_end (get_or text j 0) (first.0.before j (omega arith) less)) (λ less. first.1))

@@ -21,7 +21,7 @@ is_close b = b == close_bracket
 abbrev pub lowered : List ℕ → List ℕ
 lowered text = map to_ascii_lowercase text
 
--- the part before the first dot, and the part behind it, where there is one
+-- the part before the first dot, and the part after it, if there is one
 abbrev pub dotted_at : ℕ → List ℕ → Head
 dotted_at dot name = record {
   section = lowered (take dot name);
@@ -31,7 +31,7 @@ dotted_at dot name = record {
 unfoldable pub plain_head : List ℕ → Head
 plain_head name = dotted_at (position_or_len is_dot name) name
 
--- A subsection up to its closing quote, behind the part that is read, and the text behind the quote.
+-- A subsection up to its closing quote, after the part that is read, and the text after the quote.
 -- The flag says that a backslash stands before the text.
 unfoldable pub sub_at : ℕ → Bool → List ℕ → List ℕ → Result (List ℕ × List ℕ) ConfigFault
 sub_at line escaped sub [] = Err (Line line Section)
@@ -43,7 +43,7 @@ sub_at line false sub (b ∷ text) =
     else if b == backslash then sub_at line true sub text
     else sub_at line false (sub ++ b ∷ []) text)
 
--- the header of a name and of a subsection that was read, and what stands behind its `]`
+-- the header of a name and of a subsection that was read, and what follows its `]`
 abbrev pub head_with : List ℕ → List ℕ × List ℕ → Head × List ℕ
 head_with name x = (record { section = lowered name; sub = Some x.0 }, drop 1 x.1)
 
@@ -54,14 +54,14 @@ quoted_head_at line name text =
       x ← sub_at line false [] (drop 1 text)
       want (begins is_close x.1) (Line line Section) (Ok (head_with name x)))
 
--- what stands behind the name: `]`, or a subsection
+-- what follows the name: `]`, or a subsection
 unfoldable pub named_at : ℕ → List ℕ → List ℕ → Result (Head × List ℕ) ConfigFault
 named_at line name text =
     want (nat_lt 0 (length name)) (Line line Section)
     (if begins is_close text then Ok (plain_head name, drop 1 text)
     else want (begins is_blank text) (Line line Section) (quoted_head_at line name (behind_blanks text)))
 
--- a header behind its `[`, and the text behind its `]`
+-- a header after its `[`, and the text after its `]`
 unfoldable pub header_at : ℕ → List ℕ → Result (Head × List ℕ) ConfigFault
 header_at line text =
     named_at line (take (position_or_len ends_name text) text) (drop (position_or_len ends_name text) text)

@@ -22,7 +22,7 @@ is_equals b = b == equals
 abbrev pub setting_of : Head → List ℕ → Option (List ℕ) → Setting
 setting_of head key value = record { section = head.section; sub = head.sub; key = lowered key; value = value }
 
--- what stands behind a key and its blanks: the end of the line, or `=` and the value
+-- what follows a key and its blanks: the end of the line, or `=` and the value
 unfoldable pub keyed_at : ℕ → Head → List ℕ → List ℕ → Result (Setting × ℕ × List ℕ) ConfigFault
 keyed_at line head key text =
     if length text == 0 || begins is_line_end text then Ok (setting_of head key None, 0, text)
@@ -47,19 +47,19 @@ pub record Place : Type 0 where
   pub settings : List Setting
   pub rest : List ℕ
 
--- a header, behind its `[`, names the section from here on
+-- a header, after its `[`, names the section from here on
 unfoldable pub after_header : Place → Result Place ConfigFault
 after_header place = do
   x ← header_at place.line place.rest
   Ok (record place { head = Some x.0; rest = x.1 })
 
--- a setting comes behind those before
+-- a setting comes after those before
 unfoldable pub after_setting : Place → Result Place ConfigFault
 after_setting place = do
   x ← setting_at place.line place.head place.rest
   Ok (record place { line = place.line + x.1; settings = place.settings ++ x.0 ∷ []; rest = x.2 })
 
--- one step, from a byte and what stands behind it: the end of a line, a blank, a comment, a header, or a key with its value
+-- one step, from a byte and what follows it: the end of a line, a blank, a comment, a header, or a key with its value
 unfoldable pub step_from : Place → ℕ → List ℕ → Result Place ConfigFault
 step_from place b text =
     if b == line_feed then Ok (record place { line = place.line + 1; rest = text })
@@ -72,7 +72,7 @@ unfoldable pub step_at : Place → List ℕ → Result Place ConfigFault
 step_at place [] = Ok place
 step_at place (b ∷ text) = step_from place b text
 
--- the settings behind those that are read, in so many steps at most
+-- the settings after those that are read, in at most this many steps
 unfoldable pub settings_at : ℕ → Place → Result (List Setting) ConfigFault
 settings_at zero place = Ok place.settings
 settings_at (suc n) place = step_at place place.rest >>= λ next. settings_at n next
@@ -80,6 +80,6 @@ settings_at (suc n) place = step_at place place.rest >>= λ next. settings_at n 
 unfoldable pub text_at : List ℕ → Result (List Setting) ConfigFault
 text_at text = settings_at (length text) (record { line = 1; head = None; settings = []; rest = text })
 
--- what a file is read to: its settings, or TooLarge, or the first faulty line
+-- what a file is read as: its settings, or TooLarge, or the first faulty line
 unfoldable pub config_at : List ℕ → Result (List Setting) ConfigFault
 config_at bytes = want (nat_le (length bytes) 1048576) TooLarge (text_at (without_cr (unmarked bytes)))

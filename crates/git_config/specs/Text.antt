@@ -40,7 +40,7 @@ ends_key b = not (is_key_byte b)
 abbrev pub ends_name : ℕ → Bool
 ends_name b = not (is_name_byte b)
 
--- what stands behind the blanks at the front
+-- what follows the blanks at the front
 unfoldable pub behind_blanks : List ℕ → List ℕ
 behind_blanks text = drop (position_or_len ends_blanks text) text
 
@@ -53,6 +53,6 @@ abbrev pub without_cr : List ℕ → List ℕ
 without_cr [] = []
 without_cr (b ∷ text) = if b == carriage_return && begins is_line_end text then without_cr text else b ∷ without_cr text
 
--- What a function returned, seen by view, is what the grammar gives, unless memory ran out.
+-- What a function returned, seen through `view`, is what the grammar gives, unless memory ran out.
 abbrev pub Gives : {X Y : Type 0} → (X → Y) → Result X ConfigFault → Result Y ConfigFault → Type 0
 Gives = GivesUnless NoMemory

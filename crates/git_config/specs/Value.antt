@@ -11,7 +11,7 @@ use Rattle.git_config.specs.declared.value.Piece.TheVariants.{Backslash, Quote, 
 use Rattle.git_config.specs.Text.{is_blank, is_comment_mark, line_end}
 use Rattle.byte_path.specs.Characters.{backspace, tab, line_feed, quote, backslash, letter_b, letter_n, letter_t}
 
--- what stands behind a backslash: the end of the line, or `"`, `\`, n, t or b
+-- what follows a backslash: the end of the line, or `"`, `\`, n, t or b
 abbrev pub escape_of : ℕ → Mark
 escape_of b =
     if b == line_feed then More Continued
@@ -38,7 +38,7 @@ abbrev pub mark_of : Bool → Bool → ℕ → Mark
 mark_of quoted true b = escape_of b
 mark_of quoted false b = plain_of quoted b
 
--- a value as far as it is read: in quotes or not, right behind a backslash or not, its bytes,
+-- a value as far as it is read: in quotes or not, right after a backslash or not, its bytes,
 -- how many of them stay if nothing follows, and how many lines it was continued on
 pub record Reading : Type 0 where
   pub quoted : Bool
@@ -67,7 +67,7 @@ ended line false bytes lines text = Ok (bytes, lines, text)
 abbrev pub ended_at : ℕ → Reading → List ℕ → Result (List ℕ × ℕ × List ℕ) ConfigFault
 ended_at line r text = ended line r.quoted (take r.kept r.bytes) r.lines text
 
--- what a byte at the front of a text does, and what comes behind it
+-- what a byte at the front of a text does, and what follows it
 abbrev pub marked : ℕ → Mark → Reading → ℕ → List ℕ → (Reading → Result (List ℕ × ℕ × List ℕ) ConfigFault)
     → Result (List ℕ × ℕ × List ℕ) ConfigFault
 marked line End r b text behind = ended_at line r (b ∷ text)
@@ -75,11 +75,11 @@ marked line Comment r b text behind = ended_at line r (line_end text)
 marked line Wrong r b text behind = Err (Line line BadValue)
 marked line (More piece) r b text behind = behind (after_piece piece r)
 
--- A value from here on, behind what is read. The end of the file ends it as the end of a line does.
+-- A value from here on, after what is read. The end of the file ends it as the end of a line does.
 unfoldable pub value_from : ℕ → Reading → List ℕ → Result (List ℕ × ℕ × List ℕ) ConfigFault
 value_from line r [] = ended_at line r []
 value_from line r (b ∷ text) = marked line (mark_of r.quoted r.escaped b) r b text (λ later. value_from line later text)
 
--- a value behind its `=`
+-- a value after its `=`
 abbrev pub value_at : ℕ → List ℕ → Result (List ℕ × ℕ × List ℕ) ConfigFault
 value_at line text = value_from line (record { quoted = false; escaped = false; bytes = []; kept = 0; lines = 0 }) text

@@ -8,10 +8,10 @@ use thiserror::Error;
 /// What is wrong with a line.
 #[derive(Error, Clone, Copy, Debug, PartialEq, Eq)]
 pub enum LineKind {
-    /// A section's header that doesn't read.
+    /// A section's header that can't be read.
     #[error("a section's header doesn't read")]
     Section,
-    /// A line that begins with no letter, or a key with something other than `=` behind it.
+    /// A line that begins with no letter, or a key with something other than `=` after it.
     #[error("a key doesn't read")]
     Key,
     /// An unknown escape, or a quote that is open at the end of the line.
@@ -31,7 +31,7 @@ pub enum ConfigFault {
     /// The first faulty line, from 1: the one on which its header or key begins.
     #[error("line {0}: {1}")]
     Line(u32, LineKind),
-    /// Want of memory.
+    /// Out of memory.
     #[error("out of memory")]
     NoMemory,
 }

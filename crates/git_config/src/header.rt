@@ -26,7 +26,7 @@ fn plain_head(alloc: Global, name: &[u8]) -> Result<Head, ConfigFault>
     Ok(Head { section, sub })
 }
 
-/// A subsection behind its opening quote, and the text behind its closing one.
+/// A subsection after its opening quote, and the text after its closing one.
 #[tactic(auto, unfolding(crate::specs::Header::sub_at))]
 fn sub_of(alloc: Global, line: u32, text: &[u8]) -> Result<(Vec<u8>, &[u8]), ConfigFault>
     ensures value { Gives (λ x. (x.0.items, x.1.now)) result (sub_at line false [] text.now) }
@@ -54,7 +54,7 @@ fn sub_of(alloc: Global, line: u32, text: &[u8]) -> Result<(Vec<u8>, &[u8]), Con
     Err(ConfigFault::Line(line, LineKind::Section))
 }
 
-/// A subsection in quotes and `]`, behind the name and its blanks.
+/// A subsection in quotes and `]`, after the name and its blanks.
 #[tactic(auto, unfolding(crate::specs::Header::quoted_head_at))]
 fn quoted_head_of<'a>(
     alloc: Global,
@@ -77,7 +77,7 @@ fn quoted_head_of<'a>(
     Ok((Head { section, sub }, rest))
 }
 
-/// What stands behind a section's name: `]`, or a subsection.
+/// What follows a section's name: `]`, or a subsection.
 #[tactic(auto, unfolding(crate::specs::Header::named_at))]
 fn named_of<'a>(
     alloc: Global,
@@ -105,7 +105,7 @@ fn named_of<'a>(
     quoted_head_of(alloc, line, name, behind_blanks(text))
 }
 
-/// A header behind its `[`, and the text behind its `]`.
+/// A header after its `[`, and the text after its `]`.
 #[tactic(auto, unfolding(crate::specs::Header::header_at))]
 pub fn header_of(alloc: Global, line: u32, text: &[u8]) -> Result<(Head, &[u8]), ConfigFault>
     ensures value { Gives (λ x. (x.0, x.1.now)) result (header_at line text.now) }

@@ -56,7 +56,7 @@ fn setting_of(
     })
 }
 
-/// What stands behind a key and its blanks: the end of the line, or `=` and the value.
+/// What follows a key and its blanks: the end of the line, or `=` and the value.
 #[tactic(auto, unfolding(crate::specs::Reading::keyed_at))]
 fn keyed_of<'a>(
     alloc: Global,
@@ -123,7 +123,7 @@ struct Reader {
 }
 
 impl Reader {
-    /// Reads a header behind its `[`.
+    /// Reads a header after its `[`.
     #[tactic(auto, unfolding(crate::specs::Reading::after_header))]
     fn take_header<'a>(&mut self, alloc: Global, text: &'a [u8]) -> Result<&'a [u8], ConfigFault>
         ensures value { Gives (λ rest. place_of self.new rest.now) result (after_header (place_of self.old text.now)) }

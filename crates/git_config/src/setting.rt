@@ -6,11 +6,11 @@ use byte_path::Bytes;
 pub struct Setting {
     /// The section's name, in lower case. The settings of a header share it.
     pub section: Shared,
-    /// The subsection: as it is written in quotes, or what stands behind the name's first dot, in lower case.
+    /// The subsection: as it is written in quotes, or what follows the name's first dot, in lower case.
     pub sub: Option<Shared>,
     /// The key, in lower case.
     pub key: Bytes,
-    /// The value with its quotes and escapes read, or `None` where the key has no `=`.
+    /// The value with its quotes and escapes read, or `None` if the key has no `=`.
     pub value: Option<Bytes>,
 }
 

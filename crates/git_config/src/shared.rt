@@ -31,7 +31,7 @@ impl Shared {
         Ok(Shared { bytes })
     }
 
-    /// The bytes as they lie.
+    /// The bytes, borrowed.
     pub fn as_slice(&self) -> &[u8]
         ensures { result.now ≡ self.now }
     {

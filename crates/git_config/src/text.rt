@@ -90,7 +90,7 @@ fn line_len(text: &[u8]) -> usize
     memchr(b'\n', text).unwrap_or(text.len())
 }
 
-/// What stands behind the blanks at the front.
+/// What follows the blanks at the front.
 #[tactic(auto, unfolding(crate::specs::Text::behind_blanks))]
 pub fn behind_blanks(text: &[u8]) -> &[u8]
     ensures value { result.now ≡ behind_blanks text.now }
@@ -125,7 +125,7 @@ pub fn begins_line_end(text: &[u8]) -> bool
     text.first() == Some(&b'\n')
 }
 
-/// How many bytes up to and with the first CR stay: all, or all but the CR where LF stands behind it.
+/// How many bytes up to and with the first CR stay: all, or all but the CR if LF follows it.
 fn kept_len(text: &[u8], cr: usize) -> usize
     requires { IsFirstByte (is_byte 13) text.now (Some cr) }
     ensures value { without_cr text.now ≡ take result text.now ++ without_cr (drop (cr + 1) text.now) }

@@ -32,7 +32,7 @@ enum Piece {
     Blank(u8),
     /// It stands for this byte.
     Byte(u8),
-    /// The end of a line behind a backslash.
+    /// The end of a line after a backslash.
     Continued,
 }
 
@@ -156,7 +156,7 @@ pub struct Value<'a> {
     pub rest: &'a [u8],
 }
 
-/// A value behind its `=`.
+/// A value after its `=`.
 #[tactic(auto, unfolding(crate::specs::Value::value_from))]
 pub fn value_of(alloc: Global, line: u32, text: &[u8]) -> Result<Value<'_>, ConfigFault>
     requires { length text.now < 4294967295 }

@@ -1,4 +1,4 @@
--- An entry behind the earlier ones.
+-- An entry after the earlier ones.
 use Rattle.std.proofs.Common.{◌≡◌, ℕ, ◌-◌, true, false, List, [], ◌∷◌, ◌++◌, length, Option, Some, None, Ok, Err, refl, sym, ap, ◌∙◌}
 use Rattle.std.specs.Prelude.{slice_get}
 use Rattle.std.specs.List.{list_all}
@@ -24,7 +24,7 @@ rises_by earlier e (Some t) g rising above =
 pub above_all : (earlier : List Entry) (e : Entry) → pairwise is_below earlier ≡ true → is_none_or (λ b. is_below b e) (last_of earlier) ≡ true → list_all (λ b. is_below b e) earlier ≡ true
 above_all earlier e rising above = rises_by earlier e (last_of earlier) refl rising above
 
--- an entry in its place, and the stack behind it
+-- an entry in its place, and the stack after it
 pub record IsPlaced (earlier : List Entry) (e : Entry) (new : List (List ℕ)) : Type 0 where
   pub placed : placed_at earlier e ≡ Ok e
   pub known : AreOpen (earlier ++ e ∷ []) new

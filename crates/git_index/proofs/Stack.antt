@@ -214,7 +214,7 @@ stage_zero earlier old kept e known above stage before closed under =
           list_any-push (λ b. is_folder_of b q) earlier e ∙ ap (λ (b : Bool). b || is_folder_of e q) old_same ∙ ap (λ (b : Bool). list_any (λ d. is_in_folder d q) kept || b) here ∙ sym (list_any-push (λ d. is_in_folder d q) kept e.path);
     }
 
--- What befell the stack tells the clash, and where there is none, the stack serves the entries with this one.
+-- What happened to the stack decides the clash. If there is none, the stack is right for the entries with this one.
 pub record Told (earlier : List Entry) (new : List (List ℕ)) (e : Entry) (clash : Bool) : Type 0 where
   pub told : list_any (λ b. is_clash b e) earlier ≡ clash
   pub still : clash ≡ false → AreOpen (earlier ++ e ∷ []) new

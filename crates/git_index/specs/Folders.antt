@@ -35,7 +35,7 @@ pub record Closes (path : List ℕ) (old new : List (List ℕ)) (clash : Bool) :
   pub top : MatchOption (slice_get new (length new - 1)) (clash ≡ false) (λ t. (starts_with nat_eq path t
       ≡ true) × (clash ≡ is_in_folder t path))
 
--- what befalls the stack at an entry of stage 0, or of another stage
+-- what happens to the stack at an entry of stage 0, and at one of another stage
 abbrev pub OpensAt : Bool → Entry → List (List ℕ) → List (List ℕ) → Bool → Type 0
 OpensAt true e old new clash =
     (kept : List (List ℕ)) × Closes e.path old kept clash × (clash ≡ false → new ≡ kept ++ e.path ∷ [])

@@ -7,6 +7,6 @@ use Rattle.git_index.specs.declared.spelled.Spelled.{Spelled}
 abbrev pub entry_of_spelled : Spelled → Entry
 entry_of_spelled s = record { path = s.path.now; stage = s.stage; mode = s.mode; name = s.name }
 
--- the same, and the bytes behind it
+-- the same, and the bytes after it
 abbrev pub read_of : Spelled → Entry × List ℕ
 read_of s = (entry_of_spelled s, s.rest.now)

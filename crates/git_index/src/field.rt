@@ -25,7 +25,7 @@ fn first_nul(bytes: &[u8]) -> Option<usize>
     bytes.iter().position(|b| *b == 0)
 }
 
-/// How long a path is: as the flags say, or up to the first NUL where they say FFF.
+/// How long a path is: as the flags say, or up to the first NUL if they say FFF.
 pub fn length_of(told: usize, tail: &[u8]) -> Option<usize>
     ensures { result ≡ length_at told tail.now }
 {

@@ -13,7 +13,7 @@ fn is_in_folder(folder: &[u8], path: &[u8]) -> bool
     path.starts_with(folder) && folder.len() < path.len() && path[folder.len()] == b'/'
 }
 
-/// Closes what this path does not begin with, and tells whether what is then on top is a folder of it.
+/// Closes what this path does not begin with, and returns whether what is then on top is a folder of it.
 ///
 /// Each path is opened and closed once, so all entries together cost no more than the bytes of their paths.
 fn close_before<'a>(stack: &mut Vec<&'a [u8]>, path: &[u8]) -> bool
@@ -28,7 +28,7 @@ fn close_before<'a>(stack: &mut Vec<&'a [u8]>, path: &[u8]) -> bool
     false
 }
 
-/// Opens the path of an entry of stage 0, unless an open path is a folder of it: whether one is.
+/// Opens the path of an entry of stage 0, unless an open path is a folder of it. Returns whether one is.
 pub fn open_path<'a>(stack: &mut Vec<&'a [u8]>, found: &Spelled<'a>) -> Result<bool, AllocError>
     ensures { IfOk result (Opens (entry_of_spelled found.now) (paths stack.old.items) (paths stack.new.items)) }
 {

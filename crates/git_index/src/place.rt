@@ -1,4 +1,4 @@
-//! An entry in its place behind the earlier ones.
+//! An entry in its place after the earlier ones.
 ghost use Rattle.std.specs.Prelude.{◌≡◌, ◌++◌, ◌∷◌, [], length, IfOk, OnOk, IfErr};
 ghost use Rattle.git_index.specs.Spelling.{is_below, is_alone};
 ghost use Rattle.git_index.specs.Reading.{is_none_or, last_of, placed_at};
@@ -58,7 +58,7 @@ fn copied(alloc: Global, found: &Spelled) -> Result<Entry, AllocError>
     })
 }
 
-/// Puts an entry behind the earlier ones, of which there are k.
+/// Puts an entry after the earlier ones, of which there are k.
 #[tactic(auto, using(crate::proofs::Placed::placing))]
 pub fn place<'a>(
     alloc: Global,

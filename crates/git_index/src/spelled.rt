@@ -8,7 +8,7 @@ use crate::fault::{EntryKind, IndexFault};
 use crate::field::{has_no_nul, is_zero, length_of, mode_of, name_of, number16_of, number32_of};
 use byte_path::check_path;
 
-/// An entry whose path still lies in the file, and the bytes behind it.
+/// An entry whose path still lies in the file, and the bytes after it.
 #[derive(Clone, Copy)]
 pub struct Spelled<'a> {
     pub path: &'a [u8],
@@ -118,7 +118,7 @@ fn signature_of(bytes: &[u8]) -> [u8; 4]
     signature
 }
 
-/// The bytes behind the extension that they begin with.
+/// The bytes after the extension that they begin with.
 #[tactic(auto, unfolding(crate::specs::Reading::extension_at))]
 pub fn extension_of(bytes: &[u8]) -> Result<&[u8], IndexFault>
     ensures value { seen_by (λ x. x.now) result ≡ extension_at bytes.now }

@@ -10,7 +10,7 @@ use Rattle.std.specs.List.{list_any, position, position_or_len, starts_with}
 use Rattle.ident_convert.specs.Ident.{is_dollar, is_middle, expanded_len, keyword_len, replaced, expanded_behind, expanded, BeginsWithKeyword}
 use Rattle.ident_convert.proofs.Keywords.{expanded-keyword}
 
--- the `$` behind a middle is the first
+-- the `$` after a middle is the first
 behind_middle : (middle behind : List ℕ) → list_any is_dollar middle ≡ false → position_or_len is_dollar (middle ++ 36 ∷ behind) ≡ length middle
 behind_middle [] behind none = refl
 behind_middle (b ∷ middle) behind none = step (is_dollar b) refl none (behind_middle middle behind)

@@ -14,7 +14,7 @@ unfolding keyword_len
 no_keyword [] none = refl
 no_keyword (b ∷ text) none = rw (ne_eqb 36 b (λ e. none (eq-eqb b 36 (sym e)))) refl
 
--- a text that begins with a word is as long
+-- a text that begins with a word is at least as long
 word_fits : (word text : List ℕ) → pointwise nat_eq word (take (length word) text) ≡ true → length word ≤ length text
 word_fits [] text is = omega arith
 word_fits (w ∷ word) [] is = cc
@@ -47,12 +47,12 @@ len_cases false true text n is_plain is_old is =
     (bounds.0, omega (arith, bounds.1, length-drop 4 text))
 len_cases false false text n is_plain is_old is = cc
 
--- a keyword lies within the text
+-- a keyword is within the text
 keyword_len-within : (text : List ℕ) (n : ℕ) → keyword_len text ≡ Some n → (0 < n) × (n ≤ length text)
 unfolding keyword_len
 keyword_len-within text n is = len_cases (starts_with nat_eq text (codes "$Id$")) (starts_with nat_eq text (codes "$Id:")) text n refl refl is
 
--- the bytes of a keyword are passed over
+-- the bytes of a keyword are skipped
 expanded_behind-skip : (keyword : List ℕ) (n : ℕ) (text : List ℕ) → expanded_behind keyword n text ≡ expanded keyword (drop n text)
 expanded_behind-skip keyword zero text = refl
 expanded_behind-skip keyword (suc n) [] = refl
@@ -138,7 +138,7 @@ expanded-none keyword (b ∷ text) none = kept (keyword_len (b ∷ text)) (λ la
     kept None same later = ap (λ (xs : List ℕ). b ∷ xs) (same later)
     kept (Some n) same later = cc
 
--- one keyword on: what is done, the bytes before it and the keyword's new text, and what is behind it
+-- one keyword more: what is done, the bytes before it and the keyword's new text, and what follows it
 pub expanded-one_more : (keyword content done : List ℕ) (place start len : ℕ) → place ≤ length content → IsFirstKeyword (drop place content) start len
     → expanded keyword content ≡ done ++ expanded keyword (drop place content)
     → (place + (start + len) ≤ length content)

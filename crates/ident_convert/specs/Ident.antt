@@ -13,32 +13,32 @@ keyword_text name = codes "$Id: " ++ encode_lower name ++ codes " $"
 abbrev pub is_dollar : ℕ → Bool
 is_dollar b = b == dollar
 
--- the bytes but the first and the last
+-- the bytes without the first and the last
 abbrev pub inner : List ℕ → List ℕ
 inner bytes = take (length bytes - 2) (drop 1 bytes)
 
--- what may stand between `$Id:` and the next `$`: no LF, and no space but as the first and as the last byte
+-- what may be between `$Id:` and the next `$`: no LF, and a space only as the first or the last byte
 abbrev pub is_middle : List ℕ → Bool
 is_middle middle = not (list_any (λ b. b == line_feed) middle) && not (list_any (λ b. b == space) (inner middle))
 
--- how many bytes `$Id:`, a middle and a `$` take, where the next `$` stands there behind `$Id:`
+-- how many bytes `$Id:`, a middle and a `$` take, if the next `$` is at this place after `$Id:`
 abbrev pub expanded_len : Option ℕ → List ℕ → Option ℕ
 expanded_len None behind = None
 expanded_len (Some n) behind = if is_middle (take n behind) then Some (n + 5) else None
 
--- how many bytes the keyword takes with which a text begins
+-- how many bytes the keyword at the start of a text takes
 unfoldable pub keyword_len : List ℕ → Option ℕ
 keyword_len text =
     if starts_with nat_eq text (codes "$Id$") then Some 4
     else if starts_with nat_eq text (codes "$Id:") then expanded_len (position is_dollar (drop 4 text)) (drop 4 text)
     else None
 
--- a byte that is kept, or a keyword in place of n bytes, and what comes behind
+-- a byte that is kept, or a keyword in place of n bytes, and then what follows
 abbrev pub replaced : Option ℕ → List ℕ → ℕ → (ℕ → List ℕ) → List ℕ
 replaced None keyword b behind = b ∷ behind 0
 replaced (Some n) keyword b behind = keyword ++ behind (n - 1)
 
--- a text with its keywords expanded, behind `skip` bytes of a keyword
+-- a text with its keywords expanded, after `skip` bytes of a keyword
 abbrev pub expanded_behind : List ℕ → ℕ → List ℕ → List ℕ
 expanded_behind keyword skip [] = []
 expanded_behind keyword (suc skip) (b ∷ text) = expanded_behind keyword skip text
@@ -49,7 +49,7 @@ expanded_behind keyword zero (b ∷ text) =
 abbrev pub expanded : List ℕ → List ℕ → List ℕ
 expanded keyword text = expanded_behind keyword 0 text
 
--- whether a keyword stands in a text
+-- whether a text has a keyword
 abbrev pub has_keyword : List ℕ → Bool
 has_keyword [] = false
 has_keyword (b ∷ text) = is_some (keyword_len (b ∷ text)) || has_keyword text
@@ -62,7 +62,7 @@ pub record IsFirstKeyword (text : List ℕ) (start len : ℕ) : Type 0 where
   pub same : (keyword : List ℕ) → expanded keyword text ≡ take start text ++ (keyword
       ++ expanded keyword (drop (start + len) text))
 
--- a text begins with a keyword, and this is behind it: `$Id$`, or `$Id:`, a middle without `$` and `$`
+-- a text begins with a keyword, and this follows it: `$Id$`, or `$Id:`, a middle without `$` and `$`
 abbrev pub BeginsWithKeyword : List ℕ → List ℕ → Type 0
 BeginsWithKeyword text behind = (text ≡ codes "$Id$" ++ behind)
     ⊎ ((middle : List ℕ) × (text ≡ codes "$Id:" ++ (middle ++ dollar ∷ behind)) × (list_any is_dollar middle ≡ false) × (is_middle middle ≡ true))

@@ -4,10 +4,10 @@ ghost use Rattle.ident_convert.specs.Ident.{keyword_text, expanded, has_keyword}
 use crate::keyword::first_keyword;
 use std::alloc::{AllocError, Global};
 
-/// Whether a keyword stands in a content: `$Id$`, or `$Id:`, a middle without LF, with no space but as its first and as
-/// its last byte, and `$`.
+/// Whether a content has a keyword: `$Id$`, or `$Id:`, a middle and `$`. The middle has no LF, and a space only as its
+/// first or its last byte.
 ///
-/// Where none stands there, the content expands to itself, under whatever name. It takes no memory.
+/// A content without a keyword expands to itself, whatever the name. It takes no memory.
 pub fn has_keyword(content: &[u8]) -> bool
     ensures value { result ≡ has_keyword content.now }
     ensures unchanged { result ≡ false → (name : List ℕ) → expanded (keyword_text name) content.now ≡ content.now }
@@ -15,7 +15,7 @@ pub fn has_keyword(content: &[u8]) -> bool
     first_keyword(content).is_some()
 }
 
-/// What stands in place of a keyword: `$Id: `, the blob's name in lower case hex, ` $`.
+/// What takes the place of a keyword: `$Id: `, the blob's name in lower case hex, ` $`.
 fn keyword_text(alloc: Global, name: &[u8; 20]) -> Result<Vec<u8>, AllocError>
     ensures { IfOk result (λ text. text.items ≡ keyword_text name.now) }
 {
@@ -45,7 +45,7 @@ fn with_keyword(alloc: Global, content: &[u8], keyword: &[u8]) -> Result<Vec<u8>
     }
 }
 
-/// The content of the blob of that name with its keywords expanded, as gitattributes(5) says of `ident`.
+/// The content of the blob with this name, with its keywords expanded (gitattributes(5), "ident").
 ///
 /// A content without a keyword is copied.
 pub fn expand_ident(alloc: Global, content: &[u8], name: &[u8; 20]) -> Result<Vec<u8>, AllocError>

@@ -11,7 +11,7 @@ fn dollar_place(text: &[u8]) -> Option<usize>
     memchr(b'$', text)
 }
 
-/// The bytes but the first and the last.
+/// The bytes without the first and the last.
 fn inner(bytes: &[u8]) -> &[u8]
     ensures { result.now ≡ inner bytes.now }
 {
@@ -21,14 +21,14 @@ fn inner(bytes: &[u8]) -> &[u8]
     }
 }
 
-/// Whether these bytes may stand between `$Id:` and the next `$`.
+/// Whether these bytes may be between `$Id:` and the next `$`.
 fn is_middle(middle: &[u8]) -> bool
     ensures { result ≡ is_middle middle.now }
 {
     !middle.contains(&b'\n') && !inner(middle).contains(&b' ')
 }
 
-/// How many bytes the keyword takes with which a text begins: `$Id$`, or `$Id:`, a middle and `$`.
+/// How many bytes the keyword at the start of a text takes: `$Id$`, or `$Id:`, a middle and `$`.
 #[tactic(auto, unfolding(crate::specs::Ident::keyword_len))]
 fn keyword_len(text: &[u8]) -> Option<usize>
     ensures { result ≡ keyword_len text.now }
@@ -49,7 +49,7 @@ fn keyword_len(text: &[u8]) -> Option<usize>
     }
 }
 
-/// Where a keyword stands in a text, and how many bytes it takes.
+/// The place of a keyword in a text, and how many bytes it takes.
 #[derive(Clone, Copy)]
 pub struct Keyword {
     pub start: usize,

@@ -9,7 +9,7 @@ state_text Unset = codes "unset"
 state_text Unspecified = codes "unspecified"
 state_text (Value value) = value
 
--- a path as it is shown, a name and its state
+-- a path as it is shown, with a name and its state
 abbrev pub line : List ℕ → List ℕ → AttrState → List ℕ
 line shown name state = shown ++ codes ": " ++ name ++ codes ": " ++ state_text state ++ 10 ∷ []
 

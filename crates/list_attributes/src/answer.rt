@@ -35,7 +35,7 @@ fn push_line(
     Ok(())
 }
 
-/// A line for each name and its state, of a path that is quoted where it has to be.
+/// A line for each name with its state, for a path that is quoted if it needs quotes.
 pub fn push_answer(
     text: &mut Vec<u8>,
     alloc: Global,

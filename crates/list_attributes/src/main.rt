@@ -1,10 +1,10 @@
 //! Prints what `git check-attr` prints, for the attribute files and the paths on standard input.
 //!
-//! Each line of the input is one of these, and any other is passed over:
+//! Each line of the input is one of these, and any other is ignored:
 //!
 //! - `info`, `top` or `in FOLDER` begins `info/attributes` or the attribute file of a folder, in any order;
 //! - a TAB and a line of the file that was begun last;
-//! - `names` and the names to ask for, one space before each. The files are read here;
+//! - `names` and the names to ask for, with one space before each. The files are read here;
 //! - `of PATH` asks for the names' states;
 //! - `end` forgets the files and the names.
 #![tactic(auto)]

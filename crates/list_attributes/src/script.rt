@@ -16,7 +16,7 @@ struct Draft {
     text: Vec<u8>,
 }
 
-/// The files and the names that paths are asked of.
+/// The files and the names with which paths are asked for.
 #[derive(Drop)]
 struct Question {
     files: AttrFiles,

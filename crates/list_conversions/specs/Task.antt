@@ -23,8 +23,8 @@ ends_named kind =
     else if bytes_eq kind (codes "auto-crlf") then Some AutoCrlf
     else None
 
--- a kind by its word and what stands behind the content: `ident` has a name in hex there, and any other word is the name of an
--- encoding
+-- a kind by its word and what follows the content: after `ident` that is a name in hex, and any other word is the name
+-- of an encoding
 abbrev pub IsKind : List ℕ → List ℕ → Kind → Type 0
 IsKind word behind (Ends ends) = ends_named word ≡ Some ends
 IsKind word behind (Ident name) = (word ≡ codes "ident") × (decode_of behind ≡ Ok name)
@@ -37,13 +37,13 @@ read_bytes word = if bytes_eq word (codes "-") then Ok [] else decode_of word
 abbrev pub is_space : ℕ → Bool
 is_space b = b == 32
 
--- a line's task: the word of its kind, the content, and what the kind needs, with a space between each two
+-- a line's task: the word of its kind, the content, and what the kind needs, with one space between
 abbrev pub IsTask : List ℕ → Task → Type 0
 IsTask line task =
     IsKind (before_first is_space line) (after_first is_space (after_first is_space line)) task.kind
     × (read_bytes (before_first is_space (after_first is_space line)) ≡ Ok task.content.items)
 
--- a content as the worktree has it
+-- a content as it stands in the worktree
 abbrev pub converted : Kind → List ℕ → List ℕ
 converted (Ends ends) content = to_tree_ends content ends
 converted (Ident name) content = expanded (keyword_text name) content

@@ -3,7 +3,7 @@ ghost use Rattle.list_conversions.specs.Task.{answer};
 
 use std::alloc::{AllocError, Global};
 
-/// A line with bytes in hex, or `-` where there are none.
+/// A line with bytes in hex, or `-` if there are none.
 pub fn push_answer(alloc: Global, answers: &mut Vec<u8>, bytes: &[u8]) -> Result<(), AllocError>
     ensures { OnOk result (answers.new.items ≡ answers.old.items ++ answer bytes.now) }
 {

@@ -1,8 +1,8 @@
 //! Prints what a checkout makes of contents.
 //!
-//! Each line of standard input is a kind of conversion and a content in hex, and behind it what else the kind needs, with
-//! one space between: `crlf CONTENT`, `auto-crlf CONTENT`, `ident CONTENT NAME`, and `UTF-16LE CONTENT` or another encoding by
-//! its name. Its answer is a line with the new content in hex. `-` stands for no bytes.
+//! Each line of standard input is a kind of conversion, a content in hex, and then what else the kind needs, with one
+//! space between: `crlf CONTENT`, `auto-crlf CONTENT`, `ident CONTENT NAME`, and `UTF-16LE CONTENT` or another encoding
+//! by its name. Its answer is a line with the new content in hex. `-` stands for no bytes.
 #![tactic(auto)]
 
 mod answer;

@@ -51,7 +51,7 @@ fn read_name(word: &[u8]) -> Result<[u8; 20], anyhow::Error>
     <[u8; 20] as FromHex>::from_hex(word).context("the name")
 }
 
-/// The encoding of that name.
+/// The encoding with this name.
 fn encoding_named(alloc: Global, name: &[u8]) -> Result<Encoding, anyhow::Error>
     ensures { IfOk result (λ encoding. encoding_of (AttrState.Value name.now) ≡ Ok (Some encoding)) }
 {
@@ -62,7 +62,7 @@ fn encoding_named(alloc: Global, name: &[u8]) -> Result<Encoding, anyhow::Error>
     }
 }
 
-/// The kind of that name, with what stands behind the content.
+/// The kind with this name, and what follows the content.
 fn read_kind(alloc: Global, kind: &[u8], behind: &[u8]) -> Result<Kind, anyhow::Error>
     ensures { IfOk result (IsKind kind.now behind.now) }
 {
@@ -97,7 +97,7 @@ impl ByteKind for Space {
     }
 }
 
-/// What stands before the first space, and what behind it.
+/// What comes before the first space, and what comes after it.
 fn cut_word(line: &[u8]) -> (&[u8], &[u8])
     ensures before { result.0.now ≡ before_first is_space line.now }
     ensures behind { result.1.now ≡ after_first is_space line.now }
@@ -122,7 +122,7 @@ pub fn read_task(alloc: Global, line: &[u8]) -> Result<Task, anyhow::Error>
     Ok(Task { kind, content })
 }
 
-/// The content as the worktree has it.
+/// The content as it stands in the worktree.
 pub fn convert(alloc: Global, task: &Task) -> Result<Vec<u8>, AllocError>
     ensures { IfOk result (λ bytes. bytes.items ≡ converted task.now.kind task.now.content.items) }
 {

@@ -13,6 +13,6 @@ octal Executable = codes "100755"
 octal Link = codes "120000"
 octal Gitlink = codes "160000"
 
--- the mode, the object's name, the stage, and behind a tab the path, quoted where it has to be
+-- the mode, the object's name, the stage, and after a tab the path, quoted if it needs quotes
 abbrev pub line : Entry → List ℕ
 line e = octal e.mode ++ 32 ∷ encode_lower e.name ++ 32 ∷ (48 + e.stage % 10) ∷ 9 ∷ quoted e.path ++ 10 ∷ []

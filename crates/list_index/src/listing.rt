@@ -31,7 +31,7 @@ fn push_line(text: &mut Vec<u8>, alloc: Global, entry: &Entry) -> Result<(), All
     Ok(())
 }
 
-/// A line for each entry, with its path quoted where git quotes it.
+/// A line for each entry, with its path quoted if git quotes it.
 pub fn listing_of(alloc: Global, entries: &[Entry]) -> Result<Vec<u8>, AllocError>
     ensures { IfOk result (λ text. text.items ≡ flat_map line entries.now) }
 {

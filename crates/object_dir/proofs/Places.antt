@@ -12,7 +12,7 @@ use Rattle.object_dir.specs.Object.{is_nul, has_header, size_text, content_of, s
 drop-from_end : (xs : List ℕ) (k : ℕ) → k ≤ length xs → drop (length xs - length (drop k xs)) xs ≡ drop k xs
 drop-from_end xs k le = let same : length xs - length (drop k xs) ≡ k = omega (arith, length-drop k xs) in ap (λ (n : ℕ). drop n xs) same
 
--- the NUL stands behind `blob `
+-- there is a NUL after `blob `
 nul-within : (stored : List ℕ) → has_header stored ≡ true → position_or_len is_nul (drop 5 stored) < length (drop 5 stored)
 nul-within stored header = grind (arith, common_steps)
 

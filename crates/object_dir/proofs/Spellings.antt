@@ -20,7 +20,7 @@ use Rattle.object_dir.specs.Object.{is_nul, max_stored, has_header, size_text, c
 use Rattle.object_dir.specs.Spelling.{spelled_blob}
 use Rattle.object_dir.specs.declared.fault.ObjectFault.TheVariants.{TooLarge, Header, Size, WrongName}
 
--- digits and their number, in the words of std's lemmas
+-- digits and their number, as std's lemmas state them
 digits_own : IsNumeralModel (λ ds. list_all is_ascii_digit ds ≡ true) (digits_value 10)
 digits_own = numerals_by_value _ (search rules)
 
@@ -31,7 +31,7 @@ behind size content = size ++ 0 ∷ content
 stored_as : List ℕ → List ℕ → List ℕ
 stored_as size content = codes "blob " ++ behind size content
 
--- the NUL is the first behind the digits
+-- the NUL is the first after the digits
 nul_behind : OneDecimal → (size content : List ℕ) → is_decimal size ≡ true → position_or_len is_nul (behind size content) ≡ length size
 nul_behind law size content right =
     position_or_len_is is_nul (behind size content) (length size) 0
@@ -131,7 +131,7 @@ record IsSplit (stored : List ℕ) : Type 0 where
 split_of : (stored : List ℕ) → has_header stored ≡ true → IsSplit stored
 split_of stored header = record { front = grind (arith, common_steps); nul = grind (arith, common_steps); size = grind (arith, common_steps) }
 
--- the bytes behind `blob ` are the size, a NUL and the content
+-- the bytes after `blob ` are the size, a NUL and the content
 behind-is : (rest : List ℕ) → position_or_len is_nul rest < length rest → rest ≡ before_first is_nul rest ++ 0 ∷ after_first is_nul rest
 behind-is rest nul =
     let zero_there : get_or rest (position_or_len is_nul rest) 0 ≡ 0 = eqb_is (get_or rest (position_or_len is_nul rest) 0) (passes_at_first is_nul rest 0 nul) in

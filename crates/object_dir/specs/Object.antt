@@ -1,4 +1,4 @@
--- What an object's stored bytes hold.
+-- What an object's stored bytes contain.
 use Rattle.std.specs.Prelude.{◌≡◌, ℕ, Bool, ◌&&◌, ◌==◌, not, nat_lt, if◌then◌else◌}
 use Rattle.std.specs.Prelude.{List, length, take, drop, codes, position, Option, Some, None, is_some, Result, Ok, Err}
 use Rattle.std.specs.Global.{Vec}
@@ -22,7 +22,7 @@ max_stored = 67108878
 abbrev pub is_nul : ℕ → Bool
 is_nul b = b == 0
 
--- the text of the size and the content stand round the first NUL behind `blob `
+-- the text of the size and the content are on the two sides of the first NUL after `blob `
 abbrev pub size_text : List ℕ → List ℕ
 size_text stored = before_first is_nul (drop 5 stored)
 
@@ -43,12 +43,12 @@ stored_content stored name =
     else if not (bytes_eq (sha1 stored) name) then Err (WrongName (sha1 stored))
     else Ok (content_of stored)
 
--- the same within the limit
+-- the same, within the limit
 abbrev pub object_of : List ℕ → List ℕ → Result (List ℕ) ObjectFault
 object_of stored name =
     if nat_lt max_stored (length stored) then Err TooLarge else stored_content stored name
 
--- the same by what a blob gave within the limit
+-- the same, from what a blob gave within the limit
 abbrev pub object_in : Result (Option (Vec ℕ)) TakeFault → List ℕ → Result (List ℕ) ObjectFault
 object_in (Ok (Some stored)) name = stored_content stored.items name
 object_in (Ok None) name = Err Absent
@@ -60,7 +60,7 @@ object_in (Err take.NoMemory) name = Err NoMemory
 abbrev pub Gives : Told → List ℕ → Result (List ℕ) ObjectFault → Type 0
 Gives told name answer = (stored : List ℕ) × TellsBytes told stored × (object_of stored name ≡ answer)
 
--- the content of the object of that name, or the first fault that applies, by what is told
+-- the content of the object with this name, or the first fault that applies, by what is told
 abbrev pub IsObject : Told → List ℕ → Result (Vec ℕ) ObjectFault → Type 0
 IsObject told name (Ok content) = Gives told name (Ok content.items)
 IsObject told name (Err ReadFailed) = MayFail told
@@ -71,7 +71,7 @@ IsObject told name (Err Size) = Gives told name (Err Size)
 IsObject told name (Err (WrongName found)) = Gives told name (Err (WrongName found))
 IsObject told name (Err NoMemory) = Unit {0}
 
--- the count of faults after a reading: it rose where that failed, and is as before otherwise
+-- the count of faults after a reading: it rose if the reading failed, and is as before otherwise
 abbrev pub AfterRead : {T : Type 0} → ℕ → ℕ → Result T ObjectFault → Type 0
 AfterRead before after (Err ReadFailed) = Rose before after
 AfterRead before after answer = after ≡ before

@@ -5,7 +5,7 @@ ghost use Rattle.object_dir.specs.Spelling.{spelled_blob};
 
 use byte_path::one_decimal;
 
-/// The law that a content within the limit is what its stored bytes give under its name. It does nothing.
+/// The law that the stored bytes of a content within the limit give that content under their name. It does nothing.
 pub fn spelling_gives_its_content(content: &[u8])
     requires { length content.now ≤ 67108864 }
     ensures { let stored = spelled_blob content.now in
@@ -14,7 +14,7 @@ pub fn spelling_gives_its_content(content: &[u8])
     one_decimal();
 }
 
-/// The law that stored bytes give a content only where they are its spelling and have the name. It does nothing.
+/// The law that stored bytes give a content only if they are its spelling and have the name. It does nothing.
 pub fn content_has_one_spelling(stored: &[u8], name: &[u8; 20])
     ensures { (content : List ℕ) → object_of stored.now name.now ≡ Ok content →
         (stored.now ≡ spelled_blob content) × (sha1 stored.now ≡ name.now) }

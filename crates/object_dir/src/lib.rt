@@ -1,7 +1,8 @@
-//! Objects of a repository: what a blob's stored bytes are, how a content is stored, under which name and where.
+//! The objects of a repository: what a blob's stored bytes hold, and how a content is stored, under which name and in
+//! which file.
 //!
-//! An object is stored as `blob`, a space, the decimal size, a NUL and the content, uncompressed, and its name is the
-//! SHA-1 of all of that.
+//! An object is stored as `blob`, a space, the decimal size, a NUL and the content, uncompressed. Its name is the SHA-1
+//! of all these bytes.
 #![tactic(auto)]
 
 mod fault;

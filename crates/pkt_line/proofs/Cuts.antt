@@ -1,4 +1,4 @@
--- Whatever way the input is cut, a reader gives the packets that the bytes spell.
+-- However the input is cut, a reader gives the packets that the bytes spell.
 use Rattle.std.proofs.Common.{◌≡◌, ℕ, ◌+◌, ◌-◌, ◌^◌, min, List, [], ◌∷◌, ◌++◌, length, take, drop, refl, sym, ap, ◌∙◌}
 use Rattle.std.proofs.Common.{append_assoc, arith}
 use Rattle.std.proofs.lemmas.List.{length-append, append-nil, take-append-drop}
@@ -6,7 +6,7 @@ use Rattle.pkt_line.specs.Packets.{Packet, Spells, SpellAll, Stands, size}
 use Rattle.pkt_line.specs.Reading.{Reading, Move, Took, Gave, MovesAll, IsRead, bytes_taken, packets_given, with_bytes}
 use Rattle.pkt_line.specs.Reading.{without}
 
--- one more packet behind others
+-- one more packet after others
 pub spell_more : (ps : List Packet) (p : Packet) (a b : List ℕ) → SpellAll ps a → Spells p b
     → SpellAll (ps ++ p ∷ []) (a ++ b)
 spell_more [] p a b s t = (b, [], t, refl, ap (λ (z : List ℕ). z ++ b) s ∙ sym (append-nil b))

@@ -37,7 +37,7 @@ four a b c d (Some x) (Some y) None None = refl
 four a b c d (Some x) (Some y) None (Some w) = refl
 four a b c d (Some x) (Some y) (Some z) None = refl
 
--- four bytes decode to the bytes of the number that they give, and fail to where they give none
+-- four bytes decode to the bytes of the number that they give, and fail to decode if they give none
 pub number_of-decode : (text : List ℕ) → length text ≡ 4 → IsNumber (decode_pairs 0 text) (number_at text)
 unfolding number_at decode_pairs
 number_of-decode [] e = absurd (omega arith)
@@ -88,7 +88,7 @@ bytes_fit n zero = omega arith
 bytes_fit n (suc zero) = omega arith
 bytes_fit n (suc (suc i)) = omega arith
 
--- the digits written of a number give it
+-- the digits that are written for a number give the number
 pub number_at-digits : (n : ℕ) → n < 65536 → number_at (four_digits n) ≡ Some n
 number_at-digits n small =
     let bytes = to_be_bytes w16 n in

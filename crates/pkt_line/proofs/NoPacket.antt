@@ -1,4 +1,4 @@
--- Where no packet stands at the front, and that bytes are read in one way.
+-- Bytes with no packet at their front, and that bytes can be read in one way only.
 use Rattle.std.proofs.Common.{◌≡◌, inl, inr, ℕ, ◌+◌, ◌≤◌, List, [], ◌∷◌, ◌++◌, length, take, drop, Option, Some, Result}
 use Rattle.std.proofs.Common.{Ok, Err, refl, sym, ap, subst, ◌∙◌, append_assoc, arith}
 use Rattle.std.proofs.lemmas.List.{length-append, take-append-drop}
@@ -68,7 +68,7 @@ same_fronts : (p q : Packet) (h k r s x y : List ℕ) → Spells p h → Spells 
 same_fronts p q h k r s x y a b e =
     prefix_free p q h k (r ++ x) (s ++ y) a b (sym (append_assoc h r x) ∙ (e ∙ append_assoc k s y))
 
--- what follows packets, where they are spelled out
+-- what follows packets, with the packets spelled out
 spelled_apart : (a b x y h r k s : List ℕ) → a ≡ h ++ r → b ≡ k ++ s → a ++ x ≡ b ++ y → (h ++ r) ++ x ≡ (k ++ s) ++ y
 spelled_apart a b x y h r k s ea eb e = sym (ap (λ (z : List ℕ). z ++ x) ea) ∙ (e ∙ ap (λ (z : List ℕ). z ++ y) eb)
 
@@ -188,7 +188,7 @@ fault_kept f r s (Took piece ∷ moves) h m =
     fault_kept f m.0 s moves (subst (IsFaultOf f) (sym m.1) (fault_stays f r piece h)) m.2
 fault_kept f r s (Gave p ∷ moves) h m = absurd (no_fault p f r m.1.0 h)
 
--- a packet at the front, by the bytes that it takes
+-- a packet at the front takes no more bytes than there are
 pub packet_within : (count : ℕ) (bytes : List ℕ) → HasPacketOf count bytes → count ≤ length bytes
 packet_within count bytes h = let s = (shows_here h.0 bytes h.1).long in let n = h.2 in omega arith
 

@@ -5,12 +5,12 @@ use Rattle.std.proofs.lemmas.List.{length-drop, length-take, take_min, drop_min}
 use Rattle.pkt_line.specs.Packets.{Payload}
 use Rattle.pkt_line.specs.Spelling.{four_digits, spelling_all, content_packets, piece_count}
 
--- part of the content is written, and there is room for the rest
+-- a part of the content is written, and there is room for the rest
 pub record IsUnderway (old content out rest : List ℕ) (len capacity : ℕ) : Type 0 where
   pub items : out ++ spelling_all (content_packets rest) ≡ old ++ spelling_all (content_packets content)
   pub room : len + (length rest + 4 * piece_count (length rest)) ≤ capacity
 
--- one piece is fewer
+-- without one piece there is one piece fewer
 pub piece_count-drop : (n : ℕ) → 1 ≤ n → piece_count n ≡ suc (piece_count (n - 65516))
 piece_count-drop n some = omega arith
 

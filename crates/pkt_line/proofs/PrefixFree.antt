@@ -12,7 +12,7 @@ pub at_least : (p : Packet) → 4 ≤ size p
 at_least (Payload bytes) = omega arith
 at_least Flush = omega arith
 
--- a length tells how many bytes a packet takes
+-- a length says how many bytes a packet takes
 size_of : (p q : Packet) → pkt_len p ≡ pkt_len q → size p ≡ size q
 size_of (Payload a) (Payload b) e = e
 size_of (Payload a) Flush e = absurd (omega arith)

@@ -1,4 +1,4 @@
--- Packets and the bytes that spell them, as gitprotocol-common(5) has them under "pkt-line Format".
+-- Packets and the bytes that spell them, as gitprotocol-common(5) defines them under "pkt-line Format".
 use Rattle.std.specs.Prelude.{◌≡◌, ℕ, ◌+◌, ◌*◌, ◌<◌, ◌≤◌, ◌⊎◌, Option, Some, None, List, [], ◌∷◌, ◌++◌, length, take}
 use Rattle.std.specs.Prelude.{drop, slice_index}
 use Rattle.hex.specs.Hex.{hex_digit_value}
@@ -7,7 +7,7 @@ pub data Packet : Type 0 where
   Payload : List ℕ → Packet
   Flush : Packet
 
--- the number that the four digits give: the whole length of a packet with a payload, and 0 of a flush packet
+-- the number that the four digits give: the whole length of a packet with a payload, and 0 for a flush packet
 abbrev pub pkt_len : Packet → ℕ
 pkt_len (Payload bytes) = 4 + length bytes
 pkt_len Flush = 0
@@ -21,7 +21,7 @@ abbrev pub payload_of : Packet → List ℕ
 payload_of (Payload bytes) = bytes
 payload_of Flush = []
 
--- one more digit behind a number, where both are there
+-- one more digit after a number, if both are there
 abbrev pub with_digit : Option ℕ → Option ℕ → Option ℕ
 with_digit (Some number) (Some digit) = Some (number * 16 + digit)
 with_digit None digit = None
@@ -57,7 +57,7 @@ total (p ∷ ps) = size p + total ps
 abbrev pub Stands : Packet → List ℕ → Type 0
 Stands p bytes = Spells p (take (size p) bytes)
 
--- a packet of so many bytes stands at the front
+-- a packet of this many bytes is at the front
 abbrev pub HasPacketOf : ℕ → List ℕ → Type 0
 HasPacketOf count bytes = (p : Packet) × Stands p bytes × (count ≡ size p)
 
@@ -65,27 +65,27 @@ HasPacketOf count bytes = (p : Packet) × Stands p bytes × (count ≡ size p)
 abbrev pub IsBadLength : ℕ → Type 0
 IsBadLength n = ((0 < n) × (n < 4)) ⊎ (65520 < n)
 
--- four bytes stand at the front, and one of them is no digit
+-- there are four bytes at the front, and one of them is no digit
 abbrev pub HasBadDigits : List ℕ → Type 0
 HasBadDigits bytes = (4 ≤ length bytes) × (number_at bytes ≡ None)
 
--- four digits stand at the front, which give this length, and no packet has it
+-- there are four digits at the front, which give this length, and no packet has it
 abbrev pub HasBadLength : List ℕ → ℕ → Type 0
 HasBadLength bytes n = (4 ≤ length bytes) × (number_at bytes ≡ Some n) × IsBadLength n
 
--- so many bytes are fewer than this length, which a packet has
+-- this many bytes are fewer than this length, which a packet has
 abbrev pub IsShortOf : Option ℕ → ℕ → Type 0
 IsShortOf None count = ⊥
 IsShortOf (Some n) count = (4 ≤ n) × (n ≤ 65520) × (count < n)
 
--- the bytes end inside a packet, or are none
+-- the bytes end inside a packet, or there are none
 abbrev pub IsPartial : List ℕ → Type 0
 IsPartial bytes = (length bytes < 4) ⊎ IsShortOf (number_at bytes) (length bytes)
 
--- the front begins no packet, whatever follows
+-- no packet begins at the front, whatever follows
 abbrev pub HasFault : List ℕ → Type 0
 HasFault bytes = HasBadDigits bytes ⊎ ((n : ℕ) × HasBadLength bytes n)
 
--- no packet stands at the front
+-- no packet is at the front
 abbrev pub HasNoPacket : List ℕ → Type 0
 HasNoPacket bytes = IsPartial bytes ⊎ HasFault bytes

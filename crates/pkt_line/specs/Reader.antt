@@ -1,4 +1,4 @@
--- What a reader answers.
+-- What a reader returns.
 use Rattle.std.specs.Prelude.{◌≡◌, ◌≤◌, ℕ, List, length, Some, Result, Ok, Err}
 use Rattle.pkt_line.specs.Packets.{Packet, Payload, Flush, Stands, IsPartial, HasBadDigits, HasBadLength, number_at}
 use Rattle.pkt_line.specs.Packets.{size}
@@ -10,18 +10,18 @@ use Rattle.pkt_line.specs.declared.reader.PktFault.TheVariants as fault
 use Rattle.pkt_line.specs.declared.reader.Front.{Front}
 use Rattle.pkt_line.specs.declared.reader.Front.TheVariants as front
 
--- what stands at the front of the bytes
+-- what is at the front of the bytes
 abbrev pub Lends : Next → List ℕ → Type 0
 Lends (next.Payload piece) bytes = Stands (Payload piece.now) bytes
 Lends next.Flush bytes = Stands Flush bytes
 Lends next.NeedMore bytes = IsPartial bytes
 
--- four bytes that begin no packet, and where they stand
+-- four bytes that begin no packet, and their place
 abbrev pub IsFaultOf : PktFault → Reading → Type 0
 IsFaultOf (fault.BadDigits place) r = HasBadDigits r.unread × (place ≡ r.place)
 IsFaultOf (fault.BadLength place n) r = HasBadLength r.unread n × (place ≡ r.place)
 
--- what stands at the front of the unread bytes, or why no packet will
+-- what is at the front of the unread bytes, or why no packet ever will be
 abbrev pub Peeks : Result Next PktFault → Reading → Type 0
 Peeks (Ok n) r = Lends n r.unread
 Peeks (Err fault) r = IsFaultOf fault r
@@ -38,7 +38,7 @@ answer_of (Ok next.Flush) = Gives Flush
 answer_of (Ok next.NeedMore) = Wants
 answer_of (Err fault) = Refuses fault
 
--- how many bytes leave the reader with what it lends
+-- how many bytes leave the reader with the packet that it lends
 abbrev pub lent_size : Next → ℕ
 lent_size (next.Payload piece) = size (Payload piece.now)
 lent_size next.Flush = size Flush
@@ -48,7 +48,7 @@ abbrev pub size_taken : Result Next PktFault → ℕ
 size_taken (Ok n) = lent_size n
 size_taken (Err fault) = 0
 
--- the same, with a payload by the size of its packet
+-- the same, but a payload is given by the size of its packet
 abbrev pub IsFront : Front → List ℕ → Type 0
 IsFront (front.Payload n) bytes = (number_at bytes ≡ Some n) × (4 ≤ n) × (n ≤ 65520) × (n ≤ length bytes)
 IsFront front.Flush bytes = Stands Flush bytes

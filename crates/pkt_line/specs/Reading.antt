@@ -1,4 +1,4 @@
--- A reader of packets, as its callers see it, and whole runs of one.
+-- A reader of packets as its callers see it, and whole runs of one.
 use Rattle.std.specs.Prelude.{◌≡◌, ℕ, ◌+◌, ◌-◌, ◌^◌, List, [], ◌∷◌, ◌++◌, length, drop, min}
 use Rattle.pkt_line.specs.Packets.{Packet, Stands, SpellAll, size}
 
@@ -6,11 +6,11 @@ pub record Reading : Type 0 where
   pub unread : List ℕ  -- the bytes that it took and hasn't given
   pub place : ℕ  -- how many bytes it has given, counted up to 2^64 - 1
 
--- it took these bytes
+-- the reader took these bytes
 abbrev pub with_bytes : List ℕ → Reading → Reading
 with_bytes piece r = record { unread = r.unread ++ piece; place = r.place }
 
--- so many bytes are given
+-- the reader gave this many bytes
 abbrev pub without : ℕ → Reading → Reading
 without count r = record { unread = drop count r.unread; place = min (r.place + count) (2 ^ 64 - 1) }
 

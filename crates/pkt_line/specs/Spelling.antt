@@ -15,12 +15,12 @@ abbrev pub spelling_all : List Packet → List ℕ
 spelling_all [] = []
 spelling_all (p ∷ ps) = spelling p ++ spelling_all ps
 
--- a text cut into this many pieces of 65,516 bytes, of which the last has what is left
+-- a text cut into this many pieces of 65,516 bytes, of which the last has the rest
 abbrev pub pieces_of : ℕ → List ℕ → List (List ℕ)
 pieces_of zero content = []
 pieces_of (suc count) content = take 65516 content ∷ pieces_of count (drop 65516 content)
 
--- how many such pieces it takes: none for no bytes
+-- how many such pieces a text takes: none if it has no bytes
 abbrev pub piece_count : ℕ → ℕ
 piece_count len = (len + 65515) / 65516
 

@@ -6,21 +6,21 @@ ghost use Rattle.pkt_line.specs.Reader.{Peeks, IsFaultOf, answer_of};
 ghost use Rattle.pkt_line.specs.declared.reader.PktFault.{PktFault};
 ghost use Rattle.pkt_line.specs.declared.reader.Next.{Next};
 
-/// No packet's spelling is a proper prefix of another's: what stands at the front of bytes is one packet.
+/// No packet's spelling is a proper prefix of another's: at most one packet is at the front of bytes.
 pub fn prefix_free()
     ensures { (p q : Packet) (a b x y : List ℕ) → Spells p a → Spells q b → a ++ x ≡ b ++ y
         → (p ≡ q) × (a ≡ b) × (x ≡ y) }
 {}
 
-/// The same bytes are the same packets, and then bytes at whose front no packet stands.
+/// The same bytes give the same packets, up to bytes with no packet at their front.
 pub fn one_reading()
     ensures { (ps qs : List Packet) (a b x y : List ℕ) → SpellAll ps a → SpellAll qs b
         → a ++ x ≡ b ++ y → HasNoPacket x → HasNoPacket y
         → (ps ≡ qs) × (a ≡ b) × (x ≡ y) }
 {}
 
-/// Where a packet stands at the front, whatever follows it, none of the ways for none to stand there holds. A fault
-/// stays one whatever follows, and is no beginning of a packet.
+/// If a packet is at the front, whatever follows it, none of the reasons for having no packet there holds. A fault
+/// stays a fault whatever follows, and it isn't the beginning of a packet.
 pub fn no_packet()
     ensures apart { (p : Packet) (head rest : List ℕ) → Spells p head → HasNoPacket (head ++ rest)
         → ⊥ }
@@ -28,21 +28,20 @@ pub fn no_packet()
     ensures part { (bytes : List ℕ) → IsPartial bytes → HasFault bytes → ⊥ }
 {}
 
-/// For every way of cutting the input, the packets that a reader gave so far are those whose spelling is the bytes read
-/// so far.
+/// However the input is cut, the packets that a reader gave so far are those whose spelling is the bytes read so far.
 pub fn given_so_far()
     ensures { (moves : List Move) (left : Reading)
         → MovesAll (record { unread = []; place = 0 }) moves left
         → IsRead (bytes_taken moves) (packets_given moves) left }
 {}
 
-/// What `next` and `peek` answer is decided by what the reader holds.
+/// What the reader holds decides what `next` and `peek` return.
 pub fn one_answer()
     ensures { (a b : Result Next PktFault) (r : Reading) → Peeks a r → Peeks b r
         → answer_of a ≡ answer_of b }
 {}
 
-/// A fault is for good: it stays whatever bytes follow and whatever is called.
+/// A fault is permanent: it stays whatever bytes follow and whatever is called.
 pub fn fault_stays()
     ensures fed { (fault : PktFault) (r : Reading) (more : List ℕ) → IsFaultOf fault r
         → IsFaultOf fault (with_bytes more r) }
@@ -50,7 +49,7 @@ pub fn fault_stays()
         → MovesAll r moves s → IsFaultOf fault s }
 {}
 
-/// What the writers append spells its packet.
+/// What the writers append is the spelling of their packet.
 pub fn spells()
     ensures { (p : Packet) → pkt_len p ≤ 65520 → Spells p (spelling p) }
 {}

@@ -3,7 +3,7 @@ ghost use Rattle.std.specs.Prelude.{◌≡◌, ◌≤◌, ◌<◌, ◌^◌, leng
 ghost use Rattle.pkt_line.specs.Packets.{number_at};
 ghost use Rattle.pkt_line.specs.Spelling.{four_digits};
 
-/// The most bytes that a packet takes, its four digits among them.
+/// The most bytes that a packet takes, its four digits included.
 pub(crate) const MOST_SIZE: usize = 65_520;
 
 /// The most bytes of a payload.
@@ -12,7 +12,7 @@ pub(crate) const MOST_PAYLOAD: usize = 65_516;
 /// The digits in front of a packet.
 pub(crate) const DIGITS: usize = 4;
 
-/// The number that the first four bytes give, where each of them is a hexadecimal digit.
+/// The number that the first four bytes give, if each of them is a hexadecimal digit.
 pub(crate) fn number_of(bytes: &[u8]) -> Option<u16>
     requires { 4 ≤ length bytes.now }
     ensures { result ≡ number_at bytes.now }

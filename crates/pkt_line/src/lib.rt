@@ -1,5 +1,5 @@
-//! Packets of Git's protocols, gitprotocol-common(5) under "pkt-line Format": a reader that takes bytes in whatever
-//! pieces they come, and writers.
+//! Packets of Git's protocols, gitprotocol-common(5) under "pkt-line Format": a reader, which takes the bytes in pieces
+//! of any length, and writers.
 #![tactic(auto)]
 
 mod laws;

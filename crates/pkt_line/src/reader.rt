@@ -11,10 +11,10 @@ use crate::length::{DIGITS, MOST_SIZE, number_of};
 use std::alloc::{AllocError, Global};
 use std::marker::Model;
 
-/// What stands at the front of the bytes that aren't read yet.
+/// What is at the front of the unread bytes.
 #[derive(Clone, Copy, Debug, PartialEq, Eq)]
 pub enum Next<'a> {
-    /// A packet with this payload, of 0 to 65,516 bytes. The slice is of the reader's own buffer.
+    /// A packet with this payload, of 0 to 65,516 bytes. The slice borrows the reader's own buffer.
     Payload(&'a [u8]),
     /// A flush packet, `0000`.
     Flush,
@@ -22,7 +22,7 @@ pub enum Next<'a> {
     NeedMore,
 }
 
-/// Why no packet stands at the front, and none will. `place` counts the bytes before it.
+/// Why no packet is at the front, and none ever will be. `place` counts the bytes before it.
 #[derive(Clone, Copy, Debug, PartialEq, Eq)]
 pub enum PktFault {
     /// One of the four bytes is no hexadecimal digit.
@@ -31,7 +31,7 @@ pub enum PktFault {
     BadLength { place: u64, length: u32 },
 }
 
-/// A reader of packets, gitprotocol-common(5) under "pkt-line Format", that takes bytes in whatever pieces they come.
+/// A reader of packets (gitprotocol-common(5), "pkt-line Format"). It takes the bytes in pieces of any length.
 ///
 /// Contracts see the bytes that it took and hasn't given, and how many it has given. It has one buffer, with room for
 /// the longest packet.
@@ -66,7 +66,7 @@ impl PktReader {
         })
     }
 
-    /// What stands at the front of the bytes not yet read. It changes nothing.
+    /// What is at the front of the unread bytes. It changes nothing.
     pub fn peek(&self) -> Result<Next<'_>, PktFault>
         ensures { Peeks result self.now }
     {
@@ -77,8 +77,8 @@ impl PktReader {
         }
     }
 
-    /// The next packet, which leaves the reader. Where there is none, the reader stays as it is, so after a fault the
-    /// answer is the same fault for good.
+    /// The next packet, which leaves the reader. If there is none, the reader doesn't change, so after a fault every
+    /// call returns the same fault.
     pub fn next(&mut self) -> Result<Next<'_>, PktFault>
         ensures* rest { sem 𝓛
             (follows_so the_row the_row self.entry.ghost_name maybe.none (λ _ _. ⊤)
@@ -121,15 +121,15 @@ impl PktReader {
         unread
     }
 
-    /// How many more bytes it can take.
+    /// How many more bytes the reader can take.
     pub fn room(&self) -> usize
         ensures { result + length self.now.unread ≡ 65520 }
     {
         MOST_SIZE - (self.bytes.len() - self.start)
     }
 
-    /// Takes the longest prefix of `piece` that there is room for, and answers its length. The room is 65,520 bytes
-    /// less those not yet read.
+    /// Takes the longest prefix of `piece` that there is room for, and returns its length. The room is 65,520 bytes
+    /// minus the unread ones.
     pub fn feed(&mut self, piece: &[u8]) -> usize
         ensures count { result ≡ min (length piece.now) (65520 - length self.old.unread) }
         ensures taken { self.new ≡ with_bytes (take result piece.now) self.old }
@@ -140,8 +140,8 @@ impl PktReader {
         front.len()
     }
 
-    /// Takes the bytes, for which there is room. The bytes not yet read move to the front of the buffer only where
-    /// there is too little behind them.
+    /// Takes the bytes, for which there is room. The unread bytes move to the front of the buffer only if there is too
+    /// little room after them.
     fn append(&mut self, piece: &[u8])
         requires { length self.old.unread + length piece.now ≤ 65520 }
         ensures { self.new ≡ with_bytes piece.now self.old }
@@ -155,7 +155,7 @@ impl PktReader {
     }
 }
 
-/// What stands at the front, with a payload by the size of its packet.
+/// What is at the front. A payload is given by the size of its packet.
 #[derive(Clone, Copy)]
 enum Front {
     Payload(usize),
@@ -176,7 +176,7 @@ impl Front {
     }
 }
 
-/// What stands at the front of the bytes, before which `place` bytes stood.
+/// What is at the front of the unread bytes, after `place` bytes.
 fn front_of(unread: &[u8], place: u64) -> Result<Front, PktFault>
     ensures fronts { Fronts result (record { unread = unread.now; place = place }) }
     ensures within { IfOk result (λ f. front_size f ≤ length unread.now) }

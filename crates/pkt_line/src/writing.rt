@@ -7,8 +7,8 @@ use std::alloc::{AllocError, Global};
 
 /// Appends one packet with this payload, of 1 to 65,516 bytes.
 ///
-/// This call and the three below append spellings with lower case digits, and leave `out` as it was after an error,
-/// which is want of memory alone.
+/// This call and the three below append spellings with lower case digits. Their only error is out of memory, and then
+/// `out` is as it was.
 pub fn push_payload(_alloc: Global, out: &mut Vec<u8>, payload: &[u8]) -> Result<(), AllocError>
     requires some { 1 ≤ length payload.now }
     requires few { length payload.now ≤ 65516 }

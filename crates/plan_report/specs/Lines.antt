@@ -46,7 +46,7 @@ abbrev pub name_of : Option Driver → List ℕ
 name_of None = []
 name_of (Some d) = d.name
 
--- the name of the driver at that place
+-- the name of the driver at this place
 abbrev pub driver_name : List Driver → ℕ → List ℕ
 driver_name drivers place = name_of (slice_get drivers place)
 
@@ -60,8 +60,8 @@ driver_word drivers (start.Done v) = codes "-"
 abbrev pub conversion_words : Conversion → List ℕ
 conversion_words c = ends_word c.ends ++ 32 ∷ ident_word c.ident ++ 32 ∷ encoding_word c.encoding
 
--- the columns before the driver: state, mark, the three of the conversion, and need, with a blank
--- behind each
+-- the columns before the driver: state, mark, the three of the conversion, and need, with a space
+-- after each
 abbrev pub front_of : PathPlan → List ℕ
 front_of p =
     state_word p.start ++ (32 ∷ (mark_word p.mark

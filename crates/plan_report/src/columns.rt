@@ -58,7 +58,7 @@ pub fn need_word(start: Start) -> &'static str
     }
 }
 
-/// The name of the driver at that place.
+/// The name of the driver at this place.
 fn driver_name(drivers: &[Driver], place: u32) -> &[u8]
     ensures { result.now ≡ driver_name drivers.now place }
 {

@@ -59,7 +59,7 @@ fn last_line(alloc: Global, skipped: u64) -> Result<String, AllocError>
 
 /// The text of a plan: a line for each path, in order, and how many attribute lines were skipped.
 ///
-/// A line is a state, a mark, line ends, ident, an encoding, a need, a driver and the path, with a blank between. A
+/// A line is a state, a mark, line ends, ident, an encoding, a need, a driver and the path, with a space between. A
 /// driver's name is quoted as a path is.
 pub fn plan_lines(alloc: Global, plan: &Plan) -> Result<Vec<u8>, AllocError>
     ensures { IfOk result (λ v. v.items ≡ plan_lines plan.now) }

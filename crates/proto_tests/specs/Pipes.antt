@@ -1,4 +1,4 @@
--- What a pipe of a test is seen as: it tells nothing but its counts and how far it was shut.
+-- How a pipe of a test is seen: it tells nothing except its counts and how far it was shut.
 use Rattle.std.specs.Prelude.{ℕ, None}
 use Rattle.edge_kit.specs.Links.{Stage, Open, InputShut, Shut, LinkSeen}
 use Rattle.proto_tests.specs.declared.pipe.Shutting.{Shutting}

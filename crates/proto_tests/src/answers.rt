@@ -104,7 +104,7 @@ fn each_reply_has_its_result(rt: HostRuntime) -> Result<(), Fail> {
     Ok(())
 }
 
-/// What a driver answers to a list request where `p1` and `p2` are delayed, and its reply.
+/// What a driver answers to a list request while `p1` and `p2` are delayed, and its reply.
 const LISTS: &[(&[u8], ListReply)] = &[
     (
         b"0010pathname=p1\n0010pathname=p1\n",
@@ -152,7 +152,7 @@ fn each_list_has_its_result(rt: HostRuntime) -> Result<(), Fail> {
     Ok(())
 }
 
-/// Behind 19 and 4 bytes, 8,194 packets of 65,520 bytes and two flush packets are 536,870,911 bytes.
+/// After 19 and 4 bytes, 8,194 packets of 65,520 bytes and two flush packets make 536,870,911 bytes.
 #[test]
 fn the_longest_reply(rt: HostRuntime) -> Result<(), Fail> {
     let alloc = rt.alloc();

@@ -7,7 +7,7 @@ use std::alloc::Global;
 use std::process::Abort;
 use std::test::Fail;
 
-/// A pointer to a large file of 130 bytes.
+/// A pointer of 130 bytes to a large file.
 const POINTER: &[u8] = b"version https://git-lfs.github.com/spec/v1\n\
 oid sha256:4d7a214614ab2935c943f9e0ff69d22eadbb8f32b1258daaa5e2ca24d17e2393\nsize 12345\n";
 
@@ -28,7 +28,7 @@ const TAKEN: &[u8] = b"0016git-filter-server\n000eversion=2\n0000\
 0013status=success\n0000000bpixels\n00000000\
 00000013status=success\n0000";
 
-/// The conversation, with reads of at most so many bytes.
+/// The conversation, with reads of at most this many bytes.
 fn converse(rt: &impl Abort, alloc: Global, piece: usize) -> Result<(), Fail> {
     let pipe = Pipe::of(alloc, TAKEN, piece)?;
     let counter = pipe.counter()?;
@@ -66,7 +66,7 @@ fn a_delayed_path_is_listed_and_delivered_in_any_pieces(rt: HostRuntime) -> Resu
     Ok(())
 }
 
-/// A reply of three packets of content streams: each is put before the next is read.
+/// A reply streams three packets of content: each is put before the next is read.
 #[test]
 fn a_reply_streams(rt: HostRuntime) -> Result<(), Fail> {
     let alloc = rt.alloc();

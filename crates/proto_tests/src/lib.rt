@@ -1,6 +1,6 @@
 //! The tests of sessions with a filter driver.
 //!
-//! A crate with tests is proved twice, with them and without, so those of `filter_proto` stand here, over the built
+//! A crate with tests is proved twice, with them and without. So the tests of `filter_proto` are here, over the built
 //! library: `conversations` and `answers`, with a leaf of their own and a link, `pipe`. It has nothing else.
 #![tactic(auto)]
 

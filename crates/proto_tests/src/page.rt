@@ -6,10 +6,10 @@ use std::alloc::Global;
 use std::cell::Cell;
 use std::rc::Rc;
 
-/// A leaf that counts its puts and may keep its content, and whose put with a number may fail.
+/// A leaf that counts its puts and may keep its content, and of which one put may fail.
 #[derive(Drop)]
 pub struct Page {
-    /// What was put, where it keeps that.
+    /// What was put, if it keeps that.
     pub content: Vec<u8>,
     /// How many bytes were put.
     pub bytes: u64,
@@ -36,7 +36,7 @@ impl Page {
         }
     }
 
-    /// The put that follows so many fails.
+    /// The put after this many others fails.
     pub fn fails(mut self, at: u32) -> Page
         ensures { result.state ≡ self.state }
     {

@@ -17,14 +17,14 @@ pub enum Shutting {
     Waited,
 }
 
-/// A part of an output, which comes so many times.
+/// A part of an output, which comes this many times.
 #[derive(Drop)]
 pub struct Part {
     pub bytes: Vec<u8>,
     pub times: u32,
 }
 
-/// A link that reads give parts of, one at a time and at most `piece` bytes.
+/// A link from which reads take parts, one at a time and at most `piece` bytes.
 #[derive(Drop)]
 pub struct Pipe {
     parts: Vec<Part>,
@@ -35,7 +35,7 @@ pub struct Pipe {
     fails_send: bool,
     fails_read: bool,
     keeps: bool,
-    /// What was sent, where it keeps that.
+    /// What was sent, if it keeps that.
     pub sent: Vec<u8>,
     /// How many puts there were at each read so far.
     pub puts: Vec<u32>,
@@ -73,7 +73,7 @@ impl Pipe {
         })
     }
 
-    /// Adds a part that comes so many times.
+    /// Adds a part that comes this many times.
     pub fn add(&mut self, alloc: Global, bytes: &[u8], times: u32) -> Result<(), AllocError> {
         let bytes = Vec::from_slice(alloc, bytes)?;
         self.parts.push(Part { bytes, times })?;
@@ -97,7 +97,7 @@ impl Pipe {
         self
     }
 
-    /// Copies bytes of the part that is next, and answers how many.
+    /// Copies bytes of the part that is next, and returns how many.
     fn give(&mut self, into: &mut [u8]) -> usize
         ensures within { result ≤ length into.old }
         ensures same { seen_of self.new.faults self.new.ends self.new.shutting
@@ -120,7 +120,7 @@ impl Pipe {
         count
     }
 
-    /// So many bytes of a part were given, or the whole of it.
+    /// This many bytes of a part were given, or the whole of it.
     fn advance(&mut self, count: usize, whole: bool, times: u32)
         ensures { seen_of self.new.faults self.new.ends self.new.shutting
             ≡ seen_of self.old.faults self.old.ends self.old.shutting }

@@ -19,7 +19,7 @@ pub const HELLO: &[u8] =
 pub const HELLO_DIRECT: &[u8] =
     b"0016git-filter-server\n000eversion=2\n00000016capability=smudge\n0000";
 
-/// A session over the pipe. Any other answer than a live session counts as a failed test.
+/// A session over the pipe. Anything but a live session counts as a failed test.
 pub fn begin(alloc: Global, pipe: Pipe) -> Result<Session<Pipe>, AllocError> {
     match Session::begin(alloc, pipe) {
         Begun::Live(session) => Ok(session),
@@ -27,10 +27,10 @@ pub fn begin(alloc: Global, pipe: Pipe) -> Result<Session<Pipe>, AllocError> {
     }
 }
 
-/// What a request came to.
+/// What came of a request.
 pub type Came = (Reply, Result<(), SendFault>);
 
-/// Asks for a path, where that may be done.
+/// Asks for a path, if that is allowed.
 pub fn ask(
     session: &mut Session<Pipe>,
     path: &[u8],
@@ -52,7 +52,7 @@ pub fn ask(
     Some((asked.reply, asked.put))
 }
 
-/// Asks again for a path, where that may be done.
+/// Asks again for a path, if that is allowed.
 pub fn ask_again(session: &mut Session<Pipe>, path: &[u8], page: &mut Page) -> Option<Came>
     requires { page.old.state ≡ leaf_state.Fresh }
 {
@@ -69,7 +69,7 @@ pub fn ask_again(session: &mut Session<Pipe>, path: &[u8], page: &mut Page) -> O
     Some((asked.reply, asked.put))
 }
 
-/// Asks for a list, where that may be done.
+/// Asks for a list, if that is allowed.
 pub fn list(session: &mut Session<Pipe>, table: &mut DelayTable) -> Option<ListReply> {
     if !session.live() {
         return None;

@@ -1,6 +1,6 @@
-//! Replays one long run of the core, of as many paths as the argument says.
+//! Replays one long run of the core, with as many paths as the argument says.
 //!
-//! The first line is the same at each run. The time of the replay alone goes to standard error.
+//! The first line is the same in each run. The time of the replay alone goes to standard error.
 #![tactic(auto)]
 
 ghost use Rattle.std.specs.Prelude.{◌≤◌, IfOk};

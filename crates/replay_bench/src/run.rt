@@ -12,7 +12,7 @@ const BOTH: Caps = Caps {
 };
 
 /// Of eight paths in a row the first four are the pool's, the next two are of driver 0, and the
-/// last two of driver 1, which isn't required.
+/// last two are of driver 1, which isn't required.
 fn start_of(path: u32) -> Start
     ensures { (d : ℕ) (required : Bool) → result ≡ Desk d required → d < 2 }
 {
@@ -139,7 +139,7 @@ fn breaking_run(events: &mut Vec<Event>, paths: u32) -> Result<(), AllocError> {
     Ok(())
 }
 
-/// A run that closes every path, where the number of paths is a multiple of 8.
+/// A run that closes every path, if the number of paths is a multiple of 8.
 pub fn events(alloc: Global, paths: u32) -> Result<Vec<Event>, AllocError> {
     let mut events = Vec::new(alloc);
     pool_run(&mut events, paths)?;

@@ -1,4 +1,4 @@
--- What a link to a driver in memory is seen as: it tells nothing but its ends of input and how far it was shut.
+-- How a link to a driver in memory is seen: it tells nothing except its ends of input and how far it was shut.
 use Rattle.std.specs.Prelude.{ℕ, None}
 use Rattle.edge_kit.specs.Links.{Stage, Open, InputShut, Shut, LinkSeen}
 use Rattle.session_bench.specs.declared.driver.Shutting.{Shutting}

@@ -14,7 +14,7 @@ pub enum Shutting {
     Waited,
 }
 
-/// A link to it, which forgets what is sent and never fails.
+/// A link to this driver, which forgets what is sent and never fails.
 #[derive(Drop)]
 pub struct Driver {
     hello: Vec<u8>,
@@ -26,7 +26,7 @@ pub struct Driver {
 }
 
 impl Driver {
-    /// A driver that gives these two answers to a handshake, and then this reply for ever.
+    /// A driver that gives these two answers to a handshake, and then this reply again and again.
     pub fn new(hello: Vec<u8>, reply: Vec<u8>) -> Driver {
         Driver {
             hello,
@@ -38,7 +38,7 @@ impl Driver {
         }
     }
 
-    /// Copies bytes of the answer that is next, and tells how many.
+    /// Copies bytes of the next answer, and returns how many.
     fn give(&mut self, into: &mut [u8]) -> usize
         ensures within { result ≤ length into.old }
         ensures same { seen_of self.new.ends self.new.shutting ≡ seen_of self.old.ends self.old.shutting }
@@ -52,7 +52,7 @@ impl Driver {
         count
     }
 
-    /// So many bytes of an answer were given, or the whole of it.
+    /// This many bytes of an answer were given, or the whole of it.
     fn advance(&mut self, count: usize, whole: bool)
         ensures { seen_of self.new.ends self.new.shutting ≡ seen_of self.old.ends self.old.shutting }
     {
@@ -95,7 +95,8 @@ impl Link for Driver {
     }
 }
 
-/// Copies what stands behind a place, as much as there is room for: how many bytes, and whether that was all.
+/// Copies as much of what follows a place as there is room for, and returns how many bytes these are and whether they
+/// are all.
 fn copy_rest(into: &mut [u8], answer: &[u8], at: usize) -> (usize, bool)
     ensures { result.0 ≤ length into.old }
 {

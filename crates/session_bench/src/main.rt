@@ -1,8 +1,8 @@
 //! Holds sessions with a filter driver in memory.
 //!
-//! Without words it tells what three replies and a thousand small exchanges gave, the same at each run. With the words
-//! BYTES COUNT it holds one session of so many exchanges, each with a reply of so many bytes, and tells its time and that
-//! of a copy of the same bytes.
+//! Without arguments it prints what three replies and a thousand small exchanges gave, which is the same in each run.
+//! With the arguments BYTES COUNT it holds one session of COUNT exchanges, each with a reply of BYTES bytes, and prints
+//! its time and that of a copy of the same bytes.
 #![tactic(auto)]
 
 mod driver;
@@ -19,7 +19,7 @@ use std::io::Print;
 use std::rt::{Clock, Env};
 use std::time::Instant;
 
-/// The numbers among the words.
+/// The numbers among the arguments.
 fn numbers<R: Env + AllocGlobal>(rt: &R) -> Result<Vec<u32>> {
     let mut all = Vec::new(rt.alloc());
     for word in env::args(rt)? {
@@ -30,7 +30,7 @@ fn numbers<R: Env + AllocGlobal>(rt: &R) -> Result<Vec<u32>> {
     Ok(all)
 }
 
-/// How many of so many exchanges gave a content, and how many bytes these had in all.
+/// How many of `count` exchanges gave a content, and how many bytes these contents had in all.
 fn converse(
     alloc: Global,
     driver: Driver,
@@ -52,7 +52,7 @@ fn converse(
     Ok((good, bytes))
 }
 
-/// Asks for a path, where that may be done, and tells whether a content came.
+/// Asks for a path, if that is allowed, and returns whether a content came.
 fn exchange(session: &mut Session<Driver>, content: &[u8], page: &mut Page) -> bool {
     if !session.live() {
         return false;
@@ -66,7 +66,7 @@ fn exchange(session: &mut Session<Driver>, content: &[u8], page: &mut Page) -> b
     matches!(session.ask(b"path", content, page).reply, Reply::Content)
 }
 
-/// Copies so many contents, one after another, and tells how many bytes they had.
+/// Copies a content `count` times, and returns how many bytes the copies had.
 fn copy(alloc: Global, content: &[u8], count: u32) -> Result<u64, AllocError> {
     let mut bytes = 0;
     for _ in 0..count {
@@ -76,7 +76,7 @@ fn copy(alloc: Global, content: &[u8], count: u32) -> Result<u64, AllocError> {
     Ok(bytes)
 }
 
-/// What so many exchanges gave, as a line, and their times where they are asked for.
+/// Prints what `count` exchanges gave, as a line, and their times if asked for.
 fn tell<R: Clock + Print + AllocGlobal>(rt: &R, size: u32, count: u32, timed: bool) -> Result<()> {
     let alloc = rt.alloc();
     let mut content = Vec::new(alloc);

@@ -5,7 +5,7 @@ ghost use Rattle.edge_kit.specs.declared.leaf_state.LeafState.TheVariants as lea
 use edge_kit::{Failed, Leaf, LeafState, Mark, SendFault};
 use std::alloc::{AllocError, Global};
 
-/// A leaf that keeps its content and tells nothing of it.
+/// A leaf that keeps its content, but doesn't tell it.
 #[derive(Drop)]
 pub struct Page {
     pub content: Vec<u8>,
@@ -13,7 +13,7 @@ pub struct Page {
 }
 
 impl Page {
-    /// A fresh page with room for so many bytes.
+    /// A fresh page with room for this many bytes.
     pub fn with_room(alloc: Global, bytes: usize) -> Result<Page, AllocError> {
         Ok(Page {
             content: Vec::with_capacity(alloc, bytes)?,

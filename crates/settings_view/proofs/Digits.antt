@@ -12,11 +12,11 @@ use Rattle.std.specs.Str.Parse.{digits_value}
 digits_own : IsNumeralModel (λ ds. list_all is_ascii_digit ds ≡ true) (digits_value 10)
 digits_own = numerals_by_value _ (search rules)
 
--- up to 18 digits make less than 10^18
+-- up to 18 digits give a number below 10^18
 pub value_short : (ds : List ℕ) → list_all is_ascii_digit ds ≡ true → length ds ≤ 18 → digits_value 10 ds < 10 ^ 18
 value_short ds digits few = digits_value_short digits_own ds 18 digits few
 
--- with one digit more it is no more than that of all
+-- with one digit more the number is at most that of all digits
 pub value_step : (ds : List ℕ) (i : ℕ) → i < length ds → digits_value 10 (take i ds) * 10 + digit_value (get_or ds i 0) ≤ digits_value 10 ds
 value_step ds i lt = omega (arith, digits_value_more 10 ds i lt, digits_value-take-le 10 ds (i + 1) (omega arith))
 
@@ -28,7 +28,7 @@ pub prefix_len-digits : (text : List ℕ) → list_all is_ascii_digit (take (pre
 prefix_len-digits [] = refl
 prefix_len-digits (b ∷ text) = front_step b text (prefix_len is_ascii_digit text) (is_ascii_digit b) refl (prefix_len-digits text)
 
--- where the first byte is that is no digit
+-- the place of the first byte that isn't a digit
 same : (text : List ℕ) → prefix_len (λ b. not (not (is_ascii_digit b))) text ≡ prefix_len is_ascii_digit text
 same [] = refl
 same (b ∷ text) = grind (arith, common_steps, same text)

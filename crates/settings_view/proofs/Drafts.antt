@@ -1,4 +1,4 @@
--- What is said of each driver, setting by setting, and the drivers that come of it.
+-- What is said of each driver, setting by setting, and the drivers that this gives.
 use Rattle.std.proofs.Common.{◌≡◌, ℕ, suc, ◌+◌, ◌<◌, Bool, true, false, cond, if◌then◌else◌, List, [], ◌∷◌, ◌++◌, length, map, get_or, take, codes, Option, Some, None, Result, Ok, Err, Ordering, refl, sym, ap, ◌∙◌, append_assoc, arith}
 use Rattle.std.proofs.lemmas.Grind.{common_steps}
 use Rattle.std.proofs.lemmas.List.{append-nil}
@@ -26,7 +26,7 @@ use Rattle.settings_view.specs.Drivers.{Said, driver_name, is_driver_key, with_n
 use Rattle.settings_view.specs.Seen.{Drafts, IsInOrder, said_by, said_if, said_at, said_with, said_after, names_in, name_cmp, entry_seen, entries_seen, entry_of}
 use Rattle.settings_view.proofs.Last.{last_value_more}
 
--- ---- one setting more
+-- ---- one more setting
 
 pub names_none : names_of [] ≡ []
 unfolding names_of

@@ -1,4 +1,4 @@
--- The names of the drivers: in order, and those of which some setting speaks.
+-- The names of the drivers: they are in order, and each is one that some setting has.
 use Rattle.std.proofs.Common.{◌≡◌, ℕ, Bool, true, false, ◌||◌, List, [], ◌∷◌, map, Option, Some, None, Result, Ok, Err, Ordering, fold, refl, ap, ◌∙◌}
 use Rattle.std.proofs.lemmas.Cmp.{nat_list_cmp_total}
 use Rattle.std.proofs.lemmas.Map.Keys.{sorted_head, sorted_tail}
@@ -92,7 +92,7 @@ named settings (name ∷ names) drivers is =
 pub drivers_stand_by_name : (settings : List Setting) (drivers : List Driver) → drivers_told settings ≡ Ok drivers → StandsByName drivers
 drivers_stand_by_name settings drivers is = rw (named settings (names_of settings) drivers is) (names_of-rises settings)
 
--- ---- a name is among them where some setting speaks of it
+-- ---- a name is among them if some setting has it
 
 once : (a b : Bool) → (a || b) ≡ (a || (a || b))
 once true b = refl

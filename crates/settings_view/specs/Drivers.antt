@@ -15,7 +15,7 @@ use Rattle.settings_view.specs.Value.{bool_of, text_of}
 use Rattle.settings_view.specs.Keys.{last_value}
 use Rattle.settings_view.specs.Fault.{◌>>=◌}
 
--- the driver that a setting speaks of: the subsection of `filter`
+-- the driver of a setting: the subsection of `filter`
 abbrev pub driver_name : Setting → Option (List ℕ)
 driver_name s = if bytes_eq s.section (codes "filter") then s.sub else None
 
@@ -23,7 +23,7 @@ driver_name s = if bytes_eq s.section (codes "filter") then s.sub else None
 abbrev pub name_order : List ℕ → List ℕ → Ordering
 name_order a b = slice_cmp nat_cmp a b
 
--- a name at its place among names in the order of bytes, each once
+-- the names with one more, in the order of bytes, each once
 abbrev pub with_name : List ℕ → List (List ℕ) → List (List ℕ)
 with_name name [] = name ∷ []
 with_name name (n ∷ ns) = match_ordering (name_order name n) (name ∷ n ∷ ns) (n ∷ ns) (n ∷ with_name name ns)
@@ -55,12 +55,12 @@ abbrev pub process_told : Option (Option (List ℕ)) → Option (List ℕ)
 process_told None = None
 process_told (Some value) = process_text (text_of value)
 
--- a driver isn't required where nothing says so
+-- a driver isn't required if nothing says so
 abbrev pub required_told : Option (Option (List ℕ)) → Option Bool
 required_told None = Some false
 required_told (Some value) = bool_of value
 
--- what is said of a driver: its command, and whether it is required, where that is a truth value
+-- what is said of a driver: its command, and whether it is required, if that is a truth value
 pub record Said : Type 0 where
   pub process : Option (List ℕ)
   pub required : Option Bool
@@ -72,7 +72,7 @@ said_of settings name = record {
   required = required_told (last_value (is_driver_key name (codes "required")) settings);
 }
 
--- a driver, or the fault where `required` is no truth value
+-- a driver, or the fault if `required` is no truth value
 abbrev pub required_driver : List ℕ → Option (List ℕ) → Option Bool → Result Driver SettingFault
 required_driver name process None = Err (BadBool Required)
 required_driver name process (Some required) = Ok (record { name = name; process = process; required = required })

@@ -14,11 +14,11 @@ use Rattle.settings_view.specs.declared.fault.SettingFault.TheVariants.{BadNumbe
 use Rattle.settings_view.specs.Value.{crlf_of, eol_of, is_sha1}
 use Rattle.settings_view.specs.Number.{number_of, workers_of, threshold_of}
 
--- a key of a section without a subsection, both in lower case
+-- a key in a section without a subsection, both in lower case
 unfoldable pub is_key : List ℕ → List ℕ → Setting → Bool
 is_key section key s = bytes_eq s.section section && is_none s.sub && bytes_eq s.key key
 
--- each setting that passes takes the place of the one before
+-- each setting that passes the test replaces the one before
 abbrev pub later : (Setting → Bool) → Option (Option (List ℕ)) → Setting → Option (Option (List ℕ))
 later test before s = if test s then Some s.value else before
 
@@ -26,7 +26,7 @@ later test before s = if test s then Some s.value else before
 unfoldable pub last_value : (Setting → Bool) → List Setting → Option (Option (List ℕ))
 last_value test settings = fold (later test) None settings
 
--- what a key says: the default where it isn't there, and the fault where its value says nothing
+-- what a key says: the default if the key is absent, and the fault if its value says nothing
 abbrev pub told : {A : Type 0} → A → (Option (List ℕ) → Option A) → SettingFault → Option (Option (List ℕ))
     → Result A SettingFault
 told default read fault None = Ok default

@@ -12,7 +12,7 @@ use Rattle.byte_path.specs.Characters.{hyphen, letter_g, letter_k, letter_m}
 abbrev pub unit_at : ℕ → Option ℕ
 unit_at b = if b == letter_k then Some 1024 else if b == letter_m then Some (1024 ^ 2) else if b == letter_g then Some (1024 ^ 3) else None
 
--- what the text behind the digits multiplies them by
+-- the factor that the text after the digits stands for
 abbrev pub factor_of : List ℕ → Option ℕ
 factor_of [] = Some 1
 factor_of (b ∷ []) = unit_at (to_ascii_lowercase b)
@@ -22,12 +22,12 @@ factor_of (b ∷ c ∷ rest) = None
 abbrev pub is_short : List ℕ → Bool
 is_short digits = nat_lt 0 (length digits) && nat_le (length digits) 18
 
--- digits, and a unit or nothing behind them
+-- digits, and a unit or nothing after them
 abbrev pub size_from : List ℕ → List ℕ → Option ℕ
 size_from digits rest =
     if is_short digits then option_map (λ factor. digits_value 10 digits * factor) (factor_of rest) else None
 
--- the size of a text: the digits at its front, and what is behind them
+-- the size that a text gives: the digits at its front, and what follows them
 abbrev pub size_of : List ℕ → Option ℕ
 size_of text = size_from (take (prefix_len is_ascii_digit text) text) (drop (prefix_len is_ascii_digit text) text)
 

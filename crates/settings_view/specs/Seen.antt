@@ -14,7 +14,7 @@ use Rattle.settings_view.specs.Drivers.{Said, said_of, speaks_of, process_told}
 abbrev pub said_by : Draft → Said
 said_by d = record { process = option_copied d.process; required = d.required }
 
--- what is said of a driver of which nothing is said
+-- what is said of a driver, which is nothing before its first setting
 abbrev pub said_if : Option Draft → Said
 said_if None = record { process = None; required = Some false }
 said_if (Some d) = said_by d

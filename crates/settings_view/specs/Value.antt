@@ -58,7 +58,7 @@ abbrev pub is_sha1 : Option (List ℕ) → Bool
 is_sha1 None = false
 is_sha1 (Some text) = is_word (codes "sha1") text
 
--- the text of a value; a key without `=` has the empty one
+-- the text of a value; a key without `=` has the empty text
 abbrev pub text_of : Option (List ℕ) → List ℕ
 text_of None = []
 text_of (Some text) = text

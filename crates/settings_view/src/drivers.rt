@@ -18,11 +18,11 @@ use std::collections::BTreeMap;
 #[derive(Clone, Copy)]
 struct Draft<'a> {
     process: Option<&'a [u8]>,
-    /// `None` where the value is no truth value.
+    /// `None` if the value is no truth value.
     required: Option<bool>,
 }
 
-/// The driver that a setting speaks of: the subsection of `filter`.
+/// The driver of a setting: the subsection of `filter`.
 fn driver_name(setting: &Setting) -> Option<&[u8]>
     ensures { option_copied result ≡ driver_name setting.now }
 {
@@ -35,7 +35,7 @@ fn driver_name(setting: &Setting) -> Option<&[u8]>
     }
 }
 
-/// The text of a command. An empty one counts as none.
+/// The text of a command. An empty text counts as no command.
 fn process_told(value: &Option<Bytes>) -> Option<&[u8]>
     ensures { option_copied result ≡ process_told (Some value.now) }
 {
@@ -46,7 +46,7 @@ fn process_told(value: &Option<Bytes>) -> Option<&[u8]>
 }
 
 impl<'a> Draft<'a> {
-    /// What is said with one more setting of the driver.
+    /// What the settings say with one more setting of the driver.
     fn with(self, setting: &'a Setting) -> Draft<'a>
         ensures { said_by result ≡ said_with setting.now (said_by self.entry) }
     {
@@ -66,7 +66,7 @@ impl<'a> Draft<'a> {
     }
 }
 
-/// Takes one more setting.
+/// Adds one more setting.
 fn take_setting<'a>(
     drafts: &mut BTreeMap<&'a [u8], Draft<'a>>,
     setting: &'a Setting,

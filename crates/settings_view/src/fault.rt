@@ -5,7 +5,7 @@ ghost use Rattle.settings_view.specs.Words.{key_word, setting_word};
 use std::alloc::{AllocError, AllocFailed};
 use thiserror::Error;
 
-/// A key, in the order in which they are looked at.
+/// A key, in the order in which the keys are checked.
 #[derive(Error, Clone, Copy, Debug, PartialEq, Eq)]
 pub enum KeyId {
     /// `core.autocrlf`
@@ -31,22 +31,22 @@ pub enum KeyId {
 /// Why a configuration has no settings: the first key whose last value is bad.
 #[derive(Error, Clone, Copy, Debug, PartialEq, Eq)]
 pub enum SettingFault {
-    /// A value that is no truth value.
+    /// The value isn't a truth value.
     #[error("{0} has no truth value")]
     BadBool(KeyId),
-    /// A value that is no number, or none.
+    /// The value isn't a number, or there is none.
     #[error("{0} has no number")]
     BadNumber(KeyId),
-    /// A value that is none of the key's words, or none.
+    /// The value is none of the key's words, or there is none.
     #[error("{0} has none of its words")]
     BadChoice(KeyId),
-    /// Want of memory.
+    /// Out of memory.
     #[error("out of memory")]
     NoMemory,
 }
 
 impl KeyId {
-    /// The key in one word.
+    /// The key as one word.
     pub fn word(self) -> &'static str
         ensures { result.now ≡ key_word self }
     {

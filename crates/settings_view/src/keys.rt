@@ -11,7 +11,7 @@ use byte_path::Bytes;
 use eol_convert::{AutoCrlf, EolSetting};
 use git_config::Setting;
 
-/// Whether a setting has this key of a section without a subsection, both in lower case.
+/// Whether a setting has this key, in a section without a subsection. Both names are in lower case.
 #[tactic(auto, unfolding(crate::specs::Keys::is_key))]
 fn is_key(section: &[u8], key: &[u8], setting: &Setting) -> bool
     ensures { result ≡ is_key section.now key.now setting.now }
@@ -19,7 +19,7 @@ fn is_key(section: &[u8], key: &[u8], setting: &Setting) -> bool
     setting.section.as_slice() == section && setting.sub.is_none() && setting.key.as_slice() == key
 }
 
-/// The last value of a key of a section without a subsection.
+/// The last value of a key in a section without a subsection.
 fn last_value<'a>(settings: &'a [Setting], section: &[u8], key: &[u8]) -> Option<&'a Option<Bytes>>
     ensures { option_copied result ≡ last_value (is_key section.now key.now) settings.now }
 {

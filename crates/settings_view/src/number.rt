@@ -9,7 +9,7 @@ ghost use Rattle.settings_view.specs.Number.{number_text, number_of, workers_of,
 
 use byte_path::Bytes;
 
-/// A whole number by its sign and its size.
+/// A whole number as its sign and its size.
 #[derive(Clone, Copy)]
 pub struct Number {
     negative: bool,
@@ -28,7 +28,7 @@ fn unit_at(byte: u8) -> Option<u64>
     }
 }
 
-/// What the text behind the digits multiplies them by.
+/// The factor that the text after the digits stands for.
 fn factor_of(rest: &[u8]) -> Option<u64>
     ensures value { result ≡ factor_of rest.now }
     ensures within { IfSome result (λ n. n ≤ 1073741824) }
@@ -47,7 +47,7 @@ fn digits_end(text: &[u8]) -> Option<usize>
     text.iter().position(|b| !b.is_ascii_digit())
 }
 
-/// How many digits stand at the front.
+/// How many digits a text begins with.
 fn digits_len(text: &[u8]) -> usize
     ensures value { result ≡ prefix_len is_ascii_digit text.now }
     ensures within { result ≤ length text.now }
@@ -65,7 +65,7 @@ fn with_digit(number: u64, digit: u8) -> u64
     number * 10 + u64::from(digit - b'0')
 }
 
-/// The number of up to 18 digits, zeros before it among them.
+/// The number of up to 18 digits, leading zeros included.
 fn value_of(digits: &[u8]) -> u64
     requires digits { list_all is_ascii_digit digits.now ≡ true }
     requires few { length digits.now ≤ 18 }
@@ -79,7 +79,7 @@ fn value_of(digits: &[u8]) -> u64
     value
 }
 
-/// Digits, and a unit or nothing behind them.
+/// The size that digits give with a unit or nothing after them, or `None` if they give none.
 fn size_from(digits: &[u8], rest: &[u8]) -> Option<u128>
     requires { list_all is_ascii_digit digits.now ≡ true }
     ensures { result ≡ size_from digits.now rest.now }

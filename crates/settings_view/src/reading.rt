@@ -15,7 +15,7 @@ use std::alloc::Global;
 
 /// What a configuration says of a checkout (git-config(1)).
 ///
-/// Only the last value of each key counts. The keys are looked at in the order of `KeyId`, and the fault is that of the
+/// Only the last value of each key counts. The keys are checked in the order of `KeyId`, and the fault is that of the
 /// first one whose value is bad. The time is that of sorting the settings of the drivers.
 #[tactic(auto, unfolding(crate::specs::View::settings_of))]
 pub fn settings(alloc: Global, config: &Config) -> Result<Settings, SettingFault>
@@ -40,7 +40,7 @@ pub fn settings(alloc: Global, config: &Config) -> Result<Settings, SettingFault
     })
 }
 
-/// The law that the drivers are those of which some setting speaks. It does nothing.
+/// The law that the names of the drivers are those that settings of `filter` have as their subsection. It does nothing.
 pub fn drivers_are_those_spoken_of(config: &Config)
     ensures { (name : List ℕ) → list_any (λ n. bytes_eq n name) (names_of config.now)
         ≡ list_any (speaks_of name) config.now }

@@ -6,7 +6,7 @@ ghost use Rattle.settings_view.specs.Value.{crlf_of_bool, crlf_text, crlf_of, eo
 use byte_path::Bytes;
 use eol_convert::{AutoCrlf, EolSetting};
 
-/// Whether a text is this word, with case ignored.
+/// Whether a text is this word, if case is ignored.
 #[tactic(auto, unfolding(crate::specs::Value::is_word))]
 fn is_word(word: &[u8], text: &[u8]) -> bool
     ensures { result ≡ is_word word.now text.now }

@@ -5,9 +5,9 @@ use eol_convert::{AutoCrlf, EolSetting};
 /// A filter driver (gitattributes(5), "filter").
 #[derive(Drop)]
 pub struct Driver {
-    /// The subsection of `filter` that its keys stand in.
+    /// The subsection of `filter` that its keys are in.
     pub name: Bytes,
-    /// `filter.<name>.process`, the command of a long-running filter process. An empty one counts as none.
+    /// `filter.<name>.process`, the command of a long-running filter process. An empty value counts as none.
     pub process: Option<Bytes>,
     /// `filter.<name>.required`.
     pub required: bool,

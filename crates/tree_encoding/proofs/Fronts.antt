@@ -16,14 +16,14 @@ all_below (x ∷ xs) all (suc i) =
     let others : list_all is_ascii xs ≡ true = grind (arith, common_steps) in
     all_below xs others i
 
--- a text may be cut behind eight characters of ASCII
+-- a text may be cut after eight characters of ASCII
 pub may_cut : (text eight : List ℕ) → IsUtf8 text → 8 ≤ length text → eight ≡ take 8 text → list_all is_ascii eight ≡ true → IsCharBoundary text 8
 may_cut text eight utf8 long is all =
     let last : get_or eight 7 0 < 128 = all_below eight all 7 in
     let same : get_or text 7 0 ≡ get_or eight 7 0 = sym (get_or-take 8 text 7 0 (lit< tt)) ∙ ap (λ (xs : List ℕ). get_or xs 7 0) (sym is) in
     IsCharBoundary-after_ascii text 7 utf8 (omega arith) (omega (arith, last, same))
 
--- what they and the characters behind them become
+-- what they and the characters after them become
 pub eight_on : (f : ℕ → List ℕ) (done whole text eight behind : List ℕ) → BeginsWithEight text eight behind
     → done ++ flat_map f (chars text) ≡ whole → (done ++ flat_map f eight) ++ flat_map f (chars behind) ≡ whole
 eight_on f done whole text eight behind front same =
@@ -34,7 +34,7 @@ eight_on f done whole text eight behind front same =
     append_assoc done (flat_map f eight) (flat_map f (chars behind))
     ∙ ap (λ (xs : List ℕ). done ++ xs) (sym (ap (flat_map f) parts ∙ flat_map-append f eight (chars behind))) ∙ same
 
--- what the first character and those behind it become
+-- what the first character and those after it become
 pub first_on : (f : ℕ → List ℕ) (done whole text behind : List ℕ) (c : ℕ) → IsUtf8 text → text ≡ encode_utf8 c ++ behind
     → done ++ flat_map f (chars text) ≡ whole → (done ++ f c) ++ flat_map f (chars behind) ≡ whole
 first_on f done whole text behind c utf8 parts same =

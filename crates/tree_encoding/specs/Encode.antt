@@ -53,7 +53,7 @@ mark_of Utf16Be = []
 mark_of Utf32Le = []
 mark_of Utf32Be = []
 
--- a text: its characters behind the mark, and an empty one without a mark
+-- a text: its characters after the mark, and an empty one without a mark
 abbrev pub text_in : Encoding → List ℕ → List ℕ
 text_in encoding [] = []
 text_in encoding (b ∷ text) = mark_of encoding ++ flat_map (bytes_of encoding) (chars (b ∷ text))

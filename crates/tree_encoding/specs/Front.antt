@@ -4,13 +4,13 @@ use Rattle.std.specs.Char.{is_ascii}
 use Rattle.std.specs.List.{flat_map, list_all}
 use Rattle.std.specs.Str.{IsUtf8, chars}
 
--- it begins with eight characters of ASCII, and this is behind them
+-- it begins with eight characters of ASCII, and this is after them
 pub record BeginsWithEight (text eight behind : List ℕ) : Type 0 where
   pub parts : text ≡ eight ++ behind
   pub ascii : list_all is_ascii eight ≡ true
   pub utf8 : IsUtf8 behind
   pub shorter : length behind + 8 ≡ length text
 
--- what was written and what a text becomes are together what is written now and what the text behind becomes
+-- what was written and what the text becomes are together what is written now and what the rest of the text becomes
 abbrev pub GoesOn : (ℕ → List ℕ) → List ℕ → List ℕ → List ℕ → List ℕ → Type 0
 GoesOn f old text new behind = new ++ flat_map f (chars behind) ≡ old ++ flat_map f (chars text)

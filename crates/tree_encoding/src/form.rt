@@ -20,7 +20,7 @@ pub trait Form {
     /// How many bytes the characters of a text take.
     fn room(text: &str) -> usize;
 
-    /// Writes a character into a block at this place, and gives the place behind it.
+    /// Writes a character into a block at this place, and gives the place after it.
     fn put(block: &mut Block, at: usize, character: char) -> usize
         requires { at + 4 ≤ 32 }
         ensures end { (at ≤ result) × (result ≤ at + 4) }

@@ -4,6 +4,6 @@ use byte_path::Bytes;
 #[derive(Drop)]
 pub struct Prepared {
     pub bytes: Bytes,
-    /// It isn't UTF-8, and so stays as it is though an encoding is named.
+    /// It isn't UTF-8, so it stays as it is although an encoding is named.
     pub unencoded: bool,
 }

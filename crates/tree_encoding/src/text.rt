@@ -22,7 +22,7 @@ fn is_ascii(bytes: &[u8; 8]) -> bool
         & (h < 0x80)
 }
 
-/// The eight characters of ASCII with which a text begins, and what is behind them.
+/// The eight characters of ASCII with which a text begins, and what follows them.
 fn split_eight(text: &str) -> Option<(&[u8; 8], &str)>
     ensures { IfSome result (λ parts. BeginsWithEight text.now parts.0.now parts.1.now) }
 {
@@ -34,7 +34,7 @@ fn split_eight(text: &str) -> Option<(&[u8; 8], &str)>
     Some((eight, behind))
 }
 
-/// Writes the first characters of a text, up to eight, at once. What is behind them is left.
+/// Writes the first characters of a text, up to eight, at once. What follows them is left.
 fn push_few<'a, F: Form>(out: &mut Vec<u8>, text: &'a str) -> Result<&'a str, AllocError>
     requires { 0 < length text.now }
     ensures shorter { IfOk result (λ behind. length behind.now < length text.now) }
@@ -53,7 +53,7 @@ fn push_few<'a, F: Form>(out: &mut Vec<u8>, text: &'a str) -> Result<&'a str, Al
     Ok(rest.as_str())
 }
 
-/// Writes the characters of a text, eight of ASCII at once where there are so many.
+/// Writes the characters of a text, eight of ASCII at once if there are eight.
 pub fn push_text<F: Form>(out: &mut Vec<u8>, text: &str) -> Result<(), AllocError>
     ensures { OnOk result (out.new.items ≡ out.old.items ++ flat_map F.bytes_of (chars text.now)) }
 {

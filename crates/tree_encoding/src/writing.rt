@@ -12,7 +12,7 @@ use byte_path::Bytes;
 use simdutf8::compat::from_utf8;
 use std::alloc::{AllocError, Global};
 
-/// The characters of a text in a form, behind a mark.
+/// The characters of a text in a form, after a mark.
 fn text_in<F: Form>(alloc: Global, mark: &[u8], text: &str) -> Result<Vec<u8>, AllocError>
     ensures { IfOk result (λ out. out.items ≡ mark.now ++ flat_map F.bytes_of (chars text.now)) }
 {
@@ -23,8 +23,8 @@ fn text_in<F: Form>(alloc: Global, mark: &[u8], text: &str) -> Result<Vec<u8>, A
     Ok(out)
 }
 
-/// The text that a content is, where an encoding makes another content of it: where it is UTF-8 and not empty. Any other
-/// content stays, whichever encoding is asked, and the flag says whether it had anything to encode. It takes no memory.
+/// The text that a content is, if an encoding makes another content of it: if it is UTF-8 and not empty. Any other
+/// content stays, whatever the encoding, and the flag says whether it had anything to encode. It takes no memory.
 pub fn encodable_text(content: &[u8]) -> Option<&str>
     ensures exact { is_some result ≡ is_encodable content.now }
     ensures text { IfSome result (λ text. text.now ≡ content.now) }

@@ -1,4 +1,4 @@
--- A place of a list lies below its length.
+-- A place of a list is below its length.
 use Rattle.std.proofs.Common.{◌≡◌, ℕ, zero, suc, ◌<◌, List, [], ◌∷◌, length, Some, arith}
 use Rattle.std.specs.Prelude.{slice_get}
 

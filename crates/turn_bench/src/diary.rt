@@ -46,7 +46,7 @@ fn write<H: Wait>(
     seat
 }
 
-/// A diary that so many seats wrote, each in a thread of its own.
+/// A diary that this many seats write, each in a thread of its own.
 pub fn written<H: Threads + Wait + Sync>(
     rt: &H,
     alloc: Global,
@@ -71,7 +71,7 @@ pub fn written<H: Threads + Wait + Sync>(
     Ok(lock.end(all))
 }
 
-/// The lines of one seat, counted as long as they are in order.
+/// How many lines of one seat are in order.
 pub fn in_order(lines: &[(u32, u32)], number: u32) -> u32 {
     let mut next = 0;
     for (seat, line) in lines {

@@ -1,7 +1,7 @@
-//! Has many seats write into one diary under a lock, each in a thread of its own.
+//! Many seats write into one diary under a lock, each in a thread of its own.
 //!
-//! Without words it writes three diaries and tells what is in them, the same at each run. With the words SEATS TURNS it
-//! writes one, and tells its time.
+//! Without arguments it writes three diaries and prints what is in them, which is the same in each run. With the
+//! arguments SEATS TURNS it writes one, and prints its time.
 #![tactic(auto)]
 
 mod diary;
@@ -15,7 +15,7 @@ use std::sync::Wait;
 use std::thread::Threads;
 use std::time::Instant;
 
-/// The numbers among the words.
+/// The numbers among the arguments.
 fn numbers<R: Env + AllocGlobal>(rt: &R) -> Result<Vec<u32>> {
     let mut all = Vec::new(rt.alloc());
     for word in env::args(rt)? {
@@ -26,7 +26,7 @@ fn numbers<R: Env + AllocGlobal>(rt: &R) -> Result<Vec<u32>> {
     Ok(all)
 }
 
-/// What the diary of so many seats holds, as a line, and its time where it is asked for.
+/// Prints what the diary of `seats` seats holds, as a line, and its time if asked for.
 fn tell<R: Clock + Print + Threads + Wait + Sync + AllocGlobal>(
     rt: &R,
     seats: u32,

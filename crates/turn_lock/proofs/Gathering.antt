@@ -46,7 +46,7 @@ module _ {E D : Type 0} where
   abbrev old_at : ℕ → SeatView E D → Old E
   old_at i s = record { number = i; seen = seen_of s; mine = mine_of s }
 
-  -- the first seat gave a number more
+  -- the first seat gave one more number
   pub raised_row : (lock : TableId) (d : D) (n : ℕ) (s : SeatView E D) (ss : List (SeatView E D)) → AreSeats lock d 0 n (s ∷ ss) → AreSeats lock d 0 (suc n) (raised s ∷ ss)
   raised_row lock d n s ss all =
       let h = shown lock d 0 n s all.0 in
@@ -55,7 +55,7 @@ module _ {E D : Type 0} where
       (subst (λ (x : SeatView E D). IsSeat lock d 0 (suc n) (raised x)) (sym h.is) (at h.view h.out h.told h.number h.makes (subst (λ (x : SeatView E D). mine_of x ≡ own 0 (seen_of x)) h.is (all.0).receipts)), all.1)
 
 module _ {E D : Type 0} where
-  -- the seats, once the first gave a number more
+  -- the seats, after the first gave one more number
   abbrev pub first_raised : List (SeatView E D) → List (SeatView E D)
   first_raised [] = []
   first_raised (s ∷ ss) = raised s ∷ ss
@@ -93,7 +93,7 @@ module _ {E D : Type 0} where
   set_first (x ∷ ss) s t at e = let same : x ≡ s = cc (at) in ap (λ y. y ∷ ss) (e ∙ ap raised (sym same))
 
 module _ {T E D : Type 0} where
-  -- of these seats a first part is left, and the others were joined into one that has the next number
+  -- a first part of these seats is left, and the others were joined into one that has the next number
   pub record Gathered (d : D) (ss left : List (SeatView E D)) (m : Me (Option T) (Knows E D)) : Type 0 where
     pub view : View E D
     pub is : m ≡ (Seated view, [])
@@ -132,7 +132,7 @@ module _ {T E D : Type 0} where
       none_after [] = refl
       none_after (x ∷ xs) = ap (λ l. x ∷ l) (none_after xs)
 
-  -- what joining the last seat that is left needs, and what it gives
+  -- what joining the last of the remaining seats needs, and what it gives
   pub record Joins (lock : TableId) (d : D) (ss new : List (SeatView E D)) (s : SeatView E D) (m : Me (Option T) (Knows E D)) : Type 0 where
     pub into : View E D
     pub into_is : m ≡ (Seated into, [])

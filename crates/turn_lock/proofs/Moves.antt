@@ -41,7 +41,7 @@ module _ {T E D : Type 0} (hist : T → List (ℕ × E)) (fits : T → D → Typ
   abbrev Told : View E D → M → Bool → Type 0
   Told v m b = MatchBool b (Enters hist fits v m) (let n : M = (Seated v, []) in m ≡ n)
 
-  -- the seat that gives numbers stays so, where this one's view changes in nothing that bears on it
+  -- the seat that gives numbers still does, if nothing that bears on it changes in this seat's view
   gives_on : (s : St) (r : R s) (id : ℕ) (v w : View E D) → Live s.views id v → v.made ≡ w.made
       → (i : ℕ) × (u : View E D) × Live (set s.views id (Seated w)) i u × (0 < u.made)
   gives_on s r id v w at same =
@@ -123,7 +123,7 @@ module _ {T E D : Type 0} (hist : T → List (ℕ × E)) (fits : T → D → Typ
   others_out Out never = refl
   others_out (Inside f) never = absurd (never f refl)
 
-  -- what the rule says of another view stays so, where an entry of the seat number n may have come
+  -- what the rule says of another view still holds, if an entry of the seat number n may have come
   still_fits : (n given : ℕ) (log new : List (ℕ × E)) (u : View E D) → Follows n log new → n ≢ u.number → ((o : Old E) → IsOld o u.olds → n ≢ o.number) → Fits told log given u → Fits told new given u
   still_fits n given log new u more other gone fit = record {
     told_is = fit.told_is;

@@ -11,7 +11,7 @@ use Rattle.turn_lock.specs.History.{own}
 use Rattle.turn_lock.specs.Seat.{SeatView, number_of}
 use Rattle.turn_lock.specs.Seats.{IsSeat, AreSeats}
 
--- how many numbers the seat at a place knows to be given
+-- how many given numbers the seat at a place knows of
 abbrev pub made_at : ℕ → ℕ → ℕ
 made_at made zero = made
 made_at made (suc i) = 0
@@ -75,7 +75,7 @@ module _ {E D : Type 0} where
           subst (λ (n : ℕ). IsSeat lock d n 0 s) e (later lock d (suc k) ss all.1 i s at)
 
 module _ {E D : Type 0} where
-  -- seats of which each is its lock's with its number are so again
+  -- seats that are all their lock's, each with its number, are so again
   pub rows_again : (lock : TableId) (d : D) (k made : ℕ) (ss ts : List (SeatView E D)) → length ts ≡ length ss → AreSeats lock d k made ss
       → ((i : ℕ) (s t : SeatView E D) → slice_get ss i ≡ Some s → slice_get ts i ≡ Some t → (m : ℕ) → IsSeat lock d (number_of s) m s → IsSeat lock d (number_of s) m t)
       → AreSeats lock d k made ts

@@ -15,11 +15,11 @@ module _ {E D : Type 0} where
       (λ (t : (j ≢ id) × (get_elem? views j ≡ some (Seated u))). inr t)
       (at_set views id j (Seated w) (Seated u) e)
 
-  -- two live views at one place are one
+  -- two live views at one place are the same
   pub live_one : (views : List (Knows E D)) (j : ℕ) (v u : View E D) → Live views j v → Live views j u → v ≡ u
   live_one views j v u a b = cc (a, b)
 
-  -- what a view of the replaced row was before
+  -- what a view of the changed row was before
   pub record Was (views : List (Knows E D)) (j : ℕ) (u : View E D) : Type 0 where
     pub before : View E D
     pub live : Live views j before
@@ -64,7 +64,7 @@ module _ {E D : Type 0} where
   pub live_more : (l : List (Knows E D)) (w : Knows E D) (u : View E D) (j : ℕ) → Live l j u → Live (l ++ w ∷ []) j u
   live_more l w u j e = at_longer l (w ∷ []) j (Seated u) e
 
-  -- where a seat is spent, the others stay
+  -- if a seat is spent, the others stay
   pub live_spent : (views : List (Knows E D)) (other j : ℕ) (u : View E D) → Live (set views other Spent) j u → (j ≢ other) × Live views j u
   live_spent views other j u e = ⊎_elim
       (λ (t : (j ≡ other) × (Spent ≡ Seated u)). absurd (cc (t.1)))

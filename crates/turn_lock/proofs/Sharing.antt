@@ -26,7 +26,7 @@ module _ {E : Type 0} where
   old_none : (o : Old E) → IsOld o [] → ⊥
   old_none o h = some-ne-none o (sym h.1)
 
-  -- an old of two lists put together, under one more
+  -- an old of two joined lists, with one more in front
   old_cases : (a : Old E) (xs ys : List (Old E)) (o : Old E) → IsOld o (a ∷ (xs ++ ys)) → (a ≡ o) ⊎ (IsOld o xs ⊎ IsOld o ys)
   old_cases a xs ys o (zero, e) = inl (some-injective a o e)
   old_cases a xs ys o (suc i, e) = inr (at_cases xs ys i o e)

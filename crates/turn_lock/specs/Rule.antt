@@ -21,7 +21,7 @@ module _ {E : Type 0} where
   InPlace word log (Inside found) = (word ≡ 1) × (found ≡ log)
 
 module _ {E D : Type 0} where
-  -- what the rule says of one view alone
+  -- what the rule says of one view by itself
   pub record Fits (told : D) (log : List (ℕ × E)) (given : ℕ) (v : View E D) : Type 0 where
     pub told_is : v.told ≡ told
     pub begins : Begins v.seen log
@@ -45,7 +45,7 @@ module _ {E D : Type 0} where
   abbrev pub leaving : List (ℕ × E) → View E D → View E D
   leaving seen v = record v { place = Out; seen = seen; mine = own v.number seen }
 
-  -- one number more was given
+  -- one more number was given
   abbrev pub risen : View E D → View E D
   risen v = record v { made = v.made + 1 }
 
@@ -89,18 +89,19 @@ module _ {T E D : Type 0} (hist : T → List (ℕ × E)) where
       pub given : ℕ
       pub one_word : length s.words ≡ 1
       pub each : (id : ℕ) (v : View E D) → Live s.views id v → Fits told log given v
-      -- a seat that is inside found the history, and at most one is
+      -- a seat that is inside found the history, and at most one is inside
       pub placed : (id : ℕ) (v : View E D) → Live s.views id v → InPlace (slice_index s.words 0) log v.place
       pub alone : (i j : ℕ) (v w : View E D) (f g : List (ℕ × E)) → Live s.views i v → Live s.views j w
           → v.place ≡ Inside f → w.place ≡ Inside g → i ≡ j
-      -- the word is 0 exactly while none is, and then the value is at home, and its history is the whole
+      -- the word is 0 exactly while none is inside, and then the value is in its slot, and its history is the whole
+      -- history
       pub taken : slice_index s.words 0 ≢ 0
           → (id : ℕ) × (v : View E D) × (f : List (ℕ × E)) × Live s.views id v × (v.place ≡ Inside f)
       pub home : slice_index s.words 0 ≡ 0
           → (value : T) × (get_elem? s.homes 0 ≡ some (some (Some value))) × (hist value ≡ log) × fits value told
-      -- some seat saw the whole
+      -- some seat saw the whole history
       pub top : (id : ℕ) × (v : View E D) × Live s.views id v × (v.seen ≡ log)
-      -- numbers differ, one seat gives them and no other, and one that was never given, or was joined away, isn't used
+      -- numbers differ, exactly one seat gives them, and a number that was never given, or was joined away, isn't used
       pub apart : (i j : ℕ) (v w : View E D) → Live s.views i v → Live s.views j w
           → v.number ≡ w.number → i ≡ j
       pub makers : (i j : ℕ) (v w : View E D) → Live s.views i v → Live s.views j w
@@ -110,7 +111,7 @@ module _ {T E D : Type 0} (hist : T → List (ℕ × E)) where
       pub gone : (i j : ℕ) (v w : View E D) (o : Old E) → Live s.views i v → Live s.views j w
           → IsOld o v.olds → w.number ≢ o.number
 
-    -- what a try tells where it succeeds
+    -- what a try tells if it succeeds
     abbrev pub Enters : View E D → Me (Option T) (Knows E D) → Type 0
     Enters v m = (value : T) × (m ≡ (Seated (entering (hist value) v), (0, Some value) ∷ [])) × fits value v.told
         × Begins v.seen (hist value) × (own v.number v.seen ≡ own v.number (hist value))

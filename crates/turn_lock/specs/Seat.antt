@@ -68,7 +68,7 @@ module _ {E D : Type 0} where
   leaves found Spent = Spent
   leaves found (Seated v) = Seated (leaving found v)
 
-  -- one number more was given
+  -- one more number was given
   abbrev pub raised : SeatView E D → SeatView E D
   raised s = record { lock = s.lock; known = gave s.known }
 
@@ -85,10 +85,10 @@ Holds Out held = held ≡ []
 Holds (Inside found) held = held ≡ (0, None) ∷ []
 
 module _ {T E D : Type 0} where
-  -- a seat is live, and holds the slot where it is inside
+  -- a seat is live, and holds the slot if it is inside
   abbrev pub Shaped : Me (Option T) (Knows E D) → Type 0
   Shaped m = (v : View E D) × (m.0 ≡ Seated v) × Holds v.place m.1
 
-  -- the number that it carries is its view's
+  -- the number that it carries is that of its view
   abbrev pub Numbered : ℕ → Me (Option T) (Knows E D) → Type 0
   Numbered n m = n ≡ number m.0

@@ -6,7 +6,7 @@ use Rattle.turn_lock.specs.History.{own}
 use Rattle.turn_lock.specs.Seat.{SeatView, place_of, told_of, seen_of, mine_of, number_of, made_of, left}
 
 module _ {E D : Type 0} where
-  -- The seat of this lock with this number. `made` is how many numbers it knows to be given, and is 0 in each but the
+  -- The seat of this lock with this number. `made` is how many given numbers it knows of: 0 in each seat except the
   -- first.
   pub record IsSeat (lock : TableId) (d : D) (number made : ℕ) (s : SeatView E D) : Type 0 where
     pub of : s.lock ≡ lock

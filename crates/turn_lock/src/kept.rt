@@ -1,7 +1,6 @@
-// What a value under the lock tells.
 ghost use Rattle.std.specs.Prelude.{ℕ, List};
 
-/// A value that keeps a history. Its members stand in contracts alone, so nothing of it runs.
+/// A value that keeps a history. Its members are for contracts alone, so none of them runs.
 pub trait Kept {
     /// An entry of the history.
     type Entry;
@@ -15,6 +14,6 @@ pub trait Kept {
     /// What the value is made for: the data that `make` fixes.
     ghost told: { Self → Self.Told };
 
-    /// The value goes with these data.
+    /// The value agrees with these data.
     ghost fits: { Self → Self.Told → Type 0 };
 }

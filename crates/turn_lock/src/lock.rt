@@ -1,4 +1,3 @@
-// The lock.
 ghost use Rattle.std.specs.Prelude.{◌≡◌, ◌≤◌, ◌<◌, ℕ, [], Some, IfOk, length, slice_get};
 ghost use Rattle.std.specs.List.{All};
 ghost use Rattle.turn_lock.specs.History.{own, Begins, Follows};
@@ -72,8 +71,8 @@ impl<T: Kept + Drop> TurnLock<T> {
         Ok((lock, all))
     }
 
-    /// Waits for the seat's turn, and gives the value. The seat's own entries are those that it made, and what it saw
-    /// at its last turn is a first part of the history that it finds.
+    /// Waits for the seat's turn, and gives the value. The seat's own entries are those that it made. What it saw at
+    /// its last turn is a first part of the history that it finds.
     pub fn enter<H: Wait>(&self, rt: &H, seat: &mut TurnSeat<T>) -> Turn<T>
         requires of { (seat.old).lock ≡ self.now }
         requires out { place_of seat.old ≡ Out }
@@ -85,8 +84,8 @@ impl<T: Kept + Drop> TurnLock<T> {
         self.take_turn(rt, &mut seat.seat)
     }
 
-    /// Puts the value back, and passes the turn on. The history is the one that was found, or has one entry more, which
-    /// is this seat's.
+    /// Puts the value back, and passes the turn on. The history is the one that was found, or it has one entry more,
+    /// which is this seat's.
     pub fn leave(&self, seat: &mut TurnSeat<T>, turn: Turn<T>)
         requires of { (seat.old).lock ≡ self.now }
         requires inside { (found : _) × (place_of seat.old ≡ Inside found)
@@ -97,7 +96,7 @@ impl<T: Kept + Drop> TurnLock<T> {
         self.give_turn(&mut seat.seat, turn);
     }
 
-    /// Gives a seat that made no entry, into which the others can be joined.
+    /// A seat with no entry, into which the others can be joined.
     fn gatherer(&self, first: &mut TurnSeat<T>) -> RawSeat<T>
         requires of { (first.old).lock ≡ self.now }
         requires out { place_of first.old ≡ Out }
@@ -109,8 +108,8 @@ impl<T: Kept + Drop> TurnLock<T> {
         self.split(&mut first.seat)
     }
 
-    /// The value, at the end, from all its seats. What each seat saw is a first part of the history, its own entries
-    /// are the seat's in the history, and nobody else has an entry.
+    /// The value at the end, from all its seats. What each seat saw is a first part of the history. Its own entries are
+    /// those of its number in the history, and nobody else has an entry.
     pub fn end(self, mut seats: Vec<TurnSeat<T>>) -> T
         requires all { (d : T.Told) × (0 < length seats.items)
             × AreSeats self d 0 (length seats.items) seats.items }

@@ -1,5 +1,4 @@
-//! The rule that each use of the lock's table keeps.
-// The rule of the table, and what each step tells.
+//! The rule that each use of the lock's table keeps, and what each step tells.
 use crate::kept::Kept;
 use crate::view::Knows;
 use atomic_table::{Join, Play, Split, TableRule};

@@ -1,4 +1,3 @@
-// The seat of a lock, as its holder has it.
 ghost use Rattle.std.specs.Prelude.{◌≡◌};
 ghost use Rattle.turn_lock.specs.Seat.{number_of};
 

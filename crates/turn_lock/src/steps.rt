@@ -1,5 +1,5 @@
 //! The uses of the lock's table, one for each call.
-// The steps of a seat, each over what the table's seat knows. The lock's own calls stand on these.
+// The steps of a seat, each over what the table's seat knows. The lock's own calls are built on these.
 ghost use Rattle.std.specs.Prelude.{◌≡◌, ◌<◌, [], IfOk};
 ghost use Rattle.turn_lock.specs.History.{own, Begins, Follows};
 ghost use Rattle.turn_lock.specs.Rule.{IsOut, IsIn, Covers, Closes};

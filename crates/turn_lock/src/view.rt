@@ -1,10 +1,10 @@
 //! What a contract sees of a seat.
-// What a seat knows. No value of these types is made.
+// No value of these types is ever made.
 use std::collections::LinkedList;
 
 pub enum Place<E> {
     Out,
-    /// With the history that was found.
+    /// With the history that it found.
     Inside(LinkedList<(u64, E)>),
 }
 

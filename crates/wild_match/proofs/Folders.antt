@@ -63,7 +63,7 @@ at-folders whole fresh start text pattern rest later back so_far reads shorter =
       };
     }
 
--- a place behind a folder for a part gives one for what is behind it
+-- a place after a folder for a part gives one for what follows it
 behind-folder : (first later : List Piece) (rest : List ℕ) → from_stop first ≡ Slash ∷ later → fits first rest ≡ true → some_folder (fits later) rest ≡ true
 behind-folder first later rest stop h = folder-split later rest (sym (ap (λ (ps : List Piece). some_split (fits ps) rest) stop) ∙ stop-split first rest h)
 
@@ -125,7 +125,7 @@ is-over whole fresh start text pattern rest (Some tried) so_far stuck none =
     ∙ ap (λ (c : Bool). c || some_folder (fits (pieces true tried.0)) tried.1) stuck
     ∙ folder-none (fits (pieces true tried.0)) tried.1 (none-behind tried.0 tried.1 (position is_slash tried.1) none)
 
--- the next place, behind a `/`
+-- the next place, after a `/`
 pub record GoesOn (pattern rest later after : List ℕ) : Type 0 where
   pub pattern_same : later ≡ pattern
   pub slash : from_slash rest ≡ 47 ∷ after

@@ -6,11 +6,11 @@ use Rattle.wild_match.specs.Fits.{is_slash, some_split, fits}
 use Rattle.wild_match.specs.Steps.{PassesByte, PassesSlash, PassesStar, from_stop, from_slash, BehindPart, next_byte, next_split}
 use Rattle.wild_match.proofs.Splits.{one-step, slash-step, star-step}
 
--- what is behind a place in a pattern that is not the start of a part
+-- what follows a place in a pattern that is not the start of a part
 abbrev pub inside : List ℕ → List Piece
 inside pattern = pieces false pattern
 
--- another split, behind the one that was tried
+-- another split, after the one that was tried
 abbrev pub other_split : (List ℕ → Bool) → List ℕ → Bool
 other_split f [] = false
 other_split f (b ∷ t) = not (is_slash b) && some_split f t
@@ -73,7 +73,7 @@ absorb true b c give is = is
 absorb false true c give is = absurd (let no : false ≡ true = give refl in cc)
 absorb false false c give is = is
 
--- where the last star could go on, what is left of the pattern would fit behind bytes other than `/` from here
+-- where the last star could go on, what is left of the pattern would fit after bytes other than `/` from here
 back-split : (first : List Piece) (start text pattern rest : List ℕ) (back : Option (List ℕ × List ℕ)) → IsBackOr first start text pattern rest back → other_back back ≡ true → some_split (fits (inside pattern)) rest ≡ true
 back-split first start text pattern rest None known h = absurd (cc)
 back-split first start text pattern rest (Some tried) known h = known.enough (other-some (fits (inside tried.0)) tried.1 h)

@@ -31,7 +31,7 @@ members-skip (suc skip) first (b ∷ text) =
     ∙ behind-behind [] [] 1 skip (members_behind 0 first (drop skip text))
     ∙ (let size : 1 + skip ≡ suc skip = omega arith in ap (λ (k : ℕ). behind k [] (members_behind 0 first (drop skip text))) size)
 
--- one member, and the others behind it
+-- one member, and the others after it
 members-step_at : (m : Member) (n b : ℕ) (text : List ℕ) → 0 < n
     → with_member (Some (m, n)) (λ skip. members_behind skip false text) ≡ behind n (m ∷ []) (members_behind 0 false (drop n (b ∷ text)))
 members-step_at m zero b text some = absurd (omega arith)

@@ -1,4 +1,4 @@
--- Splits of a text behind a star, and why going back to the last star is enough.
+-- Splits of a text after a star, and why going back to the last star is enough.
 use Rattle.std.proofs.Common.{◌≡◌, ℕ, Bool, true, false, cond, ◌&&◌, not, List, [], ◌∷◌, ◌⊎◌, inl, inr, refl}
 use Rattle.std.proofs.lemmas.Bool.{and_parts, and_from, or_cases, or_left, or_right}
 use Rattle.wild_match.specs.Pieces.{Piece, Slash, One, Run, Folders, Rest, Never}
@@ -12,7 +12,7 @@ split-here f (b ∷ t) h = or_left (f (b ∷ t)) (not (is_slash b) && some_split
 split-on : (f : List ℕ → Bool) (b : ℕ) (t : List ℕ) → not (is_slash b) ≡ true → some_split f t ≡ true → some_split f (b ∷ t) ≡ true
 split-on f b t other h = or_right (f (b ∷ t)) (not (is_slash b) && some_split f t) (and_from (not (is_slash b)) (some_split f t) other h)
 
--- the place of a split: here, or behind a byte
+-- the place of a split: here, or after a byte
 pub split-cases : (f : List ℕ → Bool) (b : ℕ) (t : List ℕ) → some_split f (b ∷ t) ≡ true → (f (b ∷ t) ≡ true) ⊎ ((not (is_slash b) ≡ true) × (some_split f t ≡ true))
 split-cases f b t h =
     elim (or_cases (f (b ∷ t)) (not (is_slash b) && some_split f t) h) [
@@ -37,7 +37,7 @@ split-again f (b ∷ t) h =
       | inr later ↦ split-on f b t later.0 (split-again f t later.1)
     ]
 
--- a byte's piece and what is behind it
+-- a byte's piece and what follows it
 pub one-parts : (p : ℕ → Bool) (later : List Piece) (b : ℕ) (t : List ℕ) → fits (One p ∷ later) (b ∷ t) ≡ true → (not (is_slash b) ≡ true) × (fits later t ≡ true)
 one-parts p later b t h =
     let outer = and_parts (not (is_slash b) && p b) (fits later t) h in
@@ -52,7 +52,7 @@ one-split p later (b ∷ t) h =
       | inr other ↦ split-on (fits later) b t other.0 (one-split p later t other.1)
     ]
 
--- a split before a byte's piece gives one behind it
+-- a split before a byte's piece gives one after it
 pub one-step : (p : ℕ → Bool) (later : List Piece) (b : ℕ) (t : List ℕ) → some_split (fits (One p ∷ later)) (b ∷ t) ≡ true → some_split (fits later) t ≡ true
 one-step p later b t h =
     elim (split-cases (fits (One p ∷ later)) b t h) [
@@ -84,7 +84,7 @@ stop-split (One p ∷ ps) (b ∷ t) h =
 stop-split (Run ∷ ps) t h =
     split-again (fits (from_stop ps)) t (split-each (fits ps) (λ u. some_split (fits (from_stop ps)) u) (λ u fit. stop-split ps u fit) t h)
 
--- behind a folder: here, or later
+-- after a folder: here, or later
 pub folder-cases : (f : List ℕ → Bool) (b : ℕ) (t : List ℕ) → some_folder f (b ∷ t) ≡ true → ((is_slash b ≡ true) × (f t ≡ true)) ⊎ (some_folder f t ≡ true)
 folder-cases f b t h =
     elim (or_cases (is_slash b && f t) (some_folder f t) h) [
@@ -114,7 +114,7 @@ folder-again f (b ∷ t) h =
       | inr later ↦ folder-on f b t (folder-again f t later)
     ]
 
--- `**/` behind `**/` says no more
+-- `**/` after `**/` says no more
 pub folder-opens : (later : List Piece) (t : List ℕ) → some_folder (fits (Folders ∷ later)) t ≡ true → some_folder (fits later) t ≡ true
 folder-opens later [] h = h
 folder-opens later (b ∷ t) h =

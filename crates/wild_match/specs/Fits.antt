@@ -36,7 +36,7 @@ abbrev pub without_slash : List ℕ → List ℕ
 without_slash [] = []
 without_slash (b ∷ text) = if is_slash b then text else b ∷ text
 
--- what is behind the last `/`
+-- what follows the last `/`
 abbrev pub last_part : List ℕ → List ℕ
 last_part [] = []
 last_part (b ∷ text) = if list_any is_slash (b ∷ text) then last_part text else b ∷ text

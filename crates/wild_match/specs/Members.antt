@@ -26,7 +26,7 @@ end_at text =
     else if length text == 1 then None
     else Some (slice_index text 1, 2)
 
--- whether `-` stands behind n bytes, and then something that is not `]`
+-- whether `-` stands after n bytes, and then something that is not `]`
 abbrev pub is_range_at : ℕ → List ℕ → Bool
 is_range_at n text =
     nat_lt (n + 1) (length text) && (slice_index text n == hyphen) && not (slice_index text (n + 1) == close_bracket)
@@ -58,7 +58,7 @@ class_length text =
     if opens_class text then and_then (position is_close (drop 2 text)) (name_length (drop 2 text))
     else None
 
--- a class by its name, of so many bytes
+-- a class by its name of n bytes
 abbrev pub named : ℕ → Option Class → Option (Member × ℕ)
 named n None = None
 named n (Some class) = Some (Named class, n + 4)
@@ -82,7 +82,7 @@ abbrev pub with_member : Option (Member × ℕ) → (ℕ → Option (List Member
 with_member None later = None
 with_member (Some member) later = behind 1 (member.0 ∷ []) (later (member.1 - 1))
 
--- the members up to `]`, which is a member itself if it comes first; behind `skip` bytes of a member that was read
+-- the members up to `]`, which is a member itself if it comes first; after `skip` bytes of a member that was read
 abbrev pub members_behind : ℕ → Bool → List ℕ → Option (List Member × ℕ)
 members_behind skip first [] = None
 members_behind (suc skip) first (b ∷ text) = behind 1 [] (members_behind skip first text)
@@ -90,7 +90,7 @@ members_behind zero first (b ∷ text) =
     if is_close b && not first then Some ([], 1)
     else with_member (member_at (b ∷ text)) (λ skip. members_behind skip false text)
 
--- the members behind `[` and its negation, and how many bytes they take with the `]`
+-- the members after `[` and its negation, and how many bytes they take with the `]`
 abbrev pub set_members : List ℕ → Option (List Member × ℕ)
 set_members text = members_behind 0 true text
 

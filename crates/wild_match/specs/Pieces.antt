@@ -30,7 +30,7 @@ abbrev pub is_in_set : Bool → List Member → ℕ → Bool
 is_in_set true members b = not (is_member members b)
 is_in_set false members b = is_member members b
 
--- a set behind n bytes
+-- a set after n bytes
 abbrev pub set_piece : Bool → ℕ → Option (List Member × ℕ) → Piece × ℕ
 set_piece negated n None = (Never, n)
 set_piece negated n (Some set) = (One (is_in_set negated set.0), n + set.1)
@@ -39,7 +39,7 @@ set_piece negated n (Some set) = (One (is_in_set negated set.0), n + set.1)
 abbrev pub is_negated : List ℕ → Bool
 is_negated text = nat_le 1 (length text) && ((slice_index text 0 == bang) || (slice_index text 0 == caret))
 
--- `[` and what is behind it
+-- `[` and what follows it
 unfoldable pub set_front : List ℕ → Piece × ℕ
 set_front text =
     if is_negated text then set_piece true 2 (set_members (drop 1 text)) else set_piece false 1 (set_members text)
@@ -69,24 +69,25 @@ is_folders text = starts_with nat_eq text (codes "**/")
 abbrev pub is_rest : List ℕ → Bool
 is_rest text = bytes_eq text (codes "**")
 
--- the piece in front: at the start of a part `**/`, and `**` at the end, cross `/`. Each other star of a run splits by itself, which comes to the same.
+-- the piece in front: at the start of a part `**/`, and `**` at the end, cross `/`. Each other star of a run splits by
+-- itself, which has the same effect.
 unfoldable pub front : Bool → List ℕ → Piece × ℕ
 front fresh text =
     if fresh && is_folders text then (Folders, 3)
     else if fresh && is_rest text then (Rest, 2)
     else plain_front text
 
--- whether a part starts behind a piece
+-- whether a part starts after a piece
 abbrev pub is_fresh_behind : Piece → Bool
 is_fresh_behind Slash = true
 is_fresh_behind Folders = true
 is_fresh_behind piece = false
 
--- a piece, and those behind it
+-- a piece, and those after it
 abbrev pub onto : Piece × ℕ → (ℕ → Bool → List Piece) → List Piece
 onto first later = first.0 ∷ later (first.1 - 1) (is_fresh_behind first.0)
 
--- the pieces of a pattern, behind `skip` bytes of a piece that was read; `fresh`: at the start of a part
+-- the pieces of a pattern, after `skip` bytes of a piece that was read; `fresh`: at the start of a part
 abbrev pub pieces_behind : ℕ → Bool → List ℕ → List Piece
 pieces_behind skip fresh [] = []
 pieces_behind (suc skip) fresh (b ∷ text) = pieces_behind skip fresh text

@@ -12,7 +12,7 @@ use Rattle.wild_match.specs.declared.part.Part.TheVariants.{Matched as PartMatch
 use Rattle.wild_match.specs.Pieces.{Piece, Slash, One, Run, Folders, Rest, Never, pieces}
 use Rattle.wild_match.specs.Fits.{is_slash, fits}
 
--- how long a piece is that stands for one byte, where this one passes
+-- how long a piece is that stands for one byte, if this byte passes it
 abbrev pub one_length_of : ℕ → ℕ → Piece → Option ℕ
 one_length_of b n (One passes) = if passes b then Some n else None
 one_length_of b n piece = None
@@ -78,7 +78,7 @@ abbrev pub from_slash : List ℕ → List ℕ
 from_slash [] = []
 from_slash (b ∷ text) = if is_slash b then b ∷ text else from_slash text
 
--- both parts end in a `/`, and fit where what is behind them does
+-- both parts end in a `/`, and fit where what follows them does
 pub record BehindPart (first : List Piece) (pattern text later rest : List ℕ) : Type 0 where
   pub same : fits first text ≡ fits (pieces true later) rest
   pub stop : from_stop first ≡ Slash ∷ pieces true later

@@ -5,7 +5,7 @@ ghost use Rattle.wild_match.specs.Steps.{one_of, slash_of};
 
 use crate::sets::is_in_members;
 
-/// How many bytes the set behind `[` takes, with the `[`, where a byte passes it.
+/// How many bytes the set after `[` takes, with the `[`, if a byte passes it.
 #[tactic(auto, unfolding(crate::specs::Pieces::set_front))]
 fn set_length(text: &[u8], byte: u8) -> Option<usize>
     ensures value { result ≡ one_of byte (set_front text.now) }
@@ -20,7 +20,7 @@ fn set_length(text: &[u8], byte: u8) -> Option<usize>
     if is_member { Some(len + 1) } else { None }
 }
 
-/// How many bytes the piece in front of a pattern takes, where it stands for one byte and this byte, no `/`, passes it.
+/// How many bytes the piece in front of a pattern takes, if it stands for one byte and this byte, no `/`, passes it.
 #[tactic(auto, unfolding(crate::specs::Pieces::plain_front, crate::specs::Pieces::escape_front))]
 pub fn one_length(pattern: &[u8], byte: u8) -> Option<usize>
     requires some { 0 < length pattern.now }

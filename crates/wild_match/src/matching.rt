@@ -49,7 +49,7 @@ fn slash_at(text: &[u8]) -> Option<usize>
     text.iter().position(|b| *b == b'/')
 }
 
-/// Where what follows `**/` is tried next, which is behind the next `/`.
+/// Where what follows `**/` is tried next, which is after the next `/`.
 fn next_folder<'a>(back: Option<Place<'a>>) -> Option<Place<'a>>
     ensures { seen_back result ≡ next_folder (seen_back back.entry) }
 {

@@ -5,7 +5,7 @@ ghost use Rattle.wild_match.specs.Steps.{IsPart, IsStep, next_split, seen_back, 
 
 use crate::front::{one_length, slash_length};
 
-/// What stands in front of a pattern, in so many bytes, and whether a path goes on with it.
+/// What is in front of a pattern, with the number of its bytes, and whether a path goes on with it.
 #[derive(Clone, Copy)]
 pub enum Step {
     /// A star.
@@ -30,9 +30,9 @@ pub struct Place<'a> {
 /// How a part ended.
 #[derive(Clone, Copy)]
 pub enum Part<'a> {
-    /// The pattern had `**/`, and this is behind it.
+    /// The pattern had `**/`, and this is after it.
     Folders(Place<'a>),
-    /// The part fits, and this is behind its `/`.
+    /// The part fits, and this is after its `/`.
     Behind(Place<'a>),
     /// The whole pattern fits.
     Matched,
@@ -40,7 +40,7 @@ pub enum Part<'a> {
     Stuck,
 }
 
-/// What is left behind so many bytes of each.
+/// What is left of each after this many bytes.
 fn moved<'a>(at: Place<'a>, pattern_len: usize, path_len: usize) -> Place<'a>
     requires pattern { pattern_len ≤ length at.pattern.now }
     requires path { path_len ≤ length at.path.now }
@@ -80,7 +80,7 @@ fn front_step(pattern: &[u8], path: &[u8]) -> Step
     }
 }
 
-/// Where what follows a star is tried next, which is one byte on, but never behind a `/`.
+/// Where what follows a star is tried next, which is one byte on, but never after a `/`.
 fn next_split<'a>(back: Option<Place<'a>>) -> Option<Place<'a>>
     ensures { seen_back result ≡ next_split (seen_back back.entry) }
 {

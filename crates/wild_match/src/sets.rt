@@ -77,7 +77,7 @@ fn opens_class(text: &[u8]) -> bool
     text.len() >= 2 && text[0] == b'[' && text[1] == b':'
 }
 
-/// Where the first `]` stands from two bytes behind a place on, if a class may open there. `known` is that of an earlier
+/// Where the first `]` stands from two bytes after a place on, if a class may open there. `known` is that of an earlier
 /// place, so that a set is searched once and not for each `[:` again.
 fn next_close(text: &[u8], place: usize, known: usize) -> usize
     requires place { place ≤ length text.now }
@@ -94,8 +94,8 @@ fn next_close(text: &[u8], place: usize, known: usize) -> usize
     place + 2 + close_at(name)
 }
 
-/// How long the name of a class is, where the text begins with one: `[:`, the name and `:]`, which has the first `]`
-/// behind `[:`.
+/// How long the name of a class is, if the text begins with one: `[:`, the name and `:]`, which has the first `]` after
+/// `[:`.
 #[tactic(auto, unfolding(crate::specs::Members::class_length))]
 fn class_length(text: &[u8], close: usize) -> Option<usize>
     requires { opens_class text.now ≡ true → close ≡ position_or_len is_close (drop 2 text.now) }
@@ -130,14 +130,14 @@ fn member_at(text: &[u8], close: usize) -> Option<(Member, usize)>
     range_at(text, low, len)
 }
 
-/// Whether the set ends here, so many bytes behind its start.
+/// Whether the set ends here, this many bytes after its start.
 fn closes(text: &[u8], place: usize) -> bool
     ensures { result ≡ closes text.now place }
 {
     place > 0 && !text.is_empty() && text[0] == b']'
 }
 
-/// Whether a byte is a member of a set, and how many bytes the set takes with its `]`. `None` where it has no `]` or an
+/// Whether a byte is a member of a set, and how many bytes the set takes with its `]`. `None` if it has no `]` or an
 /// unknown class.
 pub fn is_in_members(text: &[u8], byte: u8) -> Option<(bool, usize)>
     ensures value { result ≡ seen byte (set_members text.now) }

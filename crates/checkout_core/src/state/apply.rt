@@ -79,7 +79,7 @@ fn closed_number(state: PathState) -> u32
     u32::from(matches!(state, PathState::Closed(_)))
 }
 
-/// The path after its driver's session ended so.
+/// The path after its driver's session ended like this.
 fn swept_path(was: Path, driver: u32, sweep: Sweep) -> Path
     ensures { result ≡ swept_path driver sweep was }
 {
@@ -97,7 +97,7 @@ fn swept_path(was: Path, driver: u32, sweep: Sweep) -> Path
     }
 }
 
-/// Ends the driver's delayed and named paths, which lie from `first` on and before `end`.
+/// Ends the driver's delayed and named paths, which are from `first` on and before `end`.
 fn sweep_paths(paths: &mut [Path], driver: u32, sweep: Sweep, first: u32, end: u32)
     requires within { IsWithin paths.old driver first end }
     requires end_fits { end ≤ length paths.old }

@@ -12,7 +12,7 @@ enum Call {
     Discard,
 }
 
-/// Calls the leaf, and tells whether that went well.
+/// Calls the leaf, and returns whether that went well.
 fn goes_well(leaf: &mut FileLeaf, call: Call) -> bool {
     match (call, leaf.state) {
         (_, LeafState::Sealed(_)) => false,
@@ -24,7 +24,7 @@ fn goes_well(leaf: &mut FileLeaf, call: Call) -> bool {
     }
 }
 
-/// What calls on the leaf of a path come to: each goes well or not, and then a file is there or not.
+/// The results of calls on the leaf of a path: each goes well or not, and then a file is there or not.
 #[derive(Clone, Copy)]
 struct Case {
     there: &'static [There],
@@ -107,7 +107,7 @@ const CASES: [Case; 14] = [
         calls: &[(Call::Put(b"one"), true), (Call::Discard, true)],
         held: ("tree/a", None),
     },
-    // a file that is there is kept, by a put, a seal and a discard
+    // a file that is already there is kept, by a put, a seal and a discard
     Case {
         there: &[TREE, File("tree/a", "old")],
         path: "a",
@@ -152,7 +152,7 @@ const CASES: [Case; 14] = [
         calls: &[(Call::Seal, false)],
         held: ("other/b", None),
     },
-    // but the worktree's own folder may be one
+    // but the worktree's own folder may be a link
     Case {
         there: &[Folder("other"), Link("tree", "other")],
         path: "a/b",

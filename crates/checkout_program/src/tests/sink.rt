@@ -5,7 +5,7 @@ use std::io;
 use std::io::{ErrorKind, Write};
 use std::test::Fail;
 
-/// A writer that takes at most three bytes at once, and then answers as it is told.
+/// A writer that takes at most three bytes at once, and fails after some writes.
 #[derive(Drop)]
 struct Slow {
     writes: u32,

@@ -9,7 +9,7 @@ const GIT: There = Folder("tree/.git");
 
 const A: There = File("tree/a", "");
 
-/// What stands there, and whether the folder `tree` is empty.
+/// What is there, and whether the folder `tree` is empty.
 const CASES: [(&[There], Result<bool, Failed>); 7] = [
     (&[], Ok(true)),
     (&[TREE], Ok(true)),
