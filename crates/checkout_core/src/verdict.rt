@@ -7,7 +7,7 @@ pub enum FilterCause {
     #[error("the driver refused the content")]
     Error,
     /// `status=error` after the content.
-    #[error("the driver refused the content after a part of it")]
+    #[error("the driver failed after a part of the content")]
     ErrorAfter,
     /// The driver answered `abort`, to this path or before it.
     #[error("the driver refused all later paths")]
@@ -29,9 +29,9 @@ pub enum ObjectKind {
     Absent,
     #[error("the object's first bytes are wrong")]
     Header,
-    #[error("the object has another size")]
+    #[error("the object's size isn't the one in its header")]
     Size,
-    #[error("the object has another name")]
+    #[error("the object's SHA-1 isn't its name")]
     WrongName,
     #[error("the object is too large")]
     TooLarge,

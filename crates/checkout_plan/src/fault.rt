@@ -15,7 +15,7 @@ pub enum PlanFault {
     #[error("the attribute file of entry {0} can't be read")]
     AttributeRead(u32),
     /// The object of an attribute file isn't right.
-    #[error("the attribute file of entry {0} has no right object")]
+    #[error("the object of the attribute file of entry {0} is absent or wrong")]
     Attribute(u32, ObjectKind),
     /// An attribute file of more than 1,048,576 bytes.
     #[error("the attribute file of entry {0} is too large")]

@@ -11,10 +11,10 @@ mod conversions;
 #[cfg(test)]
 mod index;
 #[cfg(test)]
+mod out_of_memory;
+#[cfg(test)]
 mod plans;
 #[cfg(test)]
 mod reports;
 #[cfg(test)]
 mod runs;
-#[cfg(test)]
-mod wanting;

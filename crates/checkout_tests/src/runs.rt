@@ -3,7 +3,7 @@ use crate::cases::{
     checkout, named, plain, repo_of, stage, tree_of, words_of,
 };
 use crate::index::{EXECUTABLE, GITLINK, LINK, PLAIN, Row, push_row};
-use crate::wanting::WantingRepo;
+use crate::out_of_memory::OutOfMemoryRepo;
 use checkout_engine::run;
 use edge_kit::{LeafCall, MemoryRepo, MemorySink, MemoryTree, RepoFail};
 use std::alloc::{AllocError, Global};
@@ -673,7 +673,7 @@ fn a_full_worktree_and_a_read_that_fails_stop_it(rt: HostRuntime) -> Result<(), 
 
 /// The status and the text of a report of two paths, if the second runs out of memory.
 #[test]
-fn a_path_that_wanted_memory_is_reported_and_told(rt: HostRuntime) -> Result<(), Fail> {
+fn a_path_that_runs_out_of_memory_is_reported(rt: HostRuntime) -> Result<(), Fail> {
     let alloc = rt.alloc();
     let rows = [plain(b"a"), named(b"b", BIN)];
     let case = checkout(&rows, "");
@@ -687,9 +687,9 @@ fn a_path_that_wanted_memory_is_reported_and_told(rt: HostRuntime) -> Result<(),
         (Some(1), "written - - - a\n"),
     ];
     for (fails, wanted) in cases {
-        let mut repo = WantingRepo {
+        let mut repo = OutOfMemoryRepo {
             repo: repo_of(alloc, &case)?,
-            wanting: BIN,
+            unmade: BIN,
         };
         let mut tree = tree_of(alloc, &case)?;
         let mut out = MemorySink::new(alloc, fails);

@@ -21,7 +21,7 @@ enum Call {
 }
 
 /// Whether a call answers as it should.
-fn goes_so<L: Link>(link: &mut L, call: Call) -> bool {
+fn call_answers<L: Link>(link: &mut L, call: Call) -> bool {
     match call {
         Call::Send(piece, wanted) => link.send(piece) == wanted,
         Call::Read(wanted) => {
@@ -97,7 +97,7 @@ fn talk<P: Spawner>(spawner: &mut P, calls: &[Call]) -> Result<bool, SendFault> 
         Ok(mut link) => {
             let mut well = true;
             for call in calls {
-                well = goes_so(&mut link, *call) && well;
+                well = call_answers(&mut link, *call) && well;
             }
             starter.end(link);
             Ok(well)
@@ -192,9 +192,7 @@ const TALKS: [(Script, &[Call], &[u8]); 7] = [
 ];
 
 #[test]
-fn a_link_gives_its_output_in_pieces_and_fails_where_it_is_told_to(
-    rt: HostRuntime,
-) -> Result<(), Fail> {
+fn a_link_gives_its_output_in_pieces_and_fails_at_a_set_call(rt: HostRuntime) -> Result<(), Fail> {
     let alloc = rt.alloc();
     for (script, calls, kept) in TALKS {
         let mut scripts = Vec::new(alloc);
@@ -210,14 +208,14 @@ fn a_link_gives_its_output_in_pieces_and_fails_where_it_is_told_to(
 }
 
 /// Whether a start gives this output, read whole, or fails if there is none.
-fn starts_so<S: Starter>(starter: &mut S, wanted: Option<&'static [u8]>) -> bool
+fn start_gives<S: Starter>(starter: &mut S, wanted: Option<&'static [u8]>) -> bool
     requires { length (S.seen starter.old).had < 10 }
     ensures had { length (S.seen starter.new).had ≤ length (S.seen starter.old).had + 1 }
     ensures out { (S.seen starter.new).out ≡ (S.seen starter.old).out }
 {
     match starter.start() {
         Ok(mut link) => {
-            let well = goes_so(&mut link, Call::Read(Ok(wanted.unwrap_or(b"!"))));
+            let well = call_answers(&mut link, Call::Read(Ok(wanted.unwrap_or(b"!"))));
             starter.end(link);
             well
         }
@@ -233,9 +231,9 @@ fn three_starts<P: Spawner>(
 ) -> Result<bool, AllocError> {
     let mut starter = spawner.starter(command)?;
     let [first, second, third] = wanted;
-    let well = starts_so(&mut starter, first);
-    let well = starts_so(&mut starter, second) && well;
-    let well = starts_so(&mut starter, third) && well;
+    let well = start_gives(&mut starter, first);
+    let well = start_gives(&mut starter, second) && well;
+    let well = start_gives(&mut starter, third) && well;
     spawner.take_back(starter);
     Ok(well)
 }
@@ -291,11 +289,11 @@ fn starts_are_kept_in_order_for_each_driver(rt: HostRuntime) -> Result<(), Fail>
 }
 
 /// Two sessions of `a` at once, of which the second ends first, and a starter of `b` that is given back first.
-fn crossed<P: Spawner>(spawner: &mut P) -> Result<(), SendFault> {
+fn two_starters<P: Spawner>(spawner: &mut P) -> Result<(), SendFault> {
     let mut starter = spawner.starter(b"a")?;
     let other = spawner.starter(b"b")?;
     let mut first = starter.start()?;
-    let failed = starts_so(&mut starter, None);
+    let failed = start_gives(&mut starter, None);
     let second = starter.start()?;
     if failed {
         first.send(b"hello")?;
@@ -311,7 +309,7 @@ fn crossed<P: Spawner>(spawner: &mut P) -> Result<(), SendFault> {
 fn sessions_are_kept_in_the_order_of_their_ends(rt: HostRuntime) -> Result<(), Fail> {
     let alloc = rt.alloc();
     let mut spawner = spawner_of_two(alloc)?;
-    assert!(rt; crossed(&mut spawner).is_ok());
+    assert!(rt; two_starters(&mut spawner).is_ok());
     let kept: [&[u8]; 2] = [b"b", b"a ! > 00 hello> 00"];
     assert!(rt; spawner.drivers().len() == 2);
     for (wanted, driver) in kept.into_iter().zip(spawner.drivers()) {

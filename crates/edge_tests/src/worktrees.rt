@@ -48,7 +48,7 @@ const CALLS: [(LeafCall, &str, LeafCall, bool); 8] = [
 ];
 
 #[test]
-fn a_leaf_fails_where_it_is_told_to(rt: HostRuntime) -> Result<(), Fail> {
+fn a_leaf_fails_at_a_set_call(rt: HostRuntime) -> Result<(), Fail> {
     for (fail, path, call, well) in CALLS {
         assert!(rt;
             goes_beside(rt.alloc(), fail, path, call)? == well,

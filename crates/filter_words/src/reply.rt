@@ -13,10 +13,10 @@ pub enum BreakCause {
     #[error("a send or a read failed")]
     LinkFault,
     /// Four bytes that give no length of a packet.
-    #[error("a packet has no length")]
+    #[error("a packet's length is wrong")]
     BadPacket,
     /// A handshake that isn't the protocol's.
-    #[error("the handshake is another")]
+    #[error("the handshake is wrong")]
     BadHandshake,
     /// A status that the request doesn't allow, or none.
     #[error("the status isn't known")]

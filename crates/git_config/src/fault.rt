@@ -9,13 +9,13 @@ use thiserror::Error;
 #[derive(Error, Clone, Copy, Debug, PartialEq, Eq)]
 pub enum LineKind {
     /// A section's header that can't be read.
-    #[error("a section's header doesn't read")]
+    #[error("a section's header can't be read")]
     Section,
     /// A line that begins with no letter, or a key with something other than `=` after it.
-    #[error("a key doesn't read")]
+    #[error("a key can't be read")]
     Key,
     /// An unknown escape, or a quote that is open at the end of the line.
-    #[error("a value doesn't read")]
+    #[error("a value can't be read")]
     Value,
     /// A key before the first section.
     #[error("a key stands before the first section")]

@@ -15,10 +15,10 @@ pub enum ObjectFault {
     #[error("the object has no header of an uncompressed blob")]
     Header,
     /// The decimal isn't the length of what follows the NUL.
-    #[error("the object has another size than its header says")]
+    #[error("the object's size isn't the one in its header")]
     Size,
     /// The SHA-1 of the stored bytes, which isn't the object's name.
-    #[error("the object has another name")]
+    #[error("the object's SHA-1 isn't its name")]
     WrongName([u8; 20]),
     #[error("out of memory")]
     NoMemory,

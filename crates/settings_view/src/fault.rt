@@ -32,13 +32,13 @@ pub enum KeyId {
 #[derive(Error, Clone, Copy, Debug, PartialEq, Eq)]
 pub enum SettingFault {
     /// The value isn't a truth value.
-    #[error("{0} has no truth value")]
+    #[error("{0} is neither true nor false")]
     BadBool(KeyId),
     /// The value isn't a number, or there is none.
-    #[error("{0} has no number")]
+    #[error("{0} isn't a number in its range")]
     BadNumber(KeyId),
     /// The value is none of the key's words, or there is none.
-    #[error("{0} has none of its words")]
+    #[error("{0} isn't one of its words")]
     BadChoice(KeyId),
     /// Out of memory.
     #[error("out of memory")]

@@ -4,14 +4,14 @@ ghost use Rattle.std.specs.Prelude.{◌≡◌};
 use edge_kit::{MemoryBlob, MemoryRepo, Repo, TakeFault};
 use std::alloc::AllocError;
 
-/// A repository in memory. No blob with the name `wanting` can be made.
+/// A repository in memory. No blob with the name `unmade` can be made.
 #[derive(Drop)]
-pub struct WantingRepo {
+pub struct OutOfMemoryRepo {
     pub repo: MemoryRepo,
-    pub wanting: [u8; 20],
+    pub unmade: [u8; 20],
 }
 
-impl Repo for WantingRepo {
+impl Repo for OutOfMemoryRepo {
     type Blob = MemoryBlob;
 
     ghost told = { λ r. ⟦<MemoryRepo as Repo>⟧.told r.repo };
@@ -31,7 +31,7 @@ impl Repo for WantingRepo {
     }
 
     fn blob(&mut self, name: &[u8; 20]) -> Result<MemoryBlob, AllocError> {
-        if *name == self.wanting {
+        if *name == self.unmade {
             return Err(AllocError);
         }
         self.repo.blob(name)
