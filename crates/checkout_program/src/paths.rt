@@ -1,3 +1,4 @@
+//! The paths of the files that the program opens.
 ghost use Rattle.std.specs.Prelude.{◌≡◌, IfOk, string_bytes};
 ghost use Rattle.checkout_program.specs.Paths.{path_in};
 

@@ -1,3 +1,4 @@
+//! A file, read whole and within a limit.
 ghost use Rattle.edge_kit.specs.Told.{Untold, Takes};
 
 use edge_kit::TakeFault;

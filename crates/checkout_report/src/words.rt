@@ -1,3 +1,4 @@
+//! The words of a line of the report.
 ghost use Rattle.std.specs.Prelude.{◌≡◌};
 ghost use Rattle.checkout_report.specs.Report.{word_of, mark_word, encoding_word, note_of};
 ghost use Rattle.checkout_report.specs.Report.{break_word, filter_word, object_word, fail_word};

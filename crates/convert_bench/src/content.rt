@@ -1,3 +1,4 @@
+//! The contents that are converted.
 ghost use Rattle.std.specs.Prelude.{◌<◌};
 
 use std::alloc::{AllocError, Global};

@@ -1,3 +1,4 @@
+//! The conversions, and a copy beside them.
 use eol_convert::{LineEnds, to_tree_ends};
 use ident_convert::expand_ident;
 use std::alloc::{AllocError, Global};

@@ -1,3 +1,4 @@
+//! A blob's content, converted for the worktree.
 ghost use Rattle.std.specs.Prelude.{◌≡◌, IfOk};
 ghost use Rattle.ident_convert.specs.Ident.{expanded, keyword_text};
 ghost use Rattle.eol_convert.specs.Content.{to_tree_ends};

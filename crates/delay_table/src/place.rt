@@ -1,4 +1,4 @@
-// One place of a table.
+//! One place of a table.
 ghost use Rattle.std.specs.Prelude.{◌≡◌, ◌≢◌, Some, MatchBool};
 ghost use Rattle.delay_table.specs.Table.{is_pending};
 ghost use Rattle.delay_table.specs.declared.place.Place.TheVariants.{Delayed, Listed};

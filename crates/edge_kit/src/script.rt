@@ -1,3 +1,4 @@
+//! What a driver in memory does.
 use byte_path::{Bytes, Items};
 
 /// How a link in memory gives its output, and which of its calls fail.

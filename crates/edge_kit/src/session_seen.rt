@@ -1,3 +1,4 @@
+//! What came of the starts of a driver in memory.
 use byte_path::{Bytes, Items};
 
 /// A session that ended.

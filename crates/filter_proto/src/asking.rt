@@ -1,4 +1,4 @@
-// The reply to a request for a path: each payload of its content is put when its packet is whole.
+//! The reply to a request for a path: each payload of its content is put when its packet is whole.
 ghost use Rattle.std.specs.Prelude.{◌≡◌, ◌≤◌, ◌<◌, ◌+◌, ◌-◌, ◌*◌, ◌++◌, ℕ, Bool, true, false, Ok, List, [], length};
 ghost use Rattle.pkt_line.specs.Packets.{Payload};
 ghost use Rattle.filter_words.specs.Requests.{first_text, second_text};

@@ -1,4 +1,4 @@
-// The answer to a list request: each path that it names is listed in the table when its packet is whole.
+//! The answer to a list request: each path that it names is listed in the table when its packet is whole.
 ghost use Rattle.std.specs.Prelude.{◌≡◌, ◌≤◌, ◌<◌, ◌+◌, ◌-◌, ◌*◌, List, ℕ, length};
 ghost use Rattle.pkt_line.specs.Packets.{Payload, Flush};
 ghost use Rattle.delay_table.specs.Table.{Table};

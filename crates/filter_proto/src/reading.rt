@@ -1,3 +1,4 @@
+//! How far the reading of a reply has come.
 use edge_kit::SendFault;
 use filter_words::{Reply, ReplyPhase};
 

@@ -1,4 +1,4 @@
-// A request for a path is sent packet by packet, so its content is never copied as a whole.
+//! A request for a path is sent packet by packet, so its content is never copied as a whole.
 ghost use Rattle.std.specs.Prelude.{◌≡◌, ◌≤◌, ◌<◌, ◌++◌, [], length, OnOk, OnErr};
 ghost use Rattle.pkt_line.specs.Packets.{Payload};
 ghost use Rattle.pkt_line.specs.Spelling.{spelling};

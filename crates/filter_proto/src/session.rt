@@ -1,3 +1,4 @@
+//! A session with a driver: its calls, each over one exchange.
 ghost use Rattle.std.specs.Prelude.{◌≡◌, IsTrue, ◌↔◌, ◌≤◌, ◌<◌, IfOk, OnOk, take, drop, length, vec_len};
 ghost use Rattle.pkt_line.specs.Packets.{IsPartial, HasPacketOf};
 ghost use Rattle.filter_words.specs.Requests.{first_text, list_text};

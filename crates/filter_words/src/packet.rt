@@ -1,3 +1,4 @@
+//! A packet as the reader gives it.
 ghost use Rattle.std.specs.Prelude.{◌≡◌};
 ghost use Rattle.pkt_line.specs.Packets.{size};
 ghost use Rattle.filter_words.specs.Outcomes.{packet_of};

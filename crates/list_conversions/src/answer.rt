@@ -1,3 +1,4 @@
+//! The lines of the output.
 ghost use Rattle.std.specs.Prelude.{◌≡◌, ◌++◌, OnOk};
 ghost use Rattle.list_conversions.specs.Task.{answer};
 

@@ -1,3 +1,4 @@
+//! The lines of the input.
 ghost use Rattle.std.specs.Prelude.{◌≡◌, IfOk, Ok, Some};
 ghost use Rattle.std.specs.List.{before_first, after_first};
 ghost use Rattle.hex.specs.Hex.{decode_of};

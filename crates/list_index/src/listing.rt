@@ -1,3 +1,4 @@
+//! The lines of the output.
 ghost use Rattle.std.specs.Prelude.{◌≡◌, ◌++◌, OnOk, IfOk};
 ghost use Rattle.std.specs.List.{flat_map};
 ghost use Rattle.list_index.specs.Listing.{octal, line};

@@ -1,3 +1,4 @@
+//! A run of the core with many paths and two drivers.
 ghost use Rattle.std.specs.Prelude.{◌≡◌, ◌<◌, ℕ, Bool, length, IfOk};
 ghost use Rattle.checkout_core.specs.States.{AreBelow};
 ghost use Rattle.checkout_core.specs.declared.path.Start.TheVariants.{Desk};

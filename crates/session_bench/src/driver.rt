@@ -1,4 +1,4 @@
-// A driver that gives the same reply again and again.
+//! A driver that gives the same reply again and again.
 ghost use Rattle.std.specs.Prelude.{◌≡◌, ◌≤◌, length};
 ghost use Rattle.session_bench.specs.Drivers.{seen_of};
 

@@ -1,4 +1,4 @@
-// A leaf in memory that never fails.
+//! A leaf in memory that never fails.
 ghost use Rattle.std.specs.Prelude.{◌≡◌, MatchBool, ◌≢◌, None, []};
 ghost use Rattle.edge_kit.specs.declared.leaf_state.LeafState.TheVariants as leaf_state;
 

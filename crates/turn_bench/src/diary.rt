@@ -1,4 +1,4 @@
-// A diary under a lock, written by many seats.
+//! A diary under a lock, written by many seats.
 ghost use Rattle.std.specs.Prelude.{◌≡◌, ◌≤◌, ◌<◌, ℕ};
 ghost use Rattle.turn_lock.specs.Seat.{number_of};
 ghost use Rattle.turn_lock.specs.Seats.{IsSeat};

@@ -1,3 +1,4 @@
+//! What a value under the lock tells.
 ghost use Rattle.std.specs.Prelude.{ℕ, List};
 
 /// A value that keeps a history. Its members are for contracts alone, so none of them runs.

@@ -1,4 +1,4 @@
-// What a whole turn does to a seat, and what holds of the seats of a lock, one by one.
+//! What a whole turn does to a seat, and what holds of the seats of a lock, one by one.
 ghost use Rattle.std.specs.Prelude.{◌≡◌, ◌+◌, ℕ, List, Some, length, slice_get};
 ghost use Rattle.atomic_table.specs.Seated.{TableId};
 ghost use Rattle.turn_lock.specs.Seat.{SeatView, number_of, entered};

@@ -1,3 +1,4 @@
+//! What a step makes of the state: one path, one driver, and the cursors.
 ghost use Rattle.std.specs.Prelude.{◌≡◌, ◌+◌, ◌<◌, ◌≤◌, ◌^◌, length, cond};
 ghost use Rattle.checkout_core.specs.States.{is_closed};
 ghost use Rattle.checkout_core.specs.Effects.{after, swept_path};

@@ -1,3 +1,4 @@
+//! The state before the first event.
 ghost use Rattle.std.specs.Prelude.{◌≡◌, ◌<◌, ◌≤◌, ◌^◌, length, map, replicate, IfOk};
 ghost use Rattle.checkout_core.specs.States.{AreBelow, path_of, start, unclosed_count};
 ghost use Rattle.checkout_core.specs.Cursors.{new_cursor};
