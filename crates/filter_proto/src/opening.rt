@@ -1,5 +1,5 @@
-//! The handshake of a session, gitattributes(5), "Long Running Filter Process": two texts, and two answers that count as
-//! one.
+//! The handshake of a session, gitattributes(5), "Long Running Filter Process": two texts, and two answers that count
+//! as one.
 ghost use Rattle.std.specs.Prelude.{◌≡◌, ◌<◌, ◌+◌, ◌-◌, ◌*◌, ℕ, true, false, List, []};
 ghost use Rattle.std.specs.Prelude.{IfOk, OnOk, IfErr, length, vec_len};
 ghost use Rattle.pkt_line.specs.Packets.{Packet};
