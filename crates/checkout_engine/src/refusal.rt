@@ -1,5 +1,6 @@
 //! The line of a refusal.
-ghost use Rattle.std.specs.Prelude.{◌≡◌, IfOk, string_bytes};
+ghost use Rattle.std.specs.Prelude.{◌≡◌, ◌++◌, ◌∷◌, IfOk, string_bytes};
+ghost use Rattle.std.specs.Fmt.{decimal};
 ghost use Rattle.checkout_engine.specs.RefusalText.{index_words, config_words};
 ghost use Rattle.checkout_engine.specs.RefusalText.{attribute_words, refusal_words, refusal_line};
 
@@ -10,6 +11,12 @@ use git_config::ConfigFault;
 use git_index::IndexFault;
 use std::alloc::{AllocError, Global};
 
+fn numbered(alloc: Global, word: &str, number: u32) -> Result<String, AllocError>
+    ensures { IfOk result (λ s. string_bytes s ≡ word.now ++ 32 ∷ decimal number) }
+{
+    format!(in alloc; "{word} {number}")
+}
+
 fn index_words(alloc: Global, fault: IndexFault) -> Result<String, AllocError>
     ensures { IfOk result (λ s. string_bytes s ≡ index_words fault) }
 {
@@ -19,7 +26,7 @@ fn index_words(alloc: Global, fault: IndexFault) -> Result<String, AllocError>
         | IndexFault::Count(n)
         | IndexFault::Mode(n)
         | IndexFault::Order(n)
-        | IndexFault::FolderClash(n) => format!(in alloc; "{word} {n}"),
+        | IndexFault::FolderClash(n) => numbered(alloc, word, n),
         IndexFault::Entry(k, kind) => {
             let kind = kind.word();
             format!(in alloc; "{word} {k} {kind}")
