@@ -1,0 +1,6 @@
+pub mod Laws
+pub mod Lists
+pub mod Flags
+pub mod Runs
+pub mod Entries
+pub mod Sounding
