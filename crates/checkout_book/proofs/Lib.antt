@@ -4,3 +4,5 @@ pub mod Flags
 pub mod Runs
 pub mod Entries
 pub mod Sounding
+pub mod Histories
+pub mod Turning

@@ -26,6 +26,10 @@ same_or p q = dite (ℕ_discrete p q) (λ same. inl (same, eq-eqb p q same)) (λ
 pub eqb_self : (p : ℕ) → (p == p) ≡ true
 eqb_self p = eq-eqb p p refl
 
+pub same_number : (a b : ℕ) → (a == b) ≡ true → a ≡ b
+same_number a b e = ⊎_elim (λ (h : (a ≡ b) × ((a == b) ≡ true)). h.0)
+    (λ (h : ((a ≡ b) → ⊥) × ((a == b) ≡ false)). absurd (let t = h.1 in cc (t, e))) (same_or a b)
+
 pub eqb_swap : (p q : ℕ) → (p == q) ≡ (q == p)
 eqb_swap p q = ⊎_elim
     (λ (h : (p ≡ q) × ((p == q) ≡ true)). h.1 ∙ sym (eq-eqb q p (sym h.0)))

@@ -4,3 +4,4 @@ pub mod Sights
 pub mod Entries
 pub mod Shelves
 pub mod Turns
+pub mod Passes

@@ -1,6 +1,7 @@
 //! The cards of a checkout under a lock, with the one history of its actors.
 #![tactic(auto)]
 
+pub mod book;
 pub mod plan;
 pub mod shelf;
 mod turns;
