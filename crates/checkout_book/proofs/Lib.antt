@@ -6,3 +6,5 @@ pub mod Entries
 pub mod Sounding
 pub mod Histories
 pub mod Turning
+pub mod Finishing
+pub mod Endings

@@ -5,3 +5,5 @@ pub mod Entries
 pub mod Shelves
 pub mod Turns
 pub mod Passes
+pub mod Reserving
+pub mod Ending

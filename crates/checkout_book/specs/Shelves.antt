@@ -53,6 +53,10 @@ module _ {B L : Type 0} where
     drivers = s.drivers;
   }
 
+  -- there is room for the blob and the leaf of each path
+  abbrev pub HasPlace : Shelf B L → Type 0
+  HasPlace s = (s.parts.items ≡ []) × (length s.slots.items ≤ vec_capacity s.parts)
+
   -- the slot holds what an entry of the history says that was closed
   abbrev pub IsEnded : List (Slot B L) → Event → Type 0
   IsEnded slots (Close p a o) = (b : B) × (l : L) × (slice_get slots p ≡ Some (Ended b l))

@@ -2,7 +2,9 @@
 #![tactic(auto)]
 
 pub mod book;
+pub mod ending;
 pub mod plan;
+pub mod reserving;
 pub mod shelf;
 mod turns;
 mod waiting;

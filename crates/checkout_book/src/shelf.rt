@@ -25,6 +25,8 @@ pub struct Rack<B: Blob, L: Leaf, P, Q, R> {
     /// One for each path.
     pub(crate) slots: Vec<Slot<B, L>>,
     pub(crate) waiting: Waiting,
+    /// Empty, with room for the blob and the leaf of each path.
+    pub(crate) parts: Vec<(B, L)>,
     pub(crate) workers: u32,
     pub(crate) drivers: u32,
     pub(crate) pool: P,
@@ -43,7 +45,7 @@ pub type Shelf<B: Blob, L: Leaf> = Rack<
 impl<B: Blob, L: Leaf> Kept for Shelf<B, L> {
     ghost use Rattle.std.specs.Prelude.{◌≡◌};
     ghost use Rattle.checkout_book.specs.Entries.{history_of};
-    ghost use Rattle.checkout_book.specs.Shelves.{plan_of, IsSound};
+    ghost use Rattle.checkout_book.specs.Shelves.{plan_of, IsSound, HasPlace};
     ghost use Rattle.checkout_book.specs.Sights.{sight, tell};
 
     type Entry = Entry;
@@ -54,5 +56,5 @@ impl<B: Blob, L: Leaf> Kept for Shelf<B, L> {
 
     ghost told = { λ s. plan_of s };
 
-    ghost fits = { λ s d. (plan_of s ≡ d) × IsSound (sight B.told B.seen L.seen) s };
+    ghost fits = { λ s d. (plan_of s ≡ d) × IsSound (sight B.told B.seen L.seen) s × HasPlace s };
 }

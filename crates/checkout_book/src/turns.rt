@@ -5,7 +5,7 @@ ghost use Rattle.checkout_core.specs.Steps.{step_of};
 ghost use Rattle.checkout_core.specs.declared.event.Event.TheVariants.{Claim, Close, HandBack};
 ghost use Rattle.core_laws.specs.Moves.{is_noted};
 ghost use Rattle.checkout_book.specs.declared.shelf.Slot.TheVariants.{Waits, Ended};
-ghost use Rattle.checkout_book.specs.Shelves.{IsSound, IsFrom, IsRefused, plan_of, cards_of};
+ghost use Rattle.checkout_book.specs.Shelves.{IsSound, HasPlace, IsFrom, IsRefused, plan_of, cards_of, waits};
 ghost use Rattle.checkout_book.specs.Turns.{Turned, Claimed, Unclaimed, Noted};
 ghost use Rattle.checkout_book.specs.Sights.{sight};
 
@@ -15,6 +15,13 @@ use convert_plan::Card;
 use core_laws::laws;
 use edge_kit::{Blob, Leaf};
 use std::mem;
+
+/// Whether a card waits there.
+pub(crate) fn is_waiting_card<B: Blob, L: Leaf>(slot: &Slot<B, L>) -> bool
+    ensures { result ≡ waits slot.now }
+{
+    matches!(slot, Slot::Waits(_))
+}
 
 /// Takes an event that is a step.
 fn take(core: &mut State, event: Event)
@@ -30,6 +37,7 @@ impl<B: Blob, L: Leaf> Shelf<B, L> {
         requires sound { IsSound (sight B.told B.seen L.seen) self.old }
         requires actor { actor < self.old.workers + self.old.drivers }
         ensures sound { IsSound (sight B.told B.seen L.seen) self.new }
+        ensures place { HasPlace self.old → HasPlace self.new }
         ensures none { IfNone result (Unclaimed self.old self.new) }
         ensures some { IfSome result (Claimed actor self.old self.new) }
     {
@@ -55,6 +63,7 @@ impl<B: Blob, L: Leaf> Shelf<B, L> {
         requires step { is_step self.old.core (Close path actor own) ≡ true }
         requires from { IsFrom (sight B.told B.seen L.seen) (cards_of (plan_of self.old)) path blob leaf }
         ensures sound { IsSound (sight B.told B.seen L.seen) self.new }
+        ensures place { HasPlace self.old → HasPlace self.new }
         ensures turned { Turned (Close path actor own) path (Ended blob leaf) self.old self.new }
     {
         laws::a_close_closes_its_path();
@@ -75,6 +84,7 @@ impl<B: Blob, L: Leaf> Shelf<B, L> {
         requires by { is_some (actor_of (plan_of self.old).starts.items self.old.workers event) ≡ true }
         requires step { is_step self.old.core event ≡ true }
         ensures sound { IsSound (sight B.told B.seen L.seen) self.new }
+        ensures place { HasPlace self.old → HasPlace self.new }
         ensures noted { Noted event self.old self.new }
     {
         laws::a_note_keeps_paths_with_their_driver();
@@ -91,6 +101,7 @@ impl<B: Blob, L: Leaf> Shelf<B, L> {
         requires step { is_step self.old.core (HandBack card.path) ≡ true }
         requires refused { IsRefused (sight B.told B.seen L.seen) (cards_of (plan_of self.old)) card }
         ensures sound { IsSound (sight B.told B.seen L.seen) self.new }
+        ensures place { HasPlace self.old → HasPlace self.new }
         ensures turned { Turned (HandBack card.path) card.path (Waits card) self.old self.new }
     {
         laws::a_path_that_is_handed_back_waits();
