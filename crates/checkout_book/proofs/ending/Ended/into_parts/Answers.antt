@@ -1,0 +1,58 @@
+use Rattle.std.proofs.Common.{◌≡◌, ◌≤◌, ◌+◌, ◌++◌, ◌∷◌, [], ℕ, List, length, length-append, refl, sym, ap, ◌∙◌, subst, arith, append_assoc}
+use Rattle.std.proofs.lemmas.List.{append-nil}
+use Rattle.checkout_book.specs.Ending.{parts_in}
+use Rattle.checkout_book.proofs.Endings.{parts_next}
+use Rattle.checkout_book.proofs.ending.Ended.into_parts.Goals as goal
+
+pub loop-slot-init : goal.loop-slot-init
+loop-slot-init g c = record {
+  whole = c.into_iter-slot-iterator.ensures.into_iter_gives.0;
+  parts = c.requires.place.0;
+  few = omega (arith, ap length c.requires.place.0);
+  room = refl;
+  can = tt;
+  ends = tt;
+}
+
+pub loop-slot-preserved-in-Ended : goal.loop-slot-preserved-in-Ended
+loop-slot-preserved-in-Ended g c =
+    let i = c.loop-slot.invariant in
+    let y = c.loop-slot.yielded in
+    let x = c.in-Some.slot in
+    let p = c.push_reserved.ensures.items in
+    record {
+      whole = append_assoc y (x ∷ []) c.next.new.self.rest.items ∙ (ap (λ l. y ++ l) (sym c.in-Some.ensures.steps.0) ∙ i.whole);
+      parts = parts_next y x c.loop-slot.parts.items c.push_reserved.new.self.items ((c.in-Ended.blob, c.in-Ended.leaf) ∷ []) i.parts p (ap (λ s. parts_in (s ∷ [])) c.in-Ended.is);
+      few = omega (arith, ap length p, length-append c.loop-slot.parts.items ((c.in-Ended.blob, c.in-Ended.leaf) ∷ []), length-append y (x ∷ []), i.few);
+      room = c.push_reserved.ensures.capacity ∙ i.room;
+      can = tt;
+      ends = tt;
+    }
+
+pub loop-slot-preserved-in-Waits : goal.loop-slot-preserved-in-Waits
+loop-slot-preserved-in-Waits g c =
+    let i = c.loop-slot.invariant in
+    let y = c.loop-slot.yielded in
+    let x = c.in-Some.slot in
+    record {
+      whole = append_assoc y (x ∷ []) c.next.new.self.rest.items ∙ (ap (λ l. y ++ l) (sym c.in-Some.ensures.steps.0) ∙ i.whole);
+      parts = parts_next y x c.loop-slot.parts.items c.loop-slot.parts.items [] i.parts (sym (append-nil c.loop-slot.parts.items)) (ap (λ s. parts_in (s ∷ [])) c.in-Waits.is);
+      few = omega (arith, length-append y (x ∷ []), i.few);
+      room = i.room;
+      can = tt;
+      ends = tt;
+    }
+
+pub loop-slot-preserved : goal.loop-slot-preserved
+loop-slot-preserved g c =
+    let i = c.loop-slot.invariant in
+    let y = c.loop-slot.yielded in
+    let x = c.in-Some.slot in
+    record {
+      whole = append_assoc y (x ∷ []) c.next.new.self.rest.items ∙ (ap (λ l. y ++ l) (sym c.in-Some.ensures.steps.0) ∙ i.whole);
+      parts = parts_next y x c.loop-slot.parts.items c.loop-slot.parts.items [] i.parts (sym (append-nil c.loop-slot.parts.items)) (ap (λ s. parts_in (s ∷ [])) c.in-Away.is);
+      few = omega (arith, length-append y (x ∷ []), i.few);
+      room = i.room;
+      can = tt;
+      ends = tt;
+    }

@@ -1,0 +1,65 @@
+-- The cards of a book as it begins and ends.
+use Rattle.std.specs.Prelude.{◌≡◌, ℕ, zero, suc, ◌<◌, ◌≤◌, Bool, false, List, [], ◌∷◌, length, Some, slice_get, slice_set}
+use Rattle.atomic_table.specs.Seated.{TableId}
+use Rattle.turn_lock.specs.History.{own, Begins}
+use Rattle.turn_lock.specs.Seat.{SeatView, mine_of, seen_of}
+use Rattle.convert_plan.specs.declared.card.Card.{Card}
+use Rattle.convert_plan.specs.Card.{IsNewCard}
+use Rattle.checkout_core.specs.declared.path.Start.{Start}
+use Rattle.checkout_core.specs.declared.path.Start.TheVariants.{Pool}
+use Rattle.checkout_core.specs.States.{Core}
+use Rattle.checkout_core.specs.Hands.{held_at}
+use Rattle.checkout_book.specs.declared.plan.Plan.{Plan}
+use Rattle.checkout_book.specs.declared.plan.Entry.{Entry}
+use Rattle.checkout_book.specs.declared.shelf.Slot.{Slot}
+use Rattle.checkout_book.specs.declared.shelf.Slot.TheVariants.{Away, Waits}
+use Rattle.checkout_book.specs.Shape.{Shelf}
+use Rattle.checkout_book.specs.Sights.{Sight, seen, tell}
+use Rattle.checkout_book.specs.Entries.{history_of}
+use Rattle.checkout_book.specs.Shelves.{plan_of, IsSound, HasPlace}
+use Rattle.checkout_book.specs.Passes.{IsPass}
+
+module _ {B L : Type 0} where
+  abbrev pub aways : ℕ → List (Slot B L)
+  aways zero = []
+  aways (suc n) = Away ∷ aways n
+
+  -- each card in the slot of its path
+  abbrev pub placed : List (Slot B L) → List (Card B L) → List (Slot B L)
+  placed slots [] = slots
+  placed slots (c ∷ cs) = placed (slice_set slots c.path (Waits c)) cs
+
+  -- each card's path starts in the pool, and each such path has its card
+  pub record ArePool (starts : List Start) (pool : List (Card B L)) : Type 0 where
+    pub there : (k : ℕ) (c : Card B L) → slice_get pool k ≡ Some c → slice_get starts c.path ≡ Some Pool
+    pub all : (p : ℕ) → slice_get starts p ≡ Some Pool
+        → (k : ℕ) × (c : Card B L) × (slice_get pool k ≡ Some c) × (c.path ≡ p)
+
+  abbrev pub AreNew : Sight B L → List (Card B L) → Type 0
+  AreNew see cards = (k : ℕ) (c : Card B L) → slice_get cards k ≡ Some c → IsNewCard (seen see c)
+
+  -- passes that have nothing in hand, in order of number from k on
+  abbrev pub HasNothing : TableId → Plan B L → ℕ → ℕ → SeatView Entry (Plan B L) → Type 0
+  HasNothing lock d k made s = (c : Core) × IsPass lock d k made s c × ((q : ℕ) → held_at c k q ≡ false)
+
+  abbrev pub AreIdle : TableId → Plan B L → ℕ → ℕ → List (SeatView Entry (Plan B L)) → Type 0
+  AreIdle lock d k made [] = Unit {0}
+  AreIdle lock d k made (s ∷ ss) = HasNothing lock d k made s × AreIdle lock d (suc k) 0 ss
+
+  -- they have done nothing yet
+  abbrev pub AreFresh : List (SeatView Entry (Plan B L)) → Type 0
+  AreFresh [] = Unit {0}
+  AreFresh (s ∷ ss) = (mine_of s ≡ []) × (seen_of s ≡ []) × AreFresh ss
+
+  -- The shelf, after all passes came back: their entries are all that its history has, and nothing is in hand.
+  pub record IsFinished (see : Sight B L) (d : Plan B L) (ss : List (SeatView Entry (Plan B L))) (s : Shelf B L)
+      : Type 0 where
+    pub plan : plan_of s ≡ d
+    pub sound : IsSound see s
+    pub place : HasPlace s
+    pub begins : (k : ℕ) (p : SeatView Entry (Plan B L)) → slice_get ss k ≡ Some p
+        → Begins (seen_of p) (history_of (tell see) s)
+    pub mine : (k : ℕ) (p : SeatView Entry (Plan B L)) → slice_get ss k ≡ Some p
+        → own k (history_of (tell see) s) ≡ mine_of p
+    pub none : (k : ℕ) → length ss ≤ k → own k (history_of (tell see) s) ≡ []
+    pub hands : (a : ℕ) (q : ℕ) → held_at s.core a q ≡ false

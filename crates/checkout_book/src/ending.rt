@@ -1,0 +1,83 @@
+// What a book leaves.
+ghost use Rattle.std.specs.Prelude.{◌≡◌, ◌++◌, ◌∷◌, [], true, Option, Some, None, IfSome, IfNone};
+ghost use Rattle.checkout_core.specs.States.{verdict_at};
+ghost use Rattle.checkout_core.specs.Actors.{is_step};
+ghost use Rattle.checkout_core.specs.Hands.{held_at};
+ghost use Rattle.checkout_core.specs.declared.event.Event.TheVariants.{Close};
+ghost use Rattle.checkout_book.specs.declared.shelf.Slot.TheVariants as slot;
+ghost use Rattle.checkout_book.specs.Ending.{parts_in, GoesOn};
+ghost use Rattle.checkout_book.specs.Shelves.{IsOut, plan_of, cards_of};
+ghost use Rattle.checkout_book.specs.Turns.{Turned, Claimed, Unclaimed};
+ghost use Rattle.checkout_book.specs.Sights.{sight};
+
+use crate::shelf::{Rack, Shelf, Slot};
+use checkout_core::{Event, Own, Verdict};
+use convert_plan::Card;
+use edge_kit::{Blob, Leaf};
+
+/// A book after all its passes came back. What still waits is closed by actor 0.
+#[derive(Drop)]
+pub struct Ended<B: Blob, L: Leaf> {
+    pub(crate) shelf: Shelf<B, L>,
+}
+
+impl<B: Blob, L: Leaf> Ended<B, L> {
+    /// The card that a claim of actor 0 would give. `None` comes exactly where no card waits.
+    pub fn take_waiting(&mut self) -> Option<Card<B, L>>
+        requires { GoesOn (sight B.told B.seen L.seen) self.old.shelf }
+        ensures goes_on { GoesOn (sight B.told B.seen L.seen) self.new.shelf }
+        ensures none { IfNone result (Unclaimed self.old.shelf self.new.shelf) }
+        ensures some { IfSome result (Claimed 0 self.old.shelf self.new.shelf) }
+    {
+        self.shelf.claim(0)
+    }
+
+    /// Closes a card that actor 0 has in hand.
+    pub fn close(&mut self, card: Card<B, L>, own: Own)
+        requires goes_on { GoesOn (sight B.told B.seen L.seen) self.old.shelf }
+        requires held { held_at self.old.shelf.core 0 card.path ≡ true }
+        requires step { is_step self.old.shelf.core (Close card.path 0 own) ≡ true }
+        requires out { IsOut (sight B.told B.seen L.seen) (cards_of (plan_of self.old.shelf)) card }
+        ensures goes_on { GoesOn (sight B.told B.seen L.seen) self.new.shelf }
+        ensures closed { Turned (Close card.path 0 own) card.path (slot.Ended card.blob card.leaf)
+            self.old.shelf self.new.shelf }
+    {
+        let Card {
+            path, blob, leaf, ..
+        } = card;
+        self.shelf.close(0, path, blob, leaf, own);
+    }
+
+    /// The events so far.
+    pub fn history(&self) -> &[Event]
+        ensures { result.now ≡ self.now.shelf.events.items }
+    {
+        self.shelf.events.as_slice()
+    }
+
+    /// The verdict of a path, or `None` exactly where it isn't closed.
+    pub fn verdict(&self, path: u32) -> Option<Verdict>
+        ensures { result ≡ verdict_at self.now.shelf.core path }
+    {
+        self.shelf.core.verdict(path)
+    }
+
+    /// The blob and the leaf of every closed card, in path order. It takes no memory.
+    pub fn into_parts(self) -> Vec<(B, L)>
+        requires { GoesOn (sight B.told B.seen L.seen) self.shelf }
+        ensures { result.items ≡ parts_in self.shelf.slots.items }
+    {
+        let Ended { shelf } = self;
+        let Rack {
+            slots, mut parts, ..
+        } = shelf;
+        for slot in slots {
+            match slot {
+                Slot::Ended(blob, leaf) => parts.push_reserved((blob, leaf)),
+                Slot::Waits(card) => drop(card),
+                Slot::Away => {}
+            }
+        }
+        parts
+    }
+}

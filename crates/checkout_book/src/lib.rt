@@ -1,0 +1,10 @@
+//! The cards of a checkout under a lock, with the one history of its actors.
+#![tactic(auto)]
+
+pub mod book;
+pub mod ending;
+pub mod plan;
+pub mod reserving;
+pub mod shelf;
+mod turns;
+mod waiting;

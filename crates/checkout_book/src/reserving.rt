@@ -1,0 +1,119 @@
+// A book at its begin and at its end.
+ghost use Rattle.std.specs.Prelude.{◌≡◌, ◌≤◌, ◌<◌, ◌+◌, ◌++◌, ◌^◌, ℕ, Some, length, slice_get, map, IfOk};
+ghost use Rattle.convert_plan.specs.declared.card.Card.{Card};
+ghost use Rattle.checkout_core.specs.States.{AreBelow};
+ghost use Rattle.checkout_book.specs.declared.plan.Plan.{Plan};
+ghost use Rattle.checkout_book.specs.Shelves.{waits, joined};
+ghost use Rattle.checkout_book.specs.Reserving.{aways, placed, ArePool, AreNew, AreIdle, AreFresh, IsFinished};
+ghost use Rattle.checkout_book.specs.Sights.{sight};
+
+use crate::book::{Book, Pass};
+use crate::ending::Ended;
+use crate::shelf::{Rack, Slot};
+use crate::turns::is_waiting_card;
+use crate::waiting::Waiting;
+use checkout_core::{Start, State};
+use convert_plan::Card;
+use core_laws::laws;
+use edge_kit::{Blob, Leaf};
+use std::alloc::{AllocError, Global};
+use std::mem;
+use std::snapshot::Snapshot;
+use turn_lock::TurnLock;
+
+fn all_away<B: Blob, L: Leaf>(alloc: Global, count: usize) -> Result<Vec<Slot<B, L>>, AllocError>
+    ensures { IfOk result (λ v. v.items ≡ aways count) }
+{
+    let mut slots = Vec::with_capacity(alloc, count)?;
+    for _at in 0..count {
+        slots.push(Slot::Away)?;
+    }
+    Ok(slots)
+}
+
+/// Each card in the slot of its path.
+fn place<B: Blob, L: Leaf>(mut slots: Vec<Slot<B, L>>, pool: Vec<Card<B, L>>) -> Vec<Slot<B, L>>
+    requires { (k : ℕ) (c : Card B L) → slice_get pool.items k ≡ Some c → c.path < length slots.items }
+    ensures { result.items ≡ placed slots.items pool.items }
+{
+    for card in pool {
+        let at = card.path as usize;
+        drop(mem::replace(&mut slots[at], Slot::Waits(card)));
+    }
+    slots
+}
+
+/// Whether a card waits, for each slot.
+fn flags_of<B: Blob, L: Leaf>(
+    alloc: Global,
+    slots: &[Slot<B, L>],
+) -> Result<Vec<bool>, AllocError>
+    ensures { IfOk result (λ v. v.items ≡ map (λ s. waits s) slots.now) }
+{
+    let count = slots.len();
+    let mut flags = Vec::with_capacity(alloc, count)?;
+    for at in 0..count {
+        flags.push(is_waiting_card(&slots[at]))?;
+    }
+    Ok(flags)
+}
+
+/// A book, with its passes in order of number: first those of the workers, then those of the desks. It takes all the room
+/// that the book will need.
+pub fn reserve<B: Blob, L: Leaf>(
+    alloc: Global,
+    pool: Vec<Card<B, L>>,
+    desks: &Vec<Vec<Card<B, L>>>,
+    starts: Vec<Start>,
+    workers: u32,
+) -> Result<(Book<B, L>, Vec<Pass<B, L>>), AllocError>
+    requires few_paths { length starts.items < 2 ^ 32 }
+    requires below { AreBelow (length desks.now.items) starts.items }
+    requires some { 1 ≤ workers }
+    requires few_workers { workers ≤ 16 }
+    requires few_desks { length desks.now.items ≤ 16 }
+    requires pool { ArePool starts.items pool.items }
+    requires new { AreNew (sight B.told B.seen L.seen) (pool.items ++ joined desks.now.items) }
+    ensures count { IfOk result (λ r. length r.1.items ≡ workers + length desks.now.items) }
+    ensures passes { IfOk result (λ r. AreIdle r.0
+        (record { pool = pool; desks = desks.now; starts = starts; workers = workers; drivers = length desks.now.items })
+        0 (workers + length desks.now.items) r.1.items) }
+    ensures fresh { IfOk result (λ r. AreFresh r.1.items) }
+{
+    let told = Snapshot::of(&pool);
+    let begun = Snapshot::of(&starts);
+    let kept = Snapshot::of(desks);
+    let drivers = desks.len() as u32;
+    let paths = starts.len();
+    let events = Vec::with_capacity(alloc, 10 * paths)?;
+    let parts = Vec::with_capacity(alloc, paths)?;
+    let slots = all_away(alloc, paths)?;
+    let core = State::start(alloc, starts, workers, drivers)?;
+    let slots = place(slots, pool);
+    let flags = flags_of(alloc, slots.as_slice())?;
+    let value = Rack {
+        core,
+        events,
+        slots,
+        waiting: Waiting::of(flags),
+        parts,
+        workers,
+        drivers,
+        pool: told,
+        desks: kept,
+        starts: begun,
+    };
+    TurnLock::make(alloc, value, workers + drivers)
+}
+
+/// What the book holds, after all its passes came back with nothing in hand.
+pub fn finish<B: Blob, L: Leaf>(book: Book<B, L>, passes: Vec<Pass<B, L>>) -> Ended<B, L>
+    requires { (d : Plan B L) × AreIdle book d 0 (length passes.items) passes.items
+        × (0 < length passes.items) × (length passes.items ≡ d.workers + d.drivers) }
+    ensures { (d : Plan B L) → AreIdle book d 0 (length passes.items) passes.items
+        → IsFinished (sight B.told B.seen L.seen) d passes.items result.shelf }
+{
+    laws::own_entries_tell_what_is_in_hand();
+    let shelf = book.end(passes);
+    Ended { shelf }
+}
