@@ -70,7 +70,7 @@ fn next_folder<'a>(back: Option<Place<'a>>) -> Option<Place<'a>>
 ///
 /// It goes back to the last `**/` alone, since what an earlier one could take, the last one can take too. So the whole
 /// takes at most as many steps as the pattern has bytes times those of the path.
-fn fits(pattern: &[u8], fresh: bool, path: &[u8]) -> bool
+pub fn fits(pattern: &[u8], fresh: bool, path: &[u8]) -> bool
     ensures { result ≡ fits (pieces fresh pattern.now) path.now }
 {
     let mut at = Place { pattern, path };
@@ -97,7 +97,7 @@ fn fits(pattern: &[u8], fresh: bool, path: &[u8]) -> bool
 }
 
 /// A pattern without one `/` in front.
-fn without_slash(pattern: &[u8]) -> &[u8]
+pub fn without_slash(pattern: &[u8]) -> &[u8]
     ensures { result.now ≡ without_slash pattern.now }
 {
     match pattern {
@@ -110,7 +110,7 @@ fn without_slash(pattern: &[u8]) -> &[u8]
 }
 
 /// What stands behind the last `/` of a path.
-fn last_part(path: &[u8]) -> &[u8]
+pub fn last_part(path: &[u8]) -> &[u8]
     ensures { result.now ≡ last_part path.now }
 {
     let mut rest = path;
