@@ -9,4 +9,4 @@ mod part;
 mod sets;
 
 pub use compiled::Compiled;
-pub use matching::matches;
+pub use matching::{last_part, matches};

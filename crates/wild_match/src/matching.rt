@@ -1,10 +1,12 @@
 //! A whole pattern and a whole path.
-ghost use Rattle.std.specs.Prelude.{◌≡◌, ◌<◌, length, position, IfSome};
+ghost use Rattle.std.specs.Prelude.{◌≡◌, ◌<◌, ◌≤◌, ◌-◌, ◌++◌, false, length, take, position, IfSome};
+ghost use Rattle.std.specs.List.{list_any};
 ghost use Rattle.wild_match.specs.Fits.{fits, is_match, is_slash, last_part, without_slash};
 ghost use Rattle.wild_match.specs.Pieces.{is_folders, is_rest, pieces};
 ghost use Rattle.wild_match.specs.Steps.{IsPart, next_folder, seen_back};
 
 use crate::part::{Part, Place, part_from};
+use memchr::memrchr;
 
 fn is_folders(pattern: &[u8]) -> bool
     ensures { result ≡ is_folders pattern.now }
@@ -111,14 +113,18 @@ pub fn without_slash(pattern: &[u8]) -> &[u8]
 
 /// What stands behind the last `/` of a path.
 pub fn last_part(path: &[u8]) -> &[u8]
-    ensures { result.now ≡ last_part path.now }
+    ensures value { result.now ≡ last_part path.now }
+    ensures within { length result.now ≤ length path.now }
+    ensures behind { path.now ≡ take (length path.now - length result.now) path.now ++ result.now }
+    ensures no_slash { list_any is_slash result.now ≡ false }
 {
-    let mut rest = path;
-    'parts: while let Some(slash) = slash_at(rest) {
-        let (_, behind) = rest.split_at(slash + 1);
-        rest = behind;
+    match memrchr(b'/', path) {
+        Some(slash) => {
+            let (_, name) = path.split_at(slash + 1);
+            name
+        }
+        None => path,
     }
-    rest
 }
 
 /// Whether a pattern of an attribute file matches a path, which is relative to that file's folder: gitattributes(5), by
