@@ -33,7 +33,7 @@ apart : (name other key : List ℕ) → bytes_eq name other ≡ false → is_eq 
 apart name other key differ same =
     let is : name ≡ key = (bytes_eq-Decides name key).0 (sym (is_eq-slice_cmp name key) ∙ same) in
     is_eq-slice_cmp other key ∙ false_from_ne_true (bytes_eq other key) (λ h.
-        let no : true ≡ false = sym ((bytes_eq-Decides name other).1 (is ∙ sym ((bytes_eq-Decides other key).0 h))) ∙ differ in cc)
+    let no : true ≡ false = sym ((bytes_eq-Decides name other).1 (is ∙ sym ((bytes_eq-Decides other key).0 h))) ∙ differ in cc)
 
 other_entries : {X : Type 0} (eq : Vec ℕ → Vec ℕ → Bool) (test : Vec ℕ → Bool) (old new : List (Vec ℕ × X)) → KeepsOthers eq test old new
     → (other : Vec ℕ → Bool) → IsKeyTest eq other → AreApart test other → lookup other new ≡ lookup other old

@@ -1,7 +1,7 @@
 -- The attribute files that reach the paths of one folder.
-use Rattle.std.specs.Prelude.{◌≡◌, ℕ, zero, suc, ◌+◌, Bool, List, [], ◌∷◌, ◌++◌, map, length, take, drop, reverse}
+use Rattle.std.specs.Prelude.{◌≡◌, ℕ, zero, suc, ◌+◌, false, List, [], ◌∷◌, ◌++◌, length, take, drop, reverse}
 use Rattle.std.specs.Prelude.{slice_get, Option, Some, None, if◌then◌else◌}
-use Rattle.std.specs.List.{flat_map}
+use Rattle.std.specs.List.{flat_map, list_any}
 use Rattle.std.specs.Option.{option_map}
 use Rattle.std.specs.BTreeMap as tree
 use Rattle.std.specs.BTreeMap.{BTreeMap}
@@ -12,10 +12,10 @@ use Rattle.std.specs.Str.{bytes_eq}
 use Rattle.attr_line.specs.declared.file.Pair.{Pair}
 use Rattle.attr_line.specs.declared.file.AttrRow.{AttrRow}
 use Rattle.attr_line.specs.declared.file.AttrRow.TheVariants.{Rule, Macro}
-use Rattle.attr_line.specs.declared.file.AttrFile.{AttrFile}
 use Rattle.attr_stack.specs.declared.files.FileAt.{FileAt}
 use Rattle.attr_stack.specs.declared.chain.Level.{Level}
 use Rattle.attr_stack.specs.declared.chain.Chain.{Chain}
+use Rattle.wild_match.specs.Fits.{is_slash}
 use Rattle.attr_stack.specs.Pairs.{row_pairs, pairs_inside, ends_folder}
 
 -- the pattern of a row; a macro's line has none
@@ -70,8 +70,8 @@ abbrev pub IsChain : List FileAt → Chain → Type 0
 IsChain files chain =
     reverse chain.levels.items ≡ levels_before files chain.folder.items (length chain.folder.items)
 
--- a path stands right in a folder, whose name ends in its `/`
+-- a path stands right in a folder, whose name has the `/` at its end
 pub record StandsIn (path folder : List ℕ) : Type 0 where
   pub name : List ℕ
   pub is : path ≡ folder ++ name
-  pub no_slash : (k : ℕ) → ends_folder name k ≡ ends_folder [] k
+  pub no_slash : list_any is_slash name ≡ false

@@ -1,7 +1,7 @@
 //! An attribute file whose patterns were looked at once.
-ghost use Rattle.std.specs.Prelude.{◌≡◌, ◌<◌, ◌++◌, IfOk, OnOk, length, map, drop};
-ghost use Rattle.attr_stack.specs.Pairs.{file_pairs, pairs_inside};
-ghost use Rattle.attr_stack.specs.Levels.{row_pattern, row_rule};
+ghost use Rattle.std.specs.Prelude.{◌≡◌, ◌++◌, IfOk, OnOk, map};
+ghost use Rattle.attr_stack.specs.Pairs.{file_pairs};
+ghost use Rattle.attr_stack.specs.Levels.{row_pattern, row_rule, rows_pairs};
 ghost use Rattle.attr_stack.specs.Seen.{from_end};
 
 use crate::files::FileAt;
@@ -115,8 +115,6 @@ impl Model for CompiledAt {
     ghost Value = { FileAt };
 
     ghost view = { λ f. record { folder = f.folder; file = f.file } };
-
-    ghost invariant = { λ f. Unit {0} };
 }
 
 impl CompiledAt {

@@ -1,4 +1,4 @@
-use Rattle.std.proofs.Common.{◌≡◌, ◌+◌, ◌<◌, ◌≤◌, Bool, true, false, [], ◌∷◌, ◌++◌, sym, ◌∙◌, ap, subst, arith}
+use Rattle.std.proofs.Common.{◌≡◌, ◌+◌, ◌<◌, ◌≤◌, Bool, true, false, [], ◌∷◌, sym, ◌∙◌, ap, subst, arith}
 use Rattle.std.proofs.lemmas.List.{nil_from_length, append-nil}
 use Rattle.attr_stack.specs.Decided.{decided, no_names, said_of}
 use Rattle.attr_stack.specs.Seen.{from_end, state_at, Notes}
@@ -32,9 +32,9 @@ reading-preserved-in-Continue-branch-2 c =
     let decides : Notes c.in-Some.pair.now (state_at c.reading.states) (state_at c.decides.new.states) true =
     subst (λ (b : Bool). Notes c.in-Some.pair.now (state_at c.reading.states) (state_at c.decides.new.states) b) c.if-branch.true c.in_ok-decides.ensures in
     λ name. c.reading.invariant name
-          ∙ ap (λ pairs. still_of lines pairs (state_at c.reading.states) name) (ap from_end c.in-Some.ensures.items ∙ from_end-push c.pop.new.self.items c.in-Some.pair)
-          ∙ still-decides lines c.in-Some.pair.now (from_end c.pop.new.self.items) (from_end c.push_body.new.pending.items) (state_at c.reading.states) (state_at c.decides.new.states) name decides
-          (c.in_ok-push_body.ensures lines (are-lines c.args.macros.now))
+    ∙ ap (λ pairs. still_of lines pairs (state_at c.reading.states) name) (ap from_end c.in-Some.ensures.items ∙ from_end-push c.pop.new.self.items c.in-Some.pair)
+    ∙ still-decides lines c.in-Some.pair.now (from_end c.pop.new.self.items) (from_end c.push_body.new.pending.items) (state_at c.reading.states) (state_at c.decides.new.states) name decides
+    (c.in_ok-push_body.ensures lines (are-lines c.args.macros.now))
 
 pub reading-preserved : goal.reading-preserved
 reading-preserved c =
@@ -42,8 +42,8 @@ reading-preserved c =
     let passes : Notes c.in-Some.pair.now (state_at c.reading.states) (state_at c.decides.new.states) false =
     subst (λ (b : Bool). Notes c.in-Some.pair.now (state_at c.reading.states) (state_at c.decides.new.states) b) c.if-branch.false c.in_ok-decides.ensures in
     λ name. c.reading.invariant name
-          ∙ ap (λ pairs. still_of lines pairs (state_at c.reading.states) name) (ap from_end c.in-Some.ensures.items ∙ from_end-push c.pop.new.self.items c.in-Some.pair)
-          ∙ still-passed lines c.in-Some.pair.now (from_end c.pop.new.self.items) (state_at c.reading.states) (state_at c.decides.new.states) name passes
+    ∙ ap (λ pairs. still_of lines pairs (state_at c.reading.states) name) (ap from_end c.in-Some.ensures.items ∙ from_end-push c.pop.new.self.items c.in-Some.pair)
+    ∙ still-passed lines c.in-Some.pair.now (from_end c.pop.new.self.items) (state_at c.reading.states) (state_at c.decides.new.states) name passes
 
 pub returns : goal.returns
 returns c = λ lines are name.

@@ -9,6 +9,6 @@ returns c = λ lines are.
     let old = c.args.macros.now in
     let name = c.in_ok-name.name.items in
     defines old c.insert.new.self c.args.name.now c.args.pairs.items (λ other.
-        owned-updates name old c.insert.new.self _ c.in_ok-insert.ensures.updates other
-        ∙ ap (λ (n : List ℕ). cond (bytes_eq n other) (Some c.from_vec.result) (owned old other)) c.in_ok-name.ensures.items
-        ∙ ap (λ (pairs : List Pair). cond (bytes_eq c.args.name.now other) (Some pairs) (owned old other)) c.from_vec.ensures) lines are
+    owned-updates name old c.insert.new.self _ c.in_ok-insert.ensures.updates other
+    ∙ ap (λ (n : List ℕ). cond (bytes_eq n other) (Some c.from_vec.result) (owned old other)) c.in_ok-name.ensures.items
+    ∙ ap (λ (pairs : List Pair). cond (bytes_eq c.args.name.now other) (Some pairs) (owned old other)) c.from_vec.ensures) lines are
