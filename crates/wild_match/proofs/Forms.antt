@@ -1,15 +1,14 @@
 -- Why the form of a pattern decides a path as the pattern does.
-use Rattle.std.proofs.Common.{◌≡◌, ◌≢◌, ℕ, zero, suc, ◌+◌, ◌-◌, ◌<◌, ◌≤◌, Bool, true, false, cond, ◌&&◌, ◌||◌, not, List, [], ◌∷◌, ◌⊎◌, inl, inr, length, take, drop, eqb, refl, sym, ◌∙◌, ap, arith}
+use Rattle.std.proofs.Common.{◌≡◌, ◌≢◌, ℕ, suc, ◌+◌, ◌-◌, Bool, true, false, cond, ◌&&◌, ◌||◌, not, List, [], ◌∷◌, inl, inr, length, take, drop, eqb, refl, sym, ◌∙◌, ap, arith}
 use Rattle.std.specs.Prelude.{nat_eq, slice_index}
 use Rattle.std.specs.List.{list_any, prefix_len, starts_with, ends_with}
 use Rattle.std.specs.Str.{bytes_eq}
 use Rattle.std.specs.Cmp.Lexicographic.{pointwise}
 use Rattle.std.proofs.Math.Seq.{drop-nil}
-use Rattle.std.proofs.lemmas.Bool.{ne_eqb, eqb-true, eqb-false, eq-eqb, or_parts, not-true, and_parts, cases_lt, false_from_ne_true}
-use Rattle.std.proofs.lemmas.Grind.{common_steps}
-use Rattle.wild_match.specs.Pieces.{Piece, Slash, One, Run, Folders, Rest, Never, front, plain_front, is_folders, is_rest, onto, pieces_behind, pieces}
+use Rattle.std.proofs.lemmas.Bool.{ne_eqb, eqb-true, eqb-false, eq-eqb, or_parts, and_parts, cases_lt, false_from_ne_true}
+use Rattle.wild_match.specs.Pieces.{Piece, Slash, One, Run, front, plain_front, is_folders, is_rest, onto, pieces_behind, pieces}
 use Rattle.wild_match.specs.Fits.{is_slash, some_split, fits, is_match, last_part, without_slash}
-use Rattle.wild_match.specs.Compiled.{is_plain, all_plain, is_ending, is_of_nothing, answer, IsOfName, IsOfPath, IsForm}
+use Rattle.wild_match.specs.Compiled.{is_plain, all_plain, is_ending, is_of_nothing, IsOfName, IsOfPath, IsForm}
 use Rattle.wild_match.specs.declared.compiled.Form.TheVariants.{Nothing, Name, Ending, InName, Path, InPath}
 use Rattle.wild_match.proofs.ReadPieces.{front-same, front-plain}
 
@@ -159,15 +158,15 @@ ends f text is (b ∷ t) none =
     let parts = or_parts (is_slash b) (list_any is_slash t) none in
     elim (cases_lt (length t) (length text)) [
       | inl short ↦
-        let all : length (b ∷ t) - length text ≡ 0 = omega (arith, short) in
-        let same : length t - length text ≡ 0 = omega (arith, short) in
-        let later : some_split f t ≡ false = ends f text is t parts.1 ∙ ap (λ (n : ℕ). bytes_eq text (drop n t)) same ∙ longer text t (λ e. omega (arith, short, e)) in
-        split_end (f (b ∷ t)) (some_split f t) (is_slash b) later ∙ is (b ∷ t) ∙ ap (λ (n : ℕ). bytes_eq text (drop n (b ∷ t))) (sym all)
+          let all : length (b ∷ t) - length text ≡ 0 = omega (arith, short) in
+          let same : length t - length text ≡ 0 = omega (arith, short) in
+          let later : some_split f t ≡ false = ends f text is t parts.1 ∙ ap (λ (n : ℕ). bytes_eq text (drop n t)) same ∙ longer text t (λ e. omega (arith, short, e)) in
+          split_end (f (b ∷ t)) (some_split f t) (is_slash b) later ∙ is (b ∷ t) ∙ ap (λ (n : ℕ). bytes_eq text (drop n (b ∷ t))) (sym all)
       | inr long ↦
-        let size : length (b ∷ t) - length text ≡ suc (length t - length text) = omega (arith, long) in
-        let first : f (b ∷ t) ≡ false = is (b ∷ t) ∙ longer text (b ∷ t) (λ e. omega (arith, long, e)) in
-        split_here (f (b ∷ t)) (some_split f t) (ends_with nat_eq t text) (is_slash b) first (ends f text is t parts.1) parts.0
-        ∙ ap (λ (n : ℕ). bytes_eq text (drop n (b ∷ t))) (sym size)
+          let size : length (b ∷ t) - length text ≡ suc (length t - length text) = omega (arith, long) in
+          let first : f (b ∷ t) ≡ false = is (b ∷ t) ∙ longer text (b ∷ t) (λ e. omega (arith, long, e)) in
+          split_here (f (b ∷ t)) (some_split f t) (ends_with nat_eq t text) (is_slash b) first (ends f text is t parts.1) parts.0
+          ∙ ap (λ (n : ℕ). bytes_eq text (drop n (b ∷ t))) (sym size)
     ]
 
 -- the last part of a path has no `/`
