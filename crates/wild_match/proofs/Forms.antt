@@ -1,16 +1,20 @@
 -- Why the form of a pattern decides a path as the pattern does.
-use Rattle.std.proofs.Common.{◌≡◌, ◌≢◌, ℕ, suc, ◌+◌, ◌-◌, Bool, true, false, cond, ◌&&◌, ◌||◌, not, List, [], ◌∷◌, inl, inr, length, take, drop, eqb, refl, sym, ◌∙◌, ap, arith}
+use Rattle.std.proofs.Common.{◌≡◌, ◌≢◌, ℕ, suc, ◌+◌, ◌-◌, Bool, true, false, cond, ◌&&◌, ◌||◌, not, List, [], ◌∷◌, inl, inr, length, take, drop, eqb, refl, sym, ◌∙◌, ap, arith, ◌<◌, ◌≤◌, ◌⊎◌, Some}
 use Rattle.std.specs.Prelude.{nat_eq, slice_index}
 use Rattle.std.specs.List.{list_any, prefix_len, starts_with, ends_with}
 use Rattle.std.specs.Str.{bytes_eq}
 use Rattle.std.specs.Cmp.Lexicographic.{pointwise}
 use Rattle.std.proofs.Math.Seq.{drop-nil}
-use Rattle.std.proofs.lemmas.Bool.{ne_eqb, eqb-true, eqb-false, eq-eqb, or_parts, and_parts, cases_lt, false_from_ne_true}
-use Rattle.wild_match.specs.Pieces.{Piece, Slash, One, Run, front, plain_front, is_folders, is_rest, onto, pieces_behind, pieces}
+use Rattle.std.proofs.lemmas.Bool.{and_from, ne_eqb, eqb-true, eqb-false, eq-eqb, or_parts, and_parts, cases_lt, false_from_ne_true}
+use Rattle.wild_match.specs.Pieces.{Piece, Slash, One, Run, Folders, Rest, Never, front, plain_front, is_folders, is_rest, onto, pieces_behind, pieces}
 use Rattle.wild_match.specs.Fits.{is_slash, some_split, fits, is_match, last_part, without_slash}
-use Rattle.wild_match.specs.Compiled.{is_plain, all_plain, is_ending, is_of_nothing, IsOfName, IsOfPath, IsForm}
+use Rattle.wild_match.specs.Compiled.{is_plain, all_plain, is_ending, is_of_nothing, IsOfName, IsOfPath, IsForm, has_known, IsKnown}
+use Rattle.std.proofs.lemmas.Grind.{common_steps}
+use Rattle.wild_match.specs.declared.compiled.Known.{Known}
+use Rattle.wild_match.specs.Steps.{single_of, IsSingle}
+use Rattle.wild_match.proofs.Splits.{one-parts}
 use Rattle.wild_match.specs.declared.compiled.Form.TheVariants.{Nothing, Name, Ending, InName, Path, InPath}
-use Rattle.wild_match.proofs.ReadPieces.{front-same, front-plain}
+use Rattle.wild_match.proofs.ReadPieces.{front-same, front-plain, pieces-front}
 
 -- ---- one plain byte
 
@@ -113,8 +117,88 @@ absorbed true y h = refl
 absorbed false true h = absurd (let no : false ≡ true = h refl in cc)
 absorbed false false h = refl
 
-pub begins-too : (fresh : Bool) (text t : List ℕ) → (starts_with nat_eq t (take (prefix_len is_plain text) text) && fits (pieces fresh text) t) ≡ fits (pieces fresh text) t
-begins-too fresh text t = absorbed (starts_with nat_eq t (take (prefix_len is_plain text) text)) (fits (pieces fresh text) t) (begins fresh text t)
+pub known-too : (known : Known) (fresh : Bool) (pattern text : List ℕ) → IsKnown pattern known → (has_known known pattern text && fits (pieces fresh pattern) text) ≡ fits (pieces fresh pattern) text
+known-too known fresh pattern text is = absorbed (has_known known pattern text) (fits (pieces fresh pattern) text) (is fresh text)
+
+-- ---- the plain bytes behind one piece
+
+tail_at : (p : Bool) (fresh : Bool) (b : ℕ) (text t : List ℕ) → is_plain b ≡ p → fits (pieces fresh (b ∷ text)) t ≡ true
+    → ((fresh : Bool) (t : List ℕ) → fits (pieces fresh text) t ≡ true → (f : Bool) × (fits (pieces f (drop (prefix_len is_plain text) text)) (drop (prefix_len is_plain text) t) ≡ true))
+    → (f : Bool) × (fits (pieces f (drop (cond p (1 + prefix_len is_plain text) 0) (b ∷ text))) (drop (cond p (1 + prefix_len is_plain text) 0) t) ≡ true)
+tail_at false fresh b text t is fit later = (fresh, fit)
+tail_at true fresh b text [] is fit later = absurd (let no : true ≡ false = sym fit ∙ plain-none fresh b text is in cc)
+tail_at true fresh b text (c ∷ t) is fit later =
+    let size : 1 + prefix_len is_plain text ≡ suc (prefix_len is_plain text) = omega arith in
+    let both = sym (plain-fits fresh b c text t is) ∙ fit in
+    rw size (later (eqb b 47) t (and_parts (eqb b c) (fits (pieces (eqb b 47) text) t) both).1)
+
+-- what is left behind the plain bytes in front
+tail : (fresh : Bool) (text t : List ℕ) → fits (pieces fresh text) t ≡ true → (f : Bool) × (fits (pieces f (drop (prefix_len is_plain text) text)) (drop (prefix_len is_plain text) t) ≡ true)
+tail fresh [] t fit = (fresh, fit)
+tail fresh (b ∷ text) t fit = tail_at (is_plain b) fresh b text t refl fit (λ fresh t. tail fresh text t)
+
+-- a `?` or a set isn't changed by what stands before it
+single_front : (fresh : Bool) (pattern : List ℕ) (n : ℕ) → IsSingle pattern n → front fresh pattern ≡ plain_front pattern
+single_front false pattern n is = front-plain pattern
+single_front true [] n is = absurd (no_first (slice_index [] 0) refl is.first)
+  where
+    no_first : (b : ℕ) → b ≡ 0 → (b ≡ 63) ⊎ (b ≡ 91) → ⊥
+    no_first b z (inl h) = omega (arith, z, h)
+    no_first b z (inr h) = omega (arith, z, h)
+single_front true (b ∷ text) n is =
+    let other : b ≢ 42 = star_not is.first in
+    let folders : is_folders (b ∷ text) ≡ false = rw (ne_eqb 42 b (λ h. other (sym h))) refl in
+    let rest : is_rest (b ∷ text) ≡ false = rw (ne_eqb b 42 other) refl in
+    front-same (b ∷ text) folders rest
+  where
+    star_not : (b ≡ 63) ⊎ (b ≡ 91) → b ≢ 42
+    star_not (inl h) e = omega (arith, h, e)
+    star_not (inr h) e = omega (arith, h, e)
+
+single_piece : (first : Piece × ℕ) (n : ℕ) → single_of first ≡ Some n → (passes : ℕ → Bool) × (first ≡ (One passes, n))
+single_piece (One passes, k) n is = (passes, ap (λ (m : ℕ). (One passes, m)) (cc))
+single_piece (Slash, k) n is = absurd (cc)
+single_piece (Run, k) n is = absurd (cc)
+single_piece (Folders, k) n is = absurd (cc)
+single_piece (Rest, k) n is = absurd (cc)
+single_piece (Never, k) n is = absurd (cc)
+
+behind_one : (passes : ℕ → Bool) (later : List Piece) (t : List ℕ) → fits (One passes ∷ later) t ≡ true → fits later (drop 1 t) ≡ true
+behind_one passes later [] fit = absurd (cc)
+behind_one passes later (c ∷ t) fit = (one-parts passes later c t fit).1
+
+-- what is left behind such a piece
+behind_single : (fresh : Bool) (pattern t : List ℕ) (n : ℕ) → IsSingle pattern n → 0 < n → n ≤ length pattern → fits (pieces fresh pattern) t ≡ true → fits (pieces false (drop n pattern)) (drop 1 t) ≡ true
+behind_single fresh pattern t n is some within fit =
+    let piece = single_piece (plain_front pattern) n is.reads in
+    let reads = pieces-front fresh pattern (One piece.0) n (omega (arith, some, within)) some (single_front fresh pattern n is ∙ piece.1) in
+    behind_one piece.0 (pieces false (drop n pattern)) t (sym (ap (λ (ps : List Piece). fits ps t) reads) ∙ fit)
+
+dropped : (n m : ℕ) (t : List ℕ) → drop m (drop n t) ≡ drop (n + m) t
+dropped n m t = grind (arith, common_steps)
+
+pub single_known : (pattern rest behind : List ℕ) (known : Known) (n : ℕ) → known.front ≡ prefix_len is_plain pattern → rest ≡ drop known.front pattern → IsSingle rest n → 0 < n → n ≤ length rest
+    → known.next ≡ known.front + n → behind ≡ drop n rest → known.more ≡ prefix_len is_plain behind → IsKnown pattern known
+single_known pattern rest behind known n front_is rest_is single some within next_is behind_is more_is fresh text fit =
+    let k = prefix_len is_plain pattern in
+    let left = tail fresh pattern text fit in
+    let rest_at : rest ≡ drop k pattern = rest_is ∙ ap (λ (m : ℕ). drop m pattern) front_is in
+    let fit_rest : fits (pieces left.0 rest) (drop k text) ≡ true = ap (λ (p : List ℕ). fits (pieces left.0 p) (drop k text)) rest_at ∙ left.1 in
+    let fit_behind : fits (pieces false behind) (drop 1 (drop k text)) ≡ true = ap (λ (p : List ℕ). fits (pieces false p) (drop 1 (drop k text))) behind_is ∙ behind_single left.0 rest (drop k text) n single some within fit_rest in
+    let more_in : starts_with nat_eq (drop 1 (drop k text)) (take (prefix_len is_plain behind) behind) ≡ true = begins false behind (drop 1 (drop k text)) fit_behind in
+    let text_is : drop (known.front + 1) text ≡ drop 1 (drop k text) = ap (λ (m : ℕ). drop (m + 1) text) front_is ∙ sym (dropped k 1 text) in
+    let behind_at : drop known.next pattern ≡ behind = ap (λ (m : ℕ). drop m pattern) next_is ∙ sym (dropped known.front n pattern) ∙ ap (λ (p : List ℕ). drop n p) (sym rest_is) ∙ sym behind_is in
+    let first : starts_with nat_eq text (take known.front pattern) ≡ true = ap (λ (m : ℕ). starts_with nat_eq text (take m pattern)) front_is ∙ begins fresh pattern text fit in
+    let second : starts_with nat_eq (drop (known.front + 1) text) (take known.more (drop known.next pattern)) ≡ true =
+    ap (λ (t : List ℕ). starts_with nat_eq t (take known.more (drop known.next pattern))) text_is
+    ∙ ap (λ (p : List ℕ). starts_with nat_eq (drop 1 (drop k text)) (take known.more p)) behind_at
+    ∙ ap (λ (m : ℕ). starts_with nat_eq (drop 1 (drop k text)) (take m behind)) more_is ∙ more_in in
+    and_from (starts_with nat_eq text (take known.front pattern)) (starts_with nat_eq (drop (known.front + 1) text) (take known.more (drop known.next pattern))) first second
+
+pub none_known : (pattern : List ℕ) (known : Known) → known.front ≡ prefix_len is_plain pattern → known.more ≡ 0 → IsKnown pattern known
+none_known pattern known front_is none fresh text fit =
+    let first : starts_with nat_eq text (take known.front pattern) ≡ true = ap (λ (m : ℕ). starts_with nat_eq text (take m pattern)) front_is ∙ begins fresh pattern text fit in
+    and_from (starts_with nat_eq text (take known.front pattern)) (starts_with nat_eq (drop (known.front + 1) text) (take known.more (drop known.next pattern))) first (rw none refl)
 
 -- ---- plain bytes alone
 
@@ -216,10 +300,10 @@ ending_is pattern of h =
       right = ending_at pattern parts.0 of parts.1 parts.2;
     }
 
-pub in_name : (pattern : List ℕ) (n : ℕ) → IsOfName pattern → n ≡ prefix_len is_plain pattern → IsForm (InName n) pattern
-in_name pattern n of is = record {
+pub in_name : (pattern : List ℕ) (known : Known) → IsOfName pattern → IsKnown pattern known → IsForm (InName known) pattern
+in_name pattern known of is = record {
   within = omega arith;
-  right = λ path. ap (λ (k : ℕ). starts_with nat_eq (last_part path) (take k pattern) && fits (pieces false pattern) (last_part path)) is ∙ begins-too false pattern (last_part path) ∙ sym (of path);
+  right = λ path. known-too known false pattern (last_part path) is ∙ sym (of path);
 }
 
 pub path_is : (pattern : List ℕ) → IsOfPath pattern → prefix_len is_plain (without_slash pattern) ≡ length (without_slash pattern) → IsForm Path pattern
@@ -228,10 +312,10 @@ path_is pattern of plain = record {
   right = λ path. sym (of path ∙ same-text true (without_slash pattern) path plain);
 }
 
-pub in_path : (pattern : List ℕ) (n : ℕ) → IsOfPath pattern → n ≡ prefix_len is_plain (without_slash pattern) → IsForm (InPath n) pattern
-in_path pattern n of is = record {
+pub in_path : (pattern : List ℕ) (known : Known) → IsOfPath pattern → IsKnown (without_slash pattern) known → IsForm (InPath known) pattern
+in_path pattern known of is = record {
   within = omega arith;
-  right = λ path. ap (λ (k : ℕ). starts_with nat_eq path (take k (without_slash pattern)) && fits (pieces true (without_slash pattern)) path) is ∙ begins-too true (without_slash pattern) path ∙ sym (of path);
+  right = λ path. known-too known true (without_slash pattern) path is ∙ sym (of path);
 }
 
 -- ---- which form a pattern has

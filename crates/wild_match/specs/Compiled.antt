@@ -1,9 +1,10 @@
 -- How the form of a pattern decides a path.
-use Rattle.std.specs.Prelude.{◌≡◌, ℕ, ◌≤◌, ◌-◌, Bool, true, false, ◌&&◌, ◌||◌, not, ◌==◌, nat_eq, List, [], ◌∷◌, length, take, drop}
+use Rattle.std.specs.Prelude.{◌≡◌, ℕ, ◌≤◌, ◌+◌, ◌-◌, Bool, true, false, ◌&&◌, ◌||◌, not, ◌==◌, nat_eq, List, [], ◌∷◌, length, take, drop}
 use Rattle.std.specs.Prelude.{slice_index, if◌then◌else◌}
 use Rattle.std.specs.List.{prefix_len, starts_with, ends_with}
 use Rattle.std.specs.Str.{bytes_eq}
 use Rattle.wild_match.specs.declared.compiled.Form.{Form}
+use Rattle.wild_match.specs.declared.compiled.Known.{Known}
 use Rattle.wild_match.specs.declared.compiled.Form.TheVariants.{Nothing, Name, Ending, InName, Path, InPath}
 use Rattle.wild_match.specs.Fits.{is_slash, fits, is_match, last_part, without_slash}
 use Rattle.wild_match.specs.Pieces.{pieces}
@@ -27,15 +28,25 @@ abbrev pub is_of_nothing : List ℕ → Bool
 is_of_nothing pattern =
     if length pattern == 0 then true else is_slash (slice_index pattern (length pattern - 1))
 
+-- whether a text has the plain bytes of a pattern that are known
+abbrev pub has_known : Known → List ℕ → List ℕ → Bool
+has_known known pattern text =
+    starts_with nat_eq text (take known.front pattern)
+    && starts_with nat_eq (drop (known.front + 1) text) (take known.more (drop known.next pattern))
+
+-- each text has them that fits a pattern
+abbrev pub IsKnown : List ℕ → Known → Type 0
+IsKnown pattern known = (fresh : Bool) (text : List ℕ) → fits (pieces fresh pattern) text ≡ true → has_known known pattern text ≡ true
+
 -- what a form says of a path with that last part
 abbrev pub answer : Form → List ℕ → List ℕ → List ℕ → Bool
 answer Nothing pattern path name = false
 answer Name pattern path name = bytes_eq pattern name
 answer Ending pattern path name = ends_with nat_eq name (drop 1 pattern)
-answer (InName n) pattern path name = starts_with nat_eq name (take n pattern) && fits (pieces false pattern) name
+answer (InName known) pattern path name = has_known known pattern name && fits (pieces false pattern) name
 answer Path pattern path name = bytes_eq (without_slash pattern) path
-answer (InPath n) pattern path name =
-    starts_with nat_eq path (take n (without_slash pattern)) && fits (pieces true (without_slash pattern)) path
+answer (InPath known) pattern path name =
+    has_known known (without_slash pattern) path && fits (pieces true (without_slash pattern)) path
 
 -- a pattern that is compared with the last part of a path
 abbrev pub IsOfName : List ℕ → Type 0

@@ -1,9 +1,10 @@
 //! A pattern that was looked at once, so that one comparison decides most paths.
-ghost use Rattle.std.specs.Prelude.{◌≡◌, ◌≤◌, IfOk, length, take};
-ghost use Rattle.std.specs.List.{prefix_len};
+ghost use Rattle.std.specs.Prelude.{◌≡◌, ◌≤◌, IfOk, nat_eq, length, take, drop};
+ghost use Rattle.std.specs.List.{prefix_len, starts_with, ends_with};
 ghost use Rattle.wild_match.specs.Fits.{is_match, last_part};
-ghost use Rattle.wild_match.specs.Compiled.{is_plain, is_ending, is_of_nothing, answer, passed_by, IsForm, IsOfName, IsOfPath};
+ghost use Rattle.wild_match.specs.Compiled.{is_plain, is_ending, is_of_nothing, has_known, IsKnown, answer, passed_by, IsForm, IsOfName, IsOfPath};
 
+use crate::front::single_len;
 use crate::matching::{fits, last_part, without_slash};
 use byte_path::Bytes;
 use std::alloc::{AllocError, Global};
@@ -18,12 +19,23 @@ pub enum Form {
     Name,
     /// A `*` and then such bytes: the last part ends with these.
     Ending,
-    /// The last part begins with so many plain bytes of the pattern, and fits.
-    InName(usize),
+    /// The last part has the plain bytes of the pattern that are known, and fits.
+    InName(Known),
     /// All bytes are plain: the path is the pattern without one `/` in front.
     Path,
-    /// The path begins with so many plain bytes of the pattern without one `/` in front, and fits.
-    InPath(usize),
+    /// The path has the plain bytes of the pattern without one `/` in front that are known, and fits.
+    InPath(Known),
+}
+
+/// Plain bytes of a pattern whose places in a text are known.
+#[derive(Clone, Copy)]
+pub struct Known {
+    /// So many stand in front.
+    pub front: usize,
+    /// Then one byte passes a piece, which ends here.
+    pub next: usize,
+    /// So many stand behind it.
+    pub more: usize,
 }
 
 fn is_plain(byte: u8) -> bool
@@ -57,6 +69,30 @@ fn is_ending(pattern: &[u8]) -> bool
     }
 }
 
+/// What is known of a pattern with so many plain bytes in front.
+fn known_of(pattern: &[u8], front: usize) -> Known
+    requires front { front ≡ prefix_len is_plain pattern.now }
+    requires within { front ≤ length pattern.now }
+    ensures { IsKnown pattern.now result }
+{
+    let (_, rest) = pattern.split_at(front);
+    match single_len(rest) {
+        Some(len) => {
+            let (_, behind) = rest.split_at(len);
+            Known {
+                front,
+                next: front + len,
+                more: plain_len(behind),
+            }
+        }
+        None => Known {
+            front,
+            next: pattern.len(),
+            more: 0,
+        },
+    }
+}
+
 /// The form of a pattern that is compared with the last part of a path.
 fn name_form(pattern: &[u8]) -> Form
     requires { IsOfName pattern.now }
@@ -68,7 +104,7 @@ fn name_form(pattern: &[u8]) -> Form
     } else if is_ending(pattern) {
         Form::Ending
     } else {
-        Form::InName(plain)
+        Form::InName(known_of(pattern, plain))
     }
 }
 
@@ -82,7 +118,7 @@ fn path_form(pattern: &[u8]) -> Form
     if plain == whole.len() {
         Form::Path
     } else {
-        Form::InPath(plain)
+        Form::InPath(known_of(whole, plain))
     }
 }
 
@@ -116,6 +152,43 @@ fn front_of(text: &[u8], len: usize) -> &[u8]
     front
 }
 
+/// What stands behind so many bytes of a text.
+fn behind_of(text: &[u8], len: usize) -> &[u8]
+    ensures { result.now ≡ drop len text.now }
+{
+    if text.len() <= len {
+        return &[];
+    }
+    let (_, behind) = text.split_at(len);
+    behind
+}
+
+/// Whether a text begins so. It is `starts_with` without a call where one of the first bytes differs.
+fn begins(text: &[u8], front: &[u8]) -> bool
+    ensures { result ≡ starts_with nat_eq text.now front.now }
+{
+    front == front_of(text, front.len())
+}
+
+/// Whether a text ends so, likewise.
+fn ends(text: &[u8], end: &[u8]) -> bool
+    ensures { result ≡ ends_with nat_eq text.now end.now }
+{
+    end == behind_of(text, text.len().saturating_sub(end.len()))
+}
+
+/// Whether a text has the plain bytes of a pattern that are known.
+fn has_known(known: Known, pattern: &[u8], text: &[u8]) -> bool
+    ensures { result ≡ has_known known pattern.now text.now }
+{
+    begins(text, front_of(pattern, known.front))
+        && (known.more == 0
+            || begins(
+                behind_of(text, known.front.saturating_add(1)),
+                front_of(behind_of(pattern, known.next), known.more),
+            ))
+}
+
 /// Whether a pattern of that form matches a path with that last part.
 fn answer(form: Form, pattern: &[u8], path: &[u8], name: &[u8]) -> bool
     requires { passed_by form ≤ length pattern.now }
@@ -126,15 +199,13 @@ fn answer(form: Form, pattern: &[u8], path: &[u8], name: &[u8]) -> bool
         Form::Name => pattern == name,
         Form::Ending => {
             let (_, ending) = pattern.split_at(1);
-            name.ends_with(ending)
+            ends(name, ending)
         }
-        Form::InName(plain) => {
-            name.starts_with(front_of(pattern, plain)) && fits(pattern, false, name)
-        }
+        Form::InName(known) => has_known(known, pattern, name) && fits(pattern, false, name),
         Form::Path => without_slash(pattern) == path,
-        Form::InPath(plain) => {
+        Form::InPath(known) => {
             let whole = without_slash(pattern);
-            path.starts_with(front_of(whole, plain)) && fits(whole, true, path)
+            has_known(known, whole, path) && fits(whole, true, path)
         }
     }
 }

@@ -9,4 +9,4 @@ pub returns-then-is_ending : goal.returns-then-is_ending
 returns-then-is_ending c = ending_is c.args.pattern.now c.requires (sym c.is_ending.ensures ∙ c.if-is_ending.true)
 
 pub returns-else-is_ending : goal.returns-else-is_ending
-returns-else-is_ending c = in_name c.args.pattern.now c.plain_len-plain.result c.requires c.plain_len-plain.ensures.value
+returns-else-is_ending c = in_name c.args.pattern.now c.known_of.result c.requires c.known_of.ensures

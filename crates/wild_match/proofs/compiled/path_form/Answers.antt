@@ -1,6 +1,6 @@
-use Rattle.std.proofs.Common.{ℕ, List, length, sym, ap, ◌∙◌}
+use Rattle.std.proofs.Common.{ℕ, List, length, sym, ap, subst, ◌∙◌}
 use Rattle.std.specs.List.{prefix_len}
-use Rattle.wild_match.specs.Compiled.{is_plain}
+use Rattle.wild_match.specs.Compiled.{is_plain, IsKnown}
 use Rattle.wild_match.proofs.Forms.{path_is, in_path}
 use Rattle.wild_match.proofs.compiled.path_form.Goals as goal
 
@@ -12,5 +12,4 @@ returns-then-plain-whole c =
 
 pub returns-else-plain-whole : goal.returns-else-plain-whole
 returns-else-plain-whole c =
-    in_path c.args.pattern.now c.plain_len-plain.result c.requires
-    (c.plain_len-plain.ensures.value ∙ ap (λ (t : List ℕ). prefix_len is_plain t) c.without_slash-whole.ensures)
+    in_path c.args.pattern.now c.known_of.result c.requires (subst (λ (t : List ℕ). IsKnown t c.known_of.result) c.without_slash-whole.ensures c.known_of.ensures)
