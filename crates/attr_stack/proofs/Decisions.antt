@@ -1,5 +1,5 @@
 -- Nothing more is decided once enough is read.
-use Rattle.std.proofs.Common.{◌≡◌, ℕ, zero, suc, ◌+◌, ◌≤◌, Bool, true, false, cond, ◌||◌, List, [], ◌∷◌, ◌++◌, length, refl, sym, ◌∙◌, ap, arith, length-append}
+use Rattle.std.proofs.Common.{◌≡◌, ℕ, zero, suc, ◌+◌, ◌≤◌, Bool, true, false, cond, ◌||◌, List, [], ◌∷◌, ◌++◌, length, reverse, refl, sym, ◌∙◌, ap, arith, length-append}
 use Rattle.std.proofs.lemmas.List.{length-reverse}
 use Rattle.std.proofs.lemmas.List.Sums.{sum_by-cons}
 use Rattle.std.proofs.lemmas.Slice.Eq.{bytes_eq-Decides}
@@ -120,3 +120,29 @@ decided-decides lines pair rest names new =
 
 pub by-rule : IsDecidedByRule
 by-rule = record { none = decided-none; passed = decided-passed; decides = decided-decides }
+
+-- ---- macros of one meaning decide the same
+
+body-same : (lines others : List MacroLine) (name : List ℕ) (state : AttrState) → ((name : List ℕ) → meaning lines name ≡ meaning others name) → body_at lines name state ≡ body_at others name state
+body-same lines others name Set same = ap reverse (same name)
+body-same lines others name Unset same = refl
+body-same lines others name Unspecified same = refl
+body-same lines others name (Value value) same = refl
+
+within-same : (n : ℕ) (lines others : List MacroLine) (pairs : List Pair) (names : Names) → ((name : List ℕ) → meaning lines name ≡ meaning others name)
+    → decided_within n lines pairs names ≡ decided_within n others pairs names
+within-same zero lines others pairs names same = refl
+within-same (suc n) lines others [] names same = refl
+within-same (suc n) lines others (pair ∷ rest) names same =
+    ap (λ later. cond (names pair.name) later (pair ∷ decided_within n lines (body_of lines pair ++ rest) (with_name pair.name names))) (within-same n lines others rest names same)
+    ∙ ap (λ later. cond (names pair.name) (decided_within n others rest names) (pair ∷ later))
+    (within-same n lines others (body_of lines pair ++ rest) (with_name pair.name names) same
+    ∙ ap (λ body. decided_within n others (body ++ rest) (with_name pair.name names)) (body-same lines others pair.name pair.state same))
+
+pub decided-same : (lines others : List MacroLine) (pairs : List Pair) (names : Names) → ((name : List ℕ) → meaning lines name ≡ meaning others name) → decided lines pairs names ≡ decided others pairs names
+unfolding decided
+decided-same lines others pairs names same =
+    let n : ℕ = most_read lines pairs + most_read others pairs in
+    enough (most_read lines pairs) n lines pairs names (room-most lines pairs names) (omega (arith, room-most lines pairs names))
+    ∙ within-same n lines others pairs names same
+    ∙ sym (enough (most_read others pairs) n others pairs names (room-most others pairs names) (omega (arith, room-most others pairs names)))

@@ -1,3 +1,4 @@
+pub mod Chains
 pub mod Decisions
 pub mod Lists
 pub mod Maps

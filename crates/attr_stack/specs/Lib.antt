@@ -1,4 +1,6 @@
 pub mod Decided
+pub mod Levels
 pub mod Macros
 pub mod Pairs
+pub mod Rules
 pub mod Seen

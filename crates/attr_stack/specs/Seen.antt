@@ -6,8 +6,10 @@ use Rattle.std.specs.Ordering.{nat_cmp}
 use Rattle.std.specs.BTreeMap as tree
 use Rattle.std.specs.BTreeMap.{BTreeMap}
 use Rattle.std.specs.Str.{bytes_eq}
+use Rattle.std.specs.Global.{Vec}
 use denote.Ref.{Bor}
 use Rattle.attr_line.specs.declared.state.AttrState.{AttrState}
+use Rattle.attr_line.specs.declared.state.AttrState.TheVariants.{Unspecified}
 use Rattle.attr_line.specs.declared.file.Pair.{Pair}
 use Rattle.attr_stack.specs.Macros.{MacroLine, meaning}
 
@@ -19,12 +21,16 @@ from_end pairs = reverse (map (λ (pair : Bor Pair). pair.now) pairs)
 abbrev pub state_at : BTreeMap (Bor (List ℕ)) (Bor AttrState) → List ℕ → Option AttrState
 state_at states name = option_map (λ (state : Bor AttrState). state.now) (tree.get_by (λ (key : Bor (List ℕ)). slice_cmp nat_cmp name key.now) states)
 
+-- what is decided of a name
+abbrev pub said_in : BTreeMap (Bor (List ℕ)) (Bor AttrState) → List ℕ → AttrState
+said_in states name = unwrap_or (state_at states name) Unspecified
+
 -- what a map from names to the pairs of macros has for a name
-abbrev pub pairs_at : BTreeMap (Bor (List ℕ)) (Bor (List Pair)) → List ℕ → List Pair
-pairs_at macros name = unwrap_or (option_map (λ (pairs : Bor (List Pair)). pairs.now) (tree.get_by (λ (key : Bor (List ℕ)). slice_cmp nat_cmp name key.now) macros)) []
+abbrev pub pairs_at : BTreeMap (Vec ℕ) (List Pair) → List ℕ → List Pair
+pairs_at macros name = unwrap_or (tree.get_by (λ (key : Vec ℕ). slice_cmp nat_cmp name key.items) macros) []
 
 -- a map gives each name the meaning that these macros give it
-abbrev pub AreMacros : BTreeMap (Bor (List ℕ)) (Bor (List Pair)) → List MacroLine → Type 0
+abbrev pub AreMacros : BTreeMap (Vec ℕ) (List Pair) → List MacroLine → Type 0
 AreMacros macros lines = (name : List ℕ) → pairs_at macros name ≡ meaning lines name
 
 -- the states with that of a pair

@@ -1,12 +1,11 @@
 //! Which pair decides each attribute.
 ghost use Rattle.std.specs.Prelude.{◌≡◌, ℕ, ◌++◌, List, IfOk, OnOk};
-ghost use Rattle.attr_stack.specs.Macros.{MacroLine, binary};
-ghost use Rattle.attr_stack.specs.Decided.{body_of, decision};
+ghost use Rattle.attr_stack.specs.Macros.{MacroLine};
+ghost use Rattle.attr_stack.specs.Decided.{body_of, decided, no_names, said_of};
 ghost use Rattle.attr_stack.specs.Seen.{from_end, state_at, pairs_at, AreMacros, Notes};
 
-use crate::files::AttrFiles;
-use crate::macros::{Macros, macros_of};
-use crate::reach::{push_all, push_pairs};
+use crate::macros::Macros;
+use crate::reach::push_pairs;
 use attr_line::{AttrState, Pair};
 use std::alloc::{AllocError, Global};
 use std::collections::BTreeMap;
@@ -15,11 +14,11 @@ use std::collections::BTreeMap;
 pub type States<'a> = BTreeMap<&'a [u8], &'a AttrState>;
 
 /// What a name stands for: nothing, if it is no macro.
-fn meaning_of<'a>(macros: &Macros<'a>, name: &[u8]) -> &'a [Pair]
+fn meaning_of<'a>(macros: &'a Macros, name: &[u8]) -> &'a [Pair]
     ensures { result.now ≡ pairs_at macros.now name.now }
 {
     match macros.get(name) {
-        Some(pairs) => pairs,
+        Some(pairs) => pairs.as_slice(),
         None => &[],
     }
 }
@@ -27,7 +26,7 @@ fn meaning_of<'a>(macros: &Macros<'a>, name: &[u8]) -> &'a [Pair]
 /// What is read at the point of a pair that decides.
 fn push_body<'a>(
     pending: &mut Vec<&'a Pair>,
-    macros: &Macros<'a>,
+    macros: &'a Macros,
     pair: &Pair,
 ) -> Result<(), AllocError>
     ensures { OnOk result ((lines : List MacroLine) → AreMacros macros.now lines
@@ -51,23 +50,19 @@ fn decides<'a>(states: &mut States<'a>, pair: &'a Pair) -> Result<bool, AllocErr
     Ok(true)
 }
 
-/// The states of a path's names that something decides, by the pairs of `binary`.
-pub fn states_of<'a>(
+/// The states of the names that these pairs decide, of which the last is read first.
+pub fn read_pairs<'a>(
     alloc: Global,
-    files: &'a AttrFiles,
-    path: &[u8],
-    built_in: &'a [Pair],
+    mut pending: Vec<&'a Pair>,
+    macros: &'a Macros,
 ) -> Result<States<'a>, AllocError>
-    requires { built_in.now ≡ binary.pairs }
-    ensures { IfOk result (λ states. (name : List ℕ) → state_at states name ≡ decision files.now path.now name) }
+    ensures { IfOk result (λ states. (lines : List MacroLine) → AreMacros macros.now lines
+        → (name : List ℕ) → state_at states name ≡ said_of (decided lines (from_end pending.entry.items) no_names) name) }
 {
-    let macros = macros_of(alloc, files, built_in)?;
-    let mut pending = Vec::new(alloc);
-    push_all(&mut pending, files, path)?;
     let mut states = BTreeMap::new(alloc);
     'reading: while let Some(pair) = pending.pop() {
         if decides(&mut states, pair)? {
-            push_body(&mut pending, &macros, pair)?;
+            push_body(&mut pending, macros, pair)?;
         }
     }
     Ok(states)

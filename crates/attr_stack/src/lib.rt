@@ -1,13 +1,17 @@
 //! The attributes of a path: which file, row and macro decides each (gitattributes(5)).
 #![tactic(auto)]
 
+mod chain;
+mod compiled_file;
 mod decide;
 mod files;
 mod laws;
 mod macros;
 mod reach;
+mod stack;
 mod states;
 
 pub use files::{AttrFiles, FileAt};
 pub use laws::pairs_decide_by_rule;
+pub use stack::AttrStack;
 pub use states::attributes_of;

@@ -1,18 +1,18 @@
 //! The decided state of each name that is asked for.
 ghost use Rattle.std.specs.Prelude.{◌≡◌, IfOk, map};
-ghost use Rattle.std.specs.Option.{unwrap_or};
-ghost use Rattle.attr_line.specs.declared.state.AttrState.TheVariants.{Unspecified};
 ghost use Rattle.attr_stack.specs.Decided.{state_of};
-ghost use Rattle.attr_stack.specs.Seen.{state_at};
+ghost use Rattle.attr_stack.specs.Seen.{said_in};
 
-use crate::decide::{States, states_of};
+use crate::decide::{States, read_pairs};
 use crate::files::AttrFiles;
-use crate::macros::binary_pairs;
+use crate::macros::macros_of;
+use crate::reach::push_all;
 use attr_line::AttrState;
 use byte_path::Bytes;
 use std::alloc::{AllocError, Global};
 
-fn copy_of(alloc: Global, state: &AttrState) -> Result<AttrState, AllocError>
+/// A copy of a state.
+pub fn copy_of(alloc: Global, state: &AttrState) -> Result<AttrState, AllocError>
     ensures { IfOk result (λ copy. copy ≡ state.now) }
 {
     match state {
@@ -25,12 +25,27 @@ fn copy_of(alloc: Global, state: &AttrState) -> Result<AttrState, AllocError>
 
 /// What is decided of a name.
 fn state_in(alloc: Global, states: &States<'_>, name: &[u8]) -> Result<AttrState, AllocError>
-    ensures { IfOk result (λ state. state ≡ unwrap_or (state_at states.now name.now) Unspecified) }
+    ensures { IfOk result (λ state. state ≡ said_in states.now name.now) }
 {
     match states.get(name) {
         Some(state) => copy_of(alloc, state),
         None => Ok(AttrState::Unspecified),
     }
+}
+
+/// What is decided of each name.
+pub fn states_in(
+    alloc: Global,
+    decided: &States<'_>,
+    names: &[Bytes],
+) -> Result<Vec<AttrState>, AllocError>
+    ensures { IfOk result (λ states. states.items ≡ map (said_in decided.now) names.now) }
+{
+    let mut states = Vec::with_capacity(alloc, names.len())?;
+    for name in names {
+        states.push(state_in(alloc, decided, name.as_slice())?)?;
+    }
+    Ok(states)
 }
 
 /// The state of each name for a path, in the order of the names (gitattributes(5), "DESCRIPTION").
@@ -45,11 +60,9 @@ pub fn attributes_of(
 ) -> Result<Vec<AttrState>, AllocError>
     ensures { IfOk result (λ states. states.items ≡ map (state_of files.now path.now) names.now) }
 {
-    let built_in = binary_pairs(alloc)?;
-    let decided = states_of(alloc, files, path, built_in.as_slice())?;
-    let mut states = Vec::with_capacity(alloc, names.len())?;
-    for name in names {
-        states.push(state_in(alloc, &decided, name.as_slice())?)?;
-    }
-    Ok(states)
+    let macros = macros_of(alloc, files)?;
+    let mut pending = Vec::new(alloc);
+    push_all(&mut pending, files, path)?;
+    let decided = read_pairs(alloc, pending, &macros)?;
+    states_in(alloc, &decided, names)
 }

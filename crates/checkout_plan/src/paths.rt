@@ -9,7 +9,7 @@ ghost use Rattle.checkout_plan.specs.Seen.{AreStarts, IsReady, asked_names, path
 use crate::path_plan::PathPlan;
 use crate::starts::{Starts, filter_start, starts_of};
 use attr_line::AttrState;
-use attr_stack::{AttrFiles, attributes_of};
+use attr_stack::{AttrFiles, AttrStack};
 use byte_path::Bytes;
 use checkout_core::{FailCause, SkipCause, Start, Verdict};
 use convert_plan::{Conversion, conversion_of};
@@ -118,7 +118,7 @@ fn asked_names(alloc: Global) -> Result<Vec<Bytes>, AllocError>
 /// What decides about the paths of an index.
 #[derive(Drop)]
 struct Asking<'a> {
-    files: &'a AttrFiles,
+    stack: AttrStack,
     settings: &'a Settings,
     /// The attributes, that of the filter last.
     names: Vec<Bytes>,
@@ -146,15 +146,15 @@ fn path_by(
 impl<'a> Asking<'a> {
     fn new(
         alloc: Global,
-        files: &'a AttrFiles,
+        files: AttrFiles,
         settings: &'a Settings,
     ) -> Result<Asking<'a>, AllocError>
         ensures ready { IfOk result IsReady }
-        ensures files { IfOk result (λ asking. asking.files.now ≡ files.now) }
+        ensures files { IfOk result (λ asking. asking.stack ≡ files) }
         ensures settings { IfOk result (λ asking. asking.settings.now ≡ settings.now) }
     {
         Ok(Asking {
-            files,
+            stack: AttrStack::begin(alloc, files)?,
             settings,
             names: asked_names(alloc)?,
             starts: starts_of(alloc, settings.drivers.as_slice())?,
@@ -162,18 +162,21 @@ impl<'a> Asking<'a> {
     }
 
     /// A file by its attributes.
-    fn file_path(&self, alloc: Global, entry: &Entry) -> Result<PathPlan, AllocError>
-        requires { IsReady self.now }
-        ensures { IfOk result (λ path. path ≡ file_path self.now.files.now self.now.settings.now entry.now) }
+    fn file_path(&mut self, alloc: Global, entry: &Entry) -> Result<PathPlan, AllocError>
+        requires { IsReady self.old }
+        ensures kept { self.new ≡ self.old }
+        ensures path { IfOk result (λ path. path ≡ file_path self.old.stack self.old.settings.now entry.now) }
     {
-        let states = attributes_of(alloc, self.files, entry.path.as_slice(), &self.names)?;
+        let path = entry.path.as_slice();
+        let states = self.stack.states(alloc, path, &self.names)?;
         path_by(alloc, self.settings, &self.starts, entry, &states)
     }
 
     /// A path that isn't UTF-8 has no file.
-    fn text_path(&self, alloc: Global, entry: &Entry) -> Result<PathPlan, AllocError>
-        requires { IsReady self.now }
-        ensures { IfOk result (λ path. path ≡ text_path self.now.files.now self.now.settings.now entry.now) }
+    fn text_path(&mut self, alloc: Global, entry: &Entry) -> Result<PathPlan, AllocError>
+        requires { IsReady self.old }
+        ensures kept { self.new ≡ self.old }
+        ensures path { IfOk result (λ path. path ≡ text_path self.old.stack self.old.settings.now entry.now) }
     {
         if is_text(entry.path.as_slice()) {
             self.file_path(alloc, entry)
@@ -183,9 +186,10 @@ impl<'a> Asking<'a> {
     }
 
     /// The path of an entry with the lowest stage, with its driver numbered among all those of the settings.
-    fn asked_path(&self, alloc: Global, entry: &Entry) -> Result<PathPlan, AllocError>
-        requires { IsReady self.now }
-        ensures { IfOk result (λ path. path ≡ asked_path self.now.files.now self.now.settings.now entry.now) }
+    fn asked_path(&mut self, alloc: Global, entry: &Entry) -> Result<PathPlan, AllocError>
+        requires { IsReady self.old }
+        ensures kept { self.new ≡ self.old }
+        ensures path { IfOk result (λ path. path ≡ asked_path self.old.stack self.old.settings.now entry.now) }
     {
         if entry.stage != 0 {
             return closed(alloc, entry, Verdict::Skipped(SkipCause::Unmerged));
@@ -198,10 +202,10 @@ impl<'a> Asking<'a> {
     }
 
     /// One path for each distinct path of an index, in order.
-    fn asked_paths(&self, alloc: Global, entries: &[Entry]) -> Result<Vec<PathPlan>, AllocError>
-        requires { IsReady self.now }
+    fn asked_paths(&mut self, alloc: Global, entries: &[Entry]) -> Result<Vec<PathPlan>, AllocError>
+        requires { IsReady self.old }
         ensures { IfOk result (λ paths. paths.items
-            ≡ asked_paths self.now.files.now self.now.settings.now entries.now) }
+            ≡ asked_paths self.old.stack self.old.settings.now entries.now) }
     {
         let mut paths = Vec::new(alloc);
         let mut before: &[u8] = &[];
@@ -217,13 +221,14 @@ impl<'a> Asking<'a> {
 }
 
 /// The paths of an index, if these attribute files reach them.
-pub fn asked_paths<'a>(
+pub fn asked_paths(
     alloc: Global,
-    files: &'a AttrFiles,
-    settings: &'a Settings,
+    files: AttrFiles,
+    settings: &Settings,
     entries: &[Entry],
 ) -> Result<Vec<PathPlan>, AllocError>
-    ensures { IfOk result (λ paths. paths.items ≡ asked_paths files.now settings.now entries.now) }
+    ensures { IfOk result (λ paths. paths.items ≡ asked_paths files settings.now entries.now) }
 {
-    Asking::new(alloc, files, settings)?.asked_paths(alloc, entries)
+    let mut asking = Asking::new(alloc, files, settings)?;
+    asking.asked_paths(alloc, entries)
 }

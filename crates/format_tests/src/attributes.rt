@@ -1,5 +1,5 @@
 use attr_line::{AttrState, read_attributes};
-use attr_stack::{AttrFiles, FileAt, attributes_of};
+use attr_stack::{AttrFiles, AttrStack, FileAt, attributes_of};
 use byte_path::{Bytes, Items};
 use std::alloc::{AllocError, Global};
 use std::test::Fail;
@@ -120,6 +120,58 @@ fn a_path_has_the_states_of_its_files(rt: HostRuntime) -> Result<(), Fail> {
             panic!(rt; "one state for one name");
         };
         assert!(rt; is_spelled(state, want), "{name:?} of {path:?}, {texts:?}");
+    }
+    Ok(())
+}
+
+#[test]
+fn a_stack_has_the_same_states(rt: HostRuntime) -> Result<(), Fail> {
+    for (texts, path, name, want) in CASES {
+        let mut stack = AttrStack::begin(rt.alloc(), files_of(rt.alloc(), texts)?)?;
+        let names = [Bytes::copy_of(rt.alloc(), name)?];
+        let states = stack.states(rt.alloc(), path, &names)?;
+        let [state] = states.as_slice() else {
+            panic!(rt; "one state for one name");
+        };
+        assert!(rt; is_spelled(state, want), "{name:?} of {path:?}, {texts:?}");
+    }
+    Ok(())
+}
+
+/// `info/attributes` and the files of the top folder, of `a` and of `a/b`, as in `CASES`.
+const WALKED: [&[u8]; 4] = [
+    b"*.i t=info",
+    b"[attr]m n\n* t=top -n\nc m",
+    b"[attr]k n=k\n* t=a\nb/y k n=a",
+    b"* t=b\n/x n",
+];
+
+/// Paths of these files in the order in which they are asked for, and how their states of `t` and `n` are spelled.
+const WALK: &[(&[u8], &[u8], &[u8])] = &[
+    (b"a/b/x", b"b", b"+"),
+    (b"a/c", b"a", b"+"),
+    (b"b", b"top", b"-"),
+    (b"a/b/y", b"b", b"a"),
+    (b"a/b/c/x", b"b", b"-"),
+    (b"ab/c", b"top", b"+"),
+    (b"a/b/x.i", b"info", b"-"),
+    (b"a", b"top", b"-"),
+];
+
+#[test]
+fn a_stack_leaves_the_folders_that_it_was_in(rt: HostRuntime) -> Result<(), Fail> {
+    let mut stack = AttrStack::begin(rt.alloc(), files_of(rt.alloc(), &WALKED)?)?;
+    let names = [
+        Bytes::copy_of(rt.alloc(), b"t")?,
+        Bytes::copy_of(rt.alloc(), b"n")?,
+    ];
+    for (path, t, n) in WALK {
+        let states = stack.states(rt.alloc(), path, &names)?;
+        let [state_t, state_n] = states.as_slice() else {
+            panic!(rt; "two states for two names");
+        };
+        assert!(rt; is_spelled(state_t, t), "t of {path:?}");
+        assert!(rt; is_spelled(state_n, n), "n of {path:?}");
     }
     Ok(())
 }

@@ -1,4 +1,5 @@
-use wild_match::matches;
+use std::test::Fail;
+use wild_match::{Compiled, matches};
 
 /// Patterns, paths, and whether the pattern matches the path, as gitattributes(5) defines it.
 const TABLE: &[(&[u8], &[u8], bool)] = &[
@@ -18,6 +19,27 @@ const TABLE: &[(&[u8], &[u8], bool)] = &[
     (b"", b"", false),
     (b"/", b"", false),
     (b"a\\", b"a", false),
+    // Without a star the last part, or the path, is the pattern.
+    (b"b", b"a/b", true),
+    (b"b", b"b/a", false),
+    (b"b", b"ab", false),
+    (b"b", b"bc", false),
+    (b"a/b", b"a/b", true),
+    (b"a/b", b"a/bc", false),
+    (b"/a/b", b"a/b", true),
+    (b"a\\b", b"x/ab", true),
+    // A star in front leaves the end, and one behind the front.
+    (b"*", b"a/b", true),
+    (b"*.c", b"a/.c", true),
+    (b"*.c", b"a.c/b", false),
+    (b"*.c", b"c", false),
+    (b"**.c", b"a/b.c", true),
+    (b"ab*", b"x/ab", true),
+    (b"ab*", b"x/a", false),
+    (b"ab*", b"ab/x", false),
+    (b"x/ab*", b"x/ab", true),
+    (b"/x/a?", b"x/ab", true),
+    (b"x/ab*", b"y/ab", false),
     // Stars cross slashes only as whole parts.
     (b"a/*", b"a/b", true),
     (b"a/*", b"a/b/c", false),
@@ -85,4 +107,13 @@ fn patterns_match_as_in_the_manual(rt: HostRuntime) {
     for (pattern, path, want) in TABLE {
         assert!(rt; matches(pattern, path) == *want, "at {pattern:?}, {path:?}");
     }
+}
+
+#[test]
+fn a_compiled_pattern_answers_alike(rt: HostRuntime) -> Result<(), Fail> {
+    for (pattern, path, want) in TABLE {
+        let compiled = Compiled::of(rt.alloc(), pattern)?;
+        assert!(rt; compiled.matches(path) == *want, "at {pattern:?}, {path:?}");
+    }
+    Ok(())
 }

@@ -5,7 +5,7 @@ ghost use Rattle.list_attributes.specs.Drafts.{files_at, files_of};
 
 use crate::answer::push_answer;
 use attr_line::{AttrFile, read_attributes};
-use attr_stack::{AttrFiles, FileAt, attributes_of};
+use attr_stack::{AttrFiles, AttrStack, FileAt};
 use byte_path::{Bytes, Items};
 use std::alloc::{AllocError, Global};
 
@@ -19,7 +19,7 @@ struct Draft {
 /// The files and the names with which paths are asked for.
 #[derive(Drop)]
 struct Question {
-    files: AttrFiles,
+    stack: AttrStack,
     names: Vec<Bytes>,
 }
 
@@ -111,17 +111,18 @@ impl Script {
             info,
             files: folders,
         };
+        let stack = AttrStack::begin(alloc, files)?;
         let names = names_of(alloc, names)?;
-        self.question = Some(Question { files, names });
+        self.question = Some(Question { stack, names });
         Ok(())
     }
 
     fn answer(&mut self, alloc: Global, path: &[u8]) -> Result<(), AllocError> {
-        let Some(question) = &self.question else {
+        let Some(question) = &mut self.question else {
             return Ok(());
         };
         let names = question.names.as_slice();
-        let states = attributes_of(alloc, &question.files, path, names)?;
+        let states = question.stack.states(alloc, path, names)?;
         push_answer(&mut self.answers, alloc, path, names, states.as_slice())
     }
 

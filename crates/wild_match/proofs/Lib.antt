@@ -1,4 +1,5 @@
 pub mod Folders
+pub mod Forms
 pub mod LastPart
 pub mod Pairs
 pub mod Parts

@@ -32,7 +32,7 @@ pub front-plain : (text : List ℕ) → front false text ≡ plain_front text
 unfolding front
 front-plain text = refl
 
-front-same : (text : List ℕ) → is_folders text ≡ false → is_rest text ≡ false → front true text ≡ plain_front text
+pub front-same : (text : List ℕ) → is_folders text ≡ false → is_rest text ≡ false → front true text ≡ plain_front text
 unfolding front
 front-same text folders rest = rw (folders, rest) refl
 

@@ -1,4 +1,5 @@
 pub mod Classes
+pub mod Compiled
 pub mod Fits
 pub mod Members
 pub mod Pieces

@@ -1,5 +1,5 @@
 -- What the steps of the scan say of a pattern and a path.
-use Rattle.std.specs.Prelude.{◌≡◌, ℕ, ◌+◌, ◌<◌, ◌≤◌, Bool, true, false, List, [], ◌∷◌, length, drop, position}
+use Rattle.std.specs.Prelude.{◌≡◌, ◌⊎◌, ℕ, ◌+◌, ◌<◌, ◌≤◌, Bool, true, false, List, [], ◌∷◌, length, drop, position}
 use Rattle.std.specs.Prelude.{slice_index, Option, Some, None, if◌then◌else◌}
 use Rattle.std.specs.List.{position_or_len}
 use Rattle.wild_match.specs.Members.{is_close}
@@ -9,7 +9,7 @@ use Rattle.wild_match.specs.declared.part.Place.{Place}
 use Rattle.wild_match.specs.declared.part.Part.{Part}
 use Rattle.wild_match.specs.declared.part.Part.TheVariants.{Folders as OpenFolders, Behind as PartBehind}
 use Rattle.wild_match.specs.declared.part.Part.TheVariants.{Matched as PartMatched, Stuck as PartStuck}
-use Rattle.wild_match.specs.Pieces.{Piece, Slash, One, Run, Folders, Rest, Never, pieces}
+use Rattle.wild_match.specs.Pieces.{Piece, Slash, One, Run, Folders, Rest, Never, plain_front, pieces}
 use Rattle.wild_match.specs.Fits.{is_slash, fits}
 
 -- how long a piece is that stands for one byte, if this byte passes it
@@ -19,6 +19,20 @@ one_length_of b n piece = None
 
 abbrev pub one_of : ℕ → Piece × ℕ → Option ℕ
 one_of b first = one_length_of b first.1 first.0
+
+-- how long a piece is that stands for one byte
+abbrev pub single_of : Piece × ℕ → Option ℕ
+single_of (One passes, n) = Some n
+single_of (Slash, n) = None
+single_of (Run, n) = None
+single_of (Folders, n) = None
+single_of (Rest, n) = None
+single_of (Never, n) = None
+
+-- a piece of n bytes stands in front of a pattern, for one byte
+pub record IsSingle (pattern : List ℕ) (n : ℕ) : Type 0 where
+  pub first : (slice_index pattern 0 ≡ 63) ⊎ (slice_index pattern 0 ≡ 91)
+  pub reads : single_of (plain_front pattern) ≡ Some n
 
 -- how long a `/` is
 abbrev pub slash_length_of : ℕ → Piece → Option ℕ

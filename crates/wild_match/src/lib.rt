@@ -2,9 +2,11 @@
 #![tactic(auto)]
 
 mod classes;
+mod compiled;
 mod front;
 mod matching;
 mod part;
 mod sets;
 
-pub use matching::matches;
+pub use compiled::Compiled;
+pub use matching::{last_part, matches};

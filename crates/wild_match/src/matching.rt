@@ -1,10 +1,12 @@
 //! A whole pattern and a whole path.
-ghost use Rattle.std.specs.Prelude.{◌≡◌, ◌<◌, length, position, IfSome};
+ghost use Rattle.std.specs.Prelude.{◌≡◌, ◌<◌, ◌≤◌, ◌-◌, ◌++◌, false, length, take, position, IfSome};
+ghost use Rattle.std.specs.List.{list_any};
 ghost use Rattle.wild_match.specs.Fits.{fits, is_match, is_slash, last_part, without_slash};
 ghost use Rattle.wild_match.specs.Pieces.{is_folders, is_rest, pieces};
 ghost use Rattle.wild_match.specs.Steps.{IsPart, next_folder, seen_back};
 
 use crate::part::{Part, Place, part_from};
+use memchr::memrchr;
 
 fn is_folders(pattern: &[u8]) -> bool
     ensures { result ≡ is_folders pattern.now }
@@ -70,7 +72,7 @@ fn next_folder<'a>(back: Option<Place<'a>>) -> Option<Place<'a>>
 ///
 /// It goes back to the last `**/` alone, since what an earlier one could take, the last one can take too. So the whole
 /// takes at most as many steps as the pattern has bytes times those of the path.
-fn fits(pattern: &[u8], fresh: bool, path: &[u8]) -> bool
+pub fn fits(pattern: &[u8], fresh: bool, path: &[u8]) -> bool
     ensures { result ≡ fits (pieces fresh pattern.now) path.now }
 {
     let mut at = Place { pattern, path };
@@ -97,7 +99,7 @@ fn fits(pattern: &[u8], fresh: bool, path: &[u8]) -> bool
 }
 
 /// A pattern without one `/` in front.
-fn without_slash(pattern: &[u8]) -> &[u8]
+pub fn without_slash(pattern: &[u8]) -> &[u8]
     ensures { result.now ≡ without_slash pattern.now }
 {
     match pattern {
@@ -110,15 +112,19 @@ fn without_slash(pattern: &[u8]) -> &[u8]
 }
 
 /// What stands behind the last `/` of a path.
-fn last_part(path: &[u8]) -> &[u8]
-    ensures { result.now ≡ last_part path.now }
+pub fn last_part(path: &[u8]) -> &[u8]
+    ensures value { result.now ≡ last_part path.now }
+    ensures within { length result.now ≤ length path.now }
+    ensures behind { path.now ≡ take (length path.now - length result.now) path.now ++ result.now }
+    ensures no_slash { list_any is_slash result.now ≡ false }
 {
-    let mut rest = path;
-    'parts: while let Some(slash) = slash_at(rest) {
-        let (_, behind) = rest.split_at(slash + 1);
-        rest = behind;
+    match memrchr(b'/', path) {
+        Some(slash) => {
+            let (_, name) = path.split_at(slash + 1);
+            name
+        }
+        None => path,
     }
-    rest
 }
 
 /// Whether a pattern of an attribute file matches a path, which is relative to that file's folder: gitattributes(5), by

@@ -1,5 +1,6 @@
-use Rattle.std.proofs.Common.{[], ◌∷◌, ◌++◌, cond, ◌∙◌, ap}
+use Rattle.std.proofs.Common.{[], ◌∷◌, ◌++◌, List, cond, ◌∙◌, ap}
 use Rattle.std.specs.Str.{bytes_eq}
+use Rattle.attr_line.specs.declared.file.Pair.{Pair}
 use Rattle.attr_stack.specs.Macros.{binary, file_macros, top_macros, meaning}
 use Rattle.attr_stack.specs.Seen.{AreMacros}
 use Rattle.attr_stack.proofs.Maps.{nothing-defined}
@@ -8,7 +9,7 @@ use Rattle.attr_stack.proofs.macros.macros_of.Goals as goal
 pub returns : goal.returns
 returns c =
     let built : AreMacros c.define.new.macros (binary ∷ []) =
-    λ name. c.in_ok-define.ensures [] (nothing-defined c.new-macros.result c.new-macros.ensures.empty) name ∙ ap (λ pairs. cond (bytes_eq binary.name name) pairs []) c.requires in
+    λ name. c.in_ok-define.ensures [] (nothing-defined c.new-macros.result c.new-macros.ensures.empty) name ∙ ap (λ (pairs : List Pair). cond (bytes_eq binary.name name) pairs []) c.in_ok-binary_pairs.ensures in
     λ name. c.in_ok-define_rows.ensures (top_macros c.as_slice.result.now ++ binary ∷ []) (c.in_ok-define_top.ensures (binary ∷ []) built) name
     ∙ ap (λ files. meaning (file_macros c.as_slice-2.result.now ++ (top_macros files ++ binary ∷ [])) name) c.as_slice.ensures
     ∙ ap (λ rows. meaning (file_macros rows ++ (top_macros c.args.files.now.files ++ binary ∷ [])) name) c.as_slice-2.ensures

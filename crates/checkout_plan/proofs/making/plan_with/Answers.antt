@@ -8,7 +8,7 @@ use Rattle.checkout_plan.proofs.Numbered.{plan_is}
 use Rattle.checkout_plan.proofs.making.plan_with.Goals as goal
 
 pub returns : goal.returns
-returns c =
+returns c = λ files skipped.
     let asked = c.args.asked.items in
     let drivers = c.as_slice-drivers.ensures in
     let used : AreUsed c.in_ok-used.used.items asked = subst (λ (ps : List PathPlan). AreUsed c.in_ok-used.used.items ps) c.deref.ensures.value c.in_ok-used.ensures.used in
@@ -17,5 +17,5 @@ returns c =
     c.in_ok-kept.ensures asked (subst (λ (bs : List Bool). AreUsed bs asked) (sym c.deref-3.ensures.value) used) ∙ ap (λ (ds : List Driver). used_from 0 asked ds) drivers in
     let many : length c.args.settings.now.drivers ≡ length c.in_ok-numbers.numbers.items =
     sym (c.in_ok-numbers.ensures.length ∙ ap (λ (bs : List Bool). length bs) c.deref-2.ensures.value ∙ c.in_ok-used.ensures.length ∙ ap (λ (ds : List Driver). length ds) drivers) in
-    plan_is c.args.files.now asked c.numbered.result c.args.settings.now c.from_vec.result c.in_ok-numbers.numbers.items c.skipped_lines.result
-    (subst (λ (n : ℕ). All (IsWithin n) asked) many c.requires) numbers (c.numbered.ensures ∙ ap (λ (ns : List ℕ). map (renumbered ns) asked) c.deref-4.ensures.value) (c.from_vec.ensures ∙ kept) c.skipped_lines.ensures
+    plan_is files asked c.numbered.result c.args.settings.now c.from_vec.result c.in_ok-numbers.numbers.items c.args.skipped_lines
+    (subst (λ (n : ℕ). All (IsWithin n) asked) many c.requires) numbers (c.numbered.ensures ∙ ap (λ (ns : List ℕ). map (renumbered ns) asked) c.deref-4.ensures.value) (c.from_vec.ensures ∙ kept) skipped

@@ -1,14 +1,12 @@
-use Rattle.std.proofs.Common.{sym, ◌∙◌, ap, arith}
-use Rattle.std.proofs.lemmas.Grind.{common_steps}
-use Rattle.wild_match.specs.Fits.{last_part}
-use Rattle.wild_match.proofs.LastPart.{last-step, last-end}
+use Rattle.wild_match.proofs.LastPart.{found_last, none_last}
 use Rattle.wild_match.proofs.matching.last_part.Goals as goal
 
-pub parts-preserved : goal.parts-preserved
-parts-preserved c = record {
-  same = c.parts.invariant.same ∙ last-step c.parts.rest.now c.in-Some.slash c.in-Some.ensures.value ∙ ap last_part (sym c.split_at.ensures.back);
-  within = grind (arith, common_steps, c.parts.invariant.within);
-}
+pub returns-in-Some : goal.returns-in-Some
+returns-in-Some c =
+    let last = found_last c.args.path.now c.in-Some.slash c.split_at.result.1.now c.in-Some.ensures c.split_at.ensures.back in
+    record { value = last.value; within = last.within; behind = last.behind; no_slash = last.no_slash }
 
-pub returns : goal.returns
-returns c = sym (c.parts.invariant.same ∙ last-end c.parts.rest.now c.in_default.ensures.value)
+pub returns-in-None : goal.returns-in-None
+returns-in-None c =
+    let last = none_last c.args.path.now c.in-None.ensures in
+    record { value = last.value; within = last.within; behind = last.behind; no_slash = last.no_slash }

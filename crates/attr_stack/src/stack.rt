@@ -1,0 +1,190 @@
+//! The attribute files of a repository, for one path after another.
+ghost use Rattle.std.specs.Prelude.{◌≡◌, ℕ, ◌++◌, List, IfOk, OnOk, map, reverse, drop};
+ghost use Rattle.std.specs.List.{flat_map};
+ghost use Rattle.attr_stack.specs.Pairs.{pairs_of};
+ghost use Rattle.attr_stack.specs.Decided.{decision, state_of};
+ghost use Rattle.attr_stack.specs.Levels.{level_pairs, IsChain, StandsIn};
+ghost use Rattle.attr_stack.specs.Seen.{from_end, state_at};
+ghost use Rattle.attr_stack.specs.Rules.{files_of, IsRules, IsStack};
+
+use crate::chain::{Chain, Level, Places, places_of};
+use crate::compiled_file::{CompiledAt, CompiledFile};
+use crate::decide::{States, read_pairs};
+use crate::files::{AttrFiles, FileAt};
+use crate::macros::{Macros, macros_of};
+use crate::states::states_in;
+use attr_line::{AttrState, Pair};
+use byte_path::{Bytes, Items};
+use std::alloc::{AllocError, Global};
+use std::marker::Model;
+use wild_match::last_part;
+
+/// What the attribute files say, as it is looked up for each path.
+#[derive(Drop)]
+pub struct Rules {
+    pub info: CompiledFile,
+    pub folders: Vec<CompiledAt>,
+    pub macros: Macros,
+    pub places: Places,
+}
+
+fn compiled_all(alloc: Global, files: Items<FileAt>) -> Result<Vec<CompiledAt>, AllocError>
+    ensures { IfOk result (λ folders. folders.items ≡ files) }
+{
+    let files = files.into_vec();
+    let mut folders = Vec::with_capacity(alloc, files.len())?;
+    for at in files {
+        folders.push(CompiledAt::of(alloc, at)?)?;
+    }
+    Ok(folders)
+}
+
+fn rules_of(alloc: Global, files: AttrFiles) -> Result<Rules, AllocError>
+    ensures files { IfOk result (λ rules. files_of rules ≡ files) }
+    ensures rules { IfOk result IsRules }
+{
+    let macros = macros_of(alloc, &files)?;
+    let places = places_of(alloc, files.files.as_slice())?;
+    let AttrFiles { info, files } = files;
+    let info = CompiledFile::of(alloc, info)?;
+    let folders = compiled_all(alloc, files)?;
+    Ok(Rules {
+        info,
+        folders,
+        macros,
+        places,
+    })
+}
+
+/// What stands behind so many bytes of a path.
+fn behind(path: &[u8], len: usize) -> &[u8]
+    ensures { result.now ≡ drop len path.now }
+{
+    if path.len() <= len {
+        return &[];
+    }
+    let (_, inner) = path.split_at(len);
+    inner
+}
+
+/// The pairs that one file gives to a path.
+fn push_level<'a>(
+    pending: &mut Vec<&'a Pair>,
+    folders: &'a [CompiledAt],
+    level: Level,
+    path: &[u8],
+) -> Result<(), AllocError>
+    ensures { OnOk result (from_end pending.new.items ≡ level_pairs folders.now path.now level
+        ++ from_end pending.old.items) }
+{
+    match folders.get(level.place) {
+        Some(at) => at.file().push_file(pending, behind(path, level.start)),
+        None => Ok(()),
+    }
+}
+
+fn push_levels<'a>(
+    pending: &mut Vec<&'a Pair>,
+    folders: &'a [CompiledAt],
+    levels: &[Level],
+    path: &[u8],
+) -> Result<(), AllocError>
+    ensures { OnOk result (from_end pending.new.items ≡ flat_map (level_pairs folders.now path.now) (reverse levels.now)
+        ++ from_end pending.old.items) }
+{
+    for level in levels {
+        push_level(pending, folders, *level, path)?;
+    }
+    Ok(())
+}
+
+/// The pairs that reach a path of the chain's folder.
+fn push_reached<'a>(
+    pending: &mut Vec<&'a Pair>,
+    rules: &'a Rules,
+    chain: &Chain,
+    path: &[u8],
+) -> Result<(), AllocError>
+    requires chain { IsChain rules.now.folders.items chain.now }
+    requires within { StandsIn path.now chain.now.folder.items }
+    ensures { OnOk result (from_end pending.new.items ≡ pairs_of (files_of rules.now) path.now
+        ++ from_end pending.old.items) }
+{
+    push_levels(pending, &rules.folders, &chain.levels, path)?;
+    rules.info.push_file(pending, path)?;
+    Ok(())
+}
+
+/// What is decided for a path of the chain's folder.
+fn decided_of<'a>(
+    alloc: Global,
+    rules: &'a Rules,
+    chain: &Chain,
+    path: &[u8],
+) -> Result<States<'a>, AllocError>
+    requires stack { IsStack rules.now chain.now }
+    requires within { StandsIn path.now chain.now.folder.items }
+    ensures { IfOk result (λ states. (name : List ℕ) → state_at states name ≡ decision (files_of rules.now) path.now name) }
+{
+    let mut pending = Vec::new(alloc);
+    push_reached(&mut pending, rules, chain, path)?;
+    read_pairs(alloc, pending, &rules.macros)
+}
+
+/// The folder of a path, with the `/` at its end.
+fn folder_of(path: &[u8]) -> &[u8]
+    ensures { StandsIn path.now result.now }
+{
+    let name = last_part(path);
+    let (folder, _) = path.split_at(path.len() - name.len());
+    folder
+}
+
+/// The attribute files of a repository, which contracts see as they were read. It keeps the files that reach the paths of
+/// one folder, and has looked at each pattern once.
+#[derive(Drop)]
+pub struct AttrStack {
+    rules: Rules,
+    chain: Chain,
+}
+
+impl Model for AttrStack {
+    ghost use Rattle.attr_stack.specs.declared.files.AttrFiles.{AttrFiles};
+    ghost use Rattle.attr_stack.specs.Rules.{files_of, IsStack};
+
+    ghost Value = { AttrFiles };
+
+    ghost view = { λ s. files_of s.rules };
+
+    ghost invariant = { λ s. IsStack s.rules s.chain };
+}
+
+impl AttrStack {
+    /// Looks at the files once, for many paths.
+    pub fn begin(alloc: Global, files: AttrFiles) -> Result<AttrStack, AllocError>
+        ensures { IfOk result (λ stack. stack ≡ files) }
+    {
+        let rules = rules_of(alloc, files)?;
+        let chain = Chain::of(alloc, &rules.places, b"")?;
+        Ok(AttrStack { rules, chain })
+    }
+
+    /// The answer of `attributes_of` for these files. Paths may come in any order, and the fewest files are looked up
+    /// where those of one folder come together. After out of memory it gives right answers all the same.
+    pub fn states(
+        &mut self,
+        alloc: Global,
+        path: &[u8],
+        names: &[Bytes],
+    ) -> Result<Vec<AttrState>, AllocError>
+        ensures kept { self.new ≡ self.old }
+        ensures states { IfOk result (λ states. states.items ≡ map (state_of self.old path.now) names.now) }
+    {
+        let rules = &self.rules;
+        let chain = &mut self.chain;
+        let folder = folder_of(path);
+        chain.enter(alloc, &rules.places, folder)?;
+        let decided = decided_of(alloc, rules, chain, path)?;
+        states_in(alloc, &decided, names)
+    }
+}
