@@ -1,4 +1,5 @@
-//! Prints what `git ls-files --stage` prints, for the index on standard input. Paths are not quoted.
+//! Prints what `git ls-files --stage` prints, for the index on standard input. Paths are quoted as git
+//! quotes them.
 #![tactic(auto)]
 
 mod listing;
