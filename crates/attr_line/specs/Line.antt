@@ -13,10 +13,8 @@ use Rattle.attr_line.specs.declared.outcome.Outcome.TheVariants.{Nothing, Row, S
 use Rattle.attr_line.specs.declared.outcome.LineFault.TheVariants.{Long, Negative, Name, Place}
 use Rattle.attr_line.specs.Text.{is_gap, behind_gaps}
 use Rattle.attr_line.specs.Pairs.{is_bang, is_name, pairs_at}
-use Rattle.byte_path.specs.Characters.{quote, hash}
-
-abbrev pub is_quote : ℕ → Bool
-is_quote b = b == quote
+use Rattle.byte_path.specs.Characters.{hash}
+pub use Rattle.byte_path.specs.Characters.{is_quote}
 
 -- `#`
 abbrev pub is_hash : ℕ → Bool

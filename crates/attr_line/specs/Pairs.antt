@@ -8,7 +8,8 @@ use Rattle.attr_line.specs.declared.state.AttrState.{AttrState}
 use Rattle.attr_line.specs.declared.state.AttrState.TheVariants.{Set, Unset, Unspecified, Value}
 use Rattle.attr_line.specs.declared.file.Pair.{Pair}
 use Rattle.attr_line.specs.Text.{words}
-use Rattle.byte_path.specs.Characters.{bang, hyphen, dot, equals, underscore}
+use Rattle.byte_path.specs.Characters.{bang, hyphen, dot, underscore}
+pub use Rattle.byte_path.specs.Characters.{is_equals}
 
 abbrev pub is_minus : ℕ → Bool
 is_minus b = b == hyphen
@@ -16,9 +17,6 @@ is_minus b = b == hyphen
 -- `!`
 abbrev pub is_bang : ℕ → Bool
 is_bang b = b == bang
-
-abbrev pub is_equals : ℕ → Bool
-is_equals b = b == equals
 
 -- a letter, a digit, `-`, `_` or `.`
 abbrev pub is_name_byte : ℕ → Bool

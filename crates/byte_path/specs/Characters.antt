@@ -1,5 +1,5 @@
 -- Bytes by the names of their characters, as they stand in the definitions of formats.
-use Rattle.std.specs.Prelude.{ℕ}
+use Rattle.std.specs.Prelude.{ℕ, Bool, ◌==◌}
 
 -- NUL
 abbrev pub nul : ℕ
@@ -192,3 +192,13 @@ tilde = 126
 -- DEL
 abbrev pub delete : ℕ
 delete = 127
+
+-- the tests that several formats share
+abbrev pub is_nul : ℕ → Bool
+is_nul b = b == nul
+
+abbrev pub is_quote : ℕ → Bool
+is_quote b = b == quote
+
+abbrev pub is_equals : ℕ → Bool
+is_equals b = b == equals

@@ -14,17 +14,18 @@ use Rattle.git_config.specs.declared.fault.ConfigFault.{ConfigFault}
 use Rattle.git_config.specs.declared.fault.ConfigFault.TheVariants as config
 use Rattle.checkout_engine.specs.declared.stop.Refusal.{Refusal}
 use Rattle.checkout_engine.specs.declared.stop.Refusal.TheVariants as refusal
+use Rattle.byte_path.specs.Characters.{space, line_feed}
 
 -- what follows the word for an index's fault
 abbrev pub index_detail : IndexFault → List ℕ
-index_detail (index.Version n) = 32 ∷ decimal n
-index_detail (index.Count n) = 32 ∷ decimal n
-index_detail (index.Entry k kind) = 32 ∷ decimal k ++ 32 ∷ kind_word kind
-index_detail (index.Mode k) = 32 ∷ decimal k
-index_detail (index.Path k fault) = 32 ∷ decimal k ++ 32 ∷ path.fault_word fault
-index_detail (index.Order k) = 32 ∷ decimal k
-index_detail (index.FolderClash k) = 32 ∷ decimal k
-index_detail (index.Extension signature) = 32 ∷ encode_lower signature
+index_detail (index.Version n) = space ∷ decimal n
+index_detail (index.Count n) = space ∷ decimal n
+index_detail (index.Entry k kind) = space ∷ decimal k ++ space ∷ kind_word kind
+index_detail (index.Mode k) = space ∷ decimal k
+index_detail (index.Path k fault) = space ∷ decimal k ++ space ∷ path.fault_word fault
+index_detail (index.Order k) = space ∷ decimal k
+index_detail (index.FolderClash k) = space ∷ decimal k
+index_detail (index.Extension signature) = space ∷ encode_lower signature
 index_detail f = []
 
 abbrev pub index_words : IndexFault → List ℕ
@@ -32,12 +33,12 @@ index_words fault = fault_word fault ++ index_detail fault
 
 abbrev pub config_words : ConfigFault → List ℕ
 config_words config.TooLarge = codes "too-large"
-config_words (config.Line n kind) = codes "line " ++ (decimal n ++ 32 ∷ line_word kind)
+config_words (config.Line n kind) = codes "line " ++ (decimal n ++ space ∷ line_word kind)
 config_words config.NoMemory = codes "no-memory"
 
 -- an attribute file, its path quoted as in the report, and what is wrong with it
 abbrev pub attribute_words : List ℕ → List ℕ → List ℕ
-attribute_words path word = codes "attributes " ++ (quoted path ++ 32 ∷ word)
+attribute_words path word = codes "attributes " ++ (quoted path ++ space ∷ word)
 
 abbrev pub refusal_words : Refusal → List ℕ
 refusal_words refusal.IndexAbsent = codes "index absent"
@@ -52,4 +53,4 @@ refusal_words refusal.Unbuilt = codes "unbuilt"
 
 -- the line that is written for this refusal
 abbrev pub refusal_line : Refusal → List ℕ
-refusal_line r = codes "refused " ++ (refusal_words r ++ 10 ∷ [])
+refusal_line r = codes "refused " ++ (refusal_words r ++ line_feed ∷ [])

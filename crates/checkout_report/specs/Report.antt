@@ -17,6 +17,7 @@ use Rattle.checkout_core.specs.declared.verdict.FailCause.TheVariants as fail
 use Rattle.checkout_core.specs.declared.verdict.Verdict.{Verdict}
 use Rattle.checkout_core.specs.declared.verdict.Verdict.TheVariants as verdict
 use Rattle.checkout_report.specs.declared.report.ReportPath.{ReportPath}
+use Rattle.byte_path.specs.Characters.{space, line_feed}
 
 -- what happened to the path
 abbrev pub word_of : Verdict → List ℕ
@@ -90,7 +91,9 @@ cause_of (verdict.Skipped cause) = skip_word cause
 
 -- the line of a path: word, mark, note, cause and path, with a space between
 abbrev pub line_of : ReportPath → Verdict → List ℕ
-line_of p v = word_of v ++ 32 ∷ mark_word p.mark ++ 32 ∷ note_of v ++ 32 ∷ cause_of v ++ 32 ∷ quoted p.path ++ 10 ∷ []
+line_of p v =
+    word_of v ++ space ∷ mark_word p.mark ++ space ∷ note_of v ++ space ∷ cause_of v ++ space ∷ quoted p.path
+    ++ line_feed ∷ []
 
 abbrev pub lines_of : List ReportPath → List Verdict → List ℕ
 lines_of [] vs = []
@@ -116,8 +119,8 @@ is_skipped v = false
 -- the last line, of the numbers of paths that were written, unfiltered, failed and skipped
 abbrev pub numbers_line : ℕ → ℕ → ℕ → ℕ → List ℕ
 numbers_line written unfiltered failed skipped =
-    codes "done " ++ (decimal written ++ 32 ∷ (decimal unfiltered
-    ++ 32 ∷ (decimal failed ++ 32 ∷ (decimal skipped ++ 10 ∷ []))))
+    codes "done " ++ (decimal written ++ space ∷ (decimal unfiltered
+    ++ space ∷ (decimal failed ++ space ∷ (decimal skipped ++ line_feed ∷ []))))
 
 unfoldable pub done_line : List Verdict → List ℕ
 done_line vs =

@@ -70,6 +70,10 @@ fn push_front(text: &mut Vec<u8>, content: &[u8], count: usize) -> Result<(), Al
     requires { count ≤ length content.now }
     ensures { OnOk result (text.new.items ≡ text.old.items ++ take count content.now) }
 {
+    // An empty line has nothing to copy.
+    if count == 0 {
+        return Ok(());
+    }
     if count <= SHORT {
         if let Some(block) = content.first_chunk::<SHORT>() {
             push_cut(text, block, count)?;

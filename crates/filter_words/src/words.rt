@@ -1,7 +1,9 @@
 //! The key, the value and the status of a line.
-ghost use Rattle.std.specs.Prelude.{◌≡◌, ◌<◌, ◌==◌, length, position, IfSome};
+ghost use Rattle.std.specs.Prelude.{◌≡◌};
 ghost use Rattle.std.specs.Option.{option_map};
 ghost use Rattle.filter_words.specs.Words.{without_lf, key_and_value, value_of, status_value, status_after};
+
+use bstr::ByteSlice;
 
 /// What the value of a `status=` line says.
 #[derive(Clone, Copy, Debug, PartialEq, Eq)]
@@ -35,35 +37,14 @@ pub fn read_status(value: &[u8]) -> Status
 pub fn key_value(line: &[u8]) -> Option<(&[u8], &[u8])>
     ensures { option_map (λ pair. (pair.0.now, pair.1.now)) result ≡ key_and_value line.now }
 {
-    let text = without_end(line);
-    match place_of_equals(text) {
-        Some(place) => {
-            let (key, rest) = text.split_at(place);
-            let (_, value) = rest.split_at(1);
-            Some((key, value))
-        }
-        None => None,
-    }
-}
-
-/// The place of the first `=`.
-fn place_of_equals(text: &[u8]) -> Option<usize>
-    ensures place { result ≡ position (λ b. b == 61) text.now }
-    ensures within { IfSome result (λ place. place < length text.now) }
-{
-    text.iter().position(|b| *b == b'=')
+    without_end(line).split_once_str(b"=")
 }
 
 /// A line without the one LF at its end.
 pub(crate) fn without_end(line: &[u8]) -> &[u8]
     ensures { result.now ≡ without_lf line.now }
 {
-    if line.ends_with(b"\n") {
-        let (text, _) = line.split_at(line.len() - 1);
-        text
-    } else {
-        line
-    }
+    line.strip_suffix(b"\n").unwrap_or(line)
 }
 
 /// The value of a line with this key.

@@ -56,6 +56,7 @@ const LISTED: &[(&[u8], &[u8])] = &[
     (b"[a]\nk = x \\\n  y\n", b"a.k\nx   y\0"),
     (b"[a]\nk = x\\\r\ny\\", b"a.k\nxy\0"),
     (b"[a]\nk = x \\\n\nj\n", b"a.k\nx \0a.j\0"),
+    (b"[a]\nk = x \\", b"a.k\nx \0"),
     (b"[a]\nk = \\t\\n\\b\\\"\\\\.\n", b"a.k\n\t\n\x08\"\\.\0"),
     (b"[a]\nk =\n", b"a.k\n\0"),
     (b"[a]\nk = a\"b c\"d\n", b"a.k\nab cd\0"),

@@ -10,11 +10,9 @@ use Rattle.git_config.specs.declared.fault.LineKind.TheVariants.{Section}
 use Rattle.git_config.specs.declared.setting.Head.{Head}
 use Rattle.git_config.specs.Text.{is_blank, ends_name, is_dot, behind_blanks, ◌>>=◌, want}
 use Rattle.byte_path.specs.Characters.{line_feed, quote, backslash, close_bracket}
+pub use Rattle.byte_path.specs.Characters.{is_quote}
 
--- `"` and `]`
-abbrev pub is_quote : ℕ → Bool
-is_quote b = b == quote
-
+-- `]`
 abbrev pub is_close : ℕ → Bool
 is_close b = b == close_bracket
 

@@ -4,3 +4,4 @@ pub mod Value
 pub mod Reading
 pub mod Seen
 pub mod Words
+pub mod Spelling

@@ -1,5 +1,5 @@
 -- The settings of a file, up to the first faulty line.
-use Rattle.std.specs.Prelude.{ℕ, zero, suc, ◌+◌, Bool, ◌||◌, ◌==◌, nat_le, List, [], ◌∷◌, ◌++◌, length, take}
+use Rattle.std.specs.Prelude.{ℕ, zero, suc, ◌+◌, ◌||◌, ◌==◌, nat_le, List, [], ◌∷◌, ◌++◌, length, take}
 use Rattle.std.specs.Prelude.{drop, Option, Some, None, Result, Ok, Err, if◌then◌else◌}
 use Rattle.std.specs.List.{position_or_len}
 use Rattle.std.specs.Char.{is_ascii_alphabetic}
@@ -13,11 +13,8 @@ use Rattle.git_config.specs.Text.{is_blank, is_line_end, is_comment_mark, ends_k
 use Rattle.git_config.specs.Text.{without_cr, ◌>>=◌, want}
 use Rattle.git_config.specs.Header.{lowered, header_at}
 use Rattle.git_config.specs.Value.{value_at}
-use Rattle.byte_path.specs.Characters.{line_feed, equals, open_bracket}
-
--- `=`
-abbrev pub is_equals : ℕ → Bool
-is_equals b = b == equals
+use Rattle.byte_path.specs.Characters.{line_feed, open_bracket}
+pub use Rattle.byte_path.specs.Characters.{is_equals}
 
 abbrev pub setting_of : Head → List ℕ → Option (List ℕ) → Setting
 setting_of head key value = record { section = head.section; sub = head.sub; key = lowered key; value = value }

@@ -4,6 +4,7 @@
 mod config;
 mod fault;
 mod header;
+mod laws;
 mod line;
 mod setting;
 mod shared;
@@ -12,5 +13,6 @@ mod value;
 
 pub use config::{Config, read_config};
 pub use fault::{ConfigFault, LineKind};
+pub use laws::{read_is_spelled, spelled_is_read};
 pub use setting::Setting;
 pub use shared::Shared;

@@ -1,9 +1,10 @@
 //! The paths of stage 0 that a later path may lie in.
-ghost use Rattle.std.specs.Prelude.{◌≡◌, IfOk};
+ghost use Rattle.std.specs.Prelude.{◌≡◌, ◌++◌, ◌∷◌, [], true, IfOk, OnOk};
 ghost use Rattle.git_index.specs.Spelling.{is_in_folder};
 ghost use Rattle.git_index.specs.Seen.{entry_of_spelled};
-ghost use Rattle.git_index.specs.Folders.{paths, Closes, Opens};
+ghost use Rattle.git_index.specs.Folders.{path_at, paths, are_numbers, Closes, Opens};
 
+use crate::entry::Entry;
 use crate::spelled::Spelled;
 use std::alloc::AllocError;
 
@@ -13,31 +14,51 @@ fn is_in_folder(folder: &[u8], path: &[u8]) -> bool
     path.starts_with(folder) && folder.len() < path.len() && path[folder.len()] == b'/'
 }
 
+/// The path of the entry with this number.
+fn path_of(entries: &[Entry], number: usize) -> &[u8]
+    ensures { result.now ≡ path_at entries.now number }
+{
+    match entries.get(number) {
+        Some(entry) => entry.path.as_slice(),
+        None => &[],
+    }
+}
+
 /// Closes what this path does not begin with, and returns whether what is then on top is a folder of it.
 ///
 /// Each path is opened and closed once, so all entries together cost no more than the bytes of their paths.
-fn close_before<'a>(stack: &mut Vec<&'a [u8]>, path: &[u8]) -> bool
-    ensures { Closes path.now (paths stack.old.items) (paths stack.new.items) result }
+fn close_before(entries: &[Entry], stack: &mut Vec<usize>, path: &[u8]) -> bool
+    ensures closed { Closes path.now (paths entries.now stack.old.items) (paths entries.now stack.new.items) result }
+    ensures known { are_numbers entries.now stack.old.items ≡ true → are_numbers entries.now stack.new.items ≡ true }
 {
     while let Some(last) = stack.last() {
-        if path.starts_with(last) {
-            return is_in_folder(last, path);
+        let open = path_of(entries, *last);
+        if path.starts_with(open) {
+            return is_in_folder(open, path);
         }
         stack.pop();
     }
     false
 }
 
-/// Opens the path of an entry of stage 0, unless an open path is a folder of it. Returns whether one is.
-pub fn open_path<'a>(stack: &mut Vec<&'a [u8]>, found: &Spelled<'a>) -> Result<bool, AllocError>
-    ensures { IfOk result (Opens (entry_of_spelled found.now) (paths stack.old.items) (paths stack.new.items)) }
+/// Opens the path of an entry of stage 0, which comes after these entries, unless an open path is a folder of it.
+/// Returns whether one is.
+pub fn open_path(
+    entries: &[Entry],
+    stack: &mut Vec<usize>,
+    found: &Spelled,
+) -> Result<bool, AllocError>
+    requires { are_numbers entries.now stack.old.items ≡ true }
+    ensures opens { IfOk result (Opens (entry_of_spelled found.now) (paths entries.now stack.old.items)
+        (paths (entries.now ++ entry_of_spelled found.now ∷ []) stack.new.items)) }
+    ensures known { OnOk result (are_numbers (entries.now ++ entry_of_spelled found.now ∷ []) stack.new.items ≡ true) }
 {
     if found.stage != 0 {
         return Ok(false);
     }
-    if close_before(stack, found.path) {
+    if close_before(entries, stack, found.path) {
         return Ok(true);
     }
-    stack.push(found.path)?;
+    stack.push(entries.len())?;
     Ok(false)
 }

@@ -1,9 +1,9 @@
 //! An entry in its place after the earlier ones.
-ghost use Rattle.std.specs.Prelude.{◌≡◌, ◌++◌, ◌∷◌, [], length, IfOk, OnOk, IfErr};
+ghost use Rattle.std.specs.Prelude.{◌≡◌, ◌++◌, ◌∷◌, [], true, length, IfOk, OnOk, IfErr};
 ghost use Rattle.git_index.specs.Spelling.{is_below, is_alone};
 ghost use Rattle.git_index.specs.Reading.{is_none_or, last_of, placed_at};
 ghost use Rattle.git_index.specs.Seen.{entry_of_spelled};
-ghost use Rattle.git_index.specs.Folders.{paths, AreOpen};
+ghost use Rattle.git_index.specs.Folders.{paths, are_numbers, AreOpen};
 
 use crate::entry::Entry;
 use crate::fault::{EntryKind, IndexFault};
@@ -60,19 +60,21 @@ fn copied(alloc: Global, found: &Spelled) -> Result<Entry, AllocError>
 
 /// Puts an entry after the earlier ones, of which there are k.
 #[tactic(auto, using(crate::proofs::Placed::placing))]
-pub fn place<'a>(
+pub fn place(
     alloc: Global,
     k: u32,
-    found: &Spelled<'a>,
+    found: &Spelled,
     entries: &mut Vec<Entry>,
-    stack: &mut Vec<&'a [u8]>,
+    stack: &mut Vec<usize>,
 ) -> Result<(), IndexFault>
     requires count { length entries.old.items ≡ k }
-    requires known { AreOpen entries.old.items (paths stack.old.items) }
+    requires known { AreOpen entries.old.items (paths entries.old.items stack.old.items) }
+    requires numbers { are_numbers entries.old.items stack.old.items ≡ true }
     ensures placed { OnOk result (placed_at entries.old.items (entry_of_spelled found.now)
         ≡ Ok (entry_of_spelled found.now)) }
     ensures grown { OnOk result (entries.new.items ≡ entries.old.items ++ entry_of_spelled found.now ∷ []) }
-    ensures still { OnOk result (AreOpen entries.new.items (paths stack.new.items)) }
+    ensures still { OnOk result (AreOpen entries.new.items (paths entries.new.items stack.new.items)) }
+    ensures numbered { OnOk result (are_numbers entries.new.items stack.new.items ≡ true) }
     // Which fault it is.
     ensures refused { IfErr result (λ f. (f ≡ IndexFault.NoMemory → ⊥)
         → placed_at entries.old.items (entry_of_spelled found.now) ≡ Err f) }
@@ -83,7 +85,7 @@ pub fn place<'a>(
     if !is_unmixed(entries, found) {
         return Err(IndexFault::Entry(k, EntryKind::MixedStage));
     }
-    if open_path(stack, found)? {
+    if open_path(entries, stack, found)? {
         return Err(IndexFault::FolderClash(k));
     }
     entries.push(copied(alloc, found)?)?;

@@ -6,7 +6,17 @@ ghost use Rattle.git_index.specs.Seen.{read_of};
 use crate::entry::Mode;
 use crate::fault::{EntryKind, IndexFault};
 use crate::field::{has_no_nul, is_zero, length_of, mode_of, name_of, number16_of, number32_of};
+use crate::version::Version;
 use byte_path::check_path;
+
+/// What is known before an entry is read.
+#[derive(Clone, Copy)]
+pub struct Before<'a> {
+    pub version: Version,
+    /// The path of the entry before, or nothing before the first one. A later version writes a path as what it changes
+    /// in this one.
+    pub path: &'a [u8],
+}
 
 /// An entry whose path still lies in the file, and the bytes after it.
 #[derive(Clone, Copy)]
@@ -48,13 +58,19 @@ fn sized_of<'a>(
     Ok((path, rest))
 }
 
+/// The path at the front of an entry's tail. In version 2 it stands there whole, whatever the path before it is.
 #[tactic(auto, unfolding(crate::specs::Reading::path_at))]
-fn path_of<'a>(k: u32, told: usize, tail: &'a [u8]) -> Result<(&'a [u8], &'a [u8]), IndexFault>
+fn path_of<'a>(
+    before: &Before,
+    k: u32,
+    told: usize,
+    tail: &'a [u8],
+) -> Result<(&'a [u8], &'a [u8]), IndexFault>
     ensures { seen_by (λ x. (x.0.now, x.1.now)) result ≡ path_at k told tail.now }
 {
-    match length_of(told, tail) {
-        Some(len) => sized_of(k, told, len, tail),
-        None => Err(IndexFault::Short),
+    match (before.version, length_of(told, tail)) {
+        (Version::Two, Some(len)) => sized_of(k, told, len, tail),
+        (Version::Two, None) => Err(IndexFault::Short),
     }
 }
 
@@ -86,7 +102,12 @@ fn made_of<'a>(
 }
 
 #[tactic(auto, unfolding(crate::specs::Reading::flagged_at))]
-fn flagged_of<'a>(k: u32, flags: u16, bytes: &'a [u8]) -> Result<Spelled<'a>, IndexFault>
+fn flagged_of<'a>(
+    before: &Before,
+    k: u32,
+    flags: u16,
+    bytes: &'a [u8],
+) -> Result<Spelled<'a>, IndexFault>
     requires { 62 ≤ length bytes.now }
     ensures { seen_by read_of result ≡ flagged_at k flags bytes.now }
 {
@@ -94,19 +115,19 @@ fn flagged_of<'a>(k: u32, flags: u16, bytes: &'a [u8]) -> Result<Spelled<'a>, In
         return Err(IndexFault::Entry(k, EntryKind::Extended));
     }
     let (_, tail) = bytes.split_at(62);
-    let (path, rest) = path_of(k, (flags % 0x1000) as usize, tail)?;
+    let (path, rest) = path_of(before, k, (flags % 0x1000) as usize, tail)?;
     made_of(k, flags, bytes, path, rest)
 }
 
 /// The entry of this number at the front of the bytes.
 #[tactic(auto, unfolding(crate::specs::Reading::entry_at))]
-pub fn entry_of<'a>(k: u32, bytes: &'a [u8]) -> Result<Spelled<'a>, IndexFault>
+pub fn entry_of<'a>(before: &Before, k: u32, bytes: &'a [u8]) -> Result<Spelled<'a>, IndexFault>
     ensures { seen_by read_of result ≡ entry_at k bytes.now }
 {
     if bytes.len() < 62 {
         return Err(IndexFault::Short);
     }
-    flagged_of(k, number16_of(&bytes[60..62]), bytes)
+    flagged_of(before, k, number16_of(&bytes[60..62]), bytes)
 }
 
 fn signature_of(bytes: &[u8]) -> [u8; 4]

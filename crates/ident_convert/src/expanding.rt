@@ -26,11 +26,24 @@ fn keyword_text(alloc: Global, name: &[u8; 20]) -> Result<Vec<u8>, AllocError>
     Ok(text)
 }
 
+/// How many bytes a content has with so many in place of each of its keywords.
+fn expanded_len(content: &[u8], keyword: usize) -> usize {
+    let mut len = content.len();
+    let mut rest = content;
+    'keywords: while let Some(found) = first_keyword(rest) {
+        len = len.saturating_sub(found.len).saturating_add(keyword);
+        let (_, behind) = rest.split_at(found.start + found.len);
+        rest = behind;
+    }
+    len
+}
+
 /// A content with this text in place of each of its keywords.
 fn with_keyword(alloc: Global, content: &[u8], keyword: &[u8]) -> Result<Vec<u8>, AllocError>
     ensures { IfOk result (λ text. text.items ≡ expanded keyword.now content.now) }
 {
-    let mut text = Vec::with_capacity(alloc, content.len())?;
+    let room = expanded_len(content, keyword.len());
+    let mut text = Vec::with_capacity(alloc, room)?;
     let mut place = 0;
     'keywords: loop {
         let (_, rest) = content.split_at(place);

@@ -15,6 +15,7 @@ use Rattle.tree_encoding.specs.Named.{encoding_of}
 use Rattle.list_conversions.specs.declared.task.Kind.{Kind}
 use Rattle.list_conversions.specs.declared.task.Kind.TheVariants.{Ends, Ident, Encoded}
 use Rattle.list_conversions.specs.declared.task.Task.{Task}
+use Rattle.byte_path.specs.Characters.{space, line_feed}
 
 -- the line ends of a kind
 abbrev pub ends_named : List ℕ → Option LineEnds
@@ -35,7 +36,7 @@ abbrev pub read_bytes : List ℕ → Result (List ℕ) FromHexError
 read_bytes word = if bytes_eq word (codes "-") then Ok [] else decode_of word
 
 abbrev pub is_space : ℕ → Bool
-is_space b = b == 32
+is_space b = b == space
 
 -- a line's task: the word of its kind, the content, and what the kind needs, with one space between
 abbrev pub IsTask : List ℕ → Task → Type 0
@@ -55,4 +56,4 @@ spelled [] = codes "-"
 spelled (b ∷ bytes) = encode_lower (b ∷ bytes)
 
 abbrev pub answer : List ℕ → List ℕ
-answer bytes = spelled bytes ++ 10 ∷ []
+answer bytes = spelled bytes ++ line_feed ∷ []

@@ -14,13 +14,11 @@ use Rattle.sha1.specs.Sha1.{sha1}
 use Rattle.object_dir.specs.declared.fault.ObjectFault.{ObjectFault}
 use Rattle.object_dir.specs.declared.fault.ObjectFault.TheVariants.{ReadFailed, Absent, TooLarge, Header, Size}
 use Rattle.object_dir.specs.declared.fault.ObjectFault.TheVariants.{WrongName, NoMemory}
+pub use Rattle.byte_path.specs.Characters.{is_nul}
 
 -- the most stored bytes: `blob 67108864`, a NUL and 67,108,864 bytes
 abbrev pub max_stored : ℕ
 max_stored = 67108878
-
-abbrev pub is_nul : ℕ → Bool
-is_nul b = b == 0
 
 -- the text of the size and the content are on the two sides of the first NUL after `blob `
 abbrev pub size_text : List ℕ → List ℕ

@@ -15,6 +15,7 @@ use Rattle.convert_plan.specs.declared.conversion.Conversion.{Conversion}
 use Rattle.settings_view.specs.declared.view.Driver.{Driver}
 use Rattle.checkout_plan.specs.declared.path_plan.PathPlan.{PathPlan}
 use Rattle.checkout_plan.specs.declared.path_plan.Plan.{Plan}
+use Rattle.byte_path.specs.Characters.{space, line_feed}
 
 -- a path that is read and written, or why the plan closes it
 abbrev pub state_word : Start → List ℕ
@@ -58,22 +59,22 @@ driver_word drivers (start.Done v) = codes "-"
 
 -- line ends, ident and encoding
 abbrev pub conversion_words : Conversion → List ℕ
-conversion_words c = ends_word c.ends ++ 32 ∷ ident_word c.ident ++ 32 ∷ encoding_word c.encoding
+conversion_words c = ends_word c.ends ++ space ∷ ident_word c.ident ++ space ∷ encoding_word c.encoding
 
 -- the columns before the driver: state, mark, the three of the conversion, and need, with a space
 -- after each
 abbrev pub front_of : PathPlan → List ℕ
 front_of p =
-    state_word p.start ++ (32 ∷ (mark_word p.mark
-    ++ (32 ∷ (conversion_words p.conversion ++ (32 ∷ (need_word p.start ++ 32 ∷ []))))))
+    state_word p.start ++ (space ∷ (mark_word p.mark
+    ++ (space ∷ (conversion_words p.conversion ++ (space ∷ (need_word p.start ++ space ∷ []))))))
 
 -- the line of a path: these columns, the driver and the path
 abbrev pub line_of : List Driver → PathPlan → List ℕ
-line_of drivers p = front_of p ++ (driver_word drivers p.start ++ (32 ∷ (quoted p.path ++ 10 ∷ [])))
+line_of drivers p = front_of p ++ (driver_word drivers p.start ++ (space ∷ (quoted p.path ++ line_feed ∷ [])))
 
 -- how many attribute lines were skipped
 abbrev pub last_line : ℕ → List ℕ
-last_line skipped = codes "skipped-lines " ++ (decimal skipped ++ 10 ∷ [])
+last_line skipped = codes "skipped-lines " ++ (decimal skipped ++ line_feed ∷ [])
 
 -- a line for each path, in order, and the last
 abbrev pub plan_lines : Plan → List ℕ

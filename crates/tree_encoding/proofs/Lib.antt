@@ -1,3 +1,4 @@
+pub mod OneContent
 pub mod Encoded
 pub mod Ascii
 pub mod Fronts

@@ -1,6 +1,6 @@
 -- A content in an encoding other than UTF-8.
 use Rattle.std.specs.Prelude.{ℕ, ◌+◌, ◌-◌, ◌/◌, ◌%◌, Bool, true, false, ◌&&◌, nat_lt, length, List, [], ◌∷◌}
-use Rattle.std.specs.Prelude.{◌++◌, if◌then◌else◌}
+use Rattle.std.specs.Prelude.{◌++◌, ◌≡◌, Option, Some, None, if◌then◌else◌}
 use Rattle.std.specs.List.{flat_map}
 use Rattle.std.specs.Str.{chars, is_utf8}
 use Rattle.tree_encoding.specs.declared.encoding.Encoding.{Encoding}
@@ -73,3 +73,14 @@ encoded_if false content encoding = record { bytes = content; unencoded = true }
 
 unfoldable pub encoded : List ℕ → Encoding → Prepared
 encoded content encoding = encoded_if (is_utf8 content) content encoding
+
+-- a content in one of the eight encodings: UTF-8, which is none of the seven others, changes nothing
+abbrev pub in_encoding : Option Encoding → List ℕ → Prepared
+in_encoding None content = record { bytes = content; unencoded = false }
+in_encoding (Some encoding) content = encoded content encoding
+
+-- An encoding's text is that of one content: two contents that are encoded to equal bytes are equal.
+abbrev pub OneContent : Type 0
+OneContent = (encoding : Option Encoding) (s t : List ℕ) → (in_encoding encoding s).unencoded ≡ false
+    → (in_encoding encoding t).unencoded ≡ false → (in_encoding encoding s).bytes ≡ (in_encoding encoding t).bytes
+    → s ≡ t

@@ -19,34 +19,21 @@ without_hyphen (b ∷ name) = if b == hyphen then name else b ∷ without_hyphen
 unfoldable pub is_name : List ℕ → List ℕ → Bool
 is_name value name = str_eq_ignore_ascii_case value name || str_eq_ignore_ascii_case value (without_hyphen name)
 
--- the encoding of 16-bit units that a value names
-unfoldable pub named16 : List ℕ → Option Encoding
-named16 value =
-    if is_name value (codes "UTF-16") then Some Utf16
-    else if is_name value (codes "UTF-16LE") then Some Utf16Le
-    else if is_name value (codes "UTF-16BE") then Some Utf16Be
-    else if is_name value (codes "UTF-16LE-BOM") then Some Utf16LeBom
-    else None
+-- the names of the eight encodings, of which UTF-8 changes nothing
+abbrev pub names : List (List ℕ × Option Encoding)
+names =
+    (codes "UTF-8", None) ∷ (codes "UTF-16", Some Utf16) ∷ (codes "UTF-16LE", Some Utf16Le)
+    ∷ (codes "UTF-16BE", Some Utf16Be) ∷ (codes "UTF-16LE-BOM", Some Utf16LeBom) ∷ (codes "UTF-32", Some Utf32)
+    ∷ (codes "UTF-32LE", Some Utf32Le) ∷ (codes "UTF-32BE", Some Utf32Be) ∷ []
 
--- the encoding of 32-bit units that a value names
-unfoldable pub named32 : List ℕ → Option Encoding
-named32 value =
-    if is_name value (codes "UTF-32") then Some Utf32
-    else if is_name value (codes "UTF-32LE") then Some Utf32Le
-    else if is_name value (codes "UTF-32BE") then Some Utf32Be
-    else None
+-- what stands beside the name that a value is
+abbrev pub named_in : List (List ℕ × Option Encoding) → List ℕ → Result (Option Encoding) UnknownEncoding
+named_in [] value = Err (record {})
+named_in (row ∷ rows) value = if is_name value row.0 then Ok row.1 else named_in rows value
 
--- one of either kind
-abbrev pub one_of : Option Encoding → Option Encoding → Result (Option Encoding) UnknownEncoding
-one_of (Some encoding) other = Ok (Some encoding)
-one_of None (Some encoding) = Ok (Some encoding)
-one_of None None = Err (record {})
-
--- what a value names: the empty one and UTF-8 stand for no encoding
+-- what a value names: the empty one stands for UTF-8
 unfoldable pub encoding_named : List ℕ → Result (Option Encoding) UnknownEncoding
-encoding_named value =
-    if length value == 0 || is_name value (codes "UTF-8") then Ok None
-    else one_of (named16 value) (named32 value)
+encoding_named value = if length value == 0 then Ok None else named_in names value
 
 -- an attribute that is set has no value, and so names nothing that is known
 abbrev pub encoding_of : AttrState → Result (Option Encoding) UnknownEncoding

@@ -1,5 +1,6 @@
 ghost use Rattle.std.specs.Prelude.{◌≡◌, Ok, Some};
 ghost use Rattle.tree_encoding.specs.Named.{encoding_name, encoding_named};
+ghost use Rattle.tree_encoding.specs.Encode.{OneContent};
 
 use thiserror::Error;
 
@@ -43,4 +44,9 @@ impl Encoding {
 /// The law that the name of an encoding names it. It does nothing.
 pub fn name_names_encoding(encoding: Encoding)
     ensures { encoding_named (encoding_name encoding) ≡ Ok (Some encoding) }
+{}
+
+/// The law that two contents which an encoding makes equal are equal, for each of the eight encodings. It does nothing.
+pub fn one_content()
+    ensures { OneContent }
 {}

@@ -8,7 +8,7 @@ mod prepared;
 mod text;
 mod writing;
 
-pub use encoding::{Encoding, UnknownEncoding, name_names_encoding};
+pub use encoding::{Encoding, UnknownEncoding, name_names_encoding, one_content};
 pub use named::encoding_of;
 pub use prepared::Prepared;
 pub use writing::{encodable_text, encode, encode_text};

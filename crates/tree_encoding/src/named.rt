@@ -1,6 +1,6 @@
 //! The encoding that an attribute names.
 ghost use Rattle.std.specs.Prelude.{◌≡◌};
-ghost use Rattle.tree_encoding.specs.Named.{without_hyphen, is_name, named16, named32, encoding_named, encoding_of};
+ghost use Rattle.tree_encoding.specs.Named.{without_hyphen, is_name, encoding_named, encoding_of};
 
 use crate::encoding::{Encoding, UnknownEncoding};
 use attr_line::AttrState;
@@ -14,52 +14,31 @@ fn is_name(value: &[u8], name: &[u8], joined: &[u8]) -> bool
     value.eq_ignore_ascii_case(name) || value.eq_ignore_ascii_case(joined)
 }
 
-/// The encoding of 16-bit units that a value names.
-#[tactic(auto, unfolding(crate::specs::Named::named16))]
-fn named16(value: &[u8]) -> Option<Encoding>
-    ensures { result ≡ named16 value.now }
-{
-    if is_name(value, b"UTF-16", b"UTF16") {
-        Some(Encoding::Utf16)
-    } else if is_name(value, b"UTF-16LE", b"UTF16LE") {
-        Some(Encoding::Utf16Le)
-    } else if is_name(value, b"UTF-16BE", b"UTF16BE") {
-        Some(Encoding::Utf16Be)
-    } else if is_name(value, b"UTF-16LE-BOM", b"UTF16LE-BOM") {
-        Some(Encoding::Utf16LeBom)
-    } else {
-        None
-    }
-}
-
-/// The encoding of 32-bit units that a value names.
-#[tactic(auto, unfolding(crate::specs::Named::named32))]
-fn named32(value: &[u8]) -> Option<Encoding>
-    ensures { result ≡ named32 value.now }
-{
-    if is_name(value, b"UTF-32", b"UTF32") {
-        Some(Encoding::Utf32)
-    } else if is_name(value, b"UTF-32LE", b"UTF32LE") {
-        Some(Encoding::Utf32Le)
-    } else if is_name(value, b"UTF-32BE", b"UTF32BE") {
-        Some(Encoding::Utf32Be)
-    } else {
-        None
-    }
-}
-
 /// What a value names.
 #[tactic(auto, unfolding(crate::specs::Named::encoding_named))]
 fn encoding_named(value: &[u8]) -> Result<Option<Encoding>, UnknownEncoding>
     ensures { result ≡ encoding_named value.now }
 {
-    if value.is_empty() || is_name(value, b"UTF-8", b"UTF8") {
+    let encoding = if value.is_empty() || is_name(value, b"UTF-8", b"UTF8") {
         return Ok(None);
-    }
-    match (named16(value), named32(value)) {
-        (Some(encoding), _) | (None, Some(encoding)) => Ok(Some(encoding)),
-        (None, None) => Err(UnknownEncoding),
-    }
+    } else if is_name(value, b"UTF-16", b"UTF16") {
+        Encoding::Utf16
+    } else if is_name(value, b"UTF-16LE", b"UTF16LE") {
+        Encoding::Utf16Le
+    } else if is_name(value, b"UTF-16BE", b"UTF16BE") {
+        Encoding::Utf16Be
+    } else if is_name(value, b"UTF-16LE-BOM", b"UTF16LE-BOM") {
+        Encoding::Utf16LeBom
+    } else if is_name(value, b"UTF-32", b"UTF32") {
+        Encoding::Utf32
+    } else if is_name(value, b"UTF-32LE", b"UTF32LE") {
+        Encoding::Utf32Le
+    } else if is_name(value, b"UTF-32BE", b"UTF32BE") {
+        Encoding::Utf32Be
+    } else {
+        return Err(UnknownEncoding);
+    };
+    Ok(Some(encoding))
 }
 
 /// The encoding of a file in the worktree by the state of its attribute `working-tree-encoding` (gitattributes(5)), or

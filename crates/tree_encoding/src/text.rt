@@ -1,5 +1,5 @@
 //! A text, written character by character.
-ghost use Rattle.std.specs.Prelude.{◌≡◌, ◌<◌, ◌++◌, OnOk, IfOk, IfSome, length, chars};
+ghost use Rattle.std.specs.Prelude.{◌≡◌, ◌<◌, ◌≤◌, ◌++◌, OnOk, IfOk, IfSome, length, take, chars};
 ghost use Rattle.std.specs.Char.{is_ascii};
 ghost use Rattle.std.specs.List.{flat_map, list_all};
 ghost use Rattle.tree_encoding.specs.Front.{BeginsWithEight, GoesOn};
@@ -34,6 +34,21 @@ fn split_eight(text: &str) -> Option<(&[u8; 8], &str)>
     Some((eight, behind))
 }
 
+/// Appends the first bytes of a block. A block of a known size is copied faster than a few bytes, so it is cut afterwards,
+/// unless the room is too small for it.
+fn push_cut(out: &mut Vec<u8>, block: &Block, count: usize) -> Result<(), AllocError>
+    requires { count ≤ 32 }
+    ensures { OnOk result (out.new.items ≡ out.old.items ++ take count block.now) }
+{
+    let len = out.len();
+    if out.capacity().saturating_sub(len) < block.len() {
+        return out.extend_from_slice(&block[..count]);
+    }
+    out.extend_from_slice(block)?;
+    out.truncate(len + count);
+    Ok(())
+}
+
 /// Writes the first characters of a text, up to eight, at once. What follows them is left.
 fn push_few<'a, F: Form>(out: &mut Vec<u8>, text: &'a str) -> Result<&'a str, AllocError>
     requires { 0 < length text.now }
@@ -49,7 +64,7 @@ fn push_few<'a, F: Form>(out: &mut Vec<u8>, text: &'a str) -> Result<&'a str, Al
         };
         end = F::put(&mut block, end, character);
     }
-    out.extend_from_slice(&block[..end])?;
+    push_cut(out, &block, end)?;
     Ok(rest.as_str())
 }
 
