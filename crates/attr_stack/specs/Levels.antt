@@ -45,7 +45,7 @@ place_in places folder = tree.get_by (λ (key : Vec ℕ). slice_cmp nat_cmp fold
 abbrev pub ArePlaces : BTreeMap (Vec ℕ) ℕ → List FileAt → Type 0
 ArePlaces places files = (folder : List ℕ) → place_in places folder ≡ place_from 0 files folder
 
--- a file at that place reaches what stands behind so many bytes of a path
+-- a file at that place reaches what stands after this many bytes of a path
 abbrev pub levels_at : ℕ → Option ℕ → List Level
 levels_at start None = []
 levels_at start (Some place) = record { start = start; place = place } ∷ []

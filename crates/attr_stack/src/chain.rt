@@ -13,7 +13,7 @@ pub type Places = BTreeMap<Vec<u8>, usize>;
 /// A file that reaches a path.
 #[derive(Clone, Copy)]
 pub struct Level {
-    /// Behind so many bytes the path stands within the folder of the file.
+    /// Behind this many bytes the path stands within the folder of the file.
     pub start: usize,
     /// The place of the file.
     pub place: usize,

@@ -56,7 +56,7 @@ fn rules_of(alloc: Global, files: AttrFiles) -> Result<Rules, AllocError>
     })
 }
 
-/// What stands behind so many bytes of a path.
+/// What stands after this many bytes of a path.
 fn behind(path: &[u8], len: usize) -> &[u8]
     ensures { result.now ≡ drop len path.now }
 {

@@ -28,7 +28,7 @@ const TABLE: &[(&[u8], &[u8], bool)] = &[
     (b"a/b", b"a/bc", false),
     (b"/a/b", b"a/b", true),
     (b"a\\b", b"x/ab", true),
-    // A star in front leaves the end, and one behind the front.
+    // A star in front leaves the end, and one after the front.
     (b"*", b"a/b", true),
     (b"*.c", b"a/.c", true),
     (b"*.c", b"a.c/b", false),

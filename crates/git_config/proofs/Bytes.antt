@@ -65,7 +65,7 @@ quoted_case b = at_end (eqb b 10) refl
     at_end true is = ends_quoted (same b 10 is) (rw is refl)
     at_end false is = at_backslash (eqb b 92) refl is
 
--- a byte behind a backslash
+-- a byte after a backslash
 pub data EscapeCase (b : ℕ) : Type 0 where
   continues : b ≡ 10 → escape_of b ≡ More Continued → EscapeCase b
   means : (e : Escape) → b ≡ letter e → escape_of b ≡ More (Byte (meant e)) → EscapeCase b

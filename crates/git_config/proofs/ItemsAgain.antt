@@ -26,7 +26,7 @@ not_others test (x ∷ xs) all =
     let both = and_parts (test x) (list_all test xs) all in
     rw both.0 (not_others test xs both.1)
 
--- what stands behind blanks stops what blanks stop too
+-- what stands after blanks stops what blanks stop too
 behind_stops : (stops : ℕ → Bool) → ((b : ℕ) → is_blank b ≡ true → stops b ≡ true) → (blanks rest : List ℕ) → list_all is_blank blanks ≡ true → ends_or_begins stops rest ≡ true → ends_or_begins stops (blanks ++ rest) ≡ true
 behind_stops stops here [] rest all stop = stop
 behind_stops stops here (b ∷ blanks) rest all stop = here b (and_parts (is_blank b) (list_all is_blank blanks) all).0
@@ -165,7 +165,7 @@ over_comment place mark comment rest ok stop =
     let behind : line_end (comment ++ rest) ≡ rest = line_end_behind comment rest both.1 stop in
     (place.line, no_more place place.line place.head rest (step_at place (mark ∷ (comment ++ rest))) (rw (lf, bl, both.0, behind) refl))
 
--- a header is read behind its `[`
+-- a header is read after its `[`
 over_header : (place : Place) (text rest : List ℕ) (head : Head) → header_at place.line text ≡ Ok (head, rest)
     → step_at place (91 ∷ text) ≡ Ok (record { line = place.line; head = Some head; settings = place.settings ++ []; rest = rest })
 unfolding step_at step_from after_header

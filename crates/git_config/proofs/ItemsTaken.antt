@@ -106,7 +106,7 @@ some_blanks [] rest b text parts blank stop =
     let none : not true ≡ true = rw blank at here in absurd cc
 some_blanks (x ∷ blanks) rest b text parts blank stop = lt-ltb 0 (suc (length blanks)) (omega arith)
 
--- an item in front, what it says, and the section behind it
+-- an item in front, what it says, and the section after it
 pub record TakesItem (text : List ℕ) (head next : Option Head) (said : List Setting) (rest : List ℕ) : Type 0 where
   pub item : Item
   pub good : is_item item ≡ true

@@ -21,7 +21,7 @@ use Rattle.git_config.proofs.ValueText.{kept_of, kept_is_text}
 abbrev pub read_to : Bool → List ℕ → ℕ → ℕ → Reading
 read_to quoted bytes kept lines = record { quoted = quoted; escaped = false; bytes = bytes; kept = kept; lines = lines }
 
--- the value that is read from here on, and what is left behind it
+-- the value that is read from here on, and what is left after it
 abbrev pub Gives : ℕ → Reading → List ℕ → List ℕ → List ℕ → Type 0
 Gives line r text value rest = (lines : ℕ) × (value_from line r text ≡ Ok (value, lines, rest))
 
@@ -32,7 +32,7 @@ unfolding value_from
 on line quoted bytes kept lines b text value rest p is later =
     (later.0, ap (λ m. marked line m (read_to quoted bytes kept lines) b text (λ then. value_from line then text)) is ∙ later.1)
 
--- behind a backslash
+-- after a backslash
 escaped_on : (line : ℕ) (quoted : Bool) (bytes : List ℕ) (kept lines b : ℕ) (text value rest : List ℕ) (p : _) → escape_of b ≡ More p
     → Gives line (after_piece p (record { quoted = quoted; escaped = true; bytes = bytes; kept = length bytes; lines = lines })) text value rest
     → Gives line (read_to quoted bytes kept lines) (92 ∷ b ∷ text) value rest
@@ -40,7 +40,7 @@ unfolding value_from
 escaped_on line quoted bytes kept lines b text value rest p is later =
     (later.0, ap (λ m. marked line m (record { quoted = quoted; escaped = true; bytes = bytes; kept = length bytes; lines = lines }) b text (λ then. value_from line then text)) is ∙ later.1)
 
--- what is read behind a text, whatever was read before it
+-- what is read after a text, whatever was read before it
 abbrev pub GivesBehind : ℕ → Bool → List ℕ → List Part → List ℕ → Type 0
 GivesBehind line quoted text ps rest = (bytes : List ℕ) (kept lines : ℕ) → Gives line (read_to quoted bytes kept lines) text (kept_of ps bytes kept) rest
 
@@ -119,7 +119,7 @@ stretches_again line (s ∷ ss) text ps rest ok later =
     (subst (λ (qs : List Part). GivesBehind line false (spelled_stretch s ++ (flat_map spelled_stretch ss ++ text)) qs rest) (sym parts)
     (stretch_again line s (flat_map spelled_stretch ss ++ text) (flat_map parts_of ss ++ ps) rest both.0 (stretches_again line ss text ps rest both.1 later)))
 
--- Where the first byte that passes a test stands: right behind a text of others, if the rest begins with one or is empty.
+-- Where the first byte that passes a test stands: right after a text of others, if the rest begins with one or is empty.
 pub first_behind : (p : ℕ → Bool) (xs rest : List ℕ) → list_all (λ b. not (p b)) xs ≡ true → ends_or_begins p rest ≡ true → position_or_len p (xs ++ rest) ≡ length xs
 first_behind p [] [] none stop = refl
 first_behind p [] (b ∷ rest) none stop = let e : p b ≡ true = stop in rw e refl

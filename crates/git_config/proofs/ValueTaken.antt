@@ -26,7 +26,7 @@ pub record TakesBare (text value rest bytes : List ℕ) (kept : ℕ) : Type 0 wh
   pub parts : text ≡ flat_map spelled_stretch stretches ++ (spelled_ending ending ++ rest)
   pub value_is : value ≡ kept_of (flat_map parts_of stretches ++ ending_parts ending) bytes kept
 
--- what stands in quotes from here on, and outside them behind the closing quote
+-- what stands in quotes from here on, and outside them after the closing quote
 pub record TakesQuoted (text value rest bytes : List ℕ) (kept : ℕ) : Type 0 where
   pub signs : List Sign
   pub stretches : List Stretch
@@ -145,7 +145,7 @@ comment_here mark text value rest bytes kept is behind value_is =
 abbrev Later : ℕ → ℕ → List ℕ → List ℕ → ℕ → Type 0
 Later n line value rest l = (quoted : Bool) (bytes : List ℕ) (kept lines : ℕ) (text : List ℕ) → length text ≤ n → value_from line (read_to quoted bytes kept lines) text ≡ Ok (value, l, rest) → Takes quoted text value rest bytes kept
 
--- behind a backslash
+-- after a backslash
 escaped_bare : (n line : ℕ) (value rest : List ℕ) (l : ℕ) → Later n line value rest l → (bytes : List ℕ) (kept lines : ℕ) (text : List ℕ) → length text ≤ n
     → value_from line (record { quoted = false; escaped = true; bytes = bytes; kept = length bytes; lines = lines }) text ≡ Ok (value, l, rest) → TakesBare (92 ∷ text) value rest bytes kept
 unfolding value_from

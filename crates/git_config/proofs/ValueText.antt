@@ -13,7 +13,7 @@ kept_of (Bare b ∷ ps) bytes kept = cond (is_blank b) (kept_of ps (with_blank b
 kept_of (Quoted b ∷ ps) bytes kept = kept_of ps (bytes ++ b ∷ []) (length bytes + 1)
 kept_of (Nothing ∷ ps) bytes kept = kept_of ps bytes (length bytes)
 
--- what is kept behind bytes that stay
+-- what is kept after bytes that stay
 abbrev pub behind_some : List Part → List ℕ → ℕ → List ℕ
 behind_some ps bytes kept = cond (list_all is_bare_blank ps) (take kept bytes) (bytes ++ flat_map bytes_of (without_last_blanks ps))
 

@@ -20,7 +20,7 @@ pub data Escape : Type 0 where
   OfTab : Escape
   OfBackspace : Escape
 
--- what stands behind the backslash
+-- what stands after the backslash
 abbrev pub letter : Escape → ℕ
 letter OfQuote = quote
 letter OfBackslash = backslash
@@ -146,7 +146,7 @@ is_ending AtLineEnd = true
 is_ending (AtComment mark comment) = is_comment mark comment
 is_ending AtCut = true
 
--- a byte of a subsection: as it is, or behind a backslash
+-- a byte of a subsection: as it is, or after a backslash
 pub data SubByte : Type 0 where
   AsItIs : ℕ → SubByte
   BehindBackslash : ℕ → SubByte
@@ -172,7 +172,7 @@ pub data Item : Type 0 where
   Header : (name : List ℕ) → Item
   -- `[name "sub"]`
   SubHeader : (name : List ℕ) → (blanks : List ℕ) → (sub : List SubByte) → Item
-  -- a key, with what stands behind it on its line
+  -- a key, with what stands after it on its line
   Key : (key : List ℕ) → (blanks : List ℕ) → Item
   KeyValue : (key : List ℕ) → (blanks : List ℕ) → (value : List Stretch) → (ending : Ending) → Item
 
@@ -219,7 +219,7 @@ is_ended_by AtLineEnd behind = is_at_end behind
 is_ended_by (AtComment mark comment) behind = is_at_end behind
 is_ended_by AtCut behind = is_empty behind
 
--- what may stand behind an item: behind a comment and a key the line ends
+-- what may stand after an item: after a comment and a key the line ends
 abbrev pub may_stand_before : Item → List ℕ → Bool
 may_stand_before (Space b) behind = true
 may_stand_before (Comment mark comment) behind = is_at_end behind
@@ -228,7 +228,7 @@ may_stand_before (SubHeader name blanks sub) behind = true
 may_stand_before (Key key blanks) behind = is_at_end behind
 may_stand_before (KeyValue key blanks value ending) behind = is_ended_by ending behind
 
--- the section behind an item
+-- the section after an item
 abbrev pub head_behind : Option Head → Item → Option Head
 head_behind head (Space b) = head
 head_behind head (Comment mark comment) = head
@@ -249,14 +249,14 @@ Says None (KeyValue key blanks value ending) said = ⊥
 Says (Some head) (KeyValue key blanks value ending) said =
     said ≡ setting_of head key (Some (text_of (flat_map parts_of value ++ ending_parts ending))) ∷ []
 
--- what items say, one behind the other
+-- what items say, one after the other
 abbrev pub Say : Option Head → List Item → List Setting → Type 0
 Say head [] settings = settings ≡ []
 Say head (i ∷ is) settings =
     (said others : List Setting) × (is_item i ≡ true) × (may_stand_before i (flat_map spelled_item is) ≡ true)
     × Says head i said × Say (head_behind head i) is others × (settings ≡ said ++ others)
 
--- The bytes are a configuration with these settings. A byte order mark at the start is passed over, and so is each CR
+-- The bytes are a configuration with these settings. A byte order mark at the start is ignored, and so is each CR
 -- right before LF.
 pub record IsConfig (bytes : List ℕ) (settings : List Setting) : Type 0 where
   pub items : List Item

@@ -115,7 +115,7 @@ fn put_four(block: &mut Block, at: usize, bytes: [u8; 4]) -> usize
     at + 4
 }
 
-/// Units of so many bytes fit a `u8`, so that many bytes are counted side by side.
+/// Units of this many bytes fit a `u8`, so that many bytes are counted side by side.
 const CHUNK: usize = 96;
 
 /// Whether a byte begins a character: all do but those of the form 10xxxxxx (RFC 3629, 3).

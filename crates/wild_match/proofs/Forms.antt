@@ -120,7 +120,7 @@ absorbed false false h = refl
 pub known-too : (known : Known) (fresh : Bool) (pattern text : List ℕ) → IsKnown pattern known → (has_known known pattern text && fits (pieces fresh pattern) text) ≡ fits (pieces fresh pattern) text
 known-too known fresh pattern text is = absorbed (has_known known pattern text) (fits (pieces fresh pattern) text) (is fresh text)
 
--- ---- the plain bytes behind one piece
+-- ---- the plain bytes after one piece
 
 tail_at : (p : Bool) (fresh : Bool) (b : ℕ) (text t : List ℕ) → is_plain b ≡ p → fits (pieces fresh (b ∷ text)) t ≡ true
     → ((fresh : Bool) (t : List ℕ) → fits (pieces fresh text) t ≡ true → (f : Bool) × (fits (pieces f (drop (prefix_len is_plain text) text)) (drop (prefix_len is_plain text) t) ≡ true))
@@ -132,7 +132,7 @@ tail_at true fresh b text (c ∷ t) is fit later =
     let both = sym (plain-fits fresh b c text t is) ∙ fit in
     rw size (later (eqb b 47) t (and_parts (eqb b c) (fits (pieces (eqb b 47) text) t) both).1)
 
--- what is left behind the plain bytes in front
+-- what is left after the plain bytes in front
 tail : (fresh : Bool) (text t : List ℕ) → fits (pieces fresh text) t ≡ true → (f : Bool) × (fits (pieces f (drop (prefix_len is_plain text) text)) (drop (prefix_len is_plain text) t) ≡ true)
 tail fresh [] t fit = (fresh, fit)
 tail fresh (b ∷ text) t fit = tail_at (is_plain b) fresh b text t refl fit (λ fresh t. tail fresh text t)
@@ -167,7 +167,7 @@ behind_one : (passes : ℕ → Bool) (later : List Piece) (t : List ℕ) → fit
 behind_one passes later [] fit = absurd (cc)
 behind_one passes later (c ∷ t) fit = (one-parts passes later c t fit).1
 
--- what is left behind such a piece
+-- what is left after such a piece
 behind_single : (fresh : Bool) (pattern t : List ℕ) (n : ℕ) → IsSingle pattern n → 0 < n → n ≤ length pattern → fits (pieces fresh pattern) t ≡ true → fits (pieces false (drop n pattern)) (drop 1 t) ≡ true
 behind_single fresh pattern t n is some within fit =
     let piece = single_piece (plain_front pattern) n is.reads in

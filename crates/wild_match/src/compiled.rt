@@ -30,11 +30,11 @@ pub enum Form {
 /// Plain bytes of a pattern whose places in a text are known.
 #[derive(Clone, Copy)]
 pub struct Known {
-    /// So many stand in front.
+    /// This many stand in front.
     pub front: usize,
     /// Then one byte passes a piece, which ends here.
     pub next: usize,
-    /// So many stand behind it.
+    /// This many stand after it.
     pub more: usize,
 }
 
@@ -56,7 +56,7 @@ fn plain_len(text: &[u8]) -> usize
     len
 }
 
-/// Whether all behind a `*` in front is plain.
+/// Whether all after a `*` in front is plain.
 fn is_ending(pattern: &[u8]) -> bool
     ensures { result ≡ is_ending pattern.now }
 {
@@ -152,7 +152,7 @@ fn front_of(text: &[u8], len: usize) -> &[u8]
     front
 }
 
-/// What stands behind so many bytes of a text.
+/// What stands after this many bytes of a text.
 fn behind_of(text: &[u8], len: usize) -> &[u8]
     ensures { result.now ≡ drop len text.now }
 {

@@ -111,7 +111,7 @@ pub fn without_slash(pattern: &[u8]) -> &[u8]
     }
 }
 
-/// What stands behind the last `/` of a path.
+/// What follows the last `/` of a path.
 pub fn last_part(path: &[u8]) -> &[u8]
     ensures value { result.now ≡ last_part path.now }
     ensures within { length result.now ≤ length path.now }
