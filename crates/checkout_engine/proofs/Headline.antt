@@ -50,7 +50,7 @@ part_left path content Partly file part = absurd part
 part_left path content (Sealed mark) file part = absurd part
 part_left path content Broken file part = absurd part
 
--- a path that the plan leaves open, where memory was left
+-- a path that the plan leaves open, if memory was left
 open_ends : (told : Told) (p : PathPlan) (o : Outcome) (v : Verdict) → p.start ≡ start.Pool → HasVerdict told p o v → is_no_memory v ≡ false → EndsWith told p v o.file
 open_ends told p o (verdict.Written unencoded) is (opened, counts, (content, gives, flag, file)) left =
     (is, _, record { path = refl; mark = refl; content = content; object = gives; bytes = refl; flag = flag }, file)
