@@ -32,7 +32,7 @@ use Rattle.checkout_book.specs.Reserving.{aways, placed, ArePool, AreNew, HasNot
 use Rattle.checkout_book.proofs.Lists.{get_left, get_set_same, get_set_other, past_none}
 use Rattle.checkout_book.proofs.Histories.{same_hands, own_events, reads_of}
 use Rattle.checkout_book.proofs.Turning.{below_of}
-use Rattle.checkout_book.proofs.Laws.{TellsHands}
+use Rattle.checkout_book.proofs.CoreLaws.{TellsHands}
 
 pub aways_more : {B L : Type 0} (n : ℕ) → aways {B = B} {L = L} n ++ Away ∷ [] ≡ aways (suc n)
 aways_more zero = refl
@@ -213,9 +213,11 @@ module _ {B L : Type 0} (see : Sight B L) where
       wait c s at k in_pool is =
           let ready : c.ready ≡ None = (new k c (front k c in_pool)).unready in
           let pool_start : s ≡ Pool = let u : Some s ≡ Some Pool = sym at ∙ (ap (slice_get starts) (sym is) ∙ are.there k c in_pool) in cc (u) in
-          subst (λ (z : Start). Lies see cards p (Waits c) (begins z)) (sym pool_start)
-          (subst (λ (r : Option Prepared). WaitsSo (seen see c) (Waiting None) r) (sym ready) tt, is,
-            (k, c, front k c in_pool, refl))
+          subst (λ (z : Start). Lies see cards p (Waits c) (begins z)) (sym pool_start) (
+            subst (λ (r : Option Prepared). WaitsSo (seen see c) (Waiting None) r) (sym ready) tt,
+            is,
+            (k, c, front k c in_pool, refl),
+          )
 
       free : (s : Start) → slice_get starts p ≡ Some s
           → ((k : ℕ) (c : Card B L) → slice_get pool k ≡ Some c → c.path ≡ p → ⊥) → is_waiting (begins s) ≡ false
@@ -284,11 +286,16 @@ module _ {B L : Type 0} where
       → AreSeats lock d k made ss → All (λ s. seen_of s ≡ []) ss → k + length ss ≤ d.workers + d.drivers
       → AreIdle lock d k made ss
   idle_new lock d k made [] a u few = tt
-  idle_new lock d k made (s ∷ ss) a u few = (idle_one lock d k made s a.0 (u 0 s (omega arith)) (omega arith),
-    idle_new lock d (suc k) 0 ss a.1 (λ i x h. u (suc i) x (omega arith)) (omega arith))
+  idle_new lock d k made (s ∷ ss) a u few = (
+    idle_one lock d k made s a.0 (u 0 s (omega arith)) (omega arith),
+    idle_new lock d (suc k) 0 ss a.1 (λ i x h. u (suc i) x (omega arith)) (omega arith),
+  )
 
   pub fresh_seats : (lock : TableId) (d : Plan B L) (k made : ℕ) (ss : List (SeatView Entry (Plan B L)))
       → AreSeats lock d k made ss → All (λ s. seen_of s ≡ []) ss → AreFresh ss
   fresh_seats lock d k made [] a u = tt
-  fresh_seats lock d k made (s ∷ ss) a u = (a.0.receipts ∙ ap (own k) (u 0 s (omega arith)), u 0 s (omega arith),
-    fresh_seats lock d (suc k) 0 ss a.1 (λ i x h. u (suc i) x (omega arith)))
+  fresh_seats lock d k made (s ∷ ss) a u = (
+    a.0.receipts ∙ ap (own k) (u 0 s (omega arith)),
+    u 0 s (omega arith),
+    fresh_seats lock d (suc k) 0 ss a.1 (λ i x h. u (suc i) x (omega arith)),
+  )

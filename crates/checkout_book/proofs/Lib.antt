@@ -1,4 +1,4 @@
-pub mod Laws
+pub mod CoreLaws
 pub mod Lists
 pub mod Flags
 pub mod Runs

@@ -35,7 +35,7 @@ use Rattle.checkout_book.proofs.Flags.{set_same, flags_set, flag_at, flags_lengt
 use Rattle.checkout_book.proofs.Runs.{replay_append, same_or, moved_here, moved_there, with_not_waiting, with_not_closed}
 use Rattle.checkout_book.proofs.Runs.{out_not_waiting}
 use Rattle.checkout_book.proofs.Entries.{NotEnded, all_ended, ended_more, noted_ended, acted_more}
-use Rattle.checkout_book.proofs.Laws.{TakesPath, MayTake, ClosesPath, BacksPath, KeepsPaths, KeepsSize, IsShort}
+use Rattle.checkout_book.proofs.CoreLaws.{TakesPath, MayTake, ClosesPath, BacksPath, KeepsPaths, KeepsSize, IsShort}
 
 -- a new leaf is fresh and empty
 leaf_again : (text : List ℕ) (leaf : LeafSeen) → IsNewLeaf text leaf → emptied Fresh leaf ≡ leaf
@@ -199,10 +199,11 @@ module _ {B L : Type 0} (see : Sight B L) where
       let ready : card.ready ≡ Some r.ready = ap (λ (z : CardSeen). z.ready) r.same in
       let leaf = leaf_again (seen see p).text (seen see p).leaf n.new_leaf in
       let same : seen see card ≡ record (seen see p) { ready = Some r.ready } =
-          r.same ∙ ap (λ (l : LeafSeen). record (seen see p) { leaf = l; ready = Some r.ready }) leaf in
-      (subst (λ (o : Option Prepared). WaitsSo (seen see card) (Waiting (Some why)) o) (sym ready)
-        (subst (λ (z : CardSeen). IsPrepared z r.ready) (sym same) r.is_prepared),
-      (k, p, refused.2, same ∙ ap (λ (o : Option Prepared). record (seen see p) { ready = o }) (sym ready)))
+      r.same ∙ ap (λ (l : LeafSeen). record (seen see p) { leaf = l; ready = Some r.ready }) leaf in (
+        subst (λ (o : Option Prepared). WaitsSo (seen see card) (Waiting (Some why)) o) (sym ready)
+            (subst (λ (z : CardSeen). IsPrepared z r.ready) (sym same) r.is_prepared),
+        (k, p, refused.2, same ∙ ap (λ (o : Option Prepared). record (seen see p) { ready = o }) (sym ready)),
+      )
 
   pub back_away : BacksPath → (d : Plan B L) (core new : Core) (events : List Event) (slots : List (Slot B L))
       (waiting : List Bool) (capacity p : ℕ) → Sound see d core events slots waiting capacity
@@ -267,7 +268,7 @@ module _ {B L : Type 0} (see : Sight B L) where
       → step_of core e ≡ Some new → length events < capacity
   has_room law d core new events slots waiting capacity e sound step =
       let l = law d.starts.items d.workers d.drivers (events ++ e ∷ []) new sound.below
-          (replay_append (start d.starts.items d.workers d.drivers) core new events e sound.run step) in
+      (replay_append (start d.starts.items d.workers d.drivers) core new events e sound.run step) in
       omega (arith, l, length-append events (e ∷ []), sound.room)
 
   waits_not : (cards : List (Card B L)) (p : ℕ) (y : Slot B L) (s : PathState) → Lies see cards p y s
