@@ -1,5 +1,5 @@
 -- A book at its begin and at its end.
-use Rattle.std.proofs.Common.{◌≡◌, ◌==◌, ℕ, zero, suc, ◌+◌, ◌*◌, ◌<◌, ◌≤◌, ◌⊎◌, inl, inr, ⊎_elim, Bool, true, false, List, []}
+use Rattle.std.proofs.Common.{◌≡◌, ℕ, zero, suc, ◌+◌, ◌*◌, ◌<◌, ◌≤◌, ◌⊎◌, inl, inr, ⊎_elim, Bool, false, List, []}
 use Rattle.std.proofs.Common.{◌∷◌, ◌++◌, set, length, length-set, map, Option, Some, None, All, refl, sym, ap, ◌∙◌, subst, arith}
 use Rattle.std.specs.Prelude.{slice_get, Result, Ok, Err, IfOk}
 use mathlib.Core.Logic.{dite}
@@ -9,7 +9,6 @@ use Rattle.turn_lock.specs.History.{own, Begins}
 use Rattle.turn_lock.specs.Seat.{SeatView, mine_of, seen_of}
 use Rattle.turn_lock.specs.Seats.{IsSeat, AreSeats}
 use Rattle.convert_plan.specs.declared.card.Card.{Card}
-use Rattle.convert_plan.specs.Card.{CardSeen}
 use Rattle.tree_encoding.specs.declared.prepared.Prepared.{Prepared}
 use Rattle.checkout_core.specs.declared.path.Start.{Start}
 use Rattle.checkout_core.specs.declared.path.Start.TheVariants.{Pool, Desk, Done}
@@ -21,13 +20,13 @@ use Rattle.checkout_core.specs.Hands.{is_held, held_at}
 use Rattle.checkout_book.specs.declared.plan.Plan.{Plan}
 use Rattle.checkout_book.specs.declared.plan.Entry.{Entry}
 use Rattle.checkout_book.specs.declared.shelf.Slot.{Slot}
-use Rattle.checkout_book.specs.declared.shelf.Slot.TheVariants.{Away, Waits, Ended}
+use Rattle.checkout_book.specs.declared.shelf.Slot.TheVariants.{Away, Waits}
 use Rattle.checkout_book.specs.Shape.{Shelf}
 use Rattle.checkout_book.specs.Sights.{Sight, seen, tell}
 use Rattle.checkout_book.specs.Entries.{history_of, events_of}
 use Rattle.checkout_book.specs.Shelves.{cards_of, joined, plan_of, IsSound, HasPlace, Sound, IsRow, Lies, is_waiting}
-use Rattle.checkout_book.specs.Shelves.{waits, WaitsSo, IsPlanned}
-use Rattle.checkout_book.specs.Passes.{IsPass, Reads}
+use Rattle.checkout_book.specs.Shelves.{waits, WaitsSo}
+use Rattle.checkout_book.specs.Passes.{Reads}
 use Rattle.checkout_book.specs.Reserving.{aways, placed, ArePool, AreNew, HasNothing, AreIdle, AreFresh, IsFinished}
 use Rattle.checkout_book.proofs.Lists.{get_left, get_set_same, get_set_other, past_none}
 use Rattle.checkout_book.proofs.Histories.{same_hands, own_events, reads_of}

@@ -1,5 +1,5 @@
 -- Histories of a book, and what a pass may still do.
-use Rattle.std.proofs.Common.{◌≡◌, ◌==◌, ℕ, zero, suc, ◌+◌, ◌<◌, ◌⊎◌, ⊎_elim, Bool, true, false, cond, List, [], ◌∷◌, ◌++◌}
+use Rattle.std.proofs.Common.{◌≡◌, ◌==◌, ℕ, ⊎_elim, Bool, true, false, cond, List, [], ◌∷◌, ◌++◌}
 use Rattle.std.proofs.Common.{length, length-append, map, Option, Some, None, refl, sym, ap, ◌∙◌, subst, arith, append_assoc}
 use Rattle.std.specs.Prelude.{slice_get, is_some}
 use mathlib.Core.List.{map-append}
@@ -21,7 +21,6 @@ use Rattle.checkout_core.specs.Actors.{AlikeClaims}
 use Rattle.checkout_core.specs.Hands.{is_held, held_at, Holds}
 use Rattle.core_laws.specs.Moves.{is_noted}
 use Rattle.checkout_book.specs.declared.plan.Plan.{Plan}
-use Rattle.checkout_book.specs.declared.plan.Parts.{Parts}
 use Rattle.checkout_book.specs.declared.plan.Entry.{Entry}
 use Rattle.checkout_book.specs.declared.shelf.Slot.{Slot}
 use Rattle.checkout_book.specs.Shape.{Shelf}

@@ -1,6 +1,6 @@
 -- A turn at the book.
-use Rattle.std.proofs.Common.{◌≡◌, ◌==◌, ℕ, ◌+◌, ◌<◌, ◌⊎◌, inl, inr, ⊎_elim, Bool, true, false, cond, List, []}
-use Rattle.std.proofs.Common.{◌∷◌, ◌++◌, set, map, Option, Some, None, refl, sym, ap, ◌∙◌, subst}
+use Rattle.std.proofs.Common.{◌≡◌, ◌==◌, ℕ, inl, inr, ⊎_elim, Bool, true, false, cond, List, []}
+use Rattle.std.proofs.Common.{◌∷◌, ◌++◌, set, Option, Some, None, refl, sym, ap, ◌∙◌, subst}
 use Rattle.std.specs.Prelude.{slice_get, IfSome, IfNone}
 use mathlib.Core.List.{map-append}
 use Rattle.atomic_table.specs.Seated.{TableId}
@@ -8,7 +8,6 @@ use Rattle.turn_lock.specs.History.{own, Begins, Follows}
 use Rattle.turn_lock.specs.Seat.{SeatView, seen_of, mine_of, entered, left}
 use Rattle.turn_lock.specs.Seats.{IsSeat}
 use Rattle.convert_plan.specs.declared.card.Card.{Card}
-use Rattle.checkout_core.specs.declared.verdict.FilterCause.{FilterCause}
 use Rattle.checkout_core.specs.declared.verdict.Own.{Own}
 use Rattle.checkout_core.specs.declared.path.PathState.{PathState}
 use Rattle.checkout_core.specs.declared.path.PathState.TheVariants.{Waiting, Held, Closed}
@@ -16,21 +15,19 @@ use Rattle.checkout_core.specs.declared.path.Path.{Path}
 use Rattle.checkout_core.specs.declared.event.Event.{Event}
 use Rattle.checkout_core.specs.declared.event.Event.TheVariants.{Claim, Close, HandBack}
 use Rattle.checkout_core.specs.States.{Core, AreBelow, with_state}
-use Rattle.checkout_core.specs.Steps.{step_of}
-use Rattle.checkout_core.specs.Actors.{actor_of, is_step}
-use Rattle.checkout_core.specs.Hands.{is_held, held_at, Holds}
-use Rattle.core_laws.specs.Moves.{Moved, RowStays, StaysOr, is_with_driver, is_noted}
+use Rattle.checkout_core.specs.Actors.{actor_of}
+use Rattle.checkout_core.specs.Hands.{is_held, held_at}
+use Rattle.core_laws.specs.Moves.{RowStays, StaysOr, is_with_driver, is_noted}
 use Rattle.checkout_book.specs.declared.plan.Plan.{Plan}
-use Rattle.checkout_book.specs.declared.plan.Parts.{Parts}
 use Rattle.checkout_book.specs.declared.plan.Entry.{Entry}
 use Rattle.checkout_book.specs.declared.shelf.Slot.{Slot}
 use Rattle.checkout_book.specs.declared.shelf.Slot.TheVariants.{Away, Waits, Ended}
 use Rattle.checkout_book.specs.Shape.{Shelf}
-use Rattle.checkout_book.specs.Sights.{Sight, seen, tell}
+use Rattle.checkout_book.specs.Sights.{Sight, tell}
 use Rattle.checkout_book.specs.Entries.{number_or, number_in, entries, entry_of, parts_at, history_of}
 use Rattle.checkout_book.specs.Shelves.{cards_of, plan_of, IsSound, IsPlanned, IsFrom, IsOut}
 use Rattle.checkout_book.specs.Turns.{NoneWaits, Turned, Claimed, Unclaimed, Noted}
-use Rattle.checkout_book.specs.Passes.{Reads, IsPass, IsTurned, TookNone, TookCard, Claims, Closes, Notes}
+use Rattle.checkout_book.specs.Passes.{Reads, IsPass, IsTurned, Claims, Closes, Notes}
 use Rattle.checkout_book.specs.Passes.{claim_entry, close_entry, note_entry}
 use Rattle.convert_plan.specs.Card.{CardSeen}
 use Rattle.checkout_book.proofs.Lists.{get_set_same}

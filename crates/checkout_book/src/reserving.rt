@@ -99,11 +99,12 @@ fn begin<B: Blob, L: Leaf>(
     let core = State::start(alloc, starts, workers, drivers)?;
     let slots = place(slots, pool);
     let flags = flags_of(alloc, slots.as_slice())?;
+    let waiting = Waiting::reserve(alloc, flags, paths)?;
     let value = Rack {
         core,
         events,
         slots,
-        waiting: Waiting::of(flags),
+        waiting,
         parts,
         workers,
         drivers,

@@ -1,4 +1,4 @@
-use Rattle.std.proofs.Common.{◌≡◌, ℕ, true, inr, Some, refl, sym, ap, ◌∙◌, subst}
+use Rattle.std.proofs.Common.{◌≡◌, ℕ, true, inr, sym, ◌∙◌, subst}
 use Rattle.turn_lock.specs.History.{Follows}
 use Rattle.checkout_core.specs.Actors.{is_step}
 use Rattle.checkout_core.specs.declared.event.Event.TheVariants.{Close}

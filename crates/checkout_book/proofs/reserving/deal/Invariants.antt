@@ -1,4 +1,4 @@
-use Rattle.std.proofs.Common.{◌≡◌, ◌≤◌, ◌+◌, ◌++◌, length, map}
+use Rattle.std.proofs.Common.{◌≡◌, ◌+◌, ◌++◌, length, map}
 use Rattle.checkout_book.proofs.reserving.deal.Given as goal
 
 abbrev pub invariant-loop-cards : goal.invariant-loop-cards
