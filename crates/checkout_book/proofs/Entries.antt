@@ -1,5 +1,5 @@
 -- The history of a shelf, as slots change.
-use Rattle.std.proofs.Common.{◌≡◌, ℕ, Bool, true, List, [], ◌∷◌, ◌++◌, set, map, Option, Some, None, refl, sym, ap, ◌∙◌}
+use Rattle.std.proofs.Common.{◌≡◌, ℕ, true, List, [], ◌∷◌, ◌++◌, set, Option, Some, None, refl, sym, ap, ◌∙◌}
 use Rattle.std.specs.Prelude.{slice_get, is_some}
 use mathlib.Core.List.{map-append}
 use Rattle.checkout_core.specs.declared.path.Start.{Start}
@@ -8,7 +8,6 @@ use Rattle.checkout_core.specs.declared.event.Event.TheVariants as ev
 use Rattle.checkout_core.specs.Actors.{actor_of}
 use Rattle.core_laws.specs.Moves.{is_noted}
 use Rattle.checkout_book.specs.declared.plan.Parts.{Parts}
-use Rattle.checkout_book.specs.declared.plan.Entry.{Entry}
 use Rattle.checkout_book.specs.declared.shelf.Slot.{Slot}
 use Rattle.checkout_book.specs.declared.shelf.Slot.TheVariants.{Ended}
 use Rattle.checkout_book.specs.Entries.{number_in, AreActed, parts_at, parts_of, entry_of, entries}

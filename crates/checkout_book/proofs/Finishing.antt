@@ -1,5 +1,5 @@
 -- A book at its begin and at its end.
-use Rattle.std.proofs.Common.{◌≡◌, ◌==◌, ℕ, zero, suc, ◌+◌, ◌*◌, ◌<◌, ◌≤◌, ◌⊎◌, inl, inr, ⊎_elim, Bool, true, false, List, []}
+use Rattle.std.proofs.Common.{◌≡◌, ℕ, zero, suc, ◌+◌, ◌*◌, ◌<◌, ◌≤◌, ◌⊎◌, inl, inr, ⊎_elim, Bool, false, List, []}
 use Rattle.std.proofs.Common.{◌∷◌, ◌++◌, set, length, length-set, map, Option, Some, None, All, refl, sym, ap, ◌∙◌, subst, arith}
 use Rattle.std.specs.Prelude.{slice_get, Result, Ok, Err, IfOk}
 use mathlib.Core.Logic.{dite}
@@ -9,7 +9,6 @@ use Rattle.turn_lock.specs.History.{own, Begins}
 use Rattle.turn_lock.specs.Seat.{SeatView, mine_of, seen_of}
 use Rattle.turn_lock.specs.Seats.{IsSeat, AreSeats}
 use Rattle.convert_plan.specs.declared.card.Card.{Card}
-use Rattle.convert_plan.specs.Card.{CardSeen}
 use Rattle.tree_encoding.specs.declared.prepared.Prepared.{Prepared}
 use Rattle.checkout_core.specs.declared.path.Start.{Start}
 use Rattle.checkout_core.specs.declared.path.Start.TheVariants.{Pool, Desk, Done}
@@ -21,18 +20,18 @@ use Rattle.checkout_core.specs.Hands.{is_held, held_at}
 use Rattle.checkout_book.specs.declared.plan.Plan.{Plan}
 use Rattle.checkout_book.specs.declared.plan.Entry.{Entry}
 use Rattle.checkout_book.specs.declared.shelf.Slot.{Slot}
-use Rattle.checkout_book.specs.declared.shelf.Slot.TheVariants.{Away, Waits, Ended}
+use Rattle.checkout_book.specs.declared.shelf.Slot.TheVariants.{Away, Waits}
 use Rattle.checkout_book.specs.Shape.{Shelf}
 use Rattle.checkout_book.specs.Sights.{Sight, seen, tell}
 use Rattle.checkout_book.specs.Entries.{history_of, events_of}
 use Rattle.checkout_book.specs.Shelves.{cards_of, joined, plan_of, IsSound, HasPlace, Sound, IsRow, Lies, is_waiting}
-use Rattle.checkout_book.specs.Shelves.{waits, WaitsSo, IsPlanned}
-use Rattle.checkout_book.specs.Passes.{IsPass, Reads}
+use Rattle.checkout_book.specs.Shelves.{waits, WaitsSo}
+use Rattle.checkout_book.specs.Passes.{Reads}
 use Rattle.checkout_book.specs.Reserving.{aways, placed, ArePool, AreNew, HasNothing, AreIdle, AreFresh, IsFinished}
 use Rattle.checkout_book.proofs.Lists.{get_left, get_set_same, get_set_other, past_none}
 use Rattle.checkout_book.proofs.Histories.{same_hands, own_events, reads_of}
 use Rattle.checkout_book.proofs.Turning.{below_of}
-use Rattle.checkout_book.proofs.Laws.{TellsHands}
+use Rattle.checkout_book.proofs.CoreLaws.{TellsHands}
 
 pub aways_more : {B L : Type 0} (n : ℕ) → aways {B = B} {L = L} n ++ Away ∷ [] ≡ aways (suc n)
 aways_more zero = refl
@@ -213,9 +212,11 @@ module _ {B L : Type 0} (see : Sight B L) where
       wait c s at k in_pool is =
           let ready : c.ready ≡ None = (new k c (front k c in_pool)).unready in
           let pool_start : s ≡ Pool = let u : Some s ≡ Some Pool = sym at ∙ (ap (slice_get starts) (sym is) ∙ are.there k c in_pool) in cc (u) in
-          subst (λ (z : Start). Lies see cards p (Waits c) (begins z)) (sym pool_start)
-          (subst (λ (r : Option Prepared). WaitsSo (seen see c) (Waiting None) r) (sym ready) tt, is,
-            (k, c, front k c in_pool, refl))
+          subst (λ (z : Start). Lies see cards p (Waits c) (begins z)) (sym pool_start) (
+            subst (λ (r : Option Prepared). WaitsSo (seen see c) (Waiting None) r) (sym ready) tt,
+            is,
+            (k, c, front k c in_pool, refl),
+          )
 
       free : (s : Start) → slice_get starts p ≡ Some s
           → ((k : ℕ) (c : Card B L) → slice_get pool k ≡ Some c → c.path ≡ p → ⊥) → is_waiting (begins s) ≡ false
@@ -284,11 +285,16 @@ module _ {B L : Type 0} where
       → AreSeats lock d k made ss → All (λ s. seen_of s ≡ []) ss → k + length ss ≤ d.workers + d.drivers
       → AreIdle lock d k made ss
   idle_new lock d k made [] a u few = tt
-  idle_new lock d k made (s ∷ ss) a u few = (idle_one lock d k made s a.0 (u 0 s (omega arith)) (omega arith),
-    idle_new lock d (suc k) 0 ss a.1 (λ i x h. u (suc i) x (omega arith)) (omega arith))
+  idle_new lock d k made (s ∷ ss) a u few = (
+    idle_one lock d k made s a.0 (u 0 s (omega arith)) (omega arith),
+    idle_new lock d (suc k) 0 ss a.1 (λ i x h. u (suc i) x (omega arith)) (omega arith),
+  )
 
   pub fresh_seats : (lock : TableId) (d : Plan B L) (k made : ℕ) (ss : List (SeatView Entry (Plan B L)))
       → AreSeats lock d k made ss → All (λ s. seen_of s ≡ []) ss → AreFresh ss
   fresh_seats lock d k made [] a u = tt
-  fresh_seats lock d k made (s ∷ ss) a u = (a.0.receipts ∙ ap (own k) (u 0 s (omega arith)), u 0 s (omega arith),
-    fresh_seats lock d (suc k) 0 ss a.1 (λ i x h. u (suc i) x (omega arith)))
+  fresh_seats lock d k made (s ∷ ss) a u = (
+    a.0.receipts ∙ ap (own k) (u 0 s (omega arith)),
+    u 0 s (omega arith),
+    fresh_seats lock d (suc k) 0 ss a.1 (λ i x h. u (suc i) x (omega arith)),
+  )

@@ -1,6 +1,6 @@
 -- Which slots have a card that waits.
-use Rattle.std.proofs.Common.{◌≡◌, ℕ, zero, suc, ◌<◌, Bool, true, false, List, [], ◌∷◌, set, map, length, Option, Some, None}
-use Rattle.std.proofs.Common.{refl, sym, ap, ◌∙◌, arith}
+use Rattle.std.proofs.Common.{◌≡◌, ℕ, zero, suc, true, List, [], ◌∷◌, set, map, length, Some}
+use Rattle.std.proofs.Common.{refl, sym, ap}
 use Rattle.std.specs.Prelude.{slice_get}
 use Rattle.convert_plan.specs.declared.card.Card.{Card}
 use Rattle.checkout_book.specs.declared.shelf.Slot.{Slot}

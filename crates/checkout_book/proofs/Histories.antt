@@ -1,5 +1,5 @@
 -- Histories of a book, and what a pass may still do.
-use Rattle.std.proofs.Common.{◌≡◌, ◌==◌, ℕ, zero, suc, ◌+◌, ◌<◌, ◌⊎◌, ⊎_elim, Bool, true, false, cond, List, [], ◌∷◌, ◌++◌}
+use Rattle.std.proofs.Common.{◌≡◌, ◌==◌, ℕ, ⊎_elim, Bool, true, false, cond, List, [], ◌∷◌, ◌++◌}
 use Rattle.std.proofs.Common.{length, length-append, map, Option, Some, None, refl, sym, ap, ◌∙◌, subst, arith, append_assoc}
 use Rattle.std.specs.Prelude.{slice_get, is_some}
 use mathlib.Core.List.{map-append}
@@ -21,7 +21,6 @@ use Rattle.checkout_core.specs.Actors.{AlikeClaims}
 use Rattle.checkout_core.specs.Hands.{is_held, held_at, Holds}
 use Rattle.core_laws.specs.Moves.{is_noted}
 use Rattle.checkout_book.specs.declared.plan.Plan.{Plan}
-use Rattle.checkout_book.specs.declared.plan.Parts.{Parts}
 use Rattle.checkout_book.specs.declared.plan.Entry.{Entry}
 use Rattle.checkout_book.specs.declared.shelf.Slot.{Slot}
 use Rattle.checkout_book.specs.Shape.{Shelf}
@@ -30,7 +29,7 @@ use Rattle.checkout_book.specs.Entries.{number_or, AreActed, entries, history_of
 use Rattle.checkout_book.specs.Shelves.{plan_of, IsSound}
 use Rattle.checkout_book.specs.Passes.{Stamped, Reads}
 use Rattle.checkout_book.proofs.Runs.{eqb_self, eqb_swap, same_number}
-use Rattle.checkout_book.proofs.Laws.{TellsHands, HandsStay, Decides}
+use Rattle.checkout_book.proofs.CoreLaws.{TellsHands, HandsStay, Decides}
 
 own_append : {E : Type 0} (k : ℕ) (xs ys : List (ℕ × E)) → own k (xs ++ ys) ≡ own k xs ++ own k ys
 own_append k [] ys = refl
@@ -177,10 +176,10 @@ module _ {B L : Type 0} where
       → Holds c p n raw → Holds x p n raw
   still_holds law d n p raw h k c x below r s b e holds =
       let none : own n b.0 ≡ [] = nothing_more (own n h) (own n b.0)
-          (e ∙ (ap (own n) (sym b.1) ∙ own_append n h b.0)) in
+      (e ∙ (ap (own n) (sym b.1) ∙ own_append n h b.0)) in
       let rest : own_entries d.starts.items d.workers n (events_of b.0) ≡ [] =
-          own_events d.starts.items d.workers n b.0 (stamped_rest d.starts.items d.workers h b.0
-          (subst (Stamped d.starts.items d.workers) (sym b.1) s.stamped)) ∙ ap (map (λ e. e.event)) none in
+      own_events d.starts.items d.workers n b.0 (stamped_rest d.starts.items d.workers h b.0
+      (subst (Stamped d.starts.items d.workers) (sym b.1) s.stamped)) ∙ ap (map (λ e. e.event)) none in
       law d.starts.items d.workers d.drivers p n raw c x (events_of h) (events_of b.0) below r.run
       (ap (replay (start d.starts.items d.workers d.drivers))
       (sym (map-append (λ (x : ℕ × Entry). x.1.event) h b.0) ∙ ap events_of b.1) ∙ s.run) rest holds
@@ -192,7 +191,7 @@ module _ {B L : Type 0} where
       → actor_of d.starts.items d.workers e ≡ Some n → is_step c e ≡ true → is_step x e ≡ true
   steps_still law d n h k c x e below r s same other alike by step =
       let equal = own_events d.starts.items d.workers n h r.stamped
-          ∙ (ap (map (λ z. z.event)) same ∙ sym (own_events d.starts.items d.workers n k s.stamped)) in
+      ∙ (ap (map (λ z. z.event)) same ∙ sym (own_events d.starts.items d.workers n k s.stamped)) in
       sym (law d.starts.items d.workers d.drivers n (events_of h) (events_of k) c x e below r.run s.run by equal other
       alike) ∙ step
 

@@ -1,6 +1,7 @@
-pub mod Laws
+pub mod CoreLaws
 pub mod Lists
 pub mod Flags
+pub mod Keeping
 pub mod Runs
 pub mod Entries
 pub mod Sounding

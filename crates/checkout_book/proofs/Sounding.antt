@@ -1,16 +1,15 @@
 -- A turn keeps a shelf sound.
-use Rattle.std.proofs.Common.{◌≡◌, ◌==◌, ℕ, zero, suc, ◌+◌, ◌<◌, ◌≤◌, ◌*◌, ◌⊎◌, inl, inr, ⊎_elim, Bool, true, false, List, []}
-use Rattle.std.proofs.Common.{◌∷◌, ◌++◌, set, map, length, length-append, Option, Some, None, refl, sym, ap, ◌∙◌, subst, arith}
-use Rattle.std.specs.Prelude.{slice_get, ◌||◌, is_some}
+use Rattle.std.proofs.Common.{◌≡◌, ◌==◌, ℕ, ◌+◌, ◌<◌, ⊎_elim, Bool, true, false, List, []}
+use Rattle.std.proofs.Common.{◌∷◌, ◌++◌, set, length, length-append, Option, Some, None, refl, sym, ap, ◌∙◌, subst, arith}
+use Rattle.std.specs.Prelude.{slice_get, is_some}
 use Rattle.std.specs.Option.{option_map}
 use Rattle.edge_kit.specs.Told.{Tells}
 use Rattle.edge_kit.specs.Seen.{LeafSeen, IsNewLeaf, emptied}
 use Rattle.edge_kit.specs.declared.leaf_state.LeafState.TheVariants.{Fresh}
 use Rattle.tree_encoding.specs.declared.prepared.Prepared.{Prepared}
 use Rattle.convert_plan.specs.declared.card.Card.{Card}
-use Rattle.convert_plan.specs.Card.{CardSeen, IsNewCard, IsCardOf, IsPrepared, IsRefusedCard}
+use Rattle.convert_plan.specs.Card.{CardSeen, IsNewCard, IsPrepared}
 use Rattle.checkout_core.specs.declared.verdict.FilterCause.{FilterCause}
-use Rattle.checkout_core.specs.declared.verdict.Verdict.{Verdict}
 use Rattle.checkout_core.specs.declared.verdict.Own.{Own}
 use Rattle.checkout_core.specs.declared.path.PathState.{PathState}
 use Rattle.checkout_core.specs.declared.path.PathState.TheVariants as st
@@ -19,7 +18,7 @@ use Rattle.checkout_core.specs.declared.path.Path.{Path}
 use Rattle.checkout_core.specs.declared.event.Event.{Event}
 use Rattle.checkout_core.specs.declared.event.Event.TheVariants.{Claim, Close, HandBack}
 use Rattle.checkout_core.specs.States.{Core, start, is_closed, with_state}
-use Rattle.checkout_core.specs.Steps.{step_of, replay}
+use Rattle.checkout_core.specs.Steps.{step_of}
 use Rattle.checkout_core.specs.Actors.{actor_of, is_step}
 use Rattle.core_laws.specs.Moves.{Moved, RowStays, StaysOr, is_with_driver, is_noted}
 use Rattle.checkout_book.specs.declared.plan.Plan.{Plan}
@@ -28,14 +27,14 @@ use Rattle.checkout_book.specs.declared.shelf.Slot.TheVariants.{Away, Waits, End
 use Rattle.checkout_book.specs.Sights.{Sight, seen}
 use Rattle.checkout_book.specs.Waitings.{NoneIs, NoneBelow}
 use Rattle.checkout_book.specs.Shelves.{cards_of, waits, is_waiting, WaitsSo, IsPlanned, IsRefused, IsFrom, IsEnded}
-use Rattle.checkout_book.specs.Shelves.{AreEnded, Lies, IsRow, Sound}
+use Rattle.checkout_book.specs.Shelves.{Lies, IsRow, Sound}
 use Rattle.checkout_book.specs.Turns.{NoneWaits}
-use Rattle.checkout_book.proofs.Lists.{get_set_same, get_set_other, past_none}
-use Rattle.checkout_book.proofs.Flags.{set_same, flags_set, flag_at, flags_length}
+use Rattle.checkout_book.proofs.Lists.{get_set_same, get_set_other}
+use Rattle.checkout_book.proofs.Flags.{set_same, flags_set, flag_at}
 use Rattle.checkout_book.proofs.Runs.{replay_append, same_or, moved_here, moved_there, with_not_waiting, with_not_closed}
 use Rattle.checkout_book.proofs.Runs.{out_not_waiting}
 use Rattle.checkout_book.proofs.Entries.{NotEnded, all_ended, ended_more, noted_ended, acted_more}
-use Rattle.checkout_book.proofs.Laws.{TakesPath, MayTake, ClosesPath, BacksPath, KeepsPaths, KeepsSize, IsShort}
+use Rattle.checkout_book.proofs.CoreLaws.{TakesPath, MayTake, ClosesPath, BacksPath, KeepsPaths, KeepsSize, IsShort}
 
 -- a new leaf is fresh and empty
 leaf_again : (text : List ℕ) (leaf : LeafSeen) → IsNewLeaf text leaf → emptied Fresh leaf ≡ leaf
@@ -199,10 +198,11 @@ module _ {B L : Type 0} (see : Sight B L) where
       let ready : card.ready ≡ Some r.ready = ap (λ (z : CardSeen). z.ready) r.same in
       let leaf = leaf_again (seen see p).text (seen see p).leaf n.new_leaf in
       let same : seen see card ≡ record (seen see p) { ready = Some r.ready } =
-          r.same ∙ ap (λ (l : LeafSeen). record (seen see p) { leaf = l; ready = Some r.ready }) leaf in
-      (subst (λ (o : Option Prepared). WaitsSo (seen see card) (Waiting (Some why)) o) (sym ready)
-        (subst (λ (z : CardSeen). IsPrepared z r.ready) (sym same) r.is_prepared),
-      (k, p, refused.2, same ∙ ap (λ (o : Option Prepared). record (seen see p) { ready = o }) (sym ready)))
+      r.same ∙ ap (λ (l : LeafSeen). record (seen see p) { leaf = l; ready = Some r.ready }) leaf in (
+        subst (λ (o : Option Prepared). WaitsSo (seen see card) (Waiting (Some why)) o) (sym ready)
+            (subst (λ (z : CardSeen). IsPrepared z r.ready) (sym same) r.is_prepared),
+        (k, p, refused.2, same ∙ ap (λ (o : Option Prepared). record (seen see p) { ready = o }) (sym ready)),
+      )
 
   pub back_away : BacksPath → (d : Plan B L) (core new : Core) (events : List Event) (slots : List (Slot B L))
       (waiting : List Bool) (capacity p : ℕ) → Sound see d core events slots waiting capacity
@@ -267,7 +267,7 @@ module _ {B L : Type 0} (see : Sight B L) where
       → step_of core e ≡ Some new → length events < capacity
   has_room law d core new events slots waiting capacity e sound step =
       let l = law d.starts.items d.workers d.drivers (events ++ e ∷ []) new sound.below
-          (replay_append (start d.starts.items d.workers d.drivers) core new events e sound.run step) in
+      (replay_append (start d.starts.items d.workers d.drivers) core new events e sound.run step) in
       omega (arith, l, length-append events (e ∷ []), sound.room)
 
   waits_not : (cards : List (Card B L)) (p : ℕ) (y : Slot B L) (s : PathState) → Lies see cards p y s

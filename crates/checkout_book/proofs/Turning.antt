@@ -1,6 +1,6 @@
 -- A turn at the book.
-use Rattle.std.proofs.Common.{◌≡◌, ◌==◌, ℕ, ◌+◌, ◌<◌, ◌⊎◌, inl, inr, ⊎_elim, Bool, true, false, cond, List, []}
-use Rattle.std.proofs.Common.{◌∷◌, ◌++◌, set, map, Option, Some, None, refl, sym, ap, ◌∙◌, subst}
+use Rattle.std.proofs.Common.{◌≡◌, ◌==◌, ℕ, inl, inr, ⊎_elim, Bool, true, false, cond, List, []}
+use Rattle.std.proofs.Common.{◌∷◌, ◌++◌, set, Option, Some, None, refl, sym, ap, ◌∙◌, subst}
 use Rattle.std.specs.Prelude.{slice_get, IfSome, IfNone}
 use mathlib.Core.List.{map-append}
 use Rattle.atomic_table.specs.Seated.{TableId}
@@ -8,7 +8,6 @@ use Rattle.turn_lock.specs.History.{own, Begins, Follows}
 use Rattle.turn_lock.specs.Seat.{SeatView, seen_of, mine_of, entered, left}
 use Rattle.turn_lock.specs.Seats.{IsSeat}
 use Rattle.convert_plan.specs.declared.card.Card.{Card}
-use Rattle.checkout_core.specs.declared.verdict.FilterCause.{FilterCause}
 use Rattle.checkout_core.specs.declared.verdict.Own.{Own}
 use Rattle.checkout_core.specs.declared.path.PathState.{PathState}
 use Rattle.checkout_core.specs.declared.path.PathState.TheVariants.{Waiting, Held, Closed}
@@ -16,21 +15,19 @@ use Rattle.checkout_core.specs.declared.path.Path.{Path}
 use Rattle.checkout_core.specs.declared.event.Event.{Event}
 use Rattle.checkout_core.specs.declared.event.Event.TheVariants.{Claim, Close, HandBack}
 use Rattle.checkout_core.specs.States.{Core, AreBelow, with_state}
-use Rattle.checkout_core.specs.Steps.{step_of}
-use Rattle.checkout_core.specs.Actors.{actor_of, is_step}
-use Rattle.checkout_core.specs.Hands.{is_held, held_at, Holds}
-use Rattle.core_laws.specs.Moves.{Moved, RowStays, StaysOr, is_with_driver, is_noted}
+use Rattle.checkout_core.specs.Actors.{actor_of}
+use Rattle.checkout_core.specs.Hands.{is_held, held_at}
+use Rattle.core_laws.specs.Moves.{RowStays, StaysOr, is_with_driver, is_noted}
 use Rattle.checkout_book.specs.declared.plan.Plan.{Plan}
-use Rattle.checkout_book.specs.declared.plan.Parts.{Parts}
 use Rattle.checkout_book.specs.declared.plan.Entry.{Entry}
 use Rattle.checkout_book.specs.declared.shelf.Slot.{Slot}
 use Rattle.checkout_book.specs.declared.shelf.Slot.TheVariants.{Away, Waits, Ended}
 use Rattle.checkout_book.specs.Shape.{Shelf}
-use Rattle.checkout_book.specs.Sights.{Sight, seen, tell}
+use Rattle.checkout_book.specs.Sights.{Sight, tell}
 use Rattle.checkout_book.specs.Entries.{number_or, number_in, entries, entry_of, parts_at, history_of}
 use Rattle.checkout_book.specs.Shelves.{cards_of, plan_of, IsSound, IsPlanned, IsFrom, IsOut}
 use Rattle.checkout_book.specs.Turns.{NoneWaits, Turned, Claimed, Unclaimed, Noted}
-use Rattle.checkout_book.specs.Passes.{Reads, IsPass, IsTurned, TookNone, TookCard, Claims, Closes, Notes}
+use Rattle.checkout_book.specs.Passes.{Reads, IsPass, IsTurned, Claims, Closes, Notes}
 use Rattle.checkout_book.specs.Passes.{claim_entry, close_entry, note_entry}
 use Rattle.convert_plan.specs.Card.{CardSeen}
 use Rattle.checkout_book.proofs.Lists.{get_set_same}
@@ -38,7 +35,7 @@ use Rattle.checkout_book.proofs.Runs.{eqb_self, same_number, hands_moved, moved_
 use Rattle.checkout_book.proofs.Entries.{NotEnded, entries_more, note_parts}
 use Rattle.checkout_book.proofs.Sounding.{waited, close_away, back_away}
 use Rattle.checkout_book.proofs.Histories.{own_more, follows_more, same_hands, reads_of}
-use Rattle.checkout_book.proofs.Laws.{TakesPath, ClosesPath, BacksPath, KeepsPaths, TellsHands, KeepsSeat}
+use Rattle.checkout_book.proofs.CoreLaws.{TakesPath, ClosesPath, BacksPath, KeepsPaths, TellsHands, KeepsSeat}
 
 module _ {B L : Type 0} (see : Sight B L) where
   pub out_from : (cards : List (Card B L)) (card : Card B L) → IsOut see cards card
@@ -78,7 +75,7 @@ module _ {B L : Type 0} (see : Sight B L) where
       → history_of (tell see) w ≡ history_of (tell see) v ++ (n, close_entry p n o (tell see b l)) ∷ []
   close_grown law n p o b l v w t sound =
       let away = close_away see law (plan_of v) v.core w.core v.events.items v.slots.items v.waiting _ p n o sound
-          t.step in
+      t.step in
       grown (Close p n o) p (Ended b l) v w t sound (λ b l i. cc (away, i))
       ∙ ap (λ (z : Option (Slot B L)). history_of (tell see) v ++ (n, record { event = Close p n o; parts = parts_at (tell see) z }) ∷ [])
       (get_set_same v.slots.items p (Ended b l) Away away)
@@ -103,7 +100,7 @@ module _ {B L : Type 0} (see : Sight B L) where
       → history_of (tell see) w ≡ history_of (tell see) v ++ (n, note_entry (HandBack card.path)) ∷ []
   back_grown law n card v w t sound by =
       let away = back_away see law (plan_of v) v.core w.core v.events.items v.slots.items v.waiting _ card.path sound
-          t.step in
+      t.step in
       grown (HandBack card.path) card.path (Waits card) v w t sound (λ b l i. cc (away, i))
       ∙ ap (λ k. history_of (tell see) v ++ (number_or k, note_entry (HandBack card.path)) ∷ []) by
 
@@ -183,32 +180,40 @@ module _ {B L : Type 0} (see : Sight B L) where
       (s0 s2 : SeatView Entry (Plan B L)) (c : Core) (v w : Shelf B L) (o : Option (Card B L))
       → Went lock d n made s0 s2 c v w → IfNone o (Unclaimed v w) → IfSome o (Claimed n v w)
       → Claims see lock d n made s0 s2 c o
-  took law path lock d n made s0 s2 c v w None t nil one = (w.core, record {
-    turn = turned lock d n made s0 s2 c v w t (claim_plan n v w None nil one)
-        (claim_follows n v w None t.sound nil one);
-    mine = t.made_now ∙ (ap (λ (z : Shelf B L). own n (history_of (tell see) z)) nil.same ∙ sym t.mine);
-    none = subst (λ (z : Shelf B L). NoneWaits z.core) (sym nil.same) nil.none;
-    hands = λ q. ap (λ (z : Shelf B L). held_at z.core n q) nil.same ∙ hands law lock d n made s0 s2 c v w t q;
-  })
+  took law path lock d n made s0 s2 c v w None t nil one = (
+    w.core,
+    record {
+      turn = turned lock d n made s0 s2 c v w t (claim_plan n v w None nil one)
+          (claim_follows n v w None t.sound nil one);
+      mine = t.made_now ∙ (ap (λ (z : Shelf B L). own n (history_of (tell see) z)) nil.same ∙ sym t.mine);
+      none = subst (λ (z : Shelf B L). NoneWaits z.core) (sym nil.same) nil.none;
+      hands = λ q. ap (λ (z : Shelf B L). held_at z.core n q) nil.same ∙ hands law lock d n made s0 s2 c v w t q;
+    },
+  )
   took law path lock d n made s0 s2 c v w (Some k) t nil one =
       let wait = waited see (plan_of v) v.core v.events.items v.slots.items v.waiting _ k.path k t.sound one.was in
       let move = path v.core w.core k.path n one.turned.step in
       let m = move.1 in
       let row : m.row ≡ wait.row = let e : Some m.row ≡ Some wait.row = sym m.there ∙ wait.there in cc (e) in
       let raw : Waiting move.0 ≡ Waiting wait.raw = sym m.was ∙ (ap (λ (z : Path). z.state) row ∙ wait.state) in
-      let same : move.0 ≡ wait.raw = cc (raw) in
-      (w.core, record {
-        turn = turned lock d n made s0 s2 c v w t one.turned.plan (claim_follows n v w (Some k) t.sound nil one);
-        mine = mine_more lock d n made s0 s2 c v w (claim_entry k.path n) t (claim_grown n v w k one t.sound);
-        planned = subst (λ (x : Plan B L). IsPlanned see (cards_of x) k) t.is wait.planned;
-        raw = wait.raw;
-        holds = (with_state m.row (Held n move.0), moved_here v.core w.core k.path (Waiting move.0) (Held n move.0) m,
-          ap (λ z. Held n z) same);
-        so = wait.so;
-        hands = λ q. hands_moved v.core w.core k.path (Waiting move.0) (Held n move.0) n m q
-            ∙ (ap (λ (b : Bool). cond (q == k.path) b (held_at v.core n q)) (eqb_self n)
-            ∙ ap (λ (b : Bool). cond (q == k.path) true b) (hands law lock d n made s0 s2 c v w t q));
-      })
+      let same : move.0 ≡ wait.raw = cc (raw) in (
+        w.core,
+        record {
+          turn = turned lock d n made s0 s2 c v w t one.turned.plan (claim_follows n v w (Some k) t.sound nil one);
+          mine = mine_more lock d n made s0 s2 c v w (claim_entry k.path n) t (claim_grown n v w k one t.sound);
+          planned = subst (λ (x : Plan B L). IsPlanned see (cards_of x) k) t.is wait.planned;
+          raw = wait.raw;
+          holds = (
+            with_state m.row (Held n move.0),
+            moved_here v.core w.core k.path (Waiting move.0) (Held n move.0) m,
+            ap (λ z. Held n z) same,
+          );
+          so = wait.so;
+          hands = λ q. hands_moved v.core w.core k.path (Waiting move.0) (Held n move.0) n m q
+              ∙ (ap (λ (b : Bool). cond (q == k.path) b (held_at v.core n q)) (eqb_self n)
+              ∙ ap (λ (b : Bool). cond (q == k.path) true b) (hands law lock d n made s0 s2 c v w t q));
+        },
+      )
 
   pub closed : TellsHands → ClosesPath → (lock : TableId) (d : Plan B L) (n made : ℕ)
       (s0 s2 : SeatView Entry (Plan B L)) (c : Core) (v w : Shelf B L) (p : ℕ) (o : Own) (b : B) (l : L)
@@ -246,7 +251,7 @@ module _ {B L : Type 0} (see : Sight B L) where
       → Noted e v w → Notes lock d n made s0 s2 c e
   noted law path lock d n made s0 s2 c v w e t noted_is by one =
       let here : actor_of v.starts.value.items v.workers e ≡ Some n =
-          subst (λ (x : Plan B L). actor_of x.starts.items x.workers e ≡ Some n) (sym t.is) by in
+      subst (λ (x : Plan B L). actor_of x.starts.items x.workers e ≡ Some n) (sym t.is) by in
       let more = note_grown n e v w one noted_is here in
       record {
         core = w.core;
@@ -267,7 +272,7 @@ module _ {B L : Type 0} (see : Sight B L) where
   backed law path lock d n made s0 s2 c v w card t by one =
       let e = HandBack card.path in
       let here : actor_of v.starts.value.items v.workers e ≡ Some n =
-          subst (λ (x : Plan B L). actor_of x.starts.items x.workers e ≡ Some n) (sym t.is) by in
+      subst (λ (x : Plan B L). actor_of x.starts.items x.workers e ≡ Some n) (sym t.is) by in
       let more = back_grown path n card v w one t.sound here in
       let move = path v.core w.core card.path one.step in
       let m = move.2 in

@@ -1,8 +1,7 @@
 -- What holds of a shelf whenever no actor has it.
-use Rattle.std.specs.Prelude.{◌≡◌, ℕ, ◌<◌, ◌≤◌, ◌*◌, ◌^◌, Bool, true, false, List, [], ◌∷◌, ◌++◌, map, length, Option}
+use Rattle.std.specs.Prelude.{◌≡◌, ℕ, ◌≤◌, ◌*◌, Bool, true, false, List, [], ◌∷◌, ◌++◌, map, length, Option}
 use Rattle.std.specs.Prelude.{Some, None, slice_get, vec_capacity}
 use Rattle.std.specs.Global.{Vec}
-use Rattle.edge_kit.specs.Seen.{BlobSeen, LeafSeen}
 use Rattle.tree_encoding.specs.declared.prepared.Prepared.{Prepared}
 use Rattle.convert_plan.specs.declared.card.Card.{Card}
 use Rattle.convert_plan.specs.Card.{CardSeen, IsNewCard, IsCardOf, IsPrepared, IsRefusedCard}

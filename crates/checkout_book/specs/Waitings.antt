@@ -1,5 +1,8 @@
 -- Which paths wait: a flag for each.
-use Rattle.std.specs.Prelude.{◌≡◌, ◌<◌, ℕ, Bool, true, false, List, Some, slice_get}
+use Rattle.std.specs.Prelude.{◌≡◌, ◌+◌, ◌<◌, ◌≤◌, ◌^◌, ℕ, Bool, true, false, List, Some, length, slice_get}
+use Rattle.std.specs.List.{All, Contains}
+use Rattle.std.specs.Ordering.{nat_cmp}
+use Rattle.std.specs.BinaryHeap.{IsHeap}
 
 -- no path below this one waits
 abbrev pub NoneBelow : List Bool → ℕ → Type 0
@@ -12,3 +15,12 @@ NoneIs flags = (p : ℕ) (b : Bool) → slice_get flags p ≡ Some b → b ≡ f
 -- the lowest path that waits
 abbrev pub IsLowest : List Bool → ℕ → Type 0
 IsLowest flags p = (slice_get flags p ≡ Some true) × NoneBelow flags p
+
+-- Each path below `next` that waits is among those that came back. A path stands there as its distance to the highest
+-- number of 32 bits.
+pub record IsKept (flags : List Bool) (next : ℕ) (returned : List ℕ) : Type 0 where
+  pub few : length flags < 2 ^ 32
+  pub looked : next ≤ length flags
+  pub ordered : IsHeap nat_cmp returned
+  pub below : All (λ k. (k ≤ 4294967295) × (4294967295 < k + next)) returned
+  pub all : (p k : ℕ) → p < next → p + k ≡ 4294967295 → slice_get flags p ≡ Some true → Contains returned k

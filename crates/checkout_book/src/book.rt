@@ -72,7 +72,10 @@ pub fn close<B: Blob, L: Leaf, H: Wait>(
     let actor = pass.number();
     // What the book doesn't keep goes before the turn.
     let Card {
-        path, blob, leaf, ..
+        path,
+        blob,
+        leaf,
+        ..
     } = card;
     let Turn { mut value } = book.enter(rt, pass);
     value.close(actor, path, blob, leaf, own);

@@ -43,7 +43,10 @@ impl<B: Blob, L: Leaf> Ended<B, L> {
             self.old.shelf self.new.shelf }
     {
         let Card {
-            path, blob, leaf, ..
+            path,
+            blob,
+            leaf,
+            ..
         } = card;
         self.shelf.close(0, path, blob, leaf, own);
     }
@@ -69,7 +72,9 @@ impl<B: Blob, L: Leaf> Ended<B, L> {
     {
         let Ended { shelf } = self;
         let Rack {
-            slots, mut parts, ..
+            slots,
+            mut parts,
+            ..
         } = shelf;
         for slot in slots {
             match slot {

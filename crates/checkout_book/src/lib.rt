@@ -3,6 +3,7 @@
 
 pub mod book;
 pub mod ending;
+pub mod laws;
 pub mod plan;
 pub mod reserving;
 pub mod shelf;

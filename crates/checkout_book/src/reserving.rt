@@ -21,6 +21,18 @@ use std::mem;
 use std::snapshot::Snapshot;
 use turn_lock::TurnLock;
 
+/// The pass of a desk, and its cards.
+pub type DeskPass<B: Blob, L: Leaf> = (Pass<B, L>, Vec<Card<B, L>>);
+
+/// A book as it begins.
+#[derive(Drop)]
+pub struct BookBegun<B: Blob, L: Leaf> {
+    pub book: Book<B, L>,
+    pub workers: Vec<Pass<B, L>>,
+    /// In order of driver.
+    pub desks: Vec<DeskPass<B, L>>,
+}
+
 fn all_away<B: Blob, L: Leaf>(alloc: Global, count: usize) -> Result<Vec<Slot<B, L>>, AllocError>
     ensures { IfOk result (λ v. v.items ≡ aways count) }
 {
@@ -44,10 +56,7 @@ fn place<B: Blob, L: Leaf>(mut slots: Vec<Slot<B, L>>, pool: Vec<Card<B, L>>) ->
 }
 
 /// Whether a card waits, for each slot.
-fn flags_of<B: Blob, L: Leaf>(
-    alloc: Global,
-    slots: &[Slot<B, L>],
-) -> Result<Vec<bool>, AllocError>
+fn flags_of<B: Blob, L: Leaf>(alloc: Global, slots: &[Slot<B, L>]) -> Result<Vec<bool>, AllocError>
     ensures { IfOk result (λ v. v.items ≡ map (λ s. waits s) slots.now) }
 {
     let count = slots.len();
@@ -58,9 +67,8 @@ fn flags_of<B: Blob, L: Leaf>(
     Ok(flags)
 }
 
-/// A book, with its passes in order of number: first those of the workers, then those of the desks. It takes all the room
-/// that the book will need.
-pub fn reserve<B: Blob, L: Leaf>(
+/// A book, with its passes in order of number: first those of the workers, then those of the desks.
+fn begin<B: Blob, L: Leaf>(
     alloc: Global,
     pool: Vec<Card<B, L>>,
     desks: &Vec<Vec<Card<B, L>>>,
@@ -91,11 +99,12 @@ pub fn reserve<B: Blob, L: Leaf>(
     let core = State::start(alloc, starts, workers, drivers)?;
     let slots = place(slots, pool);
     let flags = flags_of(alloc, slots.as_slice())?;
+    let waiting = Waiting::reserve(alloc, flags, paths)?;
     let value = Rack {
         core,
         events,
         slots,
-        waiting: Waiting::of(flags),
+        waiting,
         parts,
         workers,
         drivers,
@@ -104,6 +113,59 @@ pub fn reserve<B: Blob, L: Leaf>(
         starts: begun,
     };
     TurnLock::make(alloc, value, workers + drivers)
+}
+
+/// Each desk's pass with its cards.
+fn deal<B: Blob, L: Leaf>(
+    alloc: Global,
+    mut passes: Vec<Pass<B, L>>,
+    mut desks: Vec<Vec<Card<B, L>>>,
+) -> Result<(Vec<Pass<B, L>>, Vec<DeskPass<B, L>>), AllocError>
+    requires { length desks.items ≤ length passes.items }
+    ensures count { IfOk result (λ r. length r.0.items + length desks.items ≡ length passes.items) }
+    ensures passes { IfOk result (λ r. r.0.items ++ map (λ x. x.0) r.1.items ≡ passes.items) }
+    ensures cards { IfOk result (λ r. map (λ x. x.1) r.1.items ≡ desks.items) }
+{
+    let mut dealt = Vec::with_capacity(alloc, desks.len())?;
+    while let Some(cards) = desks.pop() {
+        let Some(pass) = passes.pop() else {
+            unreachable!()
+        };
+        dealt.insert(0, (pass, cards))?;
+    }
+    Ok((passes, dealt))
+}
+
+/// A book with the passes of its workers and of its desks, in order of number. It takes all the room that the book will
+/// need. The pool's cards wait, and each desk has its own.
+pub fn reserve<B: Blob, L: Leaf>(
+    alloc: Global,
+    pool: Vec<Card<B, L>>,
+    desks: Vec<Vec<Card<B, L>>>,
+    starts: Vec<Start>,
+    workers: u32,
+) -> Result<BookBegun<B, L>, AllocError>
+    requires few_paths { length starts.items < 2 ^ 32 }
+    requires below { AreBelow (length desks.items) starts.items }
+    requires some { 1 ≤ workers }
+    requires few_workers { workers ≤ 16 }
+    requires few_desks { length desks.items ≤ 16 }
+    requires pool { ArePool starts.items pool.items }
+    requires new { AreNew (sight B.told B.seen L.seen) (pool.items ++ joined desks.items) }
+    ensures count { IfOk result (λ r. length r.workers.items ≡ workers) }
+    ensures passes { IfOk result (λ r. AreIdle r.book
+        (record { pool = pool; desks = desks; starts = starts; workers = workers; drivers = length desks.items })
+        0 (workers + length desks.items) (r.workers.items ++ map (λ x. x.0) r.desks.items)) }
+    ensures fresh { IfOk result (λ r. AreFresh (r.workers.items ++ map (λ x. x.0) r.desks.items)) }
+    ensures cards { IfOk result (λ r. map (λ x. x.1) r.desks.items ≡ desks.items) }
+{
+    let (book, passes) = begin(alloc, pool, &desks, starts, workers)?;
+    let (workers, desks) = deal(alloc, passes, desks)?;
+    Ok(BookBegun {
+        book,
+        workers,
+        desks,
+    })
 }
 
 /// What the book holds, after all its passes came back with nothing in hand.

@@ -5,7 +5,7 @@ use checkout_core::{Event, Start, State};
 use convert_plan::Card;
 use edge_kit::{Blob, Leaf};
 use std::snapshot::Snapshot;
-use turn_lock::Kept;
+use turn_lock::{Kept, TurnLock, TurnSeat};
 
 /// Where the card of a path is.
 #[derive(Drop)]
@@ -57,4 +57,15 @@ impl<B: Blob, L: Leaf> Kept for Shelf<B, L> {
     ghost told = { λ s. plan_of s };
 
     ghost fits = { λ s d. (plan_of s ≡ d) × IsSound (sight B.told B.seen L.seen) s × HasPlace s };
+}
+
+fn crosses<X: Send>() {}
+
+fn is_shared<X: Sync>() {}
+
+// Passes move to threads of their own, which share the book.
+fn threads_take_it<B: Blob + Send, L: Leaf + Send>() {
+    crosses::<Vec<TurnSeat<Shelf<B, L>>>>();
+    crosses::<Shelf<B, L>>();
+    is_shared::<TurnLock<Shelf<B, L>>>();
 }

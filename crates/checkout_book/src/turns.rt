@@ -51,9 +51,9 @@ impl<B: Blob, L: Leaf> Shelf<B, L> {
         let Slot::Waits(card) = mem::replace(&mut self.slots[path as usize], Slot::Away) else {
             unreachable!()
         };
-        let event = Event::Claim { path, actor };
-        take(&mut self.core, event);
-        self.events.push_reserved(event);
+        let claimed = Event::Claim { path, actor };
+        take(&mut self.core, claimed);
+        self.events.push_reserved(claimed);
         Some(card)
     }
 
@@ -68,13 +68,10 @@ impl<B: Blob, L: Leaf> Shelf<B, L> {
     {
         laws::a_close_closes_its_path();
         laws::a_history_is_short();
-        let event = Event::Close { path, actor, own };
-        take(&mut self.core, event);
-        drop(mem::replace(
-            &mut self.slots[path as usize],
-            Slot::Ended(blob, leaf),
-        ));
-        self.events.push_reserved(event);
+        let closed = Event::Close { path, actor, own };
+        take(&mut self.core, closed);
+        drop(mem::replace(&mut self.slots[path as usize], Slot::Ended(blob, leaf)));
+        self.events.push_reserved(closed);
     }
 
     /// Notes an event of a driver's talk.
@@ -107,13 +104,10 @@ impl<B: Blob, L: Leaf> Shelf<B, L> {
         laws::a_path_that_is_handed_back_waits();
         laws::a_history_is_short();
         let path = card.path;
-        let event = Event::HandBack { path };
-        take(&mut self.core, event);
-        drop(mem::replace(
-            &mut self.slots[path as usize],
-            Slot::Waits(card),
-        ));
+        let handed = Event::HandBack { path };
+        take(&mut self.core, handed);
+        drop(mem::replace(&mut self.slots[path as usize], Slot::Waits(card)));
         self.waiting.put_back(path);
-        self.events.push_reserved(event);
+        self.events.push_reserved(handed);
     }
 }

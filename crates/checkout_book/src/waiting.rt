@@ -1,28 +1,33 @@
 // Which paths have a card that waits.
-ghost use Rattle.std.specs.Prelude.{◌≡◌, ◌<◌, ◌≤◌, ◌^◌, ℕ, Bool, true, false, Some, length, slice_get, slice_set};
-ghost use Rattle.std.specs.Prelude.{IfSome, IfNone};
-ghost use Rattle.checkout_book.specs.Waitings.{IsLowest, NoneIs};
+ghost use Rattle.std.specs.Prelude.{◌≡◌, ◌+◌, ◌<◌, ◌≤◌, ◌^◌, [], ℕ, true, false, Some, length, slice_get, slice_set};
+ghost use Rattle.std.specs.Prelude.{IfSome, IfNone, IfOk, MatchOption};
+ghost use Rattle.std.specs.BinaryHeap.{heap_items};
+ghost use Rattle.checkout_book.specs.Waitings.{IsLowest, NoneIs, IsKept};
 
+use std::alloc::{AllocError, Global};
+use std::collections::BinaryHeap;
 use std::marker::Model;
 
 /// A flag for each path, whether its card waits. It gives the lowest that does.
 #[derive(Drop)]
 pub struct Waiting {
     flags: Vec<bool>,
-    /// None waits below it.
+    /// The first path that was never looked at. It never goes back where there is room for those that are returned.
     next: u32,
+    /// The paths below it that wait again, each taken from the highest `u32`, so that the lowest comes first.
+    returned: BinaryHeap<u32>,
 }
 
 impl Model for Waiting {
-    ghost use Rattle.std.specs.Prelude.{◌<◌, ◌≤◌, ◌^◌, Bool, List, length};
-    ghost use Rattle.checkout_book.specs.Waitings.{NoneBelow};
+    ghost use Rattle.std.specs.Prelude.{Bool, List};
+    ghost use Rattle.std.specs.BinaryHeap.{heap_items};
+    ghost use Rattle.checkout_book.specs.Waitings.{IsKept};
 
     ghost Value = { List Bool };
 
     ghost view = { λ s. s.flags.items };
 
-    ghost invariant = { λ s. (length s.flags.items < 2 ^ 32) × (s.next ≤ length s.flags.items)
-        × NoneBelow s.flags.items s.next };
+    ghost invariant = { λ s. IsKept s.flags.items s.next (heap_items s.returned) };
 }
 
 /// The first flag from this place on that is set, or the number of flags.
@@ -42,13 +47,39 @@ fn first_from(flags: &[bool], from: u32) -> u32
     end
 }
 
+/// The lowest of the paths that wait again.
+fn pop_returned(flags: &[bool], next: u32, returned: &mut BinaryHeap<u32>) -> Option<u32>
+    requires { IsKept flags.now next (heap_items returned.old) }
+    ensures none { IfNone result (IsKept flags.now next (heap_items returned.new)
+        × (heap_items returned.new ≡ [])) }
+    ensures some { IfSome result (λ p. (p < next) × IsLowest flags.now p
+        × IsKept (slice_set flags.now p false) next (heap_items returned.new)) }
+{
+    while let Some(key) = returned.pop() {
+        let path = u32::MAX - key;
+        if flags[path as usize] {
+            return Some(path);
+        }
+    }
+    None
+}
+
 impl Waiting {
-    /// These flags, of fewer than 2^32 paths.
-    pub(crate) fn of(flags: Vec<bool>) -> Waiting
+    /// These flags, of fewer than 2^32 paths. It takes room for so many paths that wait again.
+    pub(crate) fn reserve(
+        alloc: Global,
+        flags: Vec<bool>,
+        room: usize,
+    ) -> Result<Waiting, AllocError>
         requires { length flags.items < 2 ^ 32 }
-        ensures { result ≡ flags.items }
+        ensures { IfOk result (λ w. w ≡ flags.items) }
     {
-        Waiting { flags, next: 0 }
+        let returned = BinaryHeap::with_capacity(alloc, room)?;
+        Ok(Waiting {
+            flags,
+            next: 0,
+            returned,
+        })
     }
 
     /// Takes the lowest path that waits, or answers `None` where none does.
@@ -56,6 +87,10 @@ impl Waiting {
         ensures none { IfNone result ((self.new ≡ self.old) × NoneIs self.old) }
         ensures some { IfSome result (λ p. IsLowest self.old p × (self.new ≡ slice_set self.old p false)) }
     {
+        if let Some(path) = pop_returned(self.flags.as_slice(), self.next, &mut self.returned) {
+            self.flags[path as usize] = false;
+            return Some(path);
+        }
         let found = first_from(self.flags.as_slice(), self.next);
         self.next = found;
         if found as usize == self.flags.len() {
@@ -65,14 +100,21 @@ impl Waiting {
         Some(found)
     }
 
-    /// Has the path wait again.
+    /// Has the path wait again. It takes no memory.
     pub(crate) fn put_back(&mut self, path: u32)
         requires { path < length self.old }
         ensures { self.new ≡ slice_set self.old path true }
     {
         self.flags[path as usize] = true;
-        if path < self.next {
-            self.next = path;
+        if path >= self.next {
+            return;
         }
+        let room = self.returned.len() < self.returned.capacity();
+        if room && self.returned.push(u32::MAX - path).is_ok() {
+            return;
+        }
+        // Each path comes back once at most, so there is room. Without it all are looked at again.
+        self.returned.clear();
+        self.next = 0;
     }
 }

@@ -28,11 +28,11 @@ use Rattle.checkout_core.specs.Effects.{after, each, path_after, driver_after, s
 use Rattle.checkout_core.specs.Conditions.{effect_of, claim, claim_at, close_at, heard_opening, replied, replied_state}
 use Rattle.checkout_core.specs.Conditions.{named, list_allowed, list_step, list_at, redo, redo_at, open_at, fail_at}
 use Rattle.checkout_core.specs.Conditions.{answer_in, answer_at, name_in, name_at, shut_in, shut_at}
-use Rattle.checkout_core.specs.Conditions.{hand_back, hand_back_at}
-use Rattle.checkout_core.specs.Verdicts.{refused_cause}
+use Rattle.checkout_core.specs.Conditions.{hand_back, hand_back_at, closing}
+use Rattle.checkout_core.specs.Verdicts.{refused_cause, held_close}
 use Rattle.checkout_core.specs.Steps.{step_of, done, replay}
 use Rattle.checkout_core.specs.Actors.{is_step}
-use Rattle.checkout_core.specs.Hands.{is_held}
+use Rattle.checkout_core.specs.Hands.{is_held, Holds}
 use Rattle.checkout_core.proofs.Basics.{none_is_some, some_is, cond_is, cond_not, given_is, at_path_is, at_driver_is}
 use Rattle.checkout_core.proofs.Basics.{at_both_is, at_session_is, step_is, first_step, same_or, eqb_self, other_number}
 use Rattle.checkout_core.proofs.Basics.{start_after}
@@ -297,3 +297,13 @@ pub shape : (starts : List Start) (workers drivers : ℕ) (history : List Event)
 shape starts workers drivers history x run =
     let t = run_shape (start starts workers drivers) x history run in
     (t.0, t.1 ∙ offs_length drivers, t.2 ∙ paths_length starts)
+
+pub held_closes : (c : Core) (p a : ℕ) (raw : Option FilterCause) (o : Own) (v : Verdict) → Holds c p a raw
+    → held_close raw o ≡ Some v → is_step c (Close p a o) ≡ true
+held_closes c p a raw o v h may =
+    let effect : effect_of c (Close p a o) ≡ Some (Moves p (Closed v)) =
+        ap (λ (x : Option Path). elim x as (λ _. Option Effect) [ None ↦ None | Some r ↦ close_at c p a o r r.state ])
+        h.1
+        ∙ (ap (close_at c p a o h.0) h.2
+        ∙ (ap (λ (b : Bool). cond b (closing p (held_close raw o)) None) (eqb_self a) ∙ ap (closing p) may)) in
+    ap (λ (x : Option Effect). elim (done c x) as (λ _. Bool) [ None ↦ false | Some x ↦ true ]) effect

@@ -1,4 +1,4 @@
-use Rattle.std.proofs.Common.{◌≡◌, ℕ, true, inr, Some, refl, sym, ap, ◌∙◌, subst}
+use Rattle.std.proofs.Common.{◌≡◌, ℕ, true, inr, sym, ◌∙◌, subst}
 use Rattle.turn_lock.specs.History.{Follows}
 use Rattle.checkout_core.specs.Actors.{is_step}
 use Rattle.checkout_core.specs.declared.event.Event.TheVariants.{Close}
@@ -37,9 +37,12 @@ leave-requires-clause-inside g c =
     let v = c.enter-value.result.value in
     let f = c.enter-value.ensures.fits r.0 r.3.seat.told in
     let w = c.a_turn_keeps_a_seat.ensures _ r.0 _ r.1 (history_of (tell see) v) c.args.pass.now c.enter-value.new.seat r.3.seat c.enter-value.ensures.inside in
-    let parts = tell see c.args.card.blob c.args.card.leaf in
-    (history_of (tell see) v, w.place, subst (λ k. Follows k (history_of (tell see) v) (history_of (tell see) c.close.new.self)) (c.number-actor.ensures ∙ sym w.number)
-        (inr (close_entry c.args.card.path c.number-actor.result c.args.own parts, close_grown see c.a_close_closes_its_path.ensures c.number-actor.result c.args.card.path c.args.own c.args.card.blob c.args.card.leaf v c.close.new.self c.close.ensures.turned f.1)))
+    let parts = tell see c.args.card.blob c.args.card.leaf in (
+      history_of (tell see) v,
+      w.place,
+      subst (λ k. Follows k (history_of (tell see) v) (history_of (tell see) c.close.new.self)) (c.number-actor.ensures ∙ sym w.number)
+          (inr (close_entry c.args.card.path c.number-actor.result c.args.own parts, close_grown see c.a_close_closes_its_path.ensures c.number-actor.result c.args.card.path c.args.own c.args.card.blob c.args.card.leaf v c.close.new.self c.close.ensures.turned f.1)),
+    )
 
 pub leave-requires-clause-fits : goal.leave-requires-clause-fits
 leave-requires-clause-fits g c =
@@ -57,7 +60,7 @@ returns g c d made core pass =
     let f = c.enter-value.ensures.fits d pass.seat.told in
     let t = went see c.a_turn_keeps_a_seat.ensures _ d _ made c.args.pass.now c.enter-value.new.seat c.leave.new.seat core v c.close.new.self pass c.enter-value.ensures.inside c.leave.ensures f.0 f.1 c.close.ensures.sound c.enter-value.ensures.mine c.enter-value.ensures.begins in
     closed see c.own_entries_tell_what_is_in_hand.ensures c.a_close_closes_its_path.ensures _ d _ made c.args.pass.now c.leave.new.seat core v c.close.new.self c.args.card.path c.args.own c.args.card.blob c.args.card.leaf t
-        (subst (λ (k : ℕ). Turned (Close c.args.card.path k c.args.own) c.args.card.path (Ended c.args.card.blob c.args.card.leaf) v c.close.new.self) c.number-actor.ensures c.close.ensures.turned)
+    (subst (λ (k : ℕ). Turned (Close c.args.card.path k c.args.own) c.args.card.path (Ended c.args.card.blob c.args.card.leaf) v c.close.new.self) c.number-actor.ensures c.close.ensures.turned)
 
 pub close-requires-clause-sound : goal.close-requires-clause-sound
 close-requires-clause-sound g c = let r = c.requires in (c.enter-value.ensures.fits r.0 r.3.seat.told).1

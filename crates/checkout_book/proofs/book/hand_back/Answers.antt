@@ -1,4 +1,4 @@
-use Rattle.std.proofs.Common.{◌≡◌, ℕ, true, inr, Some, refl, sym, ap, ◌∙◌, subst}
+use Rattle.std.proofs.Common.{◌≡◌, true, inr, Some, refl, sym, ap, ◌∙◌, subst}
 use Rattle.std.specs.Prelude.{is_some}
 use Rattle.turn_lock.specs.History.{Follows}
 use Rattle.turn_lock.specs.Seat.{number_of}
@@ -41,9 +41,12 @@ leave-requires-clause-inside g c =
     let v = c.enter-value.result.value in
     let f = c.enter-value.ensures.fits r.0 r.3.seat.told in
     let w = c.a_turn_keeps_a_seat.ensures _ r.0 _ r.1 (history_of (tell see) v) c.args.pass.now c.enter-value.new.seat r.3.seat c.enter-value.ensures.inside in
-    let by = subst (λ (x : Plan g.row.B.Denot g.row.L.Denot). actor_of x.starts.items x.workers (HandBack c.args.card.path) ≡ Some (number_of c.args.pass.now)) (sym f.0) r.4 in
-    (history_of (tell see) v, w.place, subst (λ k. Follows k (history_of (tell see) v) (history_of (tell see) c.hand_back.new.self)) (sym w.number)
-        (inr (note_entry (HandBack c.args.card.path), back_grown see c.a_path_that_is_handed_back_waits.ensures _ c.args.card v c.hand_back.new.self c.hand_back.ensures.turned f.1 by)))
+    let by = subst (λ (x : Plan g.row.B.Denot g.row.L.Denot). actor_of x.starts.items x.workers (HandBack c.args.card.path) ≡ Some (number_of c.args.pass.now)) (sym f.0) r.4 in (
+      history_of (tell see) v,
+      w.place,
+      subst (λ k. Follows k (history_of (tell see) v) (history_of (tell see) c.hand_back.new.self)) (sym w.number)
+          (inr (note_entry (HandBack c.args.card.path), back_grown see c.a_path_that_is_handed_back_waits.ensures _ c.args.card v c.hand_back.new.self c.hand_back.ensures.turned f.1 by)),
+    )
 
 pub leave-requires-clause-fits : goal.leave-requires-clause-fits
 leave-requires-clause-fits g c =

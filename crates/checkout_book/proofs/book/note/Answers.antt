@@ -1,4 +1,4 @@
-use Rattle.std.proofs.Common.{◌≡◌, ℕ, true, inr, Some, refl, sym, ap, ◌∙◌, subst}
+use Rattle.std.proofs.Common.{◌≡◌, true, inr, Some, sym, ap, ◌∙◌, subst}
 use Rattle.std.specs.Prelude.{is_some}
 use Rattle.turn_lock.specs.History.{Follows}
 use Rattle.turn_lock.specs.Seat.{number_of}
@@ -33,9 +33,12 @@ leave-requires-clause-inside g c =
     let v = c.enter-value.result.value in
     let f = c.enter-value.ensures.fits r.0 r.3.seat.told in
     let w = c.a_turn_keeps_a_seat.ensures _ r.0 _ r.1 (history_of (tell see) v) c.args.pass.now c.enter-value.new.seat r.3.seat c.enter-value.ensures.inside in
-    let by = subst (λ (x : Plan g.row.B.Denot g.row.L.Denot). actor_of x.starts.items x.workers c.args.event ≡ Some (number_of c.args.pass.now)) (sym f.0) r.5 in
-    (history_of (tell see) v, w.place, subst (λ k. Follows k (history_of (tell see) v) (history_of (tell see) c.note.new.self)) (sym w.number)
-        (inr (note_entry c.args.event, note_grown see _ c.args.event v c.note.new.self c.note.ensures.noted r.4 by)))
+    let by = subst (λ (x : Plan g.row.B.Denot g.row.L.Denot). actor_of x.starts.items x.workers c.args.event ≡ Some (number_of c.args.pass.now)) (sym f.0) r.5 in (
+      history_of (tell see) v,
+      w.place,
+      subst (λ k. Follows k (history_of (tell see) v) (history_of (tell see) c.note.new.self)) (sym w.number)
+          (inr (note_entry c.args.event, note_grown see _ c.args.event v c.note.new.self c.note.ensures.noted r.4 by)),
+    )
 
 pub leave-requires-clause-fits : goal.leave-requires-clause-fits
 leave-requires-clause-fits g c =

@@ -1,4 +1,3 @@
-use Rattle.std.proofs.Common.{◌≡◌, ℕ}
 use Rattle.checkout_book.specs.Sights.{sight}
 use Rattle.checkout_book.proofs.Finishing.{seats_of, finished}
 use Rattle.checkout_book.proofs.reserving.finish.Goals as goal

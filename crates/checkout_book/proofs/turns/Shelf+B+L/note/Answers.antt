@@ -1,12 +1,8 @@
-use Rattle.std.proofs.Common.{◌≡◌, ℕ, ◌<◌, ◌≤◌, ◌+◌, List, [], ◌∷◌, ◌++◌, set, length, Bool, true, false, Some, refl, sym, ap, ◌∙◌, subst}
+use Rattle.std.proofs.Common.{ℕ, sym, subst}
 use Rattle.std.proofs.Common.{arith}
-use Rattle.std.specs.Prelude.{slice_get}
 use Rattle.std.specs.Vec.{vec_capacity}
-use Rattle.checkout_core.specs.declared.event.Event.TheVariants.{Claim, Close, HandBack}
-use Rattle.checkout_book.specs.declared.shelf.Slot.TheVariants.{Away, Waits, Ended}
-use Rattle.checkout_book.specs.Shelves.{plan_of, cards_of, Sound}
+use Rattle.checkout_book.specs.Shelves.{plan_of, Sound}
 use Rattle.checkout_book.specs.Sights.{sight}
-use Rattle.checkout_book.proofs.Lists.{past_none}
 use Rattle.checkout_book.proofs.Sounding.{note_sound, has_room}
 use Rattle.checkout_book.proofs.turns.Shelf+B+L.note.Goals as goal
 

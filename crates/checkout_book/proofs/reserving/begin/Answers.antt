@@ -1,16 +1,14 @@
-use Rattle.std.proofs.Common.{◌≡◌, ◌<◌, ◌≤◌, ◌*◌, ◌+◌, ◌++◌, ◌∷◌, [], ℕ, List, Some, length, All, refl, sym, ap, ◌∙◌, subst, arith}
+use Rattle.std.proofs.Common.{◌≡◌, ◌+◌, ℕ, length, refl, ap, ◌∙◌, subst, arith}
 use Rattle.std.specs.Prelude.{slice_get}
-use Rattle.turn_lock.specs.Seat.{SeatView, seen_of}
 use Rattle.turn_lock.specs.Seats.{AreSeats}
 use Rattle.checkout_core.specs.States.{start}
 use Rattle.checkout_book.specs.declared.plan.Plan.{Plan}
-use Rattle.checkout_book.specs.declared.plan.Entry.{Entry}
 use Rattle.checkout_book.specs.Sights.{sight}
 use Rattle.checkout_book.specs.Reserving.{aways, placed}
 use Rattle.checkout_book.proofs.Lists.{past_none}
 use Rattle.checkout_book.proofs.Flags.{flags_length}
 use Rattle.checkout_book.proofs.Finishing.{aways_length, placed_length, begins_at, idle_new, fresh_seats, ok_three}
-use Rattle.checkout_book.proofs.reserving.reserve.Goals as goal
+use Rattle.checkout_book.proofs.reserving.begin.Goals as goal
 
 pub start-requires-clause-below : goal.start-requires-clause-below
 start-requires-clause-below g c p d required at =
@@ -23,8 +21,8 @@ place-slots-requires g c k card at =
     let lt = past_none c.args.starts.items card.path _ (c.requires.pool.there k card at) in
     omega (arith, lt, ap length c.in_ok-slots.ensures, aways_length g.row.B.Denot g.row.L.Denot c.len-paths.result, c.len-paths.ensures, c.args.starts.ok.0)
 
-pub of-requires : goal.of-requires
-of-requires g c =
+pub reserve-requires : goal.reserve-requires
+reserve-requires g c =
     let n : c.len-paths.result ≡ length c.args.starts.items = omega (arith, c.len-paths.ensures, c.args.starts.ok.0) in
     let len : length c.place-slots.result.items ≡ c.len-paths.result = ap length c.place-slots.ensures ∙ (placed_length c.in_ok-slots.slots.items c.args.pool.items ∙ (ap length c.in_ok-slots.ensures ∙ aways_length g.row.B.Denot g.row.L.Denot c.len-paths.result)) in
     omega (arith, ap length c.in_ok-flags.ensures, flags_length c.as_slice.result.now, ap length c.as_slice.ensures.value, len, n, c.requires.few_paths)
@@ -39,11 +37,12 @@ make-requires-clause-fits g c =
     let n : c.len-paths.result ≡ length c.args.starts.items = omega (arith, c.len-paths.ensures, c.args.starts.ok.0) in
     let laid : c.place-slots.result.items ≡ placed (aways (length c.args.starts.items)) c.args.pool.items = c.place-slots.ensures ∙ ap (λ l. placed l c.args.pool.items) (c.in_ok-slots.ensures ∙ ap aways n) in
     let len : length c.place-slots.result.items ≡ length c.args.starts.items = ap length laid ∙ (placed_length (aways (length c.args.starts.items)) c.args.pool.items ∙ aways_length g.row.B.Denot g.row.L.Denot (length c.args.starts.items)) in
-    let flags = c.of.ensures ∙ (c.in_ok-flags.ensures ∙ ap (λ l. Rattle.std.specs.Prelude.map (λ x. Rattle.checkout_book.specs.Shelves.waits x) l) c.as_slice.ensures.value) in
-    (refl,
+    let flags = c.in_ok-waiting.ensures ∙ (c.in_ok-flags.ensures ∙ ap (λ l. Rattle.std.specs.Prelude.map (λ x. Rattle.checkout_book.specs.Shelves.waits x) l) c.as_slice.ensures.value) in (
+      refl,
       begins_at (sight g.B.Blob.told g.B.Blob.seen g.L.Leaf.seen) d _ _ _ _ _ _ (λ i. record { pool = p i; desks = k i; starts = s i; workers = c.args.workers; drivers = dr i }) c.requires.below c.requires.pool c.requires.new
-        (omega (arith, c.in_ok-events.ensures.capacity, n)) (c.in_ok-core.ensures ∙ ap (λ m. start c.args.starts.items c.args.workers m) dr) c.in_ok-events.ensures.items laid flags,
-      (c.in_ok-parts.ensures.items, omega (arith, c.in_ok-parts.ensures.capacity, len, n)))
+          (omega (arith, c.in_ok-events.ensures.capacity, n)) (c.in_ok-core.ensures ∙ ap (λ m. start c.args.starts.items c.args.workers m) dr) c.in_ok-events.ensures.items laid flags,
+      (c.in_ok-parts.ensures.items, omega (arith, c.in_ok-parts.ensures.capacity, len, n)),
+    )
 
 pub returns-clause-passes : goal.returns-clause-passes
 returns-clause-passes g c =
@@ -56,7 +55,7 @@ returns-clause-passes g c =
     let dr : c.len-drivers.result ≡ length c.args.desks.now.items = omega (arith, c.len-drivers.ensures, c.args.desks.now.ok.0, c.requires.few_desks) in
     let is : record { pool = c.of-told.result.value; desks = c.of-kept.result.value; starts = c.of-begun.result.value; workers = c.args.workers; drivers = c.len-drivers.result } ≡ d = (λ i. record { pool = p i; desks = k i; starts = s i; workers = c.args.workers; drivers = dr i }) in
     ok_three _ _ _ _ c.make.result (λ r count seats unseen. idle_new r.0 d 0 (c.args.workers + length c.args.desks.now.items) r.1.items
-        (subst (λ (n : ℕ). AreSeats r.0 d 0 (c.args.workers + n) r.1.items) dr (subst (λ (x : Plan B L). AreSeats r.0 x 0 (c.args.workers + c.len-drivers.result) r.1.items) is seats)) unseen (omega (arith, count, dr))) c.make.ensures.count c.make.ensures.seats c.make.ensures.unseen
+    (subst (λ (n : ℕ). AreSeats r.0 d 0 (c.args.workers + n) r.1.items) dr (subst (λ (x : Plan B L). AreSeats r.0 x 0 (c.args.workers + c.len-drivers.result) r.1.items) is seats)) unseen (omega (arith, count, dr))) c.make.ensures.count c.make.ensures.seats c.make.ensures.unseen
 
 pub returns-clause-fresh : goal.returns-clause-fresh
 returns-clause-fresh g c =
