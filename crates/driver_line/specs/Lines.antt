@@ -224,3 +224,12 @@ pub record IsListedTable (old new : Table) : Type 0 where
   pub names : new.names ≡ old.names
   pub size : length new.places ≡ length old.places
   pub pending : (p : ℕ) → is_pending (slice_get new.places p) ≡ is_pending (slice_get old.places p)
+
+-- whether a session is open, as a number
+abbrev pub weight : Option SessionSeen → ℕ
+weight None = 0
+weight (Some s) = 1
+
+-- the starts that were had, the one of the open session with them
+abbrev pub starts_of : LineView → ℕ
+starts_of v = length v.starter.had + weight v.session

@@ -1,4 +1,4 @@
-ghost use Rattle.std.specs.Prelude.{map, IsTrue, IsSome, ◌↔◌, ◌≡◌, ◌≢◌, ◌≤◌, ◌<◌, ◌^◌, ℕ, Bool, true, false, Option, Some, None, List, [], length};
+ghost use Rattle.std.specs.Prelude.{map, IsTrue, IsSome, ◌↔◌, ◌≡◌, ◌≢◌, ◌≤◌, ◌<◌, ◌+◌, ◌^◌, ℕ, Bool, true, false, Option, Some, None, List, [], length};
 ghost use Rattle.filter_words.specs.Requests.{first_text, second_text};
 ghost use Rattle.edge_kit.specs.declared.leaf_state.LeafState.TheVariants as state;
 ghost use Rattle.filter_proto.specs.Wires.{SessionSeen};
@@ -6,7 +6,7 @@ ghost use Rattle.filter_proto.specs.Replies.{standing_after, IsKept, TouchesNot}
 ghost use Rattle.driver_line.specs.Conversations.{Exchange, First, Second, Listing, Shutting};
 ghost use Rattle.driver_line.specs.Lines.{LineView, Paths, Says, IsEnded, OpenIs, IsOpen, IsLeafAfter, MayReply};
 ghost use Rattle.driver_line.specs.Lines.{HasAnswered, SessionAfter, GoesOn, NamesAre, IsLive, list_standing};
-ghost use Rattle.driver_line.specs.Lines.{late_in, names_in, AreDelayed, IsListedTable};
+ghost use Rattle.driver_line.specs.Lines.{late_in, names_in, AreDelayed, IsListedTable, starts_of};
 
 use checkout_core::OpenCause;
 use delay_table::DelayTable;
@@ -59,6 +59,7 @@ impl<S: Starter> Line<S> {
     pub fn finish(&mut self)
         ensures ended { (s : SessionSeen) → self.old.session ≡ Some s → IsEnded self.old.starter s.wire s.standing self.new }
         ensures none { self.new.session ≡ None }
+        ensures starts { starts_of self.new ≤ starts_of self.old }
     {
         if let Some(session) = self.session.take() {
             let link = session.shut();
@@ -74,6 +75,7 @@ impl<S: Starter> Line<S> {
         requires few { length self.old.starter.had < 2 ^ 32 }
         ensures says { (p : ℕ) → (e : Exchange) × OpenIs p result e × ((paths : Paths) → Says paths self.old e self.new) }
         ensures session { SessionAfter result self.new.session }
+        ensures starts { starts_of self.new ≤ starts_of self.old + 1 }
     {
         match self.starter.start() {
             Ok(link) => match Session::begin(self.alloc, link) {
@@ -134,6 +136,7 @@ impl<S: Starter> Line<S> {
         ensures touches { TouchesNot result.reply (L.seen leaf.old) (L.seen leaf.new) result.put }
         ensures goes { (s : SessionSeen) → self.old.session ≡ Some s → GoesOn s (standing_after result.reply) self.new.session }
         ensures may { (s : SessionSeen) → self.old.session ≡ Some s → MayReply s.caps.delay result.reply }
+        ensures starts { starts_of self.new ≤ starts_of self.old }
     {
         let Some(session) = &mut self.session else {
             unreachable!()
@@ -157,6 +160,7 @@ impl<S: Starter> Line<S> {
         ensures touches { TouchesNot result.reply (L.seen leaf.old) (L.seen leaf.new) result.put }
         ensures goes { (s : SessionSeen) → self.old.session ≡ Some s → GoesOn s (standing_after result.reply) self.new.session }
         ensures may { MayReply false result.reply }
+        ensures starts { starts_of self.new ≤ starts_of self.old }
     {
         let Some(session) = &mut self.session else {
             unreachable!()
@@ -180,6 +184,7 @@ impl<S: Starter> Line<S> {
         ensures names { (known : List ℕ) → AreDelayed known numbers.now table.old → NamesAre known (names_in numbers.now table.new.turns result) result }
         ensures goes { (s : SessionSeen) → self.old.session ≡ Some s → GoesOn s (list_standing result) self.new.session }
         ensures table { IsListedTable table.old table.new }
+        ensures starts { starts_of self.new ≤ starts_of self.old }
     {
         let Some(session) = &mut self.session else {
             unreachable!()
