@@ -19,7 +19,7 @@ use Rattle.driver_line.proofs.Told.{grown_both}
 use Rattle.filter_proto.specs.Wires.{SessionSeen}
 use Rattle.driver_line.specs.Conversations.{Exchange, NoStart, NoRoom, Opening, First, Listing, Second, Shutting}
 use Rattle.driver_line.specs.Lines.{LineView, Paths, Says, RunsTo, IsEnded, IsFresh, IsOpenedLine, started}
-use Rattle.driver_line.specs.Transcripts.{Spoken, FitsCounts, AllFit, is_fine, all_fine, break_of, IsOpenedSession, IsFailedSession, IsSession, Matches}
+use Rattle.driver_line.specs.Transcripts.{Spoken, FitsCounts, AllFit, is_fine, all_fine, break_of, IsOpenedSession, IsFailedSession, IsSession, Matches, HasItems}
 use Rattle.driver_line.proofs.Spoken.{SpokenFrom, stops_good}
 use Rattle.driver_line.proofs.Effects.{Goes, Finishes, effect}
 
@@ -98,12 +98,6 @@ opened_session paths start wire caps es seen fresh o h counts shut = record {
   counts = counts;
   shut = shut;
 }
-
--- the items of a run
-pub record HasItems (paths : Paths) (v : LineView) (es : List Exchange) (w : LineView) : Type 0 where
-  pub items : List Had
-  pub had : w.starter.had ≡ v.starter.had ++ items
-  pub matches : Matches paths es items
 
 one_more : (a b c : List Had) (h : Had) (hs : List Had) → b ≡ a ++ h ∷ [] → c ≡ b ++ hs → c ≡ a ++ h ∷ hs
 one_more a b c h hs e i = i ∙ (ap (λ (x : List Had). x ++ hs) e ∙ append_assoc a (h ∷ []) hs)

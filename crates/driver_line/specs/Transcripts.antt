@@ -25,7 +25,7 @@ use Rattle.checkout_core.specs.Talks.{talk_run, IsOver}
 use Rattle.driver_line.specs.Conversations.{notes_in, Exchange, NoStart, NoRoom, Opening, First, Listing, Second, Shutting}
 use Rattle.filter_proto.specs.Wires.{Wire}
 use Rattle.filter_proto.specs.Openings.{IsOpening}
-use Rattle.driver_line.specs.Lines.{Paths, HasContent, ListIs, IsFresh}
+use Rattle.driver_line.specs.Lines.{LineView, Paths, HasContent, ListIs, IsFresh}
 
 -- how the reading of an answer stops, where these taken bytes stand behind its packets
 abbrev pub StopsAt : {P G : Type 0} → AnswerState P G → List ℕ → Ends G → Type 0
@@ -160,3 +160,9 @@ pub record IsTalk (d : ℕ) (paths : Paths) (asked : List ℕ) (items : List Had
   pub end : Talk
   pub goes : talk_run d (Between asked) (notes_in d exchanges) ≡ Some end
   pub over : IsOver end
+
+-- A run of a line that ends with no session open spells the items by which what its starter keeps grew.
+pub record HasItems (paths : Paths) (v : LineView) (es : List Exchange) (w : LineView) : Type 0 where
+  pub items : List Had
+  pub had : w.starter.had ≡ v.starter.had ++ items
+  pub matches : Matches paths es items

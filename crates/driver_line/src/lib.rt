@@ -4,6 +4,8 @@
 //! one that can be asked.
 #![tactic(auto)]
 
+mod laws;
 mod line;
 
+pub use laws::exchanges_are_spelled;
 pub use line::{Line, Start};
