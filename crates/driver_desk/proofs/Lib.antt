@@ -1,0 +1,4 @@
+pub mod Serves
+pub mod RoundSteps
+pub mod LateCards
+pub mod CardLists

@@ -1,0 +1,326 @@
+-- One more exchange of a desk.
+use Rattle.std.proofs.Common.{◌≡◌, ◌==◌, ◌⊎◌, inl, inr, ℕ, ◌<◌, ◌≤◌, Bool, true, false, cond, List, [], ◌∷◌, ◌++◌, Option, Some, None, Result, Ok, Err, refl, sym, ap, subst, ◌∙◌, append_assoc, eq-eqb}
+use Rattle.std.specs.Prelude.{not, ◌&&◌, map, IsTrue, IsSome, ◌↔◌}
+use Rattle.std.proofs.lemmas.List.{append-nil}
+use Rattle.filter_words.specs.declared.reply.Caps.{Caps}
+use Rattle.filter_words.specs.declared.reply.Reply.{Reply}
+use Rattle.filter_words.specs.declared.reply.Reply.TheVariants as reply
+use Rattle.checkout_core.specs.declared.event.Event.{Event}
+use Rattle.checkout_core.specs.declared.event.Event.TheVariants as event
+use Rattle.checkout_core.specs.declared.event.OpenCause.{OpenCause}
+use Rattle.checkout_core.specs.declared.event.OpenCause.TheVariants as opening
+use Rattle.checkout_core.specs.Conditions.{is_path_break, is_good_opening, is_good_reply, is_delay}
+use Rattle.checkout_core.specs.declared.verdict.Own.{Own}
+use Rattle.checkout_core.specs.Talks.{Talk, Round, Between, Refusing, InRound, Ended, talk_step, talk_next, is_with, is_empty, answered}
+use Rattle.filter_proto.specs.Wires.{Wire}
+use Rattle.filter_proto.specs.Exchanges.{Ends, Good, Broke, OutOfMemory}
+use Rattle.filter_proto.specs.Wires.{SessionSeen}
+use Rattle.edge_kit.specs.Seen.{LeafSeen}
+use Rattle.filter_proto.specs.Replies.{standing_after}
+use Rattle.filter_proto.specs.declared.session.Standing.{Standing}
+use Rattle.filter_proto.specs.declared.session.Standing.TheVariants as standing
+use Rattle.driver_line.specs.declared.line.Start.{Start}
+use Rattle.driver_line.specs.declared.line.Start.TheVariants as starts
+use Rattle.checkout_core.specs.Talks.{talk_run}
+use Rattle.driver_line.specs.Conversations.{Exchange, NoStart, NoRoom, Opening, First, Listing, Second, Shutting, notes_of, notes_in, opening_note}
+use Rattle.driver_line.specs.Lines.{LineView, Paths, Says, RunsTo, OpenIs, IsOpen, IsEnded, After, MayReply, SessionAfter, GoesOn}
+use Rattle.driver_desk.specs.Rounds.{LateSeen, paths_of}
+use Rattle.driver_desk.specs.Works.{WorkSeen, FitsWork, FitAll, asked_of, asked_in}
+use Rattle.driver_desk.specs.Serving.{Given, Noted, Closed, HandedBack, noted_of, noted_in, ends_card, IsClosing, AreClosings, Serves, talk_in, talk_now, newest, IsSane, is_abort, late_after}
+
+pub runs_more : (paths : Paths) (a b c : LineView) (es : List Exchange) (e : Exchange) → RunsTo paths a es b → Says paths b e c → RunsTo paths a (es ++ e ∷ []) c
+runs_more paths a b c [] e r s = (c, subst (λ (x : LineView). Says paths x e c) (sym r) s, refl)
+runs_more paths a b c (f ∷ es) e r s = (r.0, r.1, runs_more paths r.0 b c es e r.2 s)
+
+pub notes_more : (d : ℕ) (es : List Exchange) (e : Exchange) → notes_in d (es ++ e ∷ []) ≡ notes_in d es ++ notes_of d e
+notes_more d [] e = append-nil (notes_of d e)
+notes_more d (f ∷ es) e = ap (λ (x : List Event). notes_of d f ++ x) (notes_more d es e) ∙ sym (append_assoc (notes_of d f) (notes_in d es) (notes_of d e))
+
+pub noted_more : (a b : List Given) → noted_in (a ++ b) ≡ noted_in a ++ noted_in b
+noted_more [] b = refl
+noted_more (g ∷ gs) b = ap (λ (x : List Event). noted_of g ++ x) (noted_more gs b) ∙ sym (append_assoc (noted_of g) (noted_in gs) (noted_in b))
+
+none_some : {A B : Type 0} (x : A) → None ≡ Some x → B
+none_some x e = absurd (cc)
+
+talk_step_more : (d : ℕ) (t u : Talk) (e : Event) (es b : List Event) (o : Option Talk) → talk_step d t e ≡ o → ((v : Talk) → talk_run d v es ≡ Some u → talk_run d v (es ++ b) ≡ talk_run d u b)
+    → elim o [ None ↦ None | Some v ↦ talk_run d v es ] ≡ Some u → elim o [ None ↦ None | Some v ↦ talk_run d v (es ++ b) ] ≡ talk_run d u b
+talk_step_more d t u e es b None i more k = none_some u k
+talk_step_more d t u e es b (Some v) i more k = more v k
+
+pub talk_more : (d : ℕ) (t u : Talk) (a b : List Event) → talk_run d t a ≡ Some u → talk_run d t (a ++ b) ≡ talk_run d u b
+talk_more d t u [] b h = let same : t ≡ u = cc in rw same refl
+talk_more d t u (e ∷ es) b h = talk_step_more d t u e es b (talk_step d t e) refl (λ v k. talk_more d v u es b k) h
+
+-- an exchange, with its notes and any closings
+pub serves_more : (d : ℕ) (paths : Paths) (line0 : LineView) (given0 : List Given) (asked ahead asked1 ahead1 : List ℕ) (line line1 : LineView) (given given1 new : List Given) (aborted aborted1 : Bool) (late late1 : List ℕ) (e : Exchange)
+    → Serves d paths line0 given0 asked ahead line given aborted late → Says paths line e line1 → given1 ≡ given ++ new → noted_in new ≡ notes_of d e → asked ++ ahead ≡ asked1 ++ ahead1
+    → ((rest : List ℕ) → talk_run d (talk_now line.session aborted late (ahead ++ rest)) (notes_of d e) ≡ Some (talk_now line1.session aborted1 late1 (ahead1 ++ rest)))
+    → Serves d paths line0 given0 asked1 ahead1 line1 given1 aborted1 late1
+serves_more d paths line0 given0 asked ahead asked1 ahead1 line line1 given given1 new aborted aborted1 late late1 e s says g n same moves = record {
+  exchanges = s.exchanges ++ e ∷ [];
+  more = s.more ++ new;
+  runs = runs_more paths line0 line line1 s.exchanges e s.runs says;
+  given_is = g ∙ (ap (λ (x : List Given). x ++ new) s.given_is ∙ append_assoc given0 s.more new);
+  noted = noted_more s.more new ∙ (ap (λ (x : List Event). x ++ noted_in new) s.noted ∙ (ap (λ (x : List Event). notes_in d s.exchanges ++ x) n ∙ sym (notes_more d s.exchanges e)));
+  talk = λ rest.
+    ap (λ (x : List Event). talk_run d (Between (asked1 ++ (ahead1 ++ rest))) x) (notes_more d s.exchanges e)
+    ∙ (talk_more d (Between (asked1 ++ (ahead1 ++ rest))) (talk_now line.session aborted late (ahead ++ rest)) (notes_in d s.exchanges) (notes_of d e) (ap (λ (x : List ℕ). talk_run d (Between x) (notes_in d s.exchanges)) (sym (append_assoc asked1 ahead1 rest) ∙ (ap (λ (x : List ℕ). x ++ rest) (sym same) ∙ append_assoc asked ahead rest)) ∙ s.talk rest) ∙ moves rest);
+}
+
+-- closings alone
+pub serves_closed : (d : ℕ) (paths : Paths) (line0 : LineView) (given0 : List Given) (asked ahead : List ℕ) (line : LineView) (given given1 new : List Given) (aborted : Bool) (late : List ℕ)
+    → Serves d paths line0 given0 asked ahead line given aborted late → given1 ≡ given ++ new → noted_in new ≡ [] → Serves d paths line0 given0 asked ahead line given1 aborted late
+serves_closed d paths line0 given0 asked ahead line given given1 new aborted late s g n = record {
+  exchanges = s.exchanges; more = s.more ++ new; runs = s.runs; talk = s.talk;
+  given_is = g ∙ (ap (λ (x : List Given). x ++ new) s.given_is ∙ append_assoc given0 s.more new);
+  noted = noted_more s.more new ∙ (ap (λ (x : List Event). noted_in s.more ++ x) n ∙ (append-nil (noted_in s.more) ∙ s.noted));
+}
+
+-- the path that comes next is named
+pub serves_ahead : (d : ℕ) (paths : Paths) (line0 : LineView) (given0 : List Given) (asked : List ℕ) (p : ℕ) (line : LineView) (given : List Given) (aborted : Bool) (late : List ℕ)
+    → Serves d paths line0 given0 asked [] line given aborted late → Serves d paths line0 given0 asked (p ∷ []) line given aborted late
+serves_ahead d paths line0 given0 asked p line given aborted late s = record {
+  exchanges = s.exchanges; more = s.more; runs = s.runs; given_is = s.given_is; noted = s.noted;
+  talk = λ rest. s.talk (p ∷ rest);
+}
+
+-- a path that isn't asked for: the driver answered `abort`, or has no smudge
+pub serves_past : (d : ℕ) (paths : Paths) (line0 : LineView) (given0 : List Given) (asked : List ℕ) (p : ℕ) (line : LineView) (given : List Given) (aborted : Bool) (late : List ℕ)
+    → ((rest : List ℕ) → talk_now line.session aborted late (p ∷ rest) ≡ talk_now line.session aborted late rest)
+    → Serves d paths line0 given0 asked (p ∷ []) line given aborted late → Serves d paths line0 given0 (asked ++ p ∷ []) [] line given aborted late
+serves_past d paths line0 given0 asked p line given aborted late stays s = record {
+  exchanges = s.exchanges; more = s.more; runs = s.runs; given_is = s.given_is; noted = s.noted;
+  talk = λ rest. ap (λ (x : List ℕ). talk_run d (Between x) (notes_in d s.exchanges)) (append_assoc asked (p ∷ []) rest) ∙ (s.talk rest ∙ ap Some (stays rest));
+}
+
+-- openings
+
+self : (p : ℕ) → (p == p) ≡ true
+self p = eq-eqb p p refl
+
+
+pub step_is : (d : ℕ) (t u : Talk) (e : Event) → is_with d e ≡ true → talk_next t e ≡ Some u → talk_step d t e ≡ Some u
+step_is d t u e own h = ap (λ (b : Bool). cond b (talk_next t e) None) own ∙ h
+
+pub one_step : (d : ℕ) (t u : Talk) (e : Event) → is_with d e ≡ true → talk_next t e ≡ Some u → talk_run d t (e ∷ []) ≡ Some u
+one_step d t u e own h = ap (λ (o : Option Talk). elim o [ None ↦ None | Some v ↦ Some v ]) (step_is d t u e own h)
+
+given_true : (b : Bool) (x : Option Talk) → b ≡ true → cond b x None ≡ x
+given_true b x e = rw e refl
+
+and_true : (a b : Bool) → a ≡ true → b ≡ true → (a && b) ≡ true
+and_true a b e i = rw (e, i) refl
+
+pub opened_moves : (d p : ℕ) (rest : List ℕ) (caps : Caps) (s : SessionSeen) → s.caps ≡ caps → talk_run d (talk_now None false [] (p ∷ rest)) (event.Opened d caps ∷ []) ≡ Some (talk_now (Some s) false [] (p ∷ rest))
+opened_moves d p rest caps s e = one_step d (Between (p ∷ rest)) _ (event.Opened d caps) (self d) (rw e refl)
+
+pub refused_moves : (d : ℕ) (p : ℕ) (rest : List ℕ) (o : OpenCause) → is_good_opening o ≡ true → talk_run d (talk_now None false [] (p ∷ rest)) (event.OpenFailed p o ∷ []) ≡ Some (talk_now None false [] rest)
+refused_moves d p rest o good = one_step d (Between (p ∷ rest)) (Between rest) (event.OpenFailed p o) refl (given_true _ _ (and_true _ _ (self p) good))
+
+-- a session was opened for the path that comes next
+pub opened : (d : ℕ) (paths : Paths) (line0 : LineView) (given0 : List Given) (asked : List ℕ) (p : ℕ) (line line1 : LineView) (given given1 : List Given) (caps : Caps) (e : Exchange)
+    → line.session ≡ None → OpenIs p (starts.Live caps) e → Says paths line e line1 → SessionAfter (starts.Live caps) line1.session → given1 ≡ given ++ Noted (event.Opened d caps) ∷ []
+    → Serves d paths line0 given0 asked (p ∷ []) line given false [] → Serves d paths line0 given0 asked (p ∷ []) line1 given1 false []
+opened d paths line0 given0 asked p line line1 given given1 caps e none is says there g s =
+    serves_more d paths line0 given0 asked (p ∷ []) asked (p ∷ []) line line1 given given1 (Noted (event.Opened d caps) ∷ []) false false [] [] (Opening p (Good caps)) s
+      (subst (λ (x : Exchange). Says paths line x line1) is says) g refl refl (λ rest. rw (none, there.1) (opened_moves d p rest caps there.0 there.3))
+
+past_open : (d : ℕ) (paths : Paths) (line0 : LineView) (given0 : List Given) (asked : List ℕ) (p : ℕ) (line line1 : LineView) (given given1 : List Given) (o : OpenCause) (e : Exchange)
+    → line.session ≡ None → notes_of d e ≡ event.OpenFailed p o ∷ [] → is_good_opening o ≡ true → Says paths line e line1 → line1.session ≡ None → given1 ≡ given ++ Noted (event.OpenFailed p o) ∷ []
+    → Serves d paths line0 given0 asked (p ∷ []) line given false [] → Serves d paths line0 given0 (asked ++ p ∷ []) [] line1 given1 false []
+past_open d paths line0 given0 asked p line line1 given given1 o e none is good says there g s =
+    serves_more d paths line0 given0 asked (p ∷ []) (asked ++ p ∷ []) [] line line1 given given1 (Noted (event.OpenFailed p o) ∷ []) false false [] [] e s
+      says g (sym is) (sym (append-nil (asked ++ p ∷ []))) (λ rest. rw (none, there, is) (refused_moves d p rest o good))
+
+pub not_opened : (d : ℕ) (paths : Paths) (line0 : LineView) (given0 : List Given) (asked : List ℕ) (p : ℕ) (line line1 : LineView) (given given1 : List Given) (o : OpenCause) (e : Exchange)
+    → line.session ≡ None → OpenIs p (starts.Failed o) e → Says paths line e line1 → line1.session ≡ None → given1 ≡ given ++ Noted (event.OpenFailed p o) ∷ []
+    → Serves d paths line0 given0 asked (p ∷ []) line given false [] → Serves d paths line0 given0 (asked ++ p ∷ []) [] line1 given1 false []
+not_opened d paths line0 given0 asked p line line1 given given1 opening.NotStarted e none is says there g s =
+    past_open d paths line0 given0 asked p line line1 given given1 opening.NotStarted e none (ap (notes_of d) is) refl says there g s
+not_opened d paths line0 given0 asked p line line1 given given1 (opening.Broken c) e none is says there g s =
+    past_open d paths line0 given0 asked p line line1 given given1 (opening.Broken c) e none (ap (notes_of d) is.0) is.1 says there g s
+not_opened d paths line0 given0 asked p line line1 given given1 opening.NoMemory e none (inl is) says there g s =
+    past_open d paths line0 given0 asked p line line1 given given1 opening.NoMemory e none (ap (notes_of d) is) refl says there g s
+not_opened d paths line0 given0 asked p line line1 given given1 opening.NoMemory e none (inr is) says there g s =
+    past_open d paths line0 given0 asked p line line1 given given1 opening.NoMemory e none (ap (notes_of d) is) refl says there g s
+
+-- first requests
+
+abbrev pub round_at : Bool → Bool → List ℕ → List ℕ → Round
+round_at delay had late rest = record { delay = delay; any_delayed = had; noting_list = false; rest = rest; late = late; turns = [] }
+
+step_first : (d : ℕ) (delay had : Bool) (late rest : List ℕ) (p : ℕ) (y : Reply) → is_good_reply y ≡ true → not (is_delay y && not delay) ≡ true
+    → talk_run d (InRound (round_at delay had late (p ∷ rest))) (event.Answered p y ∷ []) ≡ Some (answered (round_at delay had late (p ∷ rest)) p rest y)
+step_first d delay had late rest p y good late_ok = one_step d (InRound (round_at delay had late (p ∷ rest))) (answered (round_at delay had late (p ∷ rest)) p rest y) (event.Answered p y) refl (given_true _ _ (and_true _ _ (self p) (and_true _ _ good late_ok)))
+
+with_smudge : (s : SessionSeen) (late rest : List ℕ) → s.caps.smudge ≡ true → talk_in s late rest ≡ InRound (round_at s.caps.delay (not (is_empty late)) late rest)
+with_smudge s late rest smudge = ap (λ (b : Bool). cond b (InRound (round_at s.caps.delay (not (is_empty late)) late rest)) Refusing) smudge
+
+first_in : (d : ℕ) (p : ℕ) (rest : List ℕ) (s : SessionSeen) (late : List ℕ) (y : Reply) (t : Talk) → s.caps.smudge ≡ true → is_good_reply y ≡ true → not (is_delay y && not s.caps.delay) ≡ true → answered (round_at s.caps.delay (not (is_empty late)) late (p ∷ rest)) p rest y ≡ t
+    → talk_run d (talk_in s late (p ∷ rest)) (event.Answered p y ∷ []) ≡ Some t
+first_in d p rest s late y t smudge good late_ok is = ap (λ (x : Talk). talk_run d x (event.Answered p y ∷ [])) (with_smudge s late (p ∷ rest) smudge) ∙ (step_first d s.caps.delay (not (is_empty late)) late rest p y good late_ok ∙ ap Some is)
+
+goes_in : (s : SessionSeen) (session1 : Option SessionSeen) (late rest : List ℕ) → s.caps.smudge ≡ true → GoesOn s standing.Live session1 → InRound (round_at s.caps.delay (not (is_empty late)) late rest) ≡ talk_now session1 false late rest
+goes_in s session1 late rest smudge goes = sym (ap (λ (o : Option SessionSeen). talk_now o false late rest) goes.1 ∙ with_smudge (record { wire = goes.0; caps = s.caps; standing = standing.Live }) late rest smudge)
+
+goes_none : (session1 : Option SessionSeen) (late rest : List ℕ) → session1 ≡ None → Between rest ≡ talk_now session1 false late rest
+goes_none session1 late rest goes = sym (ap (λ (o : Option SessionSeen). talk_now o false late rest) goes)
+
+pub first_moves : (d : ℕ) (p : ℕ) (rest : List ℕ) (s : SessionSeen) (late : List ℕ) (r : Reply) (session1 : Option SessionSeen) → s.caps.smudge ≡ true → MayReply s.caps.delay r → GoesOn s (standing_after r) session1
+    → talk_run d (talk_now (Some s) false late (p ∷ rest)) (event.Answered p r ∷ []) ≡ Some (talk_now session1 (is_abort r) (late_after p r late) rest)
+first_moves d p rest s late reply.Content session1 smudge may goes = first_in d p rest s late reply.Content _ smudge refl refl (goes_in s session1 late rest smudge goes)
+first_moves d p rest s late reply.Error session1 smudge may goes = first_in d p rest s late reply.Error _ smudge refl refl (goes_in s session1 late rest smudge goes)
+first_moves d p rest s late reply.ErrorAfter session1 smudge may goes = first_in d p rest s late reply.ErrorAfter _ smudge refl refl (goes_in s session1 late rest smudge goes)
+first_moves d p rest s late reply.Delayed session1 smudge may goes = first_in d p rest s late reply.Delayed _ smudge refl (ap (λ (b : Bool). not (not b)) may) (goes_in s session1 (p ∷ late) rest smudge goes)
+first_moves d p rest s late reply.Abort session1 smudge may goes = first_in d p rest s late reply.Abort Ended smudge refl refl refl
+first_moves d p rest s late (reply.Broken c) session1 smudge may goes = first_in d p rest s late (reply.Broken c) _ smudge may refl (goes_none session1 [] rest goes)
+first_moves d p rest s late reply.NoMemory session1 smudge may goes = first_in d p rest s late reply.NoMemory _ smudge refl refl (goes_none session1 [] rest goes)
+
+pub asked_first : (d : ℕ) (paths : Paths) (line0 : LineView) (given0 : List Given) (asked : List ℕ) (p : ℕ) (line line1 : LineView) (given given1 : List Given) (s : SessionSeen) (late : List ℕ) (r : Reply) (content : List ℕ)
+    → line.session ≡ Some s → s.caps.smudge ≡ true → MayReply s.caps.delay r → GoesOn s (standing_after r) line1.session → Says paths line (First p r content) line1 → given1 ≡ given ++ Noted (event.Answered p r) ∷ []
+    → Serves d paths line0 given0 asked (p ∷ []) line given false late → Serves d paths line0 given0 (asked ++ p ∷ []) [] line1 given1 (is_abort r) (late_after p r late)
+asked_first d paths line0 given0 asked p line line1 given given1 s late r content is smudge may goes says g h =
+    serves_more d paths line0 given0 asked (p ∷ []) (asked ++ p ∷ []) [] line line1 given given1 (Noted (event.Answered p r) ∷ []) false (is_abort r) late (late_after p r late) (First p r content) h
+      says g refl (sym (append-nil (asked ++ p ∷ []))) (λ rest. rw is (first_moves d p rest s late r line1.session smudge may goes))
+
+-- closings
+not_noted : (g : Given) → ends_card g ≡ true → noted_in (g ∷ []) ≡ []
+not_noted (Noted e) h = absurd (cc h)
+not_noted (Closed own card) h = refl
+not_noted (HandedBack card) h = refl
+
+pub closed_one : (a b c : List Given) → AreClosings a b → IsClosing b c → AreClosings a c
+closed_one a b c h k = (h.0 ++ k.0 ∷ [], k.1 ∙ (ap (λ (x : List Given). x ++ k.0 ∷ []) h.1 ∙ append_assoc a h.0 (k.0 ∷ [])), noted_more h.0 (k.0 ∷ []) ∙ (ap (λ (x : List Event). x ++ noted_in (k.0 ∷ [])) h.2 ∙ not_noted k.0 k.2))
+
+pub closed_all : (a b c : List Given) → AreClosings a b → AreClosings b c → AreClosings a c
+closed_all a b c h k = (h.0 ++ k.0, k.1 ∙ (ap (λ (x : List Given). x ++ k.0) h.1 ∙ append_assoc a h.0 k.0), noted_more h.0 k.0 ∙ (ap (λ (x : List Event). x ++ noted_in k.0) h.2 ∙ k.2))
+
+pub closing : (a b : List Given) → IsClosing a b → AreClosings a b
+closing a b k = (k.0 ∷ [], k.1, not_noted k.0 k.2)
+
+pub no_closing : (a b : List Given) → b ≡ a → AreClosings a b
+no_closing a b e = ([], e ∙ sym (append-nil a), refl)
+
+pub newest_push : (ps : List ℕ) (p : ℕ) → newest (ps ++ p ∷ []) ≡ p ∷ newest ps
+newest_push [] p = refl
+newest_push (q ∷ ps) p = ap (λ (x : List ℕ). x ++ q ∷ []) (newest_push ps p)
+
+open_some : (session : Option SessionSeen) → IsOpen session → (s : SessionSeen) × (session ≡ Some s) × (s.standing ≡ standing.Live) × (s.caps.smudge ≡ true)
+open_some None h = absurd h
+open_some (Some s) h = (s, refl, h.0, h.1)
+
+-- a card that was asked for, and what came after
+pub asked_card : (d : ℕ) (paths : Paths) (line0 : LineView) (given0 : List Given) (asked : List ℕ) (p : ℕ) (line line1 : LineView) (given given1 given2 : List Given) (late late1 : List ℕ) (r : Reply) (content : List ℕ) (b : Bool)
+    → IsOpen line.session → ((s : SessionSeen) → line.session ≡ Some s → MayReply s.caps.delay r) → ((s : SessionSeen) → line.session ≡ Some s → GoesOn s (standing_after r) line1.session)
+    → Says paths line (First p r content) line1 → given1 ≡ given ++ Noted (event.Answered p r) ∷ []
+    → (more : List Given) × (given2 ≡ given1 ++ more) × (noted_in more ≡ []) → b ≡ is_abort r → late1 ≡ late_after p r late
+    → Serves d paths line0 given0 asked (p ∷ []) line given false late → Serves d paths line0 given0 (asked ++ p ∷ []) [] line1 given2 b late1
+asked_card d paths line0 given0 asked p line line1 given given1 given2 late late1 r content b ready may goes says g more ab l h =
+    let o = open_some line.session ready in
+    rw (ab, l) (serves_closed d paths line0 given0 (asked ++ p ∷ []) [] line1 given1 given2 more.0 (is_abort r) (late_after p r late)
+      (asked_first d paths line0 given0 asked p line line1 given given1 o.0 late r content o.1 o.3 (may o.0 o.1) (goes o.0 o.1) says g h) more.1 more.2)
+
+sane_as : (z : Standing) (s : SessionSeen) (p : ℕ) (r : Reply) (late : List ℕ) (session1 : Option SessionSeen) → standing_after r ≡ z → GoesOn s z session1 → IsSane session1 (late_after p r late)
+sane_as z s p r late None is goes = none z r is goes
+  where
+    none : (z : Standing) (r : Reply) → standing_after r ≡ z → GoesOn s z None → late_after p r late ≡ []
+    none standing.Live r is goes = absurd (cc (goes.1))
+    none standing.Aborted reply.Abort is goes = refl
+    none standing.Aborted reply.Content is goes = absurd (cc)
+    none standing.Aborted reply.Error is goes = absurd (cc)
+    none standing.Aborted reply.ErrorAfter is goes = absurd (cc)
+    none standing.Aborted reply.Delayed is goes = absurd (cc)
+    none standing.Aborted (reply.Broken c) is goes = refl
+    none standing.Aborted reply.NoMemory is goes = refl
+    none standing.Over reply.Abort is goes = refl
+    none standing.Over reply.Content is goes = absurd (cc)
+    none standing.Over reply.Error is goes = absurd (cc)
+    none standing.Over reply.ErrorAfter is goes = absurd (cc)
+    none standing.Over reply.Delayed is goes = absurd (cc)
+    none standing.Over (reply.Broken c) is goes = refl
+    none standing.Over reply.NoMemory is goes = refl
+sane_as standing.Live s p r late (Some t) is goes = let same : t ≡ record { wire = goes.0; caps = s.caps; standing = standing.Live } = cc in ap (λ (x : SessionSeen). x.standing) same
+sane_as standing.Aborted s p r late (Some t) is goes = absurd (cc)
+sane_as standing.Over s p r late (Some t) is goes = absurd (cc)
+
+pub asked_sane : (session session1 : Option SessionSeen) (p : ℕ) (r : Reply) (late late1 : List ℕ) → IsOpen session → ((s : SessionSeen) → session ≡ Some s → GoesOn s (standing_after r) session1) → late1 ≡ late_after p r late → IsSane session1 late1
+asked_sane session session1 p r late late1 ready goes l =
+    let o = open_some session ready in
+    rw l (sane_as (standing_after r) o.0 p r late session1 refl (goes o.0 o.1))
+
+map_push : {A : Type 0} (f : A → ℕ) (xs : List A) (x : A) → map f (xs ++ x ∷ []) ≡ map f xs ++ f x ∷ []
+map_push f [] x = refl
+map_push f (y ∷ ys) x = ap (λ (z : List ℕ). f y ∷ z) (map_push f ys x)
+
+pub newest_map : {A : Type 0} (f : A → ℕ) (xs : List A) (x : A) → newest (map f (xs ++ x ∷ [])) ≡ f x ∷ newest (map f xs)
+newest_map f xs x = ap newest (map_push f xs x) ∙ newest_push (map f xs) (f x)
+
+pub is_none : (session : Option SessionSeen) → (IsTrue false ↔ IsSome session) → session ≡ None
+is_none None h = refl
+is_none (Some s) h = absurd (cc (h.1 refl))
+
+pub late_none : (session : Option SessionSeen) (names : List ℕ) → session ≡ None → IsSane session names → names ≡ []
+late_none None names e h = h
+late_none (Some s) names e h = absurd (cc)
+
+-- a session without smudge refuses the path that comes next too
+pub past_smudge : (p : ℕ) (session : Option SessionSeen) (late : List ℕ) → (session ≡ None → ⊥) → ((s : SessionSeen) → session ≡ Some s → s.caps.smudge ≡ false) → (rest : List ℕ) → talk_now session false late (p ∷ rest) ≡ talk_now session false late rest
+past_smudge p None late there smudge rest = absurd (there refl)
+past_smudge p (Some s) late there smudge rest = rw (smudge s refl) refl
+
+pub open_ready : (session : Option SessionSeen) (late : List ℕ) → (session ≡ None → ⊥) → IsSane session late → ((s : SessionSeen) → session ≡ Some s → s.caps.smudge ≡ true) → IsOpen session
+open_ready None late there sane smudge = absurd (there refl)
+open_ready (Some s) late there sane smudge = (sane, smudge s refl)
+
+-- a card that is not asked for, with its closing
+pub work_past : (d : ℕ) (paths : Paths) (line0 : LineView) (given0 : List Given) (asked : List ℕ) (p : ℕ) (content : Result (List ℕ) Own) (line : LineView) (given given1 : List Given) (aborted : Bool) (late : List ℕ)
+    → aborted ≡ true → (more : List Given) × (given1 ≡ given ++ more) × (noted_in more ≡ [])
+    → Serves d paths line0 given0 asked [] line given aborted late → Serves d paths line0 given0 (asked ++ asked_of p content) [] line given1 true late
+work_past d paths line0 given0 asked p (Ok content) line given given1 aborted late ab more s =
+    serves_past d paths line0 given0 asked p line given1 true late (λ rest. refl)
+      (serves_ahead d paths line0 given0 asked p line given1 true late (serves_closed d paths line0 given0 asked [] line given given1 more.0 true late (rw ab at s) more.1 more.2))
+work_past d paths line0 given0 asked p (Err own) line given given1 aborted late ab more s =
+    rw (append-nil asked) (serves_closed d paths line0 given0 asked [] line given given1 more.0 true late (rw ab at s) more.1 more.2)
+
+pub work_failed : (d : ℕ) (paths : Paths) (line0 : LineView) (given0 : List Given) (asked : List ℕ) (p : ℕ) (content : Result (List ℕ) Own) (own : Own) (line : LineView) (given given1 : List Given) (aborted : Bool) (late : List ℕ)
+    → content ≡ Err own → (more : List Given) × (given1 ≡ given ++ more) × (noted_in more ≡ [])
+    → Serves d paths line0 given0 asked [] line given aborted late → Serves d paths line0 given0 (asked ++ asked_of p content) [] line given1 aborted late
+work_failed d paths line0 given0 asked p content own line given given1 aborted late is more s =
+    rw (is, append-nil asked) (serves_closed d paths line0 given0 asked [] line given given1 more.0 aborted late s more.1 more.2)
+
+-- cards in order
+
+fit_front : (paths : Paths) (done : List WorkSeen) (w : WorkSeen) → FitAll paths (done ++ w ∷ []) → FitAll paths done × FitsWork paths w
+fit_front paths [] w h = (tt, h.0)
+fit_front paths (v ∷ vs) w h = let k = fit_front paths vs w h.1 in ((h.0, k.0), k.1)
+
+pub fit_done : (paths : Paths) (done : List WorkSeen) (w : WorkSeen) → FitAll paths (done ++ w ∷ []) → FitAll paths done × FitsWork paths w
+fit_done paths done w h = fit_front paths done w h
+
+pub asked_more : (asked : List ℕ) (done : List WorkSeen) (w : WorkSeen) → (asked ++ asked_in done) ++ asked_of w.card.path w.content ≡ asked ++ asked_in (done ++ w ∷ [])
+asked_more asked done w = append_assoc asked (asked_in done) (asked_of w.card.path w.content) ∙ ap (λ (x : List ℕ). asked ++ x) (go done)
+  where
+    go : (ws : List WorkSeen) → asked_in ws ++ asked_of w.card.path w.content ≡ asked_in (ws ++ w ∷ [])
+    go [] = sym (append-nil (asked_of w.card.path w.content))
+    go (v ∷ vs) = append_assoc (asked_of v.card.path v.content) (asked_in vs) (asked_of w.card.path w.content) ∙ ap (λ (x : List ℕ). asked_of v.card.path v.content ++ x) (go vs)
+
+pub serves_asked : (d : ℕ) (paths : Paths) (line0 : LineView) (given0 : List Given) (asked asked1 ahead : List ℕ) (line : LineView) (given : List Given) (aborted : Bool) (late : List ℕ)
+    → asked ≡ asked1 → Serves d paths line0 given0 asked ahead line given aborted late → Serves d paths line0 given0 asked1 ahead line given aborted late
+serves_asked d paths line0 given0 asked asked1 ahead line given aborted late e s = subst (λ (x : List ℕ). Serves d paths line0 given0 x ahead line given aborted late) e s
+
+pub asked_done : (session session1 : Option SessionSeen) (r : Reply) → IsOpen session → ((s : SessionSeen) → session ≡ Some s → GoesOn s (standing_after r) session1) → is_abort r ≡ true → session1 ≡ None
+asked_done session session1 reply.Abort ready goes e = let o = open_some session ready in goes o.0 o.1
+asked_done session session1 reply.Content ready goes e = absurd (cc e)
+asked_done session session1 reply.Error ready goes e = absurd (cc e)
+asked_done session session1 reply.ErrorAfter ready goes e = absurd (cc e)
+asked_done session session1 reply.Delayed ready goes e = absurd (cc e)
+asked_done session session1 (reply.Broken c) ready goes e = absurd (cc e)
+asked_done session session1 reply.NoMemory ready goes e = absurd (cc e)
+
+pub newest_card : (cs : List LateSeen) (c : LateSeen) → newest (paths_of (cs ++ c ∷ [])) ≡ c.path ∷ newest (paths_of cs)
+newest_card cs c = ap newest (push cs) ∙ newest_push (paths_of cs) c.path
+  where
+    push : (xs : List LateSeen) → paths_of (xs ++ c ∷ []) ≡ paths_of xs ++ c.path ∷ []
+    push [] = refl
+    push (x ∷ xs) = ap (λ (ps : List ℕ). x.path ∷ ps) (push xs)

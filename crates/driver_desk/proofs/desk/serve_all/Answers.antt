@@ -1,0 +1,69 @@
+use Rattle.std.proofs.Common.{◌≡◌, ◌∷◌, ◌++◌, [], List, map, refl, ap, sym, subst, ◌∙◌, ◌+◌, ◌≤◌, arith, ℕ, length, false}
+use Rattle.std.proofs.lemmas.List.{append-nil}
+use Rattle.edge_kit.specs.declared.leaf_state.LeafState.TheVariants.{Fresh}
+use Rattle.convert_plan.specs.Card.{CardSeen, card_seen}
+use Rattle.convert_plan.specs.declared.card.Card.{Card}
+use Rattle.driver_line.specs.Lines.{LineView, Paths}
+use Rattle.driver_desk.specs.Late.{cards_of}
+use Rattle.driver_desk.specs.Rounds.{LateSeen, late_seen, paths_of, AreReady, AreApart, FitTexts}
+use Rattle.driver_desk.specs.Works.{WorkSeen, card_paths}
+use Rattle.driver_desk.specs.Serving.{newest}
+use Rattle.driver_desk.proofs.Serves.{fit_done, asked_more, serves_asked}
+use Rattle.driver_desk.proofs.RoundSteps.{grows_ready, grows_apart, grows_fits, apart_first}
+use Rattle.driver_desk.proofs.CardLists.{all_next, here_is, read_push, len_push, place_below, new_next, new_ready, text_of, sane_none, serves_late}
+use Rattle.driver_desk.proofs.desk.serve_all.Goals as goal
+
+pub loop-card-init : goal.loop-card-init
+loop-card-init g c = record {
+  starts = omega arith;
+  sane = sane_none _ _ c.requires.none (ap (λ (x : List LateSeen). newest (paths_of x)) c.requires.empty);
+  done = λ e. absurd (cc e);
+  new = c.requires.new;
+  ready = subst AreReady (sym c.requires.empty) tt;
+  apart = subst (λ (x : List LateSeen). AreApart (paths_of x ++ card_paths (map (λ (k : Card g.row.B.Denot g.row.L.Denot). card_seen g.B.Blob.told g.B.Blob.seen g.L.Leaf.seen k) c.args.cards.items))) (sym c.requires.empty) (subst AreApart c.requires.numbers c.requires.apart);
+  names = (refl, refl);
+  turns = λ e. e;
+  idle = c.requires.idle;
+  serves = ([], refl, refl, tt,
+    (λ paths line0 given0 asked fit s. serves_late _ _ _ _ _ _ _ _ [] _ (sym (ap (λ (x : List LateSeen). newest (paths_of x)) c.requires.empty)) (serves_asked _ _ _ _ asked (asked ++ []) [] _ _ _ _ (sym (append-nil asked)) s)),
+    λ paths fit. subst (λ (x : List LateSeen). FitTexts paths x) (sym c.requires.empty) tt);
+}
+
+pub serve_one-aborted-requires-clause-here : goal.serve_one-aborted-requires-clause-here
+serve_one-aborted-requires-clause-here g c κs within =
+    let h = c.loop-card.invariant in
+    here_is _ _ h.serves.0 _ _ ((λ (k : Card g.row.B.Denot g.row.L.Denot). card_seen g.B.Blob.told g.B.Blob.seen g.L.Leaf.seen k) c.in-Some.card) c.loop-card.place (h.names.1 ∙ c.requires.numbers) h.serves.1 (ap (map (λ (k : Card g.row.B.Denot g.row.L.Denot). card_seen g.B.Blob.told g.B.Blob.seen g.L.Leaf.seen k)) c.in-Some.ensures.items) h.serves.2
+
+pub overflow_add-place : goal.overflow_add-place
+overflow_add-place g c =
+    let h = c.loop-card.invariant in
+    let lt : c.loop-card.place + 1 ≤ length c.args.cards.items = place_below (λ (k : Card g.row.B.Denot g.row.L.Denot). card_seen g.B.Blob.told g.B.Blob.seen g.L.Leaf.seen k) _ _ _ _ h.serves.0 c.loop-card.place h.serves.1 c.in-Some.ensures.items h.serves.2 in
+    let most = c.requires.starts in
+    omega (arith, lt, most)
+
+pub loop-card-preserved : goal.loop-card-preserved
+loop-card-preserved g c =
+    let h = c.loop-card.invariant in
+    let e = c.serve_one-aborted.ensures in
+    let w = e.serves.0 in
+    let card : CardSeen = (λ (k : Card g.row.B.Denot g.row.L.Denot). card_seen g.B.Blob.told g.B.Blob.seen g.L.Leaf.seen k) c.in-Some.card in
+    let next : map (λ (k : Card g.row.B.Denot g.row.L.Denot). card_seen g.B.Blob.told g.B.Blob.seen g.L.Leaf.seen k) c.loop-card.cards.items ≡ card ∷ map (λ (k : Card g.row.B.Denot g.row.L.Denot). card_seen g.B.Blob.told g.B.Blob.seen g.L.Leaf.seen k) c.pop_front.new.self.items = ap (map (λ (k : Card g.row.B.Denot g.row.L.Denot). card_seen g.B.Blob.told g.B.Blob.seen g.L.Leaf.seen k)) c.in-Some.ensures.items in
+    let new = new_next _ _ card next h.new in
+    let fewer : length c.loop-card.cards.items ≡ length c.pop_front.new.self.items + 1 = ap (λ (x : List (Card g.row.B.Denot g.row.L.Denot)). length x) c.in-Some.ensures.items ∙ omega arith in
+    let from = h.starts in
+    let more = e.starts in
+    record {
+      starts = omega (arith, from, more, fewer);
+      sane = e.sane;
+      done = e.done;
+      new = new.1;
+      ready = grows_ready _ (late_seen card.path card.text Fresh) _ e.cards (new_ready card new.0) h.ready;
+      apart = grows_apart _ (late_seen card.path card.text Fresh) _ _ _ card e.cards next refl h.apart;
+      names = (e.names.0 ∙ h.names.0, e.names.1 ∙ h.names.1);
+      turns = λ k. e.turns (h.turns k);
+      idle = e.idle;
+      serves = (h.serves.0 ++ w ∷ [], all_next _ h.serves.0 _ _ w card h.serves.1 next e.serves.1, len_push h.serves.0 w c.loop-card.place h.serves.2, read_push h.serves.0 w h.serves.3 e.serves.2,
+        (λ paths line0 given0 asked fit s. let k = fit_done paths h.serves.0 w fit in
+          serves_asked _ _ _ _ _ _ [] _ _ _ _ (asked_more asked h.serves.0 w) (e.serves.3 paths line0 given0 _ k.1 (h.serves.4 paths line0 given0 asked k.0 s))),
+        λ paths fit. let k = fit_done paths h.serves.0 w fit in grows_fits paths _ (late_seen card.path card.text Fresh) _ e.cards (text_of paths w card e.serves.1 k.1) (h.serves.5 paths k.0));
+    }

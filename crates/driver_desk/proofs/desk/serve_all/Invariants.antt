@@ -1,0 +1,31 @@
+use Rattle.std.proofs.Common.{◌≡◌, ◌≤◌, ◌+◌, ◌++◌, ℕ, List, [], map, length, false, true, None}
+use Rattle.convert_plan.specs.Card.{card_seen}
+use Rattle.driver_line.specs.Lines.{LineView, Paths, starts_of}
+use Rattle.driver_desk.specs.Works.{WorkSeen, AreNew, AreRead, FitAll, asked_in, cards_in, card_paths}
+use Rattle.driver_desk.specs.Late.{AreIdle, KeepsNames, StaysUnlisted, cards_of}
+use Rattle.driver_desk.specs.Rounds.{paths_of, AreReady, AreApart, FitTexts}
+use Rattle.driver_desk.specs.Serving.{Given, Serves, newest, IsSane}
+use Rattle.driver_desk.proofs.desk.serve_all.Given as goal
+
+abbrev pub invariant-loop-card : goal.invariant-loop-card
+invariant-loop-card g l = record {
+  starts : starts_of l.line + length l.cards.items ≤ starts_of l.initial.line + length l.initial.cards.items;
+  sane : IsSane l.line.session (newest (paths_of (cards_of l.late)));
+  done : l.aborted ≡ true → l.line.session ≡ None;
+  new : AreNew (map (λ c. card_seen g.B.Blob.told g.B.Blob.seen g.L.Leaf.seen c) l.cards.items);
+  ready : AreReady (cards_of l.late);
+  apart : AreApart (paths_of (cards_of l.late) ++ card_paths (map (λ c. card_seen g.B.Blob.told g.B.Blob.seen g.L.Leaf.seen c) l.cards.items));
+  names : KeepsNames l.initial.late l.late;
+  turns : StaysUnlisted l.initial.late l.late;
+  idle : AreIdle l.place l.late;
+  serves : (works : List WorkSeen)
+    × (map (λ c. card_seen g.B.Blob.told g.B.Blob.seen g.L.Leaf.seen c) l.initial.cards.items ≡ cards_in works ++ map (λ c. card_seen g.B.Blob.told g.B.Blob.seen g.L.Leaf.seen c) l.cards.items)
+    × (length works ≡ l.place) × AreRead works
+    × ((paths : Paths) (line0 : LineView) (given0 : List Given) (asked : List ℕ) → FitAll paths works
+        → Serves l.seat.driver paths line0 given0 asked [] l.initial.line (g.C.Recorder.given l.initial.recorder) false []
+        → Serves l.seat.driver paths line0 given0 (asked ++ asked_in works) [] l.line (g.C.Recorder.given l.recorder) l.aborted (newest (paths_of (cards_of l.late))))
+    × ((paths : Paths) → FitAll paths works → FitTexts paths (cards_of l.late));
+}
+
+abbrev pub decreases-loop-card : goal.decreases-loop-card
+decreases-loop-card g l = length l.cards.items

@@ -1,0 +1,45 @@
+use Rattle.std.proofs.Common.{◌≡◌, ◌⊎◌, inl, inr, ◌<◌, ◌≤◌, ◌+◌, ◌∷◌, ℕ, List, length, refl, ap, sym, subst, ◌∙◌, arith, None}
+use Rattle.delay_table.specs.Table.{Table}
+use Rattle.driver_line.specs.Lines.{LineView, Paths}
+use Rattle.driver_desk.specs.Late.{LateView, cards_of, names_at}
+use Rattle.driver_desk.specs.Rounds.{late_seen, FitTexts, paths_of, RedoneCards, RoundsBy}
+use Rattle.driver_desk.proofs.LateCards.{step_names, taken_length}
+use Rattle.driver_desk.proofs.RoundSteps.{taken_ready, taken_apart, taken_fits, taken_redone, next_open, some_there}
+use Rattle.driver_desk.proofs.rounds.redo_all.Goals as goal
+
+pub redo-requires-clause-fresh : goal.redo-requires-clause-fresh
+redo-requires-clause-fresh g c κs within = (taken_ready _ _ _ _ c.in-Some.ensures.next.4 c.loop-seat.invariant.ready).0.fresh
+
+pub redo-requires-clause-some : goal.redo-requires-clause-some
+redo-requires-clause-some g c κs within = (taken_ready _ _ _ _ c.in-Some.ensures.next.4 c.loop-seat.invariant.ready).0.some
+
+pub redo-requires-clause-few : goal.redo-requires-clause-few
+redo-requires-clause-few g c κs within = (taken_ready _ _ _ _ c.in-Some.ensures.next.4 c.loop-seat.invariant.ready).0.few
+
+pub returns-in_default-clause-fits : goal.returns-in_default-clause-fits
+returns-in_default-clause-fits g c paths fit = subst (λ (v : LateView). FitTexts paths (cards_of v)) (sym c.in_default.ensures.next.1) (c.loop-seat.invariant.fits paths fit)
+
+pub loop-seat-preserved : goal.loop-seat-preserved
+loop-seat-preserved g c =
+    let h = c.loop-seat.invariant in
+    let n = c.in-Some.ensures.next in
+    let taken = n.4 in
+    let names = step_names c.loop-seat.late c.next_listed.new.self n.0 n.1 _ _ _ n.2 n.3 c.next_listed.ensures.numbers taken in
+    let shorter = taken_length _ _ _ _ taken in
+    record {
+      next = c.redo.ensures.next;
+      ready = (taken_ready _ _ _ _ taken h.ready).1;
+      apart = taken_apart _ _ _ _ taken h.apart;
+      fits = λ paths fit. (taken_fits paths _ _ _ _ taken (h.fits paths fit)).1;
+      names = (ap (λ (t : Table). t.names) n.3 ∙ h.names.0, c.next_listed.ensures.numbers ∙ h.names.1);
+      rounds = λ paths line0 given0 asked fit r. c.redo.ensures.rounds paths line0 given0 asked _ (paths_of (cards_of c.loop-seat.late)) _
+        (ap paths.text taken.named ∙ (taken_fits paths _ _ _ _ taken (h.fits paths fit)).0)
+        (subst (λ (x : ℕ). RedoneCards (paths_of (cards_of c.loop-seat.late)) x (paths_of (cards_of c.next_listed.new.self))) (sym taken.named) (taken_redone _ _ _ _ taken h.apart))
+        (subst (λ (x : List ℕ). RoundsBy c.args.seat.driver paths line0 given0 asked c.loop-seat.line.session c.loop-seat.line (g.C.Recorder.given c.loop-seat.recorder) (paths_of (cards_of c.loop-seat.late)) x) names (h.rounds paths line0 given0 asked fit r));
+      shuts = λ none. absurd (some_there _ (rw c.loop-seat-test.true at c.is_open.ensures) (h.shuts none));
+      fewer = inr (fewer_of h.fewer (λ p. ap (λ (v : LateView). length (cards_of v)) p.0) shorter);
+    }
+  where
+    fewer_of : {a b i : ℕ} {P : Type 0} → P ⊎ (b < i) → (P → b ≡ i) → a + 1 ≡ b → a < i
+    fewer_of (inl p) same e = let k = same p in omega (arith, k, e)
+    fewer_of (inr lt) same e = omega (arith, lt, e)

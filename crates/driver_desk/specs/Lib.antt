@@ -1,0 +1,4 @@
+pub mod Works
+pub mod Serving
+pub mod Rounds
+pub mod Late

@@ -1,0 +1,94 @@
+-- How far a desk has come.
+use Rattle.std.specs.Prelude.{◌≡◌, ℕ, Bool, true, false, not, cond, Option, Some, None, List, [], ◌∷◌, ◌++◌}
+use Rattle.checkout_core.specs.declared.event.Event.{Event}
+use Rattle.checkout_core.specs.declared.verdict.Own.{Own}
+use Rattle.checkout_core.specs.Talks.{Talk, Round, Between, Refusing, InRound, Ended, is_empty}
+use Rattle.filter_proto.specs.Wires.{SessionSeen}
+use Rattle.convert_plan.specs.Card.{CardSeen}
+use Rattle.filter_proto.specs.declared.session.Standing.TheVariants as standing
+use Rattle.filter_words.specs.declared.reply.Reply.{Reply}
+use Rattle.filter_words.specs.declared.reply.Reply.TheVariants as reply
+use Rattle.checkout_core.specs.Talks.{talk_run, IsOver}
+use Rattle.driver_line.specs.Conversations.{Exchange, notes_in}
+use Rattle.driver_line.specs.Lines.{LineView, Paths, RunsTo}
+
+-- what a recorder was given
+pub data Given : Type 0 where
+  Noted : (e : Event) → Given
+  Closed : (own : Own) → (card : CardSeen) → Given
+  HandedBack : (card : CardSeen) → Given
+
+abbrev pub noted_of : Given → List Event
+noted_of (Noted e) = e ∷ []
+noted_of (Closed own card) = []
+noted_of (HandedBack card) = []
+
+abbrev pub noted_in : List Given → List Event
+noted_in [] = []
+noted_in (g ∷ gs) = noted_of g ++ noted_in gs
+
+-- a card was closed or handed back
+abbrev pub ends_card : Given → Bool
+ends_card (Noted e) = false
+ends_card (Closed own card) = true
+ends_card (HandedBack card) = true
+
+-- one card more was closed or handed back
+abbrev pub IsClosing : List Given → List Given → Type 0
+IsClosing old new = (g : Given) × (new ≡ old ++ g ∷ []) × (ends_card g ≡ true)
+
+-- cards alone were closed or handed back
+abbrev pub AreClosings : List Given → List Given → Type 0
+AreClosings old new = (more : List Given) × (new ≡ old ++ more) × (noted_in more ≡ [])
+
+-- Exchanges led from one view of the line to another, their notes were given, and over these paths they are a talk that
+-- has come to `t`.
+pub record Talks (d : ℕ) (paths : Paths) (line0 : LineView) (given0 : List Given) (asked : List ℕ) (line : LineView) (given : List Given) (t : Talk) : Type 0 where
+  pub exchanges : List Exchange
+  pub more : List Given
+  pub runs : RunsTo paths line0 exchanges line
+  pub given_is : given ≡ given0 ++ more
+  pub noted : noted_in more ≡ notes_in d exchanges
+  pub talk : talk_run d (Between asked) (notes_in d exchanges) ≡ Some t
+
+-- where the talk is, while cards are served: these are late in the open session, and `rest` is still to come
+abbrev pub talk_in : SessionSeen → List ℕ → List ℕ → Talk
+talk_in s late rest = cond s.caps.smudge (InRound (record { delay = s.caps.delay; any_delayed = not (is_empty late); noting_list = false; rest = rest; late = late; turns = [] })) Refusing
+
+abbrev pub talk_now : Option SessionSeen → Bool → List ℕ → List ℕ → Talk
+talk_now session true late rest = Ended
+talk_now None false late rest = Between rest
+talk_now (Some s) false late rest = talk_in s late rest
+
+-- the same while cards are served: the paths `asked` are through, `ahead` come next, and whatever paths follow
+pub record Serves (d : ℕ) (paths : Paths) (line0 : LineView) (given0 : List Given) (asked ahead : List ℕ) (line : LineView) (given : List Given) (aborted : Bool) (late : List ℕ) : Type 0 where
+  pub exchanges : List Exchange
+  pub more : List Given
+  pub runs : RunsTo paths line0 exchanges line
+  pub given_is : given ≡ given0 ++ more
+  pub noted : noted_in more ≡ notes_in d exchanges
+  pub talk : (rest : List ℕ) → talk_run d (Between (asked ++ (ahead ++ rest))) (notes_in d exchanges) ≡ Some (talk_now line.session aborted late (ahead ++ rest))
+
+-- the paths of cards in the order in which they became late, the newest first
+abbrev pub newest : List ℕ → List ℕ
+newest [] = []
+newest (p ∷ ps) = newest ps ++ p ∷ []
+
+-- an open session can be asked, and without one no card is late
+abbrev pub IsSane : Option SessionSeen → List ℕ → Type 0
+IsSane None late = late ≡ []
+IsSane (Some s) late = s.standing ≡ standing.Live
+
+abbrev pub is_abort : Reply → Bool
+is_abort reply.Abort = true
+is_abort r = false
+
+-- the late paths after the reply to a first request for p
+abbrev pub late_after : ℕ → Reply → List ℕ → List ℕ
+late_after p reply.Content late = late
+late_after p reply.Error late = late
+late_after p reply.ErrorAfter late = late
+late_after p reply.Delayed late = p ∷ late
+late_after p reply.Abort late = []
+late_after p (reply.Broken why) late = []
+late_after p reply.NoMemory late = []

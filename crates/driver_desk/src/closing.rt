@@ -1,0 +1,147 @@
+// What becomes of a card that its driver has told of.
+ghost use Rattle.std.specs.Prelude.{◌≡◌, ◌≢◌, ◌++◌, ◌∷◌, [], List, Err, Bool};
+ghost use Rattle.edge_kit.specs.Files.{IsOpenLeaf};
+ghost use Rattle.edge_kit.specs.declared.leaf_state.LeafState.TheVariants.{Fresh, Broken, Sealed};
+ghost use Rattle.driver_desk.specs.Serving.{Given, IsClosing, noted_in};
+
+use crate::recorder::Recorder;
+use checkout_core::Own;
+use convert_plan::Card;
+use edge_kit::{Blob, Leaf, SendFault};
+
+/// A card with what is known of it until it is closed: whether its content isn't UTF-8, though an encoding is named.
+/// What was prepared stands in `ready`, where the driver isn't required.
+#[derive(Drop)]
+pub(crate) struct Work<B: Blob, L: Leaf> {
+    pub card: Card<B, L>,
+    pub unencoded: bool,
+}
+
+/// The outcome of a leaf that failed, and which holds no file where that can be helped.
+fn write_failed<L: Leaf>(leaf: &mut L) -> Own
+    requires { (L.seen leaf.old).state ≡ Broken }
+    ensures own { result ≡ Own.WriteFailed }
+{
+    let _ = leaf.discard();
+    Own::WriteFailed
+}
+
+/// The outcome of a leaf into which something wasn't put.
+fn put_failed<L: Leaf>(leaf: &mut L, fault: SendFault) -> Own
+    requires usable { fault ≢ SendFault.Failed → IsOpenLeaf (L.seen leaf.old).state }
+    requires broken { fault ≡ SendFault.Failed → (L.seen leaf.old).state ≡ Broken }
+{
+    match fault {
+        SendFault::Failed => write_failed(leaf),
+        SendFault::NoMemory => {
+            let _ = leaf.discard();
+            Own::NoMemory
+        }
+    }
+}
+
+/// The outcome of a leaf that is to hold no file.
+fn drop_leaf<L: Leaf>(leaf: &mut L, unencoded: bool) -> Own
+    requires { IsOpenLeaf (L.seen leaf.old).state }
+{
+    match leaf.discard() {
+        Ok(()) => Own::Fine { unencoded },
+        Err(_) => Own::WriteFailed,
+    }
+}
+
+/// Closes a card, with what befell it. What was prepared for it isn't needed any more.
+fn close<B: Blob, L: Leaf, C: Recorder<B, L>>(mut card: Card<B, L>, recorder: &mut C, own: Own)
+    ensures { IsClosing (C.given recorder.old) (C.given recorder.new) }
+{
+    card.ready = None;
+    recorder.close(card, own);
+}
+
+/// Closes a card whose leaf has its driver's answer.
+pub(crate) fn close_got<B: Blob, L: Leaf, C: Recorder<B, L>>(
+    mut work: Work<B, L>,
+    put: Result<(), SendFault>,
+    recorder: &mut C,
+)
+    requires usable { put ≢ Err SendFault.Failed → IsOpenLeaf (L.seen work.card.leaf).state }
+    requires broken { put ≡ Err SendFault.Failed → (L.seen work.card.leaf).state ≡ Broken }
+    ensures { IsClosing (C.given recorder.old) (C.given recorder.new) }
+{
+    let mark = work.card.mark;
+    let own = match put {
+        Ok(()) => match work.card.leaf.seal(mark) {
+            Ok(()) => Own::Fine {
+                unencoded: work.unencoded,
+            },
+            Err(_) => write_failed(&mut work.card.leaf),
+        },
+        Err(fault) => put_failed(&mut work.card.leaf, fault),
+    };
+    close(work.card, recorder, own);
+}
+
+/// Closes a card whose leaf is to hold no file.
+pub(crate) fn close_empty<B: Blob, L: Leaf, C: Recorder<B, L>>(
+    mut work: Work<B, L>,
+    put: Result<(), SendFault>,
+    recorder: &mut C,
+)
+    requires usable { put ≢ Err SendFault.Failed → IsOpenLeaf (L.seen work.card.leaf).state }
+    requires broken { put ≡ Err SendFault.Failed → (L.seen work.card.leaf).state ≡ Broken }
+    ensures { IsClosing (C.given recorder.old) (C.given recorder.new) }
+{
+    let own = match put {
+        Ok(()) => drop_leaf(&mut work.card.leaf, work.unencoded),
+        Err(fault) => put_failed(&mut work.card.leaf, fault),
+    };
+    close(work.card, recorder, own);
+}
+
+/// Gives a refused card back with a fresh leaf. Where that fails it is closed.
+fn hand_back<B: Blob, L: Leaf, C: Recorder<B, L>>(mut work: Work<B, L>, recorder: &mut C)
+    requires { IsOpenLeaf (L.seen work.card.leaf).state }
+    ensures { IsClosing (C.given recorder.old) (C.given recorder.new) }
+{
+    match work.card.leaf.restart() {
+        Ok(()) => recorder.hand_back(work.card),
+        Err(_) => {
+            let own = write_failed(&mut work.card.leaf);
+            close(work.card, recorder, own);
+        }
+    }
+}
+
+/// Ends a card that its driver refused: one of a required driver is closed, and another one is given back.
+pub(crate) fn refuse<B: Blob, L: Leaf, C: Recorder<B, L>>(
+    work: Work<B, L>,
+    required: bool,
+    put: Result<(), SendFault>,
+    recorder: &mut C,
+)
+    requires usable { put ≢ Err SendFault.Failed → IsOpenLeaf (L.seen work.card.leaf).state }
+    requires broken { put ≡ Err SendFault.Failed → (L.seen work.card.leaf).state ≡ Broken }
+    ensures { IsClosing (C.given recorder.old) (C.given recorder.new) }
+{
+    if required {
+        close_empty(work, put, recorder);
+        return;
+    }
+    match put {
+        Ok(()) => hand_back(work, recorder),
+        Err(_) => close_empty(work, put, recorder),
+    }
+}
+
+/// Closes a card whose object gave no content. What befell the object stays, also where its leaf fails.
+pub(crate) fn close_unread<B: Blob, L: Leaf, C: Recorder<B, L>>(
+    mut card: Card<B, L>,
+    recorder: &mut C,
+    own: Own,
+)
+    requires { (L.seen card.leaf).state ≡ Fresh }
+    ensures { IsClosing (C.given recorder.old) (C.given recorder.new) }
+{
+    let _ = card.leaf.discard();
+    close(card, recorder, own);
+}

@@ -1,0 +1,132 @@
+// The cards that are late: their driver delayed them, and they wait to be listed.
+ghost use Rattle.std.specs.Prelude.{map, ◌≡◌, ◌≤◌, ◌<◌, ◌^◌, ◌++◌, ◌∷◌, [], ℕ, List, Option, Some, None, MatchOption, slice_get, length, true, false, IfOk};
+ghost use Rattle.checkout_core.specs.Talks.{contains};
+ghost use Rattle.std.specs.Option.{option_map};
+ghost use Rattle.delay_table.specs.Table.{with_place, is_pending};
+ghost use Rattle.delay_table.specs.declared.place.Place.TheVariants.{Idle, Delayed, Done};
+ghost use Rattle.filter_proto.specs.Wires.{SessionSeen};
+ghost use Rattle.driver_line.specs.Conversations.{Listing};
+ghost use Rattle.driver_line.specs.Lines.{Paths, Says, GoesOn, NamesAre, IsLive, list_standing, late_in, names_in, number_at};
+ghost use Rattle.driver_desk.specs.Late.{LateView, IsLate, AreIdle, KeepsNames, StaysUnlisted, FitsNames, cards_of};
+ghost use Rattle.driver_desk.specs.Rounds.{LateSeen, late_seen, paths_of, IsTaken};
+
+use crate::closing::Work;
+use delay_table::DelayTable;
+use driver_line::Line;
+use edge_kit::{Blob, Leaf, Starter};
+use filter_words::ListReply;
+use std::marker::Model;
+
+/// The table of a driver's paths, the path of each place, and the card of each place that is delayed or listed.
+#[derive(Drop)]
+pub(crate) struct Late<B: Blob, L: Leaf> {
+    table: DelayTable,
+    numbers: Vec<u32>,
+    slots: Vec<Option<Work<B, L>>>,
+}
+
+impl<B: Blob, L: Leaf> Model for Late<B, L> {
+    ghost use Rattle.std.specs.Prelude.{map};
+    ghost use Rattle.std.specs.Option.{option_map};
+    ghost use Rattle.driver_desk.specs.Late.{LateView, IsLate};
+    ghost use Rattle.driver_desk.specs.Rounds.{late_seen};
+
+    ghost Value = { LateView };
+
+    ghost view = { λ l. record {
+      table = l.table;
+      numbers = l.numbers.items;
+      slots = map (λ o. option_map (λ w. late_seen w.card.path w.card.text (L.seen w.card.leaf).state) o) l.slots.items;
+    } };
+
+    ghost invariant = { λ l. IsLate (record {
+      table = l.table;
+      numbers = l.numbers.items;
+      slots = map (λ o. option_map (λ w. late_seen w.card.path w.card.text (L.seen w.card.leaf).state) o) l.slots.items;
+    }) };
+}
+
+impl<B: Blob, L: Leaf> Late<B, L> {
+    /// Keeps the card of a place, which its driver delayed. No card of a later place is kept.
+    pub fn keep(&mut self, place: u32, work: Work<B, L>)
+        requires here { slice_get self.old.numbers place ≡ Some work.card.path }
+        requires idle { AreIdle place self.old }
+        ensures cards { cards_of self.new
+            ≡ cards_of self.old ++ late_seen work.card.path work.card.text (L.seen work.card.leaf).state ∷ [] }
+        ensures table { self.new.table ≡ with_place place Delayed self.old.table }
+        ensures numbers { self.new.numbers ≡ self.old.numbers }
+    {
+        self.table.delay(place);
+        self.slots[place as usize] = Some(work);
+    }
+
+    /// The path of a place.
+    pub fn number(&self, place: u32) -> u32
+        requires { place < length self.now.numbers }
+        ensures { result ≡ number_at self.now.numbers place }
+    {
+        self.numbers[place as usize]
+    }
+
+    /// The places that the driver listed, in order of listing.
+    pub fn listed(&self) -> &[u32]
+        ensures turns { result.now ≡ self.now.table.turns }
+        ensures within { (p : ℕ) → contains p self.now.table.turns ≡ true → p < length self.now.numbers }
+    {
+        self.table.listed()
+    }
+
+    /// Whether no card is late.
+    pub fn is_empty(&self) -> bool
+        ensures yes { result ≡ true → cards_of self.now ≡ [] }
+        ensures no { result ≡ false → cards_of self.now ≡ [] → ⊥ }
+    {
+        for slot in self.slots.iter() {
+            if slot.is_some() {
+                return false;
+            }
+        }
+        true
+    }
+
+    /// Takes the card of the first place that is listed. `None` comes exactly where none is.
+    pub fn next_listed(&mut self) -> Option<Work<B, L>>
+        ensures next { MatchOption result ((self.old.table.turns ≡ []) × (self.new ≡ self.old))
+            (λ w. (p : ℕ) × (rest : List ℕ) × (self.old.table.turns ≡ p ∷ rest)
+            × (self.new.table ≡ record (with_place p Done self.old.table) { turns = rest })
+            × IsTaken (number_at self.old.numbers p) (cards_of self.old)
+            (late_seen w.card.path w.card.text (L.seen w.card.leaf).state) (cards_of self.new)) }
+        ensures numbers { self.new.numbers ≡ self.old.numbers }
+    {
+        let _ = self.table.listed();
+        let place = self.table.deliver()?;
+        self.slots[place as usize].take()
+    }
+
+    /// Takes the card of the lowest place that is delayed or listed. `None` comes exactly where there is none.
+    pub fn next_late(&mut self) -> Option<Work<B, L>>
+        ensures next { MatchOption result ((cards_of self.old ≡ []) × (cards_of self.new ≡ []))
+            (λ w. (p : ℕ) × IsTaken p (cards_of self.old)
+            (late_seen w.card.path w.card.text (L.seen w.card.leaf).state) (cards_of self.new)) }
+        ensures names { KeepsNames self.old self.new }
+        ensures idle { (q : ℕ) → AreIdle q self.old → AreIdle q self.new }
+        ensures turns { StaysUnlisted self.old self.new }
+    {
+        let place = self.table.rest()?;
+        self.slots[place as usize].take()
+    }
+
+    /// Asks the open session which late paths are ready.
+    pub fn list<S: Starter>(&mut self, line: &mut Line<S>) -> ListReply
+        requires live { IsLive line.old.session }
+        requires none { self.old.table.turns ≡ [] }
+        ensures says { (paths : Paths) → FitsNames paths self.old
+            → Says paths line.old (Listing (late_in self.old.numbers self.old.table.places) (names_in self.old.numbers self.new.table.turns result) result) line.new }
+        ensures names { NamesAre (paths_of (cards_of self.old)) (names_in self.old.numbers self.new.table.turns result) result }
+        ensures goes { (s : SessionSeen) → line.old.session ≡ Some s → GoesOn s (list_standing result) line.new.session }
+        ensures cards { cards_of self.new ≡ cards_of self.old }
+        ensures kept { KeepsNames self.old self.new }
+    {
+        line.list(&mut self.table, &self.numbers)
+    }
+}

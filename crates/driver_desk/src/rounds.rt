@@ -1,0 +1,214 @@
+// Rounds: a list, and a second request for each path that it names.
+ghost use Rattle.std.specs.Prelude.{◌≡◌, ◌≢◌, ◌≤◌, ◌<◌, ◌+◌, ◌∷◌, ◌++◌, [], ℕ, List, Bool, true, false, Option, Some, None, Err, length, map};
+ghost use Rattle.edge_kit.specs.Files.{IsOpenLeaf};
+ghost use Rattle.edge_kit.specs.declared.leaf_state.LeafState.TheVariants.{Fresh, Broken};
+ghost use Rattle.driver_line.specs.Conversations.{list_notes};
+ghost use Rattle.driver_line.specs.Lines.{LineView, Paths, IsOpen, names_in, weight};
+ghost use Rattle.driver_desk.specs.Late.{FitsNames, KeepsNames, cards_of, names_at};
+ghost use Rattle.driver_desk.specs.Rounds.{paths_of, AreReady, AreApart, FitTexts, IsNext, RedoneCards, RoundsBy, TalkOver, TurnsBy};
+ghost use Rattle.driver_desk.specs.Serving.{Given, AreClosings, Serves, IsSane, newest, noted_in};
+
+use crate::closing::{Work, close_empty, close_got, refuse};
+use crate::late::Late;
+use crate::recorder::Recorder;
+use crate::serving::{Seat, close_late};
+use checkout_core::Event;
+use driver_line::Line;
+use edge_kit::{Blob, Leaf, SendFault, Starter};
+use filter_proto::Asked;
+use filter_words::{ListReply, Reply};
+
+/// Notes each path that was listed.
+fn note_names<B: Blob, L: Leaf, C: Recorder<B, L>>(recorder: &mut C, late: &Late<B, L>)
+    ensures { (more : List Given) × (C.given recorder.new ≡ C.given recorder.old ++ more)
+        × (noted_in more ≡ map Event.Named (names_at late.now)) }
+{
+    let places = late.listed();
+    for place in places {
+        recorder.note(Event::Named {
+            path: late.number(*place),
+        });
+    }
+}
+
+/// Notes a list: its names, where it ended with some, and its end.
+fn note_list<B: Blob, L: Leaf, C: Recorder<B, L>>(
+    driver: u32,
+    recorder: &mut C,
+    reply: ListReply,
+    late: &Late<B, L>,
+)
+    ensures { (more : List Given) × (C.given recorder.new ≡ C.given recorder.old ++ more)
+        × (noted_in more ≡ list_notes driver (names_in late.now.numbers late.now.table.turns reply) reply) }
+{
+    match reply {
+        ListReply::Names(_) => {
+            note_names(recorder, late);
+            recorder.note(Event::Listed { driver, reply });
+        }
+        ListReply::Empty | ListReply::Abort | ListReply::Broken(_) | ListReply::NoMemory => {
+            recorder.note(Event::Listed { driver, reply });
+        }
+    }
+}
+
+/// What becomes of a card after the reply to its second request.
+fn after_second<B: Blob, L: Leaf, C: Recorder<B, L>>(
+    seat: Seat,
+    recorder: &mut C,
+    work: Work<B, L>,
+    reply: Reply,
+    put: Result<(), SendFault>,
+)
+    requires usable { put ≢ Err SendFault.Failed → IsOpenLeaf (L.seen work.card.leaf).state }
+    requires broken { put ≡ Err SendFault.Failed → (L.seen work.card.leaf).state ≡ Broken }
+    ensures { AreClosings (C.given recorder.old) (C.given recorder.new) }
+{
+    match reply {
+        Reply::Content => close_got(work, put, recorder),
+        Reply::Error | Reply::ErrorAfter | Reply::Abort | Reply::Broken(_) => {
+            refuse(work, seat.required, put, recorder);
+        }
+        Reply::Delayed | Reply::NoMemory => close_empty(work, put, recorder),
+    }
+}
+
+/// Asks again for the card of a path that was listed.
+fn redo<S: Starter, B: Blob, L: Leaf, C: Recorder<B, L>>(
+    seat: Seat,
+    line: &mut Line<S>,
+    recorder: &mut C,
+    mut work: Work<B, L>,
+)
+    requires open { IsOpen line.old.session }
+    requires fresh { (L.seen work.card.leaf).state ≡ Fresh }
+    requires some { 1 ≤ length work.card.text }
+    requires few { length work.card.text ≤ 4096 }
+    ensures rounds { (paths : Paths) (line0 : LineView) (given0 : List Given) (asked turns cards left : List ℕ)
+        → paths.text work.card.path ≡ work.card.text → RedoneCards cards work.card.path left
+        → RoundsBy seat.driver paths line0 given0 asked line.old.session line.old (C.given recorder.old) cards (work.card.path ∷ turns)
+        → RoundsBy seat.driver paths line0 given0 asked line.new.session line.new (C.given recorder.new) left turns }
+    ensures next { IsNext line.new.session }
+{
+    let path = work.card.path;
+    let lent = &mut work.card;
+    let Asked { reply, put } = line.ask_again(lent.text.as_slice(), &mut lent.leaf);
+    recorder.note(Event::Redone { path, reply });
+    after_second(seat, recorder, work, reply, put);
+}
+
+/// Asks again for the paths that were listed, while the session is open.
+fn redo_all<S: Starter, B: Blob, L: Leaf, C: Recorder<B, L>>(
+    seat: Seat,
+    line: &mut Line<S>,
+    late: &mut Late<B, L>,
+    recorder: &mut C,
+)
+    requires next { IsNext line.old.session }
+    requires ready { AreReady (cards_of late.old) }
+    requires apart { AreApart (paths_of (cards_of late.old)) }
+    ensures rounds { (paths : Paths) (line0 : LineView) (given0 : List Given) (asked : List ℕ) → FitTexts paths (cards_of late.old)
+        → RoundsBy seat.driver paths line0 given0 asked line.old.session line.old (C.given recorder.old) (paths_of (cards_of late.old)) (names_at late.old)
+        → RoundsBy seat.driver paths line0 given0 asked line.new.session line.new (C.given recorder.new) (paths_of (cards_of late.new)) [] }
+    ensures next { IsNext line.new.session }
+    ensures turns { TurnsBy line.new.session late.new.table.turns }
+    ensures ready { AreReady (cards_of late.new) }
+    ensures apart { AreApart (paths_of (cards_of late.new)) }
+    ensures fits { (paths : Paths) → FitTexts paths (cards_of late.old) → FitTexts paths (cards_of late.new) }
+    ensures names { KeepsNames late.old late.new }
+    ensures shuts { line.old.session ≡ None → line.new.session ≡ None }
+    ensures len { length (cards_of late.new) ≤ length (cards_of late.old) }
+    ensures fewer { (line.old.session ≡ None → ⊥) → 0 < length (names_at late.old) → length (cards_of late.new) < length (cards_of late.old) }
+{
+    while line.is_open() {
+        let Some(work) = late.next_listed() else {
+            return;
+        };
+        redo(seat, line, recorder, work);
+    }
+}
+
+/// A round: a list, and a second request for each path that it names.
+fn one_round<S: Starter, B: Blob, L: Leaf, C: Recorder<B, L>>(
+    seat: Seat,
+    line: &mut Line<S>,
+    late: &mut Late<B, L>,
+    recorder: &mut C,
+)
+    requires open { IsOpen line.old.session }
+    requires none { late.old.table.turns ≡ [] }
+    requires ready { AreReady (cards_of late.old) }
+    requires apart { AreApart (paths_of (cards_of late.old)) }
+    ensures rounds { (paths : Paths) (line0 : LineView) (given0 : List Given) (asked : List ℕ) → FitTexts paths (cards_of late.old) → FitsNames paths late.old
+        → RoundsBy seat.driver paths line0 given0 asked line.old.session line.old (C.given recorder.old) (paths_of (cards_of late.old)) []
+        → RoundsBy seat.driver paths line0 given0 asked line.new.session line.new (C.given recorder.new) (paths_of (cards_of late.new)) [] }
+    ensures next { IsNext line.new.session }
+    ensures turns { TurnsBy line.new.session late.new.table.turns }
+    ensures ready { AreReady (cards_of late.new) }
+    ensures apart { AreApart (paths_of (cards_of late.new)) }
+    ensures fits { (paths : Paths) → FitTexts paths (cards_of late.old) → FitTexts paths (cards_of late.new) }
+    ensures names { KeepsNames late.old late.new }
+    ensures fewer { weight line.new.session + length (cards_of late.new) < 1 + length (cards_of late.old) }
+{
+    let reply = late.list(line);
+    note_list(seat.driver, recorder, reply, late);
+    redo_all(seat, line, late, recorder);
+}
+
+/// Rounds, until an empty list, an abort or a break.
+fn rounds<S: Starter, B: Blob, L: Leaf, C: Recorder<B, L>>(
+    seat: Seat,
+    line: &mut Line<S>,
+    late: &mut Late<B, L>,
+    recorder: &mut C,
+)
+    requires open { IsOpen line.old.session }
+    requires none { late.old.table.turns ≡ [] }
+    requires ready { AreReady (cards_of late.old) }
+    requires apart { AreApart (paths_of (cards_of late.old)) }
+    ensures over { (paths : Paths) (line0 : LineView) (given0 : List Given) (asked : List ℕ) → FitTexts paths (cards_of late.old) → FitsNames paths late.old
+        → RoundsBy seat.driver paths line0 given0 asked line.old.session line.old (C.given recorder.old) (paths_of (cards_of late.old)) []
+        → TalkOver seat.driver paths line0 given0 asked line.new (C.given recorder.new) }
+    ensures none { line.new.session ≡ None }
+{
+    while line.is_open() {
+        one_round(seat, line, late, recorder);
+    }
+    close_late(late, recorder);
+}
+
+/// Ends a talk after its last card: with rounds, where some are late.
+pub(crate) fn end_talk<S: Starter, B: Blob, L: Leaf, C: Recorder<B, L>>(
+    seat: Seat,
+    line: &mut Line<S>,
+    late: &mut Late<B, L>,
+    recorder: &mut C,
+)
+    requires sane { IsSane line.old.session (newest (paths_of (cards_of late.old))) }
+    requires none { late.old.table.turns ≡ [] }
+    requires ready { AreReady (cards_of late.old) }
+    requires apart { AreApart (paths_of (cards_of late.old)) }
+    ensures over { (paths : Paths) (line0 : LineView) (given0 : List Given) (asked : List ℕ) → FitTexts paths (cards_of late.old) → FitsNames paths late.old
+        → Serves seat.driver paths line0 given0 asked [] line.old (C.given recorder.old) false (newest (paths_of (cards_of late.old)))
+        → TalkOver seat.driver paths line0 given0 asked line.new (C.given recorder.new) }
+    ensures none { line.new.session ≡ None }
+{
+    if !line.is_open() {
+        return;
+    }
+    if !line.has_smudge() {
+        line.shut();
+        recorder.note(Event::Shut {
+            driver: seat.driver,
+        });
+        return;
+    }
+    if late.is_empty() {
+        line.shut();
+        recorder.note(Event::Shut {
+            driver: seat.driver,
+        });
+        return;
+    }
+    rounds(seat, line, late, recorder);
+}

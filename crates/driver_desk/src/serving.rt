@@ -1,0 +1,327 @@
+// The cards of a driver, one after another: each is asked for in a session that is opened when it is needed.
+ghost use Rattle.std.specs.Prelude.{◌≡◌, ◌≢◌, ◌≤◌, ◌<◌, ◌+◌, ◌^◌, ◌∷◌, ◌++◌, [], ℕ, List, Bool, true, false, Option, Some, None, Err, length, slice_get};
+ghost use Rattle.edge_kit.specs.Files.{IsOpenLeaf};
+ghost use Rattle.edge_kit.specs.declared.leaf_state.LeafState.TheVariants.{Fresh, Broken};
+ghost use Rattle.convert_plan.specs.Card.{card_seen};
+ghost use Rattle.driver_line.specs.Lines.{LineView, Paths, IsOpen, starts_of};
+ghost use Rattle.driver_desk.specs.Late.{AreIdle, KeepsNames, StaysUnlisted, cards_of};
+ghost use Rattle.driver_desk.specs.Rounds.{late_seen, paths_of, AreReady, GrowsLate};
+ghost use Rattle.driver_desk.specs.Serving.{Given, AreClosings, Serves, newest, IsSane, late_after, is_abort};
+ghost use Rattle.driver_desk.specs.Works.{WorkSeen, ReadsAs, FitsWork, asked_of};
+
+use crate::closing::{Work, close_empty, close_got, close_unread, refuse};
+use crate::late::Late;
+use crate::reading::read_card;
+use crate::recorder::Recorder;
+use checkout_core::{Event, OpenCause};
+use convert_plan::Card;
+use driver_line::{Line, Start};
+use edge_kit::{Blob, Gate, Leaf, Point, SendFault, Starter};
+use filter_proto::Asked;
+use filter_words::Reply;
+use std::alloc::Global;
+use tree_encoding::Prepared;
+
+/// Whose desk it is.
+#[derive(Clone, Copy, Debug)]
+pub(crate) struct Seat {
+    pub actor: u32,
+    pub driver: u32,
+    pub required: bool,
+}
+
+/// Closes the cards that are late: their driver has lost them.
+pub(crate) fn close_late<B: Blob, L: Leaf, C: Recorder<B, L>>(
+    late: &mut Late<B, L>,
+    recorder: &mut C,
+)
+    requires ready { AreReady (cards_of late.old) }
+    ensures closed { AreClosings (C.given recorder.old) (C.given recorder.new) }
+    ensures none { cards_of late.new ≡ [] }
+    ensures names { KeepsNames late.old late.new }
+    ensures idle { (q : ℕ) → AreIdle q late.old → AreIdle q late.new }
+    ensures turns { StaysUnlisted late.old late.new }
+{
+    while let Some(work) = late.next_late() {
+        close_empty(work, Ok(()), recorder);
+    }
+}
+
+/// Opens a session for a card. Where that fails, the cause comes.
+fn open_new<S: Starter, B: Blob, L: Leaf, C: Recorder<B, L>>(
+    driver: u32,
+    line: &mut Line<S>,
+    recorder: &mut C,
+    path: u32,
+) -> Option<OpenCause>
+    requires none { line.old.session ≡ None }
+    requires few { starts_of line.old < 2 ^ 32 }
+    ensures opened { result ≡ None → (paths : Paths) (line0 : LineView) (given0 : List Given) (asked : List ℕ)
+        → Serves driver paths line0 given0 asked (path ∷ []) line.old (C.given recorder.old) false []
+        → Serves driver paths line0 given0 asked (path ∷ []) line.new (C.given recorder.new) false [] }
+    ensures failed { (cause : OpenCause) → result ≡ Some cause
+        → (paths : Paths) (line0 : LineView) (given0 : List Given) (asked : List ℕ)
+        → Serves driver paths line0 given0 asked (path ∷ []) line.old (C.given recorder.old) false []
+        → Serves driver paths line0 given0 (asked ++ path ∷ []) [] line.new (C.given recorder.new) false [] }
+    ensures sane { IsSane line.new.session [] }
+    ensures there { result ≡ None → line.new.session ≡ None → ⊥ }
+    ensures starts { starts_of line.new ≤ starts_of line.old + 1 }
+{
+    match line.open() {
+        Start::Live(caps) => {
+            recorder.note(Event::Opened { driver, caps });
+            None
+        }
+        Start::Failed(cause) => {
+            recorder.note(Event::OpenFailed { path, cause });
+            Some(cause)
+        }
+    }
+}
+
+/// Opens a session for a card, where none is open.
+#[tactic(auto, using(crate::proofs::Serves::late_none))]
+fn open_for<S: Starter, B: Blob, L: Leaf, C: Recorder<B, L>>(
+    driver: u32,
+    line: &mut Line<S>,
+    recorder: &mut C,
+    path: u32,
+) -> Option<OpenCause>
+    requires few { starts_of line.old < 2 ^ 32 }
+    ensures opened { result ≡ None → (paths : Paths) (line0 : LineView) (given0 : List Given) (asked names : List ℕ)
+        → IsSane line.old.session names
+        → Serves driver paths line0 given0 asked (path ∷ []) line.old (C.given recorder.old) false names
+        → Serves driver paths line0 given0 asked (path ∷ []) line.new (C.given recorder.new) false names }
+    ensures failed { (cause : OpenCause) → result ≡ Some cause
+        → (paths : Paths) (line0 : LineView) (given0 : List Given) (asked names : List ℕ)
+        → IsSane line.old.session names
+        → Serves driver paths line0 given0 asked (path ∷ []) line.old (C.given recorder.old) false names
+        → Serves driver paths line0 given0 (asked ++ path ∷ []) [] line.new (C.given recorder.new) false names }
+    ensures sane { (names : List ℕ) → IsSane line.old.session names → IsSane line.new.session names }
+    ensures there { result ≡ None → line.new.session ≡ None → ⊥ }
+    ensures starts { starts_of line.new ≤ starts_of line.old + 1 }
+{
+    if line.is_open() {
+        return None;
+    }
+    open_new(driver, line, recorder, path)
+}
+
+/// A card with what was prepared for it, which is dropped where its driver is required.
+fn keep_ready<B: Blob, L: Leaf>(
+    mut card: Card<B, L>,
+    prepared: Prepared,
+    required: bool,
+) -> Work<B, L>
+    ensures path { result.card.path ≡ card.path }
+    ensures text { result.card.text ≡ card.text }
+    ensures leaf { L.seen result.card.leaf ≡ L.seen card.leaf }
+{
+    let unencoded = prepared.unencoded;
+    if required {
+        return Work { card, unencoded };
+    }
+    card.ready = Some(prepared);
+    Work { card, unencoded }
+}
+
+/// What becomes of a card and of those that are late after the reply to its first request.
+fn after_reply<B: Blob, L: Leaf, C: Recorder<B, L>>(
+    seat: Seat,
+    late: &mut Late<B, L>,
+    recorder: &mut C,
+    place: u32,
+    work: Work<B, L>,
+    reply: Reply,
+    put: Result<(), SendFault>,
+)
+    requires usable { put ≢ Err SendFault.Failed → IsOpenLeaf (L.seen work.card.leaf).state }
+    requires broken { put ≡ Err SendFault.Failed → (L.seen work.card.leaf).state ≡ Broken }
+    requires untouched { reply ≡ Reply.Delayed → (L.seen work.card.leaf).state ≡ Fresh }
+    requires here { slice_get late.old.numbers place ≡ Some work.card.path }
+    requires idle { AreIdle place late.old }
+    requires ready { AreReady (cards_of late.old) }
+    ensures cards { GrowsLate (cards_of late.old) (late_seen work.card.path work.card.text Fresh) (cards_of late.new) }
+    ensures late { newest (paths_of (cards_of late.new))
+        ≡ late_after work.card.path reply (newest (paths_of (cards_of late.old))) }
+    ensures closed { AreClosings (C.given recorder.old) (C.given recorder.new) }
+    ensures names { KeepsNames late.old late.new }
+    ensures idle { AreIdle (place + 1) late.new }
+    ensures turns { StaysUnlisted late.old late.new }
+{
+    match reply {
+        Reply::Content => close_got(work, put, recorder),
+        Reply::Error | Reply::ErrorAfter => refuse(work, seat.required, put, recorder),
+        Reply::Delayed => late.keep(place, work),
+        Reply::Abort | Reply::Broken(_) => {
+            refuse(work, seat.required, put, recorder);
+            close_late(late, recorder);
+        }
+        Reply::NoMemory => {
+            close_empty(work, put, recorder);
+            close_late(late, recorder);
+        }
+    }
+}
+
+/// Asks for a card in the open session, and tells whether the driver aborted.
+fn ask_card<S: Starter, B: Blob, L: Leaf, C: Recorder<B, L>, G: Gate>(
+    seat: Seat,
+    line: &mut Line<S>,
+    late: &mut Late<B, L>,
+    recorder: &mut C,
+    gate: &G,
+    place: u32,
+    mut card: Card<B, L>,
+    prepared: Prepared,
+) -> bool
+    requires open { IsOpen line.old.session }
+    requires fresh { (L.seen card.leaf).state ≡ Fresh }
+    requires some { 1 ≤ length card.text }
+    requires few { length card.text ≤ 4096 }
+    requires here { slice_get late.old.numbers place ≡ Some card.path }
+    requires idle { AreIdle place late.old }
+    requires ready { AreReady (cards_of late.old) }
+    ensures serves { (paths : Paths) (line0 : LineView) (given0 : List Given) (asked : List ℕ)
+        → paths.text card.path ≡ card.text → paths.content card.path ≡ prepared.bytes
+        → Serves seat.driver paths line0 given0 asked (card.path ∷ []) line.old (C.given recorder.old) false (newest (paths_of (cards_of late.old)))
+        → Serves seat.driver paths line0 given0 (asked ++ card.path ∷ []) [] line.new (C.given recorder.new) result (newest (paths_of (cards_of late.new))) }
+    ensures cards { GrowsLate (cards_of late.old) (late_seen card.path card.text Fresh) (cards_of late.new) }
+    ensures done { result ≡ true → line.new.session ≡ None }
+    ensures sane { IsSane line.new.session (newest (paths_of (cards_of late.new))) }
+    ensures names { KeepsNames late.old late.new }
+    ensures idle { AreIdle (place + 1) late.new }
+    ensures turns { StaysUnlisted late.old late.new }
+    ensures starts { starts_of line.new ≤ starts_of line.old }
+{
+    let path = card.path;
+    let lent = &mut card;
+    let Asked { reply, put } = line.ask(
+        lent.text.as_slice(),
+        prepared.bytes.as_slice(),
+        &mut lent.leaf,
+    );
+    recorder.note(Event::Answered { path, reply });
+    gate.at(seat.actor, path, Point::Replied);
+    let work = keep_ready(card, prepared, seat.required);
+    after_reply(seat, late, recorder, place, work, reply, put);
+    is_abort(reply)
+}
+
+fn is_abort(reply: Reply) -> bool
+    ensures { result ≡ is_abort reply }
+{
+    match reply {
+        Reply::Abort => true,
+        _ => false,
+    }
+}
+
+/// Ends a card for which no session could be opened.
+fn not_opened<B: Blob, L: Leaf, C: Recorder<B, L>>(
+    work: Work<B, L>,
+    required: bool,
+    cause: OpenCause,
+    recorder: &mut C,
+)
+    requires { IsOpenLeaf (L.seen work.card.leaf).state }
+    ensures { AreClosings (C.given recorder.old) (C.given recorder.new) }
+{
+    match cause {
+        OpenCause::NotStarted | OpenCause::Broken(_) => refuse(work, required, Ok(()), recorder),
+        OpenCause::NoMemory => close_empty(work, Ok(()), recorder),
+    }
+}
+
+/// Serves one card whose content is prepared, and tells whether the driver aborted.
+fn serve_card<S: Starter, B: Blob, L: Leaf, C: Recorder<B, L>, G: Gate>(
+    seat: Seat,
+    line: &mut Line<S>,
+    late: &mut Late<B, L>,
+    recorder: &mut C,
+    gate: &G,
+    place: u32,
+    card: Card<B, L>,
+    prepared: Prepared,
+) -> bool
+    requires starts { starts_of line.old < 2 ^ 32 }
+    requires sane { IsSane line.old.session (newest (paths_of (cards_of late.old))) }
+    requires fresh { (L.seen card.leaf).state ≡ Fresh }
+    requires some { 1 ≤ length card.text }
+    requires few { length card.text ≤ 4096 }
+    requires here { slice_get late.old.numbers place ≡ Some card.path }
+    requires idle { AreIdle place late.old }
+    requires ready { AreReady (cards_of late.old) }
+    ensures serves { (paths : Paths) (line0 : LineView) (given0 : List Given) (asked : List ℕ)
+        → paths.text card.path ≡ card.text → paths.content card.path ≡ prepared.bytes
+        → Serves seat.driver paths line0 given0 asked [] line.old (C.given recorder.old) false (newest (paths_of (cards_of late.old)))
+        → Serves seat.driver paths line0 given0 (asked ++ card.path ∷ []) [] line.new (C.given recorder.new) result (newest (paths_of (cards_of late.new))) }
+    ensures cards { GrowsLate (cards_of late.old) (late_seen card.path card.text Fresh) (cards_of late.new) }
+    ensures done { result ≡ true → line.new.session ≡ None }
+    ensures sane { IsSane line.new.session (newest (paths_of (cards_of late.new))) }
+    ensures names { KeepsNames late.old late.new }
+    ensures idle { AreIdle (place + 1) late.new }
+    ensures turns { StaysUnlisted late.old late.new }
+    ensures starts { starts_of line.new ≤ starts_of line.old + 1 }
+{
+    if let Some(cause) = open_for(seat.driver, line, recorder, card.path) {
+        let work = keep_ready(card, prepared, seat.required);
+        not_opened(work, seat.required, cause, recorder);
+        return false;
+    }
+    if !line.has_smudge() {
+        let work = keep_ready(card, prepared, seat.required);
+        refuse(work, seat.required, Ok(()), recorder);
+        return false;
+    }
+    ask_card(seat, line, late, recorder, gate, place, card, prepared)
+}
+
+/// Serves one card, and tells whether the driver aborted so far.
+pub(crate) fn serve_one<S: Starter, B: Blob, L: Leaf, C: Recorder<B, L>, G: Gate>(
+    alloc: Global,
+    seat: Seat,
+    line: &mut Line<S>,
+    late: &mut Late<B, L>,
+    recorder: &mut C,
+    gate: &G,
+    aborted: bool,
+    place: u32,
+    mut card: Card<B, L>,
+) -> bool
+    requires starts { starts_of line.old < 2 ^ 32 }
+    requires sane { IsSane line.old.session (newest (paths_of (cards_of late.old))) }
+    requires done { aborted ≡ true → line.old.session ≡ None }
+    requires fresh { (L.seen card.leaf).state ≡ Fresh }
+    requires some { 1 ≤ length card.text }
+    requires few { length card.text ≤ 4096 }
+    requires here { slice_get late.old.numbers place ≡ Some card.path }
+    requires idle { AreIdle place late.old }
+    requires ready { AreReady (cards_of late.old) }
+    ensures serves { (w : WorkSeen) × (w.card ≡ card_seen B.told B.seen L.seen card) × ReadsAs w.card w.content
+        × ((paths : Paths) (line0 : LineView) (given0 : List Given) (asked : List ℕ) → FitsWork paths w
+        → Serves seat.driver paths line0 given0 asked [] line.old (C.given recorder.old) aborted (newest (paths_of (cards_of late.old)))
+        → Serves seat.driver paths line0 given0 (asked ++ asked_of w.card.path w.content) [] line.new (C.given recorder.new) result (newest (paths_of (cards_of late.new)))) }
+    ensures cards { GrowsLate (cards_of late.old) (late_seen card.path card.text Fresh) (cards_of late.new) }
+    ensures done { result ≡ true → line.new.session ≡ None }
+    ensures sane { IsSane line.new.session (newest (paths_of (cards_of late.new))) }
+    ensures names { KeepsNames late.old late.new }
+    ensures idle { AreIdle (place + 1) late.new }
+    ensures turns { StaysUnlisted late.old late.new }
+    ensures starts { starts_of line.new ≤ starts_of line.old + 1 }
+{
+    match read_card(alloc, &mut card) {
+        Ok(prepared) => {
+            if aborted {
+                let work = keep_ready(card, prepared, seat.required);
+                refuse(work, seat.required, Ok(()), recorder);
+                return true;
+            }
+            serve_card(seat, line, late, recorder, gate, place, card, prepared)
+        }
+        Err(own) => {
+            close_unread(card, recorder, own);
+            aborted
+        }
+    }
+}

@@ -1,0 +1,347 @@
+-- What each exchange of an open session leaves.
+use Rattle.std.proofs.Common.{◌≡◌, ◌⊎◌, inl, inr, ℕ, zero, suc, ◌+◌, ◌-◌, ◌<◌, ◌≤◌, ◌≢◌, ◌^◌, Bool, true, false, ltb, List, [], ◌∷◌, ◌++◌, length, Option, Some, None, refl, sym, ap, subst, ◌∙◌, append_assoc, arith}
+use Rattle.std.proofs.lemmas.Bool.{lt-ltb, le-ltb, cases_lt}
+use Rattle.std.proofs.lemmas.List.{append-nil}
+use Rattle.pkt_line.specs.Packets.{Packet, Payload, Flush, size}
+use Rattle.filter_words.specs.Outcomes.{outcome, limit}
+use Rattle.filter_words.specs.SmudgeReply.{reply_step, reply_start}
+use Rattle.filter_words.specs.declared.reply.Caps.{Caps}
+use Rattle.filter_words.specs.declared.reply.Reply.{Reply}
+use Rattle.filter_words.specs.declared.reply.Reply.TheVariants as reply
+use Rattle.filter_words.specs.declared.reply.BreakCause.{BreakCause}
+use Rattle.filter_words.specs.declared.reply.BreakCause.TheVariants as cause
+use Rattle.filter_words.specs.declared.words.Status.{Status}
+use Rattle.filter_words.specs.declared.words.Status.TheVariants as status
+use Rattle.filter_words.specs.declared.smudge_reply.GoodReply.{GoodReply}
+use Rattle.filter_words.specs.declared.smudge_reply.GoodReply.TheVariants as good
+use Rattle.filter_words.specs.declared.smudge_reply.ReplyPhase.{ReplyPhase}
+use Rattle.filter_words.specs.declared.smudge_reply.ReplyPhase.TheVariants.{KeyList, Content, LastKeyList}
+use Rattle.filter_words.specs.declared.answer_state.AnswerState.{AnswerState}
+use Rattle.filter_words.specs.declared.answer_state.AnswerState.TheVariants.{On, Done, Broken, Late}
+use Rattle.edge_kit.specs.Faults.{Rose}
+use Rattle.edge_kit.specs.Starters.{StarterSeen, Had, Session, SessionHad}
+use Rattle.edge_kit.specs.Links.{Stage, Open, InputShut, Shut, is_shut}
+use Rattle.filter_proto.specs.Wires.{Wire, Took}
+use Rattle.filter_proto.specs.Exchanges.{Ends, Good, Broke, OutOfMemory, Stops, Unsent, IsHeard, IsUnsent, IsAnswered, IsExchange}
+use Rattle.filter_proto.specs.Wires.{shut_after}
+use Rattle.filter_proto.specs.Wires.{SessionSeen}
+use Rattle.filter_proto.specs.Replies.{reply_end, standing_after}
+use Rattle.filter_proto.specs.declared.session.Standing.{Standing}
+use Rattle.filter_proto.specs.declared.session.Standing.TheVariants as standing
+use Rattle.driver_line.specs.Conversations.{Exchange, NoStart, NoRoom, Opening, First, Listing, Second, Shutting}
+use Rattle.std.specs.Prelude.{if◌then◌else◌, ◌&&◌, not, map, codes}
+use Rattle.filter_words.specs.Words.{value_of}
+use Rattle.filter_words.specs.Listing as phase
+use Rattle.filter_words.specs.Listing.{ListPhase, Names, GoodList, Listed, list_step, list_start, list_status, after_value, name_in}
+use Rattle.filter_words.specs.Requests.{list_text, first_text, second_text}
+use Rattle.filter_words.specs.declared.reply.ListReply.{ListReply}
+use Rattle.filter_words.specs.declared.reply.ListReply.TheVariants as list
+use Rattle.driver_line.proofs.Told.{grown_nothing}
+use Rattle.driver_line.specs.Lines.{LineView, Paths, Says, RunsTo, After, IsEnded, IsAsked, IsListed, HasContent}
+use Rattle.driver_line.specs.Transcripts.{IsPart, request_of, AnswerIs, MayCut, Spoken, break_of, wants, FitsCounts, AllFit, is_fine, all_fine}
+use Rattle.driver_line.proofs.Spoken.{SpokenFrom, last_spoken, more_spoken}
+
+-- causes that come from packets alone
+abbrev IsPlain : BreakCause → Type 0
+IsPlain cause.LinkFault = ⊥
+IsPlain cause.Ended = ⊥
+IsPlain c = Unit {0}
+
+abbrev PlainTurn : {P G : Type 0} → AnswerState P G → Type 0
+PlainTurn (On p) = Unit {0}
+PlainTurn (Done g) = Unit {0}
+PlainTurn (Broken c) = IsPlain c
+PlainTurn Late = Unit {0}
+
+runs_plain : {P G : Type 0} (step : P → Packet → AnswerState P G) (room : ℕ) (t : AnswerState P G) (ps : List Packet) → ((p : P) (x : Packet) → PlainTurn (step p x)) → PlainTurn t → PlainTurn (outcome step room t ps)
+runs_plain step room t [] steps h = h
+runs_plain step room (On p) (x ∷ ps) steps h = elim (cases_lt room (size x)) [
+  | inl less ↦ rw (lt-ltb room (size x) less) (runs_plain step room (Broken cause.TooLong) ps steps tt)
+  | inr more ↦ rw (le-ltb room (size x) more) (runs_plain step (room - size x) (step p x) ps steps (steps p x))
+  ]
+runs_plain step room (Done g) (x ∷ ps) steps h = tt
+runs_plain step room (Broken c) (x ∷ ps) steps h = tt
+runs_plain step room Late (x ∷ ps) steps h = tt
+
+first_plain : (d : Bool) (s : Option Status) → PlainTurn (reply_step d (KeyList s) Flush)
+first_plain d None = tt
+first_plain d (Some status.Success) = tt
+first_plain d (Some status.Error) = tt
+first_plain d (Some status.Abort) = tt
+first_plain true (Some status.Delayed) = tt
+first_plain false (Some status.Delayed) = tt
+first_plain d (Some status.Other) = tt
+
+last_plain : (d : Bool) (s : Option Status) → PlainTurn (reply_step d (LastKeyList s) Flush)
+last_plain d None = tt
+last_plain d (Some status.Success) = tt
+last_plain d (Some status.Error) = tt
+last_plain d (Some status.Abort) = tt
+last_plain d (Some status.Delayed) = tt
+last_plain d (Some status.Other) = tt
+
+reply_plain : (d : Bool) (p : ReplyPhase) (x : Packet) → PlainTurn (reply_step d p x)
+reply_plain d (KeyList s) (Payload l) = tt
+reply_plain d (KeyList s) Flush = first_plain d s
+reply_plain d Content (Payload l) = tt
+reply_plain d Content Flush = tt
+reply_plain d (LastKeyList s) (Payload l) = tt
+reply_plain d (LastKeyList s) Flush = last_plain d s
+
+broke_is : {G : Type 0} (a b : BreakCause) (x y : Ends G) → x ≡ Broke a → y ≡ Broke b → x ≡ y → a ≡ b
+broke_is a b x y e f i = cc
+
+-- a count that rose isn't 0
+rose_some : (a b : ℕ) → Rose a b → 0 < b
+rose_some a zero r = absurd (zero_not a (r.risen (λ e. absurd (cc e))))
+  where
+    zero_not : (a : ℕ) → a < zero → ⊥
+    zero_not a lt = omega (arith, lt)
+rose_some a (suc b) r = omega arith
+
+stops_counts : {P G : Type 0} (t : AnswerState P G) (old new : Wire) (c : BreakCause) (seen : SessionHad) → PlainTurn t → Stops t old new (Broke c) → new.faults ≤ seen.faults → seen.ends ≡ new.ends → FitsCounts seen (Some c)
+stops_counts t old new cause.LinkFault seen plain h fs es = link t plain h
+  where
+    link : {P G : Type 0} (t : AnswerState P G) → PlainTurn t → Stops t old new (Broke cause.LinkFault) → 0 < seen.faults
+    link (On p) plain h = let r = rose_some old.faults new.faults h.1 in omega (arith, r, fs)
+    link (Done g) plain h = absurd (cc (h.0))
+    link (Broken c) plain h = absurd (subst IsPlain (sym (broke_is cause.LinkFault c _ _ refl refl h.0)) plain)
+    link Late plain h = absurd h
+stops_counts t old new cause.Ended seen plain h fs es = ended t plain h
+  where
+    ended : {P G : Type 0} (t : AnswerState P G) → PlainTurn t → Stops t old new (Broke cause.Ended) → 0 < seen.ends
+    ended (On p) plain h = let r = rose_some old.ends new.ends h.1 in rw es r
+    ended (Done g) plain h = absurd (cc (h.0))
+    ended (Broken c) plain h = absurd (subst IsPlain (sym (broke_is cause.Ended c _ _ refl refl h.0)) plain)
+    ended Late plain h = absurd h
+stops_counts t old new cause.BadPacket seen plain h fs es = tt
+stops_counts t old new cause.BadHandshake seen plain h fs es = tt
+stops_counts t old new cause.UnknownStatus seen plain h fs es = tt
+stops_counts t old new cause.StrangeDelay seen plain h fs es = tt
+stops_counts t old new cause.TooLong seen plain h fs es = tt
+stops_counts t old new cause.StrangePath seen plain h fs es = tt
+stops_counts t old new cause.ListRefused seen plain h fs es = tt
+
+-- the session goes on
+pub record Goes (paths : Paths) (s : SessionSeen) (v : LineView) (e : Exchange) (w : LineView) : Type 0 where
+  pub next : SessionSeen
+  pub open_is : w.session ≡ Some next
+  pub caps : next.caps ≡ s.caps
+  pub stage : next.wire.stage ≡ Open
+  pub starter : w.starter ≡ v.starter
+  pub fine : is_fine e ≡ true
+  pub counts : (seen : SessionHad) → FitsCounts seen (break_of e)
+  pub spoken : (es : List Exchange) (seen : SessionHad) → SpokenFrom paths s.caps next.wire es seen → SpokenFrom paths s.caps s.wire (e ∷ es) seen
+
+-- or it is over
+pub record Finishes (paths : Paths) (s : SessionSeen) (v : LineView) (e : Exchange) (w : LineView) : Type 0 where
+  pub seen : SessionHad
+  pub none : w.session ≡ None
+  pub had : w.starter.had ≡ v.starter.had ++ Session seen ∷ []
+  pub counts : FitsCounts seen (break_of e)
+  pub shut : seen.shut ≡ is_fine e
+  pub spoken : SpokenFrom paths s.caps s.wire (e ∷ []) seen
+
+abbrev pub Effect : Paths → SessionSeen → LineView → Exchange → LineView → Type 0
+Effect paths s v e w = Goes paths s v e w ⊎ Finishes paths s v e w
+
+abbrev reply_break : Reply → Option BreakCause
+reply_break (reply.Broken c) = Some c
+reply_break r = None
+
+abbrev reply_wants : Reply → Bool
+reply_wants reply.NoMemory = true
+reply_wants r = false
+
+exchange_stage : {P G : Type 0} (step : P → Packet → AnswerState P G) (start : AnswerState P G) (text : List ℕ) (s t : Wire) (end : Ends G) (extra : List Packet → Type 0) → IsExchange step start text s t end extra → t.stage ≡ s.stage
+exchange_stage step start text s t end extra (inl u) = ap (λ (w : Wire). w.stage) u.sent.stays
+exchange_stage step start text s t end extra (inr a) = a.stage
+
+unsent_link : (G : Type 0) (s t : Wire) (c : BreakCause) → Unsent {G = G} s t (Broke c) → c ≡ cause.LinkFault
+unsent_link G s t cause.LinkFault h = refl
+unsent_link G s t cause.Ended h = absurd h
+unsent_link G s t cause.BadPacket h = absurd h
+unsent_link G s t cause.BadHandshake h = absurd h
+unsent_link G s t cause.UnknownStatus h = absurd h
+unsent_link G s t cause.StrangeDelay h = absurd h
+unsent_link G s t cause.TooLong h = absurd h
+unsent_link G s t cause.StrangePath h = absurd h
+unsent_link G s t cause.ListRefused h = absurd h
+
+unsent_counts : (G : Type 0) (s t : Wire) (c : BreakCause) (seen : SessionHad) → Unsent {G = G} s t (Broke c) → t.faults ≤ seen.faults → FitsCounts seen (Some c)
+unsent_counts G s t cause.LinkFault seen h fs = let r = rose_some s.faults t.faults h in omega (arith, r, fs)
+unsent_counts G s t cause.Ended seen h fs = absurd h
+unsent_counts G s t cause.BadPacket seen h fs = absurd h
+unsent_counts G s t cause.BadHandshake seen h fs = absurd h
+unsent_counts G s t cause.UnknownStatus seen h fs = absurd h
+unsent_counts G s t cause.StrangeDelay seen h fs = absurd h
+unsent_counts G s t cause.TooLong seen h fs = absurd h
+unsent_counts G s t cause.StrangePath seen h fs = absurd h
+unsent_counts G s t cause.ListRefused seen h fs = absurd h
+
+exchange_counts : {P : Type 0} (G : Type 0) (step : P → Packet → AnswerState P G) (p0 : P) (text : List ℕ) (s t : Wire) (c : BreakCause) (extra : List Packet → Type 0) (seen : SessionHad) → ((p : P) (x : Packet) → PlainTurn (step p x))
+    → IsExchange step (On p0) text s t (Broke c) extra → t.faults ≤ seen.faults → seen.ends ≡ t.ends → FitsCounts seen (Some c)
+exchange_counts G step p0 text s t c extra seen plain (inl u) fs es = unsent_counts G s t c seen u.why fs
+exchange_counts G step p0 text s t c extra seen plain (inr a) fs es =
+    stops_counts (outcome step limit (On p0) a.heard.packets) s t c seen (runs_plain step limit (On p0) a.heard.packets plain tt) a.heard.stops fs es
+
+shut_always : (z : Stage) → is_shut (shut_after standing.Aborted z) ≡ true
+shut_always Open = refl
+shut_always InputShut = refl
+shut_always Shut = refl
+
+shut_live : (z : Stage) → is_shut (shut_after standing.Live z) ≡ true
+shut_live Open = refl
+shut_live InputShut = refl
+shut_live Shut = refl
+
+goes_good : (d : Bool) (paths : Paths) (v w : LineView) (s : SessionSeen) (e : Exchange) (g : GoodReply) (content : List ℕ) (t : Wire)
+    → IsExchange (reply_step d) reply_start (request_of paths s.caps e) s.wire t (Good g) (HasContent d content) → ((used rest : List ℕ) → IsPart (reply_step d) reply_start used rest (Good g) (HasContent d content) → AnswerIs paths s.caps e used rest)
+    → break_of e ≡ None → wants e ≡ false → s.wire.stage ≡ Open → After v s t standing.Live w → Effect paths s v e w
+goes_good d paths v w s e g content t x answers be we st after = inl (record {
+  next = record { wire = t; caps = s.caps; standing = standing.Live };
+  open_is = after.0; caps = refl; stage = exchange_stage _ _ _ _ _ _ _ x ∙ st; starter = after.1;
+  fine = rw (be, we) refl;
+  counts = λ seen. rw be tt;
+  spoken = λ es seen h. more_spoken (reply_step d) reply_start g (HasContent d content) paths s.caps e es s.wire t seen x answers h;
+})
+
+finish_with : (d : Bool) (paths : Paths) (v w : LineView) (s : SessionSeen) (e : Exchange) (end : Ends GoodReply) (content : List ℕ) (t : Wire) (how : Standing)
+    → IsExchange (reply_step d) reply_start (request_of paths s.caps e) s.wire t end (HasContent d content) → ((used rest : List ℕ) → IsPart (reply_step d) reply_start used rest end (HasContent d content) → AnswerIs paths s.caps e used rest)
+    → (Unsent s.wire t end → MayCut e) → (h : IsEnded v.starter t how w) → FitsCounts h.seen (break_of e) → is_shut (shut_after how t.stage) ≡ is_fine e → Effect paths s v e w
+finish_with d paths v w s e end content t how x answers cuts h counts shuts = inr (record {
+  seen = h.seen; none = h.none; had = ap (λ (x : StarterSeen). x.had) h.kept; counts = counts; shut = h.shut ∙ shuts;
+  spoken = last_spoken (reply_step d) reply_start end (HasContent d content) paths s.caps e s.wire t h.seen x answers cuts h.sent h.taken;
+})
+
+asked_effect : (d : Bool) (paths : Paths) (v w : LineView) (s : SessionSeen) (e : Exchange) (r : Reply) (content : List ℕ) → IsAsked d (request_of paths s.caps e) v s r content w
+    → ((used rest : List ℕ) → IsPart (reply_step d) reply_start used rest (reply_end r) (HasContent d content) → AnswerIs paths s.caps e used rest) → break_of e ≡ reply_break r → wants e ≡ reply_wants r → s.wire.stage ≡ Open → Effect paths s v e w
+asked_effect d paths v w s e reply.Content content a answers be we st = goes_good d paths v w s e good.Content content a.wire a.exchange answers be we st a.after
+asked_effect d paths v w s e reply.Error content a answers be we st = goes_good d paths v w s e good.Error content a.wire a.exchange answers be we st a.after
+asked_effect d paths v w s e reply.ErrorAfter content a answers be we st = goes_good d paths v w s e good.ErrorAfter content a.wire a.exchange answers be we st a.after
+asked_effect d paths v w s e reply.Delayed content a answers be we st = goes_good d paths v w s e good.Delayed content a.wire a.exchange answers be we st a.after
+asked_effect d paths v w s e reply.Abort content a answers be we st =
+    finish_with d paths v w s e (Good good.Abort) content a.wire standing.Aborted a.exchange answers (λ u. absurd u) a.after (rw be tt) (shut_always a.wire.stage ∙ rw (be, we) refl)
+asked_effect d paths v w s e (reply.Broken c) content a answers be we st =
+    finish_with d paths v w s e (Broke c) content a.wire standing.Over a.exchange answers (λ u. inl (be ∙ ap Some (unsent_link GoodReply s.wire a.wire c u))) a.after
+      (rw be (exchange_counts GoodReply (reply_step d) (KeyList None) (request_of paths s.caps e) s.wire a.wire c (HasContent d content) a.after.seen (reply_plain d) a.exchange a.after.faults a.after.ends))
+      (rw (exchange_stage _ _ _ _ _ _ _ a.exchange, st, be) refl)
+asked_effect d paths v w s e reply.NoMemory content a answers be we st =
+    finish_with d paths v w s e OutOfMemory content a.wire standing.Over a.exchange answers (λ u. inr we) a.after (rw be tt) (rw (exchange_stage _ _ _ _ _ _ _ a.exchange, st, be, we) refl)
+
+-- lists
+
+status_plain : (names : List (List ℕ)) (s : Option Status) → PlainTurn (list_status names s)
+status_plain names None = tt
+status_plain names (Some status.Success) = tt
+status_plain names (Some status.Error) = tt
+status_plain names (Some status.Abort) = tt
+status_plain names (Some status.Delayed) = tt
+status_plain names (Some status.Other) = tt
+
+name_plain : (b : Bool) (p : ListPhase) → PlainTurn {G = GoodList} (if b then On p else Broken cause.StrangePath)
+name_plain true p = tt
+name_plain false p = tt
+
+value_plain : (delayed listed : List (List ℕ)) (o : Option (List ℕ)) → PlainTurn (after_value delayed listed o)
+value_plain delayed listed None = tt
+value_plain delayed listed (Some name) = name_plain (name_in delayed name && not (name_in listed name)) (Names (listed ++ name ∷ []))
+
+list_plain : (delayed : List (List ℕ)) (p : ListPhase) (x : Packet) → PlainTurn (list_step delayed p x)
+list_plain delayed (Names listed) (Payload line) = value_plain delayed listed (value_of (codes "pathname") line)
+list_plain delayed (Names listed) Flush = tt
+list_plain delayed (phase.KeyList listed s) (Payload line) = tt
+list_plain delayed (phase.KeyList listed s) Flush = status_plain listed s
+
+listed_effect : (paths : Paths) (v w : LineView) (s : SessionSeen) (late names : List ℕ) (r : ListReply) → IsListed paths (map paths.text late) v s names r w → s.wire.stage ≡ Open → Effect paths s v (Listing late names r) w
+listed_effect paths v w s late names (list.Names n) a st = inl (record {
+  next = record { wire = a.wire; caps = s.caps; standing = standing.Live };
+  open_is = a.after.0; caps = refl; stage = exchange_stage _ _ _ _ _ _ _ a.exchange ∙ st; starter = a.after.1;
+  fine = refl; counts = λ seen. tt;
+  spoken = λ es seen h. more_spoken (list_step (map paths.text late)) list_start (Listed (map paths.text names)) (λ _. Unit {0}) paths s.caps (Listing late names (list.Names n)) es s.wire a.wire seen
+    (subst (λ (end : Ends GoodList). IsExchange (list_step (map paths.text late)) list_start list_text s.wire a.wire end (λ _. Unit {0})) a.is a.exchange) (λ used rest part. (Good (Listed (map paths.text names)), refl, part)) h;
+})
+listed_effect paths v w s late names list.Empty a st = inr (record {
+  seen = a.after.seen; none = a.after.none; had = ap (λ (x : StarterSeen). x.had) a.after.kept; counts = tt; shut = a.after.shut ∙ shut_always a.wire.stage;
+  spoken = last_spoken (list_step (map paths.text late)) list_start a.end (λ _. Unit {0}) paths s.caps (Listing late names list.Empty) s.wire a.wire a.after.seen a.exchange (λ used rest part. (a.end, a.is, part)) (λ u. absurd (subst (λ (end : Ends GoodList). Unsent s.wire a.wire end) a.is.0 u)) a.after.sent a.after.taken;
+})
+listed_effect paths v w s late names list.Abort a st = inr (record {
+  seen = a.after.seen; none = a.after.none; had = ap (λ (x : StarterSeen). x.had) a.after.kept; counts = tt; shut = a.after.shut ∙ shut_always a.wire.stage;
+  spoken = last_spoken (list_step (map paths.text late)) list_start a.end (λ _. Unit {0}) paths s.caps (Listing late names list.Abort) s.wire a.wire a.after.seen a.exchange (λ used rest part. (a.end, a.is, part)) (λ u. absurd (subst (λ (end : Ends GoodList). Unsent s.wire a.wire end) a.is u)) a.after.sent a.after.taken;
+})
+listed_effect paths v w s late names (list.Broken c) a st = inr (record {
+  seen = a.after.seen; none = a.after.none; had = ap (λ (x : StarterSeen). x.had) a.after.kept;
+  counts = exchange_counts GoodList (list_step (map paths.text late)) (Names []) list_text s.wire a.wire c (λ _. Unit {0}) a.after.seen (list_plain (map paths.text late)) (subst (λ (end : Ends GoodList). IsExchange (list_step (map paths.text late)) list_start list_text s.wire a.wire end (λ _. Unit {0})) a.is a.exchange) a.after.faults a.after.ends;
+  shut = a.after.shut ∙ (ap is_shut (exchange_stage _ _ _ _ _ _ _ a.exchange) ∙ ap is_shut st);
+  spoken = last_spoken (list_step (map paths.text late)) list_start a.end (λ _. Unit {0}) paths s.caps (Listing late names (list.Broken c)) s.wire a.wire a.after.seen a.exchange (λ used rest part. (a.end, a.is, part))
+    (λ u. inl (ap Some (unsent_link GoodList s.wire a.wire c (subst (λ (end : Ends GoodList). Unsent s.wire a.wire end) a.is u)))) a.after.sent a.after.taken;
+})
+listed_effect paths v w s late names list.NoMemory a st = inr (record {
+  seen = a.after.seen; none = a.after.none; had = ap (λ (x : StarterSeen). x.had) a.after.kept; counts = tt;
+  shut = a.after.shut ∙ (ap is_shut (exchange_stage _ _ _ _ _ _ _ a.exchange) ∙ ap is_shut st);
+  spoken = last_spoken (list_step (map paths.text late)) list_start a.end (λ _. Unit {0}) paths s.caps (Listing late names list.NoMemory) s.wire a.wire a.after.seen a.exchange (λ used rest part. (a.end, a.is, part)) (λ u. inr refl) a.after.sent a.after.taken;
+})
+
+first_break : (p : ℕ) (r : Reply) (content : List ℕ) → break_of (First p r content) ≡ reply_break r
+first_break p reply.Content content = refl
+first_break p reply.Error content = refl
+first_break p reply.ErrorAfter content = refl
+first_break p reply.Delayed content = refl
+first_break p reply.Abort content = refl
+first_break p (reply.Broken c) content = refl
+first_break p reply.NoMemory content = refl
+
+first_wants : (p : ℕ) (r : Reply) (content : List ℕ) → wants (First p r content) ≡ reply_wants r
+first_wants p reply.Content content = refl
+first_wants p reply.Error content = refl
+first_wants p reply.ErrorAfter content = refl
+first_wants p reply.Delayed content = refl
+first_wants p reply.Abort content = refl
+first_wants p (reply.Broken c) content = refl
+first_wants p reply.NoMemory content = refl
+
+second_break : (p : ℕ) (r : Reply) (content : List ℕ) → break_of (Second p r content) ≡ reply_break r
+second_break p reply.Content content = refl
+second_break p reply.Error content = refl
+second_break p reply.ErrorAfter content = refl
+second_break p reply.Delayed content = refl
+second_break p reply.Abort content = refl
+second_break p (reply.Broken c) content = refl
+second_break p reply.NoMemory content = refl
+
+second_wants : (p : ℕ) (r : Reply) (content : List ℕ) → wants (Second p r content) ≡ reply_wants r
+second_wants p reply.Content content = refl
+second_wants p reply.Error content = refl
+second_wants p reply.ErrorAfter content = refl
+second_wants p reply.Delayed content = refl
+second_wants p reply.Abort content = refl
+second_wants p (reply.Broken c) content = refl
+second_wants p reply.NoMemory content = refl
+
+same_some : (s z : SessionSeen) → Some s ≡ Some z → s ≡ z
+same_some s z e = cc
+
+-- an exchange while a session is open
+pub effect : (paths : Paths) (v w : LineView) (s : SessionSeen) (e : Exchange) → v.session ≡ Some s → s.wire.stage ≡ Open → Says paths v e w → Effect paths s v e w
+effect paths v w s (NoStart p) is st says = absurd (cc (sym is ∙ says.0))
+effect paths v w s (NoRoom p) is st says = absurd (cc (sym is ∙ says.0))
+effect paths v w s (Opening p (Good caps)) is st says = absurd (cc (sym is ∙ says.2.closed))
+effect paths v w s (Opening p (Broke c)) is st says = absurd (cc (sym is ∙ says.2.closed))
+effect paths v w s (Opening p OutOfMemory) is st says = absurd (cc (sym is ∙ says.2.closed))
+effect paths v w s (First p r content) is st says =
+    let same = same_some says.0 s (sym says.1 ∙ is) in
+    asked_effect s.caps.delay paths v w s (First p r content) r content (subst (λ (z : SessionSeen). IsAsked z.caps.delay (first_text (paths.text p) z.caps.delay (paths.content p)) v z r content w) same says.2) (λ used rest part. part) (first_break p r content) (first_wants p r content) st
+effect paths v w s (Second p r content) is st says =
+    let same = same_some says.0 s (sym says.1 ∙ is) in
+    asked_effect false paths v w s (Second p r content) r content (subst (λ (z : SessionSeen). IsAsked false (second_text (paths.text p)) v z r content w) same says.2) (λ used rest part. part) (second_break p r content) (second_wants p r content) st
+effect paths v w s (Listing late names r) is st says =
+    let same = same_some says.0 s (sym says.1 ∙ is) in
+    listed_effect paths v w s late names r (subst (λ (z : SessionSeen). IsListed paths (map paths.text late) v z names r w) same says.2) st
+effect paths v w s Shutting is st says =
+    let same = same_some says.0 s (sym says.1 ∙ is) in
+    let h = subst (λ (z : SessionSeen). IsEnded v.starter z.wire standing.Live w) same says.2 in
+    inr (record {
+      seen = h.seen; none = h.none; had = ap (λ (x : StarterSeen). x.had) h.kept; counts = tt; shut = h.shut ∙ shut_live s.wire.stage;
+      spoken = record { more = []; came = []; sent = h.sent ∙ sym (grown_nothing s.wire.sent); taken = h.taken ∙ sym (grown_nothing s.wire.taken);
+        spoken = inr ([], [], s.wire.unread ++ [], refl, refl, refl, refl) };
+    })

@@ -1,0 +1,3 @@
+pub mod Conversations
+pub mod Lines
+pub mod Transcripts
