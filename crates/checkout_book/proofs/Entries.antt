@@ -81,7 +81,8 @@ module _ {B L : Type 0} where
     entries_kept starts workers slots p x (e ∷ es) n h =
         let k = parts_kept slots p x e n h.0 in
         let r = entries_kept starts workers slots p x es n h.1 in
-        ap (λ (z : Option Parts). (number_in starts workers e, record { event = e; parts = z }) ∷ entries tells starts workers (set slots p x) es) k
+        ap (λ (z : Option Parts). (number_in starts workers e, record { event = e; parts = z }) ∷ entries tells
+        starts workers (set slots p x) es) k
         ∙ ap (λ l. (number_in starts workers e, entry_of tells slots e) ∷ l) r
 
     -- the history gets one entry

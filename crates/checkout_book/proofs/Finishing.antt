@@ -1,6 +1,7 @@
 -- A book at its begin and at its end.
 use Rattle.std.proofs.Common.{◌≡◌, ℕ, zero, suc, ◌+◌, ◌*◌, ◌<◌, ◌≤◌, ◌⊎◌, inl, inr, ⊎_elim, Bool, false, List, []}
-use Rattle.std.proofs.Common.{◌∷◌, ◌++◌, set, length, length-set, map, Option, Some, None, All, refl, sym, ap, ◌∙◌, subst, arith}
+use Rattle.std.proofs.Common.{◌∷◌, ◌++◌, set, length, length-set, map, Option, Some, None, All, refl, sym, ap, ◌∙◌}
+use Rattle.std.proofs.Common.{subst, arith}
 use Rattle.std.specs.Prelude.{slice_get, Result, Ok, Err, IfOk}
 use mathlib.Core.Logic.{dite}
 use native.Mathlib.Decide.{ℕ_discrete}
@@ -151,20 +152,28 @@ module _ {B L : Type 0} where
       → Placed slots cs p y
   placed_at slots [] p y e = record { slot = y; at = e; is = inr (refl, λ k c i j. absurd (cc (i))) }
   placed_at slots (c ∷ cs) p y e = dite (ℕ_discrete c.path p)
-      (λ same. let r = placed_at (set slots c.path (Waits c)) cs p (Waits c) (ap (slice_get (set slots c.path (Waits c))) (sym same) ∙ get_set_same slots c.path (Waits c) y (ap (slice_get slots) same ∙ e)) in record {
+      (λ same. let r = placed_at (set slots c.path (Waits c)) cs p (Waits c) (ap (slice_get (set slots c.path (Waits
+      c))) (sym same) ∙ get_set_same slots c.path (Waits c) y (ap (slice_get slots) same ∙ e)) in record {
         slot = r.slot;
         at = r.at;
         is = ⊎_elim
-            (λ (h : (k : ℕ) × (x : Card B L) × (slice_get cs k ≡ Some x) × (x.path ≡ p) × (r.slot ≡ Waits x)). inl (suc h.0, h.1, h.2, h.3, h.4))
-            (λ (h : (r.slot ≡ Waits c) × ((k : ℕ) (x : Card B L) → slice_get cs k ≡ Some x → x.path ≡ p → ⊥)). inl (zero, c, refl, same, h.0))
+            (λ (h : (k : ℕ) × (x : Card B L) × (slice_get cs k ≡ Some x) × (x.path ≡ p) × (r.slot ≡ Waits x)). inl
+            (suc h.0, h.1, h.2, h.3, h.4))
+            (λ (h : (r.slot ≡ Waits c) × ((k : ℕ) (x : Card B L) → slice_get cs k ≡ Some x → x.path ≡ p → ⊥)). inl
+            (zero, c, refl, same, h.0))
             r.is;
       })
-      (λ other. let r = placed_at (set slots c.path (Waits c)) cs p y (get_set_other slots c.path p (Waits c) (λ i. other (sym i)) ∙ e) in record {
+      (λ other. let r = placed_at (set slots c.path (Waits c)) cs p y (get_set_other slots c.path p (Waits c) (λ i.
+      other (sym i)) ∙ e) in record {
         slot = r.slot;
         at = r.at;
         is = ⊎_elim
-            (λ (h : (k : ℕ) × (x : Card B L) × (slice_get cs k ≡ Some x) × (x.path ≡ p) × (r.slot ≡ Waits x)). inl (suc h.0, h.1, h.2, h.3, h.4))
-            (λ (h : (r.slot ≡ y) × ((k : ℕ) (x : Card B L) → slice_get cs k ≡ Some x → x.path ≡ p → ⊥)). inr (h.0, later cs h.1 other))
+            (λ (h : (k : ℕ) × (x : Card B L) × (slice_get cs k ≡ Some x) × (x.path ≡ p) × (r.slot ≡ Waits x)). inl
+            (suc h.0, h.1, h.2, h.3, h.4))
+            (λ (h : (r.slot ≡ y) × ((k : ℕ) (x : Card B L) → slice_get cs k ≡ Some x → x.path ≡ p → ⊥)). inr (
+              h.0,
+              later cs h.1 other,
+            ))
             r.is;
       })
     where
@@ -211,7 +220,8 @@ module _ {B L : Type 0} (see : Sight B L) where
           → c.path ≡ p → Lies see cards p (Waits c) (begins s)
       wait c s at k in_pool is =
           let ready : c.ready ≡ None = (new k c (front k c in_pool)).unready in
-          let pool_start : s ≡ Pool = let u : Some s ≡ Some Pool = sym at ∙ (ap (slice_get starts) (sym is) ∙ are.there k c in_pool) in cc (u) in
+          let pool_start : s ≡ Pool = let u : Some s ≡ Some Pool = sym at ∙ (ap (slice_get starts) (sym is) ∙
+          are.there k c in_pool) in cc (u) in
           subst (λ (z : Start). Lies see cards p (Waits c) (begins z)) (sym pool_start) (
             subst (λ (r : Option Prepared). WaitsSo (seen see c) (Waiting None) r) (sym ready) tt,
             is,
@@ -264,7 +274,8 @@ module _ {B L : Type 0} (see : Sight B L) where
       (subst (λ (x : Core). Sound see d x events slots flags capacity) (sym is)
       (subst (λ l. Sound see d (start d.starts.items d.workers d.drivers) l slots flags capacity) (sym none)
       (subst (λ f. Sound see d (start d.starts.items d.workers d.drivers) [] slots f capacity) (sym flag)
-      (subst (λ l. Sound see d (start d.starts.items d.workers d.drivers) [] l (map (λ s. waits s) l) capacity) (sym laid)
+      (subst (λ l. Sound see d (start d.starts.items d.workers d.drivers) [] l (map (λ s. waits s) l) capacity) (sym
+      laid)
       (begins_sound d capacity below are new room)))))
 
 module _ {B L : Type 0} where

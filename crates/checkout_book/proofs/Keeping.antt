@@ -1,5 +1,6 @@
 -- Which of the paths that were looked at wait.
-use Rattle.std.proofs.Common.{◌≡◌, ℕ, zero, suc, ◌+◌, ◌<◌, ◌≤◌, ◌^◌, ◌⊎◌, inl, inr, ⊎_elim, Bool, true, false, List, [], ◌∷◌}
+use Rattle.std.proofs.Common.{◌≡◌, ℕ, zero, suc, ◌+◌, ◌<◌, ◌≤◌, ◌^◌, ◌⊎◌, inl, inr, ⊎_elim, Bool, true, false, List}
+use Rattle.std.proofs.Common.{[], ◌∷◌}
 use Rattle.std.proofs.Common.{set, length, length-set, Option, Some, refl, sym, ap, ◌∙◌, subst, arith, All}
 use Rattle.std.specs.Prelude.{◌-◌, slice_get, slice_index_or, Result, Ok, Err, OnOk}
 use Rattle.std.specs.Result.{is_ok}
@@ -111,7 +112,8 @@ lowest_popped flags next heap rest k kept perm ordered greatest flag =
     none p sum lt q true l at =
         let j : ℕ = 4294967295 - q in
         let s : q + j ≡ 4294967295 = omega (arith, l, sum) in
-        let le = all_of (λ y. y ≤ k) heap j (le_from_greatest k heap greatest) (kept.all q j (omega (arith, l, lt)) s at) in
+        let le = all_of (λ y. y ≤ k) heap j (le_from_greatest k heap greatest) (kept.all q j (omega (arith, l, lt)) s
+        at) in
         absurd (omega (arith, le, s, sum, l))
 
 -- a path that comes back, and one that is still to be looked at
@@ -187,7 +189,8 @@ taken_next flags next found kept lt none = record {
   ordered = kept.ordered;
   below = All-nil (Below found);
   all = λ q j l s at.
-      let old : slice_get flags q ≡ Some true = sym (get_set_other flags found q false (λ e. omega (arith, e, l))) ∙ at in
+      let old : slice_get flags q ≡ Some true = sym (get_set_other flags found q false (λ e. omega (arith, e, l))) ∙
+      at in
       true_false (slice_get flags q) old (old ∙ ap (λ b. Some b) (none q true l old));
 }
 

@@ -1,6 +1,7 @@
 -- A turn keeps a shelf sound.
 use Rattle.std.proofs.Common.{◌≡◌, ◌==◌, ℕ, ◌+◌, ◌<◌, ⊎_elim, Bool, true, false, List, []}
-use Rattle.std.proofs.Common.{◌∷◌, ◌++◌, set, length, length-append, Option, Some, None, refl, sym, ap, ◌∙◌, subst, arith}
+use Rattle.std.proofs.Common.{◌∷◌, ◌++◌, set, length, length-append, Option, Some, None, refl, sym, ap, ◌∙◌, subst}
+use Rattle.std.proofs.Common.{arith}
 use Rattle.std.specs.Prelude.{slice_get, is_some}
 use Rattle.std.specs.Option.{option_map}
 use Rattle.edge_kit.specs.Told.{Tells}
@@ -31,7 +32,8 @@ use Rattle.checkout_book.specs.Shelves.{Lies, IsRow, Sound}
 use Rattle.checkout_book.specs.Turns.{NoneWaits}
 use Rattle.checkout_book.proofs.Lists.{get_set_same, get_set_other}
 use Rattle.checkout_book.proofs.Flags.{set_same, flags_set, flag_at}
-use Rattle.checkout_book.proofs.Runs.{replay_append, same_or, moved_here, moved_there, with_not_waiting, with_not_closed}
+use Rattle.checkout_book.proofs.Runs.{replay_append, same_or, moved_here, moved_there, with_not_waiting}
+use Rattle.checkout_book.proofs.Runs.{with_not_closed}
 use Rattle.checkout_book.proofs.Runs.{out_not_waiting}
 use Rattle.checkout_book.proofs.Entries.{NotEnded, all_ended, ended_more, noted_ended, acted_more}
 use Rattle.checkout_book.proofs.CoreLaws.{TakesPath, MayTake, ClosesPath, BacksPath, KeepsPaths, KeepsSize, IsShort}
@@ -42,9 +44,11 @@ leaf_again text leaf new =
     go leaf.content refl new.content
   where
     go : (o : Option (List ℕ)) → leaf.content ≡ o → Tells o [] → emptied Fresh leaf ≡ leaf
-    go None i t = ap (λ (c : Option (List ℕ)). record leaf { content = c; state = Fresh }) (ap (λ (c : Option (List ℕ)). option_map (λ _. []) c) i ∙ sym i)
+    go None i t = ap (λ (c : Option (List ℕ)). record leaf { content = c; state = Fresh }) (ap (λ (c : Option (List
+        ℕ)). option_map (λ _. []) c) i ∙ sym i)
         ∙ ap (λ s. record leaf { state = s }) (sym new.fresh)
-    go (Some c) i t = ap (λ (c : Option (List ℕ)). record leaf { content = c; state = Fresh }) (ap (λ (c : Option (List ℕ)). option_map (λ _. []) c) i ∙ (ap (λ l. Some l) (sym t) ∙ sym i))
+    go (Some c) i t = ap (λ (c : Option (List ℕ)). record leaf { content = c; state = Fresh }) (ap (λ (c : Option
+        (List ℕ)). option_map (λ _. []) c) i ∙ (ap (λ l. Some l) (sym t) ∙ sym i))
         ∙ ap (λ s. record leaf { state = s }) (sym new.fresh)
 
 module _ {B L : Type 0} (see : Sight B L) where
@@ -88,14 +92,16 @@ module _ {B L : Type 0} (see : Sight B L) where
       → Lies see cards p y t → (q : ℕ) → IsRow see cards q (slice_get (set slots p y) q) (slice_get x.paths q)
   rows_moved cards slots c x p s t y z m rows at lies q = ⊎_elim
       (λ (h : (q ≡ p) × ((q == p) ≡ true)).
-      let one : slice_get (set slots p y) q ≡ Some y = ap (slice_get (set slots p y)) h.0 ∙ get_set_same slots p y z at in
+      let one : slice_get (set slots p y) q ≡ Some y = ap (slice_get (set slots p y)) h.0 ∙ get_set_same slots p y z
+      at in
       let two : slice_get x.paths q ≡ Some (with_state m.row t) = ap (slice_get x.paths) h.0 ∙ moved_here c x p s t m in
       subst (λ o. IsRow see cards q o (slice_get x.paths q)) (sym one)
       (subst (λ (o : Option Path). IsRow see cards q (Some y) o) (sym two)
       (subst (λ (k : ℕ). Lies see cards k y t) (sym h.0) lies)))
       (λ (h : ((q ≡ p) → ⊥) × ((q == p) ≡ false)).
       subst (λ o. IsRow see cards q o (slice_get x.paths q)) (sym (get_set_other slots p q y h.0))
-      (subst (λ (o : Option Path). IsRow see cards q (slice_get slots q) o) (sym (moved_there c x p q s t m h.0)) (rows q)))
+      (subst (λ (o : Option Path). IsRow see cards q (slice_get slots q) o) (sym (moved_there c x p q s t m h.0))
+      (rows q)))
       (same_or q p)
 
   -- one event came, and one slot changed
@@ -270,7 +276,7 @@ module _ {B L : Type 0} (see : Sight B L) where
       (replay_append (start d.starts.items d.workers d.drivers) core new events e sound.run step) in
       omega (arith, l, length-append events (e ∷ []), sound.room)
 
-  waits_not : (cards : List (Card B L)) (p : ℕ) (y : Slot B L) (s : PathState) → Lies see cards p y s
+  pub waits_not : (cards : List (Card B L)) (p : ℕ) (y : Slot B L) (s : PathState) → Lies see cards p y s
       → waits y ≡ false → is_waiting s ≡ false
   waits_not cards p Away s h n = h
   waits_not cards p (Waits c) s h n = absurd (cc (n))

@@ -1,6 +1,6 @@
 -- A turn at the book.
-use Rattle.std.proofs.Common.{◌≡◌, ◌==◌, ℕ, inl, inr, ⊎_elim, Bool, true, false, cond, List, []}
-use Rattle.std.proofs.Common.{◌∷◌, ◌++◌, set, Option, Some, None, refl, sym, ap, ◌∙◌, subst}
+use Rattle.std.proofs.Common.{◌≡◌, ◌==◌, ℕ, ◌<◌, inl, inr, ⊎_elim, Bool, true, false, cond, List, []}
+use Rattle.std.proofs.Common.{◌∷◌, ◌++◌, set, Option, Some, None, refl, sym, ap, ◌∙◌, subst, arith}
 use Rattle.std.specs.Prelude.{slice_get, IfSome, IfNone}
 use mathlib.Core.List.{map-append}
 use Rattle.atomic_table.specs.Seated.{TableId}
@@ -17,7 +17,7 @@ use Rattle.checkout_core.specs.declared.event.Event.TheVariants.{Claim, Close, H
 use Rattle.checkout_core.specs.States.{Core, AreBelow, with_state}
 use Rattle.checkout_core.specs.Actors.{actor_of}
 use Rattle.checkout_core.specs.Hands.{is_held, held_at}
-use Rattle.core_laws.specs.Moves.{RowStays, StaysOr, is_with_driver, is_noted}
+use Rattle.core_laws.specs.Moves.{Moved, RowStays, StaysOr, is_with_driver, is_noted}
 use Rattle.checkout_book.specs.declared.plan.Plan.{Plan}
 use Rattle.checkout_book.specs.declared.plan.Entry.{Entry}
 use Rattle.checkout_book.specs.declared.shelf.Slot.{Slot}
@@ -25,15 +25,15 @@ use Rattle.checkout_book.specs.declared.shelf.Slot.TheVariants.{Away, Waits, End
 use Rattle.checkout_book.specs.Shape.{Shelf}
 use Rattle.checkout_book.specs.Sights.{Sight, tell}
 use Rattle.checkout_book.specs.Entries.{number_or, number_in, entries, entry_of, parts_at, history_of}
-use Rattle.checkout_book.specs.Shelves.{cards_of, plan_of, IsSound, IsPlanned, IsFrom, IsOut}
+use Rattle.checkout_book.specs.Shelves.{is_waiting, waits, cards_of, plan_of, IsSound, IsPlanned, IsFrom, IsOut}
 use Rattle.checkout_book.specs.Turns.{NoneWaits, Turned, Claimed, Unclaimed, Noted}
 use Rattle.checkout_book.specs.Passes.{Reads, IsPass, IsTurned, Claims, Closes, Notes}
-use Rattle.checkout_book.specs.Passes.{claim_entry, close_entry, note_entry}
+use Rattle.checkout_book.specs.Passes.{EndsWith, claim_entry, close_entry, note_entry}
 use Rattle.convert_plan.specs.Card.{CardSeen}
 use Rattle.checkout_book.proofs.Lists.{get_set_same}
-use Rattle.checkout_book.proofs.Runs.{eqb_self, same_number, hands_moved, moved_here, with_not_held}
+use Rattle.checkout_book.proofs.Runs.{eqb_self, same_number, hands_moved, moved_here, moved_there, with_not_held}
 use Rattle.checkout_book.proofs.Entries.{NotEnded, entries_more, note_parts}
-use Rattle.checkout_book.proofs.Sounding.{waited, close_away, back_away}
+use Rattle.checkout_book.proofs.Sounding.{waited, close_away, back_away, slot_at, waits_not}
 use Rattle.checkout_book.proofs.Histories.{own_more, follows_more, same_hands, reads_of}
 use Rattle.checkout_book.proofs.CoreLaws.{TakesPath, ClosesPath, BacksPath, KeepsPaths, TellsHands, KeepsSeat}
 
@@ -77,7 +77,14 @@ module _ {B L : Type 0} (see : Sight B L) where
       let away = close_away see law (plan_of v) v.core w.core v.events.items v.slots.items v.waiting _ p n o sound
       t.step in
       grown (Close p n o) p (Ended b l) v w t sound (λ b l i. cc (away, i))
-      ∙ ap (λ (z : Option (Slot B L)). history_of (tell see) v ++ (n, record { event = Close p n o; parts = parts_at (tell see) z }) ∷ [])
+      ∙ ap (λ (z : Option (Slot B L)). history_of (tell see) v ++ (
+        n,
+        record {
+          event = Close p n o;
+          parts = parts_at
+              (tell see) z;
+        },
+      ) ∷ [])
       (get_set_same v.slots.items p (Ended b l) Away away)
 
   pub note_grown : (n : ℕ) (e : Event) (v w : Shelf B L) → Noted e v w → is_noted e ≡ true
@@ -90,7 +97,14 @@ module _ {B L : Type 0} (see : Sight B L) where
       ∙ (ap (at_plan (plan_of v) v.slots.items) t.events
       ∙ (map-append (λ e. (number_in v.starts.value.items v.workers e, entry_of (tell see) v.slots.items e))
       v.events.items (e ∷ [])
-      ∙ (ap (λ z. history_of (tell see) v ++ (number_in v.starts.value.items v.workers e, record { event = e; parts = z }) ∷ [])
+      ∙ (ap (λ z. history_of (tell see) v ++ (
+        number_in v.starts.value.items v.workers e,
+        record {
+          event = e;
+          parts =
+              z;
+        },
+      ) ∷ [])
       (note_parts (tell see) v.slots.items e noted)
       ∙ ap (λ k. history_of (tell see) v ++ (number_or k, note_entry e) ∷ []) by))))
 
@@ -176,6 +190,20 @@ module _ {B L : Type 0} (see : Sight B L) where
   mine_more lock d n made s0 s2 c v w e t more = t.made_now
       ∙ (ap (own n) more ∙ (own_more n (history_of (tell see) v) e ∙ ap (λ l. l ++ e ∷ []) (sym t.mine)))
 
+  ends_with : (lock : TableId) (d : Plan B L) (n made : ℕ) (s0 s2 : SeatView Entry (Plan B L)) (c : Core)
+      (v w : Shelf B L) (e : Entry) → Went lock d n made s0 s2 c v w
+      → history_of (tell see) w ≡ history_of (tell see) v ++ (n, e) ∷ [] → EndsWith n e s0 s2
+  ends_with lock d n made s0 s2 c v w e t more = (history_of (tell see) v, t.begins, t.seen ∙ more)
+
+  -- no path below the one that was taken waits
+  none_lower : (v w : Shelf B L) (p a : ℕ) (s u : PathState) → Moved v.core w.core p s u → IsSound see v
+      → ((q : ℕ) (y : Slot B L) → q < p → slice_get v.slots.items q ≡ Some y → waits y ≡ false)
+      → (q : ℕ) (r : Path) → q < p → slice_get w.core.paths q ≡ Some r → is_waiting r.state ≡ false
+  none_lower v w p a s u m sound lowest q r lt at =
+      let there = sym (moved_there v.core w.core p q s u m (λ e. omega (arith, lt, e))) ∙ at in
+      let y = slot_at see (cards_of (plan_of v)) v.slots.items v.core q r sound.rows there in
+      waits_not see (cards_of (plan_of v)) q y.0 r.state y.2 (lowest q y.0 lt y.1)
+
   pub took : TellsHands → TakesPath → (lock : TableId) (d : Plan B L) (n made : ℕ)
       (s0 s2 : SeatView Entry (Plan B L)) (c : Core) (v w : Shelf B L) (o : Option (Card B L))
       → Went lock d n made s0 s2 c v w → IfNone o (Unclaimed v w) → IfSome o (Claimed n v w)
@@ -201,6 +229,8 @@ module _ {B L : Type 0} (see : Sight B L) where
         record {
           turn = turned lock d n made s0 s2 c v w t one.turned.plan (claim_follows n v w (Some k) t.sound nil one);
           mine = mine_more lock d n made s0 s2 c v w (claim_entry k.path n) t (claim_grown n v w k one t.sound);
+          last = ends_with lock d n made s0 s2 c v w (claim_entry k.path n) t (claim_grown n v w k one t.sound);
+          lowest = none_lower v w k.path n (Waiting move.0) (Held n move.0) m t.sound one.lowest;
           planned = subst (λ (x : Plan B L). IsPlanned see (cards_of x) k) t.is wait.planned;
           raw = wait.raw;
           holds = (
@@ -226,6 +256,7 @@ module _ {B L : Type 0} (see : Sight B L) where
         core = w.core;
         turn = turned lock d n made s0 s2 c v w t one.plan (inr (close_entry p n o (tell see b l), more));
         mine = mine_more lock d n made s0 s2 c v w (close_entry p n o (tell see b l)) t more;
+        last = ends_with lock d n made s0 s2 c v w (close_entry p n o (tell see b l)) t more;
         hands = λ q. hands_moved v.core w.core p move.0 (Closed move.1) n move.2 q
             ∙ ap (λ (x : Bool). cond (q == p) false x) (hands law lock d n made s0 s2 c v w t q);
       }
@@ -257,6 +288,7 @@ module _ {B L : Type 0} (see : Sight B L) where
         core = w.core;
         turn = turned lock d n made s0 s2 c v w t one.plan (inr (note_entry e, more));
         mine = mine_more lock d n made s0 s2 c v w (note_entry e) t more;
+        last = ends_with lock d n made s0 s2 c v w (note_entry e) t more;
         hands = λ q. row_unheld n (slice_get v.core.paths q) (slice_get w.core.paths q)
             (path v.core w.core e noted_is one.step q) ∙ hands law lock d n made s0 s2 c v w t q;
       }
@@ -280,6 +312,7 @@ module _ {B L : Type 0} (see : Sight B L) where
         core = w.core;
         turn = turned lock d n made s0 s2 c v w t one.plan (inr (note_entry e, more));
         mine = mine_more lock d n made s0 s2 c v w (note_entry e) t more;
+        last = ends_with lock d n made s0 s2 c v w (note_entry e) t more;
         hands = λ q. hands_moved v.core w.core card.path move.0 (Waiting (Some move.1)) n m q
             ∙ (back_hands (q == card.path) (held_at v.core n q)
             (λ i. ap (held_at v.core n) (same_number q card.path i)

@@ -1,6 +1,6 @@
 -- What a pass of a book sees, and what a turn of it does.
 use Rattle.std.specs.Prelude.{◌≡◌, ◌==◌, ℕ, ◌+◌, ◌<◌, true, false, cond, List, [], ◌∷◌, ◌++◌, Option, Some, None}
-use Rattle.std.specs.Prelude.{MatchOption}
+use Rattle.std.specs.Prelude.{MatchOption, slice_get}
 use Rattle.atomic_table.specs.Seated.{TableId}
 use Rattle.turn_lock.specs.History.{Begins}
 use Rattle.turn_lock.specs.Seat.{SeatView, seen_of, mine_of}
@@ -9,6 +9,7 @@ use Rattle.convert_plan.specs.declared.card.Card.{Card}
 use Rattle.checkout_core.specs.declared.verdict.FilterCause.{FilterCause}
 use Rattle.checkout_core.specs.declared.verdict.Own.{Own}
 use Rattle.checkout_core.specs.declared.path.PathState.TheVariants.{Waiting}
+use Rattle.checkout_core.specs.declared.path.Path.{Path}
 use Rattle.checkout_core.specs.declared.path.Start.{Start}
 use Rattle.checkout_core.specs.declared.event.Event.{Event}
 use Rattle.checkout_core.specs.declared.event.Event.TheVariants.{Claim, Close}
@@ -21,7 +22,7 @@ use Rattle.checkout_book.specs.declared.plan.Parts.{Parts}
 use Rattle.checkout_book.specs.declared.plan.Entry.{Entry}
 use Rattle.checkout_book.specs.Entries.{events_of}
 use Rattle.checkout_book.specs.Sights.{Sight, seen}
-use Rattle.checkout_book.specs.Shelves.{cards_of, IsPlanned, WaitsSo}
+use Rattle.checkout_book.specs.Shelves.{cards_of, is_waiting, IsPlanned, WaitsSo}
 use Rattle.checkout_book.specs.Turns.{NoneWaits}
 
 -- each entry stands under the number of its event's actor
@@ -57,6 +58,11 @@ module _ {B L : Type 0} where
     pub pass : IsPass lock d n made new x
     pub seen : Begins (seen_of old) (seen_of new)
 
+  -- what the pass saw then ends with this entry
+  abbrev pub EndsWith : ℕ → Entry → SeatView Entry (Plan B L) → SeatView Entry (Plan B L) → Type 0
+  EndsWith n e old new = (before : List (ℕ × Entry)) × Begins (seen_of old) before
+      × (seen_of new ≡ before ++ (n, e) ∷ [])
+
   -- no card waits
   pub record TookNone (lock : TableId) (d : Plan B L) (n made : ℕ) (old new : SeatView Entry (Plan B L)) (c x : Core)
       : Type 0 where
@@ -70,6 +76,8 @@ module _ {B L : Type 0} where
       (old new : SeatView Entry (Plan B L)) (c x : Core) (k : Card B L) : Type 0 where
     pub turn : IsTurned lock d n made old new x
     pub mine : mine_of new ≡ mine_of old ++ claim_entry k.path n ∷ []
+    pub last : EndsWith n (claim_entry k.path n) old new
+    pub lowest : (q : ℕ) (r : Path) → q < k.path → slice_get x.paths q ≡ Some r → is_waiting r.state ≡ false
     pub planned : IsPlanned see (cards_of d) k
     pub raw : Option FilterCause
     pub holds : Holds x k.path n raw
@@ -86,6 +94,7 @@ module _ {B L : Type 0} where
     pub core : Core
     pub turn : IsTurned lock d n made old new core
     pub mine : mine_of new ≡ mine_of old ++ close_entry p n o parts ∷ []
+    pub last : EndsWith n (close_entry p n o parts) old new
     pub hands : (q : ℕ) → held_at core n q ≡ cond (q == p) false (held_at c n q)
 
   pub record Notes (lock : TableId) (d : Plan B L) (n made : ℕ) (old new : SeatView Entry (Plan B L)) (c : Core)
@@ -93,4 +102,5 @@ module _ {B L : Type 0} where
     pub core : Core
     pub turn : IsTurned lock d n made old new core
     pub mine : mine_of new ≡ mine_of old ++ note_entry e ∷ []
+    pub last : EndsWith n (note_entry e) old new
     pub hands : (q : ℕ) → held_at core n q ≡ held_at c n q

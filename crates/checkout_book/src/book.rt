@@ -24,8 +24,9 @@ pub type Book<B: Blob, L: Leaf> = TurnLock<Shelf<B, L>>;
 /// The pass of one actor of a book.
 pub type Pass<B: Blob, L: Leaf> = TurnSeat<Shelf<B, L>>;
 
-/// The waiting card of the lowest path, or `None` exactly where no card waits at that moment. It waits for its turn, and
-/// takes no memory.
+/// The waiting card of the lowest path, or `None` exactly where no card waits at that moment.
+///
+/// It waits for its turn, and takes no memory.
 pub fn claim<B: Blob, L: Leaf, H: Wait>(
     rt: &H,
     book: &Book<B, L>,

@@ -84,7 +84,13 @@ fn begin<B: Blob, L: Leaf>(
     requires new { AreNew (sight B.told B.seen L.seen) (pool.items ++ joined desks.now.items) }
     ensures count { IfOk result (λ r. length r.1.items ≡ workers + length desks.now.items) }
     ensures passes { IfOk result (λ r. AreIdle r.0
-        (record { pool = pool; desks = desks.now; starts = starts; workers = workers; drivers = length desks.now.items })
+        (record {
+          pool = pool;
+          desks = desks.now;
+          starts = starts;
+          workers = workers;
+          drivers = length desks.now.items;
+        })
         0 (workers + length desks.now.items) r.1.items) }
     ensures fresh { IfOk result (λ r. AreFresh r.1.items) }
 {

@@ -14,11 +14,13 @@ leave-requires-clause-inside g c =
     let v = c.enter-value.result.value in
     let n = c.number-actor.ensures in
     let f = c.enter-value.ensures.fits r.0 r.3.seat.told in
-    let w = c.a_turn_keeps_a_seat.ensures _ r.0 _ r.1 (history_of (tell see) v) c.args.pass.now c.enter-value.new.seat r.3.seat c.enter-value.ensures.inside in (
+    let w = c.a_turn_keeps_a_seat.ensures _ r.0 _ r.1 (history_of (tell see) v) c.args.pass.now
+    c.enter-value.new.seat r.3.seat c.enter-value.ensures.inside in (
       history_of (tell see) v,
       w.place,
       subst (λ k. Follows k (history_of (tell see) v) (history_of (tell see) c.claim-card.new.self)) (n ∙ sym w.number)
-          (claim_follows see c.number-actor.result v c.claim-card.new.self c.claim-card.result f.1 c.claim-card.ensures.none c.claim-card.ensures.some),
+          (claim_follows see c.number-actor.result v c.claim-card.new.self c.claim-card.result f.1
+          c.claim-card.ensures.none c.claim-card.ensures.some),
     )
 
 pub leave-requires-clause-fits : goal.leave-requires-clause-fits
@@ -27,8 +29,17 @@ leave-requires-clause-fits g c =
     let r = c.requires in
     let v = c.enter-value.result.value in
     let f = c.enter-value.ensures.fits r.0 r.3.seat.told in
-    let w = c.a_turn_keeps_a_seat.ensures _ r.0 _ r.1 (history_of (tell see) v) c.args.pass.now c.enter-value.new.seat r.3.seat c.enter-value.ensures.inside in
-    (r.0, w.told, (claim_plan see c.number-actor.result v c.claim-card.new.self c.claim-card.result c.claim-card.ensures.none c.claim-card.ensures.some ∙ f.0, c.claim-card.ensures.sound, c.claim-card.ensures.place f.2))
+    let w = c.a_turn_keeps_a_seat.ensures _ r.0 _ r.1 (history_of (tell see) v) c.args.pass.now
+    c.enter-value.new.seat r.3.seat c.enter-value.ensures.inside in (
+      r.0,
+      w.told,
+      (
+        claim_plan see c.number-actor.result v c.claim-card.new.self c.claim-card.result
+            c.claim-card.ensures.none c.claim-card.ensures.some ∙ f.0,
+        c.claim-card.ensures.sound,
+        c.claim-card.ensures.place f.2,
+      ),
+    )
 
 pub returns : goal.returns
 returns g c d made core pass =
@@ -36,6 +47,9 @@ returns g c d made core pass =
     let v = c.enter-value.result.value in
     let f = c.enter-value.ensures.fits d pass.seat.told in
     let n = c.number-actor.ensures in
-    let t = went see c.a_turn_keeps_a_seat.ensures _ d _ made c.args.pass.now c.enter-value.new.seat c.leave.new.seat core v c.claim-card.new.self pass c.enter-value.ensures.inside c.leave.ensures f.0 f.1 c.claim-card.ensures.sound c.enter-value.ensures.mine c.enter-value.ensures.begins in
-    took see c.own_entries_tell_what_is_in_hand.ensures c.a_claim_takes_its_path.ensures _ d _ made c.args.pass.now c.leave.new.seat core v c.claim-card.new.self c.claim-card.result t c.claim-card.ensures.none
+    let t = went see c.a_turn_keeps_a_seat.ensures _ d _ made c.args.pass.now c.enter-value.new.seat c.leave.new.seat
+    core v c.claim-card.new.self pass c.enter-value.ensures.inside c.leave.ensures f.0 f.1
+    c.claim-card.ensures.sound c.enter-value.ensures.mine c.enter-value.ensures.begins in
+    took see c.own_entries_tell_what_is_in_hand.ensures c.a_claim_takes_its_path.ensures _ d _ made c.args.pass.now
+    c.leave.new.seat core v c.claim-card.new.self c.claim-card.result t c.claim-card.ensures.none
     (subst (λ (k : ℕ). IfSome c.claim-card.result (Claimed k v c.claim-card.new.self)) n c.claim-card.ensures.some)

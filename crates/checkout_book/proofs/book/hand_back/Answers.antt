@@ -17,7 +17,8 @@ pub hand_back-requires-clause-by : goal.hand_back-requires-clause-by
 hand_back-requires-clause-by g c =
     let r = c.requires in
     let f = c.enter-value.ensures.fits r.0 r.3.seat.told in
-    subst (λ (x : Plan g.row.B.Denot g.row.L.Denot). is_some (actor_of x.starts.items x.workers (HandBack c.args.card.path)) ≡ true) (sym f.0) (ap (λ o. is_some o) r.4)
+    subst (λ (x : Plan g.row.B.Denot g.row.L.Denot). is_some (actor_of x.starts.items x.workers (HandBack
+    c.args.card.path)) ≡ true) (sym f.0) (ap (λ o. is_some o) r.4)
 
 pub hand_back-requires-clause-step : goal.hand_back-requires-clause-step
 hand_back-requires-clause-step g c =
@@ -26,13 +27,16 @@ hand_back-requires-clause-step g c =
     let d = r.0 in
     let v = c.enter-value.result.value in
     let f = c.enter-value.ensures.fits d r.3.seat.told in
-    steps_still c.own_entries_decide.ensures d _ _ (history_of (tell see) v) r.2 v.core (HandBack c.args.card.path) (below_of see d v f.0 f.1) r.3.reads (reads_of see d v f.0 f.1) (sym r.3.seat.receipts ∙ c.enter-value.ensures.mine) refl tt r.4 r.5
+    steps_still c.own_entries_decide.ensures d _ _ (history_of (tell see) v) r.2 v.core (HandBack c.args.card.path)
+    (below_of see d v f.0 f.1) r.3.reads (reads_of see d v f.0 f.1) (sym r.3.seat.receipts ∙
+    c.enter-value.ensures.mine) refl tt r.4 r.5
 
 pub hand_back-requires-clause-refused : goal.hand_back-requires-clause-refused
 hand_back-requires-clause-refused g c =
     let r = c.requires in
     let f = c.enter-value.ensures.fits r.0 r.3.seat.told in
-    subst (λ (x : Plan g.row.B.Denot g.row.L.Denot). IsRefused (sight g.B.Blob.told g.B.Blob.seen g.L.Leaf.seen) (cards_of x) c.args.card) (sym f.0) r.6
+    subst (λ (x : Plan g.row.B.Denot g.row.L.Denot). IsRefused (sight g.B.Blob.told g.B.Blob.seen g.L.Leaf.seen)
+    (cards_of x) c.args.card) (sym f.0) r.6
 
 pub leave-requires-clause-inside : goal.leave-requires-clause-inside
 leave-requires-clause-inside g c =
@@ -40,12 +44,18 @@ leave-requires-clause-inside g c =
     let r = c.requires in
     let v = c.enter-value.result.value in
     let f = c.enter-value.ensures.fits r.0 r.3.seat.told in
-    let w = c.a_turn_keeps_a_seat.ensures _ r.0 _ r.1 (history_of (tell see) v) c.args.pass.now c.enter-value.new.seat r.3.seat c.enter-value.ensures.inside in
-    let by = subst (λ (x : Plan g.row.B.Denot g.row.L.Denot). actor_of x.starts.items x.workers (HandBack c.args.card.path) ≡ Some (number_of c.args.pass.now)) (sym f.0) r.4 in (
+    let w = c.a_turn_keeps_a_seat.ensures _ r.0 _ r.1 (history_of (tell see) v) c.args.pass.now
+    c.enter-value.new.seat r.3.seat c.enter-value.ensures.inside in
+    let by = subst (λ (x : Plan g.row.B.Denot g.row.L.Denot). actor_of x.starts.items x.workers (HandBack
+    c.args.card.path) ≡ Some (number_of c.args.pass.now)) (sym f.0) r.4 in (
       history_of (tell see) v,
       w.place,
       subst (λ k. Follows k (history_of (tell see) v) (history_of (tell see) c.hand_back.new.self)) (sym w.number)
-          (inr (note_entry (HandBack c.args.card.path), back_grown see c.a_path_that_is_handed_back_waits.ensures _ c.args.card v c.hand_back.new.self c.hand_back.ensures.turned f.1 by)),
+          (inr (
+            note_entry (HandBack c.args.card.path),
+            back_grown see c.a_path_that_is_handed_back_waits.ensures _
+                c.args.card v c.hand_back.new.self c.hand_back.ensures.turned f.1 by,
+          )),
     )
 
 pub leave-requires-clause-fits : goal.leave-requires-clause-fits
@@ -54,7 +64,8 @@ leave-requires-clause-fits g c =
     let r = c.requires in
     let v = c.enter-value.result.value in
     let f = c.enter-value.ensures.fits r.0 r.3.seat.told in
-    let w = c.a_turn_keeps_a_seat.ensures _ r.0 _ r.1 (history_of (tell see) v) c.args.pass.now c.enter-value.new.seat r.3.seat c.enter-value.ensures.inside in
+    let w = c.a_turn_keeps_a_seat.ensures _ r.0 _ r.1 (history_of (tell see) v) c.args.pass.now
+    c.enter-value.new.seat r.3.seat c.enter-value.ensures.inside in
     (r.0, w.told, (c.hand_back.ensures.turned.plan ∙ f.0, c.hand_back.ensures.sound, c.hand_back.ensures.place f.2))
 
 pub returns : goal.returns
@@ -62,8 +73,11 @@ returns g c d made core pass by =
     let see = sight g.B.Blob.told g.B.Blob.seen g.L.Leaf.seen in
     let v = c.enter-value.result.value in
     let f = c.enter-value.ensures.fits d pass.seat.told in
-    let t = went see c.a_turn_keeps_a_seat.ensures _ d _ made c.args.pass.now c.enter-value.new.seat c.leave.new.seat core v c.hand_back.new.self pass c.enter-value.ensures.inside c.leave.ensures f.0 f.1 c.hand_back.ensures.sound c.enter-value.ensures.mine c.enter-value.ensures.begins in
-    backed see c.own_entries_tell_what_is_in_hand.ensures c.a_path_that_is_handed_back_waits.ensures _ d _ made c.args.pass.now c.leave.new.seat core v c.hand_back.new.self c.args.card t by c.hand_back.ensures.turned
+    let t = went see c.a_turn_keeps_a_seat.ensures _ d _ made c.args.pass.now c.enter-value.new.seat c.leave.new.seat
+    core v c.hand_back.new.self pass c.enter-value.ensures.inside c.leave.ensures f.0 f.1
+    c.hand_back.ensures.sound c.enter-value.ensures.mine c.enter-value.ensures.begins in
+    backed see c.own_entries_tell_what_is_in_hand.ensures c.a_path_that_is_handed_back_waits.ensures _ d _ made
+    c.args.pass.now c.leave.new.seat core v c.hand_back.new.self c.args.card t by c.hand_back.ensures.turned
 
 pub hand_back-requires-clause-sound : goal.hand_back-requires-clause-sound
 hand_back-requires-clause-sound g c = let r = c.requires in (c.enter-value.ensures.fits r.0 r.3.seat.told).1

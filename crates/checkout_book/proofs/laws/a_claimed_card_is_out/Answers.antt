@@ -8,5 +8,6 @@ returns g c cards card planned = (
   planned.0,
   planned.1,
   planned.2,
-  subst (λ (z : CardSeen). IsCardOf (seen (sight g.B.Blob.told g.B.Blob.seen g.L.Leaf.seen) planned.1) z) (sym planned.3) refl,
+  subst (λ (z : CardSeen). IsCardOf (seen (sight g.B.Blob.told g.B.Blob.seen g.L.Leaf.seen) planned.1) z) (sym
+      planned.3) refl,
 )

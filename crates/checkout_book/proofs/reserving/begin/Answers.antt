@@ -12,35 +12,82 @@ use Rattle.checkout_book.proofs.reserving.begin.Goals as goal
 
 pub start-requires-clause-below : goal.start-requires-clause-below
 start-requires-clause-below g c p d required at =
-    let n : c.len-drivers.result ≡ length c.args.desks.now.items = omega (arith, c.len-drivers.ensures, c.args.desks.now.ok.0, c.requires.few_desks) in
+    let n : c.len-drivers.result ≡ length c.args.desks.now.items = omega (
+      arith,
+      c.len-drivers.ensures,
+      c.args.desks.now.ok.0,
+      c.requires.few_desks,
+    ) in
     let lt = c.requires.below p d required at in
     omega (arith, lt, n)
 
 pub place-slots-requires : goal.place-slots-requires
 place-slots-requires g c k card at =
     let lt = past_none c.args.starts.items card.path _ (c.requires.pool.there k card at) in
-    omega (arith, lt, ap length c.in_ok-slots.ensures, aways_length g.row.B.Denot g.row.L.Denot c.len-paths.result, c.len-paths.ensures, c.args.starts.ok.0)
+    omega (
+      arith,
+      lt,
+      ap length c.in_ok-slots.ensures,
+      aways_length g.row.B.Denot g.row.L.Denot c.len-paths.result,
+      c.len-paths.ensures,
+      c.args.starts.ok.0,
+    )
 
 pub reserve-requires : goal.reserve-requires
 reserve-requires g c =
     let n : c.len-paths.result ≡ length c.args.starts.items = omega (arith, c.len-paths.ensures, c.args.starts.ok.0) in
-    let len : length c.place-slots.result.items ≡ c.len-paths.result = ap length c.place-slots.ensures ∙ (placed_length c.in_ok-slots.slots.items c.args.pool.items ∙ (ap length c.in_ok-slots.ensures ∙ aways_length g.row.B.Denot g.row.L.Denot c.len-paths.result)) in
-    omega (arith, ap length c.in_ok-flags.ensures, flags_length c.as_slice.result.now, ap length c.as_slice.ensures.value, len, n, c.requires.few_paths)
+    let len : length c.place-slots.result.items ≡ c.len-paths.result = ap length c.place-slots.ensures ∙
+    (placed_length c.in_ok-slots.slots.items c.args.pool.items ∙ (ap length c.in_ok-slots.ensures ∙ aways_length
+    g.row.B.Denot g.row.L.Denot c.len-paths.result)) in
+    omega (
+      arith,
+      ap length c.in_ok-flags.ensures,
+      flags_length c.as_slice.result.now,
+      ap length
+          c.as_slice.ensures.value,
+      len,
+      n,
+      c.requires.few_paths,
+    )
 
 pub make-requires-clause-fits : goal.make-requires-clause-fits
 make-requires-clause-fits g c =
-    let d : Plan g.row.B.Denot g.row.L.Denot = record { pool = c.args.pool; desks = c.args.desks.now; starts = c.args.starts; workers = c.args.workers; drivers = length c.args.desks.now.items } in
+    let d : Plan g.row.B.Denot g.row.L.Denot = record {
+      pool = c.args.pool;
+      desks = c.args.desks.now;
+      starts =
+          c.args.starts;
+      workers = c.args.workers;
+      drivers = length c.args.desks.now.items;
+    } in
     let p = c.of-told.ensures in
     let s = c.of-begun.ensures in
     let k = c.of-kept.ensures in
-    let dr : c.len-drivers.result ≡ length c.args.desks.now.items = omega (arith, c.len-drivers.ensures, c.args.desks.now.ok.0, c.requires.few_desks) in
+    let dr : c.len-drivers.result ≡ length c.args.desks.now.items = omega (
+      arith,
+      c.len-drivers.ensures,
+      c.args.desks.now.ok.0,
+      c.requires.few_desks,
+    ) in
     let n : c.len-paths.result ≡ length c.args.starts.items = omega (arith, c.len-paths.ensures, c.args.starts.ok.0) in
-    let laid : c.place-slots.result.items ≡ placed (aways (length c.args.starts.items)) c.args.pool.items = c.place-slots.ensures ∙ ap (λ l. placed l c.args.pool.items) (c.in_ok-slots.ensures ∙ ap aways n) in
-    let len : length c.place-slots.result.items ≡ length c.args.starts.items = ap length laid ∙ (placed_length (aways (length c.args.starts.items)) c.args.pool.items ∙ aways_length g.row.B.Denot g.row.L.Denot (length c.args.starts.items)) in
-    let flags = c.in_ok-waiting.ensures ∙ (c.in_ok-flags.ensures ∙ ap (λ l. Rattle.std.specs.Prelude.map (λ x. Rattle.checkout_book.specs.Shelves.waits x) l) c.as_slice.ensures.value) in (
+    let laid : c.place-slots.result.items ≡ placed (aways (length c.args.starts.items)) c.args.pool.items =
+    c.place-slots.ensures ∙ ap (λ l. placed l c.args.pool.items) (c.in_ok-slots.ensures ∙ ap aways n) in
+    let len : length c.place-slots.result.items ≡ length c.args.starts.items = ap length laid ∙ (placed_length (aways
+    (length c.args.starts.items)) c.args.pool.items ∙ aways_length g.row.B.Denot g.row.L.Denot (length
+    c.args.starts.items)) in
+    let flags = c.in_ok-waiting.ensures ∙ (c.in_ok-flags.ensures ∙ ap (λ l. Rattle.std.specs.Prelude.map (λ x.
+    Rattle.checkout_book.specs.Shelves.waits x) l) c.as_slice.ensures.value) in (
       refl,
-      begins_at (sight g.B.Blob.told g.B.Blob.seen g.L.Leaf.seen) d _ _ _ _ _ _ (λ i. record { pool = p i; desks = k i; starts = s i; workers = c.args.workers; drivers = dr i }) c.requires.below c.requires.pool c.requires.new
-          (omega (arith, c.in_ok-events.ensures.capacity, n)) (c.in_ok-core.ensures ∙ ap (λ m. start c.args.starts.items c.args.workers m) dr) c.in_ok-events.ensures.items laid flags,
+      begins_at (sight g.B.Blob.told g.B.Blob.seen g.L.Leaf.seen) d _ _ _ _ _ _ (λ i. record {
+        pool = p i;
+        desks = k
+            i;
+        starts = s i;
+        workers = c.args.workers;
+        drivers = dr i;
+      }) c.requires.below c.requires.pool c.requires.new
+          (omega (arith, c.in_ok-events.ensures.capacity, n)) (c.in_ok-core.ensures ∙ ap (λ m. start
+          c.args.starts.items c.args.workers m) dr) c.in_ok-events.ensures.items laid flags,
       (c.in_ok-parts.ensures.items, omega (arith, c.in_ok-parts.ensures.capacity, len, n)),
     )
 
@@ -48,15 +95,45 @@ pub returns-clause-passes : goal.returns-clause-passes
 returns-clause-passes g c =
     let B = g.row.B.Denot in
     let L = g.row.L.Denot in
-    let d : Plan B L = record { pool = c.args.pool; desks = c.args.desks.now; starts = c.args.starts; workers = c.args.workers; drivers = length c.args.desks.now.items } in
+    let d : Plan B L = record {
+      pool = c.args.pool;
+      desks = c.args.desks.now;
+      starts = c.args.starts;
+      workers =
+          c.args.workers;
+      drivers = length c.args.desks.now.items;
+    } in
     let p = c.of-told.ensures in
     let s = c.of-begun.ensures in
     let k = c.of-kept.ensures in
-    let dr : c.len-drivers.result ≡ length c.args.desks.now.items = omega (arith, c.len-drivers.ensures, c.args.desks.now.ok.0, c.requires.few_desks) in
-    let is : record { pool = c.of-told.result.value; desks = c.of-kept.result.value; starts = c.of-begun.result.value; workers = c.args.workers; drivers = c.len-drivers.result } ≡ d = (λ i. record { pool = p i; desks = k i; starts = s i; workers = c.args.workers; drivers = dr i }) in
-    ok_three _ _ _ _ c.make.result (λ r count seats unseen. idle_new r.0 d 0 (c.args.workers + length c.args.desks.now.items) r.1.items
-    (subst (λ (n : ℕ). AreSeats r.0 d 0 (c.args.workers + n) r.1.items) dr (subst (λ (x : Plan B L). AreSeats r.0 x 0 (c.args.workers + c.len-drivers.result) r.1.items) is seats)) unseen (omega (arith, count, dr))) c.make.ensures.count c.make.ensures.seats c.make.ensures.unseen
+    let dr : c.len-drivers.result ≡ length c.args.desks.now.items = omega (
+      arith,
+      c.len-drivers.ensures,
+      c.args.desks.now.ok.0,
+      c.requires.few_desks,
+    ) in
+    let is : record {
+      pool = c.of-told.result.value;
+      desks = c.of-kept.result.value;
+      starts =
+          c.of-begun.result.value;
+      workers = c.args.workers;
+      drivers = c.len-drivers.result;
+    } ≡ d = (λ i. record {
+      pool
+          = p i;
+      desks = k i;
+      starts = s i;
+      workers = c.args.workers;
+      drivers = dr i;
+    }) in
+    ok_three _ _ _ _ c.make.result (λ r count seats unseen. idle_new r.0 d 0 (c.args.workers + length
+    c.args.desks.now.items) r.1.items
+    (subst (λ (n : ℕ). AreSeats r.0 d 0 (c.args.workers + n) r.1.items) dr (subst (λ (x : Plan B L). AreSeats r.0 x 0
+    (c.args.workers + c.len-drivers.result) r.1.items) is seats)) unseen (omega (arith, count, dr)))
+    c.make.ensures.count c.make.ensures.seats c.make.ensures.unseen
 
 pub returns-clause-fresh : goal.returns-clause-fresh
 returns-clause-fresh g c =
-    ok_three _ _ _ _ c.make.result (λ r count seats unseen. fresh_seats r.0 _ 0 _ r.1.items seats unseen) c.make.ensures.count c.make.ensures.seats c.make.ensures.unseen
+    ok_three _ _ _ _ c.make.result (λ r count seats unseen. fresh_seats r.0 _ 0 _ r.1.items seats unseen)
+    c.make.ensures.count c.make.ensures.seats c.make.ensures.unseen

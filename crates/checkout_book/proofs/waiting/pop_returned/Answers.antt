@@ -11,7 +11,8 @@ returns-then-flags-path-clause-some c =
     let flags = c.args.flags.now in
     let order = c.in-Some.ensures.heap_order i.ordered in
     let lt = popped_within flags c.args.next _ _ k i c.in-Some.ensures.permutation in
-    let flag : slice_get flags (4294967295 - k) ≡ Some true = slice_get-get_or flags (4294967295 - k) false lt ∙ ap (λ b. Some b) c.if-flags-path.true in
+    let flag : slice_get flags (4294967295 - k) ≡ Some true = slice_get-get_or flags (4294967295 - k) false lt ∙ ap
+    (λ b. Some b) c.if-flags-path.true in
     let low = lowest_popped flags c.args.next _ _ k i c.in-Some.ensures.permutation order.0 order.1 flag in
     (low.within, low.lowest, low.kept)
 
@@ -22,5 +23,6 @@ loop-key-preserved c =
     let flags = c.args.flags.now in
     let order = c.in-Some.ensures.heap_order i.ordered in
     let lt = popped_within flags c.args.next _ _ k i c.in-Some.ensures.permutation in
-    let flag : slice_get flags (4294967295 - k) ≡ Some false = slice_get-get_or flags (4294967295 - k) false lt ∙ ap (λ b. Some b) c.if-flags-path.false in
+    let flag : slice_get flags (4294967295 - k) ≡ Some false = slice_get-get_or flags (4294967295 - k) false lt ∙ ap
+    (λ b. Some b) c.if-flags-path.false in
     passed_over flags c.args.next _ _ k i c.in-Some.ensures.permutation order.0 flag

@@ -5,4 +5,5 @@ use Rattle.checkout_book.proofs.ending.Ended.close.Goals as goal
 
 pub close-requires-clause-from : goal.close-requires-clause-from
 close-requires-clause-from g c =
-    out_from (sight g.B.Blob.told g.B.Blob.seen g.L.Leaf.seen) (cards_of (plan_of c.args.self.now.shelf)) c.args.card c.requires.out
+    out_from (sight g.B.Blob.told g.B.Blob.seen g.L.Leaf.seen) (cards_of (plan_of c.args.self.now.shelf)) c.args.card
+    c.requires.out

@@ -21,9 +21,20 @@ loop-slot-preserved-in-Ended g c =
     let x = c.in-Some.slot in
     let p = c.push_reserved.ensures.items in
     record {
-      whole = append_assoc y (x ∷ []) c.next.new.self.rest.items ∙ (ap (λ l. y ++ l) (sym c.in-Some.ensures.steps.0) ∙ i.whole);
-      parts = parts_next y x c.loop-slot.parts.items c.push_reserved.new.self.items ((c.in-Ended.blob, c.in-Ended.leaf) ∷ []) i.parts p (ap (λ s. parts_in (s ∷ [])) c.in-Ended.is);
-      few = omega (arith, ap length p, length-append c.loop-slot.parts.items ((c.in-Ended.blob, c.in-Ended.leaf) ∷ []), length-append y (x ∷ []), i.few);
+      whole = append_assoc y (x ∷ []) c.next.new.self.rest.items ∙ (ap (λ l. y ++ l) (sym c.in-Some.ensures.steps.0)
+          ∙ i.whole);
+      parts = parts_next y x c.loop-slot.parts.items c.push_reserved.new.self.items ((
+        c.in-Ended.blob,
+        c.in-Ended.leaf,
+      ) ∷ []) i.parts p (ap (λ s. parts_in (s ∷ [])) c.in-Ended.is);
+      few = omega (
+        arith,
+        ap length p,
+        length-append c.loop-slot.parts.items ((c.in-Ended.blob, c.in-Ended.leaf) ∷
+            []),
+        length-append y (x ∷ []),
+        i.few,
+      );
       room = c.push_reserved.ensures.capacity ∙ i.room;
       can = tt;
       ends = tt;
@@ -35,8 +46,10 @@ loop-slot-preserved-in-Waits g c =
     let y = c.loop-slot.yielded in
     let x = c.in-Some.slot in
     record {
-      whole = append_assoc y (x ∷ []) c.next.new.self.rest.items ∙ (ap (λ l. y ++ l) (sym c.in-Some.ensures.steps.0) ∙ i.whole);
-      parts = parts_next y x c.loop-slot.parts.items c.loop-slot.parts.items [] i.parts (sym (append-nil c.loop-slot.parts.items)) (ap (λ s. parts_in (s ∷ [])) c.in-Waits.is);
+      whole = append_assoc y (x ∷ []) c.next.new.self.rest.items ∙ (ap (λ l. y ++ l) (sym c.in-Some.ensures.steps.0)
+          ∙ i.whole);
+      parts = parts_next y x c.loop-slot.parts.items c.loop-slot.parts.items [] i.parts (sym (append-nil
+          c.loop-slot.parts.items)) (ap (λ s. parts_in (s ∷ [])) c.in-Waits.is);
       few = omega (arith, length-append y (x ∷ []), i.few);
       room = i.room;
       can = tt;
@@ -49,8 +62,10 @@ loop-slot-preserved g c =
     let y = c.loop-slot.yielded in
     let x = c.in-Some.slot in
     record {
-      whole = append_assoc y (x ∷ []) c.next.new.self.rest.items ∙ (ap (λ l. y ++ l) (sym c.in-Some.ensures.steps.0) ∙ i.whole);
-      parts = parts_next y x c.loop-slot.parts.items c.loop-slot.parts.items [] i.parts (sym (append-nil c.loop-slot.parts.items)) (ap (λ s. parts_in (s ∷ [])) c.in-Away.is);
+      whole = append_assoc y (x ∷ []) c.next.new.self.rest.items ∙ (ap (λ l. y ++ l) (sym c.in-Some.ensures.steps.0)
+          ∙ i.whole);
+      parts = parts_next y x c.loop-slot.parts.items c.loop-slot.parts.items [] i.parts (sym (append-nil
+          c.loop-slot.parts.items)) (ap (λ s. parts_in (s ∷ [])) c.in-Away.is);
       few = omega (arith, length-append y (x ∷ []), i.few);
       room = i.room;
       can = tt;

@@ -11,4 +11,7 @@ invariant_of-self-then-is_ok c =
     let ok : is_ok c.push.result ≡ true = sym c.is_ok.ensures.value ∙ c.if-is_ok.true in
     let perm = on_ok _ c.push.result ok c.push.ensures.permutation in
     let order = on_ok _ c.push.result ok c.push.ensures.heap_order in
-    came_back _ _ _ _ _ c.args.path c.self.invariant perm (order c.self.invariant.ordered) (omega (arith, c.ranges.path.fits)) (omega (arith, c.if-path-self.false))
+    came_back _ _ _ _ _ c.args.path c.self.invariant perm (order c.self.invariant.ordered) (omega (
+      arith,
+      c.ranges.path.fits,
+    )) (omega (arith, c.if-path-self.false))
