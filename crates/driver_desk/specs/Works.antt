@@ -85,3 +85,7 @@ card_paths (c ∷ cs) = c.path ∷ card_paths cs
 abbrev pub AreNew : List CardSeen → Type 0
 AreNew [] = Unit {0}
 AreNew (c ∷ cs) = IsNewCard c × AreNew cs
+
+abbrev pub card_texts : List CardSeen → List (List ℕ)
+card_texts [] = []
+card_texts (c ∷ cs) = c.text ∷ card_texts cs

@@ -1,15 +1,13 @@
-use Rattle.std.proofs.Common.{◌≡◌, ◌∷◌, ◌++◌, [], List, map, refl, ap, sym, subst, ◌∙◌, ◌+◌, ◌≤◌, arith, ℕ, length, false}
+use Rattle.std.proofs.Common.{◌≡◌, ◌∷◌, ◌++◌, [], List, map, refl, ap, sym, subst, ◌∙◌, ◌+◌, ◌≤◌, arith, length}
 use Rattle.std.proofs.lemmas.List.{append-nil}
 use Rattle.edge_kit.specs.declared.leaf_state.LeafState.TheVariants.{Fresh}
 use Rattle.convert_plan.specs.Card.{CardSeen, card_seen}
 use Rattle.convert_plan.specs.declared.card.Card.{Card}
-use Rattle.driver_line.specs.Lines.{LineView, Paths}
-use Rattle.driver_desk.specs.Late.{cards_of}
 use Rattle.driver_desk.specs.Rounds.{LateSeen, late_seen, paths_of, AreReady, AreApart, FitTexts}
-use Rattle.driver_desk.specs.Works.{WorkSeen, card_paths}
+use Rattle.driver_desk.specs.Works.{card_paths}
 use Rattle.driver_desk.specs.Serving.{newest}
 use Rattle.driver_desk.proofs.Serves.{fit_done, asked_more, serves_asked}
-use Rattle.driver_desk.proofs.RoundSteps.{grows_ready, grows_apart, grows_fits, apart_first}
+use Rattle.driver_desk.proofs.RoundSteps.{grows_ready, grows_apart, grows_fits}
 use Rattle.driver_desk.proofs.CardLists.{all_next, here_is, read_push, len_push, place_below, new_next, new_ready, text_of, sane_none, serves_late}
 use Rattle.driver_desk.proofs.desk.serve_all.Goals as goal
 

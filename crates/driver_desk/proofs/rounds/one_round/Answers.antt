@@ -1,8 +1,8 @@
 use Rattle.driver_line.specs.Conversations.{list_notes}
 use Rattle.driver_desk.specs.Serving.{noted_in}
-use Rattle.std.proofs.Common.{ℕ, ◌≡◌, ◌<◌, ◌+◌, length, List, refl, ap, sym, subst, ◌∙◌}
-use Rattle.driver_line.specs.Lines.{names_in, late_in, weight}
-use Rattle.driver_desk.specs.Late.{cards_of, names_at}
+use Rattle.std.proofs.Common.{ℕ, ◌≡◌, ◌<◌, ◌+◌, length, List, sym, subst}
+use Rattle.driver_line.specs.Lines.{names_in, weight}
+use Rattle.driver_desk.specs.Late.{cards_of}
 use Rattle.driver_desk.specs.Rounds.{LateSeen, paths_of, FitTexts}
 use Rattle.driver_desk.proofs.RoundSteps.{next_listed, listed, listed_at, open_live, fewer_round, some_at}
 use Rattle.driver_desk.proofs.rounds.one_round.Goals as goal

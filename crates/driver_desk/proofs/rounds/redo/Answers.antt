@@ -1,4 +1,4 @@
-use Rattle.std.proofs.Common.{refl, ap, sym, ◌∙◌, ◌≡◌}
+use Rattle.std.proofs.Common.{sym, ◌∙◌}
 use Rattle.driver_desk.proofs.RoundSteps.{redone, open_live, next_after}
 use Rattle.driver_desk.proofs.rounds.redo.Goals as goal
 

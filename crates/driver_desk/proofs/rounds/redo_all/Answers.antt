@@ -1,10 +1,9 @@
-use Rattle.std.proofs.Common.{◌≡◌, ◌⊎◌, inl, inr, ◌<◌, ◌≤◌, ◌+◌, ◌∷◌, ℕ, List, length, refl, ap, sym, subst, ◌∙◌, arith, None}
+use Rattle.std.proofs.Common.{◌≡◌, ◌⊎◌, inl, inr, ◌<◌, ◌+◌, ℕ, List, length, ap, sym, subst, ◌∙◌, arith}
 use Rattle.delay_table.specs.Table.{Table}
-use Rattle.driver_line.specs.Lines.{LineView, Paths}
-use Rattle.driver_desk.specs.Late.{LateView, cards_of, names_at}
-use Rattle.driver_desk.specs.Rounds.{late_seen, FitTexts, paths_of, RedoneCards, RoundsBy}
+use Rattle.driver_desk.specs.Late.{LateView, cards_of}
+use Rattle.driver_desk.specs.Rounds.{FitTexts, paths_of, RedoneCards, RoundsBy}
 use Rattle.driver_desk.proofs.LateCards.{step_names, taken_length}
-use Rattle.driver_desk.proofs.RoundSteps.{taken_ready, taken_apart, taken_fits, taken_redone, next_open, some_there}
+use Rattle.driver_desk.proofs.RoundSteps.{taken_ready, taken_apart, taken_fits, taken_redone, some_there}
 use Rattle.driver_desk.proofs.rounds.redo_all.Goals as goal
 
 pub redo-requires-clause-fresh : goal.redo-requires-clause-fresh

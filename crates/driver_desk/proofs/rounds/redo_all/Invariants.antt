@@ -1,4 +1,4 @@
-use Rattle.std.proofs.Common.{◌≡◌, ◌⊎◌, ◌<◌, ◌≤◌, ◌+◌, ℕ, List, length, None}
+use Rattle.std.proofs.Common.{◌≡◌, ◌⊎◌, ◌<◌, ℕ, List, length, None}
 use Rattle.driver_line.specs.Lines.{LineView, Paths}
 use Rattle.driver_desk.specs.Late.{KeepsNames, cards_of, names_at}
 use Rattle.driver_desk.specs.Rounds.{paths_of, IsNext, AreReady, AreApart, FitTexts, RoundsBy}

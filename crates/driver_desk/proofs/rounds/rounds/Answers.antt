@@ -1,6 +1,6 @@
-use Rattle.std.proofs.Common.{◌≡◌, refl, ap, sym, subst, ◌∙◌}
+use Rattle.std.proofs.Common.{◌∙◌}
 use Rattle.driver_desk.proofs.Serves.{is_none}
-use Rattle.driver_desk.proofs.RoundSteps.{rounds_over, fits_names, turns_none, next_open, some_there}
+use Rattle.driver_desk.proofs.RoundSteps.{rounds_over, fits_names}
 use Rattle.driver_desk.proofs.rounds.rounds.Goals as goal
 
 pub loop-seat-preserved : goal.loop-seat-preserved

@@ -1,4 +1,4 @@
-use Rattle.std.proofs.Common.{◌≡◌, ◌+◌, ℕ, List, [], length}
+use Rattle.std.proofs.Common.{◌+◌, ℕ, List, [], length}
 use Rattle.driver_line.specs.Lines.{LineView, Paths, weight}
 use Rattle.driver_desk.specs.Serving.{Given}
 use Rattle.driver_desk.specs.Late.{KeepsNames, FitsNames, cards_of}

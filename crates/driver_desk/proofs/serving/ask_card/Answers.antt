@@ -1,4 +1,4 @@
-use Rattle.std.proofs.Common.{refl, ap, sym, ◌∙◌, ℕ}
+use Rattle.std.proofs.Common.{ap, sym, ◌∙◌, ℕ}
 use Rattle.driver_desk.specs.Rounds.{paths_of}
 use Rattle.driver_desk.specs.Late.{cards_of}
 use Rattle.driver_desk.specs.Serving.{newest, late_after}

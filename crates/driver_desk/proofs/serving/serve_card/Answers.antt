@@ -1,4 +1,4 @@
-use Rattle.std.proofs.Common.{refl, ap, sym, ◌∙◌, ◌≡◌, None, rules, [], false}
+use Rattle.std.proofs.Common.{refl, [], false}
 use Rattle.driver_desk.proofs.Serves.{serves_ahead, serves_closed, serves_past, past_smudge, closing}
 use Rattle.driver_desk.proofs.serving.serve_card.Goals as goal
 

@@ -1,4 +1,4 @@
-use Rattle.std.proofs.Common.{refl, ap, sym, subst, ◌∙◌, ◌≡◌, ◌++◌, ◌∷◌, [], List, ℕ, Ok, Err}
+use Rattle.std.proofs.Common.{refl, ap, sym, ◌∙◌, ◌++◌, ◌∷◌, [], ℕ, Ok, Err}
 use Rattle.convert_plan.specs.Card.{CardSeen, card_seen}
 use Rattle.driver_desk.proofs.Serves.{work_past, work_failed, serves_asked, closing}
 use Rattle.driver_desk.proofs.RoundSteps.{serves_as}

@@ -5,7 +5,7 @@ use Rattle.std.proofs.lemmas.Option.{slice_get_read}
 use Rattle.delay_table.specs.Table.{Table}
 use Rattle.driver_desk.specs.declared.closing.Work.{Work}
 use Rattle.driver_desk.specs.Rounds.{late_seen}
-use Rattle.driver_desk.specs.Late.{LateView, AreIdle, cards_of}
+use Rattle.driver_desk.specs.Late.{LateView, AreIdle}
 use Rattle.driver_desk.proofs.LateCards.{set_seen, match_none, match_some, no_cards, pending_within, within_slots, late_taken, has_work, taken_now, idle_taken}
 use Rattle.driver_desk.proofs.late.Late.next_late.Goals as goal
 

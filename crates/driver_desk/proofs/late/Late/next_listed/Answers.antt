@@ -1,13 +1,13 @@
 use Rattle.std.proofs.Common.{refl, ap, sym, subst, ◌∙◌, ◌≡◌, Option, Some, None, List, arith, ◌<◌, length, ℕ, true}
 use Rattle.std.specs.Option.{option_map}
-use Rattle.std.specs.Prelude.{slice_get, slice_set}
+use Rattle.std.specs.Prelude.{slice_set}
 use Rattle.std.proofs.lemmas.Option.{slice_get_read}
 use Rattle.delay_table.specs.Table.{Table, with_place}
 use Rattle.delay_table.specs.declared.place.Place.TheVariants.{Done}
 use Rattle.driver_desk.specs.declared.closing.Work.{Work}
 use Rattle.driver_desk.specs.Rounds.{late_seen}
-use Rattle.driver_desk.specs.Late.{LateView, AreIdle, cards_of}
-use Rattle.driver_desk.proofs.LateCards.{first_listed, set_seen, match_none, match_some, no_cards, pending_within, within_slots, late_taken, has_work, taken_now, idle_taken}
+use Rattle.driver_desk.specs.Late.{LateView}
+use Rattle.driver_desk.proofs.LateCards.{first_listed, set_seen, match_some, pending_within, within_slots, late_taken, has_work, taken_now}
 use Rattle.driver_desk.proofs.late.Late.next_listed.Goals as goal
 
 pub index_mut-requires : goal.index_mut-requires
