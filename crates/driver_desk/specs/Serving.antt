@@ -11,6 +11,8 @@ use Rattle.filter_words.specs.declared.reply.Reply.TheVariants as reply
 use Rattle.checkout_core.specs.Talks.{talk_run, IsOver}
 use Rattle.driver_line.specs.Conversations.{Exchange, notes_in}
 use Rattle.driver_line.specs.Lines.{LineView, Paths, RunsTo}
+use Rattle.checkout_core.specs.Transcripts.{Item}
+use Rattle.checkout_core.specs.Transcripts as result
 use Rattle.driver_line.specs.Transcripts.{IsTalk}
 use Rattle.edge_kit.specs.Starters.{Had}
 
@@ -95,12 +97,16 @@ late_after p reply.Abort late = []
 late_after p (reply.Broken why) late = []
 late_after p reply.NoMemory late = []
 
--- A desk has served: what its starter keeps grew by a talk, and its recorder was given just the talk's notes.
+-- A desk has served: what its starter keeps grew by a talk, and its recorder was given just the talk's notes. The results
+-- of the talk are a whole talk, case by case.
 pub record IsServed (d : ℕ) (paths : Paths) (asked : List ℕ) (had0 had : List Had) (given0 given : List Given) : Type 0 where
   pub items : List Had
   pub exchanges : List Exchange
+  pub results : List Item
   pub more : List Given
   pub kept : had ≡ had0 ++ items
   pub talk : IsTalk d paths asked items exchanges
+  pub whole : result.IsTalk asked results
+  pub same : result.notes_of d results ≡ notes_in d exchanges
   pub told : given ≡ given0 ++ more
   pub noted : noted_in more ≡ notes_in d exchanges

@@ -13,6 +13,7 @@ use crate::recorder::Recorder;
 use crate::rounds::end_talk;
 use crate::serving::{Seat, serve_one};
 use convert_plan::Card;
+use core_laws::laws::a_talk_is_a_transcript;
 use driver_line::{Line, exchanges_are_spelled};
 use edge_kit::{Blob, Gate, Leaf, Starter};
 use std::alloc::{AllocError, Global};
@@ -159,6 +160,7 @@ impl<S: Starter, B: Blob, L: Leaf> Desk<S, B, L> {
             → IsServed self.driver paths (asked_in works) self.starter.had (S.seen result.starter).had (C.given recorder.old) (C.given recorder.new)) }
     {
         exchanges_are_spelled();
+        a_talk_is_a_transcript();
         let Desk {
             alloc,
             seat,
