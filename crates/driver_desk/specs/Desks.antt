@@ -1,5 +1,5 @@
 -- A desk: the cards of a driver, and what starts it.
-use Rattle.std.specs.Prelude.{◌≡◌, ◌<◌, ◌^◌, ℕ, List, length}
+use Rattle.std.specs.Prelude.{ℕ, List}
 use Rattle.edge_kit.specs.Starters.{StarterSeen}
 use Rattle.convert_plan.specs.Card.{CardSeen}
 use Rattle.driver_desk.specs.Works.{AreNew}

@@ -2,11 +2,11 @@
 use Rattle.edge_kit.specs.declared.leaf_state.LeafState.{LeafState}
 use Rattle.edge_kit.specs.declared.leaf_state.LeafState.TheVariants.{Fresh}
 use Rattle.std.specs.Prelude.{length, ◌≤◌, ◌≡◌, ◌⊎◌, ℕ, Bool, true, false, ◌==◌, List, [], ◌∷◌, ◌++◌, Option, Some, None}
-use Rattle.checkout_core.specs.Talks.{Talk, Round, Between, InRound, Ended, contains, without}
+use Rattle.checkout_core.specs.Talks.{Talk, InRound, contains, without}
 use Rattle.filter_proto.specs.Wires.{SessionSeen}
 use Rattle.filter_proto.specs.declared.session.Standing.TheVariants as standing
 use Rattle.checkout_core.specs.Talks.{IsOver}
-use Rattle.driver_line.specs.Lines.{LineView, Paths, AreKnown}
+use Rattle.driver_line.specs.Lines.{LineView, Paths}
 use Rattle.driver_desk.specs.Serving.{Given, Talks}
 
 -- no path is left to ask for: these are late, and these were listed and not asked for again

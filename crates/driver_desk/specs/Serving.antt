@@ -2,13 +2,13 @@
 use Rattle.std.specs.Prelude.{◌≡◌, ℕ, Bool, true, false, not, cond, Option, Some, None, List, [], ◌∷◌, ◌++◌}
 use Rattle.checkout_core.specs.declared.event.Event.{Event}
 use Rattle.checkout_core.specs.declared.verdict.Own.{Own}
-use Rattle.checkout_core.specs.Talks.{Talk, Round, Between, Refusing, InRound, Ended, is_empty}
+use Rattle.checkout_core.specs.Talks.{Talk, Between, Refusing, InRound, Ended, is_empty}
 use Rattle.filter_proto.specs.Wires.{SessionSeen}
 use Rattle.convert_plan.specs.Card.{CardSeen}
 use Rattle.filter_proto.specs.declared.session.Standing.TheVariants as standing
 use Rattle.filter_words.specs.declared.reply.Reply.{Reply}
 use Rattle.filter_words.specs.declared.reply.Reply.TheVariants as reply
-use Rattle.checkout_core.specs.Talks.{talk_run, IsOver}
+use Rattle.checkout_core.specs.Talks.{talk_run}
 use Rattle.driver_line.specs.Conversations.{Exchange, notes_in}
 use Rattle.driver_line.specs.Lines.{LineView, Paths, RunsTo}
 use Rattle.checkout_core.specs.Transcripts.{Item}

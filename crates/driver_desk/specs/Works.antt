@@ -1,8 +1,6 @@
 -- Cards with what was read and prepared for them.
-use Rattle.std.specs.Prelude.{◌≡◌, ℕ, ◌≤◌, Option, Some, None, List, [], ◌∷◌, ◌++◌, length, Result, Ok, Err}
-use Rattle.edge_kit.specs.declared.leaf_state.LeafState.{LeafState}
-use Rattle.edge_kit.specs.declared.leaf_state.LeafState.TheVariants.{Fresh}
-use Rattle.object_dir.specs.Object.{IsObject, Gives}
+use Rattle.std.specs.Prelude.{◌≡◌, ℕ, List, [], ◌∷◌, ◌++◌, Result, Ok, Err}
+use Rattle.object_dir.specs.Object.{IsObject}
 use Rattle.object_dir.specs.declared.fault.ObjectFault.{ObjectFault}
 use Rattle.object_dir.specs.declared.fault.ObjectFault.TheVariants as fault
 use Rattle.tree_encoding.specs.declared.prepared.Prepared.{Prepared}

@@ -52,10 +52,7 @@ impl<B: Blob, L: Leaf> Model for Late<B, L> {
 }
 
 /// The texts of the cards.
-fn texts_of<B: Blob, L: Leaf>(
-    alloc: Global,
-    cards: &[Card<B, L>],
-) -> Result<Vec<Bytes>, AllocError>
+fn texts_of<B: Blob, L: Leaf>(alloc: Global, cards: &[Card<B, L>]) -> Result<Vec<Bytes>, AllocError>
     ensures { IfOk result (λ v. v.items ≡ card_texts (map (λ c. card_seen B.told B.seen L.seen c) cards.now)) }
 {
     let mut texts = Vec::with_capacity(alloc, cards.len())?;
@@ -67,10 +64,7 @@ fn texts_of<B: Blob, L: Leaf>(
 }
 
 /// The numbers of the cards' paths.
-fn numbers_of<B: Blob, L: Leaf>(
-    alloc: Global,
-    cards: &[Card<B, L>],
-) -> Result<Vec<u32>, AllocError>
+fn numbers_of<B: Blob, L: Leaf>(alloc: Global, cards: &[Card<B, L>]) -> Result<Vec<u32>, AllocError>
     ensures { IfOk result (λ v. v.items ≡ card_paths (map (λ c. card_seen B.told B.seen L.seen c) cards.now)) }
 {
     let mut numbers = Vec::with_capacity(alloc, cards.len())?;

@@ -9,8 +9,8 @@ use Rattle.filter_words.specs.declared.reply.ListReply.{ListReply}
 use Rattle.filter_words.specs.declared.reply.ListReply.TheVariants as list
 use Rattle.filter_words.specs.declared.reply.Reply.{Reply}
 use Rattle.edge_kit.specs.Told.{Tells}
-use Rattle.edge_kit.specs.Starters.{StarterSeen, Had, Session, StartOutOfMemory, SessionHad, NextGives, behind_next, IsStartFailed}
-use Rattle.edge_kit.specs.Links.{Stage, Open, is_shut}
+use Rattle.edge_kit.specs.Starters.{StarterSeen, Session, StartOutOfMemory, SessionHad, NextGives, behind_next, IsStartFailed}
+use Rattle.edge_kit.specs.Links.{Open, is_shut}
 use Rattle.filter_proto.specs.Wires.{Wire}
 use Rattle.filter_proto.specs.Exchanges.{Ends, Good, Broke, OutOfMemory, IsExchange}
 use Rattle.filter_proto.specs.Wires.{SessionSeen}
@@ -19,7 +19,7 @@ use Rattle.filter_proto.specs.Wires.{shut_after}
 use Rattle.filter_proto.specs.Openings.{IsOpening}
 use Rattle.filter_proto.specs.declared.session.Standing.{Standing}
 use Rattle.filter_proto.specs.declared.session.Standing.TheVariants as standing
-use Rattle.std.specs.Prelude.{Result, Ok, Err, ⊤, length, ◌<◌}
+use Rattle.std.specs.Prelude.{Result, Ok, ⊤, length, ◌<◌}
 use Rattle.checkout_core.specs.Talks.{contains}
 use Rattle.edge_kit.specs.Files.{grown}
 use Rattle.edge_kit.specs.declared.faults.SendFault.{SendFault}

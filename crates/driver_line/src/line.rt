@@ -208,7 +208,12 @@ impl<S: Starter> Line<S> {
 
 /// Asks in an open session.
 #[tactic(auto, using(crate::proofs::Ends::with_content, crate::proofs::Ends::asked_may))]
-fn ask_in<K: Link, L: Leaf>(session: &mut Session<K>, text: &[u8], content: &[u8], leaf: &mut L) -> Asked
+fn ask_in<K: Link, L: Leaf>(
+    session: &mut Session<K>,
+    text: &[u8],
+    content: &[u8],
+    leaf: &mut L,
+) -> Asked
     requires live { session.old.standing ≡ Standing.Live }
     requires smudge { session.old.caps.smudge ≡ true }
     requires fresh { (L.seen leaf.old).state ≡ state.Fresh }

@@ -1,7 +1,4 @@
-use Rattle.std.proofs.Common.{refl, ap, sym, subst, ◌∙◌, ◌≡◌, ◌<◌, ◌++◌, ◌∷◌, [], List, ℕ, map, take, length, arith, Option, None}
-use Rattle.convert_plan.specs.Card.{CardSeen, card_seen}
-use Rattle.convert_plan.specs.declared.card.Card.{Card}
-use Rattle.driver_desk.specs.Works.{card_paths, card_texts}
+use Rattle.std.proofs.Common.{ap, sym, ◌∙◌, ◌++◌, ◌∷◌, [], List, Option, None}
 use Rattle.driver_desk.specs.declared.closing.Work.{Work}
 use Rattle.driver_desk.proofs.CardLists.{nones_more}
 use Rattle.driver_desk.proofs.late.slots_of.Goals as goal

@@ -1,7 +1,7 @@
-use Rattle.std.proofs.Common.{refl, ap, sym, subst, ◌∙◌, ◌≡◌, ◌<◌, ◌++◌, ◌∷◌, [], List, ℕ, map, take, length, arith, Option, None}
-use Rattle.convert_plan.specs.Card.{CardSeen, card_seen}
+use Rattle.std.proofs.Common.{ap, sym, ◌∙◌, ◌++◌, ◌∷◌, [], List, ℕ, map, take}
+use Rattle.convert_plan.specs.Card.{card_seen}
 use Rattle.convert_plan.specs.declared.card.Card.{Card}
-use Rattle.driver_desk.specs.Works.{card_paths, card_texts}
+use Rattle.driver_desk.specs.Works.{card_texts}
 use Rattle.driver_desk.proofs.CardLists.{texts_more}
 use Rattle.driver_desk.proofs.late.texts_of.Goals as goal
 

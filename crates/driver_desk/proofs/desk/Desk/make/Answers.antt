@@ -1,7 +1,6 @@
-use Rattle.std.proofs.Common.{refl, ap, sym, subst, ◌∙◌, ◌≡◌, ◌<◌, ◌++◌, ◌∷◌, [], List, ℕ, map, take, length, arith, Option, None}
-use Rattle.convert_plan.specs.Card.{CardSeen, card_seen}
+use Rattle.std.proofs.Common.{ap, sym, subst, ◌∙◌, List, map}
+use Rattle.convert_plan.specs.Card.{card_seen}
 use Rattle.convert_plan.specs.declared.card.Card.{Card}
-use Rattle.driver_desk.specs.Works.{card_paths, card_texts}
 use Rattle.driver_desk.specs.Works.{AreNew}
 use Rattle.driver_desk.specs.Late.{IsNewLate}
 use Rattle.driver_desk.proofs.desk.Desk.make.Goals as goal

@@ -1,9 +1,8 @@
-use Rattle.std.proofs.Common.{refl, ap, sym, subst, ◌∙◌, ◌≡◌, ◌<◌, ◌++◌, ◌∷◌, [], List, ℕ, map, take, length, arith, Option, None}
-use Rattle.convert_plan.specs.Card.{CardSeen, card_seen}
+use Rattle.std.proofs.Common.{ap, ◌∙◌, List, ℕ, map, length, arith, Option, None}
+use Rattle.convert_plan.specs.Card.{card_seen}
 use Rattle.convert_plan.specs.declared.card.Card.{Card}
-use Rattle.driver_desk.specs.Works.{card_paths, card_texts}
 use Rattle.std.specs.Option.{option_map}
-use Rattle.delay_table.specs.Table.{Table, idle_table}
+use Rattle.delay_table.specs.Table.{idle_table}
 use Rattle.driver_desk.specs.declared.closing.Work.{Work}
 use Rattle.driver_desk.specs.Rounds.{LateSeen, late_seen}
 use Rattle.driver_desk.proofs.CardLists.{texts_many, map_nones, new_is_late, new_late}
