@@ -1,5 +1,6 @@
 -- The cards that are late, by their places in the driver's table of delayed paths.
-use Rattle.std.specs.Prelude.{◌≡◌, ◌<◌, ◌≤◌, ℕ, Bool, true, false, Option, Some, None, List, [], ◌∷◌, length, slice_get, map}
+use Rattle.std.specs.Prelude.{◌≡◌, ◌<◌, ◌≤◌, ℕ, Bool, true, false, Option, Some, None, List, [], ◌∷◌, length}
+use Rattle.std.specs.Prelude.{slice_get, map}
 use Rattle.delay_table.specs.Table.{Table, is_pending}
 use Rattle.delay_table.specs.declared.place.Place.TheVariants.{Idle}
 use Rattle.driver_line.specs.Lines.{Paths, number_at}

@@ -1,12 +1,14 @@
 // A desk: the cards of a driver, and what starts it.
-ghost use Rattle.std.specs.Prelude.{◌≡◌, ◌≤◌, ◌<◌, ◌+◌, ◌^◌, ◌++◌, [], ℕ, List, Bool, true, false, None, length, map, IfOk};
+ghost use Rattle.std.specs.Prelude.{◌≡◌, ◌≤◌, ◌<◌, ◌+◌, ◌^◌, ◌++◌, [], ℕ, List, Bool, true, false, None, length};
+ghost use Rattle.std.specs.Prelude.{map, IfOk};
 ghost use Rattle.convert_plan.specs.Card.{CardSeen, card_seen, IsNewCard};
 ghost use Rattle.driver_line.specs.Lines.{LineView, Paths, starts_of};
 ghost use Rattle.driver_desk.specs.Late.{AreIdle, FitsNames, IsNewLate, KeepsNames, StaysUnlisted, cards_of};
 ghost use Rattle.delay_table.specs.Table.{IsRising};
 ghost use Rattle.driver_desk.specs.Rounds.{paths_of, AreApart, AreReady, FitTexts, TalkOver};
 ghost use Rattle.driver_desk.specs.Serving.{Given, IsServed, Serves, IsSane, newest};
-ghost use Rattle.driver_desk.specs.Works.{WorkSeen, AreNew, AreRead, FitAll, asked_in, cards_in, card_paths, card_texts};
+ghost use Rattle.driver_desk.specs.Works.{WorkSeen, AreNew, AreRead, FitAll, asked_in, cards_in, card_paths};
+ghost use Rattle.driver_desk.specs.Works.{card_texts};
 
 use crate::late::Late;
 use crate::recorder::Recorder;
@@ -37,10 +39,12 @@ fn serve_all<S: Starter, B: Blob, L: Leaf, C: Recorder<B, L>, G: Gate>(
     requires numbers { late.old.numbers ≡ card_paths (map (λ c. card_seen B.told B.seen L.seen c) cards.items) }
     requires idle { AreIdle 0 late.old }
     requires apart { AreApart late.old.numbers }
-    ensures serves { (works : List WorkSeen) × (map (λ c. card_seen B.told B.seen L.seen c) cards.items ≡ cards_in works) × AreRead works
+    ensures serves { (works : List WorkSeen)
+        × (map (λ c. card_seen B.told B.seen L.seen c) cards.items ≡ cards_in works) × AreRead works
         × ((paths : Paths) (line0 : LineView) (given0 : List Given) (asked : List ℕ) → FitAll paths works
         → Serves seat.driver paths line0 given0 asked [] line.old (C.given recorder.old) false []
-        → Serves seat.driver paths line0 given0 (asked ++ asked_in works) [] line.new (C.given recorder.new) result (newest (paths_of (cards_of late.new))))
+        → Serves seat.driver paths line0 given0 (asked ++ asked_in works) [] line.new (C.given recorder.new) result
+        (newest (paths_of (cards_of late.new))))
         × ((paths : Paths) → FitAll paths works → FitTexts paths (cards_of late.new)) }
     ensures ready { AreReady (cards_of late.new) }
     ensures apart { AreApart (paths_of (cards_of late.new)) }
@@ -74,9 +78,11 @@ fn serve_line<S: Starter, B: Blob, L: Leaf, C: Recorder<B, L>, G: Gate>(
     requires none { line.old.session ≡ None }
     requires new { AreNew (map (λ c. card_seen B.told B.seen L.seen c) cards.items) }
     requires late { IsNewLate (map (λ c. card_seen B.told B.seen L.seen c) cards.items) late.old }
-    ensures talk { (works : List WorkSeen) × (map (λ c. card_seen B.told B.seen L.seen c) cards.items ≡ cards_in works) × AreRead works
+    ensures talk { (works : List WorkSeen)
+        × (map (λ c. card_seen B.told B.seen L.seen c) cards.items ≡ cards_in works) × AreRead works
         × ((paths : Paths) → FitAll paths works
-        → TalkOver seat.driver paths line.old (C.given recorder.old) (asked_in works) line.new (C.given recorder.new)) }
+        → TalkOver seat.driver paths line.old (C.given recorder.old) (asked_in works) line.new
+        (C.given recorder.new)) }
     ensures none { line.new.session ≡ None }
 {
     if serve_all(alloc, seat, line, late, recorder, gate, cards) {
@@ -151,13 +157,14 @@ impl<S: Starter, B: Blob, L: Leaf> Desk<S, B, L> {
         })
     }
 
-    /// Serves the cards, one after another, over sessions that are started when they are needed. The recorder is given
+    // Serves the cards, one after another, over sessions that are started when they are needed. The recorder is given
     /// each note of the talk, and each card.
     pub fn serve<C: Recorder<B, L>, G: Gate>(self, recorder: &mut C, gate: &G) -> Served<S>
         requires few { length self.starter.had + length self.cards < 2 ^ 32 }
         ensures served { (works : List WorkSeen) × (self.cards ≡ cards_in works) × AreRead works
             × ((paths : Paths) → FitAll paths works
-            → IsServed self.driver paths (asked_in works) self.starter.had (S.seen result.starter).had (C.given recorder.old) (C.given recorder.new)) }
+            → IsServed self.driver paths (asked_in works) self.starter.had (S.seen result.starter).had
+            (C.given recorder.old) (C.given recorder.new)) }
     {
         exchanges_are_spelled();
         a_talk_is_a_transcript();

@@ -1,13 +1,16 @@
 // The cards that are late: their driver delayed them, and they wait to be listed.
-ghost use Rattle.std.specs.Prelude.{map, ◌≡◌, ◌≤◌, ◌<◌, ◌^◌, ◌++◌, ◌∷◌, [], ℕ, List, Option, Some, None, MatchOption, slice_get, length, true, false, IfOk};
+ghost use Rattle.std.specs.Prelude.{map, ◌≡◌, ◌≤◌, ◌<◌, ◌^◌, ◌++◌, ◌∷◌, [], ℕ, List, Option, Some, None};
+ghost use Rattle.std.specs.Prelude.{MatchOption, slice_get, length, true, false, IfOk};
 ghost use Rattle.checkout_core.specs.Talks.{contains};
 ghost use Rattle.std.specs.Option.{option_map};
 ghost use Rattle.delay_table.specs.Table.{IsRising, with_place, is_pending};
 ghost use Rattle.delay_table.specs.declared.place.Place.TheVariants.{Idle, Delayed, Done};
 ghost use Rattle.filter_proto.specs.Wires.{SessionSeen};
 ghost use Rattle.driver_line.specs.Conversations.{Listing};
-ghost use Rattle.driver_line.specs.Lines.{Paths, Says, GoesOn, NamesAre, IsLive, list_standing, late_in, names_in, number_at};
-ghost use Rattle.driver_desk.specs.Late.{LateView, IsLate, IsNewLate, AreIdle, KeepsNames, StaysUnlisted, FitsNames, cards_of};
+ghost use Rattle.driver_line.specs.Lines.{Paths, Says, GoesOn, NamesAre, IsLive, list_standing, late_in, names_in};
+ghost use Rattle.driver_line.specs.Lines.{number_at};
+ghost use Rattle.driver_desk.specs.Late.{LateView, IsLate, IsNewLate, AreIdle, KeepsNames, StaysUnlisted};
+ghost use Rattle.driver_desk.specs.Late.{FitsNames, cards_of};
 ghost use Rattle.driver_desk.specs.Rounds.{LateSeen, late_seen, paths_of, IsTaken, AreApart};
 ghost use Rattle.driver_desk.specs.Works.{card_paths, card_texts};
 ghost use Rattle.convert_plan.specs.Card.{card_seen};
@@ -41,13 +44,15 @@ impl<B: Blob, L: Leaf> Model for Late<B, L> {
     ghost view = { λ l. record {
       table = l.table;
       numbers = l.numbers.items;
-      slots = map (λ o. option_map (λ w. late_seen w.card.path w.card.text (L.seen w.card.leaf).state) o) l.slots.items;
+      slots = map (λ o. option_map (λ w. late_seen w.card.path w.card.text
+          (L.seen w.card.leaf).state) o) l.slots.items;
     } };
 
     ghost invariant = { λ l. IsLate (record {
       table = l.table;
       numbers = l.numbers.items;
-      slots = map (λ o. option_map (λ w. late_seen w.card.path w.card.text (L.seen w.card.leaf).state) o) l.slots.items;
+      slots = map (λ o. option_map (λ w. late_seen w.card.path w.card.text
+          (L.seen w.card.leaf).state) o) l.slots.items;
     }) };
 }
 
@@ -182,9 +187,12 @@ impl<B: Blob, L: Leaf> Late<B, L> {
         requires live { IsLive line.old.session }
         requires none { self.old.table.turns ≡ [] }
         ensures says { (paths : Paths) → FitsNames paths self.old
-            → Says paths line.old (Listing (late_in self.old.numbers self.old.table.places) (names_in self.old.numbers self.new.table.turns result) result) line.new }
-        ensures names { NamesAre (paths_of (cards_of self.old)) (names_in self.old.numbers self.new.table.turns result) result }
-        ensures goes { (s : SessionSeen) → line.old.session ≡ Some s → GoesOn s (list_standing result) line.new.session }
+            → Says paths line.old (Listing (late_in self.old.numbers self.old.table.places)
+            (names_in self.old.numbers self.new.table.turns result) result) line.new }
+        ensures names { NamesAre (paths_of (cards_of self.old))
+            (names_in self.old.numbers self.new.table.turns result) result }
+        ensures goes { (s : SessionSeen) → line.old.session ≡ Some s
+            → GoesOn s (list_standing result) line.new.session }
         ensures cards { cards_of self.new ≡ cards_of self.old }
         ensures kept { KeepsNames self.old self.new }
     {
