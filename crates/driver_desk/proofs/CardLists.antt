@@ -1,13 +1,18 @@
 -- Cards that were served, one after another.
-use Rattle.std.proofs.Common.{◌≡◌, ◌⊎◌, ℕ, zero, suc, ◌+◌, ◌<◌, ◌≤◌, Bool, true, false, List, [], ◌∷◌, ◌++◌, length, map, Option, Some, None, refl, sym, ap, subst, ◌∙◌, append_assoc, arith}
+use Rattle.std.proofs.Common.{◌≡◌, ℕ, zero, suc, ◌+◌, ◌<◌, ◌≤◌, Bool, false, List, [], ◌∷◌, ◌++◌, length, map, take, get_or, Option, Some, None, refl, sym, ap, subst, ◌∙◌, append_assoc, add-one, arith}
 use Rattle.std.specs.Prelude.{slice_get}
-use Rattle.std.proofs.lemmas.List.{append-nil}
+use Rattle.std.proofs.lemmas.List.{map-append}
 use Rattle.filter_proto.specs.Wires.{SessionSeen}
 use Rattle.convert_plan.specs.Card.{CardSeen, IsNewCard}
 use Rattle.edge_kit.specs.declared.leaf_state.LeafState.TheVariants.{Fresh}
 use Rattle.driver_line.specs.Lines.{LineView, Paths}
-use Rattle.driver_desk.specs.Works.{WorkSeen, ReadsAs, AreRead, FitAll, FitsWork, cards_in, card_paths, AreNew}
-use Rattle.driver_desk.specs.Rounds.{LateSeen, late_seen, IsReady}
+use Rattle.driver_desk.specs.Works.{WorkSeen, ReadsAs, AreRead, FitAll, FitsWork, cards_in, card_paths, card_texts, AreNew}
+use Rattle.driver_desk.specs.Late.{LateView, IsLate, IsNewLate, KeepsNames, FitsNames, filled, is_filled}
+use Rattle.std.specs.Option.{option_map}
+use Rattle.delay_table.specs.Table.{Table, idle_table, is_pending}
+use Rattle.delay_table.specs.declared.place.Place.TheVariants.{Idle}
+use Rattle.driver_desk.proofs.LateCards.{none_filled}
+use Rattle.driver_desk.specs.Rounds.{LateSeen, late_seen, IsReady, AreApart}
 use Rattle.driver_desk.specs.Serving.{Given, Serves, IsSane}
 
 cards_push : (works : List WorkSeen) (w : WorkSeen) → cards_in (works ++ w ∷ []) ≡ cards_in works ++ w.card ∷ []
@@ -70,3 +75,101 @@ sane_none (Some s) late e l = absurd (cc)
 
 pub serves_late : (d : ℕ) (paths : Paths) (line0 : LineView) (given0 : List Given) (asked : List ℕ) (line : LineView) (given : List Given) (b : Bool) (late now : List ℕ) → late ≡ now → Serves d paths line0 given0 asked [] line given b late → Serves d paths line0 given0 asked [] line given b now
 serves_late d paths line0 given0 asked line given b late now e s = subst (λ (x : List ℕ). Serves d paths line0 given0 asked [] line given b x) e s
+
+-- the names of a new table are the texts of its paths
+
+texts_fit : (paths : Paths) (works : List WorkSeen) → FitAll paths works → card_texts (cards_in works) ≡ map paths.text (card_paths (cards_in works))
+texts_fit paths [] h = refl
+texts_fit paths (w ∷ ws) h = two (sym h.0.0) (texts_fit paths ws h.1)
+  where
+    two : {x y : List ℕ} {xs ys : List (List ℕ)} → x ≡ y → xs ≡ ys → x ∷ xs ≡ y ∷ ys
+    two {x} {y} {xs} {ys} e f = cc
+
+pub names_fit : (paths : Paths) (works : List WorkSeen) (cards : List CardSeen) (old new : LateView) → cards ≡ cards_in works → IsNewLate cards old → KeepsNames old new → FitAll paths works → FitsNames paths new
+names_fit paths works cards old new e h k fit =
+    k.0 ∙ (h.names ∙ (ap card_texts e ∙ (texts_fit paths works fit ∙ ap (map paths.text) (ap card_paths (sym e) ∙ (sym h.numbers ∙ sym k.1)))))
+
+-- parts of a list
+
+take_suc : {A : Type 0} (xs : List A) (i : ℕ) (x : A) → i < length xs → x ≡ get_or xs i x → take (suc i) xs ≡ take i xs ++ x ∷ []
+take_suc [] i x lt e = absurd (omega arith)
+take_suc (y ∷ ys) zero x lt e = ap (λ (z : _). z ∷ []) (sym e)
+take_suc (y ∷ ys) (suc i) x lt e = ap (λ (z : List _). y ∷ z) (take_suc ys i x (omega arith) e)
+
+take_item : {A : Type 0} (xs : List A) (i : ℕ) (x : A) → i < length xs → x ≡ get_or xs i x → take (i + 1) xs ≡ take i xs ++ x ∷ []
+take_item xs i x lt e = ap (λ (k : ℕ). take k xs) (add-one i) ∙ take_suc xs i x lt e
+
+texts_push : (cs : List CardSeen) (c : CardSeen) → card_texts (cs ++ c ∷ []) ≡ card_texts cs ++ c.text ∷ []
+texts_push [] c = refl
+texts_push (x ∷ xs) c = ap (λ (z : List (List ℕ)). x.text ∷ z) (texts_push xs c)
+
+paths_push : (cs : List CardSeen) (c : CardSeen) → card_paths (cs ++ c ∷ []) ≡ card_paths cs ++ c.path ∷ []
+paths_push [] c = refl
+paths_push (x ∷ xs) c = ap (λ (z : List ℕ). x.path ∷ z) (paths_push xs c)
+
+pub texts_more : {A : Type 0} (f : A → CardSeen) (xs : List A) (i : ℕ) (x : A) → i < length xs → x ≡ get_or xs i x → card_texts (map f (take (i + 1) xs)) ≡ card_texts (map f (take i xs)) ++ (f x).text ∷ []
+texts_more f xs i x lt e = ap (λ (z : List _). card_texts (map f z)) (take_item xs i x lt e) ∙ (ap card_texts (map-append f (take i xs) (x ∷ [])) ∙ texts_push (map f (take i xs)) (f x))
+
+pub paths_more : {A : Type 0} (f : A → CardSeen) (xs : List A) (i : ℕ) (x : A) → i < length xs → x ≡ get_or xs i x → card_paths (map f (take (i + 1) xs)) ≡ card_paths (map f (take i xs)) ++ (f x).path ∷ []
+paths_more f xs i x lt e = ap (λ (z : List _). card_paths (map f z)) (take_item xs i x lt e) ∙ (ap card_paths (map-append f (take i xs) (x ∷ [])) ∙ paths_push (map f (take i xs)) (f x))
+
+nones_suc : {A : Type 0} (ns : List ℕ) (i : ℕ) → i < length ns → map {B = Option A} (λ n. None) (take (suc i) ns) ≡ map {B = Option A} (λ n. None) (take i ns) ++ None ∷ []
+nones_suc [] i lt = absurd (omega arith)
+nones_suc (y ∷ ys) zero lt = refl
+nones_suc {A} (y ∷ ys) (suc i) lt = ap (λ (z : List (Option A)). None ∷ z) (nones_suc {A = A} ys i (omega arith))
+
+pub nones_more : {A : Type 0} (ns : List ℕ) (i : ℕ) → i < length ns → map {B = Option A} (λ n. None) (take (i + 1) ns) ≡ map {B = Option A} (λ n. None) (take i ns) ++ None ∷ []
+nones_more {A} ns i lt = ap (λ (k : ℕ). map {B = Option A} (λ n. None) (take k ns)) (add-one i) ∙ nones_suc {A = A} ns i lt
+
+pub map_nones : {A : Type 0} (f : A → LateSeen) (ns : List ℕ) → map (λ (o : Option A). option_map f o) (map {B = Option A} (λ n. None) ns) ≡ map {B = Option LateSeen} (λ n. None) ns
+map_nones f [] = refl
+map_nones f (n ∷ ns) = ap (λ (z : List (Option LateSeen)). None ∷ z) (map_nones f ns)
+
+pub texts_many : {A : Type 0} (f : A → CardSeen) (xs : List A) → length (card_texts (map f xs)) ≡ length xs
+texts_many f [] = refl
+texts_many f (x ∷ xs) = ap (λ (n : ℕ). suc n) (texts_many f xs)
+
+same_many : (cs : List CardSeen) → length (card_texts cs) ≡ length (card_paths cs)
+same_many [] = refl
+same_many (c ∷ cs) = ap (λ (n : ℕ). suc n) (same_many cs)
+
+nones_at : (ns : List ℕ) (p : ℕ) → is_filled (slice_get (map {B = Option LateSeen} (λ n. None) ns) p) ≡ false
+nones_at [] p = refl
+nones_at (n ∷ ns) zero = refl
+nones_at (n ∷ ns) (suc p) = nones_at ns p
+
+idle_at : (xs : List (List ℕ)) (p : ℕ) → is_pending (slice_get (map (λ n. Idle) xs) p) ≡ false
+idle_at [] p = refl
+idle_at (n ∷ ns) zero = refl
+idle_at (n ∷ ns) (suc p) = idle_at ns p
+
+idle_is : (xs : List (List ℕ)) (p : ℕ) → p < length xs → slice_get (map (λ n. Idle) xs) p ≡ Some Idle
+idle_is [] p lt = absurd (omega arith)
+idle_is (n ∷ ns) zero lt = refl
+idle_is (n ∷ ns) (suc p) lt = idle_is ns p (omega arith)
+
+many : {A B : Type 0} (f : A → B) (xs : List A) → length (map f xs) ≡ length xs
+many f [] = refl
+many f (x ∷ xs) = ap (λ (n : ℕ). suc n) (many f xs)
+
+new_is_late_as : (cards : List CardSeen) → AreApart (card_paths cards) → IsLate (record { table = idle_table (card_texts cards); numbers = card_paths cards; slots = map {B = Option LateSeen} (λ n. None) (card_paths cards) })
+new_is_late_as cards apart = record {
+  size = many (λ n. None) (card_paths cards);
+  places = many (λ n. Idle) (card_texts cards) ∙ same_many cards;
+  each = λ p. nones_at (card_paths cards) p ∙ sym (idle_at (card_texts cards) p);
+  paths = λ p c e. absurd (let k = nones_at (card_paths cards) p in cc (sym k ∙ ap is_filled e));
+  apart = apart;
+}
+
+pub new_is_late : (cards : List CardSeen) (t : Table) (numbers : List ℕ) (os : List (Option LateSeen)) → AreApart (card_paths cards) → t ≡ idle_table (card_texts cards) → numbers ≡ card_paths cards → os ≡ map {B = Option LateSeen} (λ n. None) (card_paths cards) → IsLate (record { table = t; numbers = numbers; slots = os })
+new_is_late cards t numbers os apart e n o = rw (e, n, o) (new_is_late_as cards apart)
+
+pub new_late : (cards : List CardSeen) (t : Table) (numbers : List ℕ) (os : List (Option LateSeen)) → AreApart (card_paths cards) → t ≡ idle_table (card_texts cards) → numbers ≡ card_paths cards → os ≡ map {B = Option LateSeen} (λ n. None) (card_paths cards) → IsNewLate cards (record { table = t; numbers = numbers; slots = os })
+new_late cards t numbers os apart e n o = record {
+  numbers = n;
+  names = ap (λ (x : Table). x.names) e;
+  none = ap filled o ∙ none_filled (map {B = Option LateSeen} (λ k. None) (card_paths cards)) (nones_at (card_paths cards));
+  idle = λ q le lt. ap (λ (x : Table). slice_get x.places q) e ∙ idle_is (card_texts cards) q (let a = same_many cards in let b = ap (λ (x : List ℕ). length x) n in omega (arith, lt, a, b));
+  unlisted = ap (λ (x : Table). x.turns) e;
+  apart = subst AreApart (sym n) apart;
+}

@@ -1,6 +1,6 @@
 -- The slots of late cards, after one was filled or emptied.
 use Rattle.std.proofs.Common.{◌≡◌, ◌==◌, ◌⊎◌, inl, inr, ℕ, zero, suc, ◌+◌, ◌<◌, ◌≤◌, Bool, true, false, cond, List, [], ◌∷◌, ◌++◌, length, map, get_or, Option, Some, None, refl, sym, ap, subst, ◌∙◌, arith}
-use Rattle.std.specs.Prelude.{slice_get, slice_set, slice_index_or}
+use Rattle.std.specs.Prelude.{slice_get, slice_set}
 use Rattle.std.specs.Option.{option_map}
 use Rattle.std.specs.Prelude.{MatchOption}
 use Rattle.std.proofs.lemmas.Bool.{eqb-true, eq-eqb}
@@ -27,7 +27,7 @@ same_or : (p q : ℕ) → (q ≡ p) ⊎ (q ≡ p → ⊥)
 same_or p q = elim (bool_or (q == p)) [
   | inl e ↦ inl (eqb-true q p e)
   | inr e ↦ inr (λ same. cc (sym (eq-eqb q p same) ∙ e))
-  ]
+]
 
 get_here : {A : Type 0} (ps : List A) (p : ℕ) (x : A) → p < length ps → slice_get (slice_set ps p x) p ≡ Some x
 get_here [] p x lt = absurd (omega arith)
@@ -73,7 +73,7 @@ pub idle_after : (v : LateView) (p : ℕ) → IsLate v → AreIdle p v → (q : 
 idle_after v p h idle q le = h.each q ∙ elim (bool_or (is_pending (slice_get v.table.places q))) [
   | inr none ↦ none
   | inl here ↦ absurd (pending_not (slice_get v.table.places q) here (λ x e. idle q le (let lt = slice_get_within v.table.places q x e in let k = h.places in omega (arith, lt, k))))
-  ]
+]
   where
     pending_not : (o : Option Place) → is_pending o ≡ true → ((x : Place) → o ≡ Some x → o ≡ Some place.Idle) → ⊥
     pending_not None e f = cc e
@@ -88,11 +88,11 @@ late_kept_as v p c h lt path = record {
     | inl e ↦ ap (λ (n : ℕ). is_filled (slice_get (slice_set v.slots p (Some c)) n)) e ∙ (ap is_filled (get_here v.slots p (Some c) (let k = h.size in omega (arith, lt, k)))
         ∙ sym (ap (λ (n : ℕ). is_pending (slice_get (slice_set v.table.places p place.Delayed) n)) e ∙ ap is_pending (get_here v.table.places p place.Delayed (let k = h.places in omega (arith, lt, k)))))
     | inr n ↦ ap is_filled (get_there v.slots p q (Some c) n) ∙ (h.each q ∙ sym (ap is_pending (get_there v.table.places p q place.Delayed n)))
-    ];
+  ];
   paths = λ q d e. elim (same_or p q) [
     | inl s ↦ same d q s (sym (get_here v.slots p (Some c) (let k = h.size in omega (arith, lt, k))) ∙ (ap (λ (n : ℕ). slice_get (slice_set v.slots p (Some c)) n) (sym s) ∙ e))
     | inr n ↦ h.paths q d (sym (get_there v.slots p q (Some c) n) ∙ e)
-    ];
+  ];
 }
   where
     same : (d : LateSeen) (q : ℕ) → q ≡ p → Some (Some c) ≡ Some (Some d) → d.path ≡ number_at v.numbers q
@@ -113,11 +113,11 @@ late_emptied v p t h lt is = record {
     | inl e ↦ ap (λ (n : ℕ). is_filled (slice_get (slice_set v.slots p None) n)) e ∙ (ap is_filled (get_here v.slots p None (let k = h.size in omega (arith, lt, k)))
         ∙ sym (ap (λ (x : List Place). is_pending (slice_get x q)) is ∙ (ap (λ (n : ℕ). is_pending (slice_get (slice_set v.table.places p place.Done) n)) e ∙ ap is_pending (get_here v.table.places p place.Done (let k = h.places in omega (arith, lt, k))))))
     | inr n ↦ ap is_filled (get_there v.slots p q None n) ∙ (h.each q ∙ sym (ap (λ (x : List Place). is_pending (slice_get x q)) is ∙ ap is_pending (get_there v.table.places p q place.Done n)))
-    ];
+  ];
   paths = λ q d e. elim (same_or p q) [
     | inl s ↦ absurd (let k : Some None ≡ Some (Some d) = sym (get_here v.slots p None (let k = h.size in omega (arith, lt, k))) ∙ (ap (λ (n : ℕ). slice_get (slice_set v.slots p None) n) (sym s) ∙ e) in cc (k))
     | inr n ↦ h.paths q d (sym (get_there v.slots p q None n) ∙ e)
-    ];
+  ];
 }
 
 pub late_taken : (v : LateView) (p : ℕ) (slots : List (Option LateSeen)) (t : Table) → IsLate v → p < length v.numbers → slots ≡ slice_set v.slots p None → t.places ≡ slice_set v.table.places p place.Done
@@ -139,7 +139,11 @@ taken_filled (Some d ∷ os) (suc p) c e = let k = taken_filled os p c e in reco
 
 pub is_taken : (v : LateView) (p : ℕ) (c : LateSeen) (slots : List (Option LateSeen)) → IsLate v → slice_get v.slots p ≡ Some (Some c) → slots ≡ slice_set v.slots p None → IsTaken (number_at v.numbers p) (filled v.slots) c (filled slots)
 is_taken v p c slots h e i = let k = taken_filled v.slots p c e in record {
-  before = k.before; after = k.after; was = k.was; left = ap filled i ∙ k.left; named = h.paths p c e;
+  before = k.before;
+  after = k.after;
+  was = k.was;
+  left = ap filled i ∙ k.left;
+  named = h.paths p c e;
 }
 
 -- what a slot holds whose place is delayed or listed
@@ -166,7 +170,7 @@ pub pending_within : (v : LateView) (p : ℕ) → IsLate v → is_pending (slice
 pending_within v p h e = elim (has (slice_get v.table.places p) e) [
   | inl x ↦ let lt = slice_get_within v.table.places p x.0 x.1 in let k = h.places in omega (arith, lt, k)
   | inr x ↦ absurd x
-  ]
+]
   where
     has : (o : Option Place) → is_pending o ≡ true → ((x : Place) × (o ≡ Some x)) ⊎ ⊥
     has None e = absurd (cc e)
@@ -180,7 +184,7 @@ contains_at (n ∷ ns) zero lt = ap (λ (b : Bool). cond b true (contains n ns))
 contains_at (n ∷ ns) (suc p) lt = elim (bool_or (number_at ns p == n)) [
   | inl e ↦ ap (λ (b : Bool). cond b true (contains (number_at ns p) ns)) e
   | inr e ↦ ap (λ (b : Bool). cond b true (contains (number_at ns p) ns)) e ∙ contains_at ns p (omega arith)
-  ]
+]
 
 apart_at : (ns : List ℕ) (p q : ℕ) → AreApart ns → p < length ns → q < length ns → number_at ns p ≡ number_at ns q → p ≡ q
 apart_at [] p q a lp lq e = absurd (omega arith)
@@ -197,7 +201,7 @@ has_filled (None ∷ os) (suc p) c e = has_filled os p c e
 has_filled (Some d ∷ os) (suc p) c e = elim (bool_or (c.path == d.path)) [
   | inl s ↦ ap (λ (b : Bool). cond b true (contains c.path (paths_of (filled os)))) s
   | inr n ↦ ap (λ (b : Bool). cond b true (contains c.path (paths_of (filled os)))) n ∙ has_filled os p c e
-  ]
+]
 
 filled_some : (o : Option (Option LateSeen)) → is_filled o ≡ true → (c : LateSeen) × (o ≡ Some (Some c))
 filled_some None e = absurd (cc e)
@@ -207,7 +211,7 @@ filled_some (Some (Some c)) e = (c, refl)
 pub late_delayed : (v : LateView) → IsLate v → AreDelayed (paths_of (filled v.slots)) v.numbers v.table
 late_delayed v h = record {
   known = λ p e. let k = filled_some (slice_get v.slots p) (h.each p ∙ ap is_pending e) in
-    ap (λ (n : ℕ). contains n (paths_of (filled v.slots))) (sym (h.paths p k.0 k.1)) ∙ has_filled v.slots p k.0 k.1;
+      ap (λ (n : ℕ). contains n (paths_of (filled v.slots))) (sym (h.paths p k.0 k.1)) ∙ has_filled v.slots p k.0 k.1;
   apart = λ p q e f same. apart_at v.numbers p q h.apart (pending_within v p h (ap is_pending e)) (pending_within v q h (ap is_pending f)) same;
 }
 
@@ -264,8 +268,8 @@ pub list_names_now : (v w : LateView) (numbers turns : List ℕ) (r : ListReply)
     → NamesAre (paths_of (cards_of w)) (names_in w.numbers turns r) r
 list_names_now v w numbers turns r e h same given =
     subst (λ (x : LateView). NamesAre (paths_of (cards_of x)) (names_in x.numbers turns r) r) e
-      (subst (λ (ns : List ℕ). NamesAre (paths_of (filled v.slots)) (names_in ns turns r) r) same
-        (given (paths_of (filled v.slots)) (subst (λ (ns : List ℕ). AreDelayed (paths_of (filled v.slots)) ns v.table) (sym same) (late_delayed v h))))
+    (subst (λ (ns : List ℕ). NamesAre (paths_of (filled v.slots)) (names_in ns turns r) r) same
+    (given (paths_of (filled v.slots)) (subst (λ (ns : List ℕ). AreDelayed (paths_of (filled v.slots)) ns v.table) (sym same) (late_delayed v h))))
 
 -- the next listed one
 
@@ -276,7 +280,7 @@ pub step_names : (old new : LateView) (p : ℕ) (rest : List ℕ) (c : LateSeen)
     → names_at old ≡ c.path ∷ names_at new
 step_names old new p rest c before after e i same t =
     ap (map (number_at old.numbers)) e ∙ (ap (λ (x : ℕ). x ∷ map (number_at old.numbers) rest) (sym t.named)
-      ∙ ap (λ (x : List ℕ). c.path ∷ x) (ap (λ (ns : List ℕ). map (number_at ns) rest) (sym same) ∙ ap (λ (x : Table). map (number_at new.numbers) x.turns) (sym i)))
+    ∙ ap (λ (x : List ℕ). c.path ∷ x) (ap (λ (ns : List ℕ). map (number_at ns) rest) (sym same) ∙ ap (λ (x : Table). map (number_at new.numbers) x.turns) (sym i)))
 
 pub taken_length : (p : ℕ) (old : List LateSeen) (c : LateSeen) (new : List LateSeen) → IsTaken p old c new → length new + 1 ≡ length old
 taken_length p old c new t = ap (λ (x : List LateSeen). length x + 1) t.left ∙ (both t.before ∙ sym (ap (λ (x : List LateSeen). length x) t.was))
@@ -294,7 +298,7 @@ no_slot v w e h = ap cards_of (sym e) ∙ none_filled v.slots all
     all q = elim (bool_or (is_filled (slice_get v.slots q))) [
       | inr none ↦ none
       | inl here ↦ let k = filled_some (slice_get v.slots q) here in h q (slice_get_within v.slots q (Some k.0) k.1)
-      ]
+    ]
 
 pub some_slot : (v w : LateView) (q : ℕ) (c : LateSeen) → v ≡ w → slice_get v.slots q ≡ Some (Some c) → cards_of w ≡ [] → ⊥
 some_slot v w q c e at none = let k = taken_filled v.slots q c at in not_nil k.before (sym k.was ∙ (ap cards_of e ∙ none))
@@ -325,7 +329,7 @@ pub below_next : (w : LateView) (i : ℕ) → ((q : ℕ) → q < i → is_filled
 below_next w i h here q lt = elim (same_or i q) [
   | inl e ↦ ap (λ (n : ℕ). is_filled (slice_get w.slots n)) e ∙ here
   | inr n ↦ h q (omega (arith, lt, n))
-  ]
+]
 
 pub all_none : {A : Type 0} (f : A → LateSeen) (v w : LateView) (slots given : List (Option A)) (i : ℕ) → v ≡ w → v.slots ≡ map (λ x. option_map f x) slots → given ≡ slots → length given ≤ i → ((q : ℕ) → q < i → is_filled (slice_get w.slots q) ≡ false) → cards_of w ≡ []
 all_none f v w slots given i e vs same le h = no_slot v w e (λ q lt. ap (λ (x : LateView). is_filled (slice_get x.slots q)) e ∙ h q

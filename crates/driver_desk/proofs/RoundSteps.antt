@@ -1,26 +1,28 @@
 -- Rounds.
-use Rattle.std.proofs.Common.{◌≡◌, ◌==◌, ◌⊎◌, inl, inr, ℕ, zero, suc, ◌+◌, ◌<◌, ◌≤◌, Bool, true, false, cond, List, [], ◌∷◌, ◌++◌, length, map, take, drop, get_or, Option, Some, None, refl, sym, ap, subst, ◌∙◌, append_assoc, arith, add-one}
+use Rattle.std.proofs.Common.{◌≡◌, ◌==◌, ◌⊎◌, inl, inr, ℕ, zero, suc, ◌+◌, ◌<◌, ◌≤◌, Bool, true, false, cond, List, [], ◌∷◌, ◌++◌, length, map, take, get_or, Option, Some, None, refl, sym, ap, subst, ◌∙◌, append_assoc, arith, add-one}
 use Rattle.std.specs.Prelude.{not, ◌&&◌, ◌||◌, IsTrue, IsSome, ◌↔◌}
 use Rattle.std.proofs.lemmas.Bool.{eqb-true, eq-eqb}
-use Rattle.std.proofs.lemmas.List.{append-nil, map-append, nil_from_length}
-use Rattle.std.proofs.Math.Seq.{drop-cons}
+use Rattle.std.proofs.lemmas.List.{append-nil, map-append}
 use Rattle.filter_words.specs.declared.reply.Reply.{Reply}
 use Rattle.filter_words.specs.declared.reply.Reply.TheVariants as reply
 use Rattle.filter_words.specs.declared.reply.ListReply.{ListReply}
 use Rattle.filter_words.specs.declared.reply.ListReply.TheVariants as list
 use Rattle.checkout_core.specs.declared.event.Event.{Event}
 use Rattle.checkout_core.specs.declared.event.Event.TheVariants as event
-use Rattle.checkout_core.specs.Conditions.{is_path_break, is_good_reply, is_delay}
+use Rattle.checkout_core.specs.Conditions.{is_good_reply, is_delay}
 use Rattle.checkout_core.specs.Talks.{Talk, Round, Between, Refusing, InRound, Ended, talk_step, is_empty, contains, without, list_end}
 use Rattle.filter_proto.specs.Wires.{SessionSeen}
-use Rattle.edge_kit.specs.Seen.{LeafSeen}
 use Rattle.filter_proto.specs.Replies.{standing_after}
 use Rattle.filter_proto.specs.declared.session.Standing.{Standing}
 use Rattle.filter_proto.specs.declared.session.Standing.TheVariants as standing
 use Rattle.checkout_core.specs.Talks.{talk_run, IsOver}
 use Rattle.driver_line.specs.Conversations.{Exchange, Listing, Second, Shutting, notes_of, notes_in, list_notes}
 use Rattle.driver_line.specs.Lines.{LineView, Paths, Says, RunsTo, MayReply, GoesOn, NamesAre, AreKnown, IsLive, IsOpen, list_standing}
-use Rattle.driver_desk.specs.Serving.{Given, Noted, noted_of, noted_in, AreClosings, Talks, Serves, talk_now, newest}
+use Rattle.edge_kit.specs.Starters.{StarterSeen}
+use Rattle.checkout_core.specs.Transcripts.{Item}
+use Rattle.checkout_core.specs.Transcripts as result
+use Rattle.driver_line.specs.Transcripts.{HasItems}
+use Rattle.driver_desk.specs.Serving.{IsServed, Given, Noted, noted_in, Talks, Serves, talk_now, newest}
 use Rattle.driver_desk.specs.Rounds.{round_of, minus, AreAmong, AreApart, InRounds, TalkOver, RoundsBy, LateSeen, paths_of, IsReady, AreReady, FitTexts, IsTaken, IsNext, GrowsLate, RedoneCards, TurnsBy}
 use Rattle.driver_desk.specs.Late.{LateView, KeepsNames, FitsNames, cards_of, names_at}
 use Rattle.driver_desk.specs.Works.{card_paths}
@@ -54,19 +56,19 @@ contains_without m n [] no_mn = refl
 contains_without m n (q ∷ qs) no_mn = elim (bool_or (n == q)) [
   | inl here ↦ ap (λ (b : Bool). contains m (cond b (without n qs) (q ∷ without n qs))) here ∙ (contains_without m n qs no_mn ∙ sym (ap (λ (b : Bool). cond b true (contains m qs)) (other_head m n q no_mn here)))
   | inr away ↦ ap (λ (b : Bool). contains m (cond b (without n qs) (q ∷ without n qs))) away ∙ ap (λ (b : Bool). cond (m == q) true b) (contains_without m n qs no_mn)
-  ]
+]
 
 eq_flip : (m n : ℕ) → (m == n) ≡ false → (n == m) ≡ false
 eq_flip m n no_mn = elim (bool_or (n == m)) [
   | inl same ↦ absurd (cc (sym (ap (λ (x : ℕ). m == x) (eqb-true n m same) ∙ self m) ∙ no_mn))
   | inr other ↦ other
-  ]
+]
 
 head_not : (m n : ℕ) (ns : List ℕ) → contains m (n ∷ ns) ≡ false → ((m == n) ≡ false) × (contains m ns ≡ false)
 head_not m n ns h = elim (bool_or (m == n)) [
   | inl same ↦ absurd (cc (sym (ap (λ (b : Bool). cond b true (contains m ns)) same) ∙ h))
   | inr other ↦ (other, sym (ap (λ (b : Bool). cond b true (contains m ns)) other) ∙ h)
-  ]
+]
 
 pub known_without : (n : ℕ) (late ns : List ℕ) → contains n ns ≡ false → AreKnown late ns → AreKnown (without n late) ns
 known_without n late [] apart k = tt
@@ -86,8 +88,8 @@ minus_or late (n ∷ ns) q h = elim (bool_or (q == n)) [
   | inr other ↦ elim (minus_or (without n late) ns q (contains_without q n late other ∙ h)) [
     | inl l ↦ inl l
     | inr r ↦ inr (ap (λ (b : Bool). cond b true (contains q ns)) other ∙ r)
-    ]
   ]
+]
 
 -- the names of a list
 
@@ -120,7 +122,7 @@ pub names_talk : (d : ℕ) (delay : Bool) (late names : List ℕ) (n : ℕ) → 
     → talk_run d (round_of delay false late []) (list_notes d names (list.Names n)) ≡ Some (round_of delay false (minus late names) names)
 names_talk d delay late names n e lt k =
     talk_more d (round_of delay false late []) (round_of delay true (minus late names) names) (map event.Named names) (event.Listed d (list.Names n) ∷ [])
-      (names_run d delay false late [] names refl k ∙ ap (λ (b : Bool). Some (round_of delay b (minus late names) names)) (some_names names (rw e at lt)))
+    (names_run d delay false late [] names refl k ∙ ap (λ (b : Bool). Some (round_of delay b (minus late names) names)) (some_names names (rw e at lt)))
     ∙ one_step d (round_of delay true (minus late names) names) (round_of delay false (minus late names) names) (event.Listed d (list.Names n)) (self d) (given_true _ _ (eq-eqb n (length names) e))
 
 -- one more exchange
@@ -139,7 +141,10 @@ talks_more d paths line0 given0 asked line line1 given given1 new t u e s says g
 pub talks_closed : (d : ℕ) (paths : Paths) (line0 : LineView) (given0 : List Given) (asked : List ℕ) (line : LineView) (given given1 new : List Given) (t : Talk)
     → Talks d paths line0 given0 asked line given t → given1 ≡ given ++ new → noted_in new ≡ [] → Talks d paths line0 given0 asked line given1 t
 talks_closed d paths line0 given0 asked line given given1 new t s g n = record {
-  exchanges = s.exchanges; more = s.more ++ new; runs = s.runs; talk = s.talk;
+  exchanges = s.exchanges;
+  more = s.more ++ new;
+  runs = s.runs;
+  talk = s.talk;
   given_is = g ∙ (ap (λ (x : List Given). x ++ new) s.given_is ∙ append_assoc given0 s.more new);
   noted = noted_more s.more new ∙ (ap (λ (x : List Event). noted_in s.more ++ x) n ∙ (append-nil (noted_in s.more) ∙ s.noted));
 }
@@ -151,17 +156,23 @@ listed_over : (d : ℕ) (paths : Paths) (slate : List ℕ) (line0 : LineView) (g
     → ((delay : Bool) (late : List ℕ) → talk_run d (round_of delay false late []) (list_notes d names r) ≡ Some u) → IsOver u → RoundsBy d paths line0 given0 asked o1 line1 given1 cards names
 listed_over d paths slate line0 given0 asked line line1 given given1 new cards names r u o1 h says none g n moves over =
     subst (λ (o : Option SessionSeen). RoundsBy d paths line0 given0 asked o line1 given1 cards names) (sym none)
-      (u, talks_more d paths line0 given0 asked line line1 given given1 new (round_of h.0 false h.1 []) u (Listing slate names r) h.2 says g n (moves h.0 h.1), over)
+    (u, talks_more d paths line0 given0 asked line line1 given given1 new (round_of h.0 false h.1 []) u (Listing slate names r) h.2 says g n (moves h.0 h.1), over)
 
 listed_in : (d : ℕ) (paths : Paths) (slate : List ℕ) (line0 : LineView) (given0 : List Given) (asked : List ℕ) (line line1 : LineView) (given given1 new : List Given) (cards names : List ℕ) (r : ListReply) (s : SessionSeen) (o1 : Option SessionSeen)
     → s.caps.smudge ≡ true → InRounds d paths line0 given0 asked line given cards [] → NamesAre cards names r → Says paths line (Listing slate names r) line1 → GoesOn s (list_standing r) o1 → given1 ≡ given ++ new → noted_in new ≡ list_notes d names r
     → RoundsBy d paths line0 given0 asked o1 line1 given1 cards names
 listed_in d paths slate line0 given0 asked line line1 given given1 new cards names (list.Names n) s o1 smudge h are says goes g ns =
     let among : AreAmong cards h.1 = λ q k. elim (h.3 q k) [ inl l ↦ l | inr r ↦ absurd (cc r) ] in
-    subst (λ (o : Option SessionSeen). RoundsBy d paths line0 given0 asked o line1 given1 cards names) (sym goes.1)
-      (refl, smudge, (h.0, minus h.1 names,
+    subst (λ (o : Option SessionSeen). RoundsBy d paths line0 given0 asked o line1 given1 cards names) (sym goes.1) (
+      refl,
+      smudge,
+      (
+        h.0,
+        minus h.1 names,
         talks_more d paths line0 given0 asked line line1 given given1 new (round_of h.0 false h.1 []) (round_of h.0 false (minus h.1 names) names) (Listing slate names (list.Names n)) h.2 says g ns (names_talk d h.0 h.1 names n are.0 are.1 (known_among cards h.1 names among are.2)),
-        λ q k. minus_or h.1 names q (among q k)))
+        λ q k. minus_or h.1 names q (among q k),
+      ),
+    )
 listed_in d paths slate line0 given0 asked line line1 given given1 new cards names list.Empty s o1 smudge h are says goes g ns = listed_over d paths slate line0 given0 asked line line1 given given1 new cards names list.Empty Ended o1 h says goes g ns (λ delay late. one_step d (round_of delay false late []) Ended (event.Listed d list.Empty) (self d) refl) tt
 listed_in d paths slate line0 given0 asked line line1 given given1 new cards names list.Abort s o1 smudge h are says goes g ns = listed_over d paths slate line0 given0 asked line line1 given given1 new cards names list.Abort Ended o1 h says goes g ns (λ delay late. one_step d (round_of delay false late []) Ended (event.Listed d list.Abort) (self d) refl) tt
 listed_in d paths slate line0 given0 asked line line1 given given1 new cards names (list.Broken c) s o1 smudge h are says goes g ns = listed_over d paths slate line0 given0 asked line line1 given given1 new cards names (list.Broken c) (Between []) o1 h says goes g ns (λ delay late. one_step d (round_of delay false late []) (Between []) (event.Listed d (list.Broken c)) (self d) refl) tt
@@ -185,11 +196,19 @@ goes_on : (d : ℕ) (paths : Paths) (line0 : LineView) (given0 : List Given) (as
     → ((q : ℕ) → contains q cards ≡ true → (contains q late ≡ true) ⊎ (contains q (p ∷ turns) ≡ true)) → RedoneCards cards p cards1
     → RoundsBy d paths line0 given0 asked o1 line1 given2 cards1 turns
 goes_on d paths line0 given0 asked line1 given2 cards cards1 p turns late delay s o1 smudge goes t among left =
-    subst (λ (o : Option SessionSeen). RoundsBy d paths line0 given0 asked o line1 given2 cards1 turns) (sym goes.1)
-      (refl, smudge, (delay, late, t, λ q k. elim (among q (left q k).0) [
-        | inl l ↦ inl l
-        | inr r ↦ inr (sym (ap (λ (b : Bool). cond b true (contains q turns)) (left q k).1) ∙ r)
-        ]))
+    subst (λ (o : Option SessionSeen). RoundsBy d paths line0 given0 asked o line1 given2 cards1 turns) (sym goes.1) (
+      refl,
+      smudge,
+      (
+        delay,
+        late,
+        t,
+        λ q k. elim (among q (left q k).0) [
+          | inl l ↦ inl l
+          | inr r ↦ inr (sym (ap (λ (b : Bool). cond b true (contains q turns)) (left q k).1) ∙ r)
+        ],
+      ),
+    )
 
 redone_over : (d : ℕ) (paths : Paths) (line0 : LineView) (given0 : List Given) (asked : List ℕ) (line1 : LineView) (given2 : List Given) (cards1 turns : List ℕ) (u : Talk) (o1 : Option SessionSeen)
     → o1 ≡ None → Talks d paths line0 given0 asked line1 given2 u → IsOver u → RoundsBy d paths line0 given0 asked o1 line1 given2 cards1 turns
@@ -223,9 +242,9 @@ pub redone : (d : ℕ) (paths : Paths) (line0 : LineView) (given0 : List Given) 
 redone d paths line0 given0 asked line line1 given given1 given2 cards cards1 p turns None o1 r content live h may says goes g more left = absurd live
 redone d paths line0 given0 asked line line1 given given1 given2 cards cards1 p turns (Some s) o1 r content live h may says goes g more left =
     redone_in d paths line0 given0 asked line1 given2 cards cards1 p turns h.2.1 h.2.0 s o1 r h.1 may (goes s refl)
-      (λ u moves. talks_closed d paths line0 given0 asked line1 given1 given2 more.0 u
-        (talks_more d paths line0 given0 asked line line1 given given1 (Noted (event.Redone p r) ∷ []) (round_of h.2.0 false h.2.1 (p ∷ turns)) u (Second p r content) h.2.2 says g refl moves) more.1 more.2)
-      h.2.3 left
+    (λ u moves. talks_closed d paths line0 given0 asked line1 given1 given2 more.0 u
+    (talks_more d paths line0 given0 asked line line1 given given1 (Noted (event.Redone p r) ∷ []) (round_of h.2.0 false h.2.1 (p ∷ turns)) u (Second p r content) h.2.2 says g refl moves) more.1 more.2)
+    h.2.3 left
 
 -- the cards without the one that was taken
 
@@ -233,24 +252,24 @@ contains_split : (q : ℕ) (before after : List LateSeen) (c : LateSeen) → con
 contains_split q [] after c h = elim (bool_or (q == c.path)) [
   | inl same ↦ ap (λ (b : Bool). cond b true (contains q (paths_of after))) same
   | inr other ↦ ap (λ (b : Bool). cond b true (contains q (paths_of after))) other ∙ h
-  ]
+]
 contains_split q (b ∷ bs) after c h = elim (bool_or (q == b.path)) [
   | inl same ↦ ap (λ (x : Bool). cond x true (contains q (paths_of (bs ++ c ∷ after)))) same
   | inr other ↦ ap (λ (x : Bool). cond x true (contains q (paths_of (bs ++ c ∷ after)))) other ∙ contains_split q bs after c (sym (ap (λ (x : Bool). cond x true (contains q (paths_of (bs ++ after)))) other) ∙ h)
-  ]
+]
 
 away_from : (q p : ℕ) (ps : List ℕ) → contains p ps ≡ false → contains q ps ≡ true → (q == p) ≡ false
 away_from q p ps no_p has_q = elim (bool_or (q == p)) [
   | inl same ↦ absurd (cc (sym no_p ∙ (ap (λ (x : ℕ). contains x ps) (sym (eqb-true q p same)) ∙ has_q)))
   | inr other ↦ other
-  ]
+]
 
 has_middle : (before after : List LateSeen) (c : LateSeen) → contains c.path (paths_of (before ++ c ∷ after)) ≡ true
 has_middle [] after c = ap (λ (b : Bool). cond b true (contains c.path (paths_of after))) (self c.path)
 has_middle (b ∷ bs) after c = elim (bool_or (c.path == b.path)) [
   | inl same ↦ ap (λ (x : Bool). cond x true (contains c.path (paths_of (bs ++ c ∷ after)))) same
   | inr other ↦ ap (λ (x : Bool). cond x true (contains c.path (paths_of (bs ++ c ∷ after)))) other ∙ has_middle bs after c
-  ]
+]
 
 false_of : (b : Bool) → (b ≡ true → ⊥) → b ≡ false
 false_of true h = absurd (h refl)
@@ -286,9 +305,10 @@ taken_apart p old new c t h = subst (λ (x : List LateSeen). AreApart (paths_of 
 pub taken_redone : (p : ℕ) (old new : List LateSeen) (c : LateSeen) → IsTaken p old c new → AreApart (paths_of old) → RedoneCards (paths_of old) p (paths_of new)
 taken_redone p old new c t h q k =
     let k1 = subst (λ (x : List LateSeen). contains q (paths_of x) ≡ true) t.left k in
-    let none = (apart_split t.before t.after c (subst (λ (x : List LateSeen). AreApart (paths_of x)) t.was h)).1 in
-    (subst (λ (x : List LateSeen). contains q (paths_of x) ≡ true) (sym t.was) (contains_split q t.before t.after c k1),
-     subst (λ (x : ℕ). (q == x) ≡ false) t.named (away_from q c.path (paths_of (t.before ++ t.after)) none k1))
+    let none = (apart_split t.before t.after c (subst (λ (x : List LateSeen). AreApart (paths_of x)) t.was h)).1 in (
+      subst (λ (x : List LateSeen). contains q (paths_of x) ≡ true) (sym t.was) (contains_split q t.before t.after c k1),
+      subst (λ (x : ℕ). (q == x) ≡ false) t.named (away_from q c.path (paths_of (t.before ++ t.after)) none k1),
+    )
 
 pub open_live : (o : Option SessionSeen) → IsOpen o → IsLive o
 open_live None h = absurd h
@@ -316,16 +336,19 @@ take_more : (names : List ℕ) (i : ℕ) → i < length names → take (i + 1) n
 take_more names i lt = ap (λ (k : ℕ). take k names) (add-one i) ∙ take_suc names i lt
 
 pub named_more : (a b c : List Given) (names : List ℕ) (i : ℕ) → i < length names → (more : List Given) × (b ≡ a ++ more) × (noted_in more ≡ map event.Named (take i names)) → c ≡ b ++ Noted (event.Named (get_or names i 0)) ∷ [] → (more : List Given) × (c ≡ a ++ more) × (noted_in more ≡ map event.Named (take (i + 1) names))
-named_more a b c names i lt h e =
-    (h.0 ++ Noted (event.Named (get_or names i 0)) ∷ [], e ∙ (ap (λ (x : List Given). x ++ Noted (event.Named (get_or names i 0)) ∷ []) h.1 ∙ append_assoc a h.0 _),
-     noted_more h.0 (Noted (event.Named (get_or names i 0)) ∷ []) ∙ (ap (λ (x : List Event). x ++ event.Named (get_or names i 0) ∷ []) h.2 ∙ sym (ap (map event.Named) (take_more names i lt) ∙ map-append event.Named (take i names) (get_or names i 0 ∷ []))))
+named_more a b c names i lt h e = (
+  h.0 ++ Noted (event.Named (get_or names i 0)) ∷ [],
+  e ∙ (ap (λ (x : List Given). x ++ Noted (event.Named (get_or names i 0)) ∷ []) h.1 ∙ append_assoc a h.0 _),
+  noted_more h.0 (Noted (event.Named (get_or names i 0)) ∷ []) ∙ (ap (λ (x : List Event). x ++ event.Named (get_or names i 0) ∷ []) h.2 ∙ sym (ap (map event.Named) (take_more names i lt) ∙ map-append event.Named (take i names) (get_or names i 0 ∷ []))),
+)
 
 pub list_noted : (d : ℕ) (a b c : List Given) (names : List ℕ) (r : ListReply) (n : ℕ) → r ≡ list.Names n → (more : List Given) × (b ≡ a ++ more) × (noted_in more ≡ map event.Named names) → c ≡ b ++ Noted (event.Listed d r) ∷ []
     → (more : List Given) × (c ≡ a ++ more) × (noted_in more ≡ list_notes d names r)
-list_noted d a b c names r n is h e = rw is
-    (h.0 ++ Noted (event.Listed d (list.Names n)) ∷ [],
-     rw is at e ∙ (ap (λ (x : List Given). x ++ Noted (event.Listed d (list.Names n)) ∷ []) h.1 ∙ append_assoc a h.0 _),
-     noted_more h.0 (Noted (event.Listed d (list.Names n)) ∷ []) ∙ ap (λ (x : List Event). x ++ event.Listed d (list.Names n) ∷ []) h.2)
+list_noted d a b c names r n is h e = rw is (
+  h.0 ++ Noted (event.Listed d (list.Names n)) ∷ [],
+  rw is at e ∙ (ap (λ (x : List Given). x ++ Noted (event.Listed d (list.Names n)) ∷ []) h.1 ∙ append_assoc a h.0 _),
+  noted_more h.0 (Noted (event.Listed d (list.Names n)) ∷ []) ∙ ap (λ (x : List Event). x ++ event.Listed d (list.Names n) ∷ []) h.2,
+)
 
 -- one name after another
 
@@ -382,17 +405,17 @@ has_append q [] ys h = h
 has_append q (x ∷ xs) ys h = elim (bool_or (q == x)) [
   | inl same ↦ ap (λ (b : Bool). cond b true (contains q (xs ++ ys))) same
   | inr other ↦ ap (λ (b : Bool). cond b true (contains q (xs ++ ys))) other ∙ has_append q xs ys h
-  ]
+]
 
 has_drop : (q p : ℕ) (xs ys : List ℕ) → contains q (xs ++ ys) ≡ true → contains q (xs ++ p ∷ ys) ≡ true
 has_drop q p [] ys h = elim (bool_or (q == p)) [
   | inl same ↦ ap (λ (b : Bool). cond b true (contains q ys)) same
   | inr other ↦ ap (λ (b : Bool). cond b true (contains q ys)) other ∙ h
-  ]
+]
 has_drop q p (x ∷ xs) ys h = elim (bool_or (q == x)) [
   | inl same ↦ ap (λ (b : Bool). cond b true (contains q (xs ++ p ∷ ys))) same
   | inr other ↦ ap (λ (b : Bool). cond b true (contains q (xs ++ p ∷ ys))) other ∙ has_drop q p xs ys (sym (ap (λ (b : Bool). cond b true (contains q (xs ++ ys))) other) ∙ h)
-  ]
+]
 
 apart_drop : (p : ℕ) (xs ys : List ℕ) → AreApart (xs ++ p ∷ ys) → AreApart (xs ++ ys)
 apart_drop p [] ys h = h.1
@@ -407,7 +430,7 @@ has_front q [] ys h = absurd (cc h)
 has_front q (x ∷ xs) ys h = elim (bool_or (q == x)) [
   | inl same ↦ ap (λ (b : Bool). cond b true (contains q (xs ++ ys))) same
   | inr other ↦ ap (λ (b : Bool). cond b true (contains q (xs ++ ys))) other ∙ has_front q xs ys (sym (ap (λ (b : Bool). cond b true (contains q xs)) other) ∙ h)
-  ]
+]
 
 pub apart_first : (xs ys : List ℕ) → AreApart (xs ++ ys) → AreApart xs
 apart_first [] ys h = tt
@@ -422,8 +445,8 @@ grows_apart old c new rest rest1 w (inl e) i same h =
     subst (λ (x : List LateSeen). AreApart (paths_of x ++ card_paths rest1)) (sym e) (apart_drop w.path (paths_of old) (card_paths rest1) (rw i at h))
 grows_apart old c new rest rest1 w (inr (inl e)) i same h =
     subst (λ (x : List LateSeen). AreApart (paths_of x ++ card_paths rest1)) (sym e)
-      (subst (λ (x : List ℕ). AreApart (x ++ card_paths rest1)) (sym (paths_push old c))
-        (subst AreApart (sym (append_assoc (paths_of old) (c.path ∷ []) (card_paths rest1))) (subst (λ (x : ℕ). AreApart (paths_of old ++ x ∷ card_paths rest1)) (sym same) (rw i at h))))
+    (subst (λ (x : List ℕ). AreApart (x ++ card_paths rest1)) (sym (paths_push old c))
+    (subst AreApart (sym (append_assoc (paths_of old) (c.path ∷ []) (card_paths rest1))) (subst (λ (x : ℕ). AreApart (paths_of old ++ x ∷ card_paths rest1)) (sym same) (rw i at h))))
 grows_apart old c new rest rest1 w (inr (inr e)) i same h =
     subst (λ (x : List LateSeen). AreApart (paths_of x ++ card_paths rest1)) (sym e) (apart_last (paths_of old) (card_paths rest1) (apart_drop w.path (paths_of old) (card_paths rest1) (rw i at h)))
 
@@ -431,7 +454,11 @@ grows_apart old c new rest rest1 w (inr (inr e)) i same h =
 
 talks_of : (d : ℕ) (paths : Paths) (line0 : LineView) (given0 : List Given) (asked : List ℕ) (line : LineView) (given : List Given) (aborted : Bool) (late : List ℕ) → Serves d paths line0 given0 asked [] line given aborted late → Talks d paths line0 given0 asked line given (talk_now line.session aborted late [])
 talks_of d paths line0 given0 asked line given aborted late s = record {
-  exchanges = s.exchanges; more = s.more; runs = s.runs; given_is = s.given_is; noted = s.noted;
+  exchanges = s.exchanges;
+  more = s.more;
+  runs = s.runs;
+  given_is = s.given_is;
+  noted = s.noted;
   talk = ap (λ (x : List ℕ). talk_run d (Between x) (notes_in d s.exchanges)) (sym (append-nil asked)) ∙ s.talk [];
 }
 
@@ -466,7 +493,7 @@ newest_has q [] h = h
 newest_has q (p ∷ ps) h = elim (bool_or (q == p)) [
   | inl same ↦ has_append q (newest ps) (p ∷ []) (ap (λ (b : Bool). cond b true false) same)
   | inr other ↦ has_front q (newest ps) (p ∷ []) (newest_has q ps (sym (ap (λ (b : Bool). cond b true (contains q ps)) other) ∙ h))
-  ]
+]
 
 push_empty : (xs : List ℕ) (p : ℕ) → is_empty (xs ++ p ∷ []) ≡ false
 push_empty [] p = refl
@@ -479,36 +506,47 @@ newest_empty (p ∷ ps) lt = push_empty (newest ps) p
 pub rounds_begin : (d : ℕ) (paths : Paths) (line0 : LineView) (given0 : List Given) (asked : List ℕ) (o : Option SessionSeen) (line : LineView) (given : List Given) (ps cards : List ℕ) → line.session ≡ o → IsOpen o → is_empty (newest ps) ≡ false → cards ≡ ps
     → Serves d paths line0 given0 asked [] line given false (newest ps) → RoundsBy d paths line0 given0 asked o line given cards []
 rounds_begin d paths line0 given0 asked None line given ps cards e h some same s = absurd h
-rounds_begin d paths line0 given0 asked (Some z) line given ps cards e h some same s =
-    (h.0, h.1, (z.caps.delay, newest ps,
-      talk_as d paths line0 given0 asked line given _ (round_of z.caps.delay false (newest ps) [])
+rounds_begin d paths line0 given0 asked (Some z) line given ps cards e h some same s = (
+  h.0,
+  h.1,
+  (
+    z.caps.delay,
+    newest ps,
+    talk_as d paths line0 given0 asked line given _ (round_of z.caps.delay false (newest ps) [])
         (ap (λ (x : Option SessionSeen). talk_now x false (newest ps) []) e ∙ (ap (λ (b : Bool). cond b (InRound (record { delay = z.caps.delay; any_delayed = not (is_empty (newest ps)); noting_list = false; rest = []; late = newest ps; turns = [] })) Refusing) h.1
-          ∙ ap (λ (b : Bool). InRound (record { delay = z.caps.delay; any_delayed = not b; noting_list = false; rest = []; late = newest ps; turns = [] })) some))
+        ∙ ap (λ (b : Bool). InRound (record { delay = z.caps.delay; any_delayed = not b; noting_list = false; rest = []; late = newest ps; turns = [] })) some))
         (talks_of d paths line0 given0 asked line given false (newest ps) s),
-      λ q k. inl (newest_has q ps (subst (λ (x : List ℕ). contains q x ≡ true) same k))))
+    λ q k. inl (newest_has q ps (subst (λ (x : List ℕ). contains q x ≡ true) same k)),
+  ),
+)
 
 pub serves_start : (d : ℕ) (paths : Paths) (line0 line : LineView) (given0 : List Given) (late : List ℕ) → line ≡ line0 → line0.session ≡ None → late ≡ [] → Serves d paths line0 given0 [] [] line given0 false late
 serves_start d paths line0 line given0 late e none l = record {
-  exchanges = []; more = []; runs = sym e; given_is = sym (append-nil given0); noted = refl;
+  exchanges = [];
+  more = [];
+  runs = sym e;
+  given_is = sym (append-nil given0);
+  noted = refl;
   talk = λ rest. sym (ap (λ (o : Option SessionSeen). Some (talk_now o false late rest)) (ap (λ (v : LineView). v.session) e ∙ none));
 }
 
 pub serves_as : (d : ℕ) (paths : Paths) (line0 : LineView) (given0 : List Given) (asked : List ℕ) (line : LineView) (given : List Given) (b c : Bool) (late : List ℕ) → b ≡ c → Serves d paths line0 given0 asked [] line given b late → Serves d paths line0 given0 asked [] line given c late
 serves_as d paths line0 given0 asked line given b c late e s = subst (λ (x : Bool). Serves d paths line0 given0 asked [] line given x late) e s
 
-
 pub named_place : (a b c : List Given) (numbers turns : List ℕ) (i n : ℕ) → i < length turns → n ≡ number_at numbers (get_or turns i 0) → (more : List Given) × (b ≡ a ++ more) × (noted_in more ≡ map event.Named (map (number_at numbers) (take i turns)))
     → c ≡ b ++ Noted (event.Named n) ∷ [] → (more : List Given) × (c ≡ a ++ more) × (noted_in more ≡ map event.Named (map (number_at numbers) (take (i + 1) turns)))
-named_place a b c numbers turns i n lt is h e =
-    (h.0 ++ Noted (event.Named n) ∷ [], e ∙ (ap (λ (x : List Given). x ++ Noted (event.Named n) ∷ []) h.1 ∙ append_assoc a h.0 _),
-     noted_more h.0 (Noted (event.Named n) ∷ []) ∙ (ap (λ (x : List Event). x ++ event.Named n ∷ []) h.2 ∙ sym (ap (λ (x : List ℕ). map event.Named (map (number_at numbers) x)) (take_more turns i lt)
-       ∙ (ap (map event.Named) (map-append (number_at numbers) (take i turns) (get_or turns i 0 ∷ []) ∙ ap (λ (x : ℕ). map (number_at numbers) (take i turns) ++ x ∷ []) (sym is)) ∙ map-append event.Named (map (number_at numbers) (take i turns)) (n ∷ [])))))
+named_place a b c numbers turns i n lt is h e = (
+  h.0 ++ Noted (event.Named n) ∷ [],
+  e ∙ (ap (λ (x : List Given). x ++ Noted (event.Named n) ∷ []) h.1 ∙ append_assoc a h.0 _),
+  noted_more h.0 (Noted (event.Named n) ∷ []) ∙ (ap (λ (x : List Event). x ++ event.Named n ∷ []) h.2 ∙ sym (ap (λ (x : List ℕ). map event.Named (map (number_at numbers) x)) (take_more turns i lt)
+      ∙ (ap (map event.Named) (map-append (number_at numbers) (take i turns) (get_or turns i 0 ∷ []) ∙ ap (λ (x : ℕ). map (number_at numbers) (take i turns) ++ x ∷ []) (sym is)) ∙ map-append event.Named (map (number_at numbers) (take i turns)) (n ∷ [])))),
+)
 
 pub list_noted_in : (d : ℕ) (a b c : List Given) (numbers turns : List ℕ) (r : ListReply) (n : ℕ) → r ≡ list.Names n → (more : List Given) × (b ≡ a ++ more) × (noted_in more ≡ map event.Named (map (number_at numbers) turns)) → c ≡ b ++ Noted (event.Listed d r) ∷ []
     → (more : List Given) × (c ≡ a ++ more) × (noted_in more ≡ list_notes d (names_in numbers turns r) r)
 list_noted_in d a b c numbers turns r n is h e =
     subst (λ (y : ListReply). (c ≡ b ++ Noted (event.Listed d y) ∷ []) → (more : List Given) × (c ≡ a ++ more) × (noted_in more ≡ list_notes d (names_in numbers turns y) y)) (sym is)
-      (λ k. list_noted d a b c (map (number_at numbers) turns) (list.Names n) n refl h k) e
+    (λ k. list_noted d a b c (map (number_at numbers) turns) (list.Names n) n refl h k) e
 
 -- after a list, by the places that were listed
 
@@ -526,8 +564,8 @@ pub listed_at : (d : ℕ) (paths : Paths) (line0 : LineView) (given0 : List Give
 listed_at d paths line0 given0 asked None o1 line given old new r open_ goes cards same h = absurd open_
 listed_at d paths line0 given0 asked (Some s) o1 line given old new r open_ goes cards same h =
     subst (λ (cs : List LateSeen). RoundsBy d paths line0 given0 asked o1 line given (paths_of cs) (names_at new)) (sym cards)
-      (subst (λ (ns : List ℕ). RoundsBy d paths line0 given0 asked o1 line given (paths_of (cards_of old)) (map (number_at ns) new.table.turns)) (sym same)
-        (names_listed d paths line0 given0 asked o1 line given (paths_of (cards_of old)) old.numbers new.table.turns r s (goes s refl) h))
+    (subst (λ (ns : List ℕ). RoundsBy d paths line0 given0 asked o1 line given (paths_of (cards_of old)) (map (number_at ns) new.table.turns)) (sym same)
+    (names_listed d paths line0 given0 asked o1 line given (paths_of (cards_of old)) old.numbers new.table.turns r s (goes s refl) h))
 
 some_names_at : (cards numbers turns : List ℕ) (r : ListReply) (s : SessionSeen) (o1 : Option SessionSeen) → GoesOn s (list_standing r) o1 → NamesAre cards (names_in numbers turns r) r → (o1 ≡ None → ⊥) → 0 < length (map (number_at numbers) turns)
 some_names_at cards numbers turns (list.Names n) s o1 goes are there = rw are.0 at are.1
@@ -556,3 +594,23 @@ fits_names paths old new k e = k.0 ∙ (e ∙ ap (map paths.text) (sym k.1))
 pub some_cards : (cs : List LateSeen) → (cs ≡ [] → ⊥) → is_empty (newest (paths_of cs)) ≡ false
 some_cards [] h = absurd (h refl)
 some_cards (c ∷ cs) h = newest_empty (c.path ∷ paths_of cs) (omega arith)
+
+pub served : (d : ℕ) (paths : Paths) (asked : List ℕ) (starter last : StarterSeen) (line : LineView) (given0 given : List Given) → ((v w : LineView) (es : List Exchange) → v.session ≡ None → w.session ≡ None → RunsTo paths v es w → HasItems paths v es w)
+    → ((k : ℕ) (ps : List ℕ) (notes : List Event) (t : Talk) → talk_run k (Between ps) notes ≡ Some t → IsOver t → (items : List Item) × result.IsTalk ps items × (result.notes_of k items ≡ notes))
+    → last ≡ line.starter → line.session ≡ None → TalkOver d paths (record { starter = starter; session = None }) given0 asked line given → IsServed d paths asked starter.had last.had given0 given
+served d paths asked starter last line given0 given law whole e none h =
+    let t = h.1 in
+    let i = law (record { starter = starter; session = None }) line t.exchanges refl none t.runs in
+    let r = whole d asked (notes_in d t.exchanges) h.0 t.talk h.2 in
+    record {
+      items = i.items;
+      exchanges = t.exchanges;
+      more = t.more;
+      results = r.0;
+      whole = r.1;
+      same = r.2;
+      kept = ap (λ (x : StarterSeen). x.had) e ∙ i.had;
+      talk = record { spells = i.matches; end = h.0; goes = t.talk; over = h.2 };
+      told = t.given_is;
+      noted = t.noted;
+    }

@@ -1,5 +1,5 @@
 -- One more exchange of a desk.
-use Rattle.std.proofs.Common.{◌≡◌, ◌==◌, ◌⊎◌, inl, inr, ℕ, ◌<◌, ◌≤◌, Bool, true, false, cond, List, [], ◌∷◌, ◌++◌, Option, Some, None, Result, Ok, Err, refl, sym, ap, subst, ◌∙◌, append_assoc, eq-eqb}
+use Rattle.std.proofs.Common.{◌≡◌, ◌==◌, inl, inr, ℕ, Bool, true, false, cond, List, [], ◌∷◌, ◌++◌, Option, Some, None, Result, Ok, Err, refl, sym, ap, subst, ◌∙◌, append_assoc, eq-eqb}
 use Rattle.std.specs.Prelude.{not, ◌&&◌, map, IsTrue, IsSome, ◌↔◌}
 use Rattle.std.proofs.lemmas.List.{append-nil}
 use Rattle.filter_words.specs.declared.reply.Caps.{Caps}
@@ -9,21 +9,18 @@ use Rattle.checkout_core.specs.declared.event.Event.{Event}
 use Rattle.checkout_core.specs.declared.event.Event.TheVariants as event
 use Rattle.checkout_core.specs.declared.event.OpenCause.{OpenCause}
 use Rattle.checkout_core.specs.declared.event.OpenCause.TheVariants as opening
-use Rattle.checkout_core.specs.Conditions.{is_path_break, is_good_opening, is_good_reply, is_delay}
+use Rattle.checkout_core.specs.Conditions.{is_good_opening, is_good_reply, is_delay}
 use Rattle.checkout_core.specs.declared.verdict.Own.{Own}
 use Rattle.checkout_core.specs.Talks.{Talk, Round, Between, Refusing, InRound, Ended, talk_step, talk_next, is_with, is_empty, answered}
-use Rattle.filter_proto.specs.Wires.{Wire}
-use Rattle.filter_proto.specs.Exchanges.{Ends, Good, Broke, OutOfMemory}
+use Rattle.filter_proto.specs.Exchanges.{Good}
 use Rattle.filter_proto.specs.Wires.{SessionSeen}
-use Rattle.edge_kit.specs.Seen.{LeafSeen}
 use Rattle.filter_proto.specs.Replies.{standing_after}
 use Rattle.filter_proto.specs.declared.session.Standing.{Standing}
 use Rattle.filter_proto.specs.declared.session.Standing.TheVariants as standing
-use Rattle.driver_line.specs.declared.line.Start.{Start}
 use Rattle.driver_line.specs.declared.line.Start.TheVariants as starts
 use Rattle.checkout_core.specs.Talks.{talk_run}
-use Rattle.driver_line.specs.Conversations.{Exchange, NoStart, NoRoom, Opening, First, Listing, Second, Shutting, notes_of, notes_in, opening_note}
-use Rattle.driver_line.specs.Lines.{LineView, Paths, Says, RunsTo, OpenIs, IsOpen, IsEnded, After, MayReply, SessionAfter, GoesOn}
+use Rattle.driver_line.specs.Conversations.{Exchange, Opening, First, notes_of, notes_in}
+use Rattle.driver_line.specs.Lines.{LineView, Paths, Says, RunsTo, OpenIs, IsOpen, MayReply, SessionAfter, GoesOn}
 use Rattle.driver_desk.specs.Rounds.{LateSeen, paths_of}
 use Rattle.driver_desk.specs.Works.{WorkSeen, FitsWork, FitAll, asked_of, asked_in}
 use Rattle.driver_desk.specs.Serving.{Given, Noted, Closed, HandedBack, noted_of, noted_in, ends_card, IsClosing, AreClosings, Serves, talk_in, talk_now, newest, IsSane, is_abort, late_after}
@@ -64,15 +61,18 @@ serves_more d paths line0 given0 asked ahead asked1 ahead1 line line1 given give
   given_is = g ∙ (ap (λ (x : List Given). x ++ new) s.given_is ∙ append_assoc given0 s.more new);
   noted = noted_more s.more new ∙ (ap (λ (x : List Event). x ++ noted_in new) s.noted ∙ (ap (λ (x : List Event). notes_in d s.exchanges ++ x) n ∙ sym (notes_more d s.exchanges e)));
   talk = λ rest.
-    ap (λ (x : List Event). talk_run d (Between (asked1 ++ (ahead1 ++ rest))) x) (notes_more d s.exchanges e)
-    ∙ (talk_more d (Between (asked1 ++ (ahead1 ++ rest))) (talk_now line.session aborted late (ahead ++ rest)) (notes_in d s.exchanges) (notes_of d e) (ap (λ (x : List ℕ). talk_run d (Between x) (notes_in d s.exchanges)) (sym (append_assoc asked1 ahead1 rest) ∙ (ap (λ (x : List ℕ). x ++ rest) (sym same) ∙ append_assoc asked ahead rest)) ∙ s.talk rest) ∙ moves rest);
+      ap (λ (x : List Event). talk_run d (Between (asked1 ++ (ahead1 ++ rest))) x) (notes_more d s.exchanges e)
+      ∙ (talk_more d (Between (asked1 ++ (ahead1 ++ rest))) (talk_now line.session aborted late (ahead ++ rest)) (notes_in d s.exchanges) (notes_of d e) (ap (λ (x : List ℕ). talk_run d (Between x) (notes_in d s.exchanges)) (sym (append_assoc asked1 ahead1 rest) ∙ (ap (λ (x : List ℕ). x ++ rest) (sym same) ∙ append_assoc asked ahead rest)) ∙ s.talk rest) ∙ moves rest);
 }
 
 -- closings alone
 pub serves_closed : (d : ℕ) (paths : Paths) (line0 : LineView) (given0 : List Given) (asked ahead : List ℕ) (line : LineView) (given given1 new : List Given) (aborted : Bool) (late : List ℕ)
     → Serves d paths line0 given0 asked ahead line given aborted late → given1 ≡ given ++ new → noted_in new ≡ [] → Serves d paths line0 given0 asked ahead line given1 aborted late
 serves_closed d paths line0 given0 asked ahead line given given1 new aborted late s g n = record {
-  exchanges = s.exchanges; more = s.more ++ new; runs = s.runs; talk = s.talk;
+  exchanges = s.exchanges;
+  more = s.more ++ new;
+  runs = s.runs;
+  talk = s.talk;
   given_is = g ∙ (ap (λ (x : List Given). x ++ new) s.given_is ∙ append_assoc given0 s.more new);
   noted = noted_more s.more new ∙ (ap (λ (x : List Event). noted_in s.more ++ x) n ∙ (append-nil (noted_in s.more) ∙ s.noted));
 }
@@ -81,7 +81,11 @@ serves_closed d paths line0 given0 asked ahead line given given1 new aborted lat
 pub serves_ahead : (d : ℕ) (paths : Paths) (line0 : LineView) (given0 : List Given) (asked : List ℕ) (p : ℕ) (line : LineView) (given : List Given) (aborted : Bool) (late : List ℕ)
     → Serves d paths line0 given0 asked [] line given aborted late → Serves d paths line0 given0 asked (p ∷ []) line given aborted late
 serves_ahead d paths line0 given0 asked p line given aborted late s = record {
-  exchanges = s.exchanges; more = s.more; runs = s.runs; given_is = s.given_is; noted = s.noted;
+  exchanges = s.exchanges;
+  more = s.more;
+  runs = s.runs;
+  given_is = s.given_is;
+  noted = s.noted;
   talk = λ rest. s.talk (p ∷ rest);
 }
 
@@ -90,7 +94,11 @@ pub serves_past : (d : ℕ) (paths : Paths) (line0 : LineView) (given0 : List Gi
     → ((rest : List ℕ) → talk_now line.session aborted late (p ∷ rest) ≡ talk_now line.session aborted late rest)
     → Serves d paths line0 given0 asked (p ∷ []) line given aborted late → Serves d paths line0 given0 (asked ++ p ∷ []) [] line given aborted late
 serves_past d paths line0 given0 asked p line given aborted late stays s = record {
-  exchanges = s.exchanges; more = s.more; runs = s.runs; given_is = s.given_is; noted = s.noted;
+  exchanges = s.exchanges;
+  more = s.more;
+  runs = s.runs;
+  given_is = s.given_is;
+  noted = s.noted;
   talk = λ rest. ap (λ (x : List ℕ). talk_run d (Between x) (notes_in d s.exchanges)) (append_assoc asked (p ∷ []) rest) ∙ (s.talk rest ∙ ap Some (stays rest));
 }
 
@@ -98,7 +106,6 @@ serves_past d paths line0 given0 asked p line given aborted late stays s = recor
 
 self : (p : ℕ) → (p == p) ≡ true
 self p = eq-eqb p p refl
-
 
 pub step_is : (d : ℕ) (t u : Talk) (e : Event) → is_with d e ≡ true → talk_next t e ≡ Some u → talk_step d t e ≡ Some u
 step_is d t u e own h = ap (λ (b : Bool). cond b (talk_next t e) None) own ∙ h
@@ -124,14 +131,14 @@ pub opened : (d : ℕ) (paths : Paths) (line0 : LineView) (given0 : List Given) 
     → Serves d paths line0 given0 asked (p ∷ []) line given false [] → Serves d paths line0 given0 asked (p ∷ []) line1 given1 false []
 opened d paths line0 given0 asked p line line1 given given1 caps e none is says there g s =
     serves_more d paths line0 given0 asked (p ∷ []) asked (p ∷ []) line line1 given given1 (Noted (event.Opened d caps) ∷ []) false false [] [] (Opening p (Good caps)) s
-      (subst (λ (x : Exchange). Says paths line x line1) is says) g refl refl (λ rest. rw (none, there.1) (opened_moves d p rest caps there.0 there.3))
+    (subst (λ (x : Exchange). Says paths line x line1) is says) g refl refl (λ rest. rw (none, there.1) (opened_moves d p rest caps there.0 there.3))
 
 past_open : (d : ℕ) (paths : Paths) (line0 : LineView) (given0 : List Given) (asked : List ℕ) (p : ℕ) (line line1 : LineView) (given given1 : List Given) (o : OpenCause) (e : Exchange)
     → line.session ≡ None → notes_of d e ≡ event.OpenFailed p o ∷ [] → is_good_opening o ≡ true → Says paths line e line1 → line1.session ≡ None → given1 ≡ given ++ Noted (event.OpenFailed p o) ∷ []
     → Serves d paths line0 given0 asked (p ∷ []) line given false [] → Serves d paths line0 given0 (asked ++ p ∷ []) [] line1 given1 false []
 past_open d paths line0 given0 asked p line line1 given given1 o e none is good says there g s =
     serves_more d paths line0 given0 asked (p ∷ []) (asked ++ p ∷ []) [] line line1 given given1 (Noted (event.OpenFailed p o) ∷ []) false false [] [] e s
-      says g (sym is) (sym (append-nil (asked ++ p ∷ []))) (λ rest. rw (none, there, is) (refused_moves d p rest o good))
+    says g (sym is) (sym (append-nil (asked ++ p ∷ []))) (λ rest. rw (none, there, is) (refused_moves d p rest o good))
 
 pub not_opened : (d : ℕ) (paths : Paths) (line0 : LineView) (given0 : List Given) (asked : List ℕ) (p : ℕ) (line line1 : LineView) (given given1 : List Given) (o : OpenCause) (e : Exchange)
     → line.session ≡ None → OpenIs p (starts.Failed o) e → Says paths line e line1 → line1.session ≡ None → given1 ≡ given ++ Noted (event.OpenFailed p o) ∷ []
@@ -182,7 +189,7 @@ pub asked_first : (d : ℕ) (paths : Paths) (line0 : LineView) (given0 : List Gi
     → Serves d paths line0 given0 asked (p ∷ []) line given false late → Serves d paths line0 given0 (asked ++ p ∷ []) [] line1 given1 (is_abort r) (late_after p r late)
 asked_first d paths line0 given0 asked p line line1 given given1 s late r content is smudge may goes says g h =
     serves_more d paths line0 given0 asked (p ∷ []) (asked ++ p ∷ []) [] line line1 given given1 (Noted (event.Answered p r) ∷ []) false (is_abort r) late (late_after p r late) (First p r content) h
-      says g refl (sym (append-nil (asked ++ p ∷ []))) (λ rest. rw is (first_moves d p rest s late r line1.session smudge may goes))
+    says g refl (sym (append-nil (asked ++ p ∷ []))) (λ rest. rw is (first_moves d p rest s late r line1.session smudge may goes))
 
 -- closings
 not_noted : (g : Given) → ends_card g ≡ true → noted_in (g ∷ []) ≡ []
@@ -219,7 +226,7 @@ pub asked_card : (d : ℕ) (paths : Paths) (line0 : LineView) (given0 : List Giv
 asked_card d paths line0 given0 asked p line line1 given given1 given2 late late1 r content b ready may goes says g more ab l h =
     let o = open_some line.session ready in
     rw (ab, l) (serves_closed d paths line0 given0 (asked ++ p ∷ []) [] line1 given1 given2 more.0 (is_abort r) (late_after p r late)
-      (asked_first d paths line0 given0 asked p line line1 given given1 o.0 late r content o.1 o.3 (may o.0 o.1) (goes o.0 o.1) says g h) more.1 more.2)
+    (asked_first d paths line0 given0 asked p line line1 given given1 o.0 late r content o.1 o.3 (may o.0 o.1) (goes o.0 o.1) says g h) more.1 more.2)
 
 sane_as : (z : Standing) (s : SessionSeen) (p : ℕ) (r : Reply) (late : List ℕ) (session1 : Option SessionSeen) → standing_after r ≡ z → GoesOn s z session1 → IsSane session1 (late_after p r late)
 sane_as z s p r late None is goes = none z r is goes
@@ -279,7 +286,7 @@ pub work_past : (d : ℕ) (paths : Paths) (line0 : LineView) (given0 : List Give
     → Serves d paths line0 given0 asked [] line given aborted late → Serves d paths line0 given0 (asked ++ asked_of p content) [] line given1 true late
 work_past d paths line0 given0 asked p (Ok content) line given given1 aborted late ab more s =
     serves_past d paths line0 given0 asked p line given1 true late (λ rest. refl)
-      (serves_ahead d paths line0 given0 asked p line given1 true late (serves_closed d paths line0 given0 asked [] line given given1 more.0 true late (rw ab at s) more.1 more.2))
+    (serves_ahead d paths line0 given0 asked p line given1 true late (serves_closed d paths line0 given0 asked [] line given given1 more.0 true late (rw ab at s) more.1 more.2))
 work_past d paths line0 given0 asked p (Err own) line given given1 aborted late ab more s =
     rw (append-nil asked) (serves_closed d paths line0 given0 asked [] line given given1 more.0 true late (rw ab at s) more.1 more.2)
 

@@ -1,9 +1,11 @@
 -- The cards that are late, by their places in the driver's table of delayed paths.
-use Rattle.std.specs.Prelude.{◌≡◌, ◌<◌, ◌≤◌, ℕ, Bool, true, false, Option, Some, None, List, [], ◌∷◌, length, slice_get, map}
-use Rattle.checkout_core.specs.Talks.{contains}
+use Rattle.std.specs.Prelude.{◌≡◌, ◌<◌, ◌≤◌, ℕ, Bool, true, false, Option, Some, None, List, [], ◌∷◌, length}
+use Rattle.std.specs.Prelude.{slice_get, map}
 use Rattle.delay_table.specs.Table.{Table, is_pending}
 use Rattle.delay_table.specs.declared.place.Place.TheVariants.{Idle}
 use Rattle.driver_line.specs.Lines.{Paths, number_at}
+use Rattle.convert_plan.specs.Card.{CardSeen}
+use Rattle.driver_desk.specs.Works.{card_paths, card_texts}
 use Rattle.driver_desk.specs.Rounds.{LateSeen, AreApart}
 
 -- the table, the path of each place, and the card of each place that is delayed or listed
@@ -53,3 +55,12 @@ names_at v = map (number_at v.numbers) v.table.turns
 -- nothing is listed
 abbrev pub StaysUnlisted : LateView → LateView → Type 0
 StaysUnlisted old new = old.table.turns ≡ [] → new.table.turns ≡ []
+
+-- the table of these cards, none of which is late
+pub record IsNewLate (cards : List CardSeen) (v : LateView) : Type 0 where
+  pub numbers : v.numbers ≡ card_paths cards
+  pub names : v.table.names ≡ card_texts cards
+  pub none : cards_of v ≡ []
+  pub idle : AreIdle 0 v
+  pub unlisted : v.table.turns ≡ []
+  pub apart : AreApart v.numbers

@@ -2,3 +2,4 @@ pub mod Works
 pub mod Serving
 pub mod Rounds
 pub mod Late
+pub mod Desks

@@ -1,17 +1,19 @@
 -- A round: a list, and a second request for each path that it names.
 use Rattle.edge_kit.specs.declared.leaf_state.LeafState.{LeafState}
 use Rattle.edge_kit.specs.declared.leaf_state.LeafState.TheVariants.{Fresh}
-use Rattle.std.specs.Prelude.{length, ◌≤◌, ◌≡◌, ◌⊎◌, ℕ, Bool, true, false, ◌==◌, List, [], ◌∷◌, ◌++◌, Option, Some, None}
-use Rattle.checkout_core.specs.Talks.{Talk, Round, Between, InRound, Ended, contains, without}
+use Rattle.std.specs.Prelude.{length, ◌≤◌, ◌≡◌, ◌⊎◌, ℕ, Bool, true, false, ◌==◌, List, [], ◌∷◌, ◌++◌, Option, Some}
+use Rattle.std.specs.Prelude.{None}
+use Rattle.checkout_core.specs.Talks.{Talk, InRound, contains, without}
 use Rattle.filter_proto.specs.Wires.{SessionSeen}
 use Rattle.filter_proto.specs.declared.session.Standing.TheVariants as standing
 use Rattle.checkout_core.specs.Talks.{IsOver}
-use Rattle.driver_line.specs.Lines.{LineView, Paths, AreKnown}
+use Rattle.driver_line.specs.Lines.{LineView, Paths}
 use Rattle.driver_desk.specs.Serving.{Given, Talks}
 
 -- no path is left to ask for: these are late, and these were listed and not asked for again
 abbrev pub round_of : Bool → Bool → List ℕ → List ℕ → Talk
-round_of delay naming late turns = InRound (record { delay = delay; any_delayed = true; noting_list = naming; rest = []; late = late; turns = turns })
+round_of delay naming late turns = InRound
+    (record { delay = delay; any_delayed = true; noting_list = naming; rest = []; late = late; turns = turns })
 
 -- the late ones without these
 abbrev pub minus : List ℕ → List ℕ → List ℕ
@@ -27,7 +29,8 @@ abbrev pub AreApart : List ℕ → Type 0
 AreApart [] = Unit {0}
 AreApart (p ∷ ps) = (contains p ps ≡ false) × AreApart ps
 
--- The talk goes on in rounds: these cards are late or listed, and of the listed ones these are still to be asked for again.
+-- The talk goes on in rounds: these cards are late or listed, and of the listed ones these are still to be asked for
+-- again.
 -- Or it is over, and no session is open.
 abbrev pub InRounds : ℕ → Paths → LineView → List Given → List ℕ → LineView → List Given → List ℕ → List ℕ → Type 0
 InRounds d paths line0 given0 asked line given cards turns =
@@ -38,9 +41,11 @@ abbrev pub TalkOver : ℕ → Paths → LineView → List Given → List ℕ →
 TalkOver d paths line0 given0 asked line given = (t : Talk) × Talks d paths line0 given0 asked line given t × IsOver t
 
 -- by whether a session is open
-abbrev pub RoundsBy : ℕ → Paths → LineView → List Given → List ℕ → Option SessionSeen → LineView → List Given → List ℕ → List ℕ → Type 0
+abbrev pub RoundsBy : ℕ → Paths → LineView → List Given → List ℕ → Option SessionSeen → LineView → List Given
+    → List ℕ → List ℕ → Type 0
 RoundsBy d paths line0 given0 asked None line given cards turns = TalkOver d paths line0 given0 asked line given
-RoundsBy d paths line0 given0 asked (Some s) line given cards turns = (s.standing ≡ standing.Live) × (s.caps.smudge ≡ true) × InRounds d paths line0 given0 asked line given cards turns
+RoundsBy d paths line0 given0 asked (Some s) line given cards turns = (s.standing ≡ standing.Live)
+    × (s.caps.smudge ≡ true) × InRounds d paths line0 given0 asked line given cards turns
 
 -- a late card, as it is seen
 pub record LateSeen : Type 0 where

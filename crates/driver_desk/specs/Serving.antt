@@ -2,15 +2,19 @@
 use Rattle.std.specs.Prelude.{◌≡◌, ℕ, Bool, true, false, not, cond, Option, Some, None, List, [], ◌∷◌, ◌++◌}
 use Rattle.checkout_core.specs.declared.event.Event.{Event}
 use Rattle.checkout_core.specs.declared.verdict.Own.{Own}
-use Rattle.checkout_core.specs.Talks.{Talk, Round, Between, Refusing, InRound, Ended, is_empty}
+use Rattle.checkout_core.specs.Talks.{Talk, Between, Refusing, InRound, Ended, is_empty}
 use Rattle.filter_proto.specs.Wires.{SessionSeen}
 use Rattle.convert_plan.specs.Card.{CardSeen}
 use Rattle.filter_proto.specs.declared.session.Standing.TheVariants as standing
 use Rattle.filter_words.specs.declared.reply.Reply.{Reply}
 use Rattle.filter_words.specs.declared.reply.Reply.TheVariants as reply
-use Rattle.checkout_core.specs.Talks.{talk_run, IsOver}
+use Rattle.checkout_core.specs.Talks.{talk_run}
 use Rattle.driver_line.specs.Conversations.{Exchange, notes_in}
 use Rattle.driver_line.specs.Lines.{LineView, Paths, RunsTo}
+use Rattle.checkout_core.specs.Transcripts.{Item}
+use Rattle.checkout_core.specs.Transcripts as result
+use Rattle.driver_line.specs.Transcripts.{IsTalk}
+use Rattle.edge_kit.specs.Starters.{Had}
 
 -- what a recorder was given
 pub data Given : Type 0 where
@@ -41,9 +45,11 @@ IsClosing old new = (g : Given) × (new ≡ old ++ g ∷ []) × (ends_card g ≡
 abbrev pub AreClosings : List Given → List Given → Type 0
 AreClosings old new = (more : List Given) × (new ≡ old ++ more) × (noted_in more ≡ [])
 
--- Exchanges led from one view of the line to another, their notes were given, and over these paths they are a talk that
+-- Exchanges led from one view of the line to another, their notes were given, and over these paths they are a talk
+-- that
 -- has come to `t`.
-pub record Talks (d : ℕ) (paths : Paths) (line0 : LineView) (given0 : List Given) (asked : List ℕ) (line : LineView) (given : List Given) (t : Talk) : Type 0 where
+pub record Talks (d : ℕ) (paths : Paths) (line0 : LineView) (given0 : List Given) (asked : List ℕ) (line : LineView)
+    (given : List Given) (t : Talk) : Type 0 where
   pub exchanges : List Exchange
   pub more : List Given
   pub runs : RunsTo paths line0 exchanges line
@@ -53,7 +59,15 @@ pub record Talks (d : ℕ) (paths : Paths) (line0 : LineView) (given0 : List Giv
 
 -- where the talk is, while cards are served: these are late in the open session, and `rest` is still to come
 abbrev pub talk_in : SessionSeen → List ℕ → List ℕ → Talk
-talk_in s late rest = cond s.caps.smudge (InRound (record { delay = s.caps.delay; any_delayed = not (is_empty late); noting_list = false; rest = rest; late = late; turns = [] })) Refusing
+talk_in s late rest = cond s.caps.smudge (InRound (record {
+  delay = s.caps.delay;
+  any_delayed = not
+      (is_empty late);
+  noting_list = false;
+  rest = rest;
+  late = late;
+  turns = [];
+})) Refusing
 
 abbrev pub talk_now : Option SessionSeen → Bool → List ℕ → List ℕ → Talk
 talk_now session true late rest = Ended
@@ -61,13 +75,15 @@ talk_now None false late rest = Between rest
 talk_now (Some s) false late rest = talk_in s late rest
 
 -- the same while cards are served: the paths `asked` are through, `ahead` come next, and whatever paths follow
-pub record Serves (d : ℕ) (paths : Paths) (line0 : LineView) (given0 : List Given) (asked ahead : List ℕ) (line : LineView) (given : List Given) (aborted : Bool) (late : List ℕ) : Type 0 where
+pub record Serves (d : ℕ) (paths : Paths) (line0 : LineView) (given0 : List Given) (asked ahead : List ℕ)
+    (line : LineView) (given : List Given) (aborted : Bool) (late : List ℕ) : Type 0 where
   pub exchanges : List Exchange
   pub more : List Given
   pub runs : RunsTo paths line0 exchanges line
   pub given_is : given ≡ given0 ++ more
   pub noted : noted_in more ≡ notes_in d exchanges
-  pub talk : (rest : List ℕ) → talk_run d (Between (asked ++ (ahead ++ rest))) (notes_in d exchanges) ≡ Some (talk_now line.session aborted late (ahead ++ rest))
+  pub talk : (rest : List ℕ) → talk_run d (Between (asked ++ (ahead ++ rest))) (notes_in d exchanges) ≡ Some
+      (talk_now line.session aborted late (ahead ++ rest))
 
 -- the paths of cards in the order in which they became late, the newest first
 abbrev pub newest : List ℕ → List ℕ
@@ -92,3 +108,19 @@ late_after p reply.Delayed late = p ∷ late
 late_after p reply.Abort late = []
 late_after p (reply.Broken why) late = []
 late_after p reply.NoMemory late = []
+
+-- A desk has served: what its starter keeps grew by a talk, and its recorder was given just the talk's notes. The
+-- results
+-- of the talk are a whole talk, case by case.
+pub record IsServed (d : ℕ) (paths : Paths) (asked : List ℕ) (had0 had : List Had)
+    (given0 given : List Given) : Type 0 where
+  pub items : List Had
+  pub exchanges : List Exchange
+  pub results : List Item
+  pub more : List Given
+  pub kept : had ≡ had0 ++ items
+  pub talk : IsTalk d paths asked items exchanges
+  pub whole : result.IsTalk asked results
+  pub same : result.notes_of d results ≡ notes_in d exchanges
+  pub told : given ≡ given0 ++ more
+  pub noted : noted_in more ≡ notes_in d exchanges

@@ -1,8 +1,6 @@
 -- Cards with what was read and prepared for them.
-use Rattle.std.specs.Prelude.{◌≡◌, ℕ, ◌≤◌, Option, Some, None, List, [], ◌∷◌, ◌++◌, length, Result, Ok, Err}
-use Rattle.edge_kit.specs.declared.leaf_state.LeafState.{LeafState}
-use Rattle.edge_kit.specs.declared.leaf_state.LeafState.TheVariants.{Fresh}
-use Rattle.object_dir.specs.Object.{IsObject, Gives}
+use Rattle.std.specs.Prelude.{◌≡◌, ℕ, List, [], ◌∷◌, ◌++◌, Result, Ok, Err}
+use Rattle.object_dir.specs.Object.{IsObject}
 use Rattle.object_dir.specs.declared.fault.ObjectFault.{ObjectFault}
 use Rattle.object_dir.specs.declared.fault.ObjectFault.TheVariants as fault
 use Rattle.tree_encoding.specs.declared.prepared.Prepared.{Prepared}
@@ -85,3 +83,7 @@ card_paths (c ∷ cs) = c.path ∷ card_paths cs
 abbrev pub AreNew : List CardSeen → Type 0
 AreNew [] = Unit {0}
 AreNew (c ∷ cs) = IsNewCard c × AreNew cs
+
+abbrev pub card_texts : List CardSeen → List (List ℕ)
+card_texts [] = []
+card_texts (c ∷ cs) = c.text ∷ card_texts cs

@@ -1,21 +1,26 @@
 // A desk: the cards of a driver, and what starts it.
-ghost use Rattle.std.specs.Prelude.{◌≡◌, ◌≤◌, ◌<◌, ◌+◌, ◌^◌, ◌++◌, [], ℕ, List, Bool, true, false, None, length, map, IfOk};
+ghost use Rattle.std.specs.Prelude.{◌≡◌, ◌≤◌, ◌<◌, ◌+◌, ◌^◌, ◌++◌, [], ℕ, List, Bool, true, false, None, length};
+ghost use Rattle.std.specs.Prelude.{map, IfOk};
 ghost use Rattle.convert_plan.specs.Card.{CardSeen, card_seen, IsNewCard};
 ghost use Rattle.driver_line.specs.Lines.{LineView, Paths, starts_of};
-ghost use Rattle.driver_desk.specs.Late.{AreIdle, FitsNames, KeepsNames, StaysUnlisted, cards_of};
+ghost use Rattle.driver_desk.specs.Late.{AreIdle, FitsNames, IsNewLate, KeepsNames, StaysUnlisted, cards_of};
+ghost use Rattle.delay_table.specs.Table.{IsRising};
 ghost use Rattle.driver_desk.specs.Rounds.{paths_of, AreApart, AreReady, FitTexts, TalkOver};
-ghost use Rattle.driver_desk.specs.Serving.{Given, Serves, IsSane, newest};
+ghost use Rattle.driver_desk.specs.Serving.{Given, IsServed, Serves, IsSane, newest};
 ghost use Rattle.driver_desk.specs.Works.{WorkSeen, AreNew, AreRead, FitAll, asked_in, cards_in, card_paths};
+ghost use Rattle.driver_desk.specs.Works.{card_texts};
 
 use crate::late::Late;
 use crate::recorder::Recorder;
 use crate::rounds::end_talk;
 use crate::serving::{Seat, serve_one};
 use convert_plan::Card;
-use driver_line::Line;
+use core_laws::laws::a_talk_is_a_transcript;
+use driver_line::{Line, exchanges_are_spelled};
 use edge_kit::{Blob, Gate, Leaf, Starter};
 use std::alloc::{AllocError, Global};
 use std::collections::VecDeque;
+use std::marker::Model;
 
 /// Serves the cards, one after another, and tells whether the driver aborted.
 fn serve_all<S: Starter, B: Blob, L: Leaf, C: Recorder<B, L>, G: Gate>(
@@ -34,10 +39,12 @@ fn serve_all<S: Starter, B: Blob, L: Leaf, C: Recorder<B, L>, G: Gate>(
     requires numbers { late.old.numbers ≡ card_paths (map (λ c. card_seen B.told B.seen L.seen c) cards.items) }
     requires idle { AreIdle 0 late.old }
     requires apart { AreApart late.old.numbers }
-    ensures serves { (works : List WorkSeen) × (map (λ c. card_seen B.told B.seen L.seen c) cards.items ≡ cards_in works) × AreRead works
+    ensures serves { (works : List WorkSeen)
+        × (map (λ c. card_seen B.told B.seen L.seen c) cards.items ≡ cards_in works) × AreRead works
         × ((paths : Paths) (line0 : LineView) (given0 : List Given) (asked : List ℕ) → FitAll paths works
         → Serves seat.driver paths line0 given0 asked [] line.old (C.given recorder.old) false []
-        → Serves seat.driver paths line0 given0 (asked ++ asked_in works) [] line.new (C.given recorder.new) result (newest (paths_of (cards_of late.new))))
+        → Serves seat.driver paths line0 given0 (asked ++ asked_in works) [] line.new (C.given recorder.new) result
+        (newest (paths_of (cards_of late.new))))
         × ((paths : Paths) → FitAll paths works → FitTexts paths (cards_of late.new)) }
     ensures ready { AreReady (cards_of late.new) }
     ensures apart { AreApart (paths_of (cards_of late.new)) }
@@ -55,4 +62,123 @@ fn serve_all<S: Starter, B: Blob, L: Leaf, C: Recorder<B, L>, G: Gate>(
         place += 1;
     }
     aborted
+}
+
+/// Serves the cards and ends the talk.
+fn serve_line<S: Starter, B: Blob, L: Leaf, C: Recorder<B, L>, G: Gate>(
+    alloc: Global,
+    seat: Seat,
+    line: &mut Line<S>,
+    late: &mut Late<B, L>,
+    recorder: &mut C,
+    gate: &G,
+    cards: VecDeque<Card<B, L>>,
+)
+    requires starts { starts_of line.old + length cards.items < 2 ^ 32 }
+    requires none { line.old.session ≡ None }
+    requires new { AreNew (map (λ c. card_seen B.told B.seen L.seen c) cards.items) }
+    requires late { IsNewLate (map (λ c. card_seen B.told B.seen L.seen c) cards.items) late.old }
+    ensures talk { (works : List WorkSeen)
+        × (map (λ c. card_seen B.told B.seen L.seen c) cards.items ≡ cards_in works) × AreRead works
+        × ((paths : Paths) → FitAll paths works
+        → TalkOver seat.driver paths line.old (C.given recorder.old) (asked_in works) line.new
+        (C.given recorder.new)) }
+    ensures none { line.new.session ≡ None }
+{
+    if serve_all(alloc, seat, line, late, recorder, gate, cards) {
+        return;
+    }
+    end_talk(seat, line, late, recorder);
+}
+
+/// The cards of a driver, and what starts it.
+#[derive(Drop)]
+pub struct Desk<S: Starter, B: Blob, L: Leaf> {
+    alloc: Global,
+    seat: Seat,
+    starter: S,
+    cards: VecDeque<Card<B, L>>,
+    late: Late<B, L>,
+}
+
+impl<S: Starter, B: Blob, L: Leaf> Model for Desk<S, B, L> {
+    ghost use Rattle.std.specs.Prelude.{map};
+    ghost use Rattle.convert_plan.specs.Card.{card_seen};
+    ghost use Rattle.driver_desk.specs.Desks.{DeskView, IsReadyDesk};
+
+    ghost Value = { DeskView };
+
+    ghost view = { λ d. record {
+      driver = d.seat.driver;
+      starter = S.seen d.starter;
+      cards = map (λ c. card_seen B.told B.seen L.seen c) d.cards.items;
+    } };
+
+    ghost invariant = { λ d. IsReadyDesk (map (λ c. card_seen B.told B.seen L.seen c) d.cards.items) d.late };
+}
+
+/// What is left of a desk that has served.
+#[derive(Drop)]
+pub struct Served<S: Starter> {
+    pub starter: S,
+}
+
+impl<S: Starter, B: Blob, L: Leaf> Desk<S, B, L> {
+    /// A desk for these cards of a driver, in path order. It takes room for the whole talk.
+    pub fn make(
+        alloc: Global,
+        actor: u32,
+        driver: u32,
+        required: bool,
+        starter: S,
+        cards: Vec<Card<B, L>>,
+    ) -> Result<Desk<S, B, L>, AllocError>
+        requires few { length cards.items < 2 ^ 32 }
+        requires new { AreNew (map (λ c. card_seen B.told B.seen L.seen c) cards.items) }
+        requires rising { IsRising (card_texts (map (λ c. card_seen B.told B.seen L.seen c) cards.items)) }
+        requires apart { AreApart (card_paths (map (λ c. card_seen B.told B.seen L.seen c) cards.items)) }
+        ensures { IfOk result (λ d. d ≡ record {
+          driver = driver;
+          starter = S.seen starter;
+          cards = map (λ c. card_seen B.told B.seen L.seen c) cards.items;
+        }) }
+    {
+        let late = Late::make(alloc, cards.as_slice())?;
+        Ok(Desk {
+            alloc,
+            seat: Seat {
+                actor,
+                driver,
+                required,
+            },
+            starter,
+            cards: VecDeque::from_vec(cards),
+            late,
+        })
+    }
+
+    // Serves the cards, one after another, over sessions that are started when they are needed. The recorder is given
+    /// each note of the talk, and each card.
+    pub fn serve<C: Recorder<B, L>, G: Gate>(self, recorder: &mut C, gate: &G) -> Served<S>
+        requires few { length self.starter.had + length self.cards < 2 ^ 32 }
+        ensures served { (works : List WorkSeen) × (self.cards ≡ cards_in works) × AreRead works
+            × ((paths : Paths) → FitAll paths works
+            → IsServed self.driver paths (asked_in works) self.starter.had (S.seen result.starter).had
+            (C.given recorder.old) (C.given recorder.new)) }
+    {
+        exchanges_are_spelled();
+        a_talk_is_a_transcript();
+        let Desk {
+            alloc,
+            seat,
+            starter,
+            cards,
+            mut late,
+        } = self;
+        let mut line = Line::new(alloc, starter);
+        serve_line(alloc, seat, &mut line, &mut late, recorder, gate, cards);
+        Served {
+            starter: line.into_starter(),
+        }
+    }
 }

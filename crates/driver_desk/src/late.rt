@@ -1,20 +1,28 @@
 // The cards that are late: their driver delayed them, and they wait to be listed.
-ghost use Rattle.std.specs.Prelude.{map, ◌≡◌, ◌≤◌, ◌<◌, ◌^◌, ◌++◌, ◌∷◌, [], ℕ, List, Option, Some, None, MatchOption, slice_get, length, true, false, IfOk};
+ghost use Rattle.std.specs.Prelude.{map, ◌≡◌, ◌≤◌, ◌<◌, ◌^◌, ◌++◌, ◌∷◌, [], ℕ, List, Option, Some, None};
+ghost use Rattle.std.specs.Prelude.{MatchOption, slice_get, length, true, false, IfOk};
 ghost use Rattle.checkout_core.specs.Talks.{contains};
 ghost use Rattle.std.specs.Option.{option_map};
-ghost use Rattle.delay_table.specs.Table.{with_place, is_pending};
+ghost use Rattle.delay_table.specs.Table.{IsRising, with_place, is_pending};
 ghost use Rattle.delay_table.specs.declared.place.Place.TheVariants.{Idle, Delayed, Done};
 ghost use Rattle.filter_proto.specs.Wires.{SessionSeen};
 ghost use Rattle.driver_line.specs.Conversations.{Listing};
-ghost use Rattle.driver_line.specs.Lines.{Paths, Says, GoesOn, NamesAre, IsLive, list_standing, late_in, names_in, number_at};
-ghost use Rattle.driver_desk.specs.Late.{LateView, IsLate, AreIdle, KeepsNames, StaysUnlisted, FitsNames, cards_of};
-ghost use Rattle.driver_desk.specs.Rounds.{LateSeen, late_seen, paths_of, IsTaken};
+ghost use Rattle.driver_line.specs.Lines.{Paths, Says, GoesOn, NamesAre, IsLive, list_standing, late_in, names_in};
+ghost use Rattle.driver_line.specs.Lines.{number_at};
+ghost use Rattle.driver_desk.specs.Late.{LateView, IsLate, IsNewLate, AreIdle, KeepsNames, StaysUnlisted};
+ghost use Rattle.driver_desk.specs.Late.{FitsNames, cards_of};
+ghost use Rattle.driver_desk.specs.Rounds.{LateSeen, late_seen, paths_of, IsTaken, AreApart};
+ghost use Rattle.driver_desk.specs.Works.{card_paths, card_texts};
+ghost use Rattle.convert_plan.specs.Card.{card_seen};
 
 use crate::closing::Work;
+use byte_path::Bytes;
+use convert_plan::Card;
 use delay_table::DelayTable;
 use driver_line::Line;
 use edge_kit::{Blob, Leaf, Starter};
 use filter_words::ListReply;
+use std::alloc::{AllocError, Global};
 use std::marker::Model;
 
 /// The table of a driver's paths, the path of each place, and the card of each place that is delayed or listed.
@@ -36,17 +44,75 @@ impl<B: Blob, L: Leaf> Model for Late<B, L> {
     ghost view = { λ l. record {
       table = l.table;
       numbers = l.numbers.items;
-      slots = map (λ o. option_map (λ w. late_seen w.card.path w.card.text (L.seen w.card.leaf).state) o) l.slots.items;
+      slots = map (λ o. option_map (λ w. late_seen w.card.path w.card.text
+          (L.seen w.card.leaf).state) o) l.slots.items;
     } };
 
     ghost invariant = { λ l. IsLate (record {
       table = l.table;
       numbers = l.numbers.items;
-      slots = map (λ o. option_map (λ w. late_seen w.card.path w.card.text (L.seen w.card.leaf).state) o) l.slots.items;
+      slots = map (λ o. option_map (λ w. late_seen w.card.path w.card.text
+          (L.seen w.card.leaf).state) o) l.slots.items;
     }) };
 }
 
+/// The texts of the cards.
+fn texts_of<B: Blob, L: Leaf>(alloc: Global, cards: &[Card<B, L>]) -> Result<Vec<Bytes>, AllocError>
+    ensures { IfOk result (λ v. v.items ≡ card_texts (map (λ c. card_seen B.told B.seen L.seen c) cards.now)) }
+{
+    let mut texts = Vec::with_capacity(alloc, cards.len())?;
+    for card in cards {
+        let text = Bytes::copy_of(alloc, card.text.as_slice())?;
+        texts.push(text)?;
+    }
+    Ok(texts)
+}
+
+/// The numbers of the cards' paths.
+fn numbers_of<B: Blob, L: Leaf>(alloc: Global, cards: &[Card<B, L>]) -> Result<Vec<u32>, AllocError>
+    ensures { IfOk result (λ v. v.items ≡ card_paths (map (λ c. card_seen B.told B.seen L.seen c) cards.now)) }
+{
+    let mut numbers = Vec::with_capacity(alloc, cards.len())?;
+    for card in cards {
+        numbers.push(card.path)?;
+    }
+    Ok(numbers)
+}
+
+/// A slot for each number, with no card.
+fn slots_of<B: Blob, L: Leaf>(
+    alloc: Global,
+    numbers: &[u32],
+) -> Result<Vec<Option<Work<B, L>>>, AllocError>
+    ensures { IfOk result (λ v. v.items ≡ map (λ n. None) numbers.now) }
+{
+    let mut slots = Vec::with_capacity(alloc, numbers.len())?;
+    for number in numbers {
+        let _ = number;
+        slots.push(None)?;
+    }
+    Ok(slots)
+}
+
 impl<B: Blob, L: Leaf> Late<B, L> {
+    /// A table of these cards' paths, none of which is late. All its room is taken here.
+    pub fn make(alloc: Global, cards: &[Card<B, L>]) -> Result<Late<B, L>, AllocError>
+        requires rising { IsRising (card_texts (map (λ c. card_seen B.told B.seen L.seen c) cards.now)) }
+        requires few { length cards.now < 2 ^ 32 }
+        requires apart { AreApart (card_paths (map (λ c. card_seen B.told B.seen L.seen c) cards.now)) }
+        ensures { IfOk result (λ l. IsNewLate (map (λ c. card_seen B.told B.seen L.seen c) cards.now) l) }
+    {
+        let texts = texts_of(alloc, cards)?;
+        let numbers = numbers_of(alloc, cards)?;
+        let slots = slots_of(alloc, &numbers)?;
+        let table = DelayTable::reserve(alloc, texts)?;
+        Ok(Late {
+            table,
+            numbers,
+            slots,
+        })
+    }
+
     /// Keeps the card of a place, which its driver delayed. No card of a later place is kept.
     pub fn keep(&mut self, place: u32, work: Work<B, L>)
         requires here { slice_get self.old.numbers place ≡ Some work.card.path }
@@ -121,9 +187,12 @@ impl<B: Blob, L: Leaf> Late<B, L> {
         requires live { IsLive line.old.session }
         requires none { self.old.table.turns ≡ [] }
         ensures says { (paths : Paths) → FitsNames paths self.old
-            → Says paths line.old (Listing (late_in self.old.numbers self.old.table.places) (names_in self.old.numbers self.new.table.turns result) result) line.new }
-        ensures names { NamesAre (paths_of (cards_of self.old)) (names_in self.old.numbers self.new.table.turns result) result }
-        ensures goes { (s : SessionSeen) → line.old.session ≡ Some s → GoesOn s (list_standing result) line.new.session }
+            → Says paths line.old (Listing (late_in self.old.numbers self.old.table.places)
+            (names_in self.old.numbers self.new.table.turns result) result) line.new }
+        ensures names { NamesAre (paths_of (cards_of self.old))
+            (names_in self.old.numbers self.new.table.turns result) result }
+        ensures goes { (s : SessionSeen) → line.old.session ≡ Some s
+            → GoesOn s (list_standing result) line.new.session }
         ensures cards { cards_of self.new ≡ cards_of self.old }
         ensures kept { KeepsNames self.old self.new }
     {

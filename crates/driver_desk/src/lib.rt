@@ -10,4 +10,5 @@ mod recorder;
 mod rounds;
 mod serving;
 
+pub use desk::{Desk, Served};
 pub use recorder::Recorder;

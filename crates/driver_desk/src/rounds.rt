@@ -1,11 +1,13 @@
 // Rounds: a list, and a second request for each path that it names.
-ghost use Rattle.std.specs.Prelude.{◌≡◌, ◌≢◌, ◌≤◌, ◌<◌, ◌+◌, ◌∷◌, ◌++◌, [], ℕ, List, Bool, true, false, Option, Some, None, Err, length, map};
+ghost use Rattle.std.specs.Prelude.{◌≡◌, ◌≢◌, ◌≤◌, ◌<◌, ◌+◌, ◌∷◌, ◌++◌, [], ℕ, List, Bool, true, false, Option};
+ghost use Rattle.std.specs.Prelude.{Some, None, Err, length, map};
 ghost use Rattle.edge_kit.specs.Files.{IsOpenLeaf};
 ghost use Rattle.edge_kit.specs.declared.leaf_state.LeafState.TheVariants.{Fresh, Broken};
 ghost use Rattle.driver_line.specs.Conversations.{list_notes};
 ghost use Rattle.driver_line.specs.Lines.{LineView, Paths, IsOpen, names_in, weight};
 ghost use Rattle.driver_desk.specs.Late.{FitsNames, KeepsNames, cards_of, names_at};
-ghost use Rattle.driver_desk.specs.Rounds.{paths_of, AreReady, AreApart, FitTexts, IsNext, RedoneCards, RoundsBy, TalkOver, TurnsBy};
+ghost use Rattle.driver_desk.specs.Rounds.{paths_of, AreReady, AreApart, FitTexts, IsNext, RedoneCards, RoundsBy};
+ghost use Rattle.driver_desk.specs.Rounds.{TalkOver, TurnsBy};
 ghost use Rattle.driver_desk.specs.Serving.{Given, AreClosings, Serves, IsSane, newest, noted_in};
 
 use crate::closing::{Work, close_empty, close_got, refuse};
@@ -86,7 +88,8 @@ fn redo<S: Starter, B: Blob, L: Leaf, C: Recorder<B, L>>(
     requires few { length work.card.text ≤ 4096 }
     ensures rounds { (paths : Paths) (line0 : LineView) (given0 : List Given) (asked turns cards left : List ℕ)
         → paths.text work.card.path ≡ work.card.text → RedoneCards cards work.card.path left
-        → RoundsBy seat.driver paths line0 given0 asked line.old.session line.old (C.given recorder.old) cards (work.card.path ∷ turns)
+        → RoundsBy seat.driver paths line0 given0 asked line.old.session line.old (C.given recorder.old) cards
+        (work.card.path ∷ turns)
         → RoundsBy seat.driver paths line0 given0 asked line.new.session line.new (C.given recorder.new) left turns }
     ensures next { IsNext line.new.session }
 {
@@ -107,9 +110,12 @@ fn redo_all<S: Starter, B: Blob, L: Leaf, C: Recorder<B, L>>(
     requires next { IsNext line.old.session }
     requires ready { AreReady (cards_of late.old) }
     requires apart { AreApart (paths_of (cards_of late.old)) }
-    ensures rounds { (paths : Paths) (line0 : LineView) (given0 : List Given) (asked : List ℕ) → FitTexts paths (cards_of late.old)
-        → RoundsBy seat.driver paths line0 given0 asked line.old.session line.old (C.given recorder.old) (paths_of (cards_of late.old)) (names_at late.old)
-        → RoundsBy seat.driver paths line0 given0 asked line.new.session line.new (C.given recorder.new) (paths_of (cards_of late.new)) [] }
+    ensures rounds { (paths : Paths) (line0 : LineView) (given0 : List Given) (asked : List ℕ)
+        → FitTexts paths (cards_of late.old)
+        → RoundsBy seat.driver paths line0 given0 asked line.old.session line.old (C.given recorder.old) (paths_of
+        (cards_of late.old)) (names_at late.old)
+        → RoundsBy seat.driver paths line0 given0 asked line.new.session line.new (C.given recorder.new) (paths_of
+        (cards_of late.new)) [] }
     ensures next { IsNext line.new.session }
     ensures turns { TurnsBy line.new.session late.new.table.turns }
     ensures ready { AreReady (cards_of late.new) }
@@ -118,7 +124,8 @@ fn redo_all<S: Starter, B: Blob, L: Leaf, C: Recorder<B, L>>(
     ensures names { KeepsNames late.old late.new }
     ensures shuts { line.old.session ≡ None → line.new.session ≡ None }
     ensures len { length (cards_of late.new) ≤ length (cards_of late.old) }
-    ensures fewer { (line.old.session ≡ None → ⊥) → 0 < length (names_at late.old) → length (cards_of late.new) < length (cards_of late.old) }
+    ensures fewer { (line.old.session ≡ None → ⊥) → 0 < length (names_at late.old)
+        → length (cards_of late.new) < length (cards_of late.old) }
 {
     while line.is_open() {
         let Some(work) = late.next_listed() else {
@@ -139,9 +146,12 @@ fn one_round<S: Starter, B: Blob, L: Leaf, C: Recorder<B, L>>(
     requires none { late.old.table.turns ≡ [] }
     requires ready { AreReady (cards_of late.old) }
     requires apart { AreApart (paths_of (cards_of late.old)) }
-    ensures rounds { (paths : Paths) (line0 : LineView) (given0 : List Given) (asked : List ℕ) → FitTexts paths (cards_of late.old) → FitsNames paths late.old
-        → RoundsBy seat.driver paths line0 given0 asked line.old.session line.old (C.given recorder.old) (paths_of (cards_of late.old)) []
-        → RoundsBy seat.driver paths line0 given0 asked line.new.session line.new (C.given recorder.new) (paths_of (cards_of late.new)) [] }
+    ensures rounds { (paths : Paths) (line0 : LineView) (given0 : List Given) (asked : List ℕ)
+        → FitTexts paths (cards_of late.old) → FitsNames paths late.old
+        → RoundsBy seat.driver paths line0 given0 asked line.old.session line.old (C.given recorder.old) (paths_of
+        (cards_of late.old)) []
+        → RoundsBy seat.driver paths line0 given0 asked line.new.session line.new (C.given recorder.new) (paths_of
+        (cards_of late.new)) [] }
     ensures next { IsNext line.new.session }
     ensures turns { TurnsBy line.new.session late.new.table.turns }
     ensures ready { AreReady (cards_of late.new) }
@@ -166,8 +176,10 @@ fn rounds<S: Starter, B: Blob, L: Leaf, C: Recorder<B, L>>(
     requires none { late.old.table.turns ≡ [] }
     requires ready { AreReady (cards_of late.old) }
     requires apart { AreApart (paths_of (cards_of late.old)) }
-    ensures over { (paths : Paths) (line0 : LineView) (given0 : List Given) (asked : List ℕ) → FitTexts paths (cards_of late.old) → FitsNames paths late.old
-        → RoundsBy seat.driver paths line0 given0 asked line.old.session line.old (C.given recorder.old) (paths_of (cards_of late.old)) []
+    ensures over { (paths : Paths) (line0 : LineView) (given0 : List Given) (asked : List ℕ)
+        → FitTexts paths (cards_of late.old) → FitsNames paths late.old
+        → RoundsBy seat.driver paths line0 given0 asked line.old.session line.old (C.given recorder.old) (paths_of
+        (cards_of late.old)) []
         → TalkOver seat.driver paths line0 given0 asked line.new (C.given recorder.new) }
     ensures none { line.new.session ≡ None }
 {
@@ -188,8 +200,10 @@ pub(crate) fn end_talk<S: Starter, B: Blob, L: Leaf, C: Recorder<B, L>>(
     requires none { late.old.table.turns ≡ [] }
     requires ready { AreReady (cards_of late.old) }
     requires apart { AreApart (paths_of (cards_of late.old)) }
-    ensures over { (paths : Paths) (line0 : LineView) (given0 : List Given) (asked : List ℕ) → FitTexts paths (cards_of late.old) → FitsNames paths late.old
-        → Serves seat.driver paths line0 given0 asked [] line.old (C.given recorder.old) false (newest (paths_of (cards_of late.old)))
+    ensures over { (paths : Paths) (line0 : LineView) (given0 : List Given) (asked : List ℕ)
+        → FitTexts paths (cards_of late.old) → FitsNames paths late.old
+        → Serves seat.driver paths line0 given0 asked [] line.old (C.given recorder.old) false (newest (paths_of
+        (cards_of late.old)))
         → TalkOver seat.driver paths line0 given0 asked line.new (C.given recorder.new) }
     ensures none { line.new.session ≡ None }
 {

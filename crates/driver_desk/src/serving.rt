@@ -1,5 +1,6 @@
 // The cards of a driver, one after another: each is asked for in a session that is opened when it is needed.
-ghost use Rattle.std.specs.Prelude.{◌≡◌, ◌≢◌, ◌≤◌, ◌<◌, ◌+◌, ◌^◌, ◌∷◌, ◌++◌, [], ℕ, List, Bool, true, false, Option, Some, None, Err, length, slice_get};
+ghost use Rattle.std.specs.Prelude.{◌≡◌, ◌≢◌, ◌≤◌, ◌<◌, ◌+◌, ◌^◌, ◌∷◌, ◌++◌, [], ℕ, List, Bool, true, false};
+ghost use Rattle.std.specs.Prelude.{Option, Some, None, Err, length, slice_get};
 ghost use Rattle.edge_kit.specs.Files.{IsOpenLeaf};
 ghost use Rattle.edge_kit.specs.declared.leaf_state.LeafState.TheVariants.{Fresh, Broken};
 ghost use Rattle.convert_plan.specs.Card.{card_seen};
@@ -141,7 +142,8 @@ fn after_reply<B: Blob, L: Leaf, C: Recorder<B, L>>(
     requires here { slice_get late.old.numbers place ≡ Some work.card.path }
     requires idle { AreIdle place late.old }
     requires ready { AreReady (cards_of late.old) }
-    ensures cards { GrowsLate (cards_of late.old) (late_seen work.card.path work.card.text Fresh) (cards_of late.new) }
+    ensures cards { GrowsLate (cards_of late.old) (late_seen work.card.path work.card.text Fresh)
+        (cards_of late.new) }
     ensures late { newest (paths_of (cards_of late.new))
         ≡ late_after work.card.path reply (newest (paths_of (cards_of late.old))) }
     ensures closed { AreClosings (C.given recorder.old) (C.given recorder.new) }
@@ -184,8 +186,10 @@ fn ask_card<S: Starter, B: Blob, L: Leaf, C: Recorder<B, L>, G: Gate>(
     requires ready { AreReady (cards_of late.old) }
     ensures serves { (paths : Paths) (line0 : LineView) (given0 : List Given) (asked : List ℕ)
         → paths.text card.path ≡ card.text → paths.content card.path ≡ prepared.bytes
-        → Serves seat.driver paths line0 given0 asked (card.path ∷ []) line.old (C.given recorder.old) false (newest (paths_of (cards_of late.old)))
-        → Serves seat.driver paths line0 given0 (asked ++ card.path ∷ []) [] line.new (C.given recorder.new) result (newest (paths_of (cards_of late.new))) }
+        → Serves seat.driver paths line0 given0 asked (card.path ∷ []) line.old (C.given recorder.old) false (newest
+        (paths_of (cards_of late.old)))
+        → Serves seat.driver paths line0 given0 (asked ++ card.path ∷ []) [] line.new (C.given recorder.new) result
+        (newest (paths_of (cards_of late.new))) }
     ensures cards { GrowsLate (cards_of late.old) (late_seen card.path card.text Fresh) (cards_of late.new) }
     ensures done { result ≡ true → line.new.session ≡ None }
     ensures sane { IsSane line.new.session (newest (paths_of (cards_of late.new))) }
@@ -254,8 +258,10 @@ fn serve_card<S: Starter, B: Blob, L: Leaf, C: Recorder<B, L>, G: Gate>(
     requires ready { AreReady (cards_of late.old) }
     ensures serves { (paths : Paths) (line0 : LineView) (given0 : List Given) (asked : List ℕ)
         → paths.text card.path ≡ card.text → paths.content card.path ≡ prepared.bytes
-        → Serves seat.driver paths line0 given0 asked [] line.old (C.given recorder.old) false (newest (paths_of (cards_of late.old)))
-        → Serves seat.driver paths line0 given0 (asked ++ card.path ∷ []) [] line.new (C.given recorder.new) result (newest (paths_of (cards_of late.new))) }
+        → Serves seat.driver paths line0 given0 asked [] line.old (C.given recorder.old) false (newest (paths_of
+        (cards_of late.old)))
+        → Serves seat.driver paths line0 given0 (asked ++ card.path ∷ []) [] line.new (C.given recorder.new) result
+        (newest (paths_of (cards_of late.new))) }
     ensures cards { GrowsLate (cards_of late.old) (late_seen card.path card.text Fresh) (cards_of late.new) }
     ensures done { result ≡ true → line.new.session ≡ None }
     ensures sane { IsSane line.new.session (newest (paths_of (cards_of late.new))) }
@@ -300,8 +306,10 @@ pub(crate) fn serve_one<S: Starter, B: Blob, L: Leaf, C: Recorder<B, L>, G: Gate
     requires ready { AreReady (cards_of late.old) }
     ensures serves { (w : WorkSeen) × (w.card ≡ card_seen B.told B.seen L.seen card) × ReadsAs w.card w.content
         × ((paths : Paths) (line0 : LineView) (given0 : List Given) (asked : List ℕ) → FitsWork paths w
-        → Serves seat.driver paths line0 given0 asked [] line.old (C.given recorder.old) aborted (newest (paths_of (cards_of late.old)))
-        → Serves seat.driver paths line0 given0 (asked ++ asked_of w.card.path w.content) [] line.new (C.given recorder.new) result (newest (paths_of (cards_of late.new)))) }
+        → Serves seat.driver paths line0 given0 asked [] line.old (C.given recorder.old) aborted (newest (paths_of
+        (cards_of late.old)))
+        → Serves seat.driver paths line0 given0 (asked ++ asked_of w.card.path w.content) [] line.new
+        (C.given recorder.new) result (newest (paths_of (cards_of late.new)))) }
     ensures cards { GrowsLate (cards_of late.old) (late_seen card.path card.text Fresh) (cards_of late.new) }
     ensures done { result ≡ true → line.new.session ≡ None }
     ensures sane { IsSane line.new.session (newest (paths_of (cards_of late.new))) }

@@ -1,11 +1,10 @@
 -- How replies end, and what is known of their contents.
-use Rattle.std.proofs.Common.{◌≡◌, ◌⊎◌, inl, inr, ℕ, ◌-◌, ◌<◌, ◌≤◌, Bool, true, false, ltb, List, [], ◌∷◌, ◌++◌, Option, Some, None, Result, Ok, Err, refl, sym, ap, subst, ◌∙◌}
+use Rattle.std.proofs.Common.{◌≡◌, inl, inr, ℕ, ◌-◌, Bool, true, false, List, [], ◌∷◌, Option, Some, None, Result, refl, sym, ap, subst, ◌∙◌}
 use Rattle.std.specs.Prelude.{⊤}
 use Rattle.std.proofs.lemmas.Bool.{lt-ltb, le-ltb, cases_lt}
 use Rattle.pkt_line.specs.Packets.{Packet, Payload, Flush, size}
 use Rattle.filter_words.specs.Outcomes.{outcome, limit}
 use Rattle.filter_words.specs.SmudgeReply.{reply_step, reply_start, content_in}
-use Rattle.filter_words.specs.declared.reply.BreakCause.{BreakCause}
 use Rattle.filter_words.specs.declared.reply.BreakCause.TheVariants as cause
 use Rattle.filter_words.specs.declared.reply.Reply.{Reply}
 use Rattle.filter_words.specs.declared.reply.Reply.TheVariants as reply
@@ -18,18 +17,13 @@ use Rattle.filter_words.specs.declared.smudge_reply.ReplyPhase.TheVariants.{KeyL
 use Rattle.filter_words.specs.declared.answer_state.AnswerState.{AnswerState}
 use Rattle.filter_words.specs.declared.answer_state.AnswerState.TheVariants.{On, Done, Broken, Late}
 use Rattle.edge_kit.specs.declared.faults.SendFault.{SendFault}
-use Rattle.edge_kit.specs.Files.{grown}
 use Rattle.filter_proto.specs.Wires.{Wire}
-use Rattle.filter_proto.specs.Exchanges.{Ends, Good, Broke, OutOfMemory, Stops, Unsent, IsHeard, IsUnsent, IsAnswered, IsExchange}
+use Rattle.filter_proto.specs.Exchanges.{Ends, Good, Broke, OutOfMemory, Stops, Unsent, IsExchange}
 use Rattle.edge_kit.specs.Seen.{LeafSeen}
-use Rattle.filter_proto.specs.Replies.{IsPut, IsKept, HasPut, EndPut, TouchesNot, reply_end}
+use Rattle.filter_proto.specs.Replies.{IsKept, EndPut, TouchesNot, reply_end}
 use Rattle.checkout_core.specs.Conditions.{is_path_break}
-use Rattle.driver_line.specs.Lines.{LineView, Paths, Says, After, IsEnded, IsAsked, HasContent, IsLeafAfter, MayReply, HasAnswered, GoesOn, ListIs, list_standing}
-use Rattle.filter_words.specs.declared.reply.ListReply.{ListReply}
-use Rattle.filter_words.specs.declared.reply.ListReply.TheVariants as list
-use Rattle.filter_words.specs.Listing.{list_step, list_start}
-use Rattle.filter_words.specs.Requests.{list_text}
-use Rattle.driver_line.specs.Conversations.{First, Second, Listing}
+use Rattle.driver_line.specs.Lines.{LineView, Paths, Says, After, IsEnded, IsLeafAfter, MayReply, HasAnswered, GoesOn}
+use Rattle.driver_line.specs.Conversations.{First, Second}
 use Rattle.filter_words.specs.Requests.{first_text, second_text}
 use Rattle.filter_proto.specs.Wires.{SessionSeen}
 use Rattle.filter_proto.specs.Replies.{standing_after}
@@ -74,7 +68,7 @@ runs_may d room t [] h = h
 runs_may d room (On p) (x ∷ ps) h = elim (cases_lt room (size x)) [
   | inl less ↦ rw (lt-ltb room (size x) less) (runs_may d room (Broken cause.TooLong) ps refl)
   | inr more ↦ rw (le-ltb room (size x) more) (runs_may d (room - size x) (reply_step d p x) ps (step_may d p x))
-  ]
+]
 runs_may d room (Done g) (x ∷ ps) h = tt
 runs_may d room (Broken c) (x ∷ ps) h = tt
 runs_may d room Late (x ∷ ps) h = tt

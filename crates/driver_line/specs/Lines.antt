@@ -1,4 +1,5 @@
--- A line to a driver: what came of its starts, and the session that is open, if one is. What each exchange does to it.
+-- A line to a driver: what came of its starts, and the session that is open, if one is. What each exchange does to
+-- it.
 use Rattle.std.specs.Prelude.{◌≡◌, ◌⊎◌, ℕ, ◌+◌, ◌≤◌, Bool, true, false, Option, Some, None, List, [], ◌∷◌, ◌++◌, map}
 use Rattle.pkt_line.specs.Packets.{Packet}
 use Rattle.filter_words.specs.SmudgeReply.{reply_step, reply_start, content_in}
@@ -9,8 +10,9 @@ use Rattle.filter_words.specs.declared.reply.ListReply.{ListReply}
 use Rattle.filter_words.specs.declared.reply.ListReply.TheVariants as list
 use Rattle.filter_words.specs.declared.reply.Reply.{Reply}
 use Rattle.edge_kit.specs.Told.{Tells}
-use Rattle.edge_kit.specs.Starters.{StarterSeen, Had, Session, StartOutOfMemory, SessionHad, NextGives, behind_next, IsStartFailed}
-use Rattle.edge_kit.specs.Links.{Stage, Open, is_shut}
+use Rattle.edge_kit.specs.Starters.{StarterSeen, Session, StartOutOfMemory, SessionHad, NextGives, behind_next}
+use Rattle.edge_kit.specs.Starters.{IsStartFailed}
+use Rattle.edge_kit.specs.Links.{Open, is_shut}
 use Rattle.filter_proto.specs.Wires.{Wire}
 use Rattle.filter_proto.specs.Exchanges.{Ends, Good, Broke, OutOfMemory, IsExchange}
 use Rattle.filter_proto.specs.Wires.{SessionSeen}
@@ -19,7 +21,7 @@ use Rattle.filter_proto.specs.Wires.{shut_after}
 use Rattle.filter_proto.specs.Openings.{IsOpening}
 use Rattle.filter_proto.specs.declared.session.Standing.{Standing}
 use Rattle.filter_proto.specs.declared.session.Standing.TheVariants as standing
-use Rattle.std.specs.Prelude.{Result, Ok, Err, ⊤, length, ◌<◌}
+use Rattle.std.specs.Prelude.{Result, Ok, ⊤, length, ◌<◌}
 use Rattle.checkout_core.specs.Talks.{contains}
 use Rattle.edge_kit.specs.Files.{grown}
 use Rattle.edge_kit.specs.declared.faults.SendFault.{SendFault}
@@ -68,7 +70,8 @@ pub record IsEnded (old : StarterSeen) (last : Wire) (how : Standing) (new : Lin
 
 -- the session goes on, or is over
 abbrev pub After : LineView → SessionSeen → Wire → Standing → LineView → Type 0
-After old s wire standing.Live new = (new.session ≡ Some (record { wire = wire; caps = s.caps; standing = standing.Live })) × (new.starter ≡ old.starter)
+After old s wire standing.Live new = (new.session ≡ Some
+    (record { wire = wire; caps = s.caps; standing = standing.Live })) × (new.starter ≡ old.starter)
 After old s wire standing.Aborted new = IsEnded old.starter wire standing.Aborted new
 After old s wire standing.Over new = IsEnded old.starter wire standing.Over new
 
@@ -76,7 +79,8 @@ abbrev pub HasContent : Bool → List ℕ → List Packet → Type 0
 HasContent d content packets = content ≡ content_in d reply_start packets
 
 -- a request for a path in the open session
-pub record IsAsked (d : Bool) (text : List ℕ) (old : LineView) (s : SessionSeen) (r : Reply) (content : List ℕ) (new : LineView) : Type 0 where
+pub record IsAsked (d : Bool) (text : List ℕ) (old : LineView) (s : SessionSeen) (r : Reply) (content : List ℕ)
+    (new : LineView) : Type 0 where
   pub wire : Wire
   pub live : s.standing ≡ standing.Live
   pub smudge : s.caps.smudge ≡ true
@@ -99,7 +103,8 @@ list_standing list.Abort = standing.Aborted
 list_standing (list.Broken why) = standing.Over
 list_standing list.NoMemory = standing.Over
 
-pub record IsListed (paths : Paths) (delayed : List (List ℕ)) (old : LineView) (s : SessionSeen) (names : List ℕ) (r : ListReply) (new : LineView) : Type 0 where
+pub record IsListed (paths : Paths) (delayed : List (List ℕ)) (old : LineView) (s : SessionSeen) (names : List ℕ)
+    (r : ListReply) (new : LineView) : Type 0 where
   pub wire : Wire
   pub end : Ends GoodList
   pub live : s.standing ≡ standing.Live
@@ -121,13 +126,21 @@ started old = record old { ahead = behind_next old.ahead; out = old.out + 1 }
 -- what an exchange does to a line
 abbrev pub Says : Paths → LineView → Exchange → LineView → Type 0
 Says paths old (NoStart p) new = (old.session ≡ None) × (new.session ≡ None) × IsStartFailed old.starter new.starter
-Says paths old (NoRoom p) new = (old.session ≡ None) × (new.session ≡ None) × (new.starter ≡ record old.starter { had = old.starter.had ++ StartOutOfMemory ∷ [] })
-Says paths old (Opening p (Good caps)) new = (s : SessionSeen) × (start : Wire) × IsOpenedLine old (Good caps) start s.wire × (s.caps ≡ caps) × (s.standing ≡ standing.Live) × (new ≡ record { starter = started old.starter; session = Some s })
-Says paths old (Opening p end) new = (start : Wire) × (last : Wire) × IsOpenedLine old end start last × IsEnded (started old.starter) last standing.Over new
-Says paths old (First p r content) new = (s : SessionSeen) × (old.session ≡ Some s) × IsAsked s.caps.delay (first_text (paths.text p) s.caps.delay (paths.content p)) old s r content new
-Says paths old (Listing late names r) new = (s : SessionSeen) × (old.session ≡ Some s) × IsListed paths (map paths.text late) old s names r new
-Says paths old (Second p r content) new = (s : SessionSeen) × (old.session ≡ Some s) × IsAsked false (second_text (paths.text p)) old s r content new
-Says paths old Shutting new = (s : SessionSeen) × (old.session ≡ Some s) × IsEnded old.starter s.wire standing.Live new
+Says paths old (NoRoom p) new = (old.session ≡ None) × (new.session ≡ None)
+    × (new.starter ≡ record old.starter { had = old.starter.had ++ StartOutOfMemory ∷ [] })
+Says paths old (Opening p (Good caps)) new = (s : SessionSeen) × (start : Wire)
+    × IsOpenedLine old (Good caps) start s.wire × (s.caps ≡ caps) × (s.standing ≡ standing.Live)
+    × (new ≡ record { starter = started old.starter; session = Some s })
+Says paths old (Opening p end) new = (start : Wire) × (last : Wire) × IsOpenedLine old end start last
+    × IsEnded (started old.starter) last standing.Over new
+Says paths old (First p r content) new = (s : SessionSeen) × (old.session ≡ Some s)
+    × IsAsked s.caps.delay (first_text (paths.text p) s.caps.delay (paths.content p)) old s r content new
+Says paths old (Listing late names r) new = (s : SessionSeen) × (old.session ≡ Some s)
+    × IsListed paths (map paths.text late) old s names r new
+Says paths old (Second p r content) new = (s : SessionSeen) × (old.session ≡ Some s)
+    × IsAsked false (second_text (paths.text p)) old s r content new
+Says paths old Shutting new = (s : SessionSeen) × (old.session ≡ Some s)
+    × IsEnded old.starter s.wire standing.Live new
 
 -- the exchanges, one after another
 abbrev pub RunsTo : Paths → LineView → List Exchange → LineView → Type 0
@@ -159,19 +172,22 @@ MayReply d (reply.Broken why) = is_path_break why ≡ true
 MayReply d r = Unit {0}
 
 -- an exchange with its content named, and what the leaf has of it
-pub record HasAnswered (d : Bool) (text : List ℕ) (s t : Wire) (old new : LeafSeen) (put : Result ⊤ SendFault) (r : Reply) : Type 0 where
+pub record HasAnswered (d : Bool) (text : List ℕ) (s t : Wire) (old new : LeafSeen) (put : Result ⊤ SendFault)
+    (r : Reply) : Type 0 where
   pub content : List ℕ
   pub exchange : IsExchange (reply_step d) reply_start text s t (reply_end r) (HasContent d content)
   pub leaf : IsLeafAfter old new put r content
 
 -- the session after an opening
 abbrev pub SessionAfter : Start → Option SessionSeen → Type 0
-SessionAfter (starts.Live caps) session = (s : SessionSeen) × (session ≡ Some s) × (s.standing ≡ standing.Live) × (s.caps ≡ caps)
+SessionAfter (starts.Live caps) session = (s : SessionSeen) × (session ≡ Some s) × (s.standing ≡ standing.Live)
+    × (s.caps ≡ caps)
 SessionAfter (starts.Failed why) session = session ≡ None
 
 -- the session after a request
 abbrev pub GoesOn : SessionSeen → Standing → Option SessionSeen → Type 0
-GoesOn s standing.Live new = (wire : Wire) × (new ≡ Some (record { wire = wire; caps = s.caps; standing = standing.Live }))
+GoesOn s standing.Live new = (wire : Wire)
+    × (new ≡ Some (record { wire = wire; caps = s.caps; standing = standing.Live }))
 GoesOn s standing.Aborted new = new ≡ None
 GoesOn s standing.Over new = new ≡ None
 
@@ -217,7 +233,8 @@ names_in numbers turns list.NoMemory = []
 -- Each delayed place is of a known path, and no path has two places.
 pub record AreDelayed (paths numbers : List ℕ) (t : Table) : Type 0 where
   pub known : (p : ℕ) → slice_get t.places p ≡ Some place.Delayed → contains (number_at numbers p) paths ≡ true
-  pub apart : (p q : ℕ) → slice_get t.places p ≡ Some place.Delayed → slice_get t.places q ≡ Some place.Delayed → number_at numbers p ≡ number_at numbers q → p ≡ q
+  pub apart : (p q : ℕ) → slice_get t.places p ≡ Some place.Delayed → slice_get t.places q ≡ Some place.Delayed
+      → number_at numbers p ≡ number_at numbers q → p ≡ q
 
 -- a list changes nothing but that places are listed which were delayed
 pub record IsListedTable (old new : Table) : Type 0 where

@@ -1,5 +1,6 @@
 -- The bytes of a driver's sessions, against the exchanges that they spell.
-use Rattle.std.specs.Prelude.{◌≡◌, ◌⊎◌, ℕ, ◌<◌, Bool, true, false, not, ◌&&◌, Option, Some, None, List, [], ◌∷◌, ◌++◌, length, map}
+use Rattle.std.specs.Prelude.{◌≡◌, ◌⊎◌, ℕ, ◌<◌, Bool, true, false, not, ◌&&◌, Option, Some, None, List, [], ◌∷◌}
+use Rattle.std.specs.Prelude.{◌++◌, length, map}
 use Rattle.pkt_line.specs.Packets.{Packet, SpellAll, IsPartial, HasFault}
 use Rattle.filter_words.specs.Outcomes.{outcome, limit}
 use Rattle.filter_words.specs.SmudgeReply.{reply_step, reply_start}
@@ -9,9 +10,7 @@ use Rattle.filter_words.specs.Requests.{hello_text, caps_text, first_text, secon
 use Rattle.filter_words.specs.declared.reply.Caps.{Caps}
 use Rattle.filter_words.specs.declared.reply.BreakCause.{BreakCause}
 use Rattle.filter_words.specs.declared.reply.BreakCause.TheVariants as cause
-use Rattle.filter_words.specs.declared.reply.Reply.{Reply}
 use Rattle.filter_words.specs.declared.reply.Reply.TheVariants as reply
-use Rattle.filter_words.specs.declared.reply.ListReply.{ListReply}
 use Rattle.filter_words.specs.declared.reply.ListReply.TheVariants as list
 use Rattle.filter_words.specs.declared.answer_state.AnswerState.{AnswerState}
 use Rattle.filter_words.specs.declared.answer_state.AnswerState.TheVariants.{On, Done, Broken, Late}
@@ -22,7 +21,8 @@ use Rattle.filter_proto.specs.Replies.{reply_end}
 use Rattle.filter_proto.specs.Openings.{BeginsHello}
 use Rattle.checkout_core.specs.Talks.{Talk, Between}
 use Rattle.checkout_core.specs.Talks.{talk_run, IsOver}
-use Rattle.driver_line.specs.Conversations.{notes_in, Exchange, NoStart, NoRoom, Opening, First, Listing, Second, Shutting}
+use Rattle.driver_line.specs.Conversations.{notes_in, Exchange, NoStart, NoRoom, Opening, First, Listing, Second}
+use Rattle.driver_line.specs.Conversations.{Shutting}
 use Rattle.filter_proto.specs.Wires.{Wire}
 use Rattle.filter_proto.specs.Openings.{IsOpening}
 use Rattle.driver_line.specs.Lines.{LineView, Paths, HasContent, ListIs, IsFresh}
@@ -40,7 +40,9 @@ StopsAt (Broken why) rest end = end ≡ Broke why
 StopsAt Late rest end = ⊥
 
 -- the bytes are an answer with this end
-pub record IsPart {P G : Type 0} (step : P → Packet → AnswerState P G) (start : AnswerState P G) (used rest : List ℕ) (end : Ends G) (extra : List Packet → Type 0) : Type 0 where
+pub record IsPart {P G : Type 0} (step : P → Packet
+    → AnswerState P G) (start : AnswerState P G) (used rest : List ℕ) (end : Ends G) (extra : List Packet
+    → Type 0) : Type 0 where
   pub packets : List Packet
   pub spelled : SpellAll packets used
   pub stops : StopsAt (outcome step limit start packets) rest end
@@ -55,9 +57,12 @@ request_of paths caps e = []
 
 -- the answer to it
 abbrev pub AnswerIs : Paths → Caps → Exchange → List ℕ → List ℕ → Type 0
-AnswerIs paths caps (First p r content) used rest = IsPart (reply_step caps.delay) reply_start used rest (reply_end r) (HasContent caps.delay content)
-AnswerIs paths caps (Listing late names r) used rest = (end : Ends GoodList) × ListIs paths names r end × IsPart (list_step (map paths.text late)) list_start used rest end (λ _. Unit {0})
-AnswerIs paths caps (Second p r content) used rest = IsPart (reply_step false) reply_start used rest (reply_end r) (HasContent false content)
+AnswerIs paths caps (First p r content) used rest = IsPart (reply_step caps.delay) reply_start used rest
+    (reply_end r) (HasContent caps.delay content)
+AnswerIs paths caps (Listing late names r) used rest = (end : Ends GoodList) × ListIs paths names r end
+    × IsPart (list_step (map paths.text late)) list_start used rest end (λ _. Unit {0})
+AnswerIs paths caps (Second p r content) used rest = IsPart (reply_step false) reply_start used rest (reply_end r)
+    (HasContent false content)
 AnswerIs paths caps Shutting used rest = used ≡ []
 AnswerIs paths caps e used rest = ⊥
 
@@ -86,13 +91,15 @@ pub record IsCut (paths : Paths) (caps : Caps) (e : Exchange) (sent : List ℕ) 
   pub proper : 0 < length (request_of paths caps e) → 0 < length after
   pub may : MayCut e
 
--- The sent bytes are the requests' texts, and the answers are consecutive parts of the taken bytes; bytes may stand unread
+-- The sent bytes are the requests' texts, and the answers are consecutive parts of the taken bytes; bytes may stand
+-- unread
 -- behind the last. The last request may be cut.
 abbrev pub Spoken : Paths → Caps → List Exchange → List ℕ → List ℕ → Type 0
 Spoken paths caps [] sent taken = sent ≡ []
 Spoken paths caps (e ∷ es) sent taken =
     ((es ≡ []) × IsCut paths caps e sent)
-    ⊎ ((more used later : List ℕ) × (sent ≡ request_of paths caps e ++ more) × (taken ≡ used ++ later) × AnswerIs paths caps e used later × Spoken paths caps es more later)
+    ⊎ ((more used later : List ℕ) × (sent ≡ request_of paths caps e ++ more) × (taken ≡ used ++ later)
+    × AnswerIs paths caps e used later × Spoken paths caps es more later)
 
 -- a fault of the link stands only where the count of faults rose, and an end only where the count of ends did
 abbrev pub FitsCounts : SessionHad → Option BreakCause → Type 0
@@ -149,13 +156,18 @@ IsSession paths OutOfMemory es seen = (es ≡ []) × IsFailedSession OutOfMemory
 -- the sessions and the starts that gave none are those of the exchanges, in order
 abbrev pub Matches : Paths → List Exchange → List Had → Type 0
 Matches paths es [] = es ≡ []
-Matches paths es (StartFailed ∷ hs) = (p : ℕ) × (rest : List Exchange) × (es ≡ NoStart p ∷ rest) × Matches paths rest hs
-Matches paths es (StartOutOfMemory ∷ hs) = (p : ℕ) × (rest : List Exchange) × (es ≡ NoRoom p ∷ rest) × Matches paths rest hs
-Matches paths es (Session seen ∷ hs) = (p : ℕ) × (end : Ends Caps) × (own : List Exchange) × (rest : List Exchange) × (es ≡ Opening p end ∷ (own ++ rest)) × IsSession paths end own seen × Matches paths rest hs
+Matches paths es (StartFailed ∷ hs) = (p : ℕ) × (rest : List Exchange) × (es ≡ NoStart p ∷ rest)
+    × Matches paths rest hs
+Matches paths es (StartOutOfMemory ∷ hs) = (p : ℕ) × (rest : List Exchange) × (es ≡ NoRoom p ∷ rest)
+    × Matches paths rest hs
+Matches paths es (Session seen ∷ hs) = (p : ℕ) × (end : Ends Caps) × (own : List Exchange) × (rest : List Exchange)
+    × (es ≡ Opening p end ∷ (own ++ rest)) × IsSession paths end own seen × Matches paths rest hs
 
--- A talk with the driver d over these paths: the sessions and the starts that gave none spell exchanges, whose notes are a
+-- A talk with the driver d over these paths: the sessions and the starts that gave none spell exchanges, whose notes
+-- are a
 -- talk that has come to its end.
-pub record IsTalk (d : ℕ) (paths : Paths) (asked : List ℕ) (items : List Had) (exchanges : List Exchange) : Type 0 where
+pub record IsTalk (d : ℕ) (paths : Paths) (asked : List ℕ) (items : List Had)
+    (exchanges : List Exchange) : Type 0 where
   pub spells : Matches paths exchanges items
   pub end : Talk
   pub goes : talk_run d (Between asked) (notes_in d exchanges) ≡ Some end

@@ -1,6 +1,7 @@
 //! A driver's line: what starts the driver, and the session that is open, if one is.
 //!
-//! Each call is one exchange, or the start of a session. A session that is over is ended at once, so there is none, or
+// ! Each call is one exchange, or the start of a session. A session that is over is ended at once, so there is none,
+// or
 //! one that can be asked.
 #![tactic(auto)]
 

@@ -1,4 +1,5 @@
-ghost use Rattle.std.specs.Prelude.{map, IsTrue, IsSome, ◌↔◌, ◌≡◌, ◌≢◌, ◌≤◌, ◌<◌, ◌+◌, ◌^◌, ℕ, Bool, true, false, Option, Some, None, List, [], length};
+ghost use Rattle.std.specs.Prelude.{map, IsTrue, IsSome, ◌↔◌, ◌≡◌, ◌≢◌, ◌≤◌, ◌<◌, ◌+◌, ◌^◌, ℕ, Bool, true, false};
+ghost use Rattle.std.specs.Prelude.{Option, Some, None, List, [], length};
 ghost use Rattle.filter_words.specs.Requests.{first_text, second_text};
 ghost use Rattle.edge_kit.specs.declared.leaf_state.LeafState.TheVariants as state;
 ghost use Rattle.filter_proto.specs.Wires.{SessionSeen};
@@ -57,7 +58,8 @@ impl<S: Starter> Line<S> {
 
     /// Ends the open session. One that could be asked is shut.
     pub fn finish(&mut self)
-        ensures ended { (s : SessionSeen) → self.old.session ≡ Some s → IsEnded self.old.starter s.wire s.standing self.new }
+        ensures ended { (s : SessionSeen) → self.old.session ≡ Some s
+            → IsEnded self.old.starter s.wire s.standing self.new }
         ensures none { self.new.session ≡ None }
         ensures starts { starts_of self.new ≤ starts_of self.old }
     {
@@ -73,7 +75,8 @@ impl<S: Starter> Line<S> {
     pub fn open(&mut self) -> Start
         requires none { self.old.session ≡ None }
         requires few { length self.old.starter.had < 2 ^ 32 }
-        ensures says { (p : ℕ) → (e : Exchange) × OpenIs p result e × ((paths : Paths) → Says paths self.old e self.new) }
+        ensures says { (p : ℕ) → (e : Exchange) × OpenIs p result e × ((paths : Paths)
+            → Says paths self.old e self.new) }
         ensures session { SessionAfter result self.new.session }
         ensures starts { starts_of self.new ≤ starts_of self.old + 1 }
     {
@@ -130,11 +133,13 @@ impl<S: Starter> Line<S> {
         requires fresh { (L.seen leaf.old).state ≡ state.Fresh }
         requires some { 1 ≤ length text.now }
         requires few { length text.now ≤ 4096 }
-        ensures says { (p : ℕ) → (c : List ℕ) × ((paths : Paths) → paths.text p ≡ text.now → paths.content p ≡ content.now → Says paths self.old (First p result.reply c) self.new)
+        ensures says { (p : ℕ) → (c : List ℕ) × ((paths : Paths) → paths.text p ≡ text.now
+            → paths.content p ≡ content.now → Says paths self.old (First p result.reply c) self.new)
             × IsLeafAfter (L.seen leaf.old) (L.seen leaf.new) result.put result.reply c }
         ensures kept { IsKept (L.seen leaf.old) (L.seen leaf.new) result.put }
         ensures touches { TouchesNot result.reply (L.seen leaf.old) (L.seen leaf.new) result.put }
-        ensures goes { (s : SessionSeen) → self.old.session ≡ Some s → GoesOn s (standing_after result.reply) self.new.session }
+        ensures goes { (s : SessionSeen) → self.old.session ≡ Some s
+            → GoesOn s (standing_after result.reply) self.new.session }
         ensures may { (s : SessionSeen) → self.old.session ≡ Some s → MayReply s.caps.delay result.reply }
         ensures starts { starts_of self.new ≤ starts_of self.old }
     {
@@ -154,11 +159,13 @@ impl<S: Starter> Line<S> {
         requires fresh { (L.seen leaf.old).state ≡ state.Fresh }
         requires some { 1 ≤ length text.now }
         requires few { length text.now ≤ 4096 }
-        ensures says { (p : ℕ) → (c : List ℕ) × ((paths : Paths) → paths.text p ≡ text.now → Says paths self.old (Second p result.reply c) self.new)
+        ensures says { (p : ℕ) → (c : List ℕ) × ((paths : Paths) → paths.text p ≡ text.now
+            → Says paths self.old (Second p result.reply c) self.new)
             × IsLeafAfter (L.seen leaf.old) (L.seen leaf.new) result.put result.reply c }
         ensures kept { IsKept (L.seen leaf.old) (L.seen leaf.new) result.put }
         ensures touches { TouchesNot result.reply (L.seen leaf.old) (L.seen leaf.new) result.put }
-        ensures goes { (s : SessionSeen) → self.old.session ≡ Some s → GoesOn s (standing_after result.reply) self.new.session }
+        ensures goes { (s : SessionSeen) → self.old.session ≡ Some s
+            → GoesOn s (standing_after result.reply) self.new.session }
         ensures may { MayReply false result.reply }
         ensures starts { starts_of self.new ≤ starts_of self.old }
     {
@@ -180,9 +187,12 @@ impl<S: Starter> Line<S> {
         requires live { IsLive self.old.session }
         requires none { table.old.turns ≡ [] }
         ensures says { (paths : Paths) → table.old.names ≡ map paths.text numbers.now
-            → Says paths self.old (Listing (late_in numbers.now table.old.places) (names_in numbers.now table.new.turns result) result) self.new }
-        ensures names { (known : List ℕ) → AreDelayed known numbers.now table.old → NamesAre known (names_in numbers.now table.new.turns result) result }
-        ensures goes { (s : SessionSeen) → self.old.session ≡ Some s → GoesOn s (list_standing result) self.new.session }
+            → Says paths self.old (Listing (late_in numbers.now table.old.places)
+            (names_in numbers.now table.new.turns result) result) self.new }
+        ensures names { (known : List ℕ) → AreDelayed known numbers.now table.old
+            → NamesAre known (names_in numbers.now table.new.turns result) result }
+        ensures goes { (s : SessionSeen) → self.old.session ≡ Some s
+            → GoesOn s (list_standing result) self.new.session }
         ensures table { IsListedTable table.old table.new }
         ensures starts { starts_of self.new ≤ starts_of self.old }
     {
@@ -208,13 +218,20 @@ impl<S: Starter> Line<S> {
 
 /// Asks in an open session.
 #[tactic(auto, using(crate::proofs::Ends::with_content, crate::proofs::Ends::asked_may))]
-fn ask_in<K: Link, L: Leaf>(session: &mut Session<K>, text: &[u8], content: &[u8], leaf: &mut L) -> Asked
+fn ask_in<K: Link, L: Leaf>(
+    session: &mut Session<K>,
+    text: &[u8],
+    content: &[u8],
+    leaf: &mut L,
+) -> Asked
     requires live { session.old.standing ≡ Standing.Live }
     requires smudge { session.old.caps.smudge ≡ true }
     requires fresh { (L.seen leaf.old).state ≡ state.Fresh }
     requires some { 1 ≤ length text.now }
     requires few { length text.now ≤ 4096 }
-    ensures answered { HasAnswered session.old.caps.delay (first_text text.now session.old.caps.delay content.now) session.old.wire session.new.wire (L.seen leaf.old) (L.seen leaf.new) result.put result.reply }
+    ensures answered { HasAnswered session.old.caps.delay
+        (first_text text.now session.old.caps.delay content.now) session.old.wire session.new.wire (L.seen leaf.old)
+        (L.seen leaf.new) result.put result.reply }
     ensures may { MayReply session.old.caps.delay result.reply }
     ensures caps { session.new.caps ≡ session.old.caps }
     ensures standing { session.new.standing ≡ standing_after result.reply }
@@ -230,7 +247,8 @@ fn ask_again_in<K: Link, L: Leaf>(session: &mut Session<K>, text: &[u8], leaf: &
     requires fresh { (L.seen leaf.old).state ≡ state.Fresh }
     requires some { 1 ≤ length text.now }
     requires few { length text.now ≤ 4096 }
-    ensures answered { HasAnswered false (second_text text.now) session.old.wire session.new.wire (L.seen leaf.old) (L.seen leaf.new) result.put result.reply }
+    ensures answered { HasAnswered false (second_text text.now) session.old.wire session.new.wire (L.seen leaf.old)
+        (L.seen leaf.new) result.put result.reply }
     ensures may { MayReply false result.reply }
     ensures caps { session.new.caps ≡ session.old.caps }
     ensures standing { session.new.standing ≡ standing_after result.reply }

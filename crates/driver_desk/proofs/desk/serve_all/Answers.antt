@@ -1,15 +1,13 @@
-use Rattle.std.proofs.Common.{◌≡◌, ◌∷◌, ◌++◌, [], List, map, refl, ap, sym, subst, ◌∙◌, ◌+◌, ◌≤◌, arith, ℕ, length, false}
+use Rattle.std.proofs.Common.{◌≡◌, ◌∷◌, ◌++◌, [], List, map, refl, ap, sym, subst, ◌∙◌, ◌+◌, ◌≤◌, arith, length}
 use Rattle.std.proofs.lemmas.List.{append-nil}
 use Rattle.edge_kit.specs.declared.leaf_state.LeafState.TheVariants.{Fresh}
 use Rattle.convert_plan.specs.Card.{CardSeen, card_seen}
 use Rattle.convert_plan.specs.declared.card.Card.{Card}
-use Rattle.driver_line.specs.Lines.{LineView, Paths}
-use Rattle.driver_desk.specs.Late.{cards_of}
 use Rattle.driver_desk.specs.Rounds.{LateSeen, late_seen, paths_of, AreReady, AreApart, FitTexts}
-use Rattle.driver_desk.specs.Works.{WorkSeen, card_paths}
+use Rattle.driver_desk.specs.Works.{card_paths}
 use Rattle.driver_desk.specs.Serving.{newest}
 use Rattle.driver_desk.proofs.Serves.{fit_done, asked_more, serves_asked}
-use Rattle.driver_desk.proofs.RoundSteps.{grows_ready, grows_apart, grows_fits, apart_first}
+use Rattle.driver_desk.proofs.RoundSteps.{grows_ready, grows_apart, grows_fits}
 use Rattle.driver_desk.proofs.CardLists.{all_next, here_is, read_push, len_push, place_below, new_next, new_ready, text_of, sane_none, serves_late}
 use Rattle.driver_desk.proofs.desk.serve_all.Goals as goal
 
@@ -24,9 +22,14 @@ loop-card-init g c = record {
   names = (refl, refl);
   turns = λ e. e;
   idle = c.requires.idle;
-  serves = ([], refl, refl, tt,
+  serves = (
+    [],
+    refl,
+    refl,
+    tt,
     (λ paths line0 given0 asked fit s. serves_late _ _ _ _ _ _ _ _ [] _ (sym (ap (λ (x : List LateSeen). newest (paths_of x)) c.requires.empty)) (serves_asked _ _ _ _ asked (asked ++ []) [] _ _ _ _ (sym (append-nil asked)) s)),
-    λ paths fit. subst (λ (x : List LateSeen). FitTexts paths x) (sym c.requires.empty) tt);
+    λ paths fit. subst (λ (x : List LateSeen). FitTexts paths x) (sym c.requires.empty) tt,
+  );
 }
 
 pub serve_one-aborted-requires-clause-here : goal.serve_one-aborted-requires-clause-here
@@ -62,8 +65,13 @@ loop-card-preserved g c =
       names = (e.names.0 ∙ h.names.0, e.names.1 ∙ h.names.1);
       turns = λ k. e.turns (h.turns k);
       idle = e.idle;
-      serves = (h.serves.0 ++ w ∷ [], all_next _ h.serves.0 _ _ w card h.serves.1 next e.serves.1, len_push h.serves.0 w c.loop-card.place h.serves.2, read_push h.serves.0 w h.serves.3 e.serves.2,
+      serves = (
+        h.serves.0 ++ w ∷ [],
+        all_next _ h.serves.0 _ _ w card h.serves.1 next e.serves.1,
+        len_push h.serves.0 w c.loop-card.place h.serves.2,
+        read_push h.serves.0 w h.serves.3 e.serves.2,
         (λ paths line0 given0 asked fit s. let k = fit_done paths h.serves.0 w fit in
-          serves_asked _ _ _ _ _ _ [] _ _ _ _ (asked_more asked h.serves.0 w) (e.serves.3 paths line0 given0 _ k.1 (h.serves.4 paths line0 given0 asked k.0 s))),
-        λ paths fit. let k = fit_done paths h.serves.0 w fit in grows_fits paths _ (late_seen card.path card.text Fresh) _ e.cards (text_of paths w card e.serves.1 k.1) (h.serves.5 paths k.0));
+            serves_asked _ _ _ _ _ _ [] _ _ _ _ (asked_more asked h.serves.0 w) (e.serves.3 paths line0 given0 _ k.1 (h.serves.4 paths line0 given0 asked k.0 s))),
+        λ paths fit. let k = fit_done paths h.serves.0 w fit in grows_fits paths _ (late_seen card.path card.text Fresh) _ e.cards (text_of paths w card e.serves.1 k.1) (h.serves.5 paths k.0),
+      );
     }

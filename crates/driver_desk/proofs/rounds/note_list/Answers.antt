@@ -1,4 +1,3 @@
-use Rattle.std.proofs.Common.{refl, ap, sym, ◌∙◌, ◌≡◌}
 use Rattle.driver_desk.proofs.RoundSteps.{list_noted_in}
 use Rattle.driver_desk.proofs.rounds.note_list.Goals as goal
 

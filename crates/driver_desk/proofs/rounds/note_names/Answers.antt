@@ -1,4 +1,4 @@
-use Rattle.std.proofs.Common.{refl, ap, sym, subst, ◌∙◌, ◌≡◌, List, ℕ, true, slice_index_or}
+use Rattle.std.proofs.Common.{subst, ◌≡◌, List, ℕ, true, slice_index_or}
 use Rattle.checkout_core.specs.Talks.{contains}
 use Rattle.driver_desk.proofs.LateCards.{contains_at}
 use Rattle.driver_desk.proofs.RoundSteps.{named_place}

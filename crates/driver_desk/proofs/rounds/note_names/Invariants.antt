@@ -1,4 +1,4 @@
-use Rattle.std.proofs.Common.{◌≡◌, ◌++◌, List, [], map, take}
+use Rattle.std.proofs.Common.{◌≡◌, ◌++◌, List, map, take}
 use Rattle.checkout_core.specs.declared.event.Event.TheVariants as event
 use Rattle.driver_line.specs.Lines.{number_at}
 use Rattle.driver_desk.specs.Serving.{Given, noted_in}

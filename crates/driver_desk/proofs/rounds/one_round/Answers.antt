@@ -1,8 +1,8 @@
 use Rattle.driver_line.specs.Conversations.{list_notes}
 use Rattle.driver_desk.specs.Serving.{noted_in}
-use Rattle.std.proofs.Common.{ℕ, ◌≡◌, ◌<◌, ◌+◌, length, List, refl, ap, sym, subst, ◌∙◌}
-use Rattle.driver_line.specs.Lines.{names_in, late_in, weight}
-use Rattle.driver_desk.specs.Late.{cards_of, names_at}
+use Rattle.std.proofs.Common.{ℕ, ◌≡◌, ◌<◌, ◌+◌, length, List, sym, subst}
+use Rattle.driver_line.specs.Lines.{names_in, weight}
+use Rattle.driver_desk.specs.Late.{cards_of}
 use Rattle.driver_desk.specs.Rounds.{LateSeen, paths_of, FitTexts}
 use Rattle.driver_desk.proofs.RoundSteps.{next_listed, listed, listed_at, open_live, fewer_round, some_at}
 use Rattle.driver_desk.proofs.rounds.one_round.Goals as goal
@@ -13,10 +13,10 @@ redo_all-requires-clause-next g c κs within = next_listed c.args.line.now.sessi
 pub returns-clause-rounds : goal.returns-clause-rounds
 returns-clause-rounds g c paths line0 given0 asked fit names h =
     c.redo_all.ensures.rounds paths line0 given0 asked (subst (λ (x : List LateSeen). FitTexts paths x) (sym c.list-reply.ensures.cards) fit)
-      (listed_at c.args.seat.driver paths line0 given0 asked c.args.line.now.session c.list-reply.new.line.session c.list-reply.new.line _ c.args.late.now c.list-reply.new.self c.list-reply.result c.requires.open c.list-reply.ensures.goes c.list-reply.ensures.cards c.list-reply.ensures.kept.1
-        (listed c.args.seat.driver paths _ line0 given0 asked c.args.line.now c.list-reply.new.line _ _ c.note_list.ensures.0 (paths_of (cards_of c.args.late.now)) _ c.list-reply.result c.args.line.now.session c.list-reply.new.line.session
-          (open_live c.args.line.now.session c.requires.open) h c.list-reply.ensures.names (c.list-reply.ensures.says paths names) c.list-reply.ensures.goes c.note_list.ensures.1
-          (subst (λ (ns : List ℕ). noted_in c.note_list.ensures.0 ≡ list_notes c.args.seat.driver (names_in ns c.list-reply.new.self.table.turns c.list-reply.result) c.list-reply.result) c.list-reply.ensures.kept.1 c.note_list.ensures.2)))
+    (listed_at c.args.seat.driver paths line0 given0 asked c.args.line.now.session c.list-reply.new.line.session c.list-reply.new.line _ c.args.late.now c.list-reply.new.self c.list-reply.result c.requires.open c.list-reply.ensures.goes c.list-reply.ensures.cards c.list-reply.ensures.kept.1
+    (listed c.args.seat.driver paths _ line0 given0 asked c.args.line.now c.list-reply.new.line _ _ c.note_list.ensures.0 (paths_of (cards_of c.args.late.now)) _ c.list-reply.result c.args.line.now.session c.list-reply.new.line.session
+    (open_live c.args.line.now.session c.requires.open) h c.list-reply.ensures.names (c.list-reply.ensures.says paths names) c.list-reply.ensures.goes c.note_list.ensures.1
+    (subst (λ (ns : List ℕ). noted_in c.note_list.ensures.0 ≡ list_notes c.args.seat.driver (names_in ns c.list-reply.new.self.table.turns c.list-reply.result) c.list-reply.result) c.list-reply.ensures.kept.1 c.note_list.ensures.2)))
 
 pub returns-clause-fits : goal.returns-clause-fits
 returns-clause-fits g c paths fit = c.redo_all.ensures.fits paths (subst (λ (x : List LateSeen). FitTexts paths x) (sym c.list-reply.ensures.cards) fit)
@@ -24,4 +24,4 @@ returns-clause-fits g c paths fit = c.redo_all.ensures.fits paths (subst (λ (x 
 pub returns-clause-fewer : goal.returns-clause-fewer
 returns-clause-fewer g c = subst (λ (n : List LateSeen). weight c.redo_all.new.line.session + length (cards_of c.redo_all.new.late) < 1 + length n) c.list-reply.ensures.cards
     (fewer_round c.list-reply.new.line.session c.redo_all.new.line.session _ _ _ c.redo_all.ensures.shuts c.redo_all.ensures.len c.redo_all.ensures.fewer
-      (some_at c.args.line.now.session c.list-reply.new.line.session (paths_of (cards_of c.args.late.now)) c.args.late.now c.list-reply.new.self c.list-reply.result c.requires.open c.list-reply.ensures.goes c.list-reply.ensures.kept.1 c.list-reply.ensures.names))
+    (some_at c.args.line.now.session c.list-reply.new.line.session (paths_of (cards_of c.args.late.now)) c.args.late.now c.list-reply.new.self c.list-reply.result c.requires.open c.list-reply.ensures.goes c.list-reply.ensures.kept.1 c.list-reply.ensures.names))

@@ -1,10 +1,9 @@
-use Rattle.std.proofs.Common.{◌≡◌, ◌⊎◌, inl, inr, ◌<◌, ◌≤◌, ◌+◌, ◌∷◌, ℕ, List, length, refl, ap, sym, subst, ◌∙◌, arith, None}
+use Rattle.std.proofs.Common.{◌≡◌, ◌⊎◌, inl, inr, ◌<◌, ◌+◌, ℕ, List, length, ap, sym, subst, ◌∙◌, arith}
 use Rattle.delay_table.specs.Table.{Table}
-use Rattle.driver_line.specs.Lines.{LineView, Paths}
-use Rattle.driver_desk.specs.Late.{LateView, cards_of, names_at}
-use Rattle.driver_desk.specs.Rounds.{late_seen, FitTexts, paths_of, RedoneCards, RoundsBy}
+use Rattle.driver_desk.specs.Late.{LateView, cards_of}
+use Rattle.driver_desk.specs.Rounds.{FitTexts, paths_of, RedoneCards, RoundsBy}
 use Rattle.driver_desk.proofs.LateCards.{step_names, taken_length}
-use Rattle.driver_desk.proofs.RoundSteps.{taken_ready, taken_apart, taken_fits, taken_redone, next_open, some_there}
+use Rattle.driver_desk.proofs.RoundSteps.{taken_ready, taken_apart, taken_fits, taken_redone, some_there}
 use Rattle.driver_desk.proofs.rounds.redo_all.Goals as goal
 
 pub redo-requires-clause-fresh : goal.redo-requires-clause-fresh
@@ -33,9 +32,9 @@ loop-seat-preserved g c =
       fits = λ paths fit. (taken_fits paths _ _ _ _ taken (h.fits paths fit)).1;
       names = (ap (λ (t : Table). t.names) n.3 ∙ h.names.0, c.next_listed.ensures.numbers ∙ h.names.1);
       rounds = λ paths line0 given0 asked fit r. c.redo.ensures.rounds paths line0 given0 asked _ (paths_of (cards_of c.loop-seat.late)) _
-        (ap paths.text taken.named ∙ (taken_fits paths _ _ _ _ taken (h.fits paths fit)).0)
-        (subst (λ (x : ℕ). RedoneCards (paths_of (cards_of c.loop-seat.late)) x (paths_of (cards_of c.next_listed.new.self))) (sym taken.named) (taken_redone _ _ _ _ taken h.apart))
-        (subst (λ (x : List ℕ). RoundsBy c.args.seat.driver paths line0 given0 asked c.loop-seat.line.session c.loop-seat.line (g.C.Recorder.given c.loop-seat.recorder) (paths_of (cards_of c.loop-seat.late)) x) names (h.rounds paths line0 given0 asked fit r));
+          (ap paths.text taken.named ∙ (taken_fits paths _ _ _ _ taken (h.fits paths fit)).0)
+          (subst (λ (x : ℕ). RedoneCards (paths_of (cards_of c.loop-seat.late)) x (paths_of (cards_of c.next_listed.new.self))) (sym taken.named) (taken_redone _ _ _ _ taken h.apart))
+          (subst (λ (x : List ℕ). RoundsBy c.args.seat.driver paths line0 given0 asked c.loop-seat.line.session c.loop-seat.line (g.C.Recorder.given c.loop-seat.recorder) (paths_of (cards_of c.loop-seat.late)) x) names (h.rounds paths line0 given0 asked fit r));
       shuts = λ none. absurd (some_there _ (rw c.loop-seat-test.true at c.is_open.ensures) (h.shuts none));
       fewer = inr (fewer_of h.fewer (λ p. ap (λ (v : LateView). length (cards_of v)) p.0) shorter);
     }

@@ -1,4 +1,4 @@
-use Rattle.std.proofs.Common.{◌≡◌, ◌⊎◌, ◌<◌, ◌≤◌, ◌+◌, ℕ, List, length, None}
+use Rattle.std.proofs.Common.{◌≡◌, ◌⊎◌, ◌<◌, ℕ, List, length, None}
 use Rattle.driver_line.specs.Lines.{LineView, Paths}
 use Rattle.driver_desk.specs.Late.{KeepsNames, cards_of, names_at}
 use Rattle.driver_desk.specs.Rounds.{paths_of, IsNext, AreReady, AreApart, FitTexts, RoundsBy}
@@ -13,8 +13,8 @@ invariant-loop-seat g l = record {
   fits : (paths : Paths) → FitTexts paths (cards_of l.initial.late) → FitTexts paths (cards_of l.late);
   names : KeepsNames l.initial.late l.late;
   rounds : (paths : Paths) (line0 : LineView) (given0 : List Given) (asked : List ℕ) → FitTexts paths (cards_of l.initial.late)
-    → RoundsBy l.seat.driver paths line0 given0 asked l.initial.line.session l.initial.line (g.C.Recorder.given l.initial.recorder) (paths_of (cards_of l.initial.late)) (names_at l.initial.late)
-    → RoundsBy l.seat.driver paths line0 given0 asked l.line.session l.line (g.C.Recorder.given l.recorder) (paths_of (cards_of l.late)) (names_at l.late);
+      → RoundsBy l.seat.driver paths line0 given0 asked l.initial.line.session l.initial.line (g.C.Recorder.given l.initial.recorder) (paths_of (cards_of l.initial.late)) (names_at l.initial.late)
+      → RoundsBy l.seat.driver paths line0 given0 asked l.line.session l.line (g.C.Recorder.given l.recorder) (paths_of (cards_of l.late)) (names_at l.late);
   shuts : l.initial.line.session ≡ None → l.line.session ≡ None;
   fewer : ((l.late ≡ l.initial.late) × (l.line ≡ l.initial.line)) ⊎ (length (cards_of l.late) < length (cards_of l.initial.late));
 }

@@ -1,6 +1,6 @@
-use Rattle.std.proofs.Common.{◌≡◌, refl, ap, sym, subst, ◌∙◌}
+use Rattle.std.proofs.Common.{◌∙◌}
 use Rattle.driver_desk.proofs.Serves.{is_none}
-use Rattle.driver_desk.proofs.RoundSteps.{rounds_over, fits_names, turns_none, next_open, some_there}
+use Rattle.driver_desk.proofs.RoundSteps.{rounds_over, fits_names}
 use Rattle.driver_desk.proofs.rounds.rounds.Goals as goal
 
 pub loop-seat-preserved : goal.loop-seat-preserved
@@ -8,7 +8,10 @@ loop-seat-preserved g c =
     let h = c.loop-seat.invariant in
     let e = c.one_round.ensures in
     record {
-      next = e.next; turns = e.turns; ready = e.ready; apart = e.apart;
+      next = e.next;
+      turns = e.turns;
+      ready = e.ready;
+      apart = e.apart;
       names = (e.names.0 ∙ h.names.0, e.names.1 ∙ h.names.1);
       fits = λ paths fit. e.fits paths (h.fits paths fit);
       rounds = λ paths line0 given0 asked fit names r. e.rounds paths line0 given0 asked (h.fits paths fit) (fits_names paths c.args.late.now c.loop-seat.late h.names names) (h.rounds paths line0 given0 asked fit names r);

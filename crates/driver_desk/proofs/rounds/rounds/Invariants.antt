@@ -1,4 +1,4 @@
-use Rattle.std.proofs.Common.{◌≡◌, ◌+◌, ℕ, List, [], length}
+use Rattle.std.proofs.Common.{◌+◌, ℕ, List, [], length}
 use Rattle.driver_line.specs.Lines.{LineView, Paths, weight}
 use Rattle.driver_desk.specs.Serving.{Given}
 use Rattle.driver_desk.specs.Late.{KeepsNames, FitsNames, cards_of}
@@ -14,8 +14,8 @@ invariant-loop-seat g l = record {
   names : KeepsNames l.initial.late l.late;
   fits : (paths : Paths) → FitTexts paths (cards_of l.initial.late) → FitTexts paths (cards_of l.late);
   rounds : (paths : Paths) (line0 : LineView) (given0 : List Given) (asked : List ℕ) → FitTexts paths (cards_of l.initial.late) → FitsNames paths l.initial.late
-    → RoundsBy l.seat.driver paths line0 given0 asked l.initial.line.session l.initial.line (g.C.Recorder.given l.initial.recorder) (paths_of (cards_of l.initial.late)) []
-    → RoundsBy l.seat.driver paths line0 given0 asked l.line.session l.line (g.C.Recorder.given l.recorder) (paths_of (cards_of l.late)) [];
+      → RoundsBy l.seat.driver paths line0 given0 asked l.initial.line.session l.initial.line (g.C.Recorder.given l.initial.recorder) (paths_of (cards_of l.initial.late)) []
+      → RoundsBy l.seat.driver paths line0 given0 asked l.line.session l.line (g.C.Recorder.given l.recorder) (paths_of (cards_of l.late)) [];
 }
 
 abbrev pub decreases-loop-seat : goal.decreases-loop-seat

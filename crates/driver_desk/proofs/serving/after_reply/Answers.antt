@@ -1,4 +1,4 @@
-use Rattle.std.proofs.Common.{refl, ap, sym, ◌∙◌, ◌≡◌, List, ◌++◌, ◌∷◌, []}
+use Rattle.std.proofs.Common.{ap, sym, ◌∙◌, List}
 use Rattle.filter_words.specs.declared.reply.Reply.{Reply}
 use Rattle.driver_desk.specs.Rounds.{LateSeen, late_seen, paths_of}
 use Rattle.driver_desk.specs.Late.{cards_of}

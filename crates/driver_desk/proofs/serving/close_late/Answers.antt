@@ -1,4 +1,4 @@
-use Rattle.std.proofs.Common.{refl, ap, sym, ◌∙◌, ◌≡◌}
+use Rattle.std.proofs.Common.{◌∙◌}
 use Rattle.driver_desk.proofs.LateCards.{open_fresh}
 use Rattle.driver_desk.proofs.RoundSteps.{taken_ready}
 use Rattle.driver_desk.proofs.Serves.{closed_one}

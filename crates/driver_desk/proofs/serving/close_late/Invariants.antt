@@ -1,4 +1,4 @@
-use Rattle.std.proofs.Common.{◌≡◌, ℕ, length}
+use Rattle.std.proofs.Common.{ℕ, length}
 use Rattle.driver_desk.specs.Serving.{AreClosings}
 use Rattle.driver_desk.specs.Late.{AreIdle, KeepsNames, StaysUnlisted, cards_of}
 use Rattle.driver_desk.specs.Rounds.{AreReady}

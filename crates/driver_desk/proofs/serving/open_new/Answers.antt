@@ -1,5 +1,3 @@
-use Rattle.std.proofs.Common.{refl, ap, sym, subst, ◌∙◌, ◌≡◌, Option, Some}
-use Rattle.checkout_core.specs.declared.event.OpenCause.{OpenCause}
 use Rattle.driver_desk.proofs.Serves.{opened, not_opened}
 use Rattle.driver_desk.proofs.serving.open_new.Goals as goal
 

@@ -1,4 +1,4 @@
-use Rattle.std.proofs.Common.{refl, ap, sym, ◌∙◌, ◌≡◌, arith}
+use Rattle.std.proofs.Common.{refl, sym, ◌∙◌, arith}
 use Rattle.driver_desk.specs.declared.closing.Work.{Work}
 use Rattle.driver_desk.specs.Rounds.{late_seen}
 use Rattle.driver_desk.proofs.LateCards.{some_item, none_item, below_next, all_none}

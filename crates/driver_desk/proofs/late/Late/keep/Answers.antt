@@ -1,11 +1,7 @@
-use Rattle.std.proofs.Common.{refl, ap, sym, subst, ◌∙◌, ◌≡◌, Option, Some, None, List, arith, ◌<◌, length, ℕ, true}
+use Rattle.std.proofs.Common.{Option, Some, arith, ◌<◌, length}
 use Rattle.std.specs.Option.{option_map}
-use Rattle.std.specs.Prelude.{slice_get, slice_set}
-use Rattle.std.proofs.lemmas.Option.{slice_get_read}
-use Rattle.delay_table.specs.Table.{Table}
 use Rattle.driver_desk.specs.declared.closing.Work.{Work}
 use Rattle.driver_desk.specs.Rounds.{late_seen}
-use Rattle.driver_desk.specs.Late.{LateView, AreIdle, cards_of}
 use Rattle.driver_desk.proofs.LateCards.{set_seen, idle_here, here_within, within_slots, late_kept, kept_cards}
 use Rattle.driver_desk.proofs.late.Late.keep.Goals as goal
 

@@ -1,0 +1,24 @@
+use Rattle.std.proofs.Common.{ap, sym, subst, ◌∙◌}
+use Rattle.driver_line.specs.Lines.{LineView}
+use Rattle.driver_desk.specs.Desks.{DeskView}
+use Rattle.driver_desk.specs.Works.{asked_in}
+use Rattle.driver_desk.specs.Rounds.{TalkOver}
+use Rattle.driver_desk.specs.Serving.{IsServed}
+use Rattle.driver_desk.proofs.RoundSteps.{served}
+use Rattle.driver_desk.proofs.desk.Desk.serve.Goals as goal
+
+pub returns : goal.returns
+returns g c =
+    let e = c.serve_line.ensures.talk in
+    record {
+      served = (
+        e.0,
+        ap (λ (v : DeskView). v.cards) (sym c.self.view_is) ∙ e.1,
+        e.2,
+        λ paths fit.
+            subst (λ (v : DeskView). IsServed v.driver paths (asked_in e.0) v.starter.had (g.S.Starter.seen c.into_starter.result).had (g.C.Recorder.given c.args.recorder.now) (g.C.Recorder.given c.serve_line.new.recorder)) c.self.view_is
+            (served c.self.inside.seat.driver paths (asked_in e.0) (g.S.Starter.seen c.self.inside.starter) (g.S.Starter.seen c.into_starter.result) c.serve_line.new.line (g.C.Recorder.given c.args.recorder.now) (g.C.Recorder.given c.serve_line.new.recorder)
+            (c.exchanges_are_spelled.ensures paths) c.a_talk_is_a_transcript.ensures c.into_starter.ensures c.serve_line.ensures.none
+            (subst (λ (v : LineView). TalkOver c.self.inside.seat.driver paths v (g.C.Recorder.given c.args.recorder.now) (asked_in e.0) c.serve_line.new.line (g.C.Recorder.given c.serve_line.new.recorder)) c.new-line.ensures (e.3 paths fit))),
+      );
+    }
