@@ -96,7 +96,8 @@ impl CompiledFile {
         pending: &mut Vec<&'a Pair>,
         path: &[u8],
     ) -> Result<(), AllocError>
-        ensures { OnOk result (from_end pending.new.items ≡ file_pairs path.now self.now ++ from_end pending.old.items) }
+        ensures { OnOk result (from_end pending.new.items ≡ file_pairs path.now self.now
+            ++ from_end pending.old.items) }
     {
         push_rows(pending, self.file.rows.as_slice(), &self.patterns, path)
     }

@@ -57,7 +57,8 @@ pub fn read_pairs<'a>(
     macros: &'a Macros,
 ) -> Result<States<'a>, AllocError>
     ensures { IfOk result (λ states. (lines : List MacroLine) → AreMacros macros.now lines
-        → (name : List ℕ) → state_at states name ≡ said_of (decided lines (from_end pending.entry.items) no_names) name) }
+        → (name : List ℕ) → state_at states name
+        ≡ said_of (decided lines (from_end pending.entry.items) no_names) name) }
 {
     let mut states = BTreeMap::new(alloc);
     'reading: while let Some(pair) = pending.pop() {

@@ -124,7 +124,8 @@ fn decided_of<'a>(
 ) -> Result<States<'a>, AllocError>
     requires stack { IsStack rules.now chain.now }
     requires within { StandsIn path.now chain.now.folder.items }
-    ensures { IfOk result (λ states. (name : List ℕ) → state_at states name ≡ decision (files_of rules.now) path.now name) }
+    ensures { IfOk result (λ states. (name : List ℕ)
+        → state_at states name ≡ decision (files_of rules.now) path.now name) }
 {
     let mut pending = Vec::new(alloc);
     push_reached(&mut pending, rules, chain, path)?;
@@ -140,8 +141,9 @@ fn folder_of(path: &[u8]) -> &[u8]
     folder
 }
 
-/// The attribute files of a repository, which contracts see as they were read. It keeps the files that reach the paths of
-/// one folder, and has looked at each pattern once.
+/// The attribute files of a repository, which contracts see as they were read.
+///
+/// It keeps the files that reach the paths of one folder, and has looked at each pattern once.
 #[derive(Drop)]
 pub struct AttrStack {
     rules: Rules,

@@ -2,7 +2,8 @@
 ghost use Rattle.std.specs.Prelude.{◌≡◌, ◌≤◌, IfOk, nat_eq, length, take, drop};
 ghost use Rattle.std.specs.List.{prefix_len, starts_with, ends_with};
 ghost use Rattle.wild_match.specs.Fits.{is_match, last_part};
-ghost use Rattle.wild_match.specs.Compiled.{is_plain, is_ending, is_of_nothing, has_known, IsKnown, answer, passed_by, IsForm, IsOfName, IsOfPath};
+ghost use Rattle.wild_match.specs.Compiled.{is_plain, is_ending, is_of_nothing, has_known, answer};
+ghost use Rattle.wild_match.specs.Compiled.{passed_by, IsKnown, IsForm, IsOfName, IsOfPath};
 
 use crate::front::single_len;
 use crate::matching::{fits, last_part, without_slash};
