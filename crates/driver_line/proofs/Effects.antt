@@ -42,23 +42,23 @@ use Rattle.driver_line.specs.Transcripts.{IsPart, request_of, AnswerIs, MayCut, 
 use Rattle.driver_line.proofs.Spoken.{SpokenFrom, last_spoken, more_spoken}
 
 -- causes that come from packets alone
-abbrev IsPlain : BreakCause → Type 0
+abbrev pub IsPlain : BreakCause → Type 0
 IsPlain cause.LinkFault = ⊥
 IsPlain cause.Ended = ⊥
 IsPlain c = Unit {0}
 
-abbrev PlainTurn : {P G : Type 0} → AnswerState P G → Type 0
+abbrev pub PlainTurn : {P G : Type 0} → AnswerState P G → Type 0
 PlainTurn (On p) = Unit {0}
 PlainTurn (Done g) = Unit {0}
 PlainTurn (Broken c) = IsPlain c
 PlainTurn Late = Unit {0}
 
-runs_plain : {P G : Type 0} (step : P → Packet → AnswerState P G) (room : ℕ) (t : AnswerState P G) (ps : List Packet) → ((p : P) (x : Packet) → PlainTurn (step p x)) → PlainTurn t → PlainTurn (outcome step room t ps)
+pub runs_plain : {P G : Type 0} (step : P → Packet → AnswerState P G) (room : ℕ) (t : AnswerState P G) (ps : List Packet) → ((p : P) (x : Packet) → PlainTurn (step p x)) → PlainTurn t → PlainTurn (outcome step room t ps)
 runs_plain step room t [] steps h = h
 runs_plain step room (On p) (x ∷ ps) steps h = elim (cases_lt room (size x)) [
   | inl less ↦ rw (lt-ltb room (size x) less) (runs_plain step room (Broken cause.TooLong) ps steps tt)
   | inr more ↦ rw (le-ltb room (size x) more) (runs_plain step (room - size x) (step p x) ps steps (steps p x))
-  ]
+]
 runs_plain step room (Done g) (x ∷ ps) steps h = tt
 runs_plain step room (Broken c) (x ∷ ps) steps h = tt
 runs_plain step room Late (x ∷ ps) steps h = tt
@@ -99,7 +99,7 @@ rose_some a zero r = absurd (zero_not a (r.risen (λ e. absurd (cc e))))
     zero_not a lt = omega (arith, lt)
 rose_some a (suc b) r = omega arith
 
-stops_counts : {P G : Type 0} (t : AnswerState P G) (old new : Wire) (c : BreakCause) (seen : SessionHad) → PlainTurn t → Stops t old new (Broke c) → new.faults ≤ seen.faults → seen.ends ≡ new.ends → FitsCounts seen (Some c)
+pub stops_counts : {P G : Type 0} (t : AnswerState P G) (old new : Wire) (c : BreakCause) (seen : SessionHad) → PlainTurn t → Stops t old new (Broke c) → new.faults ≤ seen.faults → seen.ends ≡ new.ends → FitsCounts seen (Some c)
 stops_counts t old new cause.LinkFault seen plain h fs es = link t plain h
   where
     link : {P G : Type 0} (t : AnswerState P G) → PlainTurn t → Stops t old new (Broke cause.LinkFault) → 0 < seen.faults
@@ -168,7 +168,7 @@ unsent_link G s t cause.TooLong h = absurd h
 unsent_link G s t cause.StrangePath h = absurd h
 unsent_link G s t cause.ListRefused h = absurd h
 
-unsent_counts : (G : Type 0) (s t : Wire) (c : BreakCause) (seen : SessionHad) → Unsent {G = G} s t (Broke c) → t.faults ≤ seen.faults → FitsCounts seen (Some c)
+pub unsent_counts : (G : Type 0) (s t : Wire) (c : BreakCause) (seen : SessionHad) → Unsent {G = G} s t (Broke c) → t.faults ≤ seen.faults → FitsCounts seen (Some c)
 unsent_counts G s t cause.LinkFault seen h fs = let r = rose_some s.faults t.faults h in omega (arith, r, fs)
 unsent_counts G s t cause.Ended seen h fs = absurd h
 unsent_counts G s t cause.BadPacket seen h fs = absurd h
@@ -200,7 +200,10 @@ goes_good : (d : Bool) (paths : Paths) (v w : LineView) (s : SessionSeen) (e : E
     → break_of e ≡ None → wants e ≡ false → s.wire.stage ≡ Open → After v s t standing.Live w → Effect paths s v e w
 goes_good d paths v w s e g content t x answers be we st after = inl (record {
   next = record { wire = t; caps = s.caps; standing = standing.Live };
-  open_is = after.0; caps = refl; stage = exchange_stage _ _ _ _ _ _ _ x ∙ st; starter = after.1;
+  open_is = after.0;
+  caps = refl;
+  stage = exchange_stage _ _ _ _ _ _ _ x ∙ st;
+  starter = after.1;
   fine = rw (be, we) refl;
   counts = λ seen. rw be tt;
   spoken = λ es seen h. more_spoken (reply_step d) reply_start g (HasContent d content) paths s.caps e es s.wire t seen x answers h;
@@ -210,7 +213,11 @@ finish_with : (d : Bool) (paths : Paths) (v w : LineView) (s : SessionSeen) (e :
     → IsExchange (reply_step d) reply_start (request_of paths s.caps e) s.wire t end (HasContent d content) → ((used rest : List ℕ) → IsPart (reply_step d) reply_start used rest end (HasContent d content) → AnswerIs paths s.caps e used rest)
     → (Unsent s.wire t end → MayCut e) → (h : IsEnded v.starter t how w) → FitsCounts h.seen (break_of e) → is_shut (shut_after how t.stage) ≡ is_fine e → Effect paths s v e w
 finish_with d paths v w s e end content t how x answers cuts h counts shuts = inr (record {
-  seen = h.seen; none = h.none; had = ap (λ (x : StarterSeen). x.had) h.kept; counts = counts; shut = h.shut ∙ shuts;
+  seen = h.seen;
+  none = h.none;
+  had = ap (λ (x : StarterSeen). x.had) h.kept;
+  counts = counts;
+  shut = h.shut ∙ shuts;
   spoken = last_spoken (reply_step d) reply_start end (HasContent d content) paths s.caps e s.wire t h.seen x answers cuts h.sent h.taken;
 })
 
@@ -224,8 +231,8 @@ asked_effect d paths v w s e reply.Abort content a answers be we st =
     finish_with d paths v w s e (Good good.Abort) content a.wire standing.Aborted a.exchange answers (λ u. absurd u) a.after (rw be tt) (shut_always a.wire.stage ∙ rw (be, we) refl)
 asked_effect d paths v w s e (reply.Broken c) content a answers be we st =
     finish_with d paths v w s e (Broke c) content a.wire standing.Over a.exchange answers (λ u. inl (be ∙ ap Some (unsent_link GoodReply s.wire a.wire c u))) a.after
-      (rw be (exchange_counts GoodReply (reply_step d) (KeyList None) (request_of paths s.caps e) s.wire a.wire c (HasContent d content) a.after.seen (reply_plain d) a.exchange a.after.faults a.after.ends))
-      (rw (exchange_stage _ _ _ _ _ _ _ a.exchange, st, be) refl)
+    (rw be (exchange_counts GoodReply (reply_step d) (KeyList None) (request_of paths s.caps e) s.wire a.wire c (HasContent d content) a.after.seen (reply_plain d) a.exchange a.after.faults a.after.ends))
+    (rw (exchange_stage _ _ _ _ _ _ _ a.exchange, st, be) refl)
 asked_effect d paths v w s e reply.NoMemory content a answers be we st =
     finish_with d paths v w s e OutOfMemory content a.wire standing.Over a.exchange answers (λ u. inr we) a.after (rw be tt) (rw (exchange_stage _ _ _ _ _ _ _ a.exchange, st, be, we) refl)
 
@@ -256,28 +263,45 @@ list_plain delayed (phase.KeyList listed s) Flush = status_plain listed s
 listed_effect : (paths : Paths) (v w : LineView) (s : SessionSeen) (late names : List ℕ) (r : ListReply) → IsListed paths (map paths.text late) v s names r w → s.wire.stage ≡ Open → Effect paths s v (Listing late names r) w
 listed_effect paths v w s late names (list.Names n) a st = inl (record {
   next = record { wire = a.wire; caps = s.caps; standing = standing.Live };
-  open_is = a.after.0; caps = refl; stage = exchange_stage _ _ _ _ _ _ _ a.exchange ∙ st; starter = a.after.1;
-  fine = refl; counts = λ seen. tt;
+  open_is = a.after.0;
+  caps = refl;
+  stage = exchange_stage _ _ _ _ _ _ _ a.exchange ∙ st;
+  starter = a.after.1;
+  fine = refl;
+  counts = λ seen. tt;
   spoken = λ es seen h. more_spoken (list_step (map paths.text late)) list_start (Listed (map paths.text names)) (λ _. Unit {0}) paths s.caps (Listing late names (list.Names n)) es s.wire a.wire seen
-    (subst (λ (end : Ends GoodList). IsExchange (list_step (map paths.text late)) list_start list_text s.wire a.wire end (λ _. Unit {0})) a.is a.exchange) (λ used rest part. (Good (Listed (map paths.text names)), refl, part)) h;
+      (subst (λ (end : Ends GoodList). IsExchange (list_step (map paths.text late)) list_start list_text s.wire a.wire end (λ _. Unit {0})) a.is a.exchange) (λ used rest part. (Good (Listed (map paths.text names)), refl, part)) h;
 })
 listed_effect paths v w s late names list.Empty a st = inr (record {
-  seen = a.after.seen; none = a.after.none; had = ap (λ (x : StarterSeen). x.had) a.after.kept; counts = tt; shut = a.after.shut ∙ shut_always a.wire.stage;
+  seen = a.after.seen;
+  none = a.after.none;
+  had = ap (λ (x : StarterSeen). x.had) a.after.kept;
+  counts = tt;
+  shut = a.after.shut ∙ shut_always a.wire.stage;
   spoken = last_spoken (list_step (map paths.text late)) list_start a.end (λ _. Unit {0}) paths s.caps (Listing late names list.Empty) s.wire a.wire a.after.seen a.exchange (λ used rest part. (a.end, a.is, part)) (λ u. absurd (subst (λ (end : Ends GoodList). Unsent s.wire a.wire end) a.is.0 u)) a.after.sent a.after.taken;
 })
 listed_effect paths v w s late names list.Abort a st = inr (record {
-  seen = a.after.seen; none = a.after.none; had = ap (λ (x : StarterSeen). x.had) a.after.kept; counts = tt; shut = a.after.shut ∙ shut_always a.wire.stage;
+  seen = a.after.seen;
+  none = a.after.none;
+  had = ap (λ (x : StarterSeen). x.had) a.after.kept;
+  counts = tt;
+  shut = a.after.shut ∙ shut_always a.wire.stage;
   spoken = last_spoken (list_step (map paths.text late)) list_start a.end (λ _. Unit {0}) paths s.caps (Listing late names list.Abort) s.wire a.wire a.after.seen a.exchange (λ used rest part. (a.end, a.is, part)) (λ u. absurd (subst (λ (end : Ends GoodList). Unsent s.wire a.wire end) a.is u)) a.after.sent a.after.taken;
 })
 listed_effect paths v w s late names (list.Broken c) a st = inr (record {
-  seen = a.after.seen; none = a.after.none; had = ap (λ (x : StarterSeen). x.had) a.after.kept;
+  seen = a.after.seen;
+  none = a.after.none;
+  had = ap (λ (x : StarterSeen). x.had) a.after.kept;
   counts = exchange_counts GoodList (list_step (map paths.text late)) (Names []) list_text s.wire a.wire c (λ _. Unit {0}) a.after.seen (list_plain (map paths.text late)) (subst (λ (end : Ends GoodList). IsExchange (list_step (map paths.text late)) list_start list_text s.wire a.wire end (λ _. Unit {0})) a.is a.exchange) a.after.faults a.after.ends;
   shut = a.after.shut ∙ (ap is_shut (exchange_stage _ _ _ _ _ _ _ a.exchange) ∙ ap is_shut st);
   spoken = last_spoken (list_step (map paths.text late)) list_start a.end (λ _. Unit {0}) paths s.caps (Listing late names (list.Broken c)) s.wire a.wire a.after.seen a.exchange (λ used rest part. (a.end, a.is, part))
-    (λ u. inl (ap Some (unsent_link GoodList s.wire a.wire c (subst (λ (end : Ends GoodList). Unsent s.wire a.wire end) a.is u)))) a.after.sent a.after.taken;
+      (λ u. inl (ap Some (unsent_link GoodList s.wire a.wire c (subst (λ (end : Ends GoodList). Unsent s.wire a.wire end) a.is u)))) a.after.sent a.after.taken;
 })
 listed_effect paths v w s late names list.NoMemory a st = inr (record {
-  seen = a.after.seen; none = a.after.none; had = ap (λ (x : StarterSeen). x.had) a.after.kept; counts = tt;
+  seen = a.after.seen;
+  none = a.after.none;
+  had = ap (λ (x : StarterSeen). x.had) a.after.kept;
+  counts = tt;
   shut = a.after.shut ∙ (ap is_shut (exchange_stage _ _ _ _ _ _ _ a.exchange) ∙ ap is_shut st);
   spoken = last_spoken (list_step (map paths.text late)) list_start a.end (λ _. Unit {0}) paths s.caps (Listing late names list.NoMemory) s.wire a.wire a.after.seen a.exchange (λ used rest part. (a.end, a.is, part)) (λ u. inr refl) a.after.sent a.after.taken;
 })
@@ -341,7 +365,16 @@ effect paths v w s Shutting is st says =
     let same = same_some says.0 s (sym says.1 ∙ is) in
     let h = subst (λ (z : SessionSeen). IsEnded v.starter z.wire standing.Live w) same says.2 in
     inr (record {
-      seen = h.seen; none = h.none; had = ap (λ (x : StarterSeen). x.had) h.kept; counts = tt; shut = h.shut ∙ shut_live s.wire.stage;
-      spoken = record { more = []; came = []; sent = h.sent ∙ sym (grown_nothing s.wire.sent); taken = h.taken ∙ sym (grown_nothing s.wire.taken);
-        spoken = inr ([], [], s.wire.unread ++ [], refl, refl, refl, refl) };
+      seen = h.seen;
+      none = h.none;
+      had = ap (λ (x : StarterSeen). x.had) h.kept;
+      counts = tt;
+      shut = h.shut ∙ shut_live s.wire.stage;
+      spoken = record {
+        more = [];
+        came = [];
+        sent = h.sent ∙ sym (grown_nothing s.wire.sent);
+        taken = h.taken ∙ sym (grown_nothing s.wire.taken);
+        spoken = inr ([], [], s.wire.unread ++ [], refl, refl, refl, refl);
+      };
     })

@@ -74,7 +74,7 @@ runs_may d room t [] h = h
 runs_may d room (On p) (x ∷ ps) h = elim (cases_lt room (size x)) [
   | inl less ↦ rw (lt-ltb room (size x) less) (runs_may d room (Broken cause.TooLong) ps refl)
   | inr more ↦ rw (le-ltb room (size x) more) (runs_may d (room - size x) (reply_step d p x) ps (step_may d p x))
-  ]
+]
 runs_may d room (Done g) (x ∷ ps) h = tt
 runs_may d room (Broken c) (x ∷ ps) h = tt
 runs_may d room Late (x ∷ ps) h = tt

@@ -76,20 +76,20 @@ same_or : (p q : ℕ) → (q ≡ p) ⊎ (q ≡ p → ⊥)
 same_or p q = elim (bool_or (q == p)) [
   | inl e ↦ inl (eqb-true q p e)
   | inr e ↦ inr (λ same. cc (sym (eq-eqb q p same) ∙ e))
-  ]
+]
 
 listed_pending : (old : Table) (p : ℕ) → slice_get old.places p ≡ Some place.Delayed → (q : ℕ) → is_pending (slice_get (listed_at p old).places q) ≡ is_pending (slice_get old.places q)
 listed_pending old p at q = elim (same_or p q) [
   | inl e ↦ ap (λ (n : ℕ). is_pending (slice_get (slice_set old.places p place.Listed) n)) e ∙ (ap is_pending (get_here old.places p place.Listed place.Delayed at) ∙ sym (ap (λ (n : ℕ). is_pending (slice_get old.places n)) e ∙ ap is_pending at))
   | inr n ↦ ap is_pending (get_there old.places p q place.Listed n)
-  ]
+]
 
 -- a place that is delayed after another was listed was so before, and is another
 still_delayed : (old : Table) (p q : ℕ) → slice_get old.places p ≡ Some place.Delayed → slice_get (listed_at p old).places q ≡ Some place.Delayed → (slice_get old.places q ≡ Some place.Delayed) × (q ≡ p → ⊥)
 still_delayed old p q at e = elim (same_or p q) [
   | inl same ↦ absurd (let k : Some place.Listed ≡ Some place.Delayed = sym (get_here old.places p place.Listed place.Delayed at) ∙ (ap (λ (n : ℕ). slice_get (slice_set old.places p place.Listed) n) (sym same) ∙ e) in cc (k))
   | inr other ↦ (sym (get_there old.places p q place.Listed other) ∙ e, other)
-  ]
+]
 
 less_delayed : (paths numbers : List ℕ) (old : Table) (p : ℕ) → slice_get old.places p ≡ Some place.Delayed → AreDelayed paths numbers old → AreDelayed paths numbers (listed_at p old)
 less_delayed paths numbers old p at a = record {
@@ -103,18 +103,26 @@ number_among numbers n [] e = absurd (cc e)
 number_among numbers n (q ∷ qs) e = elim (bool_or (n == number_at numbers q)) [
   | inl same ↦ (q, ap (λ (b : Bool). cond b true (contains q qs)) (eq-eqb q q refl), eqb-true n (number_at numbers q) same)
   | inr other ↦ more (number_among numbers n qs (sym (ap (λ (b : Bool). cond b true (contains n (map (number_at numbers) qs))) other) ∙ e))
-  ]
+]
   where
     more : (q0 : ℕ) × (contains q0 qs ≡ true) × (n ≡ number_at numbers q0) → (q1 : ℕ) × (contains q1 (q ∷ qs) ≡ true) × (n ≡ number_at numbers q1)
-    more h = (h.0, elim (bool_or (h.0 == q)) [
-      | inl same ↦ ap (λ (b : Bool). cond b true (contains h.0 qs)) same
-      | inr other ↦ ap (λ (b : Bool). cond b true (contains h.0 qs)) other ∙ h.1
-      ], h.2)
+    more h = (
+      h.0,
+      elim (bool_or (h.0 == q)) [
+        | inl same ↦ ap (λ (b : Bool). cond b true (contains h.0 qs)) same
+        | inr other ↦ ap (λ (b : Bool). cond b true (contains h.0 qs)) other ∙ h.1
+      ],
+      h.2,
+    )
 
 pub turns_of : (ns : List (List ℕ)) (old new : Table) → Lists ns old new → HasTurns ns old new
 turns_of [] old new h = record {
-  turns = []; grown = ap (λ (t : Table). t.turns) h ∙ sym (append-nil old.turns); texts = λ text numbers e. refl; many = refl;
-  delayed = λ p e. absurd (cc e); known = λ paths numbers a. tt;
+  turns = [];
+  grown = ap (λ (t : Table). t.turns) h ∙ sym (append-nil old.turns);
+  texts = λ text numbers e. refl;
+  many = refl;
+  delayed = λ p e. absurd (cc e);
+  known = λ paths numbers a. tt;
   table = record { names = ap (λ (t : Table). t.names) h; size = ap (λ (t : Table). length t.places) h; pending = λ p. ap (λ (t : Table). is_pending (slice_get t.places p)) h };
 }
 turns_of (name ∷ ns) old new h =
@@ -128,7 +136,7 @@ turns_of (name ∷ ns) old new h =
       delayed = λ p e. elim (bool_or (p == h.0)) [
         | inl same ↦ ap (λ (n : ℕ). slice_get old.places n) (eqb-true p h.0 same) ∙ at
         | inr other ↦ (still_delayed old h.0 p at (more.delayed p (sym (ap (λ (b : Bool). cond b true (contains p more.turns)) other) ∙ e))).0
-        ];
+      ];
       known = λ paths numbers a. (a.known h.0 at, absent paths numbers at more a, more.known paths numbers (less_delayed paths numbers old h.0 at a));
       table = record {
         names = more.table.names;
@@ -139,13 +147,14 @@ turns_of (name ∷ ns) old new h =
   where
     two : {x y : List ℕ} {xs ys : List (List ℕ)} → x ≡ y → xs ≡ ys → x ∷ xs ≡ y ∷ ys
     two {x} {y} {xs} {ys} e f = cc
+
     absent : (paths numbers : List ℕ) → slice_get old.places h.0 ≡ Some place.Delayed → (more : HasTurns ns (listed_at h.0 old) new) → AreDelayed paths numbers old → contains (number_at numbers h.0) (map (number_at numbers) more.turns) ≡ false
     absent paths numbers at more a = elim (bool_or (contains (number_at numbers h.0) (map (number_at numbers) more.turns))) [
       | inr none ↦ none
       | inl here ↦ absurd (let k = number_among numbers (number_at numbers h.0) more.turns here in
           let d = still_delayed old h.0 k.0 at (more.delayed k.0 k.1) in
           d.1 (a.apart k.0 h.0 d.0 at (sym k.2)))
-      ]
+    ]
 
 -- what a list is, by its places
 
@@ -170,12 +179,18 @@ list_is paths numbers delayed s t old new OutOfMemory x none names = refl
 pub list_says : (paths : Paths) (numbers : List ℕ) (v w : LineView) (s u : SessionSeen) (old new : Table) (r : ListReply) → v.session ≡ Some s → s.standing ≡ standing.Live → old.turns ≡ [] → old.names ≡ map paths.text numbers
     → IsListExchange s.wire u.wire old new r → After v s u.wire (list_standing r) w → Says paths v (Listing (late_in numbers old.places) (names_in numbers new.turns r) r) w
 list_says paths numbers v w s u old new r is live none names x after =
-    let late : delayed_in old ≡ map paths.text (late_in numbers old.places) = ap (λ (n : List (List ℕ)). delayed_of n old.places) names ∙ delayed_texts paths.text numbers old.places in
-    (s, is, record {
-      wire = u.wire; end = x.end; live = live; after = after;
-      exchange = subst (λ (d : List (List ℕ)). IsExchange (list_step d) list_start list_text s.wire u.wire x.end (λ _. Unit {0})) late (plain _ _ _ _ _ _ _ x.exchange);
-      is = subst (λ (y : ListReply). ListIs paths (names_in numbers new.turns y) y x.end) (sym x.reply) (list_is paths numbers (delayed_in old) s.wire u.wire old new x.end x.exchange none names);
-    })
+    let late : delayed_in old ≡ map paths.text (late_in numbers old.places) = ap (λ (n : List (List ℕ)). delayed_of n old.places) names ∙ delayed_texts paths.text numbers old.places in (
+      s,
+      is,
+      record {
+        wire = u.wire;
+        end = x.end;
+        live = live;
+        after = after;
+        exchange = subst (λ (d : List (List ℕ)). IsExchange (list_step d) list_start list_text s.wire u.wire x.end (λ _. Unit {0})) late (plain _ _ _ _ _ _ _ x.exchange);
+        is = subst (λ (y : ListReply). ListIs paths (names_in numbers new.turns y) y x.end) (sym x.reply) (list_is paths numbers (delayed_in old) s.wire u.wire old new x.end x.exchange none names);
+      },
+    )
 
 map_many : (f : ℕ → ℕ) (xs : List ℕ) → length (map f xs) ≡ length xs
 map_many f [] = refl
@@ -206,7 +221,7 @@ pub list_table : (s t : Wire) (old new : Table) (r : ListReply) → IsListExchan
 list_table s t old new r x = elim (x.exchange) [
   | inl u ↦ ends_table old new x.end [] u.done
   | inr a ↦ ends_table old new x.end a.heard.packets a.heard.done
-  ]
+]
 
 -- a line after a list
 

@@ -19,6 +19,8 @@ use Rattle.driver_line.proofs.Told.{grown_both}
 use Rattle.filter_proto.specs.Wires.{SessionSeen}
 use Rattle.driver_line.specs.Conversations.{Exchange, NoStart, NoRoom, Opening, First, Listing, Second, Shutting}
 use Rattle.driver_line.specs.Lines.{LineView, Paths, Says, RunsTo, IsEnded, IsFresh, IsOpenedLine, started}
+use Rattle.edge_kit.specs.Links.{is_shut}
+use Rattle.driver_line.proofs.Failed.{opening_counts, opening_stage}
 use Rattle.driver_line.specs.Transcripts.{Spoken, FitsCounts, AllFit, is_fine, all_fine, break_of, IsOpenedSession, IsFailedSession, IsSession, Matches, HasItems}
 use Rattle.driver_line.proofs.Spoken.{SpokenFrom, stops_good}
 use Rattle.driver_line.proofs.Effects.{Goes, Finishes, effect}
@@ -52,21 +54,35 @@ rest_of paths s v w (e ∷ es) is st none r =
     elim (effect paths v r.0 s e is st r.1) [
       | inl g ↦ more g (rest_of paths g.next r.0 w es g.open_is g.stage none r.2)
       | inr f ↦ record {
-        own = e ∷ []; rest = es; mid = r.0; seen = f.seen; split = refl; none = f.none; had = f.had; spoken = f.spoken;
-        counts = (f.counts, tt); shut = f.shut ∙ sym (and_true (is_fine e)); runs = r.2; shorter = omega arith;
+        own = e ∷ [];
+        rest = es;
+        mid = r.0;
+        seen = f.seen;
+        split = refl;
+        none = f.none;
+        had = f.had;
+        spoken = f.spoken;
+        counts = (f.counts, tt);
+        shut = f.shut ∙ sym (and_true (is_fine e));
+        runs = r.2;
+        shorter = omega arith;
       }
     ]
   where
     more : (g : Goes paths s v e r.0) → RestOf paths g.next r.0 es w → RestOf paths s v (e ∷ es) w
     more g h = record {
-      own = e ∷ h.own; rest = h.rest; mid = h.mid; seen = h.seen;
+      own = e ∷ h.own;
+      rest = h.rest;
+      mid = h.mid;
+      seen = h.seen;
       split = ap (λ (x : List Exchange). e ∷ x) h.split;
       none = h.none;
       had = h.had ∙ ap (λ (x : StarterSeen). x.had ++ Session h.seen ∷ []) g.starter;
       spoken = g.spoken h.own h.seen (subst (λ (k : Caps). SpokenFrom paths k g.next.wire h.own h.seen) g.caps h.spoken);
       counts = (g.counts h.seen, h.counts);
       shut = h.shut ∙ sym (true_and (is_fine e) (all_fine h.own) g.fine);
-      runs = h.runs; shorter = let le = h.shorter in omega (arith, le);
+      runs = h.runs;
+      shorter = let le = h.shorter in omega (arith, le);
     }
 
 tells_grown : (t : Option (List ℕ)) (x : List ℕ) → Tells t [] → Tells (grown t x) x
@@ -85,12 +101,14 @@ opened_session paths start wire caps es seen fresh o h counts shut = record {
   sent = (hello_text ++ caps_text) ++ h.more;
   taken = o.heard.took.came ++ h.came;
   sent_is = subst (λ (x : Option (List ℕ)). Tells x ((hello_text ++ caps_text) ++ h.more))
-    (sym (h.sent ∙ (ap (λ (x : Option (List ℕ)). grown x h.more) o.sent ∙ grown_both start.sent (hello_text ++ caps_text) h.more)))
-    (tells_grown start.sent ((hello_text ++ caps_text) ++ h.more) fresh.sent);
+      (sym (h.sent ∙ (ap (λ (x : Option (List ℕ)). grown x h.more) o.sent ∙ grown_both start.sent (hello_text ++ caps_text) h.more)))
+      (tells_grown start.sent ((hello_text ++ caps_text) ++ h.more) fresh.sent);
   taken_is = subst (λ (x : Option (List ℕ)). Tells x (o.heard.took.came ++ h.came))
-    (sym (h.taken ∙ (ap (λ (x : Option (List ℕ)). grown x h.came) o.heard.took.taken ∙ grown_both start.taken o.heard.took.came h.came)))
-    (tells_grown start.taken (o.heard.took.came ++ h.came) fresh.taken);
-  more = h.more; used = o.heard.used; later = wire.unread ++ h.came;
+      (sym (h.taken ∙ (ap (λ (x : Option (List ℕ)). grown x h.came) o.heard.took.taken ∙ grown_both start.taken o.heard.took.came h.came)))
+      (tells_grown start.taken (o.heard.took.came ++ h.came) fresh.taken);
+  more = h.more;
+  used = o.heard.used;
+  later = wire.unread ++ h.came;
   texts = refl;
   parts = ap (λ (x : List ℕ). x ++ h.came) (sym (ap (λ (x : List ℕ). x ++ o.heard.took.came) fresh.unread) ∙ o.heard.took.unread) ∙ append_assoc o.heard.used wire.unread h.came;
   opened = record { packets = o.heard.packets; spelled = o.heard.spelled; stops = stops_good (outcome handshake_step limit handshake_start o.heard.packets) start wire caps (wire.unread ++ h.came) o.heard.stops; done = o.heard.done };
@@ -120,12 +138,36 @@ items_of paths (suc n) v w (NoRoom p ∷ es) le none ended r =
     record { items = StartOutOfMemory ∷ h.items; had = one_more v.starter.had r.0.starter.had w.starter.had StartOutOfMemory h.items (ap (λ (x : StarterSeen). x.had) r.1.2) h.had; matches = (p, es, refl, h.matches) }
 items_of paths (suc n) v w (Opening p (Broke c) ∷ es) le none ended r =
     let k = r.1.3 in
-    failed_item paths v r.0 w p (Broke c) es r.1.0 r.1.1 r.1.2 k (refl, record { start = r.1.0; last = r.1.1; fresh = r.1.2.fresh; opening = r.1.2.opening; sent = k.sent; taken = k.taken })
-      (items_of paths n r.0 w es (omega (arith, le)) k.none ended r.2)
+    failed_item paths v r.0 w p (Broke c) es r.1.0 r.1.1 r.1.2 k (
+      refl,
+      record {
+        start = r.1.0;
+        last = r.1.1;
+        fresh = r.1.2.fresh;
+        opening = r.1.2.opening;
+        sent = k.sent;
+        taken = k.taken;
+        counts = opening_counts r.1.0 r.1.1 (Broke c) k.seen r.1.2.opening k.faults k.ends;
+        shut = k.shut ∙ ap is_shut (opening_stage r.1.0 r.1.1 (Broke c) r.1.2.opening ∙ r.1.2.fresh.stage);
+      },
+    )
+    (items_of paths n r.0 w es (omega (arith, le)) k.none ended r.2)
 items_of paths (suc n) v w (Opening p OutOfMemory ∷ es) le none ended r =
     let k = r.1.3 in
-    failed_item paths v r.0 w p OutOfMemory es r.1.0 r.1.1 r.1.2 k (refl, record { start = r.1.0; last = r.1.1; fresh = r.1.2.fresh; opening = r.1.2.opening; sent = k.sent; taken = k.taken })
-      (items_of paths n r.0 w es (omega (arith, le)) k.none ended r.2)
+    failed_item paths v r.0 w p OutOfMemory es r.1.0 r.1.1 r.1.2 k (
+      refl,
+      record {
+        start = r.1.0;
+        last = r.1.1;
+        fresh = r.1.2.fresh;
+        opening = r.1.2.opening;
+        sent = k.sent;
+        taken = k.taken;
+        counts = opening_counts r.1.0 r.1.1 OutOfMemory k.seen r.1.2.opening k.faults k.ends;
+        shut = k.shut ∙ ap is_shut (opening_stage r.1.0 r.1.1 OutOfMemory r.1.2.opening ∙ r.1.2.fresh.stage);
+      },
+    )
+    (items_of paths n r.0 w es (omega (arith, le)) k.none ended r.2)
 items_of paths (suc n) v w (Opening p (Good caps) ∷ es) le none ended r =
     let s = r.1.0 in
     let line = r.1.2 in
@@ -136,8 +178,15 @@ items_of paths (suc n) v w (Opening p (Good caps) ∷ es) le none ended r =
     record {
       items = Session k.seen ∷ h.items;
       had = one_more v.starter.had k.mid.starter.had w.starter.had (Session k.seen) h.items (k.had ∙ ap (λ (x : LineView). x.starter.had ++ Session k.seen ∷ []) r.1.5) h.had;
-      matches = (p, Good caps, k.own, k.rest, ap (λ (x : List Exchange). Opening p (Good caps) ∷ x) k.split,
-        opened_session paths r.1.1 s.wire caps k.own k.seen line.fresh o (subst (λ (c : Caps). SpokenFrom paths c s.wire k.own k.seen) r.1.3 k.spoken) k.counts k.shut, h.matches);
+      matches = (
+        p,
+        Good caps,
+        k.own,
+        k.rest,
+        ap (λ (x : List Exchange). Opening p (Good caps) ∷ x) k.split,
+        opened_session paths r.1.1 s.wire caps k.own k.seen line.fresh o (subst (λ (c : Caps). SpokenFrom paths c s.wire k.own k.seen) r.1.3 k.spoken) k.counts k.shut,
+        h.matches,
+      );
     }
 items_of paths (suc n) v w (First p q content ∷ es) le none ended r = absurd (cc (sym none ∙ r.1.1))
 items_of paths (suc n) v w (Second p q content ∷ es) le none ended r = absurd (cc (sym none ∙ r.1.1))

@@ -51,7 +51,7 @@ runs_may room t [] h = h
 runs_may room (On p) (x ∷ ps) h = elim (cases_lt room (size x)) [
   | inl less ↦ rw (lt-ltb room (size x) less) (runs_may room (Broken cause.TooLong) ps refl)
   | inr more ↦ rw (le-ltb room (size x) more) (runs_may (room - size x) (handshake_step p x) ps (step_may p x))
-  ]
+]
 runs_may room (Done g) (x ∷ ps) h = tt
 runs_may room (Broken c) (x ∷ ps) h = tt
 runs_may room Late (x ∷ ps) h = tt
@@ -110,7 +110,9 @@ fresh_link link h = record { sent = h.sent; taken = h.taken; unread = refl; faul
 
 opened_line : (old : LineView) (end : Ends Caps) (from mid : StarterSeen) (link : LinkSeen) (last : Wire) → old.session ≡ None → from ≡ old.starter → IsStarted link from mid → IsOpening (wire_of [] link) last end → IsOpenedLine old end (wire_of [] link) last
 opened_line old end from mid link last none same s o = record {
-  closed = none; fresh = fresh_link link s.fresh; opening = o;
+  closed = none;
+  fresh = fresh_link link s.fresh;
+  opening = o;
   next = subst (λ (x : StarterSeen). NextGives x.ahead link.left) same s.next;
 }
 
@@ -119,22 +121,35 @@ started_is from mid link old same s = s.kept ∙ ap started same
 
 pub live_says : (paths : Paths) (p : ℕ) (old : LineView) (from mid : StarterSeen) (link : LinkSeen) (s : SessionSeen) (caps : Caps) → old.session ≡ None → from ≡ old.starter → IsStarted link from mid
     → caps ≡ s.caps → IsOpening (wire_of [] link) s.wire (Good s.caps) → s.standing ≡ standing.Live → Says paths old (Opening p (Good caps)) (record { starter = mid; session = Some s })
-live_says paths p old from mid link s caps none same st is o live =
-    (s, wire_of [] link, opened_line old (Good caps) from mid link s.wire none same st (opening_caps _ _ caps s.caps is o), sym is, live,
-      ap (λ (x : StarterSeen). record { starter = x; session = Some s }) (started_is from mid link old.starter same st))
+live_says paths p old from mid link s caps none same st is o live = (
+  s,
+  wire_of [] link,
+  opened_line old (Good caps) from mid link s.wire none same st (opening_caps _ _ caps s.caps is o),
+  sym is,
+  live,
+  ap (λ (x : StarterSeen). record { starter = x; session = Some s }) (started_is from mid link old.starter same st),
+)
 
 pub failed_says : (old : LineView) (from mid last : StarterSeen) (link back : LinkSeen) (unread : List ℕ) (o : Option SessionSeen) (end : Ends Caps) → old.session ≡ None → o ≡ None → from ≡ old.starter → IsStarted link from mid
     → IsOpening (wire_of [] link) (wire_of unread back) end → last.out + 1 ≡ mid.out → last ≡ record mid { had = mid.had ++ session_had back ∷ []; out = last.out }
     → (start : Wire) × (done : Wire) × IsOpenedLine old end start done × IsEnded (started old.starter) done standing.Over (record { starter = last; session = o })
 failed_says old from mid last link back unread o end none gone same st open_ out kept =
-    let is = started_is from mid link old.starter same st in
-    (wire_of [] link, wire_of unread back, opened_line old end from mid link (wire_of unread back) none same st open_, record {
-      seen = record { sent = back.sent; taken = back.taken; faults = back.faults; ends = back.ends; shut = is_shut back.stage };
-      none = gone;
-      kept = kept ∙ ap (λ (x : StarterSeen). record x { had = x.had ++ session_had back ∷ []; out = last.out }) is;
-      out = out ∙ ap (λ (x : StarterSeen). x.out) is;
-      sent = refl; taken = refl; ends = refl; faults = reflexive back.faults; shut = refl;
-    })
+    let is = started_is from mid link old.starter same st in (
+      wire_of [] link,
+      wire_of unread back,
+      opened_line old end from mid link (wire_of unread back) none same st open_,
+      record {
+        seen = record { sent = back.sent; taken = back.taken; faults = back.faults; ends = back.ends; shut = is_shut back.stage };
+        none = gone;
+        kept = kept ∙ ap (λ (x : StarterSeen). record x { had = x.had ++ session_had back ∷ []; out = last.out }) is;
+        out = out ∙ ap (λ (x : StarterSeen). x.out) is;
+        sent = refl;
+        taken = refl;
+        ends = refl;
+        faults = reflexive back.faults;
+        shut = refl;
+      },
+    )
 
 pub no_room_says : (old : LineView) (from last : StarterSeen) (o : Option SessionSeen) → old.session ≡ None → o ≡ None → from ≡ old.starter → last ≡ record from { had = from.had ++ StartOutOfMemory ∷ [] }
     → (old.session ≡ None) × (o ≡ None) × (last ≡ record old.starter { had = old.starter.had ++ StartOutOfMemory ∷ [] })

@@ -57,17 +57,26 @@ pub last_spoken : {P G : Type 0} (step : P → Packet → AnswerState P G) (star
     → IsExchange step start (request_of paths caps e) s t end extra → ((used rest : List ℕ) → IsPart step start used rest end extra → AnswerIs paths caps e used rest) → (Unsent s t end → MayCut e)
     → seen.sent ≡ t.sent → seen.taken ≡ t.taken → SpokenFrom paths caps s (e ∷ []) seen
 last_spoken step start end extra paths caps e s t seen (inl u) answers cuts se ta = record {
-  more = u.sent.part.front; came = [];
+  more = u.sent.part.front;
+  came = [];
   sent = se ∙ u.sent.part.told;
   taken = ta ∙ (ap (λ (w : Wire). w.taken) u.sent.stays ∙ sym (grown_nothing s.taken));
   spoken = inl (refl, record { after = u.sent.part.after; text = u.sent.part.cut; proper = u.sent.part.proper; may = cuts u.why });
 }
 last_spoken step start end extra paths caps e s t seen (inr a) answers cuts se ta = record {
-  more = request_of paths caps e; came = a.heard.took.came;
+  more = request_of paths caps e;
+  came = a.heard.took.came;
   sent = se ∙ a.sent;
   taken = ta ∙ a.heard.took.taken;
-  spoken = inr ([], a.heard.used, t.unread, sym (append-nil (request_of paths caps e)), a.heard.took.unread,
-    answers a.heard.used t.unread (record { packets = a.heard.packets; spelled = a.heard.spelled; stops = stops_at (outcome step limit start a.heard.packets) s t end a.heard.stops; done = a.heard.done }), refl);
+  spoken = inr (
+    [],
+    a.heard.used,
+    t.unread,
+    sym (append-nil (request_of paths caps e)),
+    a.heard.took.unread,
+    answers a.heard.used t.unread (record { packets = a.heard.packets; spelled = a.heard.spelled; stops = stops_at (outcome step limit start a.heard.packets) s t end a.heard.stops; done = a.heard.done }),
+    refl,
+  );
 }
 
 -- a good exchange, and more after it
@@ -76,11 +85,17 @@ pub more_spoken : {P G : Type 0} (step : P → Packet → AnswerState P G) (star
     → SpokenFrom paths caps t es seen → SpokenFrom paths caps s (e ∷ es) seen
 more_spoken step start g extra paths caps e es s t seen (inl u) answers h = absurd u.why
 more_spoken step start g extra paths caps e es s t seen (inr a) answers h = record {
-  more = request_of paths caps e ++ h.more; came = a.heard.took.came ++ h.came;
+  more = request_of paths caps e ++ h.more;
+  came = a.heard.took.came ++ h.came;
   sent = h.sent ∙ (ap (λ (x : Option (List ℕ)). grown x h.more) a.sent ∙ grown_both s.sent (request_of paths caps e) h.more);
   taken = h.taken ∙ (ap (λ (x : Option (List ℕ)). grown x h.came) a.heard.took.taken ∙ grown_both s.taken a.heard.took.came h.came);
-  spoken = inr (h.more, a.heard.used, t.unread ++ h.came, refl,
+  spoken = inr (
+    h.more,
+    a.heard.used,
+    t.unread ++ h.came,
+    refl,
     sym (append_assoc s.unread a.heard.took.came h.came) ∙ (ap (λ (x : List ℕ). x ++ h.came) a.heard.took.unread ∙ append_assoc a.heard.used t.unread h.came),
     answers a.heard.used (t.unread ++ h.came) (record { packets = a.heard.packets; spelled = a.heard.spelled; stops = stops_good (outcome step limit start a.heard.packets) s t g (t.unread ++ h.came) a.heard.stops; done = a.heard.done }),
-    h.spoken);
+    h.spoken,
+  );
 }

@@ -58,6 +58,7 @@ impl<S: Starter> Line<S> {
     /// Ends the open session. One that could be asked is shut.
     pub fn finish(&mut self)
         ensures ended { (s : SessionSeen) → self.old.session ≡ Some s → IsEnded self.old.starter s.wire s.standing self.new }
+        ensures same { self.old.session ≡ None → self.new ≡ self.old }
         ensures none { self.new.session ≡ None }
         ensures starts { starts_of self.new ≤ starts_of self.old }
     {
@@ -100,6 +101,7 @@ impl<S: Starter> Line<S> {
 
     /// What starts the driver, when no session is open any more.
     pub fn into_starter(self) -> S
+        requires none { self.session ≡ None }
         ensures { S.seen result ≡ self.starter }
     {
         let Line { starter, .. } = self;
@@ -208,7 +210,12 @@ impl<S: Starter> Line<S> {
 
 /// Asks in an open session.
 #[tactic(auto, using(crate::proofs::Ends::with_content, crate::proofs::Ends::asked_may))]
-fn ask_in<K: Link, L: Leaf>(session: &mut Session<K>, text: &[u8], content: &[u8], leaf: &mut L) -> Asked
+fn ask_in<K: Link, L: Leaf>(
+    session: &mut Session<K>,
+    text: &[u8],
+    content: &[u8],
+    leaf: &mut L,
+) -> Asked
     requires live { session.old.standing ≡ Standing.Live }
     requires smudge { session.old.caps.smudge ≡ true }
     requires fresh { (L.seen leaf.old).state ≡ state.Fresh }

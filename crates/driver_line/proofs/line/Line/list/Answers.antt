@@ -8,8 +8,8 @@ pub returns-then-ends_session-clause-says : goal.returns-then-ends_session-claus
 returns-then-ends_session-clause-says g c paths e =
     let is : c.args.self.now.session ≡ Some c.in-Some.session = sym (ap (λ (v : LineView). v.session) c.self.view_is) ∙ c.in-Some.is in
     list_says paths c.args.numbers.now c.args.self.now c.finish.new.self c.in-Some.session c.list-reply.new.self _ _ c.list-reply.result is (subst IsLive is c.requires.live) c.requires.none e c.list-reply.ensures.exchange
-      (list_over c.list-reply.result c.args.self.now c.finish.new.self c.in-Some.session c.list-reply.new.self (c.ends_session.ensures.yes c.if-ends_session.true) c.list-reply.ensures.standing
-        (ended_from _ _ _ _ _ (ap (λ (v : LineView). v.starter) c.self.view_is) (c.finish.ensures.ended c.list-reply.new.self refl)))
+    (list_over c.list-reply.result c.args.self.now c.finish.new.self c.in-Some.session c.list-reply.new.self (c.ends_session.ensures.yes c.if-ends_session.true) c.list-reply.ensures.standing
+    (ended_from _ _ _ _ _ (ap (λ (v : LineView). v.starter) c.self.view_is) (c.finish.ensures.ended c.list-reply.new.self refl)))
 
 pub returns-then-ends_session-clause-names : goal.returns-then-ends_session-clause-names
 returns-then-ends_session-clause-names g c known a = list_names known c.args.numbers.now _ _ _ _ c.list-reply.result c.list-reply.ensures.exchange c.requires.none a
@@ -21,7 +21,7 @@ pub returns-else-ends_session-clause-says : goal.returns-else-ends_session-claus
 returns-else-ends_session-clause-says g c paths e =
     let is : c.args.self.now.session ≡ Some c.in-Some.session = sym (ap (λ (v : LineView). v.session) c.self.view_is) ∙ c.in-Some.is in
     list_says paths c.args.numbers.now c.args.self.now _ c.in-Some.session c.list-reply.new.self _ _ c.list-reply.result is (subst IsLive is c.requires.live) c.requires.none e c.list-reply.ensures.exchange
-      (list_on c.list-reply.result c.args.self.now c.in-Some.session c.list-reply.new.self _ (c.ends_session.ensures.no c.if-ends_session.false) c.list-reply.ensures.standing (ap (λ (v : LineView). v.starter) c.self.view_is))
+    (list_on c.list-reply.result c.args.self.now c.in-Some.session c.list-reply.new.self _ (c.ends_session.ensures.no c.if-ends_session.false) c.list-reply.ensures.standing (ap (λ (v : LineView). v.starter) c.self.view_is))
 
 pub returns-else-ends_session-clause-names : goal.returns-else-ends_session-clause-names
 returns-else-ends_session-clause-names g c known a = list_names known c.args.numbers.now _ _ _ _ c.list-reply.result c.list-reply.ensures.exchange c.requires.none a

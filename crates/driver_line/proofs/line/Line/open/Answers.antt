@@ -10,9 +10,12 @@ use Rattle.driver_line.proofs.line.Line.open.Goals as goal
 
 pub returns-in-Live-clause-says : goal.returns-in-Live-clause-says
 returns-in-Live-clause-says g c p =
-    let same = ap (λ (v : LineView). v.starter) c.self.view_is in
-    (Opening p (Good c.caps-caps.result), refl, λ paths. live_says paths p c.args.self.now _ _ _ c.in-Live.session c.caps-caps.result c.requires.none same c.in-Ok.ensures c.caps-caps.ensures
-      (c.in-Live.ensures.live c.in-Live.session refl) (c.in-Live.ensures.standing c.in-Live.session refl))
+    let same = ap (λ (v : LineView). v.starter) c.self.view_is in (
+      Opening p (Good c.caps-caps.result),
+      refl,
+      λ paths. live_says paths p c.args.self.now _ _ _ c.in-Live.session c.caps-caps.result c.requires.none same c.in-Ok.ensures c.caps-caps.ensures
+          (c.in-Live.ensures.live c.in-Live.session refl) (c.in-Live.ensures.standing c.in-Live.session refl),
+    )
 
 pub returns-in-Broken-clause-says : goal.returns-in-Broken-clause-says
 returns-in-Broken-clause-says g c p =
@@ -31,6 +34,9 @@ returns-in-NoMemory-clause-says g c p =
 pub returns-in-Err-NoMemory-clause-says : goal.returns-in-Err-NoMemory-clause-says
 returns-in-Err-NoMemory-clause-says g c p =
     let same = ap (λ (v : LineView). v.starter) c.self.view_is in
-    let gone = ap (λ (v : LineView). v.session) c.self.view_is ∙ c.requires.none in
-    (NoRoom p, inl refl, λ paths. no_room_says c.args.self.now _ _ _ c.requires.none gone same
-      (subst (λ (x : SendFault). StartsOne g.S.Link.Link.seen (g.S.Starter.seen c.self.inside.starter) (g.S.Starter.seen c.start.new.self) (Err x)) c.in-Err-NoMemory.field-0-is c.in-Err-NoMemory.ensures))
+    let gone = ap (λ (v : LineView). v.session) c.self.view_is ∙ c.requires.none in (
+      NoRoom p,
+      inl refl,
+      λ paths. no_room_says c.args.self.now _ _ _ c.requires.none gone same
+          (subst (λ (x : SendFault). StartsOne g.S.Link.Link.seen (g.S.Starter.seen c.self.inside.starter) (g.S.Starter.seen c.start.new.self) (Err x)) c.in-Err-NoMemory.field-0-is c.in-Err-NoMemory.ensures),
+    )
