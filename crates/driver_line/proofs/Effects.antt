@@ -40,18 +40,18 @@ use Rattle.driver_line.specs.Transcripts.{IsPart, request_of, AnswerIs, MayCut, 
 use Rattle.driver_line.proofs.Spoken.{SpokenFrom, last_spoken, more_spoken}
 
 -- causes that come from packets alone
-abbrev IsPlain : BreakCause → Type 0
+abbrev pub IsPlain : BreakCause → Type 0
 IsPlain cause.LinkFault = ⊥
 IsPlain cause.Ended = ⊥
 IsPlain c = Unit {0}
 
-abbrev PlainTurn : {P G : Type 0} → AnswerState P G → Type 0
+abbrev pub PlainTurn : {P G : Type 0} → AnswerState P G → Type 0
 PlainTurn (On p) = Unit {0}
 PlainTurn (Done g) = Unit {0}
 PlainTurn (Broken c) = IsPlain c
 PlainTurn Late = Unit {0}
 
-runs_plain : {P G : Type 0} (step : P → Packet → AnswerState P G) (room : ℕ) (t : AnswerState P G) (ps : List Packet) → ((p : P) (x : Packet) → PlainTurn (step p x)) → PlainTurn t → PlainTurn (outcome step room t ps)
+pub runs_plain : {P G : Type 0} (step : P → Packet → AnswerState P G) (room : ℕ) (t : AnswerState P G) (ps : List Packet) → ((p : P) (x : Packet) → PlainTurn (step p x)) → PlainTurn t → PlainTurn (outcome step room t ps)
 runs_plain step room t [] steps h = h
 runs_plain step room (On p) (x ∷ ps) steps h = elim (cases_lt room (size x)) [
   | inl less ↦ rw (lt-ltb room (size x) less) (runs_plain step room (Broken cause.TooLong) ps steps tt)
@@ -97,7 +97,7 @@ rose_some a zero r = absurd (zero_not a (r.risen (λ e. absurd (cc e))))
     zero_not a lt = omega (arith, lt)
 rose_some a (suc b) r = omega arith
 
-stops_counts : {P G : Type 0} (t : AnswerState P G) (old new : Wire) (c : BreakCause) (seen : SessionHad) → PlainTurn t → Stops t old new (Broke c) → new.faults ≤ seen.faults → seen.ends ≡ new.ends → FitsCounts seen (Some c)
+pub stops_counts : {P G : Type 0} (t : AnswerState P G) (old new : Wire) (c : BreakCause) (seen : SessionHad) → PlainTurn t → Stops t old new (Broke c) → new.faults ≤ seen.faults → seen.ends ≡ new.ends → FitsCounts seen (Some c)
 stops_counts t old new cause.LinkFault seen plain h fs es = link t plain h
   where
     link : {P G : Type 0} (t : AnswerState P G) → PlainTurn t → Stops t old new (Broke cause.LinkFault) → 0 < seen.faults
@@ -166,7 +166,7 @@ unsent_link G s t cause.TooLong h = absurd h
 unsent_link G s t cause.StrangePath h = absurd h
 unsent_link G s t cause.ListRefused h = absurd h
 
-unsent_counts : (G : Type 0) (s t : Wire) (c : BreakCause) (seen : SessionHad) → Unsent {G = G} s t (Broke c) → t.faults ≤ seen.faults → FitsCounts seen (Some c)
+pub unsent_counts : (G : Type 0) (s t : Wire) (c : BreakCause) (seen : SessionHad) → Unsent {G = G} s t (Broke c) → t.faults ≤ seen.faults → FitsCounts seen (Some c)
 unsent_counts G s t cause.LinkFault seen h fs = let r = rose_some s.faults t.faults h in omega (arith, r, fs)
 unsent_counts G s t cause.Ended seen h fs = absurd h
 unsent_counts G s t cause.BadPacket seen h fs = absurd h

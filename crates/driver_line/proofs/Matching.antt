@@ -18,6 +18,8 @@ use Rattle.driver_line.proofs.Told.{grown_both}
 use Rattle.filter_proto.specs.Wires.{SessionSeen}
 use Rattle.driver_line.specs.Conversations.{Exchange, NoStart, NoRoom, Opening, First, Listing, Second, Shutting}
 use Rattle.driver_line.specs.Lines.{LineView, Paths, RunsTo, IsEnded, IsFresh, IsOpenedLine, started}
+use Rattle.edge_kit.specs.Links.{is_shut}
+use Rattle.driver_line.proofs.Failed.{opening_counts, opening_stage}
 use Rattle.driver_line.specs.Transcripts.{AllFit, is_fine, all_fine, IsOpenedSession, IsSession, HasItems}
 use Rattle.driver_line.proofs.Spoken.{SpokenFrom, stops_good}
 use Rattle.driver_line.proofs.Effects.{Goes, effect}
@@ -135,11 +137,35 @@ items_of paths (suc n) v w (NoRoom p ∷ es) le none ended r =
     record { items = StartOutOfMemory ∷ h.items; had = one_more v.starter.had r.0.starter.had w.starter.had StartOutOfMemory h.items (ap (λ (x : StarterSeen). x.had) r.1.2) h.had; matches = (p, es, refl, h.matches) }
 items_of paths (suc n) v w (Opening p (Broke c) ∷ es) le none ended r =
     let k = r.1.3 in
-    failed_item paths v r.0 w p (Broke c) es r.1.0 r.1.1 r.1.2 k (refl, record { start = r.1.0; last = r.1.1; fresh = r.1.2.fresh; opening = r.1.2.opening; sent = k.sent; taken = k.taken })
+    failed_item paths v r.0 w p (Broke c) es r.1.0 r.1.1 r.1.2 k (
+      refl,
+      record {
+        start = r.1.0;
+        last = r.1.1;
+        fresh = r.1.2.fresh;
+        opening = r.1.2.opening;
+        sent = k.sent;
+        taken = k.taken;
+        counts = opening_counts r.1.0 r.1.1 (Broke c) k.seen r.1.2.opening k.faults k.ends;
+        shut = k.shut ∙ ap is_shut (opening_stage r.1.0 r.1.1 (Broke c) r.1.2.opening ∙ r.1.2.fresh.stage);
+      },
+    )
     (items_of paths n r.0 w es (omega (arith, le)) k.none ended r.2)
 items_of paths (suc n) v w (Opening p OutOfMemory ∷ es) le none ended r =
     let k = r.1.3 in
-    failed_item paths v r.0 w p OutOfMemory es r.1.0 r.1.1 r.1.2 k (refl, record { start = r.1.0; last = r.1.1; fresh = r.1.2.fresh; opening = r.1.2.opening; sent = k.sent; taken = k.taken })
+    failed_item paths v r.0 w p OutOfMemory es r.1.0 r.1.1 r.1.2 k (
+      refl,
+      record {
+        start = r.1.0;
+        last = r.1.1;
+        fresh = r.1.2.fresh;
+        opening = r.1.2.opening;
+        sent = k.sent;
+        taken = k.taken;
+        counts = opening_counts r.1.0 r.1.1 OutOfMemory k.seen r.1.2.opening k.faults k.ends;
+        shut = k.shut ∙ ap is_shut (opening_stage r.1.0 r.1.1 OutOfMemory r.1.2.opening ∙ r.1.2.fresh.stage);
+      },
+    )
     (items_of paths n r.0 w es (omega (arith, le)) k.none ended r.2)
 items_of paths (suc n) v w (Opening p (Good caps) ∷ es) le none ended r =
     let s = r.1.0 in

@@ -71,14 +71,12 @@ abbrev pub break_of : Exchange → Option BreakCause
 break_of (First p (reply.Broken why) content) = Some why
 break_of (Second p (reply.Broken why) content) = Some why
 break_of (Listing late names (list.Broken why)) = Some why
-break_of (Opening p (Broke why)) = Some why
 break_of e = None
 
 abbrev pub wants : Exchange → Bool
 wants (First p reply.NoMemory content) = true
 wants (Second p reply.NoMemory content) = true
 wants (Listing late names list.NoMemory) = true
-wants (Opening p OutOfMemory) = true
 wants e = false
 
 -- the request was sent in part, or not at all: a fault of the link, or want of memory
@@ -139,7 +137,13 @@ pub record IsOpenedSession (paths : Paths) (caps : Caps) (es : List Exchange) (s
   pub counts : AllFit seen es
   pub shut : seen.shut ≡ all_fine es
 
--- one that was not: its link was given back at once
+-- with what cause an opening failed, if it broke
+abbrev pub break_in : Ends Caps → Option BreakCause
+break_in (Good caps) = None
+break_in (Broke why) = Some why
+break_in OutOfMemory = None
+
+-- one that was not: its link was given back at once, and never shut
 pub record IsFailedSession (end : Ends Caps) (seen : SessionHad) : Type 0 where
   pub start : Wire
   pub last : Wire
@@ -147,6 +151,8 @@ pub record IsFailedSession (end : Ends Caps) (seen : SessionHad) : Type 0 where
   pub opening : IsOpening start last end
   pub sent : seen.sent ≡ last.sent
   pub taken : seen.taken ≡ last.taken
+  pub counts : FitsCounts seen (break_in end)
+  pub shut : seen.shut ≡ false
 
 abbrev pub IsSession : Paths → Ends Caps → List Exchange → SessionHad → Type 0
 IsSession paths (Good caps) es seen = IsOpenedSession paths caps es seen

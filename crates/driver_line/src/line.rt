@@ -60,6 +60,7 @@ impl<S: Starter> Line<S> {
     pub fn finish(&mut self)
         ensures ended { (s : SessionSeen) → self.old.session ≡ Some s
             → IsEnded self.old.starter s.wire s.standing self.new }
+        ensures same { self.old.session ≡ None → self.new ≡ self.old }
         ensures none { self.new.session ≡ None }
         ensures starts { starts_of self.new ≤ starts_of self.old }
     {
@@ -103,6 +104,7 @@ impl<S: Starter> Line<S> {
 
     /// What starts the driver, when no session is open any more.
     pub fn into_starter(self) -> S
+        requires none { self.session ≡ None }
         ensures { S.seen result ≡ self.starter }
     {
         let Line { starter, .. } = self;
