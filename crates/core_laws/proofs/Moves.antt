@@ -302,8 +302,8 @@ pub held_closes : (c : Core) (p a : ℕ) (raw : Option FilterCause) (o : Own) (v
     → held_close raw o ≡ Some v → is_step c (Close p a o) ≡ true
 held_closes c p a raw o v h may =
     let effect : effect_of c (Close p a o) ≡ Some (Moves p (Closed v)) =
-        ap (λ (x : Option Path). elim x as (λ _. Option Effect) [ None ↦ None | Some r ↦ close_at c p a o r r.state ])
-        h.1
-        ∙ (ap (close_at c p a o h.0) h.2
-        ∙ (ap (λ (b : Bool). cond b (closing p (held_close raw o)) None) (eqb_self a) ∙ ap (closing p) may)) in
+    ap (λ (x : Option Path). elim x as (λ _. Option Effect) [ None ↦ None | Some r ↦ close_at c p a o r r.state ])
+    h.1
+    ∙ (ap (close_at c p a o h.0) h.2
+    ∙ (ap (λ (b : Bool). cond b (closing p (held_close raw o)) None) (eqb_self a) ∙ ap (closing p) may)) in
     ap (λ (x : Option Effect). elim (done c x) as (λ _. Bool) [ None ↦ false | Some x ↦ true ]) effect
