@@ -25,7 +25,8 @@ use Rattle.checkout_core.specs.declared.effect.Sweep.{Sweep}
 use Rattle.checkout_core.specs.declared.effect.Sweep.TheVariants.{Keep, Lose, OutOfMemory}
 use Rattle.checkout_core.specs.States.{Core, start, offs, path_of, is_at, with_state, lowest_unasked, named_count}
 use Rattle.checkout_core.specs.Effects.{after, each, path_after, driver_after, swept, swept_path}
-use Rattle.checkout_core.specs.Conditions.{effect_of, claim, claim_at, close_at, heard_opening, replied, replied_state}
+use Rattle.checkout_core.specs.Conditions.{effect_of, claim, claim_at, close_at, heard_opening, replied}
+use Rattle.checkout_core.specs.Conditions.{replied_state}
 use Rattle.checkout_core.specs.Conditions.{named, list_allowed, list_step, list_at, redo, redo_at, open_at, fail_at}
 use Rattle.checkout_core.specs.Conditions.{answer_in, answer_at, name_in, name_at, shut_in, shut_at}
 use Rattle.checkout_core.specs.Conditions.{hand_back, hand_back_at, closing}
@@ -34,7 +35,8 @@ use Rattle.checkout_core.specs.Steps.{step_of, done, replay}
 use Rattle.checkout_core.specs.Actors.{is_step}
 use Rattle.checkout_core.specs.Hands.{is_held, Holds}
 use Rattle.checkout_core.proofs.Basics.{none_is_some, some_is, cond_is, cond_not, given_is, at_path_is, at_driver_is}
-use Rattle.checkout_core.proofs.Basics.{at_both_is, at_session_is, step_is, first_step, same_or, eqb_self, other_number}
+use Rattle.checkout_core.proofs.Basics.{at_both_is, at_session_is, step_is, first_step, same_or, eqb_self}
+use Rattle.checkout_core.proofs.Basics.{other_number}
 use Rattle.checkout_core.proofs.Basics.{start_after}
 use Rattle.checkout_core.proofs.Inverses.{claim_is, close_moves, back_is, redo_is, open_is, unasked_is, late_is}
 use Rattle.core_laws.proofs.OwnViews.{get_after}
@@ -56,7 +58,8 @@ module _ {A : Type 0} where
       ∙ ap (λ l. y ∷ l) (each_same (λ i. f (suc i)) xs (λ i z. other (suc i) z (λ e. omega arith)))
   each_one f (x ∷ xs) (suc p) r y there here other =
       ap (λ z. z ∷ each (λ i. f (suc i)) xs) (other zero x (λ e. omega arith))
-      ∙ ap (λ l. x ∷ l) (each_one (λ i. f (suc i)) xs p r y there here (λ i z n. other (suc i) z (λ e. n (omega arith))))
+      ∙ ap (λ l. x ∷ l) (each_one (λ i. f (suc i)) xs p r y there here (λ i z n. other (suc i) z (λ e. n
+      (omega arith))))
 
   pub each_length : (f : ℕ → A → A) (xs : List A) → length (each f xs) ≡ length xs
   each_length f [] = refl
@@ -77,7 +80,12 @@ moved c x p t r there is =
       there = there;
       was = refl;
       same = sym is
-          ∙ (ap (λ (l : List DriverState). record { workers = c.workers; drivers = l; paths = each (path_after (Moves p t)) c.paths }) drivers
+          ∙ (ap (λ (l : List DriverState). record {
+            workers = c.workers;
+            drivers = l;
+            paths = each (path_after
+                (Moves p t)) c.paths;
+          }) drivers
           ∙ ap (λ (l : List Path). record { workers = c.workers; drivers = c.drivers; paths = l }) paths);
     }
 
