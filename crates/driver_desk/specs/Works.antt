@@ -26,7 +26,7 @@ pub record IsUnread (c : CardSeen) (o : Own) : Type 0 where
   pub object : IsObject c.told c.object (Err fault)
   pub own : o ≡ own_of fault
 
--- what a card's object is prepared to, or what befell it: a fault of the object, or want of memory
+-- what a card's object is prepared to, or what befell it: a fault of the object, or memory ran out
 abbrev pub ReadsTo : CardSeen → Result Prepared Own → Type 0
 ReadsTo c (Ok ready) = IsPrepared c ready
 ReadsTo c (Err own.NoMemory) = Unit {0}

@@ -12,7 +12,7 @@ use Rattle.checkout_core.specs.declared.event.Event.TheVariants as event
 -- a start that gave no session, or an exchange of a session, with the path that it is for
 pub data Exchange : Type 0 where
   NoStart : (p : ℕ) → Exchange  -- the start failed
-  NoRoom : (p : ℕ) → Exchange  -- the start wanted memory
+  NoRoom : (p : ℕ) → Exchange  -- the start was out of memory
   Opening : (p : ℕ) → (end : Ends Caps) → Exchange
   First : (p : ℕ) → (r : Reply) → (content : List ℕ) → Exchange
   Listing : (late names : List ℕ) → (r : ListReply) → Exchange  -- `late` are those that it may name

@@ -27,7 +27,7 @@ use Rattle.filter_proto.specs.Wires.{Wire}
 use Rattle.filter_proto.specs.Openings.{IsOpening}
 use Rattle.driver_line.specs.Lines.{LineView, Paths, HasContent, ListIs, IsFresh}
 
--- how the reading of an answer stops, where these taken bytes stand behind its packets
+-- how the reading of an answer stops, where these taken bytes stand after its packets
 abbrev pub StopsAt : {P G : Type 0} → AnswerState P G → List ℕ → Ends G → Type 0
 StopsAt (On phase) rest (Good g) = ⊥
 StopsAt (On phase) rest OutOfMemory = ⊥
@@ -79,7 +79,7 @@ wants (Second p reply.NoMemory content) = true
 wants (Listing late names list.NoMemory) = true
 wants e = false
 
--- the request was sent in part, or not at all: a fault of the link, or want of memory
+-- the request was sent in part, or not at all: a fault of the link, or memory ran out
 abbrev pub MayCut : Exchange → Type 0
 MayCut e = (break_of e ≡ Some cause.LinkFault) ⊎ (wants e ≡ true)
 
@@ -91,7 +91,7 @@ pub record IsCut (paths : Paths) (caps : Caps) (e : Exchange) (sent : List ℕ) 
 
 -- The sent bytes are the requests' texts, and the answers are consecutive parts of the taken bytes; bytes may stand
 -- unread
--- behind the last. The last request may be cut.
+-- after the last. The last request may be cut.
 abbrev pub Spoken : Paths → Caps → List Exchange → List ℕ → List ℕ → Type 0
 Spoken paths caps [] sent taken = sent ≡ []
 Spoken paths caps (e ∷ es) sent taken =
@@ -109,7 +109,7 @@ abbrev pub AllFit : SessionHad → List Exchange → Type 0
 AllFit seen [] = Unit {0}
 AllFit seen (e ∷ es) = FitsCounts seen (break_of e) × AllFit seen es
 
--- a session was shut exactly where no exchange broke it or wanted memory
+-- a session was shut exactly where no exchange broke it or was out of memory
 abbrev pub fine_of : Option BreakCause → Bool → Bool
 fine_of (Some why) w = false
 fine_of None w = not w
