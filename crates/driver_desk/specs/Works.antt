@@ -10,7 +10,7 @@ use Rattle.checkout_core.specs.declared.verdict.ObjectKind.TheVariants as kind
 use Rattle.convert_plan.specs.Card.{CardSeen, IsPrepared, IsNewCard}
 use Rattle.driver_line.specs.Lines.{Paths}
 
--- what befell a path whose object gave no content
+-- what happened to a path whose object gave no content
 abbrev pub own_of : ObjectFault → Own
 own_of fault.ReadFailed = own.ReadFailed
 own_of fault.Absent = own.Object kind.Absent
@@ -26,7 +26,7 @@ pub record IsUnread (c : CardSeen) (o : Own) : Type 0 where
   pub object : IsObject c.told c.object (Err fault)
   pub own : o ≡ own_of fault
 
--- what a card's object is prepared to, or what befell it: a fault of the object, or memory ran out
+-- what a card's object is prepared to, or what happened to it: a fault of the object, or memory ran out
 abbrev pub ReadsTo : CardSeen → Result Prepared Own → Type 0
 ReadsTo c (Ok ready) = IsPrepared c ready
 ReadsTo c (Err own.NoMemory) = Unit {0}
@@ -36,7 +36,7 @@ ReadsTo c (Err o) = IsUnread c o
 abbrev pub KeepsCard : CardSeen → CardSeen → Type 0
 KeepsCard old new = new ≡ record old { blob = record old.blob { faults = new.blob.faults } }
 
--- a card with what was prepared for it, or what befell it
+-- a card with what was prepared for it, or what happened to it
 pub record WorkSeen : Type 0 where
   pub card : CardSeen
   pub content : Result (List ℕ) Own

@@ -50,7 +50,7 @@ fn drop_leaf<L: Leaf>(leaf: &mut L, unencoded: bool) -> Own
     }
 }
 
-/// Closes a card, with what befell it. What was prepared for it isn't needed any more.
+/// Closes a card, with what happened to it. What was prepared for it isn't needed any more.
 fn close<B: Blob, L: Leaf, C: Recorder<B, L>>(mut card: Card<B, L>, recorder: &mut C, own: Own)
     ensures { IsClosing (C.given recorder.old) (C.given recorder.new) }
 {
@@ -133,7 +133,7 @@ pub(crate) fn refuse<B: Blob, L: Leaf, C: Recorder<B, L>>(
     }
 }
 
-/// Closes a card whose object gave no content. What befell the object stays, also where its leaf fails.
+/// Closes a card whose object gave no content. What happened to the object stays, also where its leaf fails.
 pub(crate) fn close_unread<B: Blob, L: Leaf, C: Recorder<B, L>>(
     mut card: Card<B, L>,
     recorder: &mut C,

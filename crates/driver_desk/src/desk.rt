@@ -157,7 +157,7 @@ impl<S: Starter, B: Blob, L: Leaf> Desk<S, B, L> {
         })
     }
 
-    // Serves the cards, one after another, over sessions that are started when they are needed. The recorder is given
+    /// Serves the cards, one after another, over sessions that are started when they are needed. The recorder is given
     /// each note of the talk, and each card.
     pub fn serve<C: Recorder<B, L>, G: Gate>(self, recorder: &mut C, gate: &G) -> Served<S>
         requires few { length self.starter.had + length self.cards < 2 ^ 32 }

@@ -10,7 +10,7 @@ use object_dir::{ObjectFault, read_blob};
 use std::alloc::Global;
 use tree_encoding::Prepared;
 
-/// What befell a path whose object gave no content.
+/// What happened to a path whose object gave no content.
 fn own_of(fault: ObjectFault) -> Own
     ensures { result ≡ own_of fault }
 {

@@ -15,7 +15,7 @@ pub trait Recorder<B: Blob, L: Leaf> {
     fn note(&mut self, event: Event)
         ensures { given self.new ≡ given self.old ++ Noted event ∷ [] };
 
-    /// Takes a card that is through, with what befell it.
+    /// Takes a card that is through, with what happened to it.
     fn close(&mut self, card: Card<B, L>, own: Own)
         ensures { given self.new ≡ given self.old ++ Closed own (card_seen B.told B.seen L.seen card) ∷ [] };
 
