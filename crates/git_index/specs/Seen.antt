@@ -1,7 +1,7 @@
 -- What the code holds, as entries and bytes.
 use Rattle.std.specs.Prelude.{ℕ, List}
 use Rattle.git_index.specs.declared.entry.Entry.{Entry}
-use Rattle.git_index.specs.declared.spelled.Spelled.{Spelled}
+use Rattle.git_index.specs.declared.entry_bytes.Spelled.{Spelled}
 
 -- the entry that is spelled
 abbrev pub entry_of_spelled : Spelled → Entry

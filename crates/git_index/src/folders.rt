@@ -5,7 +5,7 @@ ghost use Rattle.git_index.specs.Seen.{entry_of_spelled};
 ghost use Rattle.git_index.specs.Folders.{path_at, paths, are_numbers, Closes, Opens};
 
 use crate::entry::Entry;
-use crate::spelled::Spelled;
+use crate::entry_bytes::Spelled;
 use std::alloc::AllocError;
 
 fn is_in_folder(folder: &[u8], path: &[u8]) -> bool

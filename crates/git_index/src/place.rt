@@ -6,9 +6,9 @@ ghost use Rattle.git_index.specs.Seen.{entry_of_spelled};
 ghost use Rattle.git_index.specs.Folders.{paths, are_numbers, AreOpen};
 
 use crate::entry::Entry;
+use crate::entry_bytes::Spelled;
 use crate::fault::{EntryKind, IndexFault};
 use crate::folders::open_path;
-use crate::spelled::Spelled;
 use byte_path::Bytes;
 use std::alloc::{AllocError, Global};
 use std::cmp::Ordering;

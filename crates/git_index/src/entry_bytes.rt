@@ -1,4 +1,4 @@
-//! One entry and one extension, as they are spelled.
+//! One entry and one extension, as their bytes are in the file.
 ghost use Rattle.std.specs.Prelude.{◌≡◌, ◌<◌, ◌≤◌, length, take, IfOk};
 ghost use Rattle.git_index.specs.Reading.{seen_by, sized_at, path_at, made_at, flagged_at, entry_at, extension_at};
 ghost use Rattle.git_index.specs.Seen.{read_of};
