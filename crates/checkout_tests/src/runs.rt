@@ -279,10 +279,13 @@ fn a_sink_that_fails_cuts_the_output(rt: HostRuntime) -> Result<(), Fail> {
             sink_fails: Some(0),
             ..usual
         },
+        // A plan is one piece for the sink: a second write, which would fail, isn't made.
         Case {
             command: &["plan"],
             sink_fails: Some(1),
-            wanted: "card - - - - - - a\nstatus 4\n",
+            wanted: "card - - - - - - a\n\
+                skipped-lines 0\n\
+                status 0\n",
             ..usual
         },
     ];
