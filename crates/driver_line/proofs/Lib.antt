@@ -6,3 +6,4 @@ pub mod Effects
 pub mod Failed
 pub mod Matching
 pub mod Lists
+pub mod Links

@@ -3,9 +3,15 @@ ghost use Rattle.driver_line.specs.Conversations.{Exchange};
 ghost use Rattle.driver_line.specs.Lines.{LineView, Paths, RunsTo};
 ghost use Rattle.driver_line.specs.Transcripts.{HasItems};
 
-// The exchanges of a line, from where no session is open to where none is, are spelled by the sessions and the failed
+/// The exchanges of a line, from where no session is open to where none is, are spelled by the sessions and the failed
 /// starts that its starter keeps.
 pub fn exchanges_are_spelled()
     ensures { (paths : Paths) (v w : LineView) (es : List Exchange) → v.session ≡ None → w.session ≡ None
         → RunsTo paths v es w → HasItems paths v es w }
+{}
+
+/// Where no session is open before the exchanges of a line and none after them, as many links of its starter are out.
+pub fn links_are_given_back()
+    ensures { (paths : Paths) (v w : LineView) (es : List Exchange) → v.session ≡ None → w.session ≡ None
+        → RunsTo paths v es w → w.starter.out ≡ v.starter.out }
 {}
