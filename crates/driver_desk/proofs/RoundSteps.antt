@@ -18,10 +18,11 @@ use Rattle.filter_proto.specs.declared.session.Standing.TheVariants as standing
 use Rattle.checkout_core.specs.Talks.{talk_run, IsOver}
 use Rattle.driver_line.specs.Conversations.{Exchange, Listing, Second, Shutting, notes_of, notes_in, list_notes, FitsTalk}
 use Rattle.driver_line.specs.Lines.{LineView, Paths, Says, RunsTo, MayReply, GoesOn, NamesAre, AreKnown, IsLive, IsOpen, list_standing}
-use Rattle.edge_kit.specs.Starters.{StarterSeen}
+use Rattle.edge_kit.specs.Starters.{StarterSeen, Had}
 use Rattle.checkout_core.specs.Transcripts.{Item}
 use Rattle.checkout_core.specs.Transcripts as result
 use Rattle.driver_line.specs.Transcripts.{HasItems}
+use Rattle.driver_line.specs.ToldStarts.{GoBy}
 use Rattle.driver_desk.specs.Serving.{IsServed, Given, Noted, noted_in, Talks, Serves, talk_now, newest}
 use Rattle.driver_desk.specs.Rounds.{round_of, minus, AreAmong, AreApart, AreWaiting, InRounds, TalkOver, RoundsBy, LateSeen, paths_of, IsReady, AreReady, FitTexts, IsTaken, IsNext, GrowsLate, RedoneCards, TurnsBy}
 use Rattle.driver_desk.specs.Late.{LateView, KeepsNames, FitsNames, cards_of, names_at}
@@ -676,9 +677,10 @@ some_cards (c ∷ cs) h = newest_empty (c.path ∷ paths_of cs) (omega arith)
 
 pub served : (d : ℕ) (paths : Paths) (asked : List ℕ) (starter last : StarterSeen) (line : LineView) (given0 given : List Given) → ((v w : LineView) (es : List Exchange) → v.session ≡ None → w.session ≡ None → RunsTo paths v es w → HasItems paths v es w)
     → ((v w : LineView) (es : List Exchange) → v.session ≡ None → w.session ≡ None → RunsTo paths v es w → w.starter.out ≡ v.starter.out)
+    → ((v w : LineView) (es : List Exchange) (items : List Had) → v.session ≡ None → w.session ≡ None → RunsTo paths v es w → w.starter.had ≡ v.starter.had ++ items → GoBy v.starter.ahead items w.starter.ahead)
     → ((k : ℕ) (ps : List ℕ) (notes : List Event) (t : Talk) → talk_run k (Between ps) notes ≡ Some t → IsOver t → (items : List Item) × result.IsTalk ps items × (result.notes_of k items ≡ notes))
     → last ≡ line.starter → line.session ≡ None → TalkOver d paths (record { starter = starter; session = None }) given0 asked line given → IsServed d paths asked starter last given0 given
-served d paths asked starter last line given0 given law back whole e none h =
+served d paths asked starter last line given0 given law back told whole e none h =
     let t = h.1 in
     let i = law (record { starter = starter; session = None }) line t.exchanges refl none t.runs in
     let r = whole d asked (notes_in d t.exchanges) h.0 (leads_run d (Between asked) h.0 t.exchanges t.talk) h.2 in
@@ -690,6 +692,7 @@ served d paths asked starter last line given0 given law back whole e none h =
       whole = r.1;
       same = r.2;
       kept = ap (λ (x : StarterSeen). x.had) e ∙ i.had;
+      starts = subst (λ (x : StarterSeen). GoBy starter.ahead i.items x.ahead) (sym e) (told (record { starter = starter; session = None }) line t.exchanges i.items refl none t.runs i.had);
       links = ap (λ (x : StarterSeen). x.out) e ∙ back (record { starter = starter; session = None }) line t.exchanges refl none t.runs;
       talk = record { spells = i.matches; end = h.0; goes = t.talk; over = h.2 };
       told = t.given_is;

@@ -13,6 +13,7 @@ use Rattle.driver_line.specs.Lines.{LineView, Paths, RunsTo}
 use Rattle.checkout_core.specs.Transcripts.{Item}
 use Rattle.checkout_core.specs.Transcripts as result
 use Rattle.driver_line.specs.Transcripts.{IsTalk}
+use Rattle.driver_line.specs.ToldStarts.{GoBy}
 use Rattle.edge_kit.specs.Starters.{Had, StarterSeen}
 
 -- what a recorder was given
@@ -106,8 +107,9 @@ late_after p reply.Abort late = []
 late_after p (reply.Broken why) late = []
 late_after p reply.NoMemory late = []
 
--- A desk has served: what its starter keeps grew by a talk, and as many of its links are out as before. Its recorder
--- was given just the talk's notes. The results of the talk are a whole talk, case by case.
+-- A desk has served: what its starter keeps grew by a talk that goes by the starts that it tells, and as many of its
+-- links are out as before. Its recorder was given just the talk's notes. The results of the talk are a whole talk,
+-- case by case.
 pub record IsServed (d : ℕ) (paths : Paths) (asked : List ℕ) (starter0 starter : StarterSeen)
     (given0 given : List Given) : Type 0 where
   pub items : List Had
@@ -115,6 +117,7 @@ pub record IsServed (d : ℕ) (paths : Paths) (asked : List ℕ) (starter0 start
   pub results : List Item
   pub more : List Given
   pub kept : starter.had ≡ starter0.had ++ items
+  pub starts : GoBy starter0.ahead items starter.ahead
   pub links : starter.out ≡ starter0.out
   pub talk : IsTalk d paths asked items exchanges
   pub whole : result.IsTalk asked results

@@ -7,3 +7,4 @@ pub mod Failed
 pub mod Matching
 pub mod Lists
 pub mod Links
+pub mod ToldStarts
