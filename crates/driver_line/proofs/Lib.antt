@@ -8,3 +8,4 @@ pub mod Matching
 pub mod Lists
 pub mod Links
 pub mod ToldStarts
+pub mod Examples
