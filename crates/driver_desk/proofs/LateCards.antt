@@ -11,7 +11,7 @@ use Rattle.delay_table.specs.Table.{Table, is_pending, with_place, NoneIsPending
 use Rattle.delay_table.specs.Table as table
 use Rattle.delay_table.specs.declared.place.Place.{Place}
 use Rattle.delay_table.specs.declared.place.Place.TheVariants as place
-use Rattle.driver_line.specs.Lines.{number_at, names_in, NamesAre, AreDelayed, IsListedTable}
+use Rattle.driver_line.specs.Lines.{number_at, late_in, names_in, NamesAre, AreDelayed, IsListedTable}
 use Rattle.filter_words.specs.declared.reply.ListReply.{ListReply}
 use Rattle.edge_kit.specs.Files.{IsOpenLeaf}
 use Rattle.edge_kit.specs.declared.leaf_state.LeafState.{LeafState}
@@ -217,6 +217,34 @@ late_delayed v h = record {
 
 pub late_listed : (v : LateView) (t : Table) → IsLate v → IsListedTable v.table t → IsLate (record { table = t; numbers = v.numbers; slots = v.slots })
 late_listed v t h l = record { size = h.size; places = l.size ∙ h.places; each = λ p. h.each p ∙ sym (l.pending p); paths = h.paths; apart = h.apart }
+
+-- where nothing is listed, the delayed places are those of the cards
+
+late_each : (numbers : List ℕ) (places : List Place) (os : List (Option LateSeen)) → length os ≡ length numbers → length places ≡ length numbers
+    → ((p : ℕ) → is_filled (slice_get os p) ≡ is_pending (slice_get places p)) → ((p : ℕ) → table.is_listed (slice_get places p) ≡ false) → ((p : ℕ) (c : LateSeen) → slice_get os p ≡ Some (Some c) → c.path ≡ number_at numbers p)
+    → late_in numbers places ≡ paths_of (filled os)
+late_each [] places [] size many each none paths = refl
+late_each [] places (o ∷ os) size many each none paths = absurd (omega (arith, size))
+late_each (n ∷ ns) [] os size many each none paths = absurd (omega (arith, many))
+late_each (n ∷ ns) (x ∷ xs) [] size many each none paths = absurd (omega (arith, size))
+late_each (n ∷ ns) (place.Delayed ∷ xs) (None ∷ os) size many each none paths = absurd (let k : false ≡ true = each zero in cc (k))
+late_each (n ∷ ns) (place.Delayed ∷ xs) (Some c ∷ os) size many each none paths = two (sym (paths zero c refl)) (late_each ns xs os (omega (arith, size)) (omega (arith, many)) (λ p. each (suc p)) (λ p. none (suc p)) (λ p d e. paths (suc p) d e))
+  where
+    two : {x y : ℕ} {xs ys : List ℕ} → x ≡ y → xs ≡ ys → x ∷ xs ≡ y ∷ ys
+    two {x} {y} {xs} {ys} e f = cc
+late_each (n ∷ ns) (place.Listed ∷ xs) (o ∷ os) size many each none paths = absurd (let k : true ≡ false = none zero in cc (k))
+late_each (n ∷ ns) (place.Idle ∷ xs) (None ∷ os) size many each none paths = late_each ns xs os (omega (arith, size)) (omega (arith, many)) (λ p. each (suc p)) (λ p. none (suc p)) (λ p d e. paths (suc p) d e)
+late_each (n ∷ ns) (place.Idle ∷ xs) (Some c ∷ os) size many each none paths = absurd (let k : true ≡ false = each zero in cc (k))
+late_each (n ∷ ns) (place.Done ∷ xs) (None ∷ os) size many each none paths = late_each ns xs os (omega (arith, size)) (omega (arith, many)) (λ p. each (suc p)) (λ p. none (suc p)) (λ p d e. paths (suc p) d e)
+late_each (n ∷ ns) (place.Done ∷ xs) (Some c ∷ os) size many each none paths = absurd (let k : true ≡ false = each zero in cc (k))
+
+pub late_are_cards : (v w : LateView) → v ≡ w → IsLate v → AreListed v.table → w.table.turns ≡ [] → late_in w.numbers w.table.places ≡ paths_of (cards_of w)
+late_are_cards v w e h listed unlisted =
+    subst (λ (x : LateView). late_in x.numbers x.table.places ≡ paths_of (cards_of x)) e
+    (late_each v.numbers v.table.places v.slots h.size h.places h.each (λ p. sym (listed.each p) ∙ ap (λ (x : List ℕ). table.contains p x) none) h.paths)
+  where
+    none : v.table.turns ≡ []
+    none = ap (λ (x : LateView). x.table.turns) e ∙ unlisted
 
 -- the same of a struct's fields
 

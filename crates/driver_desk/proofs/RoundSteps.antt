@@ -16,19 +16,20 @@ use Rattle.filter_proto.specs.Replies.{standing_after}
 use Rattle.filter_proto.specs.declared.session.Standing.{Standing}
 use Rattle.filter_proto.specs.declared.session.Standing.TheVariants as standing
 use Rattle.checkout_core.specs.Talks.{talk_run, IsOver}
-use Rattle.driver_line.specs.Conversations.{Exchange, Listing, Second, Shutting, notes_of, notes_in, list_notes}
+use Rattle.driver_line.specs.Conversations.{Exchange, Listing, Second, Shutting, notes_of, notes_in, list_notes, FitsTalk}
 use Rattle.driver_line.specs.Lines.{LineView, Paths, Says, RunsTo, MayReply, GoesOn, NamesAre, AreKnown, IsLive, IsOpen, list_standing}
-use Rattle.edge_kit.specs.Starters.{StarterSeen}
+use Rattle.edge_kit.specs.Starters.{StarterSeen, Had}
 use Rattle.checkout_core.specs.Transcripts.{Item}
 use Rattle.checkout_core.specs.Transcripts as result
 use Rattle.driver_line.specs.Transcripts.{HasItems}
+use Rattle.driver_line.specs.ToldStarts.{GoBy}
 use Rattle.driver_desk.specs.Serving.{IsServed, Given, Noted, noted_in, Talks, Serves, talk_now, newest}
-use Rattle.driver_desk.specs.Rounds.{round_of, minus, AreAmong, AreApart, InRounds, TalkOver, RoundsBy, LateSeen, paths_of, IsReady, AreReady, FitTexts, IsTaken, IsNext, GrowsLate, RedoneCards, TurnsBy}
+use Rattle.driver_desk.specs.Rounds.{round_of, minus, AreAmong, AreApart, AreWaiting, InRounds, TalkOver, RoundsBy, LateSeen, paths_of, IsReady, AreReady, FitTexts, IsTaken, IsNext, GrowsLate, RedoneCards, TurnsBy}
 use Rattle.driver_desk.specs.Late.{LateView, KeepsNames, FitsNames, cards_of, names_at}
 use Rattle.driver_desk.specs.Works.{card_paths}
 use Rattle.driver_line.specs.Lines.{weight, number_at, names_in}
 use Rattle.convert_plan.specs.Card.{CardSeen}
-use Rattle.driver_desk.proofs.Serves.{runs_more, notes_more, noted_more, talk_more, one_step}
+use Rattle.driver_desk.proofs.Serves.{runs_more, notes_more, noted_more, talk_more, one_step, leads_more, leads_run, leads_from}
 
 bool_or : (b : Bool) → (b ≡ true) ⊎ (b ≡ false)
 bool_or true = inl refl
@@ -91,6 +92,57 @@ minus_or late (n ∷ ns) q h = elim (bool_or (q == n)) [
   ]
 ]
 
+without_none : (n : ℕ) (ps : List ℕ) → contains n (without n ps) ≡ false
+without_none n [] = refl
+without_none n (q ∷ qs) = elim (bool_or (n == q)) [
+  | inl here ↦ ap (λ (b : Bool). contains n (cond b (without n qs) (q ∷ without n qs))) here ∙ without_none n qs
+  | inr away ↦ ap (λ (b : Bool). contains n (cond b (without n qs) (q ∷ without n qs))) away ∙ (ap (λ (b : Bool). cond b true (contains n (without n qs))) away ∙ without_none n qs)
+]
+
+-- what is still late was late, and wasn't listed
+minus_not : (late ns : List ℕ) (q : ℕ) → contains q (minus late ns) ≡ true → (contains q late ≡ true) × (contains q ns ≡ false)
+minus_not late [] q h = (h, refl)
+minus_not late (n ∷ ns) q h =
+    let k = minus_not (without n late) ns q h in
+    elim (bool_or (q == n)) [
+      | inl same ↦ absurd (cc (sym (ap (λ (x : ℕ). contains x (without n late)) (eqb-true q n same) ∙ without_none n late) ∙ k.0))
+      | inr other ↦ (sym (contains_without q n late other) ∙ k.0, ap (λ (b : Bool). cond b true (contains q ns)) other ∙ k.1)
+    ]
+
+-- the cards that wait, after a list and after a second request
+
+names_wait : (cards late names : List ℕ) → AreWaiting cards late [] → AreWaiting cards (minus late names) names
+names_wait cards late names w = record {
+  each = λ q k. minus_or late names q (late_only q (w.each q k));
+  kept = λ q k. let m = minus_not late names q k in ((w.kept q m.0).0, m.1);
+}
+  where
+    late_only : (q : ℕ) → (contains q late ≡ true) ⊎ (contains q [] ≡ true) → contains q late ≡ true
+    late_only q (inl l) = l
+    late_only q (inr r) = absurd (cc r)
+
+redone_waits : (cards cards1 : List ℕ) (p : ℕ) (turns late : List ℕ) → AreWaiting cards late (p ∷ turns) → RedoneCards cards p cards1 → AreWaiting cards1 late turns
+redone_waits cards cards1 p turns late w left = record {
+  each = λ q k. elim (w.each q (left.were q k).0) [
+    | inl l ↦ inl l
+    | inr r ↦ inr (sym (ap (λ (b : Bool). cond b true (contains q turns)) (left.were q k).1) ∙ r)
+  ];
+  kept = λ q k. let c = w.kept q k in let n = head_not q p turns c.1 in (left.stay q c.0 n.0, n.1);
+}
+
+same_bool : (a b : Bool) → (a ≡ true → b ≡ true) → (b ≡ true → a ≡ true) → a ≡ b
+same_bool true b f g = sym (f refl)
+same_bool false true f g = g refl
+same_bool false false f g = refl
+
+-- a list may name just the cards, where none is listed
+slate_late : (slate cards late : List ℕ) → slate ≡ cards → AreWaiting cards late [] → (q : ℕ) → contains q slate ≡ contains q late
+slate_late slate cards late e w q = ap (λ (x : List ℕ). contains q x) e ∙ same_bool (contains q cards) (contains q late) (λ k. late_only (w.each q k)) (λ k. (w.kept q k).0)
+  where
+    late_only : (contains q late ≡ true) ⊎ (contains q [] ≡ true) → contains q late ≡ true
+    late_only (inl l) = l
+    late_only (inr r) = absurd (cc r)
+
 -- the names of a list
 
 abbrev after_names : Bool → List ℕ → Bool
@@ -128,14 +180,14 @@ names_talk d delay late names n e lt k =
 -- one more exchange
 
 pub talks_more : (d : ℕ) (paths : Paths) (line0 : LineView) (given0 : List Given) (asked : List ℕ) (line line1 : LineView) (given given1 new : List Given) (t u : Talk) (e : Exchange)
-    → Talks d paths line0 given0 asked line given t → Says paths line e line1 → given1 ≡ given ++ new → noted_in new ≡ notes_of d e → talk_run d t (notes_of d e) ≡ Some u → Talks d paths line0 given0 asked line1 given1 u
-talks_more d paths line0 given0 asked line line1 given given1 new t u e s says g n moves = record {
+    → Talks d paths line0 given0 asked line given t → Says paths line e line1 → given1 ≡ given ++ new → noted_in new ≡ notes_of d e → FitsTalk t e → talk_run d t (notes_of d e) ≡ Some u → Talks d paths line0 given0 asked line1 given1 u
+talks_more d paths line0 given0 asked line line1 given given1 new t u e s says g n fits moves = record {
   exchanges = s.exchanges ++ e ∷ [];
   more = s.more ++ new;
   runs = runs_more paths line0 line line1 s.exchanges e s.runs says;
   given_is = g ∙ (ap (λ (x : List Given). x ++ new) s.given_is ∙ append_assoc given0 s.more new);
   noted = noted_more s.more new ∙ (ap (λ (x : List Event). x ++ noted_in new) s.noted ∙ (ap (λ (x : List Event). notes_in d s.exchanges ++ x) n ∙ sym (notes_more d s.exchanges e)));
-  talk = ap (talk_run d (Between asked)) (notes_more d s.exchanges e) ∙ (talk_more d (Between asked) t (notes_in d s.exchanges) (notes_of d e) s.talk ∙ moves);
+  talk = leads_more d (Between asked) t u s.exchanges e s.talk fits moves;
 }
 
 pub talks_closed : (d : ℕ) (paths : Paths) (line0 : LineView) (given0 : List Given) (asked : List ℕ) (line : LineView) (given given1 new : List Given) (t : Talk)
@@ -152,38 +204,39 @@ talks_closed d paths line0 given0 asked line given given1 new t s g n = record {
 -- a list
 
 listed_over : (d : ℕ) (paths : Paths) (slate : List ℕ) (line0 : LineView) (given0 : List Given) (asked : List ℕ) (line line1 : LineView) (given given1 new : List Given) (cards names : List ℕ) (r : ListReply) (u : Talk) (o1 : Option SessionSeen)
-    → InRounds d paths line0 given0 asked line given cards [] → Says paths line (Listing slate names r) line1 → o1 ≡ None → given1 ≡ given ++ new → noted_in new ≡ list_notes d names r
+    → slate ≡ cards → InRounds d paths line0 given0 asked line given cards [] → Says paths line (Listing slate names r) line1 → o1 ≡ None → given1 ≡ given ++ new → noted_in new ≡ list_notes d names r
     → ((delay : Bool) (late : List ℕ) → talk_run d (round_of delay false late []) (list_notes d names r) ≡ Some u) → IsOver u → RoundsBy d paths line0 given0 asked o1 line1 given1 cards names
-listed_over d paths slate line0 given0 asked line line1 given given1 new cards names r u o1 h says none g n moves over =
+listed_over d paths slate line0 given0 asked line line1 given given1 new cards names r u o1 same h says none g n moves over =
     subst (λ (o : Option SessionSeen). RoundsBy d paths line0 given0 asked o line1 given1 cards names) (sym none)
-    (u, talks_more d paths line0 given0 asked line line1 given given1 new (round_of h.0 false h.1 []) u (Listing slate names r) h.2 says g n (moves h.0 h.1), over)
+    (u, talks_more d paths line0 given0 asked line line1 given given1 new (round_of h.0 false h.1 []) u (Listing slate names r) h.2 says g n (slate_late slate cards h.1 same h.3) (moves h.0 h.1), over)
 
 listed_in : (d : ℕ) (paths : Paths) (slate : List ℕ) (line0 : LineView) (given0 : List Given) (asked : List ℕ) (line line1 : LineView) (given given1 new : List Given) (cards names : List ℕ) (r : ListReply) (s : SessionSeen) (o1 : Option SessionSeen)
-    → s.caps.smudge ≡ true → InRounds d paths line0 given0 asked line given cards [] → NamesAre cards names r → Says paths line (Listing slate names r) line1 → GoesOn s (list_standing r) o1 → given1 ≡ given ++ new → noted_in new ≡ list_notes d names r
+    → slate ≡ cards → s.caps.smudge ≡ true → InRounds d paths line0 given0 asked line given cards [] → NamesAre cards names r → Says paths line (Listing slate names r) line1 → GoesOn s (list_standing r) o1 → given1 ≡ given ++ new → noted_in new ≡ list_notes d names r
     → RoundsBy d paths line0 given0 asked o1 line1 given1 cards names
-listed_in d paths slate line0 given0 asked line line1 given given1 new cards names (list.Names n) s o1 smudge h are says goes g ns =
-    let among : AreAmong cards h.1 = λ q k. elim (h.3 q k) [ inl l ↦ l | inr r ↦ absurd (cc r) ] in
+listed_in d paths slate line0 given0 asked line line1 given given1 new cards names (list.Names n) s o1 same smudge h are says goes g ns =
+    let fits = slate_late slate cards h.1 same h.3 in
+    let among : AreAmong cards h.1 = λ q k. sym (fits q) ∙ (ap (λ (x : List ℕ). contains q x) same ∙ k) in
     subst (λ (o : Option SessionSeen). RoundsBy d paths line0 given0 asked o line1 given1 cards names) (sym goes.1) (
       refl,
       smudge,
       (
         h.0,
         minus h.1 names,
-        talks_more d paths line0 given0 asked line line1 given given1 new (round_of h.0 false h.1 []) (round_of h.0 false (minus h.1 names) names) (Listing slate names (list.Names n)) h.2 says g ns (names_talk d h.0 h.1 names n are.0 are.1 (known_among cards h.1 names among are.2)),
-        λ q k. minus_or h.1 names q (among q k),
+        talks_more d paths line0 given0 asked line line1 given given1 new (round_of h.0 false h.1 []) (round_of h.0 false (minus h.1 names) names) (Listing slate names (list.Names n)) h.2 says g ns fits (names_talk d h.0 h.1 names n are.0 are.1 (known_among cards h.1 names among are.2)),
+        names_wait cards h.1 names h.3,
       ),
     )
-listed_in d paths slate line0 given0 asked line line1 given given1 new cards names list.Empty s o1 smudge h are says goes g ns = listed_over d paths slate line0 given0 asked line line1 given given1 new cards names list.Empty Ended o1 h says goes g ns (λ delay late. one_step d (round_of delay false late []) Ended (event.Listed d list.Empty) (self d) refl) tt
-listed_in d paths slate line0 given0 asked line line1 given given1 new cards names list.Abort s o1 smudge h are says goes g ns = listed_over d paths slate line0 given0 asked line line1 given given1 new cards names list.Abort Ended o1 h says goes g ns (λ delay late. one_step d (round_of delay false late []) Ended (event.Listed d list.Abort) (self d) refl) tt
-listed_in d paths slate line0 given0 asked line line1 given given1 new cards names (list.Broken c) s o1 smudge h are says goes g ns = listed_over d paths slate line0 given0 asked line line1 given given1 new cards names (list.Broken c) (Between []) o1 h says goes g ns (λ delay late. one_step d (round_of delay false late []) (Between []) (event.Listed d (list.Broken c)) (self d) refl) tt
-listed_in d paths slate line0 given0 asked line line1 given given1 new cards names list.NoMemory s o1 smudge h are says goes g ns = listed_over d paths slate line0 given0 asked line line1 given given1 new cards names list.NoMemory (Between []) o1 h says goes g ns (λ delay late. one_step d (round_of delay false late []) (Between []) (event.Listed d list.NoMemory) (self d) refl) tt
+listed_in d paths slate line0 given0 asked line line1 given given1 new cards names list.Empty s o1 same smudge h are says goes g ns = listed_over d paths slate line0 given0 asked line line1 given given1 new cards names list.Empty Ended o1 same h says goes g ns (λ delay late. one_step d (round_of delay false late []) Ended (event.Listed d list.Empty) (self d) refl) tt
+listed_in d paths slate line0 given0 asked line line1 given given1 new cards names list.Abort s o1 same smudge h are says goes g ns = listed_over d paths slate line0 given0 asked line line1 given given1 new cards names list.Abort Ended o1 same h says goes g ns (λ delay late. one_step d (round_of delay false late []) Ended (event.Listed d list.Abort) (self d) refl) tt
+listed_in d paths slate line0 given0 asked line line1 given given1 new cards names (list.Broken c) s o1 same smudge h are says goes g ns = listed_over d paths slate line0 given0 asked line line1 given given1 new cards names (list.Broken c) (Between []) o1 same h says goes g ns (λ delay late. one_step d (round_of delay false late []) (Between []) (event.Listed d (list.Broken c)) (self d) refl) tt
+listed_in d paths slate line0 given0 asked line line1 given given1 new cards names list.NoMemory s o1 same smudge h are says goes g ns = listed_over d paths slate line0 given0 asked line line1 given given1 new cards names list.NoMemory (Between []) o1 same h says goes g ns (λ delay late. one_step d (round_of delay false late []) (Between []) (event.Listed d list.NoMemory) (self d) refl) tt
 
 pub listed : (d : ℕ) (paths : Paths) (slate : List ℕ) (line0 : LineView) (given0 : List Given) (asked : List ℕ) (line line1 : LineView) (given given1 new : List Given) (cards names : List ℕ) (r : ListReply) (o o1 : Option SessionSeen)
-    → IsLive o → RoundsBy d paths line0 given0 asked o line given cards [] → NamesAre cards names r → Says paths line (Listing slate names r) line1 → ((s : SessionSeen) → o ≡ Some s → GoesOn s (list_standing r) o1) → given1 ≡ given ++ new → noted_in new ≡ list_notes d names r
+    → slate ≡ cards → IsLive o → RoundsBy d paths line0 given0 asked o line given cards [] → NamesAre cards names r → Says paths line (Listing slate names r) line1 → ((s : SessionSeen) → o ≡ Some s → GoesOn s (list_standing r) o1) → given1 ≡ given ++ new → noted_in new ≡ list_notes d names r
     → RoundsBy d paths line0 given0 asked o1 line1 given1 cards names
-listed d paths slate line0 given0 asked line line1 given given1 new cards names r None o1 live h are says goes g ns = absurd live
-listed d paths slate line0 given0 asked line line1 given given1 new cards names r (Some s) o1 live h are says goes g ns =
-    listed_in d paths slate line0 given0 asked line line1 given given1 new cards names r s o1 h.1 h.2 are says (goes s refl) g ns
+listed d paths slate line0 given0 asked line line1 given given1 new cards names r None o1 same live h are says goes g ns = absurd live
+listed d paths slate line0 given0 asked line line1 given given1 new cards names r (Some s) o1 same live h are says goes g ns =
+    listed_in d paths slate line0 given0 asked line line1 given given1 new cards names r s o1 same h.1 h.2 are says (goes s refl) g ns
 
 -- a second request
 
@@ -193,9 +246,8 @@ redo_step d delay late turns p r u a b e = one_step d (round_of delay false late
 
 goes_on : (d : ℕ) (paths : Paths) (line0 : LineView) (given0 : List Given) (asked : List ℕ) (line1 : LineView) (given2 : List Given) (cards cards1 : List ℕ) (p : ℕ) (turns late : List ℕ) (delay : Bool) (s : SessionSeen) (o1 : Option SessionSeen)
     → s.caps.smudge ≡ true → GoesOn s standing.Live o1 → Talks d paths line0 given0 asked line1 given2 (round_of delay false late turns)
-    → ((q : ℕ) → contains q cards ≡ true → (contains q late ≡ true) ⊎ (contains q (p ∷ turns) ≡ true)) → RedoneCards cards p cards1
-    → RoundsBy d paths line0 given0 asked o1 line1 given2 cards1 turns
-goes_on d paths line0 given0 asked line1 given2 cards cards1 p turns late delay s o1 smudge goes t among left =
+    → AreWaiting cards late (p ∷ turns) → RedoneCards cards p cards1 → RoundsBy d paths line0 given0 asked o1 line1 given2 cards1 turns
+goes_on d paths line0 given0 asked line1 given2 cards cards1 p turns late delay s o1 smudge goes t waits left =
     subst (λ (o : Option SessionSeen). RoundsBy d paths line0 given0 asked o line1 given2 cards1 turns) (sym goes.1) (
       refl,
       smudge,
@@ -203,10 +255,7 @@ goes_on d paths line0 given0 asked line1 given2 cards cards1 p turns late delay 
         delay,
         late,
         t,
-        λ q k. elim (among q (left q k).0) [
-          | inl l ↦ inl l
-          | inr r ↦ inr (sym (ap (λ (b : Bool). cond b true (contains q turns)) (left q k).1) ∙ r)
-        ],
+        redone_waits cards cards1 p turns late waits left,
       ),
     )
 
@@ -219,20 +268,19 @@ redone_over d paths line0 given0 asked line1 given2 cards1 turns u o1 none t ove
 pub redone_in : (d : ℕ) (paths : Paths) (line0 : LineView) (given0 : List Given) (asked : List ℕ) (line1 : LineView) (given2 : List Given) (cards cards1 : List ℕ) (p : ℕ) (turns late : List ℕ) (delay : Bool) (s : SessionSeen) (o1 : Option SessionSeen) (r : Reply)
     → s.caps.smudge ≡ true → MayReply false r → GoesOn s (standing_after r) o1
     → ((u : Talk) → talk_run d (round_of delay false late (p ∷ turns)) (event.Redone p r ∷ []) ≡ Some u → Talks d paths line0 given0 asked line1 given2 u)
-    → ((q : ℕ) → contains q cards ≡ true → (contains q late ≡ true) ⊎ (contains q (p ∷ turns) ≡ true)) → RedoneCards cards p cards1
-    → RoundsBy d paths line0 given0 asked o1 line1 given2 cards1 turns
-redone_in d paths line0 given0 asked line1 given2 cards cards1 p turns late delay s o1 reply.Content smudge may goes t among left =
-    goes_on d paths line0 given0 asked line1 given2 cards cards1 p turns late delay s o1 smudge goes (t _ (redo_step d delay late turns p reply.Content _ refl refl refl)) among left
-redone_in d paths line0 given0 asked line1 given2 cards cards1 p turns late delay s o1 reply.Error smudge may goes t among left =
-    goes_on d paths line0 given0 asked line1 given2 cards cards1 p turns late delay s o1 smudge goes (t _ (redo_step d delay late turns p reply.Error _ refl refl refl)) among left
-redone_in d paths line0 given0 asked line1 given2 cards cards1 p turns late delay s o1 reply.ErrorAfter smudge may goes t among left =
-    goes_on d paths line0 given0 asked line1 given2 cards cards1 p turns late delay s o1 smudge goes (t _ (redo_step d delay late turns p reply.ErrorAfter _ refl refl refl)) among left
-redone_in d paths line0 given0 asked line1 given2 cards cards1 p turns late delay s o1 reply.Delayed smudge may goes t among left = absurd (cc may)
-redone_in d paths line0 given0 asked line1 given2 cards cards1 p turns late delay s o1 reply.Abort smudge may goes t among left =
+    → AreWaiting cards late (p ∷ turns) → RedoneCards cards p cards1 → RoundsBy d paths line0 given0 asked o1 line1 given2 cards1 turns
+redone_in d paths line0 given0 asked line1 given2 cards cards1 p turns late delay s o1 reply.Content smudge may goes t waits left =
+    goes_on d paths line0 given0 asked line1 given2 cards cards1 p turns late delay s o1 smudge goes (t _ (redo_step d delay late turns p reply.Content _ refl refl refl)) waits left
+redone_in d paths line0 given0 asked line1 given2 cards cards1 p turns late delay s o1 reply.Error smudge may goes t waits left =
+    goes_on d paths line0 given0 asked line1 given2 cards cards1 p turns late delay s o1 smudge goes (t _ (redo_step d delay late turns p reply.Error _ refl refl refl)) waits left
+redone_in d paths line0 given0 asked line1 given2 cards cards1 p turns late delay s o1 reply.ErrorAfter smudge may goes t waits left =
+    goes_on d paths line0 given0 asked line1 given2 cards cards1 p turns late delay s o1 smudge goes (t _ (redo_step d delay late turns p reply.ErrorAfter _ refl refl refl)) waits left
+redone_in d paths line0 given0 asked line1 given2 cards cards1 p turns late delay s o1 reply.Delayed smudge may goes t waits left = absurd (cc may)
+redone_in d paths line0 given0 asked line1 given2 cards cards1 p turns late delay s o1 reply.Abort smudge may goes t waits left =
     redone_over d paths line0 given0 asked line1 given2 cards1 turns Ended o1 goes (t Ended (redo_step d delay late turns p reply.Abort Ended refl refl refl)) tt
-redone_in d paths line0 given0 asked line1 given2 cards cards1 p turns late delay s o1 (reply.Broken c) smudge may goes t among left =
+redone_in d paths line0 given0 asked line1 given2 cards cards1 p turns late delay s o1 (reply.Broken c) smudge may goes t waits left =
     redone_over d paths line0 given0 asked line1 given2 cards1 turns (Between []) o1 goes (t (Between []) (redo_step d delay late turns p (reply.Broken c) (Between []) refl may refl)) tt
-redone_in d paths line0 given0 asked line1 given2 cards cards1 p turns late delay s o1 reply.NoMemory smudge may goes t among left =
+redone_in d paths line0 given0 asked line1 given2 cards cards1 p turns late delay s o1 reply.NoMemory smudge may goes t waits left =
     redone_over d paths line0 given0 asked line1 given2 cards1 turns (Between []) o1 goes (t (Between []) (redo_step d delay late turns p reply.NoMemory (Between []) refl refl refl)) tt
 
 pub redone : (d : ℕ) (paths : Paths) (line0 : LineView) (given0 : List Given) (asked : List ℕ) (line line1 : LineView) (given given1 given2 : List Given) (cards cards1 : List ℕ) (p : ℕ) (turns : List ℕ) (o o1 : Option SessionSeen) (r : Reply) (content : List ℕ)
@@ -243,7 +291,7 @@ redone d paths line0 given0 asked line line1 given given1 given2 cards cards1 p 
 redone d paths line0 given0 asked line line1 given given1 given2 cards cards1 p turns (Some s) o1 r content live h may says goes g more left =
     redone_in d paths line0 given0 asked line1 given2 cards cards1 p turns h.2.1 h.2.0 s o1 r h.1 may (goes s refl)
     (λ u moves. talks_closed d paths line0 given0 asked line1 given1 given2 more.0 u
-    (talks_more d paths line0 given0 asked line line1 given given1 (Noted (event.Redone p r) ∷ []) (round_of h.2.0 false h.2.1 (p ∷ turns)) u (Second p r content) h.2.2 says g refl moves) more.1 more.2)
+    (talks_more d paths line0 given0 asked line line1 given given1 (Noted (event.Redone p r) ∷ []) (round_of h.2.0 false h.2.1 (p ∷ turns)) u (Second p r content) h.2.2 says g refl tt moves) more.1 more.2)
     h.2.3 left
 
 -- the cards without the one that was taken
@@ -256,6 +304,13 @@ contains_split q [] after c h = elim (bool_or (q == c.path)) [
 contains_split q (b ∷ bs) after c h = elim (bool_or (q == b.path)) [
   | inl same ↦ ap (λ (x : Bool). cond x true (contains q (paths_of (bs ++ c ∷ after)))) same
   | inr other ↦ ap (λ (x : Bool). cond x true (contains q (paths_of (bs ++ c ∷ after)))) other ∙ contains_split q bs after c (sym (ap (λ (x : Bool). cond x true (contains q (paths_of (bs ++ after)))) other) ∙ h)
+]
+
+contains_left : (q : ℕ) (before after : List LateSeen) (c : LateSeen) → contains q (paths_of (before ++ c ∷ after)) ≡ true → (q == c.path) ≡ false → contains q (paths_of (before ++ after)) ≡ true
+contains_left q [] after c h other = sym (ap (λ (b : Bool). cond b true (contains q (paths_of after))) other) ∙ h
+contains_left q (b ∷ bs) after c h other = elim (bool_or (q == b.path)) [
+  | inl same ↦ ap (λ (x : Bool). cond x true (contains q (paths_of (bs ++ after)))) same
+  | inr away ↦ ap (λ (x : Bool). cond x true (contains q (paths_of (bs ++ after)))) away ∙ contains_left q bs after c (sym (ap (λ (x : Bool). cond x true (contains q (paths_of (bs ++ c ∷ after)))) away) ∙ h) other
 ]
 
 away_from : (q p : ℕ) (ps : List ℕ) → contains p ps ≡ false → contains q ps ≡ true → (q == p) ≡ false
@@ -303,12 +358,17 @@ pub taken_apart : (p : ℕ) (old new : List LateSeen) (c : LateSeen) → IsTaken
 taken_apart p old new c t h = subst (λ (x : List LateSeen). AreApart (paths_of x)) (sym t.left) (apart_split t.before t.after c (subst (λ (x : List LateSeen). AreApart (paths_of x)) t.was h)).0
 
 pub taken_redone : (p : ℕ) (old new : List LateSeen) (c : LateSeen) → IsTaken p old c new → AreApart (paths_of old) → RedoneCards (paths_of old) p (paths_of new)
-taken_redone p old new c t h q k =
-    let k1 = subst (λ (x : List LateSeen). contains q (paths_of x) ≡ true) t.left k in
-    let none = (apart_split t.before t.after c (subst (λ (x : List LateSeen). AreApart (paths_of x)) t.was h)).1 in (
-      subst (λ (x : List LateSeen). contains q (paths_of x) ≡ true) (sym t.was) (contains_split q t.before t.after c k1),
-      subst (λ (x : ℕ). (q == x) ≡ false) t.named (away_from q c.path (paths_of (t.before ++ t.after)) none k1),
-    )
+taken_redone p old new c t h = record {
+  were = λ q k.
+      let k1 = subst (λ (x : List LateSeen). contains q (paths_of x) ≡ true) t.left k in
+      let none = (apart_split t.before t.after c (subst (λ (x : List LateSeen). AreApart (paths_of x)) t.was h)).1 in (
+        subst (λ (x : List LateSeen). contains q (paths_of x) ≡ true) (sym t.was) (contains_split q t.before t.after c k1),
+        subst (λ (x : ℕ). (q == x) ≡ false) t.named (away_from q c.path (paths_of (t.before ++ t.after)) none k1),
+      );
+  stay = λ q k other.
+      subst (λ (x : List LateSeen). contains q (paths_of x) ≡ true) (sym t.left)
+      (contains_left q t.before t.after c (subst (λ (x : List LateSeen). contains q (paths_of x) ≡ true) t.was k) (subst (λ (x : ℕ). (q == x) ≡ false) (sym t.named) other));
+}
 
 pub open_live : (o : Option SessionSeen) → IsOpen o → IsLive o
 open_live None h = absurd h
@@ -459,7 +519,7 @@ talks_of d paths line0 given0 asked line given aborted late s = record {
   runs = s.runs;
   given_is = s.given_is;
   noted = s.noted;
-  talk = ap (λ (x : List ℕ). talk_run d (Between x) (notes_in d s.exchanges)) (sym (append-nil asked)) ∙ s.talk [];
+  talk = leads_from d (asked ++ []) asked s.exchanges (talk_now line.session aborted late []) (append-nil asked) (s.talk []);
 }
 
 talk_as : (d : ℕ) (paths : Paths) (line0 : LineView) (given0 : List Given) (asked : List ℕ) (line : LineView) (given : List Given) (t u : Talk) → t ≡ u → Talks d paths line0 given0 asked line given t → Talks d paths line0 given0 asked line given u
@@ -486,13 +546,30 @@ pub over_shut : (d : ℕ) (paths : Paths) (line0 : LineView) (given0 : List Give
     → (line.session ≡ None → ⊥) → late ≡ [] ⊎ ((s : SessionSeen) → line.session ≡ Some s → s.caps.smudge ≡ false) → Says paths line Shutting line1 → given1 ≡ given ++ Noted (event.Shut d) ∷ []
     → Serves d paths line0 given0 asked [] line given false late → TalkOver d paths line0 given0 asked line1 given1
 over_shut d paths line0 given0 asked line line1 given given1 late there h says g s =
-    (Ended, talks_more d paths line0 given0 asked line line1 given given1 (Noted (event.Shut d) ∷ []) (talk_now line.session false late []) Ended Shutting (talks_of d paths line0 given0 asked line given false late s) says g refl (shut_talk d line.session late there h), tt)
+    (Ended, talks_more d paths line0 given0 asked line line1 given given1 (Noted (event.Shut d) ∷ []) (talk_now line.session false late []) Ended Shutting (talks_of d paths line0 given0 asked line given false late s) says g refl tt (shut_talk d line.session late there h), tt)
 
 newest_has : (q : ℕ) (ps : List ℕ) → contains q ps ≡ true → contains q (newest ps) ≡ true
 newest_has q [] h = h
 newest_has q (p ∷ ps) h = elim (bool_or (q == p)) [
   | inl same ↦ has_append q (newest ps) (p ∷ []) (ap (λ (b : Bool). cond b true false) same)
   | inr other ↦ has_front q (newest ps) (p ∷ []) (newest_has q ps (sym (ap (λ (b : Bool). cond b true (contains q ps)) other) ∙ h))
+]
+
+has_either : (q : ℕ) (xs ys : List ℕ) → contains q (xs ++ ys) ≡ true → (contains q xs ≡ true) ⊎ (contains q ys ≡ true)
+has_either q [] ys h = inr h
+has_either q (x ∷ xs) ys h = elim (bool_or (q == x)) [
+  | inl same ↦ inl (ap (λ (b : Bool). cond b true (contains q xs)) same)
+  | inr other ↦ elim (has_either q xs ys (sym (ap (λ (b : Bool). cond b true (contains q (xs ++ ys))) other) ∙ h)) [
+    | inl l ↦ inl (ap (λ (b : Bool). cond b true (contains q xs)) other ∙ l)
+    | inr r ↦ inr r
+  ]
+]
+
+newest_had : (q : ℕ) (ps : List ℕ) → contains q (newest ps) ≡ true → contains q ps ≡ true
+newest_had q [] h = h
+newest_had q (p ∷ ps) h = elim (has_either q (newest ps) (p ∷ []) h) [
+  | inl l ↦ has_drop q p [] ps (newest_had q ps l)
+  | inr r ↦ has_front q (p ∷ []) ps r
 ]
 
 push_empty : (xs : List ℕ) (p : ℕ) → is_empty (xs ++ p ∷ []) ≡ false
@@ -516,7 +593,10 @@ rounds_begin d paths line0 given0 asked (Some z) line given ps cards e h some sa
         (ap (λ (x : Option SessionSeen). talk_now x false (newest ps) []) e ∙ (ap (λ (b : Bool). cond b (InRound (record { delay = z.caps.delay; any_delayed = not (is_empty (newest ps)); noting_list = false; rest = []; late = newest ps; turns = [] })) Refusing) h.1
         ∙ ap (λ (b : Bool). InRound (record { delay = z.caps.delay; any_delayed = not b; noting_list = false; rest = []; late = newest ps; turns = [] })) some))
         (talks_of d paths line0 given0 asked line given false (newest ps) s),
-    λ q k. inl (newest_has q ps (subst (λ (x : List ℕ). contains q x ≡ true) same k)),
+    record {
+      each = λ q k. inl (newest_has q ps (subst (λ (x : List ℕ). contains q x ≡ true) same k));
+      kept = λ q k. (subst (λ (x : List ℕ). contains q x ≡ true) (sym same) (newest_had q ps k), refl);
+    },
   ),
 )
 
@@ -527,7 +607,7 @@ serves_start d paths line0 line given0 late e none l = record {
   runs = sym e;
   given_is = sym (append-nil given0);
   noted = refl;
-  talk = λ rest. sym (ap (λ (o : Option SessionSeen). Some (talk_now o false late rest)) (ap (λ (v : LineView). v.session) e ∙ none));
+  talk = λ rest. sym (ap (λ (o : Option SessionSeen). talk_now o false late rest) (ap (λ (v : LineView). v.session) e ∙ none));
 }
 
 pub serves_as : (d : ℕ) (paths : Paths) (line0 : LineView) (given0 : List Given) (asked : List ℕ) (line : LineView) (given : List Given) (b c : Bool) (late : List ℕ) → b ≡ c → Serves d paths line0 given0 asked [] line given b late → Serves d paths line0 given0 asked [] line given c late
@@ -596,12 +676,14 @@ some_cards [] h = absurd (h refl)
 some_cards (c ∷ cs) h = newest_empty (c.path ∷ paths_of cs) (omega arith)
 
 pub served : (d : ℕ) (paths : Paths) (asked : List ℕ) (starter last : StarterSeen) (line : LineView) (given0 given : List Given) → ((v w : LineView) (es : List Exchange) → v.session ≡ None → w.session ≡ None → RunsTo paths v es w → HasItems paths v es w)
+    → ((v w : LineView) (es : List Exchange) → v.session ≡ None → w.session ≡ None → RunsTo paths v es w → w.starter.out ≡ v.starter.out)
+    → ((v w : LineView) (es : List Exchange) (items : List Had) → v.session ≡ None → w.session ≡ None → RunsTo paths v es w → w.starter.had ≡ v.starter.had ++ items → GoBy v.starter.ahead items w.starter.ahead)
     → ((k : ℕ) (ps : List ℕ) (notes : List Event) (t : Talk) → talk_run k (Between ps) notes ≡ Some t → IsOver t → (items : List Item) × result.IsTalk ps items × (result.notes_of k items ≡ notes))
-    → last ≡ line.starter → line.session ≡ None → TalkOver d paths (record { starter = starter; session = None }) given0 asked line given → IsServed d paths asked starter.had last.had given0 given
-served d paths asked starter last line given0 given law whole e none h =
+    → last ≡ line.starter → line.session ≡ None → TalkOver d paths (record { starter = starter; session = None }) given0 asked line given → IsServed d paths asked starter last given0 given
+served d paths asked starter last line given0 given law back told whole e none h =
     let t = h.1 in
     let i = law (record { starter = starter; session = None }) line t.exchanges refl none t.runs in
-    let r = whole d asked (notes_in d t.exchanges) h.0 t.talk h.2 in
+    let r = whole d asked (notes_in d t.exchanges) h.0 (leads_run d (Between asked) h.0 t.exchanges t.talk) h.2 in
     record {
       items = i.items;
       exchanges = t.exchanges;
@@ -610,6 +692,8 @@ served d paths asked starter last line given0 given law whole e none h =
       whole = r.1;
       same = r.2;
       kept = ap (λ (x : StarterSeen). x.had) e ∙ i.had;
+      starts = subst (λ (x : StarterSeen). GoBy starter.ahead i.items x.ahead) (sym e) (told (record { starter = starter; session = None }) line t.exchanges i.items refl none t.runs i.had);
+      links = ap (λ (x : StarterSeen). x.out) e ∙ back (record { starter = starter; session = None }) line t.exchanges refl none t.runs;
       talk = record { spells = i.matches; end = h.0; goes = t.talk; over = h.2 };
       told = t.given_is;
       noted = t.noted;

@@ -12,14 +12,14 @@ use Rattle.checkout_core.specs.declared.event.OpenCause.TheVariants as opening
 use Rattle.checkout_core.specs.Conditions.{is_good_opening, is_good_reply, is_delay}
 use Rattle.checkout_core.specs.declared.verdict.Own.{Own}
 use Rattle.checkout_core.specs.Talks.{Talk, Round, Between, Refusing, InRound, Ended, talk_step, talk_next, is_with, is_empty, answered}
-use Rattle.filter_proto.specs.Exchanges.{Good}
+use Rattle.filter_proto.specs.Exchanges.{Good, Broke, OutOfMemory}
 use Rattle.filter_proto.specs.Wires.{SessionSeen}
 use Rattle.filter_proto.specs.Replies.{standing_after}
 use Rattle.filter_proto.specs.declared.session.Standing.{Standing}
 use Rattle.filter_proto.specs.declared.session.Standing.TheVariants as standing
 use Rattle.driver_line.specs.declared.line.Start.TheVariants as starts
 use Rattle.checkout_core.specs.Talks.{talk_run}
-use Rattle.driver_line.specs.Conversations.{Exchange, Opening, First, notes_of, notes_in}
+use Rattle.driver_line.specs.Conversations.{Exchange, NoStart, NoRoom, Opening, First, notes_of, notes_in, FitsTalk, LeadsTo}
 use Rattle.driver_line.specs.Lines.{LineView, Paths, Says, RunsTo, OpenIs, IsOpen, MayReply, SessionAfter, GoesOn}
 use Rattle.driver_desk.specs.Rounds.{LateSeen, paths_of}
 use Rattle.driver_desk.specs.Works.{WorkSeen, FitsWork, FitAll, asked_of, asked_in}
@@ -49,20 +49,33 @@ pub talk_more : (d : ℕ) (t u : Talk) (a b : List Event) → talk_run d t a ≡
 talk_more d t u [] b h = let same : t ≡ u = cc in rw same refl
 talk_more d t u (e ∷ es) b h = talk_step_more d t u e es b (talk_step d t e) refl (λ v k. talk_more d v u es b k) h
 
+-- one more exchange of a talk
+pub leads_more : (d : ℕ) (t u v : Talk) (es : List Exchange) (e : Exchange) → LeadsTo d t es u → FitsTalk u e → talk_run d u (notes_of d e) ≡ Some v → LeadsTo d t (es ++ e ∷ []) v
+leads_more d t u v [] e h fits moves = (v, subst (λ (x : Talk). FitsTalk x e) (sym h) fits, ap (λ (x : Talk). talk_run d x (notes_of d e)) h ∙ moves, refl)
+leads_more d t u v (f ∷ fs) e h fits moves = (h.0, h.1, h.2, leads_more d h.0 u v fs e h.3 fits moves)
+
+-- the notes of the exchanges lead to the same talk
+pub leads_run : (d : ℕ) (t u : Talk) (es : List Exchange) → LeadsTo d t es u → talk_run d t (notes_in d es) ≡ Some u
+leads_run d t u [] h = ap Some h
+leads_run d t u (e ∷ es) h = talk_more d t h.0 (notes_of d e) (notes_in d es) h.2 ∙ leads_run d h.0 u es h.3
+
+pub leads_from : (d : ℕ) (a b : List ℕ) (es : List Exchange) (t : Talk) → a ≡ b → LeadsTo d (Between a) es t → LeadsTo d (Between b) es t
+leads_from d a b es t e h = subst (λ (x : List ℕ). LeadsTo d (Between x) es t) e h
+
 -- an exchange, with its notes and any closings
 pub serves_more : (d : ℕ) (paths : Paths) (line0 : LineView) (given0 : List Given) (asked ahead asked1 ahead1 : List ℕ) (line line1 : LineView) (given given1 new : List Given) (aborted aborted1 : Bool) (late late1 : List ℕ) (e : Exchange)
     → Serves d paths line0 given0 asked ahead line given aborted late → Says paths line e line1 → given1 ≡ given ++ new → noted_in new ≡ notes_of d e → asked ++ ahead ≡ asked1 ++ ahead1
+    → ((rest : List ℕ) → FitsTalk (talk_now line.session aborted late (ahead ++ rest)) e)
     → ((rest : List ℕ) → talk_run d (talk_now line.session aborted late (ahead ++ rest)) (notes_of d e) ≡ Some (talk_now line1.session aborted1 late1 (ahead1 ++ rest)))
     → Serves d paths line0 given0 asked1 ahead1 line1 given1 aborted1 late1
-serves_more d paths line0 given0 asked ahead asked1 ahead1 line line1 given given1 new aborted aborted1 late late1 e s says g n same moves = record {
+serves_more d paths line0 given0 asked ahead asked1 ahead1 line line1 given given1 new aborted aborted1 late late1 e s says g n same fits moves = record {
   exchanges = s.exchanges ++ e ∷ [];
   more = s.more ++ new;
   runs = runs_more paths line0 line line1 s.exchanges e s.runs says;
   given_is = g ∙ (ap (λ (x : List Given). x ++ new) s.given_is ∙ append_assoc given0 s.more new);
   noted = noted_more s.more new ∙ (ap (λ (x : List Event). x ++ noted_in new) s.noted ∙ (ap (λ (x : List Event). notes_in d s.exchanges ++ x) n ∙ sym (notes_more d s.exchanges e)));
-  talk = λ rest.
-      ap (λ (x : List Event). talk_run d (Between (asked1 ++ (ahead1 ++ rest))) x) (notes_more d s.exchanges e)
-      ∙ (talk_more d (Between (asked1 ++ (ahead1 ++ rest))) (talk_now line.session aborted late (ahead ++ rest)) (notes_in d s.exchanges) (notes_of d e) (ap (λ (x : List ℕ). talk_run d (Between x) (notes_in d s.exchanges)) (sym (append_assoc asked1 ahead1 rest) ∙ (ap (λ (x : List ℕ). x ++ rest) (sym same) ∙ append_assoc asked ahead rest)) ∙ s.talk rest) ∙ moves rest);
+  talk = λ rest. leads_more d (Between (asked1 ++ (ahead1 ++ rest))) (talk_now line.session aborted late (ahead ++ rest)) (talk_now line1.session aborted1 late1 (ahead1 ++ rest)) s.exchanges e
+      (leads_from d (asked ++ (ahead ++ rest)) (asked1 ++ (ahead1 ++ rest)) s.exchanges (talk_now line.session aborted late (ahead ++ rest)) (sym (append_assoc asked ahead rest) ∙ (ap (λ (x : List ℕ). x ++ rest) same ∙ append_assoc asked1 ahead1 rest)) (s.talk rest)) (fits rest) (moves rest);
 }
 
 -- closings alone
@@ -99,7 +112,7 @@ serves_past d paths line0 given0 asked p line given aborted late stays s = recor
   runs = s.runs;
   given_is = s.given_is;
   noted = s.noted;
-  talk = λ rest. ap (λ (x : List ℕ). talk_run d (Between x) (notes_in d s.exchanges)) (append_assoc asked (p ∷ []) rest) ∙ (s.talk rest ∙ ap Some (stays rest));
+  talk = λ rest. subst (λ (x : Talk). LeadsTo d (Between ((asked ++ p ∷ []) ++ rest)) s.exchanges x) (stays rest) (leads_from d (asked ++ p ∷ rest) ((asked ++ p ∷ []) ++ rest) s.exchanges (talk_now line.session aborted late (p ∷ rest)) (sym (append_assoc asked (p ∷ []) rest)) (s.talk rest));
 }
 
 -- openings
@@ -125,32 +138,39 @@ opened_moves d p rest caps s e = one_step d (Between (p ∷ rest)) _ (event.Open
 pub refused_moves : (d : ℕ) (p : ℕ) (rest : List ℕ) (o : OpenCause) → is_good_opening o ≡ true → talk_run d (talk_now None false [] (p ∷ rest)) (event.OpenFailed p o ∷ []) ≡ Some (talk_now None false [] rest)
 refused_moves d p rest o good = one_step d (Between (p ∷ rest)) (Between rest) (event.OpenFailed p o) refl (given_true _ _ (and_true _ _ (self p) good))
 
+-- where no session is open
+fits_none : (o : Option SessionSeen) (p : ℕ) (late rest : List ℕ) (e : Exchange) → o ≡ None → FitsTalk (Between (p ∷ rest)) e → FitsTalk (talk_now o false late (p ∷ rest)) e
+fits_none o p late rest e none h = subst (λ (x : Option SessionSeen). FitsTalk (talk_now x false late (p ∷ rest)) e) (sym none) h
+
+fits_as : (p : ℕ) (rest : List ℕ) (e f : Exchange) → e ≡ f → FitsTalk (Between (p ∷ rest)) f → FitsTalk (Between (p ∷ rest)) e
+fits_as p rest e f is h = subst (λ (x : Exchange). FitsTalk (Between (p ∷ rest)) x) (sym is) h
+
 -- a session was opened for the path that comes next
 pub opened : (d : ℕ) (paths : Paths) (line0 : LineView) (given0 : List Given) (asked : List ℕ) (p : ℕ) (line line1 : LineView) (given given1 : List Given) (caps : Caps) (e : Exchange)
     → line.session ≡ None → OpenIs p (starts.Live caps) e → Says paths line e line1 → SessionAfter (starts.Live caps) line1.session → given1 ≡ given ++ Noted (event.Opened d caps) ∷ []
     → Serves d paths line0 given0 asked (p ∷ []) line given false [] → Serves d paths line0 given0 asked (p ∷ []) line1 given1 false []
 opened d paths line0 given0 asked p line line1 given given1 caps e none is says there g s =
     serves_more d paths line0 given0 asked (p ∷ []) asked (p ∷ []) line line1 given given1 (Noted (event.Opened d caps) ∷ []) false false [] [] (Opening p (Good caps)) s
-    (subst (λ (x : Exchange). Says paths line x line1) is says) g refl refl (λ rest. rw (none, there.1) (opened_moves d p rest caps there.0 there.3))
+    (subst (λ (x : Exchange). Says paths line x line1) is says) g refl refl (λ rest. fits_none line.session p [] rest (Opening p (Good caps)) none refl) (λ rest. rw (none, there.1) (opened_moves d p rest caps there.0 there.3))
 
 past_open : (d : ℕ) (paths : Paths) (line0 : LineView) (given0 : List Given) (asked : List ℕ) (p : ℕ) (line line1 : LineView) (given given1 : List Given) (o : OpenCause) (e : Exchange)
-    → line.session ≡ None → notes_of d e ≡ event.OpenFailed p o ∷ [] → is_good_opening o ≡ true → Says paths line e line1 → line1.session ≡ None → given1 ≡ given ++ Noted (event.OpenFailed p o) ∷ []
+    → line.session ≡ None → notes_of d e ≡ event.OpenFailed p o ∷ [] → ((rest : List ℕ) → FitsTalk (Between (p ∷ rest)) e) → is_good_opening o ≡ true → Says paths line e line1 → line1.session ≡ None → given1 ≡ given ++ Noted (event.OpenFailed p o) ∷ []
     → Serves d paths line0 given0 asked (p ∷ []) line given false [] → Serves d paths line0 given0 (asked ++ p ∷ []) [] line1 given1 false []
-past_open d paths line0 given0 asked p line line1 given given1 o e none is good says there g s =
+past_open d paths line0 given0 asked p line line1 given given1 o e none is fits good says there g s =
     serves_more d paths line0 given0 asked (p ∷ []) (asked ++ p ∷ []) [] line line1 given given1 (Noted (event.OpenFailed p o) ∷ []) false false [] [] e s
-    says g (sym is) (sym (append-nil (asked ++ p ∷ []))) (λ rest. rw (none, there, is) (refused_moves d p rest o good))
+    says g (sym is) (sym (append-nil (asked ++ p ∷ []))) (λ rest. fits_none line.session p [] rest e none (fits rest)) (λ rest. rw (none, there, is) (refused_moves d p rest o good))
 
 pub not_opened : (d : ℕ) (paths : Paths) (line0 : LineView) (given0 : List Given) (asked : List ℕ) (p : ℕ) (line line1 : LineView) (given given1 : List Given) (o : OpenCause) (e : Exchange)
     → line.session ≡ None → OpenIs p (starts.Failed o) e → Says paths line e line1 → line1.session ≡ None → given1 ≡ given ++ Noted (event.OpenFailed p o) ∷ []
     → Serves d paths line0 given0 asked (p ∷ []) line given false [] → Serves d paths line0 given0 (asked ++ p ∷ []) [] line1 given1 false []
 not_opened d paths line0 given0 asked p line line1 given given1 opening.NotStarted e none is says there g s =
-    past_open d paths line0 given0 asked p line line1 given given1 opening.NotStarted e none (ap (notes_of d) is) refl says there g s
+    past_open d paths line0 given0 asked p line line1 given given1 opening.NotStarted e none (ap (notes_of d) is) (λ rest. fits_as p rest e (NoStart p) is tt) refl says there g s
 not_opened d paths line0 given0 asked p line line1 given given1 (opening.Broken c) e none is says there g s =
-    past_open d paths line0 given0 asked p line line1 given given1 (opening.Broken c) e none (ap (notes_of d) is.0) is.1 says there g s
+    past_open d paths line0 given0 asked p line line1 given given1 (opening.Broken c) e none (ap (notes_of d) is.0) (λ rest. fits_as p rest e (Opening p (Broke c)) is.0 refl) is.1 says there g s
 not_opened d paths line0 given0 asked p line line1 given given1 opening.NoMemory e none (inl is) says there g s =
-    past_open d paths line0 given0 asked p line line1 given given1 opening.NoMemory e none (ap (notes_of d) is) refl says there g s
+    past_open d paths line0 given0 asked p line line1 given given1 opening.NoMemory e none (ap (notes_of d) is) (λ rest. fits_as p rest e (NoRoom p) is tt) refl says there g s
 not_opened d paths line0 given0 asked p line line1 given given1 opening.NoMemory e none (inr is) says there g s =
-    past_open d paths line0 given0 asked p line line1 given given1 opening.NoMemory e none (ap (notes_of d) is) refl says there g s
+    past_open d paths line0 given0 asked p line line1 given given1 opening.NoMemory e none (ap (notes_of d) is) (λ rest. fits_as p rest e (Opening p OutOfMemory) is refl) refl says there g s
 
 -- first requests
 
@@ -189,7 +209,7 @@ pub asked_first : (d : ℕ) (paths : Paths) (line0 : LineView) (given0 : List Gi
     → Serves d paths line0 given0 asked (p ∷ []) line given false late → Serves d paths line0 given0 (asked ++ p ∷ []) [] line1 given1 (is_abort r) (late_after p r late)
 asked_first d paths line0 given0 asked p line line1 given given1 s late r content is smudge may goes says g h =
     serves_more d paths line0 given0 asked (p ∷ []) (asked ++ p ∷ []) [] line line1 given given1 (Noted (event.Answered p r) ∷ []) false (is_abort r) late (late_after p r late) (First p r content) h
-    says g refl (sym (append-nil (asked ++ p ∷ []))) (λ rest. rw is (first_moves d p rest s late r line1.session smudge may goes))
+    says g refl (sym (append-nil (asked ++ p ∷ []))) (λ rest. tt) (λ rest. rw is (first_moves d p rest s late r line1.session smudge may goes))
 
 -- closings
 not_noted : (g : Given) → ends_card g ≡ true → noted_in (g ∷ []) ≡ []

@@ -29,13 +29,17 @@ abbrev pub AreApart : List ℕ → Type 0
 AreApart [] = Unit {0}
 AreApart (p ∷ ps) = (contains p ps ≡ false) × AreApart ps
 
--- The talk goes on in rounds: these cards are late or listed, and of the listed ones these are still to be asked for
--- again.
--- Or it is over, and no session is open.
+-- The cards are of the paths that are late in the talk, and of those that were listed and not asked for again.
+pub record AreWaiting (cards late turns : List ℕ) : Type 0 where
+  pub each : (q : ℕ) → contains q cards ≡ true → (contains q late ≡ true) ⊎ (contains q turns ≡ true)
+  pub kept : (q : ℕ) → contains q late ≡ true → (contains q cards ≡ true) × (contains q turns ≡ false)
+
+-- The talk goes on in rounds: these cards wait, and of the listed ones these are still to be asked for again. Or it is
+-- over, and no session is open.
 abbrev pub InRounds : ℕ → Paths → LineView → List Given → List ℕ → LineView → List Given → List ℕ → List ℕ → Type 0
 InRounds d paths line0 given0 asked line given cards turns =
     (delay : Bool) × (late : List ℕ) × Talks d paths line0 given0 asked line given (round_of delay false late turns)
-    × ((q : ℕ) → contains q cards ≡ true → (contains q late ≡ true) ⊎ (contains q turns ≡ true))
+    × AreWaiting cards late turns
 
 abbrev pub TalkOver : ℕ → Paths → LineView → List Given → List ℕ → LineView → List Given → Type 0
 TalkOver d paths line0 given0 asked line given = (t : Talk) × Talks d paths line0 given0 asked line given t × IsOver t
@@ -91,9 +95,10 @@ abbrev pub IsNext : Option SessionSeen → Type 0
 IsNext None = Unit {0}
 IsNext (Some s) = (s.standing ≡ standing.Live) × (s.caps.smudge ≡ true)
 
--- the card of a listed path left the cards
-abbrev pub RedoneCards : List ℕ → ℕ → List ℕ → Type 0
-RedoneCards cards p left = (q : ℕ) → contains q left ≡ true → (contains q cards ≡ true) × ((q == p) ≡ false)
+-- the card of this path left the others
+pub record RedoneCards (cards : List ℕ) (p : ℕ) (left : List ℕ) : Type 0 where
+  pub were : (q : ℕ) → contains q left ≡ true → (contains q cards ≡ true) × ((q == p) ≡ false)
+  pub stay : (q : ℕ) → contains q cards ≡ true → (q == p) ≡ false → contains q left ≡ true
 
 -- where a session is open, nothing that was listed is left to be asked for again
 abbrev pub TurnsBy : Option SessionSeen → List ℕ → Type 0

@@ -8,13 +8,13 @@ use Rattle.convert_plan.specs.Card.{CardSeen}
 use Rattle.filter_proto.specs.declared.session.Standing.TheVariants as standing
 use Rattle.filter_words.specs.declared.reply.Reply.{Reply}
 use Rattle.filter_words.specs.declared.reply.Reply.TheVariants as reply
-use Rattle.checkout_core.specs.Talks.{talk_run}
-use Rattle.driver_line.specs.Conversations.{Exchange, notes_in}
+use Rattle.driver_line.specs.Conversations.{Exchange, notes_in, LeadsTo}
 use Rattle.driver_line.specs.Lines.{LineView, Paths, RunsTo}
 use Rattle.checkout_core.specs.Transcripts.{Item}
 use Rattle.checkout_core.specs.Transcripts as result
 use Rattle.driver_line.specs.Transcripts.{IsTalk}
-use Rattle.edge_kit.specs.Starters.{Had}
+use Rattle.driver_line.specs.ToldStarts.{GoBy}
+use Rattle.edge_kit.specs.Starters.{Had, StarterSeen}
 
 -- what a recorder was given
 pub data Given : Type 0 where
@@ -45,9 +45,7 @@ IsClosing old new = (g : Given) × (new ≡ old ++ g ∷ []) × (ends_card g ≡
 abbrev pub AreClosings : List Given → List Given → Type 0
 AreClosings old new = (more : List Given) × (new ≡ old ++ more) × (noted_in more ≡ [])
 
--- Exchanges led from one view of the line to another, their notes were given, and over these paths they are a talk
--- that
--- has come to `t`.
+-- Exchanges led from one view of the line to another, their notes were given, and over these paths they lead to `t`.
 pub record Talks (d : ℕ) (paths : Paths) (line0 : LineView) (given0 : List Given) (asked : List ℕ) (line : LineView)
     (given : List Given) (t : Talk) : Type 0 where
   pub exchanges : List Exchange
@@ -55,7 +53,7 @@ pub record Talks (d : ℕ) (paths : Paths) (line0 : LineView) (given0 : List Giv
   pub runs : RunsTo paths line0 exchanges line
   pub given_is : given ≡ given0 ++ more
   pub noted : noted_in more ≡ notes_in d exchanges
-  pub talk : talk_run d (Between asked) (notes_in d exchanges) ≡ Some t
+  pub talk : LeadsTo d (Between asked) exchanges t
 
 -- where the talk is, while cards are served: these are late in the open session, and `rest` is still to come
 abbrev pub talk_in : SessionSeen → List ℕ → List ℕ → Talk
@@ -82,7 +80,7 @@ pub record Serves (d : ℕ) (paths : Paths) (line0 : LineView) (given0 : List Gi
   pub runs : RunsTo paths line0 exchanges line
   pub given_is : given ≡ given0 ++ more
   pub noted : noted_in more ≡ notes_in d exchanges
-  pub talk : (rest : List ℕ) → talk_run d (Between (asked ++ (ahead ++ rest))) (notes_in d exchanges) ≡ Some
+  pub talk : (rest : List ℕ) → LeadsTo d (Between (asked ++ (ahead ++ rest))) exchanges
       (talk_now line.session aborted late (ahead ++ rest))
 
 -- the paths of cards in the order in which they became late, the newest first
@@ -109,16 +107,18 @@ late_after p reply.Abort late = []
 late_after p (reply.Broken why) late = []
 late_after p reply.NoMemory late = []
 
--- A desk has served: what its starter keeps grew by a talk, and its recorder was given just the talk's notes. The
--- results
--- of the talk are a whole talk, case by case.
-pub record IsServed (d : ℕ) (paths : Paths) (asked : List ℕ) (had0 had : List Had)
+-- A desk has served: what its starter keeps grew by a talk that goes by the starts that it tells, and as many of its
+-- links are out as before. Its recorder was given just the talk's notes. The results of the talk are a whole talk,
+-- case by case.
+pub record IsServed (d : ℕ) (paths : Paths) (asked : List ℕ) (starter0 starter : StarterSeen)
     (given0 given : List Given) : Type 0 where
   pub items : List Had
   pub exchanges : List Exchange
   pub results : List Item
   pub more : List Given
-  pub kept : had ≡ had0 ++ items
+  pub kept : starter.had ≡ starter0.had ++ items
+  pub starts : GoBy starter0.ahead items starter.ahead
+  pub links : starter.out ≡ starter0.out
   pub talk : IsTalk d paths asked items exchanges
   pub whole : result.IsTalk asked results
   pub same : result.notes_of d results ≡ notes_in d exchanges

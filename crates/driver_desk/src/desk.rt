@@ -16,7 +16,7 @@ use crate::rounds::end_talk;
 use crate::serving::{Seat, serve_one};
 use convert_plan::Card;
 use core_laws::laws::a_talk_is_a_transcript;
-use driver_line::{Line, exchanges_are_spelled};
+use driver_line::{Line, exchanges_are_spelled, exchanges_go_by_the_starts, links_are_given_back};
 use edge_kit::{Blob, Gate, Leaf, Starter};
 use std::alloc::{AllocError, Global};
 use std::collections::VecDeque;
@@ -163,10 +163,12 @@ impl<S: Starter, B: Blob, L: Leaf> Desk<S, B, L> {
         requires few { length self.starter.had + length self.cards < 2 ^ 32 }
         ensures served { (works : List WorkSeen) × (self.cards ≡ cards_in works) × AreRead works
             × ((paths : Paths) → FitAll paths works
-            → IsServed self.driver paths (asked_in works) self.starter.had (S.seen result.starter).had
+            → IsServed self.driver paths (asked_in works) self.starter (S.seen result.starter)
             (C.given recorder.old) (C.given recorder.new)) }
     {
         exchanges_are_spelled();
+        exchanges_go_by_the_starts();
+        links_are_given_back();
         a_talk_is_a_transcript();
         let Desk {
             alloc,

@@ -191,11 +191,13 @@ impl<B: Blob, L: Leaf> Late<B, L> {
             (names_in self.old.numbers self.new.table.turns result) result) line.new }
         ensures names { NamesAre (paths_of (cards_of self.old))
             (names_in self.old.numbers self.new.table.turns result) result }
+        ensures slate { late_in self.old.numbers self.old.table.places ≡ paths_of (cards_of self.old) }
         ensures goes { (s : SessionSeen) → line.old.session ≡ Some s
             → GoesOn s (list_standing result) line.new.session }
         ensures cards { cards_of self.new ≡ cards_of self.old }
         ensures kept { KeepsNames self.old self.new }
     {
+        let _ = self.table.listed();
         line.list(&mut self.table, &self.numbers)
     }
 }

@@ -11,8 +11,7 @@ use Rattle.filter_words.specs.declared.reply.BreakCause.TheVariants as cause
 use Rattle.filter_words.specs.declared.reply.Caps.{Caps}
 use Rattle.filter_words.specs.declared.handshake.HandshakePhase.{HandshakePhase}
 use Rattle.filter_words.specs.declared.handshake.HandshakePhase.TheVariants.{Server, Version, EndOfHello, Capabilities}
-use Rattle.filter_words.specs.declared.answer_state.AnswerState.{AnswerState}
-use Rattle.filter_words.specs.declared.answer_state.AnswerState.TheVariants.{On, Done, Broken, Late}
+use Rattle.filter_words.specs.declared.answer_state.AnswerState.TheVariants.{On, Broken}
 use Rattle.edge_kit.specs.Starters.{SessionHad}
 use Rattle.filter_proto.specs.Wires.{Wire}
 use Rattle.filter_proto.specs.Exchanges.{Ends, Good, Broke, OutOfMemory, IsHeard}

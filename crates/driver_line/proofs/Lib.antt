@@ -6,3 +6,6 @@ pub mod Effects
 pub mod Failed
 pub mod Matching
 pub mod Lists
+pub mod Links
+pub mod ToldStarts
+pub mod Examples

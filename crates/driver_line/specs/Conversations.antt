@@ -1,5 +1,5 @@
 -- A driver's talk as its exchanges, one after another, and what is noted of each.
-use Rattle.std.specs.Prelude.{ℕ, List, [], ◌∷◌, ◌++◌, map}
+use Rattle.std.specs.Prelude.{◌≡◌, ℕ, List, [], ◌∷◌, ◌++◌, map, Some}
 use Rattle.filter_words.specs.declared.reply.Caps.{Caps}
 use Rattle.filter_words.specs.declared.reply.Reply.{Reply}
 use Rattle.filter_words.specs.declared.reply.ListReply.{ListReply}
@@ -8,6 +8,7 @@ use Rattle.filter_proto.specs.Exchanges.{Ends, Good, Broke, OutOfMemory}
 use Rattle.checkout_core.specs.declared.event.OpenCause.TheVariants as opening
 use Rattle.checkout_core.specs.declared.event.Event.{Event}
 use Rattle.checkout_core.specs.declared.event.Event.TheVariants as event
+use Rattle.checkout_core.specs.Talks.{Talk, Between, InRound, contains, talk_run}
 
 -- a start that gave no session, or an exchange of a session, with the path that it is for
 pub data Exchange : Type 0 where
@@ -42,3 +43,24 @@ notes_of d Shutting = event.Shut d ∷ []
 abbrev pub notes_in : ℕ → List Exchange → List Event
 notes_in d [] = []
 notes_in d (e ∷ es) = notes_of d e ++ notes_in d es
+
+-- the path comes next in the talk
+abbrev pub IsNextIn : ℕ → Talk → Type 0
+IsNextIn p (Between (q ∷ rest)) = p ≡ q
+IsNextIn p t = ⊥
+
+-- the paths that are late in the talk
+abbrev pub late_of : Talk → List ℕ
+late_of (InRound r) = r.late
+late_of t = []
+
+-- What the notes don't tell: an opening is for the path that comes next, and a list may name the paths that are late.
+abbrev pub FitsTalk : Talk → Exchange → Type 0
+FitsTalk t (Opening p end) = IsNextIn p t
+FitsTalk t (Listing late names r) = (q : ℕ) → contains q late ≡ contains q (late_of t)
+FitsTalk t e = Unit {0}
+
+-- the exchanges lead from one talk to another: each fits the talk, which goes on by its notes
+abbrev pub LeadsTo : ℕ → Talk → List Exchange → Talk → Type 0
+LeadsTo d t [] u = t ≡ u
+LeadsTo d t (e ∷ es) u = (mid : Talk) × FitsTalk t e × (talk_run d t (notes_of d e) ≡ Some mid) × LeadsTo d mid es u

@@ -1,3 +1,4 @@
 pub mod Conversations
 pub mod Lines
 pub mod Transcripts
+pub mod ToldStarts

@@ -20,9 +20,9 @@ use Rattle.filter_proto.specs.Exchanges.{Ends, Good, Broke, OutOfMemory}
 use Rattle.filter_proto.specs.Replies.{reply_end}
 use Rattle.filter_proto.specs.Openings.{BeginsHello}
 use Rattle.checkout_core.specs.Talks.{Talk, Between}
-use Rattle.checkout_core.specs.Talks.{talk_run, IsOver}
-use Rattle.driver_line.specs.Conversations.{notes_in, Exchange, NoStart, NoRoom, Opening, First, Listing, Second}
-use Rattle.driver_line.specs.Conversations.{Shutting}
+use Rattle.checkout_core.specs.Talks.{IsOver}
+use Rattle.driver_line.specs.Conversations.{Exchange, NoStart, NoRoom, Opening, First, Listing, Second}
+use Rattle.driver_line.specs.Conversations.{Shutting, LeadsTo}
 use Rattle.filter_proto.specs.Wires.{Wire}
 use Rattle.filter_proto.specs.Openings.{IsOpening}
 use Rattle.driver_line.specs.Lines.{LineView, Paths, HasContent, ListIs, IsFresh}
@@ -169,14 +169,13 @@ Matches paths es (StartOutOfMemory ∷ hs) = (p : ℕ) × (rest : List Exchange)
 Matches paths es (Session seen ∷ hs) = (p : ℕ) × (end : Ends Caps) × (own : List Exchange) × (rest : List Exchange)
     × (es ≡ Opening p end ∷ (own ++ rest)) × IsSession paths end own seen × Matches paths rest hs
 
--- A talk with the driver d over these paths: the sessions and the starts that gave none spell exchanges, whose notes
--- are a
--- talk that has come to its end.
+-- A talk with the driver d over these paths: the sessions and the starts that gave none spell exchanges, which lead
+-- a talk over the asked paths to its end.
 pub record IsTalk (d : ℕ) (paths : Paths) (asked : List ℕ) (items : List Had)
     (exchanges : List Exchange) : Type 0 where
   pub spells : Matches paths exchanges items
   pub end : Talk
-  pub goes : talk_run d (Between asked) (notes_in d exchanges) ≡ Some end
+  pub goes : LeadsTo d (Between asked) exchanges end
   pub over : IsOver end
 
 -- A run of a line that ends with no session open spells the items by which what its starter keeps grew.

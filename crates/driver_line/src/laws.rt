@@ -1,11 +1,26 @@
-ghost use Rattle.std.specs.Prelude.{◌≡◌, List, None};
+ghost use Rattle.std.specs.Prelude.{◌≡◌, ◌++◌, List, None};
+ghost use Rattle.edge_kit.specs.Starters.{Had};
 ghost use Rattle.driver_line.specs.Conversations.{Exchange};
 ghost use Rattle.driver_line.specs.Lines.{LineView, Paths, RunsTo};
+ghost use Rattle.driver_line.specs.ToldStarts.{GoBy};
 ghost use Rattle.driver_line.specs.Transcripts.{HasItems};
 
-// The exchanges of a line, from where no session is open to where none is, are spelled by the sessions and the failed
+/// The exchanges of a line, from where no session is open to where none is, are spelled by the sessions and the failed
 /// starts that its starter keeps.
 pub fn exchanges_are_spelled()
     ensures { (paths : Paths) (v w : LineView) (es : List Exchange) → v.session ≡ None → w.session ≡ None
         → RunsTo paths v es w → HasItems paths v es w }
+{}
+
+/// Where no session is open before the exchanges of a line and none after them, as many links of its starter are out.
+pub fn links_are_given_back()
+    ensures { (paths : Paths) (v w : LineView) (es : List Exchange) → v.session ≡ None → w.session ≡ None
+        → RunsTo paths v es w → w.starter.out ≡ v.starter.out }
+{}
+
+/// What the starter of a line keeps of the exchanges goes by the starts that it tells.
+pub fn exchanges_go_by_the_starts()
+    ensures { (paths : Paths) (v w : LineView) (es : List Exchange) (items : List Had) → v.session ≡ None
+        → w.session ≡ None → RunsTo paths v es w → w.starter.had ≡ v.starter.had ++ items
+        → GoBy v.starter.ahead items w.starter.ahead }
 {}

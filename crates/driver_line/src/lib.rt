@@ -1,12 +1,11 @@
 //! A driver's line: what starts the driver, and the session that is open, if one is.
 //!
-// ! Each call is one exchange, or the start of a session. A session that is over is ended at once, so there is none,
-// or
+//! Each call is one exchange, or the start of a session. A session that is over is ended at once, so there is none, or
 //! one that can be asked.
 #![tactic(auto)]
 
 mod laws;
 mod line;
 
-pub use laws::exchanges_are_spelled;
+pub use laws::{exchanges_are_spelled, exchanges_go_by_the_starts, links_are_given_back};
 pub use line::{Line, Start};
