@@ -284,16 +284,16 @@ listed_effect paths v w s late names list.Abort a st = inr (record {
   had = ap (λ (x : StarterSeen). x.had) a.after.kept;
   counts = tt;
   shut = a.after.shut ∙ shut_always a.wire.stage;
-  spoken = last_spoken (list_step (map paths.text late)) list_start a.end (λ _. Unit {0}) paths s.caps (Listing late names list.Abort) s.wire a.wire a.after.seen a.exchange (λ used rest part. (a.end, a.is, part)) (λ u. absurd (subst (λ (end : Ends GoodList). Unsent s.wire a.wire end) a.is u)) a.after.sent a.after.taken;
+  spoken = last_spoken (list_step (map paths.text late)) list_start a.end (λ _. Unit {0}) paths s.caps (Listing late names list.Abort) s.wire a.wire a.after.seen a.exchange (λ used rest part. (a.end, a.is, part)) (λ u. absurd (subst (λ (end : Ends GoodList). Unsent s.wire a.wire end) a.is.0 u)) a.after.sent a.after.taken;
 })
 listed_effect paths v w s late names (list.Broken c) a st = inr (record {
   seen = a.after.seen;
   none = a.after.none;
   had = ap (λ (x : StarterSeen). x.had) a.after.kept;
-  counts = exchange_counts GoodList (list_step (map paths.text late)) (Names []) list_text s.wire a.wire c (λ _. Unit {0}) a.after.seen (list_plain (map paths.text late)) (subst (λ (end : Ends GoodList). IsExchange (list_step (map paths.text late)) list_start list_text s.wire a.wire end (λ _. Unit {0})) a.is a.exchange) a.after.faults a.after.ends;
+  counts = exchange_counts GoodList (list_step (map paths.text late)) (Names []) list_text s.wire a.wire c (λ _. Unit {0}) a.after.seen (list_plain (map paths.text late)) (subst (λ (end : Ends GoodList). IsExchange (list_step (map paths.text late)) list_start list_text s.wire a.wire end (λ _. Unit {0})) a.is.0 a.exchange) a.after.faults a.after.ends;
   shut = a.after.shut ∙ (ap is_shut (exchange_stage _ _ _ _ _ _ _ a.exchange) ∙ ap is_shut st);
   spoken = last_spoken (list_step (map paths.text late)) list_start a.end (λ _. Unit {0}) paths s.caps (Listing late names (list.Broken c)) s.wire a.wire a.after.seen a.exchange (λ used rest part. (a.end, a.is, part))
-      (λ u. inl (ap Some (unsent_link GoodList s.wire a.wire c (subst (λ (end : Ends GoodList). Unsent s.wire a.wire end) a.is u)))) a.after.sent a.after.taken;
+      (λ u. inl (ap Some (unsent_link GoodList s.wire a.wire c (subst (λ (end : Ends GoodList). Unsent s.wire a.wire end) a.is.0 u)))) a.after.sent a.after.taken;
 })
 listed_effect paths v w s late names list.NoMemory a st = inr (record {
   seen = a.after.seen;

@@ -172,9 +172,9 @@ list_is paths numbers delayed s t old new (Good (Listed [])) (inr a) none names 
 list_is paths numbers delayed s t old new (Good (Listed (n ∷ ns))) (inr a) none names =
     let h = turns_of (n ∷ ns) old new a.heard.done in
     ap (λ (x : List (List ℕ)). Good (Listed x)) (sym (ap (λ (x : List ℕ). map paths.text (map (number_at numbers) x)) (all_turns (n ∷ ns) old new none h) ∙ h.texts paths.text numbers names))
-list_is paths numbers delayed s t old new (Good Aborted) (inr a) none names = refl
-list_is paths numbers delayed s t old new (Broke why) x none names = refl
-list_is paths numbers delayed s t old new OutOfMemory x none names = refl
+list_is paths numbers delayed s t old new (Good Aborted) (inr a) none names = (refl, refl)
+list_is paths numbers delayed s t old new (Broke why) x none names = (refl, refl)
+list_is paths numbers delayed s t old new OutOfMemory x none names = (refl, refl)
 
 pub list_says : (paths : Paths) (numbers : List ℕ) (v w : LineView) (s u : SessionSeen) (old new : Table) (r : ListReply) → v.session ≡ Some s → s.standing ≡ standing.Live → old.turns ≡ [] → old.names ≡ map paths.text numbers
     → IsListExchange s.wire u.wire old new r → After v s u.wire (list_standing r) w → Says paths v (Listing (late_in numbers old.places) (names_in numbers new.turns r) r) w

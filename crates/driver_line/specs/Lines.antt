@@ -87,13 +87,13 @@ pub record IsAsked (d : Bool) (text : List ℕ) (old : LineView) (s : SessionSee
   pub exchange : IsExchange (reply_step d) reply_start text s.wire wire (reply_end r) (HasContent d content)
   pub after : After old s wire (standing_after r) new
 
--- what came of a list, by the paths that are named
+-- what came of a list, by the paths that are named: a list that ends its session names none
 abbrev pub ListIs : Paths → List ℕ → ListReply → Ends GoodList → Type 0
 ListIs paths names (list.Names n) end = end ≡ Good (Listed (map paths.text names))
 ListIs paths names list.Empty end = (end ≡ Good (Listed [])) × (names ≡ [])
-ListIs paths names list.Abort end = end ≡ Good Aborted
-ListIs paths names (list.Broken why) end = end ≡ Broke why
-ListIs paths names list.NoMemory end = end ≡ OutOfMemory
+ListIs paths names list.Abort end = (end ≡ Good Aborted) × (names ≡ [])
+ListIs paths names (list.Broken why) end = (end ≡ Broke why) × (names ≡ [])
+ListIs paths names list.NoMemory end = (end ≡ OutOfMemory) × (names ≡ [])
 
 -- a session after a list: it is shut after an empty one
 abbrev pub list_standing : ListReply → Standing
