@@ -1,0 +1,232 @@
+-- A book with a path for any actor, and a path of a driver that can't be started.
+use Rattle.std.proofs.Common.{◌≡◌, ℕ, zero, suc, true, false, List, [], ◌∷◌, ◌++◌, length}
+use Rattle.std.proofs.Common.{length-append, map, Some, None, refl, sym, ap, ◌∙◌, subst, arith}
+use Rattle.std.proofs.lemmas.List.{append-nil}
+use Rattle.std.specs.Prelude.{slice_get}
+use Rattle.std.specs.Global.{Vec}
+use Rattle.atomic_table.specs.Seated.{TableId}
+use Rattle.turn_lock.specs.History.{own}
+use Rattle.turn_lock.specs.Seat.{SeatView, seen_of, mine_of}
+use Rattle.convert_plan.specs.declared.card.Card.{Card}
+use Rattle.convert_plan.specs.Card.{CardSeen, IsNewCard, IsRefusedCard}
+use Rattle.checkout_core.specs.declared.verdict.FilterCause.TheVariants as cause
+use Rattle.checkout_core.specs.declared.event.Event.{Event}
+use Rattle.checkout_core.specs.declared.event.Event.TheVariants.{OpenFailed, HandBack}
+use Rattle.checkout_core.specs.declared.event.OpenCause.TheVariants.{NotStarted}
+use Rattle.checkout_core.specs.declared.path.Heard.TheVariants.{Refused}
+use Rattle.checkout_core.specs.declared.path.PathState.TheVariants.{Waiting, Heard}
+use Rattle.checkout_core.specs.declared.path.Start.{Start}
+use Rattle.checkout_core.specs.declared.path.Start.TheVariants.{Pool, Desk}
+use Rattle.checkout_core.specs.declared.driver.DriverState.TheVariants.{Off}
+use Rattle.checkout_core.specs.States.{Core, AreBelow, start}
+use Rattle.checkout_core.specs.Steps.{IsLegal, replay}
+use Rattle.checkout_core.specs.Actors.{actor_of, is_claim, is_step, own_entries}
+use Rattle.checkout_core.specs.Hands.{held_at}
+use Rattle.checkout_core.specs.Desks.{MayNext}
+use Rattle.checkout_book.specs.declared.plan.Plan.{Plan}
+use Rattle.checkout_book.specs.declared.plan.Entry.{Entry}
+use Rattle.checkout_book.specs.Sights.{Sight, seen}
+use Rattle.checkout_book.specs.Entries.{events_of}
+use Rattle.checkout_book.specs.Shelves.{joined, cards_of, IsRefused}
+use Rattle.checkout_book.specs.Passes.{IsPass, Notes, note_entry}
+use Rattle.checkout_book.specs.Reserving.{ArePool, AreNew, AreIdle, AreFresh, HasNothing}
+use Rattle.book_bench.specs.Pairs.{two, IsFirst}
+
+-- the law of core_laws on what may follow an actor's own entries
+abbrev pub MayFollow : Type 0
+MayFollow = (starts : List Start) (workers drivers a : ℕ) (history : List Event) (x : Core) (e : Event)
+    → IsLegal starts workers drivers history x → actor_of starts workers e ≡ Some a
+    → MayNext starts workers drivers (own_entries starts workers a history) e → is_claim e ≡ false
+    → is_step x e ≡ true
+
+-- the law of checkout_book on a pass's own list
+abbrev pub ListsOwn : (B L : Type 0) → Type 0
+ListsOwn B L = (lock : TableId) (d : Plan B L) (n made : ℕ) (pass : SeatView Entry (Plan B L)) (c : Core)
+    → IsPass lock d n made pass c
+    → own_entries d.starts.items d.workers n (events_of (seen_of pass)) ≡ map (λ e. e.event) (mine_of pass)
+
+abbrev pub not_started : Event
+not_started = OpenFailed 1 NotStarted
+
+-- the core after it
+abbrev refused : Core
+refused = record {
+  workers = 1;
+  drivers = Off ∷ [];
+  paths = record { start = Pool; state = Waiting None }
+      ∷ record { start = Desk 0 false; state = Heard (Refused cause.NotStarted) } ∷ [];
+}
+
+pub below_two : AreBelow 1 two
+below_two zero d required at = absurd (cc (at))
+below_two (suc zero) d required at = let e : 0 ≡ d = cc (at) in omega (arith, e)
+below_two (suc (suc p)) d required at = absurd (cc (at))
+
+may_after : MayNext two 1 1 (not_started ∷ []) (HandBack 1)
+may_after = (refused, refl, refl, (refl, tt), below_two)
+
+module _ {B L : Type 0} (lock : TableId) (d : Plan B L) (made : ℕ) (s : SeatView Entry (Plan B L))
+    (f : IsFirst lock d made s) where
+  pub by_desk : (e : Event) → actor_of two 1 e ≡ Some 1 → actor_of d.starts.items d.workers e ≡ Some 1
+  by_desk e h = let same : actor_of d.starts.items d.workers e ≡ actor_of two 1 e = λ i. actor_of (f.starts i)
+      (f.workers i) e in same ∙ h
+
+  first_core : (c : Core) → IsPass lock d 1 made s c → start two 1 1 ≡ c
+  first_core c pass =
+      let same : replay (start d.starts.items d.workers d.drivers) (events_of (seen_of s))
+      ≡ replay (start two 1 1) [] = λ i. replay (start (f.starts i) (f.workers i) (f.drivers i))
+      (events_of (f.fresh i)) in
+      let is : Some (start two 1 1) ≡ Some c = sym same ∙ pass.reads.run in
+      cc (is)
+
+  -- the driver's first start may fail
+  pub may_fail : (c : Core) → IsPass lock d 1 made s c → is_step c not_started ≡ true
+  may_fail c pass = subst (λ (x : Core). is_step x not_started ≡ true) (first_core c pass) refl
+
+  -- and then the path may be handed back
+  pub may_hand_back : MayFollow → ListsOwn B L → (new : SeatView Entry (Plan B L)) (c : Core) (t : Notes lock d 1 made s new c not_started)
+      → IsPass lock d 1 made s c → (p : ℕ) → p ≡ 1 → is_step t.core (HandBack p) ≡ true
+  may_hand_back law lists new c t pass p is =
+      let now = t.turn.pass in
+      let none : mine_of s ≡ [] = pass.seat.receipts ∙ ap (own 1) f.fresh in
+      let mine : mine_of new ≡ note_entry not_started ∷ [] = t.mine ∙ ap (λ l. l ++ note_entry not_started ∷ []) none in
+      let given : own_entries d.starts.items d.workers 1 (events_of (seen_of new)) ≡ not_started ∷ [] =
+      lists lock d 1 made new t.core now ∙ ap (map (λ e. e.event)) mine in
+      let next : MayNext d.starts.items d.workers d.drivers
+      (own_entries d.starts.items d.workers 1 (events_of (seen_of new))) (HandBack 1) =
+      subst (λ (l : List Event). MayNext d.starts.items d.workers d.drivers l (HandBack 1)) (sym given)
+      (subst (λ (ss : List Start). MayNext ss d.workers d.drivers (not_started ∷ []) (HandBack 1)) (sym f.starts)
+      (subst (λ (w : ℕ). MayNext two w d.drivers (not_started ∷ []) (HandBack 1)) (sym f.workers)
+      (subst (λ (r : ℕ). MayNext two 1 r (not_started ∷ []) (HandBack 1)) (sym f.drivers) may_after))) in
+      subst (λ (q : ℕ). is_step t.core (HandBack q) ≡ true) (sym is)
+      (law d.starts.items d.workers d.drivers 1 (events_of (seen_of new)) t.core (HandBack 1) now.reads.run
+      (by_desk (HandBack 1) refl) next refl)
+
+  pub nothing_after : (new last : SeatView Entry (Plan B L)) (c : Core) (t : Notes lock d 1 made s new c not_started)
+      (p : ℕ) → Notes lock d 1 made new last t.core (HandBack p) → ((q : ℕ) → held_at c 1 q ≡ false)
+      → HasNothing lock d 1 made last
+  nothing_after new last c t p u none = (u.core, u.turn.pass, λ q. u.hands q ∙ (t.hands q ∙ none q))
+
+only : {A : Type 0} (xs rest : List A) (x : A) → length xs ≡ 1 → xs ≡ rest ++ x ∷ [] → xs ≡ x ∷ []
+only xs [] x n e = e
+only xs (y ∷ ys) x n e = absurd (omega (arith, n, ap length e, length-append ys (x ∷ [])))
+
+map_length : {A C : Type 0} (f : A → C) (xs : List A) → length (map f xs) ≡ length xs
+map_length f [] = refl
+map_length f (x ∷ xs) = ap suc (map_length f xs)
+
+module _ {B L : Type 0} (see : Sight B L) where
+  -- what a book is reserved for
+  pub record IsPair (d : Plan B L) (a b : Card B L) : Type 0 where
+    pub pool : d.pool.items ≡ a ∷ []
+    pub desks : joined d.desks.items ≡ b ∷ []
+    pub count : length d.desks.items ≡ 1
+    pub starts : d.starts.items ≡ two
+    pub workers : d.workers ≡ 1
+    pub drivers : d.drivers ≡ length d.desks.items
+    pub free : a.path ≡ 0
+    pub filtered : b.path ≡ 1
+    pub free_new : IsNewCard (seen see a)
+    pub filtered_new : IsNewCard (seen see b)
+
+  pub pair_below : (d : Plan B L) (a b : Card B L) → IsPair d a b → AreBelow (length d.desks.items) d.starts.items
+  pair_below d a b is = subst (λ (n : ℕ). AreBelow n d.starts.items) (sym is.count)
+      (subst (AreBelow 1) (sym is.starts) below_two)
+
+  two_pool : (a : Card B L) → a.path ≡ 0 → ArePool two (a ∷ [])
+  two_pool a is = record { there = there; all = all }
+    where
+      there : (k : ℕ) (c : Card B L) → slice_get (a ∷ []) k ≡ Some c → slice_get two c.path ≡ Some Pool
+      there zero c at = let e : a ≡ c = cc (at) in
+          ap (slice_get two) (ap (λ (z : Card B L). z.path) (sym e) ∙ is)
+      there (suc k) c at = absurd (cc (at))
+
+      all : (p : ℕ) → slice_get two p ≡ Some Pool
+          → (k : ℕ) × (c : Card B L) × (slice_get (a ∷ []) k ≡ Some c) × (c.path ≡ p)
+      all zero at = (zero, a, refl, is)
+      all (suc zero) at = absurd (cc (at))
+      all (suc (suc p)) at = absurd (cc (at))
+
+  pub pair_pool : (d : Plan B L) (a b : Card B L) → IsPair d a b → ArePool d.starts.items d.pool.items
+  pair_pool d a b is = subst (λ (ss : List Start). ArePool ss d.pool.items) (sym is.starts)
+      (subst (λ (cs : List (Card B L)). ArePool two cs) (sym is.pool) (two_pool a is.free))
+
+  two_cards : (d : Plan B L) (a b : Card B L) → IsPair d a b → cards_of d ≡ a ∷ b ∷ []
+  two_cards d a b is = λ i. is.pool i ++ is.desks i
+
+  two_new : (a b : Card B L) → IsNewCard (seen see a) → IsNewCard (seen see b) → AreNew see (a ∷ b ∷ [])
+  two_new a b m n zero c at = let e : a ≡ c = cc (at) in subst (λ (z : Card B L). IsNewCard (seen see z)) e m
+  two_new a b m n (suc zero) c at = let e : b ≡ c = cc (at) in subst (λ (z : Card B L). IsNewCard (seen see z)) e n
+  two_new a b m n (suc (suc k)) c at = absurd (cc (at))
+
+  pub pair_new : (d : Plan B L) (a b : Card B L) → IsPair d a b → AreNew see (cards_of d)
+  pair_new d a b is = subst (AreNew see) (sym (two_cards d a b is)) (two_new a b is.free_new is.filtered_new)
+
+  -- the card that the desk has is the second
+  pub pair_refused : (d : Plan B L) (a b c : Card B L) → IsPair d a b → IsRefusedCard (seen see b) (seen see c)
+      → IsRefused see (cards_of d) c
+  pair_refused d a b c is r = (1, b, ap (λ (l : List (Card B L)). slice_get l 1) (two_cards d a b is), r)
+
+  refused_path : (planned card : CardSeen) → IsRefusedCard planned card → card.path ≡ planned.path
+  refused_path planned card r = ap (λ (z : CardSeen). z.path) r.same
+
+  pub pair_path : (d : Plan B L) (a b c : Card B L) → IsPair d a b → IsRefusedCard (seen see b) (seen see c)
+      → c.path ≡ 1
+  pair_path d a b c is r = refused_path (seen see b) (seen see c) r ∙ is.filtered
+
+  one_desk : (vs : List (Vec (Card B L))) (v : Vec (Card B L)) (b : Card B L) → vs ≡ v ∷ [] → joined vs ≡ b ∷ []
+      → v.items ++ [] ≡ b ∷ []
+  one_desk vs v b e j = ap joined (sym e) ∙ j
+
+-- the passes that a book of a pair gives
+pub record Begun {B L : Type 0} (lock : TableId) (d : Plan B L) (made : ℕ) (w p : SeatView Entry (Plan B L))
+    (cs : Vec (Card B L)) (b : Card B L) : Type 0 where
+  pub worker : HasNothing lock d 0 made w
+  pub desk : IsFirst lock d 0 p
+  pub cards : cs.items ++ [] ≡ b ∷ []
+
+module _ {B L : Type 0} (see : Sight B L) (lock : TableId) (d : Plan B L) (made : ℕ) (a b : Card B L)
+    (is : IsPair see d a b) (ws : List (SeatView Entry (Plan B L)))
+    (ds : List (SeatView Entry (Plan B L) × Vec (Card B L))) (count : length ws ≡ 1)
+    (idle : AreIdle lock d 0 made (ws ++ map (λ x. x.0) ds)) (fresh : AreFresh (ws ++ map (λ x. x.0) ds))
+    (decks : map (λ x. x.1) ds ≡ d.desks.items) where
+  pub desk_count : length ds ≡ 1
+  desk_count = sym (map_length (λ (x : SeatView Entry (Plan B L) × Vec (Card B L)). x.1) ds) ∙ (ap length decks ∙ is.count)
+
+  pub begun : (rest : List (SeatView Entry (Plan B L))) (w : SeatView Entry (Plan B L))
+      (left : List (SeatView Entry (Plan B L) × Vec (Card B L))) (p : SeatView Entry (Plan B L)) (cs : Vec (Card B L))
+      → ws ≡ rest ++ w ∷ [] → ds ≡ left ++ (p, cs) ∷ [] → Begun lock d made w p cs b
+  begun rest w left p cs ew ed =
+      let one : ws ≡ w ∷ [] = only ws rest w count ew in
+      let dk : ds ≡ (p, cs) ∷ [] = only ds left (p, cs) desk_count ed in
+      let both : ws ++ map (λ x. x.0) ds ≡ w ∷ p ∷ [] = λ i. one i ++ map (λ x. x.0) (dk i) in
+      let ok = subst (AreIdle lock d 0 made) both idle in
+      let new = subst (λ (l : List (SeatView Entry (Plan B L))). AreFresh l) both fresh in
+      record {
+        worker = ok.0;
+        desk = record {
+          starts = is.starts;
+          workers = is.workers;
+          drivers = is.drivers ∙ is.count;
+          idle = ok.1.0;
+          fresh = new.2.1;
+        };
+        cards = one_desk see d.desks.items cs b (sym decks ∙ ap (map (λ x. x.1)) dk) is.desks;
+      }
+
+-- two passes that have nothing in hand, in order
+module _ {B L : Type 0} where
+  pub both_idle : (lock : TableId) (d : Plan B L) (made : ℕ) (w p : SeatView Entry (Plan B L))
+      (all : List (SeatView Entry (Plan B L))) → HasNothing lock d 0 made w → HasNothing lock d 1 0 p
+      → all ≡ w ∷ p ∷ [] → made ≡ 2 → AreIdle lock d 0 (length all) all
+  both_idle lock d made w p all hw hp e n =
+      subst (λ (l : List (SeatView Entry (Plan B L))). AreIdle lock d 0 (length l) l) (sym e)
+      (subst (λ (m : ℕ). HasNothing lock d 0 m w) n hw, (hp, tt))
+
+-- the last of these cards, which are one
+pub last_card : {A : Type 0} (cs rest : List A) (b x : A) → cs ++ [] ≡ b ∷ [] → cs ≡ rest ++ x ∷ [] → x ≡ b
+last_card cs rest b x one e =
+    let whole : cs ≡ b ∷ [] = sym (append-nil cs) ∙ one in
+    let alone : cs ≡ x ∷ [] = only cs rest x (ap length whole) e in
+    let same : x ∷ [] ≡ b ∷ [] = sym alone ∙ whole in
+    cc (same)

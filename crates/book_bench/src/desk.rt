@@ -1,0 +1,65 @@
+// The turns of a worker, and of the desk of a driver that can't be started.
+ghost use Rattle.std.specs.Prelude.{◌≡◌, ℕ};
+ghost use Rattle.checkout_book.specs.declared.plan.Plan.{Plan};
+ghost use Rattle.checkout_book.specs.Reserving.{HasNothing};
+ghost use Rattle.checkout_book.specs.Shelves.{IsRefused, cards_of};
+ghost use Rattle.checkout_book.specs.Sights.{sight};
+ghost use Rattle.book_bench.specs.Pairs.{IsFirst};
+
+use crate::work::work;
+use checkout_book::book::{Book, Pass, hand_back, note};
+use checkout_core::{Event, OpenCause};
+use convert_plan::Card;
+use core_laws::laws;
+use edge_kit::{Blob, Leaf};
+use std::sync::Wait;
+
+/// Notes that the driver of path 1 can't be started, and hands the path's card back.
+fn give_back<B: Blob, L: Leaf, H: Wait>(
+    rt: &H,
+    book: &Book<B, L>,
+    mut pass: Pass<B, L>,
+    card: Card<B, L>,
+) -> Pass<B, L>
+    requires first { (d : Plan B L) × (made : ℕ) × IsFirst book.now d made pass
+        × IsRefused (sight B.told B.seen L.seen) (cards_of d) card }
+    requires path { card.path ≡ 1 }
+    ensures { (d : Plan B L) (made : ℕ) → IsFirst book.now d made pass
+        → HasNothing book.now d 1 made result }
+{
+    laws::what_may_follow_is_a_step();
+    checkout_book::laws::a_pass_lists_its_own_entries::<B, L>();
+    note(
+        rt,
+        book,
+        &mut pass,
+        Event::OpenFailed {
+            path: 1,
+            cause: OpenCause::NotStarted,
+        },
+    );
+    hand_back(rt, book, &mut pass, card);
+    pass
+}
+
+/// The worker closes what waits, and gets nothing more. Then the desk hands its card back. Now the worker gets that, and
+/// after it the desk gets nothing.
+pub fn turns<B: Blob, L: Leaf, H: Wait>(
+    rt: &H,
+    book: &Book<B, L>,
+    worker: Pass<B, L>,
+    desk: Pass<B, L>,
+    card: Card<B, L>,
+) -> (Pass<B, L>, Pass<B, L>)
+    requires first { (d : Plan B L) × (made : ℕ) × HasNothing book.now d 0 made worker
+        × IsFirst book.now d 0 desk × IsRefused (sight B.told B.seen L.seen) (cards_of d) card }
+    requires path { card.path ≡ 1 }
+    ensures { (d : Plan B L) (made : ℕ) → HasNothing book.now d 0 made worker → IsFirst book.now d 0 desk
+        → HasNothing book.now d 0 made result.0 × HasNothing book.now d 1 0 result.1 }
+{
+    let idle = work(rt, book, worker);
+    let desk = give_back(rt, book, desk, card);
+    let worker = work(rt, book, idle);
+    let desk = work(rt, book, desk);
+    (worker, desk)
+}
