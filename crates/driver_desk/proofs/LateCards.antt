@@ -11,13 +11,13 @@ use Rattle.delay_table.specs.Table.{Table, is_pending, with_place, NoneIsPending
 use Rattle.delay_table.specs.Table as table
 use Rattle.delay_table.specs.declared.place.Place.{Place}
 use Rattle.delay_table.specs.declared.place.Place.TheVariants as place
-use Rattle.driver_line.specs.Lines.{number_at, late_in, names_in, NamesAre, AreDelayed, IsListedTable}
+use Rattle.driver_line.specs.Lines.{Paths, number_at, late_in, names_in, NamesAre, AreDelayed, IsListedTable}
 use Rattle.filter_words.specs.declared.reply.ListReply.{ListReply}
 use Rattle.edge_kit.specs.Files.{IsOpenLeaf}
 use Rattle.edge_kit.specs.declared.leaf_state.LeafState.{LeafState}
 use Rattle.edge_kit.specs.declared.leaf_state.LeafState.TheVariants.{Fresh}
 use Rattle.driver_desk.specs.Rounds.{LateSeen, paths_of, IsTaken, AreApart}
-use Rattle.driver_desk.specs.Late.{LateView, IsLate, AreIdle, filled, cards_of, is_filled, names_at}
+use Rattle.driver_desk.specs.Late.{LateView, IsLate, AreIdle, FitsNames, filled, cards_of, is_filled, names_at}
 
 bool_or : (b : Bool) → (b ≡ true) ⊎ (b ≡ false)
 bool_or true = inl refl
@@ -298,6 +298,14 @@ list_names_now v w numbers turns r e h same given =
     subst (λ (x : LateView). NamesAre (paths_of (cards_of x)) (names_in x.numbers turns r) r) e
     (subst (λ (ns : List ℕ). NamesAre (paths_of (filled v.slots)) (names_in ns turns r) r) same
     (given (paths_of (filled v.slots)) (subst (λ (ns : List ℕ). AreDelayed (paths_of (filled v.slots)) ns v.table) (sym same) (late_delayed v h))))
+
+-- what is said of a list, by the numbers of the view
+pub list_says_now : (paths : Paths) (v w : LateView) (numbers late : List ℕ) (Said : List ℕ → Type 0) → v ≡ w → numbers ≡ v.numbers
+    → (v.table.names ≡ map paths.text numbers → ((q : ℕ) → contains q late ≡ contains q (late_in numbers v.table.places)) → Said numbers)
+    → FitsNames paths w → ((q : ℕ) → contains q late ≡ contains q (late_in w.numbers w.table.places)) → Said w.numbers
+list_says_now paths v w numbers late Said e same given fits slate =
+    subst (λ (x : LateView). FitsNames paths x → ((q : ℕ) → contains q late ≡ contains q (late_in x.numbers x.table.places)) → Said x.numbers) e
+    (λ f k. subst Said same (given (f ∙ ap (λ (ns : List ℕ). map paths.text ns) (sym same)) (λ q. k q ∙ ap (λ (ns : List ℕ). contains q (late_in ns v.table.places)) (sym same)))) fits slate
 
 -- the next listed one
 

@@ -135,9 +135,9 @@ same_bool true b f g = sym (f refl)
 same_bool false true f g = g refl
 same_bool false false f g = refl
 
--- a list may name just the cards, where none is listed
-slate_late : (slate cards late : List ℕ) → slate ≡ cards → AreWaiting cards late [] → (q : ℕ) → contains q slate ≡ contains q late
-slate_late slate cards late e w q = ap (λ (x : List ℕ). contains q x) e ∙ same_bool (contains q cards) (contains q late) (λ k. late_only (w.each q k)) (λ k. (w.kept q k).0)
+-- the late paths are those of the cards, where none is listed
+late_cards : (cards late : List ℕ) → AreWaiting cards late [] → (q : ℕ) → contains q late ≡ contains q cards
+late_cards cards late w q = same_bool (contains q late) (contains q cards) (λ k. (w.kept q k).0) (λ k. late_only (w.each q k))
   where
     late_only : (contains q late ≡ true) ⊎ (contains q [] ≡ true) → contains q late ≡ true
     late_only (inl l) = l
@@ -203,40 +203,40 @@ talks_closed d paths line0 given0 asked line given given1 new t s g n = record {
 
 -- a list
 
-listed_over : (d : ℕ) (paths : Paths) (slate : List ℕ) (line0 : LineView) (given0 : List Given) (asked : List ℕ) (line line1 : LineView) (given given1 new : List Given) (cards names : List ℕ) (r : ListReply) (u : Talk) (o1 : Option SessionSeen)
-    → slate ≡ cards → InRounds d paths line0 given0 asked line given cards [] → Says paths line (Listing slate names r) line1 → o1 ≡ None → given1 ≡ given ++ new → noted_in new ≡ list_notes d names r
+listed_over : (d : ℕ) (paths : Paths) (line0 : LineView) (given0 : List Given) (asked : List ℕ) (line line1 : LineView) (given given1 new : List Given) (cards names : List ℕ) (r : ListReply) (u : Talk) (o1 : Option SessionSeen)
+    → InRounds d paths line0 given0 asked line given cards [] → ((late : List ℕ) → ((q : ℕ) → contains q late ≡ contains q cards) → Says paths line (Listing late names r) line1) → o1 ≡ None → given1 ≡ given ++ new → noted_in new ≡ list_notes d names r
     → ((delay : Bool) (late : List ℕ) → talk_run d (round_of delay false late []) (list_notes d names r) ≡ Some u) → IsOver u → RoundsBy d paths line0 given0 asked o1 line1 given1 cards names
-listed_over d paths slate line0 given0 asked line line1 given given1 new cards names r u o1 same h says none g n moves over =
+listed_over d paths line0 given0 asked line line1 given given1 new cards names r u o1 h says none g n moves over =
     subst (λ (o : Option SessionSeen). RoundsBy d paths line0 given0 asked o line1 given1 cards names) (sym none)
-    (u, talks_more d paths line0 given0 asked line line1 given given1 new (round_of h.0 false h.1 []) u (Listing slate names r) h.2 says g n (slate_late slate cards h.1 same h.3) (moves h.0 h.1), over)
+    (u, talks_more d paths line0 given0 asked line line1 given given1 new (round_of h.0 false h.1 []) u (Listing h.1 names r) h.2 (says h.1 (late_cards cards h.1 h.3)) g n refl (moves h.0 h.1), over)
 
-listed_in : (d : ℕ) (paths : Paths) (slate : List ℕ) (line0 : LineView) (given0 : List Given) (asked : List ℕ) (line line1 : LineView) (given given1 new : List Given) (cards names : List ℕ) (r : ListReply) (s : SessionSeen) (o1 : Option SessionSeen)
-    → slate ≡ cards → s.caps.smudge ≡ true → InRounds d paths line0 given0 asked line given cards [] → NamesAre cards names r → Says paths line (Listing slate names r) line1 → GoesOn s (list_standing r) o1 → given1 ≡ given ++ new → noted_in new ≡ list_notes d names r
+listed_in : (d : ℕ) (paths : Paths) (line0 : LineView) (given0 : List Given) (asked : List ℕ) (line line1 : LineView) (given given1 new : List Given) (cards names : List ℕ) (r : ListReply) (s : SessionSeen) (o1 : Option SessionSeen)
+    → s.caps.smudge ≡ true → InRounds d paths line0 given0 asked line given cards [] → NamesAre cards names r → ((late : List ℕ) → ((q : ℕ) → contains q late ≡ contains q cards) → Says paths line (Listing late names r) line1) → GoesOn s (list_standing r) o1 → given1 ≡ given ++ new → noted_in new ≡ list_notes d names r
     → RoundsBy d paths line0 given0 asked o1 line1 given1 cards names
-listed_in d paths slate line0 given0 asked line line1 given given1 new cards names (list.Names n) s o1 same smudge h are says goes g ns =
-    let fits = slate_late slate cards h.1 same h.3 in
-    let among : AreAmong cards h.1 = λ q k. sym (fits q) ∙ (ap (λ (x : List ℕ). contains q x) same ∙ k) in
+listed_in d paths line0 given0 asked line line1 given given1 new cards names (list.Names n) s o1 smudge h are says goes g ns =
+    let same = late_cards cards h.1 h.3 in
+    let among : AreAmong cards h.1 = λ q k. same q ∙ k in
     subst (λ (o : Option SessionSeen). RoundsBy d paths line0 given0 asked o line1 given1 cards names) (sym goes.1) (
       refl,
       smudge,
       (
         h.0,
         minus h.1 names,
-        talks_more d paths line0 given0 asked line line1 given given1 new (round_of h.0 false h.1 []) (round_of h.0 false (minus h.1 names) names) (Listing slate names (list.Names n)) h.2 says g ns fits (names_talk d h.0 h.1 names n are.0 are.1 (known_among cards h.1 names among are.2)),
+        talks_more d paths line0 given0 asked line line1 given given1 new (round_of h.0 false h.1 []) (round_of h.0 false (minus h.1 names) names) (Listing h.1 names (list.Names n)) h.2 (says h.1 same) g ns refl (names_talk d h.0 h.1 names n are.0 are.1 (known_among cards h.1 names among are.2)),
         names_wait cards h.1 names h.3,
       ),
     )
-listed_in d paths slate line0 given0 asked line line1 given given1 new cards names list.Empty s o1 same smudge h are says goes g ns = listed_over d paths slate line0 given0 asked line line1 given given1 new cards names list.Empty Ended o1 same h says goes g ns (λ delay late. one_step d (round_of delay false late []) Ended (event.Listed d list.Empty) (self d) refl) tt
-listed_in d paths slate line0 given0 asked line line1 given given1 new cards names list.Abort s o1 same smudge h are says goes g ns = listed_over d paths slate line0 given0 asked line line1 given given1 new cards names list.Abort Ended o1 same h says goes g ns (λ delay late. one_step d (round_of delay false late []) Ended (event.Listed d list.Abort) (self d) refl) tt
-listed_in d paths slate line0 given0 asked line line1 given given1 new cards names (list.Broken c) s o1 same smudge h are says goes g ns = listed_over d paths slate line0 given0 asked line line1 given given1 new cards names (list.Broken c) (Between []) o1 same h says goes g ns (λ delay late. one_step d (round_of delay false late []) (Between []) (event.Listed d (list.Broken c)) (self d) refl) tt
-listed_in d paths slate line0 given0 asked line line1 given given1 new cards names list.NoMemory s o1 same smudge h are says goes g ns = listed_over d paths slate line0 given0 asked line line1 given given1 new cards names list.NoMemory (Between []) o1 same h says goes g ns (λ delay late. one_step d (round_of delay false late []) (Between []) (event.Listed d list.NoMemory) (self d) refl) tt
+listed_in d paths line0 given0 asked line line1 given given1 new cards names list.Empty s o1 smudge h are says goes g ns = listed_over d paths line0 given0 asked line line1 given given1 new cards names list.Empty Ended o1 h says goes g ns (λ delay late. one_step d (round_of delay false late []) Ended (event.Listed d list.Empty) (self d) refl) tt
+listed_in d paths line0 given0 asked line line1 given given1 new cards names list.Abort s o1 smudge h are says goes g ns = listed_over d paths line0 given0 asked line line1 given given1 new cards names list.Abort Ended o1 h says goes g ns (λ delay late. one_step d (round_of delay false late []) Ended (event.Listed d list.Abort) (self d) refl) tt
+listed_in d paths line0 given0 asked line line1 given given1 new cards names (list.Broken c) s o1 smudge h are says goes g ns = listed_over d paths line0 given0 asked line line1 given given1 new cards names (list.Broken c) (Between []) o1 h says goes g ns (λ delay late. one_step d (round_of delay false late []) (Between []) (event.Listed d (list.Broken c)) (self d) refl) tt
+listed_in d paths line0 given0 asked line line1 given given1 new cards names list.NoMemory s o1 smudge h are says goes g ns = listed_over d paths line0 given0 asked line line1 given given1 new cards names list.NoMemory (Between []) o1 h says goes g ns (λ delay late. one_step d (round_of delay false late []) (Between []) (event.Listed d list.NoMemory) (self d) refl) tt
 
-pub listed : (d : ℕ) (paths : Paths) (slate : List ℕ) (line0 : LineView) (given0 : List Given) (asked : List ℕ) (line line1 : LineView) (given given1 new : List Given) (cards names : List ℕ) (r : ListReply) (o o1 : Option SessionSeen)
-    → slate ≡ cards → IsLive o → RoundsBy d paths line0 given0 asked o line given cards [] → NamesAre cards names r → Says paths line (Listing slate names r) line1 → ((s : SessionSeen) → o ≡ Some s → GoesOn s (list_standing r) o1) → given1 ≡ given ++ new → noted_in new ≡ list_notes d names r
+pub listed : (d : ℕ) (paths : Paths) (line0 : LineView) (given0 : List Given) (asked : List ℕ) (line line1 : LineView) (given given1 new : List Given) (cards names : List ℕ) (r : ListReply) (o o1 : Option SessionSeen)
+    → IsLive o → RoundsBy d paths line0 given0 asked o line given cards [] → NamesAre cards names r → ((late : List ℕ) → ((q : ℕ) → contains q late ≡ contains q cards) → Says paths line (Listing late names r) line1) → ((s : SessionSeen) → o ≡ Some s → GoesOn s (list_standing r) o1) → given1 ≡ given ++ new → noted_in new ≡ list_notes d names r
     → RoundsBy d paths line0 given0 asked o1 line1 given1 cards names
-listed d paths slate line0 given0 asked line line1 given given1 new cards names r None o1 same live h are says goes g ns = absurd live
-listed d paths slate line0 given0 asked line line1 given given1 new cards names r (Some s) o1 same live h are says goes g ns =
-    listed_in d paths slate line0 given0 asked line line1 given given1 new cards names r s o1 same h.1 h.2 are says (goes s refl) g ns
+listed d paths line0 given0 asked line line1 given given1 new cards names r None o1 live h are says goes g ns = absurd live
+listed d paths line0 given0 asked line line1 given given1 new cards names r (Some s) o1 live h are says goes g ns =
+    listed_in d paths line0 given0 asked line line1 given given1 new cards names r s o1 h.1 h.2 are says (goes s refl) g ns
 
 -- a second request
 

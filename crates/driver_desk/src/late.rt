@@ -186,9 +186,10 @@ impl<B: Blob, L: Leaf> Late<B, L> {
     pub fn list<S: Starter>(&mut self, line: &mut Line<S>) -> ListReply
         requires live { IsLive line.old.session }
         requires none { self.old.table.turns ≡ [] }
-        ensures says { (paths : Paths) → FitsNames paths self.old
-            → Says paths line.old (Listing (late_in self.old.numbers self.old.table.places)
-            (names_in self.old.numbers self.new.table.turns result) result) line.new }
+        ensures says { (paths : Paths) (late : List ℕ) → FitsNames paths self.old
+            → ((q : ℕ) → contains q late ≡ contains q (late_in self.old.numbers self.old.table.places))
+            → Says paths line.old (Listing late (names_in self.old.numbers self.new.table.turns result) result)
+            line.new }
         ensures names { NamesAre (paths_of (cards_of self.old))
             (names_in self.old.numbers self.new.table.turns result) result }
         ensures slate { late_in self.old.numbers self.old.table.places ≡ paths_of (cards_of self.old) }

@@ -1,5 +1,5 @@
 -- Talks over one path, which its driver delays.
-use Rattle.std.proofs.Common.{◌≡◌, ℕ, true, false, List, [], ◌∷◌, refl}
+use Rattle.std.proofs.Common.{ℕ, true, false, List, [], ◌∷◌, refl}
 use Rattle.filter_words.specs.declared.reply.Caps.{Caps}
 use Rattle.filter_words.specs.declared.reply.BreakCause.TheVariants as cause
 use Rattle.filter_words.specs.declared.reply.Reply.TheVariants as reply
@@ -18,11 +18,11 @@ abbrev listed : List ℕ → List Exchange
 listed late = Opening 7 (Good caps) ∷ First 7 reply.Delayed [] ∷ Listing late [] (list.Broken cause.StrangePath) ∷ []
 
 strange_name : LeadsTo 0 (Between (7 ∷ [])) (listed (7 ∷ [])) (Between [])
-strange_name = (opened caps (7 ∷ []), refl, refl, (delayed, tt, refl, (Between [], λ q. refl, refl, refl)))
+strange_name = (opened caps (7 ∷ []), refl, refl, (delayed, tt, refl, (Between [], refl, refl, refl)))
 
 -- the path that is late isn't strange
 late_name : FitsTalk delayed (Listing [] [] (list.Broken cause.StrangePath)) → ⊥
-late_name h = let k : false ≡ true = h 7 in cc (k)
+late_name h = cc h
 
 other_opening : FitsTalk (Between (7 ∷ 8 ∷ [])) (Opening 8 (Good caps)) → ⊥
 other_opening h = cc h

@@ -1,11 +1,17 @@
 -- A list, by the paths of the places that it names.
-use Rattle.std.proofs.Common.{◌≡◌, ◌==◌, ◌⊎◌, inl, inr, ℕ, zero, suc, Bool, true, false, cond, List, [], ◌∷◌, ◌++◌, length, map, Some, refl, sym, ap, subst, ◌∙◌, append_assoc, arith}
+use Rattle.std.proofs.Common.{◌≡◌, ◌==◌, ◌⊎◌, inl, inr, ℕ, zero, suc, ◌-◌, Bool, true, false, cond, List, [], ◌∷◌, ◌++◌, length, map, Option, Some, None, refl, sym, ap, subst, ◌∙◌, append_assoc, arith}
 use Rattle.std.specs.Prelude.{slice_get, slice_set}
-use Rattle.std.proofs.lemmas.Bool.{eqb-true, eq-eqb}
+use Rattle.std.proofs.lemmas.Bool.{eqb-true, eq-eqb, lt-ltb, le-ltb, cases_lt}
 use Rattle.std.proofs.lemmas.List.{append-nil}
-use Rattle.pkt_line.specs.Packets.{Packet}
+use Rattle.pkt_line.specs.Packets.{Packet, Payload, Flush, size}
+use Rattle.std.specs.Prelude.{◌||◌, codes}
+use Rattle.std.specs.Str.{bytes_eq}
 use Rattle.filter_words.specs.Requests.{list_text}
-use Rattle.filter_words.specs.Listing.{GoodList, Listed, Aborted, list_step, list_start}
+use Rattle.filter_words.specs.Listing.{ListPhase, Names, KeyList, GoodList, Listed, Aborted, list_step, list_start, after_value, name_in}
+use Rattle.filter_words.specs.Words.{value_of}
+use Rattle.filter_words.specs.Outcomes.{outcome, limit}
+use Rattle.filter_words.specs.declared.reply.BreakCause.TheVariants as cause
+use Rattle.filter_words.specs.declared.answer_state.AnswerState.TheVariants.{On, Done, Broken, Late}
 use Rattle.filter_words.specs.ListGrammar.{names_of}
 use Rattle.filter_words.specs.declared.reply.ListReply.{ListReply}
 use Rattle.filter_words.specs.declared.reply.ListReply.TheVariants as list
@@ -16,7 +22,7 @@ use Rattle.delay_table.specs.Table.{Table, is_pending}
 use Rattle.delay_table.specs.declared.place.Place.{Place}
 use Rattle.delay_table.specs.declared.place.Place.TheVariants as place
 use Rattle.filter_proto.specs.Wires.{Wire, SessionSeen}
-use Rattle.filter_proto.specs.Exchanges.{Ends, Good, Broke, OutOfMemory, IsExchange}
+use Rattle.filter_proto.specs.Exchanges.{Ends, Good, Broke, OutOfMemory, Stops, IsExchange}
 use Rattle.filter_proto.specs.Lists.{Lists, EndLists, IsListExchange, delayed_of, delayed_in, listed_at, list_reply_of, standing_after_list}
 use Rattle.filter_proto.specs.declared.session.Standing.{Standing}
 use Rattle.filter_proto.specs.declared.session.Standing.TheVariants as standing
@@ -156,6 +162,81 @@ turns_of (name ∷ ns) old new h =
           d.1 (a.apart k.0 h.0 d.0 at (sym k.2)))
     ]
 
+-- lists of the same paths read an answer the same
+
+or_true : (a b : Bool) → b ≡ true → (a || b) ≡ true
+or_true true b h = refl
+or_true false b h = h
+
+name_of : (text : ℕ → List ℕ) (late : List ℕ) (name : List ℕ) (q : ℕ) → contains q late ≡ true → bytes_eq (text q) name ≡ true → name_in (map text late) name ≡ true
+name_of text [] name q has same = absurd (cc has)
+name_of text (p ∷ ps) name q has same = elim (bool_or (q == p)) [
+  | inl e ↦ ap (λ (b : Bool). b || name_in (map text ps) name) (ap (λ (x : ℕ). bytes_eq (text x) name) (sym (eqb-true q p e)) ∙ same)
+  | inr n ↦ or_true (bytes_eq (text p) name) (name_in (map text ps) name) (name_of text ps name q (sym (ap (λ (b : Bool). cond b true (contains q ps)) n) ∙ has) same)
+]
+
+of_name : (text : ℕ → List ℕ) (late : List ℕ) (name : List ℕ) → name_in (map text late) name ≡ true → (q : ℕ) × (contains q late ≡ true) × (bytes_eq (text q) name ≡ true)
+of_name text [] name h = absurd (cc h)
+of_name text (p ∷ ps) name h = elim (bool_or (bytes_eq (text p) name)) [
+  | inl e ↦ (p, ap (λ (b : Bool). cond b true (contains p ps)) (eq-eqb p p refl), e)
+  | inr n ↦ more (of_name text ps name (sym (ap (λ (b : Bool). b || name_in (map text ps) name) n) ∙ h))
+]
+  where
+    more : (q : ℕ) × (contains q ps ≡ true) × (bytes_eq (text q) name ≡ true) → (q : ℕ) × (contains q (p ∷ ps) ≡ true) × (bytes_eq (text q) name ≡ true)
+    more k = (
+      k.0,
+      elim (bool_or (k.0 == p)) [
+        | inl s ↦ ap (λ (b : Bool). cond b true (contains k.0 ps)) s
+        | inr n ↦ ap (λ (b : Bool). cond b true (contains k.0 ps)) n ∙ k.1
+      ],
+      k.2,
+    )
+
+same_bool : (a b : Bool) → (a ≡ true → b ≡ true) → (b ≡ true → a ≡ true) → a ≡ b
+same_bool true b f g = sym (f refl)
+same_bool false true f g = g refl
+same_bool false false f g = refl
+
+names_same : (text : ℕ → List ℕ) (a b : List ℕ) → ((q : ℕ) → contains q a ≡ contains q b) → (name : List ℕ) → name_in (map text a) name ≡ name_in (map text b) name
+names_same text a b same name = same_bool (name_in (map text a) name) (name_in (map text b) name)
+    (λ h. let k = of_name text a name h in name_of text b name k.0 (sym (same k.0) ∙ k.1) k.2)
+    (λ h. let k = of_name text b name h in name_of text a name k.0 (same k.0 ∙ k.1) k.2)
+
+value_same : (a b : List (List ℕ)) → ((name : List ℕ) → name_in a name ≡ name_in b name) → (listed : List (List ℕ)) (o : Option (List ℕ)) → after_value a listed o ≡ after_value b listed o
+value_same a b h listed None = refl
+value_same a b h listed (Some name) = rw (h name) refl
+
+step_same : (a b : List (List ℕ)) → ((name : List ℕ) → name_in a name ≡ name_in b name) → (p : ListPhase) (x : Packet) → list_step a p x ≡ list_step b p x
+step_same a b h (Names listed) (Payload line) = value_same a b h listed (value_of (codes "pathname") line)
+step_same a b h (Names listed) Flush = refl
+step_same a b h (KeyList listed s) (Payload line) = refl
+step_same a b h (KeyList listed s) Flush = refl
+
+outcome_same : {P G : Type 0} (f g : P → Packet → AnswerState P G) → ((p : P) (x : Packet) → f p x ≡ g p x) → (room : ℕ) (t : AnswerState P G) (ps : List Packet) → outcome f room t ps ≡ outcome g room t ps
+outcome_same f g h room t [] = refl
+outcome_same f g h room (On p) (x ∷ ps) = elim (cases_lt room (size x)) [
+  | inl less ↦ rw (lt-ltb room (size x) less) (outcome_same f g h room (Broken cause.TooLong) ps)
+  | inr more ↦ rw (le-ltb room (size x) more) (ap (λ (s : AnswerState _ _). outcome f (room - size x) s ps) (h p x) ∙ outcome_same f g h (room - size x) (g p x) ps)
+]
+outcome_same f g h room (Done k) (x ∷ ps) = refl
+outcome_same f g h room (Broken c) (x ∷ ps) = refl
+outcome_same f g h room Late (x ∷ ps) = refl
+
+exchange_same : (a b : List (List ℕ)) → ((name : List ℕ) → name_in a name ≡ name_in b name) → (text : List ℕ) (s t : Wire) (end : Ends GoodList) (extra : List Packet → Type 0) → IsExchange (list_step a) list_start text s t end extra → IsExchange (list_step b) list_start text s t end extra
+exchange_same a b h text s t end extra (inl u) = inl u
+exchange_same a b h text s t end extra (inr x) = inr (record {
+  sent = x.sent;
+  stage = x.stage;
+  heard = record {
+    packets = x.heard.packets;
+    used = x.heard.used;
+    spelled = x.heard.spelled;
+    took = x.heard.took;
+    stops = subst (λ (o : AnswerState ListPhase GoodList). Stops o s t end) (outcome_same (list_step a) (list_step b) (step_same a b h) limit list_start x.heard.packets) x.heard.stops;
+    done = x.heard.done;
+  };
+})
+
 -- what a list is, by its places
 
 pub plain : {P G : Type 0} (step : P → Packet → AnswerState P G) (start : AnswerState P G) (text : List ℕ) (old new : Wire) (end : Ends G) (extra : List Packet → Type 0) → IsExchange step start text old new end extra → IsExchange step start text old new end (λ _. Unit {0})
@@ -176,9 +257,9 @@ list_is paths numbers delayed s t old new (Good Aborted) (inr a) none names = (r
 list_is paths numbers delayed s t old new (Broke why) x none names = (refl, refl)
 list_is paths numbers delayed s t old new OutOfMemory x none names = (refl, refl)
 
-pub list_says : (paths : Paths) (numbers : List ℕ) (v w : LineView) (s u : SessionSeen) (old new : Table) (r : ListReply) → v.session ≡ Some s → s.standing ≡ standing.Live → old.turns ≡ [] → old.names ≡ map paths.text numbers
-    → IsListExchange s.wire u.wire old new r → After v s u.wire (list_standing r) w → Says paths v (Listing (late_in numbers old.places) (names_in numbers new.turns r) r) w
-list_says paths numbers v w s u old new r is live none names x after =
+pub list_says : (paths : Paths) (numbers slate : List ℕ) (v w : LineView) (s u : SessionSeen) (old new : Table) (r : ListReply) → v.session ≡ Some s → s.standing ≡ standing.Live → old.turns ≡ [] → old.names ≡ map paths.text numbers
+    → ((q : ℕ) → contains q slate ≡ contains q (late_in numbers old.places)) → IsListExchange s.wire u.wire old new r → After v s u.wire (list_standing r) w → Says paths v (Listing slate (names_in numbers new.turns r) r) w
+list_says paths numbers slate v w s u old new r is live none names same x after =
     let late : delayed_in old ≡ map paths.text (late_in numbers old.places) = ap (λ (n : List (List ℕ)). delayed_of n old.places) names ∙ delayed_texts paths.text numbers old.places in (
       s,
       is,
@@ -187,7 +268,8 @@ list_says paths numbers v w s u old new r is live none names x after =
         end = x.end;
         live = live;
         after = after;
-        exchange = subst (λ (d : List (List ℕ)). IsExchange (list_step d) list_start list_text s.wire u.wire x.end (λ _. Unit {0})) late (plain _ _ _ _ _ _ _ x.exchange);
+        exchange = exchange_same (map paths.text (late_in numbers old.places)) (map paths.text slate) (names_same paths.text (late_in numbers old.places) slate (λ q. sym (same q))) list_text s.wire u.wire x.end (λ _. Unit {0})
+            (subst (λ (d : List (List ℕ)). IsExchange (list_step d) list_start list_text s.wire u.wire x.end (λ _. Unit {0})) late (plain _ _ _ _ _ _ _ x.exchange));
         is = subst (λ (y : ListReply). ListIs paths (names_in numbers new.turns y) y x.end) (sym x.reply) (list_is paths numbers (delayed_in old) s.wire u.wire old new x.end x.exchange none names);
       },
     )

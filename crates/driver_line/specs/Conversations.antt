@@ -8,7 +8,7 @@ use Rattle.filter_proto.specs.Exchanges.{Ends, Good, Broke, OutOfMemory}
 use Rattle.checkout_core.specs.declared.event.OpenCause.TheVariants as opening
 use Rattle.checkout_core.specs.declared.event.Event.{Event}
 use Rattle.checkout_core.specs.declared.event.Event.TheVariants as event
-use Rattle.checkout_core.specs.Talks.{Talk, Between, InRound, contains, talk_run}
+use Rattle.checkout_core.specs.Talks.{Talk, Between, InRound, talk_run}
 
 -- a start that gave no session, or an exchange of a session, with the path that it is for
 pub data Exchange : Type 0 where
@@ -57,7 +57,7 @@ late_of t = []
 -- What the notes don't tell: an opening is for the path that comes next, and a list may name the paths that are late.
 abbrev pub FitsTalk : Talk → Exchange → Type 0
 FitsTalk t (Opening p end) = IsNextIn p t
-FitsTalk t (Listing late names r) = (q : ℕ) → contains q late ≡ contains q (late_of t)
+FitsTalk t (Listing late names r) = late ≡ late_of t
 FitsTalk t e = Unit {0}
 
 -- the exchanges lead from one talk to another: each fits the talk, which goes on by its notes

@@ -1,6 +1,7 @@
 ghost use Rattle.std.specs.Prelude.{map, IsTrue, IsSome, ◌↔◌, ◌≡◌, ◌≢◌, ◌≤◌, ◌<◌, ◌+◌, ◌^◌, ℕ, Bool, true, false};
 ghost use Rattle.std.specs.Prelude.{Option, Some, None, List, [], length};
 ghost use Rattle.filter_words.specs.Requests.{first_text, second_text};
+ghost use Rattle.checkout_core.specs.Talks.{contains};
 ghost use Rattle.edge_kit.specs.declared.leaf_state.LeafState.TheVariants as state;
 ghost use Rattle.filter_proto.specs.Wires.{SessionSeen};
 ghost use Rattle.filter_proto.specs.Replies.{standing_after, IsKept, TouchesNot};
@@ -188,9 +189,9 @@ impl<S: Starter> Line<S> {
     pub fn list(&mut self, table: &mut DelayTable, numbers: &[u32]) -> ListReply
         requires live { IsLive self.old.session }
         requires none { table.old.turns ≡ [] }
-        ensures says { (paths : Paths) → table.old.names ≡ map paths.text numbers.now
-            → Says paths self.old (Listing (late_in numbers.now table.old.places)
-            (names_in numbers.now table.new.turns result) result) self.new }
+        ensures says { (paths : Paths) (late : List ℕ) → table.old.names ≡ map paths.text numbers.now
+            → ((q : ℕ) → contains q late ≡ contains q (late_in numbers.now table.old.places))
+            → Says paths self.old (Listing late (names_in numbers.now table.new.turns result) result) self.new }
         ensures names { (known : List ℕ) → AreDelayed known numbers.now table.old
             → NamesAre known (names_in numbers.now table.new.turns result) result }
         ensures goes { (s : SessionSeen) → self.old.session ≡ Some s

@@ -1,6 +1,7 @@
 use Rattle.driver_line.specs.Conversations.{list_notes}
 use Rattle.driver_desk.specs.Serving.{noted_in}
-use Rattle.std.proofs.Common.{ℕ, ◌≡◌, ◌<◌, ◌+◌, length, List, sym, subst}
+use Rattle.std.proofs.Common.{ℕ, ◌≡◌, ◌<◌, ◌+◌, length, List, ap, sym, subst, ◌∙◌}
+use Rattle.checkout_core.specs.Talks.{contains}
 use Rattle.driver_line.specs.Lines.{names_in, weight}
 use Rattle.driver_desk.specs.Late.{cards_of}
 use Rattle.driver_desk.specs.Rounds.{LateSeen, paths_of, FitTexts}
@@ -14,8 +15,8 @@ pub returns-clause-rounds : goal.returns-clause-rounds
 returns-clause-rounds g c paths line0 given0 asked fit names h =
     c.redo_all.ensures.rounds paths line0 given0 asked (subst (λ (x : List LateSeen). FitTexts paths x) (sym c.list-reply.ensures.cards) fit)
     (listed_at c.args.seat.driver paths line0 given0 asked c.args.line.now.session c.list-reply.new.line.session c.list-reply.new.line _ c.args.late.now c.list-reply.new.self c.list-reply.result c.requires.open c.list-reply.ensures.goes c.list-reply.ensures.cards c.list-reply.ensures.kept.1
-    (listed c.args.seat.driver paths _ line0 given0 asked c.args.line.now c.list-reply.new.line _ _ c.note_list.ensures.0 (paths_of (cards_of c.args.late.now)) _ c.list-reply.result c.args.line.now.session c.list-reply.new.line.session
-    c.list-reply.ensures.slate (open_live c.args.line.now.session c.requires.open) h c.list-reply.ensures.names (c.list-reply.ensures.says paths names) c.list-reply.ensures.goes c.note_list.ensures.1
+    (listed c.args.seat.driver paths line0 given0 asked c.args.line.now c.list-reply.new.line _ _ c.note_list.ensures.0 (paths_of (cards_of c.args.late.now)) _ c.list-reply.result c.args.line.now.session c.list-reply.new.line.session
+    (open_live c.args.line.now.session c.requires.open) h c.list-reply.ensures.names (λ late same. c.list-reply.ensures.says paths late names (λ q. same q ∙ ap (λ (x : List ℕ). contains q x) (sym c.list-reply.ensures.slate))) c.list-reply.ensures.goes c.note_list.ensures.1
     (subst (λ (ns : List ℕ). noted_in c.note_list.ensures.0 ≡ list_notes c.args.seat.driver (names_in ns c.list-reply.new.self.table.turns c.list-reply.result) c.list-reply.result) c.list-reply.ensures.kept.1 c.note_list.ensures.2)))
 
 pub returns-clause-fits : goal.returns-clause-fits
