@@ -84,7 +84,8 @@ module _ {B L : Type 0} (lock : TableId) (d : Plan B L) (made : ℕ) (s : SeatVi
   may_fail c pass = subst (λ (x : Core). is_step x not_started ≡ true) (first_core c pass) refl
 
   -- and then the path may be handed back
-  pub may_hand_back : MayFollow → ListsOwn B L → (new : SeatView Entry (Plan B L)) (c : Core) (t : Notes lock d 1 made s new c not_started)
+  pub may_hand_back : MayFollow → ListsOwn B L → (new : SeatView Entry (Plan B L)) (c : Core)
+      (t : Notes lock d 1 made s new c not_started)
       → IsPass lock d 1 made s c → (p : ℕ) → p ≡ 1 → is_step t.core (HandBack p) ≡ true
   may_hand_back law lists new c t pass p is =
       let now = t.turn.pass in
@@ -208,7 +209,8 @@ module _ {B L : Type 0} (see : Sight B L) (lock : TableId) (d : Plan B L) (made 
     (idle : AreIdle lock d 0 made (ws ++ map (λ x. x.0) ds)) (fresh : AreFresh (ws ++ map (λ x. x.0) ds))
     (decks : map (λ x. x.1) ds ≡ d.desks.items) where
   pub desk_count : length ds ≡ 1
-  desk_count = sym (map_length (λ (x : SeatView Entry (Plan B L) × Vec (Card B L)). x.1) ds) ∙ (ap length decks ∙ is.count)
+  desk_count = sym (map_length (λ (x : SeatView Entry (Plan B L) × Vec (Card B L)). x.1) ds)
+      ∙ (ap length decks ∙ is.count)
 
   pub begun : (rest : List (SeatView Entry (Plan B L))) (w : SeatView Entry (Plan B L))
       (left : List (SeatView Entry (Plan B L) × Vec (Card B L))) (p : SeatView Entry (Plan B L)) (cs : Vec (Card B L))

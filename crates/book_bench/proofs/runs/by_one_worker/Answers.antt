@@ -1,7 +1,8 @@
 use Rattle.std.proofs.Common.{◌≡◌, ◌++◌, ◌∷◌, [], length, ap, ◌∙◌, arith}
 use Rattle.checkout_book.specs.declared.plan.Plan.{Plan}
 use Rattle.checkout_book.specs.Sights.{sight}
-use Rattle.book_bench.proofs.Working.{own_number, after_work, alone, alone_idle, pool_there, pool_all_new, pool_below, none_dealt}
+use Rattle.book_bench.proofs.Working.{own_number, after_work, alone, alone_idle, pool_there}
+use Rattle.book_bench.proofs.Working.{pool_all_new, pool_below, none_dealt}
 use Rattle.book_bench.proofs.runs.by_one_worker.Goals as goal
 
 pub reserve-requires-clause-pool : goal.reserve-requires-clause-pool

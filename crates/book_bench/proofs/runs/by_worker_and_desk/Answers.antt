@@ -3,7 +3,8 @@ use Rattle.convert_plan.specs.declared.card.Card.{Card}
 use Rattle.convert_plan.specs.Card.{IsNewCard, IsRefusedCard}
 use Rattle.checkout_book.specs.declared.plan.Plan.{Plan}
 use Rattle.checkout_book.specs.Sights.{sight, seen}
-use Rattle.book_bench.proofs.Pairing.{IsPair, pair_below, pair_pool, pair_new, pair_dealt, pair_refused, pair_path, begun, both_idle, last_card}
+use Rattle.book_bench.proofs.Pairing.{IsPair, pair_below, pair_pool, pair_new, pair_dealt, pair_refused}
+use Rattle.book_bench.proofs.Pairing.{pair_path, begun, both_idle, last_card}
 use Rattle.book_bench.proofs.runs.by_worker_and_desk.Goals as goal
 
 pub reserve-requires-clause-pool : goal.reserve-requires-clause-pool
