@@ -1,6 +1,6 @@
 -- A book with a path for any actor, and a path of a driver that can't be started.
 use Rattle.std.proofs.Common.{◌≡◌, ℕ, zero, suc, true, false, List, [], ◌∷◌, ◌++◌, length}
-use Rattle.std.proofs.Common.{length-append, map, Some, None, refl, sym, ap, ◌∙◌, subst, arith}
+use Rattle.std.proofs.Common.{◌<◌, length-append, map, Some, None, refl, sym, ap, ◌∙◌, subst, arith}
 use Rattle.std.proofs.lemmas.List.{append-nil}
 use Rattle.std.specs.Prelude.{slice_get}
 use Rattle.std.specs.Global.{Vec}
@@ -29,7 +29,7 @@ use Rattle.checkout_book.specs.Sights.{Sight, seen}
 use Rattle.checkout_book.specs.Entries.{events_of}
 use Rattle.checkout_book.specs.Shelves.{joined, cards_of, IsRefused}
 use Rattle.checkout_book.specs.Passes.{IsPass, Notes, note_entry}
-use Rattle.checkout_book.specs.Reserving.{ArePool, AreNew, AreIdle, AreFresh, HasNothing}
+use Rattle.checkout_book.specs.Reserving.{ArePool, AreDealt, AreNew, AreIdle, AreFresh, HasNothing}
 use Rattle.book_bench.specs.Pairs.{two, IsFirst}
 
 -- the law of core_laws on what may follow an actor's own entries
@@ -84,7 +84,8 @@ module _ {B L : Type 0} (lock : TableId) (d : Plan B L) (made : ℕ) (s : SeatVi
   may_fail c pass = subst (λ (x : Core). is_step x not_started ≡ true) (first_core c pass) refl
 
   -- and then the path may be handed back
-  pub may_hand_back : MayFollow → ListsOwn B L → (new : SeatView Entry (Plan B L)) (c : Core) (t : Notes lock d 1 made s new c not_started)
+  pub may_hand_back : MayFollow → ListsOwn B L → (new : SeatView Entry (Plan B L)) (c : Core)
+      (t : Notes lock d 1 made s new c not_started)
       → IsPass lock d 1 made s c → (p : ℕ) → p ≡ 1 → is_step t.core (HandBack p) ≡ true
   may_hand_back law lists new c t pass p is =
       let now = t.turn.pass in
@@ -134,7 +135,7 @@ module _ {B L : Type 0} (see : Sight B L) where
       (subst (AreBelow 1) (sym is.starts) below_two)
 
   two_pool : (a : Card B L) → a.path ≡ 0 → ArePool two (a ∷ [])
-  two_pool a is = record { there = there; all = all }
+  two_pool a is = record { there = there; all = all; rises = rises }
     where
       there : (k : ℕ) (c : Card B L) → slice_get (a ∷ []) k ≡ Some c → slice_get two c.path ≡ Some Pool
       there zero c at = let e : a ≡ c = cc (at) in
@@ -146,6 +147,11 @@ module _ {B L : Type 0} (see : Sight B L) where
       all zero at = (zero, a, refl, is)
       all (suc zero) at = absurd (cc (at))
       all (suc (suc p)) at = absurd (cc (at))
+
+      rises : (i j : ℕ) (x y : Card B L) → i < j → slice_get (a ∷ []) i ≡ Some x → slice_get (a ∷ []) j ≡ Some y
+          → x.path < y.path
+      rises i zero x y lt at later = absurd (omega (arith, lt))
+      rises i (suc j) x y lt at later = absurd (cc (later))
 
   pub pair_pool : (d : Plan B L) (a b : Card B L) → IsPair d a b → ArePool d.starts.items d.pool.items
   pair_pool d a b is = subst (λ (ss : List Start). ArePool ss d.pool.items) (sym is.starts)
@@ -163,6 +169,18 @@ module _ {B L : Type 0} (see : Sight B L) where
   pair_new d a b is = subst (AreNew see) (sym (two_cards d a b is)) (two_new a b is.free_new is.filtered_new)
 
   -- the card that the desk has is the second
+  dealt : (vs : List (Vec (Card B L))) (b : Card B L) → length vs ≡ 1 → joined vs ≡ b ∷ [] → b.path ≡ 1
+      → AreDealt two 0 vs
+  dealt [] b n j p = absurd (omega (arith, n))
+  dealt (v ∷ []) b n j p =
+      let one : v.items ≡ b ∷ [] = sym (append-nil v.items) ∙ j in
+      (ap (map (λ (c : Card B L). c.path)) one ∙ ap (λ (q : ℕ). q ∷ []) p, tt)
+  dealt (v ∷ w ∷ vs) b n j p = absurd (omega (arith, n))
+
+  pub pair_dealt : (d : Plan B L) (a b : Card B L) → IsPair d a b → AreDealt d.starts.items 0 d.desks.items
+  pair_dealt d a b is = subst (λ (ss : List Start). AreDealt ss 0 d.desks.items) (sym is.starts)
+      (dealt d.desks.items b is.count is.desks is.filtered)
+
   pub pair_refused : (d : Plan B L) (a b c : Card B L) → IsPair d a b → IsRefusedCard (seen see b) (seen see c)
       → IsRefused see (cards_of d) c
   pair_refused d a b c is r = (1, b, ap (λ (l : List (Card B L)). slice_get l 1) (two_cards d a b is), r)
@@ -191,7 +209,8 @@ module _ {B L : Type 0} (see : Sight B L) (lock : TableId) (d : Plan B L) (made 
     (idle : AreIdle lock d 0 made (ws ++ map (λ x. x.0) ds)) (fresh : AreFresh (ws ++ map (λ x. x.0) ds))
     (decks : map (λ x. x.1) ds ≡ d.desks.items) where
   pub desk_count : length ds ≡ 1
-  desk_count = sym (map_length (λ (x : SeatView Entry (Plan B L) × Vec (Card B L)). x.1) ds) ∙ (ap length decks ∙ is.count)
+  desk_count = sym (map_length (λ (x : SeatView Entry (Plan B L) × Vec (Card B L)). x.1) ds)
+      ∙ (ap length decks ∙ is.count)
 
   pub begun : (rest : List (SeatView Entry (Plan B L))) (w : SeatView Entry (Plan B L))
       (left : List (SeatView Entry (Plan B L) × Vec (Card B L))) (p : SeatView Entry (Plan B L)) (cs : Vec (Card B L))

@@ -1,5 +1,6 @@
 -- A pass that claims and closes.
-use Rattle.std.proofs.Common.{◌≡◌, ◌==◌, ℕ, zero, suc, ◌+◌, ◌<◌, ◌⊎◌, inl, inr, ⊎_elim, Bool, true, false, cond, List, []}
+use Rattle.std.proofs.Common.{◌≡◌, ◌==◌, ℕ, zero, suc, ◌+◌, ◌<◌, ◌⊎◌, inl, inr, ⊎_elim, Bool, true, false}
+use Rattle.std.proofs.Common.{cond, List, []}
 use Rattle.std.proofs.Common.{◌∷◌, ◌++◌, length, length-append, Option, Some, None, refl, sym, ap, ◌∙◌, subst, arith}
 use Rattle.std.proofs.lemmas.List.{append-nil}
 use Rattle.std.specs.Prelude.{slice_get}
@@ -25,7 +26,7 @@ use Rattle.checkout_book.specs.declared.plan.Entry.{Entry}
 use Rattle.checkout_book.specs.Sights.{Sight, seen}
 use Rattle.checkout_book.specs.Shelves.{joined}
 use Rattle.checkout_book.specs.Passes.{IsPass, TookNone, TookCard, Closes, Notes}
-use Rattle.checkout_book.specs.Reserving.{ArePool, AreNew, HasNothing, AreIdle}
+use Rattle.checkout_book.specs.Reserving.{ArePool, AreDealt, AreNew, HasNothing, AreIdle}
 use Rattle.convert_plan.specs.Card.{IsNewCard}
 use Rattle.book_bench.specs.Pools.{IsPool}
 
@@ -122,7 +123,7 @@ get_pushed (z ∷ xs) x y (suc i) e = ⊎_elim
 module _ {B L : Type 0} (see : Sight B L) where
   pub pool_there : (n : ℕ) (starts : List Start) (cards : List (Card B L)) → IsPool see n starts cards
       → ArePool starts cards
-  pool_there n starts cards pool = record { there = there; all = all }
+  pool_there n starts cards pool = record { there = there; all = all; rises = rises }
     where
       there : (k : ℕ) (c : Card B L) → slice_get cards k ≡ Some c → slice_get starts c.path ≡ Some Pool
       there k c at =
@@ -137,6 +138,10 @@ module _ {B L : Type 0} (see : Sight B L) where
           let c = within cards p (omega (arith, lt, pool.cards_count, pool.starts_count)) in
           (p, c.0, c.1, (pool.new p c.0 c.1).0)
 
+      rises : (i j : ℕ) (a b : Card B L) → i < j → slice_get cards i ≡ Some a → slice_get cards j ≡ Some b
+          → a.path < b.path
+      rises i j a b lt at later = omega (arith, lt, (pool.new i a at).0, (pool.new j b later).0)
+
   pub pool_new : (n : ℕ) (starts : List Start) (cards : List (Card B L)) → IsPool see n starts cards
       → AreNew see cards
   pool_new n starts cards pool k c at = (pool.new k c at).1
@@ -146,6 +151,9 @@ module _ {B L : Type 0} (see : Sight B L) where
   pool_all_new n starts cards desks pool none =
       subst (λ (ds : List (Vec (Card B L))). AreNew see (cards ++ joined ds)) (sym none)
       (subst (AreNew see) (sym (append-nil cards)) (pool_new n starts cards pool))
+
+  pub none_dealt : (starts : List Start) (desks : List (Vec (Card B L))) → desks ≡ [] → AreDealt starts 0 desks
+  none_dealt starts desks none = subst (AreDealt starts 0) (sym none) tt
 
   pub pool_below : (n drivers : ℕ) (starts : List Start) (cards : List (Card B L)) → IsPool see n starts cards
       → AreBelow drivers starts

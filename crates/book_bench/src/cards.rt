@@ -70,8 +70,8 @@ pub fn new_cards<R: Repo, W: Worktree>(
     Ok(NewCards { cards, starts })
 }
 
-/// A new card as its desk hands it back, with its content prepared. `None` where its object can't be read, or memory runs
-/// out.
+/// A new card as its desk hands it back, with its content prepared. `None` where its object can't be read, or memory
+/// runs out.
 pub fn refused_card<B: Blob, L: Leaf>(alloc: Global, mut card: Card<B, L>) -> Option<Card<B, L>>
     requires { IsNewCard (seen (sight B.told B.seen L.seen) card) }
     ensures { IfSome result (λ r. IsRefusedCard (seen (sight B.told B.seen L.seen) card)

@@ -42,8 +42,8 @@ fn give_back<B: Blob, L: Leaf, H: Wait>(
     pass
 }
 
-/// The worker closes what waits, and gets nothing more. Then the desk hands its card back. Now the worker gets that, and
-/// after it the desk gets nothing.
+/// The worker closes what waits, and gets nothing more. Then the desk hands its card back. Now the worker gets that,
+/// and after it the desk gets nothing.
 pub fn turns<B: Blob, L: Leaf, H: Wait>(
     rt: &H,
     book: &Book<B, L>,

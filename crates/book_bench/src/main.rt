@@ -1,8 +1,8 @@
 //! Claims and closes the cards of a book, one after another.
 //!
-//! Without words it does so with one and with three cards and one worker, and then with a worker and a driver's desk. It
-//! tells each history, and the verdict of each path. With the word COUNT it does so with that many cards and one worker,
-//! and tells its time.
+//! Without words it does so with one and with three cards and one worker, and then with a worker and a driver's desk.
+//! It tells each history, and the verdict of each path. With the word COUNT it does so with that many cards and one
+//! worker, and tells its time.
 #![tactic(auto)]
 
 mod cards;

@@ -40,8 +40,8 @@ pub fn by_one_worker<R: Repo, W: Worktree, H: Wait>(
     Ok(finish(book, done))
 }
 
-/// What a book is after a worker, and the desk of a driver that can't be started. Path 0 is for any actor, path 1 is the
-/// driver's. `None` where the object of path 1 can't be read, or memory runs out.
+/// What a book is after a worker, and the desk of a driver that can't be started. Path 0 is for any actor, path 1 is
+/// the driver's. `None` where the object of path 1 can't be read, or memory runs out.
 pub fn by_worker_and_desk<B: Blob, L: Leaf, H: Wait>(
     rt: &H,
     alloc: Global,

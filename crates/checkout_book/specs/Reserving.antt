@@ -1,5 +1,7 @@
 -- The cards of a book as it begins and ends.
-use Rattle.std.specs.Prelude.{◌≡◌, ℕ, zero, suc, ◌≤◌, false, List, [], ◌∷◌, length, Some, slice_get, slice_set}
+use Rattle.std.specs.Prelude.{◌≡◌, ℕ, zero, suc, ◌≤◌, ◌<◌, false, List, [], ◌∷◌, length, map, Some}
+use Rattle.std.specs.Prelude.{slice_get, slice_set}
+use Rattle.std.specs.Global.{Vec}
 use Rattle.atomic_table.specs.Seated.{TableId}
 use Rattle.turn_lock.specs.History.{own, Begins}
 use Rattle.turn_lock.specs.Seat.{SeatView, mine_of, seen_of}
@@ -8,6 +10,7 @@ use Rattle.convert_plan.specs.Card.{IsNewCard}
 use Rattle.checkout_core.specs.declared.path.Start.{Start}
 use Rattle.checkout_core.specs.declared.path.Start.TheVariants.{Pool}
 use Rattle.checkout_core.specs.States.{Core}
+use Rattle.checkout_core.specs.Desks.{paths_of}
 use Rattle.checkout_core.specs.Hands.{held_at}
 use Rattle.checkout_book.specs.declared.plan.Plan.{Plan}
 use Rattle.checkout_book.specs.declared.plan.Entry.{Entry}
@@ -29,11 +32,18 @@ module _ {B L : Type 0} where
   placed slots [] = slots
   placed slots (c ∷ cs) = placed (slice_set slots c.path (Waits c)) cs
 
-  -- each card's path starts in the pool, and each such path has its card
+  -- Each card's path starts in the pool, and each such path has its card. The paths rise.
   pub record ArePool (starts : List Start) (pool : List (Card B L)) : Type 0 where
     pub there : (k : ℕ) (c : Card B L) → slice_get pool k ≡ Some c → slice_get starts c.path ≡ Some Pool
     pub all : (p : ℕ) → slice_get starts p ≡ Some Pool
         → (k : ℕ) × (c : Card B L) × (slice_get pool k ≡ Some c) × (c.path ≡ p)
+    pub rises : (i j : ℕ) (a b : Card B L) → i < j → slice_get pool i ≡ Some a → slice_get pool j ≡ Some b
+        → a.path < b.path
+
+  -- the cards of each desk, from driver k on, are those of the driver's paths, in path order
+  abbrev pub AreDealt : List Start → ℕ → List (Vec (Card B L)) → Type 0
+  AreDealt starts k [] = Unit {0}
+  AreDealt starts k (v ∷ vs) = (map (λ c. c.path) v.items ≡ paths_of k starts) × AreDealt starts (suc k) vs
 
   abbrev pub AreNew : Sight B L → List (Card B L) → Type 0
   AreNew see cards = (k : ℕ) (c : Card B L) → slice_get cards k ≡ Some c → IsNewCard (seen see c)

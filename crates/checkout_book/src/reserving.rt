@@ -4,7 +4,8 @@ ghost use Rattle.convert_plan.specs.declared.card.Card.{Card};
 ghost use Rattle.checkout_core.specs.States.{AreBelow};
 ghost use Rattle.checkout_book.specs.declared.plan.Plan.{Plan};
 ghost use Rattle.checkout_book.specs.Shelves.{waits, joined};
-ghost use Rattle.checkout_book.specs.Reserving.{aways, placed, ArePool, AreNew, AreIdle, AreFresh, IsFinished};
+ghost use Rattle.checkout_book.specs.Reserving.{aways, placed, ArePool, AreDealt, AreNew, AreIdle};
+ghost use Rattle.checkout_book.specs.Reserving.{AreFresh, IsFinished};
 ghost use Rattle.checkout_book.specs.Sights.{sight};
 
 use crate::book::{Book, Pass};
@@ -157,6 +158,7 @@ pub fn reserve<B: Blob, L: Leaf>(
     requires few_workers { workers ≤ 16 }
     requires few_desks { length desks.items ≤ 16 }
     requires pool { ArePool starts.items pool.items }
+    requires desks { AreDealt starts.items 0 desks.items }
     requires new { AreNew (sight B.told B.seen L.seen) (pool.items ++ joined desks.items) }
     ensures count { IfOk result (λ r. length r.workers.items ≡ workers) }
     ensures passes { IfOk result (λ r. AreIdle r.book

@@ -1,7 +1,8 @@
 use Rattle.std.proofs.Common.{◌≡◌, ◌++◌, ◌∷◌, [], length, ap, ◌∙◌, arith}
 use Rattle.checkout_book.specs.declared.plan.Plan.{Plan}
 use Rattle.checkout_book.specs.Sights.{sight}
-use Rattle.book_bench.proofs.Working.{own_number, after_work, alone, alone_idle, pool_there, pool_all_new, pool_below}
+use Rattle.book_bench.proofs.Working.{own_number, after_work, alone, alone_idle, pool_there}
+use Rattle.book_bench.proofs.Working.{pool_all_new, pool_below, none_dealt}
 use Rattle.book_bench.proofs.runs.by_one_worker.Goals as goal
 
 pub reserve-requires-clause-pool : goal.reserve-requires-clause-pool
@@ -11,6 +12,11 @@ reserve-requires-clause-pool g c =
 pub reserve-requires-clause-below : goal.reserve-requires-clause-below
 reserve-requires-clause-below g c =
     pool_below (sight g.R.Blob.Blob.told g.R.Blob.Blob.seen g.W.Leaf.Leaf.seen) _ _ _ _ c.in_ok-new.ensures.pool
+
+pub reserve-requires-clause-desks : goal.reserve-requires-clause-desks
+reserve-requires-clause-desks g c =
+    none_dealt (sight g.R.Blob.Blob.told g.R.Blob.Blob.seen g.W.Leaf.Leaf.seen) c.in_ok-new.new.starts.items
+    c.new-desks.result.items c.new-desks.ensures.items
 
 pub reserve-requires-clause-new : goal.reserve-requires-clause-new
 reserve-requires-clause-new g c =

@@ -3,7 +3,8 @@ use Rattle.convert_plan.specs.declared.card.Card.{Card}
 use Rattle.convert_plan.specs.Card.{IsNewCard, IsRefusedCard}
 use Rattle.checkout_book.specs.declared.plan.Plan.{Plan}
 use Rattle.checkout_book.specs.Sights.{sight, seen}
-use Rattle.book_bench.proofs.Pairing.{IsPair, pair_below, pair_pool, pair_new, pair_refused, pair_path, begun, both_idle, last_card}
+use Rattle.book_bench.proofs.Pairing.{IsPair, pair_below, pair_pool, pair_new, pair_dealt, pair_refused}
+use Rattle.book_bench.proofs.Pairing.{pair_path, begun, both_idle, last_card}
 use Rattle.book_bench.proofs.runs.by_worker_and_desk.Goals as goal
 
 pub reserve-requires-clause-pool : goal.reserve-requires-clause-pool
@@ -31,6 +32,32 @@ reserve-requires-clause-pool g c =
       filtered_new = c.requires.filtered_new;
     } in
     pair_pool see d _ _ is
+
+pub reserve-requires-clause-desks : goal.reserve-requires-clause-desks
+reserve-requires-clause-desks g c =
+    let see = sight g.B.Blob.told g.B.Blob.seen g.L.Leaf.seen in
+    let p = c.in_ok-cards.cards in
+    let e = c.in_ok-cards.ensures in
+    let d : Plan g.row.B.Denot g.row.L.Denot = record {
+      pool = p.pool;
+      desks = p.desks;
+      starts = p.starts;
+      workers = 1;
+      drivers = length p.desks.items;
+    } in
+    let is : IsPair see d c.args.free c.args.filtered = record {
+      pool = e.pool;
+      desks = e.desks;
+      count = e.count;
+      starts = e.starts;
+      workers = refl;
+      drivers = refl;
+      free = c.requires.free;
+      filtered = c.requires.filtered;
+      free_new = c.requires.free_new;
+      filtered_new = c.requires.filtered_new;
+    } in
+    pair_dealt see d _ _ is
 
 pub reserve-requires-clause-below : goal.reserve-requires-clause-below
 reserve-requires-clause-below g c =
