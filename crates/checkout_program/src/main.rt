@@ -8,18 +8,8 @@ ghost use Rattle.std.specs.IoError.{error_kind};
 ghost use Rattle.std.specs.declared.io.ErrorKind.TheVariants.{OutOfMemory};
 ghost use Rattle.checkout_program.specs.Words.{word_at, words_of, message_of};
 
-mod file_leaf;
-mod folder_repo;
-mod folder_tree;
-mod folders;
-mod output_sink;
-mod paths;
-mod whole_file;
-
 use checkout_engine::run;
-use folder_repo::FolderRepo;
-use folder_tree::FolderTree;
-use output_sink::OutputSink;
+use edge_adapters::{FolderRepo, FolderTree, OutputSink};
 use std::alloc::{AllocError, Global};
 use std::env::{Args, args};
 use std::io;
@@ -98,6 +88,3 @@ fn main(rt: HostRuntime) -> ExitCode {
     }
     ExitCode::from(status)
 }
-
-#[cfg(test)]
-mod tests;

@@ -3,10 +3,9 @@ ghost use Rattle.std.specs.Prelude.{◌≡◌};
 ghost use Rattle.edge_kit.specs.declared.leaf_state.LeafState.TheVariants as leaf_state;
 
 use crate::page::Page;
-use crate::pipe::Pipe;
 use byte_path::Bytes;
 use delay_table::DelayTable;
-use edge_kit::SendFault;
+use edge_kit::{Link, SendFault};
 use filter_proto::{Begun, Session};
 use filter_words::{ListReply, Reply};
 use std::alloc::{AllocError, Global};
@@ -19,9 +18,9 @@ pub const HELLO: &[u8] =
 pub const HELLO_DIRECT: &[u8] =
     b"0016git-filter-server\n000eversion=2\n00000016capability=smudge\n0000";
 
-/// A session over the pipe. Anything but a live session counts as a failed test.
-pub fn begin(alloc: Global, pipe: Pipe) -> Result<Session<Pipe>, AllocError> {
-    match Session::begin(alloc, pipe) {
+/// A session over the link. Anything but a live session counts as a failed test.
+pub fn begin<K: Link>(alloc: Global, link: K) -> Result<Session<K>, AllocError> {
+    match Session::begin(alloc, link) {
         Begun::Live(session) => Ok(session),
         Begun::Broken(_, _) | Begun::NoMemory(_) => Err(AllocError),
     }
@@ -31,8 +30,8 @@ pub fn begin(alloc: Global, pipe: Pipe) -> Result<Session<Pipe>, AllocError> {
 pub type Came = (Reply, Result<(), SendFault>);
 
 /// Asks for a path, if that is allowed.
-pub fn ask(
-    session: &mut Session<Pipe>,
+pub fn ask<K: Link>(
+    session: &mut Session<K>,
     path: &[u8],
     content: &[u8],
     page: &mut Page,
@@ -53,7 +52,11 @@ pub fn ask(
 }
 
 /// Asks again for a path, if that is allowed.
-pub fn ask_again(session: &mut Session<Pipe>, path: &[u8], page: &mut Page) -> Option<Came>
+pub fn ask_again<K: Link>(
+    session: &mut Session<K>,
+    path: &[u8],
+    page: &mut Page,
+) -> Option<Came>
     requires { page.old.state ≡ leaf_state.Fresh }
 {
     if !session.live() {
@@ -70,7 +73,7 @@ pub fn ask_again(session: &mut Session<Pipe>, path: &[u8], page: &mut Page) -> O
 }
 
 /// Asks for a list, if that is allowed.
-pub fn list(session: &mut Session<Pipe>, table: &mut DelayTable) -> Option<ListReply> {
+pub fn list<K: Link>(session: &mut Session<K>, table: &mut DelayTable) -> Option<ListReply> {
     if !session.live() {
         return None;
     }

@@ -1,3 +1,4 @@
+mod children;
 mod leaf;
 mod repo;
 mod sink;

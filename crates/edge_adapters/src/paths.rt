@@ -1,6 +1,6 @@
 //! The paths of the files that the program opens.
 ghost use Rattle.std.specs.Prelude.{◌≡◌, IfOk, string_bytes};
-ghost use Rattle.checkout_program.specs.Paths.{path_in};
+ghost use Rattle.edge_adapters.specs.Paths.{path_in};
 
 use std::alloc::{AllocError, Global};
 

@@ -1,0 +1,26 @@
+//! The outside of a checkout as the system has it: a Git folder, a worktree's folder, the child processes of filter
+//! drivers, and an output. They tell nothing of what they hold, and each counts its faults.
+#![tactic(auto)]
+
+mod file_leaf;
+mod folder_repo;
+mod folder_tree;
+mod folders;
+mod output_sink;
+mod paths;
+mod process_link;
+mod process_spawner;
+mod process_starter;
+mod whole_file;
+mod write_whole;
+
+pub use file_leaf::FileLeaf;
+pub use folder_repo::{FolderBlob, FolderRepo};
+pub use folder_tree::FolderTree;
+pub use output_sink::OutputSink;
+pub use process_link::ProcessLink;
+pub use process_spawner::ProcessSpawner;
+pub use process_starter::ProcessStarter;
+
+#[cfg(test)]
+mod tests;

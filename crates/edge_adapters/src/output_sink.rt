@@ -1,0 +1,32 @@
+ghost use Rattle.std.specs.Prelude.{◌≡◌, None};
+
+use crate::write_whole::write_whole;
+use edge_kit::{SendFault, Sink};
+use std::io::Write;
+
+/// A writer that is written to, such as the program's standard output. Each piece is written at once.
+#[derive(Drop)]
+pub struct OutputSink<W: Write + Drop> {
+    out: W,
+    pub faults: u64,
+}
+
+impl<W: Write + Drop> OutputSink<W> {
+    pub fn new(out: W) -> OutputSink<W>
+        ensures { result.faults ≡ 0 }
+    {
+        OutputSink { out, faults: 0 }
+    }
+}
+
+impl<W: Write + Drop> Sink for OutputSink<W> {
+    ghost seen = { λ s. record { written = None; faults = s.faults } };
+
+    fn write(&mut self, piece: &[u8]) -> Result<(), SendFault> {
+        let written = write_whole(&mut self.out, piece);
+        if let Err(SendFault::Failed) = written {
+            self.faults = self.faults.saturating_add(1);
+        }
+        written
+    }
+}
