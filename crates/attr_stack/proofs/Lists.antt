@@ -32,3 +32,8 @@ pub pairs_before-more : (files : List FileAt) (path : List ℕ) (place : ℕ) (b
 pairs_before-more files path place behind =
     let next : suc place ≡ place + 1 = omega arith in
     subst (λ n. pairs_before files path n ++ behind ≡ pairs_ending files path place ++ (pairs_before files path place ++ behind)) next (folders-apart files path place behind)
+
+-- the same where nothing stands after them
+pub last-first : {X A : Type 0} (f : X → List A) (xs : List X) (i : ℕ) (x : X) → x ≡ get_or xs i x → i < length xs
+    → flat_map f (reverse (take (i + 1) xs)) ≡ f x ++ flat_map f (reverse (take i xs))
+last-first f xs i x is within = ap (flat_map f) (reverse-take xs i x is within)

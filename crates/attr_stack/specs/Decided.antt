@@ -55,7 +55,8 @@ pub record IsDecidedByRule : Type 0 where
   pub passed : (macros : List MacroLine) (pair : Pair) (rest : List Pair) (names : Names) → names pair.name
       ≡ true → decided macros (pair ∷ rest) names ≡ decided macros rest names
   pub decides : (macros : List MacroLine) (pair : Pair) (rest : List Pair) (names : Names) → names pair.name ≡ false
-      → decided macros (pair ∷ rest) names ≡ pair ∷ decided macros (body_of macros pair ++ rest) (with_name pair.name names)
+      → decided macros (pair ∷ rest) names
+      ≡ pair ∷ decided macros (body_of macros pair ++ rest) (with_name pair.name names)
 
 -- what the first pair of a name says
 abbrev pub said_of : List Pair → List ℕ → Option AttrState

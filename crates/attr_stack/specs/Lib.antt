@@ -3,4 +3,5 @@ pub mod Levels
 pub mod Macros
 pub mod Pairs
 pub mod Rules
+pub mod Search
 pub mod Seen

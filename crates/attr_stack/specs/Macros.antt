@@ -39,7 +39,8 @@ abbrev pub binary : MacroLine
 binary =
     record { name = codes "binary"; pairs = unset (codes "diff") ∷ unset (codes "merge") ∷ unset (codes "text") ∷ [] }
 
--- the macros in the order in which rows are read: those of `info/attributes`, those of the top folder's file, and `binary`
+-- the macros in the order in which rows are read: those of `info/attributes`, those of the top folder's file, and
+-- `binary`
 abbrev pub macros_of : AttrFiles → List MacroLine
 macros_of files = file_macros files.info.rows ++ (top_macros files.files ++ binary ∷ [])
 

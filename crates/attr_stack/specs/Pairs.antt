@@ -43,7 +43,8 @@ abbrev pub pairs_ending : List FileAt → List ℕ → ℕ → List Pair
 pairs_ending files path place =
     if ends_folder path place then folder_pairs files (take place path) (drop (place + 1) path) else []
 
--- what the folders give whose names end before a place: the deepest first, and the top folder, which has the empty name, at the end
+-- what the folders give whose names end before a place: the deepest first, and the top folder, which has the empty
+-- name, at the end
 abbrev pub pairs_before : List FileAt → List ℕ → ℕ → List Pair
 pairs_before files path zero = folder_pairs files [] path
 pairs_before files path (suc place) = pairs_ending files path place ++ pairs_before files path place

@@ -19,15 +19,21 @@ from_end pairs = reverse (map (λ (pair : Bor Pair). pair.now) pairs)
 
 -- what a map from names to states has for a name
 abbrev pub state_at : BTreeMap (Bor (List ℕ)) (Bor AttrState) → List ℕ → Option AttrState
-state_at states name = option_map (λ (state : Bor AttrState). state.now) (tree.get_by (λ (key : Bor (List ℕ)). slice_cmp nat_cmp name key.now) states)
+state_at states name =
+    option_map (λ (state : Bor AttrState). state.now)
+    (tree.get_by (λ (key : Bor (List ℕ)). slice_cmp nat_cmp name key.now) states)
 
 -- what is decided of a name
 abbrev pub said_in : BTreeMap (Bor (List ℕ)) (Bor AttrState) → List ℕ → AttrState
 said_in states name = unwrap_or (state_at states name) Unspecified
 
--- what a map from names to the pairs of macros has for a name
+-- what a map from the names of macros to their pairs has for a name
+abbrev pub macro_at : BTreeMap (Vec ℕ) (List Pair) → List ℕ → Option (List Pair)
+macro_at macros name = tree.get_by (λ (key : Vec ℕ). slice_cmp nat_cmp name key.items) macros
+
+-- the pairs of a macro, and none for another name
 abbrev pub pairs_at : BTreeMap (Vec ℕ) (List Pair) → List ℕ → List Pair
-pairs_at macros name = unwrap_or (tree.get_by (λ (key : Vec ℕ). slice_cmp nat_cmp name key.items) macros) []
+pairs_at macros name = unwrap_or (macro_at macros name) []
 
 -- a map gives each name the meaning that these macros give it
 abbrev pub AreMacros : BTreeMap (Vec ℕ) (List Pair) → List MacroLine → Type 0

@@ -1,11 +1,12 @@
 //! An attribute file whose patterns were looked at once.
-ghost use Rattle.std.specs.Prelude.{◌≡◌, ◌++◌, IfOk, OnOk, map};
-ghost use Rattle.attr_stack.specs.Pairs.{file_pairs};
+ghost use Rattle.std.specs.Prelude.{◌≡◌, ℕ, List, [], IfOk, OnOk, map};
+ghost use Rattle.wild_match.specs.Fits.{is_match};
+ghost use Rattle.attr_stack.specs.Pairs.{row_pairs, file_pairs};
 ghost use Rattle.attr_stack.specs.Levels.{row_pattern, row_rule, rows_pairs};
-ghost use Rattle.attr_stack.specs.Seen.{from_end};
+ghost use Rattle.attr_stack.specs.Search.{Reads};
 
+use crate::decide::{Asked, States, is_done, read_rule};
 use crate::files::FileAt;
-use crate::reach::push_pairs;
 use attr_line::{AttrFile, AttrRow, Pair};
 use byte_path::Bytes;
 use std::alloc::{AllocError, Global};
@@ -43,20 +44,42 @@ fn patterns_of(alloc: Global, rows: &[AttrRow]) -> Result<Vec<Compiled>, AllocEr
     Ok(patterns)
 }
 
-/// The pairs of these rows with these patterns, for a path in the folder of their file.
-fn push_rows<'a>(
-    pending: &mut Vec<&'a Pair>,
+/// Notes what a row says, if its pattern is one that matches.
+fn read_row<'a>(
+    alloc: Global,
+    asked: &Asked<'a>,
+    states: &mut States<'a>,
+    row: &'a AttrRow,
+    matches: bool,
+) -> Result<(), AllocError>
+    ensures { OnOk result ((path : List ℕ) → matches ≡ is_match (row_pattern row.now) path
+        → Reads asked.now (row_pairs path row.now) states.old [] states.new) }
+{
+    if matches {
+        read_rule(alloc, asked, states, row_rule(row))?;
+    }
+    Ok(())
+}
+
+/// Notes what these rows with these patterns decide, from the last on, for a path in the folder of their file. It stops
+/// once all names are decided.
+fn read_rows<'a>(
+    alloc: Global,
+    asked: &Asked<'a>,
+    states: &mut States<'a>,
     rows: &'a [AttrRow],
     patterns: &[Compiled],
     path: &[u8],
 ) -> Result<(), AllocError>
     requires { patterns.now ≡ map row_pattern rows.now }
-    ensures { OnOk result (from_end pending.new.items ≡ rows_pairs path.now rows.now ++ from_end pending.old.items) }
+    ensures { OnOk result (Reads asked.now (rows_pairs path.now rows.now) states.old [] states.new) }
 {
     let name = last_part(path);
-    for (place, row) in rows.iter().enumerate() {
-        if patterns[place].matches_named(path, name) {
-            push_pairs(pending, row_rule(row))?;
+    for place in (0..rows.len()).rev() {
+        let matches = patterns[place].matches_named(path, name);
+        read_row(alloc, asked, states, &rows[place], matches)?;
+        if matches && is_done(asked.names, states) {
+            return Ok(());
         }
     }
     Ok(())
@@ -90,16 +113,18 @@ impl CompiledFile {
         Ok(CompiledFile { file, patterns })
     }
 
-    /// The pairs of the file for a path in its folder, to be read before those that wait.
-    pub fn push_file<'a>(
+    /// Notes what the file decides for a path in its folder.
+    pub fn read<'a>(
         &'a self,
-        pending: &mut Vec<&'a Pair>,
+        alloc: Global,
+        asked: &Asked<'a>,
+        states: &mut States<'a>,
         path: &[u8],
     ) -> Result<(), AllocError>
-        ensures { OnOk result (from_end pending.new.items ≡ file_pairs path.now self.now
-            ++ from_end pending.old.items) }
+        ensures { OnOk result (Reads asked.now (file_pairs path.now self.now) states.old [] states.new) }
     {
-        push_rows(pending, self.file.rows.as_slice(), &self.patterns, path)
+        let rows = self.file.rows.as_slice();
+        read_rows(alloc, asked, states, rows, &self.patterns, path)
     }
 }
 

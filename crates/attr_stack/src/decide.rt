@@ -1,16 +1,26 @@
-//! Which pair decides each attribute.
-ghost use Rattle.std.specs.Prelude.{◌≡◌, ℕ, ◌++◌, List, IfOk, OnOk};
+//! Which pair decides each attribute that is asked for.
+ghost use Rattle.std.specs.Prelude.{◌≡◌, [], ◌++◌, List, IfOk, OnOk, is_some, reverse};
+ghost use Rattle.std.specs.List.{list_all};
 ghost use Rattle.attr_stack.specs.Macros.{MacroLine};
-ghost use Rattle.attr_stack.specs.Decided.{body_of, decided, no_names, said_of};
+ghost use Rattle.attr_stack.specs.Decided.{body_of};
 ghost use Rattle.attr_stack.specs.Seen.{from_end, state_at, pairs_at, AreMacros, Notes};
+ghost use Rattle.attr_stack.specs.Search.{is_asked, is_needed, Reads};
 
 use crate::macros::Macros;
 use crate::reach::push_pairs;
 use attr_line::{AttrState, Pair};
+use byte_path::Bytes;
 use std::alloc::{AllocError, Global};
 use std::collections::BTreeMap;
 
-/// The states of the names that are decided.
+/// What a search is for.
+#[derive(Clone, Copy)]
+pub struct Asked<'a> {
+    pub names: &'a [Bytes],
+    pub macros: &'a Macros,
+}
+
+/// What is decided of the names that are asked for and of macros. No other name stands here.
 pub type States<'a> = BTreeMap<&'a [u8], &'a AttrState>;
 
 /// What a name stands for: nothing, if it is no macro.
@@ -38,6 +48,23 @@ fn push_body<'a>(
     }
 }
 
+/// Whether a name is asked for.
+fn is_asked(names: &[Bytes], name: &[u8]) -> bool
+    ensures { result ≡ is_asked names.now name.now }
+{
+    names.iter().any(|other| other.as_slice() == name)
+}
+
+/// Whether a name may decide one that is asked for.
+fn is_needed(asked: &Asked<'_>, name: &[u8]) -> bool
+    ensures { result ≡ is_needed asked.now name.now }
+{
+    if is_asked(asked.names, name) {
+        return true;
+    }
+    asked.macros.contains_key(name)
+}
+
 /// Whether a pair decides. What it says is noted then.
 fn decides<'a>(states: &mut States<'a>, pair: &'a Pair) -> Result<bool, AllocError>
     ensures { IfOk result (λ decides. Notes pair.now (state_at states.old) (state_at states.new) decides) }
@@ -50,21 +77,44 @@ fn decides<'a>(states: &mut States<'a>, pair: &'a Pair) -> Result<bool, AllocErr
     Ok(true)
 }
 
-/// The states of the names that these pairs decide, of which the last is read first.
+/// Notes what these pairs decide, of which the last is read first.
 pub fn read_pairs<'a>(
-    alloc: Global,
+    asked: &Asked<'a>,
+    states: &mut States<'a>,
     mut pending: Vec<&'a Pair>,
-    macros: &'a Macros,
-) -> Result<States<'a>, AllocError>
-    ensures { IfOk result (λ states. (lines : List MacroLine) → AreMacros macros.now lines
-        → (name : List ℕ) → state_at states name
-        ≡ said_of (decided lines (from_end pending.entry.items) no_names) name) }
+) -> Result<(), AllocError>
+    ensures { OnOk result (Reads asked.now (from_end pending.entry.items) states.old [] states.new) }
 {
-    let mut states = BTreeMap::new(alloc);
     'reading: while let Some(pair) = pending.pop() {
-        if decides(&mut states, pair)? {
-            push_body(&mut pending, macros, pair)?;
+        if !is_needed(asked, pair.name.as_slice()) {
+            continue;
+        }
+        if decides(states, pair)? {
+            push_body(&mut pending, asked.macros, pair)?;
         }
     }
-    Ok(states)
+    Ok(())
+}
+
+/// Notes what the pairs of a rule decide.
+pub fn read_rule<'a>(
+    alloc: Global,
+    asked: &Asked<'a>,
+    states: &mut States<'a>,
+    pairs: &'a [Pair],
+) -> Result<(), AllocError>
+    ensures { OnOk result (Reads asked.now (reverse pairs.now) states.old [] states.new) }
+{
+    let mut pending = Vec::with_capacity(alloc, pairs.len())?;
+    push_pairs(&mut pending, pairs)?;
+    read_pairs(asked, states, pending)
+}
+
+/// Whether each name that is asked for is decided, so that no other pair counts.
+pub fn is_done(names: &[Bytes], states: &States<'_>) -> bool
+    ensures { result ≡ list_all (λ name. is_some (state_at states.now name)) names.now }
+{
+    names
+        .iter()
+        .all(|name| states.contains_key(name.as_slice()))
 }

@@ -1,21 +1,22 @@
 //! The attribute files of a repository, for one path after another.
-ghost use Rattle.std.specs.Prelude.{◌≡◌, ℕ, ◌++◌, List, IfOk, OnOk, map, reverse, drop};
+ghost use Rattle.std.specs.Prelude.{◌≡◌, ℕ, true, List, [], IfOk, OnOk, map, reverse, drop};
 ghost use Rattle.std.specs.List.{flat_map};
-ghost use Rattle.attr_stack.specs.Pairs.{pairs_of};
 ghost use Rattle.attr_stack.specs.Decided.{decision, state_of};
-ghost use Rattle.attr_stack.specs.Levels.{level_pairs, IsChain, StandsIn};
-ghost use Rattle.attr_stack.specs.Seen.{from_end, state_at};
+ghost use Rattle.attr_stack.specs.Levels.{level_pairs, StandsIn};
+ghost use Rattle.attr_stack.specs.Seen.{state_at};
+ghost use Rattle.attr_stack.specs.Search.{is_asked, Reads};
 ghost use Rattle.attr_stack.specs.Rules.{files_of, IsRules, IsStack};
 
 use crate::chain::{Chain, Level, Places, places_of};
 use crate::compiled_file::{CompiledAt, CompiledFile};
-use crate::decide::{States, read_pairs};
+use crate::decide::{Asked, States, is_done};
 use crate::files::{AttrFiles, FileAt};
 use crate::macros::{Macros, macros_of};
 use crate::states::states_in;
-use attr_line::{AttrState, Pair};
+use attr_line::AttrState;
 use byte_path::{Bytes, Items};
 use std::alloc::{AllocError, Global};
+use std::collections::BTreeMap;
 use std::marker::Model;
 use wild_match::last_part;
 
@@ -67,69 +68,72 @@ fn behind(path: &[u8], len: usize) -> &[u8]
     inner
 }
 
-/// The pairs that one file gives to a path.
-fn push_level<'a>(
-    pending: &mut Vec<&'a Pair>,
+/// Notes what one file decides for a path.
+fn read_level<'a>(
+    alloc: Global,
+    asked: &Asked<'a>,
+    states: &mut States<'a>,
     folders: &'a [CompiledAt],
     level: Level,
     path: &[u8],
 ) -> Result<(), AllocError>
-    ensures { OnOk result (from_end pending.new.items ≡ level_pairs folders.now path.now level
-        ++ from_end pending.old.items) }
+    ensures { OnOk result (Reads asked.now (level_pairs folders.now path.now level) states.old [] states.new) }
 {
     match folders.get(level.place) {
-        Some(at) => at.file().push_file(pending, behind(path, level.start)),
+        Some(at) => at
+            .file()
+            .read(alloc, asked, states, behind(path, level.start)),
         None => Ok(()),
     }
 }
 
-fn push_levels<'a>(
-    pending: &mut Vec<&'a Pair>,
+/// Notes what these files decide for a path, from the last on. It stops once all names are decided.
+fn read_levels<'a>(
+    alloc: Global,
+    asked: &Asked<'a>,
+    states: &mut States<'a>,
     folders: &'a [CompiledAt],
     levels: &[Level],
     path: &[u8],
 ) -> Result<(), AllocError>
-    ensures { OnOk result (from_end pending.new.items ≡ flat_map (level_pairs folders.now path.now) (reverse levels.now)
-        ++ from_end pending.old.items) }
+    ensures { OnOk result (Reads asked.now (flat_map (level_pairs folders.now path.now) (reverse levels.now))
+        states.old [] states.new) }
 {
-    for level in levels {
-        push_level(pending, folders, *level, path)?;
+    for place in (0..levels.len()).rev() {
+        if is_done(asked.names, states) {
+            return Ok(());
+        }
+        read_level(alloc, asked, states, folders, levels[place], path)?;
     }
     Ok(())
 }
 
-/// The pairs that reach a path of the chain's folder.
-fn push_reached<'a>(
-    pending: &mut Vec<&'a Pair>,
-    rules: &'a Rules,
-    chain: &Chain,
-    path: &[u8],
-) -> Result<(), AllocError>
-    requires chain { IsChain rules.now.folders.items chain.now }
-    requires within { StandsIn path.now chain.now.folder.items }
-    ensures { OnOk result (from_end pending.new.items ≡ pairs_of (files_of rules.now) path.now
-        ++ from_end pending.old.items) }
-{
-    push_levels(pending, &rules.folders, &chain.levels, path)?;
-    rules.info.push_file(pending, path)?;
-    Ok(())
-}
-
-/// What is decided for a path of the chain's folder.
+/// What is decided of some names for a path of the chain's folder.
 fn decided_of<'a>(
     alloc: Global,
     rules: &'a Rules,
     chain: &Chain,
     path: &[u8],
+    names: &'a [Bytes],
 ) -> Result<States<'a>, AllocError>
     requires stack { IsStack rules.now chain.now }
     requires within { StandsIn path.now chain.now.folder.items }
-    ensures { IfOk result (λ states. (name : List ℕ)
+    ensures { IfOk result (λ states. (name : List ℕ) → is_asked names.now name ≡ true
         → state_at states name ≡ decision (files_of rules.now) path.now name) }
 {
-    let mut pending = Vec::new(alloc);
-    push_reached(&mut pending, rules, chain, path)?;
-    read_pairs(alloc, pending, &rules.macros)
+    let macros = &rules.macros;
+    let asked = Asked { names, macros };
+    let mut states = BTreeMap::new(alloc);
+    rules.info.read(alloc, &asked, &mut states, path)?;
+    read_levels(
+        alloc,
+        &asked,
+        &mut states,
+        &rules.folders,
+        &chain.levels,
+        path,
+    )?;
+    Ok(states)
 }
 
 /// The folder of a path, with the `/` at its end.
@@ -186,7 +190,7 @@ impl AttrStack {
         let chain = &mut self.chain;
         let folder = folder_of(path);
         chain.enter(alloc, &rules.places, folder)?;
-        let decided = decided_of(alloc, rules, chain, path)?;
+        let decided = decided_of(alloc, rules, chain, path, names)?;
         states_in(alloc, &decided, names)
     }
 }

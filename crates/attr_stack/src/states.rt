@@ -3,13 +3,14 @@ ghost use Rattle.std.specs.Prelude.{◌≡◌, IfOk, map};
 ghost use Rattle.attr_stack.specs.Decided.{state_of};
 ghost use Rattle.attr_stack.specs.Seen.{said_in};
 
-use crate::decide::{States, read_pairs};
+use crate::decide::{Asked, States, read_pairs};
 use crate::files::AttrFiles;
 use crate::macros::macros_of;
 use crate::reach::push_all;
 use attr_line::AttrState;
 use byte_path::Bytes;
 use std::alloc::{AllocError, Global};
+use std::collections::BTreeMap;
 
 /// A copy of a state.
 pub fn copy_of(alloc: Global, state: &AttrState) -> Result<AttrState, AllocError>
@@ -50,8 +51,8 @@ pub fn states_in(
 
 /// The state of each name for a path, in the order of the names (gitattributes(5), "DESCRIPTION").
 ///
-/// The time is that of matching each row of the files that reach the path, and for their pairs that of a look-up among
-/// the names that are decided.
+/// The time is that of matching each row of the files that reach the path. Each of their pairs takes a look-up among the
+/// names, among the macros, and among what is decided.
 pub fn attributes_of(
     alloc: Global,
     files: &AttrFiles,
@@ -63,6 +64,11 @@ pub fn attributes_of(
     let macros = macros_of(alloc, files)?;
     let mut pending = Vec::new(alloc);
     push_all(&mut pending, files, path)?;
-    let decided = read_pairs(alloc, pending, &macros)?;
-    states_in(alloc, &decided, names)
+    let asked = Asked {
+        names,
+        macros: &macros,
+    };
+    let mut states = BTreeMap::new(alloc);
+    read_pairs(&asked, &mut states, pending)?;
+    states_in(alloc, &states, names)
 }

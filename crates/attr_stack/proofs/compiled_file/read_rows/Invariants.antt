@@ -1,0 +1,7 @@
+use Rattle.std.proofs.Common.{take}
+use Rattle.attr_stack.specs.Levels.{rows_pairs}
+use Rattle.attr_stack.specs.Search.{Reads}
+use Rattle.attr_stack.proofs.compiled_file.read_rows.Given as goal
+
+abbrev pub invariant-loop-place : goal.invariant-loop-place
+invariant-loop-place l = Reads l.asked (rows_pairs l.path l.rows) l.initial.states (rows_pairs l.path (take l.place l.rows)) l.states

@@ -1,0 +1,34 @@
+use Rattle.std.proofs.Common.{◌≡◌, List, [], ◌++◌, length, reverse, ap, sym, ◌∙◌}
+use Rattle.std.specs.List.{flat_map}
+use Rattle.attr_line.specs.declared.file.Pair.{Pair}
+use Rattle.attr_stack.specs.declared.files.FileAt.{FileAt}
+use Rattle.attr_stack.specs.declared.chain.Level.{Level}
+use Rattle.attr_stack.specs.Levels.{level_pairs}
+use Rattle.attr_stack.specs.Macros.{macros_of}
+use Rattle.attr_stack.specs.Pairs.{file_pairs, pairs_before}
+use Rattle.attr_stack.specs.Rules.{files_of}
+use Rattle.attr_stack.specs.Search.{is_asked}
+use Rattle.attr_stack.specs.Seen.{state_at}
+use Rattle.attr_stack.proofs.Chains.{chain_gives}
+use Rattle.attr_stack.proofs.Maps.{nothing-noted}
+use Rattle.attr_stack.proofs.Readings.{leads-from, leads-both, leads-decides}
+use Rattle.attr_stack.proofs.stack.decided_of.Goals as goal
+
+pub returns : goal.returns
+returns c = λ name asked.
+    let files = c.args.rules.now.folders.items in
+    let path = c.args.path.now in
+    let lines = macros_of (files_of c.args.rules.now) in
+    let names = is_asked c.args.names.now in
+    let info = file_pairs path c.args.rules.now.info in
+    let none = state_at c.new-states.result in
+    let mid = state_at c.read.new.states in
+    let new = state_at c.read_levels.new.states in
+    let reached : flat_map (level_pairs c.deref.result.now path) (reverse c.deref-2.result.now) ≡ pairs_before files path (length path) =
+    ap (λ (fs : List FileAt). flat_map (level_pairs fs path) (reverse c.deref-2.result.now)) c.deref.ensures.value
+    ∙ ap (λ (ls : List Level). flat_map (level_pairs files path) (reverse ls)) c.deref-2.ensures.value
+    ∙ chain_gives files c.args.chain.now path c.requires.stack.entered c.requires.within in
+    leads-decides lines names (info ++ pairs_before files path (length path)) none new name (nothing-noted c.new-states.result c.new-states.ensures.empty)
+    (leads-both lines names info (pairs_before files path (length path)) none mid new
+    (c.in_ok-read.ensures lines c.requires.stack.right.macros)
+    (leads-from lines names _ _ [] mid new reached (c.in_ok-read_levels.ensures lines c.requires.stack.right.macros))) asked

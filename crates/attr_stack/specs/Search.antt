@@ -1,0 +1,48 @@
+-- What a search for the states of some names has found so far.
+use Rattle.std.specs.Prelude.{◌≡◌, ℕ, Bool, true, ◌||◌, List, ◌++◌, Option, Some, None, is_some}
+use Rattle.std.specs.List.{list_any}
+use Rattle.std.specs.Str.{bytes_eq}
+use Rattle.std.specs.BTreeMap.{BTreeMap}
+use denote.Ref.{Bor}
+use Rattle.attr_line.specs.declared.state.AttrState.{AttrState}
+use Rattle.attr_line.specs.declared.file.Pair.{Pair}
+use Rattle.attr_stack.specs.declared.decide.Asked.{Asked}
+use Rattle.attr_stack.specs.Macros.{MacroLine}
+use Rattle.attr_stack.specs.Decided.{Names, decided, said_of}
+use Rattle.attr_stack.specs.Seen.{AreMacros, macro_at, state_at}
+
+-- what is decided of each name so far
+abbrev pub Noted : Type 0
+Noted = List ℕ → Option AttrState
+
+-- the names that something is decided of
+abbrev pub known : Noted → Names
+known states name = is_some (states name)
+
+abbrev pub or_else : Option AttrState → Option AttrState → Option AttrState
+or_else (Some state) later = Some state
+or_else None later = later
+
+-- what is decided so far, or else by the pairs that are left
+abbrev pub still_of : List MacroLine → List Pair → Noted → List ℕ → Option AttrState
+still_of lines pairs states name = or_else (states name) (said_of (decided lines pairs (known states)) name)
+
+-- whether a name is asked for
+abbrev pub is_asked : List (List ℕ) → Names
+is_asked names name = list_any (λ (other : List ℕ). bytes_eq other name) names
+
+-- whether a name may decide one that is asked for: it is asked for itself, or it is a macro
+abbrev pub is_needed : Asked → Names
+is_needed asked name = is_asked asked.names.now name || is_some (macro_at asked.macros.now name)
+
+-- Of each name that is asked for, the same is decided by the pairs before, after what was noted then, as by the pairs
+-- that are left, after what is noted now.
+abbrev pub Leads : List MacroLine → Names → List Pair → Noted → List Pair → Noted → Type 0
+Leads lines asked pairs old left new = (rest : List Pair) (name : List ℕ) → asked name ≡ true
+    → still_of lines (pairs ++ rest) old name ≡ still_of lines (left ++ rest) new name
+
+-- the same for the maps of the code
+abbrev pub Reads : Asked → List Pair → BTreeMap (Bor (List ℕ)) (Bor AttrState) → List Pair
+    → BTreeMap (Bor (List ℕ)) (Bor AttrState) → Type 0
+Reads asked pairs old left new = (lines : List MacroLine) → AreMacros asked.macros.now lines
+    → Leads lines (is_asked asked.names.now) pairs (state_at old) left (state_at new)
