@@ -28,7 +28,7 @@ use Rattle.checkout_book.specs.declared.plan.Entry.{Entry}
 use Rattle.checkout_book.specs.Sights.{Sight, seen}
 use Rattle.checkout_book.specs.Entries.{events_of}
 use Rattle.checkout_book.specs.Shelves.{joined, cards_of, IsRefused}
-use Rattle.checkout_book.specs.Passes.{IsPass, Notes, note_entry}
+use Rattle.checkout_book.specs.Passes.{IsPass, Appends, note_entry}
 use Rattle.checkout_book.specs.Reserving.{ArePool, AreDealt, AreNew, AreIdle, AreFresh, HasNothing}
 use Rattle.book_bench.specs.Pairs.{two, IsFirst}
 
@@ -85,7 +85,7 @@ module _ {B L : Type 0} (lock : TableId) (d : Plan B L) (made : ℕ) (s : SeatVi
 
   -- and then the path may be handed back
   pub may_hand_back : MayFollow → ListsOwn B L → (new : SeatView Entry (Plan B L)) (c : Core)
-      (t : Notes lock d 1 made s new c not_started)
+      (t : Appends lock d 1 made s new c not_started)
       → IsPass lock d 1 made s c → (p : ℕ) → p ≡ 1 → is_step t.core (HandBack p) ≡ true
   may_hand_back law lists new c t pass p is =
       let now = t.turn.pass in
@@ -103,8 +103,8 @@ module _ {B L : Type 0} (lock : TableId) (d : Plan B L) (made : ℕ) (s : SeatVi
       (law d.starts.items d.workers d.drivers 1 (events_of (seen_of new)) t.core (HandBack 1) now.reads.run
       (by_desk (HandBack 1) refl) next refl)
 
-  pub nothing_after : (new last : SeatView Entry (Plan B L)) (c : Core) (t : Notes lock d 1 made s new c not_started)
-      (p : ℕ) → Notes lock d 1 made new last t.core (HandBack p) → ((q : ℕ) → held_at c 1 q ≡ false)
+  pub nothing_after : (new last : SeatView Entry (Plan B L)) (c : Core) (t : Appends lock d 1 made s new c not_started)
+      (p : ℕ) → Appends lock d 1 made new last t.core (HandBack p) → ((q : ℕ) → held_at c 1 q ≡ false)
       → HasNothing lock d 1 made last
   nothing_after new last c t p u none = (u.core, u.turn.pass, λ q. u.hands q ∙ (t.hands q ∙ none q))
 

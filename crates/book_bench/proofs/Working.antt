@@ -25,7 +25,7 @@ use Rattle.checkout_book.specs.declared.plan.Parts.{Parts}
 use Rattle.checkout_book.specs.declared.plan.Entry.{Entry}
 use Rattle.checkout_book.specs.Sights.{Sight, seen}
 use Rattle.checkout_book.specs.Shelves.{joined}
-use Rattle.checkout_book.specs.Passes.{IsPass, TookNone, TookCard, Closes, Notes}
+use Rattle.checkout_book.specs.Passes.{IsPass, TookNone, TookCard, Closes, Appends}
 use Rattle.checkout_book.specs.Reserving.{ArePool, AreDealt, AreNew, HasNothing, AreIdle}
 use Rattle.convert_plan.specs.Card.{IsNewCard}
 use Rattle.book_bench.specs.Pools.{IsPool}
@@ -94,8 +94,8 @@ module _ {B L : Type 0} where
 
   -- a note of a pass, by its number
   pub note_named : (lock : TableId) (d : Plan B L) (n made : ℕ) (old new : SeatView Entry (Plan B L)) (c : Core)
-      (e : Event) → number_of old ≡ n → Notes lock d (number_of old) made old new c e → Notes lock d n made old new c e
-  note_named lock d n made old new c e is t = subst (λ (k : ℕ). Notes lock d k made old new c e) is t
+      (e : Event) → number_of old ≡ n → Appends lock d (number_of old) made old new c e → Appends lock d n made old new c e
+  note_named lock d n made old new c e is t = subst (λ (k : ℕ). Appends lock d k made old new c e) is t
 
 within : {A : Type 0} (xs : List A) (i : ℕ) → i < length xs → (x : A) × (slice_get xs i ≡ Some x)
 within [] i l = absurd (omega arith)

@@ -10,14 +10,14 @@ use Rattle.core_laws.specs.Moves.{is_noted}
 use Rattle.checkout_book.specs.declared.plan.Parts.{Parts}
 use Rattle.checkout_book.specs.declared.shelf.Slot.{Slot}
 use Rattle.checkout_book.specs.declared.shelf.Slot.TheVariants.{Ended}
-use Rattle.checkout_book.specs.Entries.{number_in, AreActed, parts_at, parts_of, entry_of, entries}
+use Rattle.checkout_book.specs.Entries.{number_in, HaveActors, parts_at, parts_of, entry_of, entries}
 use Rattle.checkout_book.specs.Shelves.{IsEnded, AreEnded}
 use Rattle.checkout_book.proofs.Lists.{get_set_other}
 
-pub acted_more : (starts : List Start) (workers : ℕ) (es : List Event) (e : Event) → AreActed starts workers es
-    → is_some (actor_of starts workers e) ≡ true → AreActed starts workers (es ++ e ∷ [])
-acted_more starts workers [] e h k = (k, tt)
-acted_more starts workers (f ∷ es) e h k = (h.0, acted_more starts workers es e h.1 k)
+pub actors_more : (starts : List Start) (workers : ℕ) (es : List Event) (e : Event) → HaveActors starts workers es
+    → is_some (actor_of starts workers e) ≡ true → HaveActors starts workers (es ++ e ∷ [])
+actors_more starts workers [] e h k = (k, tt)
+actors_more starts workers (f ∷ es) e h k = (h.0, actors_more starts workers es e h.1 k)
 
 module _ {B L : Type 0} where
   abbrev pub NotEnded : List (Slot B L) → ℕ → Type 0

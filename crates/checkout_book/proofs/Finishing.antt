@@ -25,9 +25,9 @@ use Rattle.checkout_book.specs.declared.shelf.Slot.TheVariants.{Away, Waits}
 use Rattle.checkout_book.specs.Shape.{Shelf}
 use Rattle.checkout_book.specs.Sights.{Sight, seen, tell}
 use Rattle.checkout_book.specs.Entries.{history_of, events_of}
-use Rattle.checkout_book.specs.Shelves.{cards_of, joined, plan_of, IsSound, HasPlace, Sound, IsRow, Lies, is_waiting}
+use Rattle.checkout_book.specs.Shelves.{cards_of, joined, plan_of, IsSound, HasRoom, Sound, IsRow, Lies, is_waiting}
 use Rattle.checkout_book.specs.Shelves.{waits, WaitsSo}
-use Rattle.checkout_book.specs.Passes.{Reads}
+use Rattle.checkout_book.specs.Passes.{IsRun}
 use Rattle.checkout_book.specs.Reserving.{aways, placed, ArePool, AreNew, HasNothing, AreIdle, AreFresh, IsFinished}
 use Rattle.checkout_book.proofs.Lists.{get_left, get_set_same, get_set_other, past_none}
 use Rattle.checkout_book.proofs.Histories.{same_hands, own_events, reads_of}
@@ -92,23 +92,23 @@ within_or_past (x ∷ xs) (suc i) = ⊎_elim (λ (h : (y : _) × (slice_get xs i
 
 module _ {B L : Type 0} (see : Sight B L) where
   pub finished : TellsHands → (lock : TableId) (d : Plan B L) (made : ℕ) (ss : List (SeatView Entry (Plan B L)))
-      (v : Shelf B L) → AreIdle lock d 0 made ss → plan_of v ≡ d → IsSound see v → HasPlace v
+      (v : Shelf B L) → AreIdle lock d 0 made ss → plan_of v ≡ d → IsSound see v → HasRoom v
       → ((k : ℕ) (p : SeatView Entry (Plan B L)) → slice_get ss k ≡ Some p
       → Begins (seen_of p) (history_of (tell see) v))
       → ((k : ℕ) (p : SeatView Entry (Plan B L)) → slice_get ss k ≡ Some p
       → own k (history_of (tell see) v) ≡ mine_of p)
       → ((k : ℕ) → length ss ≤ k → own k (history_of (tell see) v) ≡ []) → IsFinished see d ss v
-  finished law lock d made ss v idle is sound place begins mine none = record {
+  finished law lock d made ss v idle is sound room begins mine none = record {
     plan = is;
     sound = sound;
-    place = place;
+    room = room;
     begins = begins;
     mine = mine;
     none = none;
     hands = hands;
   }
     where
-      r : Reads d (history_of (tell see) v) v.core
+      r : IsRun d (history_of (tell see) v) v.core
       r = reads_of see d v is sound
 
       below : AreBelow d.drivers d.starts.items
@@ -247,7 +247,7 @@ module _ {B L : Type 0} (see : Sight B L) where
 
   -- a book as it begins
   begins_sound : (d : Plan B L) (capacity : ℕ) → AreBelow d.drivers d.starts.items
-      → ArePool d.starts.items d.pool.items → AreNew see (cards_of d) → 9 * length d.starts.items ≤ capacity
+      → ArePool d.starts.items d.pool.items → AreNew see (cards_of d) → 10 * length d.starts.items ≤ capacity
       → Sound see d (start d.starts.items d.workers d.drivers) []
       (placed (aways (length d.starts.items)) d.pool.items)
       (map (λ s. waits s) (placed (aways (length d.starts.items)) d.pool.items)) capacity
@@ -255,7 +255,7 @@ module _ {B L : Type 0} (see : Sight B L) where
     below = below;
     new = new;
     run = refl;
-    acted = tt;
+    actors = tt;
     rows = row_begins d.starts.items d.pool.items (cards_of d) new
         (λ k c i. get_left d.pool.items (joined d.desks.items) k c i) are;
     flags = refl;
@@ -265,7 +265,7 @@ module _ {B L : Type 0} (see : Sight B L) where
 
   pub begins_at : (d e : Plan B L) (core : Core) (events : List Event) (slots : List (Slot B L)) (flags : List Bool)
       (capacity : ℕ) → e ≡ d → AreBelow d.drivers d.starts.items → ArePool d.starts.items d.pool.items
-      → AreNew see (cards_of d) → 9 * length d.starts.items ≤ capacity
+      → AreNew see (cards_of d) → 10 * length d.starts.items ≤ capacity
       → core ≡ start d.starts.items d.workers d.drivers → events ≡ []
       → slots ≡ placed (aways (length d.starts.items)) d.pool.items → flags ≡ map (λ s. waits s) slots
       → Sound see e core events slots flags capacity
@@ -285,7 +285,7 @@ module _ {B L : Type 0} where
     start d.starts.items d.workers d.drivers,
     record {
       seat = seat;
-      reads = subst (λ h. Reads d h (start d.starts.items d.workers d.drivers)) (sym unseen)
+      reads = subst (λ h. IsRun d h (start d.starts.items d.workers d.drivers)) (sym unseen)
           record { stamped = tt; run = refl };
       actor = few;
     },

@@ -26,9 +26,9 @@ use Rattle.checkout_book.specs.declared.plan.Entry.{Entry}
 use Rattle.checkout_book.specs.declared.shelf.Slot.{Slot}
 use Rattle.checkout_book.specs.Shape.{Shelf}
 use Rattle.checkout_book.specs.Sights.{Sight, tell}
-use Rattle.checkout_book.specs.Entries.{number_or, AreActed, entries, history_of, events_of}
+use Rattle.checkout_book.specs.Entries.{number_or, HaveActors, entries, history_of, events_of}
 use Rattle.checkout_book.specs.Shelves.{plan_of, IsSound}
-use Rattle.checkout_book.specs.Passes.{Stamped, Reads}
+use Rattle.checkout_book.specs.Passes.{Stamped, IsRun}
 use Rattle.checkout_book.proofs.Runs.{eqb_self, eqb_swap, same_number}
 use Rattle.checkout_book.proofs.CoreLaws.{TellsHands, HandsStay, Decides}
 
@@ -144,7 +144,7 @@ some_number None h = absurd (cc (h))
 
 module _ {B L : Type 0} (see : Sight B L) where
   stamped_entries : (starts : List Start) (workers : ℕ) (slots : List (Slot B L)) (es : List Event)
-      → AreActed starts workers es → Stamped starts workers (entries (tell see) starts workers slots es)
+      → HaveActors starts workers es → Stamped starts workers (entries (tell see) starts workers slots es)
   stamped_entries starts workers slots [] h = tt
   stamped_entries starts workers slots (e ∷ es) h =
       (some_number (actor_of starts workers e) h.0, stamped_entries starts workers slots es h.1)
@@ -155,16 +155,16 @@ module _ {B L : Type 0} (see : Sight B L) where
   events_entries starts workers slots (e ∷ es) = ap (λ l. e ∷ l) (events_entries starts workers slots es)
 
   pub reads_of : (d : Plan B L) (v : Shelf B L) → plan_of v ≡ d → IsSound see v
-      → Reads d (history_of (tell see) v) v.core
-  reads_of d v is sound = subst (λ (x : Plan B L). Reads x (history_of (tell see) v) v.core) is record {
-    stamped = stamped_entries v.starts.value.items v.workers v.slots.items v.events.items sound.acted;
+      → IsRun d (history_of (tell see) v) v.core
+  reads_of d v is sound = subst (λ (x : Plan B L). IsRun x (history_of (tell see) v) v.core) is record {
+    stamped = stamped_entries v.starts.value.items v.workers v.slots.items v.events.items sound.actors;
     run = ap (replay (start v.starts.value.items v.workers v.drivers))
         (events_entries v.starts.value.items v.workers v.slots.items v.events.items) ∙ sound.run;
   }
 
 module _ {B L : Type 0} where
   pub same_hands : TellsHands → (d : Plan B L) (n : ℕ) (h k : List (ℕ × Entry)) (c x : Core)
-      → AreBelow d.drivers d.starts.items → Reads d h c → Reads d k x → own n h ≡ own n k → (q : ℕ)
+      → AreBelow d.drivers d.starts.items → IsRun d h c → IsRun d k x → own n h ≡ own n k → (q : ℕ)
       → held_at c n q ≡ held_at x n q
   same_hands law d n h k c x below r s e q =
       law d.starts.items d.workers d.drivers n (events_of h) (events_of k) c x below r.run s.run
@@ -173,7 +173,7 @@ module _ {B L : Type 0} where
 
   -- what was in hand is so at the next turn
   still_holds : HandsStay → (d : Plan B L) (n p : ℕ) (raw : Option FilterCause) (h k : List (ℕ × Entry)) (c x : Core)
-      → AreBelow d.drivers d.starts.items → Reads d h c → Reads d k x → Begins h k → own n h ≡ own n k
+      → AreBelow d.drivers d.starts.items → IsRun d h c → IsRun d k x → Begins h k → own n h ≡ own n k
       → Holds c p n raw → Holds x p n raw
   still_holds law d n p raw h k c x below r s b e holds =
       let none : own n b.0 ≡ [] = nothing_more (own n h) (own n b.0)
@@ -187,7 +187,7 @@ module _ {B L : Type 0} where
 
   -- what the pass may do by what it saw, it may do now
   pub steps_still : Decides → (d : Plan B L) (n : ℕ) (h k : List (ℕ × Entry)) (c x : Core) (e : Event)
-      → AreBelow d.drivers d.starts.items → Reads d h c → Reads d k x → own n h ≡ own n k → is_claim e ≡ false
+      → AreBelow d.drivers d.starts.items → IsRun d h c → IsRun d k x → own n h ≡ own n k → is_claim e ≡ false
       → AlikeClaims (own_entries d.starts.items d.workers n (events_of h)) c x e
       → actor_of d.starts.items d.workers e ≡ Some n → is_step c e ≡ true → is_step x e ≡ true
   steps_still law d n h k c x e below r s same other alike by step =
@@ -197,14 +197,14 @@ module _ {B L : Type 0} where
       alike) ∙ step
 
   pub note_still : Decides → (d : Plan B L) (n : ℕ) (h k : List (ℕ × Entry)) (c x : Core) (e : Event)
-      → AreBelow d.drivers d.starts.items → Reads d h c → Reads d k x → own n h ≡ own n k → is_noted e ≡ true
+      → AreBelow d.drivers d.starts.items → IsRun d h c → IsRun d k x → own n h ≡ own n k → is_noted e ≡ true
       → actor_of d.starts.items d.workers e ≡ Some n → is_step c e ≡ true → is_step x e ≡ true
   note_still law d n h k c x e below r s same noted by step =
       let alike = noted_alike (own_entries d.starts.items d.workers n (events_of h)) c x e noted in
       steps_still law d n h k c x e below r s same alike.1 alike.0 by step
 
   pub close_still : TellsHands → HandsStay → Decides → (d : Plan B L) (n p : ℕ) (o : Own) (h k : List (ℕ × Entry))
-      (c x : Core) → AreBelow d.drivers d.starts.items → Reads d h c → Reads d k x → Begins h k → own n h ≡ own n k
+      (c x : Core) → AreBelow d.drivers d.starts.items → IsRun d h c → IsRun d k x → Begins h k → own n h ≡ own n k
       → is_step c (Close p n o) ≡ true → is_step x (Close p n o) ≡ true
   close_still hands stay law d n p o h k c x below r s b e step =
       steps_still law d n h k c x (Close p n o) below r s e refl (λ _. ready_same (held_at c n p) refl) refl step

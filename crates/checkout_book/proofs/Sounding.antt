@@ -35,7 +35,7 @@ use Rattle.checkout_book.proofs.Flags.{set_same, flags_set, flag_at}
 use Rattle.checkout_book.proofs.Runs.{replay_append, same_or, moved_here, moved_there, with_not_waiting}
 use Rattle.checkout_book.proofs.Runs.{with_not_closed}
 use Rattle.checkout_book.proofs.Runs.{out_not_waiting}
-use Rattle.checkout_book.proofs.Entries.{NotEnded, all_ended, ended_more, noted_ended, acted_more}
+use Rattle.checkout_book.proofs.Entries.{NotEnded, all_ended, ended_more, noted_ended, actors_more}
 use Rattle.checkout_book.proofs.CoreLaws.{TakesPath, MayTake, ClosesPath, BacksPath, KeepsPaths, KeepsSize, IsShort}
 
 -- a new leaf is fresh and empty
@@ -116,7 +116,7 @@ module _ {B L : Type 0} (see : Sight B L) where
         below = sound.below;
         new = sound.new;
         run = replay_append (start d.starts.items d.workers d.drivers) core new events e sound.run step;
-        acted = acted_more d.starts.items d.workers events e sound.acted acts;
+        actors = actors_more d.starts.items d.workers events e sound.actors acts;
         rows = rows_moved (cards_of d) slots core new p s t y z m sound.rows at lies;
         flags = flag ∙ (ap (λ l. set l p (waits y)) sound.flags ∙ sym (flags_set slots p y));
         ended = ended_more (set slots p y) events e (all_ended slots p y events unended sound.ended) ends;
@@ -129,7 +129,7 @@ module _ {B L : Type 0} (see : Sight B L) where
     pub there : slice_get core.paths p ≡ Some row
     pub raw : Option FilterCause
     pub state : row.state ≡ Waiting raw
-    pub so : WaitsSo (seen see c) (Waiting raw) c.ready
+    pub ready : WaitsSo (seen see c) (Waiting raw) c.ready
     pub is_path : c.path ≡ p
     pub planned : IsPlanned see (cards_of d) c
 
@@ -149,7 +149,7 @@ module _ {B L : Type 0} (see : Sight B L) where
   waited d core events slots waiting capacity p c sound at =
       let k = path_of_slot (cards_of d) slots core p (Waits c) sound.rows at in
       let w = waiting_so (seen see c) (k.0).state c.ready k.2.0 in
-      record { row = k.0; there = k.1; raw = w.0; state = w.1; so = w.2; is_path = k.2.1; planned = k.2.2 }
+      record { row = k.0; there = k.1; raw = w.0; state = w.1; ready = w.2; is_path = k.2.1; planned = k.2.2 }
 
   pub claim_steps : MayTake → KeepsSize → (d : Plan B L) (core : Core) (events : List Event) (slots : List (Slot B L))
       (waiting : List Bool) (capacity p a : ℕ) (c : Card B L) → Sound see d core events slots waiting capacity
@@ -259,7 +259,7 @@ module _ {B L : Type 0} (see : Sight B L) where
     below = sound.below;
     new = sound.new;
     run = replay_append (start d.starts.items d.workers d.drivers) core new events e sound.run step;
-    acted = acted_more d.starts.items d.workers events e sound.acted acts;
+    actors = actors_more d.starts.items d.workers events e sound.actors acts;
     rows = λ q. row_on (cards_of d) q (slice_get slots q) (slice_get core.paths q) (slice_get new.paths q)
         (law core new e noted step q) (sound.rows q);
     flags = sound.flags;

@@ -8,6 +8,7 @@ use Rattle.turn_lock.specs.History.{own, Begins, Follows}
 use Rattle.turn_lock.specs.Seat.{SeatView, seen_of, mine_of, entered, left}
 use Rattle.turn_lock.specs.Seats.{IsSeat}
 use Rattle.convert_plan.specs.declared.card.Card.{Card}
+use Rattle.checkout_core.specs.declared.verdict.FilterCause.{FilterCause}
 use Rattle.checkout_core.specs.declared.verdict.Own.{Own}
 use Rattle.checkout_core.specs.declared.path.PathState.{PathState}
 use Rattle.checkout_core.specs.declared.path.PathState.TheVariants.{Waiting, Held, Closed}
@@ -26,8 +27,9 @@ use Rattle.checkout_book.specs.Shape.{Shelf}
 use Rattle.checkout_book.specs.Sights.{Sight, tell}
 use Rattle.checkout_book.specs.Entries.{number_or, number_in, entries, entry_of, parts_at, history_of}
 use Rattle.checkout_book.specs.Shelves.{is_waiting, waits, cards_of, plan_of, IsSound, IsPlanned, IsFrom, IsOut}
+use Rattle.checkout_book.specs.Ending.{IsTaken}
 use Rattle.checkout_book.specs.Turns.{NoneWaits, Turned, Claimed, Unclaimed, Noted}
-use Rattle.checkout_book.specs.Passes.{Reads, IsPass, IsTurned, Claims, Closes, Notes}
+use Rattle.checkout_book.specs.Passes.{IsRun, IsPass, IsTurned, Claims, Closes, Appends}
 use Rattle.checkout_book.specs.Passes.{EndsWith, claim_entry, close_entry, note_entry}
 use Rattle.convert_plan.specs.Card.{CardSeen}
 use Rattle.checkout_book.proofs.Lists.{get_set_same}
@@ -65,7 +67,7 @@ module _ {B L : Type 0} (see : Sight B L) where
       ∙ (ap (at_plan (plan_of v) (set v.slots.items p x)) t.events
       ∙ entries_more (tell see) v.starts.value.items v.workers v.slots.items p x v.events.items e n sound.ended))
 
-  claim_grown : (n : ℕ) (v w : Shelf B L) (k : Card B L) → Claimed n v w k → IsSound see v
+  pub claim_grown : (n : ℕ) (v w : Shelf B L) (k : Card B L) → Claimed n v w k → IsSound see v
       → history_of (tell see) w ≡ history_of (tell see) v ++ (n, claim_entry k.path n) ∷ []
   claim_grown n v w k c sound =
       grown (Claim k.path n) k.path Away v w c.turned sound (λ b l i. let a = c.was in cc (a, i))
@@ -166,7 +168,7 @@ module _ {B L : Type 0} (see : Sight B L) where
   turned lock d n made s0 s2 c v w t same follows = record {
     pass = record {
       seat = t.left;
-      reads = subst (λ h. Reads d h w.core) (sym t.seen) (reads_of see d w (same ∙ t.is) t.later);
+      reads = subst (λ h. IsRun d h w.core) (sym t.seen) (reads_of see d w (same ∙ t.is) t.later);
       actor = t.pass.actor;
     };
     seen = subst (Begins (seen_of s0)) (sym t.seen)
@@ -204,6 +206,44 @@ module _ {B L : Type 0} (see : Sight B L) where
       let y = slot_at see (cards_of (plan_of v)) v.slots.items v.core q r sound.rows there in
       waits_not see (cards_of (plan_of v)) q y.0 r.state y.2 (lowest q y.0 lt y.1)
 
+  -- a card that was taken from the shelf v, which is then w
+  pub record Taken (n : ℕ) (v w : Shelf B L) (k : Card B L) : Type 0 where
+    pub is : IsTaken see n w k
+    pub raw : Option FilterCause
+    pub moved : Moved v.core w.core k.path (Waiting raw) (Held n raw)
+
+  pub taken : TakesPath → (n : ℕ) (v w : Shelf B L) (k : Card B L) → Claimed n v w k → IsSound see v → Taken n v w k
+  taken path n v w k one sound =
+      let wait = waited see (plan_of v) v.core v.events.items v.slots.items v.waiting _ k.path k sound one.was in
+      let move = path v.core w.core k.path n one.turned.step in
+      let m = move.1 in
+      let row : m.row ≡ wait.row = let e : Some m.row ≡ Some wait.row = sym m.there ∙ wait.there in cc (e) in
+      let raw : Waiting move.0 ≡ Waiting wait.raw = sym m.was ∙ (ap (λ (z : Path). z.state) row ∙ wait.state) in
+      let same : move.0 ≡ wait.raw = cc (raw) in
+      let here = moved_here v.core w.core k.path (Waiting move.0) (Held n move.0) m in
+      record {
+        is = record {
+          planned = subst (λ (x : Plan B L). IsPlanned see (cards_of x) k) (sym one.turned.plan) wait.planned;
+          raw = wait.raw;
+          holds = (with_state m.row (Held n move.0), here, ap (λ z. Held n z) same);
+          held = ap (λ (o : Option Path). elim o as (λ _. Bool) [ None ↦ false | Some r ↦ is_held n r.state ]) here
+              ∙ eqb_self n;
+          ready = wait.ready;
+        };
+        raw = move.0;
+        moved = m;
+      }
+
+  pub taken_if : TakesPath → (n : ℕ) (v w : Shelf B L) (o : Option (Card B L)) → IfSome o (Claimed n v w)
+      → IsSound see v → IfSome o (IsTaken see n w)
+  taken_if path n v w None one sound = tt
+  taken_if path n v w (Some k) one sound = (taken path n v w k one sound).is
+
+  pub claim_grown_if : (n : ℕ) (v w : Shelf B L) (o : Option (Card B L)) → IfSome o (Claimed n v w) → IsSound see v
+      → IfSome o (λ k. history_of (tell see) w ≡ history_of (tell see) v ++ (n, claim_entry k.path n) ∷ [])
+  claim_grown_if n v w None one sound = tt
+  claim_grown_if n v w (Some k) one sound = claim_grown n v w k one sound
+
   pub took : TellsHands → TakesPath → (lock : TableId) (d : Plan B L) (n made : ℕ)
       (s0 s2 : SeatView Entry (Plan B L)) (c : Core) (v w : Shelf B L) (o : Option (Card B L))
       → Went lock d n made s0 s2 c v w → IfNone o (Unclaimed v w) → IfSome o (Claimed n v w)
@@ -219,27 +259,18 @@ module _ {B L : Type 0} (see : Sight B L) where
     },
   )
   took law path lock d n made s0 s2 c v w (Some k) t nil one =
-      let wait = waited see (plan_of v) v.core v.events.items v.slots.items v.waiting _ k.path k t.sound one.was in
-      let move = path v.core w.core k.path n one.turned.step in
-      let m = move.1 in
-      let row : m.row ≡ wait.row = let e : Some m.row ≡ Some wait.row = sym m.there ∙ wait.there in cc (e) in
-      let raw : Waiting move.0 ≡ Waiting wait.raw = sym m.was ∙ (ap (λ (z : Path). z.state) row ∙ wait.state) in
-      let same : move.0 ≡ wait.raw = cc (raw) in (
+      let h = taken path n v w k one t.sound in (
         w.core,
         record {
           turn = turned lock d n made s0 s2 c v w t one.turned.plan (claim_follows n v w (Some k) t.sound nil one);
           mine = mine_more lock d n made s0 s2 c v w (claim_entry k.path n) t (claim_grown n v w k one t.sound);
           last = ends_with lock d n made s0 s2 c v w (claim_entry k.path n) t (claim_grown n v w k one t.sound);
-          lowest = none_lower v w k.path n (Waiting move.0) (Held n move.0) m t.sound one.lowest;
-          planned = subst (λ (x : Plan B L). IsPlanned see (cards_of x) k) t.is wait.planned;
-          raw = wait.raw;
-          holds = (
-            with_state m.row (Held n move.0),
-            moved_here v.core w.core k.path (Waiting move.0) (Held n move.0) m,
-            ap (λ z. Held n z) same,
-          );
-          so = wait.so;
-          hands = λ q. hands_moved v.core w.core k.path (Waiting move.0) (Held n move.0) n m q
+          lowest = none_lower v w k.path n (Waiting h.raw) (Held n h.raw) h.moved t.sound one.lowest;
+          planned = subst (λ (x : Plan B L). IsPlanned see (cards_of x) k) (one.turned.plan ∙ t.is) h.is.planned;
+          raw = h.is.raw;
+          holds = h.is.holds;
+          ready = h.is.ready;
+          hands = λ q. hands_moved v.core w.core k.path (Waiting h.raw) (Held n h.raw) n h.moved q
               ∙ (ap (λ (b : Bool). cond (q == k.path) b (held_at v.core n q)) (eqb_self n)
               ∙ ap (λ (b : Bool). cond (q == k.path) true b) (hands law lock d n made s0 s2 c v w t q));
         },
@@ -279,7 +310,7 @@ module _ {B L : Type 0} (see : Sight B L) where
   pub noted : TellsHands → KeepsPaths → (lock : TableId) (d : Plan B L) (n made : ℕ)
       (s0 s2 : SeatView Entry (Plan B L)) (c : Core) (v w : Shelf B L) (e : Event)
       → Went lock d n made s0 s2 c v w → is_noted e ≡ true → actor_of d.starts.items d.workers e ≡ Some n
-      → Noted e v w → Notes lock d n made s0 s2 c e
+      → Noted e v w → Appends lock d n made s0 s2 c e
   noted law path lock d n made s0 s2 c v w e t noted_is by one =
       let here : actor_of v.starts.value.items v.workers e ≡ Some n =
       subst (λ (x : Plan B L). actor_of x.starts.items x.workers e ≡ Some n) (sym t.is) by in
@@ -300,7 +331,7 @@ module _ {B L : Type 0} (see : Sight B L) where
   pub backed : TellsHands → BacksPath → (lock : TableId) (d : Plan B L) (n made : ℕ)
       (s0 s2 : SeatView Entry (Plan B L)) (c : Core) (v w : Shelf B L) (card : Card B L)
       → Went lock d n made s0 s2 c v w → actor_of d.starts.items d.workers (HandBack card.path) ≡ Some n
-      → Turned (HandBack card.path) card.path (Waits card) v w → Notes lock d n made s0 s2 c (HandBack card.path)
+      → Turned (HandBack card.path) card.path (Waits card) v w → Appends lock d n made s0 s2 c (HandBack card.path)
   backed law path lock d n made s0 s2 c v w card t by one =
       let e = HandBack card.path in
       let here : actor_of v.starts.value.items v.workers e ≡ Some n =

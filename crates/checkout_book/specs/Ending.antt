@@ -1,10 +1,14 @@
 -- What a book leaves.
-use Rattle.std.specs.Prelude.{◌<◌, ◌+◌, List, [], ◌∷◌}
+use Rattle.std.specs.Prelude.{◌≡◌, ℕ, ◌<◌, ◌+◌, true, List, [], ◌∷◌, Option}
+use Rattle.convert_plan.specs.declared.card.Card.{Card}
+use Rattle.checkout_core.specs.declared.verdict.FilterCause.{FilterCause}
+use Rattle.checkout_core.specs.declared.path.PathState.TheVariants.{Waiting}
+use Rattle.checkout_core.specs.Hands.{held_at, Holds}
 use Rattle.checkout_book.specs.declared.shelf.Slot.{Slot}
 use Rattle.checkout_book.specs.declared.shelf.Slot.TheVariants.{Away, Waits, Ended}
 use Rattle.checkout_book.specs.Shape.{Shelf}
-use Rattle.checkout_book.specs.Sights.{Sight}
-use Rattle.checkout_book.specs.Shelves.{IsSound, HasPlace}
+use Rattle.checkout_book.specs.Sights.{Sight, seen}
+use Rattle.checkout_book.specs.Shelves.{IsSound, HasRoom, IsPlanned, WaitsSo, plan_of, cards_of}
 
 module _ {B L : Type 0} where
   -- the blob and the leaf of each closed card, in path order
@@ -17,5 +21,14 @@ module _ {B L : Type 0} where
   -- the shelf is sound, and there is an actor who may go on
   pub record GoesOn (see : Sight B L) (s : Shelf B L) : Type 0 where
     pub sound : IsSound see s
-    pub place : HasPlace s
+    pub room : HasRoom s
     pub some : 0 < s.workers + s.drivers
+
+  -- The actor n took this card, and the shelf is now so: the planned card of its path, with nothing changed but `ready`,
+  -- which is there exactly where the card was handed back. The path is in the actor's hands.
+  pub record IsTaken (see : Sight B L) (n : ℕ) (s : Shelf B L) (card : Card B L) : Type 0 where
+    pub planned : IsPlanned see (cards_of (plan_of s)) card
+    pub raw : Option FilterCause
+    pub holds : Holds s.core card.path n raw
+    pub held : held_at s.core n card.path ≡ true
+    pub ready : WaitsSo (seen see card) (Waiting raw) card.ready

@@ -19,9 +19,9 @@ abbrev pub number_in : List Start → ℕ → Event → ℕ
 number_in starts workers e = number_or (actor_of starts workers e)
 
 -- each event has an actor
-abbrev pub AreActed : List Start → ℕ → List Event → Type 0
-AreActed starts workers [] = Unit {0}
-AreActed starts workers (e ∷ es) = (is_some (actor_of starts workers e) ≡ true) × AreActed starts workers es
+abbrev pub HaveActors : List Start → ℕ → List Event → Type 0
+HaveActors starts workers [] = Unit {0}
+HaveActors starts workers (e ∷ es) = (is_some (actor_of starts workers e) ≡ true) × HaveActors starts workers es
 
 module _ {B L : Type 0} (tells : B → L → Parts) where
   abbrev pub parts_at : Option (Slot B L) → Option Parts

@@ -41,7 +41,7 @@ note_entry e = record { event = e; parts = None }
 
 module _ {B L : Type 0} where
   -- the history is a run of the core, which leaves it so
-  pub record Reads (d : Plan B L) (h : List (ℕ × Entry)) (c : Core) : Type 0 where
+  pub record IsRun (d : Plan B L) (h : List (ℕ × Entry)) (c : Core) : Type 0 where
     pub stamped : Stamped d.starts.items d.workers h
     pub run : replay (start d.starts.items d.workers d.drivers) (events_of h) ≡ Some c
 
@@ -49,7 +49,7 @@ module _ {B L : Type 0} where
   pub record IsPass (lock : TableId) (d : Plan B L) (n made : ℕ) (s : SeatView Entry (Plan B L)) (c : Core)
       : Type 0 where
     pub seat : IsSeat lock d n made s
-    pub reads : Reads d (seen_of s) c
+    pub reads : IsRun d (seen_of s) c
     pub actor : n < d.workers + d.drivers
 
   -- after a turn
@@ -81,7 +81,7 @@ module _ {B L : Type 0} where
     pub planned : IsPlanned see (cards_of d) k
     pub raw : Option FilterCause
     pub holds : Holds x k.path n raw
-    pub so : WaitsSo (seen see k) (Waiting raw) k.ready
+    pub ready : WaitsSo (seen see k) (Waiting raw) k.ready
     pub hands : (q : ℕ) → held_at x n q ≡ cond (q == k.path) true (held_at c n q)
 
   abbrev pub Claims : Sight B L → TableId → Plan B L → ℕ → ℕ → SeatView Entry (Plan B L) → SeatView Entry (Plan B L)
@@ -97,7 +97,7 @@ module _ {B L : Type 0} where
     pub last : EndsWith n (close_entry p n o parts) old new
     pub hands : (q : ℕ) → held_at core n q ≡ cond (q == p) false (held_at c n q)
 
-  pub record Notes (lock : TableId) (d : Plan B L) (n made : ℕ) (old new : SeatView Entry (Plan B L)) (c : Core)
+  pub record Appends (lock : TableId) (d : Plan B L) (n made : ℕ) (old new : SeatView Entry (Plan B L)) (c : Core)
       (e : Event) : Type 0 where
     pub core : Core
     pub turn : IsTurned lock d n made old new core

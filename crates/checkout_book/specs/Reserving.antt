@@ -19,7 +19,7 @@ use Rattle.checkout_book.specs.declared.shelf.Slot.TheVariants.{Away, Waits}
 use Rattle.checkout_book.specs.Shape.{Shelf}
 use Rattle.checkout_book.specs.Sights.{Sight, seen, tell}
 use Rattle.checkout_book.specs.Entries.{history_of}
-use Rattle.checkout_book.specs.Shelves.{plan_of, IsSound, HasPlace}
+use Rattle.checkout_book.specs.Shelves.{plan_of, IsSound, HasRoom}
 use Rattle.checkout_book.specs.Passes.{IsPass}
 
 module _ {B L : Type 0} where
@@ -66,7 +66,7 @@ module _ {B L : Type 0} where
       : Type 0 where
     pub plan : plan_of s ≡ d
     pub sound : IsSound see s
-    pub place : HasPlace s
+    pub room : HasRoom s
     pub begins : (k : ℕ) (p : SeatView Entry (Plan B L)) → slice_get ss k ≡ Some p
         → Begins (seen_of p) (history_of (tell see) s)
     pub mine : (k : ℕ) (p : SeatView Entry (Plan B L)) → slice_get ss k ≡ Some p

@@ -17,7 +17,7 @@ use Rattle.checkout_book.specs.declared.shelf.Slot.{Slot}
 use Rattle.checkout_book.specs.declared.shelf.Slot.TheVariants.{Away, Waits, Ended}
 use Rattle.checkout_book.specs.Shape.{Shelf}
 use Rattle.checkout_book.specs.Sights.{Sight, seen}
-use Rattle.checkout_book.specs.Entries.{AreActed}
+use Rattle.checkout_book.specs.Entries.{HaveActors}
 
 abbrev pub is_waiting : PathState → Bool
 is_waiting (Waiting raw) = true
@@ -53,8 +53,8 @@ module _ {B L : Type 0} where
   }
 
   -- there is room for the blob and the leaf of each path
-  abbrev pub HasPlace : Shelf B L → Type 0
-  HasPlace s = (s.parts.items ≡ []) × (length s.slots.items ≤ vec_capacity s.parts)
+  abbrev pub HasRoom : Shelf B L → Type 0
+  HasRoom s = (s.parts.items ≡ []) × (length s.slots.items ≤ vec_capacity s.parts)
 
   -- the slot holds what an entry of the history says that was closed
   abbrev pub IsEnded : List (Slot B L) → Event → Type 0
@@ -104,13 +104,14 @@ module _ {B L : Type 0} (see : Sight B L) where
     pub new : (k : ℕ) (c : Card B L) → slice_get (cards_of d) k ≡ Some c → IsNewCard (seen see c)
     -- the state is the replay of the history, which is legal
     pub run : replay (start d.starts.items d.workers d.drivers) events ≡ Some core
-    pub acted : AreActed d.starts.items d.workers events
+    pub actors : HaveActors d.starts.items d.workers events
     -- the waiting cards are those of the waiting paths
     pub rows : (p : ℕ) → IsRow (cards_of d) p (slice_get slots p) (slice_get core.paths p)
     pub flags : waiting ≡ map (λ s. waits s) slots
     -- the parts of each closed card are there
     pub ended : AreEnded slots events
-    pub room : 9 * length d.starts.items ≤ capacity
+    -- a history has nine events a path at most, and there is room for ten
+    pub room : 10 * length d.starts.items ≤ capacity
 
   abbrev pub IsSound : Shelf B L → Type 0
   IsSound s = Sound (plan_of s) s.core s.events.items s.slots.items s.waiting (vec_capacity s.events)

@@ -8,7 +8,7 @@ ghost use Rattle.core_laws.specs.Moves.{is_noted};
 ghost use Rattle.checkout_book.specs.declared.plan.Plan.{Plan};
 ghost use Rattle.checkout_book.specs.Sights.{sight, tell};
 ghost use Rattle.checkout_book.specs.Shelves.{cards_of, IsOut, IsRefused};
-ghost use Rattle.checkout_book.specs.Passes.{IsPass, Claims, Closes, Notes};
+ghost use Rattle.checkout_book.specs.Passes.{IsPass, Claims, Closes, Appends};
 
 use crate::shelf::Shelf;
 use checkout_core::{Event, Own};
@@ -97,7 +97,7 @@ pub fn note<B: Blob, L: Leaf, H: Wait>(
     ensures { (d : Plan B L) (made : ℕ) (c : Core)
         → IsPass book.now d (number_of pass.old) made pass.old c
         → actor_of d.starts.items d.workers event ≡ Some (number_of pass.old)
-        → Notes book.now d (number_of pass.old) made pass.old pass.new c event }
+        → Appends book.now d (number_of pass.old) made pass.old pass.new c event }
 {
     laws::own_entries_tell_what_is_in_hand();
     laws::own_entries_decide();
@@ -123,7 +123,7 @@ pub fn hand_back<B: Blob, L: Leaf, H: Wait>(
     ensures { (d : Plan B L) (made : ℕ) (c : Core)
         → IsPass book.now d (number_of pass.old) made pass.old c
         → actor_of d.starts.items d.workers (HandBack card.path) ≡ Some (number_of pass.old)
-        → Notes book.now d (number_of pass.old) made pass.old pass.new c (HandBack card.path) }
+        → Appends book.now d (number_of pass.old) made pass.old pass.new c (HandBack card.path) }
 {
     laws::own_entries_tell_what_is_in_hand();
     laws::own_entries_decide();

@@ -5,14 +5,17 @@ ghost use Rattle.checkout_core.specs.Actors.{is_step};
 ghost use Rattle.checkout_core.specs.Hands.{held_at};
 ghost use Rattle.checkout_core.specs.declared.event.Event.TheVariants.{Close};
 ghost use Rattle.checkout_book.specs.declared.shelf.Slot.TheVariants as slot;
-ghost use Rattle.checkout_book.specs.Ending.{parts_in, GoesOn};
+ghost use Rattle.checkout_book.specs.Ending.{parts_in, GoesOn, IsTaken};
+ghost use Rattle.checkout_book.specs.Entries.{history_of};
+ghost use Rattle.checkout_book.specs.Passes.{claim_entry, close_entry};
 ghost use Rattle.checkout_book.specs.Shelves.{IsOut, plan_of, cards_of};
 ghost use Rattle.checkout_book.specs.Turns.{Turned, Claimed, Unclaimed};
-ghost use Rattle.checkout_book.specs.Sights.{sight};
+ghost use Rattle.checkout_book.specs.Sights.{sight, tell};
 
 use crate::shelf::{Rack, Shelf, Slot};
 use checkout_core::{Event, Own, Verdict};
 use convert_plan::Card;
+use core_laws::laws;
 use edge_kit::{Blob, Leaf};
 
 /// A book after all its passes came back. What still waits is closed by actor 0.
@@ -28,7 +31,11 @@ impl<B: Blob, L: Leaf> Ended<B, L> {
         ensures goes_on { GoesOn (sight B.told B.seen L.seen) self.new.shelf }
         ensures none { IfNone result (Unclaimed self.old.shelf self.new.shelf) }
         ensures some { IfSome result (Claimed 0 self.old.shelf self.new.shelf) }
+        ensures card { IfSome result (IsTaken (sight B.told B.seen L.seen) 0 self.new.shelf) }
+        ensures history { IfSome result (λ card. history_of (tell (sight B.told B.seen L.seen)) self.new.shelf
+            ≡ history_of (tell (sight B.told B.seen L.seen)) self.old.shelf ++ (0, claim_entry card.path 0) ∷ []) }
     {
+        laws::a_claim_takes_its_path();
         self.shelf.claim(0)
     }
 
@@ -41,7 +48,11 @@ impl<B: Blob, L: Leaf> Ended<B, L> {
         ensures goes_on { GoesOn (sight B.told B.seen L.seen) self.new.shelf }
         ensures closed { Turned (Close card.path 0 own) card.path (slot.Ended card.blob card.leaf)
             self.old.shelf self.new.shelf }
+        ensures history { history_of (tell (sight B.told B.seen L.seen)) self.new.shelf
+            ≡ history_of (tell (sight B.told B.seen L.seen)) self.old.shelf
+            ++ (0, close_entry card.path 0 own (tell (sight B.told B.seen L.seen) card.blob card.leaf)) ∷ [] }
     {
+        laws::a_close_closes_its_path();
         let Card {
             path,
             blob,

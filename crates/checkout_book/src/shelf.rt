@@ -45,7 +45,7 @@ pub type Shelf<B: Blob, L: Leaf> = Rack<
 impl<B: Blob, L: Leaf> Kept for Shelf<B, L> {
     ghost use Rattle.std.specs.Prelude.{◌≡◌};
     ghost use Rattle.checkout_book.specs.Entries.{history_of};
-    ghost use Rattle.checkout_book.specs.Shelves.{plan_of, IsSound, HasPlace};
+    ghost use Rattle.checkout_book.specs.Shelves.{plan_of, IsSound, HasRoom};
     ghost use Rattle.checkout_book.specs.Sights.{sight, tell};
 
     type Entry = Entry;
@@ -56,7 +56,7 @@ impl<B: Blob, L: Leaf> Kept for Shelf<B, L> {
 
     ghost told = { λ s. plan_of s };
 
-    ghost fits = { λ s d. (plan_of s ≡ d) × IsSound (sight B.told B.seen L.seen) s × HasPlace s };
+    ghost fits = { λ s d. (plan_of s ≡ d) × IsSound (sight B.told B.seen L.seen) s × HasRoom s };
 }
 
 fn crosses<X: Send>() {}

@@ -5,7 +5,7 @@ ghost use Rattle.checkout_core.specs.Steps.{step_of};
 ghost use Rattle.checkout_core.specs.declared.event.Event.TheVariants.{Claim, Close, HandBack};
 ghost use Rattle.core_laws.specs.Moves.{is_noted};
 ghost use Rattle.checkout_book.specs.declared.shelf.Slot.TheVariants.{Waits, Ended};
-ghost use Rattle.checkout_book.specs.Shelves.{IsSound, HasPlace, IsFrom, IsRefused, plan_of, cards_of, waits};
+ghost use Rattle.checkout_book.specs.Shelves.{IsSound, HasRoom, IsFrom, IsRefused, plan_of, cards_of, waits};
 ghost use Rattle.checkout_book.specs.Turns.{Turned, Claimed, Unclaimed, Noted};
 ghost use Rattle.checkout_book.specs.Sights.{sight};
 
@@ -37,7 +37,7 @@ impl<B: Blob, L: Leaf> Shelf<B, L> {
         requires sound { IsSound (sight B.told B.seen L.seen) self.old }
         requires actor { actor < self.old.workers + self.old.drivers }
         ensures sound { IsSound (sight B.told B.seen L.seen) self.new }
-        ensures place { HasPlace self.old → HasPlace self.new }
+        ensures room { HasRoom self.old → HasRoom self.new }
         ensures none { IfNone result (Unclaimed self.old self.new) }
         ensures some { IfSome result (Claimed actor self.old self.new) }
     {
@@ -63,7 +63,7 @@ impl<B: Blob, L: Leaf> Shelf<B, L> {
         requires step { is_step self.old.core (Close path actor own) ≡ true }
         requires from { IsFrom (sight B.told B.seen L.seen) (cards_of (plan_of self.old)) path blob leaf }
         ensures sound { IsSound (sight B.told B.seen L.seen) self.new }
-        ensures place { HasPlace self.old → HasPlace self.new }
+        ensures room { HasRoom self.old → HasRoom self.new }
         ensures turned { Turned (Close path actor own) path (Ended blob leaf) self.old self.new }
     {
         laws::a_close_closes_its_path();
@@ -81,7 +81,7 @@ impl<B: Blob, L: Leaf> Shelf<B, L> {
         requires by { is_some (actor_of (plan_of self.old).starts.items self.old.workers event) ≡ true }
         requires step { is_step self.old.core event ≡ true }
         ensures sound { IsSound (sight B.told B.seen L.seen) self.new }
-        ensures place { HasPlace self.old → HasPlace self.new }
+        ensures room { HasRoom self.old → HasRoom self.new }
         ensures noted { Noted event self.old self.new }
     {
         laws::a_note_keeps_paths_with_their_driver();
@@ -98,7 +98,7 @@ impl<B: Blob, L: Leaf> Shelf<B, L> {
         requires step { is_step self.old.core (HandBack card.path) ≡ true }
         requires refused { IsRefused (sight B.told B.seen L.seen) (cards_of (plan_of self.old)) card }
         ensures sound { IsSound (sight B.told B.seen L.seen) self.new }
-        ensures place { HasPlace self.old → HasPlace self.new }
+        ensures room { HasRoom self.old → HasRoom self.new }
         ensures turned { Turned (HandBack card.path) card.path (Waits card) self.old self.new }
     {
         laws::a_path_that_is_handed_back_waits();

@@ -37,7 +37,7 @@ leave-requires-clause-fits g c =
         claim_plan see c.number-actor.result v c.claim-card.new.self c.claim-card.result
             c.claim-card.ensures.none c.claim-card.ensures.some ∙ f.0,
         c.claim-card.ensures.sound,
-        c.claim-card.ensures.place f.2,
+        c.claim-card.ensures.room f.2,
       ),
     )
 

@@ -63,7 +63,7 @@ leave-requires-clause-fits g c =
     let f = c.enter-value.ensures.fits r.0 r.3.seat.told in
     let w = c.a_turn_keeps_a_seat.ensures _ r.0 _ r.1 (history_of (tell see) v) c.args.pass.now
     c.enter-value.new.seat r.3.seat c.enter-value.ensures.inside in
-    (r.0, w.told, (c.close.ensures.turned.plan ∙ f.0, c.close.ensures.sound, c.close.ensures.place f.2))
+    (r.0, w.told, (c.close.ensures.turned.plan ∙ f.0, c.close.ensures.sound, c.close.ensures.room f.2))
 
 pub returns : goal.returns
 returns g c d made core pass =

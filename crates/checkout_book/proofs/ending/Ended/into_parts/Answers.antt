@@ -7,8 +7,8 @@ use Rattle.checkout_book.proofs.ending.Ended.into_parts.Goals as goal
 pub loop-slot-init : goal.loop-slot-init
 loop-slot-init g c = record {
   whole = c.into_iter-slot-iterator.ensures.into_iter_gives.0;
-  parts = c.requires.place.0;
-  few = omega (arith, ap length c.requires.place.0);
+  parts = c.requires.room.0;
+  few = omega (arith, ap length c.requires.room.0);
   room = refl;
   can = tt;
   ends = tt;
