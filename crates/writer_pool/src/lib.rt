@@ -3,4 +3,5 @@
 
 mod leaf;
 mod reading;
+pub mod workers;
 pub mod writing;
