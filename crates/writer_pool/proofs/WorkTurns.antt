@@ -1,0 +1,205 @@
+-- What a worker did, turn by turn.
+use Rattle.std.proofs.Common.{◌≡◌, ◌==◌, ℕ, Bool, true, false, cond, List, [], ◌∷◌, ◌++◌, Option, Some, None, refl, sym, ap, ◌∙◌, subst, append_assoc}
+use Rattle.std.specs.Prelude.{is_some}
+use Rattle.std.proofs.lemmas.List.{append-nil}
+use mathlib.Core.List.{map-append}
+use Rattle.atomic_table.specs.Seated.{TableId}
+use Rattle.turn_lock.specs.History.{Begins}
+use Rattle.turn_lock.specs.Seat.{SeatView, mine_of, seen_of}
+use Rattle.edge_kit.specs.Told.{Tells}
+use Rattle.edge_kit.specs.Seen.{BlobSeen, LeafSeen}
+use Rattle.tree_encoding.specs.declared.prepared.Prepared.{Prepared}
+use Rattle.convert_plan.specs.declared.card.Card.{Card}
+use Rattle.convert_plan.specs.Card.{CardSeen, IsCardOf, IsPrepared}
+use Rattle.checkout_core.specs.declared.verdict.FilterCause.{FilterCause}
+use Rattle.checkout_core.specs.declared.verdict.Own.{Own}
+use Rattle.checkout_core.specs.declared.verdict.Own.TheVariants as own
+use Rattle.checkout_core.specs.declared.verdict.Verdict.{Verdict}
+use Rattle.checkout_core.specs.declared.path.PathState.TheVariants.{Waiting}
+use Rattle.checkout_core.specs.declared.event.Event.{Event}
+use Rattle.checkout_core.specs.declared.event.Event.TheVariants.{Close}
+use Rattle.checkout_core.specs.States.{Core}
+use Rattle.checkout_core.specs.Verdicts.{held_close}
+use Rattle.checkout_core.specs.Actors.{is_step}
+use Rattle.checkout_core.specs.Hands.{held_at, Holds}
+use Rattle.checkout_core.specs.Desks.{was_read}
+use Rattle.checkout_core.specs.Notes.{is_noted, noted}
+use Rattle.checkout_book.specs.declared.plan.Plan.{Plan}
+use Rattle.checkout_book.specs.declared.plan.Entry.{Entry}
+use Rattle.checkout_book.specs.Sights.{Sight, seen, tell}
+use Rattle.checkout_book.specs.Shelves.{cards_of, IsPlanned, IsOut, WaitsSo}
+use Rattle.checkout_book.specs.Passes.{Claims, Closes, TookNone, TookCard, claim_entry, close_entry}
+use Rattle.checkout_book.specs.Reserving.{HasNothing, AreNew}
+use Rattle.writer_pool.specs.Writing.{IsToWrite, WritesCard}
+use Rattle.writer_pool.specs.Working.{IsShown, AreShown, Worked, Idled, own_events}
+
+pub begins_trans : {E : Type 0} (xs ys zs : List (ℕ × E)) → Begins xs ys → Begins ys zs → Begins xs zs
+begins_trans xs ys zs b c = (b.0 ++ c.0, sym (append_assoc xs b.0 c.0) ∙ (ap (λ l. l ++ c.0) b.1 ∙ c.1))
+
+noted_more : (xs ys : List Event) → noted ys ≡ [] → noted xs ≡ [] → noted (xs ++ ys) ≡ []
+noted_more [] ys e f = e
+noted_more (x ∷ xs) ys e f = go (is_noted x) f (noted_more xs ys e)
+  where
+    go : (b : Bool) → cond b (x ∷ noted xs) (noted xs) ≡ [] → (noted xs ≡ [] → noted (xs ++ ys) ≡ [])
+        → cond b (x ∷ noted (xs ++ ys)) (noted (xs ++ ys)) ≡ []
+    go true h more = absurd (cc (h))
+    go false h more = more h
+
+-- what was prepared for a card that was claimed is its own
+ready_is_prepared : (card : CardSeen) (raw : Option FilterCause) (ready : Option Prepared)
+    → WaitsSo card (Waiting raw) ready → (p : Prepared) → ready ≡ Some p → IsPrepared card p
+ready_is_prepared card None None so p e = absurd (cc (e))
+ready_is_prepared card None (Some r) so p e = absurd so
+ready_is_prepared card (Some why) None so p e = absurd so
+ready_is_prepared card (Some why) (Some r) so p e = let same : r ≡ p = cc (e) in subst (IsPrepared card) same so
+
+-- there is a verdict for each outcome that a claimed card may have
+has_verdict : (card : CardSeen) (raw : Option FilterCause) (ready : Option Prepared) (o : Own)
+    → WaitsSo card (Waiting raw) ready → (is_some ready ≡ true → was_read o ≡ true)
+    → (v : Verdict) × (held_close raw o ≡ Some v)
+has_verdict card None ready (own.Fine u) so read = (_, refl)
+has_verdict card None ready own.WriteFailed so read = (_, refl)
+has_verdict card None ready own.NoMemory so read = (_, refl)
+has_verdict card None ready (own.Object k) so read = (_, refl)
+has_verdict card None ready own.ReadFailed so read = (_, refl)
+has_verdict card (Some why) None o so read = absurd so
+has_verdict card (Some why) (Some r) (own.Fine u) so read = (_, refl)
+has_verdict card (Some why) (Some r) own.WriteFailed so read = (_, refl)
+has_verdict card (Some why) (Some r) own.NoMemory so read = (_, refl)
+has_verdict card (Some why) (Some r) (own.Object k) so read = absurd (let h = read refl in cc (h))
+has_verdict card (Some why) (Some r) own.ReadFailed so read = absurd (let h = read refl in cc (h))
+
+-- `ready` doesn't show in how the writing of a card ended
+pub wrote_planned : (card : CardSeen) (ready : Option Prepared) (o : Own) (blob : BlobSeen) (leaf : LeafSeen)
+    → WritesCard (record card { ready = ready }) o blob leaf → WritesCard card o blob leaf
+wrote_planned card ready (own.Fine u) blob leaf h = h
+wrote_planned card ready own.WriteFailed blob leaf h = h
+wrote_planned card ready own.ReadFailed blob leaf h = h
+wrote_planned card ready (own.Object k) blob leaf h =
+    (record { fault = h.0.fault; object = h.0.object; own = h.0.own }, h.1, h.2)
+wrote_planned card ready own.NoMemory blob leaf h = h
+
+module _ {B L : Type 0} (see : Sight B L) where
+  pub took_none : (lock : TableId) (d : Plan B L) (n made : ℕ) (s t : SeatView Entry (Plan B L)) (c : Core)
+      (o : Option (Card B L)) → Claims see lock d n made s t c o → ((k : Card B L) → o ≡ Some k → ⊥)
+      → (x : Core) × TookNone lock d n made s t c x
+  took_none lock d n made s t c None h other = h
+  took_none lock d n made s t c (Some k) h other = absurd (other k refl)
+
+  -- a planned card may be written
+  pub planned_to_write : (cards : List (Card B L)) (k : Card B L) (raw : Option FilterCause) → AreNew see cards
+      → IsPlanned see cards k → WaitsSo (seen see k) (Waiting raw) k.ready → IsToWrite (seen see k)
+  planned_to_write cards k raw new p so =
+      let card = new p.0 p.1 p.2 in
+      record {
+        fresh = ap (λ (z : CardSeen). z.leaf.state) p.3 ∙ card.new_leaf.fresh;
+        empty = subst (λ (z : CardSeen). Tells z.leaf.content []) (sym p.3) card.new_leaf.content;
+        ready = λ r is. ready_is_prepared (seen see k) raw k.ready so r is;
+      }
+
+  pub to_write : (lock : TableId) (d : Plan B L) (n made : ℕ) (s t : SeatView Entry (Plan B L)) (c x : Core)
+      (k : Card B L) → AreNew see (cards_of d) → TookCard see lock d n made s t c x k → IsToWrite (seen see k)
+  to_write lock d n made s t c x k new took = planned_to_write (cards_of d) k took.raw new took.planned took.so
+
+  -- a card that an actor has in hand may be closed after it was written
+  pub held_may_close : ((c : Core) (p a : ℕ) (raw : Option FilterCause) (o : Own) (v : Verdict) → Holds c p a raw
+      → held_close raw o ≡ Some v → is_step c (Close p a o) ≡ true)
+      → (x : Core) (k w : Card B L) (raw : Option FilterCause) (n : ℕ) (o : Own) → Holds x k.path n raw
+      → WaitsSo (seen see k) (Waiting raw) k.ready → IsCardOf (seen see k) (seen see w)
+      → (is_some k.ready ≡ true → was_read o ≡ true) → is_step x (Close w.path n o) ≡ true
+  held_may_close law x k w raw n o holds so kept read =
+      let v = has_verdict (seen see k) raw k.ready o so read in
+      subst (λ (p : ℕ). is_step x (Close p n o) ≡ true) (sym (ap (λ (z : CardSeen). z.path) kept))
+      (law x k.path n raw o v.0 holds v.1)
+
+  pub may_close : ((c : Core) (p a : ℕ) (raw : Option FilterCause) (o : Own) (v : Verdict) → Holds c p a raw
+      → held_close raw o ≡ Some v → is_step c (Close p a o) ≡ true)
+      → (lock : TableId) (d : Plan B L) (n made : ℕ) (s t : SeatView Entry (Plan B L)) (c x : Core) (k w : Card B L)
+      (m : ℕ) (o : Own) → TookCard see lock d n made s t c x k → m ≡ n → IsCardOf (seen see k) (seen see w)
+      → (is_some k.ready ≡ true → was_read o ≡ true) → is_step x (Close w.path m o) ≡ true
+  may_close law lock d n made s t c x k w m o took is kept read =
+      held_may_close law x k w took.raw m o (subst (λ (j : ℕ). Holds x k.path j took.raw) (sym is) took.holds) took.so
+      kept read
+
+  pub out_again : (cards : List (Card B L)) (k w : Card B L) → IsPlanned see cards k
+      → IsCardOf (seen see k) (seen see w) → IsOut see cards w
+  out_again cards k w p is = (p.0, p.1, p.2, subst (λ (z : CardSeen). IsCardOf z (seen see w)) p.3 is)
+
+  -- how the writing of a claimed card ended shows in the entry of its Close
+  pub shown : (cards : List (Card B L)) (k w : Card B L) (n : ℕ) (o : Own) → IsPlanned see cards k
+      → IsCardOf (seen see k) (seen see w) → WritesCard (seen see k) o (see.blob w.blob) (see.leaf w.leaf)
+      → IsShown see cards (Close w.path n o) (Some (tell see w.blob w.leaf))
+  shown cards k w n o p kept wrote = (
+    p.0,
+    p.1,
+    p.2,
+    sym (ap (λ (z : CardSeen). z.path) p.3) ∙ sym (ap (λ (z : CardSeen). z.path) kept),
+    wrote_planned (seen see p.1) k.ready o (see.blob w.blob) (see.leaf w.leaf)
+        (subst (λ (z : CardSeen). WritesCard z o (see.blob w.blob) (see.leaf w.leaf)) p.3 wrote),
+  )
+
+  pub shown_more : (cards : List (Card B L)) (xs ys : List Entry) → AreShown see cards xs → AreShown see cards ys
+      → AreShown see cards (xs ++ ys)
+  shown_more cards [] ys h k = k
+  shown_more cards (x ∷ xs) ys h k = (h.0, shown_more cards xs ys h.1 k)
+
+  pub begun : (lock : TableId) (d : Plan B L) (n made : ℕ) (s : SeatView Entry (Plan B L)) → HasNothing lock d n made s
+      → Worked see lock d n made s s
+  begun lock d n made s h = record {
+    nothing = h;
+    more = [];
+    mine = sym (append-nil (mine_of s));
+    shown = tt;
+    quiet = refl;
+    seen = ([], append-nil (seen_of s));
+  }
+
+  pub rests : (lock : TableId) (d : Plan B L) (n made : ℕ) (s0 s s1 : SeatView Entry (Plan B L))
+      (w : Worked see lock d n made s0 s) (x : Core) → TookNone lock d n made s s1 (w.nothing.0) x
+      → Idled see lock d n made s0 s1
+  rests lock d n made s0 s s1 w x t = record {
+    worked = record {
+      nothing = (x, t.turn.pass, λ q. t.hands q ∙ w.nothing.2 q);
+      more = w.more;
+      mine = t.mine ∙ w.mine;
+      shown = w.shown;
+      quiet = w.quiet;
+      seen = begins_trans (seen_of s0) (seen_of s) (seen_of s1) w.seen t.turn.seen;
+    };
+    last = (x, t.turn.pass, t.none);
+  }
+
+  free_after : (b : Bool) (h : Bool) → h ≡ false → cond b false (cond b true h) ≡ false
+  free_after true h e = refl
+  free_after false h e = e
+
+  pub goes_on : (lock : TableId) (d : Plan B L) (n made : ℕ) (s0 s s1 s2 : SeatView Entry (Plan B L))
+      (w : Worked see lock d n made s0 s) (x : Core) (k z : Card B L) (o : Own)
+      → TookCard see lock d n made s s1 (w.nothing.0) x k
+      → Closes lock d n made s1 s2 x z.path o (tell see z.blob z.leaf)
+      → IsCardOf (seen see k) (seen see z) → WritesCard (seen see k) o (see.blob z.blob) (see.leaf z.leaf)
+      → Worked see lock d n made s0 s2
+  goes_on lock d n made s0 s s1 s2 w x k z o took closes kept wrote =
+      let is : z.path ≡ k.path = ap (λ (y : CardSeen). y.path) kept in
+      let parts = tell see z.blob z.leaf in
+      let two : List Entry = claim_entry k.path n ∷ close_entry z.path n o parts ∷ [] in
+      record {
+        nothing = (
+          closes.core,
+          closes.turn.pass,
+          λ q. closes.hands q
+              ∙ (ap (λ (b : Bool). cond (q == z.path) false b) (took.hands q)
+              ∙ (ap (λ j. cond (q == z.path) false (cond (q == j) true (held_at w.nothing.0 n q))) (sym is)
+              ∙ free_after (q == z.path) (held_at w.nothing.0 n q) (w.nothing.2 q))),
+        );
+        more = w.more ++ two;
+        mine = closes.mine ∙ (ap (λ l. l ++ close_entry z.path n o parts ∷ [])
+            (took.mine ∙ ap (λ l. l ++ claim_entry k.path n ∷ []) w.mine)
+            ∙ (append_assoc (mine_of s0 ++ w.more) (claim_entry k.path n ∷ []) (close_entry z.path n o parts ∷ [])
+            ∙ append_assoc (mine_of s0) w.more two));
+        shown = shown_more (cards_of d) w.more two w.shown (tt, (shown (cards_of d) k z n o took.planned kept wrote, tt));
+        quiet = ap noted (map-append (λ (e : Entry). e.event) w.more two)
+            ∙ noted_more (own_events w.more) (own_events two) refl w.quiet;
+        seen = begins_trans (seen_of s0) (seen_of s1) (seen_of s2)
+            (begins_trans (seen_of s0) (seen_of s) (seen_of s1) w.seen took.turn.seen) closes.turn.seen;
+      }

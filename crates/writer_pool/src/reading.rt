@@ -1,0 +1,44 @@
+// What a card's object is prepared to.
+ghost use Rattle.std.specs.Prelude.{◌≡◌, Ok, Err};
+ghost use Rattle.convert_plan.specs.Card.{card_seen};
+ghost use Rattle.writer_pool.specs.Writing.{own_of, ReadsTo, KeepsCard, CountsRead};
+
+use checkout_core::{ObjectKind, Own};
+use convert_plan::{Card, prepare};
+use edge_kit::{Blob, Leaf};
+use object_dir::{ObjectFault, read_blob};
+use std::alloc::Global;
+use tree_encoding::Prepared;
+
+/// What happened to a path whose object gave no content.
+fn own_of(fault: ObjectFault) -> Own
+    ensures { result ≡ own_of fault }
+{
+    match fault {
+        ObjectFault::ReadFailed => Own::ReadFailed,
+        ObjectFault::Absent => Own::Object(ObjectKind::Absent),
+        ObjectFault::TooLarge => Own::Object(ObjectKind::TooLarge),
+        ObjectFault::Header => Own::Object(ObjectKind::Header),
+        ObjectFault::Size => Own::Object(ObjectKind::Size),
+        ObjectFault::WrongName(_) => Own::Object(ObjectKind::WrongName),
+        ObjectFault::NoMemory => Own::NoMemory,
+    }
+}
+
+/// Reads the object of a card and prepares its content.
+pub(crate) fn read_card<B: Blob, L: Leaf>(
+    alloc: Global,
+    card: &mut Card<B, L>,
+) -> Result<Prepared, Own>
+    ensures read { ReadsTo (card_seen B.told B.seen L.seen card.old) result }
+    ensures kept { KeepsCard (card_seen B.told B.seen L.seen card.old) (card_seen B.told B.seen L.seen card.new) }
+    ensures counts { CountsRead (B.seen card.old.blob).faults (B.seen card.new.blob).faults result }
+{
+    match read_blob(alloc, &mut card.blob, &card.object) {
+        Ok(content) => match prepare(alloc, &card.conversion, &card.object, content) {
+            Ok(prepared) => Ok(prepared),
+            Err(_) => Err(Own::NoMemory),
+        },
+        Err(fault) => Err(own_of(fault)),
+    }
+}
