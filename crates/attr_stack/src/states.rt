@@ -51,8 +51,8 @@ pub fn states_in(
 
 /// The state of each name for a path, in the order of the names (gitattributes(5), "DESCRIPTION").
 ///
-/// The time is that of matching each row of the files that reach the path. Each of their pairs takes a look-up among the
-/// names, among the macros, and among what is decided.
+/// The time is that of matching each row of the files that reach the path. Each of their pairs takes a look-up among
+/// the names, among the macros, and among what is decided.
 pub fn attributes_of(
     alloc: Global,
     files: &AttrFiles,

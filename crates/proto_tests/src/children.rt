@@ -8,11 +8,13 @@ use filter_words::{BreakCause, Reply};
 use std::test::Fail;
 
 /// A driver that answers a handshake and one request, and reads its input to the end.
-const ONE_ANSWER: &[u8] = b"printf '0016git-filter-server\\n000eversion=2\\n00000016capability=smudge\\n0000\
+const ONE_ANSWER: &[u8] =
+    b"printf '0016git-filter-server\\n000eversion=2\\n00000016capability=smudge\\n0000\
 0013status=success\\n0000000bpixels\\n00000000'; cat >/dev/null";
 
 /// A driver that closes its output after the handshake.
-const NO_ANSWER: &[u8] = b"printf '0016git-filter-server\\n000eversion=2\\n00000016capability=smudge\\n0000'
+const NO_ANSWER: &[u8] =
+    b"printf '0016git-filter-server\\n000eversion=2\\n00000016capability=smudge\\n0000'
 exec >&-; cat >/dev/null";
 
 /// What comes of a request to a driver, and the content that is put.

@@ -52,11 +52,7 @@ pub fn ask<K: Link>(
 }
 
 /// Asks again for a path, if that is allowed.
-pub fn ask_again<K: Link>(
-    session: &mut Session<K>,
-    path: &[u8],
-    page: &mut Page,
-) -> Option<Came>
+pub fn ask_again<K: Link>(session: &mut Session<K>, path: &[u8], page: &mut Page) -> Option<Came>
     requires { page.old.state ≡ leaf_state.Fresh }
 {
     if !session.live() {

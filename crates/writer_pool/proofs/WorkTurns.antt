@@ -99,7 +99,7 @@ module _ {B L : Type 0} (see : Sight B L) where
 
   pub to_write : (lock : TableId) (d : Plan B L) (n made : ℕ) (s t : SeatView Entry (Plan B L)) (c x : Core)
       (k : Card B L) → AreNew see (cards_of d) → TookCard see lock d n made s t c x k → IsToWrite (seen see k)
-  to_write lock d n made s t c x k new took = planned_to_write (cards_of d) k took.raw new took.planned took.so
+  to_write lock d n made s t c x k new took = planned_to_write (cards_of d) k took.raw new took.planned took.ready
 
   -- a card that an actor has in hand may be closed after it was written
   pub held_may_close : ((c : Core) (p a : ℕ) (raw : Option FilterCause) (o : Own) (v : Verdict) → Holds c p a raw
