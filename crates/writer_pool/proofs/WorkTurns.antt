@@ -118,7 +118,7 @@ module _ {B L : Type 0} (see : Sight B L) where
       (m : ℕ) (o : Own) → TookCard see lock d n made s t c x k → m ≡ n → IsCardOf (seen see k) (seen see w)
       → (is_some k.ready ≡ true → was_read o ≡ true) → is_step x (Close w.path m o) ≡ true
   may_close law lock d n made s t c x k w m o took is kept read =
-      held_may_close law x k w took.raw m o (subst (λ (j : ℕ). Holds x k.path j took.raw) (sym is) took.holds) took.so
+      held_may_close law x k w took.raw m o (subst (λ (j : ℕ). Holds x k.path j took.raw) (sym is) took.holds) took.ready
       kept read
 
   pub out_again : (cards : List (Card B L)) (k w : Card B L) → IsPlanned see cards k
