@@ -24,8 +24,8 @@ module _ {B L : Type 0} where
     pub room : HasRoom s
     pub some : 0 < s.workers + s.drivers
 
-  -- The actor n took this card, and the shelf is now so: the planned card of its path, with nothing changed but `ready`,
-  -- which is there exactly where the card was handed back. The path is in the actor's hands.
+  -- The actor n took this card, and the shelf is now so. It is the planned card of its path, with nothing changed but
+  -- `ready`, which is there exactly where the card was handed back. The path is in the actor's hands.
   pub record IsTaken (see : Sight B L) (n : ℕ) (s : Shelf B L) (card : Card B L) : Type 0 where
     pub planned : IsPlanned see (cards_of (plan_of s)) card
     pub raw : Option FilterCause
