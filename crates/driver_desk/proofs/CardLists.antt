@@ -1,12 +1,18 @@
 -- Cards that were served, one after another.
-use Rattle.std.proofs.Common.{◌≡◌, ℕ, zero, suc, ◌+◌, ◌<◌, ◌≤◌, Bool, false, List, [], ◌∷◌, ◌++◌, length, map, take, get_or, Option, Some, None, refl, sym, ap, subst, ◌∙◌, append_assoc, add-one, arith}
+use Rattle.std.proofs.Common.{◌≡◌, ℕ, zero, suc, ◌+◌, ◌<◌, ◌≤◌, Bool, true, false, List, [], ◌∷◌, ◌++◌, length, map, take, get_or, Option, Some, None, refl, sym, ap, subst, ◌∙◌, append_assoc, add-one, arith}
 use Rattle.std.specs.Prelude.{slice_get}
 use Rattle.std.proofs.lemmas.List.{map-append}
 use Rattle.filter_proto.specs.Wires.{SessionSeen}
 use Rattle.convert_plan.specs.Card.{CardSeen, IsNewCard}
 use Rattle.edge_kit.specs.declared.leaf_state.LeafState.TheVariants.{Fresh}
 use Rattle.driver_line.specs.Lines.{LineView, Paths}
-use Rattle.driver_desk.specs.Works.{WorkSeen, ReadsAs, AreRead, FitAll, FitsWork, cards_in, card_paths, card_texts, AreNew}
+use Rattle.std.specs.Prelude.{Result, Err}
+use Rattle.checkout_core.specs.Talks.{is_alone}
+use Rattle.checkout_core.specs.declared.verdict.Own.{Own}
+use Rattle.checkout_core.specs.declared.verdict.Own.TheVariants as own
+use Rattle.object_dir.specs.declared.fault.ObjectFault.{ObjectFault}
+use Rattle.object_dir.specs.declared.fault.ObjectFault.TheVariants as fault
+use Rattle.driver_desk.specs.Works.{own_of, ReadsTo, WorkSeen, ReadsAs, AreRead, FitAll, FitsWork, cards_in, card_paths, card_texts, AreNew}
 use Rattle.driver_desk.specs.Late.{LateView, IsLate, IsNewLate, KeepsNames, FitsNames, filled, is_filled}
 use Rattle.std.specs.Option.{option_map}
 use Rattle.delay_table.specs.Table.{Table, idle_table, is_pending}
@@ -173,3 +179,20 @@ new_late cards t numbers os apart e n o = record {
   unlisted = ap (λ (x : Table). x.turns) e;
   apart = subst AreApart (sym n) apart;
 }
+
+-- an object that gave no content is a reason of its own
+alone_of : (f : ObjectFault) → is_alone (own_of f) ≡ true
+alone_of fault.ReadFailed = refl
+alone_of fault.Absent = refl
+alone_of fault.TooLarge = refl
+alone_of fault.Header = refl
+alone_of fault.Size = refl
+alone_of (fault.WrongName name) = refl
+alone_of fault.NoMemory = refl
+
+pub alone_own : (c : CardSeen) (o : Own) → ReadsTo c (Err o) → is_alone o ≡ true
+alone_own c own.NoMemory h = refl
+alone_own c (own.Fine u) h = ap is_alone h.own ∙ alone_of h.fault
+alone_own c own.WriteFailed h = ap is_alone h.own ∙ alone_of h.fault
+alone_own c (own.Object k) h = refl
+alone_own c own.ReadFailed h = refl

@@ -2,3 +2,6 @@ pub mod Serves
 pub mod RoundSteps
 pub mod LateCards
 pub mod CardLists
+pub mod Places
+pub mod Calls
+pub mod RoundCalls

@@ -25,13 +25,14 @@ use Rattle.driver_line.specs.Transcripts.{HasItems}
 use Rattle.driver_line.specs.ToldStarts.{GoBy}
 use Rattle.driver_desk.specs.Serving.{IsServed, Given, Noted, noted_in, Talks, Serves, talk_now, newest}
 use Rattle.driver_desk.specs.Rounds.{round_of, minus, AreAmong, AreApart, AreWaiting, InRounds, TalkOver, RoundsBy, LateSeen, paths_of, IsReady, AreReady, FitTexts, IsTaken, IsNext, GrowsLate, RedoneCards, TurnsBy}
+use Rattle.driver_desk.specs.Places.{naming_after}
 use Rattle.driver_desk.specs.Late.{LateView, KeepsNames, FitsNames, cards_of, names_at}
 use Rattle.driver_desk.specs.Works.{card_paths}
 use Rattle.driver_line.specs.Lines.{weight, number_at, names_in}
 use Rattle.convert_plan.specs.Card.{CardSeen}
 use Rattle.driver_desk.proofs.Serves.{runs_more, notes_more, noted_more, talk_more, one_step, leads_more, leads_run, leads_from}
 
-bool_or : (b : Bool) → (b ≡ true) ⊎ (b ≡ false)
+pub bool_or : (b : Bool) → (b ≡ true) ⊎ (b ≡ false)
 bool_or true = inl refl
 bool_or false = inr refl
 
@@ -41,7 +42,7 @@ given_true b x e = rw e refl
 and_true : (a b : Bool) → a ≡ true → b ≡ true → (a && b) ≡ true
 and_true a b e i = rw (e, i) refl
 
-self : (p : ℕ) → (p == p) ≡ true
+pub self : (p : ℕ) → (p == p) ≡ true
 self p = eq-eqb p p refl
 
 first_step : (d : ℕ) (t u : Talk) (e : Event) (es : List Event) → talk_step d t e ≡ Some u → talk_run d t (e ∷ es) ≡ talk_run d u es
@@ -59,7 +60,7 @@ contains_without m n (q ∷ qs) no_mn = elim (bool_or (n == q)) [
   | inr away ↦ ap (λ (b : Bool). contains m (cond b (without n qs) (q ∷ without n qs))) away ∙ ap (λ (b : Bool). cond (m == q) true b) (contains_without m n qs no_mn)
 ]
 
-eq_flip : (m n : ℕ) → (m == n) ≡ false → (n == m) ≡ false
+pub eq_flip : (m n : ℕ) → (m == n) ≡ false → (n == m) ≡ false
 eq_flip m n no_mn = elim (bool_or (n == m)) [
   | inl same ↦ absurd (cc (sym (ap (λ (x : ℕ). m == x) (eqb-true n m same) ∙ self m) ∙ no_mn))
   | inr other ↦ other
@@ -100,7 +101,7 @@ without_none n (q ∷ qs) = elim (bool_or (n == q)) [
 ]
 
 -- what is still late was late, and wasn't listed
-minus_not : (late ns : List ℕ) (q : ℕ) → contains q (minus late ns) ≡ true → (contains q late ≡ true) × (contains q ns ≡ false)
+pub minus_not : (late ns : List ℕ) (q : ℕ) → contains q (minus late ns) ≡ true → (contains q late ≡ true) × (contains q ns ≡ false)
 minus_not late [] q h = (h, refl)
 minus_not late (n ∷ ns) q h =
     let k = minus_not (without n late) ns q h in
@@ -111,7 +112,7 @@ minus_not late (n ∷ ns) q h =
 
 -- the cards that wait, after a list and after a second request
 
-names_wait : (cards late names : List ℕ) → AreWaiting cards late [] → AreWaiting cards (minus late names) names
+pub names_wait : (cards late names : List ℕ) → AreWaiting cards late [] → AreWaiting cards (minus late names) names
 names_wait cards late names w = record {
   each = λ q k. minus_or late names q (late_only q (w.each q k));
   kept = λ q k. let m = minus_not late names q k in ((w.kept q m.0).0, m.1);
@@ -121,7 +122,7 @@ names_wait cards late names w = record {
     late_only q (inl l) = l
     late_only q (inr r) = absurd (cc r)
 
-redone_waits : (cards cards1 : List ℕ) (p : ℕ) (turns late : List ℕ) → AreWaiting cards late (p ∷ turns) → RedoneCards cards p cards1 → AreWaiting cards1 late turns
+pub redone_waits : (cards cards1 : List ℕ) (p : ℕ) (turns late : List ℕ) → AreWaiting cards late (p ∷ turns) → RedoneCards cards p cards1 → AreWaiting cards1 late turns
 redone_waits cards cards1 p turns late w left = record {
   each = λ q k. elim (w.each q (left.were q k).0) [
     | inl l ↦ inl l
@@ -130,13 +131,13 @@ redone_waits cards cards1 p turns late w left = record {
   kept = λ q k. let c = w.kept q k in let n = head_not q p turns c.1 in (left.stay q c.0 n.0, n.1);
 }
 
-same_bool : (a b : Bool) → (a ≡ true → b ≡ true) → (b ≡ true → a ≡ true) → a ≡ b
+pub same_bool : (a b : Bool) → (a ≡ true → b ≡ true) → (b ≡ true → a ≡ true) → a ≡ b
 same_bool true b f g = sym (f refl)
 same_bool false true f g = g refl
 same_bool false false f g = refl
 
 -- the late paths are those of the cards, where none is listed
-late_cards : (cards late : List ℕ) → AreWaiting cards late [] → (q : ℕ) → contains q late ≡ contains q cards
+pub late_cards : (cards late : List ℕ) → AreWaiting cards late [] → (q : ℕ) → contains q late ≡ contains q cards
 late_cards cards late w q = same_bool (contains q late) (contains q cards) (λ k. (w.kept q k).0) (λ k. late_only (w.each q k))
   where
     late_only : (contains q late ≡ true) ⊎ (contains q [] ≡ true) → contains q late ≡ true
@@ -145,20 +146,16 @@ late_cards cards late w q = same_bool (contains q late) (contains q cards) (λ k
 
 -- the names of a list
 
-abbrev after_names : Bool → List ℕ → Bool
-after_names naming [] = naming
-after_names naming (n ∷ ns) = true
-
-after_true : (ns : List ℕ) → after_names true ns ≡ true
+after_true : (ns : List ℕ) → naming_after true ns ≡ true
 after_true [] = refl
 after_true (n ∷ ns) = refl
 
-name_step : (d : ℕ) (delay naming : Bool) (late turns : List ℕ) (n : ℕ) → (naming || is_empty turns) ≡ true → contains n late ≡ true
+pub name_step : (d : ℕ) (delay naming : Bool) (late turns : List ℕ) (n : ℕ) → (naming || is_empty turns) ≡ true → contains n late ≡ true
     → talk_step d (round_of delay naming late turns) (event.Named n) ≡ Some (round_of delay true (without n late) (turns ++ n ∷ []))
 name_step d delay naming late turns n may k = given_true _ _ (and_true _ _ k may)
 
 pub names_run : (d : ℕ) (delay naming : Bool) (late turns names : List ℕ) → (naming || is_empty turns) ≡ true → AreKnown late names
-    → talk_run d (round_of delay naming late turns) (map event.Named names) ≡ Some (round_of delay (after_names naming names) (minus late names) (turns ++ names))
+    → talk_run d (round_of delay naming late turns) (map event.Named names) ≡ Some (round_of delay (naming_after naming names) (minus late names) (turns ++ names))
 names_run d delay naming late turns [] may k = ap (λ (x : List ℕ). Some (round_of delay naming late x)) (sym (append-nil turns))
 names_run d delay naming late turns (n ∷ ns) may k =
     first_step d (round_of delay naming late turns) (round_of delay true (without n late) (turns ++ n ∷ [])) (event.Named n) (map event.Named ns) (name_step d delay naming late turns n may k.0)
@@ -166,7 +163,7 @@ names_run d delay naming late turns (n ∷ ns) may k =
     ∙ (ap (λ (b : Bool). Some (round_of delay b (minus (without n late) ns) ((turns ++ n ∷ []) ++ ns))) (after_true ns)
     ∙ ap (λ (x : List ℕ). Some (round_of delay true (minus (without n late) ns) x)) (append_assoc turns (n ∷ []) ns)))
 
-some_names : (names : List ℕ) → 0 < length names → after_names false names ≡ true
+pub some_names : (names : List ℕ) → 0 < length names → naming_after false names ≡ true
 some_names [] lt = absurd (omega arith)
 some_names (n ∷ ns) lt = refl
 
@@ -240,7 +237,7 @@ listed d paths line0 given0 asked line line1 given given1 new cards names r (Som
 
 -- a second request
 
-redo_step : (d : ℕ) (delay : Bool) (late turns : List ℕ) (p : ℕ) (r : Reply) (u : Talk) → not (is_delay r) ≡ true → is_good_reply r ≡ true → Rattle.checkout_core.specs.Talks.redone (record { delay = delay; any_delayed = true; noting_list = false; rest = []; late = late; turns = p ∷ turns }) turns r ≡ u
+pub redo_step : (d : ℕ) (delay : Bool) (late turns : List ℕ) (p : ℕ) (r : Reply) (u : Talk) → not (is_delay r) ≡ true → is_good_reply r ≡ true → Rattle.checkout_core.specs.Talks.redone (record { delay = delay; any_delayed = true; noting_list = false; rest = []; late = late; turns = p ∷ turns }) turns r ≡ u
     → talk_run d (round_of delay false late (p ∷ turns)) (event.Redone p r ∷ []) ≡ Some u
 redo_step d delay late turns p r u a b e = one_step d (round_of delay false late (p ∷ turns)) u (event.Redone p r) refl (given_true _ _ (and_true _ _ (self p) (and_true _ _ a b)) ∙ ap Some e)
 
@@ -392,7 +389,7 @@ take_suc [] i lt = absurd (omega arith)
 take_suc (n ∷ ns) zero lt = refl
 take_suc (n ∷ ns) (suc i) lt = ap (λ (x : List ℕ). n ∷ x) (take_suc ns i (omega arith))
 
-take_more : (names : List ℕ) (i : ℕ) → i < length names → take (i + 1) names ≡ take i names ++ get_or names i 0 ∷ []
+pub take_more : (names : List ℕ) (i : ℕ) → i < length names → take (i + 1) names ≡ take i names ++ get_or names i 0 ∷ []
 take_more names i lt = ap (λ (k : ℕ). take k names) (add-one i) ∙ take_suc names i lt
 
 pub named_more : (a b c : List Given) (names : List ℕ) (i : ℕ) → i < length names → (more : List Given) × (b ≡ a ++ more) × (noted_in more ≡ map event.Named (take i names)) → c ≡ b ++ Noted (event.Named (get_or names i 0)) ∷ [] → (more : List Given) × (c ≡ a ++ more) × (noted_in more ≡ map event.Named (take (i + 1) names))
@@ -460,14 +457,14 @@ grows_fits paths old c new (inl e) r h = subst (FitTexts paths) (sym e) h
 grows_fits paths old c new (inr (inl e)) r h = subst (FitTexts paths) (sym e) (fits_push paths old c r h)
 grows_fits paths old c new (inr (inr e)) r h = subst (FitTexts paths) (sym e) tt
 
-has_append : (q : ℕ) (xs ys : List ℕ) → contains q ys ≡ true → contains q (xs ++ ys) ≡ true
+pub has_append : (q : ℕ) (xs ys : List ℕ) → contains q ys ≡ true → contains q (xs ++ ys) ≡ true
 has_append q [] ys h = h
 has_append q (x ∷ xs) ys h = elim (bool_or (q == x)) [
   | inl same ↦ ap (λ (b : Bool). cond b true (contains q (xs ++ ys))) same
   | inr other ↦ ap (λ (b : Bool). cond b true (contains q (xs ++ ys))) other ∙ has_append q xs ys h
 ]
 
-has_drop : (q p : ℕ) (xs ys : List ℕ) → contains q (xs ++ ys) ≡ true → contains q (xs ++ p ∷ ys) ≡ true
+pub has_drop : (q p : ℕ) (xs ys : List ℕ) → contains q (xs ++ ys) ≡ true → contains q (xs ++ p ∷ ys) ≡ true
 has_drop q p [] ys h = elim (bool_or (q == p)) [
   | inl same ↦ ap (λ (b : Bool). cond b true (contains q ys)) same
   | inr other ↦ ap (λ (b : Bool). cond b true (contains q ys)) other ∙ h
@@ -485,7 +482,7 @@ apart_last : (xs ys : List ℕ) → AreApart (xs ++ ys) → AreApart ys
 apart_last [] ys h = h
 apart_last (x ∷ xs) ys h = apart_last xs ys h.1
 
-has_front : (q : ℕ) (xs ys : List ℕ) → contains q xs ≡ true → contains q (xs ++ ys) ≡ true
+pub has_front : (q : ℕ) (xs ys : List ℕ) → contains q xs ≡ true → contains q (xs ++ ys) ≡ true
 has_front q [] ys h = absurd (cc h)
 has_front q (x ∷ xs) ys h = elim (bool_or (q == x)) [
   | inl same ↦ ap (λ (b : Bool). cond b true (contains q (xs ++ ys))) same
@@ -533,7 +530,7 @@ pub over_none : (d : ℕ) (paths : Paths) (line0 : LineView) (given0 : List Give
 over_none d paths line0 given0 asked line given late e s =
     (Between [], talk_as d paths line0 given0 asked line given _ (Between []) (ap (λ (o : Option SessionSeen). talk_now o false late []) e) (talks_of d paths line0 given0 asked line given false late s), tt)
 
-shut_talk : (d : ℕ) (o : Option SessionSeen) (late : List ℕ) → (o ≡ None → ⊥) → late ≡ [] ⊎ ((s : SessionSeen) → o ≡ Some s → s.caps.smudge ≡ false) → talk_run d (talk_now o false late []) (event.Shut d ∷ []) ≡ Some Ended
+pub shut_talk : (d : ℕ) (o : Option SessionSeen) (late : List ℕ) → (o ≡ None → ⊥) → late ≡ [] ⊎ ((s : SessionSeen) → o ≡ Some s → s.caps.smudge ≡ false) → talk_run d (talk_now o false late []) (event.Shut d ∷ []) ≡ Some Ended
 shut_talk d None late there h = absurd (there refl)
 shut_talk d (Some s) late there (inl e) = rw e (by_smudge s.caps.smudge)
   where
@@ -548,14 +545,14 @@ pub over_shut : (d : ℕ) (paths : Paths) (line0 : LineView) (given0 : List Give
 over_shut d paths line0 given0 asked line line1 given given1 late there h says g s =
     (Ended, talks_more d paths line0 given0 asked line line1 given given1 (Noted (event.Shut d) ∷ []) (talk_now line.session false late []) Ended Shutting (talks_of d paths line0 given0 asked line given false late s) says g refl tt (shut_talk d line.session late there h), tt)
 
-newest_has : (q : ℕ) (ps : List ℕ) → contains q ps ≡ true → contains q (newest ps) ≡ true
+pub newest_has : (q : ℕ) (ps : List ℕ) → contains q ps ≡ true → contains q (newest ps) ≡ true
 newest_has q [] h = h
 newest_has q (p ∷ ps) h = elim (bool_or (q == p)) [
   | inl same ↦ has_append q (newest ps) (p ∷ []) (ap (λ (b : Bool). cond b true false) same)
   | inr other ↦ has_front q (newest ps) (p ∷ []) (newest_has q ps (sym (ap (λ (b : Bool). cond b true (contains q ps)) other) ∙ h))
 ]
 
-has_either : (q : ℕ) (xs ys : List ℕ) → contains q (xs ++ ys) ≡ true → (contains q xs ≡ true) ⊎ (contains q ys ≡ true)
+pub has_either : (q : ℕ) (xs ys : List ℕ) → contains q (xs ++ ys) ≡ true → (contains q xs ≡ true) ⊎ (contains q ys ≡ true)
 has_either q [] ys h = inr h
 has_either q (x ∷ xs) ys h = elim (bool_or (q == x)) [
   | inl same ↦ inl (ap (λ (b : Bool). cond b true (contains q xs)) same)
@@ -565,7 +562,7 @@ has_either q (x ∷ xs) ys h = elim (bool_or (q == x)) [
   ]
 ]
 
-newest_had : (q : ℕ) (ps : List ℕ) → contains q (newest ps) ≡ true → contains q ps ≡ true
+pub newest_had : (q : ℕ) (ps : List ℕ) → contains q (newest ps) ≡ true → contains q ps ≡ true
 newest_had q [] h = h
 newest_had q (p ∷ ps) h = elim (has_either q (newest ps) (p ∷ []) h) [
   | inl l ↦ has_drop q p [] ps (newest_had q ps l)

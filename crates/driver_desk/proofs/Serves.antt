@@ -23,7 +23,8 @@ use Rattle.driver_line.specs.Conversations.{Exchange, NoStart, NoRoom, Opening, 
 use Rattle.driver_line.specs.Lines.{LineView, Paths, Says, RunsTo, OpenIs, IsOpen, MayReply, SessionAfter, GoesOn}
 use Rattle.driver_desk.specs.Rounds.{LateSeen, paths_of}
 use Rattle.driver_desk.specs.Works.{WorkSeen, FitsWork, FitAll, asked_of, asked_in}
-use Rattle.driver_desk.specs.Serving.{Given, Noted, Closed, HandedBack, noted_of, noted_in, ends_card, IsClosing, AreClosings, Serves, talk_in, talk_now, newest, IsSane, is_abort, late_after}
+use Rattle.driver_desk.specs.Recorders.{Standing as Seat, IsEnd, ended_path}
+use Rattle.driver_desk.specs.Serving.{Given, Noted, Closed, HandedBack, noted_of, noted_in, AreClosings, Serves, talk_in, talk_now, newest, IsSane, is_abort, late_after}
 
 pub runs_more : (paths : Paths) (a b c : LineView) (es : List Exchange) (e : Exchange) → RunsTo paths a es b → Says paths b e c → RunsTo paths a (es ++ e ∷ []) c
 runs_more paths a b c [] e r s = (c, subst (λ (x : LineView). Says paths x e c) (sym r) s, refl)
@@ -212,19 +213,19 @@ asked_first d paths line0 given0 asked p line line1 given given1 s late r conten
     says g refl (sym (append-nil (asked ++ p ∷ []))) (λ rest. tt) (λ rest. rw is (first_moves d p rest s late r line1.session smudge may goes))
 
 -- closings
-not_noted : (g : Given) → ends_card g ≡ true → noted_in (g ∷ []) ≡ []
-not_noted (Noted e) h = absurd (cc h)
-not_noted (Closed own card) h = refl
-not_noted (HandedBack card) h = refl
+not_noted : (g : Given) (p : ℕ) → ended_path g ≡ Some p → noted_in (g ∷ []) ≡ []
+not_noted (Noted e) p h = absurd (cc h)
+not_noted (Closed own card) p h = refl
+not_noted (HandedBack card) p h = refl
 
-pub closed_one : (a b c : List Given) → AreClosings a b → IsClosing b c → AreClosings a c
-closed_one a b c h k = (h.0 ++ k.0 ∷ [], k.1 ∙ (ap (λ (x : List Given). x ++ k.0 ∷ []) h.1 ∙ append_assoc a h.0 (k.0 ∷ [])), noted_more h.0 (k.0 ∷ []) ∙ (ap (λ (x : List Event). x ++ noted_in (k.0 ∷ [])) h.2 ∙ not_noted k.0 k.2))
+pub closed_one : (s : Seat) (a b c : List Given) (p : ℕ) → AreClosings a b → IsEnd s b p c → AreClosings a c
+closed_one s a b c p h k = (h.0 ++ k.last ∷ [], k.more ∙ (ap (λ (x : List Given). x ++ k.last ∷ []) h.1 ∙ append_assoc a h.0 (k.last ∷ [])), noted_more h.0 (k.last ∷ []) ∙ (ap (λ (x : List Event). x ++ noted_in (k.last ∷ [])) h.2 ∙ not_noted k.last p k.path))
 
 pub closed_all : (a b c : List Given) → AreClosings a b → AreClosings b c → AreClosings a c
 closed_all a b c h k = (h.0 ++ k.0, k.1 ∙ (ap (λ (x : List Given). x ++ k.0) h.1 ∙ append_assoc a h.0 k.0), noted_more h.0 k.0 ∙ (ap (λ (x : List Event). x ++ noted_in k.0) h.2 ∙ k.2))
 
-pub closing : (a b : List Given) → IsClosing a b → AreClosings a b
-closing a b k = (k.0 ∷ [], k.1, not_noted k.0 k.2)
+pub closing : (s : Seat) (a b : List Given) (p : ℕ) → IsEnd s a p b → AreClosings a b
+closing s a b p k = (k.last ∷ [], k.more, not_noted k.last p k.path)
 
 pub no_closing : (a b : List Given) → b ≡ a → AreClosings a b
 no_closing a b e = ([], e ∙ sym (append-nil a), refl)
@@ -233,7 +234,7 @@ pub newest_push : (ps : List ℕ) (p : ℕ) → newest (ps ++ p ∷ []) ≡ p �
 newest_push [] p = refl
 newest_push (q ∷ ps) p = ap (λ (x : List ℕ). x ++ q ∷ []) (newest_push ps p)
 
-open_some : (session : Option SessionSeen) → IsOpen session → (s : SessionSeen) × (session ≡ Some s) × (s.standing ≡ standing.Live) × (s.caps.smudge ≡ true)
+pub open_some : (session : Option SessionSeen) → IsOpen session → (s : SessionSeen) × (session ≡ Some s) × (s.standing ≡ standing.Live) × (s.caps.smudge ≡ true)
 open_some None h = absurd h
 open_some (Some s) h = (s, refl, h.0, h.1)
 

@@ -31,16 +31,6 @@ abbrev pub noted_in : List Given → List Event
 noted_in [] = []
 noted_in (g ∷ gs) = noted_of g ++ noted_in gs
 
--- a card was closed or handed back
-abbrev pub ends_card : Given → Bool
-ends_card (Noted e) = false
-ends_card (Closed own card) = true
-ends_card (HandedBack card) = true
-
--- one card more was closed or handed back
-abbrev pub IsClosing : List Given → List Given → Type 0
-IsClosing old new = (g : Given) × (new ≡ old ++ g ∷ []) × (ends_card g ≡ true)
-
 -- cards alone were closed or handed back
 abbrev pub AreClosings : List Given → List Given → Type 0
 AreClosings old new = (more : List Given) × (new ≡ old ++ more) × (noted_in more ≡ [])

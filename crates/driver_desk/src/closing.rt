@@ -1,13 +1,19 @@
-// What becomes of a card that its driver has told of.
-ghost use Rattle.std.specs.Prelude.{◌≡◌, ◌≢◌, ◌++◌, ◌∷◌, [], List, Err, Bool};
+//! What becomes of a card that its driver has told of.
+ghost use Rattle.std.specs.Prelude.{◌≡◌, ◌≢◌, ◌+◌, ◌++◌, ◌∷◌, [], List, Err, Bool, true, false};
+ghost use Rattle.checkout_core.specs.declared.event.Event.TheVariants.{Close};
+ghost use Rattle.checkout_core.specs.declared.path.Heard.{Heard};
+ghost use Rattle.checkout_core.specs.declared.path.Heard.TheVariants.{Refused};
+ghost use Rattle.checkout_core.specs.declared.verdict.FilterCause.{FilterCause};
+ghost use Rattle.checkout_core.specs.Desks.{was_read};
 ghost use Rattle.edge_kit.specs.Files.{IsOpenLeaf};
 ghost use Rattle.edge_kit.specs.declared.leaf_state.LeafState.TheVariants.{Fresh, Broken, Sealed};
-ghost use Rattle.driver_desk.specs.Serving.{Given, IsClosing, noted_in};
+ghost use Rattle.driver_desk.specs.Recorders.{MayDo, MayEnd, IsEnd};
+ghost use Rattle.driver_desk.specs.Serving.{Given};
 
 use crate::recorder::Recorder;
 use checkout_core::Own;
 use convert_plan::Card;
-use edge_kit::{Blob, Leaf, SendFault};
+use edge_kit::{Blob, Leaf, Mark, SendFault};
 
 /// A card with what is known of it until it is closed: whether its content isn't UTF-8, though an encoding is named.
 /// What was prepared stands in `ready`, where the driver isn't required.
@@ -30,6 +36,7 @@ fn write_failed<L: Leaf>(leaf: &mut L) -> Own
 fn put_failed<L: Leaf>(leaf: &mut L, fault: SendFault) -> Own
     requires usable { fault ≢ SendFault.Failed → IsOpenLeaf (L.seen leaf.old).state }
     requires broken { fault ≡ SendFault.Failed → (L.seen leaf.old).state ≡ Broken }
+    ensures read { was_read result ≡ true }
 {
     match fault {
         SendFault::Failed => write_failed(leaf),
@@ -40,19 +47,43 @@ fn put_failed<L: Leaf>(leaf: &mut L, fault: SendFault) -> Own
     }
 }
 
-/// The outcome of a leaf that is to hold no file.
-fn drop_leaf<L: Leaf>(leaf: &mut L, unencoded: bool) -> Own
-    requires { IsOpenLeaf (L.seen leaf.old).state }
+/// The outcome of a leaf that has its driver's answer.
+fn seal_leaf<L: Leaf>(leaf: &mut L, mark: Mark, put: Result<(), SendFault>, unencoded: bool) -> Own
+    requires usable { put ≢ Err SendFault.Failed → IsOpenLeaf (L.seen leaf.old).state }
+    requires broken { put ≡ Err SendFault.Failed → (L.seen leaf.old).state ≡ Broken }
+    ensures read { was_read result ≡ true }
 {
-    match leaf.discard() {
-        Ok(()) => Own::Fine { unencoded },
-        Err(_) => Own::WriteFailed,
+    match put {
+        Ok(()) => match leaf.seal(mark) {
+            Ok(()) => Own::Fine { unencoded },
+            Err(_) => write_failed(leaf),
+        },
+        Err(fault) => put_failed(leaf, fault),
+    }
+}
+
+/// The outcome of a leaf that is to hold no file.
+fn drop_leaf<L: Leaf>(leaf: &mut L, put: Result<(), SendFault>, unencoded: bool) -> Own
+    requires usable { put ≢ Err SendFault.Failed → IsOpenLeaf (L.seen leaf.old).state }
+    requires broken { put ≡ Err SendFault.Failed → (L.seen leaf.old).state ≡ Broken }
+    ensures read { was_read result ≡ true }
+{
+    match put {
+        Ok(()) => match leaf.discard() {
+            Ok(()) => Own::Fine { unencoded },
+            Err(_) => Own::WriteFailed,
+        },
+        Err(fault) => put_failed(leaf, fault),
     }
 }
 
 /// Closes a card, with what happened to it. What was prepared for it isn't needed any more.
 fn close<B: Blob, L: Leaf, C: Recorder<B, L>>(mut card: Card<B, L>, recorder: &mut C, own: Own)
-    ensures { IsClosing (C.given recorder.old) (C.given recorder.new) }
+    requires next { MayDo (C.standing recorder.old) (C.given recorder.old)
+        (Close card.path ((C.standing recorder.old).workers + (C.standing recorder.old).driver) own) }
+    ensures ends { IsEnd (C.standing recorder.old) (C.given recorder.old) card.path (C.given recorder.new) }
+    ensures standing { C.standing recorder.new ≡ C.standing recorder.old }
+    ensures fixed { C.fixed recorder.new ≡ C.fixed recorder.old }
 {
     card.ready = None;
     recorder.close(card, own);
@@ -66,18 +97,13 @@ pub(crate) fn close_got<B: Blob, L: Leaf, C: Recorder<B, L>>(
 )
     requires usable { put ≢ Err SendFault.Failed → IsOpenLeaf (L.seen work.card.leaf).state }
     requires broken { put ≡ Err SendFault.Failed → (L.seen work.card.leaf).state ≡ Broken }
-    ensures { IsClosing (C.given recorder.old) (C.given recorder.new) }
+    requires may { (h : Heard) × MayEnd (C.standing recorder.old) (C.given recorder.old) work.card.path h }
+    ensures ends { IsEnd (C.standing recorder.old) (C.given recorder.old) work.card.path (C.given recorder.new) }
+    ensures standing { C.standing recorder.new ≡ C.standing recorder.old }
+    ensures fixed { C.fixed recorder.new ≡ C.fixed recorder.old }
 {
     let mark = work.card.mark;
-    let own = match put {
-        Ok(()) => match work.card.leaf.seal(mark) {
-            Ok(()) => Own::Fine {
-                unencoded: work.unencoded,
-            },
-            Err(_) => write_failed(&mut work.card.leaf),
-        },
-        Err(fault) => put_failed(&mut work.card.leaf, fault),
-    };
+    let own = seal_leaf(&mut work.card.leaf, mark, put, work.unencoded);
     close(work.card, recorder, own);
 }
 
@@ -89,19 +115,24 @@ pub(crate) fn close_empty<B: Blob, L: Leaf, C: Recorder<B, L>>(
 )
     requires usable { put ≢ Err SendFault.Failed → IsOpenLeaf (L.seen work.card.leaf).state }
     requires broken { put ≡ Err SendFault.Failed → (L.seen work.card.leaf).state ≡ Broken }
-    ensures { IsClosing (C.given recorder.old) (C.given recorder.new) }
+    requires may { (h : Heard) × MayEnd (C.standing recorder.old) (C.given recorder.old) work.card.path h }
+    ensures ends { IsEnd (C.standing recorder.old) (C.given recorder.old) work.card.path (C.given recorder.new) }
+    ensures standing { C.standing recorder.new ≡ C.standing recorder.old }
+    ensures fixed { C.fixed recorder.new ≡ C.fixed recorder.old }
 {
-    let own = match put {
-        Ok(()) => drop_leaf(&mut work.card.leaf, work.unencoded),
-        Err(fault) => put_failed(&mut work.card.leaf, fault),
-    };
+    let own = drop_leaf(&mut work.card.leaf, put, work.unencoded);
     close(work.card, recorder, own);
 }
 
 /// Gives a refused card back with a fresh leaf. Where that fails it is closed.
 fn hand_back<B: Blob, L: Leaf, C: Recorder<B, L>>(mut work: Work<B, L>, recorder: &mut C)
-    requires { IsOpenLeaf (L.seen work.card.leaf).state }
-    ensures { IsClosing (C.given recorder.old) (C.given recorder.new) }
+    requires leaf { IsOpenLeaf (L.seen work.card.leaf).state }
+    requires free { (C.standing recorder.old).required ≡ false }
+    requires may { (why : FilterCause)
+        × MayEnd (C.standing recorder.old) (C.given recorder.old) work.card.path (Refused why) }
+    ensures ends { IsEnd (C.standing recorder.old) (C.given recorder.old) work.card.path (C.given recorder.new) }
+    ensures standing { C.standing recorder.new ≡ C.standing recorder.old }
+    ensures fixed { C.fixed recorder.new ≡ C.fixed recorder.old }
 {
     match work.card.leaf.restart() {
         Ok(()) => recorder.hand_back(work.card),
@@ -121,7 +152,12 @@ pub(crate) fn refuse<B: Blob, L: Leaf, C: Recorder<B, L>>(
 )
     requires usable { put ≢ Err SendFault.Failed → IsOpenLeaf (L.seen work.card.leaf).state }
     requires broken { put ≡ Err SendFault.Failed → (L.seen work.card.leaf).state ≡ Broken }
-    ensures { IsClosing (C.given recorder.old) (C.given recorder.new) }
+    requires required { (C.standing recorder.old).required ≡ required }
+    requires may { (why : FilterCause)
+        × MayEnd (C.standing recorder.old) (C.given recorder.old) work.card.path (Refused why) }
+    ensures ends { IsEnd (C.standing recorder.old) (C.given recorder.old) work.card.path (C.given recorder.new) }
+    ensures standing { C.standing recorder.new ≡ C.standing recorder.old }
+    ensures fixed { C.fixed recorder.new ≡ C.fixed recorder.old }
 {
     if required {
         close_empty(work, put, recorder);
@@ -139,8 +175,12 @@ pub(crate) fn close_unread<B: Blob, L: Leaf, C: Recorder<B, L>>(
     recorder: &mut C,
     own: Own,
 )
-    requires { (L.seen card.leaf).state ≡ Fresh }
-    ensures { IsClosing (C.given recorder.old) (C.given recorder.new) }
+    requires leaf { (L.seen card.leaf).state ≡ Fresh }
+    requires next { MayDo (C.standing recorder.old) (C.given recorder.old)
+        (Close card.path ((C.standing recorder.old).workers + (C.standing recorder.old).driver) own) }
+    ensures ends { IsEnd (C.standing recorder.old) (C.given recorder.old) card.path (C.given recorder.new) }
+    ensures standing { C.standing recorder.new ≡ C.standing recorder.old }
+    ensures fixed { C.fixed recorder.new ≡ C.fixed recorder.old }
 {
     let _ = card.leaf.discard();
     close(card, recorder, own);

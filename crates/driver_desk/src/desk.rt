@@ -1,4 +1,4 @@
-// A desk: the cards of a driver, and what starts it.
+//! A desk: the cards of a driver, and what starts it.
 ghost use Rattle.std.specs.Prelude.{◌≡◌, ◌≤◌, ◌<◌, ◌+◌, ◌^◌, ◌++◌, [], ℕ, List, Bool, true, false, None, length};
 ghost use Rattle.std.specs.Prelude.{map, IfOk};
 ghost use Rattle.convert_plan.specs.Card.{CardSeen, card_seen, IsNewCard};
@@ -6,11 +6,14 @@ ghost use Rattle.driver_line.specs.Lines.{LineView, Paths, starts_of};
 ghost use Rattle.driver_desk.specs.Late.{AreIdle, FitsNames, IsNewLate, KeepsNames, StaysUnlisted, cards_of};
 ghost use Rattle.delay_table.specs.Table.{IsRising};
 ghost use Rattle.driver_desk.specs.Rounds.{paths_of, AreApart, AreReady, FitTexts, TalkOver};
+ghost use Rattle.driver_desk.specs.Desks.{IsDealt, AreThrough};
+ghost use Rattle.driver_desk.specs.Places.{IsServing, IsDone};
 ghost use Rattle.driver_desk.specs.Serving.{Given, IsServed, Serves, IsSane, newest};
 ghost use Rattle.driver_desk.specs.Works.{WorkSeen, AreNew, AreRead, FitAll, asked_in, cards_in, card_paths};
 ghost use Rattle.driver_desk.specs.Works.{card_texts};
 
 use crate::late::Late;
+use crate::laws::desk_laws;
 use crate::recorder::Recorder;
 use crate::rounds::end_talk;
 use crate::serving::{Seat, serve_one};
@@ -39,6 +42,14 @@ fn serve_all<S: Starter, B: Blob, L: Leaf, C: Recorder<B, L>, G: Gate>(
     requires numbers { late.old.numbers ≡ card_paths (map (λ c. card_seen B.told B.seen L.seen c) cards.items) }
     requires idle { AreIdle 0 late.old }
     requires apart { AreApart late.old.numbers }
+    requires driver { (C.standing recorder.old).driver ≡ seat.driver }
+    requires required { (C.standing recorder.old).required ≡ seat.required }
+    requires state { IsServing (C.standing recorder.old) (C.given recorder.old) None false [] []
+        (card_paths (map (λ c. card_seen B.told B.seen L.seen c) cards.items)) }
+    ensures state { IsServing (C.standing recorder.new) (C.given recorder.new) line.new.session result
+        (paths_of (cards_of late.new)) [] [] }
+    ensures standing { C.standing recorder.new ≡ C.standing recorder.old }
+    ensures fixed { C.fixed recorder.new ≡ C.fixed recorder.old }
     ensures serves { (works : List WorkSeen)
         × (map (λ c. card_seen B.told B.seen L.seen c) cards.items ≡ cards_in works) × AreRead works
         × ((paths : Paths) (line0 : LineView) (given0 : List Given) (asked : List ℕ) → FitAll paths works
@@ -78,6 +89,13 @@ fn serve_line<S: Starter, B: Blob, L: Leaf, C: Recorder<B, L>, G: Gate>(
     requires none { line.old.session ≡ None }
     requires new { AreNew (map (λ c. card_seen B.told B.seen L.seen c) cards.items) }
     requires late { IsNewLate (map (λ c. card_seen B.told B.seen L.seen c) cards.items) late.old }
+    requires driver { (C.standing recorder.old).driver ≡ seat.driver }
+    requires required { (C.standing recorder.old).required ≡ seat.required }
+    requires state { IsServing (C.standing recorder.old) (C.given recorder.old) None false [] []
+        (card_paths (map (λ c. card_seen B.told B.seen L.seen c) cards.items)) }
+    ensures state { IsDone (C.standing recorder.new) (C.given recorder.new) }
+    ensures standing { C.standing recorder.new ≡ C.standing recorder.old }
+    ensures fixed { C.fixed recorder.new ≡ C.fixed recorder.old }
     ensures talk { (works : List WorkSeen)
         × (map (λ c. card_seen B.told B.seen L.seen c) cards.items ≡ cards_in works) × AreRead works
         × ((paths : Paths) → FitAll paths works
@@ -110,6 +128,7 @@ impl<S: Starter, B: Blob, L: Leaf> Model for Desk<S, B, L> {
 
     ghost view = { λ d. record {
       driver = d.seat.driver;
+      required = d.seat.required;
       starter = S.seen d.starter;
       cards = map (λ c. card_seen B.told B.seen L.seen c) d.cards.items;
     } };
@@ -139,6 +158,7 @@ impl<S: Starter, B: Blob, L: Leaf> Desk<S, B, L> {
         requires apart { AreApart (card_paths (map (λ c. card_seen B.told B.seen L.seen c) cards.items)) }
         ensures { IfOk result (λ d. d ≡ record {
           driver = driver;
+          required = required;
           starter = S.seen starter;
           cards = map (λ c. card_seen B.told B.seen L.seen c) cards.items;
         }) }
@@ -161,11 +181,17 @@ impl<S: Starter, B: Blob, L: Leaf> Desk<S, B, L> {
     /// each note of the talk, and each card.
     pub fn serve<C: Recorder<B, L>, G: Gate>(self, recorder: &mut C, gate: &G) -> Served<S>
         requires few { length self.starter.had + length self.cards < 2 ^ 32 }
+        requires dealt { IsDealt (C.standing recorder.old) self }
+        requires none { C.given recorder.old ≡ [] }
+        ensures through { AreThrough (C.standing recorder.new) (C.given recorder.new) }
+        ensures standing { C.standing recorder.new ≡ C.standing recorder.old }
+        ensures fixed { C.fixed recorder.new ≡ C.fixed recorder.old }
         ensures served { (works : List WorkSeen) × (self.cards ≡ cards_in works) × AreRead works
             × ((paths : Paths) → FitAll paths works
             → IsServed self.driver paths (asked_in works) self.starter (S.seen result.starter)
             (C.given recorder.old) (C.given recorder.new)) }
     {
+        desk_laws();
         exchanges_are_spelled();
         exchanges_go_by_the_starts();
         links_are_given_back();

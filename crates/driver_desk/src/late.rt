@@ -1,4 +1,4 @@
-// The cards that are late: their driver delayed them, and they wait to be listed.
+//! The cards that are late: their driver delayed them, and they wait to be listed.
 ghost use Rattle.std.specs.Prelude.{map, ◌≡◌, ◌≤◌, ◌<◌, ◌^◌, ◌++◌, ◌∷◌, [], ℕ, List, Option, Some, None};
 ghost use Rattle.std.specs.Prelude.{MatchOption, slice_get, length, true, false, IfOk};
 ghost use Rattle.checkout_core.specs.Talks.{contains};

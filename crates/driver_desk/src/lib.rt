@@ -5,6 +5,7 @@
 mod closing;
 mod desk;
 mod late;
+mod laws;
 mod reading;
 mod recorder;
 mod rounds;

@@ -1,4 +1,4 @@
-// What a card's object is prepared to, before its driver is asked.
+//! What a card's object is prepared to, before its driver is asked.
 ghost use Rattle.std.specs.Prelude.{◌≡◌, Ok, Err};
 ghost use Rattle.convert_plan.specs.Card.{card_seen};
 ghost use Rattle.driver_desk.specs.Works.{own_of, ReadsTo, KeepsCard};

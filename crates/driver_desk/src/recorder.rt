@@ -1,25 +1,52 @@
-ghost use Rattle.std.specs.Prelude.{◌≡◌, List, [], ◌∷◌, ◌++◌};
+//! What a desk tells of its steps, and whom it gives its cards.
+ghost use Rattle.std.specs.Prelude.{◌≡◌, ◌++◌, ◌+◌, ◌∷◌, [], List, Some, true};
+ghost use Rattle.checkout_core.specs.Actors.{driver_at, driver_in};
+ghost use Rattle.checkout_core.specs.declared.event.Event.TheVariants.{Close, HandBack};
 ghost use Rattle.convert_plan.specs.Card.{card_seen};
+ghost use Rattle.core_laws.specs.Moves.{is_noted};
+ghost use Rattle.driver_desk.specs.Recorders.{Standing, MayDo};
 ghost use Rattle.driver_desk.specs.Serving.{Given, Noted, Closed, HandedBack};
 
 use checkout_core::{Event, Own};
 use convert_plan::Card;
 use edge_kit::{Blob, Leaf};
 
-/// What a desk tells of its steps, and whom it gives its cards.
+/// What a desk tells of its steps, and whom it gives its cards. Each call makes one entry, which may follow those that
+/// were given before.
 pub trait Recorder<B: Blob, L: Leaf> {
+    /// For whom it stands.
+    ghost standing: { Self → Standing };
+
     /// What it was given, in order.
     ghost given: { Self → List Given };
 
-    /// Notes an event of the talk.
+    /// What else no call changes. No desk looks at it.
+    ghost Fixed: { Type 0 };
+
+    ghost fixed: { Self → Fixed };
+
+    /// Notes an event of the talk with its driver.
     fn note(&mut self, event: Event)
-        ensures { given self.new ≡ given self.old ++ Noted event ∷ [] };
+        requires noted { is_noted event ≡ true }
+        requires own { driver_in (standing self.old).starts event ≡ Some (standing self.old).driver }
+        requires next { MayDo (standing self.old) (given self.old) event }
+        ensures given { given self.new ≡ given self.old ++ Noted event ∷ [] }
+        ensures standing { standing self.new ≡ standing self.old }
+        ensures fixed { fixed self.new ≡ fixed self.old };
 
     /// Takes a card that is through, with what happened to it.
     fn close(&mut self, card: Card<B, L>, own: Own)
-        ensures { given self.new ≡ given self.old ++ Closed own (card_seen B.told B.seen L.seen card) ∷ [] };
+        requires next { MayDo (standing self.old) (given self.old)
+            (Close card.path ((standing self.old).workers + (standing self.old).driver) own) }
+        ensures given { given self.new ≡ given self.old ++ Closed own (card_seen B.told B.seen L.seen card) ∷ [] }
+        ensures standing { standing self.new ≡ standing self.old }
+        ensures fixed { fixed self.new ≡ fixed self.old };
 
     /// Takes a card that its driver refused, for another actor to write what was prepared.
     fn hand_back(&mut self, card: Card<B, L>)
-        ensures { given self.new ≡ given self.old ++ HandedBack (card_seen B.told B.seen L.seen card) ∷ [] };
+        requires own { driver_at (standing self.old).starts card.path ≡ Some (standing self.old).driver }
+        requires next { MayDo (standing self.old) (given self.old) (HandBack card.path) }
+        ensures given { given self.new ≡ given self.old ++ HandedBack (card_seen B.told B.seen L.seen card) ∷ [] }
+        ensures standing { standing self.new ≡ standing self.old }
+        ensures fixed { fixed self.new ≡ fixed self.old };
 }

@@ -1,17 +1,24 @@
-// Rounds: a list, and a second request for each path that it names.
+//! Rounds: a list, and a second request for each path that it names.
 ghost use Rattle.std.specs.Prelude.{◌≡◌, ◌≢◌, ◌≤◌, ◌<◌, ◌+◌, ◌∷◌, ◌++◌, [], ℕ, List, Bool, true, false, Option};
 ghost use Rattle.std.specs.Prelude.{Some, None, Err, length, map};
 ghost use Rattle.edge_kit.specs.Files.{IsOpenLeaf};
 ghost use Rattle.edge_kit.specs.declared.leaf_state.LeafState.TheVariants.{Fresh, Broken};
 ghost use Rattle.driver_line.specs.Conversations.{list_notes};
-ghost use Rattle.driver_line.specs.Lines.{LineView, Paths, IsOpen, names_in, weight};
+ghost use Rattle.driver_line.specs.Lines.{LineView, Paths, IsOpen, MayReply, names_in, weight};
 ghost use Rattle.driver_desk.specs.Late.{FitsNames, KeepsNames, cards_of, names_at};
 ghost use Rattle.driver_desk.specs.Rounds.{paths_of, AreReady, AreApart, FitTexts, IsNext, RedoneCards, RoundsBy};
 ghost use Rattle.driver_desk.specs.Rounds.{TalkOver, TurnsBy};
+ghost use Rattle.checkout_core.specs.declared.path.Heard.{Heard};
+ghost use Rattle.checkout_core.specs.Fates.{Known, fate_here};
+ghost use Rattle.checkout_core.specs.Talks.{contains};
+ghost use Rattle.driver_desk.specs.Recorders.{MayEnd, IsEnd};
+ghost use Rattle.driver_desk.specs.Places.{IsAt, IsServing, IsNaming, IsListing, AfterList, InRoundsAt, IsDone};
+ghost use Rattle.driver_desk.specs.Places.{named_talk};
 ghost use Rattle.driver_desk.specs.Serving.{Given, AreClosings, Serves, IsSane, newest, noted_in};
 
 use crate::closing::{Work, close_empty, close_got, refuse};
 use crate::late::Late;
+use crate::laws::desk_laws;
 use crate::recorder::Recorder;
 use crate::serving::{Seat, close_late};
 use checkout_core::Event;
@@ -22,9 +29,18 @@ use filter_words::{ListReply, Reply};
 
 /// Notes each path that was listed.
 fn note_names<B: Blob, L: Leaf, C: Recorder<B, L>>(recorder: &mut C, late: &Late<B, L>)
-    ensures { (more : List Given) × (C.given recorder.new ≡ C.given recorder.old ++ more)
+    requires next { (cards waiting : List ℕ) × (first : ℕ) × (delay : Bool) × IsNaming (C.standing recorder.old)
+        (C.given recorder.old) cards waiting (names_at late.now) first delay }
+    ensures next { (cards waiting : List ℕ) (first : ℕ) (delay : Bool) → IsNaming (C.standing recorder.old)
+        (C.given recorder.old) cards waiting (names_at late.now) first delay
+        → IsAt (C.standing recorder.new) (C.given recorder.new) cards [] first
+        (named_talk delay waiting (names_at late.now)) }
+    ensures noted { (more : List Given) × (C.given recorder.new ≡ C.given recorder.old ++ more)
         × (noted_in more ≡ map Event.Named (names_at late.now)) }
+    ensures standing { C.standing recorder.new ≡ C.standing recorder.old }
+    ensures fixed { C.fixed recorder.new ≡ C.fixed recorder.old }
 {
+    desk_laws();
     let places = late.listed();
     for place in places {
         recorder.note(Event::Named {
@@ -40,9 +56,19 @@ fn note_list<B: Blob, L: Leaf, C: Recorder<B, L>>(
     reply: ListReply,
     late: &Late<B, L>,
 )
-    ensures { (more : List Given) × (C.given recorder.new ≡ C.given recorder.old ++ more)
+    requires driver { (C.standing recorder.old).driver ≡ driver }
+    requires next { (cards waiting : List ℕ) × (first : ℕ) × (delay : Bool) × IsListing (C.standing recorder.old)
+        (C.given recorder.old) cards waiting (names_in late.now.numbers late.now.table.turns reply) reply first delay }
+    ensures next { (cards waiting : List ℕ) (first : ℕ) (delay : Bool) → IsListing (C.standing recorder.old)
+        (C.given recorder.old) cards waiting (names_in late.now.numbers late.now.table.turns reply) reply first delay
+        → AfterList reply (C.standing recorder.new) (C.given recorder.new) cards waiting
+        (names_in late.now.numbers late.now.table.turns reply) first delay }
+    ensures standing { C.standing recorder.new ≡ C.standing recorder.old }
+    ensures fixed { C.fixed recorder.new ≡ C.fixed recorder.old }
+    ensures noted { (more : List Given) × (C.given recorder.new ≡ C.given recorder.old ++ more)
         × (noted_in more ≡ list_notes driver (names_in late.now.numbers late.now.table.turns reply) reply) }
 {
+    desk_laws();
     match reply {
         ListReply::Names(_) => {
             note_names(recorder, late);
@@ -64,7 +90,13 @@ fn after_second<B: Blob, L: Leaf, C: Recorder<B, L>>(
 )
     requires usable { put ≢ Err SendFault.Failed → IsOpenLeaf (L.seen work.card.leaf).state }
     requires broken { put ≡ Err SendFault.Failed → (L.seen work.card.leaf).state ≡ Broken }
-    ensures { AreClosings (C.given recorder.old) (C.given recorder.new) }
+    requires required { (C.standing recorder.old).required ≡ seat.required }
+    requires may { (h : Heard) → fate_here reply ≡ Known h
+        → MayEnd (C.standing recorder.old) (C.given recorder.old) work.card.path h }
+    requires asked { MayReply false reply }
+    ensures ends { IsEnd (C.standing recorder.old) (C.given recorder.old) work.card.path (C.given recorder.new) }
+    ensures standing { C.standing recorder.new ≡ C.standing recorder.old }
+    ensures fixed { C.fixed recorder.new ≡ C.fixed recorder.old }
 {
     match reply {
         Reply::Content => close_got(work, put, recorder),
@@ -86,6 +118,16 @@ fn redo<S: Starter, B: Blob, L: Leaf, C: Recorder<B, L>>(
     requires fresh { (L.seen work.card.leaf).state ≡ Fresh }
     requires some { 1 ≤ length work.card.text }
     requires few { length work.card.text ≤ 4096 }
+    requires driver { (C.standing recorder.old).driver ≡ seat.driver }
+    requires required { (C.standing recorder.old).required ≡ seat.required }
+    requires state { (cards turns : List ℕ) × (contains work.card.path cards ≡ true)
+        × InRoundsAt (C.standing recorder.old) (C.given recorder.old) line.old.session cards (work.card.path ∷ turns) }
+    ensures state { (cards turns left : List ℕ) → contains work.card.path cards ≡ true
+        → RedoneCards cards work.card.path left
+        → InRoundsAt (C.standing recorder.old) (C.given recorder.old) line.old.session cards (work.card.path ∷ turns)
+        → InRoundsAt (C.standing recorder.new) (C.given recorder.new) line.new.session left turns }
+    ensures standing { C.standing recorder.new ≡ C.standing recorder.old }
+    ensures fixed { C.fixed recorder.new ≡ C.fixed recorder.old }
     ensures rounds { (paths : Paths) (line0 : LineView) (given0 : List Given) (asked turns cards left : List ℕ)
         → paths.text work.card.path ≡ work.card.text → RedoneCards cards work.card.path left
         → RoundsBy seat.driver paths line0 given0 asked line.old.session line.old (C.given recorder.old) cards
@@ -93,6 +135,7 @@ fn redo<S: Starter, B: Blob, L: Leaf, C: Recorder<B, L>>(
         → RoundsBy seat.driver paths line0 given0 asked line.new.session line.new (C.given recorder.new) left turns }
     ensures next { IsNext line.new.session }
 {
+    desk_laws();
     let path = work.card.path;
     let lent = &mut work.card;
     let Asked { reply, put } = line.ask_again(lent.text.as_slice(), &mut lent.leaf);
@@ -110,6 +153,14 @@ fn redo_all<S: Starter, B: Blob, L: Leaf, C: Recorder<B, L>>(
     requires next { IsNext line.old.session }
     requires ready { AreReady (cards_of late.old) }
     requires apart { AreApart (paths_of (cards_of late.old)) }
+    requires driver { (C.standing recorder.old).driver ≡ seat.driver }
+    requires required { (C.standing recorder.old).required ≡ seat.required }
+    requires state { InRoundsAt (C.standing recorder.old) (C.given recorder.old) line.old.session
+        (paths_of (cards_of late.old)) (names_at late.old) }
+    ensures state { InRoundsAt (C.standing recorder.new) (C.given recorder.new) line.new.session
+        (paths_of (cards_of late.new)) [] }
+    ensures standing { C.standing recorder.new ≡ C.standing recorder.old }
+    ensures fixed { C.fixed recorder.new ≡ C.fixed recorder.old }
     ensures rounds { (paths : Paths) (line0 : LineView) (given0 : List Given) (asked : List ℕ)
         → FitTexts paths (cards_of late.old)
         → RoundsBy seat.driver paths line0 given0 asked line.old.session line.old (C.given recorder.old) (paths_of
@@ -146,6 +197,14 @@ fn one_round<S: Starter, B: Blob, L: Leaf, C: Recorder<B, L>>(
     requires none { late.old.table.turns ≡ [] }
     requires ready { AreReady (cards_of late.old) }
     requires apart { AreApart (paths_of (cards_of late.old)) }
+    requires driver { (C.standing recorder.old).driver ≡ seat.driver }
+    requires required { (C.standing recorder.old).required ≡ seat.required }
+    requires state { InRoundsAt (C.standing recorder.old) (C.given recorder.old) line.old.session
+        (paths_of (cards_of late.old)) [] }
+    ensures state { InRoundsAt (C.standing recorder.new) (C.given recorder.new) line.new.session
+        (paths_of (cards_of late.new)) [] }
+    ensures standing { C.standing recorder.new ≡ C.standing recorder.old }
+    ensures fixed { C.fixed recorder.new ≡ C.fixed recorder.old }
     ensures rounds { (paths : Paths) (line0 : LineView) (given0 : List Given) (asked : List ℕ)
         → FitTexts paths (cards_of late.old) → FitsNames paths late.old
         → RoundsBy seat.driver paths line0 given0 asked line.old.session line.old (C.given recorder.old) (paths_of
@@ -176,6 +235,13 @@ fn rounds<S: Starter, B: Blob, L: Leaf, C: Recorder<B, L>>(
     requires none { late.old.table.turns ≡ [] }
     requires ready { AreReady (cards_of late.old) }
     requires apart { AreApart (paths_of (cards_of late.old)) }
+    requires driver { (C.standing recorder.old).driver ≡ seat.driver }
+    requires required { (C.standing recorder.old).required ≡ seat.required }
+    requires state { InRoundsAt (C.standing recorder.old) (C.given recorder.old) line.old.session
+        (paths_of (cards_of late.old)) [] }
+    ensures state { IsDone (C.standing recorder.new) (C.given recorder.new) }
+    ensures standing { C.standing recorder.new ≡ C.standing recorder.old }
+    ensures fixed { C.fixed recorder.new ≡ C.fixed recorder.old }
     ensures over { (paths : Paths) (line0 : LineView) (given0 : List Given) (asked : List ℕ)
         → FitTexts paths (cards_of late.old) → FitsNames paths late.old
         → RoundsBy seat.driver paths line0 given0 asked line.old.session line.old (C.given recorder.old) (paths_of
@@ -200,6 +266,13 @@ pub(crate) fn end_talk<S: Starter, B: Blob, L: Leaf, C: Recorder<B, L>>(
     requires none { late.old.table.turns ≡ [] }
     requires ready { AreReady (cards_of late.old) }
     requires apart { AreApart (paths_of (cards_of late.old)) }
+    requires driver { (C.standing recorder.old).driver ≡ seat.driver }
+    requires required { (C.standing recorder.old).required ≡ seat.required }
+    requires state { IsServing (C.standing recorder.old) (C.given recorder.old) line.old.session false
+        (paths_of (cards_of late.old)) [] [] }
+    ensures state { IsDone (C.standing recorder.new) (C.given recorder.new) }
+    ensures standing { C.standing recorder.new ≡ C.standing recorder.old }
+    ensures fixed { C.fixed recorder.new ≡ C.fixed recorder.old }
     ensures over { (paths : Paths) (line0 : LineView) (given0 : List Given) (asked : List ℕ)
         → FitTexts paths (cards_of late.old) → FitsNames paths late.old
         → Serves seat.driver paths line0 given0 asked [] line.old (C.given recorder.old) false (newest (paths_of
@@ -207,6 +280,7 @@ pub(crate) fn end_talk<S: Starter, B: Blob, L: Leaf, C: Recorder<B, L>>(
         → TalkOver seat.driver paths line0 given0 asked line.new (C.given recorder.new) }
     ensures none { line.new.session ≡ None }
 {
+    desk_laws();
     if !line.is_open() {
         return;
     }

@@ -1,4 +1,4 @@
-// The cards of a driver, one after another: each is asked for in a session that is opened when it is needed.
+//! The cards of a driver, one after another: each is asked for in a session that is opened when it is needed.
 ghost use Rattle.std.specs.Prelude.{◌≡◌, ◌≢◌, ◌≤◌, ◌<◌, ◌+◌, ◌^◌, ◌∷◌, ◌++◌, [], ℕ, List, Bool, true, false};
 ghost use Rattle.std.specs.Prelude.{Option, Some, None, Err, length, slice_get};
 ghost use Rattle.edge_kit.specs.Files.{IsOpenLeaf};
@@ -6,12 +6,19 @@ ghost use Rattle.edge_kit.specs.declared.leaf_state.LeafState.TheVariants.{Fresh
 ghost use Rattle.convert_plan.specs.Card.{card_seen};
 ghost use Rattle.driver_line.specs.Lines.{LineView, Paths, IsOpen, starts_of};
 ghost use Rattle.driver_desk.specs.Late.{AreIdle, KeepsNames, StaysUnlisted, cards_of};
-ghost use Rattle.driver_desk.specs.Rounds.{late_seen, paths_of, AreReady, GrowsLate};
+ghost use Rattle.driver_desk.specs.Rounds.{late_seen, paths_of, AreApart, AreReady, GrowsLate};
 ghost use Rattle.driver_desk.specs.Serving.{Given, AreClosings, Serves, newest, IsSane, late_after, is_abort};
 ghost use Rattle.driver_desk.specs.Works.{WorkSeen, ReadsAs, FitsWork, asked_of};
+ghost use Rattle.checkout_core.specs.Conditions.{heard_opening};
+ghost use Rattle.checkout_core.specs.declared.path.Heard.{Heard};
+ghost use Rattle.checkout_core.specs.Fates.{Known, fate_here};
+ghost use Rattle.checkout_core.specs.Talks.{Talk};
+ghost use Rattle.driver_desk.specs.Recorders.{MayEnd, IsEnd};
+ghost use Rattle.driver_desk.specs.Places.{IsAt, IsServing, IsUnopened, IsAnswered, AreLost};
 
 use crate::closing::{Work, close_empty, close_got, close_unread, refuse};
 use crate::late::Late;
+use crate::laws::desk_laws;
 use crate::reading::read_card;
 use crate::recorder::Recorder;
 use checkout_core::{Event, OpenCause};
@@ -37,12 +44,20 @@ pub(crate) fn close_late<B: Blob, L: Leaf, C: Recorder<B, L>>(
     recorder: &mut C,
 )
     requires ready { AreReady (cards_of late.old) }
+    requires next { (rest : List ℕ) × (first : ℕ) × (t : Talk)
+        × AreLost (C.standing recorder.old) (C.given recorder.old) (paths_of (cards_of late.old)) rest first t }
+    ensures next { (rest : List ℕ) (first : ℕ) (t : Talk)
+        → AreLost (C.standing recorder.old) (C.given recorder.old) (paths_of (cards_of late.old)) rest first t
+        → IsAt (C.standing recorder.new) (C.given recorder.new) rest rest first t }
+    ensures standing { C.standing recorder.new ≡ C.standing recorder.old }
+    ensures fixed { C.fixed recorder.new ≡ C.fixed recorder.old }
     ensures closed { AreClosings (C.given recorder.old) (C.given recorder.new) }
     ensures none { cards_of late.new ≡ [] }
     ensures names { KeepsNames late.old late.new }
     ensures idle { (q : ℕ) → AreIdle q late.old → AreIdle q late.new }
     ensures turns { StaysUnlisted late.old late.new }
 {
+    desk_laws();
     while let Some(work) = late.next_late() {
         close_empty(work, Ok(()), recorder);
     }
@@ -57,6 +72,18 @@ fn open_new<S: Starter, B: Blob, L: Leaf, C: Recorder<B, L>>(
 ) -> Option<OpenCause>
     requires none { line.old.session ≡ None }
     requires few { starts_of line.old < 2 ^ 32 }
+    requires driver { (C.standing recorder.old).driver ≡ driver }
+    requires next { (rest : List ℕ) × AreApart (path ∷ rest)
+        × IsServing (C.standing recorder.old) (C.given recorder.old) None false [] (path ∷ []) rest }
+    ensures opens { result ≡ None → (rest : List ℕ) → AreApart (path ∷ rest)
+        → IsServing (C.standing recorder.old) (C.given recorder.old) None false [] (path ∷ []) rest
+        → IsServing (C.standing recorder.new) (C.given recorder.new) line.new.session false [] (path ∷ []) rest }
+    ensures fails { (cause : OpenCause) → result ≡ Some cause → (rest : List ℕ) → AreApart (path ∷ rest)
+        → IsServing (C.standing recorder.old) (C.given recorder.old) None false [] (path ∷ []) rest
+        → IsUnopened (C.standing recorder.new) (C.given recorder.new) cause path rest }
+    ensures closed { (cause : OpenCause) → result ≡ Some cause → line.new.session ≡ None }
+    ensures standing { C.standing recorder.new ≡ C.standing recorder.old }
+    ensures fixed { C.fixed recorder.new ≡ C.fixed recorder.old }
     ensures opened { result ≡ None → (paths : Paths) (line0 : LineView) (given0 : List Given) (asked : List ℕ)
         → Serves driver paths line0 given0 asked (path ∷ []) line.old (C.given recorder.old) false []
         → Serves driver paths line0 given0 asked (path ∷ []) line.new (C.given recorder.new) false [] }
@@ -68,6 +95,7 @@ fn open_new<S: Starter, B: Blob, L: Leaf, C: Recorder<B, L>>(
     ensures there { result ≡ None → line.new.session ≡ None → ⊥ }
     ensures starts { starts_of line.new ≤ starts_of line.old + 1 }
 {
+    desk_laws();
     match line.open() {
         Start::Live(caps) => {
             recorder.note(Event::Opened { driver, caps });
@@ -89,6 +117,19 @@ fn open_for<S: Starter, B: Blob, L: Leaf, C: Recorder<B, L>>(
     path: u32,
 ) -> Option<OpenCause>
     requires few { starts_of line.old < 2 ^ 32 }
+    requires driver { (C.standing recorder.old).driver ≡ driver }
+    requires next { (late rest : List ℕ) × AreApart (path ∷ (late ++ rest))
+        × IsServing (C.standing recorder.old) (C.given recorder.old) line.old.session false late (path ∷ []) rest }
+    ensures opens { result ≡ None → (late rest : List ℕ) → AreApart (path ∷ (late ++ rest))
+        → IsServing (C.standing recorder.old) (C.given recorder.old) line.old.session false late (path ∷ []) rest
+        → IsServing (C.standing recorder.new) (C.given recorder.new) line.new.session false late (path ∷ []) rest }
+    ensures fails { (cause : OpenCause) → result ≡ Some cause → (late rest : List ℕ)
+        → AreApart (path ∷ (late ++ rest))
+        → IsServing (C.standing recorder.old) (C.given recorder.old) line.old.session false late (path ∷ []) rest
+        → IsUnopened (C.standing recorder.new) (C.given recorder.new) cause path rest × (late ≡ []) }
+    ensures closed { (cause : OpenCause) → result ≡ Some cause → line.new.session ≡ None }
+    ensures standing { C.standing recorder.new ≡ C.standing recorder.old }
+    ensures fixed { C.fixed recorder.new ≡ C.fixed recorder.old }
     ensures opened { result ≡ None → (paths : Paths) (line0 : LineView) (given0 : List Given) (asked names : List ℕ)
         → IsSane line.old.session names
         → Serves driver paths line0 given0 asked (path ∷ []) line.old (C.given recorder.old) false names
@@ -142,6 +183,16 @@ fn after_reply<B: Blob, L: Leaf, C: Recorder<B, L>>(
     requires here { slice_get late.old.numbers place ≡ Some work.card.path }
     requires idle { AreIdle place late.old }
     requires ready { AreReady (cards_of late.old) }
+    requires required { (C.standing recorder.old).required ≡ seat.required }
+    requires may { (h : Heard) → fate_here reply ≡ Known h
+        → MayEnd (C.standing recorder.old) (C.given recorder.old) work.card.path h }
+    requires next { (rest : List ℕ) × (first : ℕ) × (t : Talk) × IsAnswered (C.standing recorder.old)
+        (C.given recorder.old) reply work.card.path (paths_of (cards_of late.old)) rest first t }
+    ensures next { (rest : List ℕ) (first : ℕ) (t : Talk) → IsAnswered (C.standing recorder.old)
+        (C.given recorder.old) reply work.card.path (paths_of (cards_of late.old)) rest first t
+        → IsAt (C.standing recorder.new) (C.given recorder.new) (paths_of (cards_of late.new) ++ rest) rest first t }
+    ensures standing { C.standing recorder.new ≡ C.standing recorder.old }
+    ensures fixed { C.fixed recorder.new ≡ C.fixed recorder.old }
     ensures cards { GrowsLate (cards_of late.old) (late_seen work.card.path work.card.text Fresh)
         (cards_of late.new) }
     ensures late { newest (paths_of (cards_of late.new))
@@ -151,6 +202,7 @@ fn after_reply<B: Blob, L: Leaf, C: Recorder<B, L>>(
     ensures idle { AreIdle (place + 1) late.new }
     ensures turns { StaysUnlisted late.old late.new }
 {
+    desk_laws();
     match reply {
         Reply::Content => close_got(work, put, recorder),
         Reply::Error | Reply::ErrorAfter => refuse(work, seat.required, put, recorder),
@@ -184,6 +236,18 @@ fn ask_card<S: Starter, B: Blob, L: Leaf, C: Recorder<B, L>, G: Gate>(
     requires here { slice_get late.old.numbers place ≡ Some card.path }
     requires idle { AreIdle place late.old }
     requires ready { AreReady (cards_of late.old) }
+    requires driver { (C.standing recorder.old).driver ≡ seat.driver }
+    requires required { (C.standing recorder.old).required ≡ seat.required }
+    requires next { (rest : List ℕ) × AreApart (card.path ∷ (paths_of (cards_of late.old) ++ rest))
+        × IsServing (C.standing recorder.old) (C.given recorder.old) line.old.session false
+        (paths_of (cards_of late.old)) (card.path ∷ []) rest }
+    ensures next { (rest : List ℕ) → AreApart (card.path ∷ (paths_of (cards_of late.old) ++ rest))
+        → IsServing (C.standing recorder.old) (C.given recorder.old) line.old.session false
+        (paths_of (cards_of late.old)) (card.path ∷ []) rest
+        → IsServing (C.standing recorder.new) (C.given recorder.new) line.new.session result
+        (paths_of (cards_of late.new)) [] rest }
+    ensures standing { C.standing recorder.new ≡ C.standing recorder.old }
+    ensures fixed { C.fixed recorder.new ≡ C.fixed recorder.old }
     ensures serves { (paths : Paths) (line0 : LineView) (given0 : List Given) (asked : List ℕ)
         → paths.text card.path ≡ card.text → paths.content card.path ≡ prepared.bytes
         → Serves seat.driver paths line0 given0 asked (card.path ∷ []) line.old (C.given recorder.old) false (newest
@@ -198,6 +262,7 @@ fn ask_card<S: Starter, B: Blob, L: Leaf, C: Recorder<B, L>, G: Gate>(
     ensures turns { StaysUnlisted late.old late.new }
     ensures starts { starts_of line.new ≤ starts_of line.old }
 {
+    desk_laws();
     let path = card.path;
     let lent = &mut card;
     let Asked { reply, put } = line.ask(
@@ -228,8 +293,12 @@ fn not_opened<B: Blob, L: Leaf, C: Recorder<B, L>>(
     cause: OpenCause,
     recorder: &mut C,
 )
-    requires { IsOpenLeaf (L.seen work.card.leaf).state }
-    ensures { AreClosings (C.given recorder.old) (C.given recorder.new) }
+    requires leaf { IsOpenLeaf (L.seen work.card.leaf).state }
+    requires required { (C.standing recorder.old).required ≡ required }
+    requires may { MayEnd (C.standing recorder.old) (C.given recorder.old) work.card.path (heard_opening cause) }
+    ensures ends { IsEnd (C.standing recorder.old) (C.given recorder.old) work.card.path (C.given recorder.new) }
+    ensures standing { C.standing recorder.new ≡ C.standing recorder.old }
+    ensures fixed { C.fixed recorder.new ≡ C.fixed recorder.old }
 {
     match cause {
         OpenCause::NotStarted | OpenCause::Broken(_) => refuse(work, required, Ok(()), recorder),
@@ -256,6 +325,18 @@ fn serve_card<S: Starter, B: Blob, L: Leaf, C: Recorder<B, L>, G: Gate>(
     requires here { slice_get late.old.numbers place ≡ Some card.path }
     requires idle { AreIdle place late.old }
     requires ready { AreReady (cards_of late.old) }
+    requires driver { (C.standing recorder.old).driver ≡ seat.driver }
+    requires required { (C.standing recorder.old).required ≡ seat.required }
+    requires next { (rest : List ℕ) × AreApart (card.path ∷ (paths_of (cards_of late.old) ++ rest))
+        × IsServing (C.standing recorder.old) (C.given recorder.old) line.old.session false
+        (paths_of (cards_of late.old)) (card.path ∷ []) rest }
+    ensures next { (rest : List ℕ) → AreApart (card.path ∷ (paths_of (cards_of late.old) ++ rest))
+        → IsServing (C.standing recorder.old) (C.given recorder.old) line.old.session false
+        (paths_of (cards_of late.old)) (card.path ∷ []) rest
+        → IsServing (C.standing recorder.new) (C.given recorder.new) line.new.session result
+        (paths_of (cards_of late.new)) [] rest }
+    ensures standing { C.standing recorder.new ≡ C.standing recorder.old }
+    ensures fixed { C.fixed recorder.new ≡ C.fixed recorder.old }
     ensures serves { (paths : Paths) (line0 : LineView) (given0 : List Given) (asked : List ℕ)
         → paths.text card.path ≡ card.text → paths.content card.path ≡ prepared.bytes
         → Serves seat.driver paths line0 given0 asked [] line.old (C.given recorder.old) false (newest (paths_of
@@ -270,6 +351,7 @@ fn serve_card<S: Starter, B: Blob, L: Leaf, C: Recorder<B, L>, G: Gate>(
     ensures turns { StaysUnlisted late.old late.new }
     ensures starts { starts_of line.new ≤ starts_of line.old + 1 }
 {
+    desk_laws();
     if let Some(cause) = open_for(seat.driver, line, recorder, card.path) {
         let work = keep_ready(card, prepared, seat.required);
         not_opened(work, seat.required, cause, recorder);
@@ -304,6 +386,18 @@ pub(crate) fn serve_one<S: Starter, B: Blob, L: Leaf, C: Recorder<B, L>, G: Gate
     requires here { slice_get late.old.numbers place ≡ Some card.path }
     requires idle { AreIdle place late.old }
     requires ready { AreReady (cards_of late.old) }
+    requires driver { (C.standing recorder.old).driver ≡ seat.driver }
+    requires required { (C.standing recorder.old).required ≡ seat.required }
+    requires next { (rest : List ℕ) × AreApart (card.path ∷ (paths_of (cards_of late.old) ++ rest))
+        × IsServing (C.standing recorder.old) (C.given recorder.old) line.old.session aborted
+        (paths_of (cards_of late.old)) [] (card.path ∷ rest) }
+    ensures next { (rest : List ℕ) → AreApart (card.path ∷ (paths_of (cards_of late.old) ++ rest))
+        → IsServing (C.standing recorder.old) (C.given recorder.old) line.old.session aborted
+        (paths_of (cards_of late.old)) [] (card.path ∷ rest)
+        → IsServing (C.standing recorder.new) (C.given recorder.new) line.new.session result
+        (paths_of (cards_of late.new)) [] rest }
+    ensures standing { C.standing recorder.new ≡ C.standing recorder.old }
+    ensures fixed { C.fixed recorder.new ≡ C.fixed recorder.old }
     ensures serves { (w : WorkSeen) × (w.card ≡ card_seen B.told B.seen L.seen card) × ReadsAs w.card w.content
         × ((paths : Paths) (line0 : LineView) (given0 : List Given) (asked : List ℕ) → FitsWork paths w
         → Serves seat.driver paths line0 given0 asked [] line.old (C.given recorder.old) aborted (newest (paths_of
@@ -318,6 +412,7 @@ pub(crate) fn serve_one<S: Starter, B: Blob, L: Leaf, C: Recorder<B, L>, G: Gate
     ensures turns { StaysUnlisted late.old late.new }
     ensures starts { starts_of line.new ≤ starts_of line.old + 1 }
 {
+    desk_laws();
     match read_card(alloc, &mut card) {
         Ok(prepared) => {
             if aborted {

@@ -9,6 +9,7 @@ use Rattle.driver_desk.specs.Serving.{newest}
 use Rattle.driver_desk.proofs.Serves.{fit_done, asked_more, serves_asked}
 use Rattle.driver_desk.proofs.RoundSteps.{grows_ready, grows_apart, grows_fits}
 use Rattle.driver_desk.proofs.CardLists.{all_next, here_is, read_push, len_push, place_below, new_next, new_ready, text_of, sane_none, serves_late}
+use Rattle.driver_desk.proofs.RoundCalls.{serving_none, serving_card, apart_next}
 use Rattle.driver_desk.proofs.desk.serve_all.Goals as goal
 
 pub loop-card-init : goal.loop-card-init
@@ -22,6 +23,9 @@ loop-card-init g c = record {
   names = (refl, refl);
   turns = λ e. e;
   idle = c.requires.idle;
+  state = serving_none _ _ _ _ _ c.requires.none (ap paths_of c.requires.empty) c.requires.state;
+  standing = refl;
+  fixed = refl;
   serves = (
     [],
     refl,
@@ -36,6 +40,13 @@ pub serve_one-aborted-requires-clause-here : goal.serve_one-aborted-requires-cla
 serve_one-aborted-requires-clause-here g c κs within =
     let h = c.loop-card.invariant in
     here_is _ _ h.serves.0 _ _ ((λ (k : Card g.row.B.Denot g.row.L.Denot). card_seen g.B.Blob.told g.B.Blob.seen g.L.Leaf.seen k) c.in-Some.card) c.loop-card.place (h.names.1 ∙ c.requires.numbers) h.serves.1 (ap (map (λ (k : Card g.row.B.Denot g.row.L.Denot). card_seen g.B.Blob.told g.B.Blob.seen g.L.Leaf.seen k)) c.in-Some.ensures.items) h.serves.2
+
+pub serve_one-aborted-requires-clause-next : goal.serve_one-aborted-requires-clause-next
+serve_one-aborted-requires-clause-next g c κs within =
+    let h = c.loop-card.invariant in
+    let card : CardSeen = (λ (k : Card g.row.B.Denot g.row.L.Denot). card_seen g.B.Blob.told g.B.Blob.seen g.L.Leaf.seen k) c.in-Some.card in
+    let next : map (λ (k : Card g.row.B.Denot g.row.L.Denot). card_seen g.B.Blob.told g.B.Blob.seen g.L.Leaf.seen k) c.loop-card.cards.items ≡ card ∷ map (λ (k : Card g.row.B.Denot g.row.L.Denot). card_seen g.B.Blob.told g.B.Blob.seen g.L.Leaf.seen k) c.pop_front.new.self.items = ap (map (λ (k : Card g.row.B.Denot g.row.L.Denot). card_seen g.B.Blob.told g.B.Blob.seen g.L.Leaf.seen k)) c.in-Some.ensures.items in
+    (card_paths (map (λ (k : Card g.row.B.Denot g.row.L.Denot). card_seen g.B.Blob.told g.B.Blob.seen g.L.Leaf.seen k) c.pop_front.new.self.items), apart_next _ _ _ card next h.apart, serving_card _ _ _ _ _ _ _ card next h.state)
 
 pub overflow_add-place : goal.overflow_add-place
 overflow_add-place g c =
@@ -65,6 +76,9 @@ loop-card-preserved g c =
       names = (e.names.0 ∙ h.names.0, e.names.1 ∙ h.names.1);
       turns = λ k. e.turns (h.turns k);
       idle = e.idle;
+      state = e.next (card_paths (map (λ (k : Card g.row.B.Denot g.row.L.Denot). card_seen g.B.Blob.told g.B.Blob.seen g.L.Leaf.seen k) c.pop_front.new.self.items)) (apart_next _ _ _ card next h.apart) (serving_card _ _ _ _ _ _ _ card next h.state);
+      standing = e.standing ∙ h.standing;
+      fixed = e.fixed ∙ h.fixed;
       serves = (
         h.serves.0 ++ w ∷ [],
         all_next _ h.serves.0 _ _ w card h.serves.1 next e.serves.1,

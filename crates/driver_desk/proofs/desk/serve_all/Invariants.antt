@@ -4,6 +4,7 @@ use Rattle.driver_line.specs.Lines.{LineView, Paths, starts_of}
 use Rattle.driver_desk.specs.Works.{WorkSeen, AreNew, AreRead, FitAll, asked_in, cards_in, card_paths}
 use Rattle.driver_desk.specs.Late.{AreIdle, KeepsNames, StaysUnlisted, cards_of}
 use Rattle.driver_desk.specs.Rounds.{paths_of, AreReady, AreApart, FitTexts}
+use Rattle.driver_desk.specs.Places.{IsServing}
 use Rattle.driver_desk.specs.Serving.{Given, Serves, newest, IsSane}
 use Rattle.driver_desk.proofs.desk.serve_all.Given as goal
 
@@ -18,6 +19,9 @@ invariant-loop-card g l = record {
   names : KeepsNames l.initial.late l.late;
   turns : StaysUnlisted l.initial.late l.late;
   idle : AreIdle l.place l.late;
+  state : IsServing (g.C.Recorder.standing l.recorder) (g.C.Recorder.given l.recorder) l.line.session l.aborted (paths_of (cards_of l.late)) [] (card_paths (map (λ c. card_seen g.B.Blob.told g.B.Blob.seen g.L.Leaf.seen c) l.cards.items));
+  standing : g.C.Recorder.standing l.recorder ≡ g.C.Recorder.standing l.initial.recorder;
+  fixed : g.C.Recorder.fixed l.recorder ≡ g.C.Recorder.fixed l.initial.recorder;
   serves : (works : List WorkSeen)
       × (map (λ c. card_seen g.B.Blob.told g.B.Blob.seen g.L.Leaf.seen c) l.initial.cards.items ≡ cards_in works ++ map (λ c. card_seen g.B.Blob.told g.B.Blob.seen g.L.Leaf.seen c) l.cards.items)
       × (length works ≡ l.place) × AreRead works

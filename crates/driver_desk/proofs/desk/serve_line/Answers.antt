@@ -1,7 +1,15 @@
 use Rattle.std.proofs.Common.{refl, [], false}
 use Rattle.driver_desk.proofs.RoundSteps.{over_aborted, serves_start, serves_as}
 use Rattle.driver_desk.proofs.CardLists.{names_fit}
+use Rattle.driver_desk.proofs.Calls.{aborted_as}
+use Rattle.driver_desk.proofs.RoundCalls.{done_aborted}
 use Rattle.driver_desk.proofs.desk.serve_line.Goals as goal
+
+pub returns-then-serve_all-clause-state : goal.returns-then-serve_all-clause-state
+returns-then-serve_all-clause-state g c = done_aborted _ _ _ _ _ c.if-serve_all.true c.serve_all.ensures.state
+
+pub end_talk-requires-clause-state : goal.end_talk-requires-clause-state
+end_talk-requires-clause-state g c κs within = aborted_as _ _ _ _ _ _ _ _ c.if-serve_all.false c.serve_all.ensures.state
 
 pub returns-then-serve_all-clause-talk : goal.returns-then-serve_all-clause-talk
 returns-then-serve_all-clause-talk g c =

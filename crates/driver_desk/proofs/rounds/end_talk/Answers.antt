@@ -4,19 +4,51 @@ use Rattle.driver_desk.specs.Rounds.{LateSeen, paths_of}
 use Rattle.driver_desk.specs.Serving.{newest}
 use Rattle.driver_desk.proofs.Serves.{is_none, open_ready}
 use Rattle.driver_desk.proofs.RoundSteps.{over_none, over_shut, rounds_begin, some_there, some_cards}
+use Rattle.driver_desk.proofs.RoundCalls.{done_none, rounds_start, shuts, unsmudged_none}
 use Rattle.driver_desk.proofs.rounds.end_talk.Goals as goal
+
+pub returns-then-not-is_open-clause-state : goal.returns-then-not-is_open-clause-state
+returns-then-not-is_open-clause-state g c = done_none _ _ c.args.line.now.session _ (is_none _ (rw c.if-not-is_open.true at c.is_open.ensures)) c.requires.state
+
+pub note-requires-clause-next : goal.note-requires-clause-next
+note-requires-clause-next g c =
+    let there = some_there _ (rw c.if-not-is_open.false at c.is_open.ensures) in
+    let bare = c.has_smudge.ensures.no c.if-not-has_smudge.true in
+    (shuts c.desk_laws.ensures _ _ _ _ _ c.args.line.now.session _ refl c.requires.driver refl there (inr bare) (unsmudged_none _ _ c.args.line.now.session _ there bare c.requires.state) c.requires.state).0
+
+pub returns-then-not-has_smudge-clause-state : goal.returns-then-not-has_smudge-clause-state
+returns-then-not-has_smudge-clause-state g c =
+    let there = some_there _ (rw c.if-not-is_open.false at c.is_open.ensures) in
+    let bare = c.has_smudge.ensures.no c.if-not-has_smudge.true in
+    (shuts c.desk_laws.ensures _ _ _ _ _ c.args.line.now.session _ c.note.ensures.standing c.requires.driver c.note.ensures.given there (inr bare) (unsmudged_none _ _ c.args.line.now.session _ there bare c.requires.state) c.requires.state).1
+
+pub note-requires-then-is_empty-clause-next : goal.note-requires-then-is_empty-clause-next
+note-requires-then-is_empty-clause-next g c =
+    let there = some_there _ (rw c.if-not-is_open.false at c.is_open.ensures) in
+    let none = c.is_empty.ensures.yes c.if-is_empty.true in
+    (shuts c.desk_laws.ensures _ _ _ _ _ c.args.line.now.session _ refl c.requires.driver refl there (inl (ap (λ (x : List LateSeen). newest (paths_of x)) none)) (ap paths_of none) c.requires.state).0
+
+pub returns-then-is_empty-clause-state : goal.returns-then-is_empty-clause-state
+returns-then-is_empty-clause-state g c =
+    let there = some_there _ (rw c.if-not-is_open.false at c.is_open.ensures) in
+    let none = c.is_empty.ensures.yes c.if-is_empty.true in
+    (shuts c.desk_laws.ensures _ _ _ _ _ c.args.line.now.session _ c.note-then-is_empty.ensures.standing c.requires.driver c.note-then-is_empty.ensures.given there (inl (ap (λ (x : List LateSeen). newest (paths_of x)) none)) (ap paths_of none) c.requires.state).1
+
+pub rounds-requires-clause-state : goal.rounds-requires-clause-state
+rounds-requires-clause-state g c κs within =
+    rounds_start _ _ c.args.line.now.session _ (open_ready _ _ (some_there _ (rw c.if-not-is_open.false at c.is_open.ensures)) c.requires.sane (c.has_smudge.ensures.yes c.if-not-has_smudge.false)) (some_cards (cards_of c.args.late.now) (c.is_empty.ensures.no c.if-is_empty.false)) c.requires.state
 
 pub returns-then-not-is_open-clause-over : goal.returns-then-not-is_open-clause-over
 returns-then-not-is_open-clause-over g c paths line0 given0 asked fit names s = over_none c.args.seat.driver paths line0 given0 asked c.args.line.now _ _ (is_none _ (rw c.if-not-is_open.true at c.is_open.ensures)) s
 
 pub returns-then-not-has_smudge-clause-over : goal.returns-then-not-has_smudge-clause-over
 returns-then-not-has_smudge-clause-over g c paths line0 given0 asked fit names s =
-    over_shut c.args.seat.driver paths line0 given0 asked c.args.line.now c.shut.new.self _ _ _ (some_there _ (rw c.if-not-is_open.false at c.is_open.ensures)) (inr (c.has_smudge.ensures.no c.if-not-has_smudge.true)) (c.shut.ensures.says paths) c.note.ensures s
+    over_shut c.args.seat.driver paths line0 given0 asked c.args.line.now c.shut.new.self _ _ _ (some_there _ (rw c.if-not-is_open.false at c.is_open.ensures)) (inr (c.has_smudge.ensures.no c.if-not-has_smudge.true)) (c.shut.ensures.says paths) c.note.ensures.given s
 
 pub returns-then-is_empty-clause-over : goal.returns-then-is_empty-clause-over
 returns-then-is_empty-clause-over g c paths line0 given0 asked fit names s =
     over_shut c.args.seat.driver paths line0 given0 asked c.args.line.now c.shut-then-is_empty.new.self _ _ _ (some_there _ (rw c.if-not-is_open.false at c.is_open.ensures))
-    (inl (ap (λ (x : List LateSeen). newest (paths_of x)) (c.is_empty.ensures.yes c.if-is_empty.true))) (c.shut-then-is_empty.ensures.says paths) c.note-then-is_empty.ensures s
+    (inl (ap (λ (x : List LateSeen). newest (paths_of x)) (c.is_empty.ensures.yes c.if-is_empty.true))) (c.shut-then-is_empty.ensures.says paths) c.note-then-is_empty.ensures.given s
 
 pub returns-clause-over : goal.returns-clause-over
 returns-clause-over g c paths line0 given0 asked fit names s =

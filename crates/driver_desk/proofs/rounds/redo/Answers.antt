@@ -1,12 +1,37 @@
-use Rattle.std.proofs.Common.{sym, ◌∙◌}
+use Rattle.std.proofs.Common.{refl, sym, ◌∙◌}
+use Rattle.driver_desk.proofs.Serves.{closing}
 use Rattle.driver_desk.proofs.RoundSteps.{redone, open_live, next_after}
+use Rattle.driver_desk.proofs.Places.{own_driver}
+use Rattle.driver_desk.proofs.Calls.{end_as}
+use Rattle.driver_desk.proofs.RoundCalls.{asks_again, rounds_as, is_end_back}
 use Rattle.driver_desk.proofs.rounds.redo.Goals as goal
+
+pub note-requires-clause-own : goal.note-requires-clause-own
+note-requires-clause-own g c =
+    let r = c.requires.state in
+    own_driver _ _ c.args.work.card.path (asks_again c.desk_laws.ensures _ _ _ c.args.line.now.session c.ask_again-reply.new.self.session c.args.work.card.path c.ask_again-reply.result.reply r.0 r.1 c.requires.open c.ask_again-reply.ensures.may c.ask_again-reply.ensures.goes refl r.2 r.3).own
+
+pub note-requires-clause-next : goal.note-requires-clause-next
+note-requires-clause-next g c =
+    let r = c.requires.state in
+    (asks_again c.desk_laws.ensures _ _ _ c.args.line.now.session c.ask_again-reply.new.self.session c.args.work.card.path c.ask_again-reply.result.reply r.0 r.1 c.requires.open c.ask_again-reply.ensures.may c.ask_again-reply.ensures.goes refl r.2 r.3).may
+
+pub after_second-requires-clause-may : goal.after_second-requires-clause-may
+after_second-requires-clause-may g c h is =
+    let r = c.requires.state in
+    end_as _ _ _ c.args.work.card.path h c.note.ensures.standing ((asks_again c.desk_laws.ensures _ _ _ c.args.line.now.session c.ask_again-reply.new.self.session c.args.work.card.path c.ask_again-reply.result.reply r.0 r.1 c.requires.open c.ask_again-reply.ensures.may c.ask_again-reply.ensures.goes c.note.ensures.given r.2 r.3).told h is)
+
+pub returns-clause-state : goal.returns-clause-state
+returns-clause-state g c cards turns left here drops h =
+    rounds_as _ _ _ _ left turns (c.after_second.ensures.standing ∙ c.note.ensures.standing)
+    ((asks_again c.desk_laws.ensures _ _ _ c.args.line.now.session c.ask_again-reply.new.self.session c.args.work.card.path c.ask_again-reply.result.reply cards turns c.requires.open c.ask_again-reply.ensures.may c.ask_again-reply.ensures.goes c.note.ensures.given here h).ends _ left drops
+    (is_end_back _ _ _ _ _ c.note.ensures.standing c.after_second.ensures.ends))
 
 pub returns-clause-rounds : goal.returns-clause-rounds
 returns-clause-rounds g c paths line0 given0 asked turns cards left text gone h =
     let s = c.ask_again-reply.ensures.says c.args.work.card.path in
     redone c.args.seat.driver paths line0 given0 asked c.args.line.now c.ask_again-reply.new.self _ _ _ cards left c.args.work.card.path turns c.args.line.now.session c.ask_again-reply.new.self.session c.ask_again-reply.result.reply s.0
-    (open_live c.args.line.now.session c.requires.open) h c.ask_again-reply.ensures.may (s.1 paths (text ∙ sym c.as_slice.ensures)) c.ask_again-reply.ensures.goes c.note.ensures c.after_second.ensures gone
+    (open_live c.args.line.now.session c.requires.open) h c.ask_again-reply.ensures.may (s.1 paths (text ∙ sym c.as_slice.ensures)) c.ask_again-reply.ensures.goes c.note.ensures.given (closing _ _ _ _ c.after_second.ensures.ends) gone
 
 pub returns-clause-next : goal.returns-clause-next
 returns-clause-next g c = next_after c.args.line.now.session c.ask_again-reply.new.self.session c.ask_again-reply.result.reply c.requires.open c.ask_again-reply.ensures.goes

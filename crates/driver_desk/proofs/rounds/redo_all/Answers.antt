@@ -1,9 +1,11 @@
 use Rattle.std.proofs.Common.{◌≡◌, ◌⊎◌, inl, inr, ◌<◌, ◌+◌, ℕ, List, length, ap, sym, subst, ◌∙◌, arith}
 use Rattle.delay_table.specs.Table.{Table}
-use Rattle.driver_desk.specs.Late.{LateView, cards_of}
+use Rattle.driver_desk.specs.Late.{LateView, cards_of, names_at}
 use Rattle.driver_desk.specs.Rounds.{FitTexts, paths_of, RedoneCards, RoundsBy}
 use Rattle.driver_desk.proofs.LateCards.{step_names, taken_length}
 use Rattle.driver_desk.proofs.RoundSteps.{taken_ready, taken_apart, taken_fits, taken_redone, some_there}
+use Rattle.driver_desk.proofs.Serves.{is_none}
+use Rattle.driver_desk.proofs.RoundCalls.{redo_has, redo_turns, redo_over, rounds_none_at}
 use Rattle.driver_desk.proofs.rounds.redo_all.Goals as goal
 
 pub redo-requires-clause-fresh : goal.redo-requires-clause-fresh
@@ -14,6 +16,19 @@ redo-requires-clause-some g c κs within = (taken_ready _ _ _ _ c.in-Some.ensure
 
 pub redo-requires-clause-few : goal.redo-requires-clause-few
 redo-requires-clause-few g c κs within = (taken_ready _ _ _ _ c.in-Some.ensures.next.4 c.loop-seat.invariant.ready).0.few
+
+pub redo-requires-clause-state : goal.redo-requires-clause-state
+redo-requires-clause-state g c κs within =
+    let h = c.loop-seat.invariant in
+    let n = c.in-Some.ensures.next in
+    let names = step_names c.loop-seat.late c.next_listed.new.self n.0 n.1 _ _ _ n.2 n.3 c.next_listed.ensures.numbers n.4 in
+    (paths_of (cards_of c.loop-seat.late), names_at c.next_listed.new.self, redo_has _ _ _ _ n.4, redo_turns (g.C.Recorder.standing c.loop-seat.recorder) (g.C.Recorder.given c.loop-seat.recorder) c.loop-seat.line.session _ _ _ _ names h.state)
+
+pub returns-clause-state : goal.returns-clause-state
+returns-clause-state g c = rounds_none_at _ _ _ _ _ _ (is_none _ (rw c.loop-seat-test.false at c.is_open.ensures)) c.loop-seat.invariant.state
+
+pub returns-in_default-clause-state : goal.returns-in_default-clause-state
+returns-in_default-clause-state g c = redo_over _ _ _ _ _ c.in_default.ensures.next.0 c.in_default.ensures.next.1 c.loop-seat.invariant.state
 
 pub returns-in_default-clause-fits : goal.returns-in_default-clause-fits
 returns-in_default-clause-fits g c paths fit = subst (λ (v : LateView). FitTexts paths (cards_of v)) (sym c.in_default.ensures.next.1) (c.loop-seat.invariant.fits paths fit)
@@ -31,6 +46,11 @@ loop-seat-preserved g c =
       apart = taken_apart _ _ _ _ taken h.apart;
       fits = λ paths fit. (taken_fits paths _ _ _ _ taken (h.fits paths fit)).1;
       names = (ap (λ (t : Table). t.names) n.3 ∙ h.names.0, c.next_listed.ensures.numbers ∙ h.names.1);
+      state = c.redo.ensures.state (paths_of (cards_of c.loop-seat.late)) (names_at c.next_listed.new.self) (paths_of (cards_of c.next_listed.new.self)) (redo_has _ _ _ _ taken)
+          (subst (λ (x : ℕ). RedoneCards (paths_of (cards_of c.loop-seat.late)) x (paths_of (cards_of c.next_listed.new.self))) (sym taken.named) (taken_redone _ _ _ _ taken h.apart))
+          (redo_turns (g.C.Recorder.standing c.loop-seat.recorder) (g.C.Recorder.given c.loop-seat.recorder) c.loop-seat.line.session _ _ _ _ names h.state);
+      standing = c.redo.ensures.standing ∙ h.standing;
+      fixed = c.redo.ensures.fixed ∙ h.fixed;
       rounds = λ paths line0 given0 asked fit r. c.redo.ensures.rounds paths line0 given0 asked _ (paths_of (cards_of c.loop-seat.late)) _
           (ap paths.text taken.named ∙ (taken_fits paths _ _ _ _ taken (h.fits paths fit)).0)
           (subst (λ (x : ℕ). RedoneCards (paths_of (cards_of c.loop-seat.late)) x (paths_of (cards_of c.next_listed.new.self))) (sym taken.named) (taken_redone _ _ _ _ taken h.apart))

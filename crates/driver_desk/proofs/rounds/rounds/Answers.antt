@@ -1,6 +1,7 @@
 use Rattle.std.proofs.Common.{◌∙◌}
 use Rattle.driver_desk.proofs.Serves.{is_none}
 use Rattle.driver_desk.proofs.RoundSteps.{rounds_over, fits_names}
+use Rattle.driver_desk.proofs.RoundCalls.{rounds_lost, done_lost}
 use Rattle.driver_desk.proofs.rounds.rounds.Goals as goal
 
 pub loop-seat-preserved : goal.loop-seat-preserved
@@ -13,9 +14,22 @@ loop-seat-preserved g c =
       ready = e.ready;
       apart = e.apart;
       names = (e.names.0 ∙ h.names.0, e.names.1 ∙ h.names.1);
+      state = e.state;
+      standing = e.standing ∙ h.standing;
+      fixed = e.fixed ∙ h.fixed;
       fits = λ paths fit. e.fits paths (h.fits paths fit);
       rounds = λ paths line0 given0 asked fit names r. e.rounds paths line0 given0 asked (h.fits paths fit) (fits_names paths c.args.late.now c.loop-seat.late h.names names) (h.rounds paths line0 given0 asked fit names r);
     }
+
+pub close_late-requires-clause-next : goal.close_late-requires-clause-next
+close_late-requires-clause-next g c =
+    let k = rounds_lost _ _ c.loop-seat.line.session _ _ (is_none _ (rw c.loop-seat-test.false at c.is_open.ensures)) c.loop-seat.invariant.state c.loop-seat.invariant.apart in
+    (k.0, k.1, k.2, k.3)
+
+pub returns-clause-state : goal.returns-clause-state
+returns-clause-state g c =
+    let k = rounds_lost _ _ c.loop-seat.line.session _ _ (is_none _ (rw c.loop-seat-test.false at c.is_open.ensures)) c.loop-seat.invariant.state c.loop-seat.invariant.apart in
+    done_lost _ _ k.0 k.1 k.2 k.5 k.4 (c.close_late.ensures.next k.0 k.1 k.2 k.3)
 
 pub returns-clause-over : goal.returns-clause-over
 returns-clause-over g c paths line0 given0 asked fit names h =

@@ -1,15 +1,48 @@
-use Rattle.std.proofs.Common.{ap, sym, ◌∙◌, ℕ}
+use Rattle.std.proofs.Common.{ap, sym, subst, ◌∙◌, ℕ, refl}
 use Rattle.driver_desk.specs.Rounds.{paths_of}
 use Rattle.driver_desk.specs.Late.{cards_of}
 use Rattle.driver_desk.specs.Serving.{newest, late_after}
 use Rattle.driver_desk.proofs.Serves.{asked_card, asked_sane, asked_done}
+use Rattle.driver_desk.specs.Recorders.{MayEnd}
+use Rattle.driver_desk.proofs.Places.{own_driver, first_has}
+use Rattle.driver_desk.proofs.Calls.{asks, asked_serving, end_as, answered_for, at_back, serving_as, answered_as}
 use Rattle.driver_desk.proofs.serving.ask_card.Goals as goal
+
+pub note-requires-clause-own : goal.note-requires-clause-own
+note-requires-clause-own g c =
+    let r = c.requires.next in
+    own_driver _ _ c.args.card.path ((r.2.at).own c.args.card.path (first_has c.args.card.path _))
+
+pub note-requires-clause-next : goal.note-requires-clause-next
+note-requires-clause-next g c =
+    let r = c.requires.next in
+    (asks c.desk_laws.ensures _ _ _ c.args.line.now.session c.ask-reply.new.self.session c.ask-reply.result.reply c.args.card.path _ r.0 c.requires.open c.ask-reply.ensures.may c.ask-reply.ensures.goes refl r.2 r.1).may
+
+pub after_reply-requires-clause-may : goal.after_reply-requires-clause-may
+after_reply-requires-clause-may g c h is =
+    let r = c.requires.next in
+    let k = asks c.desk_laws.ensures _ _ _ c.args.line.now.session c.ask-reply.new.self.session c.ask-reply.result.reply c.args.card.path _ r.0 c.requires.open c.ask-reply.ensures.may c.ask-reply.ensures.goes c.note.ensures.given r.2 r.1 in
+    subst (λ (q : ℕ). MayEnd (g.C.Recorder.standing c.note.new.self) (g.C.Recorder.given c.note.new.self) q h) (sym c.keep_ready-work.ensures.path) (end_as _ _ _ c.args.card.path h c.note.ensures.standing (k.told h is))
+
+pub after_reply-requires-clause-next : goal.after_reply-requires-clause-next
+after_reply-requires-clause-next g c =
+    let r = c.requires.next in
+    let k = asks c.desk_laws.ensures _ _ _ c.args.line.now.session c.ask-reply.new.self.session c.ask-reply.result.reply c.args.card.path _ r.0 c.requires.open c.ask-reply.ensures.may c.ask-reply.ensures.goes c.note.ensures.given r.2 r.1 in
+    (r.0, k.first, _, answered_for _ _ _ c.args.card.path _ _ r.0 k.first _ c.keep_ready-work.ensures.path (answered_as _ _ _ _ c.args.card.path _ r.0 k.first _ c.note.ensures.standing k.answered))
+
+pub returns-clause-next : goal.returns-clause-next
+returns-clause-next g c rest apart h =
+    let k = asks c.desk_laws.ensures _ _ _ c.args.line.now.session c.ask-reply.new.self.session c.ask-reply.result.reply c.args.card.path _ rest c.requires.open c.ask-reply.ensures.may c.ask-reply.ensures.goes c.note.ensures.given h apart in
+    let at = c.after_reply.ensures.next rest k.first _ (answered_for _ _ _ c.args.card.path _ _ rest k.first _ c.keep_ready-work.ensures.path (answered_as _ _ _ _ c.args.card.path _ rest k.first _ c.note.ensures.standing k.answered)) in
+    let same = c.after_reply.ensures.standing ∙ c.note.ensures.standing in
+    serving_as _ _ _ _ _ _ _ rest same (asked_serving _ _ _ _ c.args.line.now.session c.ask-reply.new.self.session c.ask-reply.result.reply c.is_abort.result c.args.card.path (paths_of (cards_of c.args.late.now)) (paths_of (cards_of c.after_reply.new.late)) rest c.requires.open c.ask-reply.ensures.goes
+    (c.after_reply.ensures.late ∙ ap (λ (p : ℕ). late_after p c.ask-reply.result.reply (newest (paths_of (cards_of c.args.late.now)))) c.keep_ready-work.ensures.path) c.is_abort.ensures k (at_back _ _ _ _ rest k.first _ same at))
 
 pub returns-clause-serves : goal.returns-clause-serves
 returns-clause-serves g c paths line0 given0 asked e i h =
     let s = c.ask-reply.ensures.says c.args.card.path in
     asked_card c.args.seat.driver paths line0 given0 asked c.args.card.path c.args.line.now c.ask-reply.new.self _ (g.C.Recorder.given c.note.new.self) _ _ _ c.ask-reply.result.reply s.0 _ c.requires.open c.ask-reply.ensures.may c.ask-reply.ensures.goes
-    (s.1 paths (e ∙ sym c.as_slice.ensures) (i ∙ sym c.as_slice-2.ensures)) c.note.ensures c.after_reply.ensures.closed c.is_abort.ensures
+    (s.1 paths (e ∙ sym c.as_slice.ensures) (i ∙ sym c.as_slice-2.ensures)) c.note.ensures.given c.after_reply.ensures.closed c.is_abort.ensures
     (c.after_reply.ensures.late ∙ ap (λ (p : ℕ). late_after p c.ask-reply.result.reply (newest (paths_of (cards_of c.args.late.now)))) c.keep_ready-work.ensures.path) h
 
 pub returns-clause-sane : goal.returns-clause-sane

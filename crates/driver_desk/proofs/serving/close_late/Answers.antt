@@ -2,18 +2,31 @@ use Rattle.std.proofs.Common.{◌∙◌}
 use Rattle.driver_desk.proofs.LateCards.{open_fresh}
 use Rattle.driver_desk.proofs.RoundSteps.{taken_ready}
 use Rattle.driver_desk.proofs.Serves.{closed_one}
+use Rattle.driver_desk.proofs.Calls.{lost_may, lost_ends, lost_as, lost_none}
 use Rattle.driver_desk.proofs.serving.close_late.Goals as goal
 
 pub close_empty-requires-clause-usable : goal.close_empty-requires-clause-usable
 close_empty-requires-clause-usable g c k = open_fresh _ (taken_ready _ _ _ _ c.in-Some.ensures.next.1 c.loop-work.invariant.ready).0.fresh
+
+pub close_empty-requires-clause-may : goal.close_empty-requires-clause-may
+close_empty-requires-clause-may g c =
+    let r = c.requires.next in
+    lost_may c.desk_laws.ensures _ _ _ _ _ _ r.0 r.1 r.2 (c.loop-work.invariant.next r.0 r.1 r.2 r.3) c.in-Some.ensures.next.1
 
 pub loop-work-preserved : goal.loop-work-preserved
 loop-work-preserved g c =
     let h = c.loop-work.invariant in
     record {
       ready = (taken_ready _ _ _ _ c.in-Some.ensures.next.1 h.ready).1;
-      closed = closed_one _ _ _ h.closed c.close_empty.ensures;
+      closed = closed_one _ _ _ _ _ h.closed c.close_empty.ensures.ends;
       names = (c.next_late.ensures.names.0 ∙ h.names.0, c.next_late.ensures.names.1 ∙ h.names.1);
       idle = λ q k. c.next_late.ensures.idle q (h.idle q k);
       turns = λ e. c.next_late.ensures.turns (h.turns e);
+      standing = c.close_empty.ensures.standing ∙ h.standing;
+      fixed = c.close_empty.ensures.fixed ∙ h.fixed;
+      next = λ rest first t a. lost_as _ _ _ _ rest first t c.close_empty.ensures.standing
+          (lost_ends c.desk_laws.ensures _ _ _ _ _ _ _ rest first t (h.next rest first t a) c.in-Some.ensures.next.1 c.close_empty.ensures.ends);
     }
+
+pub returns-clause-next : goal.returns-clause-next
+returns-clause-next g c rest first t a = lost_none _ _ _ rest first t c.in_default.ensures.next.0 (c.loop-work.invariant.next rest first t a)

@@ -1,16 +1,55 @@
-use Rattle.std.proofs.Common.{refl, [], false}
+use Rattle.std.proofs.Common.{sym, subst, ℕ, refl, [], false}
+use Rattle.checkout_core.specs.declared.path.Heard.TheVariants as heard
+use Rattle.checkout_core.specs.declared.verdict.FilterCause.TheVariants as cause
+use Rattle.checkout_core.specs.Conditions.{heard_opening}
+use Rattle.driver_desk.specs.Recorders.{MayEnd}
 use Rattle.driver_desk.proofs.Serves.{serves_ahead, serves_closed, serves_past, past_smudge, closing}
+use Rattle.driver_desk.proofs.Calls.{ended_at, serving_as, serving_ends, unopened_ends, unsmudged_ends}
 use Rattle.driver_desk.proofs.serving.serve_card.Goals as goal
+
+pub not_opened-requires-clause-may : goal.not_opened-requires-clause-may
+not_opened-requires-clause-may g c =
+    let r = c.requires.next in
+    let k = (c.in-Some.ensures.fails c.in-Some.cause refl _ r.0 r.1 r.2).0 in
+    subst (λ (q : ℕ). MayEnd (g.C.Recorder.standing c.open_for.new.recorder) (g.C.Recorder.given c.open_for.new.recorder) q (heard_opening c.in-Some.cause)) (sym c.keep_ready-work.ensures.path) k.may
+
+pub refuse-requires-clause-may : goal.refuse-requires-clause-may
+refuse-requires-clause-may g c =
+    let r = c.requires.next in (
+      cause.NoSmudge,
+      subst (λ (q : ℕ). MayEnd (g.C.Recorder.standing c.open_for.new.recorder) (g.C.Recorder.given c.open_for.new.recorder) q (heard.Refused cause.NoSmudge)) (sym c.keep_ready-work-then-not-has_smudge.ensures.path)
+          (unsmudged_ends c.desk_laws.ensures _ _ _ _ c.args.card.path r.0 (c.open_for.ensures.there c.in_default.is) (c.has_smudge.ensures.no c.if-not-has_smudge.true) (c.open_for.ensures.opens c.in_default.is _ r.0 r.1 r.2)),
+    )
+
+pub ask_card-requires-clause-next : goal.ask_card-requires-clause-next
+ask_card-requires-clause-next g c κs within =
+    let r = c.requires.next in
+    (r.0, r.1, c.open_for.ensures.opens c.in_default.is _ r.0 r.1 r.2)
+
+pub returns-in-Some-clause-next : goal.returns-in-Some-clause-next
+returns-in-Some-clause-next g c rest apart h =
+    let k = c.in-Some.ensures.fails c.in-Some.cause refl _ rest apart h in
+    serving_as _ _ _ _ _ _ _ rest c.not_opened.ensures.standing
+    (unopened_ends c.desk_laws.ensures _ _ _ _ _ _ c.args.card.path rest k.0 apart k.1 (c.in-Some.ensures.closed c.in-Some.cause refl) (ended_at _ _ _ _ _ c.keep_ready-work.ensures.path c.not_opened.ensures.ends))
+
+pub returns-then-not-has_smudge-clause-next : goal.returns-then-not-has_smudge-clause-next
+returns-then-not-has_smudge-clause-next g c rest apart h =
+    serving_as _ _ _ _ _ _ _ rest c.refuse.ensures.standing
+    (serving_ends c.desk_laws.ensures _ _ _ _ _ _ c.args.card.path rest (c.open_for.ensures.opens c.in_default.is _ rest apart h) apart (ended_at _ _ _ _ _ c.keep_ready-work-then-not-has_smudge.ensures.path c.refuse.ensures.ends))
+
+pub returns-clause-next : goal.returns-clause-next
+returns-clause-next g c rest apart h = c.ask_card.ensures.next rest apart (c.open_for.ensures.opens c.in_default.is _ rest apart h)
 
 pub returns-in-Some-clause-serves : goal.returns-in-Some-clause-serves
 returns-in-Some-clause-serves g c paths line0 given0 asked e i h =
-    serves_closed c.args.seat.driver paths line0 given0 _ [] _ _ _ c.not_opened.ensures.0 false _
+    let more = closing _ _ _ _ c.not_opened.ensures.ends in
+    serves_closed c.args.seat.driver paths line0 given0 _ [] _ _ _ more.0 false _
     (c.in-Some.ensures.failed c.in-Some.cause refl paths line0 given0 asked _ c.requires.sane (serves_ahead c.args.seat.driver paths line0 given0 asked c.args.card.path _ _ false _ h))
-    c.not_opened.ensures.1 c.not_opened.ensures.2
+    more.1 more.2
 
 pub returns-then-not-has_smudge-clause-serves : goal.returns-then-not-has_smudge-clause-serves
 returns-then-not-has_smudge-clause-serves g c paths line0 given0 asked e i h =
-    let more = closing _ _ c.refuse.ensures in
+    let more = closing _ _ _ _ c.refuse.ensures.ends in
     serves_closed c.args.seat.driver paths line0 given0 _ [] _ _ _ more.0 false _
     (serves_past c.args.seat.driver paths line0 given0 asked c.args.card.path _ _ false _ (past_smudge c.args.card.path _ _ (c.open_for.ensures.there c.in_default.is) (c.has_smudge.ensures.no c.if-not-has_smudge.true))
     (c.open_for.ensures.opened c.in_default.is paths line0 given0 asked _ c.requires.sane (serves_ahead c.args.seat.driver paths line0 given0 asked c.args.card.path _ _ false _ h)))

@@ -1,15 +1,69 @@
-use Rattle.std.proofs.Common.{refl, ap, sym, ◌∙◌, ◌++◌, ◌∷◌, [], ℕ, Ok, Err}
+use Rattle.std.proofs.Common.{refl, ap, sym, subst, ◌∙◌, ◌++◌, ◌∷◌, ◌+◌, [], ℕ, Ok, Err, false}
 use Rattle.convert_plan.specs.Card.{CardSeen, card_seen}
+use Rattle.checkout_core.specs.declared.event.Event.TheVariants.{Close}
+use Rattle.checkout_core.specs.declared.path.Heard.TheVariants as heard
+use Rattle.checkout_core.specs.declared.verdict.FilterCause.TheVariants as cause
+use Rattle.driver_desk.specs.Late.{cards_of}
+use Rattle.driver_desk.specs.Rounds.{AreApart, paths_of}
+use Rattle.driver_desk.specs.Recorders.{MayDo, MayEnd}
+use Rattle.driver_desk.specs.Places.{IsServing}
 use Rattle.driver_desk.proofs.Serves.{work_past, work_failed, serves_asked, closing}
 use Rattle.driver_desk.proofs.RoundSteps.{serves_as}
+use Rattle.driver_desk.proofs.CardLists.{alone_own}
+use Rattle.driver_desk.proofs.Calls.{aborted_ends, aborted_as, ended_at, serving_as, serving_ends, serving_fails, serving_next}
 use Rattle.driver_desk.proofs.serving.serve_one.Goals as goal
+
+pub refuse-requires-clause-may : goal.refuse-requires-clause-may
+refuse-requires-clause-may g c =
+    let r = c.requires.next in
+    let path = c.keep_ready-work.ensures.path ∙ ap (λ (x : CardSeen). x.path) c.read_card.ensures.kept in (
+      cause.Abort,
+      subst (λ (q : ℕ). MayEnd (g.C.Recorder.standing c.args.recorder.now) (g.C.Recorder.given c.args.recorder.now) q (heard.Refused cause.Abort)) (sym path)
+          (aborted_ends c.desk_laws.ensures _ _ _ _ _ c.args.card.path r.0 c.if-aborted.true (serving_next _ _ _ _ _ c.args.card.path r.0 r.2)),
+    )
+
+pub serve_card-requires-clause-next : goal.serve_card-requires-clause-next
+serve_card-requires-clause-next g c κs within =
+    let r = c.requires.next in
+    let path = ap (λ (x : CardSeen). x.path) c.read_card.ensures.kept in (
+      r.0,
+      subst (λ (q : ℕ). AreApart (q ∷ (paths_of (cards_of c.args.late.now) ++ r.0))) (sym path) r.1,
+      subst (λ (q : ℕ). IsServing (g.C.Recorder.standing c.args.recorder.now) (g.C.Recorder.given c.args.recorder.now) c.args.line.now.session false (paths_of (cards_of c.args.late.now)) (q ∷ []) r.0) (sym path)
+          (aborted_as _ _ _ _ _ _ _ r.0 c.if-aborted.false (serving_next _ _ _ _ _ c.args.card.path r.0 r.2)),
+    )
+
+pub close_unread-requires-clause-next : goal.close_unread-requires-clause-next
+close_unread-requires-clause-next g c =
+    let r = c.requires.next in
+    let path = ap (λ (x : CardSeen). x.path) c.read_card.ensures.kept in
+    subst (λ (q : ℕ). MayDo (g.C.Recorder.standing c.args.recorder.now) (g.C.Recorder.given c.args.recorder.now) (Close q ((g.C.Recorder.standing c.args.recorder.now).workers + (g.C.Recorder.standing c.args.recorder.now).driver) c.in-Err.own)) (sym path)
+    (serving_fails c.desk_laws.ensures _ _ _ _ _ c.args.card.path r.0 c.in-Err.own (alone_own _ c.in-Err.own c.in-Err.ensures.read) r.2)
+
+pub returns-then-aborted-clause-next : goal.returns-then-aborted-clause-next
+returns-then-aborted-clause-next g c rest apart h =
+    let path = c.keep_ready-work.ensures.path ∙ ap (λ (x : CardSeen). x.path) c.read_card.ensures.kept in
+    serving_as _ _ _ _ _ _ _ rest c.refuse.ensures.standing (aborted_as _ _ _ _ _ _ _ rest c.if-aborted.true
+    (serving_ends c.desk_laws.ensures _ _ _ _ _ _ c.args.card.path rest (serving_next _ _ _ _ _ c.args.card.path rest h) apart (ended_at _ _ _ _ _ path c.refuse.ensures.ends)))
+
+pub returns-else-aborted-clause-next : goal.returns-else-aborted-clause-next
+returns-else-aborted-clause-next g c rest apart h =
+    let path = ap (λ (x : CardSeen). x.path) c.read_card.ensures.kept in
+    c.serve_card.ensures.next rest (subst (λ (q : ℕ). AreApart (q ∷ (paths_of (cards_of c.args.late.now) ++ rest))) (sym path) apart)
+    (subst (λ (q : ℕ). IsServing (g.C.Recorder.standing c.args.recorder.now) (g.C.Recorder.given c.args.recorder.now) c.args.line.now.session false (paths_of (cards_of c.args.late.now)) (q ∷ []) rest) (sym path)
+    (aborted_as _ _ _ _ _ _ _ rest c.if-aborted.false (serving_next _ _ _ _ _ c.args.card.path rest h)))
+
+pub returns-in-Err-clause-next : goal.returns-in-Err-clause-next
+returns-in-Err-clause-next g c rest apart h =
+    let path = ap (λ (x : CardSeen). x.path) c.read_card.ensures.kept in
+    serving_as _ _ _ _ _ _ _ rest c.close_unread.ensures.standing
+    (serving_ends c.desk_laws.ensures _ _ _ _ _ _ c.args.card.path rest (serving_next _ _ _ _ _ c.args.card.path rest h) apart (ended_at _ _ _ _ _ path c.close_unread.ensures.ends))
 
 pub returns-then-aborted-clause-serves : goal.returns-then-aborted-clause-serves
 returns-then-aborted-clause-serves g c = (
   record { card = card_seen g.B.Blob.told g.B.Blob.seen g.L.Leaf.seen c.args.card; content = Ok c.in-Ok.prepared.bytes },
   refl,
   (c.in-Ok.prepared, c.in-Ok.ensures.read, refl),
-  λ paths line0 given0 asked fit s. work_past c.args.seat.driver paths line0 given0 asked c.args.card.path (Ok c.in-Ok.prepared.bytes) _ _ _ _ _ c.if-aborted.true (closing _ _ c.refuse.ensures) s,
+  λ paths line0 given0 asked fit s. work_past c.args.seat.driver paths line0 given0 asked c.args.card.path (Ok c.in-Ok.prepared.bytes) _ _ _ _ _ c.if-aborted.true (closing _ _ _ _ c.refuse.ensures.ends) s,
 )
 
 pub returns-else-aborted-clause-serves : goal.returns-else-aborted-clause-serves
@@ -28,5 +82,5 @@ returns-in-Err-clause-serves g c = (
   record { card = card_seen g.B.Blob.told g.B.Blob.seen g.L.Leaf.seen c.args.card; content = Err c.in-Err.own },
   refl,
   c.in-Err.ensures.read,
-  λ paths line0 given0 asked fit s. work_failed c.args.seat.driver paths line0 given0 asked c.args.card.path (Err c.in-Err.own) c.in-Err.own _ _ _ _ _ refl (closing _ _ c.close_unread.ensures) s,
+  λ paths line0 given0 asked fit s. work_failed c.args.seat.driver paths line0 given0 asked c.args.card.path (Err c.in-Err.own) c.in-Err.own _ _ _ _ _ refl (closing _ _ _ _ c.close_unread.ensures.ends) s,
 )

@@ -5,12 +5,25 @@ use Rattle.driver_desk.specs.Works.{asked_in}
 use Rattle.driver_desk.specs.Rounds.{TalkOver}
 use Rattle.driver_desk.specs.Serving.{IsServed}
 use Rattle.driver_desk.proofs.RoundSteps.{served}
+use Rattle.driver_desk.proofs.RoundCalls.{serving_begins, through, dealt_as, dealt_inside}
 use Rattle.driver_desk.proofs.desk.Desk.serve.Goals as goal
+
+pub serve_line-requires-clause-state : goal.serve_line-requires-clause-state
+serve_line-requires-clause-state g c κs within = serving_begins c.desk_laws.ensures _ _ _ (dealt_inside _ _ _ c.self.view_is c.requires.dealt) c.requires.none
+
+pub serve_line-requires-clause-driver : goal.serve_line-requires-clause-driver
+serve_line-requires-clause-driver g c κs within = c.requires.dealt.driver ∙ ap (λ (v : DeskView). v.driver) (sym c.self.view_is)
+
+pub serve_line-requires-clause-required : goal.serve_line-requires-clause-required
+serve_line-requires-clause-required g c κs within = c.requires.dealt.required ∙ ap (λ (v : DeskView). v.required) (sym c.self.view_is)
 
 pub returns : goal.returns
 returns g c =
     let e = c.serve_line.ensures.talk in
     record {
+      through = through c.desk_laws.ensures _ _ _ (dealt_as _ _ _ c.serve_line.ensures.standing c.requires.dealt) c.serve_line.ensures.state;
+      standing = c.serve_line.ensures.standing;
+      fixed = c.serve_line.ensures.fixed;
       served = (
         e.0,
         ap (λ (v : DeskView). v.cards) (sym c.self.view_is) ∙ e.1,
