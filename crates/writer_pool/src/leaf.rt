@@ -1,4 +1,4 @@
-// A prepared content as a leaf's file.
+//! A prepared content as a leaf's file.
 ghost use Rattle.std.specs.Prelude.{◌≡◌, []};
 ghost use Rattle.edge_kit.specs.Told.{Tells};
 ghost use Rattle.edge_kit.specs.declared.leaf_state.LeafState.TheVariants.{Fresh};

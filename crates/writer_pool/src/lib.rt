@@ -1,4 +1,4 @@
-//! The actors of a checkout: workers, each in a thread of its own, and the desks of the drivers beside them.
+//! A worker of a checkout: it claims cards from the book, writes each as a file and closes it, until no card waits.
 #![tactic(auto)]
 
 mod leaf;

@@ -1,4 +1,4 @@
-// What a card's object is prepared to.
+//! What a card's object is prepared to.
 ghost use Rattle.std.specs.Prelude.{◌≡◌, Ok, Err};
 ghost use Rattle.convert_plan.specs.Card.{card_seen};
 ghost use Rattle.writer_pool.specs.Writing.{own_of, ReadsTo, KeepsCard, CountsRead};

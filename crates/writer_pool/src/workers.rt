@@ -1,4 +1,4 @@
-// Workers: each claims cards and writes them.
+//! Workers: each claims cards and writes them.
 ghost use Rattle.std.specs.Prelude.{◌≡◌, ℕ};
 ghost use Rattle.turn_lock.specs.Seat.{number_of};
 ghost use Rattle.checkout_book.specs.declared.plan.Plan.{Plan};

@@ -1,4 +1,4 @@
-// A card on its way through the hands of an actor that claimed it: read, prepared and written.
+//! A card on its way through the hands of an actor that claimed it: read, prepared and written.
 ghost use Rattle.std.specs.Prelude.{◌≡◌, true, is_some};
 ghost use Rattle.convert_plan.specs.Card.{card_seen, IsCardOf};
 ghost use Rattle.checkout_core.specs.Desks.{was_read};
