@@ -1,0 +1,13 @@
+use Rattle.std.proofs.Common.{◌≡◌, ◌++◌, ◌∷◌, [], take}
+use Rattle.std.specs.Prelude.{codes}
+use Rattle.std.specs.List.{flat_map}
+use Rattle.pkt_line.specs.Packets.{Flush}
+use Rattle.pkt_line.specs.Spelling.{spelling_all}
+use Rattle.filter_words.specs.Requests.{line}
+use Rattle.rehearsal.specs.Drivers.{hello, beta_first}
+use Rattle.rehearsal.proofs.scripts.beta_text.Given as goal
+
+abbrev pub invariant-loop-number : goal.invariant-loop-number
+invariant-loop-number l =
+    l.out.items ≡ spelling_all (hello ++ line (codes "capability=smudge") ∷ Flush ∷ [])
+    ++ flat_map (beta_first l.seed) (take l.number-index l.numbers)

@@ -1,0 +1,4 @@
+pub mod Paths
+pub mod Repository
+pub mod Drivers
+pub mod Stored

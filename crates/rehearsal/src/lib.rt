@@ -1,0 +1,11 @@
+//! A repository and filter drivers in memory, made from two numbers, on which a checkout can be tried.
+#![tactic(auto)]
+
+mod answers;
+mod files;
+mod making;
+mod order;
+mod paths;
+mod scripts;
+
+pub use making::{Rehearsed, files_have_an_index, rehearse};

@@ -1,0 +1,151 @@
+//! A rehearsal: its files in order, and what its drivers write.
+use edge_kit::{MemoryRepo, Repo};
+use git_index::read_index;
+use object_dir::read_blob;
+use rehearsal::rehearse;
+use std::alloc::Global;
+use std::test::Fail;
+
+/// A path and its content.
+type File = (&'static [u8], &'static [u8]);
+
+/// The files of the rehearsal of eight paths from the number 0.
+const EIGHT: &[File] = &[
+    (
+        b".gitattributes",
+        b"*.k1 text eol=crlf\n*.k2 ident\n*.k3 working-tree-encoding=UTF-16LE\n\
+          *.k4 filter=alpha\n*.k5 filter=alpha\n*.k6 filter=beta\n*.k7 filter=beta\n",
+    ),
+    (b"d0/f000000.k0", b""),
+    (b"d1/f000001.k7", b"line\n"),
+    (b"d2/f000002.k6", b"line\nline\n"),
+    (b"d3/f000003.k5", b"line\nline\nline\n"),
+    (b"d4/f000004.k4", b"line\nline\nline\nline\n"),
+    (b"d5/f000005.k3", b"line\nline\nline\nline\nline\n"),
+    (
+        b"d6/f000006.k2",
+        b"line\nline\nline\nline\nline\nline\n$Id$\n",
+    ),
+    (
+        b"d7/f000007.k1",
+        b"line\nline\nline\nline\nline\nline\nline\n",
+    ),
+];
+
+/// The paths of the rehearsal of twelve paths from the number 3, after the attribute file.
+const TWELVE: &[&[u8]] = &[
+    b"d0/f000000.k3",
+    b"d0/f000010.k1",
+    b"d1/f000001.k2",
+    b"d1/f000011.k0",
+    b"d2/f000002.k1",
+    b"d3/f000003.k0",
+    b"d4/f000004.k7",
+    b"d5/f000005.k6",
+    b"d6/f000006.k5",
+    b"d7/f000007.k4",
+    b"d8/f000008.k3",
+    b"d9/f000009.k2",
+];
+
+/// Whether the repository has this content under this name.
+fn has_content(alloc: Global, repo: &mut MemoryRepo, name: &[u8; 20], wanted: &[u8]) -> bool {
+    let Ok(mut blob) = repo.blob(name) else {
+        return false;
+    };
+    match read_blob(alloc, &mut blob, name) {
+        Ok(content) => content.as_slice() == wanted,
+        Err(_) => false,
+    }
+}
+
+#[test]
+fn the_files_stand_in_order(rt: HostRuntime) -> Result<(), Fail> {
+    let alloc = rt.alloc();
+    let rehearsed = rehearse(alloc, 0, 8)?;
+    let mut repo = rehearsed.repo;
+    let Some(bytes) = repo.index_bytes(10_000)? else {
+        panic!(rt; "no index");
+    };
+    let index = read_index(alloc, &bytes)?;
+    assert!(rt; index.entries().len() == EIGHT.len());
+    for (entry, (path, content)) in index.entries().iter().zip(EIGHT) {
+        assert!(rt; entry.path.as_slice() == *path, "{path:?}");
+        assert!(rt;
+            has_content(alloc, &mut repo, &entry.name, content),
+            "{path:?}"
+        );
+    }
+    Ok(())
+}
+
+#[test]
+fn paths_stand_by_folder_and_then_by_number(rt: HostRuntime) -> Result<(), Fail> {
+    let alloc = rt.alloc();
+    let mut repo = rehearse(alloc, 3, 12)?.repo;
+    let Some(bytes) = repo.index_bytes(10_000)? else {
+        panic!(rt; "no index");
+    };
+    let index = read_index(alloc, &bytes)?;
+    assert!(rt; index.entries().len() == TWELVE.len() + 1);
+    for (entry, path) in index.entries().iter().skip(1).zip(TWELVE) {
+        assert!(rt; entry.path.as_slice() == *path, "{path:?}");
+    }
+    Ok(())
+}
+
+/// A seed, a number of paths, and what `alpha` and `beta` write.
+type Talk = (u64, u32, &'static [u8], &'static [u8]);
+
+const TALKS: &[Talk] = &[
+    // No path has a driver.
+    (
+        0,
+        1,
+        b"0016git-filter-server\n000eversion=2\n00000016capability=smudge\n\
+          0015capability=delay\n0000",
+        b"0016git-filter-server\n000eversion=2\n00000016capability=smudge\n0000",
+    ),
+    // Path 1 is refused, path 2 filtered, path 3 delayed and then given, path 4 filtered.
+    (
+        0,
+        8,
+        b"0016git-filter-server\n000eversion=2\n00000016capability=smudge\n\
+          0015capability=delay\n00000013status=delayed\n00000013status=success\n0000\
+          001ealpha\nline\nline\nline\nline\n00000000001bpathname=d3/f000003.k5\n\
+          00000013status=success\n00000013status=success\n00000019alpha\nline\nline\nline\n\
+          0000000000000013status=success\n0000",
+        b"0016git-filter-server\n000eversion=2\n00000016capability=smudge\n0000\
+          0011status=error\n00000013status=success\n00000013beta\nline\nline\n00000000",
+    ),
+    // Path 0 is delayed and never given.
+    (
+        5,
+        1,
+        b"0016git-filter-server\n000eversion=2\n00000016capability=smudge\n\
+          0015capability=delay\n00000013status=delayed\n000000000013status=success\n0000",
+        b"0016git-filter-server\n000eversion=2\n00000016capability=smudge\n0000",
+    ),
+];
+
+#[test]
+fn the_drivers_write_their_answers(rt: HostRuntime) -> Result<(), Fail> {
+    for (seed, paths, alpha, beta) in TALKS {
+        let rehearsed = rehearse(rt.alloc(), *seed, *paths)?;
+        let [first, second] = rehearsed.spawner.scripts.as_slice() else {
+            panic!(rt; "two drivers");
+        };
+        for (script, command, output) in [
+            (first, b"alpha".as_slice(), alpha),
+            (second, b"beta", beta),
+        ] {
+            assert!(rt; script.command.as_slice() == command);
+            let [session] = script.sessions.as_slice() else {
+                panic!(rt; "one session");
+            };
+            assert!(rt; session.starts && session.piece == 1_000);
+            assert!(rt; session.output.as_slice() == *output, "{seed} {paths}");
+        }
+    }
+    Ok(())
+}
