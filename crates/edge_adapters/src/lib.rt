@@ -21,6 +21,3 @@ pub use output_sink::OutputSink;
 pub use process_link::ProcessLink;
 pub use process_spawner::ProcessSpawner;
 pub use process_starter::ProcessStarter;
-
-#[cfg(test)]
-mod tests;

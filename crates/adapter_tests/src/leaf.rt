@@ -1,7 +1,9 @@
-use super::There::{File, Folder, Link};
-use super::*;
-use crate::file_leaf::FileLeaf;
+//! The files that leaves make.
+use crate::place::There::{File, Folder, Link};
+use crate::place::{There, folder_with, holds, path_in};
+use edge_adapters::{FileLeaf, FolderTree};
 use edge_kit::{Leaf, LeafState, Mark, Worktree};
+use std::fs::remove_dir_all;
 use std::test::Fail;
 
 #[derive(Clone, Copy)]
@@ -45,7 +47,7 @@ fn all_go(leaf: &mut FileLeaf, calls: &[(Call, bool)]) -> bool {
 
 fn is_right(rt: HostRuntime, case: Case) -> Result<bool, Fail> {
     let folder = folder_with(rt, "leaf", case.there)?;
-    let mut tree = FolderTree::new(rt, path_in(rt.alloc(), folder.as_str(), "tree")?);
+    let mut tree = FolderTree::new(rt, path_in(rt, folder.as_str(), "tree")?);
     let mut leaf = tree.leaf(case.path)?;
     let well = all_go(&mut leaf, case.calls);
     tree.take_back(leaf);

@@ -1,7 +1,10 @@
-use super::There::{File, Folder, Link};
-use super::*;
+//! What is read of a Git folder.
+use crate::place::There::{File, Folder, Link};
+use crate::place::{There, folder_with, path_in};
+use edge_adapters::FolderRepo;
 use edge_kit::TakeFault::{Failed, TooLong};
 use edge_kit::{Blob, Repo, TakeFault};
+use std::fs::remove_dir_all;
 use std::test::Fail;
 
 /// The name 0123456789abcdef0123456789abcdef01234567, and the path of its object.
@@ -52,7 +55,7 @@ type Case = (&'static [There], Part, u64, Wanted);
 fn is_right(rt: HostRuntime, case: Case) -> Result<bool, Fail> {
     let (there, part, limit, wanted) = case;
     let folder = folder_with(rt, "repo", there)?;
-    let mut repo = FolderRepo::new(rt, path_in(rt.alloc(), folder.as_str(), "repo")?);
+    let mut repo = FolderRepo::new(rt, path_in(rt, folder.as_str(), "repo")?);
     let taken = read(&mut repo, part, limit);
     remove_dir_all(&rt, folder.as_str())?;
     Ok(is_wanted(taken, wanted))

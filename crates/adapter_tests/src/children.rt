@@ -1,5 +1,5 @@
-use crate::process_link::ProcessLink;
-use crate::process_spawner::ProcessSpawner;
+//! Child processes: what they are sent, what they write, how they end.
+use edge_adapters::{ProcessLink, ProcessSpawner};
 use edge_kit::{Failed, Link, SendFault, Spawner, Starter};
 use std::alloc::{AllocError, Global};
 use std::test::Fail;

@@ -1,6 +1,9 @@
-use super::There::{File, Folder};
-use super::*;
+//! Which folders are an empty worktree.
+use crate::place::There::{File, Folder};
+use crate::place::{There, folder_with, path_in};
+use edge_adapters::FolderTree;
 use edge_kit::{Failed, Worktree};
+use std::fs::remove_dir_all;
 use std::test::Fail;
 
 const TREE: There = Folder("tree");
@@ -25,7 +28,7 @@ const CASES: [(&[There], Result<bool, Failed>); 7] = [
 fn worktrees_are_empty_but_for_git(rt: HostRuntime) -> Result<(), Fail> {
     for (there, wanted) in CASES {
         let folder = folder_with(rt, "tree", there)?;
-        let mut tree = FolderTree::new(rt, path_in(rt.alloc(), folder.as_str(), "tree")?);
+        let mut tree = FolderTree::new(rt, path_in(rt, folder.as_str(), "tree")?);
         assert_eq!(rt; tree.is_empty(), wanted);
         remove_dir_all(&rt, folder.as_str())?;
     }

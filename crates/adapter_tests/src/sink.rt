@@ -1,4 +1,5 @@
-use crate::output_sink::OutputSink;
+//! An output that can't be written.
+use edge_adapters::OutputSink;
 use edge_kit::{SendFault, Sink};
 use std::fs::OpenOptions;
 use std::io;
