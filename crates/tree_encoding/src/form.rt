@@ -10,26 +10,26 @@ use std::simd::prelude::*;
 /// Room for eight characters, each of at most four bytes.
 pub type Block = [u8; 32];
 
-/// UTF-16 of sixteen characters of ASCII, the lowest byte first: the place of each byte's character, and 16 for a zero.
+/// UTF-16 of sixteen characters of ASCII, the lowest byte first. 16 stands for a zero.
 const LITTLE16: [usize; 32] = [
     0, 16, 1, 16, 2, 16, 3, 16, 4, 16, 5, 16, 6, 16, 7, 16, 8, 16, 9, 16, 10, 16, 11, 16, 12, 16,
     13, 16, 14, 16, 15, 16,
 ];
 
-/// UTF-16 of sixteen characters of ASCII, the highest byte first: the place of each byte's character, and 16 for a zero.
+/// UTF-16 of sixteen characters of ASCII, the highest byte first. 16 stands for a zero.
 const BIG16: [usize; 32] = [
     16, 0, 16, 1, 16, 2, 16, 3, 16, 4, 16, 5, 16, 6, 16, 7, 16, 8, 16, 9, 16, 10, 16, 11, 16, 12,
     16, 13, 16, 14, 16, 15,
 ];
 
-/// UTF-32 of sixteen characters of ASCII, the lowest byte first: the place of each byte's character, and 16 for a zero.
+/// UTF-32 of sixteen characters of ASCII, the lowest byte first. 16 stands for a zero.
 const LITTLE32: [usize; 64] = [
     0, 16, 16, 16, 1, 16, 16, 16, 2, 16, 16, 16, 3, 16, 16, 16, 4, 16, 16, 16, 5, 16, 16, 16, 6,
     16, 16, 16, 7, 16, 16, 16, 8, 16, 16, 16, 9, 16, 16, 16, 10, 16, 16, 16, 11, 16, 16, 16, 12,
     16, 16, 16, 13, 16, 16, 16, 14, 16, 16, 16, 15, 16, 16, 16,
 ];
 
-/// UTF-32 of sixteen characters of ASCII, the highest byte first: the place of each byte's character, and 16 for a zero.
+/// UTF-32 of sixteen characters of ASCII, the highest byte first. 16 stands for a zero.
 const BIG32: [usize; 64] = [
     16, 16, 16, 0, 16, 16, 16, 1, 16, 16, 16, 2, 16, 16, 16, 3, 16, 16, 16, 4, 16, 16, 16, 5, 16,
     16, 16, 6, 16, 16, 16, 7, 16, 16, 16, 8, 16, 16, 16, 9, 16, 16, 16, 10, 16, 16, 16, 11, 16, 16,
@@ -146,6 +146,7 @@ fn put_four(block: &mut Block, at: usize, bytes: [u8; 4]) -> usize
 const CHUNK: usize = 64;
 
 /// Whether a chunk is a whole one of ASCII, in which each byte is a character.
+#[inline(always)]
 fn is_ascii_chunk(chunk: &[u8]) -> bool {
     match chunk.first_chunk::<CHUNK>() {
         Some(bytes) => u8x64::from_array(*bytes)
