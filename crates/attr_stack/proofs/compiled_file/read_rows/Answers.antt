@@ -1,4 +1,4 @@
-use Rattle.std.proofs.Common.{◌≡◌, ℕ, ◌+◌, ◌-◌, ◌<◌, true, false, List, [], ◌++◌, length, take, reverse, map, get_or, sym, ◌∙◌, ap, rules, arith}
+use Rattle.std.proofs.Common.{◌≡◌, ℕ, ◌+◌, ◌-◌, ◌<◌, true, false, List, [], ◌++◌, length, take, reverse, get_or, sym, ◌∙◌, ap, rules, arith}
 use Rattle.std.proofs.lemmas.Bool.{OnTrue_at}
 use Rattle.wild_match.specs.Fits.{is_match}
 use Rattle.attr_stack.specs.Levels.{row_pattern, row_rule, rows_pairs}
@@ -6,7 +6,7 @@ use Rattle.attr_stack.specs.Pairs.{row_pairs}
 use Rattle.attr_stack.specs.Search.{is_asked, Leads}
 use Rattle.attr_stack.specs.Seen.{state_at}
 use Rattle.attr_stack.proofs.Lists.{rows-last, row-tested, row-matched, row-passed}
-use Rattle.attr_stack.proofs.Readings.{leads-on, leads-turn, leads-from, leads-done}
+use Rattle.attr_stack.proofs.Readings.{leads-on, leads-turn, leads-done}
 use Rattle.attr_stack.proofs.compiled_file.read_rows.Goals as goal
 use Rattle.attr_line.specs.declared.file.AttrRow.{AttrRow}
 use Rattle.attr_line.specs.declared.file.AttrRow.TheVariants.{Macro}

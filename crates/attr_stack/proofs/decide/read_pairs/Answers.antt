@@ -1,8 +1,7 @@
-use Rattle.std.proofs.Common.{◌≡◌, ◌+◌, ◌<◌, ◌≤◌, Bool, true, false, [], ◌∷◌, ◌++◌, List, sym, ◌∙◌, ap, subst, arith}
+use Rattle.std.proofs.Common.{◌≡◌, ◌+◌, ◌<◌, ◌≤◌, Bool, true, false, [], ◌∷◌, sym, ◌∙◌, ap, subst, arith}
 use Rattle.std.proofs.lemmas.List.{nil_from_length}
-use Rattle.attr_line.specs.declared.file.Pair.{Pair}
 use Rattle.attr_stack.specs.Seen.{from_end, state_at, macro_at, Notes}
-use Rattle.attr_stack.specs.Search.{known, is_asked, is_needed, Leads}
+use Rattle.attr_stack.specs.Search.{known, is_asked, is_needed}
 use Rattle.attr_stack.proofs.Decisions.{room}
 use Rattle.attr_stack.proofs.Lists.{from_end-push}
 use Rattle.attr_stack.proofs.Maps.{lines_in, are-lines}

@@ -1,4 +1,4 @@
-use Rattle.std.proofs.Common.{[], sym, ◌∙◌}
+use Rattle.std.proofs.Common.{[]}
 use Rattle.std.proofs.lemmas.Bool.{OnTrue_at}
 use Rattle.attr_stack.proofs.Readings.{leads-done}
 use Rattle.attr_stack.proofs.stack.read_levels.Goals as goal
