@@ -1,9 +1,11 @@
 //! An attribute file whose patterns were looked at once.
-ghost use Rattle.std.specs.Prelude.{◌≡◌, ℕ, List, [], IfOk, OnOk, map};
-ghost use Rattle.wild_match.specs.Fits.{is_match};
-ghost use Rattle.attr_stack.specs.Pairs.{row_pairs, file_pairs};
+ghost use Rattle.std.specs.Bool.{OnTrue};
+ghost use Rattle.std.specs.Prelude.{◌≡◌, true, [], IfOk, OnOk, is_some, map, reverse};
+ghost use Rattle.std.specs.List.{list_all};
+ghost use Rattle.attr_stack.specs.Pairs.{file_pairs};
 ghost use Rattle.attr_stack.specs.Levels.{row_pattern, row_rule, rows_pairs};
 ghost use Rattle.attr_stack.specs.Search.{Reads};
+ghost use Rattle.attr_stack.specs.Seen.{state_at};
 
 use crate::decide::{Asked, States, is_done, read_rule};
 use crate::files::FileAt;
@@ -44,29 +46,27 @@ fn patterns_of(alloc: Global, rows: &[AttrRow]) -> Result<Vec<Compiled>, AllocEr
     Ok(patterns)
 }
 
-/// Notes what a row says, if its pattern is one that matches.
+/// Notes what a row that matches says, and gives whether the search may stop.
 fn read_row<'a>(
-    alloc: Global,
     asked: &Asked<'a>,
     states: &mut States<'a>,
+    pending: &mut Vec<&'a Pair>,
     row: &'a AttrRow,
-    matches: bool,
-) -> Result<(), AllocError>
-    ensures { OnOk result ((path : List ℕ) → matches ≡ is_match (row_pattern row.now) path
-        → Reads asked.now (row_pairs path row.now) states.old [] states.new) }
+) -> Result<bool, AllocError>
+    ensures states { IfOk result (λ done. Reads asked.now (reverse (row_rule row.now)) states.old [] states.new) }
+    ensures done { IfOk result (λ done. OnTrue done
+        (list_all (λ name. is_some (state_at states.new name)) asked.now.names.now ≡ true)) }
 {
-    if matches {
-        read_rule(alloc, asked, states, row_rule(row))?;
-    }
-    Ok(())
+    read_rule(asked, states, pending, row_rule(row))?;
+    Ok(is_done(asked.names, states))
 }
 
 /// Notes what these rows with these patterns decide, from the last on, for a path in the folder of their file. It stops
 /// once all names are decided.
 fn read_rows<'a>(
-    alloc: Global,
     asked: &Asked<'a>,
     states: &mut States<'a>,
+    pending: &mut Vec<&'a Pair>,
     rows: &'a [AttrRow],
     patterns: &[Compiled],
     path: &[u8],
@@ -76,9 +76,10 @@ fn read_rows<'a>(
 {
     let name = last_part(path);
     for place in (0..rows.len()).rev() {
-        let matches = patterns[place].matches_named(path, name);
-        read_row(alloc, asked, states, &rows[place], matches)?;
-        if matches && is_done(asked.names, states) {
+        if !patterns[place].matches_named(path, name) {
+            continue;
+        }
+        if read_row(asked, states, pending, &rows[place])? {
             return Ok(());
         }
     }
@@ -116,15 +117,15 @@ impl CompiledFile {
     /// Notes what the file decides for a path in its folder.
     pub fn read<'a>(
         &'a self,
-        alloc: Global,
         asked: &Asked<'a>,
         states: &mut States<'a>,
+        pending: &mut Vec<&'a Pair>,
         path: &[u8],
     ) -> Result<(), AllocError>
         ensures { OnOk result (Reads asked.now (file_pairs path.now self.now) states.old [] states.new) }
     {
         let rows = self.file.rows.as_slice();
-        read_rows(alloc, asked, states, rows, &self.patterns, path)
+        read_rows(asked, states, pending, rows, &self.patterns, path)
     }
 }
 

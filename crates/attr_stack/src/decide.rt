@@ -1,5 +1,6 @@
 //! Which pair decides each attribute that is asked for.
-ghost use Rattle.std.specs.Prelude.{◌≡◌, [], ◌++◌, List, IfOk, OnOk, is_some, reverse};
+ghost use Rattle.std.specs.Bool.{OnTrue};
+ghost use Rattle.std.specs.Prelude.{◌≡◌, true, [], ◌++◌, List, IfOk, OnOk, is_some, reverse};
 ghost use Rattle.std.specs.List.{list_all};
 ghost use Rattle.attr_stack.specs.Macros.{MacroLine};
 ghost use Rattle.attr_stack.specs.Decided.{body_of};
@@ -10,7 +11,7 @@ use crate::macros::Macros;
 use crate::reach::push_pairs;
 use attr_line::{AttrState, Pair};
 use byte_path::Bytes;
-use std::alloc::{AllocError, Global};
+use std::alloc::AllocError;
 use std::collections::BTreeMap;
 
 /// What a search is for.
@@ -77,44 +78,55 @@ fn decides<'a>(states: &mut States<'a>, pair: &'a Pair) -> Result<bool, AllocErr
     Ok(true)
 }
 
-/// Notes what these pairs decide, of which the last is read first.
+/// Notes what these pairs decide, of which the last is read first. None is left.
 pub fn read_pairs<'a>(
     asked: &Asked<'a>,
     states: &mut States<'a>,
-    mut pending: Vec<&'a Pair>,
+    pending: &mut Vec<&'a Pair>,
 ) -> Result<(), AllocError>
-    ensures { OnOk result (Reads asked.now (from_end pending.entry.items) states.old [] states.new) }
+    ensures { OnOk result (Reads asked.now (from_end pending.old.items) states.old [] states.new) }
 {
     'reading: while let Some(pair) = pending.pop() {
         if !is_needed(asked, pair.name.as_slice()) {
             continue;
         }
         if decides(states, pair)? {
-            push_body(&mut pending, asked.macros, pair)?;
+            push_body(pending, asked.macros, pair)?;
         }
     }
     Ok(())
 }
 
-/// Notes what the pairs of a rule decide.
+/// Notes what the pairs of a rule decide. They wait in `pending`, whose room serves one rule after another.
 pub fn read_rule<'a>(
-    alloc: Global,
     asked: &Asked<'a>,
     states: &mut States<'a>,
+    pending: &mut Vec<&'a Pair>,
     pairs: &'a [Pair],
 ) -> Result<(), AllocError>
     ensures { OnOk result (Reads asked.now (reverse pairs.now) states.old [] states.new) }
 {
-    let mut pending = Vec::with_capacity(alloc, pairs.len())?;
-    push_pairs(&mut pending, pairs)?;
+    pending.clear();
+    push_pairs(pending, pairs)?;
     read_pairs(asked, states, pending)
 }
 
-/// Whether each name that is asked for is decided, so that no other pair counts.
-pub fn is_done(names: &[Bytes], states: &States<'_>) -> bool
+/// Whether something is decided of each of these names.
+fn are_known(names: &[Bytes], states: &States<'_>) -> bool
     ensures { result ≡ list_all (λ name. is_some (state_at states.now name)) names.now }
 {
     names
         .iter()
         .all(|name| states.contains_key(name.as_slice()))
+}
+
+/// Whether each name that is asked for is decided, so that no other pair counts. The names are looked up only where as
+/// many are decided as are asked for, so where a name is asked for twice the answer may be `false` all the same.
+pub fn is_done(names: &[Bytes], states: &States<'_>) -> bool
+    ensures { OnTrue result (list_all (λ name. is_some (state_at states.now name)) names.now ≡ true) }
+{
+    if states.len() < names.len() {
+        return false;
+    }
+    are_known(names, states)
 }

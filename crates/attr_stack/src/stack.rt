@@ -13,7 +13,7 @@ use crate::decide::{Asked, States, is_done};
 use crate::files::{AttrFiles, FileAt};
 use crate::macros::{Macros, macros_of};
 use crate::states::states_in;
-use attr_line::AttrState;
+use attr_line::{AttrState, Pair};
 use byte_path::{Bytes, Items};
 use std::alloc::{AllocError, Global};
 use std::collections::BTreeMap;
@@ -70,9 +70,9 @@ fn behind(path: &[u8], len: usize) -> &[u8]
 
 /// Notes what one file decides for a path.
 fn read_level<'a>(
-    alloc: Global,
     asked: &Asked<'a>,
     states: &mut States<'a>,
+    pending: &mut Vec<&'a Pair>,
     folders: &'a [CompiledAt],
     level: Level,
     path: &[u8],
@@ -82,16 +82,16 @@ fn read_level<'a>(
     match folders.get(level.place) {
         Some(at) => at
             .file()
-            .read(alloc, asked, states, behind(path, level.start)),
+            .read(asked, states, pending, behind(path, level.start)),
         None => Ok(()),
     }
 }
 
 /// Notes what these files decide for a path, from the last on. It stops once all names are decided.
 fn read_levels<'a>(
-    alloc: Global,
     asked: &Asked<'a>,
     states: &mut States<'a>,
+    pending: &mut Vec<&'a Pair>,
     folders: &'a [CompiledAt],
     levels: &[Level],
     path: &[u8],
@@ -103,7 +103,7 @@ fn read_levels<'a>(
         if is_done(asked.names, states) {
             return Ok(());
         }
-        read_level(alloc, asked, states, folders, levels[place], path)?;
+        read_level(asked, states, pending, folders, levels[place], path)?;
     }
     Ok(())
 }
@@ -124,11 +124,12 @@ fn decided_of<'a>(
     let macros = &rules.macros;
     let asked = Asked { names, macros };
     let mut states = BTreeMap::new(alloc);
-    rules.info.read(alloc, &asked, &mut states, path)?;
+    let mut pending = Vec::new(alloc);
+    rules.info.read(&asked, &mut states, &mut pending, path)?;
     read_levels(
-        alloc,
         &asked,
         &mut states,
+        &mut pending,
         &rules.folders,
         &chain.levels,
         path,

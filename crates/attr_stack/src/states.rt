@@ -69,6 +69,6 @@ pub fn attributes_of(
         macros: &macros,
     };
     let mut states = BTreeMap::new(alloc);
-    read_pairs(&asked, &mut states, pending)?;
+    read_pairs(&asked, &mut states, &mut pending)?;
     states_in(alloc, &states, names)
 }

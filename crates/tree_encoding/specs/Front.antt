@@ -4,12 +4,12 @@ use Rattle.std.specs.Char.{is_ascii}
 use Rattle.std.specs.List.{flat_map, list_all}
 use Rattle.std.specs.Str.{IsUtf8, chars}
 
--- it begins with eight characters of ASCII, and this is after them
-pub record BeginsWithEight (text eight behind : List ℕ) : Type 0 where
-  pub parts : text ≡ eight ++ behind
-  pub ascii : list_all is_ascii eight ≡ true
+-- it begins with sixteen characters of ASCII, and this is after them
+pub record BeginsWithSixteen (text sixteen behind : List ℕ) : Type 0 where
+  pub parts : text ≡ sixteen ++ behind
+  pub ascii : list_all is_ascii sixteen ≡ true
   pub utf8 : IsUtf8 behind
-  pub shorter : length behind + 8 ≡ length text
+  pub shorter : length behind + 16 ≡ length text
 
 -- what was written and what the text becomes are together what is written now and what the rest of the text becomes
 abbrev pub GoesOn : (ℕ → List ℕ) → List ℕ → List ℕ → List ℕ → List ℕ → Type 0

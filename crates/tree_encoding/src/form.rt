@@ -5,9 +5,36 @@ ghost use Rattle.std.specs.List.{flat_map, list_all};
 ghost use Rattle.tree_encoding.specs.Encode.{units16};
 
 use std::alloc::AllocError;
+use std::simd::prelude::*;
 
 /// Room for eight characters, each of at most four bytes.
 pub type Block = [u8; 32];
+
+/// UTF-16 of sixteen characters of ASCII, the lowest byte first. 16 stands for a zero.
+const LITTLE16: [usize; 32] = [
+    0, 16, 1, 16, 2, 16, 3, 16, 4, 16, 5, 16, 6, 16, 7, 16, 8, 16, 9, 16, 10, 16, 11, 16, 12, 16,
+    13, 16, 14, 16, 15, 16,
+];
+
+/// UTF-16 of sixteen characters of ASCII, the highest byte first. 16 stands for a zero.
+const BIG16: [usize; 32] = [
+    16, 0, 16, 1, 16, 2, 16, 3, 16, 4, 16, 5, 16, 6, 16, 7, 16, 8, 16, 9, 16, 10, 16, 11, 16, 12,
+    16, 13, 16, 14, 16, 15,
+];
+
+/// UTF-32 of sixteen characters of ASCII, the lowest byte first. 16 stands for a zero.
+const LITTLE32: [usize; 64] = [
+    0, 16, 16, 16, 1, 16, 16, 16, 2, 16, 16, 16, 3, 16, 16, 16, 4, 16, 16, 16, 5, 16, 16, 16, 6,
+    16, 16, 16, 7, 16, 16, 16, 8, 16, 16, 16, 9, 16, 16, 16, 10, 16, 16, 16, 11, 16, 16, 16, 12,
+    16, 16, 16, 13, 16, 16, 16, 14, 16, 16, 16, 15, 16, 16, 16,
+];
+
+/// UTF-32 of sixteen characters of ASCII, the highest byte first. 16 stands for a zero.
+const BIG32: [usize; 64] = [
+    16, 16, 16, 0, 16, 16, 16, 1, 16, 16, 16, 2, 16, 16, 16, 3, 16, 16, 16, 4, 16, 16, 16, 5, 16,
+    16, 16, 6, 16, 16, 16, 7, 16, 16, 16, 8, 16, 16, 16, 9, 16, 16, 16, 10, 16, 16, 16, 11, 16, 16,
+    16, 12, 16, 16, 16, 13, 16, 16, 16, 14, 16, 16, 16, 15,
+];
 
 /// A form in which characters are written.
 pub trait Form {
@@ -26,8 +53,8 @@ pub trait Form {
         ensures end { (at ≤ result) × (result ≤ at + 4) }
         ensures written { take result block.new ≡ take at block.old ++ bytes_of character };
 
-    /// Eight characters of ASCII at once.
-    fn push_eight(text: &mut Vec<u8>, ascii: &[u8; 8]) -> Result<(), AllocError>
+    /// Sixteen characters of ASCII at once.
+    fn push_sixteen(text: &mut Vec<u8>, ascii: &[u8; 16]) -> Result<(), AllocError>
         requires { list_all is_ascii ascii.now ≡ true }
         ensures { OnOk result (text.new.items ≡ text.old.items ++ flat_map bytes_of ascii.now) };
 }
@@ -116,7 +143,19 @@ fn put_four(block: &mut Block, at: usize, bytes: [u8; 4]) -> usize
 }
 
 /// Units of this many bytes fit a `u8`, so that many bytes are counted side by side.
-const CHUNK: usize = 96;
+const CHUNK: usize = 64;
+
+/// Whether a chunk is a whole one of ASCII, in which each byte is a character.
+#[inline(always)]
+fn is_ascii_chunk(chunk: &[u8]) -> bool {
+    match chunk.first_chunk::<CHUNK>() {
+        Some(bytes) => u8x64::from_array(*bytes)
+            .simd_ge(u8x64::splat(0x80))
+            .to_bitmask()
+            == 0,
+        None => false,
+    }
+}
 
 /// Whether a byte begins a character: all do but those of the form 10xxxxxx (RFC 3629, 3).
 fn begins_character(byte: u8) -> bool {
@@ -125,6 +164,9 @@ fn begins_character(byte: u8) -> bool {
 
 /// The units of 16 bits of the characters that begin in a chunk. A character of four bytes in UTF-8 takes two.
 fn units16_in(chunk: &[u8]) -> u8 {
+    if is_ascii_chunk(chunk) {
+        return CHUNK as u8;
+    }
     let mut units = 0u8;
     for byte in chunk {
         let second = u8::from(*byte >= 0xF0);
@@ -136,6 +178,9 @@ fn units16_in(chunk: &[u8]) -> u8 {
 }
 
 fn characters_in(chunk: &[u8]) -> u8 {
+    if is_ascii_chunk(chunk) {
+        return CHUNK as u8;
+    }
     let mut characters = 0u8;
     for byte in chunk {
         characters = characters.wrapping_add(u8::from(begins_character(*byte)));
@@ -172,9 +217,13 @@ impl Form for Little16 {
         put_units::<Little16>(block, at, character)
     }
 
-    fn push_eight(text: &mut Vec<u8>, ascii: &[u8; 8]) -> Result<(), AllocError> {
-        let [a, b, c, d, e, f, g, h] = *ascii;
-        text.extend_from_slice(&[a, 0, b, 0, c, 0, d, 0, e, 0, f, 0, g, 0, h, 0])
+    fn push_sixteen(text: &mut Vec<u8>, ascii: &[u8; 16]) -> Result<(), AllocError> {
+        let bytes = u8x16::from_array(*ascii);
+        let mut block = [0; 32];
+        bytes
+            .shuffle(u8x16::splat(0), LITTLE16)
+            .copy_to_slice(&mut block);
+        text.extend_from_slice(&block)
     }
 }
 
@@ -191,18 +240,14 @@ impl Form for Big16 {
         put_units::<Big16>(block, at, character)
     }
 
-    fn push_eight(text: &mut Vec<u8>, ascii: &[u8; 8]) -> Result<(), AllocError> {
-        let [a, b, c, d, e, f, g, h] = *ascii;
-        text.extend_from_slice(&[0, a, 0, b, 0, c, 0, d, 0, e, 0, f, 0, g, 0, h])
+    fn push_sixteen(text: &mut Vec<u8>, ascii: &[u8; 16]) -> Result<(), AllocError> {
+        let bytes = u8x16::from_array(*ascii);
+        let mut block = [0; 32];
+        bytes
+            .shuffle(u8x16::splat(0), BIG16)
+            .copy_to_slice(&mut block);
+        text.extend_from_slice(&block)
     }
-}
-
-/// Appends two pieces, each as long as is built and copied at once.
-fn push_both(text: &mut Vec<u8>, first: &[u8; 16], second: &[u8; 16]) -> Result<(), AllocError>
-    ensures { OnOk result (text.new.items ≡ text.old.items ++ (first.now ++ second.now)) }
-{
-    text.extend_from_slice(first)?;
-    text.extend_from_slice(second)
 }
 
 impl Form for Little32 {
@@ -218,11 +263,13 @@ impl Form for Little32 {
         put_four(block, at, u32::from(character).to_le_bytes())
     }
 
-    fn push_eight(text: &mut Vec<u8>, ascii: &[u8; 8]) -> Result<(), AllocError> {
-        let [a, b, c, d, e, f, g, h] = *ascii;
-        let first = [a, 0, 0, 0, b, 0, 0, 0, c, 0, 0, 0, d, 0, 0, 0];
-        let second = [e, 0, 0, 0, f, 0, 0, 0, g, 0, 0, 0, h, 0, 0, 0];
-        push_both(text, &first, &second)
+    fn push_sixteen(text: &mut Vec<u8>, ascii: &[u8; 16]) -> Result<(), AllocError> {
+        let bytes = u8x16::from_array(*ascii);
+        let mut block = [0; 64];
+        bytes
+            .shuffle(u8x16::splat(0), LITTLE32)
+            .copy_to_slice(&mut block);
+        text.extend_from_slice(&block)
     }
 }
 
@@ -239,10 +286,12 @@ impl Form for Big32 {
         put_four(block, at, u32::from(character).to_be_bytes())
     }
 
-    fn push_eight(text: &mut Vec<u8>, ascii: &[u8; 8]) -> Result<(), AllocError> {
-        let [a, b, c, d, e, f, g, h] = *ascii;
-        let first = [0, 0, 0, a, 0, 0, 0, b, 0, 0, 0, c, 0, 0, 0, d];
-        let second = [0, 0, 0, e, 0, 0, 0, f, 0, 0, 0, g, 0, 0, 0, h];
-        push_both(text, &first, &second)
+    fn push_sixteen(text: &mut Vec<u8>, ascii: &[u8; 16]) -> Result<(), AllocError> {
+        let bytes = u8x16::from_array(*ascii);
+        let mut block = [0; 64];
+        bytes
+            .shuffle(u8x16::splat(0), BIG32)
+            .copy_to_slice(&mut block);
+        text.extend_from_slice(&block)
     }
 }

@@ -2,36 +2,32 @@
 ghost use Rattle.std.specs.Prelude.{◌≡◌, ◌<◌, ◌≤◌, ◌++◌, OnOk, IfOk, IfSome, length, take, chars};
 ghost use Rattle.std.specs.Char.{is_ascii};
 ghost use Rattle.std.specs.List.{flat_map, list_all};
-ghost use Rattle.tree_encoding.specs.Front.{BeginsWithEight, GoesOn};
+ghost use Rattle.tree_encoding.specs.Front.{BeginsWithSixteen, GoesOn};
 
 use crate::form::{Block, Form};
 use std::alloc::AllocError;
+use std::simd::prelude::*;
 
-/// Whether eight bytes are ASCII. Without branches, so that they are tested at once.
-fn is_ascii(bytes: &[u8; 8]) -> bool
+/// Whether sixteen bytes are ASCII, all tested at once.
+fn is_ascii(bytes: &[u8; 16]) -> bool
     ensures { result ≡ list_all is_ascii bytes.now }
 {
-    let [a, b, c, d, e, f, g, h] = *bytes;
-    (a < 0x80)
-        & (b < 0x80)
-        & (c < 0x80)
-        & (d < 0x80)
-        & (e < 0x80)
-        & (f < 0x80)
-        & (g < 0x80)
-        & (h < 0x80)
+    u8x16::from_array(*bytes)
+        .simd_ge(u8x16::splat(0x80))
+        .to_bitmask()
+        == 0
 }
 
-/// The eight characters of ASCII with which a text begins, and what follows them.
-fn split_eight(text: &str) -> Option<(&[u8; 8], &str)>
-    ensures { IfSome result (λ parts. BeginsWithEight text.now parts.0.now parts.1.now) }
+/// The sixteen characters of ASCII with which a text begins, and what follows them.
+fn split_sixteen(text: &str) -> Option<(&[u8; 16], &str)>
+    ensures { IfSome result (λ parts. BeginsWithSixteen text.now parts.0.now parts.1.now) }
 {
-    let eight = text.as_bytes().first_chunk::<8>()?;
-    if !is_ascii(eight) {
+    let sixteen = text.as_bytes().first_chunk::<16>()?;
+    if !is_ascii(sixteen) {
         return None;
     }
-    let (_, behind) = text.split_at(8);
-    Some((eight, behind))
+    let (_, behind) = text.split_at(16);
+    Some((sixteen, behind))
 }
 
 /// Appends the first bytes of a block. A block of a known size is copied faster than a few bytes, so it is cut afterwards,
@@ -68,15 +64,15 @@ fn push_few<'a, F: Form>(out: &mut Vec<u8>, text: &'a str) -> Result<&'a str, Al
     Ok(rest.as_str())
 }
 
-/// Writes the characters of a text, eight of ASCII at once if there are eight.
+/// Writes the characters of a text, sixteen of ASCII at once if there are sixteen.
 pub fn push_text<F: Form>(out: &mut Vec<u8>, text: &str) -> Result<(), AllocError>
     ensures { OnOk result (out.new.items ≡ out.old.items ++ flat_map F.bytes_of (chars text.now)) }
 {
     let mut rest = text;
     'text: while !rest.is_empty() {
-        rest = match split_eight(rest) {
-            Some((eight, behind)) => {
-                F::push_eight(out, eight)?;
+        rest = match split_sixteen(rest) {
+            Some((sixteen, behind)) => {
+                F::push_sixteen(out, sixteen)?;
                 behind
             }
             None => push_few::<F>(out, rest)?,

@@ -1,8 +1,7 @@
-use Rattle.std.proofs.Common.{◌≡◌, ◌+◌, ◌<◌, ◌≤◌, Bool, true, false, [], ◌∷◌, ◌++◌, List, sym, ◌∙◌, ap, subst, arith}
+use Rattle.std.proofs.Common.{◌≡◌, ◌+◌, ◌<◌, ◌≤◌, Bool, true, false, [], ◌∷◌, sym, ◌∙◌, ap, subst, arith}
 use Rattle.std.proofs.lemmas.List.{nil_from_length}
-use Rattle.attr_line.specs.declared.file.Pair.{Pair}
 use Rattle.attr_stack.specs.Seen.{from_end, state_at, macro_at, Notes}
-use Rattle.attr_stack.specs.Search.{known, is_asked, is_needed, Leads}
+use Rattle.attr_stack.specs.Search.{known, is_asked, is_needed}
 use Rattle.attr_stack.proofs.Decisions.{room}
 use Rattle.attr_stack.proofs.Lists.{from_end-push}
 use Rattle.attr_stack.proofs.Maps.{lines_in, are-lines}
@@ -11,7 +10,7 @@ use Rattle.attr_stack.proofs.decide.read_pairs.Goals as goal
 
 pub reading-init : goal.reading-init
 reading-init c =
-    leads-none (lines_in c.args.asked.now.macros.now) (is_asked c.args.asked.now.names.now) (from_end c.args.pending.items) (state_at c.args.states.now)
+    leads-none (lines_in c.args.asked.now.macros.now) (is_asked c.args.asked.now.names.now) (from_end c.args.pending.now.items) (state_at c.args.states.now)
 
 pub reading-preserved-then-not-is_needed : goal.reading-preserved-then-not-is_needed
 reading-preserved-then-not-is_needed c =
@@ -61,6 +60,6 @@ pub returns : goal.returns
 returns c = λ lines are.
     let asked = c.args.asked.now in
     let empty : c.reading.pending.items ≡ [] = nil_from_length c.reading.pending.items (omega (arith, c.in_default.ensures.cases.0)) in
-    leads-same (lines_in asked.macros.now) lines (is_asked asked.names.now) (from_end c.args.pending.items) [] (state_at c.args.states.now) (state_at c.reading.states)
+    leads-same (lines_in asked.macros.now) lines (is_asked asked.names.now) (from_end c.args.pending.now.items) [] (state_at c.args.states.now) (state_at c.reading.states)
     (λ other. sym (are-lines asked.macros.now other) ∙ are other)
     (leads-turn (lines_in asked.macros.now) (is_asked asked.names.now) _ _ _ _ _ (ap from_end empty) c.reading.invariant)

@@ -1,4 +1,3 @@
-use Rattle.std.proofs.Common.{◌≡◌, ℕ, List}
 use Rattle.attr_stack.specs.Search.{known, is_asked, Leads}
 use Rattle.attr_stack.specs.Seen.{from_end, state_at}
 use Rattle.attr_stack.proofs.Decisions.{room}

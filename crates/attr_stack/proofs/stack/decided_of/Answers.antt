@@ -1,6 +1,5 @@
-use Rattle.std.proofs.Common.{◌≡◌, List, [], ◌++◌, length, reverse, ap, sym, ◌∙◌}
+use Rattle.std.proofs.Common.{◌≡◌, List, [], ◌++◌, length, reverse, ap, ◌∙◌}
 use Rattle.std.specs.List.{flat_map}
-use Rattle.attr_line.specs.declared.file.Pair.{Pair}
 use Rattle.attr_stack.specs.declared.files.FileAt.{FileAt}
 use Rattle.attr_stack.specs.declared.chain.Level.{Level}
 use Rattle.attr_stack.specs.Levels.{level_pairs}

@@ -1,12 +1,12 @@
 use Rattle.std.proofs.Common.{◌≡◌, length, arith}
 use Rattle.std.proofs.lemmas.Grind.{common_steps}
-use Rattle.tree_encoding.proofs.Fronts.{eight_on, none_left}
+use Rattle.tree_encoding.proofs.Fronts.{sixteen_on, none_left}
 use Rattle.tree_encoding.proofs.text.push_text.Goals as goal
 
-pub text-preserved-in_ok-push_eight-in-Some : goal.text-preserved-in_ok-push_eight-in-Some
-text-preserved-in_ok-push_eight-in-Some g c = record {
+pub text-preserved-in_ok-push_sixteen-in-Some : goal.text-preserved-in_ok-push_sixteen-in-Some
+text-preserved-in_ok-push_sixteen-in-Some g c = record {
   utf8 = c.in-Some.ensures.utf8;
-  same = rw c.in_ok-push_eight-in-Some.ensures (eight_on g.F.Form.bytes_of _ _ _ _ _ c.in-Some.ensures c.text.invariant.same);
+  same = rw c.in_ok-push_sixteen-in-Some.ensures (sixteen_on g.F.Form.bytes_of _ _ _ _ _ c.in-Some.ensures c.text.invariant.same);
 }
 
 pub returns : goal.returns
