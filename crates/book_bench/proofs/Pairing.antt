@@ -1,12 +1,12 @@
 -- A book with a path for any actor, and a path of a driver that can't be started.
 use Rattle.std.proofs.Common.{◌≡◌, ℕ, zero, suc, true, false, List, [], ◌∷◌, ◌++◌, length}
-use Rattle.std.proofs.Common.{◌<◌, length-append, map, Some, None, refl, sym, ap, ◌∙◌, subst, arith}
+use Rattle.std.proofs.Common.{◌+◌, ◌<◌, length-append, map, Some, None, refl, sym, ap, ◌∙◌, subst, arith}
 use Rattle.std.proofs.lemmas.List.{append-nil}
 use Rattle.std.specs.Prelude.{slice_get}
 use Rattle.std.specs.Global.{Vec}
 use Rattle.atomic_table.specs.Seated.{TableId}
 use Rattle.turn_lock.specs.History.{own}
-use Rattle.turn_lock.specs.Seat.{SeatView, seen_of, mine_of}
+use Rattle.turn_lock.specs.Seat.{SeatView, number_of, seen_of, mine_of}
 use Rattle.convert_plan.specs.declared.card.Card.{Card}
 use Rattle.convert_plan.specs.Card.{CardSeen, IsNewCard, IsRefusedCard}
 use Rattle.checkout_core.specs.declared.verdict.FilterCause.TheVariants as cause
@@ -27,10 +27,14 @@ use Rattle.checkout_book.specs.declared.plan.Plan.{Plan}
 use Rattle.checkout_book.specs.declared.plan.Entry.{Entry}
 use Rattle.checkout_book.specs.Sights.{Sight, seen}
 use Rattle.checkout_book.specs.Entries.{events_of}
-use Rattle.checkout_book.specs.Shelves.{joined, cards_of, IsRefused}
+use Rattle.checkout_book.specs.Shape.{Shelf}
+use Rattle.checkout_book.specs.Shelves.{joined, cards_of}
+use Rattle.checkout_book.specs.Ending.{GoesOn}
 use Rattle.checkout_book.specs.Passes.{IsPass, Appends, note_entry}
 use Rattle.checkout_book.specs.Reserving.{ArePool, AreDealt, AreNew, AreIdle, AreFresh, HasNothing}
-use Rattle.book_bench.specs.Pairs.{two, IsFirst}
+use Rattle.checkout_book.specs.Reserving.{IsFinished}
+use Rattle.book_bench.proofs.Working.{by_number, note_named}
+use Rattle.book_bench.specs.Pairs.{two, IsFirst, IsPair, IsBegun}
 
 -- the law of core_laws on what may follow an actor's own entries
 abbrev pub MayFollow : Type 0
@@ -70,6 +74,22 @@ module _ {B L : Type 0} (lock : TableId) (d : Plan B L) (made : ℕ) (s : SeatVi
   pub by_desk : (e : Event) → actor_of two 1 e ≡ Some 1 → actor_of d.starts.items d.workers e ≡ Some 1
   by_desk e h = let same : actor_of d.starts.items d.workers e ≡ actor_of two 1 e = λ i. actor_of (f.starts i)
       (f.workers i) e in same ∙ h
+
+  -- what the desk's first note does, by its number
+  pub first_note : (new : SeatView Entry (Plan B L)) (c : Core) (pass : IsPass lock d 1 made s c)
+      → ((x : Core) → IsPass lock d (number_of s) made s x
+      → actor_of d.starts.items d.workers not_started ≡ Some (number_of s)
+      → Appends lock d (number_of s) made s new x not_started)
+      → Appends lock d 1 made s new c not_started
+  first_note new c pass post =
+      note_named lock d 1 made s new c not_started pass.seat.named (post c (by_number lock d 1 made s c pass)
+      (by_desk not_started refl ∙ ap (λ (k : ℕ). Some k) (sym pass.seat.named)))
+
+  -- whoever hands path 1 back is the desk
+  pub back_by : (p n : ℕ) → p ≡ 1 → n ≡ 1 → actor_of d.starts.items d.workers (HandBack p) ≡ Some n
+  back_by p n is named =
+      subst (λ (q : ℕ). actor_of d.starts.items d.workers (HandBack q) ≡ Some 1) (sym is) (by_desk (HandBack 1) refl)
+      ∙ ap (λ (k : ℕ). Some k) (sym named)
 
   first_core : (c : Core) → IsPass lock d 1 made s c → start two 1 1 ≡ c
   first_core c pass =
@@ -117,20 +137,7 @@ map_length f [] = refl
 map_length f (x ∷ xs) = ap suc (map_length f xs)
 
 module _ {B L : Type 0} (see : Sight B L) where
-  -- what a book is reserved for
-  pub record IsPair (d : Plan B L) (a b : Card B L) : Type 0 where
-    pub pool : d.pool.items ≡ a ∷ []
-    pub desks : joined d.desks.items ≡ b ∷ []
-    pub count : length d.desks.items ≡ 1
-    pub starts : d.starts.items ≡ two
-    pub workers : d.workers ≡ 1
-    pub drivers : d.drivers ≡ length d.desks.items
-    pub free : a.path ≡ 0
-    pub filtered : b.path ≡ 1
-    pub free_new : IsNewCard (seen see a)
-    pub filtered_new : IsNewCard (seen see b)
-
-  pub pair_below : (d : Plan B L) (a b : Card B L) → IsPair d a b → AreBelow (length d.desks.items) d.starts.items
+  pub pair_below : (d : Plan B L) (a b : Card B L) → IsPair see d a b → AreBelow (length d.desks.items) d.starts.items
   pair_below d a b is = subst (λ (n : ℕ). AreBelow n d.starts.items) (sym is.count)
       (subst (AreBelow 1) (sym is.starts) below_two)
 
@@ -153,11 +160,11 @@ module _ {B L : Type 0} (see : Sight B L) where
       rises i zero x y lt at later = absurd (omega (arith, lt))
       rises i (suc j) x y lt at later = absurd (cc (later))
 
-  pub pair_pool : (d : Plan B L) (a b : Card B L) → IsPair d a b → ArePool d.starts.items d.pool.items
+  pub pair_pool : (d : Plan B L) (a b : Card B L) → IsPair see d a b → ArePool d.starts.items d.pool.items
   pair_pool d a b is = subst (λ (ss : List Start). ArePool ss d.pool.items) (sym is.starts)
-      (subst (λ (cs : List (Card B L)). ArePool two cs) (sym is.pool) (two_pool a is.free))
+      (subst (λ (cs : List (Card B L)). ArePool two cs) (sym is.pool) (two_pool a is.free_path))
 
-  two_cards : (d : Plan B L) (a b : Card B L) → IsPair d a b → cards_of d ≡ a ∷ b ∷ []
+  pub two_cards : (d : Plan B L) (a b : Card B L) → IsPair see d a b → cards_of d ≡ a ∷ b ∷ []
   two_cards d a b is = λ i. is.pool i ++ is.desks i
 
   two_new : (a b : Card B L) → IsNewCard (seen see a) → IsNewCard (seen see b) → AreNew see (a ∷ b ∷ [])
@@ -165,7 +172,7 @@ module _ {B L : Type 0} (see : Sight B L) where
   two_new a b m n (suc zero) c at = let e : b ≡ c = cc (at) in subst (λ (z : Card B L). IsNewCard (seen see z)) e n
   two_new a b m n (suc (suc k)) c at = absurd (cc (at))
 
-  pub pair_new : (d : Plan B L) (a b : Card B L) → IsPair d a b → AreNew see (cards_of d)
+  pub pair_new : (d : Plan B L) (a b : Card B L) → IsPair see d a b → AreNew see (cards_of d)
   pair_new d a b is = subst (AreNew see) (sym (two_cards d a b is)) (two_new a b is.free_new is.filtered_new)
 
   -- the card that the desk has is the second
@@ -177,60 +184,56 @@ module _ {B L : Type 0} (see : Sight B L) where
       (ap (map (λ (c : Card B L). c.path)) one ∙ ap (λ (q : ℕ). q ∷ []) p, tt)
   dealt (v ∷ w ∷ vs) b n j p = absurd (omega (arith, n))
 
-  pub pair_dealt : (d : Plan B L) (a b : Card B L) → IsPair d a b → AreDealt d.starts.items 0 d.desks.items
+  pub pair_dealt : (d : Plan B L) (a b : Card B L) → IsPair see d a b → AreDealt d.starts.items 0 d.desks.items
   pair_dealt d a b is = subst (λ (ss : List Start). AreDealt ss 0 d.desks.items) (sym is.starts)
-      (dealt d.desks.items b is.count is.desks is.filtered)
+      (dealt d.desks.items b is.count is.desks is.filtered_path)
 
-  pub pair_refused : (d : Plan B L) (a b c : Card B L) → IsPair d a b → IsRefusedCard (seen see b) (seen see c)
-      → IsRefused see (cards_of d) c
-  pair_refused d a b c is r = (1, b, ap (λ (l : List (Card B L)). slice_get l 1) (two_cards d a b is), r)
-
-  refused_path : (planned card : CardSeen) → IsRefusedCard planned card → card.path ≡ planned.path
-  refused_path planned card r = ap (λ (z : CardSeen). z.path) r.same
-
-  pub pair_path : (d : Plan B L) (a b c : Card B L) → IsPair d a b → IsRefusedCard (seen see b) (seen see c)
-      → c.path ≡ 1
-  pair_path d a b c is r = refused_path (seen see b) (seen see c) r ∙ is.filtered
-
-  one_desk : (vs : List (Vec (Card B L))) (v : Vec (Card B L)) (b : Card B L) → vs ≡ v ∷ [] → joined vs ≡ b ∷ []
+  pub one_desk : (vs : List (Vec (Card B L))) (v : Vec (Card B L)) (b : Card B L) → vs ≡ v ∷ [] → joined vs ≡ b ∷ []
       → v.items ++ [] ≡ b ∷ []
   one_desk vs v b e j = ap joined (sym e) ∙ j
 
--- the passes that a book of a pair gives
-pub record Begun {B L : Type 0} (lock : TableId) (d : Plan B L) (made : ℕ) (w p : SeatView Entry (Plan B L))
-    (cs : Vec (Card B L)) (b : Card B L) : Type 0 where
-  pub worker : HasNothing lock d 0 made w
-  pub desk : IsFirst lock d 0 p
-  pub cards : cs.items ++ [] ≡ b ∷ []
+-- a list with one element has no other last element
+pub last_card : {A : Type 0} (cs rest : List A) (b x : A) → cs ++ [] ≡ b ∷ [] → cs ≡ rest ++ x ∷ [] → x ≡ b
+last_card cs rest b x one e =
+    let whole : cs ≡ b ∷ [] = sym (append-nil cs) ∙ one in
+    let alone : cs ≡ x ∷ [] = only cs rest x (ap length whole) e in
+    let same : x ∷ [] ≡ b ∷ [] = sym alone ∙ whole in
+    cc (same)
 
 module _ {B L : Type 0} (see : Sight B L) (lock : TableId) (d : Plan B L) (made : ℕ) (a b : Card B L)
     (is : IsPair see d a b) (ws : List (SeatView Entry (Plan B L)))
     (ds : List (SeatView Entry (Plan B L) × Vec (Card B L))) (count : length ws ≡ 1)
     (idle : AreIdle lock d 0 made (ws ++ map (λ x. x.0) ds)) (fresh : AreFresh (ws ++ map (λ x. x.0) ds))
-    (decks : map (λ x. x.1) ds ≡ d.desks.items) where
+    (decks : map (λ x. x.1) ds ≡ d.desks.items) (two_made : made ≡ 2) where
   pub desk_count : length ds ≡ 1
   desk_count = sym (map_length (λ (x : SeatView Entry (Plan B L) × Vec (Card B L)). x.1) ds)
       ∙ (ap length decks ∙ is.count)
 
+  -- the passes and the card that a book of a pair gives
   pub begun : (rest : List (SeatView Entry (Plan B L))) (w : SeatView Entry (Plan B L))
       (left : List (SeatView Entry (Plan B L) × Vec (Card B L))) (p : SeatView Entry (Plan B L)) (cs : Vec (Card B L))
-      → ws ≡ rest ++ w ∷ [] → ds ≡ left ++ (p, cs) ∷ [] → Begun lock d made w p cs b
-  begun rest w left p cs ew ed =
+      (more : List (Card B L)) (card : Card B L) → ws ≡ rest ++ w ∷ [] → ds ≡ left ++ (p, cs) ∷ []
+      → cs.items ≡ more ++ card ∷ [] → IsBegun see lock d w p card
+  begun rest w left p cs more card ew ed ec =
       let one : ws ≡ w ∷ [] = only ws rest w count ew in
       let dk : ds ≡ (p, cs) ∷ [] = only ds left (p, cs) desk_count ed in
       let both : ws ++ map (λ x. x.0) ds ≡ w ∷ p ∷ [] = λ i. one i ++ map (λ x. x.0) (dk i) in
       let ok = subst (AreIdle lock d 0 made) both idle in
       let new = subst (λ (l : List (SeatView Entry (Plan B L))). AreFresh l) both fresh in
+      let same : card ≡ b = last_card cs.items more b card
+      (one_desk see d.desks.items cs b (sym decks ∙ ap (map (λ x. x.1)) dk) is.desks) ec in
       record {
-        worker = ok.0;
-        desk = record {
+        idle = subst (λ (m : ℕ). HasNothing lock d 0 m w) two_made ok.0;
+        first = record {
           starts = is.starts;
           workers = is.workers;
-          drivers = is.drivers ∙ is.count;
+          drivers = is.drivers;
           idle = ok.1.0;
           fresh = new.2.1;
         };
-        cards = one_desk see d.desks.items cs b (sym decks ∙ ap (map (λ x. x.1)) dk) is.desks;
+        planned = ap (λ (l : List (Card B L)). slice_get l 1) (two_cards see d a b is) ∙ ap (λ z. Some z) (sym same);
+        path = ap (λ (z : Card B L). z.path) same ∙ is.filtered_path;
+        new = subst (λ (z : Card B L). IsNewCard (seen see z)) (sym same) is.filtered_new;
       }
 
 -- two passes that have nothing in hand, in order
@@ -242,10 +245,14 @@ module _ {B L : Type 0} where
       subst (λ (l : List (SeatView Entry (Plan B L))). AreIdle lock d 0 (length l) l) (sym e)
       (subst (λ (m : ℕ). HasNothing lock d 0 m w) n hw, (hp, tt))
 
--- the last of these cards, which are one
-pub last_card : {A : Type 0} (cs rest : List A) (b x : A) → cs ++ [] ≡ b ∷ [] → cs ≡ rest ++ x ∷ [] → x ≡ b
-last_card cs rest b x one e =
-    let whole : cs ≡ b ∷ [] = sym (append-nil cs) ∙ one in
-    let alone : cs ≡ x ∷ [] = only cs rest x (ap length whole) e in
-    let same : x ∷ [] ≡ b ∷ [] = sym alone ∙ whole in
-    cc (same)
+  -- what a book of two actors leaves goes on
+  pub goes_on : (see : Sight B L) (d : Plan B L) (ss : List (SeatView Entry (Plan B L))) (s : Shelf B L)
+      → IsFinished see d ss s → d.workers + d.drivers ≡ 2 → GoesOn see s
+  goes_on see d ss s is count =
+      let workers : s.workers ≡ d.workers = ap (λ (x : Plan B L). x.workers) is.plan in
+      let drivers : s.drivers ≡ d.drivers = ap (λ (x : Plan B L). x.drivers) is.plan in
+      record { sound = is.sound; room = is.room; some = omega (arith, count, workers, drivers) }
+
+-- the path of a refused card is that of the planned one
+pub refused_path : (planned card : CardSeen) → IsRefusedCard planned card → card.path ≡ planned.path
+refused_path planned card r = ap (λ (z : CardSeen). z.path) r.same

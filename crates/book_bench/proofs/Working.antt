@@ -39,7 +39,7 @@ closed_hands : (b held : Bool) → held ≡ false → cond b false (cond b true 
 closed_hands true held h = refl
 closed_hands false held h = h
 
-fine : (raw : Option FilterCause) → held_close raw (own.Fine false) ≡ Some (raw_verdict raw false)
+pub fine : (raw : Option FilterCause) → held_close raw (own.Fine false) ≡ Some (raw_verdict raw false)
 fine None = refl
 fine (Some c) = refl
 
@@ -94,7 +94,8 @@ module _ {B L : Type 0} where
 
   -- a note of a pass, by its number
   pub note_named : (lock : TableId) (d : Plan B L) (n made : ℕ) (old new : SeatView Entry (Plan B L)) (c : Core)
-      (e : Event) → number_of old ≡ n → Appends lock d (number_of old) made old new c e → Appends lock d n made old new c e
+      (e : Event) → number_of old ≡ n → Appends lock d (number_of old) made old new c e
+      → Appends lock d n made old new c e
   note_named lock d n made old new c e is t = subst (λ (k : ℕ). Appends lock d k made old new c e) is t
 
 within : {A : Type 0} (xs : List A) (i : ℕ) → i < length xs → (x : A) × (slice_get xs i ≡ Some x)

@@ -15,7 +15,7 @@ use edge_kit::{Blob, Leaf};
 use std::sync::Wait;
 
 /// Notes that the driver of path 1 can't be started, and hands the path's card back.
-fn give_back<B: Blob, L: Leaf, H: Wait>(
+pub fn give_back<B: Blob, L: Leaf, H: Wait>(
     rt: &H,
     book: &Book<B, L>,
     mut pass: Pass<B, L>,

@@ -1,8 +1,8 @@
 //! Claims and closes the cards of a book, one after another.
 //!
-//! Without words it does so with one and with three cards and one worker, and then with a worker and a driver's desk.
-//! It tells each history, and the verdict of each path. With the word COUNT it does so with that many cards and one
-//! worker, and tells its time.
+//! Without words it makes four books: one and three cards with one worker, two cards with a worker and a driver's desk,
+//! and two cards that are left for the caller. It tells each history, and the verdict of each path. With the word COUNT
+//! it makes one book with that many cards and one worker, and tells its time.
 #![tactic(auto)]
 
 mod cards;
@@ -12,10 +12,10 @@ mod runs;
 mod work;
 
 use crate::cards::new_card;
-use crate::runs::{by_one_worker, by_worker_and_desk};
+use crate::runs::{by_one_worker, by_the_caller, by_worker_and_desk};
 use anyhow::Result;
 use checkout_book::ending::Ended;
-use edge_kit::{MemoryBlob, MemoryLeaf, MemoryRepo, MemoryTree};
+use edge_kit::{Blob, MemoryBlob, MemoryLeaf, MemoryRepo, MemoryTree};
 use std::alloc::{AllocError, Global};
 use std::env;
 use std::io::Print;
@@ -29,6 +29,12 @@ const HELLO: [u8; 20] = [
     0xa3, 0x94, 0x46, 0x4a,
 ];
 
+/// The name of the object with the content `hi` and a line feed.
+const HI: [u8; 20] = [
+    0x45, 0xb9, 0x83, 0xbe, 0x36, 0xb7, 0x3c, 0x07, 0x88, 0xdc, 0x9c, 0xbc, 0xb7, 0x6c, 0xbb, 0x80,
+    0xfc, 0x7b, 0xb0, 0x57,
+];
+
 /// The number in the first word that is one.
 fn count<R: Env + AllocGlobal>(rt: &R) -> Result<Option<u32>> {
     for word in env::args(rt)? {
@@ -39,10 +45,11 @@ fn count<R: Env + AllocGlobal>(rt: &R) -> Result<Option<u32>> {
     Ok(None)
 }
 
-/// A repository in memory with the object `HELLO`, and an empty worktree.
+/// A repository in memory with the objects `HELLO` and `HI`, and an empty worktree.
 fn outside(alloc: Global) -> Result<(MemoryRepo, MemoryTree), AllocError> {
     let mut objects = Vec::new(alloc);
     objects.push((HELLO, Vec::from_slice(alloc, b"blob 6\0hello\n")?))?;
+    objects.push((HI, Vec::from_slice(alloc, b"blob 3\0hi\n")?))?;
     let repo = MemoryRepo::new(alloc, None, None, None, objects, Vec::new(alloc));
     let tree = MemoryTree::new(alloc, true, Vec::new(alloc), false);
     Ok((repo, tree))
@@ -84,6 +91,27 @@ fn tell_desk<R: Print + Wait + AllocGlobal>(rt: &R) -> Result<()> {
     }
 }
 
+/// Tells of a book whose cards the caller closes, and the size of each object in the order of the parts.
+fn tell_caller<R: Print + Wait + AllocGlobal>(rt: &R) -> Result<()> {
+    println!(rt; "a desk, and then the caller")?;
+    let alloc = rt.alloc();
+    let (mut repo, mut tree) = outside(alloc)?;
+    let free = new_card(alloc, &mut repo, &mut tree, 0, &HELLO)?;
+    let filtered = new_card(alloc, &mut repo, &mut tree, 1, &HI)?;
+    let Some(ended) = by_the_caller(rt, alloc, free, filtered)? else {
+        println!(rt; "the object could not be read")?;
+        return Ok(());
+    };
+    tell(rt, &ended, 2)?;
+    for (mut blob, _leaf) in ended.into_parts() {
+        if let Ok(Some(stored)) = blob.take_all(100) {
+            let size = stored.len();
+            println!(rt; "parts with an object of {size} bytes")?;
+        }
+    }
+    Ok(())
+}
+
 /// How long a book with so many cards takes.
 fn time<R: Clock + Print + Wait + AllocGlobal>(rt: &R, cards: u32) -> Result<()> {
     let (mut repo, mut tree) = outside(rt.alloc())?;
@@ -102,5 +130,6 @@ fn main(rt: HostRuntime) -> Result<()> {
     for cards in [1, 3] {
         tell_worker(&rt, cards)?;
     }
-    tell_desk(&rt)
+    tell_desk(&rt)?;
+    tell_caller(&rt)
 }

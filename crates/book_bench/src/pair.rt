@@ -1,8 +1,12 @@
-// The cards of a book with a path for any actor, and a path of a driver.
+// A book with a path for any actor, and a path of a driver.
 ghost use Rattle.std.specs.Prelude.{◌≡◌, [], ◌∷◌, IfOk, length};
-ghost use Rattle.checkout_book.specs.Shelves.{joined};
-ghost use Rattle.book_bench.specs.Pairs.{two};
+ghost use Rattle.convert_plan.specs.Card.{IsNewCard};
+ghost use Rattle.checkout_book.specs.declared.plan.Plan.{Plan};
+ghost use Rattle.checkout_book.specs.Sights.{sight, seen};
+ghost use Rattle.book_bench.specs.Pairs.{IsPair, IsBegun, pair_plan};
 
+use checkout_book::book::{Book, Pass};
+use checkout_book::reserving::{BookBegun, reserve};
 use checkout_core::Start;
 use convert_plan::Card;
 use edge_kit::{Blob, Leaf};
@@ -15,16 +19,25 @@ pub struct Pair<B: Blob, L: Leaf> {
     pub starts: Vec<Start>,
 }
 
+/// A book of a pair, with its passes and the card of its desk.
+pub struct PairBegun<B: Blob, L: Leaf> {
+    pub book: Book<B, L>,
+    pub worker: Pass<B, L>,
+    pub desk: Pass<B, L>,
+    pub card: Card<B, L>,
+}
+
 /// The first card waits, and the second is of a driver that isn't required.
-pub fn make_pair<B: Blob, L: Leaf>(
+fn make_pair<B: Blob, L: Leaf>(
     alloc: Global,
     free: Card<B, L>,
     filtered: Card<B, L>,
 ) -> Result<Pair<B, L>, AllocError>
-    ensures pool { IfOk result (λ r. r.pool.items ≡ free ∷ []) }
-    ensures desks { IfOk result (λ r. joined r.desks.items ≡ filtered ∷ []) }
-    ensures count { IfOk result (λ r. length r.desks.items ≡ 1) }
-    ensures starts { IfOk result (λ r. r.starts.items ≡ two) }
+    requires free { free.path ≡ 0 }
+    requires filtered { filtered.path ≡ 1 }
+    requires free_new { IsNewCard (seen (sight B.told B.seen L.seen) free) }
+    requires filtered_new { IsNewCard (seen (sight B.told B.seen L.seen) filtered) }
+    ensures { IfOk result (λ r. IsPair (sight B.told B.seen L.seen) (pair_plan r) free filtered) }
 {
     let mut pool = Vec::with_capacity(alloc, 1)?;
     pool.push_reserved(free);
@@ -42,5 +55,48 @@ pub fn make_pair<B: Blob, L: Leaf>(
         pool,
         desks,
         starts,
+    })
+}
+
+/// A book for two new cards. The first waits, and the second is of a driver that isn't required.
+pub fn begin_pair<B: Blob, L: Leaf>(
+    alloc: Global,
+    free: Card<B, L>,
+    filtered: Card<B, L>,
+) -> Result<PairBegun<B, L>, AllocError>
+    requires free { free.path ≡ 0 }
+    requires filtered { filtered.path ≡ 1 }
+    requires free_new { IsNewCard (seen (sight B.told B.seen L.seen) free) }
+    requires filtered_new { IsNewCard (seen (sight B.told B.seen L.seen) filtered) }
+    ensures { IfOk result (λ r. (d : Plan B L)
+        × IsBegun (sight B.told B.seen L.seen) r.book d r.worker r.desk r.card) }
+{
+    let cards = make_pair(alloc, free, filtered)?;
+    let Pair {
+        pool,
+        desks,
+        starts,
+    } = cards;
+    let begun = reserve(alloc, pool, desks, starts, 1)?;
+    let BookBegun {
+        book,
+        mut workers,
+        mut desks,
+    } = begun;
+    let Some(worker) = workers.pop() else {
+        unreachable!()
+    };
+    let Some(last) = desks.pop() else {
+        unreachable!()
+    };
+    let (desk, mut own) = last;
+    let Some(card) = own.pop() else {
+        unreachable!()
+    };
+    Ok(PairBegun {
+        book,
+        worker,
+        desk,
+        card,
     })
 }

@@ -1,11 +1,14 @@
 -- The history of a shelf, as slots change.
-use Rattle.std.proofs.Common.{◌≡◌, ℕ, true, List, [], ◌∷◌, ◌++◌, set, Option, Some, None, refl, sym, ap, ◌∙◌}
+use Rattle.std.proofs.Common.{◌≡◌, ℕ, ◌+◌, ◌<◌, Bool, true, cond, List, [], ◌∷◌, ◌++◌, set, Option, Some, None}
+use Rattle.std.proofs.Common.{refl, sym, ap, ◌∙◌, arith}
 use Rattle.std.specs.Prelude.{slice_get, is_some}
 use mathlib.Core.List.{map-append}
 use Rattle.checkout_core.specs.declared.path.Start.{Start}
+use Rattle.checkout_core.specs.declared.verdict.Own.{Own}
 use Rattle.checkout_core.specs.declared.event.Event.{Event}
 use Rattle.checkout_core.specs.declared.event.Event.TheVariants as ev
 use Rattle.checkout_core.specs.Actors.{actor_of}
+use Rattle.checkout_core.specs.Closes.{closing_of, closes}
 use Rattle.core_laws.specs.Moves.{is_noted}
 use Rattle.checkout_book.specs.declared.plan.Parts.{Parts}
 use Rattle.checkout_book.specs.declared.shelf.Slot.{Slot}
@@ -13,11 +16,24 @@ use Rattle.checkout_book.specs.declared.shelf.Slot.TheVariants.{Ended}
 use Rattle.checkout_book.specs.Entries.{number_in, HaveActors, parts_at, parts_of, entry_of, entries}
 use Rattle.checkout_book.specs.Shelves.{IsEnded, AreEnded}
 use Rattle.checkout_book.proofs.Lists.{get_set_other}
+use Rattle.checkout_book.proofs.Runs.{eqb_self}
 
 pub actors_more : (starts : List Start) (workers : ℕ) (es : List Event) (e : Event) → HaveActors starts workers es
     → is_some (actor_of starts workers e) ≡ true → HaveActors starts workers (es ++ e ∷ [])
 actors_more starts workers [] e h k = (k, tt)
 actors_more starts workers (f ∷ es) e h k = (h.0, actors_more starts workers es e h.1 k)
+
+closes_append : (p : ℕ) (es : List Event) (e : Event) → closes p (es ++ e ∷ []) ≡ closes p es + closing_of p e
+closes_append p [] e = omega arith
+closes_append p (f ∷ es) e = omega (arith, closes_append p es e)
+
+pub closed_more : (p : ℕ) (es : List Event) (e : Event) → 0 < closes p es → 0 < closes p (es ++ e ∷ [])
+closed_more p es e h = omega (arith, closes_append p es e, h)
+
+pub closed_here : (p a : ℕ) (o : Own) (es : List Event) → 0 < closes p (es ++ ev.Close p a o ∷ [])
+closed_here p a o es =
+    let one : closing_of p (ev.Close p a o) ≡ 1 = ap (λ (b : Bool). cond b 1 0) (eqb_self p) in
+    omega (arith, closes_append p es (ev.Close p a o), one)
 
 module _ {B L : Type 0} where
   abbrev pub NotEnded : List (Slot B L) → ℕ → Type 0

@@ -21,7 +21,7 @@ use Rattle.checkout_core.specs.Hands.{is_held, held_at}
 use Rattle.checkout_book.specs.declared.plan.Plan.{Plan}
 use Rattle.checkout_book.specs.declared.plan.Entry.{Entry}
 use Rattle.checkout_book.specs.declared.shelf.Slot.{Slot}
-use Rattle.checkout_book.specs.declared.shelf.Slot.TheVariants.{Away, Waits}
+use Rattle.checkout_book.specs.declared.shelf.Slot.TheVariants.{Away, Waits, Ended}
 use Rattle.checkout_book.specs.Shape.{Shelf}
 use Rattle.checkout_book.specs.Sights.{Sight, seen, tell}
 use Rattle.checkout_book.specs.Entries.{history_of, events_of}
@@ -187,6 +187,27 @@ module _ {B L : Type 0} where
   aways_at (suc n) zero h = refl
   aways_at (suc n) (suc p) h = aways_at n p (omega arith)
 
+module _ {B L : Type 0} where
+  -- no card is closed yet
+  none_ended : (n : ℕ) (pool : List (Card B L)) (p : ℕ) (b : B) (l : L)
+      → slice_get (placed (aways n) pool) p ≡ Some (Ended b l) → ⊥
+  none_ended n pool p b l at =
+      let within = past_none (placed (aways n) pool) p (Ended b l) at in
+      let y = placed_at (aways n) pool p Away (aways_at n p (omega (
+        arith,
+        within,
+        placed_length (aways n) pool,
+        aways_length B L n,
+      ))) in
+      let both : Some y.slot ≡ Some (Ended b l) = sym y.at ∙ at in
+      let is : y.slot ≡ Ended b l = cc (both) in
+      ⊎_elim
+      (λ (h : (k : ℕ) × (c : Card B L) × (slice_get pool k ≡ Some c) × (c.path ≡ p) × (y.slot ≡ Waits c)).
+      let other : Waits h.1 ≡ Ended b l = sym h.4 ∙ is in absurd (cc (other)))
+      (λ (h : (y.slot ≡ Away) × ((k : ℕ) (c : Card B L) → slice_get pool k ≡ Some c → c.path ≡ p → ⊥)).
+      let other : Away ≡ Ended b l = sym h.0 ∙ is in absurd (cc (other)))
+      y.is
+
 get_map : (starts : List Start) (p : ℕ) (s : Start) → slice_get starts p ≡ Some s
     → slice_get (map path_of starts) p ≡ Some (path_of s)
 get_map [] p s e = absurd (cc (e))
@@ -260,6 +281,7 @@ module _ {B L : Type 0} (see : Sight B L) where
         (λ k c i. get_left d.pool.items (joined d.desks.items) k c i) are;
     flags = refl;
     ended = tt;
+    closed = λ p b l at. absurd (none_ended (length d.starts.items) d.pool.items p b l at);
     room = room;
   }
 

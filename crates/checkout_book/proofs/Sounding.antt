@@ -18,6 +18,7 @@ use Rattle.checkout_core.specs.declared.path.PathState.TheVariants.{Waiting, Hel
 use Rattle.checkout_core.specs.declared.path.Path.{Path}
 use Rattle.checkout_core.specs.declared.event.Event.{Event}
 use Rattle.checkout_core.specs.declared.event.Event.TheVariants.{Claim, Close, HandBack}
+use Rattle.checkout_core.specs.Closes.{closes}
 use Rattle.checkout_core.specs.States.{Core, start, is_closed, with_state}
 use Rattle.checkout_core.specs.Steps.{step_of}
 use Rattle.checkout_core.specs.Actors.{actor_of, is_step}
@@ -36,6 +37,7 @@ use Rattle.checkout_book.proofs.Runs.{replay_append, same_or, moved_here, moved_
 use Rattle.checkout_book.proofs.Runs.{with_not_closed}
 use Rattle.checkout_book.proofs.Runs.{out_not_waiting}
 use Rattle.checkout_book.proofs.Entries.{NotEnded, all_ended, ended_more, noted_ended, actors_more}
+use Rattle.checkout_book.proofs.Entries.{closed_more, closed_here}
 use Rattle.checkout_book.proofs.CoreLaws.{TakesPath, MayTake, ClosesPath, BacksPath, KeepsPaths, KeepsSize, IsShort}
 
 -- a new leaf is fresh and empty
@@ -104,14 +106,33 @@ module _ {B L : Type 0} (see : Sight B L) where
       (rows q)))
       (same_or q p)
 
+  -- the slot of one path changed
+  closed_moved : (slots : List (Slot B L)) (events : List Event) (p : ℕ) (e : Event) (y z : Slot B L)
+      → slice_get slots p ≡ Some z
+      → ((b : B) (l : L) → y ≡ Ended b l → 0 < closes p (events ++ e ∷ []))
+      → ((q : ℕ) (b : B) (l : L) → slice_get slots q ≡ Some (Ended b l) → 0 < closes q events)
+      → (q : ℕ) (b : B) (l : L) → slice_get (set slots p y) q ≡ Some (Ended b l) → 0 < closes q (events ++ e ∷ [])
+  closed_moved slots events p e y z at here there q b l is = ⊎_elim
+      (λ (h : (q ≡ p) × ((q == p) ≡ true)).
+      let one : slice_get (set slots p y) q ≡ Some y = ap (slice_get (set slots p y)) h.0 ∙ get_set_same slots p y z
+      at in
+      let both : Some y ≡ Some (Ended b l) = sym one ∙ is in
+      let same : y ≡ Ended b l = cc (both) in
+      subst (λ (k : ℕ). 0 < closes k (events ++ e ∷ [])) (sym h.0) (here b l same))
+      (λ (h : ((q ≡ p) → ⊥) × ((q == p) ≡ false)).
+      closed_more q events e (there q b l (sym (get_set_other slots p q y h.0) ∙ is)))
+      (same_or q p)
+
   -- one event came, and one slot changed
   pub moved_sound : (d : Plan B L) (core new : Core) (events : List Event) (slots : List (Slot B L))
       (waiting flags : List Bool) (capacity p : ℕ) (e : Event) (y z : Slot B L) (s t : PathState)
       → Sound see d core events slots waiting capacity → Moved core new p s t → step_of core e ≡ Some new
       → is_some (actor_of d.starts.items d.workers e) ≡ true → Lies see (cards_of d) p y t
       → slice_get slots p ≡ Some z → NotEnded slots p → IsEnded (set slots p y) e
+      → ((b : B) (l : L) → y ≡ Ended b l → 0 < closes p (events ++ e ∷ []))
       → flags ≡ set waiting p (waits y) → Sound see d new (events ++ e ∷ []) (set slots p y) flags capacity
-  moved_sound d core new events slots waiting flags capacity p e y z s t sound m step acts lies at unended ends flag =
+  moved_sound d core new events slots waiting flags capacity p e y z s t sound m step acts lies at unended ends here
+      flag =
       record {
         below = sound.below;
         new = sound.new;
@@ -120,6 +141,7 @@ module _ {B L : Type 0} (see : Sight B L) where
         rows = rows_moved (cards_of d) slots core new p s t y z m sound.rows at lies;
         flags = flag ∙ (ap (λ l. set l p (waits y)) sound.flags ∙ sym (flags_set slots p y));
         ended = ended_more (set slots p y) events e (all_ended slots p y events unended sound.ended) ends;
+        closed = closed_moved slots events p e y z at here sound.closed;
         room = sound.room;
       }
 
@@ -166,7 +188,7 @@ module _ {B L : Type 0} (see : Sight B L) where
   claim_sound law d core new events slots waiting flags capacity p a c sound at step flag =
       let m = law core new p a step in
       moved_sound d core new events slots waiting flags capacity p (Claim p a) Away (Waits c) (Waiting m.0) (Held a m.0)
-      sound m.1 step refl refl at (λ b l i. cc (i, at)) tt flag
+      sound m.1 step refl refl at (λ b l i. cc (i, at)) tt (λ b l i. absurd (cc (i))) flag
 
   pub close_away : ClosesPath → (d : Plan B L) (core new : Core) (events : List Event) (slots : List (Slot B L))
       (waiting : List Bool) (capacity p a : ℕ) (o : Own) → Sound see d core events slots waiting capacity
@@ -190,7 +212,8 @@ module _ {B L : Type 0} (see : Sight B L) where
       let flag : slice_get waiting p ≡ Some false = ap (λ f. slice_get f p) sound.flags ∙ flag_at slots p Away away in
       moved_sound d core new events slots waiting waiting capacity p (Close p a o) (Ended b l) Away k.0 (Closed k.1)
       sound k.2 step refl (refl, from) away (λ x z i. cc (i, away))
-      (b, l, get_set_same slots p (Ended b l) Away away) (sym (set_same waiting p false flag))
+      (b, l, get_set_same slots p (Ended b l) Away away)
+      (λ x z i. closed_here p a o events) (sym (set_same waiting p false flag))
 
   -- a card that was refused is the planned one, ready
   pub refused_planned : (d : Plan B L) → ((k : ℕ) (c : Card B L) → slice_get (cards_of d) k ≡ Some c
@@ -231,7 +254,8 @@ module _ {B L : Type 0} (see : Sight B L) where
       let away = back_away law d core new events slots waiting capacity card.path sound step in
       let r = refused_planned d sound.new card k.1 refused in
       moved_sound d core new events slots waiting flags capacity card.path (HandBack card.path) (Waits card) Away k.0
-      (Waiting (Some k.1)) sound k.2 step acts (r.0, refl, r.1) away (λ x z i. cc (i, away)) tt flag
+      (Waiting (Some k.1)) sound k.2 step acts (r.0, refl, r.1) away (λ x z i. cc (i, away)) tt
+      (λ b l i. absurd (cc (i))) flag
 
   lies_on : (cards : List (Card B L)) (q : ℕ) (x : Slot B L) (s t : PathState) → StaysOr s t → Lies see cards q x s
       → Lies see cards q x t
@@ -264,6 +288,7 @@ module _ {B L : Type 0} (see : Sight B L) where
         (law core new e noted step q) (sound.rows q);
     flags = sound.flags;
     ended = ended_more slots events e sound.ended (noted_ended slots e noted);
+    closed = λ p b l at. closed_more p events e (sound.closed p b l at);
     room = sound.room;
   }
 

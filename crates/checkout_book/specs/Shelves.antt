@@ -1,5 +1,5 @@
 -- What holds of a shelf whenever no actor has it.
-use Rattle.std.specs.Prelude.{◌≡◌, ℕ, ◌≤◌, ◌*◌, Bool, true, false, List, [], ◌∷◌, ◌++◌, map, length, Option}
+use Rattle.std.specs.Prelude.{◌≡◌, ℕ, ◌≤◌, ◌<◌, ◌*◌, Bool, true, false, List, [], ◌∷◌, ◌++◌, map, length, Option}
 use Rattle.std.specs.Prelude.{Some, None, slice_get, vec_capacity}
 use Rattle.std.specs.Global.{Vec}
 use Rattle.tree_encoding.specs.declared.prepared.Prepared.{Prepared}
@@ -10,6 +10,7 @@ use Rattle.checkout_core.specs.declared.path.PathState.{PathState}
 use Rattle.checkout_core.specs.declared.path.PathState.TheVariants.{Waiting}
 use Rattle.checkout_core.specs.declared.event.Event.{Event}
 use Rattle.checkout_core.specs.declared.event.Event.TheVariants.{Close}
+use Rattle.checkout_core.specs.Closes.{closes}
 use Rattle.checkout_core.specs.States.{Core, AreBelow, start, is_closed}
 use Rattle.checkout_core.specs.Steps.{replay}
 use Rattle.checkout_book.specs.declared.plan.Plan.{Plan}
@@ -110,6 +111,8 @@ module _ {B L : Type 0} (see : Sight B L) where
     pub flags : waiting ≡ map (λ s. waits s) slots
     -- the parts of each closed card are there
     pub ended : AreEnded slots events
+    -- and no others
+    pub closed : (p : ℕ) (b : B) (l : L) → slice_get slots p ≡ Some (Ended b l) → 0 < closes p events
     -- a history has nine events a path at most, and there is room for ten
     pub room : 10 * length d.starts.items ≤ capacity
 

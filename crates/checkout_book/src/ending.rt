@@ -1,11 +1,11 @@
 // What a book leaves.
-ghost use Rattle.std.specs.Prelude.{◌≡◌, ◌++◌, ◌∷◌, [], true, Option, Some, None, IfSome, IfNone};
+ghost use Rattle.std.specs.Prelude.{◌≡◌, ◌++◌, ◌∷◌, [], true, Option, Some, None, IfSome, IfNone, length, map};
 ghost use Rattle.checkout_core.specs.States.{verdict_at};
 ghost use Rattle.checkout_core.specs.Actors.{is_step};
 ghost use Rattle.checkout_core.specs.Hands.{held_at};
 ghost use Rattle.checkout_core.specs.declared.event.Event.TheVariants.{Close};
 ghost use Rattle.checkout_book.specs.declared.shelf.Slot.TheVariants as slot;
-ghost use Rattle.checkout_book.specs.Ending.{parts_in, GoesOn, IsTaken};
+ghost use Rattle.checkout_book.specs.Ending.{parts_in, told_from, GoesOn, IsTaken};
 ghost use Rattle.checkout_book.specs.Entries.{history_of};
 ghost use Rattle.checkout_book.specs.Passes.{claim_entry, close_entry};
 ghost use Rattle.checkout_book.specs.Shelves.{IsOut, plan_of, cards_of};
@@ -76,11 +76,16 @@ impl<B: Blob, L: Leaf> Ended<B, L> {
         self.shelf.core.verdict(path)
     }
 
-    /// The blob and the leaf of every closed card, in path order. It takes no memory.
+    /// The blob and the leaf of every closed card, in path order. They tell what the entry of the path's Close has. It
+    /// takes no memory.
     pub fn into_parts(self) -> Vec<(B, L)>
         requires { GoesOn (sight B.told B.seen L.seen) self.shelf }
-        ensures { result.items ≡ parts_in self.shelf.slots.items }
+        ensures parts { result.items ≡ parts_in self.shelf.slots.items }
+        ensures told { map (λ x. tell (sight B.told B.seen L.seen) x.0 x.1) result.items
+            ≡ told_from 0 (length self.shelf.starts.value.items)
+            (history_of (tell (sight B.told B.seen L.seen)) self.shelf) }
     {
+        laws::a_history_keeps_its_size();
         let Ended { shelf } = self;
         let Rack {
             slots,

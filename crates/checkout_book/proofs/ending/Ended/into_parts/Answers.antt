@@ -1,7 +1,8 @@
-use Rattle.std.proofs.Common.{◌++◌, ◌∷◌, [], length, length-append, refl, sym, ap, ◌∙◌, arith, append_assoc}
+use Rattle.std.proofs.Common.{◌≡◌, ◌++◌, ◌∷◌, [], length, length-append, refl, sym, ap, ◌∙◌, arith, append_assoc}
 use Rattle.std.proofs.lemmas.List.{append-nil}
+use Rattle.checkout_book.specs.Sights.{sight}
 use Rattle.checkout_book.specs.Ending.{parts_in}
-use Rattle.checkout_book.proofs.Endings.{parts_next}
+use Rattle.checkout_book.proofs.Endings.{parts_next, parts_told, none_left}
 use Rattle.checkout_book.proofs.ending.Ended.into_parts.Goals as goal
 
 pub loop-slot-init : goal.loop-slot-init
@@ -71,3 +72,13 @@ loop-slot-preserved g c =
       can = tt;
       ends = tt;
     }
+
+pub returns-clause-told : goal.returns-clause-told
+returns-clause-told g c =
+    let i = c.loop-slot.invariant in
+    let y = c.loop-slot.yielded in
+    let left = c.loop-slot.slot-iterator.rest in
+    let none = none_left left.items (sym left.ok.0 ∙ c.in-None.ensures.steps.0) in
+    let whole : y ≡ c.args.self.shelf.slots.items = sym (append-nil y) ∙ (ap (λ l. y ++ l) (sym none) ∙ i.whole) in
+    parts_told (sight g.B.Blob.told g.B.Blob.seen g.L.Leaf.seen) c.args.self.shelf
+    c.a_history_keeps_its_size.ensures c.requires.sound c.loop-slot.parts.items (i.parts ∙ ap parts_in whole)

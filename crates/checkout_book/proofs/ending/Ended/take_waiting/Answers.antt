@@ -1,5 +1,3 @@
-use Rattle.std.specs.Prelude.{◌≡◌, ◌++◌, ◌∷◌, [], Option, Some, None, IfSome}
-use Rattle.convert_plan.specs.declared.card.Card.{Card}
 use Rattle.checkout_book.specs.Sights.{sight}
 use Rattle.checkout_book.proofs.Turning.{taken_if, claim_grown_if}
 use Rattle.checkout_book.proofs.ending.Ended.take_waiting.Goals as goal

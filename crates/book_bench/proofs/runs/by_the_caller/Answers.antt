@@ -1,0 +1,23 @@
+use Rattle.std.proofs.Common.{◌∙◌, arith}
+use Rattle.checkout_book.specs.Sights.{sight, seen}
+use Rattle.book_bench.proofs.Pairing.{refused_path}
+use Rattle.book_bench.proofs.runs.by_the_caller.Goals as goal
+
+pub refused_card-requires : goal.refused_card-requires
+refused_card-requires g c = c.in_ok-begun.ensures.1.new
+
+pub give_back-desk-requires-clause-first : goal.give_back-desk-requires-clause-first
+give_back-desk-requires-clause-first g c =
+    let b = c.in_ok-begun.ensures in
+    (b.0, 0, b.1.first, (1, _, b.1.planned, c.in-Some.ensures))
+
+pub give_back-desk-requires-clause-path : goal.give_back-desk-requires-clause-path
+give_back-desk-requires-clause-path g c =
+    let see = sight g.B.Blob.told g.B.Blob.seen g.L.Leaf.seen in
+    let b = c.in_ok-begun.ensures in
+    refused_path (seen see c.in_ok-begun.begun.card) (seen see c.in-Some.refused) c.in-Some.ensures ∙ b.1.path
+
+pub finish_both-requires : goal.finish_both-requires
+finish_both-requires g c =
+    let b = c.in_ok-begun.ensures in
+    (b.0, b.1.idle, c.give_back-desk.ensures b.0 0 b.1.first, omega (arith, b.1.first.workers, b.1.first.drivers))
