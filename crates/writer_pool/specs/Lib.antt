@@ -1,2 +1,4 @@
 pub mod Writing
 pub mod Working
+pub mod Rooms
+pub mod Ends

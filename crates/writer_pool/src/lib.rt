@@ -1,7 +1,13 @@
-//! A worker of a checkout: it claims cards from the book, writes each as a file and closes it, until no card waits.
+//! The actors of a checkout: each claims cards from the book, writes each as a file and closes it, until no card waits.
 #![tactic(auto)]
 
+mod ending;
 mod leaf;
+mod path_ends;
+mod pool;
 mod reading;
-pub mod workers;
-pub mod writing;
+mod workers;
+mod writing;
+
+pub use path_ends::PathEnds;
+pub use pool::run_workers;
