@@ -5,13 +5,17 @@ use Rattle.std.specs.Global.{Vec}
 use Rattle.atomic_table.specs.Seated.{TableId}
 use Rattle.turn_lock.specs.Seat.{SeatView}
 use Rattle.convert_plan.specs.declared.card.Card.{Card}
+use Rattle.checkout_core.specs.declared.event.Event.{Event}
 use Rattle.checkout_core.specs.declared.path.Start.{Start}
+use Rattle.edge_kit.specs.Starters.{StarterSeen}
 use Rattle.checkout_book.specs.declared.plan.Plan.{Plan}
 use Rattle.checkout_book.specs.declared.plan.Entry.{Entry}
 use Rattle.checkout_book.specs.Sights.{Sight}
 use Rattle.checkout_book.specs.Shelves.{cards_of, joined}
 use Rattle.checkout_book.specs.Reserving.{AreIdle, AreFresh, AreNew, AreDealt}
+use Rattle.writer_pool.specs.declared.pooled.DeskSeed.{DeskSeed}
 use Rattle.writer_pool.specs.Ends.{AreNewWorkers}
+use Rattle.writer_pool.specs.Pools.{AreStartersBack, AreTalks, seed_cards}
 use Rattle.writer_pool.proofs.Acting.{new_workers}
 
 no_pairs : {X Y : Type 0} (xs : List (X × Y)) → map (λ (x : X × Y). x.1) xs ≡ [] → xs ≡ []
@@ -43,3 +47,24 @@ module _ {B L : Type 0} where
       new_workers see lock d 0 made ws (alone (AreIdle lock d 0 made) ws ds empty idle)
       (alone AreFresh ws ds empty fresh)
       (subst (AreNew see) (sym (cards_alone d.pool.items d.desks.items none)) new) (omega (arith, count))
+
+-- no desk has a card
+module _ {S B L : Type 0} where
+  pub no_seeds : (pool : List (Card B L)) (desks : List (DeskSeed S B L)) → desks ≡ [] → pool ++ seed_cards desks ≡ pool
+  no_seeds pool desks none =
+      ap (λ (ds : List (DeskSeed S B L)). pool ++ seed_cards ds) none ∙ append-nil pool
+
+  pub none_back : (starter : S → StarterSeen) (see : Sight B L) (starts : List Start) (history : List Event)
+      (desks : List (DeskSeed S B L)) (starters : List S) → desks ≡ [] → starters ≡ []
+      → AreStartersBack starter see starts history 0 desks starters
+  none_back starter see starts history desks starters no_desk no_starter =
+      subst (λ (ds : List (DeskSeed S B L)). AreStartersBack starter see starts history 0 ds starters) (sym no_desk)
+      (subst (AreStartersBack starter see starts history 0 []) (sym no_starter) tt)
+
+pub no_talks : (starts : List Start) (history : List Event) (talks : List (Vec Event)) → talks ≡ []
+    → AreTalks starts history 0 talks
+no_talks starts history talks none = subst (AreTalks starts history 0) (sym none) tt
+
+pub none_of : {A : Type 0} (xs : List A) → length xs ≡ 0 → xs ≡ []
+none_of [] e = refl
+none_of (x ∷ xs) e = absurd (omega arith)

@@ -2,3 +2,4 @@ pub mod Writing
 pub mod Working
 pub mod Rooms
 pub mod Ends
+pub mod Pools

@@ -5,9 +5,13 @@ mod ending;
 mod leaf;
 mod path_ends;
 mod pool;
+mod pooled;
 mod reading;
+mod run;
 mod workers;
 mod writing;
 
 pub use path_ends::PathEnds;
 pub use pool::run_workers;
+pub use pooled::{DeskSeed, Pooled};
+pub use run::pool_run;
