@@ -1,1 +1,11 @@
 pub mod WorkTurns
+pub mod Places
+pub mod CoreMoves
+pub mod Resting
+pub mod Rows
+pub mod Dealt
+pub mod Acting
+pub mod Verdicts
+pub mod Quieting
+pub mod Outcomes
+pub mod Alone

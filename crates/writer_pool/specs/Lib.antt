@@ -1,2 +1,5 @@
 pub mod Writing
 pub mod Working
+pub mod Rooms
+pub mod Ends
+pub mod Pools

@@ -1,7 +1,17 @@
-//! A worker of a checkout: it claims cards from the book, writes each as a file and closes it, until no card waits.
+//! The actors of a checkout: each claims cards from the book, writes each as a file and closes it, until no card waits.
 #![tactic(auto)]
 
+mod ending;
 mod leaf;
+mod path_ends;
+mod pool;
+mod pooled;
 mod reading;
-pub mod workers;
-pub mod writing;
+mod run;
+mod workers;
+mod writing;
+
+pub use path_ends::PathEnds;
+pub use pool::run_workers;
+pub use pooled::{DeskSeed, Pooled};
+pub use run::pool_run;

@@ -14,7 +14,7 @@ use std::sync::Wait;
 
 /// Claims a card, writes it and closes it, again and again until no card waits. The gate is called outside the lock,
 /// after a card was claimed and after it was closed. At most one content is held.
-pub fn work<B: Blob, L: Leaf, G: Gate, H: Wait>(
+pub(crate) fn work<B: Blob, L: Leaf, G: Gate, H: Wait>(
     rt: &H,
     alloc: Global,
     book: &Book<B, L>,

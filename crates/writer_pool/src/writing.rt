@@ -13,14 +13,14 @@ use std::alloc::Global;
 
 /// A card that is through, with what happened to it.
 #[derive(Drop)]
-pub struct Written<B: Blob, L: Leaf> {
+pub(crate) struct Written<B: Blob, L: Leaf> {
     pub card: Card<B, L>,
     pub own: Own,
 }
 
 /// Writes a card's content as its leaf's file. What was prepared before is written as it is. Otherwise the object is
 /// read and converted. No content is kept.
-pub fn write_card<B: Blob, L: Leaf>(alloc: Global, mut card: Card<B, L>) -> Written<B, L>
+pub(crate) fn write_card<B: Blob, L: Leaf>(alloc: Global, mut card: Card<B, L>) -> Written<B, L>
     requires { IsToWrite (card_seen B.told B.seen L.seen card) }
     ensures kept { IsCardOf (card_seen B.told B.seen L.seen card) (card_seen B.told B.seen L.seen result.card) }
     ensures wrote { WritesCard (card_seen B.told B.seen L.seen card) result.own

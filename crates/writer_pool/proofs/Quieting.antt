@@ -1,0 +1,199 @@
+-- A book after all its passes came back.
+use Rattle.std.proofs.Common.{◌≡◌, ◌==◌, ◌||◌, ℕ, zero, suc, ◌+◌, ◌<◌, ◌≤◌, ◌⊎◌, inl, inr, ⊎_elim, Bool, true, false, cond, List, [], ◌∷◌, ◌++◌, length, map, Option, Some, None, refl, sym, ap, ◌∙◌, subst, arith}
+use Rattle.std.specs.Prelude.{slice_get}
+use Rattle.atomic_table.specs.Seated.{TableId}
+use Rattle.turn_lock.specs.History.{own}
+use Rattle.turn_lock.specs.Seat.{SeatView, mine_of}
+use Rattle.convert_plan.specs.declared.card.Card.{Card}
+use Rattle.checkout_core.specs.declared.verdict.Own.{Own}
+use Rattle.checkout_core.specs.declared.path.Start.{Start}
+use Rattle.checkout_core.specs.declared.path.Start.TheVariants.{Pool}
+use Rattle.checkout_core.specs.declared.event.Event.{Event}
+use Rattle.checkout_core.specs.declared.event.Event.TheVariants.{Claim, Close}
+use Rattle.checkout_core.specs.Desks.{paths_of, leaves, is_left}
+use Rattle.checkout_core.specs.Talks.{contains}
+use Rattle.checkout_book.specs.declared.plan.Plan.{Plan}
+use Rattle.checkout_book.specs.declared.plan.Parts.{Parts}
+use Rattle.checkout_book.specs.declared.plan.Entry.{Entry}
+use Rattle.checkout_book.specs.declared.shelf.Slot.{Slot}
+use Rattle.checkout_book.specs.declared.shelf.Slot.TheVariants.{Ended}
+use Rattle.checkout_book.specs.Shape.{Shelf}
+use Rattle.checkout_book.specs.Sights.{Sight, seen, tell}
+use Rattle.checkout_book.specs.Entries.{number_in, entries, entry_of, history_of, events_of, parts_at}
+use Rattle.checkout_book.specs.Shelves.{plan_of, cards_of}
+use Rattle.checkout_book.specs.Reserving.{IsFinished}
+use Rattle.writer_pool.specs.Working.{IsShown, own_events}
+use Rattle.writer_pool.specs.Ends.{IsBack, AreBack, IsFromBook, IsShownAll, IsQuiet}
+use Rattle.writer_pool.proofs.Places.{some_is, eqb_self, there_or_past, get_map}
+use Rattle.writer_pool.proofs.Resting.{TakesPath, ClosesPath, ended_at}
+use Rattle.writer_pool.proofs.Rows.{BacksPath, KeepsPaths, KeepsNone, none_with_driver}
+use Rattle.writer_pool.proofs.Acting.{back_at}
+
+-- where an entry of an actor stands in its own list, behind those that came before it
+record OwnPlace {E : Type 0} (h : List (ℕ × E)) (a i : ℕ) (e : E) : Type 0 where
+  pub place : ℕ
+  pub there : slice_get (own a h) place ≡ Some e
+  pub before : (j : ℕ) (f : E) → j < i → slice_get h j ≡ Some (a, f)
+      → (k : ℕ) × (k < place) × (slice_get (own a h) k ≡ Some f)
+
+module _ {E : Type 0} where
+  own_first : (a : ℕ) (x : ℕ × E) (xs : List (ℕ × E)) (e : E) → x ≡ (a, e) → OwnPlace (x ∷ xs) a zero e
+  own_first a x xs e is =
+      let here : (x.0 == a) ≡ true = ap (λ (y : ℕ × E). y.0 == a) is ∙ eqb_self a in
+      let list : own a (x ∷ xs) ≡ x.1 ∷ own a xs = ap (λ (b : Bool). cond b (x.1 ∷ own a xs) (own a xs)) here in
+      record {
+        place = zero;
+        there = ap (λ (l : List E). slice_get l zero) list ∙ ap (λ (y : ℕ × E). Some y.1) is;
+        before = λ j f lt at. absurd (omega (arith, lt));
+      }
+
+  own_behind : (a : ℕ) (x : ℕ × E) (xs : List (ℕ × E)) (i : ℕ) (e : E) → OwnPlace xs a i e
+      → OwnPlace (x ∷ xs) a (suc i) e
+  own_behind a x xs i e r = go (x.0 == a) refl
+    where
+      go : (b : Bool) → (x.0 == a) ≡ b → OwnPlace (x ∷ xs) a (suc i) e
+      go true here =
+          let list : own a (x ∷ xs) ≡ x.1 ∷ own a xs = ap (λ (b : Bool). cond b (x.1 ∷ own a xs) (own a xs)) here in
+          record {
+            place = suc r.place;
+            there = ap (λ (l : List E). slice_get l (suc r.place)) list ∙ r.there;
+            before = λ j f lt at. first list j f lt at;
+          }
+        where
+          first : own a (x ∷ xs) ≡ x.1 ∷ own a xs → (j : ℕ) (f : E) → j < suc i
+              → slice_get (x ∷ xs) j ≡ Some (a, f)
+              → (k : ℕ) × (k < suc r.place) × (slice_get (own a (x ∷ xs)) k ≡ Some f)
+          first list zero f lt at =
+              let is : x ≡ (a, f) = cc (at) in
+              (zero, omega arith, ap (λ (l : List E). slice_get l zero) list ∙ ap (λ (y : ℕ × E). Some y.1) is)
+          first list (suc j) f lt at =
+              let q = r.before j f (omega (arith, lt)) at in
+              let less = q.1 in
+              (suc q.0, omega (arith, less), ap (λ (l : List E). slice_get l (suc q.0)) list ∙ q.2)
+      go false here =
+          let list : own a (x ∷ xs) ≡ own a xs = ap (λ (b : Bool). cond b (x.1 ∷ own a xs) (own a xs)) here in
+          record {
+            place = r.place;
+            there = ap (λ (l : List E). slice_get l r.place) list ∙ r.there;
+            before = λ j f lt at. other list j f lt at;
+          }
+        where
+          other : own a (x ∷ xs) ≡ own a xs → (j : ℕ) (f : E) → j < suc i → slice_get (x ∷ xs) j ≡ Some (a, f)
+              → (k : ℕ) × (k < r.place) × (slice_get (own a (x ∷ xs)) k ≡ Some f)
+          other list zero f lt at = absurd (
+              let is : x ≡ (a, f) = cc (at) in
+              let same : (x.0 == a) ≡ true = ap (λ (y : ℕ × E). y.0 == a) is ∙ eqb_self a in
+              cc (same, here))
+          other list (suc j) f lt at =
+              let q = r.before j f (omega (arith, lt)) at in
+              (q.0, q.1, ap (λ (l : List E). slice_get l q.0) list ∙ q.2)
+
+  own_place : (a : ℕ) (h : List (ℕ × E)) (i : ℕ) (e : E) → slice_get h i ≡ Some (a, e) → OwnPlace h a i e
+  own_place a [] i e at = absurd (cc (at))
+  own_place a (x ∷ xs) zero e at = own_first a x xs e (cc (at))
+  own_place a (x ∷ xs) (suc i) e at = own_behind a x xs i e (own_place a xs i e at)
+
+-- what an actor left, the history left
+left_own : (p a : ℕ) (h : List (ℕ × Entry)) → is_left p (own_events (own a h)) ≡ true → is_left p (events_of h) ≡ true
+left_own p a [] left = absurd (cc (left))
+left_own p a (x ∷ xs) left = go (x.0 == a) left (leaves p x.1.event) refl (left_own p a xs)
+  where
+    go : (b : Bool) → is_left p (own_events (cond b (x.1 ∷ own a xs) (own a xs))) ≡ true → (l : Bool)
+        → leaves p x.1.event ≡ l → (is_left p (own_events (own a xs)) ≡ true → is_left p (events_of xs) ≡ true)
+        → (leaves p x.1.event || is_left p (events_of xs)) ≡ true
+    go b left true is more = ap (λ (l : Bool). l || is_left p (events_of xs)) is
+    go true left false is more = ap (λ (l : Bool). l || is_left p (events_of xs)) is
+        ∙ more (sym (ap (λ (l : Bool). l || is_left p (own_events (own a xs))) is) ∙ left)
+    go false left false is more = ap (λ (l : Bool). l || is_left p (events_of xs)) is ∙ more left
+
+module _ {B L : Type 0} (see : Sight B L) where
+  -- the events of a shelf's history are its own
+  shelf_events : (starts : List Start) (workers : ℕ) (slots : List (Slot B L)) (es : List Event)
+      → events_of (entries (tell see) starts workers slots es) ≡ es
+  shelf_events starts workers slots [] = refl
+  shelf_events starts workers slots (e ∷ es) = ap (λ (l : List Event). e ∷ l) (shelf_events starts workers slots es)
+
+  entry_at : (starts : List Start) (workers : ℕ) (slots : List (Slot B L)) (es : List Event) (i : ℕ) (e : Event)
+      → slice_get es i ≡ Some e
+      → slice_get (entries (tell see) starts workers slots es) i
+      ≡ Some (number_in starts workers e, entry_of (tell see) slots e)
+  entry_at starts workers slots es i e at =
+      get_map (λ (x : Event). (number_in starts workers x, entry_of (tell see) slots x)) es i e at
+
+  -- a Close of the history is one of its actor's own list
+  close_shown : (lock : TableId) (d : Plan B L) (made : ℕ) (ts : List (SeatView Entry (Plan B L))) (s : Shelf B L)
+      → AreBack see lock d 0 made ts → IsFinished see d ts s → (i p a : ℕ) (o : Own)
+      → slice_get s.events.items i ≡ Some (Close p a o) → IsFromBook d.starts.items s.events.items i p a
+      → IsShown see (cards_of d) (Close p a o) (entry_of (tell see) s.slots.items (Close p a o)).parts
+  close_shown lock d made ts s back f i p a o at from = ⊎_elim
+      (λ (t : (x : SeatView Entry (Plan B L)) × (slice_get ts a ≡ Some x)).
+      let b = back_at see lock d 0 made ts a t.0 back t.1 in
+      let mine : own a h ≡ mine_of t.0 = f.mine a t.0 t.1 in
+      let at_mine : slice_get (mine_of t.0) own_at.place ≡ Some e =
+      ap (λ (l : List Entry). slice_get l own_at.place) (sym mine) ∙ own_at.there in
+      b.1.shown own_at.place e p a o at_mine refl (⊎_elim
+      (λ (pool : slice_get d.starts.items p ≡ Some Pool). inl pool)
+      (λ (claim : (j : ℕ) × (j < i) × (slice_get s.events.items j ≡ Some (Claim p a))).
+      let c = entry_at s.starts.value.items s.workers s.slots.items s.events.items claim.0 (Claim p a) claim.2 in
+      let k = own_at.before claim.0 (entry_of (tell see) s.slots.items (Claim p a)) claim.1 c in
+      inr (
+        k.0,
+        k.1,
+        get_map (λ (x : Entry). x.event) (mine_of t.0) k.0
+            (entry_of (tell see) s.slots.items (Claim p a))
+            (ap (λ (l : List Entry). slice_get l k.0) (sym mine) ∙ k.2),
+      ))
+      from))
+      (λ (past : length ts ≤ a).
+      let none = f.none a past in
+      let u : None ≡ Some e = sym (ap (λ (l : List Entry). slice_get l own_at.place) none) ∙ own_at.there in
+      absurd (cc (u)))
+      (there_or_past ts a)
+    where
+      h : List (ℕ × Entry)
+      h = history_of (tell see) s
+
+      e : Entry
+      e = entry_of (tell see) s.slots.items (Close p a o)
+
+      own_at : OwnPlace h a i e
+      own_at = own_place a h i e
+          (entry_at s.starts.value.items s.workers s.slots.items s.events.items i (Close p a o) at)
+
+  -- the desks left each path of their drivers
+  all_left : (lock : TableId) (d : Plan B L) (made : ℕ) (ts : List (SeatView Entry (Plan B L))) (s : Shelf B L)
+      → AreBack see lock d 0 made ts → length ts ≡ d.workers + d.drivers → IsFinished see d ts s → (q p : ℕ)
+      → q < d.drivers → contains p (paths_of q d.starts.items) ≡ true → is_left p s.events.items ≡ true
+  all_left lock d made ts s back long f q p lt own_path = ⊎_elim
+      (λ (t : (x : SeatView Entry (Plan B L)) × (slice_get ts (d.workers + q) ≡ Some x)).
+      let b = back_at see lock d 0 made ts (d.workers + q) t.0 back t.1 in
+      let left = b.1.left q p lt (omega arith) own_path in
+      subst (λ (es : List Event). is_left p es ≡ true)
+      (shelf_events s.starts.value.items s.workers s.slots.items s.events.items)
+      (left_own p (d.workers + q) (history_of (tell see) s)
+      (subst (λ (es : List Entry). is_left p (own_events es) ≡ true) (sym (f.mine (d.workers + q) t.0 t.1)) left)))
+      (λ (past : length ts ≤ d.workers + q). absurd (omega (arith, lt, past, long)))
+      (there_or_past ts (d.workers + q))
+
+  pub quieted : TakesPath → ClosesPath → BacksPath → KeepsPaths → KeepsNone → (lock : TableId) (d : Plan B L)
+      (made : ℕ) (ts : List (SeatView Entry (Plan B L))) (s : Shelf B L) → AreBack see lock d 0 made ts
+      → 0 < length ts → length ts ≡ d.workers + d.drivers → IsFinished see d ts s → IsQuiet see s
+  quieted takes closes backs keeps none lock d made ts s back some long f = record {
+    goes_on = record {
+      sound = f.sound;
+      room = f.room;
+      some = subst (λ (x : Plan B L). 0 < x.workers + x.drivers) (sym f.plan) (omega (arith, some, long));
+    };
+    hands = f.hands;
+    away = none_with_driver takes closes backs keeps none s.starts.value.items s.workers s.drivers s.events.items s.core
+        f.sound.below f.sound.run
+        (subst (λ (x : Plan B L). (q p : ℕ) → q < x.drivers → contains p (paths_of q x.starts.items) ≡ true
+        → is_left p s.events.items ≡ true) (sym f.plan) (all_left lock d made ts s back long f));
+    closed = λ i p a o at from.
+        let e = ended_at s.slots.items s.events.items i p a o f.sound.ended at in
+        let from_d = subst (λ (x : Plan B L). IsFromBook x.starts.items s.events.items i p a) f.plan from in
+        let one = close_shown lock d made ts s back f i p a o at from_d in
+        let g = subst (λ (x : Option (Slot B L)). IsShown see (cards_of d) (Close p a o) (parts_at (tell see) x)) e.2
+        one in
+        (e.0, e.1, e.2, g.0, g.1, ap (λ (x : Plan B L). slice_get (cards_of x) g.0) f.plan ∙ g.2, g.3, g.4);
+  }

@@ -1,0 +1,186 @@
+-- What still waits is written and closed.
+use Rattle.std.proofs.Common.{◌≡◌, ◌==◌, ℕ, zero, suc, ◌+◌, ◌<◌, ◌⊎◌, inl, inr, ⊎_elim, Bool, true, false, cond, List, [], ◌∷◌, ◌++◌, length, Option, Some, None, refl, sym, ap, ◌∙◌, subst, append_assoc, arith}
+use Rattle.std.specs.Prelude.{slice_get, slice_set, is_some, ◌||◌}
+use Rattle.tree_encoding.specs.declared.prepared.Prepared.{Prepared}
+use Rattle.convert_plan.specs.declared.card.Card.{Card}
+use Rattle.convert_plan.specs.Card.{CardSeen, IsCardOf, IsNewCard}
+use Rattle.checkout_core.specs.declared.verdict.FilterCause.{FilterCause}
+use Rattle.checkout_core.specs.declared.verdict.Own.{Own}
+use Rattle.checkout_core.specs.declared.verdict.Verdict.{Verdict}
+use Rattle.checkout_core.specs.declared.path.PathState.{PathState}
+use Rattle.checkout_core.specs.declared.path.PathState.TheVariants as path
+use Rattle.checkout_core.specs.declared.path.PathState.TheVariants.{Waiting, Held, Unasked, Closed}
+use Rattle.checkout_core.specs.declared.path.Path.{Path}
+use Rattle.checkout_core.specs.declared.path.Start.{Start}
+use Rattle.checkout_core.specs.declared.path.Start.TheVariants.{Pool}
+use Rattle.checkout_core.specs.declared.event.Event.{Event}
+use Rattle.checkout_core.specs.declared.event.Event.TheVariants.{Claim, Close}
+use Rattle.checkout_core.specs.States.{Core, with_state}
+use Rattle.checkout_core.specs.Steps.{step_of}
+use Rattle.checkout_core.specs.Actors.{is_step}
+use Rattle.checkout_core.specs.Hands.{is_held, held_at, Holds}
+use Rattle.core_laws.specs.Moves.{Moved, is_with_driver}
+use Rattle.checkout_book.specs.declared.plan.Plan.{Plan}
+use Rattle.checkout_book.specs.declared.shelf.Slot.{Slot}
+use Rattle.checkout_book.specs.declared.shelf.Slot.TheVariants.{Away, Waits, Ended}
+use Rattle.checkout_book.specs.Shape.{Shelf}
+use Rattle.checkout_book.specs.Sights.{Sight, seen, tell}
+use Rattle.checkout_book.specs.Shelves.{plan_of, cards_of, IsPlanned, IsRow, Lies, WaitsSo, IsEnded, AreEnded}
+use Rattle.checkout_book.specs.Ending.{GoesOn}
+use Rattle.checkout_book.specs.Turns.{Turned, Claimed}
+use Rattle.writer_pool.specs.Writing.{WritesCard}
+use Rattle.writer_pool.specs.Working.{IsShown}
+use Rattle.writer_pool.specs.Ends.{IsFromBook, IsQuiet}
+use Rattle.writer_pool.proofs.Places.{some_is, same_or, get_set_same, get_set_other, get_more, get_within, place_is}
+use Rattle.writer_pool.proofs.CoreMoves.{moved_here, hands_moved, away_moved}
+use Rattle.writer_pool.proofs.WorkTurns.{shown}
+
+abbrev pub TakesPath : Type 0
+TakesPath = (c x : Core) (p a : ℕ) → step_of c (Claim p a) ≡ Some x
+    → (raw : Option FilterCause) × Moved c x p (Waiting raw) (Held a raw)
+
+abbrev pub ClosesPath : Type 0
+ClosesPath = (c x : Core) (p a : ℕ) (o : Own) → step_of c (Close p a o) ≡ Some x
+    → (s : PathState) × (v : Verdict) × Moved c x p s (Closed v) × ((is_held a s || is_with_driver s) ≡ true)
+
+-- what came before a place of a history is the same in a longer one
+from_before : (starts : List Start) (es more longer : List Event) (i p a : ℕ) (e : Event) → longer ≡ es ++ more
+    → slice_get es i ≡ Some e → IsFromBook starts longer i p a → IsFromBook starts es i p a
+from_before starts es more longer i p a e is at h = ⊎_elim
+    (λ (pool : slice_get starts p ≡ Some Pool). inl pool)
+    (λ (claim : (j : ℕ) × (j < i) × (slice_get longer j ≡ Some (Claim p a))).
+    let lt : i < length es = place_is es i e at in
+    let less = claim.1 in
+    inr (
+      claim.0,
+      claim.1,
+      sym (get_within es more claim.0 (omega (arith, less, lt)))
+          ∙ (ap (λ (l : List Event). slice_get l claim.0) (sym is) ∙ claim.2),
+    ))
+    h
+
+module _ {B L : Type 0} where
+  pub ended_at : (slots : List (Slot B L)) (es : List Event) (i p a : ℕ) (o : Own) → AreEnded slots es
+      → slice_get es i ≡ Some (Close p a o) → (b : B) × (l : L) × (slice_get slots p ≡ Some (Ended b l))
+  ended_at slots [] i p a o h e = absurd (cc (e))
+  ended_at slots (x ∷ es) zero p a o h e = let is : x ≡ Close p a o = cc (e) in subst (IsEnded slots) is h.0
+  ended_at slots (x ∷ es) (suc i) p a o h e = ended_at slots es i p a o h.1 e
+
+module _ {B L : Type 0} (see : Sight B L) where
+  -- what is known of the card of a waiting path
+  pub record Waited (cards : List (Card B L)) (core : Core) (k : Card B L) : Type 0 where
+    pub row : Path
+    pub there : slice_get core.paths k.path ≡ Some row
+    pub so : WaitsSo (seen see k) row.state k.ready
+    pub planned : IsPlanned see cards k
+
+  waited_at : (cards : List (Card B L)) (core : Core) (k : Card B L) (o : Option (Slot B L)) (r : Option Path)
+      → o ≡ Some (Waits k) → slice_get core.paths k.path ≡ r → IsRow see cards k.path o r → Waited cards core k
+  waited_at cards core k None None is there row = absurd (cc (is))
+  waited_at cards core k None (Some r) is there row = absurd (cc (is))
+  waited_at cards core k (Some x) None is there row = absurd row
+  waited_at cards core k (Some x) (Some r) is there row =
+      let e : x ≡ Waits k = cc (is) in
+      let lies = subst (λ (y : Slot B L). Lies see cards k.path y r.state) e row in
+      record { row = r; there = there; so = lies.0; planned = lies.2 }
+
+  -- the card of a path that was claimed
+  pub record InHand (s0 s1 : Shelf B L) (k : Card B L) : Type 0 where
+    pub raw : Option FilterCause
+    pub moved : Moved s0.core s1.core k.path (Waiting raw) (Held 0 raw)
+    pub holds : Holds s1.core k.path 0 raw
+    pub so : WaitsSo (seen see k) (Waiting raw) k.ready
+    pub planned : IsPlanned see (cards_of (plan_of s0)) k
+
+  pub in_hand : TakesPath → (s0 s1 : Shelf B L) (k : Card B L) → GoesOn see s0 → Claimed 0 s0 s1 k → InHand s0 s1 k
+  in_hand takes s0 s1 k goes c =
+      let t = takes s0.core s1.core k.path 0 c.turned.step in
+      let w = waited_at (cards_of (plan_of s0)) s0.core k (slice_get s0.slots.items k.path) _ c.was refl
+      (goes.sound.rows k.path) in
+      let same : w.row ≡ t.1.row = some_is w.row t.1.row (sym w.there ∙ t.1.there) in
+      record {
+        raw = t.0;
+        moved = t.1;
+        holds = (with_state t.1.row (Held 0 t.0), moved_here s0.core s1.core k.path (Waiting t.0) (Held 0 t.0) t.1, refl);
+        so = subst (λ (s : PathState). WaitsSo (seen see k) s k.ready) (ap (λ (r : Path). r.state) same ∙ t.1.was) w.so;
+        planned = w.planned;
+      }
+
+  -- a claim leaves each entry's slot
+  close_same : (s0 s1 : Shelf B L) (k : Card B L) → IsQuiet see s0 → Claimed 0 s0 s1 k → (i p a : ℕ) (o : Own)
+      → slice_get s0.events.items i ≡ Some (Close p a o) → (p ≡ k.path → ⊥)
+  close_same s0 s1 k quiet c i p a o at is =
+      let e = ended_at s0.slots.items s0.events.items i p a o quiet.goes_on.sound.ended at in
+      let u : Some (Ended e.0 e.1) ≡ Some (Waits k) = sym e.2 ∙ (ap (slice_get s0.slots.items) is ∙ c.was) in
+      cc (u)
+
+  free : (b x h : Bool) → h ≡ false → cond b false (cond b x h) ≡ false
+  free true x h e = refl
+  free false x h e = e
+
+  pub rest_turn : TakesPath → ClosesPath → (s0 s1 s2 : Shelf B L) (k w : Card B L) (o : Own) → IsQuiet see s0
+      → Claimed 0 s0 s1 k → Turned (Close w.path 0 o) w.path (Ended w.blob w.leaf) s1 s2 → GoesOn see s2
+      → IsCardOf (seen see k) (seen see w) → WritesCard (seen see k) o (see.blob w.blob) (see.leaf w.leaf)
+      → IsQuiet see s2
+  rest_turn takes closes s0 s1 s2 k w o quiet c turned goes kept wrote =
+      let h = in_hand takes s0 s1 k quiet.goes_on c in
+      let z = closes s1.core s2.core w.path 0 o turned.step in
+      let is : w.path ≡ k.path = ap (λ (y : CardSeen). y.path) kept in
+      let plan : plan_of s2 ≡ plan_of s0 = turned.plan ∙ c.turned.plan in
+      let away1 = away_moved s0.core s1.core k.path (Waiting h.raw) (Held 0 h.raw) h.moved refl quiet.away in
+      record {
+        goes_on = goes;
+        hands = λ a q. hands_moved s1.core s2.core w.path z.0 (Closed z.1) a z.2 q
+            ∙ (ap (λ x. cond (q == w.path) false x)
+            (hands_moved s0.core s1.core k.path (Waiting h.raw) (Held 0 h.raw) a h.moved q)
+            ∙ (ap (λ j. cond (q == w.path) false (cond (q == j) (is_held a (Held 0 h.raw)) (held_at s0.core a q))) (sym is)
+            ∙ free (q == w.path) (is_held a (Held 0 h.raw)) (held_at s0.core a q) (quiet.hands a q)));
+        away = away_moved s1.core s2.core w.path z.0 (Closed z.1) z.2 refl away1;
+        closed = λ i p a x at from. ⊎_elim
+            (λ (older : slice_get s1.events.items i ≡ Some (Close p a x)). ⊎_elim
+            (λ (oldest : slice_get s0.events.items i ≡ Some (Close p a x)).
+            let starts : (plan_of s2).starts.items ≡ (plan_of s0).starts.items =
+            ap (λ (d : Plan B L). d.starts.items) plan in
+            let from0 = subst (λ (l : List Start). IsFromBook l s2.events.items i p a) starts from in
+            let all : s2.events.items ≡ s0.events.items ++ Claim k.path 0 ∷ Close w.path 0 o ∷ [] =
+            turned.events ∙ (ap (λ (l : List Event). l ++ Close w.path 0 o ∷ []) c.turned.events
+            ∙ append_assoc s0.events.items (Claim k.path 0 ∷ []) (Close w.path 0 o ∷ [])) in
+            let e = quiet.closed i p a x oldest (from_before (plan_of s0).starts.items s0.events.items
+            (Claim k.path 0 ∷ Close w.path 0 o ∷ []) s2.events.items i p a (Close p a x) all oldest from0) in
+            let other : p ≡ k.path → ⊥ = close_same s0 s1 k quiet c i p a x oldest in (
+              e.0,
+              e.1,
+              ap (λ (l : List (Slot B L)). slice_get l p) turned.slots
+                  ∙ (get_set_other s1.slots.items w.path p (Ended w.blob w.leaf) (λ same. other (same ∙ is))
+                  ∙ (ap (λ (l : List (Slot B L)). slice_get l p) c.turned.slots
+                  ∙ (get_set_other s0.slots.items k.path p Away other ∙ e.2))),
+              e.3,
+              e.4,
+              ap (λ (d : Plan B L). slice_get (cards_of d) e.3) plan ∙ e.5,
+              e.6,
+              e.7,
+            ))
+            (λ (claim : Claim k.path 0 ≡ Close p a x). absurd (cc (claim)))
+            (get_more s0.events.items (Claim k.path 0) i (Close p a x)
+            (ap (λ (l : List Event). slice_get l i) (sym c.turned.events) ∙ older)))
+            (λ (last : Close w.path 0 o ≡ Close p a x).
+            let same : w.path ≡ p = cc (last) in
+            let owns : o ≡ x = cc (last) in
+            let g = shown see (cards_of (plan_of s0)) k w 0 o h.planned kept wrote in (
+              w.blob,
+              w.leaf,
+              ap (λ (l : List (Slot B L)). slice_get l p) turned.slots
+                  ∙ (ap (slice_get (slice_set s1.slots.items w.path (Ended w.blob w.leaf))) (sym same)
+                  ∙ get_set_same s1.slots.items w.path (Ended w.blob w.leaf) Away
+                  (ap (λ (l : List (Slot B L)). slice_get l w.path) c.turned.slots
+                  ∙ (ap (slice_get (slice_set s0.slots.items k.path Away)) is
+                  ∙ get_set_same s0.slots.items k.path Away (Waits k) c.was))),
+              g.0,
+              g.1,
+              ap (λ (d : Plan B L). slice_get (cards_of d) g.0) plan ∙ g.2,
+              g.3 ∙ same,
+              subst (λ (y : Own). WritesCard (seen see g.1) y (see.blob w.blob) (see.leaf w.leaf)) owns g.4,
+            ))
+            (get_more s1.events.items (Close w.path 0 o) i (Close p a x)
+            (ap (λ (l : List Event). slice_get l i) (sym turned.events) ∙ at));
+      }

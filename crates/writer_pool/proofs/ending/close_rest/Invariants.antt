@@ -1,0 +1,14 @@
+use Rattle.std.proofs.Common.{◌≡◌, ◌-◌, ◌*◌, length}
+use Rattle.checkout_book.specs.Sights.{sight}
+use Rattle.checkout_book.specs.Shelves.{plan_of}
+use Rattle.writer_pool.specs.Ends.{IsQuiet}
+use Rattle.writer_pool.proofs.ending.close_rest.Given as goal
+
+abbrev pub invariant-loop-card : goal.invariant-loop-card
+invariant-loop-card g l = record {
+  quiet : IsQuiet (sight g.B.Blob.told g.B.Blob.seen g.L.Leaf.seen) l.ended.shelf;
+  plan : plan_of l.ended.shelf ≡ plan_of l.fn.ended.shelf;
+}
+
+abbrev pub decreases-loop-card : goal.decreases-loop-card
+decreases-loop-card g l = 9 * length (plan_of l.ended.shelf).starts.items - length l.ended.shelf.events.items

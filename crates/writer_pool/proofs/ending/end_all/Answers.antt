@@ -1,0 +1,32 @@
+use Rattle.std.proofs.Common.{length, ◌∙◌}
+use Rattle.checkout_book.specs.Sights.{sight}
+use Rattle.writer_pool.proofs.Acting.{back_idle}
+use Rattle.writer_pool.proofs.Quieting.{quieted}
+use Rattle.writer_pool.proofs.ending.end_all.Goals as goal
+
+pub finish-ended-requires : goal.finish-ended-requires
+finish-ended-requires g c =
+    let see = sight g.B.Blob.told g.B.Blob.seen g.L.Leaf.seen in
+    let r = c.requires in
+    (r.0, back_idle see c.args.book r.0 0 (length c.args.passes.items) c.args.passes.items r.1, r.2, r.3)
+
+pub close_rest-requires : goal.close_rest-requires
+close_rest-requires g c =
+    let see = sight g.B.Blob.told g.B.Blob.seen g.L.Leaf.seen in
+    let r = c.requires in
+    let ps = c.args.passes.items in
+    quieted see c.a_claim_takes_its_path.ensures c.a_close_closes_its_path.ensures
+    c.a_path_that_is_handed_back_waits.ensures c.a_note_keeps_paths_with_their_driver.ensures
+    c.a_desk_that_is_through_keeps_no_path.ensures c.args.book r.0 (length ps) ps c.finish-ended.result.shelf r.1
+    r.2 r.3 (c.finish-ended.ensures r.0 (back_idle see c.args.book r.0 0 (length ps) ps r.1))
+
+pub returns : goal.returns
+returns g c d back long =
+    let see = sight g.B.Blob.told g.B.Blob.seen g.L.Leaf.seen in
+    let ps = c.args.passes.items in
+    let f = c.finish-ended.ensures d (back_idle see c.args.book d 0 (length ps) ps back) in
+    record {
+      quiet = c.close_rest.ensures.quiet;
+      plan = c.close_rest.ensures.plan ∙ f.plan;
+      none = c.close_rest.ensures.none;
+    }

@@ -1,0 +1,72 @@
+use Rattle.std.proofs.Common.{◌≡◌, ◌≤◌, ◌*◌, ℕ, List, length, map, sym, ap, ◌∙◌, subst, arith}
+use Rattle.checkout_core.specs.declared.event.Event.{Event}
+use Rattle.checkout_book.specs.Sights.{sight}
+use Rattle.checkout_book.specs.Shelves.{cards_of}
+use Rattle.checkout_book.specs.Ending.{parts_in}
+use Rattle.writer_pool.specs.Ends.{IsRun, AreEnds}
+use Rattle.writer_pool.proofs.Dealt.{fitting}
+use Rattle.writer_pool.proofs.Outcomes.{completed, ran, ends_are, paths_count, slots_count, events_few, parts_fewer}
+use Rattle.writer_pool.proofs.ending.leave.Goals as goal
+
+pub verdicts_of-verdicts-requires-clause-complete :
+    goal.verdicts_of-verdicts-requires-clause-complete
+verdicts_of-verdicts-requires-clause-complete g c =
+    let r = c.requires.through in
+    completed (sight g.B.Blob.told g.B.Blob.seen g.L.Leaf.seen) r.0 c.args.ended.shelf r.1
+
+pub verdicts_of-verdicts-requires-clause-count : goal.verdicts_of-verdicts-requires-clause-count
+verdicts_of-verdicts-requires-clause-count g c =
+    let r = c.requires.through in
+    paths_count (sight g.B.Blob.told g.B.Blob.seen g.L.Leaf.seen) c.a_history_keeps_its_size.ensures r.0
+    c.args.ended.shelf r.1 ∙ r.2
+
+pub copied-history-requires-clause-room : goal.copied-history-requires-clause-room
+copied-history-requires-clause-room g c =
+    let r = c.requires.through in
+    let few = events_few (sight g.B.Blob.told g.B.Blob.seen g.L.Leaf.seen) c.a_history_is_short.ensures r.0
+    c.args.ended.shelf r.1 in
+    let count = r.2 in
+    omega (arith, ap length c.history.ensures, few, c.requires.room.events, count)
+
+pub apart-blobs-requires-clause-room : goal.apart-blobs-requires-clause-room
+apart-blobs-requires-clause-room g c =
+    let r = c.requires.through in
+    let slots = slots_count (sight g.B.Blob.told g.B.Blob.seen g.L.Leaf.seen) c.a_history_keeps_its_size.ensures r.0
+    c.args.ended.shelf r.1 in
+    let fewer = parts_fewer c.args.ended.shelf.slots.items in
+    let count = r.2 in
+    omega (arith, ap length c.into_parts.ensures, fewer, slots, c.requires.room.all_blobs, count)
+
+pub apart-blobs-requires-clause-leaf_room : goal.apart-blobs-requires-clause-leaf_room
+apart-blobs-requires-clause-leaf_room g c =
+    let r = c.requires.through in
+    let slots = slots_count (sight g.B.Blob.told g.B.Blob.seen g.L.Leaf.seen) c.a_history_keeps_its_size.ensures r.0
+    c.args.ended.shelf r.1 in
+    let fewer = parts_fewer c.args.ended.shelf.slots.items in
+    let count = r.2 in
+    omega (arith, ap length c.into_parts.ensures, fewer, slots, c.requires.room.all_leaves, count)
+
+pub returns-clause-run : goal.returns-clause-run
+returns-clause-run g c d t =
+    let see = sight g.B.Blob.told g.B.Blob.seen g.L.Leaf.seen in
+    subst (λ (h : List Event). IsRun d.starts.items d.workers d.drivers h c.verdicts_of-verdicts.result.items)
+    (sym (c.copied-history.ensures ∙ c.history.ensures))
+    (ran see d c.args.ended.shelf c.verdicts_of-verdicts.result.items t c.verdicts_of-verdicts.ensures)
+
+pub returns-clause-ends : goal.returns-clause-ends
+returns-clause-ends g c d t pool dealt =
+    let see = sight g.B.Blob.told g.B.Blob.seen g.L.Leaf.seen in
+    let B = g.row.B.Denot in
+    let L = g.row.L.Denot in
+    let s = c.args.ended.shelf in
+    let slots = slots_count see c.a_history_keeps_its_size.ensures d s t in
+    let ends = ends_are see c.a_verdict_is_what_is_told.ensures d s t (fitting d pool dealt) slots in
+    let blobs = c.apart-blobs.ensures.blobs ∙ ap (map (λ (x : B × L). x.0)) c.into_parts.ensures in
+    let leaves = c.apart-blobs.ensures.leaves ∙ ap (map (λ (x : B × L). x.1)) c.into_parts.ensures in
+    subst (λ (h : List Event). AreEnds see d.starts.items h (cards_of d) 0 d.starts.items
+    c.apart-blobs.result.0.items c.apart-blobs.result.1.items)
+    (sym (c.copied-history.ensures ∙ c.history.ensures))
+    (subst (λ (ls : List L). AreEnds see d.starts.items s.events.items (cards_of d) 0 d.starts.items
+    c.apart-blobs.result.0.items ls) (sym leaves)
+    (subst (λ (bs : List B). AreEnds see d.starts.items s.events.items (cards_of d) 0 d.starts.items bs
+    (map (λ (x : B × L). x.1) (parts_in s.slots.items))) (sym blobs) ends))

@@ -1,0 +1,152 @@
+//! What the actors of a checkout leave, after all of them came back.
+ghost use Rattle.std.specs.Prelude.{◌≡◌, ◌≤◌, ◌<◌, ◌+◌, ℕ, [], length, map, slice_get, vec_capacity};
+ghost use Rattle.checkout_core.specs.States.{verdict_at};
+ghost use Rattle.checkout_core.specs.Closes.{IsComplete};
+ghost use Rattle.checkout_book.specs.declared.plan.Plan.{Plan};
+ghost use Rattle.checkout_book.specs.Sights.{sight};
+ghost use Rattle.checkout_book.specs.Shelves.{plan_of, cards_of};
+ghost use Rattle.checkout_book.specs.Turns.{NoneWaits};
+ghost use Rattle.checkout_book.specs.Reserving.{ArePool, AreDealt};
+ghost use Rattle.writer_pool.specs.Ends.{AreBack, AreEnds, IsQuiet, IsRun, IsThrough};
+ghost use Rattle.writer_pool.specs.Rooms.{HasRoom};
+
+use crate::path_ends::PathEnds;
+use crate::writing::{Written, write_card};
+use checkout_book::book::{Book, Pass};
+use checkout_book::ending::Ended;
+use checkout_book::reserving::finish;
+use checkout_core::{Event, Verdict};
+use core_laws::laws;
+use edge_kit::{Blob, Leaf};
+use std::alloc::Global;
+
+/// Writes and closes what still waits, as actor 0.
+pub(crate) fn close_rest<B: Blob, L: Leaf>(alloc: Global, ended: &mut Ended<B, L>)
+    requires { IsQuiet (sight B.told B.seen L.seen) ended.old.shelf }
+    ensures quiet { IsQuiet (sight B.told B.seen L.seen) ended.new.shelf }
+    ensures plan { plan_of ended.new.shelf ≡ plan_of ended.old.shelf }
+    ensures none { NoneWaits ended.new.shelf.core }
+{
+    laws::a_path_in_hand_may_be_closed();
+    laws::a_claim_takes_its_path();
+    laws::a_close_closes_its_path();
+    laws::a_history_is_short();
+    while let Some(card) = ended.take_waiting() {
+        let Written { card, own } = write_card(alloc, card);
+        ended.close(card, own);
+    }
+}
+
+/// Closes what still waits after all passes came back.
+pub(crate) fn end_all<B: Blob, L: Leaf>(
+    alloc: Global,
+    book: Book<B, L>,
+    passes: Vec<Pass<B, L>>,
+) -> Ended<B, L>
+    requires { (d : Plan B L)
+        × AreBack (sight B.told B.seen L.seen) book d 0 (length passes.items) passes.items
+        × (0 < length passes.items) × (length passes.items ≡ d.workers + d.drivers) }
+    ensures { (d : Plan B L)
+        → AreBack (sight B.told B.seen L.seen) book d 0 (length passes.items) passes.items
+        → length passes.items ≡ d.workers + d.drivers
+        → IsThrough (sight B.told B.seen L.seen) d result.shelf }
+{
+    laws::a_desk_that_is_through_keeps_no_path();
+    laws::a_claim_takes_its_path();
+    laws::a_close_closes_its_path();
+    laws::a_path_that_is_handed_back_waits();
+    laws::a_note_keeps_paths_with_their_driver();
+    let mut ended = finish(book, passes);
+    close_rest(alloc, &mut ended);
+    ended
+}
+
+/// The verdict of each path.
+fn verdicts_of<B: Blob, L: Leaf>(
+    ended: &Ended<B, L>,
+    paths: u32,
+    mut verdicts: Vec<Verdict>,
+) -> Vec<Verdict>
+    requires complete { IsComplete ended.now.shelf.core }
+    requires count { length ended.now.shelf.core.paths ≡ paths }
+    requires empty { verdicts.items ≡ [] }
+    requires room { paths ≤ vec_capacity verdicts }
+    ensures { (p : ℕ) → slice_get result.items p ≡ verdict_at ended.now.shelf.core p }
+{
+    for path in 0..paths {
+        let Some(verdict) = ended.verdict(path) else {
+            unreachable!()
+        };
+        verdicts.push_reserved(verdict);
+    }
+    verdicts
+}
+
+/// The same events, in a vector with room for them.
+fn copied(events: &[Event], mut copy: Vec<Event>) -> Vec<Event>
+    requires empty { copy.items ≡ [] }
+    requires room { length events.now ≤ vec_capacity copy }
+    ensures { result.items ≡ events.now }
+{
+    for event in events {
+        copy.push_reserved(*event);
+    }
+    copy
+}
+
+/// The blobs and the leaves apart.
+fn apart<B: Blob, L: Leaf>(
+    parts: Vec<(B, L)>,
+    mut blobs: Vec<B>,
+    mut leaves: Vec<L>,
+) -> (Vec<B>, Vec<L>)
+    requires no_blob { blobs.items ≡ [] }
+    requires no_leaf { leaves.items ≡ [] }
+    requires room { length parts.items ≤ vec_capacity blobs }
+    requires leaf_room { length parts.items ≤ vec_capacity leaves }
+    ensures blobs { result.0.items ≡ map (λ x. x.0) parts.items }
+    ensures leaves { result.1.items ≡ map (λ x. x.1) parts.items }
+{
+    for part in parts {
+        let (blob, leaf) = part;
+        blobs.push_reserved(blob);
+        leaves.push_reserved(leaf);
+    }
+    (blobs, leaves)
+}
+
+/// How the paths ended, in the room that was taken for it.
+pub(crate) fn leave<B: Blob, L: Leaf>(
+    ended: Ended<B, L>,
+    paths: u32,
+    room: PathEnds<B, L>,
+) -> PathEnds<B, L>
+    requires through { (d : Plan B L) × IsThrough (sight B.told B.seen L.seen) d ended.shelf
+        × (length d.starts.items ≡ paths) }
+    requires room { HasRoom paths room }
+    ensures run { (d : Plan B L) → IsThrough (sight B.told B.seen L.seen) d ended.shelf
+        → IsRun d.starts.items d.workers d.drivers result.history.items result.verdicts.items }
+    ensures ends { (d : Plan B L) → IsThrough (sight B.told B.seen L.seen) d ended.shelf
+        → ArePool d.starts.items d.pool.items → AreDealt d.starts.items 0 d.desks.items
+        → AreEnds (sight B.told B.seen L.seen) d.starts.items result.history.items (cards_of d) 0 d.starts.items
+        result.blobs.items result.leaves.items }
+{
+    laws::a_verdict_is_what_is_told();
+    laws::a_history_keeps_its_size();
+    laws::a_history_is_short();
+    let PathEnds {
+        history,
+        verdicts,
+        leaves,
+        blobs,
+    } = room;
+    let verdicts = verdicts_of(&ended, paths, verdicts);
+    let history = copied(ended.history(), history);
+    let (blobs, leaves) = apart(ended.into_parts(), blobs, leaves);
+    PathEnds {
+        history,
+        verdicts,
+        leaves,
+        blobs,
+    }
+}
