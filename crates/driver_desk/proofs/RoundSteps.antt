@@ -24,7 +24,9 @@ use Rattle.checkout_core.specs.Transcripts as result
 use Rattle.driver_line.specs.Transcripts.{HasItems}
 use Rattle.driver_line.specs.ToldStarts.{GoBy}
 use Rattle.driver_desk.specs.Serving.{IsServed, Given, Noted, noted_in, Talks, Serves, talk_now, newest}
-use Rattle.driver_desk.specs.Rounds.{round_of, minus, AreAmong, AreApart, AreWaiting, InRounds, TalkOver, RoundsBy, LateSeen, paths_of, IsReady, AreReady, FitTexts, IsTaken, IsNext, GrowsLate, RedoneCards, TurnsBy}
+use Rattle.driver_desk.specs.Rounds.{round_of, minus, AreAmong, AreApart, AreWaiting, InRounds, TalkOver, RoundsBy, LateSeen, paths_of, AreReady, FitTexts, IsTaken, IsNext, GrowsLate, RedoneCards, TurnsBy}
+use Rattle.driver_desk.specs.Recorders.{Standing as Seat}
+use Rattle.driver_desk.specs.Cards.{IsReadCard}
 use Rattle.driver_desk.specs.Places.{naming_after}
 use Rattle.driver_desk.specs.Late.{LateView, KeepsNames, FitsNames, cards_of, names_at}
 use Rattle.driver_desk.specs.Works.{card_paths}
@@ -294,18 +296,18 @@ redone d paths line0 given0 asked line line1 given given1 given2 cards cards1 p 
 -- the cards without the one that was taken
 
 contains_split : (q : ℕ) (before after : List LateSeen) (c : LateSeen) → contains q (paths_of (before ++ after)) ≡ true → contains q (paths_of (before ++ c ∷ after)) ≡ true
-contains_split q [] after c h = elim (bool_or (q == c.path)) [
+contains_split q [] after c h = elim (bool_or (q == c.card.path)) [
   | inl same ↦ ap (λ (b : Bool). cond b true (contains q (paths_of after))) same
   | inr other ↦ ap (λ (b : Bool). cond b true (contains q (paths_of after))) other ∙ h
 ]
-contains_split q (b ∷ bs) after c h = elim (bool_or (q == b.path)) [
+contains_split q (b ∷ bs) after c h = elim (bool_or (q == b.card.path)) [
   | inl same ↦ ap (λ (x : Bool). cond x true (contains q (paths_of (bs ++ c ∷ after)))) same
   | inr other ↦ ap (λ (x : Bool). cond x true (contains q (paths_of (bs ++ c ∷ after)))) other ∙ contains_split q bs after c (sym (ap (λ (x : Bool). cond x true (contains q (paths_of (bs ++ after)))) other) ∙ h)
 ]
 
-contains_left : (q : ℕ) (before after : List LateSeen) (c : LateSeen) → contains q (paths_of (before ++ c ∷ after)) ≡ true → (q == c.path) ≡ false → contains q (paths_of (before ++ after)) ≡ true
+contains_left : (q : ℕ) (before after : List LateSeen) (c : LateSeen) → contains q (paths_of (before ++ c ∷ after)) ≡ true → (q == c.card.path) ≡ false → contains q (paths_of (before ++ after)) ≡ true
 contains_left q [] after c h other = sym (ap (λ (b : Bool). cond b true (contains q (paths_of after))) other) ∙ h
-contains_left q (b ∷ bs) after c h other = elim (bool_or (q == b.path)) [
+contains_left q (b ∷ bs) after c h other = elim (bool_or (q == b.card.path)) [
   | inl same ↦ ap (λ (x : Bool). cond x true (contains q (paths_of (bs ++ after)))) same
   | inr away ↦ ap (λ (x : Bool). cond x true (contains q (paths_of (bs ++ after)))) away ∙ contains_left q bs after c (sym (ap (λ (x : Bool). cond x true (contains q (paths_of (bs ++ c ∷ after)))) away) ∙ h) other
 ]
@@ -316,37 +318,44 @@ away_from q p ps no_p has_q = elim (bool_or (q == p)) [
   | inr other ↦ other
 ]
 
-has_middle : (before after : List LateSeen) (c : LateSeen) → contains c.path (paths_of (before ++ c ∷ after)) ≡ true
-has_middle [] after c = ap (λ (b : Bool). cond b true (contains c.path (paths_of after))) (self c.path)
-has_middle (b ∷ bs) after c = elim (bool_or (c.path == b.path)) [
-  | inl same ↦ ap (λ (x : Bool). cond x true (contains c.path (paths_of (bs ++ c ∷ after)))) same
-  | inr other ↦ ap (λ (x : Bool). cond x true (contains c.path (paths_of (bs ++ c ∷ after)))) other ∙ has_middle bs after c
+has_middle : (before after : List LateSeen) (c : LateSeen) → contains c.card.path (paths_of (before ++ c ∷ after)) ≡ true
+has_middle [] after c = ap (λ (b : Bool). cond b true (contains c.card.path (paths_of after))) (self c.card.path)
+has_middle (b ∷ bs) after c = elim (bool_or (c.card.path == b.card.path)) [
+  | inl same ↦ ap (λ (x : Bool). cond x true (contains c.card.path (paths_of (bs ++ c ∷ after)))) same
+  | inr other ↦ ap (λ (x : Bool). cond x true (contains c.card.path (paths_of (bs ++ c ∷ after)))) other ∙ has_middle bs after c
 ]
 
 false_of : (b : Bool) → (b ≡ true → ⊥) → b ≡ false
 false_of true h = absurd (h refl)
 false_of false h = refl
 
-pub apart_split : (before after : List LateSeen) (c : LateSeen) → AreApart (paths_of (before ++ c ∷ after)) → AreApart (paths_of (before ++ after)) × (contains c.path (paths_of (before ++ after)) ≡ false)
+pub apart_split : (before after : List LateSeen) (c : LateSeen) → AreApart (paths_of (before ++ c ∷ after)) → AreApart (paths_of (before ++ after)) × (contains c.card.path (paths_of (before ++ after)) ≡ false)
 apart_split [] after c h = (h.1, h.0)
 apart_split (b ∷ bs) after c h =
     let rest = apart_split bs after c h.1 in
-    let b_not : contains b.path (paths_of (bs ++ after)) ≡ false = false_of _ (λ has. cc (sym (contains_split b.path bs after c has) ∙ h.0)) in
-    let other : (c.path == b.path) ≡ false = false_of _ (λ same. cc (sym (ap (λ (x : ℕ). contains x (paths_of (bs ++ c ∷ after))) (eqb-true c.path b.path same)) ∙ has_middle bs after c, h.0)) in
-    ((b_not, rest.0), ap (λ (x : Bool). cond x true (contains c.path (paths_of (bs ++ after)))) other ∙ rest.1)
+    let b_not : contains b.card.path (paths_of (bs ++ after)) ≡ false = false_of _ (λ has. cc (sym (contains_split b.card.path bs after c has) ∙ h.0)) in
+    let other : (c.card.path == b.card.path) ≡ false = false_of _ (λ same. cc (sym (ap (λ (x : ℕ). contains x (paths_of (bs ++ c ∷ after))) (eqb-true c.card.path b.card.path same)) ∙ has_middle bs after c, h.0)) in
+    ((b_not, rest.0), ap (λ (x : Bool). cond x true (contains c.card.path (paths_of (bs ++ after)))) other ∙ rest.1)
 
-ready_split : (before after : List LateSeen) (c : LateSeen) → AreReady (before ++ c ∷ after) → IsReady c × AreReady (before ++ after)
-ready_split [] after c h = (h.0, h.1)
-ready_split (b ∷ bs) after c h = let rest = ready_split bs after c h.1 in (rest.0, (h.0, rest.1))
+ready_split : (s : Seat) (before after : List LateSeen) (c : LateSeen) → AreReady s (before ++ c ∷ after) → IsReadCard s c.card c.unencoded × AreReady s (before ++ after)
+ready_split s [] after c h = (h.0, h.1)
+ready_split s (b ∷ bs) after c h = let rest = ready_split s bs after c h.1 in (rest.0, (h.0, rest.1))
 
-fit_split : (paths : Paths) (before after : List LateSeen) (c : LateSeen) → FitTexts paths (before ++ c ∷ after) → (paths.text c.path ≡ c.text) × FitTexts paths (before ++ after)
+fit_split : (paths : Paths) (before after : List LateSeen) (c : LateSeen) → FitTexts paths (before ++ c ∷ after) → (paths.text c.card.path ≡ c.card.text) × FitTexts paths (before ++ after)
 fit_split paths [] after c h = (h.0, h.1)
 fit_split paths (b ∷ bs) after c h = let rest = fit_split paths bs after c h.1 in (rest.0, (h.0, rest.1))
 
-pub taken_ready : (p : ℕ) (old new : List LateSeen) (c : LateSeen) → IsTaken p old c new → AreReady old → IsReady c × AreReady new
-taken_ready p old new c t h = let r = ready_split t.before t.after c (subst AreReady t.was h) in (r.0, subst AreReady (sym t.left) r.1)
+pub taken_ready : (s : Seat) (p : ℕ) (old new : List LateSeen) (c : LateSeen) → IsTaken p old c new → AreReady s old → IsReadCard s c.card c.unencoded × AreReady s new
+taken_ready s p old new c t h = let r = ready_split s t.before t.after c (subst (AreReady s) t.was h) in (r.0, subst (AreReady s) (sym t.left) r.1)
 
-pub taken_fits : (paths : Paths) (p : ℕ) (old new : List LateSeen) (c : LateSeen) → IsTaken p old c new → FitTexts paths old → (paths.text p ≡ c.text) × FitTexts paths new
+-- the same for an equal standing
+pub ready_as : (s s1 : Seat) (cs : List LateSeen) → s1 ≡ s → AreReady s cs → AreReady s1 cs
+ready_as s s1 cs same h = subst (λ (z : Seat). AreReady z cs) (sym same) h
+
+pub read_as : (s s1 : Seat) (c : CardSeen) (u : Bool) → s1 ≡ s → IsReadCard s c u → IsReadCard s1 c u
+read_as s s1 c u same h = subst (λ (z : Seat). IsReadCard z c u) (sym same) h
+
+pub taken_fits : (paths : Paths) (p : ℕ) (old new : List LateSeen) (c : LateSeen) → IsTaken p old c new → FitTexts paths old → (paths.text p ≡ c.card.text) × FitTexts paths new
 taken_fits paths p old new c t h =
     let r = fit_split paths t.before t.after c (subst (FitTexts paths) t.was h) in
     (ap paths.text (sym t.named) ∙ r.0, subst (FitTexts paths) (sym t.left) r.1)
@@ -360,7 +369,7 @@ taken_redone p old new c t h = record {
       let k1 = subst (λ (x : List LateSeen). contains q (paths_of x) ≡ true) t.left k in
       let none = (apart_split t.before t.after c (subst (λ (x : List LateSeen). AreApart (paths_of x)) t.was h)).1 in (
         subst (λ (x : List LateSeen). contains q (paths_of x) ≡ true) (sym t.was) (contains_split q t.before t.after c k1),
-        subst (λ (x : ℕ). (q == x) ≡ false) t.named (away_from q c.path (paths_of (t.before ++ t.after)) none k1),
+        subst (λ (x : ℕ). (q == x) ≡ false) t.named (away_from q c.card.path (paths_of (t.before ++ t.after)) none k1),
       );
   stay = λ q k other.
       subst (λ (x : List LateSeen). contains q (paths_of x) ≡ true) (sym t.left)
@@ -439,23 +448,23 @@ rounds_over d paths line0 given0 asked (Some s) line given given1 cards turns no
 
 -- late cards as cards are served
 
-ready_push : (cs : List LateSeen) (c : LateSeen) → IsReady c → AreReady cs → AreReady (cs ++ c ∷ [])
-ready_push [] c r h = (r, tt)
-ready_push (x ∷ xs) c r h = (h.0, ready_push xs c r h.1)
+ready_push : (s : Seat) (cs : List LateSeen) (c : LateSeen) → IsReadCard s c.card c.unencoded → AreReady s cs → AreReady s (cs ++ c ∷ [])
+ready_push s [] c r h = (r, tt)
+ready_push s (x ∷ xs) c r h = (h.0, ready_push s xs c r h.1)
 
-pub grows_ready : (old : List LateSeen) (c : LateSeen) (new : List LateSeen) → GrowsLate old c new → IsReady c → AreReady old → AreReady new
-grows_ready old c new (inl e) r h = subst AreReady (sym e) h
-grows_ready old c new (inr (inl e)) r h = subst AreReady (sym e) (ready_push old c r h)
-grows_ready old c new (inr (inr e)) r h = subst AreReady (sym e) tt
+pub grows_ready : (s : Seat) (old new : List LateSeen) (path : ℕ) (text : List ℕ) → GrowsLate s old path text new → AreReady s old → AreReady s new
+grows_ready s old new path text (inl e) h = subst (AreReady s) (sym e) h
+grows_ready s old new path text (inr (inl e)) h = subst (AreReady s) (sym e.1) (ready_push s old e.0 e.2 h)
+grows_ready s old new path text (inr (inr e)) h = subst (AreReady s) (sym e) tt
 
-fits_push : (paths : Paths) (cs : List LateSeen) (c : LateSeen) → paths.text c.path ≡ c.text → FitTexts paths cs → FitTexts paths (cs ++ c ∷ [])
+fits_push : (paths : Paths) (cs : List LateSeen) (c : LateSeen) → paths.text c.card.path ≡ c.card.text → FitTexts paths cs → FitTexts paths (cs ++ c ∷ [])
 fits_push paths [] c r h = (r, tt)
 fits_push paths (x ∷ xs) c r h = (h.0, fits_push paths xs c r h.1)
 
-pub grows_fits : (paths : Paths) (old : List LateSeen) (c : LateSeen) (new : List LateSeen) → GrowsLate old c new → paths.text c.path ≡ c.text → FitTexts paths old → FitTexts paths new
-grows_fits paths old c new (inl e) r h = subst (FitTexts paths) (sym e) h
-grows_fits paths old c new (inr (inl e)) r h = subst (FitTexts paths) (sym e) (fits_push paths old c r h)
-grows_fits paths old c new (inr (inr e)) r h = subst (FitTexts paths) (sym e) tt
+pub grows_fits : (s : Seat) (paths : Paths) (old new : List LateSeen) (path : ℕ) (text : List ℕ) → GrowsLate s old path text new → paths.text path ≡ text → FitTexts paths old → FitTexts paths new
+grows_fits s paths old new path text (inl e) r h = subst (FitTexts paths) (sym e) h
+grows_fits s paths old new path text (inr (inl e)) r h = subst (FitTexts paths) (sym e.1) (fits_push paths old e.0 (ap paths.text e.3 ∙ (r ∙ sym e.4)) h)
+grows_fits s paths old new path text (inr (inr e)) r h = subst (FitTexts paths) (sym e) tt
 
 pub has_append : (q : ℕ) (xs ys : List ℕ) → contains q ys ≡ true → contains q (xs ++ ys) ≡ true
 has_append q [] ys h = h
@@ -493,18 +502,18 @@ pub apart_first : (xs ys : List ℕ) → AreApart (xs ++ ys) → AreApart xs
 apart_first [] ys h = tt
 apart_first (x ∷ xs) ys h = (false_of _ (λ has. cc (sym (has_front x xs ys has) ∙ h.0)), apart_first xs ys h.1)
 
-pub paths_push : (cs : List LateSeen) (c : LateSeen) → paths_of (cs ++ c ∷ []) ≡ paths_of cs ++ c.path ∷ []
+pub paths_push : (cs : List LateSeen) (c : LateSeen) → paths_of (cs ++ c ∷ []) ≡ paths_of cs ++ c.card.path ∷ []
 paths_push [] c = refl
-paths_push (x ∷ xs) c = ap (λ (ps : List ℕ). x.path ∷ ps) (paths_push xs c)
+paths_push (x ∷ xs) c = ap (λ (ps : List ℕ). x.card.path ∷ ps) (paths_push xs c)
 
-pub grows_apart : (old : List LateSeen) (c : LateSeen) (new : List LateSeen) (rest rest1 : List CardSeen) (w : CardSeen) → GrowsLate old c new → rest ≡ w ∷ rest1 → c.path ≡ w.path → AreApart (paths_of old ++ card_paths rest) → AreApart (paths_of new ++ card_paths rest1)
-grows_apart old c new rest rest1 w (inl e) i same h =
+pub grows_apart : (s : Seat) (old new : List LateSeen) (text : List ℕ) (rest rest1 : List CardSeen) (w : CardSeen) → GrowsLate s old w.path text new → rest ≡ w ∷ rest1 → AreApart (paths_of old ++ card_paths rest) → AreApart (paths_of new ++ card_paths rest1)
+grows_apart s old new text rest rest1 w (inl e) i h =
     subst (λ (x : List LateSeen). AreApart (paths_of x ++ card_paths rest1)) (sym e) (apart_drop w.path (paths_of old) (card_paths rest1) (rw i at h))
-grows_apart old c new rest rest1 w (inr (inl e)) i same h =
-    subst (λ (x : List LateSeen). AreApart (paths_of x ++ card_paths rest1)) (sym e)
-    (subst (λ (x : List ℕ). AreApart (x ++ card_paths rest1)) (sym (paths_push old c))
-    (subst AreApart (sym (append_assoc (paths_of old) (c.path ∷ []) (card_paths rest1))) (subst (λ (x : ℕ). AreApart (paths_of old ++ x ∷ card_paths rest1)) (sym same) (rw i at h))))
-grows_apart old c new rest rest1 w (inr (inr e)) i same h =
+grows_apart s old new text rest rest1 w (inr (inl e)) i h =
+    subst (λ (x : List LateSeen). AreApart (paths_of x ++ card_paths rest1)) (sym e.1)
+    (subst (λ (x : List ℕ). AreApart (x ++ card_paths rest1)) (sym (paths_push old e.0))
+    (subst AreApart (sym (append_assoc (paths_of old) (e.0.card.path ∷ []) (card_paths rest1))) (subst (λ (x : ℕ). AreApart (paths_of old ++ x ∷ card_paths rest1)) (sym e.3) (rw i at h))))
+grows_apart s old new text rest rest1 w (inr (inr e)) i h =
     subst (λ (x : List LateSeen). AreApart (paths_of x ++ card_paths rest1)) (sym e) (apart_last (paths_of old) (card_paths rest1) (apart_drop w.path (paths_of old) (card_paths rest1) (rw i at h)))
 
 -- the end of a talk
@@ -670,7 +679,7 @@ fits_names paths old new k e = k.0 ∙ (e ∙ ap (map paths.text) (sym k.1))
 
 pub some_cards : (cs : List LateSeen) → (cs ≡ [] → ⊥) → is_empty (newest (paths_of cs)) ≡ false
 some_cards [] h = absurd (h refl)
-some_cards (c ∷ cs) h = newest_empty (c.path ∷ paths_of cs) (omega arith)
+some_cards (c ∷ cs) h = newest_empty (c.card.path ∷ paths_of cs) (omega arith)
 
 pub served : (d : ℕ) (paths : Paths) (asked : List ℕ) (starter last : StarterSeen) (line : LineView) (given0 given : List Given) → ((v w : LineView) (es : List Exchange) → v.session ≡ None → w.session ≡ None → RunsTo paths v es w → HasItems paths v es w)
     → ((v w : LineView) (es : List Exchange) → v.session ≡ None → w.session ≡ None → RunsTo paths v es w → w.starter.out ≡ v.starter.out)

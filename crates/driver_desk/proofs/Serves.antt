@@ -346,9 +346,9 @@ asked_done session session1 reply.Delayed ready goes e = absurd (cc e)
 asked_done session session1 (reply.Broken c) ready goes e = absurd (cc e)
 asked_done session session1 reply.NoMemory ready goes e = absurd (cc e)
 
-pub newest_card : (cs : List LateSeen) (c : LateSeen) → newest (paths_of (cs ++ c ∷ [])) ≡ c.path ∷ newest (paths_of cs)
-newest_card cs c = ap newest (push cs) ∙ newest_push (paths_of cs) c.path
+pub newest_card : (cs : List LateSeen) (c : LateSeen) → newest (paths_of (cs ++ c ∷ [])) ≡ c.card.path ∷ newest (paths_of cs)
+newest_card cs c = ap newest (push cs) ∙ newest_push (paths_of cs) c.card.path
   where
-    push : (xs : List LateSeen) → paths_of (xs ++ c ∷ []) ≡ paths_of xs ++ c.path ∷ []
+    push : (xs : List LateSeen) → paths_of (xs ++ c ∷ []) ≡ paths_of xs ++ c.card.path ∷ []
     push [] = refl
-    push (x ∷ xs) = ap (λ (ps : List ℕ). x.path ∷ ps) (push xs)
+    push (x ∷ xs) = ap (λ (ps : List ℕ). x.card.path ∷ ps) (push xs)

@@ -4,8 +4,8 @@ use Rattle.std.proofs.Common.{ℕ, ◌≡◌, ◌<◌, ◌+◌, length, List, ap
 use Rattle.checkout_core.specs.Talks.{contains}
 use Rattle.driver_line.specs.Lines.{names_in, weight}
 use Rattle.driver_desk.specs.Late.{cards_of}
-use Rattle.driver_desk.specs.Rounds.{LateSeen, paths_of, FitTexts}
-use Rattle.driver_desk.proofs.RoundSteps.{next_listed, listed, listed_at, open_live, fewer_round, some_at}
+use Rattle.driver_desk.specs.Rounds.{LateSeen, paths_of, AreReady, FitTexts}
+use Rattle.driver_desk.proofs.RoundSteps.{ready_as, next_listed, listed, listed_at, open_live, fewer_round, some_at}
 use Rattle.driver_desk.proofs.RoundCalls.{lists, after_list_at, names_same}
 use Rattle.driver_desk.proofs.rounds.one_round.Goals as goal
 
@@ -19,6 +19,12 @@ redo_all-requires-clause-state g c κs within =
     let k = lists _ _ c.args.line.now.session (paths_of (cards_of c.args.late.now)) _ c.list-reply.result c.requires.open c.requires.state (names_same _ _ _ _ _ c.list-reply.ensures.kept.1 c.list-reply.ensures.names) in
     after_list_at _ _ c.args.line.now.session c.list-reply.new.line.session c.args.late.now c.list-reply.new.self k.2 c.list-reply.result k.0 k.1 c.requires.open c.list-reply.ensures.goes c.list-reply.ensures.cards c.list-reply.ensures.kept.1 k.4
     (c.note_list.ensures.next _ k.2 k.0 k.1 k.3)
+
+pub redo_all-requires-clause-ready : goal.redo_all-requires-clause-ready
+redo_all-requires-clause-ready g c κs within = ready_as _ _ _ c.note_list.ensures.standing (subst (AreReady _) (sym c.list-reply.ensures.cards) c.requires.ready)
+
+pub returns-clause-ready : goal.returns-clause-ready
+returns-clause-ready g c = ready_as _ _ _ (sym c.note_list.ensures.standing) c.redo_all.ensures.ready
 
 pub redo_all-requires-clause-next : goal.redo_all-requires-clause-next
 redo_all-requires-clause-next g c κs within = next_listed c.args.line.now.session c.list-reply.new.line.session c.list-reply.result c.requires.open c.list-reply.ensures.goes

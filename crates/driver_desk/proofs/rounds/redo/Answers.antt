@@ -1,4 +1,6 @@
-use Rattle.std.proofs.Common.{refl, sym, ◌∙◌}
+use Rattle.std.proofs.Common.{refl, sym, subst, ◌∙◌, ◌≤◌, ℕ, List, length}
+use Rattle.convert_plan.specs.Card.{card_seen}
+use Rattle.driver_desk.proofs.Closings.{read_fresh, read_some, read_few, asked_again}
 use Rattle.driver_desk.proofs.Serves.{closing}
 use Rattle.driver_desk.proofs.RoundSteps.{redone, open_live, next_after}
 use Rattle.driver_desk.proofs.Places.{own_driver}
@@ -15,6 +17,18 @@ pub note-requires-clause-next : goal.note-requires-clause-next
 note-requires-clause-next g c =
     let r = c.requires.state in
     (asks_again c.desk_laws.ensures _ _ _ c.args.line.now.session c.ask_again-reply.new.self.session c.args.work.card.path c.ask_again-reply.result.reply r.0 r.1 c.requires.open c.ask_again-reply.ensures.may c.ask_again-reply.ensures.goes refl r.2 r.3).may
+
+pub ask_again-reply-requires-clause-fresh : goal.ask_again-reply-requires-clause-fresh
+ask_again-reply-requires-clause-fresh g c κs within = read_fresh _ _ _ c.requires.read
+
+pub ask_again-reply-requires-clause-some : goal.ask_again-reply-requires-clause-some
+ask_again-reply-requires-clause-some g c κs within = subst (λ (x : List ℕ). 1 ≤ length x) (sym c.as_slice.ensures) (read_some _ _ _ c.requires.read)
+
+pub ask_again-reply-requires-clause-few : goal.ask_again-reply-requires-clause-few
+ask_again-reply-requires-clause-few g c κs within = subst (λ (x : List ℕ). length x ≤ 4096) (sym c.as_slice.ensures) (read_few _ _ _ c.requires.read)
+
+pub after_second-requires-clause-asked : goal.after_second-requires-clause-asked
+after_second-requires-clause-asked g c = asked_again _ _ (card_seen g.B.Blob.told g.B.Blob.seen g.L.Leaf.seen c.args.work.card) _ _ _ c.note.ensures.standing c.requires.read refl c.ask_again-reply.ensures.kept
 
 pub after_second-requires-clause-may : goal.after_second-requires-clause-may
 after_second-requires-clause-may g c h is =

@@ -1,4 +1,5 @@
-use Rattle.std.proofs.Common.{ap, sym, ◌∙◌, List, refl}
+use Rattle.std.proofs.Common.{ap, sym, ◌∙◌, List, refl, inl, inr}
+use Rattle.convert_plan.specs.Card.{card_seen}
 use Rattle.filter_words.specs.declared.reply.Reply.{Reply}
 use Rattle.checkout_core.specs.declared.path.Heard.TheVariants as heard
 use Rattle.checkout_core.specs.Fates.{fate_here}
@@ -7,15 +8,18 @@ use Rattle.driver_desk.specs.Late.{cards_of}
 use Rattle.driver_desk.specs.Serving.{newest, late_after}
 use Rattle.driver_desk.proofs.Serves.{newest_card}
 use Rattle.driver_desk.proofs.LateCards.{idle_next}
-use Rattle.driver_desk.proofs.Calls.{may_error, may_over, answered_ends, answered_waits, answered_lost, at_as, at_none, lost_as, over_none}
+use Rattle.driver_desk.proofs.Calls.{drop_wanted, may_error, may_over, answered_ends, answered_waits, answered_lost, at_as, at_none, lost_as, over_none}
 use Rattle.driver_desk.proofs.serving.after_reply.Goals as goal
 
 pub close_got-requires-clause-may : goal.close_got-requires-clause-may
-close_got-requires-clause-may g c = (heard.Got, c.requires.may heard.Got (ap fate_here c.in-Content.is))
+close_got-requires-clause-may g c = c.requires.may heard.Got (ap fate_here c.in-Content.is)
 
 pub returns-in-Delayed-clause-late : goal.returns-in-Delayed-clause-late
 returns-in-Delayed-clause-late g c =
-    ap (λ (x : List LateSeen). newest (paths_of x)) c.keep.ensures.cards ∙ (newest_card (cards_of c.args.late.now) (late_seen c.args.work.card.path c.args.work.card.text (g.L.Leaf.seen c.args.work.card.leaf).state) ∙ ap (λ (r : Reply). late_after c.args.work.card.path r (newest (paths_of (cards_of c.args.late.now)))) (sym c.in-Delayed.is))
+    ap (λ (x : List LateSeen). newest (paths_of x)) c.keep.ensures.cards ∙ (newest_card (cards_of c.args.late.now) (late_seen (card_seen g.B.Blob.told g.B.Blob.seen g.L.Leaf.seen c.args.work.card) c.args.work.unencoded) ∙ ap (λ (r : Reply). late_after c.args.work.card.path r (newest (paths_of (cards_of c.args.late.now)))) (sym c.in-Delayed.is))
+
+pub returns-in-Delayed-clause-cards : goal.returns-in-Delayed-clause-cards
+returns-in-Delayed-clause-cards g c = inr (inl (_, c.keep.ensures.cards, c.requires.untouched c.in-Delayed.is, refl, refl))
 
 pub returns-in-Delayed-clause-idle : goal.returns-in-Delayed-clause-idle
 returns-in-Delayed-clause-idle g c = idle_next c.args.late.now c.keep.new.self c.args.place c.requires.idle c.keep.ensures.table c.keep.ensures.numbers
@@ -50,7 +54,7 @@ returns-in-Abort-clause-next g c rest first t a =
     (answered_lost c.desk_laws.ensures _ _ _ c.args.reply c.args.work.card.path names rest first t none a c.refuse-in-Abort.ensures.ends)))
 
 pub close_empty-requires-clause-may : goal.close_empty-requires-clause-may
-close_empty-requires-clause-may g c = (heard.OutOfMemory, c.requires.may heard.OutOfMemory (ap fate_here c.in-NoMemory.is))
+close_empty-requires-clause-may g c = drop_wanted _ _ _ c.args.put (c.requires.may heard.OutOfMemory (ap fate_here c.in-NoMemory.is))
 
 pub close_late-requires-in-NoMemory-clause-next : goal.close_late-requires-in-NoMemory-clause-next
 close_late-requires-in-NoMemory-clause-next g c =

@@ -8,7 +8,7 @@ use Rattle.driver_desk.proofs.serving.close_late.Given as goal
 
 abbrev pub invariant-loop-work : goal.invariant-loop-work
 invariant-loop-work g l = record {
-  ready : AreReady (cards_of l.late);
+  ready : AreReady (g.C.Recorder.standing l.initial.recorder) (cards_of l.late);
   closed : AreClosings (g.C.Recorder.given l.initial.recorder) (g.C.Recorder.given l.recorder);
   names : KeepsNames l.initial.late l.late;
   idle : (q : ℕ) → AreIdle q l.initial.late → AreIdle q l.late;

@@ -5,6 +5,8 @@ use Rattle.checkout_core.specs.Conditions.{heard_opening}
 use Rattle.driver_desk.specs.Recorders.{MayEnd}
 use Rattle.driver_desk.proofs.Serves.{serves_ahead, serves_closed, serves_past, past_smudge, closing}
 use Rattle.driver_desk.proofs.Calls.{ended_at, serving_as, serving_ends, unopened_ends, unsmudged_ends}
+use Rattle.driver_desk.proofs.RoundSteps.{ready_as}
+use Rattle.driver_desk.proofs.Closings.{asked_not, planned_as, grows_as}
 use Rattle.driver_desk.proofs.serving.serve_card.Goals as goal
 
 pub not_opened-requires-clause-may : goal.not_opened-requires-clause-may
@@ -12,6 +14,21 @@ not_opened-requires-clause-may g c =
     let r = c.requires.next in
     let k = (c.in-Some.ensures.fails c.in-Some.cause refl _ r.0 r.1 r.2).0 in
     subst (λ (q : ℕ). MayEnd (g.C.Recorder.standing c.open_for.new.recorder) (g.C.Recorder.given c.open_for.new.recorder) q (heard_opening c.in-Some.cause)) (sym c.keep_ready-work.ensures.path) k.may
+
+pub not_opened-requires-clause-asked : goal.not_opened-requires-clause-asked
+not_opened-requires-clause-asked g c = asked_not _ _ _ _ _ c.args.prepared c.args.seat.required c.open_for.ensures.standing c.requires.required c.requires.planned c.requires.prepared c.keep_ready-work.ensures.card c.keep_ready-work.ensures.flag
+
+pub refuse-requires-clause-asked : goal.refuse-requires-clause-asked
+refuse-requires-clause-asked g c = asked_not _ _ _ _ _ c.args.prepared c.args.seat.required c.open_for.ensures.standing c.requires.required c.requires.planned c.requires.prepared c.keep_ready-work-then-not-has_smudge.ensures.card c.keep_ready-work-then-not-has_smudge.ensures.flag
+
+pub ask_card-requires-clause-planned : goal.ask_card-requires-clause-planned
+ask_card-requires-clause-planned g c κs within = planned_as _ _ _ _ c.open_for.ensures.standing refl c.requires.planned
+
+pub ask_card-requires-clause-ready : goal.ask_card-requires-clause-ready
+ask_card-requires-clause-ready g c κs within = ready_as _ _ _ c.open_for.ensures.standing c.requires.ready
+
+pub returns-clause-cards : goal.returns-clause-cards
+returns-clause-cards g c = grows_as _ _ _ _ _ _ _ _ (sym c.open_for.ensures.standing) refl refl c.ask_card.ensures.cards
 
 pub refuse-requires-clause-may : goal.refuse-requires-clause-may
 refuse-requires-clause-may g c =

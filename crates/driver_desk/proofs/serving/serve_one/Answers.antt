@@ -1,5 +1,5 @@
 use Rattle.std.proofs.Common.{refl, ap, sym, subst, ◌∙◌, ◌++◌, ◌∷◌, ◌+◌, [], ℕ, Ok, Err, false}
-use Rattle.convert_plan.specs.Card.{CardSeen, card_seen}
+use Rattle.convert_plan.specs.Card.{CardSeen, card_seen, IsPrepared}
 use Rattle.checkout_core.specs.declared.event.Event.TheVariants.{Close}
 use Rattle.checkout_core.specs.declared.path.Heard.TheVariants as heard
 use Rattle.checkout_core.specs.declared.verdict.FilterCause.TheVariants as cause
@@ -11,6 +11,7 @@ use Rattle.driver_desk.proofs.Serves.{work_past, work_failed, serves_asked, clos
 use Rattle.driver_desk.proofs.RoundSteps.{serves_as}
 use Rattle.driver_desk.proofs.CardLists.{alone_own}
 use Rattle.driver_desk.proofs.Calls.{aborted_ends, aborted_as, ended_at, serving_as, serving_ends, serving_fails, serving_next}
+use Rattle.driver_desk.proofs.Closings.{asked_not, planned_as, grows_as, read_ok}
 use Rattle.driver_desk.proofs.serving.serve_one.Goals as goal
 
 pub refuse-requires-clause-may : goal.refuse-requires-clause-may
@@ -21,6 +22,27 @@ refuse-requires-clause-may g c =
       subst (λ (q : ℕ). MayEnd (g.C.Recorder.standing c.args.recorder.now) (g.C.Recorder.given c.args.recorder.now) q (heard.Refused cause.Abort)) (sym path)
           (aborted_ends c.desk_laws.ensures _ _ _ _ _ c.args.card.path r.0 c.if-aborted.true (serving_next _ _ _ _ _ c.args.card.path r.0 r.2)),
     )
+
+pub refuse-requires-clause-asked : goal.refuse-requires-clause-asked
+refuse-requires-clause-asked g c =
+    let same = read_ok _ _ c.in-Ok.prepared c.read_card.ensures.kept c.in-Ok.ensures.counts in
+    asked_not (g.C.Recorder.standing c.args.recorder.now) (g.C.Recorder.standing c.args.recorder.now) _ _ _ c.in-Ok.prepared c.args.seat.required refl c.requires.required (planned_as (g.C.Recorder.standing c.args.recorder.now) (g.C.Recorder.standing c.args.recorder.now) _ _ refl same c.requires.planned) (subst (λ (x : CardSeen). IsPrepared x c.in-Ok.prepared) (sym same) c.in-Ok.ensures.read) c.keep_ready-work.ensures.card c.keep_ready-work.ensures.flag
+
+pub serve_card-requires-clause-planned : goal.serve_card-requires-clause-planned
+serve_card-requires-clause-planned g c κs within = planned_as (g.C.Recorder.standing c.args.recorder.now) (g.C.Recorder.standing c.args.recorder.now) _ _ refl (read_ok _ _ c.in-Ok.prepared c.read_card.ensures.kept c.in-Ok.ensures.counts) c.requires.planned
+
+pub serve_card-requires-clause-prepared : goal.serve_card-requires-clause-prepared
+serve_card-requires-clause-prepared g c κs within = subst (λ (x : CardSeen). IsPrepared x c.in-Ok.prepared) (sym (read_ok _ _ c.in-Ok.prepared c.read_card.ensures.kept c.in-Ok.ensures.counts)) c.in-Ok.ensures.read
+
+pub close_unread-requires-clause-leaf : goal.close_unread-requires-clause-leaf
+close_unread-requires-clause-leaf g c = ap (λ (x : CardSeen). x.leaf.state) c.read_card.ensures.kept ∙ ((c.requires.planned.2).new_leaf).fresh
+
+pub close_unread-requires-clause-unread : goal.close_unread-requires-clause-unread
+close_unread-requires-clause-unread g c = record { planned = _; is_planned = c.requires.planned; same = c.read_card.ensures.kept; reads = c.in-Err.ensures.read; counts = c.in-Err.ensures.counts }
+
+pub returns-else-aborted-clause-cards : goal.returns-else-aborted-clause-cards
+returns-else-aborted-clause-cards g c =
+    grows_as _ _ _ _ _ _ _ _ refl (sym (ap (λ (x : CardSeen). x.path) c.read_card.ensures.kept)) (sym (ap (λ (x : CardSeen). x.text) c.read_card.ensures.kept)) c.serve_card.ensures.cards
 
 pub serve_card-requires-clause-next : goal.serve_card-requires-clause-next
 serve_card-requires-clause-next g c κs within =
