@@ -1,13 +1,15 @@
 -- Cards that are read, asked for, closed and given back.
-use Rattle.std.proofs.Common.{◌≡◌, inl, inr, arith, ℕ, ◌≤◌, Bool, true, false, List, [], length, Option, Some, None, Result, Ok, Err, refl, sym, ap, subst, ◌∙◌}
+use Rattle.std.proofs.Common.{◌≡◌, inl, inr, arith, ℕ, ◌≤◌, Bool, true, false, List, [], ◌++◌, length, Option, Some, None, Result, Ok, Err, refl, sym, ap, subst, ◌∙◌}
 use Rattle.std.specs.Prelude.{⊤, is_some}
 use Rattle.std.specs.Option.{option_map}
 use Rattle.edge_kit.specs.Faults.{Rose}
-use Rattle.edge_kit.specs.Files.{IsOpenLeaf}
+use Rattle.edge_kit.specs.Files.{IsOpenLeaf, grown}
 use Rattle.edge_kit.specs.Seen.{LeafSeen, Discards, emptied}
 use Rattle.edge_kit.specs.declared.faults.Failed.{Failed}
 use Rattle.edge_kit.specs.declared.faults.SendFault.{SendFault}
-use Rattle.edge_kit.specs.declared.leaf_state.LeafState.TheVariants.{Fresh, Gone}
+use Rattle.edge_kit.specs.declared.leaf_state.LeafState.{LeafState}
+use Rattle.edge_kit.specs.declared.leaf_state.LeafState.TheVariants.{Fresh, Sealed, Gone}
+use Rattle.edge_kit.specs.Told.{Tells}
 use Rattle.edge_kit.specs.declared.leaf_state.Mark.{Mark}
 use Rattle.checkout_core.specs.declared.path.Heard.{Heard}
 use Rattle.checkout_core.specs.declared.path.Heard.TheVariants.{Got, Refused, Lost, OutOfMemory}
@@ -185,7 +187,7 @@ pub read_ok : {T : Type 0} (old new : CardSeen) (x : T) → KeepsCard old new �
 read_ok old new x k n = k ∙ ap (λ (z : ℕ). record old { blob = record old.blob { faults = z } }) n
 
 -- what a leaf shows that was given up
-discards_gone : {T : Type 0} (old new : LeafSeen) (r : Result T Failed) → Discards old new r → IsGivenUp new.state
+pub discards_gone : {T : Type 0} (old new : LeafSeen) (r : Result T Failed) → Discards old new r → IsGivenUp new.state
 discards_gone old new (Ok x) h = inl (ap (λ (l : LeafSeen). l.state) h)
 discards_gone old new (Err e) h = inr (ap (λ (l : LeafSeen). l.state) h.kept)
 
@@ -277,3 +279,23 @@ closes_unread s given c o l x h d =
       unready = refl;
       shows = inl (record { reads = h.reads; counts = h.counts; leaf = discards_gone c.leaf l x d });
     }
+
+-- what was given up isn't sealed
+pub gone_sealed : {A : Type 0} (state : LeafState) (m : Mark) → IsGivenUp state → state ≡ Sealed m → A
+gone_sealed state m (inl e) i = absurd (cc (e, i))
+gone_sealed state m (inr e) i = absurd (cc (e, i))
+
+-- a fresh leaf has what was put
+pub got_told : (s : Standing) (c : CardSeen) (u : Bool) (new : LeafSeen) (content : List ℕ) → IsReadCard s c u → new.content ≡ grown c.leaf.content content → Tells new.content content
+got_told s c u new content h e = subst (λ (o : Option (List ℕ)). Tells o content) (sym e) (go c.leaf.content (subst (λ (l : LeafSeen). Tells l.content []) (sym (ap (λ (x : CardSeen). x.leaf) h.same)) ((h.is_planned.2).new_leaf).content))
+  where
+    go : (o : Option (List ℕ)) → Tells o [] → Tells (grown o content) content
+    go None t = tt
+    go (Some w) t = ap (λ (x : List ℕ). x ++ content) t
+
+pub planned_told : (s : Standing) (c : CardSeen) (new : LeafSeen) (content : List ℕ) → IsPlanned s c → new.content ≡ grown c.leaf.content content → Tells new.content content
+planned_told s c new content h e = subst (λ (o : Option (List ℕ)). Tells o content) (sym e) (go c.leaf.content ((h.2).new_leaf).content)
+  where
+    go : (o : Option (List ℕ)) → Tells o [] → Tells (grown o content) content
+    go None t = tt
+    go (Some w) t = ap (λ (x : List ℕ). x ++ content) t

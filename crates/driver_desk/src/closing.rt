@@ -12,9 +12,9 @@ ghost use Rattle.edge_kit.specs.declared.leaf_state.LeafState.{LeafState};
 ghost use Rattle.edge_kit.specs.declared.leaf_state.LeafState.TheVariants.{Fresh, Broken, Sealed, Gone};
 ghost use Rattle.filter_proto.specs.Replies.{IsKept};
 ghost use Rattle.driver_desk.specs.Cards.{IsAskedCard, IsUnreadCard};
-ghost use Rattle.driver_desk.specs.Shown.{ShowsLeaf};
+ghost use Rattle.driver_desk.specs.Shown.{IsGivenUp, ShowsLeaf};
 ghost use Rattle.driver_desk.specs.Recorders.{MayDo, MayDrop, MayEnd, IsEnd, ShowsClose};
-ghost use Rattle.driver_desk.specs.Serving.{Given};
+ghost use Rattle.driver_desk.specs.Serving.{AreClosings, NoAnswer};
 
 use crate::recorder::Recorder;
 use checkout_core::Own;
@@ -35,6 +35,7 @@ fn write_failed<L: Leaf>(leaf: &mut L) -> Own
     requires { (L.seen leaf.old).state ≡ Broken }
     ensures own { result ≡ Own.WriteFailed }
     ensures path { (L.seen leaf.new).path ≡ (L.seen leaf.old).path }
+    ensures gone { IsGivenUp (L.seen leaf.new).state }
     ensures shows { (before : LeafSeen) (fine : LeafState) (u : Bool) → Rose before.faults (L.seen leaf.old).faults
         → ShowsLeaf fine u result before (L.seen leaf.new) }
 {
@@ -49,6 +50,7 @@ fn put_failed<L: Leaf>(leaf: &mut L, fault: SendFault) -> Own
     requires broken { fault ≡ SendFault.Failed → (L.seen leaf.old).state ≡ Broken }
     ensures read { was_read result ≡ true }
     ensures path { (L.seen leaf.new).path ≡ (L.seen leaf.old).path }
+    ensures gone { IsGivenUp (L.seen leaf.new).state }
     ensures failed { (u : Bool) → result ≡ Own.Fine u → ⊥ }
     ensures shows { (before : LeafSeen) (fine : LeafState) (u : Bool) → IsKept before (L.seen leaf.old) (Err fault)
         → ShowsLeaf fine u result before (L.seen leaf.new) }
@@ -68,6 +70,8 @@ fn seal_leaf<L: Leaf>(leaf: &mut L, mark: Mark, put: Result<(), SendFault>, unen
     requires broken { put ≡ Err SendFault.Failed → (L.seen leaf.old).state ≡ Broken }
     ensures read { was_read result ≡ true }
     ensures path { (L.seen leaf.new).path ≡ (L.seen leaf.old).path }
+    ensures sealed { (m : Mark) → (L.seen leaf.new).state ≡ Sealed m
+        → (put ≡ Ok tt) × ((L.seen leaf.new).content ≡ (L.seen leaf.old).content) }
     ensures shows { (before : LeafSeen) → IsKept before (L.seen leaf.old) put
         → ShowsLeaf (Sealed mark) unencoded result before (L.seen leaf.new) }
 {
@@ -87,6 +91,7 @@ fn drop_leaf<L: Leaf>(leaf: &mut L, put: Result<(), SendFault>, unencoded: bool)
     requires broken { put ≡ Err SendFault.Failed → (L.seen leaf.old).state ≡ Broken }
     ensures read { was_read result ≡ true }
     ensures path { (L.seen leaf.new).path ≡ (L.seen leaf.old).path }
+    ensures gone { IsGivenUp (L.seen leaf.new).state }
     ensures put { (u : Bool) → result ≡ Own.Fine u → put ≡ Ok tt }
     ensures shows { (before : LeafSeen) → IsKept before (L.seen leaf.old) put
         → ShowsLeaf Gone unencoded result before (L.seen leaf.new) }
@@ -107,6 +112,8 @@ fn close<B: Blob, L: Leaf, C: Recorder<B, L>>(mut card: Card<B, L>, recorder: &m
     requires next { MayDo (C.standing recorder.old) (C.given recorder.old)
         (Close card.path ((C.standing recorder.old).workers + (C.standing recorder.old).driver) own) }
     ensures ends { IsEnd (C.standing recorder.old) (C.given recorder.old) card.path (C.given recorder.new) }
+    ensures closed { AreClosings (λ q told. (q ≡ card.path) × (told ≡ (L.seen card.leaf).content)
+        × (m : Mark) × ((L.seen card.leaf).state ≡ Sealed m)) (C.given recorder.old) (C.given recorder.new) }
     ensures standing { C.standing recorder.new ≡ C.standing recorder.old }
     ensures fixed { C.fixed recorder.new ≡ C.fixed recorder.old }
 {
@@ -123,6 +130,8 @@ pub(crate) fn close_got<B: Blob, L: Leaf, C: Recorder<B, L>>(
     requires asked { IsAskedCard (C.standing recorder.old) (card_seen B.told B.seen L.seen work.card) work.unencoded put }
     requires may { MayEnd (C.standing recorder.old) (C.given recorder.old) work.card.path Got }
     ensures ends { IsEnd (C.standing recorder.old) (C.given recorder.old) work.card.path (C.given recorder.new) }
+    ensures closed { AreClosings (λ q told. (put ≡ Ok tt) × (q ≡ work.card.path)
+        × (told ≡ (L.seen work.card.leaf).content)) (C.given recorder.old) (C.given recorder.new) }
     ensures standing { C.standing recorder.new ≡ C.standing recorder.old }
     ensures fixed { C.fixed recorder.new ≡ C.fixed recorder.old }
 {
@@ -140,6 +149,7 @@ pub(crate) fn close_empty<B: Blob, L: Leaf, C: Recorder<B, L>>(
     requires asked { IsAskedCard (C.standing recorder.old) (card_seen B.told B.seen L.seen work.card) work.unencoded put }
     requires may { MayDrop (C.standing recorder.old) (C.given recorder.old) work.card.path put }
     ensures ends { IsEnd (C.standing recorder.old) (C.given recorder.old) work.card.path (C.given recorder.new) }
+    ensures closed { AreClosings NoAnswer (C.given recorder.old) (C.given recorder.new) }
     ensures standing { C.standing recorder.new ≡ C.standing recorder.old }
     ensures fixed { C.fixed recorder.new ≡ C.fixed recorder.old }
 {
@@ -155,6 +165,7 @@ fn hand_back<B: Blob, L: Leaf, C: Recorder<B, L>>(mut work: Work<B, L>, recorder
     requires may { (why : FilterCause)
         × MayEnd (C.standing recorder.old) (C.given recorder.old) work.card.path (Refused why) }
     ensures ends { IsEnd (C.standing recorder.old) (C.given recorder.old) work.card.path (C.given recorder.new) }
+    ensures closed { AreClosings NoAnswer (C.given recorder.old) (C.given recorder.new) }
     ensures standing { C.standing recorder.new ≡ C.standing recorder.old }
     ensures fixed { C.fixed recorder.new ≡ C.fixed recorder.old }
 {
@@ -179,6 +190,7 @@ pub(crate) fn refuse<B: Blob, L: Leaf, C: Recorder<B, L>>(
     requires may { (why : FilterCause)
         × MayEnd (C.standing recorder.old) (C.given recorder.old) work.card.path (Refused why) }
     ensures ends { IsEnd (C.standing recorder.old) (C.given recorder.old) work.card.path (C.given recorder.new) }
+    ensures closed { AreClosings NoAnswer (C.given recorder.old) (C.given recorder.new) }
     ensures standing { C.standing recorder.new ≡ C.standing recorder.old }
     ensures fixed { C.fixed recorder.new ≡ C.fixed recorder.old }
 {
@@ -203,6 +215,7 @@ pub(crate) fn close_unread<B: Blob, L: Leaf, C: Recorder<B, L>>(
     requires next { MayDo (C.standing recorder.old) (C.given recorder.old)
         (Close card.path ((C.standing recorder.old).workers + (C.standing recorder.old).driver) own) }
     ensures ends { IsEnd (C.standing recorder.old) (C.given recorder.old) card.path (C.given recorder.new) }
+    ensures closed { AreClosings NoAnswer (C.given recorder.old) (C.given recorder.new) }
     ensures standing { C.standing recorder.new ≡ C.standing recorder.old }
     ensures fixed { C.fixed recorder.new ≡ C.fixed recorder.old }
 {

@@ -14,7 +14,8 @@ ghost use Rattle.driver_desk.specs.Cards.{IsReadCard, IsAskedCard};
 ghost use Rattle.driver_desk.specs.Recorders.{MayEnd, IsEnd};
 ghost use Rattle.driver_desk.specs.Places.{IsAt, IsServing, IsNaming, IsListing, AfterList, InRoundsAt, IsDone};
 ghost use Rattle.driver_desk.specs.Places.{named_talk};
-ghost use Rattle.driver_desk.specs.Serving.{Given, AreClosings, Serves, IsSane, newest, noted_in};
+ghost use Rattle.driver_desk.specs.Serving.{Given, AllSealed, AreClosings, GotContent, NoAnswer, Serves, IsSane};
+ghost use Rattle.driver_desk.specs.Serving.{newest, noted_in};
 
 use crate::closing::{Work, close_empty, close_got, refuse};
 use crate::late::Late;
@@ -36,7 +37,7 @@ fn note_names<B: Blob, L: Leaf, C: Recorder<B, L>>(recorder: &mut C, late: &Late
         → IsAt (C.standing recorder.new) (C.given recorder.new) cards [] first
         (named_talk delay waiting (names_at late.now)) }
     ensures noted { (more : List Given) × (C.given recorder.new ≡ C.given recorder.old ++ more)
-        × (noted_in more ≡ map Event.Named (names_at late.now)) }
+        × (noted_in more ≡ map Event.Named (names_at late.now)) × AllSealed NoAnswer more }
     ensures standing { C.standing recorder.new ≡ C.standing recorder.old }
     ensures fixed { C.fixed recorder.new ≡ C.fixed recorder.old }
 {
@@ -66,7 +67,8 @@ fn note_list<B: Blob, L: Leaf, C: Recorder<B, L>>(
     ensures standing { C.standing recorder.new ≡ C.standing recorder.old }
     ensures fixed { C.fixed recorder.new ≡ C.fixed recorder.old }
     ensures noted { (more : List Given) × (C.given recorder.new ≡ C.given recorder.old ++ more)
-        × (noted_in more ≡ list_notes driver (names_in late.now.numbers late.now.table.turns reply) reply) }
+        × (noted_in more ≡ list_notes driver (names_in late.now.numbers late.now.table.turns reply) reply)
+        × AllSealed NoAnswer more }
 {
     desk_laws();
     match reply {
@@ -94,6 +96,8 @@ fn after_second<B: Blob, L: Leaf, C: Recorder<B, L>>(
         → MayEnd (C.standing recorder.old) (C.given recorder.old) work.card.path h }
     requires again { MayReply false reply }
     ensures ends { IsEnd (C.standing recorder.old) (C.given recorder.old) work.card.path (C.given recorder.new) }
+    ensures closed { AreClosings (GotContent reply put work.card.path (L.seen work.card.leaf).content)
+        (C.given recorder.old) (C.given recorder.new) }
     ensures standing { C.standing recorder.new ≡ C.standing recorder.old }
     ensures fixed { C.fixed recorder.new ≡ C.fixed recorder.old }
 {

@@ -5,7 +5,8 @@ ghost use Rattle.convert_plan.specs.Card.{card_seen, IsPrepared};
 ghost use Rattle.driver_line.specs.Lines.{LineView, Paths, IsOpen, starts_of};
 ghost use Rattle.driver_desk.specs.Late.{AreIdle, KeepsNames, StaysUnlisted, cards_of};
 ghost use Rattle.driver_desk.specs.Rounds.{paths_of, AreApart, AreReady, GrowsLate};
-ghost use Rattle.driver_desk.specs.Serving.{Given, AreClosings, Serves, newest, IsSane, late_after, is_abort};
+ghost use Rattle.driver_desk.specs.Serving.{Given, AreClosings, GotContent, NoAnswer, Serves, newest, IsSane};
+ghost use Rattle.driver_desk.specs.Serving.{late_after, is_abort};
 ghost use Rattle.driver_desk.specs.Works.{WorkSeen, ReadsAs, FitsWork, asked_of};
 ghost use Rattle.checkout_core.specs.Conditions.{heard_opening};
 ghost use Rattle.checkout_core.specs.declared.path.Heard.{Heard};
@@ -50,7 +51,7 @@ pub(crate) fn close_late<B: Blob, L: Leaf, C: Recorder<B, L>>(
         → IsAt (C.standing recorder.new) (C.given recorder.new) rest rest first t }
     ensures standing { C.standing recorder.new ≡ C.standing recorder.old }
     ensures fixed { C.fixed recorder.new ≡ C.fixed recorder.old }
-    ensures closed { AreClosings (C.given recorder.old) (C.given recorder.new) }
+    ensures closed { AreClosings NoAnswer (C.given recorder.old) (C.given recorder.new) }
     ensures none { cards_of late.new ≡ [] }
     ensures names { KeepsNames late.old late.new }
     ensures idle { (q : ℕ) → AreIdle q late.old → AreIdle q late.new }
@@ -198,7 +199,8 @@ fn after_reply<B: Blob, L: Leaf, C: Recorder<B, L>>(
         (cards_of late.new) }
     ensures late { newest (paths_of (cards_of late.new))
         ≡ late_after work.card.path reply (newest (paths_of (cards_of late.old))) }
-    ensures closed { AreClosings (C.given recorder.old) (C.given recorder.new) }
+    ensures closed { AreClosings (GotContent reply put work.card.path (L.seen work.card.leaf).content)
+        (C.given recorder.old) (C.given recorder.new) }
     ensures names { KeepsNames late.old late.new }
     ensures idle { AreIdle (place + 1) late.new }
     ensures turns { StaysUnlisted late.old late.new }
@@ -299,6 +301,7 @@ fn not_opened<B: Blob, L: Leaf, C: Recorder<B, L>>(
     requires required { (C.standing recorder.old).required ≡ required }
     requires may { MayEnd (C.standing recorder.old) (C.given recorder.old) work.card.path (heard_opening cause) }
     ensures ends { IsEnd (C.standing recorder.old) (C.given recorder.old) work.card.path (C.given recorder.new) }
+    ensures closed { AreClosings NoAnswer (C.given recorder.old) (C.given recorder.new) }
     ensures standing { C.standing recorder.new ≡ C.standing recorder.old }
     ensures fixed { C.fixed recorder.new ≡ C.fixed recorder.old }
 {

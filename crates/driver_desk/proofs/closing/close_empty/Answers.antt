@@ -1,4 +1,5 @@
-use Rattle.driver_desk.proofs.Closings.{closes_read, may_drop, shows_none}
+use Rattle.driver_desk.proofs.Serves.{closed_as}
+use Rattle.driver_desk.proofs.Closings.{gone_sealed, closes_read, may_drop, shows_none}
 use Rattle.driver_desk.proofs.closing.close_empty.Goals as goal
 
 pub drop_leaf-own-requires : goal.drop_leaf-own-requires
@@ -12,3 +13,6 @@ close-requires g c =
           (may_drop _ m.heard _ c.args.put m.refused c.drop_leaf-own.ensures.put);
       next = m.may.close c.drop_leaf-own.result c.drop_leaf-own.ensures.read;
     }
+
+pub returns-clause-closed : goal.returns-clause-closed
+returns-clause-closed g c = closed_as _ _ _ _ (λ q told k. gone_sealed _ k.2 c.drop_leaf-own.ensures.gone k.3) c.close.ensures.closed

@@ -1,9 +1,10 @@
-use Rattle.std.proofs.Common.{refl, ap, ◌∙◌}
+use Rattle.std.proofs.Common.{refl, ap, ◌∙◌, [], ◌∷◌}
 use Rattle.edge_kit.specs.Seen.{LeafSeen}
 use Rattle.checkout_core.specs.Desks.{was_read}
 use Rattle.checkout_core.specs.declared.path.Heard.TheVariants.{Refused}
 use Rattle.driver_desk.specs.Serving.{HandedBack}
-use Rattle.driver_desk.proofs.Closings.{closes_read, may_failed, refused_one, rose_kept}
+use Rattle.driver_desk.proofs.Serves.{closed_as}
+use Rattle.driver_desk.proofs.Closings.{gone_sealed, closes_read, may_failed, refused_one, rose_kept}
 use Rattle.driver_desk.proofs.closing.hand_back.Goals as goal
 
 pub restart-requires : goal.restart-requires
@@ -35,3 +36,9 @@ returns-in-Ok-clause-ends g c =
       may = m.1.back m.0 refl c.requires.free;
       shows = record { refused = refused_one _ _ _ _ c.requires.asked c.requires.free c.in-Ok.ensures; free = c.requires.free; why = m.0; told = m.1.told };
     }
+
+pub returns-in-Ok-clause-closed : goal.returns-in-Ok-clause-closed
+returns-in-Ok-clause-closed g c = (HandedBack _ ∷ [], c.hand_back.ensures.given, refl, (tt, tt))
+
+pub returns-in-Err-clause-closed : goal.returns-in-Err-clause-closed
+returns-in-Err-clause-closed g c = closed_as _ _ _ _ (λ q told k. gone_sealed _ k.2 c.write_failed-own.ensures.gone k.3) c.close.ensures.closed

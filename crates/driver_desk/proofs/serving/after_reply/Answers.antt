@@ -5,8 +5,8 @@ use Rattle.checkout_core.specs.declared.path.Heard.TheVariants as heard
 use Rattle.checkout_core.specs.Fates.{fate_here}
 use Rattle.driver_desk.specs.Rounds.{LateSeen, late_seen, paths_of}
 use Rattle.driver_desk.specs.Late.{cards_of}
-use Rattle.driver_desk.specs.Serving.{newest, late_after}
-use Rattle.driver_desk.proofs.Serves.{newest_card}
+use Rattle.driver_desk.specs.Serving.{NoAnswer, newest, late_after}
+use Rattle.driver_desk.proofs.Serves.{closed_all, closed_as, closed_none, no_closing, newest_card}
 use Rattle.driver_desk.proofs.LateCards.{idle_next}
 use Rattle.driver_desk.proofs.Calls.{drop_wanted, may_error, may_over, answered_ends, answered_waits, answered_lost, at_as, at_none, lost_as, over_none}
 use Rattle.driver_desk.proofs.serving.after_reply.Goals as goal
@@ -69,3 +69,18 @@ returns-in-NoMemory-clause-next g c rest first t a =
     let none = ap (λ (y : Reply). late_after c.args.work.card.path y (newest names)) c.in-NoMemory.is in
     at_none _ _ _ rest first t c.close_late-in-NoMemory.ensures.none (c.close_late-in-NoMemory.ensures.next rest first t (lost_as _ _ _ _ rest first t c.close_empty.ensures.standing
     (answered_lost c.desk_laws.ensures _ _ _ c.args.reply c.args.work.card.path names rest first t none a c.close_empty.ensures.ends)))
+
+pub returns-in-Content-clause-closed : goal.returns-in-Content-clause-closed
+returns-in-Content-clause-closed g c = closed_as _ _ _ _ (λ q told k. (c.in-Content.is, k.0, k.1, k.2)) c.close_got.ensures.closed
+
+pub returns-in-Error-clause-closed : goal.returns-in-Error-clause-closed
+returns-in-Error-clause-closed g c = closed_none _ _ _ c.refuse.ensures.closed
+
+pub returns-in-Delayed-clause-closed : goal.returns-in-Delayed-clause-closed
+returns-in-Delayed-clause-closed g c = no_closing _ _ _ refl
+
+pub returns-in-Abort-clause-closed : goal.returns-in-Abort-clause-closed
+returns-in-Abort-clause-closed g c = closed_none _ _ _ (closed_all NoAnswer _ _ _ c.refuse-in-Abort.ensures.closed c.close_late.ensures.closed)
+
+pub returns-in-NoMemory-clause-closed : goal.returns-in-NoMemory-clause-closed
+returns-in-NoMemory-clause-closed g c = closed_none _ _ _ (closed_all NoAnswer _ _ _ c.close_empty.ensures.closed c.close_late-in-NoMemory.ensures.closed)

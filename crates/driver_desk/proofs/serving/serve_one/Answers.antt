@@ -7,7 +7,7 @@ use Rattle.driver_desk.specs.Late.{cards_of}
 use Rattle.driver_desk.specs.Rounds.{AreApart, paths_of}
 use Rattle.driver_desk.specs.Recorders.{MayDo, MayEnd}
 use Rattle.driver_desk.specs.Places.{IsServing}
-use Rattle.driver_desk.proofs.Serves.{work_past, work_failed, serves_asked, closing}
+use Rattle.driver_desk.proofs.Serves.{work_past, work_failed, serves_asked}
 use Rattle.driver_desk.proofs.RoundSteps.{serves_as}
 use Rattle.driver_desk.proofs.CardLists.{alone_own}
 use Rattle.driver_desk.proofs.Calls.{aborted_ends, aborted_as, ended_at, serving_as, serving_ends, serving_fails, serving_next}
@@ -85,7 +85,7 @@ returns-then-aborted-clause-serves g c = (
   record { card = card_seen g.B.Blob.told g.B.Blob.seen g.L.Leaf.seen c.args.card; content = Ok c.in-Ok.prepared.bytes },
   refl,
   (c.in-Ok.prepared, c.in-Ok.ensures.read, refl),
-  λ paths line0 given0 asked fit s. work_past c.args.seat.driver paths line0 given0 asked c.args.card.path (Ok c.in-Ok.prepared.bytes) _ _ _ _ _ c.if-aborted.true (closing _ _ _ _ c.refuse.ensures.ends) s,
+  λ paths line0 given0 asked fit s. work_past c.args.seat.driver paths line0 given0 asked c.args.card.path (Ok c.in-Ok.prepared.bytes) _ _ _ _ _ c.if-aborted.true c.refuse.ensures.closed s,
 )
 
 pub returns-else-aborted-clause-serves : goal.returns-else-aborted-clause-serves
@@ -104,5 +104,5 @@ returns-in-Err-clause-serves g c = (
   record { card = card_seen g.B.Blob.told g.B.Blob.seen g.L.Leaf.seen c.args.card; content = Err c.in-Err.own },
   refl,
   c.in-Err.ensures.read,
-  λ paths line0 given0 asked fit s. work_failed c.args.seat.driver paths line0 given0 asked c.args.card.path (Err c.in-Err.own) c.in-Err.own _ _ _ _ _ refl (closing _ _ _ _ c.close_unread.ensures.ends) s,
+  λ paths line0 given0 asked fit s. work_failed c.args.seat.driver paths line0 given0 asked c.args.card.path (Err c.in-Err.own) c.in-Err.own _ _ _ _ _ refl c.close_unread.ensures.closed s,
 )
