@@ -1,6 +1,7 @@
 -- The calls of a desk while it serves cards.
-use Rattle.std.proofs.Common.{◌≡◌, ◌==◌, ◌⊎◌, inl, inr, ℕ, ◌+◌, Bool, true, false, cond, List, [], ◌∷◌, ◌++◌, Option, Some, None, refl, sym, ap, subst, ◌∙◌, append_assoc}
-use Rattle.std.specs.Prelude.{◌||◌, not}
+use Rattle.std.proofs.Common.{◌≡◌, ◌==◌, ◌⊎◌, inl, inr, ℕ, ◌+◌, Bool, true, false, cond, List, [], ◌∷◌, ◌++◌, Option, Some, None, Result, Ok, refl, sym, ap, subst, ◌∙◌, append_assoc}
+use Rattle.std.specs.Prelude.{◌||◌, not, ⊤}
+use Rattle.edge_kit.specs.declared.faults.SendFault.{SendFault}
 use Rattle.filter_words.specs.declared.reply.Caps.{Caps}
 use Rattle.filter_words.specs.declared.reply.BreakCause.{BreakCause}
 use Rattle.filter_words.specs.declared.reply.Reply.{Reply}
@@ -16,7 +17,7 @@ use Rattle.checkout_core.specs.declared.verdict.Own.{Own}
 use Rattle.checkout_core.specs.Agreements.{IsThrough, with_rest}
 use Rattle.checkout_core.specs.Conditions.{is_good_opening, heard_opening}
 use Rattle.checkout_core.specs.Desks.{may_fail, is_out_of_memory}
-use Rattle.checkout_core.specs.Fates.{Untold, Known, fate_here, fate_there}
+use Rattle.checkout_core.specs.Fates.{Untold, Later, Known, fate_here, fate_there}
 use Rattle.checkout_core.specs.Notes.{is_note}
 use Rattle.checkout_core.specs.Talks.{Talk, Between, Refusing, InRound, contains, without, is_empty, is_alone}
 use Rattle.core_laws.specs.Told.{ahead_fate, waits}
@@ -28,11 +29,11 @@ use Rattle.driver_line.specs.Conversations.{Exchange}
 use Rattle.driver_line.specs.Lines.{OpenIs, SessionAfter, GoesOn, MayReply, IsOpen}
 use Rattle.driver_desk.specs.Rounds.{AreApart, LateSeen, RedoneCards, IsTaken, paths_of}
 use Rattle.driver_desk.specs.Serving.{Given, Noted, talk_now, newest, late_after, is_abort}
-use Rattle.driver_desk.specs.Recorders.{Standing as Seat, MayDo, MayEnd, IsEnd}
-use Rattle.driver_desk.specs.Places.{DeskLaws, IsAt, IsOwn, IsServing, IsUnopened, IsAnswered, AreLost, KeepsLate, fate_now}
+use Rattle.driver_desk.specs.Recorders.{Standing as Seat, MayDo, MayEnd, MayDrop, IsEnd, fate_now}
+use Rattle.driver_desk.specs.Places.{DeskLaws, IsAt, IsOwn, IsServing, IsUnopened, IsAnswered, AreLost, AreGone, IsGone, KeepsLate}
 use Rattle.driver_desk.proofs.Serves.{opened_moves, refused_moves, first_moves, open_some}
 use Rattle.driver_desk.proofs.RoundSteps.{self, newest_has, eq_flip, paths_push}
-use Rattle.driver_desk.proofs.Places.{at_note, at_end_away, at_end, at_held, fate_noted, may_end, own_note, run_step, without_first, false_of, mid_has, first_has, rest_has, drop_first, drop_mid, head_out, apart_mid, last_out}
+use Rattle.driver_desk.proofs.Places.{away_of, front_has, gone_end, at_note, at_end_away, at_end, at_held, fate_noted, may_end, own_note, run_step, without_first, mid_has, first_has, rest_has, drop_first, drop_mid, head_out, apart_mid, last_out}
 
 -- the talk where one path was closed unasked
 with_now : (session : Option SessionSeen) (aborted : Bool) (names old rest : List ℕ) → with_rest rest (talk_now session aborted names old) ≡ talk_now session aborted names rest
@@ -212,18 +213,19 @@ serving_fails l s given session aborted late p rest o alone h =
     (may_now session aborted (newest late) p rest h.first o (eq_flip h.first p (head_out h.first p rest h.fresh).0))
 
 -- a request
-waits_now : (q : ℕ) (session : Option SessionSeen) (aborted : Bool) (names rest : List ℕ) → waits q (talk_now session aborted names rest) ≡ true → contains q names ≡ true
-waits_now q session true names rest h = absurd (cc (h))
-waits_now q None false names rest h = absurd (cc (h))
-waits_now q (Some x) false names rest h = go x.caps.smudge h
-  where
-    left : (b : Bool) → (b || false) ≡ true → b ≡ true
-    left true k = refl
-    left false k = k
+waits_smudge : (q : ℕ) (x : SessionSeen) (names rest : List ℕ) → x.caps.smudge ≡ true → contains q names ≡ true → waits q (talk_now (Some x) false names rest) ≡ true
+waits_smudge q x names rest smudge h =
+    ap (λ (b : Bool). waits q (cond b (InRound (record { delay = x.caps.delay; any_delayed = not (is_empty names); noting_list = false; rest = rest; late = names; turns = [] })) Refusing)) smudge ∙ ap (λ (b : Bool). b || false) h
 
-    go : (b : Bool) → waits q (cond b (InRound (record { delay = x.caps.delay; any_delayed = not (is_empty names); noting_list = false; rest = rest; late = names; turns = [] })) Refusing) ≡ true → contains q names ≡ true
-    go true k = left (contains q names) k
-    go false k = absurd (cc (k))
+-- a reply that leaves none late is the end of those that were
+gone_reply : (q p : ℕ) (y : Reply) (names : List ℕ) → contains q names ≡ true → late_after p y names ≡ [] → IsGone (fate_there y Later)
+gone_reply q p reply.Content names h none = let k : contains q [] ≡ true = ap (contains q) (sym none) ∙ h in absurd (cc (k))
+gone_reply q p reply.Error names h none = let k : contains q [] ≡ true = ap (contains q) (sym none) ∙ h in absurd (cc (k))
+gone_reply q p reply.ErrorAfter names h none = let k : contains q [] ≡ true = ap (contains q) (sym none) ∙ h in absurd (cc (k))
+gone_reply q p reply.Delayed names h none = absurd (cc (none))
+gone_reply q p reply.Abort names h none = inl refl
+gone_reply q p (reply.Broken c) names h none = inl refl
+gone_reply q p reply.NoMemory names h none = inr refl
 
 through_now : (x : SessionSeen) (names rest : List ℕ) → x.caps.smudge ≡ true → IsThrough (talk_now (Some x) false names rest) rest
 through_now x names rest smudge = subst (λ (b : Bool). IsThrough (cond b (InRound (record { delay = x.caps.delay; any_delayed = not (is_empty names); noting_list = false; rest = rest; late = names; turns = [] })) Refusing) rest) (sym smudge) tt
@@ -246,7 +248,7 @@ asks_in l s given given1 x session1 y p late rest smudge may goes g h apart = su
   may = k.0;
   first = h.first;
   told = λ z is. may_end l s (given ++ Noted (event.Answered p y) ∷ []) (p ∷ (late ++ rest)) rest h.first t1 p z at (first_has p (late ++ rest)) (told ∙ is);
-  answered = record { at = at; apart = apart; lost = λ q w. waits_now q session1 (is_abort y) (late_after p y (newest late)) rest w };
+  answered = record { at = at; apart = apart; gone = gone };
   fresh = h.fresh;
 })
   where
@@ -273,6 +275,14 @@ asks_in l s given given1 x session1 y p late rest smudge may goes g h apart = su
     told = fate_noted s given p (event.Answered p y) Untold note (l.ahead s given (p ∷ rest) h.first (talk_now (Some x) false (newest late) (p ∷ rest)) p (h.at).below (h.at).runs own (first_has p rest) ∙ ahead_now x (newest late) (p ∷ rest) smudge)
         ∙ ap (λ (b : Bool). cond b (fate_here y) (fate_there y Untold)) (self p)
 
+    gone : late_after p y (newest late) ≡ [] → AreGone s (given ++ Noted (event.Answered p y) ∷ []) late
+    gone none q i =
+        let here : contains q (late ++ rest) ≡ true = front_has q late rest i in
+        let mine : IsOwn s given q = (h.at).own q (rest_has q p (late ++ rest) here) in
+        let was : fate_now s given q ≡ Later = l.later s given (p ∷ rest) h.first (talk_now (Some x) false (newest late) (p ∷ rest)) q (h.at).below (h.at).runs mine (waits_smudge q x (newest late) (p ∷ rest) smudge (newest_has q late i)) in
+        let is : fate_now s (given ++ Noted (event.Answered p y) ∷ []) q ≡ fate_there y Later = fate_noted s given q (event.Answered p y) Later note was ∙ ap (λ (b : Bool). cond b (fate_here y) (fate_there y Later)) (away_of q p (late ++ rest) here apart.0) in
+        subst IsGone (sym is) (gone_reply q p y (newest late) (newest_has q late i) none)
+
 pub asks : (l : DeskLaws) (s : Seat) (given given1 : List Given) (session session1 : Option SessionSeen) (y : Reply) (p : ℕ) (late rest : List ℕ)
     → IsOpen session → ((x : SessionSeen) → session ≡ Some x → MayReply x.caps.delay y) → ((x : SessionSeen) → session ≡ Some x → GoesOn x (standing_after y) session1) → given1 ≡ given ++ Noted (event.Answered p y) ∷ []
     → IsServing s given session false late (p ∷ []) rest → AreApart (p ∷ (late ++ rest)) → Asked s given given1 session1 y p late rest
@@ -286,7 +296,7 @@ answered_ends l s given new y p late rest first t h z = at_end_away l s given ne
 
 -- it was delayed
 pub answered_waits : (s : Seat) (given : List Given) (y : Reply) (p : ℕ) (old new : List LateSeen) (c : LateSeen) (rest : List ℕ) (first : ℕ) (t : Talk)
-    → new ≡ old ++ c ∷ [] → c.path ≡ p → IsAnswered s given y p (paths_of old) rest first t → IsAt s given (paths_of new ++ rest) rest first t
+    → new ≡ old ++ c ∷ [] → c.card.path ≡ p → IsAnswered s given y p (paths_of old) rest first t → IsAt s given (paths_of new ++ rest) rest first t
 answered_waits s given y p old new c rest first t e same h =
     let is : paths_of new ++ rest ≡ paths_of old ++ p ∷ rest = ap (λ (x : List LateSeen). paths_of x ++ rest) e ∙ (ap (λ (x : List ℕ). x ++ rest) (paths_push old c ∙ ap (λ (q : ℕ). paths_of old ++ q ∷ []) same) ∙ append_assoc (paths_of old) (p ∷ []) rest) in
     at_held s given (p ∷ (paths_of old ++ rest)) (paths_of new ++ rest) rest first t (λ q. ap (contains q) is ∙ mid_has q p (paths_of old) rest) h.at
@@ -297,7 +307,7 @@ pub answered_lost : (l : DeskLaws) (s : Seat) (given new : List Given) (y : Repl
 answered_lost l s given new y p late rest first t none h z = record {
   at = answered_ends l s given new y p late rest first t h z;
   apart = (h.apart).1;
-  lost = λ q i. false_of (waits q t) (λ w. let k : contains q [] ≡ true = ap (contains q) (sym none) ∙ h.lost q w in cc (k));
+  gone = λ q i. gone_end s given new p q z (h.gone none q i);
 }
 
 -- what the arms of a reply may do
@@ -319,9 +329,15 @@ over_none p y names (inl e) = ap (λ (w : Reply). late_after p w names) e
 over_none p y names (inr e) = ap (λ (w : Reply). late_after p w names) e.1
 
 -- memory ran out for it; a second request is never delayed
-pub may_empty : (s : Seat) (given : List Given) (p : ℕ) (y : Reply) → (y ≡ reply.Delayed) ⊎ (y ≡ reply.NoMemory) → MayReply false y → ((h : Heard) → fate_here y ≡ Known h → MayEnd s given p h) → (h : Heard) × MayEnd s given p h
-may_empty s given p y (inl e) may k = let f : false ≡ true = subst (MayReply false) e may in absurd (cc (f))
-may_empty s given p y (inr e) may k = (heard.OutOfMemory, k heard.OutOfMemory (ap fate_here e))
+pub drop_wanted : (s : Seat) (given : List Given) (p : ℕ) (put : Result ⊤ SendFault) → MayEnd s given p heard.OutOfMemory → MayDrop s given p put
+drop_wanted s given p put k = record { heard = heard.OutOfMemory; may = k; without = λ i. absurd (cc (i)); refused = λ why i. absurd (cc (i)) }
+
+pub may_empty : (s : Seat) (given : List Given) (p : ℕ) (y : Reply) (put : Result ⊤ SendFault) → (y ≡ reply.Delayed) ⊎ (y ≡ reply.NoMemory) → MayReply false y → ((h : Heard) → fate_here y ≡ Known h → MayEnd s given p h) → MayDrop s given p put
+may_empty s given p y put (inl e) may k = let f : false ≡ true = subst (MayReply false) e may in absurd (cc (f))
+may_empty s given p y put (inr e) may k = drop_wanted s given p put (k heard.OutOfMemory (ap fate_here e))
+
+pub drop_unopened : (s : Seat) (given : List Given) (p : ℕ) (o : OpenCause) (put : Result ⊤ SendFault) → o ≡ opening.NoMemory → MayEnd s given p (heard_opening o) → MayDrop s given p put
+drop_unopened s given p o put e k = drop_wanted s given p put (subst (λ (x : OpenCause). MayEnd s given p (heard_opening x)) e k)
 
 -- no session was opened
 pub may_unopened : (s : Seat) (given : List Given) (p : ℕ) (o : OpenCause) → (o ≡ opening.NotStarted) ⊎ ((w : BreakCause) × (o ≡ opening.Broken w)) → MayEnd s given p (heard_opening o) → (why : FilterCause) × MayEnd s given p (heard.Refused why)
@@ -337,67 +353,72 @@ lost_none s given late rest first t none h = subst (λ (xs : List LateSeen). IsA
 
 -- one of the lost cards
 module _ (old new : List LateSeen) (p : ℕ) (c : LateSeen) (rest : List ℕ) (taken : IsTaken p old c new) where
-  paths_split : (before after : List LateSeen) (x : LateSeen) → paths_of (before ++ x ∷ after) ++ rest ≡ paths_of before ++ x.path ∷ (paths_of after ++ rest)
+  paths_split : (before after : List LateSeen) (x : LateSeen) → paths_of (before ++ x ∷ after) ++ rest ≡ paths_of before ++ x.card.path ∷ (paths_of after ++ rest)
   paths_split [] after x = refl
-  paths_split (b ∷ bs) after x = ap (λ (ps : List ℕ). b.path ∷ ps) (paths_split bs after x)
+  paths_split (b ∷ bs) after x = ap (λ (ps : List ℕ). b.card.path ∷ ps) (paths_split bs after x)
 
   paths_both : (before after : List LateSeen) → paths_of (before ++ after) ++ rest ≡ paths_of before ++ (paths_of after ++ rest)
   paths_both [] after = refl
-  paths_both (b ∷ bs) after = ap (λ (ps : List ℕ). b.path ∷ ps) (paths_both bs after)
+  paths_both (b ∷ bs) after = ap (λ (ps : List ℕ). b.card.path ∷ ps) (paths_both bs after)
 
-  was : paths_of old ++ rest ≡ paths_of taken.before ++ c.path ∷ (paths_of taken.after ++ rest)
+  was : paths_of old ++ rest ≡ paths_of taken.before ++ c.card.path ∷ (paths_of taken.after ++ rest)
   was = ap (λ (x : List LateSeen). paths_of x ++ rest) taken.was ∙ paths_split taken.before taken.after c
 
   now : paths_of new ++ rest ≡ paths_of taken.before ++ (paths_of taken.after ++ rest)
   now = ap (λ (x : List LateSeen). paths_of x ++ rest) taken.left ∙ paths_both taken.before taken.after
 
-  pub taken_apart_rest : AreApart (paths_of old ++ rest) → (contains c.path (paths_of new ++ rest) ≡ false) × AreApart (paths_of new ++ rest)
+  pub taken_apart_rest : AreApart (paths_of old ++ rest) → (contains c.card.path (paths_of new ++ rest) ≡ false) × AreApart (paths_of new ++ rest)
   taken_apart_rest h =
-      let k = apart_mid c.path (paths_of taken.before) (paths_of taken.after ++ rest) (subst AreApart was h) in
-      (ap (contains c.path) now ∙ k.0, subst AreApart (sym now) k.1)
+      let k = apart_mid c.card.path (paths_of taken.before) (paths_of taken.after ++ rest) (subst AreApart was h) in
+      (ap (contains c.card.path) now ∙ k.0, subst AreApart (sym now) k.1)
 
-  pub taken_drops : AreApart (paths_of old ++ rest) → RedoneCards (paths_of old ++ rest) c.path (paths_of new ++ rest)
+  pub taken_drops : AreApart (paths_of old ++ rest) → RedoneCards (paths_of old ++ rest) c.card.path (paths_of new ++ rest)
   taken_drops h =
-      let k = apart_mid c.path (paths_of taken.before) (paths_of taken.after ++ rest) (subst AreApart was h) in
-      subst (λ (xs : List ℕ). RedoneCards xs c.path (paths_of new ++ rest)) (sym was)
-      (subst (λ (xs : List ℕ). RedoneCards (paths_of taken.before ++ c.path ∷ (paths_of taken.after ++ rest)) c.path xs) (sym now) (drop_mid c.path (paths_of taken.before) (paths_of taken.after ++ rest) k.0))
+      let k = apart_mid c.card.path (paths_of taken.before) (paths_of taken.after ++ rest) (subst AreApart was h) in
+      subst (λ (xs : List ℕ). RedoneCards xs c.card.path (paths_of new ++ rest)) (sym was)
+      (subst (λ (xs : List ℕ). RedoneCards (paths_of taken.before ++ c.card.path ∷ (paths_of taken.after ++ rest)) c.card.path xs) (sym now) (drop_mid c.card.path (paths_of taken.before) (paths_of taken.after ++ rest) k.0))
 
-  pub taken_has : contains c.path (paths_of old ++ rest) ≡ true
-  taken_has = ap (contains c.path) was ∙ (mid_has c.path c.path (paths_of taken.before) (paths_of taken.after ++ rest) ∙ first_has c.path (paths_of taken.before ++ (paths_of taken.after ++ rest)))
+  pub taken_has : contains c.card.path (paths_of old ++ rest) ≡ true
+  taken_has = ap (contains c.card.path) was ∙ (mid_has c.card.path c.card.path (paths_of taken.before) (paths_of taken.after ++ rest) ∙ first_has c.card.path (paths_of taken.before ++ (paths_of taken.after ++ rest)))
 
-  pub taken_late : contains c.path (paths_of old) ≡ true
-  taken_late = ap (λ (x : List LateSeen). contains c.path (paths_of x)) taken.was ∙ go taken.before
+  pub taken_late : contains c.card.path (paths_of old) ≡ true
+  taken_late = ap (λ (x : List LateSeen). contains c.card.path (paths_of x)) taken.was ∙ go taken.before
     where
-      go : (before : List LateSeen) → contains c.path (paths_of (before ++ c ∷ taken.after)) ≡ true
-      go [] = first_has c.path (paths_of taken.after)
-      go (b ∷ bs) = rest_has c.path b.path (paths_of (bs ++ c ∷ taken.after)) (go bs)
+      go : (before : List LateSeen) → contains c.card.path (paths_of (before ++ c ∷ taken.after)) ≡ true
+      go [] = first_has c.card.path (paths_of taken.after)
+      go (b ∷ bs) = rest_has c.card.path b.card.path (paths_of (bs ++ c ∷ taken.after)) (go bs)
 
   pub taken_still : (q : ℕ) → contains q (paths_of new) ≡ true → contains q (paths_of old) ≡ true
   taken_still q h = ap (λ (x : List LateSeen). contains q (paths_of x)) taken.was ∙ go taken.before (sym (ap (λ (x : List LateSeen). contains q (paths_of x)) taken.left) ∙ h)
     where
       go : (before : List LateSeen) → contains q (paths_of (before ++ taken.after)) ≡ true → contains q (paths_of (before ++ c ∷ taken.after)) ≡ true
-      go [] k = rest_has q c.path (paths_of taken.after) k
-      go (b ∷ bs) k = step (q == b.path) (go bs) k
+      go [] k = rest_has q c.card.path (paths_of taken.after) k
+      go (b ∷ bs) k = step (q == b.card.path) (go bs) k
         where
           step : (z : Bool) → (contains q (paths_of (bs ++ taken.after)) ≡ true → contains q (paths_of (bs ++ c ∷ taken.after)) ≡ true) → cond z true (contains q (paths_of (bs ++ taken.after))) ≡ true → cond z true (contains q (paths_of (bs ++ c ∷ taken.after))) ≡ true
           step true f i = refl
           step false f i = f i
 
 pub lost_may : (l : DeskLaws) (s : Seat) (given : List Given) (old new : List LateSeen) (p : ℕ) (c : LateSeen) (rest : List ℕ) (first : ℕ) (t : Talk)
-    → AreLost s given (paths_of old) rest first t → IsTaken p old c new → (h : Heard) × MayEnd s given c.path h
-lost_may l s given old new p c rest first t h taken =
-    let k = taken_apart_rest old new p c rest taken h.apart in
-    let own = (h.at).own c.path (taken_has old new p c rest taken) in
-    let f = l.known s given rest first t c.path (h.at).below (h.at).runs own (last_out c.path (paths_of new) rest k.0) (h.lost c.path (taken_late old new p c rest taken)) in
-    (f.0, may_end l s given (paths_of old ++ rest) rest first t c.path f.0 h.at (taken_has old new p c rest taken) f.1)
+    → AreLost s given (paths_of old) rest first t → IsTaken p old c new → MayDrop s given c.card.path (Ok tt)
+lost_may l s given old new p c rest first t h taken = go (h.gone c.card.path (taken_late old new p c rest taken))
+  where
+    go : IsGone (fate_now s given c.card.path) → MayDrop s given c.card.path (Ok tt)
+    go (inl e) = record {
+      heard = heard.Lost;
+      may = may_end l s given (paths_of old ++ rest) rest first t c.card.path heard.Lost h.at (taken_has old new p c rest taken) e;
+      without = λ i. absurd (cc (i));
+      refused = λ why i. absurd (cc (i));
+    }
+    go (inr e) = drop_wanted s given c.card.path (Ok tt) (may_end l s given (paths_of old ++ rest) rest first t c.card.path heard.OutOfMemory h.at (taken_has old new p c rest taken) e)
 
 pub lost_ends : (l : DeskLaws) (s : Seat) (given given1 : List Given) (old new : List LateSeen) (p : ℕ) (c : LateSeen) (rest : List ℕ) (first : ℕ) (t : Talk)
-    → AreLost s given (paths_of old) rest first t → IsTaken p old c new → IsEnd s given c.path given1 → AreLost s given1 (paths_of new) rest first t
+    → AreLost s given (paths_of old) rest first t → IsTaken p old c new → IsEnd s given c.card.path given1 → AreLost s given1 (paths_of new) rest first t
 lost_ends l s given given1 old new p c rest first t h taken z =
     let k = taken_apart_rest old new p c rest taken h.apart in record {
-      at = at_end_away l s given given1 (paths_of old ++ rest) (paths_of new ++ rest) rest first t c.path h.at (taken_has old new p c rest taken) (last_out c.path (paths_of new) rest k.0) (taken_drops old new p c rest taken h.apart) z;
+      at = at_end_away l s given given1 (paths_of old ++ rest) (paths_of new ++ rest) rest first t c.card.path h.at (taken_has old new p c rest taken) (last_out c.card.path (paths_of new) rest k.0) (taken_drops old new p c rest taken h.apart) z;
       apart = k.1;
-      lost = λ q i. h.lost q (taken_still old new p c rest taken q i);
+      gone = λ q i. gone_end s given given1 c.card.path q z (h.gone q (taken_still old new p c rest taken q i));
     }
 
 -- after the reply, cards are served on

@@ -4,9 +4,8 @@ use Rattle.std.specs.Prelude.{slice_get}
 use Rattle.std.proofs.lemmas.List.{map-append}
 use Rattle.filter_proto.specs.Wires.{SessionSeen}
 use Rattle.convert_plan.specs.Card.{CardSeen, IsNewCard}
-use Rattle.edge_kit.specs.declared.leaf_state.LeafState.TheVariants.{Fresh}
 use Rattle.driver_line.specs.Lines.{LineView, Paths}
-use Rattle.std.specs.Prelude.{Result, Err}
+use Rattle.std.specs.Prelude.{Err}
 use Rattle.checkout_core.specs.Talks.{is_alone}
 use Rattle.checkout_core.specs.declared.verdict.Own.{Own}
 use Rattle.checkout_core.specs.declared.verdict.Own.TheVariants as own
@@ -18,7 +17,9 @@ use Rattle.std.specs.Option.{option_map}
 use Rattle.delay_table.specs.Table.{Table, idle_table, is_pending}
 use Rattle.delay_table.specs.declared.place.Place.TheVariants.{Idle}
 use Rattle.driver_desk.proofs.LateCards.{none_filled}
-use Rattle.driver_desk.specs.Rounds.{LateSeen, late_seen, IsReady, AreApart}
+use Rattle.driver_desk.specs.Rounds.{LateSeen, AreApart}
+use Rattle.driver_desk.specs.Recorders.{Standing}
+use Rattle.driver_desk.specs.Cards.{IsPlanned}
 use Rattle.driver_desk.specs.Serving.{Given, Serves, IsSane}
 
 cards_push : (works : List WorkSeen) (w : WorkSeen) → cards_in (works ++ w ∷ []) ≡ cards_in works ++ w.card ∷ []
@@ -69,8 +70,17 @@ place_below f all rest rest1 x works place e i l =
 pub new_next : (rest rest1 : List CardSeen) (c : CardSeen) → rest ≡ c ∷ rest1 → AreNew rest → IsNewCard c × AreNew rest1
 new_next rest rest1 c e h = subst AreNew e h
 
-pub new_ready : (c : CardSeen) → IsNewCard c → IsReady (late_seen c.path c.text Fresh)
-new_ready c h = record { fresh = refl; some = h.some; few = h.within }
+-- the next card is one of the planned ones
+card_next : (works : List WorkSeen) (c : CardSeen) (rest : List CardSeen) → slice_get (cards_in works ++ c ∷ rest) (length works) ≡ Some c
+card_next [] c rest = refl
+card_next (w ∷ ws) c rest = card_next ws c rest
+
+pub next_planned : (s : Standing) (whole : List CardSeen) (works : List WorkSeen) (rest rest1 : List CardSeen) (c : CardSeen) → s.cards ≡ whole → whole ≡ cards_in works ++ rest → rest ≡ c ∷ rest1 → IsNewCard c → IsPlanned s c
+next_planned s whole works rest rest1 c same e i new = (
+  length works,
+  ap (λ (cs : List CardSeen). slice_get cs (length works)) (same ∙ (e ∙ ap (λ (cs : List CardSeen). cards_in works ++ cs) i)) ∙ card_next works c rest1,
+  new,
+)
 
 pub text_of : (paths : Paths) (w : WorkSeen) (c : CardSeen) → w.card ≡ c → FitsWork paths w → paths.text c.path ≡ c.text
 text_of paths w c e h = subst (λ (x : CardSeen). paths.text x.path ≡ x.text) e h.0

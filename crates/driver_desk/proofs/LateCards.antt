@@ -79,7 +79,7 @@ idle_after v p h idle q le = h.each q ∙ elim (bool_or (is_pending (slice_get v
     pending_not None e f = cc e
     pending_not (Some x) e f = let k = f x refl in cc (sym e ∙ ap is_pending k)
 
-late_kept_as : (v : LateView) (p : ℕ) (c : LateSeen) → IsLate v → p < length v.numbers → c.path ≡ number_at v.numbers p → IsLate (record { table = with_place p place.Delayed v.table; numbers = v.numbers; slots = slice_set v.slots p (Some c) })
+late_kept_as : (v : LateView) (p : ℕ) (c : LateSeen) → IsLate v → p < length v.numbers → c.card.path ≡ number_at v.numbers p → IsLate (record { table = with_place p place.Delayed v.table; numbers = v.numbers; slots = slice_set v.slots p (Some c) })
 late_kept_as v p c h lt path = record {
   size = set_length v.slots p (Some c) ∙ h.size;
   places = set_length v.table.places p place.Delayed ∙ h.places;
@@ -95,10 +95,10 @@ late_kept_as v p c h lt path = record {
   ];
 }
   where
-    same : (d : LateSeen) (q : ℕ) → q ≡ p → Some (Some c) ≡ Some (Some d) → d.path ≡ number_at v.numbers q
-    same d q s e = let i : c ≡ d = cc in ap (λ (x : LateSeen). x.path) (sym i) ∙ (path ∙ ap (number_at v.numbers) (sym s))
+    same : (d : LateSeen) (q : ℕ) → q ≡ p → Some (Some c) ≡ Some (Some d) → d.card.path ≡ number_at v.numbers q
+    same d q s e = let i : c ≡ d = cc in ap (λ (x : LateSeen). x.card.path) (sym i) ∙ (path ∙ ap (number_at v.numbers) (sym s))
 
-pub late_kept : (v : LateView) (p : ℕ) (c : LateSeen) (slots : List (Option LateSeen)) (t : Table) → IsLate v → p < length v.numbers → c.path ≡ number_at v.numbers p → slots ≡ slice_set v.slots p (Some c) → t ≡ with_place p place.Delayed v.table
+pub late_kept : (v : LateView) (p : ℕ) (c : LateSeen) (slots : List (Option LateSeen)) (t : Table) → IsLate v → p < length v.numbers → c.card.path ≡ number_at v.numbers p → slots ≡ slice_set v.slots p (Some c) → t ≡ with_place p place.Delayed v.table
     → IsLate (record { table = t; numbers = v.numbers; slots = slots })
 late_kept v p c slots t h lt path e i = rw (e, i) (late_kept_as v p c h lt path)
 
@@ -193,14 +193,14 @@ apart_at (n ∷ ns) zero (suc q) a lp lq e = absurd (let k : contains n ns ≡ t
 apart_at (n ∷ ns) (suc p) zero a lp lq e = absurd (let k : contains n ns ≡ true = ap (λ (m : ℕ). contains m ns) (sym e) ∙ contains_at ns p (omega arith) in cc (sym k ∙ a.0))
 apart_at (n ∷ ns) (suc p) (suc q) a lp lq e = ap (λ (m : ℕ). suc m) (apart_at ns p q a.1 (omega arith) (omega arith) e)
 
-has_filled : (os : List (Option LateSeen)) (p : ℕ) (c : LateSeen) → slice_get os p ≡ Some (Some c) → contains c.path (paths_of (filled os)) ≡ true
+has_filled : (os : List (Option LateSeen)) (p : ℕ) (c : LateSeen) → slice_get os p ≡ Some (Some c) → contains c.card.path (paths_of (filled os)) ≡ true
 has_filled [] p c e = absurd (cc)
 has_filled (None ∷ os) zero c e = absurd (cc)
-has_filled (Some d ∷ os) zero c e = let i : d ≡ c = cc in ap (λ (b : Bool). cond b true (contains c.path (paths_of (filled os)))) (eq-eqb c.path d.path (ap (λ (x : LateSeen). x.path) (sym i)))
+has_filled (Some d ∷ os) zero c e = let i : d ≡ c = cc in ap (λ (b : Bool). cond b true (contains c.card.path (paths_of (filled os)))) (eq-eqb c.card.path d.card.path (ap (λ (x : LateSeen). x.card.path) (sym i)))
 has_filled (None ∷ os) (suc p) c e = has_filled os p c e
-has_filled (Some d ∷ os) (suc p) c e = elim (bool_or (c.path == d.path)) [
-  | inl s ↦ ap (λ (b : Bool). cond b true (contains c.path (paths_of (filled os)))) s
-  | inr n ↦ ap (λ (b : Bool). cond b true (contains c.path (paths_of (filled os)))) n ∙ has_filled os p c e
+has_filled (Some d ∷ os) (suc p) c e = elim (bool_or (c.card.path == d.card.path)) [
+  | inl s ↦ ap (λ (b : Bool). cond b true (contains c.card.path (paths_of (filled os)))) s
+  | inr n ↦ ap (λ (b : Bool). cond b true (contains c.card.path (paths_of (filled os)))) n ∙ has_filled os p c e
 ]
 
 filled_some : (o : Option (Option LateSeen)) → is_filled o ≡ true → (c : LateSeen) × (o ≡ Some (Some c))
@@ -221,7 +221,7 @@ late_listed v t h l = record { size = h.size; places = l.size ∙ h.places; each
 -- where nothing is listed, the delayed places are those of the cards
 
 late_each : (numbers : List ℕ) (places : List Place) (os : List (Option LateSeen)) → length os ≡ length numbers → length places ≡ length numbers
-    → ((p : ℕ) → is_filled (slice_get os p) ≡ is_pending (slice_get places p)) → ((p : ℕ) → table.is_listed (slice_get places p) ≡ false) → ((p : ℕ) (c : LateSeen) → slice_get os p ≡ Some (Some c) → c.path ≡ number_at numbers p)
+    → ((p : ℕ) → is_filled (slice_get os p) ≡ is_pending (slice_get places p)) → ((p : ℕ) → table.is_listed (slice_get places p) ≡ false) → ((p : ℕ) (c : LateSeen) → slice_get os p ≡ Some (Some c) → c.card.path ≡ number_at numbers p)
     → late_in numbers places ≡ paths_of (filled os)
 late_each [] places [] size many each none paths = refl
 late_each [] places (o ∷ os) size many each none paths = absurd (omega (arith, size))
@@ -313,10 +313,10 @@ pub first_listed : (t : Table) (p : ℕ) (rest : List ℕ) → AreListed t → t
 first_listed t p rest h e = pending_listed (slice_get t.places p) (sym (h.each p) ∙ (ap (λ (x : List ℕ). table.contains p x) e ∙ ap (λ (b : Bool). cond b true (table.contains p rest)) (eq-eqb p p refl)))
 
 pub step_names : (old new : LateView) (p : ℕ) (rest : List ℕ) (c : LateSeen) (before after : List LateSeen) → old.table.turns ≡ p ∷ rest → new.table ≡ record (with_place p place.Done old.table) { turns = rest } → new.numbers ≡ old.numbers → IsTaken (number_at old.numbers p) before c after
-    → names_at old ≡ c.path ∷ names_at new
+    → names_at old ≡ c.card.path ∷ names_at new
 step_names old new p rest c before after e i same t =
     ap (map (number_at old.numbers)) e ∙ (ap (λ (x : ℕ). x ∷ map (number_at old.numbers) rest) (sym t.named)
-    ∙ ap (λ (x : List ℕ). c.path ∷ x) (ap (λ (ns : List ℕ). map (number_at ns) rest) (sym same) ∙ ap (λ (x : Table). map (number_at new.numbers) x.turns) (sym i)))
+    ∙ ap (λ (x : List ℕ). c.card.path ∷ x) (ap (λ (ns : List ℕ). map (number_at ns) rest) (sym same) ∙ ap (λ (x : Table). map (number_at new.numbers) x.turns) (sym i)))
 
 pub taken_length : (p : ℕ) (old : List LateSeen) (c : LateSeen) (new : List LateSeen) → IsTaken p old c new → length new + 1 ≡ length old
 taken_length p old c new t = ap (λ (x : List LateSeen). length x + 1) t.left ∙ (both t.before ∙ sym (ap (λ (x : List LateSeen). length x) t.was))

@@ -2,12 +2,13 @@
 use Rattle.std.proofs.Common.{◌≡◌, ◌==◌, inl, inr, ℕ, ◌+◌, Bool, true, false, cond, List, [], ◌∷◌, ◌++◌, Option, Some, None, refl, sym, ap, subst, ◌∙◌, arith}
 use Rattle.std.specs.Prelude.{◌||◌, slice_get}
 use Rattle.std.proofs.lemmas.Bool.{eqb-true, eq-eqb}
-use Rattle.std.proofs.lemmas.List.{map-append}
+use Rattle.std.proofs.lemmas.List.{map-append, append-nil}
 use Rattle.checkout_core.specs.declared.event.Event.{Event}
 use Rattle.checkout_core.specs.declared.event.Event.TheVariants as event
 use Rattle.checkout_core.specs.declared.driver.DriverState.{DriverState}
 use Rattle.checkout_core.specs.declared.driver.DriverState.TheVariants as driver
 use Rattle.checkout_core.specs.declared.path.Heard.{Heard}
+use Rattle.checkout_core.specs.declared.path.Heard.TheVariants.{Refused, Lost, OutOfMemory}
 use Rattle.checkout_core.specs.declared.path.Start.{Start}
 use Rattle.checkout_core.specs.declared.path.Start.TheVariants.{Desk}
 use Rattle.checkout_core.specs.Actors.{driver_at, is_actor}
@@ -20,8 +21,8 @@ use Rattle.checkout_core.specs.Talks.{Talk, Refusing, InRound, talk_run, talk_st
 use Rattle.driver_desk.specs.Rounds.{AreApart, RedoneCards}
 use Rattle.driver_desk.specs.Serving.{Given, Noted, Closed, HandedBack}
 use Rattle.driver_desk.specs.Works.{card_paths}
-use Rattle.driver_desk.specs.Recorders.{Standing, MayDo, MayEnd, IsEnd, event_of, events_in, ended_path, is_path, times}
-use Rattle.driver_desk.specs.Places.{DeskLaws, IsAt, IsOwn, fate_now, times_of}
+use Rattle.driver_desk.specs.Recorders.{Standing, MayDo, MayEnd, IsEnd, Shows, AreShown, event_of, events_in, ended_path, fate_now, is_path, times}
+use Rattle.driver_desk.specs.Places.{DeskLaws, IsAt, IsGone, IsOwn, times_of}
 use Rattle.driver_desk.proofs.RoundSteps.{bool_or, self, same_bool}
 
 -- one more entry
@@ -86,6 +87,49 @@ note_stays starts d p (event.Listed f y) n = refl
 note_stays starts d p (event.Redone q y) n = refl
 note_stays starts d p (event.Shut f) n = refl
 
+-- what is known stays so, and so does what was shown
+pub known_stays : (s : Standing) (given : List Given) (g : Given) (p : ℕ) (h : Heard) → fate_now s given p ≡ Known h
+    → fate_now s (given ++ g ∷ []) p ≡ Known h
+known_stays s given g p h told = ap (λ (es : List Event). fate_of p Untold (notes s.starts s.driver es)) (events_push s given g)
+    ∙ (ap (fate_of p Untold) (notes_push s.starts s.driver (events_in s given) (event_of s g)) ∙ last (is_note s.starts s.driver (event_of s g)))
+  where
+    ns : List Event
+    ns = notes s.starts s.driver (events_in s given)
+
+    last : (b : Bool) → fate_of p Untold (notes s.starts s.driver (events_in s given) ++ cond b (event_of s g ∷ []) []) ≡ Known h
+    last true = fate_push p Untold ns (event_of s g) ∙ ap (λ (z : Fate). fate_after p z (event_of s g)) told
+    last false = ap (fate_of p Untold) (append-nil ns) ∙ told
+
+shows_more : (s : Standing) (given : List Given) (g x : Given) → Shows s given x → Shows s (given ++ g ∷ []) x
+shows_more s given g (Noted e) h = tt
+shows_more s given g (Closed o card) h = record {
+  place = h.place;
+  planned = h.planned;
+  here = h.here;
+  same = h.same;
+  unready = h.unready;
+  shows = elim h.shows [
+    | inl k ↦ inl k
+    | inr k ↦ inr (k.0, known_stays s given g card.path k.0 k.1, k.2)
+  ];
+}
+shows_more s given g (HandedBack card) h = record { refused = h.refused; free = h.free; why = h.why; told = known_stays s given g card.path (Refused h.why) h.told }
+
+shown_push : (s : Standing) (given : List Given) (g : Given) → AreShown s given given → Shows s given g → AreShown s (given ++ g ∷ []) (given ++ g ∷ [])
+shown_push s given g h k = go given h
+  where
+    go : (gs : List Given) → AreShown s given gs → AreShown s (given ++ g ∷ []) (gs ++ g ∷ [])
+    go [] i = (shows_more s given g g k, tt)
+    go (x ∷ xs) i = (shows_more s given g x i.0, go xs i.1)
+
+-- and those that are gone stay so
+pub gone_push : (s : Standing) (given : List Given) (g : Given) (q : ℕ) → IsGone (fate_now s given q) → IsGone (fate_now s (given ++ g ∷ []) q)
+gone_push s given g q (inl e) = inl (known_stays s given g q Lost e)
+gone_push s given g q (inr e) = inr (known_stays s given g q OutOfMemory e)
+
+pub gone_end : (s : Standing) (given new : List Given) (p q : ℕ) → IsEnd s given p new → IsGone (fate_now s given q) → IsGone (fate_now s new q)
+gone_end s given new p q z h = subst (λ (gs : List Given). IsGone (fate_now s gs q)) (sym z.more) (gone_push s given z.last q h)
+
 pub run_step : (d : ℕ) (t u : Talk) (e : Event) → talk_run d t (e ∷ []) ≡ Some u → talk_step d t e ≡ Some u
 run_step d t u e h = go (talk_step d t e) h
   where
@@ -115,6 +159,7 @@ at_note l s given held rest first t u e a note through step =
         own = λ p h. own_noted s given p e note (a.own p h);
         among = a.among;
         once = λ p. times_push p given (Noted e) ∙ (plus_none (times p given) ∙ a.once p);
+        shown = shown_push s given (Noted e) a.shown tt;
       },
     )
 
@@ -141,6 +186,7 @@ pub may_end : (l : DeskLaws) (s : Standing) (given : List Given) (held rest : Li
     (h : Heard) → IsAt s given held rest first t → contains p held ≡ true → fate_now s given p ≡ Known h
     → MayEnd s given p h
 may_end l s given held rest first t p h a here told = record {
+  told = told;
   own = own_driver s given p (a.own p here);
   close = λ o read. l.close s given rest first t p h o a.below a.runs (a.own p here) told read;
   back = λ why same free. l.back s given rest first t p why a.below a.runs (a.own p here) free
@@ -161,6 +207,7 @@ at_held s given held other rest first t same a = record {
   own = λ q h. a.own q (sym (same q) ∙ h);
   among = λ q h. a.among q (sym (same q) ∙ h);
   once = λ q. a.once q ∙ ap (λ (b : Bool). times_of b (contains q (card_paths s.cards))) (sym (same q));
+  shown = a.shown;
 }
 
 pub false_of : (b : Bool) → (b ≡ true → ⊥) → b ≡ false
@@ -195,10 +242,10 @@ module _ (l : DeskLaws) (s : Standing) (given : List Given) (held left rest : Li
           ∙ sym (ap (λ (b : Bool). times_of b (contains q (card_paths s.cards))) gone
           ∙ ap (times_of false) (a.among q had)))
 
-  after_end : (g : Given) → ended_path g ≡ Some p → MayDo s given (event_of s g)
+  after_end : (g : Given) → ended_path g ≡ Some p → MayDo s given (event_of s g) → Shows s given g
       → IsAt s (given ++ g ∷ []) left (without p rest) first (with_rest (without p rest) t)
-  after_end (Noted e) i may = absurd (cc (i))
-  after_end (Closed own card) i may =
+  after_end (Noted e) i may shows = absurd (cc (i))
+  after_end (Closed own card) i may shows =
       let same : card.path ≡ p = cc (i) in
       let e = event.Close card.path (s.workers + s.driver) own in
       let k = l.goes_on s given rest first t e a.below a.runs refl refl may in
@@ -216,8 +263,9 @@ module _ (l : DeskLaws) (s : Standing) (given : List Given) (held left rest : Li
         };
         among = λ q h. a.among q (r.were q h).0;
         once = λ q. times_push q given (Closed own card) ∙ once_more q (times q given) (Some card.path) i (a.once q);
+        shown = shown_push s given (Closed own card) a.shown shows;
       }
-  after_end (HandedBack card) i may =
+  after_end (HandedBack card) i may shows =
       let same : card.path ≡ p = cc (i) in
       let e = event.HandBack card.path in
       let k = l.goes_on s given rest first t e a.below a.runs refl refl may in
@@ -235,6 +283,7 @@ module _ (l : DeskLaws) (s : Standing) (given : List Given) (held left rest : Li
         };
         among = λ q h. a.among q (r.were q h).0;
         once = λ q. times_push q given (HandedBack card) ∙ once_more q (times q given) (Some card.path) i (a.once q);
+        shown = shown_push s given (HandedBack card) a.shown shows;
       }
 
 pub at_end : (l : DeskLaws) (s : Standing) (given new : List Given) (held left rest : List ℕ) (first : ℕ) (t : Talk)
@@ -242,7 +291,7 @@ pub at_end : (l : DeskLaws) (s : Standing) (given new : List Given) (held left r
     → IsEnd s given p new → IsAt s new left (without p rest) first (with_rest (without p rest) t)
 at_end l s given new held left rest first t p a here r z =
     subst (λ (gs : List Given). IsAt s gs left (without p rest) first (with_rest (without p rest) t)) (sym z.more)
-    (after_end l s given held left rest first t p a here r z.last z.path z.may)
+    (after_end l s given held left rest first t p a here r z.last z.path z.may z.shows)
 
 -- the talk goes by its own rest
 with_at : (x : DriverState) (rest late turns : List ℕ) → with_rest rest (talk_at x rest late turns) ≡ talk_at x rest late turns
@@ -299,6 +348,14 @@ rest_has q p xs h = go (q == p)
     go : (b : Bool) → cond b true (contains q xs) ≡ true
     go true = refl
     go false = h
+
+pub front_has : (q : ℕ) (xs ys : List ℕ) → contains q xs ≡ true → contains q (xs ++ ys) ≡ true
+front_has q [] ys h = absurd (cc (h))
+front_has q (x ∷ xs) ys h = go (q == x) h (λ k. front_has q xs ys k)
+  where
+    go : (b : Bool) → cond b true (contains q xs) ≡ true → (contains q xs ≡ true → contains q (xs ++ ys) ≡ true) → cond b true (contains q (xs ++ ys)) ≡ true
+    go true k ih = refl
+    go false k ih = ih k
 
 pub other_has : (q p : ℕ) (xs : List ℕ) → contains q (p ∷ xs) ≡ true → (q == p) ≡ false → contains q xs ≡ true
 other_has q p xs h other = sym (ap (λ (b : Bool). cond b true (contains q xs)) other) ∙ h

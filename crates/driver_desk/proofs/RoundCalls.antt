@@ -11,7 +11,7 @@ use Rattle.filter_words.specs.declared.reply.ListReply.TheVariants as list
 use Rattle.checkout_core.specs.declared.event.Event.{Event}
 use Rattle.checkout_core.specs.declared.event.Event.TheVariants as event
 use Rattle.checkout_core.specs.declared.path.Heard.{Heard}
-use Rattle.checkout_core.specs.Fates.{Later, Known, fate_here, fate_there}
+use Rattle.checkout_core.specs.Fates.{Later, Known, fate_here, fate_there, fate_listed}
 use Rattle.checkout_core.specs.Notes.{is_note}
 use Rattle.checkout_core.specs.Agreements.{IsThrough}
 use Rattle.checkout_core.specs.Talks.{Talk, Round, Between, Refusing, InRound, Ended, IsOver, talk_step, contains, without, is_empty}
@@ -27,10 +27,10 @@ use Rattle.convert_plan.specs.Card.{CardSeen}
 use Rattle.checkout_core.specs.Desks.{AtDesk, paths_of as driver_paths, leaves, is_left}
 use Rattle.driver_desk.specs.Desks.{DeskView, IsDealt, AreThrough}
 use Rattle.driver_desk.specs.Works.{card_paths}
-use Rattle.driver_desk.specs.Recorders.{Standing, MayDo, MayEnd, IsEnd, event_of, events_in, ended_path, is_path, times}
-use Rattle.driver_desk.specs.Places.{DeskLaws, IsAt, IsOwn, IsServing, IsNaming, IsListing, AfterList, InRoundsAt, AreLost, IsDone, fate_now, times_of, naming_after, named_talk}
+use Rattle.driver_desk.specs.Recorders.{Standing, MayDo, MayEnd, IsEnd, event_of, events_in, ended_path, fate_now, is_path, times}
+use Rattle.driver_desk.specs.Places.{DeskLaws, IsAt, IsOwn, IsServing, IsNaming, IsListing, AfterList, InRoundsAt, AreGone, AreLost, IsDone, IsGone, times_of, naming_after, named_talk}
 use Rattle.driver_desk.proofs.RoundSteps.{self, some_names, known_without, known_among, minus_not, names_wait, redone_waits, name_step, take_more, redo_step, shut_talk, newest_has, newest_had, late_cards}
-use Rattle.driver_desk.proofs.Places.{at_note, at_end_away, fate_noted, may_end, own_note, run_step, first_has, false_of, apart_mid}
+use Rattle.driver_desk.proofs.Places.{gone_end, at_note, at_end_away, fate_noted, may_end, own_note, run_step, first_has, false_of, apart_mid}
 use Rattle.driver_desk.proofs.Calls.{taken_late}
 
 -- the same for an equal standing
@@ -139,14 +139,25 @@ not_names r (inr (inl e)) n is = cc (e, is)
 not_names r (inr (inr (inl e))) n is = let k = e.1 in cc (k, is)
 not_names r (inr (inr (inr e))) n is = cc (e, is)
 
+-- the end of a list is the end of those that were late
+listed_gone : (l : DeskLaws) (s : Standing) (given : List Given) (cards waiting names : List ℕ) (r : ListReply) (first : ℕ) (delay : Bool)
+    → IsListing s given cards waiting names r first delay → IsGone (fate_listed r Later) → AreGone s (given ++ Noted (event.Listed s.driver r) ∷ []) waiting
+listed_gone l s given cards waiting names r first delay h gone q i =
+    let was : fate_now s given q ≡ Later = l.later s given [] first (round_of delay false waiting []) q (h.at).below (h.at).runs ((h.at).own q (h.among q i)) (ap (λ (b : Bool). b || false) i) in
+    subst IsGone (sym (fate_noted s given q (event.Listed s.driver r) Later (self s.driver) was)) gone
+
 last_at : (l : DeskLaws) (s : Standing) (given : List Given) (cards waiting names : List ℕ) (r : ListReply) (first : ℕ) (delay : Bool)
     → ((n : ℕ) → r ≡ list.Names n → ⊥) → IsListing s given cards waiting names r first delay
     → MayDo s given (event.Listed s.driver r) × AfterList r s (given ++ Noted (event.Listed s.driver r) ∷ []) cards waiting names first delay
 last_at l s given cards waiting names (list.Names n) first delay other h = absurd (other n refl)
-last_at l s given cards waiting names list.Empty first delay other h = at_note l s given cards [] first (round_of delay false waiting []) Ended (event.Listed s.driver list.Empty) h.at (self s.driver) tt (ap (λ (b : Bool). cond b (Some Ended) None) (self s.driver))
-last_at l s given cards waiting names list.Abort first delay other h = at_note l s given cards [] first (round_of delay false waiting []) Ended (event.Listed s.driver list.Abort) h.at (self s.driver) tt (ap (λ (b : Bool). cond b (Some Ended) None) (self s.driver))
-last_at l s given cards waiting names (list.Broken c) first delay other h = at_note l s given cards [] first (round_of delay false waiting []) (Between []) (event.Listed s.driver (list.Broken c)) h.at (self s.driver) tt (ap (λ (b : Bool). cond b (Some (Between [])) None) (self s.driver))
-last_at l s given cards waiting names list.NoMemory first delay other h = at_note l s given cards [] first (round_of delay false waiting []) (Between []) (event.Listed s.driver list.NoMemory) h.at (self s.driver) tt (ap (λ (b : Bool). cond b (Some (Between [])) None) (self s.driver))
+last_at l s given cards waiting names list.Empty first delay other h = let k = at_note l s given cards [] first (round_of delay false waiting []) Ended (event.Listed s.driver list.Empty) h.at (self s.driver) tt (ap (λ (b : Bool). cond b (Some Ended) None) (self s.driver)) in
+    (k.0, (k.1, listed_gone l s given cards waiting names list.Empty first delay h (inl refl)))
+last_at l s given cards waiting names list.Abort first delay other h = let k = at_note l s given cards [] first (round_of delay false waiting []) Ended (event.Listed s.driver list.Abort) h.at (self s.driver) tt (ap (λ (b : Bool). cond b (Some Ended) None) (self s.driver)) in
+    (k.0, (k.1, listed_gone l s given cards waiting names list.Abort first delay h (inl refl)))
+last_at l s given cards waiting names (list.Broken c) first delay other h = let k = at_note l s given cards [] first (round_of delay false waiting []) (Between []) (event.Listed s.driver (list.Broken c)) h.at (self s.driver) tt (ap (λ (b : Bool). cond b (Some (Between [])) None) (self s.driver)) in
+    (k.0, (k.1, listed_gone l s given cards waiting names (list.Broken c) first delay h (inl refl)))
+last_at l s given cards waiting names list.NoMemory first delay other h = let k = at_note l s given cards [] first (round_of delay false waiting []) (Between []) (event.Listed s.driver list.NoMemory) h.at (self s.driver) tt (ap (λ (b : Bool). cond b (Some (Between [])) None) (self s.driver)) in
+    (k.0, (k.1, listed_gone l s given cards waiting names list.NoMemory first delay h (inr refl)))
 
 pub list_last : (l : DeskLaws) (s s1 : Standing) (d : ℕ) (given given1 : List Given) (cards waiting names : List ℕ) (r : ListReply) (first : ℕ) (delay : Bool)
     → ((n : ℕ) → r ≡ list.Names n → ⊥) → s1 ≡ s → s.driver ≡ d → given1 ≡ given ++ Noted (event.Listed d r) ∷ [] → IsListing s given cards waiting names r first delay
@@ -207,14 +218,20 @@ lists s given (Some x) cards names r ready h are =
 pub names_same : (cards old new turns : List ℕ) (r : ListReply) → new ≡ old → NamesAre cards (names_in old turns r) r → NamesAre cards (names_in new turns r) r
 names_same cards old new turns r same h = subst (λ (ns : List ℕ). NamesAre cards (names_in ns turns r) r) (sym same) h
 
+in_late : (cards late : List ℕ) → AreWaiting cards late [] → (q : ℕ) → contains q cards ≡ true → contains q late ≡ true
+in_late cards late w q i = elim (w.each q i) [
+  | inl k ↦ k
+  | inr k ↦ absurd (cc (k))
+]
+
 after_list : (s : Standing) (given : List Given) (session1 : Option SessionSeen) (x : SessionSeen) (cards waiting numbers turns : List ℕ) (r : ListReply) (first : ℕ) (delay : Bool)
     → GoesOn x (list_standing r) session1 → AreWaiting cards waiting [] → AfterList r s given cards waiting (names_in numbers turns r) first delay → InRoundsAt s given session1 cards (map (number_at numbers) turns)
 after_list s given session1 x cards waiting numbers turns (list.Names n) first delay goes w h =
     subst (λ (o : Option SessionSeen). InRoundsAt s given o cards (map (number_at numbers) turns)) (sym goes.1) (first, delay, minus waiting (map (number_at numbers) turns), h, names_wait cards waiting (map (number_at numbers) turns) w)
-after_list s given session1 x cards waiting numbers turns list.Empty first delay goes w h = subst (λ (o : Option SessionSeen). InRoundsAt s given o cards (map (number_at numbers) turns)) (sym goes) (first, Ended, h, tt)
-after_list s given session1 x cards waiting numbers turns list.Abort first delay goes w h = subst (λ (o : Option SessionSeen). InRoundsAt s given o cards (map (number_at numbers) turns)) (sym goes) (first, Ended, h, tt)
-after_list s given session1 x cards waiting numbers turns (list.Broken c) first delay goes w h = subst (λ (o : Option SessionSeen). InRoundsAt s given o cards (map (number_at numbers) turns)) (sym goes) (first, Between [], h, tt)
-after_list s given session1 x cards waiting numbers turns list.NoMemory first delay goes w h = subst (λ (o : Option SessionSeen). InRoundsAt s given o cards (map (number_at numbers) turns)) (sym goes) (first, Between [], h, tt)
+after_list s given session1 x cards waiting numbers turns list.Empty first delay goes w h = subst (λ (o : Option SessionSeen). InRoundsAt s given o cards (map (number_at numbers) turns)) (sym goes) (first, Ended, h.0, tt, λ q i. h.1 q (in_late cards waiting w q i))
+after_list s given session1 x cards waiting numbers turns list.Abort first delay goes w h = subst (λ (o : Option SessionSeen). InRoundsAt s given o cards (map (number_at numbers) turns)) (sym goes) (first, Ended, h.0, tt, λ q i. h.1 q (in_late cards waiting w q i))
+after_list s given session1 x cards waiting numbers turns (list.Broken c) first delay goes w h = subst (λ (o : Option SessionSeen). InRoundsAt s given o cards (map (number_at numbers) turns)) (sym goes) (first, Between [], h.0, tt, λ q i. h.1 q (in_late cards waiting w q i))
+after_list s given session1 x cards waiting numbers turns list.NoMemory first delay goes w h = subst (λ (o : Option SessionSeen). InRoundsAt s given o cards (map (number_at numbers) turns)) (sym goes) (first, Between [], h.0, tt, λ q i. h.1 q (in_late cards waiting w q i))
 
 pub after_list_at : (s : Standing) (given : List Given) (session session1 : Option SessionSeen) (old new : LateView) (waiting : List ℕ) (r : ListReply) (first : ℕ) (delay : Bool)
     → IsOpen session → ((x : SessionSeen) → session ≡ Some x → GoesOn x (list_standing r) session1) → cards_of new ≡ cards_of old → new.numbers ≡ old.numbers → AreWaiting (paths_of (cards_of old)) waiting []
@@ -228,17 +245,17 @@ after_list_at s given (Some x) session1 old new waiting r first delay ready goes
 record Redone (s : Standing) (given : List Given) (session1 : Option SessionSeen) (p : ℕ) (y : Reply) (cards late turns : List ℕ) (first : ℕ) (delay : Bool) : Type 0 where
   pub talk : Talk
   pub step : talk_step s.driver (round_of delay false late (p ∷ turns)) (event.Redone p y) ≡ Some talk
-  pub goes : (new : List Given) (left : List ℕ) → IsAt s new left [] first talk → AreWaiting left late turns → InRoundsAt s new session1 left turns
+  pub goes : (new : List Given) (left : List ℕ) → IsAt s new left [] first talk → (IsGone (fate_there y Later) → AreGone s new left) → AreWaiting left late turns → InRoundsAt s new session1 left turns
 
 redone_talk : (s : Standing) (given : List Given) (x : SessionSeen) (session1 : Option SessionSeen) (p : ℕ) (y : Reply) (cards late turns : List ℕ) (first : ℕ) (delay : Bool)
     → MayReply false y → GoesOn x (standing_after y) session1 → Redone s given session1 p y cards late turns first delay
-redone_talk s given x session1 p reply.Content cards late turns first delay may goes = record { talk = round_of delay false late turns; step = run_step s.driver (round_of delay false late (p ∷ turns)) (round_of delay false late turns) (event.Redone p reply.Content) (redo_step s.driver delay late turns p reply.Content (round_of delay false late turns) refl refl refl); goes = λ new left at w. subst (λ (o : Option SessionSeen). InRoundsAt s new o left turns) (sym goes.1) (first, delay, late, at, w) }
-redone_talk s given x session1 p reply.Error cards late turns first delay may goes = record { talk = round_of delay false late turns; step = run_step s.driver (round_of delay false late (p ∷ turns)) (round_of delay false late turns) (event.Redone p reply.Error) (redo_step s.driver delay late turns p reply.Error (round_of delay false late turns) refl refl refl); goes = λ new left at w. subst (λ (o : Option SessionSeen). InRoundsAt s new o left turns) (sym goes.1) (first, delay, late, at, w) }
-redone_talk s given x session1 p reply.ErrorAfter cards late turns first delay may goes = record { talk = round_of delay false late turns; step = run_step s.driver (round_of delay false late (p ∷ turns)) (round_of delay false late turns) (event.Redone p reply.ErrorAfter) (redo_step s.driver delay late turns p reply.ErrorAfter (round_of delay false late turns) refl refl refl); goes = λ new left at w. subst (λ (o : Option SessionSeen). InRoundsAt s new o left turns) (sym goes.1) (first, delay, late, at, w) }
+redone_talk s given x session1 p reply.Content cards late turns first delay may goes = record { talk = round_of delay false late turns; step = run_step s.driver (round_of delay false late (p ∷ turns)) (round_of delay false late turns) (event.Redone p reply.Content) (redo_step s.driver delay late turns p reply.Content (round_of delay false late turns) refl refl refl); goes = λ new left at lost w. subst (λ (o : Option SessionSeen). InRoundsAt s new o left turns) (sym goes.1) (first, delay, late, at, w) }
+redone_talk s given x session1 p reply.Error cards late turns first delay may goes = record { talk = round_of delay false late turns; step = run_step s.driver (round_of delay false late (p ∷ turns)) (round_of delay false late turns) (event.Redone p reply.Error) (redo_step s.driver delay late turns p reply.Error (round_of delay false late turns) refl refl refl); goes = λ new left at lost w. subst (λ (o : Option SessionSeen). InRoundsAt s new o left turns) (sym goes.1) (first, delay, late, at, w) }
+redone_talk s given x session1 p reply.ErrorAfter cards late turns first delay may goes = record { talk = round_of delay false late turns; step = run_step s.driver (round_of delay false late (p ∷ turns)) (round_of delay false late turns) (event.Redone p reply.ErrorAfter) (redo_step s.driver delay late turns p reply.ErrorAfter (round_of delay false late turns) refl refl refl); goes = λ new left at lost w. subst (λ (o : Option SessionSeen). InRoundsAt s new o left turns) (sym goes.1) (first, delay, late, at, w) }
 redone_talk s given x session1 p reply.Delayed cards late turns first delay may goes = absurd (cc may)
-redone_talk s given x session1 p reply.Abort cards late turns first delay may goes = record { talk = Ended; step = run_step s.driver (round_of delay false late (p ∷ turns)) Ended (event.Redone p reply.Abort) (redo_step s.driver delay late turns p reply.Abort Ended refl refl refl); goes = λ new left at w. subst (λ (o : Option SessionSeen). InRoundsAt s new o left turns) (sym goes) (first, Ended, at, tt) }
-redone_talk s given x session1 p (reply.Broken c) cards late turns first delay may goes = record { talk = Between []; step = run_step s.driver (round_of delay false late (p ∷ turns)) (Between []) (event.Redone p (reply.Broken c)) (redo_step s.driver delay late turns p (reply.Broken c) (Between []) refl may refl); goes = λ new left at w. subst (λ (o : Option SessionSeen). InRoundsAt s new o left turns) (sym goes) (first, Between [], at, tt) }
-redone_talk s given x session1 p reply.NoMemory cards late turns first delay may goes = record { talk = Between []; step = run_step s.driver (round_of delay false late (p ∷ turns)) (Between []) (event.Redone p reply.NoMemory) (redo_step s.driver delay late turns p reply.NoMemory (Between []) refl refl refl); goes = λ new left at w. subst (λ (o : Option SessionSeen). InRoundsAt s new o left turns) (sym goes) (first, Between [], at, tt) }
+redone_talk s given x session1 p reply.Abort cards late turns first delay may goes = record { talk = Ended; step = run_step s.driver (round_of delay false late (p ∷ turns)) Ended (event.Redone p reply.Abort) (redo_step s.driver delay late turns p reply.Abort Ended refl refl refl); goes = λ new left at lost w. subst (λ (o : Option SessionSeen). InRoundsAt s new o left turns) (sym goes) (first, Ended, at, tt, lost (inl refl)) }
+redone_talk s given x session1 p (reply.Broken c) cards late turns first delay may goes = record { talk = Between []; step = run_step s.driver (round_of delay false late (p ∷ turns)) (Between []) (event.Redone p (reply.Broken c)) (redo_step s.driver delay late turns p (reply.Broken c) (Between []) refl may refl); goes = λ new left at lost w. subst (λ (o : Option SessionSeen). InRoundsAt s new o left turns) (sym goes) (first, Between [], at, tt, lost (inl refl)) }
+redone_talk s given x session1 p reply.NoMemory cards late turns first delay may goes = record { talk = Between []; step = run_step s.driver (round_of delay false late (p ∷ turns)) (Between []) (event.Redone p reply.NoMemory) (redo_step s.driver delay late turns p reply.NoMemory (Between []) refl refl refl); goes = λ new left at lost w. subst (λ (o : Option SessionSeen). InRoundsAt s new o left turns) (sym goes) (first, Between [], at, tt, lost (inr refl)) }
 
 pub record AskedAgain (s : Standing) (given given1 : List Given) (session1 : Option SessionSeen) (p : ℕ) (y : Reply) (cards turns : List ℕ) : Type 0 where
   pub own : IsOwn s given p
@@ -257,7 +274,7 @@ asks_again_in l s given given1 x session1 p y cards turns late first delay may g
   own = own;
   may = k.0;
   told = λ h is. may_end l s (given ++ Noted (event.Redone p y) ∷ []) cards [] first r.talk p h k.1 here (told ∙ is);
-  ends = λ new left drops z. r.goes new left (at_end_away l s (given ++ Noted (event.Redone p y) ∷ []) new cards left [] first r.talk p k.1 here refl drops z) (redone_waits cards left p turns late waiting drops);
+  ends = λ new left drops z. r.goes new left (at_end_away l s (given ++ Noted (event.Redone p y) ∷ []) new cards left [] first r.talk p k.1 here refl drops z) (λ over q i. gone_end s (given ++ Noted (event.Redone p y) ∷ []) new p q z (gone q (drops.were q i).0 (drops.were q i).1 over)) (redone_waits cards left p turns late waiting drops);
 })
   where
     r : Redone s given session1 p y cards late turns first delay
@@ -276,6 +293,15 @@ asks_again_in l s given given1 x session1 p y cards turns late first delay may g
     told = fate_noted s given p (event.Redone p y) Later note (l.later s given [] first (round_of delay false late (p ∷ turns)) p at.below at.runs own (or_yes (contains p late) (contains p (p ∷ turns)) (first_has p turns)))
         ∙ ap (λ (b : Bool). cond b (fate_here y) (fate_there y Later)) (self p)
 
+    gone : (q : ℕ) → contains q cards ≡ true → (q == p) ≡ false → IsGone (fate_there y Later) → IsGone (fate_now s (given ++ Noted (event.Redone p y) ∷ []) q)
+    gone q i other over =
+        let w : waits q (round_of delay false late (p ∷ turns)) ≡ true = elim (waiting.each q i) [
+          | inl k ↦ ap (λ (b : Bool). b || contains q (p ∷ turns)) k
+          | inr k ↦ or_yes (contains q late) (contains q (p ∷ turns)) k
+        ] in
+        let was = l.later s given [] first (round_of delay false late (p ∷ turns)) q at.below at.runs (at.own q i) w in
+        subst IsGone (sym (fate_noted s given q (event.Redone p y) Later note was ∙ ap (λ (b : Bool). cond b (fate_here y) (fate_there y Later)) other)) over
+
 pub asks_again : (l : DeskLaws) (s : Standing) (given given1 : List Given) (session session1 : Option SessionSeen) (p : ℕ) (y : Reply) (cards turns : List ℕ)
     → IsOpen session → MayReply false y → ((x : SessionSeen) → session ≡ Some x → GoesOn x (standing_after y) session1) → given1 ≡ given ++ Noted (event.Redone p y) ∷ [] → contains p cards ≡ true
     → InRoundsAt s given session cards (p ∷ turns) → AskedAgain s given given1 session1 p y cards turns
@@ -283,7 +309,7 @@ asks_again l s given given1 None session1 p y cards turns ready may goes g here 
 asks_again l s given given1 (Some x) session1 p y cards turns ready may goes g here h = asks_again_in l s given given1 x session1 p y cards turns h.2 h.0 h.1 may (goes x refl) g here h.3 h.4
 
 -- the card that was listed first
-pub redo_has : (p : ℕ) (old : List LateSeen) (c : LateSeen) (new : List LateSeen) → IsTaken p old c new → contains c.path (paths_of old) ≡ true
+pub redo_has : (p : ℕ) (old : List LateSeen) (c : LateSeen) (new : List LateSeen) → IsTaken p old c new → contains c.card.path (paths_of old) ≡ true
 redo_has p old c new taken = taken_late old new p c [] taken
 
 pub redo_turns : (s : Standing) (given : List Given) (session : Option SessionSeen) (cards names turns : List ℕ) (p : ℕ) → names ≡ p ∷ turns → InRoundsAt s given session cards names → InRoundsAt s given session cards (p ∷ turns)
@@ -295,13 +321,6 @@ redo_over s given session old new none same h = subst (λ (v : LateView). InRoun
     (subst (λ (ns : List ℕ). InRoundsAt s given session (paths_of (cards_of old)) (map (number_at old.numbers) ns)) none h)
 
 -- rounds are over
-over_waits : (q : ℕ) (t : Talk) → IsOver t → waits q t ≡ false
-over_waits q Ended h = refl
-over_waits q (Between []) h = refl
-over_waits q (Between (p ∷ rest)) h = absurd h
-over_waits q Refusing h = absurd h
-over_waits q (InRound r) h = absurd h
-
 pub rounds_lost : (s : Standing) (given : List Given) (session : Option SessionSeen) (cards turns : List ℕ) → session ≡ None → InRoundsAt s given session cards turns → AreApart cards
     → (rest : List ℕ) × (first : ℕ) × (t : Talk) × AreLost s given cards rest first t × IsOver t × (rest ≡ [])
 rounds_lost s given None cards turns none h apart = (
@@ -311,7 +330,7 @@ rounds_lost s given None cards turns none h apart = (
   record {
     at = subst (λ (xs : List ℕ). IsAt s given xs [] h.0 h.1) (sym (append-nil cards)) h.2;
     apart = subst AreApart (sym (append-nil cards)) apart;
-    lost = λ q i. over_waits q h.1 h.3;
+    gone = h.4;
   },
   h.3,
   refl,
@@ -398,6 +417,7 @@ serving_begins l s given v d none = subst (λ (gs : List Given). IsServing s gs 
     own = λ p h. record { start = d.own p h; stays = refl };
     among = λ p h. ap (λ (cs : List CardSeen). contains p (card_paths cs)) d.cards ∙ h;
     once = λ p. never p (contains p (card_paths v.cards)) (contains p (card_paths s.cards)) (ap (λ (cs : List CardSeen). contains p (card_paths cs)) d.cards);
+    shown = tt;
   };
   fresh = outside s v d;
   lates = refl;
@@ -423,6 +443,7 @@ left_times s p (g ∷ gs) e = go (is_path p (ended_path g)) refl e (λ k. left_t
 
 pub through : (l : DeskLaws) (s : Standing) (given : List Given) (v : DeskView) → IsDealt s v → IsDone s given → AreThrough s given
 through l s given v d h = record {
+  shown = (h.2).shown;
   core = ((h.2).runs).core;
   run = ((h.2).runs).run;
   claims = ((h.2).runs).claims;

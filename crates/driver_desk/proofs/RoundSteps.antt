@@ -18,19 +18,22 @@ use Rattle.filter_proto.specs.declared.session.Standing.TheVariants as standing
 use Rattle.checkout_core.specs.Talks.{talk_run, IsOver}
 use Rattle.driver_line.specs.Conversations.{Exchange, Listing, Second, Shutting, notes_of, notes_in, list_notes, FitsTalk}
 use Rattle.driver_line.specs.Lines.{LineView, Paths, Says, RunsTo, MayReply, GoesOn, NamesAre, AreKnown, IsLive, IsOpen, list_standing}
+use Rattle.edge_kit.specs.Told.{Tells}
 use Rattle.edge_kit.specs.Starters.{StarterSeen, Had}
 use Rattle.checkout_core.specs.Transcripts.{Item}
 use Rattle.checkout_core.specs.Transcripts as result
 use Rattle.driver_line.specs.Transcripts.{HasItems}
 use Rattle.driver_line.specs.ToldStarts.{GoBy}
-use Rattle.driver_desk.specs.Serving.{IsServed, Given, Noted, noted_in, Talks, Serves, talk_now, newest}
-use Rattle.driver_desk.specs.Rounds.{round_of, minus, AreAmong, AreApart, AreWaiting, InRounds, TalkOver, RoundsBy, LateSeen, paths_of, IsReady, AreReady, FitTexts, IsTaken, IsNext, GrowsLate, RedoneCards, TurnsBy}
+use Rattle.driver_desk.specs.Serving.{IsServed, Given, Noted, noted_in, AllSealed, AreClosings, NoAnswer, HasAnswer, Talks, Serves, talk_now, newest}
+use Rattle.driver_desk.specs.Rounds.{round_of, minus, AreAmong, AreApart, AreWaiting, InRounds, TalkOver, RoundsBy, LateSeen, paths_of, AreReady, FitTexts, IsTaken, IsNext, GrowsLate, RedoneCards, TurnsBy}
+use Rattle.driver_desk.specs.Recorders.{Standing as Seat}
+use Rattle.driver_desk.specs.Cards.{IsReadCard}
 use Rattle.driver_desk.specs.Places.{naming_after}
 use Rattle.driver_desk.specs.Late.{LateView, KeepsNames, FitsNames, cards_of, names_at}
 use Rattle.driver_desk.specs.Works.{card_paths}
 use Rattle.driver_line.specs.Lines.{weight, number_at, names_in}
 use Rattle.convert_plan.specs.Card.{CardSeen}
-use Rattle.driver_desk.proofs.Serves.{runs_more, notes_more, noted_more, talk_more, one_step, leads_more, leads_run, leads_from}
+use Rattle.driver_desk.proofs.Serves.{answers_more, all_more, all_mono, all_none, has_last, second_answer, runs_more, notes_more, noted_more, talk_more, one_step, leads_more, leads_run, leads_from}
 
 pub bool_or : (b : Bool) → (b ≡ true) ⊎ (b ≡ false)
 bool_or true = inl refl
@@ -177,8 +180,9 @@ names_talk d delay late names n e lt k =
 -- one more exchange
 
 pub talks_more : (d : ℕ) (paths : Paths) (line0 : LineView) (given0 : List Given) (asked : List ℕ) (line line1 : LineView) (given given1 new : List Given) (t u : Talk) (e : Exchange)
-    → Talks d paths line0 given0 asked line given t → Says paths line e line1 → given1 ≡ given ++ new → noted_in new ≡ notes_of d e → FitsTalk t e → talk_run d t (notes_of d e) ≡ Some u → Talks d paths line0 given0 asked line1 given1 u
-talks_more d paths line0 given0 asked line line1 given given1 new t u e s says g n fits moves = record {
+    → Talks d paths line0 given0 asked line given t → Says paths line e line1 → given1 ≡ given ++ new → noted_in new ≡ notes_of d e → FitsTalk t e → talk_run d t (notes_of d e) ≡ Some u → AllSealed NoAnswer new → Talks d paths line0 given0 asked line1 given1 u
+talks_more d paths line0 given0 asked line line1 given given1 new t u e s says g n fits moves sealed = record {
+  answers = answers_more s.exchanges e s.more new s.answers sealed;
   exchanges = s.exchanges ++ e ∷ [];
   more = s.more ++ new;
   runs = runs_more paths line0 line line1 s.exchanges e s.runs says;
@@ -188,8 +192,9 @@ talks_more d paths line0 given0 asked line line1 given given1 new t u e s says g
 }
 
 pub talks_closed : (d : ℕ) (paths : Paths) (line0 : LineView) (given0 : List Given) (asked : List ℕ) (line : LineView) (given given1 new : List Given) (t : Talk)
-    → Talks d paths line0 given0 asked line given t → given1 ≡ given ++ new → noted_in new ≡ [] → Talks d paths line0 given0 asked line given1 t
-talks_closed d paths line0 given0 asked line given given1 new t s g n = record {
+    → (s : Talks d paths line0 given0 asked line given t) → given1 ≡ given ++ new → noted_in new ≡ [] → AllSealed (HasAnswer s.exchanges) new → Talks d paths line0 given0 asked line given1 t
+talks_closed d paths line0 given0 asked line given given1 new t s g n sealed = record {
+  answers = all_more (HasAnswer s.exchanges) s.more new s.answers sealed;
   exchanges = s.exchanges;
   more = s.more ++ new;
   runs = s.runs;
@@ -201,16 +206,16 @@ talks_closed d paths line0 given0 asked line given given1 new t s g n = record {
 -- a list
 
 listed_over : (d : ℕ) (paths : Paths) (line0 : LineView) (given0 : List Given) (asked : List ℕ) (line line1 : LineView) (given given1 new : List Given) (cards names : List ℕ) (r : ListReply) (u : Talk) (o1 : Option SessionSeen)
-    → InRounds d paths line0 given0 asked line given cards [] → ((late : List ℕ) → ((q : ℕ) → contains q late ≡ contains q cards) → Says paths line (Listing late names r) line1) → o1 ≡ None → given1 ≡ given ++ new → noted_in new ≡ list_notes d names r
+    → InRounds d paths line0 given0 asked line given cards [] → ((late : List ℕ) → ((q : ℕ) → contains q late ≡ contains q cards) → Says paths line (Listing late names r) line1) → o1 ≡ None → given1 ≡ given ++ new → noted_in new ≡ list_notes d names r → AllSealed NoAnswer new
     → ((delay : Bool) (late : List ℕ) → talk_run d (round_of delay false late []) (list_notes d names r) ≡ Some u) → IsOver u → RoundsBy d paths line0 given0 asked o1 line1 given1 cards names
-listed_over d paths line0 given0 asked line line1 given given1 new cards names r u o1 h says none g n moves over =
+listed_over d paths line0 given0 asked line line1 given given1 new cards names r u o1 h says none g n sealed moves over =
     subst (λ (o : Option SessionSeen). RoundsBy d paths line0 given0 asked o line1 given1 cards names) (sym none)
-    (u, talks_more d paths line0 given0 asked line line1 given given1 new (round_of h.0 false h.1 []) u (Listing h.1 names r) h.2 (says h.1 (late_cards cards h.1 h.3)) g n refl (moves h.0 h.1), over)
+    (u, talks_more d paths line0 given0 asked line line1 given given1 new (round_of h.0 false h.1 []) u (Listing h.1 names r) h.2 (says h.1 (late_cards cards h.1 h.3)) g n refl (moves h.0 h.1) sealed, over)
 
 listed_in : (d : ℕ) (paths : Paths) (line0 : LineView) (given0 : List Given) (asked : List ℕ) (line line1 : LineView) (given given1 new : List Given) (cards names : List ℕ) (r : ListReply) (s : SessionSeen) (o1 : Option SessionSeen)
-    → s.caps.smudge ≡ true → InRounds d paths line0 given0 asked line given cards [] → NamesAre cards names r → ((late : List ℕ) → ((q : ℕ) → contains q late ≡ contains q cards) → Says paths line (Listing late names r) line1) → GoesOn s (list_standing r) o1 → given1 ≡ given ++ new → noted_in new ≡ list_notes d names r
+    → s.caps.smudge ≡ true → InRounds d paths line0 given0 asked line given cards [] → NamesAre cards names r → ((late : List ℕ) → ((q : ℕ) → contains q late ≡ contains q cards) → Says paths line (Listing late names r) line1) → GoesOn s (list_standing r) o1 → given1 ≡ given ++ new → noted_in new ≡ list_notes d names r → AllSealed NoAnswer new
     → RoundsBy d paths line0 given0 asked o1 line1 given1 cards names
-listed_in d paths line0 given0 asked line line1 given given1 new cards names (list.Names n) s o1 smudge h are says goes g ns =
+listed_in d paths line0 given0 asked line line1 given given1 new cards names (list.Names n) s o1 smudge h are says goes g ns sealed =
     let same = late_cards cards h.1 h.3 in
     let among : AreAmong cards h.1 = λ q k. same q ∙ k in
     subst (λ (o : Option SessionSeen). RoundsBy d paths line0 given0 asked o line1 given1 cards names) (sym goes.1) (
@@ -219,21 +224,21 @@ listed_in d paths line0 given0 asked line line1 given given1 new cards names (li
       (
         h.0,
         minus h.1 names,
-        talks_more d paths line0 given0 asked line line1 given given1 new (round_of h.0 false h.1 []) (round_of h.0 false (minus h.1 names) names) (Listing h.1 names (list.Names n)) h.2 (says h.1 same) g ns refl (names_talk d h.0 h.1 names n are.0 are.1 (known_among cards h.1 names among are.2)),
+        talks_more d paths line0 given0 asked line line1 given given1 new (round_of h.0 false h.1 []) (round_of h.0 false (minus h.1 names) names) (Listing h.1 names (list.Names n)) h.2 (says h.1 same) g ns refl (names_talk d h.0 h.1 names n are.0 are.1 (known_among cards h.1 names among are.2)) sealed,
         names_wait cards h.1 names h.3,
       ),
     )
-listed_in d paths line0 given0 asked line line1 given given1 new cards names list.Empty s o1 smudge h are says goes g ns = listed_over d paths line0 given0 asked line line1 given given1 new cards names list.Empty Ended o1 h says goes g ns (λ delay late. one_step d (round_of delay false late []) Ended (event.Listed d list.Empty) (self d) refl) tt
-listed_in d paths line0 given0 asked line line1 given given1 new cards names list.Abort s o1 smudge h are says goes g ns = listed_over d paths line0 given0 asked line line1 given given1 new cards names list.Abort Ended o1 h says goes g ns (λ delay late. one_step d (round_of delay false late []) Ended (event.Listed d list.Abort) (self d) refl) tt
-listed_in d paths line0 given0 asked line line1 given given1 new cards names (list.Broken c) s o1 smudge h are says goes g ns = listed_over d paths line0 given0 asked line line1 given given1 new cards names (list.Broken c) (Between []) o1 h says goes g ns (λ delay late. one_step d (round_of delay false late []) (Between []) (event.Listed d (list.Broken c)) (self d) refl) tt
-listed_in d paths line0 given0 asked line line1 given given1 new cards names list.NoMemory s o1 smudge h are says goes g ns = listed_over d paths line0 given0 asked line line1 given given1 new cards names list.NoMemory (Between []) o1 h says goes g ns (λ delay late. one_step d (round_of delay false late []) (Between []) (event.Listed d list.NoMemory) (self d) refl) tt
+listed_in d paths line0 given0 asked line line1 given given1 new cards names list.Empty s o1 smudge h are says goes g ns sealed = listed_over d paths line0 given0 asked line line1 given given1 new cards names list.Empty Ended o1 h says goes g ns sealed (λ delay late. one_step d (round_of delay false late []) Ended (event.Listed d list.Empty) (self d) refl) tt
+listed_in d paths line0 given0 asked line line1 given given1 new cards names list.Abort s o1 smudge h are says goes g ns sealed = listed_over d paths line0 given0 asked line line1 given given1 new cards names list.Abort Ended o1 h says goes g ns sealed (λ delay late. one_step d (round_of delay false late []) Ended (event.Listed d list.Abort) (self d) refl) tt
+listed_in d paths line0 given0 asked line line1 given given1 new cards names (list.Broken c) s o1 smudge h are says goes g ns sealed = listed_over d paths line0 given0 asked line line1 given given1 new cards names (list.Broken c) (Between []) o1 h says goes g ns sealed (λ delay late. one_step d (round_of delay false late []) (Between []) (event.Listed d (list.Broken c)) (self d) refl) tt
+listed_in d paths line0 given0 asked line line1 given given1 new cards names list.NoMemory s o1 smudge h are says goes g ns sealed = listed_over d paths line0 given0 asked line line1 given given1 new cards names list.NoMemory (Between []) o1 h says goes g ns sealed (λ delay late. one_step d (round_of delay false late []) (Between []) (event.Listed d list.NoMemory) (self d) refl) tt
 
 pub listed : (d : ℕ) (paths : Paths) (line0 : LineView) (given0 : List Given) (asked : List ℕ) (line line1 : LineView) (given given1 new : List Given) (cards names : List ℕ) (r : ListReply) (o o1 : Option SessionSeen)
-    → IsLive o → RoundsBy d paths line0 given0 asked o line given cards [] → NamesAre cards names r → ((late : List ℕ) → ((q : ℕ) → contains q late ≡ contains q cards) → Says paths line (Listing late names r) line1) → ((s : SessionSeen) → o ≡ Some s → GoesOn s (list_standing r) o1) → given1 ≡ given ++ new → noted_in new ≡ list_notes d names r
+    → IsLive o → RoundsBy d paths line0 given0 asked o line given cards [] → NamesAre cards names r → ((late : List ℕ) → ((q : ℕ) → contains q late ≡ contains q cards) → Says paths line (Listing late names r) line1) → ((s : SessionSeen) → o ≡ Some s → GoesOn s (list_standing r) o1) → given1 ≡ given ++ new → noted_in new ≡ list_notes d names r → AllSealed NoAnswer new
     → RoundsBy d paths line0 given0 asked o1 line1 given1 cards names
-listed d paths line0 given0 asked line line1 given given1 new cards names r None o1 live h are says goes g ns = absurd live
-listed d paths line0 given0 asked line line1 given given1 new cards names r (Some s) o1 live h are says goes g ns =
-    listed_in d paths line0 given0 asked line line1 given given1 new cards names r s o1 h.1 h.2 are says (goes s refl) g ns
+listed d paths line0 given0 asked line line1 given given1 new cards names r None o1 live h are says goes g ns sealed = absurd live
+listed d paths line0 given0 asked line line1 given given1 new cards names r (Some s) o1 live h are says goes g ns sealed =
+    listed_in d paths line0 given0 asked line line1 given given1 new cards names r s o1 h.1 h.2 are says (goes s refl) g ns sealed
 
 -- a second request
 
@@ -280,32 +285,41 @@ redone_in d paths line0 given0 asked line1 given2 cards cards1 p turns late dela
 redone_in d paths line0 given0 asked line1 given2 cards cards1 p turns late delay s o1 reply.NoMemory smudge may goes t waits left =
     redone_over d paths line0 given0 asked line1 given2 cards1 turns (Between []) o1 goes (t (Between []) (redo_step d delay late turns p reply.NoMemory (Between []) refl refl refl)) tt
 
+redone_talks : (d : ℕ) (paths : Paths) (line0 : LineView) (given0 : List Given) (asked : List ℕ) (line line1 : LineView) (given given1 given2 : List Given) (p : ℕ) (r : Reply) (content : List ℕ) (t u : Talk)
+    → Talks d paths line0 given0 asked line given t → Says paths line (Second p r content) line1 → given1 ≡ given ++ Noted (event.Redone p r) ∷ [] → FitsTalk t (Second p r content)
+    → talk_run d t (event.Redone p r ∷ []) ≡ Some u → AreClosings (λ q told. (r ≡ reply.Content) × (q ≡ p) × Tells told content) given1 given2 → Talks d paths line0 given0 asked line1 given2 u
+unfolding talks_more
+redone_talks d paths line0 given0 asked line line1 given given1 given2 p r content t u h says g fits moves more =
+    talks_closed d paths line0 given0 asked line1 given1 given2 more.0 u
+    (talks_more d paths line0 given0 asked line line1 given given1 (Noted (event.Redone p r) ∷ []) t u (Second p r content) h says g refl fits moves (tt, tt)) more.1 more.2
+    (all_mono (λ q told. (r ≡ reply.Content) × (q ≡ p) × Tells told content) (HasAnswer (h.exchanges ++ Second p r content ∷ []))
+    (λ q told k. has_last h.exchanges (Second p r content) q told (second_answer p r content q told k.0 k.1 k.2)) more.0 more.3)
+
 pub redone : (d : ℕ) (paths : Paths) (line0 : LineView) (given0 : List Given) (asked : List ℕ) (line line1 : LineView) (given given1 given2 : List Given) (cards cards1 : List ℕ) (p : ℕ) (turns : List ℕ) (o o1 : Option SessionSeen) (r : Reply) (content : List ℕ)
     → IsLive o → RoundsBy d paths line0 given0 asked o line given cards (p ∷ turns) → MayReply false r → Says paths line (Second p r content) line1 → ((s : SessionSeen) → o ≡ Some s → GoesOn s (standing_after r) o1)
-    → given1 ≡ given ++ Noted (event.Redone p r) ∷ [] → (more : List Given) × (given2 ≡ given1 ++ more) × (noted_in more ≡ []) → RedoneCards cards p cards1
+    → given1 ≡ given ++ Noted (event.Redone p r) ∷ [] → AreClosings (λ q told. (r ≡ reply.Content) × (q ≡ p) × Tells told content) given1 given2 → RedoneCards cards p cards1
     → RoundsBy d paths line0 given0 asked o1 line1 given2 cards1 turns
 redone d paths line0 given0 asked line line1 given given1 given2 cards cards1 p turns None o1 r content live h may says goes g more left = absurd live
 redone d paths line0 given0 asked line line1 given given1 given2 cards cards1 p turns (Some s) o1 r content live h may says goes g more left =
     redone_in d paths line0 given0 asked line1 given2 cards cards1 p turns h.2.1 h.2.0 s o1 r h.1 may (goes s refl)
-    (λ u moves. talks_closed d paths line0 given0 asked line1 given1 given2 more.0 u
-    (talks_more d paths line0 given0 asked line line1 given given1 (Noted (event.Redone p r) ∷ []) (round_of h.2.0 false h.2.1 (p ∷ turns)) u (Second p r content) h.2.2 says g refl tt moves) more.1 more.2)
+    (λ u moves. redone_talks d paths line0 given0 asked line line1 given given1 given2 p r content (round_of h.2.0 false h.2.1 (p ∷ turns)) u h.2.2 says g tt moves more)
     h.2.3 left
 
 -- the cards without the one that was taken
 
 contains_split : (q : ℕ) (before after : List LateSeen) (c : LateSeen) → contains q (paths_of (before ++ after)) ≡ true → contains q (paths_of (before ++ c ∷ after)) ≡ true
-contains_split q [] after c h = elim (bool_or (q == c.path)) [
+contains_split q [] after c h = elim (bool_or (q == c.card.path)) [
   | inl same ↦ ap (λ (b : Bool). cond b true (contains q (paths_of after))) same
   | inr other ↦ ap (λ (b : Bool). cond b true (contains q (paths_of after))) other ∙ h
 ]
-contains_split q (b ∷ bs) after c h = elim (bool_or (q == b.path)) [
+contains_split q (b ∷ bs) after c h = elim (bool_or (q == b.card.path)) [
   | inl same ↦ ap (λ (x : Bool). cond x true (contains q (paths_of (bs ++ c ∷ after)))) same
   | inr other ↦ ap (λ (x : Bool). cond x true (contains q (paths_of (bs ++ c ∷ after)))) other ∙ contains_split q bs after c (sym (ap (λ (x : Bool). cond x true (contains q (paths_of (bs ++ after)))) other) ∙ h)
 ]
 
-contains_left : (q : ℕ) (before after : List LateSeen) (c : LateSeen) → contains q (paths_of (before ++ c ∷ after)) ≡ true → (q == c.path) ≡ false → contains q (paths_of (before ++ after)) ≡ true
+contains_left : (q : ℕ) (before after : List LateSeen) (c : LateSeen) → contains q (paths_of (before ++ c ∷ after)) ≡ true → (q == c.card.path) ≡ false → contains q (paths_of (before ++ after)) ≡ true
 contains_left q [] after c h other = sym (ap (λ (b : Bool). cond b true (contains q (paths_of after))) other) ∙ h
-contains_left q (b ∷ bs) after c h other = elim (bool_or (q == b.path)) [
+contains_left q (b ∷ bs) after c h other = elim (bool_or (q == b.card.path)) [
   | inl same ↦ ap (λ (x : Bool). cond x true (contains q (paths_of (bs ++ after)))) same
   | inr away ↦ ap (λ (x : Bool). cond x true (contains q (paths_of (bs ++ after)))) away ∙ contains_left q bs after c (sym (ap (λ (x : Bool). cond x true (contains q (paths_of (bs ++ c ∷ after)))) away) ∙ h) other
 ]
@@ -316,37 +330,44 @@ away_from q p ps no_p has_q = elim (bool_or (q == p)) [
   | inr other ↦ other
 ]
 
-has_middle : (before after : List LateSeen) (c : LateSeen) → contains c.path (paths_of (before ++ c ∷ after)) ≡ true
-has_middle [] after c = ap (λ (b : Bool). cond b true (contains c.path (paths_of after))) (self c.path)
-has_middle (b ∷ bs) after c = elim (bool_or (c.path == b.path)) [
-  | inl same ↦ ap (λ (x : Bool). cond x true (contains c.path (paths_of (bs ++ c ∷ after)))) same
-  | inr other ↦ ap (λ (x : Bool). cond x true (contains c.path (paths_of (bs ++ c ∷ after)))) other ∙ has_middle bs after c
+has_middle : (before after : List LateSeen) (c : LateSeen) → contains c.card.path (paths_of (before ++ c ∷ after)) ≡ true
+has_middle [] after c = ap (λ (b : Bool). cond b true (contains c.card.path (paths_of after))) (self c.card.path)
+has_middle (b ∷ bs) after c = elim (bool_or (c.card.path == b.card.path)) [
+  | inl same ↦ ap (λ (x : Bool). cond x true (contains c.card.path (paths_of (bs ++ c ∷ after)))) same
+  | inr other ↦ ap (λ (x : Bool). cond x true (contains c.card.path (paths_of (bs ++ c ∷ after)))) other ∙ has_middle bs after c
 ]
 
 false_of : (b : Bool) → (b ≡ true → ⊥) → b ≡ false
 false_of true h = absurd (h refl)
 false_of false h = refl
 
-pub apart_split : (before after : List LateSeen) (c : LateSeen) → AreApart (paths_of (before ++ c ∷ after)) → AreApart (paths_of (before ++ after)) × (contains c.path (paths_of (before ++ after)) ≡ false)
+pub apart_split : (before after : List LateSeen) (c : LateSeen) → AreApart (paths_of (before ++ c ∷ after)) → AreApart (paths_of (before ++ after)) × (contains c.card.path (paths_of (before ++ after)) ≡ false)
 apart_split [] after c h = (h.1, h.0)
 apart_split (b ∷ bs) after c h =
     let rest = apart_split bs after c h.1 in
-    let b_not : contains b.path (paths_of (bs ++ after)) ≡ false = false_of _ (λ has. cc (sym (contains_split b.path bs after c has) ∙ h.0)) in
-    let other : (c.path == b.path) ≡ false = false_of _ (λ same. cc (sym (ap (λ (x : ℕ). contains x (paths_of (bs ++ c ∷ after))) (eqb-true c.path b.path same)) ∙ has_middle bs after c, h.0)) in
-    ((b_not, rest.0), ap (λ (x : Bool). cond x true (contains c.path (paths_of (bs ++ after)))) other ∙ rest.1)
+    let b_not : contains b.card.path (paths_of (bs ++ after)) ≡ false = false_of _ (λ has. cc (sym (contains_split b.card.path bs after c has) ∙ h.0)) in
+    let other : (c.card.path == b.card.path) ≡ false = false_of _ (λ same. cc (sym (ap (λ (x : ℕ). contains x (paths_of (bs ++ c ∷ after))) (eqb-true c.card.path b.card.path same)) ∙ has_middle bs after c, h.0)) in
+    ((b_not, rest.0), ap (λ (x : Bool). cond x true (contains c.card.path (paths_of (bs ++ after)))) other ∙ rest.1)
 
-ready_split : (before after : List LateSeen) (c : LateSeen) → AreReady (before ++ c ∷ after) → IsReady c × AreReady (before ++ after)
-ready_split [] after c h = (h.0, h.1)
-ready_split (b ∷ bs) after c h = let rest = ready_split bs after c h.1 in (rest.0, (h.0, rest.1))
+ready_split : (s : Seat) (before after : List LateSeen) (c : LateSeen) → AreReady s (before ++ c ∷ after) → IsReadCard s c.card c.unencoded × AreReady s (before ++ after)
+ready_split s [] after c h = (h.0, h.1)
+ready_split s (b ∷ bs) after c h = let rest = ready_split s bs after c h.1 in (rest.0, (h.0, rest.1))
 
-fit_split : (paths : Paths) (before after : List LateSeen) (c : LateSeen) → FitTexts paths (before ++ c ∷ after) → (paths.text c.path ≡ c.text) × FitTexts paths (before ++ after)
+fit_split : (paths : Paths) (before after : List LateSeen) (c : LateSeen) → FitTexts paths (before ++ c ∷ after) → (paths.text c.card.path ≡ c.card.text) × FitTexts paths (before ++ after)
 fit_split paths [] after c h = (h.0, h.1)
 fit_split paths (b ∷ bs) after c h = let rest = fit_split paths bs after c h.1 in (rest.0, (h.0, rest.1))
 
-pub taken_ready : (p : ℕ) (old new : List LateSeen) (c : LateSeen) → IsTaken p old c new → AreReady old → IsReady c × AreReady new
-taken_ready p old new c t h = let r = ready_split t.before t.after c (subst AreReady t.was h) in (r.0, subst AreReady (sym t.left) r.1)
+pub taken_ready : (s : Seat) (p : ℕ) (old new : List LateSeen) (c : LateSeen) → IsTaken p old c new → AreReady s old → IsReadCard s c.card c.unencoded × AreReady s new
+taken_ready s p old new c t h = let r = ready_split s t.before t.after c (subst (AreReady s) t.was h) in (r.0, subst (AreReady s) (sym t.left) r.1)
 
-pub taken_fits : (paths : Paths) (p : ℕ) (old new : List LateSeen) (c : LateSeen) → IsTaken p old c new → FitTexts paths old → (paths.text p ≡ c.text) × FitTexts paths new
+-- the same for an equal standing
+pub ready_as : (s s1 : Seat) (cs : List LateSeen) → s1 ≡ s → AreReady s cs → AreReady s1 cs
+ready_as s s1 cs same h = subst (λ (z : Seat). AreReady z cs) (sym same) h
+
+pub read_as : (s s1 : Seat) (c : CardSeen) (u : Bool) → s1 ≡ s → IsReadCard s c u → IsReadCard s1 c u
+read_as s s1 c u same h = subst (λ (z : Seat). IsReadCard z c u) (sym same) h
+
+pub taken_fits : (paths : Paths) (p : ℕ) (old new : List LateSeen) (c : LateSeen) → IsTaken p old c new → FitTexts paths old → (paths.text p ≡ c.card.text) × FitTexts paths new
 taken_fits paths p old new c t h =
     let r = fit_split paths t.before t.after c (subst (FitTexts paths) t.was h) in
     (ap paths.text (sym t.named) ∙ r.0, subst (FitTexts paths) (sym t.left) r.1)
@@ -360,7 +381,7 @@ taken_redone p old new c t h = record {
       let k1 = subst (λ (x : List LateSeen). contains q (paths_of x) ≡ true) t.left k in
       let none = (apart_split t.before t.after c (subst (λ (x : List LateSeen). AreApart (paths_of x)) t.was h)).1 in (
         subst (λ (x : List LateSeen). contains q (paths_of x) ≡ true) (sym t.was) (contains_split q t.before t.after c k1),
-        subst (λ (x : ℕ). (q == x) ≡ false) t.named (away_from q c.path (paths_of (t.before ++ t.after)) none k1),
+        subst (λ (x : ℕ). (q == x) ≡ false) t.named (away_from q c.card.path (paths_of (t.before ++ t.after)) none k1),
       );
   stay = λ q k other.
       subst (λ (x : List LateSeen). contains q (paths_of x) ≡ true) (sym t.left)
@@ -399,12 +420,13 @@ named_more a b c names i lt h e = (
   noted_more h.0 (Noted (event.Named (get_or names i 0)) ∷ []) ∙ (ap (λ (x : List Event). x ++ event.Named (get_or names i 0) ∷ []) h.2 ∙ sym (ap (map event.Named) (take_more names i lt) ∙ map-append event.Named (take i names) (get_or names i 0 ∷ []))),
 )
 
-pub list_noted : (d : ℕ) (a b c : List Given) (names : List ℕ) (r : ListReply) (n : ℕ) → r ≡ list.Names n → (more : List Given) × (b ≡ a ++ more) × (noted_in more ≡ map event.Named names) → c ≡ b ++ Noted (event.Listed d r) ∷ []
-    → (more : List Given) × (c ≡ a ++ more) × (noted_in more ≡ list_notes d names r)
+pub list_noted : (d : ℕ) (a b c : List Given) (names : List ℕ) (r : ListReply) (n : ℕ) → r ≡ list.Names n → (more : List Given) × (b ≡ a ++ more) × (noted_in more ≡ map event.Named names) × AllSealed NoAnswer more → c ≡ b ++ Noted (event.Listed d r) ∷ []
+    → (more : List Given) × (c ≡ a ++ more) × (noted_in more ≡ list_notes d names r) × AllSealed NoAnswer more
 list_noted d a b c names r n is h e = rw is (
   h.0 ++ Noted (event.Listed d (list.Names n)) ∷ [],
   rw is at e ∙ (ap (λ (x : List Given). x ++ Noted (event.Listed d (list.Names n)) ∷ []) h.1 ∙ append_assoc a h.0 _),
   noted_more h.0 (Noted (event.Listed d (list.Names n)) ∷ []) ∙ ap (λ (x : List Event). x ++ event.Listed d (list.Names n) ∷ []) h.2,
+  all_more NoAnswer h.0 (Noted (event.Listed d (list.Names n)) ∷ []) h.3 (tt, tt),
 )
 
 -- one name after another
@@ -433,29 +455,29 @@ some_open None o1 cards names r h goes are there = absurd h
 some_open (Some s) o1 cards names r h goes are there = some_listed cards names r s o1 (goes s refl) are there
 
 pub rounds_over : (d : ℕ) (paths : Paths) (line0 : LineView) (given0 : List Given) (asked : List ℕ) (o : Option SessionSeen) (line : LineView) (given given1 : List Given) (cards turns : List ℕ) → o ≡ None
-    → (more : List Given) × (given1 ≡ given ++ more) × (noted_in more ≡ []) → RoundsBy d paths line0 given0 asked o line given cards turns → TalkOver d paths line0 given0 asked line given1
-rounds_over d paths line0 given0 asked None line given given1 cards turns none more h = (h.0, talks_closed d paths line0 given0 asked line given given1 more.0 h.0 h.1 more.1 more.2, h.2)
+    → AreClosings NoAnswer given given1 → RoundsBy d paths line0 given0 asked o line given cards turns → TalkOver d paths line0 given0 asked line given1
+rounds_over d paths line0 given0 asked None line given given1 cards turns none more h = (h.0, talks_closed d paths line0 given0 asked line given given1 more.0 h.0 h.1 more.1 more.2 (all_none (HasAnswer (h.1).exchanges) more.0 more.3), h.2)
 rounds_over d paths line0 given0 asked (Some s) line given given1 cards turns none more h = absurd (cc)
 
 -- late cards as cards are served
 
-ready_push : (cs : List LateSeen) (c : LateSeen) → IsReady c → AreReady cs → AreReady (cs ++ c ∷ [])
-ready_push [] c r h = (r, tt)
-ready_push (x ∷ xs) c r h = (h.0, ready_push xs c r h.1)
+ready_push : (s : Seat) (cs : List LateSeen) (c : LateSeen) → IsReadCard s c.card c.unencoded → AreReady s cs → AreReady s (cs ++ c ∷ [])
+ready_push s [] c r h = (r, tt)
+ready_push s (x ∷ xs) c r h = (h.0, ready_push s xs c r h.1)
 
-pub grows_ready : (old : List LateSeen) (c : LateSeen) (new : List LateSeen) → GrowsLate old c new → IsReady c → AreReady old → AreReady new
-grows_ready old c new (inl e) r h = subst AreReady (sym e) h
-grows_ready old c new (inr (inl e)) r h = subst AreReady (sym e) (ready_push old c r h)
-grows_ready old c new (inr (inr e)) r h = subst AreReady (sym e) tt
+pub grows_ready : (s : Seat) (old new : List LateSeen) (path : ℕ) (text : List ℕ) → GrowsLate s old path text new → AreReady s old → AreReady s new
+grows_ready s old new path text (inl e) h = subst (AreReady s) (sym e) h
+grows_ready s old new path text (inr (inl e)) h = subst (AreReady s) (sym e.1) (ready_push s old e.0 e.2 h)
+grows_ready s old new path text (inr (inr e)) h = subst (AreReady s) (sym e) tt
 
-fits_push : (paths : Paths) (cs : List LateSeen) (c : LateSeen) → paths.text c.path ≡ c.text → FitTexts paths cs → FitTexts paths (cs ++ c ∷ [])
+fits_push : (paths : Paths) (cs : List LateSeen) (c : LateSeen) → paths.text c.card.path ≡ c.card.text → FitTexts paths cs → FitTexts paths (cs ++ c ∷ [])
 fits_push paths [] c r h = (r, tt)
 fits_push paths (x ∷ xs) c r h = (h.0, fits_push paths xs c r h.1)
 
-pub grows_fits : (paths : Paths) (old : List LateSeen) (c : LateSeen) (new : List LateSeen) → GrowsLate old c new → paths.text c.path ≡ c.text → FitTexts paths old → FitTexts paths new
-grows_fits paths old c new (inl e) r h = subst (FitTexts paths) (sym e) h
-grows_fits paths old c new (inr (inl e)) r h = subst (FitTexts paths) (sym e) (fits_push paths old c r h)
-grows_fits paths old c new (inr (inr e)) r h = subst (FitTexts paths) (sym e) tt
+pub grows_fits : (s : Seat) (paths : Paths) (old new : List LateSeen) (path : ℕ) (text : List ℕ) → GrowsLate s old path text new → paths.text path ≡ text → FitTexts paths old → FitTexts paths new
+grows_fits s paths old new path text (inl e) r h = subst (FitTexts paths) (sym e) h
+grows_fits s paths old new path text (inr (inl e)) r h = subst (FitTexts paths) (sym e.1) (fits_push paths old e.0 (ap paths.text e.3 ∙ (r ∙ sym e.4)) h)
+grows_fits s paths old new path text (inr (inr e)) r h = subst (FitTexts paths) (sym e) tt
 
 pub has_append : (q : ℕ) (xs ys : List ℕ) → contains q ys ≡ true → contains q (xs ++ ys) ≡ true
 has_append q [] ys h = h
@@ -493,18 +515,18 @@ pub apart_first : (xs ys : List ℕ) → AreApart (xs ++ ys) → AreApart xs
 apart_first [] ys h = tt
 apart_first (x ∷ xs) ys h = (false_of _ (λ has. cc (sym (has_front x xs ys has) ∙ h.0)), apart_first xs ys h.1)
 
-pub paths_push : (cs : List LateSeen) (c : LateSeen) → paths_of (cs ++ c ∷ []) ≡ paths_of cs ++ c.path ∷ []
+pub paths_push : (cs : List LateSeen) (c : LateSeen) → paths_of (cs ++ c ∷ []) ≡ paths_of cs ++ c.card.path ∷ []
 paths_push [] c = refl
-paths_push (x ∷ xs) c = ap (λ (ps : List ℕ). x.path ∷ ps) (paths_push xs c)
+paths_push (x ∷ xs) c = ap (λ (ps : List ℕ). x.card.path ∷ ps) (paths_push xs c)
 
-pub grows_apart : (old : List LateSeen) (c : LateSeen) (new : List LateSeen) (rest rest1 : List CardSeen) (w : CardSeen) → GrowsLate old c new → rest ≡ w ∷ rest1 → c.path ≡ w.path → AreApart (paths_of old ++ card_paths rest) → AreApart (paths_of new ++ card_paths rest1)
-grows_apart old c new rest rest1 w (inl e) i same h =
+pub grows_apart : (s : Seat) (old new : List LateSeen) (text : List ℕ) (rest rest1 : List CardSeen) (w : CardSeen) → GrowsLate s old w.path text new → rest ≡ w ∷ rest1 → AreApart (paths_of old ++ card_paths rest) → AreApart (paths_of new ++ card_paths rest1)
+grows_apart s old new text rest rest1 w (inl e) i h =
     subst (λ (x : List LateSeen). AreApart (paths_of x ++ card_paths rest1)) (sym e) (apart_drop w.path (paths_of old) (card_paths rest1) (rw i at h))
-grows_apart old c new rest rest1 w (inr (inl e)) i same h =
-    subst (λ (x : List LateSeen). AreApart (paths_of x ++ card_paths rest1)) (sym e)
-    (subst (λ (x : List ℕ). AreApart (x ++ card_paths rest1)) (sym (paths_push old c))
-    (subst AreApart (sym (append_assoc (paths_of old) (c.path ∷ []) (card_paths rest1))) (subst (λ (x : ℕ). AreApart (paths_of old ++ x ∷ card_paths rest1)) (sym same) (rw i at h))))
-grows_apart old c new rest rest1 w (inr (inr e)) i same h =
+grows_apart s old new text rest rest1 w (inr (inl e)) i h =
+    subst (λ (x : List LateSeen). AreApart (paths_of x ++ card_paths rest1)) (sym e.1)
+    (subst (λ (x : List ℕ). AreApart (x ++ card_paths rest1)) (sym (paths_push old e.0))
+    (subst AreApart (sym (append_assoc (paths_of old) (e.0.card.path ∷ []) (card_paths rest1))) (subst (λ (x : ℕ). AreApart (paths_of old ++ x ∷ card_paths rest1)) (sym e.3) (rw i at h))))
+grows_apart s old new text rest rest1 w (inr (inr e)) i h =
     subst (λ (x : List LateSeen). AreApart (paths_of x ++ card_paths rest1)) (sym e) (apart_last (paths_of old) (card_paths rest1) (apart_drop w.path (paths_of old) (card_paths rest1) (rw i at h)))
 
 -- the end of a talk
@@ -516,6 +538,7 @@ talks_of d paths line0 given0 asked line given aborted late s = record {
   runs = s.runs;
   given_is = s.given_is;
   noted = s.noted;
+  answers = s.answers;
   talk = leads_from d (asked ++ []) asked s.exchanges (talk_now line.session aborted late []) (append-nil asked) (s.talk []);
 }
 
@@ -543,7 +566,7 @@ pub over_shut : (d : ℕ) (paths : Paths) (line0 : LineView) (given0 : List Give
     → (line.session ≡ None → ⊥) → late ≡ [] ⊎ ((s : SessionSeen) → line.session ≡ Some s → s.caps.smudge ≡ false) → Says paths line Shutting line1 → given1 ≡ given ++ Noted (event.Shut d) ∷ []
     → Serves d paths line0 given0 asked [] line given false late → TalkOver d paths line0 given0 asked line1 given1
 over_shut d paths line0 given0 asked line line1 given given1 late there h says g s =
-    (Ended, talks_more d paths line0 given0 asked line line1 given given1 (Noted (event.Shut d) ∷ []) (talk_now line.session false late []) Ended Shutting (talks_of d paths line0 given0 asked line given false late s) says g refl tt (shut_talk d line.session late there h), tt)
+    (Ended, talks_more d paths line0 given0 asked line line1 given given1 (Noted (event.Shut d) ∷ []) (talk_now line.session false late []) Ended Shutting (talks_of d paths line0 given0 asked line given false late s) says g refl tt (shut_talk d line.session late there h) (tt, tt), tt)
 
 pub newest_has : (q : ℕ) (ps : List ℕ) → contains q ps ≡ true → contains q (newest ps) ≡ true
 newest_has q [] h = h
@@ -604,25 +627,27 @@ serves_start d paths line0 line given0 late e none l = record {
   runs = sym e;
   given_is = sym (append-nil given0);
   noted = refl;
+  answers = tt;
   talk = λ rest. sym (ap (λ (o : Option SessionSeen). talk_now o false late rest) (ap (λ (v : LineView). v.session) e ∙ none));
 }
 
 pub serves_as : (d : ℕ) (paths : Paths) (line0 : LineView) (given0 : List Given) (asked : List ℕ) (line : LineView) (given : List Given) (b c : Bool) (late : List ℕ) → b ≡ c → Serves d paths line0 given0 asked [] line given b late → Serves d paths line0 given0 asked [] line given c late
 serves_as d paths line0 given0 asked line given b c late e s = subst (λ (x : Bool). Serves d paths line0 given0 asked [] line given x late) e s
 
-pub named_place : (a b c : List Given) (numbers turns : List ℕ) (i n : ℕ) → i < length turns → n ≡ number_at numbers (get_or turns i 0) → (more : List Given) × (b ≡ a ++ more) × (noted_in more ≡ map event.Named (map (number_at numbers) (take i turns)))
-    → c ≡ b ++ Noted (event.Named n) ∷ [] → (more : List Given) × (c ≡ a ++ more) × (noted_in more ≡ map event.Named (map (number_at numbers) (take (i + 1) turns)))
+pub named_place : (a b c : List Given) (numbers turns : List ℕ) (i n : ℕ) → i < length turns → n ≡ number_at numbers (get_or turns i 0) → (more : List Given) × (b ≡ a ++ more) × (noted_in more ≡ map event.Named (map (number_at numbers) (take i turns))) × AllSealed NoAnswer more
+    → c ≡ b ++ Noted (event.Named n) ∷ [] → (more : List Given) × (c ≡ a ++ more) × (noted_in more ≡ map event.Named (map (number_at numbers) (take (i + 1) turns))) × AllSealed NoAnswer more
 named_place a b c numbers turns i n lt is h e = (
   h.0 ++ Noted (event.Named n) ∷ [],
   e ∙ (ap (λ (x : List Given). x ++ Noted (event.Named n) ∷ []) h.1 ∙ append_assoc a h.0 _),
   noted_more h.0 (Noted (event.Named n) ∷ []) ∙ (ap (λ (x : List Event). x ++ event.Named n ∷ []) h.2 ∙ sym (ap (λ (x : List ℕ). map event.Named (map (number_at numbers) x)) (take_more turns i lt)
       ∙ (ap (map event.Named) (map-append (number_at numbers) (take i turns) (get_or turns i 0 ∷ []) ∙ ap (λ (x : ℕ). map (number_at numbers) (take i turns) ++ x ∷ []) (sym is)) ∙ map-append event.Named (map (number_at numbers) (take i turns)) (n ∷ [])))),
+  all_more NoAnswer h.0 (Noted (event.Named n) ∷ []) h.3 (tt, tt),
 )
 
-pub list_noted_in : (d : ℕ) (a b c : List Given) (numbers turns : List ℕ) (r : ListReply) (n : ℕ) → r ≡ list.Names n → (more : List Given) × (b ≡ a ++ more) × (noted_in more ≡ map event.Named (map (number_at numbers) turns)) → c ≡ b ++ Noted (event.Listed d r) ∷ []
-    → (more : List Given) × (c ≡ a ++ more) × (noted_in more ≡ list_notes d (names_in numbers turns r) r)
+pub list_noted_in : (d : ℕ) (a b c : List Given) (numbers turns : List ℕ) (r : ListReply) (n : ℕ) → r ≡ list.Names n → (more : List Given) × (b ≡ a ++ more) × (noted_in more ≡ map event.Named (map (number_at numbers) turns)) × AllSealed NoAnswer more → c ≡ b ++ Noted (event.Listed d r) ∷ []
+    → (more : List Given) × (c ≡ a ++ more) × (noted_in more ≡ list_notes d (names_in numbers turns r) r) × AllSealed NoAnswer more
 list_noted_in d a b c numbers turns r n is h e =
-    subst (λ (y : ListReply). (c ≡ b ++ Noted (event.Listed d y) ∷ []) → (more : List Given) × (c ≡ a ++ more) × (noted_in more ≡ list_notes d (names_in numbers turns y) y)) (sym is)
+    subst (λ (y : ListReply). (c ≡ b ++ Noted (event.Listed d y) ∷ []) → (more : List Given) × (c ≡ a ++ more) × (noted_in more ≡ list_notes d (names_in numbers turns y) y) × AllSealed NoAnswer more) (sym is)
     (λ k. list_noted d a b c (map (number_at numbers) turns) (list.Names n) n refl h k) e
 
 -- after a list, by the places that were listed
@@ -670,7 +695,7 @@ fits_names paths old new k e = k.0 ∙ (e ∙ ap (map paths.text) (sym k.1))
 
 pub some_cards : (cs : List LateSeen) → (cs ≡ [] → ⊥) → is_empty (newest (paths_of cs)) ≡ false
 some_cards [] h = absurd (h refl)
-some_cards (c ∷ cs) h = newest_empty (c.path ∷ paths_of cs) (omega arith)
+some_cards (c ∷ cs) h = newest_empty (c.card.path ∷ paths_of cs) (omega arith)
 
 pub served : (d : ℕ) (paths : Paths) (asked : List ℕ) (starter last : StarterSeen) (line : LineView) (given0 given : List Given) → ((v w : LineView) (es : List Exchange) → v.session ≡ None → w.session ≡ None → RunsTo paths v es w → HasItems paths v es w)
     → ((v w : LineView) (es : List Exchange) → v.session ≡ None → w.session ≡ None → RunsTo paths v es w → w.starter.out ≡ v.starter.out)
@@ -694,4 +719,5 @@ served d paths asked starter last line given0 given law back told whole e none h
       talk = record { spells = i.matches; end = h.0; goes = t.talk; over = h.2 };
       told = t.given_is;
       noted = t.noted;
+      answers = t.answers;
     }

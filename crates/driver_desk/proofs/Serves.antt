@@ -19,12 +19,12 @@ use Rattle.filter_proto.specs.declared.session.Standing.{Standing}
 use Rattle.filter_proto.specs.declared.session.Standing.TheVariants as standing
 use Rattle.driver_line.specs.declared.line.Start.TheVariants as starts
 use Rattle.checkout_core.specs.Talks.{talk_run}
-use Rattle.driver_line.specs.Conversations.{Exchange, NoStart, NoRoom, Opening, First, notes_of, notes_in, FitsTalk, LeadsTo}
+use Rattle.driver_line.specs.Conversations.{Exchange, NoStart, NoRoom, Opening, First, Second, notes_of, notes_in, FitsTalk, LeadsTo}
 use Rattle.driver_line.specs.Lines.{LineView, Paths, Says, RunsTo, OpenIs, IsOpen, MayReply, SessionAfter, GoesOn}
+use Rattle.edge_kit.specs.Told.{Tells}
 use Rattle.driver_desk.specs.Rounds.{LateSeen, paths_of}
 use Rattle.driver_desk.specs.Works.{WorkSeen, FitsWork, FitAll, asked_of, asked_in}
-use Rattle.driver_desk.specs.Recorders.{Standing as Seat, IsEnd, ended_path}
-use Rattle.driver_desk.specs.Serving.{Given, Noted, Closed, HandedBack, noted_of, noted_in, AreClosings, Serves, talk_in, talk_now, newest, IsSane, is_abort, late_after}
+use Rattle.driver_desk.specs.Serving.{Given, Noted, Closed, HandedBack, noted_of, noted_in, AllSealed, AreClosings, NoAnswer, IsAnswer, HasAnswer, Serves, talk_in, talk_now, newest, IsSane, is_abort, late_after}
 
 pub runs_more : (paths : Paths) (a b c : LineView) (es : List Exchange) (e : Exchange) → RunsTo paths a es b → Says paths b e c → RunsTo paths a (es ++ e ∷ []) c
 runs_more paths a b c [] e r s = (c, subst (λ (x : LineView). Says paths x e c) (sym r) s, refl)
@@ -63,13 +63,47 @@ leads_run d t u (e ∷ es) h = talk_more d t h.0 (notes_of d e) (notes_in d es) 
 pub leads_from : (d : ℕ) (a b : List ℕ) (es : List Exchange) (t : Talk) → a ≡ b → LeadsTo d (Between a) es t → LeadsTo d (Between b) es t
 leads_from d a b es t e h = subst (λ (x : List ℕ). LeadsTo d (Between x) es t) e h
 
+-- what holds where a leaf was sealed
+pub all_mono : (P Q : ℕ → Option (List ℕ) → Type 0) → ((p : ℕ) (told : Option (List ℕ)) → P p told → Q p told) → (gs : List Given) → AllSealed P gs → AllSealed Q gs
+all_mono P Q f [] h = tt
+all_mono P Q f (Noted e ∷ gs) h = (tt, all_mono P Q f gs h.1)
+all_mono P Q f (Closed own card ∷ gs) h = (λ m e. f card.path card.leaf.content (h.0 m e), all_mono P Q f gs h.1)
+all_mono P Q f (HandedBack card ∷ gs) h = (tt, all_mono P Q f gs h.1)
+
+pub all_more : (P : ℕ → Option (List ℕ) → Type 0) (a b : List Given) → AllSealed P a → AllSealed P b → AllSealed P (a ++ b)
+all_more P [] b h k = k
+all_more P (g ∷ gs) b h k = (h.0, all_more P gs b h.1 k)
+
+pub all_none : (P : ℕ → Option (List ℕ) → Type 0) (gs : List Given) → AllSealed NoAnswer gs → AllSealed P gs
+all_none P gs h = all_mono NoAnswer P (λ p told k. absurd k) gs h
+
+pub has_more : (es fs : List Exchange) (p : ℕ) (told : Option (List ℕ)) → HasAnswer es p told → HasAnswer (es ++ fs) p told
+has_more [] fs p told h = absurd h
+has_more (e ∷ es) fs p told (inl h) = inl h
+has_more (e ∷ es) fs p told (inr h) = inr (has_more es fs p told h)
+
+pub has_last : (es : List Exchange) (e : Exchange) (p : ℕ) (told : Option (List ℕ)) → IsAnswer e p told → HasAnswer (es ++ e ∷ []) p told
+has_last [] e p told h = inl h
+has_last (f ∷ es) e p told h = inr (has_last es e p told h)
+
+pub answers_more : (es : List Exchange) (e : Exchange) (old new : List Given) → AllSealed (HasAnswer es) old → AllSealed NoAnswer new → AllSealed (HasAnswer (es ++ e ∷ [])) (old ++ new)
+answers_more es e old new h k = all_more (HasAnswer (es ++ e ∷ [])) old new (all_mono (HasAnswer es) (HasAnswer (es ++ e ∷ [])) (λ p told i. has_more es (e ∷ []) p told i) old h) (all_none (HasAnswer (es ++ e ∷ [])) new k)
+
+pub first_answer : (p : ℕ) (r : Reply) (content : List ℕ) (q : ℕ) (told : Option (List ℕ)) → r ≡ reply.Content → q ≡ p → Tells told content → IsAnswer (First p r content) q told
+first_answer p r content q told e same t = subst (λ (y : Reply). IsAnswer (First p y content) q told) (sym e) (sym same, t)
+
+pub second_answer : (p : ℕ) (r : Reply) (content : List ℕ) (q : ℕ) (told : Option (List ℕ)) → r ≡ reply.Content → q ≡ p → Tells told content → IsAnswer (Second p r content) q told
+second_answer p r content q told e same t = subst (λ (y : Reply). IsAnswer (Second p y content) q told) (sym e) (sym same, t)
+
 -- an exchange, with its notes and any closings
 pub serves_more : (d : ℕ) (paths : Paths) (line0 : LineView) (given0 : List Given) (asked ahead asked1 ahead1 : List ℕ) (line line1 : LineView) (given given1 new : List Given) (aborted aborted1 : Bool) (late late1 : List ℕ) (e : Exchange)
     → Serves d paths line0 given0 asked ahead line given aborted late → Says paths line e line1 → given1 ≡ given ++ new → noted_in new ≡ notes_of d e → asked ++ ahead ≡ asked1 ++ ahead1
     → ((rest : List ℕ) → FitsTalk (talk_now line.session aborted late (ahead ++ rest)) e)
     → ((rest : List ℕ) → talk_run d (talk_now line.session aborted late (ahead ++ rest)) (notes_of d e) ≡ Some (talk_now line1.session aborted1 late1 (ahead1 ++ rest)))
+    → AllSealed NoAnswer new
     → Serves d paths line0 given0 asked1 ahead1 line1 given1 aborted1 late1
-serves_more d paths line0 given0 asked ahead asked1 ahead1 line line1 given given1 new aborted aborted1 late late1 e s says g n same fits moves = record {
+serves_more d paths line0 given0 asked ahead asked1 ahead1 line line1 given given1 new aborted aborted1 late late1 e s says g n same fits moves sealed = record {
+  answers = answers_more s.exchanges e s.more new s.answers sealed;
   exchanges = s.exchanges ++ e ∷ [];
   more = s.more ++ new;
   runs = runs_more paths line0 line line1 s.exchanges e s.runs says;
@@ -81,8 +115,9 @@ serves_more d paths line0 given0 asked ahead asked1 ahead1 line line1 given give
 
 -- closings alone
 pub serves_closed : (d : ℕ) (paths : Paths) (line0 : LineView) (given0 : List Given) (asked ahead : List ℕ) (line : LineView) (given given1 new : List Given) (aborted : Bool) (late : List ℕ)
-    → Serves d paths line0 given0 asked ahead line given aborted late → given1 ≡ given ++ new → noted_in new ≡ [] → Serves d paths line0 given0 asked ahead line given1 aborted late
-serves_closed d paths line0 given0 asked ahead line given given1 new aborted late s g n = record {
+    → (s : Serves d paths line0 given0 asked ahead line given aborted late) → given1 ≡ given ++ new → noted_in new ≡ [] → AllSealed (HasAnswer s.exchanges) new → Serves d paths line0 given0 asked ahead line given1 aborted late
+serves_closed d paths line0 given0 asked ahead line given given1 new aborted late s g n sealed = record {
+  answers = all_more (HasAnswer s.exchanges) s.more new s.answers sealed;
   exchanges = s.exchanges;
   more = s.more ++ new;
   runs = s.runs;
@@ -90,6 +125,12 @@ serves_closed d paths line0 given0 asked ahead line given given1 new aborted lat
   given_is = g ∙ (ap (λ (x : List Given). x ++ new) s.given_is ∙ append_assoc given0 s.more new);
   noted = noted_more s.more new ∙ (ap (λ (x : List Event). noted_in s.more ++ x) n ∙ (append-nil (noted_in s.more) ∙ s.noted));
 }
+
+-- closings that seal nothing
+pub serves_none : (d : ℕ) (paths : Paths) (line0 : LineView) (given0 : List Given) (asked ahead : List ℕ) (line : LineView) (given given1 : List Given) (aborted : Bool) (late : List ℕ)
+    → Serves d paths line0 given0 asked ahead line given aborted late → AreClosings NoAnswer given given1 → Serves d paths line0 given0 asked ahead line given1 aborted late
+serves_none d paths line0 given0 asked ahead line given given1 aborted late s more =
+    serves_closed d paths line0 given0 asked ahead line given given1 more.0 aborted late s more.1 more.2 (all_none (HasAnswer s.exchanges) more.0 more.3)
 
 -- the path that comes next is named
 pub serves_ahead : (d : ℕ) (paths : Paths) (line0 : LineView) (given0 : List Given) (asked : List ℕ) (p : ℕ) (line : LineView) (given : List Given) (aborted : Bool) (late : List ℕ)
@@ -100,6 +141,7 @@ serves_ahead d paths line0 given0 asked p line given aborted late s = record {
   runs = s.runs;
   given_is = s.given_is;
   noted = s.noted;
+  answers = s.answers;
   talk = λ rest. s.talk (p ∷ rest);
 }
 
@@ -113,6 +155,7 @@ serves_past d paths line0 given0 asked p line given aborted late stays s = recor
   runs = s.runs;
   given_is = s.given_is;
   noted = s.noted;
+  answers = s.answers;
   talk = λ rest. subst (λ (x : Talk). LeadsTo d (Between ((asked ++ p ∷ []) ++ rest)) s.exchanges x) (stays rest) (leads_from d (asked ++ p ∷ rest) ((asked ++ p ∷ []) ++ rest) s.exchanges (talk_now line.session aborted late (p ∷ rest)) (sym (append_assoc asked (p ∷ []) rest)) (s.talk rest));
 }
 
@@ -152,14 +195,14 @@ pub opened : (d : ℕ) (paths : Paths) (line0 : LineView) (given0 : List Given) 
     → Serves d paths line0 given0 asked (p ∷ []) line given false [] → Serves d paths line0 given0 asked (p ∷ []) line1 given1 false []
 opened d paths line0 given0 asked p line line1 given given1 caps e none is says there g s =
     serves_more d paths line0 given0 asked (p ∷ []) asked (p ∷ []) line line1 given given1 (Noted (event.Opened d caps) ∷ []) false false [] [] (Opening p (Good caps)) s
-    (subst (λ (x : Exchange). Says paths line x line1) is says) g refl refl (λ rest. fits_none line.session p [] rest (Opening p (Good caps)) none refl) (λ rest. rw (none, there.1) (opened_moves d p rest caps there.0 there.3))
+    (subst (λ (x : Exchange). Says paths line x line1) is says) g refl refl (λ rest. fits_none line.session p [] rest (Opening p (Good caps)) none refl) (λ rest. rw (none, there.1) (opened_moves d p rest caps there.0 there.3)) (tt, tt)
 
 past_open : (d : ℕ) (paths : Paths) (line0 : LineView) (given0 : List Given) (asked : List ℕ) (p : ℕ) (line line1 : LineView) (given given1 : List Given) (o : OpenCause) (e : Exchange)
     → line.session ≡ None → notes_of d e ≡ event.OpenFailed p o ∷ [] → ((rest : List ℕ) → FitsTalk (Between (p ∷ rest)) e) → is_good_opening o ≡ true → Says paths line e line1 → line1.session ≡ None → given1 ≡ given ++ Noted (event.OpenFailed p o) ∷ []
     → Serves d paths line0 given0 asked (p ∷ []) line given false [] → Serves d paths line0 given0 (asked ++ p ∷ []) [] line1 given1 false []
 past_open d paths line0 given0 asked p line line1 given given1 o e none is fits good says there g s =
     serves_more d paths line0 given0 asked (p ∷ []) (asked ++ p ∷ []) [] line line1 given given1 (Noted (event.OpenFailed p o) ∷ []) false false [] [] e s
-    says g (sym is) (sym (append-nil (asked ++ p ∷ []))) (λ rest. fits_none line.session p [] rest e none (fits rest)) (λ rest. rw (none, there, is) (refused_moves d p rest o good))
+    says g (sym is) (sym (append-nil (asked ++ p ∷ []))) (λ rest. fits_none line.session p [] rest e none (fits rest)) (λ rest. rw (none, there, is) (refused_moves d p rest o good)) (tt, tt)
 
 pub not_opened : (d : ℕ) (paths : Paths) (line0 : LineView) (given0 : List Given) (asked : List ℕ) (p : ℕ) (line line1 : LineView) (given given1 : List Given) (o : OpenCause) (e : Exchange)
     → line.session ≡ None → OpenIs p (starts.Failed o) e → Says paths line e line1 → line1.session ≡ None → given1 ≡ given ++ Noted (event.OpenFailed p o) ∷ []
@@ -210,25 +253,32 @@ pub asked_first : (d : ℕ) (paths : Paths) (line0 : LineView) (given0 : List Gi
     → Serves d paths line0 given0 asked (p ∷ []) line given false late → Serves d paths line0 given0 (asked ++ p ∷ []) [] line1 given1 (is_abort r) (late_after p r late)
 asked_first d paths line0 given0 asked p line line1 given given1 s late r content is smudge may goes says g h =
     serves_more d paths line0 given0 asked (p ∷ []) (asked ++ p ∷ []) [] line line1 given given1 (Noted (event.Answered p r) ∷ []) false (is_abort r) late (late_after p r late) (First p r content) h
-    says g refl (sym (append-nil (asked ++ p ∷ []))) (λ rest. tt) (λ rest. rw is (first_moves d p rest s late r line1.session smudge may goes))
+    says g refl (sym (append-nil (asked ++ p ∷ []))) (λ rest. tt) (λ rest. rw is (first_moves d p rest s late r line1.session smudge may goes)) (tt, tt)
+
+asked_has : (d : ℕ) (paths : Paths) (line0 : LineView) (given0 : List Given) (asked : List ℕ) (p : ℕ) (line line1 : LineView) (given given1 : List Given) (s : SessionSeen) (late : List ℕ) (r : Reply) (content : List ℕ)
+    (is : line.session ≡ Some s) (smudge : s.caps.smudge ≡ true) (may : MayReply s.caps.delay r) (goes : GoesOn s (standing_after r) line1.session) (says : Says paths line (First p r content) line1) (g : given1 ≡ given ++ Noted (event.Answered p r) ∷ [])
+    (h : Serves d paths line0 given0 asked (p ∷ []) line given false late) (q : ℕ) (told : Option (List ℕ)) → (r ≡ reply.Content) × (q ≡ p) × Tells told content
+    → HasAnswer (asked_first d paths line0 given0 asked p line line1 given given1 s late r content is smudge may goes says g h).exchanges q told
+unfolding asked_first serves_more
+asked_has d paths line0 given0 asked p line line1 given given1 s late r content is smudge may goes says g h q told k = has_last h.exchanges (First p r content) q told (first_answer p r content q told k.0 k.1 k.2)
 
 -- closings
-not_noted : (g : Given) (p : ℕ) → ended_path g ≡ Some p → noted_in (g ∷ []) ≡ []
-not_noted (Noted e) p h = absurd (cc h)
-not_noted (Closed own card) p h = refl
-not_noted (HandedBack card) p h = refl
+pub closed_all : (P : ℕ → Option (List ℕ) → Type 0) (a b c : List Given) → AreClosings P a b → AreClosings P b c → AreClosings P a c
+closed_all P a b c h k = (
+  h.0 ++ k.0,
+  k.1 ∙ (ap (λ (x : List Given). x ++ k.0) h.1 ∙ append_assoc a h.0 k.0),
+  noted_more h.0 k.0 ∙ (ap (λ (x : List Event). x ++ noted_in k.0) h.2 ∙ k.2),
+  all_more P h.0 k.0 h.3 k.3,
+)
 
-pub closed_one : (s : Seat) (a b c : List Given) (p : ℕ) → AreClosings a b → IsEnd s b p c → AreClosings a c
-closed_one s a b c p h k = (h.0 ++ k.last ∷ [], k.more ∙ (ap (λ (x : List Given). x ++ k.last ∷ []) h.1 ∙ append_assoc a h.0 (k.last ∷ [])), noted_more h.0 (k.last ∷ []) ∙ (ap (λ (x : List Event). x ++ noted_in (k.last ∷ [])) h.2 ∙ not_noted k.last p k.path))
+pub closed_as : (P Q : ℕ → Option (List ℕ) → Type 0) (a b : List Given) → ((p : ℕ) (told : Option (List ℕ)) → P p told → Q p told) → AreClosings P a b → AreClosings Q a b
+closed_as P Q a b f h = (h.0, h.1, h.2, all_mono P Q f h.0 h.3)
 
-pub closed_all : (a b c : List Given) → AreClosings a b → AreClosings b c → AreClosings a c
-closed_all a b c h k = (h.0 ++ k.0, k.1 ∙ (ap (λ (x : List Given). x ++ k.0) h.1 ∙ append_assoc a h.0 k.0), noted_more h.0 k.0 ∙ (ap (λ (x : List Event). x ++ noted_in k.0) h.2 ∙ k.2))
+pub closed_none : (P : ℕ → Option (List ℕ) → Type 0) (a b : List Given) → AreClosings NoAnswer a b → AreClosings P a b
+closed_none P a b h = (h.0, h.1, h.2, all_none P h.0 h.3)
 
-pub closing : (s : Seat) (a b : List Given) (p : ℕ) → IsEnd s a p b → AreClosings a b
-closing s a b p k = (k.last ∷ [], k.more, not_noted k.last p k.path)
-
-pub no_closing : (a b : List Given) → b ≡ a → AreClosings a b
-no_closing a b e = ([], e ∙ sym (append-nil a), refl)
+pub no_closing : (P : ℕ → Option (List ℕ) → Type 0) (a b : List Given) → b ≡ a → AreClosings P a b
+no_closing P a b e = ([], e ∙ sym (append-nil a), refl, tt)
 
 pub newest_push : (ps : List ℕ) (p : ℕ) → newest (ps ++ p ∷ []) ≡ p ∷ newest ps
 newest_push [] p = refl
@@ -242,12 +292,13 @@ open_some (Some s) h = (s, refl, h.0, h.1)
 pub asked_card : (d : ℕ) (paths : Paths) (line0 : LineView) (given0 : List Given) (asked : List ℕ) (p : ℕ) (line line1 : LineView) (given given1 given2 : List Given) (late late1 : List ℕ) (r : Reply) (content : List ℕ) (b : Bool)
     → IsOpen line.session → ((s : SessionSeen) → line.session ≡ Some s → MayReply s.caps.delay r) → ((s : SessionSeen) → line.session ≡ Some s → GoesOn s (standing_after r) line1.session)
     → Says paths line (First p r content) line1 → given1 ≡ given ++ Noted (event.Answered p r) ∷ []
-    → (more : List Given) × (given2 ≡ given1 ++ more) × (noted_in more ≡ []) → b ≡ is_abort r → late1 ≡ late_after p r late
+    → AreClosings (λ q told. (r ≡ reply.Content) × (q ≡ p) × Tells told content) given1 given2 → b ≡ is_abort r → late1 ≡ late_after p r late
     → Serves d paths line0 given0 asked (p ∷ []) line given false late → Serves d paths line0 given0 (asked ++ p ∷ []) [] line1 given2 b late1
 asked_card d paths line0 given0 asked p line line1 given given1 given2 late late1 r content b ready may goes says g more ab l h =
     let o = open_some line.session ready in
-    rw (ab, l) (serves_closed d paths line0 given0 (asked ++ p ∷ []) [] line1 given1 given2 more.0 (is_abort r) (late_after p r late)
-    (asked_first d paths line0 given0 asked p line line1 given given1 o.0 late r content o.1 o.3 (may o.0 o.1) (goes o.0 o.1) says g h) more.1 more.2)
+    let s = asked_first d paths line0 given0 asked p line line1 given given1 o.0 late r content o.1 o.3 (may o.0 o.1) (goes o.0 o.1) says g h in
+    rw (ab, l) (serves_closed d paths line0 given0 (asked ++ p ∷ []) [] line1 given1 given2 more.0 (is_abort r) (late_after p r late) s more.1 more.2
+    (all_mono (λ q told. (r ≡ reply.Content) × (q ≡ p) × Tells told content) (HasAnswer s.exchanges) (λ q told k. asked_has d paths line0 given0 asked p line line1 given given1 o.0 late r content o.1 o.3 (may o.0 o.1) (goes o.0 o.1) says g h q told k) more.0 more.3))
 
 sane_as : (z : Standing) (s : SessionSeen) (p : ℕ) (r : Reply) (late : List ℕ) (session1 : Option SessionSeen) → standing_after r ≡ z → GoesOn s z session1 → IsSane session1 (late_after p r late)
 sane_as z s p r late None is goes = none z r is goes
@@ -303,19 +354,19 @@ open_ready (Some s) late there sane smudge = (sane, smudge s refl)
 
 -- a card that is not asked for, with its closing
 pub work_past : (d : ℕ) (paths : Paths) (line0 : LineView) (given0 : List Given) (asked : List ℕ) (p : ℕ) (content : Result (List ℕ) Own) (line : LineView) (given given1 : List Given) (aborted : Bool) (late : List ℕ)
-    → aborted ≡ true → (more : List Given) × (given1 ≡ given ++ more) × (noted_in more ≡ [])
+    → aborted ≡ true → AreClosings NoAnswer given given1
     → Serves d paths line0 given0 asked [] line given aborted late → Serves d paths line0 given0 (asked ++ asked_of p content) [] line given1 true late
 work_past d paths line0 given0 asked p (Ok content) line given given1 aborted late ab more s =
     serves_past d paths line0 given0 asked p line given1 true late (λ rest. refl)
-    (serves_ahead d paths line0 given0 asked p line given1 true late (serves_closed d paths line0 given0 asked [] line given given1 more.0 true late (rw ab at s) more.1 more.2))
+    (serves_ahead d paths line0 given0 asked p line given1 true late (serves_none d paths line0 given0 asked [] line given given1 true late (rw ab at s) more))
 work_past d paths line0 given0 asked p (Err own) line given given1 aborted late ab more s =
-    rw (append-nil asked) (serves_closed d paths line0 given0 asked [] line given given1 more.0 true late (rw ab at s) more.1 more.2)
+    rw (append-nil asked) (serves_none d paths line0 given0 asked [] line given given1 true late (rw ab at s) more)
 
 pub work_failed : (d : ℕ) (paths : Paths) (line0 : LineView) (given0 : List Given) (asked : List ℕ) (p : ℕ) (content : Result (List ℕ) Own) (own : Own) (line : LineView) (given given1 : List Given) (aborted : Bool) (late : List ℕ)
-    → content ≡ Err own → (more : List Given) × (given1 ≡ given ++ more) × (noted_in more ≡ [])
+    → content ≡ Err own → AreClosings NoAnswer given given1
     → Serves d paths line0 given0 asked [] line given aborted late → Serves d paths line0 given0 (asked ++ asked_of p content) [] line given1 aborted late
 work_failed d paths line0 given0 asked p content own line given given1 aborted late is more s =
-    rw (is, append-nil asked) (serves_closed d paths line0 given0 asked [] line given given1 more.0 aborted late s more.1 more.2)
+    rw (is, append-nil asked) (serves_none d paths line0 given0 asked [] line given given1 aborted late s more)
 
 -- cards in order
 
@@ -346,9 +397,9 @@ asked_done session session1 reply.Delayed ready goes e = absurd (cc e)
 asked_done session session1 (reply.Broken c) ready goes e = absurd (cc e)
 asked_done session session1 reply.NoMemory ready goes e = absurd (cc e)
 
-pub newest_card : (cs : List LateSeen) (c : LateSeen) → newest (paths_of (cs ++ c ∷ [])) ≡ c.path ∷ newest (paths_of cs)
-newest_card cs c = ap newest (push cs) ∙ newest_push (paths_of cs) c.path
+pub newest_card : (cs : List LateSeen) (c : LateSeen) → newest (paths_of (cs ++ c ∷ [])) ≡ c.card.path ∷ newest (paths_of cs)
+newest_card cs c = ap newest (push cs) ∙ newest_push (paths_of cs) c.card.path
   where
-    push : (xs : List LateSeen) → paths_of (xs ++ c ∷ []) ≡ paths_of xs ++ c.path ∷ []
+    push : (xs : List LateSeen) → paths_of (xs ++ c ∷ []) ≡ paths_of xs ++ c.card.path ∷ []
     push [] = refl
-    push (x ∷ xs) = ap (λ (ps : List ℕ). x.path ∷ ps) (push xs)
+    push (x ∷ xs) = ap (λ (ps : List ℕ). x.card.path ∷ ps) (push xs)

@@ -12,7 +12,7 @@ use Rattle.edge_kit.specs.Starters.{StarterSeen}
 use Rattle.convert_plan.specs.Card.{CardSeen}
 use Rattle.driver_desk.specs.Works.{AreNew, card_paths}
 use Rattle.driver_desk.specs.Late.{LateView, IsNewLate}
-use Rattle.driver_desk.specs.Recorders.{Standing, events_in, times}
+use Rattle.driver_desk.specs.Recorders.{Standing, AreShown, events_in, times}
 use Rattle.driver_desk.specs.Serving.{Given}
 
 pub record DeskView : Type 0 where
@@ -38,7 +38,7 @@ pub record IsDealt (s : Standing) (desk : DeskView) : Type 0 where
       → slice_get s.starts p ≡ Some (Desk s.driver s.required)
 
 -- What was given is a run by itself, without a claim, after which no path of the driver is with it. Each card was
--- closed or handed back once, and nothing else was.
+-- closed or handed back once, and nothing else was. It shows what befell it, by what the driver told of it.
 pub record AreThrough (s : Standing) (given : List Given) : Type 0 where
   pub core : Core
   pub run : replay (start s.starts s.workers s.drivers) (events_in s given) ≡ Some core
@@ -46,3 +46,4 @@ pub record AreThrough (s : Standing) (given : List Given) : Type 0 where
   pub away : (p : ℕ) (r : Path) → slice_get core.paths p ≡ Some r → is_at s.driver r.start ≡ true
       → is_with_driver r.state ≡ false
   pub once : (p : ℕ) → times p given ≡ cond (contains p (card_paths s.cards)) 1 0
+  pub shown : AreShown s given given

@@ -33,7 +33,7 @@ pub record IsLate (v : LateView) : Type 0 where
   pub size : length v.slots ≡ length v.numbers
   pub places : length v.table.places ≡ length v.numbers
   pub each : (p : ℕ) → is_filled (slice_get v.slots p) ≡ is_pending (slice_get v.table.places p)
-  pub paths : (p : ℕ) (c : LateSeen) → slice_get v.slots p ≡ Some (Some c) → c.path ≡ number_at v.numbers p
+  pub paths : (p : ℕ) (c : LateSeen) → slice_get v.slots p ≡ Some (Some c) → c.card.path ≡ number_at v.numbers p
   pub apart : AreApart v.numbers
 
 -- the places from this one on are idle

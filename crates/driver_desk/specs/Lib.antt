@@ -3,5 +3,7 @@ pub mod Serving
 pub mod Rounds
 pub mod Late
 pub mod Desks
+pub mod Shown
 pub mod Recorders
+pub mod Cards
 pub mod Places

@@ -1,10 +1,10 @@
 -- Where a desk is, by what it gave its recorder.
-use Rattle.std.specs.Prelude.{◌≡◌, ◌<◌, ◌++◌, ◌+◌, ℕ, Bool, true, false, Option, Some, None, List, [], ◌∷◌, slice_get}
+use Rattle.std.specs.Prelude.{◌≡◌, ◌⊎◌, ◌<◌, ◌++◌, ◌+◌, ℕ, Bool, true, false, Option, Some, None, List, [], ◌∷◌, slice_get}
 use Rattle.checkout_core.specs.declared.event.Event.{Event}
 use Rattle.checkout_core.specs.declared.event.Event.TheVariants.{Close, HandBack}
 use Rattle.checkout_core.specs.declared.event.OpenCause.{OpenCause}
 use Rattle.checkout_core.specs.declared.path.Heard.{Heard}
-use Rattle.checkout_core.specs.declared.path.Heard.TheVariants.{Refused}
+use Rattle.checkout_core.specs.declared.path.Heard.TheVariants.{Refused, Lost, OutOfMemory}
 use Rattle.checkout_core.specs.declared.path.Start.TheVariants.{Desk}
 use Rattle.checkout_core.specs.declared.verdict.FilterCause.{FilterCause}
 use Rattle.checkout_core.specs.declared.verdict.Own.{Own}
@@ -15,8 +15,8 @@ use Rattle.checkout_core.specs.Actors.{is_claim}
 use Rattle.checkout_core.specs.Agreements.{IsThrough, rest_after, first_after, with_rest}
 use Rattle.checkout_core.specs.Conditions.{heard_opening}
 use Rattle.checkout_core.specs.Desks.{AtDesk, paths_of, is_left, was_read, may_fail}
-use Rattle.checkout_core.specs.Fates.{Fate, Untold, Later, Known, fate_of}
-use Rattle.checkout_core.specs.Notes.{is_note, notes}
+use Rattle.checkout_core.specs.Fates.{Fate, Later, Known}
+use Rattle.checkout_core.specs.Notes.{is_note}
 use Rattle.checkout_core.specs.Talks.{Talk, Between, Ended, IsOver, talk_step, contains, is_alone}
 use Rattle.core_laws.specs.Moves.{is_with_driver}
 use Rattle.core_laws.specs.Told.{ahead_fate, waits}
@@ -28,15 +28,18 @@ use Rattle.driver_line.specs.Lines.{AreKnown, NamesAre}
 use Rattle.driver_desk.specs.Works.{card_paths}
 use Rattle.driver_desk.specs.Serving.{Given, talk_now, newest, late_after}
 use Rattle.driver_desk.specs.Rounds.{AreApart, AreWaiting, round_of, minus}
-use Rattle.driver_desk.specs.Recorders.{Standing, MayDo, MayEnd, events_in, times}
+use Rattle.driver_desk.specs.Recorders.{Standing, MayDo, MayEnd, AreShown, events_in, fate_now, times}
 
 -- what was given is a run of the core by itself, and the talk agrees with it
 abbrev pub Runs : Standing → List Given → List ℕ → ℕ → Talk → Type 0
 Runs s given rest first t = AtDesk s.starts s.workers s.drivers s.driver (events_in s given) rest first t
 
--- what its notes tell of a path
-abbrev pub fate_now : Standing → List Given → ℕ → Fate
-fate_now s given p = fate_of p Untold (notes s.starts s.driver (events_in s given))
+-- its session lost it, or memory ran out
+abbrev pub IsGone : Fate → Type 0
+IsGone f = (f ≡ Known Lost) ⊎ (f ≡ Known OutOfMemory)
+
+abbrev pub AreGone : Standing → List Given → List ℕ → Type 0
+AreGone s given ps = (q : ℕ) → contains q ps ≡ true → IsGone (fate_now s given q)
 
 -- a path of the driver that was neither closed nor handed back
 pub record IsOwn (s : Standing) (given : List Given) (p : ℕ) : Type 0 where
@@ -96,6 +99,7 @@ pub record IsAt (s : Standing) (given : List Given) (held rest : List ℕ) (firs
   pub own : (p : ℕ) → contains p held ≡ true → IsOwn s given p
   pub among : (p : ℕ) → contains p held ≡ true → contains p (card_paths s.cards) ≡ true
   pub once : (p : ℕ) → times p given ≡ times_of (contains p held) (contains p (card_paths s.cards))
+  pub shown : AreShown s given given
 
 -- where no session is open that can delay, no card is late
 abbrev pub KeepsLate : Option SessionSeen → Bool → List ℕ → Type 0
@@ -119,23 +123,24 @@ pub record IsUnopened (s : Standing) (given : List Given) (cause : OpenCause) (p
   pub at : IsAt s given (p ∷ rest) rest first (Between rest)
   pub fresh : contains first rest ≡ false
 
--- The path p, which is in hand, was answered so. These were late, and of them only those wait that the reply leaves.
+-- The path p, which is in hand, was answered so. These were late; where the reply leaves none, they are lost.
 pub record IsAnswered (s : Standing) (given : List Given) (y : Reply) (p : ℕ) (late rest : List ℕ) (first : ℕ)
     (t : Talk) : Type 0 where
   pub at : IsAt s given (p ∷ (late ++ rest)) rest first t
   pub apart : AreApart (p ∷ (late ++ rest))
-  pub lost : (q : ℕ) → waits q t ≡ true → contains q (late_after p y (newest late)) ≡ true
+  pub gone : late_after p y (newest late) ≡ [] → AreGone s given late
 
 -- the late cards are lost
 pub record AreLost (s : Standing) (given : List Given) (late rest : List ℕ) (first : ℕ) (t : Talk) : Type 0 where
   pub at : IsAt s given (late ++ rest) rest first t
   pub apart : AreApart (late ++ rest)
-  pub lost : (q : ℕ) → contains q late ≡ true → waits q t ≡ false
+  pub gone : AreGone s given late
 
 -- In rounds: these cards wait, and of the listed ones these are still to be asked for again. Where no session is open,
 -- the talk is over.
 abbrev pub InRoundsAt : Standing → List Given → Option SessionSeen → List ℕ → List ℕ → Type 0
 InRoundsAt s given None cards turns = (first : ℕ) × (t : Talk) × IsAt s given cards [] first t × IsOver t
+    × AreGone s given cards
 InRoundsAt s given (Some x) cards turns = (first : ℕ) × (delay : Bool) × (late : List ℕ)
     × IsAt s given cards [] first (round_of delay false late turns) × AreWaiting cards late turns
 
@@ -165,9 +170,13 @@ abbrev pub AfterList : ListReply → Standing → List Given → List ℕ → Li
 AfterList (list.Names n) s given cards waiting names first delay =
     IsAt s given cards [] first (round_of delay false (minus waiting names) names)
 AfterList list.Empty s given cards waiting names first delay = IsAt s given cards [] first Ended
+    × AreGone s given waiting
 AfterList list.Abort s given cards waiting names first delay = IsAt s given cards [] first Ended
+    × AreGone s given waiting
 AfterList (list.Broken why) s given cards waiting names first delay = IsAt s given cards [] first (Between [])
+    × AreGone s given waiting
 AfterList list.NoMemory s given cards waiting names first delay = IsAt s given cards [] first (Between [])
+    × AreGone s given waiting
 
 -- the talk is over, and each card was closed or handed back
 abbrev pub IsDone : Standing → List Given → Type 0

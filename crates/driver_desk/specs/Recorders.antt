@@ -1,15 +1,19 @@
 -- For whom a recorder stands, and what it may be given.
-use Rattle.std.specs.Prelude.{◌≡◌, ◌==◌, ◌++◌, ◌+◌, ℕ, Bool, true, false, cond, Option, Some, None, List, [], ◌∷◌, map}
+use Rattle.std.specs.Prelude.{◌≡◌, ◌==◌, ◌++◌, ◌+◌, ℕ, Bool, true, false, cond, Option, Some, None, List, [], ◌∷◌, map, ◌⊎◌, slice_get, Result, Ok, ⊤}
 use Rattle.checkout_core.specs.declared.event.Event.{Event}
 use Rattle.checkout_core.specs.declared.event.Event.TheVariants.{Close, HandBack}
 use Rattle.checkout_core.specs.declared.path.Heard.{Heard}
-use Rattle.checkout_core.specs.declared.path.Heard.TheVariants.{Refused}
+use Rattle.checkout_core.specs.declared.path.Heard.TheVariants.{Got, Refused}
 use Rattle.checkout_core.specs.declared.path.Start.{Start}
 use Rattle.checkout_core.specs.declared.verdict.FilterCause.{FilterCause}
 use Rattle.checkout_core.specs.declared.verdict.Own.{Own}
 use Rattle.checkout_core.specs.Actors.{driver_at}
 use Rattle.checkout_core.specs.Desks.{MayNext, was_read}
-use Rattle.convert_plan.specs.Card.{CardSeen}
+use Rattle.checkout_core.specs.Fates.{Fate, Untold, Known, fate_of}
+use Rattle.checkout_core.specs.Notes.{notes}
+use Rattle.edge_kit.specs.declared.faults.SendFault.{SendFault}
+use Rattle.convert_plan.specs.Card.{CardSeen, IsCardOf, IsRefusedOneOf}
+use Rattle.driver_desk.specs.Shown.{ShowsRead, ShowsUnread}
 use Rattle.driver_desk.specs.Serving.{Given, Noted, Closed, HandedBack}
 
 -- the starts, workers and drivers of the checkout, the driver of the desk, whether it is required, and its planned
@@ -35,6 +39,38 @@ events_in s given = map (event_of s) given
 abbrev pub MayDo : Standing → List Given → Event → Type 0
 MayDo s given e = MayNext s.starts s.workers s.drivers (events_in s given) e
 
+-- what its notes tell of a path
+abbrev pub fate_now : Standing → List Given → ℕ → Fate
+fate_now s given p = fate_of p Untold (notes s.starts s.driver (events_in s given))
+
+-- A closed card is one of the planned ones, without what was prepared. Its own outcome says what befell it, by what
+-- its driver told of it.
+pub record ShowsClose (s : Standing) (given : List Given) (o : Own) (card : CardSeen) : Type 0 where
+  pub place : ℕ
+  pub planned : CardSeen
+  pub here : slice_get s.cards place ≡ Some planned
+  pub same : IsCardOf planned card
+  pub unready : card.ready ≡ None
+  pub shows : ShowsUnread planned o card ⊎ ((h : Heard) × (fate_now s given card.path ≡ Known h)
+      × ShowsRead s.required h planned o card)
+
+-- A card that was given back was refused by a driver that isn't required.
+pub record ShowsBack (s : Standing) (given : List Given) (card : CardSeen) : Type 0 where
+  pub refused : IsRefusedOneOf s.cards card
+  pub free : s.required ≡ false
+  pub why : FilterCause
+  pub told : fate_now s given card.path ≡ Known (Refused why)
+
+abbrev pub Shows : Standing → List Given → Given → Type 0
+Shows s given (Noted e) = Unit {0}
+Shows s given (Closed o card) = ShowsClose s given o card
+Shows s given (HandedBack card) = ShowsBack s given card
+
+-- each of these shows what befell it
+abbrev pub AreShown : Standing → List Given → List Given → Type 0
+AreShown s given [] = Unit {0}
+AreShown s given (g ∷ gs) = Shows s given g × AreShown s given gs
+
 -- the path of a card that was closed or handed back
 abbrev pub ended_path : Given → Option ℕ
 ended_path (Noted e) = None
@@ -54,8 +90,17 @@ times p (g ∷ gs) = cond (is_path p (ended_path g)) 1 0 + times p gs
 -- refused may be handed back, where its driver isn't required.
 pub record MayEnd (s : Standing) (given : List Given) (p : ℕ) (h : Heard) : Type 0 where
   pub own : driver_at s.starts p ≡ Some s.driver
+  pub told : fate_now s given p ≡ Known h
   pub close : (o : Own) → was_read o ≡ true → MayDo s given (Close p (s.workers + s.driver) o)
   pub back : (why : FilterCause) → h ≡ Refused why → s.required ≡ false → MayDo s given (HandBack p)
+
+-- Its card may be closed without a file: its driver gave no content, and where it isn't required and refused the path,
+-- something wasn't put.
+pub record MayDrop (s : Standing) (given : List Given) (p : ℕ) (put : Result ⊤ SendFault) : Type 0 where
+  pub heard : Heard
+  pub may : MayEnd s given p heard
+  pub without : heard ≡ Got → ⊥
+  pub refused : (why : FilterCause) → heard ≡ Refused why → put ≡ Ok tt → s.required ≡ true
 
 -- the card of this path was closed or handed back, as it might be
 pub record IsEnd (s : Standing) (given : List Given) (p : ℕ) (new : List Given) : Type 0 where
@@ -63,3 +108,4 @@ pub record IsEnd (s : Standing) (given : List Given) (p : ℕ) (new : List Given
   pub more : new ≡ given ++ last ∷ []
   pub path : ended_path last ≡ Some p
   pub may : MayDo s given (event_of s last)
+  pub shows : Shows s given last

@@ -1,14 +1,15 @@
 -- A round: a list, and a second request for each path that it names.
-use Rattle.edge_kit.specs.declared.leaf_state.LeafState.{LeafState}
-use Rattle.edge_kit.specs.declared.leaf_state.LeafState.TheVariants.{Fresh}
-use Rattle.std.specs.Prelude.{length, ◌≤◌, ◌≡◌, ◌⊎◌, ℕ, Bool, true, false, ◌==◌, List, [], ◌∷◌, ◌++◌, Option, Some}
+use Rattle.std.specs.Prelude.{◌≡◌, ◌⊎◌, ℕ, Bool, true, false, ◌==◌, List, [], ◌∷◌, ◌++◌, Option, Some}
 use Rattle.std.specs.Prelude.{None}
 use Rattle.checkout_core.specs.Talks.{Talk, InRound, contains, without}
 use Rattle.filter_proto.specs.Wires.{SessionSeen}
 use Rattle.filter_proto.specs.declared.session.Standing.TheVariants as standing
 use Rattle.checkout_core.specs.Talks.{IsOver}
 use Rattle.driver_line.specs.Lines.{LineView, Paths}
+use Rattle.convert_plan.specs.Card.{CardSeen}
 use Rattle.driver_desk.specs.Serving.{Given, Talks}
+use Rattle.driver_desk.specs.Recorders.{Standing}
+use Rattle.driver_desk.specs.Cards.{IsReadCard}
 
 -- no path is left to ask for: these are late, and these were listed and not asked for again
 abbrev pub round_of : Bool → Bool → List ℕ → List ℕ → Talk
@@ -51,36 +52,34 @@ RoundsBy d paths line0 given0 asked None line given cards turns = TalkOver d pat
 RoundsBy d paths line0 given0 asked (Some s) line given cards turns = (s.standing ≡ standing.Live)
     × (s.caps.smudge ≡ true) × InRounds d paths line0 given0 asked line given cards turns
 
--- a late card, as it is seen
+-- a late card, as it is seen, and whether its content isn't UTF-8, though an encoding is named
 pub record LateSeen : Type 0 where
-  pub path : ℕ
-  pub text : List ℕ
-  pub state : LeafState
+  pub card : CardSeen
+  pub unencoded : Bool
 
-abbrev pub late_seen : ℕ → List ℕ → LeafState → LateSeen
-late_seen path text state = record { path = path; text = text; state = state }
+abbrev pub late_seen : CardSeen → Bool → LateSeen
+late_seen card unencoded = record { card = card; unencoded = unencoded }
 
 abbrev pub paths_of : List LateSeen → List ℕ
 paths_of [] = []
-paths_of (c ∷ cs) = c.path ∷ paths_of cs
+paths_of (c ∷ cs) = c.card.path ∷ paths_of cs
 
--- it can be asked for again
-pub record IsReady (c : LateSeen) : Type 0 where
-  pub fresh : c.state ≡ Fresh
-  pub some : 1 ≤ length c.text
-  pub few : length c.text ≤ 4096
-
-abbrev pub AreReady : List LateSeen → Type 0
-AreReady [] = Unit {0}
-AreReady (c ∷ cs) = IsReady c × AreReady cs
+-- they can be asked for again
+abbrev pub AreReady : Standing → List LateSeen → Type 0
+AreReady s [] = Unit {0}
+AreReady s (c ∷ cs) = IsReadCard s c.card c.unencoded × AreReady s cs
 
 abbrev pub FitTexts : Paths → List LateSeen → Type 0
 FitTexts paths [] = Unit {0}
-FitTexts paths (c ∷ cs) = (paths.text c.path ≡ c.text) × FitTexts paths cs
+FitTexts paths (c ∷ cs) = (paths.text c.card.path ≡ c.card.text) × FitTexts paths cs
 
--- the late cards after one more was served: they are as before, or it is late too, or none is
-abbrev pub GrowsLate : List LateSeen → LateSeen → List LateSeen → Type 0
-GrowsLate old c new = (new ≡ old) ⊎ (new ≡ old ++ c ∷ []) ⊎ (new ≡ [])
+-- the late cards after one more was served, which has this path and text: they are as before, or it is late too, or none
+-- is
+abbrev pub GrowsLate : Standing → List LateSeen → ℕ → List ℕ → List LateSeen → Type 0
+GrowsLate s old path text new = (new ≡ old)
+    ⊎ ((c : LateSeen) × (new ≡ old ++ c ∷ []) × IsReadCard s c.card c.unencoded × (c.card.path ≡ path)
+    × (c.card.text ≡ text))
+    ⊎ (new ≡ [])
 
 -- one card of that path left the others
 pub record IsTaken (path : ℕ) (old : List LateSeen) (c : LateSeen) (new : List LateSeen) : Type 0 where
@@ -88,7 +87,7 @@ pub record IsTaken (path : ℕ) (old : List LateSeen) (c : LateSeen) (new : List
   pub after : List LateSeen
   pub was : old ≡ before ++ c ∷ after
   pub left : new ≡ before ++ after
-  pub named : c.path ≡ path
+  pub named : c.card.path ≡ path
 
 -- no session is open, or one that can be asked to smudge
 abbrev pub IsNext : Option SessionSeen → Type 0

@@ -1,5 +1,6 @@
 -- Cards with what was read and prepared for them.
 use Rattle.std.specs.Prelude.{◌≡◌, ℕ, List, [], ◌∷◌, ◌++◌, Result, Ok, Err}
+use Rattle.edge_kit.specs.Faults.{Rose}
 use Rattle.object_dir.specs.Object.{IsObject}
 use Rattle.object_dir.specs.declared.fault.ObjectFault.{ObjectFault}
 use Rattle.object_dir.specs.declared.fault.ObjectFault.TheVariants as fault
@@ -35,6 +36,11 @@ ReadsTo c (Err o) = IsUnread c o
 -- nothing of the card changed but its blob's count of faults
 abbrev pub KeepsCard : CardSeen → CardSeen → Type 0
 KeepsCard old new = new ≡ record old { blob = record old.blob { faults = new.blob.faults } }
+
+-- a blob's count of faults rose where its object failed to be read, and nowhere else
+abbrev pub CountsRead : {T : Type 0} → ℕ → ℕ → Result T Own → Type 0
+CountsRead before after (Err own.ReadFailed) = Rose before after
+CountsRead before after result = after ≡ before
 
 -- a card with what was prepared for it, or what happened to it
 pub record WorkSeen : Type 0 where

@@ -1,14 +1,20 @@
 //! What becomes of a card that its driver has told of.
-ghost use Rattle.std.specs.Prelude.{◌≡◌, ◌≢◌, ◌+◌, ◌++◌, ◌∷◌, [], List, Err, Bool, true, false};
+ghost use Rattle.std.specs.Prelude.{◌≡◌, ◌≢◌, ◌+◌, ◌++◌, ◌∷◌, [], List, Ok, Err, None, Bool, true, false};
 ghost use Rattle.checkout_core.specs.declared.event.Event.TheVariants.{Close};
-ghost use Rattle.checkout_core.specs.declared.path.Heard.{Heard};
-ghost use Rattle.checkout_core.specs.declared.path.Heard.TheVariants.{Refused};
+ghost use Rattle.checkout_core.specs.declared.path.Heard.TheVariants.{Got, Refused};
 ghost use Rattle.checkout_core.specs.declared.verdict.FilterCause.{FilterCause};
 ghost use Rattle.checkout_core.specs.Desks.{was_read};
+ghost use Rattle.convert_plan.specs.Card.{card_seen};
+ghost use Rattle.edge_kit.specs.Faults.{Rose};
 ghost use Rattle.edge_kit.specs.Files.{IsOpenLeaf};
-ghost use Rattle.edge_kit.specs.declared.leaf_state.LeafState.TheVariants.{Fresh, Broken, Sealed};
-ghost use Rattle.driver_desk.specs.Recorders.{MayDo, MayEnd, IsEnd};
-ghost use Rattle.driver_desk.specs.Serving.{Given};
+ghost use Rattle.edge_kit.specs.Seen.{LeafSeen};
+ghost use Rattle.edge_kit.specs.declared.leaf_state.LeafState.{LeafState};
+ghost use Rattle.edge_kit.specs.declared.leaf_state.LeafState.TheVariants.{Fresh, Broken, Sealed, Gone};
+ghost use Rattle.filter_proto.specs.Replies.{IsKept};
+ghost use Rattle.driver_desk.specs.Cards.{IsAskedCard, IsUnreadCard};
+ghost use Rattle.driver_desk.specs.Shown.{IsGivenUp, ShowsLeaf};
+ghost use Rattle.driver_desk.specs.Recorders.{MayDo, MayDrop, MayEnd, IsEnd, ShowsClose};
+ghost use Rattle.driver_desk.specs.Serving.{AreClosings, NoAnswer};
 
 use crate::recorder::Recorder;
 use checkout_core::Own;
@@ -24,19 +30,30 @@ pub(crate) struct Work<B: Blob, L: Leaf> {
 }
 
 /// The outcome of a leaf that failed, and which holds no file where that can be helped.
+#[tactic(auto, using(crate::proofs::Closings::discards_path))]
 fn write_failed<L: Leaf>(leaf: &mut L) -> Own
     requires { (L.seen leaf.old).state ≡ Broken }
     ensures own { result ≡ Own.WriteFailed }
+    ensures path { (L.seen leaf.new).path ≡ (L.seen leaf.old).path }
+    ensures gone { IsGivenUp (L.seen leaf.new).state }
+    ensures shows { (before : LeafSeen) (fine : LeafState) (u : Bool) → Rose before.faults (L.seen leaf.old).faults
+        → ShowsLeaf fine u result before (L.seen leaf.new) }
 {
     let _ = leaf.discard();
     Own::WriteFailed
 }
 
 /// The outcome of a leaf into which something wasn't put.
+#[tactic(auto, using(crate::proofs::Closings::discards_path))]
 fn put_failed<L: Leaf>(leaf: &mut L, fault: SendFault) -> Own
     requires usable { fault ≢ SendFault.Failed → IsOpenLeaf (L.seen leaf.old).state }
     requires broken { fault ≡ SendFault.Failed → (L.seen leaf.old).state ≡ Broken }
     ensures read { was_read result ≡ true }
+    ensures path { (L.seen leaf.new).path ≡ (L.seen leaf.old).path }
+    ensures gone { IsGivenUp (L.seen leaf.new).state }
+    ensures failed { (u : Bool) → result ≡ Own.Fine u → ⊥ }
+    ensures shows { (before : LeafSeen) (fine : LeafState) (u : Bool) → IsKept before (L.seen leaf.old) (Err fault)
+        → ShowsLeaf fine u result before (L.seen leaf.new) }
 {
     match fault {
         SendFault::Failed => write_failed(leaf),
@@ -52,6 +69,11 @@ fn seal_leaf<L: Leaf>(leaf: &mut L, mark: Mark, put: Result<(), SendFault>, unen
     requires usable { put ≢ Err SendFault.Failed → IsOpenLeaf (L.seen leaf.old).state }
     requires broken { put ≡ Err SendFault.Failed → (L.seen leaf.old).state ≡ Broken }
     ensures read { was_read result ≡ true }
+    ensures path { (L.seen leaf.new).path ≡ (L.seen leaf.old).path }
+    ensures sealed { (m : Mark) → (L.seen leaf.new).state ≡ Sealed m
+        → (put ≡ Ok tt) × ((L.seen leaf.new).content ≡ (L.seen leaf.old).content) }
+    ensures shows { (before : LeafSeen) → IsKept before (L.seen leaf.old) put
+        → ShowsLeaf (Sealed mark) unencoded result before (L.seen leaf.new) }
 {
     match put {
         Ok(()) => match leaf.seal(mark) {
@@ -63,10 +85,16 @@ fn seal_leaf<L: Leaf>(leaf: &mut L, mark: Mark, put: Result<(), SendFault>, unen
 }
 
 /// The outcome of a leaf that is to hold no file.
+#[tactic(auto, using(crate::proofs::Closings::discards_path))]
 fn drop_leaf<L: Leaf>(leaf: &mut L, put: Result<(), SendFault>, unencoded: bool) -> Own
     requires usable { put ≢ Err SendFault.Failed → IsOpenLeaf (L.seen leaf.old).state }
     requires broken { put ≡ Err SendFault.Failed → (L.seen leaf.old).state ≡ Broken }
     ensures read { was_read result ≡ true }
+    ensures path { (L.seen leaf.new).path ≡ (L.seen leaf.old).path }
+    ensures gone { IsGivenUp (L.seen leaf.new).state }
+    ensures put { (u : Bool) → result ≡ Own.Fine u → put ≡ Ok tt }
+    ensures shows { (before : LeafSeen) → IsKept before (L.seen leaf.old) put
+        → ShowsLeaf Gone unencoded result before (L.seen leaf.new) }
 {
     match put {
         Ok(()) => match leaf.discard() {
@@ -79,9 +107,13 @@ fn drop_leaf<L: Leaf>(leaf: &mut L, put: Result<(), SendFault>, unencoded: bool)
 
 /// Closes a card, with what happened to it. What was prepared for it isn't needed any more.
 fn close<B: Blob, L: Leaf, C: Recorder<B, L>>(mut card: Card<B, L>, recorder: &mut C, own: Own)
+    requires shows { ShowsClose (C.standing recorder.old) (C.given recorder.old) own
+        (record (card_seen B.told B.seen L.seen card) { ready = None }) }
     requires next { MayDo (C.standing recorder.old) (C.given recorder.old)
         (Close card.path ((C.standing recorder.old).workers + (C.standing recorder.old).driver) own) }
     ensures ends { IsEnd (C.standing recorder.old) (C.given recorder.old) card.path (C.given recorder.new) }
+    ensures closed { AreClosings (λ q told. (q ≡ card.path) × (told ≡ (L.seen card.leaf).content)
+        × (m : Mark) × ((L.seen card.leaf).state ≡ Sealed m)) (C.given recorder.old) (C.given recorder.new) }
     ensures standing { C.standing recorder.new ≡ C.standing recorder.old }
     ensures fixed { C.fixed recorder.new ≡ C.fixed recorder.old }
 {
@@ -95,10 +127,11 @@ pub(crate) fn close_got<B: Blob, L: Leaf, C: Recorder<B, L>>(
     put: Result<(), SendFault>,
     recorder: &mut C,
 )
-    requires usable { put ≢ Err SendFault.Failed → IsOpenLeaf (L.seen work.card.leaf).state }
-    requires broken { put ≡ Err SendFault.Failed → (L.seen work.card.leaf).state ≡ Broken }
-    requires may { (h : Heard) × MayEnd (C.standing recorder.old) (C.given recorder.old) work.card.path h }
+    requires asked { IsAskedCard (C.standing recorder.old) (card_seen B.told B.seen L.seen work.card) work.unencoded put }
+    requires may { MayEnd (C.standing recorder.old) (C.given recorder.old) work.card.path Got }
     ensures ends { IsEnd (C.standing recorder.old) (C.given recorder.old) work.card.path (C.given recorder.new) }
+    ensures closed { AreClosings (λ q told. (put ≡ Ok tt) × (q ≡ work.card.path)
+        × (told ≡ (L.seen work.card.leaf).content)) (C.given recorder.old) (C.given recorder.new) }
     ensures standing { C.standing recorder.new ≡ C.standing recorder.old }
     ensures fixed { C.fixed recorder.new ≡ C.fixed recorder.old }
 {
@@ -113,10 +146,10 @@ pub(crate) fn close_empty<B: Blob, L: Leaf, C: Recorder<B, L>>(
     put: Result<(), SendFault>,
     recorder: &mut C,
 )
-    requires usable { put ≢ Err SendFault.Failed → IsOpenLeaf (L.seen work.card.leaf).state }
-    requires broken { put ≡ Err SendFault.Failed → (L.seen work.card.leaf).state ≡ Broken }
-    requires may { (h : Heard) × MayEnd (C.standing recorder.old) (C.given recorder.old) work.card.path h }
+    requires asked { IsAskedCard (C.standing recorder.old) (card_seen B.told B.seen L.seen work.card) work.unencoded put }
+    requires may { MayDrop (C.standing recorder.old) (C.given recorder.old) work.card.path put }
     ensures ends { IsEnd (C.standing recorder.old) (C.given recorder.old) work.card.path (C.given recorder.new) }
+    ensures closed { AreClosings NoAnswer (C.given recorder.old) (C.given recorder.new) }
     ensures standing { C.standing recorder.new ≡ C.standing recorder.old }
     ensures fixed { C.fixed recorder.new ≡ C.fixed recorder.old }
 {
@@ -126,11 +159,13 @@ pub(crate) fn close_empty<B: Blob, L: Leaf, C: Recorder<B, L>>(
 
 /// Gives a refused card back with a fresh leaf. Where that fails it is closed.
 fn hand_back<B: Blob, L: Leaf, C: Recorder<B, L>>(mut work: Work<B, L>, recorder: &mut C)
-    requires leaf { IsOpenLeaf (L.seen work.card.leaf).state }
+    requires asked { IsAskedCard (C.standing recorder.old) (card_seen B.told B.seen L.seen work.card) work.unencoded
+        (Ok tt) }
     requires free { (C.standing recorder.old).required ≡ false }
     requires may { (why : FilterCause)
         × MayEnd (C.standing recorder.old) (C.given recorder.old) work.card.path (Refused why) }
     ensures ends { IsEnd (C.standing recorder.old) (C.given recorder.old) work.card.path (C.given recorder.new) }
+    ensures closed { AreClosings NoAnswer (C.given recorder.old) (C.given recorder.new) }
     ensures standing { C.standing recorder.new ≡ C.standing recorder.old }
     ensures fixed { C.fixed recorder.new ≡ C.fixed recorder.old }
 {
@@ -150,12 +185,12 @@ pub(crate) fn refuse<B: Blob, L: Leaf, C: Recorder<B, L>>(
     put: Result<(), SendFault>,
     recorder: &mut C,
 )
-    requires usable { put ≢ Err SendFault.Failed → IsOpenLeaf (L.seen work.card.leaf).state }
-    requires broken { put ≡ Err SendFault.Failed → (L.seen work.card.leaf).state ≡ Broken }
+    requires asked { IsAskedCard (C.standing recorder.old) (card_seen B.told B.seen L.seen work.card) work.unencoded put }
     requires required { (C.standing recorder.old).required ≡ required }
     requires may { (why : FilterCause)
         × MayEnd (C.standing recorder.old) (C.given recorder.old) work.card.path (Refused why) }
     ensures ends { IsEnd (C.standing recorder.old) (C.given recorder.old) work.card.path (C.given recorder.new) }
+    ensures closed { AreClosings NoAnswer (C.given recorder.old) (C.given recorder.new) }
     ensures standing { C.standing recorder.new ≡ C.standing recorder.old }
     ensures fixed { C.fixed recorder.new ≡ C.fixed recorder.old }
 {
@@ -176,9 +211,11 @@ pub(crate) fn close_unread<B: Blob, L: Leaf, C: Recorder<B, L>>(
     own: Own,
 )
     requires leaf { (L.seen card.leaf).state ≡ Fresh }
+    requires unread { IsUnreadCard (C.standing recorder.old) (card_seen B.told B.seen L.seen card) own }
     requires next { MayDo (C.standing recorder.old) (C.given recorder.old)
         (Close card.path ((C.standing recorder.old).workers + (C.standing recorder.old).driver) own) }
     ensures ends { IsEnd (C.standing recorder.old) (C.given recorder.old) card.path (C.given recorder.new) }
+    ensures closed { AreClosings NoAnswer (C.given recorder.old) (C.given recorder.new) }
     ensures standing { C.standing recorder.new ≡ C.standing recorder.old }
     ensures fixed { C.fixed recorder.new ≡ C.fixed recorder.old }
 {

@@ -38,6 +38,7 @@ fn serve_all<S: Starter, B: Blob, L: Leaf, C: Recorder<B, L>, G: Gate>(
     requires starts { starts_of line.old + length cards.items < 2 ^ 32 }
     requires none { line.old.session ≡ None }
     requires empty { cards_of late.old ≡ [] }
+    requires cards { (C.standing recorder.old).cards ≡ map (λ c. card_seen B.told B.seen L.seen c) cards.items }
     requires new { AreNew (map (λ c. card_seen B.told B.seen L.seen c) cards.items) }
     requires numbers { late.old.numbers ≡ card_paths (map (λ c. card_seen B.told B.seen L.seen c) cards.items) }
     requires idle { AreIdle 0 late.old }
@@ -57,7 +58,7 @@ fn serve_all<S: Starter, B: Blob, L: Leaf, C: Recorder<B, L>, G: Gate>(
         → Serves seat.driver paths line0 given0 (asked ++ asked_in works) [] line.new (C.given recorder.new) result
         (newest (paths_of (cards_of late.new))))
         × ((paths : Paths) → FitAll paths works → FitTexts paths (cards_of late.new)) }
-    ensures ready { AreReady (cards_of late.new) }
+    ensures ready { AreReady (C.standing recorder.old) (cards_of late.new) }
     ensures apart { AreApart (paths_of (cards_of late.new)) }
     ensures done { result ≡ true → line.new.session ≡ None }
     ensures sane { IsSane line.new.session (newest (paths_of (cards_of late.new))) }
@@ -87,6 +88,7 @@ fn serve_line<S: Starter, B: Blob, L: Leaf, C: Recorder<B, L>, G: Gate>(
 )
     requires starts { starts_of line.old + length cards.items < 2 ^ 32 }
     requires none { line.old.session ≡ None }
+    requires cards { (C.standing recorder.old).cards ≡ map (λ c. card_seen B.told B.seen L.seen c) cards.items }
     requires new { AreNew (map (λ c. card_seen B.told B.seen L.seen c) cards.items) }
     requires late { IsNewLate (map (λ c. card_seen B.told B.seen L.seen c) cards.items) late.old }
     requires driver { (C.standing recorder.old).driver ≡ seat.driver }

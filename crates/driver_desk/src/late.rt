@@ -36,6 +36,7 @@ pub(crate) struct Late<B: Blob, L: Leaf> {
 impl<B: Blob, L: Leaf> Model for Late<B, L> {
     ghost use Rattle.std.specs.Prelude.{map};
     ghost use Rattle.std.specs.Option.{option_map};
+    ghost use Rattle.convert_plan.specs.Card.{card_seen};
     ghost use Rattle.driver_desk.specs.Late.{LateView, IsLate};
     ghost use Rattle.driver_desk.specs.Rounds.{late_seen};
 
@@ -44,15 +45,15 @@ impl<B: Blob, L: Leaf> Model for Late<B, L> {
     ghost view = { λ l. record {
       table = l.table;
       numbers = l.numbers.items;
-      slots = map (λ o. option_map (λ w. late_seen w.card.path w.card.text
-          (L.seen w.card.leaf).state) o) l.slots.items;
+      slots = map (λ o. option_map (λ w. late_seen (card_seen B.told B.seen L.seen w.card) w.unencoded) o)
+          l.slots.items;
     } };
 
     ghost invariant = { λ l. IsLate (record {
       table = l.table;
       numbers = l.numbers.items;
-      slots = map (λ o. option_map (λ w. late_seen w.card.path w.card.text
-          (L.seen w.card.leaf).state) o) l.slots.items;
+      slots = map (λ o. option_map (λ w. late_seen (card_seen B.told B.seen L.seen w.card) w.unencoded) o)
+          l.slots.items;
     }) };
 }
 
@@ -118,7 +119,7 @@ impl<B: Blob, L: Leaf> Late<B, L> {
         requires here { slice_get self.old.numbers place ≡ Some work.card.path }
         requires idle { AreIdle place self.old }
         ensures cards { cards_of self.new
-            ≡ cards_of self.old ++ late_seen work.card.path work.card.text (L.seen work.card.leaf).state ∷ [] }
+            ≡ cards_of self.old ++ late_seen (card_seen B.told B.seen L.seen work.card) work.unencoded ∷ [] }
         ensures table { self.new.table ≡ with_place place Delayed self.old.table }
         ensures numbers { self.new.numbers ≡ self.old.numbers }
     {
@@ -161,7 +162,7 @@ impl<B: Blob, L: Leaf> Late<B, L> {
             (λ w. (p : ℕ) × (rest : List ℕ) × (self.old.table.turns ≡ p ∷ rest)
             × (self.new.table ≡ record (with_place p Done self.old.table) { turns = rest })
             × IsTaken (number_at self.old.numbers p) (cards_of self.old)
-            (late_seen w.card.path w.card.text (L.seen w.card.leaf).state) (cards_of self.new)) }
+            (late_seen (card_seen B.told B.seen L.seen w.card) w.unencoded) (cards_of self.new)) }
         ensures numbers { self.new.numbers ≡ self.old.numbers }
     {
         let _ = self.table.listed();
@@ -173,7 +174,7 @@ impl<B: Blob, L: Leaf> Late<B, L> {
     pub fn next_late(&mut self) -> Option<Work<B, L>>
         ensures next { MatchOption result ((cards_of self.old ≡ []) × (cards_of self.new ≡ []))
             (λ w. (p : ℕ) × IsTaken p (cards_of self.old)
-            (late_seen w.card.path w.card.text (L.seen w.card.leaf).state) (cards_of self.new)) }
+            (late_seen (card_seen B.told B.seen L.seen w.card) w.unencoded) (cards_of self.new)) }
         ensures names { KeepsNames self.old self.new }
         ensures idle { (q : ℕ) → AreIdle q self.old → AreIdle q self.new }
         ensures turns { StaysUnlisted self.old self.new }

@@ -1,7 +1,7 @@
 //! What a card's object is prepared to, before its driver is asked.
 ghost use Rattle.std.specs.Prelude.{◌≡◌, Ok, Err};
 ghost use Rattle.convert_plan.specs.Card.{card_seen};
-ghost use Rattle.driver_desk.specs.Works.{own_of, ReadsTo, KeepsCard};
+ghost use Rattle.driver_desk.specs.Works.{own_of, ReadsTo, KeepsCard, CountsRead};
 
 use checkout_core::{ObjectKind, Own};
 use convert_plan::{Card, prepare};
@@ -32,6 +32,7 @@ pub(crate) fn read_card<B: Blob, L: Leaf>(
 ) -> Result<Prepared, Own>
     ensures read { ReadsTo (card_seen B.told B.seen L.seen card.old) result }
     ensures kept { KeepsCard (card_seen B.told B.seen L.seen card.old) (card_seen B.told B.seen L.seen card.new) }
+    ensures counts { CountsRead (B.seen card.old.blob).faults (B.seen card.new.blob).faults result }
 {
     match read_blob(alloc, &mut card.blob, &card.object) {
         Ok(content) => match prepare(alloc, &card.conversion, &card.object, content) {

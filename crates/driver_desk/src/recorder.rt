@@ -1,8 +1,8 @@
 //! What a desk tells of its steps, and whom it gives its cards.
-ghost use Rattle.std.specs.Prelude.{◌≡◌, ◌++◌, ◌+◌, ◌∷◌, [], List, Some, true};
+ghost use Rattle.std.specs.Prelude.{◌≡◌, ◌++◌, ◌+◌, ◌∷◌, [], List, Some, true, false};
 ghost use Rattle.checkout_core.specs.Actors.{driver_at, driver_in};
 ghost use Rattle.checkout_core.specs.declared.event.Event.TheVariants.{Close, HandBack};
-ghost use Rattle.convert_plan.specs.Card.{card_seen};
+ghost use Rattle.convert_plan.specs.Card.{card_seen, IsOneOf, IsRefusedOneOf};
 ghost use Rattle.core_laws.specs.Moves.{is_noted};
 ghost use Rattle.driver_desk.specs.Recorders.{Standing, MayDo};
 ghost use Rattle.driver_desk.specs.Serving.{Given, Noted, Closed, HandedBack};
@@ -36,6 +36,7 @@ pub trait Recorder<B: Blob, L: Leaf> {
 
     /// Takes a card that is through, with what happened to it.
     fn close(&mut self, card: Card<B, L>, own: Own)
+        requires card { IsOneOf (standing self.old).cards (card_seen B.told B.seen L.seen card) }
         requires next { MayDo (standing self.old) (given self.old)
             (Close card.path ((standing self.old).workers + (standing self.old).driver) own) }
         ensures given { given self.new ≡ given self.old ++ Closed own (card_seen B.told B.seen L.seen card) ∷ [] }
@@ -44,6 +45,8 @@ pub trait Recorder<B: Blob, L: Leaf> {
 
     /// Takes a card that its driver refused, for another actor to write what was prepared.
     fn hand_back(&mut self, card: Card<B, L>)
+        requires card { IsRefusedOneOf (standing self.old).cards (card_seen B.told B.seen L.seen card) }
+        requires free { (standing self.old).required ≡ false }
         requires own { driver_at (standing self.old).starts card.path ≡ Some (standing self.old).driver }
         requires next { MayDo (standing self.old) (given self.old) (HandBack card.path) }
         ensures given { given self.new ≡ given self.old ++ HandedBack (card_seen B.told B.seen L.seen card) ∷ [] }

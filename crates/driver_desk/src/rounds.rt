@@ -1,8 +1,7 @@
 //! Rounds: a list, and a second request for each path that it names.
-ghost use Rattle.std.specs.Prelude.{◌≡◌, ◌≢◌, ◌≤◌, ◌<◌, ◌+◌, ◌∷◌, ◌++◌, [], ℕ, List, Bool, true, false, Option};
-ghost use Rattle.std.specs.Prelude.{Some, None, Err, length, map};
-ghost use Rattle.edge_kit.specs.Files.{IsOpenLeaf};
-ghost use Rattle.edge_kit.specs.declared.leaf_state.LeafState.TheVariants.{Fresh, Broken};
+ghost use Rattle.std.specs.Prelude.{◌≡◌, ◌≤◌, ◌<◌, ◌+◌, ◌∷◌, ◌++◌, [], ℕ, List, Bool, true, false, Option};
+ghost use Rattle.std.specs.Prelude.{Some, None, length, map};
+ghost use Rattle.convert_plan.specs.Card.{card_seen};
 ghost use Rattle.driver_line.specs.Conversations.{list_notes};
 ghost use Rattle.driver_line.specs.Lines.{LineView, Paths, IsOpen, MayReply, names_in, weight};
 ghost use Rattle.driver_desk.specs.Late.{FitsNames, KeepsNames, cards_of, names_at};
@@ -11,10 +10,12 @@ ghost use Rattle.driver_desk.specs.Rounds.{TalkOver, TurnsBy};
 ghost use Rattle.checkout_core.specs.declared.path.Heard.{Heard};
 ghost use Rattle.checkout_core.specs.Fates.{Known, fate_here};
 ghost use Rattle.checkout_core.specs.Talks.{contains};
+ghost use Rattle.driver_desk.specs.Cards.{IsReadCard, IsAskedCard};
 ghost use Rattle.driver_desk.specs.Recorders.{MayEnd, IsEnd};
 ghost use Rattle.driver_desk.specs.Places.{IsAt, IsServing, IsNaming, IsListing, AfterList, InRoundsAt, IsDone};
 ghost use Rattle.driver_desk.specs.Places.{named_talk};
-ghost use Rattle.driver_desk.specs.Serving.{Given, AreClosings, Serves, IsSane, newest, noted_in};
+ghost use Rattle.driver_desk.specs.Serving.{Given, AllSealed, AreClosings, GotContent, NoAnswer, Serves, IsSane};
+ghost use Rattle.driver_desk.specs.Serving.{newest, noted_in};
 
 use crate::closing::{Work, close_empty, close_got, refuse};
 use crate::late::Late;
@@ -36,7 +37,7 @@ fn note_names<B: Blob, L: Leaf, C: Recorder<B, L>>(recorder: &mut C, late: &Late
         → IsAt (C.standing recorder.new) (C.given recorder.new) cards [] first
         (named_talk delay waiting (names_at late.now)) }
     ensures noted { (more : List Given) × (C.given recorder.new ≡ C.given recorder.old ++ more)
-        × (noted_in more ≡ map Event.Named (names_at late.now)) }
+        × (noted_in more ≡ map Event.Named (names_at late.now)) × AllSealed NoAnswer more }
     ensures standing { C.standing recorder.new ≡ C.standing recorder.old }
     ensures fixed { C.fixed recorder.new ≡ C.fixed recorder.old }
 {
@@ -66,7 +67,8 @@ fn note_list<B: Blob, L: Leaf, C: Recorder<B, L>>(
     ensures standing { C.standing recorder.new ≡ C.standing recorder.old }
     ensures fixed { C.fixed recorder.new ≡ C.fixed recorder.old }
     ensures noted { (more : List Given) × (C.given recorder.new ≡ C.given recorder.old ++ more)
-        × (noted_in more ≡ list_notes driver (names_in late.now.numbers late.now.table.turns reply) reply) }
+        × (noted_in more ≡ list_notes driver (names_in late.now.numbers late.now.table.turns reply) reply)
+        × AllSealed NoAnswer more }
 {
     desk_laws();
     match reply {
@@ -88,13 +90,14 @@ fn after_second<B: Blob, L: Leaf, C: Recorder<B, L>>(
     reply: Reply,
     put: Result<(), SendFault>,
 )
-    requires usable { put ≢ Err SendFault.Failed → IsOpenLeaf (L.seen work.card.leaf).state }
-    requires broken { put ≡ Err SendFault.Failed → (L.seen work.card.leaf).state ≡ Broken }
+    requires asked { IsAskedCard (C.standing recorder.old) (card_seen B.told B.seen L.seen work.card) work.unencoded put }
     requires required { (C.standing recorder.old).required ≡ seat.required }
     requires may { (h : Heard) → fate_here reply ≡ Known h
         → MayEnd (C.standing recorder.old) (C.given recorder.old) work.card.path h }
-    requires asked { MayReply false reply }
+    requires again { MayReply false reply }
     ensures ends { IsEnd (C.standing recorder.old) (C.given recorder.old) work.card.path (C.given recorder.new) }
+    ensures closed { AreClosings (GotContent reply put work.card.path (L.seen work.card.leaf).content)
+        (C.given recorder.old) (C.given recorder.new) }
     ensures standing { C.standing recorder.new ≡ C.standing recorder.old }
     ensures fixed { C.fixed recorder.new ≡ C.fixed recorder.old }
 {
@@ -115,9 +118,7 @@ fn redo<S: Starter, B: Blob, L: Leaf, C: Recorder<B, L>>(
     mut work: Work<B, L>,
 )
     requires open { IsOpen line.old.session }
-    requires fresh { (L.seen work.card.leaf).state ≡ Fresh }
-    requires some { 1 ≤ length work.card.text }
-    requires few { length work.card.text ≤ 4096 }
+    requires read { IsReadCard (C.standing recorder.old) (card_seen B.told B.seen L.seen work.card) work.unencoded }
     requires driver { (C.standing recorder.old).driver ≡ seat.driver }
     requires required { (C.standing recorder.old).required ≡ seat.required }
     requires state { (cards turns : List ℕ) × (contains work.card.path cards ≡ true)
@@ -151,7 +152,7 @@ fn redo_all<S: Starter, B: Blob, L: Leaf, C: Recorder<B, L>>(
     recorder: &mut C,
 )
     requires next { IsNext line.old.session }
-    requires ready { AreReady (cards_of late.old) }
+    requires ready { AreReady (C.standing recorder.old) (cards_of late.old) }
     requires apart { AreApart (paths_of (cards_of late.old)) }
     requires driver { (C.standing recorder.old).driver ≡ seat.driver }
     requires required { (C.standing recorder.old).required ≡ seat.required }
@@ -169,7 +170,7 @@ fn redo_all<S: Starter, B: Blob, L: Leaf, C: Recorder<B, L>>(
         (cards_of late.new)) [] }
     ensures next { IsNext line.new.session }
     ensures turns { TurnsBy line.new.session late.new.table.turns }
-    ensures ready { AreReady (cards_of late.new) }
+    ensures ready { AreReady (C.standing recorder.old) (cards_of late.new) }
     ensures apart { AreApart (paths_of (cards_of late.new)) }
     ensures fits { (paths : Paths) → FitTexts paths (cards_of late.old) → FitTexts paths (cards_of late.new) }
     ensures names { KeepsNames late.old late.new }
@@ -195,7 +196,7 @@ fn one_round<S: Starter, B: Blob, L: Leaf, C: Recorder<B, L>>(
 )
     requires open { IsOpen line.old.session }
     requires none { late.old.table.turns ≡ [] }
-    requires ready { AreReady (cards_of late.old) }
+    requires ready { AreReady (C.standing recorder.old) (cards_of late.old) }
     requires apart { AreApart (paths_of (cards_of late.old)) }
     requires driver { (C.standing recorder.old).driver ≡ seat.driver }
     requires required { (C.standing recorder.old).required ≡ seat.required }
@@ -213,7 +214,7 @@ fn one_round<S: Starter, B: Blob, L: Leaf, C: Recorder<B, L>>(
         (cards_of late.new)) [] }
     ensures next { IsNext line.new.session }
     ensures turns { TurnsBy line.new.session late.new.table.turns }
-    ensures ready { AreReady (cards_of late.new) }
+    ensures ready { AreReady (C.standing recorder.old) (cards_of late.new) }
     ensures apart { AreApart (paths_of (cards_of late.new)) }
     ensures fits { (paths : Paths) → FitTexts paths (cards_of late.old) → FitTexts paths (cards_of late.new) }
     ensures names { KeepsNames late.old late.new }
@@ -233,7 +234,7 @@ fn rounds<S: Starter, B: Blob, L: Leaf, C: Recorder<B, L>>(
 )
     requires open { IsOpen line.old.session }
     requires none { late.old.table.turns ≡ [] }
-    requires ready { AreReady (cards_of late.old) }
+    requires ready { AreReady (C.standing recorder.old) (cards_of late.old) }
     requires apart { AreApart (paths_of (cards_of late.old)) }
     requires driver { (C.standing recorder.old).driver ≡ seat.driver }
     requires required { (C.standing recorder.old).required ≡ seat.required }
@@ -264,7 +265,7 @@ pub(crate) fn end_talk<S: Starter, B: Blob, L: Leaf, C: Recorder<B, L>>(
 )
     requires sane { IsSane line.old.session (newest (paths_of (cards_of late.old))) }
     requires none { late.old.table.turns ≡ [] }
-    requires ready { AreReady (cards_of late.old) }
+    requires ready { AreReady (C.standing recorder.old) (cards_of late.old) }
     requires apart { AreApart (paths_of (cards_of late.old)) }
     requires driver { (C.standing recorder.old).driver ≡ seat.driver }
     requires required { (C.standing recorder.old).required ≡ seat.required }

@@ -1,18 +1,18 @@
 //! The cards of a driver, one after another: each is asked for in a session that is opened when it is needed.
-ghost use Rattle.std.specs.Prelude.{◌≡◌, ◌≢◌, ◌≤◌, ◌<◌, ◌+◌, ◌^◌, ◌∷◌, ◌++◌, [], ℕ, List, Bool, true, false};
-ghost use Rattle.std.specs.Prelude.{Option, Some, None, Err, length, slice_get};
-ghost use Rattle.edge_kit.specs.Files.{IsOpenLeaf};
-ghost use Rattle.edge_kit.specs.declared.leaf_state.LeafState.TheVariants.{Fresh, Broken};
-ghost use Rattle.convert_plan.specs.Card.{card_seen};
+ghost use Rattle.std.specs.Prelude.{◌≡◌, ◌≤◌, ◌<◌, ◌+◌, ◌^◌, ◌∷◌, ◌++◌, [], ℕ, List, Bool, true, false};
+ghost use Rattle.std.specs.Prelude.{Option, Some, None, Ok, slice_get};
+ghost use Rattle.convert_plan.specs.Card.{card_seen, IsPrepared};
 ghost use Rattle.driver_line.specs.Lines.{LineView, Paths, IsOpen, starts_of};
 ghost use Rattle.driver_desk.specs.Late.{AreIdle, KeepsNames, StaysUnlisted, cards_of};
-ghost use Rattle.driver_desk.specs.Rounds.{late_seen, paths_of, AreApart, AreReady, GrowsLate};
-ghost use Rattle.driver_desk.specs.Serving.{Given, AreClosings, Serves, newest, IsSane, late_after, is_abort};
+ghost use Rattle.driver_desk.specs.Rounds.{paths_of, AreApart, AreReady, GrowsLate};
+ghost use Rattle.driver_desk.specs.Serving.{Given, AreClosings, GotContent, NoAnswer, Serves, newest, IsSane};
+ghost use Rattle.driver_desk.specs.Serving.{late_after, is_abort};
 ghost use Rattle.driver_desk.specs.Works.{WorkSeen, ReadsAs, FitsWork, asked_of};
 ghost use Rattle.checkout_core.specs.Conditions.{heard_opening};
 ghost use Rattle.checkout_core.specs.declared.path.Heard.{Heard};
 ghost use Rattle.checkout_core.specs.Fates.{Known, fate_here};
 ghost use Rattle.checkout_core.specs.Talks.{Talk};
+ghost use Rattle.driver_desk.specs.Cards.{IsPlanned, IsReadCard, IsAskedCard, ready_of};
 ghost use Rattle.driver_desk.specs.Recorders.{MayEnd, IsEnd};
 ghost use Rattle.driver_desk.specs.Places.{IsAt, IsServing, IsUnopened, IsAnswered, AreLost};
 
@@ -43,7 +43,7 @@ pub(crate) fn close_late<B: Blob, L: Leaf, C: Recorder<B, L>>(
     late: &mut Late<B, L>,
     recorder: &mut C,
 )
-    requires ready { AreReady (cards_of late.old) }
+    requires ready { AreReady (C.standing recorder.old) (cards_of late.old) }
     requires next { (rest : List ℕ) × (first : ℕ) × (t : Talk)
         × AreLost (C.standing recorder.old) (C.given recorder.old) (paths_of (cards_of late.old)) rest first t }
     ensures next { (rest : List ℕ) (first : ℕ) (t : Talk)
@@ -51,7 +51,7 @@ pub(crate) fn close_late<B: Blob, L: Leaf, C: Recorder<B, L>>(
         → IsAt (C.standing recorder.new) (C.given recorder.new) rest rest first t }
     ensures standing { C.standing recorder.new ≡ C.standing recorder.old }
     ensures fixed { C.fixed recorder.new ≡ C.fixed recorder.old }
-    ensures closed { AreClosings (C.given recorder.old) (C.given recorder.new) }
+    ensures closed { AreClosings NoAnswer (C.given recorder.old) (C.given recorder.new) }
     ensures none { cards_of late.new ≡ [] }
     ensures names { KeepsNames late.old late.new }
     ensures idle { (q : ℕ) → AreIdle q late.old → AreIdle q late.new }
@@ -157,7 +157,9 @@ fn keep_ready<B: Blob, L: Leaf>(
 ) -> Work<B, L>
     ensures path { result.card.path ≡ card.path }
     ensures text { result.card.text ≡ card.text }
-    ensures leaf { L.seen result.card.leaf ≡ L.seen card.leaf }
+    ensures card { card_seen B.told B.seen L.seen result.card
+        ≡ record (card_seen B.told B.seen L.seen card) { ready = ready_of required prepared card.ready } }
+    ensures flag { result.unencoded ≡ prepared.unencoded }
 {
     let unencoded = prepared.unencoded;
     if required {
@@ -177,12 +179,12 @@ fn after_reply<B: Blob, L: Leaf, C: Recorder<B, L>>(
     reply: Reply,
     put: Result<(), SendFault>,
 )
-    requires usable { put ≢ Err SendFault.Failed → IsOpenLeaf (L.seen work.card.leaf).state }
-    requires broken { put ≡ Err SendFault.Failed → (L.seen work.card.leaf).state ≡ Broken }
-    requires untouched { reply ≡ Reply.Delayed → (L.seen work.card.leaf).state ≡ Fresh }
+    requires asked { IsAskedCard (C.standing recorder.old) (card_seen B.told B.seen L.seen work.card) work.unencoded put }
+    requires untouched { reply ≡ Reply.Delayed
+        → IsReadCard (C.standing recorder.old) (card_seen B.told B.seen L.seen work.card) work.unencoded }
     requires here { slice_get late.old.numbers place ≡ Some work.card.path }
     requires idle { AreIdle place late.old }
-    requires ready { AreReady (cards_of late.old) }
+    requires ready { AreReady (C.standing recorder.old) (cards_of late.old) }
     requires required { (C.standing recorder.old).required ≡ seat.required }
     requires may { (h : Heard) → fate_here reply ≡ Known h
         → MayEnd (C.standing recorder.old) (C.given recorder.old) work.card.path h }
@@ -193,11 +195,12 @@ fn after_reply<B: Blob, L: Leaf, C: Recorder<B, L>>(
         → IsAt (C.standing recorder.new) (C.given recorder.new) (paths_of (cards_of late.new) ++ rest) rest first t }
     ensures standing { C.standing recorder.new ≡ C.standing recorder.old }
     ensures fixed { C.fixed recorder.new ≡ C.fixed recorder.old }
-    ensures cards { GrowsLate (cards_of late.old) (late_seen work.card.path work.card.text Fresh)
+    ensures cards { GrowsLate (C.standing recorder.old) (cards_of late.old) work.card.path work.card.text
         (cards_of late.new) }
     ensures late { newest (paths_of (cards_of late.new))
         ≡ late_after work.card.path reply (newest (paths_of (cards_of late.old))) }
-    ensures closed { AreClosings (C.given recorder.old) (C.given recorder.new) }
+    ensures closed { AreClosings (GotContent reply put work.card.path (L.seen work.card.leaf).content)
+        (C.given recorder.old) (C.given recorder.new) }
     ensures names { KeepsNames late.old late.new }
     ensures idle { AreIdle (place + 1) late.new }
     ensures turns { StaysUnlisted late.old late.new }
@@ -230,12 +233,11 @@ fn ask_card<S: Starter, B: Blob, L: Leaf, C: Recorder<B, L>, G: Gate>(
     prepared: Prepared,
 ) -> bool
     requires open { IsOpen line.old.session }
-    requires fresh { (L.seen card.leaf).state ≡ Fresh }
-    requires some { 1 ≤ length card.text }
-    requires few { length card.text ≤ 4096 }
+    requires planned { IsPlanned (C.standing recorder.old) (card_seen B.told B.seen L.seen card) }
+    requires prepared { IsPrepared (card_seen B.told B.seen L.seen card) prepared }
     requires here { slice_get late.old.numbers place ≡ Some card.path }
     requires idle { AreIdle place late.old }
-    requires ready { AreReady (cards_of late.old) }
+    requires ready { AreReady (C.standing recorder.old) (cards_of late.old) }
     requires driver { (C.standing recorder.old).driver ≡ seat.driver }
     requires required { (C.standing recorder.old).required ≡ seat.required }
     requires next { (rest : List ℕ) × AreApart (card.path ∷ (paths_of (cards_of late.old) ++ rest))
@@ -254,7 +256,8 @@ fn ask_card<S: Starter, B: Blob, L: Leaf, C: Recorder<B, L>, G: Gate>(
         (paths_of (cards_of late.old)))
         → Serves seat.driver paths line0 given0 (asked ++ card.path ∷ []) [] line.new (C.given recorder.new) result
         (newest (paths_of (cards_of late.new))) }
-    ensures cards { GrowsLate (cards_of late.old) (late_seen card.path card.text Fresh) (cards_of late.new) }
+    ensures cards { GrowsLate (C.standing recorder.old) (cards_of late.old) card.path card.text
+        (cards_of late.new) }
     ensures done { result ≡ true → line.new.session ≡ None }
     ensures sane { IsSane line.new.session (newest (paths_of (cards_of late.new))) }
     ensures names { KeepsNames late.old late.new }
@@ -293,10 +296,12 @@ fn not_opened<B: Blob, L: Leaf, C: Recorder<B, L>>(
     cause: OpenCause,
     recorder: &mut C,
 )
-    requires leaf { IsOpenLeaf (L.seen work.card.leaf).state }
+    requires asked { IsAskedCard (C.standing recorder.old) (card_seen B.told B.seen L.seen work.card) work.unencoded
+        (Ok tt) }
     requires required { (C.standing recorder.old).required ≡ required }
     requires may { MayEnd (C.standing recorder.old) (C.given recorder.old) work.card.path (heard_opening cause) }
     ensures ends { IsEnd (C.standing recorder.old) (C.given recorder.old) work.card.path (C.given recorder.new) }
+    ensures closed { AreClosings NoAnswer (C.given recorder.old) (C.given recorder.new) }
     ensures standing { C.standing recorder.new ≡ C.standing recorder.old }
     ensures fixed { C.fixed recorder.new ≡ C.fixed recorder.old }
 {
@@ -319,12 +324,11 @@ fn serve_card<S: Starter, B: Blob, L: Leaf, C: Recorder<B, L>, G: Gate>(
 ) -> bool
     requires starts { starts_of line.old < 2 ^ 32 }
     requires sane { IsSane line.old.session (newest (paths_of (cards_of late.old))) }
-    requires fresh { (L.seen card.leaf).state ≡ Fresh }
-    requires some { 1 ≤ length card.text }
-    requires few { length card.text ≤ 4096 }
+    requires planned { IsPlanned (C.standing recorder.old) (card_seen B.told B.seen L.seen card) }
+    requires prepared { IsPrepared (card_seen B.told B.seen L.seen card) prepared }
     requires here { slice_get late.old.numbers place ≡ Some card.path }
     requires idle { AreIdle place late.old }
-    requires ready { AreReady (cards_of late.old) }
+    requires ready { AreReady (C.standing recorder.old) (cards_of late.old) }
     requires driver { (C.standing recorder.old).driver ≡ seat.driver }
     requires required { (C.standing recorder.old).required ≡ seat.required }
     requires next { (rest : List ℕ) × AreApart (card.path ∷ (paths_of (cards_of late.old) ++ rest))
@@ -343,7 +347,8 @@ fn serve_card<S: Starter, B: Blob, L: Leaf, C: Recorder<B, L>, G: Gate>(
         (cards_of late.old)))
         → Serves seat.driver paths line0 given0 (asked ++ card.path ∷ []) [] line.new (C.given recorder.new) result
         (newest (paths_of (cards_of late.new))) }
-    ensures cards { GrowsLate (cards_of late.old) (late_seen card.path card.text Fresh) (cards_of late.new) }
+    ensures cards { GrowsLate (C.standing recorder.old) (cards_of late.old) card.path card.text
+        (cards_of late.new) }
     ensures done { result ≡ true → line.new.session ≡ None }
     ensures sane { IsSane line.new.session (newest (paths_of (cards_of late.new))) }
     ensures names { KeepsNames late.old late.new }
@@ -380,12 +385,10 @@ pub(crate) fn serve_one<S: Starter, B: Blob, L: Leaf, C: Recorder<B, L>, G: Gate
     requires starts { starts_of line.old < 2 ^ 32 }
     requires sane { IsSane line.old.session (newest (paths_of (cards_of late.old))) }
     requires done { aborted ≡ true → line.old.session ≡ None }
-    requires fresh { (L.seen card.leaf).state ≡ Fresh }
-    requires some { 1 ≤ length card.text }
-    requires few { length card.text ≤ 4096 }
+    requires planned { IsPlanned (C.standing recorder.old) (card_seen B.told B.seen L.seen card) }
     requires here { slice_get late.old.numbers place ≡ Some card.path }
     requires idle { AreIdle place late.old }
-    requires ready { AreReady (cards_of late.old) }
+    requires ready { AreReady (C.standing recorder.old) (cards_of late.old) }
     requires driver { (C.standing recorder.old).driver ≡ seat.driver }
     requires required { (C.standing recorder.old).required ≡ seat.required }
     requires next { (rest : List ℕ) × AreApart (card.path ∷ (paths_of (cards_of late.old) ++ rest))
@@ -404,7 +407,8 @@ pub(crate) fn serve_one<S: Starter, B: Blob, L: Leaf, C: Recorder<B, L>, G: Gate
         (cards_of late.old)))
         → Serves seat.driver paths line0 given0 (asked ++ asked_of w.card.path w.content) [] line.new
         (C.given recorder.new) result (newest (paths_of (cards_of late.new)))) }
-    ensures cards { GrowsLate (cards_of late.old) (late_seen card.path card.text Fresh) (cards_of late.new) }
+    ensures cards { GrowsLate (C.standing recorder.old) (cards_of late.old) card.path card.text
+        (cards_of late.new) }
     ensures done { result ≡ true → line.new.session ≡ None }
     ensures sane { IsSane line.new.session (newest (paths_of (cards_of late.new))) }
     ensures names { KeepsNames late.old late.new }

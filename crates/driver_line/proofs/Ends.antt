@@ -137,7 +137,7 @@ asked_may d text old new r extra h = may_reply d r (may_come d text old new (rep
 
 -- the content of an exchange, and what the leaf has of it
 kept_end : (d : Bool) (old new : LeafSeen) (put : Result ⊤ SendFault) (end : Ends GoodReply) (ps : List Packet) → EndPut d old new put end ps → IsKept old new put
-kept_end d old new put (Good g) ps h = record { path = h.path; usable = h.usable; broken = h.broken }
+kept_end d old new put (Good g) ps h = record { path = h.path; told = h.told; usable = h.usable; broken = h.broken }
 kept_end d old new put (Broke c) ps h = h
 kept_end d old new put OutOfMemory ps h = h
 

@@ -84,7 +84,7 @@ flush_puts p before leaf put new e content h =
     (subst (λ (c : List ℕ). IsPut before leaf put (content ++ c)) (sym (piece_flush p)) (put_nothing before leaf put content h))
 
 pub kept_of : (old new : LeafSeen) (put : Result ⊤ SendFault) (content : List ℕ) → IsPut old new put content → IsKept old new put
-kept_of old new put content h = record { path = h.path; usable = h.usable; broken = h.broken }
+kept_of old new put content h = record { path = h.path; told = h.told; usable = h.usable; broken = h.broken }
 
 same_put : (old leaf : LeafSeen) (put new : Result ⊤ SendFault) → new ≡ put → IsKept old leaf put → IsKept old leaf new
 same_put old leaf put new e h = subst (λ (r : Result ⊤ SendFault). IsKept old leaf r) (sym e) h
@@ -176,7 +176,7 @@ begins_flush d old new (steps.End reply.Delayed) before leaf f h = subst (λ (r 
     delayed (LastKeyList (Some status.Other)) e h = absurd (cc)
 
 pub put_starts : (leaf : LeafSeen) → IsOpenLeaf leaf.state → IsPut leaf leaf (Ok tt) []
-put_starts leaf usable = record { path = refl; holds = λ e. sym (grown_nothing leaf.content); usable = λ e. (usable, refl); broken = λ e. absurd (cc) }
+put_starts leaf usable = record { path = refl; told = refl; holds = λ e. sym (grown_nothing leaf.content); usable = λ e. (usable, refl); broken = λ e. absurd (cc) }
 
 -- a request that was not sent whole puts nothing
 pub kept_all : (leaf : LeafSeen) → IsOpenLeaf leaf.state → IsKept leaf leaf (Ok tt)

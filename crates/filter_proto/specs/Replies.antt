@@ -1,5 +1,5 @@
 -- A smudge request and its reply, and what the leaf has of it.
-use Rattle.std.specs.Prelude.{◌≡◌, ◌≢◌, ℕ, Bool, List, Result, Ok, Err, ⊤}
+use Rattle.std.specs.Prelude.{◌≡◌, ◌≢◌, ℕ, Bool, List, Result, Ok, Err, ⊤, is_some}
 use Rattle.pkt_line.specs.Packets.{Packet}
 use Rattle.filter_words.specs.SmudgeReply.{reply_start, content_in}
 use Rattle.filter_words.specs.declared.reply.Reply.{Reply}
@@ -18,9 +18,10 @@ use Rattle.filter_proto.specs.Exchanges.{Ends, Good, Broke, OutOfMemory}
 use Rattle.filter_proto.specs.declared.session.Standing.{Standing}
 use Rattle.filter_proto.specs.declared.session.Standing.TheVariants as standing
 
--- what the puts so far did to the leaf, if these bytes were to be put
+-- What the puts so far did to the leaf, if these bytes were to be put. Its content is told as before, or isn't.
 pub record IsPut (old new : LeafSeen) (put : Result ⊤ SendFault) (content : List ℕ) : Type 0 where
   pub path : new.path ≡ old.path
+  pub told : is_some new.content ≡ is_some old.content
   pub holds : put ≡ Ok tt → new.content ≡ grown old.content content
   pub usable : put ≢ Err send.Failed → IsOpenLeaf new.state × (new.faults ≡ old.faults)
   pub broken : put ≡ Err send.Failed → (new.state ≡ leaf.Broken) × Rose old.faults new.faults
@@ -28,6 +29,7 @@ pub record IsPut (old new : LeafSeen) (put : Result ⊤ SendFault) (content : Li
 -- the same, whatever was put
 pub record IsKept (old new : LeafSeen) (put : Result ⊤ SendFault) : Type 0 where
   pub path : new.path ≡ old.path
+  pub told : is_some new.content ≡ is_some old.content
   pub usable : put ≢ Err send.Failed → IsOpenLeaf new.state × (new.faults ≡ old.faults)
   pub broken : put ≡ Err send.Failed → (new.state ≡ leaf.Broken) × Rose old.faults new.faults
 

@@ -1,6 +1,12 @@
-use Rattle.std.proofs.Common.{refl}
+use Rattle.std.proofs.Common.{refl, [], ◌∷◌}
 use Rattle.driver_desk.specs.Serving.{Closed}
 use Rattle.driver_desk.proofs.closing.close.Goals as goal
 
+pub close-requires-clause-card : goal.close-requires-clause-card
+close-requires-clause-card g c = let h = c.requires.shows in (h.place, h.planned, h.here, h.same)
+
 pub returns-clause-ends : goal.returns-clause-ends
-returns-clause-ends g c = record { last = Closed c.args.own _; more = c.close.ensures.given; path = refl; may = c.requires.next }
+returns-clause-ends g c = record { last = Closed c.args.own _; more = c.close.ensures.given; path = refl; may = c.requires.next; shows = c.requires.shows }
+
+pub returns-clause-closed : goal.returns-clause-closed
+returns-clause-closed g c = (Closed c.args.own _ ∷ [], c.close.ensures.given, refl, ((λ m e. (refl, refl, m, e)), tt))

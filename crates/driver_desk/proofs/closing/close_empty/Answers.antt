@@ -1,4 +1,18 @@
+use Rattle.driver_desk.proofs.Serves.{closed_as}
+use Rattle.driver_desk.proofs.Closings.{gone_sealed, closes_read, may_drop, shows_none}
 use Rattle.driver_desk.proofs.closing.close_empty.Goals as goal
 
+pub drop_leaf-own-requires : goal.drop_leaf-own-requires
+drop_leaf-own-requires g c = record { usable = λ k. (c.requires.asked.kept.usable k).0; broken = λ k. (c.requires.asked.kept.broken k).0 }
+
 pub close-requires : goal.close-requires
-close-requires g c = record { next = c.requires.may.1.close c.drop_leaf-own.result c.drop_leaf-own.ensures.read }
+close-requires g c =
+    let m = c.requires.may in record {
+      shows = closes_read _ _ _ _ _ m.heard _ _ c.requires.asked m.may c.drop_leaf-own.ensures.path
+          (λ before k. shows_none _ m.heard _ _ _ _ m.without (c.drop_leaf-own.ensures.shows before k))
+          (may_drop _ m.heard _ c.args.put m.refused c.drop_leaf-own.ensures.put);
+      next = m.may.close c.drop_leaf-own.result c.drop_leaf-own.ensures.read;
+    }
+
+pub returns-clause-closed : goal.returns-clause-closed
+returns-clause-closed g c = closed_as _ _ _ _ (λ q told k. gone_sealed _ k.2 c.drop_leaf-own.ensures.gone k.3) c.close.ensures.closed

@@ -1,13 +1,44 @@
-use Rattle.std.proofs.Common.{refl, ap}
+use Rattle.std.proofs.Common.{refl, ap, ◌∙◌, [], ◌∷◌}
+use Rattle.edge_kit.specs.Seen.{LeafSeen}
 use Rattle.checkout_core.specs.Desks.{was_read}
+use Rattle.checkout_core.specs.declared.path.Heard.TheVariants.{Refused}
 use Rattle.driver_desk.specs.Serving.{HandedBack}
+use Rattle.driver_desk.proofs.Serves.{closed_as}
+use Rattle.driver_desk.proofs.Closings.{gone_sealed, closes_read, may_failed, refused_one, rose_kept}
 use Rattle.driver_desk.proofs.closing.hand_back.Goals as goal
 
+pub restart-requires : goal.restart-requires
+restart-requires g c = (c.requires.asked.kept.usable (λ e. absurd (cc (e)))).0
+
 pub hand_back-requires : goal.hand_back-requires
-hand_back-requires g c = record { own = c.requires.may.1.own; next = c.requires.may.1.back c.requires.may.0 refl c.requires.free }
+hand_back-requires g c = record {
+  card = refused_one _ _ _ _ c.requires.asked c.requires.free c.in-Ok.ensures;
+  free = c.requires.free;
+  own = c.requires.may.1.own;
+  next = c.requires.may.1.back c.requires.may.0 refl c.requires.free;
+}
 
 pub close-requires : goal.close-requires
-close-requires g c = record { next = c.requires.may.1.close c.write_failed-own.result (ap was_read c.write_failed-own.ensures.own) }
+close-requires g c =
+    let m = c.requires.may in record {
+      shows = closes_read _ _ _ _ _ (Refused m.0) _ _ c.requires.asked m.1 (c.write_failed-own.ensures.path ∙ ap (λ (l : LeafSeen). l.path) c.in-Err.ensures.kept)
+          (λ before k. c.write_failed-own.ensures.shows before _ _ (rose_kept before (g.L.Leaf.seen c.args.work.card.leaf) (g.L.Leaf.seen c.restart.new.self) k c.in-Err.ensures.rose))
+          (may_failed _ (Refused m.0) _ c.write_failed-own.ensures.own);
+      next = m.1.close c.write_failed-own.result (ap was_read c.write_failed-own.ensures.own);
+    }
 
 pub returns-in-Ok-clause-ends : goal.returns-in-Ok-clause-ends
-returns-in-Ok-clause-ends g c = record { last = HandedBack _; more = c.hand_back.ensures.given; path = refl; may = c.requires.may.1.back c.requires.may.0 refl c.requires.free }
+returns-in-Ok-clause-ends g c =
+    let m = c.requires.may in record {
+      last = HandedBack _;
+      more = c.hand_back.ensures.given;
+      path = refl;
+      may = m.1.back m.0 refl c.requires.free;
+      shows = record { refused = refused_one _ _ _ _ c.requires.asked c.requires.free c.in-Ok.ensures; free = c.requires.free; why = m.0; told = m.1.told };
+    }
+
+pub returns-in-Ok-clause-closed : goal.returns-in-Ok-clause-closed
+returns-in-Ok-clause-closed g c = (HandedBack _ ∷ [], c.hand_back.ensures.given, refl, (tt, tt))
+
+pub returns-in-Err-clause-closed : goal.returns-in-Err-clause-closed
+returns-in-Err-clause-closed g c = closed_as _ _ _ _ (λ q told k. gone_sealed _ k.2 c.write_failed-own.ensures.gone k.3) c.close.ensures.closed

@@ -1,14 +1,15 @@
 use Rattle.std.proofs.Common.{◌≡◌, ◌∷◌, ◌++◌, [], List, map, refl, ap, sym, subst, ◌∙◌, ◌+◌, ◌≤◌, arith, length}
 use Rattle.std.proofs.lemmas.List.{append-nil}
-use Rattle.edge_kit.specs.declared.leaf_state.LeafState.TheVariants.{Fresh}
 use Rattle.convert_plan.specs.Card.{CardSeen, card_seen}
 use Rattle.convert_plan.specs.declared.card.Card.{Card}
-use Rattle.driver_desk.specs.Rounds.{LateSeen, late_seen, paths_of, AreReady, AreApart, FitTexts}
+use Rattle.driver_desk.specs.Rounds.{LateSeen, paths_of, AreReady, AreApart, FitTexts}
 use Rattle.driver_desk.specs.Works.{card_paths}
 use Rattle.driver_desk.specs.Serving.{newest}
 use Rattle.driver_desk.proofs.Serves.{fit_done, asked_more, serves_asked}
-use Rattle.driver_desk.proofs.RoundSteps.{grows_ready, grows_apart, grows_fits}
-use Rattle.driver_desk.proofs.CardLists.{all_next, here_is, read_push, len_push, place_below, new_next, new_ready, text_of, sane_none, serves_late}
+use Rattle.driver_desk.specs.Recorders.{Standing}
+use Rattle.driver_desk.proofs.RoundSteps.{grows_ready, grows_apart, grows_fits, ready_as}
+use Rattle.driver_desk.proofs.Closings.{grows_as}
+use Rattle.driver_desk.proofs.CardLists.{all_next, here_is, read_push, len_push, place_below, new_next, next_planned, text_of, sane_none, serves_late}
 use Rattle.driver_desk.proofs.RoundCalls.{serving_none, serving_card, apart_next}
 use Rattle.driver_desk.proofs.desk.serve_all.Goals as goal
 
@@ -18,7 +19,7 @@ loop-card-init g c = record {
   sane = sane_none _ _ c.requires.none (ap (λ (x : List LateSeen). newest (paths_of x)) c.requires.empty);
   done = λ e. absurd (cc e);
   new = c.requires.new;
-  ready = subst AreReady (sym c.requires.empty) tt;
+  ready = subst (AreReady _) (sym c.requires.empty) tt;
   apart = subst (λ (x : List LateSeen). AreApart (paths_of x ++ card_paths (map (λ (k : Card g.row.B.Denot g.row.L.Denot). card_seen g.B.Blob.told g.B.Blob.seen g.L.Leaf.seen k) c.args.cards.items))) (sym c.requires.empty) (subst AreApart c.requires.numbers c.requires.apart);
   names = (refl, refl);
   turns = λ e. e;
@@ -40,6 +41,16 @@ pub serve_one-aborted-requires-clause-here : goal.serve_one-aborted-requires-cla
 serve_one-aborted-requires-clause-here g c κs within =
     let h = c.loop-card.invariant in
     here_is _ _ h.serves.0 _ _ ((λ (k : Card g.row.B.Denot g.row.L.Denot). card_seen g.B.Blob.told g.B.Blob.seen g.L.Leaf.seen k) c.in-Some.card) c.loop-card.place (h.names.1 ∙ c.requires.numbers) h.serves.1 (ap (map (λ (k : Card g.row.B.Denot g.row.L.Denot). card_seen g.B.Blob.told g.B.Blob.seen g.L.Leaf.seen k)) c.in-Some.ensures.items) h.serves.2
+
+pub serve_one-aborted-requires-clause-planned : goal.serve_one-aborted-requires-clause-planned
+serve_one-aborted-requires-clause-planned g c κs within =
+    let h = c.loop-card.invariant in
+    let card : CardSeen = (λ (k : Card g.row.B.Denot g.row.L.Denot). card_seen g.B.Blob.told g.B.Blob.seen g.L.Leaf.seen k) c.in-Some.card in
+    let next : map (λ (k : Card g.row.B.Denot g.row.L.Denot). card_seen g.B.Blob.told g.B.Blob.seen g.L.Leaf.seen k) c.loop-card.cards.items ≡ card ∷ map (λ (k : Card g.row.B.Denot g.row.L.Denot). card_seen g.B.Blob.told g.B.Blob.seen g.L.Leaf.seen k) c.pop_front.new.self.items = ap (map (λ (k : Card g.row.B.Denot g.row.L.Denot). card_seen g.B.Blob.told g.B.Blob.seen g.L.Leaf.seen k)) c.in-Some.ensures.items in
+    next_planned (g.C.Recorder.standing c.loop-card.recorder) _ h.serves.0 _ _ card (ap (λ (s : Standing). s.cards) h.standing ∙ c.requires.cards) h.serves.1 next (new_next _ _ card next h.new).0
+
+pub serve_one-aborted-requires-clause-ready : goal.serve_one-aborted-requires-clause-ready
+serve_one-aborted-requires-clause-ready g c κs within = ready_as _ _ _ c.loop-card.invariant.standing c.loop-card.invariant.ready
 
 pub serve_one-aborted-requires-clause-next : goal.serve_one-aborted-requires-clause-next
 serve_one-aborted-requires-clause-next g c κs within =
@@ -71,8 +82,8 @@ loop-card-preserved g c =
       sane = e.sane;
       done = e.done;
       new = new.1;
-      ready = grows_ready _ (late_seen card.path card.text Fresh) _ e.cards (new_ready card new.0) h.ready;
-      apart = grows_apart _ (late_seen card.path card.text Fresh) _ _ _ card e.cards next refl h.apart;
+      ready = grows_ready _ _ _ _ _ (grows_as _ _ _ _ _ _ _ _ (sym h.standing) refl refl e.cards) h.ready;
+      apart = grows_apart _ _ _ _ _ _ card e.cards next h.apart;
       names = (e.names.0 ∙ h.names.0, e.names.1 ∙ h.names.1);
       turns = λ k. e.turns (h.turns k);
       idle = e.idle;
@@ -86,6 +97,6 @@ loop-card-preserved g c =
         read_push h.serves.0 w h.serves.3 e.serves.2,
         (λ paths line0 given0 asked fit s. let k = fit_done paths h.serves.0 w fit in
             serves_asked _ _ _ _ _ _ [] _ _ _ _ (asked_more asked h.serves.0 w) (e.serves.3 paths line0 given0 _ k.1 (h.serves.4 paths line0 given0 asked k.0 s))),
-        λ paths fit. let k = fit_done paths h.serves.0 w fit in grows_fits paths _ (late_seen card.path card.text Fresh) _ e.cards (text_of paths w card e.serves.1 k.1) (h.serves.5 paths k.0),
+        λ paths fit. let k = fit_done paths h.serves.0 w fit in grows_fits _ paths _ _ _ _ e.cards (text_of paths w card e.serves.1 k.1) (h.serves.5 paths k.0),
       );
     }

@@ -14,7 +14,7 @@ invariant-loop-card g l = record {
   sane : IsSane l.line.session (newest (paths_of (cards_of l.late)));
   done : l.aborted ≡ true → l.line.session ≡ None;
   new : AreNew (map (λ c. card_seen g.B.Blob.told g.B.Blob.seen g.L.Leaf.seen c) l.cards.items);
-  ready : AreReady (cards_of l.late);
+  ready : AreReady (g.C.Recorder.standing l.initial.recorder) (cards_of l.late);
   apart : AreApart (paths_of (cards_of l.late) ++ card_paths (map (λ c. card_seen g.B.Blob.told g.B.Blob.seen g.L.Leaf.seen c) l.cards.items));
   names : KeepsNames l.initial.late l.late;
   turns : StaysUnlisted l.initial.late l.late;

@@ -1,5 +1,5 @@
 use Rattle.std.proofs.Common.{refl, [], false}
-use Rattle.driver_desk.proofs.RoundSteps.{over_aborted, serves_start, serves_as}
+use Rattle.driver_desk.proofs.RoundSteps.{ready_as, over_aborted, serves_start, serves_as}
 use Rattle.driver_desk.proofs.CardLists.{names_fit}
 use Rattle.driver_desk.proofs.Calls.{aborted_as}
 use Rattle.driver_desk.proofs.RoundCalls.{done_aborted}
@@ -10,6 +10,9 @@ returns-then-serve_all-clause-state g c = done_aborted _ _ _ _ _ c.if-serve_all.
 
 pub end_talk-requires-clause-state : goal.end_talk-requires-clause-state
 end_talk-requires-clause-state g c κs within = aborted_as _ _ _ _ _ _ _ _ c.if-serve_all.false c.serve_all.ensures.state
+
+pub end_talk-requires-clause-ready : goal.end_talk-requires-clause-ready
+end_talk-requires-clause-ready g c κs within = ready_as _ _ _ c.serve_all.ensures.standing c.serve_all.ensures.ready
 
 pub returns-then-serve_all-clause-talk : goal.returns-then-serve_all-clause-talk
 returns-then-serve_all-clause-talk g c =

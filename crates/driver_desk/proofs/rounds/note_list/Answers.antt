@@ -45,5 +45,6 @@ returns-in-Empty g c =
         Noted (event.Listed c.args.driver c.args.reply) ∷ [],
         c.note-in-Empty.ensures.given,
         last_noted c.args.driver (names_in c.args.late.now.numbers c.args.late.now.table.turns c.args.reply) c.args.reply other,
+        (tt, tt),
       );
     }

@@ -4,8 +4,8 @@ use Rattle.std.proofs.Common.{ℕ, ◌≡◌, ◌<◌, ◌+◌, length, List, ap
 use Rattle.checkout_core.specs.Talks.{contains}
 use Rattle.driver_line.specs.Lines.{names_in, weight}
 use Rattle.driver_desk.specs.Late.{cards_of}
-use Rattle.driver_desk.specs.Rounds.{LateSeen, paths_of, FitTexts}
-use Rattle.driver_desk.proofs.RoundSteps.{next_listed, listed, listed_at, open_live, fewer_round, some_at}
+use Rattle.driver_desk.specs.Rounds.{LateSeen, paths_of, AreReady, FitTexts}
+use Rattle.driver_desk.proofs.RoundSteps.{ready_as, next_listed, listed, listed_at, open_live, fewer_round, some_at}
 use Rattle.driver_desk.proofs.RoundCalls.{lists, after_list_at, names_same}
 use Rattle.driver_desk.proofs.rounds.one_round.Goals as goal
 
@@ -20,6 +20,12 @@ redo_all-requires-clause-state g c κs within =
     after_list_at _ _ c.args.line.now.session c.list-reply.new.line.session c.args.late.now c.list-reply.new.self k.2 c.list-reply.result k.0 k.1 c.requires.open c.list-reply.ensures.goes c.list-reply.ensures.cards c.list-reply.ensures.kept.1 k.4
     (c.note_list.ensures.next _ k.2 k.0 k.1 k.3)
 
+pub redo_all-requires-clause-ready : goal.redo_all-requires-clause-ready
+redo_all-requires-clause-ready g c κs within = ready_as _ _ _ c.note_list.ensures.standing (subst (AreReady _) (sym c.list-reply.ensures.cards) c.requires.ready)
+
+pub returns-clause-ready : goal.returns-clause-ready
+returns-clause-ready g c = ready_as _ _ _ (sym c.note_list.ensures.standing) c.redo_all.ensures.ready
+
 pub redo_all-requires-clause-next : goal.redo_all-requires-clause-next
 redo_all-requires-clause-next g c κs within = next_listed c.args.line.now.session c.list-reply.new.line.session c.list-reply.result c.requires.open c.list-reply.ensures.goes
 
@@ -29,7 +35,7 @@ returns-clause-rounds g c paths line0 given0 asked fit names h =
     (listed_at c.args.seat.driver paths line0 given0 asked c.args.line.now.session c.list-reply.new.line.session c.list-reply.new.line _ c.args.late.now c.list-reply.new.self c.list-reply.result c.requires.open c.list-reply.ensures.goes c.list-reply.ensures.cards c.list-reply.ensures.kept.1
     (listed c.args.seat.driver paths line0 given0 asked c.args.line.now c.list-reply.new.line _ _ c.note_list.ensures.noted.0 (paths_of (cards_of c.args.late.now)) _ c.list-reply.result c.args.line.now.session c.list-reply.new.line.session
     (open_live c.args.line.now.session c.requires.open) h c.list-reply.ensures.names (λ late same. c.list-reply.ensures.says paths late names (λ q. same q ∙ ap (λ (x : List ℕ). contains q x) (sym c.list-reply.ensures.slate))) c.list-reply.ensures.goes c.note_list.ensures.noted.1
-    (subst (λ (ns : List ℕ). noted_in c.note_list.ensures.noted.0 ≡ list_notes c.args.seat.driver (names_in ns c.list-reply.new.self.table.turns c.list-reply.result) c.list-reply.result) c.list-reply.ensures.kept.1 c.note_list.ensures.noted.2)))
+    (subst (λ (ns : List ℕ). noted_in c.note_list.ensures.noted.0 ≡ list_notes c.args.seat.driver (names_in ns c.list-reply.new.self.table.turns c.list-reply.result) c.list-reply.result) c.list-reply.ensures.kept.1 c.note_list.ensures.noted.2) c.note_list.ensures.noted.3))
 
 pub returns-clause-fits : goal.returns-clause-fits
 returns-clause-fits g c paths fit = c.redo_all.ensures.fits paths (subst (λ (x : List LateSeen). FitTexts paths x) (sym c.list-reply.ensures.cards) fit)

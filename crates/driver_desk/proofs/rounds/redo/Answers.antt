@@ -1,5 +1,8 @@
-use Rattle.std.proofs.Common.{refl, sym, ◌∙◌}
-use Rattle.driver_desk.proofs.Serves.{closing}
+use Rattle.std.proofs.Common.{refl, sym, subst, ◌∙◌, ◌≤◌, ℕ, List, Option, length}
+use Rattle.convert_plan.specs.Card.{card_seen}
+use Rattle.edge_kit.specs.Told.{Tells}
+use Rattle.driver_desk.proofs.Closings.{read_fresh, read_some, read_few, asked_again, got_told}
+use Rattle.driver_desk.proofs.Serves.{closed_as}
 use Rattle.driver_desk.proofs.RoundSteps.{redone, open_live, next_after}
 use Rattle.driver_desk.proofs.Places.{own_driver}
 use Rattle.driver_desk.proofs.Calls.{end_as}
@@ -16,6 +19,18 @@ note-requires-clause-next g c =
     let r = c.requires.state in
     (asks_again c.desk_laws.ensures _ _ _ c.args.line.now.session c.ask_again-reply.new.self.session c.args.work.card.path c.ask_again-reply.result.reply r.0 r.1 c.requires.open c.ask_again-reply.ensures.may c.ask_again-reply.ensures.goes refl r.2 r.3).may
 
+pub ask_again-reply-requires-clause-fresh : goal.ask_again-reply-requires-clause-fresh
+ask_again-reply-requires-clause-fresh g c κs within = read_fresh _ _ _ c.requires.read
+
+pub ask_again-reply-requires-clause-some : goal.ask_again-reply-requires-clause-some
+ask_again-reply-requires-clause-some g c κs within = subst (λ (x : List ℕ). 1 ≤ length x) (sym c.as_slice.ensures) (read_some _ _ _ c.requires.read)
+
+pub ask_again-reply-requires-clause-few : goal.ask_again-reply-requires-clause-few
+ask_again-reply-requires-clause-few g c κs within = subst (λ (x : List ℕ). length x ≤ 4096) (sym c.as_slice.ensures) (read_few _ _ _ c.requires.read)
+
+pub after_second-requires-clause-asked : goal.after_second-requires-clause-asked
+after_second-requires-clause-asked g c = asked_again _ _ (card_seen g.B.Blob.told g.B.Blob.seen g.L.Leaf.seen c.args.work.card) _ _ _ c.note.ensures.standing c.requires.read refl c.ask_again-reply.ensures.kept
+
 pub after_second-requires-clause-may : goal.after_second-requires-clause-may
 after_second-requires-clause-may g c h is =
     let r = c.requires.state in
@@ -31,7 +46,8 @@ pub returns-clause-rounds : goal.returns-clause-rounds
 returns-clause-rounds g c paths line0 given0 asked turns cards left text gone h =
     let s = c.ask_again-reply.ensures.says c.args.work.card.path in
     redone c.args.seat.driver paths line0 given0 asked c.args.line.now c.ask_again-reply.new.self _ _ _ cards left c.args.work.card.path turns c.args.line.now.session c.ask_again-reply.new.self.session c.ask_again-reply.result.reply s.0
-    (open_live c.args.line.now.session c.requires.open) h c.ask_again-reply.ensures.may (s.1 paths (text ∙ sym c.as_slice.ensures)) c.ask_again-reply.ensures.goes c.note.ensures.given (closing _ _ _ _ c.after_second.ensures.ends) gone
+    (open_live c.args.line.now.session c.requires.open) h c.ask_again-reply.ensures.may (s.1 paths (text ∙ sym c.as_slice.ensures)) c.ask_again-reply.ensures.goes c.note.ensures.given
+    (closed_as _ _ _ _ (λ q told k. (k.0, k.2, subst (λ (o : Option (List ℕ)). Tells o s.0) (sym k.3) (got_told _ (card_seen g.B.Blob.told g.B.Blob.seen g.L.Leaf.seen c.args.work.card) _ (g.L.Leaf.seen c.ask_again-reply.new.leaf) s.0 c.requires.read (s.2.holds k.0 k.1)))) c.after_second.ensures.closed) gone
 
 pub returns-clause-next : goal.returns-clause-next
 returns-clause-next g c = next_after c.args.line.now.session c.ask_again-reply.new.self.session c.ask_again-reply.result.reply c.requires.open c.ask_again-reply.ensures.goes

@@ -3,19 +3,13 @@ use Rattle.delay_table.specs.Table.{Table}
 use Rattle.driver_desk.specs.Late.{LateView, cards_of, names_at}
 use Rattle.driver_desk.specs.Rounds.{FitTexts, paths_of, RedoneCards, RoundsBy}
 use Rattle.driver_desk.proofs.LateCards.{step_names, taken_length}
-use Rattle.driver_desk.proofs.RoundSteps.{taken_ready, taken_apart, taken_fits, taken_redone, some_there}
+use Rattle.driver_desk.proofs.RoundSteps.{read_as, taken_ready, taken_apart, taken_fits, taken_redone, some_there}
 use Rattle.driver_desk.proofs.Serves.{is_none}
 use Rattle.driver_desk.proofs.RoundCalls.{redo_has, redo_turns, redo_over, rounds_none_at}
 use Rattle.driver_desk.proofs.rounds.redo_all.Goals as goal
 
-pub redo-requires-clause-fresh : goal.redo-requires-clause-fresh
-redo-requires-clause-fresh g c κs within = (taken_ready _ _ _ _ c.in-Some.ensures.next.4 c.loop-seat.invariant.ready).0.fresh
-
-pub redo-requires-clause-some : goal.redo-requires-clause-some
-redo-requires-clause-some g c κs within = (taken_ready _ _ _ _ c.in-Some.ensures.next.4 c.loop-seat.invariant.ready).0.some
-
-pub redo-requires-clause-few : goal.redo-requires-clause-few
-redo-requires-clause-few g c κs within = (taken_ready _ _ _ _ c.in-Some.ensures.next.4 c.loop-seat.invariant.ready).0.few
+pub redo-requires-clause-read : goal.redo-requires-clause-read
+redo-requires-clause-read g c κs within = read_as _ _ _ _ c.loop-seat.invariant.standing (taken_ready _ _ _ _ _ c.in-Some.ensures.next.4 c.loop-seat.invariant.ready).0
 
 pub redo-requires-clause-state : goal.redo-requires-clause-state
 redo-requires-clause-state g c κs within =
@@ -42,7 +36,7 @@ loop-seat-preserved g c =
     let shorter = taken_length _ _ _ _ taken in
     record {
       next = c.redo.ensures.next;
-      ready = (taken_ready _ _ _ _ taken h.ready).1;
+      ready = (taken_ready _ _ _ _ _ taken h.ready).1;
       apart = taken_apart _ _ _ _ taken h.apart;
       fits = λ paths fit. (taken_fits paths _ _ _ _ taken (h.fits paths fit)).1;
       names = (ap (λ (t : Table). t.names) n.3 ∙ h.names.0, c.next_listed.ensures.numbers ∙ h.names.1);

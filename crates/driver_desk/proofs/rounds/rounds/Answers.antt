@@ -1,6 +1,6 @@
-use Rattle.std.proofs.Common.{◌∙◌}
+use Rattle.std.proofs.Common.{◌∙◌, sym}
 use Rattle.driver_desk.proofs.Serves.{is_none}
-use Rattle.driver_desk.proofs.RoundSteps.{rounds_over, fits_names}
+use Rattle.driver_desk.proofs.RoundSteps.{ready_as, rounds_over, fits_names}
 use Rattle.driver_desk.proofs.RoundCalls.{rounds_lost, done_lost}
 use Rattle.driver_desk.proofs.rounds.rounds.Goals as goal
 
@@ -11,7 +11,7 @@ loop-seat-preserved g c =
     record {
       next = e.next;
       turns = e.turns;
-      ready = e.ready;
+      ready = ready_as _ _ _ (sym h.standing) e.ready;
       apart = e.apart;
       names = (e.names.0 ∙ h.names.0, e.names.1 ∙ h.names.1);
       state = e.state;
@@ -20,6 +20,12 @@ loop-seat-preserved g c =
       fits = λ paths fit. e.fits paths (h.fits paths fit);
       rounds = λ paths line0 given0 asked fit names r. e.rounds paths line0 given0 asked (h.fits paths fit) (fits_names paths c.args.late.now c.loop-seat.late h.names names) (h.rounds paths line0 given0 asked fit names r);
     }
+
+pub one_round-requires-clause-ready : goal.one_round-requires-clause-ready
+one_round-requires-clause-ready g c κs within = ready_as _ _ _ c.loop-seat.invariant.standing c.loop-seat.invariant.ready
+
+pub close_late-requires-clause-ready : goal.close_late-requires-clause-ready
+close_late-requires-clause-ready g c = ready_as _ _ _ c.loop-seat.invariant.standing c.loop-seat.invariant.ready
 
 pub close_late-requires-clause-next : goal.close_late-requires-clause-next
 close_late-requires-clause-next g c =

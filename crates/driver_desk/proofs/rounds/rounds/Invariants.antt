@@ -10,7 +10,7 @@ abbrev pub invariant-loop-seat : goal.invariant-loop-seat
 invariant-loop-seat g l = record {
   next : IsNext l.line.session;
   turns : TurnsBy l.line.session l.late.table.turns;
-  ready : AreReady (cards_of l.late);
+  ready : AreReady (g.C.Recorder.standing l.initial.recorder) (cards_of l.late);
   apart : AreApart (paths_of (cards_of l.late));
   names : KeepsNames l.initial.late l.late;
   fits : (paths : Paths) → FitTexts paths (cards_of l.initial.late) → FitTexts paths (cards_of l.late);

@@ -1,8 +1,12 @@
-use Rattle.std.proofs.Common.{ap, sym, subst, ◌∙◌, ℕ, refl}
+use Rattle.std.proofs.Common.{ap, sym, subst, ◌∙◌, ◌≤◌, ℕ, List, length, Option, refl}
+use Rattle.convert_plan.specs.Card.{CardSeen, card_seen}
+use Rattle.edge_kit.specs.Told.{Tells}
+use Rattle.driver_desk.proofs.RoundSteps.{ready_as}
+use Rattle.driver_desk.proofs.Closings.{asked_of, read_again, grows_as, planned_told}
 use Rattle.driver_desk.specs.Rounds.{paths_of}
 use Rattle.driver_desk.specs.Late.{cards_of}
 use Rattle.driver_desk.specs.Serving.{newest, late_after}
-use Rattle.driver_desk.proofs.Serves.{asked_card, asked_sane, asked_done}
+use Rattle.driver_desk.proofs.Serves.{closed_as, asked_card, asked_sane, asked_done}
 use Rattle.driver_desk.specs.Recorders.{MayEnd}
 use Rattle.driver_desk.proofs.Places.{own_driver, first_has}
 use Rattle.driver_desk.proofs.Calls.{asks, asked_serving, end_as, answered_for, at_back, serving_as, answered_as}
@@ -17,6 +21,29 @@ pub note-requires-clause-next : goal.note-requires-clause-next
 note-requires-clause-next g c =
     let r = c.requires.next in
     (asks c.desk_laws.ensures _ _ _ c.args.line.now.session c.ask-reply.new.self.session c.ask-reply.result.reply c.args.card.path _ r.0 c.requires.open c.ask-reply.ensures.may c.ask-reply.ensures.goes refl r.2 r.1).may
+
+pub ask-reply-requires-clause-fresh : goal.ask-reply-requires-clause-fresh
+ask-reply-requires-clause-fresh g c κs within = ((c.requires.planned.2).new_leaf).fresh
+
+pub ask-reply-requires-clause-some : goal.ask-reply-requires-clause-some
+ask-reply-requires-clause-some g c κs within = subst (λ (x : List ℕ). 1 ≤ length x) (sym c.as_slice.ensures) (c.requires.planned.2).some
+
+pub ask-reply-requires-clause-few : goal.ask-reply-requires-clause-few
+ask-reply-requires-clause-few g c κs within = subst (λ (x : List ℕ). length x ≤ 4096) (sym c.as_slice.ensures) (c.requires.planned.2).within
+
+pub after_reply-requires-clause-asked : goal.after_reply-requires-clause-asked
+after_reply-requires-clause-asked g c =
+    asked_of _ _ (card_seen g.B.Blob.told g.B.Blob.seen g.L.Leaf.seen c.args.card) _ _ _ c.args.prepared c.args.seat.required _ c.note.ensures.standing c.requires.required c.requires.planned c.requires.prepared refl c.keep_ready-work.ensures.card c.keep_ready-work.ensures.flag c.ask-reply.ensures.kept
+
+pub after_reply-requires-clause-untouched : goal.after_reply-requires-clause-untouched
+after_reply-requires-clause-untouched g c delayed =
+    read_again _ _ (card_seen g.B.Blob.told g.B.Blob.seen g.L.Leaf.seen c.args.card) _ _ _ c.args.prepared c.args.seat.required _ c.ask-reply.result.reply c.note.ensures.standing c.requires.required c.requires.planned c.requires.prepared refl c.keep_ready-work.ensures.card c.keep_ready-work.ensures.flag c.ask-reply.ensures.touches delayed
+
+pub after_reply-requires-clause-ready : goal.after_reply-requires-clause-ready
+after_reply-requires-clause-ready g c = ready_as _ _ _ c.note.ensures.standing c.requires.ready
+
+pub returns-clause-cards : goal.returns-clause-cards
+returns-clause-cards g c = grows_as _ _ _ _ _ _ _ _ (sym c.note.ensures.standing) (sym c.keep_ready-work.ensures.path) (sym c.keep_ready-work.ensures.text) c.after_reply.ensures.cards
 
 pub after_reply-requires-clause-may : goal.after_reply-requires-clause-may
 after_reply-requires-clause-may g c h is =
@@ -42,7 +69,9 @@ pub returns-clause-serves : goal.returns-clause-serves
 returns-clause-serves g c paths line0 given0 asked e i h =
     let s = c.ask-reply.ensures.says c.args.card.path in
     asked_card c.args.seat.driver paths line0 given0 asked c.args.card.path c.args.line.now c.ask-reply.new.self _ (g.C.Recorder.given c.note.new.self) _ _ _ c.ask-reply.result.reply s.0 _ c.requires.open c.ask-reply.ensures.may c.ask-reply.ensures.goes
-    (s.1 paths (e ∙ sym c.as_slice.ensures) (i ∙ sym c.as_slice-2.ensures)) c.note.ensures.given c.after_reply.ensures.closed c.is_abort.ensures
+    (s.1 paths (e ∙ sym c.as_slice.ensures) (i ∙ sym c.as_slice-2.ensures)) c.note.ensures.given
+    (closed_as _ _ _ _ (λ q told k. (k.0, k.2 ∙ c.keep_ready-work.ensures.path, subst (λ (o : Option (List ℕ)). Tells o s.0) (sym (k.3 ∙ ap (λ (x : CardSeen). x.leaf.content) c.keep_ready-work.ensures.card)) (planned_told (g.C.Recorder.standing c.args.recorder.now) (card_seen g.B.Blob.told g.B.Blob.seen g.L.Leaf.seen c.args.card) (g.L.Leaf.seen c.ask-reply.new.leaf) s.0 c.requires.planned (s.2.holds k.0 k.1)))) c.after_reply.ensures.closed)
+    c.is_abort.ensures
     (c.after_reply.ensures.late ∙ ap (λ (p : ℕ). late_after p c.ask-reply.result.reply (newest (paths_of (cards_of c.args.late.now)))) c.keep_ready-work.ensures.path) h
 
 pub returns-clause-sane : goal.returns-clause-sane

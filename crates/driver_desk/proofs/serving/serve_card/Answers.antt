@@ -3,8 +3,10 @@ use Rattle.checkout_core.specs.declared.path.Heard.TheVariants as heard
 use Rattle.checkout_core.specs.declared.verdict.FilterCause.TheVariants as cause
 use Rattle.checkout_core.specs.Conditions.{heard_opening}
 use Rattle.driver_desk.specs.Recorders.{MayEnd}
-use Rattle.driver_desk.proofs.Serves.{serves_ahead, serves_closed, serves_past, past_smudge, closing}
+use Rattle.driver_desk.proofs.Serves.{serves_ahead, serves_none, serves_past, past_smudge}
 use Rattle.driver_desk.proofs.Calls.{ended_at, serving_as, serving_ends, unopened_ends, unsmudged_ends}
+use Rattle.driver_desk.proofs.RoundSteps.{ready_as}
+use Rattle.driver_desk.proofs.Closings.{asked_not, planned_as, grows_as}
 use Rattle.driver_desk.proofs.serving.serve_card.Goals as goal
 
 pub not_opened-requires-clause-may : goal.not_opened-requires-clause-may
@@ -12,6 +14,21 @@ not_opened-requires-clause-may g c =
     let r = c.requires.next in
     let k = (c.in-Some.ensures.fails c.in-Some.cause refl _ r.0 r.1 r.2).0 in
     subst (λ (q : ℕ). MayEnd (g.C.Recorder.standing c.open_for.new.recorder) (g.C.Recorder.given c.open_for.new.recorder) q (heard_opening c.in-Some.cause)) (sym c.keep_ready-work.ensures.path) k.may
+
+pub not_opened-requires-clause-asked : goal.not_opened-requires-clause-asked
+not_opened-requires-clause-asked g c = asked_not _ _ _ _ _ c.args.prepared c.args.seat.required c.open_for.ensures.standing c.requires.required c.requires.planned c.requires.prepared c.keep_ready-work.ensures.card c.keep_ready-work.ensures.flag
+
+pub refuse-requires-clause-asked : goal.refuse-requires-clause-asked
+refuse-requires-clause-asked g c = asked_not _ _ _ _ _ c.args.prepared c.args.seat.required c.open_for.ensures.standing c.requires.required c.requires.planned c.requires.prepared c.keep_ready-work-then-not-has_smudge.ensures.card c.keep_ready-work-then-not-has_smudge.ensures.flag
+
+pub ask_card-requires-clause-planned : goal.ask_card-requires-clause-planned
+ask_card-requires-clause-planned g c κs within = planned_as _ _ _ _ c.open_for.ensures.standing refl c.requires.planned
+
+pub ask_card-requires-clause-ready : goal.ask_card-requires-clause-ready
+ask_card-requires-clause-ready g c κs within = ready_as _ _ _ c.open_for.ensures.standing c.requires.ready
+
+pub returns-clause-cards : goal.returns-clause-cards
+returns-clause-cards g c = grows_as _ _ _ _ _ _ _ _ (sym c.open_for.ensures.standing) refl refl c.ask_card.ensures.cards
 
 pub refuse-requires-clause-may : goal.refuse-requires-clause-may
 refuse-requires-clause-may g c =
@@ -42,18 +59,16 @@ returns-clause-next g c rest apart h = c.ask_card.ensures.next rest apart (c.ope
 
 pub returns-in-Some-clause-serves : goal.returns-in-Some-clause-serves
 returns-in-Some-clause-serves g c paths line0 given0 asked e i h =
-    let more = closing _ _ _ _ c.not_opened.ensures.ends in
-    serves_closed c.args.seat.driver paths line0 given0 _ [] _ _ _ more.0 false _
+    serves_none c.args.seat.driver paths line0 given0 _ [] _ _ _ false _
     (c.in-Some.ensures.failed c.in-Some.cause refl paths line0 given0 asked _ c.requires.sane (serves_ahead c.args.seat.driver paths line0 given0 asked c.args.card.path _ _ false _ h))
-    more.1 more.2
+    c.not_opened.ensures.closed
 
 pub returns-then-not-has_smudge-clause-serves : goal.returns-then-not-has_smudge-clause-serves
 returns-then-not-has_smudge-clause-serves g c paths line0 given0 asked e i h =
-    let more = closing _ _ _ _ c.refuse.ensures.ends in
-    serves_closed c.args.seat.driver paths line0 given0 _ [] _ _ _ more.0 false _
+    serves_none c.args.seat.driver paths line0 given0 _ [] _ _ _ false _
     (serves_past c.args.seat.driver paths line0 given0 asked c.args.card.path _ _ false _ (past_smudge c.args.card.path _ _ (c.open_for.ensures.there c.in_default.is) (c.has_smudge.ensures.no c.if-not-has_smudge.true))
     (c.open_for.ensures.opened c.in_default.is paths line0 given0 asked _ c.requires.sane (serves_ahead c.args.seat.driver paths line0 given0 asked c.args.card.path _ _ false _ h)))
-    more.1 more.2
+    c.refuse.ensures.closed
 
 pub returns-clause-serves : goal.returns-clause-serves
 returns-clause-serves g c paths line0 given0 asked e i h =

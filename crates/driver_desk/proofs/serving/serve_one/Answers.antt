@@ -1,5 +1,5 @@
 use Rattle.std.proofs.Common.{refl, ap, sym, subst, ◌∙◌, ◌++◌, ◌∷◌, ◌+◌, [], ℕ, Ok, Err, false}
-use Rattle.convert_plan.specs.Card.{CardSeen, card_seen}
+use Rattle.convert_plan.specs.Card.{CardSeen, card_seen, IsPrepared}
 use Rattle.checkout_core.specs.declared.event.Event.TheVariants.{Close}
 use Rattle.checkout_core.specs.declared.path.Heard.TheVariants as heard
 use Rattle.checkout_core.specs.declared.verdict.FilterCause.TheVariants as cause
@@ -7,10 +7,11 @@ use Rattle.driver_desk.specs.Late.{cards_of}
 use Rattle.driver_desk.specs.Rounds.{AreApart, paths_of}
 use Rattle.driver_desk.specs.Recorders.{MayDo, MayEnd}
 use Rattle.driver_desk.specs.Places.{IsServing}
-use Rattle.driver_desk.proofs.Serves.{work_past, work_failed, serves_asked, closing}
+use Rattle.driver_desk.proofs.Serves.{work_past, work_failed, serves_asked}
 use Rattle.driver_desk.proofs.RoundSteps.{serves_as}
 use Rattle.driver_desk.proofs.CardLists.{alone_own}
 use Rattle.driver_desk.proofs.Calls.{aborted_ends, aborted_as, ended_at, serving_as, serving_ends, serving_fails, serving_next}
+use Rattle.driver_desk.proofs.Closings.{asked_not, planned_as, grows_as, read_ok}
 use Rattle.driver_desk.proofs.serving.serve_one.Goals as goal
 
 pub refuse-requires-clause-may : goal.refuse-requires-clause-may
@@ -21,6 +22,27 @@ refuse-requires-clause-may g c =
       subst (λ (q : ℕ). MayEnd (g.C.Recorder.standing c.args.recorder.now) (g.C.Recorder.given c.args.recorder.now) q (heard.Refused cause.Abort)) (sym path)
           (aborted_ends c.desk_laws.ensures _ _ _ _ _ c.args.card.path r.0 c.if-aborted.true (serving_next _ _ _ _ _ c.args.card.path r.0 r.2)),
     )
+
+pub refuse-requires-clause-asked : goal.refuse-requires-clause-asked
+refuse-requires-clause-asked g c =
+    let same = read_ok _ _ c.in-Ok.prepared c.read_card.ensures.kept c.in-Ok.ensures.counts in
+    asked_not (g.C.Recorder.standing c.args.recorder.now) (g.C.Recorder.standing c.args.recorder.now) _ _ _ c.in-Ok.prepared c.args.seat.required refl c.requires.required (planned_as (g.C.Recorder.standing c.args.recorder.now) (g.C.Recorder.standing c.args.recorder.now) _ _ refl same c.requires.planned) (subst (λ (x : CardSeen). IsPrepared x c.in-Ok.prepared) (sym same) c.in-Ok.ensures.read) c.keep_ready-work.ensures.card c.keep_ready-work.ensures.flag
+
+pub serve_card-requires-clause-planned : goal.serve_card-requires-clause-planned
+serve_card-requires-clause-planned g c κs within = planned_as (g.C.Recorder.standing c.args.recorder.now) (g.C.Recorder.standing c.args.recorder.now) _ _ refl (read_ok _ _ c.in-Ok.prepared c.read_card.ensures.kept c.in-Ok.ensures.counts) c.requires.planned
+
+pub serve_card-requires-clause-prepared : goal.serve_card-requires-clause-prepared
+serve_card-requires-clause-prepared g c κs within = subst (λ (x : CardSeen). IsPrepared x c.in-Ok.prepared) (sym (read_ok _ _ c.in-Ok.prepared c.read_card.ensures.kept c.in-Ok.ensures.counts)) c.in-Ok.ensures.read
+
+pub close_unread-requires-clause-leaf : goal.close_unread-requires-clause-leaf
+close_unread-requires-clause-leaf g c = ap (λ (x : CardSeen). x.leaf.state) c.read_card.ensures.kept ∙ ((c.requires.planned.2).new_leaf).fresh
+
+pub close_unread-requires-clause-unread : goal.close_unread-requires-clause-unread
+close_unread-requires-clause-unread g c = record { planned = _; is_planned = c.requires.planned; same = c.read_card.ensures.kept; reads = c.in-Err.ensures.read; counts = c.in-Err.ensures.counts }
+
+pub returns-else-aborted-clause-cards : goal.returns-else-aborted-clause-cards
+returns-else-aborted-clause-cards g c =
+    grows_as _ _ _ _ _ _ _ _ refl (sym (ap (λ (x : CardSeen). x.path) c.read_card.ensures.kept)) (sym (ap (λ (x : CardSeen). x.text) c.read_card.ensures.kept)) c.serve_card.ensures.cards
 
 pub serve_card-requires-clause-next : goal.serve_card-requires-clause-next
 serve_card-requires-clause-next g c κs within =
@@ -63,7 +85,7 @@ returns-then-aborted-clause-serves g c = (
   record { card = card_seen g.B.Blob.told g.B.Blob.seen g.L.Leaf.seen c.args.card; content = Ok c.in-Ok.prepared.bytes },
   refl,
   (c.in-Ok.prepared, c.in-Ok.ensures.read, refl),
-  λ paths line0 given0 asked fit s. work_past c.args.seat.driver paths line0 given0 asked c.args.card.path (Ok c.in-Ok.prepared.bytes) _ _ _ _ _ c.if-aborted.true (closing _ _ _ _ c.refuse.ensures.ends) s,
+  λ paths line0 given0 asked fit s. work_past c.args.seat.driver paths line0 given0 asked c.args.card.path (Ok c.in-Ok.prepared.bytes) _ _ _ _ _ c.if-aborted.true c.refuse.ensures.closed s,
 )
 
 pub returns-else-aborted-clause-serves : goal.returns-else-aborted-clause-serves
@@ -82,5 +104,5 @@ returns-in-Err-clause-serves g c = (
   record { card = card_seen g.B.Blob.told g.B.Blob.seen g.L.Leaf.seen c.args.card; content = Err c.in-Err.own },
   refl,
   c.in-Err.ensures.read,
-  λ paths line0 given0 asked fit s. work_failed c.args.seat.driver paths line0 given0 asked c.args.card.path (Err c.in-Err.own) c.in-Err.own _ _ _ _ _ refl (closing _ _ _ _ c.close_unread.ensures.ends) s,
+  λ paths line0 given0 asked fit s. work_failed c.args.seat.driver paths line0 given0 asked c.args.card.path (Err c.in-Err.own) c.in-Err.own _ _ _ _ _ refl c.close_unread.ensures.closed s,
 )

@@ -11,6 +11,9 @@ use Rattle.driver_desk.proofs.desk.Desk.serve.Goals as goal
 pub serve_line-requires-clause-state : goal.serve_line-requires-clause-state
 serve_line-requires-clause-state g c κs within = serving_begins c.desk_laws.ensures _ _ _ (dealt_inside _ _ _ c.self.view_is c.requires.dealt) c.requires.none
 
+pub serve_line-requires-clause-cards : goal.serve_line-requires-clause-cards
+serve_line-requires-clause-cards g c κs within = c.requires.dealt.cards ∙ ap (λ (v : DeskView). v.cards) (sym c.self.view_is)
+
 pub serve_line-requires-clause-driver : goal.serve_line-requires-clause-driver
 serve_line-requires-clause-driver g c κs within = c.requires.dealt.driver ∙ ap (λ (v : DeskView). v.driver) (sym c.self.view_is)
 

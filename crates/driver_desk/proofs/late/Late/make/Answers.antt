@@ -17,8 +17,8 @@ reserve-requires-clause-few g c =
 
 pub invariant_of-result : goal.invariant_of-result
 invariant_of-result g c = new_is_late (map (λ (k : Card g.row.B.Denot g.row.L.Denot). card_seen g.B.Blob.told g.B.Blob.seen g.L.Leaf.seen k) c.args.cards.now) _ _ _ c.requires.apart (c.in_ok-table.ensures ∙ ap idle_table c.in_ok-texts.ensures) c.in_ok-numbers.ensures
-    (ap (λ x. map (λ (o : Option (Work g.row.B.Denot g.row.L.Denot)). option_map (λ (w : Work g.row.B.Denot g.row.L.Denot). late_seen w.card.path w.card.text (g.L.Leaf.seen w.card.leaf).state) o) x) c.in_ok-slots.ensures ∙ (map_nones (λ (w : Work g.row.B.Denot g.row.L.Denot). late_seen w.card.path w.card.text (g.L.Leaf.seen w.card.leaf).state) c.deref.result.now ∙ ap (λ (ns : List ℕ). map {B = Option LateSeen} (λ n. None) ns) (c.deref.ensures.value ∙ c.in_ok-numbers.ensures)))
+    (ap (λ x. map (λ (o : Option (Work g.row.B.Denot g.row.L.Denot)). option_map (λ (w : Work g.row.B.Denot g.row.L.Denot). late_seen (card_seen g.B.Blob.told g.B.Blob.seen g.L.Leaf.seen w.card) w.unencoded) o) x) c.in_ok-slots.ensures ∙ (map_nones (λ (w : Work g.row.B.Denot g.row.L.Denot). late_seen (card_seen g.B.Blob.told g.B.Blob.seen g.L.Leaf.seen w.card) w.unencoded) c.deref.result.now ∙ ap (λ (ns : List ℕ). map {B = Option LateSeen} (λ n. None) ns) (c.deref.ensures.value ∙ c.in_ok-numbers.ensures)))
 
 pub returns : goal.returns
 returns g c = new_late (map (λ (k : Card g.row.B.Denot g.row.L.Denot). card_seen g.B.Blob.told g.B.Blob.seen g.L.Leaf.seen k) c.args.cards.now) _ _ _ c.requires.apart (c.in_ok-table.ensures ∙ ap idle_table c.in_ok-texts.ensures) c.in_ok-numbers.ensures
-    (ap (λ x. map (λ (o : Option (Work g.row.B.Denot g.row.L.Denot)). option_map (λ (w : Work g.row.B.Denot g.row.L.Denot). late_seen w.card.path w.card.text (g.L.Leaf.seen w.card.leaf).state) o) x) c.in_ok-slots.ensures ∙ (map_nones (λ (w : Work g.row.B.Denot g.row.L.Denot). late_seen w.card.path w.card.text (g.L.Leaf.seen w.card.leaf).state) c.deref.result.now ∙ ap (λ (ns : List ℕ). map {B = Option LateSeen} (λ n. None) ns) (c.deref.ensures.value ∙ c.in_ok-numbers.ensures)))
+    (ap (λ x. map (λ (o : Option (Work g.row.B.Denot g.row.L.Denot)). option_map (λ (w : Work g.row.B.Denot g.row.L.Denot). late_seen (card_seen g.B.Blob.told g.B.Blob.seen g.L.Leaf.seen w.card) w.unencoded) o) x) c.in_ok-slots.ensures ∙ (map_nones (λ (w : Work g.row.B.Denot g.row.L.Denot). late_seen (card_seen g.B.Blob.told g.B.Blob.seen g.L.Leaf.seen w.card) w.unencoded) c.deref.result.now ∙ ap (λ (ns : List ℕ). map {B = Option LateSeen} (λ n. None) ns) (c.deref.ensures.value ∙ c.in_ok-numbers.ensures)))
