@@ -105,7 +105,8 @@ fn checkout_of(matches: &ArgMatches<'_>) -> Option<Command>
 
 /// The rehearsal that the arguments of its tail give.
 fn rehearsal_of(matches: &ArgMatches<'_>) -> Option<Command>
-    ensures { result ≡ rehearse_by (first_value (found_of matches.now) (codes "seed")) (first_value (found_of matches.now) (codes "paths")) }
+    ensures { result ≡ rehearse_by (first_value (found_of matches.now) (codes "seed"))
+        (first_value (found_of matches.now) (codes "paths")) }
 {
     let seed = matches.get_str("seed")?;
     let paths = matches.get_str("paths")?;

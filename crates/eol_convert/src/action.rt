@@ -6,7 +6,8 @@ ghost use Rattle.eol_convert.specs.Action.{set_ending, settled, action_of, ends_
 use crate::setting::{AutoCrlf, EolSetting, LineEnds};
 use attr_line::AttrState;
 
-/// What is done with a file's line ends, by its attributes and the settings (gitattributes(5), "End-of-line conversion").
+/// What is done with a file's line ends, by its attributes and the settings (gitattributes(5), "End-of-line
+/// conversion").
 #[derive(Clone, Copy, Debug, PartialEq, Eq)]
 pub enum Action {
     /// It isn't a text, so its line ends stay.

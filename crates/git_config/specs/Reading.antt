@@ -35,7 +35,8 @@ under_head line (Some head) key text = keyed_at line head key text
 unfoldable pub setting_at : ℕ → Option Head → List ℕ → Result (Setting × ℕ × List ℕ) ConfigFault
 setting_at line head text =
     want (begins is_ascii_alphabetic text) (Line line BadKey)
-    (under_head line head (take (position_or_len ends_key text) text) (behind_blanks (drop (position_or_len ends_key text) text)))
+    (under_head line head (take (position_or_len ends_key text) text)
+    (behind_blanks (drop (position_or_len ends_key text) text)))
 
 -- where a reader stands: the line, the section, the settings before and the text that is left
 pub record Place : Type 0 where

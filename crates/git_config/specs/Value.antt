@@ -59,7 +59,8 @@ after_piece (Blank b) r = record r { bytes = with_blank r.bytes b }
 after_piece (Byte b) r = record r { escaped = false; bytes = r.bytes ++ b ∷ []; kept = length r.bytes + 1 }
 after_piece Continued r = record r { escaped = false; lines = r.lines + 1 }
 
--- the end of a value, which has to be outside quotes: its bytes, how many lines it was continued on, and what is left of the text
+-- the end of a value, which has to be outside quotes: its bytes, how many lines it was continued on, and what is left
+-- of the text
 abbrev pub ended : ℕ → Bool → List ℕ → ℕ → List ℕ → Result (List ℕ × ℕ × List ℕ) ConfigFault
 ended line true bytes lines text = Err (Line line BadValue)
 ended line false bytes lines text = Ok (bytes, lines, text)

@@ -154,7 +154,8 @@ impl Reader {
     fn step<'a>(&mut self, alloc: Global, text: &'a [u8]) -> Result<&'a [u8], ConfigFault>
         requires some { 0 < length text.now }
         requires few { self.old.line + length text.now < 4294967295 }
-        ensures value { Gives (λ rest. place_of self.new rest.now) result (step_at (place_of self.old text.now) text.now) }
+        ensures value { Gives (λ rest. place_of self.new rest.now) result
+            (step_at (place_of self.old text.now) text.now) }
         ensures within { IfOk result (λ rest. self.new.line + length rest.now ≤ self.old.line + length text.now) }
         ensures shorter { IfOk result (λ rest. length rest.now < length text.now) }
     {

@@ -128,7 +128,8 @@ impl Draft {
 
     /// The value where it ends before `rest`, which has to be outside quotes.
     fn ended(self, line: u32, rest: &[u8]) -> Result<Value<'_>, ConfigFault>
-        ensures value { Gives (λ x. (x.bytes.items, x.lines, x.rest.now)) result (ended_at line (reading_of self) rest.now) }
+        ensures value { Gives (λ x. (x.bytes.items, x.lines, x.rest.now)) result
+            (ended_at line (reading_of self) rest.now) }
         ensures same { IfOk result (λ x. (x.lines ≡ self.lines) × (x.rest.now ≡ rest.now)) }
     {
         if self.quoted {

@@ -40,7 +40,8 @@ fn push_entry(text: &mut Vec<u8>, entry: &Entry) -> Result<(), AllocError>
     Ok(())
 }
 
-/// The index of these entries (gitformat-index(5), version 2): all fields zero but the mode, no extension, and the hash.
+/// The index of these entries (gitformat-index(5), version 2): all fields zero but the mode, no extension, and the
+/// hash.
 ///
 /// The entries have to be those of some index: in order, with paths that may be written, and with no clash.
 pub fn spell_index(alloc: Global, entries: &[Entry]) -> Result<Vec<u8>, AllocError>

@@ -65,4 +65,5 @@ pub record IsFirstKeyword (text : List ℕ) (start len : ℕ) : Type 0 where
 -- a text begins with a keyword, and this follows it: `$Id$`, or `$Id:`, a middle without `$` and `$`
 abbrev pub BeginsWithKeyword : List ℕ → List ℕ → Type 0
 BeginsWithKeyword text behind = (text ≡ codes "$Id$" ++ behind)
-    ⊎ ((middle : List ℕ) × (text ≡ codes "$Id:" ++ (middle ++ dollar ∷ behind)) × (list_any is_dollar middle ≡ false) × (is_middle middle ≡ true))
+    ⊎ ((middle : List ℕ) × (text ≡ codes "$Id:" ++ (middle ++ dollar ∷ behind))
+    × (list_any is_dollar middle ≡ false) × (is_middle middle ≡ true))

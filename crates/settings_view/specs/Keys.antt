@@ -50,7 +50,9 @@ abbrev pub threshold_at : Option (List ℕ) → Option ℕ
 threshold_at value = option_map threshold_of (number_of value)
 
 abbrev pub threshold_told : List Setting → Result ℕ SettingFault
-threshold_told settings = told 100 threshold_at (BadNumber Threshold) (last_value (is_key (codes "checkout") (codes "thresholdforparallelism")) settings)
+threshold_told settings =
+    told 100 threshold_at (BadNumber Threshold)
+    (last_value (is_key (codes "checkout") (codes "thresholdforparallelism")) settings)
 
 abbrev pub is_sha1_or_absent : Option (Option (List ℕ)) → Bool
 is_sha1_or_absent None = true

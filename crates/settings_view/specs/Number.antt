@@ -10,7 +10,10 @@ use Rattle.byte_path.specs.Characters.{hyphen, letter_g, letter_k, letter_m}
 
 -- k, m and g, in either case: 1,024, its square and its cube
 abbrev pub unit_at : ℕ → Option ℕ
-unit_at b = if b == letter_k then Some 1024 else if b == letter_m then Some (1024 ^ 2) else if b == letter_g then Some (1024 ^ 3) else None
+unit_at b =
+    if b == letter_k then Some 1024
+    else if b == letter_m then Some (1024 ^ 2)
+    else if b == letter_g then Some (1024 ^ 3) else None
 
 -- the factor that the text after the digits stands for
 abbrev pub factor_of : List ℕ → Option ℕ

@@ -1,5 +1,6 @@
 -- How the form of a pattern decides a path.
-use Rattle.std.specs.Prelude.{◌≡◌, ℕ, ◌≤◌, ◌+◌, ◌-◌, Bool, true, false, ◌&&◌, ◌||◌, not, ◌==◌, nat_eq, List, [], ◌∷◌, length, take, drop}
+use Rattle.std.specs.Prelude.{◌≡◌, ℕ, ◌≤◌, ◌+◌, ◌-◌, Bool, true, false, ◌&&◌, ◌||◌, not, ◌==◌, nat_eq}
+use Rattle.std.specs.Prelude.{List, [], ◌∷◌, length, take, drop}
 use Rattle.std.specs.Prelude.{slice_index, if◌then◌else◌}
 use Rattle.std.specs.List.{prefix_len, starts_with, ends_with}
 use Rattle.std.specs.Str.{bytes_eq}
@@ -36,7 +37,8 @@ has_known known pattern text =
 
 -- each text has them that fits a pattern
 abbrev pub IsKnown : List ℕ → Known → Type 0
-IsKnown pattern known = (fresh : Bool) (text : List ℕ) → fits (pieces fresh pattern) text ≡ true → has_known known pattern text ≡ true
+IsKnown pattern known = (fresh : Bool) (text : List ℕ) → fits (pieces fresh pattern) text ≡ true
+    → has_known known pattern text ≡ true
 
 -- what a form says of a path with that last part
 abbrev pub answer : Form → List ℕ → List ℕ → List ℕ → Bool

@@ -41,7 +41,8 @@ abbrev pub last_part : List ℕ → List ℕ
 last_part [] = []
 last_part (b ∷ text) = if list_any is_slash (b ∷ text) then last_part text else b ∷ text
 
--- An empty pattern and one that ends in `/` match no path. One with a `/` is compared with the whole path, any other with its last part.
+-- An empty pattern and one that ends in `/` match no path. One with a `/` is compared with the whole path, any other
+-- with its last part.
 unfoldable pub is_match : List ℕ → List ℕ → Bool
 is_match pattern path =
     if length pattern == 0 then false
