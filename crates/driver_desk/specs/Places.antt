@@ -1,5 +1,6 @@
 -- Where a desk is, by what it gave its recorder.
-use Rattle.std.specs.Prelude.{◌≡◌, ◌⊎◌, ◌<◌, ◌++◌, ◌+◌, ℕ, Bool, true, false, Option, Some, None, List, [], ◌∷◌, slice_get}
+use Rattle.std.specs.Prelude.{◌≡◌, ◌⊎◌, ◌<◌, ◌++◌, ◌+◌, ℕ, Bool, true, false, Option, Some, None, List, [], ◌∷◌}
+use Rattle.std.specs.Prelude.{slice_get}
 use Rattle.checkout_core.specs.declared.event.Event.{Event}
 use Rattle.checkout_core.specs.declared.event.Event.TheVariants.{Close, HandBack}
 use Rattle.checkout_core.specs.declared.event.OpenCause.{OpenCause}
@@ -61,7 +62,8 @@ pub record DeskLaws : Type 0 where
       → AtDesk s.starts s.workers s.drivers s.driver (events_in s given ++ e ∷ []) (rest_after e rest) first
       (with_rest (rest_after e rest) t)
   pub close : (s : Standing) (given : List Given) (rest : List ℕ) (first : ℕ) (t : Talk) (p : ℕ) (h : Heard)
-      (o : Own) → AreBelow s.drivers s.starts → Runs s given rest first t → IsOwn s given p → fate_now s given p ≡ Known h
+      (o : Own) → AreBelow s.drivers s.starts → Runs s given rest first t → IsOwn s given p
+      → fate_now s given p ≡ Known h
       → was_read o ≡ true → MayDo s given (Close p (s.workers + s.driver) o)
   pub back : (s : Standing) (given : List Given) (rest : List ℕ) (first : ℕ) (t : Talk) (p : ℕ) (why : FilterCause)
       → AreBelow s.drivers s.starts → Runs s given rest first t → IsOwn s given p → s.required ≡ false

@@ -1,5 +1,6 @@
 -- For whom a recorder stands, and what it may be given.
-use Rattle.std.specs.Prelude.{◌≡◌, ◌==◌, ◌++◌, ◌+◌, ℕ, Bool, true, false, cond, Option, Some, None, List, [], ◌∷◌, map, ◌⊎◌, slice_get, Result, Ok, ⊤}
+use Rattle.std.specs.Prelude.{◌≡◌, ◌==◌, ◌⊎◌, ◌++◌, ◌+◌, ℕ, Bool, true, false, cond, Option, Some, None, List, [], ◌∷◌}
+use Rattle.std.specs.Prelude.{map, slice_get, Result, Ok, ⊤}
 use Rattle.checkout_core.specs.declared.event.Event.{Event}
 use Rattle.checkout_core.specs.declared.event.Event.TheVariants.{Close, HandBack}
 use Rattle.checkout_core.specs.declared.path.Heard.{Heard}

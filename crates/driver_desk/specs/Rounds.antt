@@ -73,8 +73,7 @@ abbrev pub FitTexts : Paths → List LateSeen → Type 0
 FitTexts paths [] = Unit {0}
 FitTexts paths (c ∷ cs) = (paths.text c.card.path ≡ c.card.text) × FitTexts paths cs
 
--- the late cards after one more was served, which has this path and text: they are as before, or it is late too, or none
--- is
+-- the late cards after one more was served, of this path and text: they are as before, or it is late too, or none is
 abbrev pub GrowsLate : Standing → List LateSeen → ℕ → List ℕ → List LateSeen → Type 0
 GrowsLate s old path text new = (new ≡ old)
     ⊎ ((c : LateSeen) × (new ≡ old ++ c ∷ []) × IsReadCard s c.card c.unencoded × (c.card.path ≡ path)

@@ -127,7 +127,8 @@ pub(crate) fn close_got<B: Blob, L: Leaf, C: Recorder<B, L>>(
     put: Result<(), SendFault>,
     recorder: &mut C,
 )
-    requires asked { IsAskedCard (C.standing recorder.old) (card_seen B.told B.seen L.seen work.card) work.unencoded put }
+    requires asked { IsAskedCard (C.standing recorder.old) (card_seen B.told B.seen L.seen work.card) work.unencoded
+        put }
     requires may { MayEnd (C.standing recorder.old) (C.given recorder.old) work.card.path Got }
     ensures ends { IsEnd (C.standing recorder.old) (C.given recorder.old) work.card.path (C.given recorder.new) }
     ensures closed { AreClosings (λ q told. (put ≡ Ok tt) × (q ≡ work.card.path)
@@ -146,7 +147,8 @@ pub(crate) fn close_empty<B: Blob, L: Leaf, C: Recorder<B, L>>(
     put: Result<(), SendFault>,
     recorder: &mut C,
 )
-    requires asked { IsAskedCard (C.standing recorder.old) (card_seen B.told B.seen L.seen work.card) work.unencoded put }
+    requires asked { IsAskedCard (C.standing recorder.old) (card_seen B.told B.seen L.seen work.card) work.unencoded
+        put }
     requires may { MayDrop (C.standing recorder.old) (C.given recorder.old) work.card.path put }
     ensures ends { IsEnd (C.standing recorder.old) (C.given recorder.old) work.card.path (C.given recorder.new) }
     ensures closed { AreClosings NoAnswer (C.given recorder.old) (C.given recorder.new) }
@@ -185,7 +187,8 @@ pub(crate) fn refuse<B: Blob, L: Leaf, C: Recorder<B, L>>(
     put: Result<(), SendFault>,
     recorder: &mut C,
 )
-    requires asked { IsAskedCard (C.standing recorder.old) (card_seen B.told B.seen L.seen work.card) work.unencoded put }
+    requires asked { IsAskedCard (C.standing recorder.old) (card_seen B.told B.seen L.seen work.card) work.unencoded
+        put }
     requires required { (C.standing recorder.old).required ≡ required }
     requires may { (why : FilterCause)
         × MayEnd (C.standing recorder.old) (C.given recorder.old) work.card.path (Refused why) }

@@ -90,7 +90,8 @@ fn after_second<B: Blob, L: Leaf, C: Recorder<B, L>>(
     reply: Reply,
     put: Result<(), SendFault>,
 )
-    requires asked { IsAskedCard (C.standing recorder.old) (card_seen B.told B.seen L.seen work.card) work.unencoded put }
+    requires asked { IsAskedCard (C.standing recorder.old) (card_seen B.told B.seen L.seen work.card) work.unencoded
+        put }
     requires required { (C.standing recorder.old).required ≡ seat.required }
     requires may { (h : Heard) → fate_here reply ≡ Known h
         → MayEnd (C.standing recorder.old) (C.given recorder.old) work.card.path h }

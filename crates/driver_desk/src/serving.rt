@@ -179,7 +179,8 @@ fn after_reply<B: Blob, L: Leaf, C: Recorder<B, L>>(
     reply: Reply,
     put: Result<(), SendFault>,
 )
-    requires asked { IsAskedCard (C.standing recorder.old) (card_seen B.told B.seen L.seen work.card) work.unencoded put }
+    requires asked { IsAskedCard (C.standing recorder.old) (card_seen B.told B.seen L.seen work.card) work.unencoded
+        put }
     requires untouched { reply ≡ Reply.Delayed
         → IsReadCard (C.standing recorder.old) (card_seen B.told B.seen L.seen work.card) work.unencoded }
     requires here { slice_get late.old.numbers place ≡ Some work.card.path }
