@@ -1,0 +1,109 @@
+//! A recorder in memory, which keeps all that it takes.
+ghost use Rattle.std.specs.Prelude.{◌≡◌, ◌++◌, ◌∷◌, [], map};
+ghost use Rattle.convert_plan.specs.Card.{card_seen};
+ghost use Rattle.driver_desk.specs.Serving.{Closed, HandedBack};
+ghost use Rattle.desk_tests.specs.Givens.{given_in, standing_of};
+
+use crate::sheet::{Sheet, Source};
+use crate::taken::Taken;
+use checkout_core::{Event, Own, Start};
+use convert_plan::Card;
+use driver_desk::Recorder;
+use edge_kit::{Blob, Leaf};
+use std::process::Abort;
+use std::snapshot::Snapshot;
+
+/// A recorder for the only driver of a checkout without workers.
+#[derive(Drop)]
+pub struct Ledger<'a, H: Abort> {
+    rt: &'a H,
+    required: bool,
+    starts: Vec<Start>,
+    planned: Snapshot<Vec<Card<Source, Sheet>>>,
+    /// What it took, in order.
+    pub taken: Vec<Taken>,
+}
+
+impl<'a, H: Abort> Ledger<'a, H> {
+    /// A ledger that took nothing.
+    pub fn new(
+        rt: &'a H,
+        required: bool,
+        starts: Vec<Start>,
+        planned: Snapshot<Vec<Card<Source, Sheet>>>,
+        taken: Vec<Taken>,
+    ) -> Ledger<'a, H>
+        requires { taken.items ≡ [] }
+        ensures required { result.required ≡ required }
+        ensures starts { result.starts.items ≡ starts.items }
+        ensures planned { result.planned ≡ planned }
+        ensures taken { result.taken.items ≡ [] }
+    {
+        Ledger {
+            rt,
+            required,
+            starts,
+            planned,
+            taken,
+        }
+    }
+
+    fn keep(&mut self, entry: Taken)
+        ensures taken { self.new.taken.items ≡ self.old.taken.items ++ entry ∷ [] }
+        ensures required { self.new.required ≡ self.old.required }
+        ensures starts { self.new.starts ≡ self.old.starts }
+        ensures planned { self.new.planned ≡ self.old.planned }
+    {
+        if self.taken.push(entry).is_err() {
+            panic!(self.rt; "no memory");
+        }
+    }
+}
+
+impl<'a, H: Abort> Recorder<Source, Sheet> for Ledger<'a, H> {
+    ghost standing = { λ l. standing_of ⟦<Source as Blob>⟧.told ⟦<Source as Blob>⟧.seen ⟦<Sheet as Leaf>⟧.seen
+        l.required l.starts.items l.planned.value.items };
+
+    ghost given = { λ l. given_in ⟦<Source as Blob>⟧.told ⟦<Source as Blob>⟧.seen ⟦<Sheet as Leaf>⟧.seen
+        l.taken.items };
+
+    ghost Fixed = { Unit {0} };
+
+    ghost fixed = { λ _. tt };
+
+    fn note(&mut self, event: Event) {
+        self.keep(Taken::Noted(event));
+    }
+
+    fn close(&mut self, card: Card<Source, Sheet>, own: Own)
+        ensures given { let told = ⟦<Source as Blob>⟧.told in
+            let blob = ⟦<Source as Blob>⟧.seen in
+            let leaf = ⟦<Sheet as Leaf>⟧.seen in
+            given_in told blob leaf self.new.taken.items
+            ≡ given_in told blob leaf self.old.taken.items ++ Closed own (card_seen told blob leaf card) ∷ [] }
+        ensures standing { let told = ⟦<Source as Blob>⟧.told in
+            let blob = ⟦<Source as Blob>⟧.seen in
+            let leaf = ⟦<Sheet as Leaf>⟧.seen in
+            standing_of told blob leaf self.new.required self.new.starts.items self.new.planned.value.items
+            ≡ standing_of told blob leaf self.old.required self.old.starts.items self.old.planned.value.items }
+        ensures fixed { tt {0} ≡ tt {0} }
+    {
+        self.keep(Taken::Closed(own, card));
+    }
+
+    fn hand_back(&mut self, card: Card<Source, Sheet>)
+        ensures given { let told = ⟦<Source as Blob>⟧.told in
+            let blob = ⟦<Source as Blob>⟧.seen in
+            let leaf = ⟦<Sheet as Leaf>⟧.seen in
+            given_in told blob leaf self.new.taken.items
+            ≡ given_in told blob leaf self.old.taken.items ++ HandedBack (card_seen told blob leaf card) ∷ [] }
+        ensures standing { let told = ⟦<Source as Blob>⟧.told in
+            let blob = ⟦<Source as Blob>⟧.seen in
+            let leaf = ⟦<Sheet as Leaf>⟧.seen in
+            standing_of told blob leaf self.new.required self.new.starts.items self.new.planned.value.items
+            ≡ standing_of told blob leaf self.old.required self.old.starts.items self.old.planned.value.items }
+        ensures fixed { tt {0} ≡ tt {0} }
+    {
+        self.keep(Taken::Back(card));
+    }
+}
