@@ -11,7 +11,7 @@ use Rattle.edge_kit.specs.Starters.{StarterSeen}
 use Rattle.checkout_book.specs.declared.plan.Plan.{Plan}
 use Rattle.checkout_book.specs.declared.plan.Entry.{Entry}
 use Rattle.checkout_book.specs.Sights.{Sight}
-use Rattle.checkout_book.specs.Shelves.{cards_of, joined}
+use Rattle.checkout_book.specs.Shelves.{joined}
 use Rattle.checkout_book.specs.Reserving.{AreIdle, AreFresh, AreNew, AreDealt}
 use Rattle.writer_pool.specs.declared.pooled.DeskSeed.{DeskSeed}
 use Rattle.writer_pool.specs.Ends.{AreNewWorkers}

@@ -1,17 +1,13 @@
 -- What one moved path leaves, and paths that are no longer with a driver.
-use Rattle.std.proofs.Common.{◌≡◌, ◌==◌, ℕ, ◌⊎◌, inl, inr, ⊎_elim, Bool, true, false, cond, List, [], ◌∷◌, Option, Some, None, refl, sym, ap, ◌∙◌, subst}
-use Rattle.std.specs.Prelude.{slice_get, ◌||◌}
+use Rattle.std.proofs.Common.{◌≡◌, ◌==◌, ℕ, ⊎_elim, Bool, true, false, cond, Option, Some, None, refl, sym, ap, ◌∙◌}
+use Rattle.std.specs.Prelude.{slice_get}
 use Rattle.checkout_core.specs.declared.verdict.FilterCause.{FilterCause}
-use Rattle.checkout_core.specs.declared.verdict.Own.{Own}
 use Rattle.checkout_core.specs.declared.verdict.Verdict.{Verdict}
 use Rattle.checkout_core.specs.declared.path.PathState.{PathState}
 use Rattle.checkout_core.specs.declared.path.PathState.TheVariants as path
 use Rattle.checkout_core.specs.declared.path.PathState.TheVariants.{Waiting, Held, Unasked, Closed}
 use Rattle.checkout_core.specs.declared.path.Path.{Path}
-use Rattle.checkout_core.specs.declared.event.Event.{Event}
-use Rattle.checkout_core.specs.declared.event.Event.TheVariants.{Claim, Close}
 use Rattle.checkout_core.specs.States.{Core, with_state}
-use Rattle.checkout_core.specs.Steps.{step_of}
 use Rattle.checkout_core.specs.Hands.{is_held, held_at, Holds}
 use Rattle.core_laws.specs.Moves.{Moved, is_with_driver}
 use Rattle.checkout_book.specs.Shelves.{is_waiting}
@@ -57,6 +53,9 @@ away_moved c x p s t m free none q r there = ⊎_elim
 held_state : (c : Core) (p a : ℕ) (r : Path) → slice_get c.paths p ≡ Some r → held_at c a p ≡ is_held a r.state
 held_state c p a r there = ap (row_held a) there
 
+not_with : {b : Bool} → b ≡ false → b ≡ true → ⊥
+not_with f t = cc (f, t)
+
 -- a path that doesn't wait, isn't in hand and isn't with its driver is closed
 pub ends_closed : (c : Core) → NoneWaits c → ((a q : ℕ) → held_at c a q ≡ false) → NoneWithDriver c
     → (p : ℕ) (r : Path) → slice_get c.paths p ≡ Some r → (v : Verdict) × (r.state ≡ Closed v)
@@ -64,15 +63,19 @@ ends_closed c none hands away p r there = go r.state refl
   where
     go : (s : PathState) → r.state ≡ s → (v : Verdict) × (r.state ≡ Closed v)
     go (Closed v) is = (v, is)
-    go (Waiting raw) is = absurd (let a = none p r there in let m : is_waiting r.state ≡ true = ap is_waiting is in cc (a, m))
+    go (Waiting raw) is = absurd (
+        let a = none p r there in
+        let m : is_waiting r.state ≡ true = ap is_waiting is in
+        cc (a, m))
     go (Held a raw) is = absurd (
         let h = held_state c p a r there in
         let m : is_held a r.state ≡ true = ap (is_held a) is ∙ eqb_self a in
-        let n = hands a p in cc (h, m, n))
-    go Unasked is = absurd (let a = away p r there in let m : is_with_driver r.state ≡ true = ap is_with_driver is in cc (a, m))
-    go path.Delayed is = absurd (let a = away p r there in let m : is_with_driver r.state ≡ true = ap is_with_driver is in cc (a, m))
-    go (path.Named t) is = absurd (let a = away p r there in let m : is_with_driver r.state ≡ true = ap is_with_driver is in cc (a, m))
-    go (path.Heard x) is = absurd (let a = away p r there in let m : is_with_driver r.state ≡ true = ap is_with_driver is in cc (a, m))
+        let n = hands a p in
+        cc (h, m, n))
+    go Unasked is = absurd (not_with (away p r there) (ap is_with_driver is))
+    go path.Delayed is = absurd (not_with (away p r there) (ap is_with_driver is))
+    go (path.Named t) is = absurd (not_with (away p r there) (ap is_with_driver is))
+    go (path.Heard x) is = absurd (not_with (away p r there) (ap is_with_driver is))
 
 pub held_here : (c : Core) (p a : ℕ) (raw : Option FilterCause) → Holds c p a raw → held_at c a p ≡ true
 held_here c p a raw h = ap (row_held a) h.1 ∙ (ap (is_held a) h.2 ∙ eqb_self a)

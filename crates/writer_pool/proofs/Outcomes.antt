@@ -1,12 +1,11 @@
 -- The blobs and the leaves of a complete history.
-use Rattle.std.proofs.Common.{◌≡◌, ◌==◌, ℕ, zero, suc, ◌+◌, ◌<◌, ◌≤◌, ◌*◌, ◌⊎◌, inl, inr, ⊎_elim, Bool, true, false, cond, List, [], ◌∷◌, ◌++◌, length, map, Option, Some, None, refl, sym, ap, ◌∙◌, subst, arith}
+use Rattle.std.proofs.Common.{◌≡◌, ◌==◌, ℕ, zero, suc, ◌+◌, ◌≤◌, ◌*◌, ◌⊎◌, inl, inr, ⊎_elim, Bool, true, false, cond, List, [], ◌∷◌, length, map, Option, Some, None, refl, sym, ap, ◌∙◌, subst, arith}
 use Rattle.std.specs.Prelude.{slice_get}
 use Rattle.convert_plan.specs.declared.card.Card.{Card}
 use Rattle.convert_plan.specs.Card.{CardSeen}
 use Rattle.checkout_core.specs.declared.verdict.Own.{Own}
 use Rattle.checkout_core.specs.declared.verdict.Verdict.{Verdict}
 use Rattle.checkout_core.specs.declared.path.PathState.{PathState}
-use Rattle.checkout_core.specs.declared.path.PathState.TheVariants.{Closed}
 use Rattle.checkout_core.specs.declared.path.Path.{Path}
 use Rattle.checkout_core.specs.declared.path.Start.{Start}
 use Rattle.checkout_core.specs.declared.path.Start.TheVariants.{Pool, Desk, Done}
@@ -25,7 +24,7 @@ use Rattle.checkout_book.specs.Sights.{Sight, seen}
 use Rattle.checkout_book.specs.Shelves.{plan_of, cards_of, IsRow, Lies}
 use Rattle.checkout_book.specs.Ending.{parts_in}
 use Rattle.writer_pool.specs.Writing.{WritesCard}
-use Rattle.writer_pool.specs.Ends.{IsThrough, IsRun, IsFromBook, IsClosedSo, IsEndOf, AreEnds}
+use Rattle.writer_pool.specs.Ends.{IsThrough, IsRun, IsFromBook, IsEndOf, AreEnds}
 use Rattle.writer_pool.proofs.Places.{some_is, same_or}
 use Rattle.writer_pool.proofs.Dealt.{IsFitting}
 use Rattle.writer_pool.proofs.Resting.{ended_at}
@@ -111,33 +110,42 @@ module _ {B L : Type 0} (see : Sight B L) where
   Fit starts history cards p (Desk d u) x =
       (b : B) × (l : L) × (x ≡ Ended b l) × IsEndOf see starts history cards p b l
 
-  ends_in_order : (starts : List Start) (history : List Event) (cards : List (Card B L)) (p : ℕ) (ss : List Start) (xs : List (Slot B L))
-      → length xs ≡ length ss
+  -- the blobs and the leaves of these slots are those of the paths from p on
+  abbrev EndsOf : List Start → List Event → List (Card B L) → ℕ → List Start → List (Slot B L) → Type 0
+  EndsOf starts history cards p ss xs = AreEnds see starts history cards p ss
+      (map (λ (x : B × L). x.0) (parts_in xs)) (map (λ (x : B × L). x.1) (parts_in xs))
+
+  one_more : (starts : List Start) (history : List Event) (cards : List (Card B L)) (p : ℕ) (ss : List Start)
+      (xs : List (Slot B L)) (s : Start) (x : Slot B L) → Fit starts history cards p s x
+      → EndsOf starts history cards (suc p) ss xs → EndsOf starts history cards p (s ∷ ss) (x ∷ xs)
+  one_more starts history cards p ss xs (Done v) x f r =
+      subst (λ (y : Slot B L). EndsOf starts history cards p (Done v ∷ ss) (y ∷ xs)) (sym f) r
+  one_more starts history cards p ss xs Pool x f r =
+      subst (λ (y : Slot B L). EndsOf starts history cards p (Pool ∷ ss) (y ∷ xs)) (sym f.2) (f.3, r)
+  one_more starts history cards p ss xs (Desk d u) x f r =
+      subst (λ (y : Slot B L). EndsOf starts history cards p (Desk d u ∷ ss) (y ∷ xs)) (sym f.2) (f.3, r)
+
+  ends_in_order : (starts : List Start) (history : List Event) (cards : List (Card B L)) (p : ℕ) (ss : List Start)
+      (xs : List (Slot B L)) → length xs ≡ length ss
       → ((i : ℕ) (s : Start) (x : Slot B L) → slice_get ss i ≡ Some s → slice_get xs i ≡ Some x
       → Fit starts history cards (p + i) s x)
-      → AreEnds see starts history cards p ss (map (λ (x : B × L). x.0) (parts_in xs)) (map (λ (x : B × L). x.1) (parts_in xs))
+      → EndsOf starts history cards p ss xs
   ends_in_order starts history cards p [] [] e h = tt
   ends_in_order starts history cards p [] (x ∷ xs) e h = absurd (omega arith)
   ends_in_order starts history cards p (s ∷ ss) [] e h = absurd (omega arith)
   ends_in_order starts history cards p (s ∷ ss) (x ∷ xs) e h =
       let n : p + 0 ≡ p = omega arith in
-      go s x (subst (λ j. Fit starts history cards j s x) n (h 0 s x refl refl))
+      one_more starts history cards p ss xs s x (subst (λ j. Fit starts history cards j s x) n (h 0 s x refl refl))
       (ends_in_order starts history cards (suc p) ss xs (omega arith) (λ i t y a b.
       let m : p + suc i ≡ suc p + i = omega arith in
       subst (λ j. Fit starts history cards j t y) m (h (suc i) t y a b)))
-    where
-      go : (s : Start) (x : Slot B L) → Fit starts history cards p s x
-          → AreEnds see starts history cards (suc p) ss (map (λ (z : B × L). z.0) (parts_in xs)) (map (λ (z : B × L). z.1) (parts_in xs))
-          → AreEnds see starts history cards p (s ∷ ss) (map (λ (z : B × L). z.0) (parts_in (x ∷ xs))) (map (λ (z : B × L). z.1) (parts_in (x ∷ xs)))
-      go (Done v) x f r = subst (λ (y : Slot B L). AreEnds see starts history cards (suc p) ss (map (λ (z : B × L). z.0) (parts_in (y ∷ xs))) (map (λ (z : B × L). z.1) (parts_in (y ∷ xs)))) (sym f) r
-      go Pool x f r = subst (λ (y : Slot B L). AreEnds see starts history cards p (Pool ∷ ss) (map (λ (z : B × L). z.0) (parts_in (y ∷ xs))) (map (λ (z : B × L). z.1) (parts_in (y ∷ xs)))) (sym f.2) (f.3, r)
-      go (Desk d u) x f r = subst (λ (y : Slot B L). AreEnds see starts history cards p (Desk d u ∷ ss) (map (λ (z : B × L). z.0) (parts_in (y ∷ xs))) (map (λ (z : B × L). z.1) (parts_in (y ∷ xs)))) (sym f.2) (f.3, r)
 
   pub completed : (d : Plan B L) (s : Shelf B L) → IsThrough see d s → IsComplete s.core
   completed d s t = ends_closed s.core t.none t.quiet.hands t.quiet.away
 
   pub ran : (d : Plan B L) (s : Shelf B L) (vs : List Verdict) → IsThrough see d s
-      → ((p : ℕ) → slice_get vs p ≡ verdict_at s.core p) → IsRun d.starts.items d.workers d.drivers s.events.items vs
+      → ((p : ℕ) → slice_get vs p ≡ verdict_at s.core p)
+      → IsRun d.starts.items d.workers d.drivers s.events.items vs
   ran d s vs t each = subst (λ (x : Plan B L). IsRun x.starts.items x.workers x.drivers s.events.items vs) t.plan record {
     core = s.core;
     legal = t.quiet.goes_on.sound.run;

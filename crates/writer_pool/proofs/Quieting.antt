@@ -1,10 +1,9 @@
 -- A book after all its passes came back.
-use Rattle.std.proofs.Common.{◌≡◌, ◌==◌, ◌||◌, ℕ, zero, suc, ◌+◌, ◌<◌, ◌≤◌, ◌⊎◌, inl, inr, ⊎_elim, Bool, true, false, cond, List, [], ◌∷◌, ◌++◌, length, map, Option, Some, None, refl, sym, ap, ◌∙◌, subst, arith}
+use Rattle.std.proofs.Common.{◌≡◌, ◌==◌, ◌||◌, ℕ, zero, suc, ◌+◌, ◌<◌, ◌≤◌, inl, inr, ⊎_elim, Bool, true, false, cond, List, [], ◌∷◌, length, Option, Some, None, refl, sym, ap, ◌∙◌, subst, arith}
 use Rattle.std.specs.Prelude.{slice_get}
 use Rattle.atomic_table.specs.Seated.{TableId}
 use Rattle.turn_lock.specs.History.{own}
 use Rattle.turn_lock.specs.Seat.{SeatView, mine_of}
-use Rattle.convert_plan.specs.declared.card.Card.{Card}
 use Rattle.checkout_core.specs.declared.verdict.Own.{Own}
 use Rattle.checkout_core.specs.declared.path.Start.{Start}
 use Rattle.checkout_core.specs.declared.path.Start.TheVariants.{Pool}
@@ -13,18 +12,16 @@ use Rattle.checkout_core.specs.declared.event.Event.TheVariants.{Claim, Close}
 use Rattle.checkout_core.specs.Desks.{paths_of, leaves, is_left}
 use Rattle.checkout_core.specs.Talks.{contains}
 use Rattle.checkout_book.specs.declared.plan.Plan.{Plan}
-use Rattle.checkout_book.specs.declared.plan.Parts.{Parts}
 use Rattle.checkout_book.specs.declared.plan.Entry.{Entry}
 use Rattle.checkout_book.specs.declared.shelf.Slot.{Slot}
-use Rattle.checkout_book.specs.declared.shelf.Slot.TheVariants.{Ended}
 use Rattle.checkout_book.specs.Shape.{Shelf}
-use Rattle.checkout_book.specs.Sights.{Sight, seen, tell}
+use Rattle.checkout_book.specs.Sights.{Sight, tell}
 use Rattle.checkout_book.specs.Entries.{number_in, entries, entry_of, history_of, events_of, parts_at}
-use Rattle.checkout_book.specs.Shelves.{plan_of, cards_of}
+use Rattle.checkout_book.specs.Shelves.{cards_of}
 use Rattle.checkout_book.specs.Reserving.{IsFinished}
 use Rattle.writer_pool.specs.Working.{IsShown, own_events}
-use Rattle.writer_pool.specs.Ends.{IsBack, AreBack, IsFromBook, IsShownAll, IsQuiet}
-use Rattle.writer_pool.proofs.Places.{some_is, eqb_self, there_or_past, get_map}
+use Rattle.writer_pool.specs.Ends.{AreBack, IsFromBook, IsQuiet}
+use Rattle.writer_pool.proofs.Places.{eqb_self, there_or_past, get_map}
 use Rattle.writer_pool.proofs.Resting.{TakesPath, ClosesPath, ended_at}
 use Rattle.writer_pool.proofs.Rows.{BacksPath, KeepsPaths, KeepsNone, none_with_driver}
 use Rattle.writer_pool.proofs.Acting.{back_at}

@@ -1,15 +1,13 @@
 -- What still waits is written and closed.
-use Rattle.std.proofs.Common.{◌≡◌, ◌==◌, ℕ, zero, suc, ◌+◌, ◌<◌, ◌⊎◌, inl, inr, ⊎_elim, Bool, true, false, cond, List, [], ◌∷◌, ◌++◌, length, Option, Some, None, refl, sym, ap, ◌∙◌, subst, append_assoc, arith}
-use Rattle.std.specs.Prelude.{slice_get, slice_set, is_some, ◌||◌}
-use Rattle.tree_encoding.specs.declared.prepared.Prepared.{Prepared}
+use Rattle.std.proofs.Common.{◌≡◌, ◌==◌, ℕ, zero, suc, ◌<◌, inl, inr, ⊎_elim, Bool, true, false, cond, List, [], ◌∷◌, ◌++◌, length, Option, Some, None, refl, sym, ap, ◌∙◌, subst, append_assoc, arith}
+use Rattle.std.specs.Prelude.{slice_get, slice_set, ◌||◌}
 use Rattle.convert_plan.specs.declared.card.Card.{Card}
-use Rattle.convert_plan.specs.Card.{CardSeen, IsCardOf, IsNewCard}
+use Rattle.convert_plan.specs.Card.{CardSeen, IsCardOf}
 use Rattle.checkout_core.specs.declared.verdict.FilterCause.{FilterCause}
 use Rattle.checkout_core.specs.declared.verdict.Own.{Own}
 use Rattle.checkout_core.specs.declared.verdict.Verdict.{Verdict}
 use Rattle.checkout_core.specs.declared.path.PathState.{PathState}
-use Rattle.checkout_core.specs.declared.path.PathState.TheVariants as path
-use Rattle.checkout_core.specs.declared.path.PathState.TheVariants.{Waiting, Held, Unasked, Closed}
+use Rattle.checkout_core.specs.declared.path.PathState.TheVariants.{Waiting, Held, Closed}
 use Rattle.checkout_core.specs.declared.path.Path.{Path}
 use Rattle.checkout_core.specs.declared.path.Start.{Start}
 use Rattle.checkout_core.specs.declared.path.Start.TheVariants.{Pool}
@@ -17,21 +15,19 @@ use Rattle.checkout_core.specs.declared.event.Event.{Event}
 use Rattle.checkout_core.specs.declared.event.Event.TheVariants.{Claim, Close}
 use Rattle.checkout_core.specs.States.{Core, with_state}
 use Rattle.checkout_core.specs.Steps.{step_of}
-use Rattle.checkout_core.specs.Actors.{is_step}
 use Rattle.checkout_core.specs.Hands.{is_held, held_at, Holds}
 use Rattle.core_laws.specs.Moves.{Moved, is_with_driver}
 use Rattle.checkout_book.specs.declared.plan.Plan.{Plan}
 use Rattle.checkout_book.specs.declared.shelf.Slot.{Slot}
 use Rattle.checkout_book.specs.declared.shelf.Slot.TheVariants.{Away, Waits, Ended}
 use Rattle.checkout_book.specs.Shape.{Shelf}
-use Rattle.checkout_book.specs.Sights.{Sight, seen, tell}
+use Rattle.checkout_book.specs.Sights.{Sight, seen}
 use Rattle.checkout_book.specs.Shelves.{plan_of, cards_of, IsPlanned, IsRow, Lies, WaitsSo, IsEnded, AreEnded}
 use Rattle.checkout_book.specs.Ending.{GoesOn}
 use Rattle.checkout_book.specs.Turns.{Turned, Claimed}
 use Rattle.writer_pool.specs.Writing.{WritesCard}
-use Rattle.writer_pool.specs.Working.{IsShown}
 use Rattle.writer_pool.specs.Ends.{IsFromBook, IsQuiet}
-use Rattle.writer_pool.proofs.Places.{some_is, same_or, get_set_same, get_set_other, get_more, get_within, place_is}
+use Rattle.writer_pool.proofs.Places.{some_is, get_set_same, get_set_other, get_more, get_within, place_is}
 use Rattle.writer_pool.proofs.CoreMoves.{moved_here, hands_moved, away_moved}
 use Rattle.writer_pool.proofs.WorkTurns.{shown}
 
@@ -101,7 +97,11 @@ module _ {B L : Type 0} (see : Sight B L) where
       record {
         raw = t.0;
         moved = t.1;
-        holds = (with_state t.1.row (Held 0 t.0), moved_here s0.core s1.core k.path (Waiting t.0) (Held 0 t.0) t.1, refl);
+        holds = (
+          with_state t.1.row (Held 0 t.0),
+          moved_here s0.core s1.core k.path (Waiting t.0) (Held 0 t.0) t.1,
+          refl,
+        );
         so = subst (λ (s : PathState). WaitsSo (seen see k) s k.ready) (ap (λ (r : Path). r.state) same ∙ t.1.was) w.so;
         planned = w.planned;
       }
@@ -133,7 +133,8 @@ module _ {B L : Type 0} (see : Sight B L) where
         hands = λ a q. hands_moved s1.core s2.core w.path z.0 (Closed z.1) a z.2 q
             ∙ (ap (λ x. cond (q == w.path) false x)
             (hands_moved s0.core s1.core k.path (Waiting h.raw) (Held 0 h.raw) a h.moved q)
-            ∙ (ap (λ j. cond (q == w.path) false (cond (q == j) (is_held a (Held 0 h.raw)) (held_at s0.core a q))) (sym is)
+            ∙ (ap (λ j. cond (q == w.path) false (cond (q == j) (is_held a (Held 0 h.raw)) (held_at s0.core a q)))
+            (sym is)
             ∙ free (q == w.path) (is_held a (Held 0 h.raw)) (held_at s0.core a q) (quiet.hands a q)));
         away = away_moved s1.core s2.core w.path z.0 (Closed z.1) z.2 refl away1;
         closed = λ i p a x at from. ⊎_elim

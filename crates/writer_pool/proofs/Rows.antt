@@ -1,5 +1,5 @@
 -- What each path of a run keeps, and paths that are with no driver.
-use Rattle.std.proofs.Common.{◌≡◌, ◌==◌, ℕ, zero, suc, ◌<◌, ◌⊎◌, inl, inr, ⊎_elim, Bool, true, false, List, [], ◌∷◌, map, Option, Some, None, refl, sym, ap, ◌∙◌, subst}
+use Rattle.std.proofs.Common.{◌≡◌, ◌==◌, ℕ, zero, suc, ◌<◌, ⊎_elim, true, false, List, [], ◌∷◌, map, Option, Some, None, refl, sym, ap, ◌∙◌, subst}
 use Rattle.std.specs.Prelude.{slice_get}
 use Rattle.checkout_core.specs.declared.verdict.FilterCause.{FilterCause}
 use Rattle.checkout_core.specs.declared.path.PathState.{PathState}
@@ -15,7 +15,7 @@ use Rattle.checkout_core.specs.Steps.{step_of, replay, IsLegal}
 use Rattle.checkout_core.specs.Actors.{own_driver}
 use Rattle.checkout_core.specs.Desks.{paths_of, is_left}
 use Rattle.checkout_core.specs.Talks.{contains}
-use Rattle.core_laws.specs.Moves.{Moved, RowStays, StaysOr, is_with_driver, is_noted}
+use Rattle.core_laws.specs.Moves.{Moved, RowStays, is_with_driver, is_noted}
 use Rattle.writer_pool.specs.Ends.{NoneWithDriver}
 use Rattle.writer_pool.proofs.Places.{some_is, same_or, eqb_self}
 use Rattle.writer_pool.proofs.CoreMoves.{moved_here, moved_there}

@@ -50,7 +50,7 @@ module _ {S B L : Type 0} (starter : S → StarterSeen) where
   AreSeeds starts d (x ∷ xs) = IsSeed starts d x × AreSeeds starts (suc d) xs
 
 module _ {S B L : Type 0} (starter : S → StarterSeen) (see : Sight B L) where
-  -- The starter of the driver d is back with its sessions, which are a talk with the driver's notes in the history, over
+  -- The starter of the driver d is back with its sessions. They are a talk with the driver's notes in the history, over
   -- the paths whose content was prepared.
   pub record IsStarterBack (starts : List Start) (history : List Event) (d : ℕ) (seed : DeskSeed S B L) (back : S)
       : Type 0 where

@@ -1,6 +1,6 @@
-use Rattle.std.proofs.Common.{◌≡◌, ℕ, true, sym, ap, ◌∙◌, subst}
+use Rattle.std.proofs.Common.{sym, ap, ◌∙◌, subst}
 use Rattle.convert_plan.specs.Card.{CardSeen}
-use Rattle.checkout_core.specs.Hands.{is_held, held_at}
+use Rattle.checkout_core.specs.Hands.{held_at}
 use Rattle.checkout_book.specs.declared.plan.Plan.{Plan}
 use Rattle.checkout_book.specs.Sights.{sight}
 use Rattle.checkout_book.specs.Shelves.{cards_of, IsOut, plan_of}

@@ -1,4 +1,4 @@
-use Rattle.std.proofs.Common.{◌≡◌, take, length, vec_capacity}
+use Rattle.std.proofs.Common.{◌≡◌, take, vec_capacity}
 use Rattle.writer_pool.proofs.ending.copied.Given as goal
 
 abbrev pub invariant-loop-event : goal.invariant-loop-event

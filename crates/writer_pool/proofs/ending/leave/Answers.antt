@@ -1,4 +1,4 @@
-use Rattle.std.proofs.Common.{◌≡◌, ◌≤◌, ◌*◌, ℕ, List, length, map, sym, ap, ◌∙◌, subst, arith}
+use Rattle.std.proofs.Common.{List, length, map, sym, ap, ◌∙◌, subst, arith}
 use Rattle.checkout_core.specs.declared.event.Event.{Event}
 use Rattle.checkout_book.specs.Sights.{sight}
 use Rattle.checkout_book.specs.Shelves.{cards_of}
