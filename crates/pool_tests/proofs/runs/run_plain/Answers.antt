@@ -1,4 +1,3 @@
-use Rattle.std.proofs.Common.{◌≡◌}
 use Rattle.checkout_book.specs.Sights.{sight}
 use Rattle.pool_tests.specs.Pages.{page_seen}
 use Rattle.pool_tests.proofs.Pooling.{pool_there, pool_alone}
