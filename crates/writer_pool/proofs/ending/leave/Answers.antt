@@ -35,7 +35,7 @@ apart-blobs-requires-clause-room g c =
     c.args.ended.shelf r.1 in
     let fewer = parts_fewer c.args.ended.shelf.slots.items in
     let count = r.2 in
-    omega (arith, ap length c.into_parts.ensures, fewer, slots, c.requires.room.all_blobs, count)
+    omega (arith, ap length c.into_parts.ensures.parts, fewer, slots, c.requires.room.all_blobs, count)
 
 pub apart-blobs-requires-clause-leaf_room : goal.apart-blobs-requires-clause-leaf_room
 apart-blobs-requires-clause-leaf_room g c =
@@ -44,7 +44,7 @@ apart-blobs-requires-clause-leaf_room g c =
     c.args.ended.shelf r.1 in
     let fewer = parts_fewer c.args.ended.shelf.slots.items in
     let count = r.2 in
-    omega (arith, ap length c.into_parts.ensures, fewer, slots, c.requires.room.all_leaves, count)
+    omega (arith, ap length c.into_parts.ensures.parts, fewer, slots, c.requires.room.all_leaves, count)
 
 pub returns-clause-run : goal.returns-clause-run
 returns-clause-run g c d t =
@@ -61,8 +61,8 @@ returns-clause-ends g c d t pool dealt =
     let s = c.args.ended.shelf in
     let slots = slots_count see c.a_history_keeps_its_size.ensures d s t in
     let ends = ends_are see c.a_verdict_is_what_is_told.ensures d s t (fitting d pool dealt) slots in
-    let blobs = c.apart-blobs.ensures.blobs ∙ ap (map (λ (x : B × L). x.0)) c.into_parts.ensures in
-    let leaves = c.apart-blobs.ensures.leaves ∙ ap (map (λ (x : B × L). x.1)) c.into_parts.ensures in
+    let blobs = c.apart-blobs.ensures.blobs ∙ ap (map (λ (x : B × L). x.0)) c.into_parts.ensures.parts in
+    let leaves = c.apart-blobs.ensures.leaves ∙ ap (map (λ (x : B × L). x.1)) c.into_parts.ensures.parts in
     subst (λ (h : List Event). AreEnds see d.starts.items h (cards_of d) 0 d.starts.items
     c.apart-blobs.result.0.items c.apart-blobs.result.1.items)
     (sym (c.copied-history.ensures ∙ c.history.ensures))
