@@ -126,6 +126,38 @@ const TALKS: &[Talk] = &[
           0015capability=delay\n00000013status=delayed\n000000000013status=success\n0000",
         b"0016git-filter-server\n000eversion=2\n00000016capability=smudge\n0000",
     ),
+    // Paths 11, 3 and 19 are delayed, in this order. The list has them from the last to the first.
+    (
+        0,
+        20,
+        b"0016git-filter-server\n000eversion=2\n0000\
+          0016capability=smudge\n0015capability=delay\n0000\
+          0013status=delayed\n0000\
+          0013status=success\n00000046alpha\nline\nline\nline\nline\nline\nline\n\
+          line\nline\nline\nline\nline\nline\n00000000\
+          0013status=delayed\n0000\
+          0013status=success\n0000001ealpha\nline\nline\nline\nline\n00000000\
+          0013status=delayed\n0000\
+          001bpathname=d9/f000019.k5\n001bpathname=d3/f000003.k5\n\
+          001bpathname=d1/f000011.k5\n00000013status=success\n0000\
+          0013status=success\n00000069alpha\nline\nline\nline\nline\nline\nline\n\
+          line\nline\nline\nline\nline\nline\nline\nline\nline\nline\nline\nline\n\
+          line\n00000000\
+          0013status=success\n00000019alpha\nline\nline\nline\n00000000\
+          0013status=success\n00000041alpha\nline\nline\nline\nline\nline\nline\n\
+          line\nline\nline\nline\nline\n00000000\
+          00000013status=success\n0000",
+        b"0016git-filter-server\n000eversion=2\n0000\
+          0016capability=smudge\n0000\
+          0013status=success\n0000003bbeta\nline\nline\nline\nline\nline\nline\n\
+          line\nline\nline\nline\n00000000\
+          0011status=error\n0000\
+          0013status=success\n00000013beta\nline\nline\n00000000\
+          0011status=error\n0000\
+          0013status=success\n00000063beta\nline\nline\nline\nline\nline\nline\n\
+          line\nline\nline\nline\nline\nline\nline\nline\nline\nline\nline\nline\n00000000\
+          0011status=error\n0000",
+    ),
 ];
 
 #[test]
