@@ -25,12 +25,12 @@ use Rattle.edge_kit.specs.Starters.{Had, StarterSeen}
 pub data Given : Type 0 where
   Noted : (e : Event) → Given
   Closed : (own : Own) → (card : CardSeen) → Given
-  HandedBack : (card : CardSeen) → Given
+  HandedBack : (path : ℕ) → Given
 
 abbrev pub noted_of : Given → List Event
 noted_of (Noted e) = e ∷ []
 noted_of (Closed own card) = []
-noted_of (HandedBack card) = []
+noted_of (HandedBack path) = []
 
 abbrev pub noted_in : List Given → List Event
 noted_in [] = []
@@ -40,7 +40,7 @@ noted_in (g ∷ gs) = noted_of g ++ noted_in gs
 abbrev pub IfSealed : (ℕ → Option (List ℕ) → Type 0) → Given → Type 0
 IfSealed P (Noted e) = Unit {0}
 IfSealed P (Closed own card) = (m : Mark) → card.leaf.state ≡ Sealed m → P card.path card.leaf.content
-IfSealed P (HandedBack card) = Unit {0}
+IfSealed P (HandedBack path) = Unit {0}
 
 abbrev pub AllSealed : (ℕ → Option (List ℕ) → Type 0) → List Given → Type 0
 AllSealed P [] = Unit {0}

@@ -129,6 +129,7 @@ impl<S: Starter, B: Blob, L: Leaf> Model for Desk<S, B, L> {
     ghost Value = { DeskView };
 
     ghost view = { λ d. record {
+      actor = d.seat.actor;
       driver = d.seat.driver;
       required = d.seat.required;
       starter = S.seen d.starter;
@@ -159,6 +160,7 @@ impl<S: Starter, B: Blob, L: Leaf> Desk<S, B, L> {
         requires rising { IsRising (card_texts (map (λ c. card_seen B.told B.seen L.seen c) cards.items)) }
         requires apart { AreApart (card_paths (map (λ c. card_seen B.told B.seen L.seen c) cards.items)) }
         ensures { IfOk result (λ d. d ≡ record {
+          actor = actor;
           driver = driver;
           required = required;
           starter = S.seen starter;
