@@ -1,6 +1,6 @@
 -- How many notes a driver can have.
 use Rattle.std.proofs.Common.{◌≡◌, ◌==◌, ◌&&◌, ◌||◌, ℕ, zero, suc, ◌+◌, ◌*◌, ◌<◌, ◌≤◌, Bool, true, false, not, cond}
-use Rattle.std.proofs.Common.{List, [], ◌∷◌, ◌++◌, length, length-append, map, Option, Some, None, refl, sym, ap, ◌∙◌, subst, arith}
+use Rattle.std.proofs.Common.{List, [], ◌∷◌, ◌++◌, length, length-append, map, Option, Some, None, refl, ap, subst, arith}
 use Rattle.std.proofs.lemmas.List.{length-map}
 use Rattle.std.proofs.lemmas.Bool.{and_parts}
 use Rattle.filter_words.specs.declared.reply.Reply.{Reply}
@@ -11,7 +11,6 @@ use Rattle.filter_words.specs.declared.reply.Caps.{Caps}
 use Rattle.checkout_core.specs.declared.event.Event.{Event}
 use Rattle.checkout_core.specs.declared.event.Event.TheVariants as ev
 use Rattle.checkout_core.specs.declared.path.Start.{Start}
-use Rattle.checkout_core.specs.declared.path.Start.TheVariants.{Pool, Desk, Done}
 use Rattle.checkout_core.specs.declared.path.Path.{Path}
 use Rattle.checkout_core.specs.States.{Core, start, is_at, is_unasked, path_of, AreBelow}
 use Rattle.checkout_core.specs.Conditions.{is_delay, is_good_reply, is_good_opening}
@@ -20,7 +19,7 @@ use Rattle.checkout_core.specs.Notes.{notes}
 use Rattle.checkout_core.specs.Desks.{paths_of}
 use Rattle.checkout_core.specs.Talks.{Talk, Between, Refusing, InRound, Ended, Round, contains, without, is_empty, opened}
 use Rattle.checkout_core.specs.Talks.{between, answered, ask, name, list_end, list_may, redone, ask_again, in_session}
-use Rattle.checkout_core.specs.Talks.{refusing, talk_next, is_with, talk_step, talk_run, is_talk, picks, to_ask, skipped}
+use Rattle.checkout_core.specs.Talks.{refusing, talk_next, is_with, talk_step, talk_run, is_talk, picks, skipped}
 use Rattle.checkout_core.specs.Talks.{talk_paths, is_there}
 use Rattle.core_laws.proofs.NotesTalk.{notes_talk}
 

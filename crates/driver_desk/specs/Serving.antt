@@ -19,6 +19,7 @@ use Rattle.checkout_core.specs.Transcripts.{Item}
 use Rattle.checkout_core.specs.Transcripts as result
 use Rattle.driver_line.specs.Transcripts.{IsTalk}
 use Rattle.driver_line.specs.ToldStarts.{GoBy}
+use Rattle.driver_line.specs.Starters.{IsSameStarter}
 use Rattle.edge_kit.specs.Starters.{Had, StarterSeen}
 
 -- what a recorder was given
@@ -133,7 +134,7 @@ late_after p (reply.Broken why) late = []
 late_after p reply.NoMemory late = []
 
 -- A desk has served: what its starter keeps grew by a talk that goes by the starts that it tells, and as many of its
--- links are out as before. Its recorder was given just the talk's notes. The results of the talk are a whole talk,
+-- links are out as before. It is the same starter, whose count rose if a start failed. Its recorder was given just the talk's notes. The results of the talk are a whole talk,
 -- case by case. A leaf that was sealed holds the content that the driver gave for its path.
 pub record IsServed (d : ℕ) (paths : Paths) (asked : List ℕ) (starter0 starter : StarterSeen)
     (given0 given : List Given) : Type 0 where
@@ -144,6 +145,7 @@ pub record IsServed (d : ℕ) (paths : Paths) (asked : List ℕ) (starter0 start
   pub kept : starter.had ≡ starter0.had ++ items
   pub starts : GoBy starter0.ahead items starter.ahead
   pub links : starter.out ≡ starter0.out
+  pub stays : IsSameStarter exchanges starter0 starter
   pub talk : IsTalk d paths asked items exchanges
   pub whole : result.IsTalk asked results
   pub same : result.notes_of d results ≡ notes_in d exchanges

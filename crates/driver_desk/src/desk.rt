@@ -19,7 +19,10 @@ use crate::rounds::end_talk;
 use crate::serving::{Seat, serve_one};
 use convert_plan::Card;
 use core_laws::laws::a_talk_is_a_transcript;
-use driver_line::{Line, exchanges_are_spelled, exchanges_go_by_the_starts, links_are_given_back};
+use driver_line::{
+    Line, a_starter_stays_the_same, exchanges_are_spelled, exchanges_go_by_the_starts,
+    links_are_given_back,
+};
 use edge_kit::{Blob, Gate, Leaf, Starter};
 use std::alloc::{AllocError, Global};
 use std::collections::VecDeque;
@@ -199,6 +202,7 @@ impl<S: Starter, B: Blob, L: Leaf> Desk<S, B, L> {
         exchanges_are_spelled();
         exchanges_go_by_the_starts();
         links_are_given_back();
+        a_starter_stays_the_same();
         a_talk_is_a_transcript();
         let Desk {
             alloc,
