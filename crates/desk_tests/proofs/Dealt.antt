@@ -1,5 +1,5 @@
 -- The cards of the tests are dealt to their desk.
-use Rattle.std.proofs.Common.{◌≡◌, ◌==◌, ◌⊎◌, inl, inr, ℕ, zero, suc, ◌<◌, Bool, true, false, cond, List, [], ◌∷◌, Some, refl, sym, ap, subst, ◌∙◌, arith}
+use Rattle.std.proofs.Common.{◌≡◌, ◌==◌, ◌⊎◌, inl, inr, ℕ, zero, suc, ◌+◌, ◌<◌, Bool, true, false, cond, List, [], ◌∷◌, Some, refl, sym, ap, subst, ◌∙◌, arith}
 use Rattle.std.specs.Prelude.{slice_get}
 use Rattle.std.proofs.lemmas.Bool.{eqb-true}
 use Rattle.checkout_core.specs.declared.path.Start.{Start}
@@ -40,11 +40,13 @@ own_four required (suc (suc (suc (suc p)))) h = elim (which (suc (suc (suc (suc 
   | inr (inr (inr k)) ↦ absurd (let e = eqb-true (suc (suc (suc (suc p)))) 3 k in omega (arith, e))
 ]
 
-pub dealt : (s : Standing) (v : DeskView) (required : Bool) → s.driver ≡ 0 → v.driver ≡ 0 → s.required ≡ required
+pub dealt : (s : Standing) (v : DeskView) (required : Bool) → s.workers ≡ 0 → v.actor ≡ 0 → s.driver ≡ 0
+    → v.driver ≡ 0 → s.required ≡ required
     → v.required ≡ required → s.drivers ≡ 1
     → s.starts ≡ Desk 0 required ∷ Desk 0 required ∷ Desk 0 required ∷ Desk 0 required ∷ []
     → s.cards ≡ v.cards → card_paths v.cards ≡ 0 ∷ 1 ∷ 2 ∷ 3 ∷ [] → IsDealt s v
-dealt s v required sd vd sr vr many starts cards paths = record {
+dealt s v required sw va sd vd sr vr many starts cards paths = record {
+  actor = (λ i. sw i + sd i) ∙ sym va;
   driver = sd ∙ sym vd;
   required = sr ∙ sym vr;
   cards = cards;

@@ -17,7 +17,7 @@ module _ (told : Source → Told) (blob : Source → BlobSeen) (leaf : Sheet →
   abbrev pub given_of : Taken → Given
   given_of (Noted e) = entry.Noted e
   given_of (Closed own card) = entry.Closed own (card_seen told blob leaf card)
-  given_of (Back card) = entry.HandedBack (card_seen told blob leaf card)
+  given_of (Back card) = entry.HandedBack card.path
 
   abbrev pub given_in : List Taken → List Given
   given_in ts = map (λ t. given_of t) ts

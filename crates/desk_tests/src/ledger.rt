@@ -96,7 +96,7 @@ impl<'a, H: Abort> Recorder<Source, Sheet> for Ledger<'a, H> {
             let blob = ⟦<Source as Blob>⟧.seen in
             let leaf = ⟦<Sheet as Leaf>⟧.seen in
             given_in told blob leaf self.new.taken.items
-            ≡ given_in told blob leaf self.old.taken.items ++ HandedBack (card_seen told blob leaf card) ∷ [] }
+            ≡ given_in told blob leaf self.old.taken.items ++ HandedBack card.path ∷ [] }
         ensures standing { let told = ⟦<Source as Blob>⟧.told in
             let blob = ⟦<Source as Blob>⟧.seen in
             let leaf = ⟦<Sheet as Leaf>⟧.seen in

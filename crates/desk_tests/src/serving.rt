@@ -113,7 +113,7 @@ fn is_closed_so(own: Own, card: &Card<Source, Sheet>, end: Option<&End>) -> bool
         Some(End::NoFile) => own == fine && card.leaf.state == LeafState::Gone,
         Some(End::WriteFailed) => { own == Own::WriteFailed && card.leaf.state == LeafState::Gone }
         Some(End::Back) => false,
-        None => { own == Own::Object(ObjectKind::Absent) && card.leaf.state == LeafState::Gone }
+        None => own == Own::Object(ObjectKind::Absent) && card.leaf.state == LeafState::Fresh,
     }
 }
 

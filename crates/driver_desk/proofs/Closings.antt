@@ -22,7 +22,7 @@ use Rattle.filter_proto.specs.Replies.{IsKept, TouchesNot}
 use Rattle.filter_words.specs.declared.reply.Reply.{Reply}
 use Rattle.filter_words.specs.declared.reply.Reply.TheVariants as reply
 use Rattle.driver_desk.specs.Serving.{Given}
-use Rattle.driver_desk.specs.Shown.{IsGivenUp, ShowsLeaf, fine_state, MayClose}
+use Rattle.driver_desk.specs.Shown.{IsGivenUp, ShowsUnused, ShowsLeaf, fine_state, MayClose}
 use Rattle.driver_desk.specs.Recorders.{Standing, MayEnd, MayDrop, ShowsClose}
 use Rattle.driver_desk.specs.Cards.{IsPlanned, IsReadCard, IsAskedCard, IsUnreadCard, ready_of}
 use Rattle.driver_desk.specs.Works.{KeepsCard, CountsRead}
@@ -70,9 +70,6 @@ read_few s c u h = subst (λ (x : List ℕ). length x ≤ 4096) (sym (ap (λ (x 
 
 pub asked_read : (s s1 : Standing) (c : CardSeen) (u : Bool) → s1 ≡ s → IsReadCard s c u → IsAskedCard s1 c u (Ok tt)
 asked_read s s1 c u same h = subst (λ (z : Standing). IsAskedCard z c u (Ok tt)) (sym same) (record { leaf = c.leaf; read = h; kept = kept_open c.leaf (inl (read_fresh s c u h)) })
-
-pub asked_as : (s s1 : Standing) (c : CardSeen) (u : Bool) (put : Result ⊤ SendFault) → s1 ≡ s → IsAskedCard s c u put → IsAskedCard s1 c u put
-asked_as s s1 c u put same h = subst (λ (z : Standing). IsAskedCard z c u put) (sym same) h
 
 -- a card that was prepared, before and after its request
 read_made : (s : Standing) (old : CardSeen) (ready : Prepared) (required : Bool) → s.required ≡ required → IsPlanned s old → IsPrepared old ready
@@ -266,24 +263,39 @@ closes_read s given c u put h o l a may path shows closes =
       );
     }
 
-pub closes_unread : {T : Type 0} (s : Standing) (given : List Given) (c : CardSeen) (o : Own) (l : LeafSeen) (x : Result T Failed)
-    → IsUnreadCard s c o → Discards c.leaf l x → ShowsClose s given o (record c { leaf = l; ready = None })
+-- what was given up isn't sealed
+pub gone_sealed : {A : Type 0} (state : LeafState) (m : Mark) → IsGivenUp state → state ≡ Sealed m → A
+gone_sealed state m (inl e) i = absurd (cc (e, i))
+gone_sealed state m (inr e) i = absurd (cc (e, i))
+
+pub closes_unread : (s : Standing) (given : List Given) (c : CardSeen) (o : Own) (l : LeafSeen)
+    → IsUnreadCard s c o → l.path ≡ c.leaf.path → ShowsUnused o c.leaf l
+    → ShowsClose s given o (record c { leaf = l; ready = None })
 unfolding one_unready one_leaf one_read
-closes_unread s given c o l x h d =
-    let one = one_unready s.cards (record c { leaf = l }) (one_leaf s.cards c l (one_read s h.planned c h.is_planned h.same) (discards_path c.leaf l x d)) in
+closes_unread s given c o l h path unused =
+    let one = one_unready s.cards (record c { leaf = l })
+    (one_leaf s.cards c l (one_read s h.planned c h.is_planned h.same) path) in
     record {
       place = one.0;
       planned = one.1;
       here = one.2;
       same = one.3;
       unready = refl;
-      shows = inl (record { reads = h.reads; counts = h.counts; leaf = discards_gone c.leaf l x d });
+      shows = inl (record {
+        reads = h.reads;
+        counts = h.counts;
+        leaf = subst (λ (x : LeafSeen). ShowsUnused o x l) (ap (λ (x : CardSeen). x.leaf) h.same) unused;
+      });
     }
 
--- what was given up isn't sealed
-pub gone_sealed : {A : Type 0} (state : LeafState) (m : Mark) → IsGivenUp state → state ≡ Sealed m → A
-gone_sealed state m (inl e) i = absurd (cc (e, i))
-gone_sealed state m (inr e) i = absurd (cc (e, i))
+-- what was never written isn't sealed
+pub unused_sealed : {A : Type 0} (o : Own) (old new : LeafSeen) (m : Mark) → old.state ≡ Fresh → ShowsUnused o old new
+    → new.state ≡ Sealed m → A
+unused_sealed own.NoMemory old new m fresh shows i = gone_sealed new.state m shows i
+unused_sealed (own.Fine u) old new m fresh shows i = cc (fresh, shows, i)
+unused_sealed (own.Object k) old new m fresh shows i = cc (fresh, shows, i)
+unused_sealed own.ReadFailed old new m fresh shows i = cc (fresh, shows, i)
+unused_sealed own.WriteFailed old new m fresh shows i = cc (fresh, shows, i)
 
 -- a fresh leaf has what was put
 pub got_told : (s : Standing) (c : CardSeen) (u : Bool) (new : LeafSeen) (content : List ℕ) → IsReadCard s c u → new.content ≡ grown c.leaf.content content → Tells new.content content

@@ -113,7 +113,8 @@ shows_more s given g (Closed o card) h = record {
     | inr k ↦ inr (k.0, known_stays s given g card.path k.0 k.1, k.2)
   ];
 }
-shows_more s given g (HandedBack card) h = record { refused = h.refused; free = h.free; why = h.why; told = known_stays s given g card.path (Refused h.why) h.told }
+shows_more s given g (HandedBack path) h =
+    record { free = h.free; why = h.why; told = known_stays s given g path (Refused h.why) h.told }
 
 shown_push : (s : Standing) (given : List Given) (g : Given) → AreShown s given given → Shows s given g → AreShown s (given ++ g ∷ []) (given ++ g ∷ [])
 shown_push s given g h k = go given h
@@ -265,25 +266,25 @@ module _ (l : DeskLaws) (s : Standing) (given : List Given) (held left rest : Li
         once = λ q. times_push q given (Closed own card) ∙ once_more q (times q given) (Some card.path) i (a.once q);
         shown = shown_push s given (Closed own card) a.shown shows;
       }
-  after_end (HandedBack card) i may shows =
-      let same : card.path ≡ p = cc (i) in
-      let e = event.HandBack card.path in
+  after_end (HandedBack path) i may shows =
+      let same : path ≡ p = cc (i) in
+      let e = event.HandBack path in
       let k = l.goes_on s given rest first t e a.below a.runs refl refl may in
       record {
         below = a.below;
-        runs = subst (λ (z : ℕ). AtDesk s.starts s.workers s.drivers s.driver (events_in s (given ++ HandedBack card ∷ []))
+        runs = subst (λ (z : ℕ). AtDesk s.starts s.workers s.drivers s.driver (events_in s (given ++ HandedBack path ∷ []))
             (without z rest) first (with_rest (without z rest) t)) same
-            (subst (λ (es : List Event). AtDesk s.starts s.workers s.drivers s.driver es (without card.path rest) first
-            (with_rest (without card.path rest) t)) (sym (events_push s given (HandedBack card))) k);
+            (subst (λ (es : List Event). AtDesk s.starts s.workers s.drivers s.driver es (without path rest) first
+            (with_rest (without path rest) t)) (sym (events_push s given (HandedBack path))) k);
         own = λ q h. let w = r.were q h in record {
           start = (a.own q w.0).start;
-          stays = ap (is_left q) (events_push s given (HandedBack card)) ∙ (left_push q (events_in s given) e
-              ∙ (ap (λ (b : Bool). b || (q == card.path)) (a.own q w.0).stays
+          stays = ap (is_left q) (events_push s given (HandedBack path)) ∙ (left_push q (events_in s given) e
+              ∙ (ap (λ (b : Bool). b || (q == path)) (a.own q w.0).stays
               ∙ (ap (λ (z : ℕ). q == z) same ∙ w.1)));
         };
         among = λ q h. a.among q (r.were q h).0;
-        once = λ q. times_push q given (HandedBack card) ∙ once_more q (times q given) (Some card.path) i (a.once q);
-        shown = shown_push s given (HandedBack card) a.shown shows;
+        once = λ q. times_push q given (HandedBack path) ∙ once_more q (times q given) (Some path) i (a.once q);
+        shown = shown_push s given (HandedBack path) a.shown shows;
       }
 
 pub at_end : (l : DeskLaws) (s : Standing) (given new : List Given) (held left rest : List ℕ) (first : ℕ) (t : Talk)

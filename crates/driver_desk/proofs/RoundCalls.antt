@@ -37,9 +37,6 @@ use Rattle.driver_desk.proofs.Calls.{taken_late}
 pub rounds_as : (s s1 : Standing) (given : List Given) (session : Option SessionSeen) (cards turns : List ℕ) → s1 ≡ s → InRoundsAt s given session cards turns → InRoundsAt s1 given session cards turns
 rounds_as s s1 given session cards turns same k = subst (λ (z : Standing). InRoundsAt z given session cards turns) (sym same) k
 
-pub done_as : (s s1 : Standing) (given : List Given) → s1 ≡ s → IsDone s given → IsDone s1 given
-done_as s s1 given same k = subst (λ (z : Standing). IsDone z given) (sym same) k
-
 pub is_end_back : (s s1 : Standing) (given new : List Given) (p : ℕ) → s1 ≡ s → IsEnd s1 given p new → IsEnd s given p new
 is_end_back s s1 given new p same k = subst (λ (z : Standing). IsEnd z given p new) same k
 
@@ -435,7 +432,7 @@ left_times s p (g ∷ gs) e = go (is_path p (ended_path g)) refl e (λ k. left_t
     one : (g : Given) → is_path p (ended_path g) ≡ true → leaves p (event_of s g) ≡ true
     one (Noted e) i = absurd (cc (i))
     one (Closed own card) i = i
-    one (HandedBack card) i = i
+    one (HandedBack path) i = i
 
     go : (b : Bool) → is_path p (ended_path g) ≡ b → cond b 1 0 + times p gs ≡ 1 → (times p gs ≡ 1 → is_left p (events_in s gs) ≡ true) → (leaves p (event_of s g) || is_left p (events_in s gs)) ≡ true
     go true i k ih = ap (λ (z : Bool). z || is_left p (events_in s gs)) (one g i)

@@ -68,7 +68,7 @@ pub all_mono : (P Q : ℕ → Option (List ℕ) → Type 0) → ((p : ℕ) (told
 all_mono P Q f [] h = tt
 all_mono P Q f (Noted e ∷ gs) h = (tt, all_mono P Q f gs h.1)
 all_mono P Q f (Closed own card ∷ gs) h = (λ m e. f card.path card.leaf.content (h.0 m e), all_mono P Q f gs h.1)
-all_mono P Q f (HandedBack card ∷ gs) h = (tt, all_mono P Q f gs h.1)
+all_mono P Q f (HandedBack path ∷ gs) h = (tt, all_mono P Q f gs h.1)
 
 pub all_more : (P : ℕ → Option (List ℕ) → Type 0) (a b : List Given) → AllSealed P a → AllSealed P b → AllSealed P (a ++ b)
 all_more P [] b h k = k

@@ -1,5 +1,5 @@
 -- A desk: the cards of a driver, and what starts it.
-use Rattle.std.specs.Prelude.{◌≡◌, ◌<◌, ℕ, Bool, true, false, cond, List, Some, slice_get}
+use Rattle.std.specs.Prelude.{◌≡◌, ◌<◌, ◌+◌, ℕ, Bool, true, false, cond, List, Some, slice_get}
 use Rattle.checkout_core.specs.declared.path.Start.TheVariants.{Desk}
 use Rattle.checkout_core.specs.Desks.{paths_of}
 use Rattle.checkout_core.specs.Hands.{NoClaims}
@@ -16,6 +16,7 @@ use Rattle.driver_desk.specs.Recorders.{Standing, AreShown, events_in, times}
 use Rattle.driver_desk.specs.Serving.{Given}
 
 pub record DeskView : Type 0 where
+  pub actor : ℕ
   pub driver : ℕ
   pub required : Bool
   pub starter : StarterSeen
@@ -28,6 +29,7 @@ pub record IsReadyDesk (cards : List CardSeen) (late : LateView) : Type 0 where
 
 -- A recorder stands for this desk, which has the cards of all paths of its driver.
 pub record IsDealt (s : Standing) (desk : DeskView) : Type 0 where
+  pub actor : s.workers + s.driver ≡ desk.actor
   pub driver : s.driver ≡ desk.driver
   pub required : s.required ≡ desk.required
   pub cards : s.cards ≡ desk.cards
@@ -38,7 +40,7 @@ pub record IsDealt (s : Standing) (desk : DeskView) : Type 0 where
       → slice_get s.starts p ≡ Some (Desk s.driver s.required)
 
 -- What was given is a run by itself, without a claim, after which no path of the driver is with it. Each card was
--- closed or handed back once, and nothing else was. It shows what befell it, by what the driver told of it.
+-- closed or handed back once, and nothing else was. It shows what happened to it, by what the driver told of it.
 pub record AreThrough (s : Standing) (given : List Given) : Type 0 where
   pub core : Core
   pub run : replay (start s.starts s.workers s.drivers) (events_in s given) ≡ Some core

@@ -77,9 +77,6 @@ pub record DeskLaws : Type 0 where
   pub later : (s : Standing) (given : List Given) (rest : List ℕ) (first : ℕ) (t : Talk) (p : ℕ)
       → AreBelow s.drivers s.starts → Runs s given rest first t → IsOwn s given p → waits p t ≡ true
       → fate_now s given p ≡ Later
-  pub known : (s : Standing) (given : List Given) (rest : List ℕ) (first : ℕ) (t : Talk) (p : ℕ)
-      → AreBelow s.drivers s.starts → Runs s given rest first t → IsOwn s given p → contains p rest ≡ false
-      → waits p t ≡ false → (h : Heard) × (fate_now s given p ≡ Known h)
   pub through : (s : Standing) (given : List Given) (x : Core) → AreBelow s.drivers s.starts
       → IsLegal s.starts s.workers s.drivers (events_in s given) x
       → ((p : ℕ) → contains p (paths_of s.driver s.starts) ≡ true → is_left p (events_in s given) ≡ true)

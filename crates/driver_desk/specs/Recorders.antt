@@ -13,7 +13,7 @@ use Rattle.checkout_core.specs.Desks.{MayNext, was_read}
 use Rattle.checkout_core.specs.Fates.{Fate, Untold, Known, fate_of}
 use Rattle.checkout_core.specs.Notes.{notes}
 use Rattle.edge_kit.specs.declared.faults.SendFault.{SendFault}
-use Rattle.convert_plan.specs.Card.{CardSeen, IsCardOf, IsRefusedOneOf}
+use Rattle.convert_plan.specs.Card.{CardSeen, IsCardOf}
 use Rattle.driver_desk.specs.Shown.{ShowsRead, ShowsUnread}
 use Rattle.driver_desk.specs.Serving.{Given, Noted, Closed, HandedBack}
 
@@ -31,7 +31,7 @@ pub record Standing : Type 0 where
 abbrev pub event_of : Standing → Given → Event
 event_of s (Noted e) = e
 event_of s (Closed own card) = Close card.path (s.workers + s.driver) own
-event_of s (HandedBack card) = HandBack card.path
+event_of s (HandedBack path) = HandBack path
 
 abbrev pub events_in : Standing → List Given → List Event
 events_in s given = map (event_of s) given
@@ -44,7 +44,7 @@ MayDo s given e = MayNext s.starts s.workers s.drivers (events_in s given) e
 abbrev pub fate_now : Standing → List Given → ℕ → Fate
 fate_now s given p = fate_of p Untold (notes s.starts s.driver (events_in s given))
 
--- A closed card is one of the planned ones, without what was prepared. Its own outcome says what befell it, by what
+-- A closed card is one of the planned ones, without what was prepared. Its own outcome says what happened to it, by what
 -- its driver told of it.
 pub record ShowsClose (s : Standing) (given : List Given) (o : Own) (card : CardSeen) : Type 0 where
   pub place : ℕ
@@ -55,19 +55,18 @@ pub record ShowsClose (s : Standing) (given : List Given) (o : Own) (card : Card
   pub shows : ShowsUnread planned o card ⊎ ((h : Heard) × (fate_now s given card.path ≡ Known h)
       × ShowsRead s.required h planned o card)
 
--- A card that was given back was refused by a driver that isn't required.
-pub record ShowsBack (s : Standing) (given : List Given) (card : CardSeen) : Type 0 where
-  pub refused : IsRefusedOneOf s.cards card
+-- A path whose card was handed back was refused by a driver that isn't required.
+pub record ShowsBack (s : Standing) (given : List Given) (path : ℕ) : Type 0 where
   pub free : s.required ≡ false
   pub why : FilterCause
-  pub told : fate_now s given card.path ≡ Known (Refused why)
+  pub told : fate_now s given path ≡ Known (Refused why)
 
 abbrev pub Shows : Standing → List Given → Given → Type 0
 Shows s given (Noted e) = Unit {0}
 Shows s given (Closed o card) = ShowsClose s given o card
-Shows s given (HandedBack card) = ShowsBack s given card
+Shows s given (HandedBack path) = ShowsBack s given path
 
--- each of these shows what befell it
+-- each of these entries shows what happened to its card
 abbrev pub AreShown : Standing → List Given → List Given → Type 0
 AreShown s given [] = Unit {0}
 AreShown s given (g ∷ gs) = Shows s given g × AreShown s given gs
@@ -76,7 +75,7 @@ AreShown s given (g ∷ gs) = Shows s given g × AreShown s given gs
 abbrev pub ended_path : Given → Option ℕ
 ended_path (Noted e) = None
 ended_path (Closed own card) = Some card.path
-ended_path (HandedBack card) = Some card.path
+ended_path (HandedBack path) = Some path
 
 -- how often a card of this path was closed or handed back
 abbrev pub is_path : ℕ → Option ℕ → Bool

@@ -19,18 +19,19 @@ use Rattle.checkout_core.specs.Transcripts.{Item}
 use Rattle.checkout_core.specs.Transcripts as result
 use Rattle.driver_line.specs.Transcripts.{IsTalk}
 use Rattle.driver_line.specs.ToldStarts.{GoBy}
+use Rattle.driver_line.specs.Starters.{IsSameStarter}
 use Rattle.edge_kit.specs.Starters.{Had, StarterSeen}
 
 -- what a recorder was given
 pub data Given : Type 0 where
   Noted : (e : Event) → Given
   Closed : (own : Own) → (card : CardSeen) → Given
-  HandedBack : (card : CardSeen) → Given
+  HandedBack : (path : ℕ) → Given
 
 abbrev pub noted_of : Given → List Event
 noted_of (Noted e) = e ∷ []
 noted_of (Closed own card) = []
-noted_of (HandedBack card) = []
+noted_of (HandedBack path) = []
 
 abbrev pub noted_in : List Given → List Event
 noted_in [] = []
@@ -40,7 +41,7 @@ noted_in (g ∷ gs) = noted_of g ++ noted_in gs
 abbrev pub IfSealed : (ℕ → Option (List ℕ) → Type 0) → Given → Type 0
 IfSealed P (Noted e) = Unit {0}
 IfSealed P (Closed own card) = (m : Mark) → card.leaf.state ≡ Sealed m → P card.path card.leaf.content
-IfSealed P (HandedBack card) = Unit {0}
+IfSealed P (HandedBack path) = Unit {0}
 
 abbrev pub AllSealed : (ℕ → Option (List ℕ) → Type 0) → List Given → Type 0
 AllSealed P [] = Unit {0}
@@ -133,7 +134,7 @@ late_after p (reply.Broken why) late = []
 late_after p reply.NoMemory late = []
 
 -- A desk has served: what its starter keeps grew by a talk that goes by the starts that it tells, and as many of its
--- links are out as before. Its recorder was given just the talk's notes. The results of the talk are a whole talk,
+-- links are out as before. It is the same starter, whose count rose if a start failed. Its recorder was given just the talk's notes. The results of the talk are a whole talk,
 -- case by case. A leaf that was sealed holds the content that the driver gave for its path.
 pub record IsServed (d : ℕ) (paths : Paths) (asked : List ℕ) (starter0 starter : StarterSeen)
     (given0 given : List Given) : Type 0 where
@@ -144,6 +145,7 @@ pub record IsServed (d : ℕ) (paths : Paths) (asked : List ℕ) (starter0 start
   pub kept : starter.had ≡ starter0.had ++ items
   pub starts : GoBy starter0.ahead items starter.ahead
   pub links : starter.out ≡ starter0.out
+  pub stays : IsSameStarter exchanges starter0 starter
   pub talk : IsTalk d paths asked items exchanges
   pub whole : result.IsTalk asked results
   pub same : result.notes_of d results ≡ notes_in d exchanges

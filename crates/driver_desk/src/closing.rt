@@ -12,7 +12,7 @@ ghost use Rattle.edge_kit.specs.declared.leaf_state.LeafState.{LeafState};
 ghost use Rattle.edge_kit.specs.declared.leaf_state.LeafState.TheVariants.{Fresh, Broken, Sealed, Gone};
 ghost use Rattle.filter_proto.specs.Replies.{IsKept};
 ghost use Rattle.driver_desk.specs.Cards.{IsAskedCard, IsUnreadCard};
-ghost use Rattle.driver_desk.specs.Shown.{IsGivenUp, ShowsLeaf};
+ghost use Rattle.driver_desk.specs.Shown.{ShowsUnused, IsGivenUp, ShowsLeaf};
 ghost use Rattle.driver_desk.specs.Recorders.{MayDo, MayDrop, MayEnd, IsEnd, ShowsClose};
 ghost use Rattle.driver_desk.specs.Serving.{AreClosings, NoAnswer};
 
@@ -207,6 +207,17 @@ pub(crate) fn refuse<B: Blob, L: Leaf, C: Recorder<B, L>>(
     }
 }
 
+/// Leaves the leaf of a path whose object gave no content. It is given up if memory ran out.
+fn leave_unread<L: Leaf>(leaf: &mut L, own: Own)
+    requires { (L.seen leaf.old).state ≡ Fresh }
+    ensures path { (L.seen leaf.new).path ≡ (L.seen leaf.old).path }
+    ensures shows { ShowsUnused own (L.seen leaf.old) (L.seen leaf.new) }
+{
+    if let Own::NoMemory = own {
+        let _ = leaf.discard();
+    }
+}
+
 /// Closes a card whose object gave no content. What happened to the object stays, also where its leaf fails.
 pub(crate) fn close_unread<B: Blob, L: Leaf, C: Recorder<B, L>>(
     mut card: Card<B, L>,
@@ -222,6 +233,6 @@ pub(crate) fn close_unread<B: Blob, L: Leaf, C: Recorder<B, L>>(
     ensures standing { C.standing recorder.new ≡ C.standing recorder.old }
     ensures fixed { C.fixed recorder.new ≡ C.fixed recorder.old }
 {
-    let _ = card.leaf.discard();
+    leave_unread(&mut card.leaf, own);
     close(card, recorder, own);
 }

@@ -19,7 +19,10 @@ use crate::rounds::end_talk;
 use crate::serving::{Seat, serve_one};
 use convert_plan::Card;
 use core_laws::laws::a_talk_is_a_transcript;
-use driver_line::{Line, exchanges_are_spelled, exchanges_go_by_the_starts, links_are_given_back};
+use driver_line::{
+    Line, a_starter_stays_the_same, exchanges_are_spelled, exchanges_go_by_the_starts,
+    links_are_given_back,
+};
 use edge_kit::{Blob, Gate, Leaf, Starter};
 use std::alloc::{AllocError, Global};
 use std::collections::VecDeque;
@@ -129,6 +132,7 @@ impl<S: Starter, B: Blob, L: Leaf> Model for Desk<S, B, L> {
     ghost Value = { DeskView };
 
     ghost view = { λ d. record {
+      actor = d.seat.actor;
       driver = d.seat.driver;
       required = d.seat.required;
       starter = S.seen d.starter;
@@ -159,6 +163,7 @@ impl<S: Starter, B: Blob, L: Leaf> Desk<S, B, L> {
         requires rising { IsRising (card_texts (map (λ c. card_seen B.told B.seen L.seen c) cards.items)) }
         requires apart { AreApart (card_paths (map (λ c. card_seen B.told B.seen L.seen c) cards.items)) }
         ensures { IfOk result (λ d. d ≡ record {
+          actor = actor;
           driver = driver;
           required = required;
           starter = S.seen starter;
@@ -197,6 +202,7 @@ impl<S: Starter, B: Blob, L: Leaf> Desk<S, B, L> {
         exchanges_are_spelled();
         exchanges_go_by_the_starts();
         links_are_given_back();
+        a_starter_stays_the_same();
         a_talk_is_a_transcript();
         let Desk {
             alloc,

@@ -1,5 +1,5 @@
 //! What a desk tells of its steps, and whom it gives its cards.
-ghost use Rattle.std.specs.Prelude.{◌≡◌, ◌++◌, ◌+◌, ◌∷◌, [], List, Some, true, false};
+ghost use Rattle.std.specs.Prelude.{◌≡◌, ◌++◌, ◌+◌, ◌∷◌, [], List, Some, None, true, false};
 ghost use Rattle.checkout_core.specs.Actors.{driver_at, driver_in};
 ghost use Rattle.checkout_core.specs.declared.event.Event.TheVariants.{Close, HandBack};
 ghost use Rattle.convert_plan.specs.Card.{card_seen, IsOneOf, IsRefusedOneOf};
@@ -34,9 +34,10 @@ pub trait Recorder<B: Blob, L: Leaf> {
         ensures standing { standing self.new ≡ standing self.old }
         ensures fixed { fixed self.new ≡ fixed self.old };
 
-    /// Takes a card that is through, with what happened to it.
+    /// Takes a card that is through, with what happened to it. What was prepared for it is gone.
     fn close(&mut self, card: Card<B, L>, own: Own)
         requires card { IsOneOf (standing self.old).cards (card_seen B.told B.seen L.seen card) }
+        requires unready { card.ready ≡ None }
         requires next { MayDo (standing self.old) (given self.old)
             (Close card.path ((standing self.old).workers + (standing self.old).driver) own) }
         ensures given { given self.new ≡ given self.old ++ Closed own (card_seen B.told B.seen L.seen card) ∷ [] }
@@ -49,7 +50,7 @@ pub trait Recorder<B: Blob, L: Leaf> {
         requires free { (standing self.old).required ≡ false }
         requires own { driver_at (standing self.old).starts card.path ≡ Some (standing self.old).driver }
         requires next { MayDo (standing self.old) (given self.old) (HandBack card.path) }
-        ensures given { given self.new ≡ given self.old ++ HandedBack (card_seen B.told B.seen L.seen card) ∷ [] }
+        ensures given { given self.new ≡ given self.old ++ HandedBack card.path ∷ [] }
         ensures standing { standing self.new ≡ standing self.old }
         ensures fixed { fixed self.new ≡ fixed self.old };
 }

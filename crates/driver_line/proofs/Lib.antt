@@ -8,4 +8,5 @@ pub mod Matching
 pub mod Lists
 pub mod Links
 pub mod ToldStarts
+pub mod Starters
 pub mod Examples

@@ -2,3 +2,4 @@ pub mod Conversations
 pub mod Lines
 pub mod Transcripts
 pub mod ToldStarts
+pub mod Starters

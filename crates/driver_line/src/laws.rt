@@ -2,6 +2,7 @@ ghost use Rattle.std.specs.Prelude.{◌≡◌, ◌++◌, List, None};
 ghost use Rattle.edge_kit.specs.Starters.{Had};
 ghost use Rattle.driver_line.specs.Conversations.{Exchange};
 ghost use Rattle.driver_line.specs.Lines.{LineView, Paths, RunsTo};
+ghost use Rattle.driver_line.specs.Starters.{IsSameStarter};
 ghost use Rattle.driver_line.specs.ToldStarts.{GoBy};
 ghost use Rattle.driver_line.specs.Transcripts.{HasItems};
 
@@ -16,6 +17,12 @@ pub fn exchanges_are_spelled()
 pub fn links_are_given_back()
     ensures { (paths : Paths) (v w : LineView) (es : List Exchange) → v.session ≡ None → w.session ≡ None
         → RunsTo paths v es w → w.starter.out ≡ v.starter.out }
+{}
+
+/// The starter of a line stays the one that it began with, and its count rises where a start fails.
+pub fn a_starter_stays_the_same()
+    ensures { (paths : Paths) (v w : LineView) (es : List Exchange)
+        → RunsTo paths v es w → IsSameStarter es v.starter w.starter }
 {}
 
 /// What the starter of a line keeps of the exchanges goes by the starts that it tells.

@@ -7,5 +7,8 @@
 mod laws;
 mod line;
 
-pub use laws::{exchanges_are_spelled, exchanges_go_by_the_starts, links_are_given_back};
+pub use laws::{
+    a_starter_stays_the_same, exchanges_are_spelled, exchanges_go_by_the_starts,
+    links_are_given_back,
+};
 pub use line::{Line, Start};

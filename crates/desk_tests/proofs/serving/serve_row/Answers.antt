@@ -16,7 +16,7 @@ pub serve-served-requires-clause-dealt : goal.serve-served-requires-clause-dealt
 serve-served-requires-clause-dealt g c κs within =
     let d = c.in_ok-desk.ensures in
     let l = c.new-ledger.ensures in
-    dealt _ _ c.args.row.now.required refl (ap (λ (v : DeskView). v.driver) d) l.required (ap (λ (v : DeskView). v.required) d) refl
+    dealt _ _ c.args.row.now.required refl (ap (λ (v : DeskView). v.actor) d) refl (ap (λ (v : DeskView). v.driver) d) l.required (ap (λ (v : DeskView). v.required) d) refl
     (l.starts ∙ c.in_ok-starts.ensures.items)
     (ap (map _) (ap (λ (p : Snapshot (Vec (Card Source Sheet))). p.value.items) l.planned ∙ ap (λ (v : Vec (Card Source Sheet)). v.items) c.of.ensures) ∙ sym (ap (λ (v : DeskView). v.cards) d))
     (ap (λ (v : DeskView). card_paths v.cards) d ∙ c.in_ok-cards.ensures.paths)

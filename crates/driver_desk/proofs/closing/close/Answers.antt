@@ -5,6 +5,9 @@ use Rattle.driver_desk.proofs.closing.close.Goals as goal
 pub close-requires-clause-card : goal.close-requires-clause-card
 close-requires-clause-card g c = let h = c.requires.shows in (h.place, h.planned, h.here, h.same)
 
+pub close-requires-clause-unready : goal.close-requires-clause-unready
+close-requires-clause-unready g c = refl
+
 pub returns-clause-ends : goal.returns-clause-ends
 returns-clause-ends g c = record { last = Closed c.args.own _; more = c.close.ensures.given; path = refl; may = c.requires.next; shows = c.requires.shows }
 

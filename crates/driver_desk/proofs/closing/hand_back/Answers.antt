@@ -34,7 +34,7 @@ returns-in-Ok-clause-ends g c =
       more = c.hand_back.ensures.given;
       path = refl;
       may = m.1.back m.0 refl c.requires.free;
-      shows = record { refused = refused_one _ _ _ _ c.requires.asked c.requires.free c.in-Ok.ensures; free = c.requires.free; why = m.0; told = m.1.told };
+      shows = record { free = c.requires.free; why = m.0; told = m.1.told };
     }
 
 pub returns-in-Ok-clause-closed : goal.returns-in-Ok-clause-closed

@@ -12,4 +12,4 @@ invariant_of-result g c = record {
 }
 
 pub returns : goal.returns
-returns g c = ap (λ (x : List (Card g.row.B.Denot g.row.L.Denot)). record { driver = c.args.driver; required = c.args.required; starter = g.S.Starter.seen c.args.starter; cards = map (λ (k : Card g.row.B.Denot g.row.L.Denot). card_seen g.B.Blob.told g.B.Blob.seen g.L.Leaf.seen k) x }) c.from_vec.ensures.items
+returns g c = ap (λ (x : List (Card g.row.B.Denot g.row.L.Denot)). record { actor = c.args.actor; driver = c.args.driver; required = c.args.required; starter = g.S.Starter.seen c.args.starter; cards = map (λ (k : Card g.row.B.Denot g.row.L.Denot). card_seen g.B.Blob.told g.B.Blob.seen g.L.Leaf.seen k) x }) c.from_vec.ensures.items
