@@ -1,4 +1,4 @@
-// Books from their begin to their end.
+// Books from their beginning to their end.
 ghost use Rattle.std.specs.Prelude.{◌≡◌, ◌+◌, IfOk, IfSome};
 ghost use Rattle.convert_plan.specs.Card.{IsNewCard};
 ghost use Rattle.checkout_book.specs.declared.plan.Plan.{Plan};

@@ -2,8 +2,7 @@
 use Rattle.std.proofs.Common.{◌≡◌, ℕ, zero, suc, ◌+◌, ◌<◌, ◌≤◌, ◌^◌, ◌⊎◌, inl, inr, ⊎_elim, Bool, true, false, List}
 use Rattle.std.proofs.Common.{[], ◌∷◌}
 use Rattle.std.proofs.Common.{set, length, length-set, Option, Some, refl, sym, ap, ◌∙◌, subst, arith, All}
-use Rattle.std.specs.Prelude.{◌-◌, slice_get, slice_index_or, Result, Ok, Err, OnOk}
-use Rattle.std.specs.Result.{is_ok}
+use Rattle.std.specs.Prelude.{◌-◌, slice_get, slice_index_or}
 use mathlib.Core.Logic.{dite}
 use native.Mathlib.Decide.{ℕ_discrete}
 use Rattle.std.specs.List.{Contains}
@@ -12,7 +11,9 @@ use Rattle.std.specs.Ordering.{nat_cmp}
 use Rattle.std.specs.BinaryHeap.{IsHeap, IsUpperBound}
 use Rattle.std.proofs.lemmas.List.Elements.{All-nil, All-cons, All-head, All-tail}
 use Rattle.std.proofs.lemmas.List.Sorted.{All-permutation, Contains-permutation, le_from_greatest}
+use Rattle.std.proofs.lemmas.List.Sorted.{length_permutation}
 use Rattle.checkout_book.specs.Waitings.{NoneBelow, NoneIs, IsLowest, IsKept}
+use Rattle.checkout_book.proofs.Counting.{one_more, one_fewer, as_many, at_most}
 
 get_set_same : {A : Type 0} (xs : List A) (i : ℕ) (y : A) → i < length xs → slice_get (set xs i y) i ≡ Some y
 get_set_same [] i y l = absurd (omega arith)
@@ -65,6 +66,7 @@ passed_over flags next heap rest k kept perm ordered flag =
       looked = kept.looked;
       ordered = ordered;
       below = All-tail (Below next) k rest (All-permutation (Below next) heap (k ∷ rest) perm kept.below);
+      counted = omega (arith, length_permutation heap (k ∷ rest) perm, kept.counted);
       all = λ q j lt s at. ⊎_elim
           (λ (e : k ≡ j). let same : q ≡ p = omega (arith, e, sum, s) in
           true_false (slice_get flags p) (ap (slice_get flags) (sym same) ∙ at) flag)
@@ -96,6 +98,8 @@ lowest_popped flags next heap rest k kept perm ordered greatest flag =
         looked = omega (arith, length-set flags p false, kept.looked);
         ordered = ordered;
         below = All-tail (Below next) k rest all;
+        counted =
+            omega (arith, length_permutation heap (k ∷ rest) perm, kept.counted, one_fewer next flags p flag lt);
         all = λ q j l s at. dite (ℕ_discrete q p)
             (λ same. true_false (slice_get (set flags p false) p) (ap (slice_get (set flags p false)) (sym same) ∙ at)
             (get_set_same flags p false there))
@@ -119,13 +123,15 @@ lowest_popped flags next heap rest k kept perm ordered greatest flag =
 -- a path that comes back, and one that is still to be looked at
 pub came_back : (flags : List Bool) (next : ℕ) (heap more : List ℕ) (k p : ℕ) → IsKept flags next heap
     → IsPermutation (k ∷ heap) more → IsHeap nat_cmp more → p + k ≡ 4294967295 → p < next
-    → IsKept (set flags p true) next more
-came_back flags next heap more k p kept perm ordered sum lt = record {
+    → slice_get flags p ≡ Some false → IsKept (set flags p true) next more
+came_back flags next heap more k p kept perm ordered sum lt clear = record {
   few = omega (arith, length-set flags p true, kept.few);
   looked = omega (arith, length-set flags p true, kept.looked);
   ordered = ordered;
   below = All-permutation (Below next) (k ∷ heap) more perm
       (All-cons (Below next) k heap (omega (arith, sum), omega (arith, sum, lt)) kept.below);
+  counted =
+      omega (arith, length_permutation (k ∷ heap) more perm, kept.counted, one_more next flags p clear lt);
   all = λ q j l s at. dite (ℕ_discrete q p)
       (λ same. let e : j ≡ k = omega (arith, same, s, sum) in
       subst (Contains more) (sym e) (Contains-permutation (k ∷ heap) more k perm (contains_first k heap)))
@@ -140,8 +146,20 @@ comes_later flags next heap p kept le = record {
   looked = omega (arith, length-set flags p true, kept.looked);
   ordered = kept.ordered;
   below = kept.below;
+  counted = omega (arith, kept.counted, as_many next flags p true le);
   all = λ q j l s at. kept.all q j l s (sym (get_set_other flags p q true (λ e. omega (arith, e, l, le))) ∙ at);
 }
+
+-- before a path comes back, fewer came back than were looked at
+pub fewer_back : (flags : List Bool) (next : ℕ) (heap : List ℕ) (p : ℕ) → IsKept flags next heap → p < next
+    → slice_get flags p ≡ Some false → length heap < length flags
+fewer_back flags next heap p kept lt clear = omega (
+  arith,
+  kept.counted,
+  kept.looked,
+  one_more next flags p clear lt,
+  at_most next (set flags p true),
+)
 
 -- where none came back, none that was looked at waits
 looked_none : (flags : List Bool) (next : ℕ) → IsKept flags next [] → NoneBelow flags next
@@ -169,6 +187,7 @@ looked_on flags next found kept le none = record {
   looked = le;
   ordered = kept.ordered;
   below = All-nil (Below found);
+  counted = omega arith;
   all = λ q j l s at. true_false (slice_get flags q) at (at ∙ ap (λ b. Some b) (none q true l at));
 }
 
@@ -188,6 +207,7 @@ taken_next flags next found kept lt none = record {
   looked = omega (arith, length-set flags found false, lt);
   ordered = kept.ordered;
   below = All-nil (Below found);
+  counted = omega arith;
   all = λ q j l s at.
       let old : slice_get flags q ≡ Some true = sym (get_set_other flags found q false (λ e. omega (arith, e, l))) ∙
       at in
@@ -199,7 +219,3 @@ pub popped_within : (flags : List Bool) (next : ℕ) (heap rest : List ℕ) (k :
 popped_within flags next heap rest k kept perm =
     let head = All-head (Below next) k rest (All-permutation (Below next) heap (k ∷ rest) perm kept.below) in
     omega (arith, head.0, head.1, kept.looked)
-
-pub on_ok : {X Y : Type 0} (P : Type 0) (r : Result X Y) → is_ok r ≡ true → OnOk r P → P
-on_ok P (Ok x) e h = h
-on_ok P (Err y) e h = absurd (cc (e))

@@ -1,6 +1,7 @@
 pub mod CoreLaws
 pub mod Lists
 pub mod Flags
+pub mod Counting
 pub mod Keeping
 pub mod Runs
 pub mod Entries

@@ -71,7 +71,7 @@ pub fn close<B: Blob, L: Leaf, H: Wait>(
     laws::a_close_closes_its_path();
     turn_lock::laws::a_turn_keeps_a_seat::<Shelf<B, L>>();
     let actor = pass.number();
-    // What the book doesn't keep goes before the turn.
+    // What the book doesn't keep is dropped at the end, after the turn.
     let Card {
         path,
         blob,

@@ -1,4 +1,4 @@
-// A book at its begin and at its end.
+// A book at its beginning and at its end.
 ghost use Rattle.std.specs.Prelude.{◌≡◌, ◌≤◌, ◌<◌, ◌+◌, ◌++◌, ◌^◌, ℕ, Some, length, slice_get, map, IfOk};
 ghost use Rattle.convert_plan.specs.declared.card.Card.{Card};
 ghost use Rattle.checkout_core.specs.States.{AreBelow};
@@ -106,7 +106,7 @@ fn begin<B: Blob, L: Leaf>(
     let core = State::start(alloc, starts, workers, drivers)?;
     let slots = place(slots, pool);
     let flags = flags_of(alloc, slots.as_slice())?;
-    let waiting = Waiting::reserve(alloc, flags, paths)?;
+    let waiting = Waiting::reserve(alloc, flags)?;
     let value = Rack {
         core,
         events,

@@ -70,7 +70,10 @@ impl<B: Blob, L: Leaf> Shelf<B, L> {
         laws::a_history_is_short();
         let closed = Event::Close { path, actor, own };
         take(&mut self.core, closed);
-        drop(mem::replace(&mut self.slots[path as usize], Slot::Ended(blob, leaf)));
+        let Slot::Away = mem::replace(&mut self.slots[path as usize], Slot::Ended(blob, leaf))
+        else {
+            unreachable!()
+        };
         self.events.push_reserved(closed);
     }
 
@@ -106,7 +109,9 @@ impl<B: Blob, L: Leaf> Shelf<B, L> {
         let path = card.path;
         let handed = Event::HandBack { path };
         take(&mut self.core, handed);
-        drop(mem::replace(&mut self.slots[path as usize], Slot::Waits(card)));
+        let Slot::Away = mem::replace(&mut self.slots[path as usize], Slot::Waits(card)) else {
+            unreachable!()
+        };
         self.waiting.put_back(path);
         self.events.push_reserved(handed);
     }

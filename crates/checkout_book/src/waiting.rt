@@ -1,7 +1,7 @@
 // Which paths have a card that waits.
 ghost use Rattle.std.specs.Prelude.{◌≡◌, ◌+◌, ◌<◌, ◌≤◌, ◌^◌, [], ℕ, true, false, Some, length, slice_get, slice_set};
 ghost use Rattle.std.specs.Prelude.{IfSome, IfNone, IfOk, MatchOption};
-ghost use Rattle.std.specs.BinaryHeap.{heap_items};
+ghost use Rattle.std.specs.BinaryHeap.{heap_items, heap_capacity};
 ghost use Rattle.checkout_book.specs.Waitings.{IsLowest, NoneIs, IsKept};
 
 use std::alloc::{AllocError, Global};
@@ -12,22 +12,24 @@ use std::marker::Model;
 #[derive(Drop)]
 pub struct Waiting {
     flags: Vec<bool>,
-    /// The first path that was never looked at. It never goes back where there is room for those that are returned.
+    /// The first path that was never looked at. It never goes back.
     next: u32,
     /// The paths below it that wait again, each taken from the highest `u32`, so that the lowest comes first.
+    /// There is room for one of each path.
     returned: BinaryHeap<u32>,
 }
 
 impl Model for Waiting {
-    ghost use Rattle.std.specs.Prelude.{Bool, List};
-    ghost use Rattle.std.specs.BinaryHeap.{heap_items};
+    ghost use Rattle.std.specs.Prelude.{◌≤◌, Bool, List, length};
+    ghost use Rattle.std.specs.BinaryHeap.{heap_items, heap_capacity};
     ghost use Rattle.checkout_book.specs.Waitings.{IsKept};
 
     ghost Value = { List Bool };
 
     ghost view = { λ s. s.flags.items };
 
-    ghost invariant = { λ s. IsKept s.flags.items s.next (heap_items s.returned) };
+    ghost invariant = { λ s. IsKept s.flags.items s.next (heap_items s.returned)
+        × (length s.flags.items ≤ heap_capacity s.returned) };
 }
 
 /// The first flag from this place on that is set, or the number of flags.
@@ -50,6 +52,7 @@ fn first_from(flags: &[bool], from: u32) -> u32
 /// The lowest of the paths that wait again.
 fn pop_returned(flags: &[bool], next: u32, returned: &mut BinaryHeap<u32>) -> Option<u32>
     requires { IsKept flags.now next (heap_items returned.old) }
+    ensures capacity { heap_capacity returned.new ≡ heap_capacity returned.old }
     ensures none { IfNone result (IsKept flags.now next (heap_items returned.new)
         × (heap_items returned.new ≡ [])) }
     ensures some { IfSome result (λ p. (p < next) × IsLowest flags.now p
@@ -65,16 +68,12 @@ fn pop_returned(flags: &[bool], next: u32, returned: &mut BinaryHeap<u32>) -> Op
 }
 
 impl Waiting {
-    /// These flags, of fewer than 2^32 paths. It takes room for so many paths that wait again.
-    pub(crate) fn reserve(
-        alloc: Global,
-        flags: Vec<bool>,
-        room: usize,
-    ) -> Result<Waiting, AllocError>
+    /// These flags, of fewer than 2^32 paths. It takes room for all of them to wait again.
+    pub(crate) fn reserve(alloc: Global, flags: Vec<bool>) -> Result<Waiting, AllocError>
         requires { length flags.items < 2 ^ 32 }
         ensures { IfOk result (λ w. w ≡ flags.items) }
     {
-        let returned = BinaryHeap::with_capacity(alloc, room)?;
+        let returned = BinaryHeap::with_capacity(alloc, flags.len())?;
         Ok(Waiting {
             flags,
             next: 0,
@@ -100,21 +99,18 @@ impl Waiting {
         Some(found)
     }
 
-    /// Has the path wait again. It takes no memory.
+    /// Has a path that doesn't wait wait again. It takes no memory.
     pub(crate) fn put_back(&mut self, path: u32)
-        requires { path < length self.old }
+        requires { slice_get self.old path ≡ Some false }
         ensures { self.new ≡ slice_set self.old path true }
     {
         self.flags[path as usize] = true;
         if path >= self.next {
             return;
         }
-        let room = self.returned.len() < self.returned.capacity();
-        if room && self.returned.push(u32::MAX - path).is_ok() {
-            return;
-        }
-        // Each path comes back once at most, so there is room. Without it all are looked at again.
-        self.returned.clear();
-        self.next = 0;
+        // Those that are returned are fewer than the paths below `next`, so there is room.
+        let Ok(()) = self.returned.push(u32::MAX - path) else {
+            unreachable!()
+        };
     }
 }

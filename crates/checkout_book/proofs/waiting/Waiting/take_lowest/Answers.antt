@@ -1,4 +1,4 @@
-use Rattle.std.proofs.Common.{◌≡◌, ◌<◌, ◌≤◌, ℕ, false, Some, [], sym, ap, ◌∙◌, subst, arith, length, set}
+use Rattle.std.proofs.Common.{◌≡◌, ◌<◌, ◌≤◌, ℕ, false, Some, [], sym, ap, ◌∙◌, subst, arith, length, set, length-set}
 use Rattle.std.specs.Prelude.{slice_get}
 use Rattle.std.specs.BinaryHeap.{heap_items}
 use Rattle.checkout_book.specs.Waitings.{IsKept, NoneBelow}
@@ -20,9 +20,11 @@ invariant_of-self-then-found-len c =
       c.first_from-found.ensures.range.1,
       ap length
           c.as_slice-2.ensures.value,
-    ) in
-    subst (λ h. IsKept flags found h) (sym n.1) (looked_on flags next found kept le (first_found flags next found
-    kept before))
+    ) in (
+      subst (λ h. IsKept flags found h) (sym n.1) (looked_on flags next found kept le (first_found flags next found
+          kept before)),
+      omega (arith, c.self.invariant.1, c.pop_returned.ensures.capacity),
+    )
 
 pub returns-then-found-len-clause-none : goal.returns-then-found-len-clause-none
 returns-then-found-len-clause-none c =
@@ -56,9 +58,11 @@ invariant_of-self-2 c =
           c.as_slice-2.ensures.value,
       c.len.ensures,
       c.self.inside.flags.ok.0,
-    ) in
-    subst (λ h. IsKept (set flags found false) found h) (sym n.1) (taken_next flags next found kept lt (first_found
-    flags next found kept before))
+    ) in (
+      subst (λ h. IsKept (set flags found false) found h) (sym n.1) (taken_next flags next found kept lt (first_found
+          flags next found kept before)),
+      omega (arith, length-set flags found false, c.self.invariant.1, c.pop_returned.ensures.capacity),
+    )
 
 pub returns-clause-some : goal.returns-clause-some
 returns-clause-some c =
