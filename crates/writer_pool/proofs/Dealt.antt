@@ -74,7 +74,7 @@ same_first ps more true (suc i) zero p e f = absurd (not_behind ps i p (let is :
 same_first ps more true (suc i) (suc j) p e f = ap suc (both_behind ps more i j p e f)
 same_first ps more false i j p e f = both_behind ps more i j p e f
 
-same_place : (d : ℕ) (starts : List Start) (i j p : ℕ) → slice_get (paths_of d starts) i ≡ Some p
+pub same_place : (d : ℕ) (starts : List Start) (i j p : ℕ) → slice_get (paths_of d starts) i ≡ Some p
     → slice_get (paths_of d starts) j ≡ Some p → i ≡ j
 same_place d [] i j p e f = absurd (cc (e))
 same_place d (s ∷ ss) i j p e f =

@@ -9,3 +9,4 @@ pub mod Verdicts
 pub mod Quieting
 pub mod Outcomes
 pub mod Alone
+pub mod Recordings

@@ -3,3 +3,4 @@ pub mod Working
 pub mod Rooms
 pub mod Ends
 pub mod Pools
+pub mod OnBook

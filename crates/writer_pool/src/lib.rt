@@ -3,6 +3,7 @@
 
 mod ending;
 mod leaf;
+mod on_book;
 mod path_ends;
 mod pool;
 mod pooled;
@@ -11,6 +12,7 @@ mod run;
 mod workers;
 mod writing;
 
+pub use on_book::OnBook;
 pub use path_ends::PathEnds;
 pub use pool::run_workers;
 pub use pooled::{DeskSeed, Pooled};

@@ -1,0 +1,101 @@
+-- The recorder over a book: for whom it stands and what it was given, as its pass tells.
+use Rattle.std.specs.Prelude.{◌==◌, ℕ, ◌-◌, ◌≤◌, Bool, cond, List, [], ◌∷◌, map, Option, Some, None, slice_get}
+use Rattle.std.specs.Global.{Vec}
+use Rattle.atomic_table.specs.Seated.{TableId}
+use Rattle.turn_lock.specs.Seat.{SeatView, mine_of, told_of, number_of, made_of}
+use Rattle.convert_plan.specs.declared.card.Card.{Card}
+use Rattle.convert_plan.specs.Card.{CardSeen}
+use Rattle.checkout_core.specs.declared.event.Event.{Event}
+use Rattle.checkout_core.specs.declared.event.Event.TheVariants.{Close, HandBack}
+use Rattle.checkout_core.specs.declared.verdict.Own.{Own}
+use Rattle.checkout_core.specs.States.{Core}
+use Rattle.checkout_book.specs.declared.plan.Plan.{Plan}
+use Rattle.checkout_book.specs.declared.plan.Parts.{Parts}
+use Rattle.checkout_book.specs.declared.plan.Entry.{Entry}
+use Rattle.checkout_book.specs.Sights.{Sight, seen}
+use Rattle.checkout_book.specs.Passes.{IsPass}
+use Rattle.checkout_book.specs.Reserving.{AreDealt}
+use Rattle.driver_desk.specs.Recorders.{Standing}
+use Rattle.driver_desk.specs.Serving.{Given, Noted, Closed, HandedBack}
+use Rattle.writer_pool.specs.Working.{blob_in, leaf_in}
+
+-- the first card of this path
+abbrev pub card_of : ℕ → List CardSeen → Option CardSeen
+card_of p [] = None
+card_of p (c ∷ cs) = cond (c.path == p) (Some c) (card_of p cs)
+
+-- the planned card as it was closed: with the blob and the leaf of the entry, and with nothing prepared
+abbrev pub closed_card : Parts → CardSeen → CardSeen
+closed_card x card = record card { blob = blob_in x; leaf = leaf_in x; ready = None }
+
+abbrev pub closed_by : Event → Own → Parts → Option CardSeen → Given
+closed_by e o x None = Noted e
+closed_by e o x (Some card) = Closed o (closed_card x card)
+
+-- an entry of the pass's own list, as what was given
+abbrev pub given_by : List CardSeen → Event → Option Parts → Given
+given_by cards (Close p a o) (Some x) = closed_by (Close p a o) o x (card_of p cards)
+given_by cards (HandBack p) x = HandedBack p
+given_by cards e x = Noted e
+
+abbrev pub given_in : List CardSeen → List Entry → List Given
+given_in cards es = map (λ e. given_by cards e.event e.parts) es
+
+-- the pass, and whether its driver is required
+pub record Recording (B L : Type 0) : Type 0 where
+  pub pass : SeatView Entry (Plan B L)
+  pub required : Bool
+
+-- what no call changes: the lock, the plan and the numbers of the pass
+pub record Place (B L : Type 0) : Type 0 where
+  pub lock : TableId
+  pub plan : Option (Plan B L)
+  pub number : ℕ
+  pub made : ℕ
+
+module _ {B L : Type 0} where
+  abbrev pub place_of : Recording B L → Place B L
+  place_of r = record { lock = r.pass.lock; plan = told_of r.pass; number = number_of r.pass; made = made_of r.pass }
+
+  abbrev pub items_of : Option (Vec (Card B L)) → List (Card B L)
+  items_of None = []
+  items_of (Some v) = v.items
+
+  -- the planned cards of a driver
+  abbrev pub desk_cards : Plan B L → ℕ → List (Card B L)
+  desk_cards d q = items_of (slice_get d.desks.items q)
+
+  -- The pass of a desk, which isn't inside. Its book deals each driver the cards of the driver's paths.
+  pub record IsDeskPass (lock : TableId) (s : SeatView Entry (Plan B L)) : Type 0 where
+    pub plan : Plan B L
+    pub made : ℕ
+    pub core : Core
+    pub pass : IsPass lock plan (number_of s) made s core
+    pub desk : plan.workers ≤ number_of s
+    pub dealt : AreDealt plan.starts.items 0 plan.desks.items
+
+module _ {B L : Type 0} (see : Sight B L) where
+  -- the desks come after the workers
+  abbrev pub standing_at : Option (Plan B L) → ℕ → Bool → Standing
+  standing_at None n required = record {
+    starts = [];
+    workers = 0;
+    drivers = 0;
+    driver = n;
+    required = required;
+    cards = [];
+  }
+  standing_at (Some d) n required = record {
+    starts = d.starts.items;
+    workers = d.workers;
+    drivers = d.drivers;
+    driver = n - d.workers;
+    required = required;
+    cards = map (λ c. seen see c) (desk_cards d (n - d.workers));
+  }
+
+  abbrev pub standing_of : Recording B L → Standing
+  standing_of r = standing_at (told_of r.pass) (number_of r.pass) r.required
+
+  abbrev pub given_of : Recording B L → List Given
+  given_of r = given_in (standing_of r).cards (mine_of r.pass)
