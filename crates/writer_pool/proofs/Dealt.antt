@@ -44,7 +44,7 @@ starts_first d s ss ps more false at i p e =
     let b = get_map_back (λ (n : ℕ). suc n) ps i p e in
     starts_behind d s ss p b.0 b.2 (more i b.0 b.1)
 
-starts_at : (d : ℕ) (starts : List Start) (i p : ℕ) → slice_get (paths_of d starts) i ≡ Some p → StartsAt d starts p
+pub starts_at : (d : ℕ) (starts : List Start) (i p : ℕ) → slice_get (paths_of d starts) i ≡ Some p → StartsAt d starts p
 starts_at d [] i p e = absurd (cc (e))
 starts_at d (s ∷ ss) i p e =
     starts_first d s ss (paths_of d ss) (λ j q f. starts_at d ss j q f) (is_at d s) refl i p e

@@ -10,3 +10,4 @@ pub mod Quieting
 pub mod Outcomes
 pub mod Alone
 pub mod Recordings
+pub mod DeskActing

@@ -14,8 +14,11 @@ use Rattle.checkout_core.specs.declared.event.Event.{Event}
 use Rattle.checkout_core.specs.declared.event.Event.TheVariants as ev
 use Rattle.checkout_core.specs.declared.event.Event.TheVariants.{Close, HandBack}
 use Rattle.checkout_core.specs.States.{Core}
+use Rattle.checkout_core.specs.declared.path.Start.TheVariants as start
+use Rattle.checkout_core.specs.States.{is_at}
+use Rattle.checkout_core.specs.Hands.{held_at}
 use Rattle.checkout_core.specs.Steps.{IsLegal}
-use Rattle.checkout_core.specs.Actors.{actor_of, own_entries, is_claim, is_step, driver_in, driver_at, seat}
+use Rattle.checkout_core.specs.Actors.{actor_of, own_entries, is_claim, is_step, driver_in, driver_at, seat, own_driver}
 use Rattle.checkout_core.specs.Desks.{MayNext, paths_of}
 use Rattle.core_laws.specs.Moves.{is_noted}
 use Rattle.checkout_book.specs.declared.plan.Plan.{Plan}
@@ -29,9 +32,9 @@ use Rattle.checkout_book.specs.Reserving.{AreDealt}
 use Rattle.driver_desk.specs.Recorders.{Standing, event_of, events_in, MayDo}
 use Rattle.driver_desk.specs.Serving.{Given, Noted, Closed, HandedBack}
 use Rattle.writer_pool.specs.Working.{own_events}
-use Rattle.writer_pool.specs.OnBook.{card_of, closed_by, given_by, given_in, Recording, place_of, items_of, desk_cards, IsDeskPass, standing_at, standing_of, given_of}
+use Rattle.writer_pool.specs.OnBook.{card_of, closed_by, given_by, given_in, ClosesOwn, CloseOwn, Recording, place_of, items_of, desk_cards, IsDeskPass, standing_at, standing_of, given_of}
 use Rattle.writer_pool.proofs.Places.{some_is, same_number, eqb_self, get_map, get_map_back, get_front}
-use Rattle.writer_pool.proofs.Dealt.{same_place}
+use Rattle.writer_pool.proofs.Dealt.{same_place, starts_at}
 
 -- the entries are the actor's
 abbrev AllBy : List Start → ℕ → ℕ → List Entry → Type 0
@@ -150,6 +153,10 @@ note_free (ev.Listed d y) is = refl
 note_free (ev.Redone p y) is = refl
 note_free (ev.Shut d) is = refl
 
+drops : (b x : Bool) → x ≡ false → cond b false x ≡ false
+drops true x e = refl
+drops false x e = e
+
 -- what may follow an actor's own entries is a step
 abbrev pub FollowIsStep : Type 0
 FollowIsStep = (starts : List Start) (workers drivers a : ℕ) (history : List Event) (x : Core) (e : Event)
@@ -161,6 +168,35 @@ abbrev pub ListsOwn : Type 0 → Type 0 → Type 0
 ListsOwn B L = (lock : TableId) (d : Plan B L) (n made : ℕ) (pass : SeatView Entry (Plan B L)) (c : Core)
     → IsPass lock d n made pass c
     → own_entries d.starts.items d.workers n (events_of (seen_of pass)) ≡ map (λ e. e.event) (mine_of pass)
+
+own_more : (starts : List Start) (q : ℕ) (xs : List Entry) (e : Entry) → CloseOwn starts q xs
+    → ClosesOwn starts q e.event → CloseOwn starts q (xs ++ e ∷ [])
+own_more starts q [] e all last = (last, tt)
+own_more starts q (x ∷ xs) e all last = (all.0, own_more starts q xs e all.1 last)
+
+note_own : (starts : List Start) (q : ℕ) (e : Event) → is_noted e ≡ true → ClosesOwn starts q e
+note_own starts q (ev.Claim p a) is = tt
+note_own starts q (Close p a o) is = absurd (cc (is))
+note_own starts q (HandBack p) is = tt
+note_own starts q (ev.Opened d c) is = tt
+note_own starts q (ev.OpenFailed p o) is = tt
+note_own starts q (ev.Answered p y) is = tt
+note_own starts q (ev.Named p) is = tt
+note_own starts q (ev.Listed d y) is = tt
+note_own starts q (ev.Redone p y) is = tt
+note_own starts q (ev.Shut d) is = tt
+
+driver_is : (q : ℕ) (s : Start) → is_at q s ≡ true → own_driver s ≡ Some q
+driver_is q start.Pool at = absurd (cc (at))
+driver_is q (start.Done v) at = absurd (cc (at))
+driver_is q (start.Desk d r) at = ap (λ (k : ℕ). Some k) (sym (same_number q d at))
+
+-- a path of a driver
+path_driver : (q : ℕ) (starts : List Start) (i p : ℕ) → slice_get (paths_of q starts) i ≡ Some p
+    → driver_at starts p ≡ Some q
+path_driver q starts i p e =
+    let s = starts_at q starts i p e in
+    ap (λ (o : Option Start). elim o [ None ↦ None | Some s ↦ own_driver s ]) s.there ∙ driver_is q s.start s.at
 
 get_second : {A : Type 0} (xs ys : List A) (i : ℕ) → slice_get (xs ++ ys) (length xs + i) ≡ slice_get ys i
 get_second [] ys i = ap (slice_get ys) (omega arith)
@@ -216,6 +252,17 @@ module _ {B L : Type 0} (see : Sight B L) where
       let place : i ≡ j = same_place q d.starts.items i j x.path first second in
       some_is x y (sym e ∙ (ap (slice_get cards) place ∙ f))
 
+  close_own : (d : Plan B L) (q : ℕ) (card : Card B L) → AreDealt d.starts.items 0 d.desks.items
+      → IsOneOf (map (λ c. seen see c) (desk_cards d q)) (seen see card) → driver_at d.starts.items card.path ≡ Some q
+  close_own d q card dealt of =
+      let n : 0 + q ≡ q = omega arith in
+      let b = get_map_back (λ (c : Card B L). seen see c) (desk_cards d q) of.0 of.1 of.2 in
+      let path : b.0.path ≡ card.path =
+      ap (λ (c : CardSeen). c.path) b.2 ∙ sym (ap (λ (c : CardSeen). c.path) of.3) in
+      let there = subst (λ (z : ℕ). slice_get (paths_of z d.starts.items) of.0 ≡ Some b.0.path) n
+      (dealt_at d.starts.items 0 d.desks.items q of.0 b.0 dealt b.1) in
+      path_driver q d.starts.items of.0 card.path (there ∙ ap (λ (p : ℕ). Some p) path)
+
   -- a card that is closed is given whole
   closed_whole : (planned card : CardSeen) → IsCardOf planned card → card.ready ≡ None
       → record planned { blob = card.blob; leaf = card.leaf; ready = None } ≡ card
@@ -253,9 +300,11 @@ module _ {B L : Type 0} (see : Sight B L) where
 
   after : (lock : TableId) (s t : SeatView Entry (Plan B L)) (required : Bool) (g : Given) (i : IsDeskPass lock s)
       (c : Core) (e : Entry) → IsPass lock i.plan (number_of s) i.made t c → mine_of t ≡ mine_of s ++ e ∷ []
+      → ((q : ℕ) → held_at c (number_of s) q ≡ false)
+      → ClosesOwn i.plan.starts.items (number_of s - i.plan.workers) e.event
       → given_by (map (λ c. seen see c) (desk_cards i.plan (number_of s - i.plan.workers))) e.event e.parts ≡ g
       → After lock (record { pass = s; required = required }) t required g
-  after lock s t required g i c e pass mine is =
+  after lock s t required g i c e pass mine hands own is =
       let d = i.plan in
       let told : told_of t ≡ told_of s = pass.seat.told ∙ sym i.pass.seat.told in
       let number : number_of t ≡ number_of s = pass.seat.named in
@@ -274,6 +323,10 @@ module _ {B L : Type 0} (see : Sight B L) where
           pass = subst (λ (n : ℕ). IsPass lock d n i.made t c) (sym number) pass;
           desk = subst (λ (n : ℕ). d.workers ≤ n) (sym number) i.desk;
           dealt = i.dealt;
+          hands = subst (λ (n : ℕ). (q : ℕ) → held_at c n q ≡ false) (sym number) hands;
+          own = subst (λ (n : ℕ). CloseOwn d.starts.items (n - d.workers) (mine_of t)) (sym number)
+              (subst (CloseOwn d.starts.items (number_of s - d.workers)) (sym mine)
+              (own_more d.starts.items (number_of s - d.workers) (mine_of s) e i.own own));
         };
         given = ap (λ (x : Standing). given_in x.cards (mine_of t)) standing
             ∙ (ap (λ (l : List Entry). given_in cards0 l) mine
@@ -329,6 +382,7 @@ module _ {B L : Type 0} (see : Sight B L) where
       → After lock (record { pass = s; required = required }) t required (Noted e)
   after_note lock s t required i e is k =
       after lock s t required (Noted e) i k.core (note_entry e) k.turn.pass k.mine
+      (λ q. k.hands q ∙ i.hands q) (note_own i.plan.starts.items (number_of s - i.plan.workers) e is)
       (noted_given (map (λ (c : Card B L). seen see c) (desk_cards i.plan (number_of s - i.plan.workers))) e is)
 
   close_step : FollowIsStep → ListsOwn B L → (lock : TableId) (s : SeatView Entry (Plan B L)) (required : Bool)
@@ -367,6 +421,8 @@ module _ {B L : Type 0} (see : Sight B L) where
       let of = subst (λ (x : Standing). IsOneOf x.cards (seen see card)) (standing_is lock s required i) of0 in
       after lock s t required (Closed o (seen see card)) i k.core
       (close_entry card.path (number_of s) o (tell see card.blob card.leaf)) k.turn.pass k.mine
+      (λ r. k.hands r ∙ drops (r == card.path) (held_at i.core (number_of s) r) (i.hands r))
+      (close_own i.plan q card i.dealt of)
       (given_close i.plan q (number_of s) o card i.dealt of unready)
 
   back_by : (lock : TableId) (s : SeatView Entry (Plan B L)) (required : Bool) (i : IsDeskPass lock s) (p : ℕ)
@@ -403,7 +459,8 @@ module _ {B L : Type 0} (see : Sight B L) where
       → Appends lock i.plan (number_of s) i.made s t i.core (HandBack p)
       → After lock (record { pass = s; required = required }) t required (HandedBack p)
   after_back lock s t required i p k =
-      after lock s t required (HandedBack p) i k.core (note_entry (HandBack p)) k.turn.pass k.mine refl
+      after lock s t required (HandedBack p) i k.core (note_entry (HandBack p)) k.turn.pass k.mine
+      (λ q. k.hands q ∙ i.hands q) tt refl
 
   -- the same of what is seen of a recorder
   pub note_may : FollowIsStep → ListsOwn B L → (lock : TableId) (s : SeatView Entry (Plan B L)) (required : Bool)

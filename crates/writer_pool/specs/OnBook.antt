@@ -1,5 +1,5 @@
 -- The recorder over a book: for whom it stands and what it was given, as its pass tells.
-use Rattle.std.specs.Prelude.{◌==◌, ℕ, ◌-◌, ◌≤◌, Bool, cond, List, [], ◌∷◌, map, Option, Some, None, slice_get}
+use Rattle.std.specs.Prelude.{◌≡◌, ◌==◌, ℕ, ◌-◌, ◌≤◌, Bool, false, cond, List, [], ◌∷◌, map, Option, Some, None, slice_get}
 use Rattle.std.specs.Global.{Vec}
 use Rattle.atomic_table.specs.Seated.{TableId}
 use Rattle.turn_lock.specs.Seat.{SeatView, mine_of, told_of, number_of, made_of}
@@ -8,6 +8,9 @@ use Rattle.convert_plan.specs.Card.{CardSeen}
 use Rattle.checkout_core.specs.declared.event.Event.{Event}
 use Rattle.checkout_core.specs.declared.event.Event.TheVariants.{Close, HandBack}
 use Rattle.checkout_core.specs.declared.verdict.Own.{Own}
+use Rattle.checkout_core.specs.declared.path.Start.{Start}
+use Rattle.checkout_core.specs.Actors.{driver_at}
+use Rattle.checkout_core.specs.Hands.{held_at}
 use Rattle.checkout_core.specs.States.{Core}
 use Rattle.checkout_book.specs.declared.plan.Plan.{Plan}
 use Rattle.checkout_book.specs.declared.plan.Parts.{Parts}
@@ -41,6 +44,15 @@ given_by cards e x = Noted e
 abbrev pub given_in : List CardSeen → List Entry → List Given
 given_in cards es = map (λ e. given_by cards e.event e.parts) es
 
+-- each path that these entries close is the driver's
+abbrev pub ClosesOwn : List Start → ℕ → Event → Type 0
+ClosesOwn starts d (Close p a o) = driver_at starts p ≡ Some d
+ClosesOwn starts d e = Unit {0}
+
+abbrev pub CloseOwn : List Start → ℕ → List Entry → Type 0
+CloseOwn starts d [] = Unit {0}
+CloseOwn starts d (e ∷ es) = ClosesOwn starts d e.event × CloseOwn starts d es
+
 -- the pass, and whether its driver is required
 pub record Recording (B L : Type 0) : Type 0 where
   pub pass : SeatView Entry (Plan B L)
@@ -65,7 +77,8 @@ module _ {B L : Type 0} where
   abbrev pub desk_cards : Plan B L → ℕ → List (Card B L)
   desk_cards d q = items_of (slice_get d.desks.items q)
 
-  -- The pass of a desk, which isn't inside. Its book deals each driver the cards of the driver's paths.
+  -- The pass of a desk, which isn't inside. Its book deals each driver the cards of the driver's paths. It has nothing
+  -- in hand, and each path that it closed is its driver's.
   pub record IsDeskPass (lock : TableId) (s : SeatView Entry (Plan B L)) : Type 0 where
     pub plan : Plan B L
     pub made : ℕ
@@ -73,6 +86,8 @@ module _ {B L : Type 0} where
     pub pass : IsPass lock plan (number_of s) made s core
     pub desk : plan.workers ≤ number_of s
     pub dealt : AreDealt plan.starts.items 0 plan.desks.items
+    pub hands : (q : ℕ) → held_at core (number_of s) q ≡ false
+    pub own : CloseOwn plan.starts.items (number_of s - plan.workers) (mine_of s)
 
 module _ {B L : Type 0} (see : Sight B L) where
   -- the desks come after the workers

@@ -1,6 +1,7 @@
 //! The actors of a checkout: each claims cards from the book, writes each as a file and closes it, until no card waits.
 #![tactic(auto)]
 
+mod desk_actor;
 mod ending;
 mod leaf;
 mod on_book;
@@ -12,6 +13,7 @@ mod run;
 mod workers;
 mod writing;
 
+pub use desk_actor::{DeskEnd, serve_desk};
 pub use on_book::OnBook;
 pub use path_ends::PathEnds;
 pub use pool::run_workers;

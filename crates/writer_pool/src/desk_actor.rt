@@ -1,0 +1,53 @@
+//! A desk as an actor: it serves its driver's paths, and then works as the others do.
+ghost use Rattle.std.specs.Prelude.{◌≡◌, ◌+◌, ◌<◌, ◌^◌, [], List, length};
+ghost use Rattle.turn_lock.specs.Seat.{mine_of};
+ghost use Rattle.driver_line.specs.Lines.{Paths};
+ghost use Rattle.driver_desk.specs.Desks.{IsDealt, AreThrough};
+ghost use Rattle.driver_desk.specs.Serving.{IsServed};
+ghost use Rattle.driver_desk.specs.Works.{WorkSeen, AreRead, FitAll, asked_in, cards_in};
+ghost use Rattle.checkout_book.specs.Sights.{sight};
+ghost use Rattle.writer_pool.specs.OnBook.{Recording, IsDeskPass, standing_of, given_of, place_of};
+
+use crate::on_book::OnBook;
+use checkout_book::book::{Book, Pass};
+use driver_desk::{Desk, Served};
+use edge_kit::{Blob, Gate, Leaf, Starter};
+use std::sync::Wait;
+
+/// What a desk leaves: its pass, and what is left of the desk itself.
+pub struct DeskEnd<S: Starter, B: Blob, L: Leaf> {
+    pub pass: Pass<B, L>,
+    pub served: Served<S>,
+}
+
+/// Serves the cards of a desk over a book. `required` says whether its driver is required.
+pub fn serve_desk<S: Starter, B: Blob, L: Leaf, G: Gate, H: Wait>(
+    rt: &H,
+    book: &Book<B, L>,
+    gate: &G,
+    required: bool,
+    desk: Desk<S, B, L>,
+    pass: Pass<B, L>,
+) -> DeskEnd<S, B, L>
+    requires desk { IsDeskPass book.now pass }
+    requires fresh { mine_of pass ≡ [] }
+    requires few { length desk.starter.had + length desk.cards < 2 ^ 32 }
+    requires dealt { IsDealt (standing_of (sight B.told B.seen L.seen) (record { pass = pass; required = required }))
+        desk }
+    ensures desk { IsDeskPass book.now result.pass }
+    ensures place { place_of (record { pass = result.pass; required = required })
+        ≡ place_of (record { pass = pass; required = required }) }
+    ensures through { let r : Recording B L = record { pass = result.pass; required = required } in
+        AreThrough (standing_of (sight B.told B.seen L.seen) r) (given_of (sight B.told B.seen L.seen) r) }
+    ensures served { (works : List WorkSeen) × (desk.cards ≡ cards_in works) × AreRead works
+        × ((paths : Paths) → FitAll paths works
+        → IsServed desk.driver paths (asked_in works) desk.starter (S.seen result.served.starter) []
+        (given_of (sight B.told B.seen L.seen) (record { pass = result.pass; required = required }))) }
+{
+    let mut recorder = OnBook::begin(rt, book, pass, required);
+    let served = desk.serve(&mut recorder, gate);
+    DeskEnd {
+        pass: recorder.end(),
+        served,
+    }
+}
