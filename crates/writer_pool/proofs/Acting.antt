@@ -13,7 +13,7 @@ use Rattle.writer_pool.specs.Working.{IsShown, AreShown, Idled}
 use Rattle.writer_pool.specs.Ends.{IsNewWorker, AreNewWorkers, IsBack, AreBack}
 
 module _ {B L : Type 0} (see : Sight B L) where
-  shown_each : (cards : List (Card B L)) (es : List Entry) (i : ℕ) (e : Entry) → AreShown see cards es
+  pub shown_each : (cards : List (Card B L)) (es : List Entry) (i : ℕ) (e : Entry) → AreShown see cards es
       → slice_get es i ≡ Some e → IsShown see cards e.event e.parts
   shown_each cards [] i e all at = absurd (cc (at))
   shown_each cards (x ∷ es) zero e all at =

@@ -1,11 +1,33 @@
--- A desk's pass, after the desk has served.
-use Rattle.std.proofs.Common.{◌≡◌, Bool, List, [], sym, ap, ◌∙◌}
-use Rattle.turn_lock.specs.Seat.{SeatView, mine_of}
+-- A desk's pass, after the desk has served, and after it has worked.
+use Rattle.std.proofs.Common.{◌≡◌, ◌==◌, ◌||◌, ℕ, zero, suc, ◌+◌, ◌-◌, ◌<◌, ⊎_elim, Bool, true, false, cond, List, [], ◌∷◌, ◌++◌, length, Option, Some, None, refl, sym, ap, ◌∙◌, subst, arith}
+use Rattle.std.specs.Prelude.{slice_get}
+use mathlib.Core.List.{map-append}
+use Rattle.atomic_table.specs.Seated.{TableId}
+use Rattle.turn_lock.specs.Seat.{SeatView, mine_of, number_of}
+use Rattle.convert_plan.specs.Card.{CardSeen}
+use Rattle.checkout_core.specs.declared.path.Start.{Start}
+use Rattle.checkout_core.specs.declared.path.Start.TheVariants.{Pool}
+use Rattle.checkout_core.specs.declared.event.Event.{Event}
+use Rattle.checkout_core.specs.declared.event.Event.TheVariants.{Claim}
+use Rattle.checkout_core.specs.Actors.{is_claim, driver_at, own_driver}
+use Rattle.checkout_core.specs.Desks.{paths_of, is_left, leaves}
+use Rattle.checkout_core.specs.Hands.{NoClaims}
+use Rattle.checkout_core.specs.Talks.{contains}
 use Rattle.checkout_book.specs.declared.plan.Plan.{Plan}
 use Rattle.checkout_book.specs.declared.plan.Entry.{Entry}
+use Rattle.checkout_book.specs.Shelves.{cards_of}
 use Rattle.checkout_book.specs.Sights.{Sight}
-use Rattle.driver_desk.specs.Recorders.{Standing}
-use Rattle.writer_pool.specs.OnBook.{given_in, Recording, Place, place_of, standing_at, standing_of, given_of}
+use Rattle.checkout_book.specs.Reserving.{AreNew}
+use Rattle.driver_desk.specs.Desks.{DeskView, IsDealt, AreThrough}
+use Rattle.driver_desk.specs.Recorders.{Standing, events_in, times}
+use Rattle.driver_desk.specs.Serving.{Given, Noted, Closed, HandedBack}
+use Rattle.driver_desk.specs.Works.{card_paths}
+use Rattle.writer_pool.specs.Ends.{IsShownAll, IsBack}
+use Rattle.writer_pool.specs.OnBook.{given_in, ClosesOwn, CloseOwn, Recording, Place, place_of, IsDeskPass, standing_at, standing_of, given_of}
+use Rattle.writer_pool.specs.Working.{AreShown, IsReady, Idled, own_events}
+use Rattle.writer_pool.proofs.Places.{some_is, get_map, get_map_back, get_within, get_behind, split}
+use Rattle.writer_pool.proofs.Acting.{shown_each}
+use Rattle.writer_pool.proofs.Recordings.{standing_is, events_own}
 
 module _ {B L : Type 0} (see : Sight B L) where
   -- what a recorder was given is what its pass lists
@@ -30,3 +52,152 @@ module _ {B L : Type 0} (see : Sight B L) where
   none_given s required r is fresh =
       ap (λ (l : List Entry). given_in (standing_of see r).cards l)
       (ap (λ (x : Recording B L). mine_of x.pass) is ∙ fresh)
+
+no_claim_at : (es : List Event) (j p a : ℕ) → NoClaims es → slice_get es j ≡ Some (Claim p a) → ⊥
+no_claim_at [] j p a free at = absurd (cc (at))
+no_claim_at (e ∷ es) zero p a free at =
+    let is : e ≡ Claim p a = some_is e (Claim p a) at in
+    let u : is_claim (Claim p a) ≡ false = ap is_claim (sym is) ∙ free.0 in
+    cc (u)
+no_claim_at (e ∷ es) (suc j) p a free at = no_claim_at es j p a free.1 at
+
+own_at : (starts : List Start) (q : ℕ) (es : List Entry) (i : ℕ) (e : Entry) → CloseOwn starts q es
+    → slice_get es i ≡ Some e → ClosesOwn starts q e.event
+own_at starts q [] i e own at = absurd (cc (at))
+own_at starts q (x ∷ es) zero e own at =
+    subst (λ (z : Entry). ClosesOwn starts q z.event) (some_is x e at) own.0
+own_at starts q (x ∷ es) (suc i) e own at = own_at starts q es i e own.1 at
+
+-- a path that starts in the pool has no driver
+pool_free : (starts : List Start) (q p : ℕ) → driver_at starts p ≡ Some q → slice_get starts p ≡ Some Pool → ⊥
+pool_free starts q p driver pool =
+    let u : None ≡ Some q =
+    sym (ap (λ (o : Option Start). elim o [ None ↦ None | Some s ↦ own_driver s ]) pool) ∙ driver in
+    cc (u)
+
+or_true : (x y : Bool) → y ≡ true → (x || y) ≡ true
+or_true true y e = refl
+or_true false y e = e
+
+left_more : (p : ℕ) (xs ys : List Event) → is_left p xs ≡ true → is_left p (xs ++ ys) ≡ true
+left_more p [] ys h = absurd (cc (h))
+left_more p (x ∷ xs) ys h = go (left_more p xs ys) (leaves p x) h
+  where
+    go : (is_left p xs ≡ true → is_left p (xs ++ ys) ≡ true) → (b : Bool) → (b || is_left p xs) ≡ true
+        → (b || is_left p (xs ++ ys)) ≡ true
+    go more true h = refl
+    go more false h = more h
+
+-- a path whose card was closed or handed back is left
+ended_left : (b x : Bool) (n : ℕ) → (cond b 1 0 + n ≡ 0 → ⊥) → ((n ≡ 0 → ⊥) → x ≡ true) → (b || x) ≡ true
+ended_left true x n some more = refl
+ended_left false x n some more = more (λ e. some (omega (arith, e)))
+
+times_left : (s : Standing) (given : List Given) (p : ℕ) → (times p given ≡ 0 → ⊥)
+    → is_left p (events_in s given) ≡ true
+times_left s [] p some = absurd (some refl)
+times_left s (Noted e ∷ gs) p some =
+    or_true (leaves p e) (is_left p (events_in s gs)) (times_left s gs p (λ z. some (omega (arith, z))))
+times_left s (Closed o c ∷ gs) p some =
+    ended_left (p == c.path) (is_left p (events_in s gs)) (times p gs) some (λ z. times_left s gs p z)
+times_left s (HandedBack q ∷ gs) p some =
+    ended_left (p == q) (is_left p (events_in s gs)) (times p gs) some (λ z. times_left s gs p z)
+
+module _ {B L : Type 0} (see : Sight B L) where
+  -- what it gave has no claim, and closes no path of the pool
+  desk_shown : (d : Plan B L) (q : ℕ) (first more : List Entry) → NoClaims (own_events first)
+      → CloseOwn d.starts.items q first → AreShown see (cards_of d) more → IsShownAll see d (first ++ more)
+  desk_shown d q first more free own shown i e p a o at is from = split i (length first)
+      (λ lt.
+      let here : slice_get first i ≡ Some e = sym (get_within first more i lt) ∙ at in
+      absurd (⊎_elim
+      (λ (pool : slice_get d.starts.items p ≡ Some Pool).
+      pool_free d.starts.items q p
+      (subst (ClosesOwn d.starts.items q) is (own_at d.starts.items q first i e own here)) pool)
+      (λ (claim : (j : ℕ) × (j < i) × (slice_get (own_events (first ++ more)) j ≡ Some (Claim p a))).
+      let less = claim.1 in
+      let x = get_map_back (λ (z : Entry). z.event) (first ++ more) claim.0 (Claim p a) claim.2 in
+      let there = sym (get_within first more claim.0 (omega (arith, less, lt))) ∙ x.1 in
+      no_claim_at (own_events first) claim.0 p a free
+      (get_map (λ (z : Entry). z.event) first claim.0 x.0 there ∙ ap (λ (z : Event). Some z) x.2))
+      from))
+      (λ le. shown_each see (cards_of d) more (i - length first) e shown (sym (get_behind first more i le) ∙ at))
+
+  standing_same : (s0 s : SeatView Entry (Plan B L)) (required : Bool)
+      → place_of (record { pass = s; required = required }) ≡ place_of (record { pass = s0; required = required })
+      → standing_of see (record { pass = s; required = required })
+      ≡ standing_of see (record { pass = s0; required = required })
+  standing_same s0 s required place =
+      let told = ap (λ (p : Place B L). p.plan) place in
+      let number = ap (λ (p : Place B L). p.number) place in
+      λ k. standing_at see (told k) (number k) required
+
+  -- it is for the same plan
+  pub same_plan : (lock : TableId) (s0 s : SeatView Entry (Plan B L)) (required : Bool) (i : IsDeskPass lock s0)
+      (j : IsDeskPass lock s)
+      → place_of (record { pass = s; required = required }) ≡ place_of (record { pass = s0; required = required })
+      → j.plan ≡ i.plan
+  same_plan lock s0 s required i j place =
+      some_is j.plan i.plan (sym j.pass.seat.told ∙ (ap (λ (p : Place B L). p.plan) place ∙ i.pass.seat.told))
+
+  pub desk_ready : (lock : TableId) (s0 s : SeatView Entry (Plan B L)) (required : Bool) (i : IsDeskPass lock s0)
+      (j : IsDeskPass lock s)
+      → place_of (record { pass = s; required = required }) ≡ place_of (record { pass = s0; required = required })
+      → AreNew see (cards_of i.plan) → IsReady see lock j.plan (number_of s) j.made s
+  desk_ready lock s0 s required i j place new = (
+    (j.core, j.pass, j.hands),
+    subst (λ (d : Plan B L). AreNew see (cards_of d)) (sym (same_plan lock s0 s required i j place)) new,
+  )
+
+  -- all paths of the driver are left
+  desk_left : (lock : TableId) (s0 s : SeatView Entry (Plan B L)) (required : Bool) (j : IsDeskPass lock s)
+      (desk : DeskView)
+      → place_of (record { pass = s; required = required }) ≡ place_of (record { pass = s0; required = required })
+      → IsDealt (standing_of see (record { pass = s0; required = required })) desk
+      → AreThrough (standing_of see (record { pass = s; required = required }))
+      (given_of see (record { pass = s; required = required })) → (q p : ℕ)
+      → number_of s ≡ j.plan.workers + q → contains p (paths_of q j.plan.starts.items) ≡ true
+      → is_left p (own_events (mine_of s)) ≡ true
+  desk_left lock s0 s required j desk place dealt through q p seat own =
+      let x0 = standing_of see (record { pass = s0; required = required }) in
+      let x = standing_of see (record { pass = s; required = required }) in
+      let given = given_of see (record { pass = s; required = required }) in
+      let all0 : card_paths x0.cards ≡ paths_of x0.driver x0.starts =
+      ap (λ (l : List CardSeen). card_paths l) dealt.cards ∙ dealt.all in
+      let all1 = subst (λ (y : Standing). card_paths y.cards ≡ paths_of y.driver y.starts)
+      (sym (standing_same s0 s required place)) all0 in
+      let all2 = subst (λ (y : Standing). paths_of y.driver y.starts ≡ card_paths x.cards)
+      (standing_is see lock s required j) (sym all1) in
+      let n : q ≡ number_of s - j.plan.workers = omega (arith, seat) in
+      let there : contains p (card_paths x.cards) ≡ true =
+      ap (contains p) (sym all2) ∙ subst (λ (z : ℕ). contains p (paths_of z j.plan.starts.items) ≡ true) n own in
+      let one : times p given ≡ 1 = through.once p ∙ ap (λ (b : Bool). cond b 1 0) there in
+      ap (is_left p) (sym (events_own see lock s required j))
+      ∙ times_left x given p (λ z. omega (arith, one, z))
+
+  pub desk_back : (lock : TableId) (s0 s t : SeatView Entry (Plan B L)) (required : Bool) (i : IsDeskPass lock s0)
+      (j : IsDeskPass lock s) (desk : DeskView)
+      → place_of (record { pass = s; required = required }) ≡ place_of (record { pass = s0; required = required })
+      → IsDealt (standing_of see (record { pass = s0; required = required })) desk
+      → AreThrough (standing_of see (record { pass = s; required = required }))
+      (given_of see (record { pass = s; required = required }))
+      → Idled see lock j.plan (number_of s) j.made s t → IsBack see lock i.plan (number_of s0) i.made t
+  desk_back lock s0 s t required i j desk place dealt through idled =
+      let w = idled.worked in
+      let free = subst NoClaims (events_own see lock s required j) through.claims in
+      let number = ap (λ (p : Place B L). p.number) place in
+      let made : j.made ≡ i.made =
+      sym j.pass.seat.makes ∙ (ap (λ (p : Place B L). p.made) place ∙ i.pass.seat.makes) in
+      let back : IsBack see lock j.plan (number_of s) j.made t = record {
+        nothing = w.nothing;
+        shown = subst (IsShownAll see j.plan) (sym w.mine)
+            (desk_shown j.plan (number_of s - j.plan.workers) (mine_of s) w.more free j.own w.shown);
+        left = λ q p lt seat own.
+            let first = desk_left lock s0 s required j desk place dealt through q p seat own in
+            ap (λ (l : List Entry). is_left p (own_events l)) w.mine
+            ∙ (ap (is_left p) (map-append (λ (z : Entry). z.event) (mine_of s) w.more)
+            ∙ left_more p (own_events (mine_of s)) (own_events w.more) first);
+      } in
+      subst (λ (d : Plan B L). IsBack see lock d (number_of s0) i.made t) (same_plan lock s0 s required i j place)
+      (subst (λ (n : ℕ). IsBack see lock j.plan n i.made t) number
+      (subst (λ (m : ℕ). IsBack see lock j.plan (number_of s) m t) made back))

@@ -1,5 +1,5 @@
 -- Places of lists, and numbers that are equal or not.
-use Rattle.std.proofs.Common.{◌≡◌, ◌==◌, ℕ, zero, suc, ◌+◌, ◌<◌, ◌≤◌, ◌⊎◌, inl, inr, ⊎_elim, true, false, List, [], ◌∷◌, ◌++◌, set, length, map, Option, Some, None, refl, ap, eq-eqb, ne_eqb, arith}
+use Rattle.std.proofs.Common.{◌≡◌, ◌==◌, ℕ, zero, suc, ◌+◌, ◌-◌, ◌<◌, ◌≤◌, ◌⊎◌, inl, inr, ⊎_elim, true, false, List, [], ◌∷◌, ◌++◌, set, length, map, Option, Some, None, refl, ap, ◌∙◌, eq-eqb, ne_eqb, arith}
 use Rattle.std.specs.Prelude.{slice_get}
 use mathlib.Core.Logic.{dite}
 use native.Mathlib.Decide.{ℕ_discrete}
@@ -89,6 +89,14 @@ module _ {A : Type 0} where
   get_within [] ys i h = absurd (omega arith)
   get_within (x ∷ xs) ys zero h = refl
   get_within (x ∷ xs) ys (suc i) h = get_within xs ys i (omega arith)
+
+module _ {A : Type 0} where
+  -- a place behind the first list is one of the second
+  pub get_behind : (xs ys : List A) (i : ℕ) → length xs ≤ i → slice_get (xs ++ ys) i ≡ slice_get ys (i - length xs)
+  get_behind [] ys i le = ap (slice_get ys) (omega arith)
+  get_behind (x ∷ xs) ys zero le = absurd (omega (arith, le))
+  get_behind (x ∷ xs) ys (suc i) le =
+      get_behind xs ys i (omega (arith, le)) ∙ ap (slice_get ys) (omega arith)
 
 pub less_or : (p n : ℕ) → (p ≡ n → ⊥) → p < n + 1 → p < n
 less_or p n other lt = omega arith

@@ -292,7 +292,7 @@ module _ {B L : Type 0} (see : Sight B L) where
     pub standing : standing_of see (record { pass = t; required = required }) ≡ standing_of see r
     pub place : place_of (record { pass = t; required = required }) ≡ place_of r
 
-  standing_is : (lock : TableId) (s : SeatView Entry (Plan B L)) (required : Bool) (i : IsDeskPass lock s)
+  pub standing_is : (lock : TableId) (s : SeatView Entry (Plan B L)) (required : Bool) (i : IsDeskPass lock s)
       → standing_of see (record { pass = s; required = required })
       ≡ standing_at see (Some i.plan) (number_of s) required
   standing_is lock s required i =
@@ -339,6 +339,19 @@ module _ {B L : Type 0} (see : Sight B L) where
   seat_is : (lock : TableId) (s : SeatView Entry (Plan B L)) (i : IsDeskPass lock s)
       → i.plan.workers + (number_of s - i.plan.workers) ≡ number_of s
   seat_is lock s i = let le = i.desk in omega (arith, le)
+
+  -- what was given has the events of the pass's own list
+  pub events_own : (lock : TableId) (s : SeatView Entry (Plan B L)) (required : Bool) (i : IsDeskPass lock s)
+      → events_in (standing_of see (record { pass = s; required = required }))
+      (given_of see (record { pass = s; required = required })) ≡ own_events (mine_of s)
+  events_own lock s required i =
+      let d = i.plan in
+      let n = number_of s in
+      let x = standing_at see (Some d) n required in
+      let by_own = subst (AllBy d.starts.items d.workers n) (sym i.pass.seat.receipts)
+      (own_by d.starts.items d.workers n (seen_of s) i.pass.reads.stamped) in
+      ap (λ (y : Standing). events_in y (given_in y.cards (mine_of s))) (standing_is lock s required i)
+      ∙ given_events x n d.starts.items x.cards (mine_of s) (seat_is lock s i) by_own
 
   -- what the recorder may be given is a step of the book's pass
   may_step : FollowIsStep → ListsOwn B L → (lock : TableId) (s : SeatView Entry (Plan B L)) (required : Bool)

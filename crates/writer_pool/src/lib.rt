@@ -13,7 +13,7 @@ mod run;
 mod workers;
 mod writing;
 
-pub use desk_actor::{DeskEnd, serve_desk};
+pub use desk_actor::{DeskEnd, run_desk, serve_desk};
 pub use on_book::OnBook;
 pub use path_ends::PathEnds;
 pub use pool::run_workers;

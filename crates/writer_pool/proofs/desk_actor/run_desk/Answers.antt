@@ -1,0 +1,26 @@
+use Rattle.checkout_book.specs.Sights.{sight}
+use Rattle.writer_pool.proofs.DeskActing.{desk_ready, desk_back}
+use Rattle.writer_pool.proofs.desk_actor.run_desk.Goals as goal
+
+pub work-requires-after_bounds : goal.work-requires-after_bounds
+work-requires-after_bounds g c κs within =
+    let see = sight g.B.Blob.told g.B.Blob.seen g.L.Leaf.seen in
+    let r = c.requires.ready in
+    let e = c.serve_desk-pass.ensures in (
+      e.desk.plan,
+      e.desk.made,
+      desk_ready see c.args.book.now c.args.pass c.serve_desk-pass.result.pass c.args.required r.0 e.desk e.place r.1,
+    )
+
+pub returns : goal.returns
+returns g c = record {
+  back = λ i.
+      let see = sight g.B.Blob.told g.B.Blob.seen g.L.Leaf.seen in
+      let lock = c.args.book.now in
+      let s = c.serve_desk-pass.result.pass in
+      let r = c.requires.ready in
+      let e = c.serve_desk-pass.ensures in
+      let ready = desk_ready see lock c.args.pass s c.args.required r.0 e.desk e.place r.1 in
+      desk_back see lock c.args.pass s c.work.result c.args.required i e.desk c.args.desk e.place c.requires.dealt
+      e.through (c.work.ensures e.desk.plan e.desk.made ready);
+}
