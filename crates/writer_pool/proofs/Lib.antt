@@ -11,3 +11,4 @@ pub mod Outcomes
 pub mod Alone
 pub mod Recordings
 pub mod DeskActing
+pub mod DeskTalks

@@ -1,6 +1,7 @@
 //! A desk as an actor: it serves its driver's paths, and then works as the others do.
 ghost use Rattle.std.specs.Prelude.{◌≡◌, ◌+◌, ◌<◌, ◌^◌, [], List, length};
 ghost use Rattle.turn_lock.specs.Seat.{mine_of, number_of};
+ghost use Rattle.checkout_core.specs.Notes.{noted};
 ghost use Rattle.driver_line.specs.Lines.{Paths};
 ghost use Rattle.driver_desk.specs.Desks.{IsDealt, AreThrough};
 ghost use Rattle.driver_desk.specs.Serving.{IsServed};
@@ -10,10 +11,13 @@ ghost use Rattle.checkout_book.specs.Shelves.{cards_of};
 ghost use Rattle.checkout_book.specs.Sights.{sight};
 ghost use Rattle.writer_pool.specs.Ends.{IsBack};
 ghost use Rattle.writer_pool.specs.OnBook.{Recording, IsDeskPass, standing_of, given_of, place_of};
+ghost use Rattle.writer_pool.specs.Pools.{HasTalked};
+ghost use Rattle.writer_pool.specs.Working.{own_events};
 
 use crate::on_book::OnBook;
 use crate::workers::work;
 use checkout_book::book::{Book, Pass};
+use core_laws::laws::a_transcript_is_a_talk;
 use driver_desk::{Desk, Served};
 use edge_kit::{Blob, Gate, Leaf, Starter};
 use std::alloc::Global;
@@ -75,7 +79,12 @@ pub fn run_desk<S: Starter, B: Blob, L: Leaf, G: Gate, H: Wait>(
         desk }
     ensures back { (i : IsDeskPass book.now pass)
         → IsBack (sight B.told B.seen L.seen) book.now i.plan (number_of pass) i.made result.pass }
+    ensures talked { (works : List WorkSeen) × (desk.cards ≡ cards_in works) × AreRead works
+        × ((paths : Paths) → FitAll paths works
+        → HasTalked desk.driver paths (asked_in works) desk.starter (S.seen result.served.starter)
+        (noted (own_events (mine_of result.pass)))) }
 {
+    a_transcript_is_a_talk();
     let DeskEnd { pass, served } = serve_desk(rt, book, gate, required, desk, pass);
     DeskEnd {
         pass: work(rt, alloc, book, gate, pass),
