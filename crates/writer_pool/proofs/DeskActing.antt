@@ -1,5 +1,5 @@
 -- A desk's pass, after the desk has served, and after it has worked.
-use Rattle.std.proofs.Common.{◌≡◌, ◌==◌, ◌||◌, ℕ, zero, suc, ◌+◌, ◌-◌, ◌<◌, ⊎_elim, Bool, true, false, cond, List, [], ◌∷◌, ◌++◌, length, Option, Some, None, refl, sym, ap, ◌∙◌, subst, arith}
+use Rattle.std.proofs.Common.{◌≡◌, ◌==◌, ◌||◌, ℕ, zero, suc, ◌+◌, ◌-◌, ◌<◌, ◌≤◌, ⊎_elim, Bool, true, false, cond, List, [], ◌∷◌, ◌++◌, length, Option, Some, None, refl, sym, ap, ◌∙◌, subst, arith}
 use Rattle.std.specs.Prelude.{slice_get}
 use mathlib.Core.List.{map-append}
 use Rattle.atomic_table.specs.Seated.{TableId}
@@ -11,13 +11,14 @@ use Rattle.checkout_core.specs.declared.event.Event.{Event}
 use Rattle.checkout_core.specs.declared.event.Event.TheVariants.{Claim}
 use Rattle.checkout_core.specs.Actors.{is_claim, driver_at, own_driver}
 use Rattle.checkout_core.specs.Desks.{paths_of, is_left, leaves}
-use Rattle.checkout_core.specs.Hands.{NoClaims}
+use Rattle.checkout_core.specs.Hands.{NoClaims, held_at}
 use Rattle.checkout_core.specs.Talks.{contains}
 use Rattle.checkout_book.specs.declared.plan.Plan.{Plan}
 use Rattle.checkout_book.specs.declared.plan.Entry.{Entry}
 use Rattle.checkout_book.specs.Shelves.{cards_of}
 use Rattle.checkout_book.specs.Sights.{Sight}
-use Rattle.checkout_book.specs.Reserving.{AreNew}
+use Rattle.checkout_book.specs.Passes.{IsPass}
+use Rattle.checkout_book.specs.Reserving.{AreNew, AreDealt, HasNothing}
 use Rattle.driver_desk.specs.Desks.{DeskView, IsDealt, AreThrough}
 use Rattle.driver_desk.specs.Recorders.{Standing, events_in, times}
 use Rattle.driver_desk.specs.Serving.{Given, Noted, Closed, HandedBack}
@@ -28,6 +29,23 @@ use Rattle.writer_pool.specs.Working.{AreShown, IsReady, Idled, own_events}
 use Rattle.writer_pool.proofs.Places.{some_is, get_map, get_map_back, get_within, get_behind, split}
 use Rattle.writer_pool.proofs.Acting.{shown_each}
 use Rattle.writer_pool.proofs.Recordings.{standing_is, events_own}
+
+module _ {B L : Type 0} where
+  -- a desk's pass of a book that begins
+  pub new_desk : (lock : TableId) (d : Plan B L) (n made : ℕ) (s : SeatView Entry (Plan B L)) → d.workers ≤ n
+      → AreDealt d.starts.items 0 d.desks.items → HasNothing lock d n made s → mine_of s ≡ [] → IsDeskPass lock s
+  new_desk lock d n made s le dealt nothing fresh =
+      let named : number_of s ≡ n = nothing.1.seat.named in
+      record {
+        plan = d;
+        made = made;
+        core = nothing.0;
+        pass = subst (λ (k : ℕ). IsPass lock d k made s nothing.0) (sym named) nothing.1;
+        desk = subst (λ (k : ℕ). d.workers ≤ k) (sym named) le;
+        dealt = dealt;
+        hands = subst (λ (k : ℕ). (q : ℕ) → held_at nothing.0 k q ≡ false) (sym named) nothing.2;
+        own = subst (CloseOwn d.starts.items (number_of s - d.workers)) (sym fresh) tt;
+      }
 
 module _ {B L : Type 0} (see : Sight B L) where
   -- what a recorder was given is what its pass lists
