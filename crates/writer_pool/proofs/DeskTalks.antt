@@ -123,6 +123,7 @@ module _ {B L : Type 0} (see : Sight B L) where
         kept = served.kept;
         starts = served.starts;
         links = served.links;
+        stays = served.stays;
         talk = served.talk;
         whole = served.whole;
         same = served.same;

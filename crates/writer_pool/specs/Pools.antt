@@ -16,12 +16,14 @@ use Rattle.driver_line.specs.Conversations.{Exchange, notes_in}
 use Rattle.driver_line.specs.Lines.{Paths}
 use Rattle.driver_line.specs.Transcripts.{IsTalk}
 use Rattle.driver_line.specs.ToldStarts.{GoBy}
+use Rattle.driver_line.specs.Starters.{IsSameStarter}
 use Rattle.driver_desk.specs.Works.{WorkSeen, AreRead, FitAll, asked_in, cards_in}
 use Rattle.checkout_book.specs.Sights.{Sight, seen}
 use Rattle.writer_pool.specs.declared.pooled.DeskSeed.{DeskSeed}
 
 -- The talk of a driver with these notes: what its starter keeps grew by a talk over the paths `asked`, which goes by
--- the starts that it tells, and as many of its links are out as before. The results are a whole talk, case by case.
+-- the starts that it tells, and as many of its links are out as before. It is the same starter. The results are a
+-- whole talk, case by case.
 pub record HasTalked (d : ℕ) (paths : Paths) (asked : List ℕ) (old new : StarterSeen) (noted : List Event)
     : Type 0 where
   pub items : List Had
@@ -30,6 +32,7 @@ pub record HasTalked (d : ℕ) (paths : Paths) (asked : List ℕ) (old new : Sta
   pub kept : new.had ≡ old.had ++ items
   pub starts : GoBy old.ahead items new.ahead
   pub links : new.out ≡ old.out
+  pub stays : IsSameStarter exchanges old new
   pub talk : IsTalk d paths asked items exchanges
   pub whole : result.IsTalk asked results
   pub same : result.notes_of d results ≡ notes_in d exchanges
