@@ -1,12 +1,14 @@
 -- Windows that are copied to a block.
-use Rattle.std.proofs.Common.{◌≡◌, ℕ, zero, suc, ◌+◌, ◌-◌, ◌<◌, ◌≤◌, Bool, true, false, not, cond, eqb, List, [], ◌∷◌, ◌++◌, length, get_or, set, take, drop, replicate, refl, sym, ◌∙◌, ap, count_by, append_assoc, arith}
+use Rattle.std.proofs.Common.{◌≡◌, ℕ, zero, suc, ◌+◌, ◌-◌, ◌<◌, ◌≤◌, Bool, true, false, not, cond, eqb, List, [], ◌∷◌, ◌++◌, length, get_or, set, take, drop, replicate, refl, sym, ◌∙◌, ap, subst, count_by, append_assoc, inl, inr, ◌&&◌, ltb, arith}
 use Rattle.std.proofs.Math.Seq.{drop-cons, take-append-add}
+use Rattle.std.proofs.lemmas.Bool.{cases_lt, lt-ltb, le-ltb}
 use Rattle.std.proofs.lemmas.List.{take-take, take-set, take_more_set, length-take-le, length-append, drop-drop, append-nil, length-drop, get_or-drop, get_or-take}
 use Rattle.std.proofs.lemmas.List.Sums.{count_by_more_yes, sum_by-take-le, prefix_len_passes, prefix_len_stops}
 use Rattle.std.specs.List.{prefix_len}
+use Rattle.std.proofs.lemmas.Simd.{length-replicate}
 use Rattle.memchr.specs.Find.{is_byte}
 use Rattle.eol_convert.specs.Content.{crlf_for, with_crlf_from}
-use Rattle.eol_convert.specs.Windows.{is_behind_cr, crlf_from}
+use Rattle.eol_convert.specs.Windows.{is_behind_cr, crlf_from, window, before_lf, crs_before}
 use Rattle.eol_convert.proofs.Lines.{behind, stays, lf_of}
 
 -- what is before a place of a list whose first bytes are known
@@ -122,8 +124,8 @@ flipped true is = refl
 flipped false is = absurd (cc)
 
 -- the bytes of a window before its first LF
-pub before_lf : (text : List ℕ) (k : ℕ) → k ≡ prefix_len (λ b. not (is_byte 10 b)) (take 32 text) → k ≤ 32 → NoLf text k
-before_lf text k is within j low high passes =
+pub none_before : (text : List ℕ) (k : ℕ) → k ≡ prefix_len (λ b. not (is_byte 10 b)) (take 32 text) → k ≤ 32 → NoLf text k
+none_before text k is within j low high passes =
     let other : not (is_byte 10 (get_or (take 32 text) j 0)) ≡ true = prefix_len_passes (λ b. not (is_byte 10 b)) (take 32 text) j 0 (omega (arith, high, is)) in
     let here : get_or (take 32 text) j 0 ≡ get_or text j 0 = get_or-take 32 text j 0 (omega (arith, high, within)) in
     let no : false ≡ true = sym (ap not (ap (is_byte 10) here ∙ passes)) ∙ other in absurd (cc)
@@ -157,29 +159,40 @@ after_lf content from k is few long one j low high passes =
     alone (is_byte 10) (take 32 text) k place one (omega arith) (omega (arith, whole, high, few))
     (lf_passes text k is few (omega (arith, long, length-drop from content))) (ap (is_byte 10) here ∙ passes)
 
+bare_of : (few cr : Bool) → few ≡ true → cond {A = ℕ} (few && not cr) 1 0 ≡ cond cr 0 1
+bare_of true true is = refl
+bare_of true false is = refl
+bare_of false cr is = absurd (cc)
+
+none_of : (few cr : Bool) → few ≡ false → cond {A = ℕ} (few && not cr) 1 0 ≡ 0
+none_of true cr is = absurd (cc)
+none_of false cr is = refl
+
 -- a window whose first LF is taken
 pub with_first : (content : List ℕ) (from k n more : ℕ) → from + 64 ≤ length content → n ≤ 32 → k < n
     → k ≡ prefix_len (λ b. not (is_byte 10 b)) (take 32 (drop from content)) → NoLf (drop (from + k + 1) content) (n - k - 1)
-    → more ≡ cond (is_behind_cr content (from + k)) 0 1
+    → more ≡ crs_before content from k
     → crlf_from content from ≡ take k (drop from content) ++ (replicate more 13 ++ (take (n - k) (drop (from + k) content) ++ crlf_from content (from + n)))
-with_first content from k n more long high low is after more_is =
+with_first content from k n more long high low is after added =
+    let more_is : more ≡ cond (is_behind_cr content (from + k)) 0 1 = added ∙ bare_of (ltb k 32) (is_behind_cr content (from + k)) (lt-ltb k 32 (omega (arith, low, high))) in
     let later : ℕ = n - k - 1 in
     let end : from + k + 1 + later ≡ from + n = omega (arith, low) in
     let size : suc later ≡ n - k = omega (arith, low) in
     let front : List ℕ = take k (drop from content) in
-    with_lf content from k more later (omega (arith, long, high, low)) (before_lf (drop from content) k is (omega (arith, low, high)))
+    with_lf content from k more later (omega (arith, long, high, low)) (none_before (drop from content) k is (omega (arith, low, high)))
     (lf_at content from k is (omega (arith, low, high)) (omega (arith, long))) after more_is
     ∙ ap (λ (i : ℕ). front ++ (replicate more 13 ++ (take i (drop (from + k) content) ++ crlf_from content (from + k + 1 + later)))) size
     ∙ ap (λ (i : ℕ). front ++ (replicate more 13 ++ (take (n - k) (drop (from + k) content) ++ crlf_from content i))) end
 
 -- a window without LF
 pub with_none : (content : List ℕ) (from k more : ℕ) → from + 64 ≤ length content → k ≡ 32
-    → k ≡ prefix_len (λ b. not (is_byte 10 b)) (take 32 (drop from content)) → more ≡ 0
+    → k ≡ prefix_len (λ b. not (is_byte 10 b)) (take 32 (drop from content)) → more ≡ crs_before content from k
     → crlf_from content from ≡ take k (drop from content) ++ (replicate more 13 ++ (take (32 - k) (drop (from + k) content) ++ crlf_from content (from + 32)))
-with_none content from k more long all is none =
+with_none content from k more long all is added =
+    let none : more ≡ 0 = added ∙ none_of (ltb k 32) (is_behind_cr content (from + k)) (le-ltb k 32 (omega (arith, all))) in
     let size : 0 ≡ 32 - k = omega (arith, all) in
     let front : List ℕ = take k (drop from content) in
-    run_of content from k (omega (arith, long, all)) (before_lf (drop from content) k is (omega (arith, all)))
+    run_of content from k (omega (arith, long, all)) (none_before (drop from content) k is (omega (arith, all)))
     ∙ ap (λ (i : ℕ). front ++ crlf_from content (from + i)) all
     ∙ ap (λ (i : ℕ). front ++ (take i (drop (from + k) content) ++ crlf_from content (from + 32))) size
     ∙ ap (λ (i : ℕ). front ++ (replicate i 13 ++ (take (32 - k) (drop (from + k) content) ++ crlf_from content (from + 32)))) (sym none)
@@ -193,3 +206,41 @@ filled block done front crs text tail whole at place more n is done_long front_l
     ap (λ (xs : List ℕ). xs ++ tail) (cut_at block done front crs text at place more n is done_long front_long crs_long low high)
     ∙ append_assoc done (front ++ (crs ++ part)) tail
     ∙ ap (λ (xs : List ℕ). done ++ xs) (append_assoc front (crs ++ part) tail ∙ ap (λ (xs : List ℕ). front ++ xs) (append_assoc crs part tail) ∙ sym becomes)
+
+-- what was copied, and how much of it is taken
+abbrev pub Copied : List ℕ → List ℕ → List ℕ → ℕ → ℕ → ℕ → ℕ → Type 0
+Copied old new content at from first more =
+    take (at + first + more + 32) new ≡ take at old ++ (take first (drop from content) ++ (replicate more 13 ++ take 32 (drop (from + first) content)))
+
+abbrev pub Taken : List ℕ → List ℕ → List ℕ → ℕ → ℕ → ℕ → ℕ → Type 0
+Taken old new content at from more n = take (at + n + more) new ++ crlf_from content (from + n) ≡ take at old ++ crlf_from content from
+
+taken_of : (old new content : List ℕ) (at from first more n : ℕ) → at ≤ length old → from + 64 ≤ length content → first ≤ n → n ≤ 32
+    → Copied old new content at from first more
+    → crlf_from content from ≡ take first (drop from content) ++ (replicate more 13 ++ (take (n - first) (drop (from + first) content) ++ crlf_from content (from + n)))
+    → Taken old new content at from more n
+taken_of old new content at from first more n inside long low high is becomes =
+    let text : List ℕ = drop from content in
+    filled new (take at old) (take first text) (replicate more 13) (drop (from + first) content) (crlf_from content (from + n)) (crlf_from content from) at first more n is
+    (sym (length-take-le at old inside)) (sym (length-take-le first text (omega (arith, length-drop from content, long, low, high))))
+    (sym (length-replicate more 13)) low (omega (arith, high)) becomes
+
+-- a window is taken up to its first LF
+pub front_taken : (old new content : List ℕ) (at from first more : ℕ) → at ≤ length old → from + 64 ≤ length content → first ≡ before_lf content from → first < 32
+    → more ≡ crs_before content from first → Copied old new content at from first more → Taken old new content at from more (first + 1)
+front_taken old new content at from first more inside long is few added copied =
+    taken_of old new content at from first more (first + 1) inside long (omega arith) (omega (arith, few)) copied
+    (with_first content from first (first + 1) more long (omega (arith, few)) (omega arith) is (λ j low high passes. absurd (omega (arith, high))) added)
+
+-- a window with one LF or none is taken whole
+pub whole_taken : (old new content : List ℕ) (at from first more : ℕ) → at ≤ length old → from + 64 ≤ length content → first ≡ before_lf content from → first ≤ 32
+    → count_by (is_byte 10) (window content from) ≤ 1
+    → more ≡ crs_before content from first → Copied old new content at from first more → Taken old new content at from more 32
+whole_taken old new content at from first more inside long is within alone added copied =
+    let size : 31 - first ≡ 32 - first - 1 = omega arith in
+    taken_of old new content at from first more 32 inside long within (omega arith) copied (elim (cases_lt first 32) [
+      | inl few ↦
+          with_first content from first 32 more long (omega arith) few is
+          (subst (NoLf (drop (from + first + 1) content)) size (after_lf content from first is few (omega (arith, long)) alone)) added
+      | inr many ↦ with_none content from first more long (omega (arith, many, within)) is added
+    ])

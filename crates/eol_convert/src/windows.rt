@@ -5,7 +5,7 @@ ghost use Rattle.std.specs.List.{prefix_len};
 ghost use Rattle.std.specs.Simd.Lanes.{mask_l};
 ghost use Rattle.memchr.specs.Find.{is_byte};
 ghost use Rattle.byte_path.specs.Characters.{carriage_return};
-ghost use Rattle.eol_convert.specs.Windows.{crlf_from};
+ghost use Rattle.eol_convert.specs.Windows.{crlf_from, crs_before, window, before_lf};
 
 use std::simd::prelude::*;
 
@@ -83,8 +83,58 @@ fn copy_with_cr(
     copy_window(block, at + place + more, content, from + place);
 }
 
-/// Copies a window into a block, with a CR before its LF if there is none. Of a window with many LFs only the part up to
-/// the first LF is taken.
+/// How many CRs are put before the first LF of a window: one, or none if there is no LF or a CR stands there.
+#[inline(always)]
+fn crs_before(content: &[u8], from: usize, first: usize) -> usize
+    requires { (first ≤ WINDOW) × (from + WINDOW ≤ length content.now) }
+    ensures { result ≡ crs_before content.now from first }
+{
+    let before = content[(from + first).saturating_sub(1)];
+    usize::from((first < WINDOW) & (before != b'\r'))
+}
+
+/// Takes the front of a window, up to its first LF.
+#[inline(never)]
+fn take_front(block: &mut [u8], at: usize, content: &[u8], from: usize, first: usize) -> Reach
+    requires room { (from + 2 * WINDOW ≤ length content.now) × (at + 2 * WINDOW + 1 ≤ length block.old) }
+    requires first { (first ≡ before_lf content.now from) × (first < WINDOW) }
+    ensures written { take result.at block.new ++ crlf_from content.now result.from
+        ≡ take at block.old ++ crlf_from content.now from }
+    ensures further { (from < result.from) × (result.from ≤ from + WINDOW) }
+    ensures room { result.at ≤ at + WINDOW + 1 }
+    ensures len { length block.new ≡ length block.old }
+{
+    let more = crs_before(content, from, first);
+    copy_with_cr(block, at, content, from, first, more);
+    let taken = first + 1;
+    Reach {
+        from: from + taken,
+        at: at + taken + more,
+    }
+}
+
+/// Takes a whole window, which has one LF or none.
+#[inline(always)]
+fn take_whole(block: &mut [u8], at: usize, content: &[u8], from: usize, first: usize) -> Reach
+    requires room { (from + 2 * WINDOW ≤ length content.now) × (at + 2 * WINDOW + 1 ≤ length block.old) }
+    requires first { (first ≡ before_lf content.now from) × (first ≤ WINDOW) }
+    requires alone { count_by (is_byte 10) (window content.now from) ≤ 1 }
+    ensures written { take result.at block.new ++ crlf_from content.now result.from
+        ≡ take at block.old ++ crlf_from content.now from }
+    ensures further { (from < result.from) × (result.from ≤ from + WINDOW) }
+    ensures room { result.at ≤ at + WINDOW + 1 }
+    ensures len { length block.new ≡ length block.old }
+{
+    let more = crs_before(content, from, first);
+    copy_with_cr(block, at, content, from, first, more);
+    Reach {
+        from: from + WINDOW,
+        at: at + WINDOW + more,
+    }
+}
+
+/// Takes a window, with a CR before its LF if none is there. Of a window with many LFs only the front is taken: few lines
+/// are that short, and the place of the next window waits for no search as long as there are none.
 #[inline(always)]
 fn take_window(block: &mut [u8], at: usize, content: &[u8], from: usize) -> Reach
     requires { (from + 2 * WINDOW ≤ length content.now) × (at + 2 * WINDOW + 1 ≤ length block.old) }
@@ -95,15 +145,10 @@ fn take_window(block: &mut [u8], at: usize, content: &[u8], from: usize) -> Reac
     ensures len { length block.new ≡ length block.old }
 {
     let found = first_lf(u8x32::from_slice(&content[from..]));
-    let first = found.before;
-    let before = content[(from + first).saturating_sub(1)];
-    let bare = usize::from((first < WINDOW) & (before != b'\r'));
-    copy_with_cr(block, at, content, from, first, bare);
-    let taken = if found.others { first + 1 } else { WINDOW };
-    Reach {
-        from: from + taken,
-        at: at + taken + bare,
+    if found.others {
+        return take_front(block, at, content, from, found.before);
     }
+    take_whole(block, at, content, from, found.before)
 }
 
 /// Fills a block with what becomes of a content from a place on, until the block is full or few bytes are left.
