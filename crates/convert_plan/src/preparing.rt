@@ -9,7 +9,7 @@ use byte_path::Bytes;
 use eol_convert::{LineEnds, changes_ends, to_tree_ends};
 use ident_convert::{expand_ident, has_keyword};
 use std::alloc::{AllocError, Global};
-use tree_encoding::{Encoding, Prepared, encodable_text, encode_text};
+use tree_encoding::{Encoding, Prepared, encode_text};
 
 /// Expands the keyword, if the conversion says so. A content without one is returned as it is.
 fn with_ident(
@@ -57,8 +57,7 @@ fn in_encoding(
     let Some(encoding) = encoding else {
         return Ok(whole(content, false));
     };
-    if let Some(text) = encodable_text(&content) {
-        let text = encode_text(alloc, text, encoding)?;
+    if let Some(text) = encode_text(alloc, &content, encoding)? {
         return Ok(whole(text, false));
     }
     let unencoded = !content.is_empty();

@@ -1,4 +1,4 @@
 pub mod Lines
 pub mod Marks
 pub mod Usual
-pub mod Blocks
+pub mod Copies

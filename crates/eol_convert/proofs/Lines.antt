@@ -10,17 +10,16 @@ use Rattle.memchr.specs.Find.{is_byte, IsFirstByte}
 use Rattle.eol_convert.specs.Content.{crlf_for, with_crlf_from, with_crlf, line_end}
 
 -- whether CR is right before the end of a stretch, which itself is after CR or not
-behind : Bool → List ℕ → Bool
+abbrev pub behind : Bool → List ℕ → Bool
 behind cr [] = cr
 behind cr (b ∷ line) = behind (eqb b 13) line
 
-lf_of : (b : ℕ) → is_byte 10 b ≡ true → b ≡ 10
+pub lf_of : (b : ℕ) → is_byte 10 b ≡ true → b ≡ 10
 lf_of b is = grind (arith, common_steps)
 
 -- a text without LF stays
-stays : (cr : Bool) (text : List ℕ) (k : ℕ) → k ≤ length text → ((j : ℕ) → 0 ≤ j → j < k → is_byte 10 (get_or text j 0) ≡ true → ⊥)
+pub stays : (cr : Bool) (text : List ℕ) (k : ℕ) → k ≤ length text → ((j : ℕ) → 0 ≤ j → j < k → is_byte 10 (get_or text j 0) ≡ true → ⊥)
     → with_crlf_from cr text ≡ take k text ++ with_crlf_from (behind cr (take k text)) (drop k text)
-unfolding behind
 stays cr text zero le none = refl
 stays cr [] (suc k) le none = absurd (omega arith)
 stays cr (b ∷ text) (suc k) le none =
@@ -34,7 +33,6 @@ turned b = grind (arith, common_steps)
 
 -- CR is right before the end of a line that ends with it
 behind-line : (line : List ℕ) → behind false line ≡ ends_with nat_eq line (13 ∷ [])
-unfolding behind
 behind-line [] = refl
 behind-line (b ∷ []) = turned b
 behind-line (b ∷ c ∷ line) =

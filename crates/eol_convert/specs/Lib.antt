@@ -1,3 +1,4 @@
 pub mod Action
 pub mod Content
 pub mod Looks
+pub mod Windows

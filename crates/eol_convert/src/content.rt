@@ -1,19 +1,17 @@
 //! A content with the line ends of the worktree.
-ghost use Rattle.std.specs.Prelude.{◌≡◌, ◌≢◌, ◌≤◌, ◌++◌, IfOk, OnOk, length, take};
+ghost use Rattle.std.specs.Prelude.{◌≡◌, ◌≢◌, ◌≤◌, ◌++◌, IfOk, OnOk, length};
 ghost use Rattle.std.specs.Bool.{OnTrue, OnFalse};
-ghost use Rattle.eol_convert.specs.Content.{line_end, with_crlf, to_tree_ends};
+ghost use Rattle.eol_convert.specs.Content.{with_crlf, to_tree_ends};
+ghost use Rattle.eol_convert.specs.Windows.{crlf_from};
 
 use crate::looks::is_lf_text;
 use crate::setting::LineEnds;
+use crate::windows::{WINDOW, fill_block};
 use memchr::memchr;
 use std::alloc::{AllocError, Global};
 
-/// Lines of up to this many bytes are copied as blocks of this size.
-const BLOCK: usize = 128;
-
-/// Lines of up to this many bytes are copied as blocks of this size, so that a content of short lines is copied once
-/// and not many times.
-const SHORT: usize = 16;
+/// What becomes of many windows is appended at once.
+const BLOCK: usize = 1024;
 
 /// Whether a content has an LF without a CR before it.
 fn has_bare_lf(content: &[u8]) -> bool
@@ -49,59 +47,20 @@ pub fn changes_ends(content: &[u8], ends: LineEnds) -> bool
     }
 }
 
-/// Appends the first bytes of a block. A block of a known size is copied faster than a few bytes, so the text is cut
-/// afterwards.
-fn push_cut<const N: usize>(
-    text: &mut Vec<u8>,
-    block: &[u8; N],
-    count: usize,
-) -> Result<(), AllocError>
-    requires { count ≤ N }
-    ensures { OnOk result (text.new.items ≡ text.old.items ++ take count block.now) }
+/// Appends what becomes of a content from a place on, byte by byte.
+fn push_rest(text: &mut Vec<u8>, content: &[u8], from: usize) -> Result<(), AllocError>
+    requires { from ≤ length content.now }
+    ensures { OnOk result (text.new.items ≡ text.old.items ++ crlf_from content.now from) }
 {
-    let len = text.len();
-    text.extend_from_slice(block)?;
-    text.truncate(len + count);
-    Ok(())
-}
-
-/// Appends the first bytes of a content.
-fn push_front(text: &mut Vec<u8>, content: &[u8], count: usize) -> Result<(), AllocError>
-    requires { count ≤ length content.now }
-    ensures { OnOk result (text.new.items ≡ text.old.items ++ take count content.now) }
-{
-    // An empty line has nothing to copy.
-    if count == 0 {
-        return Ok(());
-    }
-    if count <= SHORT {
-        if let Some(block) = content.first_chunk::<SHORT>() {
-            push_cut(text, block, count)?;
-            return Ok(());
+    let mut at = from;
+    'bytes: while at < content.len() {
+        let byte = content[at];
+        if byte == b'\n' && content[at.saturating_sub(1)] != b'\r' {
+            text.push(b'\r')?;
         }
+        text.push(byte)?;
+        at += 1;
     }
-    match content.first_chunk::<BLOCK>() {
-        Some(block) if count <= BLOCK => push_cut(text, block, count)?,
-        _ => {
-            let (front, _) = content.split_at(count);
-            text.extend_from_slice(front)?;
-        }
-    }
-    Ok(())
-}
-
-/// Appends the line with which a content begins, up to the LF at `end`, and the line's end.
-fn push_line(text: &mut Vec<u8>, content: &[u8], end: usize) -> Result<(), AllocError>
-    requires { end ≤ length content.now }
-    ensures { OnOk result (text.new.items ≡ text.old.items ++ (take end content.now
-        ++ line_end (take end content.now))) }
-{
-    push_front(text, content, end)?;
-    let (line, _) = content.split_at(end);
-    if !line.ends_with(b"\r") {
-        text.push(b'\r')?;
-    }
-    text.push(b'\n')?;
     Ok(())
 }
 
@@ -110,14 +69,15 @@ fn with_crlf(alloc: Global, content: &[u8]) -> Result<Vec<u8>, AllocError>
     ensures { IfOk result (λ text. text.items ≡ with_crlf content.now) }
 {
     // Room for one more byte in each line of 16 bytes or more.
-    let mut text = Vec::with_capacity(alloc, content.len() + content.len() / 16 + BLOCK)?;
-    let mut rest = content;
-    'lines: while let Some(end) = memchr(b'\n', rest) {
-        push_line(&mut text, rest, end)?;
-        let (_, behind) = rest.split_at(end + 1);
-        rest = behind;
+    let mut text = Vec::with_capacity(alloc, content.len() + content.len() / 16 + WINDOW)?;
+    let mut block = [0; BLOCK];
+    let mut from = 0;
+    'blocks: while from + 2 * WINDOW <= content.len() {
+        let reach = fill_block(&mut block, content, from);
+        text.extend_from_slice(&block[..reach.at])?;
+        from = reach.from;
     }
-    text.extend_from_slice(rest)?;
+    push_rest(&mut text, content, from)?;
     Ok(text)
 }
 

@@ -5,6 +5,7 @@ mod action;
 mod content;
 mod looks;
 mod setting;
+mod windows;
 
 pub use action::{Action, action_of, line_ends_of};
 pub use content::{changes_ends, to_tree_ends};

@@ -2,7 +2,7 @@ use crate::table::Said::{Nothing, Set, Unset, Value};
 use crate::table::{Said, state_of};
 use std::test::Fail;
 use tree_encoding::Encoding::{Utf16, Utf16Be, Utf16Le, Utf16LeBom, Utf32, Utf32Be, Utf32Le};
-use tree_encoding::{Encoding, UnknownEncoding, encodable_text, encode, encode_text, encoding_of};
+use tree_encoding::{Encoding, UnknownEncoding, encode, encode_text, encoding_of};
 
 /// What `working-tree-encoding` is, and the encoding that it names.
 const NAMED: &[(Said, Result<Option<Encoding>, UnknownEncoding>)] = &[
@@ -120,13 +120,13 @@ const ENCODED: &[(&[u8], Encoding, &[u8])] = &[
 fn texts_are_encoded(rt: HostRuntime) -> Result<(), Fail> {
     for (content, encoding, want) in ENCODED {
         let read = encode(rt.alloc(), content, *encoding)?;
-        let text = encodable_text(content);
-        let whole = encode_text(rt.alloc(), text.unwrap_or(""), *encoding)?;
+        let text = encode_text(rt.alloc(), content, *encoding)?;
+        let same = match text {
+            Some(text) => text.as_slice() == *want,
+            None => content.is_empty(),
+        };
         assert!(rt;
-            read.bytes.as_slice() == *want
-                && whole.as_slice() == *want
-                && !read.unencoded
-                && text.is_some() != content.is_empty(),
+            read.bytes.as_slice() == *want && same && !read.unencoded,
             "{encoding:?} of {content:?}"
         );
     }
@@ -149,7 +149,7 @@ fn other_contents_stay(rt: HostRuntime) -> Result<(), Fail> {
         let little = encode(rt.alloc(), content, Utf16Le)?;
         let marked = encode(rt.alloc(), content, Utf16)?;
         assert!(rt;
-            encodable_text(content).is_none()
+            encode_text(rt.alloc(), content, Utf16Le)?.is_none()
                 && little.bytes.as_slice() == *content
                 && little.unencoded
                 && marked.bytes.as_slice() == *content

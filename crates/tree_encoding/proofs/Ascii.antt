@@ -1,8 +1,9 @@
 -- How characters of ASCII are written.
-use Rattle.std.proofs.Common.{◌≡◌, ℕ, ◌+◌, ◌*◌, ◌%◌, ◌^◌, ◌<◌, Bool, true, false, cond, eqb, leb, ◌&&◌, List, [], ◌∷◌, ◌++◌, map, length, get_or, replicate, refl, sym, ap, ◌∙◌, arith}
+use Rattle.std.proofs.Common.{◌≡◌, ℕ, ◌+◌, ◌*◌, ◌%◌, ◌^◌, ◌<◌, ◌≤◌, Bool, true, false, cond, eqb, leb, ◌&&◌, List, [], ◌∷◌, ◌++◌, map, length, get_or, take, drop, replicate, refl, sym, ap, ◌∙◌, arith}
 use Rattle.std.proofs.lemmas.Grind.{common_steps}
-use Rattle.std.proofs.lemmas.List.{length-map}
-use Rattle.std.proofs.lemmas.Simd.{pick_l_whole, mask_l-mod, length-zip2}
+use Rattle.std.proofs.lemmas.List.{length-map, take-append-drop}
+use Rattle.std.proofs.lemmas.Simd.{pick_l_whole, mask_l-mod, length-zip2, length-replicate}
+use Rattle.std.proofs.lemmas.List.Folds.{list_all-append}
 use Rattle.std.specs.Char.{is_ascii}
 use Rattle.std.specs.Simd.Lanes.{pick_l, mask_l, top, zip2}
 use Rattle.std.specs.List.{flat_map, list_all}
@@ -70,9 +71,15 @@ none_high (x ∷ xs) = step (leb 128 x) refl (none_high xs)
         let same : eqb (0 + 2 * high_bits xs) 0 ≡ eqb (high_bits xs) 0 = grind (arith, common_steps) in
         same ∙ rest ∙ ap (λ (b : Bool). b && list_all is_ascii xs) (sym yes_it_is)
 
--- sixteen bytes are ASCII if no bit is set
-pub none_set : (xs : List ℕ) → length xs ≡ 16 → eqb (mask_l (flags 16 xs) % 2 ^ 64) 0 ≡ list_all is_ascii xs
-none_set xs long =
-    let few : length (flags 16 xs) ≡ 16 = length-map (zip2 at_least (replicate 16 128) xs) (top 7) ∙ length-zip2 at_least (replicate 16 128) xs (sym long) in
-    ap (λ (m : ℕ). eqb m 0) (mask_l-mod (flags 16 xs) 64 (omega (arith, few)))
-    ∙ ap (λ (n : ℕ). eqb (mask_l (flags n xs)) 0) (sym long) ∙ none_high xs
+-- bytes are ASCII if no bit is set
+pub none_set : (n : ℕ) (xs : List ℕ) → length xs ≡ n → n ≤ 64 → eqb (mask_l (flags n xs) % 2 ^ 64) 0 ≡ list_all is_ascii xs
+none_set n xs long fits =
+    let few : length (flags n xs) ≡ n = length-map (zip2 at_least (replicate n 128) xs) (top 7) ∙ length-zip2 at_least (replicate n 128) xs (length-replicate n 128 ∙ sym long) ∙ length-replicate n 128 in
+    ap (λ (m : ℕ). eqb m 0) (mask_l-mod (flags n xs) 64 (omega (arith, few, fits)))
+    ∙ ap (λ (k : ℕ). eqb (mask_l (flags k xs)) 0) (sym long) ∙ none_high xs
+
+-- a list whose front isn't ASCII
+pub front_is_not : (xs ys : List ℕ) (n : ℕ) → ys ≡ take n xs → list_all is_ascii ys ≡ false → list_all is_ascii xs ≡ false
+front_is_not xs ys n is none =
+    ap (list_all is_ascii) (sym (take-append-drop n xs)) ∙ list_all-append is_ascii (take n xs) (drop n xs)
+    ∙ ap (λ (b : Bool). b && list_all is_ascii (drop n xs)) (ap (list_all is_ascii) (sym is) ∙ none)

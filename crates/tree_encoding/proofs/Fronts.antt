@@ -9,7 +9,7 @@ use Rattle.std.specs.List.{flat_map, list_all}
 use Rattle.std.specs.Str.{chars, IsUtf8, IsAscii, IsCharBoundary}
 use Rattle.tree_encoding.specs.Front.{BeginsWithSixteen}
 
-all_below : (xs : List ℕ) → list_all is_ascii xs ≡ true → IsAscii xs
+pub all_below : (xs : List ℕ) → list_all is_ascii xs ≡ true → IsAscii xs
 all_below [] all i = grind (arith, common_steps)
 all_below (x ∷ xs) all zero = grind (arith, common_steps)
 all_below (x ∷ xs) all (suc i) =

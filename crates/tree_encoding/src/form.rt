@@ -4,6 +4,7 @@ ghost use Rattle.std.specs.Char.{is_ascii};
 ghost use Rattle.std.specs.List.{flat_map, list_all};
 ghost use Rattle.tree_encoding.specs.Encode.{units16};
 
+use crate::ascii_test::{CHUNK, is_ascii_chunk};
 use std::alloc::AllocError;
 use std::simd::prelude::*;
 
@@ -46,6 +47,9 @@ pub trait Form {
 
     /// How many bytes the characters of a text take.
     fn room(text: &str) -> usize;
+
+    /// How many bytes so many characters of ASCII take.
+    fn ascii_room(count: usize) -> usize;
 
     /// Writes a character into a block at this place, and gives the place after it.
     fn put(block: &mut Block, at: usize, character: char) -> usize
@@ -142,17 +146,11 @@ fn put_four(block: &mut Block, at: usize, bytes: [u8; 4]) -> usize
     at + 4
 }
 
-/// Units of this many bytes fit a `u8`, so that many bytes are counted side by side.
-const CHUNK: usize = 64;
-
 /// Whether a chunk is a whole one of ASCII, in which each byte is a character.
 #[inline(always)]
-fn is_ascii_chunk(chunk: &[u8]) -> bool {
+fn is_whole_ascii(chunk: &[u8]) -> bool {
     match chunk.first_chunk::<CHUNK>() {
-        Some(bytes) => u8x64::from_array(*bytes)
-            .simd_ge(u8x64::splat(0x80))
-            .to_bitmask()
-            == 0,
+        Some(bytes) => is_ascii_chunk(bytes),
         None => false,
     }
 }
@@ -164,7 +162,7 @@ fn begins_character(byte: u8) -> bool {
 
 /// The units of 16 bits of the characters that begin in a chunk. A character of four bytes in UTF-8 takes two.
 fn units16_in(chunk: &[u8]) -> u8 {
-    if is_ascii_chunk(chunk) {
+    if is_whole_ascii(chunk) {
         return CHUNK as u8;
     }
     let mut units = 0u8;
@@ -178,7 +176,7 @@ fn units16_in(chunk: &[u8]) -> u8 {
 }
 
 fn characters_in(chunk: &[u8]) -> u8 {
-    if is_ascii_chunk(chunk) {
+    if is_whole_ascii(chunk) {
         return CHUNK as u8;
     }
     let mut characters = 0u8;
@@ -213,6 +211,10 @@ impl Form for Little16 {
         room16(text)
     }
 
+    fn ascii_room(count: usize) -> usize {
+        count.saturating_mul(2)
+    }
+
     fn put(block: &mut Block, at: usize, character: char) -> usize {
         put_units::<Little16>(block, at, character)
     }
@@ -234,6 +236,10 @@ impl Form for Big16 {
 
     fn room(text: &str) -> usize {
         room16(text)
+    }
+
+    fn ascii_room(count: usize) -> usize {
+        count.saturating_mul(2)
     }
 
     fn put(block: &mut Block, at: usize, character: char) -> usize {
@@ -259,6 +265,10 @@ impl Form for Little32 {
         room32(text)
     }
 
+    fn ascii_room(count: usize) -> usize {
+        count.saturating_mul(4)
+    }
+
     fn put(block: &mut Block, at: usize, character: char) -> usize {
         put_four(block, at, u32::from(character).to_le_bytes())
     }
@@ -280,6 +290,10 @@ impl Form for Big32 {
 
     fn room(text: &str) -> usize {
         room32(text)
+    }
+
+    fn ascii_room(count: usize) -> usize {
+        count.saturating_mul(4)
     }
 
     fn put(block: &mut Block, at: usize, character: char) -> usize {

@@ -1,5 +1,5 @@
 //! A text, written character by character.
-ghost use Rattle.std.specs.Prelude.{◌≡◌, ◌<◌, ◌≤◌, ◌++◌, OnOk, IfOk, IfSome, length, take, chars};
+ghost use Rattle.std.specs.Prelude.{◌≡◌, ◌<◌, ◌≤◌, ◌++◌, OnOk, IfOk, IfSome, true, length, take, chars};
 ghost use Rattle.std.specs.Char.{is_ascii};
 ghost use Rattle.std.specs.List.{flat_map, list_all};
 ghost use Rattle.tree_encoding.specs.Front.{BeginsWithSixteen, GoesOn};
@@ -79,4 +79,39 @@ pub fn push_text<F: Form>(out: &mut Vec<u8>, text: &str) -> Result<(), AllocErro
         };
     }
     Ok(())
+}
+
+/// Writes a character of ASCII.
+fn push_one<F: Form>(out: &mut Vec<u8>, ascii: u8) -> Result<(), AllocError>
+    ensures { OnOk result (out.new.items ≡ out.old.items ++ F.bytes_of ascii) }
+{
+    let mut block: Block = [0; 32];
+    let end = F::put(&mut block, 0, char::from(ascii));
+    push_cut(out, &block, end)
+}
+
+/// Writes fewer than sixteen characters of ASCII.
+fn push_few_ascii<F: Form>(out: &mut Vec<u8>, ascii: &[u8]) -> Result<(), AllocError>
+    ensures { OnOk result (out.new.items ≡ out.old.items ++ flat_map F.bytes_of ascii.now) }
+{
+    let mut rest = ascii;
+    'bytes: while let Some((byte, behind)) = rest.split_first() {
+        push_one::<F>(out, *byte)?;
+        rest = behind;
+    }
+    Ok(())
+}
+
+/// Writes characters of ASCII, sixteen at once.
+pub fn push_ascii<F: Form>(out: &mut Vec<u8>, ascii: &[u8]) -> Result<(), AllocError>
+    requires { list_all is_ascii ascii.now ≡ true }
+    ensures { OnOk result (out.new.items ≡ out.old.items ++ flat_map F.bytes_of ascii.now) }
+{
+    let mut rest = ascii;
+    'ascii: while let Some(sixteen) = rest.first_chunk::<16>() {
+        F::push_sixteen(out, sixteen)?;
+        let (_, behind) = rest.split_at(16);
+        rest = behind;
+    }
+    push_few_ascii::<F>(out, rest)
 }
