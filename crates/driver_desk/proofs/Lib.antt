@@ -6,3 +6,4 @@ pub mod Closings
 pub mod Places
 pub mod Calls
 pub mod RoundCalls
+pub mod Ties

@@ -7,3 +7,5 @@ pub mod Shown
 pub mod Recorders
 pub mod Cards
 pub mod Places
+pub mod Ties
+pub mod Added

@@ -11,6 +11,7 @@ ghost use Rattle.edge_kit.specs.Seen.{LeafSeen};
 ghost use Rattle.edge_kit.specs.declared.leaf_state.LeafState.{LeafState};
 ghost use Rattle.edge_kit.specs.declared.leaf_state.LeafState.TheVariants.{Fresh, Broken, Sealed, Gone};
 ghost use Rattle.filter_proto.specs.Replies.{IsKept};
+ghost use Rattle.driver_desk.specs.Added.{AddsRead, ClosesOne};
 ghost use Rattle.driver_desk.specs.Cards.{IsAskedCard, IsUnreadCard};
 ghost use Rattle.driver_desk.specs.Shown.{ShowsUnused, IsGivenUp, ShowsLeaf};
 ghost use Rattle.driver_desk.specs.Recorders.{MayDo, MayDrop, MayEnd, IsEnd, ShowsClose};
@@ -116,6 +117,7 @@ fn close<B: Blob, L: Leaf, C: Recorder<B, L>>(mut card: Card<B, L>, recorder: &m
         × (m : Mark) × ((L.seen card.leaf).state ≡ Sealed m)) (C.given recorder.old) (C.given recorder.new) }
     ensures standing { C.standing recorder.new ≡ C.standing recorder.old }
     ensures fixed { C.fixed recorder.new ≡ C.fixed recorder.old }
+    ensures one { ClosesOne card.path own (C.given recorder.old) (C.given recorder.new) }
 {
     card.ready = None;
     recorder.close(card, own);
@@ -135,6 +137,7 @@ pub(crate) fn close_got<B: Blob, L: Leaf, C: Recorder<B, L>>(
         × (told ≡ (L.seen work.card.leaf).content)) (C.given recorder.old) (C.given recorder.new) }
     ensures standing { C.standing recorder.new ≡ C.standing recorder.old }
     ensures fixed { C.fixed recorder.new ≡ C.fixed recorder.old }
+    ensures read { AddsRead (C.given recorder.old) (C.given recorder.new) }
 {
     let mark = work.card.mark;
     let own = seal_leaf(&mut work.card.leaf, mark, put, work.unencoded);
@@ -154,6 +157,7 @@ pub(crate) fn close_empty<B: Blob, L: Leaf, C: Recorder<B, L>>(
     ensures closed { AreClosings NoAnswer (C.given recorder.old) (C.given recorder.new) }
     ensures standing { C.standing recorder.new ≡ C.standing recorder.old }
     ensures fixed { C.fixed recorder.new ≡ C.fixed recorder.old }
+    ensures read { AddsRead (C.given recorder.old) (C.given recorder.new) }
 {
     let own = drop_leaf(&mut work.card.leaf, put, work.unencoded);
     close(work.card, recorder, own);
@@ -170,6 +174,7 @@ fn hand_back<B: Blob, L: Leaf, C: Recorder<B, L>>(mut work: Work<B, L>, recorder
     ensures closed { AreClosings NoAnswer (C.given recorder.old) (C.given recorder.new) }
     ensures standing { C.standing recorder.new ≡ C.standing recorder.old }
     ensures fixed { C.fixed recorder.new ≡ C.fixed recorder.old }
+    ensures read { AddsRead (C.given recorder.old) (C.given recorder.new) }
 {
     match work.card.leaf.restart() {
         Ok(()) => recorder.hand_back(work.card),
@@ -196,6 +201,7 @@ pub(crate) fn refuse<B: Blob, L: Leaf, C: Recorder<B, L>>(
     ensures closed { AreClosings NoAnswer (C.given recorder.old) (C.given recorder.new) }
     ensures standing { C.standing recorder.new ≡ C.standing recorder.old }
     ensures fixed { C.fixed recorder.new ≡ C.fixed recorder.old }
+    ensures read { AddsRead (C.given recorder.old) (C.given recorder.new) }
 {
     if required {
         close_empty(work, put, recorder);
@@ -232,6 +238,7 @@ pub(crate) fn close_unread<B: Blob, L: Leaf, C: Recorder<B, L>>(
     ensures closed { AreClosings NoAnswer (C.given recorder.old) (C.given recorder.new) }
     ensures standing { C.standing recorder.new ≡ C.standing recorder.old }
     ensures fixed { C.fixed recorder.new ≡ C.fixed recorder.old }
+    ensures one { ClosesOne card.path own (C.given recorder.old) (C.given recorder.new) }
 {
     leave_unread(&mut card.leaf, own);
     close(card, recorder, own);

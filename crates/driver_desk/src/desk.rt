@@ -6,7 +6,9 @@ ghost use Rattle.driver_line.specs.Lines.{LineView, Paths, starts_of};
 ghost use Rattle.driver_desk.specs.Late.{AreIdle, FitsNames, IsNewLate, KeepsNames, StaysUnlisted, cards_of};
 ghost use Rattle.delay_table.specs.Table.{IsRising};
 ghost use Rattle.driver_desk.specs.Rounds.{paths_of, AreApart, AreReady, FitTexts, TalkOver};
+ghost use Rattle.driver_desk.specs.Added.{AddsRead, AddsWorks};
 ghost use Rattle.driver_desk.specs.Desks.{IsDealt, AreThrough};
+ghost use Rattle.driver_desk.specs.Ties.{AreTied};
 ghost use Rattle.driver_desk.specs.Places.{IsServing, IsDone};
 ghost use Rattle.driver_desk.specs.Serving.{Given, IsServed, Serves, IsSane, newest};
 ghost use Rattle.driver_desk.specs.Works.{WorkSeen, AreNew, AreRead, FitAll, asked_in, cards_in, card_paths};
@@ -60,7 +62,8 @@ fn serve_all<S: Starter, B: Blob, L: Leaf, C: Recorder<B, L>, G: Gate>(
         → Serves seat.driver paths line0 given0 asked [] line.old (C.given recorder.old) false []
         → Serves seat.driver paths line0 given0 (asked ++ asked_in works) [] line.new (C.given recorder.new) result
         (newest (paths_of (cards_of late.new))))
-        × ((paths : Paths) → FitAll paths works → FitTexts paths (cards_of late.new)) }
+        × ((paths : Paths) → FitAll paths works → FitTexts paths (cards_of late.new))
+        × AddsWorks works (C.given recorder.old) (C.given recorder.new) }
     ensures ready { AreReady (C.standing recorder.old) (cards_of late.new) }
     ensures apart { AreApart (paths_of (cards_of late.new)) }
     ensures done { result ≡ true → line.new.session ≡ None }
@@ -105,7 +108,8 @@ fn serve_line<S: Starter, B: Blob, L: Leaf, C: Recorder<B, L>, G: Gate>(
         × (map (λ c. card_seen B.told B.seen L.seen c) cards.items ≡ cards_in works) × AreRead works
         × ((paths : Paths) → FitAll paths works
         → TalkOver seat.driver paths line.old (C.given recorder.old) (asked_in works) line.new
-        (C.given recorder.new)) }
+        (C.given recorder.new))
+        × ((mid : List Given) × AddsWorks works (C.given recorder.old) mid × AddsRead mid (C.given recorder.new)) }
     ensures none { line.new.session ≡ None }
 {
     if serve_all(alloc, seat, line, late, recorder, gate, cards) {
@@ -196,7 +200,8 @@ impl<S: Starter, B: Blob, L: Leaf> Desk<S, B, L> {
         ensures served { (works : List WorkSeen) × (self.cards ≡ cards_in works) × AreRead works
             × ((paths : Paths) → FitAll paths works
             → IsServed self.driver paths (asked_in works) self.starter (S.seen result.starter)
-            (C.given recorder.old) (C.given recorder.new)) }
+            (C.given recorder.old) (C.given recorder.new))
+            × AreTied works (C.given recorder.new) }
     {
         desk_laws();
         exchanges_are_spelled();

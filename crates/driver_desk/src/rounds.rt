@@ -10,6 +10,7 @@ ghost use Rattle.driver_desk.specs.Rounds.{TalkOver, TurnsBy};
 ghost use Rattle.checkout_core.specs.declared.path.Heard.{Heard};
 ghost use Rattle.checkout_core.specs.Fates.{Known, fate_here};
 ghost use Rattle.checkout_core.specs.Talks.{contains};
+ghost use Rattle.driver_desk.specs.Added.{AddsRead};
 ghost use Rattle.driver_desk.specs.Cards.{IsReadCard, IsAskedCard};
 ghost use Rattle.driver_desk.specs.Recorders.{MayEnd, IsEnd};
 ghost use Rattle.driver_desk.specs.Places.{IsAt, IsServing, IsNaming, IsListing, AfterList, InRoundsAt, IsDone};
@@ -40,6 +41,7 @@ fn note_names<B: Blob, L: Leaf, C: Recorder<B, L>>(recorder: &mut C, late: &Late
         × (noted_in more ≡ map Event.Named (names_at late.now)) × AllSealed NoAnswer more }
     ensures standing { C.standing recorder.new ≡ C.standing recorder.old }
     ensures fixed { C.fixed recorder.new ≡ C.fixed recorder.old }
+    ensures read { AddsRead (C.given recorder.old) (C.given recorder.new) }
 {
     desk_laws();
     let places = late.listed();
@@ -66,6 +68,7 @@ fn note_list<B: Blob, L: Leaf, C: Recorder<B, L>>(
         (names_in late.now.numbers late.now.table.turns reply) first delay }
     ensures standing { C.standing recorder.new ≡ C.standing recorder.old }
     ensures fixed { C.fixed recorder.new ≡ C.fixed recorder.old }
+    ensures read { AddsRead (C.given recorder.old) (C.given recorder.new) }
     ensures noted { (more : List Given) × (C.given recorder.new ≡ C.given recorder.old ++ more)
         × (noted_in more ≡ list_notes driver (names_in late.now.numbers late.now.table.turns reply) reply)
         × AllSealed NoAnswer more }
@@ -101,6 +104,7 @@ fn after_second<B: Blob, L: Leaf, C: Recorder<B, L>>(
         (C.given recorder.old) (C.given recorder.new) }
     ensures standing { C.standing recorder.new ≡ C.standing recorder.old }
     ensures fixed { C.fixed recorder.new ≡ C.fixed recorder.old }
+    ensures read { AddsRead (C.given recorder.old) (C.given recorder.new) }
 {
     match reply {
         Reply::Content => close_got(work, put, recorder),
@@ -130,6 +134,7 @@ fn redo<S: Starter, B: Blob, L: Leaf, C: Recorder<B, L>>(
         → InRoundsAt (C.standing recorder.new) (C.given recorder.new) line.new.session left turns }
     ensures standing { C.standing recorder.new ≡ C.standing recorder.old }
     ensures fixed { C.fixed recorder.new ≡ C.fixed recorder.old }
+    ensures read { AddsRead (C.given recorder.old) (C.given recorder.new) }
     ensures rounds { (paths : Paths) (line0 : LineView) (given0 : List Given) (asked turns cards left : List ℕ)
         → paths.text work.card.path ≡ work.card.text → RedoneCards cards work.card.path left
         → RoundsBy seat.driver paths line0 given0 asked line.old.session line.old (C.given recorder.old) cards
@@ -163,6 +168,7 @@ fn redo_all<S: Starter, B: Blob, L: Leaf, C: Recorder<B, L>>(
         (paths_of (cards_of late.new)) [] }
     ensures standing { C.standing recorder.new ≡ C.standing recorder.old }
     ensures fixed { C.fixed recorder.new ≡ C.fixed recorder.old }
+    ensures read { AddsRead (C.given recorder.old) (C.given recorder.new) }
     ensures rounds { (paths : Paths) (line0 : LineView) (given0 : List Given) (asked : List ℕ)
         → FitTexts paths (cards_of late.old)
         → RoundsBy seat.driver paths line0 given0 asked line.old.session line.old (C.given recorder.old) (paths_of
@@ -207,6 +213,7 @@ fn one_round<S: Starter, B: Blob, L: Leaf, C: Recorder<B, L>>(
         (paths_of (cards_of late.new)) [] }
     ensures standing { C.standing recorder.new ≡ C.standing recorder.old }
     ensures fixed { C.fixed recorder.new ≡ C.fixed recorder.old }
+    ensures read { AddsRead (C.given recorder.old) (C.given recorder.new) }
     ensures rounds { (paths : Paths) (line0 : LineView) (given0 : List Given) (asked : List ℕ)
         → FitTexts paths (cards_of late.old) → FitsNames paths late.old
         → RoundsBy seat.driver paths line0 given0 asked line.old.session line.old (C.given recorder.old) (paths_of
@@ -244,6 +251,7 @@ fn rounds<S: Starter, B: Blob, L: Leaf, C: Recorder<B, L>>(
     ensures state { IsDone (C.standing recorder.new) (C.given recorder.new) }
     ensures standing { C.standing recorder.new ≡ C.standing recorder.old }
     ensures fixed { C.fixed recorder.new ≡ C.fixed recorder.old }
+    ensures read { AddsRead (C.given recorder.old) (C.given recorder.new) }
     ensures over { (paths : Paths) (line0 : LineView) (given0 : List Given) (asked : List ℕ)
         → FitTexts paths (cards_of late.old) → FitsNames paths late.old
         → RoundsBy seat.driver paths line0 given0 asked line.old.session line.old (C.given recorder.old) (paths_of
@@ -275,6 +283,7 @@ pub(crate) fn end_talk<S: Starter, B: Blob, L: Leaf, C: Recorder<B, L>>(
     ensures state { IsDone (C.standing recorder.new) (C.given recorder.new) }
     ensures standing { C.standing recorder.new ≡ C.standing recorder.old }
     ensures fixed { C.fixed recorder.new ≡ C.fixed recorder.old }
+    ensures read { AddsRead (C.given recorder.old) (C.given recorder.new) }
     ensures over { (paths : Paths) (line0 : LineView) (given0 : List Given) (asked : List ℕ)
         → FitTexts paths (cards_of late.old) → FitsNames paths late.old
         → Serves seat.driver paths line0 given0 asked [] line.old (C.given recorder.old) false (newest (paths_of

@@ -12,6 +12,7 @@ ghost use Rattle.checkout_core.specs.Conditions.{heard_opening};
 ghost use Rattle.checkout_core.specs.declared.path.Heard.{Heard};
 ghost use Rattle.checkout_core.specs.Fates.{Known, fate_here};
 ghost use Rattle.checkout_core.specs.Talks.{Talk};
+ghost use Rattle.driver_desk.specs.Added.{AddsRead, AddsWork};
 ghost use Rattle.driver_desk.specs.Cards.{IsPlanned, IsReadCard, IsAskedCard, ready_of};
 ghost use Rattle.driver_desk.specs.Recorders.{MayEnd, IsEnd};
 ghost use Rattle.driver_desk.specs.Places.{IsAt, IsServing, IsUnopened, IsAnswered, AreLost};
@@ -51,6 +52,7 @@ pub(crate) fn close_late<B: Blob, L: Leaf, C: Recorder<B, L>>(
         → IsAt (C.standing recorder.new) (C.given recorder.new) rest rest first t }
     ensures standing { C.standing recorder.new ≡ C.standing recorder.old }
     ensures fixed { C.fixed recorder.new ≡ C.fixed recorder.old }
+    ensures read { AddsRead (C.given recorder.old) (C.given recorder.new) }
     ensures closed { AreClosings NoAnswer (C.given recorder.old) (C.given recorder.new) }
     ensures none { cards_of late.new ≡ [] }
     ensures names { KeepsNames late.old late.new }
@@ -84,6 +86,7 @@ fn open_new<S: Starter, B: Blob, L: Leaf, C: Recorder<B, L>>(
     ensures closed { (cause : OpenCause) → result ≡ Some cause → line.new.session ≡ None }
     ensures standing { C.standing recorder.new ≡ C.standing recorder.old }
     ensures fixed { C.fixed recorder.new ≡ C.fixed recorder.old }
+    ensures read { AddsRead (C.given recorder.old) (C.given recorder.new) }
     ensures opened { result ≡ None → (paths : Paths) (line0 : LineView) (given0 : List Given) (asked : List ℕ)
         → Serves driver paths line0 given0 asked (path ∷ []) line.old (C.given recorder.old) false []
         → Serves driver paths line0 given0 asked (path ∷ []) line.new (C.given recorder.new) false [] }
@@ -130,6 +133,7 @@ fn open_for<S: Starter, B: Blob, L: Leaf, C: Recorder<B, L>>(
     ensures closed { (cause : OpenCause) → result ≡ Some cause → line.new.session ≡ None }
     ensures standing { C.standing recorder.new ≡ C.standing recorder.old }
     ensures fixed { C.fixed recorder.new ≡ C.fixed recorder.old }
+    ensures read { AddsRead (C.given recorder.old) (C.given recorder.new) }
     ensures opened { result ≡ None → (paths : Paths) (line0 : LineView) (given0 : List Given) (asked names : List ℕ)
         → IsSane line.old.session names
         → Serves driver paths line0 given0 asked (path ∷ []) line.old (C.given recorder.old) false names
@@ -196,6 +200,7 @@ fn after_reply<B: Blob, L: Leaf, C: Recorder<B, L>>(
         → IsAt (C.standing recorder.new) (C.given recorder.new) (paths_of (cards_of late.new) ++ rest) rest first t }
     ensures standing { C.standing recorder.new ≡ C.standing recorder.old }
     ensures fixed { C.fixed recorder.new ≡ C.fixed recorder.old }
+    ensures read { AddsRead (C.given recorder.old) (C.given recorder.new) }
     ensures cards { GrowsLate (C.standing recorder.old) (cards_of late.old) work.card.path work.card.text
         (cards_of late.new) }
     ensures late { newest (paths_of (cards_of late.new))
@@ -251,6 +256,7 @@ fn ask_card<S: Starter, B: Blob, L: Leaf, C: Recorder<B, L>, G: Gate>(
         (paths_of (cards_of late.new)) [] rest }
     ensures standing { C.standing recorder.new ≡ C.standing recorder.old }
     ensures fixed { C.fixed recorder.new ≡ C.fixed recorder.old }
+    ensures read { AddsRead (C.given recorder.old) (C.given recorder.new) }
     ensures serves { (paths : Paths) (line0 : LineView) (given0 : List Given) (asked : List ℕ)
         → paths.text card.path ≡ card.text → paths.content card.path ≡ prepared.bytes
         → Serves seat.driver paths line0 given0 asked (card.path ∷ []) line.old (C.given recorder.old) false (newest
@@ -305,6 +311,7 @@ fn not_opened<B: Blob, L: Leaf, C: Recorder<B, L>>(
     ensures closed { AreClosings NoAnswer (C.given recorder.old) (C.given recorder.new) }
     ensures standing { C.standing recorder.new ≡ C.standing recorder.old }
     ensures fixed { C.fixed recorder.new ≡ C.fixed recorder.old }
+    ensures read { AddsRead (C.given recorder.old) (C.given recorder.new) }
 {
     match cause {
         OpenCause::NotStarted | OpenCause::Broken(_) => refuse(work, required, Ok(()), recorder),
@@ -342,6 +349,7 @@ fn serve_card<S: Starter, B: Blob, L: Leaf, C: Recorder<B, L>, G: Gate>(
         (paths_of (cards_of late.new)) [] rest }
     ensures standing { C.standing recorder.new ≡ C.standing recorder.old }
     ensures fixed { C.fixed recorder.new ≡ C.fixed recorder.old }
+    ensures read { AddsRead (C.given recorder.old) (C.given recorder.new) }
     ensures serves { (paths : Paths) (line0 : LineView) (given0 : List Given) (asked : List ℕ)
         → paths.text card.path ≡ card.text → paths.content card.path ≡ prepared.bytes
         → Serves seat.driver paths line0 given0 asked [] line.old (C.given recorder.old) false (newest (paths_of
@@ -407,7 +415,8 @@ pub(crate) fn serve_one<S: Starter, B: Blob, L: Leaf, C: Recorder<B, L>, G: Gate
         → Serves seat.driver paths line0 given0 asked [] line.old (C.given recorder.old) aborted (newest (paths_of
         (cards_of late.old)))
         → Serves seat.driver paths line0 given0 (asked ++ asked_of w.card.path w.content) [] line.new
-        (C.given recorder.new) result (newest (paths_of (cards_of late.new)))) }
+        (C.given recorder.new) result (newest (paths_of (cards_of late.new))))
+        × AddsWork w.card.path w.content (C.given recorder.old) (C.given recorder.new) }
     ensures cards { GrowsLate (C.standing recorder.old) (cards_of late.old) card.path card.text
         (cards_of late.new) }
     ensures done { result ≡ true → line.new.session ≡ None }

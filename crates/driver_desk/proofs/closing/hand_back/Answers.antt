@@ -5,6 +5,7 @@ use Rattle.checkout_core.specs.declared.path.Heard.TheVariants.{Refused}
 use Rattle.driver_desk.specs.Serving.{HandedBack}
 use Rattle.driver_desk.proofs.Serves.{closed_as}
 use Rattle.driver_desk.proofs.Closings.{gone_sealed, closes_read, may_failed, refused_one, rose_kept}
+use Rattle.driver_desk.proofs.Ties.{adds_closed}
 use Rattle.driver_desk.proofs.closing.hand_back.Goals as goal
 
 pub restart-requires : goal.restart-requires
@@ -42,3 +43,9 @@ returns-in-Ok-clause-closed g c = (HandedBack _ ∷ [], c.hand_back.ensures.give
 
 pub returns-in-Err-clause-closed : goal.returns-in-Err-clause-closed
 returns-in-Err-clause-closed g c = closed_as _ _ _ _ (λ q told k. gone_sealed _ k.2 c.write_failed-own.ensures.gone k.3) c.close.ensures.closed
+
+pub returns-in-Ok-clause-read : goal.returns-in-Ok-clause-read
+returns-in-Ok-clause-read g c = (HandedBack _ ∷ [], c.hand_back.ensures.given, (tt, tt))
+
+pub returns-in-Err-clause-read : goal.returns-in-Err-clause-read
+returns-in-Err-clause-read g c = adds_closed _ _ _ _ (ap was_read c.write_failed-own.ensures.own) c.close.ensures.one

@@ -5,6 +5,7 @@ use Rattle.driver_desk.specs.Works.{WorkSeen, AreNew, AreRead, FitAll, asked_in,
 use Rattle.driver_desk.specs.Late.{AreIdle, KeepsNames, StaysUnlisted, cards_of}
 use Rattle.driver_desk.specs.Rounds.{paths_of, AreReady, AreApart, FitTexts}
 use Rattle.driver_desk.specs.Places.{IsServing}
+use Rattle.driver_desk.specs.Added.{AddsWorks}
 use Rattle.driver_desk.specs.Serving.{Given, Serves, newest, IsSane}
 use Rattle.driver_desk.proofs.desk.serve_all.Given as goal
 
@@ -28,7 +29,8 @@ invariant-loop-card g l = record {
       × ((paths : Paths) (line0 : LineView) (given0 : List Given) (asked : List ℕ) → FitAll paths works
       → Serves l.seat.driver paths line0 given0 asked [] l.initial.line (g.C.Recorder.given l.initial.recorder) false []
       → Serves l.seat.driver paths line0 given0 (asked ++ asked_in works) [] l.line (g.C.Recorder.given l.recorder) l.aborted (newest (paths_of (cards_of l.late))))
-      × ((paths : Paths) → FitAll paths works → FitTexts paths (cards_of l.late));
+      × ((paths : Paths) → FitAll paths works → FitTexts paths (cards_of l.late))
+      × AddsWorks works (g.C.Recorder.given l.initial.recorder) (g.C.Recorder.given l.recorder);
 }
 
 abbrev pub decreases-loop-card : goal.decreases-loop-card

@@ -9,6 +9,7 @@ use Rattle.driver_desk.specs.Serving.{NoAnswer, newest, late_after}
 use Rattle.driver_desk.proofs.Serves.{closed_all, closed_as, closed_none, no_closing, newest_card}
 use Rattle.driver_desk.proofs.LateCards.{idle_next}
 use Rattle.driver_desk.proofs.Calls.{drop_wanted, may_error, may_over, answered_ends, answered_waits, answered_lost, at_as, at_none, lost_as, over_none}
+use Rattle.driver_desk.proofs.Ties.{adds_both, adds_none}
 use Rattle.driver_desk.proofs.serving.after_reply.Goals as goal
 
 pub close_got-requires-clause-may : goal.close_got-requires-clause-may
@@ -84,3 +85,12 @@ returns-in-Abort-clause-closed g c = closed_none _ _ _ (closed_all NoAnswer _ _ 
 
 pub returns-in-NoMemory-clause-closed : goal.returns-in-NoMemory-clause-closed
 returns-in-NoMemory-clause-closed g c = closed_none _ _ _ (closed_all NoAnswer _ _ _ c.close_empty.ensures.closed c.close_late-in-NoMemory.ensures.closed)
+
+pub returns-in-Delayed-clause-read : goal.returns-in-Delayed-clause-read
+returns-in-Delayed-clause-read g c = adds_none _ _ refl
+
+pub returns-in-Abort-clause-read : goal.returns-in-Abort-clause-read
+returns-in-Abort-clause-read g c = adds_both _ _ _ c.refuse-in-Abort.ensures.read c.close_late.ensures.read
+
+pub returns-in-NoMemory-clause-read : goal.returns-in-NoMemory-clause-read
+returns-in-NoMemory-clause-read g c = adds_both _ _ _ c.close_empty.ensures.read c.close_late-in-NoMemory.ensures.read

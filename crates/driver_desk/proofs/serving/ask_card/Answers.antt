@@ -10,6 +10,7 @@ use Rattle.driver_desk.proofs.Serves.{closed_as, asked_card, asked_sane, asked_d
 use Rattle.driver_desk.specs.Recorders.{MayEnd}
 use Rattle.driver_desk.proofs.Places.{own_driver, first_has}
 use Rattle.driver_desk.proofs.Calls.{asks, asked_serving, end_as, answered_for, at_back, serving_as, answered_as}
+use Rattle.driver_desk.proofs.Ties.{adds_both, adds_note}
 use Rattle.driver_desk.proofs.serving.ask_card.Goals as goal
 
 pub note-requires-clause-own : goal.note-requires-clause-own
@@ -79,3 +80,6 @@ returns-clause-sane g c = asked_sane c.args.line.now.session c.ask-reply.new.sel
 
 pub returns-clause-done : goal.returns-clause-done
 returns-clause-done g c e = asked_done c.args.line.now.session c.ask-reply.new.self.session c.ask-reply.result.reply c.requires.open c.ask-reply.ensures.goes (sym c.is_abort.ensures ∙ e)
+
+pub returns-clause-read : goal.returns-clause-read
+returns-clause-read g c = adds_both _ _ _ (adds_note _ _ _ c.note.ensures.given) c.after_reply.ensures.read

@@ -1,5 +1,6 @@
 use Rattle.std.proofs.Common.{◌≡◌, ℕ, List, length}
 use Rattle.checkout_core.specs.Talks.{Talk}
+use Rattle.driver_desk.specs.Added.{AddsRead}
 use Rattle.driver_desk.specs.Serving.{AreClosings, NoAnswer}
 use Rattle.driver_desk.specs.Late.{AreIdle, KeepsNames, StaysUnlisted, cards_of}
 use Rattle.driver_desk.specs.Places.{AreLost}
@@ -10,6 +11,7 @@ abbrev pub invariant-loop-work : goal.invariant-loop-work
 invariant-loop-work g l = record {
   ready : AreReady (g.C.Recorder.standing l.initial.recorder) (cards_of l.late);
   closed : AreClosings NoAnswer (g.C.Recorder.given l.initial.recorder) (g.C.Recorder.given l.recorder);
+  read : AddsRead (g.C.Recorder.given l.initial.recorder) (g.C.Recorder.given l.recorder);
   names : KeepsNames l.initial.late l.late;
   idle : (q : ℕ) → AreIdle q l.initial.late → AreIdle q l.late;
   turns : StaysUnlisted l.initial.late l.late;

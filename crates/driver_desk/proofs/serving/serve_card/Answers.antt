@@ -7,6 +7,7 @@ use Rattle.driver_desk.proofs.Serves.{serves_ahead, serves_none, serves_past, pa
 use Rattle.driver_desk.proofs.Calls.{ended_at, serving_as, serving_ends, unopened_ends, unsmudged_ends}
 use Rattle.driver_desk.proofs.RoundSteps.{ready_as}
 use Rattle.driver_desk.proofs.Closings.{asked_not, planned_as, grows_as}
+use Rattle.driver_desk.proofs.Ties.{adds_both}
 use Rattle.driver_desk.proofs.serving.serve_card.Goals as goal
 
 pub not_opened-requires-clause-may : goal.not_opened-requires-clause-may
@@ -74,3 +75,12 @@ pub returns-clause-serves : goal.returns-clause-serves
 returns-clause-serves g c paths line0 given0 asked e i h =
     c.ask_card.ensures.serves paths line0 given0 asked e i
     (c.open_for.ensures.opened c.in_default.is paths line0 given0 asked _ c.requires.sane (serves_ahead c.args.seat.driver paths line0 given0 asked c.args.card.path _ _ false _ h))
+
+pub returns-in-Some-clause-read : goal.returns-in-Some-clause-read
+returns-in-Some-clause-read g c = adds_both _ _ _ c.open_for.ensures.read c.not_opened.ensures.read
+
+pub returns-then-not-has_smudge-clause-read : goal.returns-then-not-has_smudge-clause-read
+returns-then-not-has_smudge-clause-read g c = adds_both _ _ _ c.open_for.ensures.read c.refuse.ensures.read
+
+pub returns-clause-read : goal.returns-clause-read
+returns-clause-read g c = adds_both _ _ _ c.open_for.ensures.read c.ask_card.ensures.read

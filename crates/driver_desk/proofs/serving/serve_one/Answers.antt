@@ -85,7 +85,8 @@ returns-then-aborted-clause-serves g c = (
   record { card = card_seen g.B.Blob.told g.B.Blob.seen g.L.Leaf.seen c.args.card; content = Ok c.in-Ok.prepared.bytes },
   refl,
   (c.in-Ok.prepared, c.in-Ok.ensures.read, refl),
-  λ paths line0 given0 asked fit s. work_past c.args.seat.driver paths line0 given0 asked c.args.card.path (Ok c.in-Ok.prepared.bytes) _ _ _ _ _ c.if-aborted.true c.refuse.ensures.closed s,
+  (λ paths line0 given0 asked fit s. work_past c.args.seat.driver paths line0 given0 asked c.args.card.path (Ok c.in-Ok.prepared.bytes) _ _ _ _ _ c.if-aborted.true c.refuse.ensures.closed s),
+  c.refuse.ensures.read,
 )
 
 pub returns-else-aborted-clause-serves : goal.returns-else-aborted-clause-serves
@@ -95,8 +96,9 @@ returns-else-aborted-clause-serves g c =
       record { card = card_seen g.B.Blob.told g.B.Blob.seen g.L.Leaf.seen c.args.card; content = Ok c.in-Ok.prepared.bytes },
       refl,
       (c.in-Ok.prepared, c.in-Ok.ensures.read, refl),
-      λ paths line0 given0 asked fit s. serves_asked _ _ _ _ _ _ [] _ _ _ _ (ap (λ (p : ℕ). asked ++ p ∷ []) path)
-          (c.serve_card.ensures.serves paths line0 given0 asked (ap paths.text path ∙ (fit.0 ∙ sym text)) (ap paths.content path ∙ fit.1) (serves_as c.args.seat.driver paths _ _ _ _ _ _ _ _ c.if-aborted.false s)),
+      (λ paths line0 given0 asked fit s. serves_asked _ _ _ _ _ _ [] _ _ _ _ (ap (λ (p : ℕ). asked ++ p ∷ []) path)
+          (c.serve_card.ensures.serves paths line0 given0 asked (ap paths.text path ∙ (fit.0 ∙ sym text)) (ap paths.content path ∙ fit.1) (serves_as c.args.seat.driver paths _ _ _ _ _ _ _ _ c.if-aborted.false s))),
+      c.serve_card.ensures.read,
     )
 
 pub returns-in-Err-clause-serves : goal.returns-in-Err-clause-serves
@@ -104,5 +106,6 @@ returns-in-Err-clause-serves g c = (
   record { card = card_seen g.B.Blob.told g.B.Blob.seen g.L.Leaf.seen c.args.card; content = Err c.in-Err.own },
   refl,
   c.in-Err.ensures.read,
-  λ paths line0 given0 asked fit s. work_failed c.args.seat.driver paths line0 given0 asked c.args.card.path (Err c.in-Err.own) c.in-Err.own _ _ _ _ _ refl c.close_unread.ensures.closed s,
+  (λ paths line0 given0 asked fit s. work_failed c.args.seat.driver paths line0 given0 asked c.args.card.path (Err c.in-Err.own) c.in-Err.own _ _ _ _ _ refl c.close_unread.ensures.closed s),
+  let o = c.close_unread.ensures.one in (o.0, o.1 ∙ ap (λ (x : CardSeen). x.path) c.read_card.ensures.kept, o.2),
 )
