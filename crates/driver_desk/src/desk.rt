@@ -18,7 +18,7 @@ use crate::late::Late;
 use crate::laws::desk_laws;
 use crate::recorder::Recorder;
 use crate::rounds::end_talk;
-use crate::serving::{Seat, serve_one};
+use crate::serving::{Placed, Seat, Service, serve_one};
 use convert_plan::Card;
 use core_laws::laws::a_talk_is_a_transcript;
 use driver_line::{
@@ -32,12 +32,10 @@ use std::marker::Model;
 
 /// Serves the cards, one after another, and tells whether the driver aborted.
 fn serve_all<S: Starter, B: Blob, L: Leaf, C: Recorder<B, L>, G: Gate>(
-    alloc: Global,
-    seat: Seat,
+    service: &Service<G>,
     line: &mut Line<S>,
     late: &mut Late<B, L>,
     recorder: &mut C,
-    gate: &G,
     mut cards: VecDeque<Card<B, L>>,
 ) -> bool
     requires starts { starts_of line.old + length cards.items < 2 ^ 32 }
@@ -48,8 +46,8 @@ fn serve_all<S: Starter, B: Blob, L: Leaf, C: Recorder<B, L>, G: Gate>(
     requires numbers { late.old.numbers ≡ card_paths (map (λ c. card_seen B.told B.seen L.seen c) cards.items) }
     requires idle { AreIdle 0 late.old }
     requires apart { AreApart late.old.numbers }
-    requires driver { (C.standing recorder.old).driver ≡ seat.driver }
-    requires required { (C.standing recorder.old).required ≡ seat.required }
+    requires driver { (C.standing recorder.old).driver ≡ service.now.seat.driver }
+    requires required { (C.standing recorder.old).required ≡ service.now.seat.required }
     requires state { IsServing (C.standing recorder.old) (C.given recorder.old) None false [] []
         (card_paths (map (λ c. card_seen B.told B.seen L.seen c) cards.items)) }
     ensures state { IsServing (C.standing recorder.new) (C.given recorder.new) line.new.session result
@@ -59,9 +57,9 @@ fn serve_all<S: Starter, B: Blob, L: Leaf, C: Recorder<B, L>, G: Gate>(
     ensures serves { (works : List WorkSeen)
         × (map (λ c. card_seen B.told B.seen L.seen c) cards.items ≡ cards_in works) × AreRead works
         × ((paths : Paths) (line0 : LineView) (given0 : List Given) (asked : List ℕ) → FitAll paths works
-        → Serves seat.driver paths line0 given0 asked [] line.old (C.given recorder.old) false []
-        → Serves seat.driver paths line0 given0 (asked ++ asked_in works) [] line.new (C.given recorder.new) result
-        (newest (paths_of (cards_of late.new))))
+        → Serves service.now.seat.driver paths line0 given0 asked [] line.old (C.given recorder.old) false []
+        → Serves service.now.seat.driver paths line0 given0 (asked ++ asked_in works) [] line.new
+        (C.given recorder.new) result (newest (paths_of (cards_of late.new))))
         × ((paths : Paths) → FitAll paths works → FitTexts paths (cards_of late.new))
         × AddsWorks works (C.given recorder.old) (C.given recorder.new) }
     ensures ready { AreReady (C.standing recorder.old) (cards_of late.new) }
@@ -74,9 +72,8 @@ fn serve_all<S: Starter, B: Blob, L: Leaf, C: Recorder<B, L>, G: Gate>(
     let mut aborted = false;
     let mut place = 0;
     while let Some(card) = cards.pop_front() {
-        aborted = serve_one(
-            alloc, seat, line, late, recorder, gate, aborted, place, card,
-        );
+        let placed = Placed { place, card };
+        aborted = serve_one(service, line, late, recorder, aborted, placed);
         place += 1;
     }
     aborted
@@ -84,12 +81,10 @@ fn serve_all<S: Starter, B: Blob, L: Leaf, C: Recorder<B, L>, G: Gate>(
 
 /// Serves the cards and ends the talk.
 fn serve_line<S: Starter, B: Blob, L: Leaf, C: Recorder<B, L>, G: Gate>(
-    alloc: Global,
-    seat: Seat,
+    service: &Service<G>,
     line: &mut Line<S>,
     late: &mut Late<B, L>,
     recorder: &mut C,
-    gate: &G,
     cards: VecDeque<Card<B, L>>,
 )
     requires starts { starts_of line.old + length cards.items < 2 ^ 32 }
@@ -97,8 +92,8 @@ fn serve_line<S: Starter, B: Blob, L: Leaf, C: Recorder<B, L>, G: Gate>(
     requires cards { (C.standing recorder.old).cards ≡ map (λ c. card_seen B.told B.seen L.seen c) cards.items }
     requires new { AreNew (map (λ c. card_seen B.told B.seen L.seen c) cards.items) }
     requires late { IsNewLate (map (λ c. card_seen B.told B.seen L.seen c) cards.items) late.old }
-    requires driver { (C.standing recorder.old).driver ≡ seat.driver }
-    requires required { (C.standing recorder.old).required ≡ seat.required }
+    requires driver { (C.standing recorder.old).driver ≡ service.now.seat.driver }
+    requires required { (C.standing recorder.old).required ≡ service.now.seat.required }
     requires state { IsServing (C.standing recorder.old) (C.given recorder.old) None false [] []
         (card_paths (map (λ c. card_seen B.told B.seen L.seen c) cards.items)) }
     ensures state { IsDone (C.standing recorder.new) (C.given recorder.new) }
@@ -107,15 +102,15 @@ fn serve_line<S: Starter, B: Blob, L: Leaf, C: Recorder<B, L>, G: Gate>(
     ensures talk { (works : List WorkSeen)
         × (map (λ c. card_seen B.told B.seen L.seen c) cards.items ≡ cards_in works) × AreRead works
         × ((paths : Paths) → FitAll paths works
-        → TalkOver seat.driver paths line.old (C.given recorder.old) (asked_in works) line.new
+        → TalkOver service.now.seat.driver paths line.old (C.given recorder.old) (asked_in works) line.new
         (C.given recorder.new))
         × ((mid : List Given) × AddsWorks works (C.given recorder.old) mid × AddsRead mid (C.given recorder.new)) }
     ensures none { line.new.session ≡ None }
 {
-    if serve_all(alloc, seat, line, late, recorder, gate, cards) {
+    if serve_all(service, line, late, recorder, cards) {
         return;
     }
-    end_talk(seat, line, late, recorder);
+    end_talk(service.seat, line, late, recorder);
 }
 
 /// The cards of a driver, and what starts it.
@@ -217,7 +212,8 @@ impl<S: Starter, B: Blob, L: Leaf> Desk<S, B, L> {
             mut late,
         } = self;
         let mut line = Line::new(alloc, starter);
-        serve_line(alloc, seat, &mut line, &mut late, recorder, gate, cards);
+        let service = Service { alloc, seat, gate };
+        serve_line(&service, &mut line, &mut late, recorder, cards);
         Served {
             starter: line.into_starter(),
         }

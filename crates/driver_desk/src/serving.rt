@@ -39,6 +39,21 @@ pub(crate) struct Seat {
     pub required: bool,
 }
 
+/// With what a desk serves its cards.
+#[derive(Drop)]
+pub(crate) struct Service<'a, G: Gate> {
+    pub alloc: Global,
+    pub seat: Seat,
+    pub gate: &'a G,
+}
+
+/// A card, with its place among those of its driver.
+#[derive(Drop)]
+pub(crate) struct Placed<B: Blob, L: Leaf> {
+    pub place: u32,
+    pub card: Card<B, L>,
+}
+
 /// Closes the cards that are late: their driver has lost them.
 pub(crate) fn close_late<B: Blob, L: Leaf, C: Recorder<B, L>>(
     late: &mut Late<B, L>,
@@ -180,23 +195,22 @@ fn after_reply<B: Blob, L: Leaf, C: Recorder<B, L>>(
     recorder: &mut C,
     place: u32,
     work: Work<B, L>,
-    reply: Reply,
-    put: Result<(), SendFault>,
+    asked: Asked,
 )
     requires asked { IsAskedCard (C.standing recorder.old) (card_seen B.told B.seen L.seen work.card) work.unencoded
-        put }
-    requires untouched { reply ≡ Reply.Delayed
+        asked.put }
+    requires untouched { asked.reply ≡ Reply.Delayed
         → IsReadCard (C.standing recorder.old) (card_seen B.told B.seen L.seen work.card) work.unencoded }
     requires here { slice_get late.old.numbers place ≡ Some work.card.path }
     requires idle { AreIdle place late.old }
     requires ready { AreReady (C.standing recorder.old) (cards_of late.old) }
     requires required { (C.standing recorder.old).required ≡ seat.required }
-    requires may { (h : Heard) → fate_here reply ≡ Known h
+    requires may { (h : Heard) → fate_here asked.reply ≡ Known h
         → MayEnd (C.standing recorder.old) (C.given recorder.old) work.card.path h }
     requires next { (rest : List ℕ) × (first : ℕ) × (t : Talk) × IsAnswered (C.standing recorder.old)
-        (C.given recorder.old) reply work.card.path (paths_of (cards_of late.old)) rest first t }
+        (C.given recorder.old) asked.reply work.card.path (paths_of (cards_of late.old)) rest first t }
     ensures next { (rest : List ℕ) (first : ℕ) (t : Talk) → IsAnswered (C.standing recorder.old)
-        (C.given recorder.old) reply work.card.path (paths_of (cards_of late.old)) rest first t
+        (C.given recorder.old) asked.reply work.card.path (paths_of (cards_of late.old)) rest first t
         → IsAt (C.standing recorder.new) (C.given recorder.new) (paths_of (cards_of late.new) ++ rest) rest first t }
     ensures standing { C.standing recorder.new ≡ C.standing recorder.old }
     ensures fixed { C.fixed recorder.new ≡ C.fixed recorder.old }
@@ -204,14 +218,15 @@ fn after_reply<B: Blob, L: Leaf, C: Recorder<B, L>>(
     ensures cards { GrowsLate (C.standing recorder.old) (cards_of late.old) work.card.path work.card.text
         (cards_of late.new) }
     ensures late { newest (paths_of (cards_of late.new))
-        ≡ late_after work.card.path reply (newest (paths_of (cards_of late.old))) }
-    ensures closed { AreClosings (GotContent reply put work.card.path (L.seen work.card.leaf).content)
+        ≡ late_after work.card.path asked.reply (newest (paths_of (cards_of late.old))) }
+    ensures closed { AreClosings (GotContent asked.reply asked.put work.card.path (L.seen work.card.leaf).content)
         (C.given recorder.old) (C.given recorder.new) }
     ensures names { KeepsNames late.old late.new }
     ensures idle { AreIdle (place + 1) late.new }
     ensures turns { StaysUnlisted late.old late.new }
 {
     desk_laws();
+    let Asked { reply, put } = asked;
     match reply {
         Reply::Content => close_got(work, put, recorder),
         Reply::Error | Reply::ErrorAfter => refuse(work, seat.required, put, recorder),
@@ -229,61 +244,61 @@ fn after_reply<B: Blob, L: Leaf, C: Recorder<B, L>>(
 
 /// Asks for a card in the open session, and tells whether the driver aborted.
 fn ask_card<S: Starter, B: Blob, L: Leaf, C: Recorder<B, L>, G: Gate>(
-    seat: Seat,
+    service: &Service<G>,
     line: &mut Line<S>,
     late: &mut Late<B, L>,
     recorder: &mut C,
-    gate: &G,
-    place: u32,
-    mut card: Card<B, L>,
+    placed: Placed<B, L>,
     prepared: Prepared,
 ) -> bool
     requires open { IsOpen line.old.session }
-    requires planned { IsPlanned (C.standing recorder.old) (card_seen B.told B.seen L.seen card) }
-    requires prepared { IsPrepared (card_seen B.told B.seen L.seen card) prepared }
-    requires here { slice_get late.old.numbers place ≡ Some card.path }
-    requires idle { AreIdle place late.old }
+    requires planned { IsPlanned (C.standing recorder.old) (card_seen B.told B.seen L.seen placed.card) }
+    requires prepared { IsPrepared (card_seen B.told B.seen L.seen placed.card) prepared }
+    requires here { slice_get late.old.numbers placed.place ≡ Some placed.card.path }
+    requires idle { AreIdle placed.place late.old }
     requires ready { AreReady (C.standing recorder.old) (cards_of late.old) }
-    requires driver { (C.standing recorder.old).driver ≡ seat.driver }
-    requires required { (C.standing recorder.old).required ≡ seat.required }
-    requires next { (rest : List ℕ) × AreApart (card.path ∷ (paths_of (cards_of late.old) ++ rest))
+    requires driver { (C.standing recorder.old).driver ≡ service.now.seat.driver }
+    requires required { (C.standing recorder.old).required ≡ service.now.seat.required }
+    requires next { (rest : List ℕ) × AreApart (placed.card.path ∷ (paths_of (cards_of late.old) ++ rest))
         × IsServing (C.standing recorder.old) (C.given recorder.old) line.old.session false
-        (paths_of (cards_of late.old)) (card.path ∷ []) rest }
-    ensures next { (rest : List ℕ) → AreApart (card.path ∷ (paths_of (cards_of late.old) ++ rest))
+        (paths_of (cards_of late.old)) (placed.card.path ∷ []) rest }
+    ensures next { (rest : List ℕ) → AreApart (placed.card.path ∷ (paths_of (cards_of late.old) ++ rest))
         → IsServing (C.standing recorder.old) (C.given recorder.old) line.old.session false
-        (paths_of (cards_of late.old)) (card.path ∷ []) rest
+        (paths_of (cards_of late.old)) (placed.card.path ∷ []) rest
         → IsServing (C.standing recorder.new) (C.given recorder.new) line.new.session result
         (paths_of (cards_of late.new)) [] rest }
     ensures standing { C.standing recorder.new ≡ C.standing recorder.old }
     ensures fixed { C.fixed recorder.new ≡ C.fixed recorder.old }
     ensures read { AddsRead (C.given recorder.old) (C.given recorder.new) }
     ensures serves { (paths : Paths) (line0 : LineView) (given0 : List Given) (asked : List ℕ)
-        → paths.text card.path ≡ card.text → paths.content card.path ≡ prepared.bytes
-        → Serves seat.driver paths line0 given0 asked (card.path ∷ []) line.old (C.given recorder.old) false (newest
-        (paths_of (cards_of late.old)))
-        → Serves seat.driver paths line0 given0 (asked ++ card.path ∷ []) [] line.new (C.given recorder.new) result
-        (newest (paths_of (cards_of late.new))) }
-    ensures cards { GrowsLate (C.standing recorder.old) (cards_of late.old) card.path card.text
+        → paths.text placed.card.path ≡ placed.card.text → paths.content placed.card.path ≡ prepared.bytes
+        → Serves service.now.seat.driver paths line0 given0 asked (placed.card.path ∷ []) line.old
+        (C.given recorder.old) false (newest (paths_of (cards_of late.old)))
+        → Serves service.now.seat.driver paths line0 given0 (asked ++ placed.card.path ∷ []) [] line.new
+        (C.given recorder.new) result (newest (paths_of (cards_of late.new))) }
+    ensures cards { GrowsLate (C.standing recorder.old) (cards_of late.old) placed.card.path placed.card.text
         (cards_of late.new) }
     ensures done { result ≡ true → line.new.session ≡ None }
     ensures sane { IsSane line.new.session (newest (paths_of (cards_of late.new))) }
     ensures names { KeepsNames late.old late.new }
-    ensures idle { AreIdle (place + 1) late.new }
+    ensures idle { AreIdle (placed.place + 1) late.new }
     ensures turns { StaysUnlisted late.old late.new }
     ensures starts { starts_of line.new ≤ starts_of line.old }
 {
     desk_laws();
+    let Placed { place, mut card } = placed;
     let path = card.path;
     let lent = &mut card;
-    let Asked { reply, put } = line.ask(
+    let asked = line.ask(
         lent.text.as_slice(),
         prepared.bytes.as_slice(),
         &mut lent.leaf,
     );
+    let reply = asked.reply;
     recorder.note(Event::Answered { path, reply });
-    gate.at(seat.actor, path, Point::Replied);
-    let work = keep_ready(card, prepared, seat.required);
-    after_reply(seat, late, recorder, place, work, reply, put);
+    service.gate.at(service.seat.actor, path, Point::Replied);
+    let work = keep_ready(card, prepared, service.seat.required);
+    after_reply(service.seat, late, recorder, place, work, asked);
     is_abort(reply)
 }
 
@@ -321,123 +336,118 @@ fn not_opened<B: Blob, L: Leaf, C: Recorder<B, L>>(
 
 /// Serves one card whose content is prepared, and tells whether the driver aborted.
 fn serve_card<S: Starter, B: Blob, L: Leaf, C: Recorder<B, L>, G: Gate>(
-    seat: Seat,
+    service: &Service<G>,
     line: &mut Line<S>,
     late: &mut Late<B, L>,
     recorder: &mut C,
-    gate: &G,
-    place: u32,
-    card: Card<B, L>,
+    placed: Placed<B, L>,
     prepared: Prepared,
 ) -> bool
     requires starts { starts_of line.old < 2 ^ 32 }
     requires sane { IsSane line.old.session (newest (paths_of (cards_of late.old))) }
-    requires planned { IsPlanned (C.standing recorder.old) (card_seen B.told B.seen L.seen card) }
-    requires prepared { IsPrepared (card_seen B.told B.seen L.seen card) prepared }
-    requires here { slice_get late.old.numbers place ≡ Some card.path }
-    requires idle { AreIdle place late.old }
+    requires planned { IsPlanned (C.standing recorder.old) (card_seen B.told B.seen L.seen placed.card) }
+    requires prepared { IsPrepared (card_seen B.told B.seen L.seen placed.card) prepared }
+    requires here { slice_get late.old.numbers placed.place ≡ Some placed.card.path }
+    requires idle { AreIdle placed.place late.old }
     requires ready { AreReady (C.standing recorder.old) (cards_of late.old) }
-    requires driver { (C.standing recorder.old).driver ≡ seat.driver }
-    requires required { (C.standing recorder.old).required ≡ seat.required }
-    requires next { (rest : List ℕ) × AreApart (card.path ∷ (paths_of (cards_of late.old) ++ rest))
+    requires driver { (C.standing recorder.old).driver ≡ service.now.seat.driver }
+    requires required { (C.standing recorder.old).required ≡ service.now.seat.required }
+    requires next { (rest : List ℕ) × AreApart (placed.card.path ∷ (paths_of (cards_of late.old) ++ rest))
         × IsServing (C.standing recorder.old) (C.given recorder.old) line.old.session false
-        (paths_of (cards_of late.old)) (card.path ∷ []) rest }
-    ensures next { (rest : List ℕ) → AreApart (card.path ∷ (paths_of (cards_of late.old) ++ rest))
+        (paths_of (cards_of late.old)) (placed.card.path ∷ []) rest }
+    ensures next { (rest : List ℕ) → AreApart (placed.card.path ∷ (paths_of (cards_of late.old) ++ rest))
         → IsServing (C.standing recorder.old) (C.given recorder.old) line.old.session false
-        (paths_of (cards_of late.old)) (card.path ∷ []) rest
+        (paths_of (cards_of late.old)) (placed.card.path ∷ []) rest
         → IsServing (C.standing recorder.new) (C.given recorder.new) line.new.session result
         (paths_of (cards_of late.new)) [] rest }
     ensures standing { C.standing recorder.new ≡ C.standing recorder.old }
     ensures fixed { C.fixed recorder.new ≡ C.fixed recorder.old }
     ensures read { AddsRead (C.given recorder.old) (C.given recorder.new) }
     ensures serves { (paths : Paths) (line0 : LineView) (given0 : List Given) (asked : List ℕ)
-        → paths.text card.path ≡ card.text → paths.content card.path ≡ prepared.bytes
-        → Serves seat.driver paths line0 given0 asked [] line.old (C.given recorder.old) false (newest (paths_of
-        (cards_of late.old)))
-        → Serves seat.driver paths line0 given0 (asked ++ card.path ∷ []) [] line.new (C.given recorder.new) result
-        (newest (paths_of (cards_of late.new))) }
-    ensures cards { GrowsLate (C.standing recorder.old) (cards_of late.old) card.path card.text
+        → paths.text placed.card.path ≡ placed.card.text → paths.content placed.card.path ≡ prepared.bytes
+        → Serves service.now.seat.driver paths line0 given0 asked [] line.old (C.given recorder.old) false
+        (newest (paths_of (cards_of late.old)))
+        → Serves service.now.seat.driver paths line0 given0 (asked ++ placed.card.path ∷ []) [] line.new
+        (C.given recorder.new) result (newest (paths_of (cards_of late.new))) }
+    ensures cards { GrowsLate (C.standing recorder.old) (cards_of late.old) placed.card.path placed.card.text
         (cards_of late.new) }
     ensures done { result ≡ true → line.new.session ≡ None }
     ensures sane { IsSane line.new.session (newest (paths_of (cards_of late.new))) }
     ensures names { KeepsNames late.old late.new }
-    ensures idle { AreIdle (place + 1) late.new }
+    ensures idle { AreIdle (placed.place + 1) late.new }
     ensures turns { StaysUnlisted late.old late.new }
     ensures starts { starts_of line.new ≤ starts_of line.old + 1 }
 {
     desk_laws();
-    if let Some(cause) = open_for(seat.driver, line, recorder, card.path) {
-        let work = keep_ready(card, prepared, seat.required);
-        not_opened(work, seat.required, cause, recorder);
+    if let Some(cause) = open_for(service.seat.driver, line, recorder, placed.card.path) {
+        let work = keep_ready(placed.card, prepared, service.seat.required);
+        not_opened(work, service.seat.required, cause, recorder);
         return false;
     }
     if !line.has_smudge() {
-        let work = keep_ready(card, prepared, seat.required);
-        refuse(work, seat.required, Ok(()), recorder);
+        let work = keep_ready(placed.card, prepared, service.seat.required);
+        refuse(work, service.seat.required, Ok(()), recorder);
         return false;
     }
-    ask_card(seat, line, late, recorder, gate, place, card, prepared)
+    ask_card(service, line, late, recorder, placed, prepared)
 }
 
 /// Serves one card, and tells whether the driver aborted so far.
 pub(crate) fn serve_one<S: Starter, B: Blob, L: Leaf, C: Recorder<B, L>, G: Gate>(
-    alloc: Global,
-    seat: Seat,
+    service: &Service<G>,
     line: &mut Line<S>,
     late: &mut Late<B, L>,
     recorder: &mut C,
-    gate: &G,
     aborted: bool,
-    place: u32,
-    mut card: Card<B, L>,
+    mut placed: Placed<B, L>,
 ) -> bool
     requires starts { starts_of line.old < 2 ^ 32 }
     requires sane { IsSane line.old.session (newest (paths_of (cards_of late.old))) }
     requires done { aborted ≡ true → line.old.session ≡ None }
-    requires planned { IsPlanned (C.standing recorder.old) (card_seen B.told B.seen L.seen card) }
-    requires here { slice_get late.old.numbers place ≡ Some card.path }
-    requires idle { AreIdle place late.old }
+    requires planned { IsPlanned (C.standing recorder.old) (card_seen B.told B.seen L.seen placed.card) }
+    requires here { slice_get late.old.numbers placed.place ≡ Some placed.card.path }
+    requires idle { AreIdle placed.place late.old }
     requires ready { AreReady (C.standing recorder.old) (cards_of late.old) }
-    requires driver { (C.standing recorder.old).driver ≡ seat.driver }
-    requires required { (C.standing recorder.old).required ≡ seat.required }
-    requires next { (rest : List ℕ) × AreApart (card.path ∷ (paths_of (cards_of late.old) ++ rest))
+    requires driver { (C.standing recorder.old).driver ≡ service.now.seat.driver }
+    requires required { (C.standing recorder.old).required ≡ service.now.seat.required }
+    requires next { (rest : List ℕ) × AreApart (placed.card.path ∷ (paths_of (cards_of late.old) ++ rest))
         × IsServing (C.standing recorder.old) (C.given recorder.old) line.old.session aborted
-        (paths_of (cards_of late.old)) [] (card.path ∷ rest) }
-    ensures next { (rest : List ℕ) → AreApart (card.path ∷ (paths_of (cards_of late.old) ++ rest))
+        (paths_of (cards_of late.old)) [] (placed.card.path ∷ rest) }
+    ensures next { (rest : List ℕ) → AreApart (placed.card.path ∷ (paths_of (cards_of late.old) ++ rest))
         → IsServing (C.standing recorder.old) (C.given recorder.old) line.old.session aborted
-        (paths_of (cards_of late.old)) [] (card.path ∷ rest)
+        (paths_of (cards_of late.old)) [] (placed.card.path ∷ rest)
         → IsServing (C.standing recorder.new) (C.given recorder.new) line.new.session result
         (paths_of (cards_of late.new)) [] rest }
     ensures standing { C.standing recorder.new ≡ C.standing recorder.old }
     ensures fixed { C.fixed recorder.new ≡ C.fixed recorder.old }
-    ensures serves { (w : WorkSeen) × (w.card ≡ card_seen B.told B.seen L.seen card) × ReadsAs w.card w.content
+    ensures serves { (w : WorkSeen) × (w.card ≡ card_seen B.told B.seen L.seen placed.card) × ReadsAs w.card w.content
         × ((paths : Paths) (line0 : LineView) (given0 : List Given) (asked : List ℕ) → FitsWork paths w
-        → Serves seat.driver paths line0 given0 asked [] line.old (C.given recorder.old) aborted (newest (paths_of
-        (cards_of late.old)))
-        → Serves seat.driver paths line0 given0 (asked ++ asked_of w.card.path w.content) [] line.new
+        → Serves service.now.seat.driver paths line0 given0 asked [] line.old (C.given recorder.old) aborted
+        (newest (paths_of (cards_of late.old)))
+        → Serves service.now.seat.driver paths line0 given0 (asked ++ asked_of w.card.path w.content) [] line.new
         (C.given recorder.new) result (newest (paths_of (cards_of late.new))))
         × AddsWork w.card.path w.content (C.given recorder.old) (C.given recorder.new) }
-    ensures cards { GrowsLate (C.standing recorder.old) (cards_of late.old) card.path card.text
+    ensures cards { GrowsLate (C.standing recorder.old) (cards_of late.old) placed.card.path placed.card.text
         (cards_of late.new) }
     ensures done { result ≡ true → line.new.session ≡ None }
     ensures sane { IsSane line.new.session (newest (paths_of (cards_of late.new))) }
     ensures names { KeepsNames late.old late.new }
-    ensures idle { AreIdle (place + 1) late.new }
+    ensures idle { AreIdle (placed.place + 1) late.new }
     ensures turns { StaysUnlisted late.old late.new }
     ensures starts { starts_of line.new ≤ starts_of line.old + 1 }
 {
     desk_laws();
-    match read_card(alloc, &mut card) {
+    match read_card(service.alloc, &mut placed.card) {
         Ok(prepared) => {
             if aborted {
-                let work = keep_ready(card, prepared, seat.required);
-                refuse(work, seat.required, Ok(()), recorder);
+                let work = keep_ready(placed.card, prepared, service.seat.required);
+                refuse(work, service.seat.required, Ok(()), recorder);
                 return true;
             }
-            serve_card(seat, line, late, recorder, gate, place, card, prepared)
+            serve_card(service, line, late, recorder, placed, prepared)
         }
         Err(own) => {
-            close_unread(card, recorder, own);
+            close_unread(placed.card, recorder, own);
             aborted
         }
     }

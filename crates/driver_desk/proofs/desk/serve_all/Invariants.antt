@@ -27,8 +27,8 @@ invariant-loop-card g l = record {
       × (map (λ c. card_seen g.B.Blob.told g.B.Blob.seen g.L.Leaf.seen c) l.initial.cards.items ≡ cards_in works ++ map (λ c. card_seen g.B.Blob.told g.B.Blob.seen g.L.Leaf.seen c) l.cards.items)
       × (length works ≡ l.place) × AreRead works
       × ((paths : Paths) (line0 : LineView) (given0 : List Given) (asked : List ℕ) → FitAll paths works
-      → Serves l.seat.driver paths line0 given0 asked [] l.initial.line (g.C.Recorder.given l.initial.recorder) false []
-      → Serves l.seat.driver paths line0 given0 (asked ++ asked_in works) [] l.line (g.C.Recorder.given l.recorder) l.aborted (newest (paths_of (cards_of l.late))))
+      → Serves l.service.seat.driver paths line0 given0 asked [] l.initial.line (g.C.Recorder.given l.initial.recorder) false []
+      → Serves l.service.seat.driver paths line0 given0 (asked ++ asked_in works) [] l.line (g.C.Recorder.given l.recorder) l.aborted (newest (paths_of (cards_of l.late))))
       × ((paths : Paths) → FitAll paths works → FitTexts paths (cards_of l.late))
       × AddsWorks works (g.C.Recorder.given l.initial.recorder) (g.C.Recorder.given l.recorder);
 }
