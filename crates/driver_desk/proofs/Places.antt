@@ -21,7 +21,8 @@ use Rattle.checkout_core.specs.Talks.{Talk, Refusing, InRound, talk_run, talk_st
 use Rattle.driver_desk.specs.Rounds.{AreApart, RedoneCards}
 use Rattle.driver_desk.specs.Serving.{Given, Noted, Closed, HandedBack}
 use Rattle.driver_desk.specs.Works.{card_paths}
-use Rattle.driver_desk.specs.Recorders.{Standing, MayDo, MayEnd, IsEnd, Shows, AreShown, event_of, events_in, ended_path, fate_now, is_path, times}
+use Rattle.driver_desk.specs.Recorders.{Standing, MayDo, Shows, AreShown, event_of, events_in, ended_path, fate_now, is_path, times}
+use Rattle.driver_desk.specs.Endings.{MayEnd, IsEnd}
 use Rattle.driver_desk.specs.Places.{DeskLaws, IsAt, IsGone, IsOwn, times_of}
 use Rattle.driver_desk.proofs.RoundSteps.{bool_or, self, same_bool}
 

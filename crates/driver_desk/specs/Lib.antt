@@ -9,3 +9,5 @@ pub mod Cards
 pub mod Places
 pub mod Ties
 pub mod Added
+pub mod Progress
+pub mod Endings

@@ -14,8 +14,9 @@ ghost use Rattle.filter_proto.specs.Replies.{IsKept};
 ghost use Rattle.driver_desk.specs.Added.{AddsRead, ClosesOne};
 ghost use Rattle.driver_desk.specs.Cards.{IsAskedCard, IsUnreadCard};
 ghost use Rattle.driver_desk.specs.Shown.{ShowsUnused, IsGivenUp, ShowsLeaf};
-ghost use Rattle.driver_desk.specs.Recorders.{MayDo, MayDrop, MayEnd, IsEnd, ShowsClose};
-ghost use Rattle.driver_desk.specs.Serving.{AreClosings, NoAnswer};
+ghost use Rattle.driver_desk.specs.Recorders.{MayDo, ShowsClose};
+ghost use Rattle.driver_desk.specs.Endings.{MayDrop, MayEnd, IsEnd};
+ghost use Rattle.driver_desk.specs.Progress.{AreClosings, NoAnswer};
 
 use crate::recorder::Recorder;
 use checkout_core::Own;

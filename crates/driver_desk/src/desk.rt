@@ -10,7 +10,8 @@ ghost use Rattle.driver_desk.specs.Added.{AddsRead, AddsWorks};
 ghost use Rattle.driver_desk.specs.Desks.{IsDealt, AreThrough};
 ghost use Rattle.driver_desk.specs.Ties.{AreTied};
 ghost use Rattle.driver_desk.specs.Places.{IsServing, IsDone};
-ghost use Rattle.driver_desk.specs.Serving.{Given, IsServed, Serves, IsSane, newest};
+ghost use Rattle.driver_desk.specs.Serving.{Given, IsServed};
+ghost use Rattle.driver_desk.specs.Progress.{Serves, IsAskable, newest};
 ghost use Rattle.driver_desk.specs.Works.{WorkSeen, AreNew, AreRead, FitAll, asked_in, cards_in, card_paths};
 ghost use Rattle.driver_desk.specs.Works.{card_texts};
 
@@ -65,7 +66,7 @@ fn serve_all<S: Starter, B: Blob, L: Leaf, C: Recorder<B, L>, G: Gate>(
     ensures ready { AreReady (C.standing recorder.old) (cards_of late.new) }
     ensures apart { AreApart (paths_of (cards_of late.new)) }
     ensures done { result ≡ true → line.new.session ≡ None }
-    ensures sane { IsSane line.new.session (newest (paths_of (cards_of late.new))) }
+    ensures askable { IsAskable line.new.session (newest (paths_of (cards_of late.new))) }
     ensures names { KeepsNames late.old late.new }
     ensures turns { StaysUnlisted late.old late.new }
 {

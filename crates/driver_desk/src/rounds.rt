@@ -12,11 +12,13 @@ ghost use Rattle.checkout_core.specs.Fates.{Known, fate_here};
 ghost use Rattle.checkout_core.specs.Talks.{contains};
 ghost use Rattle.driver_desk.specs.Added.{AddsRead};
 ghost use Rattle.driver_desk.specs.Cards.{IsReadCard, IsAskedCard};
-ghost use Rattle.driver_desk.specs.Recorders.{MayEnd, IsEnd};
+ghost use Rattle.driver_desk.specs.Endings.{MayEnd, IsEnd};
 ghost use Rattle.driver_desk.specs.Places.{IsAt, IsServing, IsNaming, IsListing, AfterList, InRoundsAt, IsDone};
 ghost use Rattle.driver_desk.specs.Places.{named_talk};
-ghost use Rattle.driver_desk.specs.Serving.{Given, AllSealed, AreClosings, GotContent, NoAnswer, Serves, IsSane};
-ghost use Rattle.driver_desk.specs.Serving.{newest, noted_in};
+ghost use Rattle.driver_desk.specs.Serving.{Given, AllSealed};
+ghost use Rattle.driver_desk.specs.Progress.{AreClosings, GotContent, NoAnswer, Serves, IsAskable};
+ghost use Rattle.driver_desk.specs.Serving.{noted_in};
+ghost use Rattle.driver_desk.specs.Progress.{newest};
 
 use crate::closing::{Work, close_empty, close_got, refuse};
 use crate::late::Late;
@@ -272,7 +274,7 @@ pub(crate) fn end_talk<S: Starter, B: Blob, L: Leaf, C: Recorder<B, L>>(
     late: &mut Late<B, L>,
     recorder: &mut C,
 )
-    requires sane { IsSane line.old.session (newest (paths_of (cards_of late.old))) }
+    requires askable { IsAskable line.old.session (newest (paths_of (cards_of late.old))) }
     requires none { late.old.table.turns ≡ [] }
     requires ready { AreReady (C.standing recorder.old) (cards_of late.old) }
     requires apart { AreApart (paths_of (cards_of late.old)) }

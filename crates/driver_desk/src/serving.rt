@@ -5,8 +5,9 @@ ghost use Rattle.convert_plan.specs.Card.{card_seen, IsPrepared};
 ghost use Rattle.driver_line.specs.Lines.{LineView, Paths, IsOpen, starts_of};
 ghost use Rattle.driver_desk.specs.Late.{AreIdle, KeepsNames, StaysUnlisted, cards_of};
 ghost use Rattle.driver_desk.specs.Rounds.{paths_of, AreApart, AreReady, GrowsLate};
-ghost use Rattle.driver_desk.specs.Serving.{Given, AreClosings, GotContent, NoAnswer, Serves, newest, IsSane};
-ghost use Rattle.driver_desk.specs.Serving.{late_after, is_abort};
+ghost use Rattle.driver_desk.specs.Serving.{Given};
+ghost use Rattle.driver_desk.specs.Progress.{AreClosings, GotContent, NoAnswer, Serves, newest, IsAskable};
+ghost use Rattle.driver_desk.specs.Progress.{late_after, is_abort};
 ghost use Rattle.driver_desk.specs.Works.{WorkSeen, ReadsAs, FitsWork, asked_of};
 ghost use Rattle.checkout_core.specs.Conditions.{heard_opening};
 ghost use Rattle.checkout_core.specs.declared.path.Heard.{Heard};
@@ -14,7 +15,7 @@ ghost use Rattle.checkout_core.specs.Fates.{Known, fate_here};
 ghost use Rattle.checkout_core.specs.Talks.{Talk};
 ghost use Rattle.driver_desk.specs.Added.{AddsRead, AddsWork};
 ghost use Rattle.driver_desk.specs.Cards.{IsPlanned, IsReadCard, IsAskedCard, ready_of};
-ghost use Rattle.driver_desk.specs.Recorders.{MayEnd, IsEnd};
+ghost use Rattle.driver_desk.specs.Endings.{MayEnd, IsEnd};
 ghost use Rattle.driver_desk.specs.Places.{IsAt, IsServing, IsUnopened, IsAnswered, AreLost};
 
 use crate::closing::{Work, close_empty, close_got, close_unread, refuse};
@@ -109,7 +110,7 @@ fn open_new<S: Starter, B: Blob, L: Leaf, C: Recorder<B, L>>(
         → (paths : Paths) (line0 : LineView) (given0 : List Given) (asked : List ℕ)
         → Serves driver paths line0 given0 asked (path ∷ []) line.old (C.given recorder.old) false []
         → Serves driver paths line0 given0 (asked ++ path ∷ []) [] line.new (C.given recorder.new) false [] }
-    ensures sane { IsSane line.new.session [] }
+    ensures askable { IsAskable line.new.session [] }
     ensures there { result ≡ None → line.new.session ≡ None → ⊥ }
     ensures starts { starts_of line.new ≤ starts_of line.old + 1 }
 {
@@ -150,15 +151,15 @@ fn open_for<S: Starter, B: Blob, L: Leaf, C: Recorder<B, L>>(
     ensures fixed { C.fixed recorder.new ≡ C.fixed recorder.old }
     ensures read { AddsRead (C.given recorder.old) (C.given recorder.new) }
     ensures opened { result ≡ None → (paths : Paths) (line0 : LineView) (given0 : List Given) (asked names : List ℕ)
-        → IsSane line.old.session names
+        → IsAskable line.old.session names
         → Serves driver paths line0 given0 asked (path ∷ []) line.old (C.given recorder.old) false names
         → Serves driver paths line0 given0 asked (path ∷ []) line.new (C.given recorder.new) false names }
     ensures failed { (cause : OpenCause) → result ≡ Some cause
         → (paths : Paths) (line0 : LineView) (given0 : List Given) (asked names : List ℕ)
-        → IsSane line.old.session names
+        → IsAskable line.old.session names
         → Serves driver paths line0 given0 asked (path ∷ []) line.old (C.given recorder.old) false names
         → Serves driver paths line0 given0 (asked ++ path ∷ []) [] line.new (C.given recorder.new) false names }
-    ensures sane { (names : List ℕ) → IsSane line.old.session names → IsSane line.new.session names }
+    ensures askable { (names : List ℕ) → IsAskable line.old.session names → IsAskable line.new.session names }
     ensures there { result ≡ None → line.new.session ≡ None → ⊥ }
     ensures starts { starts_of line.new ≤ starts_of line.old + 1 }
 {
@@ -279,7 +280,7 @@ fn ask_card<S: Starter, B: Blob, L: Leaf, C: Recorder<B, L>, G: Gate>(
     ensures cards { GrowsLate (C.standing recorder.old) (cards_of late.old) placed.card.path placed.card.text
         (cards_of late.new) }
     ensures done { result ≡ true → line.new.session ≡ None }
-    ensures sane { IsSane line.new.session (newest (paths_of (cards_of late.new))) }
+    ensures askable { IsAskable line.new.session (newest (paths_of (cards_of late.new))) }
     ensures names { KeepsNames late.old late.new }
     ensures idle { AreIdle (placed.place + 1) late.new }
     ensures turns { StaysUnlisted late.old late.new }
@@ -344,7 +345,7 @@ fn serve_card<S: Starter, B: Blob, L: Leaf, C: Recorder<B, L>, G: Gate>(
     prepared: Prepared,
 ) -> bool
     requires starts { starts_of line.old < 2 ^ 32 }
-    requires sane { IsSane line.old.session (newest (paths_of (cards_of late.old))) }
+    requires askable { IsAskable line.old.session (newest (paths_of (cards_of late.old))) }
     requires planned { IsPlanned (C.standing recorder.old) (card_seen B.told B.seen L.seen placed.card) }
     requires prepared { IsPrepared (card_seen B.told B.seen L.seen placed.card) prepared }
     requires here { slice_get late.old.numbers placed.place ≡ Some placed.card.path }
@@ -372,7 +373,7 @@ fn serve_card<S: Starter, B: Blob, L: Leaf, C: Recorder<B, L>, G: Gate>(
     ensures cards { GrowsLate (C.standing recorder.old) (cards_of late.old) placed.card.path placed.card.text
         (cards_of late.new) }
     ensures done { result ≡ true → line.new.session ≡ None }
-    ensures sane { IsSane line.new.session (newest (paths_of (cards_of late.new))) }
+    ensures askable { IsAskable line.new.session (newest (paths_of (cards_of late.new))) }
     ensures names { KeepsNames late.old late.new }
     ensures idle { AreIdle (placed.place + 1) late.new }
     ensures turns { StaysUnlisted late.old late.new }
@@ -402,7 +403,7 @@ pub(crate) fn serve_one<S: Starter, B: Blob, L: Leaf, C: Recorder<B, L>, G: Gate
     mut placed: Placed<B, L>,
 ) -> bool
     requires starts { starts_of line.old < 2 ^ 32 }
-    requires sane { IsSane line.old.session (newest (paths_of (cards_of late.old))) }
+    requires askable { IsAskable line.old.session (newest (paths_of (cards_of late.old))) }
     requires done { aborted ≡ true → line.old.session ≡ None }
     requires planned { IsPlanned (C.standing recorder.old) (card_seen B.told B.seen L.seen placed.card) }
     requires here { slice_get late.old.numbers placed.place ≡ Some placed.card.path }
@@ -430,7 +431,7 @@ pub(crate) fn serve_one<S: Starter, B: Blob, L: Leaf, C: Recorder<B, L>, G: Gate
     ensures cards { GrowsLate (C.standing recorder.old) (cards_of late.old) placed.card.path placed.card.text
         (cards_of late.new) }
     ensures done { result ≡ true → line.new.session ≡ None }
-    ensures sane { IsSane line.new.session (newest (paths_of (cards_of late.new))) }
+    ensures askable { IsAskable line.new.session (newest (paths_of (cards_of late.new))) }
     ensures names { KeepsNames late.old late.new }
     ensures idle { AreIdle (placed.place + 1) late.new }
     ensures turns { StaysUnlisted late.old late.new }

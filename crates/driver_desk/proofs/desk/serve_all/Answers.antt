@@ -4,7 +4,7 @@ use Rattle.convert_plan.specs.Card.{CardSeen, card_seen}
 use Rattle.convert_plan.specs.declared.card.Card.{Card}
 use Rattle.driver_desk.specs.Rounds.{LateSeen, paths_of, AreReady, AreApart, FitTexts}
 use Rattle.driver_desk.specs.Works.{card_paths}
-use Rattle.driver_desk.specs.Serving.{newest}
+use Rattle.driver_desk.specs.Progress.{newest}
 use Rattle.driver_desk.proofs.Serves.{fit_done, asked_more, serves_asked}
 use Rattle.driver_desk.specs.Recorders.{Standing}
 use Rattle.driver_desk.proofs.RoundSteps.{grows_ready, grows_apart, grows_fits, ready_as}
@@ -17,7 +17,7 @@ use Rattle.driver_desk.proofs.desk.serve_all.Goals as goal
 pub loop-card-init : goal.loop-card-init
 loop-card-init g c = record {
   starts = omega arith;
-  sane = sane_none _ _ c.requires.none (ap (λ (x : List LateSeen). newest (paths_of x)) c.requires.empty);
+  askable = sane_none _ _ c.requires.none (ap (λ (x : List LateSeen). newest (paths_of x)) c.requires.empty);
   done = λ e. absurd (cc e);
   new = c.requires.new;
   ready = subst (AreReady _) (sym c.requires.empty) tt;
@@ -81,7 +81,7 @@ loop-card-preserved g c =
     let more = e.starts in
     record {
       starts = omega (arith, from, more, fewer);
-      sane = e.sane;
+      askable = e.askable;
       done = e.done;
       new = new.1;
       ready = grows_ready _ _ _ _ _ (grows_as _ _ _ _ _ _ _ _ (sym h.standing) refl refl e.cards) h.ready;

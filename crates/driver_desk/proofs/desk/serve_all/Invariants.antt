@@ -6,13 +6,14 @@ use Rattle.driver_desk.specs.Late.{AreIdle, KeepsNames, StaysUnlisted, cards_of}
 use Rattle.driver_desk.specs.Rounds.{paths_of, AreReady, AreApart, FitTexts}
 use Rattle.driver_desk.specs.Places.{IsServing}
 use Rattle.driver_desk.specs.Added.{AddsWorks}
-use Rattle.driver_desk.specs.Serving.{Given, Serves, newest, IsSane}
+use Rattle.driver_desk.specs.Serving.{Given}
+use Rattle.driver_desk.specs.Progress.{Serves, newest, IsAskable}
 use Rattle.driver_desk.proofs.desk.serve_all.Given as goal
 
 abbrev pub invariant-loop-card : goal.invariant-loop-card
 invariant-loop-card g l = record {
   starts : starts_of l.line + length l.cards.items ≤ starts_of l.initial.line + length l.initial.cards.items;
-  sane : IsSane l.line.session (newest (paths_of (cards_of l.late)));
+  askable : IsAskable l.line.session (newest (paths_of (cards_of l.late)));
   done : l.aborted ≡ true → l.line.session ≡ None;
   new : AreNew (map (λ c. card_seen g.B.Blob.told g.B.Blob.seen g.L.Leaf.seen c) l.cards.items);
   ready : AreReady (g.C.Recorder.standing l.initial.recorder) (cards_of l.late);

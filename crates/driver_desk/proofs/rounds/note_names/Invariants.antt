@@ -4,7 +4,8 @@ use Rattle.driver_line.specs.Lines.{number_at}
 use Rattle.driver_desk.specs.Late.{names_at}
 use Rattle.driver_desk.specs.Places.{IsAt, IsNaming, named_talk}
 use Rattle.driver_desk.specs.Added.{AddsRead}
-use Rattle.driver_desk.specs.Serving.{Given, AllSealed, NoAnswer, noted_in}
+use Rattle.driver_desk.specs.Serving.{Given, AllSealed, noted_in}
+use Rattle.driver_desk.specs.Progress.{NoAnswer}
 use Rattle.driver_desk.proofs.rounds.note_names.Given as goal
 
 abbrev pub invariant-loop-place : goal.invariant-loop-place

@@ -5,7 +5,7 @@ use Rattle.checkout_core.specs.declared.path.Heard.TheVariants as heard
 use Rattle.checkout_core.specs.Fates.{fate_here}
 use Rattle.driver_desk.specs.Rounds.{LateSeen, late_seen, paths_of}
 use Rattle.driver_desk.specs.Late.{cards_of}
-use Rattle.driver_desk.specs.Serving.{NoAnswer, newest, late_after}
+use Rattle.driver_desk.specs.Progress.{NoAnswer, newest, late_after}
 use Rattle.driver_desk.proofs.Serves.{closed_all, closed_as, closed_none, no_closing, newest_card}
 use Rattle.driver_desk.proofs.LateCards.{idle_next}
 use Rattle.driver_desk.proofs.Calls.{drop_wanted, may_error, may_over, answered_ends, answered_waits, answered_lost, at_as, at_none, lost_as, over_none}

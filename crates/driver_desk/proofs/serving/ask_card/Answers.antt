@@ -5,9 +5,9 @@ use Rattle.driver_desk.proofs.RoundSteps.{ready_as}
 use Rattle.driver_desk.proofs.Closings.{asked_of, read_again, grows_as, planned_told}
 use Rattle.driver_desk.specs.Rounds.{paths_of}
 use Rattle.driver_desk.specs.Late.{cards_of}
-use Rattle.driver_desk.specs.Serving.{newest, late_after}
+use Rattle.driver_desk.specs.Progress.{newest, late_after}
 use Rattle.driver_desk.proofs.Serves.{closed_as, asked_card, asked_sane, asked_done}
-use Rattle.driver_desk.specs.Recorders.{MayEnd}
+use Rattle.driver_desk.specs.Endings.{MayEnd}
 use Rattle.driver_desk.proofs.Places.{own_driver, first_has}
 use Rattle.driver_desk.proofs.Calls.{asks, asked_serving, end_as, answered_for, at_back, serving_as, answered_as}
 use Rattle.driver_desk.proofs.Ties.{adds_both, adds_note}
@@ -75,8 +75,8 @@ returns-clause-serves g c paths line0 given0 asked e i h =
     c.is_abort.ensures
     (c.after_reply.ensures.late ∙ ap (λ (p : ℕ). late_after p c.ask-asked.result.reply (newest (paths_of (cards_of c.args.late.now)))) c.keep_ready-work.ensures.path) h
 
-pub returns-clause-sane : goal.returns-clause-sane
-returns-clause-sane g c = asked_sane c.args.line.now.session c.ask-asked.new.self.session _ c.ask-asked.result.reply _ _ c.requires.open c.ask-asked.ensures.goes c.after_reply.ensures.late
+pub returns-clause-askable : goal.returns-clause-askable
+returns-clause-askable g c = asked_sane c.args.line.now.session c.ask-asked.new.self.session _ c.ask-asked.result.reply _ _ c.requires.open c.ask-asked.ensures.goes c.after_reply.ensures.late
 
 pub returns-clause-done : goal.returns-clause-done
 returns-clause-done g c e = asked_done c.args.line.now.session c.ask-asked.new.self.session c.ask-asked.result.reply c.requires.open c.ask-asked.ensures.goes (sym c.is_abort.ensures ∙ e)

@@ -3,7 +3,7 @@ use Rattle.driver_desk.proofs.Closings.{asked_read}
 use Rattle.driver_desk.proofs.RoundSteps.{taken_ready}
 use Rattle.driver_desk.proofs.Serves.{closed_all}
 use Rattle.driver_desk.proofs.Calls.{lost_may, lost_ends, lost_as, lost_none}
-use Rattle.driver_desk.specs.Serving.{NoAnswer}
+use Rattle.driver_desk.specs.Progress.{NoAnswer}
 use Rattle.driver_desk.proofs.Ties.{adds_both}
 use Rattle.driver_desk.proofs.serving.close_late.Goals as goal
 

@@ -1,7 +1,7 @@
 use Rattle.std.proofs.Common.{◌≡◌, ℕ, List, length}
 use Rattle.checkout_core.specs.Talks.{Talk}
 use Rattle.driver_desk.specs.Added.{AddsRead}
-use Rattle.driver_desk.specs.Serving.{AreClosings, NoAnswer}
+use Rattle.driver_desk.specs.Progress.{AreClosings, NoAnswer}
 use Rattle.driver_desk.specs.Late.{AreIdle, KeepsNames, StaysUnlisted, cards_of}
 use Rattle.driver_desk.specs.Places.{AreLost}
 use Rattle.driver_desk.specs.Rounds.{AreReady, paths_of}

@@ -2,7 +2,7 @@ use Rattle.std.proofs.Common.{sym, subst, ℕ, refl, [], false}
 use Rattle.checkout_core.specs.declared.path.Heard.TheVariants as heard
 use Rattle.checkout_core.specs.declared.verdict.FilterCause.TheVariants as cause
 use Rattle.checkout_core.specs.Conditions.{heard_opening}
-use Rattle.driver_desk.specs.Recorders.{MayEnd}
+use Rattle.driver_desk.specs.Endings.{MayEnd}
 use Rattle.driver_desk.proofs.Serves.{serves_ahead, serves_none, serves_past, past_smudge}
 use Rattle.driver_desk.proofs.Calls.{ended_at, serving_as, serving_ends, unopened_ends, unsmudged_ends}
 use Rattle.driver_desk.proofs.RoundSteps.{ready_as}
@@ -61,20 +61,20 @@ returns-clause-next g c rest apart h = c.ask_card.ensures.next rest apart (c.ope
 pub returns-in-Some-clause-serves : goal.returns-in-Some-clause-serves
 returns-in-Some-clause-serves g c paths line0 given0 asked e i h =
     serves_none c.args.service.now.seat.driver paths line0 given0 _ [] _ _ _ false _
-    (c.in-Some.ensures.failed c.in-Some.cause refl paths line0 given0 asked _ c.requires.sane (serves_ahead c.args.service.now.seat.driver paths line0 given0 asked c.args.placed.card.path _ _ false _ h))
+    (c.in-Some.ensures.failed c.in-Some.cause refl paths line0 given0 asked _ c.requires.askable (serves_ahead c.args.service.now.seat.driver paths line0 given0 asked c.args.placed.card.path _ _ false _ h))
     c.not_opened.ensures.closed
 
 pub returns-then-not-has_smudge-clause-serves : goal.returns-then-not-has_smudge-clause-serves
 returns-then-not-has_smudge-clause-serves g c paths line0 given0 asked e i h =
     serves_none c.args.service.now.seat.driver paths line0 given0 _ [] _ _ _ false _
     (serves_past c.args.service.now.seat.driver paths line0 given0 asked c.args.placed.card.path _ _ false _ (past_smudge c.args.placed.card.path _ _ (c.open_for.ensures.there c.in_default.is) (c.has_smudge.ensures.no c.if-not-has_smudge.true))
-    (c.open_for.ensures.opened c.in_default.is paths line0 given0 asked _ c.requires.sane (serves_ahead c.args.service.now.seat.driver paths line0 given0 asked c.args.placed.card.path _ _ false _ h)))
+    (c.open_for.ensures.opened c.in_default.is paths line0 given0 asked _ c.requires.askable (serves_ahead c.args.service.now.seat.driver paths line0 given0 asked c.args.placed.card.path _ _ false _ h)))
     c.refuse.ensures.closed
 
 pub returns-clause-serves : goal.returns-clause-serves
 returns-clause-serves g c paths line0 given0 asked e i h =
     c.ask_card.ensures.serves paths line0 given0 asked e i
-    (c.open_for.ensures.opened c.in_default.is paths line0 given0 asked _ c.requires.sane (serves_ahead c.args.service.now.seat.driver paths line0 given0 asked c.args.placed.card.path _ _ false _ h))
+    (c.open_for.ensures.opened c.in_default.is paths line0 given0 asked _ c.requires.askable (serves_ahead c.args.service.now.seat.driver paths line0 given0 asked c.args.placed.card.path _ _ false _ h))
 
 pub returns-in-Some-clause-read : goal.returns-in-Some-clause-read
 returns-in-Some-clause-read g c = adds_both _ _ _ c.open_for.ensures.read c.not_opened.ensures.read

@@ -5,7 +5,8 @@ use Rattle.checkout_core.specs.declared.path.Heard.TheVariants as heard
 use Rattle.checkout_core.specs.declared.verdict.FilterCause.TheVariants as cause
 use Rattle.driver_desk.specs.Late.{cards_of}
 use Rattle.driver_desk.specs.Rounds.{AreApart, paths_of}
-use Rattle.driver_desk.specs.Recorders.{MayDo, MayEnd}
+use Rattle.driver_desk.specs.Recorders.{MayDo}
+use Rattle.driver_desk.specs.Endings.{MayEnd}
 use Rattle.driver_desk.specs.Places.{IsServing}
 use Rattle.driver_desk.proofs.Serves.{work_past, work_failed, serves_asked}
 use Rattle.driver_desk.proofs.RoundSteps.{serves_as}
