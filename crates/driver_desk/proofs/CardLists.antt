@@ -54,7 +54,7 @@ many_cards : (works : List WorkSeen) (rest : List CardSeen) → length (cards_in
 many_cards [] rest = omega arith
 many_cards (w ∷ ws) rest = let k = many_cards ws rest in omega (arith, k)
 
-map_many : {A : Type 0} (f : A → CardSeen) (xs : List A) → length (map f xs) ≡ length xs
+pub map_many : {A : Type 0} (f : A → CardSeen) (xs : List A) → length (map f xs) ≡ length xs
 map_many f [] = refl
 map_many f (x ∷ xs) = ap (λ (n : ℕ). suc n) (map_many f xs)
 

@@ -7,3 +7,4 @@ pub mod Places
 pub mod Calls
 pub mod RoundCalls
 pub mod Ties
+pub mod NotedTalks

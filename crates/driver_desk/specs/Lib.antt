@@ -11,3 +11,4 @@ pub mod Ties
 pub mod Added
 pub mod Progress
 pub mod Endings
+pub mod Noting

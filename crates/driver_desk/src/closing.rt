@@ -109,6 +109,7 @@ fn drop_leaf<L: Leaf>(leaf: &mut L, put: Result<(), SendFault>, unencoded: bool)
 
 /// Closes a card, with what happened to it. What was prepared for it isn't needed any more.
 fn close<B: Blob, L: Leaf, C: Recorder<B, L>>(mut card: Card<B, L>, recorder: &mut C, own: Own)
+    requires sound { C.sound recorder.old }
     requires shows { ShowsClose (C.standing recorder.old) (C.given recorder.old) own
         (record (card_seen B.told B.seen L.seen card) { ready = None }) }
     requires next { MayDo (C.standing recorder.old) (C.given recorder.old)
@@ -118,6 +119,7 @@ fn close<B: Blob, L: Leaf, C: Recorder<B, L>>(mut card: Card<B, L>, recorder: &m
         × (m : Mark) × ((L.seen card.leaf).state ≡ Sealed m)) (C.given recorder.old) (C.given recorder.new) }
     ensures standing { C.standing recorder.new ≡ C.standing recorder.old }
     ensures fixed { C.fixed recorder.new ≡ C.fixed recorder.old }
+    ensures sound { C.sound recorder.new }
     ensures one { ClosesOne card.path own (C.given recorder.old) (C.given recorder.new) }
 {
     card.ready = None;
@@ -130,6 +132,7 @@ pub(crate) fn close_got<B: Blob, L: Leaf, C: Recorder<B, L>>(
     put: Result<(), SendFault>,
     recorder: &mut C,
 )
+    requires sound { C.sound recorder.old }
     requires asked { IsAskedCard (C.standing recorder.old) (card_seen B.told B.seen L.seen work.card) work.unencoded
         put }
     requires may { MayEnd (C.standing recorder.old) (C.given recorder.old) work.card.path Got }
@@ -138,6 +141,7 @@ pub(crate) fn close_got<B: Blob, L: Leaf, C: Recorder<B, L>>(
         × (told ≡ (L.seen work.card.leaf).content)) (C.given recorder.old) (C.given recorder.new) }
     ensures standing { C.standing recorder.new ≡ C.standing recorder.old }
     ensures fixed { C.fixed recorder.new ≡ C.fixed recorder.old }
+    ensures sound { C.sound recorder.new }
     ensures read { AddsRead (C.given recorder.old) (C.given recorder.new) }
 {
     let mark = work.card.mark;
@@ -151,6 +155,7 @@ pub(crate) fn close_empty<B: Blob, L: Leaf, C: Recorder<B, L>>(
     put: Result<(), SendFault>,
     recorder: &mut C,
 )
+    requires sound { C.sound recorder.old }
     requires asked { IsAskedCard (C.standing recorder.old) (card_seen B.told B.seen L.seen work.card) work.unencoded
         put }
     requires may { MayDrop (C.standing recorder.old) (C.given recorder.old) work.card.path put }
@@ -158,6 +163,7 @@ pub(crate) fn close_empty<B: Blob, L: Leaf, C: Recorder<B, L>>(
     ensures closed { AreClosings NoAnswer (C.given recorder.old) (C.given recorder.new) }
     ensures standing { C.standing recorder.new ≡ C.standing recorder.old }
     ensures fixed { C.fixed recorder.new ≡ C.fixed recorder.old }
+    ensures sound { C.sound recorder.new }
     ensures read { AddsRead (C.given recorder.old) (C.given recorder.new) }
 {
     let own = drop_leaf(&mut work.card.leaf, put, work.unencoded);
@@ -166,6 +172,7 @@ pub(crate) fn close_empty<B: Blob, L: Leaf, C: Recorder<B, L>>(
 
 /// Gives a refused card back with a fresh leaf. Where that fails it is closed.
 fn hand_back<B: Blob, L: Leaf, C: Recorder<B, L>>(mut work: Work<B, L>, recorder: &mut C)
+    requires sound { C.sound recorder.old }
     requires asked { IsAskedCard (C.standing recorder.old) (card_seen B.told B.seen L.seen work.card) work.unencoded
         (Ok tt) }
     requires free { (C.standing recorder.old).required ≡ false }
@@ -175,6 +182,7 @@ fn hand_back<B: Blob, L: Leaf, C: Recorder<B, L>>(mut work: Work<B, L>, recorder
     ensures closed { AreClosings NoAnswer (C.given recorder.old) (C.given recorder.new) }
     ensures standing { C.standing recorder.new ≡ C.standing recorder.old }
     ensures fixed { C.fixed recorder.new ≡ C.fixed recorder.old }
+    ensures sound { C.sound recorder.new }
     ensures read { AddsRead (C.given recorder.old) (C.given recorder.new) }
 {
     match work.card.leaf.restart() {
@@ -193,6 +201,7 @@ pub(crate) fn refuse<B: Blob, L: Leaf, C: Recorder<B, L>>(
     put: Result<(), SendFault>,
     recorder: &mut C,
 )
+    requires sound { C.sound recorder.old }
     requires asked { IsAskedCard (C.standing recorder.old) (card_seen B.told B.seen L.seen work.card) work.unencoded
         put }
     requires required { (C.standing recorder.old).required ≡ required }
@@ -202,6 +211,7 @@ pub(crate) fn refuse<B: Blob, L: Leaf, C: Recorder<B, L>>(
     ensures closed { AreClosings NoAnswer (C.given recorder.old) (C.given recorder.new) }
     ensures standing { C.standing recorder.new ≡ C.standing recorder.old }
     ensures fixed { C.fixed recorder.new ≡ C.fixed recorder.old }
+    ensures sound { C.sound recorder.new }
     ensures read { AddsRead (C.given recorder.old) (C.given recorder.new) }
 {
     if required {
@@ -231,6 +241,7 @@ pub(crate) fn close_unread<B: Blob, L: Leaf, C: Recorder<B, L>>(
     recorder: &mut C,
     own: Own,
 )
+    requires sound { C.sound recorder.old }
     requires leaf { (L.seen card.leaf).state ≡ Fresh }
     requires unread { IsUnreadCard (C.standing recorder.old) (card_seen B.told B.seen L.seen card) own }
     requires next { MayDo (C.standing recorder.old) (C.given recorder.old)
@@ -239,6 +250,7 @@ pub(crate) fn close_unread<B: Blob, L: Leaf, C: Recorder<B, L>>(
     ensures closed { AreClosings NoAnswer (C.given recorder.old) (C.given recorder.new) }
     ensures standing { C.standing recorder.new ≡ C.standing recorder.old }
     ensures fixed { C.fixed recorder.new ≡ C.fixed recorder.old }
+    ensures sound { C.sound recorder.new }
     ensures one { ClosesOne card.path own (C.given recorder.old) (C.given recorder.new) }
 {
     leave_unread(&mut card.leaf, own);

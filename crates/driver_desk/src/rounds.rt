@@ -33,6 +33,7 @@ use filter_words::{ListReply, Reply};
 
 /// Notes each path that was listed.
 fn note_names<B: Blob, L: Leaf, C: Recorder<B, L>>(recorder: &mut C, late: &Late<B, L>)
+    requires sound { C.sound recorder.old }
     requires next { (cards waiting : List ℕ) × (first : ℕ) × (delay : Bool) × IsNaming (C.standing recorder.old)
         (C.given recorder.old) cards waiting (names_at late.now) first delay }
     ensures next { (cards waiting : List ℕ) (first : ℕ) (delay : Bool) → IsNaming (C.standing recorder.old)
@@ -43,6 +44,7 @@ fn note_names<B: Blob, L: Leaf, C: Recorder<B, L>>(recorder: &mut C, late: &Late
         × (noted_in more ≡ map Event.Named (names_at late.now)) × AllSealed NoAnswer more }
     ensures standing { C.standing recorder.new ≡ C.standing recorder.old }
     ensures fixed { C.fixed recorder.new ≡ C.fixed recorder.old }
+    ensures sound { C.sound recorder.new }
     ensures read { AddsRead (C.given recorder.old) (C.given recorder.new) }
 {
     desk_laws();
@@ -61,6 +63,7 @@ fn note_list<B: Blob, L: Leaf, C: Recorder<B, L>>(
     reply: ListReply,
     late: &Late<B, L>,
 )
+    requires sound { C.sound recorder.old }
     requires driver { (C.standing recorder.old).driver ≡ driver }
     requires next { (cards waiting : List ℕ) × (first : ℕ) × (delay : Bool) × IsListing (C.standing recorder.old)
         (C.given recorder.old) cards waiting (names_in late.now.numbers late.now.table.turns reply) reply first delay }
@@ -70,6 +73,7 @@ fn note_list<B: Blob, L: Leaf, C: Recorder<B, L>>(
         (names_in late.now.numbers late.now.table.turns reply) first delay }
     ensures standing { C.standing recorder.new ≡ C.standing recorder.old }
     ensures fixed { C.fixed recorder.new ≡ C.fixed recorder.old }
+    ensures sound { C.sound recorder.new }
     ensures read { AddsRead (C.given recorder.old) (C.given recorder.new) }
     ensures noted { (more : List Given) × (C.given recorder.new ≡ C.given recorder.old ++ more)
         × (noted_in more ≡ list_notes driver (names_in late.now.numbers late.now.table.turns reply) reply)
@@ -95,6 +99,7 @@ fn after_second<B: Blob, L: Leaf, C: Recorder<B, L>>(
     reply: Reply,
     put: Result<(), SendFault>,
 )
+    requires sound { C.sound recorder.old }
     requires asked { IsAskedCard (C.standing recorder.old) (card_seen B.told B.seen L.seen work.card) work.unencoded
         put }
     requires required { (C.standing recorder.old).required ≡ seat.required }
@@ -106,6 +111,7 @@ fn after_second<B: Blob, L: Leaf, C: Recorder<B, L>>(
         (C.given recorder.old) (C.given recorder.new) }
     ensures standing { C.standing recorder.new ≡ C.standing recorder.old }
     ensures fixed { C.fixed recorder.new ≡ C.fixed recorder.old }
+    ensures sound { C.sound recorder.new }
     ensures read { AddsRead (C.given recorder.old) (C.given recorder.new) }
 {
     match reply {
@@ -124,6 +130,7 @@ fn redo<S: Starter, B: Blob, L: Leaf, C: Recorder<B, L>>(
     recorder: &mut C,
     mut work: Work<B, L>,
 )
+    requires sound { C.sound recorder.old }
     requires open { IsOpen line.old.session }
     requires read { IsReadCard (C.standing recorder.old) (card_seen B.told B.seen L.seen work.card) work.unencoded }
     requires driver { (C.standing recorder.old).driver ≡ seat.driver }
@@ -136,6 +143,7 @@ fn redo<S: Starter, B: Blob, L: Leaf, C: Recorder<B, L>>(
         → InRoundsAt (C.standing recorder.new) (C.given recorder.new) line.new.session left turns }
     ensures standing { C.standing recorder.new ≡ C.standing recorder.old }
     ensures fixed { C.fixed recorder.new ≡ C.fixed recorder.old }
+    ensures sound { C.sound recorder.new }
     ensures read { AddsRead (C.given recorder.old) (C.given recorder.new) }
     ensures rounds { (paths : Paths) (line0 : LineView) (given0 : List Given) (asked turns cards left : List ℕ)
         → paths.text work.card.path ≡ work.card.text → RedoneCards cards work.card.path left
@@ -159,6 +167,7 @@ fn redo_all<S: Starter, B: Blob, L: Leaf, C: Recorder<B, L>>(
     late: &mut Late<B, L>,
     recorder: &mut C,
 )
+    requires sound { C.sound recorder.old }
     requires next { IsNext line.old.session }
     requires ready { AreReady (C.standing recorder.old) (cards_of late.old) }
     requires apart { AreApart (paths_of (cards_of late.old)) }
@@ -170,6 +179,7 @@ fn redo_all<S: Starter, B: Blob, L: Leaf, C: Recorder<B, L>>(
         (paths_of (cards_of late.new)) [] }
     ensures standing { C.standing recorder.new ≡ C.standing recorder.old }
     ensures fixed { C.fixed recorder.new ≡ C.fixed recorder.old }
+    ensures sound { C.sound recorder.new }
     ensures read { AddsRead (C.given recorder.old) (C.given recorder.new) }
     ensures rounds { (paths : Paths) (line0 : LineView) (given0 : List Given) (asked : List ℕ)
         → FitTexts paths (cards_of late.old)
@@ -203,6 +213,7 @@ fn one_round<S: Starter, B: Blob, L: Leaf, C: Recorder<B, L>>(
     late: &mut Late<B, L>,
     recorder: &mut C,
 )
+    requires sound { C.sound recorder.old }
     requires open { IsOpen line.old.session }
     requires none { late.old.table.turns ≡ [] }
     requires ready { AreReady (C.standing recorder.old) (cards_of late.old) }
@@ -215,6 +226,7 @@ fn one_round<S: Starter, B: Blob, L: Leaf, C: Recorder<B, L>>(
         (paths_of (cards_of late.new)) [] }
     ensures standing { C.standing recorder.new ≡ C.standing recorder.old }
     ensures fixed { C.fixed recorder.new ≡ C.fixed recorder.old }
+    ensures sound { C.sound recorder.new }
     ensures read { AddsRead (C.given recorder.old) (C.given recorder.new) }
     ensures rounds { (paths : Paths) (line0 : LineView) (given0 : List Given) (asked : List ℕ)
         → FitTexts paths (cards_of late.old) → FitsNames paths late.old
@@ -242,6 +254,7 @@ fn rounds<S: Starter, B: Blob, L: Leaf, C: Recorder<B, L>>(
     late: &mut Late<B, L>,
     recorder: &mut C,
 )
+    requires sound { C.sound recorder.old }
     requires open { IsOpen line.old.session }
     requires none { late.old.table.turns ≡ [] }
     requires ready { AreReady (C.standing recorder.old) (cards_of late.old) }
@@ -253,6 +266,7 @@ fn rounds<S: Starter, B: Blob, L: Leaf, C: Recorder<B, L>>(
     ensures state { IsDone (C.standing recorder.new) (C.given recorder.new) }
     ensures standing { C.standing recorder.new ≡ C.standing recorder.old }
     ensures fixed { C.fixed recorder.new ≡ C.fixed recorder.old }
+    ensures sound { C.sound recorder.new }
     ensures read { AddsRead (C.given recorder.old) (C.given recorder.new) }
     ensures over { (paths : Paths) (line0 : LineView) (given0 : List Given) (asked : List ℕ)
         → FitTexts paths (cards_of late.old) → FitsNames paths late.old
@@ -274,6 +288,7 @@ pub(crate) fn end_talk<S: Starter, B: Blob, L: Leaf, C: Recorder<B, L>>(
     late: &mut Late<B, L>,
     recorder: &mut C,
 )
+    requires sound { C.sound recorder.old }
     requires askable { IsAskable line.old.session (newest (paths_of (cards_of late.old))) }
     requires none { late.old.table.turns ≡ [] }
     requires ready { AreReady (C.standing recorder.old) (cards_of late.old) }
@@ -285,6 +300,7 @@ pub(crate) fn end_talk<S: Starter, B: Blob, L: Leaf, C: Recorder<B, L>>(
     ensures state { IsDone (C.standing recorder.new) (C.given recorder.new) }
     ensures standing { C.standing recorder.new ≡ C.standing recorder.old }
     ensures fixed { C.fixed recorder.new ≡ C.fixed recorder.old }
+    ensures sound { C.sound recorder.new }
     ensures read { AddsRead (C.given recorder.old) (C.given recorder.new) }
     ensures over { (paths : Paths) (line0 : LineView) (given0 : List Given) (asked : List ℕ)
         → FitTexts paths (cards_of late.old) → FitsNames paths late.old

@@ -60,6 +60,7 @@ pub(crate) fn close_late<B: Blob, L: Leaf, C: Recorder<B, L>>(
     late: &mut Late<B, L>,
     recorder: &mut C,
 )
+    requires sound { C.sound recorder.old }
     requires ready { AreReady (C.standing recorder.old) (cards_of late.old) }
     requires next { (rest : List ℕ) × (first : ℕ) × (t : Talk)
         × AreLost (C.standing recorder.old) (C.given recorder.old) (paths_of (cards_of late.old)) rest first t }
@@ -68,6 +69,7 @@ pub(crate) fn close_late<B: Blob, L: Leaf, C: Recorder<B, L>>(
         → IsAt (C.standing recorder.new) (C.given recorder.new) rest rest first t }
     ensures standing { C.standing recorder.new ≡ C.standing recorder.old }
     ensures fixed { C.fixed recorder.new ≡ C.fixed recorder.old }
+    ensures sound { C.sound recorder.new }
     ensures read { AddsRead (C.given recorder.old) (C.given recorder.new) }
     ensures closed { AreClosings NoAnswer (C.given recorder.old) (C.given recorder.new) }
     ensures none { cards_of late.new ≡ [] }
@@ -88,6 +90,7 @@ fn open_new<S: Starter, B: Blob, L: Leaf, C: Recorder<B, L>>(
     recorder: &mut C,
     path: u32,
 ) -> Option<OpenCause>
+    requires sound { C.sound recorder.old }
     requires none { line.old.session ≡ None }
     requires few { starts_of line.old < 2 ^ 32 }
     requires driver { (C.standing recorder.old).driver ≡ driver }
@@ -102,6 +105,7 @@ fn open_new<S: Starter, B: Blob, L: Leaf, C: Recorder<B, L>>(
     ensures closed { (cause : OpenCause) → result ≡ Some cause → line.new.session ≡ None }
     ensures standing { C.standing recorder.new ≡ C.standing recorder.old }
     ensures fixed { C.fixed recorder.new ≡ C.fixed recorder.old }
+    ensures sound { C.sound recorder.new }
     ensures read { AddsRead (C.given recorder.old) (C.given recorder.new) }
     ensures opened { result ≡ None → (paths : Paths) (line0 : LineView) (given0 : List Given) (asked : List ℕ)
         → Serves driver paths line0 given0 asked (path ∷ []) line.old (C.given recorder.old) false []
@@ -135,6 +139,7 @@ fn open_for<S: Starter, B: Blob, L: Leaf, C: Recorder<B, L>>(
     recorder: &mut C,
     path: u32,
 ) -> Option<OpenCause>
+    requires sound { C.sound recorder.old }
     requires few { starts_of line.old < 2 ^ 32 }
     requires driver { (C.standing recorder.old).driver ≡ driver }
     requires next { (late rest : List ℕ) × AreApart (path ∷ (late ++ rest))
@@ -149,6 +154,7 @@ fn open_for<S: Starter, B: Blob, L: Leaf, C: Recorder<B, L>>(
     ensures closed { (cause : OpenCause) → result ≡ Some cause → line.new.session ≡ None }
     ensures standing { C.standing recorder.new ≡ C.standing recorder.old }
     ensures fixed { C.fixed recorder.new ≡ C.fixed recorder.old }
+    ensures sound { C.sound recorder.new }
     ensures read { AddsRead (C.given recorder.old) (C.given recorder.new) }
     ensures opened { result ≡ None → (paths : Paths) (line0 : LineView) (given0 : List Given) (asked names : List ℕ)
         → IsAskable line.old.session names
@@ -198,6 +204,7 @@ fn after_reply<B: Blob, L: Leaf, C: Recorder<B, L>>(
     work: Work<B, L>,
     asked: Asked,
 )
+    requires sound { C.sound recorder.old }
     requires asked { IsAskedCard (C.standing recorder.old) (card_seen B.told B.seen L.seen work.card) work.unencoded
         asked.put }
     requires untouched { asked.reply ≡ Reply.Delayed
@@ -215,6 +222,7 @@ fn after_reply<B: Blob, L: Leaf, C: Recorder<B, L>>(
         → IsAt (C.standing recorder.new) (C.given recorder.new) (paths_of (cards_of late.new) ++ rest) rest first t }
     ensures standing { C.standing recorder.new ≡ C.standing recorder.old }
     ensures fixed { C.fixed recorder.new ≡ C.fixed recorder.old }
+    ensures sound { C.sound recorder.new }
     ensures read { AddsRead (C.given recorder.old) (C.given recorder.new) }
     ensures cards { GrowsLate (C.standing recorder.old) (cards_of late.old) work.card.path work.card.text
         (cards_of late.new) }
@@ -252,6 +260,7 @@ fn ask_card<S: Starter, B: Blob, L: Leaf, C: Recorder<B, L>, G: Gate>(
     placed: Placed<B, L>,
     prepared: Prepared,
 ) -> bool
+    requires sound { C.sound recorder.old }
     requires open { IsOpen line.old.session }
     requires planned { IsPlanned (C.standing recorder.old) (card_seen B.told B.seen L.seen placed.card) }
     requires prepared { IsPrepared (card_seen B.told B.seen L.seen placed.card) prepared }
@@ -270,6 +279,7 @@ fn ask_card<S: Starter, B: Blob, L: Leaf, C: Recorder<B, L>, G: Gate>(
         (paths_of (cards_of late.new)) [] rest }
     ensures standing { C.standing recorder.new ≡ C.standing recorder.old }
     ensures fixed { C.fixed recorder.new ≡ C.fixed recorder.old }
+    ensures sound { C.sound recorder.new }
     ensures read { AddsRead (C.given recorder.old) (C.given recorder.new) }
     ensures serves { (paths : Paths) (line0 : LineView) (given0 : List Given) (asked : List ℕ)
         → paths.text placed.card.path ≡ placed.card.text → paths.content placed.card.path ≡ prepared.bytes
@@ -319,6 +329,7 @@ fn not_opened<B: Blob, L: Leaf, C: Recorder<B, L>>(
     cause: OpenCause,
     recorder: &mut C,
 )
+    requires sound { C.sound recorder.old }
     requires asked { IsAskedCard (C.standing recorder.old) (card_seen B.told B.seen L.seen work.card) work.unencoded
         (Ok tt) }
     requires required { (C.standing recorder.old).required ≡ required }
@@ -327,6 +338,7 @@ fn not_opened<B: Blob, L: Leaf, C: Recorder<B, L>>(
     ensures closed { AreClosings NoAnswer (C.given recorder.old) (C.given recorder.new) }
     ensures standing { C.standing recorder.new ≡ C.standing recorder.old }
     ensures fixed { C.fixed recorder.new ≡ C.fixed recorder.old }
+    ensures sound { C.sound recorder.new }
     ensures read { AddsRead (C.given recorder.old) (C.given recorder.new) }
 {
     match cause {
@@ -344,6 +356,7 @@ fn serve_card<S: Starter, B: Blob, L: Leaf, C: Recorder<B, L>, G: Gate>(
     placed: Placed<B, L>,
     prepared: Prepared,
 ) -> bool
+    requires sound { C.sound recorder.old }
     requires starts { starts_of line.old < 2 ^ 32 }
     requires askable { IsAskable line.old.session (newest (paths_of (cards_of late.old))) }
     requires planned { IsPlanned (C.standing recorder.old) (card_seen B.told B.seen L.seen placed.card) }
@@ -363,6 +376,7 @@ fn serve_card<S: Starter, B: Blob, L: Leaf, C: Recorder<B, L>, G: Gate>(
         (paths_of (cards_of late.new)) [] rest }
     ensures standing { C.standing recorder.new ≡ C.standing recorder.old }
     ensures fixed { C.fixed recorder.new ≡ C.fixed recorder.old }
+    ensures sound { C.sound recorder.new }
     ensures read { AddsRead (C.given recorder.old) (C.given recorder.new) }
     ensures serves { (paths : Paths) (line0 : LineView) (given0 : List Given) (asked : List ℕ)
         → paths.text placed.card.path ≡ placed.card.text → paths.content placed.card.path ≡ prepared.bytes
@@ -402,6 +416,7 @@ pub(crate) fn serve_one<S: Starter, B: Blob, L: Leaf, C: Recorder<B, L>, G: Gate
     aborted: bool,
     mut placed: Placed<B, L>,
 ) -> bool
+    requires sound { C.sound recorder.old }
     requires starts { starts_of line.old < 2 ^ 32 }
     requires askable { IsAskable line.old.session (newest (paths_of (cards_of late.old))) }
     requires done { aborted ≡ true → line.old.session ≡ None }
@@ -421,6 +436,7 @@ pub(crate) fn serve_one<S: Starter, B: Blob, L: Leaf, C: Recorder<B, L>, G: Gate
         (paths_of (cards_of late.new)) [] rest }
     ensures standing { C.standing recorder.new ≡ C.standing recorder.old }
     ensures fixed { C.fixed recorder.new ≡ C.fixed recorder.old }
+    ensures sound { C.sound recorder.new }
     ensures serves { (w : WorkSeen) × (w.card ≡ card_seen B.told B.seen L.seen placed.card) × ReadsAs w.card w.content
         × ((paths : Paths) (line0 : LineView) (given0 : List Given) (asked : List ℕ) → FitsWork paths w
         → Serves service.now.seat.driver paths line0 given0 asked [] line.old (C.given recorder.old) aborted

@@ -9,6 +9,7 @@ drop_leaf-own-requires g c = record { usable = λ k. (c.requires.asked.kept.usab
 pub close-requires : goal.close-requires
 close-requires g c =
     let m = c.requires.may in record {
+      sound = c.requires.sound;
       shows = closes_read _ _ _ _ _ m.heard _ _ c.requires.asked m.may c.drop_leaf-own.ensures.path
           (λ before k. shows_none _ m.heard _ _ _ _ m.without (c.drop_leaf-own.ensures.shows before k))
           (may_drop _ m.heard _ c.args.put m.refused c.drop_leaf-own.ensures.put);

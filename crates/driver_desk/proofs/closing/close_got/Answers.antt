@@ -10,6 +10,7 @@ seal_leaf-own-requires g c = record { usable = λ k. (c.requires.asked.kept.usab
 
 pub close-requires : goal.close-requires
 close-requires g c = record {
+  sound = c.requires.sound;
   shows = closes_read _ _ _ _ _ Got _ _ c.requires.asked c.requires.may c.seal_leaf-own.ensures.path c.seal_leaf-own.ensures.shows (may_got _ _);
   next = c.requires.may.close c.seal_leaf-own.result c.seal_leaf-own.ensures.read;
 }

@@ -13,6 +13,7 @@ restart-requires g c = (c.requires.asked.kept.usable (λ e. absurd (cc (e)))).0
 
 pub hand_back-requires : goal.hand_back-requires
 hand_back-requires g c = record {
+  sound = c.requires.sound;
   card = refused_one _ _ _ _ c.requires.asked c.requires.free c.in-Ok.ensures;
   free = c.requires.free;
   own = c.requires.may.1.own;
@@ -22,6 +23,7 @@ hand_back-requires g c = record {
 pub close-requires : goal.close-requires
 close-requires g c =
     let m = c.requires.may in record {
+      sound = c.requires.sound;
       shows = closes_read _ _ _ _ _ (Refused m.0) _ _ c.requires.asked m.1 (c.write_failed-own.ensures.path ∙ ap (λ (l : LeafSeen). l.path) c.in-Err.ensures.kept)
           (λ before k. c.write_failed-own.ensures.shows before _ _ (rose_kept before (g.L.Leaf.seen c.args.work.card.leaf) (g.L.Leaf.seen c.restart.new.self) k c.in-Err.ensures.rose))
           (may_failed _ (Refused m.0) _ c.write_failed-own.ensures.own);

@@ -27,6 +27,7 @@ loop-card-init g c = record {
   idle = c.requires.idle;
   state = serving_none _ _ _ _ _ c.requires.none (ap paths_of c.requires.empty) c.requires.state;
   standing = refl;
+  sound = c.requires.sound;
   fixed = refl;
   serves = (
     [],
@@ -92,6 +93,7 @@ loop-card-preserved g c =
       state = e.next (card_paths (map (λ (k : Card g.row.B.Denot g.row.L.Denot). card_seen g.B.Blob.told g.B.Blob.seen g.L.Leaf.seen k) c.pop_front.new.self.items)) (apart_next _ _ _ card next h.apart) (serving_card _ _ _ _ _ _ _ card next h.state);
       standing = e.standing ∙ h.standing;
       fixed = e.fixed ∙ h.fixed;
+      sound = e.sound;
       serves = (
         h.serves.0 ++ w ∷ [],
         all_next _ h.serves.0 _ _ w card h.serves.1 next e.serves.1,

@@ -22,6 +22,7 @@ invariant-loop-card g l = record {
   turns : StaysUnlisted l.initial.late l.late;
   idle : AreIdle l.place l.late;
   state : IsServing (g.C.Recorder.standing l.recorder) (g.C.Recorder.given l.recorder) l.line.session l.aborted (paths_of (cards_of l.late)) [] (card_paths (map (λ c. card_seen g.B.Blob.told g.B.Blob.seen g.L.Leaf.seen c) l.cards.items));
+  sound : g.C.Recorder.sound l.recorder;
   standing : g.C.Recorder.standing l.recorder ≡ g.C.Recorder.standing l.initial.recorder;
   fixed : g.C.Recorder.fixed l.recorder ≡ g.C.Recorder.fixed l.initial.recorder;
   serves : (works : List WorkSeen)

@@ -29,6 +29,7 @@ pub note-requires-in-Empty : goal.note-requires-in-Empty
 note-requires-in-Empty g c =
     let r = c.requires.next in
     record {
+      sound = c.requires.sound;
       noted = refl;
       own = ap (λ (d : ℕ). Some d) (sym c.requires.driver);
       next = (list_last c.desk_laws.ensures _ _ c.args.driver _ _ r.0 r.1 _ c.args.reply r.2 r.3 (not_names c.args.reply c.in-Empty.is) refl c.requires.driver refl r.4).0;
@@ -42,6 +43,7 @@ returns-in-Empty g c =
           (list_last c.desk_laws.ensures _ _ c.args.driver _ _ cards waiting _ c.args.reply first delay other c.note-in-Empty.ensures.standing c.requires.driver c.note-in-Empty.ensures.given h).1;
       standing = c.note-in-Empty.ensures.standing;
       fixed = c.note-in-Empty.ensures.fixed;
+      sound = c.note-in-Empty.ensures.sound;
       read = adds_note _ _ _ c.note-in-Empty.ensures.given;
       noted = (
         Noted (event.Listed c.args.driver c.args.reply) ∷ [],

@@ -28,6 +28,7 @@ loop-place-preserved g c = record {
   noted = named_place _ _ _ c.args.late.now.numbers c.listed-places.result.now c.loop-place.place-index c.number.result c.loop-place-test.true c.number.ensures c.loop-place.invariant.noted c.note.ensures.given;
   read = adds_both _ _ _ c.loop-place.invariant.read (adds_note _ _ _ c.note.ensures.given);
   standing = c.note.ensures.standing ∙ c.loop-place.invariant.standing;
+  sound = c.note.ensures.sound;
   fixed = c.note.ensures.fixed ∙ c.loop-place.invariant.fixed;
   next = λ cards waiting first delay h.
       let n = naming_as _ _ _ cards waiting _ first delay c.loop-place.invariant.standing (naming_turns _ _ cards waiting c.args.late.now.numbers _ _ first delay c.listed-places.ensures.turns h) in

@@ -12,6 +12,7 @@ abbrev pub invariant-loop-place : goal.invariant-loop-place
 invariant-loop-place g l = record {
   noted : (more : List Given) × (g.C.Recorder.given l.recorder ≡ g.C.Recorder.given l.initial.recorder ++ more) × (noted_in more ≡ map event.Named (map (number_at l.late.numbers) (take l.place-index l.places))) × AllSealed NoAnswer more;
   read : AddsRead (g.C.Recorder.given l.initial.recorder) (g.C.Recorder.given l.recorder);
+  sound : g.C.Recorder.sound l.recorder;
   standing : g.C.Recorder.standing l.recorder ≡ g.C.Recorder.standing l.initial.recorder;
   fixed : g.C.Recorder.fixed l.recorder ≡ g.C.Recorder.fixed l.initial.recorder;
   next : (cards waiting : List ℕ) (first : ℕ) (delay : Bool)

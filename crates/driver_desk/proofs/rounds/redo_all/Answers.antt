@@ -46,6 +46,7 @@ loop-seat-preserved g c =
           (redo_turns (g.C.Recorder.standing c.loop-seat.recorder) (g.C.Recorder.given c.loop-seat.recorder) c.loop-seat.line.session _ _ _ _ names h.state);
       read = adds_both _ _ _ h.read c.redo.ensures.read;
       standing = c.redo.ensures.standing ∙ h.standing;
+      sound = c.redo.ensures.sound;
       fixed = c.redo.ensures.fixed ∙ h.fixed;
       rounds = λ paths line0 given0 asked fit r. c.redo.ensures.rounds paths line0 given0 asked _ (paths_of (cards_of c.loop-seat.late)) _
           (ap paths.text taken.named ∙ (taken_fits paths _ _ _ _ taken (h.fits paths fit)).0)

@@ -19,6 +19,7 @@ invariant-loop-seat g l = record {
       → RoundsBy l.seat.driver paths line0 given0 asked l.line.session l.line (g.C.Recorder.given l.recorder) (paths_of (cards_of l.late)) (names_at l.late);
   state : InRoundsAt (g.C.Recorder.standing l.recorder) (g.C.Recorder.given l.recorder) l.line.session (paths_of (cards_of l.late)) (names_at l.late);
   read : AddsRead (g.C.Recorder.given l.initial.recorder) (g.C.Recorder.given l.recorder);
+  sound : g.C.Recorder.sound l.recorder;
   standing : g.C.Recorder.standing l.recorder ≡ g.C.Recorder.standing l.initial.recorder;
   fixed : g.C.Recorder.fixed l.recorder ≡ g.C.Recorder.fixed l.initial.recorder;
   shuts : l.initial.line.session ≡ None → l.line.session ≡ None;

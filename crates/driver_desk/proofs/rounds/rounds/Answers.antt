@@ -18,6 +18,7 @@ loop-seat-preserved g c =
       state = e.state;
       read = adds_both _ _ _ h.read e.read;
       standing = e.standing ∙ h.standing;
+      sound = e.sound;
       fixed = e.fixed ∙ h.fixed;
       fits = λ paths fit. e.fits paths (h.fits paths fit);
       rounds = λ paths line0 given0 asked fit names r. e.rounds paths line0 given0 asked (h.fits paths fit) (fits_names paths c.args.late.now c.loop-seat.late h.names names) (h.rounds paths line0 given0 asked fit names r);

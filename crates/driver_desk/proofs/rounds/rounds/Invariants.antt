@@ -17,6 +17,7 @@ invariant-loop-seat g l = record {
   fits : (paths : Paths) → FitTexts paths (cards_of l.initial.late) → FitTexts paths (cards_of l.late);
   state : InRoundsAt (g.C.Recorder.standing l.recorder) (g.C.Recorder.given l.recorder) l.line.session (paths_of (cards_of l.late)) [];
   read : AddsRead (g.C.Recorder.given l.initial.recorder) (g.C.Recorder.given l.recorder);
+  sound : g.C.Recorder.sound l.recorder;
   standing : g.C.Recorder.standing l.recorder ≡ g.C.Recorder.standing l.initial.recorder;
   fixed : g.C.Recorder.fixed l.recorder ≡ g.C.Recorder.fixed l.initial.recorder;
   rounds : (paths : Paths) (line0 : LineView) (given0 : List Given) (asked : List ℕ) → FitTexts paths (cards_of l.initial.late) → FitsNames paths l.initial.late

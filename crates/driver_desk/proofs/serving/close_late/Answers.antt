@@ -26,6 +26,7 @@ loop-work-preserved g c =
       idle = λ q k. c.next_late.ensures.idle q (h.idle q k);
       turns = λ e. c.next_late.ensures.turns (h.turns e);
       standing = c.close_empty.ensures.standing ∙ h.standing;
+      sound = c.close_empty.ensures.sound;
       fixed = c.close_empty.ensures.fixed ∙ h.fixed;
       next = λ rest first t a. lost_as _ _ _ _ rest first t c.close_empty.ensures.standing
           (lost_ends c.desk_laws.ensures _ _ _ _ _ _ _ rest first t (h.next rest first t a) c.in-Some.ensures.next.1 c.close_empty.ensures.ends);

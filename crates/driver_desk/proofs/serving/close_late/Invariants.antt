@@ -15,6 +15,7 @@ invariant-loop-work g l = record {
   names : KeepsNames l.initial.late l.late;
   idle : (q : ℕ) → AreIdle q l.initial.late → AreIdle q l.late;
   turns : StaysUnlisted l.initial.late l.late;
+  sound : g.C.Recorder.sound l.recorder;
   standing : g.C.Recorder.standing l.recorder ≡ g.C.Recorder.standing l.initial.recorder;
   fixed : g.C.Recorder.fixed l.recorder ≡ g.C.Recorder.fixed l.initial.recorder;
   next : (rest : List ℕ) (first : ℕ) (t : Talk)
