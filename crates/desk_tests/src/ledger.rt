@@ -67,6 +67,8 @@ impl<'a, H: Abort> Recorder<Source, Sheet> for Ledger<'a, H> {
     ghost given = { λ l. given_in ⟦<Source as Blob>⟧.told ⟦<Source as Blob>⟧.seen ⟦<Sheet as Leaf>⟧.seen
         l.taken.items };
 
+    ghost sound = { λ _. Unit {0} };
+
     ghost Fixed = { Unit {0} };
 
     ghost fixed = { λ _. tt };
@@ -87,6 +89,7 @@ impl<'a, H: Abort> Recorder<Source, Sheet> for Ledger<'a, H> {
             standing_of told blob leaf self.new.required self.new.starts.items self.new.planned.value.items
             ≡ standing_of told blob leaf self.old.required self.old.starts.items self.old.planned.value.items }
         ensures fixed { tt {0} ≡ tt {0} }
+        ensures sound { Unit {0} }
     {
         self.keep(Taken::Closed(own, card));
     }
@@ -103,6 +106,7 @@ impl<'a, H: Abort> Recorder<Source, Sheet> for Ledger<'a, H> {
             standing_of told blob leaf self.new.required self.new.starts.items self.new.planned.value.items
             ≡ standing_of told blob leaf self.old.required self.old.starts.items self.old.planned.value.items }
         ensures fixed { tt {0} ≡ tt {0} }
+        ensures sound { Unit {0} }
     {
         self.keep(Taken::Back(card));
     }

@@ -28,8 +28,10 @@ use Rattle.driver_line.specs.declared.line.Start.TheVariants as starts
 use Rattle.driver_line.specs.Conversations.{Exchange}
 use Rattle.driver_line.specs.Lines.{OpenIs, SessionAfter, GoesOn, MayReply, IsOpen}
 use Rattle.driver_desk.specs.Rounds.{AreApart, LateSeen, RedoneCards, IsTaken, paths_of}
-use Rattle.driver_desk.specs.Serving.{Given, Noted, talk_now, newest, late_after, is_abort}
-use Rattle.driver_desk.specs.Recorders.{Standing as Seat, MayDo, MayEnd, MayDrop, IsEnd, fate_now}
+use Rattle.driver_desk.specs.Serving.{Given, Noted}
+use Rattle.driver_desk.specs.Progress.{talk_now, newest, late_after, is_abort}
+use Rattle.driver_desk.specs.Recorders.{Standing as Seat, MayDo, fate_now}
+use Rattle.driver_desk.specs.Endings.{MayEnd, MayDrop, IsEnd}
 use Rattle.driver_desk.specs.Places.{DeskLaws, IsAt, IsOwn, IsServing, IsUnopened, IsAnswered, AreLost, AreGone, IsGone, KeepsLate}
 use Rattle.driver_desk.proofs.Serves.{opened_moves, refused_moves, first_moves, open_some}
 use Rattle.driver_desk.proofs.RoundSteps.{self, newest_has, eq_flip, paths_push}

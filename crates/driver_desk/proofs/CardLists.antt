@@ -20,7 +20,8 @@ use Rattle.driver_desk.proofs.LateCards.{none_filled}
 use Rattle.driver_desk.specs.Rounds.{LateSeen, AreApart}
 use Rattle.driver_desk.specs.Recorders.{Standing}
 use Rattle.driver_desk.specs.Cards.{IsPlanned}
-use Rattle.driver_desk.specs.Serving.{Given, Serves, IsSane}
+use Rattle.driver_desk.specs.Serving.{Given}
+use Rattle.driver_desk.specs.Progress.{Serves, IsAskable}
 
 cards_push : (works : List WorkSeen) (w : WorkSeen) → cards_in (works ++ w ∷ []) ≡ cards_in works ++ w.card ∷ []
 cards_push [] w = refl
@@ -53,7 +54,7 @@ many_cards : (works : List WorkSeen) (rest : List CardSeen) → length (cards_in
 many_cards [] rest = omega arith
 many_cards (w ∷ ws) rest = let k = many_cards ws rest in omega (arith, k)
 
-map_many : {A : Type 0} (f : A → CardSeen) (xs : List A) → length (map f xs) ≡ length xs
+pub map_many : {A : Type 0} (f : A → CardSeen) (xs : List A) → length (map f xs) ≡ length xs
 map_many f [] = refl
 map_many f (x ∷ xs) = ap (λ (n : ℕ). suc n) (map_many f xs)
 
@@ -85,7 +86,7 @@ next_planned s whole works rest rest1 c same e i new = (
 pub text_of : (paths : Paths) (w : WorkSeen) (c : CardSeen) → w.card ≡ c → FitsWork paths w → paths.text c.path ≡ c.text
 text_of paths w c e h = subst (λ (x : CardSeen). paths.text x.path ≡ x.text) e h.0
 
-pub sane_none : (o : Option SessionSeen) (late : List ℕ) → o ≡ None → late ≡ [] → IsSane o late
+pub sane_none : (o : Option SessionSeen) (late : List ℕ) → o ≡ None → late ≡ [] → IsAskable o late
 sane_none None late e l = l
 sane_none (Some s) late e l = absurd (cc)
 

@@ -23,9 +23,11 @@ use Rattle.filter_words.specs.declared.reply.Reply.{Reply}
 use Rattle.filter_words.specs.declared.reply.Reply.TheVariants as reply
 use Rattle.driver_desk.specs.Serving.{Given}
 use Rattle.driver_desk.specs.Shown.{IsGivenUp, ShowsUnused, ShowsLeaf, fine_state, MayClose}
-use Rattle.driver_desk.specs.Recorders.{Standing, MayEnd, MayDrop, ShowsClose}
+use Rattle.driver_desk.specs.Recorders.{Standing, ShowsClose}
+use Rattle.driver_desk.specs.Endings.{MayEnd, MayDrop}
 use Rattle.driver_desk.specs.Cards.{IsPlanned, IsReadCard, IsAskedCard, IsUnreadCard, ready_of}
-use Rattle.driver_desk.specs.Works.{KeepsCard, CountsRead}
+use Rattle.driver_desk.specs.Works.{CountsRead}
+use Rattle.driver_desk.specs.Cards.{KeepsCard}
 use Rattle.driver_desk.specs.Rounds.{LateSeen, GrowsLate}
 
 -- a discard keeps the path

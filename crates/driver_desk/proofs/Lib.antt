@@ -6,3 +6,5 @@ pub mod Closings
 pub mod Places
 pub mod Calls
 pub mod RoundCalls
+pub mod Ties
+pub mod NotedTalks

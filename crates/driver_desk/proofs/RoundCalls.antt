@@ -22,12 +22,14 @@ use Rattle.driver_line.specs.Conversations.{list_notes}
 use Rattle.driver_line.specs.Lines.{AreKnown, NamesAre, MayReply, GoesOn, IsOpen, list_standing, names_in, number_at}
 use Rattle.driver_desk.specs.Late.{LateView, cards_of, names_at}
 use Rattle.driver_desk.specs.Rounds.{round_of, minus, AreApart, AreAmong, AreWaiting, RedoneCards, LateSeen, IsTaken, paths_of}
-use Rattle.driver_desk.specs.Serving.{Given, Noted, Closed, HandedBack, talk_now, newest}
+use Rattle.driver_desk.specs.Serving.{Given, Noted, Closed, HandedBack}
+use Rattle.driver_desk.specs.Progress.{talk_now, newest}
 use Rattle.convert_plan.specs.Card.{CardSeen}
 use Rattle.checkout_core.specs.Desks.{AtDesk, paths_of as driver_paths, leaves, is_left}
 use Rattle.driver_desk.specs.Desks.{DeskView, IsDealt, AreThrough}
 use Rattle.driver_desk.specs.Works.{card_paths}
-use Rattle.driver_desk.specs.Recorders.{Standing, MayDo, MayEnd, IsEnd, event_of, events_in, ended_path, fate_now, is_path, times}
+use Rattle.driver_desk.specs.Recorders.{Standing, MayDo, event_of, events_in, ended_path, fate_now, is_path, times}
+use Rattle.driver_desk.specs.Endings.{MayEnd, IsEnd}
 use Rattle.driver_desk.specs.Places.{DeskLaws, IsAt, IsOwn, IsServing, IsNaming, IsListing, AfterList, InRoundsAt, AreGone, AreLost, IsDone, IsGone, times_of, naming_after, named_talk}
 use Rattle.driver_desk.proofs.RoundSteps.{self, some_names, known_without, known_among, minus_not, names_wait, redone_waits, name_step, take_more, redo_step, shut_talk, newest_has, newest_had, late_cards}
 use Rattle.driver_desk.proofs.Places.{gone_end, at_note, at_end_away, fate_noted, may_end, own_note, run_step, first_has, false_of, apart_mid}

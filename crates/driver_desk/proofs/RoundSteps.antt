@@ -25,7 +25,8 @@ use Rattle.checkout_core.specs.Transcripts as result
 use Rattle.driver_line.specs.Transcripts.{HasItems}
 use Rattle.driver_line.specs.Starters.{IsSameStarter}
 use Rattle.driver_line.specs.ToldStarts.{GoBy}
-use Rattle.driver_desk.specs.Serving.{IsServed, Given, Noted, noted_in, AllSealed, AreClosings, NoAnswer, HasAnswer, Talks, Serves, talk_now, newest}
+use Rattle.driver_desk.specs.Serving.{IsServed, Given, Noted, noted_in, AllSealed, HasAnswer}
+use Rattle.driver_desk.specs.Progress.{AreClosings, NoAnswer, Talks, Serves, talk_now, newest}
 use Rattle.driver_desk.specs.Rounds.{round_of, minus, AreAmong, AreApart, AreWaiting, InRounds, TalkOver, RoundsBy, LateSeen, paths_of, AreReady, FitTexts, IsTaken, IsNext, GrowsLate, RedoneCards, TurnsBy}
 use Rattle.driver_desk.specs.Recorders.{Standing as Seat}
 use Rattle.driver_desk.specs.Cards.{IsReadCard}

@@ -24,7 +24,8 @@ use Rattle.driver_line.specs.Lines.{LineView, Paths, Says, RunsTo, OpenIs, IsOpe
 use Rattle.edge_kit.specs.Told.{Tells}
 use Rattle.driver_desk.specs.Rounds.{LateSeen, paths_of}
 use Rattle.driver_desk.specs.Works.{WorkSeen, FitsWork, FitAll, asked_of, asked_in}
-use Rattle.driver_desk.specs.Serving.{Given, Noted, Closed, HandedBack, noted_of, noted_in, AllSealed, AreClosings, NoAnswer, IsAnswer, HasAnswer, Serves, talk_in, talk_now, newest, IsSane, is_abort, late_after}
+use Rattle.driver_desk.specs.Serving.{Given, Noted, Closed, HandedBack, noted_of, noted_in, AllSealed, IsAnswer, HasAnswer}
+use Rattle.driver_desk.specs.Progress.{AreClosings, NoAnswer, Serves, talk_in, talk_now, newest, IsAskable, is_abort, late_after}
 
 pub runs_more : (paths : Paths) (a b c : LineView) (es : List Exchange) (e : Exchange) → RunsTo paths a es b → Says paths b e c → RunsTo paths a (es ++ e ∷ []) c
 runs_more paths a b c [] e r s = (c, subst (λ (x : LineView). Says paths x e c) (sym r) s, refl)
@@ -300,7 +301,7 @@ asked_card d paths line0 given0 asked p line line1 given given1 given2 late late
     rw (ab, l) (serves_closed d paths line0 given0 (asked ++ p ∷ []) [] line1 given1 given2 more.0 (is_abort r) (late_after p r late) s more.1 more.2
     (all_mono (λ q told. (r ≡ reply.Content) × (q ≡ p) × Tells told content) (HasAnswer s.exchanges) (λ q told k. asked_has d paths line0 given0 asked p line line1 given given1 o.0 late r content o.1 o.3 (may o.0 o.1) (goes o.0 o.1) says g h q told k) more.0 more.3))
 
-sane_as : (z : Standing) (s : SessionSeen) (p : ℕ) (r : Reply) (late : List ℕ) (session1 : Option SessionSeen) → standing_after r ≡ z → GoesOn s z session1 → IsSane session1 (late_after p r late)
+sane_as : (z : Standing) (s : SessionSeen) (p : ℕ) (r : Reply) (late : List ℕ) (session1 : Option SessionSeen) → standing_after r ≡ z → GoesOn s z session1 → IsAskable session1 (late_after p r late)
 sane_as z s p r late None is goes = none z r is goes
   where
     none : (z : Standing) (r : Reply) → standing_after r ≡ z → GoesOn s z None → late_after p r late ≡ []
@@ -323,7 +324,7 @@ sane_as standing.Live s p r late (Some t) is goes = let same : t ≡ record { wi
 sane_as standing.Aborted s p r late (Some t) is goes = absurd (cc)
 sane_as standing.Over s p r late (Some t) is goes = absurd (cc)
 
-pub asked_sane : (session session1 : Option SessionSeen) (p : ℕ) (r : Reply) (late late1 : List ℕ) → IsOpen session → ((s : SessionSeen) → session ≡ Some s → GoesOn s (standing_after r) session1) → late1 ≡ late_after p r late → IsSane session1 late1
+pub asked_sane : (session session1 : Option SessionSeen) (p : ℕ) (r : Reply) (late late1 : List ℕ) → IsOpen session → ((s : SessionSeen) → session ≡ Some s → GoesOn s (standing_after r) session1) → late1 ≡ late_after p r late → IsAskable session1 late1
 asked_sane session session1 p r late late1 ready goes l =
     let o = open_some session ready in
     rw l (sane_as (standing_after r) o.0 p r late session1 refl (goes o.0 o.1))
@@ -339,7 +340,7 @@ pub is_none : (session : Option SessionSeen) → (IsTrue false ↔ IsSome sessio
 is_none None h = refl
 is_none (Some s) h = absurd (cc (h.1 refl))
 
-pub late_none : (session : Option SessionSeen) (names : List ℕ) → session ≡ None → IsSane session names → names ≡ []
+pub late_none : (session : Option SessionSeen) (names : List ℕ) → session ≡ None → IsAskable session names → names ≡ []
 late_none None names e h = h
 late_none (Some s) names e h = absurd (cc)
 
@@ -348,7 +349,7 @@ pub past_smudge : (p : ℕ) (session : Option SessionSeen) (late : List ℕ) →
 past_smudge p None late there smudge rest = absurd (there refl)
 past_smudge p (Some s) late there smudge rest = rw (smudge s refl) refl
 
-pub open_ready : (session : Option SessionSeen) (late : List ℕ) → (session ≡ None → ⊥) → IsSane session late → ((s : SessionSeen) → session ≡ Some s → s.caps.smudge ≡ true) → IsOpen session
+pub open_ready : (session : Option SessionSeen) (late : List ℕ) → (session ≡ None → ⊥) → IsAskable session late → ((s : SessionSeen) → session ≡ Some s → s.caps.smudge ≡ true) → IsOpen session
 open_ready None late there sane smudge = absurd (there refl)
 open_ready (Some s) late there sane smudge = (sane, smudge s refl)
 

@@ -7,3 +7,8 @@ pub mod Shown
 pub mod Recorders
 pub mod Cards
 pub mod Places
+pub mod Ties
+pub mod Added
+pub mod Progress
+pub mod Endings
+pub mod Noting

@@ -11,10 +11,12 @@ ghost use Rattle.edge_kit.specs.Seen.{LeafSeen};
 ghost use Rattle.edge_kit.specs.declared.leaf_state.LeafState.{LeafState};
 ghost use Rattle.edge_kit.specs.declared.leaf_state.LeafState.TheVariants.{Fresh, Broken, Sealed, Gone};
 ghost use Rattle.filter_proto.specs.Replies.{IsKept};
+ghost use Rattle.driver_desk.specs.Added.{AddsRead, ClosesOne};
 ghost use Rattle.driver_desk.specs.Cards.{IsAskedCard, IsUnreadCard};
 ghost use Rattle.driver_desk.specs.Shown.{ShowsUnused, IsGivenUp, ShowsLeaf};
-ghost use Rattle.driver_desk.specs.Recorders.{MayDo, MayDrop, MayEnd, IsEnd, ShowsClose};
-ghost use Rattle.driver_desk.specs.Serving.{AreClosings, NoAnswer};
+ghost use Rattle.driver_desk.specs.Recorders.{MayDo, ShowsClose};
+ghost use Rattle.driver_desk.specs.Endings.{MayDrop, MayEnd, IsEnd};
+ghost use Rattle.driver_desk.specs.Progress.{AreClosings, NoAnswer};
 
 use crate::recorder::Recorder;
 use checkout_core::Own;
@@ -107,6 +109,7 @@ fn drop_leaf<L: Leaf>(leaf: &mut L, put: Result<(), SendFault>, unencoded: bool)
 
 /// Closes a card, with what happened to it. What was prepared for it isn't needed any more.
 fn close<B: Blob, L: Leaf, C: Recorder<B, L>>(mut card: Card<B, L>, recorder: &mut C, own: Own)
+    requires sound { C.sound recorder.old }
     requires shows { ShowsClose (C.standing recorder.old) (C.given recorder.old) own
         (record (card_seen B.told B.seen L.seen card) { ready = None }) }
     requires next { MayDo (C.standing recorder.old) (C.given recorder.old)
@@ -116,6 +119,8 @@ fn close<B: Blob, L: Leaf, C: Recorder<B, L>>(mut card: Card<B, L>, recorder: &m
         × (m : Mark) × ((L.seen card.leaf).state ≡ Sealed m)) (C.given recorder.old) (C.given recorder.new) }
     ensures standing { C.standing recorder.new ≡ C.standing recorder.old }
     ensures fixed { C.fixed recorder.new ≡ C.fixed recorder.old }
+    ensures sound { C.sound recorder.new }
+    ensures one { ClosesOne card.path own (C.given recorder.old) (C.given recorder.new) }
 {
     card.ready = None;
     recorder.close(card, own);
@@ -127,6 +132,7 @@ pub(crate) fn close_got<B: Blob, L: Leaf, C: Recorder<B, L>>(
     put: Result<(), SendFault>,
     recorder: &mut C,
 )
+    requires sound { C.sound recorder.old }
     requires asked { IsAskedCard (C.standing recorder.old) (card_seen B.told B.seen L.seen work.card) work.unencoded
         put }
     requires may { MayEnd (C.standing recorder.old) (C.given recorder.old) work.card.path Got }
@@ -135,6 +141,8 @@ pub(crate) fn close_got<B: Blob, L: Leaf, C: Recorder<B, L>>(
         × (told ≡ (L.seen work.card.leaf).content)) (C.given recorder.old) (C.given recorder.new) }
     ensures standing { C.standing recorder.new ≡ C.standing recorder.old }
     ensures fixed { C.fixed recorder.new ≡ C.fixed recorder.old }
+    ensures sound { C.sound recorder.new }
+    ensures read { AddsRead (C.given recorder.old) (C.given recorder.new) }
 {
     let mark = work.card.mark;
     let own = seal_leaf(&mut work.card.leaf, mark, put, work.unencoded);
@@ -147,6 +155,7 @@ pub(crate) fn close_empty<B: Blob, L: Leaf, C: Recorder<B, L>>(
     put: Result<(), SendFault>,
     recorder: &mut C,
 )
+    requires sound { C.sound recorder.old }
     requires asked { IsAskedCard (C.standing recorder.old) (card_seen B.told B.seen L.seen work.card) work.unencoded
         put }
     requires may { MayDrop (C.standing recorder.old) (C.given recorder.old) work.card.path put }
@@ -154,6 +163,8 @@ pub(crate) fn close_empty<B: Blob, L: Leaf, C: Recorder<B, L>>(
     ensures closed { AreClosings NoAnswer (C.given recorder.old) (C.given recorder.new) }
     ensures standing { C.standing recorder.new ≡ C.standing recorder.old }
     ensures fixed { C.fixed recorder.new ≡ C.fixed recorder.old }
+    ensures sound { C.sound recorder.new }
+    ensures read { AddsRead (C.given recorder.old) (C.given recorder.new) }
 {
     let own = drop_leaf(&mut work.card.leaf, put, work.unencoded);
     close(work.card, recorder, own);
@@ -161,6 +172,7 @@ pub(crate) fn close_empty<B: Blob, L: Leaf, C: Recorder<B, L>>(
 
 /// Gives a refused card back with a fresh leaf. Where that fails it is closed.
 fn hand_back<B: Blob, L: Leaf, C: Recorder<B, L>>(mut work: Work<B, L>, recorder: &mut C)
+    requires sound { C.sound recorder.old }
     requires asked { IsAskedCard (C.standing recorder.old) (card_seen B.told B.seen L.seen work.card) work.unencoded
         (Ok tt) }
     requires free { (C.standing recorder.old).required ≡ false }
@@ -170,6 +182,8 @@ fn hand_back<B: Blob, L: Leaf, C: Recorder<B, L>>(mut work: Work<B, L>, recorder
     ensures closed { AreClosings NoAnswer (C.given recorder.old) (C.given recorder.new) }
     ensures standing { C.standing recorder.new ≡ C.standing recorder.old }
     ensures fixed { C.fixed recorder.new ≡ C.fixed recorder.old }
+    ensures sound { C.sound recorder.new }
+    ensures read { AddsRead (C.given recorder.old) (C.given recorder.new) }
 {
     match work.card.leaf.restart() {
         Ok(()) => recorder.hand_back(work.card),
@@ -187,6 +201,7 @@ pub(crate) fn refuse<B: Blob, L: Leaf, C: Recorder<B, L>>(
     put: Result<(), SendFault>,
     recorder: &mut C,
 )
+    requires sound { C.sound recorder.old }
     requires asked { IsAskedCard (C.standing recorder.old) (card_seen B.told B.seen L.seen work.card) work.unencoded
         put }
     requires required { (C.standing recorder.old).required ≡ required }
@@ -196,6 +211,8 @@ pub(crate) fn refuse<B: Blob, L: Leaf, C: Recorder<B, L>>(
     ensures closed { AreClosings NoAnswer (C.given recorder.old) (C.given recorder.new) }
     ensures standing { C.standing recorder.new ≡ C.standing recorder.old }
     ensures fixed { C.fixed recorder.new ≡ C.fixed recorder.old }
+    ensures sound { C.sound recorder.new }
+    ensures read { AddsRead (C.given recorder.old) (C.given recorder.new) }
 {
     if required {
         close_empty(work, put, recorder);
@@ -224,6 +241,7 @@ pub(crate) fn close_unread<B: Blob, L: Leaf, C: Recorder<B, L>>(
     recorder: &mut C,
     own: Own,
 )
+    requires sound { C.sound recorder.old }
     requires leaf { (L.seen card.leaf).state ≡ Fresh }
     requires unread { IsUnreadCard (C.standing recorder.old) (card_seen B.told B.seen L.seen card) own }
     requires next { MayDo (C.standing recorder.old) (C.given recorder.old)
@@ -232,6 +250,8 @@ pub(crate) fn close_unread<B: Blob, L: Leaf, C: Recorder<B, L>>(
     ensures closed { AreClosings NoAnswer (C.given recorder.old) (C.given recorder.new) }
     ensures standing { C.standing recorder.new ≡ C.standing recorder.old }
     ensures fixed { C.fixed recorder.new ≡ C.fixed recorder.old }
+    ensures sound { C.sound recorder.new }
+    ensures one { ClosesOne card.path own (C.given recorder.old) (C.given recorder.new) }
 {
     leave_unread(&mut card.leaf, own);
     close(card, recorder, own);

@@ -10,12 +10,15 @@ ghost use Rattle.driver_desk.specs.Rounds.{TalkOver, TurnsBy};
 ghost use Rattle.checkout_core.specs.declared.path.Heard.{Heard};
 ghost use Rattle.checkout_core.specs.Fates.{Known, fate_here};
 ghost use Rattle.checkout_core.specs.Talks.{contains};
+ghost use Rattle.driver_desk.specs.Added.{AddsRead};
 ghost use Rattle.driver_desk.specs.Cards.{IsReadCard, IsAskedCard};
-ghost use Rattle.driver_desk.specs.Recorders.{MayEnd, IsEnd};
+ghost use Rattle.driver_desk.specs.Endings.{MayEnd, IsEnd};
 ghost use Rattle.driver_desk.specs.Places.{IsAt, IsServing, IsNaming, IsListing, AfterList, InRoundsAt, IsDone};
 ghost use Rattle.driver_desk.specs.Places.{named_talk};
-ghost use Rattle.driver_desk.specs.Serving.{Given, AllSealed, AreClosings, GotContent, NoAnswer, Serves, IsSane};
-ghost use Rattle.driver_desk.specs.Serving.{newest, noted_in};
+ghost use Rattle.driver_desk.specs.Serving.{Given, AllSealed};
+ghost use Rattle.driver_desk.specs.Progress.{AreClosings, GotContent, NoAnswer, Serves, IsAskable};
+ghost use Rattle.driver_desk.specs.Serving.{noted_in};
+ghost use Rattle.driver_desk.specs.Progress.{newest};
 
 use crate::closing::{Work, close_empty, close_got, refuse};
 use crate::late::Late;
@@ -30,6 +33,7 @@ use filter_words::{ListReply, Reply};
 
 /// Notes each path that was listed.
 fn note_names<B: Blob, L: Leaf, C: Recorder<B, L>>(recorder: &mut C, late: &Late<B, L>)
+    requires sound { C.sound recorder.old }
     requires next { (cards waiting : List ℕ) × (first : ℕ) × (delay : Bool) × IsNaming (C.standing recorder.old)
         (C.given recorder.old) cards waiting (names_at late.now) first delay }
     ensures next { (cards waiting : List ℕ) (first : ℕ) (delay : Bool) → IsNaming (C.standing recorder.old)
@@ -40,6 +44,8 @@ fn note_names<B: Blob, L: Leaf, C: Recorder<B, L>>(recorder: &mut C, late: &Late
         × (noted_in more ≡ map Event.Named (names_at late.now)) × AllSealed NoAnswer more }
     ensures standing { C.standing recorder.new ≡ C.standing recorder.old }
     ensures fixed { C.fixed recorder.new ≡ C.fixed recorder.old }
+    ensures sound { C.sound recorder.new }
+    ensures read { AddsRead (C.given recorder.old) (C.given recorder.new) }
 {
     desk_laws();
     let places = late.listed();
@@ -57,6 +63,7 @@ fn note_list<B: Blob, L: Leaf, C: Recorder<B, L>>(
     reply: ListReply,
     late: &Late<B, L>,
 )
+    requires sound { C.sound recorder.old }
     requires driver { (C.standing recorder.old).driver ≡ driver }
     requires next { (cards waiting : List ℕ) × (first : ℕ) × (delay : Bool) × IsListing (C.standing recorder.old)
         (C.given recorder.old) cards waiting (names_in late.now.numbers late.now.table.turns reply) reply first delay }
@@ -66,6 +73,8 @@ fn note_list<B: Blob, L: Leaf, C: Recorder<B, L>>(
         (names_in late.now.numbers late.now.table.turns reply) first delay }
     ensures standing { C.standing recorder.new ≡ C.standing recorder.old }
     ensures fixed { C.fixed recorder.new ≡ C.fixed recorder.old }
+    ensures sound { C.sound recorder.new }
+    ensures read { AddsRead (C.given recorder.old) (C.given recorder.new) }
     ensures noted { (more : List Given) × (C.given recorder.new ≡ C.given recorder.old ++ more)
         × (noted_in more ≡ list_notes driver (names_in late.now.numbers late.now.table.turns reply) reply)
         × AllSealed NoAnswer more }
@@ -90,6 +99,7 @@ fn after_second<B: Blob, L: Leaf, C: Recorder<B, L>>(
     reply: Reply,
     put: Result<(), SendFault>,
 )
+    requires sound { C.sound recorder.old }
     requires asked { IsAskedCard (C.standing recorder.old) (card_seen B.told B.seen L.seen work.card) work.unencoded
         put }
     requires required { (C.standing recorder.old).required ≡ seat.required }
@@ -101,6 +111,8 @@ fn after_second<B: Blob, L: Leaf, C: Recorder<B, L>>(
         (C.given recorder.old) (C.given recorder.new) }
     ensures standing { C.standing recorder.new ≡ C.standing recorder.old }
     ensures fixed { C.fixed recorder.new ≡ C.fixed recorder.old }
+    ensures sound { C.sound recorder.new }
+    ensures read { AddsRead (C.given recorder.old) (C.given recorder.new) }
 {
     match reply {
         Reply::Content => close_got(work, put, recorder),
@@ -118,6 +130,7 @@ fn redo<S: Starter, B: Blob, L: Leaf, C: Recorder<B, L>>(
     recorder: &mut C,
     mut work: Work<B, L>,
 )
+    requires sound { C.sound recorder.old }
     requires open { IsOpen line.old.session }
     requires read { IsReadCard (C.standing recorder.old) (card_seen B.told B.seen L.seen work.card) work.unencoded }
     requires driver { (C.standing recorder.old).driver ≡ seat.driver }
@@ -130,6 +143,8 @@ fn redo<S: Starter, B: Blob, L: Leaf, C: Recorder<B, L>>(
         → InRoundsAt (C.standing recorder.new) (C.given recorder.new) line.new.session left turns }
     ensures standing { C.standing recorder.new ≡ C.standing recorder.old }
     ensures fixed { C.fixed recorder.new ≡ C.fixed recorder.old }
+    ensures sound { C.sound recorder.new }
+    ensures read { AddsRead (C.given recorder.old) (C.given recorder.new) }
     ensures rounds { (paths : Paths) (line0 : LineView) (given0 : List Given) (asked turns cards left : List ℕ)
         → paths.text work.card.path ≡ work.card.text → RedoneCards cards work.card.path left
         → RoundsBy seat.driver paths line0 given0 asked line.old.session line.old (C.given recorder.old) cards
@@ -152,6 +167,7 @@ fn redo_all<S: Starter, B: Blob, L: Leaf, C: Recorder<B, L>>(
     late: &mut Late<B, L>,
     recorder: &mut C,
 )
+    requires sound { C.sound recorder.old }
     requires next { IsNext line.old.session }
     requires ready { AreReady (C.standing recorder.old) (cards_of late.old) }
     requires apart { AreApart (paths_of (cards_of late.old)) }
@@ -163,6 +179,8 @@ fn redo_all<S: Starter, B: Blob, L: Leaf, C: Recorder<B, L>>(
         (paths_of (cards_of late.new)) [] }
     ensures standing { C.standing recorder.new ≡ C.standing recorder.old }
     ensures fixed { C.fixed recorder.new ≡ C.fixed recorder.old }
+    ensures sound { C.sound recorder.new }
+    ensures read { AddsRead (C.given recorder.old) (C.given recorder.new) }
     ensures rounds { (paths : Paths) (line0 : LineView) (given0 : List Given) (asked : List ℕ)
         → FitTexts paths (cards_of late.old)
         → RoundsBy seat.driver paths line0 given0 asked line.old.session line.old (C.given recorder.old) (paths_of
@@ -195,6 +213,7 @@ fn one_round<S: Starter, B: Blob, L: Leaf, C: Recorder<B, L>>(
     late: &mut Late<B, L>,
     recorder: &mut C,
 )
+    requires sound { C.sound recorder.old }
     requires open { IsOpen line.old.session }
     requires none { late.old.table.turns ≡ [] }
     requires ready { AreReady (C.standing recorder.old) (cards_of late.old) }
@@ -207,6 +226,8 @@ fn one_round<S: Starter, B: Blob, L: Leaf, C: Recorder<B, L>>(
         (paths_of (cards_of late.new)) [] }
     ensures standing { C.standing recorder.new ≡ C.standing recorder.old }
     ensures fixed { C.fixed recorder.new ≡ C.fixed recorder.old }
+    ensures sound { C.sound recorder.new }
+    ensures read { AddsRead (C.given recorder.old) (C.given recorder.new) }
     ensures rounds { (paths : Paths) (line0 : LineView) (given0 : List Given) (asked : List ℕ)
         → FitTexts paths (cards_of late.old) → FitsNames paths late.old
         → RoundsBy seat.driver paths line0 given0 asked line.old.session line.old (C.given recorder.old) (paths_of
@@ -233,6 +254,7 @@ fn rounds<S: Starter, B: Blob, L: Leaf, C: Recorder<B, L>>(
     late: &mut Late<B, L>,
     recorder: &mut C,
 )
+    requires sound { C.sound recorder.old }
     requires open { IsOpen line.old.session }
     requires none { late.old.table.turns ≡ [] }
     requires ready { AreReady (C.standing recorder.old) (cards_of late.old) }
@@ -244,6 +266,8 @@ fn rounds<S: Starter, B: Blob, L: Leaf, C: Recorder<B, L>>(
     ensures state { IsDone (C.standing recorder.new) (C.given recorder.new) }
     ensures standing { C.standing recorder.new ≡ C.standing recorder.old }
     ensures fixed { C.fixed recorder.new ≡ C.fixed recorder.old }
+    ensures sound { C.sound recorder.new }
+    ensures read { AddsRead (C.given recorder.old) (C.given recorder.new) }
     ensures over { (paths : Paths) (line0 : LineView) (given0 : List Given) (asked : List ℕ)
         → FitTexts paths (cards_of late.old) → FitsNames paths late.old
         → RoundsBy seat.driver paths line0 given0 asked line.old.session line.old (C.given recorder.old) (paths_of
@@ -264,7 +288,8 @@ pub(crate) fn end_talk<S: Starter, B: Blob, L: Leaf, C: Recorder<B, L>>(
     late: &mut Late<B, L>,
     recorder: &mut C,
 )
-    requires sane { IsSane line.old.session (newest (paths_of (cards_of late.old))) }
+    requires sound { C.sound recorder.old }
+    requires askable { IsAskable line.old.session (newest (paths_of (cards_of late.old))) }
     requires none { late.old.table.turns ≡ [] }
     requires ready { AreReady (C.standing recorder.old) (cards_of late.old) }
     requires apart { AreApart (paths_of (cards_of late.old)) }
@@ -275,6 +300,8 @@ pub(crate) fn end_talk<S: Starter, B: Blob, L: Leaf, C: Recorder<B, L>>(
     ensures state { IsDone (C.standing recorder.new) (C.given recorder.new) }
     ensures standing { C.standing recorder.new ≡ C.standing recorder.old }
     ensures fixed { C.fixed recorder.new ≡ C.fixed recorder.old }
+    ensures sound { C.sound recorder.new }
+    ensures read { AddsRead (C.given recorder.old) (C.given recorder.new) }
     ensures over { (paths : Paths) (line0 : LineView) (given0 : List Given) (asked : List ℕ)
         → FitTexts paths (cards_of late.old) → FitsNames paths late.old
         → Serves seat.driver paths line0 given0 asked [] line.old (C.given recorder.old) false (newest (paths_of

@@ -5,15 +5,17 @@ ghost use Rattle.convert_plan.specs.Card.{card_seen, IsPrepared};
 ghost use Rattle.driver_line.specs.Lines.{LineView, Paths, IsOpen, starts_of};
 ghost use Rattle.driver_desk.specs.Late.{AreIdle, KeepsNames, StaysUnlisted, cards_of};
 ghost use Rattle.driver_desk.specs.Rounds.{paths_of, AreApart, AreReady, GrowsLate};
-ghost use Rattle.driver_desk.specs.Serving.{Given, AreClosings, GotContent, NoAnswer, Serves, newest, IsSane};
-ghost use Rattle.driver_desk.specs.Serving.{late_after, is_abort};
+ghost use Rattle.driver_desk.specs.Serving.{Given};
+ghost use Rattle.driver_desk.specs.Progress.{AreClosings, GotContent, NoAnswer, Serves, newest, IsAskable};
+ghost use Rattle.driver_desk.specs.Progress.{late_after, is_abort};
 ghost use Rattle.driver_desk.specs.Works.{WorkSeen, ReadsAs, FitsWork, asked_of};
 ghost use Rattle.checkout_core.specs.Conditions.{heard_opening};
 ghost use Rattle.checkout_core.specs.declared.path.Heard.{Heard};
 ghost use Rattle.checkout_core.specs.Fates.{Known, fate_here};
 ghost use Rattle.checkout_core.specs.Talks.{Talk};
+ghost use Rattle.driver_desk.specs.Added.{AddsRead, AddsWork};
 ghost use Rattle.driver_desk.specs.Cards.{IsPlanned, IsReadCard, IsAskedCard, ready_of};
-ghost use Rattle.driver_desk.specs.Recorders.{MayEnd, IsEnd};
+ghost use Rattle.driver_desk.specs.Endings.{MayEnd, IsEnd};
 ghost use Rattle.driver_desk.specs.Places.{IsAt, IsServing, IsUnopened, IsAnswered, AreLost};
 
 use crate::closing::{Work, close_empty, close_got, close_unread, refuse};
@@ -38,11 +40,27 @@ pub(crate) struct Seat {
     pub required: bool,
 }
 
+/// With what a desk serves its cards.
+#[derive(Drop)]
+pub(crate) struct Service<'a, G: Gate> {
+    pub alloc: Global,
+    pub seat: Seat,
+    pub gate: &'a G,
+}
+
+/// A card, with its place among those of its driver.
+#[derive(Drop)]
+pub(crate) struct Placed<B: Blob, L: Leaf> {
+    pub place: u32,
+    pub card: Card<B, L>,
+}
+
 /// Closes the cards that are late: their driver has lost them.
 pub(crate) fn close_late<B: Blob, L: Leaf, C: Recorder<B, L>>(
     late: &mut Late<B, L>,
     recorder: &mut C,
 )
+    requires sound { C.sound recorder.old }
     requires ready { AreReady (C.standing recorder.old) (cards_of late.old) }
     requires next { (rest : List ℕ) × (first : ℕ) × (t : Talk)
         × AreLost (C.standing recorder.old) (C.given recorder.old) (paths_of (cards_of late.old)) rest first t }
@@ -51,6 +69,8 @@ pub(crate) fn close_late<B: Blob, L: Leaf, C: Recorder<B, L>>(
         → IsAt (C.standing recorder.new) (C.given recorder.new) rest rest first t }
     ensures standing { C.standing recorder.new ≡ C.standing recorder.old }
     ensures fixed { C.fixed recorder.new ≡ C.fixed recorder.old }
+    ensures sound { C.sound recorder.new }
+    ensures read { AddsRead (C.given recorder.old) (C.given recorder.new) }
     ensures closed { AreClosings NoAnswer (C.given recorder.old) (C.given recorder.new) }
     ensures none { cards_of late.new ≡ [] }
     ensures names { KeepsNames late.old late.new }
@@ -70,6 +90,7 @@ fn open_new<S: Starter, B: Blob, L: Leaf, C: Recorder<B, L>>(
     recorder: &mut C,
     path: u32,
 ) -> Option<OpenCause>
+    requires sound { C.sound recorder.old }
     requires none { line.old.session ≡ None }
     requires few { starts_of line.old < 2 ^ 32 }
     requires driver { (C.standing recorder.old).driver ≡ driver }
@@ -84,6 +105,8 @@ fn open_new<S: Starter, B: Blob, L: Leaf, C: Recorder<B, L>>(
     ensures closed { (cause : OpenCause) → result ≡ Some cause → line.new.session ≡ None }
     ensures standing { C.standing recorder.new ≡ C.standing recorder.old }
     ensures fixed { C.fixed recorder.new ≡ C.fixed recorder.old }
+    ensures sound { C.sound recorder.new }
+    ensures read { AddsRead (C.given recorder.old) (C.given recorder.new) }
     ensures opened { result ≡ None → (paths : Paths) (line0 : LineView) (given0 : List Given) (asked : List ℕ)
         → Serves driver paths line0 given0 asked (path ∷ []) line.old (C.given recorder.old) false []
         → Serves driver paths line0 given0 asked (path ∷ []) line.new (C.given recorder.new) false [] }
@@ -91,7 +114,7 @@ fn open_new<S: Starter, B: Blob, L: Leaf, C: Recorder<B, L>>(
         → (paths : Paths) (line0 : LineView) (given0 : List Given) (asked : List ℕ)
         → Serves driver paths line0 given0 asked (path ∷ []) line.old (C.given recorder.old) false []
         → Serves driver paths line0 given0 (asked ++ path ∷ []) [] line.new (C.given recorder.new) false [] }
-    ensures sane { IsSane line.new.session [] }
+    ensures askable { IsAskable line.new.session [] }
     ensures there { result ≡ None → line.new.session ≡ None → ⊥ }
     ensures starts { starts_of line.new ≤ starts_of line.old + 1 }
 {
@@ -116,6 +139,7 @@ fn open_for<S: Starter, B: Blob, L: Leaf, C: Recorder<B, L>>(
     recorder: &mut C,
     path: u32,
 ) -> Option<OpenCause>
+    requires sound { C.sound recorder.old }
     requires few { starts_of line.old < 2 ^ 32 }
     requires driver { (C.standing recorder.old).driver ≡ driver }
     requires next { (late rest : List ℕ) × AreApart (path ∷ (late ++ rest))
@@ -130,16 +154,18 @@ fn open_for<S: Starter, B: Blob, L: Leaf, C: Recorder<B, L>>(
     ensures closed { (cause : OpenCause) → result ≡ Some cause → line.new.session ≡ None }
     ensures standing { C.standing recorder.new ≡ C.standing recorder.old }
     ensures fixed { C.fixed recorder.new ≡ C.fixed recorder.old }
+    ensures sound { C.sound recorder.new }
+    ensures read { AddsRead (C.given recorder.old) (C.given recorder.new) }
     ensures opened { result ≡ None → (paths : Paths) (line0 : LineView) (given0 : List Given) (asked names : List ℕ)
-        → IsSane line.old.session names
+        → IsAskable line.old.session names
         → Serves driver paths line0 given0 asked (path ∷ []) line.old (C.given recorder.old) false names
         → Serves driver paths line0 given0 asked (path ∷ []) line.new (C.given recorder.new) false names }
     ensures failed { (cause : OpenCause) → result ≡ Some cause
         → (paths : Paths) (line0 : LineView) (given0 : List Given) (asked names : List ℕ)
-        → IsSane line.old.session names
+        → IsAskable line.old.session names
         → Serves driver paths line0 given0 asked (path ∷ []) line.old (C.given recorder.old) false names
         → Serves driver paths line0 given0 (asked ++ path ∷ []) [] line.new (C.given recorder.new) false names }
-    ensures sane { (names : List ℕ) → IsSane line.old.session names → IsSane line.new.session names }
+    ensures askable { (names : List ℕ) → IsAskable line.old.session names → IsAskable line.new.session names }
     ensures there { result ≡ None → line.new.session ≡ None → ⊥ }
     ensures starts { starts_of line.new ≤ starts_of line.old + 1 }
 {
@@ -176,37 +202,40 @@ fn after_reply<B: Blob, L: Leaf, C: Recorder<B, L>>(
     recorder: &mut C,
     place: u32,
     work: Work<B, L>,
-    reply: Reply,
-    put: Result<(), SendFault>,
+    asked: Asked,
 )
+    requires sound { C.sound recorder.old }
     requires asked { IsAskedCard (C.standing recorder.old) (card_seen B.told B.seen L.seen work.card) work.unencoded
-        put }
-    requires untouched { reply ≡ Reply.Delayed
+        asked.put }
+    requires untouched { asked.reply ≡ Reply.Delayed
         → IsReadCard (C.standing recorder.old) (card_seen B.told B.seen L.seen work.card) work.unencoded }
     requires here { slice_get late.old.numbers place ≡ Some work.card.path }
     requires idle { AreIdle place late.old }
     requires ready { AreReady (C.standing recorder.old) (cards_of late.old) }
     requires required { (C.standing recorder.old).required ≡ seat.required }
-    requires may { (h : Heard) → fate_here reply ≡ Known h
+    requires may { (h : Heard) → fate_here asked.reply ≡ Known h
         → MayEnd (C.standing recorder.old) (C.given recorder.old) work.card.path h }
     requires next { (rest : List ℕ) × (first : ℕ) × (t : Talk) × IsAnswered (C.standing recorder.old)
-        (C.given recorder.old) reply work.card.path (paths_of (cards_of late.old)) rest first t }
+        (C.given recorder.old) asked.reply work.card.path (paths_of (cards_of late.old)) rest first t }
     ensures next { (rest : List ℕ) (first : ℕ) (t : Talk) → IsAnswered (C.standing recorder.old)
-        (C.given recorder.old) reply work.card.path (paths_of (cards_of late.old)) rest first t
+        (C.given recorder.old) asked.reply work.card.path (paths_of (cards_of late.old)) rest first t
         → IsAt (C.standing recorder.new) (C.given recorder.new) (paths_of (cards_of late.new) ++ rest) rest first t }
     ensures standing { C.standing recorder.new ≡ C.standing recorder.old }
     ensures fixed { C.fixed recorder.new ≡ C.fixed recorder.old }
+    ensures sound { C.sound recorder.new }
+    ensures read { AddsRead (C.given recorder.old) (C.given recorder.new) }
     ensures cards { GrowsLate (C.standing recorder.old) (cards_of late.old) work.card.path work.card.text
         (cards_of late.new) }
     ensures late { newest (paths_of (cards_of late.new))
-        ≡ late_after work.card.path reply (newest (paths_of (cards_of late.old))) }
-    ensures closed { AreClosings (GotContent reply put work.card.path (L.seen work.card.leaf).content)
+        ≡ late_after work.card.path asked.reply (newest (paths_of (cards_of late.old))) }
+    ensures closed { AreClosings (GotContent asked.reply asked.put work.card.path (L.seen work.card.leaf).content)
         (C.given recorder.old) (C.given recorder.new) }
     ensures names { KeepsNames late.old late.new }
     ensures idle { AreIdle (place + 1) late.new }
     ensures turns { StaysUnlisted late.old late.new }
 {
     desk_laws();
+    let Asked { reply, put } = asked;
     match reply {
         Reply::Content => close_got(work, put, recorder),
         Reply::Error | Reply::ErrorAfter => refuse(work, seat.required, put, recorder),
@@ -224,60 +253,63 @@ fn after_reply<B: Blob, L: Leaf, C: Recorder<B, L>>(
 
 /// Asks for a card in the open session, and tells whether the driver aborted.
 fn ask_card<S: Starter, B: Blob, L: Leaf, C: Recorder<B, L>, G: Gate>(
-    seat: Seat,
+    service: &Service<G>,
     line: &mut Line<S>,
     late: &mut Late<B, L>,
     recorder: &mut C,
-    gate: &G,
-    place: u32,
-    mut card: Card<B, L>,
+    placed: Placed<B, L>,
     prepared: Prepared,
 ) -> bool
+    requires sound { C.sound recorder.old }
     requires open { IsOpen line.old.session }
-    requires planned { IsPlanned (C.standing recorder.old) (card_seen B.told B.seen L.seen card) }
-    requires prepared { IsPrepared (card_seen B.told B.seen L.seen card) prepared }
-    requires here { slice_get late.old.numbers place ≡ Some card.path }
-    requires idle { AreIdle place late.old }
+    requires planned { IsPlanned (C.standing recorder.old) (card_seen B.told B.seen L.seen placed.card) }
+    requires prepared { IsPrepared (card_seen B.told B.seen L.seen placed.card) prepared }
+    requires here { slice_get late.old.numbers placed.place ≡ Some placed.card.path }
+    requires idle { AreIdle placed.place late.old }
     requires ready { AreReady (C.standing recorder.old) (cards_of late.old) }
-    requires driver { (C.standing recorder.old).driver ≡ seat.driver }
-    requires required { (C.standing recorder.old).required ≡ seat.required }
-    requires next { (rest : List ℕ) × AreApart (card.path ∷ (paths_of (cards_of late.old) ++ rest))
+    requires driver { (C.standing recorder.old).driver ≡ service.now.seat.driver }
+    requires required { (C.standing recorder.old).required ≡ service.now.seat.required }
+    requires next { (rest : List ℕ) × AreApart (placed.card.path ∷ (paths_of (cards_of late.old) ++ rest))
         × IsServing (C.standing recorder.old) (C.given recorder.old) line.old.session false
-        (paths_of (cards_of late.old)) (card.path ∷ []) rest }
-    ensures next { (rest : List ℕ) → AreApart (card.path ∷ (paths_of (cards_of late.old) ++ rest))
+        (paths_of (cards_of late.old)) (placed.card.path ∷ []) rest }
+    ensures next { (rest : List ℕ) → AreApart (placed.card.path ∷ (paths_of (cards_of late.old) ++ rest))
         → IsServing (C.standing recorder.old) (C.given recorder.old) line.old.session false
-        (paths_of (cards_of late.old)) (card.path ∷ []) rest
+        (paths_of (cards_of late.old)) (placed.card.path ∷ []) rest
         → IsServing (C.standing recorder.new) (C.given recorder.new) line.new.session result
         (paths_of (cards_of late.new)) [] rest }
     ensures standing { C.standing recorder.new ≡ C.standing recorder.old }
     ensures fixed { C.fixed recorder.new ≡ C.fixed recorder.old }
+    ensures sound { C.sound recorder.new }
+    ensures read { AddsRead (C.given recorder.old) (C.given recorder.new) }
     ensures serves { (paths : Paths) (line0 : LineView) (given0 : List Given) (asked : List ℕ)
-        → paths.text card.path ≡ card.text → paths.content card.path ≡ prepared.bytes
-        → Serves seat.driver paths line0 given0 asked (card.path ∷ []) line.old (C.given recorder.old) false (newest
-        (paths_of (cards_of late.old)))
-        → Serves seat.driver paths line0 given0 (asked ++ card.path ∷ []) [] line.new (C.given recorder.new) result
-        (newest (paths_of (cards_of late.new))) }
-    ensures cards { GrowsLate (C.standing recorder.old) (cards_of late.old) card.path card.text
+        → paths.text placed.card.path ≡ placed.card.text → paths.content placed.card.path ≡ prepared.bytes
+        → Serves service.now.seat.driver paths line0 given0 asked (placed.card.path ∷ []) line.old
+        (C.given recorder.old) false (newest (paths_of (cards_of late.old)))
+        → Serves service.now.seat.driver paths line0 given0 (asked ++ placed.card.path ∷ []) [] line.new
+        (C.given recorder.new) result (newest (paths_of (cards_of late.new))) }
+    ensures cards { GrowsLate (C.standing recorder.old) (cards_of late.old) placed.card.path placed.card.text
         (cards_of late.new) }
     ensures done { result ≡ true → line.new.session ≡ None }
-    ensures sane { IsSane line.new.session (newest (paths_of (cards_of late.new))) }
+    ensures askable { IsAskable line.new.session (newest (paths_of (cards_of late.new))) }
     ensures names { KeepsNames late.old late.new }
-    ensures idle { AreIdle (place + 1) late.new }
+    ensures idle { AreIdle (placed.place + 1) late.new }
     ensures turns { StaysUnlisted late.old late.new }
     ensures starts { starts_of line.new ≤ starts_of line.old }
 {
     desk_laws();
+    let Placed { place, mut card } = placed;
     let path = card.path;
     let lent = &mut card;
-    let Asked { reply, put } = line.ask(
+    let asked = line.ask(
         lent.text.as_slice(),
         prepared.bytes.as_slice(),
         &mut lent.leaf,
     );
+    let reply = asked.reply;
     recorder.note(Event::Answered { path, reply });
-    gate.at(seat.actor, path, Point::Replied);
-    let work = keep_ready(card, prepared, seat.required);
-    after_reply(seat, late, recorder, place, work, reply, put);
+    service.gate.at(service.seat.actor, path, Point::Replied);
+    let work = keep_ready(card, prepared, service.seat.required);
+    after_reply(service.seat, late, recorder, place, work, asked);
     is_abort(reply)
 }
 
@@ -297,6 +329,7 @@ fn not_opened<B: Blob, L: Leaf, C: Recorder<B, L>>(
     cause: OpenCause,
     recorder: &mut C,
 )
+    requires sound { C.sound recorder.old }
     requires asked { IsAskedCard (C.standing recorder.old) (card_seen B.told B.seen L.seen work.card) work.unencoded
         (Ok tt) }
     requires required { (C.standing recorder.old).required ≡ required }
@@ -305,6 +338,8 @@ fn not_opened<B: Blob, L: Leaf, C: Recorder<B, L>>(
     ensures closed { AreClosings NoAnswer (C.given recorder.old) (C.given recorder.new) }
     ensures standing { C.standing recorder.new ≡ C.standing recorder.old }
     ensures fixed { C.fixed recorder.new ≡ C.fixed recorder.old }
+    ensures sound { C.sound recorder.new }
+    ensures read { AddsRead (C.given recorder.old) (C.given recorder.new) }
 {
     match cause {
         OpenCause::NotStarted | OpenCause::Broken(_) => refuse(work, required, Ok(()), recorder),
@@ -314,121 +349,122 @@ fn not_opened<B: Blob, L: Leaf, C: Recorder<B, L>>(
 
 /// Serves one card whose content is prepared, and tells whether the driver aborted.
 fn serve_card<S: Starter, B: Blob, L: Leaf, C: Recorder<B, L>, G: Gate>(
-    seat: Seat,
+    service: &Service<G>,
     line: &mut Line<S>,
     late: &mut Late<B, L>,
     recorder: &mut C,
-    gate: &G,
-    place: u32,
-    card: Card<B, L>,
+    placed: Placed<B, L>,
     prepared: Prepared,
 ) -> bool
+    requires sound { C.sound recorder.old }
     requires starts { starts_of line.old < 2 ^ 32 }
-    requires sane { IsSane line.old.session (newest (paths_of (cards_of late.old))) }
-    requires planned { IsPlanned (C.standing recorder.old) (card_seen B.told B.seen L.seen card) }
-    requires prepared { IsPrepared (card_seen B.told B.seen L.seen card) prepared }
-    requires here { slice_get late.old.numbers place ≡ Some card.path }
-    requires idle { AreIdle place late.old }
+    requires askable { IsAskable line.old.session (newest (paths_of (cards_of late.old))) }
+    requires planned { IsPlanned (C.standing recorder.old) (card_seen B.told B.seen L.seen placed.card) }
+    requires prepared { IsPrepared (card_seen B.told B.seen L.seen placed.card) prepared }
+    requires here { slice_get late.old.numbers placed.place ≡ Some placed.card.path }
+    requires idle { AreIdle placed.place late.old }
     requires ready { AreReady (C.standing recorder.old) (cards_of late.old) }
-    requires driver { (C.standing recorder.old).driver ≡ seat.driver }
-    requires required { (C.standing recorder.old).required ≡ seat.required }
-    requires next { (rest : List ℕ) × AreApart (card.path ∷ (paths_of (cards_of late.old) ++ rest))
+    requires driver { (C.standing recorder.old).driver ≡ service.now.seat.driver }
+    requires required { (C.standing recorder.old).required ≡ service.now.seat.required }
+    requires next { (rest : List ℕ) × AreApart (placed.card.path ∷ (paths_of (cards_of late.old) ++ rest))
         × IsServing (C.standing recorder.old) (C.given recorder.old) line.old.session false
-        (paths_of (cards_of late.old)) (card.path ∷ []) rest }
-    ensures next { (rest : List ℕ) → AreApart (card.path ∷ (paths_of (cards_of late.old) ++ rest))
+        (paths_of (cards_of late.old)) (placed.card.path ∷ []) rest }
+    ensures next { (rest : List ℕ) → AreApart (placed.card.path ∷ (paths_of (cards_of late.old) ++ rest))
         → IsServing (C.standing recorder.old) (C.given recorder.old) line.old.session false
-        (paths_of (cards_of late.old)) (card.path ∷ []) rest
+        (paths_of (cards_of late.old)) (placed.card.path ∷ []) rest
         → IsServing (C.standing recorder.new) (C.given recorder.new) line.new.session result
         (paths_of (cards_of late.new)) [] rest }
     ensures standing { C.standing recorder.new ≡ C.standing recorder.old }
     ensures fixed { C.fixed recorder.new ≡ C.fixed recorder.old }
+    ensures sound { C.sound recorder.new }
+    ensures read { AddsRead (C.given recorder.old) (C.given recorder.new) }
     ensures serves { (paths : Paths) (line0 : LineView) (given0 : List Given) (asked : List ℕ)
-        → paths.text card.path ≡ card.text → paths.content card.path ≡ prepared.bytes
-        → Serves seat.driver paths line0 given0 asked [] line.old (C.given recorder.old) false (newest (paths_of
-        (cards_of late.old)))
-        → Serves seat.driver paths line0 given0 (asked ++ card.path ∷ []) [] line.new (C.given recorder.new) result
-        (newest (paths_of (cards_of late.new))) }
-    ensures cards { GrowsLate (C.standing recorder.old) (cards_of late.old) card.path card.text
+        → paths.text placed.card.path ≡ placed.card.text → paths.content placed.card.path ≡ prepared.bytes
+        → Serves service.now.seat.driver paths line0 given0 asked [] line.old (C.given recorder.old) false
+        (newest (paths_of (cards_of late.old)))
+        → Serves service.now.seat.driver paths line0 given0 (asked ++ placed.card.path ∷ []) [] line.new
+        (C.given recorder.new) result (newest (paths_of (cards_of late.new))) }
+    ensures cards { GrowsLate (C.standing recorder.old) (cards_of late.old) placed.card.path placed.card.text
         (cards_of late.new) }
     ensures done { result ≡ true → line.new.session ≡ None }
-    ensures sane { IsSane line.new.session (newest (paths_of (cards_of late.new))) }
+    ensures askable { IsAskable line.new.session (newest (paths_of (cards_of late.new))) }
     ensures names { KeepsNames late.old late.new }
-    ensures idle { AreIdle (place + 1) late.new }
+    ensures idle { AreIdle (placed.place + 1) late.new }
     ensures turns { StaysUnlisted late.old late.new }
     ensures starts { starts_of line.new ≤ starts_of line.old + 1 }
 {
     desk_laws();
-    if let Some(cause) = open_for(seat.driver, line, recorder, card.path) {
-        let work = keep_ready(card, prepared, seat.required);
-        not_opened(work, seat.required, cause, recorder);
+    if let Some(cause) = open_for(service.seat.driver, line, recorder, placed.card.path) {
+        let work = keep_ready(placed.card, prepared, service.seat.required);
+        not_opened(work, service.seat.required, cause, recorder);
         return false;
     }
     if !line.has_smudge() {
-        let work = keep_ready(card, prepared, seat.required);
-        refuse(work, seat.required, Ok(()), recorder);
+        let work = keep_ready(placed.card, prepared, service.seat.required);
+        refuse(work, service.seat.required, Ok(()), recorder);
         return false;
     }
-    ask_card(seat, line, late, recorder, gate, place, card, prepared)
+    ask_card(service, line, late, recorder, placed, prepared)
 }
 
 /// Serves one card, and tells whether the driver aborted so far.
 pub(crate) fn serve_one<S: Starter, B: Blob, L: Leaf, C: Recorder<B, L>, G: Gate>(
-    alloc: Global,
-    seat: Seat,
+    service: &Service<G>,
     line: &mut Line<S>,
     late: &mut Late<B, L>,
     recorder: &mut C,
-    gate: &G,
     aborted: bool,
-    place: u32,
-    mut card: Card<B, L>,
+    mut placed: Placed<B, L>,
 ) -> bool
+    requires sound { C.sound recorder.old }
     requires starts { starts_of line.old < 2 ^ 32 }
-    requires sane { IsSane line.old.session (newest (paths_of (cards_of late.old))) }
+    requires askable { IsAskable line.old.session (newest (paths_of (cards_of late.old))) }
     requires done { aborted ≡ true → line.old.session ≡ None }
-    requires planned { IsPlanned (C.standing recorder.old) (card_seen B.told B.seen L.seen card) }
-    requires here { slice_get late.old.numbers place ≡ Some card.path }
-    requires idle { AreIdle place late.old }
+    requires planned { IsPlanned (C.standing recorder.old) (card_seen B.told B.seen L.seen placed.card) }
+    requires here { slice_get late.old.numbers placed.place ≡ Some placed.card.path }
+    requires idle { AreIdle placed.place late.old }
     requires ready { AreReady (C.standing recorder.old) (cards_of late.old) }
-    requires driver { (C.standing recorder.old).driver ≡ seat.driver }
-    requires required { (C.standing recorder.old).required ≡ seat.required }
-    requires next { (rest : List ℕ) × AreApart (card.path ∷ (paths_of (cards_of late.old) ++ rest))
+    requires driver { (C.standing recorder.old).driver ≡ service.now.seat.driver }
+    requires required { (C.standing recorder.old).required ≡ service.now.seat.required }
+    requires next { (rest : List ℕ) × AreApart (placed.card.path ∷ (paths_of (cards_of late.old) ++ rest))
         × IsServing (C.standing recorder.old) (C.given recorder.old) line.old.session aborted
-        (paths_of (cards_of late.old)) [] (card.path ∷ rest) }
-    ensures next { (rest : List ℕ) → AreApart (card.path ∷ (paths_of (cards_of late.old) ++ rest))
+        (paths_of (cards_of late.old)) [] (placed.card.path ∷ rest) }
+    ensures next { (rest : List ℕ) → AreApart (placed.card.path ∷ (paths_of (cards_of late.old) ++ rest))
         → IsServing (C.standing recorder.old) (C.given recorder.old) line.old.session aborted
-        (paths_of (cards_of late.old)) [] (card.path ∷ rest)
+        (paths_of (cards_of late.old)) [] (placed.card.path ∷ rest)
         → IsServing (C.standing recorder.new) (C.given recorder.new) line.new.session result
         (paths_of (cards_of late.new)) [] rest }
     ensures standing { C.standing recorder.new ≡ C.standing recorder.old }
     ensures fixed { C.fixed recorder.new ≡ C.fixed recorder.old }
-    ensures serves { (w : WorkSeen) × (w.card ≡ card_seen B.told B.seen L.seen card) × ReadsAs w.card w.content
+    ensures sound { C.sound recorder.new }
+    ensures serves { (w : WorkSeen) × (w.card ≡ card_seen B.told B.seen L.seen placed.card) × ReadsAs w.card w.content
         × ((paths : Paths) (line0 : LineView) (given0 : List Given) (asked : List ℕ) → FitsWork paths w
-        → Serves seat.driver paths line0 given0 asked [] line.old (C.given recorder.old) aborted (newest (paths_of
-        (cards_of late.old)))
-        → Serves seat.driver paths line0 given0 (asked ++ asked_of w.card.path w.content) [] line.new
-        (C.given recorder.new) result (newest (paths_of (cards_of late.new)))) }
-    ensures cards { GrowsLate (C.standing recorder.old) (cards_of late.old) card.path card.text
+        → Serves service.now.seat.driver paths line0 given0 asked [] line.old (C.given recorder.old) aborted
+        (newest (paths_of (cards_of late.old)))
+        → Serves service.now.seat.driver paths line0 given0 (asked ++ asked_of w.card.path w.content) [] line.new
+        (C.given recorder.new) result (newest (paths_of (cards_of late.new))))
+        × AddsWork w.card.path w.content (C.given recorder.old) (C.given recorder.new) }
+    ensures cards { GrowsLate (C.standing recorder.old) (cards_of late.old) placed.card.path placed.card.text
         (cards_of late.new) }
     ensures done { result ≡ true → line.new.session ≡ None }
-    ensures sane { IsSane line.new.session (newest (paths_of (cards_of late.new))) }
+    ensures askable { IsAskable line.new.session (newest (paths_of (cards_of late.new))) }
     ensures names { KeepsNames late.old late.new }
-    ensures idle { AreIdle (place + 1) late.new }
+    ensures idle { AreIdle (placed.place + 1) late.new }
     ensures turns { StaysUnlisted late.old late.new }
     ensures starts { starts_of line.new ≤ starts_of line.old + 1 }
 {
     desk_laws();
-    match read_card(alloc, &mut card) {
+    match read_card(service.alloc, &mut placed.card) {
         Ok(prepared) => {
             if aborted {
-                let work = keep_ready(card, prepared, seat.required);
-                refuse(work, seat.required, Ok(()), recorder);
+                let work = keep_ready(placed.card, prepared, service.seat.required);
+                refuse(work, service.seat.required, Ok(()), recorder);
                 return true;
             }
-            serve_card(seat, line, late, recorder, gate, place, card, prepared)
+            serve_card(service, line, late, recorder, placed, prepared)
         }
         Err(own) => {
-            close_unread(card, recorder, own);
+            close_unread(placed.card, recorder, own);
             aborted
         }
     }

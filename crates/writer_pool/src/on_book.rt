@@ -76,6 +76,8 @@ impl<'a, B: Blob, L: Leaf, H: Wait> Recorder<B, L> for OnBook<'a, B, L, H> {
 
     ghost given = { λ s. given_of (sight B.told B.seen L.seen) s };
 
+    ghost sound = { λ _. Unit {0} };
+
     ghost Fixed = { Place B L };
 
     ghost fixed = { λ s. place_of s };
@@ -97,6 +99,7 @@ impl<'a, B: Blob, L: Leaf, H: Wait> Recorder<B, L> for OnBook<'a, B, L, H> {
         ensures standing { standing_of (sight B.told B.seen L.seen) self.new
             ≡ standing_of (sight B.told B.seen L.seen) self.old }
         ensures fixed { place_of self.new ≡ place_of self.old }
+        ensures sound { Unit {0} }
     {
         laws::what_may_follow_is_a_step();
         a_pass_lists_its_own_entries::<B, L>();
@@ -116,6 +119,7 @@ impl<'a, B: Blob, L: Leaf, H: Wait> Recorder<B, L> for OnBook<'a, B, L, H> {
         ensures standing { standing_of (sight B.told B.seen L.seen) self.new
             ≡ standing_of (sight B.told B.seen L.seen) self.old }
         ensures fixed { place_of self.new ≡ place_of self.old }
+        ensures sound { Unit {0} }
     {
         laws::what_may_follow_is_a_step();
         a_pass_lists_its_own_entries::<B, L>();

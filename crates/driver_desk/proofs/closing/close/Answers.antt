@@ -13,3 +13,6 @@ returns-clause-ends g c = record { last = Closed c.args.own _; more = c.close.en
 
 pub returns-clause-closed : goal.returns-clause-closed
 returns-clause-closed g c = (Closed c.args.own _ ∷ [], c.close.ensures.given, refl, ((λ m e. (refl, refl, m, e)), tt))
+
+pub returns-clause-one : goal.returns-clause-one
+returns-clause-one g c = (_, refl, c.close.ensures.given)

@@ -1,5 +1,6 @@
 use Rattle.driver_desk.proofs.Serves.{closed_as}
 use Rattle.driver_desk.proofs.Closings.{gone_sealed, closes_read, may_drop, shows_none}
+use Rattle.driver_desk.proofs.Ties.{adds_closed}
 use Rattle.driver_desk.proofs.closing.close_empty.Goals as goal
 
 pub drop_leaf-own-requires : goal.drop_leaf-own-requires
@@ -8,6 +9,7 @@ drop_leaf-own-requires g c = record { usable = λ k. (c.requires.asked.kept.usab
 pub close-requires : goal.close-requires
 close-requires g c =
     let m = c.requires.may in record {
+      sound = c.requires.sound;
       shows = closes_read _ _ _ _ _ m.heard _ _ c.requires.asked m.may c.drop_leaf-own.ensures.path
           (λ before k. shows_none _ m.heard _ _ _ _ m.without (c.drop_leaf-own.ensures.shows before k))
           (may_drop _ m.heard _ c.args.put m.refused c.drop_leaf-own.ensures.put);
@@ -16,3 +18,6 @@ close-requires g c =
 
 pub returns-clause-closed : goal.returns-clause-closed
 returns-clause-closed g c = closed_as _ _ _ _ (λ q told k. gone_sealed _ k.2 c.drop_leaf-own.ensures.gone k.3) c.close.ensures.closed
+
+pub returns-clause-read : goal.returns-clause-read
+returns-clause-read g c = adds_closed _ _ _ _ c.drop_leaf-own.ensures.read c.close.ensures.one

@@ -2,6 +2,7 @@ use Rattle.checkout_core.specs.declared.path.Heard.TheVariants.{Got}
 use Rattle.std.proofs.Common.{◌∙◌}
 use Rattle.driver_desk.proofs.Serves.{closed_as}
 use Rattle.driver_desk.proofs.Closings.{closes_read, may_got}
+use Rattle.driver_desk.proofs.Ties.{adds_closed}
 use Rattle.driver_desk.proofs.closing.close_got.Goals as goal
 
 pub seal_leaf-own-requires : goal.seal_leaf-own-requires
@@ -9,9 +10,13 @@ seal_leaf-own-requires g c = record { usable = λ k. (c.requires.asked.kept.usab
 
 pub close-requires : goal.close-requires
 close-requires g c = record {
+  sound = c.requires.sound;
   shows = closes_read _ _ _ _ _ Got _ _ c.requires.asked c.requires.may c.seal_leaf-own.ensures.path c.seal_leaf-own.ensures.shows (may_got _ _);
   next = c.requires.may.close c.seal_leaf-own.result c.seal_leaf-own.ensures.read;
 }
 
 pub returns-clause-closed : goal.returns-clause-closed
 returns-clause-closed g c = closed_as _ _ _ _ (λ q told k. let w = c.seal_leaf-own.ensures.sealed k.2 k.3 in (w.0, k.0, k.1 ∙ w.1)) c.close.ensures.closed
+
+pub returns-clause-read : goal.returns-clause-read
+returns-clause-read g c = adds_closed _ _ _ _ c.seal_leaf-own.ensures.read c.close.ensures.one

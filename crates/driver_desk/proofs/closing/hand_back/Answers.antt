@@ -5,6 +5,7 @@ use Rattle.checkout_core.specs.declared.path.Heard.TheVariants.{Refused}
 use Rattle.driver_desk.specs.Serving.{HandedBack}
 use Rattle.driver_desk.proofs.Serves.{closed_as}
 use Rattle.driver_desk.proofs.Closings.{gone_sealed, closes_read, may_failed, refused_one, rose_kept}
+use Rattle.driver_desk.proofs.Ties.{adds_closed}
 use Rattle.driver_desk.proofs.closing.hand_back.Goals as goal
 
 pub restart-requires : goal.restart-requires
@@ -12,6 +13,7 @@ restart-requires g c = (c.requires.asked.kept.usable (λ e. absurd (cc (e)))).0
 
 pub hand_back-requires : goal.hand_back-requires
 hand_back-requires g c = record {
+  sound = c.requires.sound;
   card = refused_one _ _ _ _ c.requires.asked c.requires.free c.in-Ok.ensures;
   free = c.requires.free;
   own = c.requires.may.1.own;
@@ -21,6 +23,7 @@ hand_back-requires g c = record {
 pub close-requires : goal.close-requires
 close-requires g c =
     let m = c.requires.may in record {
+      sound = c.requires.sound;
       shows = closes_read _ _ _ _ _ (Refused m.0) _ _ c.requires.asked m.1 (c.write_failed-own.ensures.path ∙ ap (λ (l : LeafSeen). l.path) c.in-Err.ensures.kept)
           (λ before k. c.write_failed-own.ensures.shows before _ _ (rose_kept before (g.L.Leaf.seen c.args.work.card.leaf) (g.L.Leaf.seen c.restart.new.self) k c.in-Err.ensures.rose))
           (may_failed _ (Refused m.0) _ c.write_failed-own.ensures.own);
@@ -42,3 +45,9 @@ returns-in-Ok-clause-closed g c = (HandedBack _ ∷ [], c.hand_back.ensures.give
 
 pub returns-in-Err-clause-closed : goal.returns-in-Err-clause-closed
 returns-in-Err-clause-closed g c = closed_as _ _ _ _ (λ q told k. gone_sealed _ k.2 c.write_failed-own.ensures.gone k.3) c.close.ensures.closed
+
+pub returns-in-Ok-clause-read : goal.returns-in-Ok-clause-read
+returns-in-Ok-clause-read g c = (HandedBack _ ∷ [], c.hand_back.ensures.given, (tt, tt))
+
+pub returns-in-Err-clause-read : goal.returns-in-Err-clause-read
+returns-in-Err-clause-read g c = adds_closed _ _ _ _ (ap was_read c.write_failed-own.ensures.own) c.close.ensures.one

@@ -4,19 +4,20 @@ use Rattle.convert_plan.specs.Card.{CardSeen, card_seen}
 use Rattle.convert_plan.specs.declared.card.Card.{Card}
 use Rattle.driver_desk.specs.Rounds.{LateSeen, paths_of, AreReady, AreApart, FitTexts}
 use Rattle.driver_desk.specs.Works.{card_paths}
-use Rattle.driver_desk.specs.Serving.{newest}
+use Rattle.driver_desk.specs.Progress.{newest}
 use Rattle.driver_desk.proofs.Serves.{fit_done, asked_more, serves_asked}
 use Rattle.driver_desk.specs.Recorders.{Standing}
 use Rattle.driver_desk.proofs.RoundSteps.{grows_ready, grows_apart, grows_fits, ready_as}
 use Rattle.driver_desk.proofs.Closings.{grows_as}
 use Rattle.driver_desk.proofs.CardLists.{all_next, here_is, read_push, len_push, place_below, new_next, next_planned, text_of, sane_none, serves_late}
 use Rattle.driver_desk.proofs.RoundCalls.{serving_none, serving_card, apart_next}
+use Rattle.driver_desk.proofs.Ties.{works_push}
 use Rattle.driver_desk.proofs.desk.serve_all.Goals as goal
 
 pub loop-card-init : goal.loop-card-init
 loop-card-init g c = record {
   starts = omega arith;
-  sane = sane_none _ _ c.requires.none (ap (λ (x : List LateSeen). newest (paths_of x)) c.requires.empty);
+  askable = sane_none _ _ c.requires.none (ap (λ (x : List LateSeen). newest (paths_of x)) c.requires.empty);
   done = λ e. absurd (cc e);
   new = c.requires.new;
   ready = subst (AreReady _) (sym c.requires.empty) tt;
@@ -26,6 +27,7 @@ loop-card-init g c = record {
   idle = c.requires.idle;
   state = serving_none _ _ _ _ _ c.requires.none (ap paths_of c.requires.empty) c.requires.state;
   standing = refl;
+  sound = c.requires.sound;
   fixed = refl;
   serves = (
     [],
@@ -33,7 +35,8 @@ loop-card-init g c = record {
     refl,
     tt,
     (λ paths line0 given0 asked fit s. serves_late _ _ _ _ _ _ _ _ [] _ (sym (ap (λ (x : List LateSeen). newest (paths_of x)) c.requires.empty)) (serves_asked _ _ _ _ asked (asked ++ []) [] _ _ _ _ (sym (append-nil asked)) s)),
-    λ paths fit. subst (λ (x : List LateSeen). FitTexts paths x) (sym c.requires.empty) tt,
+    (λ paths fit. subst (λ (x : List LateSeen). FitTexts paths x) (sym c.requires.empty) tt),
+    refl,
   );
 }
 
@@ -79,7 +82,7 @@ loop-card-preserved g c =
     let more = e.starts in
     record {
       starts = omega (arith, from, more, fewer);
-      sane = e.sane;
+      askable = e.askable;
       done = e.done;
       new = new.1;
       ready = grows_ready _ _ _ _ _ (grows_as _ _ _ _ _ _ _ _ (sym h.standing) refl refl e.cards) h.ready;
@@ -90,6 +93,7 @@ loop-card-preserved g c =
       state = e.next (card_paths (map (λ (k : Card g.row.B.Denot g.row.L.Denot). card_seen g.B.Blob.told g.B.Blob.seen g.L.Leaf.seen k) c.pop_front.new.self.items)) (apart_next _ _ _ card next h.apart) (serving_card _ _ _ _ _ _ _ card next h.state);
       standing = e.standing ∙ h.standing;
       fixed = e.fixed ∙ h.fixed;
+      sound = e.sound;
       serves = (
         h.serves.0 ++ w ∷ [],
         all_next _ h.serves.0 _ _ w card h.serves.1 next e.serves.1,
@@ -97,6 +101,7 @@ loop-card-preserved g c =
         read_push h.serves.0 w h.serves.3 e.serves.2,
         (λ paths line0 given0 asked fit s. let k = fit_done paths h.serves.0 w fit in
             serves_asked _ _ _ _ _ _ [] _ _ _ _ (asked_more asked h.serves.0 w) (e.serves.3 paths line0 given0 _ k.1 (h.serves.4 paths line0 given0 asked k.0 s))),
-        λ paths fit. let k = fit_done paths h.serves.0 w fit in grows_fits _ paths _ _ _ _ e.cards (text_of paths w card e.serves.1 k.1) (h.serves.5 paths k.0),
+        (λ paths fit. let k = fit_done paths h.serves.0 w fit in grows_fits _ paths _ _ _ _ e.cards (text_of paths w card e.serves.1 k.1) (h.serves.5 paths k.0)),
+        works_push h.serves.0 w _ _ _ h.serves.6 e.serves.4,
       );
     }

@@ -3,6 +3,7 @@ use Rattle.driver_desk.proofs.RoundSteps.{ready_as, over_aborted, serves_start, 
 use Rattle.driver_desk.proofs.CardLists.{names_fit}
 use Rattle.driver_desk.proofs.Calls.{aborted_as}
 use Rattle.driver_desk.proofs.RoundCalls.{done_aborted}
+use Rattle.driver_desk.proofs.Ties.{adds_none}
 use Rattle.driver_desk.proofs.desk.serve_line.Goals as goal
 
 pub returns-then-serve_all-clause-state : goal.returns-then-serve_all-clause-state
@@ -20,8 +21,9 @@ returns-then-serve_all-clause-talk g c =
       e.0,
       e.1,
       e.2,
-      λ paths fit. over_aborted c.args.seat.driver paths _ _ _ _ _ _ _ c.if-serve_all.true
-          (e.3 paths c.args.line.now (g.C.Recorder.given c.args.recorder.now) [] fit (serves_start c.args.seat.driver paths c.args.line.now c.args.line.now (g.C.Recorder.given c.args.recorder.now) [] refl c.requires.none refl)),
+      (λ paths fit. over_aborted c.args.service.now.seat.driver paths _ _ _ _ _ _ _ c.if-serve_all.true
+          (e.3 paths c.args.line.now (g.C.Recorder.given c.args.noting.now.recorder.now) [] fit (serves_start c.args.service.now.seat.driver paths c.args.line.now c.args.line.now (g.C.Recorder.given c.args.noting.now.recorder.now) [] refl c.requires.none refl))),
+      (g.C.Recorder.given c.serve_all.new.recorder.recorder.now, e.5, adds_none _ _ refl),
     )
 
 pub returns-clause-talk : goal.returns-clause-talk
@@ -30,7 +32,8 @@ returns-clause-talk g c =
       e.0,
       e.1,
       e.2,
-      λ paths fit. c.end_talk.ensures.over paths c.args.line.now (g.C.Recorder.given c.args.recorder.now) _ (e.4 paths fit) (names_fit paths e.0 _ c.args.late.now c.serve_all.new.late e.1 c.requires.late c.serve_all.ensures.names fit)
-          (serves_as c.args.seat.driver paths _ _ _ _ _ _ false _ c.if-serve_all.false
-          (e.3 paths c.args.line.now (g.C.Recorder.given c.args.recorder.now) [] fit (serves_start c.args.seat.driver paths c.args.line.now c.args.line.now (g.C.Recorder.given c.args.recorder.now) [] refl c.requires.none refl))),
+      (λ paths fit. c.end_talk.ensures.over paths c.args.line.now (g.C.Recorder.given c.args.noting.now.recorder.now) _ (e.4 paths fit) (names_fit paths e.0 _ c.args.late.now c.serve_all.new.late e.1 c.requires.late c.serve_all.ensures.names fit)
+          (serves_as c.args.service.now.seat.driver paths _ _ _ _ _ _ false _ c.if-serve_all.false
+          (e.3 paths c.args.line.now (g.C.Recorder.given c.args.noting.now.recorder.now) [] fit (serves_start c.args.service.now.seat.driver paths c.args.line.now c.args.line.now (g.C.Recorder.given c.args.noting.now.recorder.now) [] refl c.requires.none refl)))),
+      (g.C.Recorder.given c.serve_all.new.recorder.recorder.now, e.5, c.end_talk.ensures.read),
     )

@@ -10,6 +10,7 @@ close_got-requires-clause-may g c = c.requires.may heard.Got (ap fate_here c.in-
 
 pub refuse-requires : goal.refuse-requires
 refuse-requires g c = record {
+  sound = c.requires.sound;
   asked = c.requires.asked;
   required = c.requires.required;
   may = may_refused _ _ c.args.work.card.path c.args.reply c.in-Error.is c.requires.may;

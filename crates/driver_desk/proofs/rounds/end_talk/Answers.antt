@@ -1,10 +1,11 @@
 use Rattle.std.proofs.Common.{refl, ap, inl, inr, List}
 use Rattle.driver_desk.specs.Late.{cards_of}
 use Rattle.driver_desk.specs.Rounds.{LateSeen, paths_of}
-use Rattle.driver_desk.specs.Serving.{newest}
+use Rattle.driver_desk.specs.Progress.{newest}
 use Rattle.driver_desk.proofs.Serves.{is_none, open_ready}
 use Rattle.driver_desk.proofs.RoundSteps.{over_none, over_shut, rounds_begin, some_there, some_cards}
 use Rattle.driver_desk.proofs.RoundCalls.{done_none, rounds_start, shuts, unsmudged_none}
+use Rattle.driver_desk.proofs.Ties.{adds_none, adds_note}
 use Rattle.driver_desk.proofs.rounds.end_talk.Goals as goal
 
 pub returns-then-not-is_open-clause-state : goal.returns-then-not-is_open-clause-state
@@ -36,7 +37,7 @@ returns-then-is_empty-clause-state g c =
 
 pub rounds-requires-clause-state : goal.rounds-requires-clause-state
 rounds-requires-clause-state g c κs within =
-    rounds_start _ _ c.args.line.now.session _ (open_ready _ _ (some_there _ (rw c.if-not-is_open.false at c.is_open.ensures)) c.requires.sane (c.has_smudge.ensures.yes c.if-not-has_smudge.false)) (some_cards (cards_of c.args.late.now) (c.is_empty.ensures.no c.if-is_empty.false)) c.requires.state
+    rounds_start _ _ c.args.line.now.session _ (open_ready _ _ (some_there _ (rw c.if-not-is_open.false at c.is_open.ensures)) c.requires.askable (c.has_smudge.ensures.yes c.if-not-has_smudge.false)) (some_cards (cards_of c.args.late.now) (c.is_empty.ensures.no c.if-is_empty.false)) c.requires.state
 
 pub returns-then-not-is_open-clause-over : goal.returns-then-not-is_open-clause-over
 returns-then-not-is_open-clause-over g c paths line0 given0 asked fit names s = over_none c.args.seat.driver paths line0 given0 asked c.args.line.now _ _ (is_none _ (rw c.if-not-is_open.true at c.is_open.ensures)) s
@@ -53,5 +54,14 @@ returns-then-is_empty-clause-over g c paths line0 given0 asked fit names s =
 pub returns-clause-over : goal.returns-clause-over
 returns-clause-over g c paths line0 given0 asked fit names s =
     c.rounds.ensures.over paths line0 given0 asked fit names
-    (rounds_begin c.args.seat.driver paths line0 given0 asked c.args.line.now.session c.args.line.now _ (paths_of (cards_of c.args.late.now)) _ refl (open_ready _ _ (some_there _ (rw c.if-not-is_open.false at c.is_open.ensures)) c.requires.sane (c.has_smudge.ensures.yes c.if-not-has_smudge.false)) (some_cards (cards_of c.args.late.now) (c.is_empty.ensures.no c.if-is_empty.false))
+    (rounds_begin c.args.seat.driver paths line0 given0 asked c.args.line.now.session c.args.line.now _ (paths_of (cards_of c.args.late.now)) _ refl (open_ready _ _ (some_there _ (rw c.if-not-is_open.false at c.is_open.ensures)) c.requires.askable (c.has_smudge.ensures.yes c.if-not-has_smudge.false)) (some_cards (cards_of c.args.late.now) (c.is_empty.ensures.no c.if-is_empty.false))
     refl s)
+
+pub returns-then-not-is_open-clause-read : goal.returns-then-not-is_open-clause-read
+returns-then-not-is_open-clause-read g c = adds_none _ _ refl
+
+pub returns-then-not-has_smudge-clause-read : goal.returns-then-not-has_smudge-clause-read
+returns-then-not-has_smudge-clause-read g c = adds_note _ _ _ c.note.ensures.given
+
+pub returns-then-is_empty-clause-read : goal.returns-then-is_empty-clause-read
+returns-then-is_empty-clause-read g c = adds_note _ _ _ c.note-then-is_empty.ensures.given

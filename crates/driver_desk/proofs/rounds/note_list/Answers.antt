@@ -4,6 +4,7 @@ use Rattle.driver_line.specs.Lines.{names_in}
 use Rattle.driver_desk.specs.Serving.{Noted}
 use Rattle.driver_desk.proofs.RoundSteps.{list_noted_in}
 use Rattle.driver_desk.proofs.RoundCalls.{naming_at, list_named, list_last, not_names, last_noted}
+use Rattle.driver_desk.proofs.Ties.{adds_both, adds_note}
 use Rattle.driver_desk.proofs.rounds.note_list.Goals as goal
 
 pub note-requires-clause-next : goal.note-requires-clause-next
@@ -28,6 +29,7 @@ pub note-requires-in-Empty : goal.note-requires-in-Empty
 note-requires-in-Empty g c =
     let r = c.requires.next in
     record {
+      sound = c.requires.sound;
       noted = refl;
       own = ap (λ (d : ℕ). Some d) (sym c.requires.driver);
       next = (list_last c.desk_laws.ensures _ _ c.args.driver _ _ r.0 r.1 _ c.args.reply r.2 r.3 (not_names c.args.reply c.in-Empty.is) refl c.requires.driver refl r.4).0;
@@ -41,6 +43,8 @@ returns-in-Empty g c =
           (list_last c.desk_laws.ensures _ _ c.args.driver _ _ cards waiting _ c.args.reply first delay other c.note-in-Empty.ensures.standing c.requires.driver c.note-in-Empty.ensures.given h).1;
       standing = c.note-in-Empty.ensures.standing;
       fixed = c.note-in-Empty.ensures.fixed;
+      sound = c.note-in-Empty.ensures.sound;
+      read = adds_note _ _ _ c.note-in-Empty.ensures.given;
       noted = (
         Noted (event.Listed c.args.driver c.args.reply) ∷ [],
         c.note-in-Empty.ensures.given,
@@ -48,3 +52,6 @@ returns-in-Empty g c =
         (tt, tt),
       );
     }
+
+pub returns-in-Names-clause-read : goal.returns-in-Names-clause-read
+returns-in-Names-clause-read g c = adds_both _ _ _ c.note_names.ensures.read (adds_note _ _ _ c.note.ensures.given)

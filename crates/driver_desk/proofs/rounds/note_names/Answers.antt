@@ -5,6 +5,7 @@ use Rattle.driver_desk.proofs.LateCards.{contains_at}
 use Rattle.driver_desk.proofs.RoundSteps.{named_place}
 use Rattle.driver_desk.proofs.Places.{own_driver}
 use Rattle.driver_desk.proofs.RoundCalls.{name_own, name_next, name_after, named_all, naming_as, naming_turns}
+use Rattle.driver_desk.proofs.Ties.{adds_both, adds_note}
 use Rattle.driver_desk.proofs.rounds.note_names.Goals as goal
 
 pub number-requires : goal.number-requires
@@ -25,7 +26,9 @@ note-requires-clause-next g c =
 pub loop-place-preserved : goal.loop-place-preserved
 loop-place-preserved g c = record {
   noted = named_place _ _ _ c.args.late.now.numbers c.listed-places.result.now c.loop-place.place-index c.number.result c.loop-place-test.true c.number.ensures c.loop-place.invariant.noted c.note.ensures.given;
+  read = adds_both _ _ _ c.loop-place.invariant.read (adds_note _ _ _ c.note.ensures.given);
   standing = c.note.ensures.standing ∙ c.loop-place.invariant.standing;
+  sound = c.note.ensures.sound;
   fixed = c.note.ensures.fixed ∙ c.loop-place.invariant.fixed;
   next = λ cards waiting first delay h.
       let n = naming_as _ _ _ cards waiting _ first delay c.loop-place.invariant.standing (naming_turns _ _ cards waiting c.args.late.now.numbers _ _ first delay c.listed-places.ensures.turns h) in

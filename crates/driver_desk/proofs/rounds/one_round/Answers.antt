@@ -7,6 +7,7 @@ use Rattle.driver_desk.specs.Late.{cards_of}
 use Rattle.driver_desk.specs.Rounds.{LateSeen, paths_of, AreReady, FitTexts}
 use Rattle.driver_desk.proofs.RoundSteps.{ready_as, next_listed, listed, listed_at, open_live, fewer_round, some_at}
 use Rattle.driver_desk.proofs.RoundCalls.{lists, after_list_at, names_same}
+use Rattle.driver_desk.proofs.Ties.{adds_both}
 use Rattle.driver_desk.proofs.rounds.one_round.Goals as goal
 
 pub note_list-requires-clause-next : goal.note_list-requires-clause-next
@@ -44,3 +45,6 @@ pub returns-clause-fewer : goal.returns-clause-fewer
 returns-clause-fewer g c = subst (λ (n : List LateSeen). weight c.redo_all.new.line.session + length (cards_of c.redo_all.new.late) < 1 + length n) c.list-reply.ensures.cards
     (fewer_round c.list-reply.new.line.session c.redo_all.new.line.session _ _ _ c.redo_all.ensures.shuts c.redo_all.ensures.len c.redo_all.ensures.fewer
     (some_at c.args.line.now.session c.list-reply.new.line.session (paths_of (cards_of c.args.late.now)) c.args.late.now c.list-reply.new.self c.list-reply.result c.requires.open c.list-reply.ensures.goes c.list-reply.ensures.kept.1 c.list-reply.ensures.names))
+
+pub returns-clause-read : goal.returns-clause-read
+returns-clause-read g c = adds_both _ _ _ c.note_list.ensures.read c.redo_all.ensures.read

@@ -7,6 +7,7 @@ use Rattle.driver_desk.proofs.RoundSteps.{redone, open_live, next_after}
 use Rattle.driver_desk.proofs.Places.{own_driver}
 use Rattle.driver_desk.proofs.Calls.{end_as}
 use Rattle.driver_desk.proofs.RoundCalls.{asks_again, rounds_as, is_end_back}
+use Rattle.driver_desk.proofs.Ties.{adds_both, adds_note}
 use Rattle.driver_desk.proofs.rounds.redo.Goals as goal
 
 pub note-requires-clause-own : goal.note-requires-clause-own
@@ -51,3 +52,6 @@ returns-clause-rounds g c paths line0 given0 asked turns cards left text gone h 
 
 pub returns-clause-next : goal.returns-clause-next
 returns-clause-next g c = next_after c.args.line.now.session c.ask_again-reply.new.self.session c.ask_again-reply.result.reply c.requires.open c.ask_again-reply.ensures.goes
+
+pub returns-clause-read : goal.returns-clause-read
+returns-clause-read g c = adds_both _ _ _ (adds_note _ _ _ c.note.ensures.given) c.after_second.ensures.read

@@ -6,6 +6,7 @@ use Rattle.driver_desk.proofs.LateCards.{step_names, taken_length}
 use Rattle.driver_desk.proofs.RoundSteps.{read_as, taken_ready, taken_apart, taken_fits, taken_redone, some_there}
 use Rattle.driver_desk.proofs.Serves.{is_none}
 use Rattle.driver_desk.proofs.RoundCalls.{redo_has, redo_turns, redo_over, rounds_none_at}
+use Rattle.driver_desk.proofs.Ties.{adds_both}
 use Rattle.driver_desk.proofs.rounds.redo_all.Goals as goal
 
 pub redo-requires-clause-read : goal.redo-requires-clause-read
@@ -43,7 +44,9 @@ loop-seat-preserved g c =
       state = c.redo.ensures.state (paths_of (cards_of c.loop-seat.late)) (names_at c.next_listed.new.self) (paths_of (cards_of c.next_listed.new.self)) (redo_has _ _ _ _ taken)
           (subst (λ (x : ℕ). RedoneCards (paths_of (cards_of c.loop-seat.late)) x (paths_of (cards_of c.next_listed.new.self))) (sym taken.named) (taken_redone _ _ _ _ taken h.apart))
           (redo_turns (g.C.Recorder.standing c.loop-seat.recorder) (g.C.Recorder.given c.loop-seat.recorder) c.loop-seat.line.session _ _ _ _ names h.state);
+      read = adds_both _ _ _ h.read c.redo.ensures.read;
       standing = c.redo.ensures.standing ∙ h.standing;
+      sound = c.redo.ensures.sound;
       fixed = c.redo.ensures.fixed ∙ h.fixed;
       rounds = λ paths line0 given0 asked fit r. c.redo.ensures.rounds paths line0 given0 asked _ (paths_of (cards_of c.loop-seat.late)) _
           (ap paths.text taken.named ∙ (taken_fits paths _ _ _ _ taken (h.fits paths fit)).0)

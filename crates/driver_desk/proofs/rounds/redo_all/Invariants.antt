@@ -3,6 +3,7 @@ use Rattle.driver_line.specs.Lines.{LineView, Paths}
 use Rattle.driver_desk.specs.Late.{KeepsNames, cards_of, names_at}
 use Rattle.driver_desk.specs.Rounds.{paths_of, IsNext, AreReady, AreApart, FitTexts, RoundsBy}
 use Rattle.driver_desk.specs.Places.{InRoundsAt}
+use Rattle.driver_desk.specs.Added.{AddsRead}
 use Rattle.driver_desk.specs.Serving.{Given}
 use Rattle.driver_desk.proofs.rounds.redo_all.Given as goal
 
@@ -17,6 +18,8 @@ invariant-loop-seat g l = record {
       → RoundsBy l.seat.driver paths line0 given0 asked l.initial.line.session l.initial.line (g.C.Recorder.given l.initial.recorder) (paths_of (cards_of l.initial.late)) (names_at l.initial.late)
       → RoundsBy l.seat.driver paths line0 given0 asked l.line.session l.line (g.C.Recorder.given l.recorder) (paths_of (cards_of l.late)) (names_at l.late);
   state : InRoundsAt (g.C.Recorder.standing l.recorder) (g.C.Recorder.given l.recorder) l.line.session (paths_of (cards_of l.late)) (names_at l.late);
+  read : AddsRead (g.C.Recorder.given l.initial.recorder) (g.C.Recorder.given l.recorder);
+  sound : g.C.Recorder.sound l.recorder;
   standing : g.C.Recorder.standing l.recorder ≡ g.C.Recorder.standing l.initial.recorder;
   fixed : g.C.Recorder.fixed l.recorder ≡ g.C.Recorder.fixed l.initial.recorder;
   shuts : l.initial.line.session ≡ None → l.line.session ≡ None;

@@ -2,6 +2,7 @@ use Rattle.std.proofs.Common.{◌∙◌, sym}
 use Rattle.driver_desk.proofs.Serves.{is_none}
 use Rattle.driver_desk.proofs.RoundSteps.{ready_as, rounds_over, fits_names}
 use Rattle.driver_desk.proofs.RoundCalls.{rounds_lost, done_lost}
+use Rattle.driver_desk.proofs.Ties.{adds_both}
 use Rattle.driver_desk.proofs.rounds.rounds.Goals as goal
 
 pub loop-seat-preserved : goal.loop-seat-preserved
@@ -15,7 +16,9 @@ loop-seat-preserved g c =
       apart = e.apart;
       names = (e.names.0 ∙ h.names.0, e.names.1 ∙ h.names.1);
       state = e.state;
+      read = adds_both _ _ _ h.read e.read;
       standing = e.standing ∙ h.standing;
+      sound = e.sound;
       fixed = e.fixed ∙ h.fixed;
       fits = λ paths fit. e.fits paths (h.fits paths fit);
       rounds = λ paths line0 given0 asked fit names r. e.rounds paths line0 given0 asked (h.fits paths fit) (fits_names paths c.args.late.now c.loop-seat.late h.names names) (h.rounds paths line0 given0 asked fit names r);
@@ -40,3 +43,6 @@ returns-clause-state g c =
 pub returns-clause-over : goal.returns-clause-over
 returns-clause-over g c paths line0 given0 asked fit names h =
     rounds_over c.args.seat.driver paths line0 given0 asked c.loop-seat.line.session c.loop-seat.line _ _ _ _ (is_none _ (rw c.loop-seat-test.false at c.is_open.ensures)) c.close_late.ensures.closed (c.loop-seat.invariant.rounds paths line0 given0 asked fit names h)
+
+pub returns-clause-read : goal.returns-clause-read
+returns-clause-read g c = adds_both _ _ _ c.loop-seat.invariant.read c.close_late.ensures.read

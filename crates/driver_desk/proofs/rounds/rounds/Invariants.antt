@@ -1,6 +1,7 @@
 use Rattle.std.proofs.Common.{◌≡◌, ◌+◌, ℕ, List, [], length}
 use Rattle.driver_line.specs.Lines.{LineView, Paths, weight}
 use Rattle.driver_desk.specs.Places.{InRoundsAt}
+use Rattle.driver_desk.specs.Added.{AddsRead}
 use Rattle.driver_desk.specs.Serving.{Given}
 use Rattle.driver_desk.specs.Late.{KeepsNames, FitsNames, cards_of}
 use Rattle.driver_desk.specs.Rounds.{paths_of, IsNext, AreReady, AreApart, FitTexts, RoundsBy, TurnsBy}
@@ -15,6 +16,8 @@ invariant-loop-seat g l = record {
   names : KeepsNames l.initial.late l.late;
   fits : (paths : Paths) → FitTexts paths (cards_of l.initial.late) → FitTexts paths (cards_of l.late);
   state : InRoundsAt (g.C.Recorder.standing l.recorder) (g.C.Recorder.given l.recorder) l.line.session (paths_of (cards_of l.late)) [];
+  read : AddsRead (g.C.Recorder.given l.initial.recorder) (g.C.Recorder.given l.recorder);
+  sound : g.C.Recorder.sound l.recorder;
   standing : g.C.Recorder.standing l.recorder ≡ g.C.Recorder.standing l.initial.recorder;
   fixed : g.C.Recorder.fixed l.recorder ≡ g.C.Recorder.fixed l.initial.recorder;
   rounds : (paths : Paths) (line0 : LineView) (given0 : List Given) (asked : List ℕ) → FitTexts paths (cards_of l.initial.late) → FitsNames paths l.initial.late

@@ -3,7 +3,8 @@ use Rattle.driver_desk.proofs.Closings.{asked_read}
 use Rattle.driver_desk.proofs.RoundSteps.{taken_ready}
 use Rattle.driver_desk.proofs.Serves.{closed_all}
 use Rattle.driver_desk.proofs.Calls.{lost_may, lost_ends, lost_as, lost_none}
-use Rattle.driver_desk.specs.Serving.{NoAnswer}
+use Rattle.driver_desk.specs.Progress.{NoAnswer}
+use Rattle.driver_desk.proofs.Ties.{adds_both}
 use Rattle.driver_desk.proofs.serving.close_late.Goals as goal
 
 pub close_empty-requires-clause-asked : goal.close_empty-requires-clause-asked
@@ -19,11 +20,13 @@ loop-work-preserved g c =
     let h = c.loop-work.invariant in
     record {
       ready = (taken_ready _ _ _ _ _ c.in-Some.ensures.next.1 h.ready).1;
+      read = adds_both _ _ _ h.read c.close_empty.ensures.read;
       closed = closed_all NoAnswer _ _ _ h.closed c.close_empty.ensures.closed;
       names = (c.next_late.ensures.names.0 ∙ h.names.0, c.next_late.ensures.names.1 ∙ h.names.1);
       idle = λ q k. c.next_late.ensures.idle q (h.idle q k);
       turns = λ e. c.next_late.ensures.turns (h.turns e);
       standing = c.close_empty.ensures.standing ∙ h.standing;
+      sound = c.close_empty.ensures.sound;
       fixed = c.close_empty.ensures.fixed ∙ h.fixed;
       next = λ rest first t a. lost_as _ _ _ _ rest first t c.close_empty.ensures.standing
           (lost_ends c.desk_laws.ensures _ _ _ _ _ _ _ rest first t (h.next rest first t a) c.in-Some.ensures.next.1 c.close_empty.ensures.ends);

@@ -1,6 +1,7 @@
 use Rattle.std.proofs.Common.{refl}
 use Rattle.driver_desk.proofs.Serves.{opened, not_opened}
 use Rattle.driver_desk.proofs.Calls.{opens, opens_not, unopened_as, unopened_for}
+use Rattle.driver_desk.proofs.Ties.{adds_note}
 use Rattle.driver_desk.proofs.serving.open_new.Goals as goal
 
 pub note-requires-clause-next : goal.note-requires-clause-next
@@ -33,3 +34,9 @@ pub returns-in-Failed-clause-failed : goal.returns-in-Failed-clause-failed
 returns-in-Failed-clause-failed g c cause ok paths line0 given0 asked s =
     let e = c.in-Failed.ensures.says c.args.path in
     not_opened c.args.driver paths line0 given0 asked c.args.path _ _ _ _ c.in-Failed.cause e.0 c.requires.none e.1 (e.2 paths) c.in-Failed.ensures.session c.note-in-Failed.ensures.given s
+
+pub returns-in-Live-clause-read : goal.returns-in-Live-clause-read
+returns-in-Live-clause-read g c = adds_note _ _ _ c.note.ensures.given
+
+pub returns-in-Failed-clause-read : goal.returns-in-Failed-clause-read
+returns-in-Failed-clause-read g c = adds_note _ _ _ c.note-in-Failed.ensures.given

@@ -2,11 +2,12 @@ use Rattle.std.proofs.Common.{sym, subst, ℕ, refl, [], false}
 use Rattle.checkout_core.specs.declared.path.Heard.TheVariants as heard
 use Rattle.checkout_core.specs.declared.verdict.FilterCause.TheVariants as cause
 use Rattle.checkout_core.specs.Conditions.{heard_opening}
-use Rattle.driver_desk.specs.Recorders.{MayEnd}
+use Rattle.driver_desk.specs.Endings.{MayEnd}
 use Rattle.driver_desk.proofs.Serves.{serves_ahead, serves_none, serves_past, past_smudge}
 use Rattle.driver_desk.proofs.Calls.{ended_at, serving_as, serving_ends, unopened_ends, unsmudged_ends}
 use Rattle.driver_desk.proofs.RoundSteps.{ready_as}
 use Rattle.driver_desk.proofs.Closings.{asked_not, planned_as, grows_as}
+use Rattle.driver_desk.proofs.Ties.{adds_both}
 use Rattle.driver_desk.proofs.serving.serve_card.Goals as goal
 
 pub not_opened-requires-clause-may : goal.not_opened-requires-clause-may
@@ -16,10 +17,10 @@ not_opened-requires-clause-may g c =
     subst (λ (q : ℕ). MayEnd (g.C.Recorder.standing c.open_for.new.recorder) (g.C.Recorder.given c.open_for.new.recorder) q (heard_opening c.in-Some.cause)) (sym c.keep_ready-work.ensures.path) k.may
 
 pub not_opened-requires-clause-asked : goal.not_opened-requires-clause-asked
-not_opened-requires-clause-asked g c = asked_not _ _ _ _ _ c.args.prepared c.args.seat.required c.open_for.ensures.standing c.requires.required c.requires.planned c.requires.prepared c.keep_ready-work.ensures.card c.keep_ready-work.ensures.flag
+not_opened-requires-clause-asked g c = asked_not _ _ _ _ _ c.args.prepared c.args.service.now.seat.required c.open_for.ensures.standing c.requires.required c.requires.planned c.requires.prepared c.keep_ready-work.ensures.card c.keep_ready-work.ensures.flag
 
 pub refuse-requires-clause-asked : goal.refuse-requires-clause-asked
-refuse-requires-clause-asked g c = asked_not _ _ _ _ _ c.args.prepared c.args.seat.required c.open_for.ensures.standing c.requires.required c.requires.planned c.requires.prepared c.keep_ready-work-then-not-has_smudge.ensures.card c.keep_ready-work-then-not-has_smudge.ensures.flag
+refuse-requires-clause-asked g c = asked_not _ _ _ _ _ c.args.prepared c.args.service.now.seat.required c.open_for.ensures.standing c.requires.required c.requires.planned c.requires.prepared c.keep_ready-work-then-not-has_smudge.ensures.card c.keep_ready-work-then-not-has_smudge.ensures.flag
 
 pub ask_card-requires-clause-planned : goal.ask_card-requires-clause-planned
 ask_card-requires-clause-planned g c κs within = planned_as _ _ _ _ c.open_for.ensures.standing refl c.requires.planned
@@ -35,7 +36,7 @@ refuse-requires-clause-may g c =
     let r = c.requires.next in (
       cause.NoSmudge,
       subst (λ (q : ℕ). MayEnd (g.C.Recorder.standing c.open_for.new.recorder) (g.C.Recorder.given c.open_for.new.recorder) q (heard.Refused cause.NoSmudge)) (sym c.keep_ready-work-then-not-has_smudge.ensures.path)
-          (unsmudged_ends c.desk_laws.ensures _ _ _ _ c.args.card.path r.0 (c.open_for.ensures.there c.in_default.is) (c.has_smudge.ensures.no c.if-not-has_smudge.true) (c.open_for.ensures.opens c.in_default.is _ r.0 r.1 r.2)),
+          (unsmudged_ends c.desk_laws.ensures _ _ _ _ c.args.placed.card.path r.0 (c.open_for.ensures.there c.in_default.is) (c.has_smudge.ensures.no c.if-not-has_smudge.true) (c.open_for.ensures.opens c.in_default.is _ r.0 r.1 r.2)),
     )
 
 pub ask_card-requires-clause-next : goal.ask_card-requires-clause-next
@@ -47,30 +48,39 @@ pub returns-in-Some-clause-next : goal.returns-in-Some-clause-next
 returns-in-Some-clause-next g c rest apart h =
     let k = c.in-Some.ensures.fails c.in-Some.cause refl _ rest apart h in
     serving_as _ _ _ _ _ _ _ rest c.not_opened.ensures.standing
-    (unopened_ends c.desk_laws.ensures _ _ _ _ _ _ c.args.card.path rest k.0 apart k.1 (c.in-Some.ensures.closed c.in-Some.cause refl) (ended_at _ _ _ _ _ c.keep_ready-work.ensures.path c.not_opened.ensures.ends))
+    (unopened_ends c.desk_laws.ensures _ _ _ _ _ _ c.args.placed.card.path rest k.0 apart k.1 (c.in-Some.ensures.closed c.in-Some.cause refl) (ended_at _ _ _ _ _ c.keep_ready-work.ensures.path c.not_opened.ensures.ends))
 
 pub returns-then-not-has_smudge-clause-next : goal.returns-then-not-has_smudge-clause-next
 returns-then-not-has_smudge-clause-next g c rest apart h =
     serving_as _ _ _ _ _ _ _ rest c.refuse.ensures.standing
-    (serving_ends c.desk_laws.ensures _ _ _ _ _ _ c.args.card.path rest (c.open_for.ensures.opens c.in_default.is _ rest apart h) apart (ended_at _ _ _ _ _ c.keep_ready-work-then-not-has_smudge.ensures.path c.refuse.ensures.ends))
+    (serving_ends c.desk_laws.ensures _ _ _ _ _ _ c.args.placed.card.path rest (c.open_for.ensures.opens c.in_default.is _ rest apart h) apart (ended_at _ _ _ _ _ c.keep_ready-work-then-not-has_smudge.ensures.path c.refuse.ensures.ends))
 
 pub returns-clause-next : goal.returns-clause-next
 returns-clause-next g c rest apart h = c.ask_card.ensures.next rest apart (c.open_for.ensures.opens c.in_default.is _ rest apart h)
 
 pub returns-in-Some-clause-serves : goal.returns-in-Some-clause-serves
 returns-in-Some-clause-serves g c paths line0 given0 asked e i h =
-    serves_none c.args.seat.driver paths line0 given0 _ [] _ _ _ false _
-    (c.in-Some.ensures.failed c.in-Some.cause refl paths line0 given0 asked _ c.requires.sane (serves_ahead c.args.seat.driver paths line0 given0 asked c.args.card.path _ _ false _ h))
+    serves_none c.args.service.now.seat.driver paths line0 given0 _ [] _ _ _ false _
+    (c.in-Some.ensures.failed c.in-Some.cause refl paths line0 given0 asked _ c.requires.askable (serves_ahead c.args.service.now.seat.driver paths line0 given0 asked c.args.placed.card.path _ _ false _ h))
     c.not_opened.ensures.closed
 
 pub returns-then-not-has_smudge-clause-serves : goal.returns-then-not-has_smudge-clause-serves
 returns-then-not-has_smudge-clause-serves g c paths line0 given0 asked e i h =
-    serves_none c.args.seat.driver paths line0 given0 _ [] _ _ _ false _
-    (serves_past c.args.seat.driver paths line0 given0 asked c.args.card.path _ _ false _ (past_smudge c.args.card.path _ _ (c.open_for.ensures.there c.in_default.is) (c.has_smudge.ensures.no c.if-not-has_smudge.true))
-    (c.open_for.ensures.opened c.in_default.is paths line0 given0 asked _ c.requires.sane (serves_ahead c.args.seat.driver paths line0 given0 asked c.args.card.path _ _ false _ h)))
+    serves_none c.args.service.now.seat.driver paths line0 given0 _ [] _ _ _ false _
+    (serves_past c.args.service.now.seat.driver paths line0 given0 asked c.args.placed.card.path _ _ false _ (past_smudge c.args.placed.card.path _ _ (c.open_for.ensures.there c.in_default.is) (c.has_smudge.ensures.no c.if-not-has_smudge.true))
+    (c.open_for.ensures.opened c.in_default.is paths line0 given0 asked _ c.requires.askable (serves_ahead c.args.service.now.seat.driver paths line0 given0 asked c.args.placed.card.path _ _ false _ h)))
     c.refuse.ensures.closed
 
 pub returns-clause-serves : goal.returns-clause-serves
 returns-clause-serves g c paths line0 given0 asked e i h =
     c.ask_card.ensures.serves paths line0 given0 asked e i
-    (c.open_for.ensures.opened c.in_default.is paths line0 given0 asked _ c.requires.sane (serves_ahead c.args.seat.driver paths line0 given0 asked c.args.card.path _ _ false _ h))
+    (c.open_for.ensures.opened c.in_default.is paths line0 given0 asked _ c.requires.askable (serves_ahead c.args.service.now.seat.driver paths line0 given0 asked c.args.placed.card.path _ _ false _ h))
+
+pub returns-in-Some-clause-read : goal.returns-in-Some-clause-read
+returns-in-Some-clause-read g c = adds_both _ _ _ c.open_for.ensures.read c.not_opened.ensures.read
+
+pub returns-then-not-has_smudge-clause-read : goal.returns-then-not-has_smudge-clause-read
+returns-then-not-has_smudge-clause-read g c = adds_both _ _ _ c.open_for.ensures.read c.refuse.ensures.read
+
+pub returns-clause-read : goal.returns-clause-read
+returns-clause-read g c = adds_both _ _ _ c.open_for.ensures.read c.ask_card.ensures.read

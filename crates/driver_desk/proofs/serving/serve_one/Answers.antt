@@ -5,7 +5,8 @@ use Rattle.checkout_core.specs.declared.path.Heard.TheVariants as heard
 use Rattle.checkout_core.specs.declared.verdict.FilterCause.TheVariants as cause
 use Rattle.driver_desk.specs.Late.{cards_of}
 use Rattle.driver_desk.specs.Rounds.{AreApart, paths_of}
-use Rattle.driver_desk.specs.Recorders.{MayDo, MayEnd}
+use Rattle.driver_desk.specs.Recorders.{MayDo}
+use Rattle.driver_desk.specs.Endings.{MayEnd}
 use Rattle.driver_desk.specs.Places.{IsServing}
 use Rattle.driver_desk.proofs.Serves.{work_past, work_failed, serves_asked}
 use Rattle.driver_desk.proofs.RoundSteps.{serves_as}
@@ -20,13 +21,13 @@ refuse-requires-clause-may g c =
     let path = c.keep_ready-work.ensures.path ∙ ap (λ (x : CardSeen). x.path) c.read_card.ensures.kept in (
       cause.Abort,
       subst (λ (q : ℕ). MayEnd (g.C.Recorder.standing c.args.recorder.now) (g.C.Recorder.given c.args.recorder.now) q (heard.Refused cause.Abort)) (sym path)
-          (aborted_ends c.desk_laws.ensures _ _ _ _ _ c.args.card.path r.0 c.if-aborted.true (serving_next _ _ _ _ _ c.args.card.path r.0 r.2)),
+          (aborted_ends c.desk_laws.ensures _ _ _ _ _ c.args.placed.card.path r.0 c.if-aborted.true (serving_next _ _ _ _ _ c.args.placed.card.path r.0 r.2)),
     )
 
 pub refuse-requires-clause-asked : goal.refuse-requires-clause-asked
 refuse-requires-clause-asked g c =
     let same = read_ok _ _ c.in-Ok.prepared c.read_card.ensures.kept c.in-Ok.ensures.counts in
-    asked_not (g.C.Recorder.standing c.args.recorder.now) (g.C.Recorder.standing c.args.recorder.now) _ _ _ c.in-Ok.prepared c.args.seat.required refl c.requires.required (planned_as (g.C.Recorder.standing c.args.recorder.now) (g.C.Recorder.standing c.args.recorder.now) _ _ refl same c.requires.planned) (subst (λ (x : CardSeen). IsPrepared x c.in-Ok.prepared) (sym same) c.in-Ok.ensures.read) c.keep_ready-work.ensures.card c.keep_ready-work.ensures.flag
+    asked_not (g.C.Recorder.standing c.args.recorder.now) (g.C.Recorder.standing c.args.recorder.now) _ _ _ c.in-Ok.prepared c.args.service.now.seat.required refl c.requires.required (planned_as (g.C.Recorder.standing c.args.recorder.now) (g.C.Recorder.standing c.args.recorder.now) _ _ refl same c.requires.planned) (subst (λ (x : CardSeen). IsPrepared x c.in-Ok.prepared) (sym same) c.in-Ok.ensures.read) c.keep_ready-work.ensures.card c.keep_ready-work.ensures.flag
 
 pub serve_card-requires-clause-planned : goal.serve_card-requires-clause-planned
 serve_card-requires-clause-planned g c κs within = planned_as (g.C.Recorder.standing c.args.recorder.now) (g.C.Recorder.standing c.args.recorder.now) _ _ refl (read_ok _ _ c.in-Ok.prepared c.read_card.ensures.kept c.in-Ok.ensures.counts) c.requires.planned
@@ -51,7 +52,7 @@ serve_card-requires-clause-next g c κs within =
       r.0,
       subst (λ (q : ℕ). AreApart (q ∷ (paths_of (cards_of c.args.late.now) ++ r.0))) (sym path) r.1,
       subst (λ (q : ℕ). IsServing (g.C.Recorder.standing c.args.recorder.now) (g.C.Recorder.given c.args.recorder.now) c.args.line.now.session false (paths_of (cards_of c.args.late.now)) (q ∷ []) r.0) (sym path)
-          (aborted_as _ _ _ _ _ _ _ r.0 c.if-aborted.false (serving_next _ _ _ _ _ c.args.card.path r.0 r.2)),
+          (aborted_as _ _ _ _ _ _ _ r.0 c.if-aborted.false (serving_next _ _ _ _ _ c.args.placed.card.path r.0 r.2)),
     )
 
 pub close_unread-requires-clause-next : goal.close_unread-requires-clause-next
@@ -59,50 +60,53 @@ close_unread-requires-clause-next g c =
     let r = c.requires.next in
     let path = ap (λ (x : CardSeen). x.path) c.read_card.ensures.kept in
     subst (λ (q : ℕ). MayDo (g.C.Recorder.standing c.args.recorder.now) (g.C.Recorder.given c.args.recorder.now) (Close q ((g.C.Recorder.standing c.args.recorder.now).workers + (g.C.Recorder.standing c.args.recorder.now).driver) c.in-Err.own)) (sym path)
-    (serving_fails c.desk_laws.ensures _ _ _ _ _ c.args.card.path r.0 c.in-Err.own (alone_own _ c.in-Err.own c.in-Err.ensures.read) r.2)
+    (serving_fails c.desk_laws.ensures _ _ _ _ _ c.args.placed.card.path r.0 c.in-Err.own (alone_own _ c.in-Err.own c.in-Err.ensures.read) r.2)
 
 pub returns-then-aborted-clause-next : goal.returns-then-aborted-clause-next
 returns-then-aborted-clause-next g c rest apart h =
     let path = c.keep_ready-work.ensures.path ∙ ap (λ (x : CardSeen). x.path) c.read_card.ensures.kept in
     serving_as _ _ _ _ _ _ _ rest c.refuse.ensures.standing (aborted_as _ _ _ _ _ _ _ rest c.if-aborted.true
-    (serving_ends c.desk_laws.ensures _ _ _ _ _ _ c.args.card.path rest (serving_next _ _ _ _ _ c.args.card.path rest h) apart (ended_at _ _ _ _ _ path c.refuse.ensures.ends)))
+    (serving_ends c.desk_laws.ensures _ _ _ _ _ _ c.args.placed.card.path rest (serving_next _ _ _ _ _ c.args.placed.card.path rest h) apart (ended_at _ _ _ _ _ path c.refuse.ensures.ends)))
 
 pub returns-else-aborted-clause-next : goal.returns-else-aborted-clause-next
 returns-else-aborted-clause-next g c rest apart h =
     let path = ap (λ (x : CardSeen). x.path) c.read_card.ensures.kept in
     c.serve_card.ensures.next rest (subst (λ (q : ℕ). AreApart (q ∷ (paths_of (cards_of c.args.late.now) ++ rest))) (sym path) apart)
     (subst (λ (q : ℕ). IsServing (g.C.Recorder.standing c.args.recorder.now) (g.C.Recorder.given c.args.recorder.now) c.args.line.now.session false (paths_of (cards_of c.args.late.now)) (q ∷ []) rest) (sym path)
-    (aborted_as _ _ _ _ _ _ _ rest c.if-aborted.false (serving_next _ _ _ _ _ c.args.card.path rest h)))
+    (aborted_as _ _ _ _ _ _ _ rest c.if-aborted.false (serving_next _ _ _ _ _ c.args.placed.card.path rest h)))
 
 pub returns-in-Err-clause-next : goal.returns-in-Err-clause-next
 returns-in-Err-clause-next g c rest apart h =
     let path = ap (λ (x : CardSeen). x.path) c.read_card.ensures.kept in
     serving_as _ _ _ _ _ _ _ rest c.close_unread.ensures.standing
-    (serving_ends c.desk_laws.ensures _ _ _ _ _ _ c.args.card.path rest (serving_next _ _ _ _ _ c.args.card.path rest h) apart (ended_at _ _ _ _ _ path c.close_unread.ensures.ends))
+    (serving_ends c.desk_laws.ensures _ _ _ _ _ _ c.args.placed.card.path rest (serving_next _ _ _ _ _ c.args.placed.card.path rest h) apart (ended_at _ _ _ _ _ path c.close_unread.ensures.ends))
 
 pub returns-then-aborted-clause-serves : goal.returns-then-aborted-clause-serves
 returns-then-aborted-clause-serves g c = (
-  record { card = card_seen g.B.Blob.told g.B.Blob.seen g.L.Leaf.seen c.args.card; content = Ok c.in-Ok.prepared.bytes },
+  record { card = card_seen g.B.Blob.told g.B.Blob.seen g.L.Leaf.seen c.args.placed.card; content = Ok c.in-Ok.prepared.bytes },
   refl,
   (c.in-Ok.prepared, c.in-Ok.ensures.read, refl),
-  λ paths line0 given0 asked fit s. work_past c.args.seat.driver paths line0 given0 asked c.args.card.path (Ok c.in-Ok.prepared.bytes) _ _ _ _ _ c.if-aborted.true c.refuse.ensures.closed s,
+  (λ paths line0 given0 asked fit s. work_past c.args.service.now.seat.driver paths line0 given0 asked c.args.placed.card.path (Ok c.in-Ok.prepared.bytes) _ _ _ _ _ c.if-aborted.true c.refuse.ensures.closed s),
+  c.refuse.ensures.read,
 )
 
 pub returns-else-aborted-clause-serves : goal.returns-else-aborted-clause-serves
 returns-else-aborted-clause-serves g c =
     let path = ap (λ (x : CardSeen). x.path) c.read_card.ensures.kept in
     let text = ap (λ (x : CardSeen). x.text) c.read_card.ensures.kept in (
-      record { card = card_seen g.B.Blob.told g.B.Blob.seen g.L.Leaf.seen c.args.card; content = Ok c.in-Ok.prepared.bytes },
+      record { card = card_seen g.B.Blob.told g.B.Blob.seen g.L.Leaf.seen c.args.placed.card; content = Ok c.in-Ok.prepared.bytes },
       refl,
       (c.in-Ok.prepared, c.in-Ok.ensures.read, refl),
-      λ paths line0 given0 asked fit s. serves_asked _ _ _ _ _ _ [] _ _ _ _ (ap (λ (p : ℕ). asked ++ p ∷ []) path)
-          (c.serve_card.ensures.serves paths line0 given0 asked (ap paths.text path ∙ (fit.0 ∙ sym text)) (ap paths.content path ∙ fit.1) (serves_as c.args.seat.driver paths _ _ _ _ _ _ _ _ c.if-aborted.false s)),
+      (λ paths line0 given0 asked fit s. serves_asked _ _ _ _ _ _ [] _ _ _ _ (ap (λ (p : ℕ). asked ++ p ∷ []) path)
+          (c.serve_card.ensures.serves paths line0 given0 asked (ap paths.text path ∙ (fit.0 ∙ sym text)) (ap paths.content path ∙ fit.1) (serves_as c.args.service.now.seat.driver paths _ _ _ _ _ _ _ _ c.if-aborted.false s))),
+      c.serve_card.ensures.read,
     )
 
 pub returns-in-Err-clause-serves : goal.returns-in-Err-clause-serves
 returns-in-Err-clause-serves g c = (
-  record { card = card_seen g.B.Blob.told g.B.Blob.seen g.L.Leaf.seen c.args.card; content = Err c.in-Err.own },
+  record { card = card_seen g.B.Blob.told g.B.Blob.seen g.L.Leaf.seen c.args.placed.card; content = Err c.in-Err.own },
   refl,
   c.in-Err.ensures.read,
-  λ paths line0 given0 asked fit s. work_failed c.args.seat.driver paths line0 given0 asked c.args.card.path (Err c.in-Err.own) c.in-Err.own _ _ _ _ _ refl c.close_unread.ensures.closed s,
+  (λ paths line0 given0 asked fit s. work_failed c.args.service.now.seat.driver paths line0 given0 asked c.args.placed.card.path (Err c.in-Err.own) c.in-Err.own _ _ _ _ _ refl c.close_unread.ensures.closed s),
+  let o = c.close_unread.ensures.one in (o.0, o.1 ∙ ap (λ (x : CardSeen). x.path) c.read_card.ensures.kept, o.2),
 )
