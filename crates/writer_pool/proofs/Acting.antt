@@ -1,16 +1,23 @@
 -- What all actors did.
-use Rattle.std.proofs.Common.{◌≡◌, ℕ, zero, suc, ◌+◌, ◌<◌, ◌≤◌, List, [], ◌∷◌, ◌++◌, length, Some, refl, sym, ap, ◌∙◌, subst, arith}
+use Rattle.std.proofs.Common.{◌≡◌, ℕ, zero, suc, ◌+◌, ◌<◌, ◌≤◌, List, [], ◌∷◌, ◌++◌, length, Option, Some, None, refl, sym, ap, ◌∙◌, subst, arith}
 use Rattle.std.specs.Prelude.{slice_get, Result, Ok, Err, IfOk}
 use Rattle.atomic_table.specs.Seated.{TableId}
 use Rattle.turn_lock.specs.Seat.{SeatView, mine_of}
 use Rattle.convert_plan.specs.declared.card.Card.{Card}
+use Rattle.checkout_core.specs.declared.event.Event.{Event}
+use Rattle.checkout_core.specs.declared.event.Event.TheVariants.{Claim, Close}
+use Rattle.checkout_core.specs.declared.verdict.Own.{Own}
 use Rattle.checkout_book.specs.declared.plan.Plan.{Plan}
+use Rattle.checkout_book.specs.declared.plan.Parts.{Parts}
 use Rattle.checkout_book.specs.declared.plan.Entry.{Entry}
-use Rattle.checkout_book.specs.Sights.{Sight}
+use Rattle.checkout_book.specs.Sights.{Sight, seen}
 use Rattle.checkout_book.specs.Shelves.{cards_of}
 use Rattle.checkout_book.specs.Reserving.{AreIdle, AreFresh, AreNew}
-use Rattle.writer_pool.specs.Working.{IsShown, AreShown, Idled}
-use Rattle.writer_pool.specs.Ends.{IsNewWorker, AreNewWorkers, IsBack, AreBack}
+use Rattle.writer_pool.specs.Writing.{WritesCard}
+use Rattle.writer_pool.specs.Working.{AreTurns, IsShown, AreShown, Idled, blob_in, leaf_in, own_events}
+use Rattle.writer_pool.specs.Ends.{IsNewWorker, AreNewWorkers, ShowsEnd, IsShownAll, IsBack, AreBack}
+use Rattle.writer_pool.proofs.Places.{get_map, get_map_back, get_second}
+use Rattle.writer_pool.proofs.WorkTurns.{turns_claimed}
 
 module _ {B L : Type 0} (see : Sight B L) where
   pub shown_each : (cards : List (Card B L)) (es : List Entry) (i : ℕ) (e : Entry) → AreShown see cards es
@@ -21,6 +28,48 @@ module _ {B L : Type 0} (see : Sight B L) where
       subst (λ (y : Entry). IsShown see cards y.event y.parts) is all.0
   shown_each cards (x ∷ es) (suc i) e all at = shown_each cards es i e all.1 at
 
+  shown_parts : (cards : List (Card B L)) (e : Event) (parts : Option Parts) (p a : ℕ) (o : Own) → e ≡ Close p a o
+      → IsShown see cards e parts
+      → (x : Parts) × (parts ≡ Some x) × (k : ℕ) × (card : Card B L) × (slice_get cards k ≡ Some card)
+      × (card.path ≡ p) × WritesCard (seen see card) o (blob_in x) (leaf_in x)
+  shown_parts cards e parts p a o is shown = go parts (subst (λ (z : Event). IsShown see cards z parts) is shown)
+    where
+      go : (parts : Option Parts) → IsShown see cards (Close p a o) parts
+          → (x : Parts) × (parts ≡ Some x) × (k : ℕ) × (card : Card B L) × (slice_get cards k ≡ Some card)
+          × (card.path ≡ p) × WritesCard (seen see card) o (blob_in x) (leaf_in x)
+      go None h = absurd h
+      go (Some x) h = (x, refl, h.0, h.1, h.2, h.3, h.4)
+
+  -- A Close among what an actor did in turns, behind other entries. The actor claimed the path before.
+  pub work_shown : (d : Plan B L) (first more : List Entry) → AreTurns (own_events more)
+      → AreShown see (cards_of d) more → (i j : ℕ) (e : Entry) (p a : ℕ) (o : Own) → length first + i ≡ j
+      → slice_get more i ≡ Some e → e.event ≡ Close p a o
+      → ShowsEnd see d (own_events (first ++ more)) j p a o e.parts
+  work_shown d first more turns shown i j e p a o place at is =
+      let w = shown_parts (cards_of d) e.event e.parts p a o is (shown_each (cards_of d) more i e shown at) in
+      let t = turns_claimed (own_events more) i p a o turns
+      (get_map (λ (z : Entry). z.event) more i e at ∙ ap (λ (z : Event). Some z) is) in
+      let c = get_map_back (λ (z : Entry). z.event) more t.0 (Claim p a) t.2 in
+      let claim : slice_get (own_events (first ++ more)) (length first + t.0) ≡ Some (Claim p a) =
+      get_map (λ (z : Entry). z.event) (first ++ more) (length first + t.0) c.0 (get_second first more t.0 ∙ c.1)
+      ∙ ap (λ (z : Event). Some z) c.2 in
+      let before = t.1 in
+      record {
+        ended = w.0;
+        there = w.1;
+        number = w.2;
+        card = w.3;
+        planned = w.4;
+        path = w.5;
+        ends = record {
+          wrote = λ from. w.6;
+          served = λ q required from.
+              absurd (from.unclaimed (length first + t.0) (omega (arith, before, place)) claim);
+        };
+        desk = λ q required from.
+            absurd (from.unclaimed (length first + t.0) (omega (arith, before, place)) claim);
+      }
+
   pub is_back : (lock : TableId) (d : Plan B L) (n made : ℕ) (s t : SeatView Entry (Plan B L)) → n < d.workers
       → mine_of s ≡ [] → Idled see lock d n made s t → IsBack see lock d n made t
   is_back lock d n made s t worker fresh idled =
@@ -28,8 +77,8 @@ module _ {B L : Type 0} (see : Sight B L) where
       idled.worked.mine ∙ ap (λ (l : List Entry). l ++ idled.worked.more) fresh in
       record {
         nothing = idled.worked.nothing;
-        shown = λ i e p a o at is from. shown_each (cards_of d) (mine_of t) i e
-            (subst (AreShown see (cards_of d)) (sym mine) idled.worked.shown) at;
+        shown = subst (IsShownAll see d) (sym mine) (λ i e p a o at is.
+            work_shown d [] idled.worked.more idled.worked.turns idled.worked.shown i i e p a o (omega arith) at is);
         left = λ q p lt desk own. absurd (omega (arith, worker, desk));
       }
 

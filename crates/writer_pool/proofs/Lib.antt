@@ -1,5 +1,6 @@
 pub mod WorkTurns
 pub mod Places
+pub mod Closings
 pub mod CoreMoves
 pub mod Resting
 pub mod Rows
@@ -10,5 +11,6 @@ pub mod Quieting
 pub mod Outcomes
 pub mod Alone
 pub mod Recordings
+pub mod DeskClosings
 pub mod DeskActing
 pub mod DeskTalks

@@ -23,8 +23,8 @@ use Rattle.checkout_book.specs.Shape.{Shelf}
 use Rattle.checkout_book.specs.Sights.{Sight, seen}
 use Rattle.checkout_book.specs.Shelves.{plan_of, cards_of, IsRow, Lies}
 use Rattle.checkout_book.specs.Ending.{parts_in}
-use Rattle.writer_pool.specs.Writing.{WritesCard}
-use Rattle.writer_pool.specs.Ends.{IsThrough, IsRun, IsFromBook, IsEndOf, AreEnds}
+use Rattle.writer_pool.specs.Closing.{EndsCard}
+use Rattle.writer_pool.specs.Ends.{IsThrough, IsRun, IsEndOf, AreEnds}
 use Rattle.writer_pool.proofs.Places.{some_is, same_or}
 use Rattle.writer_pool.proofs.Dealt.{IsFitting}
 use Rattle.writer_pool.proofs.Resting.{ended_at}
@@ -191,16 +191,20 @@ module _ {B L : Type 0} (see : Sight B L) where
             told = from.4;
             name = from.5;
             path = from.6;
-            wrote = λ book.
-                let h = t.quiet.closed f.0 p f.1 o.0 f.2 (subst (λ (j : ℕ).
-                IsFromBook s.starts.value.items s.events.items f.0 j f.1) from.3 book) in
+            ends =
+                let h = t.quiet.closed f.0 p f.1 o.0 f.2 in
                 let slot : Ended h.0 h.1 ≡ Ended e.0 e.1 = some_is (Ended h.0 h.1) (Ended e.0 e.1) (sym h.2 ∙ e.2) in
                 let blob : h.0 ≡ e.0 = cc (slot) in
                 let leaf : h.1 ≡ e.1 = cc (slot) in
                 let same : h.4 ≡ from.1 = fits.one h.3 from.0 h.4 from.1 h.5 from.2 (h.6 ∙ sym from.3) in
-                subst (λ (c : Card B L). WritesCard (seen see c) o.0 (see.blob e.0) (see.leaf e.1)) same
-                (subst (λ (l : L). WritesCard (seen see h.4) o.0 (see.blob e.0) (see.leaf l)) leaf
-                (subst (λ (b : B). WritesCard (seen see h.4) o.0 (see.blob b) (see.leaf h.1)) blob h.7));
+                subst (λ (j : ℕ). EndsCard s.starts.value.items s.events.items f.0 j f.1 o.0 (seen see from.1)
+                (see.blob e.0) (see.leaf e.1)) (sym from.3)
+                (subst (λ (c : Card B L). EndsCard s.starts.value.items s.events.items f.0 p f.1 o.0 (seen see c)
+                (see.blob e.0) (see.leaf e.1)) same
+                (subst (λ (l : L). EndsCard s.starts.value.items s.events.items f.0 p f.1 o.0 (seen see h.4)
+                (see.blob e.0) (see.leaf l)) leaf
+                (subst (λ (b : B). EndsCard s.starts.value.items s.events.items f.0 p f.1 o.0 (seen see h.4)
+                (see.blob b) (see.leaf h.1)) blob h.7)));
           },
         ),
       )

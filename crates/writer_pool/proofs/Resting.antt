@@ -1,5 +1,5 @@
 -- What still waits is written and closed.
-use Rattle.std.proofs.Common.{◌≡◌, ◌==◌, ℕ, zero, suc, ◌<◌, inl, inr, ⊎_elim, Bool, true, false, cond, List, [], ◌∷◌, ◌++◌, length, Option, Some, None, refl, sym, ap, ◌∙◌, subst, append_assoc, arith}
+use Rattle.std.proofs.Common.{◌≡◌, ◌==◌, ℕ, zero, suc, ◌<◌, ⊎_elim, Bool, true, false, cond, List, [], ◌∷◌, ◌++◌, length, Option, Some, None, refl, sym, ap, ◌∙◌, subst, append_assoc, arith}
 use Rattle.std.specs.Prelude.{slice_get, slice_set, ◌||◌}
 use Rattle.convert_plan.specs.declared.card.Card.{Card}
 use Rattle.convert_plan.specs.Card.{CardSeen, IsCardOf}
@@ -9,8 +9,6 @@ use Rattle.checkout_core.specs.declared.verdict.Verdict.{Verdict}
 use Rattle.checkout_core.specs.declared.path.PathState.{PathState}
 use Rattle.checkout_core.specs.declared.path.PathState.TheVariants.{Waiting, Held, Closed}
 use Rattle.checkout_core.specs.declared.path.Path.{Path}
-use Rattle.checkout_core.specs.declared.path.Start.{Start}
-use Rattle.checkout_core.specs.declared.path.Start.TheVariants.{Pool}
 use Rattle.checkout_core.specs.declared.event.Event.{Event}
 use Rattle.checkout_core.specs.declared.event.Event.TheVariants.{Claim, Close}
 use Rattle.checkout_core.specs.States.{Core, with_state}
@@ -26,8 +24,10 @@ use Rattle.checkout_book.specs.Shelves.{plan_of, cards_of, IsPlanned, IsRow, Lie
 use Rattle.checkout_book.specs.Ending.{GoesOn}
 use Rattle.checkout_book.specs.Turns.{Turned, Claimed}
 use Rattle.writer_pool.specs.Writing.{WritesCard}
-use Rattle.writer_pool.specs.Ends.{IsFromBook, IsQuiet}
-use Rattle.writer_pool.proofs.Places.{some_is, get_set_same, get_set_other, get_more, get_within, place_is}
+use Rattle.writer_pool.specs.Closing.{EndsCard}
+use Rattle.writer_pool.specs.Ends.{IsQuiet}
+use Rattle.writer_pool.proofs.Places.{some_is, get_set_same, get_set_other, get_more, get_front, get_last, place_is}
+use Rattle.writer_pool.proofs.Closings.{ends_longer, ends_claimed}
 use Rattle.writer_pool.proofs.CoreMoves.{moved_here, hands_moved, away_moved}
 use Rattle.writer_pool.proofs.WorkTurns.{shown}
 
@@ -38,22 +38,6 @@ TakesPath = (c x : Core) (p a : ℕ) → step_of c (Claim p a) ≡ Some x
 abbrev pub ClosesPath : Type 0
 ClosesPath = (c x : Core) (p a : ℕ) (o : Own) → step_of c (Close p a o) ≡ Some x
     → (s : PathState) × (v : Verdict) × Moved c x p s (Closed v) × ((is_held a s || is_with_driver s) ≡ true)
-
--- what came before a place of a history is the same in a longer one
-from_before : (starts : List Start) (es more longer : List Event) (i p a : ℕ) (e : Event) → longer ≡ es ++ more
-    → slice_get es i ≡ Some e → IsFromBook starts longer i p a → IsFromBook starts es i p a
-from_before starts es more longer i p a e is at h = ⊎_elim
-    (λ (pool : slice_get starts p ≡ Some Pool). inl pool)
-    (λ (claim : (j : ℕ) × (j < i) × (slice_get longer j ≡ Some (Claim p a))).
-    let lt : i < length es = place_is es i e at in
-    let less = claim.1 in
-    inr (
-      claim.0,
-      claim.1,
-      sym (get_within es more claim.0 (omega (arith, less, lt)))
-          ∙ (ap (λ (l : List Event). slice_get l claim.0) (sym is) ∙ claim.2),
-    ))
-    h
 
 module _ {B L : Type 0} where
   pub ended_at : (slots : List (Slot B L)) (es : List Event) (i p a : ℕ) (o : Own) → AreEnded slots es
@@ -114,6 +98,28 @@ module _ {B L : Type 0} (see : Sight B L) where
       let u : Some (Ended e.0 e.1) ≡ Some (Waits k) = sym e.2 ∙ (ap (slice_get s0.slots.items) is ∙ c.was) in
       cc (u)
 
+  -- the card that was claimed and closed last was from the book
+  last_ends : (s0 s1 s2 : Shelf B L) (k w : Card B L) (o : Own) (i p a : ℕ) (x : Own) (card : CardSeen)
+      → Claimed 0 s0 s1 k → Turned (Close w.path 0 o) w.path (Ended w.blob w.leaf) s1 s2 → k.path ≡ w.path
+      → Close w.path 0 o ≡ Close p a x → i ≡ length s1.events.items
+      → WritesCard card o (see.blob w.blob) (see.leaf w.leaf)
+      → EndsCard (plan_of s2).starts.items s2.events.items i p a x card (see.blob w.blob) (see.leaf w.leaf)
+  last_ends s0 s1 s2 k w o i p a x card c turned path last place wrote =
+      let closed : w.path ≡ p = cc (last) in
+      let by : 0 ≡ a = cc (last) in
+      let owns : o ≡ x = cc (last) in
+      let j = length s0.events.items in
+      let first : slice_get s1.events.items j ≡ Some (Claim k.path 0) =
+      ap (λ (l : List Event). slice_get l j) c.turned.events ∙ get_last s0.events.items (Claim k.path 0) in
+      let within : j < length s1.events.items = place_is s1.events.items j (Claim k.path 0) first in
+      let same : k.path ≡ p = path ∙ closed in
+      ends_claimed (plan_of s2).starts.items s2.events.items j i p a x card (see.blob w.blob) (see.leaf w.leaf)
+      (omega (arith, within, place))
+      (ap (λ (l : List Event). slice_get l j) turned.events
+      ∙ (get_front s1.events.items (Close w.path 0 o ∷ []) j (Claim k.path 0) first
+      ∙ (λ m. Some (Claim (same m) (by m)))))
+      (subst (λ (y : Own). WritesCard card y (see.blob w.blob) (see.leaf w.leaf)) owns wrote)
+
   free : (b x h : Bool) → h ≡ false → cond b false (cond b x h) ≡ false
   free true x h e = refl
   free false x h e = e
@@ -137,17 +143,13 @@ module _ {B L : Type 0} (see : Sight B L) where
             (sym is)
             ∙ free (q == w.path) (is_held a (Held 0 h.raw)) (held_at s0.core a q) (quiet.hands a q)));
         away = away_moved s1.core s2.core w.path z.0 (Closed z.1) z.2 refl away1;
-        closed = λ i p a x at from. ⊎_elim
+        closed = λ i p a x at. ⊎_elim
             (λ (older : slice_get s1.events.items i ≡ Some (Close p a x)). ⊎_elim
             (λ (oldest : slice_get s0.events.items i ≡ Some (Close p a x)).
-            let starts : (plan_of s2).starts.items ≡ (plan_of s0).starts.items =
-            ap (λ (d : Plan B L). d.starts.items) plan in
-            let from0 = subst (λ (l : List Start). IsFromBook l s2.events.items i p a) starts from in
+            let e = quiet.closed i p a x oldest in
             let all : s2.events.items ≡ s0.events.items ++ Claim k.path 0 ∷ Close w.path 0 o ∷ [] =
             turned.events ∙ (ap (λ (l : List Event). l ++ Close w.path 0 o ∷ []) c.turned.events
             ∙ append_assoc s0.events.items (Claim k.path 0 ∷ []) (Close w.path 0 o ∷ [])) in
-            let e = quiet.closed i p a x oldest (from_before (plan_of s0).starts.items s0.events.items
-            (Claim k.path 0 ∷ Close w.path 0 o ∷ []) s2.events.items i p a (Close p a x) all oldest from0) in
             let other : p ≡ k.path → ⊥ = close_same s0 s1 k quiet c i p a x oldest in (
               e.0,
               e.1,
@@ -159,14 +161,18 @@ module _ {B L : Type 0} (see : Sight B L) where
               e.4,
               ap (λ (d : Plan B L). slice_get (cards_of d) e.3) plan ∙ e.5,
               e.6,
-              e.7,
+              subst (λ (d : Plan B L). EndsCard d.starts.items s2.events.items i p a x (seen see e.4) (see.blob e.0)
+                  (see.leaf e.1)) (sym plan) (ends_longer (plan_of s0).starts.items s0.events.items
+                  (Claim k.path 0 ∷ Close w.path 0 o ∷ []) s2.events.items i p a x (seen see e.4) (see.blob e.0)
+                  (see.leaf e.1) all refl oldest e.7),
             ))
-            (λ (claim : Claim k.path 0 ≡ Close p a x). absurd (cc (claim)))
+            (λ (claim : (Claim k.path 0 ≡ Close p a x) × (i ≡ length s0.events.items)).
+            absurd (let u = claim.0 in cc (u)))
             (get_more s0.events.items (Claim k.path 0) i (Close p a x)
             (ap (λ (l : List Event). slice_get l i) (sym c.turned.events) ∙ older)))
-            (λ (last : Close w.path 0 o ≡ Close p a x).
-            let same : w.path ≡ p = cc (last) in
-            let owns : o ≡ x = cc (last) in
+            (λ (last : (Close w.path 0 o ≡ Close p a x) × (i ≡ length s1.events.items)).
+            let u = last.0 in
+            let same : w.path ≡ p = cc (u) in
             let g = shown see (cards_of (plan_of s0)) k w 0 o h.planned kept wrote in (
               w.blob,
               w.leaf,
@@ -180,7 +186,7 @@ module _ {B L : Type 0} (see : Sight B L) where
               g.1,
               ap (λ (d : Plan B L). slice_get (cards_of d) g.0) plan ∙ g.2,
               g.3 ∙ same,
-              subst (λ (y : Own). WritesCard (seen see g.1) y (see.blob w.blob) (see.leaf w.leaf)) owns g.4,
+              last_ends s0 s1 s2 k w o i p a x (seen see g.1) c turned (sym is) last.0 last.1 g.4,
             ))
             (get_more s1.events.items (Close w.path 0 o) i (Close p a x)
             (ap (λ (l : List Event). slice_get l i) (sym turned.events) ∙ at));

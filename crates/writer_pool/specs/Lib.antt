@@ -1,4 +1,5 @@
 pub mod Writing
+pub mod Closing
 pub mod Working
 pub mod Rooms
 pub mod Ends
