@@ -19,6 +19,20 @@ use Rattle.writer_pool.specs.Ends.{IsNewWorker, AreNewWorkers, ShowsEnd, IsShown
 use Rattle.writer_pool.proofs.Places.{get_map, get_map_back, get_second}
 use Rattle.writer_pool.proofs.WorkTurns.{turns_claimed}
 
+-- a Close among what an actor did in turns, behind other entries, was claimed before
+pub turn_claim : (first more : List Entry) (i j p a : ℕ) (o : Own) → AreTurns (own_events more) → length first + i ≡ j
+    → slice_get (own_events more) i ≡ Some (Close p a o)
+    → (k : ℕ) × (k < j) × (slice_get (own_events (first ++ more)) k ≡ Some (Claim p a))
+turn_claim first more i j p a o turns place at =
+    let t = turns_claimed (own_events more) i p a o turns at in
+    let c = get_map_back (λ (z : Entry). z.event) more t.0 (Claim p a) t.2 in
+    let before = t.1 in (
+      length first + t.0,
+      omega (arith, before, place),
+      get_map (λ (z : Entry). z.event) (first ++ more) (length first + t.0) c.0 (get_second first more t.0 ∙ c.1)
+          ∙ ap (λ (z : Event). Some z) c.2,
+    )
+
 module _ {B L : Type 0} (see : Sight B L) where
   pub shown_each : (cards : List (Card B L)) (es : List Entry) (i : ℕ) (e : Entry) → AreShown see cards es
       → slice_get es i ≡ Some e → IsShown see cards e.event e.parts
@@ -40,20 +54,15 @@ module _ {B L : Type 0} (see : Sight B L) where
       go None h = absurd h
       go (Some x) h = (x, refl, h.0, h.1, h.2, h.3, h.4)
 
-  -- A Close among what an actor did in turns, behind other entries. The actor claimed the path before.
+  -- it shows how the writing ended
   pub work_shown : (d : Plan B L) (first more : List Entry) → AreTurns (own_events more)
       → AreShown see (cards_of d) more → (i j : ℕ) (e : Entry) (p a : ℕ) (o : Own) → length first + i ≡ j
       → slice_get more i ≡ Some e → e.event ≡ Close p a o
       → ShowsEnd see d (own_events (first ++ more)) j p a o e.parts
   work_shown d first more turns shown i j e p a o place at is =
       let w = shown_parts (cards_of d) e.event e.parts p a o is (shown_each (cards_of d) more i e shown at) in
-      let t = turns_claimed (own_events more) i p a o turns
+      let t = turn_claim first more i j p a o turns place
       (get_map (λ (z : Entry). z.event) more i e at ∙ ap (λ (z : Event). Some z) is) in
-      let c = get_map_back (λ (z : Entry). z.event) more t.0 (Claim p a) t.2 in
-      let claim : slice_get (own_events (first ++ more)) (length first + t.0) ≡ Some (Claim p a) =
-      get_map (λ (z : Entry). z.event) (first ++ more) (length first + t.0) c.0 (get_second first more t.0 ∙ c.1)
-      ∙ ap (λ (z : Event). Some z) c.2 in
-      let before = t.1 in
       record {
         ended = w.0;
         there = w.1;
@@ -63,11 +72,9 @@ module _ {B L : Type 0} (see : Sight B L) where
         path = w.5;
         ends = record {
           wrote = λ from. w.6;
-          served = λ q required from.
-              absurd (from.unclaimed (length first + t.0) (omega (arith, before, place)) claim);
+          served = λ q required from. absurd (from.unclaimed t.0 t.1 t.2);
         };
-        desk = λ q required from.
-            absurd (from.unclaimed (length first + t.0) (omega (arith, before, place)) claim);
+        desk = λ q required from. absurd (from.unclaimed t.0 t.1 t.2);
       }
 
   pub is_back : (lock : TableId) (d : Plan B L) (n made : ℕ) (s t : SeatView Entry (Plan B L)) → n < d.workers

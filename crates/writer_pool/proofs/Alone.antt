@@ -55,11 +55,11 @@ module _ {S B L : Type 0} where
       ap (λ (ds : List (DeskSeed S B L)). pool ++ seed_cards ds) none ∙ append-nil pool
 
   pub none_back : (starter : S → StarterSeen) (see : Sight B L) (starts : List Start) (history : List Event)
-      (desks : List (DeskSeed S B L)) (starters : List S) → desks ≡ [] → starters ≡ []
-      → AreStartersBack starter see starts history 0 desks starters
-  none_back starter see starts history desks starters no_desk no_starter =
-      subst (λ (ds : List (DeskSeed S B L)). AreStartersBack starter see starts history 0 ds starters) (sym no_desk)
-      (subst (AreStartersBack starter see starts history 0 []) (sym no_starter) tt)
+      (leaves : List L) (desks : List (DeskSeed S B L)) (starters : List S) → desks ≡ [] → starters ≡ []
+      → AreStartersBack starter see starts history leaves 0 desks starters
+  none_back starter see starts history leaves desks starters no_desk no_starter =
+      subst (λ (ds : List (DeskSeed S B L)). AreStartersBack starter see starts history leaves 0 ds starters)
+      (sym no_desk) (subst (AreStartersBack starter see starts history leaves 0 []) (sym no_starter) tt)
 
 pub no_talks : (starts : List Start) (history : List Event) (talks : List (Vec Event)) → talks ≡ []
     → AreTalks starts history 0 talks

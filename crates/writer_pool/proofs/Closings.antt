@@ -18,7 +18,7 @@ use Rattle.checkout_book.specs.declared.shelf.Slot.{Slot}
 use Rattle.checkout_book.specs.declared.plan.Entry.{Entry}
 use Rattle.checkout_book.specs.Entries.{number_or, number_in, entry_of, entries}
 use Rattle.writer_pool.specs.Writing.{WritesCard}
-use Rattle.writer_pool.specs.Closing.{IsFromBook, ServesCard, EndsCard}
+use Rattle.writer_pool.specs.Closing.{IsFromBook, IsFromDesk, ServesCard, EndsCard}
 use Rattle.writer_pool.specs.Working.{own_events}
 use Rattle.writer_pool.proofs.Places.{same_or, eqb_self, get_front, get_within, place_is}
 
@@ -110,6 +110,15 @@ ends_claimed starts history j i p a o card blob leaf lt claim wrote = record {
   served = λ d required from. absurd (from.unclaimed j lt claim);
 }
 
+-- what never left its desk by a longer history didn't before
+pub desk_before : (starts : List Start) (es more longer : List Event) (i p a d : ℕ) (required : Bool)
+    → longer ≡ es ++ more → IsFromDesk starts longer i p a d required → IsFromDesk starts es i p a d required
+desk_before starts es more longer i p a d required is from = record {
+  begun = from.begun;
+  unclaimed = λ j lt claim. from.unclaimed j lt
+      (ap (λ (l : List Event). slice_get l j) is ∙ get_front es more j (Claim p a) claim);
+}
+
 -- a longer history without a new note shows the same of a Close
 pub ends_longer : (starts : List Start) (es more longer : List Event) (i p a : ℕ) (o : Own) (card : CardSeen)
     (blob : BlobSeen) (leaf : LeafSeen) → longer ≡ es ++ more → noted more ≡ [] → slice_get es i ≡ Some (Close p a o)
@@ -120,9 +129,5 @@ ends_longer starts es more longer i p a o card blob leaf is quiet at h = record 
       let notes_are : notes starts d es ≡ notes starts d longer =
       sym (ap (notes starts d) is ∙ notes_quiet starts d es more quiet) in
       subst (λ (l : List Event). ServesCard required (fate_of p Untold l) card o blob leaf) notes_are
-      (h.served d required (record {
-        begun = from.begun;
-        unclaimed = λ j lt claim. from.unclaimed j lt
-            (ap (λ (l : List Event). slice_get l j) is ∙ get_front es more j (Claim p a) claim);
-      }));
+      (h.served d required (desk_before starts es more longer i p a d required is from));
 }

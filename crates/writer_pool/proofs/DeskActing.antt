@@ -175,7 +175,7 @@ module _ {B L : Type 0} (see : Sight B L) where
       (λ le. work_shown see d first more turns shown (i - length first) i e p a o (omega (arith, le))
       (sym (get_behind first more i le) ∙ at) is)
 
-  standing_same : (s0 s : SeatView Entry (Plan B L)) (required : Bool)
+  pub standing_same : (s0 s : SeatView Entry (Plan B L)) (required : Bool)
       → place_of (record { pass = s; required = required }) ≡ place_of (record { pass = s0; required = required })
       → standing_of see (record { pass = s; required = required })
       ≡ standing_of see (record { pass = s0; required = required })

@@ -1,6 +1,8 @@
 -- What a desk's own list shows of the cards that it closed.
 use Rattle.std.proofs.Common.{◌≡◌, ◌==◌, ◌⊎◌, ℕ, zero, suc, ◌+◌, ◌-◌, Bool, true, false, cond, List, [], ◌∷◌, map, Option, Some, None, refl, sym, ap, ◌∙◌, subst}
 use Rattle.std.specs.Prelude.{slice_get}
+use Rattle.edge_kit.specs.declared.leaf_state.LeafState.TheVariants.{Sealed}
+use Rattle.edge_kit.specs.declared.leaf_state.Mark.{Mark}
 use Rattle.convert_plan.specs.declared.card.Card.{Card}
 use Rattle.convert_plan.specs.Card.{CardSeen}
 use Rattle.checkout_core.specs.declared.event.Event.{Event}
@@ -20,10 +22,11 @@ use Rattle.checkout_book.specs.declared.plan.Parts.{Parts}
 use Rattle.checkout_book.specs.declared.plan.Entry.{Entry}
 use Rattle.checkout_book.specs.Sights.{Sight, seen}
 use Rattle.checkout_book.specs.Shelves.{cards_of}
+use Rattle.checkout_book.specs.Passes.{close_entry}
 use Rattle.checkout_book.specs.Reserving.{AreDealt}
 use Rattle.driver_desk.specs.Desks.{DeskView, IsDealt, AreThrough}
 use Rattle.driver_desk.specs.Recorders.{Standing, ShowsClose, Shows, AreShown, events_in, fate_now}
-use Rattle.driver_desk.specs.Serving.{Given, Closed}
+use Rattle.driver_desk.specs.Serving.{Given, Closed, IfSealed, AllSealed}
 use Rattle.driver_desk.specs.Shown.{ShowsRead, ShowsUnread}
 use Rattle.driver_desk.specs.Works.{card_paths}
 use Rattle.writer_pool.specs.Closing.{closed_card, ServesCard}
@@ -107,6 +110,12 @@ shows_at : (s : Standing) (given gs : List Given) (i : ℕ) (g : Given) → AreS
 shows_at s given [] i g all at = absurd (cc (at))
 shows_at s given (x ∷ gs) zero g all at = subst (Shows s given) (some_is x g at) all.0
 shows_at s given (x ∷ gs) (suc i) g all at = shows_at s given gs i g all.1 at
+
+sealed_at : (P : ℕ → Option (List ℕ) → Type 0) (gs : List Given) (i : ℕ) (g : Given) → AllSealed P gs
+    → slice_get gs i ≡ Some g → IfSealed P g
+sealed_at P [] i g all at = absurd (cc (at))
+sealed_at P (x ∷ gs) zero g all at = subst (IfSealed P) (some_is x g at) all.0
+sealed_at P (x ∷ gs) (suc i) g all at = sealed_at P gs i g all.1 at
 
 module _ {B L : Type 0} (see : Sight B L) where
   -- a Close of a desk that claimed nothing, in its own list
@@ -228,3 +237,20 @@ module _ {B L : Type 0} (see : Sight B L) where
             (seen see c.card) o (blob_in own.0) (leaf_in own.0)) events
             (card_served d n required given p o own.0 dealt c shows)));
       }
+
+  -- what holds of each leaf that the desk sealed
+  pub sealed_own : (d : Plan B L) (n : ℕ) (required : Bool) (desk : DeskView) (mine : List Entry)
+      → AreDealt d.starts.items 0 d.desks.items → CloseOwn d.starts.items (n - d.workers) mine
+      → IsDealt (standing_at see (Some d) n required) desk → (P : ℕ → Option (List ℕ) → Type 0)
+      → AllSealed P (given_in (standing_at see (Some d) n required).cards mine)
+      → (i p a : ℕ) (o : Own) (x : Parts) (m : Mark) → slice_get mine i ≡ Some (close_entry p a o x)
+      → x.state ≡ Sealed m → P p x.content
+  sealed_own d n required desk mine dealt closes of P all i p a o x m at sealed =
+      let q = n - d.workers in
+      let s = standing_at see (Some d) n required in
+      let e = close_entry p a o x in
+      let c = card_closed d n required desk p of (own_at d.starts.items q mine i e closes at) in
+      let here = subst (IfSealed P) (given_closed d q required e p a o x dealt refl refl c)
+      (sealed_at P (given_in s.cards mine) i (given_by s.cards e.event e.parts) all
+      (get_map (λ (z : Entry). given_by s.cards z.event z.parts) mine i e at)) in
+      subst (λ (z : ℕ). P z x.content) c.path (here m sealed)

@@ -18,7 +18,7 @@ use Rattle.checkout_book.specs.declared.plan.Plan.{Plan}
 use Rattle.checkout_book.specs.declared.plan.Parts.{Parts}
 use Rattle.checkout_book.specs.declared.plan.Entry.{Entry}
 use Rattle.checkout_book.specs.declared.shelf.Slot.{Slot}
-use Rattle.checkout_book.specs.declared.shelf.Slot.TheVariants.{Ended}
+use Rattle.checkout_book.specs.declared.shelf.Slot.TheVariants.{Away, Waits, Ended}
 use Rattle.checkout_book.specs.Shape.{Shelf}
 use Rattle.checkout_book.specs.Sights.{Sight, seen, tell}
 use Rattle.checkout_book.specs.Entries.{number_in, entries, entry_of, history_of, events_of, parts_at}
@@ -27,6 +27,7 @@ use Rattle.checkout_book.specs.Reserving.{IsFinished}
 use Rattle.writer_pool.specs.Closing.{IsFromBook, IsFromDesk, ServesCard, EndsCard}
 use Rattle.writer_pool.specs.Working.{blob_in, leaf_in, own_events}
 use Rattle.writer_pool.specs.Ends.{ShowsEnd, AreBack, IsQuiet}
+use Rattle.writer_pool.specs.Sealing.{SealsIn, SealsOn, leaf_in_slot}
 use Rattle.writer_pool.proofs.Places.{some_is, same_number, eqb_self, there_or_past, get_map, get_map_back}
 use Rattle.writer_pool.proofs.Closings.{own_notes}
 use Rattle.writer_pool.proofs.Resting.{TakesPath, ClosesPath, ended_at}
@@ -224,18 +225,20 @@ module _ {B L : Type 0} (see : Sight B L) where
       }
 
   -- a Close of the history is one of its actor's own list
-  close_shown : (lock : TableId) (d : Plan B L) (made : ℕ) (ts : List (SeatView Entry (Plan B L))) (s : Shelf B L)
-      → AreBack see lock d 0 made ts → IsFinished see d ts s → (i p a : ℕ) (o : Own) (b : B) (l : L)
-      → slice_get s.events.items i ≡ Some (Close p a o) → slice_get s.slots.items p ≡ Some (Ended b l)
-      → CardEnd d.starts.items s.events.items (cards_of d) i p a o b l
-  close_shown lock d made ts s back f i p a o b l at slot = ⊎_elim
+  own_close : (lock : TableId) (d : Plan B L) (made : ℕ) (ts : List (SeatView Entry (Plan B L))) (s : Shelf B L)
+      → AreBack see lock d 0 made ts → IsFinished see d ts s → (i p a : ℕ) (o : Own)
+      → slice_get s.events.items i ≡ Some (Close p a o)
+      → (x : SeatView Entry (Plan B L)) × (slice_get ts a ≡ Some x) × OwnClose d s (mine_of x) i p a o
+  own_close lock d made ts s back f i p a o at = ⊎_elim
       (λ (t : (x : SeatView Entry (Plan B L)) × (slice_get ts a ≡ Some x)).
       let k = back_at see lock d 0 made ts a t.0 back t.1 in
       let mine : own a h ≡ mine_of t.0 = f.mine a t.0 t.1 in
       let at_mine : slice_get (mine_of t.0) own_at.place ≡ Some e =
-      ap (λ (l : List Entry). slice_get l own_at.place) (sym mine) ∙ own_at.there in
-      own_end d s (mine_of t.0) i p a o b l f.plan
-      (record { is = mine; at = own_at; shown = k.1.shown own_at.place e p a o at_mine refl }) slot)
+      ap (λ (l : List Entry). slice_get l own_at.place) (sym mine) ∙ own_at.there in (
+        t.0,
+        t.1,
+        record { is = mine; at = own_at; shown = k.1.shown own_at.place e p a o at_mine refl },
+      ))
       (λ (past : length ts ≤ a).
       let none = f.none a past in
       let u : None ≡ Some e = sym (ap (λ (l : List Entry). slice_get l own_at.place) none) ∙ own_at.there in
@@ -251,6 +254,48 @@ module _ {B L : Type 0} (see : Sight B L) where
       own_at : OwnPlace h a i e
       own_at = own_place a h i e
           (entry_at s.starts.value.items s.workers s.slots.items s.events.items i (Close p a o) at)
+
+  close_shown : (lock : TableId) (d : Plan B L) (made : ℕ) (ts : List (SeatView Entry (Plan B L))) (s : Shelf B L)
+      → AreBack see lock d 0 made ts → IsFinished see d ts s → (i p a : ℕ) (o : Own) (b : B) (l : L)
+      → slice_get s.events.items i ≡ Some (Close p a o) → slice_get s.slots.items p ≡ Some (Ended b l)
+      → CardEnd d.starts.items s.events.items (cards_of d) i p a o b l
+  close_shown lock d made ts s back f i p a o b l at slot =
+      let c = own_close lock d made ts s back f i p a o at in
+      own_end d s (mine_of c.0) i p a o b l f.plan c.2 slot
+
+  slot_of : (o : Option (Slot B L)) (l : L) → leaf_in_slot o ≡ Some l → (b : B) × (o ≡ Some (Ended b l))
+  slot_of None l e = absurd (cc (e))
+  slot_of (Some Away) l e = absurd (cc (e))
+  slot_of (Some (Waits c)) l e = absurd (cc (e))
+  slot_of (Some (Ended b k)) l e = (b, ap (λ (z : L). Some (Ended b z)) (some_is k l e))
+
+  -- a leaf that a desk sealed, by the history, is one of those that its own list tells of
+  pub seals_own : (lock : TableId) (d : Plan B L) (made : ℕ) (ts : List (SeatView Entry (Plan B L))) (s : Shelf B L)
+      → AreBack see lock d 0 made ts → IsFinished see d ts s → (q : ℕ) (t : SeatView Entry (Plan B L))
+      → slice_get ts (d.workers + q) ≡ Some t → (p : ℕ) (told : Option (List ℕ)) → SealsOn see s q p told
+      → SealsIn (mine_of t) p told
+  seals_own lock d made ts s back f q t at p told z =
+      let c = own_close lock d made ts s back f z.place p z.actor z.own z.entry in
+      let own_from = own_desk d s (mine_of c.0) z.place p z.actor q z.required z.own c.2
+      (subst (λ (x : Plan B L). IsFromDesk x.starts.items s.events.items z.place p z.actor q z.required) f.plan
+      z.desk) in
+      let seat = c.2.shown.desk q z.required own_from in
+      let same : c.0 ≡ t = some_is c.0 t (sym c.1 ∙ (ap (slice_get ts) seat ∙ at)) in
+      let slot = slot_of (slice_get s.slots.items p) z.leaf z.there in
+      subst (λ (x : SeatView Entry (Plan B L)). SealsIn (mine_of x) p told) same (record {
+        place = c.2.at.place;
+        actor = z.actor;
+        own = z.own;
+        ended = tell see slot.0 z.leaf;
+        mark = z.mark;
+        here = ap (λ (l : List Entry). slice_get l c.2.at.place) (sym c.2.is)
+            ∙ (c.2.at.there
+            ∙ ap (λ (o : Option (Slot B L)).
+            Some (record { event = Close p z.actor z.own; parts = parts_at (tell see) o })) slot.1);
+        unclaimed = own_from.unclaimed;
+        sealed = z.sealed;
+        content = z.content;
+      })
 
   -- the desks left each path of their drivers
   all_left : (lock : TableId) (d : Plan B L) (made : ℕ) (ts : List (SeatView Entry (Plan B L))) (s : Shelf B L)

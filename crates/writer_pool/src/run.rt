@@ -42,7 +42,7 @@ pub fn pool_run<S: Starter, B: Blob + Send, L: Leaf + Send, G: Gate, H: Threads 
     ensures ends { IfOk result (λ r. AreEnds (sight B.told B.seen L.seen) starts.items r.history.items
         (pool.items ++ seed_cards desks.items) 0 starts.items r.blobs.items r.leaves.items) }
     ensures starters { IfOk result (λ r. AreStartersBack S.seen (sight B.told B.seen L.seen) starts.items
-        r.history.items 0 desks.items r.starters.items) }
+        r.history.items r.leaves.items 0 desks.items r.starters.items) }
     ensures talks { IfOk result (λ r. AreTalks starts.items r.history.items 0 r.talks.items) }
     ensures talk_count { IfOk result (λ r. length r.talks.items ≡ length desks.items) }
 {

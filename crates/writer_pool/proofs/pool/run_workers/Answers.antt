@@ -76,7 +76,7 @@ leave-requires-clause-through g c =
     let ps = c.in_ok-passes.passes.items in
     let all : made ≡ length ps = omega (arith, many, count, none) in (
       d,
-      c.end_all-ended.ensures d (subst (λ (m : ℕ). AreBack see c.in_ok-begun.begun.book d 0 m ps) all
+      c.end_all-ended.ensures.through d (subst (λ (m : ℕ). AreBack see c.in_ok-begun.begun.book d 0 m ps) all
           (c.in_ok-passes.ensures.back d made new)) (omega (arith, many, count, none)),
       omega (arith, c.requires.few_paths),
     )
@@ -99,7 +99,7 @@ returns-clause-run g c =
     let count = e.count in
     let ps = c.in_ok-passes.passes.items in
     let all : made ≡ length ps = omega (arith, many, count, none) in
-    let through = c.end_all-ended.ensures d (subst (λ (m : ℕ). AreBack see c.in_ok-begun.begun.book d 0 m ps) all
+    let through = c.end_all-ended.ensures.through d (subst (λ (m : ℕ). AreBack see c.in_ok-begun.begun.book d 0 m ps) all
     (c.in_ok-passes.ensures.back d made new)) (omega (arith, many, count, none)) in
     subst (λ (n : ℕ). IsRun c.args.starts.items c.args.workers n c.leave.result.history.items
     c.leave.result.verdicts.items) none (c.leave.ensures.run d through)
@@ -122,7 +122,7 @@ returns-clause-ends g c =
     let count = e.count in
     let ps = c.in_ok-passes.passes.items in
     let all : made ≡ length ps = omega (arith, many, count, none) in
-    let through = c.end_all-ended.ensures d (subst (λ (m : ℕ). AreBack see c.in_ok-begun.begun.book d 0 m ps) all
+    let through = c.end_all-ended.ensures.through d (subst (λ (m : ℕ). AreBack see c.in_ok-begun.begun.book d 0 m ps) all
     (c.in_ok-passes.ensures.back d made new)) (omega (arith, many, count, none)) in
     subst (λ (cs : List (Card g.row.B.Denot g.row.L.Denot)). AreEnds see c.args.starts.items
     c.leave.result.history.items cs 0 c.args.starts.items c.leave.result.blobs.items c.leave.result.leaves.items)

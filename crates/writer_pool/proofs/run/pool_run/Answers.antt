@@ -37,7 +37,7 @@ pub returns-clause-starters : goal.returns-clause-starters
 returns-clause-starters g c =
     let none = none_of c.args.desks.items (omega (arith, c.if-drivers-gt0.false, c.args.desks.ok.0)) in
     none_back g.S.Starter.seen (sight g.B.Blob.told g.B.Blob.seen g.L.Leaf.seen) c.args.starts.items
-    c.in_ok-ends.ends.history.items c.args.desks.items c.new.result.items none c.new.ensures.items
+    c.in_ok-ends.ends.history.items c.in_ok-ends.ends.leaves.items c.args.desks.items c.new.result.items none c.new.ensures.items
 
 pub returns-clause-talks : goal.returns-clause-talks
 returns-clause-talks g c =
