@@ -17,7 +17,7 @@ use Rattle.writer_pool.specs.Writing.{WritesCard}
 use Rattle.writer_pool.specs.Working.{AreTurns, IsShown, AreShown, Idled, blob_in, leaf_in, own_events}
 use Rattle.writer_pool.specs.Ends.{IsNewWorker, AreNewWorkers, ShowsEnd, IsShownAll, IsBack, AreBack}
 use Rattle.writer_pool.proofs.Places.{get_map, get_map_back, get_second}
-use Rattle.writer_pool.proofs.WorkTurns.{turns_claimed}
+use Rattle.writer_pool.proofs.WorkTurns.{turns_claimed, turns_back}
 
 -- a Close among what an actor did in turns, behind other entries, was claimed before
 pub turn_claim : (first more : List Entry) (i j p a : ℕ) (o : Own) → AreTurns (own_events more) → length first + i ≡ j
@@ -86,6 +86,9 @@ module _ {B L : Type 0} (see : Sight B L) where
         nothing = idled.worked.nothing;
         shown = subst (IsShownAll see d) (sym mine) (λ i e p a o at is.
             work_shown d [] idled.worked.more idled.worked.turns idled.worked.shown i i e p a o (omega arith) at is);
+        backs = λ i p q required at begun.
+            absurd (turns_back (own_events idled.worked.more) i p idled.worked.turns
+            (ap (λ (l : List Entry). slice_get (own_events l) i) (sym mine) ∙ at));
         left = λ q p lt desk own. absurd (omega (arith, worker, desk));
       }
 

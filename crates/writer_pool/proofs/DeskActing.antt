@@ -8,7 +8,7 @@ use Rattle.convert_plan.specs.Card.{CardSeen}
 use Rattle.checkout_core.specs.declared.path.Start.{Start}
 use Rattle.checkout_core.specs.declared.path.Start.TheVariants.{Pool}
 use Rattle.checkout_core.specs.declared.event.Event.{Event}
-use Rattle.checkout_core.specs.declared.event.Event.TheVariants.{Claim, Close}
+use Rattle.checkout_core.specs.declared.event.Event.TheVariants.{Claim, Close, HandBack}
 use Rattle.checkout_core.specs.Actors.{is_claim, driver_at, own_driver}
 use Rattle.checkout_core.specs.Desks.{paths_of, is_left, leaves}
 use Rattle.checkout_core.specs.Hands.{NoClaims, held_at}
@@ -27,15 +27,16 @@ use Rattle.driver_desk.specs.Desks.{DeskView, IsDealt, AreThrough}
 use Rattle.driver_desk.specs.Recorders.{Standing, events_in, times}
 use Rattle.driver_desk.specs.Serving.{Given, Noted, Closed, HandedBack}
 use Rattle.driver_desk.specs.Works.{card_paths}
-use Rattle.writer_pool.specs.Closing.{IsFromBook, ServesCard}
+use Rattle.writer_pool.specs.Closing.{IsFromBook, RefusedBacks, ServesCard}
 use Rattle.writer_pool.specs.Ends.{ShowsEnd, IsShownAll, IsBack}
 use Rattle.writer_pool.specs.OnBook.{given_in, CloseOwn, Recording, Place, place_of, IsDeskPass, standing_at, standing_of, given_of}
 use Rattle.writer_pool.specs.Working.{AreTurns, AreShown, IsReady, Idled, blob_in, leaf_in, own_events}
 use Rattle.writer_pool.proofs.Places.{some_is, get_map, get_map_back, get_within, get_behind, split}
+use Rattle.writer_pool.proofs.WorkTurns.{turns_back}
 use Rattle.writer_pool.proofs.Acting.{work_shown}
 use Rattle.writer_pool.proofs.Closings.{notes_quiet}
 use Rattle.writer_pool.proofs.Recordings.{AllBy, own_by, seat_is, standing_is, events_own}
-use Rattle.writer_pool.proofs.DeskClosings.{DeskClose, desk_closed}
+use Rattle.writer_pool.proofs.DeskClosings.{DeskClose, desk_closed, desk_refused}
 
 module _ {B L : Type 0} where
   -- a desk's pass of a book that begins
@@ -227,28 +228,51 @@ module _ {B L : Type 0} (see : Sight B L) where
       ap (is_left p) (sym (events_own see lock s required j))
       ∙ times_left x given p (λ z. omega (arith, one, z))
 
-  -- each Close of the desk that served shows how it served the card
-  served_closed : (lock : TableId) (s0 s : SeatView Entry (Plan B L)) (required : Bool) (j : IsDeskPass lock s)
+  -- what is known of a desk that served, by its plan
+  record Served (d : Plan B L) (n : ℕ) (required : Bool) (desk : DeskView) (mine : List Entry) : Type 0 where
+    pub dealt : IsDealt (standing_at see (Some d) n required) desk
+    pub by : AllBy d.starts.items d.workers n mine
+    pub through : AreThrough (standing_at see (Some d) n required)
+        (given_in (standing_at see (Some d) n required).cards mine)
+    pub events : events_in (standing_at see (Some d) n required)
+        (given_in (standing_at see (Some d) n required).cards mine) ≡ own_events mine
+
+  served_by : (lock : TableId) (s0 s : SeatView Entry (Plan B L)) (required : Bool) (j : IsDeskPass lock s)
       (desk : DeskView)
       → place_of (record { pass = s; required = required }) ≡ place_of (record { pass = s0; required = required })
       → IsDealt (standing_of see (record { pass = s0; required = required })) desk
       → AreThrough (standing_of see (record { pass = s; required = required }))
       (given_of see (record { pass = s; required = required }))
-      → (i : ℕ) (e : Entry) (p a : ℕ) (o : Own) → slice_get (mine_of s) i ≡ Some e → e.event ≡ Close p a o
-      → DeskClose see j.plan (number_of s - j.plan.workers) (own_events (mine_of s)) p a o e.parts
-  served_closed lock s0 s required j desk place dealt through =
-      let d = j.plan in
-      let n = number_of s in
-      let x = standing_at see (Some d) n required in
+      → Served j.plan (number_of s) required desk (mine_of s)
+  served_by lock s0 s required j desk place dealt through =
       let is = standing_is see lock s required j in
-      let of = subst (λ (y : Standing). IsDealt y desk)
-      (sym (standing_same s0 s required place) ∙ is) dealt in
-      let by_own = subst (AllBy d.starts.items d.workers n) (sym j.pass.seat.receipts)
-      (own_by d.starts.items d.workers n (seen_of s) j.pass.reads.stamped) in
-      desk_closed see d n required desk (mine_of s) (seat_is see lock s j) j.dealt j.own by_own of
-      (subst (λ (y : Standing). AreThrough y (given_in y.cards (mine_of s))) is through)
-      (subst (λ (y : Standing). events_in y (given_in y.cards (mine_of s)) ≡ own_events (mine_of s)) is
-      (events_own see lock s required j))
+      record {
+        dealt = subst (λ (y : Standing). IsDealt y desk) (sym (standing_same s0 s required place) ∙ is) dealt;
+        by = subst (AllBy j.plan.starts.items j.plan.workers (number_of s)) (sym j.pass.seat.receipts)
+            (own_by j.plan.starts.items j.plan.workers (number_of s) (seen_of s) j.pass.reads.stamped);
+        through = subst (λ (y : Standing). AreThrough y (given_in y.cards (mine_of s))) is through;
+        events = subst (λ (y : Standing). events_in y (given_in y.cards (mine_of s)) ≡ own_events (mine_of s)) is
+            (events_own see lock s required j);
+      }
+
+  -- a path that is handed back in the whole list was handed back by the desk
+  backs_more : (d : Plan B L) (first more : List Entry) → RefusedBacks d.starts.items (own_events first)
+      → noted (own_events more) ≡ [] → AreTurns (own_events more)
+      → RefusedBacks d.starts.items (own_events (first ++ more))
+  backs_more d first more backs quiet turns i p q required at begun =
+      let x = get_map_back (λ (z : Entry). z.event) (first ++ more) i (HandBack p) at in
+      split i (length first)
+      (λ lt.
+      let here = get_map (λ (z : Entry). z.event) first i x.0 (sym (get_within first more i lt) ∙ x.1)
+      ∙ ap (λ (z : Event). Some z) x.2 in
+      let r = backs i p q required here begun in
+      let same = ap (notes d.starts.items q) (map-append (λ (z : Entry). z.event) first more)
+      ∙ notes_quiet d.starts.items q (own_events first) (own_events more) quiet in
+      (r.0, r.1, ap (fate_of p Untold) same ∙ r.2))
+      (λ le.
+      absurd (turns_back (own_events more) (i - length first) p turns
+      (get_map (λ (z : Entry). z.event) more (i - length first) x.0 (sym (get_behind first more i le) ∙ x.1)
+      ∙ ap (λ (z : Event). Some z) x.2)))
 
   pub desk_back : (lock : TableId) (s0 s t : SeatView Entry (Plan B L)) (required : Bool) (i : IsDeskPass lock s0)
       (j : IsDeskPass lock s) (desk : DeskView)
@@ -259,6 +283,7 @@ module _ {B L : Type 0} (see : Sight B L) where
       → Idled see lock j.plan (number_of s) j.made s t → IsBack see lock i.plan (number_of s0) i.made t
   desk_back lock s0 s t required i j desk place dealt through idled =
       let w = idled.worked in
+      let v = served_by lock s0 s required j desk place dealt through in
       let free = subst NoClaims (events_own see lock s required j) through.claims in
       let number = ap (λ (p : Place B L). p.number) place in
       let made : j.made ≡ i.made =
@@ -267,7 +292,12 @@ module _ {B L : Type 0} (see : Sight B L) where
         nothing = w.nothing;
         shown = subst (IsShownAll see j.plan) (sym w.mine)
             (desk_shown j.plan (number_of s - j.plan.workers) (mine_of s) w.more free
-            (served_closed lock s0 s required j desk place dealt through) w.quiet w.turns w.shown);
+            (desk_closed see j.plan (number_of s) required desk (mine_of s) (seat_is see lock s j) j.dealt j.own v.by
+            v.dealt v.through v.events) w.quiet w.turns w.shown);
+        backs = subst (λ (l : List Entry). RefusedBacks j.plan.starts.items (own_events l)) (sym w.mine)
+            (backs_more j.plan (mine_of s) w.more
+            (desk_refused see j.plan (number_of s) required desk (mine_of s) v.by v.dealt v.through v.events) w.quiet
+            w.turns);
         left = λ q p lt seat own.
             let first = desk_left lock s0 s required j desk place dealt through q p seat own in
             ap (λ (l : List Entry). is_left p (own_events l)) w.mine

@@ -1,18 +1,18 @@
 -- What a desk's own list shows of the cards that it closed.
-use Rattle.std.proofs.Common.{◌≡◌, ◌==◌, ◌⊎◌, ℕ, zero, suc, ◌+◌, ◌-◌, Bool, true, false, cond, List, [], ◌∷◌, map, Option, Some, None, refl, sym, ap, ◌∙◌, subst}
+use Rattle.std.proofs.Common.{◌≡◌, ◌==◌, ◌⊎◌, ℕ, zero, suc, ◌+◌, ◌-◌, Bool, true, false, cond, List, [], ◌∷◌, map, Option, Some, None, refl, sym, ap, ◌∙◌, subst, arith}
 use Rattle.std.specs.Prelude.{slice_get}
 use Rattle.edge_kit.specs.declared.leaf_state.LeafState.TheVariants.{Sealed}
 use Rattle.edge_kit.specs.declared.leaf_state.Mark.{Mark}
 use Rattle.convert_plan.specs.declared.card.Card.{Card}
 use Rattle.convert_plan.specs.Card.{CardSeen}
 use Rattle.checkout_core.specs.declared.event.Event.{Event}
-use Rattle.checkout_core.specs.declared.event.Event.TheVariants.{Close}
+use Rattle.checkout_core.specs.declared.event.Event.TheVariants.{Close, HandBack}
 use Rattle.checkout_core.specs.declared.path.Heard.{Heard}
 use Rattle.checkout_core.specs.declared.path.Start.{Start}
 use Rattle.checkout_core.specs.declared.path.Start.TheVariants.{Pool, Desk, Done}
 use Rattle.checkout_core.specs.declared.verdict.Own.{Own}
 use Rattle.checkout_core.specs.States.{is_at}
-use Rattle.checkout_core.specs.Actors.{actor_of, driver_at, own_driver}
+use Rattle.checkout_core.specs.Actors.{actor_of, driver_at, own_driver, seat}
 use Rattle.checkout_core.specs.Desks.{paths_of}
 use Rattle.checkout_core.specs.Fates.{Fate, Untold, Known, fate_of}
 use Rattle.checkout_core.specs.Notes.{notes}
@@ -29,7 +29,7 @@ use Rattle.driver_desk.specs.Recorders.{Standing, ShowsClose, Shows, AreShown, e
 use Rattle.driver_desk.specs.Serving.{Given, Closed, IfSealed, AllSealed}
 use Rattle.driver_desk.specs.Shown.{ShowsRead, ShowsUnread}
 use Rattle.driver_desk.specs.Works.{card_paths}
-use Rattle.writer_pool.specs.Closing.{closed_card, ServesCard}
+use Rattle.writer_pool.specs.Closing.{RefusedBacks, closed_card, ServesCard}
 use Rattle.writer_pool.specs.OnBook.{card_of, closed_by, given_by, given_in, ClosesOwn, CloseOwn, desk_cards, standing_at}
 use Rattle.writer_pool.specs.Working.{blob_in, leaf_in, own_events}
 use Rattle.writer_pool.proofs.Places.{some_is, eqb_self, get_map, get_map_back}
@@ -116,6 +116,17 @@ sealed_at : (P : ℕ → Option (List ℕ) → Type 0) (gs : List Given) (i : �
 sealed_at P [] i g all at = absurd (cc (at))
 sealed_at P (x ∷ gs) zero g all at = subst (IfSealed P) (some_is x g at) all.0
 sealed_at P (x ∷ gs) (suc i) g all at = sealed_at P gs i g all.1 at
+
+-- the path that an actor hands back is its driver's
+back_driver : (starts : List Start) (workers n p : ℕ) → seat workers (driver_at starts p) ≡ Some n
+    → driver_at starts p ≡ Some (n - workers)
+back_driver starts workers n p e = go (driver_at starts p) e
+  where
+    go : (o : Option ℕ) → seat workers o ≡ Some n → o ≡ Some (n - workers)
+    go None e = absurd (cc (e))
+    go (Some q) e =
+        let is : workers + q ≡ n = some_is (workers + q) n e in
+        ap (λ (z : ℕ). Some z) (omega (arith, is))
 
 module _ {B L : Type 0} (see : Sight B L) where
   -- a Close of a desk that claimed nothing, in its own list
@@ -254,3 +265,33 @@ module _ {B L : Type 0} (see : Sight B L) where
       (sealed_at P (given_in s.cards mine) i (given_by s.cards e.event e.parts) all
       (get_map (λ (z : Entry). given_by s.cards z.event z.parts) mine i e at)) in
       subst (λ (z : ℕ). P z x.content) c.path (here m sealed)
+
+  -- what was handed back was refused
+  pub desk_refused : (d : Plan B L) (n : ℕ) (required : Bool) (desk : DeskView) (mine : List Entry)
+      → AllBy d.starts.items d.workers n mine → IsDealt (standing_at see (Some d) n required) desk
+      → AreThrough (standing_at see (Some d) n required)
+      (given_in (standing_at see (Some d) n required).cards mine)
+      → events_in (standing_at see (Some d) n required) (given_in (standing_at see (Some d) n required).cards mine)
+      ≡ own_events mine
+      → RefusedBacks d.starts.items (own_events mine)
+  desk_refused d n required desk mine by of through events i p k wanted at begun =
+      let q = n - d.workers in
+      let starts = d.starts.items in
+      let s = standing_at see (Some d) n required in
+      let given = given_in s.cards mine in
+      let x = get_map_back (λ (e : Entry). e.event) mine i (HandBack p) at in
+      let e = x.0 in
+      let actor = sym (ap (actor_of starts d.workers) x.2) ∙ by_at starts d.workers n mine i e by x.1 in
+      let driver = back_driver starts d.workers n p actor in
+      let c = card_closed d n required desk p of driver in
+      let back = subst (Shows s given) (ap (λ (f : Event). given_by s.cards f e.parts) x.2)
+      (shows_at s given given i (given_by s.cards e.event e.parts) through.shown
+      (get_map (λ (z : Entry). given_by s.cards z.event z.parts) mine i e x.1)) in
+      let start : Desk q required ≡ Desk k wanted =
+      some_is (Desk q required) (Desk k wanted) (sym c.begun ∙ begun) in
+      let same_driver : q ≡ k = cc (start) in
+      let same : required ≡ wanted = cc (start) in (
+        sym same ∙ back.free,
+        back.why,
+        sym (λ m. fate_of p Untold (notes starts (same_driver m) (events m))) ∙ back.told,
+      )

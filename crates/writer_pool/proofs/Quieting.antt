@@ -9,7 +9,8 @@ use Rattle.checkout_core.specs.declared.verdict.Own.{Own}
 use Rattle.checkout_core.specs.declared.path.Start.{Start}
 use Rattle.checkout_core.specs.declared.path.Start.TheVariants.{Pool}
 use Rattle.checkout_core.specs.declared.event.Event.{Event}
-use Rattle.checkout_core.specs.declared.event.Event.TheVariants.{Claim, Close}
+use Rattle.checkout_core.specs.declared.event.Event.TheVariants.{Claim, Close, HandBack}
+use Rattle.checkout_core.specs.Actors.{own_driver, seat}
 use Rattle.checkout_core.specs.Desks.{paths_of, leaves, is_left}
 use Rattle.checkout_core.specs.Fates.{Untold, fate_of}
 use Rattle.checkout_core.specs.Notes.{notes}
@@ -21,10 +22,10 @@ use Rattle.checkout_book.specs.declared.shelf.Slot.{Slot}
 use Rattle.checkout_book.specs.declared.shelf.Slot.TheVariants.{Away, Waits, Ended}
 use Rattle.checkout_book.specs.Shape.{Shelf}
 use Rattle.checkout_book.specs.Sights.{Sight, seen, tell}
-use Rattle.checkout_book.specs.Entries.{number_in, entries, entry_of, history_of, events_of, parts_at}
+use Rattle.checkout_book.specs.Entries.{number_or, number_in, entries, entry_of, history_of, events_of, parts_at}
 use Rattle.checkout_book.specs.Shelves.{cards_of, plan_of}
 use Rattle.checkout_book.specs.Reserving.{IsFinished}
-use Rattle.writer_pool.specs.Closing.{IsFromBook, IsFromDesk, ServesCard, EndsCard}
+use Rattle.writer_pool.specs.Closing.{IsFromBook, IsFromDesk, RefusedBacks, ServesCard, EndsCard}
 use Rattle.writer_pool.specs.Working.{blob_in, leaf_in, own_events}
 use Rattle.writer_pool.specs.Ends.{ShowsEnd, AreBack, IsQuiet}
 use Rattle.writer_pool.specs.Sealing.{SealsIn, SealsOn, leaf_in_slot}
@@ -193,6 +194,18 @@ module _ {B L : Type 0} (see : Sight B L) where
         (y.1 ∙ ap (λ (e : Event). Some e) (ap (λ (z : ℕ × Entry). z.1.event) y.2 ∙ x.2));
   }
 
+  -- the notes of a driver are those of its desk's own list
+  mine_notes : (d : Plan B L) (s : Shelf B L) (mine : List Entry) (q a : ℕ) → plan_of s ≡ d → a ≡ d.workers + q
+      → own a (history_of (tell see) s) ≡ mine
+      → notes d.starts.items q (own_events mine) ≡ notes d.starts.items q s.events.items
+  mine_notes d s mine q a plan seat is =
+      let desk : s.workers + q ≡ a = ap (λ (x : Plan B L). x.workers + q) plan ∙ sym seat in
+      let same : own (s.workers + q) (history_of (tell see) s) ≡ mine =
+      ap (λ (n : ℕ). own n (history_of (tell see) s)) desk ∙ is in
+      subst (λ (x : Plan B L). notes x.starts.items q (own_events mine) ≡ notes x.starts.items q s.events.items) plan
+      (ap (λ (es : List Entry). notes s.starts.value.items q (own_events es)) (sym same)
+      ∙ own_notes (tell see) s.starts.value.items s.workers q s.slots.items s.events.items)
+
   own_end : (d : Plan B L) (s : Shelf B L) (mine : List Entry) (i p a : ℕ) (o : Own) (b : B) (l : L)
       → plan_of s ≡ d → OwnClose d s mine i p a o → slice_get s.slots.items p ≡ Some (Ended b l)
       → CardEnd d.starts.items s.events.items (cards_of d) i p a o b l
@@ -211,49 +224,81 @@ module _ {B L : Type 0} (see : Sight B L) where
           wrote = λ from. ends.wrote (own_book d s mine i p a o c from);
           served = λ q required from.
               let own_from = own_desk d s mine i p a q required o c from in
-              let seat : s.workers + q ≡ a =
-              ap (λ (x : Plan B L). x.workers + q) plan ∙ sym (w.desk q required own_from) in
-              let same : own (s.workers + q) (history_of (tell see) s) ≡ mine =
-              ap (λ (n : ℕ). own n (history_of (tell see) s)) seat ∙ c.is in
-              let notes_are = subst (λ (x : Plan B L).
-              notes x.starts.items q (own_events mine) ≡ notes x.starts.items q s.events.items) plan
-              (ap (λ (es : List Entry). notes s.starts.value.items q (own_events es)) (sym same)
-              ∙ own_notes (tell see) s.starts.value.items s.workers q s.slots.items s.events.items) in
+              let notes_are = mine_notes d s mine q a plan (w.desk q required own_from) c.is in
               subst (λ (es : List Event). ServesCard required (fate_of p Untold es) (seen see w.card) o (see.blob b)
               (see.leaf l)) notes_are (ends.served q required own_from);
         };
       }
 
-  -- a Close of the history is one of its actor's own list
-  own_close : (lock : TableId) (d : Plan B L) (made : ℕ) (ts : List (SeatView Entry (Plan B L))) (s : Shelf B L)
-      → AreBack see lock d 0 made ts → IsFinished see d ts s → (i p a : ℕ) (o : Own)
-      → slice_get s.events.items i ≡ Some (Close p a o)
-      → (x : SeatView Entry (Plan B L)) × (slice_get ts a ≡ Some x) × OwnClose d s (mine_of x) i p a o
-  own_close lock d made ts s back f i p a o at = ⊎_elim
+  -- an entry of the history, in its actor's own list
+  record OwnEntry (s : Shelf B L) (ts : List (SeatView Entry (Plan B L))) (i a : ℕ) (e : Event) : Type 0 where
+    pub pass : SeatView Entry (Plan B L)
+    pub there : slice_get ts a ≡ Some pass
+    pub is : own a (history_of (tell see) s) ≡ mine_of pass
+    pub at : OwnPlace (history_of (tell see) s) a i (entry_of (tell see) s.slots.items e)
+    pub mine : slice_get (mine_of pass) at.place ≡ Some (entry_of (tell see) s.slots.items e)
+
+  own_entry : (d : Plan B L) (ts : List (SeatView Entry (Plan B L))) (s : Shelf B L) → IsFinished see d ts s
+      → (i a : ℕ) (e : Event) → slice_get s.events.items i ≡ Some e → number_in s.starts.value.items s.workers e ≡ a
+      → OwnEntry s ts i a e
+  own_entry d ts s f i a e at by = ⊎_elim
       (λ (t : (x : SeatView Entry (Plan B L)) × (slice_get ts a ≡ Some x)).
-      let k = back_at see lock d 0 made ts a t.0 back t.1 in
       let mine : own a h ≡ mine_of t.0 = f.mine a t.0 t.1 in
-      let at_mine : slice_get (mine_of t.0) own_at.place ≡ Some e =
-      ap (λ (l : List Entry). slice_get l own_at.place) (sym mine) ∙ own_at.there in (
-        t.0,
-        t.1,
-        record { is = mine; at = own_at; shown = k.1.shown own_at.place e p a o at_mine refl },
-      ))
+      record {
+        pass = t.0;
+        there = t.1;
+        is = mine;
+        at = own_at;
+        mine = ap (λ (l : List Entry). slice_get l own_at.place) (sym mine) ∙ own_at.there;
+      })
       (λ (past : length ts ≤ a).
       let none = f.none a past in
-      let u : None ≡ Some e = sym (ap (λ (l : List Entry). slice_get l own_at.place) none) ∙ own_at.there in
+      let u : None ≡ Some x = sym (ap (λ (l : List Entry). slice_get l own_at.place) none) ∙ own_at.there in
       absurd (cc (u)))
       (there_or_past ts a)
     where
       h : List (ℕ × Entry)
       h = history_of (tell see) s
 
-      e : Entry
-      e = entry_of (tell see) s.slots.items (Close p a o)
+      x : Entry
+      x = entry_of (tell see) s.slots.items e
 
-      own_at : OwnPlace h a i e
-      own_at = own_place a h i e
-          (entry_at s.starts.value.items s.workers s.slots.items s.events.items i (Close p a o) at)
+      own_at : OwnPlace h a i x
+      own_at = own_place a h i x
+          (entry_at s.starts.value.items s.workers s.slots.items s.events.items i e at
+          ∙ ap (λ (n : ℕ). Some (n, x)) by)
+
+  -- a Close of the history is one of its actor's own list
+  own_close : (lock : TableId) (d : Plan B L) (made : ℕ) (ts : List (SeatView Entry (Plan B L))) (s : Shelf B L)
+      → AreBack see lock d 0 made ts → IsFinished see d ts s → (i p a : ℕ) (o : Own)
+      → slice_get s.events.items i ≡ Some (Close p a o)
+      → (x : SeatView Entry (Plan B L)) × (slice_get ts a ≡ Some x) × OwnClose d s (mine_of x) i p a o
+  own_close lock d made ts s back f i p a o at =
+      let c = own_entry d ts s f i a (Close p a o) at refl in
+      let k = back_at see lock d 0 made ts a c.pass back c.there in (
+        c.pass,
+        c.there,
+        record {
+          is = c.is;
+          at = c.at;
+          shown = k.1.shown c.at.place (entry_of (tell see) s.slots.items (Close p a o)) p a o c.mine refl;
+        },
+      )
+
+  -- what a desk's own list says of what it handed back
+  finished_backs : (lock : TableId) (d : Plan B L) (made : ℕ) (ts : List (SeatView Entry (Plan B L)))
+      (s : Shelf B L) → AreBack see lock d 0 made ts → IsFinished see d ts s
+      → RefusedBacks d.starts.items s.events.items
+  finished_backs lock d made ts s back f i p q required at begun =
+      let driver = ap (λ (o : Option Start). elim o as (λ _. Option ℕ) [ None ↦ None | Some s ↦ own_driver s ]) begun in
+      let by = subst (λ (x : Plan B L). number_in x.starts.items x.workers (HandBack p) ≡ d.workers + q)
+      (sym f.plan) (ap (λ (o : Option ℕ). number_or (seat d.workers o)) driver) in
+      let c = own_entry d ts s f i (d.workers + q) (HandBack p) at by in
+      let k = back_at see lock d 0 made ts (d.workers + q) c.pass back c.there in
+      let r = k.1.backs c.at.place p q required
+      (get_map (λ (x : Entry). x.event) (mine_of c.pass) c.at.place (entry_of (tell see) s.slots.items (HandBack p))
+      c.mine) begun in
+      (r.0, r.1, ap (fate_of p Untold) (sym (mine_notes d s (mine_of c.pass) q (d.workers + q) f.plan refl c.is)) ∙ r.2)
 
   close_shown : (lock : TableId) (d : Plan B L) (made : ℕ) (ts : List (SeatView Entry (Plan B L))) (s : Shelf B L)
       → AreBack see lock d 0 made ts → IsFinished see d ts s → (i p a : ℕ) (o : Own) (b : B) (l : L)
@@ -326,6 +371,8 @@ module _ {B L : Type 0} (see : Sight B L) where
         f.sound.below f.sound.run
         (subst (λ (x : Plan B L). (q p : ℕ) → q < x.drivers → contains p (paths_of q x.starts.items) ≡ true
         → is_left p s.events.items ≡ true) (sym f.plan) (all_left lock d made ts s back long f));
+    backs = subst (λ (x : Plan B L). RefusedBacks x.starts.items s.events.items) (sym f.plan)
+        (finished_backs lock d made ts s back f);
     closed = λ i p a o at.
         let e = ended_at s.slots.items s.events.items i p a o f.sound.ended at in
         let c = subst (λ (x : Plan B L). CardEnd x.starts.items s.events.items (cards_of x) i p a o e.0 e.1)

@@ -10,9 +10,11 @@ use Rattle.checkout_core.specs.declared.path.PathState.{PathState}
 use Rattle.checkout_core.specs.declared.path.PathState.TheVariants.{Waiting, Held, Closed}
 use Rattle.checkout_core.specs.declared.path.Path.{Path}
 use Rattle.checkout_core.specs.declared.event.Event.{Event}
-use Rattle.checkout_core.specs.declared.event.Event.TheVariants.{Claim, Close}
+use Rattle.checkout_core.specs.declared.event.Event.TheVariants.{Claim, Close, HandBack}
 use Rattle.checkout_core.specs.States.{Core, with_state}
 use Rattle.checkout_core.specs.Steps.{step_of}
+use Rattle.checkout_core.specs.Fates.{Untold, fate_of}
+use Rattle.checkout_core.specs.Notes.{notes}
 use Rattle.checkout_core.specs.Hands.{is_held, held_at, Holds}
 use Rattle.core_laws.specs.Moves.{Moved, is_with_driver}
 use Rattle.checkout_book.specs.declared.plan.Plan.{Plan}
@@ -24,11 +26,11 @@ use Rattle.checkout_book.specs.Shelves.{plan_of, cards_of, IsPlanned, IsRow, Lie
 use Rattle.checkout_book.specs.Ending.{GoesOn}
 use Rattle.checkout_book.specs.Turns.{Turned, Claimed}
 use Rattle.writer_pool.specs.Writing.{WritesCard}
-use Rattle.writer_pool.specs.Closing.{IsFromDesk, EndsCard}
+use Rattle.writer_pool.specs.Closing.{IsFromDesk, RefusedBacks, EndsCard}
 use Rattle.writer_pool.specs.Ends.{IsQuiet}
 use Rattle.writer_pool.specs.Sealing.{SealsOn, leaf_in_slot}
 use Rattle.writer_pool.proofs.Places.{some_is, get_set_same, get_set_other, get_more, get_front, get_last, place_is}
-use Rattle.writer_pool.proofs.Closings.{desk_before, ends_longer, ends_claimed}
+use Rattle.writer_pool.proofs.Closings.{notes_quiet, desk_before, ends_longer, ends_claimed}
 use Rattle.writer_pool.proofs.CoreMoves.{moved_here, hands_moved, away_moved}
 use Rattle.writer_pool.proofs.WorkTurns.{shown}
 
@@ -185,6 +187,25 @@ module _ {B L : Type 0} (see : Sight B L) where
       is : w.path ≡ k.path
       is = ap (λ (y : CardSeen). y.path) kept
 
+  -- what was handed back was handed back before
+  rest_backs : (s0 s1 s2 : Shelf B L) (k w : Card B L) (o : Own) → IsQuiet see s0 → Claimed 0 s0 s1 k
+      → Turned (Close w.path 0 o) w.path (Ended w.blob w.leaf) s1 s2
+      → RefusedBacks (plan_of s2).starts.items s2.events.items
+  rest_backs s0 s1 s2 k w o quiet c turned = subst (λ (d : Plan B L). RefusedBacks d.starts.items s2.events.items)
+      (sym (turned.plan ∙ c.turned.plan)) (λ i p d required at begun. ⊎_elim
+      (λ (older : slice_get s1.events.items i ≡ Some (HandBack p)). ⊎_elim
+      (λ (oldest : slice_get s0.events.items i ≡ Some (HandBack p)).
+      let r = quiet.backs i p d required oldest begun in
+      let same = ap (notes (plan_of s0).starts.items d) (turn_events s0 s1 s2 k w o c turned)
+      ∙ notes_quiet (plan_of s0).starts.items d s0.events.items (Claim k.path 0 ∷ Close w.path 0 o ∷ []) refl in
+      (r.0, r.1, ap (fate_of p Untold) same ∙ r.2))
+      (λ (claim : (Claim k.path 0 ≡ HandBack p) × (i ≡ length s0.events.items)). absurd (let u = claim.0 in cc (u)))
+      (get_more s0.events.items (Claim k.path 0) i (HandBack p)
+      (ap (λ (l : List Event). slice_get l i) (sym c.turned.events) ∙ older)))
+      (λ (last : (Close w.path 0 o ≡ HandBack p) × (i ≡ length s1.events.items)). absurd (let u = last.0 in cc (u)))
+      (get_more s1.events.items (Close w.path 0 o) i (HandBack p)
+      (ap (λ (l : List Event). slice_get l i) (sym turned.events) ∙ at)))
+
   free : (b x h : Bool) → h ≡ false → cond b false (cond b x h) ≡ false
   free true x h e = refl
   free false x h e = e
@@ -208,6 +229,7 @@ module _ {B L : Type 0} (see : Sight B L) where
             (sym is)
             ∙ free (q == w.path) (is_held a (Held 0 h.raw)) (held_at s0.core a q) (quiet.hands a q)));
         away = away_moved s1.core s2.core w.path z.0 (Closed z.1) z.2 refl away1;
+        backs = rest_backs s0 s1 s2 k w o quiet c turned;
         closed = λ i p a x at. ⊎_elim
             (λ (older : slice_get s1.events.items i ≡ Some (Close p a x)). ⊎_elim
             (λ (oldest : slice_get s0.events.items i ≡ Some (Close p a x)).

@@ -17,7 +17,7 @@ use Rattle.checkout_core.specs.declared.verdict.Own.TheVariants as own
 use Rattle.checkout_core.specs.declared.verdict.Verdict.{Verdict}
 use Rattle.checkout_core.specs.declared.path.PathState.TheVariants.{Waiting}
 use Rattle.checkout_core.specs.declared.event.Event.{Event}
-use Rattle.checkout_core.specs.declared.event.Event.TheVariants.{Claim, Close}
+use Rattle.checkout_core.specs.declared.event.Event.TheVariants.{Claim, Close, HandBack}
 use Rattle.checkout_core.specs.States.{Core}
 use Rattle.checkout_core.specs.Verdicts.{held_close}
 use Rattle.checkout_core.specs.Actors.{is_step}
@@ -67,6 +67,14 @@ turns_claimed (c ∷ e ∷ es) (suc (suc i)) p a o h at =
     let r = turns_claimed es i p a o h.1 at in
     let less = r.1 in
     (suc (suc r.0), omega (arith, less), r.2)
+
+-- no path is handed back in turns
+pub turns_back : (es : List Event) (i p : ℕ) → AreTurns es → slice_get es i ≡ Some (HandBack p) → ⊥
+turns_back [] i p h at = cc (at)
+turns_back (c ∷ []) i p h at = h
+turns_back (c ∷ e ∷ es) zero p h at = let t = h.0 in let claim = t.3 in cc (at, claim)
+turns_back (c ∷ e ∷ es) (suc zero) p h at = let t = h.0 in let close = t.4 in cc (at, close)
+turns_back (c ∷ e ∷ es) (suc (suc i)) p h at = turns_back es i p h.1 at
 
 -- what was prepared for a card that was claimed is its own
 ready_is_prepared : (card : CardSeen) (raw : Option FilterCause) (ready : Option Prepared)

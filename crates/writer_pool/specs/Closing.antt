@@ -1,12 +1,14 @@
 -- What a Close shows of a card, by who closed it: an actor that had the card from the book, or the desk of its driver.
-use Rattle.std.specs.Prelude.{◌≡◌, ◌⊎◌, ◌<◌, ℕ, Bool, List, None, Some, slice_get}
+use Rattle.std.specs.Prelude.{◌≡◌, ◌⊎◌, ◌<◌, ℕ, Bool, false, List, None, Some, slice_get}
 use Rattle.edge_kit.specs.Seen.{BlobSeen, LeafSeen}
 use Rattle.convert_plan.specs.Card.{CardSeen}
 use Rattle.checkout_core.specs.declared.event.Event.{Event}
-use Rattle.checkout_core.specs.declared.event.Event.TheVariants.{Claim}
+use Rattle.checkout_core.specs.declared.event.Event.TheVariants.{Claim, HandBack}
 use Rattle.checkout_core.specs.declared.path.Heard.{Heard}
+use Rattle.checkout_core.specs.declared.path.Heard.TheVariants.{Refused}
 use Rattle.checkout_core.specs.declared.path.Start.{Start}
 use Rattle.checkout_core.specs.declared.path.Start.TheVariants.{Pool, Desk}
+use Rattle.checkout_core.specs.declared.verdict.FilterCause.{FilterCause}
 use Rattle.checkout_core.specs.declared.verdict.Own.{Own}
 use Rattle.checkout_core.specs.Fates.{Fate, Untold, Known, fate_of}
 use Rattle.checkout_core.specs.Notes.{notes}
@@ -25,6 +27,17 @@ pub record IsFromDesk (starts : List Start) (history : List Event) (place p acto
     : Type 0 where
   pub begun : slice_get starts p ≡ Some (Desk d required)
   pub unclaimed : (j : ℕ) → j < place → slice_get history j ≡ Some (Claim p actor) → ⊥
+
+-- The driver of the desk at which the path starts isn't required, and refused the path, as its notes in the history
+-- tell.
+abbrev pub WasRefused : List Start → List Event → ℕ → ℕ → Bool → Type 0
+WasRefused starts history p d required = (required ≡ false) × (why : FilterCause)
+    × (fate_of p Untold (notes starts d history) ≡ Known (Refused why))
+
+-- each path that was handed back was refused so
+abbrev pub RefusedBacks : List Start → List Event → Type 0
+RefusedBacks starts history = (i p d : ℕ) (required : Bool) → slice_get history i ≡ Some (HandBack p)
+    → slice_get starts p ≡ Some (Desk d required) → WasRefused starts history p d required
 
 -- the planned card as its desk closes it: with this blob and this leaf, and with nothing prepared
 abbrev pub closed_card : CardSeen → BlobSeen → LeafSeen → CardSeen

@@ -27,7 +27,7 @@ use Rattle.checkout_book.specs.Shelves.{cards_of, plan_of}
 use Rattle.checkout_book.specs.Ending.{GoesOn}
 use Rattle.checkout_book.specs.Turns.{NoneWaits}
 use Rattle.checkout_book.specs.Reserving.{HasNothing}
-use Rattle.writer_pool.specs.Closing.{IsFromDesk, EndsCard}
+use Rattle.writer_pool.specs.Closing.{IsFromBook, IsFromDesk, WasRefused, RefusedBacks, EndsCard}
 use Rattle.writer_pool.specs.Working.{IsReady, blob_in, leaf_in, own_events}
 
 -- the history is a complete run, with these verdicts
@@ -67,14 +67,17 @@ module _ {B L : Type 0} (see : Sight B L) where
     pub desk : (q : ℕ) (required : Bool) → IsFromDesk d.starts.items mine place p actor q required
         → actor ≡ d.workers + q
 
+  -- each Close in an actor's own list does
   abbrev pub IsShownAll : Plan B L → List Entry → Type 0
   IsShownAll d mine = (i : ℕ) (e : Entry) (p a : ℕ) (o : Own) → slice_get mine i ≡ Some e → e.event ≡ Close p a o
       → ShowsEnd d (own_events mine) i p a o e.parts
 
-  -- A pass that came back with nothing in hand. A desk closed each path of its driver, or handed it back.
+  -- A pass that came back with nothing in hand. A desk closed each path of its driver, or handed it back because the
+  -- driver refused it.
   pub record IsBack (lock : TableId) (d : Plan B L) (n made : ℕ) (s : SeatView Entry (Plan B L)) : Type 0 where
     pub nothing : HasNothing lock d n made s
     pub shown : IsShownAll d (mine_of s)
+    pub backs : RefusedBacks d.starts.items (own_events (mine_of s))
     pub left : (q p : ℕ) → q < d.drivers → n ≡ d.workers + q → contains p (paths_of q d.starts.items) ≡ true
         → is_left p (own_events (mine_of s)) ≡ true
 
@@ -83,7 +86,7 @@ module _ {B L : Type 0} (see : Sight B L) where
   AreBack lock d k made (s ∷ ss) = IsBack lock d k made s × AreBack lock d (suc k) 0 ss
 
   -- The blob and the leaf are those of the card. The history has the Close of its path, and what is seen of them shows
-  -- how the card ended.
+  -- how the card ended. If the path starts at a desk, an actor had its card from the book only after it was refused.
   pub record IsClosedSo (starts : List Start) (history : List Event) (card : Card B L) (blob : B) (leaf : L)
       : Type 0 where
     pub actor : ℕ
@@ -94,6 +97,8 @@ module _ {B L : Type 0} (see : Sight B L) where
     pub name : (see.blob blob).name ≡ (see.blob card.blob).name
     pub path : (see.leaf leaf).path ≡ (see.leaf card.leaf).path
     pub ends : EndsCard starts history place card.path actor own (seen see card) (see.blob blob) (see.leaf leaf)
+    pub refused : (d : ℕ) (required : Bool) → slice_get starts card.path ≡ Some (Desk d required)
+        → IsFromBook starts history place card.path actor → WasRefused starts history card.path d required
 
   module _ (starts : List Start) (history : List Event) (cards : List (Card B L)) where
     -- the blob and the leaf of the card of the path p
@@ -115,6 +120,7 @@ module _ {B L : Type 0} (see : Sight B L) where
     pub goes_on : GoesOn see s
     pub hands : (a q : ℕ) → held_at s.core a q ≡ false
     pub away : NoneWithDriver s.core
+    pub backs : RefusedBacks (plan_of s).starts.items s.events.items
     pub closed : (i p a : ℕ) (o : Own) → slice_get s.events.items i ≡ Some (Close p a o)
         → (b : B) × (l : L) × (slice_get s.slots.items p ≡ Some (Ended b l))
         × (k : ℕ) × (card : Card B L) × (slice_get (cards_of (plan_of s)) k ≡ Some card) × (card.path ≡ p)

@@ -147,6 +147,10 @@ pub(crate) fn leave<B: Blob, L: Leaf>(
         (leaf_at d.starts.items result.leaves.items) q p told
         → SealsOn (sight B.told B.seen L.seen) ended.shelf q p told }
 {
+    laws::a_claim_takes_its_path();
+    laws::a_close_closes_its_path();
+    laws::a_path_that_is_handed_back_waits();
+    laws::a_note_keeps_paths_with_their_driver();
     laws::a_verdict_is_what_is_told();
     laws::a_history_keeps_its_size();
     laws::a_history_is_short();

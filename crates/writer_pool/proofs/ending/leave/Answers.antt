@@ -61,7 +61,12 @@ returns-clause-ends g c d t pool dealt =
     let L = g.row.L.Denot in
     let s = c.args.ended.shelf in
     let slots = slots_count see c.a_history_keeps_its_size.ensures d s t in
-    let ends = ends_are see c.a_verdict_is_what_is_told.ensures d s t (fitting d pool dealt) slots in
+    let ends = ends_are see (record {
+      takes = c.a_claim_takes_its_path.ensures;
+      closes = c.a_close_closes_its_path.ensures;
+      backs = c.a_path_that_is_handed_back_waits.ensures;
+      keeps = c.a_note_keeps_paths_with_their_driver.ensures;
+    }) c.a_verdict_is_what_is_told.ensures d s t (fitting d pool dealt) slots in
     let blobs = c.apart-blobs.ensures.blobs ∙ ap (map (λ (x : B × L). x.0)) c.into_parts.ensures.parts in
     let leaves = c.apart-blobs.ensures.leaves ∙ ap (map (λ (x : B × L). x.1)) c.into_parts.ensures.parts in
     subst (λ (h : List Event). AreEnds see d.starts.items h (cards_of d) 0 d.starts.items
@@ -80,7 +85,12 @@ returns-clause-seals g c d t pool dealt q p told z =
     let s = c.args.ended.shelf in
     let slots = slots_count see c.a_history_keeps_its_size.ensures d s t in
     let leaves = c.apart-blobs.ensures.leaves ∙ ap (map (λ (x : B × L). x.1)) c.into_parts.ensures.parts in
-    seals_there see c.a_verdict_is_what_is_told.ensures d s t (fitting d pool dealt) slots q p told
+    seals_there see (record {
+      takes = c.a_claim_takes_its_path.ensures;
+      closes = c.a_close_closes_its_path.ensures;
+      backs = c.a_path_that_is_handed_back_waits.ensures;
+      keeps = c.a_note_keeps_paths_with_their_driver.ensures;
+    }) c.a_verdict_is_what_is_told.ensures d s t (fitting d pool dealt) slots q p told
     (subst (λ (ls : List L). SealsAt see d.starts.items s.events.items (leaf_at d.starts.items ls) q p told) leaves
     (subst (λ (h : List Event). SealsAt see d.starts.items h (leaf_at d.starts.items c.apart-blobs.result.1.items) q p
     told) (c.copied-history.ensures ∙ c.history.ensures) z))
