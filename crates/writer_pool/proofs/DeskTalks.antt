@@ -100,25 +100,6 @@ abbrev pub TranscriptIsTalk : Type 0
 TranscriptIsTalk = (d : ℕ) (paths : List ℕ) (items : List result.Item) → result.IsTalk paths items
     → (t : Talk) × (talk_run d (Between paths) (result.notes_of d items) ≡ Some t) × IsOver t
 
--- the same talk told of other notes that are equal, and of leaves that were sealed before
-pub talked_of : (d : ℕ) (paths : Paths) (asked : List ℕ) (old new : StarterSeen) (xs ys : List Event)
-    (P Q : ℕ → Option (List ℕ) → Type 0) → xs ≡ ys → ((p : ℕ) (told : Option (List ℕ)) → Q p told → P p told)
-    → HasTalked d paths asked old new xs P → HasTalked d paths asked old new ys Q
-talked_of d paths asked old new xs ys P Q same within h = record {
-  items = h.items;
-  exchanges = h.exchanges;
-  results = h.results;
-  kept = h.kept;
-  starts = h.starts;
-  links = h.links;
-  stays = h.stays;
-  talk = h.talk;
-  whole = h.whole;
-  same = h.same;
-  noted_is = sym same ∙ h.noted_is;
-  answers = λ p told seals. h.answers p told (within p told seals);
-}
-
 module _ {B L : Type 0} (see : Sight B L) where
   -- the leaves that the pass sealed without a claim are those that its desk sealed
   desk_answered : (lock : TableId) (s0 s : SeatView Entry (Plan B L)) (more : List Entry) (required : Bool)
