@@ -21,7 +21,13 @@ use std::thread::Threads;
 ///
 /// The cards are new, in path order, and those that `starts` names. `NoMemory` is the only error. No desk is run yet:
 /// where there is a driver, the answer is `NoMemory`.
-pub fn pool_run<S: Starter, B: Blob + Send, L: Leaf + Send, G: Gate, H: Threads + Wait + Sync>(
+pub fn pool_run<
+    S: Starter + Send,
+    B: Blob + Send,
+    L: Leaf + Send,
+    G: Gate,
+    H: Threads + Wait + Sync,
+>(
     rt: &H,
     alloc: Global,
     pool: Vec<Card<B, L>>,
