@@ -8,7 +8,9 @@ pub mod Acting
 pub mod Verdicts
 pub mod Quieting
 pub mod Outcomes
-pub mod Alone
+pub mod Dealing
+pub mod Noting
 pub mod Recordings
 pub mod DeskActing
 pub mod DeskTalks
+pub mod Pooling

@@ -27,7 +27,7 @@ use Rattle.checkout_book.specs.Ending.{GoesOn}
 use Rattle.checkout_book.specs.Turns.{NoneWaits}
 use Rattle.checkout_book.specs.Reserving.{HasNothing}
 use Rattle.writer_pool.specs.Writing.{WritesCard}
-use Rattle.writer_pool.specs.Working.{IsShown, IsReady, own_events}
+use Rattle.writer_pool.specs.Working.{IsShown, own_events}
 
 -- the history is a complete run, with these verdicts
 pub record IsRun (starts : List Start) (workers drivers : ℕ) (history : List Event) (verdicts : List Verdict)
@@ -48,16 +48,6 @@ IsFromBook starts history place p actor = (slice_get starts p ≡ Some Pool)
     ⊎ ((j : ℕ) × (j < place) × (slice_get history j ≡ Some (Claim p actor)))
 
 module _ {B L : Type 0} (see : Sight B L) where
-  -- A worker's pass that has done nothing yet, of a book with new cards.
-  pub record IsNewWorker (lock : TableId) (d : Plan B L) (n made : ℕ) (s : SeatView Entry (Plan B L)) : Type 0 where
-    pub ready : IsReady see lock d n made s
-    pub fresh : mine_of s ≡ []
-    pub worker : n < d.workers
-
-  abbrev pub AreNewWorkers : TableId → Plan B L → ℕ → ℕ → List (SeatView Entry (Plan B L)) → Type 0
-  AreNewWorkers lock d k made [] = Unit {0}
-  AreNewWorkers lock d k made (s ∷ ss) = IsNewWorker lock d k made s × AreNewWorkers lock d (suc k) 0 ss
-
   -- each Close in an actor's own list, of a card from the book, shows how the writing of the card ended
   abbrev pub IsShownAll : Plan B L → List Entry → Type 0
   IsShownAll d mine = (i : ℕ) (e : Entry) (p a : ℕ) (o : Own) → slice_get mine i ≡ Some e → e.event ≡ Close p a o

@@ -4,3 +4,6 @@ pub mod Rooms
 pub mod Ends
 pub mod Pools
 pub mod OnBook
+pub mod Talks
+pub mod Dealing
+pub mod Jobs

@@ -1,4 +1,6 @@
-use Rattle.std.proofs.Common.{◌≡◌, ◌-◌, ◌*◌, length}
+use Rattle.std.proofs.Common.{◌≡◌, ◌-◌, ◌*◌, ℕ, List, length}
+use Rattle.checkout_core.specs.declared.path.Start.{Start}
+use Rattle.checkout_core.specs.Notes.{notes}
 use Rattle.checkout_book.specs.Sights.{sight}
 use Rattle.checkout_book.specs.Shelves.{plan_of}
 use Rattle.writer_pool.specs.Ends.{IsQuiet}
@@ -8,6 +10,8 @@ abbrev pub invariant-loop-card : goal.invariant-loop-card
 invariant-loop-card g l = record {
   quiet : IsQuiet (sight g.B.Blob.told g.B.Blob.seen g.L.Leaf.seen) l.ended.shelf;
   plan : plan_of l.ended.shelf ≡ plan_of l.fn.ended.shelf;
+  notes : (starts : List Start) (d : ℕ) → notes starts d l.ended.shelf.events.items
+      ≡ notes starts d l.fn.ended.shelf.events.items;
 }
 
 abbrev pub decreases-loop-card : goal.decreases-loop-card

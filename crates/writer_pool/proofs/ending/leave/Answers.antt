@@ -70,3 +70,6 @@ returns-clause-ends g c d t pool dealt =
     c.apart-blobs.result.0.items ls) (sym leaves)
     (subst (λ (bs : List B). AreEnds see d.starts.items s.events.items (cards_of d) 0 d.starts.items bs
     (map (λ (x : B × L). x.1) (parts_in s.slots.items))) (sym blobs) ends))
+
+pub returns-clause-history : goal.returns-clause-history
+returns-clause-history g c = c.copied-history.ensures ∙ c.history.ensures
