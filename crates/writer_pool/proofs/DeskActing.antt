@@ -40,7 +40,7 @@ use Rattle.writer_pool.proofs.DeskClosings.{DeskClose, desk_closed, desk_refused
 
 module _ {B L : Type 0} where
   -- a desk's pass of a book that begins
-  pub new_desk : (lock : TableId) (d : Plan B L) (n made : ℕ) (s : SeatView Entry (Plan B L)) → d.workers ≤ n
+  unfoldable pub new_desk : (lock : TableId) (d : Plan B L) (n made : ℕ) (s : SeatView Entry (Plan B L)) → d.workers ≤ n
       → AreDealt d.starts.items 0 d.desks.items → HasNothing lock d n made s → mine_of s ≡ [] → IsDeskPass lock s
   new_desk lock d n made s le dealt nothing fresh =
       let named : number_of s ≡ n = nothing.1.seat.named in

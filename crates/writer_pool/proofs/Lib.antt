@@ -5,12 +5,15 @@ pub mod CoreMoves
 pub mod Resting
 pub mod Rows
 pub mod Dealt
+pub mod Talked
 pub mod Acting
 pub mod Verdicts
 pub mod Quieting
 pub mod Outcomes
-pub mod Alone
+pub mod Dealing
+pub mod Noting
 pub mod Recordings
 pub mod DeskClosings
 pub mod DeskActing
 pub mod DeskTalks
+pub mod Pooling

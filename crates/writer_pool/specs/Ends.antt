@@ -28,7 +28,7 @@ use Rattle.checkout_book.specs.Ending.{GoesOn}
 use Rattle.checkout_book.specs.Turns.{NoneWaits}
 use Rattle.checkout_book.specs.Reserving.{HasNothing}
 use Rattle.writer_pool.specs.Closing.{IsFromBook, IsFromDesk, WasRefused, RefusedBacks, EndsCard}
-use Rattle.writer_pool.specs.Working.{IsReady, blob_in, leaf_in, own_events}
+use Rattle.writer_pool.specs.Working.{blob_in, leaf_in, own_events}
 
 -- the history is a complete run, with these verdicts
 pub record IsRun (starts : List Start) (workers drivers : ℕ) (history : List Event) (verdicts : List Verdict)
@@ -43,16 +43,6 @@ abbrev pub NoneWithDriver : Core → Type 0
 NoneWithDriver c = (p : ℕ) (r : Path) → slice_get c.paths p ≡ Some r → is_with_driver r.state ≡ false
 
 module _ {B L : Type 0} (see : Sight B L) where
-  -- A worker's pass that has done nothing yet, of a book with new cards.
-  pub record IsNewWorker (lock : TableId) (d : Plan B L) (n made : ℕ) (s : SeatView Entry (Plan B L)) : Type 0 where
-    pub ready : IsReady see lock d n made s
-    pub fresh : mine_of s ≡ []
-    pub worker : n < d.workers
-
-  abbrev pub AreNewWorkers : TableId → Plan B L → ℕ → ℕ → List (SeatView Entry (Plan B L)) → Type 0
-  AreNewWorkers lock d k made [] = Unit {0}
-  AreNewWorkers lock d k made (s ∷ ss) = IsNewWorker lock d k made s × AreNewWorkers lock d (suc k) 0 ss
-
   -- The Close of a path at this place of an actor's own list has the blob and the leaf of the path's card, and shows how
   -- the card ended. If the card never left its desk, the actor is this desk: the desks come after the workers.
   pub record ShowsEnd (d : Plan B L) (mine : List Event) (place p actor : ℕ) (o : Own) (parts : Option Parts)

@@ -6,3 +6,6 @@ pub mod Ends
 pub mod Sealing
 pub mod Pools
 pub mod OnBook
+pub mod Talks
+pub mod Dealing
+pub mod Jobs

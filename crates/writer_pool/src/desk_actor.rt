@@ -25,13 +25,13 @@ use std::alloc::Global;
 use std::sync::Wait;
 
 /// What a desk leaves: its pass, and what is left of the desk itself.
-pub struct DeskEnd<S: Starter, B: Blob, L: Leaf> {
+pub(crate) struct DeskEnd<S: Starter, B: Blob, L: Leaf> {
     pub pass: Pass<B, L>,
     pub served: Served<S>,
 }
 
 /// Serves the cards of a desk over a book. `required` says whether its driver is required.
-pub fn serve_desk<S: Starter, B: Blob, L: Leaf, G: Gate, H: Wait>(
+pub(crate) fn serve_desk<S: Starter, B: Blob, L: Leaf, G: Gate, H: Wait>(
     rt: &H,
     book: &Book<B, L>,
     gate: &G,
@@ -64,7 +64,7 @@ pub fn serve_desk<S: Starter, B: Blob, L: Leaf, G: Gate, H: Wait>(
 
 /// Serves the cards of a desk over a book, and then works until no card waits. `required` says whether its driver is
 /// required.
-pub fn run_desk<S: Starter, B: Blob, L: Leaf, G: Gate, H: Wait>(
+pub(crate) fn run_desk<S: Starter, B: Blob, L: Leaf, G: Gate, H: Wait>(
     rt: &H,
     alloc: Global,
     book: &Book<B, L>,

@@ -1,6 +1,8 @@
 //! What the actors of a checkout leave, after all of them came back.
 ghost use Rattle.std.specs.Prelude.{◌≡◌, ◌≤◌, ◌<◌, ◌+◌, ℕ, List, [], Option, Some, length, map, slice_get, vec_capacity};
 ghost use Rattle.turn_lock.specs.Seat.{SeatView, mine_of};
+ghost use Rattle.checkout_core.specs.declared.path.Start.{Start};
+ghost use Rattle.checkout_core.specs.Notes.{noted, notes};
 ghost use Rattle.checkout_core.specs.States.{verdict_at};
 ghost use Rattle.checkout_core.specs.Closes.{IsComplete};
 ghost use Rattle.checkout_book.specs.declared.plan.Plan.{Plan};
@@ -12,6 +14,7 @@ ghost use Rattle.checkout_book.specs.Reserving.{ArePool, AreDealt};
 ghost use Rattle.writer_pool.specs.Ends.{AreBack, AreEnds, IsQuiet, IsRun, IsThrough};
 ghost use Rattle.writer_pool.specs.Rooms.{HasRoom};
 ghost use Rattle.writer_pool.specs.Sealing.{SealsIn, SealsAt, SealsOn, leaf_at};
+ghost use Rattle.writer_pool.specs.Working.{own_events};
 
 use crate::path_ends::PathEnds;
 use crate::writing::{Written, write_card};
@@ -31,6 +34,8 @@ pub(crate) fn close_rest<B: Blob, L: Leaf>(alloc: Global, ended: &mut Ended<B, L
     ensures none { NoneWaits ended.new.shelf.core }
     ensures seals { (q p : ℕ) (told : Option (List ℕ)) → SealsOn (sight B.told B.seen L.seen) ended.new.shelf q p told
         → SealsOn (sight B.told B.seen L.seen) ended.old.shelf q p told }
+    ensures notes { (starts : List Start) (d : ℕ) → notes starts d ended.new.shelf.events.items
+        ≡ notes starts d ended.old.shelf.events.items }
 {
     laws::a_path_in_hand_may_be_closed();
     laws::a_claim_takes_its_path();
@@ -60,7 +65,12 @@ pub(crate) fn end_all<B: Blob, L: Leaf>(
         → (q : ℕ) (s : SeatView Entry (Plan B L)) → slice_get passes.items (d.workers + q) ≡ Some s
         → (p : ℕ) (told : Option (List ℕ)) → SealsOn (sight B.told B.seen L.seen) result.shelf q p told
         → SealsIn (mine_of s) p told }
+    ensures notes { (d : Plan B L)
+        → AreBack (sight B.told B.seen L.seen) book d 0 (length passes.items) passes.items
+        → (q : ℕ) (s : SeatView Entry (Plan B L)) → slice_get passes.items (d.workers + q) ≡ Some s
+        → notes d.starts.items q result.shelf.events.items ≡ noted (own_events (mine_of s)) }
 {
+    laws::notes_are_own_entries();
     laws::a_desk_that_is_through_keeps_no_path();
     laws::a_claim_takes_its_path();
     laws::a_close_closes_its_path();
@@ -146,6 +156,7 @@ pub(crate) fn leave<B: Blob, L: Leaf>(
         → SealsAt (sight B.told B.seen L.seen) d.starts.items result.history.items
         (leaf_at d.starts.items result.leaves.items) q p told
         → SealsOn (sight B.told B.seen L.seen) ended.shelf q p told }
+    ensures history { result.history.items ≡ ended.shelf.events.items }
 {
     laws::a_claim_takes_its_path();
     laws::a_close_closes_its_path();

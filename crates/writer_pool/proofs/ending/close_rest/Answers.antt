@@ -7,6 +7,7 @@ use Rattle.checkout_book.specs.Shelves.{cards_of, IsOut, plan_of}
 use Rattle.writer_pool.proofs.WorkTurns.{planned_to_write, held_may_close, out_again}
 use Rattle.writer_pool.proofs.CoreMoves.{held_here}
 use Rattle.writer_pool.proofs.Resting.{in_hand, rest_turn, rest_seals}
+use Rattle.writer_pool.proofs.Noting.{turn_quiet}
 use Rattle.writer_pool.proofs.ending.close_rest.Goals as goal
 
 pub take_waiting-requires : goal.take_waiting-requires
@@ -64,4 +65,9 @@ loop-card-preserved g c =
           c.take_waiting.new.self.shelf c.close.new.self.shelf c.in-Some.card c.write_card-card.result.card
           c.write_card-card.result.own c.loop-card.invariant.quiet c.in-Some.ensures.some c.close.ensures.closed
           c.write_card-card.ensures.kept q p told z);
+      notes = λ starts d. turn_quiet starts d c.in-Some.card.path c.write_card-card.result.card.path 0 0
+          c.write_card-card.result.own c.loop-card.ended.shelf.events.items
+          c.take_waiting.new.self.shelf.events.items c.close.new.self.shelf.events.items
+          c.in-Some.ensures.some.turned.events c.close.ensures.closed.events
+          ∙ c.loop-card.invariant.notes starts d;
     }

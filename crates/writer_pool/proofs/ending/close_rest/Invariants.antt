@@ -1,4 +1,6 @@
 use Rattle.std.proofs.Common.{◌≡◌, ◌-◌, ◌*◌, ℕ, List, Option, length}
+use Rattle.checkout_core.specs.declared.path.Start.{Start}
+use Rattle.checkout_core.specs.Notes.{notes}
 use Rattle.checkout_book.specs.Sights.{sight}
 use Rattle.checkout_book.specs.Shelves.{plan_of}
 use Rattle.writer_pool.specs.Ends.{IsQuiet}
@@ -12,6 +14,8 @@ invariant-loop-card g l = record {
   seals : (q p : ℕ) (told : Option (List ℕ))
       → SealsOn (sight g.B.Blob.told g.B.Blob.seen g.L.Leaf.seen) l.ended.shelf q p told
       → SealsOn (sight g.B.Blob.told g.B.Blob.seen g.L.Leaf.seen) l.fn.ended.shelf q p told;
+  notes : (starts : List Start) (d : ℕ) → notes starts d l.ended.shelf.events.items
+      ≡ notes starts d l.fn.ended.shelf.events.items;
 }
 
 abbrev pub decreases-loop-card : goal.decreases-loop-card

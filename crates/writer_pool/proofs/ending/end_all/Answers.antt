@@ -2,6 +2,7 @@ use Rattle.std.proofs.Common.{length, ◌∙◌}
 use Rattle.checkout_book.specs.Sights.{sight}
 use Rattle.writer_pool.proofs.Acting.{back_idle}
 use Rattle.writer_pool.proofs.Quieting.{quieted, seals_own}
+use Rattle.writer_pool.proofs.Noting.{noted_own}
 use Rattle.writer_pool.proofs.ending.end_all.Goals as goal
 
 pub finish-ended-requires : goal.finish-ended-requires
@@ -38,3 +39,11 @@ returns-clause-seals g c d back q s at p told z =
     let f = c.finish-ended.ensures d (back_idle see c.args.book d 0 (length ps) ps back) in
     seals_own see c.args.book d (length ps) ps c.finish-ended.result.shelf back f q s at p told
     (c.close_rest.ensures.seals q p told z)
+
+pub returns-clause-notes : goal.returns-clause-notes
+returns-clause-notes g c d back q s at =
+    let see = sight g.B.Blob.told g.B.Blob.seen g.L.Leaf.seen in
+    let ps = c.args.passes.items in
+    let f = c.finish-ended.ensures d (back_idle see c.args.book d 0 (length ps) ps back) in
+    c.close_rest.ensures.notes d.starts.items q
+    ∙ noted_own see c.notes_are_own_entries.ensures d ps c.finish-ended.result.shelf f q s at

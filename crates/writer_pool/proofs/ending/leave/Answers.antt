@@ -94,3 +94,6 @@ returns-clause-seals g c d t pool dealt q p told z =
     (subst (λ (ls : List L). SealsAt see d.starts.items s.events.items (leaf_at d.starts.items ls) q p told) leaves
     (subst (λ (h : List Event). SealsAt see d.starts.items h (leaf_at d.starts.items c.apart-blobs.result.1.items) q p
     told) (c.copied-history.ensures ∙ c.history.ensures) z))
+
+pub returns-clause-history : goal.returns-clause-history
+returns-clause-history g c = c.copied-history.ensures ∙ c.history.ensures
