@@ -3,36 +3,44 @@ use Rattle.std.proofs.Common.{◌≡◌, ◌==◌, ◌||◌, ℕ, zero, suc, ◌
 use Rattle.std.specs.Prelude.{slice_get}
 use mathlib.Core.List.{map-append}
 use Rattle.atomic_table.specs.Seated.{TableId}
-use Rattle.turn_lock.specs.Seat.{SeatView, mine_of, number_of}
+use Rattle.turn_lock.specs.Seat.{SeatView, mine_of, number_of, seen_of}
 use Rattle.convert_plan.specs.Card.{CardSeen}
 use Rattle.checkout_core.specs.declared.path.Start.{Start}
 use Rattle.checkout_core.specs.declared.path.Start.TheVariants.{Pool}
 use Rattle.checkout_core.specs.declared.event.Event.{Event}
-use Rattle.checkout_core.specs.declared.event.Event.TheVariants.{Claim}
+use Rattle.checkout_core.specs.declared.event.Event.TheVariants.{Claim, Close, HandBack}
 use Rattle.checkout_core.specs.Actors.{is_claim, driver_at, own_driver}
 use Rattle.checkout_core.specs.Desks.{paths_of, is_left, leaves}
 use Rattle.checkout_core.specs.Hands.{NoClaims, held_at}
+use Rattle.checkout_core.specs.declared.verdict.Own.{Own}
+use Rattle.checkout_core.specs.Fates.{Untold, fate_of}
+use Rattle.checkout_core.specs.Notes.{noted, notes}
 use Rattle.checkout_core.specs.Talks.{contains}
 use Rattle.checkout_book.specs.declared.plan.Plan.{Plan}
+use Rattle.checkout_book.specs.declared.plan.Parts.{Parts}
 use Rattle.checkout_book.specs.declared.plan.Entry.{Entry}
 use Rattle.checkout_book.specs.Shelves.{cards_of}
-use Rattle.checkout_book.specs.Sights.{Sight}
+use Rattle.checkout_book.specs.Sights.{Sight, seen}
 use Rattle.checkout_book.specs.Passes.{IsPass}
 use Rattle.checkout_book.specs.Reserving.{AreNew, AreDealt, HasNothing}
 use Rattle.driver_desk.specs.Desks.{DeskView, IsDealt, AreThrough}
 use Rattle.driver_desk.specs.Recorders.{Standing, events_in, times}
 use Rattle.driver_desk.specs.Serving.{Given, Noted, Closed, HandedBack}
 use Rattle.driver_desk.specs.Works.{card_paths}
-use Rattle.writer_pool.specs.Ends.{IsShownAll, IsBack}
-use Rattle.writer_pool.specs.OnBook.{given_in, ClosesOwn, CloseOwn, Recording, Place, place_of, IsDeskPass, standing_at, standing_of, given_of}
-use Rattle.writer_pool.specs.Working.{AreShown, IsReady, Idled, own_events}
+use Rattle.writer_pool.specs.Closing.{IsFromBook, RefusedBacks, ServesCard}
+use Rattle.writer_pool.specs.Ends.{ShowsEnd, IsShownAll, IsBack}
+use Rattle.writer_pool.specs.OnBook.{given_in, CloseOwn, Recording, Place, place_of, IsDeskPass, standing_at, standing_of, given_of}
+use Rattle.writer_pool.specs.Working.{AreTurns, AreShown, IsReady, Idled, blob_in, leaf_in, own_events}
 use Rattle.writer_pool.proofs.Places.{some_is, get_map, get_map_back, get_within, get_behind, split}
-use Rattle.writer_pool.proofs.Acting.{shown_each}
-use Rattle.writer_pool.proofs.Recordings.{standing_is, events_own}
+use Rattle.writer_pool.proofs.WorkTurns.{turns_back}
+use Rattle.writer_pool.proofs.Acting.{work_shown}
+use Rattle.writer_pool.proofs.Closings.{notes_quiet}
+use Rattle.writer_pool.proofs.Recordings.{AllBy, own_by, seat_is, standing_is, events_own}
+use Rattle.writer_pool.proofs.DeskClosings.{DeskClose, desk_closed, desk_refused}
 
 module _ {B L : Type 0} where
   -- a desk's pass of a book that begins
-  pub new_desk : (lock : TableId) (d : Plan B L) (n made : ℕ) (s : SeatView Entry (Plan B L)) → d.workers ≤ n
+  unfoldable pub new_desk : (lock : TableId) (d : Plan B L) (n made : ℕ) (s : SeatView Entry (Plan B L)) → d.workers ≤ n
       → AreDealt d.starts.items 0 d.desks.items → HasNothing lock d n made s → mine_of s ≡ [] → IsDeskPass lock s
   new_desk lock d n made s le dealt nothing fresh =
       let named : number_of s ≡ n = nothing.1.seat.named in
@@ -79,13 +87,6 @@ no_claim_at (e ∷ es) zero p a free at =
     cc (u)
 no_claim_at (e ∷ es) (suc j) p a free at = no_claim_at es j p a free.1 at
 
-own_at : (starts : List Start) (q : ℕ) (es : List Entry) (i : ℕ) (e : Entry) → CloseOwn starts q es
-    → slice_get es i ≡ Some e → ClosesOwn starts q e.event
-own_at starts q [] i e own at = absurd (cc (at))
-own_at starts q (x ∷ es) zero e own at =
-    subst (λ (z : Entry). ClosesOwn starts q z.event) (some_is x e at) own.0
-own_at starts q (x ∷ es) (suc i) e own at = own_at starts q es i e own.1 at
-
 -- a path that starts in the pool has no driver
 pool_free : (starts : List Start) (q p : ℕ) → driver_at starts p ≡ Some q → slice_get starts p ≡ Some Pool → ⊥
 pool_free starts q p driver pool =
@@ -122,26 +123,60 @@ times_left s (HandedBack q ∷ gs) p some =
     ended_left (p == q) (is_left p (events_in s gs)) (times p gs) some (λ z. times_left s gs p z)
 
 module _ {B L : Type 0} (see : Sight B L) where
-  -- what it gave has no claim, and closes no path of the pool
-  desk_shown : (d : Plan B L) (q : ℕ) (first more : List Entry) → NoClaims (own_events first)
-      → CloseOwn d.starts.items q first → AreShown see (cards_of d) more → IsShownAll see d (first ++ more)
-  desk_shown d q first more free own shown i e p a o at is from = split i (length first)
-      (λ lt.
-      let here : slice_get first i ≡ Some e = sym (get_within first more i lt) ∙ at in
-      absurd (⊎_elim
-      (λ (pool : slice_get d.starts.items p ≡ Some Pool).
-      pool_free d.starts.items q p
-      (subst (ClosesOwn d.starts.items q) is (own_at d.starts.items q first i e own here)) pool)
+  -- what the desk gave has no claim, and closes no path of the pool
+  not_from_book : (d : Plan B L) (q : ℕ) (first more : List Entry) (i p a : ℕ) → NoClaims (own_events first)
+      → driver_at d.starts.items p ≡ Some q → i < length first
+      → IsFromBook d.starts.items (own_events (first ++ more)) i p a → ⊥
+  not_from_book d q first more i p a free driver lt from = ⊎_elim
+      (λ (pool : slice_get d.starts.items p ≡ Some Pool). pool_free d.starts.items q p driver pool)
       (λ (claim : (j : ℕ) × (j < i) × (slice_get (own_events (first ++ more)) j ≡ Some (Claim p a))).
       let less = claim.1 in
       let x = get_map_back (λ (z : Entry). z.event) (first ++ more) claim.0 (Claim p a) claim.2 in
       let there = sym (get_within first more claim.0 (omega (arith, less, lt))) ∙ x.1 in
       no_claim_at (own_events first) claim.0 p a free
       (get_map (λ (z : Entry). z.event) first claim.0 x.0 there ∙ ap (λ (z : Event). Some z) x.2))
-      from))
-      (λ le. shown_each see (cards_of d) more (i - length first) e shown (sym (get_behind first more i le) ∙ at))
+      from
 
-  standing_same : (s0 s : SeatView Entry (Plan B L)) (required : Bool)
+  -- a Close that the desk gave shows how the desk served the card
+  first_shown : (d : Plan B L) (q : ℕ) (first more : List Entry) (i p a : ℕ) (o : Own) (parts : Option Parts)
+      → NoClaims (own_events first) → noted (own_events more) ≡ [] → i < length first
+      → DeskClose see d q (own_events first) p a o parts
+      → ShowsEnd see d (own_events (first ++ more)) i p a o parts
+  first_shown d q first more i p a o parts free quiet lt c = record {
+    ended = c.ended;
+    there = c.there;
+    number = c.number;
+    card = c.card;
+    planned = c.planned;
+    path = c.path;
+    ends = record {
+      wrote = λ from. absurd (not_from_book d q first more i p a free c.driver lt from);
+      served = λ k required from.
+          let same : notes d.starts.items k (own_events first)
+          ≡ notes d.starts.items k (own_events (first ++ more)) =
+          sym (ap (notes d.starts.items k) (map-append (λ (z : Entry). z.event) first more)
+          ∙ notes_quiet d.starts.items k (own_events first) (own_events more) quiet) in
+          subst (λ (l : List Event). ServesCard required (fate_of p Untold l) (seen see c.card) o (blob_in c.ended)
+          (leaf_in c.ended)) same (c.served k required from.begun);
+    };
+    desk = λ k required from.
+        let begun : driver_at d.starts.items p ≡ Some k =
+        ap (λ (o : Option Start). elim o [ None ↦ None | Some s ↦ own_driver s ]) from.begun in
+        c.seat ∙ ap (λ (z : ℕ). d.workers + z) (some_is q k (sym c.driver ∙ begun));
+  }
+
+  desk_shown : (d : Plan B L) (q : ℕ) (first more : List Entry) → NoClaims (own_events first)
+      → ((i : ℕ) (e : Entry) (p a : ℕ) (o : Own) → slice_get first i ≡ Some e → e.event ≡ Close p a o
+      → DeskClose see d q (own_events first) p a o e.parts)
+      → noted (own_events more) ≡ [] → AreTurns (own_events more) → AreShown see (cards_of d) more
+      → IsShownAll see d (first ++ more)
+  desk_shown d q first more free closed quiet turns shown i e p a o at is = split i (length first)
+      (λ lt. first_shown d q first more i p a o e.parts free quiet lt
+      (closed i e p a o (sym (get_within first more i lt) ∙ at) is))
+      (λ le. work_shown see d first more turns shown (i - length first) i e p a o (omega (arith, le))
+      (sym (get_behind first more i le) ∙ at) is)
+
+  pub standing_same : (s0 s : SeatView Entry (Plan B L)) (required : Bool)
       → place_of (record { pass = s; required = required }) ≡ place_of (record { pass = s0; required = required })
       → standing_of see (record { pass = s; required = required })
       ≡ standing_of see (record { pass = s0; required = required })
@@ -193,6 +228,52 @@ module _ {B L : Type 0} (see : Sight B L) where
       ap (is_left p) (sym (events_own see lock s required j))
       ∙ times_left x given p (λ z. omega (arith, one, z))
 
+  -- what is known of a desk that served, by its plan
+  record Served (d : Plan B L) (n : ℕ) (required : Bool) (desk : DeskView) (mine : List Entry) : Type 0 where
+    pub dealt : IsDealt (standing_at see (Some d) n required) desk
+    pub by : AllBy d.starts.items d.workers n mine
+    pub through : AreThrough (standing_at see (Some d) n required)
+        (given_in (standing_at see (Some d) n required).cards mine)
+    pub events : events_in (standing_at see (Some d) n required)
+        (given_in (standing_at see (Some d) n required).cards mine) ≡ own_events mine
+
+  served_by : (lock : TableId) (s0 s : SeatView Entry (Plan B L)) (required : Bool) (j : IsDeskPass lock s)
+      (desk : DeskView)
+      → place_of (record { pass = s; required = required }) ≡ place_of (record { pass = s0; required = required })
+      → IsDealt (standing_of see (record { pass = s0; required = required })) desk
+      → AreThrough (standing_of see (record { pass = s; required = required }))
+      (given_of see (record { pass = s; required = required }))
+      → Served j.plan (number_of s) required desk (mine_of s)
+  served_by lock s0 s required j desk place dealt through =
+      let is = standing_is see lock s required j in
+      record {
+        dealt = subst (λ (y : Standing). IsDealt y desk) (sym (standing_same s0 s required place) ∙ is) dealt;
+        by = subst (AllBy j.plan.starts.items j.plan.workers (number_of s)) (sym j.pass.seat.receipts)
+            (own_by j.plan.starts.items j.plan.workers (number_of s) (seen_of s) j.pass.reads.stamped);
+        through = subst (λ (y : Standing). AreThrough y (given_in y.cards (mine_of s))) is through;
+        events = subst (λ (y : Standing). events_in y (given_in y.cards (mine_of s)) ≡ own_events (mine_of s)) is
+            (events_own see lock s required j);
+      }
+
+  -- a path that is handed back in the whole list was handed back by the desk
+  backs_more : (d : Plan B L) (first more : List Entry) → RefusedBacks d.starts.items (own_events first)
+      → noted (own_events more) ≡ [] → AreTurns (own_events more)
+      → RefusedBacks d.starts.items (own_events (first ++ more))
+  backs_more d first more backs quiet turns i p q required at begun =
+      let x = get_map_back (λ (z : Entry). z.event) (first ++ more) i (HandBack p) at in
+      split i (length first)
+      (λ lt.
+      let here = get_map (λ (z : Entry). z.event) first i x.0 (sym (get_within first more i lt) ∙ x.1)
+      ∙ ap (λ (z : Event). Some z) x.2 in
+      let r = backs i p q required here begun in
+      let same = ap (notes d.starts.items q) (map-append (λ (z : Entry). z.event) first more)
+      ∙ notes_quiet d.starts.items q (own_events first) (own_events more) quiet in
+      (r.0, r.1, ap (fate_of p Untold) same ∙ r.2))
+      (λ le.
+      absurd (turns_back (own_events more) (i - length first) p turns
+      (get_map (λ (z : Entry). z.event) more (i - length first) x.0 (sym (get_behind first more i le) ∙ x.1)
+      ∙ ap (λ (z : Event). Some z) x.2)))
+
   pub desk_back : (lock : TableId) (s0 s t : SeatView Entry (Plan B L)) (required : Bool) (i : IsDeskPass lock s0)
       (j : IsDeskPass lock s) (desk : DeskView)
       → place_of (record { pass = s; required = required }) ≡ place_of (record { pass = s0; required = required })
@@ -202,6 +283,7 @@ module _ {B L : Type 0} (see : Sight B L) where
       → Idled see lock j.plan (number_of s) j.made s t → IsBack see lock i.plan (number_of s0) i.made t
   desk_back lock s0 s t required i j desk place dealt through idled =
       let w = idled.worked in
+      let v = served_by lock s0 s required j desk place dealt through in
       let free = subst NoClaims (events_own see lock s required j) through.claims in
       let number = ap (λ (p : Place B L). p.number) place in
       let made : j.made ≡ i.made =
@@ -209,7 +291,13 @@ module _ {B L : Type 0} (see : Sight B L) where
       let back : IsBack see lock j.plan (number_of s) j.made t = record {
         nothing = w.nothing;
         shown = subst (IsShownAll see j.plan) (sym w.mine)
-            (desk_shown j.plan (number_of s - j.plan.workers) (mine_of s) w.more free j.own w.shown);
+            (desk_shown j.plan (number_of s - j.plan.workers) (mine_of s) w.more free
+            (desk_closed see j.plan (number_of s) required desk (mine_of s) (seat_is see lock s j) j.dealt j.own v.by
+            v.dealt v.through v.events) w.quiet w.turns w.shown);
+        backs = subst (λ (l : List Entry). RefusedBacks j.plan.starts.items (own_events l)) (sym w.mine)
+            (backs_more j.plan (mine_of s) w.more
+            (desk_refused see j.plan (number_of s) required desk (mine_of s) v.by v.dealt v.through v.events) w.quiet
+            w.turns);
         left = λ q p lt seat own.
             let first = desk_left lock s0 s required j desk place dealt through q p seat own in
             ap (λ (l : List Entry). is_left p (own_events l)) w.mine

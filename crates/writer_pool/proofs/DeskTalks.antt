@@ -1,5 +1,5 @@
 -- What a desk's pass lists has just the notes of the desk's talk.
-use Rattle.std.proofs.Common.{◌≡◌, ℕ, Bool, true, cond, List, [], ◌∷◌, ◌++◌, Option, Some, None, refl, sym, ap, ◌∙◌, subst}
+use Rattle.std.proofs.Common.{◌≡◌, ℕ, ◌-◌, Bool, true, cond, List, [], ◌∷◌, ◌++◌, length, Option, Some, None, refl, sym, ap, ◌∙◌, subst, arith}
 use mathlib.Core.List.{map-append}
 use Rattle.atomic_table.specs.Seated.{TableId}
 use Rattle.turn_lock.specs.Seat.{SeatView, mine_of, number_of}
@@ -14,14 +14,21 @@ use Rattle.checkout_core.specs.Transcripts as result
 use Rattle.checkout_book.specs.declared.plan.Plan.{Plan}
 use Rattle.checkout_book.specs.declared.plan.Entry.{Entry}
 use Rattle.checkout_book.specs.Sights.{Sight}
+use Rattle.checkout_book.specs.Passes.{close_entry}
 use Rattle.driver_line.specs.Conversations.{notes_in}
 use Rattle.driver_line.specs.Lines.{Paths}
+use Rattle.driver_desk.specs.Desks.{DeskView, IsDealt}
 use Rattle.driver_desk.specs.Recorders.{Standing, events_in}
-use Rattle.driver_desk.specs.Serving.{Given, Noted, Closed, HandedBack, noted_in, IsServed}
-use Rattle.writer_pool.specs.OnBook.{IsDeskPass, standing_of, given_of}
+use Rattle.driver_desk.specs.Serving.{Given, Noted, Closed, HandedBack, AllSealed, HasAnswer, noted_in, IsServed}
+use Rattle.writer_pool.specs.OnBook.{IsDeskPass, given_in, place_of, standing_of, given_of}
 use Rattle.writer_pool.specs.Pools.{HasTalked}
-use Rattle.writer_pool.specs.Working.{Idled, own_events}
-use Rattle.writer_pool.proofs.Recordings.{events_own}
+use Rattle.writer_pool.specs.Sealing.{SealsIn}
+use Rattle.writer_pool.specs.Working.{AreTurns, Idled, own_events}
+use Rattle.writer_pool.proofs.Places.{get_map, get_within, get_behind, split}
+use Rattle.writer_pool.proofs.Acting.{turn_claim}
+use Rattle.writer_pool.proofs.Recordings.{standing_is, events_own}
+use Rattle.writer_pool.proofs.DeskClosings.{sealed_own}
+use Rattle.writer_pool.proofs.DeskActing.{standing_same}
 
 abbrev AllNoted : List Event → Type 0
 AllNoted [] = Unit {0}
@@ -94,14 +101,41 @@ TranscriptIsTalk = (d : ℕ) (paths : List ℕ) (items : List result.Item) → r
     → (t : Talk) × (talk_run d (Between paths) (result.notes_of d items) ≡ Some t) × IsOver t
 
 module _ {B L : Type 0} (see : Sight B L) where
+  -- the leaves that the pass sealed without a claim are those that its desk sealed
+  desk_answered : (lock : TableId) (s0 s : SeatView Entry (Plan B L)) (more : List Entry) (required : Bool)
+      (j : IsDeskPass lock s) (desk : DeskView)
+      → place_of (record { pass = s; required = required }) ≡ place_of (record { pass = s0; required = required })
+      → IsDealt (standing_of see (record { pass = s0; required = required })) desk → AreTurns (own_events more)
+      → (P : ℕ → Option (List ℕ) → Type 0)
+      → AllSealed P (given_of see (record { pass = s; required = required }))
+      → (p : ℕ) (told : Option (List ℕ)) → SealsIn (mine_of s ++ more) p told → P p told
+  desk_answered lock s0 s more required j desk place dealt turns P all p told z =
+      let d = j.plan in
+      let n = number_of s in
+      let is = standing_is see lock s required j in
+      let of = subst (λ (y : Standing). IsDealt y desk)
+      (sym (standing_same see s0 s required place) ∙ is) dealt in
+      let given = subst (λ (y : Standing). AllSealed P (given_in y.cards (mine_of s))) is all in
+      let e = close_entry p z.actor z.own z.ended in
+      split z.place (length (mine_of s))
+      (λ lt. subst (P p) z.content (sealed_own see d n required desk (mine_of s) j.dealt j.own of P given z.place p
+      z.actor z.own z.ended z.mark (sym (get_within (mine_of s) more z.place lt) ∙ z.here) z.sealed))
+      (λ le.
+      let at = sym (get_behind (mine_of s) more z.place le) ∙ z.here in
+      let t = turn_claim (mine_of s) more (z.place - length (mine_of s)) z.place p z.actor z.own turns
+      (omega (arith, le)) (get_map (λ (x : Entry). x.event) more (z.place - length (mine_of s)) e at) in
+      absurd (z.unclaimed t.0 t.1 t.2))
+
   -- what the pass lists has just the notes of the desk's talk
-  pub desk_talked : TranscriptIsTalk → (lock : TableId) (s t : SeatView Entry (Plan B L)) (required : Bool)
-      (j : IsDeskPass lock s)
-      (d : ℕ) (paths : Paths) (asked : List ℕ) (old new : StarterSeen)
+  pub desk_talked : TranscriptIsTalk → (lock : TableId) (s0 s t : SeatView Entry (Plan B L)) (required : Bool)
+      (j : IsDeskPass lock s) (desk : DeskView)
+      → place_of (record { pass = s; required = required }) ≡ place_of (record { pass = s0; required = required })
+      → IsDealt (standing_of see (record { pass = s0; required = required })) desk
+      → (d : ℕ) (paths : Paths) (asked : List ℕ) (old new : StarterSeen)
       → IsServed d paths asked old new [] (given_of see (record { pass = s; required = required }))
       → Idled see lock j.plan (number_of s) j.made s t
-      → HasTalked d paths asked old new (noted (own_events (mine_of t)))
-  desk_talked law lock s t required j d paths asked old new served idled =
+      → HasTalked d paths asked old new (noted (own_events (mine_of t))) (SealsIn (mine_of t))
+  desk_talked law lock s0 s t required j desk place dealt d paths asked old new served idled =
       let w = idled.worked in
       let x = standing_of see (record { pass = s; required = required }) in
       let given = given_of see (record { pass = s; required = required }) in
@@ -128,4 +162,7 @@ module _ {B L : Type 0} (see : Sight B L) where
         whole = served.whole;
         same = served.same;
         noted_is = after ∙ own;
+        answers = λ p told seals. desk_answered lock s0 s w.more required j desk place dealt w.turns
+            (HasAnswer served.exchanges) (subst (AllSealed (HasAnswer served.exchanges)) (sym served.told) served.answers)
+            p told (subst (λ (l : List Entry). SealsIn l p told) w.mine seals);
       }

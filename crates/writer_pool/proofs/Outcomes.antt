@@ -23,11 +23,13 @@ use Rattle.checkout_book.specs.Shape.{Shelf}
 use Rattle.checkout_book.specs.Sights.{Sight, seen}
 use Rattle.checkout_book.specs.Shelves.{plan_of, cards_of, IsRow, Lies}
 use Rattle.checkout_book.specs.Ending.{parts_in}
-use Rattle.writer_pool.specs.Writing.{WritesCard}
-use Rattle.writer_pool.specs.Ends.{IsThrough, IsRun, IsFromBook, IsEndOf, AreEnds}
+use Rattle.writer_pool.specs.Closing.{IsFromBook, WasRefused, EndsCard}
+use Rattle.writer_pool.specs.Ends.{IsThrough, IsRun, IsEndOf, AreEnds}
+use Rattle.writer_pool.specs.Sealing.{SealsAt, SealsOn, leaf_at, leaf_in_slot}
 use Rattle.writer_pool.proofs.Places.{some_is, same_or}
 use Rattle.writer_pool.proofs.Dealt.{IsFitting}
-use Rattle.writer_pool.proofs.Resting.{ended_at}
+use Rattle.writer_pool.proofs.Resting.{TakesPath, ClosesPath, ended_at}
+use Rattle.writer_pool.proofs.Rows.{BacksPath, KeepsPaths, claimed_back}
 use Rattle.writer_pool.proofs.CoreMoves.{ends_closed}
 
 -- a complete history tells each verdict
@@ -35,6 +37,13 @@ abbrev pub TellsVerdict : Type 0
 TellsVerdict = (starts : List Start) (workers drivers : ℕ) (history : List Event) (x : Core) → AreBelow drivers starts
     → IsLegal starts workers drivers history x → IsComplete x → (p : ℕ) (s : Start) → slice_get starts p ≡ Some s
     → verdict_at x p ≡ told_verdict starts history p s
+
+-- how the events move their paths
+pub record MovesPaths : Type 0 where
+  pub takes : TakesPath
+  pub closes : ClosesPath
+  pub backs : BacksPath
+  pub keeps : KeepsPaths
 
 abbrev Found : ℕ → Own → List Event → Type 0
 Found p w es = (i : ℕ) × (a : ℕ) × (slice_get es i ≡ Some (Close p a w))
@@ -154,13 +163,13 @@ module _ {B L : Type 0} (see : Sight B L) where
   }
 
   -- the end of a path that isn't closed from the start
-  end_of : TellsVerdict → (s : Shelf B L) → IsThrough see (plan_of s) s
+  end_of : MovesPaths → TellsVerdict → (s : Shelf B L) → IsThrough see (plan_of s) s
       → IsFitting s.starts.value.items (cards_of (plan_of s)) → (p : ℕ) (st : Start) (x : Slot B L)
       → slice_get s.starts.value.items p ≡ Some st → ((w : Verdict) → st ≡ Done w → ⊥)
       → slice_get s.slots.items p ≡ Some x
       → (b : B) × (l : L) × (x ≡ Ended b l)
       × IsEndOf see s.starts.value.items s.events.items (cards_of (plan_of s)) p b l
-  end_of tells s t fits p st x at other there =
+  end_of moves tells s t fits p st x at other there =
       let cards = cards_of (plan_of s) in
       let sound = t.quiet.goes_on.sound in
       let r = row_at cards p x (slice_get s.slots.items p) (slice_get s.core.paths p) there (sound.rows p) in
@@ -191,16 +200,28 @@ module _ {B L : Type 0} (see : Sight B L) where
             told = from.4;
             name = from.5;
             path = from.6;
-            wrote = λ book.
-                let h = t.quiet.closed f.0 p f.1 o.0 f.2 (subst (λ (j : ℕ).
-                IsFromBook s.starts.value.items s.events.items f.0 j f.1) from.3 book) in
+            ends =
+                let h = t.quiet.closed f.0 p f.1 o.0 f.2 in
                 let slot : Ended h.0 h.1 ≡ Ended e.0 e.1 = some_is (Ended h.0 h.1) (Ended e.0 e.1) (sym h.2 ∙ e.2) in
                 let blob : h.0 ≡ e.0 = cc (slot) in
                 let leaf : h.1 ≡ e.1 = cc (slot) in
                 let same : h.4 ≡ from.1 = fits.one h.3 from.0 h.4 from.1 h.5 from.2 (h.6 ∙ sym from.3) in
-                subst (λ (c : Card B L). WritesCard (seen see c) o.0 (see.blob e.0) (see.leaf e.1)) same
-                (subst (λ (l : L). WritesCard (seen see h.4) o.0 (see.blob e.0) (see.leaf l)) leaf
-                (subst (λ (b : B). WritesCard (seen see h.4) o.0 (see.blob b) (see.leaf h.1)) blob h.7));
+                subst (λ (j : ℕ). EndsCard s.starts.value.items s.events.items f.0 j f.1 o.0 (seen see from.1)
+                (see.blob e.0) (see.leaf e.1)) (sym from.3)
+                (subst (λ (c : Card B L). EndsCard s.starts.value.items s.events.items f.0 p f.1 o.0 (seen see c)
+                (see.blob e.0) (see.leaf e.1)) same
+                (subst (λ (l : L). EndsCard s.starts.value.items s.events.items f.0 p f.1 o.0 (seen see h.4)
+                (see.blob e.0) (see.leaf l)) leaf
+                (subst (λ (b : B). EndsCard s.starts.value.items s.events.items f.0 p f.1 o.0 (seen see h.4)
+                (see.blob b) (see.leaf h.1)) blob h.7)));
+            refused = λ q required begun book.
+                let starts = s.starts.value.items in
+                let here = ap (slice_get starts) (sym from.3) ∙ begun in
+                let back = claimed_back moves.takes moves.closes moves.backs moves.keeps starts s.workers s.drivers
+                s.events.items s.core sound.run f.0 p f.1 q required here (subst (λ (j : ℕ).
+                IsFromBook starts s.events.items f.0 j f.1) from.3 book) in
+                subst (λ (j : ℕ). WasRefused starts s.events.items j q required) (sym from.3)
+                (t.quiet.backs back.0 p q required back.1 here);
           },
         ),
       )
@@ -217,34 +238,124 @@ module _ {B L : Type 0} (see : Sight B L) where
       let q = lies.1 in
       fits.unclosed q.0 q.1 w q.2 (ap (slice_get starts) q.3 ∙ at))
 
-  all_ends : TellsVerdict → (s : Shelf B L) → IsThrough see (plan_of s) s
+  fit_at : MovesPaths → TellsVerdict → (s : Shelf B L) → IsThrough see (plan_of s) s
+      → IsFitting s.starts.value.items (cards_of (plan_of s)) → (i : ℕ) (st : Start) (x : Slot B L)
+      → slice_get s.starts.value.items i ≡ Some st → slice_get s.slots.items i ≡ Some x
+      → Fit s.starts.value.items s.events.items (cards_of (plan_of s)) i st x
+  fit_at moves tells s t fits i (Done w) x at there =
+      let r = row_at (cards_of (plan_of s)) i x (slice_get s.slots.items i) (slice_get s.core.paths i) there
+      (t.quiet.goes_on.sound.rows i) in
+      nothing_at s.starts.value.items (cards_of (plan_of s)) fits i w x (r.0).state at r.2
+  fit_at moves tells s t fits i Pool x at there = end_of moves tells s t fits i Pool x at (λ w e. absurd (cc (e))) there
+  fit_at moves tells s t fits i (Desk e u) x at there =
+      end_of moves tells s t fits i (Desk e u) x at (λ w h. absurd (cc (h))) there
+
+  all_ends : MovesPaths → TellsVerdict → (s : Shelf B L) → IsThrough see (plan_of s) s
       → IsFitting s.starts.value.items (cards_of (plan_of s)) → length s.slots.items ≡ length s.starts.value.items
       → AreEnds see s.starts.value.items s.events.items (cards_of (plan_of s)) 0 s.starts.value.items
       (map (λ (x : B × L). x.0) (parts_in s.slots.items)) (map (λ (x : B × L). x.1) (parts_in s.slots.items))
-  all_ends tells s t fits long =
+  all_ends moves tells s t fits long =
       ends_in_order s.starts.value.items s.events.items (cards_of (plan_of s)) 0 s.starts.value.items s.slots.items long
       (λ i st x at there.
       let n : i ≡ 0 + i = omega arith in
-      subst (λ j. Fit s.starts.value.items s.events.items (cards_of (plan_of s)) j st x) n (each i st x at there))
-    where
-      each : (i : ℕ) (st : Start) (x : Slot B L) → slice_get s.starts.value.items i ≡ Some st
-          → slice_get s.slots.items i ≡ Some x
-          → Fit s.starts.value.items s.events.items (cards_of (plan_of s)) i st x
-      each i (Done w) x at there =
-          let r = row_at (cards_of (plan_of s)) i x (slice_get s.slots.items i) (slice_get s.core.paths i) there
-          (t.quiet.goes_on.sound.rows i) in
-          nothing_at s.starts.value.items (cards_of (plan_of s)) fits i w x (r.0).state at r.2
-      each i Pool x at there = end_of tells s t fits i Pool x at (λ w e. absurd (cc (e))) there
-      each i (Desk e u) x at there = end_of tells s t fits i (Desk e u) x at (λ w h. absurd (cc (h))) there
+      subst (λ j. Fit s.starts.value.items s.events.items (cards_of (plan_of s)) j st x) n
+      (fit_at moves tells s t fits i st x at there))
 
-  pub ends_are : TellsVerdict → (d : Plan B L) (s : Shelf B L) → IsThrough see d s
+  -- nothing lies in the slot of a path that is closed from the start, and in each other one a closed card
+  abbrev IsKind : Start → Slot B L → Type 0
+  IsKind (Done v) x = x ≡ Away
+  IsKind Pool x = (b : B) × (l : L) × (x ≡ Ended b l)
+  IsKind (Desk d u) x = (b : B) × (l : L) × (x ≡ Ended b l)
+
+  kind_of : (starts : List Start) (history : List Event) (cards : List (Card B L)) (p : ℕ) (st : Start)
+      (x : Slot B L) → Fit starts history cards p st x → IsKind st x
+  kind_of starts history cards p (Done v) x f = f
+  kind_of starts history cards p Pool x f = (f.0, f.1, f.2)
+  kind_of starts history cards p (Desk d u) x f = (f.0, f.1, f.2)
+
+  abbrev LeafStays : List Start → List (Slot B L) → ℕ → L → Type 0
+  LeafStays ss xs p leaf = leaf_at ss (map (λ (x : B × L). x.1) (parts_in xs)) p ≡ Some leaf
+      → leaf_in_slot (slice_get xs p) ≡ Some leaf
+
+  -- the leaf of a path is that of its slot
+  ended_leaf : (s : Start) (ss : List Start) (b : B) (l : L) (xs : List (Slot B L)) (p : ℕ) (leaf : L)
+      → ((v : Verdict) → s ≡ Done v → ⊥) → ((q : ℕ) → LeafStays ss xs q leaf)
+      → LeafStays (s ∷ ss) (Ended b l ∷ xs) p leaf
+  ended_leaf (Done v) ss b l xs p leaf other more e = absurd (other v refl)
+  ended_leaf Pool ss b l xs zero leaf other more e = e
+  ended_leaf Pool ss b l xs (suc p) leaf other more e = more p e
+  ended_leaf (Desk d u) ss b l xs zero leaf other more e = e
+  ended_leaf (Desk d u) ss b l xs (suc p) leaf other more e = more p e
+
+  done_leaf : (v : Verdict) (ss : List Start) (xs : List (Slot B L)) (p : ℕ) (leaf : L)
+      → ((q : ℕ) → LeafStays ss xs q leaf) → LeafStays (Done v ∷ ss) (Away ∷ xs) p leaf
+  done_leaf v ss xs zero leaf more e = absurd (cc (e))
+  done_leaf v ss xs (suc p) leaf more e = more p e
+
+  slot_leaf : (s : Start) (ss : List Start) (x : Slot B L) (xs : List (Slot B L)) (p : ℕ) (leaf : L) → IsKind s x
+      → ((q : ℕ) → LeafStays ss xs q leaf) → LeafStays (s ∷ ss) (x ∷ xs) p leaf
+  slot_leaf (Done v) ss x xs p leaf kind more =
+      subst (λ (y : Slot B L). LeafStays (Done v ∷ ss) (y ∷ xs) p leaf) (sym kind) (done_leaf v ss xs p leaf more)
+  slot_leaf Pool ss x xs p leaf kind more =
+      subst (λ (y : Slot B L). LeafStays (Pool ∷ ss) (y ∷ xs) p leaf) (sym kind.2)
+      (ended_leaf Pool ss kind.0 kind.1 xs p leaf (λ w e. cc (e)) more)
+  slot_leaf (Desk d u) ss x xs p leaf kind more =
+      subst (λ (y : Slot B L). LeafStays (Desk d u ∷ ss) (y ∷ xs) p leaf) (sym kind.2)
+      (ended_leaf (Desk d u) ss kind.0 kind.1 xs p leaf (λ w e. cc (e)) more)
+
+  leaf_stays : (ss : List Start) (xs : List (Slot B L)) (leaf : L) → length xs ≡ length ss
+      → ((i : ℕ) (s : Start) (x : Slot B L) → slice_get ss i ≡ Some s → slice_get xs i ≡ Some x → IsKind s x)
+      → (p : ℕ) → LeafStays ss xs p leaf
+  leaf_stays [] xs leaf e h p there = absurd (cc (there))
+  leaf_stays (s ∷ ss) [] leaf e h p there = absurd (omega arith)
+  leaf_stays (s ∷ ss) (x ∷ xs) leaf e h p there =
+      slot_leaf s ss x xs p leaf (h 0 s x refl refl)
+      (λ q. leaf_stays ss xs leaf (omega arith) (λ i t y a b. h (suc i) t y a b) q) there
+
+  plan_seals : MovesPaths → TellsVerdict → (s : Shelf B L) → IsThrough see (plan_of s) s
+      → IsFitting s.starts.value.items (cards_of (plan_of s)) → length s.slots.items ≡ length s.starts.value.items
+      → (q p : ℕ) (told : Option (List ℕ))
+      → SealsAt see s.starts.value.items s.events.items
+      (leaf_at s.starts.value.items (map (λ (x : B × L). x.1) (parts_in s.slots.items))) q p told
+      → SealsOn see s q p told
+  plan_seals moves tells s t fits long q p told z = record {
+    place = z.place;
+    actor = z.actor;
+    own = z.own;
+    required = z.required;
+    leaf = z.leaf;
+    mark = z.mark;
+    entry = z.entry;
+    desk = z.desk;
+    there = leaf_stays s.starts.value.items s.slots.items z.leaf long (λ i st x at there.
+        kind_of s.starts.value.items s.events.items (cards_of (plan_of s)) i st x (fit_at moves tells s t fits i st x at there))
+        p z.there;
+    sealed = z.sealed;
+    content = z.content;
+  }
+
+  -- a leaf that a desk sealed is that of its path's slot
+  pub seals_there : MovesPaths → TellsVerdict → (d : Plan B L) (s : Shelf B L) → IsThrough see d s
+      → IsFitting d.starts.items (cards_of d) → length s.slots.items ≡ length d.starts.items → (q p : ℕ)
+      (told : Option (List ℕ))
+      → SealsAt see d.starts.items s.events.items
+      (leaf_at d.starts.items (map (λ (x : B × L). x.1) (parts_in s.slots.items))) q p told
+      → SealsOn see s q p told
+  seals_there moves tells d s t fits long q p told z =
+      plan_seals moves tells s (record { quiet = t.quiet; plan = refl; none = t.none })
+      (subst (λ (x : Plan B L). IsFitting x.starts.items (cards_of x)) (sym t.plan) fits)
+      (long ∙ ap (λ (x : Plan B L). length x.starts.items) (sym t.plan)) q p told
+      (subst (λ (x : Plan B L). SealsAt see x.starts.items s.events.items
+      (leaf_at x.starts.items (map (λ (x : B × L). x.1) (parts_in s.slots.items))) q p told) (sym t.plan) z)
+
+  pub ends_are : MovesPaths → TellsVerdict → (d : Plan B L) (s : Shelf B L) → IsThrough see d s
       → IsFitting d.starts.items (cards_of d) → length s.slots.items ≡ length d.starts.items
       → AreEnds see d.starts.items s.events.items (cards_of d) 0 d.starts.items
       (map (λ (x : B × L). x.0) (parts_in s.slots.items)) (map (λ (x : B × L). x.1) (parts_in s.slots.items))
-  ends_are tells d s t fits long = subst (λ (x : Plan B L). AreEnds see x.starts.items s.events.items (cards_of x) 0
+  ends_are moves tells d s t fits long = subst (λ (x : Plan B L). AreEnds see x.starts.items s.events.items (cards_of x) 0
       x.starts.items (map (λ (x : B × L). x.0) (parts_in s.slots.items))
       (map (λ (x : B × L). x.1) (parts_in s.slots.items))) t.plan
-      (all_ends tells s (record { quiet = t.quiet; plan = refl; none = t.none })
+      (all_ends moves tells s (record { quiet = t.quiet; plan = refl; none = t.none })
       (subst (λ (x : Plan B L). IsFitting x.starts.items (cards_of x)) (sym t.plan) fits)
       (long ∙ ap (λ (x : Plan B L). length x.starts.items) (sym t.plan)))
 

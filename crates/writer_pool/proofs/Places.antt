@@ -32,11 +32,14 @@ module _ {A : Type 0} where
 
   -- a place of a list with one more is one of the list, or the last
   pub get_more : (xs : List A) (y : A) (i : ℕ) (z : A) → slice_get (xs ++ y ∷ []) i ≡ Some z
-      → (slice_get xs i ≡ Some z) ⊎ (y ≡ z)
-  get_more [] y zero z e = inr (cc (e))
+      → (slice_get xs i ≡ Some z) ⊎ ((y ≡ z) × (i ≡ length xs))
+  get_more [] y zero z e = inr (cc (e), refl)
   get_more [] y (suc i) z e = absurd (cc (e))
   get_more (x ∷ xs) y zero z e = inl e
-  get_more (x ∷ xs) y (suc i) z e = get_more xs y i z e
+  get_more (x ∷ xs) y (suc i) z e = ⊎_elim
+      (λ (h : slice_get xs i ≡ Some z). inl h)
+      (λ (h : (y ≡ z) × (i ≡ length xs)). inr (h.0, ap suc h.1))
+      (get_more xs y i z e)
 
   pub get_front : (xs ys : List A) (i : ℕ) (z : A) → slice_get xs i ≡ Some z → slice_get (xs ++ ys) i ≡ Some z
   get_front [] ys i z e = absurd (cc (e))
@@ -97,6 +100,12 @@ module _ {A : Type 0} where
   get_behind (x ∷ xs) ys zero le = absurd (omega (arith, le))
   get_behind (x ∷ xs) ys (suc i) le =
       get_behind xs ys i (omega (arith, le)) ∙ ap (slice_get ys) (omega arith)
+
+pub get_second : {A : Type 0} (xs ys : List A) (i : ℕ) → slice_get (xs ++ ys) (length xs + i) ≡ slice_get ys i
+get_second [] ys i = ap (slice_get ys) (omega arith)
+get_second (x ∷ xs) ys i =
+    let n : suc (length xs) + i ≡ suc (length xs + i) = omega arith in
+    ap (slice_get (x ∷ (xs ++ ys))) n ∙ get_second xs ys i
 
 pub less_or : (p n : ℕ) → (p ≡ n → ⊥) → p < n + 1 → p < n
 less_or p n other lt = omega arith

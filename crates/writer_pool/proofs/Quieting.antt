@@ -4,34 +4,45 @@ use Rattle.std.specs.Prelude.{slice_get}
 use Rattle.atomic_table.specs.Seated.{TableId}
 use Rattle.turn_lock.specs.History.{own}
 use Rattle.turn_lock.specs.Seat.{SeatView, mine_of}
+use Rattle.convert_plan.specs.declared.card.Card.{Card}
 use Rattle.checkout_core.specs.declared.verdict.Own.{Own}
 use Rattle.checkout_core.specs.declared.path.Start.{Start}
 use Rattle.checkout_core.specs.declared.path.Start.TheVariants.{Pool}
 use Rattle.checkout_core.specs.declared.event.Event.{Event}
-use Rattle.checkout_core.specs.declared.event.Event.TheVariants.{Claim, Close}
+use Rattle.checkout_core.specs.declared.event.Event.TheVariants.{Claim, Close, HandBack}
+use Rattle.checkout_core.specs.Actors.{own_driver, seat}
 use Rattle.checkout_core.specs.Desks.{paths_of, leaves, is_left}
+use Rattle.checkout_core.specs.Fates.{Untold, fate_of}
+use Rattle.checkout_core.specs.Notes.{notes}
 use Rattle.checkout_core.specs.Talks.{contains}
 use Rattle.checkout_book.specs.declared.plan.Plan.{Plan}
+use Rattle.checkout_book.specs.declared.plan.Parts.{Parts}
 use Rattle.checkout_book.specs.declared.plan.Entry.{Entry}
 use Rattle.checkout_book.specs.declared.shelf.Slot.{Slot}
+use Rattle.checkout_book.specs.declared.shelf.Slot.TheVariants.{Away, Waits, Ended}
 use Rattle.checkout_book.specs.Shape.{Shelf}
-use Rattle.checkout_book.specs.Sights.{Sight, tell}
-use Rattle.checkout_book.specs.Entries.{number_in, entries, entry_of, history_of, events_of, parts_at}
-use Rattle.checkout_book.specs.Shelves.{cards_of}
+use Rattle.checkout_book.specs.Sights.{Sight, seen, tell}
+use Rattle.checkout_book.specs.Entries.{number_or, number_in, entries, entry_of, history_of, events_of, parts_at}
+use Rattle.checkout_book.specs.Shelves.{cards_of, plan_of}
 use Rattle.checkout_book.specs.Reserving.{IsFinished}
-use Rattle.writer_pool.specs.Working.{IsShown, own_events}
-use Rattle.writer_pool.specs.Ends.{AreBack, IsFromBook, IsQuiet}
-use Rattle.writer_pool.proofs.Places.{eqb_self, there_or_past, get_map}
+use Rattle.writer_pool.specs.Closing.{IsFromBook, IsFromDesk, RefusedBacks, ServesCard, EndsCard}
+use Rattle.writer_pool.specs.Working.{blob_in, leaf_in, own_events}
+use Rattle.writer_pool.specs.Ends.{ShowsEnd, AreBack, IsQuiet}
+use Rattle.writer_pool.specs.Sealing.{SealsIn, SealsOn, leaf_in_slot}
+use Rattle.writer_pool.proofs.Places.{some_is, same_number, eqb_self, there_or_past, get_map, get_map_back}
+use Rattle.writer_pool.proofs.Closings.{own_notes}
 use Rattle.writer_pool.proofs.Resting.{TakesPath, ClosesPath, ended_at}
 use Rattle.writer_pool.proofs.Rows.{BacksPath, KeepsPaths, KeepsNone, none_with_driver}
 use Rattle.writer_pool.proofs.Acting.{back_at}
 
--- where an entry of an actor stands in its own list, behind those that came before it
+-- where an entry of an actor stands in its own list, behind just those of the actor that came before it
 record OwnPlace {E : Type 0} (h : List (ℕ × E)) (a i : ℕ) (e : E) : Type 0 where
   pub place : ℕ
   pub there : slice_get (own a h) place ≡ Some e
   pub before : (j : ℕ) (f : E) → j < i → slice_get h j ≡ Some (a, f)
       → (k : ℕ) × (k < place) × (slice_get (own a h) k ≡ Some f)
+  pub back : (k : ℕ) (f : E) → k < place → slice_get (own a h) k ≡ Some f
+      → (j : ℕ) × (j < i) × (slice_get h j ≡ Some (a, f))
 
 module _ {E : Type 0} where
   own_first : (a : ℕ) (x : ℕ × E) (xs : List (ℕ × E)) (e : E) → x ≡ (a, e) → OwnPlace (x ∷ xs) a zero e
@@ -42,6 +53,7 @@ module _ {E : Type 0} where
         place = zero;
         there = ap (λ (l : List E). slice_get l zero) list ∙ ap (λ (y : ℕ × E). Some y.1) is;
         before = λ j f lt at. absurd (omega (arith, lt));
+        back = λ k f lt at. absurd (omega (arith, lt));
       }
 
   own_behind : (a : ℕ) (x : ℕ × E) (xs : List (ℕ × E)) (i : ℕ) (e : E) → OwnPlace xs a i e
@@ -55,6 +67,7 @@ module _ {E : Type 0} where
             place = suc r.place;
             there = ap (λ (l : List E). slice_get l (suc r.place)) list ∙ r.there;
             before = λ j f lt at. first list j f lt at;
+            back = λ k f lt at. first_back list k f lt at;
           }
         where
           first : own a (x ∷ xs) ≡ x.1 ∷ own a xs → (j : ℕ) (f : E) → j < suc i
@@ -67,12 +80,28 @@ module _ {E : Type 0} where
               let q = r.before j f (omega (arith, lt)) at in
               let less = q.1 in
               (suc q.0, omega (arith, less), ap (λ (l : List E). slice_get l (suc q.0)) list ∙ q.2)
+
+          first_back : own a (x ∷ xs) ≡ x.1 ∷ own a xs → (k : ℕ) (f : E) → k < suc r.place
+              → slice_get (own a (x ∷ xs)) k ≡ Some f
+              → (j : ℕ) × (j < suc i) × (slice_get (x ∷ xs) j ≡ Some (a, f))
+          first_back list zero f lt at =
+              let is : x.1 ≡ f = some_is x.1 f (sym (ap (λ (l : List E). slice_get l zero) list) ∙ at) in
+              let seat = same_number x.0 a here in
+              (zero, omega arith, ap (λ (y : ℕ × E). Some y) (λ k. (seat k, is k)))
+          first_back list (suc k) f lt at =
+              let q = r.back k f (omega (arith, lt)) (sym (ap (λ (l : List E). slice_get l (suc k)) list) ∙ at) in
+              let less = q.1 in
+              (suc q.0, omega (arith, less), q.2)
       go false here =
           let list : own a (x ∷ xs) ≡ own a xs = ap (λ (b : Bool). cond b (x.1 ∷ own a xs) (own a xs)) here in
           record {
             place = r.place;
             there = ap (λ (l : List E). slice_get l r.place) list ∙ r.there;
             before = λ j f lt at. other list j f lt at;
+            back = λ k f lt at.
+                let q = r.back k f lt (sym (ap (λ (l : List E). slice_get l k) list) ∙ at) in
+                let less = q.1 in
+                (suc q.0, omega (arith, less), q.2);
           }
         where
           other : own a (x ∷ xs) ≡ own a xs → (j : ℕ) (f : E) → j < suc i → slice_get (x ∷ xs) j ≡ Some (a, f)
@@ -117,45 +146,201 @@ module _ {B L : Type 0} (see : Sight B L) where
   entry_at starts workers slots es i e at =
       get_map (λ (x : Event). (number_in starts workers x, entry_of (tell see) slots x)) es i e at
 
-  -- a Close of the history is one of its actor's own list
-  close_shown : (lock : TableId) (d : Plan B L) (made : ℕ) (ts : List (SeatView Entry (Plan B L))) (s : Shelf B L)
-      → AreBack see lock d 0 made ts → IsFinished see d ts s → (i p a : ℕ) (o : Own)
-      → slice_get s.events.items i ≡ Some (Close p a o) → IsFromBook d.starts.items s.events.items i p a
-      → IsShown see (cards_of d) (Close p a o) (entry_of (tell see) s.slots.items (Close p a o)).parts
-  close_shown lock d made ts s back f i p a o at from = ⊎_elim
-      (λ (t : (x : SeatView Entry (Plan B L)) × (slice_get ts a ≡ Some x)).
-      let b = back_at see lock d 0 made ts a t.0 back t.1 in
-      let mine : own a h ≡ mine_of t.0 = f.mine a t.0 t.1 in
-      let at_mine : slice_get (mine_of t.0) own_at.place ≡ Some e =
-      ap (λ (l : List Entry). slice_get l own_at.place) (sym mine) ∙ own_at.there in
-      b.1.shown own_at.place e p a o at_mine refl (⊎_elim
+  -- The card of a Close, by what its actor's own list shows.
+  pub record CardEnd (starts : List Start) (history : List Event) (cards : List (Card B L)) (i p a : ℕ) (o : Own)
+      (b : B) (l : L) : Type 0 where
+    pub number : ℕ
+    pub card : Card B L
+    pub planned : slice_get cards number ≡ Some card
+    pub path : card.path ≡ p
+    pub ends : EndsCard starts history i p a o (seen see card) (see.blob b) (see.leaf l)
+
+  -- A Close of the history, and its place in its actor's own list.
+  record OwnClose (d : Plan B L) (s : Shelf B L) (mine : List Entry) (i p a : ℕ) (o : Own) : Type 0 where
+    pub is : own a (history_of (tell see) s) ≡ mine
+    pub at : OwnPlace (history_of (tell see) s) a i (entry_of (tell see) s.slots.items (Close p a o))
+    pub shown : ShowsEnd see d (own_events mine) at.place p a o
+        (entry_of (tell see) s.slots.items (Close p a o)).parts
+
+  -- the claims before it in the history are those before it in the own list
+  own_book : (d : Plan B L) (s : Shelf B L) (mine : List Entry) (i p a : ℕ) (o : Own)
+      (c : OwnClose d s mine i p a o) → IsFromBook d.starts.items s.events.items i p a
+      → IsFromBook d.starts.items (own_events mine) c.at.place p a
+  own_book d s mine i p a o c from = ⊎_elim
       (λ (pool : slice_get d.starts.items p ≡ Some Pool). inl pool)
       (λ (claim : (j : ℕ) × (j < i) × (slice_get s.events.items j ≡ Some (Claim p a))).
-      let c = entry_at s.starts.value.items s.workers s.slots.items s.events.items claim.0 (Claim p a) claim.2 in
-      let k = own_at.before claim.0 (entry_of (tell see) s.slots.items (Claim p a)) claim.1 c in
+      let e = entry_at s.starts.value.items s.workers s.slots.items s.events.items claim.0 (Claim p a) claim.2 in
+      let k = c.at.before claim.0 (entry_of (tell see) s.slots.items (Claim p a)) claim.1 e in
       inr (
         k.0,
         k.1,
-        get_map (λ (x : Entry). x.event) (mine_of t.0) k.0
-            (entry_of (tell see) s.slots.items (Claim p a))
-            (ap (λ (l : List Entry). slice_get l k.0) (sym mine) ∙ k.2),
+        get_map (λ (x : Entry). x.event) mine k.0 (entry_of (tell see) s.slots.items (Claim p a))
+            (ap (λ (l : List Entry). slice_get l k.0) (sym c.is) ∙ k.2),
       ))
-      from))
+      from
+
+  own_desk : (d : Plan B L) (s : Shelf B L) (mine : List Entry) (i p a q : ℕ) (required : Bool) (o : Own)
+      (c : OwnClose d s mine i p a o) → IsFromDesk d.starts.items s.events.items i p a q required
+      → IsFromDesk d.starts.items (own_events mine) c.at.place p a q required
+  own_desk d s mine i p a q required o c from = record {
+    begun = from.begun;
+    unclaimed = λ k lt claim.
+        let x = get_map_back (λ (e : Entry). e.event) mine k (Claim p a) claim in
+        let j = c.at.back k x.0 lt (ap (λ (l : List Entry). slice_get l k) c.is ∙ x.1) in
+        let y = get_map_back (λ (e : Event).
+        (number_in s.starts.value.items s.workers e, entry_of (tell see) s.slots.items e)) s.events.items j.0
+        (a, x.0) j.2 in
+        from.unclaimed j.0 j.1
+        (y.1 ∙ ap (λ (e : Event). Some e) (ap (λ (z : ℕ × Entry). z.1.event) y.2 ∙ x.2));
+  }
+
+  -- the notes of a driver are those of its desk's own list
+  mine_notes : (d : Plan B L) (s : Shelf B L) (mine : List Entry) (q a : ℕ) → plan_of s ≡ d → a ≡ d.workers + q
+      → own a (history_of (tell see) s) ≡ mine
+      → notes d.starts.items q (own_events mine) ≡ notes d.starts.items q s.events.items
+  mine_notes d s mine q a plan seat is =
+      let desk : s.workers + q ≡ a = ap (λ (x : Plan B L). x.workers + q) plan ∙ sym seat in
+      let same : own (s.workers + q) (history_of (tell see) s) ≡ mine =
+      ap (λ (n : ℕ). own n (history_of (tell see) s)) desk ∙ is in
+      subst (λ (x : Plan B L). notes x.starts.items q (own_events mine) ≡ notes x.starts.items q s.events.items) plan
+      (ap (λ (es : List Entry). notes s.starts.value.items q (own_events es)) (sym same)
+      ∙ own_notes (tell see) s.starts.value.items s.workers q s.slots.items s.events.items)
+
+  own_end : (d : Plan B L) (s : Shelf B L) (mine : List Entry) (i p a : ℕ) (o : Own) (b : B) (l : L)
+      → plan_of s ≡ d → OwnClose d s mine i p a o → slice_get s.slots.items p ≡ Some (Ended b l)
+      → CardEnd d.starts.items s.events.items (cards_of d) i p a o b l
+  own_end d s mine i p a o b l plan c slot =
+      let w = c.shown in
+      let parts : w.ended ≡ tell see b l = some_is w.ended (tell see b l)
+      (sym w.there ∙ ap (λ (x : Option (Slot B L)). parts_at (tell see) x) slot) in
+      let ends = subst (λ (x : Parts). EndsCard d.starts.items (own_events mine) c.at.place p a o (seen see w.card)
+      (blob_in x) (leaf_in x)) parts w.ends in
+      record {
+        number = w.number;
+        card = w.card;
+        planned = w.planned;
+        path = w.path;
+        ends = record {
+          wrote = λ from. ends.wrote (own_book d s mine i p a o c from);
+          served = λ q required from.
+              let own_from = own_desk d s mine i p a q required o c from in
+              let notes_are = mine_notes d s mine q a plan (w.desk q required own_from) c.is in
+              subst (λ (es : List Event). ServesCard required (fate_of p Untold es) (seen see w.card) o (see.blob b)
+              (see.leaf l)) notes_are (ends.served q required own_from);
+        };
+      }
+
+  -- an entry of the history, in its actor's own list
+  record OwnEntry (s : Shelf B L) (ts : List (SeatView Entry (Plan B L))) (i a : ℕ) (e : Event) : Type 0 where
+    pub pass : SeatView Entry (Plan B L)
+    pub there : slice_get ts a ≡ Some pass
+    pub is : own a (history_of (tell see) s) ≡ mine_of pass
+    pub at : OwnPlace (history_of (tell see) s) a i (entry_of (tell see) s.slots.items e)
+    pub mine : slice_get (mine_of pass) at.place ≡ Some (entry_of (tell see) s.slots.items e)
+
+  own_entry : (d : Plan B L) (ts : List (SeatView Entry (Plan B L))) (s : Shelf B L) → IsFinished see d ts s
+      → (i a : ℕ) (e : Event) → slice_get s.events.items i ≡ Some e → number_in s.starts.value.items s.workers e ≡ a
+      → OwnEntry s ts i a e
+  own_entry d ts s f i a e at by = ⊎_elim
+      (λ (t : (x : SeatView Entry (Plan B L)) × (slice_get ts a ≡ Some x)).
+      let mine : own a h ≡ mine_of t.0 = f.mine a t.0 t.1 in
+      record {
+        pass = t.0;
+        there = t.1;
+        is = mine;
+        at = own_at;
+        mine = ap (λ (l : List Entry). slice_get l own_at.place) (sym mine) ∙ own_at.there;
+      })
       (λ (past : length ts ≤ a).
       let none = f.none a past in
-      let u : None ≡ Some e = sym (ap (λ (l : List Entry). slice_get l own_at.place) none) ∙ own_at.there in
+      let u : None ≡ Some x = sym (ap (λ (l : List Entry). slice_get l own_at.place) none) ∙ own_at.there in
       absurd (cc (u)))
       (there_or_past ts a)
     where
       h : List (ℕ × Entry)
       h = history_of (tell see) s
 
-      e : Entry
-      e = entry_of (tell see) s.slots.items (Close p a o)
+      x : Entry
+      x = entry_of (tell see) s.slots.items e
 
-      own_at : OwnPlace h a i e
-      own_at = own_place a h i e
-          (entry_at s.starts.value.items s.workers s.slots.items s.events.items i (Close p a o) at)
+      own_at : OwnPlace h a i x
+      own_at = own_place a h i x
+          (entry_at s.starts.value.items s.workers s.slots.items s.events.items i e at
+          ∙ ap (λ (n : ℕ). Some (n, x)) by)
+
+  -- a Close of the history is one of its actor's own list
+  own_close : (lock : TableId) (d : Plan B L) (made : ℕ) (ts : List (SeatView Entry (Plan B L))) (s : Shelf B L)
+      → AreBack see lock d 0 made ts → IsFinished see d ts s → (i p a : ℕ) (o : Own)
+      → slice_get s.events.items i ≡ Some (Close p a o)
+      → (x : SeatView Entry (Plan B L)) × (slice_get ts a ≡ Some x) × OwnClose d s (mine_of x) i p a o
+  own_close lock d made ts s back f i p a o at =
+      let c = own_entry d ts s f i a (Close p a o) at refl in
+      let k = back_at see lock d 0 made ts a c.pass back c.there in (
+        c.pass,
+        c.there,
+        record {
+          is = c.is;
+          at = c.at;
+          shown = k.1.shown c.at.place (entry_of (tell see) s.slots.items (Close p a o)) p a o c.mine refl;
+        },
+      )
+
+  -- what a desk's own list says of what it handed back
+  finished_backs : (lock : TableId) (d : Plan B L) (made : ℕ) (ts : List (SeatView Entry (Plan B L)))
+      (s : Shelf B L) → AreBack see lock d 0 made ts → IsFinished see d ts s
+      → RefusedBacks d.starts.items s.events.items
+  finished_backs lock d made ts s back f i p q required at begun =
+      let driver = ap (λ (o : Option Start). elim o as (λ _. Option ℕ) [ None ↦ None | Some s ↦ own_driver s ]) begun in
+      let by = subst (λ (x : Plan B L). number_in x.starts.items x.workers (HandBack p) ≡ d.workers + q)
+      (sym f.plan) (ap (λ (o : Option ℕ). number_or (seat d.workers o)) driver) in
+      let c = own_entry d ts s f i (d.workers + q) (HandBack p) at by in
+      let k = back_at see lock d 0 made ts (d.workers + q) c.pass back c.there in
+      let r = k.1.backs c.at.place p q required
+      (get_map (λ (x : Entry). x.event) (mine_of c.pass) c.at.place (entry_of (tell see) s.slots.items (HandBack p))
+      c.mine) begun in
+      (r.0, r.1, ap (fate_of p Untold) (sym (mine_notes d s (mine_of c.pass) q (d.workers + q) f.plan refl c.is)) ∙ r.2)
+
+  close_shown : (lock : TableId) (d : Plan B L) (made : ℕ) (ts : List (SeatView Entry (Plan B L))) (s : Shelf B L)
+      → AreBack see lock d 0 made ts → IsFinished see d ts s → (i p a : ℕ) (o : Own) (b : B) (l : L)
+      → slice_get s.events.items i ≡ Some (Close p a o) → slice_get s.slots.items p ≡ Some (Ended b l)
+      → CardEnd d.starts.items s.events.items (cards_of d) i p a o b l
+  close_shown lock d made ts s back f i p a o b l at slot =
+      let c = own_close lock d made ts s back f i p a o at in
+      own_end d s (mine_of c.0) i p a o b l f.plan c.2 slot
+
+  slot_of : (o : Option (Slot B L)) (l : L) → leaf_in_slot o ≡ Some l → (b : B) × (o ≡ Some (Ended b l))
+  slot_of None l e = absurd (cc (e))
+  slot_of (Some Away) l e = absurd (cc (e))
+  slot_of (Some (Waits c)) l e = absurd (cc (e))
+  slot_of (Some (Ended b k)) l e = (b, ap (λ (z : L). Some (Ended b z)) (some_is k l e))
+
+  -- a leaf that a desk sealed, by the history, is one of those that its own list tells of
+  pub seals_own : (lock : TableId) (d : Plan B L) (made : ℕ) (ts : List (SeatView Entry (Plan B L))) (s : Shelf B L)
+      → AreBack see lock d 0 made ts → IsFinished see d ts s → (q : ℕ) (t : SeatView Entry (Plan B L))
+      → slice_get ts (d.workers + q) ≡ Some t → (p : ℕ) (told : Option (List ℕ)) → SealsOn see s q p told
+      → SealsIn (mine_of t) p told
+  seals_own lock d made ts s back f q t at p told z =
+      let c = own_close lock d made ts s back f z.place p z.actor z.own z.entry in
+      let own_from = own_desk d s (mine_of c.0) z.place p z.actor q z.required z.own c.2
+      (subst (λ (x : Plan B L). IsFromDesk x.starts.items s.events.items z.place p z.actor q z.required) f.plan
+      z.desk) in
+      let seat = c.2.shown.desk q z.required own_from in
+      let same : c.0 ≡ t = some_is c.0 t (sym c.1 ∙ (ap (slice_get ts) seat ∙ at)) in
+      let slot = slot_of (slice_get s.slots.items p) z.leaf z.there in
+      subst (λ (x : SeatView Entry (Plan B L)). SealsIn (mine_of x) p told) same (record {
+        place = c.2.at.place;
+        actor = z.actor;
+        own = z.own;
+        ended = tell see slot.0 z.leaf;
+        mark = z.mark;
+        here = ap (λ (l : List Entry). slice_get l c.2.at.place) (sym c.2.is)
+            ∙ (c.2.at.there
+            ∙ ap (λ (o : Option (Slot B L)).
+            Some (record { event = Close p z.actor z.own; parts = parts_at (tell see) o })) slot.1);
+        unclaimed = own_from.unclaimed;
+        sealed = z.sealed;
+        content = z.content;
+      })
 
   -- the desks left each path of their drivers
   all_left : (lock : TableId) (d : Plan B L) (made : ℕ) (ts : List (SeatView Entry (Plan B L))) (s : Shelf B L)
@@ -186,11 +371,11 @@ module _ {B L : Type 0} (see : Sight B L) where
         f.sound.below f.sound.run
         (subst (λ (x : Plan B L). (q p : ℕ) → q < x.drivers → contains p (paths_of q x.starts.items) ≡ true
         → is_left p s.events.items ≡ true) (sym f.plan) (all_left lock d made ts s back long f));
-    closed = λ i p a o at from.
+    backs = subst (λ (x : Plan B L). RefusedBacks x.starts.items s.events.items) (sym f.plan)
+        (finished_backs lock d made ts s back f);
+    closed = λ i p a o at.
         let e = ended_at s.slots.items s.events.items i p a o f.sound.ended at in
-        let from_d = subst (λ (x : Plan B L). IsFromBook x.starts.items s.events.items i p a) f.plan from in
-        let one = close_shown lock d made ts s back f i p a o at from_d in
-        let g = subst (λ (x : Option (Slot B L)). IsShown see (cards_of d) (Close p a o) (parts_at (tell see) x)) e.2
-        one in
-        (e.0, e.1, e.2, g.0, g.1, ap (λ (x : Plan B L). slice_get (cards_of x) g.0) f.plan ∙ g.2, g.3, g.4);
+        let c = subst (λ (x : Plan B L). CardEnd x.starts.items s.events.items (cards_of x) i p a o e.0 e.1)
+        (sym f.plan) (close_shown lock d made ts s back f i p a o e.0 e.1 at e.2) in
+        (e.0, e.1, e.2, c.number, c.card, c.planned, c.path, c.ends);
   }

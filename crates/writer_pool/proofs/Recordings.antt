@@ -33,15 +33,15 @@ use Rattle.driver_desk.specs.Recorders.{Standing, event_of, events_in, MayDo}
 use Rattle.driver_desk.specs.Serving.{Given, Noted, Closed, HandedBack}
 use Rattle.writer_pool.specs.Working.{own_events}
 use Rattle.writer_pool.specs.OnBook.{card_of, closed_by, given_by, given_in, ClosesOwn, CloseOwn, Recording, place_of, items_of, desk_cards, IsDeskPass, standing_at, standing_of, given_of}
-use Rattle.writer_pool.proofs.Places.{some_is, same_number, eqb_self, get_map, get_map_back, get_front}
+use Rattle.writer_pool.proofs.Places.{some_is, same_number, eqb_self, get_map, get_map_back, get_front, get_second}
 use Rattle.writer_pool.proofs.Dealt.{same_place, starts_at}
 
 -- the entries are the actor's
-abbrev AllBy : List Start → ℕ → ℕ → List Entry → Type 0
+abbrev pub AllBy : List Start → ℕ → ℕ → List Entry → Type 0
 AllBy starts workers n [] = Unit {0}
 AllBy starts workers n (e ∷ es) = (actor_of starts workers e.event ≡ Some n) × AllBy starts workers n es
 
-own_by : (starts : List Start) (workers n : ℕ) (h : List (ℕ × Entry)) → Stamped starts workers h
+pub own_by : (starts : List Start) (workers n : ℕ) (h : List (ℕ × Entry)) → Stamped starts workers h
     → AllBy starts workers n (own n h)
 own_by starts workers n [] s = tt
 own_by starts workers n (x ∷ xs) s = go (x.0 == n) refl (own_by starts workers n xs s.1)
@@ -64,7 +64,7 @@ found_path p (c ∷ cs) card e = go (λ f. found_path p cs card f) (c.path == p)
     go more false other f = more f
 
 -- where no other card has its path, the card is found
-is_found : (p : ℕ) (cards : List CardSeen) (card : CardSeen) (k : ℕ) → slice_get cards k ≡ Some card → card.path ≡ p
+pub is_found : (p : ℕ) (cards : List CardSeen) (card : CardSeen) (k : ℕ) → slice_get cards k ≡ Some card → card.path ≡ p
     → ((i : ℕ) (x : CardSeen) → slice_get cards i ≡ Some x → x.path ≡ p → x ≡ card) → card_of p cards ≡ Some card
 is_found p [] card k at path one = absurd (cc (at))
 is_found p (c ∷ cs) card zero at path one =
@@ -170,11 +170,11 @@ ListsOwn B L = (lock : TableId) (d : Plan B L) (n made : ℕ) (pass : SeatView E
     → own_entries d.starts.items d.workers n (events_of (seen_of pass)) ≡ map (λ e. e.event) (mine_of pass)
 
 own_more : (starts : List Start) (q : ℕ) (xs : List Entry) (e : Entry) → CloseOwn starts q xs
-    → ClosesOwn starts q e.event → CloseOwn starts q (xs ++ e ∷ [])
+    → ClosesOwn starts q e.event e.parts → CloseOwn starts q (xs ++ e ∷ [])
 own_more starts q [] e all last = (last, tt)
 own_more starts q (x ∷ xs) e all last = (all.0, own_more starts q xs e all.1 last)
 
-note_own : (starts : List Start) (q : ℕ) (e : Event) → is_noted e ≡ true → ClosesOwn starts q e
+note_own : (starts : List Start) (q : ℕ) (e : Event) → is_noted e ≡ true → ClosesOwn starts q e None
 note_own starts q (ev.Claim p a) is = tt
 note_own starts q (Close p a o) is = absurd (cc (is))
 note_own starts q (HandBack p) is = tt
@@ -198,12 +198,6 @@ path_driver q starts i p e =
     let s = starts_at q starts i p e in
     ap (λ (o : Option Start). elim o [ None ↦ None | Some s ↦ own_driver s ]) s.there ∙ driver_is q s.start s.at
 
-get_second : {A : Type 0} (xs ys : List A) (i : ℕ) → slice_get (xs ++ ys) (length xs + i) ≡ slice_get ys i
-get_second [] ys i = ap (slice_get ys) (omega arith)
-get_second (x ∷ xs) ys i =
-    let n : suc (length xs) + i ≡ suc (length xs + i) = omega arith in
-    ap (slice_get (x ∷ (xs ++ ys))) n ∙ get_second xs ys i
-
 module _ {B L : Type 0} where
   in_joined : (vs : List (Vec (Card B L))) (q : ℕ) (k : ℕ) (c : Card B L)
       → slice_get (items_of (slice_get vs q)) k ≡ Some c → (j : ℕ) × (slice_get (joined vs) j ≡ Some c)
@@ -214,7 +208,7 @@ module _ {B L : Type 0} where
       (length v.items + r.0, get_second v.items (joined vs) r.0 ∙ r.1)
 
   -- a desk's card is a planned one
-  in_cards : (d : Plan B L) (q k : ℕ) (c : Card B L) → slice_get (desk_cards d q) k ≡ Some c
+  pub in_cards : (d : Plan B L) (q k : ℕ) (c : Card B L) → slice_get (desk_cards d q) k ≡ Some c
       → (j : ℕ) × (slice_get (cards_of d) j ≡ Some c)
   in_cards d q k c e =
       let r = in_joined d.desks.items q k c e in
@@ -235,7 +229,7 @@ module _ {B L : Type 0} where
 
 module _ {B L : Type 0} (see : Sight B L) where
   -- a desk has one card of each path
-  one_card : (d : Plan B L) (q : ℕ) → AreDealt d.starts.items 0 d.desks.items → (i j : ℕ) (x y : CardSeen)
+  pub one_card : (d : Plan B L) (q : ℕ) → AreDealt d.starts.items 0 d.desks.items → (i j : ℕ) (x y : CardSeen)
       → slice_get (map (λ c. seen see c) (desk_cards d q)) i ≡ Some x
       → slice_get (map (λ c. seen see c) (desk_cards d q)) j ≡ Some y → x.path ≡ y.path → x ≡ y
   one_card d q dealt i j x y e f same =
@@ -301,7 +295,7 @@ module _ {B L : Type 0} (see : Sight B L) where
   after : (lock : TableId) (s t : SeatView Entry (Plan B L)) (required : Bool) (g : Given) (i : IsDeskPass lock s)
       (c : Core) (e : Entry) → IsPass lock i.plan (number_of s) i.made t c → mine_of t ≡ mine_of s ++ e ∷ []
       → ((q : ℕ) → held_at c (number_of s) q ≡ false)
-      → ClosesOwn i.plan.starts.items (number_of s - i.plan.workers) e.event
+      → ClosesOwn i.plan.starts.items (number_of s - i.plan.workers) e.event e.parts
       → given_by (map (λ c. seen see c) (desk_cards i.plan (number_of s - i.plan.workers))) e.event e.parts ≡ g
       → After lock (record { pass = s; required = required }) t required g
   after lock s t required g i c e pass mine hands own is =
@@ -336,7 +330,7 @@ module _ {B L : Type 0} (see : Sight B L) where
         place = λ k. record { lock = place k; plan = told k; number = number k; made = made k };
       }
 
-  seat_is : (lock : TableId) (s : SeatView Entry (Plan B L)) (i : IsDeskPass lock s)
+  pub seat_is : (lock : TableId) (s : SeatView Entry (Plan B L)) (i : IsDeskPass lock s)
       → i.plan.workers + (number_of s - i.plan.workers) ≡ number_of s
   seat_is lock s i = let le = i.desk in omega (arith, le)
 

@@ -1,5 +1,5 @@
 -- What still waits is written and closed.
-use Rattle.std.proofs.Common.{◌≡◌, ◌==◌, ℕ, zero, suc, ◌<◌, inl, inr, ⊎_elim, Bool, true, false, cond, List, [], ◌∷◌, ◌++◌, length, Option, Some, None, refl, sym, ap, ◌∙◌, subst, append_assoc, arith}
+use Rattle.std.proofs.Common.{◌≡◌, ◌==◌, ℕ, zero, suc, ◌<◌, ⊎_elim, Bool, true, false, cond, List, [], ◌∷◌, ◌++◌, length, Option, Some, None, refl, sym, ap, ◌∙◌, subst, append_assoc, arith}
 use Rattle.std.specs.Prelude.{slice_get, slice_set, ◌||◌}
 use Rattle.convert_plan.specs.declared.card.Card.{Card}
 use Rattle.convert_plan.specs.Card.{CardSeen, IsCardOf}
@@ -9,12 +9,12 @@ use Rattle.checkout_core.specs.declared.verdict.Verdict.{Verdict}
 use Rattle.checkout_core.specs.declared.path.PathState.{PathState}
 use Rattle.checkout_core.specs.declared.path.PathState.TheVariants.{Waiting, Held, Closed}
 use Rattle.checkout_core.specs.declared.path.Path.{Path}
-use Rattle.checkout_core.specs.declared.path.Start.{Start}
-use Rattle.checkout_core.specs.declared.path.Start.TheVariants.{Pool}
 use Rattle.checkout_core.specs.declared.event.Event.{Event}
-use Rattle.checkout_core.specs.declared.event.Event.TheVariants.{Claim, Close}
+use Rattle.checkout_core.specs.declared.event.Event.TheVariants.{Claim, Close, HandBack}
 use Rattle.checkout_core.specs.States.{Core, with_state}
 use Rattle.checkout_core.specs.Steps.{step_of}
+use Rattle.checkout_core.specs.Fates.{Untold, fate_of}
+use Rattle.checkout_core.specs.Notes.{notes}
 use Rattle.checkout_core.specs.Hands.{is_held, held_at, Holds}
 use Rattle.core_laws.specs.Moves.{Moved, is_with_driver}
 use Rattle.checkout_book.specs.declared.plan.Plan.{Plan}
@@ -26,8 +26,11 @@ use Rattle.checkout_book.specs.Shelves.{plan_of, cards_of, IsPlanned, IsRow, Lie
 use Rattle.checkout_book.specs.Ending.{GoesOn}
 use Rattle.checkout_book.specs.Turns.{Turned, Claimed}
 use Rattle.writer_pool.specs.Writing.{WritesCard}
-use Rattle.writer_pool.specs.Ends.{IsFromBook, IsQuiet}
-use Rattle.writer_pool.proofs.Places.{some_is, get_set_same, get_set_other, get_more, get_within, place_is}
+use Rattle.writer_pool.specs.Closing.{IsFromDesk, RefusedBacks, EndsCard}
+use Rattle.writer_pool.specs.Ends.{IsQuiet}
+use Rattle.writer_pool.specs.Sealing.{SealsOn, leaf_in_slot}
+use Rattle.writer_pool.proofs.Places.{some_is, get_set_same, get_set_other, get_more, get_front, get_last, place_is}
+use Rattle.writer_pool.proofs.Closings.{notes_quiet, desk_before, ends_longer, ends_claimed}
 use Rattle.writer_pool.proofs.CoreMoves.{moved_here, hands_moved, away_moved}
 use Rattle.writer_pool.proofs.WorkTurns.{shown}
 
@@ -38,22 +41,6 @@ TakesPath = (c x : Core) (p a : ℕ) → step_of c (Claim p a) ≡ Some x
 abbrev pub ClosesPath : Type 0
 ClosesPath = (c x : Core) (p a : ℕ) (o : Own) → step_of c (Close p a o) ≡ Some x
     → (s : PathState) × (v : Verdict) × Moved c x p s (Closed v) × ((is_held a s || is_with_driver s) ≡ true)
-
--- what came before a place of a history is the same in a longer one
-from_before : (starts : List Start) (es more longer : List Event) (i p a : ℕ) (e : Event) → longer ≡ es ++ more
-    → slice_get es i ≡ Some e → IsFromBook starts longer i p a → IsFromBook starts es i p a
-from_before starts es more longer i p a e is at h = ⊎_elim
-    (λ (pool : slice_get starts p ≡ Some Pool). inl pool)
-    (λ (claim : (j : ℕ) × (j < i) × (slice_get longer j ≡ Some (Claim p a))).
-    let lt : i < length es = place_is es i e at in
-    let less = claim.1 in
-    inr (
-      claim.0,
-      claim.1,
-      sym (get_within es more claim.0 (omega (arith, less, lt)))
-          ∙ (ap (λ (l : List Event). slice_get l claim.0) (sym is) ∙ claim.2),
-    ))
-    h
 
 module _ {B L : Type 0} where
   pub ended_at : (slots : List (Slot B L)) (es : List Event) (i p a : ℕ) (o : Own) → AreEnded slots es
@@ -114,6 +101,111 @@ module _ {B L : Type 0} (see : Sight B L) where
       let u : Some (Ended e.0 e.1) ≡ Some (Waits k) = sym e.2 ∙ (ap (slice_get s0.slots.items) is ∙ c.was) in
       cc (u)
 
+  -- the history after the claim and the Close
+  turn_events : (s0 s1 s2 : Shelf B L) (k w : Card B L) (o : Own) → Claimed 0 s0 s1 k
+      → Turned (Close w.path 0 o) w.path (Ended w.blob w.leaf) s1 s2
+      → s2.events.items ≡ s0.events.items ++ Claim k.path 0 ∷ Close w.path 0 o ∷ []
+  turn_events s0 s1 s2 k w o c turned =
+      turned.events ∙ (ap (λ (l : List Event). l ++ Close w.path 0 o ∷ []) c.turned.events
+      ∙ append_assoc s0.events.items (Claim k.path 0 ∷ []) (Close w.path 0 o ∷ []))
+
+  -- the slot of another path stays
+  slot_stays : (s0 s1 s2 : Shelf B L) (k w : Card B L) (o : Own) (p : ℕ) → Claimed 0 s0 s1 k
+      → Turned (Close w.path 0 o) w.path (Ended w.blob w.leaf) s1 s2 → k.path ≡ w.path → (p ≡ k.path → ⊥)
+      → slice_get s2.slots.items p ≡ slice_get s0.slots.items p
+  slot_stays s0 s1 s2 k w o p c turned path other =
+      ap (λ (l : List (Slot B L)). slice_get l p) turned.slots
+      ∙ (get_set_other s1.slots.items w.path p (Ended w.blob w.leaf) (λ same. other (same ∙ sym path))
+      ∙ (ap (λ (l : List (Slot B L)). slice_get l p) c.turned.slots
+      ∙ get_set_other s0.slots.items k.path p Away other))
+
+  -- the card that was closed last was claimed right before
+  last_claim : (s0 s1 s2 : Shelf B L) (k w : Card B L) (o : Own) (i p a : ℕ) (x : Own) → Claimed 0 s0 s1 k
+      → Turned (Close w.path 0 o) w.path (Ended w.blob w.leaf) s1 s2 → k.path ≡ w.path
+      → Close w.path 0 o ≡ Close p a x → i ≡ length s1.events.items
+      → (j : ℕ) × (j < i) × (slice_get s2.events.items j ≡ Some (Claim p a))
+  last_claim s0 s1 s2 k w o i p a x c turned path last place =
+      let closed : w.path ≡ p = cc (last) in
+      let by : 0 ≡ a = cc (last) in
+      let j = length s0.events.items in
+      let first : slice_get s1.events.items j ≡ Some (Claim k.path 0) =
+      ap (λ (l : List Event). slice_get l j) c.turned.events ∙ get_last s0.events.items (Claim k.path 0) in
+      let within : j < length s1.events.items = place_is s1.events.items j (Claim k.path 0) first in
+      let same : k.path ≡ p = path ∙ closed in (
+        j,
+        omega (arith, within, place),
+        ap (λ (l : List Event). slice_get l j) turned.events
+            ∙ (get_front s1.events.items (Close w.path 0 o ∷ []) j (Claim k.path 0) first
+            ∙ (λ m. Some (Claim (same m) (by m)))),
+      )
+
+  last_ends : (s0 s1 s2 : Shelf B L) (k w : Card B L) (o : Own) (i p a : ℕ) (x : Own) (card : CardSeen)
+      → Claimed 0 s0 s1 k → Turned (Close w.path 0 o) w.path (Ended w.blob w.leaf) s1 s2 → k.path ≡ w.path
+      → Close w.path 0 o ≡ Close p a x → i ≡ length s1.events.items
+      → WritesCard card o (see.blob w.blob) (see.leaf w.leaf)
+      → EndsCard (plan_of s2).starts.items s2.events.items i p a x card (see.blob w.blob) (see.leaf w.leaf)
+  last_ends s0 s1 s2 k w o i p a x card c turned path last place wrote =
+      let owns : o ≡ x = cc (last) in
+      let t = last_claim s0 s1 s2 k w o i p a x c turned path last place in
+      ends_claimed (plan_of s2).starts.items s2.events.items t.0 i p a x card (see.blob w.blob) (see.leaf w.leaf) t.1
+      t.2 (subst (λ (y : Own). WritesCard card y (see.blob w.blob) (see.leaf w.leaf)) owns wrote)
+
+  -- a leaf that a desk sealed was sealed before
+  pub rest_seals : (s0 s1 s2 : Shelf B L) (k w : Card B L) (o : Own) → IsQuiet see s0 → Claimed 0 s0 s1 k
+      → Turned (Close w.path 0 o) w.path (Ended w.blob w.leaf) s1 s2 → IsCardOf (seen see k) (seen see w)
+      → (q p : ℕ) (told : Option (List ℕ)) → SealsOn see s2 q p told → SealsOn see s0 q p told
+  rest_seals s0 s1 s2 k w o quiet c turned kept q p told z = ⊎_elim
+      (λ (older : slice_get s1.events.items z.place ≡ Some (Close p z.actor z.own)). ⊎_elim
+      (λ (oldest : slice_get s0.events.items z.place ≡ Some (Close p z.actor z.own)).
+      let before = desk_before s2.starts.value.items s0.events.items (Claim k.path 0 ∷ Close w.path 0 o ∷ [])
+      s2.events.items z.place p z.actor q z.required (turn_events s0 s1 s2 k w o c turned) z.desk in
+      record {
+        place = z.place;
+        actor = z.actor;
+        own = z.own;
+        required = z.required;
+        leaf = z.leaf;
+        mark = z.mark;
+        entry = oldest;
+        desk = subst (λ (d : Plan B L). IsFromDesk d.starts.items s0.events.items z.place p z.actor q z.required)
+            (turned.plan ∙ c.turned.plan) before;
+        there = ap leaf_in_slot (sym (slot_stays s0 s1 s2 k w o p c turned (sym is)
+            (close_same s0 s1 k quiet c z.place p z.actor z.own oldest))) ∙ z.there;
+        sealed = z.sealed;
+        content = z.content;
+      })
+      (λ (claim : (Claim k.path 0 ≡ Close p z.actor z.own) × (z.place ≡ length s0.events.items)).
+      absurd (let u = claim.0 in cc (u)))
+      (get_more s0.events.items (Claim k.path 0) z.place (Close p z.actor z.own)
+      (ap (λ (l : List Event). slice_get l z.place) (sym c.turned.events) ∙ older)))
+      (λ (last : (Close w.path 0 o ≡ Close p z.actor z.own) × (z.place ≡ length s1.events.items)).
+      let t = last_claim s0 s1 s2 k w o z.place p z.actor z.own c turned (sym is) last.0 last.1 in
+      absurd (z.desk.unclaimed t.0 t.1 t.2))
+      (get_more s1.events.items (Close w.path 0 o) z.place (Close p z.actor z.own)
+      (ap (λ (l : List Event). slice_get l z.place) (sym turned.events) ∙ z.entry))
+    where
+      is : w.path ≡ k.path
+      is = ap (λ (y : CardSeen). y.path) kept
+
+  -- what was handed back was handed back before
+  rest_backs : (s0 s1 s2 : Shelf B L) (k w : Card B L) (o : Own) → IsQuiet see s0 → Claimed 0 s0 s1 k
+      → Turned (Close w.path 0 o) w.path (Ended w.blob w.leaf) s1 s2
+      → RefusedBacks (plan_of s2).starts.items s2.events.items
+  rest_backs s0 s1 s2 k w o quiet c turned = subst (λ (d : Plan B L). RefusedBacks d.starts.items s2.events.items)
+      (sym (turned.plan ∙ c.turned.plan)) (λ i p d required at begun. ⊎_elim
+      (λ (older : slice_get s1.events.items i ≡ Some (HandBack p)). ⊎_elim
+      (λ (oldest : slice_get s0.events.items i ≡ Some (HandBack p)).
+      let r = quiet.backs i p d required oldest begun in
+      let same = ap (notes (plan_of s0).starts.items d) (turn_events s0 s1 s2 k w o c turned)
+      ∙ notes_quiet (plan_of s0).starts.items d s0.events.items (Claim k.path 0 ∷ Close w.path 0 o ∷ []) refl in
+      (r.0, r.1, ap (fate_of p Untold) same ∙ r.2))
+      (λ (claim : (Claim k.path 0 ≡ HandBack p) × (i ≡ length s0.events.items)). absurd (let u = claim.0 in cc (u)))
+      (get_more s0.events.items (Claim k.path 0) i (HandBack p)
+      (ap (λ (l : List Event). slice_get l i) (sym c.turned.events) ∙ older)))
+      (λ (last : (Close w.path 0 o ≡ HandBack p) × (i ≡ length s1.events.items)). absurd (let u = last.0 in cc (u)))
+      (get_more s1.events.items (Close w.path 0 o) i (HandBack p)
+      (ap (λ (l : List Event). slice_get l i) (sym turned.events) ∙ at)))
+
   free : (b x h : Bool) → h ≡ false → cond b false (cond b x h) ≡ false
   free true x h e = refl
   free false x h e = e
@@ -137,36 +229,31 @@ module _ {B L : Type 0} (see : Sight B L) where
             (sym is)
             ∙ free (q == w.path) (is_held a (Held 0 h.raw)) (held_at s0.core a q) (quiet.hands a q)));
         away = away_moved s1.core s2.core w.path z.0 (Closed z.1) z.2 refl away1;
-        closed = λ i p a x at from. ⊎_elim
+        backs = rest_backs s0 s1 s2 k w o quiet c turned;
+        closed = λ i p a x at. ⊎_elim
             (λ (older : slice_get s1.events.items i ≡ Some (Close p a x)). ⊎_elim
             (λ (oldest : slice_get s0.events.items i ≡ Some (Close p a x)).
-            let starts : (plan_of s2).starts.items ≡ (plan_of s0).starts.items =
-            ap (λ (d : Plan B L). d.starts.items) plan in
-            let from0 = subst (λ (l : List Start). IsFromBook l s2.events.items i p a) starts from in
-            let all : s2.events.items ≡ s0.events.items ++ Claim k.path 0 ∷ Close w.path 0 o ∷ [] =
-            turned.events ∙ (ap (λ (l : List Event). l ++ Close w.path 0 o ∷ []) c.turned.events
-            ∙ append_assoc s0.events.items (Claim k.path 0 ∷ []) (Close w.path 0 o ∷ [])) in
-            let e = quiet.closed i p a x oldest (from_before (plan_of s0).starts.items s0.events.items
-            (Claim k.path 0 ∷ Close w.path 0 o ∷ []) s2.events.items i p a (Close p a x) all oldest from0) in
+            let e = quiet.closed i p a x oldest in
             let other : p ≡ k.path → ⊥ = close_same s0 s1 k quiet c i p a x oldest in (
               e.0,
               e.1,
-              ap (λ (l : List (Slot B L)). slice_get l p) turned.slots
-                  ∙ (get_set_other s1.slots.items w.path p (Ended w.blob w.leaf) (λ same. other (same ∙ is))
-                  ∙ (ap (λ (l : List (Slot B L)). slice_get l p) c.turned.slots
-                  ∙ (get_set_other s0.slots.items k.path p Away other ∙ e.2))),
+              slot_stays s0 s1 s2 k w o p c turned (sym is) other ∙ e.2,
               e.3,
               e.4,
               ap (λ (d : Plan B L). slice_get (cards_of d) e.3) plan ∙ e.5,
               e.6,
-              e.7,
+              subst (λ (d : Plan B L). EndsCard d.starts.items s2.events.items i p a x (seen see e.4) (see.blob e.0)
+                  (see.leaf e.1)) (sym plan) (ends_longer (plan_of s0).starts.items s0.events.items
+                  (Claim k.path 0 ∷ Close w.path 0 o ∷ []) s2.events.items i p a x (seen see e.4) (see.blob e.0)
+                  (see.leaf e.1) (turn_events s0 s1 s2 k w o c turned) refl oldest e.7),
             ))
-            (λ (claim : Claim k.path 0 ≡ Close p a x). absurd (cc (claim)))
+            (λ (claim : (Claim k.path 0 ≡ Close p a x) × (i ≡ length s0.events.items)).
+            absurd (let u = claim.0 in cc (u)))
             (get_more s0.events.items (Claim k.path 0) i (Close p a x)
             (ap (λ (l : List Event). slice_get l i) (sym c.turned.events) ∙ older)))
-            (λ (last : Close w.path 0 o ≡ Close p a x).
-            let same : w.path ≡ p = cc (last) in
-            let owns : o ≡ x = cc (last) in
+            (λ (last : (Close w.path 0 o ≡ Close p a x) × (i ≡ length s1.events.items)).
+            let u = last.0 in
+            let same : w.path ≡ p = cc (u) in
             let g = shown see (cards_of (plan_of s0)) k w 0 o h.planned kept wrote in (
               w.blob,
               w.leaf,
@@ -180,7 +267,7 @@ module _ {B L : Type 0} (see : Sight B L) where
               g.1,
               ap (λ (d : Plan B L). slice_get (cards_of d) g.0) plan ∙ g.2,
               g.3 ∙ same,
-              subst (λ (y : Own). WritesCard (seen see g.1) y (see.blob w.blob) (see.leaf w.leaf)) owns g.4,
+              last_ends s0 s1 s2 k w o i p a x (seen see g.1) c turned (sym is) last.0 last.1 g.4,
             ))
             (get_more s1.events.items (Close w.path 0 o) i (Close p a x)
             (ap (λ (l : List Event). slice_get l i) (sym turned.events) ∙ at));

@@ -1,6 +1,6 @@
 -- What a worker did, turn by turn.
-use Rattle.std.proofs.Common.{◌≡◌, ◌==◌, ℕ, Bool, true, false, cond, List, [], ◌∷◌, ◌++◌, Option, Some, None, refl, sym, ap, ◌∙◌, subst, append_assoc}
-use Rattle.std.specs.Prelude.{is_some}
+use Rattle.std.proofs.Common.{◌≡◌, ◌==◌, ℕ, zero, suc, ◌<◌, Bool, true, false, cond, List, [], ◌∷◌, ◌++◌, Option, Some, None, refl, sym, ap, ◌∙◌, subst, append_assoc, arith}
+use Rattle.std.specs.Prelude.{is_some, slice_get}
 use Rattle.std.proofs.lemmas.List.{append-nil}
 use mathlib.Core.List.{map-append}
 use Rattle.atomic_table.specs.Seated.{TableId}
@@ -17,7 +17,7 @@ use Rattle.checkout_core.specs.declared.verdict.Own.TheVariants as own
 use Rattle.checkout_core.specs.declared.verdict.Verdict.{Verdict}
 use Rattle.checkout_core.specs.declared.path.PathState.TheVariants.{Waiting}
 use Rattle.checkout_core.specs.declared.event.Event.{Event}
-use Rattle.checkout_core.specs.declared.event.Event.TheVariants.{Close}
+use Rattle.checkout_core.specs.declared.event.Event.TheVariants.{Claim, Close, HandBack}
 use Rattle.checkout_core.specs.States.{Core}
 use Rattle.checkout_core.specs.Verdicts.{held_close}
 use Rattle.checkout_core.specs.Actors.{is_step}
@@ -31,7 +31,8 @@ use Rattle.checkout_book.specs.Shelves.{cards_of, IsPlanned, IsOut, WaitsSo}
 use Rattle.checkout_book.specs.Passes.{Claims, Closes, TookNone, TookCard, claim_entry, close_entry}
 use Rattle.checkout_book.specs.Reserving.{HasNothing, AreNew}
 use Rattle.writer_pool.specs.Writing.{IsToWrite, WritesCard}
-use Rattle.writer_pool.specs.Working.{IsShown, AreShown, Worked, Idled, own_events}
+use Rattle.writer_pool.specs.Working.{AreTurns, IsShown, AreShown, Worked, Idled, own_events}
+use Rattle.writer_pool.proofs.Places.{some_is}
 
 pub begins_trans : {E : Type 0} (xs ys zs : List (ℕ × E)) → Begins xs ys → Begins ys zs → Begins xs zs
 begins_trans xs ys zs b c = (b.0 ++ c.0, sym (append_assoc xs b.0 c.0) ∙ (ap (λ l. l ++ c.0) b.1 ∙ c.1))
@@ -44,6 +45,36 @@ noted_more (x ∷ xs) ys e f = go (is_noted x) f (noted_more xs ys e)
         → cond b (x ∷ noted (xs ++ ys)) (noted (xs ++ ys)) ≡ []
     go true h more = absurd (cc (h))
     go false h more = more h
+
+turns_more : (xs ys : List Event) → AreTurns xs → AreTurns ys → AreTurns (xs ++ ys)
+turns_more [] ys h k = k
+turns_more (c ∷ []) ys h k = absurd h
+turns_more (c ∷ e ∷ xs) ys h k = (h.0, turns_more xs ys h.1 k)
+
+-- what is closed in turns was claimed before
+pub turns_claimed : (es : List Event) (i p a : ℕ) (o : Own) → AreTurns es → slice_get es i ≡ Some (Close p a o)
+    → (j : ℕ) × (j < i) × (slice_get es j ≡ Some (Claim p a))
+turns_claimed [] i p a o h at = absurd (cc (at))
+turns_claimed (c ∷ []) i p a o h at = absurd h
+turns_claimed (c ∷ e ∷ es) zero p a o h at = absurd (let t = h.0 in let claim = t.3 in cc (at, claim))
+turns_claimed (c ∷ e ∷ es) (suc zero) p a o h at =
+    let t = h.0 in
+    let is : Close t.0 t.1 t.2 ≡ Close p a o = sym t.4 ∙ some_is e (Close p a o) at in
+    let path : t.0 ≡ p = cc (is) in
+    let actor : t.1 ≡ a = cc (is) in
+    (zero, omega arith, ap (λ (x : Event). Some x) (t.3 ∙ λ k. Claim (path k) (actor k)))
+turns_claimed (c ∷ e ∷ es) (suc (suc i)) p a o h at =
+    let r = turns_claimed es i p a o h.1 at in
+    let less = r.1 in
+    (suc (suc r.0), omega (arith, less), r.2)
+
+-- no path is handed back in turns
+pub turns_back : (es : List Event) (i p : ℕ) → AreTurns es → slice_get es i ≡ Some (HandBack p) → ⊥
+turns_back [] i p h at = cc (at)
+turns_back (c ∷ []) i p h at = h
+turns_back (c ∷ e ∷ es) zero p h at = let t = h.0 in let claim = t.3 in cc (at, claim)
+turns_back (c ∷ e ∷ es) (suc zero) p h at = let t = h.0 in let close = t.4 in cc (at, close)
+turns_back (c ∷ e ∷ es) (suc (suc i)) p h at = turns_back es i p h.1 at
 
 -- what was prepared for a card that was claimed is its own
 ready_is_prepared : (card : CardSeen) (raw : Option FilterCause) (ready : Option Prepared)
@@ -149,6 +180,7 @@ module _ {B L : Type 0} (see : Sight B L) where
     nothing = h;
     more = [];
     mine = sym (append-nil (mine_of s));
+    turns = tt;
     shown = tt;
     quiet = refl;
     seen = ([], append-nil (seen_of s));
@@ -162,6 +194,7 @@ module _ {B L : Type 0} (see : Sight B L) where
       nothing = (x, t.turn.pass, λ q. t.hands q ∙ w.nothing.2 q);
       more = w.more;
       mine = t.mine ∙ w.mine;
+      turns = w.turns;
       shown = w.shown;
       quiet = w.quiet;
       seen = begins_trans (seen_of s0) (seen_of s) (seen_of s1) w.seen t.turn.seen;
@@ -197,6 +230,9 @@ module _ {B L : Type 0} (see : Sight B L) where
             (took.mine ∙ ap (λ l. l ++ claim_entry k.path n ∷ []) w.mine)
             ∙ (append_assoc (mine_of s0 ++ w.more) (claim_entry k.path n ∷ []) (close_entry z.path n o parts ∷ [])
             ∙ append_assoc (mine_of s0) w.more two));
+        turns = subst AreTurns (sym (map-append (λ (e : Entry). e.event) w.more two))
+            (turns_more (own_events w.more) (own_events two) w.turns
+            ((k.path, n, o, refl, ap (λ p. Close p n o) is), tt));
         shown = shown_more (cards_of d) w.more two w.shown (tt, (shown (cards_of d) k z n o took.planned kept wrote, tt));
         quiet = ap noted (map-append (λ (e : Entry). e.event) w.more two)
             ∙ noted_more (own_events w.more) (own_events two) refl w.quiet;

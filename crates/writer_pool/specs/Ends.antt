@@ -1,10 +1,10 @@
 -- How the paths of a checkout end.
-use Rattle.std.specs.Prelude.{◌≡◌, ◌⊎◌, ◌<◌, ◌+◌, ℕ, suc, true, false, List, [], ◌∷◌, Some, slice_get}
+use Rattle.std.specs.Prelude.{◌≡◌, ◌<◌, ◌+◌, ℕ, suc, Bool, true, false, List, [], ◌∷◌, Option, Some, slice_get}
 use Rattle.atomic_table.specs.Seated.{TableId}
 use Rattle.turn_lock.specs.Seat.{SeatView, mine_of}
 use Rattle.convert_plan.specs.declared.card.Card.{Card}
 use Rattle.checkout_core.specs.declared.event.Event.{Event}
-use Rattle.checkout_core.specs.declared.event.Event.TheVariants.{Claim, Close}
+use Rattle.checkout_core.specs.declared.event.Event.TheVariants.{Close}
 use Rattle.checkout_core.specs.declared.path.Path.{Path}
 use Rattle.checkout_core.specs.declared.path.Start.{Start}
 use Rattle.checkout_core.specs.declared.path.Start.TheVariants.{Pool, Desk, Done}
@@ -18,6 +18,7 @@ use Rattle.checkout_core.specs.Desks.{paths_of, is_left}
 use Rattle.checkout_core.specs.Talks.{contains}
 use Rattle.core_laws.specs.Moves.{is_with_driver}
 use Rattle.checkout_book.specs.declared.plan.Plan.{Plan}
+use Rattle.checkout_book.specs.declared.plan.Parts.{Parts}
 use Rattle.checkout_book.specs.declared.plan.Entry.{Entry}
 use Rattle.checkout_book.specs.declared.shelf.Slot.TheVariants.{Ended}
 use Rattle.checkout_book.specs.Shape.{Shelf}
@@ -26,8 +27,8 @@ use Rattle.checkout_book.specs.Shelves.{cards_of, plan_of}
 use Rattle.checkout_book.specs.Ending.{GoesOn}
 use Rattle.checkout_book.specs.Turns.{NoneWaits}
 use Rattle.checkout_book.specs.Reserving.{HasNothing}
-use Rattle.writer_pool.specs.Writing.{WritesCard}
-use Rattle.writer_pool.specs.Working.{IsShown, IsReady, own_events}
+use Rattle.writer_pool.specs.Closing.{IsFromBook, IsFromDesk, WasRefused, RefusedBacks, EndsCard}
+use Rattle.writer_pool.specs.Working.{blob_in, leaf_in, own_events}
 
 -- the history is a complete run, with these verdicts
 pub record IsRun (starts : List Start) (workers drivers : ℕ) (history : List Event) (verdicts : List Verdict)
@@ -41,32 +42,32 @@ pub record IsRun (starts : List Start) (workers drivers : ℕ) (history : List E
 abbrev pub NoneWithDriver : Core → Type 0
 NoneWithDriver c = (p : ℕ) (r : Path) → slice_get c.paths p ≡ Some r → is_with_driver r.state ≡ false
 
--- The actor of this place of the history had the card from the book: the path started in the pool, or the actor
--- claimed it before.
-abbrev pub IsFromBook : List Start → List Event → ℕ → ℕ → ℕ → Type 0
-IsFromBook starts history place p actor = (slice_get starts p ≡ Some Pool)
-    ⊎ ((j : ℕ) × (j < place) × (slice_get history j ≡ Some (Claim p actor)))
-
 module _ {B L : Type 0} (see : Sight B L) where
-  -- A worker's pass that has done nothing yet, of a book with new cards.
-  pub record IsNewWorker (lock : TableId) (d : Plan B L) (n made : ℕ) (s : SeatView Entry (Plan B L)) : Type 0 where
-    pub ready : IsReady see lock d n made s
-    pub fresh : mine_of s ≡ []
-    pub worker : n < d.workers
+  -- The Close of a path at this place of an actor's own list has the blob and the leaf of the path's card, and shows how
+  -- the card ended. If the card never left its desk, the actor is this desk: the desks come after the workers.
+  pub record ShowsEnd (d : Plan B L) (mine : List Event) (place p actor : ℕ) (o : Own) (parts : Option Parts)
+      : Type 0 where
+    pub ended : Parts
+    pub there : parts ≡ Some ended
+    pub number : ℕ
+    pub card : Card B L
+    pub planned : slice_get (cards_of d) number ≡ Some card
+    pub path : card.path ≡ p
+    pub ends : EndsCard d.starts.items mine place p actor o (seen see card) (blob_in ended) (leaf_in ended)
+    pub desk : (q : ℕ) (required : Bool) → IsFromDesk d.starts.items mine place p actor q required
+        → actor ≡ d.workers + q
 
-  abbrev pub AreNewWorkers : TableId → Plan B L → ℕ → ℕ → List (SeatView Entry (Plan B L)) → Type 0
-  AreNewWorkers lock d k made [] = Unit {0}
-  AreNewWorkers lock d k made (s ∷ ss) = IsNewWorker lock d k made s × AreNewWorkers lock d (suc k) 0 ss
-
-  -- each Close in an actor's own list, of a card from the book, shows how the writing of the card ended
+  -- each Close in an actor's own list does
   abbrev pub IsShownAll : Plan B L → List Entry → Type 0
   IsShownAll d mine = (i : ℕ) (e : Entry) (p a : ℕ) (o : Own) → slice_get mine i ≡ Some e → e.event ≡ Close p a o
-      → IsFromBook d.starts.items (own_events mine) i p a → IsShown see (cards_of d) e.event e.parts
+      → ShowsEnd d (own_events mine) i p a o e.parts
 
-  -- A pass that came back with nothing in hand. A desk closed each path of its driver, or handed it back.
+  -- A pass that came back with nothing in hand. A desk closed each path of its driver, or handed it back because the
+  -- driver refused it.
   pub record IsBack (lock : TableId) (d : Plan B L) (n made : ℕ) (s : SeatView Entry (Plan B L)) : Type 0 where
     pub nothing : HasNothing lock d n made s
     pub shown : IsShownAll d (mine_of s)
+    pub backs : RefusedBacks d.starts.items (own_events (mine_of s))
     pub left : (q p : ℕ) → q < d.drivers → n ≡ d.workers + q → contains p (paths_of q d.starts.items) ≡ true
         → is_left p (own_events (mine_of s)) ≡ true
 
@@ -74,8 +75,8 @@ module _ {B L : Type 0} (see : Sight B L) where
   AreBack lock d k made [] = Unit {0}
   AreBack lock d k made (s ∷ ss) = IsBack lock d k made s × AreBack lock d (suc k) 0 ss
 
-  -- The blob and the leaf are those of the card, and the history has the Close of its path. Where its actor had the
-  -- card from the book, the own outcome is how the writing of the card ended, by what is seen of them.
+  -- The blob and the leaf are those of the card. The history has the Close of its path, and what is seen of them shows
+  -- how the card ended. If the path starts at a desk, an actor had its card from the book only after it was refused.
   pub record IsClosedSo (starts : List Start) (history : List Event) (card : Card B L) (blob : B) (leaf : L)
       : Type 0 where
     pub actor : ℕ
@@ -85,8 +86,9 @@ module _ {B L : Type 0} (see : Sight B L) where
     pub told : see.told blob ≡ see.told card.blob
     pub name : (see.blob blob).name ≡ (see.blob card.blob).name
     pub path : (see.leaf leaf).path ≡ (see.leaf card.leaf).path
-    pub wrote : IsFromBook starts history place card.path actor
-        → WritesCard (seen see card) own (see.blob blob) (see.leaf leaf)
+    pub ends : EndsCard starts history place card.path actor own (seen see card) (see.blob blob) (see.leaf leaf)
+    pub refused : (d : ℕ) (required : Bool) → slice_get starts card.path ≡ Some (Desk d required)
+        → IsFromBook starts history place card.path actor → WasRefused starts history card.path d required
 
   module _ (starts : List Start) (history : List Event) (cards : List (Card B L)) where
     -- the blob and the leaf of the card of the path p
@@ -102,17 +104,17 @@ module _ {B L : Type 0} (see : Sight B L) where
     AreEnds p (Desk d required ∷ ss) (b ∷ bs) (l ∷ ls) = IsEndOf p b l × AreEnds (suc p) ss bs ls
     AreEnds _ _ _ _ = ⊥
 
-  -- A shelf that no actor has any more. Nothing is in hand or with a driver, and its closed slots show how each writing
+  -- A shelf that no actor has any more. Nothing is in hand or with a driver, and its closed slots show how each card
   -- ended.
   pub record IsQuiet (s : Shelf B L) : Type 0 where
     pub goes_on : GoesOn see s
     pub hands : (a q : ℕ) → held_at s.core a q ≡ false
     pub away : NoneWithDriver s.core
+    pub backs : RefusedBacks (plan_of s).starts.items s.events.items
     pub closed : (i p a : ℕ) (o : Own) → slice_get s.events.items i ≡ Some (Close p a o)
-        → IsFromBook (plan_of s).starts.items s.events.items i p a
         → (b : B) × (l : L) × (slice_get s.slots.items p ≡ Some (Ended b l))
         × (k : ℕ) × (card : Card B L) × (slice_get (cards_of (plan_of s)) k ≡ Some card) × (card.path ≡ p)
-        × WritesCard (seen see card) o (see.blob b) (see.leaf l)
+        × EndsCard (plan_of s).starts.items s.events.items i p a o (seen see card) (see.blob b) (see.leaf l)
 
   -- and no card waits
   pub record IsThrough (d : Plan B L) (s : Shelf B L) : Type 0 where

@@ -1,6 +1,11 @@
 pub mod Writing
+pub mod Closing
 pub mod Working
 pub mod Rooms
 pub mod Ends
+pub mod Sealing
 pub mod Pools
 pub mod OnBook
+pub mod Talks
+pub mod Dealing
+pub mod Jobs

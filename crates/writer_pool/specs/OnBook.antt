@@ -20,6 +20,7 @@ use Rattle.checkout_book.specs.Passes.{IsPass}
 use Rattle.checkout_book.specs.Reserving.{AreDealt}
 use Rattle.driver_desk.specs.Recorders.{Standing}
 use Rattle.driver_desk.specs.Serving.{Given, Noted, Closed, HandedBack}
+use Rattle.writer_pool.specs.Closing.{closed_card}
 use Rattle.writer_pool.specs.Working.{blob_in, leaf_in}
 
 -- the first card of this path
@@ -27,13 +28,9 @@ abbrev pub card_of : ℕ → List CardSeen → Option CardSeen
 card_of p [] = None
 card_of p (c ∷ cs) = cond (c.path == p) (Some c) (card_of p cs)
 
--- the planned card as it was closed: with the blob and the leaf of the entry, and with nothing prepared
-abbrev pub closed_card : Parts → CardSeen → CardSeen
-closed_card x card = record card { blob = blob_in x; leaf = leaf_in x; ready = None }
-
 abbrev pub closed_by : Event → Own → Parts → Option CardSeen → Given
 closed_by e o x None = Noted e
-closed_by e o x (Some card) = Closed o (closed_card x card)
+closed_by e o x (Some card) = Closed o (closed_card card (blob_in x) (leaf_in x))
 
 -- an entry of the pass's own list, as what was given
 abbrev pub given_by : List CardSeen → Event → Option Parts → Given
@@ -44,14 +41,15 @@ given_by cards e x = Noted e
 abbrev pub given_in : List CardSeen → List Entry → List Given
 given_in cards es = map (λ e. given_by cards e.event e.parts) es
 
--- each path that these entries close is the driver's
-abbrev pub ClosesOwn : List Start → ℕ → Event → Type 0
-ClosesOwn starts d (Close p a o) = driver_at starts p ≡ Some d
-ClosesOwn starts d e = Unit {0}
+-- each path that these entries close is the driver's, and they tell what is seen of its blob and its leaf
+abbrev pub ClosesOwn : List Start → ℕ → Event → Option Parts → Type 0
+ClosesOwn starts d (Close p a o) (Some x) = driver_at starts p ≡ Some d
+ClosesOwn starts d (Close p a o) None = ⊥
+ClosesOwn starts d e x = Unit {0}
 
 abbrev pub CloseOwn : List Start → ℕ → List Entry → Type 0
 CloseOwn starts d [] = Unit {0}
-CloseOwn starts d (e ∷ es) = ClosesOwn starts d e.event × CloseOwn starts d es
+CloseOwn starts d (e ∷ es) = ClosesOwn starts d e.event e.parts × CloseOwn starts d es
 
 -- the pass, and whether its driver is required
 pub record Recording (B L : Type 0) : Type 0 where

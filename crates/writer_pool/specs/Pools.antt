@@ -1,5 +1,5 @@
 -- What a pool is given, and what it leaves.
-use Rattle.std.specs.Prelude.{◌≡◌, ◌+◌, ◌<◌, ◌^◌, ℕ, suc, true, List, [], ◌∷◌, ◌++◌, map, length, Some, slice_get}
+use Rattle.std.specs.Prelude.{◌≡◌, ◌+◌, ◌<◌, ◌^◌, ℕ, suc, true, List, [], ◌∷◌, ◌++◌, map, length, Option, Some, slice_get}
 use Rattle.std.specs.Global.{Vec}
 use Rattle.convert_plan.specs.declared.card.Card.{Card}
 use Rattle.checkout_core.specs.declared.event.Event.{Event}
@@ -17,15 +17,17 @@ use Rattle.driver_line.specs.Lines.{Paths}
 use Rattle.driver_line.specs.Transcripts.{IsTalk}
 use Rattle.driver_line.specs.ToldStarts.{GoBy}
 use Rattle.driver_line.specs.Starters.{IsSameStarter}
+use Rattle.driver_desk.specs.Serving.{HasAnswer}
 use Rattle.driver_desk.specs.Works.{WorkSeen, AreRead, FitAll, asked_in, cards_in}
 use Rattle.checkout_book.specs.Sights.{Sight, seen}
 use Rattle.writer_pool.specs.declared.pooled.DeskSeed.{DeskSeed}
+use Rattle.writer_pool.specs.Sealing.{SealsAt, leaf_at}
 
 -- The talk of a driver with these notes: what its starter keeps grew by a talk over the paths `asked`, which goes by
 -- the starts that it tells, and as many of its links are out as before. It is the same starter. The results are a
--- whole talk, case by case.
+-- whole talk, case by case. Each leaf that its desk sealed holds the content that the driver gave for the leaf's path.
 pub record HasTalked (d : ℕ) (paths : Paths) (asked : List ℕ) (old new : StarterSeen) (noted : List Event)
-    : Type 0 where
+    (seals : ℕ → Option (List ℕ) → Type 0) : Type 0 where
   pub items : List Had
   pub exchanges : List Exchange
   pub results : List Item
@@ -37,6 +39,7 @@ pub record HasTalked (d : ℕ) (paths : Paths) (asked : List ℕ) (old new : Sta
   pub whole : result.IsTalk asked results
   pub same : result.notes_of d results ≡ notes_in d exchanges
   pub noted_is : noted ≡ notes_in d exchanges
+  pub answers : (p : ℕ) (told : Option (List ℕ)) → seals p told → HasAnswer exchanges p told
 
 module _ {S B L : Type 0} (starter : S → StarterSeen) where
   -- The seed of the driver d. It has the cards of the driver's paths, in path order, and their texts rise. Each of
@@ -54,22 +57,23 @@ module _ {S B L : Type 0} (starter : S → StarterSeen) where
 
 module _ {S B L : Type 0} (starter : S → StarterSeen) (see : Sight B L) where
   -- The starter of the driver d is back with its sessions. They are a talk with the driver's notes in the history, over
-  -- the paths whose content was prepared.
-  pub record IsStarterBack (starts : List Start) (history : List Event) (d : ℕ) (seed : DeskSeed S B L) (back : S)
-      : Type 0 where
+  -- the paths whose content was prepared. Each leaf that its desk sealed holds what the driver gave for its path.
+  pub record IsStarterBack (starts : List Start) (history : List Event) (leaves : List L) (d : ℕ)
+      (seed : DeskSeed S B L) (back : S) : Type 0 where
     pub works : List WorkSeen
     pub cards : map (λ c. seen see c) seed.cards.items ≡ cards_in works
     pub read : AreRead works
     pub talked : (paths : Paths) → FitAll paths works
         → HasTalked d paths (asked_in works) (starter seed.starter) (starter back) (notes starts d history)
+        (SealsAt see starts history (leaf_at starts leaves) d)
 
   -- the starters of the drivers from d on, each with its seed
-  abbrev pub AreStartersBack : List Start → List Event → ℕ → List (DeskSeed S B L) → List S → Type 0
-  AreStartersBack starts history d [] [] = Unit {0}
-  AreStartersBack starts history d (x ∷ xs) (s ∷ ss) = IsStarterBack starts history d x s
-      × AreStartersBack starts history (suc d) xs ss
-  AreStartersBack starts history d [] (s ∷ ss) = ⊥
-  AreStartersBack starts history d (x ∷ xs) [] = ⊥
+  abbrev pub AreStartersBack : List Start → List Event → List L → ℕ → List (DeskSeed S B L) → List S → Type 0
+  AreStartersBack starts history leaves d [] [] = Unit {0}
+  AreStartersBack starts history leaves d (x ∷ xs) (s ∷ ss) = IsStarterBack starts history leaves d x s
+      × AreStartersBack starts history leaves (suc d) xs ss
+  AreStartersBack starts history leaves d [] (s ∷ ss) = ⊥
+  AreStartersBack starts history leaves d (x ∷ xs) [] = ⊥
 
 -- all cards: those of the pool, and those of the desks
 abbrev pub seed_cards : {S B L : Type 0} → List (DeskSeed S B L) → List (Card B L)

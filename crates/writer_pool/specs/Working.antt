@@ -6,7 +6,8 @@ use Rattle.turn_lock.specs.Seat.{SeatView, mine_of, seen_of}
 use Rattle.edge_kit.specs.Seen.{BlobSeen, LeafSeen}
 use Rattle.convert_plan.specs.declared.card.Card.{Card}
 use Rattle.checkout_core.specs.declared.event.Event.{Event}
-use Rattle.checkout_core.specs.declared.event.Event.TheVariants.{Close}
+use Rattle.checkout_core.specs.declared.event.Event.TheVariants.{Claim, Close}
+use Rattle.checkout_core.specs.declared.verdict.Own.{Own}
 use Rattle.checkout_core.specs.States.{Core}
 use Rattle.checkout_core.specs.Notes.{noted}
 use Rattle.checkout_book.specs.declared.plan.Plan.{Plan}
@@ -25,6 +26,12 @@ blob_in x = record { name = x.name; faults = x.blob_faults }
 
 abbrev pub leaf_in : Parts → LeafSeen
 leaf_in x = record { path = x.path; content = x.content; state = x.state; faults = x.leaf_faults }
+
+-- a claim, and then the Close of the claimed path, again and again
+abbrev pub AreTurns : List Event → Type 0
+AreTurns [] = Unit {0}
+AreTurns (c ∷ []) = ⊥
+AreTurns (c ∷ e ∷ es) = ((p : ℕ) × (a : ℕ) × (o : Own) × (c ≡ Claim p a) × (e ≡ Close p a o)) × AreTurns es
 
 -- the events of a pass's own list
 abbrev pub own_events : List Entry → List Event
@@ -46,11 +53,13 @@ module _ {B L : Type 0} (see : Sight B L) where
   abbrev pub IsReady : TableId → Plan B L → ℕ → ℕ → SeatView Entry (Plan B L) → Type 0
   IsReady lock d n made s = HasNothing lock d n made s × AreNew see (cards_of d)
 
-  -- The actor has nothing in hand again. What it did meanwhile are claims, and closes that show how the writing ended.
+  -- The actor has nothing in hand again. What it did meanwhile are claims, each with the Close of its path, which shows
+  -- how the writing ended.
   pub record Worked (lock : TableId) (d : Plan B L) (n made : ℕ) (old new : SeatView Entry (Plan B L)) : Type 0 where
     pub nothing : HasNothing lock d n made new
     pub more : List Entry
     pub mine : mine_of new ≡ mine_of old ++ more
+    pub turns : AreTurns (own_events more)
     pub shown : AreShown (cards_of d) more
     pub quiet : noted (own_events more) ≡ []
     pub seen : Begins (seen_of old) (seen_of new)

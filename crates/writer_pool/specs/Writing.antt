@@ -1,52 +1,19 @@
 -- What a card's own outcome shows of its blob and its leaf, where the actor that closes it had claimed it.
-use Rattle.std.specs.Prelude.{◌≡◌, ◌⊎◌, ℕ, List, [], take, Option, Some, Result, Ok, Err}
+use Rattle.std.specs.Prelude.{◌≡◌, ℕ, List, [], take, Option, Some, Result, Ok, Err}
 use Rattle.edge_kit.specs.Told.{Tells, MayFail}
 use Rattle.edge_kit.specs.Faults.{Rose}
 use Rattle.edge_kit.specs.Files.{grown}
 use Rattle.edge_kit.specs.Seen.{BlobSeen, LeafSeen, IsPutCut}
 use Rattle.edge_kit.specs.declared.faults.SendFault.{SendFault}
 use Rattle.edge_kit.specs.declared.faults.SendFault.TheVariants as send
-use Rattle.edge_kit.specs.declared.leaf_state.LeafState.{LeafState}
-use Rattle.edge_kit.specs.declared.leaf_state.LeafState.TheVariants.{Fresh, Sealed, Gone, Stuck}
+use Rattle.edge_kit.specs.declared.leaf_state.LeafState.TheVariants.{Fresh, Sealed}
 use Rattle.edge_kit.specs.declared.leaf_state.Mark.{Mark}
-use Rattle.object_dir.specs.Object.{IsObject}
-use Rattle.object_dir.specs.declared.fault.ObjectFault.{ObjectFault}
-use Rattle.object_dir.specs.declared.fault.ObjectFault.TheVariants as fault
 use Rattle.tree_encoding.specs.declared.prepared.Prepared.{Prepared}
 use Rattle.checkout_core.specs.declared.verdict.Own.{Own}
 use Rattle.checkout_core.specs.declared.verdict.Own.TheVariants as own
-use Rattle.checkout_core.specs.declared.verdict.ObjectKind.TheVariants as kind
 use Rattle.convert_plan.specs.Card.{CardSeen, IsPrepared}
-
--- what happened to a path whose object gave no content
-abbrev pub own_of : ObjectFault → Own
-own_of fault.ReadFailed = own.ReadFailed
-own_of fault.Absent = own.Object kind.Absent
-own_of fault.TooLarge = own.Object kind.TooLarge
-own_of fault.Header = own.Object kind.Header
-own_of fault.Size = own.Object kind.Size
-own_of (fault.WrongName name) = own.Object kind.WrongName
-own_of fault.NoMemory = own.NoMemory
-
--- the object of a card gave no content
-pub record IsUnread (c : CardSeen) (o : Own) : Type 0 where
-  pub fault : ObjectFault
-  pub object : IsObject c.told c.object (Err fault)
-  pub own : o ≡ own_of fault
-
--- what a card's object is prepared to, or what happened to it: a fault of the object, or memory ran out
-abbrev pub ReadsTo : CardSeen → Result Prepared Own → Type 0
-ReadsTo c (Ok ready) = IsPrepared c ready
-ReadsTo c (Err own.NoMemory) = Unit {0}
-ReadsTo c (Err o) = IsUnread c o
-
--- nothing of the card changed but its blob's count of faults
-abbrev pub KeepsCard : CardSeen → CardSeen → Type 0
-KeepsCard old new = new ≡ record old { blob = record old.blob { faults = new.blob.faults } }
-
--- a leaf that was given up: no file is there, or a part of it may remain since the discard failed
-abbrev pub IsGivenUp : LeafState → Type 0
-IsGivenUp state = (state ≡ Gone) ⊎ (state ≡ Stuck)
+use Rattle.driver_desk.specs.Works.{IsUnread}
+use Rattle.driver_desk.specs.Shown.{IsGivenUp}
 
 -- a first part of these bytes is what is told, if anything is
 abbrev pub TellsPart : Option (List ℕ) → List ℕ → Type 0
@@ -80,11 +47,6 @@ WritesContent mark ready old (own.Fine unencoded) new =
 WritesContent mark ready old own.WriteFailed new = IsCutOff ready.bytes old new
 WritesContent mark ready old own.NoMemory new = new ≡ old
 WritesContent mark ready old o new = ⊥
-
--- a blob's count of faults rose where its object failed to be read, and nowhere else
-abbrev pub CountsRead : {T : Type 0} → ℕ → ℕ → Result T Own → Type 0
-CountsRead before after (Err own.ReadFailed) = Rose before after
-CountsRead before after result = after ≡ before
 
 -- A card that may be written: its leaf is fresh and empty, and what was prepared is its own content prepared.
 pub record IsToWrite (card : CardSeen) : Type 0 where

@@ -12,6 +12,7 @@ ghost use Rattle.checkout_book.specs.Sights.{sight};
 ghost use Rattle.writer_pool.specs.Ends.{IsBack};
 ghost use Rattle.writer_pool.specs.OnBook.{Recording, IsDeskPass, standing_of, given_of, place_of};
 ghost use Rattle.writer_pool.specs.Pools.{HasTalked};
+ghost use Rattle.writer_pool.specs.Sealing.{SealsIn};
 ghost use Rattle.writer_pool.specs.Working.{own_events};
 
 use crate::on_book::OnBook;
@@ -24,13 +25,13 @@ use std::alloc::Global;
 use std::sync::Wait;
 
 /// What a desk leaves: its pass, and what is left of the desk itself.
-pub struct DeskEnd<S: Starter, B: Blob, L: Leaf> {
+pub(crate) struct DeskEnd<S: Starter, B: Blob, L: Leaf> {
     pub pass: Pass<B, L>,
     pub served: Served<S>,
 }
 
 /// Serves the cards of a desk over a book. `required` says whether its driver is required.
-pub fn serve_desk<S: Starter, B: Blob, L: Leaf, G: Gate, H: Wait>(
+pub(crate) fn serve_desk<S: Starter, B: Blob, L: Leaf, G: Gate, H: Wait>(
     rt: &H,
     book: &Book<B, L>,
     gate: &G,
@@ -63,7 +64,7 @@ pub fn serve_desk<S: Starter, B: Blob, L: Leaf, G: Gate, H: Wait>(
 
 /// Serves the cards of a desk over a book, and then works until no card waits. `required` says whether its driver is
 /// required.
-pub fn run_desk<S: Starter, B: Blob, L: Leaf, G: Gate, H: Wait>(
+pub(crate) fn run_desk<S: Starter, B: Blob, L: Leaf, G: Gate, H: Wait>(
     rt: &H,
     alloc: Global,
     book: &Book<B, L>,
@@ -82,7 +83,7 @@ pub fn run_desk<S: Starter, B: Blob, L: Leaf, G: Gate, H: Wait>(
     ensures talked { (works : List WorkSeen) × (desk.cards ≡ cards_in works) × AreRead works
         × ((paths : Paths) → FitAll paths works
         → HasTalked desk.driver paths (asked_in works) desk.starter (S.seen result.served.starter)
-        (noted (own_events (mine_of result.pass)))) }
+        (noted (own_events (mine_of result.pass))) (SealsIn (mine_of result.pass))) }
 {
     a_transcript_is_a_talk();
     let DeskEnd { pass, served } = serve_desk(rt, book, gate, required, desk, pass);

@@ -1,14 +1,20 @@
 //! What the actors of a checkout leave, after all of them came back.
-ghost use Rattle.std.specs.Prelude.{◌≡◌, ◌≤◌, ◌<◌, ◌+◌, ℕ, [], length, map, slice_get, vec_capacity};
+ghost use Rattle.std.specs.Prelude.{◌≡◌, ◌≤◌, ◌<◌, ◌+◌, ℕ, List, [], Option, Some, length, map, slice_get, vec_capacity};
+ghost use Rattle.turn_lock.specs.Seat.{SeatView, mine_of};
+ghost use Rattle.checkout_core.specs.declared.path.Start.{Start};
+ghost use Rattle.checkout_core.specs.Notes.{noted, notes};
 ghost use Rattle.checkout_core.specs.States.{verdict_at};
 ghost use Rattle.checkout_core.specs.Closes.{IsComplete};
 ghost use Rattle.checkout_book.specs.declared.plan.Plan.{Plan};
+ghost use Rattle.checkout_book.specs.declared.plan.Entry.{Entry};
 ghost use Rattle.checkout_book.specs.Sights.{sight};
 ghost use Rattle.checkout_book.specs.Shelves.{plan_of, cards_of};
 ghost use Rattle.checkout_book.specs.Turns.{NoneWaits};
 ghost use Rattle.checkout_book.specs.Reserving.{ArePool, AreDealt};
 ghost use Rattle.writer_pool.specs.Ends.{AreBack, AreEnds, IsQuiet, IsRun, IsThrough};
 ghost use Rattle.writer_pool.specs.Rooms.{HasRoom};
+ghost use Rattle.writer_pool.specs.Sealing.{SealsIn, SealsAt, SealsOn, leaf_at};
+ghost use Rattle.writer_pool.specs.Working.{own_events};
 
 use crate::path_ends::PathEnds;
 use crate::writing::{Written, write_card};
@@ -26,6 +32,10 @@ pub(crate) fn close_rest<B: Blob, L: Leaf>(alloc: Global, ended: &mut Ended<B, L
     ensures quiet { IsQuiet (sight B.told B.seen L.seen) ended.new.shelf }
     ensures plan { plan_of ended.new.shelf ≡ plan_of ended.old.shelf }
     ensures none { NoneWaits ended.new.shelf.core }
+    ensures seals { (q p : ℕ) (told : Option (List ℕ)) → SealsOn (sight B.told B.seen L.seen) ended.new.shelf q p told
+        → SealsOn (sight B.told B.seen L.seen) ended.old.shelf q p told }
+    ensures notes { (starts : List Start) (d : ℕ) → notes starts d ended.new.shelf.events.items
+        ≡ notes starts d ended.old.shelf.events.items }
 {
     laws::a_path_in_hand_may_be_closed();
     laws::a_claim_takes_its_path();
@@ -46,11 +56,21 @@ pub(crate) fn end_all<B: Blob, L: Leaf>(
     requires { (d : Plan B L)
         × AreBack (sight B.told B.seen L.seen) book d 0 (length passes.items) passes.items
         × (0 < length passes.items) × (length passes.items ≡ d.workers + d.drivers) }
-    ensures { (d : Plan B L)
+    ensures through { (d : Plan B L)
         → AreBack (sight B.told B.seen L.seen) book d 0 (length passes.items) passes.items
         → length passes.items ≡ d.workers + d.drivers
         → IsThrough (sight B.told B.seen L.seen) d result.shelf }
+    ensures seals { (d : Plan B L)
+        → AreBack (sight B.told B.seen L.seen) book d 0 (length passes.items) passes.items
+        → (q : ℕ) (s : SeatView Entry (Plan B L)) → slice_get passes.items (d.workers + q) ≡ Some s
+        → (p : ℕ) (told : Option (List ℕ)) → SealsOn (sight B.told B.seen L.seen) result.shelf q p told
+        → SealsIn (mine_of s) p told }
+    ensures notes { (d : Plan B L)
+        → AreBack (sight B.told B.seen L.seen) book d 0 (length passes.items) passes.items
+        → (q : ℕ) (s : SeatView Entry (Plan B L)) → slice_get passes.items (d.workers + q) ≡ Some s
+        → notes d.starts.items q result.shelf.events.items ≡ noted (own_events (mine_of s)) }
 {
+    laws::notes_are_own_entries();
     laws::a_desk_that_is_through_keeps_no_path();
     laws::a_claim_takes_its_path();
     laws::a_close_closes_its_path();
@@ -130,7 +150,18 @@ pub(crate) fn leave<B: Blob, L: Leaf>(
         → ArePool d.starts.items d.pool.items → AreDealt d.starts.items 0 d.desks.items
         → AreEnds (sight B.told B.seen L.seen) d.starts.items result.history.items (cards_of d) 0 d.starts.items
         result.blobs.items result.leaves.items }
+    ensures seals { (d : Plan B L) → IsThrough (sight B.told B.seen L.seen) d ended.shelf
+        → ArePool d.starts.items d.pool.items → AreDealt d.starts.items 0 d.desks.items
+        → (q p : ℕ) (told : Option (List ℕ))
+        → SealsAt (sight B.told B.seen L.seen) d.starts.items result.history.items
+        (leaf_at d.starts.items result.leaves.items) q p told
+        → SealsOn (sight B.told B.seen L.seen) ended.shelf q p told }
+    ensures history { result.history.items ≡ ended.shelf.events.items }
 {
+    laws::a_claim_takes_its_path();
+    laws::a_close_closes_its_path();
+    laws::a_path_that_is_handed_back_waits();
+    laws::a_note_keeps_paths_with_their_driver();
     laws::a_verdict_is_what_is_told();
     laws::a_history_keeps_its_size();
     laws::a_history_is_short();

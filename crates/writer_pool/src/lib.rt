@@ -1,21 +1,21 @@
-//! The actors of a checkout: each claims cards from the book, writes each as a file and closes it, until no card waits.
+//! The actors of a checkout, at once: a desk serves the paths of its driver. Then, as each worker does, it claims cards from
+//! the book, writes each as a file and closes it, until no card waits.
 #![tactic(auto)]
 
+mod beginning;
 mod desk_actor;
+mod desks;
 mod ending;
+mod jobs;
 mod leaf;
 mod on_book;
 mod path_ends;
-mod pool;
 mod pooled;
 mod reading;
 mod run;
+mod talks;
 mod workers;
 mod writing;
 
-pub use desk_actor::{DeskEnd, run_desk, serve_desk};
-pub use on_book::OnBook;
-pub use path_ends::PathEnds;
-pub use pool::run_workers;
 pub use pooled::{DeskSeed, Pooled};
 pub use run::pool_run;

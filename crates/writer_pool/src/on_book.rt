@@ -20,7 +20,7 @@ use std::marker::Model;
 use std::sync::Wait;
 
 /// What a desk tells and gives goes into the book, under its pass.
-pub struct OnBook<'a, B: Blob, L: Leaf, H: Wait> {
+pub(crate) struct OnBook<'a, B: Blob, L: Leaf, H: Wait> {
     rt: &'a H,
     book: &'a Book<B, L>,
     pass: Pass<B, L>,

@@ -8,7 +8,7 @@ use std::alloc::{AllocError, Global};
 
 /// How the paths of a checkout ended.
 #[derive(Drop)]
-pub struct PathEnds<B: Blob, L: Leaf> {
+pub(crate) struct PathEnds<B: Blob, L: Leaf> {
     /// The events of all actors, in the order in which they happened.
     pub history: Vec<Event>,
     /// The verdict of each path.

@@ -1,7 +1,7 @@
 //! What a card's object is prepared to.
 ghost use Rattle.std.specs.Prelude.{◌≡◌, Ok, Err};
 ghost use Rattle.convert_plan.specs.Card.{card_seen};
-ghost use Rattle.writer_pool.specs.Writing.{own_of, ReadsTo, KeepsCard, CountsRead};
+ghost use Rattle.driver_desk.specs.Works.{own_of, ReadsTo, KeepsCard, CountsRead};
 
 use checkout_core::{ObjectKind, Own};
 use convert_plan::{Card, prepare};

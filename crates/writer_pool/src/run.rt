@@ -6,11 +6,15 @@ ghost use Rattle.checkout_book.specs.Reserving.{ArePool, AreNew};
 ghost use Rattle.writer_pool.specs.Ends.{IsRun, AreEnds};
 ghost use Rattle.writer_pool.specs.Pools.{AreSeeds, AreStartersBack, AreTalks, seed_cards};
 
-use crate::path_ends::PathEnds;
-use crate::pool::run_workers;
+use crate::beginning::{Begun, begin_pool};
+use crate::ending::{end_all, leave};
+use crate::jobs::{act_all, came_back};
+use crate::path_ends::{PathEnds, room_for};
 use crate::pooled::{DeskSeed, Pooled};
+use crate::talks::talks_of;
 use checkout_core::Start;
 use convert_plan::Card;
+use core_laws::laws;
 use edge_kit::{Blob, Gate, Leaf, Starter};
 use std::alloc::{AllocError, Global};
 use std::sync::Wait;
@@ -19,9 +23,15 @@ use std::thread::Threads;
 /// Writes all cards of a checkout: by as many workers, and by a desk for each driver, each in a thread of its own. The
 /// caller closes what still waits after all of them came back.
 ///
-/// The cards are new, in path order, and those that `starts` names. `NoMemory` is the only error. No desk is run yet:
-/// where there is a driver, the answer is `NoMemory`.
-pub fn pool_run<S: Starter, B: Blob + Send, L: Leaf + Send, G: Gate, H: Threads + Wait + Sync>(
+/// The cards are new, in path order, and those that `starts` names. `NoMemory` is the only error. All memory is taken
+/// before anything is started, but for what the threads themselves need.
+pub fn pool_run<
+    S: Starter + Send,
+    B: Blob + Send,
+    L: Leaf + Send,
+    G: Gate,
+    H: Threads + Wait + Sync,
+>(
     rt: &H,
     alloc: Global,
     pool: Vec<Card<B, L>>,
@@ -42,27 +52,40 @@ pub fn pool_run<S: Starter, B: Blob + Send, L: Leaf + Send, G: Gate, H: Threads 
     ensures ends { IfOk result (λ r. AreEnds (sight B.told B.seen L.seen) starts.items r.history.items
         (pool.items ++ seed_cards desks.items) 0 starts.items r.blobs.items r.leaves.items) }
     ensures starters { IfOk result (λ r. AreStartersBack S.seen (sight B.told B.seen L.seen) starts.items
-        r.history.items 0 desks.items r.starters.items) }
+        r.history.items r.leaves.items 0 desks.items r.starters.items) }
     ensures talks { IfOk result (λ r. AreTalks starts.items r.history.items 0 r.talks.items) }
     ensures talk_count { IfOk result (λ r. length r.talks.items ≡ length desks.items) }
 {
+    laws::a_driver_has_few_notes();
+    let paths = starts.len();
     let drivers = desks.len();
-    if drivers > 0 {
-        return Err(AllocError);
-    }
-    let ends = run_workers(rt, alloc, pool, starts, workers, gate)?;
+    let room = room_for(alloc, paths)?;
+    let passes = Vec::with_capacity(alloc, workers as usize + drivers)?;
+    let starters = Vec::with_capacity(alloc, drivers)?;
+    let talks = Vec::with_capacity(alloc, drivers)?;
+    let begins = Vec::from_slice(alloc, starts.as_slice())?;
+    let begun = begin_pool(alloc, pool, desks, starts, workers)?;
+    let Begun {
+        book,
+        jobs,
+        talks: rooms,
+    } = begun;
+    let ends = act_all(rt, alloc, &book, gate, jobs)?;
+    let (passes, starters) = came_back(ends, passes, starters);
+    let ended = end_all(alloc, book, passes);
     let PathEnds {
         history,
         verdicts,
         leaves,
         blobs,
-    } = ends;
+    } = leave(ended, paths as u32, room);
+    let talks = talks_of(history.as_slice(), begins.as_slice(), rooms, talks);
     Ok(Pooled {
         history,
         verdicts,
         leaves,
         blobs,
-        starters: Vec::new(alloc),
-        talks: Vec::new(alloc),
+        starters,
+        talks,
     })
 }

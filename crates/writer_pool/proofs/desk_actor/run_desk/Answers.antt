@@ -37,6 +37,6 @@ returns-clause-talked g c =
       w.0,
       w.1,
       w.2,
-      λ paths fit. desk_talked see c.a_transcript_is_a_talk.ensures lock s c.work.result c.args.required e.desk _ paths
-          _ _ _ (w.3 paths fit) idled,
+      λ paths fit. desk_talked see c.a_transcript_is_a_talk.ensures lock c.args.pass s c.work.result c.args.required
+          e.desk c.args.desk e.place c.requires.dealt _ paths _ _ _ (w.3 paths fit) idled,
     )

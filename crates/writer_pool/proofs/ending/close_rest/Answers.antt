@@ -6,7 +6,8 @@ use Rattle.checkout_book.specs.Sights.{sight}
 use Rattle.checkout_book.specs.Shelves.{cards_of, IsOut, plan_of}
 use Rattle.writer_pool.proofs.WorkTurns.{planned_to_write, held_may_close, out_again}
 use Rattle.writer_pool.proofs.CoreMoves.{held_here}
-use Rattle.writer_pool.proofs.Resting.{in_hand, rest_turn}
+use Rattle.writer_pool.proofs.Resting.{in_hand, rest_turn, rest_seals}
+use Rattle.writer_pool.proofs.Noting.{turn_quiet}
 use Rattle.writer_pool.proofs.ending.close_rest.Goals as goal
 
 pub take_waiting-requires : goal.take_waiting-requires
@@ -60,4 +61,13 @@ loop-card-preserved g c =
           c.write_card-card.result.own c.loop-card.invariant.quiet c.in-Some.ensures.some c.close.ensures.closed
           c.close.ensures.goes_on c.write_card-card.ensures.kept c.write_card-card.ensures.wrote;
       plan = c.close.ensures.closed.plan ∙ (c.in-Some.ensures.some.turned.plan ∙ c.loop-card.invariant.plan);
+      seals = λ q p told z. c.loop-card.invariant.seals q p told (rest_seals see c.loop-card.ended.shelf
+          c.take_waiting.new.self.shelf c.close.new.self.shelf c.in-Some.card c.write_card-card.result.card
+          c.write_card-card.result.own c.loop-card.invariant.quiet c.in-Some.ensures.some c.close.ensures.closed
+          c.write_card-card.ensures.kept q p told z);
+      notes = λ starts d. turn_quiet starts d c.in-Some.card.path c.write_card-card.result.card.path 0 0
+          c.write_card-card.result.own c.loop-card.ended.shelf.events.items
+          c.take_waiting.new.self.shelf.events.items c.close.new.self.shelf.events.items
+          c.in-Some.ensures.some.turned.events c.close.ensures.closed.events
+          ∙ c.loop-card.invariant.notes starts d;
     }

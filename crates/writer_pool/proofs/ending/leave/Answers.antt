@@ -4,8 +4,9 @@ use Rattle.checkout_book.specs.Sights.{sight}
 use Rattle.checkout_book.specs.Shelves.{cards_of}
 use Rattle.checkout_book.specs.Ending.{parts_in}
 use Rattle.writer_pool.specs.Ends.{IsRun, AreEnds}
+use Rattle.writer_pool.specs.Sealing.{SealsAt, leaf_at}
 use Rattle.writer_pool.proofs.Dealt.{fitting}
-use Rattle.writer_pool.proofs.Outcomes.{completed, ran, ends_are, paths_count, slots_count, events_few, parts_fewer}
+use Rattle.writer_pool.proofs.Outcomes.{completed, ran, ends_are, seals_there, paths_count, slots_count, events_few, parts_fewer}
 use Rattle.writer_pool.proofs.ending.leave.Goals as goal
 
 pub verdicts_of-verdicts-requires-clause-complete :
@@ -60,7 +61,12 @@ returns-clause-ends g c d t pool dealt =
     let L = g.row.L.Denot in
     let s = c.args.ended.shelf in
     let slots = slots_count see c.a_history_keeps_its_size.ensures d s t in
-    let ends = ends_are see c.a_verdict_is_what_is_told.ensures d s t (fitting d pool dealt) slots in
+    let ends = ends_are see (record {
+      takes = c.a_claim_takes_its_path.ensures;
+      closes = c.a_close_closes_its_path.ensures;
+      backs = c.a_path_that_is_handed_back_waits.ensures;
+      keeps = c.a_note_keeps_paths_with_their_driver.ensures;
+    }) c.a_verdict_is_what_is_told.ensures d s t (fitting d pool dealt) slots in
     let blobs = c.apart-blobs.ensures.blobs ∙ ap (map (λ (x : B × L). x.0)) c.into_parts.ensures.parts in
     let leaves = c.apart-blobs.ensures.leaves ∙ ap (map (λ (x : B × L). x.1)) c.into_parts.ensures.parts in
     subst (λ (h : List Event). AreEnds see d.starts.items h (cards_of d) 0 d.starts.items
@@ -70,3 +76,24 @@ returns-clause-ends g c d t pool dealt =
     c.apart-blobs.result.0.items ls) (sym leaves)
     (subst (λ (bs : List B). AreEnds see d.starts.items s.events.items (cards_of d) 0 d.starts.items bs
     (map (λ (x : B × L). x.1) (parts_in s.slots.items))) (sym blobs) ends))
+
+pub returns-clause-seals : goal.returns-clause-seals
+returns-clause-seals g c d t pool dealt q p told z =
+    let see = sight g.B.Blob.told g.B.Blob.seen g.L.Leaf.seen in
+    let B = g.row.B.Denot in
+    let L = g.row.L.Denot in
+    let s = c.args.ended.shelf in
+    let slots = slots_count see c.a_history_keeps_its_size.ensures d s t in
+    let leaves = c.apart-blobs.ensures.leaves ∙ ap (map (λ (x : B × L). x.1)) c.into_parts.ensures.parts in
+    seals_there see (record {
+      takes = c.a_claim_takes_its_path.ensures;
+      closes = c.a_close_closes_its_path.ensures;
+      backs = c.a_path_that_is_handed_back_waits.ensures;
+      keeps = c.a_note_keeps_paths_with_their_driver.ensures;
+    }) c.a_verdict_is_what_is_told.ensures d s t (fitting d pool dealt) slots q p told
+    (subst (λ (ls : List L). SealsAt see d.starts.items s.events.items (leaf_at d.starts.items ls) q p told) leaves
+    (subst (λ (h : List Event). SealsAt see d.starts.items h (leaf_at d.starts.items c.apart-blobs.result.1.items) q p
+    told) (c.copied-history.ensures ∙ c.history.ensures) z))
+
+pub returns-clause-history : goal.returns-clause-history
+returns-clause-history g c = c.copied-history.ensures ∙ c.history.ensures

@@ -1,0 +1,68 @@
+-- The leaves that desks sealed, in an own list and by the history.
+use Rattle.std.specs.Prelude.{◌≡◌, ◌<◌, ℕ, zero, suc, Bool, List, [], ◌∷◌, Option, None, Some, slice_get}
+use Rattle.edge_kit.specs.declared.leaf_state.LeafState.TheVariants.{Sealed}
+use Rattle.edge_kit.specs.declared.leaf_state.Mark.{Mark}
+use Rattle.checkout_core.specs.declared.event.Event.{Event}
+use Rattle.checkout_core.specs.declared.event.Event.TheVariants.{Claim, Close}
+use Rattle.checkout_core.specs.declared.path.Start.{Start}
+use Rattle.checkout_core.specs.declared.path.Start.TheVariants.{Done}
+use Rattle.checkout_core.specs.declared.verdict.Own.{Own}
+use Rattle.checkout_book.specs.declared.plan.Parts.{Parts}
+use Rattle.checkout_book.specs.declared.plan.Entry.{Entry}
+use Rattle.checkout_book.specs.declared.shelf.Slot.{Slot}
+use Rattle.checkout_book.specs.declared.shelf.Slot.TheVariants.{Ended}
+use Rattle.checkout_book.specs.Shape.{Shelf}
+use Rattle.checkout_book.specs.Sights.{Sight}
+use Rattle.checkout_book.specs.Passes.{close_entry}
+use Rattle.writer_pool.specs.Closing.{IsFromDesk}
+use Rattle.writer_pool.specs.Working.{own_events}
+
+-- In its own list, an actor closed the path p, which it hadn't claimed, with a sealed leaf of this told content.
+pub record SealsIn (mine : List Entry) (p : ℕ) (told : Option (List ℕ)) : Type 0 where
+  pub place : ℕ
+  pub actor : ℕ
+  pub own : Own
+  pub ended : Parts
+  pub mark : Mark
+  pub here : slice_get mine place ≡ Some (close_entry p actor own ended)
+  pub unclaimed : (j : ℕ) → j < place → slice_get (own_events mine) j ≡ Some (Claim p actor) → ⊥
+  pub sealed : ended.state ≡ Sealed mark
+  pub content : ended.content ≡ told
+
+module _ {B L : Type 0} (see : Sight B L) where
+  -- By the history, the card of the path p never left the desk of the driver d. Its leaf is sealed, with this told
+  -- content.
+  pub record SealsAt (starts : List Start) (history : List Event) (leaf_of : ℕ → Option L) (d p : ℕ)
+      (told : Option (List ℕ)) : Type 0 where
+    pub place : ℕ
+    pub actor : ℕ
+    pub own : Own
+    pub required : Bool
+    pub leaf : L
+    pub mark : Mark
+    pub entry : slice_get history place ≡ Some (Close p actor own)
+    pub desk : IsFromDesk starts history place p actor d required
+    pub there : leaf_of p ≡ Some leaf
+    pub sealed : (see.leaf leaf).state ≡ Sealed mark
+    pub content : (see.leaf leaf).content ≡ told
+
+module _ {L : Type 0} where
+  -- the leaf of the path p, of those of the paths that aren't closed from the start
+  abbrev pub leaf_at : List Start → List L → ℕ → Option L
+  leaf_at [] leaves p = None
+  leaf_at (Done v ∷ ss) leaves zero = None
+  leaf_at (Done v ∷ ss) leaves (suc p) = leaf_at ss leaves p
+  leaf_at (s ∷ ss) [] p = None
+  leaf_at (s ∷ ss) (leaf ∷ leaves) zero = Some leaf
+  leaf_at (s ∷ ss) (leaf ∷ leaves) (suc p) = leaf_at ss leaves p
+
+module _ {B L : Type 0} where
+  -- the leaf of a slot that is closed
+  abbrev pub leaf_in_slot : Option (Slot B L) → Option L
+  leaf_in_slot (Some (Ended b l)) = Some l
+  leaf_in_slot x = None
+
+  -- the same by a shelf
+  abbrev pub SealsOn : Sight B L → Shelf B L → ℕ → ℕ → Option (List ℕ) → Type 0
+  SealsOn see s d p told = SealsAt see s.starts.value.items s.events.items
+      (λ q. leaf_in_slot (slice_get s.slots.items q)) d p told

@@ -1,0 +1,106 @@
+//! The desks of a pool, made of their seeds before anything is started.
+ghost use Rattle.std.specs.Prelude.{◌≡◌, ◌≤◌, ◌<◌, ◌^◌, ◌++◌, ℕ, None, IfOk, length, map, slice_get};
+ghost use Rattle.checkout_book.specs.Sights.{sight};
+ghost use Rattle.writer_pool.specs.declared.pooled.DeskSeed.{DeskSeed};
+ghost use Rattle.writer_pool.specs.Dealing.{AreDecks, AreRooms, desk_jobs, head_of};
+
+use crate::jobs::{ActorJob, DeskJob, Job};
+use crate::pooled::DeskSeed;
+use checkout_book::book::Pass;
+use checkout_book::reserving::DeskPass;
+use checkout_core::Event;
+use convert_plan::Card;
+use driver_desk::Desk;
+use edge_kit::{Blob, Leaf, Starter};
+use std::alloc::{AllocError, Global};
+
+/// What starts a driver.
+#[derive(Drop)]
+pub(crate) struct DeskHead<S> {
+    /// Whether the driver is required.
+    pub required: bool,
+    pub starter: S,
+}
+
+/// Seeds without their cards, the cards, and room for what is noted of each driver's talk.
+#[derive(Drop)]
+pub(crate) struct Apart<S, B: Blob, L: Leaf> {
+    pub heads: Vec<DeskHead<S>>,
+    pub cards: Vec<Vec<Card<B, L>>>,
+    pub talks: Vec<Vec<Event>>,
+}
+
+/// Takes seeds apart. A driver has at most seven notes for each of its paths, and four more.
+pub(crate) fn take_apart<S: Starter, B: Blob, L: Leaf>(
+    alloc: Global,
+    seeds: Vec<DeskSeed<S, B, L>>,
+) -> Result<Apart<S, B, L>, AllocError>
+    requires { (k : ℕ) (x : DeskSeed S B L) → slice_get seeds.items k ≡ Some x → length x.cards.items < 2 ^ 32 }
+    ensures heads { IfOk result (λ r. r.heads.items ≡ map (λ x. head_of x) seeds.items) }
+    ensures cards { IfOk result (λ r. r.cards.items ≡ map (λ x. x.cards) seeds.items) }
+    ensures talks { IfOk result (λ r. AreRooms seeds.items r.talks.items) }
+{
+    let mut heads = Vec::with_capacity(alloc, seeds.len())?;
+    let mut decks = Vec::with_capacity(alloc, seeds.len())?;
+    let mut talks = Vec::with_capacity(alloc, seeds.len())?;
+    for seed in seeds {
+        let DeskSeed {
+            required,
+            starter,
+            cards,
+        } = seed;
+        talks.push(Vec::with_capacity(alloc, 7 * cards.len() + 4)?)?;
+        heads.push(DeskHead { required, starter })?;
+        decks.push(cards)?;
+    }
+    Ok(Apart {
+        heads,
+        cards: decks,
+        talks,
+    })
+}
+
+/// The jobs of workers.
+pub(crate) fn worker_jobs<S: Starter, B: Blob, L: Leaf>(
+    alloc: Global,
+    passes: Vec<Pass<B, L>>,
+) -> Result<Vec<ActorJob<S, B, L>>, AllocError>
+    ensures { IfOk result (λ v. v.items ≡ map (λ p. record { pass = p; desk = None }) passes.items) }
+{
+    let mut jobs = Vec::with_capacity(alloc, passes.len())?;
+    for pass in passes {
+        jobs.push(Job { pass, desk: None })?;
+    }
+    Ok(jobs)
+}
+
+/// These jobs, and then those of the desks. Each desk is made of what starts its driver and of its dealt cards.
+pub(crate) fn with_desks<S: Starter, B: Blob, L: Leaf>(
+    alloc: Global,
+    mut jobs: Vec<ActorJob<S, B, L>>,
+    heads: Vec<DeskHead<S>>,
+    dealt: Vec<DeskPass<B, L>>,
+    workers: u32,
+) -> Result<Vec<ActorJob<S, B, L>>, AllocError>
+    requires few_workers { workers ≤ 16 }
+    requires few_desks { length dealt.items ≤ 16 }
+    requires heads { length heads.items ≡ length dealt.items }
+    requires decks { AreDecks (sight B.told B.seen L.seen) (map (λ x. x.1) dealt.items) }
+    ensures { IfOk result (λ v. v.items ≡ jobs.items
+        ++ desk_jobs S.seen (sight B.told B.seen L.seen) workers 0 heads.items dealt.items) }
+{
+    let mut heads = heads.into_iter();
+    let mut driver = 0;
+    for (pass, cards) in dealt {
+        let Some(DeskHead { required, starter }) = heads.next() else {
+            unreachable!()
+        };
+        let desk = Desk::make(alloc, workers + driver, driver, required, starter, cards)?;
+        jobs.push(Job {
+            pass,
+            desk: Some(DeskJob { required, desk }),
+        })?;
+        driver += 1;
+    }
+    Ok(jobs)
+}
