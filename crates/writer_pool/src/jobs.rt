@@ -61,7 +61,7 @@ fn act<S: Starter, B: Blob, L: Leaf, G: Gate, H: Wait>(
     match desk {
         Some(DeskJob { required, desk }) => {
             let DeskEnd { pass, served } = run_desk(rt, alloc, book, gate, required, desk, pass);
-            let Served { starter } = served;
+            let Served { starter, .. } = served;
             JobEnd {
                 pass,
                 starter: Some(starter),

@@ -1,7 +1,8 @@
 //! What a card's object is prepared to.
 ghost use Rattle.std.specs.Prelude.{◌≡◌, Ok, Err};
 ghost use Rattle.convert_plan.specs.Card.{card_seen};
-ghost use Rattle.driver_desk.specs.Works.{own_of, ReadsTo, KeepsCard, CountsRead};
+ghost use Rattle.driver_desk.specs.Cards.{KeepsCard};
+ghost use Rattle.driver_desk.specs.Works.{own_of, ReadsTo, CountsRead};
 
 use checkout_core::{ObjectKind, Own};
 use convert_plan::{Card, prepare};
