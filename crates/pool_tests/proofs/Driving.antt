@@ -9,7 +9,6 @@ use Rattle.convert_plan.specs.declared.card.Card.{Card}
 use Rattle.convert_plan.specs.Card.{IsNewCard}
 use Rattle.checkout_core.specs.declared.path.Start.{Start}
 use Rattle.checkout_core.specs.declared.path.Start.TheVariants.{Pool, Desk}
-use Rattle.checkout_core.specs.Desks.{paths_of}
 use Rattle.checkout_core.specs.States.{AreBelow}
 use Rattle.checkout_core.specs.Talks.{contains}
 use Rattle.checkout_book.specs.Sights.{Sight, seen}
