@@ -9,7 +9,7 @@ use crate::page::Page;
 use byte_path::Bytes;
 use checkout_core::Start;
 use convert_plan::{Card, Conversion};
-use edge_kit::{Blob, Mark, Repo};
+use edge_kit::{Blob, Mark, MemoryRepo, Repo};
 use eol_convert::LineEnds;
 use std::alloc::{AllocError, Global};
 
@@ -27,6 +27,14 @@ pub const EMPTY: [u8; 20] = [
 
 /// The name of an object that isn't there.
 pub const ABSENT: [u8; 20] = [7; 20];
+
+/// A repository in memory with the objects `HELLO` and `EMPTY`.
+pub fn objects(alloc: Global) -> Result<MemoryRepo, AllocError> {
+    let mut objects = Vec::new(alloc);
+    objects.push((HELLO, Vec::from_slice(alloc, b"blob 6\0hello\n")?))?;
+    objects.push((EMPTY, Vec::from_slice(alloc, b"blob 0\0")?))?;
+    Ok(MemoryRepo::new(alloc, None, None, None, objects, Vec::new(alloc)))
+}
 
 /// The object of the path with this number. Of three paths in a row one has the content `hello`, the next none, and
 /// the last an object that isn't there.

@@ -1,21 +1,13 @@
-use crate::cards::{EMPTY, HELLO, text_of};
+use crate::cards::{objects, text_of};
 use crate::gates::Holds;
 use crate::runs::run_plain;
 use checkout_core::{Event, FailCause, ObjectKind, Verdict};
-use edge_kit::{Gate, LeafState, Mark, MemoryRepo, NoGate};
-use std::alloc::{AllocError, Global};
+use edge_kit::{Gate, LeafState, Mark, NoGate};
+use std::alloc::Global;
 use std::process::Abort;
 use std::sync::Wait;
 use std::test::Fail;
 use std::thread::Threads;
-
-/// A repository in memory with the objects `HELLO` and `EMPTY`.
-fn objects(alloc: Global) -> Result<MemoryRepo, AllocError> {
-    let mut objects = Vec::new(alloc);
-    objects.push((HELLO, Vec::from_slice(alloc, b"blob 6\0hello\n")?))?;
-    objects.push((EMPTY, Vec::from_slice(alloc, b"blob 0\0")?))?;
-    Ok(MemoryRepo::new(alloc, None, None, None, objects, Vec::new(alloc)))
-}
 
 /// The verdict, the state of the leaf and the content that a path must have.
 fn want(path: u32) -> (Verdict, LeafState, &'static [u8]) {
