@@ -1,13 +1,11 @@
 -- What a checkout that is done leaves, path by path.
-use Rattle.std.proofs.Common.{◌≡◌, ◌⊎◌, ◌<◌, ℕ, Bool, true, false, ◌||◌, if◌then◌else◌, List, [], ◌∷◌, map, Option, Some, None, Ok, refl, sym, ap, ◌∙◌, subst, inl, inr, arith}
+use Rattle.std.proofs.Common.{◌≡◌, ◌<◌, ℕ, Bool, true, false, ◌||◌, if◌then◌else◌, List, [], ◌∷◌, map, Option, Some, None, refl, sym, ap, ◌∙◌, subst, inl, inr, arith}
 use Rattle.std.specs.List.{AllZip, AllByRecursion, filter_map, list_any}
-use Rattle.std.specs.Str.{IsUtf8}
-use Rattle.edge_kit.specs.Seen.{RepoSeen, TreeSeen, SinkSeen}
-use Rattle.edge_kit.specs.Told.{Told, RepoTold, MayFail, Tells}
+use Rattle.edge_kit.specs.Seen.{RepoSeen, TreeSeen}
+use Rattle.edge_kit.specs.Told.{Told, RepoTold, Tells}
 use Rattle.edge_kit.specs.declared.leaf_state.LeafState.{LeafState}
 use Rattle.edge_kit.specs.declared.leaf_state.LeafState.TheVariants.{Fresh, Partly, Sealed, Gone, Broken, Stuck}
 use Rattle.edge_kit.specs.declared.tree_file.TreeFile.{TreeFile}
-use Rattle.object_dir.specs.Object.{Gives}
 use Rattle.checkout_core.specs.declared.path.Start.{Start}
 use Rattle.checkout_core.specs.declared.path.Start.TheVariants as start
 use Rattle.checkout_core.specs.declared.verdict.Verdict.{Verdict}
@@ -17,13 +15,15 @@ use Rattle.checkout_report.specs.Report.{is_failed}
 use Rattle.convert_plan.specs.Prepared.{prepared}
 use Rattle.checkout_plan.specs.declared.path_plan.PathPlan.{PathPlan}
 use Rattle.checkout_plan.specs.declared.path_plan.Plan.{Plan}
-use Rattle.checkout_plan.specs.Paths.{plan_of, HasCause, ClosedPathsHaveCauses}
+use Rattle.checkout_plan.specs.Paths.{HasCause, ClosedPathsHaveCauses}
 use Rattle.checkout_engine.specs.Ending.{IsDone}
-use Rattle.checkout_engine.specs.Ends.{Seen, IsCheckedOut, IsReported, verdicts_of, files_of}
-use Rattle.checkout_engine.specs.Headline.{EndsWith, IsConverted, IsHeadline}
-use Rattle.checkout_engine.specs.Outcome.{Outcome, MayLeavePart, LeavesPart, IsUnmade, HasVerdict, HasOutcome}
+use Rattle.checkout_engine.specs.Ends.{Seen, verdicts_of, files_of}
+use Rattle.checkout_engine.specs.Headline.{EndsWith, IsHeadline}
+use Rattle.checkout_engine.specs.Outcome.{Outcome, MayLeavePart, LeavesPart, HasVerdict, HasOutcome}
 use Rattle.checkout_engine.specs.Output.{with_text}
 use Rattle.checkout_engine.specs.Report.{is_no_memory, lacks_memory, status_of, number_of, report}
+use Rattle.writer_pool.specs.Ends.{IsRun}
+use Rattle.checkout_engine.specs.Workers.{starts_of, worker_count}
 use Rattle.checkout_engine.specs.Writing.{AreOutcomes}
 
 -- a path that the plan closes
@@ -114,8 +114,8 @@ number_is vs n left is = elim (list_any is_failed vs) as (λ failed. list_any is
   | false ↦ λ f. rw (left, f) at is
 ] refl
 
-pub headline : ClosedPathsHaveCauses → (told : RepoTold) (old new : Seen) (n : ℕ) → n < 2 → IsDone told old new n → IsHeadline told old new n
-headline law told old new n less (c, reported) =
+pub headline : ClosedPathsHaveCauses → (told : RepoTold) (asked : Option ℕ) (old new : Seen) (n : ℕ) → n < 2 → IsDone told asked old new n → IsHeadline told asked old new n
+headline law told asked old new n less (c, reported) =
     let causes : AllByRecursion (λ p. HasCause p.start) c.plan.paths = subst (λ (plan : Plan). AllByRecursion (λ p. HasCause p.start) plan.paths) (sym c.planned.made.is)
     (law c.planned.entries c.planned.settings c.planned.info c.planned.made.contents) in
     let left = memory_left (verdicts_of c.outcomes) n less reported.status in
@@ -130,4 +130,5 @@ headline law told old new n less (c, reported) =
           ∙ ap (λ (vs : List Verdict). if list_any is_failed vs then 1 else 0) (sym (same_verdicts c.outcomes));
       blobs = ap (λ (r : RepoSeen). r.out) c.blobs;
       leaves = ap (λ (t : TreeSeen). t.out) c.leaves;
+      run = subst (λ (vs : List Verdict). IsRun (starts_of c.plan.paths) (worker_count asked c.planned.settings c.plan.paths) 0 new.history vs) (sym (same_verdicts c.outcomes)) c.run;
     }

@@ -5,7 +5,6 @@ use Rattle.edge_kit.specs.Faults.{Rose}
 use Rattle.edge_kit.specs.Seen.{RepoSeen}
 use Rattle.edge_kit.specs.Told.{RepoTold, TellsNone, TellsLong, MayFail}
 use Rattle.git_index.specs.declared.entry.Entry.{Entry}
-use Rattle.git_config.specs.declared.setting.Setting.{Setting}
 use Rattle.settings_view.specs.declared.view.Settings.{Settings}
 use Rattle.attr_line.specs.declared.file.AttrFile.{AttrFile}
 use Rattle.checkout_plan.specs.declared.path_plan.Plan.{Plan}

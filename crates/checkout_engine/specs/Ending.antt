@@ -11,15 +11,17 @@ use Rattle.checkout_core.specs.declared.verdict.Verdict.{Verdict}
 use Rattle.checkout_words.specs.declared.Command.{Command}
 use Rattle.checkout_words.specs.declared.Command.TheVariants as command
 use Rattle.checkout_plan.specs.declared.path_plan.PathPlan.{PathPlan}
-use Rattle.checkout_plan.specs.declared.path_plan.Plan.{Plan}
+use Rattle.writer_pool.specs.Ends.{IsRun}
+use Rattle.checkout_engine.specs.Cards.{HasMade}
+use Rattle.checkout_engine.specs.Workers.{starts_of}
+use Rattle.checkout_engine.specs.Reading.{IsRead}
+use Rattle.checkout_engine.specs.declared.planning.Planned.{Planned}
 use Rattle.checkout_engine.specs.declared.status.Status.{Status}
 use Rattle.checkout_engine.specs.declared.status.Status.TheVariants as status
-use Rattle.checkout_engine.specs.declared.stop.Refusal.{Refusal}
-use Rattle.checkout_engine.specs.declared.stop.Refusal.TheVariants as refusal
 use Rattle.checkout_engine.specs.declared.stop.Stop.{Stop}
 use Rattle.checkout_engine.specs.declared.stop.Stop.TheVariants as stop
 use Rattle.checkout_engine.specs.Sources.{has_driver}
-use Rattle.checkout_engine.specs.Causes.{IsCheckoutCause, IsReadCause, IsPlanRead, IsRepoBack}
+use Rattle.checkout_engine.specs.Causes.{IsCheckoutCause, IsReadCause, IsRepoBack}
 use Rattle.checkout_engine.specs.Causes.{IsRepoSteady}
 use Rattle.checkout_engine.specs.Ends.{Seen, IsCheckedOut, IsReported, IsRefused, IsCutOff}
 use Rattle.checkout_engine.specs.Ends.{IsOutOfMemory, IsReadFault, IsNotEmpty, verdicts_of}
@@ -37,11 +39,11 @@ StopsTree old new (Err (stop.Refused r)) = ⊥
 StopsTree old new (Err stop.NoMemory) = ⊥
 
 -- why a checkout stops before it touches a file
-abbrev pub StopsRun : RepoTold → TreeSeen → TreeSeen → RepoSeen → RepoSeen → Result Plan Stop
+abbrev pub StopsRun : RepoTold → TreeSeen → TreeSeen → RepoSeen → RepoSeen → Result Planned Stop
     → Type 0
-StopsRun told tree tree' old new (Ok plan) =
+StopsRun told tree tree' old new (Ok r) =
     Tells tree.empty true × (tree'.faults ≡ tree.faults)
-    × IsPlanRead told plan old new × (list_any has_driver plan.paths ≡ false)
+    × IsRead told r old new × (list_any has_driver r.plan.paths ≡ false)
 StopsRun told tree tree' old new (Err stop.NotEmpty) =
     Tells tree.empty false × (tree'.faults ≡ tree.faults) × (new ≡ old)
 StopsRun told tree tree' old new (Err stop.ReadFault) =
@@ -74,12 +76,14 @@ Reports text verdicts old new status.OutOfMemory =
     IsCut text old new × (lacks_memory verdicts ≡ false → new.faults ≡ old.faults)
 Reports text verdicts old new s = ⊥
 
--- how the writing of open and closed paths ends, one after the other, and that of their report
-abbrev pub ReportsPaths : (List ℕ → Told) → List PathPlan → Seen → Seen → Status → Type 0
-ReportsPaths object paths old new s =
-    ((s ≡ status.OutOfMemory) × (new ≡ old))
+-- how the writing of open and closed paths ends, by so many workers, and that of their report
+abbrev pub ReportsPaths : (List ℕ → Told) → List PathPlan → ℕ → Seen → Seen → Status → Type 0
+ReportsPaths object paths workers old new s =
+    ((s ≡ status.OutOfMemory) × HasMade old.repo new.repo old.tree new.tree
+    × (new.sink ≡ old.sink) × (new.history ≡ old.history))
     ⊎ ((verdicts : List Verdict)
     × ArePathsDone object paths verdicts old.repo new.repo old.tree new.tree
+    × IsRun (starts_of paths) workers 0 new.history verdicts
     × Reports (report paths verdicts) verdicts old.sink new.sink s)
 
 -- the whole text was written, or some first part of it
@@ -97,21 +101,21 @@ ShowsLines text old new status.OutOfMemory =
 ShowsLines text old new s = ⊥
 
 -- a checkout that is done, with its report and its number
-abbrev pub IsDone : RepoTold → Seen → Seen → ℕ → Type 0
-IsDone told old new number =
-    (c : IsCheckedOut told old new)
+abbrev pub IsDone : RepoTold → Option ℕ → Seen → Seen → ℕ → Type 0
+IsDone told asked old new number =
+    (c : IsCheckedOut told asked old new)
     × IsReported c.plan.paths (verdicts_of c.outcomes) old.sink new.sink number
 
 -- how a checkout ends, by its status
-abbrev pub EndsCheckout : RepoTold → Seen → Seen → Status → Type 0
-EndsCheckout told old new status.Done = IsDone told old new 0
-EndsCheckout told old new status.DoneWithFailures = IsDone told old new 1
-EndsCheckout told old new status.Usage = ⊥
-EndsCheckout told old new status.Refused = IsRefused told old new
-EndsCheckout told old new status.OutputNotWritten = IsCutOff told old new
-EndsCheckout told old new status.OutOfMemory = IsOutOfMemory told old new
-EndsCheckout told old new status.ReadFault = IsReadFault told old new
-EndsCheckout told old new status.NotEmpty = IsNotEmpty old new
+abbrev pub EndsCheckout : RepoTold → Option ℕ → Seen → Seen → Status → Type 0
+EndsCheckout told asked old new status.Done = IsDone told asked old new 0
+EndsCheckout told asked old new status.DoneWithFailures = IsDone told asked old new 1
+EndsCheckout told asked old new status.Usage = ⊥
+EndsCheckout told asked old new status.Refused = IsRefused told old new
+EndsCheckout told asked old new status.OutputNotWritten = IsCutOff told asked old new
+EndsCheckout told asked old new status.OutOfMemory = IsOutOfMemory told asked old new
+EndsCheckout told asked old new status.ReadFault = IsReadFault told old new
+EndsCheckout told asked old new status.NotEmpty = IsNotEmpty old new
 
 -- how words end that are not a command: nothing at all was done
 pub record EndsUnasked (old new : Seen) (s : Status) : Type 0 where
@@ -121,6 +125,6 @@ pub record EndsUnasked (old new : Seen) (s : Status) : Type 0 where
 -- how a run ends with these words
 abbrev pub Ends : Option Command → RepoTold → Seen → Seen → Status → Type 0
 Ends None told old new s = EndsUnasked old new s
-Ends (Some (command.Checkout workers)) told old new s = EndsCheckout told old new s
+Ends (Some (command.Checkout workers)) told old new s = EndsCheckout told workers old new s
 Ends (Some command.Plan) told old new s = EndsPlan told old new s
 Ends (Some (command.Rehearse seed paths)) told old new s = EndsUnbuilt old new s

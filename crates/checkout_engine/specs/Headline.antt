@@ -10,6 +10,7 @@ use Rattle.checkout_core.specs.declared.verdict.Verdict.{Verdict}
 use Rattle.checkout_core.specs.declared.verdict.Verdict.TheVariants as verdict
 use Rattle.checkout_core.specs.declared.verdict.FailCause.TheVariants as fail
 use Rattle.checkout_report.specs.Report.{is_failed}
+use Rattle.writer_pool.specs.Ends.{IsRun}
 use Rattle.convert_plan.specs.Prepared.{prepared}
 use Rattle.checkout_plan.specs.declared.path_plan.PathPlan.{PathPlan}
 use Rattle.checkout_plan.specs.declared.path_plan.Plan.{Plan}
@@ -19,6 +20,7 @@ use Rattle.checkout_engine.specs.Outcome.{MayLeavePart}
 use Rattle.checkout_engine.specs.Output.{with_text}
 use Rattle.checkout_engine.specs.Report.{report}
 use Rattle.checkout_engine.specs.Sources.{IsPlanned}
+use Rattle.checkout_engine.specs.Workers.{starts_of, worker_count}
 
 -- The file of a written path: its object's content, converted, with its mark. `unencoded` says that
 -- the content was left as it is because it isn't UTF-8.
@@ -50,8 +52,9 @@ EndsWith told p v file = (p.start ≡ Done v) × (file ≡ None)
 
 -- Each path of the repository's plan ended, the worktree has the files of these ends, in their order, and no other, and
 -- the report has a line for each path, in order, with its verdict. The number is 1 if some path failed. As many blobs
--- and leaves are out as before.
-pub record IsHeadline (told : RepoTold) (old new : Seen) (number : ℕ) : Type 0 where
+-- and leaves are out as before. The history is a complete run over the starts of the plan, with these verdicts, by the
+-- number of workers that the words and the settings give.
+pub record IsHeadline (told : RepoTold) (asked : Option ℕ) (old new : Seen) (number : ℕ) : Type 0 where
   pub plan : Plan
   pub planned : IsPlanned told plan
   pub ends : List (Verdict × Option TreeFile)
@@ -61,3 +64,5 @@ pub record IsHeadline (told : RepoTold) (old new : Seen) (number : ℕ) : Type 0
   pub status : number ≡ (if list_any is_failed (map (λ end. end.0) ends) then 1 else 0)
   pub blobs : new.repo.out ≡ old.repo.out
   pub leaves : new.tree.out ≡ old.tree.out
+  pub run : IsRun (starts_of plan.paths) (worker_count asked planned.settings plan.paths) 0 new.history
+      (map (λ end. end.0) ends)

@@ -10,7 +10,9 @@ pub mod Output
 pub mod Report
 pub mod RefusalText
 pub mod Complete
+pub mod Workers
 -- what its parts promise each other
 pub mod Reading
+pub mod Cards
 pub mod Writing
 pub mod Ending

@@ -17,7 +17,7 @@ use Rattle.git_config.specs.declared.setting.Setting.{Setting}
 use Rattle.settings_view.specs.View.{settings_of}
 use Rattle.settings_view.specs.declared.view.Settings.{Settings}
 use Rattle.settings_view.specs.declared.fault.SettingFault.{SettingFault}
-use Rattle.checkout_plan.specs.declared.path_plan.Plan.{Plan}
+use Rattle.checkout_engine.specs.declared.planning.Planned.{Planned}
 use Rattle.checkout_plan.specs.declared.fault.PlanFault.{PlanFault}
 use Rattle.checkout_plan.specs.declared.fault.PlanFault.TheVariants as fault
 use Rattle.checkout_engine.specs.declared.stop.Refusal.{Refusal}
@@ -76,9 +76,15 @@ StopsFor cause fails old new (Err stop.ReadFault) = Rose old.faults new.faults �
 StopsFor cause fails old new (Err (stop.Refused r)) = (new.faults ≡ old.faults) × cause r
 StopsFor cause fails old new (Err stop.NoMemory) = new.faults ≡ old.faults
 
+-- a plan was read, with what the settings say of the workers
+pub record IsRead (told : RepoTold) (p : Planned) (old new : RepoSeen) : Type 0 where
+  pub read : IsPlanRead told p.plan old new
+  pub workers : p.workers ≡ read.planned.settings.workers
+  pub threshold : p.threshold ≡ read.planned.settings.threshold
+
 -- how the reading of a plan ends
-abbrev pub ReadsPlan : RepoTold → RepoSeen → RepoSeen → Result Plan Stop → Type 0
-ReadsPlan told old new (Ok plan) = IsPlanRead told plan old new
+abbrev pub ReadsPlan : RepoTold → RepoSeen → RepoSeen → Result Planned Stop → Type 0
+ReadsPlan told old new (Ok p) = IsRead told p old new
 ReadsPlan told old new (Err stop.NotEmpty) = ⊥
 ReadsPlan told old new (Err stop.ReadFault) = IsReadCause told old new × IsRepoBack old new
 ReadsPlan told old new (Err (stop.Refused r)) =

@@ -52,13 +52,15 @@ Shows told repo repo' sink sink' status.ReadFault =
     IsReadCause told repo repo' × (sink' ≡ sink) × IsRepoBack repo repo'
 Shows told repo repo' sink sink' s = ⊥
 
--- The same for `run`: the worktree doesn't change.
+-- The same for `run`: the worktree doesn't change, and nothing is in the history.
 pub record EndsPlan (told : RepoTold) (old new : Seen) (s : Status) : Type 0 where
   pub shown : Shows told old.repo new.repo old.sink new.sink s
   pub tree : new.tree ≡ old.tree
+  pub history : new.history ≡ old.history
 
 -- How a refusal of what isn't built yet ends: nothing but its line is written.
 pub record EndsUnbuilt (old new : Seen) (s : Status) : Type 0 where
   pub line : Refuses refusal.Unbuilt old.sink new.sink s
   pub repo : new.repo ≡ old.repo
   pub tree : new.tree ≡ old.tree
+  pub history : new.history ≡ old.history

@@ -1,10 +1,10 @@
 //! A worktree from an index and its objects.
 #![tactic(auto)]
 
+mod cards;
 mod command;
-mod leaf;
+mod giving_back;
 mod output;
-mod path;
 mod paths;
 mod planning;
 mod refusal;
@@ -13,6 +13,7 @@ mod show;
 mod sources;
 mod status;
 mod stop;
+mod workers;
 
 pub use command::run;
 pub use show::plan_text;

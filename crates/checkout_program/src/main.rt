@@ -9,12 +9,15 @@ ghost use Rattle.std.specs.declared.io.ErrorKind.TheVariants.{OutOfMemory};
 ghost use Rattle.checkout_program.specs.Words.{word_at, words_of, message_of};
 
 use checkout_engine::run;
-use edge_adapters::{FolderRepo, FolderTree, OutputSink};
+use edge_adapters::{FolderRepo, FolderTree, OutputSink, ProcessSpawner};
+use edge_kit::NoGate;
 use std::alloc::{AllocError, Global};
 use std::env::{Args, args};
 use std::io;
 use std::io::{ErrorKind, writer};
 use std::process::ExitCode;
+use std::sync::Wait;
+use std::thread::Threads;
 
 /// The words after the first.
 fn rest_of(alloc: Global, mut all: Args) -> Result<Vec<String>, AllocError>
@@ -74,15 +77,27 @@ fn folders_of(rt: HostRuntime, words: &[String]) -> Result<(FolderRepo, FolderTr
     Ok((FolderRepo::new(rt, repo), FolderTree::new(rt, tree)))
 }
 
-fn run_words(rt: HostRuntime) -> Result<u8, AllocError> {
+fn run_words<H: Threads + Wait + Sync>(rt: HostRuntime, threads: &H) -> Result<u8, AllocError> {
     let words = words_of(rt.alloc(), args(&rt))?;
     let (mut repo, mut tree) = folders_of(rt, &words)?;
+    let mut spawner = ProcessSpawner::new(rt);
     let mut out = OutputSink::new(writer(&rt));
-    Ok(run(rt.alloc(), &words, &mut repo, &mut tree, &mut out))
+    let mut history = Vec::new(rt.alloc());
+    Ok(run(
+        threads,
+        rt.alloc(),
+        &words,
+        &mut repo,
+        &mut tree,
+        &mut spawner,
+        &NoGate,
+        &mut out,
+        &mut history,
+    ))
 }
 
 fn main(rt: HostRuntime) -> ExitCode {
-    let status = run_words(rt).unwrap_or(5);
+    let status = run_words(rt, &rt).unwrap_or(5);
     if let Some(message) = message_of(status) {
         let _ = eprintln!(rt; "{message}");
     }

@@ -2,11 +2,15 @@
 use crate::index::{PLAIN, Row, index_bytes};
 use byte_path::Bytes;
 use checkout_engine::run;
-use edge_kit::{LeafCall, MemoryRepo, MemorySink, MemoryTree, RepoFail, TreeFile};
+use edge_kit::{
+    LeafCall, MemoryRepo, MemorySink, MemorySpawner, MemoryTree, NoGate, Repo, RepoFail, TreeFile,
+};
 use std::alloc::{AllocError, Global};
 use std::process::Abort;
 use std::string::String;
+use std::sync::Wait;
 use std::test::Fail;
+use std::thread::Threads;
 use std::vec::Vec;
 
 /// The name that `git hash-object` gives to `hi` and a line feed.
@@ -219,22 +223,50 @@ fn push_files(seen: &mut String, files: &[TreeFile]) -> Result<(), Fail> {
     Ok(())
 }
 
+/// The status of a run without drivers, a gate that holds or a history before it.
+pub fn run_words<R: Repo, H: Threads + Wait + Sync>(
+    rt: &H,
+    alloc: Global,
+    words: &[String],
+    repo: &mut R,
+    tree: &mut MemoryTree,
+    out: &mut MemorySink,
+) -> u8 {
+    let mut spawner = MemorySpawner::new(alloc, Vec::new(alloc));
+    let mut history = Vec::new(alloc);
+    run(
+        rt,
+        alloc,
+        words,
+        repo,
+        tree,
+        &mut spawner,
+        &NoGate,
+        out,
+        &mut history,
+    )
+}
+
 /// The output, the status, and a line for each file of the case.
-fn seen_of(alloc: Global, case: &Case) -> Result<String, Fail> {
+fn seen_of<H: Threads + Wait + Sync>(rt: &H, alloc: Global, case: &Case) -> Result<String, Fail> {
     let words = words_of(alloc, case.command)?;
     let mut repo = repo_of(alloc, case)?;
     let mut tree = tree_of(alloc, case)?;
     let mut out = MemorySink::new(alloc, case.sink_fails);
-    let status = run(alloc, &words, &mut repo, &mut tree, &mut out);
+    let status = run_words(rt, alloc, &words, &mut repo, &mut tree, &mut out);
     let mut seen = String::from_str(alloc, str::from_utf8(out.bytes())?)?;
     writeln!(seen, "status {status}")?;
     push_files(&mut seen, tree.files())?;
     Ok(seen)
 }
 
-pub fn check(rt: &impl Abort, alloc: Global, cases: &[Case]) -> Result<(), Fail> {
+pub fn check<H: Threads + Wait + Sync + Abort>(
+    rt: &H,
+    alloc: Global,
+    cases: &[Case],
+) -> Result<(), Fail> {
     for case in cases {
-        let seen = seen_of(alloc, case)?;
+        let seen = seen_of(rt, alloc, case)?;
         assert_eq!(rt; seen.as_str(), case.wanted);
     }
     Ok(())

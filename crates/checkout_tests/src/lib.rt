@@ -1,7 +1,7 @@
 //! The tests of a checkout: its runs, its plan, its report and what becomes of a content.
 //!
-//! They are over the built libraries, as those of `format_tests` are: `runs`, `plans`, `reports` and `conversions`. It
-//! has nothing but tests.
+//! They are over the built libraries, as those of `format_tests` are: `runs`, `workers`, `plans`, `reports` and
+//! `conversions`. It has nothing but tests.
 #![tactic(auto)]
 
 #[cfg(test)]
@@ -18,3 +18,5 @@ mod plans;
 mod reports;
 #[cfg(test)]
 mod runs;
+#[cfg(test)]
+mod workers;

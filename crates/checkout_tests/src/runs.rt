@@ -1,10 +1,9 @@
 use crate::cases::{
     ATTRIBUTES, BIN, Case, EMPTY, HI, IDENT, MIXED, NO_ENTRIES, NULS, ODD, ONE_ENTRY, WIDE, check,
-    checkout, named, plain, repo_of, stage, tree_of, words_of,
+    checkout, named, plain, repo_of, run_words, stage, tree_of, words_of,
 };
 use crate::index::{EXECUTABLE, GITLINK, LINK, PLAIN, Row, push_row};
 use crate::out_of_memory::OutOfMemoryRepo;
-use checkout_engine::run;
 use edge_kit::{LeafCall, MemoryRepo, MemorySink, MemoryTree, RepoFail};
 use std::alloc::{AllocError, Global};
 use std::test::Fail;
@@ -692,14 +691,41 @@ fn a_path_that_runs_out_of_memory_is_reported(rt: HostRuntime) -> Result<(), Fai
     for (fails, wanted) in cases {
         let mut repo = OutOfMemoryRepo {
             repo: repo_of(alloc, &case)?,
-            unmade: BIN,
+            unmade: None,
+            unread: Some(BIN),
         };
         let mut tree = tree_of(alloc, &case)?;
         let mut out = MemorySink::new(alloc, fails);
-        assert_eq!(rt; run(alloc, &words, &mut repo, &mut tree, &mut out), 5);
+        assert_eq!(rt;
+            run_words(&rt, alloc, &words, &mut repo, &mut tree, &mut out),
+            5
+        );
         assert_eq!(rt; str::from_utf8(out.bytes())?, wanted);
         assert_eq!(rt; tree.files().len(), 1);
     }
+    Ok(())
+}
+
+/// Where the blob of a path can't be made, no file is touched and nothing is reported.
+#[test]
+fn a_blob_that_is_not_made_stops_it(rt: HostRuntime) -> Result<(), Fail> {
+    let alloc = rt.alloc();
+    let rows = [plain(b"a"), named(b"b", BIN)];
+    let case = checkout(&rows, "");
+    let words = words_of(alloc, &["checkout"])?;
+    let mut repo = OutOfMemoryRepo {
+        repo: repo_of(alloc, &case)?,
+        unmade: Some(BIN),
+        unread: None,
+    };
+    let mut tree = tree_of(alloc, &case)?;
+    let mut out = MemorySink::new(alloc, None);
+    assert_eq!(rt;
+        run_words(&rt, alloc, &words, &mut repo, &mut tree, &mut out),
+        5
+    );
+    assert_eq!(rt; out.bytes().len(), 0);
+    assert_eq!(rt; tree.files().len(), 0);
     Ok(())
 }
 
@@ -731,7 +757,10 @@ fn an_index_of_70_001_entries_is_checked_out(rt: HostRuntime) -> Result<(), Fail
     let mut tree = MemoryTree::new(alloc, true, Vec::new(alloc), false);
     let mut out = MemorySink::new(alloc, None);
     let words = words_of(alloc, &["checkout"])?;
-    assert_eq!(rt; run(alloc, &words, &mut repo, &mut tree, &mut out), 0);
+    assert_eq!(rt;
+        run_words(&rt, alloc, &words, &mut repo, &mut tree, &mut out),
+        0
+    );
     let text = str::from_utf8(out.bytes())?;
     assert!(rt;
         text.starts_with(

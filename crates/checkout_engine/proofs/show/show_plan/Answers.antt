@@ -5,4 +5,4 @@ pub returns-in-Err : goal.returns-in-Err
 returns-in-Err g c = shows_stopped _ c.in-Err.stop _ _ _ _ _ c.in-Err.ensures.reads c.stopped.ensures
 
 pub returns-in-Ok : goal.returns-in-Ok
-returns-in-Ok g c = shows_plan _ c.in-Ok.plan _ _ _ _ _ c.in-Ok.ensures.reads c.write_plan.ensures
+returns-in-Ok g c = shows_plan _ c.in-Ok.planned.plan _ _ _ _ _ c.in-Ok.ensures.reads.read c.write_plan.ensures

@@ -1,0 +1,36 @@
+//! The blobs and the leaves of a checkout, given back in path order.
+ghost use Rattle.std.specs.Prelude.{◌≡◌, ◌+◌, ◌≤◌, ◌++◌, length, map};
+ghost use Rattle.edge_kit.specs.Joins.{leaf_back};
+ghost use Rattle.edge_kit.specs.Seen.{blob_back};
+ghost use Rattle.checkout_engine.specs.Cards.{JoinAll};
+
+use edge_kit::{Repo, Worktree};
+
+/// Gives blobs back, in their order.
+pub fn give_blobs<R: Repo>(repo: &mut R, blobs: Vec<R::Blob>)
+    requires { length blobs.items ≤ (R.seen repo.old).out }
+    ensures told { R.told repo.new ≡ R.told repo.old }
+    ensures out { (R.seen repo.new).out + length blobs.items ≡ (R.seen repo.old).out }
+    ensures back { R.seen repo.new ≡ record (R.seen repo.old) {
+      out = (R.seen repo.new).out;
+      returned = (R.seen repo.old).returned ++ map (λ b. blob_back (R.Blob.seen b)) blobs.items;
+    } }
+{
+    for blob in blobs {
+        repo.take_back(blob);
+    }
+}
+
+/// Gives leaves back, in their order. Their files join the worktree's.
+pub fn give_leaves<T: Worktree>(tree: &mut T, leaves: Vec<T::Leaf>)
+    requires { length leaves.items ≤ (T.seen tree.old).out }
+    ensures faults { (T.seen tree.new).faults ≡ (T.seen tree.old).faults }
+    ensures out { (T.seen tree.new).out + length leaves.items ≡ (T.seen tree.old).out }
+    ensures back { (T.seen tree.new).returned
+        ≡ (T.seen tree.old).returned ++ map (λ l. leaf_back (T.Leaf.seen l)) leaves.items }
+    ensures files { JoinAll (map T.Leaf.seen leaves.items) (T.seen tree.old).files (T.seen tree.new).files }
+{
+    for leaf in leaves {
+        tree.take_back(leaf);
+    }
+}
