@@ -83,9 +83,9 @@ pub cut_at : (block done front crs text : List ℕ) (at place more n : ℕ) → 
 cut_at block done front crs text at place more n is done_long front_long crs_long low high =
     let whole : List ℕ = done ++ (front ++ crs) in
     let joined : (xs : List ℕ) → done ++ (front ++ (crs ++ xs)) ≡ whole ++ xs = λ xs.
-        ap (λ (ys : List ℕ). done ++ ys) (sym (append_assoc front crs xs)) ∙ sym (append_assoc done (front ++ crs) xs) in
+    ap (λ (ys : List ℕ). done ++ ys) (sym (append_assoc front crs xs)) ∙ sym (append_assoc done (front ++ crs) xs) in
     let long : at + n + more ≡ length whole + (n - place) =
-        omega (arith, low, done_long, front_long, crs_long, length-append done (front ++ crs), length-append front crs) in
+    omega (arith, low, done_long, front_long, crs_long, length-append done (front ++ crs), length-append front crs) in
     sym (take-take (at + n + more) (at + place + more + 32) block (omega (arith, high, low)))
     ∙ ap (take (at + n + more)) (is ∙ joined (take 32 text))
     ∙ ap (λ (m : ℕ). take m (whole ++ take 32 text)) long ∙ take-append-add whole (take 32 text) (n - place)
@@ -100,7 +100,7 @@ crlf_of false = refl
 pub with_lf : (content : List ℕ) (from place more later : ℕ) → from + place + 1 + later ≤ length content → NoLf (drop from content) place
     → get_or content (from + place) 0 ≡ 10 → NoLf (drop (from + place + 1) content) later → more ≡ cond (is_behind_cr content (from + place)) 0 1
     → crlf_from content from ≡ take place (drop from content) ++ (replicate more 13 ++ (take (suc later) (drop (from + place) content)
-        ++ crlf_from content (from + place + 1 + later)))
+    ++ crlf_from content (from + place + 1 + later)))
 with_lf content from place more later within before lf after is =
     let at : ℕ = from + place in
     let next : suc at ≡ at + 1 = omega arith in
@@ -108,15 +108,15 @@ with_lf content from place more later within before lf after is =
     let tail : List ℕ = take later (drop (at + 1) content) in
     let crs : List ℕ = replicate more 13 in
     let cut : take (suc later) (drop at content) ≡ 10 ∷ tail =
-        ap (take (suc later)) (drop-cons content at 0 (omega (arith, within))) ∙ ap (λ (b : ℕ). b ∷ take later (drop (suc at) content)) lf
-        ∙ ap (λ (i : ℕ). 10 ∷ take later (drop i content)) next in
+    ap (take (suc later)) (drop-cons content at 0 (omega (arith, within))) ∙ ap (λ (b : ℕ). b ∷ take later (drop (suc at) content)) lf
+    ∙ ap (λ (i : ℕ). 10 ∷ take later (drop i content)) next in
     let end : crlf_for (is_behind_cr content at) (get_or content at 0) ≡ crs ++ (10 ∷ []) =
-        ap (crlf_for (is_behind_cr content at)) lf ∙ crlf_of (is_behind_cr content at) ∙ ap (λ (n : ℕ). replicate n 13 ++ (10 ∷ [])) (sym is) in
+    ap (crlf_for (is_behind_cr content at)) lf ∙ crlf_of (is_behind_cr content at) ∙ ap (λ (n : ℕ). replicate n 13 ++ (10 ∷ [])) (sym is) in
     let here : crlf_from content at ≡ crs ++ (take (suc later) (drop at content) ++ behind) =
-        one_byte content at (omega (arith, within)) ∙ ap (λ (xs : List ℕ). xs ++ crlf_from content (at + 1)) end
-        ∙ append_assoc crs (10 ∷ []) (crlf_from content (at + 1))
-        ∙ ap (λ (xs : List ℕ). crs ++ (10 ∷ xs)) (run_of content (at + 1) later within after)
-        ∙ ap (λ (xs : List ℕ). crs ++ (xs ++ behind)) (sym cut) in
+    one_byte content at (omega (arith, within)) ∙ ap (λ (xs : List ℕ). xs ++ crlf_from content (at + 1)) end
+    ∙ append_assoc crs (10 ∷ []) (crlf_from content (at + 1))
+    ∙ ap (λ (xs : List ℕ). crs ++ (10 ∷ xs)) (run_of content (at + 1) later within after)
+    ∙ ap (λ (xs : List ℕ). crs ++ (xs ++ behind)) (sym cut) in
     run_of content from place (omega (arith, within)) before ∙ ap (λ (xs : List ℕ). take place (drop from content) ++ xs) here
 
 flipped : (b : Bool) → not b ≡ false → b ≡ true
@@ -154,8 +154,8 @@ after_lf content from k is few long one j low high passes =
     let place : ℕ = k + 1 + j in
     let whole : length (take 32 text) ≡ 32 = length-take-le 32 text (omega (arith, long, length-drop from content)) in
     let here : get_or (take 32 text) place 0 ≡ get_or (drop (from + k + 1) content) j 0 =
-        get_or-take 32 text place 0 (omega (arith, high, few)) ∙ get_or-drop from content place 0
-        ∙ ap (λ (i : ℕ). get_or content i 0) (omega arith) ∙ sym (get_or-drop (from + k + 1) content j 0) in
+    get_or-take 32 text place 0 (omega (arith, high, few)) ∙ get_or-drop from content place 0
+    ∙ ap (λ (i : ℕ). get_or content i 0) (omega arith) ∙ sym (get_or-drop (from + k + 1) content j 0) in
     alone (is_byte 10) (take 32 text) k place one (omega arith) (omega (arith, whole, high, few))
     (lf_passes text k is few (omega (arith, long, length-drop from content))) (ap (is_byte 10) here ∙ passes)
 

@@ -63,14 +63,7 @@ fn copy_window(block: &mut [u8], at: usize, content: &[u8], from: usize)
 
 /// Copies a window into a block, with so many CRs before its byte at `place`: one, or none. What follows it is copied too.
 #[inline(always)]
-fn copy_with_cr(
-    block: &mut [u8],
-    at: usize,
-    content: &[u8],
-    from: usize,
-    place: usize,
-    more: usize,
-)
+fn copy_with_cr(block: &mut [u8], at: usize, content: &[u8], from: usize, place: usize, more: usize)
     requires { (place ≤ WINDOW) × (more ≤ 1) × (from + 2 * WINDOW ≤ length content.now)
         × (at + 2 * WINDOW + 1 ≤ length block.old) }
     ensures written { take (at + place + more + WINDOW) block.new

@@ -23,8 +23,8 @@ use std::thread::Threads;
 /// Writes all cards of a checkout: by as many workers, and by a desk for each driver, each in a thread of its own. The
 /// caller closes what still waits after all of them came back.
 ///
-/// The cards are new, in path order, and those that `starts` names. `NoMemory` is the only error. All memory is taken
-/// before anything is started, but for what the threads themselves need.
+/// The cards are new, in path order, and those that `starts` names. `NoMemory` is the only error. It comes before any
+/// actor is started, or from the threads themselves, and gives nothing back. Want of memory after that is a path's own.
 pub fn pool_run<
     S: Starter + Send,
     B: Blob + Send,

@@ -59,7 +59,7 @@ pub returns-clause-some : goal.returns-clause-some
 returns-clause-some c =
     let marks = c.line_feeds-marks.result in
     some_of (ltb 1 (count_ones marks)) (count_ones marks) (count_trailing_zeros 32 marks) refl
-        (λ some. (bit_at-trailing_zeros w32 marks (some_bit marks some) (fits c)).0)
+    (λ some. (bit_at-trailing_zeros w32 marks (some_bit marks some) (fits c)).0)
 
 pub returns-clause-within : goal.returns-clause-within
 returns-clause-within c = trailing_le 32 c.line_feeds-marks.result
