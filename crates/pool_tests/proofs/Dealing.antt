@@ -95,8 +95,10 @@ module _ {B L : Type 0} (see : Sight B L) where
         t.1 ∙ ap (λ (s : Start). Some s) (in_pool t.0 t.2);
     all = λ p at.
         let k = among Pool starts p start.Pool at refl in
-        let m = get_mapped (λ (x : Card B L). x.path) cards k.0 p (ap (λ (l : List ℕ). slice_get l k.0) dealt.paths ∙ k.1)
-        in (k.0, m.0, m.1, m.2);
+        let e : slice_get (map (λ (c : Card B L). c.path) cards) k.0 ≡ Some p =
+        ap (λ (l : List ℕ). slice_get l k.0) dealt.paths ∙ k.1 in
+        let m = get_mapped (λ (x : Card B L). x.path) cards k.0 p e in
+        (k.0, m.0, m.1, m.2);
     rises = λ i j a b lt e f.
         rises Pool starts i j a.path b.path lt (path_at Pool starts cards dealt i a e)
         (path_at Pool starts cards dealt j b f);

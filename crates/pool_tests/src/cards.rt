@@ -57,8 +57,8 @@ fn goes_to(owner: Owner, start: Start) -> bool
     }
 }
 
-/// The object of the path with this number. A driver's has the content `hello`. Of three others in a row one has it, the
-/// next none, and the last an object that isn't there.
+/// The object of the path with this number. A driver's has the content `hello`. Of three others in a row one has it,
+/// the next none, and the last an object that isn't there.
 fn object_of(owner: Owner, path: u32) -> [u8; 20] {
     match (owner, path % 3) {
         (Owner::Desk(_), _) | (Owner::Pool, 0) => HELLO,

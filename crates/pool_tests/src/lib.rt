@@ -1,9 +1,9 @@
 //! The tests of the pool.
 //!
 //! A crate with tests is proved twice, with them and without. So the tests of `writer_pool` are here, over the built
-//! library: `many` has those over a thousand paths, without drivers and with the two of `talks`, and `handing` those over
-//! paths that a driver refuses. `cards` makes the cards, `page` is their leaf, `drivers` makes the seeds of desks, `runs`
-//! runs a pool, and `gates` holds actors.
+//! library: `many` has those over a thousand paths, without drivers and with the two of `talks`, and `handing` those
+//! over paths that a driver refuses. `cards` makes the cards, `page` is their leaf, `drivers` makes the seeds of desks,
+//! `runs` runs a pool, and `gates` holds actors.
 #![tactic(auto)]
 
 pub mod cards;

@@ -12,8 +12,8 @@ use std::sync::Wait;
 use std::thread::Threads;
 use writer_pool::{Pooled, pool_run};
 
-/// Where a path starts. An only driver has all paths. Of two drivers the first has each 252nd path from path 2 on, and the
-/// second each 252nd from path 1 on.
+/// Where a path starts. An only driver has all paths. Of two drivers the first has each 252nd path from path 2 on, and
+/// the second each 252nd from path 1 on.
 fn start_of(drivers: usize, path: u32) -> Start
     ensures { IsKeptStart drivers result }
 {

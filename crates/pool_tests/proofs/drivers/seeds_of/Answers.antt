@@ -32,8 +32,8 @@ loop-outputs-preserved g c =
     let count = i.1 in
     let dealt = c.in_ok-cards_of.ensures in
     let place : c.loop-outputs.driver ≡ 0 + length olds = omega (arith, count) in
-    let one = one_seed seen-value.it see c.args.starts.now _ c.loop-outputs.driver seed c.requires.keep c.requires.few dealt
-    c.is_required.ensures c.in_ok-starter_of.ensures in (
+    let one = one_seed seen-value.it see c.args.starts.now _ c.loop-outputs.driver seed c.requires.keep c.requires.few
+    dealt c.is_required.ensures c.in_ok-starter_of.ensures in (
       ap (λ (n : ℕ). n + 1) i.0,
       omega (arith, ap length more, length-append olds (seed ∷ []), count),
       subst (λ (l : List D). AreSeeds seen-value.it c.args.starts.now 0 l) (sym more)
