@@ -1,2 +1,4 @@
-pub mod Pooling
-pub mod Driving
+pub mod Texting
+pub mod Placing
+pub mod Dealing
+pub mod Seeding

@@ -1,3 +1,4 @@
 pub mod Pages
-pub mod Pools
+pub mod Texts
+pub mod Places
 pub mod Drivers

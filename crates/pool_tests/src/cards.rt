@@ -1,9 +1,10 @@
-//! The cards of paths without a driver.
-ghost use Rattle.std.specs.Prelude.{◌≡◌, IfOk};
+//! The cards of numbered paths.
+ghost use Rattle.std.specs.Prelude.{◌≡◌, ◌<◌, ◌+◌, IfOk, length};
 ghost use Rattle.convert_plan.specs.Card.{IsNewCard};
 ghost use Rattle.checkout_book.specs.Sights.{sight, seen};
 ghost use Rattle.pool_tests.specs.Pages.{page_seen};
-ghost use Rattle.pool_tests.specs.Pools.{IsPool};
+ghost use Rattle.pool_tests.specs.Texts.{text_at};
+ghost use Rattle.pool_tests.specs.Places.{goes_to, AreCardsOf};
 
 use crate::page::Page;
 use byte_path::Bytes;
@@ -36,33 +37,72 @@ pub fn objects(alloc: Global) -> Result<MemoryRepo, AllocError> {
     Ok(MemoryRepo::new(alloc, None, None, None, objects, Vec::new(alloc)))
 }
 
-/// The object of the path with this number. Of three paths in a row one has the content `hello`, the next none, and
-/// the last an object that isn't there.
-pub fn object_of(path: u32) -> [u8; 20] {
-    match path % 3 {
-        0 => HELLO,
-        1 => EMPTY,
+/// Who has the path first.
+#[derive(Clone, Copy, Debug, PartialEq, Eq)]
+pub enum Owner {
+    /// Any actor.
+    Pool,
+    /// The desk of this driver.
+    Desk(u32),
+}
+
+/// Whether a path that starts so goes to this owner.
+fn goes_to(owner: Owner, start: Start) -> bool
+    ensures { result ≡ goes_to owner start }
+{
+    match (owner, start) {
+        (Owner::Pool, Start::Pool) => true,
+        (Owner::Desk(of), Start::Desk { driver, .. }) => of == driver,
+        _ => false,
+    }
+}
+
+/// The object of the path with this number. A driver's has the content `hello`. Of three others in a row one has it,
+/// the next none, and the last an object that isn't there.
+fn object_of(owner: Owner, path: u32) -> [u8; 20] {
+    match (owner, path % 3) {
+        (Owner::Desk(_), _) | (Owner::Pool, 0) => HELLO,
+        (Owner::Pool, 1) => EMPTY,
         _ => ABSENT,
     }
 }
 
-/// The text of the path with this number, below 10,000.
-pub fn text_of(path: u32) -> [u8; 5] {
-    let digit = |place: u32| b'0' + (path / place % 10) as u8;
-    [b'f', digit(1000), digit(100), digit(10), digit(1)]
+/// The digit with this value.
+fn digit(value: u32) -> u8
+    requires { value < 10 }
+    ensures { result ≡ 48 + value }
+{
+    b'0' + value as u8
+}
+
+/// The text of the path with this number: `f` and its four digits.
+pub fn text_of(path: u32) -> [u8; 5]
+    requires { path < 10_000 }
+    ensures { result ≡ text_at path }
+{
+    [
+        b'f',
+        digit(path / 1000),
+        digit(path % 1000 / 100),
+        digit(path % 100 / 10),
+        digit(path % 10),
+    ]
 }
 
 /// A new card of the path with this number.
-pub fn new_card<R: Repo>(
+fn new_card<R: Repo>(
     alloc: Global,
     repo: &mut R,
+    owner: Owner,
     path: u32,
 ) -> Result<Card<R::Blob, Page>, AllocError>
+    requires { path < 10_000 }
     ensures path { IfOk result (λ c. c.path ≡ path) }
+    ensures text { IfOk result (λ c. c.text ≡ text_at path) }
     ensures new { IfOk result (λ c. IsNewCard (seen (sight R.Blob.told R.Blob.seen page_seen) c)) }
 {
     let name = text_of(path);
-    let object = object_of(path);
+    let object = object_of(owner, path);
     let text = Bytes::copy_of(alloc, &name)?;
     let leaf = Page::new(alloc, Bytes::copy_of(alloc, &name)?);
     let blob = repo.blob(&object)?;
@@ -82,28 +122,23 @@ pub fn new_card<R: Repo>(
     })
 }
 
-/// The new cards of a pool.
-#[derive(Drop)]
-pub struct NewCards<B: Blob> {
-    pub cards: Vec<Card<B, Page>>,
-    pub starts: Vec<Start>,
-}
-
-/// So many new cards of a pool, with their starts.
-pub fn new_cards<R: Repo>(
+/// The new cards of the paths that go to this owner, in path order.
+pub fn cards_of<R: Repo>(
     alloc: Global,
     repo: &mut R,
-    count: u32,
-) -> Result<NewCards<R::Blob>, AllocError>
-    ensures pool { IfOk result (λ r. IsPool (sight R.Blob.told R.Blob.seen page_seen) count
-        r.starts.items r.cards.items) }
+    starts: &[Start],
+    owner: Owner,
+) -> Result<Vec<Card<R::Blob, Page>>, AllocError>
+    requires { length starts.now < 10_000 }
+    ensures { IfOk result (λ v. AreCardsOf (sight R.Blob.told R.Blob.seen page_seen) owner starts.now v.items) }
 {
-    let mut cards = Vec::with_capacity(alloc, count as usize)?;
-    let mut starts = Vec::with_capacity(alloc, count as usize)?;
-    for path in 0..count {
-        let card = new_card(alloc, repo, path)?;
-        cards.push(card)?;
-        starts.push(Start::Pool)?;
+    let mut cards = Vec::new(alloc);
+    let mut path = 0;
+    for start in starts {
+        if goes_to(owner, *start) {
+            cards.push(new_card(alloc, repo, owner, path)?)?;
+        }
+        path += 1;
     }
-    Ok(NewCards { cards, starts })
+    Ok(cards)
 }

@@ -1,7 +1,8 @@
 //! Gates that hold actors.
 use edge_kit::{Gate, Point};
 
-/// A gate that holds the actors whose number is even, or odd, after each claim: it counts to `turns`.
+/// A gate that holds the actors whose number is even, or odd, after each claim and after a driver's first reply for a
+/// path: it counts to `turns`.
 #[derive(Clone, Copy, Debug)]
 pub struct Holds {
     pub odd: bool,
@@ -11,7 +12,7 @@ pub struct Holds {
 impl Gate for Holds {
     fn at(&self, actor: u32, path: u32, point: Point) {
         let held = (actor % 2 == 1) == self.odd;
-        if !held || point != Point::Claimed {
+        if !held || point == Point::Closed {
             return;
         }
         let mut sum = path;

@@ -1,5 +1,6 @@
 use crate::cards::objects;
-use crate::drivers::{run_driver, starter_of};
+use crate::drivers::Outputs;
+use crate::runs::run;
 use checkout_core::{Event, FilterCause, Verdict};
 use edge_kit::{LeafState, Mark, NoGate};
 use filter_words::BreakCause;
@@ -13,11 +14,11 @@ use std::thread::Threads;
 #[derive(Clone, Copy, Debug)]
 struct Row {
     name: &'static str,
-    outputs: &'static [&'static [u8]],
+    outputs: Outputs,
     notes: usize,
     /// Why a path was handed back, if it was.
-    refused: [Option<FilterCause>; 4],
-    files: [&'static [u8]; 4],
+    refused: &'static [Option<FilterCause>],
+    files: &'static [&'static [u8]],
 }
 
 const BROKEN: FilterCause = FilterCause::Broken(BreakCause::Ended);
@@ -33,15 +34,15 @@ const ROWS: &[Row] = &[
             0013status=success\n00000008four00000000",
         ],
         notes: 7,
-        refused: [None, None, Some(BROKEN), None],
-        files: [b"one", b"two", b"hello\n", b"four"],
+        refused: &[None, None, Some(BROKEN), None],
+        files: &[b"one", b"two", b"hello\n", b"four"],
     },
     Row {
         name: "no smudge",
         outputs: &[b"0016git-filter-server\n000eversion=2\n00000015capability=clean\n0000"],
         notes: 2,
-        refused: [Some(FilterCause::NoSmudge); 4],
-        files: [b"hello\n"; 4],
+        refused: &[Some(FilterCause::NoSmudge); 3],
+        files: &[b"hello\n", b"hello\n", b"hello\n"],
     },
 ];
 
@@ -97,12 +98,14 @@ fn check<H: Threads + Wait + Sync + Abort>(
     workers: u32,
 ) -> Result<(), Fail> {
     assert!(rt; 1 <= workers && workers <= 16);
+    assert!(rt; row.files.len() < 10_000);
     let mut repo = objects(alloc)?;
-    let starter = starter_of(alloc, row.outputs)?;
-    let left = run_driver(rt, alloc, &mut repo, starter, workers, &NoGate)?;
-    for path in 0..4_u32 {
-        let at = path as usize;
-        let refused = row.refused[at];
+    let paths = row.files.len() as u32;
+    let drivers = &[row.outputs];
+    let left = run(rt, alloc, &mut repo, paths, drivers, workers, &NoGate)?;
+    for (at, (refused, file)) in row.refused.iter().zip(row.files).enumerate() {
+        let path = at as u32;
+        let refused = *refused;
         let steps = steps_of(alloc, left.history.as_slice(), path)?;
         assert_eq!(rt;
             steps.as_slice(),
@@ -126,12 +129,7 @@ fn check<H: Threads + Wait + Sync + Abort>(
             "{} at {path}",
             row.name
         );
-        assert_eq!(rt;
-            leaf.content.as_slice(),
-            row.files[at],
-            "{} at {path}",
-            row.name
-        );
+        assert_eq!(rt; leaf.content.as_slice(), *file, "{} at {path}", row.name);
     }
     assert_eq!(rt; left.starters.len(), 1, "{}", row.name);
     let Some(talk) = left.talks.get(0) else {

@@ -1,8 +1,9 @@
 //! The tests of the pool.
 //!
 //! A crate with tests is proved twice, with them and without. So the tests of `writer_pool` are here, over the built
-//! library: `plain` has those over paths without a driver, `handing` those over paths that a driver refuses. `cards` and
-//! `drivers` make the cards, `page` is their leaf, and `gates` holds actors.
+//! library: `many` has those over a thousand paths, without drivers and with the two of `talks`, and `handing` those
+//! over paths that a driver refuses. `cards` makes the cards, `page` is their leaf, `drivers` makes the seeds of desks,
+//! `runs` runs a pool, and `gates` holds actors.
 #![tactic(auto)]
 
 pub mod cards;
@@ -10,7 +11,9 @@ pub mod drivers;
 pub mod gates;
 #[cfg(test)]
 mod handing;
-pub mod page;
 #[cfg(test)]
-mod plain;
+mod many;
+pub mod page;
 pub mod runs;
+#[cfg(test)]
+mod talks;
