@@ -1,5 +1,6 @@
 pub mod OneContent
 pub mod Encoded
 pub mod Ascii
+pub mod Chunks
 pub mod Fronts
 mod Names

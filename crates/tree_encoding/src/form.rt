@@ -1,11 +1,10 @@
 //! How characters are written in units of 16 and of 32 bits.
-ghost use Rattle.std.specs.Prelude.{◌≡◌, ◌≤◌, ◌+◌, ◌++◌, OnOk, take};
+ghost use Rattle.std.specs.Prelude.{◌≡◌, ◌≤◌, ◌+◌, ◌++◌, take};
 ghost use Rattle.std.specs.Char.{is_ascii};
 ghost use Rattle.std.specs.List.{flat_map, list_all};
 ghost use Rattle.tree_encoding.specs.Encode.{units16};
 
 use crate::ascii_test::{CHUNK, is_ascii_chunk};
-use std::alloc::AllocError;
 use std::simd::prelude::*;
 
 /// Room for eight characters, each of at most four bytes.
@@ -37,9 +36,9 @@ const BIG32: [usize; 64] = [
     16, 12, 16, 16, 16, 13, 16, 16, 16, 14, 16, 16, 16, 15,
 ];
 
-/// A form in which characters are written.
-pub trait Form {
-    ghost use Rattle.std.specs.Prelude.{◌≡◌, ◌≤◌, ◌+◌, ◌++◌, ℕ, List, OnOk, true, take};
+/// A form in which characters are written. Sixteen characters of ASCII take so many bytes in it.
+pub trait Form<const WIDE: usize> {
+    ghost use Rattle.std.specs.Prelude.{◌≡◌, ◌≤◌, ◌+◌, ◌++◌, ℕ, List, true, take};
     ghost use Rattle.std.specs.Char.{is_ascii};
     ghost use Rattle.std.specs.List.{flat_map, list_all};
 
@@ -57,10 +56,12 @@ pub trait Form {
         ensures end { (at ≤ result) × (result ≤ at + 4) }
         ensures written { take result block.new ≡ take at block.old ++ bytes_of character };
 
-    /// Sixteen characters of ASCII at once.
-    fn push_sixteen(text: &mut Vec<u8>, ascii: &[u8; 16]) -> Result<(), AllocError>
+    /// Makes a block of sixteen characters of ASCII at once.
+    fn put_sixteen(block: &mut [u8; WIDE], ascii: &[u8; 16])
         requires { list_all is_ascii ascii.now ≡ true }
-        ensures { OnOk result (text.new.items ≡ text.old.items ++ flat_map bytes_of ascii.now) };
+        ensures { block.new ≡ flat_map bytes_of ascii.now };
+
+    ghost few: { WIDE ≤ 64 };
 }
 
 /// UTF-16, with the lowest byte of a unit first.
@@ -202,10 +203,13 @@ fn room32(text: &str) -> usize {
     characters.saturating_mul(4)
 }
 
-impl Form for Little16 {
+impl Form<32> for Little16 {
+    ghost use Rattle.std.proofs.Common.{rules};
     ghost use Rattle.tree_encoding.specs.Encode.{little16_of};
 
     ghost bytes_of = { little16_of };
+
+    ghost few = { Prim.search rules };
 
     fn room(text: &str) -> usize {
         room16(text)
@@ -219,20 +223,21 @@ impl Form for Little16 {
         put_units::<Little16>(block, at, character)
     }
 
-    fn push_sixteen(text: &mut Vec<u8>, ascii: &[u8; 16]) -> Result<(), AllocError> {
-        let bytes = u8x16::from_array(*ascii);
-        let mut block = [0; 32];
-        bytes
+    #[inline(always)]
+    fn put_sixteen(block: &mut [u8; 32], ascii: &[u8; 16]) {
+        u8x16::from_array(*ascii)
             .shuffle(u8x16::splat(0), LITTLE16)
-            .copy_to_slice(&mut block);
-        text.extend_from_slice(&block)
+            .copy_to_slice(block);
     }
 }
 
-impl Form for Big16 {
+impl Form<32> for Big16 {
+    ghost use Rattle.std.proofs.Common.{rules};
     ghost use Rattle.tree_encoding.specs.Encode.{big16_of};
 
     ghost bytes_of = { big16_of };
+
+    ghost few = { Prim.search rules };
 
     fn room(text: &str) -> usize {
         room16(text)
@@ -246,20 +251,21 @@ impl Form for Big16 {
         put_units::<Big16>(block, at, character)
     }
 
-    fn push_sixteen(text: &mut Vec<u8>, ascii: &[u8; 16]) -> Result<(), AllocError> {
-        let bytes = u8x16::from_array(*ascii);
-        let mut block = [0; 32];
-        bytes
+    #[inline(always)]
+    fn put_sixteen(block: &mut [u8; 32], ascii: &[u8; 16]) {
+        u8x16::from_array(*ascii)
             .shuffle(u8x16::splat(0), BIG16)
-            .copy_to_slice(&mut block);
-        text.extend_from_slice(&block)
+            .copy_to_slice(block);
     }
 }
 
-impl Form for Little32 {
+impl Form<64> for Little32 {
+    ghost use Rattle.std.proofs.Common.{rules};
     ghost use Rattle.tree_encoding.specs.Encode.{little32};
 
     ghost bytes_of = { little32 };
+
+    ghost few = { Prim.search rules };
 
     fn room(text: &str) -> usize {
         room32(text)
@@ -273,20 +279,21 @@ impl Form for Little32 {
         put_four(block, at, u32::from(character).to_le_bytes())
     }
 
-    fn push_sixteen(text: &mut Vec<u8>, ascii: &[u8; 16]) -> Result<(), AllocError> {
-        let bytes = u8x16::from_array(*ascii);
-        let mut block = [0; 64];
-        bytes
+    #[inline(always)]
+    fn put_sixteen(block: &mut [u8; 64], ascii: &[u8; 16]) {
+        u8x16::from_array(*ascii)
             .shuffle(u8x16::splat(0), LITTLE32)
-            .copy_to_slice(&mut block);
-        text.extend_from_slice(&block)
+            .copy_to_slice(block);
     }
 }
 
-impl Form for Big32 {
+impl Form<64> for Big32 {
+    ghost use Rattle.std.proofs.Common.{rules};
     ghost use Rattle.tree_encoding.specs.Encode.{big32};
 
     ghost bytes_of = { big32 };
+
+    ghost few = { Prim.search rules };
 
     fn room(text: &str) -> usize {
         room32(text)
@@ -300,12 +307,10 @@ impl Form for Big32 {
         put_four(block, at, u32::from(character).to_be_bytes())
     }
 
-    fn push_sixteen(text: &mut Vec<u8>, ascii: &[u8; 16]) -> Result<(), AllocError> {
-        let bytes = u8x16::from_array(*ascii);
-        let mut block = [0; 64];
-        bytes
+    #[inline(always)]
+    fn put_sixteen(block: &mut [u8; 64], ascii: &[u8; 16]) {
+        u8x16::from_array(*ascii)
             .shuffle(u8x16::splat(0), BIG32)
-            .copy_to_slice(&mut block);
-        text.extend_from_slice(&block)
+            .copy_to_slice(block);
     }
 }

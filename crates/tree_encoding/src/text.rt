@@ -4,6 +4,7 @@ ghost use Rattle.std.specs.Char.{is_ascii};
 ghost use Rattle.std.specs.List.{flat_map, list_all};
 ghost use Rattle.tree_encoding.specs.Front.{BeginsWithSixteen, GoesOn};
 
+use crate::ascii_test::CHUNK;
 use crate::form::{Block, Form};
 use std::alloc::AllocError;
 use std::simd::prelude::*;
@@ -46,7 +47,10 @@ fn push_cut(out: &mut Vec<u8>, block: &Block, count: usize) -> Result<(), AllocE
 }
 
 /// Writes the first characters of a text, up to eight, at once. What follows them is left.
-fn push_few<'a, F: Form>(out: &mut Vec<u8>, text: &'a str) -> Result<&'a str, AllocError>
+fn push_few<'a, F: Form<WIDE>, const WIDE: usize>(
+    out: &mut Vec<u8>,
+    text: &'a str,
+) -> Result<&'a str, AllocError>
     requires { 0 < length text.now }
     ensures shorter { IfOk result (λ behind. length behind.now < length text.now) }
     ensures same { IfOk result (λ behind. GoesOn F.bytes_of out.old.items text.now out.new.items behind.now) }
@@ -64,25 +68,44 @@ fn push_few<'a, F: Form>(out: &mut Vec<u8>, text: &'a str) -> Result<&'a str, Al
     Ok(rest.as_str())
 }
 
+/// Writes sixteen characters of ASCII at once.
+fn push_sixteen<F: Form<WIDE>, const WIDE: usize>(
+    out: &mut Vec<u8>,
+    ascii: &[u8; 16],
+) -> Result<(), AllocError>
+    requires { list_all is_ascii ascii.now ≡ true }
+    ensures { OnOk result (out.new.items ≡ out.old.items ++ flat_map F.bytes_of ascii.now) }
+{
+    let mut block = [0u8; WIDE];
+    F::put_sixteen(&mut block, ascii);
+    out.extend_from_slice(&block)
+}
+
 /// Writes the characters of a text, sixteen of ASCII at once if there are sixteen.
-pub fn push_text<F: Form>(out: &mut Vec<u8>, text: &str) -> Result<(), AllocError>
+pub fn push_text<F: Form<WIDE>, const WIDE: usize>(
+    out: &mut Vec<u8>,
+    text: &str,
+) -> Result<(), AllocError>
     ensures { OnOk result (out.new.items ≡ out.old.items ++ flat_map F.bytes_of (chars text.now)) }
 {
     let mut rest = text;
     'text: while !rest.is_empty() {
         rest = match split_sixteen(rest) {
             Some((sixteen, behind)) => {
-                F::push_sixteen(out, sixteen)?;
+                push_sixteen::<F, WIDE>(out, sixteen)?;
                 behind
             }
-            None => push_few::<F>(out, rest)?,
+            None => push_few::<F, WIDE>(out, rest)?,
         };
     }
     Ok(())
 }
 
 /// Writes a character of ASCII.
-fn push_one<F: Form>(out: &mut Vec<u8>, ascii: u8) -> Result<(), AllocError>
+fn push_one<F: Form<WIDE>, const WIDE: usize>(
+    out: &mut Vec<u8>,
+    ascii: u8,
+) -> Result<(), AllocError>
     ensures { OnOk result (out.new.items ≡ out.old.items ++ F.bytes_of ascii) }
 {
     let mut block: Block = [0; 32];
@@ -91,27 +114,68 @@ fn push_one<F: Form>(out: &mut Vec<u8>, ascii: u8) -> Result<(), AllocError>
 }
 
 /// Writes fewer than sixteen characters of ASCII.
-fn push_few_ascii<F: Form>(out: &mut Vec<u8>, ascii: &[u8]) -> Result<(), AllocError>
+fn push_few_ascii<F: Form<WIDE>, const WIDE: usize>(
+    out: &mut Vec<u8>,
+    ascii: &[u8],
+) -> Result<(), AllocError>
     ensures { OnOk result (out.new.items ≡ out.old.items ++ flat_map F.bytes_of ascii.now) }
 {
     let mut rest = ascii;
     'bytes: while let Some((byte, behind)) = rest.split_first() {
-        push_one::<F>(out, *byte)?;
+        push_one::<F, WIDE>(out, *byte)?;
         rest = behind;
     }
     Ok(())
 }
 
-/// Writes characters of ASCII, sixteen at once.
-pub fn push_ascii<F: Form>(out: &mut Vec<u8>, ascii: &[u8]) -> Result<(), AllocError>
+/// Writes characters of ASCII that fill no chunk, sixteen at once.
+fn push_sixteens<F: Form<WIDE>, const WIDE: usize>(
+    out: &mut Vec<u8>,
+    ascii: &[u8],
+) -> Result<(), AllocError>
     requires { list_all is_ascii ascii.now ≡ true }
     ensures { OnOk result (out.new.items ≡ out.old.items ++ flat_map F.bytes_of ascii.now) }
 {
     let mut rest = ascii;
-    'ascii: while let Some(sixteen) = rest.first_chunk::<16>() {
-        F::push_sixteen(out, sixteen)?;
-        let (_, behind) = rest.split_at(16);
+    'ascii: while let Some((sixteen, behind)) = rest.split_first_chunk::<16>() {
+        push_sixteen::<F, WIDE>(out, sixteen)?;
         rest = behind;
     }
-    push_few_ascii::<F>(out, rest)
+    push_few_ascii::<F, WIDE>(out, rest)
+}
+
+/// Writes a chunk of characters of ASCII at once.
+fn push_chunk<F: Form<WIDE>, const WIDE: usize>(
+    out: &mut Vec<u8>,
+    ascii: &[u8; CHUNK],
+) -> Result<(), AllocError>
+    requires { list_all is_ascii ascii.now ≡ true }
+    ensures { OnOk result (out.new.items ≡ out.old.items ++ flat_map F.bytes_of ascii.now) }
+{
+    let (sixteens, _) = ascii.as_chunks::<16>();
+    let [first, second, third, fourth] = sixteens else {
+        unreachable!()
+    };
+    let mut blocks = [[0u8; WIDE]; 4];
+    F::put_sixteen(&mut blocks[0], first);
+    F::put_sixteen(&mut blocks[1], second);
+    F::put_sixteen(&mut blocks[2], third);
+    F::put_sixteen(&mut blocks[3], fourth);
+    out.extend_from_slice(blocks.as_flattened())
+}
+
+/// Writes characters of ASCII, a chunk at once.
+pub fn push_ascii<F: Form<WIDE>, const WIDE: usize>(
+    out: &mut Vec<u8>,
+    ascii: &[u8],
+) -> Result<(), AllocError>
+    requires { list_all is_ascii ascii.now ≡ true }
+    ensures { OnOk result (out.new.items ≡ out.old.items ++ flat_map F.bytes_of ascii.now) }
+{
+    let mut rest = ascii;
+    'ascii: while let Some((chunk, behind)) = rest.split_first_chunk::<CHUNK>() {
+        push_chunk::<F, WIDE>(out, chunk)?;
+        rest = behind;
+    }
+    push_sixteens::<F, WIDE>(out, rest)
 }

@@ -15,30 +15,38 @@ use simdutf8::compat::from_utf8;
 use std::alloc::{AllocError, Global};
 
 /// Characters of ASCII in a form, after a mark.
-fn ascii_in<F: Form>(alloc: Global, mark: &[u8], ascii: &[u8]) -> Result<Vec<u8>, AllocError>
+fn ascii_in<F: Form<WIDE>, const WIDE: usize>(
+    alloc: Global,
+    mark: &[u8],
+    ascii: &[u8],
+) -> Result<Vec<u8>, AllocError>
     requires { list_all is_ascii ascii.now ≡ true }
     ensures { IfOk result (λ out. out.items ≡ mark.now ++ flat_map F.bytes_of ascii.now) }
 {
     let room = F::ascii_room(ascii.len()).saturating_add(mark.len());
     let mut out = Vec::with_capacity(alloc, room)?;
     out.extend_from_slice(mark)?;
-    push_ascii::<F>(&mut out, ascii)?;
+    push_ascii::<F, WIDE>(&mut out, ascii)?;
     Ok(out)
 }
 
 /// The characters of a text in a form, after a mark.
-fn characters_in<F: Form>(alloc: Global, mark: &[u8], text: &str) -> Result<Vec<u8>, AllocError>
+fn characters_in<F: Form<WIDE>, const WIDE: usize>(
+    alloc: Global,
+    mark: &[u8],
+    text: &str,
+) -> Result<Vec<u8>, AllocError>
     ensures { IfOk result (λ out. out.items ≡ mark.now ++ flat_map F.bytes_of (chars text.now)) }
 {
     let room = F::room(text).saturating_add(mark.len());
     let mut out = Vec::with_capacity(alloc, room)?;
     out.extend_from_slice(mark)?;
-    push_text::<F>(&mut out, text)?;
+    push_text::<F, WIDE>(&mut out, text)?;
     Ok(out)
 }
 
 /// A content in a form, after a mark, if it is UTF-8 and not empty. One of ASCII alone needs no look at its characters.
-fn text_in<F: Form>(
+fn text_in<F: Form<WIDE>, const WIDE: usize>(
     alloc: Global,
     mark: &[u8],
     content: &[u8],
@@ -51,11 +59,11 @@ fn text_in<F: Form>(
         return Ok(None);
     }
     if is_ascii(content) {
-        return Ok(Some(ascii_in::<F>(alloc, mark, content)?));
+        return Ok(Some(ascii_in::<F, WIDE>(alloc, mark, content)?));
     }
     match from_utf8(content) {
         Err(_) => Ok(None),
-        Ok(text) => Ok(Some(characters_in::<F>(alloc, mark, text)?)),
+        Ok(text) => Ok(Some(characters_in::<F, WIDE>(alloc, mark, text)?)),
     }
 }
 
@@ -70,12 +78,16 @@ fn marked_text(
         ≡ mark_of encoding ++ flat_map (bytes_of encoding) (chars content.now))) }
 {
     match encoding {
-        Encoding::Utf16 | Encoding::Utf16LeBom => text_in::<Little16>(alloc, b"\xFF\xFE", content),
-        Encoding::Utf16Le => text_in::<Little16>(alloc, b"", content),
-        Encoding::Utf16Be => text_in::<Big16>(alloc, b"", content),
-        Encoding::Utf32 => text_in::<Little32>(alloc, b"\xFF\xFE\0\0", content),
-        Encoding::Utf32Le => text_in::<Little32>(alloc, b"", content),
-        Encoding::Utf32Be => text_in::<Big32>(alloc, b"", content),
+        Encoding::Utf16 | Encoding::Utf16LeBom => text_in::<Little16, 32>(
+            alloc,
+            b"\xFF\xFE",
+            content,
+        ),
+        Encoding::Utf16Le => text_in::<Little16, 32>(alloc, b"", content),
+        Encoding::Utf16Be => text_in::<Big16, 32>(alloc, b"", content),
+        Encoding::Utf32 => text_in::<Little32, 64>(alloc, b"\xFF\xFE\0\0", content),
+        Encoding::Utf32Le => text_in::<Little32, 64>(alloc, b"", content),
+        Encoding::Utf32Be => text_in::<Big32, 64>(alloc, b"", content),
     }
 }
 
