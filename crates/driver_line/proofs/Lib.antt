@@ -10,3 +10,4 @@ pub mod Links
 pub mod ToldStarts
 pub mod Starters
 pub mod Examples
+pub mod OneParts

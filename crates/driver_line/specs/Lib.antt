@@ -3,3 +3,4 @@ pub mod Lines
 pub mod Transcripts
 pub mod ToldStarts
 pub mod Starters
+pub mod Parts

@@ -1,10 +1,22 @@
 ghost use Rattle.std.specs.Prelude.{◌≡◌, ◌++◌, List, None};
+ghost use Rattle.std.specs.Prelude.{ℕ, Bool};
+ghost use Rattle.filter_words.specs.SmudgeReply.{reply_step, reply_start};
+ghost use Rattle.filter_words.specs.Listing.{ListPhase, GoodList, list_step, list_start};
+ghost use Rattle.filter_words.specs.Handshake.{handshake_step, handshake_start};
+ghost use Rattle.filter_words.specs.declared.reply.Caps.{Caps};
+ghost use Rattle.filter_words.specs.declared.handshake.HandshakePhase.{HandshakePhase};
+ghost use Rattle.filter_words.specs.declared.smudge_reply.GoodReply.{GoodReply};
+ghost use Rattle.filter_words.specs.declared.smudge_reply.ReplyPhase.{ReplyPhase};
 ghost use Rattle.edge_kit.specs.Starters.{Had};
 ghost use Rattle.driver_line.specs.Conversations.{Exchange};
 ghost use Rattle.driver_line.specs.Lines.{LineView, Paths, RunsTo};
+ghost use Rattle.driver_line.specs.Parts.{IsOnePart};
 ghost use Rattle.driver_line.specs.Starters.{IsSameStarter};
 ghost use Rattle.driver_line.specs.ToldStarts.{GoBy};
 ghost use Rattle.driver_line.specs.Transcripts.{HasItems};
+
+use filter_words::{one_handshake, one_list, one_reply};
+use pkt_line::{no_packet, one_reading};
 
 /// The exchanges of a line, from where no session is open to where none is, are spelled by the sessions and the failed
 /// starts that its starter keeps.
@@ -31,3 +43,18 @@ pub fn exchanges_go_by_the_starts()
         → w.session ≡ None → RunsTo paths v es w → w.starter.had ≡ v.starter.had ++ items
         → GoBy v.starter.ahead items w.starter.ahead }
 {}
+
+/// Two answers to one request that stand at the front of one output are the same, and so are their packets and bytes,
+/// however much of the output was taken. An end of input counts only if all of it was taken, and no answer may have
+/// ended by a fault of the link or out of memory.
+pub fn one_part()
+    ensures reply { (d : Bool) → IsOnePart ReplyPhase GoodReply (reply_step d) reply_start }
+    ensures list { (delayed : List (List ℕ)) → IsOnePart ListPhase GoodList (list_step delayed) list_start }
+    ensures handshake { IsOnePart HandshakePhase Caps handshake_step handshake_start }
+{
+    one_reply();
+    one_list();
+    one_handshake();
+    one_reading();
+    no_packet();
+}

@@ -9,6 +9,6 @@ mod line;
 
 pub use laws::{
     a_starter_stays_the_same, exchanges_are_spelled, exchanges_go_by_the_starts,
-    links_are_given_back,
+    links_are_given_back, one_part,
 };
 pub use line::{Line, Start};
