@@ -11,3 +11,10 @@ pub mod ToldStarts
 pub mod Starters
 pub mod Examples
 pub mod OneParts
+pub mod TalkFates
+pub mod TalkDue
+pub mod TalkLists
+pub mod SameStates
+pub mod SameExchanges
+pub mod SameSessions
+pub mod SameTalks

@@ -29,7 +29,7 @@ stops_on p old new (Broke cause.TooLong) h = h
 stops_on p old new (Broke cause.StrangePath) h = h
 stops_on p old new (Broke cause.ListRefused) h = h
 
-stops_at : {P G : Type 0} (t : AnswerState P G) (old new : Wire) (end : Ends G) → Stops t old new end → StopsAt t new.unread end
+pub stops_at : {P G : Type 0} (t : AnswerState P G) (old new : Wire) (end : Ends G) → Stops t old new end → StopsAt t new.unread end
 stops_at (On p) old new end h = stops_on p old new end h
 stops_at (Done g) old new end h = h.0
 stops_at (Broken c) old new end h = h.0

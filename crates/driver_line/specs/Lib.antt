@@ -4,3 +4,4 @@ pub mod Transcripts
 pub mod ToldStarts
 pub mod Starters
 pub mod Parts
+pub mod SameHeard

@@ -11,6 +11,7 @@ ghost use Rattle.edge_kit.specs.Starters.{Had};
 ghost use Rattle.driver_line.specs.Conversations.{Exchange};
 ghost use Rattle.driver_line.specs.Lines.{LineView, Paths, RunsTo};
 ghost use Rattle.driver_line.specs.Parts.{IsOnePart};
+ghost use Rattle.driver_line.specs.SameHeard.{SameHeard};
 ghost use Rattle.driver_line.specs.Starters.{IsSameStarter};
 ghost use Rattle.driver_line.specs.ToldStarts.{GoBy};
 ghost use Rattle.driver_line.specs.Transcripts.{HasItems};
@@ -57,4 +58,13 @@ pub fn one_part()
     one_handshake();
     one_reading();
     no_packet();
+}
+
+/// Two talks over the same paths with a driver whose starts and outputs are the same tell the same of each path, where
+/// no link failed and memory ran out for no path. If besides memory ran out in no exchange, they have the same
+/// exchanges.
+pub fn equal_outputs_give_equal_talks()
+    ensures { SameHeard }
+{
+    one_part();
 }
