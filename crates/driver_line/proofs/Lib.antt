@@ -10,6 +10,7 @@ pub mod Links
 pub mod ToldStarts
 pub mod Starters
 pub mod Examples
+pub mod ToldExamples
 pub mod OneParts
 pub mod TalkFates
 pub mod TalkDue
@@ -18,3 +19,4 @@ pub mod SameStates
 pub mod SameExchanges
 pub mod SameSessions
 pub mod SameTalks
+pub mod OneContents

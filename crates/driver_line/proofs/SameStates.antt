@@ -126,7 +126,7 @@ start_untold (InRound r) p f e h = absurd (go r.any_delayed r.rest r.turns e)
     go false [] [] i = absurd (cc i)
 start_untold Ended p f e h = absurd (cc e)
 
-ask_untold : (t : Talk) (p : ℕ) (f : Fate) → Ask p ≡ due_at t → Fits t p f → f ≡ Untold
+pub ask_untold : (t : Talk) (p : ℕ) (f : Fate) → Ask p ≡ due_at t → Fits t p f → f ≡ Untold
 ask_untold (Between []) p f e h = absurd (cc e)
 ask_untold (Between (q ∷ rest)) p f e h = absurd (cc e)
 ask_untold Refusing p f e h = absurd (cc e)
@@ -142,7 +142,7 @@ ask_untold (InRound r) p f e h = go r.any_delayed r.rest r.turns e h.0
     go false [] [] i k = absurd (cc i)
 ask_untold Ended p f e h = absurd (cc e)
 
-again_later : (t : Talk) (p : ℕ) (f : Fate) → AskAgain p ≡ due_at t → Fits t p f → f ≡ Later
+pub again_later : (t : Talk) (p : ℕ) (f : Fate) → AskAgain p ≡ due_at t → Fits t p f → f ≡ Later
 again_later (Between []) p f e h = absurd (cc e)
 again_later (Between (q ∷ rest)) p f e h = absurd (cc e)
 again_later Refusing p f e h = absurd (cc e)

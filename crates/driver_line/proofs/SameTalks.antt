@@ -260,7 +260,7 @@ module _ (replies_law : ReplyLaw) (lists_law : ListLaw) (hand_law : HandLaw) (pa
 -- from the beginning
 
 -- what isn't asked counts as known
-abbrev first_fate : List ℕ → ℕ → Fate
+abbrev pub first_fate : List ℕ → ℕ → Fate
 first_fate asked p = cond (contains p asked) Untold (Known heard.Got)
 
 count_apart : (p : ℕ) (asked : List ℕ) → AreApart asked → ◌≡◌ {A = ℕ} (count p asked) (cond (contains p asked) 1 0)
@@ -287,7 +287,7 @@ first_within : (b : Bool) → (b ≡ true) ⊎ ((h : Heard) × (cond b Untold (K
 first_within true = inl refl
 first_within false = inr (heard.Got, refl)
 
-begins : (asked : List ℕ) → AreApart asked → Stands asked (Between asked) (first_fate asked)
+pub begins : (asked : List ℕ) → AreApart asked → Stands asked (Between asked) (first_fate asked)
 begins asked apart = record {
   none = tt;
   turns = tt;

@@ -5,3 +5,4 @@ pub mod ToldStarts
 pub mod Starters
 pub mod Parts
 pub mod SameHeard
+pub mod OneContent

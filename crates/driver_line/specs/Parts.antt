@@ -7,10 +7,10 @@ use Rattle.filter_proto.specs.Exchanges.{Ends, Broke}
 use Rattle.filter_proto.specs.Complete.{IsSettled}
 use Rattle.driver_line.specs.Transcripts.{IsPart}
 
--- An answer stands at the front of what was taken of this output. An end of input was met only if all of it was taken.
--- No fault of the link ended it, nor did memory run out.
-pub record IsPartOf {P G : Type 0} (step : P → Packet → AnswerState P G) (start : AnswerState P G) (output : List ℕ)
-    (used rest : List ℕ) (end : Ends G) : Type 0 where
+-- An answer stands at the front of what was taken of this output. An end of input was met only if
+-- all of it was taken. No fault of the link ended it, nor did memory run out.
+pub record IsPartOf {P G : Type 0} (step : P → Packet → AnswerState P G)
+    (start : AnswerState P G) (output : List ℕ) (used rest : List ℕ) (end : Ends G) : Type 0 where
   pub part : IsPart step start used rest end (λ _. Unit {0})
   pub ahead : List ℕ
   pub whole : output ≡ (used ++ rest) ++ ahead

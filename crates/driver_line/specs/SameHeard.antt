@@ -15,7 +15,8 @@ use Rattle.driver_line.specs.Transcripts.{IsTalk}
 -- each session tells what it took, and its link never failed
 abbrev pub NoneFailed : List Had → Type 0
 NoneFailed [] = Unit {0}
-NoneFailed (Session seen ∷ hs) = (seen.faults ≡ 0) × ((taken : List ℕ) × (seen.taken ≡ Some taken)) × NoneFailed hs
+NoneFailed (Session seen ∷ hs) =
+    (seen.faults ≡ 0) × ((taken : List ℕ) × (seen.taken ≡ Some taken)) × NoneFailed hs
 NoneFailed (StartFailed ∷ hs) = NoneFailed hs
 NoneFailed (StartOutOfMemory ∷ hs) = NoneFailed hs
 
@@ -42,14 +43,16 @@ abbrev pub NoneWanting : List Exchange → Type 0
 NoneWanting [] = Unit {0}
 NoneWanting (e ∷ es) = (is_wanting e ≡ false) × NoneWanting es
 
--- A talk over these paths with a driver whose starts are told. No link failed, and memory ran out for no path.
-pub record IsToldTalk (d : ℕ) (paths : Paths) (asked : List ℕ) (told : List StartTold) (items : List Had)
-    (exchanges : List Exchange) : Type 0 where
+-- A talk over these paths with a driver whose starts are told. No link failed, and memory ran out
+-- for no path.
+pub record IsToldTalk (d : ℕ) (paths : Paths) (asked : List ℕ) (told : List StartTold)
+    (items : List Had) (exchanges : List Exchange) : Type 0 where
   pub talk : IsTalk d paths asked items exchanges
   pub left : Starts
   pub goes : GoBy (Some told) items left
   pub fine : NoneFailed items
-  pub memory : (p : ℕ) → contains p asked ≡ true → fate_in d p exchanges ≡ Known heard.OutOfMemory → ⊥
+  pub memory : (p : ℕ) → contains p asked ≡ true
+      → fate_in d p exchanges ≡ Known heard.OutOfMemory → ⊥
 
 -- no path is asked twice
 abbrev pub AreApart : List ℕ → Type 0
@@ -58,17 +61,18 @@ AreApart (p ∷ ps) = (contains p ps ≡ false) × AreApart ps
 
 -- the paths have different texts
 abbrev pub HaveTexts : Paths → List ℕ → Type 0
-HaveTexts paths asked = (p q : ℕ) → contains p asked ≡ true → contains q asked ≡ true → paths.text p ≡ paths.text q
-    → p ≡ q
+HaveTexts paths asked = (p q : ℕ) → contains p asked ≡ true → contains q asked ≡ true
+    → paths.text p ≡ paths.text q → p ≡ q
 
 -- the two know each of these paths by the same text
 abbrev pub HaveSameTexts : Paths → Paths → List ℕ → Type 0
 HaveSameTexts a b asked = (p : ℕ) → contains p asked ≡ true → a.text p ≡ b.text p
 
--- Two such talks tell the same of each path. If besides memory ran out in none of their exchanges, they have the same.
+-- Two such talks tell the same of each path, and its driver gave the same content for it. If besides
+-- memory ran out in none of their exchanges, they have the same.
 abbrev pub SameHeard : Type 0
-SameHeard = (d : ℕ) (a b : Paths) (asked : List ℕ) (told : List StartTold) (i j : List Had) (es fs : List Exchange)
-    → AreApart asked → HaveTexts a asked → HaveSameTexts a b asked
+SameHeard = (d : ℕ) (a b : Paths) (asked : List ℕ) (told : List StartTold) (i j : List Had)
+    (es fs : List Exchange) → AreApart asked → HaveTexts a asked → HaveSameTexts a b asked
     → IsToldTalk d a asked told i es → IsToldTalk d b asked told j fs
     → ((p : ℕ) → contains p asked ≡ true
     → (fate_in d p es ≡ fate_in d p fs) × (content_of p es ≡ content_of p fs))

@@ -10,6 +10,7 @@ ghost use Rattle.filter_words.specs.declared.smudge_reply.ReplyPhase.{ReplyPhase
 ghost use Rattle.edge_kit.specs.Starters.{Had};
 ghost use Rattle.driver_line.specs.Conversations.{Exchange};
 ghost use Rattle.driver_line.specs.Lines.{LineView, Paths, RunsTo};
+ghost use Rattle.driver_line.specs.OneContent.{OneContent};
 ghost use Rattle.driver_line.specs.Parts.{IsOnePart};
 ghost use Rattle.driver_line.specs.SameHeard.{SameHeard};
 ghost use Rattle.driver_line.specs.Starters.{IsSameStarter};
@@ -68,3 +69,8 @@ pub fn equal_outputs_give_equal_talks()
 {
     one_part();
 }
+
+/// A path gets one content in a talk at most.
+pub fn a_path_gets_one_content()
+    ensures { OneContent }
+{}
