@@ -1,14 +1,18 @@
 -- What all actors did.
-use Rattle.std.proofs.Common.{◌≡◌, ℕ, zero, suc, ◌+◌, ◌<◌, List, [], ◌∷◌, ◌++◌, length, Option, Some, None, refl, sym, ap, ◌∙◌, subst, arith}
+use Rattle.std.proofs.Common.{◌≡◌, ℕ, zero, suc, ◌+◌, ◌<◌, List, [], ◌∷◌, ◌++◌, length, map, true, Bool, Option, Some, None, refl, sym, ap, ◌∙◌, subst, arith}
 use Rattle.std.specs.Prelude.{slice_get, Result, Ok, Err, IfOk}
 use Rattle.atomic_table.specs.Seated.{TableId}
 use Rattle.turn_lock.specs.Seat.{SeatView, mine_of}
 use Rattle.edge_kit.specs.Starters.{StarterSeen}
 use Rattle.convert_plan.specs.declared.card.Card.{Card}
+use Rattle.convert_plan.specs.Card.{CardSeen}
 use Rattle.checkout_core.specs.declared.event.Event.{Event}
 use Rattle.checkout_core.specs.declared.event.Event.TheVariants.{Claim, Close}
 use Rattle.checkout_core.specs.declared.verdict.Own.{Own}
 use Rattle.checkout_core.specs.declared.path.Start.{Start}
+use Rattle.checkout_core.specs.declared.path.Start.TheVariants.{Desk}
+use Rattle.checkout_core.specs.Desks.{paths_of}
+use Rattle.checkout_core.specs.Talks.{contains}
 use Rattle.checkout_core.specs.Notes.{noted, notes}
 use Rattle.checkout_book.specs.declared.plan.Plan.{Plan}
 use Rattle.checkout_book.specs.declared.plan.Parts.{Parts}
@@ -17,20 +21,28 @@ use Rattle.checkout_book.specs.Sights.{Sight, seen}
 use Rattle.checkout_book.specs.Shelves.{cards_of}
 use Rattle.checkout_book.specs.Reserving.{AreIdle}
 use Rattle.driver_desk.specs.Desks.{DeskView}
-use Rattle.driver_desk.specs.Works.{asked_in}
+use Rattle.driver_desk.specs.Works.{WorkSeen, asked_in, cards_in}
 use Rattle.writer_pool.specs.declared.pooled.DeskSeed.{DeskSeed}
 use Rattle.writer_pool.specs.declared.jobs.DeskJob.{DeskJob}
 use Rattle.writer_pool.specs.declared.jobs.JobEnd.{JobEnd}
 use Rattle.writer_pool.specs.Dealing.{JobSeen, desk_of, head_of}
 use Rattle.writer_pool.specs.Jobs.{EndSeen, IsJob, AreJobs, LeavesStarter, IsThroughJob, AreThroughJobs, AreSeedJobs, AreActors, passes_in, with_starter, starters_in}
-use Rattle.writer_pool.specs.Pools.{AreStartersBack}
+use Rattle.writer_pool.specs.Pools.{IsSeed, AreSeeds, AreStartersBack}
 use Rattle.writer_pool.specs.Sealing.{SealsIn, SealsAt, leaf_at}
+use Rattle.writer_pool.specs.Tying.{IsTiedIn, IsTiedAt}
 use Rattle.writer_pool.specs.Writing.{WritesCard}
 use Rattle.writer_pool.specs.Working.{AreTurns, IsShown, AreShown, Idled, blob_in, leaf_in, own_events}
 use Rattle.writer_pool.specs.Ends.{ShowsEnd, IsShownAll, IsBack, AreBack}
-use Rattle.writer_pool.proofs.Places.{get_map, get_map_back, get_second}
+use Rattle.writer_pool.proofs.Places.{some_is, get_map, get_map_back, get_second}
 use Rattle.writer_pool.proofs.WorkTurns.{turns_claimed, turns_back}
 use Rattle.writer_pool.proofs.Talked.{talked_of}
+use Rattle.writer_pool.proofs.DeskClosings.{contains_at}
+
+card_there : (works : List WorkSeen) (k : ℕ) (w : WorkSeen) → slice_get works k ≡ Some w
+    → slice_get (cards_in works) k ≡ Some w.card
+card_there [] k w at = absurd (cc (at))
+card_there (x ∷ ws) zero w at = ap (λ (y : WorkSeen). Some y.card) (some_is x w at)
+card_there (x ∷ ws) (suc k) w at = card_there ws k w at
 
 -- a Close among what an actor did in turns, behind other entries, was claimed before
 pub turn_claim : (first more : List Entry) (i j p a : ℕ) (o : Own) → AreTurns (own_events more) → length first + i ≡ j
@@ -212,27 +224,42 @@ module _ {S B L : Type 0} (starter : S → StarterSeen) (see : Sight B L) where
       go more None l = more
       go more (Some s) l = absurd l
 
-  -- by the history and the leaves, its own list has the notes of its driver, and the leaves that it sealed
+  -- by the history and the leaves, its own list has the notes of its driver, and the leaves that it sealed, and a work
+  -- that ended there as its object gave says did so in the history
   pub record Tells (starts : List Start) (history : List Event) (leaves : List L) (q : ℕ) (mine : List Entry)
       : Type 0 where
     pub notes_are : notes starts q history ≡ noted (own_events mine)
     pub seals : (p : ℕ) (told : Option (List ℕ)) → SealsAt see starts history (leaf_at starts leaves) q p told
         → SealsIn mine p told
+    pub tied : (w : WorkSeen) (required : Bool) → IsTiedIn (own_events mine) w
+        → slice_get starts w.card.path ≡ Some (Desk q required) → IsTiedAt history w
+
+  -- the path of a work is one of the seed's driver
+  seed_path : (starts : List Start) (q : ℕ) (x : DeskSeed S B L) → IsSeed starter starts q x → (works : List WorkSeen)
+      → map (λ c. seen see c) x.cards.items ≡ cards_in works → (k : ℕ) (w : WorkSeen) → slice_get works k ≡ Some w
+      → contains w.card.path (paths_of q starts) ≡ true
+  seed_path starts q x seed works cards k w at =
+      let c = get_map_back (λ (c : Card B L). seen see c) x.cards.items k w.card
+      (ap (λ (l : List CardSeen). slice_get l k) cards ∙ card_there works k w at) in
+      contains_at (paths_of q starts) k w.card.path
+      (ap (λ (l : List ℕ). slice_get l k) (sym seed.paths)
+      ∙ (get_map (λ (c : Card B L). c.path) x.cards.items k c.0 c.1 ∙ ap (λ (y : CardSeen). Some y.path) c.2))
 
   -- and has talked so
   desks_back : (lock : TableId) (d : Plan B L) (k made workers q : ℕ) (xs : List (DeskSeed S B L))
       (js : List (JobSeen B L)) (ts : List (EndSeen S B L)) (starts : List Start) (history : List Event)
       (leaves : List L)
       → AreSeedJobs starter see workers q xs js → AreThroughJobs starter see lock d k made js ts
+      → AreSeeds starter starts q xs
       → ((i : ℕ) (t : EndSeen S B L) → slice_get ts i ≡ Some t → Tells starts history leaves (q + i) (mine_of t.pass))
       → AreStartersBack starter see starts history leaves q xs (starters_in ts)
-  desks_back lock d k made workers q [] [] [] starts history leaves a h n = tt
-  desks_back lock d k made workers q [] [] (t ∷ ts) starts history leaves a h n = absurd h
-  desks_back lock d k made workers q [] (j ∷ js) ts starts history leaves a h n = absurd a
-  desks_back lock d k made workers q (x ∷ xs) [] ts starts history leaves a h n = absurd a
-  desks_back lock d k made workers q (x ∷ xs) (j ∷ js) [] starts history leaves a h n = absurd h
-  desks_back lock d k made workers q (x ∷ xs) (j ∷ js) (t ∷ ts) starts history leaves a h n =
-      go (desks_back lock d (suc k) 0 workers (suc q) xs js ts starts history leaves a.1 h.1 (λ i u at.
+  desks_back lock d k made workers q [] [] [] starts history leaves a h seeds n = tt
+  desks_back lock d k made workers q [] [] (t ∷ ts) starts history leaves a h seeds n = absurd h
+  desks_back lock d k made workers q [] (j ∷ js) ts starts history leaves a h seeds n = absurd a
+  desks_back lock d k made workers q (x ∷ xs) [] ts starts history leaves a h seeds n = absurd a
+  desks_back lock d k made workers q (x ∷ xs) (j ∷ js) [] starts history leaves a h seeds n = absurd h
+  desks_back lock d k made workers q (x ∷ xs) (j ∷ js) (t ∷ ts) starts history leaves a h seeds n =
+      go (desks_back lock d (suc k) 0 workers (suc q) xs js ts starts history leaves a.1 h.1 seeds.1 (λ i u at.
       let z : q + suc i ≡ suc q + i = omega arith in
       subst (λ (e : ℕ). Tells starts history leaves e (mine_of u.pass)) z (n (suc i) u at))) t.starter
       (subst (λ (o : Option (DeskJob DeskView)). LeavesStarter starter o t.starter (mine_of t.pass)) a.0
@@ -257,6 +284,8 @@ module _ {S B L : Type 0} (starter : S → StarterSeen) (see : Sight B L) where
           talked = λ paths fit. talked_of q paths (asked_in l.works) (starter x.starter) (starter s)
               (noted (own_events (mine_of t.pass))) (notes starts q history) (SealsIn (mine_of t.pass))
               (SealsAt see starts history (leaf_at starts leaves) q) (sym own.notes_are) own.seals (l.talked paths fit);
+          tied = λ i w at. own.tied w x.required (l.tied i w at)
+              (seeds.0.desk w.card.path (seed_path starts q x seeds.0 l.works l.cards i w at));
         },
         more,
       )
@@ -265,16 +294,17 @@ module _ {S B L : Type 0} (starter : S → StarterSeen) (see : Sight B L) where
       (js : List (JobSeen B L)) (ts : List (EndSeen S B L)) (starts : List Start) (history : List Event)
       (leaves : List L)
       → AreActors starter see n workers xs js → AreThroughJobs starter see lock d k made js ts
+      → AreSeeds starter starts 0 xs
       → ((i : ℕ) (t : EndSeen S B L) → slice_get ts (n + i) ≡ Some t → Tells starts history leaves i (mine_of t.pass))
       → AreStartersBack starter see starts history leaves 0 xs (starters_in ts)
-  starters_back lock d k made workers zero xs js ts starts history leaves a h n =
-      desks_back lock d k made workers 0 xs js ts starts history leaves a h (λ i t at.
+  starters_back lock d k made workers zero xs js ts starts history leaves a h seeds n =
+      desks_back lock d k made workers 0 xs js ts starts history leaves a h seeds (λ i t at.
       let z : 0 + i ≡ i = omega arith in
       subst (λ (e : ℕ). Tells starts history leaves e (mine_of t.pass)) (sym z) (n i t (ap (slice_get ts) z ∙ at)))
-  starters_back lock d k made workers (suc n) xs [] ts starts history leaves a h f = absurd a
-  starters_back lock d k made workers (suc n) xs (j ∷ js) [] starts history leaves a h f = absurd h
-  starters_back lock d k made workers (suc n) xs (j ∷ js) (t ∷ ts) starts history leaves a h f =
-      go (starters_back lock d (suc k) 0 workers n xs js ts starts history leaves a.1 h.1 (λ i u at.
+  starters_back lock d k made workers (suc n) xs [] ts starts history leaves a h seeds f = absurd a
+  starters_back lock d k made workers (suc n) xs (j ∷ js) [] starts history leaves a h seeds f = absurd h
+  starters_back lock d k made workers (suc n) xs (j ∷ js) (t ∷ ts) starts history leaves a h seeds f =
+      go (starters_back lock d (suc k) 0 workers n xs js ts starts history leaves a.1 h.1 seeds (λ i u at.
       let z : suc n + i ≡ suc (n + i) = omega arith in
       f i u (ap (slice_get (t ∷ ts)) z ∙ at))) t.starter
       (subst (λ (o : Option (DeskJob DeskView)). LeavesStarter starter o t.starter (mine_of t.pass)) a.0

@@ -1,5 +1,5 @@
 -- What a desk's own list shows of the cards that it closed.
-use Rattle.std.proofs.Common.{◌≡◌, ◌==◌, ◌⊎◌, ℕ, zero, suc, ◌+◌, ◌-◌, Bool, true, false, cond, List, [], ◌∷◌, map, Option, Some, None, refl, sym, ap, ◌∙◌, subst, arith}
+use Rattle.std.proofs.Common.{◌≡◌, ◌==◌, ◌⊎◌, ℕ, zero, suc, ◌+◌, ◌-◌, Bool, true, false, cond, List, [], ◌∷◌, map, Option, Some, None, Result, refl, sym, ap, ◌∙◌, subst, arith}
 use Rattle.std.specs.Prelude.{slice_get}
 use Rattle.edge_kit.specs.declared.leaf_state.LeafState.TheVariants.{Sealed}
 use Rattle.edge_kit.specs.declared.leaf_state.Mark.{Mark}
@@ -28,6 +28,7 @@ use Rattle.driver_desk.specs.Desks.{DeskView, IsDealt, AreThrough}
 use Rattle.driver_desk.specs.Recorders.{Standing, ShowsClose, Shows, AreShown, events_in, fate_now}
 use Rattle.driver_desk.specs.Serving.{Given, Closed, IfSealed, AllSealed}
 use Rattle.driver_desk.specs.Shown.{ShowsRead, ShowsUnread}
+use Rattle.driver_desk.specs.Ties.{FitsOwn, HasContent, FitsEnd, AllFit}
 use Rattle.driver_desk.specs.Works.{card_paths}
 use Rattle.writer_pool.specs.Closing.{RefusedBacks, closed_card, ServesCard}
 use Rattle.writer_pool.specs.OnBook.{card_of, closed_by, given_by, given_in, ClosesOwn, CloseOwn, desk_cards, standing_at}
@@ -95,7 +96,7 @@ card_at [] i p e = absurd (cc (e))
 card_at (c ∷ cs) zero p e = (c, refl, some_is c.path p e)
 card_at (c ∷ cs) (suc i) p e = card_at cs i p e
 
-contains_at : (ps : List ℕ) (i p : ℕ) → slice_get ps i ≡ Some p → contains p ps ≡ true
+pub contains_at : (ps : List ℕ) (i p : ℕ) → slice_get ps i ≡ Some p → contains p ps ≡ true
 contains_at [] i p e = absurd (cc (e))
 contains_at (q ∷ ps) zero p e =
     ap (λ (b : Bool). cond b true (contains p ps)) (ap (λ (z : ℕ). p == z) (some_is q p e) ∙ eqb_self p)
@@ -116,6 +117,22 @@ sealed_at : (P : ℕ → Option (List ℕ) → Type 0) (gs : List Given) (i : �
 sealed_at P [] i g all at = absurd (cc (at))
 sealed_at P (x ∷ gs) zero g all at = subst (IfSealed P) (some_is x g at) all.0
 sealed_at P (x ∷ gs) (suc i) g all at = sealed_at P gs i g all.1 at
+
+fits_at : (p : ℕ) (content : Result (List ℕ) Own) (gs : List Given) (i : ℕ) (g : Given) → AllFit p content gs
+    → slice_get gs i ≡ Some g → FitsEnd p content g
+fits_at p content [] i g all at = absurd (cc (at))
+fits_at p content (x ∷ gs) zero g all at = subst (FitsEnd p content) (some_is x g at) all.0
+fits_at p content (x ∷ gs) (suc i) g all at = fits_at p content gs i g all.1 at
+
+-- a card that was handed back has a content
+pub back_fits : (cards : List CardSeen) (mine : List Entry) (content : Result (List ℕ) Own) (p : ℕ)
+    → AllFit p content (given_in cards mine) → (i : ℕ) (e : Entry) → slice_get mine i ≡ Some e
+    → e.event ≡ HandBack p → HasContent content
+back_fits cards mine content p all i e at is =
+    let here = subst (FitsEnd p content) (ap (λ (f : Event). given_by cards f e.parts) is)
+    (fits_at p content (given_in cards mine) i (given_by cards e.event e.parts) all
+    (get_map (λ (z : Entry). given_by cards z.event z.parts) mine i e at)) in
+    here refl
 
 -- the path that an actor hands back is its driver's
 back_driver : (starts : List Start) (workers n p : ℕ) → seat workers (driver_at starts p) ≡ Some n
@@ -265,6 +282,22 @@ module _ {B L : Type 0} (see : Sight B L) where
       (sealed_at P (given_in s.cards mine) i (given_by s.cards e.event e.parts) all
       (get_map (λ (z : Entry). given_by s.cards z.event z.parts) mine i e at)) in
       subst (λ (z : ℕ). P z x.content) c.path (here m sealed)
+
+  -- each Close that the desk gave fits what its card's object gave
+  pub closed_fits : (d : Plan B L) (n : ℕ) (required : Bool) (desk : DeskView) (mine : List Entry)
+      → AreDealt d.starts.items 0 d.desks.items → CloseOwn d.starts.items (n - d.workers) mine
+      → IsDealt (standing_at see (Some d) n required) desk → (content : Result (List ℕ) Own) (p : ℕ)
+      → AllFit p content (given_in (standing_at see (Some d) n required).cards mine)
+      → (i a : ℕ) (o : Own) (e : Entry) → slice_get mine i ≡ Some e → e.event ≡ Close p a o → FitsOwn content o
+  closed_fits d n required desk mine dealt closes of content p all i a o e at is =
+      let q = n - d.workers in
+      let s = standing_at see (Some d) n required in
+      let own = closes_own d.starts.items q e.event e.parts p a o is (own_at d.starts.items q mine i e closes at) in
+      let c = card_closed d n required desk p of own.2 in
+      let here = subst (FitsEnd p content) (given_closed d q required e p a o own.0 dealt is own.1 c)
+      (fits_at p content (given_in s.cards mine) i (given_by s.cards e.event e.parts) all
+      (get_map (λ (z : Entry). given_by s.cards z.event z.parts) mine i e at)) in
+      here c.path
 
   -- what was handed back was refused
   pub desk_refused : (d : Plan B L) (n : ℕ) (required : Bool) (desk : DeskView) (mine : List Entry)

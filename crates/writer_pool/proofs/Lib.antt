@@ -16,4 +16,6 @@ pub mod Recordings
 pub mod DeskClosings
 pub mod DeskActing
 pub mod DeskTalks
+pub mod Backs
+pub mod Tied
 pub mod Pooling

@@ -11,7 +11,7 @@ use Rattle.checkout_core.specs.declared.verdict.Own.{Own}
 use Rattle.checkout_core.specs.declared.path.Start.{Start}
 use Rattle.checkout_core.specs.declared.event.Event.{Event}
 use Rattle.checkout_core.specs.declared.event.Event.TheVariants.{Claim, Close}
-use Rattle.checkout_core.specs.Actors.{actor_of, own_entries, is_actor, driver_in}
+use Rattle.checkout_core.specs.Actors.{actor_of, own_entries, is_actor, is_own, driver_in}
 use Rattle.checkout_core.specs.Desks.{paths_of}
 use Rattle.checkout_core.specs.Notes.{is_note, is_noted, noted, notes}
 use Rattle.checkout_core.specs.States.{Core, AreBelow}
@@ -46,6 +46,24 @@ turn_quiet starts d p q a b o es fs gs claim close =
     ∙ (more_quiet starts d fs (Close q b o) refl
     ∙ (ap (notes starts d) claim ∙ more_quiet starts d es (Claim p a) refl))
 
+-- an event of actor 0 adds none to another's own entries
+more_own : (starts : List Start) (workers n : ℕ) (es : List Event) (e : Event) → 0 < n
+    → actor_of starts workers e ≡ Some 0 → own_entries starts workers n (es ++ e ∷ []) ≡ own_entries starts workers n es
+more_own starts workers n [] e more by =
+    let other : (n == 0) ≡ false = ne_eqb n 0 (λ is. absurd (omega (arith, is, more))) in
+    ap (λ (o : Option ℕ). cond (is_actor n o) (e ∷ []) []) by ∙ ap (λ (b : Bool). cond b (e ∷ []) []) other
+more_own starts workers n (x ∷ es) e more by =
+    ap (λ (l : List Event). cond (is_own starts workers n x) (x ∷ l) l) (more_own starts workers n es e more by)
+
+-- a claim and a close by actor 0 add none
+pub turn_own : (starts : List Start) (workers n p q : ℕ) (o : Own) (es fs gs : List Event) → 0 < n
+    → fs ≡ es ++ Claim p 0 ∷ [] → gs ≡ fs ++ Close q 0 o ∷ []
+    → own_entries starts workers n gs ≡ own_entries starts workers n es
+turn_own starts workers n p q o es fs gs more claim close =
+    ap (own_entries starts workers n) close
+    ∙ (more_own starts workers n fs (Close q 0 o) more refl
+    ∙ (ap (own_entries starts workers n) claim ∙ more_own starts workers n es (Claim p 0) more refl))
+
 turned : (p q : ℕ) → (p == q) ≡ (q == p)
 turned p q = ⊎_elim
     (λ (h : (p ≡ q) × ((p == q) ≡ true)). h.1 ∙ sym (eq-eqb q p (sym h.0)))
@@ -73,6 +91,15 @@ module _ {B L : Type 0} (see : Sight B L) where
       own_here n (actor_of starts workers e) (entry_of (tell see) slots e)
       (own n (entries (tell see) starts workers slots es)) (own_entries starts workers n es) a.0
       (own_same starts workers n slots es a.1)
+
+  -- an actor's own list is what the history has of it
+  pub entries_own : (d : Plan B L) (ts : List (SeatView Entry (Plan B L))) (s : Shelf B L) → IsFinished see d ts s
+      → (n : ℕ) (t : SeatView Entry (Plan B L)) → slice_get ts n ≡ Some t
+      → own_entries d.starts.items d.workers n s.events.items ≡ own_events (mine_of t)
+  entries_own d ts s f n t at =
+      subst (λ (x : Plan B L). own_entries x.starts.items x.workers n s.events.items ≡ own_events (mine_of t)) f.plan
+      (sym (own_same s.starts.value.items s.workers n s.slots.items s.events.items f.sound.actors)
+      ∙ ap (λ (l : List Entry). own_events l) (f.mine n t at))
 
   -- a driver's notes are those of its desk's own list
   pub noted_own : ((starts : List Start) (workers d : ℕ) (history : List Event)

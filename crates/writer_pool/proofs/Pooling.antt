@@ -1,5 +1,5 @@
 -- What a pool leaves, from the plan of its book to what the caller gave.
-use Rattle.std.proofs.Common.{◌≡◌, ℕ, zero, suc, ◌+◌, List, [], ◌∷◌, length, Option, Some, sym, ap, ◌∙◌, subst}
+use Rattle.std.proofs.Common.{◌≡◌, ℕ, zero, suc, ◌+◌, ◌<◌, List, [], ◌∷◌, length, Option, Some, sym, ap, ◌∙◌, subst, arith}
 use Rattle.std.specs.Prelude.{slice_get}
 use Rattle.atomic_table.specs.Seated.{TableId}
 use Rattle.turn_lock.specs.Seat.{SeatView, mine_of}
@@ -8,6 +8,7 @@ use Rattle.convert_plan.specs.declared.card.Card.{Card}
 use Rattle.checkout_core.specs.declared.event.Event.{Event}
 use Rattle.checkout_core.specs.declared.path.Start.{Start}
 use Rattle.checkout_core.specs.declared.verdict.Verdict.{Verdict}
+use Rattle.checkout_core.specs.Actors.{own_entries}
 use Rattle.checkout_core.specs.Notes.{noted, notes}
 use Rattle.checkout_book.specs.declared.plan.Plan.{Plan}
 use Rattle.checkout_book.specs.declared.plan.Entry.{Entry}
@@ -69,6 +70,19 @@ pool_noted {S} {B} {L} d ts ps starts history events w is starts_are workers_are
     ∙ (ap (λ (l : List Start). notes l i events) (sym starts_are)
     ∙ each i u.pass (ap (λ (l : List (SeatView Entry (Plan B L))). slice_get l (d.workers + i)) is
     ∙ (ap (λ (n : ℕ). slice_get (passes_in ts) (n + i)) workers_are ∙ pass_at ts (w + i) u at)))
+
+-- and what its desk did
+pub pool_own : {S B L : Type 0} (d : Plan B L) (ts : List (EndSeen S B L)) (ps : List (SeatView Entry (Plan B L)))
+    (starts : List Start) (history events : List Event) (w : ℕ) → ps ≡ passes_in ts → d.starts.items ≡ starts
+    → d.workers ≡ w → history ≡ events → 0 < w
+    → ((n : ℕ) (s : SeatView Entry (Plan B L)) → 0 < n → slice_get ps n ≡ Some s
+    → own_entries d.starts.items d.workers n events ≡ own_events (mine_of s)) → (i : ℕ) (u : EndSeen S B L)
+    → slice_get ts (w + i) ≡ Some u → own_entries starts w (w + i) history ≡ own_events (mine_of u.pass)
+pool_own {S} {B} {L} d ts ps starts history events w is starts_are workers_are same some each i u at =
+    ap (own_entries starts w (w + i)) same
+    ∙ ((λ k. own_entries (sym starts_are k) (sym workers_are k) (w + i) events)
+    ∙ each (w + i) u.pass (omega (arith, some))
+    (ap (λ (l : List (SeatView Entry (Plan B L))). slice_get l (w + i)) is ∙ pass_at ts (w + i) u at))
 
 module _ {S B L : Type 0} (see : Sight B L) where
   -- and of each leaf that its desk sealed

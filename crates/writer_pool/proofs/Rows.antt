@@ -39,11 +39,11 @@ KeepsNone = (starts : List Start) (workers drivers d : ℕ) (history : List Even
     → slice_get x.paths p ≡ Some r → is_at d r.start ≡ true → is_with_driver r.state ≡ false
 
 -- a path begins as its start says, and with a driver only if it starts with one
-record Keeps (starts : List Start) (p : ℕ) (r : Path) : Type 0 where
+pub record Keeps (starts : List Start) (p : ℕ) (r : Path) : Type 0 where
   pub begun : slice_get starts p ≡ Some r.start
   pub free : own_driver r.start ≡ None → is_with_driver r.state ≡ false
 
-abbrev AllKeep : List Start → Core → Type 0
+abbrev pub AllKeep : List Start → Core → Type 0
 AllKeep starts c = (p : ℕ) (r : Path) → slice_get c.paths p ≡ Some r → Keeps starts p r
 
 module _ (starts : List Start) where
@@ -80,7 +80,7 @@ module _ (starts : List Start) where
           })
 
   module _ (takes : TakesPath) (closes : ClosesPath) (backs : BacksPath) (keeps : KeepsPaths) where
-    rows_step : (c x : Core) (e : Event) → step_of c e ≡ Some x → AllKeep starts c → AllKeep starts x
+    pub rows_step : (c x : Core) (e : Event) → step_of c e ≡ Some x → AllKeep starts c → AllKeep starts x
     rows_step c x (Claim p a) h all = let m = takes c x p a h in moved_rows c x p (Waiting m.0) (Held a m.0) m.1 refl all
     rows_step c x (Close p a o) h all = let m = closes c x p a o h in moved_rows c x p m.0 (Closed m.1) m.2 refl all
     rows_step c x (HandBack p) h all = let m = backs c x p h in moved_rows c x p m.0 (Waiting (Some m.1)) m.2 refl all
@@ -113,7 +113,7 @@ begun_free Pool none = refl
 begun_free (Done v) none = refl
 begun_free (Desk d b) none = absurd (cc (none))
 
-all_begin : (starts : List Start) (workers drivers : ℕ) → AllKeep starts (start starts workers drivers)
+pub all_begin : (starts : List Start) (workers drivers : ℕ) → AllKeep starts (start starts workers drivers)
 all_begin starts workers drivers p r there =
     let b = path_begins starts p r there in
     subst (Keeps starts p) b.2 (record { begun = b.1; free = begun_free b.0 })
@@ -134,7 +134,7 @@ none_with_driver takes closes backs keeps none starts workers drivers es x below
         (λ q. left d q (below p d b (k.begun ∙ ap (λ (z : Start). Some z) is))) p r there (ap (is_at d) is ∙ eqb_self d)
 
 -- the path is with its driver, or closed
-abbrev AtDriver : ℕ → Core → Type 0
+abbrev pub AtDriver : ℕ → Core → Type 0
 AtDriver p c = (r : Path) → slice_get c.paths p ≡ Some r
     → (is_with_driver r.state ≡ true) ⊎ ((v : Verdict) × (r.state ≡ Closed v))
 
@@ -172,7 +172,7 @@ at_stayed p c x stays at r there = go (slice_get c.paths p) refl (slice_get x.pa
         row.1)
 
 module _ (takes : TakesPath) (closes : ClosesPath) (backs : BacksPath) (keeps : KeepsPaths) where
-  at_step : (p : ℕ) (c x : Core) (e : Event) → step_of c e ≡ Some x → AtDriver p c
+  pub at_step : (p : ℕ) (c x : Core) (e : Event) → step_of c e ≡ Some x → AtDriver p c
       → (e ≡ HandBack p) ⊎ AtDriver p x
   at_step p c x (Claim q a) h at =
       let m = takes c x q a h in
@@ -196,7 +196,7 @@ module _ (takes : TakesPath) (closes : ClosesPath) (backs : BacksPath) (keeps : 
   at_step p c x (ev.Redone q y) h at = inr (at_stayed p c x (keeps c x (ev.Redone q y) refl h p) at)
   at_step p c x (ev.Shut d) h at = inr (at_stayed p c x (keeps c x (ev.Shut d) refl h p) at)
 
-  not_claimed : (p a : ℕ) (c x : Core) (e : Event) → e ≡ Claim p a → step_of c e ≡ Some x → AtDriver p c → ⊥
+  pub not_claimed : (p a : ℕ) (c x : Core) (e : Event) → e ≡ Claim p a → step_of c e ≡ Some x → AtDriver p c → ⊥
   not_claimed p a c x e is h at =
       let m = takes c x p a (ap (step_of c) (sym is) ∙ h) in
       not_waiting m.1.row.state m.0 m.1.was (at m.1.row m.1.there)
@@ -222,7 +222,7 @@ module _ (takes : TakesPath) (closes : ClosesPath) (backs : BacksPath) (keeps : 
           (λ (next : AtDriver p d). let r = more d run i there next in (suc r.0, r.1))
           (at_step p c d e is at)
 
-at_start : (starts : List Start) (workers drivers p d : ℕ) (required : Bool)
+pub at_start : (starts : List Start) (workers drivers p d : ℕ) (required : Bool)
     → slice_get starts p ≡ Some (Desk d required) → AtDriver p (start starts workers drivers)
 at_start starts workers drivers p d required begun r there =
     let b = path_begins starts p r there in

@@ -4,6 +4,7 @@ pub mod Working
 pub mod Rooms
 pub mod Ends
 pub mod Sealing
+pub mod Tying
 pub mod Pools
 pub mod OnBook
 pub mod Talks

@@ -22,6 +22,7 @@ use Rattle.driver_desk.specs.Works.{WorkSeen, AreRead, FitAll, asked_in, cards_i
 use Rattle.checkout_book.specs.Sights.{Sight, seen}
 use Rattle.writer_pool.specs.declared.pooled.DeskSeed.{DeskSeed}
 use Rattle.writer_pool.specs.Sealing.{SealsAt, leaf_at}
+use Rattle.writer_pool.specs.Tying.{AreTiedAt}
 
 -- The talk of a driver with these notes: what its starter keeps grew by a talk over the paths `asked`, which goes by
 -- the starts that it tells, and as many of its links are out as before. It is the same starter. The results are a
@@ -57,7 +58,8 @@ module _ {S B L : Type 0} (starter : S → StarterSeen) where
 
 module _ {S B L : Type 0} (starter : S → StarterSeen) (see : Sight B L) where
   -- The starter of the driver d is back with its sessions. They are a talk with the driver's notes in the history, over
-  -- the paths whose content was prepared. Each leaf that its desk sealed holds what the driver gave for its path.
+  -- the paths whose content was prepared. Each leaf that its desk sealed holds what the driver gave for its path. Each
+  -- path was closed as what its object gave says.
   pub record IsStarterBack (starts : List Start) (history : List Event) (leaves : List L) (d : ℕ)
       (seed : DeskSeed S B L) (back : S) : Type 0 where
     pub works : List WorkSeen
@@ -66,6 +68,7 @@ module _ {S B L : Type 0} (starter : S → StarterSeen) (see : Sight B L) where
     pub talked : (paths : Paths) → FitAll paths works
         → HasTalked d paths (asked_in works) (starter seed.starter) (starter back) (notes starts d history)
         (SealsAt see starts history (leaf_at starts leaves) d)
+    pub tied : AreTiedAt history works
 
   -- the starters of the drivers from d on, each with its seed
   abbrev pub AreStartersBack : List Start → List Event → List L → ℕ → List (DeskSeed S B L) → List S → Type 0

@@ -5,6 +5,7 @@ ghost use Rattle.checkout_core.specs.Notes.{noted};
 ghost use Rattle.driver_line.specs.Lines.{Paths};
 ghost use Rattle.driver_desk.specs.Desks.{IsDealt, AreThrough};
 ghost use Rattle.driver_desk.specs.Serving.{IsServed};
+ghost use Rattle.driver_desk.specs.Ties.{AreTied};
 ghost use Rattle.driver_desk.specs.Works.{WorkSeen, AreRead, FitAll, asked_in, cards_in};
 ghost use Rattle.checkout_book.specs.Reserving.{AreNew};
 ghost use Rattle.checkout_book.specs.Shelves.{cards_of};
@@ -13,6 +14,7 @@ ghost use Rattle.writer_pool.specs.Ends.{IsBack};
 ghost use Rattle.writer_pool.specs.OnBook.{Recording, IsDeskPass, standing_of, given_of, place_of};
 ghost use Rattle.writer_pool.specs.Pools.{HasTalked};
 ghost use Rattle.writer_pool.specs.Sealing.{SealsIn};
+ghost use Rattle.writer_pool.specs.Tying.{AreTiedIn};
 ghost use Rattle.writer_pool.specs.Working.{own_events};
 
 use crate::on_book::OnBook;
@@ -52,7 +54,8 @@ pub(crate) fn serve_desk<S: Starter, B: Blob, L: Leaf, G: Gate, H: Wait>(
     ensures served { (works : List WorkSeen) × (desk.cards ≡ cards_in works) × AreRead works
         × ((paths : Paths) → FitAll paths works
         → IsServed desk.driver paths (asked_in works) desk.starter (S.seen result.served.starter) []
-        (given_of (sight B.told B.seen L.seen) (record { pass = result.pass; required = required }))) }
+        (given_of (sight B.told B.seen L.seen) (record { pass = result.pass; required = required })))
+        × AreTied works (given_of (sight B.told B.seen L.seen) (record { pass = result.pass; required = required })) }
 {
     let mut recorder = OnBook::begin(rt, book, pass, required);
     let served = desk.serve(&mut recorder, gate);
@@ -83,7 +86,8 @@ pub(crate) fn run_desk<S: Starter, B: Blob, L: Leaf, G: Gate, H: Wait>(
     ensures talked { (works : List WorkSeen) × (desk.cards ≡ cards_in works) × AreRead works
         × ((paths : Paths) → FitAll paths works
         → HasTalked desk.driver paths (asked_in works) desk.starter (S.seen result.served.starter)
-        (noted (own_events (mine_of result.pass))) (SealsIn (mine_of result.pass))) }
+        (noted (own_events (mine_of result.pass))) (SealsIn (mine_of result.pass)))
+        × AreTiedIn (own_events (mine_of result.pass)) works }
 {
     a_transcript_is_a_talk();
     let DeskEnd { pass, served } = serve_desk(rt, book, gate, required, desk, pass);

@@ -2,6 +2,7 @@
 ghost use Rattle.std.specs.Prelude.{◌≡◌, ◌≤◌, ◌<◌, ◌+◌, ℕ, List, [], Option, Some, length, map, slice_get, vec_capacity};
 ghost use Rattle.turn_lock.specs.Seat.{SeatView, mine_of};
 ghost use Rattle.checkout_core.specs.declared.path.Start.{Start};
+ghost use Rattle.checkout_core.specs.Actors.{own_entries};
 ghost use Rattle.checkout_core.specs.Notes.{noted, notes};
 ghost use Rattle.checkout_core.specs.States.{verdict_at};
 ghost use Rattle.checkout_core.specs.Closes.{IsComplete};
@@ -36,6 +37,9 @@ pub(crate) fn close_rest<B: Blob, L: Leaf>(alloc: Global, ended: &mut Ended<B, L
         → SealsOn (sight B.told B.seen L.seen) ended.old.shelf q p told }
     ensures notes { (starts : List Start) (d : ℕ) → notes starts d ended.new.shelf.events.items
         ≡ notes starts d ended.old.shelf.events.items }
+    ensures own { (starts : List Start) (workers n : ℕ) → 0 < n
+        → own_entries starts workers n ended.new.shelf.events.items
+        ≡ own_entries starts workers n ended.old.shelf.events.items }
 {
     laws::a_path_in_hand_may_be_closed();
     laws::a_claim_takes_its_path();
@@ -69,6 +73,10 @@ pub(crate) fn end_all<B: Blob, L: Leaf>(
         → AreBack (sight B.told B.seen L.seen) book d 0 (length passes.items) passes.items
         → (q : ℕ) (s : SeatView Entry (Plan B L)) → slice_get passes.items (d.workers + q) ≡ Some s
         → notes d.starts.items q result.shelf.events.items ≡ noted (own_events (mine_of s)) }
+    ensures own { (d : Plan B L)
+        → AreBack (sight B.told B.seen L.seen) book d 0 (length passes.items) passes.items
+        → (n : ℕ) (s : SeatView Entry (Plan B L)) → 0 < n → slice_get passes.items n ≡ Some s
+        → own_entries d.starts.items d.workers n result.shelf.events.items ≡ own_events (mine_of s) }
 {
     laws::notes_are_own_entries();
     laws::a_desk_that_is_through_keeps_no_path();

@@ -57,6 +57,10 @@ pub fn pool_run<
     ensures talk_count { IfOk result (λ r. length r.talks.items ≡ length desks.items) }
 {
     laws::a_driver_has_few_notes();
+    laws::a_claim_takes_its_path();
+    laws::a_close_closes_its_path();
+    laws::a_path_that_is_handed_back_waits();
+    laws::a_note_keeps_paths_with_their_driver();
     let paths = starts.len();
     let drivers = desks.len();
     let room = room_for(alloc, paths)?;

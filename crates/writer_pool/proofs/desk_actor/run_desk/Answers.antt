@@ -1,6 +1,7 @@
 use Rattle.checkout_book.specs.Sights.{sight}
 use Rattle.writer_pool.proofs.DeskActing.{desk_ready, desk_back}
 use Rattle.writer_pool.proofs.DeskTalks.{desk_talked}
+use Rattle.writer_pool.proofs.Tied.{desk_tied}
 use Rattle.writer_pool.proofs.desk_actor.run_desk.Goals as goal
 
 pub work-requires-after_bounds : goal.work-requires-after_bounds
@@ -39,4 +40,6 @@ returns-clause-talked g c =
       w.2,
       λ paths fit. desk_talked see c.a_transcript_is_a_talk.ensures lock c.args.pass s c.work.result c.args.required
           e.desk c.args.desk e.place c.requires.dealt _ paths _ _ _ (w.3 paths fit) idled,
+      desk_tied see lock c.args.pass s c.work.result c.args.required e.desk c.args.desk e.place c.requires.dealt w.0 w.4
+          idled,
     )

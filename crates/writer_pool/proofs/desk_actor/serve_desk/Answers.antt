@@ -1,5 +1,6 @@
 use Rattle.std.proofs.Common.{[], List, ap, ◌∙◌, subst}
 use Rattle.driver_desk.specs.Serving.{Given, IsServed}
+use Rattle.driver_desk.specs.Ties.{AreTied}
 use Rattle.driver_desk.specs.Works.{asked_in}
 use Rattle.checkout_book.specs.Sights.{sight}
 use Rattle.writer_pool.specs.OnBook.{given_of, standing_of, place_of}
@@ -25,4 +26,5 @@ returns-clause-served g c =
           (subst (λ (old : List Given). IsServed c.args.desk.driver paths (asked_in w.0) c.args.desk.starter
           (g.S.Starter.seen c.serve-served.result.starter) old (given_of see r))
           (none_given see s required c.begin-recorder.result first c.requires.fresh) (w.3 paths fit)),
+      subst (λ (now : List Given). AreTied w.0 now) given w.4,
     )

@@ -7,7 +7,7 @@ use Rattle.checkout_book.specs.Shelves.{cards_of, IsOut, plan_of}
 use Rattle.writer_pool.proofs.WorkTurns.{planned_to_write, held_may_close, out_again}
 use Rattle.writer_pool.proofs.CoreMoves.{held_here}
 use Rattle.writer_pool.proofs.Resting.{in_hand, rest_turn, rest_seals}
-use Rattle.writer_pool.proofs.Noting.{turn_quiet}
+use Rattle.writer_pool.proofs.Noting.{turn_quiet, turn_own}
 use Rattle.writer_pool.proofs.ending.close_rest.Goals as goal
 
 pub take_waiting-requires : goal.take_waiting-requires
@@ -70,4 +70,9 @@ loop-card-preserved g c =
           c.take_waiting.new.self.shelf.events.items c.close.new.self.shelf.events.items
           c.in-Some.ensures.some.turned.events c.close.ensures.closed.events
           ∙ c.loop-card.invariant.notes starts d;
+      own = λ starts workers n more. turn_own starts workers n c.in-Some.card.path c.write_card-card.result.card.path
+          c.write_card-card.result.own c.loop-card.ended.shelf.events.items
+          c.take_waiting.new.self.shelf.events.items c.close.new.self.shelf.events.items more
+          c.in-Some.ensures.some.turned.events c.close.ensures.closed.events
+          ∙ c.loop-card.invariant.own starts workers n more;
     }

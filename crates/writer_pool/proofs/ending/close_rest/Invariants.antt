@@ -1,5 +1,6 @@
-use Rattle.std.proofs.Common.{◌≡◌, ◌-◌, ◌*◌, ℕ, List, Option, length}
+use Rattle.std.proofs.Common.{◌≡◌, ◌-◌, ◌*◌, ◌<◌, ℕ, List, Option, length}
 use Rattle.checkout_core.specs.declared.path.Start.{Start}
+use Rattle.checkout_core.specs.Actors.{own_entries}
 use Rattle.checkout_core.specs.Notes.{notes}
 use Rattle.checkout_book.specs.Sights.{sight}
 use Rattle.checkout_book.specs.Shelves.{plan_of}
@@ -16,6 +17,8 @@ invariant-loop-card g l = record {
       → SealsOn (sight g.B.Blob.told g.B.Blob.seen g.L.Leaf.seen) l.fn.ended.shelf q p told;
   notes : (starts : List Start) (d : ℕ) → notes starts d l.ended.shelf.events.items
       ≡ notes starts d l.fn.ended.shelf.events.items;
+  own : (starts : List Start) (workers n : ℕ) → 0 < n → own_entries starts workers n l.ended.shelf.events.items
+      ≡ own_entries starts workers n l.fn.ended.shelf.events.items;
 }
 
 abbrev pub decreases-loop-card : goal.decreases-loop-card

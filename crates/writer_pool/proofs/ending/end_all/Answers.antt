@@ -2,7 +2,7 @@ use Rattle.std.proofs.Common.{length, ◌∙◌}
 use Rattle.checkout_book.specs.Sights.{sight}
 use Rattle.writer_pool.proofs.Acting.{back_idle}
 use Rattle.writer_pool.proofs.Quieting.{quieted, seals_own}
-use Rattle.writer_pool.proofs.Noting.{noted_own}
+use Rattle.writer_pool.proofs.Noting.{noted_own, entries_own}
 use Rattle.writer_pool.proofs.ending.end_all.Goals as goal
 
 pub finish-ended-requires : goal.finish-ended-requires
@@ -47,3 +47,11 @@ returns-clause-notes g c d back q s at =
     let f = c.finish-ended.ensures d (back_idle see c.args.book d 0 (length ps) ps back) in
     c.close_rest.ensures.notes d.starts.items q
     ∙ noted_own see c.notes_are_own_entries.ensures d ps c.finish-ended.result.shelf f q s at
+
+pub returns-clause-own : goal.returns-clause-own
+returns-clause-own g c d back n s more at =
+    let see = sight g.B.Blob.told g.B.Blob.seen g.L.Leaf.seen in
+    let ps = c.args.passes.items in
+    let f = c.finish-ended.ensures d (back_idle see c.args.book d 0 (length ps) ps back) in
+    c.close_rest.ensures.own d.starts.items d.workers n more
+    ∙ entries_own see d ps c.finish-ended.result.shelf f n s at

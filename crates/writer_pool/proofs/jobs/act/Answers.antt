@@ -35,7 +35,7 @@ returns-in-Some g c d made j =
       back = e.back (new_desk c.args.book.now d n made c.args.job.pass fits.0 j.dealt j.nothing j.fresh);
       starter_is = subst (λ (o : Option (DeskJob DeskView)). LeavesStarter g.S.Starter.seen o
           (Some c.run_desk-pass.result.served.starter) (mine_of c.run_desk-pass.result.pass)) (sym c.in-Some.is)
-          (record { works = t.0; cards = t.1; read = t.2; talked = t.3 });
+          (record { works = t.0; cards = t.1; read = t.2; talked = t.3; tied = t.4 });
     }
 
 pub returns-in-None : goal.returns-in-None

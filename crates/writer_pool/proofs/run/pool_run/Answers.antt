@@ -8,7 +8,8 @@ use Rattle.writer_pool.specs.Pools.{AreStartersBack}
 use Rattle.writer_pool.specs.Talks.{HaveRoom}
 use Rattle.writer_pool.proofs.Acting.{passes_length, starters_count, starters_back}
 use Rattle.writer_pool.proofs.Noting.{rooms_length, have_room}
-use Rattle.writer_pool.proofs.Pooling.{run_is, ends_in, pool_back, pool_noted, pool_sealed}
+use Rattle.writer_pool.proofs.Pooling.{run_is, ends_in, pool_back, pool_noted, pool_own, pool_sealed}
+use Rattle.writer_pool.proofs.Tied.{tied_in_history}
 use Rattle.writer_pool.proofs.run.pool_run.Goals as goal
 
 pub came_back-passes-requires-clause-room : goal.came_back-passes-requires-clause-room
@@ -168,13 +169,26 @@ returns-clause-starters g c =
     let pool = subst (λ (l : List Start). ArePool l b.plan.pool.items) (sym b.starts_are)
     (subst (λ (l : List (Card g.row.B.Denot g.row.L.Denot)). ArePool starts l) (sym b.pool_is) c.requires.pool) in
     let dealt = subst (λ (l : List Start). AreDealt l 0 b.plan.desks.items) (sym b.starts_are) b.dealt in
+    let some = c.requires.some in
+    let own = pool_own b.plan ts ps starts history c.end_all-ended.result.shelf.events.items w
+    c.came_back-passes.ensures.passes b.starts_are b.workers_are c.leave-history.ensures.history (omega (arith, some))
+    (c.end_all-ended.ensures.own b.plan back.0) in
+    let run = run_is _ starts _ w _ (length c.args.desks.items) history c.leave-history.result.verdicts.items
+    b.starts_are b.workers_are b.drivers_are (c.leave-history.ensures.run b.plan through) in
     let sealed = pool_sealed see b.plan ts ps starts history leaves c.end_all-ended.result.shelf w
     c.came_back-passes.ensures.passes b.starts_are b.workers_are (c.end_all-ended.ensures.seals b.plan back.0)
     (c.leave-history.ensures.seals b.plan through pool dealt) in
     subst (λ (l : List g.row.S.Denot). AreStartersBack starter see starts history leaves 0 c.args.desks.items l)
     (sym c.came_back-passes.ensures.starters)
     (starters_back starter see _ b.plan 0 (length js) w w c.args.desks.items js ts starts history leaves b.actors t
-    (λ i u at. record { notes_are = each i u at; seals = sealed i u at }))
+    c.requires.desks (λ i u at. record {
+      notes_are = each i u at;
+      seals = sealed i u at;
+      tied = λ work required tied begun. tied_in_history c.a_claim_takes_its_path.ensures
+          c.a_close_closes_its_path.ensures c.a_path_that_is_handed_back_waits.ensures
+          c.a_note_keeps_paths_with_their_driver.ensures starts w (length c.args.desks.items) i history run.core
+          run.legal _ (own i u at) work required tied begun;
+    }))
 
 pub returns-clause-talk_count : goal.returns-clause-talk_count
 returns-clause-talk_count g c =
