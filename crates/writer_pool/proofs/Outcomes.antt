@@ -197,6 +197,7 @@ module _ {B L : Type 0} (see : Sight B L) where
             own = o.0;
             place = f.0;
             entry = f.2 ∙ ap (λ j. Some (Close j f.1 o.0)) (sym from.3);
+            own_is = ap (λ (j : ℕ). own_of j None s.events.items) from.3 ∙ o.1;
             told = from.4;
             name = from.5;
             path = from.6;

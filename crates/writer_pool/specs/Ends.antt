@@ -1,5 +1,5 @@
 -- How the paths of a checkout end.
-use Rattle.std.specs.Prelude.{◌≡◌, ◌<◌, ◌+◌, ℕ, suc, Bool, true, false, List, [], ◌∷◌, Option, Some, slice_get}
+use Rattle.std.specs.Prelude.{◌≡◌, ◌<◌, ◌+◌, ℕ, suc, Bool, true, false, List, [], ◌∷◌, Option, Some, None, slice_get}
 use Rattle.atomic_table.specs.Seated.{TableId}
 use Rattle.turn_lock.specs.Seat.{SeatView, mine_of}
 use Rattle.convert_plan.specs.declared.card.Card.{Card}
@@ -12,7 +12,7 @@ use Rattle.checkout_core.specs.declared.verdict.Own.{Own}
 use Rattle.checkout_core.specs.declared.verdict.Verdict.{Verdict}
 use Rattle.checkout_core.specs.States.{Core, verdict_at}
 use Rattle.checkout_core.specs.Steps.{IsLegal}
-use Rattle.checkout_core.specs.Closes.{IsComplete}
+use Rattle.checkout_core.specs.Closes.{IsComplete, own_of}
 use Rattle.checkout_core.specs.Hands.{held_at}
 use Rattle.checkout_core.specs.Desks.{paths_of, is_left}
 use Rattle.checkout_core.specs.Talks.{contains}
@@ -83,6 +83,7 @@ module _ {B L : Type 0} (see : Sight B L) where
     pub own : Own
     pub place : ℕ
     pub entry : slice_get history place ≡ Some (Close card.path actor own)
+    pub own_is : own_of card.path None history ≡ Some own
     pub told : see.told blob ≡ see.told card.blob
     pub name : (see.blob blob).name ≡ (see.blob card.blob).name
     pub path : (see.leaf leaf).path ≡ (see.leaf card.leaf).path
