@@ -10,6 +10,7 @@ pub mod Acting
 pub mod Verdicts
 pub mod Quieting
 pub mod Outcomes
+pub mod PathLeaves
 pub mod Dealing
 pub mod Noting
 pub mod Recordings

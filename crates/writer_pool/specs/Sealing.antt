@@ -56,6 +56,14 @@ module _ {L : Type 0} where
   leaf_at (s ∷ ss) (leaf ∷ leaves) zero = Some leaf
   leaf_at (s ∷ ss) (leaf ∷ leaves) (suc p) = leaf_at ss leaves p
 
+  -- of all leaves, these are those of the paths from p on that aren't closed from the start
+  abbrev pub AreAtPaths : List Start → List L → ℕ → List Start → List L → Type 0
+  AreAtPaths starts leaves p [] [] = Unit {0}
+  AreAtPaths starts leaves p (Done v ∷ ss) ls = AreAtPaths starts leaves (suc p) ss ls
+  AreAtPaths starts leaves p (s ∷ ss) (l ∷ ls) =
+      (leaf_at starts leaves p ≡ Some l) × AreAtPaths starts leaves (suc p) ss ls
+  AreAtPaths _ _ _ _ _ = ⊥
+
 module _ {B L : Type 0} where
   -- the leaf of a slot that is closed
   abbrev pub leaf_in_slot : Option (Slot B L) → Option L

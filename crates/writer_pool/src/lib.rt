@@ -7,6 +7,7 @@ mod desk_actor;
 mod desks;
 mod ending;
 mod jobs;
+pub mod laws;
 mod leaf;
 mod on_book;
 mod path_ends;
