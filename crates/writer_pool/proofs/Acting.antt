@@ -1,5 +1,5 @@
 -- What all actors did.
-use Rattle.std.proofs.Common.{◌≡◌, ℕ, zero, suc, ◌+◌, ◌<◌, List, [], ◌∷◌, ◌++◌, length, map, true, Bool, Option, Some, None, refl, sym, ap, ◌∙◌, subst, arith}
+use Rattle.std.proofs.Common.{◌≡◌, ℕ, zero, suc, ◌+◌, ◌<◌, List, [], ◌∷◌, ◌++◌, length, map, true, Bool, Option, Some, None, inl, inr, refl, sym, ap, ◌∙◌, subst, arith}
 use Rattle.std.specs.Prelude.{slice_get, Result, Ok, Err, IfOk}
 use Rattle.atomic_table.specs.Seated.{TableId}
 use Rattle.turn_lock.specs.Seat.{SeatView, mine_of}
@@ -95,10 +95,7 @@ module _ {B L : Type 0} (see : Sight B L) where
         card = w.3;
         planned = w.4;
         path = w.5;
-        ends = record {
-          wrote = λ from. w.6;
-          served = λ q required from. absurd (from.unclaimed t.0 t.1 t.2);
-        };
+        ends = inl (inr t, w.6);
         desk = λ q required from. absurd (from.unclaimed t.0 t.1 t.2);
       }
 

@@ -18,7 +18,7 @@ use Rattle.checkout_book.specs.declared.shelf.Slot.{Slot}
 use Rattle.checkout_book.specs.declared.plan.Entry.{Entry}
 use Rattle.checkout_book.specs.Entries.{number_or, number_in, entry_of, entries}
 use Rattle.writer_pool.specs.Writing.{WritesCard}
-use Rattle.writer_pool.specs.Closing.{IsFromBook, IsFromDesk, ServesCard, EndsCard}
+use Rattle.writer_pool.specs.Closing.{IsFromBook, IsFromDesk, ServesCard, EndsAtDesk, EndsCard}
 use Rattle.writer_pool.specs.Working.{own_events}
 use Rattle.writer_pool.proofs.Places.{same_or, eqb_self, get_front, get_within, place_is}
 
@@ -86,18 +86,14 @@ module _ {B L : Type 0} (tells : B → L → Parts) where
           (no_note starts workers d e is))
 
 -- what came before a place of a history is the same in a longer one
-from_before : (starts : List Start) (es more longer : List Event) (i p a : ℕ) (e : Event) → longer ≡ es ++ more
-    → slice_get es i ≡ Some e → IsFromBook starts longer i p a → IsFromBook starts es i p a
-from_before starts es more longer i p a e is at h = ⊎_elim
+book_longer : (starts : List Start) (es more longer : List Event) (i p a : ℕ) → longer ≡ es ++ more
+    → IsFromBook starts es i p a → IsFromBook starts longer i p a
+book_longer starts es more longer i p a is h = ⊎_elim
     (λ (pool : slice_get starts p ≡ Some Pool). inl pool)
-    (λ (claim : (j : ℕ) × (j < i) × (slice_get longer j ≡ Some (Claim p a))).
-    let lt : i < length es = place_is es i e at in
-    let less = claim.1 in
-    inr (
+    (λ (claim : (j : ℕ) × (j < i) × (slice_get es j ≡ Some (Claim p a))). inr (
       claim.0,
       claim.1,
-      sym (get_within es more claim.0 (omega (arith, less, lt)))
-          ∙ (ap (λ (l : List Event). slice_get l claim.0) (sym is) ∙ claim.2),
+      ap (λ (l : List Event). slice_get l claim.0) is ∙ get_front es more claim.0 (Claim p a) claim.2,
     ))
     h
 
@@ -105,10 +101,7 @@ from_before starts es more longer i p a e is at h = ⊎_elim
 pub ends_claimed : (starts : List Start) (history : List Event) (j i p a : ℕ) (o : Own) (card : CardSeen)
     (blob : BlobSeen) (leaf : LeafSeen) → j < i → slice_get history j ≡ Some (Claim p a) → WritesCard card o blob leaf
     → EndsCard starts history i p a o card blob leaf
-ends_claimed starts history j i p a o card blob leaf lt claim wrote = record {
-  wrote = λ from. wrote;
-  served = λ d required from. absurd (from.unclaimed j lt claim);
-}
+ends_claimed starts history j i p a o card blob leaf lt claim wrote = inl (inr (j, lt, claim), wrote)
 
 -- what never left its desk by a longer history didn't before
 pub desk_before : (starts : List Start) (es more longer : List Event) (i p a d : ℕ) (required : Bool)
@@ -119,15 +112,32 @@ desk_before starts es more longer i p a d required is from = record {
       (ap (λ (l : List Event). slice_get l j) is ∙ get_front es more j (Claim p a) claim);
 }
 
+desk_longer : (starts : List Start) (es more longer : List Event) (i p a d : ℕ) (required : Bool) (e : Event)
+    → longer ≡ es ++ more → slice_get es i ≡ Some e → IsFromDesk starts es i p a d required
+    → IsFromDesk starts longer i p a d required
+desk_longer starts es more longer i p a d required e is at from = record {
+  begun = from.begun;
+  unclaimed = λ j less claim.
+      let lt : i < length es = place_is es i e at in
+      from.unclaimed j less (sym (get_within es more j (omega (arith, less, lt)))
+      ∙ (ap (λ (l : List Event). slice_get l j) (sym is) ∙ claim));
+}
+
 -- a longer history without a new note shows the same of a Close
 pub ends_longer : (starts : List Start) (es more longer : List Event) (i p a : ℕ) (o : Own) (card : CardSeen)
     (blob : BlobSeen) (leaf : LeafSeen) → longer ≡ es ++ more → noted more ≡ [] → slice_get es i ≡ Some (Close p a o)
     → EndsCard starts es i p a o card blob leaf → EndsCard starts longer i p a o card blob leaf
-ends_longer starts es more longer i p a o card blob leaf is quiet at h = record {
-  wrote = λ from. h.wrote (from_before starts es more longer i p a (Close p a o) is at from);
-  served = λ d required from.
-      let notes_are : notes starts d es ≡ notes starts d longer =
-      sym (ap (notes starts d) is ∙ notes_quiet starts d es more quiet) in
-      subst (λ (l : List Event). ServesCard required (fate_of p Untold l) card o blob leaf) notes_are
-      (h.served d required (desk_before starts es more longer i p a d required is from));
-}
+ends_longer starts es more longer i p a o card blob leaf is quiet at h = ⊎_elim
+    (λ (b : IsFromBook starts es i p a × WritesCard card o blob leaf).
+    inl (book_longer starts es more longer i p a is b.0, b.1))
+    (λ (b : EndsAtDesk starts es i p a o card blob leaf).
+    let notes_are : notes starts b.driver es ≡ notes starts b.driver longer =
+    sym (ap (notes starts b.driver) is ∙ notes_quiet starts b.driver es more quiet) in
+    inr (record {
+      driver = b.driver;
+      required = b.required;
+      desk = desk_longer starts es more longer i p a b.driver b.required (Close p a o) is at b.desk;
+      serves = subst (λ (l : List Event). ServesCard b.required (fate_of p Untold l) card o blob leaf) notes_are
+          b.serves;
+    }))
+    h

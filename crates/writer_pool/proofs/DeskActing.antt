@@ -1,5 +1,5 @@
 -- A desk's pass, after the desk has served, and after it has worked.
-use Rattle.std.proofs.Common.{◌≡◌, ◌==◌, ◌||◌, ℕ, zero, suc, ◌+◌, ◌-◌, ◌<◌, ◌≤◌, ⊎_elim, Bool, true, false, cond, List, [], ◌∷◌, ◌++◌, length, Option, Some, None, refl, sym, ap, ◌∙◌, subst, arith}
+use Rattle.std.proofs.Common.{◌≡◌, ◌==◌, ◌||◌, ℕ, zero, suc, ◌+◌, ◌-◌, ◌<◌, ◌≤◌, inr, ⊎_elim, Bool, true, false, cond, List, [], ◌∷◌, ◌++◌, length, Option, Some, None, refl, sym, ap, ◌∙◌, subst, arith}
 use Rattle.std.specs.Prelude.{slice_get}
 use mathlib.Core.List.{map-append}
 use Rattle.atomic_table.specs.Seated.{TableId}
@@ -149,16 +149,22 @@ module _ {B L : Type 0} (see : Sight B L) where
     card = c.card;
     planned = c.planned;
     path = c.path;
-    ends = record {
-      wrote = λ from. absurd (not_from_book d q first more i p a free c.driver lt from);
-      served = λ k required from.
-          let same : notes d.starts.items k (own_events first)
-          ≡ notes d.starts.items k (own_events (first ++ more)) =
-          sym (ap (notes d.starts.items k) (map-append (λ (z : Entry). z.event) first more)
-          ∙ notes_quiet d.starts.items k (own_events first) (own_events more) quiet) in
-          subst (λ (l : List Event). ServesCard required (fate_of p Untold l) (seen see c.card) o (blob_in c.ended)
-          (leaf_in c.ended)) same (c.served k required from.begun);
-    };
+    ends =
+        let same : notes d.starts.items q (own_events first)
+        ≡ notes d.starts.items q (own_events (first ++ more)) =
+        sym (ap (notes d.starts.items q) (map-append (λ (z : Entry). z.event) first more)
+        ∙ notes_quiet d.starts.items q (own_events first) (own_events more) quiet) in
+        inr (record {
+          driver = q;
+          required = c.required;
+          desk = record {
+            begun = c.begun;
+            unclaimed = λ j less claim.
+                not_from_book d q first more i p a free c.driver lt (inr (j, less, claim));
+          };
+          serves = subst (λ (l : List Event). ServesCard c.required (fate_of p Untold l) (seen see c.card) o
+              (blob_in c.ended) (leaf_in c.ended)) same c.served;
+        });
     desk = λ k required from.
         let begun : driver_at d.starts.items p ≡ Some k =
         ap (λ (o : Option Start). elim o [ None ↦ None | Some s ↦ own_driver s ]) from.begun in

@@ -157,9 +157,10 @@ module _ {B L : Type 0} (see : Sight B L) where
     pub path : card.path ≡ p
     pub driver : driver_at d.starts.items p ≡ Some q
     pub seat : a ≡ d.workers + q
-    pub served : (e : ℕ) (required : Bool) → slice_get d.starts.items p ≡ Some (Desk e required)
-        → ServesCard required (fate_of p Untold (notes d.starts.items e mine)) (seen see card) o (blob_in ended)
-        (leaf_in ended)
+    pub required : Bool
+    pub begun : slice_get d.starts.items p ≡ Some (Desk q required)
+    pub served : ServesCard required (fate_of p Untold (notes d.starts.items q mine)) (seen see card) o
+        (blob_in ended) (leaf_in ended)
 
   -- its card
   record ClosedCard (d : Plan B L) (q : ℕ) (required : Bool) (p : ℕ) : Type 0 where
@@ -252,18 +253,11 @@ module _ {B L : Type 0} (see : Sight B L) where
         path = c.path;
         driver = own.2;
         seat = some_is a n actor ∙ sym seat;
-        served = λ k wanted begun.
-            let start : Desk q required ≡ Desk k wanted =
-            some_is (Desk q required) (Desk k wanted) (sym c.begun ∙ begun) in
-            let driver : q ≡ k = cc (start) in
-            let same : required ≡ wanted = cc (start) in
-            subst (λ (r : Bool). ServesCard r (fate_of p Untold (notes d.starts.items k (own_events mine)))
-            (seen see c.card) o (blob_in own.0) (leaf_in own.0)) same
-            (subst (λ (z : ℕ). ServesCard required (fate_of p Untold (notes d.starts.items z (own_events mine)))
-            (seen see c.card) o (blob_in own.0) (leaf_in own.0)) driver
-            (subst (λ (es : List Event). ServesCard required (fate_of p Untold (notes d.starts.items q es))
+        required = required;
+        begun = c.begun;
+        served = subst (λ (es : List Event). ServesCard required (fate_of p Untold (notes d.starts.items q es))
             (seen see c.card) o (blob_in own.0) (leaf_in own.0)) events
-            (card_served d n required given p o own.0 dealt c shows)));
+            (card_served d n required given p o own.0 dealt c shows);
       }
 
   -- what holds of each leaf that the desk sealed

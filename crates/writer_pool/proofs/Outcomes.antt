@@ -23,7 +23,9 @@ use Rattle.checkout_book.specs.Shape.{Shelf}
 use Rattle.checkout_book.specs.Sights.{Sight, seen}
 use Rattle.checkout_book.specs.Shelves.{plan_of, cards_of, IsRow, Lies}
 use Rattle.checkout_book.specs.Ending.{parts_in}
-use Rattle.writer_pool.specs.Closing.{IsFromBook, WasRefused, EndsCard}
+use Rattle.edge_kit.specs.Seen.{BlobSeen, LeafSeen}
+use Rattle.writer_pool.specs.Closing.{IsFromBook, EndsAtDesk, EndsCard, ClosesCard}
+use Rattle.writer_pool.specs.Writing.{WritesCard}
 use Rattle.writer_pool.specs.Ends.{IsThrough, IsRun, IsEndOf, AreEnds}
 use Rattle.writer_pool.specs.Sealing.{SealsAt, SealsOn, leaf_at, leaf_in_slot}
 use Rattle.writer_pool.proofs.Places.{some_is, same_or}
@@ -162,6 +164,21 @@ module _ {B L : Type 0} (see : Sight B L) where
     each = each;
   }
 
+  -- a card that an actor had from the book might leave its desk
+  closes_card : MovesPaths → (s : Shelf B L) → IsThrough see (plan_of s) s → (p i a : ℕ) (o : Own) (card : CardSeen)
+      (blob : BlobSeen) (leaf : LeafSeen) → EndsCard s.starts.value.items s.events.items i p a o card blob leaf
+      → ClosesCard s.starts.value.items s.events.items i p a o card blob leaf
+  closes_card moves s t p i a o card blob leaf ends = ⊎_elim
+      (λ (h : IsFromBook s.starts.value.items s.events.items i p a × WritesCard card o blob leaf). inl (
+        λ q required begun.
+            let back = claimed_back moves.takes moves.closes moves.backs moves.keeps s.starts.value.items s.workers
+            s.drivers s.events.items s.core t.quiet.goes_on.sound.run i p a q required begun h.0 in
+            t.quiet.backs back.0 p q required back.1 begun,
+        h.1,
+      ))
+      (λ (h : EndsAtDesk s.starts.value.items s.events.items i p a o card blob leaf). inr h)
+      ends
+
   -- the end of a path that isn't closed from the start
   end_of : MovesPaths → TellsVerdict → (s : Shelf B L) → IsThrough see (plan_of s) s
       → IsFitting s.starts.value.items (cards_of (plan_of s)) → (p : ℕ) (st : Start) (x : Slot B L)
@@ -202,27 +219,21 @@ module _ {B L : Type 0} (see : Sight B L) where
             name = from.5;
             path = from.6;
             ends =
+                let starts = s.starts.value.items in
                 let h = t.quiet.closed f.0 p f.1 o.0 f.2 in
                 let slot : Ended h.0 h.1 ≡ Ended e.0 e.1 = some_is (Ended h.0 h.1) (Ended e.0 e.1) (sym h.2 ∙ e.2) in
                 let blob : h.0 ≡ e.0 = cc (slot) in
                 let leaf : h.1 ≡ e.1 = cc (slot) in
                 let same : h.4 ≡ from.1 = fits.one h.3 from.0 h.4 from.1 h.5 from.2 (h.6 ∙ sym from.3) in
-                subst (λ (j : ℕ). EndsCard s.starts.value.items s.events.items f.0 j f.1 o.0 (seen see from.1)
-                (see.blob e.0) (see.leaf e.1)) (sym from.3)
-                (subst (λ (c : Card B L). EndsCard s.starts.value.items s.events.items f.0 p f.1 o.0 (seen see c)
-                (see.blob e.0) (see.leaf e.1)) same
-                (subst (λ (l : L). EndsCard s.starts.value.items s.events.items f.0 p f.1 o.0 (seen see h.4)
-                (see.blob e.0) (see.leaf l)) leaf
-                (subst (λ (b : B). EndsCard s.starts.value.items s.events.items f.0 p f.1 o.0 (seen see h.4)
-                (see.blob b) (see.leaf h.1)) blob h.7)));
-            refused = λ q required begun book.
-                let starts = s.starts.value.items in
-                let here = ap (slice_get starts) (sym from.3) ∙ begun in
-                let back = claimed_back moves.takes moves.closes moves.backs moves.keeps starts s.workers s.drivers
-                s.events.items s.core sound.run f.0 p f.1 q required here (subst (λ (j : ℕ).
-                IsFromBook starts s.events.items f.0 j f.1) from.3 book) in
-                subst (λ (j : ℕ). WasRefused starts s.events.items j q required) (sym from.3)
-                (t.quiet.backs back.0 p q required back.1 here);
+                subst (λ (j : ℕ). ClosesCard starts s.events.items f.0 j f.1 o.0 (seen see from.1) (see.blob e.0)
+                (see.leaf e.1)) (sym from.3)
+                (subst (λ (c : Card B L). ClosesCard starts s.events.items f.0 p f.1 o.0 (seen see c) (see.blob e.0)
+                (see.leaf e.1)) same
+                (subst (λ (l : L). ClosesCard starts s.events.items f.0 p f.1 o.0 (seen see h.4) (see.blob e.0)
+                (see.leaf l)) leaf
+                (subst (λ (b : B). ClosesCard starts s.events.items f.0 p f.1 o.0 (seen see h.4) (see.blob b)
+                (see.leaf h.1)) blob
+                (closes_card moves s t p f.0 f.1 o.0 (seen see h.4) (see.blob h.0) (see.leaf h.1) h.7))));
           },
         ),
       )

@@ -25,7 +25,8 @@ use Rattle.checkout_book.specs.Sights.{Sight, seen, tell}
 use Rattle.checkout_book.specs.Entries.{number_or, number_in, entries, entry_of, history_of, events_of, parts_at}
 use Rattle.checkout_book.specs.Shelves.{cards_of, plan_of}
 use Rattle.checkout_book.specs.Reserving.{IsFinished}
-use Rattle.writer_pool.specs.Closing.{IsFromBook, IsFromDesk, RefusedBacks, ServesCard, EndsCard}
+use Rattle.writer_pool.specs.Closing.{IsFromBook, IsFromDesk, RefusedBacks, ServesCard, EndsAtDesk, EndsCard}
+use Rattle.writer_pool.specs.Writing.{WritesCard}
 use Rattle.writer_pool.specs.Working.{blob_in, leaf_in, own_events}
 use Rattle.writer_pool.specs.Ends.{ShowsEnd, AreBack, IsQuiet}
 use Rattle.writer_pool.specs.Sealing.{SealsIn, SealsOn, leaf_in_slot}
@@ -163,21 +164,48 @@ module _ {B L : Type 0} (see : Sight B L) where
         (entry_of (tell see) s.slots.items (Close p a o)).parts
 
   -- the claims before it in the history are those before it in the own list
-  own_book : (d : Plan B L) (s : Shelf B L) (mine : List Entry) (i p a : ℕ) (o : Own)
-      (c : OwnClose d s mine i p a o) → IsFromBook d.starts.items s.events.items i p a
-      → IsFromBook d.starts.items (own_events mine) c.at.place p a
-  own_book d s mine i p a o c from = ⊎_elim
-      (λ (pool : slice_get d.starts.items p ≡ Some Pool). inl pool)
-      (λ (claim : (j : ℕ) × (j < i) × (slice_get s.events.items j ≡ Some (Claim p a))).
-      let e = entry_at s.starts.value.items s.workers s.slots.items s.events.items claim.0 (Claim p a) claim.2 in
-      let k = c.at.before claim.0 (entry_of (tell see) s.slots.items (Claim p a)) claim.1 e in
-      inr (
+  claim_own : (d : Plan B L) (s : Shelf B L) (mine : List Entry) (i p a : ℕ) (o : Own) (c : OwnClose d s mine i p a o)
+      → (j : ℕ) → j < i → slice_get s.events.items j ≡ Some (Claim p a)
+      → (k : ℕ) × (k < c.at.place) × (slice_get (own_events mine) k ≡ Some (Claim p a))
+  claim_own d s mine i p a o c j lt claim =
+      let x = entry_of (tell see) s.slots.items (Claim p a) in
+      let e = entry_at s.starts.value.items s.workers s.slots.items s.events.items j (Claim p a) claim in
+      let k = c.at.before j x lt e in (
         k.0,
         k.1,
-        get_map (λ (x : Entry). x.event) mine k.0 (entry_of (tell see) s.slots.items (Claim p a))
-            (ap (λ (l : List Entry). slice_get l k.0) (sym c.is) ∙ k.2),
-      ))
+        get_map (λ (x : Entry). x.event) mine k.0 x (ap (λ (l : List Entry). slice_get l k.0) (sym c.is) ∙ k.2),
+      )
+
+  claim_back : (d : Plan B L) (s : Shelf B L) (mine : List Entry) (i p a : ℕ) (o : Own)
+      (c : OwnClose d s mine i p a o) → (k : ℕ) → k < c.at.place → slice_get (own_events mine) k ≡ Some (Claim p a)
+      → (j : ℕ) × (j < i) × (slice_get s.events.items j ≡ Some (Claim p a))
+  claim_back d s mine i p a o c k lt claim =
+      let x = get_map_back (λ (e : Entry). e.event) mine k (Claim p a) claim in
+      let j = c.at.back k x.0 lt (ap (λ (l : List Entry). slice_get l k) c.is ∙ x.1) in
+      let y = get_map_back (λ (e : Event).
+      (number_in s.starts.value.items s.workers e, entry_of (tell see) s.slots.items e)) s.events.items j.0
+      (a, x.0) j.2 in
+      (j.0, j.1, y.1 ∙ ap (λ (e : Event). Some e) (ap (λ (z : ℕ × Entry). z.1.event) y.2 ∙ x.2))
+
+  -- so a card was had from the book, or never left its desk, by both or by none
+  book_back : (d : Plan B L) (s : Shelf B L) (mine : List Entry) (i p a : ℕ) (o : Own)
+      (c : OwnClose d s mine i p a o) → IsFromBook d.starts.items (own_events mine) c.at.place p a
+      → IsFromBook d.starts.items s.events.items i p a
+  book_back d s mine i p a o c from = ⊎_elim
+      (λ (pool : slice_get d.starts.items p ≡ Some Pool). inl pool)
+      (λ (claim : (k : ℕ) × (k < c.at.place) × (slice_get (own_events mine) k ≡ Some (Claim p a))).
+      inr (claim_back d s mine i p a o c claim.0 claim.1 claim.2))
       from
+
+  desk_back : (d : Plan B L) (s : Shelf B L) (mine : List Entry) (i p a q : ℕ) (required : Bool) (o : Own)
+      (c : OwnClose d s mine i p a o) → IsFromDesk d.starts.items (own_events mine) c.at.place p a q required
+      → IsFromDesk d.starts.items s.events.items i p a q required
+  desk_back d s mine i p a q required o c from = record {
+    begun = from.begun;
+    unclaimed = λ j lt claim.
+        let k = claim_own d s mine i p a o c j lt claim in
+        from.unclaimed k.0 k.1 k.2;
+  }
 
   own_desk : (d : Plan B L) (s : Shelf B L) (mine : List Entry) (i p a q : ℕ) (required : Bool) (o : Own)
       (c : OwnClose d s mine i p a o) → IsFromDesk d.starts.items s.events.items i p a q required
@@ -185,13 +213,8 @@ module _ {B L : Type 0} (see : Sight B L) where
   own_desk d s mine i p a q required o c from = record {
     begun = from.begun;
     unclaimed = λ k lt claim.
-        let x = get_map_back (λ (e : Entry). e.event) mine k (Claim p a) claim in
-        let j = c.at.back k x.0 lt (ap (λ (l : List Entry). slice_get l k) c.is ∙ x.1) in
-        let y = get_map_back (λ (e : Event).
-        (number_in s.starts.value.items s.workers e, entry_of (tell see) s.slots.items e)) s.events.items j.0
-        (a, x.0) j.2 in
-        from.unclaimed j.0 j.1
-        (y.1 ∙ ap (λ (e : Event). Some e) (ap (λ (z : ℕ × Entry). z.1.event) y.2 ∙ x.2));
+        let j = claim_back d s mine i p a o c k lt claim in
+        from.unclaimed j.0 j.1 j.2;
   }
 
   -- the notes of a driver are those of its desk's own list
@@ -220,14 +243,21 @@ module _ {B L : Type 0} (see : Sight B L) where
         card = w.card;
         planned = w.planned;
         path = w.path;
-        ends = record {
-          wrote = λ from. ends.wrote (own_book d s mine i p a o c from);
-          served = λ q required from.
-              let own_from = own_desk d s mine i p a q required o c from in
-              let notes_are = mine_notes d s mine q a plan (w.desk q required own_from) c.is in
-              subst (λ (es : List Event). ServesCard required (fate_of p Untold es) (seen see w.card) o (see.blob b)
-              (see.leaf l)) notes_are (ends.served q required own_from);
-        };
+        ends = ⊎_elim
+            (λ (h : IsFromBook d.starts.items (own_events mine) c.at.place p a
+            × WritesCard (seen see w.card) o (see.blob b) (see.leaf l)).
+            inl (book_back d s mine i p a o c h.0, h.1))
+            (λ (h : EndsAtDesk d.starts.items (own_events mine) c.at.place p a o (seen see w.card) (see.blob b)
+            (see.leaf l)).
+            let notes_are = mine_notes d s mine h.driver a plan (w.desk h.driver h.required h.desk) c.is in
+            inr (record {
+              driver = h.driver;
+              required = h.required;
+              desk = desk_back d s mine i p a h.driver h.required o c h.desk;
+              serves = subst (λ (es : List Event). ServesCard h.required (fate_of p Untold es) (seen see w.card) o
+                  (see.blob b) (see.leaf l)) notes_are h.serves;
+            }))
+            ends;
       }
 
   -- an entry of the history, in its actor's own list

@@ -1,5 +1,5 @@
 -- How a desk's cards ended, by what their objects gave: in its own list, and in the history.
-use Rattle.std.proofs.Common.{◌≡◌, ℕ, zero, suc, ◌+◌, ◌-◌, ◌<◌, ◌≤◌, ⊎_elim, Bool, true, false, cond, List, [], ◌∷◌, ◌++◌, length, map, Option, Some, None, Result, Ok, Err, refl, sym, ap, ◌∙◌, subst, arith}
+use Rattle.std.proofs.Common.{◌≡◌, ℕ, zero, suc, ◌+◌, ◌-◌, ◌<◌, ◌≤◌, ⊎_elim, Bool, true, false, cond, List, [], ◌∷◌, ◌++◌, length, Option, Some, None, Result, Ok, Err, refl, sym, ap, ◌∙◌, subst, arith}
 use Rattle.std.specs.Prelude.{slice_get}
 use Rattle.atomic_table.specs.Seated.{TableId}
 use Rattle.turn_lock.specs.Seat.{SeatView, mine_of, number_of}
@@ -27,7 +27,7 @@ use Rattle.writer_pool.proofs.Places.{some_is, eqb_self, get_map, get_map_back, 
 use Rattle.writer_pool.proofs.WorkTurns.{turns_back}
 use Rattle.writer_pool.proofs.Resting.{TakesPath, ClosesPath}
 use Rattle.writer_pool.proofs.Rows.{BacksPath, KeepsPaths}
-use Rattle.writer_pool.proofs.Backs.{IsCloseOf, closed_by_desk}
+use Rattle.writer_pool.proofs.Backs.{closed_by_desk}
 use Rattle.writer_pool.proofs.Acting.{turn_claim}
 use Rattle.writer_pool.proofs.Recordings.{standing_is}
 use Rattle.writer_pool.proofs.DeskClosings.{closed_fits, back_fits}

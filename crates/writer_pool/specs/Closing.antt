@@ -49,11 +49,30 @@ abbrev pub ServesCard : Bool → Fate → CardSeen → Own → BlobSeen → Leaf
 ServesCard required told card o blob leaf = ShowsUnread card o (closed_card card blob leaf)
     ⊎ ((h : Heard) × (told ≡ Known h) × ShowsRead required h card o (closed_card card blob leaf))
 
--- How a card ended that was closed at this place of the history, by what is seen of its blob and its leaf. If its actor
--- had it from the book, the own outcome is how the writing ended. If it never left its desk, the own outcome is how
--- that served it, by what the driver's notes in the history tell of the path.
-pub record EndsCard (starts : List Start) (history : List Event) (place p actor : ℕ) (o : Own) (card : CardSeen)
+-- A card that never left its desk. The own outcome of its Close at this place of the history is how the desk served it,
+-- by what the driver's notes in the history tell of the path.
+pub record EndsAtDesk (starts : List Start) (history : List Event) (place p actor : ℕ) (o : Own) (card : CardSeen)
     (blob : BlobSeen) (leaf : LeafSeen) : Type 0 where
-  pub wrote : IsFromBook starts history place p actor → WritesCard card o blob leaf
-  pub served : (d : ℕ) (required : Bool) → IsFromDesk starts history place p actor d required
-      → ServesCard required (fate_of p Untold (notes starts d history)) card o blob leaf
+  pub driver : ℕ
+  pub required : Bool
+  pub desk : IsFromDesk starts history place p actor driver required
+  pub serves : ServesCard required (fate_of p Untold (notes starts driver history)) card o blob leaf
+
+-- How a card ended that was closed at this place of the history: its actor had it from the book, and the own outcome is
+-- how the writing ended, or it never left its desk.
+abbrev pub EndsCard : List Start → List Event → ℕ → ℕ → ℕ → Own → CardSeen → BlobSeen → LeafSeen → Type 0
+EndsCard starts history place p actor o card blob leaf =
+    (IsFromBook starts history place p actor × WritesCard card o blob leaf)
+    ⊎ EndsAtDesk starts history place p actor o card blob leaf
+
+-- a path that starts at a desk was refused by its driver, which isn't required
+abbrev pub MayLeaveDesk : List Start → List Event → ℕ → Type 0
+MayLeaveDesk starts history p = (d : ℕ) (required : Bool) → slice_get starts p ≡ Some (Desk d required)
+    → WasRefused starts history p d required
+
+-- How a card ended, by the whole history: it was written from the book, and a desk at which its path starts gave it up
+-- because the driver refused it; or it never left its desk.
+abbrev pub ClosesCard : List Start → List Event → ℕ → ℕ → ℕ → Own → CardSeen → BlobSeen → LeafSeen → Type 0
+ClosesCard starts history place p actor o card blob leaf =
+    (MayLeaveDesk starts history p × WritesCard card o blob leaf)
+    ⊎ EndsAtDesk starts history place p actor o card blob leaf

@@ -27,7 +27,7 @@ use Rattle.checkout_book.specs.Shelves.{cards_of, plan_of}
 use Rattle.checkout_book.specs.Ending.{GoesOn}
 use Rattle.checkout_book.specs.Turns.{NoneWaits}
 use Rattle.checkout_book.specs.Reserving.{HasNothing}
-use Rattle.writer_pool.specs.Closing.{IsFromBook, IsFromDesk, WasRefused, RefusedBacks, EndsCard}
+use Rattle.writer_pool.specs.Closing.{IsFromDesk, RefusedBacks, EndsCard, ClosesCard}
 use Rattle.writer_pool.specs.Working.{blob_in, leaf_in, own_events}
 
 -- the history is a complete run, with these verdicts
@@ -76,7 +76,7 @@ module _ {B L : Type 0} (see : Sight B L) where
   AreBack lock d k made (s ∷ ss) = IsBack lock d k made s × AreBack lock d (suc k) 0 ss
 
   -- The blob and the leaf are those of the card. The history has the Close of its path, and what is seen of them shows
-  -- how the card ended. If the path starts at a desk, an actor had its card from the book only after it was refused.
+  -- how the card ended.
   pub record IsClosedSo (starts : List Start) (history : List Event) (card : Card B L) (blob : B) (leaf : L)
       : Type 0 where
     pub actor : ℕ
@@ -87,9 +87,7 @@ module _ {B L : Type 0} (see : Sight B L) where
     pub told : see.told blob ≡ see.told card.blob
     pub name : (see.blob blob).name ≡ (see.blob card.blob).name
     pub path : (see.leaf leaf).path ≡ (see.leaf card.leaf).path
-    pub ends : EndsCard starts history place card.path actor own (seen see card) (see.blob blob) (see.leaf leaf)
-    pub refused : (d : ℕ) (required : Bool) → slice_get starts card.path ≡ Some (Desk d required)
-        → IsFromBook starts history place card.path actor → WasRefused starts history card.path d required
+    pub ends : ClosesCard starts history place card.path actor own (seen see card) (see.blob blob) (see.leaf leaf)
 
   module _ (starts : List Start) (history : List Event) (cards : List (Card B L)) where
     -- the blob and the leaf of the card of the path p
