@@ -1,5 +1,5 @@
 -- What all actors did.
-use Rattle.std.proofs.Common.{◌≡◌, ℕ, zero, suc, ◌+◌, ◌<◌, List, [], ◌∷◌, ◌++◌, length, map, true, Bool, Option, Some, None, inl, inr, refl, sym, ap, ◌∙◌, subst, arith}
+use Rattle.std.proofs.Common.{◌≡◌, ℕ, zero, suc, ◌+◌, ◌<◌, List, [], ◌∷◌, ◌++◌, length, map, Bool, Option, Some, None, inl, inr, refl, sym, ap, ◌∙◌, subst, arith}
 use Rattle.std.specs.Prelude.{slice_get, Result, Ok, Err, IfOk}
 use Rattle.atomic_table.specs.Seated.{TableId}
 use Rattle.turn_lock.specs.Seat.{SeatView, mine_of}
@@ -12,7 +12,6 @@ use Rattle.checkout_core.specs.declared.verdict.Own.{Own}
 use Rattle.checkout_core.specs.declared.path.Start.{Start}
 use Rattle.checkout_core.specs.declared.path.Start.TheVariants.{Desk}
 use Rattle.checkout_core.specs.Desks.{paths_of}
-use Rattle.checkout_core.specs.Talks.{contains}
 use Rattle.checkout_core.specs.Notes.{noted, notes}
 use Rattle.checkout_book.specs.declared.plan.Plan.{Plan}
 use Rattle.checkout_book.specs.declared.plan.Parts.{Parts}
@@ -232,15 +231,14 @@ module _ {S B L : Type 0} (starter : S → StarterSeen) (see : Sight B L) where
         → slice_get starts w.card.path ≡ Some (Desk q required) → IsTiedAt history w
 
   -- the path of a work is one of the seed's driver
-  seed_path : (starts : List Start) (q : ℕ) (x : DeskSeed S B L) → IsSeed starter starts q x → (works : List WorkSeen)
-      → map (λ c. seen see c) x.cards.items ≡ cards_in works → (k : ℕ) (w : WorkSeen) → slice_get works k ≡ Some w
-      → contains w.card.path (paths_of q starts) ≡ true
+  pub seed_path : (starts : List Start) (q : ℕ) (x : DeskSeed S B L) → IsSeed starter starts q x
+      → (works : List WorkSeen) → map (λ c. seen see c) x.cards.items ≡ cards_in works → (k : ℕ) (w : WorkSeen)
+      → slice_get works k ≡ Some w → slice_get (paths_of q starts) k ≡ Some w.card.path
   seed_path starts q x seed works cards k w at =
       let c = get_map_back (λ (c : Card B L). seen see c) x.cards.items k w.card
       (ap (λ (l : List CardSeen). slice_get l k) cards ∙ card_there works k w at) in
-      contains_at (paths_of q starts) k w.card.path
-      (ap (λ (l : List ℕ). slice_get l k) (sym seed.paths)
-      ∙ (get_map (λ (c : Card B L). c.path) x.cards.items k c.0 c.1 ∙ ap (λ (y : CardSeen). Some y.path) c.2))
+      ap (λ (l : List ℕ). slice_get l k) (sym seed.paths)
+      ∙ (get_map (λ (c : Card B L). c.path) x.cards.items k c.0 c.1 ∙ ap (λ (y : CardSeen). Some y.path) c.2)
 
   -- and has talked so
   desks_back : (lock : TableId) (d : Plan B L) (k made workers q : ℕ) (xs : List (DeskSeed S B L))
@@ -282,7 +280,8 @@ module _ {S B L : Type 0} (starter : S → StarterSeen) (see : Sight B L) where
               (noted (own_events (mine_of t.pass))) (notes starts q history) (SealsIn (mine_of t.pass))
               (SealsAt see starts history (leaf_at starts leaves) q) (sym own.notes_are) own.seals (l.talked paths fit);
           tied = λ i w at. own.tied w x.required (l.tied i w at)
-              (seeds.0.desk w.card.path (seed_path starts q x seeds.0 l.works l.cards i w at));
+              (seeds.0.desk w.card.path (contains_at (paths_of q starts) i w.card.path
+              (seed_path starts q x seeds.0 l.works l.cards i w at)));
         },
         more,
       )

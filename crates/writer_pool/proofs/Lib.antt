@@ -11,6 +11,7 @@ pub mod Verdicts
 pub mod Quieting
 pub mod Outcomes
 pub mod PathLeaves
+pub mod OverWorks
 pub mod Dealing
 pub mod Noting
 pub mod Recordings

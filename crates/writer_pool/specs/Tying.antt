@@ -1,5 +1,5 @@
 -- How a desk's cards ended, by what their objects gave.
-use Rattle.std.specs.Prelude.{◌≡◌, ◌<◌, ℕ, List, Some, slice_get}
+use Rattle.std.specs.Prelude.{◌≡◌, ◌==◌, ◌<◌, ℕ, Bool, true, false, cond, List, [], ◌∷◌, Some, slice_get, Result, Ok, Err}
 use Rattle.checkout_core.specs.declared.event.Event.{Event}
 use Rattle.checkout_core.specs.declared.event.Event.TheVariants.{Claim, Close, HandBack}
 use Rattle.checkout_core.specs.declared.verdict.Own.{Own}
@@ -25,3 +25,17 @@ IsTiedAt history w = (place actor : ℕ) (own : Own) → slice_get history place
 -- and so was the path of each work
 abbrev pub AreTiedAt : List Event → List WorkSeen → Type 0
 AreTiedAt history works = (k : ℕ) (w : WorkSeen) → slice_get works k ≡ Some w → IsTiedAt history w
+
+-- whether a work's object gave a content
+abbrev pub has_content : Result (List ℕ) Own → Bool
+has_content (Ok content) = true
+has_content (Err own) = false
+
+abbrev pub content_or_none : Result (List ℕ) Own → List ℕ
+content_or_none (Ok content) = content
+content_or_none (Err own) = []
+
+-- the content of the first work of this path
+abbrev pub content_in : List WorkSeen → ℕ → List ℕ
+content_in [] p = []
+content_in (w ∷ ws) p = cond (w.card.path == p) (content_or_none w.content) (content_in ws p)
