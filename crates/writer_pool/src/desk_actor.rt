@@ -57,7 +57,7 @@ pub(crate) fn serve_desk<S: Starter, B: Blob, L: Leaf, G: Gate, H: Wait>(
         (given_of (sight B.told B.seen L.seen) (record { pass = result.pass; required = required })))
         × AreTied works (given_of (sight B.told B.seen L.seen) (record { pass = result.pass; required = required })) }
 {
-    let mut recorder = OnBook::begin(rt, book, pass, required);
+    let mut recorder = OnBook::begin(rt, gate, book, pass, required);
     let served = desk.serve(&mut recorder, gate);
     DeskEnd {
         pass: recorder.end(),

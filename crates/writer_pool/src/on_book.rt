@@ -15,19 +15,21 @@ use checkout_core::{Event, Own};
 use convert_plan::Card;
 use core_laws::laws;
 use driver_desk::Recorder;
-use edge_kit::{Blob, Leaf};
+use edge_kit::{Blob, Gate, Leaf, Point};
 use std::marker::Model;
 use std::sync::Wait;
 
-/// What a desk tells and gives goes into the book, under its pass.
-pub(crate) struct OnBook<'a, B: Blob, L: Leaf, H: Wait> {
+/// What a desk tells and gives goes into the book, under its pass. The gate is called outside the lock, after a card was
+/// closed.
+pub(crate) struct OnBook<'a, B: Blob, L: Leaf, G: Gate, H: Wait> {
     rt: &'a H,
+    gate: &'a G,
     book: &'a Book<B, L>,
     pass: Pass<B, L>,
     required: bool,
 }
 
-impl<'a, B: Blob, L: Leaf, H: Wait> Model for OnBook<'a, B, L, H> {
+impl<'a, B: Blob, L: Leaf, G: Gate, H: Wait> Model for OnBook<'a, B, L, G, H> {
     ghost use Rattle.writer_pool.specs.OnBook.{Recording, IsDeskPass};
 
     ghost Value = { Recording B L };
@@ -37,19 +39,21 @@ impl<'a, B: Blob, L: Leaf, H: Wait> Model for OnBook<'a, B, L, H> {
     ghost invariant = { λ s. IsDeskPass s.book.now s.pass };
 }
 
-impl<'a, B: Blob, L: Leaf, H: Wait> OnBook<'a, B, L, H> {
+impl<'a, B: Blob, L: Leaf, G: Gate, H: Wait> OnBook<'a, B, L, G, H> {
     /// The recorder of a desk's pass. `required` says whether its driver is required.
     pub fn begin(
         rt: &'a H,
+        gate: &'a G,
         book: &'a Book<B, L>,
         pass: Pass<B, L>,
         required: bool,
-    ) -> OnBook<'a, B, L, H>
+    ) -> OnBook<'a, B, L, G, H>
         requires { IsDeskPass book.now pass }
         ensures { result ≡ record { pass = pass; required = required } }
     {
         OnBook {
             rt,
+            gate,
             book,
             pass,
             required,
@@ -63,6 +67,7 @@ impl<'a, B: Blob, L: Leaf, H: Wait> OnBook<'a, B, L, H> {
     {
         let OnBook {
             rt: _rt,
+            gate: _gate,
             book: _book,
             pass,
             required: _required,
@@ -71,7 +76,7 @@ impl<'a, B: Blob, L: Leaf, H: Wait> OnBook<'a, B, L, H> {
     }
 }
 
-impl<'a, B: Blob, L: Leaf, H: Wait> Recorder<B, L> for OnBook<'a, B, L, H> {
+impl<'a, B: Blob, L: Leaf, G: Gate, H: Wait> Recorder<B, L> for OnBook<'a, B, L, G, H> {
     ghost standing = { λ s. standing_of (sight B.told B.seen L.seen) s };
 
     ghost given = { λ s. given_of (sight B.told B.seen L.seen) s };
@@ -103,7 +108,9 @@ impl<'a, B: Blob, L: Leaf, H: Wait> Recorder<B, L> for OnBook<'a, B, L, H> {
     {
         laws::what_may_follow_is_a_step();
         a_pass_lists_its_own_entries::<B, L>();
+        let path = card.path;
         book::close(self.rt, self.book, &mut self.pass, card, own);
+        self.gate.at(self.pass.number(), path, Point::Closed);
     }
 
     fn hand_back(&mut self, card: Card<B, L>)
