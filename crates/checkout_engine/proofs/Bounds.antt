@@ -209,7 +209,7 @@ first_few c (e ∷ es) = by (bytes_eq e.path c) (first_few c es) (first_few e.pa
     by true first second = omega (arith, first)
     by false first second = omega (arith, second)
 
--- the plan of an entry starts in the pool only if its path is text
+-- the plan of an entry leaves it open only if its path is text
 abbrev IsPlannedText : PathPlan → Type 0
 IsPlannedText p = IsTextIn p.start p.path
 
@@ -219,7 +219,7 @@ long_text path long text = record { text = text; some = long.0; within = long.1 
 converted_text : (e : Entry) (begin : Start) (c : Result Conversion UnknownEncoding) → IsLong e.path → IsUtf8 e.path → IsPlannedText (converted e begin c)
 converted_text e (start.Done v) (Ok c) long text = tt
 converted_text e start.Pool (Ok c) long text = long_text e.path long text
-converted_text e (start.Desk place required) (Ok c) long text = tt
+converted_text e (start.Desk place required) (Ok c) long text = long_text e.path long text
 converted_text e (start.Done v) (Err u) long text = tt
 converted_text e start.Pool (Err u) long text = tt
 converted_text e (start.Desk place required) (Err u) long text = tt
@@ -244,7 +244,7 @@ asked_text files settings e long = by (e.stage == 0)
 among_text : (asked : List PathPlan) (path : List ℕ) (s : Start) → IsTextIn s path → IsTextIn (start_among asked s) path
 among_text asked path (start.Done v) text = tt
 among_text asked path start.Pool text = text
-among_text asked path (start.Desk place required) text = tt
+among_text asked path (start.Desk place required) text = text
 
 all_text : (files : AttrFiles) (settings : Settings) (asked : List PathPlan) (es : List Entry) → AllByRecursion (λ e. IsLong e.path) es
     → AreTexts (map (path_among asked) (map (asked_path files settings) es))

@@ -1,5 +1,5 @@
 -- Files join in the order of the paths, each after the others.
-use Rattle.std.proofs.Common.{◌≡◌, ◌⊎◌, ℕ, Bool, true, false, if◌then◌else◌, Ordering, Less, Equal, Greater, List, [], ◌∷◌, ◌++◌, map, ◌==◌, Option, Some, None, Result, Ok, Err, refl, sym, ap, subst, ◌∙◌, append_assoc, append-nil, inl, inr}
+use Rattle.std.proofs.Common.{◌≡◌, ◌⊎◌, ℕ, suc, Bool, true, false, if◌then◌else◌, Ordering, Less, Equal, Greater, List, [], ◌∷◌, ◌++◌, map, ◌==◌, Option, Some, None, Result, Ok, Err, refl, sym, ap, subst, ◌∙◌, append_assoc, append-nil, inl, inr}
 use Rattle.std.specs.List.{list_all, AllByRecursion}
 use Rattle.std.specs.Ordering.{nat_cmp, is_lt, ordering_reverse}
 use Rattle.std.specs.Cmp.Lexicographic.{slice_cmp}
@@ -33,8 +33,9 @@ use Rattle.checkout_plan.specs.AttributeFiles.{attribute_files}
 use Rattle.checkout_plan.specs.Paths.{no_conversion, path_with, closed, converted, file_path, text_path, link_path, path_of_mode, asked_path, first_entries_after, first_entries, asked_paths, path_among, plan_of}
 use Rattle.convert_plan.specs.Prepared.{prepared}
 use Rattle.checkout_engine.specs.Ends.{files_of}
-use Rattle.checkout_engine.specs.Outcome.{Outcome, MayLeavePart, LeavesPart, HasVerdict, HasOutcome}
-use Rattle.checkout_engine.specs.Writing.{joined, AreOutcomes, all_joined}
+use Rattle.checkout_engine.specs.Outcome.{Outcome, MayLeavePart, LeavesPart, LeavesFile, HasVerdict, HasDeskVerdict, HasOutcome, AreOutcomes}
+use Rattle.checkout_engine.specs.Talks.{DriverTalk}
+use Rattle.checkout_engine.specs.Writing.{joined, all_joined}
 
 abbrev pub precedes : PathPlan → PathPlan → Bool
 precedes p q = is_before p.path q.path
@@ -203,8 +204,8 @@ part_is p content Broken file part = absurd part
 
 file_has : (told : Told) (p : PathPlan) (o : Outcome) (v : Verdict) → HasVerdict told p o v → IsAt p.path o.file
 file_has told p o (verdict.Skipped cause) has = absurd has
-file_has told p o (verdict.Failed fail.NameNotText) has = subst (λ (x : Option TreeFile). IsAt p.path x) (sym has.1.file) tt
-file_has told p o verdict.NoMemory has = subst (λ (x : Option TreeFile). IsAt p.path x) (sym has.1.file) tt
+file_has told p o (verdict.Failed fail.NameNotText) has = absurd has
+file_has told p o verdict.NoMemory has = subst (λ (x : Option TreeFile). IsAt p.path x) (sym has.2) tt
 file_has told p o (verdict.Failed fail.ReadFailed) has = subst (λ (x : Option TreeFile). IsAt p.path x) (sym has.3) tt
 file_has told p o (verdict.Failed (fail.Object k)) has = subst (λ (x : Option TreeFile). IsAt p.path x) (sym has.3) tt
 file_has told p o (verdict.Failed fail.WriteFailed) (opened, (content, gives, (state, count, failed, counts, part))) = part_is p (prepared p.conversion p.object content).bytes state o.file part
@@ -215,10 +216,37 @@ file_has told p o (verdict.Failed fail.Missing) has = absurd has
 file_has told p o (verdict.Failed fail.NoProcess) has = absurd has
 file_has told p o (verdict.Failed fail.UnknownEncoding) has = absurd has
 
-file_is : (told : Told) (p : PathPlan) (o : Outcome) (s : Start) → HasOutcome s told p o → IsAt p.path o.file
-file_is told p o (start.Done v) has = subst (λ (x : Option TreeFile). IsAt p.path x) (sym has.1.file) tt
-file_is told p o start.Pool has = file_has told p o o.verdict has
-file_is told p o (start.Desk driver required) has = absurd has
+no_file_at : (p : PathPlan) (file : Option TreeFile) → file ≡ None → IsAt p.path file
+no_file_at p file none = subst (λ (x : Option TreeFile). IsAt p.path x) (sym none) tt
+
+-- the same of a leaf that a desk gave up
+left_at : (p : PathPlan) (state : LeafState) (file : Option TreeFile) → LeavesFile p.path state file → IsAt p.path file
+left_at p Fresh file left = no_file_at p file left
+left_at p Gone file left = no_file_at p file left
+left_at p Stuck None left = tt
+left_at p Stuck (Some f) left = left
+left_at p Partly file left = absurd left
+left_at p (Sealed mark) file left = absurd left
+left_at p Broken file left = absurd left
+
+desk_file : (required : Bool) (d : ℕ) (t : DriverTalk) (n : ℕ) (told : Told) (p : PathPlan) (o : Outcome) (v : Verdict) → HasDeskVerdict required d t n told p o v → IsAt p.path o.file
+desk_file required d t n told p o verdict.NoMemory (state, count, counts, left) = left_at p state o.file left
+desk_file required d t n told p o (verdict.Failed fail.ReadFailed) has = no_file_at p o.file has.2
+desk_file required d t n told p o (verdict.Failed (fail.Object k)) has = no_file_at p o.file has.2
+desk_file required d t n told p o (verdict.Failed fail.WriteFailed) (heard, state, count, failed, begun, counts, left) = left_at p state o.file left
+desk_file required d t n told p o (verdict.Failed fail.Missing) has = no_file_at p o.file has.2
+desk_file required d t n told p o (verdict.Failed (fail.Filter cause)) has = no_file_at p o.file has.3
+desk_file required d t n told p o (verdict.Unfiltered cause unencoded) (free, heard, counts, ready, prepared, flag, file) = subst (λ (x : Option TreeFile). IsAt p.path x) (sym file) refl
+desk_file required d t n told p o (verdict.Written unencoded) (heard, counts, ready, prepared, flag, answer, gave, file) = subst (λ (x : Option TreeFile). IsAt p.path x) (sym file) refl
+desk_file required d t n told p o (verdict.Skipped cause) has = absurd has
+desk_file required d t n told p o (verdict.Failed fail.NameNotText) has = absurd has
+desk_file required d t n told p o (verdict.Failed fail.NoProcess) has = absurd has
+desk_file required d t n told p o (verdict.Failed fail.UnknownEncoding) has = absurd has
+
+file_is : (object : List ℕ → Told) (talks : List DriverTalk) (n : ℕ) (p : PathPlan) (o : Outcome) (s : Start) → HasOutcome object talks s n p o → IsAt p.path o.file
+file_is object talks n p o (start.Done v) has = no_file_at p o.file has.1.file
+file_is object talks n p o start.Pool has = file_has (object p.object) p o o.verdict has
+file_is object talks n p o (start.Desk d required) (text, t, there, has) = desk_file required d t n (object p.object) p o o.verdict has
 
 abbrev with_part : Option TreeFile → List TreeFile → List TreeFile
 with_part None fs = fs
@@ -230,22 +258,22 @@ files_of-cons o os = elim o.file as (λ file. o.file ≡ file → files_of (o �
   | Some f ↦ λ is. rw is refl
 ] refl
 
-joined_in_order : (object : List ℕ → Told) (ps : List PathPlan) (os : List Outcome) (fs : List TreeFile) → pairwise precedes ps ≡ true → AreOutcomes object ps os → AllFollow fs ps
+joined_in_order : (object : List ℕ → Told) (talks : List DriverTalk) (n : ℕ) (ps : List PathPlan) (os : List Outcome) (fs : List TreeFile) → pairwise precedes ps ≡ true → AreOutcomes object talks n ps os → AllFollow fs ps
     → all_joined os fs ≡ fs ++ files_of os
-joined_in_order object [] [] fs rise fit all = sym (append-nil fs)
-joined_in_order object [] (o ∷ os) fs rise fit all = absurd fit
-joined_in_order object (p ∷ ps) [] fs rise fit all = absurd fit
-joined_in_order object (p ∷ ps) (o ∷ os) fs rise fit all =
+joined_in_order object talks n [] [] fs rise fit all = sym (append-nil fs)
+joined_in_order object talks n [] (o ∷ os) fs rise fit all = absurd fit
+joined_in_order object talks n (p ∷ ps) [] fs rise fit all = absurd fit
+joined_in_order object talks n (p ∷ ps) (o ∷ os) fs rise fit all =
     let parts = and_parts (list_all (precedes p) ps) (pairwise precedes ps) rise in
     let step : (file : Option TreeFile) → IsAt p.path file → all_joined os (joined file fs) ≡ fs ++ with_part file (files_of os) = λ file. elim file as (λ x. IsAt p.path x → all_joined os (joined x fs) ≡ fs ++ with_part x (files_of os)) [
-      | None ↦ λ part. joined_in_order object ps os fs parts.1 fit.1 (tails p fs ps all)
+      | None ↦ λ part. joined_in_order object talks (suc n) ps os fs parts.1 fit.1 (tails p fs ps all)
       | Some f ↦ λ part.
           ap (all_joined os) (with_file-last f fs (heads p f fs ps part all))
-          ∙ joined_in_order object ps os (fs ++ f ∷ []) parts.1 fit.1 (one_more fs f ps (tails p fs ps all) (follows p f ps part parts.0))
+          ∙ joined_in_order object talks (suc n) ps os (fs ++ f ∷ []) parts.1 fit.1 (one_more fs f ps (tails p fs ps all) (follows p f ps part parts.0))
           ∙ append_assoc fs (f ∷ []) (files_of os)
     ] in
-    step o.file (file_is (object p.object) p o p.start fit.0) ∙ ap (λ (gs : List TreeFile). fs ++ gs) (sym (files_of-cons o os))
+    step o.file (file_is object talks n p o p.start fit.0) ∙ ap (λ (gs : List TreeFile). fs ++ gs) (sym (files_of-cons o os))
 
 -- the files of outcomes, in the order of the paths, are what joins an empty worktree
-pub all_joined-files_of : (object : List ℕ → Told) (ps : List PathPlan) (os : List Outcome) → pairwise precedes ps ≡ true → AreOutcomes object ps os → all_joined os [] ≡ files_of os
-all_joined-files_of object ps os rise fit = joined_in_order object ps os [] rise fit tt
+pub all_joined-files_of : (object : List ℕ → Told) (talks : List DriverTalk) (n : ℕ) (ps : List PathPlan) (os : List Outcome) → pairwise precedes ps ≡ true → AreOutcomes object talks n ps os → all_joined os [] ≡ files_of os
+all_joined-files_of object talks n ps os rise fit = joined_in_order object talks n ps os [] rise fit tt

@@ -1,6 +1,5 @@
 -- Why a repository is refused, and what a failed read leaves.
-use Rattle.std.specs.Prelude.{◌≡◌, ◌⊎◌, ◌<◌, ◌++◌, ℕ, true, List, slice_get, Some}
-use Rattle.std.specs.List.{list_any}
+use Rattle.std.specs.Prelude.{◌≡◌, ◌⊎◌, ◌<◌, ◌++◌, ℕ, List, slice_get, Some}
 use Rattle.edge_kit.specs.Faults.{Rose}
 use Rattle.edge_kit.specs.Seen.{RepoSeen}
 use Rattle.edge_kit.specs.Told.{RepoTold, TellsNone, TellsLong, MayFail}
@@ -14,7 +13,7 @@ use Rattle.checkout_plan.specs.Making.{HasPlanFault, blobs_of, blobs_to, max_att
 use Rattle.checkout_engine.specs.declared.stop.Refusal.{Refusal}
 use Rattle.checkout_engine.specs.declared.stop.Refusal.TheVariants as refusal
 use Rattle.checkout_engine.specs.Sources.{HasIndex, HasIndexFault, HasSettings, HasConfigFault}
-use Rattle.checkout_engine.specs.Sources.{HasSettingFault, HasSources, IsPlanned, has_driver}
+use Rattle.checkout_engine.specs.Sources.{HasSettingFault, HasSources, IsPlanned}
 use Rattle.std.specs.Prelude.{sum_by}
 
 abbrev pub IsIndexRead : RepoTold → Type 0
@@ -59,12 +58,6 @@ IsCause told (refusal.AttributeTooLarge path) =
     IsFaultyFile told path (λ k. fault.AttributeTooLarge k)
 IsCause told (refusal.TooManyDrivers n) = IsFaulty told (fault.TooManyDrivers n)
 IsCause told refusal.Unbuilt = ⊥
-
--- the same for a checkout: a plan with a driver in use isn't carried out yet
-abbrev pub IsCheckoutCause : RepoTold → Refusal → Type 0
-IsCheckoutCause told refusal.Unbuilt =
-    (plan : Plan) × IsPlanned told plan × (list_any has_driver plan.paths ≡ true)
-IsCheckoutCause told r = IsCause told r
 
 -- the blobs that were made, those of attribute files, were given back
 pub record IsRepoBack (old new : RepoSeen) : Type 0 where

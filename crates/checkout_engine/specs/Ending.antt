@@ -1,9 +1,9 @@
 -- What the parts of a run promise each other about its end.
-use Rattle.std.specs.Prelude.{◌≡◌, ◌⊎◌, true, false, List}
+use Rattle.std.specs.Prelude.{◌≡◌, ◌⊎◌, true, false, List, length}
 use Rattle.std.specs.Prelude.{ℕ, Option, Some, None, Result, Ok, Err}
-use Rattle.std.specs.List.{list_any}
 use Rattle.edge_kit.specs.Faults.{Rose}
 use Rattle.edge_kit.specs.Seen.{RepoSeen, TreeSeen, SinkSeen}
+use Rattle.edge_kit.specs.Starters.{Starts}
 use Rattle.edge_kit.specs.declared.faults.SendFault.{SendFault}
 use Rattle.edge_kit.specs.declared.faults.SendFault.TheVariants as send
 use Rattle.edge_kit.specs.Told.{Told, RepoTold, Tells}
@@ -12,7 +12,6 @@ use Rattle.checkout_words.specs.declared.Command.{Command}
 use Rattle.checkout_words.specs.declared.Command.TheVariants as command
 use Rattle.checkout_plan.specs.declared.path_plan.PathPlan.{PathPlan}
 use Rattle.writer_pool.specs.Ends.{IsRun}
-use Rattle.checkout_engine.specs.Cards.{HasMade}
 use Rattle.checkout_engine.specs.Workers.{starts_of}
 use Rattle.checkout_engine.specs.Reading.{IsRead}
 use Rattle.checkout_engine.specs.declared.planning.Planned.{Planned}
@@ -20,8 +19,7 @@ use Rattle.checkout_engine.specs.declared.status.Status.{Status}
 use Rattle.checkout_engine.specs.declared.status.Status.TheVariants as status
 use Rattle.checkout_engine.specs.declared.stop.Stop.{Stop}
 use Rattle.checkout_engine.specs.declared.stop.Stop.TheVariants as stop
-use Rattle.checkout_engine.specs.Sources.{has_driver}
-use Rattle.checkout_engine.specs.Causes.{IsCheckoutCause, IsReadCause, IsRepoBack}
+use Rattle.checkout_engine.specs.Causes.{IsCause, IsReadCause, IsRepoBack}
 use Rattle.checkout_engine.specs.Causes.{IsRepoSteady}
 use Rattle.checkout_engine.specs.Ends.{Seen, IsCheckedOut, IsReported, IsRefused, IsCutOff}
 use Rattle.checkout_engine.specs.Ends.{IsOutOfMemory, IsReadFault, IsNotEmpty, verdicts_of}
@@ -29,6 +27,8 @@ use Rattle.checkout_engine.specs.Shown.{Refuses, EndsPlan, EndsUnbuilt}
 use Rattle.checkout_engine.specs.Output.{IsCut, with_text}
 use Rattle.checkout_engine.specs.Report.{report, status_of, lacks_memory}
 use Rattle.checkout_engine.specs.Writing.{ArePathsDone}
+use Rattle.checkout_engine.specs.Made.{BreaksOff}
+use Rattle.settings_view.specs.declared.view.Driver.{Driver}
 
 -- why a run stops at the worktree
 abbrev pub StopsTree : {T : Type 0} → TreeSeen → TreeSeen → Result T Stop → Type 0
@@ -43,7 +43,7 @@ abbrev pub StopsRun : RepoTold → TreeSeen → TreeSeen → RepoSeen → RepoSe
     → Type 0
 StopsRun told tree tree' old new (Ok r) =
     Tells tree.empty true × (tree'.faults ≡ tree.faults)
-    × IsRead told r old new × (list_any has_driver r.plan.paths ≡ false)
+    × IsRead told r old new
 StopsRun told tree tree' old new (Err stop.NotEmpty) =
     Tells tree.empty false × (tree'.faults ≡ tree.faults) × (new ≡ old)
 StopsRun told tree tree' old new (Err stop.ReadFault) =
@@ -51,7 +51,7 @@ StopsRun told tree tree' old new (Err stop.ReadFault) =
     ⊎ (Tells tree.empty true × (tree'.faults ≡ tree.faults) × IsReadCause told old new))
     × IsRepoBack old new
 StopsRun told tree tree' old new (Err (stop.Refused r)) =
-    Tells tree.empty true × IsCheckoutCause told r × (tree'.faults ≡ tree.faults)
+    Tells tree.empty true × IsCause told r × (tree'.faults ≡ tree.faults)
     × IsRepoSteady old new × IsRepoBack old new
 StopsRun told tree tree' old new (Err stop.NoMemory) =
     (tree'.faults ≡ tree.faults) × IsRepoSteady old new × IsRepoBack old new
@@ -76,14 +76,18 @@ Reports text verdicts old new status.OutOfMemory =
     IsCut text old new × (lacks_memory verdicts ≡ false → new.faults ≡ old.faults)
 Reports text verdicts old new s = ⊥
 
--- how the writing of open and closed paths ends, by so many workers, and that of their report
-abbrev pub ReportsPaths : (List ℕ → Told) → List PathPlan → ℕ → Seen → Seen → Status → Type 0
-ReportsPaths object paths workers old new s =
-    ((s ≡ status.OutOfMemory) × HasMade old.repo new.repo old.tree new.tree
+-- how the writing of open and closed paths ends, by so many workers and the desks of these drivers, and that of their
+-- report
+abbrev pub ReportsPaths : (List ℕ → Starts) → (List ℕ → Told) → List PathPlan → List Driver → ℕ → Seen → Seen → Status
+    → Type 0
+ReportsPaths ahead object paths drivers workers old new s =
+    ((s ≡ status.OutOfMemory)
+    × BreaksOff paths drivers old.repo new.repo old.tree new.tree old.spawner new.spawner
     × (new.sink ≡ old.sink) × (new.history ≡ old.history))
     ⊎ ((verdicts : List Verdict)
-    × ArePathsDone object paths verdicts old.repo new.repo old.tree new.tree
-    × IsRun (starts_of paths) workers 0 new.history verdicts
+    × ArePathsDone ahead object paths drivers verdicts new.history old.repo new.repo old.tree new.tree
+    old.spawner new.spawner
+    × IsRun (starts_of paths) workers (length drivers) new.history verdicts
     × Reports (report paths verdicts) verdicts old.sink new.sink s)
 
 -- the whole text was written, or some first part of it
@@ -101,21 +105,21 @@ ShowsLines text old new status.OutOfMemory =
 ShowsLines text old new s = ⊥
 
 -- a checkout that is done, with its report and its number
-abbrev pub IsDone : RepoTold → Option ℕ → Seen → Seen → ℕ → Type 0
-IsDone told asked old new number =
-    (c : IsCheckedOut told asked old new)
+abbrev pub IsDone : RepoTold → (List ℕ → Starts) → Option ℕ → Seen → Seen → ℕ → Type 0
+IsDone told ahead asked old new number =
+    (c : IsCheckedOut told ahead asked old new)
     × IsReported c.plan.paths (verdicts_of c.outcomes) old.sink new.sink number
 
 -- how a checkout ends, by its status
-abbrev pub EndsCheckout : RepoTold → Option ℕ → Seen → Seen → Status → Type 0
-EndsCheckout told asked old new status.Done = IsDone told asked old new 0
-EndsCheckout told asked old new status.DoneWithFailures = IsDone told asked old new 1
-EndsCheckout told asked old new status.Usage = ⊥
-EndsCheckout told asked old new status.Refused = IsRefused told old new
-EndsCheckout told asked old new status.OutputNotWritten = IsCutOff told asked old new
-EndsCheckout told asked old new status.OutOfMemory = IsOutOfMemory told asked old new
-EndsCheckout told asked old new status.ReadFault = IsReadFault told old new
-EndsCheckout told asked old new status.NotEmpty = IsNotEmpty old new
+abbrev pub EndsCheckout : RepoTold → (List ℕ → Starts) → Option ℕ → Seen → Seen → Status → Type 0
+EndsCheckout told ahead asked old new status.Done = IsDone told ahead asked old new 0
+EndsCheckout told ahead asked old new status.DoneWithFailures = IsDone told ahead asked old new 1
+EndsCheckout told ahead asked old new status.Usage = ⊥
+EndsCheckout told ahead asked old new status.Refused = IsRefused told old new
+EndsCheckout told ahead asked old new status.OutputNotWritten = IsCutOff told ahead asked old new
+EndsCheckout told ahead asked old new status.OutOfMemory = IsOutOfMemory told ahead asked old new
+EndsCheckout told ahead asked old new status.ReadFault = IsReadFault told old new
+EndsCheckout told ahead asked old new status.NotEmpty = IsNotEmpty old new
 
 -- how words end that are not a command: nothing at all was done
 pub record EndsUnasked (old new : Seen) (s : Status) : Type 0 where
@@ -123,8 +127,8 @@ pub record EndsUnasked (old new : Seen) (s : Status) : Type 0 where
   pub same : new ≡ old
 
 -- how a run ends with these words
-abbrev pub Ends : Option Command → RepoTold → Seen → Seen → Status → Type 0
-Ends None told old new s = EndsUnasked old new s
-Ends (Some (command.Checkout workers)) told old new s = EndsCheckout told workers old new s
-Ends (Some command.Plan) told old new s = EndsPlan told old new s
-Ends (Some (command.Rehearse seed paths)) told old new s = EndsUnbuilt old new s
+abbrev pub Ends : Option Command → RepoTold → (List ℕ → Starts) → Seen → Seen → Status → Type 0
+Ends None told ahead old new s = EndsUnasked old new s
+Ends (Some (command.Checkout workers)) told ahead old new s = EndsCheckout told ahead workers old new s
+Ends (Some command.Plan) told ahead old new s = EndsPlan told old new s
+Ends (Some (command.Rehearse seed paths)) told ahead old new s = EndsUnbuilt old new s

@@ -1,10 +1,11 @@
 -- How a run of the command ends, and what holds at each end.
-use Rattle.std.specs.Prelude.{◌≡◌, ◌≢◌, ◌⊎◌, ℕ, true, false, List, [], map, Option, Some, None}
+use Rattle.std.specs.Prelude.{◌≡◌, ◌≢◌, ◌⊎◌, ℕ, true, false, List, [], map, length, Option, Some, None}
 use Rattle.std.specs.Prelude.{string_bytes, String}
 use Rattle.std.specs.declared.alloc.Global.{Global}
-use Rattle.std.specs.List.{filter_map, AllZip}
+use Rattle.std.specs.List.{filter_map}
 use Rattle.edge_kit.specs.Faults.{Rose}
 use Rattle.edge_kit.specs.Seen.{RepoSeen, TreeSeen, SinkSeen}
+use Rattle.edge_kit.specs.Starters.{Starts, SpawnerSeen}
 use Rattle.edge_kit.specs.Told.{RepoTold, Tells}
 use Rattle.edge_kit.specs.declared.tree_file.TreeFile.{TreeFile}
 use Rattle.checkout_core.specs.declared.event.Event.{Event}
@@ -18,11 +19,12 @@ use Rattle.checkout_plan.specs.declared.path_plan.Plan.{Plan}
 use Rattle.checkout_plan.specs.Making.{blobs_of}
 use Rattle.checkout_engine.specs.declared.stop.Refusal.{Refusal}
 use Rattle.checkout_engine.specs.Sources.{IsPlanned}
-use Rattle.checkout_engine.specs.Causes.{IsCheckoutCause, IsReadCause, IsRepoBack, IsRepoSteady}
-use Rattle.checkout_engine.specs.Outcome.{Outcome, IsOutcome}
+use Rattle.checkout_engine.specs.Causes.{IsCause, IsReadCause, IsRepoBack, IsRepoSteady}
+use Rattle.checkout_engine.specs.Outcome.{Outcome, AreOutcomes}
+use Rattle.checkout_engine.specs.Talks.{DriverTalk, AreDriverTalks, with_talks}
+use Rattle.checkout_engine.specs.Made.{BreaksOff}
 use Rattle.checkout_engine.specs.Paths.{with_blobs, blobs_back, leaves_back, GotLeaves}
 use Rattle.checkout_engine.specs.Output.{IsCut, with_text}
-use Rattle.checkout_engine.specs.Cards.{HasMade}
 use Rattle.checkout_engine.specs.Workers.{starts_of, worker_count}
 use Rattle.checkout_engine.specs.Report.{status_of, lacks_memory, report, number_of}
 use Rattle.checkout_engine.specs.RefusalText.{refusal_line}
@@ -53,15 +55,17 @@ IsRehearsal c = ⊥
 pub record Seen : Type 0 where
   pub repo : RepoSeen
   pub tree : TreeSeen
+  pub spawner : SpawnerSeen
   pub sink : SinkSeen
   pub history : List Event
 
-abbrev pub seen : RepoSeen → TreeSeen → SinkSeen → List Event → Seen
-seen repo tree sink history = record { repo = repo; tree = tree; sink = sink; history = history }
+abbrev pub seen : RepoSeen → TreeSeen → SpawnerSeen → SinkSeen → List Event → Seen
+seen repo tree spawner sink history =
+    record { repo = repo; tree = tree; spawner = spawner; sink = sink; history = history }
 
 -- what is seen as a run begins: it empties the history first
-abbrev pub begun : RepoSeen → TreeSeen → SinkSeen → Seen
-begun repo tree sink = seen repo tree sink []
+abbrev pub begun : RepoSeen → TreeSeen → SpawnerSeen → SinkSeen → Seen
+begun repo tree spawner sink = seen repo tree spawner sink []
 
 abbrev pub verdicts_of : List Outcome → List Verdict
 verdicts_of outcomes = map (λ o. o.verdict) outcomes
@@ -71,22 +75,25 @@ abbrev pub files_of : List Outcome → List TreeFile
 files_of outcomes = filter_map (λ o. o.file) outcomes
 
 -- The worktree was empty. Each path of the plan has its outcome, and the worktree has the files of
--- the outcomes and no other. The blobs of the attribute files, none of which failed, and then the
--- blobs and the leaves of the paths were given back. The history is a complete run over the starts of
--- the plan, with the number of workers that the words and the settings give, and its verdicts are those of
--- the outcomes. No driver is in use.
-pub record IsCheckedOut (told : RepoTold) (asked : Option ℕ) (old new : Seen) : Type 0 where
+-- the outcomes and no other. The blobs of the attribute files, none of which failed, then the blobs and the leaves of the
+-- paths, and then the starters of the drivers were given back. There was a talk with each driver of the plan, which goes
+-- by what the spawner told ahead of its command. The history is a complete run over the starts of the plan, with its
+-- drivers and the number of workers that the words and the settings give, and its verdicts are those of the outcomes.
+pub record IsCheckedOut (told : RepoTold) (ahead : List ℕ → Starts) (asked : Option ℕ) (old new : Seen) : Type 0 where
   pub empty : Tells old.tree.empty true
   pub plan : Plan
   pub planned : IsPlanned told plan
+  pub talks : List DriverTalk
   pub outcomes : List Outcome
-  pub verdicts : AllZip (λ p o. IsOutcome (told.object p.object) p o) plan.paths outcomes
+  pub verdicts : AreOutcomes told.object talks 0 plan.paths outcomes
+  pub conversations : AreDriverTalks ahead told.object plan.paths (verdicts_of outcomes) new.history 0 plan.drivers talks
   pub files : Tells new.tree.files (files_of outcomes)
   pub blobs : new.repo ≡ with_blobs (with_blobs old.repo (blobs_of planned.entries))
       (blobs_back plan.paths outcomes)
   pub leaves : GotLeaves old.tree (leaves_back plan.paths outcomes) new.tree
-  pub run : IsRun (starts_of plan.paths) (worker_count asked planned.settings plan.paths) 0 new.history
-      (verdicts_of outcomes)
+  pub starters : new.spawner ≡ with_talks old.spawner talks
+  pub run : IsRun (starts_of plan.paths) (worker_count asked planned.settings plan.paths) (length plan.drivers)
+      new.history (verdicts_of outcomes)
 
 -- The report has a line for each path, in order, with its verdict, and the number is that of the
 -- verdicts: 0, or 1 if some path failed.
@@ -100,16 +107,17 @@ pub record IsSteady (old new : Seen) : Type 0 where
   pub repo : IsRepoSteady old.repo new.repo
   pub tree : new.tree.faults ≡ old.tree.faults
 
--- No leaf was made, no file was touched, and nothing is in the history.
+-- No leaf and no starter was made, no file was touched, and nothing is in the history.
 pub record IsUntouched (old new : Seen) : Type 0 where
   pub repo : IsRepoBack old.repo new.repo
   pub tree : new.tree ≡ record old.tree { faults = new.tree.faults }
+  pub spawner : new.spawner ≡ old.spawner
   pub history : new.history ≡ old.history
 
 -- The worktree was empty, and the repository is refused for this cause before a file is touched.
 pub record HasRefusal (told : RepoTold) (refusal : Refusal) (old new : Seen) : Type 0 where
   pub empty : Tells old.tree.empty true
-  pub cause : IsCheckoutCause told refusal
+  pub cause : IsCause told refusal
   pub untouched : IsUntouched old new
   pub steady : IsSteady old new
 
@@ -120,12 +128,12 @@ IsRefused told old new =
     × (new.sink ≡ with_text (refusal_line refusal) old.sink)
 
 -- 4: the sink failed, at the line of a refusal, or in the report of a checkout that is done.
-pub record IsCutOff (told : RepoTold) (asked : Option ℕ) (old new : Seen) : Type 0 where
+pub record IsCutOff (told : RepoTold) (ahead : List ℕ → Starts) (asked : Option ℕ) (old new : Seen) : Type 0 where
   pub failed : Rose old.sink.faults new.sink.faults
   pub cut :
       ((refusal : Refusal) × HasRefusal told refusal old new
       × IsCut (refusal_line refusal) old.sink new.sink)
-      ⊎ ((c : IsCheckedOut told asked old new) × (lacks_memory (verdicts_of c.outcomes) ≡ false)
+      ⊎ ((c : IsCheckedOut told ahead asked old new) × (lacks_memory (verdicts_of c.outcomes) ≡ false)
       × IsCut (report c.plan.paths (verdicts_of c.outcomes)) old.sink new.sink)
 
 -- nothing was touched, and nothing was written
@@ -135,26 +143,27 @@ pub record IsIdle (old new : Seen) : Type 0 where
 
 -- The checkout is done, and a first part of its report was written. If no path ran out of memory,
 -- the sink didn't fail.
-pub record IsReportCut (told : RepoTold) (asked : Option ℕ) (old new : Seen) : Type 0 where
-  pub checkout : IsCheckedOut told asked old new
+pub record IsReportCut (told : RepoTold) (ahead : List ℕ → Starts) (asked : Option ℕ) (old new : Seen) : Type 0 where
+  pub checkout : IsCheckedOut told ahead asked old new
   pub report : IsCut (report checkout.plan.paths (verdicts_of checkout.outcomes)) old.sink new.sink
   pub sink : lacks_memory (verdicts_of checkout.outcomes) ≡ false
       → new.sink.faults ≡ old.sink.faults
 
--- Memory ran out once the plan was read and before the paths were done. Blobs and leaves that were made are still out,
--- and nothing is reported.
+-- Memory ran out once the plan was read and before the paths were done, and nothing is reported. What was made is back,
+-- unused, or all of it is out.
 pub record IsBrokenOff (told : RepoTold) (old new : Seen) : Type 0 where
   pub empty : Tells old.tree.empty true
   pub plan : Plan
   pub planned : IsPlanned told plan
-  pub made : HasMade (with_blobs old.repo (blobs_of planned.entries)) new.repo old.tree new.tree
+  pub made : BreaksOff plan.paths plan.drivers (with_blobs old.repo (blobs_of planned.entries)) new.repo
+      old.tree new.tree old.spawner new.spawner
   pub silent : new.sink ≡ old.sink
   pub history : new.history ≡ old.history
 
 -- 5: memory ran out, before any file was touched, before the paths were done, or after that.
-abbrev pub IsOutOfMemory : RepoTold → Option ℕ → Seen → Seen → Type 0
-IsOutOfMemory told asked old new =
-    (IsIdle old new × IsSteady old new) ⊎ IsBrokenOff told old new ⊎ IsReportCut told asked old new
+abbrev pub IsOutOfMemory : RepoTold → (List ℕ → Starts) → Option ℕ → Seen → Seen → Type 0
+IsOutOfMemory told ahead asked old new =
+    (IsIdle old new × IsSteady old new) ⊎ IsBrokenOff told old new ⊎ IsReportCut told ahead asked old new
 
 -- 6: the worktree or a read of the repository failed, and nothing else, before a file was touched.
 pub record IsReadFault (told : RepoTold) (old new : Seen) : Type 0 where

@@ -1,25 +1,32 @@
 -- The headline: what a checkout that ends with 0 or 1 leaves, path by path.
-use Rattle.std.specs.Prelude.{◌≡◌, ◌⊎◌, ℕ, Bool, List, map, Option, Some, None, Ok, if◌then◌else◌}
-use Rattle.std.specs.List.{AllZip, filter_map, list_any}
-use Rattle.std.specs.Str.{IsUtf8}
+use Rattle.std.specs.Prelude.{◌≡◌, ℕ, suc, Bool, true, false, List, [], ◌∷◌, map, length, slice_get, Option, Some, None}
+use Rattle.std.specs.Prelude.{Ok, if◌then◌else◌}
+use Rattle.std.specs.List.{filter_map, list_any}
+use Rattle.edge_kit.specs.Starters.{Starts}
 use Rattle.edge_kit.specs.Told.{Told, RepoTold, MayFail, Tells}
 use Rattle.edge_kit.specs.declared.tree_file.TreeFile.{TreeFile}
 use Rattle.object_dir.specs.Object.{Gives}
-use Rattle.checkout_core.specs.declared.path.Start.TheVariants.{Done, Pool}
+use Rattle.checkout_core.specs.declared.path.Heard.TheVariants as heard
+use Rattle.checkout_core.specs.declared.path.Start.{Start}
+use Rattle.checkout_core.specs.declared.path.Start.TheVariants as start
 use Rattle.checkout_core.specs.declared.verdict.Verdict.{Verdict}
 use Rattle.checkout_core.specs.declared.verdict.Verdict.TheVariants as verdict
 use Rattle.checkout_core.specs.declared.verdict.FailCause.TheVariants as fail
 use Rattle.checkout_report.specs.Report.{is_failed}
 use Rattle.writer_pool.specs.Ends.{IsRun}
+use Rattle.tree_encoding.specs.declared.prepared.Prepared.{Prepared}
 use Rattle.convert_plan.specs.Prepared.{prepared}
 use Rattle.checkout_plan.specs.declared.path_plan.PathPlan.{PathPlan}
 use Rattle.checkout_plan.specs.declared.path_plan.Plan.{Plan}
 use Rattle.checkout_plan.specs.Making.{FitsKind}
+use Rattle.checkout_plan.specs.Paths.{HasCause}
 use Rattle.checkout_engine.specs.Ends.{Seen}
-use Rattle.checkout_engine.specs.Outcome.{MayLeavePart}
+use Rattle.checkout_engine.specs.Outcome.{MayLeavePart, MayLeaveFile, file_with}
 use Rattle.checkout_engine.specs.Output.{with_text}
+use Rattle.checkout_engine.specs.Prepared.{IsPreparedTo}
 use Rattle.checkout_engine.specs.Report.{report}
 use Rattle.checkout_engine.specs.Sources.{IsPlanned}
+use Rattle.checkout_engine.specs.Talks.{DriverTalk, heard_at, Gave, AreDriverTalks, with_talks}
 use Rattle.checkout_engine.specs.Workers.{starts_of, worker_count}
 
 -- The file of a written path: its object's content, converted, with its mark. `unencoded` says that
@@ -32,37 +39,70 @@ pub record IsConverted (told : Told) (p : PathPlan) (unencoded : Bool) (f : Tree
   pub bytes : f.bytes ≡ (prepared p.conversion p.object content).bytes
   pub flag : unencoded ≡ (prepared p.conversion p.object content).unencoded
 
--- A path, its verdict with its cause, and its file. If a file could neither be written nor removed,
--- a first part of it may remain. Any other verdict is the plan's.
-abbrev pub EndsWith : Told → PathPlan → Verdict → Option TreeFile → Type 0
-EndsWith told p (verdict.Written unencoded) file =
-    (p.start ≡ Pool) × (f : TreeFile) × IsConverted told p unencoded f × (file ≡ Some f)
-EndsWith told p (verdict.Failed fail.ReadFailed) file =
-    (p.start ≡ Pool) × MayFail told × (file ≡ None)
-EndsWith told p (verdict.Failed (fail.Object kind)) file =
-    (p.start ≡ Pool) × FitsKind told p.object kind × (file ≡ None)
-EndsWith told p (verdict.Failed fail.WriteFailed) file =
-    (p.start ≡ Pool) × (content : List ℕ) × Gives told p.object (Ok content)
+-- A path of the pool, its verdict with its cause, and its file. If a file could neither be written nor removed, a first
+-- part of it may remain: which of these a leaf was, its state tells, in the list of what was given back.
+abbrev pub EndsInPool : Told → PathPlan → Verdict → Option TreeFile → Type 0
+EndsInPool told p (verdict.Written unencoded) file =
+    (f : TreeFile) × IsConverted told p unencoded f × (file ≡ Some f)
+EndsInPool told p (verdict.Failed fail.ReadFailed) file = MayFail told × (file ≡ None)
+EndsInPool told p (verdict.Failed (fail.Object kind)) file = FitsKind told p.object kind × (file ≡ None)
+EndsInPool told p (verdict.Failed fail.WriteFailed) file = (content : List ℕ) × Gives told p.object (Ok content)
     × MayLeavePart p.path (prepared p.conversion p.object content).bytes file
-EndsWith told p (verdict.Failed fail.NameNotText) file =
-    ((¬ (IsUtf8 p.path)) ⊎ (p.start ≡ Done (verdict.Failed fail.NameNotText))) × (file ≡ None)
-EndsWith told p (verdict.Unfiltered cause unencoded) file = ⊥
-EndsWith told p verdict.NoMemory file = ⊥
-EndsWith told p v file = (p.start ≡ Done v) × (file ≡ None)
+EndsInPool told p v file = ⊥
+
+-- The path n of the driver d, by what it heard in the talk with the driver. A refusal fails the path of a required
+-- driver, and leaves that of another one as its object's content, converted.
+module _ (required : Bool) (d : ℕ) (t : DriverTalk) (n : ℕ) where
+  abbrev pub EndsAtDesk : Told → PathPlan → Verdict → Option TreeFile → Type 0
+  EndsAtDesk told p (verdict.Written unencoded) file = (heard_at d t n ≡ Some heard.Got)
+      × (ready : Prepared) × IsPreparedTo told p ready × (unencoded ≡ ready.unencoded)
+      × (answer : List ℕ) × Gave t n answer × (file ≡ Some (file_with p answer))
+  EndsAtDesk told p (verdict.Unfiltered why unencoded) file = (required ≡ false)
+      × (heard_at d t n ≡ Some (heard.Refused why)) × (f : TreeFile) × IsConverted told p unencoded f × (file ≡ Some f)
+  EndsAtDesk told p (verdict.Failed (fail.Filter why)) file =
+      (required ≡ true) × (heard_at d t n ≡ Some (heard.Refused why)) × (file ≡ None)
+  EndsAtDesk told p (verdict.Failed fail.Missing) file = (heard_at d t n ≡ Some heard.Lost) × (file ≡ None)
+  EndsAtDesk told p (verdict.Failed fail.WriteFailed) file = MayLeaveFile p.path file
+  EndsAtDesk told p (verdict.Failed fail.ReadFailed) file = MayFail told × (file ≡ None)
+  EndsAtDesk told p (verdict.Failed (fail.Object kind)) file = FitsKind told p.object kind × (file ≡ None)
+  EndsAtDesk told p v file = ⊥
+
+module _ (object : List ℕ → Told) (talks : List DriverTalk) where
+  -- the path n, its verdict with its cause, and its file; a path that the plan closes keeps the plan's verdict
+  abbrev pub EndsWith : Start → ℕ → PathPlan → Verdict → Option TreeFile → Type 0
+  EndsWith (start.Done w) n p v file = (v ≡ w) × HasCause (start.Done w) × (file ≡ None)
+  EndsWith start.Pool n p v file = EndsInPool (object p.object) p v file
+  EndsWith (start.Desk d required) n p v file = (t : DriverTalk) × (slice_get talks d ≡ Some t)
+      × EndsAtDesk required d t n (object p.object) p v file
+
+  -- the paths from n on end so
+  abbrev pub AllEnd : ℕ → List PathPlan → List (Verdict × Option TreeFile) → Type 0
+  AllEnd n [] [] = Unit {0}
+  AllEnd n (p ∷ ps) (e ∷ es) = EndsWith p.start n p e.0 e.1 × AllEnd (suc n) ps es
+  AllEnd n [] (e ∷ es) = ⊥
+  AllEnd n (p ∷ ps) [] = ⊥
+
+abbrev pub verdicts_in : List (Verdict × Option TreeFile) → List Verdict
+verdicts_in ends = map (λ end. end.0) ends
 
 -- Each path of the repository's plan ended, the worktree has the files of these ends, in their order, and no other, and
--- the report has a line for each path, in order, with its verdict. The number is 1 if some path failed. As many blobs
--- and leaves are out as before. The history is a complete run over the starts of the plan, with these verdicts, by the
--- number of workers that the words and the settings give.
-pub record IsHeadline (told : RepoTold) (asked : Option ℕ) (old new : Seen) (number : ℕ) : Type 0 where
+-- the report has a line for each path, in order, with its verdict. The number is 1 if some path failed. As many blobs,
+-- leaves and starters are out as before. There was a talk with each driver of the plan and with no other, which goes by
+-- what the spawner told ahead of its command. The history is a complete run over the starts of the plan, with these
+-- verdicts, by its drivers and the number of workers that the words and the settings give.
+pub record IsHeadline (told : RepoTold) (ahead : List ℕ → Starts) (asked : Option ℕ) (old new : Seen) (number : ℕ)
+    : Type 0 where
   pub plan : Plan
   pub planned : IsPlanned told plan
+  pub talks : List DriverTalk
   pub ends : List (Verdict × Option TreeFile)
-  pub verdicts : AllZip (λ p end. EndsWith (told.object p.object) p end.0 end.1) plan.paths ends
+  pub verdicts : AllEnd told.object talks 0 plan.paths ends
+  pub conversations : AreDriverTalks ahead told.object plan.paths (verdicts_in ends) new.history 0 plan.drivers talks
   pub files : Tells new.tree.files (filter_map (λ end. end.1) ends)
-  pub report : new.sink ≡ with_text (report plan.paths (map (λ end. end.0) ends)) old.sink
-  pub status : number ≡ (if list_any is_failed (map (λ end. end.0) ends) then 1 else 0)
+  pub report : new.sink ≡ with_text (report plan.paths (verdicts_in ends)) old.sink
+  pub status : number ≡ (if list_any is_failed (verdicts_in ends) then 1 else 0)
   pub blobs : new.repo.out ≡ old.repo.out
   pub leaves : new.tree.out ≡ old.tree.out
-  pub run : IsRun (starts_of plan.paths) (worker_count asked planned.settings plan.paths) 0 new.history
-      (map (λ end. end.0) ends)
+  pub starters : new.spawner ≡ with_talks old.spawner talks
+  pub run : IsRun (starts_of plan.paths) (worker_count asked planned.settings plan.paths) (length plan.drivers)
+      new.history (verdicts_in ends)

@@ -5,6 +5,9 @@ pub mod Shown
 pub mod Sources
 pub mod Causes
 pub mod Outcome
+pub mod Prepared
+pub mod Talks
+pub mod Made
 pub mod Paths
 pub mod Output
 pub mod Report
@@ -14,5 +17,6 @@ pub mod Workers
 -- what its parts promise each other
 pub mod Reading
 pub mod Cards
+pub mod Dealing
 pub mod Writing
 pub mod Ending

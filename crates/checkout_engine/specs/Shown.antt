@@ -52,10 +52,11 @@ Shows told repo repo' sink sink' status.ReadFault =
     IsReadCause told repo repo' × (sink' ≡ sink) × IsRepoBack repo repo'
 Shows told repo repo' sink sink' s = ⊥
 
--- The same for `run`: the worktree doesn't change, and nothing is in the history.
+-- The same for `run`: the worktree and the spawner don't change, and nothing is in the history.
 pub record EndsPlan (told : RepoTold) (old new : Seen) (s : Status) : Type 0 where
   pub shown : Shows told old.repo new.repo old.sink new.sink s
   pub tree : new.tree ≡ old.tree
+  pub spawner : new.spawner ≡ old.spawner
   pub history : new.history ≡ old.history
 
 -- How a refusal of what isn't built yet ends: nothing but its line is written.
@@ -63,4 +64,5 @@ pub record EndsUnbuilt (old new : Seen) (s : Status) : Type 0 where
   pub line : Refuses refusal.Unbuilt old.sink new.sink s
   pub repo : new.repo ≡ old.repo
   pub tree : new.tree ≡ old.tree
+  pub spawner : new.spawner ≡ old.spawner
   pub history : new.history ≡ old.history

@@ -1,10 +1,12 @@
-//! The blobs and the leaves of a checkout, given back in path order.
+//! The blobs and the leaves of a checkout, given back in path order, and its starters, in order of the drivers.
 ghost use Rattle.std.specs.Prelude.{◌≡◌, ◌+◌, ◌≤◌, ◌++◌, length, map};
 ghost use Rattle.edge_kit.specs.Joins.{leaf_back};
 ghost use Rattle.edge_kit.specs.Seen.{blob_back};
+ghost use Rattle.edge_kit.specs.Starters.{starter_back};
 ghost use Rattle.checkout_engine.specs.Cards.{JoinAll};
+ghost use Rattle.checkout_engine.specs.Dealing.{AreEnded};
 
-use edge_kit::{Repo, Worktree};
+use edge_kit::{Repo, Spawner, Worktree};
 
 /// Gives blobs back, in their order.
 pub fn give_blobs<R: Repo>(repo: &mut R, blobs: Vec<R::Blob>)
@@ -32,5 +34,21 @@ pub fn give_leaves<T: Worktree>(tree: &mut T, leaves: Vec<T::Leaf>)
 {
     for leaf in leaves {
         tree.take_back(leaf);
+    }
+}
+
+/// Gives starters back, in their order. None of their links is out.
+pub fn give_starters<P: Spawner>(spawner: &mut P, starters: Vec<P::Starter>)
+    requires given { length starters.items ≤ (P.seen spawner.old).out }
+    requires ended { AreEnded P.Starter.seen starters.items }
+    ensures told { P.told spawner.new ≡ P.told spawner.old }
+    ensures out { (P.seen spawner.new).out + length starters.items ≡ (P.seen spawner.old).out }
+    ensures back { P.seen spawner.new ≡ record (P.seen spawner.old) {
+      out = (P.seen spawner.new).out;
+      returned = (P.seen spawner.old).returned ++ map (λ s. starter_back (P.Starter.seen s)) starters.items;
+    } }
+{
+    for starter in starters {
+        spawner.take_back(starter);
     }
 }

@@ -3,6 +3,7 @@
 
 mod cards;
 mod command;
+mod dealing;
 mod giving_back;
 mod output;
 mod paths;

@@ -27,7 +27,7 @@ pub enum Refusal {
     AttributeTooLarge(Bytes),
     /// Too many drivers are in use: their number.
     TooManyDrivers(u32),
-    /// What isn't built yet: a rehearsal, or a driver in use.
+    /// What isn't built yet: a rehearsal.
     Unbuilt,
 }
 

@@ -1,0 +1,22 @@
+use Rattle.std.proofs.Common.{sym, subst}
+use Rattle.edge_kit.specs.Seen.{RepoSeen, TreeSeen}
+use Rattle.checkout_engine.specs.Made.{HasCards}
+use Rattle.checkout_engine.proofs.Made.{on_err, nothing_made, blob_alone}
+use Rattle.checkout_engine.proofs.cards.new_card.Goals as goal
+
+pub returns-in_err-text-clause-none : goal.returns-in_err-text-clause-none
+returns-in_err-text-clause-none g c = on_err _ c.from_residual.result (nothing_made (g.R.Repo.seen c.args.repo.now) (g.T.Worktree.seen c.args.tree.now))
+
+pub returns-in_err-blob-clause-none : goal.returns-in_err-blob-clause-none
+returns-in_err-blob-clause-none g c =
+    let repo = g.R.Repo.seen c.args.repo.now in
+    let tree = g.T.Worktree.seen c.args.tree.now in
+    on_err _ c.from_residual-in_err-blob.result (subst (λ (r : RepoSeen). HasCards 0 repo r tree tree) (sym c.in_err-blob.ensures.kept) (nothing_made repo tree))
+
+pub returns-in-Err-clause-none : goal.returns-in-Err-clause-none
+returns-in-Err-clause-none g c =
+    let repo = g.R.Repo.seen c.args.repo.now in
+    let tree = g.T.Worktree.seen c.args.tree.now in
+    subst (λ (t : TreeSeen). HasCards 0 repo (g.R.Repo.seen c.take_back.new.self) tree t) (sym c.in-Err.ensures.kept)
+    (blob_alone c.args.path.now.object (g.R.Blob.Blob.seen c.in_ok-blob.blob) repo (g.R.Repo.seen c.blob.new.self) (g.R.Repo.seen c.take_back.new.self) tree c.in_ok-blob.ensures.blob c.in_ok-blob.ensures.out
+    (record { out = c.take_back.ensures.out; back = c.take_back.ensures.back }))
