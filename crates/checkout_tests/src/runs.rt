@@ -600,11 +600,20 @@ fn a_required_driver_needs_its_process(rt: HostRuntime) -> Result<(), Fail> {
                 a: hi\n",
             ..usual
         },
-        // a driver in use isn't built yet
+        // a command that doesn't start
         Case {
             config: Some(b"[filter \"f\"]\nprocess = x\n"),
-            wanted: "refused unbuilt\n\
-                status 3\n",
+            wanted: "unfiltered - - filter-not-started a\n\
+                done 0 1 0 0\n\
+                status 0\n\
+                a: hi\n",
+            ..usual
+        },
+        Case {
+            config: Some(b"[filter \"f\"]\nprocess = x\nrequired = true\n"),
+            wanted: "failed - - filter-not-started a\n\
+                done 0 0 1 0\n\
+                status 1\n",
             ..usual
         },
     ];
