@@ -67,8 +67,20 @@ pub const NULS: [u8; 20] = [
     0xfe, 0x9a, 0x7a, 0x47,
 ];
 
+/// The name that `git hash-object` gives to `abcd`.
+pub const LETTERS: [u8; 20] = [
+    0x85, 0xdf, 0x50, 0x78, 0x5d, 0x62, 0xd3, 0xb0, 0x5a, 0xb0, 0x3d, 0x9c, 0xbf, 0x7e, 0x4a, 0x0b,
+    0x49, 0x44, 0x97, 0x30,
+];
+
+/// The name that `git hash-object` gives to a pointer to a large file, of 130 bytes.
+pub const POINTER: [u8; 20] = [
+    0x60, 0xc8, 0xd8, 0xab, 0x2a, 0xdc, 0xf5, 0x7a, 0x39, 0x11, 0x63, 0xa7, 0xee, 0xb0, 0xcd, 0xb8,
+    0xbf, 0x34, 0x8e, 0x44,
+];
+
 /// Objects that a test may use, as they are stored.
-const OBJECTS: [([u8; 20], &[u8]); 7] = [
+const OBJECTS: [([u8; 20], &[u8]); 9] = [
     (BIN, b"blob 3\0bin"),
     (MIXED, b"blob 5\0a\nb\r\n"),
     (IDENT, b"blob 16\0$Id$ $Id: a b $\n"),
@@ -76,6 +88,12 @@ const OBJECTS: [([u8; 20], &[u8]); 7] = [
     (EMPTY, b"blob 0\0"),
     (ODD, b"blob 1\0\xff"),
     (ATTRIBUTES, b"blob 20\0*.txt text eol=crlf\n"),
+    (LETTERS, b"blob 4\0abcd"),
+    (
+        POINTER,
+        b"blob 130\0version https://git-lfs.github.com/spec/v1\n\
+            oid sha256:4d7a214614ab2935c943f9e0ff69d22eadbb8f32b1258daaa5e2ca24d17e2393\nsize 12345\n",
+    ),
 ];
 
 /// The SHA-1 of the index of no entries, as `sha1sum` gives it.
@@ -247,6 +265,19 @@ pub fn run_words<R: Repo, H: Threads + Wait + Sync>(
     )
 }
 
+/// The output, the status, and a line for each file.
+pub fn text_of(
+    alloc: Global,
+    output: &[u8],
+    status: u8,
+    files: &[TreeFile],
+) -> Result<String, Fail> {
+    let mut seen = String::from_str(alloc, str::from_utf8(output)?)?;
+    writeln!(seen, "status {status}")?;
+    push_files(&mut seen, files)?;
+    Ok(seen)
+}
+
 /// The output, the status, and a line for each file of the case.
 fn seen_of<H: Threads + Wait + Sync>(rt: &H, alloc: Global, case: &Case) -> Result<String, Fail> {
     let words = words_of(alloc, case.command)?;
@@ -254,10 +285,7 @@ fn seen_of<H: Threads + Wait + Sync>(rt: &H, alloc: Global, case: &Case) -> Resu
     let mut tree = tree_of(alloc, case)?;
     let mut out = MemorySink::new(alloc, case.sink_fails);
     let status = run_words(rt, alloc, &words, &mut repo, &mut tree, &mut out);
-    let mut seen = String::from_str(alloc, str::from_utf8(out.bytes())?)?;
-    writeln!(seen, "status {status}")?;
-    push_files(&mut seen, tree.files())?;
-    Ok(seen)
+    text_of(alloc, out.bytes(), status, tree.files())
 }
 
 pub fn check<H: Threads + Wait + Sync + Abort>(

@@ -9,6 +9,8 @@ mod cases;
 #[cfg(test)]
 mod conversions;
 #[cfg(test)]
+mod drivers;
+#[cfg(test)]
 mod index;
 #[cfg(test)]
 mod out_of_memory;
@@ -18,5 +20,7 @@ mod plans;
 mod reports;
 #[cfg(test)]
 mod runs;
+#[cfg(test)]
+mod talks;
 #[cfg(test)]
 mod workers;
