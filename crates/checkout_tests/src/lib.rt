@@ -1,7 +1,7 @@
 //! The tests of a checkout: its runs, its plan, its report and what becomes of a content.
 //!
-//! They are over the built libraries, as those of `format_tests` are: `runs`, `workers`, `plans`, `reports` and
-//! `conversions`. It has nothing but tests.
+//! They are over the built libraries, as those of `format_tests` are: `runs`, `drivers` and `many` (with filter drivers),
+//! `workers`, `meeting` (of threads), `plans`, `reports` and `conversions`. It has nothing but tests.
 #![tactic(auto)]
 
 #[cfg(test)]
@@ -13,11 +13,17 @@ mod drivers;
 #[cfg(test)]
 mod index;
 #[cfg(test)]
+mod many;
+#[cfg(test)]
+mod meeting;
+#[cfg(test)]
 mod out_of_memory;
 #[cfg(test)]
 mod plans;
 #[cfg(test)]
 mod reports;
+#[cfg(test)]
+mod running;
 #[cfg(test)]
 mod runs;
 #[cfg(test)]

@@ -1,76 +1,28 @@
-use crate::cases::{HI, words_of};
-use crate::index::PLAIN;
+use crate::running::{Left, Task, closer_of, left_by};
 use checkout_core::Event;
-use checkout_engine::run;
-use edge_kit::{MemoryRepo, MemorySink, MemorySpawner, MemoryTree, NoGate, TreeFile};
-use std::alloc::{AllocError, Global};
+use edge_kit::{NoGate, TreeFile};
+use std::alloc::Global;
 use std::process::Abort;
 use std::sync::Wait;
 use std::test::Fail;
 use std::thread::Threads;
 
-/// What a run leaves.
-#[derive(Drop)]
-struct Left {
-    status: u8,
-    text: Vec<u8>,
-    tree: MemoryTree,
-    history: Vec<Event>,
-}
-
-/// An index of so many plain files, up to 90,000.
-fn plain_files(alloc: Global, count: u32) -> Result<Vec<u8>, AllocError> {
-    let mut index = Vec::from_slice(alloc, b"DIRC\0\0\0\x02")?;
-    index.extend_from_slice(&count.to_be_bytes())?;
-    for number in 0..count {
-        let path = format!(in alloc; "p{}", 10_000u32.wrapping_add(number))?;
-        index.extend_from_slice(&[0; 24])?;
-        index.extend_from_slice(&PLAIN.to_be_bytes())?;
-        index.extend_from_slice(&[0; 12])?;
-        index.extend_from_slice(&HI)?;
-        index.extend_from_slice(b"\0\x06")?;
-        index.extend_from_slice(path.as_bytes())?;
-        index.extend_from_slice(b"\0\0\0\0")?;
-    }
-    index.extend_from_slice(&[0; 20])?;
-    Ok(index)
-}
-
-/// A run over so many plain files, with a history that isn't empty.
-fn left_by<H: Threads + Wait + Sync>(
+/// A run over so many plain files without drivers.
+fn plain_run<H: Threads + Wait + Sync>(
     rt: &H,
     alloc: Global,
     files: u32,
     config: &[u8],
     command: &[&str],
 ) -> Result<Left, Fail> {
-    let words = words_of(alloc, command)?;
-    let index = Some(plain_files(alloc, files)?);
-    let mut objects = Vec::new(alloc);
-    objects.push((HI, Vec::from_slice(alloc, b"blob 3\0hi\n")?))?;
-    let config = Some(Vec::from_slice(alloc, config)?);
-    let mut repo = MemoryRepo::new(alloc, index, config, None, objects, Vec::new(alloc));
-    let mut tree = MemoryTree::new(alloc, true, Vec::new(alloc), false);
-    let mut spawner = MemorySpawner::new(alloc, Vec::new(alloc));
-    let mut out = MemorySink::new(alloc, None);
-    let mut history = Vec::from_slice(alloc, &[Event::Claim { path: 7, actor: 99 }])?;
-    let status = run(
-        rt,
-        alloc,
-        &words,
-        &mut repo,
-        &mut tree,
-        &mut spawner,
-        &NoGate,
-        &mut out,
-        &mut history,
-    );
-    Ok(Left {
-        status,
-        text: Vec::from_slice(alloc, out.bytes())?,
-        tree,
-        history,
-    })
+    let task = Task {
+        files,
+        config,
+        info: b"",
+        drivers: &[],
+        command,
+    };
+    left_by(rt, alloc, &task, &NoGate)
 }
 
 /// Whether every actor of the history is below this number, and each of so many paths was claimed and closed.
@@ -103,11 +55,11 @@ fn check<H: Threads + Wait + Sync + Abort>(
     files: u32,
     runs: &[(&[u8], &[&str], u32)],
 ) -> Result<(), Fail> {
-    let one = left_by(rt, alloc, files, b"", &["checkout", "--workers", "1"])?;
+    let one = plain_run(rt, alloc, files, b"", &["checkout", "--workers", "1"])?;
     assert_eq!(rt; one.status, 0);
     assert_eq!(rt; one.tree.files().len(), files as usize);
     for (config, command, workers) in runs {
-        let other = left_by(rt, alloc, files, config, command)?;
+        let other = plain_run(rt, alloc, files, config, command)?;
         assert_eq!(rt; other.status, 0);
         assert!(rt; other.text.as_slice() == one.text.as_slice());
         assert!(rt; same_files(other.tree.files(), one.tree.files()));
@@ -172,12 +124,69 @@ fn a_refusal_empties_the_history(rt: HostRuntime) -> Result<(), Fail> {
         &["rehearse", "1", "2"],
     ];
     for command in commands {
-        let left = left_by(&rt, alloc, 2, b"", command)?;
+        let left = plain_run(&rt, alloc, 2, b"", command)?;
         assert_eq!(rt; left.history.len(), 0);
         assert_eq!(rt; left.tree.files().len(), 0);
     }
-    let left = left_by(&rt, alloc, 2, b"[checkout]\n\tworkers = x\n", &["checkout"])?;
+    let left = plain_run(&rt, alloc, 2, b"[checkout]\n\tworkers = x\n", &["checkout"])?;
     assert_eq!(rt; left.status, 3);
     assert_eq!(rt; left.history.len(), 0);
+    Ok(())
+}
+
+/// What the words and the configuration say of the workers, and how many there are.
+type Counted = (&'static [u8], &'static [&'static str], u32);
+
+/// A driver's desk is the actor after the workers. So its number tells how many there are.
+#[test]
+fn the_desk_of_a_driver_comes_after_the_workers(rt: HostRuntime) -> Result<(), Fail> {
+    let cases: [Counted; 5] = [
+        (
+            b"[checkout]\nworkers = 2k\nthresholdForParallelism = 0\n\
+                [filter \"f\"]\nprocess = d\nrequired = true\n",
+            &["checkout"],
+            16,
+        ),
+        (
+            b"[checkout]\nworkers = -3\nthresholdForParallelism = 0\n\
+                [filter \"f\"]\nprocess = d\nrequired = true\n",
+            &["checkout"],
+            8,
+        ),
+        (
+            b"[checkout]\nworkers = 3\nthresholdForParallelism = -1\n\
+                [filter \"f\"]\nprocess = d\nrequired = true\n",
+            &["checkout", "--workers=5"],
+            5,
+        ),
+        (
+            b"[checkout]\nthresholdForParallelism = 0\n\
+                [filter \"f\"]\nprocess = d\nrequired = true\n",
+            &["checkout"],
+            1,
+        ),
+        // no path is in the pool, so there are fewer than the threshold
+        (
+            b"[checkout]\nworkers = 7\n[filter \"f\"]\nprocess = d\nrequired = true\n",
+            &["checkout", "--workers", "5"],
+            1,
+        ),
+    ];
+    for (config, command, workers) in cases {
+        let task = Task {
+            files: 1,
+            config,
+            info: b"* filter=f\n",
+            drivers: &[(
+                b"d",
+                b"0016git-filter-server\n000eversion=2\n00000016capability=smudge\n0000\
+                    0013status=success\n00000008one\n00000000",
+            )],
+            command,
+        };
+        let left = left_by(&rt, rt.alloc(), &task, &NoGate)?;
+        assert_eq!(rt; left.status, 0);
+        assert_eq!(rt; closer_of(&left.history, 0), Some(workers));
+    }
     Ok(())
 }
