@@ -1,11 +1,13 @@
 //! The tests of a checkout: its runs, its plan, its report and what becomes of a content.
 //!
-//! They are over the built libraries, as those of `format_tests` are: `runs`, `drivers` and `many` (with filter drivers),
+//! They are over the built libraries, as those of `format_tests` are: `runs`, `drivers`, `many` and `children` (with filter drivers),
 //! `workers`, `meeting` (of threads), `plans`, `reports` and `conversions`. It has nothing but tests.
 #![tactic(auto)]
 
 #[cfg(test)]
 mod cases;
+#[cfg(test)]
+mod children;
 #[cfg(test)]
 mod conversions;
 #[cfg(test)]
