@@ -1,5 +1,7 @@
 //! Checks out the index of a Git folder with uncompressed objects into an empty folder, by its configuration and its
 //! attributes, or shows the plan of that.
+//!
+//! A checkout shows how many paths are closed, if standard error is a terminal.
 #![tactic(auto)]
 
 ghost use Rattle.std.specs.Prelude.{◌≡◌, IfOk, IfErr, IsErr, drop, option_map, string_bytes};
@@ -8,15 +10,18 @@ ghost use Rattle.std.specs.IoError.{error_kind};
 ghost use Rattle.std.specs.declared.io.ErrorKind.TheVariants.{OutOfMemory};
 ghost use Rattle.checkout_program.specs.Words.{word_at, words_of, message_of};
 
+mod progress;
+
+use crate::progress::{CountingTree, Progress};
 use checkout_engine::run;
 use edge_adapters::{FolderRepo, FolderTree, OutputSink, ProcessSpawner};
-use edge_kit::NoGate;
 use std::alloc::{AllocError, Global};
 use std::env::{Args, args};
 use std::io;
 use std::io::{ErrorKind, writer};
 use std::process::ExitCode;
 use std::sync::Wait;
+use std::sync::atomic::AtomicU32;
 use std::thread::Threads;
 
 /// The words after the first.
@@ -79,21 +84,29 @@ fn folders_of(rt: HostRuntime, words: &[String]) -> Result<(FolderRepo, FolderTr
 
 fn run_words<H: Threads + Wait + Sync>(rt: HostRuntime, threads: &H) -> Result<u8, AllocError> {
     let words = words_of(rt.alloc(), args(&rt))?;
-    let (mut repo, mut tree) = folders_of(rt, &words)?;
+    let (mut repo, tree) = folders_of(rt, &words)?;
+    let leaves = AtomicU32::new(0);
+    let progress = Progress::new(rt, &leaves);
+    let mut tree = CountingTree {
+        tree,
+        leaves: &leaves,
+    };
     let mut spawner = ProcessSpawner::new(rt);
     let mut out = OutputSink::new(writer(&rt));
     let mut history = Vec::new(rt.alloc());
-    Ok(run(
+    let status = run(
         threads,
         rt.alloc(),
         &words,
         &mut repo,
         &mut tree,
         &mut spawner,
-        &NoGate,
+        &progress,
         &mut out,
         &mut history,
-    ))
+    );
+    progress.end();
+    Ok(status)
 }
 
 fn main(rt: HostRuntime) -> ExitCode {

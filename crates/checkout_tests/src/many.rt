@@ -1,9 +1,10 @@
 //! A thousand plain paths, and two drivers that delay.
 use crate::running::{Left, Task, closer_of, left_by};
-use edge_kit::NoGate;
+use edge_kit::{Gate, Point};
 use std::alloc::Global;
 use std::process::Abort;
 use std::sync::Wait;
+use std::sync::atomic::{AtomicU32, Ordering};
 use std::test::Fail;
 use std::thread::Threads;
 
@@ -36,6 +37,20 @@ const TASK: Task = Task {
     drivers: &[(b"alpha", ALPHA), (b"beta", BETA)],
     command: &["checkout"],
 };
+
+/// A gate that counts the paths that are closed.
+#[derive(Drop)]
+struct Closings {
+    count: AtomicU32,
+}
+
+impl Gate for Closings {
+    fn at(&self, _actor: u32, _path: u32, point: Point) {
+        if point == Point::Closed {
+            self.count.fetch_add(1, Ordering::SeqCst);
+        }
+    }
+}
 
 /// How a path ends: the begin of its line in the report, and its file.
 type End = (&'static str, Option<&'static [u8]>);
@@ -88,7 +103,10 @@ fn check<H: Threads + Wait + Sync + Abort>(
     workers: u32,
 ) -> Result<(), Fail> {
     let task = Task { command, ..TASK };
-    let left = left_by(rt, alloc, &task, &NoGate)?;
+    let closings = Closings {
+        count: AtomicU32::new(0),
+    };
+    let left = left_by(rt, alloc, &task, &closings)?;
     let wanted = report_of(alloc)?;
     assert_eq!(rt; left.status, 1);
     assert_eq!(rt;
@@ -97,6 +115,7 @@ fn check<H: Threads + Wait + Sync + Abort>(
         "{workers} workers"
     );
     check_files(rt, alloc, &left)?;
+    assert_eq!(rt; closings.count.load(Ordering::SeqCst), 1006);
     // each driver has a desk of its own, after the workers
     for (path, driver) in [(100, 0), (300, 1), (500, 0), (700, 1), (900, 0), (1005, 1)] {
         assert_eq!(rt;
