@@ -159,7 +159,7 @@ reversed Less p e h = rw e refl
 reversed Equal p e h = absurd cc
 reversed Greater p e h = absurd cc
 
-not_before : (p q : List ℕ) → is_before p q ≡ true → is_before q p ≡ false
+pub not_before : (p q : List ℕ) → is_before p q ≡ true → is_before q p ≡ false
 not_before p q h = reversed (slice_cmp nat_cmp p q) (slice_cmp nat_cmp q p) (nat_list_cmp_total.antisymm q p) h
 
 with_file-last : (f : TreeFile) (fs : List TreeFile) → AllByRecursion (λ g. is_before f.path g.path ≡ false) fs → with_file f fs ≡ fs ++ f ∷ []

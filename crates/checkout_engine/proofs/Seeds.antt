@@ -32,7 +32,7 @@ all_at f (x ∷ xs) zero q all at = let parts = and_parts (f x) (list_all f xs) 
 all_at f (x ∷ xs) (suc j) q all at = let parts = and_parts (f x) (list_all f xs) all in all_at f xs j q parts.1 at
 
 -- an earlier path comes before a later one
-before : (ps : List PathPlan) (i j : ℕ) (p q : PathPlan) → pairwise precedes ps ≡ true → i < j → slice_get ps i ≡ Some p → slice_get ps j ≡ Some q → precedes p q ≡ true
+pub before : (ps : List PathPlan) (i j : ℕ) (p q : PathPlan) → pairwise precedes ps ≡ true → i < j → slice_get ps i ≡ Some p → slice_get ps j ≡ Some q → precedes p q ≡ true
 before [] i j p q rise less at later = absurd cc
 before (x ∷ xs) i zero p q rise less at later = absurd (omega (arith, less))
 before (x ∷ xs) zero (suc j) p q rise less at later =

@@ -13,6 +13,7 @@ pub mod Output
 pub mod Report
 pub mod RefusalText
 pub mod Complete
+pub mod Alike
 pub mod Workers
 -- what its parts promise each other
 pub mod Reading

@@ -5,6 +5,7 @@ mod cards;
 mod command;
 mod dealing;
 mod giving_back;
+mod laws;
 mod output;
 mod paths;
 mod planning;
@@ -17,4 +18,5 @@ mod stop;
 mod workers;
 
 pub use command::run;
+pub use laws::workers_change_nothing;
 pub use show::plan_text;

@@ -1,0 +1,183 @@
+-- Two checkouts of one repository with the same drivers, in which no leaf and no link failed, are alike.
+use Rattle.std.proofs.Common.{◌≡◌, ◌+◌, ◌<◌, ◌≤◌, ◌==◌, ℕ, zero, suc, Bool, true, false, List, [], ◌∷◌, map, Option, Some, None, Result, Ok, Err, refl, sym, ap, ◌∙◌, subst, ◌⊎◌, inl, inr, arith}
+use Rattle.std.specs.Prelude.{slice_get}
+use Rattle.std.specs.List.{AllByRecursion}
+use Rattle.std.proofs.lemmas.Bool.{eq-eqb}
+use Rattle.std.proofs.lemmas.Bool.Decides.{leb_tells}
+use Rattle.std.proofs.lemmas.Option.{same_Some}
+use Rattle.std.proofs.lemmas.List.Sums.{sum_by-append}
+use Rattle.edge_kit.specs.Seen.{TreeSeen}
+use Rattle.edge_kit.specs.Told.{Told, RepoTold}
+use Rattle.edge_kit.specs.Starters.{Starts, StartTold}
+use Rattle.edge_kit.specs.declared.tree_file.TreeFile.{TreeFile}
+use Rattle.object_dir.specs.declared.fault.ObjectFault.{ObjectFault}
+use Rattle.settings_view.specs.declared.view.Driver.{Driver}
+use Rattle.git_index.specs.Spelling.{OneReading, PathsAreOrdered, is_before}
+use Rattle.checkout_core.specs.declared.event.Event.{Event}
+use Rattle.checkout_core.specs.declared.path.Heard.{Heard}
+use Rattle.checkout_core.specs.declared.path.Start.{Start}
+use Rattle.checkout_core.specs.declared.path.Start.TheVariants as start
+use Rattle.checkout_core.specs.declared.verdict.Verdict.{Verdict}
+use Rattle.checkout_core.specs.States.{is_at}
+use Rattle.checkout_core.specs.Talks.{contains}
+use Rattle.checkout_core.specs.Fates.{Fate, heard_by}
+use Rattle.driver_line.specs.Lines.{Paths}
+use Rattle.driver_line.specs.OneContent.{OneContent}
+use Rattle.driver_line.specs.SameHeard.{SameHeard, IsToldTalk, HaveTexts, HaveSameTexts, content_of}
+use Rattle.checkout_plan.specs.declared.path_plan.PathPlan.{PathPlan}
+use Rattle.checkout_plan.specs.declared.path_plan.Plan.{Plan}
+use Rattle.checkout_engine.specs.Alike.{TellAll, IsUndisturbed, AreAlike, WorkersChangeNothing}
+use Rattle.checkout_engine.specs.Complete.{failed_leaves}
+use Rattle.checkout_engine.specs.Ends.{Seen, IsCheckedOut, verdicts_of, files_of}
+use Rattle.checkout_engine.specs.Outcome.{Outcome, HasOutcome, AreOutcomes}
+use Rattle.checkout_engine.specs.Paths.{leaves_back}
+use Rattle.checkout_engine.specs.Report.{lacks_memory, report}
+use Rattle.checkout_engine.specs.Talks.{DriverTalk, IsDriverTalk, heard_at}
+use Rattle.checkout_engine.proofs.Drivers.{planned_ordered}
+use Rattle.checkout_engine.proofs.Order.{not_before}
+use Rattle.checkout_engine.proofs.Seeds.{before}
+use Rattle.checkout_engine.proofs.Rising.{apart, same_rising}
+use Rattle.checkout_engine.proofs.SamePlan.{same_plan}
+use Rattle.checkout_engine.proofs.ToldObjects.{found_of}
+use Rattle.checkout_engine.proofs.PathsAlike.{PathEnd, end_at, has_read, pool_is, heard_if_asked, same_desk_end}
+use Rattle.checkout_engine.proofs.OneSide.{Ground, IsSide, FineAt, first_fine, talk_at, driver, said, desk_end_is, asked_is, told_talk}
+
+done_is : (o q : Outcome) (v : Verdict) → o.verdict ≡ v → o.file ≡ None → q.verdict ≡ v → q.file ≡ None → end_at o.verdict o.file ≡ end_at q.verdict q.file
+done_is o q v a f b h = ap (λ (x : Verdict). end_at x o.file) (a ∙ sym b) ∙ ap (end_at q.verdict) (f ∙ sym h)
+
+module _ (object : List ℕ → Told) (ahead : List ℕ → Starts) (ps : List PathPlan) (g : Ground object ahead ps) (law : SameHeard) (drivers : List Driver)
+    (talks : List DriverTalk) (outcomes : List Outcome) (history : List Event) (a : IsSide object ahead ps drivers talks outcomes history)
+    (talks' : List DriverTalk) (outcomes' : List Outcome) (history' : List Event) (b : IsSide object ahead ps drivers talks' outcomes' history') where
+  module _ (d : ℕ) (t u : DriverTalk) (here : slice_get talks d ≡ Some t) (there : slice_get talks' d ≡ Some u) where
+    -- the talks of the two with the driver
+    first_said : IsDriverTalk ahead object ps (verdicts_of outcomes) history d (driver object ahead ps g drivers talks outcomes history a d t here) t
+    first_said = said object ahead ps g drivers talks outcomes history a d t here
+
+    second_said : IsDriverTalk ahead object ps (verdicts_of outcomes') history' d (driver object ahead ps g drivers talks' outcomes' history' b d u there) u
+    second_said = said object ahead ps g drivers talks' outcomes' history' b d u there
+
+    same_command : u.command ≡ t.command
+    same_command =
+        let x = talk_at object ahead ps g drivers talks outcomes history a d t here in
+        let y = talk_at object ahead ps g drivers talks' outcomes' history' b d u there in
+        let same : y.0 ≡ x.0 = same_Some y.0 x.0 (sym y.1 ∙ x.1) in
+        same_Some u.command t.command (sym y.2.command ∙ ap (λ (z : Driver). z.process) same ∙ x.2.command)
+
+    first_asked : (n : ℕ) (p : PathPlan) → slice_get ps n ≡ Some p → is_at d p.start ≡ true → contains n t.asked ≡ has_read (found_of (object p.object) p.object)
+    first_asked n p at is = asked_is object ahead ps g drivers talks outcomes history a d t here n p at is
+
+    second_asked : (n : ℕ) (p : PathPlan) → slice_get ps n ≡ Some p → is_at d p.start ≡ true → contains n u.asked ≡ has_read (found_of (object p.object) p.object)
+    second_asked n p at is = asked_is object ahead ps g drivers talks' outcomes' history' b d u there n p at is
+
+    same_number : (n : ℕ) → contains n t.asked ≡ contains n u.asked
+    same_number n = by (contains n t.asked) (contains n u.asked) refl refl
+      where
+        by : (x y : Bool) → contains n t.asked ≡ x → contains n u.asked ≡ y → contains n t.asked ≡ contains n u.asked
+        by true y e f = let p = first_said.over.each n e in first_asked n p.0 p.1 p.2 ∙ sym (second_asked n p.0 p.1 p.2)
+        by false true e f = let p = second_said.over.each n f in first_asked n p.0 p.1 p.2 ∙ sym (second_asked n p.0 p.1 p.2)
+        by false false e f = e ∙ sym f
+
+    same_asked : u.asked ≡ t.asked
+    same_asked = sym (same_rising t.asked u.asked first_said.over.rises second_said.over.rises same_number)
+
+    path_apart : (m n : ℕ) (p q : PathPlan) → slice_get ps m ≡ Some p → slice_get ps n ≡ Some q → p.path ≡ q.path → m < n → ⊥
+    path_apart m n p q at later same less =
+        let comes : is_before p.path q.path ≡ true = before ps m n p q g.rise less at later in
+        let self : is_before p.path p.path ≡ true = subst (λ (path : List ℕ). is_before p.path path ≡ true) (sym same) comes in
+        let no : true ≡ false = sym self ∙ not_before p.path p.path self in
+        absurd cc
+
+    same_place : (m n : ℕ) (p q : PathPlan) → slice_get ps m ≡ Some p → slice_get ps n ≡ Some q → p.path ≡ q.path → m ≡ n
+    same_place m n p q at later same = elim (leb_tells m n) [
+      | inl up ↦ elim (leb_tells n m) [
+        | inl down ↦ omega (arith, up.1, down.1)
+        | inr less ↦ absurd (path_apart m n p q at later same less.1)
+      ]
+      | inr more ↦ absurd (path_apart n m q p later at (sym same) more.1)
+    ]
+
+    have_texts : HaveTexts t.paths t.asked
+    have_texts m n is are same =
+        let p = first_said.over.each m is in
+        let q = first_said.over.each n are in
+        same_place m n p.0 q.0 p.1 q.1 (sym p.3 ∙ same ∙ q.3)
+
+    have_same_texts : HaveSameTexts t.paths u.paths t.asked
+    have_same_texts n is =
+        let p = first_said.over.each n is in
+        let q = second_said.over.each n (sym (same_number n) ∙ is) in
+        let same : p.0 ≡ q.0 = same_Some p.0 q.0 (sym p.1 ∙ q.1) in
+        p.3 ∙ ap (λ (z : PathPlan). z.path) same ∙ sym q.3
+
+    -- each path that is asked for heard the same in both, and got the same
+    same_heard : (n : ℕ) → contains n t.asked ≡ true → (heard_at d t n ≡ heard_at d u n) × (content_of n t.exchanges ≡ content_of n u.exchanges)
+    same_heard n is =
+        let starts = g.starts t.command in
+        let first : IsToldTalk d t.paths t.asked starts.0 t.had t.exchanges = told_talk object ahead ps g drivers talks outcomes history a d t here starts.0 starts.1 in
+        let second : IsToldTalk d u.paths u.asked starts.0 u.had u.exchanges = told_talk object ahead ps g drivers talks' outcomes' history' b d u there starts.0 (ap ahead same_command ∙ starts.1) in
+        let moved : IsToldTalk d u.paths t.asked starts.0 u.had u.exchanges = subst (λ (asked : List ℕ). IsToldTalk d u.paths asked starts.0 u.had u.exchanges) same_asked second in
+        let same = (law d t.paths u.paths t.asked starts.0 t.had u.had t.exchanges u.exchanges (apart t.asked first_said.over.rises) have_texts have_same_texts first moved).0 n is in
+        (heard_if_asked d t n is ∙ ap heard_by same.0 ∙ sym (heard_if_asked d u n (sym (same_number n) ∙ is)), same.1)
+
+  -- a path ends in the same way in both
+  same_path : (n : ℕ) (p : PathPlan) (o q : Outcome) → slice_get ps n ≡ Some p → FineAt object talks n p o → FineAt object talks' n p q → end_at o.verdict o.file ≡ end_at q.verdict q.file
+  same_path n p o q at x y = by p.start refl x.has y.has
+    where
+      by : (s : Start) → p.start ≡ s → HasOutcome object talks s n p o → HasOutcome object talks' s n p q → end_at o.verdict o.file ≡ end_at q.verdict q.file
+      by (start.Done v) is f h = done_is o q v f.0 f.1.file h.0 h.1.file
+      by start.Pool is f h = pool_is (object p.object) p o (g.told p.object) o.verdict f x.memory x.leaf ∙ sym (pool_is (object p.object) p q (g.told p.object) q.verdict h y.memory y.leaf)
+      by (start.Desk d required) is (text, t, here, f) (text', u, there, h) =
+          let at_d : is_at d p.start ≡ true = ap (is_at d) is ∙ eq-eqb d d refl in
+          desk_end_is object ahead ps g drivers talks outcomes history a d t here n p o required at f x.memory x.leaf
+          ∙ same_desk_end (found_of (object p.object) p.object) (heard_at d t n) (heard_at d u n) required (content_of n t.exchanges) (content_of n u.exchanges) p
+          (λ read. same_heard d t u here there n (first_asked d t u here there n p at at_d ∙ read))
+          ∙ sym (desk_end_is object ahead ps g drivers talks' outcomes' history' b d u there n p q required at h y.memory y.leaf)
+
+-- outcomes that end in the same way, path by path
+same_outcomes : (object : List ℕ → Told) (talks talks' : List DriverTalk) (n : ℕ) (ps : List PathPlan) (os qs : List Outcome) → AreOutcomes object talks n ps os → AreOutcomes object talks' n ps qs
+    → lacks_memory (verdicts_of os) ≡ false → lacks_memory (verdicts_of qs) ≡ false → failed_leaves (leaves_back ps os) ≡ 0 → failed_leaves (leaves_back ps qs) ≡ 0
+    → ((k : ℕ) (p : PathPlan) (o q : Outcome) → slice_get ps k ≡ Some p → FineAt object talks (n + k) p o → FineAt object talks' (n + k) p q → end_at o.verdict o.file ≡ end_at q.verdict q.file)
+    → (verdicts_of os ≡ verdicts_of qs) × (files_of os ≡ files_of qs)
+same_outcomes object talks talks' n [] [] [] f h m k l r each = (refl, refl)
+same_outcomes object talks talks' n [] (o ∷ os) qs f h m k l r each = absurd f
+same_outcomes object talks talks' n [] [] (q ∷ qs) f h m k l r each = absurd h
+same_outcomes object talks talks' n (p ∷ ps) [] qs f h m k l r each = absurd f
+same_outcomes object talks talks' n (p ∷ ps) (o ∷ os) [] f h m k l r each = absurd h
+same_outcomes object talks talks' n (p ∷ ps) (o ∷ os) (q ∷ qs) f h m k l r each =
+    let first = first_fine object talks n p ps o os f m l in
+    let second = first_fine object talks' n p ps q qs h k r in
+    let zero_more : ◌≡◌ {A = ℕ} n (n + zero) = omega arith in
+    let here : end_at o.verdict o.file ≡ end_at q.verdict q.file =
+    each zero p o q refl (subst (λ (m : ℕ). FineAt object talks m p o) zero_more first.0) (subst (λ (m : ℕ). FineAt object talks' m p q) zero_more second.0) in
+    let rest = same_outcomes object talks talks' (suc n) ps os qs f.1 h.1 first.1 second.1 first.2 second.2 (λ i x y z at fine fine'.
+    let same : ◌≡◌ {A = ℕ} (suc n + i) (n + suc i) = omega arith in
+    each (suc i) x y z at (subst (λ (m : ℕ). FineAt object talks m x y) same fine) (subst (λ (m : ℕ). FineAt object talks' m x z) same fine')) in
+    let verdict : o.verdict ≡ q.verdict = ap (λ (e : PathEnd). e.verdict) here in
+    let file : o.file ≡ q.file = ap (λ (e : PathEnd). e.file) here in
+    (rw (verdict, rest.0) refl, rw (file, rest.1) refl)
+
+side_of : (told : RepoTold) (ahead : List ℕ → Starts) (asked : Option ℕ) (old new : Seen) (c : IsCheckedOut told ahead asked old new) → IsUndisturbed c
+    → IsSide told.object ahead c.plan.paths c.plan.drivers c.talks c.outcomes new.history
+side_of told ahead asked old new c u =
+    let grew : failed_leaves new.tree.returned ≡ failed_leaves old.tree.returned + failed_leaves (leaves_back c.plan.paths c.outcomes) =
+    ap (λ (t : TreeSeen). failed_leaves t.returned) c.leaves ∙ sum_by-append (λ l. l.2) old.tree.returned (leaves_back c.plan.paths c.outcomes) in
+    let none : failed_leaves (leaves_back c.plan.paths c.outcomes) ≡ 0 = omega (arith, grew, u.leaves) in
+    record { fit = c.verdicts; conversations = c.conversations; memory = u.memory; leaves = none; links = u.links }
+
+pub alike : OneReading → PathsAreOrdered → SameHeard → OneContent → WorkersChangeNothing
+alike reading ordered law one told ahead a b old new before after all c e u w =
+    let plan : c.plan ≡ e.plan = same_plan reading told ahead c.plan e.plan all c.planned e.planned in
+    let ground : Ground told.object ahead c.plan.paths = record { told = all.object; starts = all.starts; rise = planned_ordered ordered told c.plan c.planned; one = one } in
+    let first = side_of told ahead a old new c u in
+    let second : IsSide told.object ahead c.plan.paths c.plan.drivers e.talks e.outcomes after.history =
+    subst (λ (p : Plan). IsSide told.object ahead p.paths p.drivers e.talks e.outcomes after.history) (sym plan) (side_of told ahead b before after e w) in
+    let same = same_outcomes told.object c.talks e.talks 0 c.plan.paths c.outcomes e.outcomes first.fit second.fit first.memory second.memory first.leaves second.leaves (λ k p o q at fine fine'.
+    let here : ◌≡◌ {A = ℕ} (0 + k) k = omega arith in
+    same_path told.object ahead c.plan.paths ground law c.plan.drivers c.talks c.outcomes new.history first e.talks e.outcomes after.history second k p o q at
+    (subst (λ (m : ℕ). FineAt told.object c.talks m p o) here fine) (subst (λ (m : ℕ). FineAt told.object e.talks m p q) here fine')) in
+    record {
+      plan = plan;
+      verdicts = same.0;
+      files = same.1;
+      report = ap (λ (p : Plan). report p.paths (verdicts_of c.outcomes)) plan ∙ ap (report e.plan.paths) same.0;
+    }

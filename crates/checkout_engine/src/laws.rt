@@ -1,0 +1,17 @@
+//! What follows from the contracts of a checkout.
+ghost use Rattle.checkout_engine.specs.Alike.{WorkersChangeNothing};
+
+use driver_line::{a_path_gets_one_content, equal_outputs_give_equal_talks};
+use git_index::{one_reading, paths_are_ordered};
+
+/// The number of workers changes nothing: two checkouts of one repository with the same drivers, in which no leaf and
+/// no link failed and memory was left for each path, have the same plan, verdicts, files and report, with any two
+/// numbers of workers.
+pub fn workers_change_nothing()
+    ensures { WorkersChangeNothing }
+{
+    one_reading();
+    paths_are_ordered();
+    equal_outputs_give_equal_talks();
+    a_path_gets_one_content();
+}
