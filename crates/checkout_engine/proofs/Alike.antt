@@ -7,7 +7,7 @@ use Rattle.std.proofs.lemmas.Bool.Decides.{leb_tells}
 use Rattle.std.proofs.lemmas.Option.{same_Some}
 use Rattle.std.proofs.lemmas.List.Sums.{sum_by-append}
 use Rattle.edge_kit.specs.Seen.{TreeSeen}
-use Rattle.edge_kit.specs.Told.{Told, RepoTold}
+use Rattle.edge_kit.specs.Told.{Told, RepoTold, Tells}
 use Rattle.edge_kit.specs.Starters.{Starts, StartTold}
 use Rattle.edge_kit.specs.declared.tree_file.TreeFile.{TreeFile}
 use Rattle.object_dir.specs.declared.fault.ObjectFault.{ObjectFault}
@@ -26,7 +26,7 @@ use Rattle.driver_line.specs.OneContent.{OneContent}
 use Rattle.driver_line.specs.SameHeard.{SameHeard, IsToldTalk, HaveTexts, HaveSameTexts, content_of}
 use Rattle.checkout_plan.specs.declared.path_plan.PathPlan.{PathPlan}
 use Rattle.checkout_plan.specs.declared.path_plan.Plan.{Plan}
-use Rattle.checkout_engine.specs.Alike.{TellAll, IsUndisturbed, AreAlike, WorkersChangeNothing}
+use Rattle.checkout_engine.specs.Alike.{TellAll, IsUndisturbed, AreAlike, WorkersChangeNothing, SettingsChangeNothing}
 use Rattle.checkout_engine.specs.Complete.{failed_leaves}
 use Rattle.checkout_engine.specs.Ends.{Seen, IsCheckedOut, verdicts_of, files_of}
 use Rattle.checkout_engine.specs.Outcome.{Outcome, HasOutcome, AreOutcomes}
@@ -37,7 +37,7 @@ use Rattle.checkout_engine.proofs.Drivers.{planned_ordered}
 use Rattle.checkout_engine.proofs.Order.{not_before}
 use Rattle.checkout_engine.proofs.Seeds.{before}
 use Rattle.checkout_engine.proofs.Rising.{apart, same_rising}
-use Rattle.checkout_engine.proofs.SamePlan.{same_plan}
+use Rattle.checkout_engine.proofs.SamePlan.{same_plan, differs_not}
 use Rattle.checkout_engine.proofs.ToldObjects.{found_of}
 use Rattle.checkout_engine.proofs.PathsAlike.{PathEnd, end_at, has_read, pool_is, heard_if_asked, same_desk_end}
 use Rattle.checkout_engine.proofs.OneSide.{Ground, IsSide, FineAt, first_fine, talk_at, driver, said, desk_end_is, asked_is, told_talk}
@@ -164,13 +164,18 @@ side_of told ahead asked old new c u =
     let none : failed_leaves (leaves_back c.plan.paths c.outcomes) ≡ 0 = omega (arith, grew, u.leaves) in
     record { fit = c.verdicts; conversations = c.conversations; memory = u.memory; leaves = none; links = u.links }
 
-pub alike : OneReading → PathsAreOrdered → SameHeard → OneContent → WorkersChangeNothing
-alike reading ordered law one told ahead a b old new before after all c e u w =
-    let plan : c.plan ≡ e.plan = same_plan reading told ahead c.plan e.plan all c.planned e.planned in
+tells : (told : Option (List TreeFile)) (fs gs : List TreeFile) → told ≡ Some fs → Tells told gs → fs ≡ gs
+tells told fs gs is has = subst (λ (t : Option (List TreeFile)). Tells t gs) is has
+
+pub alike_settings : OneReading → PathsAreOrdered → SameHeard → OneContent → SettingsChangeNothing
+alike_settings reading ordered law one told told' ahead a b old new before after all differ c e u w =
+    let plan : c.plan ≡ e.plan = same_plan reading told told' ahead c.plan e.plan all differ c.planned e.planned in
     let ground : Ground told.object ahead c.plan.paths = record { told = all.object; starts = all.starts; rise = planned_ordered ordered told c.plan c.planned; one = one } in
     let first = side_of told ahead a old new c u in
+    let other : IsSide told.object ahead e.plan.paths e.plan.drivers e.talks e.outcomes after.history =
+    subst (λ (object : List ℕ → Told). IsSide object ahead e.plan.paths e.plan.drivers e.talks e.outcomes after.history) differ.object (side_of told' ahead b before after e w) in
     let second : IsSide told.object ahead c.plan.paths c.plan.drivers e.talks e.outcomes after.history =
-    subst (λ (p : Plan). IsSide told.object ahead p.paths p.drivers e.talks e.outcomes after.history) (sym plan) (side_of told ahead b before after e w) in
+    subst (λ (p : Plan). IsSide told.object ahead p.paths p.drivers e.talks e.outcomes after.history) (sym plan) other in
     let same = same_outcomes told.object c.talks e.talks 0 c.plan.paths c.outcomes e.outcomes first.fit second.fit first.memory second.memory first.leaves second.leaves (λ k p o q at fine fine'.
     let here : ◌≡◌ {A = ℕ} (0 + k) k = omega arith in
     same_path told.object ahead c.plan.paths ground law c.plan.drivers c.talks c.outcomes new.history first e.talks e.outcomes after.history second k p o q at
@@ -180,4 +185,9 @@ alike reading ordered law one told ahead a b old new before after all c e u w =
       verdicts = same.0;
       files = same.1;
       report = ap (λ (p : Plan). report p.paths (verdicts_of c.outcomes)) plan ∙ ap (report e.plan.paths) same.0;
+      trees = λ fs gs here there. tells new.tree.files fs (files_of c.outcomes) here c.files ∙ same.1 ∙ sym (tells after.tree.files gs (files_of e.outcomes) there e.files);
     }
+
+pub alike_words : OneReading → PathsAreOrdered → SameHeard → OneContent → WorkersChangeNothing
+alike_words reading ordered law one told ahead a b old new before after all c e u w =
+    alike_settings reading ordered law one told told ahead a b old new before after all (differs_not told all.config) c e u w

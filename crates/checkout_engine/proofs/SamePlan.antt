@@ -1,5 +1,5 @@
--- A repository that tells all that it holds has one plan.
-use Rattle.std.proofs.Common.{◌≡◌, ℕ, true, List, [], ◌∷◌, Result, Ok, Err, refl, sym, ap, ◌∙◌, subst}
+-- A repository that tells all that it holds has one plan, whatever its number of workers.
+use Rattle.std.proofs.Common.{◌≡◌, ◌==◌, if◌then◌else◌, map, ℕ, true, List, [], ◌∷◌, Result, Ok, Err, refl, sym, ap, ◌∙◌, subst}
 use Rattle.std.specs.List.{AllZip}
 use Rattle.edge_kit.specs.Told.{Told, RepoTold}
 use Rattle.git_index.specs.declared.entry.Entry.{Entry}
@@ -14,10 +14,16 @@ use Rattle.attr_line.specs.File.{attributes_at}
 use Rattle.attr_line.specs.declared.file.AttrFile.{AttrFile}
 use Rattle.object_dir.specs.declared.fault.ObjectFault.{ObjectFault}
 use Rattle.checkout_plan.specs.declared.path_plan.Plan.{Plan}
-use Rattle.checkout_plan.specs.AttributeFiles.{attribute_entries}
-use Rattle.checkout_plan.specs.Paths.{plan_of}
+use Rattle.checkout_plan.specs.AttributeFiles.{attribute_entries, attribute_files}
+use Rattle.attr_stack.specs.declared.files.AttrFiles.{AttrFiles}
+use Rattle.git_index.specs.declared.entry.Mode.{Mode}
+use Rattle.git_index.specs.declared.entry.Mode.TheVariants as mode
+use Rattle.checkout_core.specs.declared.verdict.Verdict.TheVariants as verdict
+use Rattle.checkout_core.specs.declared.verdict.SkipCause.TheVariants as skip
+use Rattle.checkout_plan.specs.declared.path_plan.PathPlan.{PathPlan}
+use Rattle.checkout_plan.specs.Paths.{closed, path_of_mode, asked_path, first_entries, plan_with, plan_of}
 use Rattle.checkout_plan.specs.Making.{HasContent, HaveContents}
-use Rattle.checkout_engine.specs.Alike.{IsTold, TellAll}
+use Rattle.checkout_engine.specs.Alike.{IsTold, TellAll, DifferInWorkers}
 use Rattle.checkout_engine.specs.Sources.{HasIndex, HasSettings, HasInfo, IsPlanned}
 use Rattle.edge_kit.specs.Starters.{Starts}
 use Rattle.checkout_engine.proofs.ToldObjects.{same_told, same_bytes, found_of, gives_found}
@@ -49,15 +55,54 @@ same_contents object (e ∷ es) (c ∷ cs) (d ∷ ds) all a b =
     let here : c ≡ d = same_ok {A = List ℕ} {E = ObjectFault} c d (sym (gives_found (object e.name) e.name (Ok c) (all e.name) a.0.0) ∙ gives_found (object e.name) e.name (Ok d) (all e.name) b.0.0) in
     rw (here, same_contents object es cs ds all a.1 b.1) refl
 
-same_plan_of : (es fs : List Entry) (s t : Settings) (i j : AttrFile) (cs ds : List (List ℕ)) → es ≡ fs → s ≡ t → i ≡ j → cs ≡ ds → plan_of es s i cs ≡ plan_of fs t j ds
-same_plan_of es fs s t i j cs ds a b c d =
-    ap (λ (x : List Entry). plan_of x s i cs) a ∙ ap (λ (x : Settings). plan_of fs x i cs) b ∙ ap (λ (x : AttrFile). plan_of fs t x cs) c ∙ ap (λ (x : List (List ℕ)). plan_of fs t j x) d
+same_plan_of : (es fs : List Entry) (s : Settings) (i j : AttrFile) (cs ds : List (List ℕ)) → es ≡ fs → i ≡ j → cs ≡ ds → plan_of es s i cs ≡ plan_of fs s j ds
+same_plan_of es fs s i j cs ds a c d =
+    ap (λ (x : List Entry). plan_of x s i cs) a ∙ ap (λ (x : AttrFile). plan_of fs s x cs) c ∙ ap (λ (x : List (List ℕ)). plan_of fs s j x) d
 
-pub same_plan : OneReading → (told : RepoTold) (ahead : List ℕ → Starts) (p q : Plan) → TellAll told ahead → IsPlanned told p → IsPlanned told q → p ≡ q
-same_plan law told ahead p q all a b =
-    let entries : a.entries ≡ b.entries = same_entries law told.index a.entries b.entries all.index a.sources.index b.sources.index in
-    let settings : a.settings ≡ b.settings = same_settings told.config a.settings b.settings all.config a.sources.config b.sources.config in
-    let info : a.info ≡ b.info = same_info told.info a.info b.info all.info a.sources.attributes b.sources.attributes in
+-- A plan doesn't depend on the number of workers or on the threshold.
+abbrev with_pace : Settings → ℕ → ℕ → Settings
+with_pace s workers threshold = record s { workers = workers; threshold = threshold }
+
+module _ (files : AttrFiles) (s : Settings) (workers threshold : ℕ) where
+  mode_same : (m : Mode) (e : Entry) → path_of_mode m files (with_pace s workers threshold) e ≡ path_of_mode m files s e
+  mode_same mode.Plain e = refl
+  mode_same mode.Executable e = refl
+  mode_same mode.Link e = refl
+  mode_same mode.Gitlink e = refl
+
+  asked_same : (e : Entry) → asked_path files (with_pace s workers threshold) e ≡ asked_path files s e
+  asked_same e = ap (λ (p : PathPlan). if e.stage == 0 then p else closed e (verdict.Skipped skip.Unmerged)) (mode_same e.mode e)
+
+  all_same : (es : List Entry) → map (asked_path files (with_pace s workers threshold)) es ≡ map (asked_path files s) es
+  all_same [] = refl
+  all_same (e ∷ es) = rw (asked_same e, all_same es) refl
+
+plan_unpaced : (es : List Entry) (s : Settings) (i : AttrFile) (cs : List (List ℕ)) (workers threshold : ℕ) → plan_of es (with_pace s workers threshold) i cs ≡ plan_of es s i cs
+plan_unpaced es s i cs workers threshold = unfold plan_of in
+    ap (λ (asked : List PathPlan). plan_with (attribute_files i es cs) asked s) (all_same (attribute_files i es cs) s workers threshold (first_entries es))
+
+-- two repositories that differ in the number of workers and the threshold alone have one plan
+pub same_plan : OneReading → (told told' : RepoTold) (ahead : List ℕ → Starts) (p q : Plan) → TellAll told ahead → DifferInWorkers told told' → IsPlanned told p → IsPlanned told' q → p ≡ q
+same_plan law told told' ahead p q all differ a b =
+    let index : HasIndex told.index b.entries = subst (λ (t : Told). HasIndex t b.entries) differ.index b.sources.index in
+    let attributes : HasInfo told.info b.info = subst (λ (t : Told). HasInfo t b.info) differ.info b.sources.attributes in
+    let contents' : HaveContents told.object b.entries b.made.contents = subst (λ (object : List ℕ → Told). HaveContents object b.entries b.made.contents) differ.object b.made.read in
+    let entries : a.entries ≡ b.entries = same_entries law told.index a.entries b.entries all.index a.sources.index index in
+    let info : a.info ≡ b.info = same_info told.info a.info b.info all.info a.sources.attributes attributes in
     let read : HaveContents told.object b.entries a.made.contents = subst (λ (es : List Entry). HaveContents told.object es a.made.contents) entries a.made.read in
-    let contents : a.made.contents ≡ b.made.contents = same_contents told.object (attribute_entries b.entries) a.made.contents b.made.contents all.object read b.made.read in
-    a.made.is ∙ same_plan_of a.entries b.entries a.settings b.settings a.info b.info a.made.contents b.made.contents entries settings info contents ∙ sym b.made.is
+    let contents : a.made.contents ≡ b.made.contents = same_contents told.object (attribute_entries b.entries) a.made.contents b.made.contents all.object read contents' in
+    let settings : b.settings ≡ with_pace a.settings (b.settings).workers (b.settings).threshold = differ.settings a.settings b.settings a.sources.config b.sources.config in
+    let other : plan_of b.entries b.settings b.info b.made.contents ≡ plan_of b.entries a.settings b.info b.made.contents =
+    ap (λ (s : Settings). plan_of b.entries s b.info b.made.contents) settings ∙ plan_unpaced b.entries a.settings b.info b.made.contents (b.settings).workers (b.settings).threshold in
+    a.made.is ∙ same_plan_of a.entries b.entries a.settings a.info b.info a.made.contents b.made.contents entries info contents ∙ sym (b.made.is ∙ other)
+
+-- a repository that tells its configuration has one list of settings
+pub differs_not : (told : RepoTold) → IsTold told.config → DifferInWorkers told told
+differs_not told is = record {
+  index = refl;
+  info = refl;
+  object = refl;
+  settings = λ s s' a b.
+      let same : s' ≡ s = same_settings told.config s' s is b a in
+      same ∙ ap (λ (x : Settings). with_pace s x.workers x.threshold) (sym same);
+}

@@ -1,14 +1,17 @@
--- What two checkouts of one repository have in common, whatever the number of their workers.
+-- What two checkouts have in common, whatever the number of their workers.
 use Rattle.std.specs.Prelude.{◌≡◌, ℕ, false, List, Option, Some}
 use Rattle.std.specs.List.{AllByRecursion}
 use Rattle.edge_kit.specs.Starters.{Starts, StartTold}
 use Rattle.edge_kit.specs.Told.{Told, Raw, Absent, Failing, Untold, RepoTold}
+use Rattle.edge_kit.specs.declared.tree_file.TreeFile.{TreeFile}
 use Rattle.driver_line.specs.SameHeard.{NoneFailed}
+use Rattle.settings_view.specs.declared.view.Settings.{Settings}
 use Rattle.checkout_engine.specs.Complete.{failed_leaves}
 use Rattle.checkout_engine.specs.Ends.{Seen, IsCheckedOut, verdicts_of, files_of}
 use Rattle.checkout_engine.specs.Report.{lacks_memory, report}
+use Rattle.checkout_engine.specs.Sources.{HasSettings}
 
--- something is told of a file or an object: its bytes, that there is none, or that taking it fails
+-- something is told: bytes, that there are none, or that taking them fails
 abbrev pub IsTold : Told → Type 0
 IsTold (Raw bytes) = Unit {0}
 IsTold Absent = Unit {0}
@@ -23,26 +26,47 @@ pub record TellAll (told : RepoTold) (ahead : List ℕ → Starts) : Type 0 wher
   pub object : (name : List ℕ) → IsTold (told.object name)
   pub starts : (command : List ℕ) → (starts : List StartTold) × (ahead command ≡ Some starts)
 
--- No leaf of the checkout failed, and no link of its talks, each of which told what it took. There was memory for each
--- path.
-pub record IsUndisturbed {told : RepoTold} {ahead : List ℕ → Starts} {asked : Option ℕ} {old new : Seen}
-    (c : IsCheckedOut told ahead asked old new) : Type 0 where
+-- No leaf of the checkout failed, and no link. Each link told what it took. There was memory for
+-- each path.
+pub record IsUndisturbed {told : RepoTold} {ahead : List ℕ → Starts} {asked : Option ℕ}
+    {old new : Seen} (c : IsCheckedOut told ahead asked old new) : Type 0 where
   pub leaves : failed_leaves new.tree.returned ≡ failed_leaves old.tree.returned
   pub links : AllByRecursion (λ t. NoneFailed t.had) c.talks
   pub memory : lacks_memory (verdicts_of c.outcomes) ≡ false
 
--- The two have the same plan, the same verdict for each path, the same files, and the same report.
-pub record AreAlike {told : RepoTold} {ahead : List ℕ → Starts} {a b : Option ℕ} {old new before after : Seen}
-    (c : IsCheckedOut told ahead a old new) (e : IsCheckedOut told ahead b before after) : Type 0 where
+-- The two have the same plan, the same verdict for each path, the same files and the same report.
+-- So their worktrees tell the same files, if they tell them.
+pub record AreAlike {told told' : RepoTold} {ahead : List ℕ → Starts} {a b : Option ℕ}
+    {old new before after : Seen} (c : IsCheckedOut told ahead a old new)
+    (e : IsCheckedOut told' ahead b before after) : Type 0 where
   pub plan : c.plan ≡ e.plan
   pub verdicts : verdicts_of c.outcomes ≡ verdicts_of e.outcomes
   pub files : files_of c.outcomes ≡ files_of e.outcomes
-  pub report : report c.plan.paths (verdicts_of c.outcomes) ≡ report e.plan.paths (verdicts_of e.outcomes)
+  pub report : report c.plan.paths (verdicts_of c.outcomes)
+      ≡ report e.plan.paths (verdicts_of e.outcomes)
+  pub trees : (fs gs : List TreeFile) → new.tree.files ≡ Some fs → after.tree.files ≡ Some gs
+      → fs ≡ gs
 
--- Two checkouts that differ in the number of workers asked for, over a repository and a spawner that tell all, are alike
--- if neither was disturbed.
+-- Two checkouts of a repository that tells all, with drivers whose starts are told, are alike if
+-- neither was disturbed, whatever the numbers of workers that are asked for.
 abbrev pub WorkersChangeNothing : Type 0
-WorkersChangeNothing = (told : RepoTold) (ahead : List ℕ → Starts) (a b : Option ℕ) (old new before after : Seen)
-    → TellAll told ahead
+WorkersChangeNothing = (told : RepoTold) (ahead : List ℕ → Starts) (a b : Option ℕ)
+    (old new before after : Seen) → TellAll told ahead
     → (c : IsCheckedOut told ahead a old new) → (e : IsCheckedOut told ahead b before after)
+    → IsUndisturbed c → IsUndisturbed e → AreAlike c e
+
+-- The two repositories hold the same, but their settings may differ in the number of workers and in
+-- the threshold.
+pub record DifferInWorkers (told told' : RepoTold) : Type 0 where
+  pub index : told'.index ≡ told.index
+  pub info : told'.info ≡ told.info
+  pub object : told'.object ≡ told.object
+  pub settings : (s s' : Settings) → HasSettings told.config s → HasSettings told'.config s'
+      → s' ≡ record s { workers = s'.workers; threshold = s'.threshold }
+
+-- The same for two such repositories.
+abbrev pub SettingsChangeNothing : Type 0
+SettingsChangeNothing = (told told' : RepoTold) (ahead : List ℕ → Starts) (a b : Option ℕ)
+    (old new before after : Seen) → TellAll told ahead → DifferInWorkers told told'
+    → (c : IsCheckedOut told ahead a old new) → (e : IsCheckedOut told' ahead b before after)
     → IsUndisturbed c → IsUndisturbed e → AreAlike c e

@@ -1,5 +1,5 @@
 //! What follows from the contracts of a checkout.
-ghost use Rattle.checkout_engine.specs.Alike.{WorkersChangeNothing};
+ghost use Rattle.checkout_engine.specs.Alike.{WorkersChangeNothing, SettingsChangeNothing};
 
 use driver_line::{a_path_gets_one_content, equal_outputs_give_equal_talks};
 use git_index::{one_reading, paths_are_ordered};
@@ -8,7 +8,10 @@ use git_index::{one_reading, paths_are_ordered};
 /// no link failed and memory was left for each path, have the same plan, verdicts, files and report, with any two
 /// numbers of workers.
 pub fn workers_change_nothing()
-    ensures { WorkersChangeNothing }
+    // by the words
+    ensures words { WorkersChangeNothing }
+    // by the settings and the threshold too
+    ensures settings { SettingsChangeNothing }
 {
     one_reading();
     paths_are_ordered();
