@@ -1,32 +1,28 @@
 -- Two checkouts of one repository with the same drivers, in which no leaf and no link failed, are alike.
-use Rattle.std.proofs.Common.{◌≡◌, ◌+◌, ◌<◌, ◌≤◌, ◌==◌, ℕ, zero, suc, Bool, true, false, List, [], ◌∷◌, map, Option, Some, None, Result, Ok, Err, refl, sym, ap, ◌∙◌, subst, ◌⊎◌, inl, inr, arith}
+use Rattle.std.proofs.Common.{◌≡◌, ◌+◌, ◌<◌, ℕ, zero, suc, Bool, true, false, List, [], ◌∷◌, Option, Some, None, refl, sym, ap, ◌∙◌, subst, inl, inr, arith}
 use Rattle.std.specs.Prelude.{slice_get}
-use Rattle.std.specs.List.{AllByRecursion}
 use Rattle.std.proofs.lemmas.Bool.{eq-eqb}
 use Rattle.std.proofs.lemmas.Bool.Decides.{leb_tells}
 use Rattle.std.proofs.lemmas.Option.{same_Some}
 use Rattle.std.proofs.lemmas.List.Sums.{sum_by-append}
 use Rattle.edge_kit.specs.Seen.{TreeSeen}
 use Rattle.edge_kit.specs.Told.{Told, RepoTold, Tells}
-use Rattle.edge_kit.specs.Starters.{Starts, StartTold}
+use Rattle.edge_kit.specs.Starters.{Starts}
 use Rattle.edge_kit.specs.declared.tree_file.TreeFile.{TreeFile}
-use Rattle.object_dir.specs.declared.fault.ObjectFault.{ObjectFault}
 use Rattle.settings_view.specs.declared.view.Driver.{Driver}
 use Rattle.git_index.specs.Spelling.{OneReading, PathsAreOrdered, is_before}
 use Rattle.checkout_core.specs.declared.event.Event.{Event}
-use Rattle.checkout_core.specs.declared.path.Heard.{Heard}
 use Rattle.checkout_core.specs.declared.path.Start.{Start}
 use Rattle.checkout_core.specs.declared.path.Start.TheVariants as start
 use Rattle.checkout_core.specs.declared.verdict.Verdict.{Verdict}
 use Rattle.checkout_core.specs.States.{is_at}
 use Rattle.checkout_core.specs.Talks.{contains}
-use Rattle.checkout_core.specs.Fates.{Fate, heard_by}
-use Rattle.driver_line.specs.Lines.{Paths}
+use Rattle.checkout_core.specs.Fates.{heard_by}
 use Rattle.driver_line.specs.OneContent.{OneContent}
 use Rattle.driver_line.specs.SameHeard.{SameHeard, IsToldTalk, HaveTexts, HaveSameTexts, content_of}
 use Rattle.checkout_plan.specs.declared.path_plan.PathPlan.{PathPlan}
 use Rattle.checkout_plan.specs.declared.path_plan.Plan.{Plan}
-use Rattle.checkout_engine.specs.Alike.{TellAll, IsUndisturbed, AreAlike, WorkersChangeNothing, SettingsChangeNothing}
+use Rattle.checkout_engine.specs.Alike.{IsUndisturbed, WorkersChangeNothing, SettingsChangeNothing}
 use Rattle.checkout_engine.specs.Complete.{failed_leaves}
 use Rattle.checkout_engine.specs.Ends.{Seen, IsCheckedOut, verdicts_of, files_of}
 use Rattle.checkout_engine.specs.Outcome.{Outcome, HasOutcome, AreOutcomes}

@@ -1,5 +1,5 @@
 -- One checkout in which no leaf and no link failed and memory was left: what its talks and outcomes come from.
-use Rattle.std.proofs.Common.{◌≡◌, ◌+◌, ◌<◌, ◌==◌, ◌||◌, ◌⊎◌, ℕ, zero, suc, Bool, true, false, List, [], ◌∷◌, map, Option, Some, None, Result, Ok, Err, refl, sym, ap, ◌∙◌, subst, inl, inr, arith}
+use Rattle.std.proofs.Common.{◌≡◌, ◌+◌, ◌||◌, ◌⊎◌, ℕ, zero, suc, Bool, true, false, List, [], ◌∷◌, Some, Ok, refl, sym, ap, ◌∙◌, subst, inl, inr, arith}
 use Rattle.std.specs.Prelude.{slice_get}
 use Rattle.std.specs.List.{AllByRecursion}
 use Rattle.std.proofs.lemmas.Bool.{eqb-true}
@@ -7,7 +7,6 @@ use Rattle.std.proofs.lemmas.Option.{same_Some}
 use Rattle.std.proofs.lemmas.List.Sums.{sum_by-append}
 use Rattle.edge_kit.specs.Told.{Told}
 use Rattle.edge_kit.specs.Starters.{Starts, StartTold}
-use Rattle.object_dir.specs.declared.fault.ObjectFault.{ObjectFault}
 use Rattle.settings_view.specs.declared.view.Driver.{Driver}
 use Rattle.filter_words.specs.declared.reply.Reply.TheVariants as reply
 use Rattle.checkout_core.specs.declared.event.Event.{Event}
@@ -17,12 +16,12 @@ use Rattle.checkout_core.specs.declared.path.Start.TheVariants as start
 use Rattle.checkout_core.specs.declared.verdict.Verdict.{Verdict}
 use Rattle.checkout_core.specs.States.{is_at}
 use Rattle.checkout_core.specs.Talks.{contains}
-use Rattle.checkout_core.specs.Fates.{Fate, Known, heard_by}
+use Rattle.checkout_core.specs.Fates.{Known, heard_by}
 use Rattle.git_index.specs.Spelling.{pairwise}
 use Rattle.driver_desk.specs.Serving.{HasAnswer}
 use Rattle.driver_line.specs.Conversations.{Exchange, NoStart, NoRoom, Opening, First, Listing, Second, Shutting}
 use Rattle.driver_line.specs.OneContent.{OneContent, HasGiven, Gives}
-use Rattle.driver_line.specs.SameHeard.{AreApart, NoneFailed, IsToldTalk, content_of, fate_in}
+use Rattle.driver_line.specs.SameHeard.{NoneFailed, IsToldTalk, content_of, fate_in}
 use Rattle.driver_line.specs.ToldStarts.{GoBy}
 use Rattle.checkout_plan.specs.declared.path_plan.PathPlan.{PathPlan}
 use Rattle.checkout_engine.specs.Alike.{IsTold}

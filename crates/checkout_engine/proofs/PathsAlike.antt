@@ -1,5 +1,5 @@
 -- What is told of a path's object, and what its driver is heard to say of it, settle its verdict and its file.
-use Rattle.std.proofs.Common.{◌≡◌, ℕ, ◌+◌, ◌<◌, zero, Bool, true, false, cond, List, [], ◌∷◌, Option, Some, None, Result, Ok, Err, refl, sym, ap, ◌∙◌, subst, arith}
+use Rattle.std.proofs.Common.{◌≡◌, ℕ, ◌<◌, Bool, true, false, cond, List, Option, Some, None, Result, Ok, Err, refl, sym, ap, ◌∙◌, subst, arith}
 use Rattle.edge_kit.specs.Told.{Told}
 use Rattle.edge_kit.specs.declared.leaf_state.LeafState.{LeafState}
 use Rattle.edge_kit.specs.declared.tree_file.TreeFile.{TreeFile}
@@ -23,7 +23,6 @@ use Rattle.checkout_plan.specs.Making.{object_kind}
 use Rattle.checkout_engine.specs.Alike.{IsTold}
 use Rattle.checkout_engine.specs.Complete.{failed_leaves}
 use Rattle.checkout_engine.specs.Outcome.{Outcome, HasVerdict, HasDeskVerdict, file_with, leaf_back}
-use Rattle.checkout_engine.specs.Prepared.{IsPreparedTo}
 use Rattle.checkout_engine.specs.Report.{is_no_memory}
 use Rattle.checkout_engine.specs.Talks.{DriverTalk, heard_at, Gave, was_read}
 use Rattle.checkout_engine.proofs.ToldObjects.{found_of, gives_found, fails_found, kind_found}

@@ -1,5 +1,5 @@
 -- A repository that tells all that it holds has one plan, whatever its number of workers.
-use Rattle.std.proofs.Common.{◌≡◌, ◌==◌, if◌then◌else◌, map, ℕ, true, List, [], ◌∷◌, Result, Ok, Err, refl, sym, ap, ◌∙◌, subst}
+use Rattle.std.proofs.Common.{◌≡◌, ◌==◌, if◌then◌else◌, map, ℕ, true, List, [], ◌∷◌, Result, Ok, refl, sym, ap, ◌∙◌, subst}
 use Rattle.std.specs.List.{AllZip}
 use Rattle.edge_kit.specs.Told.{Told, RepoTold}
 use Rattle.git_index.specs.declared.entry.Entry.{Entry}
@@ -26,7 +26,7 @@ use Rattle.checkout_plan.specs.Making.{HasContent, HaveContents}
 use Rattle.checkout_engine.specs.Alike.{IsTold, TellAll, DifferInWorkers}
 use Rattle.checkout_engine.specs.Sources.{HasIndex, HasSettings, HasInfo, IsPlanned}
 use Rattle.edge_kit.specs.Starters.{Starts}
-use Rattle.checkout_engine.proofs.ToldObjects.{same_told, same_bytes, found_of, gives_found}
+use Rattle.checkout_engine.proofs.ToldObjects.{same_told, same_bytes, gives_found}
 
 same_ok : {A E : Type 0} (x y : A) → ◌≡◌ {A = Result A E} (Ok x) (Ok y) → x ≡ y
 same_ok x y e = cc

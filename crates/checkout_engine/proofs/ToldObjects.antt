@@ -1,13 +1,18 @@
--- What is told of a file or an object settles what it holds.
-use Rattle.std.proofs.Common.{◌≡◌, ◌<◌, ℕ, List, [], length, Option, Some, None, Result, Ok, Err, refl, sym, ap, ◌∙◌, inl, inr}
+-- What is told of a file or an object settles what it holds. The forms in memory tell all.
+use Rattle.std.proofs.Common.{Option, [], Bool, true, false, if◌then◌else◌, map, ◌∷◌, ◌≡◌, ℕ, List, length, Some, None, Result, Err, refl, sym, ap, ◌∙◌, inl, inr}
 use Rattle.std.proofs.lemmas.Bool.{lt-ltb}
+use Rattle.std.specs.Global.{Vec}
+use Rattle.std.specs.Str.{bytes_eq}
+use Rattle.edge_kit.specs.Memory.{file_told, first_object, fails_with}
+use Rattle.edge_kit.specs.MemoryDrivers.{start_told, sessions_for}
+use Rattle.edge_kit.specs.declared.memory_repo.RepoFail.TheVariants as fail
 use Rattle.edge_kit.specs.Told.{Told, Raw, Absent, Failing, Untold, TellsBytes, TellsNone, TellsLong, MayFail}
 use Rattle.object_dir.specs.Object.{Gives, IsObject, object_of, max_stored}
 use Rattle.object_dir.specs.declared.fault.ObjectFault.{ObjectFault}
 use Rattle.object_dir.specs.declared.fault.ObjectFault.TheVariants as object
 use Rattle.checkout_core.specs.declared.verdict.ObjectKind.{ObjectKind}
 use Rattle.checkout_plan.specs.Making.{FitsKind, object_kind}
-use Rattle.checkout_engine.specs.Alike.{IsTold}
+use Rattle.checkout_engine.specs.Alike.{IsTold, MemoryTellsAll}
 use Rattle.checkout_engine.specs.Sources.{HasBytes}
 
 pub same_told : (told : Told) (x y : List ℕ) → IsTold told → TellsBytes told x → TellsBytes told y → x ≡ y
@@ -71,3 +76,30 @@ fault_found told name k (object.WrongName found) is kind has = gives_found told 
 -- what is wrong with an object that is told is its fault
 pub kind_found : (told : Told) (name : List ℕ) (k : ObjectKind) → IsTold told → FitsKind told name k → (f : ObjectFault) × (found_of told name ≡ Err f) × (object_kind f ≡ Some k)
 kind_found told name k is has = (has.fault, fault_found told name k has.fault is has.is has.fits, has.is)
+
+-- the forms in memory tell all
+file_is_told : (fails : Bool) (content : Option (Vec ℕ)) → IsTold (file_told fails content)
+file_is_told true content = tt
+file_is_told false None = tt
+file_is_told false (Some v) = tt
+
+first_is_told : (objects : List (List ℕ × Vec ℕ)) (name : List ℕ) → IsTold (first_object objects name)
+first_is_told [] name = tt
+first_is_told (o ∷ os) name = by (bytes_eq o.0 name) (first_is_told os name)
+  where
+    by : (b : Bool) → IsTold (first_object os name) → IsTold (if b then Raw (o.1).items else first_object os name)
+    by true more = tt
+    by false more = more
+
+object_is_told : (fails : Bool) (objects : List (List ℕ × Vec ℕ)) (name : List ℕ) → IsTold (if fails then Failing else first_object objects name)
+object_is_told true objects name = tt
+object_is_told false objects name = first_is_told objects name
+
+pub memory_told : MemoryTellsAll
+memory_told index config info objects fails scripts = record {
+  index = file_is_told (fails_with fail.Index fails) index;
+  config = file_is_told (fails_with fail.Config fails) config;
+  info = file_is_told (fails_with fail.Info fails) info;
+  object = λ name. object_is_told (fails_with (fail.Object name) fails) objects name;
+  starts = λ command. (map start_told (sessions_for scripts command), refl);
+}

@@ -1,8 +1,13 @@
 -- What two checkouts have in common, whatever the number of their workers.
 use Rattle.std.specs.Prelude.{◌≡◌, ℕ, false, List, Option, Some}
 use Rattle.std.specs.List.{AllByRecursion}
+use Rattle.std.specs.Global.{Vec}
+use Rattle.edge_kit.specs.Memory.{repo_told}
+use Rattle.edge_kit.specs.MemoryDrivers.{starts_for}
 use Rattle.edge_kit.specs.Starters.{Starts, StartTold}
 use Rattle.edge_kit.specs.Told.{Told, Raw, Absent, Failing, Untold, RepoTold}
+use Rattle.edge_kit.specs.declared.memory_repo.RepoFail.{RepoFail}
+use Rattle.edge_kit.specs.declared.script.DriverScript.{DriverScript}
 use Rattle.edge_kit.specs.declared.tree_file.TreeFile.{TreeFile}
 use Rattle.driver_line.specs.SameHeard.{NoneFailed}
 use Rattle.settings_view.specs.declared.view.Settings.{Settings}
@@ -25,6 +30,12 @@ pub record TellAll (told : RepoTold) (ahead : List ℕ → Starts) : Type 0 wher
   pub info : IsTold told.info
   pub object : (name : List ℕ) → IsTold (told.object name)
   pub starts : (command : List ℕ) → (starts : List StartTold) × (ahead command ≡ Some starts)
+
+-- The forms in memory do so.
+abbrev pub MemoryTellsAll : Type 0
+MemoryTellsAll = (index config info : Option (Vec ℕ)) (objects : List (List ℕ × Vec ℕ))
+    (fails : List RepoFail) (scripts : List DriverScript)
+    → TellAll (repo_told index config info objects fails) (starts_for scripts)
 
 -- No leaf of the checkout failed, and no link. Each link told what it took. There was memory for
 -- each path.

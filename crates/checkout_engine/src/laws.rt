@@ -1,5 +1,5 @@
 //! What follows from the contracts of a checkout.
-ghost use Rattle.checkout_engine.specs.Alike.{WorkersChangeNothing, SettingsChangeNothing};
+ghost use Rattle.checkout_engine.specs.Alike.{MemoryTellsAll, WorkersChangeNothing, SettingsChangeNothing};
 
 use driver_line::{a_path_gets_one_content, equal_outputs_give_equal_talks};
 use git_index::{one_reading, paths_are_ordered};
@@ -18,3 +18,8 @@ pub fn workers_change_nothing()
     equal_outputs_give_equal_talks();
     a_path_gets_one_content();
 }
+
+/// The forms in memory tell all that the law on the number of workers asks to be told of a repository and a spawner.
+pub fn memory_tells_all()
+    ensures { MemoryTellsAll }
+{}

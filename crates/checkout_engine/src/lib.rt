@@ -18,5 +18,5 @@ mod stop;
 mod workers;
 
 pub use command::run;
-pub use laws::workers_change_nothing;
+pub use laws::{memory_tells_all, workers_change_nothing};
 pub use show::plan_text;
