@@ -57,7 +57,6 @@ IsCause told (refusal.Attribute path kind) = IsFaultyFile told path (λ k. fault
 IsCause told (refusal.AttributeTooLarge path) =
     IsFaultyFile told path (λ k. fault.AttributeTooLarge k)
 IsCause told (refusal.TooManyDrivers n) = IsFaulty told (fault.TooManyDrivers n)
-IsCause told refusal.Unbuilt = ⊥
 
 -- the blobs that were made, those of attribute files, were given back
 pub record IsRepoBack (old new : RepoSeen) : Type 0 where

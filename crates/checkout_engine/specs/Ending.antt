@@ -23,7 +23,8 @@ use Rattle.checkout_engine.specs.Causes.{IsCause, IsReadCause, IsRepoBack}
 use Rattle.checkout_engine.specs.Causes.{IsRepoSteady}
 use Rattle.checkout_engine.specs.Ends.{Seen, IsCheckedOut, IsReported, IsRefused, IsCutOff}
 use Rattle.checkout_engine.specs.Ends.{IsOutOfMemory, IsReadFault, IsNotEmpty, verdicts_of}
-use Rattle.checkout_engine.specs.Shown.{Refuses, EndsPlan, EndsUnbuilt}
+use Rattle.checkout_engine.specs.Shown.{Refuses, EndsPlan}
+use Rattle.checkout_engine.specs.Rehearsed.{EndsRehearsal}
 use Rattle.checkout_engine.specs.Output.{IsCut, with_text}
 use Rattle.checkout_engine.specs.Report.{report, status_of, lacks_memory}
 use Rattle.checkout_engine.specs.Writing.{ArePathsDone}
@@ -131,4 +132,4 @@ abbrev pub Ends : Option Command → RepoTold → (List ℕ → Starts) → Seen
 Ends None told ahead old new s = EndsUnasked old new s
 Ends (Some (command.Checkout workers)) told ahead old new s = EndsCheckout told ahead workers old new s
 Ends (Some command.Plan) told ahead old new s = EndsPlan told old new s
-Ends (Some (command.Rehearse seed paths)) told ahead old new s = EndsUnbuilt old new s
+Ends (Some (command.Rehearse seed paths)) told ahead old new s = EndsRehearsal seed paths old new s

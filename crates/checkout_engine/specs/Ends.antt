@@ -33,7 +33,7 @@ use Rattle.checkout_engine.specs.RefusalText.{refusal_line}
 abbrev pub asked : List (String Global) → Option Command
 asked words = command_of (map string_bytes words)
 
--- whether the command is a checkout, a plan, or a rehearsal
+-- whether the command is a checkout, or a plan
 abbrev pub IsCheckout : Option Command → Type 0
 IsCheckout (Some (command.Checkout workers)) = Unit {0}
 IsCheckout c = ⊥
@@ -46,10 +46,6 @@ workers_asked c = None
 abbrev pub IsPlan : Option Command → Type 0
 IsPlan (Some command.Plan) = Unit {0}
 IsPlan c = ⊥
-
-abbrev pub IsRehearsal : Option Command → Type 0
-IsRehearsal (Some (command.Rehearse seed paths)) = Unit {0}
-IsRehearsal c = ⊥
 
 -- all that a run can change
 pub record Seen : Type 0 where

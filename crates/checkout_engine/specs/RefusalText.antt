@@ -49,7 +49,6 @@ refusal_words refusal.InfoTooLarge = codes "attributes info too-large"
 refusal_words (refusal.Attribute path kind) = attribute_words path (object_word kind)
 refusal_words (refusal.AttributeTooLarge path) = attribute_words path (codes "too-large")
 refusal_words (refusal.TooManyDrivers n) = codes "drivers " ++ decimal n
-refusal_words refusal.Unbuilt = codes "unbuilt"
 
 -- the line that is written for this refusal
 abbrev pub refusal_line : Refusal → List ℕ

@@ -7,7 +7,6 @@ use Rattle.checkout_plan.specs.declared.path_plan.Plan.{Plan}
 use Rattle.checkout_engine.specs.declared.status.Status.{Status}
 use Rattle.checkout_engine.specs.declared.status.Status.TheVariants as status
 use Rattle.checkout_engine.specs.declared.stop.Refusal.{Refusal}
-use Rattle.checkout_engine.specs.declared.stop.Refusal.TheVariants as refusal
 use Rattle.checkout_engine.specs.Causes.{IsCause, IsReadCause, IsPlanRead, IsRepoBack, IsRepoSteady}
 use Rattle.checkout_engine.specs.Ends.{Seen}
 use Rattle.checkout_engine.specs.Output.{IsCut, with_text}
@@ -55,14 +54,6 @@ Shows told repo repo' sink sink' s = ⊥
 -- The same for `run`: the worktree and the spawner don't change, and nothing is in the history.
 pub record EndsPlan (told : RepoTold) (old new : Seen) (s : Status) : Type 0 where
   pub shown : Shows told old.repo new.repo old.sink new.sink s
-  pub tree : new.tree ≡ old.tree
-  pub spawner : new.spawner ≡ old.spawner
-  pub history : new.history ≡ old.history
-
--- How a refusal of what isn't built yet ends: nothing but its line is written.
-pub record EndsUnbuilt (old new : Seen) (s : Status) : Type 0 where
-  pub line : Refuses refusal.Unbuilt old.sink new.sink s
-  pub repo : new.repo ≡ old.repo
   pub tree : new.tree ≡ old.tree
   pub spawner : new.spawner ≡ old.spawner
   pub history : new.history ≡ old.history

@@ -10,6 +10,7 @@ mod output;
 mod paths;
 mod planning;
 mod refusal;
+mod rehearsing;
 mod report;
 mod show;
 mod sources;

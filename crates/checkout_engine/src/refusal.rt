@@ -89,7 +89,6 @@ fn refusal_words(alloc: Global, refusal: &Refusal) -> Result<Vec<u8>, AllocError
         Refusal::Attribute(path, kind) => attribute_words(alloc, path, object_word(*kind)),
         Refusal::AttributeTooLarge(path) => attribute_words(alloc, path, "too-large"),
         Refusal::TooManyDrivers(n) => Ok(format!(in alloc; "drivers {n}")?.into_bytes()),
-        Refusal::Unbuilt => Vec::from_slice(alloc, b"unbuilt"),
     }
 }
 

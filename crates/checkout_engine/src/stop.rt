@@ -27,8 +27,6 @@ pub enum Refusal {
     AttributeTooLarge(Bytes),
     /// Too many drivers are in use: their number.
     TooManyDrivers(u32),
-    /// What isn't built yet: a rehearsal.
-    Unbuilt,
 }
 
 /// Why a checkout stops before it touches a file.

@@ -61,19 +61,22 @@ fn is_skipped(verdict: &Verdict) -> bool
     matches!(verdict, Verdict::Skipped(_))
 }
 
-fn written_count(verdicts: &[Verdict]) -> usize
+/// How many paths were written.
+pub fn written_count(verdicts: &[Verdict]) -> usize
     ensures { result ≡ count_by is_written verdicts.now }
 {
     verdicts.iter().filter(|v| is_written(v)).count()
 }
 
-fn unfiltered_count(verdicts: &[Verdict]) -> usize
+/// How many paths were written as their driver left them.
+pub fn unfiltered_count(verdicts: &[Verdict]) -> usize
     ensures { result ≡ count_by is_unfiltered verdicts.now }
 {
     verdicts.iter().filter(|v| is_unfiltered(v)).count()
 }
 
-fn failed_count(verdicts: &[Verdict]) -> usize
+/// How many paths failed.
+pub fn failed_count(verdicts: &[Verdict]) -> usize
     ensures { result ≡ count_by is_failed verdicts.now }
 {
     verdicts.iter().filter(|v| is_failed(v)).count()

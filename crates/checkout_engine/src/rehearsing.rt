@@ -1,0 +1,175 @@
+//! The command `rehearse`: a checkout in memory, of a repository and drivers that two numbers make, and its summary.
+ghost use Rattle.std.specs.Prelude.{◌≡◌, ◌≤◌, IfOk, Some, string_bytes};
+ghost use Rattle.checkout_engine.specs.Complete.{IsValid};
+ghost use Rattle.checkout_engine.specs.Reading.{IsRead};
+ghost use Rattle.checkout_engine.specs.Rehearsed.{bytes_of, summary_line, summary, IsTried, IsRehearsed};
+ghost use Rattle.checkout_engine.specs.Rehearsed.{IsSummed, Rehearses, new_memory};
+
+use crate::paths::{PathsDone, check_out_paths};
+use crate::planning::{Planned, read_plan};
+use crate::report::{lacks_memory, status_of};
+use crate::status::{Status, number_of};
+use crate::stop::Stop;
+use crate::workers::Pace;
+use checkout_core::Verdict;
+use checkout_plan::Plan;
+use checkout_report::{failed_count, unfiltered_count, written_count};
+use edge_kit::{Gate, MemoryRepo, MemorySpawner, MemoryTree, Repo, SendFault, Sink, Spawner, TreeFile, Worktree};
+use git_index::{index_has_no_fault, one_reading, paths_are_ordered};
+use rehearsal::{Rehearsed, rehearse};
+use std::alloc::{AllocError, Global};
+use std::sync::Wait;
+use std::thread::Threads;
+
+/// The sum of all files' bytes.
+fn bytes_of(files: &[TreeFile]) -> u128
+    ensures { result ≡ bytes_of files.now }
+{
+    let mut sum = 0u128;
+    for file in files {
+        sum += file.bytes.as_slice().len() as u128;
+    }
+    sum
+}
+
+/// The line of a rehearsal, of these numbers.
+fn summary_line(
+    alloc: Global,
+    paths: u32,
+    status: u8,
+    written: usize,
+    unfiltered: usize,
+    failed: usize,
+    bytes: u128,
+) -> Result<String, AllocError>
+    ensures { IfOk result (λ s. string_bytes s
+        ≡ summary_line paths status written unfiltered failed bytes) }
+{
+    format!(in alloc; "rehearse {paths} status {status} written {written} unfiltered {unfiltered} failed {failed} bytes {bytes}\n")
+}
+
+/// The summary of a rehearsal of so many paths with these verdicts and files.
+#[tactic(auto, unfolding(crate::specs::Rehearsed::summary))]
+fn summary(
+    alloc: Global,
+    paths: u32,
+    verdicts: &[Verdict],
+    files: &[TreeFile],
+) -> Result<String, AllocError>
+    ensures { IfOk result (λ s. string_bytes s ≡ summary paths verdicts.now files.now) }
+{
+    let status = number_of(status_of(verdicts));
+    let written = written_count(verdicts);
+    let unfiltered = unfiltered_count(verdicts);
+    let failed = failed_count(verdicts);
+    let bytes = bytes_of(files);
+    summary_line(alloc, paths, status, written, unfiltered, failed, bytes)
+}
+
+/// The plan of a valid repository.
+fn valid_plan<R: Repo>(alloc: Global, repo: &mut R) -> Result<Planned, AllocError>
+    requires { IsValid (R.told repo.old) }
+    ensures told { R.told repo.new ≡ R.told repo.old }
+    ensures read { IfOk result (λ p. IsRead (R.told repo.old) p (R.seen repo.old) (R.seen repo.new)) }
+{
+    one_reading();
+    index_has_no_fault();
+    match read_plan(alloc, repo) {
+        Ok(planned) => Ok(planned),
+        Err(Stop::NoMemory) => Err(AllocError),
+        Err(_) => unreachable!(),
+    }
+}
+
+/// Checks out what a rehearsal is made of into an empty worktree in memory: the verdicts of the paths, and that worktree.
+fn checked_out<G: Gate, H: Threads + Wait + Sync>(
+    rt: &H,
+    alloc: Global,
+    made: Rehearsed,
+    gate: &G,
+) -> Result<(Vec<Verdict>, MemoryTree), AllocError>
+    requires valid { IsValid (⟦<MemoryRepo as Repo>⟧.told made.repo) }
+    requires repo { ⟦<MemoryRepo as Repo>⟧.seen made.repo ≡ new_memory.repo }
+    requires spawner { ⟦<MemorySpawner as Spawner>⟧.seen made.spawner ≡ new_memory.spawner }
+    ensures { IfOk result (λ r. IsTried (⟦<MemoryRepo as Repo>⟧.told made.repo)
+        (⟦<MemorySpawner as Spawner>⟧.told made.spawner) r.0.items (⟦<MemoryTree as Worktree>⟧.seen r.1)) }
+{
+    paths_are_ordered();
+    let Rehearsed {
+        mut repo,
+        mut spawner,
+    } = made;
+    let mut tree = MemoryTree::new(alloc, true, Vec::new(alloc), false);
+    let planned = valid_plan(alloc, &mut repo)?;
+    let Planned {
+        plan,
+        workers,
+        threshold,
+    } = planned;
+    let Plan { paths, drivers, .. } = plan;
+    let pace = Pace {
+        asked: None,
+        workers,
+        threshold,
+    };
+    let slice = paths.as_slice();
+    let drivers = drivers.as_slice();
+    let done = check_out_paths(rt, alloc, &mut repo, &mut tree, &mut spawner, gate, slice, drivers, pace)?;
+    let PathsDone { verdicts, .. } = done;
+    Ok((verdicts, tree))
+}
+
+/// Rehearses so many paths: their verdicts, and the worktree in memory.
+fn rehearsed<G: Gate, H: Threads + Wait + Sync>(
+    rt: &H,
+    alloc: Global,
+    seed: u64,
+    paths: u32,
+    gate: &G,
+) -> Result<(Vec<Verdict>, MemoryTree), AllocError>
+    requires { paths ≤ 99999 }
+    ensures { IfOk result (λ r. IsRehearsed seed paths r.0.items (⟦<MemoryTree as Worktree>⟧.seen r.1)) }
+{
+    let made = rehearse(alloc, seed, paths)?;
+    checked_out(rt, alloc, made, gate)
+}
+
+/// The summary of the rehearsal of so many paths.
+fn rehearsal_summary<G: Gate, H: Threads + Wait + Sync>(
+    rt: &H,
+    alloc: Global,
+    seed: u64,
+    paths: u32,
+    gate: &G,
+) -> Result<String, AllocError>
+    requires { paths ≤ 99999 }
+    ensures { IfOk result (λ s. IsSummed seed paths (string_bytes s)) }
+{
+    let (verdicts, tree) = rehearsed(rt, alloc, seed, paths, gate)?;
+    if lacks_memory(&verdicts) {
+        return Err(AllocError);
+    }
+    summary(alloc, paths, &verdicts, tree.files())
+}
+
+/// The command `rehearse`: rehearses so many paths, and writes the summary.
+pub fn show_rehearsal<G: Gate, O: Sink, H: Threads + Wait + Sync>(
+    rt: &H,
+    alloc: Global,
+    seed: u64,
+    paths: u32,
+    gate: &G,
+    out: &mut O,
+) -> Status
+    requires { paths ≤ 99999 }
+    ensures { Rehearses seed paths (O.seen out.old) (O.seen out.new) result }
+{
+    let Ok(text) = rehearsal_summary(rt, alloc, seed, paths, gate) else {
+        return Status::OutOfMemory;
+    };
+    match out.write(text.as_bytes()) {
+        Ok(()) => Status::Done,
+        Err(SendFault::Failed) => Status::OutputNotWritten,
+        Err(SendFault::NoMemory) => Status::OutOfMemory,
+    }
+}
