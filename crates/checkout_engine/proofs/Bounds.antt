@@ -98,70 +98,78 @@ settings_few list s e =
     let found = workers_in (crlf_told list) (eol_told list) (workers_told list) (threshold_told list) (has_sha1 list) (BadChoice ObjectFormat) (drivers_told list) s same in
     subst IsWithin16 found.2 (told_few (last_value (is_key (codes "checkout") (codes "workers")) list) (BadNumber Workers) found.0 found.1)
 
--- the workers that words ask for
-abbrev asked_in : Option Command → Option ℕ
-asked_in (Some (command.Checkout workers)) = workers
-asked_in c = None
+-- the numbers of a command are within their limits
+abbrev IsWithinLimits : Option Command → Type 0
+IsWithinLimits (Some (command.Checkout workers)) = IsAsked workers
+IsWithinLimits (Some command.Plan) = Unit {0}
+IsWithinLimits (Some (command.Rehearse seed paths)) = paths ≤ 99999
+IsWithinLimits None = Unit {0}
 
-within_few : (ds : List ℕ) (b : Bool) (n : ℕ) → (is_decimal ds && nat_le (digits_value 10 ds) 16) ≡ b → (if b then Some (digits_value 10 ds) else None) ≡ Some n → n ≤ 16
-within_few ds false n is e = absurd cc
-within_few ds true n is e =
+within_few : (limit : ℕ) (ds : List ℕ) (b : Bool) (n : ℕ) → (is_decimal ds && nat_le (digits_value 10 ds) limit) ≡ b → (if b then Some (digits_value 10 ds) else None) ≡ Some n → n ≤ limit
+within_few limit ds false n is e = absurd cc
+within_few limit ds true n is e =
     let same : digits_value 10 ds ≡ n = cc e in
-    subst (λ (m : ℕ). m ≤ 16) same (leb-true (digits_value 10 ds) 16 (second (is_decimal ds) (nat_le (digits_value 10 ds) 16) is))
+    subst (λ (m : ℕ). m ≤ limit) same (leb-true (digits_value 10 ds) limit (second (is_decimal ds) (nat_le (digits_value 10 ds) limit) is))
   where
     second : (a c : Bool) → (a && c) ≡ true → c ≡ true
     second true c e = e
     second false c e = absurd cc
 
-with_few : (o : Option ℕ) → ((n : ℕ) → o ≡ Some n → n ≤ 16) → IsAsked (asked_in (with_workers o))
+decimal_few : (text : List ℕ) (limit n : ℕ) → decimal_within text limit ≡ Some n → n ≤ limit
+decimal_few text limit n e = within_few limit text (is_decimal text && nat_le (digits_value 10 text) limit) n refl e
+
+with_few : (o : Option ℕ) → ((n : ℕ) → o ≡ Some n → n ≤ 16) → IsWithinLimits (with_workers o)
 with_few None few = tt
 with_few (Some n) few = by (nat_le 1 n) refl
   where
-    by : (b : Bool) → nat_le 1 n ≡ b → IsAsked (asked_in (if b then Some (command.Checkout (Some n)) else None))
+    by : (b : Bool) → nat_le 1 n ≡ b → IsWithinLimits (if b then Some (command.Checkout (Some n)) else None)
     by true e = (leb-true 1 n e, few n refl)
     by false e = tt
 
-text_few : (text : List ℕ) → IsAsked (asked_in (workers_command text))
-text_few text = with_few (decimal_within text 16) (λ n e. within_few text (is_decimal text && nat_le (digits_value 10 text) 16) n refl e)
+text_few : (text : List ℕ) → IsWithinLimits (workers_command text)
+text_few text = with_few (decimal_within text 16) (decimal_few text 16)
 
-if_few : (b : Bool) (c d : Option Command) → IsAsked (asked_in c) → IsAsked (asked_in d) → IsAsked (asked_in (if b then c else d))
+if_few : (b : Bool) (c d : Option Command) → IsWithinLimits c → IsWithinLimits d → IsWithinLimits (if b then c else d)
 if_few true c d first second = first
 if_few false c d first second = second
 
-checkout_few : (tail : List (List ℕ)) → IsAsked (asked_in (checkout_command tail))
+checkout_few : (tail : List (List ℕ)) → IsWithinLimits (checkout_command tail)
 checkout_few [] = tt
 checkout_few (word ∷ []) = if_few (bytes_eq (take 10 word) (codes "--workers=")) (workers_command (drop 10 word)) None (text_few (drop 10 word)) tt
 checkout_few (word ∷ number ∷ []) = if_few (bytes_eq word (codes "--workers")) (workers_command number) None (text_few number) tt
 checkout_few (word ∷ number ∷ other ∷ more) = tt
 
-plan_few : (tail : List (List ℕ)) → IsAsked (asked_in (plan_command tail))
+plan_few : (tail : List (List ℕ)) → IsWithinLimits (plan_command tail)
 plan_few [] = tt
 plan_few (word ∷ more) = tt
 
-numbers_few : (a b : Option ℕ) → IsAsked (asked_in (with_numbers a b))
-numbers_few None b = tt
-numbers_few (Some x) None = tt
-numbers_few (Some x) (Some y) = tt
+numbers_few : (a b : Option ℕ) → ((n : ℕ) → b ≡ Some n → n ≤ 99999) → IsWithinLimits (with_numbers a b)
+numbers_few None b few = tt
+numbers_few (Some x) None few = tt
+numbers_few (Some x) (Some y) few = few y refl
 
-rehearse_few : (tail : List (List ℕ)) → IsAsked (asked_in (rehearse_command tail))
+rehearse_few : (tail : List (List ℕ)) → IsWithinLimits (rehearse_command tail)
 rehearse_few [] = tt
 rehearse_few (seed ∷ []) = tt
-rehearse_few (seed ∷ paths ∷ []) = numbers_few (decimal_within seed (2 ^ 64 - 1)) (decimal_within paths 99999)
+rehearse_few (seed ∷ paths ∷ []) = numbers_few (decimal_within seed (2 ^ 64 - 1)) (decimal_within paths 99999) (decimal_few paths 99999)
 rehearse_few (seed ∷ paths ∷ other ∷ more) = tt
 
-command_few : (words : List (List ℕ)) → IsAsked (asked_in (command_of words))
+command_few : (words : List (List ℕ)) → IsWithinLimits (command_of words)
 command_few [] = tt
 command_few (repo ∷ []) = tt
 command_few (repo ∷ tree ∷ []) = tt
 command_few (repo ∷ tree ∷ name ∷ tail) =
-    let last : IsAsked (asked_in (if bytes_eq name (codes "rehearse") then rehearse_command tail else None)) = if_few (bytes_eq name (codes "rehearse")) (rehearse_command tail) None (rehearse_few tail) tt in
-    let next : IsAsked (asked_in (if bytes_eq name (codes "plan") then plan_command tail else if bytes_eq name (codes "rehearse") then rehearse_command tail else None)) =
+    let last : IsWithinLimits (if bytes_eq name (codes "rehearse") then rehearse_command tail else None) = if_few (bytes_eq name (codes "rehearse")) (rehearse_command tail) None (rehearse_few tail) tt in
+    let next : IsWithinLimits (if bytes_eq name (codes "plan") then plan_command tail else if bytes_eq name (codes "rehearse") then rehearse_command tail else None) =
     if_few (bytes_eq name (codes "plan")) (plan_command tail) (if bytes_eq name (codes "rehearse") then rehearse_command tail else None) (plan_few tail) last in
     if_few (bytes_eq name (codes "checkout")) (checkout_command tail) (if bytes_eq name (codes "plan") then plan_command tail else if bytes_eq name (codes "rehearse") then rehearse_command tail else None)
     (checkout_few tail) next
 
 pub asked_few : (words : List (List ℕ)) (workers : Option ℕ) → command_of words ≡ Some (command.Checkout workers) → IsAsked workers
-asked_few words workers e = subst (λ (c : Option Command). IsAsked (asked_in c)) e (command_few words)
+asked_few words workers e = subst IsWithinLimits e (command_few words)
+
+pub paths_few : (words : List (List ℕ)) (seed paths : ℕ) → command_of words ≡ Some (command.Rehearse seed paths) → paths ≤ 99999
+paths_few words seed paths e = subst IsWithinLimits e (command_few words)
 
 -- one to sixteen workers
 pub count_few : (asked : Option ℕ) (workers threshold cards : ℕ) → IsAsked asked → IsWithin16 workers → IsWithin16 (workers_for asked workers threshold cards)

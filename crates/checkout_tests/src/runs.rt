@@ -93,12 +93,6 @@ fn words_say_what_is_done(rt: HostRuntime) -> Result<(), Fail> {
             command: &["--help"],
             ..usage
         },
-        Case {
-            command: &["rehearse", "0", "8"],
-            wanted: "refused unbuilt\n\
-                status 3\n",
-            ..usage
-        },
     ];
     check(&rt, rt.alloc(), &cases)
 }
