@@ -103,21 +103,18 @@ have_an_index seed n few =
     let short = order_short n in
     let small = all_on {P = λ i. i < n} {Q = λ i. i < 1000000} (λ i h. omega (arith, h, few)) is (order_small n) in
     record {
-      bytes = plain_text es;
-      index = record {
-        written = map plain es;
-        extensions = [];
-        hash = sha1 (plain_body es);
-        spelled_so = ap (λ (b : List ℕ). b ++ sha1 (plain_body es)) (body_is es);
-        same = same_entries es;
-        fit = fit seed is;
-        passed = tt;
-        hashed = subst (λ (b : List ℕ). is_hash_of b (sha1 (plain_body es)) ≡ true) (body_is es)
-            (or_right _ _ ((bytes_eq-Decides (sha1 (plain_body es)) (sha1 (plain_body es))).1 refl));
-        small = omega (arith, size seed is, short, few);
-        few = omega (arith, counted seed is, short, few);
-        rising = rising seed is (order_sorted n) small;
-        alone = all_alone seed is (order_sorted n) small;
-        apart = no_clash seed is (order_sorted n) small;
-      };
+      written = map plain es;
+      extensions = [];
+      hash = sha1 (plain_body es);
+      spelled_so = ap (λ (b : List ℕ). b ++ sha1 (plain_body es)) (body_is es);
+      same = same_entries es;
+      fit = fit seed is;
+      passed = tt;
+      hashed = subst (λ (b : List ℕ). is_hash_of b (sha1 (plain_body es)) ≡ true) (body_is es)
+          (or_right _ _ ((bytes_eq-Decides (sha1 (plain_body es)) (sha1 (plain_body es))).1 refl));
+      small = omega (arith, size seed is, short, few);
+      few = omega (arith, counted seed is, short, few);
+      rising = rising seed is (order_sorted n) small;
+      alone = all_alone seed is (order_sorted n) small;
+      apart = no_clash seed is (order_sorted n) small;
     }

@@ -1,11 +1,12 @@
 -- The repository of a rehearsal.
-use Rattle.std.specs.Prelude.{◌≡◌, ◌≤◌, ℕ, List, [], ◌∷◌, ◌++◌, map, codes, if◌then◌else◌}
+use Rattle.std.specs.Prelude.{◌≡◌, ◌≤◌, ℕ, List, [], ◌∷◌, ◌++◌, map, codes, if◌then◌else◌, Ok}
 use Rattle.std.specs.Str.{bytes_eq}
 use Rattle.sha1.specs.Sha1.{sha1}
+use Rattle.object_dir.specs.Object.{object_of}
 use Rattle.object_dir.specs.Spelling.{spelled_blob}
 use Rattle.git_index.specs.declared.entry.Entry.{Entry}
 use Rattle.git_index.specs.declared.entry.Mode.TheVariants.{Plain}
-use Rattle.git_index.specs.Spelling.{plain_text, AreEntries}
+use Rattle.git_index.specs.Spelling.{plain_text, IsIndex}
 use Rattle.edge_kit.specs.Told.{Told, Raw, Absent, RepoTold}
 use Rattle.rehearsal.specs.Paths.{name, content, line_of, in_order}
 
@@ -38,6 +39,10 @@ files seed is = record { path = codes ".gitattributes"; content = attributes } �
 abbrev pub entry_of : File → Entry
 entry_of f = record { path = f.path; stage = 0; mode = Plain; name = sha1 (spelled_blob f.content) }
 
+-- the entries of these files
+abbrev pub entries : List File → List Entry
+entries fs = map entry_of fs
+
 -- the object with a name is that of the first file which has it
 abbrev pub object_told : List File → List ℕ → Told
 object_told [] name = Absent
@@ -46,11 +51,22 @@ object_told (f ∷ fs) name =
 
 -- what the repository of these files tells, which stand in the order of their paths
 pub record IsRepository (fs : List File) (told : RepoTold) : Type 0 where
-  pub index : told.index ≡ Raw (plain_text (map entry_of fs))
+  pub index : told.index ≡ Raw (plain_text (entries fs))
   pub config : told.config ≡ Raw config
   pub info : told.info ≡ Absent
   pub object : (name : List ℕ) → told.object name ≡ object_told fs name
 
--- The files of a rehearsal of up to 99,999 paths have an index.
+-- The files of a rehearsal of up to 99,999 paths have an index: the text of their entries.
 abbrev pub FilesHaveAnIndex : Type 0
-FilesHaveAnIndex = (seed n : ℕ) → n ≤ 99999 → AreEntries (map entry_of (files seed (in_order n)))
+FilesHaveAnIndex = (seed n : ℕ) → n ≤ 99999
+    → IsIndex (plain_text (entries (files seed (in_order n)))) (entries (files seed (in_order n)))
+
+-- the name of the attribute file's object
+abbrev pub attributes_name : List ℕ
+attributes_name = sha1 (spelled_blob attributes)
+
+-- The object of a rehearsal's attribute file is told, and holds the attributes.
+pub record AttributesAreRight : Type 0 where
+  pub there : (seed : ℕ) (is : List ℕ)
+      → object_told (files seed is) attributes_name ≡ Raw (spelled_blob attributes)
+  pub right : object_of (spelled_blob attributes) attributes_name ≡ Ok attributes

@@ -11,7 +11,9 @@ use git_index::{Entry, Mode, spell_index};
 use object_dir::{blob_name, spell_blob};
 use std::alloc::{AllocError, Global};
 
-const ATTRIBUTES: &[u8] = b"*.k1 text eol=crlf\n*.k2 ident\n*.k3 working-tree-encoding=UTF-16LE\n\
+/// What the attribute file holds.
+pub const ATTRIBUTES: &[u8] =
+    b"*.k1 text eol=crlf\n*.k2 ident\n*.k3 working-tree-encoding=UTF-16LE\n\
     *.k4 filter=alpha\n*.k5 filter=alpha\n*.k6 filter=beta\n*.k7 filter=beta\n";
 
 const CONFIG: &[u8] = b"[checkout]\nworkers = 4\nthresholdForParallelism = 1\n\

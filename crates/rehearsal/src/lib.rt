@@ -8,4 +8,4 @@ mod order;
 mod paths;
 mod scripts;
 
-pub use making::{Rehearsed, files_have_an_index, rehearse};
+pub use making::{Rehearsed, attributes_are_right, files_have_an_index, rehearse};

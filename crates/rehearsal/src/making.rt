@@ -1,13 +1,15 @@
 //! What a rehearsal is made of.
 ghost use Rattle.std.specs.Prelude.{◌≡◌, ◌≤◌, [], IfOk};
 ghost use Rattle.rehearsal.specs.Paths.{in_order};
-ghost use Rattle.rehearsal.specs.Repository.{files, IsRepository, FilesHaveAnIndex};
+ghost use Rattle.rehearsal.specs.Repository.{files, IsRepository};
+ghost use Rattle.rehearsal.specs.Repository.{FilesHaveAnIndex, AttributesAreRight};
 ghost use Rattle.rehearsal.specs.Drivers.{scripts};
 
-use crate::files::repository;
+use crate::files::{ATTRIBUTES, repository};
 use crate::order::path_order;
 use crate::scripts::scripts;
 use edge_kit::{MemoryRepo, MemorySpawner, Repo, Spawner};
+use object_dir::spelling_gives_its_content;
 use std::alloc::{AllocError, Global};
 
 /// A repository in memory, and the drivers that its configuration names.
@@ -17,10 +19,17 @@ pub struct Rehearsed {
     pub spawner: MemorySpawner,
 }
 
-/// The law that the files of a rehearsal have an index.
+/// The law that the files of a rehearsal have an index. It does nothing.
 pub fn files_have_an_index()
     ensures { FilesHaveAnIndex }
 {}
+
+/// The law that the object of a rehearsal's attribute file is there and right. It does nothing.
+pub fn attributes_are_right()
+    ensures { AttributesAreRight }
+{
+    spelling_gives_its_content(ATTRIBUTES);
+}
 
 /// The rehearsal of so many paths, up to 99,999. Equal numbers give an equal rehearsal.
 pub fn rehearse(alloc: Global, seed: u64, paths: u32) -> Result<Rehearsed, AllocError>
