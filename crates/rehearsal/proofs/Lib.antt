@@ -4,3 +4,4 @@ pub mod Entries
 pub mod Whole
 pub mod Storing
 pub mod Spelled
+pub mod Blocks

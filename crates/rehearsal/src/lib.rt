@@ -8,4 +8,6 @@ mod order;
 mod paths;
 mod scripts;
 
-pub use making::{Rehearsed, attributes_are_right, files_have_an_index, rehearse};
+pub use making::{
+    Rehearsed, attributes_are_right, blocks_are_alike, files_have_an_index, rehearse,
+};

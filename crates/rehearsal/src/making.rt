@@ -4,6 +4,7 @@ ghost use Rattle.rehearsal.specs.Paths.{in_order};
 ghost use Rattle.rehearsal.specs.Repository.{files, IsRepository};
 ghost use Rattle.rehearsal.specs.Repository.{FilesHaveAnIndex, AttributesAreRight};
 ghost use Rattle.rehearsal.specs.Drivers.{scripts};
+ghost use Rattle.rehearsal.specs.Blocks.{BlocksAreAlike};
 
 use crate::files::{ATTRIBUTES, repository};
 use crate::order::path_order;
@@ -30,6 +31,11 @@ pub fn attributes_are_right()
 {
     spelling_gives_its_content(ATTRIBUTES);
 }
+
+/// The law that the same becomes of any 200 paths that follow one another by number. It does nothing.
+pub fn blocks_are_alike()
+    ensures { BlocksAreAlike }
+{}
 
 /// The rehearsal of so many paths, up to 99,999. Equal numbers give an equal rehearsal.
 pub fn rehearse(alloc: Global, seed: u64, paths: u32) -> Result<Rehearsed, AllocError>
