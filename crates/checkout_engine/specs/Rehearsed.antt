@@ -1,5 +1,5 @@
 -- How the command `rehearse` ends, and what it writes.
-use Rattle.std.specs.Prelude.{◌≡◌, ℕ, true, false, List, [], ◌∷◌, ◌++◌, length, codes, count_by, sum_by, Some, None}
+use Rattle.std.specs.Prelude.{◌≡◌, ℕ, Bool, true, false, List, [], ◌∷◌, ◌++◌, length, codes, count_by, sum_by, Some, None}
 use Rattle.std.specs.Fmt.{decimal}
 use Rattle.byte_path.specs.Characters.{line_feed}
 use Rattle.edge_kit.specs.Faults.{Rose}
@@ -15,6 +15,8 @@ use Rattle.checkout_core.specs.declared.verdict.Verdict.{Verdict}
 use Rattle.checkout_report.specs.Report.{is_written, is_unfiltered, is_failed}
 use Rattle.checkout_engine.specs.declared.status.Status.{Status}
 use Rattle.checkout_engine.specs.declared.status.Status.TheVariants as status
+use Rattle.checkout_engine.specs.declared.stop.Stop.{Stop}
+use Rattle.checkout_engine.specs.declared.stop.Stop.TheVariants as stop
 use Rattle.checkout_engine.specs.Ends.{Seen, begun, IsCheckedOut, verdicts_of}
 use Rattle.checkout_engine.specs.Output.{IsCut, with_text}
 use Rattle.checkout_engine.specs.Report.{number_of, status_of, lacks_memory}
@@ -23,18 +25,26 @@ use Rattle.checkout_engine.specs.Report.{number_of, status_of, lacks_memory}
 abbrev pub bytes_of : List TreeFile → ℕ
 bytes_of fs = sum_by (λ f. length f.bytes) fs
 
--- the line of a rehearsal, of these numbers
-abbrev pub summary_line : ℕ → ℕ → ℕ → ℕ → ℕ → ℕ → List ℕ
-summary_line paths status written unfiltered failed bytes =
-    codes "rehearse " ++ (decimal paths ++ (codes " status " ++ (decimal status
-    ++ (codes " written " ++ (decimal written ++ (codes " unfiltered " ++ (decimal unfiltered
-    ++ (codes " failed " ++ (decimal failed ++ (codes " bytes " ++ (decimal bytes ++ line_feed ∷ [])))))))))))
+-- the two halves of the line of a rehearsal, of these numbers
+abbrev pub first_words : ℕ → ℕ → ℕ → List ℕ
+first_words paths status written =
+    codes "rehearse " ++ (decimal paths ++ (codes " status " ++ (decimal status ++ (codes " written " ++ decimal written))))
 
--- The same for these verdicts and files: the status is that of the checkout.
+abbrev pub last_words : ℕ → ℕ → ℕ → List ℕ
+last_words unfiltered failed bytes =
+    codes " unfiltered " ++ (decimal unfiltered
+    ++ (codes " failed " ++ (decimal failed ++ (codes " bytes " ++ (decimal bytes ++ line_feed ∷ [])))))
+
+-- The line of a rehearsal of so many paths with these verdicts and files. The status is 1 if a path failed.
 unfoldable pub summary : ℕ → List Verdict → List TreeFile → List ℕ
 summary paths verdicts fs =
-    summary_line paths (number_of (status_of verdicts)) (count_by is_written verdicts)
-    (count_by is_unfiltered verdicts) (count_by is_failed verdicts) (bytes_of fs)
+    first_words paths (number_of (status_of verdicts)) (count_by is_written verdicts)
+    ++ last_words (count_by is_unfiltered verdicts) (count_by is_failed verdicts) (bytes_of fs)
+
+-- whether memory ran out
+abbrev pub is_memory : Stop → Bool
+is_memory stop.NoMemory = true
+is_memory s = false
 
 -- what is seen as a checkout begins in memory: nothing was called, and there is no file; it looks at no sink
 abbrev pub new_memory : Seen

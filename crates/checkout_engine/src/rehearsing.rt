@@ -2,7 +2,7 @@
 ghost use Rattle.std.specs.Prelude.{◌≡◌, ◌≤◌, IfOk, Some, string_bytes};
 ghost use Rattle.checkout_engine.specs.Complete.{IsValid};
 ghost use Rattle.checkout_engine.specs.Reading.{IsRead};
-ghost use Rattle.checkout_engine.specs.Rehearsed.{bytes_of, summary_line, summary, IsTried, IsRehearsed};
+ghost use Rattle.checkout_engine.specs.Rehearsed.{is_memory, bytes_of, first_words, last_words, summary, IsTried, IsRehearsed};
 ghost use Rattle.checkout_engine.specs.Rehearsed.{IsSummed, Rehearses, new_memory};
 
 use crate::paths::{PathsDone, check_out_paths};
@@ -14,9 +14,11 @@ use crate::workers::Pace;
 use checkout_core::Verdict;
 use checkout_plan::Plan;
 use checkout_report::{failed_count, unfiltered_count, written_count};
-use edge_kit::{Gate, MemoryRepo, MemorySpawner, MemoryTree, Repo, SendFault, Sink, Spawner, TreeFile, Worktree};
+use edge_kit::{
+    Gate, MemoryRepo, MemorySpawner, MemoryTree, Repo, SendFault, Sink, Spawner, TreeFile, Worktree,
+};
 use git_index::{index_has_no_fault, one_reading, paths_are_ordered};
-use rehearsal::{Rehearsed, rehearse};
+use rehearsal::{Rehearsed, attributes_are_right, files_have_an_index, rehearse};
 use std::alloc::{AllocError, Global};
 use std::sync::Wait;
 use std::thread::Threads;
@@ -32,20 +34,23 @@ fn bytes_of(files: &[TreeFile]) -> u128
     sum
 }
 
-/// The line of a rehearsal, of these numbers.
-fn summary_line(
+/// The first half of the line of a rehearsal, of these numbers.
+fn first_words(alloc: Global, paths: u32, status: u8, written: usize) -> Result<String, AllocError>
+    ensures { IfOk result (λ s. string_bytes s ≡ first_words paths status written) }
+{
+    format!(in alloc; "rehearse {paths} status {status} written {written}")
+}
+
+/// The second half, with the line's end.
+fn last_words(
     alloc: Global,
-    paths: u32,
-    status: u8,
-    written: usize,
     unfiltered: usize,
     failed: usize,
     bytes: u128,
 ) -> Result<String, AllocError>
-    ensures { IfOk result (λ s. string_bytes s
-        ≡ summary_line paths status written unfiltered failed bytes) }
+    ensures { IfOk result (λ s. string_bytes s ≡ last_words unfiltered failed bytes) }
 {
-    format!(in alloc; "rehearse {paths} status {status} written {written} unfiltered {unfiltered} failed {failed} bytes {bytes}\n")
+    format!(in alloc; " unfiltered {unfiltered} failed {failed} bytes {bytes}\n")
 }
 
 /// The summary of a rehearsal of so many paths with these verdicts and files.
@@ -63,7 +68,16 @@ fn summary(
     let unfiltered = unfiltered_count(verdicts);
     let failed = failed_count(verdicts);
     let bytes = bytes_of(files);
-    summary_line(alloc, paths, status, written, unfiltered, failed, bytes)
+    let first = first_words(alloc, paths, status, written)?;
+    let last = last_words(alloc, unfiltered, failed, bytes)?;
+    format!(in alloc; "{first}{last}")
+}
+
+/// Whether memory ran out.
+fn is_memory(stop: &Stop) -> bool
+    ensures { result ≡ is_memory stop.now }
+{
+    matches!(stop, Stop::NoMemory)
 }
 
 /// The plan of a valid repository.
@@ -76,8 +90,11 @@ fn valid_plan<R: Repo>(alloc: Global, repo: &mut R) -> Result<Planned, AllocErro
     index_has_no_fault();
     match read_plan(alloc, repo) {
         Ok(planned) => Ok(planned),
-        Err(Stop::NoMemory) => Err(AllocError),
-        Err(_) => unreachable!(),
+        Err(stop) => {
+            let ran_out = is_memory(&stop);
+            prove!(ran_out);
+            Err(AllocError)
+        }
     }
 }
 
@@ -114,7 +131,17 @@ fn checked_out<G: Gate, H: Threads + Wait + Sync>(
     };
     let slice = paths.as_slice();
     let drivers = drivers.as_slice();
-    let done = check_out_paths(rt, alloc, &mut repo, &mut tree, &mut spawner, gate, slice, drivers, pace)?;
+    let done = check_out_paths(
+        rt,
+        alloc,
+        &mut repo,
+        &mut tree,
+        &mut spawner,
+        gate,
+        slice,
+        drivers,
+        pace,
+    )?;
     let PathsDone { verdicts, .. } = done;
     Ok((verdicts, tree))
 }
@@ -130,6 +157,8 @@ fn rehearsed<G: Gate, H: Threads + Wait + Sync>(
     requires { paths ≤ 99999 }
     ensures { IfOk result (λ r. IsRehearsed seed paths r.0.items (⟦<MemoryTree as Worktree>⟧.seen r.1)) }
 {
+    files_have_an_index();
+    attributes_are_right();
     let made = rehearse(alloc, seed, paths)?;
     checked_out(rt, alloc, made, gate)
 }
