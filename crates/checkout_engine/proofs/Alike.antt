@@ -1,8 +1,7 @@
 -- Two checkouts of one repository with the same drivers, in which no leaf and no link failed, are alike.
-use Rattle.std.proofs.Common.{◌≡◌, ◌+◌, ◌<◌, ℕ, zero, suc, Bool, true, false, List, [], ◌∷◌, Option, Some, None, refl, sym, ap, ◌∙◌, subst, inl, inr, arith}
+use Rattle.std.proofs.Common.{◌≡◌, ◌+◌, ℕ, zero, suc, Bool, true, false, List, [], ◌∷◌, Option, Some, None, refl, sym, ap, ◌∙◌, subst, arith}
 use Rattle.std.specs.Prelude.{slice_get}
 use Rattle.std.proofs.lemmas.Bool.{eq-eqb}
-use Rattle.std.proofs.lemmas.Bool.Decides.{leb_tells}
 use Rattle.std.proofs.lemmas.Option.{same_Some}
 use Rattle.std.proofs.lemmas.List.Sums.{sum_by-append}
 use Rattle.edge_kit.specs.Seen.{TreeSeen}
@@ -10,7 +9,7 @@ use Rattle.edge_kit.specs.Told.{Told, RepoTold, Tells}
 use Rattle.edge_kit.specs.Starters.{Starts}
 use Rattle.edge_kit.specs.declared.tree_file.TreeFile.{TreeFile}
 use Rattle.settings_view.specs.declared.view.Driver.{Driver}
-use Rattle.git_index.specs.Spelling.{OneReading, PathsAreOrdered, is_before}
+use Rattle.git_index.specs.Spelling.{OneReading, PathsAreOrdered}
 use Rattle.checkout_core.specs.declared.event.Event.{Event}
 use Rattle.checkout_core.specs.declared.path.Start.{Start}
 use Rattle.checkout_core.specs.declared.path.Start.TheVariants as start
@@ -30,8 +29,7 @@ use Rattle.checkout_engine.specs.Paths.{leaves_back}
 use Rattle.checkout_engine.specs.Report.{lacks_memory, report}
 use Rattle.checkout_engine.specs.Talks.{DriverTalk, IsDriverTalk, heard_at}
 use Rattle.checkout_engine.proofs.Drivers.{planned_ordered}
-use Rattle.checkout_engine.proofs.Order.{not_before}
-use Rattle.checkout_engine.proofs.Seeds.{before}
+use Rattle.checkout_engine.proofs.Seeds.{same_place}
 use Rattle.checkout_engine.proofs.Rising.{apart, same_rising}
 use Rattle.checkout_engine.proofs.SamePlan.{same_plan, differs_not}
 use Rattle.checkout_engine.proofs.ToldObjects.{found_of}
@@ -76,27 +74,11 @@ module _ (object : List ℕ → Told) (ahead : List ℕ → Starts) (ps : List P
     same_asked : u.asked ≡ t.asked
     same_asked = sym (same_rising t.asked u.asked first_said.over.rises second_said.over.rises same_number)
 
-    path_apart : (m n : ℕ) (p q : PathPlan) → slice_get ps m ≡ Some p → slice_get ps n ≡ Some q → p.path ≡ q.path → m < n → ⊥
-    path_apart m n p q at later same less =
-        let comes : is_before p.path q.path ≡ true = before ps m n p q g.rise less at later in
-        let self : is_before p.path p.path ≡ true = subst (λ (path : List ℕ). is_before p.path path ≡ true) (sym same) comes in
-        let no : true ≡ false = sym self ∙ not_before p.path p.path self in
-        absurd cc
-
-    same_place : (m n : ℕ) (p q : PathPlan) → slice_get ps m ≡ Some p → slice_get ps n ≡ Some q → p.path ≡ q.path → m ≡ n
-    same_place m n p q at later same = elim (leb_tells m n) [
-      | inl up ↦ elim (leb_tells n m) [
-        | inl down ↦ omega (arith, up.1, down.1)
-        | inr less ↦ absurd (path_apart m n p q at later same less.1)
-      ]
-      | inr more ↦ absurd (path_apart n m q p later at (sym same) more.1)
-    ]
-
     have_texts : HaveTexts t.paths t.asked
     have_texts m n is are same =
         let p = first_said.over.each m is in
         let q = first_said.over.each n are in
-        same_place m n p.0 q.0 p.1 q.1 (sym p.3 ∙ same ∙ q.3)
+        same_place ps g.rise m n p.0 q.0 p.1 q.1 (sym p.3 ∙ same ∙ q.3)
 
     have_same_texts : HaveSameTexts t.paths u.paths t.asked
     have_same_texts n is =

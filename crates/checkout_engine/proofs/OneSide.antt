@@ -72,7 +72,7 @@ first_fine object talks n p ps o os fit memory none =
     let there : failed_leaves (leaves_back ps os) ≡ 0 = omega (arith, both) in
     (record { has = fit.0; memory = left.0; leaf = here }, left.1, there)
 
-outcome_from : (object : List ℕ → Told) (talks : List DriverTalk) (n : ℕ) (ps : List PathPlan) (os : List Outcome) → AreOutcomes object talks n ps os → lacks_memory (verdicts_of os) ≡ false
+pub outcome_from : (object : List ℕ → Told) (talks : List DriverTalk) (n : ℕ) (ps : List PathPlan) (os : List Outcome) → AreOutcomes object talks n ps os → lacks_memory (verdicts_of os) ≡ false
     → failed_leaves (leaves_back ps os) ≡ 0 → (k : ℕ) (p : PathPlan) → slice_get ps k ≡ Some p → (o : Outcome) × (slice_get os k ≡ Some o) × FineAt object talks (n + k) p o
 outcome_from object talks n [] os fit memory none k p at = absurd cc
 outcome_from object talks n (q ∷ ps) [] fit memory none k p at = absurd fit
@@ -86,7 +86,7 @@ outcome_from object talks n (q ∷ ps) (o ∷ os) fit memory none (suc k) p at =
     let same : ◌≡◌ {A = ℕ} (suc n + k) (n + suc k) = omega arith in
     (more.0, more.1, subst (λ (m : ℕ). FineAt object talks m p more.0) same more.2)
 
-talk_from : (ahead : List ℕ → Starts) (object : List ℕ → Told) (ps : List PathPlan) (vs : List Verdict) (history : List Event) (m : ℕ) (xs : List Driver) (ts : List DriverTalk) → AreDriverTalks ahead object ps vs history m xs ts
+pub talk_from : (ahead : List ℕ → Starts) (object : List ℕ → Told) (ps : List PathPlan) (vs : List Verdict) (history : List Event) (m : ℕ) (xs : List Driver) (ts : List DriverTalk) → AreDriverTalks ahead object ps vs history m xs ts
     → (d : ℕ) (t : DriverTalk) → slice_get ts d ≡ Some t → (x : Driver) × (slice_get xs d ≡ Some x) × IsDriverTalk ahead object ps vs history (m + d) x t
 talk_from ahead object ps vs history m [] [] are d t at = absurd cc
 talk_from ahead object ps vs history m [] (u ∷ ts) are d t at = absurd are
@@ -99,7 +99,7 @@ talk_from ahead object ps vs history m (x ∷ xs) (u ∷ ts) are (suc d) t at =
     let same : ◌≡◌ {A = ℕ} (suc m + d) (m + suc d) = omega arith in
     (more.0, more.1, subst (λ (k : ℕ). IsDriverTalk ahead object ps vs history k more.0 t) same more.2)
 
-holds_at : {X : Type 0} (P : X → Type 0) (xs : List X) (k : ℕ) (x : X) → AllByRecursion P xs → slice_get xs k ≡ Some x → P x
+pub holds_at : {X : Type 0} (P : X → Type 0) (xs : List X) (k : ℕ) (x : X) → AllByRecursion P xs → slice_get xs k ≡ Some x → P x
 holds_at P [] k x all at = absurd cc
 holds_at P (y ∷ ys) zero x all at = subst P (same_Some y x at) all.0
 holds_at P (y ∷ ys) (suc k) x all at = holds_at P ys k x all.1 at

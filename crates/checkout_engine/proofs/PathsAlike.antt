@@ -74,7 +74,7 @@ has_read (Ok content) = true
 has_read (Err f) = false
 
 -- a leaf that failed has a count
-leaf_failed : (p : PathPlan) (o : Outcome) (state : LeafState) (count : ℕ) → 0 < count → o.leaf ≡ Some (state, count) → failed_leaves (leaf_back p o.leaf) ≡ 0 → ⊥
+pub leaf_failed : (p : PathPlan) (o : Outcome) (state : LeafState) (count : ℕ) → 0 < count → o.leaf ≡ Some (state, count) → failed_leaves (leaf_back p o.leaf) ≡ 0 → ⊥
 leaf_failed p o state count failed is none =
     let sum : failed_leaves (leaf_back p (Some (state, count))) ≡ 0 = subst (λ (l : Option (LeafState × ℕ)). failed_leaves (leaf_back p l) ≡ 0) is none in
     omega (arith, sum, failed)

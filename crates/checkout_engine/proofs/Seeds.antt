@@ -1,8 +1,9 @@
 -- The seeds of the desks of a pool, from the cards of the drivers' paths.
-use Rattle.std.proofs.Common.{◌≡◌, ℕ, zero, suc, ◌+◌, ◌<◌, ◌≤◌, ◌^◌, ◌==◌, Bool, true, false, cond, List, [], ◌∷◌, length, map, Option, Some, refl, sym, ap, ◌∙◌, subst, arith}
+use Rattle.std.proofs.Common.{◌≡◌, ℕ, zero, suc, ◌+◌, ◌<◌, ◌≤◌, ◌^◌, ◌==◌, Bool, true, false, cond, List, [], ◌∷◌, length, map, Option, Some, refl, sym, ap, ◌∙◌, subst, inl, inr, arith}
 use Rattle.std.specs.Prelude.{slice_get, slice_index_or}
 use Rattle.std.specs.List.{filter, list_all, AllByRecursion}
 use Rattle.std.proofs.lemmas.Bool.{and_parts, eqb-true, eqb-false, eq-eqb, ne_eqb}
+use Rattle.std.proofs.lemmas.Bool.Decides.{leb_tells}
 use Rattle.std.proofs.lemmas.List.{length-map}
 use Rattle.std.proofs.lemmas.Option.{same_Some, slice_get_within}
 use Rattle.edge_kit.specs.Told.{Told}
@@ -18,13 +19,13 @@ use Rattle.checkout_core.specs.States.{is_at, AreBelow}
 use Rattle.checkout_core.specs.Talks.{contains}
 use Rattle.checkout_plan.specs.declared.path_plan.PathPlan.{PathPlan}
 use Rattle.delay_table.specs.Table.{IsRising}
-use Rattle.git_index.specs.Spelling.{pairwise}
+use Rattle.git_index.specs.Spelling.{pairwise, is_before}
 use Rattle.writer_pool.specs.declared.pooled.DeskSeed.{DeskSeed}
 use Rattle.writer_pool.specs.Pools.{IsSeed, AreSeeds, AreStartersBack}
 use Rattle.checkout_engine.specs.Cards.{AreCards, AreOrdered, HasDriver}
 use Rattle.checkout_engine.specs.Dealing.{IsSeedFor, AreSeedsFor}
 use Rattle.checkout_engine.specs.Workers.{starts_of}
-use Rattle.checkout_engine.proofs.Order.{precedes}
+use Rattle.checkout_engine.proofs.Order.{precedes, not_before}
 
 all_at : (f : PathPlan → Bool) (xs : List PathPlan) (j : ℕ) (q : PathPlan) → list_all f xs ≡ true → slice_get xs j ≡ Some q → f q ≡ true
 all_at f [] j q all at = absurd cc
@@ -41,6 +42,23 @@ before (x ∷ xs) zero (suc j) p q rise less at later =
 before (x ∷ xs) (suc i) (suc j) p q rise less at later =
     let parts = and_parts (list_all (precedes x) xs) (pairwise precedes xs) rise in
     before xs i j p q parts.1 (omega (arith, less)) at later
+
+path_apart : (ps : List PathPlan) (m n : ℕ) (p q : PathPlan) → pairwise precedes ps ≡ true → slice_get ps m ≡ Some p → slice_get ps n ≡ Some q → p.path ≡ q.path → m < n → ⊥
+path_apart ps m n p q rise at later same less =
+    let comes : is_before p.path q.path ≡ true = before ps m n p q rise less at later in
+    let self : is_before p.path p.path ≡ true = subst (λ (path : List ℕ). is_before p.path path ≡ true) (sym same) comes in
+    let no : true ≡ false = sym self ∙ not_before p.path p.path self in
+    absurd cc
+
+-- two places of one path are one
+pub same_place : (ps : List PathPlan) → pairwise precedes ps ≡ true → (m n : ℕ) (p q : PathPlan) → slice_get ps m ≡ Some p → slice_get ps n ≡ Some q → p.path ≡ q.path → m ≡ n
+same_place ps rise m n p q at later same = elim (leb_tells m n) [
+  | inl up ↦ elim (leb_tells n m) [
+    | inl down ↦ omega (arith, up.1, down.1)
+    | inr less ↦ absurd (path_apart ps m n p q rise at later same less.1)
+  ]
+  | inr more ↦ absurd (path_apart ps n m q p rise later at (sym same) more.1)
+]
 
 filter_few : (f : PathPlan → Bool) (xs : List PathPlan) → length (filter f xs) ≤ length xs
 filter_few f [] = omega arith
