@@ -134,7 +134,7 @@ same_outcomes object talks talks' n (p ∷ ps) (o ∷ os) (q ∷ qs) f h m k l r
     let file : o.file ≡ q.file = ap (λ (e : PathEnd). e.file) here in
     (rw (verdict, rest.0) refl, rw (file, rest.1) refl)
 
-side_of : (told : RepoTold) (ahead : List ℕ → Starts) (asked : Option ℕ) (old new : Seen) (c : IsCheckedOut told ahead asked old new) → IsUndisturbed c
+pub side_of : (told : RepoTold) (ahead : List ℕ → Starts) (asked : Option ℕ) (old new : Seen) (c : IsCheckedOut told ahead asked old new) → IsUndisturbed c
     → IsSide told.object ahead c.plan.paths c.plan.drivers c.talks c.outcomes new.history
 side_of told ahead asked old new c u =
     let grew : failed_leaves new.tree.returned ≡ failed_leaves old.tree.returned + failed_leaves (leaves_back c.plan.paths c.outcomes) =

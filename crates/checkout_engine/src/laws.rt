@@ -1,5 +1,6 @@
 //! What follows from the contracts of a checkout.
 ghost use Rattle.checkout_engine.specs.Alike.{MemoryTellsAll, WorkersChangeNothing, SettingsChangeNothing};
+ghost use Rattle.checkout_engine.specs.Given.{WrittenIsGiven};
 
 use driver_line::{a_path_gets_one_content, equal_outputs_give_equal_talks};
 use git_index::{one_reading, paths_are_ordered};
@@ -23,3 +24,12 @@ pub fn workers_change_nothing()
 pub fn memory_tells_all()
     ensures { MemoryTellsAll }
 {}
+
+/// What `run` needs of drivers to be done can be met: what is told of their starts gives all their paths if a checkout
+/// that was not disturbed wrote all of these.
+pub fn written_paths_are_given()
+    ensures { WrittenIsGiven }
+{
+    paths_are_ordered();
+    a_path_gets_one_content();
+}

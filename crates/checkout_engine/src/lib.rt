@@ -19,5 +19,5 @@ mod stop;
 mod workers;
 
 pub use command::run;
-pub use laws::{memory_tells_all, workers_change_nothing};
+pub use laws::{memory_tells_all, workers_change_nothing, written_paths_are_given};
 pub use show::plan_text;

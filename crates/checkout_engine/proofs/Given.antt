@@ -1,0 +1,80 @@
+-- A checkout that was not disturbed and wrote each path of a driver shows that what is told of the starts gives these paths.
+use Rattle.std.proofs.Common.{◌≡◌, ◌+◌, ℕ, zero, suc, Bool, List, [], ◌∷◌, Some, refl, sym, ap, ◌∙◌, subst, arith}
+use Rattle.std.specs.Prelude.{slice_get}
+use Rattle.std.proofs.lemmas.Option.{same_Some}
+use Rattle.edge_kit.specs.Starters.{Starts}
+use Rattle.edge_kit.specs.Told.{Told}
+use Rattle.git_index.specs.Spelling.{PathsAreOrdered}
+use Rattle.driver_line.specs.OneContent.{OneContent}
+use Rattle.settings_view.specs.declared.view.Driver.{Driver}
+use Rattle.checkout_core.specs.declared.event.Event.{Event}
+use Rattle.checkout_core.specs.declared.path.Heard.TheVariants as heard
+use Rattle.checkout_core.specs.declared.path.Start.{Start}
+use Rattle.checkout_core.specs.declared.path.Start.TheVariants as start
+use Rattle.checkout_core.specs.declared.verdict.Verdict.{Verdict}
+use Rattle.checkout_core.specs.declared.verdict.Verdict.TheVariants as verdict
+use Rattle.checkout_plan.specs.declared.path_plan.PathPlan.{PathPlan}
+use Rattle.checkout_engine.specs.Complete.{GivesAll}
+use Rattle.checkout_engine.specs.Given.{AreWritten, WrittenIsGiven}
+use Rattle.checkout_engine.specs.Ends.{verdicts_of}
+use Rattle.checkout_engine.specs.Outcome.{Outcome, HasOutcome, HasDeskVerdict}
+use Rattle.checkout_engine.specs.Talks.{DriverTalk, IsDriverTalk, AreDriverTalks, heard_at}
+use Rattle.checkout_engine.proofs.Alike.{side_of}
+use Rattle.checkout_engine.proofs.Drivers.{planned_ordered}
+use Rattle.checkout_engine.proofs.Places.{get_map}
+use Rattle.checkout_engine.proofs.Seeds.{at_desk}
+use Rattle.checkout_engine.proofs.OneSide.{Ground, IsSide, outcome_at, told_talk}
+
+talk_with : (ahead : List ℕ → Starts) (object : List ℕ → Told) (ps : List PathPlan) (vs : List Verdict) (history : List Event) (m : ℕ) (xs : List Driver) (ts : List DriverTalk) → AreDriverTalks ahead object ps vs history m xs ts
+    → (d : ℕ) (x : Driver) → slice_get xs d ≡ Some x → (t : DriverTalk) × (slice_get ts d ≡ Some t) × IsDriverTalk ahead object ps vs history (m + d) x t
+talk_with ahead object ps vs history m [] ts are d x at = absurd cc
+talk_with ahead object ps vs history m (y ∷ xs) [] are d x at = absurd are
+talk_with ahead object ps vs history m (y ∷ xs) (t ∷ ts) are zero x at =
+    let here : ◌≡◌ {A = ℕ} m (m + zero) = omega arith in
+    (t, refl, subst (λ (k : ℕ). IsDriverTalk ahead object ps vs history k x t) here (subst (λ (r : Driver). IsDriverTalk ahead object ps vs history m r t) (same_Some y x at) are.0))
+talk_with ahead object ps vs history m (y ∷ xs) (t ∷ ts) are (suc d) x at =
+    let more = talk_with ahead object ps vs history (suc m) xs ts are.1 d x at in
+    let same : ◌≡◌ {A = ℕ} (suc m + d) (m + suc d) = omega arith in
+    (more.0, more.1, subst (λ (k : ℕ). IsDriverTalk ahead object ps vs history k x more.0) same more.2)
+
+got_by : (required : Bool) (d : ℕ) (t : DriverTalk) (n : ℕ) (told : Told) (p : PathPlan) (o : Outcome) (v : Verdict) (u : Bool) → v ≡ verdict.Written u → HasDeskVerdict required d t n told p o v → heard_at d t n ≡ Some heard.Got
+got_by required d t n told p o v u is has = let own : HasDeskVerdict required d t n told p o (verdict.Written u) = subst (HasDeskVerdict required d t n told p o) is has in own.0
+
+module _ (object : List ℕ → Told) (ahead : List ℕ → Starts) (ps : List PathPlan) (g : Ground object ahead ps) (drivers : List Driver) (talks : List DriverTalk) (outcomes : List Outcome) (history : List Event)
+    (s : IsSide object ahead ps drivers talks outcomes history)
+    (written : AreWritten ps outcomes) where
+  gives_all : (d : ℕ) (x : Driver) → slice_get drivers d ≡ Some x → GivesAll ahead ps d x
+  gives_all d x at =
+      let found = talk_with ahead object ps (verdicts_of outcomes) history 0 drivers talks s.conversations d x at in
+      let t = found.0 in
+      let same : ◌≡◌ {A = ℕ} (0 + d) d = omega arith in
+      let said : IsDriverTalk ahead object ps (verdicts_of outcomes) history d x t = subst (λ (k : ℕ). IsDriverTalk ahead object ps (verdicts_of outcomes) history k x t) same found.2 in
+      let starts = g.starts t.command in
+      record {
+        talk = t;
+        command = said.command;
+        starts = starts.0;
+        told = starts.1;
+        over = record {
+          asked = λ n p here is.
+              let o = outcome_at object ahead ps g drivers talks outcomes history s n p here in
+              let w = written n d p o.0 here is o.1 in
+              said.over.asked n p (verdict.Written w.0) here (get_map (λ (y : Outcome). y.verdict) outcomes n o.0 o.1 ∙ ap Some w.1) is refl;
+          each = λ n is. let e = said.over.each n is in (e.0, e.1, e.2, e.3);
+          rises = said.over.rises;
+        };
+        goes = told_talk object ahead ps g drivers talks outcomes history s d t found.1 starts.0 starts.1;
+        got = λ n is.
+            let e = said.over.each n is in
+            let o = outcome_at object ahead ps g drivers talks outcomes history s n e.0 e.1 in
+            let w = written n d e.0 o.0 e.1 e.2 o.1 in
+            let desk = at_desk d (e.0).start e.2 in
+            let has : HasOutcome object talks (start.Desk d desk.0) n e.0 o.0 = subst (λ (y : Start). HasOutcome object talks y n e.0 o.0) desk.1 o.2.has in
+            let same : has.1 ≡ t = same_Some has.1 t (sym has.2 ∙ found.1) in
+            got_by desk.0 d t n (object (e.0).object) e.0 o.0 (o.0).verdict w.0 w.1 (subst (λ (y : DriverTalk). HasDeskVerdict desk.0 d y n (object (e.0).object) e.0 o.0 (o.0).verdict) same has.3);
+      }
+
+pub written_given : PathsAreOrdered → OneContent → WrittenIsGiven
+written_given ordered one told ahead asked old new all c u written =
+    let ground : Ground told.object ahead c.plan.paths = record { told = all.object; starts = all.starts; rise = planned_ordered ordered told c.plan c.planned; one = one } in
+    gives_all told.object ahead c.plan.paths ground c.plan.drivers c.talks c.outcomes new.history (side_of told ahead asked old new c u) written
