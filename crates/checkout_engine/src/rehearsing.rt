@@ -160,7 +160,8 @@ fn rehearsed<G: Gate, H: Threads + Wait + Sync>(
     files_have_an_index();
     attributes_are_right();
     let made = rehearse(alloc, seed, paths)?;
-    checked_out(rt, alloc, made, gate)
+    let left = checked_out(rt, alloc, made, gate)?;
+    Ok(left)
 }
 
 /// The summary of the rehearsal of so many paths.
@@ -178,7 +179,8 @@ fn rehearsal_summary<G: Gate, H: Threads + Wait + Sync>(
     if lacks_memory(&verdicts) {
         return Err(AllocError);
     }
-    summary(alloc, paths, &verdicts, tree.files())
+    let text = summary(alloc, paths, &verdicts, tree.files())?;
+    Ok(text)
 }
 
 /// The command `rehearse`: rehearses so many paths, and writes the summary.
