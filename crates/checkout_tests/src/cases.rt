@@ -1,9 +1,30 @@
 //! The cases of the tests: what a run meets, and what it leaves.
-use crate::index::{PLAIN, Row, index_bytes};
-use byte_path::Bytes;
+//!
+//! A case is a row of cells. Its last cell is what it leaves: the output, the status, and a line for each file. The others
+//! say what it meets, each by a word, whose first letter tells, and what stands behind it:
+//!
+//! - `words`: the words after the two folders, `checkout` if there are none;
+//! - `entry`: the letters of its mode and of its object, and its path;
+//! - `plain`: so many plain files, the first with the path `p10000`, the next `p10001`, and so on;
+//! - `tail`: the extensions of the index, and `hash`: its hash, if it has one;
+//! - `absent`: there is no index;
+//! - `object`: the letter of another name for the object `HI`, `bytes`: its bytes, and `nuls`: how many NULs follow;
+//! - `config` and `info`: the configuration, and what `info/attributes` holds;
+//! - `read-fails`: what can't be read: the `index`, the `config`, the `info`, or the object with this letter;
+//! - `memory`: whether memory runs out at the `make` or the `read` of a blob, and the letter of its object;
+//! - `leaf`: which call on a leaf fails, and its path, and `sink`: the write that fails;
+//! - `full`: the worktree isn't empty, and `unchecked`: it can't tell;
+//! - `driver`: a driver's command, and what it writes in its only session.
+use crate::gate::Watch;
+use crate::index::{PLAIN, index_bytes, mode_of, push_entry};
+use crate::out_of_memory::OutOfMemoryRepo;
+use crate::table::{number_of, parted, rows_of};
+use byte_path::{Bytes, Items};
+use checkout_core::Event;
 use checkout_engine::run;
 use edge_kit::{
-    LeafCall, MemoryRepo, MemorySink, MemorySpawner, MemoryTree, NoGate, Repo, RepoFail, TreeFile,
+    DriverScript, LeafCall, MemoryRepo, MemorySink, MemorySpawner, MemoryTree, RepoFail,
+    SessionScript, Spawner, TreeFile,
 };
 use std::alloc::{AllocError, Global};
 use std::process::Abort;
@@ -14,70 +35,56 @@ use std::thread::Threads;
 use std::vec::Vec;
 
 /// The name that `git hash-object` gives to `hi` and a line feed.
-pub const HI: [u8; 20] = [
-    0x45, 0xb9, 0x83, 0xbe, 0x36, 0xb7, 0x3c, 0x07, 0x88, 0xdc, 0x9c, 0xbc, 0xb7, 0x6c, 0xbb, 0x80,
-    0xfc, 0x7b, 0xb0, 0x57,
-];
+pub const HI: [u8; 20] =
+    *b"\x45\xb9\x83\xbe\x36\xb7\x3c\x07\x88\xdc\x9c\xbc\xb7\x6c\xbb\x80\xfc\x7b\xb0\x57";
 
 /// The name that `git hash-object` gives to `bin`.
-pub const BIN: [u8; 20] = [
-    0xc5, 0xe8, 0x2d, 0x74, 0x58, 0x5d, 0x15, 0xd6, 0xea, 0x82, 0x1b, 0x5f, 0x23, 0xcd, 0x65, 0x62,
-    0x41, 0x90, 0xf2, 0x44,
-];
+const BIN: [u8; 20] =
+    *b"\xc5\xe8\x2d\x74\x58\x5d\x15\xd6\xea\x82\x1b\x5f\x23\xcd\x65\x62\x41\x90\xf2\x44";
 
 /// The name that `git hash-object` gives to `a`, LF, `b`, CR LF.
-pub const MIXED: [u8; 20] = [
-    0xe8, 0x9c, 0x76, 0x0d, 0x3c, 0x63, 0x6a, 0xc7, 0x16, 0xf6, 0xcb, 0xc9, 0x55, 0xbd, 0x10, 0x0a,
-    0x94, 0xaf, 0x60, 0x6d,
-];
+const MIXED: [u8; 20] =
+    *b"\xe8\x9c\x76\x0d\x3c\x63\x6a\xc7\x16\xf6\xcb\xc9\x55\xbd\x10\x0a\x94\xaf\x60\x6d";
 
 /// The name that `git hash-object` gives to `$Id$ $Id: a b $` and a line feed.
-pub const IDENT: [u8; 20] = [
-    0x93, 0x14, 0x61, 0x77, 0xb8, 0x3e, 0xbd, 0x89, 0xea, 0xa3, 0xcd, 0xa0, 0xf7, 0x06, 0x4a, 0x9e,
-    0x22, 0x50, 0x86, 0xb3,
-];
+const IDENT: [u8; 20] =
+    *b"\x93\x14\x61\x77\xb8\x3e\xbd\x89\xea\xa3\xcd\xa0\xf7\x06\x4a\x9e\x22\x50\x86\xb3";
 
 /// The name that `git hash-object` gives to U+00E9 and U+1F600 in UTF-8.
-pub const WIDE: [u8; 20] = [
-    0xe6, 0xf9, 0xa5, 0x34, 0x76, 0xa0, 0x97, 0xf6, 0x0d, 0x9e, 0x9b, 0x16, 0x33, 0x5d, 0xcb, 0x9f,
-    0xbd, 0x79, 0x87, 0x8f,
-];
+const WIDE: [u8; 20] =
+    *b"\xe6\xf9\xa5\x34\x76\xa0\x97\xf6\x0d\x9e\x9b\x16\x33\x5d\xcb\x9f\xbd\x79\x87\x8f";
 
 /// The name that `git hash-object` gives to nothing.
-pub const EMPTY: [u8; 20] = [
-    0xe6, 0x9d, 0xe2, 0x9b, 0xb2, 0xd1, 0xd6, 0x43, 0x4b, 0x8b, 0x29, 0xae, 0x77, 0x5a, 0xd8, 0xc2,
-    0xe4, 0x8c, 0x53, 0x91,
-];
+const EMPTY: [u8; 20] =
+    *b"\xe6\x9d\xe2\x9b\xb2\xd1\xd6\x43\x4b\x8b\x29\xae\x77\x5a\xd8\xc2\xe4\x8c\x53\x91";
 
 /// The name that `git hash-object` gives to the byte FF.
-pub const ODD: [u8; 20] = [
-    0xce, 0x54, 0x2e, 0xfa, 0xa5, 0x12, 0x4a, 0x04, 0x37, 0xf0, 0xc4, 0xdb, 0x32, 0x9d, 0x7e, 0xc4,
-    0xb7, 0xba, 0x70, 0xa7,
-];
+const ODD: [u8; 20] =
+    *b"\xce\x54\x2e\xfa\xa5\x12\x4a\x04\x37\xf0\xc4\xdb\x32\x9d\x7e\xc4\xb7\xba\x70\xa7";
 
 /// The name that `git hash-object` gives to `*.txt text eol=crlf` and a line feed.
-pub const ATTRIBUTES: [u8; 20] = [
-    0xc6, 0x1b, 0x24, 0x1e, 0xb4, 0x97, 0xeb, 0x43, 0x1d, 0xf8, 0x25, 0x84, 0x1e, 0x80, 0x85, 0x03,
-    0x14, 0x56, 0x00, 0xe1,
-];
+const ATTRIBUTES: [u8; 20] =
+    *b"\xc6\x1b\x24\x1e\xb4\x97\xeb\x43\x1d\xf8\x25\x84\x1e\x80\x85\x03\x14\x56\x00\xe1";
 
 /// The name that `git hash-object` gives to 1,048,577 NULs.
-pub const NULS: [u8; 20] = [
-    0x4d, 0x43, 0x51, 0x48, 0xd9, 0x32, 0x40, 0xe4, 0xd0, 0x5d, 0x1e, 0x03, 0xe5, 0xfe, 0x5b, 0x84,
-    0xfe, 0x9a, 0x7a, 0x47,
-];
+const NULS: [u8; 20] =
+    *b"\x4d\x43\x51\x48\xd9\x32\x40\xe4\xd0\x5d\x1e\x03\xe5\xfe\x5b\x84\xfe\x9a\x7a\x47";
 
 /// The name that `git hash-object` gives to `abcd`.
-pub const LETTERS: [u8; 20] = [
-    0x85, 0xdf, 0x50, 0x78, 0x5d, 0x62, 0xd3, 0xb0, 0x5a, 0xb0, 0x3d, 0x9c, 0xbf, 0x7e, 0x4a, 0x0b,
-    0x49, 0x44, 0x97, 0x30,
-];
+const LETTERS: [u8; 20] =
+    *b"\x85\xdf\x50\x78\x5d\x62\xd3\xb0\x5a\xb0\x3d\x9c\xbf\x7e\x4a\x0b\x49\x44\x97\x30";
 
 /// The name that `git hash-object` gives to a pointer to a large file, of 130 bytes.
-pub const POINTER: [u8; 20] = [
-    0x60, 0xc8, 0xd8, 0xab, 0x2a, 0xdc, 0xf5, 0x7a, 0x39, 0x11, 0x63, 0xa7, 0xee, 0xb0, 0xcd, 0xb8,
-    0xbf, 0x34, 0x8e, 0x44,
-];
+const POINTER: [u8; 20] =
+    *b"\x60\xc8\xd8\xab\x2a\xdc\xf5\x7a\x39\x11\x63\xa7\xee\xb0\xcd\xb8\xbf\x34\x8e\x44";
+
+/// The SHA-1 of the index of no entries, as `sha1sum` gives it.
+const NO_ENTRIES: [u8; 20] =
+    *b"\x39\xd8\x90\x13\x9e\xe5\x35\x6c\x7e\xf5\x72\x21\x6c\xeb\xcd\x27\xaa\x41\xf9\xdf";
+
+/// The SHA-1 of the index of the one entry `a` of `HI`, as `sha1sum` gives it.
+const ONE_ENTRY: [u8; 20] =
+    *b"\x1c\x6c\x18\x59\xc8\xad\xa0\x11\x07\xc2\x6b\x97\x6e\xe0\x64\x3e\xd8\xc1\xc7\x49";
 
 /// Objects that a test may use, as they are stored.
 const OBJECTS: [([u8; 20], &[u8]); 9] = [
@@ -96,127 +103,305 @@ const OBJECTS: [([u8; 20], &[u8]); 9] = [
     ),
 ];
 
-/// The SHA-1 of the index of no entries, as `sha1sum` gives it.
-pub const NO_ENTRIES: [u8; 20] = [
-    0x39, 0xd8, 0x90, 0x13, 0x9e, 0xe5, 0x35, 0x6c, 0x7e, 0xf5, 0x72, 0x21, 0x6c, 0xeb, 0xcd, 0x27,
-    0xaa, 0x41, 0xf9, 0xdf,
-];
-
-/// The SHA-1 of the index of the one entry `a` of `HI`, as `sha1sum` gives it.
-pub const ONE_ENTRY: [u8; 20] = [
-    0x1c, 0x6c, 0x18, 0x59, 0xc8, 0xad, 0xa0, 0x11, 0x07, 0xc2, 0x6b, 0x97, 0x6e, 0xe0, 0x64, 0x3e,
-    0xd8, 0xc1, 0xc7, 0x49,
-];
-
-/// What a run meets, and what it leaves: its output, its status, and a line for each file.
-#[derive(Clone, Copy)]
-pub struct Case<'a> {
-    /// The words after the two folders.
-    pub command: &'static [&'static str],
-    /// Whether there is an index.
-    pub index: bool,
-    pub rows: &'a [Row],
-    /// Extensions of the index.
-    pub more: &'static [u8],
-    pub hash: [u8; 20],
-    /// The object that a case gives, by its name: its stored bytes, and how many NULs follow them.
-    pub object: [u8; 20],
-    pub stored: &'static [u8],
-    pub nuls: usize,
-    pub config: Option<&'static [u8]>,
-    pub info: Option<&'static [u8]>,
-    pub fails: Option<RepoFail>,
-    pub leaf_fails: Option<(&'static [u8], LeafCall)>,
-    pub empty: bool,
-    pub check_fails: bool,
-    pub sink_fails: Option<u32>,
-    pub wanted: &'static str,
-}
-
-pub fn named(path: &'static [u8], name: [u8; 20]) -> Row {
-    stage(0, PLAIN, name, path)
-}
-
-pub fn stage(stage: u16, mode: u32, name: [u8; 20], path: &'static [u8]) -> Row {
-    Row {
-        mode,
-        stage,
-        name,
-        path,
+/// The name of the object with this letter.
+fn name_of(letters: &[u8]) -> [u8; 20] {
+    match letters {
+        [b'h'] => HI,
+        [b'b'] => BIN,
+        [b'm'] => MIXED,
+        [b'i'] => IDENT,
+        [b'w'] => WIDE,
+        [b'e'] => EMPTY,
+        [b'o'] => ODD,
+        [b'a'] => ATTRIBUTES,
+        [b'n'] => NULS,
+        [b'4'] => LETTERS,
+        [b'p'] => POINTER,
+        _ => [9; 20],
     }
 }
 
-pub fn plain(path: &'static [u8]) -> Row {
-    stage(0, PLAIN, HI, path)
+/// What a run meets.
+#[derive(Drop)]
+pub struct Case {
+    pub words: Vec<String>,
+    pub entries: Vec<u8>,
+    pub count: u32,
+    pub tail: Vec<u8>,
+    pub hash: [u8; 20],
+    pub has_index: bool,
+    pub object: [u8; 20],
+    pub stored: Vec<u8>,
+    pub nuls: u32,
+    pub config: Option<Vec<u8>>,
+    pub info: Option<Vec<u8>>,
+    pub read_fails: Vec<RepoFail>,
+    pub unmade: Option<[u8; 20]>,
+    pub unread: Option<[u8; 20]>,
+    pub leaf_fails: Vec<(Bytes, LeafCall)>,
+    pub sink_fails: Option<u32>,
+    pub empty: bool,
+    pub check_fails: bool,
+    pub scripts: Vec<DriverScript>,
 }
 
-/// A checkout in which nothing fails.
-pub fn checkout<'a>(rows: &'a [Row], wanted: &'static str) -> Case<'a> {
-    Case {
-        command: &["checkout"],
-        index: true,
-        rows,
-        more: &[],
+/// The two folders, and the words that are parted by spaces.
+fn words_of(alloc: Global, text: &[u8]) -> Result<Vec<String>, Fail> {
+    let mut words = Vec::new(alloc);
+    words.push(String::from_str(alloc, "R")?)?;
+    words.push(String::from_str(alloc, "T")?)?;
+    let mut word = Vec::new(alloc);
+    for byte in text {
+        if *byte == b' ' {
+            words.push(String::from_str(alloc, str::from_utf8(&word)?)?)?;
+            word.clear();
+        } else {
+            word.push(*byte)?;
+        }
+    }
+    words.push(String::from_str(alloc, str::from_utf8(&word)?)?)?;
+    Ok(words)
+}
+
+/// A checkout of no path.
+fn no_case(alloc: Global) -> Result<Case, Fail> {
+    Ok(Case {
+        words: words_of(alloc, b"checkout")?,
+        entries: Vec::new(alloc),
+        count: 0,
+        tail: Vec::new(alloc),
         hash: [0; 20],
+        has_index: true,
         object: HI,
-        stored: b"blob 3\0hi\n",
+        stored: Vec::from_slice(alloc, b"blob 3\0hi\n")?,
         nuls: 0,
         config: None,
         info: None,
-        fails: None,
-        leaf_fails: None,
+        read_fails: Vec::new(alloc),
+        unmade: None,
+        unread: None,
+        leaf_fails: Vec::new(alloc),
+        sink_fails: None,
         empty: true,
         check_fails: false,
-        sink_fails: None,
-        wanted,
+        scripts: Vec::new(alloc),
+    })
+}
+
+fn add_entry(case: &mut Case, value: &[u8]) -> Result<(), AllocError> {
+    if let [mode, object, b' ', path @ ..] = value {
+        let (mode, stage) = mode_of(*mode);
+        push_entry(&mut case.entries, mode, stage, &name_of(&[*object]), path)?;
+        case.count = case.count.wrapping_add(1);
+    }
+    Ok(())
+}
+
+fn add_plain_files(alloc: Global, case: &mut Case, count: u32) -> Result<(), AllocError> {
+    for number in 0..count {
+        let path = format!(in alloc; "p{}", 10_000u32.wrapping_add(number))?;
+        push_entry(&mut case.entries, PLAIN, 0, &HI, path.as_bytes())?;
+    }
+    case.count = case.count.wrapping_add(count);
+    Ok(())
+}
+
+fn hash_of(word: &[u8]) -> [u8; 20] {
+    match word {
+        [b'o', b'n', ..] => ONE_ENTRY,
+        [b'n', ..] => NO_ENTRIES,
+        _ => [1; 20],
     }
 }
 
-fn copied(alloc: Global, file: Option<&[u8]>) -> Result<Option<Vec<u8>>, AllocError> {
+fn read_fail_of(word: &[u8]) -> RepoFail {
+    match word {
+        [_] => RepoFail::Object(name_of(word)),
+        [_, b'n', b'd', ..] => RepoFail::Index,
+        [_, b'n', ..] => RepoFail::Info,
+        _ => RepoFail::Config,
+    }
+}
+
+fn leaf_call_of(word: &[u8]) -> LeafCall {
+    match word {
+        [b'p', ..] => LeafCall::Put,
+        [b's', ..] => LeafCall::Seal,
+        _ => LeafCall::Restart,
+    }
+}
+
+/// A session in which a driver writes this. A read gives at most so many bytes.
+pub fn session_of(alloc: Global, output: &[u8], piece: u32) -> Result<SessionScript, AllocError> {
+    Ok(SessionScript {
+        starts: true,
+        output: Bytes::copy_of(alloc, output)?,
+        piece,
+        fail_send: None,
+        fail_read: None,
+    })
+}
+
+fn script_of(alloc: Global, command: &[u8], output: &[u8]) -> Result<DriverScript, AllocError> {
+    let mut sessions = Vec::new(alloc);
+    sessions.push(session_of(alloc, output, 1000)?)?;
+    Ok(DriverScript {
+        command: Bytes::copy_of(alloc, command)?,
+        sessions: Items::from_vec(sessions),
+    })
+}
+
+/// Takes what a cell says of the repository. Any other cell says nothing of it.
+fn set_repo(alloc: Global, case: &mut Case, letter: u8, value: &[u8]) -> Result<(), Fail> {
+    match letter {
+        b'e' => add_entry(case, value)?,
+        b'p' => add_plain_files(alloc, case, number_of(value))?,
+        b't' => case.tail = Vec::from_slice(alloc, value)?,
+        b'h' => case.hash = hash_of(value),
+        b'a' => case.has_index = false,
+        b'o' => case.object = name_of(value),
+        b'b' => case.stored = Vec::from_slice(alloc, value)?,
+        b'n' => case.nuls = number_of(value),
+        b'c' => case.config = Some(Vec::from_slice(alloc, value)?),
+        b'i' => case.info = Some(Vec::from_slice(alloc, value)?),
+        b'r' => case.read_fails.push(read_fail_of(value))?,
+        _ => {}
+    }
+    Ok(())
+}
+
+/// Takes what a cell says of all else.
+fn set_rest(alloc: Global, case: &mut Case, letter: u8, value: &[u8]) -> Result<(), Fail> {
+    let (word, rest) = parted(value);
+    match letter {
+        b'w' => case.words = words_of(alloc, value)?,
+        b'm' => match word {
+            [b'm', ..] => case.unmade = Some(name_of(rest)),
+            _ => case.unread = Some(name_of(rest)),
+        },
+        b'l' => case
+            .leaf_fails
+            .push((Bytes::copy_of(alloc, rest)?, leaf_call_of(word)))?,
+        b's' => case.sink_fails = Some(number_of(value)),
+        b'f' => case.empty = false,
+        b'u' => case.check_fails = true,
+        b'd' => case.scripts.push(script_of(alloc, word, rest)?)?,
+        _ => {}
+    }
+    Ok(())
+}
+
+/// Takes what a cell says of a case. A cell with a capital says nothing of it.
+pub fn set(alloc: Global, case: &mut Case, cell: &[u8]) -> Result<(), Fail> {
+    let (_, value) = parted(cell);
+    if let [letter, ..] = cell {
+        set_repo(alloc, case, *letter, value)?;
+        set_rest(alloc, case, *letter, value)?;
+    }
+    Ok(())
+}
+
+/// The case of these cells.
+pub fn case_of(alloc: Global, cells: &[Vec<u8>]) -> Result<Case, Fail> {
+    let mut case = no_case(alloc)?;
+    for cell in cells {
+        set(alloc, &mut case, cell)?;
+    }
+    Ok(case)
+}
+
+fn memory_repo_of(alloc: Global, case: &Case) -> Result<MemoryRepo, AllocError> {
+    let index = if case.has_index {
+        let entries = case.entries.as_slice();
+        Some(index_bytes(alloc, case.count, entries, &case.tail, &case.hash)?)
+    } else {
+        None
+    };
+    let mut objects = Vec::new(alloc);
+    let mut stored = Vec::from_slice(alloc, &case.stored)?;
+    stored.extend_from_slice(&vec![in alloc; 0u8; case.nuls as usize]?)?;
+    objects.push((case.object, stored))?;
+    for (name, stored) in OBJECTS {
+        objects.push((name, Vec::from_slice(alloc, stored)?))?;
+    }
+    let config = copied(alloc, &case.config)?;
+    let info = copied(alloc, &case.info)?;
+    let mut fails = Vec::new(alloc);
+    for fail in case.read_fails.as_slice() {
+        fails.push(*fail)?;
+    }
+    Ok(MemoryRepo::new(alloc, index, config, info, objects, fails))
+}
+
+fn copied(alloc: Global, file: &Option<Vec<u8>>) -> Result<Option<Vec<u8>>, AllocError> {
     match file {
         Some(bytes) => Ok(Some(Vec::from_slice(alloc, bytes)?)),
         None => Ok(None),
     }
 }
 
-pub fn repo_of(alloc: Global, case: &Case) -> Result<MemoryRepo, AllocError> {
-    let index = if case.index {
-        Some(index_bytes(alloc, case.rows, case.more, case.hash)?)
-    } else {
-        None
+/// What a run leaves.
+#[derive(Drop)]
+pub struct Left {
+    pub status: u8,
+    pub output: Vec<u8>,
+    pub tree: MemoryTree,
+    pub history: Vec<Event>,
+}
+
+/// What a run with these drivers leaves. It begins with a history that isn't empty.
+pub fn left_by<P: Spawner, H: Threads + Wait + Sync>(
+    rt: &H,
+    alloc: Global,
+    case: Case,
+    spawner: &mut P,
+    gate: &Watch,
+) -> Result<Left, Fail> {
+    let mut repo = OutOfMemoryRepo {
+        repo: memory_repo_of(alloc, &case)?,
+        unmade: case.unmade,
+        unread: case.unread,
     };
-    let config = copied(alloc, case.config)?;
-    let info = copied(alloc, case.info)?;
-    let mut objects = Vec::new(alloc);
-    let mut stored = Vec::from_slice(alloc, case.stored)?;
-    stored.extend_from_slice(&vec![in alloc; 0u8; case.nuls]?)?;
-    objects.push((case.object, stored))?;
-    for (name, stored) in OBJECTS {
-        objects.push((name, Vec::from_slice(alloc, stored)?))?;
-    }
-    let mut fails = Vec::new(alloc);
-    if let Some(fail) = case.fails {
-        fails.push(fail)?;
-    }
-    Ok(MemoryRepo::new(alloc, index, config, info, objects, fails))
+    let mut out = MemorySink::new(alloc, case.sink_fails);
+    let words = case.words;
+    let mut tree = MemoryTree::new(alloc, case.empty, case.leaf_fails, case.check_fails);
+    let mut history = Vec::from_slice(alloc, &[Event::Claim { path: 7, actor: 99 }])?;
+    let status = run(
+        rt,
+        alloc,
+        &words,
+        &mut repo,
+        &mut tree,
+        spawner,
+        gate,
+        &mut out,
+        &mut history,
+    );
+    Ok(Left {
+        status,
+        output: Vec::from_slice(alloc, out.bytes())?,
+        tree,
+        history,
+    })
 }
 
-pub fn tree_of(alloc: Global, case: &Case) -> Result<MemoryTree, AllocError> {
-    let mut fails = Vec::new(alloc);
-    if let Some((path, call)) = case.leaf_fails {
-        fails.push((Bytes::copy_of(alloc, path)?, call))?;
-    }
-    Ok(MemoryTree::new(alloc, case.empty, fails, case.check_fails))
+/// What a run with the case's own drivers leaves, and what they have seen.
+pub fn left_by_own<H: Threads + Wait + Sync>(
+    rt: &H,
+    alloc: Global,
+    mut case: Case,
+    gate: &Watch,
+) -> Result<(Left, MemorySpawner), Fail> {
+    let scripts = std::mem::replace(&mut case.scripts, Vec::new(alloc));
+    let mut spawner = MemorySpawner::new(alloc, scripts);
+    let left = left_by(rt, alloc, case, &mut spawner, gate)?;
+    Ok((left, spawner))
 }
 
-pub fn words_of(alloc: Global, command: &[&str]) -> Result<Vec<String>, AllocError> {
-    let mut words = Vec::new(alloc);
-    words.push(String::from_str(alloc, "R")?)?;
-    words.push(String::from_str(alloc, "T")?)?;
-    for word in command {
-        words.push(String::from_str(alloc, word)?)?;
-    }
-    Ok(words)
+/// The same, where no gate holds an actor.
+pub fn ended<H: Threads + Wait + Sync>(rt: &H, alloc: Global, case: Case) -> Result<Left, Fail> {
+    let (left, _) = left_by_own(rt, alloc, case, &Watch::new(None))?;
+    Ok(left)
 }
 
 /// A content that isn't text is shown in hex.
@@ -241,61 +426,28 @@ fn push_files(seen: &mut String, files: &[TreeFile]) -> Result<(), Fail> {
     Ok(())
 }
 
-/// The status of a run without drivers, a gate that holds or a history before it.
-pub fn run_words<R: Repo, H: Threads + Wait + Sync>(
-    rt: &H,
-    alloc: Global,
-    words: &[String],
-    repo: &mut R,
-    tree: &mut MemoryTree,
-    out: &mut MemorySink,
-) -> u8 {
-    let mut spawner = MemorySpawner::new(alloc, Vec::new(alloc));
-    let mut history = Vec::new(alloc);
-    run(
-        rt,
-        alloc,
-        words,
-        repo,
-        tree,
-        &mut spawner,
-        &NoGate,
-        out,
-        &mut history,
-    )
-}
-
 /// The output, the status, and a line for each file.
-pub fn text_of(
-    alloc: Global,
-    output: &[u8],
-    status: u8,
-    files: &[TreeFile],
-) -> Result<String, Fail> {
-    let mut seen = String::from_str(alloc, str::from_utf8(output)?)?;
-    writeln!(seen, "status {status}")?;
-    push_files(&mut seen, files)?;
+pub fn text_of(alloc: Global, left: &Left) -> Result<String, Fail> {
+    let mut seen = String::from_str(alloc, str::from_utf8(&left.output)?)?;
+    writeln!(seen, "status {}", left.status)?;
+    push_files(&mut seen, left.tree.files())?;
     Ok(seen)
 }
 
-/// The output, the status, and a line for each file of the case.
-fn seen_of<H: Threads + Wait + Sync>(rt: &H, alloc: Global, case: &Case) -> Result<String, Fail> {
-    let words = words_of(alloc, case.command)?;
-    let mut repo = repo_of(alloc, case)?;
-    let mut tree = tree_of(alloc, case)?;
-    let mut out = MemorySink::new(alloc, case.sink_fails);
-    let status = run_words(rt, alloc, &words, &mut repo, &mut tree, &mut out);
-    text_of(alloc, out.bytes(), status, tree.files())
-}
-
+/// Each case leaves what its last cell says.
 pub fn check<H: Threads + Wait + Sync + Abort>(
     rt: &H,
     alloc: Global,
-    cases: &[Case],
+    table: &[u8],
 ) -> Result<(), Fail> {
-    for case in cases {
-        let seen = seen_of(rt, alloc, case)?;
-        assert_eq!(rt; seen.as_str(), case.wanted);
+    let rows = rows_of(alloc, table)?;
+    for row in rows.as_slice() {
+        let [cells @ .., wanted] = row.as_slice() else {
+            panic!(rt; "no cells");
+        };
+        let left = ended(rt, alloc, case_of(alloc, cells)?)?;
+        let seen = text_of(alloc, &left)?;
+        assert_eq!(rt; seen.as_str(), str::from_utf8(wanted)?);
     }
     Ok(())
 }

@@ -9,44 +9,55 @@ pub const LINK: u32 = 0o120000;
 
 pub const GITLINK: u32 = 0o160000;
 
-/// An entry of an index.
-#[derive(Clone, Copy)]
-pub struct Row {
-    pub mode: u32,
-    pub stage: u16,
-    pub name: [u8; 20],
-    pub path: &'static [u8],
+/// The mode and the stage of an entry, by a letter: `-` plain, `x` executable, `l` link, `g` gitlink, a digit a plain one
+/// of that stage, `y` an executable one of stage 1, and `6` one with a mode that isn't right.
+pub fn mode_of(letter: u8) -> (u32, u16) {
+    match letter {
+        b'x' => (EXECUTABLE, 0),
+        b'l' => (LINK, 0),
+        b'g' => (GITLINK, 0),
+        b'1' => (PLAIN, 1),
+        b'2' => (PLAIN, 2),
+        b'3' => (PLAIN, 3),
+        b'6' => (0o100600, 0),
+        b'y' => (EXECUTABLE, 1),
+        _ => (PLAIN, 0),
+    }
 }
 
-pub fn push_row(index: &mut Vec<u8>, row: &Row) -> Result<(), AllocError> {
-    let len = row.path.len() % 0x1000;
-    let flags = (row.stage % 4) * 0x1000 + len as u16;
-    let name = row.name;
+/// Appends an entry.
+pub fn push_entry(
+    index: &mut Vec<u8>,
+    mode: u32,
+    stage: u16,
+    name: &[u8; 20],
+    path: &[u8],
+) -> Result<(), AllocError> {
+    let len = path.len() % 0x1000;
+    let flags = (stage % 4) * 0x1000 + len as u16;
     index.extend_from_slice(&[0; 24])?;
-    index.extend_from_slice(&row.mode.to_be_bytes())?;
+    index.extend_from_slice(&mode.to_be_bytes())?;
     index.extend_from_slice(&[0; 12])?;
-    index.extend_from_slice(&name)?;
+    index.extend_from_slice(name)?;
     index.extend_from_slice(&flags.to_be_bytes())?;
-    index.extend_from_slice(row.path)?;
+    index.extend_from_slice(path)?;
     let padding = 8 - (62 + len) % 8;
     index.extend_from_slice([0u8; 8].split_at(padding).0)?;
     Ok(())
 }
 
-/// The entries, and what follows them: extensions and the hash.
+/// So many entries, and what follows them: extensions and the hash.
 pub fn index_bytes(
     alloc: Global,
-    rows: &[Row],
+    count: u32,
+    entries: &[u8],
     more: &[u8],
-    hash: [u8; 20],
+    hash: &[u8; 20],
 ) -> Result<Vec<u8>, AllocError> {
     let mut index = Vec::from_slice(alloc, b"DIRC\0\0\0\x02")?;
-    let count = (rows.len() % 100) as u32;
     index.extend_from_slice(&count.to_be_bytes())?;
-    for row in rows {
-        push_row(&mut index, row)?;
-    }
+    index.extend_from_slice(entries)?;
     index.extend_from_slice(more)?;
-    index.extend_from_slice(&hash)?;
+    index.extend_from_slice(hash)?;
     Ok(index)
 }

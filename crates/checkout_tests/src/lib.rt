@@ -1,7 +1,7 @@
 //! The tests of a checkout: its runs, its plan, its report and what becomes of a content.
 //!
 //! They are over the built libraries, as those of `format_tests` are: `runs`, `drivers`, `many` and `children` (with filter drivers),
-//! `workers`, `meeting` (of threads), `rehearsals`, `plans`, `reports` and `conversions`. It has nothing but tests.
+//! `workers`, `meeting` (of threads), `plans`, `reports` and `conversions`. It has nothing but tests.
 #![tactic(auto)]
 
 #[cfg(test)]
@@ -13,6 +13,8 @@ mod conversions;
 #[cfg(test)]
 mod drivers;
 #[cfg(test)]
+mod gate;
+#[cfg(test)]
 mod index;
 #[cfg(test)]
 mod many;
@@ -23,13 +25,11 @@ mod out_of_memory;
 #[cfg(test)]
 mod plans;
 #[cfg(test)]
-mod rehearsals;
-#[cfg(test)]
 mod reports;
 #[cfg(test)]
-mod running;
-#[cfg(test)]
 mod runs;
+#[cfg(test)]
+mod table;
 #[cfg(test)]
 mod talks;
 #[cfg(test)]

@@ -1,15 +1,15 @@
 //! A thousand plain paths, and two drivers that delay.
-use crate::running::{Left, Task, closer_of, left_by};
-use edge_kit::{Gate, Point};
+use crate::cases::{Case, Left, case_of, left_by_own, set};
+use crate::gate::Watch;
+use checkout_core::Event;
 use std::alloc::Global;
 use std::process::Abort;
 use std::sync::Wait;
-use std::sync::atomic::{AtomicU32, Ordering};
 use std::test::Fail;
 use std::thread::Threads;
 
 /// It delays its three paths. Its lists are the last and the first of them, and then the second.
-const ALPHA: &[u8] = b"0016git-filter-server\n000eversion=2\n0000\
+const ALPHA: &[u8] = b"driver alpha 0016git-filter-server\n000eversion=2\n0000\
     0016capability=smudge\n0015capability=delay\n0000\
     0013status=delayed\n00000013status=delayed\n00000013status=delayed\n0000\
     0014pathname=p10900\n0014pathname=p10100\n00000013status=success\n0000\
@@ -20,7 +20,7 @@ const ALPHA: &[u8] = b"0016git-filter-server\n000eversion=2\n0000\
     00000013status=success\n0000";
 
 /// It gives the first of its three paths, and delays the others, of which it lists the last and then refuses it.
-const BETA: &[u8] = b"0016git-filter-server\n000eversion=2\n0000\
+const BETA: &[u8] = b"driver beta 0016git-filter-server\n000eversion=2\n0000\
     0016capability=smudge\n0015capability=delay\n0000\
     0013status=success\n00000009beta\n00000000\
     0013status=delayed\n00000013status=delayed\n0000\
@@ -28,28 +28,34 @@ const BETA: &[u8] = b"0016git-filter-server\n000eversion=2\n0000\
     0011status=error\n0000\
     00000013status=success\n0000";
 
-const TASK: Task = Task {
-    files: 1006,
-    config: b"[checkout]\nthresholdForParallelism = 1\n\
-        [filter \"alpha\"]\nprocess = alpha\n[filter \"beta\"]\nprocess = beta\nrequired = true\n",
-    info: b"p10100 filter=alpha\np10500 filter=alpha\np10900 filter=alpha\n\
-        p10300 filter=beta\np10700 filter=beta\np11005 filter=beta\n",
-    drivers: &[(b"alpha", ALPHA), (b"beta", BETA)],
-    command: &["checkout"],
-};
+const CONFIG: &[u8] = b"config [checkout]\nthresholdForParallelism = 1\n\
+    [filter \"alpha\"]\nprocess = alpha\n[filter \"beta\"]\nprocess = beta\nrequired = true\n";
 
-/// A gate that counts the paths that are closed.
-#[derive(Drop)]
-struct Closings {
-    count: AtomicU32,
+const INFO: &[u8] = b"info p10100 filter=alpha\np10500 filter=alpha\np10900 filter=alpha\n\
+    p10300 filter=beta\np10700 filter=beta\np11005 filter=beta\n";
+
+/// A case of these cells.
+pub fn case_with(alloc: Global, cells: &[&[u8]]) -> Result<Case, Fail> {
+    let mut case = case_of(alloc, &[])?;
+    for cell in cells {
+        set(alloc, &mut case, cell)?;
+    }
+    Ok(case)
 }
 
-impl Gate for Closings {
-    fn at(&self, _actor: u32, _path: u32, point: Point) {
-        if point == Point::Closed {
-            self.count.fetch_add(1, Ordering::SeqCst);
+/// The actor that closed the path with this number.
+pub fn closer_of(history: &[Event], path: u32) -> Option<u32> {
+    for event in history {
+        match event {
+            Event::Close {
+                path: of,
+                actor,
+                ..
+            } if *of == path => return Some(*actor),
+            _ => {}
         }
     }
+    None
 }
 
 /// How a path ends: the begin of its line in the report, and its file.
@@ -99,23 +105,21 @@ fn check_files<H: Abort>(rt: &H, alloc: Global, left: &Left) -> Result<(), Fail>
 fn check<H: Threads + Wait + Sync + Abort>(
     rt: &H,
     alloc: Global,
-    command: &[&str],
+    words: &[u8],
     workers: u32,
 ) -> Result<(), Fail> {
-    let task = Task { command, ..TASK };
-    let closings = Closings {
-        count: AtomicU32::new(0),
-    };
-    let left = left_by(rt, alloc, &task, &closings)?;
+    let case = case_with(alloc, &[words, b"plain 1006", CONFIG, INFO, ALPHA, BETA])?;
+    let watch = Watch::new(None);
+    let (left, _) = left_by_own(rt, alloc, case, &watch)?;
     let wanted = report_of(alloc)?;
     assert_eq!(rt; left.status, 1);
     assert_eq!(rt;
-        str::from_utf8(&left.text)?,
+        str::from_utf8(&left.output)?,
         wanted.as_str(),
         "{workers} workers"
     );
     check_files(rt, alloc, &left)?;
-    assert_eq!(rt; closings.count.load(Ordering::SeqCst), 1006);
+    assert_eq!(rt; watch.closings(), 1006);
     // each driver has a desk of its own, after the workers
     for (path, driver) in [(100, 0), (300, 1), (500, 0), (700, 1), (900, 0), (1005, 1)] {
         assert_eq!(rt;
@@ -128,13 +132,7 @@ fn check<H: Threads + Wait + Sync + Abort>(
 
 #[test]
 fn a_thousand_paths_and_two_drivers(rt: HostRuntime) -> Result<(), Fail> {
-    let commands: [(&[&str], u32); 3] = [
-        (&["checkout", "--workers=1"], 1),
-        (&["checkout", "--workers=2"], 2),
-        (&["checkout", "--workers=16"], 16),
-    ];
-    for (command, workers) in commands {
-        check(&rt, rt.alloc(), command, workers)?;
-    }
-    Ok(())
+    check(&rt, rt.alloc(), b"words checkout --workers=1", 1)?;
+    check(&rt, rt.alloc(), b"words checkout --workers=2", 2)?;
+    check(&rt, rt.alloc(), b"words checkout --workers=16", 16)
 }

@@ -1,4 +1,12 @@
-use crate::index::{EXECUTABLE, GITLINK, LINK, PLAIN, Row, index_bytes};
+//! Plans. Each case is a row of cells, of which the last is what the plan shows: a line for each path, the drivers in use and
+//! the number of skipped lines, or the fault. The others, whose first letter tells, are:
+//!
+//! - `entry`: the letter of its mode, its path, and what its object holds;
+//! - `info`: what `info/attributes` holds;
+//! - `driver`: `+` for one that is required, or `-`, its name, and its command if it has one;
+//! - `objects`: whether they are `there`, or `failing`. Without it they are absent.
+use crate::index::{index_bytes, mode_of, push_entry};
+use crate::table::{parted, rows_of};
 use attr_line::read_attributes;
 use byte_path::{Bytes, Items, quote_path};
 use checkout_plan::{PathPlan, Plan, make_plan};
@@ -11,111 +19,101 @@ use std::alloc::{AllocError, Global};
 use std::process::Abort;
 use std::test::Fail;
 
-/// An entry of an index, and what its object holds.
-#[derive(Clone, Copy)]
-struct Filled {
-    row: Row,
-    content: &'static [u8],
+/// What a plan is made from.
+#[derive(Drop)]
+struct Given {
+    entries: Vec<u8>,
+    count: u32,
+    /// The names and the contents of the objects.
+    objects: Vec<([u8; 20], Vec<u8>)>,
+    /// Whether they are there, and whether they can't be read.
+    are_there: bool,
+    are_failing: bool,
+    info: Vec<u8>,
+    drivers: Vec<Driver>,
 }
 
-/// A driver of the settings. An empty command counts as none.
-#[derive(Clone, Copy)]
-struct Named {
-    name: &'static [u8],
-    process: &'static [u8],
-    required: bool,
-}
-
-#[derive(Clone, Copy)]
-enum Objects {
-    There,
-    Absent,
-    Failing,
-}
-
-/// What a plan is made from, and what it shows: a line for each path, the drivers in use and the number of skipped
-/// lines, or the fault.
-#[derive(Clone, Copy)]
-struct Case<'a> {
-    rows: &'a [Filled],
-    info: &'static [u8],
-    drivers: &'a [Named],
-    objects: Objects,
-    wanted: &'static str,
-}
-
-fn entry(mode: u32, stage: u16, path: &'static [u8], content: &'static [u8]) -> Filled {
-    Filled {
-        row: Row {
-            mode,
-            stage,
-            name: blob_name(content),
-            path,
-        },
-        content,
+fn add_entry(alloc: Global, given: &mut Given, value: &[u8]) -> Result<(), AllocError> {
+    let (path, content) = parted(value);
+    if let [mode, path @ ..] = path {
+        let (mode, stage) = mode_of(*mode);
+        let name = blob_name(content);
+        push_entry(&mut given.entries, mode, stage, &name, path)?;
+        given.count = given.count.wrapping_add(1);
+        given
+            .objects
+            .push((name, Vec::from_slice(alloc, content)?))?;
     }
+    Ok(())
 }
 
-fn plain(path: &'static [u8]) -> Filled {
-    entry(PLAIN, 0, path, b"hi\n")
-}
-
-fn driver(name: &'static [u8], process: &'static [u8], required: bool) -> Named {
-    Named {
-        name,
-        process,
-        required,
+fn add_driver(alloc: Global, given: &mut Given, value: &[u8]) -> Result<(), AllocError> {
+    let (name, process) = parted(value);
+    if let [required, name @ ..] = name {
+        let process = if process.is_empty() {
+            None
+        } else {
+            Some(Bytes::copy_of(alloc, process)?)
+        };
+        given.drivers.push(Driver {
+            name: Bytes::copy_of(alloc, name)?,
+            process,
+            required: *required == b'+',
+        })?;
     }
+    Ok(())
 }
 
-fn index_of(alloc: Global, filled: &[Filled]) -> Result<Index, Fail> {
-    let mut rows = Vec::new(alloc);
-    for entry in filled {
-        rows.push(entry.row)?;
+fn given_of(alloc: Global, cells: &[Vec<u8>]) -> Result<Given, AllocError> {
+    let mut given = Given {
+        entries: Vec::new(alloc),
+        count: 0,
+        objects: Vec::new(alloc),
+        are_there: false,
+        are_failing: false,
+        info: Vec::new(alloc),
+        drivers: Vec::new(alloc),
+    };
+    for cell in cells {
+        let (word, value) = parted(cell);
+        match (word, value) {
+            ([b'e', ..], _) => add_entry(alloc, &mut given, value)?,
+            ([b'd', ..], _) => add_driver(alloc, &mut given, value)?,
+            ([b'i', ..], _) => given.info = Vec::from_slice(alloc, value)?,
+            (_, [b't', ..]) => given.are_there = true,
+            _ => given.are_failing = true,
+        }
     }
-    let bytes = index_bytes(alloc, &rows, &[], [0; 20])?;
+    Ok(given)
+}
+
+fn index_of(alloc: Global, given: &Given) -> Result<Index, Fail> {
+    let bytes = index_bytes(alloc, given.count, &given.entries, &[], &[0; 20])?;
     Ok(read_index(alloc, &bytes)?)
 }
 
-fn repo_of(alloc: Global, case: &Case) -> Result<MemoryRepo, AllocError> {
+fn repo_of(alloc: Global, given: &Given) -> Result<MemoryRepo, AllocError> {
     let mut objects = Vec::new(alloc);
     let mut fails = Vec::new(alloc);
-    for row in case.rows {
-        let name = row.row.name;
-        match case.objects {
-            Objects::There => objects.push((name, spell_blob(alloc, row.content)?))?,
-            Objects::Absent => {}
-            Objects::Failing => fails.push(RepoFail::Object(name))?,
+    for (name, content) in given.objects.as_slice() {
+        if given.are_there {
+            objects.push((*name, spell_blob(alloc, content)?))?;
+        }
+        if given.are_failing {
+            fails.push(RepoFail::Object(*name))?;
         }
     }
     Ok(MemoryRepo::new(alloc, None, None, None, objects, fails))
 }
 
-fn driver_of(alloc: Global, named: &Named) -> Result<Driver, AllocError> {
-    let process = if named.process.is_empty() {
-        None
-    } else {
-        Some(Bytes::copy_of(alloc, named.process)?)
-    };
-    Ok(Driver {
-        name: Bytes::copy_of(alloc, named.name)?,
-        process,
-        required: named.required,
-    })
-}
-
-fn settings_of(alloc: Global, drivers: &[Named]) -> Result<Settings, AllocError> {
-    let mut listed = Vec::new(alloc);
-    for named in drivers {
-        listed.push(driver_of(alloc, named)?)?;
-    }
-    Ok(Settings {
+fn settings_of(drivers: Vec<Driver>) -> Settings {
+    Settings {
         autocrlf: AutoCrlf::False,
         eol: EolSetting::Native,
         workers: 1,
         threshold: 100,
-        drivers: Items::from_vec(listed),
-    })
+        drivers: Items::from_vec(drivers),
+    }
 }
 
 fn push_path(alloc: Global, seen: &mut String, path: &PathPlan) -> Result<(), Fail> {
@@ -143,167 +141,94 @@ fn shown(alloc: Global, plan: &Plan) -> Result<String, Fail> {
     Ok(seen)
 }
 
-fn seen_of(alloc: Global, case: &Case) -> Result<String, Fail> {
-    let index = index_of(alloc, case.rows)?;
-    let mut repo = repo_of(alloc, case)?;
-    let info = read_attributes(alloc, case.info, true)?;
-    let settings = settings_of(alloc, case.drivers)?;
+fn seen_of(alloc: Global, given: Given) -> Result<String, Fail> {
+    let index = index_of(alloc, &given)?;
+    let mut repo = repo_of(alloc, &given)?;
+    let info = read_attributes(alloc, &given.info, true)?;
+    let settings = settings_of(given.drivers);
     match make_plan(alloc, &index, &mut repo, info, &settings) {
         Ok(plan) => shown(alloc, &plan),
         Err(fault) => Ok(format!(in alloc; "{fault:?}")?),
     }
 }
 
-fn check(rt: &impl Abort, alloc: Global, case: &Case) -> Result<(), Fail> {
-    let seen = seen_of(alloc, case)?;
-    assert_eq!(rt; seen.as_str(), case.wanted);
+fn check(rt: &impl Abort, alloc: Global, table: &[u8]) -> Result<(), Fail> {
+    let rows = rows_of(alloc, table)?;
+    for row in rows.as_slice() {
+        let [cells @ .., wanted] = row.as_slice() else {
+            panic!(rt; "no cells");
+        };
+        let seen = seen_of(alloc, given_of(alloc, cells)?)?;
+        assert_eq!(rt; seen.as_str(), str::from_utf8(wanted)?);
+    }
     Ok(())
 }
+
+const ATTRIBUTE_FILES: &[u8] = b"\
+    entry -.gitattributes *.txt text eol=crlf\n*.id ident both\n!x text\n[attr]both text eol=crlf\n|\
+        entry xa/.gitattributes *.txt eol=lf\n[attr]mine text\n|entry -a/f.txt hi\n|entry -a/info.txt hi\n|\
+        entry -ab.txt hi\n|entry -f.id hi\n|info info.txt text=auto eol=crlf\n|objects there|\
+        .gitattributes: Plain Keep false Pool\na/.gitattributes: Executable Keep false Pool\n\
+        a/f.txt: Plain Keep false Pool\na/info.txt: Plain AutoCrlf false Pool\nab.txt: Plain ToCrlf false Pool\n\
+        f.id: Plain ToCrlf true Pool\nskipped 2\n%";
 
 /// As `git check-attr` and gitattributes(5) say: a deeper file goes before the top's, `info/attributes` goes before
 /// both, and a macro in a subfolder's file isn't one.
 #[test]
 fn attribute_files_reach_the_paths_below_them(rt: HostRuntime) -> Result<(), Fail> {
-    let top = b"*.txt text eol=crlf\n*.id ident both\n!x text\n[attr]both text eol=crlf\n";
-    let rows = [
-        entry(PLAIN, 0, b".gitattributes", top),
-        entry(
-            EXECUTABLE,
-            0,
-            b"a/.gitattributes",
-            b"*.txt eol=lf\n[attr]mine text\n",
-        ),
-        plain(b"a/f.txt"),
-        plain(b"a/info.txt"),
-        plain(b"ab.txt"),
-        plain(b"f.id"),
-    ];
-    let case = Case {
-        rows: &rows,
-        info: b"info.txt text=auto eol=crlf\n",
-        drivers: &[],
-        objects: Objects::There,
-        wanted: ".gitattributes: Plain Keep false Pool
-a/.gitattributes: Executable Keep false Pool
-a/f.txt: Plain Keep false Pool
-a/info.txt: Plain AutoCrlf false Pool
-ab.txt: Plain ToCrlf false Pool
-f.id: Plain ToCrlf true Pool
-skipped 2
-",
-    };
-    check(&rt, rt.alloc(), &case)
+    check(&rt, rt.alloc(), ATTRIBUTE_FILES)
 }
+
+const CLOSED: &[u8] = b"\
+    entry lln bin|entry gsub hi\n|entry yu hi\n|entry 2u hi\n|entry 3u hi\n|entry -\xc3\xa9 hi\n|\
+        entry -\xff hi\n|info * text eol=crlf ident\n*\xa9 working-tree-encoding\n*\xff working-tree-encoding\n|\
+        ln: LinkText Keep false Pool\nsub: Plain Keep false Done(Skipped(Gitlink))\n\
+        u: Executable Keep false Done(Skipped(Unmerged))\n\
+        \"\\303\\251\": Plain Keep false Done(Failed(UnknownEncoding))\n\
+        \"\\377\": Plain Keep false Done(Failed(NameNotText))\nskipped 0\n%";
 
 #[test]
 fn some_paths_are_closed_by_the_plan(rt: HostRuntime) -> Result<(), Fail> {
-    let rows = [
-        entry(LINK, 0, b"ln", b"bin"),
-        entry(GITLINK, 0, b"sub", b"hi\n"),
-        entry(EXECUTABLE, 1, b"u", b"hi\n"),
-        entry(PLAIN, 2, b"u", b"hi\n"),
-        entry(PLAIN, 3, b"u", b"hi\n"),
-        plain(b"\xC3\xA9"),
-        plain(b"\xFF"),
-    ];
-    let case = Case {
-        rows: &rows,
-        info: b"* text eol=crlf ident\n*\xA9 working-tree-encoding\n*\xFF working-tree-encoding\n",
-        drivers: &[],
-        objects: Objects::Absent,
-        wanted: "ln: LinkText Keep false Pool
-sub: Plain Keep false Done(Skipped(Gitlink))
-u: Executable Keep false Done(Skipped(Unmerged))
-\"\\303\\251\": Plain Keep false Done(Failed(UnknownEncoding))
-\"\\377\": Plain Keep false Done(Failed(NameNotText))
-skipped 0
-",
-    };
-    check(&rt, rt.alloc(), &case)
+    check(&rt, rt.alloc(), CLOSED)
 }
+
+const DRIVERS: &[u8] = b"\
+    entry -1 hi\n|entry -2 hi\n|entry -3 hi\n|entry -4 hi\n|entry -5 hi\n|entry -6 hi\n|entry -7 hi\n|\
+        driver +a run a|driver +closed run closed|driver -idle run idle|driver -mute|driver +needed|\
+        driver -z run z|\
+        info 1 filter=z\n2 filter=a\n3 filter=needed\n4 filter=mute\n5 filter=none\n6 filter=z\n7 filter=closed working-tree-encoding\n|\
+        1: Plain Keep false Desk { driver: 1, required: false }\n\
+        2: Plain Keep false Desk { driver: 0, required: true }\n3: Plain Keep false Done(Failed(NoProcess))\n\
+        4: Plain Keep false Pool\n5: Plain Keep false Pool\n\
+        6: Plain Keep false Desk { driver: 1, required: false }\n\
+        7: Plain Keep false Done(Failed(UnknownEncoding))\ndriver a\ndriver z\nskipped 0\n%";
 
 #[test]
 fn drivers_in_use_are_numbered_by_name(rt: HostRuntime) -> Result<(), Fail> {
-    let rows = [
-        plain(b"1"),
-        plain(b"2"),
-        plain(b"3"),
-        plain(b"4"),
-        plain(b"5"),
-        plain(b"6"),
-        plain(b"7"),
-    ];
-    let drivers = [
-        driver(b"a", b"run a", true),
-        driver(b"closed", b"run closed", true),
-        driver(b"idle", b"run idle", false),
-        driver(b"mute", b"", false),
-        driver(b"needed", b"", true),
-        driver(b"z", b"run z", false),
-    ];
-    let info =
-        b"1 filter=z\n2 filter=a\n3 filter=needed\n4 filter=mute\n5 filter=none\n6 filter=z\n\
-        7 filter=closed working-tree-encoding\n";
-    let case = Case {
-        rows: &rows,
-        info,
-        drivers: &drivers,
-        objects: Objects::Absent,
-        wanted: "1: Plain Keep false Desk { driver: 1, required: false }
-2: Plain Keep false Desk { driver: 0, required: true }
-3: Plain Keep false Done(Failed(NoProcess))
-4: Plain Keep false Pool
-5: Plain Keep false Pool
-6: Plain Keep false Desk { driver: 1, required: false }
-7: Plain Keep false Done(Failed(UnknownEncoding))
-driver a
-driver z
-skipped 0
-",
-    };
-    check(&rt, rt.alloc(), &case)
+    check(&rt, rt.alloc(), DRIVERS)
 }
+
+const FAULTS: &[u8] = b"\
+    entry -- hi\n|entry -.gitattributes * text\n|entry -a/.gitattributes * -text\n|\
+        Attribute(1, Absent)%\
+    entry -- hi\n|entry -.gitattributes * text\n|entry -a/.gitattributes * -text\n|objects failing|\
+        AttributeRead(1)%";
 
 #[test]
 fn the_first_fault_is_told(rt: HostRuntime) -> Result<(), Fail> {
-    let rows = [
-        plain(b"-"),
-        entry(PLAIN, 0, b".gitattributes", b"* text\n"),
-        entry(PLAIN, 0, b"a/.gitattributes", b"* -text\n"),
-    ];
-    let absent = Case {
-        rows: &rows,
-        info: b"",
-        drivers: &[],
-        objects: Objects::Absent,
-        wanted: "Attribute(1, Absent)",
-    };
-    check(&rt, rt.alloc(), &absent)?;
-    let failing = Case {
-        objects: Objects::Failing,
-        wanted: "AttributeRead(1)",
-        ..absent
-    };
-    check(&rt, rt.alloc(), &failing)
+    check(&rt, rt.alloc(), FAULTS)
 }
 
-const SEVENTEEN: [&[u8]; 17] = [
-    b"a", b"b", b"c", b"d", b"e", b"f", b"g", b"h", b"i", b"j", b"k", b"l", b"m", b"n", b"o", b"p",
-    b"q",
-];
+const SEVENTEEN: &[u8] = b"\
+    entry -a hi\n|entry -b hi\n|entry -c hi\n|entry -d hi\n|entry -e hi\n|entry -f hi\n|entry -g hi\n|\
+        entry -h hi\n|entry -i hi\n|entry -j hi\n|entry -k hi\n|entry -l hi\n|entry -m hi\n|entry -n hi\n|\
+        entry -o hi\n|entry -p hi\n|entry -q hi\n|driver -a run|driver -b run|driver -c run|driver -d run|\
+        driver -e run|driver -f run|driver -g run|driver -h run|driver -i run|driver -j run|driver -k run|\
+        driver -l run|driver -m run|driver -n run|driver -o run|driver -p run|driver -q run|\
+        info a filter=a\nb filter=b\nc filter=c\nd filter=d\ne filter=e\nf filter=f\ng filter=g\nh filter=h\ni filter=i\nj filter=j\nk filter=k\nl filter=l\nm filter=m\nn filter=n\no filter=o\np filter=p\nq filter=q\n|\
+        TooManyDrivers(17)%";
 
 #[test]
 fn seventeen_drivers_are_too_many(rt: HostRuntime) -> Result<(), Fail> {
-    let rows = SEVENTEEN.map(|path| plain(path));
-    let drivers = SEVENTEEN.map(|name| driver(name, b"run", false));
-    let case = Case {
-        rows: &rows,
-        info: b"a filter=a\nb filter=b\nc filter=c\nd filter=d\ne filter=e\nf filter=f\ng filter=g\n\
-            h filter=h\ni filter=i\nj filter=j\nk filter=k\nl filter=l\nm filter=m\nn filter=n\n\
-            o filter=o\np filter=p\nq filter=q\n",
-        drivers: &drivers,
-        objects: Objects::Absent,
-        wanted: "TooManyDrivers(17)",
-    };
-    check(&rt, rt.alloc(), &case)
+    check(&rt, rt.alloc(), SEVENTEEN)
 }

@@ -1,12 +1,20 @@
 //! Checkouts with one filter driver in memory: what it writes, what it must be sent, and what must become of the paths.
-use crate::cases::{Case, checkout, named, repo_of, text_of, tree_of, words_of};
+//!
+//! A talk is a row of cells. The first is its name, the last the report, the status and a line for each file. The others
+//! are those of a case, and these, whose first letter tells:
+//!
+//! - `Required`: the driver is required;
+//! - `Piece`: a read gives at most so many bytes;
+//! - `Gives`: a start, and all that the driver writes, and `Fails`: a start that fails;
+//! - `Sent`: what the session of the last start must be sent after the handshake, and `Open`: it need not be shut;
+//! - `Notes`: what the desk must note of the talk, in order;
+//! - `Back`: the numbers of the paths that it must hand back.
+use crate::cases::{Case, case_of, left_by_own, session_of, set, text_of};
+use crate::gate::Watch;
+use crate::table::{number_of, parted, rows_of};
 use byte_path::{Bytes, Items};
 use checkout_core::Event;
-use checkout_engine::run;
-use edge_kit::{
-    DriverScript, LeafCall, MemorySink, MemorySpawner, NoGate, SessionScript, SessionSeen,
-    StartOutcome,
-};
+use edge_kit::{DriverScript, MemorySpawner, SessionScript, SessionSeen, StartOutcome};
 use std::alloc::{AllocError, Global};
 use std::process::Abort;
 use std::string::String;
@@ -15,111 +23,134 @@ use std::test::Fail;
 use std::thread::Threads;
 
 /// What each session is sent first.
-const HANDSHAKE: &str = "0016git-filter-client\n000eversion=2\n0000\
+const HANDSHAKE: &[u8] = b"0016git-filter-client\n000eversion=2\n0000\
     0015capability=clean\n0016capability=smudge\n0015capability=delay\n0000";
 
 const OPTIONAL: &[u8] =
-    b"[checkout]\nthresholdForParallelism = 0\n[filter \"lfs\"]\nprocess = lfs\n";
+    b"config [checkout]\nthresholdForParallelism = 0\n[filter \"lfs\"]\nprocess = lfs\n";
 
 const REQUIRED: &[u8] =
-    b"[checkout]\nthresholdForParallelism = 0\n[filter \"lfs\"]\nprocess = lfs\nrequired = true\n";
+    b"config [checkout]\nthresholdForParallelism = 0\n[filter \"lfs\"]\nprocess = lfs\nrequired = true\n";
 
 /// A start of the driver.
-#[derive(Clone, Copy, Debug)]
-pub struct Session {
-    /// All that it writes. A start without it fails.
-    pub output: Option<&'static [u8]>,
-    /// What it must be sent after the handshake.
-    pub sent: &'static str,
-    /// Whether its input must be closed, and its end waited for.
-    pub shut: bool,
-}
-
-/// A checkout of paths that are all under the driver.
-#[derive(Clone, Copy, Debug)]
-pub struct Talk {
-    pub name: &'static str,
-    pub required: bool,
-    pub paths: &'static [&'static [u8]],
-    /// The object of each path.
-    pub object: [u8; 20],
-    pub leaf_fails: Option<(&'static [u8], LeafCall)>,
-    /// A read gives at most so many bytes.
-    pub piece: u32,
-    pub starts: &'static [Session],
-    /// What the desk must note of the talk, in order.
-    pub notes: &'static str,
-    /// The numbers of the paths that it must hand back.
-    pub handed_back: &'static [u32],
-    /// The report, the status, and a line for each file.
-    pub wanted: &'static str,
-}
-
-/// What a checkout leaves.
 #[derive(Drop)]
-struct Left {
-    text: String,
-    spawner: MemorySpawner,
-    history: Vec<Event>,
+struct Session {
+    starts: bool,
+    /// All that it writes.
+    output: Vec<u8>,
+    /// What it must be sent after the handshake.
+    sent: Vec<u8>,
+    /// Whether its input must be closed, and its end waited for.
+    shut: bool,
 }
 
-fn spawner_of(alloc: Global, talk: &Talk) -> Result<MemorySpawner, AllocError> {
+/// What must come of a checkout of paths that are all under the driver.
+#[derive(Drop)]
+struct Talk {
+    name: String,
+    required: bool,
+    /// A read gives at most so many bytes.
+    piece: u32,
+    starts: Vec<Session>,
+    /// What the desk must note of the talk, in order.
+    notes: String,
+    /// The numbers of the paths that it must hand back.
+    handed_back: Vec<u32>,
+}
+
+fn text_in(alloc: Global, bytes: &[u8]) -> Result<String, Fail> {
+    Ok(String::from_str(alloc, str::from_utf8(bytes)?)?)
+}
+
+/// Takes what a cell says of the last start.
+fn set_last(alloc: Global, talk: &mut Talk, letter: u8, value: &[u8]) -> Result<(), AllocError> {
+    if let Some(start) = talk.starts.last_mut() {
+        match letter {
+            b'S' => start.sent = Vec::from_slice(alloc, value)?,
+            b'O' => start.shut = false,
+            _ => {}
+        }
+    }
+    Ok(())
+}
+
+fn start_of(alloc: Global, starts: bool, output: &[u8]) -> Result<Session, AllocError> {
+    Ok(Session {
+        starts,
+        output: Vec::from_slice(alloc, output)?,
+        sent: Vec::new(alloc),
+        shut: starts,
+    })
+}
+
+fn numbers_of(alloc: Global, text: &[u8]) -> Result<Vec<u32>, AllocError> {
+    let mut numbers = Vec::new(alloc);
+    for byte in text {
+        if byte.is_ascii_digit() {
+            numbers.push(number_of(&[*byte]))?;
+        }
+    }
+    Ok(numbers)
+}
+
+/// Takes what a cell says of a talk.
+fn set_talk(alloc: Global, talk: &mut Talk, cell: &[u8]) -> Result<(), Fail> {
+    let (_, value) = parted(cell);
+    match cell {
+        [b'R', ..] => talk.required = true,
+        [b'P', ..] => talk.piece = number_of(value),
+        [b'G', ..] => talk.starts.push(start_of(alloc, true, value)?)?,
+        [b'F', ..] => talk.starts.push(start_of(alloc, false, b"")?)?,
+        [b'N', ..] => talk.notes = text_in(alloc, value)?,
+        [b'B', ..] => talk.handed_back = numbers_of(alloc, value)?,
+        [letter, ..] => set_last(alloc, talk, *letter, value)?,
+        [] => {}
+    }
+    Ok(())
+}
+
+fn talk_of(alloc: Global, name: &[u8], cells: &[Vec<u8>]) -> Result<Talk, Fail> {
+    let mut talk = Talk {
+        name: text_in(alloc, name)?,
+        required: false,
+        piece: 1000,
+        starts: Vec::new(alloc),
+        notes: String::new(alloc),
+        handed_back: Vec::new(alloc),
+    };
+    for cell in cells {
+        set_talk(alloc, &mut talk, cell)?;
+    }
+    Ok(talk)
+}
+
+fn script_of(alloc: Global, talk: &Talk) -> Result<DriverScript, AllocError> {
     let mut sessions = Vec::new(alloc);
-    for start in talk.starts {
+    for start in talk.starts.as_slice() {
+        let session = session_of(alloc, &start.output, talk.piece)?;
         sessions.push(SessionScript {
-            starts: start.output.is_some(),
-            output: Bytes::copy_of(alloc, start.output.unwrap_or(b""))?,
-            piece: talk.piece,
-            fail_send: None,
-            fail_read: None,
+            starts: start.starts,
+            ..session
         })?;
     }
-    let mut scripts = Vec::new(alloc);
-    scripts.push(DriverScript {
+    Ok(DriverScript {
         command: Bytes::copy_of(alloc, b"lfs")?,
         sessions: Items::from_vec(sessions),
-    })?;
-    Ok(MemorySpawner::new(alloc, scripts))
+    })
 }
 
-fn left_by<H: Threads + Wait + Sync>(
-    rt: &H,
-    alloc: Global,
-    talk: &Talk,
-    command: &'static [&'static str],
-) -> Result<Left, Fail> {
-    let mut rows = Vec::new(alloc);
-    for path in talk.paths {
-        rows.push(named(path, talk.object))?;
-    }
-    let case = Case {
-        config: Some(if talk.required { REQUIRED } else { OPTIONAL }),
-        info: Some(b"* filter=lfs\n"),
-        leaf_fails: talk.leaf_fails,
-        ..checkout(&rows, talk.wanted)
-    };
-    let words = words_of(alloc, command)?;
-    let mut repo = repo_of(alloc, &case)?;
-    let mut tree = tree_of(alloc, &case)?;
-    let mut spawner = spawner_of(alloc, talk)?;
-    let mut out = MemorySink::new(alloc, None);
-    let mut history = Vec::new(alloc);
-    let status = run(
-        rt,
+/// The checkout of a talk, with these words.
+fn case_with(alloc: Global, talk: &Talk, cells: &[Vec<u8>], words: &[u8]) -> Result<Case, Fail> {
+    let mut case = case_of(alloc, cells)?;
+    set(alloc, &mut case, words)?;
+    set(alloc, &mut case, b"info * filter=lfs\n")?;
+    set(
         alloc,
-        &words,
-        &mut repo,
-        &mut tree,
-        &mut spawner,
-        &NoGate,
-        &mut out,
-        &mut history,
-    );
-    Ok(Left {
-        text: text_of(alloc, out.bytes(), status, tree.files())?,
-        spawner,
-        history,
-    })
+        &mut case,
+        if talk.required { REQUIRED } else { OPTIONAL },
+    )?;
+    case.scripts.push(script_of(alloc, talk)?)?;
+    Ok(case)
 }
 
 /// Adds what the driver's talk has, if the event is a note of it.
@@ -167,7 +198,7 @@ fn check_steps<H: Abort>(
     for event in history {
         steps.push_str(step_of(*event, path))?;
     }
-    let wanted = if talk.handed_back.contains(&path) {
+    let wanted = if talk.handed_back.as_slice().contains(&path) {
         "back claim close "
     } else {
         "close "
@@ -184,9 +215,9 @@ fn check_session<H: Abort>(
     start: &Session,
     session: &SessionSeen,
 ) -> Result<(), Fail> {
-    let sent = str::from_utf8(session.sent.as_slice())?;
-    let wanted = format!(in alloc; "{HANDSHAKE}{}", start.sent)?;
-    assert_eq!(rt; sent, wanted.as_str(), "{}", talk.name);
+    let mut wanted = Vec::from_slice(alloc, HANDSHAKE)?;
+    wanted.extend_from_slice(&start.sent)?;
+    assert_eq!(rt; session.sent.as_slice(), wanted.as_slice(), "{}", talk.name);
     assert_eq!(rt; session.shut, start.shut, "{}", talk.name);
     Ok(())
 }
@@ -202,9 +233,9 @@ fn check_starts<H: Abort>(
     for driver in spawner.drivers() {
         let starts = driver.starts.as_slice();
         assert_eq!(rt; starts.len(), talk.starts.len(), "{}", talk.name);
-        for (seen, start) in starts.iter().zip(talk.starts) {
+        for (seen, start) in starts.iter().zip(talk.starts.as_slice()) {
             match &seen.outcome {
-                StartOutcome::Failed => assert!(rt; start.output.is_none(), "{}", talk.name),
+                StartOutcome::Failed => assert!(rt; !start.starts, "{}", talk.name),
                 StartOutcome::Session(session) => check_session(rt, alloc, talk, start, session)?,
             }
         }
@@ -212,28 +243,52 @@ fn check_starts<H: Abort>(
     Ok(())
 }
 
-const COMMANDS: [&[&str]; 3] = [
-    &["checkout", "--workers=1"],
-    &["checkout", "--workers=2"],
-    &["checkout", "--workers=16"],
+const COMMANDS: [&[u8]; 3] = [
+    b"words checkout --workers=1",
+    b"words checkout --workers=2",
+    b"words checkout --workers=16",
 ];
+
+/// A talk is as it must be with these words.
+fn check_talk<H: Threads + Wait + Sync + Abort>(
+    rt: &H,
+    alloc: Global,
+    talk: &Talk,
+    case: Case,
+    wanted: &[u8],
+) -> Result<(), Fail> {
+    let paths = case.count;
+    let (left, spawner) = left_by_own(rt, alloc, case, &Watch::new(None))?;
+    let seen = text_of(alloc, &left)?;
+    assert_eq!(rt; seen.as_bytes(), wanted, "{}", talk.name);
+    let notes = notes_of(alloc, &left.history)?;
+    assert_eq!(rt; notes.as_str(), talk.notes.as_str(), "{}", talk.name);
+    for path in 0..paths {
+        check_steps(rt, alloc, talk, &left.history, path)?;
+    }
+    check_starts(rt, alloc, talk, &spawner)
+}
 
 /// The same files, report, notes and sessions, whatever the number of workers.
 pub fn check<H: Threads + Wait + Sync + Abort>(
     rt: &H,
     alloc: Global,
-    talks: &[Talk],
+    table: &[u8],
 ) -> Result<(), Fail> {
-    for talk in talks {
-        for command in COMMANDS {
-            let left = left_by(rt, alloc, talk, command)?;
-            assert_eq!(rt; left.text.as_str(), talk.wanted, "{}", talk.name);
-            let notes = notes_of(alloc, &left.history)?;
-            assert_eq!(rt; notes.as_str(), talk.notes, "{}", talk.name);
-            for path in 0..(talk.paths.len() % 100) as u32 {
-                check_steps(rt, alloc, talk, &left.history, path)?;
-            }
-            check_starts(rt, alloc, talk, &left.spawner)?;
+    let rows = rows_of(alloc, table)?;
+    for row in rows.as_slice() {
+        let [name, cells @ .., wanted] = row.as_slice() else {
+            panic!(rt; "no talk");
+        };
+        let talk = talk_of(alloc, name, cells)?;
+        for words in COMMANDS {
+            check_talk(
+                rt,
+                alloc,
+                &talk,
+                case_with(alloc, &talk, cells, words)?,
+                wanted,
+            )?;
         }
     }
     Ok(())

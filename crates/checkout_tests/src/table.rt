@@ -1,0 +1,56 @@
+//! Tables in one literal each.
+//!
+//! The check goes through each literal of a program, so a table of many literals costs much. Here a table is one literal:
+//! `|` stands between the cells of a row, and `%` ends the row.
+use std::alloc::{AllocError, Global};
+
+/// The cells of a row.
+pub type Row = Vec<Vec<u8>>;
+
+/// The rows of a table.
+pub fn rows_of(alloc: Global, table: &[u8]) -> Result<Vec<Row>, AllocError> {
+    let mut rows = Vec::new(alloc);
+    let mut row = Vec::new(alloc);
+    let mut cell = Vec::new(alloc);
+    for byte in table {
+        match *byte {
+            b'|' => {
+                row.push(cell)?;
+                cell = Vec::new(alloc);
+            }
+            b'%' => {
+                row.push(cell)?;
+                rows.push(row)?;
+                row = Vec::new(alloc);
+                cell = Vec::new(alloc);
+            }
+            byte => cell.push(byte)?,
+        }
+    }
+    Ok(rows)
+}
+
+/// What stands before the first space, and what stands behind it.
+pub fn parted(text: &[u8]) -> (&[u8], &[u8]) {
+    match text.iter().position(|byte| *byte == b' ') {
+        Some(at) => {
+            let (word, rest) = text.split_at(at);
+            match rest {
+                [_, value @ ..] => (word, value),
+                [] => (word, rest),
+            }
+        }
+        None => (text, &[]),
+    }
+}
+
+/// The number that these digits spell.
+pub fn number_of(digits: &[u8]) -> u32 {
+    let mut number = 0u32;
+    for digit in digits {
+        number = number
+            .wrapping_mul(10)
+            .wrapping_add(u32::from(digit.wrapping_sub(b'0')));
+    }
+    number
+}
