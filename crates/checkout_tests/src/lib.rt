@@ -1,7 +1,7 @@
 //! The tests of a checkout: its runs, its plan, its report and what becomes of a content.
 //!
 //! They are over the built libraries, as those of `format_tests` are: `runs`, `drivers`, `many` and `children` (with filter drivers),
-//! `workers`, `meeting` (of threads), `plans`, `reports` and `conversions`. It has nothing but tests.
+//! `workers`, `meeting` (of threads), `rehearsals`, `plans`, `reports` and `conversions`. It has nothing but tests.
 #![tactic(auto)]
 
 #[cfg(test)]
@@ -24,6 +24,8 @@ mod meeting;
 mod out_of_memory;
 #[cfg(test)]
 mod plans;
+#[cfg(test)]
+mod rehearsals;
 #[cfg(test)]
 mod reports;
 #[cfg(test)]

@@ -32,8 +32,7 @@ fn marks_names_and_skipped_entries_are_shown(rt: HostRuntime) -> Result<(), Fail
 const WORDS: &[u8] = b"\
     words checkout --workers 17|entry -h a|status 2\n%\
     words checkout -- x|entry -h a|status 2\n%\
-    words --help|entry -h a|status 2\n%\
-    words rehearse 0 8|entry -h a|refused unbuilt\nstatus 3\n%";
+    words --help|entry -h a|status 2\n%";
 
 #[test]
 fn words_say_what_is_done(rt: HostRuntime) -> Result<(), Fail> {
