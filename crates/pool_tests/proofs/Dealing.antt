@@ -1,5 +1,5 @@
 -- The cards of the paths that go to an owner, one after another.
-use Rattle.std.proofs.Common.{◌≡◌, ℕ, zero, suc, ◌+◌, ◌<◌, true, false, List, [], ◌∷◌, ◌++◌, map, length, take, get_or, Some, refl, sym, ap, subst, ◌∙◌, arith}
+use Rattle.std.proofs.Common.{◌≡◌, ℕ, zero, suc, ◌+◌, ◌<◌, true, false, List, [], ◌∷◌, ◌++◌, map, length, take, get_or, Option, Some, None, refl, sym, ap, subst, ◌∙◌, arith}
 use Rattle.std.specs.Prelude.{slice_get, option_map}
 use Rattle.std.proofs.lemmas.List.{map-append, length-take-le}
 use Rattle.std.proofs.lemmas.Option.{slice_get-map, slice_get-get_or}
@@ -10,8 +10,6 @@ use Rattle.checkout_core.specs.declared.path.Start.{Start}
 use Rattle.checkout_core.specs.declared.path.Start.TheVariants as start
 use Rattle.checkout_book.specs.Sights.{Sight, seen}
 use Rattle.checkout_book.specs.Reserving.{ArePool, AreNew}
-use Rattle.pool_tests.specs.declared.cards.Owner.{Owner}
-use Rattle.pool_tests.specs.declared.cards.Owner.TheVariants.{Pool}
 use Rattle.pool_tests.specs.Places.{goes_to, paths_to, AreCardsOf}
 use Rattle.pool_tests.specs.Texts.{text_at}
 use Rattle.pool_tests.proofs.Placing.{paths_more, paths_same, get_mapped, there, among, rises, take_more}
@@ -26,7 +24,7 @@ module _ {B L : Type 0} (see : Sight B L) where
   new_one c new zero x e = let is : c ≡ x = cc (e) in subst (λ (z : Card B L). IsNewCard (seen see z)) is new
   new_one c new (suc k) x e = absurd (cc (e))
 
-  pub deal_none : (o : Owner) (starts : List Start) (cards : List (Card B L)) → cards ≡ []
+  pub deal_none : (o : Option ℕ) (starts : List Start) (cards : List (Card B L)) → cards ≡ []
       → AreCardsOf see o (take 0 starts) cards
   deal_none o starts cards none = subst (AreCardsOf see o []) (sym none) (record {
     paths = refl;
@@ -34,7 +32,7 @@ module _ {B L : Type 0} (see : Sight B L) where
     new = λ k c e. absurd (cc (e));
   })
 
-  pub deal_more : (o : Owner) (starts : List Start) (k : ℕ) (d : Start) (cards more : List (Card B L)) (c : Card B L)
+  pub deal_more : (o : Option ℕ) (starts : List Start) (k : ℕ) (d : Start) (cards more : List (Card B L)) (c : Card B L)
       → AreCardsOf see o (take k starts) cards → k < length starts → goes_to o (get_or starts k d) ≡ true → c.path ≡ k
       → c.text ≡ text_at k → IsNewCard (seen see c) → more ≡ cards ++ c ∷ []
       → AreCardsOf see o (take (k + 1) starts) more
@@ -56,7 +54,7 @@ module _ {B L : Type 0} (see : Sight B L) where
         new = subst (AreNew see) (sym m) (new_both cards (c ∷ []) dealt.new (new_one c new));
       }
 
-  pub deal_same : (o : Owner) (starts : List Start) (k : ℕ) (d : Start) (cards : List (Card B L))
+  pub deal_same : (o : Option ℕ) (starts : List Start) (k : ℕ) (d : Start) (cards : List (Card B L))
       → AreCardsOf see o (take k starts) cards → k < length starts → goes_to o (get_or starts k d) ≡ false
       → AreCardsOf see o (take (k + 1) starts) cards
   deal_same o starts k d cards dealt within stays =
@@ -70,36 +68,36 @@ module _ {B L : Type 0} (see : Sight B L) where
         new = dealt.new;
       }
 
-  pub deal_all : (o : Owner) (starts : List Start) (k : ℕ) (cards : List (Card B L))
+  pub deal_all : (o : Option ℕ) (starts : List Start) (k : ℕ) (cards : List (Card B L))
       → AreCardsOf see o (take k starts) cards → k ≡ length starts → AreCardsOf see o starts cards
   deal_all o starts k cards dealt all =
       subst (λ (l : List Start). AreCardsOf see o l cards) (take-length starts)
       (subst (λ (n : ℕ). AreCardsOf see o (take n starts) cards) all dealt)
 
-  in_pool : (s : Start) → goes_to Pool s ≡ true → s ≡ start.Pool
+  in_pool : (s : Start) → goes_to None s ≡ true → s ≡ start.Pool
   in_pool start.Pool goes = refl
   in_pool (start.Desk d required) goes = absurd (cc (goes))
   in_pool (start.Done v) goes = absurd (cc (goes))
 
-  path_at : (o : Owner) (starts : List Start) (cards : List (Card B L)) → AreCardsOf see o starts cards
+  path_at : (o : Option ℕ) (starts : List Start) (cards : List (Card B L)) → AreCardsOf see o starts cards
       → (k : ℕ) (c : Card B L) → slice_get cards k ≡ Some c → slice_get (paths_to o starts) k ≡ Some c.path
   path_at o starts cards dealt k c e =
       ap (λ (l : List ℕ). slice_get l k) (sym dealt.paths)
       ∙ (slice_get-map (λ (x : Card B L). x.path) cards k ∙ ap (option_map (λ (x : Card B L). x.path)) e)
 
-  pub are_pool : (starts : List Start) (cards : List (Card B L)) → AreCardsOf see Pool starts cards
+  pub are_pool : (starts : List Start) (cards : List (Card B L)) → AreCardsOf see None starts cards
       → ArePool starts cards
   are_pool starts cards dealt = record {
     there = λ k c e.
-        let t = there Pool starts k c.path (path_at Pool starts cards dealt k c e) in
+        let t = there None starts k c.path (path_at None starts cards dealt k c e) in
         t.1 ∙ ap (λ (s : Start). Some s) (in_pool t.0 t.2);
     all = λ p at.
-        let k = among Pool starts p start.Pool at refl in
+        let k = among None starts p start.Pool at refl in
         let e : slice_get (map (λ (c : Card B L). c.path) cards) k.0 ≡ Some p =
         ap (λ (l : List ℕ). slice_get l k.0) dealt.paths ∙ k.1 in
         let m = get_mapped (λ (x : Card B L). x.path) cards k.0 p e in
         (k.0, m.0, m.1, m.2);
     rises = λ i j a b lt e f.
-        rises Pool starts i j a.path b.path lt (path_at Pool starts cards dealt i a e)
-        (path_at Pool starts cards dealt j b f);
+        rises None starts i j a.path b.path lt (path_at None starts cards dealt i a e)
+        (path_at None starts cards dealt j b f);
   }

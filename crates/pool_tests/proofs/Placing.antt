@@ -1,13 +1,11 @@
 -- The paths that go to an owner.
-use Rattle.std.proofs.Common.{◌≡◌, ℕ, zero, suc, ◌+◌, ◌<◌, ◌≤◌, ◌==◌, Bool, true, false, cond, List, [], ◌∷◌, ◌++◌, map, length, take, Some, refl, sym, ap, ◌∙◌, arith}
+use Rattle.std.proofs.Common.{◌≡◌, ℕ, zero, suc, ◌+◌, ◌<◌, ◌≤◌, ◌==◌, Bool, true, false, cond, List, [], ◌∷◌, ◌++◌, map, length, take, Option, Some, refl, sym, ap, ◌∙◌, arith}
 use Rattle.std.specs.Prelude.{slice_get}
 use Rattle.std.proofs.lemmas.Bool.{eqb-true}
 use Rattle.std.proofs.lemmas.List.{map-append, length-map}
 use Rattle.checkout_core.specs.declared.path.Start.{Start}
 use Rattle.checkout_core.specs.Desks.{paths_of}
 use Rattle.checkout_core.specs.Talks.{contains}
-use Rattle.pool_tests.specs.declared.cards.Owner.{Owner}
-use Rattle.pool_tests.specs.declared.cards.Owner.TheVariants.{Desk}
 use Rattle.pool_tests.specs.Places.{goes_to, paths_to}
 
 one_more : (b : Bool) (k l : List ℕ) (n : ℕ) → l ≡ k ++ n ∷ []
@@ -18,13 +16,13 @@ one_more true k l n e = ap (λ (x : List ℕ). 0 ∷ map (λ (i : ℕ). suc i) x
 one_more false k l n e = ap (λ (x : List ℕ). map (λ (i : ℕ). suc i) x) e
     ∙ map-append (λ (i : ℕ). suc i) k (n ∷ [])
 
-pub paths_more : (o : Owner) (ss : List Start) (s : Start) → goes_to o s ≡ true
+pub paths_more : (o : Option ℕ) (ss : List Start) (s : Start) → goes_to o s ≡ true
     → paths_to o (ss ++ s ∷ []) ≡ paths_to o ss ++ length ss ∷ []
 paths_more o [] s goes = ap (λ (b : Bool). cond b (0 ∷ []) []) goes
 paths_more o (x ∷ ss) s goes =
     one_more (goes_to o x) (paths_to o ss) (paths_to o (ss ++ s ∷ [])) (length ss) (paths_more o ss s goes)
 
-pub paths_same : (o : Owner) (ss : List Start) (s : Start) → goes_to o s ≡ false
+pub paths_same : (o : Option ℕ) (ss : List Start) (s : Start) → goes_to o s ≡ false
     → paths_to o (ss ++ s ∷ []) ≡ paths_to o ss
 paths_same o [] s stays = ap (λ (b : Bool). cond b (0 ∷ []) []) stays
 paths_same o (x ∷ ss) s stays = ap (λ (l : List ℕ). cond (goes_to o x) (0 ∷ map (λ (i : ℕ). suc i) l)
@@ -37,7 +35,7 @@ get_mapped f (x ∷ xs) zero y e = let is : f x ≡ y = cc (e) in (x, refl, is)
 get_mapped f (x ∷ xs) (suc k) y e = get_mapped f xs k y e
 
 -- each of them goes there
-pub there : (o : Owner) (ss : List Start) (k p : ℕ) → slice_get (paths_to o ss) k ≡ Some p
+pub there : (o : Option ℕ) (ss : List Start) (k p : ℕ) → slice_get (paths_to o ss) k ≡ Some p
     → (s : Start) × (slice_get ss p ≡ Some s) × (goes_to o s ≡ true)
 there o [] k p e = absurd (cc (e))
 there o (x ∷ ss) k p e = go (λ i q f. there o ss i q f) (goes_to o x) refl k e
@@ -66,7 +64,7 @@ there o (x ∷ ss) k p e = go (λ i q f. there o ss i q f) (goes_to o x) refl k 
     go more false goes k e = found more k e
 
 -- each that goes there is among them
-pub among : (o : Owner) (ss : List Start) (p : ℕ) (s : Start) → slice_get ss p ≡ Some s → goes_to o s ≡ true
+pub among : (o : Option ℕ) (ss : List Start) (p : ℕ) (s : Start) → slice_get ss p ≡ Some s → goes_to o s ≡ true
     → (k : ℕ) × (slice_get (paths_to o ss) k ≡ Some p)
 among o [] p s at goes = absurd (cc (at))
 among o (x ∷ ss) zero s at goes =
@@ -90,7 +88,7 @@ among o (x ∷ ss) (suc p) s at goes = go (goes_to o x) (among o ss p s at goes)
     go false r = (r.0, later (paths_to o ss) r.0 r.1)
 
 -- they rise
-pub rises : (o : Owner) (ss : List Start) (i j a b : ℕ) → i < j → slice_get (paths_to o ss) i ≡ Some a
+pub rises : (o : Option ℕ) (ss : List Start) (i j a b : ℕ) → i < j → slice_get (paths_to o ss) i ≡ Some a
     → slice_get (paths_to o ss) j ≡ Some b → a < b
 rises o [] i j a b lt e f = absurd (cc (e))
 rises o (x ∷ ss) i j a b lt e f = go (λ i j a b lt e f. rises o ss i j a b lt e f) (goes_to o x) i j lt e f
@@ -121,7 +119,7 @@ rises o (x ∷ ss) i j a b lt e f = go (λ i j a b lt e f. rises o ss i j a b lt
         omega (arith, is, right)
     go more true (suc i) (suc j) lt e f = within more i j (omega (arith, lt)) e f
 
-pub few : (o : Owner) (ss : List Start) → length (paths_to o ss) ≤ length ss
+pub few : (o : Option ℕ) (ss : List Start) → length (paths_to o ss) ≤ length ss
 few o [] = omega arith
 few o (x ∷ ss) = go (goes_to o x) (few o ss)
   where
@@ -132,9 +130,9 @@ few o (x ∷ ss) = go (goes_to o x) (few o ss)
     go false le = let same = length-map (paths_to o ss) (λ (i : ℕ). suc i) in omega (arith, le, same)
 
 -- the paths of a driver
-pub to_desk : (d : ℕ) (ss : List Start) → paths_to (Desk d) ss ≡ paths_of d ss
+pub to_desk : (d : ℕ) (ss : List Start) → paths_to (Some d) ss ≡ paths_of d ss
 to_desk d [] = refl
-to_desk d (x ∷ ss) = ap (λ (l : List ℕ). cond (goes_to (Desk d) x) (0 ∷ map (λ (i : ℕ). suc i) l)
+to_desk d (x ∷ ss) = ap (λ (l : List ℕ). cond (goes_to (Some d) x) (0 ∷ map (λ (i : ℕ). suc i) l)
     (map (λ (i : ℕ). suc i) l)) (to_desk d ss)
 
 pub place_of : (p : ℕ) (qs : List ℕ) → contains p qs ≡ true → (k : ℕ) × (slice_get qs k ≡ Some p)

@@ -13,7 +13,6 @@ use Rattle.checkout_book.specs.Sights.{Sight}
 use Rattle.checkout_book.specs.Reserving.{AreNew}
 use Rattle.writer_pool.specs.declared.pooled.DeskSeed.{DeskSeed}
 use Rattle.writer_pool.specs.Pools.{IsSeed, AreSeeds, seed_cards}
-use Rattle.pool_tests.specs.declared.cards.Owner.TheVariants.{Desk}
 use Rattle.pool_tests.specs.Drivers.{KeepDrivers, IsKeptStart, is_required}
 use Rattle.pool_tests.specs.Places.{goes_to, paths_to, AreCardsOf}
 use Rattle.pool_tests.proofs.Dealing.{new_both}
@@ -24,7 +23,7 @@ pub kept_below : (drivers : ℕ) (starts : List Start) → KeepDrivers drivers s
 kept_below drivers starts keep p d required at = (keep p (start.Desk d required) at).0
 
 -- a start at a driver's desk, of the drivers of the tests
-own_desk : (drivers d : ℕ) (s : Start) → IsKeptStart drivers s → goes_to (Desk d) s ≡ true
+own_desk : (drivers d : ℕ) (s : Start) → IsKeptStart drivers s → goes_to (Some d) s ≡ true
     → s ≡ start.Desk d (is_required d)
 own_desk drivers d (start.Desk e required) kept goes =
     let same = eqb-true d e goes in
@@ -34,21 +33,21 @@ own_desk drivers d (start.Done v) kept goes = absurd (cc (goes))
 
 module _ {S B L : Type 0} (starter : S → StarterSeen) (see : Sight B L) where
   pub one_seed : (starts : List Start) (drivers d : ℕ) (seed : DeskSeed S B L) → KeepDrivers drivers starts
-      → length starts < 10000 → AreCardsOf see (Desk d) starts seed.cards.items → seed.required ≡ is_required d
+      → length starts < 10000 → AreCardsOf see (Some d) starts seed.cards.items → seed.required ≡ is_required d
       → (starter seed.starter).had ≡ [] → IsSeed starter starts d seed
   one_seed starts drivers d seed keep small dealt required unused = record {
     paths = dealt.paths ∙ to_desk d starts;
     desk = λ p h.
-        let k = place_of p (paths_to (Desk d) starts) (ap (contains p) (to_desk d starts) ∙ h) in
-        let t = there (Desk d) starts k.0 p k.1 in
+        let k = place_of p (paths_to (Some d) starts) (ap (contains p) (to_desk d starts) ∙ h) in
+        let t = there (Some d) starts k.0 p k.1 in
         t.1 ∙ ap (λ (s : Start). Some s) (own_desk drivers d t.0 (keep p t.0 t.1) t.2)
         ∙ ap (λ (b : Bool). Some (start.Desk d b)) (sym required);
-    texts = subst IsRising (sym dealt.texts) (texts_rise (paths_to (Desk d) starts)
-        (λ i j a b lt e f. rises (Desk d) starts i j a b lt e f));
+    texts = subst IsRising (sym dealt.texts) (texts_rise (paths_to (Some d) starts)
+        (λ i j a b lt e f. rises (Some d) starts i j a b lt e f));
     few = omega (
       arith,
       small,
-      few (Desk d) starts,
+      few (Some d) starts,
       ap length dealt.paths,
       length-map seed.cards.items (λ (c : Card B L). c.path),
       ap length unused,

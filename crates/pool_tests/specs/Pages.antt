@@ -1,7 +1,7 @@
--- What is seen of a page.
-use Rattle.std.specs.Prelude.{None}
+-- What is seen of a page with this path and this state.
+use Rattle.std.specs.Prelude.{ℕ, List, None}
+use Rattle.edge_kit.specs.declared.leaf_state.LeafState.{LeafState}
 use Rattle.edge_kit.specs.Seen.{LeafSeen}
-use Rattle.pool_tests.specs.declared.page.Page.{Page}
 
-abbrev pub page_seen : Page → LeafSeen
-page_seen p = record { path = p.path; content = None; state = p.state; faults = 0 }
+abbrev pub page_seen : List ℕ → LeafState → LeafSeen
+page_seen path state = record { path = path; content = None; state = state; faults = 0 }

@@ -15,16 +15,12 @@ use eol_convert::LineEnds;
 use std::alloc::{AllocError, Global};
 
 /// The name of the object with the content `hello` and a line feed.
-pub const HELLO: [u8; 20] = [
-    0xce, 0x01, 0x36, 0x25, 0x03, 0x0b, 0xa8, 0xdb, 0xa9, 0x06, 0xf7, 0x56, 0x96, 0x7f, 0x9e, 0x9c,
-    0xa3, 0x94, 0x46, 0x4a,
-];
+pub const HELLO: [u8; 20] =
+    *b"\xce\x01\x36\x25\x03\x0b\xa8\xdb\xa9\x06\xf7\x56\x96\x7f\x9e\x9c\xa3\x94\x46\x4a";
 
 /// The name of the empty object.
-pub const EMPTY: [u8; 20] = [
-    0xe6, 0x9d, 0xe2, 0x9b, 0xb2, 0xd1, 0xd6, 0x43, 0x4b, 0x8b, 0x29, 0xae, 0x77, 0x5a, 0xd8, 0xc2,
-    0xe4, 0x8c, 0x53, 0x91,
-];
+pub const EMPTY: [u8; 20] =
+    *b"\xe6\x9d\xe2\x9b\xb2\xd1\xd6\x43\x4b\x8b\x29\xae\x77\x5a\xd8\xc2\xe4\x8c\x53\x91";
 
 /// The name of an object that isn't there.
 pub const ABSENT: [u8; 20] = [7; 20];
@@ -37,32 +33,23 @@ pub fn objects(alloc: Global) -> Result<MemoryRepo, AllocError> {
     Ok(MemoryRepo::new(alloc, None, None, None, objects, Vec::new(alloc)))
 }
 
-/// Who has the path first.
-#[derive(Clone, Copy, Debug, PartialEq, Eq)]
-pub enum Owner {
-    /// Any actor.
-    Pool,
-    /// The desk of this driver.
-    Desk(u32),
-}
-
-/// Whether a path that starts so goes to this owner.
-fn goes_to(owner: Owner, start: Start) -> bool
+/// Whether a path that starts so goes to this owner: the desk of this driver, or else the pool.
+fn goes_to(owner: Option<u32>, start: Start) -> bool
     ensures { result ≡ goes_to owner start }
 {
     match (owner, start) {
-        (Owner::Pool, Start::Pool) => true,
-        (Owner::Desk(of), Start::Desk { driver, .. }) => of == driver,
+        (None, Start::Pool) => true,
+        (Some(of), Start::Desk { driver, .. }) => of == driver,
         _ => false,
     }
 }
 
 /// The object of the path with this number. A driver's has the content `hello`. Of three others in a row one has it,
 /// the next none, and the last an object that isn't there.
-fn object_of(owner: Owner, path: u32) -> [u8; 20] {
+fn object_of(owner: Option<u32>, path: u32) -> [u8; 20] {
     match (owner, path % 3) {
-        (Owner::Desk(_), _) | (Owner::Pool, 0) => HELLO,
-        (Owner::Pool, 1) => EMPTY,
+        (Some(_), _) | (None, 0) => HELLO,
+        (None, 1) => EMPTY,
         _ => ABSENT,
     }
 }
@@ -93,13 +80,13 @@ pub fn text_of(path: u32) -> [u8; 5]
 fn new_card<R: Repo>(
     alloc: Global,
     repo: &mut R,
-    owner: Owner,
+    owner: Option<u32>,
     path: u32,
 ) -> Result<Card<R::Blob, Page>, AllocError>
     requires { path < 10_000 }
     ensures path { IfOk result (λ c. c.path ≡ path) }
     ensures text { IfOk result (λ c. c.text ≡ text_at path) }
-    ensures new { IfOk result (λ c. IsNewCard (seen (sight R.Blob.told R.Blob.seen page_seen) c)) }
+    ensures new { IfOk result (λ c. IsNewCard (seen (sight R.Blob.told R.Blob.seen (λ p. page_seen p.path p.state)) c)) }
 {
     let name = text_of(path);
     let object = object_of(owner, path);
@@ -127,10 +114,10 @@ pub fn cards_of<R: Repo>(
     alloc: Global,
     repo: &mut R,
     starts: &[Start],
-    owner: Owner,
+    owner: Option<u32>,
 ) -> Result<Vec<Card<R::Blob, Page>>, AllocError>
     requires { length starts.now < 10_000 }
-    ensures { IfOk result (λ v. AreCardsOf (sight R.Blob.told R.Blob.seen page_seen) owner starts.now v.items) }
+    ensures { IfOk result (λ v. AreCardsOf (sight R.Blob.told R.Blob.seen (λ p. page_seen p.path p.state)) owner starts.now v.items) }
 {
     let mut cards = Vec::new(alloc);
     let mut path = 0;

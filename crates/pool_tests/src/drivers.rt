@@ -6,7 +6,7 @@ ghost use Rattle.writer_pool.specs.Pools.{AreSeeds, seed_cards};
 ghost use Rattle.pool_tests.specs.Drivers.{KeepDrivers, is_required};
 ghost use Rattle.pool_tests.specs.Pages.{page_seen};
 
-use crate::cards::{Owner, cards_of};
+use crate::cards::cards_of;
 use crate::page::Page;
 use byte_path::{Bytes, Items};
 use checkout_core::Start;
@@ -58,7 +58,7 @@ pub fn seeds_of<R: Repo>(
     requires keep { KeepDrivers (length drivers.now) starts.now }
     ensures len { IfOk result (λ v. length v.items ≡ length drivers.now) }
     ensures seeds { IfOk result (λ v. AreSeeds ⟦<MemoryStarter as Starter>⟧.seen starts.now 0 v.items) }
-    ensures new { IfOk result (λ v. AreNew (sight R.Blob.told R.Blob.seen page_seen) (seed_cards v.items)) }
+    ensures new { IfOk result (λ v. AreNew (sight R.Blob.told R.Blob.seen (λ p. page_seen p.path p.state)) (seed_cards v.items)) }
 {
     let mut seeds = Vec::new(alloc);
     let mut driver = 0;
@@ -66,7 +66,7 @@ pub fn seeds_of<R: Repo>(
         seeds.push(DeskSeed {
             required: is_required(driver),
             starter: starter_of(alloc, *outputs)?,
-            cards: cards_of(alloc, repo, starts, Owner::Desk(driver))?,
+            cards: cards_of(alloc, repo, starts, Some(driver))?,
         })?;
         driver += 1;
     }

@@ -22,3 +22,9 @@ impl Gate for Holds {
         let _ = std::hint::black_box(sum);
     }
 }
+
+/// A gate that holds no actor.
+pub const OPEN: Holds = Holds {
+    odd: false,
+    turns: 0,
+};

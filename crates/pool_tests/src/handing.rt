@@ -1,8 +1,9 @@
 use crate::cards::objects;
 use crate::drivers::Outputs;
-use crate::runs::run;
+use crate::gates::OPEN;
+use crate::runs::{ends_so, run};
 use checkout_core::{Event, FilterCause, Verdict};
-use edge_kit::{LeafState, Mark, NoGate};
+use edge_kit::{LeafState, Mark};
 use filter_words::BreakCause;
 use std::alloc::{AllocError, Global};
 use std::process::Abort;
@@ -102,7 +103,7 @@ fn check<H: Threads + Wait + Sync + Abort>(
     let mut repo = objects(alloc)?;
     let paths = row.files.len() as u32;
     let drivers = &[row.outputs];
-    let left = run(rt, alloc, &mut repo, paths, drivers, workers, &NoGate)?;
+    let left = run(rt, alloc, &mut repo, paths, drivers, workers, &OPEN)?;
     for (at, (refused, file)) in row.refused.iter().zip(row.files).enumerate() {
         let path = at as u32;
         let refused = *refused;
@@ -113,23 +114,13 @@ fn check<H: Threads + Wait + Sync + Abort>(
             "{} at {path}",
             row.name
         );
-        assert_eq!(rt;
-            left.verdicts.get(at),
-            Some(&want_verdict(refused)),
+        let verdict = want_verdict(refused);
+        let sealed = LeafState::Sealed(Mark::Plain);
+        assert!(rt;
+            ends_so(&left, path, verdict, sealed, file),
             "{} at {path}",
             row.name
         );
-        let Some(leaf) = left.leaves.get(at) else {
-            assert!(rt; false, "no leaf {path}");
-            continue;
-        };
-        assert_eq!(rt;
-            leaf.state,
-            LeafState::Sealed(Mark::Plain),
-            "{} at {path}",
-            row.name
-        );
-        assert_eq!(rt; leaf.content.as_slice(), *file, "{} at {path}", row.name);
     }
     assert_eq!(rt; left.starters.len(), 1, "{}", row.name);
     let Some(talk) = left.talks.get(0) else {

@@ -6,14 +6,19 @@
 //! `runs` runs a pool, and `gates` holds actors.
 #![tactic(auto)]
 
-pub mod cards;
-pub mod drivers;
-pub mod gates;
+#[cfg(test)]
+mod cards;
+#[cfg(test)]
+mod drivers;
+#[cfg(test)]
+mod gates;
 #[cfg(test)]
 mod handing;
 #[cfg(test)]
 mod many;
-pub mod page;
-pub mod runs;
+#[cfg(test)]
+mod page;
+#[cfg(test)]
+mod runs;
 #[cfg(test)]
 mod talks;

@@ -1,9 +1,9 @@
-use crate::cards::{objects, text_of};
-use crate::gates::Holds;
-use crate::runs::run;
+use crate::cards::objects;
+use crate::gates::{Holds, OPEN};
+use crate::runs::{ends_so, notes_of, run};
 use crate::talks::{BOTH, Beside, End, NONE};
 use checkout_core::{FailCause, FilterCause, ObjectKind, Verdict};
-use edge_kit::{Gate, LeafState, Mark, NoGate};
+use edge_kit::{LeafState, Mark};
 use std::alloc::Global;
 use std::process::Abort;
 use std::sync::Wait;
@@ -45,13 +45,13 @@ fn want(end: End) -> (Verdict, LeafState, &'static [u8]) {
 }
 
 /// Each path of a run ends as it must, and each driver's talk is as it must be, whatever the number of workers.
-fn check<H: Threads + Wait + Sync + Abort, G: Gate>(
+fn check<H: Threads + Wait + Sync + Abort>(
     rt: &H,
     alloc: Global,
     paths: u32,
     beside: &Beside,
     workers: u32,
-    gate: &G,
+    gate: &Holds,
 ) -> Result<(), Fail> {
     assert!(rt; 1 <= workers && workers <= 16);
     assert!(rt; paths < 10_000 && beside.drivers.len() <= 2);
@@ -68,19 +68,13 @@ fn check<H: Threads + Wait + Sync + Abort, G: Gate>(
     assert_eq!(rt; left.blobs.len(), paths as usize);
     for path in 0..paths {
         let (verdict, state, content) = want(end_of(beside, path));
-        let Some(leaf) = left.leaves.get(path as usize) else {
-            assert!(rt; false, "no leaf {path}");
-            continue;
-        };
-        assert_eq!(rt; left.verdicts.get(path as usize), Some(&verdict), "{path}");
-        assert_eq!(rt; leaf.path.as_slice(), text_of(path).as_slice());
-        assert_eq!(rt; leaf.state, state, "{path}");
-        assert_eq!(rt; leaf.content.as_slice(), content, "{path}");
+        assert!(rt; ends_so(&left, path, verdict, state, content), "{path}");
     }
     assert_eq!(rt; left.starters.len(), beside.drivers.len());
     assert_eq!(rt; left.talks.len(), beside.talks.len());
     for (talk, notes) in left.talks.iter().zip(beside.talks) {
-        assert_eq!(rt; talk.as_slice(), *notes, "{workers} workers");
+        let noted = notes_of(alloc, talk.as_slice())?;
+        assert_eq!(rt; noted.as_str(), *notes, "{workers} workers");
     }
     Ok(())
 }
@@ -88,7 +82,7 @@ fn check<H: Threads + Wait + Sync + Abort, G: Gate>(
 #[test]
 fn no_path(rt: HostRuntime) -> Result<(), Fail> {
     for workers in [1, 2, 16] {
-        check(&rt, rt.alloc(), 0, NONE, workers, &NoGate)?;
+        check(&rt, rt.alloc(), 0, NONE, workers, &OPEN)?;
     }
     Ok(())
 }
@@ -97,7 +91,7 @@ fn no_path(rt: HostRuntime) -> Result<(), Fail> {
 fn a_thousand_paths_and_two_drivers(rt: HostRuntime) -> Result<(), Fail> {
     for beside in [NONE, BOTH] {
         for workers in [1, 2, 16] {
-            check(&rt, rt.alloc(), 1008, beside, workers, &NoGate)?;
+            check(&rt, rt.alloc(), 1008, beside, workers, &OPEN)?;
         }
     }
     Ok(())

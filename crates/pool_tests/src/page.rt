@@ -17,7 +17,7 @@ pub struct Page {
 impl Page {
     /// A fresh page of this path.
     pub fn new(alloc: Global, path: Bytes) -> Page
-        ensures { IsNewLeaf path (page_seen result) }
+        ensures { IsNewLeaf path (page_seen result.path result.state) }
     {
         Page {
             path,
@@ -28,7 +28,7 @@ impl Page {
 }
 
 impl Leaf for Page {
-    ghost seen = { λ p. page_seen p };
+    ghost seen = { λ p. page_seen p.path p.state };
 
     ghost fresh_content = { λ _ _. tt };
 

@@ -2,13 +2,15 @@
 ghost use Rattle.std.specs.Prelude.{◌≤◌, ◌<◌, ◌≡◌, IfOk, length};
 ghost use Rattle.pool_tests.specs.Drivers.{KeepDrivers, IsKeptStart};
 
-use crate::cards::{Owner, cards_of};
+use crate::cards::{cards_of, text_of};
 use crate::drivers::{Outputs, seeds_of};
+use crate::gates::Holds;
 use crate::page::Page;
-use checkout_core::Start;
-use edge_kit::{Gate, MemoryStarter, Repo};
+use checkout_core::{Event, Start, Verdict};
+use edge_kit::{Blob, LeafState, MemoryStarter, Repo};
 use std::alloc::{AllocError, Global};
 use std::sync::Wait;
+use std::test::Fail;
 use std::thread::Threads;
 use writer_pool::{Pooled, pool_run};
 
@@ -43,14 +45,14 @@ fn starts_of(alloc: Global, drivers: usize, paths: u32) -> Result<Vec<Start>, Al
 }
 
 /// What a pool of so many paths leaves, with these drivers and so many workers.
-pub fn run<R: Repo, G: Gate, H: Threads + Wait + Sync>(
+pub fn run<R: Repo, H: Threads + Wait + Sync>(
     rt: &H,
     alloc: Global,
     repo: &mut R,
     paths: u32,
     drivers: &[Outputs],
     workers: u32,
-    gate: &G,
+    gate: &Holds,
 ) -> Result<Pooled<MemoryStarter, R::Blob, Page>, AllocError>
     requires few_paths { paths < 10_000 }
     requires few_drivers { length drivers.now ≤ 16 }
@@ -58,7 +60,37 @@ pub fn run<R: Repo, G: Gate, H: Threads + Wait + Sync>(
     requires few { workers ≤ 16 }
 {
     let starts = starts_of(alloc, drivers.len(), paths)?;
-    let pool = cards_of(alloc, repo, starts.as_slice(), Owner::Pool)?;
+    let pool = cards_of(alloc, repo, starts.as_slice(), None)?;
     let seeds = seeds_of(alloc, repo, starts.as_slice(), drivers)?;
     pool_run(rt, alloc, pool, seeds, starts, workers, gate)
+}
+
+/// Whether the path ends with this verdict, and its leaf with this state and this content.
+pub fn ends_so<B: Blob>(
+    left: &Pooled<MemoryStarter, B, Page>,
+    path: u32,
+    verdict: Verdict,
+    state: LeafState,
+    content: &[u8],
+) -> bool {
+    if path >= 10_000 {
+        return false;
+    }
+    let at = path as usize;
+    let (Some(is), Some(leaf)) = (left.verdicts.get(at), left.leaves.get(at)) else {
+        return false;
+    };
+    *is == verdict
+        && leaf.path.as_slice() == text_of(path).as_slice()
+        && leaf.state == state
+        && leaf.content.as_slice() == content
+}
+
+/// The notes of a talk, a line for each.
+pub fn notes_of(alloc: Global, talk: &[Event]) -> Result<String, Fail> {
+    let mut text = String::new(alloc);
+    for event in talk {
+        writeln!(text, "{event:?}")?;
+    }
+    Ok(text)
 }

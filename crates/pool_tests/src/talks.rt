@@ -1,7 +1,5 @@
 //! Two drivers that delay, beside the workers of a thousand paths.
 use crate::drivers::Outputs;
-use checkout_core::Event;
-use filter_words::{Caps, ListReply, Reply};
 
 /// How a path ends.
 #[derive(Clone, Copy, Debug)]
@@ -21,7 +19,7 @@ pub enum End {
 pub struct Beside {
     pub drivers: &'static [Outputs],
     /// What must be noted of each driver's talk.
-    pub talks: &'static [&'static [Event]],
+    pub talks: &'static [&'static str],
     /// How the paths of the drivers must end.
     pub ends: &'static [(u32, End)],
     /// How many events the talks and these paths have. Any other path has two.
@@ -34,11 +32,6 @@ pub const NONE: &Beside = &Beside {
     talks: &[],
     ends: &[],
     events: 0,
-};
-
-const CAPS: Caps = Caps {
-    smudge: true,
-    delay: true,
 };
 
 /// It delays three paths, and refuses one. It refuses one of the delayed paths later.
@@ -56,55 +49,21 @@ const FIRST: Outputs = &[
     00000013status=success\n0000",
 ];
 
-const FIRST_TALK: &[Event] = &[
-    Event::Opened {
-        driver: 0,
-        caps: CAPS,
-    },
-    Event::Answered {
-        path: 2,
-        reply: Reply::Delayed,
-    },
-    Event::Answered {
-        path: 254,
-        reply: Reply::Error,
-    },
-    Event::Answered {
-        path: 506,
-        reply: Reply::Delayed,
-    },
-    Event::Answered {
-        path: 758,
-        reply: Reply::Delayed,
-    },
-    Event::Named { path: 758 },
-    Event::Named { path: 2 },
-    Event::Listed {
-        driver: 0,
-        reply: ListReply::Names(2),
-    },
-    Event::Redone {
-        path: 758,
-        reply: Reply::Content,
-    },
-    Event::Redone {
-        path: 2,
-        reply: Reply::Error,
-    },
-    Event::Named { path: 506 },
-    Event::Listed {
-        driver: 0,
-        reply: ListReply::Names(1),
-    },
-    Event::Redone {
-        path: 506,
-        reply: Reply::Content,
-    },
-    Event::Listed {
-        driver: 0,
-        reply: ListReply::Empty,
-    },
-];
+const FIRST_TALK: &str = "\
+    Opened { driver: 0, caps: Caps { smudge: true, delay: true } }\n\
+    Answered { path: 2, reply: Delayed }\n\
+    Answered { path: 254, reply: Error }\n\
+    Answered { path: 506, reply: Delayed }\n\
+    Answered { path: 758, reply: Delayed }\n\
+    Named { path: 758 }\n\
+    Named { path: 2 }\n\
+    Listed { driver: 0, reply: Names(2) }\n\
+    Redone { path: 758, reply: Content }\n\
+    Redone { path: 2, reply: Error }\n\
+    Named { path: 506 }\n\
+    Listed { driver: 0, reply: Names(1) }\n\
+    Redone { path: 506, reply: Content }\n\
+    Listed { driver: 0, reply: Empty }\n";
 
 /// It delays three paths, of which it never lists one.
 const SECOND: Outputs = &[
@@ -119,46 +78,18 @@ const SECOND: Outputs = &[
     00000013status=success\n0000",
 ];
 
-const SECOND_TALK: &[Event] = &[
-    Event::Opened {
-        driver: 1,
-        caps: CAPS,
-    },
-    Event::Answered {
-        path: 1,
-        reply: Reply::Content,
-    },
-    Event::Answered {
-        path: 253,
-        reply: Reply::Delayed,
-    },
-    Event::Answered {
-        path: 505,
-        reply: Reply::Delayed,
-    },
-    Event::Answered {
-        path: 757,
-        reply: Reply::Delayed,
-    },
-    Event::Named { path: 757 },
-    Event::Named { path: 253 },
-    Event::Listed {
-        driver: 1,
-        reply: ListReply::Names(2),
-    },
-    Event::Redone {
-        path: 757,
-        reply: Reply::Content,
-    },
-    Event::Redone {
-        path: 253,
-        reply: Reply::Content,
-    },
-    Event::Listed {
-        driver: 1,
-        reply: ListReply::Empty,
-    },
-];
+const SECOND_TALK: &str = "\
+    Opened { driver: 1, caps: Caps { smudge: true, delay: true } }\n\
+    Answered { path: 1, reply: Content }\n\
+    Answered { path: 253, reply: Delayed }\n\
+    Answered { path: 505, reply: Delayed }\n\
+    Answered { path: 757, reply: Delayed }\n\
+    Named { path: 757 }\n\
+    Named { path: 253 }\n\
+    Listed { driver: 1, reply: Names(2) }\n\
+    Redone { path: 757, reply: Content }\n\
+    Redone { path: 253, reply: Content }\n\
+    Listed { driver: 1, reply: Empty }\n";
 
 const ENDS: &[(u32, End)] = &[
     (1, End::File(b"one")),

@@ -1,5 +1,6 @@
 use Rattle.std.proofs.Common.{◌+◌, ℕ, take, refl, sym, ap, subst, ◌∙◌, arith}
 use Rattle.checkout_book.specs.Sights.{sight}
+use Rattle.pool_tests.specs.declared.page.Page.{Page}
 use Rattle.pool_tests.specs.Pages.{page_seen}
 use Rattle.pool_tests.specs.Places.{AreCardsOf}
 use Rattle.pool_tests.specs.Texts.{text_at}
@@ -10,13 +11,13 @@ use Rattle.pool_tests.proofs.cards.cards_of.Goals as goal
 pub loop-start-init : goal.loop-start-init
 loop-start-init g c = (
   refl,
-  deal_none (sight g.R.Blob.Blob.told g.R.Blob.Blob.seen page_seen) _ c.args.starts.now _
+  deal_none (sight g.R.Blob.Blob.told g.R.Blob.Blob.seen (λ (p : Page). page_seen p.path p.state)) _ c.args.starts.now _
       c.new-cards.ensures.items,
 )
 
 pub loop-start-preserved : goal.loop-start-preserved
 loop-start-preserved g c =
-    let see = sight g.R.Blob.Blob.told g.R.Blob.Blob.seen page_seen in
+    let see = sight g.R.Blob.Blob.told g.R.Blob.Blob.seen (λ (p : Page). page_seen p.path p.state) in
     let k = c.loop-start.start-index in
     let at = c.loop-start.invariant.0 in
     let dealt = c.loop-start.invariant.1 in
@@ -35,5 +36,5 @@ loop-start-preserved g c =
 
 pub returns : goal.returns
 returns g c =
-    deal_all (sight g.R.Blob.Blob.told g.R.Blob.Blob.seen page_seen) _ _ _ _ c.loop-start.invariant.1
+    deal_all (sight g.R.Blob.Blob.told g.R.Blob.Blob.seen (λ (p : Page). page_seen p.path p.state)) _ _ _ _ c.loop-start.invariant.1
     (omega (arith, c.loop-start-test.false, c.loop-start.auto.start-index-end))

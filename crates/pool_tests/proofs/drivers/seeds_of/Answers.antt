@@ -12,7 +12,7 @@ use Rattle.pool_tests.proofs.drivers.seeds_of.Goals as goal
 
 pub loop-outputs-init : goal.loop-outputs-init
 loop-outputs-init g c =
-    let see = sight g.R.Blob.Blob.told g.R.Blob.Blob.seen page_seen in
+    let see = sight g.R.Blob.Blob.told g.R.Blob.Blob.seen (λ (p : Page). page_seen p.path p.state) in
     let none = c.new-seeds.ensures.items in
     let no = no_seeds seen-value.it see c.args.starts.now _ none in
     (refl, ap length none, no.0, no.1)
@@ -20,7 +20,7 @@ loop-outputs-init g c =
 pub loop-outputs-preserved : goal.loop-outputs-preserved
 loop-outputs-preserved g c =
     let D : Type 0 = DeskSeed MemoryStarter g.row.R-Blob.Denot Page in
-    let see = sight g.R.Blob.Blob.told g.R.Blob.Blob.seen page_seen in
+    let see = sight g.R.Blob.Blob.told g.R.Blob.Blob.seen (λ (p : Page). page_seen p.path p.state) in
     let seed : D = record {
       required = c.is_required.result;
       starter = c.in_ok-starter_of.field-0;
