@@ -119,7 +119,7 @@ fn no_file_has_an_empty_history(rt: HostRuntime) -> Result<(), Fail> {
 const REFUSED: &[u8] = b"\
     config |words plan|0%\
     config |words checkout --workers=17|2%\
-    config |words rehearse 1 2|3%\
+    config |words rehearse 1 2|0%\
     config [checkout]\n\tworkers = x\n|\
         3%";
 
