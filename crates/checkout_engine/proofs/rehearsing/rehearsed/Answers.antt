@@ -1,8 +1,13 @@
-use Rattle.std.proofs.Common.{List, ℕ, refl, sym, ap, subst}
+use Rattle.std.proofs.Common.{◌≡◌, List, ℕ, subst}
 use Rattle.edge_kit.specs.MemoryDrivers.{starts_for}
-use Rattle.edge_kit.specs.Starters.{Starts}
+use Rattle.edge_kit.specs.Seen.{TreeSeen}
+use Rattle.edge_kit.specs.Told.{RepoTold}
 use Rattle.edge_kit.specs.declared.script.DriverScript.{DriverScript}
-use Rattle.checkout_engine.specs.Rehearsed.{IsTried}
+use Rattle.checkout_core.specs.declared.verdict.Verdict.{Verdict}
+use Rattle.rehearsal.specs.Drivers.{scripts}
+use Rattle.rehearsal.specs.Paths.{in_order}
+use Rattle.rehearsal.specs.Repository.{files, IsRepository}
+use Rattle.checkout_engine.specs.Rehearsed.{IsTried, IsRehearsed}
 use Rattle.checkout_engine.proofs.Valid.{valid}
 use Rattle.checkout_engine.proofs.rehearsing.rehearsed.Goals as goal
 
@@ -10,9 +15,15 @@ pub checked_out-requires-clause-valid : goal.checked_out-requires-clause-valid
 checked_out-requires-clause-valid g c κs within =
     valid c.files_have_an_index.ensures c.attributes_are_right.ensures c.args.seed c.args.paths c.requires _ c.in_ok-made.ensures.repo
 
-pub returns : goal.returns
-returns g c = record {
-  told = _;
-  made = c.in_ok-made.ensures.repo;
-  tried = subst (λ (scripts : List DriverScript). IsTried _ (starts_for scripts) _ _) c.in_ok-made.ensures.scripts c.in_ok-left.ensures;
+as_made : (seed paths : ℕ) (told : RepoTold) (made : List DriverScript) (verdicts : List Verdict) (tree : TreeSeen)
+    → IsRepository (files seed (in_order paths)) told → made ≡ scripts seed (in_order paths)
+    → IsTried told (starts_for made) verdicts tree → IsRehearsed seed paths verdicts tree
+as_made seed paths told made verdicts tree repo same tried = record {
+  told = told;
+  made = repo;
+  tried = subst (λ (l : List DriverScript). IsTried told (starts_for l) verdicts tree) same tried;
 }
+
+pub returns : goal.returns
+returns g c =
+    as_made c.args.seed c.args.paths _ _ _ _ c.in_ok-made.ensures.repo c.in_ok-made.ensures.scripts c.in_ok-left.ensures
