@@ -1,3 +1,4 @@
+use crate::table::{Row, check, rows_of};
 use attr_line::{AttrState, read_attributes};
 use attr_stack::{AttrFiles, AttrStack, FileAt, attributes_of};
 use byte_path::{Bytes, Items};
@@ -13,8 +14,8 @@ fn file_at(alloc: Global, folder: &[u8], text: &[u8]) -> Result<FileAt, AllocErr
 }
 
 /// The files, in an order that has no meaning.
-fn files_of(alloc: Global, texts: &[&[u8]; 4]) -> Result<AttrFiles, AllocError> {
-    let [info, top, a, deep] = *texts;
+fn files_of(alloc: Global, texts: [&[u8]; 4]) -> Result<AttrFiles, AllocError> {
+    let [info, top, a, deep] = texts;
     let mut files = Vec::new(alloc);
     files.push(file_at(alloc, b"a/b", deep)?)?;
     files.push(file_at(alloc, b"", top)?)?;
@@ -35,110 +36,83 @@ fn is_spelled(state: &AttrState, want: &[u8]) -> bool {
 }
 
 /// `info/attributes` and the files of the top folder, of `a` and of `a/b`, a path, a name, and the state's spelling: `+`,
-/// `-`, `!`, or the value.
-const CASES: &[([&[u8]; 4], &[u8], &[u8], &[u8])] = &[
-    // The last row and the last pair win.
-    ([b"", b"* t\n* -t", b"", b""], b"a/b/f.c", b"t", b"-"),
-    ([b"", b"* t -t", b"", b""], b"a/b/f.c", b"t", b"-"),
-    ([b"", b"* t\n*.c !t", b"", b""], b"a/b/f.c", b"t", b"!"),
-    ([b"", b"* -t\n*.h t", b"", b""], b"a/b/f.c", b"t", b"-"),
-    ([b"", b"* t=crlf", b"", b""], b"a/b/f.c", b"t", b"crlf"),
-    ([b"", b"", b"", b""], b"a/b/f.c", b"t", b"!"),
-    // The files nearest to the path win.
-    (
-        [b"", b"* t=top", b"* t=a", b"* t=b"],
-        b"a/b/f.c",
-        b"t",
-        b"b",
-    ),
-    ([b"", b"* t=top", b"* t=a", b"* t=b"], b"a/f", b"t", b"a"),
-    ([b"", b"* t=top", b"* t=a", b"* t=b"], b"f", b"t", b"top"),
-    ([b"", b"* t=top", b"* t=a", b"* t=b"], b"ab/f", b"t", b"top"),
-    (
-        [b"* t=info", b"* t=top", b"* t=a", b"* t=b"],
-        b"a/b/f.c",
-        b"t",
-        b"info",
-    ),
-    ([b"", b"", b"/b/f.c t", b""], b"a/b/f.c", b"t", b"+"),
-    ([b"", b"/f.c t", b"", b"/f.c -t"], b"a/b/f.c", b"t", b"-"),
-    ([b"", b"/b/f.c t", b"", b""], b"a/b/f.c", b"t", b"!"),
-    // A macro stands for its line if it is set.
-    ([b"x binary text", b"", b"", b""], b"x", b"text", b"+"),
-    ([b"x binary text", b"", b"", b""], b"x", b"diff", b"-"),
-    ([b"x text binary", b"", b"", b""], b"x", b"text", b"-"),
-    (
-        [b"[attr]m text -x\n*.c m", b"", b"*.c x", b""],
-        b"a/b.c",
-        b"x",
-        b"-",
-    ),
-    (
-        [b"[attr]m text -x\n*.c m", b"", b"*.c x", b""],
-        b"a/b.c",
-        b"m",
-        b"+",
-    ),
-    ([b"", b"[attr]m t\n* -m", b"", b""], b"a/b/f.c", b"t", b"!"),
-    ([b"", b"[attr]m t\n* m=1", b"", b""], b"a/b/f.c", b"t", b"!"),
-    (
-        [b"", b"[attr]m n\n[attr]n m t\n* m", b"", b""],
-        b"a/b/f.c",
-        b"t",
-        b"+",
-    ),
-    // The macro that is met first counts.
-    (
-        [b"[attr]m t=info", b"[attr]m t=top\n* m", b"", b""],
-        b"a/b/f.c",
-        b"t",
-        b"info",
-    ),
-    (
-        [b"", b"[attr]m t=1\n[attr]m t=2\n* m", b"", b""],
-        b"a/b/f.c",
-        b"t",
-        b"2",
-    ),
-    (
-        [b"", b"[attr]binary t\n* binary", b"", b""],
-        b"a/b/f.c",
-        b"diff",
-        b"!",
-    ),
-    ([b"", b"", b"[attr]m t\n* m", b""], b"a/b/f.c", b"t", b"!"),
-    ([b"", b"[attr]m t", b"* m", b""], b"a/b/f.c", b"t", b"+"),
-];
+/// `-`, `!`, or the value. The last row and the last pair win.
+const LAST: &[u8] = b"\
+    |* t\n* -t|||a/b/f.c|t|-%\
+    |* t -t|||a/b/f.c|t|-%\
+    |* t\n*.c !t|||a/b/f.c|t|!%\
+    |* -t\n*.h t|||a/b/f.c|t|-%\
+    |* t=crlf|||a/b/f.c|t|crlf%\
+    ||||a/b/f.c|t|!%";
 
-#[test]
-fn a_path_has_the_states_of_its_files(rt: HostRuntime) -> Result<(), Fail> {
-    for (texts, path, name, want) in CASES {
-        let files = files_of(rt.alloc(), texts)?;
-        let names = [Bytes::copy_of(rt.alloc(), name)?];
-        let states = attributes_of(rt.alloc(), &files, path, &names)?;
-        let [state] = states.as_slice() else {
-            panic!(rt; "one state for one name");
+/// The same where the files nearest to the path win.
+const NEAREST: &[u8] = b"\
+    |* t=top|* t=a|* t=b|a/b/f.c|t|b%\
+    |* t=top|* t=a|* t=b|a/f|t|a%\
+    |* t=top|* t=a|* t=b|f|t|top%\
+    |* t=top|* t=a|* t=b|ab/f|t|top%\
+    * t=info|* t=top|* t=a|* t=b|a/b/f.c|t|info%\
+    ||/b/f.c t||a/b/f.c|t|+%\
+    |/f.c t||/f.c -t|a/b/f.c|t|-%\
+    |/b/f.c t|||a/b/f.c|t|!%";
+
+/// The same where a macro stands for its line if it is set.
+const MACROS: &[u8] = b"\
+    x binary text||||x|text|+%\
+    x binary text||||x|diff|-%\
+    x text binary||||x|text|-%\
+    [attr]m text -x\n*.c m||*.c x||a/b.c|x|-%\
+    [attr]m text -x\n*.c m||*.c x||a/b.c|m|+%\
+    |[attr]m t\n* -m|||a/b/f.c|t|!%\
+    |[attr]m t\n* m=1|||a/b/f.c|t|!%\
+    |[attr]m n\n[attr]n m t\n* m|||a/b/f.c|t|+%";
+
+/// The same where the macro that is met first counts.
+const FIRST: &[u8] = b"\
+    [attr]m t=info|[attr]m t=top\n* m|||a/b/f.c|t|info%\
+    |[attr]m t=1\n[attr]m t=2\n* m|||a/b/f.c|t|2%\
+    |[attr]binary t\n* binary|||a/b/f.c|diff|!%\
+    ||[attr]m t\n* m||a/b/f.c|t|!%\
+    |[attr]m t|* m||a/b/f.c|t|+%";
+
+/// The states of these names at this path, of the files and of a stack of them.
+fn states_of(
+    alloc: Global,
+    texts: [&[u8]; 4],
+    path: &[u8],
+    names: &[Bytes],
+) -> Result<(Vec<AttrState>, Vec<AttrState>), AllocError> {
+    let files = files_of(alloc, texts)?;
+    let states = attributes_of(alloc, &files, path, names)?;
+    let mut stack = AttrStack::begin(alloc, files)?;
+    Ok((states, stack.states(alloc, path, names)?))
+}
+
+struct Stated;
+
+impl Row for Stated {
+    fn is_so(alloc: Global, row: &[Vec<u8>]) -> Result<bool, Fail> {
+        let [info, top, a, deep, path, name, want] = row else {
+            return Ok(false);
         };
-        assert!(rt; is_spelled(state, want), "{name:?} of {path:?}, {texts:?}");
+        let names = [Bytes::copy_of(alloc, name)?];
+        let (left, right) = states_of(alloc, [info, top, a, deep], path, &names)?;
+        Ok(match (left.as_slice(), right.as_slice()) {
+            ([left], [right]) => is_spelled(left, want) && is_spelled(right, want),
+            _ => false,
+        })
     }
-    Ok(())
 }
 
 #[test]
-fn a_stack_has_the_same_states(rt: HostRuntime) -> Result<(), Fail> {
-    for (texts, path, name, want) in CASES {
-        let mut stack = AttrStack::begin(rt.alloc(), files_of(rt.alloc(), texts)?)?;
-        let names = [Bytes::copy_of(rt.alloc(), name)?];
-        let states = stack.states(rt.alloc(), path, &names)?;
-        let [state] = states.as_slice() else {
-            panic!(rt; "one state for one name");
-        };
-        assert!(rt; is_spelled(state, want), "{name:?} of {path:?}, {texts:?}");
-    }
-    Ok(())
+fn a_path_has_the_states_of_its_files_in_a_stack_too(rt: HostRuntime) -> Result<(), Fail> {
+    check::<Stated, _>(&rt, rt.alloc(), LAST)?;
+    check::<Stated, _>(&rt, rt.alloc(), NEAREST)?;
+    check::<Stated, _>(&rt, rt.alloc(), MACROS)?;
+    check::<Stated, _>(&rt, rt.alloc(), FIRST)
 }
 
-/// `info/attributes` and the files of the top folder, of `a` and of `a/b`, as in `CASES`.
+/// `info/attributes` and the files of the top folder, of `a` and of `a/b`, as above.
 const WALKED: [&[u8]; 4] = [
     b"*.i t=info",
     b"[attr]m n\n* t=top -n\nc m",
@@ -147,31 +121,54 @@ const WALKED: [&[u8]; 4] = [
 ];
 
 /// Paths of these files in the order in which they are asked for, and how their states of `t` and `n` are spelled.
-const WALK: &[(&[u8], &[u8], &[u8])] = &[
-    (b"a/b/x", b"b", b"+"),
-    (b"a/c", b"a", b"+"),
-    (b"b", b"top", b"-"),
-    (b"a/b/y", b"b", b"a"),
-    (b"a/b/c/x", b"b", b"-"),
-    (b"ab/c", b"top", b"+"),
-    (b"a/b/x.i", b"info", b"-"),
-    (b"a", b"top", b"-"),
-];
+const WALK: &[u8] = b"\
+    a/b/x|b|+%\
+    a/c|a|+%\
+    b|top|-%\
+    a/b/y|b|a%\
+    a/b/c/x|b|-%\
+    ab/c|top|+%\
+    a/b/x.i|info|-%\
+    a|top|-%";
+
+/// Whether the stack has the states that a row has of its path.
+fn has_states(
+    alloc: Global,
+    stack: &mut AttrStack,
+    row: &[Vec<u8>],
+    names: &[Bytes],
+) -> Result<bool, AllocError> {
+    let [path, t, n] = row else {
+        return Ok(false);
+    };
+    let states = stack.states(alloc, path, names)?;
+    Ok(match states.as_slice() {
+        [state_t, state_n] => is_spelled(state_t, t) && is_spelled(state_n, n),
+        _ => false,
+    })
+}
+
+/// Whether each row has the states of its path that the stack has then.
+fn are_walked(
+    alloc: Global,
+    stack: &mut AttrStack,
+    rows: &[Vec<Vec<u8>>],
+    names: &[Bytes],
+) -> Result<bool, AllocError> {
+    for row in rows {
+        if !has_states(alloc, stack, row, names)? {
+            return Ok(false);
+        }
+    }
+    Ok(true)
+}
 
 #[test]
 fn a_stack_leaves_the_folders_that_it_was_in(rt: HostRuntime) -> Result<(), Fail> {
-    let mut stack = AttrStack::begin(rt.alloc(), files_of(rt.alloc(), &WALKED)?)?;
-    let names = [
-        Bytes::copy_of(rt.alloc(), b"t")?,
-        Bytes::copy_of(rt.alloc(), b"n")?,
-    ];
-    for (path, t, n) in WALK {
-        let states = stack.states(rt.alloc(), path, &names)?;
-        let [state_t, state_n] = states.as_slice() else {
-            panic!(rt; "two states for two names");
-        };
-        assert!(rt; is_spelled(state_t, t), "t of {path:?}");
-        assert!(rt; is_spelled(state_n, n), "n of {path:?}");
-    }
+    let mut stack = AttrStack::begin(rt.alloc(), files_of(rt.alloc(), WALKED)?)?;
+    let t = Bytes::copy_of(rt.alloc(), b"t")?;
+    let n = Bytes::copy_of(rt.alloc(), b"n")?;
+    let rows = rows_of(rt.alloc(), WALK)?;
+    assert!(rt; are_walked(rt.alloc(), &mut stack, &rows, &[t, n])?);
     Ok(())
 }

@@ -1,4 +1,5 @@
-use git_config::{ConfigFault, LineKind, Setting, read_config};
+use crate::table::{Row, check, is_shown};
+use git_config::{ConfigFault, Setting, read_config};
 use std::alloc::{AllocError, Global};
 use std::test::Fail;
 
@@ -79,40 +80,47 @@ fn files_read_as_git_lists_them(rt: HostRuntime) -> Result<(), Fail> {
     Ok(())
 }
 
-/// Files, and the first faulty line with what is wrong in it.
-const FAULTY: &[(&[u8], u32, LineKind)] = &[
-    // As git 2.39.5 reports it.
-    (b"[core\n", 1, LineKind::Section),
-    (b"[]\n", 1, LineKind::Section),
-    (b"[a ]\n", 1, LineKind::Section),
-    (b"[a\"x\"]\n", 1, LineKind::Section),
-    (b"[a \"x\" ]\n", 1, LineKind::Section),
-    (b"[a \"x\n\"]\n", 1, LineKind::Section),
-    (b"\n\n[a_b]\n", 3, LineKind::Section),
-    (b"[a]\nk x\n", 2, LineKind::Key),
-    (b"[a]\nk # c\n", 2, LineKind::Key),
-    (b"[a]\n1k = x\n", 2, LineKind::Key),
-    (b"[a]\nk_x = 1\n", 2, LineKind::Key),
-    (b"[core]\neol = \"cr\n", 2, LineKind::Value),
-    (b"[a]\nk = \\x\n", 2, LineKind::Value),
-    (b"[a]\nk = \\\n \\\n x\nj = \"\n", 5, LineKind::Value),
-    // Here git reports another line, or reads on.
-    (b"k = \\x\n", 1, LineKind::NoSection),
-    (b"= x\n", 1, LineKind::Key),
-    (b"[ \"x\"]\n", 1, LineKind::Section),
-    (b"[a]\nk = \"x\\\ny\n", 2, LineKind::Value),
-    (b"[a", 1, LineKind::Section),
-];
+/// Files, and the first faulty line with what is wrong in it, as git 2.39.5 reports it.
+const FAULTY: &[u8] = b"\
+    [core\n|Some(Line(1, Section))%\
+    []\n|Some(Line(1, Section))%\
+    [a ]\n|Some(Line(1, Section))%\
+    [a\"x\"]\n|Some(Line(1, Section))%\
+    [a \"x\" ]\n|Some(Line(1, Section))%\
+    [a \"x\n\"]\n|Some(Line(1, Section))%\
+    \n\n[a_b]\n|Some(Line(3, Section))%\
+    [a]\nk x\n|Some(Line(2, Key))%\
+    [a]\nk # c\n|Some(Line(2, Key))%\
+    [a]\n1k = x\n|Some(Line(2, Key))%\
+    [a]\nk_x = 1\n|Some(Line(2, Key))%\
+    [core]\neol = \"cr\n|Some(Line(2, Value))%\
+    [a]\nk = \\x\n|Some(Line(2, Value))%\
+    [a]\nk = \\\n \\\n x\nj = \"\n|Some(Line(5, Value))%";
+
+/// The same where git reports another line, or reads on.
+const FAULTY_HERE: &[u8] = b"\
+    k = \\x\n|Some(Line(1, NoSection))%\
+    = x\n|Some(Line(1, Key))%\
+    [ \"x\"]\n|Some(Line(1, Section))%\
+    [a]\nk = \"x\\\ny\n|Some(Line(2, Value))%\
+    [a|Some(Line(1, Section))%";
+
+struct Faulty;
+
+impl Row for Faulty {
+    fn is_so(alloc: Global, row: &[Vec<u8>]) -> Result<bool, Fail> {
+        let [text, want] = row else {
+            return Ok(false);
+        };
+        let fault = fault_of(alloc, text);
+        is_shown(alloc, fault, want)
+    }
+}
 
 #[test]
-fn the_first_faulty_line_is_told(rt: HostRuntime) {
-    for (text, line, kind) in FAULTY {
-        let fault = fault_of(rt.alloc(), text);
-        assert!(rt;
-            fault == Some(ConfigFault::Line(*line, *kind)),
-            "at {text:?}"
-        );
-    }
+fn the_first_faulty_line_is_told(rt: HostRuntime) -> Result<(), Fail> {
+    check::<Faulty, _>(&rt, rt.alloc(), FAULTY)?;
+    check::<Faulty, _>(&rt, rt.alloc(), FAULTY_HERE)
 }
 
 #[test]

@@ -1,39 +1,8 @@
-use crate::table::joined;
+use crate::table::{Row, check, filled, is_shown};
 use byte_path::PathFault;
 use git_index::{EntryKind, IndexFault, Mode, read_index, spell_index};
-use std::alloc::Global;
+use std::alloc::{AllocError, Global};
 use std::test::Fail;
-
-/// The header for this many entries.
-const NONE: &[u8] = b"DIRC\0\0\0\x02\0\0\0\0";
-
-const ONE: &[u8] = b"DIRC\0\0\0\x02\0\0\0\x01";
-
-const TWO: &[u8] = b"DIRC\0\0\0\x02\0\0\0\x02";
-
-const THREE: &[u8] = b"DIRC\0\0\0\x02\0\0\0\x03";
-
-const FOUR: &[u8] = b"DIRC\0\0\0\x02\0\0\0\x04";
-
-/// An entry of mode 100644 up to its flags.
-const FILE: &[u8] =
-    b"\0\0\0\0\0\0\0\0\0\0\0\0\0\0\0\0\0\0\0\0\0\0\0\0\0\0\x81\xa4\0\0\0\0\0\0\0\0\0\0\0\0nnnnnnnnnnnnnnnnnnnn";
-
-/// The same for mode 040000, which an index does not have.
-const TREE: &[u8] =
-    b"\0\0\0\0\0\0\0\0\0\0\0\0\0\0\0\0\0\0\0\0\0\0\0\0\0\0\x40\0\0\0\0\0\0\0\0\0\0\0\0\0nnnnnnnnnnnnnnnnnnnn";
-
-/// The flags, the path and the padding of an entry `a`.
-const A: &[u8] = b"\0\x01a\0";
-
-/// The same for an entry `a/b`.
-const A_B: &[u8] = b"\0\x03a/b\0\0\0\0\0\0\0";
-
-/// The place of a hash that was not computed.
-const NO_HASH: &[u8] = b"\0\0\0\0\0\0\0\0\0\0\0\0\0\0\0\0\0\0\0\0";
-
-/// The SHA-1 of `NONE`, by Python's hashlib.
-const HASH_OF_NONE: &[u8] = b"9\xd8\x90\x13\x9e\xe55l~\xf5r!l\xeb\xcd'\xaaA\xf9\xdf";
 
 /// An index with one entry `a`, whose object is a blob of `hi` and a line feed, by Python's hashlib.
 const ONE_FILE: &[u8] =
@@ -87,262 +56,148 @@ fn the_limit_is_on_the_bytes(rt: HostRuntime) -> Result<(), Fail> {
     Ok(())
 }
 
-/// What an index has, its parts, and its first fault, or `None` if it is read.
-const INDEXES: &[(&str, &[&[u8]], Option<IndexFault>)] = &[
-    // A header is refused at its first fault.
-    (
-        "a signature",
-        &[b"DIRD\0\0\0\x03\0\0\0\0", NO_HASH],
-        Some(IndexFault::Signature),
-    ),
-    (
-        "a version",
-        &[b"DIRC\0\0\0\x03\xff\0\0\0", NO_HASH],
-        Some(IndexFault::Version(3)),
-    ),
-    (
-        "a count",
-        &[b"DIRC\0\0\0\x02\0\x01\x86\xa1", NO_HASH],
-        Some(IndexFault::Count(100_001)),
-    ),
-    (
-        "the largest count",
-        &[b"DIRC\0\0\0\x02\0\x01\x86\xa0", NO_HASH],
-        Some(IndexFault::Short),
-    ),
-    // An entry is refused at its first fault.
-    (
-        "a cut entry",
-        &[ONE, FILE, b"\0", NO_HASH],
-        Some(IndexFault::Short),
-    ),
-    (
-        "the extended bit, before a cut path",
-        &[ONE, FILE, b"\x40\x01", NO_HASH],
-        Some(IndexFault::Entry(0, EntryKind::Extended)),
-    ),
-    (
-        "a cut path",
-        &[ONE, FILE, b"\0\x01", NO_HASH],
-        Some(IndexFault::Short),
-    ),
-    (
-        "a cut padding, before a NUL",
-        &[ONE, FILE, b"\0\x03\0b\0\0\0\0\0\0\0", NO_HASH],
-        Some(IndexFault::Short),
-    ),
-    (
-        "a NUL in the path, before a padding byte",
-        &[ONE, FILE, b"\0\x03a\0bxxxxxxx", NO_HASH],
-        Some(IndexFault::Entry(0, EntryKind::Name)),
-    ),
-    (
-        "FFF for a short path",
-        &[ONE, FILE, b"\x0f\xffa\0", NO_HASH],
-        Some(IndexFault::Entry(0, EntryKind::Name)),
-    ),
-    (
-        "FFF with no NUL behind",
-        &[ONE, FILE, b"\x0f\xffax", NO_HASH],
-        Some(IndexFault::Short),
-    ),
-    (
-        "the last padding byte, before a mode",
-        &[ONE, TREE, b"\0\x03abc\0\0\0\0\0\0x", NO_HASH],
-        Some(IndexFault::Entry(0, EntryKind::Padding)),
-    ),
-    (
-        "a mode, before a path",
-        &[ONE, TREE, b"\0\x02..\0\0\0\0\0\0\0\0", NO_HASH],
-        Some(IndexFault::Mode(0)),
-    ),
-    (
-        "a part .git in capitals",
-        &[ONE, FILE, b"\0\x08a/.GIT/x\0\0", NO_HASH],
-        Some(IndexFault::Path(0, PathFault::DotGit)),
-    ),
-    (
-        "no path",
-        &[ONE, FILE, b"\0\0\0\0", NO_HASH],
-        Some(IndexFault::Path(0, PathFault::Empty)),
-    ),
-    (
-        "the second entry",
-        &[TWO, FILE, A, TREE, b"\0\x01b\0", NO_HASH],
-        Some(IndexFault::Mode(1)),
-    ),
-    // Entries out of order are refused at their first fault.
-    (
-        "a path, before its order",
-        &[TWO, FILE, A, FILE, b"\0\x01.\0", NO_HASH],
-        Some(IndexFault::Path(1, PathFault::Dot)),
-    ),
-    (
-        "a path twice",
-        &[TWO, FILE, A, FILE, A, NO_HASH],
-        Some(IndexFault::Order(1)),
-    ),
-    (
-        "a path that falls, by unsigned bytes",
-        &[
-            TWO,
-            FILE,
-            b"\0\x02a\xff\0\0\0\0\0\0\0\0",
-            FILE,
-            b"\0\x02aa\0\0\0\0\0\0\0\0",
-            NO_HASH,
-        ],
-        Some(IndexFault::Order(1)),
-    ),
-    (
-        "a stage that falls",
-        &[TWO, FILE, b" \x01a\0", FILE, b"\x10\x01a\0", NO_HASH],
-        Some(IndexFault::Order(1)),
-    ),
-    (
-        "stage 0 and another",
-        &[TWO, FILE, A, FILE, b"0\x01a\0", NO_HASH],
-        Some(IndexFault::Entry(1, EntryKind::MixedStage)),
-    ),
-    (
-        "a folder, before an extension",
-        &[TWO, FILE, A, FILE, A_B, b"x", NO_HASH],
-        Some(IndexFault::FolderClash(1)),
-    ),
-    (
-        "a folder further back",
-        &[
-            FOUR,
-            FILE,
-            A,
-            FILE,
-            b"\0\x02a!\0\0\0\0\0\0\0\0",
-            FILE,
-            b"\0\x03a!b\0\0\0\0\0\0\0",
-            FILE,
-            A_B,
-            NO_HASH,
-        ],
-        Some(IndexFault::FolderClash(3)),
-    ),
-    (
-        "a folder behind another stage",
-        &[
-            THREE,
-            FILE,
-            A,
-            FILE,
-            b"\x10\x02a!\0\0\0\0\0\0\0\0",
-            FILE,
-            b"\0\x05a/b/c\0\0\0\0\0",
-            NO_HASH,
-        ],
-        Some(IndexFault::FolderClash(2)),
-    ),
-    // What follows the entries is refused at its first fault.
-    (
-        "a cut extension",
-        &[NONE, b"link\0\0\0", NO_HASH],
-        Some(IndexFault::Short),
-    ),
-    (
-        "a cut content, before a signature",
-        &[NONE, b"link\0\0\0\x01", NO_HASH],
-        Some(IndexFault::Short),
-    ),
-    (
-        "a cut content behind an entry",
-        &[ONE, FILE, A, b"TREE\0\0\0\x01", NO_HASH],
-        Some(IndexFault::Short),
-    ),
-    (
-        "a split index",
-        &[ONE, FILE, A, b"link\0\0\0\0", NO_HASH],
-        Some(IndexFault::Extension(*b"link")),
-    ),
-    (
-        "a sparse index behind a cache tree",
-        &[NONE, b"TREE\0\0\0\x01xsdir\0\0\0\0", NO_HASH],
-        Some(IndexFault::Extension(*b"sdir")),
-    ),
-    (
-        "an extension, before a hash",
-        &[NONE, b"[REE\0\0\0\0", b"nnnnnnnnnnnnnnnnnnnn"],
-        Some(IndexFault::Extension(*b"[REE")),
-    ),
-    (
-        "the hash of other bytes",
-        &[NONE, b"TREE\0\0\0\0", HASH_OF_NONE],
-        Some(IndexFault::Hash),
-    ),
-    (
-        "a hash that is not all zero",
-        &[NONE, b"\0\0\0\0\0\0\0\0\0\0\0\0\0\0\0\0\0\0\0\x01"],
-        Some(IndexFault::Hash),
-    ),
-    // What git may write is read.
-    (
-        "a tree extension and no hash",
-        &[ONE, FILE, A, b"TREE\0\0\0\0", NO_HASH],
-        None,
-    ),
-    (
-        "assume-valid, and three stages",
-        &[
-            THREE,
-            FILE,
-            b"\x90\x01a\0",
-            FILE,
-            b" \x01a\0",
-            FILE,
-            b"0\x01a\0",
-            NO_HASH,
-        ],
-        None,
-    ),
-    (
-        "a folder of another stage",
-        &[TWO, FILE, b"\x10\x01a\0", FILE, A_B, NO_HASH],
-        None,
-    ),
-    (
-        "a folder at another stage",
-        &[TWO, FILE, A, FILE, b"\x10\x03a/b\0\0\0\0\0\0\0", NO_HASH],
-        None,
-    ),
-    (
-        "a beginning that is no folder",
-        &[TWO, FILE, A, FILE, b"\0\x02ab\0\0\0\0\0\0\0\0", NO_HASH],
-        None,
-    ),
-    // A length of FFF is 4095 or more.
-    (
-        "a path of 4094 bytes",
-        &[ONE, FILE, b"\x0f\xff", &[b'a'; 4094], b"\0\0\0\0", NO_HASH],
-        Some(IndexFault::Entry(0, EntryKind::Name)),
-    ),
-    (
-        "a path of 4095 bytes",
-        &[ONE, FILE, b"\x0f\xff", &[b'a'; 4095], b"\0\0\0", NO_HASH],
-        None,
-    ),
-    (
-        "a path of 4096 bytes",
-        &[ONE, FILE, b"\x0f\xff", &[b'a'; 4096], b"\0\0", NO_HASH],
-        None,
-    ),
-    (
-        "a path of 4097 bytes",
-        &[ONE, FILE, b"\x0f\xff", &[b'a'; 4097], b"\0", NO_HASH],
-        Some(IndexFault::Path(0, PathFault::TooLong)),
-    ),
-];
+/// An entry of mode 100644 up to its flags.
+const FILE: &[u8] =
+    b"\0\0\0\0\0\0\0\0\0\0\0\0\0\0\0\0\0\0\0\0\0\0\0\0\0\0\x81\xa4\0\0\0\0\0\0\0\0\0\0\0\0nnnnnnnnnnnnnnnnnnnn";
+
+/// The same for mode 040000, which an index does not have.
+const TREE: &[u8] =
+    b"\0\0\0\0\0\0\0\0\0\0\0\0\0\0\0\0\0\0\0\0\0\0\0\0\0\0\x40\0\0\0\0\0\0\0\0\0\0\0\0\0nnnnnnnnnnnnnnnnnnnn";
+
+/// The flags, the path and the padding of an entry `a`.
+const A: &[u8] = b"\0\x01a\0";
+
+/// The same for an entry `a/b`.
+const A_B: &[u8] = b"\0\x03a/b\0\0\0\0\0\0\0";
+
+/// The place of a hash that was not computed.
+const NO_HASH: &[u8] = b"\0\0\0\0\0\0\0\0\0\0\0\0\0\0\0\0\0\0\0\0";
+
+/// The SHA-1 of `NONE`, by Python's hashlib.
+const HASH_OF_NONE: &[u8] = b"9\xd8\x90\x13\x9e\xe55l~\xf5r!l\xeb\xcd'\xaaA\xf9\xdf";
+
+/// The parts of an index. `$` and a letter stand for a part that is named here, and `$` and a digit for the header of so
+/// many entries. The other bytes stand for themselves.
+fn index_of(alloc: Global, parts: &[u8]) -> Result<Vec<u8>, AllocError> {
+    let mut text = Vec::new(alloc);
+    let mut is_named = false;
+    for byte in parts {
+        if is_named {
+            is_named = false;
+            text.extend_from_slice(match *byte {
+                b'F' => FILE,
+                b'T' => TREE,
+                b'A' => A,
+                b'B' => A_B,
+                b'Z' => NO_HASH,
+                b'H' => HASH_OF_NONE,
+                _ => b"DIRC\0\0\0\x02\0\0\0",
+            })?;
+            if byte.is_ascii_digit() {
+                text.push(byte.wrapping_sub(b'0'))?;
+            }
+        } else if *byte == b'$' {
+            is_named = true;
+        } else {
+            text.push(*byte)?;
+        }
+    }
+    Ok(text)
+}
+
+/// What an index has, its parts, and its first fault, or `None` if it is read. A header is refused at its first fault.
+const HEADERS: &[u8] = b"\
+    a signature|DIRD\0\0\0\x03\0\0\0\0$Z|Some(Signature)%\
+    a version|DIRC\0\0\0\x03\xff\0\0\0$Z|Some(Version(3))%\
+    a count|DIRC\0\0\0\x02\0\x01\x86\xa1$Z|Some(Count(100001))%\
+    the largest count|DIRC\0\0\0\x02\0\x01\x86\xa0$Z|Some(Short)%";
+
+/// An entry is refused at its first fault.
+const ENTRIES: &[u8] = b"\
+    a cut entry|$1$F\0$Z|Some(Short)%\
+    the extended bit, before a cut path|$1$F@\x01$Z|Some(Entry(0, Extended))%\
+    a cut path|$1$F\0\x01$Z|Some(Short)%\
+    a cut padding, before a NUL|$1$F\0\x03\0b\0\0\0\0\0\0\0$Z|Some(Short)%\
+    a NUL in the path, before a padding byte|$1$F\0\x03a\0bxxxxxxx$Z|Some(Entry(0, Name))%\
+    FFF for a short path|$1$F\x0f\xffa\0$Z|Some(Entry(0, Name))%\
+    FFF with no NUL behind|$1$F\x0f\xffax$Z|Some(Short)%\
+    the last padding byte, before a mode|$1$T\0\x03abc\0\0\0\0\0\0x$Z|Some(Entry(0, Padding))%\
+    a mode, before a path|$1$T\0\x02..\0\0\0\0\0\0\0\0$Z|Some(Mode(0))%\
+    a part .git in capitals|$1$F\0\x08a/.GIT/x\0\0$Z|Some(Path(0, DotGit))%\
+    no path|$1$F\0\0\0\0$Z|Some(Path(0, Empty))%\
+    the second entry|$2$F$A$T\0\x01b\0$Z|Some(Mode(1))%";
+
+/// Entries out of order are refused at their first fault.
+const ORDERS: &[u8] = b"\
+    a path, before its order|$2$F$A$F\0\x01.\0$Z|Some(Path(1, Dot))%\
+    a path twice|$2$F$A$F$A$Z|Some(Order(1))%\
+    a path that falls, by unsigned bytes|$2$F\0\x02a\xff\0\0\0\0\0\0\0\0$F\0\x02aa\0\0\0\0\0\0\0\0$Z|Some(Order(1))%\
+    a stage that falls|$2$F \x01a\0$F\x10\x01a\0$Z|Some(Order(1))%\
+    stage 0 and another|$2$F$A$F0\x01a\0$Z|Some(Entry(1, MixedStage))%\
+    a folder, before an extension|$2$F$A$F$Bx$Z|Some(FolderClash(1))%\
+    a folder further back|$4$F$A$F\0\x02a!\0\0\0\0\0\0\0\0$F\0\x03a!b\0\0\0\0\0\0\0$F$B$Z|Some(FolderClash(3))%\
+    a folder behind another stage|$3$F$A$F\x10\x02a!\0\0\0\0\0\0\0\0$F\0\x05a/b/c\0\0\0\0\0$Z|Some(FolderClash(2))%";
+
+/// What follows the entries is refused at its first fault.
+const ENDINGS: &[u8] = b"\
+    a cut extension|$0link\0\0\0$Z|Some(Short)%\
+    a cut content, before a signature|$0link\0\0\0\x01$Z|Some(Short)%\
+    a cut content behind an entry|$1$F$ATREE\0\0\0\x01$Z|Some(Short)%\
+    a split index|$1$F$Alink\0\0\0\0$Z|Some(Extension([108, 105, 110, 107]))%\
+    a sparse index behind a cache tree|$0TREE\0\0\0\x01xsdir\0\0\0\0$Z|Some(Extension([115, 100, 105, 114]))%\
+    an extension, before a hash|$0[REE\0\0\0\0nnnnnnnnnnnnnnnnnnnn|Some(Extension([91, 82, 69, 69]))%\
+    the hash of other bytes|$0TREE\0\0\0\0$H|Some(Hash)%\
+    a hash that is not all zero|$0\0\0\0\0\0\0\0\0\0\0\0\0\0\0\0\0\0\0\0\x01|Some(Hash)%";
+
+/// What git may write is read.
+const RIGHT: &[u8] = b"\
+    a tree extension and no hash|$1$F$ATREE\0\0\0\0$Z|None%\
+    assume-valid, and three stages|$3$F\x90\x01a\0$F \x01a\0$F0\x01a\0$Z|None%\
+    a folder of another stage|$2$F\x10\x01a\0$F$B$Z|None%\
+    a folder at another stage|$2$F$A$F\x10\x03a/b\0\0\0\0\0\0\0$Z|None%\
+    a beginning that is no folder|$2$F$A$F\0\x02ab\0\0\0\0\0\0\0\0$Z|None%";
+
+struct Refused;
+
+impl Row for Refused {
+    fn is_so(alloc: Global, row: &[Vec<u8>]) -> Result<bool, Fail> {
+        let [what, parts, want] = row else {
+            return Ok(false);
+        };
+        let text = index_of(alloc, parts)?;
+        let fault = fault_of(alloc, &text);
+        is_shown(alloc, fault, want)
+    }
+}
 
 #[test]
 fn indexes_are_refused_at_their_first_fault(rt: HostRuntime) -> Result<(), Fail> {
-    for (what, parts, fault) in INDEXES {
-        let text = joined(rt.alloc(), parts)?;
-        assert!(rt; fault_of(rt.alloc(), &text) == *fault, "{what}");
+    check::<Refused, _>(&rt, rt.alloc(), HEADERS)?;
+    check::<Refused, _>(&rt, rt.alloc(), ENTRIES)?;
+    check::<Refused, _>(&rt, rt.alloc(), ORDERS)?;
+    check::<Refused, _>(&rt, rt.alloc(), ENDINGS)?;
+    check::<Refused, _>(&rt, rt.alloc(), RIGHT)
+}
+
+/// The length of a path whose entry states FFF, its padding, and the first fault. A length of FFF is 4095 or more.
+const LONG: [(usize, &[u8], Option<IndexFault>); 4] = [
+    (
+        4094,
+        b"\0\0\0\0",
+        Some(IndexFault::Entry(0, EntryKind::Name)),
+    ),
+    (4095, b"\0\0\0", None),
+    (4096, b"\0\0", None),
+    (4097, b"\0", Some(IndexFault::Path(0, PathFault::TooLong))),
+];
+
+#[test]
+fn a_length_of_fff_is_4095_or_more(rt: HostRuntime) -> Result<(), Fail> {
+    for (count, padding, want) in LONG {
+        let front = index_of(rt.alloc(), b"$1$F\x0f\xff")?;
+        let mut text = filled(rt.alloc(), &front, b'a', count, padding)?;
+        text.extend_from_slice(NO_HASH)?;
+        assert!(rt; fault_of(rt.alloc(), &text) == want, "{count}");
     }
     Ok(())
 }

@@ -1,4 +1,6 @@
+use crate::table::{Row, check};
 use ident_convert::{expand_ident, has_keyword};
+use std::alloc::Global;
 use std::test::Fail;
 
 /// `001a2b3c4d5e6f78899aabbccddeeff001122334` in hex.
@@ -8,70 +10,57 @@ const NAME: [u8; 20] = [
 ];
 
 /// Contents, and the same with their keywords expanded.
-const EXPANDED: &[(&[u8], &[u8])] = &[
-    (
-        b"$Id$ $Id: a b $\n",
-        b"$Id: 001a2b3c4d5e6f78899aabbccddeeff001122334 $ $Id: a b $\n",
-    ),
-    (b"$Id$", b"$Id: 001a2b3c4d5e6f78899aabbccddeeff001122334 $"),
-    (
-        b"x$Id:$",
-        b"x$Id: 001a2b3c4d5e6f78899aabbccddeeff001122334 $",
-    ),
-    (
-        b"$Id: 12 $y",
-        b"$Id: 001a2b3c4d5e6f78899aabbccddeeff001122334 $y",
-    ),
-    (
-        b"$Id:  $",
-        b"$Id: 001a2b3c4d5e6f78899aabbccddeeff001122334 $",
-    ),
-    (
-        b"$$Id$$",
-        b"$$Id: 001a2b3c4d5e6f78899aabbccddeeff001122334 $$",
-    ),
-    (
-        b"$Id:a b$Id$",
-        b"$Id:a b$Id: 001a2b3c4d5e6f78899aabbccddeeff001122334 $",
-    ),
-    (
-        b"$Id: 1$Id$",
-        b"$Id: 001a2b3c4d5e6f78899aabbccddeeff001122334 $Id$",
-    ),
-];
+const EXPANDED: &[u8] = b"\
+    $Id$ $Id: a b $\n|$Id: 001a2b3c4d5e6f78899aabbccddeeff001122334 $ $Id: a b $\n%\
+    $Id$|$Id: 001a2b3c4d5e6f78899aabbccddeeff001122334 $%\
+    x$Id:$|x$Id: 001a2b3c4d5e6f78899aabbccddeeff001122334 $%\
+    $Id: 12 $y|$Id: 001a2b3c4d5e6f78899aabbccddeeff001122334 $y%\
+    $Id:  $|$Id: 001a2b3c4d5e6f78899aabbccddeeff001122334 $%\
+    $$Id$$|$$Id: 001a2b3c4d5e6f78899aabbccddeeff001122334 $$%\
+    $Id:a b$Id$|$Id:a b$Id: 001a2b3c4d5e6f78899aabbccddeeff001122334 $%\
+    $Id: 1$Id$|$Id: 001a2b3c4d5e6f78899aabbccddeeff001122334 $Id$%";
+
+struct Expanded;
+
+impl Row for Expanded {
+    fn is_so(alloc: Global, row: &[Vec<u8>]) -> Result<bool, Fail> {
+        let [content, want] = row else {
+            return Ok(false);
+        };
+        let text = expand_ident(alloc, content, &NAME)?;
+        Ok(text.as_slice() == want.as_slice() && has_keyword(content))
+    }
+}
 
 #[test]
 fn keywords_are_expanded(rt: HostRuntime) -> Result<(), Fail> {
-    for (content, want) in EXPANDED {
-        let text = expand_ident(rt.alloc(), content, &NAME)?;
-        assert!(rt;
-            text.as_slice() == *want && has_keyword(content),
-            "at {content:?}"
-        );
-    }
-    Ok(())
+    check::<Expanded, _>(&rt, rt.alloc(), EXPANDED)
 }
 
 /// Contents without a keyword.
-const KEPT: &[&[u8]] = &[
-    b"",
-    b"a\nb",
-    b"$",
-    b"$Id:",
-    b"$Id: unclosed",
-    b"$Id: a\n$",
-    b"$id$ $Id $ID$",
-    b"$Id:   $",
-];
+const KEPT: &[u8] = b"\
+    %\
+    a\nb%\
+    $%\
+    $Id:%\
+    $Id: unclosed%\
+    $Id: a\n$%\
+    $id$ $Id $ID$%\
+    $Id:   $%";
+
+struct Kept;
+
+impl Row for Kept {
+    fn is_so(alloc: Global, row: &[Vec<u8>]) -> Result<bool, Fail> {
+        let [content] = row else {
+            return Ok(false);
+        };
+        let text = expand_ident(alloc, content, &NAME)?;
+        Ok(text.as_slice() == content.as_slice() && !has_keyword(content))
+    }
+}
 
 #[test]
 fn other_contents_are_kept(rt: HostRuntime) -> Result<(), Fail> {
-    for content in KEPT {
-        let text = expand_ident(rt.alloc(), content, &NAME)?;
-        assert!(rt;
-            text.as_slice() == *content && !has_keyword(content),
-            "at {content:?}"
-        );
-    }
-    Ok(())
+    check::<Kept, _>(&rt, rt.alloc(), KEPT)
 }

@@ -1,197 +1,171 @@
-use crate::table::Said::{Nothing, Set, Unset, Value};
-use crate::table::{Said, joined, state_of};
-use eol_convert::AutoCrlf::{False, Input, True};
-use eol_convert::EolSetting::{Crlf, Lf, Native};
-use eol_convert::LineEnds::{Keep, ToCrlf};
+use crate::table::{Row, check, filled, is_shown, state_of};
 use eol_convert::{AutoCrlf, EolSetting, LineEnds, changes_ends, line_ends_of, to_tree_ends};
+use std::alloc::Global;
 use std::test::Fail;
 
 /// The attributes `text`, `crlf` and `eol`, `core.autocrlf` and `core.eol`, and what git does with the line ends.
-const DECIDED: &[(Said, Said, Said, AutoCrlf, EolSetting, LineEnds)] = &[
-    (Nothing, Nothing, Nothing, False, Crlf, Keep),
-    (Nothing, Nothing, Nothing, True, Lf, LineEnds::AutoCrlf),
-    (Nothing, Nothing, Nothing, Input, Crlf, Keep),
-    (Set, Nothing, Nothing, False, Native, Keep),
-    (Set, Nothing, Nothing, False, Crlf, ToCrlf),
-    (Set, Nothing, Nothing, True, Lf, ToCrlf),
-    (Set, Nothing, Nothing, Input, Crlf, Keep),
-    (Set, Nothing, Value(b"crlf"), False, Lf, ToCrlf),
-    (Set, Nothing, Value(b"lf"), True, Crlf, Keep),
-    (
-        Value(b"auto"),
-        Nothing,
-        Nothing,
-        False,
-        Crlf,
-        LineEnds::AutoCrlf,
-    ),
-    (
-        Value(b"auto"),
-        Nothing,
-        Value(b"crlf"),
-        False,
-        Lf,
-        LineEnds::AutoCrlf,
-    ),
-    (Value(b"auto"), Nothing, Value(b"lf"), True, Crlf, Keep),
-    (Value(b"input"), Nothing, Nothing, True, Crlf, Keep),
-    (Value(b"input"), Nothing, Value(b"crlf"), False, Lf, ToCrlf),
-    (Unset, Nothing, Value(b"crlf"), True, Crlf, Keep),
-    (Unset, Set, Nothing, True, Crlf, Keep),
-    (Set, Unset, Nothing, True, Crlf, ToCrlf),
-    (Nothing, Set, Nothing, True, Crlf, ToCrlf),
-    (Nothing, Unset, Value(b"crlf"), True, Crlf, Keep),
-    (
-        Nothing,
-        Value(b"auto"),
-        Value(b"crlf"),
-        False,
-        Lf,
-        LineEnds::AutoCrlf,
-    ),
-    (Value(b"other"), Value(b"input"), Nothing, True, Crlf, Keep),
-    (Nothing, Nothing, Value(b"crlf"), False, Lf, ToCrlf),
-    (Nothing, Nothing, Value(b"lf"), True, Crlf, Keep),
-    (
-        Nothing,
-        Nothing,
-        Value(b"other"),
-        True,
-        Lf,
-        LineEnds::AutoCrlf,
-    ),
-];
+const DECIDED: &[u8] = b"\
+    !|!|!|False|Crlf|Keep%\
+    !|!|!|True|Lf|AutoCrlf%\
+    !|!|!|Input|Crlf|Keep%\
+    +|!|!|False|Native|Keep%\
+    +|!|!|False|Crlf|ToCrlf%\
+    +|!|!|True|Lf|ToCrlf%\
+    +|!|!|Input|Crlf|Keep%\
+    +|!|=crlf|False|Lf|ToCrlf%\
+    +|!|=lf|True|Crlf|Keep%\
+    =auto|!|!|False|Crlf|AutoCrlf%\
+    =auto|!|=crlf|False|Lf|AutoCrlf%\
+    =auto|!|=lf|True|Crlf|Keep%\
+    =input|!|!|True|Crlf|Keep%\
+    =input|!|=crlf|False|Lf|ToCrlf%\
+    -|!|=crlf|True|Crlf|Keep%\
+    -|+|!|True|Crlf|Keep%\
+    +|-|!|True|Crlf|ToCrlf%\
+    !|+|!|True|Crlf|ToCrlf%\
+    !|-|=crlf|True|Crlf|Keep%\
+    !|=auto|=crlf|False|Lf|AutoCrlf%\
+    =other|=input|!|True|Crlf|Keep%\
+    !|!|=crlf|False|Lf|ToCrlf%\
+    !|!|=lf|True|Crlf|Keep%\
+    !|!|=other|True|Lf|AutoCrlf%";
+
+fn auto_of(cell: &[u8]) -> AutoCrlf {
+    match cell {
+        b"True" => AutoCrlf::True,
+        b"Input" => AutoCrlf::Input,
+        _ => AutoCrlf::False,
+    }
+}
+
+fn setting_of(cell: &[u8]) -> EolSetting {
+    match cell {
+        b"Crlf" => EolSetting::Crlf,
+        b"Lf" => EolSetting::Lf,
+        _ => EolSetting::Native,
+    }
+}
+
+struct Decided;
+
+impl Row for Decided {
+    fn is_so(alloc: Global, row: &[Vec<u8>]) -> Result<bool, Fail> {
+        let [text, crlf, eol, auto, setting, want] = row else {
+            return Ok(false);
+        };
+        let text = state_of(alloc, text)?;
+        let crlf = state_of(alloc, crlf)?;
+        let eol = state_of(alloc, eol)?;
+        let ends = line_ends_of(&text, &crlf, &eol, auto_of(auto), setting_of(setting));
+        is_shown(alloc, ends, want)
+    }
+}
 
 #[test]
 fn attributes_and_settings_decide(rt: HostRuntime) -> Result<(), Fail> {
-    for (text, crlf, eol, auto, setting, want) in DECIDED {
-        let text = state_of(rt.alloc(), *text)?;
-        let crlf = state_of(rt.alloc(), *crlf)?;
-        let eol = state_of(rt.alloc(), *eol)?;
-        let ends = line_ends_of(&text, &crlf, &eol, *auto, *setting);
-        assert!(rt; ends == *want);
-    }
-    Ok(())
+    check::<Decided, _>(&rt, rt.alloc(), DECIDED)
 }
 
-/// Contents in parts, what to do with their line ends, and what they become.
-const CONTENTS: &[(&[&[u8]], LineEnds, &[&[u8]])] = &[
-    (&[b"a\nb\r\n"], LineEnds::ToCrlf, &[b"a\r\nb\r\n"]),
-    (&[b"a\nb\r\n"], LineEnds::AutoCrlf, &[b"a\nb\r\n"]),
-    (&[b"a\nb\r\n"], LineEnds::Keep, &[b"a\nb\r\n"]),
-    (&[b""], LineEnds::ToCrlf, &[b""]),
-    (&[b"\n\n"], LineEnds::ToCrlf, &[b"\r\n\r\n"]),
-    (&[b"a\r\rb\n\0\n"], LineEnds::ToCrlf, &[b"a\r\rb\r\n\0\r\n"]),
-    (&[b"a\nb"], LineEnds::AutoCrlf, &[b"a\r\nb"]),
-    (&[b"a\n"], LineEnds::Keep, &[b"a\n"]),
-    (&[b"a\n\0"], LineEnds::AutoCrlf, &[b"a\n\0"]),
-    (&[b"a\n\x1A"], LineEnds::AutoCrlf, &[b"a\r\n\x1A"]),
-    (&[b"a\x1A\n"], LineEnds::AutoCrlf, &[b"a\x1A\n"]),
-    (
-        &[b"\x08\t\x0C\x1B \x7E\x80\xFF\n"],
-        LineEnds::AutoCrlf,
-        &[b"\x08\t\x0C\x1B \x7E\x80\xFF\r\n"],
-    ),
-    (&[b"a\x7F\n"], LineEnds::AutoCrlf, &[b"a\x7F\n"]),
-    // One byte that isn't printing for 128 that are leaves a text. For 127 it doesn't.
-    (
-        &[&[b'a'; 127], b"\x01\n"],
-        LineEnds::AutoCrlf,
-        &[&[b'a'; 127], b"\x01\n"],
-    ),
-    (
-        &[&[b'a'; 127], b"\x01\nb"],
-        LineEnds::AutoCrlf,
-        &[&[b'a'; 127], b"\x01\r\nb"],
-    ),
-    (
-        &[&[b'a'; 127], b"\x01\nb\x7F"],
-        LineEnds::AutoCrlf,
-        &[&[b'a'; 127], b"\x01\nb\x7F"],
-    ),
-    // Lines about as long as the blocks that are copied, followed by more and by less than a block.
-    (
-        &[&[b'a'; 0], b"\n", &[b'b'; 0]],
-        ToCrlf,
-        &[&[b'a'; 0], b"\r\n", &[b'b'; 0]],
-    ),
-    (
-        &[&[b'a'; 1], b"\n", &[b'b'; 125]],
-        ToCrlf,
-        &[&[b'a'; 1], b"\r\n", &[b'b'; 125]],
-    ),
-    (
-        &[&[b'a'; 1], b"\n", &[b'b'; 126]],
-        ToCrlf,
-        &[&[b'a'; 1], b"\r\n", &[b'b'; 126]],
-    ),
-    (
-        &[&[b'a'; 1], b"\n", &[b'b'; 127]],
-        ToCrlf,
-        &[&[b'a'; 1], b"\r\n", &[b'b'; 127]],
-    ),
-    (
-        &[&[b'a'; 2], b"\n", &[b'b'; 300]],
-        ToCrlf,
-        &[&[b'a'; 2], b"\r\n", &[b'b'; 300]],
-    ),
-    (
-        &[&[b'a'; 126], b"\n", &[b'b'; 0]],
-        ToCrlf,
-        &[&[b'a'; 126], b"\r\n", &[b'b'; 0]],
-    ),
-    (
-        &[&[b'a'; 127], b"\n", &[b'b'; 0]],
-        ToCrlf,
-        &[&[b'a'; 127], b"\r\n", &[b'b'; 0]],
-    ),
-    (
-        &[&[b'a'; 127], b"\n", &[b'b'; 1]],
-        ToCrlf,
-        &[&[b'a'; 127], b"\r\n", &[b'b'; 1]],
-    ),
-    (
-        &[&[b'a'; 128], b"\n", &[b'b'; 0]],
-        ToCrlf,
-        &[&[b'a'; 128], b"\r\n", &[b'b'; 0]],
-    ),
-    (
-        &[&[b'a'; 128], b"\n", &[b'b'; 300]],
-        ToCrlf,
-        &[&[b'a'; 128], b"\r\n", &[b'b'; 300]],
-    ),
-    (
-        &[&[b'a'; 129], b"\n", &[b'b'; 0]],
-        ToCrlf,
-        &[&[b'a'; 129], b"\r\n", &[b'b'; 0]],
-    ),
-    (
-        &[&[b'a'; 129], b"\n", &[b'b'; 300]],
-        ToCrlf,
-        &[&[b'a'; 129], b"\r\n", &[b'b'; 300]],
-    ),
-    (
-        &[&[b'a'; 130], b"\n", &[b'b'; 127]],
-        ToCrlf,
-        &[&[b'a'; 130], b"\r\n", &[b'b'; 127]],
-    ),
-    (
-        &[&[b'a'; 300], b"\n", &[b'b'; 300]],
-        ToCrlf,
-        &[&[b'a'; 300], b"\r\n", &[b'b'; 300]],
-    ),
-];
+fn ends_of(cell: &[u8]) -> LineEnds {
+    match cell {
+        b"ToCrlf" => LineEnds::ToCrlf,
+        b"AutoCrlf" => LineEnds::AutoCrlf,
+        _ => LineEnds::Keep,
+    }
+}
+
+/// Contents, what to do with their line ends, and what they become.
+const CONTENTS: &[u8] = b"\
+    a\nb\r\n|ToCrlf|a\r\nb\r\n%\
+    a\nb\r\n|AutoCrlf|a\nb\r\n%\
+    a\nb\r\n|Keep|a\nb\r\n%\
+    |ToCrlf|%\
+    \n\n|ToCrlf|\r\n\r\n%\
+    a\r\rb\n\0\n|ToCrlf|a\r\rb\r\n\0\r\n%\
+    a\nb|AutoCrlf|a\r\nb%\
+    a\n|Keep|a\n%\
+    a\n\0|AutoCrlf|a\n\0%\
+    a\n\x1a|AutoCrlf|a\r\n\x1a%\
+    a\x1a\n|AutoCrlf|a\x1a\n%\
+    \x08\t\x0c\x1b ~\x80\xff\n|AutoCrlf|\x08\t\x0c\x1b ~\x80\xff\r\n%\
+    a\x7f\n|AutoCrlf|a\x7f\n%";
+
+/// How such contents end that begin with 127 times `a`. One byte that isn't printing for 128 that are leaves a text. For 127
+/// it doesn't.
+const AFTER_127: &[u8] = b"\
+    \x01\n|AutoCrlf|\x01\n%\
+    \x01\nb|AutoCrlf|\x01\r\nb%\
+    \x01\nb\x7f|AutoCrlf|\x01\nb\x7f%";
+
+/// The content after so many times `a`.
+fn is_ended(alloc: Global, count: usize, row: &[Vec<u8>]) -> Result<bool, Fail> {
+    let [content, ends, want] = row else {
+        return Ok(false);
+    };
+    let content = filled(alloc, b"", b'a', count, content)?;
+    let want = filled(alloc, b"", b'a', count, want)?;
+    let text = to_tree_ends(alloc, &content, ends_of(ends))?;
+    let changes = content.as_slice() != want.as_slice();
+    Ok(text.as_slice() == want.as_slice() && changes_ends(&content, ends_of(ends)) == changes)
+}
+
+struct Ended;
+
+impl Row for Ended {
+    fn is_so(alloc: Global, row: &[Vec<u8>]) -> Result<bool, Fail> {
+        is_ended(alloc, 0, row)
+    }
+}
+
+struct EndedAfter127;
+
+impl Row for EndedAfter127 {
+    fn is_so(alloc: Global, row: &[Vec<u8>]) -> Result<bool, Fail> {
+        is_ended(alloc, 127, row)
+    }
+}
 
 #[test]
 fn contents_get_these_line_ends(rt: HostRuntime) -> Result<(), Fail> {
-    for (parts, ends, want) in CONTENTS {
-        let content = joined(rt.alloc(), parts)?;
-        let want = joined(rt.alloc(), want)?;
-        let text = to_tree_ends(rt.alloc(), &content, *ends)?;
-        let changes = content.as_slice() != want.as_slice();
+    check::<Ended, _>(&rt, rt.alloc(), CONTENTS)?;
+    check::<EndedAfter127, _>(&rt, rt.alloc(), AFTER_127)
+}
+
+/// Whether the content of two lines of these lengths gets CR LF.
+fn gets_crlf(alloc: Global, first: usize, second: usize) -> Result<bool, Fail> {
+    let front = filled(alloc, b"", b'a', first, b"\n")?;
+    let content = filled(alloc, &front, b'b', second, b"")?;
+    let front = filled(alloc, b"", b'a', first, b"\r\n")?;
+    let want = filled(alloc, &front, b'b', second, b"")?;
+    let text = to_tree_ends(alloc, &content, LineEnds::ToCrlf)?;
+    Ok(text.as_slice() == want.as_slice() && changes_ends(&content, LineEnds::ToCrlf))
+}
+
+/// The lengths of two lines. They are about as long as the blocks that are copied, followed by more and by less than a
+/// block.
+const LENGTHS: [(usize, usize); 14] = [
+    (0, 0),
+    (1, 125),
+    (1, 126),
+    (1, 127),
+    (2, 300),
+    (126, 0),
+    (127, 0),
+    (127, 1),
+    (128, 0),
+    (128, 300),
+    (129, 0),
+    (129, 300),
+    (130, 127),
+    (300, 300),
+];
+
+#[test]
+fn lines_about_as_long_as_a_block_get_crlf(rt: HostRuntime) -> Result<(), Fail> {
+    for (first, second) in LENGTHS {
         assert!(rt;
-            text.as_slice() == want.as_slice() && changes_ends(&content, *ends) == changes,
-            "at {parts:?}"
+            gets_crlf(rt.alloc(), first, second)?,
+            "at {first}, {second}"
         );
     }
     Ok(())

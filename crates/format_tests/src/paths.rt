@@ -1,3 +1,4 @@
+use crate::table::{Row, check, filled, is_shown};
 use byte_path::{
     ByteKind, Bytes, Items, PathFault, QuoteFault, check_path, from_first, len_to, quote_path,
     read_decimal, unmarked, unquote,
@@ -6,76 +7,106 @@ use std::alloc::Global;
 use std::test::Fail;
 
 /// Paths, and their first faults.
-const PATHS: &[(&[u8], Result<(), PathFault>)] = &[
-    (b"", Err(PathFault::Empty)),
-    (b"a//b", Err(PathFault::EmptyPart)),
-    (b"/a", Err(PathFault::EmptyPart)),
-    (b"a/", Err(PathFault::EmptyPart)),
-    (b"./a", Err(PathFault::Dot)),
-    (b"a/..", Err(PathFault::DotDot)),
-    (b".Git", Err(PathFault::DotGit)),
-    (&[b'a'; 4097], Err(PathFault::TooLong)),
-    (b"...", Ok(())),
-    (b".gitx", Ok(())),
-    (&[b'a'; 4096], Ok(())),
-    (b"../.git", Err(PathFault::DotDot)),
-];
+const PATHS: &[u8] = b"\
+    |Err(Empty)%\
+    a//b|Err(EmptyPart)%\
+    /a|Err(EmptyPart)%\
+    a/|Err(EmptyPart)%\
+    ./a|Err(Dot)%\
+    a/..|Err(DotDot)%\
+    .Git|Err(DotGit)%\
+    ...|Ok(())%\
+    .gitx|Ok(())%\
+    ../.git|Err(DotDot)%";
 
-#[test]
-fn paths_have_their_first_fault(rt: HostRuntime) {
-    for (path, want) in PATHS {
-        assert!(rt; check_path(path) == *want, "at {path:?}");
+struct Checked;
+
+impl Row for Checked {
+    fn is_so(alloc: Global, row: &[Vec<u8>]) -> Result<bool, Fail> {
+        let [path, want] = row else {
+            return Ok(false);
+        };
+        is_shown(alloc, check_path(path), want)
     }
 }
 
-/// Paths, and how they are quoted.
-const QUOTED: &[(&[u8], &[u8])] = &[
-    (b"\xC3\xA9", b"\"\\303\\251\""),
-    (b"\xFF", b"\"\\377\""),
-    (b"a b~", b"a b~"),
-    (b"", b""),
-    (
-        b"a\x07\x08\t\n\x0B\x0C\r\"\\z",
-        b"\"a\\a\\b\\t\\n\\v\\f\\r\\\"\\\\z\"",
-    ),
-    (b"\x00\x1F\x7F ", b"\"\\000\\037\\177 \""),
-];
-
 #[test]
-fn paths_are_quoted_as_in_c(rt: HostRuntime) -> Result<(), Fail> {
-    for (path, want) in QUOTED {
-        let text = quote_path(rt.alloc(), path)?;
-        assert!(rt; text.as_slice() == *want, "at {path:?}");
-    }
+fn paths_have_their_first_fault(rt: HostRuntime) -> Result<(), Fail> {
+    check::<Checked, _>(&rt, rt.alloc(), PATHS)?;
+    let longest = filled(rt.alloc(), b"", b'a', 4096, b"")?;
+    let longer = filled(rt.alloc(), b"", b'a', 4097, b"")?;
+    assert!(rt; check_path(&longest) == Ok(()) && check_path(&longer) == Err(PathFault::TooLong));
     Ok(())
 }
 
-/// Texts, limits and numbers.
-const DECIMALS: &[(&[u8], u64, Option<u64>)] = &[
-    (b"0", 0, Some(0)),
-    (b"7", 9, Some(7)),
-    (b"10", 10, Some(10)),
-    (b"11", 10, None),
-    (
-        b"18446744073709551615",
-        u64::MAX,
-        Some(18_446_744_073_709_551_615),
-    ),
-    (b"18446744073709551616", u64::MAX, None),
-    (b"99999999999999999999999999999999999999999", u64::MAX, None),
-    (b"", 9, None),
-    (b"00", 9, None),
-    (b"01", 9, None),
-    (b"+1", 9, None),
-    (b"1 ", 9, None),
-    (b"1a", 99, None),
-];
+/// Paths, and how they are quoted.
+const QUOTED: &[u8] = b"\
+    \xc3\xa9|\"\\303\\251\"%\
+    \xff|\"\\377\"%\
+    a b~|a b~%\
+    |%\
+    a\x07\x08\t\n\x0b\x0c\r\"\\z|\"a\\a\\b\\t\\n\\v\\f\\r\\\"\\\\z\"%\
+    \0\x1f\x7f |\"\\000\\037\\177 \"%";
+
+struct Quoted;
+
+impl Row for Quoted {
+    fn is_so(alloc: Global, row: &[Vec<u8>]) -> Result<bool, Fail> {
+        let [path, want] = row else {
+            return Ok(false);
+        };
+        let text = quote_path(alloc, path)?;
+        Ok(text.as_slice() == want.as_slice())
+    }
+}
 
 #[test]
-fn decimals_are_read_within_a_limit(rt: HostRuntime) {
-    for (text, most, want) in DECIMALS {
-        assert!(rt; read_decimal(text, *most) == *want, "at {text:?}");
+fn paths_are_quoted_as_in_c(rt: HostRuntime) -> Result<(), Fail> {
+    check::<Quoted, _>(&rt, rt.alloc(), QUOTED)
+}
+
+/// Texts, limits and numbers. The largest limit is that of a number of 64 bits.
+const DECIMALS: &[u8] = b"\
+    0|0|Some(0)%\
+    7|9|Some(7)%\
+    10|10|Some(10)%\
+    11|10|None%\
+    18446744073709551615|18446744073709551615|Some(18446744073709551615)%\
+    18446744073709551616|18446744073709551615|None%\
+    99999999999999999999999999999999999999999|18446744073709551615|None%\
+    |9|None%\
+    00|9|None%\
+    01|9|None%\
+    +1|9|None%\
+    1 |9|None%\
+    1a|99|None%";
+
+/// The number that these digits spell.
+fn number_of(digits: &[u8]) -> u64 {
+    let mut number = 0u64;
+    for digit in digits {
+        number = number
+            .wrapping_mul(10)
+            .wrapping_add(u64::from(digit.wrapping_sub(b'0')));
     }
+    number
+}
+
+struct Decimal;
+
+impl Row for Decimal {
+    fn is_so(alloc: Global, row: &[Vec<u8>]) -> Result<bool, Fail> {
+        let [text, most, want] = row else {
+            return Ok(false);
+        };
+        let number = read_decimal(text, number_of(most));
+        is_shown(alloc, number, want)
+    }
+}
+
+#[test]
+fn decimals_are_read_within_a_limit(rt: HostRuntime) -> Result<(), Fail> {
+    check::<Decimal, _>(&rt, rt.alloc(), DECIMALS)
 }
 
 #[test]
@@ -102,47 +133,56 @@ fn read_quoted(alloc: Global, text: &[u8]) -> Result<(Bytes, usize), QuoteFault>
 }
 
 /// Quoted texts, what they give, and how many bytes they take.
-const READ: &[(&[u8], &[u8], usize)] = &[
-    (b"\"a\\101\"x", b"aA", 7),
-    (b"\"\"", b"", 2),
-    (
-        b"\"\\a\\b\\t\\n\\v\\f\\r\\\"\\\\\"",
-        b"\x07\x08\t\n\x0B\x0C\r\"\\",
-        20,
-    ),
-    (b"\"\\000\\377\\303\\251\" x", b"\x00\xFF\xC3\xA9", 18),
-    (b"\"a b\xFF#\" text", b"a b\xFF#", 7),
-];
+const READ: &[u8] = b"\
+    \"a\\101\"x|aA|7%\
+    \"\"||2%\
+    \"\\a\\b\\t\\n\\v\\f\\r\\\"\\\\\"|\x07\x08\t\n\x0b\x0c\r\"\\|20%\
+    \"\\000\\377\\303\\251\" x|\0\xff\xc3\xa9|18%\
+    \"a b\xff#\" text|a b\xff#|7%";
+
+struct Whole;
+
+impl Row for Whole {
+    fn is_so(alloc: Global, row: &[Vec<u8>]) -> Result<bool, Fail> {
+        let [text, want, len] = row else {
+            return Ok(false);
+        };
+        let (bytes, read) = read_quoted(alloc, text)?;
+        Ok(bytes.as_slice() == want.as_slice() && is_shown(alloc, read, len)?)
+    }
+}
 
 #[test]
 fn quoted_texts_are_read_to_their_end(rt: HostRuntime) -> Result<(), Fail> {
-    for (text, want, len) in READ {
-        let (bytes, read) = read_quoted(rt.alloc(), text)?;
-        assert!(rt; bytes.as_slice() == *want && read == *len, "at {text:?}");
-    }
-    Ok(())
+    check::<Whole, _>(&rt, rt.alloc(), READ)
 }
 
 /// Quoted texts, and their first faults.
-const FAULTS: &[(&[u8], QuoteFault)] = &[
-    (b"\"a\\q\"", QuoteFault::BadEscape),
-    (b"\"a", QuoteFault::Unclosed),
-    (b"\"", QuoteFault::Unclosed),
-    (b"\"a\\\"", QuoteFault::Unclosed),
-    (b"\"\\q", QuoteFault::BadEscape),
-    (b"\"\\400\"", QuoteFault::BadEscape),
-    (b"\"\\18\"", QuoteFault::BadEscape),
-    (b"\"\\12", QuoteFault::BadEscape),
-];
+const FAULTS: &[u8] = b"\
+    \"a\\q\"|Some(BadEscape)%\
+    \"a|Some(Unclosed)%\
+    \"|Some(Unclosed)%\
+    \"a\\\"|Some(Unclosed)%\
+    \"\\q|Some(BadEscape)%\
+    \"\\400\"|Some(BadEscape)%\
+    \"\\18\"|Some(BadEscape)%\
+    \"\\12|Some(BadEscape)%";
+
+struct Fault;
+
+impl Row for Fault {
+    fn is_so(alloc: Global, row: &[Vec<u8>]) -> Result<bool, Fail> {
+        let [text, want] = row else {
+            return Ok(false);
+        };
+        let fault = read_quoted(alloc, text).err();
+        is_shown(alloc, fault, want)
+    }
+}
 
 #[test]
-fn quoted_texts_have_their_first_fault(rt: HostRuntime) {
-    for (text, fault) in FAULTS {
-        assert!(rt;
-            read_quoted(rt.alloc(), text).err() == Some(*fault),
-            "at {text:?}"
-        );
-    }
+fn quoted_texts_have_their_first_fault(rt: HostRuntime) -> Result<(), Fail> {
+    check::<Fault, _>(&rt, rt.alloc(), FAULTS)
 }
 
 /// Spaces and TABs.
@@ -159,39 +199,53 @@ impl ByteKind for Blank {
 }
 
 /// Texts, how many bytes come before their first blank, and the text from there on.
-const CUT: &[(&[u8], usize, &[u8])] = &[
-    (b"ab cd ef", 2, b" cd ef"),
-    (b"a\t b", 1, b"\t b"),
-    (b" a", 0, b" a"),
-    (b"a ", 1, b" "),
-    (b"abc", 3, b""),
-    (b"", 0, b""),
-];
+const CUT: &[u8] = b"\
+    ab cd ef|2| cd ef%\
+    a\t b|1|\t b%\
+    \x20a|0| a%\
+    a |1| %\
+    abc|3|%\
+    |0|%";
 
-#[test]
-fn texts_are_cut_at_the_first_byte_of_a_kind(rt: HostRuntime) {
-    for (text, len, rest) in CUT {
+struct Cutting;
+
+impl Row for Cutting {
+    fn is_so(alloc: Global, row: &[Vec<u8>]) -> Result<bool, Fail> {
+        let [text, len, rest] = row else {
+            return Ok(false);
+        };
         let behind = from_first::<Blank>(text);
-        assert!(rt;
-            len_to::<Blank>(text) == *len && behind == *rest,
-            "at {text:?}"
-        );
+        let is_cut = is_shown(alloc, len_to::<Blank>(text), len)?;
+        Ok(is_cut && behind == rest.as_slice())
     }
 }
 
+#[test]
+fn texts_are_cut_at_the_first_byte_of_a_kind(rt: HostRuntime) -> Result<(), Fail> {
+    check::<Cutting, _>(&rt, rt.alloc(), CUT)
+}
+
 /// Texts, and the same without a byte order mark.
-const MARKED: &[(&[u8], &[u8])] = &[
-    (b"\xEF\xBB\xBFa", b"a"),
-    (b"\xEF\xBB\xBF", b""),
-    (b"\xEF\xBB\xBF\xEF\xBB\xBF", b"\xEF\xBB\xBF"),
-    (b"\xEF\xBBa", b"\xEF\xBBa"),
-    (b"a\xEF\xBB\xBF", b"a\xEF\xBB\xBF"),
-    (b"", b""),
-];
+const MARKED: &[u8] = b"\
+    \xef\xbb\xbfa|a%\
+    \xef\xbb\xbf|%\
+    \xef\xbb\xbf\xef\xbb\xbf|\xef\xbb\xbf%\
+    \xef\xbba|\xef\xbba%\
+    a\xef\xbb\xbf|a\xef\xbb\xbf%\
+    |%";
+
+struct Marking;
+
+impl Row for Marking {
+    fn is_so(alloc: Global, row: &[Vec<u8>]) -> Result<bool, Fail> {
+        let [text, want] = row else {
+            return Ok(false);
+        };
+        Ok(unmarked(text) == want.as_slice())
+    }
+}
 
 #[test]
-fn one_byte_order_mark_is_passed_over(rt: HostRuntime) {
-    for (text, want) in MARKED {
-        assert!(rt; unmarked(text) == *want, "at {text:?}");
-    }
+fn one_byte_order_mark_is_passed_over(rt: HostRuntime) -> Result<(), Fail> {
+    check::<Marking, _>(&rt, rt.alloc(), MARKED)
 }

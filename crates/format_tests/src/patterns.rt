@@ -1,119 +1,134 @@
+use crate::table::{Row, check};
+use std::alloc::Global;
 use std::test::Fail;
 use wild_match::{Compiled, matches};
 
 /// Patterns, paths, and whether the pattern matches the path, as gitattributes(5) defines it.
-const TABLE: &[(&[u8], &[u8], bool)] = &[
-    (b"*.txt", b"a/b.txt", true),
-    (b"/*.txt", b"a/b.txt", false),
-    (b"a/**", b"a", false),
-    (b"a/**", b"a/b/c", true),
-    (b"**/b", b"b", true),
-    (b"a/**/b", b"a/b", true),
-    (b"a/**/b", b"a/x/y/b", true),
-    (b"**", b"a/b", true),
-    (b"[!a]", b"b", true),
-    (b"[]a]", b"]", true),
-    (b"[ab", b"a", false),
-    (b"doc/", b"doc", false),
-    (b"", b"a", false),
-    (b"", b"", false),
-    (b"/", b"", false),
-    (b"a\\", b"a", false),
-    // Without a star the last part, or the path, is the pattern.
-    (b"b", b"a/b", true),
-    (b"b", b"b/a", false),
-    (b"b", b"ab", false),
-    (b"b", b"bc", false),
-    (b"a/b", b"a/b", true),
-    (b"a/b", b"a/bc", false),
-    (b"/a/b", b"a/b", true),
-    (b"a\\b", b"x/ab", true),
-    // A star in front leaves the end, and one after the front.
-    (b"*", b"a/b", true),
-    (b"*.c", b"a/.c", true),
-    (b"*.c", b"a.c/b", false),
-    (b"*.c", b"c", false),
-    (b"**.c", b"a/b.c", true),
-    (b"ab*", b"x/ab", true),
-    (b"ab*", b"x/a", false),
-    (b"ab*", b"ab/x", false),
-    (b"x/ab*", b"x/ab", true),
-    (b"/x/a?", b"x/ab", true),
-    (b"x/ab*", b"y/ab", false),
-    // Stars cross slashes only as whole parts.
-    (b"a/*", b"a/b", true),
-    (b"a/*", b"a/b/c", false),
-    (b"a/*c", b"a/b/c", false),
-    (b"a/b", b"x/a/b", false),
-    (b"/b", b"b", true),
-    (b"/b", b"a/b", false),
-    (b"*ab", b"aab", true),
-    (b"x/*a*b*c", b"x/aabbcbc", true),
-    (b"x/*a*b*c", b"x/aabbcbd", false),
-    (b"x/*a*b/*c", b"x/ab/bc", true),
-    (b"/**", b"a/b", true),
-    (b"a/**", b"a/", false),
-    (b"a/***", b"a/b", true),
-    (b"a/***", b"a/b/c", false),
-    (b"***/b", b"a/b", true),
-    (b"***/b", b"a/x/b", false),
-    (b"a**/b", b"a/x/b", false),
-    (b"a/**b", b"a/x/b", false),
-    (b"**/**/a", b"a", true),
-    (b"**/b", b"a/xb", false),
-    (b"**/a/b", b"a/x/a/b", true),
-    (b"**/a/**/c*", b"x/a/b/a/c/cd", true),
-    (b"a/**/b/**/c", b"a/b/x/c/b", false),
-    (
-        b"*a*a*a*a*a*a*a*a*a*a*a*a*a*a*a*a*b",
-        b"aaaaaaaaaaaaaaaaaaaaaaaaaaaaaaaaaaaaaaaaaaaaaaaaaaaaaaaaaaaaaaaa",
-        false,
-    ),
-    // One byte is matched by its kind.
-    (b"x/a?b", b"x/acb", true),
-    (b"x/a?b", b"x/a/b", false),
-    (b"x/a[/]b", b"x/a/b", false),
-    (b"x/a[!x]b", b"x/a/b", false),
-    (b"a\\*", b"a*", true),
-    (b"a\\*", b"ab", false),
-    (b"x\\/y", b"x/y", true),
-    (b"[a-c]", b"c", true),
-    (b"[a-c]", b"d", false),
-    (b"[^a-c]", b"d", true),
-    (b"[a\\-c]", b"b", false),
-    (b"[a\\-c]", b"-", true),
-    (b"[a-]", b"-", true),
-    (b"[-a]", b"-", true),
-    (b"[a-c-e]", b"-", true),
-    (b"[a-c-e]", b"d", false),
-    (b"[--0]", b".", true),
-    (b"[]-a]", b"^", true),
-    (b"[\\[-\\]]", b"\\", true),
-    (b"[[:digit:]-z]", b"-", true),
-    (b"[[:digit:]-z]", b"y", false),
-    (b"[[:upper:][:space:]]", b"\x0B", true),
-    (b"[[:punct:]]", b"_", true),
-    (b"[[:nope:]a]", b"a", false),
-    (b"[![:nope:]]", b"b", false),
-    (b"[[:a]", b":", true),
-    (b"[!]a]", b"]", false),
-    (b"[", b"[", false),
-    (b"[]", b"]", false),
-    (b"[!", b"a", false),
-];
+const MANUAL: &[u8] = b"\
+    *.txt|a/b.txt|true%\
+    /*.txt|a/b.txt|false%\
+    a/**|a|false%\
+    a/**|a/b/c|true%\
+    **/b|b|true%\
+    a/**/b|a/b|true%\
+    a/**/b|a/x/y/b|true%\
+    **|a/b|true%\
+    [!a]|b|true%\
+    []a]|]|true%\
+    [ab|a|false%\
+    doc/|doc|false%\
+    |a|false%\
+    ||false%\
+    /||false%\
+    a\\|a|false%";
 
-#[test]
-fn patterns_match_as_in_the_manual(rt: HostRuntime) {
-    for (pattern, path, want) in TABLE {
-        assert!(rt; matches(pattern, path) == *want, "at {pattern:?}, {path:?}");
+/// The same where the last part, or the path, is the pattern, as there is no star.
+const PLAIN: &[u8] = b"\
+    b|a/b|true%\
+    b|b/a|false%\
+    b|ab|false%\
+    b|bc|false%\
+    a/b|a/b|true%\
+    a/b|a/bc|false%\
+    /a/b|a/b|true%\
+    a\\b|x/ab|true%";
+
+/// The same where a star in front leaves the end, and one after the front.
+const STARS: &[u8] = b"\
+    *|a/b|true%\
+    *.c|a/.c|true%\
+    *.c|a.c/b|false%\
+    *.c|c|false%\
+    **.c|a/b.c|true%\
+    ab*|x/ab|true%\
+    ab*|x/a|false%\
+    ab*|ab/x|false%\
+    x/ab*|x/ab|true%\
+    /x/a?|x/ab|true%\
+    x/ab*|y/ab|false%";
+
+/// The same where stars cross slashes only as whole parts.
+const WHOLE_PARTS: &[u8] = b"\
+    a/*|a/b|true%\
+    a/*|a/b/c|false%\
+    a/*c|a/b/c|false%\
+    a/b|x/a/b|false%\
+    /b|b|true%\
+    /b|a/b|false%\
+    *ab|aab|true%\
+    x/*a*b*c|x/aabbcbc|true%\
+    x/*a*b*c|x/aabbcbd|false%\
+    x/*a*b/*c|x/ab/bc|true%\
+    /**|a/b|true%\
+    a/**|a/|false%\
+    a/***|a/b|true%\
+    a/***|a/b/c|false%\
+    ***/b|a/b|true%\
+    ***/b|a/x/b|false%\
+    a**/b|a/x/b|false%\
+    a/**b|a/x/b|false%\
+    **/**/a|a|true%\
+    **/b|a/xb|false%\
+    **/a/b|a/x/a/b|true%\
+    **/a/**/c*|x/a/b/a/c/cd|true%\
+    a/**/b/**/c|a/b/x/c/b|false%\
+    *a*a*a*a*a*a*a*a*a*a*a*a*a*a*a*a*b|aaaaaaaaaaaaaaaaaaaaaaaaaaaaaaaaaaaaaaaaaaaaaaaaaaaaaaaaaaaaaaaa|false%";
+
+/// The same where one byte is matched by its kind.
+const KINDS: &[u8] = b"\
+    x/a?b|x/acb|true%\
+    x/a?b|x/a/b|false%\
+    x/a[/]b|x/a/b|false%\
+    x/a[!x]b|x/a/b|false%\
+    a\\*|a*|true%\
+    a\\*|ab|false%\
+    x\\/y|x/y|true%\
+    [a-c]|c|true%\
+    [a-c]|d|false%\
+    [^a-c]|d|true%\
+    [a\\-c]|b|false%\
+    [a\\-c]|-|true%\
+    [a-]|-|true%\
+    [-a]|-|true%\
+    [a-c-e]|-|true%\
+    [a-c-e]|d|false%\
+    [--0]|.|true%\
+    []-a]|^|true%\
+    [\\[-\\]]|\\|true%\
+    [[:digit:]-z]|-|true%\
+    [[:digit:]-z]|y|false%\
+    [[:upper:][:space:]]|\x0b|true%\
+    [[:punct:]]|_|true%\
+    [[:nope:]a]|a|false%\
+    [![:nope:]]|b|false%\
+    [[:a]|:|true%\
+    [!]a]|]|false%\
+    [|[|false%\
+    []|]|false%\
+    [!|a|false%";
+
+struct Matched;
+
+impl Row for Matched {
+    fn is_so(alloc: Global, row: &[Vec<u8>]) -> Result<bool, Fail> {
+        let [pattern, path, want] = row else {
+            return Ok(false);
+        };
+        let want = want.as_slice() == b"true".as_slice();
+        if !(matches(pattern, path) == want) {
+            return Ok(false);
+        }
+        // a compiled pattern answers alike
+        let compiled = Compiled::of(alloc, pattern)?;
+        Ok(compiled.matches(path) == want)
     }
 }
 
 #[test]
-fn a_compiled_pattern_answers_alike(rt: HostRuntime) -> Result<(), Fail> {
-    for (pattern, path, want) in TABLE {
-        let compiled = Compiled::of(rt.alloc(), pattern)?;
-        assert!(rt; compiled.matches(path) == *want, "at {pattern:?}, {path:?}");
-    }
-    Ok(())
+fn patterns_match_as_in_the_manual_compiled_or_not(rt: HostRuntime) -> Result<(), Fail> {
+    check::<Matched, _>(&rt, rt.alloc(), MANUAL)?;
+    check::<Matched, _>(&rt, rt.alloc(), PLAIN)?;
+    check::<Matched, _>(&rt, rt.alloc(), STARS)?;
+    check::<Matched, _>(&rt, rt.alloc(), WHOLE_PARTS)?;
+    check::<Matched, _>(&rt, rt.alloc(), KINDS)
 }

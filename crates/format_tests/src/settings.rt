@@ -1,6 +1,7 @@
+use crate::table::{Row, check, is_shown};
 use eol_convert::{AutoCrlf, EolSetting};
 use git_config::read_config;
-use settings_view::{Driver, KeyId, SettingFault, Settings, settings};
+use settings_view::{Driver, SettingFault, Settings, settings};
 use std::alloc::{AllocError, Global};
 use std::test::Fail;
 
@@ -16,48 +17,46 @@ fn crlf_read(alloc: Global, text: &[u8]) -> Result<AutoCrlf, SettingFault> {
     Ok(settings.autocrlf)
 }
 
-/// Files, and their `core.autocrlf`, or `None` if it is a bad choice. The first thirteen truth values are those of
-/// `git config --type=bool` 2.39.5.
-const TRUTHS: &[(&[u8], Option<AutoCrlf>)] = &[
-    (b"[core]\nautocrlf = true", Some(AutoCrlf::True)),
-    (b"[core]\nautocrlf = YES", Some(AutoCrlf::True)),
-    (b"[core]\nautocrlf = On", Some(AutoCrlf::True)),
-    (b"[core]\nautocrlf = 1", Some(AutoCrlf::True)),
-    (b"[core]\nautocrlf", Some(AutoCrlf::True)),
-    (b"[core]\nautocrlf = false", Some(AutoCrlf::False)),
-    (b"[core]\nautocrlf = No", Some(AutoCrlf::False)),
-    (b"[core]\nautocrlf = oFF", Some(AutoCrlf::False)),
-    (b"[core]\nautocrlf = 0", Some(AutoCrlf::False)),
-    (b"[core]\nautocrlf =", Some(AutoCrlf::False)),
-    (b"[core]\nautocrlf = t", None),
-    (b"[core]\nautocrlf = \"yes \"", None),
-    (b"[core]\nautocrlf = x", None),
-    (b"[core]\nautocrlf = Input", Some(AutoCrlf::Input)),
-    (b"[core]\nautocrlf = inputs", None),
-    (b"[core]\nautocrlf = 2", None),
-    (b"[CORE]\nAutoCRLF = true", Some(AutoCrlf::True)),
-    (b"[core \"x\"]\nautocrlf = true", Some(AutoCrlf::False)),
-    (b"[cor]\nautocrlf = true", Some(AutoCrlf::False)),
-    (
-        b"[core]\nautocrlf = x\nautocrlf = input",
-        Some(AutoCrlf::Input),
-    ),
-    (
-        b"[core]\nautocrlf = true\n[a]\nb\n[core]\nautocrlf = x",
-        None,
-    ),
-    (b"", Some(AutoCrlf::False)),
-];
+/// Files, and their `core.autocrlf`. The first thirteen truth values are those of `git config --type=bool` 2.39.5.
+const TRUTHS: &[u8] = b"\
+    [core]\nautocrlf = true|Ok(True)%\
+    [core]\nautocrlf = YES|Ok(True)%\
+    [core]\nautocrlf = On|Ok(True)%\
+    [core]\nautocrlf = 1|Ok(True)%\
+    [core]\nautocrlf|Ok(True)%\
+    [core]\nautocrlf = false|Ok(False)%\
+    [core]\nautocrlf = No|Ok(False)%\
+    [core]\nautocrlf = oFF|Ok(False)%\
+    [core]\nautocrlf = 0|Ok(False)%\
+    [core]\nautocrlf =|Ok(False)%\
+    [core]\nautocrlf = t|Err(BadChoice(AutoCrlf))%\
+    [core]\nautocrlf = \"yes \"|Err(BadChoice(AutoCrlf))%\
+    [core]\nautocrlf = x|Err(BadChoice(AutoCrlf))%\
+    [core]\nautocrlf = Input|Ok(Input)%\
+    [core]\nautocrlf = inputs|Err(BadChoice(AutoCrlf))%\
+    [core]\nautocrlf = 2|Err(BadChoice(AutoCrlf))%\
+    [CORE]\nAutoCRLF = true|Ok(True)%\
+    [core \"x\"]\nautocrlf = true|Ok(False)%\
+    [cor]\nautocrlf = true|Ok(False)%\
+    [core]\nautocrlf = x\nautocrlf = input|Ok(Input)%\
+    [core]\nautocrlf = true\n[a]\nb\n[core]\nautocrlf = x|Err(BadChoice(AutoCrlf))%\
+    |Ok(False)%";
+
+struct Truth;
+
+impl Row for Truth {
+    fn is_so(alloc: Global, row: &[Vec<u8>]) -> Result<bool, Fail> {
+        let [text, want] = row else {
+            return Ok(false);
+        };
+        let crlf = crlf_read(alloc, text);
+        is_shown(alloc, crlf, want)
+    }
+}
 
 #[test]
-fn truth_values_and_input(rt: HostRuntime) {
-    let bad = SettingFault::BadChoice(KeyId::AutoCrlf);
-    for (text, want) in TRUTHS {
-        assert!(rt;
-            crlf_read(rt.alloc(), text) == want.ok_or(bad),
-            "at {text:?}"
-        );
-    }
+fn truth_values_and_input(rt: HostRuntime) -> Result<(), Fail> {
+    check::<Truth, _>(&rt, rt.alloc(), TRUTHS)
 }
 
 fn eol_read(alloc: Global, text: &[u8]) -> Result<EolSetting, SettingFault> {
@@ -65,26 +64,31 @@ fn eol_read(alloc: Global, text: &[u8]) -> Result<EolSetting, SettingFault> {
     Ok(settings.eol)
 }
 
-/// Files, and their `core.eol`, or `None` if it is a bad choice.
-const LINE_ENDS: &[(&[u8], Option<EolSetting>)] = &[
-    (b"[core]\neol = lf", Some(EolSetting::Lf)),
-    (b"[core]\neol = CRLF", Some(EolSetting::Crlf)),
-    (b"[core]\neol = Native", Some(EolSetting::Native)),
-    (b"[core]\neol", None),
-    (b"[core]\neol =", None),
-    (b"[core]\neol = true", None),
-    (b"[core \"\"]\neol = lf", Some(EolSetting::Native)),
-];
+/// Files, and their `core.eol`.
+const LINE_ENDS: &[u8] = b"\
+    [core]\neol = lf|Ok(Lf)%\
+    [core]\neol = CRLF|Ok(Crlf)%\
+    [core]\neol = Native|Ok(Native)%\
+    [core]\neol|Err(BadChoice(Eol))%\
+    [core]\neol =|Err(BadChoice(Eol))%\
+    [core]\neol = true|Err(BadChoice(Eol))%\
+    [core \"\"]\neol = lf|Ok(Native)%";
+
+struct Ends;
+
+impl Row for Ends {
+    fn is_so(alloc: Global, row: &[Vec<u8>]) -> Result<bool, Fail> {
+        let [text, want] = row else {
+            return Ok(false);
+        };
+        let eol = eol_read(alloc, text);
+        is_shown(alloc, eol, want)
+    }
+}
 
 #[test]
-fn line_ends_are_one_of_three_words(rt: HostRuntime) {
-    let bad = SettingFault::BadChoice(KeyId::Eol);
-    for (text, want) in LINE_ENDS {
-        assert!(rt;
-            eol_read(rt.alloc(), text) == want.ok_or(bad),
-            "at {text:?}"
-        );
-    }
+fn line_ends_are_one_of_three_words(rt: HostRuntime) -> Result<(), Fail> {
+    check::<Ends, _>(&rt, rt.alloc(), LINE_ENDS)
 }
 
 fn threshold_read(alloc: Global, text: &[u8]) -> Result<u64, SettingFault> {
@@ -92,48 +96,54 @@ fn threshold_read(alloc: Global, text: &[u8]) -> Result<u64, SettingFault> {
     Ok(settings.threshold)
 }
 
-/// What follows `thresholdForParallelism`, and the number, or `None` if it is a bad one. The first nine numbers are
-/// those of `git config --type=int` 2.39.5, which refuses the next five too.
-const THRESHOLDS: &[(&[u8], Option<u64>)] = &[
-    (b"=1", Some(1)),
-    (b"=2k", Some(2048)),
-    (b"=2K", Some(2048)),
-    (b"=3m", Some(3_145_728)),
-    (b"=1g", Some(1_073_741_824)),
-    (b"=1G", Some(1_073_741_824)),
-    (b"=0", Some(0)),
-    (b"=007", Some(7)),
-    (b"=999999999999999999", Some(999_999_999_999_999_999)),
-    (b"=many", None),
-    (b"=1kb", None),
-    (b"=k", None),
-    (b"=", None),
-    (b"=1 k", None),
-    (b"=-1", Some(0)),
-    (b"=-1k", Some(0)),
-    (b"=-0", Some(0)),
-    (b"=010", Some(10)),
-    (b"=17179869183g", Some(18_446_744_072_635_809_792)),
-    (b"=17179869184g", Some(18_446_744_073_709_551_615)),
-    (b"=999999999999999999g", Some(18_446_744_073_709_551_615)),
-    (b"=000000000000000001", Some(1)),
-    (b"=0000000000000000001", None),
-    (b"=+1", None),
-    (b"=0x10", None),
-    (b"=--1", None),
-    (b"", None),
-];
+/// What follows `thresholdForParallelism`, and the number. The first nine numbers are those of `git config --type=int`
+/// 2.39.5, which refuses the next five too.
+const THRESHOLDS: &[u8] = b"\
+    =1|Ok(1)%\
+    =2k|Ok(2048)%\
+    =2K|Ok(2048)%\
+    =3m|Ok(3145728)%\
+    =1g|Ok(1073741824)%\
+    =1G|Ok(1073741824)%\
+    =0|Ok(0)%\
+    =007|Ok(7)%\
+    =999999999999999999|Ok(999999999999999999)%\
+    =many|Err(BadNumber(Threshold))%\
+    =1kb|Err(BadNumber(Threshold))%\
+    =k|Err(BadNumber(Threshold))%\
+    =|Err(BadNumber(Threshold))%\
+    =1 k|Err(BadNumber(Threshold))%\
+    =-1|Ok(0)%\
+    =-1k|Ok(0)%\
+    =-0|Ok(0)%\
+    =010|Ok(10)%\
+    =17179869183g|Ok(18446744072635809792)%\
+    =17179869184g|Ok(18446744073709551615)%\
+    =999999999999999999g|Ok(18446744073709551615)%\
+    =000000000000000001|Ok(1)%\
+    =0000000000000000001|Err(BadNumber(Threshold))%\
+    =+1|Err(BadNumber(Threshold))%\
+    =0x10|Err(BadNumber(Threshold))%\
+    =--1|Err(BadNumber(Threshold))%\
+    |Err(BadNumber(Threshold))%";
+
+struct Number;
+
+impl Row for Number {
+    fn is_so(alloc: Global, row: &[Vec<u8>]) -> Result<bool, Fail> {
+        let [value, want] = row else {
+            return Ok(false);
+        };
+        let number = of_value(alloc, value);
+        is_shown(alloc, number, want)
+    }
+}
 
 #[test]
-fn numbers_and_the_threshold(rt: HostRuntime) {
-    let bad = SettingFault::BadNumber(KeyId::Threshold);
-    for (value, want) in THRESHOLDS {
-        assert!(rt;
-            of_value(rt.alloc(), value) == want.ok_or(bad),
-            "at {value:?}"
-        );
-    }
+fn numbers_and_the_threshold(rt: HostRuntime) -> Result<(), Fail> {
+    check::<Number, _>(&rt, rt.alloc(), THRESHOLDS)?;
     assert!(rt; threshold_read(rt.alloc(), b"") == Ok(100));
+    Ok(())
 }
 
 /// What `checkout.thresholdForParallelism` with this value is.
@@ -148,71 +158,64 @@ fn workers_read(alloc: Global, text: &[u8]) -> Result<u32, SettingFault> {
     Ok(settings.workers)
 }
 
-/// Files, and their `checkout.workers`, or `None` if it is a bad number.
-const WORKERS: &[(&[u8], Option<u32>)] = &[
-    (b"[checkout]\nworkers = 1", Some(1)),
-    (b"[checkout]\nworkers = 16", Some(16)),
-    (b"[checkout]\nworkers = 17", Some(16)),
-    (b"[checkout]\nworkers = 2k", Some(16)),
-    (b"[checkout]\nworkers = 0", Some(8)),
-    (b"[checkout]\nworkers = -3", Some(8)),
-    (b"[checkout]\nworkers = -0", Some(8)),
-    (b"[checkout]\nworkers = many", None),
-    (b"[checkout]\nworkers", None),
-    (b"[checkout]\nworkers = 3\nworkers = 5", Some(5)),
-    (b"[checkout \"a\"]\nworkers = 3", Some(1)),
-    (b"[check]\nworkers = 3", Some(1)),
-];
+/// Files, and their `checkout.workers`.
+const WORKERS: &[u8] = b"\
+    [checkout]\nworkers = 1|Ok(1)%\
+    [checkout]\nworkers = 16|Ok(16)%\
+    [checkout]\nworkers = 17|Ok(16)%\
+    [checkout]\nworkers = 2k|Ok(16)%\
+    [checkout]\nworkers = 0|Ok(8)%\
+    [checkout]\nworkers = -3|Ok(8)%\
+    [checkout]\nworkers = -0|Ok(8)%\
+    [checkout]\nworkers = many|Err(BadNumber(Workers))%\
+    [checkout]\nworkers|Err(BadNumber(Workers))%\
+    [checkout]\nworkers = 3\nworkers = 5|Ok(5)%\
+    [checkout \"a\"]\nworkers = 3|Ok(1)%\
+    [check]\nworkers = 3|Ok(1)%";
 
-#[test]
-fn workers_are_1_to_16(rt: HostRuntime) {
-    let bad = SettingFault::BadNumber(KeyId::Workers);
-    for (text, want) in WORKERS {
-        assert!(rt;
-            workers_read(rt.alloc(), text) == want.ok_or(bad),
-            "at {text:?}"
-        );
+struct Count;
+
+impl Row for Count {
+    fn is_so(alloc: Global, row: &[Vec<u8>]) -> Result<bool, Fail> {
+        let [text, want] = row else {
+            return Ok(false);
+        };
+        let workers = workers_read(alloc, text);
+        is_shown(alloc, workers, want)
     }
 }
 
+#[test]
+fn workers_are_1_to_16(rt: HostRuntime) -> Result<(), Fail> {
+    check::<Count, _>(&rt, rt.alloc(), WORKERS)
+}
+
 /// Files, and their first fault.
-const FAULTS: &[(&[u8], Option<SettingFault>)] = &[
-    (b"[extensions]\nobjectFormat = SHA1", None),
-    (
-        b"[extensions]\nobjectFormat = sha256",
-        Some(SettingFault::BadChoice(KeyId::ObjectFormat)),
-    ),
-    (
-        b"[extensions]\nobjectFormat",
-        Some(SettingFault::BadChoice(KeyId::ObjectFormat)),
-    ),
-    (
-        b"[filter \"x\"]\nrequired = 2\n[extensions]\nobjectFormat = x",
-        Some(SettingFault::BadChoice(KeyId::ObjectFormat)),
-    ),
-    (
-        b"[extensions]\nobjectFormat = x\n[checkout]\nthresholdForParallelism = x\nworkers = x",
-        Some(SettingFault::BadNumber(KeyId::Workers)),
-    ),
-    (
-        b"[core]\neol = x\nautocrlf = x",
-        Some(SettingFault::BadChoice(KeyId::AutoCrlf)),
-    ),
-    (
-        b"[checkout]\nworkers = x\n[core]\neol = x",
-        Some(SettingFault::BadChoice(KeyId::Eol)),
-    ),
-    (
-        b"[filter \"x\"]\nrequired = maybe",
-        Some(SettingFault::BadBool(KeyId::Required)),
-    ),
-];
+const FAULTS: &[u8] = b"\
+    [extensions]\nobjectFormat = SHA1|None%\
+    [extensions]\nobjectFormat = sha256|Some(BadChoice(ObjectFormat))%\
+    [extensions]\nobjectFormat|Some(BadChoice(ObjectFormat))%\
+    [filter \"x\"]\nrequired = 2\n[extensions]\nobjectFormat = x|Some(BadChoice(ObjectFormat))%\
+    [extensions]\nobjectFormat = x\n[checkout]\nthresholdForParallelism = x\nworkers = x|Some(BadNumber(Workers))%\
+    [core]\neol = x\nautocrlf = x|Some(BadChoice(AutoCrlf))%\
+    [checkout]\nworkers = x\n[core]\neol = x|Some(BadChoice(Eol))%\
+    [filter \"x\"]\nrequired = maybe|Some(BadBool(Required))%";
+
+struct BadKey;
+
+impl Row for BadKey {
+    fn is_so(alloc: Global, row: &[Vec<u8>]) -> Result<bool, Fail> {
+        let [text, want] = row else {
+            return Ok(false);
+        };
+        let fault = read(alloc, text).err();
+        is_shown(alloc, fault, want)
+    }
+}
 
 #[test]
-fn the_first_bad_key_decides(rt: HostRuntime) {
-    for (text, want) in FAULTS {
-        assert!(rt; read(rt.alloc(), text).err() == *want, "at {text:?}");
-    }
+fn the_first_bad_key_decides(rt: HostRuntime) -> Result<(), Fail> {
+    check::<BadKey, _>(&rt, rt.alloc(), FAULTS)
 }
 
 /// Appends a driver as its name, `=` and its command if it has one, and `!` if it is required.
@@ -239,48 +242,34 @@ fn drivers_listed(alloc: Global, text: &[u8]) -> Result<Vec<u8>, SettingFault> {
 }
 
 /// Files, and their drivers as `push_driver` lists them.
-const DRIVERS: &[(&[u8], &[u8])] = &[
-    (b"", b""),
-    (
-        b"[filter \"lfs\"]\nclean = c\nprocess = git-lfs filter-process\nrequired = true",
-        b"lfs=git-lfs filter-process!;",
-    ),
-    (
-        b"[filter \"b\"]\nprocess = 1\n[filter \"a\"]\nprocess = 2",
-        b"a=2;b=1;",
-    ),
-    (
-        b"[filter \"ab\"]\nx\n[filter \"b\"]\nx\n[filter \"a\"]\nx",
-        b"a;ab;b;",
-    ),
-    (
-        b"[filter \"a\"]\nx\n[filter \"A\"]\nx\n[filter \"\xff\"]\nx",
-        b"A;a;\xff;",
-    ),
-    (b"[filter \"a\"]\nclean = c", b"a;"),
-    (b"[filter \"a\"]\nprocess =", b"a;"),
-    (b"[filter \"a\"]\nprocess", b"a;"),
-    (b"[filter \"a\"]\nprocess = p\nprocess = \"\"", b"a;"),
-    (b"[filter \"a\"]\nrequired", b"a!;"),
-    (
-        b"[filter \"a\"]\nrequired = x\nrequired = no\n[FILTER \"a\"]\nProcess = p",
-        b"a=p;",
-    ),
-    (
-        b"[filter]\nprocess = p\nrequired = x\n[filters \"a\"]\nx",
-        b"",
-    ),
-    (
-        b"[filter \"\"]\nprocess = p\n[filter.A]\nrequired",
-        b"=p;a!;",
-    ),
-];
+const DRIVERS: &[u8] = b"\
+    |%\
+    [filter \"lfs\"]\nclean = c\nprocess = git-lfs filter-process\nrequired = true|lfs=git-lfs filter-process!;%\
+    [filter \"b\"]\nprocess = 1\n[filter \"a\"]\nprocess = 2|a=2;b=1;%\
+    [filter \"ab\"]\nx\n[filter \"b\"]\nx\n[filter \"a\"]\nx|a;ab;b;%\
+    [filter \"a\"]\nx\n[filter \"A\"]\nx\n[filter \"\xff\"]\nx|A;a;\xff;%\
+    [filter \"a\"]\nclean = c|a;%\
+    [filter \"a\"]\nprocess =|a;%\
+    [filter \"a\"]\nprocess|a;%\
+    [filter \"a\"]\nprocess = p\nprocess = \"\"|a;%\
+    [filter \"a\"]\nrequired|a!;%\
+    [filter \"a\"]\nrequired = x\nrequired = no\n[FILTER \"a\"]\nProcess = p|a=p;%\
+    [filter]\nprocess = p\nrequired = x\n[filters \"a\"]\nx|%\
+    [filter \"\"]\nprocess = p\n[filter.A]\nrequired|=p;a!;%";
+
+struct Named;
+
+impl Row for Named {
+    fn is_so(alloc: Global, row: &[Vec<u8>]) -> Result<bool, Fail> {
+        let [text, want] = row else {
+            return Ok(false);
+        };
+        let list = drivers_listed(alloc, text)?;
+        Ok(list.as_slice() == want.as_slice())
+    }
+}
 
 #[test]
 fn drivers_stand_by_name_with_their_last_values(rt: HostRuntime) -> Result<(), Fail> {
-    for (text, want) in DRIVERS {
-        let list = drivers_listed(rt.alloc(), text)?;
-        assert!(rt; list.as_slice() == *want, "at {text:?}");
-    }
-    Ok(())
+    check::<Named, _>(&rt, rt.alloc(), DRIVERS)
 }
