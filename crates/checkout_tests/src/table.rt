@@ -1,7 +1,7 @@
 //! Tables in one literal each.
 //!
 //! The check goes through each literal of a program, so a table of many literals costs much. Here a table is one literal:
-//! `|` stands between the cells of a row, and `%` ends the row.
+//! `|` stands between the cells of a row, and `%` ends the row. What stands after the last `%` is a row too.
 use std::alloc::{AllocError, Global};
 
 /// The cells of a row.
@@ -26,6 +26,10 @@ pub fn rows_of(alloc: Global, table: &[u8]) -> Result<Vec<Row>, AllocError> {
             }
             byte => cell.push(byte)?,
         }
+    }
+    if !row.is_empty() || !cell.is_empty() {
+        row.push(cell)?;
+        rows.push(row)?;
     }
     Ok(rows)
 }
