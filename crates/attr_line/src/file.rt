@@ -19,7 +19,7 @@ pub enum AttrRow {
 }
 
 /// How many lines were skipped, by what is wrong with them. Each count stops at 4,294,967,295.
-#[derive(Clone, Copy, Debug, PartialEq, Eq)]
+#[derive(Clone, Copy)]
 pub struct Skipped {
     /// Lines of 2,048 bytes or more without their end, comments included.
     pub long: u32,

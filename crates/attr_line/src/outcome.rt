@@ -2,7 +2,7 @@
 use crate::file::AttrRow;
 
 /// Why a line is skipped.
-#[derive(Clone, Copy, Debug, PartialEq, Eq)]
+#[derive(Clone, Copy)]
 pub enum LineFault {
     /// It has 2,048 bytes or more.
     Long,

@@ -15,6 +15,7 @@ use crate::cards::new_card;
 use crate::runs::{by_one_worker, by_the_caller, by_worker_and_desk};
 use anyhow::Result;
 use checkout_book::ending::Ended;
+use checkout_core::Verdict;
 use edge_kit::{Blob, MemoryBlob, MemoryLeaf, MemoryRepo, MemoryTree};
 use std::alloc::{AllocError, Global};
 use std::env;
@@ -55,14 +56,24 @@ fn outside(alloc: Global) -> Result<(MemoryRepo, MemoryTree), AllocError> {
     Ok((repo, tree))
 }
 
+/// What a path came to.
+fn word_of(verdict: Option<Verdict>) -> &'static str {
+    match verdict {
+        Some(Verdict::Written { .. }) => "written",
+        Some(Verdict::Unfiltered { .. }) => "unfiltered",
+        Some(_) => "without its file",
+        None => "open",
+    }
+}
+
 /// The history and the verdicts of a book, each as a line.
 fn tell<R: Print>(rt: &R, ended: &Ended<MemoryBlob, MemoryLeaf>, paths: u32) -> Result<()> {
     for event in ended.history() {
         println!(rt; "{event:?}")?;
     }
     for path in 0..paths {
-        let verdict = ended.verdict(path);
-        println!(rt; "path {path}: {verdict:?}")?;
+        let word = word_of(ended.verdict(path));
+        println!(rt; "path {path}: {word}")?;
     }
     Ok(())
 }

@@ -9,7 +9,7 @@ use memchr::memchr2;
 use std::alloc::{AllocError, AllocFailed, Global};
 
 /// Why a quoted text can't be read: the first fault from the left.
-#[derive(Clone, Copy, Debug, PartialEq, Eq)]
+#[derive(Clone, Copy, Debug)]
 pub enum QuoteFault {
     /// It ends before a closing quote.
     Unclosed,

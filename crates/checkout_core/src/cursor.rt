@@ -2,7 +2,7 @@
 use crate::path::PathState;
 
 /// Where the paths of one driver are. It is kept beside them.
-#[derive(Clone, Copy, Debug)]
+#[derive(Clone, Copy)]
 pub(crate) struct Cursor {
     /// No path of the driver below this one is unasked.
     pub(crate) unasked: u32,

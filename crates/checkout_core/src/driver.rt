@@ -2,7 +2,7 @@
 use filter_words::Caps;
 
 /// An open session of a driver.
-#[derive(Clone, Copy, Debug, PartialEq, Eq)]
+#[derive(Clone, Copy)]
 pub struct Session {
     pub caps: Caps,
     /// The path for which it was opened.
@@ -14,7 +14,7 @@ pub struct Session {
 }
 
 /// The state of a driver.
-#[derive(Clone, Copy, Debug, PartialEq, Eq)]
+#[derive(Clone, Copy)]
 pub enum DriverState {
     /// No session is open.
     Off,

@@ -3,7 +3,7 @@ use crate::driver::DriverState;
 use crate::path::Path;
 
 /// A path of a driver, and the driver's state.
-#[derive(Clone, Copy, Debug)]
+#[derive(Clone, Copy)]
 pub(crate) struct DriverPath {
     pub(crate) path: Path,
     pub(crate) driver: u32,

@@ -3,7 +3,7 @@ use crate::driver::DriverState;
 use crate::path::PathState;
 
 /// What happens to a driver's delayed and named paths.
-#[derive(Clone, Copy, Debug, PartialEq, Eq)]
+#[derive(Clone, Copy)]
 pub enum Sweep {
     Keep,
     /// Each is heard as lost.
@@ -13,7 +13,7 @@ pub enum Sweep {
 }
 
 /// What a step changes.
-#[derive(Clone, Copy, Debug, PartialEq, Eq)]
+#[derive(Clone, Copy)]
 pub enum Effect {
     Moves {
         path: u32,

@@ -1,7 +1,7 @@
 use crate::verdict::{FilterCause, Verdict};
 
 /// How a path begins.
-#[derive(Clone, Copy, Debug, PartialEq, Eq)]
+#[derive(Clone, Copy)]
 pub enum Start {
     /// Any actor may take it.
     Pool,
@@ -12,7 +12,7 @@ pub enum Start {
 }
 
 /// What a driver's answers say of a path.
-#[derive(Clone, Copy, Debug, PartialEq, Eq)]
+#[derive(Clone, Copy)]
 pub enum Heard {
     Got,
     Refused(FilterCause),
@@ -23,7 +23,7 @@ pub enum Heard {
 }
 
 /// The state of a path.
-#[derive(Clone, Copy, Debug, PartialEq, Eq)]
+#[derive(Clone, Copy)]
 pub enum PathState {
     /// For any actor to take. There is a cause if its driver handed it back.
     Waiting(Option<FilterCause>),
@@ -40,7 +40,7 @@ pub enum PathState {
 }
 
 /// A path: how it began, and its state.
-#[derive(Clone, Copy, Debug, PartialEq, Eq)]
+#[derive(Clone, Copy)]
 pub struct Path {
     pub start: Start,
     pub state: PathState,

@@ -6,7 +6,7 @@ use crate::event::Event;
 use crate::state::State;
 
 /// The event isn't a step of the state.
-#[derive(Clone, Copy, Debug, PartialEq, Eq)]
+#[derive(Clone, Copy)]
 pub struct Refused;
 
 /// Takes one event. If it isn't a step, the state doesn't change. It takes no memory.

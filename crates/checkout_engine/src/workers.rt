@@ -3,7 +3,7 @@ ghost use Rattle.std.specs.Prelude.{◌≡◌};
 ghost use Rattle.checkout_engine.specs.Workers.{workers_for};
 
 /// What the words and the settings say of the workers.
-#[derive(Clone, Copy, Debug)]
+#[derive(Clone, Copy)]
 pub struct Pace {
     /// `--workers`, from 1 to 16.
     pub asked: Option<u32>,

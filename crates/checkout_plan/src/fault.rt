@@ -9,7 +9,7 @@ use std::alloc::{AllocError, AllocFailed};
 use thiserror::Error;
 
 /// Why there is no plan. An entry is named by its place in the index, from 0.
-#[derive(Error, Clone, Copy, Debug, PartialEq, Eq)]
+#[derive(Error, Clone, Copy, Debug)]
 pub enum PlanFault {
     /// The blob of an attribute file could not be read, and its count of faults rose.
     #[error("the attribute file of entry {0} can't be read")]

@@ -58,12 +58,9 @@ fn states_give_a_conversion(rt: HostRuntime) -> Result<(), Fail> {
     states.push(AttrState::Value(Bytes::copy_of(alloc, b"crlf")?))?;
     states.push(AttrState::Set)?;
     states.push(AttrState::Value(Bytes::copy_of(alloc, b"utf-16le")?))?;
-    let conversion = conversion_of(&states, AutoCrlf::False, EolSetting::Native);
-    let wanted = Conversion {
-        ident: true,
-        ends: LineEnds::ToCrlf,
-        encoding: Some(Encoding::Utf16Le),
-    };
-    assert!(&rt; conversion == Ok(wanted));
+    let conversion = conversion_of(&states, AutoCrlf::False, EolSetting::Native)?;
+    assert!(rt; conversion.ident);
+    assert!(rt; matches!(conversion.ends, LineEnds::ToCrlf));
+    assert!(rt; matches!(conversion.encoding, Some(Encoding::Utf16Le)));
     Ok(())
 }

@@ -25,7 +25,7 @@ fn both_at_once(rt: HostRuntime) -> Result<(), Fail> {
         let (left, _) = left_by_own(&rt, rt.alloc(), case_of(rt.alloc(), cells)?, &watch)?;
         assert_eq!(rt; left.status, 0);
         assert_eq!(rt; left.tree.files().len(), 2);
-        assert!(rt; watch.is_met(), "{point:?}");
+        assert!(rt; watch.is_met());
     }
     Ok(())
 }

@@ -9,6 +9,7 @@ use crate::index::{index_bytes, mode_of, push_entry};
 use crate::table::{parted, rows_of};
 use attr_line::read_attributes;
 use byte_path::{Bytes, Items, quote_path};
+use checkout_core::{FailCause, SkipCause, Start, Verdict};
 use checkout_plan::{PathPlan, Plan, make_plan};
 use edge_kit::{MemoryRepo, RepoFail};
 use eol_convert::{AutoCrlf, EolSetting};
@@ -121,12 +122,25 @@ fn push_path(alloc: Global, seen: &mut String, path: &PathPlan) -> Result<(), Fa
     let text = str::from_utf8(&quoted)?;
     let ends = path.conversion.ends;
     let ident = path.conversion.ident;
-    writeln!(
-        seen,
-        "{text}: {:?} {ends:?} {ident} {:?}",
-        path.mark, path.start
-    )?;
+    write!(seen, "{text}: {:?} {ends:?} {ident} ", path.mark)?;
+    match path.start {
+        Start::Pool => seen.push_str("Pool\n")?,
+        Start::Desk { driver, required } => writeln!(seen, "Desk {driver} {required}")?,
+        Start::Done(verdict) => writeln!(seen, "Done {}", closed_by(verdict))?,
+    }
     Ok(())
+}
+
+/// Why the plan closed a path.
+fn closed_by(verdict: Verdict) -> &'static str {
+    match verdict {
+        Verdict::Skipped(SkipCause::Gitlink) => "Gitlink",
+        Verdict::Skipped(SkipCause::Unmerged) => "Unmerged",
+        Verdict::Failed(FailCause::NoProcess) => "NoProcess",
+        Verdict::Failed(FailCause::UnknownEncoding) => "UnknownEncoding",
+        Verdict::Failed(FailCause::NameNotText) => "NameNotText",
+        _ => "another verdict",
+    }
 }
 
 fn shown(alloc: Global, plan: &Plan) -> Result<String, Fail> {
@@ -182,10 +196,10 @@ fn attribute_files_reach_the_paths_below_them(rt: HostRuntime) -> Result<(), Fai
 const CLOSED: &[u8] = b"\
     entry lln bin|entry gsub hi\n|entry yu hi\n|entry 2u hi\n|entry 3u hi\n|entry -\xc3\xa9 hi\n|\
         entry -\xff hi\n|info * text eol=crlf ident\n*\xa9 working-tree-encoding\n*\xff working-tree-encoding\n|\
-        ln: LinkText Keep false Pool\nsub: Plain Keep false Done(Skipped(Gitlink))\n\
-        u: Executable Keep false Done(Skipped(Unmerged))\n\
-        \"\\303\\251\": Plain Keep false Done(Failed(UnknownEncoding))\n\
-        \"\\377\": Plain Keep false Done(Failed(NameNotText))\nskipped 0\n%";
+        ln: LinkText Keep false Pool\nsub: Plain Keep false Done Gitlink\n\
+        u: Executable Keep false Done Unmerged\n\
+        \"\\303\\251\": Plain Keep false Done UnknownEncoding\n\
+        \"\\377\": Plain Keep false Done NameNotText\nskipped 0\n%";
 
 #[test]
 fn some_paths_are_closed_by_the_plan(rt: HostRuntime) -> Result<(), Fail> {
@@ -197,11 +211,11 @@ const DRIVERS: &[u8] = b"\
         driver +a run a|driver +closed run closed|driver -idle run idle|driver -mute|driver +needed|\
         driver -z run z|\
         info 1 filter=z\n2 filter=a\n3 filter=needed\n4 filter=mute\n5 filter=none\n6 filter=z\n7 filter=closed working-tree-encoding\n|\
-        1: Plain Keep false Desk { driver: 1, required: false }\n\
-        2: Plain Keep false Desk { driver: 0, required: true }\n3: Plain Keep false Done(Failed(NoProcess))\n\
+        1: Plain Keep false Desk 1 false\n\
+        2: Plain Keep false Desk 0 true\n3: Plain Keep false Done NoProcess\n\
         4: Plain Keep false Pool\n5: Plain Keep false Pool\n\
-        6: Plain Keep false Desk { driver: 1, required: false }\n\
-        7: Plain Keep false Done(Failed(UnknownEncoding))\ndriver a\ndriver z\nskipped 0\n%";
+        6: Plain Keep false Desk 1 false\n\
+        7: Plain Keep false Done UnknownEncoding\ndriver a\ndriver z\nskipped 0\n%";
 
 #[test]
 fn drivers_in_use_are_numbered_by_name(rt: HostRuntime) -> Result<(), Fail> {

@@ -72,7 +72,7 @@ fn causes_have_their_words(rt: HostRuntime) -> Result<(), Fail> {
     ];
     for (verdict, want) in table {
         let text = report_of_one(rt.alloc(), b"\xC3\xA9\t", Mark::LinkText, verdict)?;
-        assert!(rt; text.as_slice() == want.as_bytes(), "at {verdict:?}");
+        assert!(rt; text.as_slice() == want.as_bytes(), "not {want}");
     }
     Ok(())
 }

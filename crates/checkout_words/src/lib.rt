@@ -23,7 +23,7 @@ pub enum Command {
 }
 
 /// Why words give no command.
-#[derive(Clone, Copy, Debug, PartialEq, Eq)]
+#[derive(Clone, Copy)]
 pub enum WordFault {
     /// No command has these words.
     Usage,

@@ -6,7 +6,7 @@ use eol_convert::{AutoCrlf, EolSetting, LineEnds, line_ends_of};
 use tree_encoding::{Encoding, UnknownEncoding, encoding_of};
 
 /// What is done to a path's content.
-#[derive(Clone, Copy, Debug, PartialEq, Eq)]
+#[derive(Clone, Copy)]
 pub struct Conversion {
     /// Whether the keyword `$Id$` is expanded.
     pub ident: bool,

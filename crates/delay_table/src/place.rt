@@ -4,7 +4,7 @@ ghost use Rattle.delay_table.specs.Table.{is_pending};
 ghost use Rattle.delay_table.specs.declared.place.Place.TheVariants.{Delayed, Listed};
 
 /// The state of one name.
-#[derive(Clone, Copy, Debug, PartialEq, Eq)]
+#[derive(Clone, Copy)]
 pub enum Place {
     /// It wasn't delayed.
     Idle,

@@ -20,7 +20,7 @@ const NAME: [u8; 20] = [
 ];
 
 /// Which objects are there, and which call fails on which leaf.
-#[derive(Clone, Copy, Debug)]
+#[derive(Clone, Copy)]
 pub struct Layout {
     /// The first so many paths have an object.
     pub objects: usize,

@@ -33,7 +33,7 @@ pub const DIRECT: Caps = Caps {
 };
 
 /// A start of the driver, with the parts of what it writes then.
-#[derive(Clone, Copy, Debug)]
+#[derive(Clone, Copy)]
 pub enum Script {
     Session(&'static [&'static [u8]]),
     /// Each read takes a byte.
@@ -46,7 +46,7 @@ pub enum Script {
 }
 
 /// How a path ends.
-#[derive(Clone, Copy, Debug)]
+#[derive(Clone, Copy)]
 pub enum End {
     /// With its driver's content as its file.
     File(&'static [u8]),
@@ -58,7 +58,7 @@ pub enum End {
 }
 
 /// A talk over `p1` to `p4`. Those that have an end here have an object.
-#[derive(Clone, Copy, Debug)]
+#[derive(Clone, Copy)]
 pub struct Row {
     pub name: &'static str,
     pub required: bool,

@@ -33,7 +33,7 @@ use std::alloc::Global;
 use tree_encoding::Prepared;
 
 /// Whose desk it is.
-#[derive(Clone, Copy, Debug)]
+#[derive(Clone, Copy)]
 pub(crate) struct Seat {
     pub actor: u32,
     pub driver: u32,

@@ -2,7 +2,7 @@
 use byte_path::{Bytes, Items};
 
 /// How a link in memory gives its output, and which of its calls fail.
-#[derive(Clone, Copy, Debug, PartialEq, Eq)]
+#[derive(Clone, Copy)]
 pub struct LinkScript {
     /// A read gives at most this many bytes. 0 counts as 1.
     pub piece: u32,

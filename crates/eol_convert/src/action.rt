@@ -8,7 +8,7 @@ use attr_line::AttrState;
 
 /// What is done with a file's line ends, by its attributes and the settings (gitattributes(5), "End-of-line
 /// conversion").
-#[derive(Clone, Copy, Debug, PartialEq, Eq)]
+#[derive(Clone, Copy)]
 pub enum Action {
     /// It isn't a text, so its line ends stay.
     Binary,

@@ -15,7 +15,7 @@ pub enum EolSetting {
 }
 
 /// What becomes of a file's line ends in the worktree.
-#[derive(Clone, Copy, Debug, PartialEq, Eq)]
+#[derive(Clone, Copy, Debug)]
 pub enum LineEnds {
     /// The line ends stay.
     Keep,

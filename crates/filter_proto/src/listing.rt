@@ -29,7 +29,7 @@ pub(crate) struct Listing {
 }
 
 /// What one more packet, or more bytes, made of a list.
-#[derive(Clone, Copy, Debug, PartialEq, Eq)]
+#[derive(Clone, Copy)]
 pub(crate) enum ListStep {
     On,
     End(ListReply),

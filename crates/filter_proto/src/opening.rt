@@ -34,14 +34,14 @@ pub enum Begun<K: Link> {
 }
 
 /// Why a handshake failed.
-#[derive(Clone, Copy, Debug, PartialEq, Eq)]
+#[derive(Clone, Copy)]
 pub(crate) enum OpenFault {
     Broken(BreakCause),
     NoMemory,
 }
 
 /// What one more packet, or more bytes, made of a handshake.
-#[derive(Clone, Copy, Debug, PartialEq, Eq)]
+#[derive(Clone, Copy)]
 pub(crate) enum HandStep {
     On,
     End(Result<Caps, BreakCause>),

@@ -19,7 +19,7 @@ pub struct Asked {
 }
 
 /// What one more packet, or more bytes, made of a reply.
-#[derive(Clone, Copy, Debug, PartialEq, Eq)]
+#[derive(Clone, Copy)]
 pub(crate) enum Step {
     On,
     End(Reply),

@@ -5,7 +5,7 @@ use crate::reply::BreakCause;
 pub const MOST_ANSWER: u64 = 536_870_912;
 
 /// Where the reading of an answer stands, packet by packet: `P` says in which part of it, `G` how it ended well.
-#[derive(Debug, PartialEq, Eq, Drop)]
+#[derive(PartialEq, Eq, Drop)]
 pub enum AnswerState<P, G> {
     /// More packets belong to it.
     On(P),

@@ -12,7 +12,7 @@ use crate::words::without_end;
 
 /// In which part of a handshake the reading of a driver's answers stands: gitattributes(5), "Long Running Filter
 /// Process". The first answer is three packets, and the second is lines of capabilities.
-#[derive(Clone, Copy, Debug, PartialEq, Eq)]
+#[derive(Clone, Copy, PartialEq, Eq)]
 pub enum HandshakePhase {
     /// The line `git-filter-server` is wanted.
     Server,

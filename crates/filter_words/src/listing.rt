@@ -19,7 +19,7 @@ use std::alloc::{AllocError, Global};
 
 /// In which part of the answer to `list_available_blobs` its reading stands: gitattributes(5), "Long Running Filter
 /// Process".
-#[derive(Clone, Copy, Debug, PartialEq, Eq)]
+#[derive(Clone, Copy)]
 pub enum ListPart {
     /// Lines, of which each `pathname=` line names a path.
     Names,
@@ -28,7 +28,7 @@ pub enum ListPart {
 }
 
 /// How such an answer ended well.
-#[derive(Clone, Copy, Debug, PartialEq, Eq)]
+#[derive(Clone, Copy)]
 pub enum ListEnd {
     /// With `status=success`.
     Success,

@@ -4,7 +4,7 @@ ghost use Rattle.pkt_line.specs.Packets.{size};
 ghost use Rattle.filter_words.specs.Outcomes.{packet_of};
 
 /// A packet that was read.
-#[derive(Clone, Copy, Debug, PartialEq, Eq)]
+#[derive(Clone, Copy, Debug)]
 pub enum ReadPacket<'a> {
     Payload(&'a [u8]),
     Flush,

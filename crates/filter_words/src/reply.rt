@@ -1,37 +1,27 @@
 //! What an answer comes to.
-use thiserror::Error;
 
 /// Why an answer of a driver, or its handshake, is broken.
 ///
 /// The last two come from a list alone.
-#[derive(Error, Clone, Copy, Debug, PartialEq, Eq)]
+#[derive(Clone, Copy, Debug, PartialEq, Eq)]
 pub enum BreakCause {
     /// The driver's output ended inside the answer.
-    #[error("the output ended")]
     Ended,
     /// A send or a read failed.
-    #[error("a send or a read failed")]
     LinkFault,
     /// Four bytes that give no length of a packet.
-    #[error("a packet's length is wrong")]
     BadPacket,
     /// A handshake that isn't the protocol's.
-    #[error("the handshake is wrong")]
     BadHandshake,
     /// A status that the request doesn't allow, or none.
-    #[error("the status isn't known")]
     UnknownStatus,
     /// `status=delayed`, but `can-delay=1` wasn't sent.
-    #[error("the delay wasn't allowed")]
     StrangeDelay,
     /// More than 536,870,912 bytes of packets in one answer.
-    #[error("the answer is too long")]
     TooLong,
     /// A list names a path that isn't delayed, or names one twice.
-    #[error("a path that isn't delayed is listed")]
     StrangePath,
     /// A list with `status=error`.
-    #[error("the list is refused")]
     ListRefused,
 }
 

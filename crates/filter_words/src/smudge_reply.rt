@@ -10,7 +10,7 @@ use crate::reply::{BreakCause, Reply};
 use crate::words::{Status, next_status};
 
 /// How a reply to a smudge request ended well: gitattributes(5), "Long Running Filter Process".
-#[derive(Clone, Copy, Debug, PartialEq, Eq)]
+#[derive(Clone, Copy, PartialEq, Eq)]
 pub enum GoodReply {
     Content,
     Error,
@@ -21,7 +21,7 @@ pub enum GoodReply {
 }
 
 /// In which part of a reply its reading stands, and the status that its key list has named so far.
-#[derive(Clone, Copy, Debug, PartialEq, Eq)]
+#[derive(Clone, Copy, PartialEq, Eq)]
 pub enum ReplyPhase {
     KeyList(Option<Status>),
     Content,

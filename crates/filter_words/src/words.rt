@@ -6,7 +6,7 @@ ghost use Rattle.filter_words.specs.Words.{without_lf, key_and_value, value_of, 
 use bstr::ByteSlice;
 
 /// What the value of a `status=` line says.
-#[derive(Clone, Copy, Debug, PartialEq, Eq)]
+#[derive(Clone, Copy, PartialEq, Eq)]
 pub enum Status {
     Success,
     Error,

@@ -12,7 +12,7 @@ use std::alloc::{AllocError, Global};
 use std::marker::Model;
 
 /// What is at the front of the unread bytes.
-#[derive(Clone, Copy, Debug, PartialEq, Eq)]
+#[derive(Clone, Copy, PartialEq, Eq)]
 pub enum Next<'a> {
     /// A packet with this payload, of 0 to 65,516 bytes. The slice borrows the reader's own buffer.
     Payload(&'a [u8]),
@@ -23,7 +23,7 @@ pub enum Next<'a> {
 }
 
 /// Why no packet is at the front, and none ever will be. `place` counts the bytes before it.
-#[derive(Clone, Copy, Debug, PartialEq, Eq)]
+#[derive(Clone, Copy, PartialEq, Eq)]
 pub enum PktFault {
     /// One of the four bytes is no hexadecimal digit.
     BadDigits { place: u64 },

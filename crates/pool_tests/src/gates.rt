@@ -3,7 +3,7 @@ use edge_kit::{Gate, Point};
 
 /// A gate that holds the actors whose number is even, or odd, after each claim and after a driver's first reply for a
 /// path: it counts to `turns`.
-#[derive(Clone, Copy, Debug)]
+#[derive(Clone, Copy)]
 pub struct Holds {
     pub odd: bool,
     pub turns: u32,

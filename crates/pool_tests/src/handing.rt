@@ -12,7 +12,7 @@ use std::test::Fail;
 use std::thread::Threads;
 
 /// What a driver writes in its sessions, and what becomes of the paths.
-#[derive(Clone, Copy, Debug)]
+#[derive(Clone, Copy)]
 struct Row {
     name: &'static str,
     outputs: Outputs,

@@ -2,7 +2,7 @@
 use crate::drivers::Outputs;
 
 /// How a path ends.
-#[derive(Clone, Copy, Debug)]
+#[derive(Clone, Copy)]
 pub enum End {
     /// With this file.
     File(&'static [u8]),
@@ -15,7 +15,7 @@ pub enum End {
 }
 
 /// The drivers beside the workers.
-#[derive(Clone, Copy, Debug)]
+#[derive(Clone, Copy)]
 pub struct Beside {
     pub drivers: &'static [Outputs],
     /// What must be noted of each driver's talk.

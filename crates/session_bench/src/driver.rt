@@ -7,7 +7,7 @@ use pkt_line::{push_content, push_flush, push_line};
 use std::alloc::{AllocError, Global};
 
 /// How far a link was shut.
-#[derive(Clone, Copy, Debug, PartialEq, Eq)]
+#[derive(Clone, Copy)]
 pub enum Shutting {
     Not,
     Input,

@@ -20,7 +20,7 @@ pub enum Encoding {
 }
 
 /// A state that names none of the encodings.
-#[derive(Error, Clone, Copy, Debug, PartialEq, Eq)]
+#[derive(Error, Clone, Copy, Debug)]
 #[error("the encoding isn't known")]
 pub struct UnknownEncoding;
 
