@@ -41,7 +41,7 @@ fn patterns_of(alloc: Global, rows: &[AttrRow]) -> Result<Vec<Compiled>, AllocEr
 {
     let mut patterns = Vec::with_capacity(alloc, rows.len())?;
     for row in rows {
-        patterns.push(Compiled::of(alloc, row_pattern(row))?)?;
+        patterns.push_reserved(Compiled::of(alloc, row_pattern(row))?);
     }
     Ok(patterns)
 }

@@ -28,9 +28,9 @@ fn binary_pairs(alloc: Global) -> Result<Vec<Pair>, AllocError>
     ensures { IfOk result (λ pairs. pairs.items ≡ binary.pairs) }
 {
     let mut pairs = Vec::with_capacity(alloc, 3)?;
-    pairs.push(unset(alloc, b"diff")?)?;
-    pairs.push(unset(alloc, b"merge")?)?;
-    pairs.push(unset(alloc, b"text")?)?;
+    pairs.push_reserved(unset(alloc, b"diff")?);
+    pairs.push_reserved(unset(alloc, b"merge")?);
+    pairs.push_reserved(unset(alloc, b"text")?);
     Ok(pairs)
 }
 
@@ -48,7 +48,7 @@ fn pairs_of(alloc: Global, pairs: &[Pair]) -> Result<Vec<Pair>, AllocError>
 {
     let mut copy = Vec::with_capacity(alloc, pairs.len())?;
     for pair in pairs {
-        copy.push(pair_of(alloc, pair)?)?;
+        copy.push_reserved(pair_of(alloc, pair)?);
     }
     Ok(copy)
 }

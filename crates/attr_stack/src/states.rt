@@ -44,7 +44,7 @@ pub fn states_in(
 {
     let mut states = Vec::with_capacity(alloc, names.len())?;
     for name in names {
-        states.push(state_in(alloc, decided, name.as_slice())?)?;
+        states.push_reserved(state_in(alloc, decided, name.as_slice())?);
     }
     Ok(states)
 }

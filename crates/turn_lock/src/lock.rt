@@ -59,7 +59,7 @@ impl<T: Kept + Drop> TurnLock<T> {
         let (lock, mut first) = TurnLock::open(alloc, value)?;
         for number in 1..seats {
             let seat = lock.split(&mut first);
-            all.push(TurnSeat { seat, number })?;
+            all.push_reserved(TurnSeat { seat, number });
         }
         all.insert(
             0,
