@@ -6,7 +6,6 @@ ghost use Rattle.writer_pool.specs.Dealing.{AreDecks, AreRooms, desk_jobs, head_
 
 use crate::jobs::{ActorJob, DeskJob, Job};
 use crate::pooled::DeskSeed;
-use checkout_book::book::Pass;
 use checkout_book::reserving::DeskPass;
 use checkout_core::Event;
 use convert_plan::Card;
@@ -60,11 +59,11 @@ pub(crate) fn take_apart<S: Starter, B: Blob, L: Leaf>(
     })
 }
 
-/// The jobs of workers.
-pub(crate) fn worker_jobs<S: Starter, B: Blob, L: Leaf>(
+/// The jobs of workers with these passes.
+pub(crate) fn worker_jobs<P: Drop, D: Drop>(
     alloc: Global,
-    passes: Vec<Pass<B, L>>,
-) -> Result<Vec<ActorJob<S, B, L>>, AllocError>
+    passes: Vec<P>,
+) -> Result<Vec<Job<P, D>>, AllocError>
     ensures { IfOk result (λ v. v.items ≡ map (λ p. record { pass = p; desk = None }) passes.items) }
 {
     let mut jobs = Vec::with_capacity(alloc, passes.len())?;

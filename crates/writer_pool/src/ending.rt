@@ -123,7 +123,7 @@ fn copied(events: &[Event], mut copy: Vec<Event>) -> Vec<Event>
 }
 
 /// The blobs and the leaves apart.
-fn apart<B: Blob, L: Leaf>(
+fn apart<B: Drop, L: Drop>(
     parts: Vec<(B, L)>,
     mut blobs: Vec<B>,
     mut leaves: Vec<L>,

@@ -108,11 +108,11 @@ pub(crate) fn act_all<
 }
 
 /// The passes and the starters that came back, in the room that was taken for them.
-pub(crate) fn came_back<S: Starter, B: Blob, L: Leaf>(
-    ends: Vec<ActorEnd<S, B, L>>,
-    mut passes: Vec<Pass<B, L>>,
+pub(crate) fn came_back<P: Drop, S: Drop>(
+    ends: Vec<JobEnd<P, S>>,
+    mut passes: Vec<P>,
     mut starters: Vec<S>,
-) -> (Vec<Pass<B, L>>, Vec<S>)
+) -> (Vec<P>, Vec<S>)
     requires no_pass { passes.items ≡ [] }
     requires no_starter { starters.items ≡ [] }
     requires room { length ends.items ≤ vec_capacity passes }

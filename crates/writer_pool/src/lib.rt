@@ -5,6 +5,7 @@
 mod beginning;
 mod desk_actor;
 mod desks;
+mod end_room;
 mod ending;
 mod jobs;
 pub mod laws;

@@ -7,9 +7,10 @@ ghost use Rattle.writer_pool.specs.Ends.{IsRun, AreEnds};
 ghost use Rattle.writer_pool.specs.Pools.{AreSeeds, AreStartersBack, AreTalks, seed_cards};
 
 use crate::beginning::{Begun, begin_pool};
+use crate::end_room::{EndRoom, end_room};
 use crate::ending::{end_all, leave};
 use crate::jobs::{act_all, came_back};
-use crate::path_ends::{PathEnds, room_for};
+use crate::path_ends::PathEnds;
 use crate::pooled::{DeskSeed, Pooled};
 use crate::talks::talks_of;
 use checkout_core::Start;
@@ -63,11 +64,7 @@ pub fn pool_run<
     laws::a_note_keeps_paths_with_their_driver();
     let paths = starts.len();
     let drivers = desks.len();
-    let room = room_for(alloc, paths)?;
-    let passes = Vec::with_capacity(alloc, workers as usize + drivers)?;
-    let starters = Vec::with_capacity(alloc, drivers)?;
-    let talks = Vec::with_capacity(alloc, drivers)?;
-    let begins = Vec::from_slice(alloc, starts.as_slice())?;
+    let room = end_room(alloc, starts.as_slice(), workers, drivers)?;
     let begun = begin_pool(alloc, pool, desks, starts, workers)?;
     let Begun {
         book,
@@ -75,6 +72,13 @@ pub fn pool_run<
         talks: rooms,
     } = begun;
     let ends = act_all(rt, alloc, &book, gate, jobs)?;
+    let EndRoom {
+        ends: room,
+        passes,
+        starters,
+        talks,
+        starts,
+    } = room;
     let (passes, starters) = came_back(ends, passes, starters);
     let ended = end_all(alloc, book, passes);
     let PathEnds {
@@ -83,7 +87,7 @@ pub fn pool_run<
         leaves,
         blobs,
     } = leave(ended, paths as u32, room);
-    let talks = talks_of(history.as_slice(), begins.as_slice(), rooms, talks);
+    let talks = talks_of(history.as_slice(), starts.as_slice(), rooms, talks);
     Ok(Pooled {
         history,
         verdicts,

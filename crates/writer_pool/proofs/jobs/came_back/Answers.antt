@@ -1,11 +1,14 @@
-use Rattle.std.proofs.Common.{◌++◌, ◌∷◌, [], List, Option, length, length-append, sym, ap, ◌∙◌, append_assoc, arith}
+use Rattle.std.proofs.Common.{◌≡◌, ◌++◌, ◌∷◌, [], List, Option, length, length-append, refl, sym, ap, ◌∙◌, append_assoc, arith}
 use Rattle.std.proofs.lemmas.List.{append-nil}
-use Rattle.turn_lock.specs.Seat.{SeatView}
-use Rattle.checkout_book.specs.declared.plan.Plan.{Plan}
-use Rattle.checkout_book.specs.declared.plan.Entry.{Entry}
-use Rattle.writer_pool.specs.Jobs.{EndSeen, with_starter, starters_in}
+use Rattle.writer_pool.specs.declared.jobs.JobEnd.{JobEnd}
+use Rattle.writer_pool.specs.Jobs.{with_starter, passes_in, starters_in}
 use Rattle.writer_pool.proofs.Acting.{passes_more, passes_long, starters_more}
 use Rattle.writer_pool.proofs.jobs.came_back.Goals as goal
+
+-- a list of no length is empty
+none_left : {A : Type 0} (xs : List A) → length xs ≡ 0 → xs ≡ []
+none_left [] e = refl
+none_left (x ∷ xs) e = absurd (omega (arith, e))
 
 pub push_reserved-requires : goal.push_reserved-requires
 push_reserved-requires g c =
@@ -27,7 +30,7 @@ push_reserved-requires g c =
 pub push_reserved-requires-in-Some-starter : goal.push_reserved-requires-in-Some-starter
 push_reserved-requires-in-Some-starter g c =
     let S = g.row.S.Denot in
-    let T = EndSeen S g.row.B.Denot g.row.L.Denot in
+    let T : Type 0 = JobEnd g.row.P.Denot S in
     let i = c.loop-end.invariant in
     let y = c.loop-end.yielded in
     let rest = c.next.new.self.rest.items in
@@ -51,8 +54,8 @@ push_reserved-requires-in-Some-starter g c =
 pub loop-end-preserved-in-Some-starter : goal.loop-end-preserved-in-Some-starter
 loop-end-preserved-in-Some-starter g c =
     let S = g.row.S.Denot in
-    let P = SeatView Entry (Plan g.row.B.Denot g.row.L.Denot) in
-    let T = EndSeen S g.row.B.Denot g.row.L.Denot in
+    let P = g.row.P.Denot in
+    let T : Type 0 = JobEnd g.row.P.Denot S in
     let i = c.loop-end.invariant in
     let y = c.loop-end.yielded in
     let x = c.in-Some.end in
@@ -74,8 +77,8 @@ loop-end-preserved-in-Some-starter g c =
 pub loop-end-preserved : goal.loop-end-preserved
 loop-end-preserved g c =
     let S = g.row.S.Denot in
-    let P = SeatView Entry (Plan g.row.B.Denot g.row.L.Denot) in
-    let T = EndSeen S g.row.B.Denot g.row.L.Denot in
+    let P = g.row.P.Denot in
+    let T : Type 0 = JobEnd g.row.P.Denot S in
     let i = c.loop-end.invariant in
     let y = c.loop-end.yielded in
     let x = c.in-Some.end in
@@ -90,4 +93,18 @@ loop-end-preserved g c =
       starter_room = i.starter_room;
       can = tt;
       ends = tt;
+    }
+
+pub returns : goal.returns
+returns g c =
+    let T : Type 0 = JobEnd g.row.P.Denot g.row.S.Denot in
+    let i = c.loop-end.invariant in
+    let y = c.loop-end.yielded in
+    let left = c.loop-end.end-iterator.rest in
+    let none : left.items ≡ [] = none_left left.items (sym left.ok.0 ∙ c.in-None.ensures.steps.0) in
+    let whole : y ≡ c.args.ends.items =
+    sym (append-nil y) ∙ (ap (λ (l : List T). y ++ l) (sym none) ∙ i.whole) in
+    record {
+      passes = i.passes ∙ ap (λ (l : List T). passes_in l) whole;
+      starters = i.starters ∙ ap (λ (l : List T). starters_in l) whole;
     }

@@ -1,10 +1,11 @@
-use Rattle.std.proofs.Common.{List, length, sym, ap, ◌∙◌, subst, arith}
+use Rattle.std.proofs.Common.{◌≡◌, ℕ, List, length, sym, ap, ◌∙◌, subst, arith}
 use Rattle.convert_plan.specs.declared.card.Card.{Card}
 use Rattle.checkout_core.specs.declared.path.Start.{Start}
 use Rattle.checkout_core.specs.declared.event.Event.{Event}
 use Rattle.checkout_book.specs.Sights.{sight}
 use Rattle.checkout_book.specs.Reserving.{ArePool, AreDealt}
 use Rattle.writer_pool.specs.Pools.{AreStartersBack}
+use Rattle.writer_pool.specs.Rooms.{HasRoom}
 use Rattle.writer_pool.specs.Talks.{HaveRoom}
 use Rattle.writer_pool.proofs.Acting.{passes_length, starters_count, starters_back}
 use Rattle.writer_pool.proofs.Noting.{rooms_length, have_room}
@@ -13,18 +14,18 @@ use Rattle.writer_pool.proofs.Tied.{tied_in_history}
 use Rattle.writer_pool.proofs.run.pool_run.Goals as goal
 
 pub came_back-passes-requires-clause-room : goal.came_back-passes-requires-clause-room
-came_back-passes-requires-clause-room g c κs within =
+came_back-passes-requires-clause-room g c =
     let see = sight g.B.Blob.told g.B.Blob.seen g.L.Leaf.seen in
     let b = c.in_ok-begun.ensures.begun in
     let js = c.in_ok-begun.begun.jobs.items in
     let t = c.in_ok-ends.ensures b.plan (length js) b.ready in
     let n = passes_length g.S.Starter.seen see _ b.plan 0 (length js) js c.in_ok-ends.ends.items t in
     let count = b.count in
-    omega (arith, n.0, count, c.in_ok-passes.ensures.capacity, c.len-drivers.ensures, c.args.desks.ok.0)
+    omega (arith, n.0, count, c.in_ok-room.ensures.passes, c.len-drivers.ensures, c.args.desks.ok.0)
 
 pub came_back-passes-requires-clause-starter_room :
     goal.came_back-passes-requires-clause-starter_room
-came_back-passes-requires-clause-starter_room g c κs within =
+came_back-passes-requires-clause-starter_room g c =
     let see = sight g.B.Blob.told g.B.Blob.seen g.L.Leaf.seen in
     let b = c.in_ok-begun.ensures.begun in
     let js = c.in_ok-begun.begun.jobs.items in
@@ -32,7 +33,7 @@ came_back-passes-requires-clause-starter_room g c κs within =
     let w = c.args.workers in
     let n = starters_count g.S.Starter.seen see _ b.plan 0 (length js) w w c.args.desks.items js
     c.in_ok-ends.ends.items b.actors t in
-    omega (arith, n, c.in_ok-starters.ensures.capacity, c.len-drivers.ensures, c.args.desks.ok.0)
+    omega (arith, n, c.in_ok-room.ensures.starters, c.len-drivers.ensures, c.args.desks.ok.0)
 
 pub end_all-ended-requires : goal.end_all-ended-requires
 end_all-ended-requires g c =
@@ -71,7 +72,10 @@ leave-history-requires-clause-through g c =
     )
 
 pub leave-history-requires-clause-room : goal.leave-history-requires-clause-room
-leave-history-requires-clause-room g c = c.in_ok-room.ensures
+leave-history-requires-clause-room g c =
+    let count : length c.as_slice.result.now ≡ c.len-paths.result =
+    omega (arith, ap length c.as_slice.ensures.value, c.len-paths.ensures, c.args.starts.ok.0) in
+    subst (λ (n : ℕ). HasRoom n c.in_ok-room.room.ends) count c.in_ok-room.ensures.ends
 
 pub talks_of-talks-requires-clause-few : goal.talks_of-talks-requires-clause-few
 talks_of-talks-requires-clause-few g c =
@@ -81,7 +85,7 @@ talks_of-talks-requires-clause-few g c =
 pub talks_of-talks-requires-clause-all : goal.talks_of-talks-requires-clause-all
 talks_of-talks-requires-clause-all g c =
     let n = rooms_length c.args.desks.items c.in_ok-begun.begun.talks.items c.in_ok-begun.ensures.talks in
-    omega (arith, n, c.in_ok-talks.ensures.capacity, c.len-drivers.ensures, c.args.desks.ok.0)
+    omega (arith, n, c.in_ok-room.ensures.talks, c.len-drivers.ensures, c.args.desks.ok.0)
 
 pub talks_of-talks-requires-clause-room : goal.talks_of-talks-requires-clause-room
 talks_of-talks-requires-clause-room g c =
@@ -104,7 +108,7 @@ talks_of-talks-requires-clause-room g c =
     let have = have_room g.S.Starter.seen c.a_driver_has_few_notes.ensures starts c.args.workers n history run.core
     c.requires.below run.legal 0 c.args.desks.items rooms c.requires.desks (omega arith)
     c.in_ok-begun.ensures.talks in
-    let begins = c.as_slice-3.ensures.value ∙ (c.in_ok-begins.ensures.items ∙ c.as_slice.ensures.value) in
+    let begins = c.as_slice-3.ensures.value ∙ (c.in_ok-room.ensures.starts ∙ c.as_slice.ensures.value) in
     subst (λ (l : List Start). HaveRoom l c.as_slice-2.result.now 0 rooms) (sym begins)
     (subst (λ (l : List Event). HaveRoom starts l 0 rooms) (sym c.as_slice-2.ensures.value) have)
 
