@@ -34,27 +34,20 @@ fn paths_of(alloc: Global, starts: &[Start]) -> Result<Vec<Path>, AllocError>
 fn all_off(alloc: Global, drivers: u32) -> Result<Vec<DriverState>, AllocError>
     ensures { IfOk result (λ v. v.items ≡ replicate drivers Off) }
 {
-    let mut states = Vec::with_capacity(alloc, drivers as usize)?;
-    for _ in 0..drivers {
-        states.push(DriverState::Off)?;
-    }
-    Ok(states)
+    Ok(vec![in alloc; DriverState::Off; drivers as usize]?)
 }
 
 fn new_cursors(alloc: Global, drivers: u32) -> Result<Vec<Cursor>, AllocError>
     ensures { IfOk result (λ v. v.items ≡ replicate drivers new_cursor) }
 {
-    let mut cursors = Vec::with_capacity(alloc, drivers as usize)?;
-    for _ in 0..drivers {
-        cursors.push(Cursor {
-            unasked: 0,
-            first: 0,
-            end: 0,
-            named: 0,
-            turn: 0,
-        })?;
-    }
-    Ok(cursors)
+    let cursor = Cursor {
+        unasked: 0,
+        first: 0,
+        end: 0,
+        named: 0,
+        turn: 0,
+    };
+    Ok(vec![in alloc; cursor; drivers as usize]?)
 }
 
 /// How many of the paths aren't closed.
