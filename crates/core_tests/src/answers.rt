@@ -1,39 +1,16 @@
+use crate::table::{cut, is_right};
 use filter_words::{
     AnswerState, BreakCause, Caps, GoodReply, HandshakePhase, ListPart, ListReply, Listing,
     MOST_ANSWER, ReadPacket, Reply, ReplyPhase, Status, handshake_after_packet, key_value,
     list_after_packet, next_status, push_caps, push_hello, push_list, push_smudge, read_status,
     reply_after_packet, reply_of,
 };
-use std::alloc::Global;
+use std::alloc::{AllocError, Global};
+use std::process::Abort;
 use std::test::Fail;
 
-const FLUSH: ReadPacket<'static> = ReadPacket::Flush;
-
-fn line(text: &[u8]) -> ReadPacket<'_> {
-    ReadPacket::Payload(text)
-}
-
-/// What packets make of a reply.
-fn reply_to(can_delay: bool, packets: &[ReadPacket<'_>]) -> AnswerState<ReplyPhase, GoodReply> {
-    let (mut room, mut state) = (MOST_ANSWER, AnswerState::On(ReplyPhase::KeyList(None)));
-    for packet in packets {
-        (room, state) = reply_after_packet(can_delay, room, state, packet);
-    }
-    state
-}
-
-/// What packets make of a handshake's two answers.
-fn handshake_to(packets: &[ReadPacket<'_>]) -> AnswerState<HandshakePhase, Caps> {
-    let (mut room, mut state) = (MOST_ANSWER, AnswerState::On(HandshakePhase::Server));
-    for packet in packets {
-        (room, state) = handshake_after_packet(room, state, packet);
-    }
-    state
-}
-
-#[test]
-fn requests_are_spelled(rt: HostRuntime) -> Result<(), Fail> {
-    let alloc = rt.alloc();
+/// A hello, the capabilities, a list request, and requests for three paths.
+fn requests(alloc: Global) -> Result<Vec<u8>, AllocError> {
     let mut out = Vec::new(alloc);
     push_hello(alloc, &mut out)?;
     push_caps(alloc, &mut out)?;
@@ -41,161 +18,128 @@ fn requests_are_spelled(rt: HostRuntime) -> Result<(), Fail> {
     push_smudge(alloc, &mut out, b"big.psd", true, b"pointer")?;
     push_smudge(alloc, &mut out, b"big.psd", false, b"")?;
     push_smudge(alloc, &mut out, b"a", false, b"x")?;
-    let want =
-        b"0016git-filter-client\n000eversion=2\n00000015capability=clean\n0016capability=smudge\n0015capability=delay\n0000\
+    Ok(out)
+}
+
+const REQUESTS: &[u8] =
+    b"0016git-filter-client\n000eversion=2\n00000015capability=clean\n0016capability=smudge\n0015capability=delay\n0000\
 0021command=list_available_blobs\n0000\
 0013command=smudge\n0015pathname=big.psd\n0010can-delay=1\n0000000bpointer0000\
 0013command=smudge\n0015pathname=big.psd\n00000000\
 0013command=smudge\n000fpathname=a\n00000005x0000";
-    assert!(rt; out.as_slice() == want.as_slice(), "{out:?}");
+
+#[test]
+fn requests_are_spelled(rt: HostRuntime) -> Result<(), Fail> {
+    let out = requests(rt.alloc())?;
+    is_right(&rt, out.as_slice() == REQUESTS, &out);
     Ok(())
+}
+
+/// Lines, their keys, or `!` where a line has none, and their values.
+const LINES: &[&[u8]] = &[
+    b"status=success\n|status|success",
+    b"pathname=a=b\n\n|pathname|a=b\n",
+    b"=||",
+    b"status\n|!|",
+];
+
+fn is_line(row: &[u8]) -> bool {
+    let (line, rest) = cut(row, b'|');
+    let (key, value) = cut(rest, b'|');
+    match key_value(line) {
+        Some((of, is)) => of == key && is == value,
+        None => key == b"!".as_slice(),
+    }
 }
 
 #[test]
 fn lines_are_cut_at_the_first_equals_sign(rt: HostRuntime) {
-    let cases: [(&[u8], Option<(&[u8], &[u8])>); 4] = [
-        (b"status=success\n", Some((b"status", b"success"))),
-        (b"pathname=a=b\n\n", Some((b"pathname", b"a=b\n"))),
-        (b"=", Some((b"", b""))),
-        (b"status\n", None),
-    ];
-    for (text, want) in cases {
-        assert!(rt; key_value(text) == want, "{text:?}");
+    for row in LINES {
+        is_right(&rt, is_line(row), row);
     }
-    assert!(rt; next_status(None, b"status=delayed") == Some(Status::Delayed));
+    let next = next_status(None, b"status=delayed");
     let kept = next_status(Some(Status::Error), b"statuses=abort\n");
-    assert!(rt; kept == Some(Status::Error) && read_status(b"Success") == Status::Other);
+    assert!(rt; next == Some(Status::Delayed) && kept == Some(Status::Error));
+    assert!(rt; read_status(b"Success") == Status::Other);
 }
 
-#[test]
-fn each_status_of_a_reply(rt: HostRuntime) {
-    let unknown = Some(Reply::Broken(BreakCause::UnknownStatus));
-    let strange = Some(Reply::Broken(BreakCause::StrangeDelay));
-    let cases: [(&[u8], Option<Reply>, Option<Reply>); 6] = [
-        (b"status=success\n", None, None),
-        (b"status=error\n", Some(Reply::Error), Some(Reply::Error)),
-        (b"status=abort\n", Some(Reply::Abort), Some(Reply::Abort)),
-        (b"status=delayed\n", strange, Some(Reply::Delayed)),
-        (b"status=new\n", unknown, unknown),
-        (b"version=2\n", unknown, unknown),
-    ];
-    for (text, plain, delayable) in cases {
-        let packets = [line(text), FLUSH];
-        assert!(rt; reply_of(reply_to(false, &packets)) == plain, "{text:?}");
-        assert!(rt; reply_of(reply_to(true, &packets)) == delayable, "{text:?}");
+fn packet_of(text: &[u8]) -> ReadPacket<'_> {
+    match text {
+        b"~" => ReadPacket::Flush,
+        _ => ReadPacket::Payload(text),
     }
 }
 
-#[test]
-fn each_status_behind_a_content(rt: HostRuntime) {
-    let unknown = Reply::Broken(BreakCause::UnknownStatus);
-    let cases: [(&[u8], Reply); 6] = [
-        (b"status=success\n", Reply::Content),
-        (b"status=error\n", Reply::ErrorAfter),
-        (b"status=abort\n", Reply::Abort),
-        (b"status=delayed\n", unknown),
-        (b"status=new\n", unknown),
-        (b"nothing\n", Reply::Content),
-    ];
-    for (text, want) in cases {
-        let packets = [
-            line(b"status=success\n"),
-            FLUSH,
-            line(b"status=error"),
-            FLUSH,
-            line(text),
-            FLUSH,
-        ];
-        assert!(rt;
-            reply_of(reply_to(true, &packets)) == Some(want),
-            "{text:?}"
-        );
+/// The packets of a text, between which `;` stands. `~` is a flush packet.
+fn packets_of(alloc: Global, text: &[u8]) -> Result<Vec<ReadPacket<'_>>, AllocError> {
+    let mut packets = Vec::new(alloc);
+    for packet in text.split(|byte| *byte == b';') {
+        packets.push(packet_of(packet))?;
     }
+    Ok(packets)
 }
 
-#[test]
-fn the_last_status_counts(rt: HostRuntime) {
-    let packets = [
-        line(b"status=error\n"),
-        line(b"status=abort\n"),
-        line(b"stat=error\n"),
-        FLUSH,
-    ];
-    assert!(rt; reply_of(reply_to(false, &packets)) == Some(Reply::Abort));
-    let behind = [line(b"status=error"), FLUSH, FLUSH];
-    assert!(rt; reply_to(true, &behind) == AnswerState::Late);
-}
+type Replying = AnswerState<ReplyPhase, GoodReply>;
 
-/// 19 bytes and 4 bytes, then 8,194 packets of 65,520 bytes, leave nine of the 536,870,912 bytes.
-#[test]
-fn the_limit_of_a_reply(rt: HostRuntime) -> Result<(), Fail> {
-    let mut longest = Vec::new(rt.alloc());
-    longest.resize(65_516, b'c')?;
-    let mut packets = Vec::new(rt.alloc());
-    packets.push(line(b"status=success\n"))?;
-    packets.push(FLUSH)?;
-    for _ in 0..8194 {
-        packets.push(line(longest.as_slice()))?;
+/// What packets make of a reply, and how many bytes it may still have.
+fn reply_after(
+    can_delay: bool,
+    room: u64,
+    state: Replying,
+    packets: &[ReadPacket<'_>],
+) -> (u64, Replying) {
+    let (mut room, mut state) = (room, state);
+    for packet in packets {
+        (room, state) = reply_after_packet(can_delay, room, state, packet);
     }
-    packets.push(FLUSH)?;
-    packets.push(line(b"k"))?;
-    let open = AnswerState::On(ReplyPhase::LastKeyList(None));
-    assert!(rt; reply_to(true, packets.as_slice()) == open);
-    packets.push(FLUSH)?;
-    let long = Some(Reply::Broken(BreakCause::TooLong));
-    assert!(rt; reply_of(reply_to(true, packets.as_slice())) == long);
-    Ok(())
+    (room, state)
 }
 
-#[test]
-fn handshakes(rt: HostRuntime) {
-    let server = line(b"git-filter-server\n");
-    let version = line(b"version=2\n");
-    let later = line(b"version=3\n");
-    let smudge = line(b"capability=smudge\n");
-    let delay = line(b"capability=delay\n");
-    let one_delay = Caps {
-        smudge: false,
-        delay: true,
+/// The letter of a reply's state.
+fn reply_letter(state: Replying) -> u8 {
+    let open = match &state {
+        AnswerState::Late => b'l',
+        AnswerState::On(ReplyPhase::LastKeyList(None)) => b'k',
+        _ => b'-',
     };
-    let both = Caps {
-        smudge: true,
-        delay: true,
-    };
-    let good: [(&[ReadPacket<'_>], Caps); 2] = [
-        (
-            &[
-                server,
-                version,
-                FLUSH,
-                line(b"capability=clean\n"),
-                line(b"capability=delay"),
-                FLUSH,
-            ],
-            one_delay,
-        ),
-        (&[server, version, FLUSH, smudge, delay, FLUSH], both),
-    ];
-    for (packets, caps) in good {
-        assert!(rt;
-            handshake_to(packets) == AnswerState::Done(caps),
-            "{packets:?}"
-        );
+    match reply_of(state) {
+        Some(Reply::Content) => b'c',
+        Some(Reply::Error) => b'e',
+        Some(Reply::ErrorAfter) => b'f',
+        Some(Reply::Abort) => b'a',
+        Some(Reply::Delayed) => b'd',
+        Some(Reply::Broken(BreakCause::UnknownStatus)) => b'u',
+        Some(Reply::Broken(BreakCause::StrangeDelay)) => b's',
+        Some(Reply::Broken(BreakCause::TooLong)) => b't',
+        Some(_) => b'?',
+        None => open,
     }
-    let strange: [&[ReadPacket<'_>]; 4] = [
-        &[line(b"git-filter-client\n")],
-        &[FLUSH],
-        &[server, later],
-        &[server, version, later],
-    ];
-    for packets in strange {
-        let broken = AnswerState::Broken(BreakCause::BadHandshake);
-        assert!(rt; handshake_to(packets) == broken, "{packets:?}");
-    }
-    assert!(rt; handshake_to(&[server, version]) == AnswerState::On(HandshakePhase::EndOfHello));
 }
 
-fn list_reply_to(alloc: Global, packets: &[ReadPacket<'_>]) -> Result<Option<ListReply>, Fail> {
+/// The letter of the state that packets make of a handshake's two answers.
+fn handshake_letter(packets: &[ReadPacket<'_>]) -> u8 {
+    let (mut room, mut state) = (MOST_ANSWER, AnswerState::On(HandshakePhase::Server));
+    for packet in packets {
+        (room, state) = handshake_after_packet(room, state, packet);
+    }
+    match state {
+        AnswerState::Done(
+            Caps {
+                smudge,
+                delay: true,
+            },
+        ) => { if smudge { b'b' } else { b'd' } }
+        AnswerState::Broken(BreakCause::BadHandshake) => b'x',
+        AnswerState::On(HandshakePhase::EndOfHello) => b'h',
+        _ => b'?',
+    }
+}
+
+/// What packets make of the answer to a list request while `p1`, `p2` and `p3` are delayed.
+fn list_reply_to(
+    alloc: Global,
+    packets: &[ReadPacket<'_>],
+) -> Result<Option<ListReply>, AllocError> {
     let delayed: [&[u8]; 3] = [b"p1", b"p2", b"p3"];
     let mut room = MOST_ANSWER;
     let mut listing = Listing {
@@ -211,31 +155,132 @@ fn list_reply_to(alloc: Global, packets: &[ReadPacket<'_>]) -> Result<Option<Lis
     Ok(listing.reply())
 }
 
-#[test]
-fn lists_of_delayed_paths(rt: HostRuntime) -> Result<(), Fail> {
-    let (p1, p3) = (line(b"pathname=p1\n"), line(b"pathname=p3\n"));
-    let success = line(b"status=success\n");
-    let abort = line(b"status=abort\n");
-    let strange = Some(ListReply::Broken(BreakCause::StrangePath));
-    let refused = Some(ListReply::Broken(BreakCause::ListRefused));
-    let unknown = Some(ListReply::Broken(BreakCause::UnknownStatus));
-    let cases: [(&[ReadPacket<'_>], Option<ListReply>); 9] = [
-        (
-            &[p3, line(b"size=4\n"), p1, FLUSH, success, FLUSH],
-            Some(ListReply::Names(2)),
-        ),
-        (&[FLUSH, success, FLUSH], Some(ListReply::Empty)),
-        (&[p1, FLUSH, success, abort, FLUSH], Some(ListReply::Abort)),
-        (&[FLUSH, line(b"status=error\n"), FLUSH], refused),
-        (&[FLUSH, line(b"status=delayed\n"), FLUSH], unknown),
-        (&[FLUSH, FLUSH], unknown),
-        (&[line(b"pathname=p4\n")], strange),
-        (&[p1, p3, p1], strange),
-        (&[p1, FLUSH, success], None),
-    ];
-    for (packets, want) in cases {
-        let reply = list_reply_to(rt.alloc(), packets)?;
-        assert!(rt; reply == want, "{packets:?}");
+/// The letter of a reply to a list request.
+fn list_letter(reply: Option<ListReply>) -> u8 {
+    match reply {
+        Some(ListReply::Names(2)) => b'2',
+        Some(ListReply::Empty) => b'0',
+        Some(ListReply::Abort) => b'a',
+        Some(ListReply::Broken(BreakCause::StrangePath)) => b's',
+        Some(ListReply::Broken(BreakCause::ListRefused)) => b'r',
+        Some(ListReply::Broken(BreakCause::UnknownStatus)) => b'u',
+        Some(_) => b'?',
+        None => b'-',
     }
+}
+
+// A row of the tables is a letter for what is answered, the packets, parted by `;`, of which `~` is a flush packet, and
+// the letter of what they make. What is answered is a request for a path, `d` if it may be delayed and else `p`, `h` a
+// handshake, or `l` a list request.
+
+/// Content: `c`. An error: `e`, after a content `f`. Abort: `a`. Delayed: `d`. Broken by an unknown status: `u`, by a
+/// delay that may not be: `s`. Late: `l`. Not at its end: `-`.
+const REPLIES: &[&[u8]] = &[
+    b"p|status=success\n;~|-",
+    b"d|status=success\n;~|-",
+    b"p|status=error\n;~|e",
+    b"d|status=error\n;~|e",
+    b"p|status=abort\n;~|a",
+    b"d|status=abort\n;~|a",
+    b"p|status=delayed\n;~|s",
+    b"d|status=delayed\n;~|d",
+    b"p|status=new\n;~|u",
+    b"d|status=new\n;~|u",
+    b"p|version=2\n;~|u",
+    b"d|version=2\n;~|u",
+    b"d|status=success\n;~;status=error;~;status=success\n;~|c",
+    b"d|status=success\n;~;status=error;~;status=error\n;~|f",
+    b"d|status=success\n;~;status=error;~;status=abort\n;~|a",
+    b"d|status=success\n;~;status=error;~;status=delayed\n;~|u",
+    b"d|status=success\n;~;status=error;~;status=new\n;~|u",
+    b"d|status=success\n;~;status=error;~;nothing\n;~|c",
+    b"p|status=error\n;status=abort\n;stat=error\n;~|a",
+    b"d|status=error;~;~|l",
+];
+
+/// `delay` alone: `d`, with `smudge`: `b`. Broken: `x`. Before the flush packet after the hello: `h`.
+const HANDSHAKES: &[&[u8]] = &[
+    b"h|git-filter-server\n;version=2\n;~;capability=clean\n;capability=delay;~|d",
+    b"h|git-filter-server\n;version=2\n;~;capability=smudge\n;capability=delay\n;~|b",
+    b"h|git-filter-client\n|x",
+    b"h|~|x",
+    b"h|git-filter-server\n;version=3\n|x",
+    b"h|git-filter-server\n;version=2\n;version=3\n|x",
+    b"h|git-filter-server\n;version=2\n|h",
+];
+
+/// Two names: `2`. Empty: `0`. Abort: `a`. Broken by a strange path: `s`, refused: `r`, by an unknown status: `u`. Not at
+/// its end: `-`.
+const LISTS: &[&[u8]] = &[
+    b"l|pathname=p3\n;size=4\n;pathname=p1\n;~;status=success\n;~|2",
+    b"l|~;status=success\n;~|0",
+    b"l|pathname=p1\n;~;status=success\n;status=abort\n;~|a",
+    b"l|~;status=error\n;~|r",
+    b"l|~;status=delayed\n;~|u",
+    b"l|~;~|u",
+    b"l|pathname=p4\n|s",
+    b"l|pathname=p1\n;pathname=p3\n;pathname=p1\n|s",
+    b"l|pathname=p1\n;~;status=success\n|-",
+];
+
+const KEYS: Replying = AnswerState::On(ReplyPhase::KeyList(None));
+
+fn is_answered(alloc: Global, row: &[u8]) -> Result<bool, AllocError> {
+    let (kind, rest) = cut(row, b'|');
+    let (text, want) = cut(rest, b'|');
+    let packets = packets_of(alloc, text)?;
+    let letter = match kind {
+        b"h" => handshake_letter(&packets),
+        b"l" => list_letter(list_reply_to(alloc, &packets)?),
+        _ => {
+            let can_delay = matches!(kind, b"d");
+            reply_letter(reply_after(can_delay, MOST_ANSWER, KEYS, &packets).1)
+        }
+    };
+    Ok(want == [letter].as_slice())
+}
+
+fn check(rt: &impl Abort, alloc: Global, rows: &[&[u8]]) -> Result<(), AllocError> {
+    for row in rows {
+        is_right(rt, is_answered(alloc, row)?, row);
+    }
+    Ok(())
+}
+
+#[test]
+fn each_answer_has_its_meaning(rt: HostRuntime) -> Result<(), Fail> {
+    check(&rt, rt.alloc(), REPLIES)?;
+    check(&rt, rt.alloc(), HANDSHAKES)?;
+    check(&rt, rt.alloc(), LISTS)?;
+    Ok(())
+}
+
+/// What a key list and 8,194 packets of this content make of a reply, and how many bytes it may still have.
+fn long_reply(content: &[u8]) -> (u64, Replying) {
+    let packet = ReadPacket::Payload(content);
+    let begin = [ReadPacket::Payload(b"status=success\n"), ReadPacket::Flush];
+    let (mut room, mut state) = reply_after(true, MOST_ANSWER, KEYS, &begin);
+    for _ in 0..8194 {
+        (room, state) = reply_after_packet(true, room, state, &packet);
+    }
+    (room, state)
+}
+
+/// 19 bytes and 4 bytes, then 8,194 packets of 65,520 bytes, leave nine of the 536,870,912 bytes. They are taken by a
+/// flush packet and a packet of five bytes, and one more flush packet is too long.
+#[test]
+fn the_limit_of_a_reply(rt: HostRuntime) -> Result<(), Fail> {
+    let longest = vec![in rt.alloc(); b'c'; 65_516]?;
+    let end = [
+        ReadPacket::Flush,
+        ReadPacket::Payload(b"k"),
+        ReadPacket::Flush,
+    ];
+    let (room, state) = long_reply(&longest);
+    let (_, open) = reply_after(true, room, state, end.split_at(2).0);
+    assert!(rt; reply_letter(open) == b'k');
+    let (room, state) = long_reply(&longest);
+    let (_, long) = reply_after(true, room, state, &end);
+    assert!(rt; reply_letter(long) == b't');
     Ok(())
 }

@@ -1,3 +1,4 @@
+use crate::table::is_right;
 use checkout_core::{
     Event, FailCause, FilterCause, ObjectKind, OpenCause, Own, SkipCause, Start, State, Verdict,
     replay, step,
@@ -16,76 +17,8 @@ const FINE: Own = Own::Fine { unencoded: false };
 
 const WRITTEN: Verdict = Verdict::Written { unencoded: false };
 
-/// The events of a run in which path 1 is delayed, whether each is a step, and what it is.
-const RUN: &[(Event, bool, &str)] = &[
-    (
-        Event::Opened {
-            driver: 0,
-            caps: BOTH,
-        },
-        true,
-        "the driver is started",
-    ),
-    (
-        Event::Answered {
-            path: 1,
-            reply: Reply::Delayed,
-        },
-        true,
-        "delayed",
-    ),
-    (Event::Named { path: 1 }, true, "a name"),
-    (
-        Event::Listed {
-            driver: 0,
-            reply: ListReply::Empty,
-        },
-        false,
-        "while a list is noted",
-    ),
-    (
-        Event::Listed {
-            driver: 0,
-            reply: ListReply::Names(1),
-        },
-        true,
-        "the list",
-    ),
-    (
-        Event::Redone {
-            path: 1,
-            reply: Reply::Delayed,
-        },
-        false,
-        "delayed again",
-    ),
-    (
-        Event::Redone {
-            path: 1,
-            reply: Reply::Content,
-        },
-        true,
-        "its content",
-    ),
-    (
-        Event::Listed {
-            driver: 0,
-            reply: ListReply::Empty,
-        },
-        true,
-        "an empty list",
-    ),
-    (
-        Event::Close {
-            path: 0,
-            actor: 0,
-            own: FINE,
-        },
-        false,
-        "before its claim",
-    ),
-    (Event::HandBack { path: 1 }, false, "after its reply"),
-];
+/// The words of a run in which path 1 is delayed. They are as those of the cases below.
+const RUN: &[u8] = b"=0-. =1-. O0b. A1d. N1.. L0e.!L01. R1d.!R1c. L0e. X00f!B1..!";
 
 const LAST: &[Event] = &[
     Event::Close {
@@ -108,28 +41,6 @@ const CLAIMED: &[Event] = &[
         own: FINE,
     },
 ];
-
-#[test]
-fn one_run_with_a_delayed_path(rt: HostRuntime) -> Result<(), Fail> {
-    let starts = vec![in rt.alloc();
-        Start::Pool,
-        Start::Desk {
-            driver: 0,
-            required: true
-        },
-    ]?;
-    let mut state = State::start(rt.alloc(), starts, 1, 1)?;
-    assert!(rt; state.unclosed() == 2);
-    for (event, taken, what) in RUN {
-        assert!(rt; step(&mut state, *event).is_ok() == *taken, "{what}");
-    }
-    assert!(rt; replay(&mut state, LAST) == Err(1), "a second close");
-    assert!(rt; replay(&mut state, CLAIMED) == Ok(()));
-    assert!(rt; state.unclosed() == 0);
-    assert!(rt; state.verdict(0) == Some(WRITTEN) && state.verdict(1) == Some(WRITTEN));
-    assert!(rt; state.verdict(2).is_none());
-    Ok(())
-}
 
 // Cases in the state of `fresh`, one after the other. A word is an event of four letters, and the letter `.` says
 // nothing. The letters are its kind, its path or driver, and what `event_of` reads of the rest. A word with `=` is a
@@ -239,36 +150,46 @@ const OF_A_DRIVER: &[u8] = b"O0b. A1l. X11f =1l.;\
     X11r =1r.;\
     F1e. X11f =1b.;";
 
-/// One worker, actor 0. Path 0 is the pool's. Paths 1 and 2 are of driver 0, which is required and
-/// whose desk is actor 1. Paths 3 and 4 are of driver 1, which isn't required and whose desk is
-/// actor 2.
+/// Path 0 is the pool's. Paths 1 and 2 are of driver 0, which is required. Paths 3 and 4 are of driver 1, which isn't.
+const STARTS: [Start; 6] = [
+    Start::Pool,
+    Start::Desk {
+        driver: 0,
+        required: true,
+    },
+    Start::Desk {
+        driver: 0,
+        required: true,
+    },
+    Start::Desk {
+        driver: 1,
+        required: false,
+    },
+    Start::Desk {
+        driver: 1,
+        required: false,
+    },
+    Start::Done(Verdict::Skipped(SkipCause::Gitlink)),
+];
+
+/// One worker, actor 0, and a desk for each driver: actor 1 and actor 2.
 fn fresh(alloc: Global) -> Result<State, AllocError> {
-    let starts = vec![in alloc;
-        Start::Pool,
-        Start::Desk {
-            driver: 0,
-            required: true
-        },
-        Start::Desk {
-            driver: 0,
-            required: true
-        },
-        Start::Desk {
-            driver: 1,
-            required: false
-        },
-        Start::Desk {
-            driver: 1,
-            required: false
-        },
-        Start::Done(Verdict::Skipped(SkipCause::Gitlink)),
-    ]?;
-    State::start(alloc, starts, 1, 2)
+    State::start(alloc, Vec::from_slice(alloc, &STARTS)?, 1, 2)
+}
+
+/// The same with the first two paths alone, and one driver.
+fn fresh_of_two(alloc: Global) -> Result<State, AllocError> {
+    let [first, second, ..] = STARTS;
+    State::start(alloc, Vec::from_slice(alloc, &[first, second])?, 1, 1)
 }
 
 /// The letter at this place in a word, or `.`.
 fn letter(word: &[u8], place: usize) -> u8 {
-    word.get(place).copied().unwrap_or(b'.')
+    if place < word.len() {
+        word[place]
+    } else {
+        b'.'
+    }
 }
 
 fn digit(letter: u8) -> u32 {
@@ -330,6 +251,7 @@ const OWNS: &[(u8, Own)] = &[
 ];
 
 const VERDICTS: &[(u8, Verdict)] = &[
+    (b'w', WRITTEN),
     (b'u', Verdict::Written { unencoded: true }),
     (b'n', Verdict::NoMemory),
     (b'g', Verdict::Skipped(SkipCause::Gitlink)),
@@ -417,27 +339,49 @@ fn event_of(word: &[u8]) -> Option<Event> {
     }
 }
 
+/// Whether a word of a verdict is so. `-` is no verdict.
+fn is_verdict(state: &State, word: &[u8]) -> bool {
+    let want = find(VERDICTS, letter(word, 2));
+    let told = state.verdict(digit(letter(word, 1)));
+    told == want && want.is_some() == (letter(word, 2) != b'-')
+}
+
+/// Whether a word of an event is a step or refused, as it says. A step that is refused leaves the count of open paths.
+fn is_step(state: &mut State, word: &[u8]) -> bool {
+    let Some(event) = event_of(word) else {
+        return false;
+    };
+    let open = state.unclosed();
+    let refused = step(state, event).is_err();
+    let same = !refused || state.unclosed() == open;
+    same && refused == (letter(word, 4) == b'!')
+}
+
 /// One word of a case.
 fn follow(rt: &impl Abort, state: &mut State, word: &[u8]) {
-    if letter(word, 0) == b'=' {
-        let want = find(VERDICTS, letter(word, 2));
-        let told = state.verdict(digit(letter(word, 1)));
-        assert!(rt; want.is_some() && told == want, "{word:?}");
-        return;
+    let is_so = if letter(word, 0) == b'=' {
+        is_verdict(state, word)
+    } else {
+        is_step(state, word)
+    };
+    is_right(rt, is_so, word);
+}
+
+/// The cases of a theme.
+fn check(rt: &impl Abort, alloc: Global, words: &[u8]) -> Result<(), AllocError> {
+    let mut state = fresh(alloc)?;
+    for word in words.chunks(5) {
+        follow(rt, &mut state, word);
+        if letter(word, 4) != b' ' {
+            state = fresh(alloc)?;
+        }
     }
-    let event = event_of(word);
-    assert!(rt; event.is_some(), "{word:?}");
-    if let Some(event) = event {
-        let open = state.unclosed();
-        let refused = step(state, event).is_err();
-        let same = !refused || state.unclosed() == open;
-        assert!(rt; same && refused == (letter(word, 4) == b'!'), "{word:?}");
-    }
+    Ok(())
 }
 
 #[test]
 fn each_case(rt: HostRuntime) -> Result<(), Fail> {
-    let themes = [
+    for words in [
         CLAIMS,
         OPENINGS,
         ANSWERS,
@@ -447,15 +391,24 @@ fn each_case(rt: HostRuntime) -> Result<(), Fail> {
         CLOSES,
         IN_HAND,
         OF_A_DRIVER,
-    ];
-    for words in themes {
-        let mut state = fresh(rt.alloc())?;
-        for word in words.chunks(5) {
-            follow(&rt, &mut state, word);
-            if letter(word, 4) != b' ' {
-                state = fresh(rt.alloc())?;
-            }
-        }
+    ] {
+        check(&rt, rt.alloc(), words)?;
+    }
+    Ok(())
+}
+
+#[test]
+fn one_run_with_a_delayed_path(rt: HostRuntime) -> Result<(), Fail> {
+    let mut state = fresh_of_two(rt.alloc())?;
+    assert!(rt; state.unclosed() == 2);
+    for word in RUN.chunks(5) {
+        follow(&rt, &mut state, word);
+    }
+    let second_close = replay(&mut state, LAST);
+    let claimed = replay(&mut state, CLAIMED);
+    assert!(rt; second_close == Err(1) && claimed == Ok(()) && state.unclosed() == 0);
+    for word in b"=0w. =1w. =2-.".chunks(5) {
+        follow(&rt, &mut state, word);
     }
     Ok(())
 }

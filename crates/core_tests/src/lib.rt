@@ -2,14 +2,29 @@
 //!
 //! A crate with tests is proved twice, with them and without. So the tests of these crates are here, over the built
 //! libraries: `packets` has those of `pkt_line`, `answers` of `filter_words`, `delays` of `delay_table`, and `events`
-//! of `checkout_core`. It has nothing but tests.
+//! of `checkout_core`. Those of `filter_proto` are `sessions` and `conversations`, with a leaf of their own, `page`, and a
+//! link, `pipe`; and `children`, with a real child process. It has nothing but tests, whose tables `table` reads.
 #![tactic(auto)]
 
 #[cfg(test)]
 mod answers;
+#[cfg(test)]
+mod children;
+#[cfg(test)]
+mod conversations;
 #[cfg(test)]
 mod delays;
 #[cfg(test)]
 mod events;
 #[cfg(test)]
 mod packets;
+#[cfg(test)]
+mod page;
+#[cfg(test)]
+mod pipe;
+#[cfg(test)]
+mod sessions;
+#[cfg(test)]
+mod speaking;
+#[cfg(test)]
+mod table;

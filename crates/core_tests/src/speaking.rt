@@ -7,7 +7,7 @@ use byte_path::Bytes;
 use delay_table::DelayTable;
 use edge_kit::{Link, SendFault};
 use filter_proto::{Begun, Session};
-use filter_words::{ListReply, Reply};
+use filter_words::{BreakCause, ListReply, Reply};
 use std::alloc::{AllocError, Global};
 
 /// What a driver answers to a handshake, with `delay`.
@@ -74,6 +74,54 @@ pub fn list<K: Link>(session: &mut Session<K>, table: &mut DelayTable) -> Option
         return None;
     }
     Some(session.list(table))
+}
+
+/// The letter of what breaks a session.
+pub fn cause_letter(cause: BreakCause) -> u8 {
+    match cause {
+        BreakCause::Ended => b'e',
+        BreakCause::LinkFault => b'l',
+        BreakCause::BadPacket => b'p',
+        BreakCause::BadHandshake => b'h',
+        BreakCause::UnknownStatus => b'u',
+        BreakCause::StrangeDelay => b'd',
+        BreakCause::StrangePath => b's',
+        BreakCause::ListRefused => b'r',
+        BreakCause::TooLong => b't',
+    }
+}
+
+/// The letter of a reply whose puts went well, `f` if one failed, and `.` if none was asked for.
+pub fn came_letter(came: Option<Came>) -> u8 {
+    match came {
+        Some((reply, Ok(()))) => reply_letter(reply),
+        Some((Reply::Content, Err(SendFault::Failed))) => b'f',
+        _ => b'.',
+    }
+}
+
+fn reply_letter(reply: Reply) -> u8 {
+    match reply {
+        Reply::Content => b'C',
+        Reply::Error => b'E',
+        Reply::ErrorAfter => b'F',
+        Reply::Abort => b'A',
+        Reply::Delayed => b'D',
+        Reply::Broken(cause) => cause_letter(cause),
+        Reply::NoMemory => b'N',
+    }
+}
+
+/// The letter of a reply to a list request, the count of its names, or `.` if none was asked for.
+pub fn list_letter(reply: Option<ListReply>) -> u8 {
+    match reply {
+        Some(ListReply::Names(1)) => b'1',
+        Some(ListReply::Names(2)) => b'2',
+        Some(ListReply::Empty) => b'0',
+        Some(ListReply::Abort) => b'A',
+        Some(ListReply::Broken(cause)) => cause_letter(cause),
+        _ => b'.',
+    }
 }
 
 /// A table of one name, which is delayed.

@@ -2,20 +2,12 @@
 ghost use Rattle.std.specs.Prelude.{◌≡◌, ◌≤◌, ◌<◌, length};
 ghost use Rattle.edge_kit.specs.Faults.{AfterSend, AfterCall};
 ghost use Rattle.edge_kit.specs.Links.{Sends, Reads, input_shut, waited};
-ghost use Rattle.proto_tests.specs.Pipes.{seen_of};
+ghost use Rattle.core_tests.specs.Pipes.{seen_of};
 
 use edge_kit::{Failed, Link, SendFault};
 use std::alloc::{AllocError, Global};
 use std::cell::Cell;
 use std::rc::Rc;
-
-/// How far a pipe was shut.
-#[derive(Clone, Copy, Debug, PartialEq, Eq)]
-pub enum Shutting {
-    Not,
-    Input,
-    Waited,
-}
 
 /// A part of an output, which comes this many times.
 #[derive(Drop)]
@@ -40,7 +32,9 @@ pub struct Pipe {
     /// How many puts there were at each read so far.
     pub puts: Vec<u32>,
     counter: Rc<Cell<u32>>,
-    pub shutting: Shutting,
+    /// Whether its input was shut, and whether its end was waited for after that.
+    shut: bool,
+    waited: bool,
     faults: u64,
     ends: u64,
 }
@@ -67,10 +61,28 @@ impl Pipe {
             sent: Vec::new(alloc),
             puts: Vec::new(alloc),
             counter: Rc::new(alloc, Cell::new(0))?,
-            shutting: Shutting::Not,
+            shut: false,
+            waited: false,
             faults: 0,
             ends: 0,
         })
+    }
+
+    /// Adds parts that come once.
+    pub fn add_parts(&mut self, alloc: Global, parts: &[&[u8]]) -> Result<(), AllocError> {
+        for part in parts {
+            self.add(alloc, part, 1)?;
+        }
+        Ok(())
+    }
+
+    /// How far it was shut: `-` not at all, `i` its input alone, `w` until its end.
+    pub fn end_letter(&self) -> u8 {
+        match (self.shut, self.waited) {
+            (false, _) => b'-',
+            (true, false) => b'i',
+            (true, true) => b'w',
+        }
     }
 
     /// Adds a part that comes this many times.
@@ -100,8 +112,8 @@ impl Pipe {
     /// Copies bytes of the part that is next, and returns how many.
     fn give(&mut self, into: &mut [u8]) -> usize
         ensures within { result ≤ length into.old }
-        ensures same { seen_of self.new.faults self.new.ends self.new.shutting
-            ≡ seen_of self.old.faults self.old.ends self.old.shutting }
+        ensures same { seen_of self.new.faults self.new.ends self.new.shut self.new.waited
+            ≡ seen_of self.old.faults self.old.ends self.old.shut self.old.waited }
     {
         let Some(part) = self.parts.as_slice().get(self.part) else {
             return 0;
@@ -122,8 +134,8 @@ impl Pipe {
 
     /// This many bytes of a part were given, or the whole of it.
     fn advance(&mut self, count: usize, whole: bool, times: u32)
-        ensures { seen_of self.new.faults self.new.ends self.new.shutting
-            ≡ seen_of self.old.faults self.old.ends self.old.shutting }
+        ensures { seen_of self.new.faults self.new.ends self.new.shut self.new.waited
+            ≡ seen_of self.old.faults self.old.ends self.old.shut self.old.waited }
     {
         if !whole {
             self.offset = self.offset.saturating_add(count);
@@ -139,7 +151,7 @@ impl Pipe {
 }
 
 impl Link for Pipe {
-    ghost seen = { λ p. seen_of p.faults p.ends p.shutting };
+    ghost seen = { λ p. seen_of p.faults p.ends p.shut p.waited };
 
     fn send(&mut self, piece: &[u8]) -> Result<(), SendFault> {
         if self.fails_send {
@@ -168,15 +180,16 @@ impl Link for Pipe {
     }
 
     fn shut_input(&mut self) -> Result<(), Failed> {
-        if matches!(self.shutting, Shutting::Not) {
-            self.shutting = Shutting::Input;
+        if !self.shut {
+            self.shut = true;
+            self.waited = false;
         }
         Ok(())
     }
 
     fn wait_end(&mut self) -> Result<(), Failed> {
-        if matches!(self.shutting, Shutting::Input) {
-            self.shutting = Shutting::Waited;
+        if self.shut {
+            self.waited = true;
         }
         Ok(())
     }
