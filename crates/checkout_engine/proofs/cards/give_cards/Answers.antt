@@ -1,10 +1,47 @@
-use Rattle.std.proofs.Common.{◌≡◌, ◌+◌, ◌++◌, ◌∷◌, [], ℕ, length, length-append, sym, ap, ◌∙◌, subst, arith, append_assoc, append-nil}
+use Rattle.std.proofs.Common.{◌≡◌, ◌+◌, ◌++◌, ◌∷◌, [], ℕ, length, length-append, refl, sym, ap, ◌∙◌, subst, arith, append_assoc, append-nil}
 use Rattle.checkout_book.specs.Sights.{sight}
 use Rattle.checkout_engine.specs.Made.{HasCards}
 use Rattle.checkout_engine.proofs.Back.{none_left}
 use Rattle.checkout_engine.proofs.Made.{card_returns}
 use Rattle.checkout_engine.proofs.PoolCards.{new_here}
 use Rattle.checkout_engine.proofs.cards.give_cards.Goals as goal
+
+pub loop-card-init : goal.loop-card-init
+loop-card-init g c =
+    let whole = c.into_iter-card-iterator.ensures.into_iter_gives.0 in
+    record {
+      whole = whole;
+      told = refl;
+      blobs = omega arith;
+      leaves = omega arith;
+      back = λ n repo0 tree0 h. subst (λ l. HasCards (n + length l) repo0 (g.R.Repo.seen c.args.repo.now) tree0 (g.T.Worktree.seen c.args.tree.now)) (sym whole) h;
+      can = tt;
+      ends = tt;
+    }
+
+pub take_back-requires : goal.take_back-requires
+take_back-requires g c =
+    let i = c.loop-card.invariant in
+    omega (
+      arith,
+      i.blobs,
+      c.requires.blobs,
+      ap length i.whole,
+      length-append c.loop-card.yielded c.loop-card.card-iterator.rest.items,
+      ap length c.in-Some.ensures.steps.0,
+    )
+
+pub take_back-requires-in-loop-card : goal.take_back-requires-in-loop-card
+take_back-requires-in-loop-card g c =
+    let i = c.loop-card.invariant in
+    omega (
+      arith,
+      i.leaves,
+      c.requires.leaves,
+      ap length i.whole,
+      length-append c.loop-card.yielded c.loop-card.card-iterator.rest.items,
+      ap length c.in-Some.ensures.steps.0,
+    )
 
 pub loop-card-preserved : goal.loop-card-preserved
 loop-card-preserved g c =
