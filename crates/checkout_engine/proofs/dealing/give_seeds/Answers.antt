@@ -1,4 +1,4 @@
-use Rattle.std.proofs.Common.{◌≡◌, ◌+◌, ◌++◌, ◌∷◌, [], ℕ, length, length-append, sym, ap, ◌∙◌, subst, arith, append_assoc, append-nil}
+use Rattle.std.proofs.Common.{◌≡◌, ◌+◌, ◌++◌, ◌∷◌, [], ℕ, length, length-append, refl, sym, ap, ◌∙◌, subst, arith, append_assoc, append-nil}
 use Rattle.edge_kit.specs.Starters.{StarterSeen}
 use Rattle.checkout_book.specs.Sights.{sight}
 use Rattle.writer_pool.specs.Pools.{seed_cards}
@@ -7,6 +7,22 @@ use Rattle.checkout_engine.proofs.Back.{none_left}
 use Rattle.checkout_engine.proofs.Made.{starter_returns}
 use Rattle.checkout_engine.proofs.SeedCards.{new_seed, idle_seed, few_before, one_more}
 use Rattle.checkout_engine.proofs.dealing.give_seeds.Goals as goal
+
+pub loop-seed-init : goal.loop-seed-init
+loop-seed-init g c =
+    let whole = c.into_iter-seed-iterator.ensures.into_iter_gives.0 in
+    record {
+      whole = whole;
+      told = refl;
+      starts = refl;
+      blobs = omega arith;
+      leaves = omega arith;
+      starters = omega arith;
+      cards_back = λ n repo0 tree0 h. subst (λ l. HasCards (n + length (seed_cards l)) repo0 (g.R.Repo.seen c.args.repo.now) tree0 (g.T.Worktree.seen c.args.tree.now)) (sym whole) h;
+      starters_back = λ n spawner0 h. subst (λ l. HasStarters (n + length l) spawner0 (g.P.Spawner.seen c.args.spawner.now)) (sym whole) h;
+      can = tt;
+      ends = tt;
+    }
 
 pub give_cards-requires-clause-new : goal.give_cards-requires-clause-new
 give_cards-requires-clause-new g c κs within =
@@ -25,6 +41,18 @@ give_cards-requires-clause-leaves g c κs within =
     let y = c.loop-seed.yielded in
     few_before y c.next.new.self.rest.items c.args.desks.items c.in-Some.seed (g.T.Worktree.seen c.loop-seed.tree).out (g.T.Worktree.seen c.args.tree.now).out
     (ap (λ l. y ++ l) (sym c.in-Some.ensures.steps.0) ∙ c.loop-seed.invariant.whole) c.loop-seed.invariant.leaves c.requires.leaves
+
+pub take_back-requires-clause-given : goal.take_back-requires-clause-given
+take_back-requires-clause-given g c =
+    let i = c.loop-seed.invariant in
+    omega (
+      arith,
+      i.starters,
+      c.requires.starters,
+      ap length i.whole,
+      length-append c.loop-seed.yielded c.loop-seed.seed-iterator.rest.items,
+      ap length c.in-Some.ensures.steps.0,
+    )
 
 pub take_back-requires-clause-ended : goal.take_back-requires-clause-ended
 take_back-requires-clause-ended g c =
