@@ -1,7 +1,11 @@
-use Rattle.std.proofs.Common.{◌+◌, ◌++◌, ℕ, length, length-append, sym, subst}
+use Rattle.std.proofs.Common.{◌+◌, ◌++◌, ℕ, length, length-append, sym, ap, subst, arith}
+use Rattle.edge_kit.specs.Seen.{RepoSeen, TreeSeen}
+use Rattle.edge_kit.specs.Starters.{SpawnerSeen}
+use Rattle.edge_kit.specs.Told.{RepoTold}
 use Rattle.checkout_book.specs.Sights.{sight}
 use Rattle.writer_pool.specs.Pools.{seed_cards}
-use Rattle.checkout_engine.specs.Made.{HasCards}
+use Rattle.checkout_engine.specs.Dealing.{AreSeedsFor}
+use Rattle.checkout_engine.specs.Made.{HasCards, HasStarters}
 use Rattle.checkout_engine.proofs.Made.{on_err, nothing_made, no_starters, none_more, more_made, made_all}
 use Rattle.checkout_engine.proofs.OpenPaths.{desk_count}
 use Rattle.checkout_engine.proofs.SeedSteps.{new_then}
@@ -15,6 +19,15 @@ returns-in_err-desks-clause-starters_back g c = on_err _ c.from_residual.result 
 
 pub returns-in_err-pool-clause-starters_back : goal.returns-in_err-pool-clause-starters_back
 returns-in_err-pool-clause-starters_back g c = on_err _ c.from_residual-in_err-pool.result (no_starters (g.P.Spawner.seen c.args.spawner.now))
+
+pub returns-in_err-pool-clause-cards_back : goal.returns-in_err-pool-clause-cards_back
+returns-in_err-pool-clause-cards_back g c = on_err _ c.from_residual-in_err-pool.result c.in_err-pool.ensures.none
+
+pub returns-in-Ok-clause-desks : goal.returns-in-Ok-clause-desks
+returns-in-Ok-clause-desks g c =
+    let see = sight g.R.Blob.Blob.told g.R.Blob.Blob.seen g.T.Leaf.Leaf.seen in
+    subst (λ (told : RepoTold). AreSeedsFor g.P.Starter.Starter.seen see (g.P.Spawner.told c.args.spawner.now) told.object c.args.paths.now 0 c.args.drivers.now c.add_seeds.new.desks.items)
+    c.in_ok-pool.ensures.told c.in-Ok.ensures.seeds
 
 pub returns-in-Ok-clause-made : goal.returns-in-Ok-clause-made
 returns-in-Ok-clause-made g c =
@@ -41,3 +54,35 @@ returns-in-Err-clause-cards_back g c =
     (c.give_seeds.ensures.cards_back n repo tree
     (more_made n m repo (g.R.Repo.seen c.cards_of.new.repo) (g.R.Repo.seen c.add_seeds.new.repo) tree (g.T.Worktree.seen c.cards_of.new.tree) (g.T.Worktree.seen c.add_seeds.new.tree)
     c.in_ok-pool.ensures.repo c.in_ok-pool.ensures.tree c.in-Err.ensures.cards_out)))
+
+pub give_seeds-requires-clause-new : goal.give_seeds-requires-clause-new
+give_seeds-requires-clause-new g c κs within = c.in-Err.ensures.new
+
+pub give_seeds-requires-clause-idle : goal.give_seeds-requires-clause-idle
+give_seeds-requires-clause-idle g c κs within = c.in-Err.ensures.idle
+
+pub give_seeds-requires-clause-blobs : goal.give_seeds-requires-clause-blobs
+give_seeds-requires-clause-blobs g c κs within = omega (arith, ap (λ (r : RepoSeen). r.out) c.in-Err.ensures.cards_out.repo_kept)
+
+pub give_seeds-requires-clause-leaves : goal.give_seeds-requires-clause-leaves
+give_seeds-requires-clause-leaves g c κs within = omega (arith, ap (λ (t : TreeSeen). t.out) c.in-Err.ensures.cards_out.tree_kept)
+
+pub give_seeds-requires-clause-starters : goal.give_seeds-requires-clause-starters
+give_seeds-requires-clause-starters g c κs within = omega (arith, ap (λ (s : SpawnerSeen). s.out) c.in-Err.ensures.starters_out.kept)
+
+pub give_cards-requires-clause-new : goal.give_cards-requires-clause-new
+give_cards-requires-clause-new g c κs within = c.in_ok-pool.ensures.new
+
+pub give_cards-requires-clause-blobs : goal.give_cards-requires-clause-blobs
+give_cards-requires-clause-blobs g c κs within =
+    omega (arith, c.give_seeds.ensures.blobs_out, ap (λ (r : RepoSeen). r.out) c.in-Err.ensures.cards_out.repo_kept, ap (λ (r : RepoSeen). r.out) c.in_ok-pool.ensures.repo)
+
+pub give_cards-requires-clause-leaves : goal.give_cards-requires-clause-leaves
+give_cards-requires-clause-leaves g c κs within =
+    omega (arith, c.give_seeds.ensures.leaves_out, ap (λ (t : TreeSeen). t.out) c.in-Err.ensures.cards_out.tree_kept, ap (λ (t : TreeSeen). t.out) c.in_ok-pool.ensures.tree)
+
+pub returns-in-Err-clause-starters_back : goal.returns-in-Err-clause-starters_back
+returns-in-Err-clause-starters_back g c =
+    let spawner = g.P.Spawner.seen c.args.spawner.now in
+    c.give_seeds.ensures.starters_back 0 spawner
+    (subst (λ (k : ℕ). HasStarters k spawner (g.P.Spawner.seen c.add_seeds.new.spawner)) (none_more (length c.add_seeds.new.desks.items)) c.in-Err.ensures.starters_out)
