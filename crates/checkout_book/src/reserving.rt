@@ -60,12 +60,7 @@ fn place<B: Blob, L: Leaf>(mut slots: Vec<Slot<B, L>>, pool: Vec<Card<B, L>>) ->
 fn flags_of<B: Blob, L: Leaf>(alloc: Global, slots: &[Slot<B, L>]) -> Result<Vec<bool>, AllocError>
     ensures { IfOk result (λ v. v.items ≡ map (λ s. waits s) slots.now) }
 {
-    let count = slots.len();
-    let mut flags = Vec::with_capacity(alloc, count)?;
-    for at in 0..count {
-        flags.push(is_waiting_card(&slots[at]))?;
-    }
-    Ok(flags)
+    slots.iter().map(is_waiting_card).collect(alloc)
 }
 
 /// A book, with its passes in order of number: first those of the workers, then those of the desks.
