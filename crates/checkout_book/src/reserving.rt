@@ -118,11 +118,11 @@ fn begin<B: Blob, L: Leaf>(
 }
 
 /// Each desk's pass with its cards.
-fn deal<B: Blob, L: Leaf>(
+fn deal<P: Drop, D: Drop>(
     alloc: Global,
-    mut passes: Vec<Pass<B, L>>,
-    mut desks: Vec<Vec<Card<B, L>>>,
-) -> Result<(Vec<Pass<B, L>>, Vec<DeskPass<B, L>>), AllocError>
+    mut passes: Vec<P>,
+    mut desks: Vec<D>,
+) -> Result<(Vec<P>, Vec<(P, D)>), AllocError>
     requires { length desks.items ≤ length passes.items }
     ensures count { IfOk result (λ r. length r.0.items + length desks.items ≡ length passes.items) }
     ensures passes { IfOk result (λ r. r.0.items ++ map (λ x. x.0) r.1.items ≡ passes.items) }
