@@ -1,5 +1,5 @@
 // A book at its beginning and at its end.
-ghost use Rattle.std.specs.Prelude.{◌≡◌, ◌≤◌, ◌<◌, ◌+◌, ◌++◌, ◌^◌, ℕ, Some, length, slice_get, map, IfOk};
+ghost use Rattle.std.specs.Prelude.{◌≡◌, ◌≤◌, ◌<◌, ◌+◌, ◌*◌, ◌++◌, ◌^◌, [], ℕ, Some, length, slice_get, map, IfOk, vec_capacity};
 ghost use Rattle.convert_plan.specs.declared.card.Card.{Card};
 ghost use Rattle.checkout_core.specs.States.{AreBelow};
 ghost use Rattle.checkout_book.specs.declared.plan.Plan.{Plan};
@@ -63,6 +63,37 @@ fn flags_of<B: Blob, L: Leaf>(alloc: Global, slots: &[Slot<B, L>]) -> Result<Vec
     slots.iter().map(is_waiting_card).collect(alloc)
 }
 
+/// Slots for so many paths, with the pool's cards in them, and which of these wait.
+fn lay<B: Blob, L: Leaf>(
+    alloc: Global,
+    paths: usize,
+    pool: Vec<Card<B, L>>,
+) -> Result<(Vec<Slot<B, L>>, Waiting), AllocError>
+    requires few { paths < 2 ^ 32 }
+    requires there { (k : ℕ) (c : Card B L) → slice_get pool.items k ≡ Some c → c.path < paths }
+    ensures slots { IfOk result (λ r. r.0.items ≡ placed (aways paths) pool.items) }
+    ensures waiting { IfOk result (λ r. r.1 ≡ map (λ s. waits s) r.0.items) }
+{
+    let slots = all_away(alloc, paths)?;
+    let slots = place(slots, pool);
+    let flags = flags_of(alloc, slots.as_slice())?;
+    let waiting = Waiting::reserve(alloc, flags)?;
+    Ok((slots, waiting))
+}
+
+/// Room for ten events of each path, and for its parts.
+fn rooms<E: Drop, P: Drop>(alloc: Global, paths: usize) -> Result<(Vec<E>, Vec<P>), AllocError>
+    requires { paths < 2 ^ 32 }
+    ensures no_event { IfOk result (λ r. r.0.items ≡ []) }
+    ensures events { IfOk result (λ r. 10 * paths ≤ vec_capacity r.0) }
+    ensures no_part { IfOk result (λ r. r.1.items ≡ []) }
+    ensures parts { IfOk result (λ r. paths ≤ vec_capacity r.1) }
+{
+    let events = Vec::with_capacity(alloc, 10 * paths)?;
+    let parts = Vec::with_capacity(alloc, paths)?;
+    Ok((events, parts))
+}
+
 /// A book, with its passes in order of number: first those of the workers, then those of the desks.
 fn begin<B: Blob, L: Leaf>(
     alloc: Global,
@@ -95,13 +126,11 @@ fn begin<B: Blob, L: Leaf>(
     let kept = Snapshot::of(desks);
     let drivers = desks.len() as u32;
     let paths = starts.len();
-    let events = Vec::with_capacity(alloc, 10 * paths)?;
-    let parts = Vec::with_capacity(alloc, paths)?;
-    let slots = all_away(alloc, paths)?;
+    let room = rooms(alloc, paths)?;
+    let laid = lay(alloc, paths, pool)?;
     let core = State::start(alloc, starts, workers, drivers)?;
-    let slots = place(slots, pool);
-    let flags = flags_of(alloc, slots.as_slice())?;
-    let waiting = Waiting::reserve(alloc, flags)?;
+    let (events, parts) = room;
+    let (slots, waiting) = laid;
     let value = Rack {
         core,
         events,

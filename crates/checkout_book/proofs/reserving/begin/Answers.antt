@@ -1,12 +1,10 @@
 use Rattle.std.proofs.Common.{◌≡◌, ◌+◌, ℕ, length, refl, ap, ◌∙◌, subst, arith}
-use Rattle.std.specs.Prelude.{slice_get}
 use Rattle.turn_lock.specs.Seats.{AreSeats}
 use Rattle.checkout_core.specs.States.{start}
 use Rattle.checkout_book.specs.declared.plan.Plan.{Plan}
 use Rattle.checkout_book.specs.Sights.{sight}
 use Rattle.checkout_book.specs.Reserving.{aways, placed}
 use Rattle.checkout_book.proofs.Lists.{past_none}
-use Rattle.checkout_book.proofs.Flags.{flags_length}
 use Rattle.checkout_book.proofs.Finishing.{aways_length, placed_length, begins_at, idle_new, fresh_seats, ok_three}
 use Rattle.checkout_book.proofs.reserving.begin.Goals as goal
 
@@ -21,34 +19,16 @@ start-requires-clause-below g c p d required at =
     let lt = c.requires.below p d required at in
     omega (arith, lt, n)
 
-pub place-slots-requires : goal.place-slots-requires
-place-slots-requires g c k card at =
-    let lt = past_none c.args.starts.items card.path _ (c.requires.pool.there k card at) in
-    omega (
-      arith,
-      lt,
-      ap length c.in_ok-slots.ensures,
-      aways_length g.row.B.Denot g.row.L.Denot c.len-paths.result,
-      c.len-paths.ensures,
-      c.args.starts.ok.0,
-    )
+pub rooms-requires : goal.rooms-requires
+rooms-requires g c = omega (arith, c.len-paths.ensures, c.args.starts.ok.0, c.requires.few_paths)
 
-pub reserve-requires : goal.reserve-requires
-reserve-requires g c =
-    let n : c.len-paths.result ≡ length c.args.starts.items = omega (arith, c.len-paths.ensures, c.args.starts.ok.0) in
-    let len : length c.place-slots.result.items ≡ c.len-paths.result = ap length c.place-slots.ensures ∙
-    (placed_length c.in_ok-slots.slots.items c.args.pool.items ∙ (ap length c.in_ok-slots.ensures ∙ aways_length
-    g.row.B.Denot g.row.L.Denot c.len-paths.result)) in
-    omega (
-      arith,
-      ap length c.in_ok-flags.ensures,
-      flags_length c.as_slice.result.now,
-      ap length
-          c.as_slice.ensures.value,
-      len,
-      n,
-      c.requires.few_paths,
-    )
+pub lay-requires-clause-few : goal.lay-requires-clause-few
+lay-requires-clause-few g c = omega (arith, c.len-paths.ensures, c.args.starts.ok.0, c.requires.few_paths)
+
+pub lay-requires-clause-there : goal.lay-requires-clause-there
+lay-requires-clause-there g c k card at =
+    let lt = past_none c.args.starts.items card.path _ (c.requires.pool.there k card at) in
+    omega (arith, lt, c.len-paths.ensures, c.args.starts.ok.0)
 
 pub make-requires-clause-fits : goal.make-requires-clause-fits
 make-requires-clause-fits g c =
@@ -70,13 +50,11 @@ make-requires-clause-fits g c =
       c.requires.few_desks,
     ) in
     let n : c.len-paths.result ≡ length c.args.starts.items = omega (arith, c.len-paths.ensures, c.args.starts.ok.0) in
-    let laid : c.place-slots.result.items ≡ placed (aways (length c.args.starts.items)) c.args.pool.items =
-    c.place-slots.ensures ∙ ap (λ l. placed l c.args.pool.items) (c.in_ok-slots.ensures ∙ ap aways n) in
-    let len : length c.place-slots.result.items ≡ length c.args.starts.items = ap length laid ∙ (placed_length (aways
+    let laid : c.in_ok-laid.laid.0.items ≡ placed (aways (length c.args.starts.items)) c.args.pool.items =
+    c.in_ok-laid.ensures.slots ∙ ap (λ m. placed (aways m) c.args.pool.items) n in
+    let len : length c.in_ok-laid.laid.0.items ≡ length c.args.starts.items = ap length laid ∙ (placed_length (aways
     (length c.args.starts.items)) c.args.pool.items ∙ aways_length g.row.B.Denot g.row.L.Denot (length
-    c.args.starts.items)) in
-    let flags = c.in_ok-waiting.ensures ∙ (c.in_ok-flags.ensures ∙ ap (λ l. Rattle.std.specs.Prelude.map (λ x.
-    Rattle.checkout_book.specs.Shelves.waits x) l) c.as_slice.ensures.value) in (
+    c.args.starts.items)) in (
       refl,
       begins_at (sight g.B.Blob.told g.B.Blob.seen g.L.Leaf.seen) d _ _ _ _ _ _ (λ i. record {
         pool = p i;
@@ -86,9 +64,10 @@ make-requires-clause-fits g c =
         workers = c.args.workers;
         drivers = dr i;
       }) c.requires.below c.requires.pool c.requires.new
-          (omega (arith, c.in_ok-events.ensures.capacity, n)) (c.in_ok-core.ensures ∙ ap (λ m. start
-          c.args.starts.items c.args.workers m) dr) c.in_ok-events.ensures.items laid flags,
-      (c.in_ok-parts.ensures.items, omega (arith, c.in_ok-parts.ensures.capacity, len, n)),
+          (omega (arith, c.in_ok-room.ensures.events, n)) (c.in_ok-core.ensures ∙ ap (λ m. start
+          c.args.starts.items c.args.workers m) dr) c.in_ok-room.ensures.no_event laid
+          c.in_ok-laid.ensures.waiting,
+      (c.in_ok-room.ensures.no_part, omega (arith, c.in_ok-room.ensures.parts, len, n)),
     )
 
 pub returns-clause-passes : goal.returns-clause-passes
