@@ -1,5 +1,6 @@
 // What a book leaves.
-ghost use Rattle.std.specs.Prelude.{◌≡◌, ◌++◌, ◌∷◌, [], true, Option, Some, None, IfSome, IfNone, length, map};
+ghost use Rattle.std.specs.Prelude.{◌≡◌, ◌≤◌, ◌++◌, ◌∷◌, [], true, Option, Some, None, IfSome, IfNone, length, map};
+ghost use Rattle.std.specs.Prelude.{vec_capacity};
 ghost use Rattle.checkout_core.specs.States.{verdict_at};
 ghost use Rattle.checkout_core.specs.Actors.{is_step};
 ghost use Rattle.checkout_core.specs.Hands.{held_at};
@@ -87,18 +88,23 @@ impl<B: Blob, L: Leaf> Ended<B, L> {
     {
         laws::a_history_keeps_its_size();
         let Ended { shelf } = self;
-        let Rack {
-            slots,
-            mut parts,
-            ..
-        } = shelf;
-        for slot in slots {
-            match slot {
-                Slot::Ended(blob, leaf) => parts.push_reserved((blob, leaf)),
-                Slot::Waits(card) => drop(card),
-                Slot::Away => {}
-            }
-        }
-        parts
+        let Rack { slots, parts, .. } = shelf;
+        ended_parts(slots, parts)
     }
+}
+
+/// The blob and the leaf of each slot that has them, in the room that was taken for them.
+fn ended_parts<B: Blob, L: Leaf>(slots: Vec<Slot<B, L>>, mut parts: Vec<(B, L)>) -> Vec<(B, L)>
+    requires empty { parts.items ≡ [] }
+    requires room { length slots.items ≤ vec_capacity parts }
+    ensures { result.items ≡ parts_in slots.items }
+{
+    for slot in slots {
+        match slot {
+            Slot::Ended(blob, leaf) => parts.push_reserved((blob, leaf)),
+            Slot::Waits(card) => drop(card),
+            Slot::Away => {}
+        }
+    }
+    parts
 }
