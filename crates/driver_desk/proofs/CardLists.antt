@@ -120,23 +120,8 @@ texts_push : (cs : List CardSeen) (c : CardSeen) → card_texts (cs ++ c ∷ [])
 texts_push [] c = refl
 texts_push (x ∷ xs) c = ap (λ (z : List (List ℕ)). x.text ∷ z) (texts_push xs c)
 
-paths_push : (cs : List CardSeen) (c : CardSeen) → card_paths (cs ++ c ∷ []) ≡ card_paths cs ++ c.path ∷ []
-paths_push [] c = refl
-paths_push (x ∷ xs) c = ap (λ (z : List ℕ). x.path ∷ z) (paths_push xs c)
-
 pub texts_more : {A : Type 0} (f : A → CardSeen) (xs : List A) (i : ℕ) (x : A) → i < length xs → x ≡ get_or xs i x → card_texts (map f (take (i + 1) xs)) ≡ card_texts (map f (take i xs)) ++ (f x).text ∷ []
 texts_more f xs i x lt e = ap (λ (z : List _). card_texts (map f z)) (take_item xs i x lt e) ∙ (ap card_texts (map-append f (take i xs) (x ∷ [])) ∙ texts_push (map f (take i xs)) (f x))
-
-pub paths_more : {A : Type 0} (f : A → CardSeen) (xs : List A) (i : ℕ) (x : A) → i < length xs → x ≡ get_or xs i x → card_paths (map f (take (i + 1) xs)) ≡ card_paths (map f (take i xs)) ++ (f x).path ∷ []
-paths_more f xs i x lt e = ap (λ (z : List _). card_paths (map f z)) (take_item xs i x lt e) ∙ (ap card_paths (map-append f (take i xs) (x ∷ [])) ∙ paths_push (map f (take i xs)) (f x))
-
-nones_suc : {A : Type 0} (ns : List ℕ) (i : ℕ) → i < length ns → map {B = Option A} (λ n. None) (take (suc i) ns) ≡ map {B = Option A} (λ n. None) (take i ns) ++ None ∷ []
-nones_suc [] i lt = absurd (omega arith)
-nones_suc (y ∷ ys) zero lt = refl
-nones_suc {A} (y ∷ ys) (suc i) lt = ap (λ (z : List (Option A)). None ∷ z) (nones_suc {A = A} ys i (omega arith))
-
-pub nones_more : {A : Type 0} (ns : List ℕ) (i : ℕ) → i < length ns → map {B = Option A} (λ n. None) (take (i + 1) ns) ≡ map {B = Option A} (λ n. None) (take i ns) ++ None ∷ []
-nones_more {A} ns i lt = ap (λ (k : ℕ). map {B = Option A} (λ n. None) (take k ns)) (add-one i) ∙ nones_suc {A = A} ns i lt
 
 pub map_nones : {A : Type 0} (f : A → LateSeen) (ns : List ℕ) → map (λ (o : Option A). option_map f o) (map {B = Option A} (λ n. None) ns) ≡ map {B = Option LateSeen} (λ n. None) ns
 map_nones f [] = refl

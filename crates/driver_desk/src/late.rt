@@ -3,7 +3,7 @@ ghost use Rattle.std.specs.Prelude.{map, ◌≡◌, ◌≤◌, ◌<◌, ◌^◌,
 ghost use Rattle.std.specs.Prelude.{MatchOption, slice_get, length, true, false, IfOk};
 ghost use Rattle.checkout_core.specs.Talks.{contains};
 ghost use Rattle.std.specs.Option.{option_map};
-ghost use Rattle.delay_table.specs.Table.{IsRising, with_place, is_pending};
+ghost use Rattle.delay_table.specs.Table.{IsRising, idle_table, with_place, is_pending};
 ghost use Rattle.delay_table.specs.declared.place.Place.TheVariants.{Idle, Delayed, Done};
 ghost use Rattle.filter_proto.specs.Wires.{SessionSeen};
 ghost use Rattle.driver_line.specs.Conversations.{Listing};
@@ -71,28 +71,45 @@ fn texts_of<B: Blob, L: Leaf>(alloc: Global, cards: &[Card<B, L>]) -> Result<Vec
 
 /// The numbers of the cards' paths.
 fn numbers_of<B: Blob, L: Leaf>(alloc: Global, cards: &[Card<B, L>]) -> Result<Vec<u32>, AllocError>
-    ensures { IfOk result (λ v. v.items ≡ card_paths (map (λ c. card_seen B.told B.seen L.seen c) cards.now)) }
+    ensures { IfOk result (λ v. v.items ≡ map (λ c. c.path) cards.now) }
 {
-    let mut numbers = Vec::with_capacity(alloc, cards.len())?;
-    for card in cards {
-        numbers.push(card.path)?;
-    }
-    Ok(numbers)
+    cards.iter().map(|card| card.path).collect(alloc)
 }
 
-/// A slot for each number, with no card.
-fn slots_of<B: Blob, L: Leaf>(
-    alloc: Global,
-    numbers: &[u32],
-) -> Result<Vec<Option<Work<B, L>>>, AllocError>
+/// A slot for each number, with nothing in it.
+fn slots_of<W: Drop>(alloc: Global, numbers: &[u32]) -> Result<Vec<Option<W>>, AllocError>
     ensures { IfOk result (λ v. v.items ≡ map (λ n. None) numbers.now) }
 {
-    let mut slots = Vec::with_capacity(alloc, numbers.len())?;
-    for number in numbers {
-        let _ = number;
-        slots.push(None)?;
-    }
-    Ok(slots)
+    numbers.iter().map(|_| None).collect(alloc)
+}
+
+/// What a table of late cards is made of.
+#[derive(Drop)]
+struct Parts<W> {
+    table: DelayTable,
+    numbers: Vec<u32>,
+    slots: Vec<Option<W>>,
+}
+
+/// The table of these texts, and a slot for each of the numbers, with nothing in it.
+fn parts_of<W: Drop>(
+    alloc: Global,
+    texts: Vec<Bytes>,
+    numbers: Vec<u32>,
+) -> Result<Parts<W>, AllocError>
+    requires rising { IsRising texts.items }
+    requires few { length texts.items < 2 ^ 32 }
+    ensures table { IfOk result (λ p. p.table ≡ idle_table texts.items) }
+    ensures numbers { IfOk result (λ p. p.numbers.items ≡ numbers.items) }
+    ensures slots { IfOk result (λ p. p.slots.items ≡ map (λ n. None) numbers.items) }
+{
+    let slots = slots_of(alloc, &numbers)?;
+    let table = DelayTable::reserve(alloc, texts)?;
+    Ok(Parts {
+        table,
+        numbers,
+        slots,
+    })
 }
 
 impl<B: Blob, L: Leaf> Late<B, L> {
@@ -105,8 +122,12 @@ impl<B: Blob, L: Leaf> Late<B, L> {
     {
         let texts = texts_of(alloc, cards)?;
         let numbers = numbers_of(alloc, cards)?;
-        let slots = slots_of(alloc, &numbers)?;
-        let table = DelayTable::reserve(alloc, texts)?;
+        let parts = parts_of(alloc, texts, numbers)?;
+        let Parts {
+            table,
+            numbers,
+            slots,
+        } = parts;
         Ok(Late {
             table,
             numbers,
