@@ -230,8 +230,8 @@ impl<S: Starter, B: Blob, L: Leaf> Desk<S, B, L> {
           cards = map (λ c. card_seen B.told B.seen L.seen c) cards.items;
         }) }
     {
-        let late = Late::make(alloc, cards.as_slice())?;
         let talk = Vec::with_capacity(alloc, 7 * cards.len() + 4)?;
+        let late = Late::make(alloc, cards.as_slice())?;
         Ok(Desk {
             alloc,
             seat: Seat {
