@@ -1,43 +1,43 @@
 //! Drivers in memory: their links, their starts, and what is kept of both.
 ghost use Rattle.std.specs.Prelude.{◌≡◌, ◌≤◌, ◌<◌, ◌+◌, length};
 
+use crate::table::is_right;
 use byte_path::{Bytes, Items};
 use edge_kit::{
-    DriverScript, DriverSeen, Failed, Gate, Link, MemorySpawner, NoGate, Point, SendFault,
-    SessionScript, Spawner, StartOutcome, Starter,
+    DriverScript, DriverSeen, Gate, Link, MemorySpawner, NoGate, Point, SendFault, SessionScript,
+    Spawner, StartOutcome, Starter,
 };
 use std::alloc::{AllocError, Global};
 use std::test::Fail;
 use std::vec::Vec;
 
-/// A call on a link, and what it answers.
-#[derive(Clone, Copy)]
-enum Call {
-    Send(&'static [u8], Result<(), SendFault>),
-    /// A read into four bytes, and the bytes that it gives.
-    Read(Result<&'static [u8], Failed>),
-    ShutInput,
-    WaitEnd,
-}
-
-/// Whether a call answers as it should.
-fn call_answers<L: Link>(link: &mut L, call: Call) -> bool {
+/// Whether a call answers as it should: `s=` a send of these bytes, `s!` one that fails, `r=` a
+/// read into four bytes that gives these, `r!` one that fails, `i` the input is shut, `w` the end
+/// is waited for.
+fn call_answers<L: Link>(link: &mut L, call: &[u8]) -> bool {
     match call {
-        Call::Send(piece, wanted) => link.send(piece) == wanted,
-        Call::Read(wanted) => {
-            let mut into = [0; 4];
-            match (link.read(&mut into), wanted) {
-                (Ok(count), Ok(bytes)) => into.as_slice().split_at(count).0 == bytes,
-                (Err(_), Err(_)) => true,
-                _ => false,
-            }
-        }
-        Call::ShutInput => link.shut_input().is_ok(),
-        Call::WaitEnd => link.wait_end().is_ok(),
+        [b's', sign, piece @ ..] => match link.send(piece) {
+            Ok(()) => *sign == b'=',
+            Err(fault) => *sign == b'!' && fault == SendFault::Failed,
+        },
+        [b'r', sign, wanted @ ..] => read_answers(link, *sign == b'!', wanted),
+        [b'i'] => link.shut_input().is_ok(),
+        [b'w'] => link.wait_end().is_ok(),
+        _ => false,
     }
 }
 
-/// A session's script, as a table holds it: the output, the piece, and the send and the read that fail.
+/// Whether a read into four bytes fails, or gives these.
+fn read_answers<L: Link>(link: &mut L, fails: bool, wanted: &[u8]) -> bool {
+    let mut into = [0; 4];
+    match link.read(&mut into) {
+        Ok(count) => !fails && into.as_slice().split_at(count).0 == wanted,
+        Err(_) => fails,
+    }
+}
+
+/// A session's script, as a table holds it: the output, the piece, and the send and the read that
+/// fail.
 type Script = (&'static [u8], u32, Option<u32>, Option<u32>);
 
 /// A start's script, or `None` if it is to fail.
@@ -90,14 +90,15 @@ fn spell(alloc: Global, driver: &DriverSeen) -> Result<Vec<u8>, AllocError> {
     Ok(text)
 }
 
-/// Makes these calls in one session of the driver `d`, and returns whether each answers as it should.
-fn talk<P: Spawner>(spawner: &mut P, calls: &[Call]) -> Result<bool, SendFault> {
+/// Makes these calls in one session of the driver `d`, and returns whether each answers as it
+/// should.
+fn talk<P: Spawner>(spawner: &mut P, calls: &[&[u8]]) -> Result<bool, SendFault> {
     let mut starter = spawner.starter(b"d")?;
     let answer = match starter.start() {
         Ok(mut link) => {
             let mut well = true;
             for call in calls {
-                well = call_answers(&mut link, *call) && well;
+                well = call_answers(&mut link, call) && well;
             }
             starter.end(link);
             Ok(well)
@@ -109,100 +110,65 @@ fn talk<P: Spawner>(spawner: &mut P, calls: &[Call]) -> Result<bool, SendFault> 
 }
 
 /// A session's script, the calls on its link, and what is kept of it.
-const TALKS: [(Script, &[Call], &[u8]); 7] = [
+const TALKS: [(Script, &[&[u8]], &[u8]); 7] = [
     (
         (b"abcdefg", 3, None, None),
         &[
-            Call::Read(Ok(b"abc")),
-            Call::Send(b"xy", Ok(())),
-            Call::Read(Ok(b"def")),
-            Call::Read(Ok(b"g")),
-            Call::Read(Ok(b"")),
-            Call::Send(b"z", Ok(())),
-            Call::ShutInput,
-            Call::WaitEnd,
+            b"r=abc", b"s=xy", b"r=def", b"r=g", b"r=", b"s=z", b"i", b"w",
         ],
         b"d xyz>abcdefg 01.",
     ),
     // more than the buffer holds
     (
         (b"abcdef", 9, None, None),
-        &[
-            Call::Read(Ok(b"abcd")),
-            Call::ShutInput,
-            Call::Read(Ok(b"ef")),
-        ],
+        &[b"r=abcd", b"i", b"r=ef"],
         b"d >abcdef 00",
     ),
     // a piece of 0 counts as 1, and a wait before the input is closed shuts nothing
     (
         (b"abc", 0, None, None),
-        &[
-            Call::Read(Ok(b"a")),
-            Call::Read(Ok(b"b")),
-            Call::WaitEnd,
-            Call::ShutInput,
-        ],
+        &[b"r=a", b"r=b", b"w", b"i"],
         b"d >ab 00",
     ),
     (
         (b"", 5, None, None),
-        &[
-            Call::Read(Ok(b"")),
-            Call::Read(Ok(b"")),
-            Call::ShutInput,
-            Call::WaitEnd,
-            Call::WaitEnd,
-        ],
+        &[b"r=", b"r=", b"i", b"w", b"w"],
         b"d > 02.",
     ),
     (
         (b"ab", 1, Some(1), None),
-        &[
-            Call::Send(b"one", Ok(())),
-            Call::Read(Ok(b"a")),
-            Call::Send(b"two", Err(SendFault::Failed)),
-            Call::Send(b"three", Ok(())),
-            Call::Read(Ok(b"b")),
-        ],
+        &[b"s=one", b"r=a", b"s!two", b"s=three", b"r=b"],
         b"d onethree>ab 10",
     ),
     (
         (b"abc", 1, None, Some(2)),
-        &[
-            Call::Read(Ok(b"a")),
-            Call::Read(Ok(b"b")),
-            Call::Send(b"s", Ok(())),
-            Call::Read(Err(Failed)),
-            Call::Read(Ok(b"c")),
-            Call::Read(Ok(b"")),
-        ],
+        &[b"r=a", b"r=b", b"s=s", b"r!", b"r=c", b"r="],
         b"d s>abc 11",
     ),
     (
         (b"abc", 1, Some(0), Some(0)),
-        &[
-            Call::Send(b"s", Err(SendFault::Failed)),
-            Call::Read(Err(Failed)),
-            Call::ShutInput,
-            Call::WaitEnd,
-        ],
+        &[b"s!s", b"r!", b"i", b"w"],
         b"d > 20.",
     ),
 ];
 
+/// Whether the calls on a session of this script answer so, and this is kept of it.
+fn is_kept(alloc: Global, script: Script, calls: &[&[u8]], kept: &[u8]) -> Result<bool, SendFault> {
+    let mut scripts = Vec::new(alloc);
+    scripts.push(driver_of(alloc, b"d", &[Some(script)])?)?;
+    let mut spawner = MemorySpawner::new(alloc, scripts);
+    let well = talk(&mut spawner, calls)?;
+    match spawner.drivers() {
+        [driver] => Ok(well && spell(alloc, driver)?.as_slice() == kept),
+        _ => Ok(false),
+    }
+}
+
 #[test]
 fn a_link_gives_its_output_in_pieces_and_fails_at_a_set_call(rt: HostRuntime) -> Result<(), Fail> {
-    let alloc = rt.alloc();
     for (script, calls, kept) in TALKS {
-        let mut scripts = Vec::new(alloc);
-        scripts.push(driver_of(alloc, b"d", &[Some(script)])?)?;
-        let mut spawner = MemorySpawner::new(alloc, scripts);
-        assert!(rt; talk(&mut spawner, calls) == Ok(true), "at {script:?}");
-        for driver in spawner.drivers() {
-            assert_eq!(rt; spell(alloc, driver)?.as_slice(), kept);
-        }
-        assert!(rt; spawner.drivers().len() == 1);
+        let is_so = is_kept(rt.alloc(), script, calls, kept) == Ok(true);
+        is_right(&rt, is_so, kept);
     }
     Ok(())
 }
@@ -215,7 +181,7 @@ fn start_gives<S: Starter>(starter: &mut S, wanted: Option<&'static [u8]>) -> bo
 {
     match starter.start() {
         Ok(mut link) => {
-            let well = call_answers(&mut link, Call::Read(Ok(wanted.unwrap_or(b"!"))));
+            let well = read_answers(&mut link, false, wanted.unwrap_or(b"!"));
             starter.end(link);
             well
         }
@@ -253,42 +219,50 @@ fn spawner_of_two(alloc: Global) -> Result<MemorySpawner, AllocError> {
     Ok(MemorySpawner::new(alloc, scripts))
 }
 
-/// A command, what its three starts give, and what is kept of them.
-const STARTS: [(&[u8], [Option<&'static [u8]>; 3], &[u8]); 4] = [
-    (
-        b"a",
-        [Some(b"one"), None, Some(b"two")],
-        b"a >one 00 ! >two 00",
-    ),
-    (b"b", [Some(b"six"), None, None], b"b >six 00 ! !"),
+/// A command, and what its three starts give.
+const STARTS: [(&[u8], [Option<&'static [u8]>; 3]); 4] = [
+    (b"a", [Some(b"one"), None, Some(b"two")]),
+    (b"b", [Some(b"six"), None, None]),
     // a command without a script
-    (b"c", [None, None, None], b"c ! ! !"),
+    (b"c", [None, None, None]),
     // each starter has a copy of its own
-    (
-        b"a",
-        [Some(b"one"), None, Some(b"two")],
-        b"a >one 00 ! >two 00",
-    ),
+    (b"a", [Some(b"one"), None, Some(b"two")]),
 ];
+
+/// What is kept of them.
+const KEPT: &[&[u8]] = &[
+    b"a >one 00 ! >two 00",
+    b"b >six 00 ! !",
+    b"c ! ! !",
+    b"a >one 00 ! >two 00",
+];
+
+/// Whether this is kept of the drivers, in order.
+fn are_kept(alloc: Global, drivers: &[DriverSeen], kept: &[&[u8]]) -> Result<bool, AllocError> {
+    if drivers.len() != kept.len() {
+        return Ok(false);
+    }
+    for (driver, wanted) in drivers.iter().zip(kept) {
+        if spell(alloc, driver)?.as_slice() != *wanted {
+            return Ok(false);
+        }
+    }
+    Ok(true)
+}
 
 #[test]
 fn starts_are_kept_in_order_for_each_driver(rt: HostRuntime) -> Result<(), Fail> {
     let alloc = rt.alloc();
     let mut spawner = spawner_of_two(alloc)?;
-    for (command, wanted, _) in STARTS {
-        assert!(rt;
-            three_starts(&mut spawner, command, wanted)?,
-            "at {command:?}"
-        );
+    for (command, wanted) in STARTS {
+        is_right(&rt, three_starts(&mut spawner, command, wanted)?, command);
     }
-    assert!(rt; spawner.drivers().len() == STARTS.len());
-    for ((_, _, kept), driver) in STARTS.into_iter().zip(spawner.drivers()) {
-        assert_eq!(rt; spell(alloc, driver)?.as_slice(), kept);
-    }
+    assert!(rt; are_kept(alloc, spawner.drivers(), KEPT)?);
     Ok(())
 }
 
-/// Two sessions of `a` at once, of which the second ends first, and a starter of `b` that is given back first.
+/// Two sessions of `a` at once, of which the second ends first, and a starter of `b` that is given
+/// back first.
 fn two_starters<P: Spawner>(spawner: &mut P) -> Result<(), SendFault> {
     let mut starter = spawner.starter(b"a")?;
     let other = spawner.starter(b"b")?;
@@ -310,11 +284,7 @@ fn sessions_are_kept_in_the_order_of_their_ends(rt: HostRuntime) -> Result<(), F
     let alloc = rt.alloc();
     let mut spawner = spawner_of_two(alloc)?;
     assert!(rt; two_starters(&mut spawner).is_ok());
-    let kept: [&[u8]; 2] = [b"b", b"a ! > 00 hello> 00"];
-    assert!(rt; spawner.drivers().len() == 2);
-    for (wanted, driver) in kept.into_iter().zip(spawner.drivers()) {
-        assert_eq!(rt; spell(alloc, driver)?.as_slice(), wanted);
-    }
+    assert!(rt; are_kept(alloc, spawner.drivers(), &[b"b", b"a ! > 00 hello> 00"])?);
     Ok(())
 }
 

@@ -1,20 +1,17 @@
 //! Stored objects.
+use crate::table::is_right;
 use edge_kit::{MemoryRepo, Repo, RepoFail};
 use object_dir::{ObjectFault, blob_name, object_path, read_blob, spell_blob};
 use std::alloc::{AllocError, Global};
 use std::test::Fail;
 
 /// The SHA-1 of `blob 3`, NUL, `hi\n`.
-const HI: [u8; 20] = [
-    0x45, 0xB9, 0x83, 0xBE, 0x36, 0xB7, 0x3C, 0x07, 0x88, 0xDC, 0x9C, 0xBC, 0xB7, 0x6C, 0xBB, 0x80,
-    0xFC, 0x7B, 0xB0, 0x57,
-];
+const HI: [u8; 20] =
+    *b"\x45\xB9\x83\xBE\x36\xB7\x3C\x07\x88\xDC\x9C\xBC\xB7\x6C\xBB\x80\xFC\x7B\xB0\x57";
 
 /// The SHA-1 of `blob 3`, NUL, `ho\n`.
-const HO: [u8; 20] = [
-    0xAB, 0x4A, 0x98, 0x19, 0x0C, 0xF7, 0x76, 0xB4, 0x3C, 0xB0, 0xFE, 0x57, 0xCE, 0xF2, 0x31, 0xFB,
-    0x93, 0xFD, 0x07, 0xE6,
-];
+const HO: [u8; 20] =
+    *b"\xAB\x4A\x98\x19\x0C\xF7\x76\xB4\x3C\xB0\xFE\x57\xCE\xF2\x31\xFB\x93\xFD\x07\xE6";
 
 /// What the object `HI` gives in a repository with these objects and failures.
 fn read_hi(
@@ -36,62 +33,76 @@ fn read_stored(alloc: Global, stored: Vec<u8>) -> Result<Result<Vec<u8>, ObjectF
     read_hi(alloc, objects, Vec::new(alloc))
 }
 
+/// The letter of what an object gives.
+fn letter_of(answer: Result<Vec<u8>, ObjectFault>) -> u8 {
+    match answer {
+        Ok(content) if content.as_slice() == b"hi\n".as_slice() => b'o',
+        Err(ObjectFault::WrongName(name)) if name == HO => b'n',
+        Err(ObjectFault::Size) => b's',
+        Err(ObjectFault::Header) => b'h',
+        Err(ObjectFault::Absent) => b'a',
+        Err(ObjectFault::ReadFailed) => b'r',
+        Err(ObjectFault::TooLarge) => b't',
+        _ => b'?',
+    }
+}
+
+/// A letter, and stored bytes: `o` they are right, `n` the name is `HO`, `s` a wrong size, `h` a
+/// wrong header.
+const STORED: &[&[u8]] = &[
+    b"oblob 3\0hi\n",
+    b"nblob 3\0ho\n",
+    b"sblob 4\0hi\n",
+    b"sblob 99999999999999999999999999\0hi\n",
+    b"hblob 03\0hi\n",
+    b"hblob \0hi\n",
+    b"hblob 3 hi\n",
+    b"hBlob 3\0hi\n",
+    b"htree 3\0hi\n",
+    b"h",
+    // the same object as zlib compresses it
+    b"h\x78\x9c\x4b\xca\xc9\x4f\x52\x30\x66\xc8\xc8\xe4\x02\x00\x11\xa3\x02\xce",
+];
+
+fn is_so(alloc: Global, row: &[u8]) -> Result<bool, AllocError> {
+    let [want, stored @ ..] = row else {
+        return Ok(false);
+    };
+    let answer = read_stored(alloc, Vec::from_slice(alloc, stored)?)?;
+    Ok(letter_of(answer) == *want)
+}
+
 #[test]
 fn stored_bytes_give_their_content_or_first_fault(rt: HostRuntime) -> Result<(), Fail> {
-    let alloc = rt.alloc();
-    let content = Vec::from_slice(alloc, b"hi\n")?;
-    assert_eq!(rt;
-        read_stored(alloc, Vec::from_slice(alloc, b"blob 3\0hi\n")?)?,
-        Ok(content)
-    );
-    let table: [(&[u8], ObjectFault); 10] = [
-        (b"blob 3\0ho\n", ObjectFault::WrongName(HO)),
-        (b"blob 4\0hi\n", ObjectFault::Size),
-        (b"blob 99999999999999999999999999\0hi\n", ObjectFault::Size),
-        (b"blob 03\0hi\n", ObjectFault::Header),
-        (b"blob \0hi\n", ObjectFault::Header),
-        (b"blob 3 hi\n", ObjectFault::Header),
-        (b"Blob 3\0hi\n", ObjectFault::Header),
-        (b"tree 3\0hi\n", ObjectFault::Header),
-        (b"", ObjectFault::Header),
-        // the same object as zlib compresses it
-        (
-            b"\x78\x9c\x4b\xca\xc9\x4f\x52\x30\x66\xc8\xc8\xe4\x02\x00\x11\xa3\x02\xce",
-            ObjectFault::Header,
-        ),
-    ];
-    for (stored, fault) in table {
-        let answer = read_stored(alloc, Vec::from_slice(alloc, stored)?)?;
-        assert!(rt; answer == Err(fault), "at {stored:?}");
+    for row in STORED {
+        is_right(&rt, is_so(rt.alloc(), row)?, row);
     }
     Ok(())
+}
+
+/// The letter of an object of so many NULs.
+fn letter_of_nuls(alloc: Global, count: usize) -> Result<u8, AllocError> {
+    let stored = vec![in alloc; 0u8; count]?;
+    Ok(letter_of(read_stored(alloc, stored)?))
 }
 
 #[test]
 fn objects_are_absent_fail_or_are_too_large(rt: HostRuntime) -> Result<(), Fail> {
     let alloc = rt.alloc();
-    assert_eq!(rt;
-        read_hi(alloc, Vec::new(alloc), Vec::new(alloc))?,
-        Err(ObjectFault::Absent)
-    );
+    let absent = letter_of(read_hi(alloc, Vec::new(alloc), Vec::new(alloc))?);
     let mut fails = Vec::new(alloc);
     fails.push(RepoFail::Object(HI))?;
-    assert_eq!(rt;
-        read_hi(alloc, Vec::new(alloc), fails)?,
-        Err(ObjectFault::ReadFailed)
-    );
-    let longest = vec![in alloc; 0u8; 67_108_878]?;
-    assert_eq!(rt; read_stored(alloc, longest)?, Err(ObjectFault::Header));
-    let too_long = vec![in alloc; 0u8; 67_108_879]?;
-    assert_eq!(rt; read_stored(alloc, too_long)?, Err(ObjectFault::TooLarge));
+    let failing = letter_of(read_hi(alloc, Vec::new(alloc), fails)?);
+    assert!(rt; absent == b'a' && failing == b'r');
+    assert!(rt; letter_of_nuls(alloc, 67_108_878)? == b'h');
+    assert!(rt; letter_of_nuls(alloc, 67_108_879)? == b't');
     Ok(())
 }
 
 #[test]
 fn contents_have_their_name_spelling_and_path(rt: HostRuntime) -> Result<(), Fail> {
     let alloc = rt.alloc();
-    assert_eq!(rt; blob_name(b"hi\n"), HI);
-    assert_eq!(rt; blob_name(b"ho\n"), HO);
+    assert!(rt; blob_name(b"hi\n") == HI && blob_name(b"ho\n") == HO);
     let stored = spell_blob(alloc, b"hi\n")?;
     assert!(rt; stored.as_slice() == b"blob 3\0hi\n".as_slice());
     let empty = spell_blob(alloc, b"")?;

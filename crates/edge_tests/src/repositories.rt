@@ -1,31 +1,9 @@
 //! A repository in memory.
-use edge_kit::{Blob, MemoryRepo, Repo, RepoFail, TakeFault};
+use crate::table::{is_read, is_right, read_part};
+use edge_kit::{MemoryRepo, RepoFail};
 use std::alloc::{AllocError, Global};
 use std::test::Fail;
 use std::vec::Vec;
-
-/// What is read of a repository: a file, or the object whose name is this byte twenty times.
-#[derive(Clone, Copy)]
-enum Part {
-    Index,
-    Config,
-    Info,
-    Object(u8),
-}
-
-fn read(repo: &mut MemoryRepo, part: Part, limit: u64) -> Result<Option<Vec<u8>>, TakeFault> {
-    match part {
-        Part::Index => repo.index_bytes(limit),
-        Part::Config => repo.config_bytes(limit),
-        Part::Info => repo.info_attributes(limit),
-        Part::Object(byte) => {
-            let mut blob = repo.blob(&[byte; 20])?;
-            let taken = blob.take_all(limit);
-            repo.take_back(blob);
-            taken
-        }
-    }
-}
 
 /// A repository with an index, a configuration and three objects, of which two have one name.
 fn repo_with(alloc: Global, fail: Option<RepoFail>) -> Result<MemoryRepo, AllocError> {
@@ -42,61 +20,49 @@ fn repo_with(alloc: Global, fail: Option<RepoFail>) -> Result<MemoryRepo, AllocE
     Ok(MemoryRepo::new(alloc, Some(index), Some(config), None, objects, fails))
 }
 
-type Wanted = Result<Option<&'static [u8]>, TakeFault>;
+/// The letter of what fails, of what is read, a limit of one digit, and what is read. A digit is an
+/// object: the one whose name is this number twenty times.
+const READS: &[&[u8]] = &[
+    b"-i1=\x01",
+    b"-c1=\x02",
+    b"-c0l",
+    b"-a1.",
+    b"-75=first",
+    b"-74l",
+    b"-95=third",
+    b"-85.",
+    b"ii1x",
+    b"cc1x",
+    b"aa1x",
+    b"775x",
+    b"795=third",
+    b"ic1=\x02",
+];
 
-fn is_wanted(taken: Result<Option<Vec<u8>>, TakeFault>, wanted: Wanted) -> bool {
-    match (taken, wanted) {
-        (Ok(Some(bytes)), Ok(Some(wanted))) => bytes.as_slice() == wanted,
-        (Ok(None), Ok(None)) => true,
-        (Err(fault), Err(wanted)) => fault == wanted,
-        _ => false,
+fn fail_of(letter: u8) -> Option<RepoFail> {
+    match letter {
+        b'i' => Some(RepoFail::Index),
+        b'c' => Some(RepoFail::Config),
+        b'a' => Some(RepoFail::Info),
+        b'7' => Some(RepoFail::Object([7; 20])),
+        _ => None,
     }
 }
 
-/// What fails, what is read and within which limit, and what it gives.
-const READS: [(Option<RepoFail>, Part, u64, Wanted); 14] = [
-    (None, Part::Index, 1, Ok(Some(&[1]))),
-    (None, Part::Config, 1, Ok(Some(&[2]))),
-    (None, Part::Config, 0, Err(TakeFault::TooLong)),
-    (None, Part::Info, 1, Ok(None)),
-    (None, Part::Object(7), 5, Ok(Some(b"first"))),
-    (None, Part::Object(7), 4, Err(TakeFault::TooLong)),
-    (None, Part::Object(9), 5, Ok(Some(b"third"))),
-    (None, Part::Object(8), 5, Ok(None)),
-    (
-        Some(RepoFail::Index),
-        Part::Index,
-        1,
-        Err(TakeFault::Failed),
-    ),
-    (
-        Some(RepoFail::Config),
-        Part::Config,
-        1,
-        Err(TakeFault::Failed),
-    ),
-    (Some(RepoFail::Info), Part::Info, 1, Err(TakeFault::Failed)),
-    (
-        Some(RepoFail::Object([7; 20])),
-        Part::Object(7),
-        5,
-        Err(TakeFault::Failed),
-    ),
-    (
-        Some(RepoFail::Object([7; 20])),
-        Part::Object(9),
-        5,
-        Ok(Some(b"third")),
-    ),
-    (Some(RepoFail::Index), Part::Config, 1, Ok(Some(&[2]))),
-];
+fn is_so(alloc: Global, row: &[u8]) -> Result<bool, AllocError> {
+    let [fail, part, limit, want @ ..] = row else {
+        return Ok(false);
+    };
+    let mut repo = repo_with(alloc, fail_of(*fail))?;
+    let name = [part.wrapping_sub(b'0'); 20];
+    let limit = u64::from(limit.wrapping_sub(b'0'));
+    Ok(is_read(read_part(&mut repo, *part, &name, limit), want))
+}
 
 #[test]
 fn a_repository_gives_what_it_holds_or_fails(rt: HostRuntime) -> Result<(), Fail> {
-    for (fail, part, limit, wanted) in READS {
-        let mut repo = repo_with(rt.alloc(), fail)?;
-        let taken = read(&mut repo, part, limit);
-        assert!(rt; is_wanted(taken, wanted), "at {fail:?}, {limit}");
+    for row in READS {
+        is_right(&rt, is_so(rt.alloc(), row)?, row);
     }
     Ok(())
 }

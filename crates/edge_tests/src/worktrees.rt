@@ -2,6 +2,7 @@
 ghost use Rattle.std.specs.Prelude.{◌≡◌};
 ghost use Rattle.edge_kit.specs.declared.leaf_state.LeafState.TheVariants.{Fresh};
 
+use crate::table::is_right;
 use byte_path::Bytes;
 use edge_kit::{Failed, Leaf, LeafCall, Mark, MemoryLeaf, MemoryTree, Worktree};
 use std::alloc::{AllocError, Global};
@@ -36,24 +37,28 @@ fn goes_beside(
     Ok(well)
 }
 
-const CALLS: [(LeafCall, &str, LeafCall, bool); 8] = [
-    (LeafCall::Put, "a", LeafCall::Put, false),
-    (LeafCall::Restart, "a", LeafCall::Restart, false),
-    (LeafCall::Seal, "a", LeafCall::Seal, false),
-    (LeafCall::Discard, "a", LeafCall::Discard, false),
-    (LeafCall::Put, "b", LeafCall::Put, true),
-    (LeafCall::Put, "a", LeafCall::Restart, true),
-    (LeafCall::Discard, "a", LeafCall::Seal, true),
-    (LeafCall::Seal, "a", LeafCall::Discard, true),
+/// The letter of the call that is to fail, the path, the letter of the call on it, and `+` if that
+/// goes well.
+const CALLS: &[&[u8; 4]] = &[
+    b"pap-", b"rar-", b"sas-", b"dad-", b"pbp+", b"par+", b"das+", b"sad+",
 ];
+
+fn call_of(letter: u8) -> LeafCall {
+    match letter {
+        b'p' => LeafCall::Put,
+        b'r' => LeafCall::Restart,
+        b's' => LeafCall::Seal,
+        _ => LeafCall::Discard,
+    }
+}
 
 #[test]
 fn a_leaf_fails_at_a_set_call(rt: HostRuntime) -> Result<(), Fail> {
-    for (fail, path, call, well) in CALLS {
-        assert!(rt;
-            goes_beside(rt.alloc(), fail, path, call)? == well,
-            "at {fail:?}, {call:?}"
-        );
+    for row in CALLS {
+        let [fail, path, call, well] = **row;
+        let path = if path == b'a' { "a" } else { "b" };
+        let goes = goes_beside(rt.alloc(), call_of(fail), path, call_of(call))?;
+        is_right(&rt, goes == (well == b'+'), *row);
     }
     Ok(())
 }
@@ -87,20 +92,35 @@ fn all_files(alloc: Global, tree: &MemoryTree) -> Result<Vec<u8>, AllocError> {
     Ok(seen)
 }
 
+/// Whether the tree is empty as its files say, and has these paths and contents after one more
+/// leaf.
+fn is_grown(
+    alloc: Global,
+    tree: &mut MemoryTree,
+    path: &str,
+    content: &[u8],
+    wanted: &[u8],
+) -> Result<bool, AllocError> {
+    let is_empty = tree.is_empty() == Ok(tree.files().is_empty());
+    let is_written = write_one(tree, path, content, path != "c")?;
+    let seen = all_files(alloc, tree)?;
+    Ok(is_empty && is_written && seen.as_slice() == wanted)
+}
+
 #[test]
 fn sealed_leaves_become_files_in_path_order(rt: HostRuntime) -> Result<(), Fail> {
     let alloc = rt.alloc();
     let mut tree = MemoryTree::new(alloc, true, Vec::new(alloc), false);
-    let steps: [(&str, &[u8], bool, &[u8]); 4] = [
-        ("c", b"three", false, b""),
-        ("b", b"two", true, b"btwo"),
-        ("a", b"one", true, b"aonebtwo"),
-        ("d", b"", true, b"aonebtwod"),
+    // the first is discarded
+    let steps: [(&str, &[u8], &[u8]); 4] = [
+        ("c", b"three", b""),
+        ("b", b"two", b"btwo"),
+        ("a", b"one", b"aonebtwo"),
+        ("d", b"", b"aonebtwod"),
     ];
-    for (path, content, sealed, wanted) in steps {
-        assert!(rt; tree.is_empty() == Ok(tree.files().is_empty()));
-        assert!(rt; write_one(&mut tree, path, content, sealed)?);
-        assert!(rt; all_files(alloc, &tree)?.as_slice() == wanted, "at {path}");
+    for (path, content, wanted) in steps {
+        let grown = is_grown(alloc, &mut tree, path, content, wanted)?;
+        is_right(&rt, grown, wanted);
     }
     let mut failing = MemoryTree::new(alloc, true, Vec::new(alloc), true);
     assert!(rt; failing.is_empty() == Err(Failed));

@@ -1,40 +1,18 @@
 //! Child processes: what they are sent, what they write, how they end.
+use crate::table::is_right;
 use edge_adapters::{ProcessLink, ProcessSpawner};
 use edge_kit::{Failed, Link, SendFault, Spawner, Starter};
 use std::alloc::{AllocError, Global};
 use std::test::Fail;
 
 /// A command, what it is sent before its input is closed, and the whole of what it writes.
-#[derive(Clone, Copy)]
-struct Case {
-    command: &'static [u8],
-    sent: &'static [u8],
-    output: &'static [u8],
-}
-
-const CASES: [Case; 4] = [
-    Case {
-        command: b"cat",
-        sent: b"one\ntwo\n",
-        output: b"one\ntwo\n",
-    },
+const CASES: [(&[u8], &[u8], &[u8]); 4] = [
+    (b"cat", b"one\ntwo\n", b"one\ntwo\n"),
     // the shell reads the command
-    Case {
-        command: b"tr a-c A-C | tr A x; printf '\\0'",
-        sent: b"abcd",
-        output: b"xBCd\0",
-    },
+    (b"tr a-c A-C | tr A x; printf '\\0'", b"abcd", b"xBCd\0"),
     // its exit status isn't looked at
-    Case {
-        command: b"printf done; exit 3",
-        sent: b"",
-        output: b"done",
-    },
-    Case {
-        command: b"exit 0",
-        sent: b"",
-        output: b"",
-    },
+    (b"printf done; exit 3", b"", b"done"),
+    (b"exit 0", b"", b""),
 ];
 
 /// Reads to the end of the output, by pieces of at most four bytes.
@@ -54,27 +32,37 @@ fn read_all(alloc: Global, link: &mut ProcessLink) -> Result<Option<Vec<u8>>, Al
     Ok(None)
 }
 
-/// Whether the output of a session is the one that is wanted, and the session can be shut.
-fn is_right(rt: HostRuntime, case: Case) -> Result<bool, Fail> {
+/// Whether a link that is sent this gives this output, and can be shut.
+fn gives(
+    alloc: Global,
+    link: &mut ProcessLink,
+    sent: &[u8],
+    output: &[u8],
+) -> Result<bool, AllocError> {
+    let is_sent = sent.is_empty() || link.send(sent).is_ok();
+    let shut = link.shut_input().is_ok();
+    let all = read_all(alloc, link)?;
+    let waited = link.wait_end().is_ok();
+    Ok(is_sent && shut && waited && all.is_some_and(|bytes| bytes.as_slice() == output))
+}
+
+/// Whether the session of a command is so.
+fn is_so(rt: HostRuntime, command: &[u8], sent: &[u8], output: &[u8]) -> Result<bool, Fail> {
     let mut spawner = ProcessSpawner::new(rt);
-    let mut starter = spawner.starter(case.command)?;
+    let mut starter = spawner.starter(command)?;
     let Ok(mut link) = starter.start() else {
         return Ok(false);
     };
-    let sent = case.sent.is_empty() || link.send(case.sent).is_ok();
-    let shut = link.shut_input().is_ok();
-    let output = read_all(rt.alloc(), &mut link)?;
-    let waited = link.wait_end().is_ok();
+    let right = gives(rt.alloc(), &mut link, sent, output)?;
     starter.end(link);
     spawner.take_back(starter);
-    let right = output.is_some_and(|bytes| bytes.as_slice() == case.output);
-    Ok(sent && shut && waited && right)
+    Ok(right)
 }
 
 #[test]
 fn a_child_is_sent_its_input_and_its_output_is_read(rt: HostRuntime) -> Result<(), Fail> {
-    for case in CASES {
-        assert!(rt; is_right(rt, case)?);
+    for (command, sent, output) in CASES {
+        is_right(&rt, is_so(rt, command, sent, output)?, command);
     }
     Ok(())
 }
@@ -88,7 +76,7 @@ fn a_child_that_has_ended_is_a_fault_and_no_signal(rt: HostRuntime) -> Result<()
     // its output ends after its input is closed
     let output = read_all(rt.alloc(), &mut link)?;
     assert!(rt; output.is_some_and(|bytes| bytes.as_slice() == b"x".as_slice()));
-    assert_eq!(rt; link.send(b"more"), Err(SendFault::Failed));
+    assert!(rt; matches!(link.send(b"more"), Err(SendFault::Failed)));
     starter.end(link);
     Ok(())
 }
@@ -118,13 +106,13 @@ fn a_starter_starts_one_child_after_another(rt: HostRuntime) -> Result<(), Fail>
     let Ok(mut first) = starter.start() else {
         panic!(rt; "not started");
     };
-    assert_eq!(rt; first.send(b"x"), Ok(()));
+    assert!(rt; first.send(b"x").is_ok());
     // given up without a wait
     starter.end(first);
     let Ok(mut second) = starter.start() else {
         panic!(rt; "not started again");
     };
-    assert_eq!(rt; second.send(b"y"), Ok(()));
+    assert!(rt; second.send(b"y").is_ok());
     starter.end(second);
     Ok(())
 }
