@@ -6,11 +6,30 @@ use Rattle.checkout_book.specs.Reserving.{AreNew}
 use Rattle.checkout_book.specs.Sights.{sight}
 use Rattle.writer_pool.specs.Pools.{seed_cards}
 use Rattle.checkout_engine.specs.Dealing.{AreIdle, IsSeedFor}
-use Rattle.checkout_engine.specs.Made.{HasStarters}
-use Rattle.checkout_engine.proofs.Made.{on_err, all_starters}
+use Rattle.checkout_engine.specs.Made.{HasCards, HasStarters}
+use Rattle.checkout_engine.proofs.Made.{on_err, all_starters, more_made}
 use Rattle.checkout_engine.proofs.SeedCards.{cards_then, one_more}
 use Rattle.checkout_engine.proofs.SeedSteps.{idle_more, new_idle, step_seed, new_then}
 use Rattle.checkout_engine.proofs.dealing.add_seeds.Goals as goal
+
+-- none more
+no_more : (n : ℕ) → n + 0 ≡ n
+no_more n = omega arith
+
+pub returns-in_err-new_seed-clause-cards_out : goal.returns-in_err-new_seed-clause-cards_out
+returns-in_err-new_seed-clause-cards_out g c =
+    let n = length (seed_cards c.loop-number.desks.items) in
+    let repo = g.R.Repo.seen c.args.repo.now in
+    let tree = g.T.Worktree.seen c.args.tree.now in
+    let repo' = g.R.Repo.seen c.new_seed.new.repo in
+    let tree' = g.T.Worktree.seen c.new_seed.new.tree in
+    let i = c.loop-number.invariant in
+    on_err _ c.from_residual.result (subst (λ (k : ℕ). HasCards k repo repo' tree tree') (no_more n)
+    (more_made n 0 repo (g.R.Repo.seen c.loop-number.repo) repo' tree (g.T.Worktree.seen c.loop-number.tree) tree' i.repo i.tree c.in_err-new_seed.ensures.cards_back))
+
+pub push_reserved-requires : goal.push_reserved-requires
+push_reserved-requires g c =
+    omega (arith, c.loop-number.invariant.count, c.loop-number.invariant.room, c.loop-number-test.true, c.loop-number.desks.ok.0)
 
 pub returns-in_err-new_seed-clause-starters_out : goal.returns-in_err-new_seed-clause-starters_out
 returns-in_err-new_seed-clause-starters_out g c =
