@@ -8,6 +8,12 @@ use Rattle.checkout_book.specs.Entries.{history_of}
 use Rattle.checkout_book.proofs.Turning.{claim_follows, claim_plan, went, took}
 use Rattle.checkout_book.proofs.book.claim.Goals as goal
 
+pub enter-value-requires-clause-of : goal.enter-value-requires-clause-of
+enter-value-requires-clause-of g c = let r = c.requires in r.3.seat.of
+
+pub enter-value-requires-clause-out : goal.enter-value-requires-clause-out
+enter-value-requires-clause-out g c = let r = c.requires in r.3.seat.out
+
 pub claim-card-requires-clause-sound : goal.claim-card-requires-clause-sound
 claim-card-requires-clause-sound g c = let r = c.requires in (c.enter-value.ensures.fits r.0 r.3.seat.told).1
 

@@ -13,6 +13,12 @@ use Rattle.checkout_book.proofs.Histories.{reads_of, close_still}
 use Rattle.checkout_book.proofs.Turning.{below_of, out_from, close_grown, went, closed}
 use Rattle.checkout_book.proofs.book.close.Goals as goal
 
+pub enter-value-requires-clause-of : goal.enter-value-requires-clause-of
+enter-value-requires-clause-of g c = let r = c.requires in r.3.seat.of
+
+pub enter-value-requires-clause-out : goal.enter-value-requires-clause-out
+enter-value-requires-clause-out g c = let r = c.requires in r.3.seat.out
+
 pub close-requires-clause-step : goal.close-requires-clause-step
 close-requires-clause-step g c =
     let see = sight g.B.Blob.told g.B.Blob.seen g.L.Leaf.seen in

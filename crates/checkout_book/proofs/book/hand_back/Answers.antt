@@ -13,6 +13,12 @@ use Rattle.checkout_book.proofs.Histories.{reads_of, steps_still}
 use Rattle.checkout_book.proofs.Turning.{below_of, back_grown, went, backed}
 use Rattle.checkout_book.proofs.book.hand_back.Goals as goal
 
+pub enter-value-requires-clause-of : goal.enter-value-requires-clause-of
+enter-value-requires-clause-of g c = let r = c.requires in r.3.seat.of
+
+pub enter-value-requires-clause-out : goal.enter-value-requires-clause-out
+enter-value-requires-clause-out g c = let r = c.requires in r.3.seat.out
+
 pub hand_back-requires-clause-by : goal.hand_back-requires-clause-by
 hand_back-requires-clause-by g c =
     let r = c.requires in

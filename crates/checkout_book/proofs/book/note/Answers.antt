@@ -11,6 +11,15 @@ use Rattle.checkout_book.proofs.Histories.{reads_of, note_still}
 use Rattle.checkout_book.proofs.Turning.{below_of, note_grown, went, noted}
 use Rattle.checkout_book.proofs.book.note.Goals as goal
 
+pub enter-value-requires-clause-of : goal.enter-value-requires-clause-of
+enter-value-requires-clause-of g c = let r = c.requires in r.3.seat.of
+
+pub enter-value-requires-clause-out : goal.enter-value-requires-clause-out
+enter-value-requires-clause-out g c = let r = c.requires in r.3.seat.out
+
+pub note-requires-clause-sound : goal.note-requires-clause-sound
+note-requires-clause-sound g c = let r = c.requires in (c.enter-value.ensures.fits r.0 r.3.seat.told).1
+
 pub note-requires-clause-by : goal.note-requires-clause-by
 note-requires-clause-by g c =
     let r = c.requires in
