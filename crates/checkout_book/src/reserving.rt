@@ -1,5 +1,6 @@
 // A book at its beginning and at its end.
-ghost use Rattle.std.specs.Prelude.{◌≡◌, ◌≤◌, ◌<◌, ◌+◌, ◌*◌, ◌++◌, ◌^◌, [], ℕ, Some, length, slice_get, map, IfOk, vec_capacity};
+ghost use Rattle.std.specs.Prelude.{◌≡◌, ◌≤◌, ◌<◌, ◌+◌, ◌*◌, ◌++◌, ◌^◌, [], ℕ, Some, length};
+ghost use Rattle.std.specs.Prelude.{slice_get, map, IfOk, vec_capacity};
 ghost use Rattle.convert_plan.specs.declared.card.Card.{Card};
 ghost use Rattle.checkout_core.specs.States.{AreBelow};
 ghost use Rattle.checkout_book.specs.declared.plan.Plan.{Plan};
