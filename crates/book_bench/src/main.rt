@@ -7,11 +7,13 @@
 
 mod cards;
 mod desk;
+mod lists;
 mod pair;
 mod runs;
 mod work;
 
 use crate::cards::new_card;
+use crate::lists::both;
 use crate::runs::{by_one_worker, by_the_caller, by_worker_and_desk};
 use anyhow::Result;
 use checkout_book::ending::Ended;
@@ -46,12 +48,23 @@ fn count<R: Env + AllocGlobal>(rt: &R) -> Result<Option<u32>> {
     Ok(None)
 }
 
-/// A repository in memory with the objects `HELLO` and `HI`, and an empty worktree.
+/// An object's name, and its raw bytes.
+fn object(alloc: Global, name: &[u8; 20], raw: &[u8]) -> Result<([u8; 20], Vec<u8>), AllocError> {
+    let stored = Vec::from_slice(alloc, raw)?;
+    Ok((*name, stored))
+}
+
+/// A repository in memory with the objects `HELLO` and `HI`.
+fn repository(alloc: Global) -> Result<MemoryRepo, AllocError> {
+    let hello = object(alloc, &HELLO, b"blob 6\0hello\n")?;
+    let hi = object(alloc, &HI, b"blob 3\0hi\n")?;
+    let objects = both(alloc, hello, hi)?;
+    Ok(MemoryRepo::new(alloc, None, None, None, objects, Vec::new(alloc)))
+}
+
+/// That repository, and an empty worktree.
 fn outside(alloc: Global) -> Result<(MemoryRepo, MemoryTree), AllocError> {
-    let mut objects = Vec::new(alloc);
-    objects.push((HELLO, Vec::from_slice(alloc, b"blob 6\0hello\n")?))?;
-    objects.push((HI, Vec::from_slice(alloc, b"blob 3\0hi\n")?))?;
-    let repo = MemoryRepo::new(alloc, None, None, None, objects, Vec::new(alloc));
+    let repo = repository(alloc)?;
     let tree = MemoryTree::new(alloc, true, Vec::new(alloc), false);
     Ok((repo, tree))
 }

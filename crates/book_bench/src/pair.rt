@@ -1,10 +1,11 @@
 // A book with a path for any actor, and a path of a driver.
-ghost use Rattle.std.specs.Prelude.{◌≡◌, [], ◌∷◌, IfOk, length};
+ghost use Rattle.std.specs.Prelude.{◌≡◌, IfOk};
 ghost use Rattle.convert_plan.specs.Card.{IsNewCard};
 ghost use Rattle.checkout_book.specs.declared.plan.Plan.{Plan};
 ghost use Rattle.checkout_book.specs.Sights.{sight, seen};
 ghost use Rattle.book_bench.specs.Pairs.{IsPair, IsBegun, pair_plan};
 
+use crate::lists::alone;
 use checkout_book::book::{Book, Pass};
 use checkout_book::reserving::{BookBegun, reserve};
 use checkout_core::Start;
@@ -39,18 +40,14 @@ fn make_pair<B: Blob, L: Leaf>(
     requires filtered_new { IsNewCard (seen (sight B.told B.seen L.seen) filtered) }
     ensures { IfOk result (λ r. IsPair (sight B.told B.seen L.seen) (pair_plan r) free filtered) }
 {
-    let mut pool = Vec::with_capacity(alloc, 1)?;
-    pool.push_reserved(free);
-    let mut cards = Vec::with_capacity(alloc, 1)?;
-    cards.push_reserved(filtered);
-    let mut desks = Vec::with_capacity(alloc, 1)?;
-    desks.push_reserved(cards);
-    let mut starts = Vec::with_capacity(alloc, 2)?;
-    starts.push_reserved(Start::Pool);
-    starts.push_reserved(Start::Desk {
+    let desk = Start::Desk {
         driver: 0,
         required: false,
-    });
+    };
+    let starts = Vec::from_slice(alloc, &[Start::Pool, desk])?;
+    let pool = alone(alloc, free)?;
+    let cards = alone(alloc, filtered)?;
+    let desks = alone(alloc, cards)?;
     Ok(Pair {
         pool,
         desks,

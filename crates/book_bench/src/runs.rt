@@ -8,6 +8,7 @@ ghost use Rattle.checkout_book.specs.Sights.{sight, seen};
 
 use crate::cards::{NewCards, new_cards, refused_card};
 use crate::desk::{give_back, turns};
+use crate::lists::both;
 use crate::pair::{PairBegun, begin_pair};
 use crate::work::work;
 use checkout_book::book::{Book, Pass};
@@ -56,9 +57,7 @@ fn finish_both<B: Blob, L: Leaf>(
         × (d.workers + d.drivers ≡ 2) }
     ensures { IfOk result (λ e. GoesOn (sight B.told B.seen L.seen) e.shelf) }
 {
-    let mut done = Vec::with_capacity(alloc, 2)?;
-    done.push_reserved(worker);
-    done.push_reserved(desk);
+    let done = both(alloc, worker, desk)?;
     Ok(finish(book, done))
 }
 
