@@ -24,7 +24,9 @@ use Rattle.checkout_book.specs.declared.plan.Plan.{Plan}
 use Rattle.checkout_book.specs.declared.plan.Parts.{Parts}
 use Rattle.checkout_book.specs.declared.plan.Entry.{Entry}
 use Rattle.checkout_book.specs.Sights.{Sight, seen}
+use Rattle.checkout_book.specs.Shape.{Shelf}
 use Rattle.checkout_book.specs.Shelves.{joined}
+use Rattle.checkout_book.specs.Ending.{IsTaken}
 use Rattle.checkout_book.specs.Passes.{IsPass, TookNone, TookCard, Closes, Appends}
 use Rattle.checkout_book.specs.Reserving.{ArePool, AreDealt, AreNew, HasNothing, AreIdle}
 use Rattle.convert_plan.specs.Card.{IsNewCard}
@@ -69,6 +71,12 @@ module _ {B L : Type 0} where
   may_close law see lock d n made old new c x k took =
       subst (λ (m : ℕ). is_step x (Close k.path m (own.Fine false)) ≡ true) (sym (took.turn).pass.seat.named)
       (law x k.path n took.raw (own.Fine false) (raw_verdict took.raw false) took.holds (fine took.raw))
+
+  -- a card that the caller took may be closed
+  pub taken_may_close : MayClose → (see : Sight B L) (n : ℕ) (s : Shelf B L) (k : Card B L) → IsTaken see n s k
+      → is_step s.core (Close k.path n (own.Fine false)) ≡ true
+  taken_may_close law see n s k t =
+      law s.core k.path n t.raw (own.Fine false) (raw_verdict t.raw false) t.holds (fine t.raw)
 
   -- after a claim that got nothing
   pub after_none : (lock : TableId) (d : Plan B L) (n made : ℕ) (old new : SeatView Entry (Plan B L))
