@@ -1,5 +1,5 @@
 //! The attribute files of a repository, for one path after another.
-ghost use Rattle.std.specs.Prelude.{◌≡◌, ℕ, true, List, [], IfOk, OnOk, map, reverse, drop};
+ghost use Rattle.std.specs.Prelude.{◌≡◌, ℕ, true, List, [], ◌∷◌, ◌++◌, IfOk, OnOk, map, reverse, drop};
 ghost use Rattle.std.specs.List.{flat_map};
 ghost use Rattle.attr_stack.specs.Decided.{decision, state_of};
 ghost use Rattle.attr_stack.specs.Levels.{level_pairs, StandsIn};
@@ -29,13 +29,22 @@ pub struct Rules {
     pub places: Places,
 }
 
+/// Looks at the patterns of one folder's file.
+fn push_compiled(alloc: Global, folders: &mut Vec<CompiledAt>, at: FileAt) -> Result<(), AllocError>
+    ensures { OnOk result (folders.new.items ≡ folders.old.items ++ at ∷ []) }
+{
+    let compiled = CompiledAt::of(alloc, at)?;
+    folders.push(compiled)?;
+    Ok(())
+}
+
 fn compiled_all(alloc: Global, files: Items<FileAt>) -> Result<Vec<CompiledAt>, AllocError>
     ensures { IfOk result (λ folders. folders.items ≡ files) }
 {
     let files = files.into_vec();
     let mut folders = Vec::with_capacity(alloc, files.len())?;
     for at in files {
-        folders.push(CompiledAt::of(alloc, at)?)?;
+        push_compiled(alloc, &mut folders, at)?;
     }
     Ok(folders)
 }

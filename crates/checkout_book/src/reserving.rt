@@ -82,6 +82,15 @@ fn lay<B: Blob, L: Leaf>(
     Ok((slots, waiting))
 }
 
+/// Room for ten events of each path.
+fn events_of<E: Drop>(alloc: Global, paths: usize) -> Result<Vec<E>, AllocError>
+    requires { paths < 2 ^ 32 }
+    ensures none { IfOk result (λ v. v.items ≡ []) }
+    ensures room { IfOk result (λ v. 10 * paths ≤ vec_capacity v) }
+{
+    Vec::with_capacity(alloc, 10 * paths)
+}
+
 /// Room for ten events of each path, and for its parts.
 fn rooms<E: Drop, P: Drop>(alloc: Global, paths: usize) -> Result<(Vec<E>, Vec<P>), AllocError>
     requires { paths < 2 ^ 32 }
@@ -90,7 +99,7 @@ fn rooms<E: Drop, P: Drop>(alloc: Global, paths: usize) -> Result<(Vec<E>, Vec<P
     ensures no_part { IfOk result (λ r. r.1.items ≡ []) }
     ensures parts { IfOk result (λ r. paths ≤ vec_capacity r.1) }
 {
-    let events = Vec::with_capacity(alloc, 10 * paths)?;
+    let events = events_of(alloc, paths)?;
     let parts = Vec::with_capacity(alloc, paths)?;
     Ok((events, parts))
 }

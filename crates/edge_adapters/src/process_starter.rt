@@ -7,7 +7,7 @@ ghost use Rattle.edge_kit.specs.MemoryDrivers.{waits};
 use crate::process_link::ProcessLink;
 use byte_path::Bytes;
 use edge_kit::{Link, SendFault, Starter};
-use std::alloc::Global;
+use std::alloc::{AllocError, Global};
 use std::collections::VecDeque;
 use std::io;
 use std::io::ErrorKind;
@@ -60,15 +60,27 @@ pub struct ProcessStarter {
     ghost room: { vec_len had + out ≤ vec_capacity had },
 }
 
+/// Gives the shell a command to run.
+fn add_command(shell: &mut Command, text: &str) -> Result<(), AllocError> {
+    shell.arg("-c")?;
+    shell.arg(text)?;
+    Ok(())
+}
+
+/// The shell with a command to run.
+fn shell_of(alloc: Global, text: &str) -> Result<Command, AllocError> {
+    let mut shell = Command::new(alloc, "sh")?;
+    add_command(&mut shell, text)?;
+    Ok(shell)
+}
+
 /// Starts the command by the shell, in the folder that this program was started in. Its standard error stays this
 /// program's own. A command that isn't text can't be started.
 fn spawn(rt: HostRuntime, alloc: Global, command: &[u8]) -> io::Result<Child> {
     let Ok(text) = str::from_utf8(command) else {
         return Err(io::Error::from(ErrorKind::InvalidInput));
     };
-    let mut shell = Command::new(alloc, "sh")?;
-    shell.arg("-c")?;
-    shell.arg(text)?;
+    let mut shell = shell_of(alloc, text)?;
     shell.stdin(Stdio::piped());
     shell.stdout(Stdio::piped());
     shell.spawn(&rt)
