@@ -2,17 +2,16 @@
 ghost use Rattle.std.specs.Prelude.{◌≡◌, ◌≤◌, IfOk, Some, string_bytes};
 ghost use Rattle.checkout_engine.specs.Complete.{IsValid};
 ghost use Rattle.checkout_engine.specs.Reading.{IsRead};
-ghost use Rattle.checkout_engine.specs.Rehearsed.{is_memory, bytes_of, first_words, last_words, summary, IsTried, IsRehearsed};
-ghost use Rattle.checkout_engine.specs.Rehearsed.{IsSummed, Rehearses, new_memory};
+ghost use Rattle.checkout_engine.specs.Rehearsed.{is_memory, bytes_of, first_words, last_words, summary, new_memory};
+ghost use Rattle.checkout_engine.specs.Rehearsed.{IsTried, IsRehearsed, IsSummed, Rehearses};
 
-use crate::paths::{PathsDone, check_out_paths};
+use crate::paths::check_out_paths;
 use crate::planning::{Planned, read_plan};
 use crate::report::{lacks_memory, status_of};
 use crate::status::{Status, number_of};
 use crate::stop::Stop;
 use crate::workers::Pace;
 use checkout_core::Verdict;
-use checkout_plan::Plan;
 use checkout_report::{failed_count, unfiltered_count, written_count};
 use edge_kit::{
     Gate, MemoryRepo, MemorySpawner, MemoryTree, Repo, SendFault, Sink, Spawner, TreeFile, Worktree,
@@ -98,11 +97,39 @@ fn valid_plan<R: Repo>(alloc: Global, repo: &mut R) -> Result<Planned, AllocErro
     }
 }
 
+/// Checks out a valid repository, of which nothing was called, into a new and empty worktree: the verdicts of the paths.
+fn tried<R: Repo, T: Worktree, P: Spawner, G: Gate, H: Threads + Wait + Sync>(
+    rt: &H,
+    alloc: Global,
+    repo: &mut R,
+    tree: &mut T,
+    spawner: &mut P,
+    gate: &G,
+) -> Result<Vec<Verdict>, AllocError>
+    requires valid { IsValid (R.told repo.old) }
+    requires repo { R.seen repo.old ≡ new_memory.repo }
+    requires tree { T.seen tree.old ≡ new_memory.tree }
+    requires spawner { P.seen spawner.old ≡ new_memory.spawner }
+    ensures { IfOk result (λ v. IsTried (R.told repo.old) (P.told spawner.old) v.items (T.seen tree.new)) }
+{
+    paths_are_ordered();
+    let planned = valid_plan(alloc, repo)?;
+    let pace = Pace {
+        asked: None,
+        workers: planned.workers,
+        threshold: planned.threshold,
+    };
+    let slice = planned.plan.paths.as_slice();
+    let drivers = planned.plan.drivers.as_slice();
+    let done = check_out_paths(rt, alloc, repo, tree, spawner, gate, slice, drivers, pace)?;
+    Ok(done.verdicts)
+}
+
 /// Checks out what a rehearsal is made of into an empty worktree in memory: the verdicts of the paths, and that worktree.
 fn checked_out<G: Gate, H: Threads + Wait + Sync>(
     rt: &H,
     alloc: Global,
-    made: Rehearsed,
+    mut made: Rehearsed,
     gate: &G,
 ) -> Result<(Vec<Verdict>, MemoryTree), AllocError>
     requires valid { IsValid (⟦<MemoryRepo as Repo>⟧.told made.repo) }
@@ -111,38 +138,15 @@ fn checked_out<G: Gate, H: Threads + Wait + Sync>(
     ensures { IfOk result (λ r. IsTried (⟦<MemoryRepo as Repo>⟧.told made.repo)
         (⟦<MemorySpawner as Spawner>⟧.told made.spawner) r.0.items (⟦<MemoryTree as Worktree>⟧.seen r.1)) }
 {
-    paths_are_ordered();
-    let Rehearsed {
-        mut repo,
-        mut spawner,
-    } = made;
     let mut tree = MemoryTree::new(alloc, true, Vec::new(alloc), false);
-    let planned = valid_plan(alloc, &mut repo)?;
-    let Planned {
-        plan,
-        workers,
-        threshold,
-    } = planned;
-    let Plan { paths, drivers, .. } = plan;
-    let pace = Pace {
-        asked: None,
-        workers,
-        threshold,
-    };
-    let slice = paths.as_slice();
-    let drivers = drivers.as_slice();
-    let done = check_out_paths(
+    let verdicts = tried(
         rt,
         alloc,
-        &mut repo,
+        &mut made.repo,
         &mut tree,
-        &mut spawner,
+        &mut made.spawner,
         gate,
-        slice,
-        drivers,
-        pace,
     )?;
-    let PathsDone { verdicts, .. } = done;
     Ok((verdicts, tree))
 }
 

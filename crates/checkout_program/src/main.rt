@@ -15,6 +15,7 @@ mod progress;
 use crate::progress::{CountingTree, Progress};
 use checkout_engine::run;
 use edge_adapters::{FolderRepo, FolderTree, OutputSink, ProcessSpawner};
+use edge_kit::{Gate, Repo, Sink, Spawner, Worktree};
 use std::alloc::{AllocError, Global};
 use std::env::{Args, args};
 use std::io;
@@ -25,15 +26,10 @@ use std::sync::atomic::AtomicU32;
 use std::thread::Threads;
 
 /// The words after the first.
-fn rest_of(alloc: Global, mut all: Args) -> Result<Vec<String>, AllocError>
+fn rest_of(alloc: Global, all: Args) -> Result<Vec<String>, AllocError>
     ensures { IfOk result (λ words. words.items ≡ drop 1 (into_iter_items all)) }
 {
-    let mut words = Vec::new(alloc);
-    let _ = all.next();
-    for word in all {
-        words.push(word)?;
-    }
-    Ok(words)
+    all.skip(1).collect(alloc)
 }
 
 /// The words after the program's name, or none if one of them isn't text.
@@ -82,9 +78,39 @@ fn folders_of(rt: HostRuntime, words: &[String]) -> Result<(FolderRepo, FolderTr
     Ok((FolderRepo::new(rt, repo), FolderTree::new(rt, tree)))
 }
 
-fn run_words<H: Threads + Wait + Sync>(rt: HostRuntime, threads: &H) -> Result<u8, AllocError> {
-    let words = words_of(rt.alloc(), args(&rt))?;
-    let (mut repo, tree) = folders_of(rt, &words)?;
+/// The status of a run of these words. Its history isn't kept.
+fn status_of<R: Repo, T: Worktree, P: Spawner, G: Gate, O: Sink, H: Threads + Wait + Sync>(
+    threads: &H,
+    alloc: Global,
+    words: &[String],
+    repo: &mut R,
+    tree: &mut T,
+    spawner: &mut P,
+    gate: &G,
+    out: &mut O,
+) -> u8 {
+    let mut history = Vec::new(alloc);
+    run(
+        threads,
+        alloc,
+        words,
+        repo,
+        tree,
+        spawner,
+        gate,
+        out,
+        &mut history,
+    )
+}
+
+/// Runs these words in these folders, and shows how many paths are closed.
+fn run_in<H: Threads + Wait + Sync>(
+    rt: HostRuntime,
+    threads: &H,
+    words: &[String],
+    repo: &mut FolderRepo,
+    tree: FolderTree,
+) -> u8 {
     let leaves = AtomicU32::new(0);
     let progress = Progress::new(rt, &leaves);
     let mut tree = CountingTree {
@@ -93,20 +119,24 @@ fn run_words<H: Threads + Wait + Sync>(rt: HostRuntime, threads: &H) -> Result<u
     };
     let mut spawner = ProcessSpawner::new(rt);
     let mut out = OutputSink::new(writer(&rt));
-    let mut history = Vec::new(rt.alloc());
-    let status = run(
+    let status = status_of(
         threads,
         rt.alloc(),
-        &words,
-        &mut repo,
+        words,
+        repo,
         &mut tree,
         &mut spawner,
         &progress,
         &mut out,
-        &mut history,
     );
     progress.end();
-    Ok(status)
+    status
+}
+
+fn run_words<H: Threads + Wait + Sync>(rt: HostRuntime, threads: &H) -> Result<u8, AllocError> {
+    let words = words_of(rt.alloc(), args(&rt))?;
+    let (mut repo, tree) = folders_of(rt, &words)?;
+    Ok(run_in(rt, threads, &words, &mut repo, tree))
 }
 
 fn main(rt: HostRuntime) -> ExitCode {

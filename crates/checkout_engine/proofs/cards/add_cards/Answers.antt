@@ -1,4 +1,4 @@
-use Rattle.std.proofs.Common.{◌≡◌, ◌+◌, ◌∷◌, [], true, false, ℕ, length, length-append, take, sym, ap, ◌∙◌, subst, arith}
+use Rattle.std.proofs.Common.{◌≡◌, ◌+◌, ◌∷◌, [], ℕ, length, length-append, take, sym, ap, ◌∙◌, subst, arith}
 use Rattle.edge_kit.specs.Seen.{RepoSeen, TreeSeen}
 use Rattle.edge_kit.specs.Told.{RepoTold}
 use Rattle.checkout_book.specs.Sights.{sight, seen}
@@ -60,3 +60,15 @@ pub returns-clause-new : goal.returns-clause-new
 returns-clause-new g c =
     cards_new c.args.owner (sight g.R.Blob.Blob.told g.R.Blob.Blob.seen g.T.Leaf.Leaf.seen) (g.R.Repo.told c.args.repo.now).object (take c.loop-place.place c.args.paths.now) c.loop-place.cards.items
     (texts_take c.args.paths.now c.loop-place.place c.requires.texts) c.loop-place.invariant.cards
+
+pub returns-in_err-new_card-clause-told : goal.returns-in_err-new_card-clause-told
+returns-in_err-new_card-clause-told g c = c.in_err-new_card.ensures.told ∙ c.loop-place.invariant.told
+
+pub returns-clause-told : goal.returns-clause-told
+returns-clause-told g c = c.loop-place.invariant.told
+
+pub returns-clause-repo : goal.returns-clause-repo
+returns-clause-repo g c = c.loop-place.invariant.repo
+
+pub returns-clause-tree : goal.returns-clause-tree
+returns-clause-tree g c = c.loop-place.invariant.tree

@@ -1,4 +1,4 @@
-use Rattle.std.proofs.Common.{ℕ, length, ap, subst, arith}
+use Rattle.std.proofs.Common.{ℕ, length, ap, ◌∙◌, subst, arith}
 use Rattle.edge_kit.specs.Seen.{RepoSeen, TreeSeen}
 use Rattle.checkout_engine.specs.Made.{HasCards}
 use Rattle.checkout_engine.proofs.Made.{on_err, nothing_made, none_more}
@@ -23,3 +23,21 @@ returns-in-Err-clause-none g c =
     c.give_cards.ensures.back 0 repo tree
     (subst (λ (k : ℕ). HasCards k repo (g.R.Repo.seen c.add_cards.new.repo) tree (g.T.Worktree.seen c.add_cards.new.tree)) (none_more (length c.add_cards.new.cards.items))
     c.in-Err.ensures.some)
+
+pub returns-in-Ok-clause-told : goal.returns-in-Ok-clause-told
+returns-in-Ok-clause-told g c = c.in-Ok.ensures.told
+
+pub returns-in-Ok-clause-repo : goal.returns-in-Ok-clause-repo
+returns-in-Ok-clause-repo g c = c.in-Ok.ensures.repo
+
+pub returns-in-Ok-clause-tree : goal.returns-in-Ok-clause-tree
+returns-in-Ok-clause-tree g c = c.in-Ok.ensures.tree
+
+pub returns-in-Ok-clause-new : goal.returns-in-Ok-clause-new
+returns-in-Ok-clause-new g c = c.in-Ok.ensures.new
+
+pub returns-in-Ok-clause-cards : goal.returns-in-Ok-clause-cards
+returns-in-Ok-clause-cards g c = c.in-Ok.ensures.cards
+
+pub returns-in-Err-clause-told : goal.returns-in-Err-clause-told
+returns-in-Err-clause-told g c = c.give_cards.ensures.told ∙ c.in-Err.ensures.told

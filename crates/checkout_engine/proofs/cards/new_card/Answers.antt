@@ -1,4 +1,4 @@
-use Rattle.std.proofs.Common.{sym, subst}
+use Rattle.std.proofs.Common.{refl, sym, ◌∙◌, subst}
 use Rattle.edge_kit.specs.Seen.{RepoSeen, TreeSeen}
 use Rattle.checkout_engine.specs.Made.{HasCards}
 use Rattle.checkout_engine.proofs.Made.{on_err, nothing_made, blob_alone}
@@ -20,3 +20,21 @@ returns-in-Err-clause-none g c =
     subst (λ (t : TreeSeen). HasCards 0 repo (g.R.Repo.seen c.take_back.new.self) tree t) (sym c.in-Err.ensures.kept)
     (blob_alone c.args.path.now.object (g.R.Blob.Blob.seen c.in_ok-blob.blob) repo (g.R.Repo.seen c.blob.new.self) (g.R.Repo.seen c.take_back.new.self) tree c.in_ok-blob.ensures.blob c.in_ok-blob.ensures.out
     (record { out = c.take_back.ensures.out; back = c.take_back.ensures.back }))
+
+pub returns-in_err-text-clause-told : goal.returns-in_err-text-clause-told
+returns-in_err-text-clause-told g c = refl
+
+pub returns-in_err-blob-clause-told : goal.returns-in_err-blob-clause-told
+returns-in_err-blob-clause-told g c = c.in_err-blob.ensures.told
+
+pub returns-in-Err-clause-told : goal.returns-in-Err-clause-told
+returns-in-Err-clause-told g c = c.take_back.ensures.told ∙ c.in_ok-blob.ensures.told
+
+pub returns-clause-told : goal.returns-clause-told
+returns-clause-told g c = c.in_ok-blob.ensures.told
+
+pub returns-clause-repo : goal.returns-clause-repo
+returns-clause-repo g c = c.in_ok-blob.ensures.out
+
+pub returns-clause-number : goal.returns-clause-number
+returns-clause-number g c = refl

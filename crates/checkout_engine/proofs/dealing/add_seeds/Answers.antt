@@ -73,3 +73,27 @@ loop-number-preserved g c =
       idle = subst (λ l. AreIdle starter l) (sym grew) (idle_more starter desks x i.idle (new_idle _ _ _ c.in_ok-new_seed.ensures.seed.starter_is));
       seeds = step_seed starter see (g.P.Spawner.told c.args.spawner.now) (g.R.Repo.told c.args.repo.now).object paths c.args.drivers.now n driver desks _ x c.loop-number-test.true c.index-drivers-number.is i.seeds one grew;
     }
+
+pub returns-in_err-new_seed-clause-told : goal.returns-in_err-new_seed-clause-told
+returns-in_err-new_seed-clause-told g c = c.in_err-new_seed.ensures.told ∙ c.loop-number.invariant.told
+
+pub returns-in_err-new_seed-clause-starts : goal.returns-in_err-new_seed-clause-starts
+returns-in_err-new_seed-clause-starts g c = c.in_err-new_seed.ensures.starts ∙ c.loop-number.invariant.starts
+
+pub returns-in_err-new_seed-clause-new : goal.returns-in_err-new_seed-clause-new
+returns-in_err-new_seed-clause-new g c = c.loop-number.invariant.new
+
+pub returns-in_err-new_seed-clause-idle : goal.returns-in_err-new_seed-clause-idle
+returns-in_err-new_seed-clause-idle g c = c.loop-number.invariant.idle
+
+pub returns-clause-told : goal.returns-clause-told
+returns-clause-told g c = c.loop-number.invariant.told
+
+pub returns-clause-starts : goal.returns-clause-starts
+returns-clause-starts g c = c.loop-number.invariant.starts
+
+pub returns-clause-new : goal.returns-clause-new
+returns-clause-new g c = c.loop-number.invariant.new
+
+pub returns-clause-idle : goal.returns-clause-idle
+returns-clause-idle g c = c.loop-number.invariant.idle

@@ -1,4 +1,4 @@
-use Rattle.std.proofs.Common.{◌+◌, ◌++◌, ℕ, length, length-append, sym, ap, subst, arith}
+use Rattle.std.proofs.Common.{◌++◌, ℕ, length, length-append, sym, ap, ◌∙◌, subst, arith}
 use Rattle.edge_kit.specs.Seen.{RepoSeen, TreeSeen}
 use Rattle.edge_kit.specs.Starters.{SpawnerSeen}
 use Rattle.edge_kit.specs.Told.{RepoTold}
@@ -86,3 +86,21 @@ returns-in-Err-clause-starters_back g c =
     let spawner = g.P.Spawner.seen c.args.spawner.now in
     c.give_seeds.ensures.starters_back 0 spawner
     (subst (λ (k : ℕ). HasStarters k spawner (g.P.Spawner.seen c.add_seeds.new.spawner)) (none_more (length c.add_seeds.new.desks.items)) c.in-Err.ensures.starters_out)
+
+pub returns-in_err-pool-clause-told : goal.returns-in_err-pool-clause-told
+returns-in_err-pool-clause-told g c = c.in_err-pool.ensures.told
+
+pub returns-in-Ok-clause-told : goal.returns-in-Ok-clause-told
+returns-in-Ok-clause-told g c = c.in-Ok.ensures.told ∙ c.in_ok-pool.ensures.told
+
+pub returns-in-Ok-clause-starts : goal.returns-in-Ok-clause-starts
+returns-in-Ok-clause-starts g c = c.in-Ok.ensures.starts
+
+pub returns-in-Ok-clause-pool : goal.returns-in-Ok-clause-pool
+returns-in-Ok-clause-pool g c = c.in_ok-pool.ensures.cards
+
+pub returns-in-Err-clause-told : goal.returns-in-Err-clause-told
+returns-in-Err-clause-told g c = c.give_cards.ensures.told ∙ (c.give_seeds.ensures.told ∙ (c.in-Err.ensures.told ∙ c.in_ok-pool.ensures.told))
+
+pub returns-in-Err-clause-starts : goal.returns-in-Err-clause-starts
+returns-in-Err-clause-starts g c = c.give_seeds.ensures.starts ∙ c.in-Err.ensures.starts
