@@ -326,17 +326,38 @@ may_refused s given p y (inl e) k = may_error s given p y (inl e) k
 may_refused s given p y (inr (inl e)) k = may_error s given p y (inr e) k
 may_refused s given p y (inr (inr e)) k = may_over s given p y e k
 
-pub over_none : (p : ℕ) (y : Reply) (names : List ℕ) → (y ≡ reply.Abort) ⊎ ((w : BreakCause) × (y ≡ reply.Broken w)) → late_after p y names ≡ []
+-- a reply that ends the session leaves none late, and another one leaves them as they are
+pub over_none : (p : ℕ) (y : Reply) (names : List ℕ) → (y ≡ reply.Abort) ⊎ ((w : BreakCause) × (y ≡ reply.Broken w)) ⊎ (y ≡ reply.NoMemory) → late_after p y names ≡ []
 over_none p y names (inl e) = ap (λ (w : Reply). late_after p w names) e
-over_none p y names (inr e) = ap (λ (w : Reply). late_after p w names) e.1
+over_none p y names (inr (inl e)) = ap (λ (w : Reply). late_after p w names) e.1
+over_none p y names (inr (inr e)) = ap (λ (w : Reply). late_after p w names) e
 
--- memory ran out for it; a second request is never delayed
+pub still_late : (p : ℕ) (y : Reply) (names : List ℕ) → (y ≡ reply.Content) ⊎ (y ≡ reply.Error) ⊎ (y ≡ reply.ErrorAfter) → names ≡ late_after p y names
+still_late p y names (inl e) = sym (ap (λ (w : Reply). late_after p w names) e)
+still_late p y names (inr (inl e)) = sym (ap (λ (w : Reply). late_after p w names) e)
+still_late p y names (inr (inr e)) = sym (ap (λ (w : Reply). late_after p w names) e)
+
+pub over_told : (y : Reply) → (y ≡ reply.Abort) ⊎ ((w : BreakCause) × (y ≡ reply.Broken w)) ⊎ (y ≡ reply.NoMemory) → y ≡ reply.Delayed → ⊥
+over_told y (inl e) d = let k : reply.Abort ≡ reply.Delayed = sym e ∙ d in absurd (cc (k))
+over_told y (inr (inl e)) d = let k : reply.Broken e.0 ≡ reply.Delayed = sym e.1 ∙ d in absurd (cc (k))
+over_told y (inr (inr e)) d = let k : reply.NoMemory ≡ reply.Delayed = sym e ∙ d in absurd (cc (k))
+
+pub here_told : (y : Reply) → (y ≡ reply.Content) ⊎ (y ≡ reply.Error) ⊎ (y ≡ reply.ErrorAfter) → y ≡ reply.Delayed → ⊥
+here_told y (inl e) d = let k : reply.Content ≡ reply.Delayed = sym e ∙ d in absurd (cc (k))
+here_told y (inr (inl e)) d = let k : reply.Error ≡ reply.Delayed = sym e ∙ d in absurd (cc (k))
+here_told y (inr (inr e)) d = let k : reply.ErrorAfter ≡ reply.Delayed = sym e ∙ d in absurd (cc (k))
+
+-- a second request is never delayed
+pub never_later : (y : Reply) → MayReply false y → y ≡ reply.Delayed → ⊥
+never_later y may e = let f : false ≡ true = subst (MayReply false) e may in absurd (cc (f))
+
+-- memory ran out for it
 pub drop_wanted : (s : Seat) (given : List Given) (p : ℕ) (put : Result ⊤ SendFault) → MayEnd s given p heard.OutOfMemory → MayDrop s given p put
 drop_wanted s given p put k = record { heard = heard.OutOfMemory; may = k; without = λ i. absurd (cc (i)); refused = λ why i. absurd (cc (i)) }
 
-pub may_empty : (s : Seat) (given : List Given) (p : ℕ) (y : Reply) (put : Result ⊤ SendFault) → (y ≡ reply.Delayed) ⊎ (y ≡ reply.NoMemory) → MayReply false y → ((h : Heard) → fate_here y ≡ Known h → MayEnd s given p h) → MayDrop s given p put
-may_empty s given p y put (inl e) may k = let f : false ≡ true = subst (MayReply false) e may in absurd (cc (f))
-may_empty s given p y put (inr e) may k = drop_wanted s given p put (k heard.OutOfMemory (ap fate_here e))
+pub may_empty : (s : Seat) (given : List Given) (p : ℕ) (y : Reply) (put : Result ⊤ SendFault) → (y ≡ reply.Delayed) ⊎ (y ≡ reply.NoMemory) → (y ≡ reply.Delayed → ⊥) → ((h : Heard) → fate_here y ≡ Known h → MayEnd s given p h) → MayDrop s given p put
+may_empty s given p y put (inl e) told k = absurd (told e)
+may_empty s given p y put (inr e) told k = drop_wanted s given p put (k heard.OutOfMemory (ap fate_here e))
 
 pub drop_unopened : (s : Seat) (given : List Given) (p : ℕ) (o : OpenCause) (put : Result ⊤ SendFault) → o ≡ opening.NoMemory → MayEnd s given p (heard_opening o) → MayDrop s given p put
 drop_unopened s given p o put e k = drop_wanted s given p put (subst (λ (x : OpenCause). MayEnd s given p (heard_opening x)) e k)

@@ -8,3 +8,4 @@ pub mod Calls
 pub mod RoundCalls
 pub mod Ties
 pub mod NotedTalks
+pub mod ReadCards

@@ -1,9 +1,11 @@
 //! What becomes of a card that its driver has told of.
 ghost use Rattle.std.specs.Prelude.{◌≡◌, ◌≢◌, ◌+◌, ◌++◌, ◌∷◌, [], List, Ok, Err, None, Bool, true, false};
 ghost use Rattle.checkout_core.specs.declared.event.Event.TheVariants.{Close};
+ghost use Rattle.checkout_core.specs.declared.path.Heard.{Heard};
 ghost use Rattle.checkout_core.specs.declared.path.Heard.TheVariants.{Got, Refused};
 ghost use Rattle.checkout_core.specs.declared.verdict.FilterCause.{FilterCause};
 ghost use Rattle.checkout_core.specs.Desks.{was_read};
+ghost use Rattle.checkout_core.specs.Fates.{Known, fate_here};
 ghost use Rattle.convert_plan.specs.Card.{card_seen};
 ghost use Rattle.edge_kit.specs.Faults.{Rose};
 ghost use Rattle.edge_kit.specs.Files.{IsOpenLeaf};
@@ -16,12 +18,13 @@ ghost use Rattle.driver_desk.specs.Cards.{IsAskedCard, IsUnreadCard};
 ghost use Rattle.driver_desk.specs.Shown.{ShowsUnused, IsGivenUp, ShowsLeaf};
 ghost use Rattle.driver_desk.specs.Recorders.{MayDo, ShowsClose};
 ghost use Rattle.driver_desk.specs.Endings.{MayDrop, MayEnd, IsEnd};
-ghost use Rattle.driver_desk.specs.Progress.{AreClosings, NoAnswer};
+ghost use Rattle.driver_desk.specs.Progress.{AreClosings, GotContent, NoAnswer};
 
 use crate::recorder::Recorder;
 use checkout_core::Own;
 use convert_plan::Card;
 use edge_kit::{Blob, Leaf, Mark, SendFault};
+use filter_words::Reply;
 
 /// A card with what is known of it until it is closed: whether its content isn't UTF-8, though an encoding is named.
 /// What was prepared stands in `ready`, where the driver isn't required.
@@ -127,7 +130,7 @@ fn close<B: Blob, L: Leaf, C: Recorder<B, L>>(mut card: Card<B, L>, recorder: &m
 }
 
 /// Closes a card whose leaf has its driver's answer.
-pub(crate) fn close_got<B: Blob, L: Leaf, C: Recorder<B, L>>(
+fn close_got<B: Blob, L: Leaf, C: Recorder<B, L>>(
     mut work: Work<B, L>,
     put: Result<(), SendFault>,
     recorder: &mut C,
@@ -171,7 +174,7 @@ pub(crate) fn close_empty<B: Blob, L: Leaf, C: Recorder<B, L>>(
 }
 
 /// Gives a refused card back with a fresh leaf. Where that fails it is closed.
-fn hand_back<B: Blob, L: Leaf, C: Recorder<B, L>>(mut work: Work<B, L>, recorder: &mut C)
+fn hand_back<B: Blob, L: Leaf, C: Recorder<B, L>>(work: Work<B, L>, recorder: &mut C)
     requires sound { C.sound recorder.old }
     requires asked { IsAskedCard (C.standing recorder.old) (card_seen B.told B.seen L.seen work.card) work.unencoded
         (Ok tt) }
@@ -185,11 +188,12 @@ fn hand_back<B: Blob, L: Leaf, C: Recorder<B, L>>(mut work: Work<B, L>, recorder
     ensures sound { C.sound recorder.new }
     ensures read { AddsRead (C.given recorder.old) (C.given recorder.new) }
 {
-    match work.card.leaf.restart() {
-        Ok(()) => recorder.hand_back(work.card),
+    let Work { mut card, .. } = work;
+    match card.leaf.restart() {
+        Ok(()) => recorder.hand_back(card),
         Err(_) => {
-            let own = write_failed(&mut work.card.leaf);
-            close(work.card, recorder, own);
+            let own = write_failed(&mut card.leaf);
+            close(card, recorder, own);
         }
     }
 }
@@ -221,6 +225,38 @@ pub(crate) fn refuse<B: Blob, L: Leaf, C: Recorder<B, L>>(
     match put {
         Ok(()) => hand_back(work, recorder),
         Err(_) => close_empty(work, put, recorder),
+    }
+}
+
+/// Ends a card that its driver has told of, and which it didn't delay.
+pub(crate) fn end_told<B: Blob, L: Leaf, C: Recorder<B, L>>(
+    work: Work<B, L>,
+    required: bool,
+    reply: Reply,
+    put: Result<(), SendFault>,
+    recorder: &mut C,
+)
+    requires sound { C.sound recorder.old }
+    requires asked { IsAskedCard (C.standing recorder.old) (card_seen B.told B.seen L.seen work.card) work.unencoded
+        put }
+    requires required { (C.standing recorder.old).required ≡ required }
+    requires may { (h : Heard) → fate_here reply ≡ Known h
+        → MayEnd (C.standing recorder.old) (C.given recorder.old) work.card.path h }
+    requires told { reply ≡ Reply.Delayed → ⊥ }
+    ensures ends { IsEnd (C.standing recorder.old) (C.given recorder.old) work.card.path (C.given recorder.new) }
+    ensures closed { AreClosings (GotContent reply put work.card.path (L.seen work.card.leaf).content)
+        (C.given recorder.old) (C.given recorder.new) }
+    ensures standing { C.standing recorder.new ≡ C.standing recorder.old }
+    ensures fixed { C.fixed recorder.new ≡ C.fixed recorder.old }
+    ensures sound { C.sound recorder.new }
+    ensures read { AddsRead (C.given recorder.old) (C.given recorder.new) }
+{
+    match reply {
+        Reply::Content => close_got(work, put, recorder),
+        Reply::Error | Reply::ErrorAfter | Reply::Abort | Reply::Broken(_) => {
+            refuse(work, required, put, recorder);
+        }
+        Reply::Delayed | Reply::NoMemory => close_empty(work, put, recorder),
     }
 }
 

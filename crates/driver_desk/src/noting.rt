@@ -86,8 +86,9 @@ impl<'a, B: Blob, L: Leaf, C: Recorder<B, L>> Recorder<B, L> for Noting<'a, C> {
     }
 
     fn close(&mut self, card: Card<B, L>, own: Own)
-        requires sound { C.sound self.old.recorder.now × IsNoting (C.standing self.old.recorder.now) (C.given self.old.recorder.now) self.old.talk.now.items
-            (vec_len self.old.talk.now) (vec_capacity self.old.talk.now) }
+        requires sound { C.sound self.old.recorder.now
+            × IsNoting (C.standing self.old.recorder.now) (C.given self.old.recorder.now)
+            self.old.talk.now.items (vec_len self.old.talk.now) (vec_capacity self.old.talk.now) }
         requires card { IsOneOf (C.standing self.old.recorder.now).cards (card_seen B.told B.seen L.seen card) }
         requires unready { card.ready ≡ None }
         requires next { let s = C.standing self.old.recorder.now in
@@ -97,15 +98,17 @@ impl<'a, B: Blob, L: Leaf, C: Recorder<B, L>> Recorder<B, L> for Noting<'a, C> {
         ensures standing { C.standing self.new.recorder.now ≡ C.standing self.old.recorder.now }
         ensures fixed { noting_fixed self.new.recorder.ghost_name self.new.talk.ghost_name (C.fixed self.new.recorder.now)
             ≡ noting_fixed self.old.recorder.ghost_name self.old.talk.ghost_name (C.fixed self.old.recorder.now) }
-        ensures sound { C.sound self.new.recorder.now × IsNoting (C.standing self.new.recorder.now) (C.given self.new.recorder.now) self.new.talk.now.items
-            (vec_len self.new.talk.now) (vec_capacity self.new.talk.now) }
+        ensures sound { C.sound self.new.recorder.now
+            × IsNoting (C.standing self.new.recorder.now) (C.given self.new.recorder.now)
+            self.new.talk.now.items (vec_len self.new.talk.now) (vec_capacity self.new.talk.now) }
     {
         self.recorder.close(card, own);
     }
 
     fn hand_back(&mut self, card: Card<B, L>)
-        requires sound { C.sound self.old.recorder.now × IsNoting (C.standing self.old.recorder.now) (C.given self.old.recorder.now) self.old.talk.now.items
-            (vec_len self.old.talk.now) (vec_capacity self.old.talk.now) }
+        requires sound { C.sound self.old.recorder.now
+            × IsNoting (C.standing self.old.recorder.now) (C.given self.old.recorder.now)
+            self.old.talk.now.items (vec_len self.old.talk.now) (vec_capacity self.old.talk.now) }
         requires card { IsRefusedOneOf (C.standing self.old.recorder.now).cards (card_seen B.told B.seen L.seen card) }
         requires free { (C.standing self.old.recorder.now).required ≡ false }
         requires own { let s = C.standing self.old.recorder.now in driver_at s.starts card.path ≡ Some s.driver }
@@ -114,8 +117,9 @@ impl<'a, B: Blob, L: Leaf, C: Recorder<B, L>> Recorder<B, L> for Noting<'a, C> {
         ensures standing { C.standing self.new.recorder.now ≡ C.standing self.old.recorder.now }
         ensures fixed { noting_fixed self.new.recorder.ghost_name self.new.talk.ghost_name (C.fixed self.new.recorder.now)
             ≡ noting_fixed self.old.recorder.ghost_name self.old.talk.ghost_name (C.fixed self.old.recorder.now) }
-        ensures sound { C.sound self.new.recorder.now × IsNoting (C.standing self.new.recorder.now) (C.given self.new.recorder.now) self.new.talk.now.items
-            (vec_len self.new.talk.now) (vec_capacity self.new.talk.now) }
+        ensures sound { C.sound self.new.recorder.now
+            × IsNoting (C.standing self.new.recorder.now) (C.given self.new.recorder.now)
+            self.new.talk.now.items (vec_len self.new.talk.now) (vec_capacity self.new.talk.now) }
     {
         self.recorder.hand_back(card);
     }

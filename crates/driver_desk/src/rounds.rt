@@ -3,33 +3,30 @@ ghost use Rattle.std.specs.Prelude.{◌≡◌, ◌≤◌, ◌<◌, ◌+◌, ◌�
 ghost use Rattle.std.specs.Prelude.{Some, None, length, map};
 ghost use Rattle.convert_plan.specs.Card.{card_seen};
 ghost use Rattle.driver_line.specs.Conversations.{list_notes};
-ghost use Rattle.driver_line.specs.Lines.{LineView, Paths, IsOpen, MayReply, names_in, weight};
+ghost use Rattle.driver_line.specs.Lines.{LineView, Paths, IsOpen, names_in, weight};
 ghost use Rattle.driver_desk.specs.Late.{FitsNames, KeepsNames, cards_of, names_at};
 ghost use Rattle.driver_desk.specs.Rounds.{paths_of, AreReady, AreApart, FitTexts, IsNext, RedoneCards, RoundsBy};
 ghost use Rattle.driver_desk.specs.Rounds.{TalkOver, TurnsBy};
-ghost use Rattle.checkout_core.specs.declared.path.Heard.{Heard};
-ghost use Rattle.checkout_core.specs.Fates.{Known, fate_here};
 ghost use Rattle.checkout_core.specs.Talks.{contains};
 ghost use Rattle.driver_desk.specs.Added.{AddsRead};
-ghost use Rattle.driver_desk.specs.Cards.{IsReadCard, IsAskedCard};
-ghost use Rattle.driver_desk.specs.Endings.{MayEnd, IsEnd};
+ghost use Rattle.driver_desk.specs.Cards.{IsReadCard};
 ghost use Rattle.driver_desk.specs.Places.{IsAt, IsServing, IsNaming, IsListing, AfterList, InRoundsAt, IsDone};
 ghost use Rattle.driver_desk.specs.Places.{named_talk};
 ghost use Rattle.driver_desk.specs.Serving.{Given, AllSealed};
-ghost use Rattle.driver_desk.specs.Progress.{AreClosings, GotContent, NoAnswer, Serves, IsAskable};
+ghost use Rattle.driver_desk.specs.Progress.{NoAnswer, Serves, IsAskable};
 ghost use Rattle.driver_desk.specs.Serving.{noted_in};
 ghost use Rattle.driver_desk.specs.Progress.{newest};
 
-use crate::closing::{Work, close_empty, close_got, refuse};
+use crate::closing::{Work, end_told};
 use crate::late::Late;
 use crate::laws::desk_laws;
 use crate::recorder::Recorder;
 use crate::serving::{Seat, close_late};
 use checkout_core::Event;
 use driver_line::Line;
-use edge_kit::{Blob, Leaf, SendFault, Starter};
+use edge_kit::{Blob, Leaf, Starter};
 use filter_proto::Asked;
-use filter_words::{ListReply, Reply};
+use filter_words::ListReply;
 
 /// Notes each path that was listed.
 fn note_names<B: Blob, L: Leaf, C: Recorder<B, L>>(recorder: &mut C, late: &Late<B, L>)
@@ -91,38 +88,6 @@ fn note_list<B: Blob, L: Leaf, C: Recorder<B, L>>(
     }
 }
 
-/// What becomes of a card after the reply to its second request.
-fn after_second<B: Blob, L: Leaf, C: Recorder<B, L>>(
-    seat: Seat,
-    recorder: &mut C,
-    work: Work<B, L>,
-    reply: Reply,
-    put: Result<(), SendFault>,
-)
-    requires sound { C.sound recorder.old }
-    requires asked { IsAskedCard (C.standing recorder.old) (card_seen B.told B.seen L.seen work.card) work.unencoded
-        put }
-    requires required { (C.standing recorder.old).required ≡ seat.required }
-    requires may { (h : Heard) → fate_here reply ≡ Known h
-        → MayEnd (C.standing recorder.old) (C.given recorder.old) work.card.path h }
-    requires again { MayReply false reply }
-    ensures ends { IsEnd (C.standing recorder.old) (C.given recorder.old) work.card.path (C.given recorder.new) }
-    ensures closed { AreClosings (GotContent reply put work.card.path (L.seen work.card.leaf).content)
-        (C.given recorder.old) (C.given recorder.new) }
-    ensures standing { C.standing recorder.new ≡ C.standing recorder.old }
-    ensures fixed { C.fixed recorder.new ≡ C.fixed recorder.old }
-    ensures sound { C.sound recorder.new }
-    ensures read { AddsRead (C.given recorder.old) (C.given recorder.new) }
-{
-    match reply {
-        Reply::Content => close_got(work, put, recorder),
-        Reply::Error | Reply::ErrorAfter | Reply::Abort | Reply::Broken(_) => {
-            refuse(work, seat.required, put, recorder);
-        }
-        Reply::Delayed | Reply::NoMemory => close_empty(work, put, recorder),
-    }
-}
-
 /// Asks again for the card of a path that was listed.
 fn redo<S: Starter, B: Blob, L: Leaf, C: Recorder<B, L>>(
     seat: Seat,
@@ -157,7 +122,7 @@ fn redo<S: Starter, B: Blob, L: Leaf, C: Recorder<B, L>>(
     let lent = &mut work.card;
     let Asked { reply, put } = line.ask_again(lent.text.as_slice(), &mut lent.leaf);
     recorder.note(Event::Redone { path, reply });
-    after_second(seat, recorder, work, reply, put);
+    end_told(work, seat.required, reply, put, recorder);
 }
 
 /// Asks again for the paths that were listed, while the session is open.

@@ -18,7 +18,7 @@ ghost use Rattle.driver_desk.specs.Cards.{IsPlanned, IsReadCard, IsAskedCard, re
 ghost use Rattle.driver_desk.specs.Endings.{MayEnd, IsEnd};
 ghost use Rattle.driver_desk.specs.Places.{IsAt, IsServing, IsUnopened, IsAnswered, AreLost};
 
-use crate::closing::{Work, close_empty, close_got, close_unread, refuse};
+use crate::closing::{Work, close_empty, close_unread, end_told, refuse};
 use crate::late::Late;
 use crate::laws::desk_laws;
 use crate::reading::read_card;
@@ -237,15 +237,12 @@ fn after_reply<B: Blob, L: Leaf, C: Recorder<B, L>>(
     desk_laws();
     let Asked { reply, put } = asked;
     match reply {
-        Reply::Content => close_got(work, put, recorder),
-        Reply::Error | Reply::ErrorAfter => refuse(work, seat.required, put, recorder),
         Reply::Delayed => late.keep(place, work),
-        Reply::Abort | Reply::Broken(_) => {
-            refuse(work, seat.required, put, recorder);
-            close_late(late, recorder);
+        Reply::Content | Reply::Error | Reply::ErrorAfter => {
+            end_told(work, seat.required, reply, put, recorder);
         }
-        Reply::NoMemory => {
-            close_empty(work, put, recorder);
+        Reply::Abort | Reply::Broken(_) | Reply::NoMemory => {
+            end_told(work, seat.required, reply, put, recorder);
             close_late(late, recorder);
         }
     }

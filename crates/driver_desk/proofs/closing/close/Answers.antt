@@ -16,3 +16,18 @@ returns-clause-closed g c = (Closed c.args.own _ ∷ [], c.close.ensures.given, 
 
 pub returns-clause-one : goal.returns-clause-one
 returns-clause-one g c = (_, refl, c.close.ensures.given)
+
+pub returns-clause-standing : goal.returns-clause-standing
+returns-clause-standing g c = c.close.ensures.standing
+
+pub returns-clause-fixed : goal.returns-clause-fixed
+returns-clause-fixed g c = c.close.ensures.fixed
+
+pub returns-clause-sound : goal.returns-clause-sound
+returns-clause-sound g c = c.close.ensures.sound
+
+pub close-requires-clause-sound : goal.close-requires-clause-sound
+close-requires-clause-sound g c = c.requires.sound
+
+pub close-requires-clause-next : goal.close-requires-clause-next
+close-requires-clause-next g c = c.requires.next

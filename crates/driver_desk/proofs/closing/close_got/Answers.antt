@@ -20,3 +20,15 @@ returns-clause-closed g c = closed_as _ _ _ _ (λ q told k. let w = c.seal_leaf-
 
 pub returns-clause-read : goal.returns-clause-read
 returns-clause-read g c = adds_closed _ _ _ _ c.seal_leaf-own.ensures.read c.close.ensures.one
+
+pub returns-clause-ends : goal.returns-clause-ends
+returns-clause-ends g c = c.close.ensures.ends
+
+pub returns-clause-standing : goal.returns-clause-standing
+returns-clause-standing g c = c.close.ensures.standing
+
+pub returns-clause-fixed : goal.returns-clause-fixed
+returns-clause-fixed g c = c.close.ensures.fixed
+
+pub returns-clause-sound : goal.returns-clause-sound
+returns-clause-sound g c = c.close.ensures.sound

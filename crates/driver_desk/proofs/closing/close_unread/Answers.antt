@@ -9,3 +9,24 @@ close-requires-clause-shows g c =
 pub returns-clause-closed : goal.returns-clause-closed
 returns-clause-closed g c = closed_as _ _ _ _
     (λ q told k. unused_sealed _ _ _ k.2 c.requires.leaf c.leave_unread.ensures.shows k.3) c.close.ensures.closed
+
+pub returns-clause-ends : goal.returns-clause-ends
+returns-clause-ends g c = c.close.ensures.ends
+
+pub returns-clause-standing : goal.returns-clause-standing
+returns-clause-standing g c = c.close.ensures.standing
+
+pub returns-clause-fixed : goal.returns-clause-fixed
+returns-clause-fixed g c = c.close.ensures.fixed
+
+pub returns-clause-sound : goal.returns-clause-sound
+returns-clause-sound g c = c.close.ensures.sound
+
+pub returns-clause-one : goal.returns-clause-one
+returns-clause-one g c = c.close.ensures.one
+
+pub close-requires-clause-sound : goal.close-requires-clause-sound
+close-requires-clause-sound g c = c.requires.sound
+
+pub close-requires-clause-next : goal.close-requires-clause-next
+close-requires-clause-next g c = c.requires.next

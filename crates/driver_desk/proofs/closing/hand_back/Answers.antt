@@ -51,3 +51,24 @@ returns-in-Ok-clause-read g c = (HandedBack _ ∷ [], c.hand_back.ensures.given,
 
 pub returns-in-Err-clause-read : goal.returns-in-Err-clause-read
 returns-in-Err-clause-read g c = adds_closed _ _ _ _ (ap was_read c.write_failed-own.ensures.own) c.close.ensures.one
+
+pub returns-in-Ok-clause-standing : goal.returns-in-Ok-clause-standing
+returns-in-Ok-clause-standing g c = c.hand_back.ensures.standing
+
+pub returns-in-Ok-clause-fixed : goal.returns-in-Ok-clause-fixed
+returns-in-Ok-clause-fixed g c = c.hand_back.ensures.fixed
+
+pub returns-in-Ok-clause-sound : goal.returns-in-Ok-clause-sound
+returns-in-Ok-clause-sound g c = c.hand_back.ensures.sound
+
+pub returns-in-Err-clause-ends : goal.returns-in-Err-clause-ends
+returns-in-Err-clause-ends g c = c.close.ensures.ends
+
+pub returns-in-Err-clause-standing : goal.returns-in-Err-clause-standing
+returns-in-Err-clause-standing g c = c.close.ensures.standing
+
+pub returns-in-Err-clause-fixed : goal.returns-in-Err-clause-fixed
+returns-in-Err-clause-fixed g c = c.close.ensures.fixed
+
+pub returns-in-Err-clause-sound : goal.returns-in-Err-clause-sound
+returns-in-Err-clause-sound g c = c.close.ensures.sound

@@ -1,9 +1,13 @@
-use Rattle.std.proofs.Common.{◌≡◌, ◌∷◌, ◌++◌, [], List, map, refl, ap, sym, subst, ◌∙◌, ◌+◌, ◌≤◌, arith, length}
+use Rattle.std.proofs.Common.{◌≡◌, ◌∷◌, ◌++◌, [], List, ℕ, Bool, Option, map, drop, refl, ap, sym, subst, ◌∙◌, ◌+◌, ◌≤◌, arith, length}
 use Rattle.std.proofs.lemmas.List.{append-nil}
 use Rattle.convert_plan.specs.Card.{CardSeen, card_seen}
 use Rattle.convert_plan.specs.declared.card.Card.{Card}
 use Rattle.driver_desk.specs.Rounds.{LateSeen, paths_of, AreReady, AreApart, FitTexts}
-use Rattle.driver_desk.specs.Works.{card_paths}
+use Rattle.filter_proto.specs.Wires.{SessionSeen}
+use Rattle.driver_desk.specs.Late.{cards_of}
+use Rattle.driver_desk.specs.Places.{IsServing}
+use Rattle.driver_desk.specs.Serving.{Given}
+use Rattle.driver_desk.specs.Works.{cards_in, card_paths}
 use Rattle.driver_desk.specs.Progress.{newest}
 use Rattle.driver_desk.proofs.Serves.{fit_done, asked_more, serves_asked}
 use Rattle.driver_desk.specs.Recorders.{Standing}
@@ -13,6 +17,16 @@ use Rattle.driver_desk.proofs.CardLists.{all_next, here_is, read_push, len_push,
 use Rattle.driver_desk.proofs.RoundCalls.{serving_none, serving_card, apart_next}
 use Rattle.driver_desk.proofs.Ties.{works_push}
 use Rattle.driver_desk.proofs.desk.serve_all.Goals as goal
+
+-- no card is left
+none_left : {A : Type 0} (xs ys : List A) → xs ≡ ys → ys ≡ drop 1 xs → xs ≡ []
+none_left [] ys e i = refl
+none_left {A} (x ∷ xs) ys e i = let k = ap (λ (zs : List A). length zs) (e ∙ i) in absurd (omega (arith, k))
+
+serving_rest : (s : Standing) (given : List Given) (session : Option SessionSeen) (aborted : Bool) (late rest rest1 : List ℕ)
+    → rest ≡ rest1 → IsServing s given session aborted late [] rest → IsServing s given session aborted late [] rest1
+serving_rest s given session aborted late rest rest1 e h =
+    subst (λ (x : List ℕ). IsServing s given session aborted late [] x) e h
 
 pub loop-card-init : goal.loop-card-init
 loop-card-init g c = record {
@@ -105,3 +119,57 @@ loop-card-preserved g c =
         works_push h.serves.0 w _ _ _ h.serves.6 e.serves.4,
       );
     }
+
+pub returns-clause-standing : goal.returns-clause-standing
+returns-clause-standing g c = c.loop-card.invariant.standing
+
+pub returns-clause-fixed : goal.returns-clause-fixed
+returns-clause-fixed g c = c.loop-card.invariant.fixed
+
+pub returns-clause-sound : goal.returns-clause-sound
+returns-clause-sound g c = c.loop-card.invariant.sound
+
+pub returns-clause-ready : goal.returns-clause-ready
+returns-clause-ready g c = c.loop-card.invariant.ready
+
+pub returns-clause-done : goal.returns-clause-done
+returns-clause-done g c = c.loop-card.invariant.done
+
+pub returns-clause-askable : goal.returns-clause-askable
+returns-clause-askable g c = c.loop-card.invariant.askable
+
+pub returns-clause-names : goal.returns-clause-names
+returns-clause-names g c = c.loop-card.invariant.names
+
+pub returns-clause-turns : goal.returns-clause-turns
+returns-clause-turns g c = c.loop-card.invariant.turns
+
+pub returns-clause-apart : goal.returns-clause-apart
+returns-clause-apart g c =
+    let e = c.in_default.ensures in
+    let late = paths_of (cards_of c.loop-card.late) in
+    subst AreApart
+    (ap (λ (xs : List (Card g.row.B.Denot g.row.L.Denot)). late ++ card_paths (map (λ (k : Card g.row.B.Denot g.row.L.Denot). card_seen g.B.Blob.told g.B.Blob.seen g.L.Leaf.seen k) xs))
+    (none_left _ _ e.items e.rest) ∙ append-nil late)
+    c.loop-card.invariant.apart
+
+pub returns-clause-state : goal.returns-clause-state
+returns-clause-state g c =
+    let e = c.in_default.ensures in
+    serving_rest _ _ _ _ _ _ _
+    (ap (λ (xs : List (Card g.row.B.Denot g.row.L.Denot)). card_paths (map (λ (k : Card g.row.B.Denot g.row.L.Denot). card_seen g.B.Blob.told g.B.Blob.seen g.L.Leaf.seen k) xs))
+    (none_left _ _ e.items e.rest))
+    c.loop-card.invariant.state
+
+pub returns-clause-serves : goal.returns-clause-serves
+returns-clause-serves g c =
+    let e = c.in_default.ensures in
+    let v = c.loop-card.invariant.serves in (
+      v.0,
+      v.1 ∙ (ap (λ (xs : List (Card g.row.B.Denot g.row.L.Denot)). cards_in v.0 ++ map (λ (k : Card g.row.B.Denot g.row.L.Denot). card_seen g.B.Blob.told g.B.Blob.seen g.L.Leaf.seen k) xs)
+          (none_left _ _ e.items e.rest) ∙ append-nil (cards_in v.0)),
+      v.3,
+      v.4,
+      v.5,
+      v.6,
+    )

@@ -37,3 +37,39 @@ returns-clause-talk g c =
           (e.3 paths c.args.line.now (g.C.Recorder.given c.args.noting.now.recorder.now) [] fit (serves_start c.args.service.now.seat.driver paths c.args.line.now c.args.line.now (g.C.Recorder.given c.args.noting.now.recorder.now) [] refl c.requires.none refl)))),
       (g.C.Recorder.given c.serve_all.new.recorder.recorder.now, e.5, c.end_talk.ensures.read),
     )
+
+pub serve_all-requires-clause-sound : goal.serve_all-requires-clause-sound
+serve_all-requires-clause-sound g c κs within = c.requires.sound
+
+pub serve_all-requires-clause-starts : goal.serve_all-requires-clause-starts
+serve_all-requires-clause-starts g c κs within = c.requires.starts
+
+pub serve_all-requires-clause-none : goal.serve_all-requires-clause-none
+serve_all-requires-clause-none g c κs within = c.requires.none
+
+pub serve_all-requires-clause-empty : goal.serve_all-requires-clause-empty
+serve_all-requires-clause-empty g c κs within = c.requires.late.none
+
+pub serve_all-requires-clause-cards : goal.serve_all-requires-clause-cards
+serve_all-requires-clause-cards g c κs within = c.requires.cards
+
+pub serve_all-requires-clause-new : goal.serve_all-requires-clause-new
+serve_all-requires-clause-new g c κs within = c.requires.new
+
+pub serve_all-requires-clause-numbers : goal.serve_all-requires-clause-numbers
+serve_all-requires-clause-numbers g c κs within = c.requires.late.numbers
+
+pub serve_all-requires-clause-idle : goal.serve_all-requires-clause-idle
+serve_all-requires-clause-idle g c κs within = c.requires.late.idle
+
+pub serve_all-requires-clause-apart : goal.serve_all-requires-clause-apart
+serve_all-requires-clause-apart g c κs within = c.requires.late.apart
+
+pub serve_all-requires-clause-driver : goal.serve_all-requires-clause-driver
+serve_all-requires-clause-driver g c κs within = c.requires.driver
+
+pub serve_all-requires-clause-required : goal.serve_all-requires-clause-required
+serve_all-requires-clause-required g c κs within = c.requires.required
+
+pub serve_all-requires-clause-state : goal.serve_all-requires-clause-state
+serve_all-requires-clause-state g c κs within = c.requires.state

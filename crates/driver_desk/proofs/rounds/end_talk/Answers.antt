@@ -1,4 +1,4 @@
-use Rattle.std.proofs.Common.{refl, ap, inl, inr, List}
+use Rattle.std.proofs.Common.{refl, ap, inl, inr, List, sym, ℕ, Some}
 use Rattle.driver_desk.specs.Late.{cards_of}
 use Rattle.driver_desk.specs.Rounds.{LateSeen, paths_of}
 use Rattle.driver_desk.specs.Progress.{newest}
@@ -65,3 +65,81 @@ returns-then-not-has_smudge-clause-read g c = adds_note _ _ _ c.note.ensures.giv
 
 pub returns-then-is_empty-clause-read : goal.returns-then-is_empty-clause-read
 returns-then-is_empty-clause-read g c = adds_note _ _ _ c.note-then-is_empty.ensures.given
+
+pub note-requires-clause-sound : goal.note-requires-clause-sound
+note-requires-clause-sound g c = c.requires.sound
+
+pub note-requires-clause-noted : goal.note-requires-clause-noted
+note-requires-clause-noted g c = refl
+
+pub note-requires-clause-own : goal.note-requires-clause-own
+note-requires-clause-own g c = ap (λ (d : ℕ). Some d) (sym c.requires.driver)
+
+pub note-requires-then-is_empty-clause-sound : goal.note-requires-then-is_empty-clause-sound
+note-requires-then-is_empty-clause-sound g c = c.requires.sound
+
+pub note-requires-then-is_empty-clause-noted : goal.note-requires-then-is_empty-clause-noted
+note-requires-then-is_empty-clause-noted g c = refl
+
+pub note-requires-then-is_empty-clause-own : goal.note-requires-then-is_empty-clause-own
+note-requires-then-is_empty-clause-own g c = ap (λ (d : ℕ). Some d) (sym c.requires.driver)
+
+pub rounds-requires-clause-sound : goal.rounds-requires-clause-sound
+rounds-requires-clause-sound g c κs within = c.requires.sound
+
+pub rounds-requires-clause-none : goal.rounds-requires-clause-none
+rounds-requires-clause-none g c κs within = c.requires.none
+
+pub rounds-requires-clause-ready : goal.rounds-requires-clause-ready
+rounds-requires-clause-ready g c κs within = c.requires.ready
+
+pub rounds-requires-clause-apart : goal.rounds-requires-clause-apart
+rounds-requires-clause-apart g c κs within = c.requires.apart
+
+pub rounds-requires-clause-driver : goal.rounds-requires-clause-driver
+rounds-requires-clause-driver g c κs within = c.requires.driver
+
+pub rounds-requires-clause-required : goal.rounds-requires-clause-required
+rounds-requires-clause-required g c κs within = c.requires.required
+
+pub returns-then-not-is_open-clause-standing : goal.returns-then-not-is_open-clause-standing
+returns-then-not-is_open-clause-standing g c = refl
+
+pub returns-then-not-is_open-clause-fixed : goal.returns-then-not-is_open-clause-fixed
+returns-then-not-is_open-clause-fixed g c = refl
+
+pub returns-then-not-is_open-clause-sound : goal.returns-then-not-is_open-clause-sound
+returns-then-not-is_open-clause-sound g c = c.requires.sound
+
+pub returns-then-not-has_smudge-clause-standing : goal.returns-then-not-has_smudge-clause-standing
+returns-then-not-has_smudge-clause-standing g c = c.note.ensures.standing
+
+pub returns-then-not-has_smudge-clause-fixed : goal.returns-then-not-has_smudge-clause-fixed
+returns-then-not-has_smudge-clause-fixed g c = c.note.ensures.fixed
+
+pub returns-then-not-has_smudge-clause-sound : goal.returns-then-not-has_smudge-clause-sound
+returns-then-not-has_smudge-clause-sound g c = c.note.ensures.sound
+
+pub returns-then-is_empty-clause-standing : goal.returns-then-is_empty-clause-standing
+returns-then-is_empty-clause-standing g c = c.note-then-is_empty.ensures.standing
+
+pub returns-then-is_empty-clause-fixed : goal.returns-then-is_empty-clause-fixed
+returns-then-is_empty-clause-fixed g c = c.note-then-is_empty.ensures.fixed
+
+pub returns-then-is_empty-clause-sound : goal.returns-then-is_empty-clause-sound
+returns-then-is_empty-clause-sound g c = c.note-then-is_empty.ensures.sound
+
+pub returns-clause-standing : goal.returns-clause-standing
+returns-clause-standing g c = c.rounds.ensures.standing
+
+pub returns-clause-fixed : goal.returns-clause-fixed
+returns-clause-fixed g c = c.rounds.ensures.fixed
+
+pub returns-clause-sound : goal.returns-clause-sound
+returns-clause-sound g c = c.rounds.ensures.sound
+
+pub returns-clause-read : goal.returns-clause-read
+returns-clause-read g c = c.rounds.ensures.read
+
+pub returns-clause-none : goal.returns-clause-none
+returns-clause-none g c = c.rounds.ensures.none

@@ -1,4 +1,4 @@
-use Rattle.std.proofs.Common.{◌∷◌, [], ℕ, Some, refl, sym, ap}
+use Rattle.std.proofs.Common.{◌∷◌, [], ℕ, Some, refl, sym, ap, ◌∙◌}
 use Rattle.checkout_core.specs.declared.event.Event.TheVariants as event
 use Rattle.driver_line.specs.Lines.{names_in}
 use Rattle.driver_desk.specs.Serving.{Noted}
@@ -55,3 +55,21 @@ returns-in-Empty g c =
 
 pub returns-in-Names-clause-read : goal.returns-in-Names-clause-read
 returns-in-Names-clause-read g c = adds_both _ _ _ c.note_names.ensures.read (adds_note _ _ _ c.note.ensures.given)
+
+pub note_names-requires-clause-sound : goal.note_names-requires-clause-sound
+note_names-requires-clause-sound g c = c.requires.sound
+
+pub note-requires-clause-sound : goal.note-requires-clause-sound
+note-requires-clause-sound g c = c.note_names.ensures.sound
+
+pub note-requires-clause-noted : goal.note-requires-clause-noted
+note-requires-clause-noted g c = refl
+
+pub returns-in-Names-clause-standing : goal.returns-in-Names-clause-standing
+returns-in-Names-clause-standing g c = c.note.ensures.standing ∙ c.note_names.ensures.standing
+
+pub returns-in-Names-clause-fixed : goal.returns-in-Names-clause-fixed
+returns-in-Names-clause-fixed g c = c.note.ensures.fixed ∙ c.note_names.ensures.fixed
+
+pub returns-in-Names-clause-sound : goal.returns-in-Names-clause-sound
+returns-in-Names-clause-sound g c = c.note.ensures.sound

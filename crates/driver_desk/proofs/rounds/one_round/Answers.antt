@@ -8,6 +8,7 @@ use Rattle.driver_desk.specs.Rounds.{LateSeen, paths_of, AreReady, FitTexts}
 use Rattle.driver_desk.proofs.RoundSteps.{ready_as, next_listed, listed, listed_at, open_live, fewer_round, some_at}
 use Rattle.driver_desk.proofs.RoundCalls.{lists, after_list_at, names_same}
 use Rattle.driver_desk.proofs.Ties.{adds_both}
+use Rattle.driver_desk.specs.Recorders.{Standing}
 use Rattle.driver_desk.proofs.rounds.one_round.Goals as goal
 
 pub note_list-requires-clause-next : goal.note_list-requires-clause-next
@@ -48,3 +49,36 @@ returns-clause-fewer g c = subst (λ (n : List LateSeen). weight c.redo_all.new.
 
 pub returns-clause-read : goal.returns-clause-read
 returns-clause-read g c = adds_both _ _ _ c.note_list.ensures.read c.redo_all.ensures.read
+
+pub note_list-requires-clause-sound : goal.note_list-requires-clause-sound
+note_list-requires-clause-sound g c = c.requires.sound
+
+pub note_list-requires-clause-driver : goal.note_list-requires-clause-driver
+note_list-requires-clause-driver g c = c.requires.driver
+
+pub redo_all-requires-clause-sound : goal.redo_all-requires-clause-sound
+redo_all-requires-clause-sound g c κs within = c.note_list.ensures.sound
+
+pub redo_all-requires-clause-driver : goal.redo_all-requires-clause-driver
+redo_all-requires-clause-driver g c κs within = ap (λ (s : Standing). s.driver) c.note_list.ensures.standing ∙ c.requires.driver
+
+pub redo_all-requires-clause-required : goal.redo_all-requires-clause-required
+redo_all-requires-clause-required g c κs within = ap (λ (s : Standing). s.required) c.note_list.ensures.standing ∙ c.requires.required
+
+pub returns-clause-standing : goal.returns-clause-standing
+returns-clause-standing g c = c.redo_all.ensures.standing ∙ c.note_list.ensures.standing
+
+pub returns-clause-fixed : goal.returns-clause-fixed
+returns-clause-fixed g c = c.redo_all.ensures.fixed ∙ c.note_list.ensures.fixed
+
+pub returns-clause-sound : goal.returns-clause-sound
+returns-clause-sound g c = c.redo_all.ensures.sound
+
+pub returns-clause-next : goal.returns-clause-next
+returns-clause-next g c = c.redo_all.ensures.next
+
+pub returns-clause-turns : goal.returns-clause-turns
+returns-clause-turns g c = c.redo_all.ensures.turns
+
+pub returns-clause-apart : goal.returns-clause-apart
+returns-clause-apart g c = c.redo_all.ensures.apart

@@ -1,4 +1,4 @@
-use Rattle.std.proofs.Common.{◌≡◌, ◌⊎◌, inl, inr, ◌<◌, ◌+◌, ℕ, List, length, ap, sym, subst, ◌∙◌, arith}
+use Rattle.std.proofs.Common.{◌≡◌, ◌⊎◌, inl, inr, ◌<◌, ◌+◌, ℕ, List, length, ap, sym, subst, ◌∙◌, arith, refl}
 use Rattle.delay_table.specs.Table.{Table}
 use Rattle.driver_desk.specs.Late.{LateView, cards_of, names_at}
 use Rattle.driver_desk.specs.Rounds.{FitTexts, paths_of, RedoneCards, RoundsBy}
@@ -6,7 +6,8 @@ use Rattle.driver_desk.proofs.LateCards.{step_names, taken_length}
 use Rattle.driver_desk.proofs.RoundSteps.{read_as, taken_ready, taken_apart, taken_fits, taken_redone, some_there}
 use Rattle.driver_desk.proofs.Serves.{is_none}
 use Rattle.driver_desk.proofs.RoundCalls.{redo_has, redo_turns, redo_over, rounds_none_at}
-use Rattle.driver_desk.proofs.Ties.{adds_both}
+use Rattle.driver_desk.proofs.Ties.{adds_both, adds_none}
+use Rattle.driver_desk.specs.Recorders.{Standing}
 use Rattle.driver_desk.proofs.rounds.redo_all.Goals as goal
 
 pub redo-requires-clause-read : goal.redo-requires-clause-read
@@ -59,3 +60,77 @@ loop-seat-preserved g c =
     fewer_of : {a b i : ℕ} {P : Type 0} → P ⊎ (b < i) → (P → b ≡ i) → a + 1 ≡ b → a < i
     fewer_of (inl p) same e = let k = same p in omega (arith, k, e)
     fewer_of (inr lt) same e = omega (arith, lt, e)
+
+pub loop-seat-init : goal.loop-seat-init
+loop-seat-init g c = record {
+  next = c.requires.next;
+  ready = c.requires.ready;
+  apart = c.requires.apart;
+  fits = λ paths fit. fit;
+  names = (refl, refl);
+  rounds = λ paths line0 given0 asked fit r. r;
+  state = c.requires.state;
+  read = adds_none _ _ refl;
+  sound = c.requires.sound;
+  standing = refl;
+  fixed = refl;
+  shuts = λ none. none;
+  fewer = inl (refl, refl);
+}
+
+pub redo-requires-clause-sound : goal.redo-requires-clause-sound
+redo-requires-clause-sound g c κs within = c.loop-seat.invariant.sound
+
+pub redo-requires-clause-driver : goal.redo-requires-clause-driver
+redo-requires-clause-driver g c κs within = ap (λ (s : Standing). s.driver) c.loop-seat.invariant.standing ∙ c.requires.driver
+
+pub redo-requires-clause-required : goal.redo-requires-clause-required
+redo-requires-clause-required g c κs within = ap (λ (s : Standing). s.required) c.loop-seat.invariant.standing ∙ c.requires.required
+
+pub returns-clause-standing : goal.returns-clause-standing
+returns-clause-standing g c = c.loop-seat.invariant.standing
+
+pub returns-clause-fixed : goal.returns-clause-fixed
+returns-clause-fixed g c = c.loop-seat.invariant.fixed
+
+pub returns-clause-sound : goal.returns-clause-sound
+returns-clause-sound g c = c.loop-seat.invariant.sound
+
+pub returns-clause-read : goal.returns-clause-read
+returns-clause-read g c = c.loop-seat.invariant.read
+
+pub returns-clause-next : goal.returns-clause-next
+returns-clause-next g c = c.loop-seat.invariant.next
+
+pub returns-clause-ready : goal.returns-clause-ready
+returns-clause-ready g c = c.loop-seat.invariant.ready
+
+pub returns-clause-apart : goal.returns-clause-apart
+returns-clause-apart g c = c.loop-seat.invariant.apart
+
+pub returns-clause-fits : goal.returns-clause-fits
+returns-clause-fits g c = c.loop-seat.invariant.fits
+
+pub returns-clause-names : goal.returns-clause-names
+returns-clause-names g c = c.loop-seat.invariant.names
+
+pub returns-clause-shuts : goal.returns-clause-shuts
+returns-clause-shuts g c = c.loop-seat.invariant.shuts
+
+pub returns-in_default-clause-standing : goal.returns-in_default-clause-standing
+returns-in_default-clause-standing g c = c.loop-seat.invariant.standing
+
+pub returns-in_default-clause-fixed : goal.returns-in_default-clause-fixed
+returns-in_default-clause-fixed g c = c.loop-seat.invariant.fixed
+
+pub returns-in_default-clause-sound : goal.returns-in_default-clause-sound
+returns-in_default-clause-sound g c = c.loop-seat.invariant.sound
+
+pub returns-in_default-clause-read : goal.returns-in_default-clause-read
+returns-in_default-clause-read g c = c.loop-seat.invariant.read
+
+pub returns-in_default-clause-next : goal.returns-in_default-clause-next
+returns-in_default-clause-next g c = c.loop-seat.invariant.next
+
+pub returns-in_default-clause-shuts : goal.returns-in_default-clause-shuts
+returns-in_default-clause-shuts g c = c.loop-seat.invariant.shuts

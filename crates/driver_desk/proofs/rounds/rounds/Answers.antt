@@ -1,8 +1,9 @@
-use Rattle.std.proofs.Common.{◌∙◌, sym}
+use Rattle.std.proofs.Common.{◌∙◌, sym, ap}
 use Rattle.driver_desk.proofs.Serves.{is_none}
 use Rattle.driver_desk.proofs.RoundSteps.{ready_as, rounds_over, fits_names}
 use Rattle.driver_desk.proofs.RoundCalls.{rounds_lost, done_lost}
 use Rattle.driver_desk.proofs.Ties.{adds_both}
+use Rattle.driver_desk.specs.Recorders.{Standing}
 use Rattle.driver_desk.proofs.rounds.rounds.Goals as goal
 
 pub loop-seat-preserved : goal.loop-seat-preserved
@@ -46,3 +47,30 @@ returns-clause-over g c paths line0 given0 asked fit names h =
 
 pub returns-clause-read : goal.returns-clause-read
 returns-clause-read g c = adds_both _ _ _ c.loop-seat.invariant.read c.close_late.ensures.read
+
+pub one_round-requires-clause-sound : goal.one_round-requires-clause-sound
+one_round-requires-clause-sound g c κs within = c.loop-seat.invariant.sound
+
+pub one_round-requires-clause-apart : goal.one_round-requires-clause-apart
+one_round-requires-clause-apart g c κs within = c.loop-seat.invariant.apart
+
+pub one_round-requires-clause-state : goal.one_round-requires-clause-state
+one_round-requires-clause-state g c κs within = c.loop-seat.invariant.state
+
+pub one_round-requires-clause-driver : goal.one_round-requires-clause-driver
+one_round-requires-clause-driver g c κs within = ap (λ (s : Standing). s.driver) c.loop-seat.invariant.standing ∙ c.requires.driver
+
+pub one_round-requires-clause-required : goal.one_round-requires-clause-required
+one_round-requires-clause-required g c κs within = ap (λ (s : Standing). s.required) c.loop-seat.invariant.standing ∙ c.requires.required
+
+pub close_late-requires-clause-sound : goal.close_late-requires-clause-sound
+close_late-requires-clause-sound g c = c.loop-seat.invariant.sound
+
+pub returns-clause-standing : goal.returns-clause-standing
+returns-clause-standing g c = c.close_late.ensures.standing ∙ c.loop-seat.invariant.standing
+
+pub returns-clause-fixed : goal.returns-clause-fixed
+returns-clause-fixed g c = c.close_late.ensures.fixed ∙ c.loop-seat.invariant.fixed
+
+pub returns-clause-sound : goal.returns-clause-sound
+returns-clause-sound g c = c.close_late.ensures.sound

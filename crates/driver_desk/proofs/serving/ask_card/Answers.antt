@@ -1,4 +1,4 @@
-use Rattle.std.proofs.Common.{ap, sym, subst, ◌∙◌, ◌≤◌, ℕ, List, length, Option, refl}
+use Rattle.std.proofs.Common.{ap, sym, subst, ◌∙◌, ◌≤◌, ℕ, List, length, Option, refl, Some}
 use Rattle.convert_plan.specs.Card.{CardSeen, card_seen}
 use Rattle.edge_kit.specs.Told.{Tells}
 use Rattle.driver_desk.proofs.RoundSteps.{ready_as}
@@ -11,6 +11,7 @@ use Rattle.driver_desk.specs.Endings.{MayEnd}
 use Rattle.driver_desk.proofs.Places.{own_driver, first_has}
 use Rattle.driver_desk.proofs.Calls.{asks, asked_serving, end_as, answered_for, at_back, serving_as, answered_as}
 use Rattle.driver_desk.proofs.Ties.{adds_both, adds_note}
+use Rattle.driver_desk.specs.Recorders.{Standing}
 use Rattle.driver_desk.proofs.serving.ask_card.Goals as goal
 
 pub note-requires-clause-own : goal.note-requires-clause-own
@@ -83,3 +84,39 @@ returns-clause-done g c e = asked_done c.args.line.now.session c.ask-asked.new.s
 
 pub returns-clause-read : goal.returns-clause-read
 returns-clause-read g c = adds_both _ _ _ (adds_note _ _ _ c.note.ensures.given) c.after_reply.ensures.read
+
+pub note-requires-clause-sound : goal.note-requires-clause-sound
+note-requires-clause-sound g c = c.requires.sound
+
+pub note-requires-clause-noted : goal.note-requires-clause-noted
+note-requires-clause-noted g c = refl
+
+pub after_reply-requires-clause-sound : goal.after_reply-requires-clause-sound
+after_reply-requires-clause-sound g c = c.note.ensures.sound
+
+pub after_reply-requires-clause-here : goal.after_reply-requires-clause-here
+after_reply-requires-clause-here g c = c.requires.here ∙ ap (λ (q : ℕ). Some q) (sym c.keep_ready-work.ensures.path)
+
+pub after_reply-requires-clause-idle : goal.after_reply-requires-clause-idle
+after_reply-requires-clause-idle g c = c.requires.idle
+
+pub after_reply-requires-clause-required : goal.after_reply-requires-clause-required
+after_reply-requires-clause-required g c = ap (λ (s : Standing). s.required) c.note.ensures.standing ∙ c.requires.required
+
+pub returns-clause-standing : goal.returns-clause-standing
+returns-clause-standing g c = c.after_reply.ensures.standing ∙ c.note.ensures.standing
+
+pub returns-clause-fixed : goal.returns-clause-fixed
+returns-clause-fixed g c = c.after_reply.ensures.fixed ∙ c.note.ensures.fixed
+
+pub returns-clause-sound : goal.returns-clause-sound
+returns-clause-sound g c = c.after_reply.ensures.sound
+
+pub returns-clause-names : goal.returns-clause-names
+returns-clause-names g c = c.after_reply.ensures.names
+
+pub returns-clause-idle : goal.returns-clause-idle
+returns-clause-idle g c = c.after_reply.ensures.idle
+
+pub returns-clause-turns : goal.returns-clause-turns
+returns-clause-turns g c = c.after_reply.ensures.turns

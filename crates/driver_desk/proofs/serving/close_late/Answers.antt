@@ -34,3 +34,21 @@ loop-work-preserved g c =
 
 pub returns-clause-next : goal.returns-clause-next
 returns-clause-next g c rest first t a = lost_none _ _ _ rest first t c.in_default.ensures.next.0 (c.loop-work.invariant.next rest first t a)
+
+pub close_empty-requires-clause-sound : goal.close_empty-requires-clause-sound
+close_empty-requires-clause-sound g c = c.loop-work.invariant.sound
+
+pub returns-clause-standing : goal.returns-clause-standing
+returns-clause-standing g c = c.loop-work.invariant.standing
+
+pub returns-clause-fixed : goal.returns-clause-fixed
+returns-clause-fixed g c = c.loop-work.invariant.fixed
+
+pub returns-clause-sound : goal.returns-clause-sound
+returns-clause-sound g c = c.loop-work.invariant.sound
+
+pub returns-clause-read : goal.returns-clause-read
+returns-clause-read g c = c.loop-work.invariant.read
+
+pub returns-clause-closed : goal.returns-clause-closed
+returns-clause-closed g c = c.loop-work.invariant.closed

@@ -1,4 +1,4 @@
-use Rattle.std.proofs.Common.{refl}
+use Rattle.std.proofs.Common.{refl, ap, sym, ℕ, Some}
 use Rattle.driver_desk.proofs.Serves.{opened, not_opened}
 use Rattle.driver_desk.proofs.Calls.{opens, opens_not, unopened_as, unopened_for}
 use Rattle.driver_desk.proofs.Ties.{adds_note}
@@ -40,3 +40,54 @@ returns-in-Live-clause-read g c = adds_note _ _ _ c.note.ensures.given
 
 pub returns-in-Failed-clause-read : goal.returns-in-Failed-clause-read
 returns-in-Failed-clause-read g c = adds_note _ _ _ c.note-in-Failed.ensures.given
+
+pub note-requires-clause-sound : goal.note-requires-clause-sound
+note-requires-clause-sound g c = c.requires.sound
+
+pub note-requires-clause-noted : goal.note-requires-clause-noted
+note-requires-clause-noted g c = refl
+
+pub note-requires-clause-own : goal.note-requires-clause-own
+note-requires-clause-own g c = ap (λ (d : ℕ). Some d) (sym c.requires.driver)
+
+pub note-requires-in-Failed-clause-sound : goal.note-requires-in-Failed-clause-sound
+note-requires-in-Failed-clause-sound g c = c.requires.sound
+
+pub note-requires-in-Failed-clause-noted : goal.note-requires-in-Failed-clause-noted
+note-requires-in-Failed-clause-noted g c = refl
+
+pub returns-in-Live-clause-fails : goal.returns-in-Live-clause-fails
+returns-in-Live-clause-fails g c cause e = absurd (cc (e))
+
+pub returns-in-Live-clause-closed : goal.returns-in-Live-clause-closed
+returns-in-Live-clause-closed g c cause e = absurd (cc (e))
+
+pub returns-in-Live-clause-failed : goal.returns-in-Live-clause-failed
+returns-in-Live-clause-failed g c cause e = absurd (cc (e))
+
+pub returns-in-Live-clause-standing : goal.returns-in-Live-clause-standing
+returns-in-Live-clause-standing g c = c.note.ensures.standing
+
+pub returns-in-Live-clause-fixed : goal.returns-in-Live-clause-fixed
+returns-in-Live-clause-fixed g c = c.note.ensures.fixed
+
+pub returns-in-Live-clause-sound : goal.returns-in-Live-clause-sound
+returns-in-Live-clause-sound g c = c.note.ensures.sound
+
+pub returns-in-Failed-clause-opens : goal.returns-in-Failed-clause-opens
+returns-in-Failed-clause-opens g c e = absurd (cc (e))
+
+pub returns-in-Failed-clause-opened : goal.returns-in-Failed-clause-opened
+returns-in-Failed-clause-opened g c e = absurd (cc (e))
+
+pub returns-in-Failed-clause-there : goal.returns-in-Failed-clause-there
+returns-in-Failed-clause-there g c e = absurd (cc (e))
+
+pub returns-in-Failed-clause-standing : goal.returns-in-Failed-clause-standing
+returns-in-Failed-clause-standing g c = c.note-in-Failed.ensures.standing
+
+pub returns-in-Failed-clause-fixed : goal.returns-in-Failed-clause-fixed
+returns-in-Failed-clause-fixed g c = c.note-in-Failed.ensures.fixed
+
+pub returns-in-Failed-clause-sound : goal.returns-in-Failed-clause-sound
+returns-in-Failed-clause-sound g c = c.note-in-Failed.ensures.sound

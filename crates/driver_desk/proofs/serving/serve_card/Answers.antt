@@ -1,4 +1,4 @@
-use Rattle.std.proofs.Common.{sym, subst, ℕ, refl, [], false}
+use Rattle.std.proofs.Common.{sym, subst, ℕ, refl, [], false, ap, inl, ◌∙◌, arith}
 use Rattle.checkout_core.specs.declared.path.Heard.TheVariants as heard
 use Rattle.checkout_core.specs.declared.verdict.FilterCause.TheVariants as cause
 use Rattle.checkout_core.specs.Conditions.{heard_opening}
@@ -8,6 +8,10 @@ use Rattle.driver_desk.proofs.Calls.{ended_at, serving_as, serving_ends, unopene
 use Rattle.driver_desk.proofs.RoundSteps.{ready_as}
 use Rattle.driver_desk.proofs.Closings.{asked_not, planned_as, grows_as}
 use Rattle.driver_desk.proofs.Ties.{adds_both}
+use Rattle.driver_desk.specs.Recorders.{Standing}
+use Rattle.driver_desk.proofs.LateCards.{idle_more}
+use Rattle.driver_desk.specs.Rounds.{paths_of}
+use Rattle.driver_desk.specs.Late.{cards_of}
 use Rattle.driver_desk.proofs.serving.serve_card.Goals as goal
 
 pub not_opened-requires-clause-may : goal.not_opened-requires-clause-may
@@ -84,3 +88,132 @@ returns-then-not-has_smudge-clause-read g c = adds_both _ _ _ c.open_for.ensures
 
 pub returns-clause-read : goal.returns-clause-read
 returns-clause-read g c = adds_both _ _ _ c.open_for.ensures.read c.ask_card.ensures.read
+
+pub open_for-requires-clause-sound : goal.open_for-requires-clause-sound
+open_for-requires-clause-sound g c κs within = c.requires.sound
+
+pub open_for-requires-clause-driver : goal.open_for-requires-clause-driver
+open_for-requires-clause-driver g c κs within = c.requires.driver
+
+pub open_for-requires-clause-few : goal.open_for-requires-clause-few
+open_for-requires-clause-few g c κs within = c.requires.starts
+
+pub open_for-requires-clause-next : goal.open_for-requires-clause-next
+open_for-requires-clause-next g c κs within = let r = c.requires.next in (paths_of (cards_of c.args.late.now), r.0, r.1, r.2)
+
+pub not_opened-requires-clause-sound : goal.not_opened-requires-clause-sound
+not_opened-requires-clause-sound g c = c.open_for.ensures.sound
+
+pub not_opened-requires-clause-required : goal.not_opened-requires-clause-required
+not_opened-requires-clause-required g c = ap (λ (s : Standing). s.required) c.open_for.ensures.standing ∙ c.requires.required
+
+pub refuse-requires-clause-sound : goal.refuse-requires-clause-sound
+refuse-requires-clause-sound g c = c.open_for.ensures.sound
+
+pub refuse-requires-clause-required : goal.refuse-requires-clause-required
+refuse-requires-clause-required g c = ap (λ (s : Standing). s.required) c.open_for.ensures.standing ∙ c.requires.required
+
+pub ask_card-requires-clause-prepared : goal.ask_card-requires-clause-prepared
+ask_card-requires-clause-prepared g c κs within = c.requires.prepared
+
+pub ask_card-requires-clause-here : goal.ask_card-requires-clause-here
+ask_card-requires-clause-here g c κs within = c.requires.here
+
+pub ask_card-requires-clause-idle : goal.ask_card-requires-clause-idle
+ask_card-requires-clause-idle g c κs within = c.requires.idle
+
+pub ask_card-requires-clause-sound : goal.ask_card-requires-clause-sound
+ask_card-requires-clause-sound g c κs within = c.open_for.ensures.sound
+
+pub ask_card-requires-clause-driver : goal.ask_card-requires-clause-driver
+ask_card-requires-clause-driver g c κs within = ap (λ (s : Standing). s.driver) c.open_for.ensures.standing ∙ c.requires.driver
+
+pub ask_card-requires-clause-required : goal.ask_card-requires-clause-required
+ask_card-requires-clause-required g c κs within = ap (λ (s : Standing). s.required) c.open_for.ensures.standing ∙ c.requires.required
+
+pub returns-in-Some-clause-standing : goal.returns-in-Some-clause-standing
+returns-in-Some-clause-standing g c = c.not_opened.ensures.standing ∙ c.open_for.ensures.standing
+
+pub returns-in-Some-clause-fixed : goal.returns-in-Some-clause-fixed
+returns-in-Some-clause-fixed g c = c.not_opened.ensures.fixed ∙ c.open_for.ensures.fixed
+
+pub returns-in-Some-clause-sound : goal.returns-in-Some-clause-sound
+returns-in-Some-clause-sound g c = c.not_opened.ensures.sound
+
+pub returns-in-Some-clause-cards : goal.returns-in-Some-clause-cards
+returns-in-Some-clause-cards g c = inl refl
+
+pub returns-in-Some-clause-done : goal.returns-in-Some-clause-done
+returns-in-Some-clause-done g c e = absurd (cc (e))
+
+pub returns-in-Some-clause-askable : goal.returns-in-Some-clause-askable
+returns-in-Some-clause-askable g c = c.open_for.ensures.askable _ c.requires.askable
+
+pub returns-in-Some-clause-names : goal.returns-in-Some-clause-names
+returns-in-Some-clause-names g c = (refl, refl)
+
+pub returns-in-Some-clause-idle : goal.returns-in-Some-clause-idle
+returns-in-Some-clause-idle g c = idle_more c.args.late.now c.args.placed.place c.requires.idle
+
+pub returns-in-Some-clause-turns : goal.returns-in-Some-clause-turns
+returns-in-Some-clause-turns g c e = e
+
+pub returns-in-Some-clause-starts : goal.returns-in-Some-clause-starts
+returns-in-Some-clause-starts g c = c.open_for.ensures.starts
+
+pub returns-then-not-has_smudge-clause-standing : goal.returns-then-not-has_smudge-clause-standing
+returns-then-not-has_smudge-clause-standing g c = c.refuse.ensures.standing ∙ c.open_for.ensures.standing
+
+pub returns-then-not-has_smudge-clause-fixed : goal.returns-then-not-has_smudge-clause-fixed
+returns-then-not-has_smudge-clause-fixed g c = c.refuse.ensures.fixed ∙ c.open_for.ensures.fixed
+
+pub returns-then-not-has_smudge-clause-sound : goal.returns-then-not-has_smudge-clause-sound
+returns-then-not-has_smudge-clause-sound g c = c.refuse.ensures.sound
+
+pub returns-then-not-has_smudge-clause-cards : goal.returns-then-not-has_smudge-clause-cards
+returns-then-not-has_smudge-clause-cards g c = inl refl
+
+pub returns-then-not-has_smudge-clause-done : goal.returns-then-not-has_smudge-clause-done
+returns-then-not-has_smudge-clause-done g c e = absurd (cc (e))
+
+pub returns-then-not-has_smudge-clause-askable : goal.returns-then-not-has_smudge-clause-askable
+returns-then-not-has_smudge-clause-askable g c = c.open_for.ensures.askable _ c.requires.askable
+
+pub returns-then-not-has_smudge-clause-names : goal.returns-then-not-has_smudge-clause-names
+returns-then-not-has_smudge-clause-names g c = (refl, refl)
+
+pub returns-then-not-has_smudge-clause-idle : goal.returns-then-not-has_smudge-clause-idle
+returns-then-not-has_smudge-clause-idle g c = idle_more c.args.late.now c.args.placed.place c.requires.idle
+
+pub returns-then-not-has_smudge-clause-turns : goal.returns-then-not-has_smudge-clause-turns
+returns-then-not-has_smudge-clause-turns g c e = e
+
+pub returns-then-not-has_smudge-clause-starts : goal.returns-then-not-has_smudge-clause-starts
+returns-then-not-has_smudge-clause-starts g c = c.open_for.ensures.starts
+
+pub returns-clause-standing : goal.returns-clause-standing
+returns-clause-standing g c = c.ask_card.ensures.standing ∙ c.open_for.ensures.standing
+
+pub returns-clause-fixed : goal.returns-clause-fixed
+returns-clause-fixed g c = c.ask_card.ensures.fixed ∙ c.open_for.ensures.fixed
+
+pub returns-clause-sound : goal.returns-clause-sound
+returns-clause-sound g c = c.ask_card.ensures.sound
+
+pub returns-clause-done : goal.returns-clause-done
+returns-clause-done g c = c.ask_card.ensures.done
+
+pub returns-clause-askable : goal.returns-clause-askable
+returns-clause-askable g c = c.ask_card.ensures.askable
+
+pub returns-clause-names : goal.returns-clause-names
+returns-clause-names g c = c.ask_card.ensures.names
+
+pub returns-clause-idle : goal.returns-clause-idle
+returns-clause-idle g c = c.ask_card.ensures.idle
+
+pub returns-clause-turns : goal.returns-clause-turns
+returns-clause-turns g c = c.ask_card.ensures.turns
+
+pub returns-clause-starts : goal.returns-clause-starts
+returns-clause-starts g c = let a = c.ask_card.ensures.starts in let b = c.open_for.ensures.starts in omega (arith, a, b)

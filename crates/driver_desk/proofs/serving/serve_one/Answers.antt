@@ -1,4 +1,4 @@
-use Rattle.std.proofs.Common.{refl, ap, sym, subst, ◌∙◌, ◌++◌, ◌∷◌, ◌+◌, [], ℕ, Ok, Err, false}
+use Rattle.std.proofs.Common.{refl, ap, sym, subst, ◌∙◌, ◌++◌, ◌∷◌, ◌+◌, [], ℕ, Ok, Err, false, Some, inl, arith}
 use Rattle.convert_plan.specs.Card.{CardSeen, card_seen, IsPrepared}
 use Rattle.checkout_core.specs.declared.event.Event.TheVariants.{Close}
 use Rattle.checkout_core.specs.declared.path.Heard.TheVariants as heard
@@ -13,6 +13,7 @@ use Rattle.driver_desk.proofs.RoundSteps.{serves_as}
 use Rattle.driver_desk.proofs.CardLists.{alone_own}
 use Rattle.driver_desk.proofs.Calls.{aborted_ends, aborted_as, ended_at, serving_as, serving_ends, serving_fails, serving_next}
 use Rattle.driver_desk.proofs.Closings.{asked_not, planned_as, grows_as, read_ok}
+use Rattle.driver_desk.proofs.LateCards.{idle_more}
 use Rattle.driver_desk.proofs.serving.serve_one.Goals as goal
 
 pub refuse-requires-clause-may : goal.refuse-requires-clause-may
@@ -110,3 +111,123 @@ returns-in-Err-clause-serves g c = (
   (λ paths line0 given0 asked fit s. work_failed c.args.service.now.seat.driver paths line0 given0 asked c.args.placed.card.path (Err c.in-Err.own) c.in-Err.own _ _ _ _ _ refl c.close_unread.ensures.closed s),
   let o = c.close_unread.ensures.one in (o.0, o.1 ∙ ap (λ (x : CardSeen). x.path) c.read_card.ensures.kept, o.2),
 )
+
+pub refuse-requires-clause-sound : goal.refuse-requires-clause-sound
+refuse-requires-clause-sound g c = c.requires.sound
+
+pub refuse-requires-clause-required : goal.refuse-requires-clause-required
+refuse-requires-clause-required g c = c.requires.required
+
+pub close_unread-requires-clause-sound : goal.close_unread-requires-clause-sound
+close_unread-requires-clause-sound g c = c.requires.sound
+
+pub serve_card-requires-clause-sound : goal.serve_card-requires-clause-sound
+serve_card-requires-clause-sound g c κs within = c.requires.sound
+
+pub serve_card-requires-clause-starts : goal.serve_card-requires-clause-starts
+serve_card-requires-clause-starts g c κs within = c.requires.starts
+
+pub serve_card-requires-clause-askable : goal.serve_card-requires-clause-askable
+serve_card-requires-clause-askable g c κs within = c.requires.askable
+
+pub serve_card-requires-clause-idle : goal.serve_card-requires-clause-idle
+serve_card-requires-clause-idle g c κs within = c.requires.idle
+
+pub serve_card-requires-clause-ready : goal.serve_card-requires-clause-ready
+serve_card-requires-clause-ready g c κs within = c.requires.ready
+
+pub serve_card-requires-clause-driver : goal.serve_card-requires-clause-driver
+serve_card-requires-clause-driver g c κs within = c.requires.driver
+
+pub serve_card-requires-clause-required : goal.serve_card-requires-clause-required
+serve_card-requires-clause-required g c κs within = c.requires.required
+
+pub serve_card-requires-clause-here : goal.serve_card-requires-clause-here
+serve_card-requires-clause-here g c κs within = c.requires.here ∙ ap (λ (q : ℕ). Some q) (sym (ap (λ (x : CardSeen). x.path) c.read_card.ensures.kept))
+
+pub returns-then-aborted-clause-standing : goal.returns-then-aborted-clause-standing
+returns-then-aborted-clause-standing g c = c.refuse.ensures.standing
+
+pub returns-then-aborted-clause-fixed : goal.returns-then-aborted-clause-fixed
+returns-then-aborted-clause-fixed g c = c.refuse.ensures.fixed
+
+pub returns-then-aborted-clause-sound : goal.returns-then-aborted-clause-sound
+returns-then-aborted-clause-sound g c = c.refuse.ensures.sound
+
+pub returns-then-aborted-clause-cards : goal.returns-then-aborted-clause-cards
+returns-then-aborted-clause-cards g c = inl refl
+
+pub returns-then-aborted-clause-askable : goal.returns-then-aborted-clause-askable
+returns-then-aborted-clause-askable g c = c.requires.askable
+
+pub returns-then-aborted-clause-names : goal.returns-then-aborted-clause-names
+returns-then-aborted-clause-names g c = (refl, refl)
+
+pub returns-then-aborted-clause-idle : goal.returns-then-aborted-clause-idle
+returns-then-aborted-clause-idle g c = idle_more c.args.late.now c.args.placed.place c.requires.idle
+
+pub returns-then-aborted-clause-turns : goal.returns-then-aborted-clause-turns
+returns-then-aborted-clause-turns g c e = e
+
+pub returns-then-aborted-clause-starts : goal.returns-then-aborted-clause-starts
+returns-then-aborted-clause-starts g c = omega arith
+
+pub returns-in-Err-clause-standing : goal.returns-in-Err-clause-standing
+returns-in-Err-clause-standing g c = c.close_unread.ensures.standing
+
+pub returns-in-Err-clause-fixed : goal.returns-in-Err-clause-fixed
+returns-in-Err-clause-fixed g c = c.close_unread.ensures.fixed
+
+pub returns-in-Err-clause-sound : goal.returns-in-Err-clause-sound
+returns-in-Err-clause-sound g c = c.close_unread.ensures.sound
+
+pub returns-in-Err-clause-cards : goal.returns-in-Err-clause-cards
+returns-in-Err-clause-cards g c = inl refl
+
+pub returns-in-Err-clause-askable : goal.returns-in-Err-clause-askable
+returns-in-Err-clause-askable g c = c.requires.askable
+
+pub returns-in-Err-clause-names : goal.returns-in-Err-clause-names
+returns-in-Err-clause-names g c = (refl, refl)
+
+pub returns-in-Err-clause-idle : goal.returns-in-Err-clause-idle
+returns-in-Err-clause-idle g c = idle_more c.args.late.now c.args.placed.place c.requires.idle
+
+pub returns-in-Err-clause-turns : goal.returns-in-Err-clause-turns
+returns-in-Err-clause-turns g c e = e
+
+pub returns-in-Err-clause-starts : goal.returns-in-Err-clause-starts
+returns-in-Err-clause-starts g c = omega arith
+
+pub returns-then-aborted-clause-done : goal.returns-then-aborted-clause-done
+returns-then-aborted-clause-done g c e = c.requires.done c.if-aborted.true
+
+pub returns-in-Err-clause-done : goal.returns-in-Err-clause-done
+returns-in-Err-clause-done g c = c.requires.done
+
+pub returns-else-aborted-clause-standing : goal.returns-else-aborted-clause-standing
+returns-else-aborted-clause-standing g c = c.serve_card.ensures.standing
+
+pub returns-else-aborted-clause-fixed : goal.returns-else-aborted-clause-fixed
+returns-else-aborted-clause-fixed g c = c.serve_card.ensures.fixed
+
+pub returns-else-aborted-clause-sound : goal.returns-else-aborted-clause-sound
+returns-else-aborted-clause-sound g c = c.serve_card.ensures.sound
+
+pub returns-else-aborted-clause-done : goal.returns-else-aborted-clause-done
+returns-else-aborted-clause-done g c = c.serve_card.ensures.done
+
+pub returns-else-aborted-clause-askable : goal.returns-else-aborted-clause-askable
+returns-else-aborted-clause-askable g c = c.serve_card.ensures.askable
+
+pub returns-else-aborted-clause-names : goal.returns-else-aborted-clause-names
+returns-else-aborted-clause-names g c = c.serve_card.ensures.names
+
+pub returns-else-aborted-clause-idle : goal.returns-else-aborted-clause-idle
+returns-else-aborted-clause-idle g c = c.serve_card.ensures.idle
+
+pub returns-else-aborted-clause-turns : goal.returns-else-aborted-clause-turns
+returns-else-aborted-clause-turns g c = c.serve_card.ensures.turns
+
+pub returns-else-aborted-clause-starts : goal.returns-else-aborted-clause-starts
+returns-else-aborted-clause-starts g c = c.serve_card.ensures.starts
