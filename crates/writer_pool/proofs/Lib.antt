@@ -21,3 +21,4 @@ pub mod DeskTalks
 pub mod Backs
 pub mod Tied
 pub mod Pooling
+pub mod ReadCards

@@ -1,5 +1,8 @@
 //! The desks of a pool, made of their seeds before anything is started.
-ghost use Rattle.std.specs.Prelude.{◌≡◌, ◌≤◌, ◌<◌, ◌^◌, ◌++◌, ℕ, None, IfOk, length, map, slice_get};
+ghost use Rattle.std.specs.Prelude.{◌≡◌, ◌≤◌, ◌<◌, ◌^◌, ◌++◌, ◌∷◌, [], ℕ, Some, None, IfOk, OnOk, length, map};
+ghost use Rattle.std.specs.Prelude.{slice_get, vec_capacity};
+ghost use Rattle.std.specs.Global.{Vec};
+ghost use Rattle.checkout_core.specs.declared.event.Event.{Event};
 ghost use Rattle.checkout_book.specs.Sights.{sight};
 ghost use Rattle.writer_pool.specs.declared.pooled.DeskSeed.{DeskSeed};
 ghost use Rattle.writer_pool.specs.Dealing.{AreDecks, AreRooms, desk_jobs, head_of};
@@ -29,6 +32,30 @@ pub(crate) struct Apart<S, B: Blob, L: Leaf> {
     pub talks: Vec<Vec<Event>>,
 }
 
+/// Adds room for so many notes.
+fn add_room(alloc: Global, talks: &mut Vec<Vec<Event>>, notes: usize) -> Result<(), AllocError>
+    ensures { OnOk result ((v : Vec Event) × (talks.new.items ≡ talks.old.items ++ v ∷ []) × (v.items ≡ [])
+        × (notes ≤ vec_capacity v)) }
+{
+    talks.push(Vec::with_capacity(alloc, notes)?)?;
+    Ok(())
+}
+
+/// Adds a value to each of two vectors.
+fn add_both<H: Drop, C: Drop>(
+    heads: &mut Vec<H>,
+    cards: &mut Vec<C>,
+    head: H,
+    card: C,
+) -> Result<(), AllocError>
+    ensures heads { OnOk result (heads.new.items ≡ heads.old.items ++ head ∷ []) }
+    ensures cards { OnOk result (cards.new.items ≡ cards.old.items ++ card ∷ []) }
+{
+    heads.push(head)?;
+    cards.push(card)?;
+    Ok(())
+}
+
 /// Takes seeds apart. A driver has at most seven notes for each of its paths, and four more.
 pub(crate) fn take_apart<S: Starter, B: Blob, L: Leaf>(
     alloc: Global,
@@ -39,18 +66,22 @@ pub(crate) fn take_apart<S: Starter, B: Blob, L: Leaf>(
     ensures cards { IfOk result (λ r. r.cards.items ≡ map (λ x. x.cards) seeds.items) }
     ensures talks { IfOk result (λ r. AreRooms seeds.items r.talks.items) }
 {
-    let mut heads = Vec::with_capacity(alloc, seeds.len())?;
-    let mut decks = Vec::with_capacity(alloc, seeds.len())?;
-    let mut talks = Vec::with_capacity(alloc, seeds.len())?;
+    let mut heads = Vec::new(alloc);
+    let mut decks = Vec::new(alloc);
+    let mut talks = Vec::new(alloc);
     for seed in seeds {
+        add_room(alloc, &mut talks, 7 * seed.cards.len() + 4)?;
         let DeskSeed {
             required,
             starter,
             cards,
         } = seed;
-        talks.push(Vec::with_capacity(alloc, 7 * cards.len() + 4)?)?;
-        heads.push(DeskHead { required, starter })?;
-        decks.push(cards)?;
+        add_both(
+            &mut heads,
+            &mut decks,
+            DeskHead { required, starter },
+            cards,
+        )?;
     }
     Ok(Apart {
         heads,
@@ -71,6 +102,21 @@ pub(crate) fn worker_jobs<P: Drop, D: Drop>(
         jobs.push(Job { pass, desk: None })?;
     }
     Ok(jobs)
+}
+
+/// Adds the job of a desk.
+fn add_job<P: Drop, D: Drop>(
+    jobs: &mut Vec<Job<P, DeskJob<D>>>,
+    pass: P,
+    required: bool,
+    desk: D,
+) -> Result<(), AllocError>
+    ensures { OnOk result (jobs.new.items ≡ jobs.old.items
+        ++ record { pass = pass; desk = Some (record { required = required; desk = desk }) } ∷ []) }
+{
+    let desk = Some(DeskJob { required, desk });
+    jobs.push(Job { pass, desk })?;
+    Ok(())
 }
 
 /// These jobs, and then those of the desks. Each desk is made of what starts its driver and of its dealt cards.
@@ -95,10 +141,7 @@ pub(crate) fn with_desks<S: Starter, B: Blob, L: Leaf>(
             unreachable!()
         };
         let desk = Desk::make(alloc, workers + driver, driver, required, starter, cards)?;
-        jobs.push(Job {
-            pass,
-            desk: Some(DeskJob { required, desk }),
-        })?;
+        add_job(&mut jobs, pass, required, desk)?;
         driver += 1;
     }
     Ok(jobs)

@@ -1,11 +1,12 @@
 //! What a card's object is prepared to.
-ghost use Rattle.std.specs.Prelude.{◌≡◌, Ok, Err};
+ghost use Rattle.std.specs.Prelude.{◌≡◌, IfOk, IfErr};
 ghost use Rattle.convert_plan.specs.Card.{card_seen};
+ghost use Rattle.convert_plan.specs.Prepared.{prepared};
 ghost use Rattle.driver_desk.specs.Cards.{KeepsCard};
 ghost use Rattle.driver_desk.specs.Works.{own_of, ReadsTo, CountsRead};
 
 use checkout_core::{ObjectKind, Own};
-use convert_plan::{Card, prepare};
+use convert_plan::{Card, Conversion, prepare};
 use edge_kit::{Blob, Leaf};
 use object_dir::{ObjectFault, read_blob};
 use std::alloc::Global;
@@ -26,6 +27,22 @@ fn own_of(fault: ObjectFault) -> Own
     }
 }
 
+/// Prepares the content of an object.
+fn prepared_of(
+    alloc: Global,
+    conversion: &Conversion,
+    object: &[u8; 20],
+    content: Vec<u8>,
+) -> Result<Prepared, Own>
+    ensures done { IfOk result (λ p. p ≡ prepared conversion.now object.now content.items) }
+    ensures fails { IfErr result (λ o. o ≡ Own.NoMemory) }
+{
+    match prepare(alloc, conversion, object, content) {
+        Ok(prepared) => Ok(prepared),
+        Err(_) => Err(Own::NoMemory),
+    }
+}
+
 /// Reads the object of a card and prepares its content.
 pub(crate) fn read_card<B: Blob, L: Leaf>(
     alloc: Global,
@@ -36,10 +53,7 @@ pub(crate) fn read_card<B: Blob, L: Leaf>(
     ensures counts { CountsRead (B.seen card.old.blob).faults (B.seen card.new.blob).faults result }
 {
     match read_blob(alloc, &mut card.blob, &card.object) {
-        Ok(content) => match prepare(alloc, &card.conversion, &card.object, content) {
-            Ok(prepared) => Ok(prepared),
-            Err(_) => Err(Own::NoMemory),
-        },
+        Ok(content) => prepared_of(alloc, &card.conversion, &card.object, content),
         Err(fault) => Err(own_of(fault)),
     }
 }

@@ -17,17 +17,17 @@ loop-seed-preserved g c =
     let i = c.loop-seed.invariant in
     let y = c.loop-seed.yielded in
     let x : DeskSeed S B L = c.in-Some.seed in
-    let v = c.in_ok-with_capacity in
-    let room = v.ensures.capacity in
+    let room = c.in_ok-add_room.ensures in
+    let most = room.3 in
     record {
       whole = append_assoc y (x ∷ []) c.next.new.self.rest.items
           ∙ (ap (λ (l : List (DeskSeed S B L)). y ++ l) (sym c.in-Some.ensures.steps.0) ∙ i.whole);
-      heads = c.in_ok-push-2.ensures.items ∙ (ap (λ (l : List (DeskHead S)). l ++ head_of x ∷ []) i.heads
+      heads = c.in_ok-add_both.ensures.heads ∙ (ap (λ (l : List (DeskHead S)). l ++ head_of x ∷ []) i.heads
           ∙ sym (map-append (λ (z : DeskSeed S B L). head_of z) y (x ∷ [])));
-      cards = c.in_ok-push-3.ensures.items ∙ (ap (λ (l : List (Vec (Card B L))). l ++ x.cards ∷ []) i.cards
+      cards = c.in_ok-add_both.ensures.cards ∙ (ap (λ (l : List (Vec (Card B L))). l ++ x.cards ∷ []) i.cards
           ∙ sym (map-append (λ (z : DeskSeed S B L). z.cards) y (x ∷ [])));
-      talks = subst (λ (l : List (Vec Event)). AreRooms (y ++ x ∷ []) l) (sym c.in_ok-push.ensures.items)
-          (rooms_more y c.loop-seed.talks.items x v.field-0 i.talks v.ensures.items (omega (arith, room, x.cards.ok.0)));
+      talks = subst (λ (l : List (Vec Event)). AreRooms (y ++ x ∷ []) l) (sym room.1)
+          (rooms_more y c.loop-seed.talks.items x room.0 i.talks room.2 (omega (arith, most, x.cards.ok.0)));
       can = tt;
       ends = tt;
     }

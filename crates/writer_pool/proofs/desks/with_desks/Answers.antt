@@ -22,10 +22,10 @@ loop-pass-preserved g c =
     let count = i.count in
     record {
       jobs = desks_more g.S.Starter.seen see c.args.workers c.loop-pass.driver c.loop-pass.jobs.items
-          c.push.new.self.items _ c.loop-pass.heads.rest.items c.next-in-loop-pass.new.self.rest.items
+          c.add_job.new.jobs.items _ c.loop-pass.heads.rest.items c.next-in-loop-pass.new.self.rest.items
           c.loop-pass.pass-iterator.rest.items c.next.new.self.rest.items c.in-Some-next.field-0
           (c.in-Some-next.field-0).required (c.in-Some.pass, c.in-Some.cards) c.in_ok-desk.desk i.jobs at_heads at_cards
-          c.in_ok-desk.ensures refl c.in_ok-push.ensures.items;
+          c.in_ok-desk.ensures refl c.in_ok-add_job.ensures;
       heads = omega (arith, ap length at_heads, ap length at_cards, heads);
       count = omega (arith, ap length at_cards, count);
       decks = (subst (λ (l : List X). AreDecks see (map (λ (x : X). x.1) l)) at_cards i.decks).1;
