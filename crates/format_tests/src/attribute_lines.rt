@@ -1,40 +1,39 @@
-use crate::table::{Row, check, filled};
+use crate::table::{Row, check, cut, filled, number_of, push_all};
 use attr_line::{AttrFile, AttrRow, AttrState, Pair, Skipped, read_attributes};
 use std::alloc::{AllocError, Global};
 use std::test::Fail;
 
-/// Appends a pair as `git check-attr` writes it.
-fn push_pair(list: &mut Vec<u8>, pair: &Pair) -> Result<(), AllocError> {
-    list.push(b' ')?;
-    list.extend_from_slice(pair.name.as_slice())?;
-    list.push(b':')?;
-    match &pair.state {
-        AttrState::Set => list.extend_from_slice(b"set"),
-        AttrState::Unset => list.extend_from_slice(b"unset"),
-        AttrState::Unspecified => list.extend_from_slice(b"unspecified"),
-        AttrState::Value(value) => list.extend_from_slice(value.as_slice()),
+/// A state as `git check-attr` writes it.
+fn state_shown(state: &AttrState) -> &[u8] {
+    match state {
+        AttrState::Set => b"set",
+        AttrState::Unset => b"unset",
+        AttrState::Unspecified => b"unspecified",
+        AttrState::Value(value) => value.as_slice(),
     }
+}
+
+/// Appends pairs as `git check-attr` writes them, and ends the line.
+fn push_pairs(list: &mut Vec<u8>, pairs: &[Pair]) -> Result<(), AllocError> {
+    for pair in pairs {
+        let state = state_shown(&pair.state);
+        push_all(list, &[b" ", pair.name.as_slice(), b":", state])?;
+    }
+    list.extend_from_slice(b"\n")
 }
 
 /// Appends a row: its pattern or, after `macro `, its name, and then its pairs.
 fn push_row(list: &mut Vec<u8>, row: &AttrRow) -> Result<(), AllocError> {
-    let pairs = match row {
+    match row {
         AttrRow::Rule { pattern, pairs } => {
             list.extend_from_slice(pattern.as_slice())?;
-            pairs
+            push_pairs(list, pairs.as_slice())
         }
         AttrRow::Macro { name, pairs } => {
-            list.extend_from_slice(b"macro ")?;
-            list.extend_from_slice(name.as_slice())?;
-            pairs
+            push_all(list, &[b"macro ", name.as_slice()])?;
+            push_pairs(list, pairs.as_slice())
         }
-    };
-    let pairs = pairs.as_slice();
-    for pair in pairs {
-        push_pair(list, pair)?;
     }
-    list.push(b'\n')?;
-    Ok(())
 }
 
 fn listed(alloc: Global, file: &AttrFile) -> Result<Vec<u8>, AllocError> {
@@ -91,17 +90,36 @@ fn counts_of(alloc: Global, skipped: &Skipped) -> Result<String, AllocError> {
     format!(in alloc; "{long} {negative} {name} {place}")
 }
 
+/// Whether a file that may be in the top folder has these rows, and so many lines that are skipped.
+fn is_read(
+    alloc: Global,
+    text: &[u8],
+    is_top: bool,
+    want: &[u8],
+    skipped: &[u8],
+) -> Result<bool, AllocError> {
+    let file = read_attributes(alloc, text, is_top)?;
+    Ok(is_listed(alloc, &file, want)? && are_skipped(alloc, &file.skipped, skipped)?)
+}
+
+fn is_listed(alloc: Global, file: &AttrFile, want: &[u8]) -> Result<bool, AllocError> {
+    let list = listed(alloc, file)?;
+    Ok(list.as_slice() == want)
+}
+
+fn are_skipped(alloc: Global, skipped: &Skipped, want: &[u8]) -> Result<bool, AllocError> {
+    let counts = counts_of(alloc, skipped)?;
+    Ok(counts.as_bytes() == want)
+}
+
 struct Line;
 
 impl Row for Line {
-    fn is_so(alloc: Global, row: &[Vec<u8>]) -> Result<bool, Fail> {
-        let [text, folder, want, skipped] = row else {
-            return Ok(false);
-        };
-        let file = read_attributes(alloc, text, folder.as_slice() == b"top".as_slice())?;
-        let list = listed(alloc, &file)?;
-        let counts = counts_of(alloc, &file.skipped)?;
-        Ok(list.as_slice() == want.as_slice() && counts.as_bytes() == skipped.as_slice())
+    fn is_so(alloc: Global, row: &[u8]) -> Result<bool, Fail> {
+        let (text, rest) = cut(row, b'|');
+        let (folder, rest) = cut(rest, b'|');
+        let (want, skipped) = cut(rest, b'|');
+        Ok(is_read(alloc, text, folder == b"top".as_slice(), want, skipped)?)
     }
 }
 
@@ -113,32 +131,36 @@ fn lines_are_read_or_skipped(rt: HostRuntime) -> Result<(), Fail> {
 
 /// The length of a name, how its line ends, and whether the line is too long: whether it has 2,048 bytes without its end.
 /// A CR belongs to the end only before LF.
-const LONG: [(usize, &[u8], bool); 6] = [
-    (2045, b"\n", false),
-    (2045, b"\r\n", false),
-    (2045, b"", false),
-    (2046, b"\n", true),
-    (2045, b"\r", true),
-    (2045, b"\r\r\n", true),
-];
+const LONG: &[u8] = b"\
+    2045|\n|read%\
+    2045|\r\n|read%\
+    2045||read%\
+    2046|\n|too long%\
+    2045|\r|too long%\
+    2045|\r\r\n|too long%";
+
+struct Long;
+
+impl Row for Long {
+    fn is_so(alloc: Global, row: &[u8]) -> Result<bool, Fail> {
+        let (count, rest) = cut(row, b'|');
+        let (end, want) = cut(rest, b'|');
+        let count = number_of(count) as usize;
+        let text = filled(alloc, b"a ", b'x', count, end)?;
+        Ok(match want {
+            b"read" => is_read_whole(alloc, &text, count)?,
+            _ => is_read(alloc, &text, true, b"", b"1 0 0 0")?,
+        })
+    }
+}
+
+/// Whether the file gives a row with a name of so many bytes.
+fn is_read_whole(alloc: Global, text: &[u8], count: usize) -> Result<bool, AllocError> {
+    let want = filled(alloc, b"a ", b'x', count, b":set\n")?;
+    is_read(alloc, text, true, &want, b"0 0 0 0")
+}
 
 #[test]
 fn lines_that_are_too_long_are_skipped(rt: HostRuntime) -> Result<(), Fail> {
-    for (count, end, long) in LONG {
-        let text = filled(rt.alloc(), b"a ", b'x', count, end)?;
-        let read = filled(rt.alloc(), b"a ", b'x', count, b":set\n")?;
-        let (want, skipped): (&[u8], &str) = if long {
-            (b"", "1 0 0 0")
-        } else {
-            (read.as_slice(), "0 0 0 0")
-        };
-        let file = read_attributes(rt.alloc(), &text, true)?;
-        let list = listed(rt.alloc(), &file)?;
-        let counts = counts_of(rt.alloc(), &file.skipped)?;
-        assert!(rt;
-            list.as_slice() == want && counts.as_str() == skipped,
-            "{count}, {end:?}"
-        );
-    }
-    Ok(())
+    check::<Long, _>(&rt, rt.alloc(), LONG)
 }

@@ -1,8 +1,9 @@
-use crate::table::{Row, check, rows_of};
+use crate::table::{Row, check, cut};
 use attr_line::{AttrState, read_attributes};
 use attr_stack::{AttrFiles, AttrStack, FileAt, attributes_of};
 use byte_path::{Bytes, Items};
 use std::alloc::{AllocError, Global};
+use std::slice::from_ref;
 use std::test::Fail;
 
 fn file_at(alloc: Global, folder: &[u8], text: &[u8]) -> Result<FileAt, AllocError> {
@@ -75,32 +76,67 @@ const FIRST: &[u8] = b"\
     ||[attr]m t\n* m||a/b/f.c|t|!%\
     |[attr]m t|* m||a/b/f.c|t|+%";
 
-/// The states of these names at this path, of the files and of a stack of them.
-fn states_of(
+/// Whether there is one state, which is spelled so.
+fn is_one(states: &[AttrState], want: &[u8]) -> bool {
+    match states {
+        [state] => is_spelled(state, want),
+        _ => false,
+    }
+}
+
+/// Whether the files give this state of the names.
+fn is_of_files(
+    alloc: Global,
+    files: &AttrFiles,
+    path: &[u8],
+    names: &[Bytes],
+    want: &[u8],
+) -> Result<bool, AllocError> {
+    let states = attributes_of(alloc, files, path, names)?;
+    Ok(is_one(&states, want))
+}
+
+/// Whether a stack of the files gives this state of the names.
+fn is_of_stack(
+    alloc: Global,
+    files: AttrFiles,
+    path: &[u8],
+    names: &[Bytes],
+    want: &[u8],
+) -> Result<bool, AllocError> {
+    let mut stack = AttrStack::begin(alloc, files)?;
+    let states = stack.states(alloc, path, names)?;
+    Ok(is_one(&states, want))
+}
+
+/// Whether both give this state of the names.
+fn is_of_both(
     alloc: Global,
     texts: [&[u8]; 4],
     path: &[u8],
     names: &[Bytes],
-) -> Result<(Vec<AttrState>, Vec<AttrState>), AllocError> {
+    want: &[u8],
+) -> Result<bool, AllocError> {
     let files = files_of(alloc, texts)?;
-    let states = attributes_of(alloc, &files, path, names)?;
-    let mut stack = AttrStack::begin(alloc, files)?;
-    Ok((states, stack.states(alloc, path, names)?))
+    Ok(
+        is_of_files(alloc, &files, path, names, want)?
+            && is_of_stack(alloc, files, path, names, want)?,
+    )
 }
 
 struct Stated;
 
 impl Row for Stated {
-    fn is_so(alloc: Global, row: &[Vec<u8>]) -> Result<bool, Fail> {
-        let [info, top, a, deep, path, name, want] = row else {
-            return Ok(false);
-        };
-        let names = [Bytes::copy_of(alloc, name)?];
-        let (left, right) = states_of(alloc, [info, top, a, deep], path, &names)?;
-        Ok(match (left.as_slice(), right.as_slice()) {
-            ([left], [right]) => is_spelled(left, want) && is_spelled(right, want),
-            _ => false,
-        })
+    fn is_so(alloc: Global, row: &[u8]) -> Result<bool, Fail> {
+        let (info, rest) = cut(row, b'|');
+        let (top, rest) = cut(rest, b'|');
+        let (a, rest) = cut(rest, b'|');
+        let (deep, rest) = cut(rest, b'|');
+        let (path, rest) = cut(rest, b'|');
+        let (name, want) = cut(rest, b'|');
+        let name = Bytes::copy_of(alloc, name)?;
+        let names = from_ref(&name);
+        Ok(is_of_both(alloc, [info, top, a, deep], path, names, want)?)
     }
 }
 
@@ -131,16 +167,15 @@ const WALK: &[u8] = b"\
     a/b/x.i|info|-%\
     a|top|-%";
 
-/// Whether the stack has the states that a row has of its path.
+/// Whether the stack has these states at a path.
 fn has_states(
     alloc: Global,
     stack: &mut AttrStack,
-    row: &[Vec<u8>],
     names: &[Bytes],
+    row: &[u8],
 ) -> Result<bool, AllocError> {
-    let [path, t, n] = row else {
-        return Ok(false);
-    };
+    let (path, rest) = cut(row, b'|');
+    let (t, n) = cut(rest, b'|');
     let states = stack.states(alloc, path, names)?;
     Ok(match states.as_slice() {
         [state_t, state_n] => is_spelled(state_t, t) && is_spelled(state_n, n),
@@ -152,23 +187,38 @@ fn has_states(
 fn are_walked(
     alloc: Global,
     stack: &mut AttrStack,
-    rows: &[Vec<Vec<u8>>],
     names: &[Bytes],
+    table: &[u8],
 ) -> Result<bool, AllocError> {
-    for row in rows {
-        if !has_states(alloc, stack, row, names)? {
+    let mut rest = table;
+    for _ in 0..table.len() {
+        let (row, more) = cut(rest, b'%');
+        if !rest.is_empty() && !has_states(alloc, stack, names, row)? {
             return Ok(false);
         }
+        rest = more;
     }
     Ok(true)
 }
 
+/// The names `t` and `n`.
+fn two_names(alloc: Global) -> Result<Vec<Bytes>, AllocError> {
+    let mut names = Vec::new(alloc);
+    for name in b"tn".chunks(1) {
+        names.push(Bytes::copy_of(alloc, name)?)?;
+    }
+    Ok(names)
+}
+
+/// Whether a stack of these files has the states of each row.
+fn is_walk(alloc: Global, table: &[u8]) -> Result<bool, AllocError> {
+    let names = two_names(alloc)?;
+    let mut stack = AttrStack::begin(alloc, files_of(alloc, WALKED)?)?;
+    are_walked(alloc, &mut stack, &names, table)
+}
+
 #[test]
 fn a_stack_leaves_the_folders_that_it_was_in(rt: HostRuntime) -> Result<(), Fail> {
-    let mut stack = AttrStack::begin(rt.alloc(), files_of(rt.alloc(), WALKED)?)?;
-    let t = Bytes::copy_of(rt.alloc(), b"t")?;
-    let n = Bytes::copy_of(rt.alloc(), b"n")?;
-    let rows = rows_of(rt.alloc(), WALK)?;
-    assert!(rt; are_walked(rt.alloc(), &mut stack, &rows, &[t, n])?);
+    assert!(rt; is_walk(rt.alloc(), WALK)?);
     Ok(())
 }

@@ -1,10 +1,10 @@
-use crate::table::{Row, check, is_shown, state_of};
+use crate::table::{Row, check, cut, is_shown, state_of};
 use attr_line::AttrState;
 use byte_path::Bytes;
-use std::alloc::Global;
+use std::alloc::{AllocError, Global};
 use std::test::Fail;
 use tree_encoding::Encoding::{Utf16, Utf16Le};
-use tree_encoding::{encode, encode_text, encoding_of};
+use tree_encoding::{Encoding, encode, encode_text, encoding_of};
 
 /// What `working-tree-encoding` is, and the encoding that it names.
 const NAMED: &[u8] = b"\
@@ -34,10 +34,8 @@ const NAMED: &[u8] = b"\
 struct Named;
 
 impl Row for Named {
-    fn is_so(alloc: Global, row: &[Vec<u8>]) -> Result<bool, Fail> {
-        let [said, want] = row else {
-            return Ok(false);
-        };
+    fn is_so(alloc: Global, row: &[u8]) -> Result<bool, Fail> {
+        let (said, want) = cut(row, b'|');
         let state = state_of(alloc, said)?;
         is_shown(alloc, encoding_of(&state), want)
     }
@@ -72,23 +70,46 @@ const ENCODED: &[u8] = b"\
     |UTF-32|%\
     |UTF-32BE|%";
 
+/// Whether the content is prepared so.
+fn is_prepared(
+    alloc: Global,
+    content: &[u8],
+    encoding: Encoding,
+    want: &[u8],
+    unencoded: bool,
+) -> Result<bool, AllocError> {
+    let read = encode(alloc, content, encoding)?;
+    Ok(read.bytes.as_slice() == want && read.unencoded == unencoded)
+}
+
+/// Whether the content is encoded so, or is empty.
+fn is_encoded(
+    alloc: Global,
+    content: &[u8],
+    encoding: Encoding,
+    want: &[u8],
+) -> Result<bool, AllocError> {
+    let text = encode_text(alloc, content, encoding)?;
+    Ok(match text {
+        Some(text) => text.as_slice() == want,
+        None => content.is_empty(),
+    })
+}
+
 struct Encoded;
 
 impl Row for Encoded {
-    fn is_so(alloc: Global, row: &[Vec<u8>]) -> Result<bool, Fail> {
-        let [content, name, want] = row else {
+    fn is_so(alloc: Global, row: &[u8]) -> Result<bool, Fail> {
+        let (content, rest) = cut(row, b'|');
+        let (name, want) = cut(rest, b'|');
+        let state = AttrState::Value(Bytes::copy_of(alloc, name)?);
+        let Ok(Some(encoding)) = encoding_of(&state) else {
             return Ok(false);
         };
-        let Ok(Some(encoding)) = encoding_of(&AttrState::Value(Bytes::copy_of(alloc, name)?)) else {
-            return Ok(false);
-        };
-        let read = encode(alloc, content, encoding)?;
-        let text = encode_text(alloc, content, encoding)?;
-        let same = match text {
-            Some(text) => text.as_slice() == want.as_slice(),
-            None => content.is_empty(),
-        };
-        Ok(read.bytes.as_slice() == want.as_slice() && same && !read.unencoded)
+        Ok(
+            is_prepared(alloc, content, encoding, want, false)?
+                && is_encoded(alloc, content, encoding, want)?,
+        )
     }
 }
 
@@ -106,21 +127,20 @@ const NO_TEXTS: &[u8] = b"\
     abcdefgh\xf4\x90\x80\x80%\
     abcdefgh\xe2\x82%";
 
+/// Whether the content is no text to be encoded.
+fn is_no_text(alloc: Global, content: &[u8]) -> Result<bool, AllocError> {
+    let text = encode_text(alloc, content, Utf16Le)?;
+    Ok(text.is_none())
+}
+
 struct Unencoded;
 
 impl Row for Unencoded {
-    fn is_so(alloc: Global, row: &[Vec<u8>]) -> Result<bool, Fail> {
-        let [content] = row else {
-            return Ok(false);
-        };
-        let little = encode(alloc, content, Utf16Le)?;
-        let marked = encode(alloc, content, Utf16)?;
+    fn is_so(alloc: Global, content: &[u8]) -> Result<bool, Fail> {
         Ok(
-            encode_text(alloc, content, Utf16Le)?.is_none()
-                && little.bytes.as_slice() == content.as_slice()
-                && little.unencoded
-                && marked.bytes.as_slice() == content.as_slice()
-                && marked.unencoded,
+            is_no_text(alloc, content)?
+                && is_prepared(alloc, content, Utf16Le, content, true)?
+                && is_prepared(alloc, content, Utf16, content, true)?,
         )
     }
 }

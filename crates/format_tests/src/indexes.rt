@@ -1,6 +1,5 @@
-use crate::table::{Row, check, filled, is_shown};
-use byte_path::PathFault;
-use git_index::{EntryKind, IndexFault, Mode, read_index, spell_index};
+use crate::table::{Row, check, cut, filled, is_shown, number_of, push_all};
+use git_index::{Entry, IndexFault, Mode, read_index, spell_index};
 use std::alloc::{AllocError, Global};
 use std::test::Fail;
 
@@ -15,19 +14,18 @@ fn fault_of(alloc: Global, text: &[u8]) -> Option<IndexFault> {
     }
 }
 
+fn is_a(entry: &Entry) -> bool {
+    let name = b"E\xb9\x83\xbe6\xb7<\x07\x88\xdc\x9c\xbc\xb7l\xbb\x80\xfc{\xb0W";
+    entry.path.as_slice() == b"a".as_slice()
+        && entry.stage == 0
+        && matches!(entry.mode, Mode::Plain)
+        && entry.name.as_slice() == name.as_slice()
+}
+
 #[test]
 fn one_file_is_read_and_spelled_again(rt: HostRuntime) -> Result<(), Fail> {
     let index = read_index(rt.alloc(), ONE_FILE)?;
-    let [entry] = index.entries() else {
-        panic!(rt; "one entry");
-    };
-    let name = b"E\xb9\x83\xbe6\xb7<\x07\x88\xdc\x9c\xbc\xb7l\xbb\x80\xfc{\xb0W";
-    assert!(rt;
-        entry.path.as_slice() == b"a".as_slice()
-            && entry.stage == 0
-            && entry.mode == Mode::Plain
-            && entry.name == *name
-    );
+    assert!(rt; matches!(index.entries(), [entry] if is_a(entry)));
     let text = spell_index(rt.alloc(), index.entries())?;
     assert!(rt; text.as_slice() == ONE_FILE);
     Ok(())
@@ -36,23 +34,43 @@ fn one_file_is_read_and_spelled_again(rt: HostRuntime) -> Result<(), Fail> {
 /// An index of no entry.
 const EMPTY: &[u8] = b"DIRC\0\0\0\x02\0\0\0\09\xd8\x90\x13\x9e\xe55l~\xf5r!l\xeb\xcd'\xaaA\xf9\xdf";
 
+/// Whether each cut of an index is short.
+fn are_cuts_short(alloc: Global, whole: &[u8]) -> bool {
+    for n in 0..whole.len() {
+        if !matches!(fault_of(alloc, &whole[..n]), Some(IndexFault::Short)) {
+            return false;
+        }
+    }
+    true
+}
+
 #[test]
 fn each_cut_is_short(rt: HostRuntime) {
     assert!(rt; fault_of(rt.alloc(), EMPTY).is_none());
-    for whole in [ONE_FILE, EMPTY] {
-        for n in 0..whole.len() {
-            let cut = fault_of(rt.alloc(), &whole[..n]);
-            assert!(rt; cut == Some(IndexFault::Short), "at {n}");
-        }
-    }
+    assert!(rt; are_cuts_short(rt.alloc(), ONE_FILE));
+    assert!(rt; are_cuts_short(rt.alloc(), EMPTY));
+}
+
+/// What is wrong with so many NULs.
+fn fault_at(alloc: Global, count: usize) -> Result<Option<IndexFault>, AllocError> {
+    let text = vec![in alloc; 0u8; count]?;
+    Ok(fault_of(alloc, &text))
 }
 
 #[test]
 fn the_limit_is_on_the_bytes(rt: HostRuntime) -> Result<(), Fail> {
-    let mut text = vec![in rt.alloc(); 0u8; 67_108_864]?;
-    assert!(rt; fault_of(rt.alloc(), &text) == Some(IndexFault::Signature));
-    text.push(0)?;
-    assert!(rt; fault_of(rt.alloc(), &text) == Some(IndexFault::TooLarge));
+    assert!(rt;
+        matches!(
+            fault_at(rt.alloc(), 67_108_864)?,
+            Some(IndexFault::Signature)
+        )
+    );
+    assert!(rt;
+        matches!(
+            fault_at(rt.alloc(), 67_108_865)?,
+            Some(IndexFault::TooLarge)
+        )
+    );
     Ok(())
 }
 
@@ -63,6 +81,9 @@ const FILE: &[u8] =
 /// The same for mode 040000, which an index does not have.
 const TREE: &[u8] =
     b"\0\0\0\0\0\0\0\0\0\0\0\0\0\0\0\0\0\0\0\0\0\0\0\0\0\0\x40\0\0\0\0\0\0\0\0\0\0\0\0\0nnnnnnnnnnnnnnnnnnnn";
+
+/// The header of an index up to the last byte of its count.
+const HEADER: &[u8] = b"DIRC\0\0\0\x02\0\0\0";
 
 /// The flags, the path and the padding of an entry `a`.
 const A: &[u8] = b"\0\x01a\0";
@@ -76,31 +97,37 @@ const NO_HASH: &[u8] = b"\0\0\0\0\0\0\0\0\0\0\0\0\0\0\0\0\0\0\0\0";
 /// The SHA-1 of `NONE`, by Python's hashlib.
 const HASH_OF_NONE: &[u8] = b"9\xd8\x90\x13\x9e\xe55l~\xf5r!l\xeb\xcd'\xaaA\xf9\xdf";
 
+/// The part of an index that a letter stands for, or the header of so many entries, for a digit.
+fn part_of(letter: u8) -> (&'static [u8], &'static [u8]) {
+    match letter {
+        b'F' => (FILE, b""),
+        b'T' => (TREE, b""),
+        b'A' => (A, b""),
+        b'B' => (A_B, b""),
+        b'Z' => (NO_HASH, b""),
+        b'H' => (HASH_OF_NONE, b""),
+        b'0' => (HEADER, b"\0"),
+        b'1' => (HEADER, b"\x01"),
+        b'2' => (HEADER, b"\x02"),
+        b'3' => (HEADER, b"\x03"),
+        _ => (HEADER, b"\x04"),
+    }
+}
+
 /// The parts of an index. `$` and a letter stand for a part that is named here, and `$` and a digit for the header of so
 /// many entries. The other bytes stand for themselves.
 fn index_of(alloc: Global, parts: &[u8]) -> Result<Vec<u8>, AllocError> {
     let mut text = Vec::new(alloc);
     let mut is_named = false;
     for byte in parts {
+        let byte = *byte;
         if is_named {
-            is_named = false;
-            text.extend_from_slice(match *byte {
-                b'F' => FILE,
-                b'T' => TREE,
-                b'A' => A,
-                b'B' => A_B,
-                b'Z' => NO_HASH,
-                b'H' => HASH_OF_NONE,
-                _ => b"DIRC\0\0\0\x02\0\0\0",
-            })?;
-            if byte.is_ascii_digit() {
-                text.push(byte.wrapping_sub(b'0'))?;
-            }
-        } else if *byte == b'$' {
-            is_named = true;
-        } else {
-            text.push(*byte)?;
+            let (front, count) = part_of(byte);
+            push_all(&mut text, &[front, count])?;
+        } else if byte != b'$' {
+            push_all(&mut text, &[&[byte]])?;
         }
+        is_named = !is_named && byte == b'$';
     }
     Ok(text)
 }
@@ -160,10 +187,9 @@ const RIGHT: &[u8] = b"\
 struct Refused;
 
 impl Row for Refused {
-    fn is_so(alloc: Global, row: &[Vec<u8>]) -> Result<bool, Fail> {
-        let [what, parts, want] = row else {
-            return Ok(false);
-        };
+    fn is_so(alloc: Global, row: &[u8]) -> Result<bool, Fail> {
+        let (what, rest) = cut(row, b'|');
+        let (parts, want) = cut(rest, b'|');
         let text = index_of(alloc, parts)?;
         let fault = fault_of(alloc, &text);
         is_shown(alloc, fault, want)
@@ -180,24 +206,36 @@ fn indexes_are_refused_at_their_first_fault(rt: HostRuntime) -> Result<(), Fail>
 }
 
 /// The length of a path whose entry states FFF, its padding, and the first fault. A length of FFF is 4095 or more.
-const LONG: [(usize, &[u8], Option<IndexFault>); 4] = [
-    (
-        4094,
-        b"\0\0\0\0",
-        Some(IndexFault::Entry(0, EntryKind::Name)),
-    ),
-    (4095, b"\0\0\0", None),
-    (4096, b"\0\0", None),
-    (4097, b"\0", Some(IndexFault::Path(0, PathFault::TooLong))),
-];
+const LONG: &[u8] = b"\
+    4094|\0\0\0\0|Some(Entry(0, Name))%\
+    4095|\0\0\0|None%\
+    4096|\0\0|None%\
+    4097|\0|Some(Path(0, TooLong))%";
+
+/// What is wrong with an entry whose path has so many bytes.
+fn fault_of_long(
+    alloc: Global,
+    count: usize,
+    padding: &[u8],
+) -> Result<Option<IndexFault>, AllocError> {
+    let front = index_of(alloc, b"$1$F\x0f\xff")?;
+    let end = [padding, NO_HASH].concat(alloc)?;
+    let text = filled(alloc, &front, b'a', count, &end)?;
+    Ok(fault_of(alloc, &text))
+}
+
+struct Long;
+
+impl Row for Long {
+    fn is_so(alloc: Global, row: &[u8]) -> Result<bool, Fail> {
+        let (count, rest) = cut(row, b'|');
+        let (padding, want) = cut(rest, b'|');
+        let fault = fault_of_long(alloc, number_of(count) as usize, padding)?;
+        is_shown(alloc, fault, want)
+    }
+}
 
 #[test]
 fn a_length_of_fff_is_4095_or_more(rt: HostRuntime) -> Result<(), Fail> {
-    for (count, padding, want) in LONG {
-        let front = index_of(rt.alloc(), b"$1$F\x0f\xff")?;
-        let mut text = filled(rt.alloc(), &front, b'a', count, padding)?;
-        text.extend_from_slice(NO_HASH)?;
-        assert!(rt; fault_of(rt.alloc(), &text) == want, "{count}");
-    }
-    Ok(())
+    check::<Long, _>(&rt, rt.alloc(), LONG)
 }

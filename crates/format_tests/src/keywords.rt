@@ -1,4 +1,4 @@
-use crate::table::{Row, check};
+use crate::table::{Row, check, cut};
 use ident_convert::{expand_ident, has_keyword};
 use std::alloc::Global;
 use std::test::Fail;
@@ -23,12 +23,10 @@ const EXPANDED: &[u8] = b"\
 struct Expanded;
 
 impl Row for Expanded {
-    fn is_so(alloc: Global, row: &[Vec<u8>]) -> Result<bool, Fail> {
-        let [content, want] = row else {
-            return Ok(false);
-        };
+    fn is_so(alloc: Global, row: &[u8]) -> Result<bool, Fail> {
+        let (content, want) = cut(row, b'|');
         let text = expand_ident(alloc, content, &NAME)?;
-        Ok(text.as_slice() == want.as_slice() && has_keyword(content))
+        Ok(text.as_slice() == want && has_keyword(content))
     }
 }
 
@@ -51,12 +49,9 @@ const KEPT: &[u8] = b"\
 struct Kept;
 
 impl Row for Kept {
-    fn is_so(alloc: Global, row: &[Vec<u8>]) -> Result<bool, Fail> {
-        let [content] = row else {
-            return Ok(false);
-        };
+    fn is_so(alloc: Global, content: &[u8]) -> Result<bool, Fail> {
         let text = expand_ident(alloc, content, &NAME)?;
-        Ok(text.as_slice() == content.as_slice() && !has_keyword(content))
+        Ok(text.as_slice() == content && !has_keyword(content))
     }
 }
 

@@ -1,6 +1,6 @@
-use crate::table::{Row, check, filled, is_shown, state_of};
+use crate::table::{Row, check, cut, filled, is_shown, number_of, state_of};
 use eol_convert::{AutoCrlf, EolSetting, LineEnds, changes_ends, line_ends_of, to_tree_ends};
-use std::alloc::Global;
+use std::alloc::{AllocError, Global};
 use std::test::Fail;
 
 /// The attributes `text`, `crlf` and `eol`, `core.autocrlf` and `core.eol`, and what git does with the line ends.
@@ -49,10 +49,12 @@ fn setting_of(cell: &[u8]) -> EolSetting {
 struct Decided;
 
 impl Row for Decided {
-    fn is_so(alloc: Global, row: &[Vec<u8>]) -> Result<bool, Fail> {
-        let [text, crlf, eol, auto, setting, want] = row else {
-            return Ok(false);
-        };
+    fn is_so(alloc: Global, row: &[u8]) -> Result<bool, Fail> {
+        let (text, rest) = cut(row, b'|');
+        let (crlf, rest) = cut(rest, b'|');
+        let (eol, rest) = cut(rest, b'|');
+        let (auto, rest) = cut(rest, b'|');
+        let (setting, want) = cut(rest, b'|');
         let text = state_of(alloc, text)?;
         let crlf = state_of(alloc, crlf)?;
         let eol = state_of(alloc, eol)?;
@@ -97,22 +99,25 @@ const AFTER_127: &[u8] = b"\
     \x01\nb|AutoCrlf|\x01\r\nb%\
     \x01\nb\x7f|AutoCrlf|\x01\nb\x7f%";
 
+/// Whether the content becomes this, and is said to change if it does.
+fn becomes(alloc: Global, content: &[u8], ends: LineEnds, want: &[u8]) -> Result<bool, AllocError> {
+    let text = to_tree_ends(alloc, content, ends)?;
+    Ok(text.as_slice() == want && changes_ends(content, ends) == (content != want))
+}
+
 /// The content after so many times `a`.
-fn is_ended(alloc: Global, count: usize, row: &[Vec<u8>]) -> Result<bool, Fail> {
-    let [content, ends, want] = row else {
-        return Ok(false);
-    };
+fn is_ended(alloc: Global, count: usize, row: &[u8]) -> Result<bool, Fail> {
+    let (content, rest) = cut(row, b'|');
+    let (ends, want) = cut(rest, b'|');
     let content = filled(alloc, b"", b'a', count, content)?;
     let want = filled(alloc, b"", b'a', count, want)?;
-    let text = to_tree_ends(alloc, &content, ends_of(ends))?;
-    let changes = content.as_slice() != want.as_slice();
-    Ok(text.as_slice() == want.as_slice() && changes_ends(&content, ends_of(ends)) == changes)
+    Ok(becomes(alloc, &content, ends_of(ends), &want)?)
 }
 
 struct Ended;
 
 impl Row for Ended {
-    fn is_so(alloc: Global, row: &[Vec<u8>]) -> Result<bool, Fail> {
+    fn is_so(alloc: Global, row: &[u8]) -> Result<bool, Fail> {
         is_ended(alloc, 0, row)
     }
 }
@@ -120,7 +125,7 @@ impl Row for Ended {
 struct EndedAfter127;
 
 impl Row for EndedAfter127 {
-    fn is_so(alloc: Global, row: &[Vec<u8>]) -> Result<bool, Fail> {
+    fn is_so(alloc: Global, row: &[u8]) -> Result<bool, Fail> {
         is_ended(alloc, 127, row)
     }
 }
@@ -131,42 +136,50 @@ fn contents_get_these_line_ends(rt: HostRuntime) -> Result<(), Fail> {
     check::<EndedAfter127, _>(&rt, rt.alloc(), AFTER_127)
 }
 
-/// Whether the content of two lines of these lengths gets CR LF.
-fn gets_crlf(alloc: Global, first: usize, second: usize) -> Result<bool, Fail> {
-    let front = filled(alloc, b"", b'a', first, b"\n")?;
-    let content = filled(alloc, &front, b'b', second, b"")?;
-    let front = filled(alloc, b"", b'a', first, b"\r\n")?;
-    let want = filled(alloc, &front, b'b', second, b"")?;
-    let text = to_tree_ends(alloc, &content, LineEnds::ToCrlf)?;
-    Ok(text.as_slice() == want.as_slice() && changes_ends(&content, LineEnds::ToCrlf))
+/// Two lines of these lengths, of which the first ends so.
+fn two_lines(
+    alloc: Global,
+    first: usize,
+    end: &[u8],
+    second: usize,
+) -> Result<Vec<u8>, AllocError> {
+    let front = filled(alloc, b"", b'a', first, end)?;
+    filled(alloc, &front, b'b', second, b"")
 }
 
 /// The lengths of two lines. They are about as long as the blocks that are copied, followed by more and by less than a
 /// block.
-const LENGTHS: [(usize, usize); 14] = [
-    (0, 0),
-    (1, 125),
-    (1, 126),
-    (1, 127),
-    (2, 300),
-    (126, 0),
-    (127, 0),
-    (127, 1),
-    (128, 0),
-    (128, 300),
-    (129, 0),
-    (129, 300),
-    (130, 127),
-    (300, 300),
-];
+const LENGTHS: &[u8] = b"\
+    0|0%\
+    1|125%\
+    1|126%\
+    1|127%\
+    2|300%\
+    126|0%\
+    127|0%\
+    127|1%\
+    128|0%\
+    128|300%\
+    129|0%\
+    129|300%\
+    130|127%\
+    300|300%";
+
+/// The content of two lines of these lengths gets CR LF.
+struct Long;
+
+impl Row for Long {
+    fn is_so(alloc: Global, row: &[u8]) -> Result<bool, Fail> {
+        let (first, second) = cut(row, b'|');
+        let first = number_of(first) as usize;
+        let second = number_of(second) as usize;
+        let content = two_lines(alloc, first, b"\n", second)?;
+        let want = two_lines(alloc, first, b"\r\n", second)?;
+        Ok(becomes(alloc, &content, LineEnds::ToCrlf, &want)?)
+    }
+}
 
 #[test]
 fn lines_about_as_long_as_a_block_get_crlf(rt: HostRuntime) -> Result<(), Fail> {
-    for (first, second) in LENGTHS {
-        assert!(rt;
-            gets_crlf(rt.alloc(), first, second)?,
-            "at {first}, {second}"
-        );
-    }
-    Ok(())
+    check::<Long, _>(&rt, rt.alloc(), LENGTHS)
 }

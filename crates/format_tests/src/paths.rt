@@ -1,9 +1,9 @@
-use crate::table::{Row, check, filled, is_shown};
+use crate::table::{Row, check, cut, filled, is_shown, number_of};
 use byte_path::{
     ByteKind, Bytes, Items, PathFault, QuoteFault, check_path, from_first, len_to, quote_path,
     read_decimal, unmarked, unquote,
 };
-use std::alloc::Global;
+use std::alloc::{AllocError, Global};
 use std::test::Fail;
 
 /// Paths, and their first faults.
@@ -22,20 +22,27 @@ const PATHS: &[u8] = b"\
 struct Checked;
 
 impl Row for Checked {
-    fn is_so(alloc: Global, row: &[Vec<u8>]) -> Result<bool, Fail> {
-        let [path, want] = row else {
-            return Ok(false);
-        };
+    fn is_so(alloc: Global, row: &[u8]) -> Result<bool, Fail> {
+        let (path, want) = cut(row, b'|');
         is_shown(alloc, check_path(path), want)
     }
 }
 
 #[test]
 fn paths_have_their_first_fault(rt: HostRuntime) -> Result<(), Fail> {
-    check::<Checked, _>(&rt, rt.alloc(), PATHS)?;
-    let longest = filled(rt.alloc(), b"", b'a', 4096, b"")?;
-    let longer = filled(rt.alloc(), b"", b'a', 4097, b"")?;
-    assert!(rt; check_path(&longest) == Ok(()) && check_path(&longer) == Err(PathFault::TooLong));
+    check::<Checked, _>(&rt, rt.alloc(), PATHS)
+}
+
+/// What is wrong with a path of so many bytes.
+fn fault_at(alloc: Global, count: usize) -> Result<Option<PathFault>, AllocError> {
+    let path = filled(alloc, b"", b'a', count, b"")?;
+    Ok(check_path(&path).err())
+}
+
+#[test]
+fn paths_have_at_most_4096_bytes(rt: HostRuntime) -> Result<(), Fail> {
+    assert!(rt; fault_at(rt.alloc(), 4096)?.is_none());
+    assert!(rt; matches!(fault_at(rt.alloc(), 4097)?, Some(PathFault::TooLong)));
     Ok(())
 }
 
@@ -51,12 +58,10 @@ const QUOTED: &[u8] = b"\
 struct Quoted;
 
 impl Row for Quoted {
-    fn is_so(alloc: Global, row: &[Vec<u8>]) -> Result<bool, Fail> {
-        let [path, want] = row else {
-            return Ok(false);
-        };
+    fn is_so(alloc: Global, row: &[u8]) -> Result<bool, Fail> {
+        let (path, want) = cut(row, b'|');
         let text = quote_path(alloc, path)?;
-        Ok(text.as_slice() == want.as_slice())
+        Ok(text.as_slice() == want)
     }
 }
 
@@ -81,24 +86,12 @@ const DECIMALS: &[u8] = b"\
     1 |9|None%\
     1a|99|None%";
 
-/// The number that these digits spell.
-fn number_of(digits: &[u8]) -> u64 {
-    let mut number = 0u64;
-    for digit in digits {
-        number = number
-            .wrapping_mul(10)
-            .wrapping_add(u64::from(digit.wrapping_sub(b'0')));
-    }
-    number
-}
-
 struct Decimal;
 
 impl Row for Decimal {
-    fn is_so(alloc: Global, row: &[Vec<u8>]) -> Result<bool, Fail> {
-        let [text, most, want] = row else {
-            return Ok(false);
-        };
+    fn is_so(alloc: Global, row: &[u8]) -> Result<bool, Fail> {
+        let (text, rest) = cut(row, b'|');
+        let (most, want) = cut(rest, b'|');
         let number = read_decimal(text, number_of(most));
         is_shown(alloc, number, want)
     }
@@ -109,18 +102,27 @@ fn decimals_are_read_within_a_limit(rt: HostRuntime) -> Result<(), Fail> {
     check::<Decimal, _>(&rt, rt.alloc(), DECIMALS)
 }
 
+fn a_copy_is_the_same(alloc: Global) -> Result<bool, AllocError> {
+    let copy = Bytes::copy_of(alloc, b"ab")?;
+    Ok(copy.as_slice() == b"ab".as_slice())
+}
+
+fn bytes_stay_the_same(alloc: Global) -> Result<bool, AllocError> {
+    let whole = Bytes::from_vec([1, 2].to_vec(alloc)?);
+    Ok(whole.as_slice() == [1u8, 2].as_slice())
+}
+
+fn items_stay_the_same(alloc: Global) -> Result<bool, AllocError> {
+    let items = Items::from_vec([3u32, 4].to_vec(alloc)?);
+    let held = items.as_slice() == [3u32, 4].as_slice();
+    Ok(held && items.into_vec().as_slice() == [3u32, 4].as_slice())
+}
+
 #[test]
 fn copies_keep_their_values(rt: HostRuntime) -> Result<(), Fail> {
-    let copy = Bytes::copy_of(rt.alloc(), b"ab")?;
-    let whole = Bytes::from_vec([1, 2].to_vec(rt.alloc())?);
-    let items = Items::from_vec([3u32, 4].to_vec(rt.alloc())?);
-    let held = items.as_slice() == [3u32, 4].as_slice();
-    assert!(rt;
-        copy.as_slice() == b"ab".as_slice()
-            && whole.as_slice() == [1u8, 2].as_slice()
-            && held
-            && items.into_vec().as_slice() == [3u32, 4].as_slice()
-    );
+    assert!(rt; a_copy_is_the_same(rt.alloc())?);
+    assert!(rt; bytes_stay_the_same(rt.alloc())?);
+    assert!(rt; items_stay_the_same(rt.alloc())?);
     Ok(())
 }
 
@@ -143,12 +145,11 @@ const READ: &[u8] = b"\
 struct Whole;
 
 impl Row for Whole {
-    fn is_so(alloc: Global, row: &[Vec<u8>]) -> Result<bool, Fail> {
-        let [text, want, len] = row else {
-            return Ok(false);
-        };
+    fn is_so(alloc: Global, row: &[u8]) -> Result<bool, Fail> {
+        let (text, rest) = cut(row, b'|');
+        let (want, len) = cut(rest, b'|');
         let (bytes, read) = read_quoted(alloc, text)?;
-        Ok(bytes.as_slice() == want.as_slice() && is_shown(alloc, read, len)?)
+        Ok(bytes.as_slice() == want && is_shown(alloc, read, len)?)
     }
 }
 
@@ -171,10 +172,8 @@ const FAULTS: &[u8] = b"\
 struct Fault;
 
 impl Row for Fault {
-    fn is_so(alloc: Global, row: &[Vec<u8>]) -> Result<bool, Fail> {
-        let [text, want] = row else {
-            return Ok(false);
-        };
+    fn is_so(alloc: Global, row: &[u8]) -> Result<bool, Fail> {
+        let (text, want) = cut(row, b'|');
         let fault = read_quoted(alloc, text).err();
         is_shown(alloc, fault, want)
     }
@@ -210,13 +209,12 @@ const CUT: &[u8] = b"\
 struct Cutting;
 
 impl Row for Cutting {
-    fn is_so(alloc: Global, row: &[Vec<u8>]) -> Result<bool, Fail> {
-        let [text, len, rest] = row else {
-            return Ok(false);
-        };
+    fn is_so(alloc: Global, row: &[u8]) -> Result<bool, Fail> {
+        let (text, rest) = cut(row, b'|');
+        let (len, rest) = cut(rest, b'|');
         let behind = from_first::<Blank>(text);
         let is_cut = is_shown(alloc, len_to::<Blank>(text), len)?;
-        Ok(is_cut && behind == rest.as_slice())
+        Ok(is_cut && behind == rest)
     }
 }
 
@@ -237,11 +235,9 @@ const MARKED: &[u8] = b"\
 struct Marking;
 
 impl Row for Marking {
-    fn is_so(alloc: Global, row: &[Vec<u8>]) -> Result<bool, Fail> {
-        let [text, want] = row else {
-            return Ok(false);
-        };
-        Ok(unmarked(text) == want.as_slice())
+    fn is_so(alloc: Global, row: &[u8]) -> Result<bool, Fail> {
+        let (text, want) = cut(row, b'|');
+        Ok(unmarked(text) == want)
     }
 }
 

@@ -1,4 +1,4 @@
-use crate::table::{Row, check};
+use crate::table::{Row, check, cut};
 use std::alloc::Global;
 use std::test::Fail;
 use wild_match::{Compiled, matches};
@@ -110,12 +110,11 @@ const KINDS: &[u8] = b"\
 struct Matched;
 
 impl Row for Matched {
-    fn is_so(alloc: Global, row: &[Vec<u8>]) -> Result<bool, Fail> {
-        let [pattern, path, want] = row else {
-            return Ok(false);
-        };
-        let want = want.as_slice() == b"true".as_slice();
-        if !(matches(pattern, path) == want) {
+    fn is_so(alloc: Global, row: &[u8]) -> Result<bool, Fail> {
+        let (pattern, rest) = cut(row, b'|');
+        let (path, want) = cut(rest, b'|');
+        let want = want == b"true".as_slice();
+        if matches(pattern, path) != want {
             return Ok(false);
         }
         // a compiled pattern answers alike

@@ -1,4 +1,4 @@
-use crate::table::{Row, check, is_shown};
+use crate::table::{Row, check, cut, is_shown, push_all};
 use eol_convert::{AutoCrlf, EolSetting};
 use git_config::read_config;
 use settings_view::{Driver, SettingFault, Settings, settings};
@@ -45,10 +45,8 @@ const TRUTHS: &[u8] = b"\
 struct Truth;
 
 impl Row for Truth {
-    fn is_so(alloc: Global, row: &[Vec<u8>]) -> Result<bool, Fail> {
-        let [text, want] = row else {
-            return Ok(false);
-        };
+    fn is_so(alloc: Global, row: &[u8]) -> Result<bool, Fail> {
+        let (text, want) = cut(row, b'|');
         let crlf = crlf_read(alloc, text);
         is_shown(alloc, crlf, want)
     }
@@ -77,10 +75,8 @@ const LINE_ENDS: &[u8] = b"\
 struct Ends;
 
 impl Row for Ends {
-    fn is_so(alloc: Global, row: &[Vec<u8>]) -> Result<bool, Fail> {
-        let [text, want] = row else {
-            return Ok(false);
-        };
+    fn is_so(alloc: Global, row: &[u8]) -> Result<bool, Fail> {
+        let (text, want) = cut(row, b'|');
         let eol = eol_read(alloc, text);
         is_shown(alloc, eol, want)
     }
@@ -130,10 +126,8 @@ const THRESHOLDS: &[u8] = b"\
 struct Number;
 
 impl Row for Number {
-    fn is_so(alloc: Global, row: &[Vec<u8>]) -> Result<bool, Fail> {
-        let [value, want] = row else {
-            return Ok(false);
-        };
+    fn is_so(alloc: Global, row: &[u8]) -> Result<bool, Fail> {
+        let (value, want) = cut(row, b'|');
         let number = of_value(alloc, value);
         is_shown(alloc, number, want)
     }
@@ -142,15 +136,14 @@ impl Row for Number {
 #[test]
 fn numbers_and_the_threshold(rt: HostRuntime) -> Result<(), Fail> {
     check::<Number, _>(&rt, rt.alloc(), THRESHOLDS)?;
-    assert!(rt; threshold_read(rt.alloc(), b"") == Ok(100));
+    assert!(rt; matches!(threshold_read(rt.alloc(), b""), Ok(100)));
     Ok(())
 }
 
 /// What `checkout.thresholdForParallelism` with this value is.
 fn of_value(alloc: Global, value: &[u8]) -> Result<u64, SettingFault> {
-    let mut text = Vec::from_slice(alloc, b"[checkout]\nthresholdForParallelism")?;
-    text.extend_from_slice(value)?;
-    threshold_read(alloc, text.as_slice())
+    let text = [b"[checkout]\nthresholdForParallelism", value].concat(alloc)?;
+    threshold_read(alloc, &text)
 }
 
 fn workers_read(alloc: Global, text: &[u8]) -> Result<u32, SettingFault> {
@@ -176,10 +169,8 @@ const WORKERS: &[u8] = b"\
 struct Count;
 
 impl Row for Count {
-    fn is_so(alloc: Global, row: &[Vec<u8>]) -> Result<bool, Fail> {
-        let [text, want] = row else {
-            return Ok(false);
-        };
+    fn is_so(alloc: Global, row: &[u8]) -> Result<bool, Fail> {
+        let (text, want) = cut(row, b'|');
         let workers = workers_read(alloc, text);
         is_shown(alloc, workers, want)
     }
@@ -204,10 +195,8 @@ const FAULTS: &[u8] = b"\
 struct BadKey;
 
 impl Row for BadKey {
-    fn is_so(alloc: Global, row: &[Vec<u8>]) -> Result<bool, Fail> {
-        let [text, want] = row else {
-            return Ok(false);
-        };
+    fn is_so(alloc: Global, row: &[u8]) -> Result<bool, Fail> {
+        let (text, want) = cut(row, b'|');
         let fault = read(alloc, text).err();
         is_shown(alloc, fault, want)
     }
@@ -218,18 +207,19 @@ fn the_first_bad_key_decides(rt: HostRuntime) -> Result<(), Fail> {
     check::<BadKey, _>(&rt, rt.alloc(), FAULTS)
 }
 
+/// A driver's command after `=`, if it has one.
+fn process_of(driver: &Driver) -> (&[u8], &[u8]) {
+    match &driver.process {
+        Some(process) => (b"=", process.as_slice()),
+        None => (b"", b""),
+    }
+}
+
 /// Appends a driver as its name, `=` and its command if it has one, and `!` if it is required.
 fn push_driver(list: &mut Vec<u8>, driver: &Driver) -> Result<(), AllocError> {
-    list.extend_from_slice(driver.name.as_slice())?;
-    if let Some(process) = &driver.process {
-        list.push(b'=')?;
-        list.extend_from_slice(process.as_slice())?;
-    }
-    if driver.required {
-        list.push(b'!')?;
-    }
-    list.push(b';')?;
-    Ok(())
+    let (equals, process) = process_of(driver);
+    let end: &[u8] = if driver.required { b"!;" } else { b";" };
+    push_all(list, &[driver.name.as_slice(), equals, process, end])
 }
 
 fn drivers_listed(alloc: Global, text: &[u8]) -> Result<Vec<u8>, SettingFault> {
@@ -260,12 +250,10 @@ const DRIVERS: &[u8] = b"\
 struct Named;
 
 impl Row for Named {
-    fn is_so(alloc: Global, row: &[Vec<u8>]) -> Result<bool, Fail> {
-        let [text, want] = row else {
-            return Ok(false);
-        };
+    fn is_so(alloc: Global, row: &[u8]) -> Result<bool, Fail> {
+        let (text, want) = cut(row, b'|');
         let list = drivers_listed(alloc, text)?;
-        Ok(list.as_slice() == want.as_slice())
+        Ok(list.as_slice() == want)
     }
 }
 

@@ -9,44 +9,40 @@ use std::fmt::Debug;
 use std::process::Abort;
 use std::test::Fail;
 
-/// The rows of a table, each with its cells.
-pub fn rows_of(alloc: Global, table: &[u8]) -> Result<Vec<Vec<Vec<u8>>>, AllocError> {
-    let mut rows = Vec::new(alloc);
-    let mut row = Vec::new(alloc);
-    let mut cell = Vec::new(alloc);
-    for byte in table {
-        match *byte {
-            b'|' => {
-                row.push(cell)?;
-                cell = Vec::new(alloc);
-            }
-            b'%' => {
-                row.push(cell)?;
-                rows.push(row)?;
-                row = Vec::new(alloc);
-                cell = Vec::new(alloc);
-            }
-            byte => cell.push(byte)?,
+/// What stands before the first such byte and what stands behind it, if there is one.
+pub fn parted(text: &[u8], byte: u8) -> Option<(&[u8], &[u8])> {
+    for at in 0..text.len() {
+        if text[at] == byte {
+            return Some((&text[..at], &text[at + 1..]));
         }
     }
-    if !row.is_empty() || !cell.is_empty() {
-        row.push(cell)?;
-        rows.push(row)?;
+    None
+}
+
+/// The same. Where there is none, the whole text stands before it.
+pub fn cut(text: &[u8], byte: u8) -> (&[u8], &[u8]) {
+    match parted(text, byte) {
+        Some(parts) => parts,
+        None => (text, b""),
     }
-    Ok(rows)
 }
 
 /// What the cells of a row say.
 pub trait Row {
-    /// Whether it is so. It isn't where the row has more cells or less.
-    fn is_so(alloc: Global, row: &[Vec<u8>]) -> Result<bool, Fail>;
+    /// Whether it is so.
+    fn is_so(alloc: Global, row: &[u8]) -> Result<bool, Fail>;
 }
 
 /// Each row of the table is so.
 pub fn check<R: Row, H: Abort>(rt: &H, alloc: Global, table: &[u8]) -> Result<(), Fail> {
-    let rows = rows_of(alloc, table)?;
-    for row in rows.as_slice() {
+    let mut rest = table;
+    for _ in 0..table.len() {
+        if rest.is_empty() {
+            break;
+        }
+        let (row, more) = cut(rest, b'%');
         assert!(rt; R::is_so(alloc, row)?, "{row:?}");
+        rest = more;
     }
     Ok(())
 }
@@ -67,6 +63,25 @@ pub fn state_of(alloc: Global, cell: &[u8]) -> Result<AttrState, AllocError> {
     })
 }
 
+/// The number that these digits spell.
+pub fn number_of(digits: &[u8]) -> u64 {
+    let mut number = 0u64;
+    for digit in digits {
+        number = number
+            .wrapping_mul(10)
+            .wrapping_add(u64::from(digit.wrapping_sub(b'0')));
+    }
+    number
+}
+
+/// Appends each of the texts.
+pub fn push_all(list: &mut Vec<u8>, texts: &[&[u8]]) -> Result<(), AllocError> {
+    for text in texts {
+        list.extend_from_slice(text)?;
+    }
+    Ok(())
+}
+
 /// The first text, so many times the byte, and the second text.
 pub fn filled(
     alloc: Global,
@@ -75,9 +90,6 @@ pub fn filled(
     count: usize,
     end: &[u8],
 ) -> Result<Vec<u8>, AllocError> {
-    let mut text = Vec::from_slice(alloc, front)?;
     let fill = vec![in alloc; byte; count]?;
-    text.extend_from_slice(&fill)?;
-    text.extend_from_slice(end)?;
-    Ok(text)
+    [front, &fill, end].concat(alloc)
 }

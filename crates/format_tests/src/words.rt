@@ -1,15 +1,31 @@
-use crate::table::{Row, check, is_shown};
+use crate::table::{Row, check, is_shown, parted};
 use checkout_words::{Command, WordFault, read_words};
 use std::alloc::{AllocError, Global};
 use std::test::Fail;
 
-/// What these words give, or `None` if they give Usage.
-fn read(alloc: Global, words: &[Vec<u8>]) -> Result<Option<Command>, Fail> {
-    let mut texts = Vec::new(alloc);
-    for word in words {
-        texts.push(String::from_str(alloc, str::from_utf8(word)?)?)?;
+fn push_word(alloc: Global, words: &mut Vec<String>, word: &[u8]) -> Result<(), Fail> {
+    words.push(String::from_str(alloc, str::from_utf8(word)?)?)?;
+    Ok(())
+}
+
+/// The cells of a row.
+fn words_of(alloc: Global, row: &[u8]) -> Result<Vec<String>, Fail> {
+    let mut words = Vec::new(alloc);
+    let mut rest = row;
+    for _ in 0..row.len() {
+        let Some((word, more)) = parted(rest, b'|') else {
+            break;
+        };
+        push_word(alloc, &mut words, word)?;
+        rest = more;
     }
-    match read_words(alloc, texts.as_slice()) {
+    push_word(alloc, &mut words, rest)?;
+    Ok(words)
+}
+
+/// What these words give, or `None` if they give Usage.
+fn read(alloc: Global, words: &[String]) -> Result<Option<Command>, Fail> {
+    match read_words(alloc, words) {
         Ok(command) => Ok(Some(command)),
         Err(WordFault::Usage) => Ok(None),
         Err(WordFault::NoMemory) => Err(AllocError.into()),
@@ -28,14 +44,15 @@ const READ: &str = "\
 struct Given;
 
 impl Row for Given {
-    fn is_so(alloc: Global, row: &[Vec<u8>]) -> Result<bool, Fail> {
-        let [words @ .., want] = row else {
+    fn is_so(alloc: Global, row: &[u8]) -> Result<bool, Fail> {
+        let cells = words_of(alloc, row)?;
+        let [words @ .., want] = cells.as_slice() else {
             return Ok(false);
         };
         let Some(command) = read(alloc, words)? else {
             return Ok(false);
         };
-        is_shown(alloc, command, want)
+        is_shown(alloc, command, want.as_bytes())
     }
 }
 
@@ -96,15 +113,14 @@ const USAGE: &str = "\
 struct Other;
 
 impl Row for Other {
-    fn is_so(alloc: Global, row: &[Vec<u8>]) -> Result<bool, Fail> {
-        let command = read(alloc, row)?;
-        Ok(command.is_none())
+    fn is_so(alloc: Global, row: &[u8]) -> Result<bool, Fail> {
+        let words = words_of(alloc, row)?;
+        Ok(read(alloc, &words)?.is_none())
     }
 }
 
 #[test]
 fn other_words_are_usage(rt: HostRuntime) -> Result<(), Fail> {
     assert!(rt; read(rt.alloc(), &[])?.is_none(), "no words");
-    check::<Other, _>(&rt, rt.alloc(), USAGE.as_bytes())?;
-    Ok(())
+    check::<Other, _>(&rt, rt.alloc(), USAGE.as_bytes())
 }
