@@ -2,3 +2,4 @@ pub mod Texting
 pub mod Placing
 pub mod Dealing
 pub mod Seeding
+pub mod Dealt

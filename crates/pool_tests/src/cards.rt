@@ -86,7 +86,8 @@ fn new_card<R: Repo>(
     requires { path < 10_000 }
     ensures path { IfOk result (λ c. c.path ≡ path) }
     ensures text { IfOk result (λ c. c.text ≡ text_at path) }
-    ensures new { IfOk result (λ c. IsNewCard (seen (sight R.Blob.told R.Blob.seen (λ p. page_seen p.path p.state)) c)) }
+    ensures new { IfOk result (λ c. IsNewCard (seen
+        (sight R.Blob.told R.Blob.seen (λ p. page_seen p.path p.state)) c)) }
 {
     let name = text_of(path);
     let object = object_of(owner, path);
@@ -117,7 +118,8 @@ pub fn cards_of<R: Repo>(
     owner: Option<u32>,
 ) -> Result<Vec<Card<R::Blob, Page>>, AllocError>
     requires { length starts.now < 10_000 }
-    ensures { IfOk result (λ v. AreCardsOf (sight R.Blob.told R.Blob.seen (λ p. page_seen p.path p.state)) owner starts.now v.items) }
+    ensures { IfOk result (λ v. AreCardsOf (sight R.Blob.told R.Blob.seen (λ p. page_seen p.path p.state))
+        owner starts.now v.items) }
 {
     let mut cards = Vec::new(alloc);
     let mut path = 0;

@@ -58,7 +58,8 @@ pub fn seeds_of<R: Repo>(
     requires keep { KeepDrivers (length drivers.now) starts.now }
     ensures len { IfOk result (λ v. length v.items ≡ length drivers.now) }
     ensures seeds { IfOk result (λ v. AreSeeds ⟦<MemoryStarter as Starter>⟧.seen starts.now 0 v.items) }
-    ensures new { IfOk result (λ v. AreNew (sight R.Blob.told R.Blob.seen (λ p. page_seen p.path p.state)) (seed_cards v.items)) }
+    ensures new { IfOk result (λ v. AreNew (sight R.Blob.told R.Blob.seen (λ p. page_seen p.path p.state))
+        (seed_cards v.items)) }
 {
     let mut seeds = Vec::new(alloc);
     let mut driver = 0;

@@ -1,13 +1,14 @@
-//! The tests of the pool.
+//! The tests of a driver's desk and of the pool.
 //!
-//! A crate with tests is proved twice, with them and without. So the tests of `writer_pool` are here, over the built
-//! library: `many` has those over a thousand paths, without drivers and with the two of `talks`, and `handing` those
-//! over paths that a driver refuses. `cards` makes the cards, `page` is their leaf, `drivers` makes the seeds of desks,
-//! `runs` runs a pool, and `gates` holds actors.
+//! A crate with tests is proved twice, with them and without. So the tests of `driver_desk` and of `writer_pool` are
+//! here, over the built libraries. `desk` has those of one desk. `many` has those of the pool over a thousand paths,
+//! without drivers and with the two of `talks`, and `handing` those over paths that a driver refuses. `cards` makes the
+//! cards, `page` is their leaf, `drivers` makes the seeds of desks, `runs` runs a pool, and `gates` holds actors.
 #![tactic(auto)]
 
 #[cfg(test)]
 mod cards;
+pub mod desk;
 #[cfg(test)]
 mod drivers;
 #[cfg(test)]

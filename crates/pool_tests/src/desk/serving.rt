@@ -1,14 +1,14 @@
 //! One desk over scripts.
-use crate::cards::{Layout, four_cards};
-use crate::ledger::Ledger;
-use crate::sheet::{Sheet, Source};
-use crate::taken::Taken;
+use crate::desk::cards::{Layout, four_cards};
+use crate::desk::ledger::Ledger;
+use crate::desk::sheet::{Sheet, Source};
+use crate::desk::taken::Taken;
+use crate::desk::{answers, talks};
 use byte_path::{Bytes, Items};
-use checkout_core::{Event, ObjectKind, Own, Start};
+use checkout_core::{ObjectKind, Own, Start};
 use convert_plan::Card;
 use driver_desk::Desk;
 use edge_kit::{DriverScript, LeafState, Mark, MemorySpawner, NoGate, SessionScript, Spawner};
-use filter_words::Caps;
 use std::alloc::{AllocError, Global};
 use std::process::Abort;
 use std::snapshot::Snapshot;
@@ -22,28 +22,21 @@ pub const HELLO: &[u8] =
 pub const HELLO_DIRECT: &[u8] =
     b"0016git-filter-server\n000eversion=2\n00000016capability=smudge\n0000";
 
-pub const BOTH: Caps = Caps {
-    smudge: true,
-    delay: true,
-};
-
-pub const DIRECT: Caps = Caps {
-    smudge: true,
-    delay: false,
-};
-
-/// A start of the driver, with the parts of what it writes then.
+/// How a session goes.
 #[derive(Clone, Copy)]
-pub enum Script {
-    Session(&'static [&'static [u8]]),
+pub enum Way {
+    Whole,
     /// Each read takes a byte.
-    Bytes(&'static [&'static [u8]]),
+    ByBytes,
     /// The first send fails.
-    SendFails(&'static [&'static [u8]]),
+    SendFails,
     /// The first read fails.
-    ReadFails(&'static [&'static [u8]]),
+    ReadFails,
     NoStart,
 }
+
+/// A session: how it goes, the driver's greeting, and what else it writes.
+pub type Script = (Way, &'static [u8], &'static [u8]);
 
 /// How a path ends.
 #[derive(Clone, Copy)]
@@ -64,28 +57,26 @@ pub struct Row {
     pub required: bool,
     pub fails: Option<(u32, edge_kit::LeafCall)>,
     pub sessions: &'static [Script],
-    pub notes: &'static [Event],
+    /// A line for each note.
+    pub notes: &'static str,
     pub ends: &'static [End],
 }
 
+/// The number of the call that fails.
+fn first_if(fails: bool) -> Option<u32> {
+    if fails { Some(0) } else { None }
+}
+
 fn script_of(alloc: Global, script: Script) -> Result<SessionScript, AllocError> {
-    let (parts, starts, piece, fail_send, fail_read) = match script {
-        Script::Session(parts) => (parts, true, 1000, None, None),
-        Script::Bytes(parts) => (parts, true, 1, None, None),
-        Script::SendFails(parts) => (parts, true, 1000, Some(0), None),
-        Script::ReadFails(parts) => (parts, true, 1000, None, Some(0)),
-        Script::NoStart => (&[] as &[&[u8]], false, 1000, None, None),
-    };
-    let mut output = Vec::new(alloc);
-    for part in parts {
-        output.extend_from_slice(part)?;
-    }
+    let (way, hello, rest) = script;
+    let mut output = Vec::from_slice(alloc, hello)?;
+    output.extend_from_slice(rest)?;
     Ok(SessionScript {
-        starts,
+        starts: !matches!(way, Way::NoStart),
         output: Bytes::from_vec(output),
-        piece,
-        fail_send,
-        fail_read,
+        piece: if matches!(way, Way::ByBytes) { 1 } else { 1000 },
+        fail_send: first_if(matches!(way, Way::SendFails)),
+        fail_read: first_if(matches!(way, Way::ReadFails)),
     })
 }
 
@@ -102,6 +93,7 @@ fn spawner_of(alloc: Global, scripts: &[Script]) -> Result<MemorySpawner, AllocE
     Ok(MemorySpawner::new(alloc, drivers))
 }
 
+/// Whether a path was closed as its end says.
 fn is_closed_so(own: Own, card: &Card<Source, Sheet>, end: Option<&End>) -> bool {
     let fine = Own::Fine { unencoded: false };
     match end {
@@ -111,12 +103,13 @@ fn is_closed_so(own: Own, card: &Card<Source, Sheet>, end: Option<&End>) -> bool
                 && card.leaf.content.as_slice() == *content
         }
         Some(End::NoFile) => own == fine && card.leaf.state == LeafState::Gone,
-        Some(End::WriteFailed) => { own == Own::WriteFailed && card.leaf.state == LeafState::Gone }
+        Some(End::WriteFailed) => own == Own::WriteFailed && card.leaf.state == LeafState::Gone,
         Some(End::Back) => false,
         None => own == Own::Object(ObjectKind::Absent) && card.leaf.state == LeafState::Fresh,
     }
 }
 
+/// Whether a path that was handed back is as its end says.
 fn is_back_so(card: &Card<Source, Sheet>, end: Option<&End>) -> bool {
     let ready = match &card.ready {
         Some(ready) => ready.bytes.as_slice() == b"abcd".as_slice(),
@@ -125,8 +118,36 @@ fn is_back_so(card: &Card<Source, Sheet>, end: Option<&End>) -> bool {
     matches!(end, Some(End::Back)) && ready && card.leaf.state == LeafState::Fresh
 }
 
-/// Serves the talk of a row, and looks at its notes and at each card.
-pub fn serve_row(rt: &impl Abort, alloc: Global, row: &Row) -> Result<(), Fail> {
+/// Whether each path has the end of its row, once.
+fn ends_so(taken: &[Taken], ends: &[End]) -> bool {
+    let mut paths: u32 = 0;
+    for entry in taken {
+        let right = match entry {
+            Taken::Noted(_) => continue,
+            Taken::Closed(own, card) => is_closed_so(*own, card, ends.get(card.path as usize)),
+            Taken::Back(card) => is_back_so(card, ends.get(card.path as usize)),
+        };
+        if !right {
+            return false;
+        }
+        paths = paths.saturating_add(1);
+    }
+    paths == 4
+}
+
+/// The notes that were taken, a line for each.
+fn notes_of(alloc: Global, taken: &[Taken]) -> Result<String, Fail> {
+    let mut text = String::new(alloc);
+    for entry in taken {
+        if let Taken::Noted(event) = entry {
+            writeln!(text, "{event:?}")?;
+        }
+    }
+    Ok(text)
+}
+
+/// Serves the talk of a row, and gives what the recorder took.
+fn serve<H: Abort>(rt: &H, alloc: Global, row: &Row) -> Result<Vec<Taken>, AllocError> {
     let layout = Layout {
         objects: row.ends.len(),
         fails: row.fails,
@@ -137,36 +158,24 @@ pub fn serve_row(rt: &impl Abort, alloc: Global, row: &Row) -> Result<(), Fail> 
         required: row.required,
     };
     let starts = vec![in alloc; start, start, start, start]?;
-    let mut ledger = Ledger::new(
-        rt,
-        row.required,
-        starts,
-        Snapshot::of(&cards),
-        Vec::new(alloc),
-    );
     let starter = spawner_of(alloc, row.sessions)?.starter(b"d")?;
+    let planned = Snapshot::of(&cards);
+    let mut ledger = Ledger::new(rt, row.required, starts, planned, Vec::new(alloc));
     let desk = Desk::make(alloc, 0, 0, row.required, starter, cards)?;
     let _served = desk.serve(&mut ledger, &NoGate);
-    let mut notes = row.notes.iter();
-    let mut paths: u32 = 0;
-    for entry in ledger.taken.iter() {
-        match entry {
-            Taken::Noted(event) => {
-                assert_eq!(rt; Some(event), notes.next(), "at {}", row.name);
-            }
-            Taken::Closed(own, card) => {
-                let end = row.ends.get(card.path as usize);
-                assert!(rt; is_closed_so(*own, card, end), "at {}, {own:?}", row.name);
-                paths = paths.saturating_add(1);
-            }
-            Taken::Back(card) => {
-                let end = row.ends.get(card.path as usize);
-                assert!(rt; is_back_so(card, end), "at {}", row.name);
-                paths = paths.saturating_add(1);
-            }
+    Ok(ledger.taken)
+}
+
+#[test]
+fn each_talk_has_its_notes_and_its_ends(rt: HostRuntime) -> Result<(), Fail> {
+    let alloc = rt.alloc();
+    for rows in [talks::ROWS, answers::ROWS] {
+        for row in rows {
+            let taken = serve(&rt, alloc, row)?;
+            let notes = notes_of(alloc, taken.as_slice())?;
+            assert_eq!(rt; notes.as_str(), row.notes, "{}", row.name);
+            assert!(rt; ends_so(taken.as_slice(), row.ends), "{}", row.name);
         }
     }
-    assert_eq!(rt; notes.next(), None, "at {}", row.name);
-    assert_eq!(rt; paths, 4, "at {}", row.name);
     Ok(())
 }

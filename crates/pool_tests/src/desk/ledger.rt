@@ -2,10 +2,10 @@
 ghost use Rattle.std.specs.Prelude.{◌≡◌, ◌++◌, ◌∷◌, [], map};
 ghost use Rattle.convert_plan.specs.Card.{card_seen};
 ghost use Rattle.driver_desk.specs.Serving.{Closed, HandedBack};
-ghost use Rattle.desk_tests.specs.Givens.{given_in, standing_of};
+ghost use Rattle.pool_tests.specs.Givens.{given_in, standing_of};
 
-use crate::sheet::{Sheet, Source};
-use crate::taken::Taken;
+use crate::desk::sheet::{Sheet, Source};
+use crate::desk::taken::Taken;
 use checkout_core::{Event, Own, Start};
 use convert_plan::Card;
 use driver_desk::Recorder;

@@ -2,9 +2,9 @@
 ghost use Rattle.std.specs.Prelude.{◌≡◌, ◌<◌, ◌≤◌, ◌∷◌, [], map, length, IfOk};
 ghost use Rattle.convert_plan.specs.Card.{card_seen, IsNewCard};
 ghost use Rattle.driver_desk.specs.Works.{AreNew, card_paths, card_texts};
-ghost use Rattle.desk_tests.specs.Names.{names};
+ghost use Rattle.pool_tests.specs.Names.{names};
 
-use crate::sheet::{Sheet, Source};
+use crate::desk::sheet::{Sheet, Source};
 use byte_path::Bytes;
 use convert_plan::{Card, Conversion};
 use edge_kit::{Blob, Leaf, LeafCall, LeafState, Mark};

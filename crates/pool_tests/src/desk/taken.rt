@@ -1,5 +1,5 @@
 //! What a recorder in memory took.
-use crate::sheet::{Sheet, Source};
+use crate::desk::sheet::{Sheet, Source};
 use checkout_core::{Event, Own};
 use convert_plan::Card;
 

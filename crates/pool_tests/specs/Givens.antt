@@ -8,10 +8,10 @@ use Rattle.edge_kit.specs.Seen.{BlobSeen, LeafSeen}
 use Rattle.convert_plan.specs.Card.{card_seen}
 use Rattle.driver_desk.specs.Serving.{Given}
 use Rattle.driver_desk.specs.Serving as entry
-use Rattle.desk_tests.specs.declared.sheet.Sheet.{Sheet}
-use Rattle.desk_tests.specs.declared.sheet.Source.{Source}
-use Rattle.desk_tests.specs.declared.taken.Taken.{Taken}
-use Rattle.desk_tests.specs.declared.taken.Taken.TheVariants.{Noted, Closed, Back}
+use Rattle.pool_tests.specs.declared.desk.sheet.Sheet.{Sheet}
+use Rattle.pool_tests.specs.declared.desk.sheet.Source.{Source}
+use Rattle.pool_tests.specs.declared.desk.taken.Taken.{Taken}
+use Rattle.pool_tests.specs.declared.desk.taken.Taken.TheVariants.{Noted, Closed, Back}
 
 module _ (told : Source → Told) (blob : Source → BlobSeen) (leaf : Sheet → LeafSeen) where
   abbrev pub given_of : Taken → Given
