@@ -43,6 +43,24 @@ pub fn new_card<R: Repo, W: Worktree>(
     })
 }
 
+/// New cards of path 0 and of path 1, for these objects.
+pub fn new_pair<R: Repo, W: Worktree>(
+    alloc: Global,
+    repo: &mut R,
+    tree: &mut W,
+    first: &[u8; 20],
+    second: &[u8; 20],
+) -> Result<(Card<R::Blob, W::Leaf>, Card<R::Blob, W::Leaf>), AllocError>
+    ensures first { IfOk result (λ r. r.0.path ≡ 0) }
+    ensures second { IfOk result (λ r. r.1.path ≡ 1) }
+    ensures first_new { IfOk result (λ r. IsNewCard (seen (sight R.Blob.told R.Blob.seen W.Leaf.seen) r.0)) }
+    ensures second_new { IfOk result (λ r. IsNewCard (seen (sight R.Blob.told R.Blob.seen W.Leaf.seen) r.1)) }
+{
+    let first = new_card(alloc, repo, tree, 0, first)?;
+    let second = new_card(alloc, repo, tree, 1, second)?;
+    Ok((first, second))
+}
+
 /// The new cards of a pool.
 pub struct NewCards<B: Blob, L: Leaf> {
     pub cards: Vec<Card<B, L>>,

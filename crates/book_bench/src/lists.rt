@@ -1,5 +1,6 @@
 // Lists of one and of two items.
 ghost use Rattle.std.specs.Prelude.{◌≡◌, [], ◌∷◌, IfOk};
+ghost use Rattle.std.specs.Global.{Vec};
 
 use std::alloc::{AllocError, Global};
 
@@ -20,4 +21,19 @@ pub fn both<T: Drop>(alloc: Global, first: T, second: T) -> Result<Vec<T>, Alloc
     items.push_reserved(first);
     items.push_reserved(second);
     Ok(items)
+}
+
+/// A list of the first item, and a list of a list of the second.
+pub fn apart<T: Drop>(
+    alloc: Global,
+    first: T,
+    second: T,
+) -> Result<(Vec<T>, Vec<Vec<T>>), AllocError>
+    ensures first { IfOk result (λ r. r.0.items ≡ first ∷ []) }
+    ensures second { IfOk result (λ r. (v : Vec T) × (r.1.items ≡ v ∷ []) × (v.items ≡ second ∷ [])) }
+{
+    let one = alone(alloc, first)?;
+    let inner = alone(alloc, second)?;
+    let outer = alone(alloc, inner)?;
+    Ok((one, outer))
 }

@@ -5,6 +5,10 @@
 //! it makes one book with that many cards and one worker, and tells its time.
 #![tactic(auto)]
 
+ghost use Rattle.std.specs.Prelude.{◌≡◌, IfOk};
+ghost use Rattle.convert_plan.specs.Card.{IsNewCard};
+ghost use Rattle.checkout_book.specs.Sights.{sight, seen};
+
 mod cards;
 mod desk;
 mod lists;
@@ -12,19 +16,19 @@ mod pair;
 mod runs;
 mod work;
 
-use crate::cards::new_card;
+use crate::cards::new_pair;
 use crate::lists::both;
 use crate::runs::{by_one_worker, by_the_caller, by_worker_and_desk};
-use anyhow::Result;
 use checkout_book::ending::Ended;
 use checkout_core::Verdict;
-use edge_kit::{Blob, MemoryBlob, MemoryLeaf, MemoryRepo, MemoryTree};
+use convert_plan::Card;
+use edge_kit::{Blob, Leaf, MemoryBlob, MemoryLeaf, MemoryRepo, MemoryTree};
 use std::alloc::{AllocError, Global};
-use std::env;
 use std::io::Print;
 use std::rt::{Clock, Env};
 use std::sync::Wait;
 use std::time::Instant;
+use std::{env, io};
 
 /// The name of the object with the content `hello` and a line feed.
 const HELLO: [u8; 20] = [
@@ -39,7 +43,7 @@ const HI: [u8; 20] = [
 ];
 
 /// The number in the first word that is one.
-fn count<R: Env + AllocGlobal>(rt: &R) -> Result<Option<u32>> {
+fn count<R: Env + AllocGlobal>(rt: &R) -> io::Result<Option<u32>> {
     for word in env::args(rt)? {
         if let Ok(number) = word.parse::<u32>() {
             return Ok(Some(number));
@@ -69,18 +73,46 @@ fn outside(alloc: Global) -> Result<(MemoryRepo, MemoryTree), AllocError> {
     Ok((repo, tree))
 }
 
+/// New cards of path 0 and of path 1, and the second has this object.
+fn two_cards(
+    alloc: Global,
+    object: &[u8; 20],
+) -> Result<(Card<MemoryBlob, MemoryLeaf>, Card<MemoryBlob, MemoryLeaf>), AllocError>
+    ensures first { IfOk result (λ r. r.0.path ≡ 0) }
+    ensures second { IfOk result (λ r. r.1.path ≡ 1) }
+    ensures first_new { IfOk result (λ r. IsNewCard (seen
+        (sight ⟦<MemoryBlob as Blob>⟧.told ⟦<MemoryBlob as Blob>⟧.seen ⟦<MemoryLeaf as Leaf>⟧.seen) r.0)) }
+    ensures second_new { IfOk result (λ r. IsNewCard (seen
+        (sight ⟦<MemoryBlob as Blob>⟧.told ⟦<MemoryBlob as Blob>⟧.seen ⟦<MemoryLeaf as Leaf>⟧.seen) r.1)) }
+{
+    let (mut repo, mut tree) = outside(alloc)?;
+    new_pair(alloc, &mut repo, &mut tree, &HELLO, object)
+}
+
+/// What a book with so many cards is after one worker closed them all.
+fn closed_by_one<H: Wait>(
+    rt: &H,
+    alloc: Global,
+    cards: u32,
+) -> Result<Ended<MemoryBlob, MemoryLeaf>, AllocError> {
+    let (mut repo, mut tree) = outside(alloc)?;
+    by_one_worker(rt, alloc, &mut repo, &mut tree, cards)
+}
+
 /// What a path came to.
 fn word_of(verdict: Option<Verdict>) -> &'static str {
+    let Some(verdict) = verdict else {
+        return "open";
+    };
     match verdict {
-        Some(Verdict::Written { .. }) => "written",
-        Some(Verdict::Unfiltered { .. }) => "unfiltered",
-        Some(_) => "without its file",
-        None => "open",
+        Verdict::Written { .. } => "written",
+        Verdict::Unfiltered { .. } => "unfiltered",
+        _ => "without its file",
     }
 }
 
 /// The history and the verdicts of a book, each as a line.
-fn tell<R: Print>(rt: &R, ended: &Ended<MemoryBlob, MemoryLeaf>, paths: u32) -> Result<()> {
+fn tell<R: Print>(rt: &R, ended: &Ended<MemoryBlob, MemoryLeaf>, paths: u32) -> io::Result<()> {
     for event in ended.history() {
         println!(rt; "{event:?}")?;
     }
@@ -92,62 +124,75 @@ fn tell<R: Print>(rt: &R, ended: &Ended<MemoryBlob, MemoryLeaf>, paths: u32) -> 
 }
 
 /// Tells of a book with so many cards and one worker.
-fn tell_worker<R: Print + Wait + AllocGlobal>(rt: &R, cards: u32) -> Result<()> {
+fn tell_worker<R: Print + Wait + AllocGlobal>(rt: &R, cards: u32) -> io::Result<()> {
     println!(rt; "one worker, cards: {cards}")?;
-    let (mut repo, mut tree) = outside(rt.alloc())?;
-    let ended = by_one_worker(rt, rt.alloc(), &mut repo, &mut tree, cards)?;
+    let ended = closed_by_one(rt, rt.alloc(), cards)?;
     tell(rt, &ended, cards)
 }
 
+/// Tells that a book could not be made to its end.
+fn tell_none<R: Print>(rt: &R) -> io::Result<()> {
+    println!(rt; "the object could not be read")?;
+    Ok(())
+}
+
 /// Tells of a book with a worker and the desk of a driver that can't be started.
-fn tell_desk<R: Print + Wait + AllocGlobal>(rt: &R) -> Result<()> {
+fn tell_desk<R: Print + Wait + AllocGlobal>(rt: &R) -> io::Result<()> {
     println!(rt; "a worker and a desk")?;
-    let alloc = rt.alloc();
-    let (mut repo, mut tree) = outside(alloc)?;
-    let free = new_card(alloc, &mut repo, &mut tree, 0, &HELLO)?;
-    let filtered = new_card(alloc, &mut repo, &mut tree, 1, &HELLO)?;
-    match by_worker_and_desk(rt, alloc, free, filtered)? {
+    let (free, filtered) = two_cards(rt.alloc(), &HELLO)?;
+    match by_worker_and_desk(rt, rt.alloc(), free, filtered)? {
         Some(ended) => tell(rt, &ended, 2),
-        None => {
-            println!(rt; "the object could not be read")?;
-            Ok(())
-        }
+        None => tell_none(rt),
     }
 }
 
 /// Tells of a book whose cards the caller closes, and the size of each object in the order of the parts.
-fn tell_caller<R: Print + Wait + AllocGlobal>(rt: &R) -> Result<()> {
+fn tell_caller<R: Print + Wait + AllocGlobal>(rt: &R) -> io::Result<()> {
     println!(rt; "a desk, and then the caller")?;
-    let alloc = rt.alloc();
-    let (mut repo, mut tree) = outside(alloc)?;
-    let free = new_card(alloc, &mut repo, &mut tree, 0, &HELLO)?;
-    let filtered = new_card(alloc, &mut repo, &mut tree, 1, &HI)?;
-    let Some(ended) = by_the_caller(rt, alloc, free, filtered)? else {
-        println!(rt; "the object could not be read")?;
-        return Ok(());
+    let (free, filtered) = two_cards(rt.alloc(), &HI)?;
+    let Some(ended) = by_the_caller(rt, rt.alloc(), free, filtered)? else {
+        return tell_none(rt);
     };
     tell(rt, &ended, 2)?;
-    for (mut blob, _leaf) in ended.into_parts() {
-        if let Ok(Some(stored)) = blob.take_all(100) {
-            let size = stored.len();
-            println!(rt; "parts with an object of {size} bytes")?;
-        }
+    for part in ended.into_parts() {
+        tell_part(rt, part)?;
     }
     Ok(())
 }
 
-/// How long a book with so many cards takes.
-fn time<R: Clock + Print + Wait + AllocGlobal>(rt: &R, cards: u32) -> Result<()> {
-    let (mut repo, mut tree) = outside(rt.alloc())?;
+/// Tells the size of a part's object, if it is there.
+fn tell_part<R: Print>(rt: &R, part: (MemoryBlob, MemoryLeaf)) -> io::Result<()> {
+    if let Some(size) = size_of(part) {
+        println!(rt; "parts with an object of {size} bytes")?;
+    }
+    Ok(())
+}
+
+/// How many bytes a part's object has, if it is there.
+fn size_of(part: (MemoryBlob, MemoryLeaf)) -> Option<usize> {
+    let (mut blob, _leaf) = part;
+    match blob.take_all(100) {
+        Ok(Some(stored)) => Some(stored.len()),
+        _ => None,
+    }
+}
+
+/// How many events a book with so many cards has, and the microseconds from its beginning to its end.
+fn measured<R: Clock + Wait + AllocGlobal>(rt: &R, cards: u32) -> io::Result<(usize, u128)> {
     let begun = Instant::now(rt)?;
-    let ended = by_one_worker(rt, rt.alloc(), &mut repo, &mut tree, cards)?;
+    let ended = closed_by_one(rt, rt.alloc(), cards)?;
     let micros = begun.elapsed(rt)?.as_micros();
-    let events = ended.history().len();
+    Ok((ended.history().len(), micros))
+}
+
+/// Tells how long it takes to make a book with so many cards, and to close them.
+fn time<R: Clock + Print + Wait + AllocGlobal>(rt: &R, cards: u32) -> io::Result<()> {
+    let (events, micros) = measured(rt, cards)?;
     println!(rt; "{cards} cards: {events} events, {micros} microseconds")?;
     Ok(())
 }
 
-fn main(rt: HostRuntime) -> Result<()> {
+fn main(rt: HostRuntime) -> io::Result<()> {
     if let Some(cards) = count(&rt)? {
         return time(&rt, cards);
     }

@@ -3,9 +3,9 @@ ghost use Rattle.std.specs.Prelude.{◌≡◌, IfOk};
 ghost use Rattle.convert_plan.specs.Card.{IsNewCard};
 ghost use Rattle.checkout_book.specs.declared.plan.Plan.{Plan};
 ghost use Rattle.checkout_book.specs.Sights.{sight, seen};
-ghost use Rattle.book_bench.specs.Pairs.{IsPair, IsBegun, pair_plan};
+ghost use Rattle.book_bench.specs.Pairs.{two, IsPair, IsBegun, pair_plan};
 
-use crate::lists::alone;
+use crate::lists::apart;
 use checkout_book::book::{Book, Pass};
 use checkout_book::reserving::{BookBegun, reserve};
 use checkout_core::Start;
@@ -28,6 +28,17 @@ pub struct PairBegun<B: Blob, L: Leaf> {
     pub card: Card<B, L>,
 }
 
+/// Path 0 is for any actor, and path 1 of a driver that isn't required.
+fn two_starts(alloc: Global) -> Result<Vec<Start>, AllocError>
+    ensures { IfOk result (λ starts. starts.items ≡ two) }
+{
+    let desk = Start::Desk {
+        driver: 0,
+        required: false,
+    };
+    Vec::from_slice(alloc, &[Start::Pool, desk])
+}
+
 /// The first card waits, and the second is of a driver that isn't required.
 fn make_pair<B: Blob, L: Leaf>(
     alloc: Global,
@@ -40,14 +51,8 @@ fn make_pair<B: Blob, L: Leaf>(
     requires filtered_new { IsNewCard (seen (sight B.told B.seen L.seen) filtered) }
     ensures { IfOk result (λ r. IsPair (sight B.told B.seen L.seen) (pair_plan r) free filtered) }
 {
-    let desk = Start::Desk {
-        driver: 0,
-        required: false,
-    };
-    let starts = Vec::from_slice(alloc, &[Start::Pool, desk])?;
-    let pool = alone(alloc, free)?;
-    let cards = alone(alloc, filtered)?;
-    let desks = alone(alloc, cards)?;
+    let starts = two_starts(alloc)?;
+    let (pool, desks) = apart(alloc, free, filtered)?;
     Ok(Pair {
         pool,
         desks,

@@ -1,14 +1,15 @@
 // Books from their beginning to their end.
-ghost use Rattle.std.specs.Prelude.{◌≡◌, ◌+◌, IfOk, IfSome};
+ghost use Rattle.std.specs.Prelude.{◌≡◌, ◌+◌, ◌<◌, ◌^◌, ℕ, IfOk, IfSome, length};
 ghost use Rattle.convert_plan.specs.Card.{IsNewCard};
 ghost use Rattle.checkout_book.specs.declared.plan.Plan.{Plan};
 ghost use Rattle.checkout_book.specs.Ending.{GoesOn};
 ghost use Rattle.checkout_book.specs.Reserving.{HasNothing};
 ghost use Rattle.checkout_book.specs.Sights.{sight, seen};
+ghost use Rattle.book_bench.specs.Pools.{IsPool};
 
 use crate::cards::{NewCards, new_cards, refused_card};
 use crate::desk::{give_back, turns};
-use crate::lists::both;
+use crate::lists::{alone, both};
 use crate::pair::{PairBegun, begin_pair};
 use crate::work::work;
 use checkout_book::book::{Book, Pass};
@@ -20,17 +21,17 @@ use edge_kit::{Blob, Leaf, Repo, Worktree};
 use std::alloc::{AllocError, Global};
 use std::sync::Wait;
 
-/// What a book with so many cards is after one worker closed them all.
-pub fn by_one_worker<R: Repo, W: Worktree, H: Wait>(
-    rt: &H,
+/// A book of a pool with one worker, and the worker's pass.
+fn begin_pool<B: Blob, L: Leaf>(
     alloc: Global,
-    repo: &mut R,
-    tree: &mut W,
-    count: u32,
-) -> Result<Ended<R::Blob, W::Leaf>, AllocError> {
-    let new = new_cards(alloc, repo, tree, count)?;
+    new: NewCards<B, L>,
+) -> Result<(Book<B, L>, Pass<B, L>), AllocError>
+    requires pool { (count : ℕ) × IsPool (sight B.told B.seen L.seen) count new.starts.items new.cards.items }
+    requires few { length new.starts.items < 2 ^ 32 }
+    ensures { IfOk result (λ r. (d : Plan B L) × HasNothing r.0 d 0 (d.workers + d.drivers) r.1
+        × (d.workers + d.drivers ≡ 1)) }
+{
     let NewCards { cards, starts } = new;
-    let mut done = Vec::with_capacity(alloc, 1)?;
     let desks = Vec::new(alloc);
     let begun = reserve(alloc, cards, desks, starts, 1)?;
     let BookBegun {
@@ -41,9 +42,34 @@ pub fn by_one_worker<R: Repo, W: Worktree, H: Wait>(
     let Some(pass) = workers.pop() else {
         unreachable!()
     };
-    let idle = work(rt, &book, pass);
-    done.push_reserved(idle);
+    Ok((book, pass))
+}
+
+/// What a book is after its one pass came back.
+fn finish_one<B: Blob, L: Leaf>(
+    alloc: Global,
+    book: Book<B, L>,
+    pass: Pass<B, L>,
+) -> Result<Ended<B, L>, AllocError>
+    requires { (d : Plan B L) × HasNothing book d 0 (d.workers + d.drivers) pass × (d.workers + d.drivers ≡ 1) }
+{
+    let done = alone(alloc, pass)?;
     Ok(finish(book, done))
+}
+
+/// What a book with so many cards is after one worker closed them all.
+pub fn by_one_worker<R: Repo, W: Worktree, H: Wait>(
+    rt: &H,
+    alloc: Global,
+    repo: &mut R,
+    tree: &mut W,
+    count: u32,
+) -> Result<Ended<R::Blob, W::Leaf>, AllocError> {
+    let new = new_cards(alloc, repo, tree, count)?;
+    let begun = begin_pool(alloc, new)?;
+    let (book, pass) = begun;
+    let idle = work(rt, &book, pass);
+    finish_one(alloc, book, idle)
 }
 
 /// What a book is after its two passes came back.
@@ -89,18 +115,29 @@ pub fn by_worker_and_desk<B: Blob, L: Leaf, H: Wait>(
     Ok(Some(ended))
 }
 
+/// Closes the next card that waits, as actor 0. Whether one waited is returned.
+fn close_next<B: Blob, L: Leaf>(ended: &mut Ended<B, L>) -> bool
+    requires { GoesOn (sight B.told B.seen L.seen) ended.old.shelf }
+    ensures { GoesOn (sight B.told B.seen L.seen) ended.new.shelf }
+{
+    core_laws::laws::a_path_in_hand_may_be_closed();
+    checkout_book::laws::a_claimed_card_is_out::<B, L>();
+    let Some(card) = ended.take_waiting() else {
+        return false;
+    };
+    ended.close(card, Own::Fine { unencoded: false });
+    true
+}
+
 /// Closes the cards that still wait, up to so many, as actor 0.
 fn close_rest<B: Blob, L: Leaf>(mut ended: Ended<B, L>, most: u32) -> Ended<B, L>
     requires { GoesOn (sight B.told B.seen L.seen) ended.shelf }
     ensures { GoesOn (sight B.told B.seen L.seen) result.shelf }
 {
-    core_laws::laws::a_path_in_hand_may_be_closed();
-    checkout_book::laws::a_claimed_card_is_out::<B, L>();
     for _card in 0..most {
-        let Some(card) = ended.take_waiting() else {
+        if !close_next(&mut ended) {
             return ended;
-        };
-        ended.close(card, Own::Fine { unencoded: false });
+        }
     }
     ended
 }

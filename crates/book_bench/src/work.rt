@@ -9,6 +9,21 @@ use checkout_core::Own;
 use edge_kit::{Blob, Leaf};
 use std::sync::Wait;
 
+/// Claims a card that waits, and closes it at once. Whether one waited is returned.
+fn close_one<B: Blob, L: Leaf, H: Wait>(rt: &H, book: &Book<B, L>, pass: &mut Pass<B, L>) -> bool
+    requires { (d : Plan B L) × (made : ℕ) × HasNothing book.now d (number_of pass.old) made pass.old }
+    ensures { (d : Plan B L) (made : ℕ) → HasNothing book.now d (number_of pass.old) made pass.old
+        → HasNothing book.now d (number_of pass.old) made pass.new }
+{
+    core_laws::laws::a_path_in_hand_may_be_closed();
+    checkout_book::laws::a_claimed_card_is_out::<B, L>();
+    let Some(card) = claim(rt, book, pass) else {
+        return false;
+    };
+    close(rt, book, pass, card, Own::Fine { unencoded: false });
+    true
+}
+
 /// Claims each card that waits, and closes it at once. The last claim gets nothing.
 pub fn work<B: Blob, L: Leaf, H: Wait>(
     rt: &H,
@@ -19,13 +34,10 @@ pub fn work<B: Blob, L: Leaf, H: Wait>(
     ensures { (d : Plan B L) (made : ℕ) → HasNothing book.now d (number_of pass) made pass
         → HasNothing book.now d (number_of pass) made result }
 {
-    core_laws::laws::a_path_in_hand_may_be_closed();
-    checkout_book::laws::a_claimed_card_is_out::<B, L>();
     for _turn in rt.forever() {
-        let Some(card) = claim(rt, book, &mut pass) else {
+        if !close_one(rt, book, &mut pass) {
             return pass;
-        };
-        close(rt, book, &mut pass, card, Own::Fine { unencoded: false });
+        }
     }
     unreachable!()
 }

@@ -16,7 +16,7 @@ use script::Script;
 use std::io;
 use std::io::{Read, Write};
 
-fn main(rt: HostRuntime) -> Result<(), anyhow::Error> {
+fn main(rt: HostRuntime) -> io::Result<()> {
     let mut text = Vec::new(rt.alloc());
     rt.reader().read_to_end(&mut text)?;
     let mut script = Script::new(rt.alloc());

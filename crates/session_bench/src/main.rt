@@ -10,17 +10,16 @@ mod page;
 
 use crate::driver::{Driver, hello_of, reply_of};
 use crate::page::Page;
-use anyhow::Result;
 use filter_proto::{Begun, Session};
 use filter_words::Reply;
 use std::alloc::{AllocError, Global};
-use std::env;
 use std::io::Print;
 use std::rt::{Clock, Env};
 use std::time::Instant;
+use std::{env, io};
 
 /// The numbers among the arguments.
-fn numbers<R: Env + AllocGlobal>(rt: &R) -> Result<Vec<u32>> {
+fn numbers<R: Env + AllocGlobal>(rt: &R) -> io::Result<Vec<u32>> {
     let mut all = Vec::new(rt.alloc());
     for word in env::args(rt)? {
         if let Ok(number) = word.parse::<u32>() {
@@ -77,7 +76,12 @@ fn copy(alloc: Global, content: &[u8], count: u32) -> Result<u64, AllocError> {
 }
 
 /// Prints what `count` exchanges gave, as a line, and their times if asked for.
-fn tell<R: Clock + Print + AllocGlobal>(rt: &R, size: u32, count: u32, timed: bool) -> Result<()> {
+fn tell<R: Clock + Print + AllocGlobal>(
+    rt: &R,
+    size: u32,
+    count: u32,
+    timed: bool,
+) -> io::Result<()> {
     let alloc = rt.alloc();
     let mut content = Vec::new(alloc);
     content.resize(size as usize, b'c')?;
@@ -95,7 +99,7 @@ fn tell<R: Clock + Print + AllocGlobal>(rt: &R, size: u32, count: u32, timed: bo
     Ok(())
 }
 
-fn main(rt: HostRuntime) -> Result<()> {
+fn main(rt: HostRuntime) -> io::Result<()> {
     let words = numbers(&rt)?;
     if let [size, count] = words.as_slice() {
         return tell(&rt, *size, *count, true);

@@ -7,16 +7,15 @@
 mod diary;
 
 use crate::diary::{in_order, written};
-use anyhow::Result;
-use std::env;
 use std::io::Print;
 use std::rt::{Clock, Env};
 use std::sync::Wait;
 use std::thread::Threads;
 use std::time::Instant;
+use std::{env, io};
 
 /// The numbers among the arguments.
-fn numbers<R: Env + AllocGlobal>(rt: &R) -> Result<Vec<u32>> {
+fn numbers<R: Env + AllocGlobal>(rt: &R) -> io::Result<Vec<u32>> {
     let mut all = Vec::new(rt.alloc());
     for word in env::args(rt)? {
         if let Ok(number) = word.parse::<u32>() {
@@ -32,7 +31,7 @@ fn tell<R: Clock + Print + Threads + Wait + Sync + AllocGlobal>(
     seats: u32,
     turns: u32,
     timed: bool,
-) -> Result<()> {
+) -> io::Result<()> {
     let begun = Instant::now(rt)?;
     let diary = written(rt, rt.alloc(), seats.max(1), turns)?;
     let micros = begun.elapsed(rt)?.as_micros();
@@ -50,7 +49,7 @@ fn tell<R: Clock + Print + Threads + Wait + Sync + AllocGlobal>(
     Ok(())
 }
 
-fn main(rt: HostRuntime) -> Result<()> {
+fn main(rt: HostRuntime) -> io::Result<()> {
     let words = numbers(&rt)?;
     if let [seats, turns] = words.as_slice() {
         return tell(&rt, *seats, *turns, true);

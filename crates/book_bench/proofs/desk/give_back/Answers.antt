@@ -1,4 +1,5 @@
 use Rattle.std.proofs.Common.{ℕ, Some, refl, sym, ap, ◌∙◌}
+use Rattle.checkout_core.specs.declared.event.Event.TheVariants.{HandBack}
 use Rattle.book_bench.proofs.Working.{by_number, note_named}
 use Rattle.book_bench.proofs.Pairing.{not_started, by_desk, first_note, back_by, may_fail, may_hand_back, nothing_after}
 use Rattle.book_bench.proofs.desk.give_back.Goals as goal
@@ -39,7 +40,8 @@ returns g c d made f =
     let h = f.idle in
     let t = first_note _ d made _ f _ h.0 h.1 (c.note.ensures d made) in
     let now = t.turn.pass in
-    let u = note_named _ d 1 made _ _ t.core _ now.seat.named
-    (c.hand_back.ensures d made t.core (by_number _ d _ made _ t.core now)
-    (back_by _ d made _ f _ _ c.requires.path now.seat.named)) in
-    nothing_after _ d made _ f _ _ h.0 t _ u h.2
+    let u = note_named c.args.book.now d 1 made c.note.new.pass c.hand_back.new.pass t.core (HandBack c.args.card.path)
+    now.seat.named
+    (c.hand_back.ensures d made t.core (by_number c.args.book.now d 1 made c.note.new.pass t.core now)
+    (back_by c.args.book.now d made c.args.pass f c.args.card.path _ c.requires.path now.seat.named)) in
+    nothing_after c.args.book.now d made c.args.pass f c.note.new.pass c.hand_back.new.pass h.0 t c.args.card.path u h.2

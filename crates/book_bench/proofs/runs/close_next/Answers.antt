@@ -1,6 +1,6 @@
 use Rattle.checkout_book.specs.Sights.{sight}
 use Rattle.book_bench.proofs.Working.{taken_may_close}
-use Rattle.book_bench.proofs.runs.close_rest.Goals as goal
+use Rattle.book_bench.proofs.runs.close_next.Goals as goal
 
 pub close-requires-clause-goes_on : goal.close-requires-clause-goes_on
 close-requires-clause-goes_on g c = c.in-Some.ensures.goes_on
@@ -16,5 +16,5 @@ close-requires-clause-step g c =
 pub close-requires-clause-out : goal.close-requires-clause-out
 close-requires-clause-out g c = c.a_claimed_card_is_out.ensures _ _ c.in-Some.ensures.card.planned
 
-pub loop-card-preserved : goal.loop-card-preserved
-loop-card-preserved g c = c.close.ensures.goes_on
+pub returns : goal.returns
+returns g c = c.close.ensures.goes_on

@@ -1,0 +1,39 @@
+use Rattle.std.proofs.Common.{◌≡◌, length, ap, arith}
+use Rattle.checkout_book.specs.declared.plan.Plan.{Plan}
+use Rattle.checkout_book.specs.Sights.{sight}
+use Rattle.book_bench.proofs.Working.{alone, pool_there, pool_all_new, pool_below, none_dealt}
+use Rattle.book_bench.proofs.runs.begin_pool.Goals as goal
+
+pub reserve-requires-clause-few_paths : goal.reserve-requires-clause-few_paths
+reserve-requires-clause-few_paths g c = c.requires.few
+
+pub reserve-requires-clause-pool : goal.reserve-requires-clause-pool
+reserve-requires-clause-pool g c =
+    pool_there (sight g.B.Blob.told g.B.Blob.seen g.L.Leaf.seen) _ _ _ c.requires.pool.1
+
+pub reserve-requires-clause-below : goal.reserve-requires-clause-below
+reserve-requires-clause-below g c =
+    pool_below (sight g.B.Blob.told g.B.Blob.seen g.L.Leaf.seen) _ _ _ _ c.requires.pool.1
+
+pub reserve-requires-clause-desks : goal.reserve-requires-clause-desks
+reserve-requires-clause-desks g c =
+    none_dealt (sight g.B.Blob.told g.B.Blob.seen g.L.Leaf.seen) c.args.new.starts.items
+    c.new-desks.result.items c.new-desks.ensures.items
+
+pub reserve-requires-clause-new : goal.reserve-requires-clause-new
+reserve-requires-clause-new g c =
+    pool_all_new (sight g.B.Blob.told g.B.Blob.seen g.L.Leaf.seen) _ _ _ _ c.requires.pool.1
+    c.new-desks.ensures.items
+
+pub returns : goal.returns
+returns g c =
+    let e = c.in_ok-begun.ensures in
+    let none : length c.new-desks.result.items ≡ 0 = ap length c.new-desks.ensures.items in
+    let d : Plan g.row.B.Denot g.row.L.Denot = record {
+      pool = c.args.new.cards;
+      desks = c.new-desks.result;
+      starts = c.args.new.starts;
+      workers = 1;
+      drivers = length c.new-desks.result.items;
+    } in
+    (d, alone _ d _ _ _ _ _ e.passes e.count c.in-Some.ensures.items, omega (arith, none))
