@@ -70,11 +70,11 @@ verdicts_of outcomes = map (λ o. o.verdict) outcomes
 abbrev pub files_of : List Outcome → List TreeFile
 files_of outcomes = filter_map (λ o. o.file) outcomes
 
--- The worktree was empty. Each path of the plan has its outcome, and the worktree has the files of
--- the outcomes and no other. The blobs of the attribute files, none of which failed, then the blobs and the leaves of the
--- paths, and then the starters of the drivers were given back. There was a talk with each driver of the plan, which goes
--- by what the spawner told ahead of its command. The history is a complete run over the starts of the plan, with its
--- drivers and the number of workers that the words and the settings give, and its verdicts are those of the outcomes.
+-- The worktree was empty. Each path of the plan has its outcome, and the worktree has the files of the outcomes and no
+-- other. The blobs of the attribute files, none of which failed, then the blobs and the leaves of the paths, and then
+-- the starters of the drivers were given back. There was a talk with each driver of the plan, which goes by what the
+-- spawner told ahead of its command. The history is a complete run over the starts of the plan, with its drivers and
+-- the number of workers that the words and the settings give, and its verdicts are those of the outcomes.
 pub record IsCheckedOut (told : RepoTold) (ahead : List ℕ → Starts) (asked : Option ℕ) (old new : Seen) : Type 0 where
   pub empty : Tells old.tree.empty true
   pub plan : Plan

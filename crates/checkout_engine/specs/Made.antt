@@ -53,8 +53,8 @@ pub record HasMade (cards starters : ℕ) (repo repo' : RepoSeen) (tree tree' : 
   pub tree_kept : tree' ≡ record tree { out = tree.out + cards }
   pub spawner_kept : spawner' ≡ record spawner { out = spawner.out + starters }
 
--- Memory ran out before the paths were done. What was made is back, unused. Or a blob and a leaf for each open path and a
--- starter for each driver are out, and files may be there that no list tells.
+-- Memory ran out before the paths were done. What was made is back, unused. Or a blob and a leaf for each open path and
+-- a starter for each driver are out, and files may be there that no list tells.
 abbrev pub BreaksOff : List PathPlan → List Driver → RepoSeen → RepoSeen → TreeSeen → TreeSeen → SpawnerSeen
     → SpawnerSeen → Type 0
 BreaksOff ps drivers repo repo' tree tree' spawner spawner' =

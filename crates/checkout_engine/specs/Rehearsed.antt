@@ -53,8 +53,8 @@ new_memory = begun (record { faults = 0; out = 0; returned = [] })
     (record { returned = []; out = 0 })
     (record { written = None; faults = 0 })
 
--- A repository was checked out into an empty worktree in memory, by its drivers and as many workers as its configuration
--- says. These are the verdicts of its paths, and this is the worktree.
+-- A repository was checked out into an empty worktree in memory, by its drivers and as many workers as its
+-- configuration says. These are the verdicts of its paths, and this is the worktree.
 pub record IsTried (told : RepoTold) (ahead : List ℕ → Starts) (verdicts : List Verdict) (tree : TreeSeen) : Type 0 where
   pub left : Seen
   pub checkout : IsCheckedOut told ahead None new_memory left
@@ -77,8 +77,8 @@ pub record IsSummed (seed paths : ℕ) (text : List ℕ) : Type 0 where
   pub has : tree.files ≡ Some fs
   pub is : text ≡ summary paths verdicts fs
 
--- How a rehearsal ends, by its status. The summary is written whole, or a first part of it if the sink failed. Nothing is
--- written if memory ran out.
+-- How a rehearsal ends, by its status. The summary is written whole, or a first part of it if the sink failed. Nothing
+-- is written if memory ran out.
 abbrev pub Rehearses : ℕ → ℕ → SinkSeen → SinkSeen → Status → Type 0
 Rehearses seed paths old new status.Done =
     (text : List ℕ) × IsSummed seed paths text × (new ≡ with_text text old)

@@ -42,8 +42,8 @@ heard_at d t n = heard_in t.asked (notes_in d t.exchanges) n
 abbrev pub Gave : DriverTalk → ℕ → List ℕ → Type 0
 Gave t n bytes = HasAnswer t.exchanges n (Some bytes)
 
--- What came of the driver's starts goes by the starts that are told, in order. Its sessions and its starts that gave none
--- are a whole talk, case by case.
+-- What came of the driver's starts goes by the starts that are told, in order. Its sessions and its starts that gave
+-- none are a whole talk, case by case.
 pub record IsTalkBy (told : Starts) (d : ℕ) (t : DriverTalk) : Type 0 where
   pub left : Starts
   pub starts : GoBy told t.had left

@@ -86,8 +86,8 @@ fn new_card<R: Repo, T: Worktree>(
     })
 }
 
-/// Adds the new cards of the paths that are the pool's, or are at the desk of that driver, in path order. If memory runs
-/// out, those that were added are still out.
+/// Adds the new cards of the paths that are the pool's, or are at the desk of that driver, in path order. If memory
+/// runs out, those that were added are still out.
 fn add_cards<R: Repo, T: Worktree>(
     alloc: Global,
     repo: &mut R,

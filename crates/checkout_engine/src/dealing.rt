@@ -69,8 +69,8 @@ fn new_seed<R: Repo, T: Worktree, P: Spawner>(
     })
 }
 
-/// Adds what the desk of each driver begins with, in order of the drivers. If memory runs out, those that were added are
-/// still out.
+/// Adds what the desk of each driver begins with, in order of the drivers. If memory runs out, those that were added
+/// are still out.
 fn add_seeds<R: Repo, T: Worktree, P: Spawner>(
     alloc: Global,
     repo: &mut R,
@@ -135,8 +135,8 @@ fn give_seeds<R: Repo, T: Worktree, P: Spawner>(
     }
 }
 
-/// Makes the cards of all open paths, and a starter for each driver, in order of the drivers. If memory runs out, all that
-/// was made is given back, unused.
+/// Makes the cards of all open paths, and a starter for each driver, in order of the drivers. If memory runs out, all
+/// that was made is given back, unused.
 pub fn deal<R: Repo, T: Worktree, P: Spawner>(
     alloc: Global,
     repo: &mut R,

@@ -97,7 +97,8 @@ fn valid_plan<R: Repo>(alloc: Global, repo: &mut R) -> Result<Planned, AllocErro
     }
 }
 
-/// Checks out a valid repository, of which nothing was called, into a new and empty worktree: the verdicts of the paths.
+/// Checks out a valid repository, of which nothing was called, into a new and empty worktree: the verdicts of the
+/// paths.
 fn tried<R: Repo, T: Worktree, P: Spawner, G: Gate, H: Threads + Wait + Sync>(
     rt: &H,
     alloc: Global,
@@ -125,7 +126,8 @@ fn tried<R: Repo, T: Worktree, P: Spawner, G: Gate, H: Threads + Wait + Sync>(
     Ok(done.verdicts)
 }
 
-/// Checks out what a rehearsal is made of into an empty worktree in memory: the verdicts of the paths, and that worktree.
+/// Checks out what a rehearsal is made of into an empty worktree in memory: the verdicts of the paths, and that
+/// worktree.
 fn checked_out<G: Gate, H: Threads + Wait + Sync>(
     rt: &H,
     alloc: Global,

@@ -1,7 +1,7 @@
 //! The cases of the tests: what a run meets, and what it leaves.
 //!
-//! A case is a row of cells. Its last cell is what it leaves: the output, the status, and a line for each file. The others
-//! say what it meets, each by a word, whose first letter tells, and what stands behind it:
+//! A case is a row of cells. Its last cell is what it leaves: the output, the status, and a line for each file. The
+//! others say what it meets, each by a word, whose first letter tells, and what stands behind it:
 //!
 //! - `words`: the words after the two folders, `checkout` if there are none;
 //! - `entry`: the letters of its mode and of its object, and its path;

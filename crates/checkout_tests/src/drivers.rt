@@ -97,8 +97,8 @@ fn delayed_paths_are_listed_or_missing(rt: HostRuntime) -> Result<(), Fail> {
     check(&rt, rt.alloc(), DELAYED)
 }
 
-/// A content whose second list of keys has an error, and files that can't be sealed, begun anew or written. Where a file
-/// takes no content, the rest of the reply is passed over.
+/// A content whose second list of keys has an error, and files that can't be sealed, begun anew or written. Where a
+/// file takes no content, the rest of the reply is passed over.
 const LATE: &[u8] = b"\
     an error after the content|\
         entry -4 p1|\
@@ -167,8 +167,9 @@ fn a_late_error_and_a_write_that_fails_leave_no_part(rt: HostRuntime) -> Result<
     check(&rt, rt.alloc(), LATE)
 }
 
-/// A driver that aborts, at the second of its paths, with a path that is delayed or without; one whose output ends inside
-/// a reply, which is started again; one that can't smudge; and one that doesn't start, or does so the third time.
+/// A driver that aborts, at the second of its paths, with a path that is delayed or without; one whose output ends
+/// inside a reply, which is started again; one that can't smudge; and one that doesn't start, or does so the third
+/// time.
 const ENDED: &[u8] = b"\
     an abort|\
         Required|\

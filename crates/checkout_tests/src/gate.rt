@@ -3,8 +3,8 @@ use edge_kit::{Gate, Point};
 use std::hint::spin_loop;
 use std::sync::atomic::{AtomicBool, AtomicU32, Ordering};
 
-/// A gate that counts the paths that are closed. If a point is given, the actor that has claimed path 0 and the one that is
-/// at this point of path 1 wait for each other.
+/// A gate that counts the paths that are closed. If a point is given, the actor that has claimed path 0 and the one
+/// that is at this point of path 1 wait for each other.
 #[derive(Drop)]
 pub struct Watch {
     point: Option<Point>,

@@ -9,8 +9,8 @@ pub const LINK: u32 = 0o120000;
 
 pub const GITLINK: u32 = 0o160000;
 
-/// The mode and the stage of an entry, by a letter: `-` plain, `x` executable, `l` link, `g` gitlink, a digit a plain one
-/// of that stage, `y` an executable one of stage 1, and `6` one with a mode that isn't right.
+/// The mode and the stage of an entry, by a letter: `-` plain, `x` executable, `l` link, `g` gitlink, a digit a plain
+/// one of that stage, `y` an executable one of stage 1, and `6` one with a mode that isn't right.
 pub fn mode_of(letter: u8) -> (u32, u16) {
     match letter {
         b'x' => (EXECUTABLE, 0),

@@ -1,5 +1,5 @@
-//! Plans. Each case is a row of cells, of which the last is what the plan shows: a line for each path, the drivers in use and
-//! the number of skipped lines, or the fault. The others, whose first letter tells, are:
+//! Plans. Each case is a row of cells, of which the last is what the plan shows: a line for each path, the drivers in
+//! use and the number of skipped lines, or the fault. The others, whose first letter tells, are:
 //!
 //! - `entry`: the letter of its mode, its path, and what its object holds;
 //! - `info`: what `info/attributes` holds;

@@ -1,5 +1,5 @@
-//! Rehearsals. Each uses neither folder: there is no index, and the worktree isn't empty. Each case is a row of a table, as
-//! `cases` reads it.
+//! Rehearsals. Each uses neither folder: there is no index, and the worktree isn't empty. Each case is a row of a
+//! table, as `cases` reads it.
 use crate::cases::check;
 use std::test::Fail;
 

@@ -236,8 +236,8 @@ fn a_full_worktree_and_a_read_that_fails_stop_it(rt: HostRuntime) -> Result<(), 
     check(&rt, rt.alloc(), READS)
 }
 
-/// Of two paths the second runs out of memory, with a sink that fails or not. Where its blob can't be made, no file is touched
-/// and nothing is reported.
+/// Of two paths the second runs out of memory, with a sink that fails or not. Where its blob can't be made, no file is
+/// touched and nothing is reported.
 const NO_MEMORY: &[u8] = b"\
     memory read b|entry -h a|entry -b b|written - - - a\nno-memory - - - b\ndone 1 0 0 0\nstatus 5\na: hi\n%\
     memory read b|sink 0|entry -h a|entry -b b|status 5\na: hi\n%\

@@ -1,7 +1,7 @@
 //! Tables in one literal each.
 //!
-//! The check goes through each literal of a program, so a table of many literals costs much. Here a table is one literal:
-//! `|` stands between the cells of a row, and `%` ends the row. What stands after the last `%` is a row too.
+//! The check goes through each literal of a program, so a table of many literals costs much. Here a table is one
+//! literal: `|` stands between the cells of a row, and `%` ends the row. What stands after the last `%` is a row too.
 use std::alloc::{AllocError, Global};
 
 /// The cells of a row.

@@ -1,7 +1,7 @@
 //! Checkouts with one filter driver in memory: what it writes, what it must be sent, and what must become of the paths.
 //!
-//! A talk is a row of cells. The first is its name, the last the report, the status and a line for each file. The others
-//! are those of a case, and these, whose first letter tells:
+//! A talk is a row of cells. The first is its name, the last the report, the status and a line for each file. The
+//! others are those of a case, and these, whose first letter tells:
 //!
 //! - `Required`: the driver is required;
 //! - `Piece`: a read gives at most so many bytes;

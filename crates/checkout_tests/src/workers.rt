@@ -44,8 +44,8 @@ fn same_files(left: &[TreeFile], right: &[TreeFile]) -> bool {
         })
 }
 
-/// The same files and the same report, whatever the number of workers, each of which is below the number in a row's last
-/// cell.
+/// The same files and the same report, whatever the number of workers, each of which is below the number in a row's
+/// last cell.
 fn check<H: Threads + Wait + Sync + Abort>(
     rt: &H,
     alloc: Global,

@@ -209,8 +209,8 @@ const HANDSHAKES: &[&[u8]] = &[
     b"h|git-filter-server\n;version=2\n|h",
 ];
 
-/// Two names: `2`. Empty: `0`. Abort: `a`. Broken by a strange path: `s`, refused: `r`, by an unknown status: `u`. Not at
-/// its end: `-`.
+/// Two names: `2`. Empty: `0`. Abort: `a`. Broken by a strange path: `s`, refused: `r`, by an unknown status: `u`. Not
+/// at its end: `-`.
 const LISTS: &[&[u8]] = &[
     b"l|pathname=p3\n;size=4\n;pathname=p1\n;~;status=success\n;~|2",
     b"l|~;status=success\n;~|0",

@@ -2,8 +2,8 @@
 //!
 //! A crate with tests is proved twice, with them and without. So the tests of these crates are here, over the built
 //! libraries: `packets` has those of `pkt_line`, `answers` of `filter_words`, `delays` of `delay_table`, and `events`
-//! of `checkout_core`. Those of `filter_proto` are `sessions` and `conversations`, with a leaf of their own, `page`, and a
-//! link, `pipe`; and `children`, with a real child process. It has nothing but tests, whose tables `table` reads.
+//! of `checkout_core`. Those of `filter_proto` are `sessions` and `conversations`, with a leaf of their own, `page`,
+//! and a link, `pipe`; and `children`, with a real child process. It has nothing but tests, whose tables `table` reads.
 #![tactic(auto)]
 
 #[cfg(test)]

@@ -83,8 +83,8 @@ fn any_cut_gives_the_same_packets(rt: HostRuntime) -> Result<(), Fail> {
     Ok(())
 }
 
-/// Four digits with which bytes begin that go on with many `x`, and what is at their front: `+` for the longest payload,
-/// `-` for an empty one, `~` for a flush packet, `#` for bad digits, or the length that is bad.
+/// Four digits with which bytes begin that go on with many `x`, and what is at their front: `+` for the longest
+/// payload, `-` for an empty one, `~` for a flush packet, `#` for bad digits, or the length that is bad.
 const EDGES: &[u8] = b"\
     fff0+....\
     FFF0+....\

@@ -10,7 +10,8 @@ use filter_proto::{Begun, Session};
 use std::alloc::{AllocError, Global};
 use std::test::Fail;
 
-// A row begins with letters: of what breaks a session or of a reply, as `speaking` gives them, and then as each table says.
+// A row begins with letters: of what breaks a session or of a reply, as `speaking` gives them, and then as each table
+// says.
 
 /// Whether a send or a read fails, `s` or `r`, and all that the driver writes.
 const HANDSHAKES: &[&[u8]] = &[
@@ -42,8 +43,8 @@ fn each_handshake_breaks_by_its_cause(rt: HostRuntime) -> Result<(), Fail> {
     Ok(())
 }
 
-/// Whether the session is live then, `+` or `-`, how far its pipe is shut at the end, as `end_letter` gives it, and what a
-/// driver without `delay` answers.
+/// Whether the session is live then, `+` or `-`, how far its pipe is shut at the end, as `end_letter` gives it, and
+/// what a driver without `delay` answers.
 const REPLIES: &[&[u8]] = &[
     b"u--0011status=maybe\n0000",
     b"d--0013status=delayed\n0000",

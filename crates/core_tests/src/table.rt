@@ -1,7 +1,7 @@
 //! Tables with one literal a row.
 //!
-//! The check goes through each literal of a program, and most of all through nested ones, so a row is one literal, in which
-//! `|` stands between the cells.
+//! The check goes through each literal of a program, and most of all through nested ones, so a row is one literal, in
+//! which `|` stands between the cells.
 use std::process::Abort;
 
 /// What stands before this byte, and what stands behind it.

@@ -42,8 +42,8 @@ MayDo s given e = MayNext s.starts s.workers s.drivers (events_in s given) e
 abbrev pub fate_now : Standing → List Given → ℕ → Fate
 fate_now s given p = fate_of p Untold (notes s.starts s.driver (events_in s given))
 
--- A closed card is one of the planned ones, without what was prepared. Its own outcome says what happened to it, by what
--- its driver told of it.
+-- A closed card is one of the planned ones, without what was prepared. Its own outcome says what happened to it, by
+-- what its driver told of it.
 pub record ShowsClose (s : Standing) (given : List Given) (o : Own) (card : CardSeen) : Type 0 where
   pub place : ℕ
   pub planned : CardSeen

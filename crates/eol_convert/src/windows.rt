@@ -61,7 +61,8 @@ fn copy_window(block: &mut [u8], at: usize, content: &[u8], from: usize)
     u8x32::from_slice(&content[from..]).copy_to_slice(&mut block[at..]);
 }
 
-/// Copies a window into a block, with so many CRs before its byte at `place`: one, or none. What follows it is copied too.
+/// Copies a window into a block, with so many CRs before its byte at `place`: one, or none. What follows it is copied
+/// too.
 #[inline(always)]
 fn copy_with_cr(block: &mut [u8], at: usize, content: &[u8], from: usize, place: usize, more: usize)
     requires { (place ≤ WINDOW) × (more ≤ 1) × (from + 2 * WINDOW ≤ length content.now)
@@ -126,8 +127,8 @@ fn take_whole(block: &mut [u8], at: usize, content: &[u8], from: usize, first: u
     }
 }
 
-/// Takes a window, with a CR before its LF if none is there. Of a window with many LFs only the front is taken: few lines
-/// are that short, and the place of the next window waits for no search as long as there are none.
+/// Takes a window, with a CR before its LF if none is there. Of a window with many LFs only the front is taken: few
+/// lines are that short, and the place of the next window waits for no search as long as there are none.
 #[inline(always)]
 fn take_window(block: &mut [u8], at: usize, content: &[u8], from: usize) -> Reach
     requires { (from + 2 * WINDOW ≤ length content.now) × (at + 2 * WINDOW + 1 ≤ length block.old) }

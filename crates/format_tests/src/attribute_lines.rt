@@ -45,10 +45,10 @@ fn listed(alloc: Global, file: &AttrFile) -> Result<Vec<u8>, AllocError> {
     Ok(list)
 }
 
-/// Files, whether they are in the top folder, their rows as `push_row` lists them, and how many of their lines are skipped:
-/// lines that are too long, negative patterns, bad names, and macros where none is allowed. These lines are read. The
-/// states are those that `git check-attr` of git 2.39.5 prints. The last file has a quoted pattern, which makes no macro
-/// here. In git it makes one.
+/// Files, whether they are in the top folder, their rows as `push_row` lists them, and how many of their lines are
+/// skipped: lines that are too long, negative patterns, bad names, and macros where none is allowed. These lines are
+/// read. The states are those that `git check-attr` of git 2.39.5 prints. The last file has a quoted pattern, which
+/// makes no macro here. In git it makes one.
 const READ: &[u8] = b"\
     *.c text -diff !merge eol=lf\n|top|*.c text:set diff:unset merge:unspecified eol:lf\n|0 0 0 0%\
     \x20\t\ra\ttext\r-diff \r\n|top|a text:set diff:unset\n|0 0 0 0%\
@@ -129,8 +129,8 @@ fn lines_are_read_or_skipped(rt: HostRuntime) -> Result<(), Fail> {
     check::<Line, _>(&rt, rt.alloc(), SKIPPED)
 }
 
-/// The length of a name, how its line ends, and whether the line is too long: whether it has 2,048 bytes without its end.
-/// A CR belongs to the end only before LF.
+/// The length of a name, how its line ends, and whether the line is too long: whether it has 2,048 bytes without its
+/// end. A CR belongs to the end only before LF.
 const LONG: &[u8] = b"\
     2045|\n|read%\
     2045|\r\n|read%\

@@ -36,8 +36,8 @@ fn is_spelled(state: &AttrState, want: &[u8]) -> bool {
     }
 }
 
-/// `info/attributes` and the files of the top folder, of `a` and of `a/b`, a path, a name, and the state's spelling: `+`,
-/// `-`, `!`, or the value. The last row and the last pair win.
+/// `info/attributes` and the files of the top folder, of `a` and of `a/b`, a path, a name, and the state's spelling:
+/// `+`, `-`, `!`, or the value. The last row and the last pair win.
 const LAST: &[u8] = b"\
     |* t\n* -t|||a/b/f.c|t|-%\
     |* t -t|||a/b/f.c|t|-%\

@@ -46,8 +46,8 @@ fn states_name_encodings(rt: HostRuntime) -> Result<(), Fail> {
     check::<Named, _>(&rt, rt.alloc(), NAMED)
 }
 
-/// Texts, encodings, and what python's codecs make of them. The first four texts have the first and the last character of
-/// each length in UTF-8, and those beside the surrogates: U+0000, 7F, 80, 7FF, 800, D7FF, E000, FFFF, 10000, 10FFFF.
+/// Texts, encodings, and what python's codecs make of them. The first four texts have the first and the last character
+/// of each length in UTF-8, and those beside the surrogates: U+0000, 7F, 80, 7FF, 800, D7FF, E000, FFFF, 10000, 10FFFF.
 const ENCODED: &[u8] = b"\
     \0\x7f\xc2\x80\xdf\xbf\xe0\xa0\x80\xed\x9f\xbf\xee\x80\x80\xef\xbf\xbf\xf0\x90\x80\x80\xf4\x8f\xbf\xbf|UTF-16LE|\0\0\x7f\0\x80\0\xff\x07\0\x08\xff\xd7\0\xe0\xff\xff\0\xd8\0\xdc\xff\xdb\xff\xdf%\
     \0\x7f\xc2\x80\xdf\xbf\xe0\xa0\x80\xed\x9f\xbf\xee\x80\x80\xef\xbf\xbf\xf0\x90\x80\x80\xf4\x8f\xbf\xbf|UTF-16BE|\0\0\0\x7f\0\x80\x07\xff\x08\0\xd7\xff\xe0\0\xff\xff\xd8\0\xdc\0\xdb\xff\xdf\xff%\

@@ -114,8 +114,8 @@ fn part_of(letter: u8) -> (&'static [u8], &'static [u8]) {
     }
 }
 
-/// The parts of an index. `$` and a letter stand for a part that is named here, and `$` and a digit for the header of so
-/// many entries. The other bytes stand for themselves.
+/// The parts of an index. `$` and a letter stand for a part that is named here, and `$` and a digit for the header of
+/// so many entries. The other bytes stand for themselves.
 fn index_of(alloc: Global, parts: &[u8]) -> Result<Vec<u8>, AllocError> {
     let mut text = Vec::new(alloc);
     let mut is_named = false;

@@ -92,8 +92,8 @@ const CONTENTS: &[u8] = b"\
     \x08\t\x0c\x1b ~\x80\xff\n|AutoCrlf|\x08\t\x0c\x1b ~\x80\xff\r\n%\
     a\x7f\n|AutoCrlf|a\x7f\n%";
 
-/// How such contents end that begin with 127 times `a`. One byte that isn't printing for 128 that are leaves a text. For 127
-/// it doesn't.
+/// How such contents end that begin with 127 times `a`. One byte that isn't printing for 128 that are leaves a text.
+/// For 127 it doesn't.
 const AFTER_127: &[u8] = b"\
     \x01\n|AutoCrlf|\x01\n%\
     \x01\nb|AutoCrlf|\x01\r\nb%\

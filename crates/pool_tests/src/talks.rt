@@ -102,8 +102,8 @@ const ENDS: &[(u32, End)] = &[
     (758, End::File(b"four")),
 ];
 
-/// Two drivers, of which the second is required. Their talks have 14 notes and 11. Their desks close six of their paths.
-/// Two are handed back, and then claimed and closed.
+/// Two drivers, of which the second is required. Their talks have 14 notes and 11. Their desks close six of their
+/// paths. Two are handed back, and then claimed and closed.
 pub const BOTH: &Beside = &Beside {
     drivers: &[FIRST, SECOND],
     talks: &[FIRST_TALK, SECOND_TALK],

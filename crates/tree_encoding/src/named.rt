@@ -44,8 +44,8 @@ fn encoding_named(value: &[u8]) -> Result<Option<Encoding>, UnknownEncoding>
 /// The encoding of a file in the worktree by the state of its attribute `working-tree-encoding` (gitattributes(5)), or
 /// `None` for UTF-8.
 ///
-/// A value names an encoding with case ignored, and may leave out the first hyphen of its name, as git has it: `utf16le`
-/// is `UTF-16LE`, and `UTF16LE-BOM` is `UTF-16LE-BOM`, but `UTF16LEBOM` is unknown. It takes no memory.
+/// A value names an encoding with case ignored, and may leave out the first hyphen of its name, as git has it:
+/// `utf16le` is `UTF-16LE`, and `UTF16LE-BOM` is `UTF-16LE-BOM`, but `UTF16LEBOM` is unknown. It takes no memory.
 pub fn encoding_of(state: &AttrState) -> Result<Option<Encoding>, UnknownEncoding>
     ensures { result ≡ encoding_of state.now }
 {

@@ -31,8 +31,8 @@ fn split_sixteen(text: &str) -> Option<(&[u8; 16], &str)>
     Some((sixteen, behind))
 }
 
-/// Appends the first bytes of a block. A block of a known size is copied faster than a few bytes, so it is cut afterwards,
-/// unless the room is too small for it.
+/// Appends the first bytes of a block. A block of a known size is copied faster than a few bytes, so it is cut
+/// afterwards, unless the room is too small for it.
 fn push_cut(out: &mut Vec<u8>, block: &Block, count: usize) -> Result<(), AllocError>
     requires { count ≤ 32 }
     ensures { OnOk result (out.new.items ≡ out.old.items ++ take count block.now) }

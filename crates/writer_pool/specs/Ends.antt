@@ -43,8 +43,8 @@ abbrev pub NoneWithDriver : Core → Type 0
 NoneWithDriver c = (p : ℕ) (r : Path) → slice_get c.paths p ≡ Some r → is_with_driver r.state ≡ false
 
 module _ {B L : Type 0} (see : Sight B L) where
-  -- The Close of a path at this place of an actor's own list has the blob and the leaf of the path's card, and shows how
-  -- the card ended. If the card never left its desk, the actor is this desk: the desks come after the workers.
+  -- The Close of a path at this place of an actor's own list has the blob and the leaf of the path's card, and shows
+  -- how the card ended. If the card never left its desk, the actor is this desk: the desks come after the workers.
   pub record ShowsEnd (d : Plan B L) (mine : List Event) (place p actor : ℕ) (o : Own) (parts : Option Parts)
       : Type 0 where
     pub ended : Parts

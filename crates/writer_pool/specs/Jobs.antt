@@ -98,8 +98,8 @@ module _ {S B L : Type 0} (starter : S → StarterSeen) (see : Sight B L) where
   AreActors (suc n) workers xs (j ∷ js) = (j.desk ≡ None) × AreActors n workers xs js
   AreActors (suc n) workers xs [] = ⊥
 
-  -- A pool as it begins: the plan of its book is that of the starts and of the cards, and there is a job for each worker
-  -- and for each desk.
+  -- A pool as it begins: the plan of its book is that of the starts and of the cards, and there is a job for each
+  -- worker and for each desk.
   pub record IsBegun (starts : List Start) (workers : ℕ) (pool : List (Card B L)) (seeds : List (DeskSeed S B L))
       (lock : TableId) (jobs : List (JobSeen B L)) : Type 0 where
     pub plan : Plan B L

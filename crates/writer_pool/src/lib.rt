@@ -1,5 +1,5 @@
-//! The actors of a checkout, at once: a desk serves the paths of its driver. Then, as each worker does, it claims cards from
-//! the book, writes each as a file and closes it, until no card waits.
+//! The actors of a checkout, at once: a desk serves the paths of its driver. Then, as each worker does, it claims cards
+//! from the book, writes each as a file and closes it, until no card waits.
 #![tactic(auto)]
 
 mod beginning;

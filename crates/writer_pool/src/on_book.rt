@@ -19,8 +19,8 @@ use edge_kit::{Blob, Gate, Leaf, Point};
 use std::marker::Model;
 use std::sync::Wait;
 
-/// What a desk tells and gives goes into the book, under its pass. The gate is called outside the lock, after a card was
-/// closed.
+/// What a desk tells and gives goes into the book, under its pass. The gate is called outside the lock, after a card
+/// was closed.
 pub(crate) struct OnBook<'a, B: Blob, L: Leaf, G: Gate, H: Wait> {
     rt: &'a H,
     gate: &'a G,
