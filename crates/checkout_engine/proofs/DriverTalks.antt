@@ -3,6 +3,7 @@ use Rattle.std.proofs.Common.{◌≡◌, ◌+◌, ◌<◌, ℕ, zero, suc, Bool,
 use Rattle.std.specs.Prelude.{slice_get}
 use Rattle.std.specs.Option.{option_map}
 use Rattle.std.proofs.lemmas.Option.{same_Some, slice_get-map}
+use Rattle.edge_kit.specs.Seen.{LeafSeen}
 use Rattle.edge_kit.specs.Told.{Told}
 use Rattle.edge_kit.specs.Starters.{Had, Starts, StarterSeen, SpawnerSeen, starter_back}
 use Rattle.settings_view.specs.declared.view.Driver.{Driver}
@@ -30,12 +31,12 @@ use Rattle.driver_line.specs.Conversations.{notes_in}
 use Rattle.driver_line.specs.Lines.{Paths}
 use Rattle.driver_line.specs.ToldStarts.{GoBy}
 use Rattle.driver_line.specs.Transcripts.{IsTalk}
-use Rattle.driver_desk.specs.Serving.{HasAnswer}
+use Rattle.driver_desk.specs.Serving.{Holds}
 use Rattle.driver_desk.specs.Ties.{FitsOwn}
 use Rattle.driver_desk.specs.Works.{WorkSeen, AreRead, ReadsAs, ReadsTo, FitAll, FitsContent, FitsWork, asked_in, cards_in}
 use Rattle.writer_pool.specs.declared.pooled.DeskSeed.{DeskSeed}
 use Rattle.writer_pool.specs.Pools.{HasTalked, IsSeed, AreSeeds, IsStarterBack, AreStartersBack}
-use Rattle.writer_pool.specs.Sealing.{SealsAt, leaf_at}
+use Rattle.writer_pool.specs.Sealing.{EndsAt, leaf_at}
 use Rattle.writer_pool.specs.Tying.{content_in, has_content}
 use Rattle.checkout_engine.specs.Cards.{IsCardFor}
 use Rattle.checkout_engine.specs.Dealing.{IsSeedFor, AreSeedsFor, AreEnded}
@@ -47,11 +48,11 @@ use Rattle.checkout_engine.proofs.DeskEnds.{wrote, not_fine, not_write_failed}
 use Rattle.checkout_engine.proofs.Places.{get_map, get_map_back}
 use Rattle.checkout_engine.proofs.Seeds.{at_desk}
 
--- The talk has the notes of the driver d. It has an answer for each leaf that the desk sealed, and is over each path of
+-- The talk has the notes of the driver d. It has what the leaf of each card holds that the desk closed, and is over each path of
 -- which something was written, or was to be.
 pub record IsTalkOf {B L : Type 0} (see : Sight B L) (paths : List PathPlan) (history : List Event) (leaf_of : ℕ → Option L) (d : ℕ) (t : DriverTalk) : Type 0 where
   pub noted : notes (starts_of paths) d history ≡ notes_in d t.exchanges
-  pub answers : (n : ℕ) (told : Option (List ℕ)) → SealsAt see (starts_of paths) history leaf_of d n told → HasAnswer t.exchanges n told
+  pub answers : (n : ℕ) (leaf : LeafSeen) → EndsAt see (starts_of paths) history leaf_of d n leaf → Holds t.exchanges n leaf
   pub asked : (n place actor : ℕ) (required : Bool) (own : Own) → slice_get (starts_of paths) n ≡ Some (start.Desk d required) → slice_get history place ≡ Some (Close n actor own) → wrote own ≡ true
       → contains n t.asked ≡ true
 
@@ -206,7 +207,7 @@ module _ {S B L : Type 0} (starter : S → StarterSeen) (see : Sight B L) (ahead
         let p = path_of k w at in
         ap text_or p.1 ∙ sym (ap (λ (y : CardSeen). y.text) (p.3).same))
 
-    pub said : HasTalked d over (asked_in works) (starter seed.starter) (starter s) (notes (starts_of paths) d history) (SealsAt see (starts_of paths) history (leaf_at (starts_of paths) leaves) d)
+    pub said : HasTalked d over (asked_in works) (starter seed.starter) (starter s) (notes (starts_of paths) d history) (EndsAt see (starts_of paths) history (leaf_at (starts_of paths) leaves) d)
     said = h.back.talked over fits
 
     abbrev pub talk : DriverTalk

@@ -1,5 +1,5 @@
 -- What a checkout that is done leaves, path by path.
-use Rattle.std.proofs.Common.{◌≡◌, ◌<◌, ℕ, suc, Bool, true, false, ◌||◌, if◌then◌else◌, List, [], ◌∷◌, length, map, Option, Some, None, refl, sym, ap, ◌∙◌, subst, arith}
+use Rattle.std.proofs.Common.{◌≡◌, ◌<◌, inl, ℕ, suc, Bool, true, false, ◌||◌, if◌then◌else◌, List, [], ◌∷◌, length, map, Option, Some, None, refl, sym, ap, ◌∙◌, subst, arith}
 use Rattle.std.specs.List.{AllByRecursion, filter_map, list_any}
 use Rattle.edge_kit.specs.Seen.{RepoSeen, TreeSeen}
 use Rattle.edge_kit.specs.Starters.{Starts}
@@ -38,13 +38,13 @@ part_left path content (Sealed mark) file part = absurd part
 part_left path content Broken file part = absurd part
 
 -- the same of a leaf that a desk gave up
-file_left : (path : List ℕ) (state : LeafState) (file : Option TreeFile) → LeavesFile path state file → MayLeaveFile path file
-file_left path Fresh file left = subst (λ (x : Option TreeFile). MayLeaveFile path x) (sym left) tt
-file_left path Gone file left = subst (λ (x : Option TreeFile). MayLeaveFile path x) (sym left) tt
-file_left path Stuck file left = left
-file_left path Partly file left = absurd left
-file_left path (Sealed mark) file left = absurd left
-file_left path Broken file left = absurd left
+file_left : (put : List ℕ → Type 0) (path : List ℕ) (state : LeafState) (file : Option TreeFile) → put [] → LeavesFile put path state file → MayLeaveFile put path file
+file_left put path Fresh file none left = subst (λ (x : Option TreeFile). MayLeaveFile put path x) (sym left) ([], none, tt)
+file_left put path Gone file none left = subst (λ (x : Option TreeFile). MayLeaveFile put path x) (sym left) ([], none, tt)
+file_left put path Stuck file none left = left
+file_left put path Partly file none left = absurd left
+file_left put path (Sealed mark) file none left = absurd left
+file_left put path Broken file none left = absurd left
 
 -- a path of the pool, if memory was left
 pool_ends : (told : Told) (p : PathPlan) (o : Outcome) (v : Verdict) → HasVerdict told p o v → is_no_memory v ≡ false → EndsInPool told p v o.file
@@ -83,7 +83,7 @@ desk_ends required d t n told p o (verdict.Unfiltered why unencoded) (free, hear
 )
 desk_ends required d t n told p o (verdict.Failed (fail.Filter why)) has left = (has.0, has.1, has.3)
 desk_ends required d t n told p o (verdict.Failed fail.Missing) has left = (has.0, has.2)
-desk_ends required d t n told p o (verdict.Failed fail.WriteFailed) (heard, state, count, failed, begun, counts, part) left = file_left p.path state o.file part
+desk_ends required d t n told p o (verdict.Failed fail.WriteFailed) (heard, state, count, failed, begun, counts, part) left = file_left _ p.path state o.file (inl refl) part
 desk_ends required d t n told p o (verdict.Failed fail.ReadFailed) has left = (has.0, has.2)
 desk_ends required d t n told p o (verdict.Failed (fail.Object kind)) has left = (has.0, has.2)
 desk_ends required d t n told p o verdict.NoMemory has left = absurd cc

@@ -220,20 +220,20 @@ no_file_at : (p : PathPlan) (file : Option TreeFile) → file ≡ None → IsAt 
 no_file_at p file none = subst (λ (x : Option TreeFile). IsAt p.path x) (sym none) tt
 
 -- the same of a leaf that a desk gave up
-left_at : (p : PathPlan) (state : LeafState) (file : Option TreeFile) → LeavesFile p.path state file → IsAt p.path file
-left_at p Fresh file left = no_file_at p file left
-left_at p Gone file left = no_file_at p file left
-left_at p Stuck None left = tt
-left_at p Stuck (Some f) left = left
-left_at p Partly file left = absurd left
-left_at p (Sealed mark) file left = absurd left
-left_at p Broken file left = absurd left
+left_at : (put : List ℕ → Type 0) (p : PathPlan) (state : LeafState) (file : Option TreeFile) → LeavesFile put p.path state file → IsAt p.path file
+left_at put p Fresh file left = no_file_at p file left
+left_at put p Gone file left = no_file_at p file left
+left_at put p Stuck None left = tt
+left_at put p Stuck (Some f) left = left.2.0
+left_at put p Partly file left = absurd left
+left_at put p (Sealed mark) file left = absurd left
+left_at put p Broken file left = absurd left
 
 desk_file : (required : Bool) (d : ℕ) (t : DriverTalk) (n : ℕ) (told : Told) (p : PathPlan) (o : Outcome) (v : Verdict) → HasDeskVerdict required d t n told p o v → IsAt p.path o.file
-desk_file required d t n told p o verdict.NoMemory (state, count, counts, left) = left_at p state o.file left
+desk_file required d t n told p o verdict.NoMemory (state, count, failed, counts, left) = left_at _ p state o.file left
 desk_file required d t n told p o (verdict.Failed fail.ReadFailed) has = no_file_at p o.file has.2
 desk_file required d t n told p o (verdict.Failed (fail.Object k)) has = no_file_at p o.file has.2
-desk_file required d t n told p o (verdict.Failed fail.WriteFailed) (heard, state, count, failed, begun, counts, left) = left_at p state o.file left
+desk_file required d t n told p o (verdict.Failed fail.WriteFailed) (heard, state, count, failed, begun, counts, left) = left_at _ p state o.file left
 desk_file required d t n told p o (verdict.Failed fail.Missing) has = no_file_at p o.file has.2
 desk_file required d t n told p o (verdict.Failed (fail.Filter cause)) has = no_file_at p o.file has.3
 desk_file required d t n told p o (verdict.Unfiltered cause unencoded) (free, heard, counts, ready, prepared, flag, file) = subst (λ (x : Option TreeFile). IsAt p.path x) (sym file) refl

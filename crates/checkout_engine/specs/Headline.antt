@@ -21,7 +21,7 @@ use Rattle.checkout_plan.specs.declared.path_plan.Plan.{Plan}
 use Rattle.checkout_plan.specs.Making.{FitsKind}
 use Rattle.checkout_plan.specs.Paths.{HasCause}
 use Rattle.checkout_engine.specs.Ends.{Seen}
-use Rattle.checkout_engine.specs.Outcome.{MayLeavePart, MayLeaveFile, file_with}
+use Rattle.checkout_engine.specs.Outcome.{MayLeavePart, MayLeaveFile, MayBePut, file_with}
 use Rattle.checkout_engine.specs.Output.{with_text}
 use Rattle.checkout_engine.specs.Prepared.{IsPreparedTo}
 use Rattle.checkout_engine.specs.Report.{report}
@@ -62,7 +62,7 @@ module _ (required : Bool) (d : ℕ) (t : DriverTalk) (n : ℕ) where
   EndsAtDesk told p (verdict.Failed (fail.Filter why)) file =
       (required ≡ true) × (heard_at d t n ≡ Some (heard.Refused why)) × (file ≡ None)
   EndsAtDesk told p (verdict.Failed fail.Missing) file = (heard_at d t n ≡ Some heard.Lost) × (file ≡ None)
-  EndsAtDesk told p (verdict.Failed fail.WriteFailed) file = MayLeaveFile p.path file
+  EndsAtDesk told p (verdict.Failed fail.WriteFailed) file = MayLeaveFile (MayBePut required d t n told p) p.path file
   EndsAtDesk told p (verdict.Failed fail.ReadFailed) file = MayFail told × (file ≡ None)
   EndsAtDesk told p (verdict.Failed (fail.Object kind)) file = FitsKind told p.object kind × (file ≡ None)
   EndsAtDesk told p v file = ⊥

@@ -8,7 +8,7 @@ use Rattle.edge_kit.specs.Seen.{LeafSeen, Discards, emptied}
 use Rattle.edge_kit.specs.declared.faults.Failed.{Failed}
 use Rattle.edge_kit.specs.declared.faults.SendFault.{SendFault}
 use Rattle.edge_kit.specs.declared.leaf_state.LeafState.{LeafState}
-use Rattle.edge_kit.specs.declared.leaf_state.LeafState.TheVariants.{Fresh, Sealed, Gone}
+use Rattle.edge_kit.specs.declared.leaf_state.LeafState.TheVariants.{Fresh, Sealed, Gone, Stuck}
 use Rattle.edge_kit.specs.Told.{Tells}
 use Rattle.edge_kit.specs.declared.leaf_state.Mark.{Mark}
 use Rattle.checkout_core.specs.declared.path.Heard.{Heard}
@@ -22,7 +22,7 @@ use Rattle.filter_proto.specs.Replies.{IsKept, TouchesNot}
 use Rattle.filter_words.specs.declared.reply.Reply.{Reply}
 use Rattle.filter_words.specs.declared.reply.Reply.TheVariants as reply
 use Rattle.driver_desk.specs.Serving.{Given}
-use Rattle.driver_desk.specs.Shown.{IsGivenUp, ShowsUnused, ShowsLeaf, fine_state, MayClose}
+use Rattle.driver_desk.specs.Shown.{IsGivenUp, IsDropped, ShowsUnused, ShowsLeaf, fine_state, MayClose}
 use Rattle.driver_desk.specs.Recorders.{Standing, ShowsClose}
 use Rattle.driver_desk.specs.Endings.{MayEnd, MayDrop}
 use Rattle.driver_desk.specs.Cards.{IsPlanned, IsReadCard, IsAskedCard, IsUnreadCard, ready_of}
@@ -190,6 +190,20 @@ pub discards_gone : {T : Type 0} (old new : LeafSeen) (r : Result T Failed) → 
 discards_gone old new (Ok x) h = inl (ap (λ (l : LeafSeen). l.state) h)
 discards_gone old new (Err e) h = inr (ap (λ (l : LeafSeen). l.state) h.kept)
 
+-- a leaf that couldn't be discarded keeps what is told of it
+pub discards_stuck : {T : Type 0} (old new : LeafSeen) (r : Result T Failed) → Discards old new r → new.state ≡ Stuck → new.content ≡ old.content
+discards_stuck old new (Ok x) h e = absurd (let gone = ap (λ (l : LeafSeen). l.state) h in cc (gone, e))
+discards_stuck old new (Err f) h e = ap (λ (l : LeafSeen). l.content) h.kept
+
+-- no call on it failed before
+pub discards_dropped : {T : Type 0} (before old new : LeafSeen) (r : Result T Failed) → old.faults ≡ before.faults → Discards old new r → IsDropped before new
+discards_dropped before old new (Ok x) same h = inl (ap (λ (l : LeafSeen). l.state) h, ap (λ (l : LeafSeen). l.faults) h ∙ same)
+discards_dropped before old new (Err e) same h = inr (ap (λ (l : LeafSeen). l.state) h.kept, subst (λ (n : ℕ). Rose n new.faults) same h.rose)
+
+pub dropped_up : (old new : LeafSeen) → IsDropped old new → IsGivenUp new.state
+dropped_up old new (inl h) = inl h.0
+dropped_up old new (inr h) = inr h.0
+
 rose_both : (a b d : ℕ) → Rose a b → Rose b d → Rose a d
 rose_both a b d h k = let x = h.kept in let y = k.kept in record { kept = omega (arith, x, y); risen = λ n. let z = k.risen n in omega (arith, x, z) }
 
@@ -293,23 +307,18 @@ closes_unread s given c o l h path unused =
 -- what was never written isn't sealed
 pub unused_sealed : {A : Type 0} (o : Own) (old new : LeafSeen) (m : Mark) → old.state ≡ Fresh → ShowsUnused o old new
     → new.state ≡ Sealed m → A
-unused_sealed own.NoMemory old new m fresh shows i = gone_sealed new.state m shows i
+unused_sealed own.NoMemory old new m fresh shows i = gone_sealed new.state m (dropped_up old new shows) i
 unused_sealed (own.Fine u) old new m fresh shows i = cc (fresh, shows, i)
 unused_sealed (own.Object k) old new m fresh shows i = cc (fresh, shows, i)
 unused_sealed own.ReadFailed old new m fresh shows i = cc (fresh, shows, i)
 unused_sealed own.WriteFailed old new m fresh shows i = cc (fresh, shows, i)
 
--- a fresh leaf has what was put
-pub got_told : (s : Standing) (c : CardSeen) (u : Bool) (new : LeafSeen) (content : List ℕ) → IsReadCard s c u → new.content ≡ grown c.leaf.content content → Tells new.content content
-got_told s c u new content h e = subst (λ (o : Option (List ℕ)). Tells o content) (sym e) (go c.leaf.content (subst (λ (l : LeafSeen). Tells l.content []) (sym (ap (λ (x : CardSeen). x.leaf) h.same)) ((h.is_planned.2).new_leaf).content))
-  where
-    go : (o : Option (List ℕ)) → Tells o [] → Tells (grown o content) content
-    go None t = tt
-    go (Some w) t = ap (λ (x : List ℕ). x ++ content) t
+-- nothing was put into the leaf of a card that is new, or was only read
+pub planned_bare : (s : Standing) (c : CardSeen) → IsPlanned s c → Tells c.leaf.content []
+planned_bare s c h = ((h.2).new_leaf).content
 
-pub planned_told : (s : Standing) (c : CardSeen) (new : LeafSeen) (content : List ℕ) → IsPlanned s c → new.content ≡ grown c.leaf.content content → Tells new.content content
-planned_told s c new content h e = subst (λ (o : Option (List ℕ)). Tells o content) (sym e) (go c.leaf.content ((h.2).new_leaf).content)
-  where
-    go : (o : Option (List ℕ)) → Tells o [] → Tells (grown o content) content
-    go None t = tt
-    go (Some w) t = ap (λ (x : List ℕ). x ++ content) t
+pub read_bare : (s : Standing) (c : CardSeen) (u : Bool) → IsReadCard s c u → Tells c.leaf.content []
+read_bare s c u h = subst (λ (l : LeafSeen). Tells l.content []) (sym (ap (λ (x : CardSeen). x.leaf) h.same)) (planned_bare s h.planned h.is_planned)
+
+pub unread_bare : (s : Standing) (c : CardSeen) (o : Own) → IsUnreadCard s c o → Tells c.leaf.content []
+unread_bare s c o h = subst (λ (l : LeafSeen). Tells l.content []) (sym (ap (λ (x : CardSeen). x.leaf) h.same)) (planned_bare s h.planned h.is_planned)

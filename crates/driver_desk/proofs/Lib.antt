@@ -3,6 +3,7 @@ pub mod RoundSteps
 pub mod LateCards
 pub mod CardLists
 pub mod Closings
+pub mod LeafEnds
 pub mod Places
 pub mod Calls
 pub mod RoundCalls

@@ -25,8 +25,8 @@ use Rattle.checkout_core.specs.Transcripts as result
 use Rattle.driver_line.specs.Transcripts.{HasItems}
 use Rattle.driver_line.specs.Starters.{IsSameStarter}
 use Rattle.driver_line.specs.ToldStarts.{GoBy}
-use Rattle.driver_desk.specs.Serving.{IsServed, Given, Noted, noted_in, AllSealed, HasAnswer}
-use Rattle.driver_desk.specs.Progress.{AreClosings, NoAnswer, Talks, Serves, talk_now, newest}
+use Rattle.driver_desk.specs.Serving.{IsServed, Given, Noted, noted_in, AllClosed, Holds}
+use Rattle.driver_desk.specs.Progress.{AreClosings, IsBare, EndsAsked, Talks, Serves, talk_now, newest}
 use Rattle.driver_desk.specs.Rounds.{round_of, minus, AreAmong, AreApart, AreWaiting, InRounds, TalkOver, RoundsBy, LateSeen, paths_of, AreReady, FitTexts, IsTaken, IsNext, GrowsLate, RedoneCards, TurnsBy}
 use Rattle.driver_desk.specs.Recorders.{Standing as Seat}
 use Rattle.driver_desk.specs.Cards.{IsReadCard}
@@ -35,7 +35,7 @@ use Rattle.driver_desk.specs.Late.{LateView, KeepsNames, FitsNames, cards_of, na
 use Rattle.driver_desk.specs.Works.{card_paths}
 use Rattle.driver_line.specs.Lines.{weight, number_at, names_in}
 use Rattle.convert_plan.specs.Card.{CardSeen}
-use Rattle.driver_desk.proofs.Serves.{answers_more, all_more, all_mono, all_none, has_last, second_answer, runs_more, notes_more, noted_more, talk_more, one_step, leads_more, leads_run, leads_from}
+use Rattle.driver_desk.proofs.Serves.{answers_more, all_more, all_mono, all_bare, asked_holds, second_answer, runs_more, notes_more, noted_more, talk_more, one_step, leads_more, leads_run, leads_from}
 
 pub bool_or : (b : Bool) → (b ≡ true) ⊎ (b ≡ false)
 bool_or true = inl refl
@@ -182,7 +182,7 @@ names_talk d delay late names n e lt k =
 -- one more exchange
 
 pub talks_more : (d : ℕ) (paths : Paths) (line0 : LineView) (given0 : List Given) (asked : List ℕ) (line line1 : LineView) (given given1 new : List Given) (t u : Talk) (e : Exchange)
-    → Talks d paths line0 given0 asked line given t → Says paths line e line1 → given1 ≡ given ++ new → noted_in new ≡ notes_of d e → FitsTalk t e → talk_run d t (notes_of d e) ≡ Some u → AllSealed NoAnswer new → Talks d paths line0 given0 asked line1 given1 u
+    → Talks d paths line0 given0 asked line given t → Says paths line e line1 → given1 ≡ given ++ new → noted_in new ≡ notes_of d e → FitsTalk t e → talk_run d t (notes_of d e) ≡ Some u → AllClosed IsBare new → Talks d paths line0 given0 asked line1 given1 u
 talks_more d paths line0 given0 asked line line1 given given1 new t u e s says g n fits moves sealed = record {
   answers = answers_more s.exchanges e s.more new s.answers sealed;
   exchanges = s.exchanges ++ e ∷ [];
@@ -194,9 +194,9 @@ talks_more d paths line0 given0 asked line line1 given given1 new t u e s says g
 }
 
 pub talks_closed : (d : ℕ) (paths : Paths) (line0 : LineView) (given0 : List Given) (asked : List ℕ) (line : LineView) (given given1 new : List Given) (t : Talk)
-    → (s : Talks d paths line0 given0 asked line given t) → given1 ≡ given ++ new → noted_in new ≡ [] → AllSealed (HasAnswer s.exchanges) new → Talks d paths line0 given0 asked line given1 t
+    → (s : Talks d paths line0 given0 asked line given t) → given1 ≡ given ++ new → noted_in new ≡ [] → AllClosed (Holds s.exchanges) new → Talks d paths line0 given0 asked line given1 t
 talks_closed d paths line0 given0 asked line given given1 new t s g n sealed = record {
-  answers = all_more (HasAnswer s.exchanges) s.more new s.answers sealed;
+  answers = all_more (Holds s.exchanges) s.more new s.answers sealed;
   exchanges = s.exchanges;
   more = s.more ++ new;
   runs = s.runs;
@@ -208,14 +208,14 @@ talks_closed d paths line0 given0 asked line given given1 new t s g n sealed = r
 -- a list
 
 listed_over : (d : ℕ) (paths : Paths) (line0 : LineView) (given0 : List Given) (asked : List ℕ) (line line1 : LineView) (given given1 new : List Given) (cards names : List ℕ) (r : ListReply) (u : Talk) (o1 : Option SessionSeen)
-    → InRounds d paths line0 given0 asked line given cards [] → ((late : List ℕ) → ((q : ℕ) → contains q late ≡ contains q cards) → Says paths line (Listing late names r) line1) → o1 ≡ None → given1 ≡ given ++ new → noted_in new ≡ list_notes d names r → AllSealed NoAnswer new
+    → InRounds d paths line0 given0 asked line given cards [] → ((late : List ℕ) → ((q : ℕ) → contains q late ≡ contains q cards) → Says paths line (Listing late names r) line1) → o1 ≡ None → given1 ≡ given ++ new → noted_in new ≡ list_notes d names r → AllClosed IsBare new
     → ((delay : Bool) (late : List ℕ) → talk_run d (round_of delay false late []) (list_notes d names r) ≡ Some u) → IsOver u → RoundsBy d paths line0 given0 asked o1 line1 given1 cards names
 listed_over d paths line0 given0 asked line line1 given given1 new cards names r u o1 h says none g n sealed moves over =
     subst (λ (o : Option SessionSeen). RoundsBy d paths line0 given0 asked o line1 given1 cards names) (sym none)
     (u, talks_more d paths line0 given0 asked line line1 given given1 new (round_of h.0 false h.1 []) u (Listing h.1 names r) h.2 (says h.1 (late_cards cards h.1 h.3)) g n refl (moves h.0 h.1) sealed, over)
 
 listed_in : (d : ℕ) (paths : Paths) (line0 : LineView) (given0 : List Given) (asked : List ℕ) (line line1 : LineView) (given given1 new : List Given) (cards names : List ℕ) (r : ListReply) (s : SessionSeen) (o1 : Option SessionSeen)
-    → s.caps.smudge ≡ true → InRounds d paths line0 given0 asked line given cards [] → NamesAre cards names r → ((late : List ℕ) → ((q : ℕ) → contains q late ≡ contains q cards) → Says paths line (Listing late names r) line1) → GoesOn s (list_standing r) o1 → given1 ≡ given ++ new → noted_in new ≡ list_notes d names r → AllSealed NoAnswer new
+    → s.caps.smudge ≡ true → InRounds d paths line0 given0 asked line given cards [] → NamesAre cards names r → ((late : List ℕ) → ((q : ℕ) → contains q late ≡ contains q cards) → Says paths line (Listing late names r) line1) → GoesOn s (list_standing r) o1 → given1 ≡ given ++ new → noted_in new ≡ list_notes d names r → AllClosed IsBare new
     → RoundsBy d paths line0 given0 asked o1 line1 given1 cards names
 listed_in d paths line0 given0 asked line line1 given given1 new cards names (list.Names n) s o1 smudge h are says goes g ns sealed =
     let same = late_cards cards h.1 h.3 in
@@ -236,7 +236,7 @@ listed_in d paths line0 given0 asked line line1 given given1 new cards names (li
 listed_in d paths line0 given0 asked line line1 given given1 new cards names list.NoMemory s o1 smudge h are says goes g ns sealed = listed_over d paths line0 given0 asked line line1 given given1 new cards names list.NoMemory (Between []) o1 h says goes g ns sealed (λ delay late. one_step d (round_of delay false late []) (Between []) (event.Listed d list.NoMemory) (self d) refl) tt
 
 pub listed : (d : ℕ) (paths : Paths) (line0 : LineView) (given0 : List Given) (asked : List ℕ) (line line1 : LineView) (given given1 new : List Given) (cards names : List ℕ) (r : ListReply) (o o1 : Option SessionSeen)
-    → IsLive o → RoundsBy d paths line0 given0 asked o line given cards [] → NamesAre cards names r → ((late : List ℕ) → ((q : ℕ) → contains q late ≡ contains q cards) → Says paths line (Listing late names r) line1) → ((s : SessionSeen) → o ≡ Some s → GoesOn s (list_standing r) o1) → given1 ≡ given ++ new → noted_in new ≡ list_notes d names r → AllSealed NoAnswer new
+    → IsLive o → RoundsBy d paths line0 given0 asked o line given cards [] → NamesAre cards names r → ((late : List ℕ) → ((q : ℕ) → contains q late ≡ contains q cards) → Says paths line (Listing late names r) line1) → ((s : SessionSeen) → o ≡ Some s → GoesOn s (list_standing r) o1) → given1 ≡ given ++ new → noted_in new ≡ list_notes d names r → AllClosed IsBare new
     → RoundsBy d paths line0 given0 asked o1 line1 given1 cards names
 listed d paths line0 given0 asked line line1 given given1 new cards names r None o1 live h are says goes g ns sealed = absurd live
 listed d paths line0 given0 asked line line1 given given1 new cards names r (Some s) o1 live h are says goes g ns sealed =
@@ -289,17 +289,17 @@ redone_in d paths line0 given0 asked line1 given2 cards cards1 p turns late dela
 
 redone_talks : (d : ℕ) (paths : Paths) (line0 : LineView) (given0 : List Given) (asked : List ℕ) (line line1 : LineView) (given given1 given2 : List Given) (p : ℕ) (r : Reply) (content : List ℕ) (t u : Talk)
     → Talks d paths line0 given0 asked line given t → Says paths line (Second p r content) line1 → given1 ≡ given ++ Noted (event.Redone p r) ∷ [] → FitsTalk t (Second p r content)
-    → talk_run d t (event.Redone p r ∷ []) ≡ Some u → AreClosings (λ q told. (r ≡ reply.Content) × (q ≡ p) × Tells told content) given1 given2 → Talks d paths line0 given0 asked line1 given2 u
+    → talk_run d t (event.Redone p r ∷ []) ≡ Some u → AreClosings (EndsAsked r p content) given1 given2 → Talks d paths line0 given0 asked line1 given2 u
 unfolding talks_more
 redone_talks d paths line0 given0 asked line line1 given given1 given2 p r content t u h says g fits moves more =
     talks_closed d paths line0 given0 asked line1 given1 given2 more.0 u
     (talks_more d paths line0 given0 asked line line1 given given1 (Noted (event.Redone p r) ∷ []) t u (Second p r content) h says g refl fits moves (tt, tt)) more.1 more.2
-    (all_mono (λ q told. (r ≡ reply.Content) × (q ≡ p) × Tells told content) (HasAnswer (h.exchanges ++ Second p r content ∷ []))
-    (λ q told k. has_last h.exchanges (Second p r content) q told (second_answer p r content q told k.0 k.1 k.2)) more.0 more.3)
+    (all_mono (EndsAsked r p content) (Holds (h.exchanges ++ Second p r content ∷ []))
+    (asked_holds h.exchanges (Second p r content) r p content (second_answer p r content) (λ z same. (sym same, refl))) more.0 more.3)
 
 pub redone : (d : ℕ) (paths : Paths) (line0 : LineView) (given0 : List Given) (asked : List ℕ) (line line1 : LineView) (given given1 given2 : List Given) (cards cards1 : List ℕ) (p : ℕ) (turns : List ℕ) (o o1 : Option SessionSeen) (r : Reply) (content : List ℕ)
     → IsLive o → RoundsBy d paths line0 given0 asked o line given cards (p ∷ turns) → MayReply false r → Says paths line (Second p r content) line1 → ((s : SessionSeen) → o ≡ Some s → GoesOn s (standing_after r) o1)
-    → given1 ≡ given ++ Noted (event.Redone p r) ∷ [] → AreClosings (λ q told. (r ≡ reply.Content) × (q ≡ p) × Tells told content) given1 given2 → RedoneCards cards p cards1
+    → given1 ≡ given ++ Noted (event.Redone p r) ∷ [] → AreClosings (EndsAsked r p content) given1 given2 → RedoneCards cards p cards1
     → RoundsBy d paths line0 given0 asked o1 line1 given2 cards1 turns
 redone d paths line0 given0 asked line line1 given given1 given2 cards cards1 p turns None o1 r content live h may says goes g more left = absurd live
 redone d paths line0 given0 asked line line1 given given1 given2 cards cards1 p turns (Some s) o1 r content live h may says goes g more left =
@@ -422,13 +422,13 @@ named_more a b c names i lt h e = (
   noted_more h.0 (Noted (event.Named (get_or names i 0)) ∷ []) ∙ (ap (λ (x : List Event). x ++ event.Named (get_or names i 0) ∷ []) h.2 ∙ sym (ap (map event.Named) (take_more names i lt) ∙ map-append event.Named (take i names) (get_or names i 0 ∷ []))),
 )
 
-pub list_noted : (d : ℕ) (a b c : List Given) (names : List ℕ) (r : ListReply) (n : ℕ) → r ≡ list.Names n → (more : List Given) × (b ≡ a ++ more) × (noted_in more ≡ map event.Named names) × AllSealed NoAnswer more → c ≡ b ++ Noted (event.Listed d r) ∷ []
-    → (more : List Given) × (c ≡ a ++ more) × (noted_in more ≡ list_notes d names r) × AllSealed NoAnswer more
+pub list_noted : (d : ℕ) (a b c : List Given) (names : List ℕ) (r : ListReply) (n : ℕ) → r ≡ list.Names n → (more : List Given) × (b ≡ a ++ more) × (noted_in more ≡ map event.Named names) × AllClosed IsBare more → c ≡ b ++ Noted (event.Listed d r) ∷ []
+    → (more : List Given) × (c ≡ a ++ more) × (noted_in more ≡ list_notes d names r) × AllClosed IsBare more
 list_noted d a b c names r n is h e = rw is (
   h.0 ++ Noted (event.Listed d (list.Names n)) ∷ [],
   rw is at e ∙ (ap (λ (x : List Given). x ++ Noted (event.Listed d (list.Names n)) ∷ []) h.1 ∙ append_assoc a h.0 _),
   noted_more h.0 (Noted (event.Listed d (list.Names n)) ∷ []) ∙ ap (λ (x : List Event). x ++ event.Listed d (list.Names n) ∷ []) h.2,
-  all_more NoAnswer h.0 (Noted (event.Listed d (list.Names n)) ∷ []) h.3 (tt, tt),
+  all_more IsBare h.0 (Noted (event.Listed d (list.Names n)) ∷ []) h.3 (tt, tt),
 )
 
 -- one name after another
@@ -457,8 +457,8 @@ some_open None o1 cards names r h goes are there = absurd h
 some_open (Some s) o1 cards names r h goes are there = some_listed cards names r s o1 (goes s refl) are there
 
 pub rounds_over : (d : ℕ) (paths : Paths) (line0 : LineView) (given0 : List Given) (asked : List ℕ) (o : Option SessionSeen) (line : LineView) (given given1 : List Given) (cards turns : List ℕ) → o ≡ None
-    → AreClosings NoAnswer given given1 → RoundsBy d paths line0 given0 asked o line given cards turns → TalkOver d paths line0 given0 asked line given1
-rounds_over d paths line0 given0 asked None line given given1 cards turns none more h = (h.0, talks_closed d paths line0 given0 asked line given given1 more.0 h.0 h.1 more.1 more.2 (all_none (HasAnswer (h.1).exchanges) more.0 more.3), h.2)
+    → AreClosings IsBare given given1 → RoundsBy d paths line0 given0 asked o line given cards turns → TalkOver d paths line0 given0 asked line given1
+rounds_over d paths line0 given0 asked None line given given1 cards turns none more h = (h.0, talks_closed d paths line0 given0 asked line given given1 more.0 h.0 h.1 more.1 more.2 (all_bare (h.1).exchanges more.0 more.3), h.2)
 rounds_over d paths line0 given0 asked (Some s) line given given1 cards turns none more h = absurd (cc)
 
 -- late cards as cards are served
@@ -636,20 +636,20 @@ serves_start d paths line0 line given0 late e none l = record {
 pub serves_as : (d : ℕ) (paths : Paths) (line0 : LineView) (given0 : List Given) (asked : List ℕ) (line : LineView) (given : List Given) (b c : Bool) (late : List ℕ) → b ≡ c → Serves d paths line0 given0 asked [] line given b late → Serves d paths line0 given0 asked [] line given c late
 serves_as d paths line0 given0 asked line given b c late e s = subst (λ (x : Bool). Serves d paths line0 given0 asked [] line given x late) e s
 
-pub named_place : (a b c : List Given) (numbers turns : List ℕ) (i n : ℕ) → i < length turns → n ≡ number_at numbers (get_or turns i 0) → (more : List Given) × (b ≡ a ++ more) × (noted_in more ≡ map event.Named (map (number_at numbers) (take i turns))) × AllSealed NoAnswer more
-    → c ≡ b ++ Noted (event.Named n) ∷ [] → (more : List Given) × (c ≡ a ++ more) × (noted_in more ≡ map event.Named (map (number_at numbers) (take (i + 1) turns))) × AllSealed NoAnswer more
+pub named_place : (a b c : List Given) (numbers turns : List ℕ) (i n : ℕ) → i < length turns → n ≡ number_at numbers (get_or turns i 0) → (more : List Given) × (b ≡ a ++ more) × (noted_in more ≡ map event.Named (map (number_at numbers) (take i turns))) × AllClosed IsBare more
+    → c ≡ b ++ Noted (event.Named n) ∷ [] → (more : List Given) × (c ≡ a ++ more) × (noted_in more ≡ map event.Named (map (number_at numbers) (take (i + 1) turns))) × AllClosed IsBare more
 named_place a b c numbers turns i n lt is h e = (
   h.0 ++ Noted (event.Named n) ∷ [],
   e ∙ (ap (λ (x : List Given). x ++ Noted (event.Named n) ∷ []) h.1 ∙ append_assoc a h.0 _),
   noted_more h.0 (Noted (event.Named n) ∷ []) ∙ (ap (λ (x : List Event). x ++ event.Named n ∷ []) h.2 ∙ sym (ap (λ (x : List ℕ). map event.Named (map (number_at numbers) x)) (take_more turns i lt)
       ∙ (ap (map event.Named) (map-append (number_at numbers) (take i turns) (get_or turns i 0 ∷ []) ∙ ap (λ (x : ℕ). map (number_at numbers) (take i turns) ++ x ∷ []) (sym is)) ∙ map-append event.Named (map (number_at numbers) (take i turns)) (n ∷ [])))),
-  all_more NoAnswer h.0 (Noted (event.Named n) ∷ []) h.3 (tt, tt),
+  all_more IsBare h.0 (Noted (event.Named n) ∷ []) h.3 (tt, tt),
 )
 
-pub list_noted_in : (d : ℕ) (a b c : List Given) (numbers turns : List ℕ) (r : ListReply) (n : ℕ) → r ≡ list.Names n → (more : List Given) × (b ≡ a ++ more) × (noted_in more ≡ map event.Named (map (number_at numbers) turns)) × AllSealed NoAnswer more → c ≡ b ++ Noted (event.Listed d r) ∷ []
-    → (more : List Given) × (c ≡ a ++ more) × (noted_in more ≡ list_notes d (names_in numbers turns r) r) × AllSealed NoAnswer more
+pub list_noted_in : (d : ℕ) (a b c : List Given) (numbers turns : List ℕ) (r : ListReply) (n : ℕ) → r ≡ list.Names n → (more : List Given) × (b ≡ a ++ more) × (noted_in more ≡ map event.Named (map (number_at numbers) turns)) × AllClosed IsBare more → c ≡ b ++ Noted (event.Listed d r) ∷ []
+    → (more : List Given) × (c ≡ a ++ more) × (noted_in more ≡ list_notes d (names_in numbers turns r) r) × AllClosed IsBare more
 list_noted_in d a b c numbers turns r n is h e =
-    subst (λ (y : ListReply). (c ≡ b ++ Noted (event.Listed d y) ∷ []) → (more : List Given) × (c ≡ a ++ more) × (noted_in more ≡ list_notes d (names_in numbers turns y) y) × AllSealed NoAnswer more) (sym is)
+    subst (λ (y : ListReply). (c ≡ b ++ Noted (event.Listed d y) ∷ []) → (more : List Given) × (c ≡ a ++ more) × (noted_in more ≡ list_notes d (names_in numbers turns y) y) × AllClosed IsBare more) (sym is)
     (λ k. list_noted d a b c (map (number_at numbers) turns) (list.Names n) n refl h k) e
 
 -- after a list, by the places that were listed

@@ -1,6 +1,6 @@
 -- One more exchange of a desk.
 use Rattle.std.proofs.Common.{◌≡◌, ◌==◌, inl, inr, ℕ, Bool, true, false, cond, List, [], ◌∷◌, ◌++◌, Option, Some, None, Result, Ok, Err, refl, sym, ap, subst, ◌∙◌, append_assoc, eq-eqb}
-use Rattle.std.specs.Prelude.{not, ◌&&◌, map, IsTrue, IsSome, ◌↔◌}
+use Rattle.std.specs.Prelude.{⊤, ◌⊎◌, not, ◌&&◌, map, IsTrue, IsSome, ◌↔◌}
 use Rattle.std.proofs.lemmas.List.{append-nil}
 use Rattle.filter_words.specs.declared.reply.Caps.{Caps}
 use Rattle.filter_words.specs.declared.reply.Reply.{Reply}
@@ -21,11 +21,15 @@ use Rattle.driver_line.specs.declared.line.Start.TheVariants as starts
 use Rattle.checkout_core.specs.Talks.{talk_run}
 use Rattle.driver_line.specs.Conversations.{Exchange, NoStart, NoRoom, Opening, First, Second, notes_of, notes_in, FitsTalk, LeadsTo}
 use Rattle.driver_line.specs.Lines.{LineView, Paths, Says, RunsTo, OpenIs, IsOpen, MayReply, SessionAfter, GoesOn}
+use Rattle.edge_kit.specs.Seen.{LeafSeen}
 use Rattle.edge_kit.specs.Told.{Tells}
+use Rattle.edge_kit.specs.declared.faults.SendFault.{SendFault}
+use Rattle.edge_kit.specs.declared.leaf_state.LeafState.TheVariants.{Sealed, Stuck}
+use Rattle.edge_kit.specs.declared.leaf_state.Mark.{Mark}
 use Rattle.driver_desk.specs.Rounds.{LateSeen, paths_of}
 use Rattle.driver_desk.specs.Works.{WorkSeen, FitsWork, FitAll, asked_of, asked_in}
-use Rattle.driver_desk.specs.Serving.{Given, Noted, Closed, HandedBack, noted_of, noted_in, AllSealed, IsAnswer, HasAnswer}
-use Rattle.driver_desk.specs.Progress.{AreClosings, NoAnswer, Serves, talk_in, talk_now, newest, IsAskable, is_abort, late_after}
+use Rattle.driver_desk.specs.Serving.{Given, Noted, Closed, HandedBack, noted_of, noted_in, AllClosed, TellsPart, IsAnswer, HasAnswer, IsSent, HasSent, HasPart, Holds}
+use Rattle.driver_desk.specs.Progress.{AreClosings, IsBare, IsUnsealed, EndsPut, EndsAsked, Serves, talk_in, talk_now, newest, IsAskable, is_abort, late_after}
 
 pub runs_more : (paths : Paths) (a b c : LineView) (es : List Exchange) (e : Exchange) → RunsTo paths a es b → Says paths b e c → RunsTo paths a (es ++ e ∷ []) c
 runs_more paths a b c [] e r s = (c, subst (λ (x : LineView). Says paths x e c) (sym r) s, refl)
@@ -64,33 +68,61 @@ leads_run d t u (e ∷ es) h = talk_more d t h.0 (notes_of d e) (notes_in d es) 
 pub leads_from : (d : ℕ) (a b : List ℕ) (es : List Exchange) (t : Talk) → a ≡ b → LeadsTo d (Between a) es t → LeadsTo d (Between b) es t
 leads_from d a b es t e h = subst (λ (x : List ℕ). LeadsTo d (Between x) es t) e h
 
--- what holds where a leaf was sealed
-pub all_mono : (P Q : ℕ → Option (List ℕ) → Type 0) → ((p : ℕ) (told : Option (List ℕ)) → P p told → Q p told) → (gs : List Given) → AllSealed P gs → AllSealed Q gs
+-- what holds of the leaves of closed cards
+pub all_mono : (P Q : ℕ → LeafSeen → Type 0) → ((p : ℕ) (leaf : LeafSeen) → P p leaf → Q p leaf) → (gs : List Given) → AllClosed P gs → AllClosed Q gs
 all_mono P Q f [] h = tt
 all_mono P Q f (Noted e ∷ gs) h = (tt, all_mono P Q f gs h.1)
-all_mono P Q f (Closed own card ∷ gs) h = (λ m e. f card.path card.leaf.content (h.0 m e), all_mono P Q f gs h.1)
+all_mono P Q f (Closed own card ∷ gs) h = (f card.path card.leaf h.0, all_mono P Q f gs h.1)
 all_mono P Q f (HandedBack path ∷ gs) h = (tt, all_mono P Q f gs h.1)
 
-pub all_more : (P : ℕ → Option (List ℕ) → Type 0) (a b : List Given) → AllSealed P a → AllSealed P b → AllSealed P (a ++ b)
+pub all_more : (P : ℕ → LeafSeen → Type 0) (a b : List Given) → AllClosed P a → AllClosed P b → AllClosed P (a ++ b)
 all_more P [] b h k = k
 all_more P (g ∷ gs) b h k = (h.0, all_more P gs b h.1 k)
 
-pub all_none : (P : ℕ → Option (List ℕ) → Type 0) (gs : List Given) → AllSealed NoAnswer gs → AllSealed P gs
-all_none P gs h = all_mono NoAnswer P (λ p told k. absurd k) gs h
-
-pub has_more : (es fs : List Exchange) (p : ℕ) (told : Option (List ℕ)) → HasAnswer es p told → HasAnswer (es ++ fs) p told
+has_more : (es fs : List Exchange) (p : ℕ) (told : Option (List ℕ)) → HasAnswer es p told → HasAnswer (es ++ fs) p told
 has_more [] fs p told h = absurd h
 has_more (e ∷ es) fs p told (inl h) = inl h
 has_more (e ∷ es) fs p told (inr h) = inr (has_more es fs p told h)
 
-pub has_last : (es : List Exchange) (e : Exchange) (p : ℕ) (told : Option (List ℕ)) → IsAnswer e p told → HasAnswer (es ++ e ∷ []) p told
+has_last : (es : List Exchange) (e : Exchange) (p : ℕ) (told : Option (List ℕ)) → IsAnswer e p told → HasAnswer (es ++ e ∷ []) p told
 has_last [] e p told h = inl h
 has_last (f ∷ es) e p told h = inr (has_last es e p told h)
 
-pub answers_more : (es : List Exchange) (e : Exchange) (old new : List Given) → AllSealed (HasAnswer es) old → AllSealed NoAnswer new → AllSealed (HasAnswer (es ++ e ∷ [])) (old ++ new)
-answers_more es e old new h k = all_more (HasAnswer (es ++ e ∷ [])) old new (all_mono (HasAnswer es) (HasAnswer (es ++ e ∷ [])) (λ p told i. has_more es (e ∷ []) p told i) old h) (all_none (HasAnswer (es ++ e ∷ [])) new k)
+sent_more : (es fs : List Exchange) (p : ℕ) (sent : List ℕ) → HasSent es p sent → HasSent (es ++ fs) p sent
+sent_more [] fs p sent h = absurd h
+sent_more (e ∷ es) fs p sent (inl h) = inl h
+sent_more (e ∷ es) fs p sent (inr h) = inr (sent_more es fs p sent h)
 
-pub first_answer : (p : ℕ) (r : Reply) (content : List ℕ) (q : ℕ) (told : Option (List ℕ)) → r ≡ reply.Content → q ≡ p → Tells told content → IsAnswer (First p r content) q told
+sent_last : (es : List Exchange) (e : Exchange) (p : ℕ) (sent : List ℕ) → IsSent e p sent → HasSent (es ++ e ∷ []) p sent
+sent_last [] e p sent h = inl h
+sent_last (f ∷ es) e p sent h = inr (sent_last es e p sent h)
+
+part_more : (es fs : List Exchange) (p : ℕ) (told : Option (List ℕ)) → HasPart es p told → HasPart (es ++ fs) p told
+part_more es fs p told (inl h) = inl h
+part_more es fs p told (inr h) = inr (h.0, sent_more es fs p h.0 h.1, h.2)
+
+holds_more : (es fs : List Exchange) (p : ℕ) (leaf : LeafSeen) → Holds es p leaf → Holds (es ++ fs) p leaf
+holds_more es fs p leaf h = record { sealed = λ m e. has_more es fs p leaf.content (h.sealed m e); stuck = λ e. part_more es fs p leaf.content (h.stuck e) }
+
+-- a leaf that holds nothing
+bare_holds : (es : List Exchange) (p : ℕ) (leaf : LeafSeen) → IsBare p leaf → Holds es p leaf
+bare_holds es p leaf h = record { sealed = λ m e. absurd (h.0 m e); stuck = λ e. inl (h.1 e) }
+
+pub all_bare : (es : List Exchange) (gs : List Given) → AllClosed IsBare gs → AllClosed (Holds es) gs
+all_bare es gs h = all_mono IsBare (Holds es) (bare_holds es) gs h
+
+-- a leaf into which an answer was put
+pub asked_holds : (es : List Exchange) (e : Exchange) (r : Reply) (path : ℕ) (sent : List ℕ) → ((q : ℕ) (told : Option (List ℕ)) → r ≡ reply.Content → q ≡ path → Tells told sent → IsAnswer e q told)
+    → ((q : ℕ) → q ≡ path → IsSent e q sent) → (q : ℕ) (leaf : LeafSeen) → EndsAsked r path sent q leaf → Holds (es ++ e ∷ []) q leaf
+asked_holds es e r path sent answer is q leaf h = record {
+  sealed = λ m s. let k = h.0 m s in has_last es e q leaf.content (answer q leaf.content k.0 k.1 k.2);
+  stuck = λ s. elim (h.1 s) [ inl none ↦ inl none | inr k ↦ inr (sent, sent_last es e q sent (is q k.0), k.1) ];
+}
+
+pub answers_more : (es : List Exchange) (e : Exchange) (old new : List Given) → AllClosed (Holds es) old → AllClosed IsBare new → AllClosed (Holds (es ++ e ∷ [])) (old ++ new)
+answers_more es e old new h k = all_more (Holds (es ++ e ∷ [])) old new (all_mono (Holds es) (Holds (es ++ e ∷ [])) (holds_more es (e ∷ [])) old h) (all_bare (es ++ e ∷ []) new k)
+
+first_answer : (p : ℕ) (r : Reply) (content : List ℕ) (q : ℕ) (told : Option (List ℕ)) → r ≡ reply.Content → q ≡ p → Tells told content → IsAnswer (First p r content) q told
 first_answer p r content q told e same t = subst (λ (y : Reply). IsAnswer (First p y content) q told) (sym e) (sym same, t)
 
 pub second_answer : (p : ℕ) (r : Reply) (content : List ℕ) (q : ℕ) (told : Option (List ℕ)) → r ≡ reply.Content → q ≡ p → Tells told content → IsAnswer (Second p r content) q told
@@ -101,7 +133,7 @@ pub serves_more : (d : ℕ) (paths : Paths) (line0 : LineView) (given0 : List Gi
     → Serves d paths line0 given0 asked ahead line given aborted late → Says paths line e line1 → given1 ≡ given ++ new → noted_in new ≡ notes_of d e → asked ++ ahead ≡ asked1 ++ ahead1
     → ((rest : List ℕ) → FitsTalk (talk_now line.session aborted late (ahead ++ rest)) e)
     → ((rest : List ℕ) → talk_run d (talk_now line.session aborted late (ahead ++ rest)) (notes_of d e) ≡ Some (talk_now line1.session aborted1 late1 (ahead1 ++ rest)))
-    → AllSealed NoAnswer new
+    → AllClosed IsBare new
     → Serves d paths line0 given0 asked1 ahead1 line1 given1 aborted1 late1
 serves_more d paths line0 given0 asked ahead asked1 ahead1 line line1 given given1 new aborted aborted1 late late1 e s says g n same fits moves sealed = record {
   answers = answers_more s.exchanges e s.more new s.answers sealed;
@@ -116,9 +148,9 @@ serves_more d paths line0 given0 asked ahead asked1 ahead1 line line1 given give
 
 -- closings alone
 pub serves_closed : (d : ℕ) (paths : Paths) (line0 : LineView) (given0 : List Given) (asked ahead : List ℕ) (line : LineView) (given given1 new : List Given) (aborted : Bool) (late : List ℕ)
-    → (s : Serves d paths line0 given0 asked ahead line given aborted late) → given1 ≡ given ++ new → noted_in new ≡ [] → AllSealed (HasAnswer s.exchanges) new → Serves d paths line0 given0 asked ahead line given1 aborted late
+    → (s : Serves d paths line0 given0 asked ahead line given aborted late) → given1 ≡ given ++ new → noted_in new ≡ [] → AllClosed (Holds s.exchanges) new → Serves d paths line0 given0 asked ahead line given1 aborted late
 serves_closed d paths line0 given0 asked ahead line given given1 new aborted late s g n sealed = record {
-  answers = all_more (HasAnswer s.exchanges) s.more new s.answers sealed;
+  answers = all_more (Holds s.exchanges) s.more new s.answers sealed;
   exchanges = s.exchanges;
   more = s.more ++ new;
   runs = s.runs;
@@ -129,9 +161,9 @@ serves_closed d paths line0 given0 asked ahead line given given1 new aborted lat
 
 -- closings that seal nothing
 pub serves_none : (d : ℕ) (paths : Paths) (line0 : LineView) (given0 : List Given) (asked ahead : List ℕ) (line : LineView) (given given1 : List Given) (aborted : Bool) (late : List ℕ)
-    → Serves d paths line0 given0 asked ahead line given aborted late → AreClosings NoAnswer given given1 → Serves d paths line0 given0 asked ahead line given1 aborted late
+    → Serves d paths line0 given0 asked ahead line given aborted late → AreClosings IsBare given given1 → Serves d paths line0 given0 asked ahead line given1 aborted late
 serves_none d paths line0 given0 asked ahead line given given1 aborted late s more =
-    serves_closed d paths line0 given0 asked ahead line given given1 more.0 aborted late s more.1 more.2 (all_none (HasAnswer s.exchanges) more.0 more.3)
+    serves_closed d paths line0 given0 asked ahead line given given1 more.0 aborted late s more.1 more.2 (all_bare s.exchanges more.0 more.3)
 
 -- the path that comes next is named
 pub serves_ahead : (d : ℕ) (paths : Paths) (line0 : LineView) (given0 : List Given) (asked : List ℕ) (p : ℕ) (line : LineView) (given : List Given) (aborted : Bool) (late : List ℕ)
@@ -258,13 +290,14 @@ asked_first d paths line0 given0 asked p line line1 given given1 s late r conten
 
 asked_has : (d : ℕ) (paths : Paths) (line0 : LineView) (given0 : List Given) (asked : List ℕ) (p : ℕ) (line line1 : LineView) (given given1 : List Given) (s : SessionSeen) (late : List ℕ) (r : Reply) (content : List ℕ)
     (is : line.session ≡ Some s) (smudge : s.caps.smudge ≡ true) (may : MayReply s.caps.delay r) (goes : GoesOn s (standing_after r) line1.session) (says : Says paths line (First p r content) line1) (g : given1 ≡ given ++ Noted (event.Answered p r) ∷ [])
-    (h : Serves d paths line0 given0 asked (p ∷ []) line given false late) (q : ℕ) (told : Option (List ℕ)) → (r ≡ reply.Content) × (q ≡ p) × Tells told content
-    → HasAnswer (asked_first d paths line0 given0 asked p line line1 given given1 s late r content is smudge may goes says g h).exchanges q told
+    (h : Serves d paths line0 given0 asked (p ∷ []) line given false late) (q : ℕ) (leaf : LeafSeen) → EndsAsked r p content q leaf
+    → Holds (asked_first d paths line0 given0 asked p line line1 given given1 s late r content is smudge may goes says g h).exchanges q leaf
 unfolding asked_first serves_more
-asked_has d paths line0 given0 asked p line line1 given given1 s late r content is smudge may goes says g h q told k = has_last h.exchanges (First p r content) q told (first_answer p r content q told k.0 k.1 k.2)
+asked_has d paths line0 given0 asked p line line1 given given1 s late r content is smudge may goes says g h q leaf k =
+    asked_holds h.exchanges (First p r content) r p content (first_answer p r content) (λ z same. (sym same, refl)) q leaf k
 
 -- closings
-pub closed_all : (P : ℕ → Option (List ℕ) → Type 0) (a b c : List Given) → AreClosings P a b → AreClosings P b c → AreClosings P a c
+pub closed_all : (P : ℕ → LeafSeen → Type 0) (a b c : List Given) → AreClosings P a b → AreClosings P b c → AreClosings P a c
 closed_all P a b c h k = (
   h.0 ++ k.0,
   k.1 ∙ (ap (λ (x : List Given). x ++ k.0) h.1 ∙ append_assoc a h.0 k.0),
@@ -272,13 +305,21 @@ closed_all P a b c h k = (
   all_more P h.0 k.0 h.3 k.3,
 )
 
-pub closed_as : (P Q : ℕ → Option (List ℕ) → Type 0) (a b : List Given) → ((p : ℕ) (told : Option (List ℕ)) → P p told → Q p told) → AreClosings P a b → AreClosings Q a b
+pub closed_as : (P Q : ℕ → LeafSeen → Type 0) (a b : List Given) → ((p : ℕ) (leaf : LeafSeen) → P p leaf → Q p leaf) → AreClosings P a b → AreClosings Q a b
 closed_as P Q a b f h = (h.0, h.1, h.2, all_mono P Q f h.0 h.3)
 
-pub closed_none : (P : ℕ → Option (List ℕ) → Type 0) (a b : List Given) → AreClosings NoAnswer a b → AreClosings P a b
-closed_none P a b h = (h.0, h.1, h.2, all_none P h.0 h.3)
+-- closings that seal nothing, and that put nothing
+pub closed_bare : (r : Reply) (put : Result ⊤ SendFault) (path : ℕ) (content : Option (List ℕ)) (a b : List Given) → AreClosings IsBare a b → AreClosings (EndsPut r put path content) a b
+closed_bare r put path content a b h = closed_as IsBare (EndsPut r put path content) a b (λ p leaf k. (λ m e. absurd (k.0 m e), λ e. inl (k.1 e))) h
 
-pub no_closing : (P : ℕ → Option (List ℕ) → Type 0) (a b : List Given) → b ≡ a → AreClosings P a b
+pub closed_unsealed : (r : Reply) (put : Result ⊤ SendFault) (path : ℕ) (content : Option (List ℕ)) (a b : List Given) → AreClosings (IsUnsealed path content) a b → AreClosings (EndsPut r put path content) a b
+closed_unsealed r put path content a b h = closed_as (IsUnsealed path content) (EndsPut r put path content) a b (λ p leaf k. (λ m e. absurd (k.0 m e), λ e. inr (k.1 e))) h
+
+pub unsealed_bare : (path : ℕ) (content : Option (List ℕ)) (a b : List Given) → Tells content [] → AreClosings (IsUnsealed path content) a b → AreClosings IsBare a b
+unsealed_bare path content a b bare h =
+    closed_as (IsUnsealed path content) IsBare a b (λ p leaf k. (k.0, λ e. subst (λ (o : Option (List ℕ)). Tells o []) (sym (k.1 e).1) bare)) h
+
+pub no_closing : (P : ℕ → LeafSeen → Type 0) (a b : List Given) → b ≡ a → AreClosings P a b
 no_closing P a b e = ([], e ∙ sym (append-nil a), refl, tt)
 
 pub newest_push : (ps : List ℕ) (p : ℕ) → newest (ps ++ p ∷ []) ≡ p ∷ newest ps
@@ -293,13 +334,13 @@ open_some (Some s) h = (s, refl, h.0, h.1)
 pub asked_card : (d : ℕ) (paths : Paths) (line0 : LineView) (given0 : List Given) (asked : List ℕ) (p : ℕ) (line line1 : LineView) (given given1 given2 : List Given) (late late1 : List ℕ) (r : Reply) (content : List ℕ) (b : Bool)
     → IsOpen line.session → ((s : SessionSeen) → line.session ≡ Some s → MayReply s.caps.delay r) → ((s : SessionSeen) → line.session ≡ Some s → GoesOn s (standing_after r) line1.session)
     → Says paths line (First p r content) line1 → given1 ≡ given ++ Noted (event.Answered p r) ∷ []
-    → AreClosings (λ q told. (r ≡ reply.Content) × (q ≡ p) × Tells told content) given1 given2 → b ≡ is_abort r → late1 ≡ late_after p r late
+    → AreClosings (EndsAsked r p content) given1 given2 → b ≡ is_abort r → late1 ≡ late_after p r late
     → Serves d paths line0 given0 asked (p ∷ []) line given false late → Serves d paths line0 given0 (asked ++ p ∷ []) [] line1 given2 b late1
 asked_card d paths line0 given0 asked p line line1 given given1 given2 late late1 r content b ready may goes says g more ab l h =
     let o = open_some line.session ready in
     let s = asked_first d paths line0 given0 asked p line line1 given given1 o.0 late r content o.1 o.3 (may o.0 o.1) (goes o.0 o.1) says g h in
     rw (ab, l) (serves_closed d paths line0 given0 (asked ++ p ∷ []) [] line1 given1 given2 more.0 (is_abort r) (late_after p r late) s more.1 more.2
-    (all_mono (λ q told. (r ≡ reply.Content) × (q ≡ p) × Tells told content) (HasAnswer s.exchanges) (λ q told k. asked_has d paths line0 given0 asked p line line1 given given1 o.0 late r content o.1 o.3 (may o.0 o.1) (goes o.0 o.1) says g h q told k) more.0 more.3))
+    (all_mono (EndsAsked r p content) (Holds s.exchanges) (λ q leaf k. asked_has d paths line0 given0 asked p line line1 given given1 o.0 late r content o.1 o.3 (may o.0 o.1) (goes o.0 o.1) says g h q leaf k) more.0 more.3))
 
 sane_as : (z : Standing) (s : SessionSeen) (p : ℕ) (r : Reply) (late : List ℕ) (session1 : Option SessionSeen) → standing_after r ≡ z → GoesOn s z session1 → IsAskable session1 (late_after p r late)
 sane_as z s p r late None is goes = none z r is goes
@@ -355,7 +396,7 @@ open_ready (Some s) late there sane smudge = (sane, smudge s refl)
 
 -- a card that is not asked for, with its closing
 pub work_past : (d : ℕ) (paths : Paths) (line0 : LineView) (given0 : List Given) (asked : List ℕ) (p : ℕ) (content : Result (List ℕ) Own) (line : LineView) (given given1 : List Given) (aborted : Bool) (late : List ℕ)
-    → aborted ≡ true → AreClosings NoAnswer given given1
+    → aborted ≡ true → AreClosings IsBare given given1
     → Serves d paths line0 given0 asked [] line given aborted late → Serves d paths line0 given0 (asked ++ asked_of p content) [] line given1 true late
 work_past d paths line0 given0 asked p (Ok content) line given given1 aborted late ab more s =
     serves_past d paths line0 given0 asked p line given1 true late (λ rest. refl)
@@ -364,7 +405,7 @@ work_past d paths line0 given0 asked p (Err own) line given given1 aborted late 
     rw (append-nil asked) (serves_none d paths line0 given0 asked [] line given given1 true late (rw ab at s) more)
 
 pub work_failed : (d : ℕ) (paths : Paths) (line0 : LineView) (given0 : List Given) (asked : List ℕ) (p : ℕ) (content : Result (List ℕ) Own) (own : Own) (line : LineView) (given given1 : List Given) (aborted : Bool) (late : List ℕ)
-    → content ≡ Err own → AreClosings NoAnswer given given1
+    → content ≡ Err own → AreClosings IsBare given given1
     → Serves d paths line0 given0 asked [] line given aborted late → Serves d paths line0 given0 (asked ++ asked_of p content) [] line given1 aborted late
 work_failed d paths line0 given0 asked p content own line given given1 aborted late is more s =
     rw (is, append-nil asked) (serves_none d paths line0 given0 asked [] line given given1 aborted late s more)

@@ -11,14 +11,14 @@ ghost use Rattle.edge_kit.specs.Faults.{Rose};
 ghost use Rattle.edge_kit.specs.Files.{IsOpenLeaf};
 ghost use Rattle.edge_kit.specs.Seen.{LeafSeen};
 ghost use Rattle.edge_kit.specs.declared.leaf_state.LeafState.{LeafState};
-ghost use Rattle.edge_kit.specs.declared.leaf_state.LeafState.TheVariants.{Fresh, Broken, Sealed, Gone};
+ghost use Rattle.edge_kit.specs.declared.leaf_state.LeafState.TheVariants.{Fresh, Broken, Sealed, Gone, Stuck};
 ghost use Rattle.filter_proto.specs.Replies.{IsKept};
 ghost use Rattle.driver_desk.specs.Added.{AddsRead, ClosesOne};
 ghost use Rattle.driver_desk.specs.Cards.{IsAskedCard, IsUnreadCard};
 ghost use Rattle.driver_desk.specs.Shown.{ShowsUnused, IsGivenUp, ShowsLeaf};
 ghost use Rattle.driver_desk.specs.Recorders.{MayDo, ShowsClose};
 ghost use Rattle.driver_desk.specs.Endings.{MayDrop, MayEnd, IsEnd};
-ghost use Rattle.driver_desk.specs.Progress.{AreClosings, GotContent, NoAnswer};
+ghost use Rattle.driver_desk.specs.Progress.{AreClosings, EndsPut, IsBare, IsUnsealed};
 
 use crate::recorder::Recorder;
 use checkout_core::Own;
@@ -35,12 +35,13 @@ pub(crate) struct Work<B: Blob, L: Leaf> {
 }
 
 /// The outcome of a leaf that failed, and which holds no file where that can be helped.
-#[tactic(auto, using(crate::proofs::Closings::discards_path))]
+#[tactic(auto, using(crate::proofs::Closings::discards_path, crate::proofs::Closings::discards_stuck, crate::proofs::Closings::discards_dropped))]
 fn write_failed<L: Leaf>(leaf: &mut L) -> Own
     requires { (L.seen leaf.old).state ≡ Broken }
     ensures own { result ≡ Own.WriteFailed }
     ensures path { (L.seen leaf.new).path ≡ (L.seen leaf.old).path }
     ensures gone { IsGivenUp (L.seen leaf.new).state }
+    ensures stuck { (L.seen leaf.new).state ≡ Stuck → (L.seen leaf.new).content ≡ (L.seen leaf.old).content }
     ensures shows { (before : LeafSeen) (fine : LeafState) (u : Bool) → Rose before.faults (L.seen leaf.old).faults
         → ShowsLeaf fine u result before (L.seen leaf.new) }
 {
@@ -49,13 +50,14 @@ fn write_failed<L: Leaf>(leaf: &mut L) -> Own
 }
 
 /// The outcome of a leaf into which something wasn't put.
-#[tactic(auto, using(crate::proofs::Closings::discards_path))]
+#[tactic(auto, using(crate::proofs::Closings::discards_path, crate::proofs::Closings::discards_stuck, crate::proofs::Closings::discards_dropped))]
 fn put_failed<L: Leaf>(leaf: &mut L, fault: SendFault) -> Own
     requires usable { fault ≢ SendFault.Failed → IsOpenLeaf (L.seen leaf.old).state }
     requires broken { fault ≡ SendFault.Failed → (L.seen leaf.old).state ≡ Broken }
     ensures read { was_read result ≡ true }
     ensures path { (L.seen leaf.new).path ≡ (L.seen leaf.old).path }
     ensures gone { IsGivenUp (L.seen leaf.new).state }
+    ensures stuck { (L.seen leaf.new).state ≡ Stuck → (L.seen leaf.new).content ≡ (L.seen leaf.old).content }
     ensures failed { (u : Bool) → result ≡ Own.Fine u → ⊥ }
     ensures shows { (before : LeafSeen) (fine : LeafState) (u : Bool) → IsKept before (L.seen leaf.old) (Err fault)
         → ShowsLeaf fine u result before (L.seen leaf.new) }
@@ -77,6 +79,7 @@ fn seal_leaf<L: Leaf>(leaf: &mut L, mark: Mark, put: Result<(), SendFault>, unen
     ensures path { (L.seen leaf.new).path ≡ (L.seen leaf.old).path }
     ensures sealed { (m : Mark) → (L.seen leaf.new).state ≡ Sealed m
         → (put ≡ Ok tt) × ((L.seen leaf.new).content ≡ (L.seen leaf.old).content) }
+    ensures stuck { (L.seen leaf.new).state ≡ Stuck → (L.seen leaf.new).content ≡ (L.seen leaf.old).content }
     ensures shows { (before : LeafSeen) → IsKept before (L.seen leaf.old) put
         → ShowsLeaf (Sealed mark) unencoded result before (L.seen leaf.new) }
 {
@@ -90,13 +93,14 @@ fn seal_leaf<L: Leaf>(leaf: &mut L, mark: Mark, put: Result<(), SendFault>, unen
 }
 
 /// The outcome of a leaf that is to hold no file.
-#[tactic(auto, using(crate::proofs::Closings::discards_path))]
+#[tactic(auto, using(crate::proofs::Closings::discards_path, crate::proofs::Closings::discards_stuck, crate::proofs::Closings::discards_dropped))]
 fn drop_leaf<L: Leaf>(leaf: &mut L, put: Result<(), SendFault>, unencoded: bool) -> Own
     requires usable { put ≢ Err SendFault.Failed → IsOpenLeaf (L.seen leaf.old).state }
     requires broken { put ≡ Err SendFault.Failed → (L.seen leaf.old).state ≡ Broken }
     ensures read { was_read result ≡ true }
     ensures path { (L.seen leaf.new).path ≡ (L.seen leaf.old).path }
     ensures gone { IsGivenUp (L.seen leaf.new).state }
+    ensures stuck { (L.seen leaf.new).state ≡ Stuck → (L.seen leaf.new).content ≡ (L.seen leaf.old).content }
     ensures put { (u : Bool) → result ≡ Own.Fine u → put ≡ Ok tt }
     ensures shows { (before : LeafSeen) → IsKept before (L.seen leaf.old) put
         → ShowsLeaf Gone unencoded result before (L.seen leaf.new) }
@@ -118,8 +122,8 @@ fn close<B: Blob, L: Leaf, C: Recorder<B, L>>(mut card: Card<B, L>, recorder: &m
     requires next { MayDo (C.standing recorder.old) (C.given recorder.old)
         (Close card.path ((C.standing recorder.old).workers + (C.standing recorder.old).driver) own) }
     ensures ends { IsEnd (C.standing recorder.old) (C.given recorder.old) card.path (C.given recorder.new) }
-    ensures closed { AreClosings (λ q told. (q ≡ card.path) × (told ≡ (L.seen card.leaf).content)
-        × (m : Mark) × ((L.seen card.leaf).state ≡ Sealed m)) (C.given recorder.old) (C.given recorder.new) }
+    ensures closed { AreClosings (λ q leaf. (q ≡ card.path) × (leaf ≡ L.seen card.leaf)) (C.given recorder.old)
+        (C.given recorder.new) }
     ensures standing { C.standing recorder.new ≡ C.standing recorder.old }
     ensures fixed { C.fixed recorder.new ≡ C.fixed recorder.old }
     ensures sound { C.sound recorder.new }
@@ -140,8 +144,8 @@ fn close_got<B: Blob, L: Leaf, C: Recorder<B, L>>(
         put }
     requires may { MayEnd (C.standing recorder.old) (C.given recorder.old) work.card.path Got }
     ensures ends { IsEnd (C.standing recorder.old) (C.given recorder.old) work.card.path (C.given recorder.new) }
-    ensures closed { AreClosings (λ q told. (put ≡ Ok tt) × (q ≡ work.card.path)
-        × (told ≡ (L.seen work.card.leaf).content)) (C.given recorder.old) (C.given recorder.new) }
+    ensures closed { AreClosings (EndsPut Reply.Content put work.card.path (L.seen work.card.leaf).content)
+        (C.given recorder.old) (C.given recorder.new) }
     ensures standing { C.standing recorder.new ≡ C.standing recorder.old }
     ensures fixed { C.fixed recorder.new ≡ C.fixed recorder.old }
     ensures sound { C.sound recorder.new }
@@ -163,7 +167,8 @@ pub(crate) fn close_empty<B: Blob, L: Leaf, C: Recorder<B, L>>(
         put }
     requires may { MayDrop (C.standing recorder.old) (C.given recorder.old) work.card.path put }
     ensures ends { IsEnd (C.standing recorder.old) (C.given recorder.old) work.card.path (C.given recorder.new) }
-    ensures closed { AreClosings NoAnswer (C.given recorder.old) (C.given recorder.new) }
+    ensures closed { AreClosings (IsUnsealed work.card.path (L.seen work.card.leaf).content) (C.given recorder.old)
+        (C.given recorder.new) }
     ensures standing { C.standing recorder.new ≡ C.standing recorder.old }
     ensures fixed { C.fixed recorder.new ≡ C.fixed recorder.old }
     ensures sound { C.sound recorder.new }
@@ -182,7 +187,8 @@ fn hand_back<B: Blob, L: Leaf, C: Recorder<B, L>>(work: Work<B, L>, recorder: &m
     requires may { (why : FilterCause)
         × MayEnd (C.standing recorder.old) (C.given recorder.old) work.card.path (Refused why) }
     ensures ends { IsEnd (C.standing recorder.old) (C.given recorder.old) work.card.path (C.given recorder.new) }
-    ensures closed { AreClosings NoAnswer (C.given recorder.old) (C.given recorder.new) }
+    ensures closed { AreClosings (IsUnsealed work.card.path (L.seen work.card.leaf).content) (C.given recorder.old)
+        (C.given recorder.new) }
     ensures standing { C.standing recorder.new ≡ C.standing recorder.old }
     ensures fixed { C.fixed recorder.new ≡ C.fixed recorder.old }
     ensures sound { C.sound recorder.new }
@@ -212,7 +218,8 @@ pub(crate) fn refuse<B: Blob, L: Leaf, C: Recorder<B, L>>(
     requires may { (why : FilterCause)
         × MayEnd (C.standing recorder.old) (C.given recorder.old) work.card.path (Refused why) }
     ensures ends { IsEnd (C.standing recorder.old) (C.given recorder.old) work.card.path (C.given recorder.new) }
-    ensures closed { AreClosings NoAnswer (C.given recorder.old) (C.given recorder.new) }
+    ensures closed { AreClosings (IsUnsealed work.card.path (L.seen work.card.leaf).content) (C.given recorder.old)
+        (C.given recorder.new) }
     ensures standing { C.standing recorder.new ≡ C.standing recorder.old }
     ensures fixed { C.fixed recorder.new ≡ C.fixed recorder.old }
     ensures sound { C.sound recorder.new }
@@ -244,7 +251,7 @@ pub(crate) fn end_told<B: Blob, L: Leaf, C: Recorder<B, L>>(
         → MayEnd (C.standing recorder.old) (C.given recorder.old) work.card.path h }
     requires told { reply ≡ Reply.Delayed → ⊥ }
     ensures ends { IsEnd (C.standing recorder.old) (C.given recorder.old) work.card.path (C.given recorder.new) }
-    ensures closed { AreClosings (GotContent reply put work.card.path (L.seen work.card.leaf).content)
+    ensures closed { AreClosings (EndsPut reply put work.card.path (L.seen work.card.leaf).content)
         (C.given recorder.old) (C.given recorder.new) }
     ensures standing { C.standing recorder.new ≡ C.standing recorder.old }
     ensures fixed { C.fixed recorder.new ≡ C.fixed recorder.old }
@@ -264,6 +271,7 @@ pub(crate) fn end_told<B: Blob, L: Leaf, C: Recorder<B, L>>(
 fn leave_unread<L: Leaf>(leaf: &mut L, own: Own)
     requires { (L.seen leaf.old).state ≡ Fresh }
     ensures path { (L.seen leaf.new).path ≡ (L.seen leaf.old).path }
+    ensures stuck { (L.seen leaf.new).state ≡ Stuck → (L.seen leaf.new).content ≡ (L.seen leaf.old).content }
     ensures shows { ShowsUnused own (L.seen leaf.old) (L.seen leaf.new) }
 {
     if let Own::NoMemory = own {
@@ -283,7 +291,7 @@ pub(crate) fn close_unread<B: Blob, L: Leaf, C: Recorder<B, L>>(
     requires next { MayDo (C.standing recorder.old) (C.given recorder.old)
         (Close card.path ((C.standing recorder.old).workers + (C.standing recorder.old).driver) own) }
     ensures ends { IsEnd (C.standing recorder.old) (C.given recorder.old) card.path (C.given recorder.new) }
-    ensures closed { AreClosings NoAnswer (C.given recorder.old) (C.given recorder.new) }
+    ensures closed { AreClosings IsBare (C.given recorder.old) (C.given recorder.new) }
     ensures standing { C.standing recorder.new ≡ C.standing recorder.old }
     ensures fixed { C.fixed recorder.new ≡ C.fixed recorder.old }
     ensures sound { C.sound recorder.new }

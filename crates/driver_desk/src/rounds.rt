@@ -12,8 +12,8 @@ ghost use Rattle.driver_desk.specs.Added.{AddsRead};
 ghost use Rattle.driver_desk.specs.Cards.{IsReadCard};
 ghost use Rattle.driver_desk.specs.Places.{IsAt, IsServing, IsNaming, IsListing, AfterList, InRoundsAt, IsDone};
 ghost use Rattle.driver_desk.specs.Places.{named_talk};
-ghost use Rattle.driver_desk.specs.Serving.{Given, AllSealed};
-ghost use Rattle.driver_desk.specs.Progress.{NoAnswer, Serves, IsAskable};
+ghost use Rattle.driver_desk.specs.Serving.{Given, AllClosed};
+ghost use Rattle.driver_desk.specs.Progress.{IsBare, Serves, IsAskable};
 ghost use Rattle.driver_desk.specs.Serving.{noted_in};
 ghost use Rattle.driver_desk.specs.Progress.{newest};
 
@@ -38,7 +38,7 @@ fn note_names<B: Blob, L: Leaf, C: Recorder<B, L>>(recorder: &mut C, late: &Late
         → IsAt (C.standing recorder.new) (C.given recorder.new) cards [] first
         (named_talk delay waiting (names_at late.now)) }
     ensures noted { (more : List Given) × (C.given recorder.new ≡ C.given recorder.old ++ more)
-        × (noted_in more ≡ map Event.Named (names_at late.now)) × AllSealed NoAnswer more }
+        × (noted_in more ≡ map Event.Named (names_at late.now)) × AllClosed IsBare more }
     ensures standing { C.standing recorder.new ≡ C.standing recorder.old }
     ensures fixed { C.fixed recorder.new ≡ C.fixed recorder.old }
     ensures sound { C.sound recorder.new }
@@ -74,7 +74,7 @@ fn note_list<B: Blob, L: Leaf, C: Recorder<B, L>>(
     ensures read { AddsRead (C.given recorder.old) (C.given recorder.new) }
     ensures noted { (more : List Given) × (C.given recorder.new ≡ C.given recorder.old ++ more)
         × (noted_in more ≡ list_notes driver (names_in late.now.numbers late.now.table.turns reply) reply)
-        × AllSealed NoAnswer more }
+        × AllClosed IsBare more }
 {
     desk_laws();
     match reply {

@@ -2,11 +2,12 @@
 ghost use Rattle.std.specs.Prelude.{◌≡◌, ◌≤◌, ◌<◌, ◌+◌, ◌^◌, ◌∷◌, ◌++◌, [], ℕ, List, Bool, true, false};
 ghost use Rattle.std.specs.Prelude.{Option, Some, None, Ok, slice_get};
 ghost use Rattle.convert_plan.specs.Card.{card_seen, IsPrepared};
+ghost use Rattle.edge_kit.specs.Told.{Tells};
 ghost use Rattle.driver_line.specs.Lines.{LineView, Paths, IsOpen, starts_of};
 ghost use Rattle.driver_desk.specs.Late.{AreIdle, KeepsNames, StaysUnlisted, cards_of};
 ghost use Rattle.driver_desk.specs.Rounds.{paths_of, AreApart, AreReady, GrowsLate};
 ghost use Rattle.driver_desk.specs.Serving.{Given};
-ghost use Rattle.driver_desk.specs.Progress.{AreClosings, GotContent, NoAnswer, Serves, newest, IsAskable};
+ghost use Rattle.driver_desk.specs.Progress.{AreClosings, EndsPut, IsBare, Serves, newest, IsAskable};
 ghost use Rattle.driver_desk.specs.Progress.{late_after, is_abort};
 ghost use Rattle.driver_desk.specs.Works.{WorkSeen, ReadsAs, FitsWork, asked_of};
 ghost use Rattle.checkout_core.specs.Conditions.{heard_opening};
@@ -71,7 +72,7 @@ pub(crate) fn close_late<B: Blob, L: Leaf, C: Recorder<B, L>>(
     ensures fixed { C.fixed recorder.new ≡ C.fixed recorder.old }
     ensures sound { C.sound recorder.new }
     ensures read { AddsRead (C.given recorder.old) (C.given recorder.new) }
-    ensures closed { AreClosings NoAnswer (C.given recorder.old) (C.given recorder.new) }
+    ensures closed { AreClosings IsBare (C.given recorder.old) (C.given recorder.new) }
     ensures none { cards_of late.new ≡ [] }
     ensures names { KeepsNames late.old late.new }
     ensures idle { (q : ℕ) → AreIdle q late.old → AreIdle q late.new }
@@ -228,7 +229,7 @@ fn after_reply<B: Blob, L: Leaf, C: Recorder<B, L>>(
         (cards_of late.new) }
     ensures late { newest (paths_of (cards_of late.new))
         ≡ late_after work.card.path asked.reply (newest (paths_of (cards_of late.old))) }
-    ensures closed { AreClosings (GotContent asked.reply asked.put work.card.path (L.seen work.card.leaf).content)
+    ensures closed { AreClosings (EndsPut asked.reply asked.put work.card.path (L.seen work.card.leaf).content)
         (C.given recorder.old) (C.given recorder.new) }
     ensures names { KeepsNames late.old late.new }
     ensures idle { AreIdle (place + 1) late.new }
@@ -329,10 +330,11 @@ fn not_opened<B: Blob, L: Leaf, C: Recorder<B, L>>(
     requires sound { C.sound recorder.old }
     requires asked { IsAskedCard (C.standing recorder.old) (card_seen B.told B.seen L.seen work.card) work.unencoded
         (Ok tt) }
+    requires bare { Tells (L.seen work.card.leaf).content [] }
     requires required { (C.standing recorder.old).required ≡ required }
     requires may { MayEnd (C.standing recorder.old) (C.given recorder.old) work.card.path (heard_opening cause) }
     ensures ends { IsEnd (C.standing recorder.old) (C.given recorder.old) work.card.path (C.given recorder.new) }
-    ensures closed { AreClosings NoAnswer (C.given recorder.old) (C.given recorder.new) }
+    ensures closed { AreClosings IsBare (C.given recorder.old) (C.given recorder.new) }
     ensures standing { C.standing recorder.new ≡ C.standing recorder.old }
     ensures fixed { C.fixed recorder.new ≡ C.fixed recorder.old }
     ensures sound { C.sound recorder.new }

@@ -20,7 +20,7 @@ use Rattle.edge_kit.specs.declared.faults.SendFault.{SendFault}
 use Rattle.filter_proto.specs.Wires.{Wire}
 use Rattle.filter_proto.specs.Exchanges.{Ends, Good, Broke, OutOfMemory, Stops, Unsent, IsExchange}
 use Rattle.edge_kit.specs.Seen.{LeafSeen}
-use Rattle.filter_proto.specs.Replies.{IsKept, EndPut, TouchesNot, reply_end}
+use Rattle.filter_proto.specs.Replies.{IsFrontPut, IsKept, EndPut, TouchesNot, reply_end}
 use Rattle.checkout_core.specs.Conditions.{is_path_break}
 use Rattle.driver_line.specs.Lines.{LineView, Paths, Says, After, IsEnded, IsLeafAfter, MayReply, HasAnswered, GoesOn}
 use Rattle.driver_line.specs.Conversations.{First, Second}
@@ -138,11 +138,16 @@ asked_may d text old new r extra h = may_reply d r (may_come d text old new (rep
 -- the content of an exchange, and what the leaf has of it
 kept_end : (d : Bool) (old new : LeafSeen) (put : Result ⊤ SendFault) (end : Ends GoodReply) (ps : List Packet) → EndPut d old new put end ps → IsKept old new put
 kept_end d old new put (Good g) ps h = record { path = h.path; told = h.told; usable = h.usable; broken = h.broken }
-kept_end d old new put (Broke c) ps h = h
-kept_end d old new put OutOfMemory ps h = h
+kept_end d old new put (Broke c) ps h = h.0
+kept_end d old new put OutOfMemory ps h = h.0
+
+front_end : (d : Bool) (old new : LeafSeen) (put : Result ⊤ SendFault) (end : Ends GoodReply) (ps : List Packet) → EndPut d old new put end ps → IsFrontPut old new (content_in d reply_start ps)
+front_end d old new put (Good g) ps h = h.part
+front_end d old new put (Broke c) ps h = h.1
+front_end d old new put OutOfMemory ps h = h.1
 
 leaf_after : (d : Bool) (old new : LeafSeen) (put : Result ⊤ SendFault) (r : Reply) (ps : List Packet) → EndPut d old new put (reply_end r) ps → TouchesNot r old new put → IsLeafAfter old new put r (content_in d reply_start ps)
-leaf_after d old new put r ps h t = record { kept = kept_end d old new put (reply_end r) ps h; touches = t; holds = λ e. (subst (λ (x : Reply). EndPut d old new put (reply_end x) ps) e h).holds }
+leaf_after d old new put r ps h t = record { kept = kept_end d old new put (reply_end r) ps h; part = front_end d old new put (reply_end r) ps h; touches = t; holds = λ e. (subst (λ (x : Reply). EndPut d old new put (reply_end x) ps) e h).holds }
 
 pub with_content : (d : Bool) (text : List ℕ) (s t : Wire) (old new : LeafSeen) (put : Result ⊤ SendFault) (r : Reply) → IsExchange (reply_step d) reply_start text s t (reply_end r) (EndPut d old new put (reply_end r)) → TouchesNot r old new put → HasAnswered d text s t old new put r
 with_content d text s t old new put r (inl u) k = record {

@@ -19,10 +19,10 @@ use Rattle.filter_proto.specs.Wires.{SessionSeen}
 use Rattle.driver_line.specs.Conversations.{Exchange, NoStart, NoRoom, Opening, First, Listing, Second, Shutting}
 use Rattle.driver_line.specs.Lines.{LineView, Paths, RunsTo, IsEnded, IsFresh, IsOpenedLine, started}
 use Rattle.edge_kit.specs.Links.{is_shut}
-use Rattle.driver_line.proofs.Failed.{opening_counts, opening_stage}
-use Rattle.driver_line.specs.Transcripts.{AllFit, is_fine, all_fine, IsOpenedSession, IsSession, HasItems}
+use Rattle.driver_line.proofs.Failed.{opening_counts, opening_one, opening_stage}
+use Rattle.driver_line.specs.Transcripts.{AllFit, HasOneCount, is_fine, all_fine, IsOpenedSession, IsSession, HasItems}
 use Rattle.driver_line.proofs.Spoken.{SpokenFrom, stops_good}
-use Rattle.driver_line.proofs.Effects.{Goes, effect}
+use Rattle.driver_line.proofs.Effects.{Goes, IsQuiet, effect, stops_still}
 
 -- the rest of an open session, and the run after it
 pub record RestOf (paths : Paths) (s : SessionSeen) (v : LineView) (es : List Exchange) (w : LineView) : Type 0 where
@@ -35,6 +35,7 @@ pub record RestOf (paths : Paths) (s : SessionSeen) (v : LineView) (es : List Ex
   pub had : mid.starter.had ≡ v.starter.had ++ Session seen ∷ []
   pub spoken : SpokenFrom paths s.caps s.wire own seen
   pub counts : AllFit seen own
+  pub one : HasOneCount seen
   pub shut : seen.shut ≡ all_fine own
   pub runs : RunsTo paths mid rest w
   pub shorter : length rest + 1 ≤ length es
@@ -47,11 +48,11 @@ and_true true = refl
 and_true false = refl
 
 -- while a session is open
-pub rest_of : (paths : Paths) (s : SessionSeen) (v w : LineView) (es : List Exchange) → v.session ≡ Some s → s.wire.stage ≡ Open → w.session ≡ None → RunsTo paths v es w → RestOf paths s v es w
-rest_of paths s v w [] is st none r = absurd (cc (sym is ∙ (ap (λ (x : LineView). x.session) r ∙ none)))
-rest_of paths s v w (e ∷ es) is st none r =
-    elim (effect paths v r.0 s e is st r.1) [
-      | inl g ↦ more g (rest_of paths g.next r.0 w es g.open_is g.stage none r.2)
+pub rest_of : (paths : Paths) (s : SessionSeen) (v w : LineView) (es : List Exchange) → v.session ≡ Some s → s.wire.stage ≡ Open → IsQuiet s.wire → w.session ≡ None → RunsTo paths v es w → RestOf paths s v es w
+rest_of paths s v w [] is st q none r = absurd (cc (sym is ∙ (ap (λ (x : LineView). x.session) r ∙ none)))
+rest_of paths s v w (e ∷ es) is st q none r =
+    elim (effect paths v r.0 s e is st q r.1) [
+      | inl g ↦ more g (rest_of paths g.next r.0 w es g.open_is g.stage g.quiet none r.2)
       | inr f ↦ record {
         own = e ∷ [];
         rest = es;
@@ -62,6 +63,7 @@ rest_of paths s v w (e ∷ es) is st none r =
         had = f.had;
         spoken = f.spoken;
         counts = (f.counts, tt);
+        one = f.one;
         shut = f.shut ∙ sym (and_true (is_fine e));
         runs = r.2;
         shorter = omega arith;
@@ -79,6 +81,7 @@ rest_of paths s v w (e ∷ es) is st none r =
       had = h.had ∙ ap (λ (x : StarterSeen). x.had ++ Session h.seen ∷ []) g.starter;
       spoken = g.spoken h.own h.seen (subst (λ (k : Caps). SpokenFrom paths k g.next.wire h.own h.seen) g.caps h.spoken);
       counts = (g.counts h.seen, h.counts);
+      one = h.one;
       shut = h.shut ∙ sym (true_and (is_fine e) (all_fine h.own) g.fine);
       runs = h.runs;
       shorter = let le = h.shorter in omega (arith, le);
@@ -95,8 +98,8 @@ opened_of start last caps (inr (inr (inl u))) = absurd u.unsent.why
 opened_of start last caps (inr (inr (inr o))) = o
 
 -- an open session from its opening on
-opened_session : (paths : Paths) (start wire : Wire) (caps : Caps) (es : List Exchange) (seen : SessionHad) → IsFresh start → IsOpened start wire (Good caps) → SpokenFrom paths caps wire es seen → AllFit seen es → seen.shut ≡ all_fine es → IsOpenedSession paths caps es seen
-opened_session paths start wire caps es seen fresh o h counts shut = record {
+opened_session : (paths : Paths) (start wire : Wire) (caps : Caps) (es : List Exchange) (seen : SessionHad) → IsFresh start → IsOpened start wire (Good caps) → SpokenFrom paths caps wire es seen → AllFit seen es → HasOneCount seen → seen.shut ≡ all_fine es → IsOpenedSession paths caps es seen
+opened_session paths start wire caps es seen fresh o h counts one shut = record {
   sent = (hello_text ++ caps_text) ++ h.more;
   taken = o.heard.took.came ++ h.came;
   sent_is = subst (λ (x : Option (List ℕ)). Tells x ((hello_text ++ caps_text) ++ h.more))
@@ -113,6 +116,7 @@ opened_session paths start wire caps es seen fresh o h counts shut = record {
   opened = record { packets = o.heard.packets; spelled = o.heard.spelled; stops = stops_good (outcome handshake_step limit handshake_start o.heard.packets) start wire caps (wire.unread ++ h.came) o.heard.stops; done = o.heard.done };
   spoken = h.spoken;
   counts = counts;
+  one = one;
   shut = shut;
 }
 
@@ -146,7 +150,8 @@ items_of paths (suc n) v w (Opening p (Broke c) ∷ es) le none ended r =
         opening = r.1.2.opening;
         sent = k.sent;
         taken = k.taken;
-        counts = opening_counts r.1.0 r.1.1 (Broke c) k.seen r.1.2.opening k.faults k.ends;
+        counts = opening_counts r.1.0 r.1.1 (Broke c) k.seen r.1.2.opening (r.1.2.fresh.faults, r.1.2.fresh.ends) k.faults k.ends;
+        one = opening_one r.1.0 r.1.1 (Broke c) k.seen r.1.2.opening (r.1.2.fresh.faults, r.1.2.fresh.ends) k.faults k.ends;
         shut = k.shut ∙ ap is_shut (opening_stage r.1.0 r.1.1 (Broke c) r.1.2.opening ∙ r.1.2.fresh.stage);
       },
     )
@@ -162,7 +167,8 @@ items_of paths (suc n) v w (Opening p OutOfMemory ∷ es) le none ended r =
         opening = r.1.2.opening;
         sent = k.sent;
         taken = k.taken;
-        counts = opening_counts r.1.0 r.1.1 OutOfMemory k.seen r.1.2.opening k.faults k.ends;
+        counts = opening_counts r.1.0 r.1.1 OutOfMemory k.seen r.1.2.opening (r.1.2.fresh.faults, r.1.2.fresh.ends) k.faults k.ends;
+        one = opening_one r.1.0 r.1.1 OutOfMemory k.seen r.1.2.opening (r.1.2.fresh.faults, r.1.2.fresh.ends) k.faults k.ends;
         shut = k.shut ∙ ap is_shut (opening_stage r.1.0 r.1.1 OutOfMemory r.1.2.opening ∙ r.1.2.fresh.stage);
       },
     )
@@ -171,7 +177,8 @@ items_of paths (suc n) v w (Opening p (Good caps) ∷ es) le none ended r =
     let s = r.1.0 in
     let line = r.1.2 in
     let o = opened_of r.1.1 s.wire caps line.opening in
-    let k = rest_of paths s r.0 w es (ap (λ (x : LineView). x.session) r.1.5) (o.stage ∙ line.fresh.stage) ended r.2 in
+    let still = stops_still (outcome handshake_step limit handshake_start o.heard.packets) r.1.1 s.wire caps o.heard.stops in
+    let k = rest_of paths s r.0 w es (ap (λ (x : LineView). x.session) r.1.5) (o.stage ∙ line.fresh.stage) (still.0 ∙ line.fresh.faults, still.1 ∙ line.fresh.ends) ended r.2 in
     let short = k.shorter in
     let h = items_of paths n k.mid w k.rest (omega (arith, le, short)) k.none ended k.runs in
     record {
@@ -183,7 +190,7 @@ items_of paths (suc n) v w (Opening p (Good caps) ∷ es) le none ended r =
         k.own,
         k.rest,
         ap (λ (x : List Exchange). Opening p (Good caps) ∷ x) k.split,
-        opened_session paths r.1.1 s.wire caps k.own k.seen line.fresh o (subst (λ (c : Caps). SpokenFrom paths c s.wire k.own k.seen) r.1.3 k.spoken) k.counts k.shut,
+        opened_session paths r.1.1 s.wire caps k.own k.seen line.fresh o (subst (λ (c : Caps). SpokenFrom paths c s.wire k.own k.seen) r.1.3 k.spoken) k.counts k.one k.shut,
         h.matches,
       );
     }

@@ -96,9 +96,6 @@ opening_may old new why (inr (inl r)) = heard_may old new why _ r.heard
 opening_may old new why (inr (inr (inl u))) = unsent_may u.mid new why u.unsent.why
 opening_may old new why (inr (inr (inr o))) = heard_may old new why _ o.heard
 
-pub reflexive : (n : ℕ) → n ≤ n
-reflexive n = omega arith
-
 pub opening_caps : (a b : Wire) (k l : Caps) → k ≡ l → IsOpening a b (Good l) → IsOpening a b (Good k)
 opening_caps a b k l e h = subst (λ (c : Caps). IsOpening a b (Good c)) (sym e) h
 
@@ -146,7 +143,7 @@ failed_says old from mid last link back unread o end none gone same st open_ out
         sent = refl;
         taken = refl;
         ends = refl;
-        faults = reflexive back.faults;
+        faults = refl;
         shut = refl;
       },
     )

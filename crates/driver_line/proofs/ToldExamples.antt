@@ -54,7 +54,8 @@ failed = record {
   opening = ends_at_once;
   sent = refl;
   taken = refl;
-  counts = omega arith;
+  counts = (omega arith, refl);
+  one = inr refl;
   shut = refl;
 }
 

@@ -1,6 +1,6 @@
 -- A line to a driver: what came of its starts, and the session that is open, if one is. What each exchange does to
 -- it.
-use Rattle.std.specs.Prelude.{◌≡◌, ◌⊎◌, ℕ, ◌+◌, ◌≤◌, Bool, true, false, Option, Some, None, List, [], ◌∷◌, ◌++◌, map}
+use Rattle.std.specs.Prelude.{◌≡◌, ◌⊎◌, ℕ, ◌+◌, Bool, true, false, Option, Some, None, List, [], ◌∷◌, ◌++◌, map}
 use Rattle.pkt_line.specs.Packets.{Packet}
 use Rattle.filter_words.specs.SmudgeReply.{reply_step, reply_start, content_in}
 use Rattle.filter_words.specs.Listing.{GoodList, Listed, Aborted, list_step, list_start}
@@ -17,7 +17,7 @@ use Rattle.filter_proto.specs.Wires.{Wire}
 use Rattle.filter_proto.specs.Exchanges.{Ends, Good, Broke, OutOfMemory, IsExchange}
 use Rattle.filter_proto.specs.Wires.{SessionSeen}
 use Rattle.filter_proto.specs.Replies.{reply_end, standing_after}
-use Rattle.filter_proto.specs.Wires.{shut_after}
+use Rattle.filter_proto.specs.Wires.{shut_after, ShutsQuietly}
 use Rattle.filter_proto.specs.Openings.{IsOpening}
 use Rattle.filter_proto.specs.declared.session.Standing.{Standing}
 use Rattle.filter_proto.specs.declared.session.Standing.TheVariants as standing
@@ -27,7 +27,7 @@ use Rattle.edge_kit.specs.Files.{grown}
 use Rattle.edge_kit.specs.declared.faults.SendFault.{SendFault}
 use Rattle.filter_words.specs.declared.reply.Reply.TheVariants as reply
 use Rattle.edge_kit.specs.Seen.{LeafSeen}
-use Rattle.filter_proto.specs.Replies.{IsKept, TouchesNot}
+use Rattle.filter_proto.specs.Replies.{IsFrontPut, IsKept, TouchesNot}
 use Rattle.checkout_core.specs.Conditions.{is_path_break}
 use Rattle.checkout_core.specs.declared.event.OpenCause.TheVariants as opening
 use Rattle.std.specs.Prelude.{slice_get, slice_index_or}
@@ -65,7 +65,7 @@ pub record IsEnded (old : StarterSeen) (last : Wire) (how : Standing) (new : Lin
   pub sent : seen.sent ≡ last.sent
   pub taken : seen.taken ≡ last.taken
   pub ends : seen.ends ≡ last.ends
-  pub faults : last.faults ≤ seen.faults
+  pub faults : ShutsQuietly how last.faults seen.faults
   pub shut : seen.shut ≡ is_shut (shut_after how last.stage)
 
 -- the session goes on, or is over
@@ -163,6 +163,7 @@ IsOpen (Some s) = (s.standing ≡ standing.Live) × (s.caps.smudge ≡ true)
 pub record IsLeafAfter (old new : LeafSeen) (put : Result ⊤ SendFault) (r : Reply) (content : List ℕ) : Type 0 where
   pub kept : IsKept old new put
   pub holds : r ≡ reply.Content → put ≡ Ok tt → new.content ≡ grown old.content content
+  pub part : IsFrontPut old new content
   pub touches : TouchesNot r old new put
 
 -- the replies that a request may have

@@ -99,11 +99,16 @@ Spoken paths caps (e ∷ es) sent taken =
     ⊎ ((more used later : List ℕ) × (sent ≡ request_of paths caps e ++ more) × (taken ≡ used ++ later)
     × AnswerIs paths caps e used later × Spoken paths caps es more later)
 
--- a fault of the link stands only where the count of faults rose, and an end only where the count of ends did
+-- a fault of the link stands only where the count of faults rose alone, and an end only where the count of ends did
 abbrev pub FitsCounts : SessionHad → Option BreakCause → Type 0
-FitsCounts seen (Some cause.LinkFault) = 0 < seen.faults
-FitsCounts seen (Some cause.Ended) = 0 < seen.ends
+FitsCounts seen (Some cause.LinkFault) = (0 < seen.faults) × (seen.ends ≡ 0)
+FitsCounts seen (Some cause.Ended) = (0 < seen.ends) × (seen.faults ≡ 0)
 FitsCounts seen why = Unit {0}
+
+-- A session has at most one of its two counts above 0: it ended at the first end of input or fault that an exchange
+-- met. A fault while it was shut counts too, and such a session met neither.
+abbrev pub HasOneCount : SessionHad → Type 0
+HasOneCount seen = (seen.ends ≡ 0) ⊎ (seen.faults ≡ 0)
 
 abbrev pub AllFit : SessionHad → List Exchange → Type 0
 AllFit seen [] = Unit {0}
@@ -135,6 +140,7 @@ pub record IsOpenedSession (paths : Paths) (caps : Caps) (es : List Exchange) (s
   pub opened : IsPart handshake_step handshake_start used later (Good caps) BeginsHello
   pub spoken : Spoken paths caps es more later
   pub counts : AllFit seen es
+  pub one : HasOneCount seen
   pub shut : seen.shut ≡ all_fine es
 
 -- with what cause an opening failed, if it broke
@@ -152,6 +158,7 @@ pub record IsFailedSession (end : Ends Caps) (seen : SessionHad) : Type 0 where
   pub sent : seen.sent ≡ last.sent
   pub taken : seen.taken ≡ last.taken
   pub counts : FitsCounts seen (break_in end)
+  pub one : HasOneCount seen
   pub shut : seen.shut ≡ false
 
 abbrev pub IsSession : Paths → Ends Caps → List Exchange → SessionHad → Type 0

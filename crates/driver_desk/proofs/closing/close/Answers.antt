@@ -12,7 +12,7 @@ pub returns-clause-ends : goal.returns-clause-ends
 returns-clause-ends g c = record { last = Closed c.args.own _; more = c.close.ensures.given; path = refl; may = c.requires.next; shows = c.requires.shows }
 
 pub returns-clause-closed : goal.returns-clause-closed
-returns-clause-closed g c = (Closed c.args.own _ ∷ [], c.close.ensures.given, refl, ((λ m e. (refl, refl, m, e)), tt))
+returns-clause-closed g c = (Closed c.args.own _ ∷ [], c.close.ensures.given, refl, ((refl, refl), tt))
 
 pub returns-clause-one : goal.returns-clause-one
 returns-clause-one g c = (_, refl, c.close.ensures.given)

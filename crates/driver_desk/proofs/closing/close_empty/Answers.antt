@@ -1,5 +1,6 @@
 use Rattle.driver_desk.proofs.Serves.{closed_as}
-use Rattle.driver_desk.proofs.Closings.{gone_sealed, closes_read, may_drop, shows_none}
+use Rattle.driver_desk.proofs.LeafEnds.{ends_unsealed}
+use Rattle.driver_desk.proofs.Closings.{closes_read, may_drop, shows_none}
 use Rattle.driver_desk.proofs.Ties.{adds_closed}
 use Rattle.driver_desk.proofs.closing.close_empty.Goals as goal
 
@@ -17,7 +18,7 @@ close-requires g c =
     }
 
 pub returns-clause-closed : goal.returns-clause-closed
-returns-clause-closed g c = closed_as _ _ _ _ (λ q told k. gone_sealed _ k.2 c.drop_leaf-own.ensures.gone k.3) c.close.ensures.closed
+returns-clause-closed g c = closed_as _ _ _ _ (ends_unsealed _ _ _ c.drop_leaf-own.ensures.gone c.drop_leaf-own.ensures.stuck) c.close.ensures.closed
 
 pub returns-clause-read : goal.returns-clause-read
 returns-clause-read g c = adds_closed _ _ _ _ c.drop_leaf-own.ensures.read c.close.ensures.one

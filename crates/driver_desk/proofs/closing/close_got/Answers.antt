@@ -1,7 +1,8 @@
 use Rattle.checkout_core.specs.declared.path.Heard.TheVariants.{Got}
-use Rattle.std.proofs.Common.{◌∙◌}
+use Rattle.std.proofs.Common.{refl}
 use Rattle.driver_desk.proofs.Serves.{closed_as}
 use Rattle.driver_desk.proofs.Closings.{closes_read, may_got}
+use Rattle.driver_desk.proofs.LeafEnds.{ends_got}
 use Rattle.driver_desk.proofs.Ties.{adds_closed}
 use Rattle.driver_desk.proofs.closing.close_got.Goals as goal
 
@@ -16,7 +17,7 @@ close-requires g c = record {
 }
 
 pub returns-clause-closed : goal.returns-clause-closed
-returns-clause-closed g c = closed_as _ _ _ _ (λ q told k. let w = c.seal_leaf-own.ensures.sealed k.2 k.3 in (w.0, k.0, k.1 ∙ w.1)) c.close.ensures.closed
+returns-clause-closed g c = closed_as _ _ _ _ (ends_got _ _ _ _ c.seal_leaf-own.ensures.sealed c.seal_leaf-own.ensures.stuck _ refl) c.close.ensures.closed
 
 pub returns-clause-read : goal.returns-clause-read
 returns-clause-read g c = adds_closed _ _ _ _ c.seal_leaf-own.ensures.read c.close.ensures.one

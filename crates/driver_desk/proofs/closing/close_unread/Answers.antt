@@ -1,5 +1,8 @@
 use Rattle.driver_desk.proofs.Serves.{closed_as}
-use Rattle.driver_desk.proofs.Closings.{unused_sealed, closes_unread}
+use Rattle.std.proofs.Common.{List, ℕ, Option, [], ap, subst, sym, ◌∙◌}
+use Rattle.edge_kit.specs.Seen.{LeafSeen}
+use Rattle.edge_kit.specs.Told.{Tells}
+use Rattle.driver_desk.proofs.Closings.{unused_sealed, unread_bare, closes_unread}
 use Rattle.driver_desk.proofs.closing.close_unread.Goals as goal
 
 pub close-requires-clause-shows : goal.close-requires-clause-shows
@@ -8,7 +11,12 @@ close-requires-clause-shows g c =
 
 pub returns-clause-closed : goal.returns-clause-closed
 returns-clause-closed g c = closed_as _ _ _ _
-    (λ q told k. unused_sealed _ _ _ k.2 c.requires.leaf c.leave_unread.ensures.shows k.3) c.close.ensures.closed
+    (λ q leaf k. (
+      (λ m e. unused_sealed _ _ _ m c.requires.leaf c.leave_unread.ensures.shows (sym (ap (λ (x : LeafSeen). x.state) k.1) ∙ e)),
+      (λ e. subst (λ (o : Option (List ℕ)). Tells o [])
+          (sym (ap (λ (x : LeafSeen). x.content) k.1 ∙ c.leave_unread.ensures.stuck (sym (ap (λ (x : LeafSeen). x.state) k.1) ∙ e)))
+          (unread_bare _ _ _ c.requires.unread)),
+    )) c.close.ensures.closed
 
 pub returns-clause-ends : goal.returns-clause-ends
 returns-clause-ends g c = c.close.ensures.ends

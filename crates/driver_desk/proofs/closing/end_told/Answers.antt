@@ -1,7 +1,9 @@
-use Rattle.std.proofs.Common.{ap}
+use Rattle.std.proofs.Common.{ap, subst, sym}
+use Rattle.filter_words.specs.declared.reply.Reply.{Reply}
+use Rattle.driver_desk.specs.Progress.{AreClosings, EndsPut}
 use Rattle.checkout_core.specs.declared.path.Heard.TheVariants as heard
 use Rattle.checkout_core.specs.Fates.{fate_here}
-use Rattle.driver_desk.proofs.Serves.{closed_as, closed_none}
+use Rattle.driver_desk.proofs.Serves.{closed_unsealed}
 use Rattle.driver_desk.proofs.Calls.{may_refused, may_empty}
 use Rattle.driver_desk.proofs.closing.end_told.Goals as goal
 
@@ -20,13 +22,14 @@ pub close_empty-requires-clause-may : goal.close_empty-requires-clause-may
 close_empty-requires-clause-may g c = may_empty _ _ c.args.work.card.path c.args.reply c.args.put c.in-Delayed.is c.requires.told c.requires.may
 
 pub returns-in-Content-clause-closed : goal.returns-in-Content-clause-closed
-returns-in-Content-clause-closed g c = closed_as _ _ _ _ (λ q told k. (c.in-Content.is, k.0, k.1, k.2)) c.close_got.ensures.closed
+returns-in-Content-clause-closed g c =
+    subst (λ (r : Reply). AreClosings (EndsPut r c.args.put c.args.work.card.path (g.L.Leaf.seen c.args.work.card.leaf).content) (g.C.Recorder.given c.args.recorder.now) (g.C.Recorder.given c.close_got.new.recorder)) (sym c.in-Content.is) c.close_got.ensures.closed
 
 pub returns-in-Error-clause-closed : goal.returns-in-Error-clause-closed
-returns-in-Error-clause-closed g c = closed_none _ _ _ c.refuse.ensures.closed
+returns-in-Error-clause-closed g c = closed_unsealed _ _ _ _ _ _ c.refuse.ensures.closed
 
 pub returns-in-Delayed-clause-closed : goal.returns-in-Delayed-clause-closed
-returns-in-Delayed-clause-closed g c = closed_none _ _ _ c.close_empty.ensures.closed
+returns-in-Delayed-clause-closed g c = closed_unsealed _ _ _ _ _ _ c.close_empty.ensures.closed
 
 pub close_got-requires-clause-sound : goal.close_got-requires-clause-sound
 close_got-requires-clause-sound g c = c.requires.sound

@@ -4,7 +4,8 @@ use Rattle.checkout_core.specs.Desks.{was_read}
 use Rattle.checkout_core.specs.declared.path.Heard.TheVariants.{Refused}
 use Rattle.driver_desk.specs.Serving.{HandedBack}
 use Rattle.driver_desk.proofs.Serves.{closed_as}
-use Rattle.driver_desk.proofs.Closings.{gone_sealed, closes_read, may_failed, refused_one, rose_kept}
+use Rattle.driver_desk.proofs.LeafEnds.{ends_unsealed}
+use Rattle.driver_desk.proofs.Closings.{closes_read, may_failed, refused_one, rose_kept}
 use Rattle.driver_desk.proofs.Ties.{adds_closed}
 use Rattle.driver_desk.proofs.closing.hand_back.Goals as goal
 
@@ -44,7 +45,7 @@ pub returns-in-Ok-clause-closed : goal.returns-in-Ok-clause-closed
 returns-in-Ok-clause-closed g c = (HandedBack _ ∷ [], c.hand_back.ensures.given, refl, (tt, tt))
 
 pub returns-in-Err-clause-closed : goal.returns-in-Err-clause-closed
-returns-in-Err-clause-closed g c = closed_as _ _ _ _ (λ q told k. gone_sealed _ k.2 c.write_failed-own.ensures.gone k.3) c.close.ensures.closed
+returns-in-Err-clause-closed g c = closed_as _ _ _ _ (ends_unsealed _ _ _ c.write_failed-own.ensures.gone (λ e. c.write_failed-own.ensures.stuck e ∙ ap (λ (l : LeafSeen). l.content) c.in-Err.ensures.kept)) c.close.ensures.closed
 
 pub returns-in-Ok-clause-read : goal.returns-in-Ok-clause-read
 returns-in-Ok-clause-read g c = (HandedBack _ ∷ [], c.hand_back.ensures.given, (tt, tt))

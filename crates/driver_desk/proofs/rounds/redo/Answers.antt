@@ -1,7 +1,8 @@
 use Rattle.std.proofs.Common.{refl, sym, subst, ◌∙◌, ◌≤◌, ℕ, List, Option, length, ap}
 use Rattle.convert_plan.specs.Card.{card_seen}
 use Rattle.edge_kit.specs.Told.{Tells}
-use Rattle.driver_desk.proofs.Closings.{read_fresh, read_some, read_few, asked_again, got_told}
+use Rattle.driver_desk.proofs.Closings.{read_fresh, read_some, read_few, asked_again, read_bare}
+use Rattle.driver_desk.proofs.LeafEnds.{asked_put}
 use Rattle.driver_desk.proofs.Serves.{closed_as}
 use Rattle.driver_desk.proofs.RoundSteps.{redone, open_live, next_after}
 use Rattle.driver_desk.proofs.Places.{own_driver}
@@ -52,7 +53,7 @@ returns-clause-rounds g c paths line0 given0 asked turns cards left text gone h 
     let s = c.ask_again-reply.ensures.says c.args.work.card.path in
     redone c.args.seat.driver paths line0 given0 asked c.args.line.now c.ask_again-reply.new.self _ _ _ cards left c.args.work.card.path turns c.args.line.now.session c.ask_again-reply.new.self.session c.ask_again-reply.result.reply s.0
     (open_live c.args.line.now.session c.requires.open) h c.ask_again-reply.ensures.may (s.1 paths (text ∙ sym c.as_slice.ensures)) c.ask_again-reply.ensures.goes c.note.ensures.given
-    (closed_as _ _ _ _ (λ q told k. (k.0, k.2, subst (λ (o : Option (List ℕ)). Tells o s.0) (sym k.3) (got_told _ (card_seen g.B.Blob.told g.B.Blob.seen g.L.Leaf.seen c.args.work.card) _ (g.L.Leaf.seen c.ask_again-reply.new.leaf) s.0 c.requires.read (s.2.holds k.0 k.1)))) c.end_told.ensures.closed) gone
+    (closed_as _ _ _ _ (asked_put _ _ c.args.work.card.path _ _ (g.L.Leaf.seen c.args.work.card.leaf) (g.L.Leaf.seen c.ask_again-reply.new.leaf) s.0 refl refl (read_bare (g.C.Recorder.standing c.args.recorder.now) (card_seen g.B.Blob.told g.B.Blob.seen g.L.Leaf.seen c.args.work.card) _ c.requires.read) s.2) c.end_told.ensures.closed) gone
 
 pub returns-clause-next : goal.returns-clause-next
 returns-clause-next g c = next_after c.args.line.now.session c.ask_again-reply.new.self.session c.ask_again-reply.result.reply c.requires.open c.ask_again-reply.ensures.goes

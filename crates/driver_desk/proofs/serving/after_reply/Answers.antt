@@ -4,7 +4,7 @@ use Rattle.filter_words.specs.declared.reply.Reply.{Reply}
 use Rattle.driver_desk.specs.Rounds.{LateSeen, late_seen, paths_of}
 use Rattle.driver_desk.specs.Late.{cards_of}
 use Rattle.driver_desk.specs.Progress.{newest, late_after}
-use Rattle.driver_desk.proofs.Serves.{closed_all, closed_none, no_closing, newest_card}
+use Rattle.driver_desk.proofs.Serves.{closed_all, closed_bare, no_closing, newest_card}
 use Rattle.driver_desk.proofs.LateCards.{idle_next, idle_more}
 use Rattle.driver_desk.proofs.Calls.{here_told, over_told, still_late, over_none, answered_ends, answered_waits, answered_lost, at_as, at_none, lost_as}
 use Rattle.driver_desk.proofs.Ties.{adds_both, adds_none}
@@ -72,7 +72,7 @@ pub returns-in-Abort-clause-idle : goal.returns-in-Abort-clause-idle
 returns-in-Abort-clause-idle g c = c.close_late.ensures.idle _ (idle_more c.args.late.now c.args.place c.requires.idle)
 
 pub returns-in-Abort-clause-closed : goal.returns-in-Abort-clause-closed
-returns-in-Abort-clause-closed g c = closed_all _ _ _ _ c.end_told-in-Abort.ensures.closed (closed_none _ _ _ c.close_late.ensures.closed)
+returns-in-Abort-clause-closed g c = closed_all _ _ _ _ c.end_told-in-Abort.ensures.closed (closed_bare _ _ _ _ _ _ c.close_late.ensures.closed)
 
 pub returns-in-Abort-clause-read : goal.returns-in-Abort-clause-read
 returns-in-Abort-clause-read g c = adds_both _ _ _ c.end_told-in-Abort.ensures.read c.close_late.ensures.read

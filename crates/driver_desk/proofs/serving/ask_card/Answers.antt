@@ -2,7 +2,8 @@ use Rattle.std.proofs.Common.{ap, sym, subst, ◌∙◌, ◌≤◌, ℕ, List, l
 use Rattle.convert_plan.specs.Card.{CardSeen, card_seen}
 use Rattle.edge_kit.specs.Told.{Tells}
 use Rattle.driver_desk.proofs.RoundSteps.{ready_as}
-use Rattle.driver_desk.proofs.Closings.{asked_of, read_again, grows_as, planned_told}
+use Rattle.driver_desk.proofs.Closings.{asked_of, read_again, grows_as, planned_bare}
+use Rattle.driver_desk.proofs.LeafEnds.{asked_put}
 use Rattle.driver_desk.specs.Rounds.{paths_of}
 use Rattle.driver_desk.specs.Late.{cards_of}
 use Rattle.driver_desk.specs.Progress.{newest, late_after}
@@ -72,7 +73,7 @@ returns-clause-serves g c paths line0 given0 asked e i h =
     let s = c.ask-asked.ensures.says c.args.placed.card.path in
     asked_card c.args.service.now.seat.driver paths line0 given0 asked c.args.placed.card.path c.args.line.now c.ask-asked.new.self _ (g.C.Recorder.given c.note.new.self) _ _ _ c.ask-asked.result.reply s.0 _ c.requires.open c.ask-asked.ensures.may c.ask-asked.ensures.goes
     (s.1 paths (e ∙ sym c.as_slice.ensures) (i ∙ sym c.as_slice-2.ensures)) c.note.ensures.given
-    (closed_as _ _ _ _ (λ q told k. (k.0, k.2 ∙ c.keep_ready-work.ensures.path, subst (λ (o : Option (List ℕ)). Tells o s.0) (sym (k.3 ∙ ap (λ (x : CardSeen). x.leaf.content) c.keep_ready-work.ensures.card)) (planned_told (g.C.Recorder.standing c.args.recorder.now) (card_seen g.B.Blob.told g.B.Blob.seen g.L.Leaf.seen c.args.placed.card) (g.L.Leaf.seen c.ask-asked.new.leaf) s.0 c.requires.planned (s.2.holds k.0 k.1)))) c.after_reply.ensures.closed)
+    (closed_as _ _ _ _ (asked_put _ _ c.args.placed.card.path _ _ (g.L.Leaf.seen c.args.placed.card.leaf) (g.L.Leaf.seen c.ask-asked.new.leaf) s.0 c.keep_ready-work.ensures.path (ap (λ (x : CardSeen). x.leaf.content) c.keep_ready-work.ensures.card) (planned_bare (g.C.Recorder.standing c.args.recorder.now) (card_seen g.B.Blob.told g.B.Blob.seen g.L.Leaf.seen c.args.placed.card) c.requires.planned) s.2) c.after_reply.ensures.closed)
     c.is_abort.ensures
     (c.after_reply.ensures.late ∙ ap (λ (p : ℕ). late_after p c.ask-asked.result.reply (newest (paths_of (cards_of c.args.late.now)))) c.keep_ready-work.ensures.path) h
 

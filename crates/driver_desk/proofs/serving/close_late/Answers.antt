@@ -1,9 +1,9 @@
 use Rattle.std.proofs.Common.{◌∙◌}
-use Rattle.driver_desk.proofs.Closings.{asked_read}
+use Rattle.driver_desk.proofs.Closings.{asked_read, read_bare}
 use Rattle.driver_desk.proofs.RoundSteps.{taken_ready}
-use Rattle.driver_desk.proofs.Serves.{closed_all}
+use Rattle.driver_desk.proofs.Serves.{closed_all, unsealed_bare}
 use Rattle.driver_desk.proofs.Calls.{lost_may, lost_ends, lost_as, lost_none}
-use Rattle.driver_desk.specs.Progress.{NoAnswer}
+use Rattle.driver_desk.specs.Progress.{IsBare}
 use Rattle.driver_desk.proofs.Ties.{adds_both}
 use Rattle.driver_desk.proofs.serving.close_late.Goals as goal
 
@@ -21,7 +21,7 @@ loop-work-preserved g c =
     record {
       ready = (taken_ready _ _ _ _ _ c.in-Some.ensures.next.1 h.ready).1;
       read = adds_both _ _ _ h.read c.close_empty.ensures.read;
-      closed = closed_all NoAnswer _ _ _ h.closed c.close_empty.ensures.closed;
+      closed = closed_all IsBare _ _ _ h.closed (unsealed_bare _ _ _ _ (read_bare _ _ _ (taken_ready _ _ _ _ _ c.in-Some.ensures.next.1 h.ready).0) c.close_empty.ensures.closed);
       names = (c.next_late.ensures.names.0 ∙ h.names.0, c.next_late.ensures.names.1 ∙ h.names.1);
       idle = λ q k. c.next_late.ensures.idle q (h.idle q k);
       turns = λ e. c.next_late.ensures.turns (h.turns e);

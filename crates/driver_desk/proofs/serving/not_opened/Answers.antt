@@ -1,3 +1,4 @@
+use Rattle.driver_desk.proofs.Serves.{unsealed_bare}
 use Rattle.driver_desk.proofs.Calls.{may_unopened, drop_unopened}
 use Rattle.driver_desk.proofs.serving.not_opened.Goals as goal
 
@@ -17,7 +18,7 @@ pub returns-in-NotStarted-clause-ends : goal.returns-in-NotStarted-clause-ends
 returns-in-NotStarted-clause-ends g c = c.refuse.ensures.ends
 
 pub returns-in-NotStarted-clause-closed : goal.returns-in-NotStarted-clause-closed
-returns-in-NotStarted-clause-closed g c = c.refuse.ensures.closed
+returns-in-NotStarted-clause-closed g c = unsealed_bare _ _ _ _ c.requires.bare c.refuse.ensures.closed
 
 pub returns-in-NotStarted-clause-standing : goal.returns-in-NotStarted-clause-standing
 returns-in-NotStarted-clause-standing g c = c.refuse.ensures.standing
@@ -41,7 +42,7 @@ pub returns-in-NoMemory-clause-ends : goal.returns-in-NoMemory-clause-ends
 returns-in-NoMemory-clause-ends g c = c.close_empty.ensures.ends
 
 pub returns-in-NoMemory-clause-closed : goal.returns-in-NoMemory-clause-closed
-returns-in-NoMemory-clause-closed g c = c.close_empty.ensures.closed
+returns-in-NoMemory-clause-closed g c = unsealed_bare _ _ _ _ c.requires.bare c.close_empty.ensures.closed
 
 pub returns-in-NoMemory-clause-standing : goal.returns-in-NoMemory-clause-standing
 returns-in-NoMemory-clause-standing g c = c.close_empty.ensures.standing

@@ -3,10 +3,13 @@ use Rattle.checkout_core.specs.declared.path.Heard.TheVariants as heard
 use Rattle.checkout_core.specs.declared.verdict.FilterCause.TheVariants as cause
 use Rattle.checkout_core.specs.Conditions.{heard_opening}
 use Rattle.driver_desk.specs.Endings.{MayEnd}
-use Rattle.driver_desk.proofs.Serves.{serves_ahead, serves_none, serves_past, past_smudge}
+use Rattle.convert_plan.specs.Card.{CardSeen, card_seen}
+use Rattle.edge_kit.specs.Seen.{LeafSeen}
+use Rattle.edge_kit.specs.Told.{Tells}
+use Rattle.driver_desk.proofs.Serves.{serves_ahead, serves_none, serves_past, past_smudge, unsealed_bare}
 use Rattle.driver_desk.proofs.Calls.{ended_at, serving_as, serving_ends, unopened_ends, unsmudged_ends}
 use Rattle.driver_desk.proofs.RoundSteps.{ready_as}
-use Rattle.driver_desk.proofs.Closings.{asked_not, planned_as, grows_as}
+use Rattle.driver_desk.proofs.Closings.{asked_not, planned_as, planned_bare, grows_as}
 use Rattle.driver_desk.proofs.Ties.{adds_both}
 use Rattle.driver_desk.specs.Recorders.{Standing}
 use Rattle.driver_desk.proofs.LateCards.{idle_more}
@@ -73,7 +76,7 @@ returns-then-not-has_smudge-clause-serves g c paths line0 given0 asked e i h =
     serves_none c.args.service.now.seat.driver paths line0 given0 _ [] _ _ _ false _
     (serves_past c.args.service.now.seat.driver paths line0 given0 asked c.args.placed.card.path _ _ false _ (past_smudge c.args.placed.card.path _ _ (c.open_for.ensures.there c.in_default.is) (c.has_smudge.ensures.no c.if-not-has_smudge.true))
     (c.open_for.ensures.opened c.in_default.is paths line0 given0 asked _ c.requires.askable (serves_ahead c.args.service.now.seat.driver paths line0 given0 asked c.args.placed.card.path _ _ false _ h)))
-    c.refuse.ensures.closed
+    (unsealed_bare _ _ _ _ (subst (λ (l : LeafSeen). Tells l.content []) (sym (ap (λ (x : CardSeen). x.leaf) c.keep_ready-work-then-not-has_smudge.ensures.card)) (planned_bare (g.C.Recorder.standing c.args.recorder.now) (card_seen g.B.Blob.told g.B.Blob.seen g.L.Leaf.seen c.args.placed.card) c.requires.planned)) c.refuse.ensures.closed)
 
 pub returns-clause-serves : goal.returns-clause-serves
 returns-clause-serves g c paths line0 given0 asked e i h =
@@ -217,3 +220,6 @@ returns-clause-turns g c = c.ask_card.ensures.turns
 
 pub returns-clause-starts : goal.returns-clause-starts
 returns-clause-starts g c = let a = c.ask_card.ensures.starts in let b = c.open_for.ensures.starts in omega (arith, a, b)
+
+pub not_opened-requires-clause-bare : goal.not_opened-requires-clause-bare
+not_opened-requires-clause-bare g c = subst (λ (l : LeafSeen). Tells l.content []) (sym (ap (λ (x : CardSeen). x.leaf) c.keep_ready-work.ensures.card)) (planned_bare (g.C.Recorder.standing c.args.recorder.now) (card_seen g.B.Blob.told g.B.Blob.seen g.L.Leaf.seen c.args.placed.card) c.requires.planned)

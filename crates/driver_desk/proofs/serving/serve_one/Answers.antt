@@ -8,11 +8,13 @@ use Rattle.driver_desk.specs.Rounds.{AreApart, paths_of}
 use Rattle.driver_desk.specs.Recorders.{MayDo}
 use Rattle.driver_desk.specs.Endings.{MayEnd}
 use Rattle.driver_desk.specs.Places.{IsServing}
-use Rattle.driver_desk.proofs.Serves.{work_past, work_failed, serves_asked}
+use Rattle.edge_kit.specs.Seen.{LeafSeen}
+use Rattle.edge_kit.specs.Told.{Tells}
+use Rattle.driver_desk.proofs.Serves.{work_past, work_failed, serves_asked, unsealed_bare}
 use Rattle.driver_desk.proofs.RoundSteps.{serves_as}
 use Rattle.driver_desk.proofs.CardLists.{alone_own}
 use Rattle.driver_desk.proofs.Calls.{aborted_ends, aborted_as, ended_at, serving_as, serving_ends, serving_fails, serving_next}
-use Rattle.driver_desk.proofs.Closings.{asked_not, planned_as, grows_as, read_ok}
+use Rattle.driver_desk.proofs.Closings.{asked_not, planned_as, planned_bare, grows_as, read_ok}
 use Rattle.driver_desk.proofs.LateCards.{idle_more}
 use Rattle.driver_desk.proofs.serving.serve_one.Goals as goal
 
@@ -87,7 +89,7 @@ returns-then-aborted-clause-serves g c = (
   record { card = card_seen g.B.Blob.told g.B.Blob.seen g.L.Leaf.seen c.args.placed.card; content = Ok c.in-Ok.prepared.bytes },
   refl,
   (c.in-Ok.prepared, c.in-Ok.ensures.read, refl),
-  (λ paths line0 given0 asked fit s. work_past c.args.service.now.seat.driver paths line0 given0 asked c.args.placed.card.path (Ok c.in-Ok.prepared.bytes) _ _ _ _ _ c.if-aborted.true c.refuse.ensures.closed s),
+  (λ paths line0 given0 asked fit s. work_past c.args.service.now.seat.driver paths line0 given0 asked c.args.placed.card.path (Ok c.in-Ok.prepared.bytes) _ _ _ _ _ c.if-aborted.true (unsealed_bare _ _ _ _ (subst (λ (l : LeafSeen). Tells l.content []) (sym (ap (λ (x : CardSeen). x.leaf) c.keep_ready-work.ensures.card ∙ ap (λ (x : CardSeen). x.leaf) c.read_card.ensures.kept)) (planned_bare (g.C.Recorder.standing c.args.recorder.now) _ c.requires.planned)) c.refuse.ensures.closed) s),
   c.refuse.ensures.read,
 )
 
