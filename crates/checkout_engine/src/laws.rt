@@ -2,6 +2,7 @@
 ghost use Rattle.checkout_engine.specs.Alike.{MemoryTellsAll, WorkersChangeNothing, SettingsChangeNothing};
 ghost use Rattle.checkout_engine.specs.Alike.{ActorsAreNumbered};
 ghost use Rattle.checkout_engine.specs.Given.{WrittenIsGiven};
+ghost use Rattle.checkout_engine.specs.Rehearsed.{RehearsalsAreAlike};
 
 use core_laws::laws;
 use driver_line::{a_path_gets_one_content, equal_outputs_give_equal_talks};
@@ -33,6 +34,16 @@ pub fn written_paths_are_given()
     ensures { WrittenIsGiven }
 {
     paths_are_ordered();
+    a_path_gets_one_content();
+}
+
+/// A rehearsal has one line: two with the same seed and as many paths that wrote their line wrote the same.
+pub fn rehearsals_are_alike()
+    ensures { RehearsalsAreAlike }
+{
+    one_reading();
+    paths_are_ordered();
+    equal_outputs_give_equal_talks();
     a_path_gets_one_content();
 }
 
