@@ -12,7 +12,7 @@ use Rattle.checkout_core.specs.declared.verdict.Verdict.{Verdict}
 use Rattle.checkout_plan.specs.declared.path_plan.PathPlan.{PathPlan}
 use Rattle.checkout_plan.specs.Making.{blobs_of}
 use Rattle.checkout_engine.specs.declared.planning.Planned.{Planned}
-use Rattle.checkout_engine.specs.Ends.{Seen, seen}
+use Rattle.checkout_engine.specs.Ends.{seen}
 use Rattle.checkout_engine.specs.Paths.{with_blobs}
 use Rattle.checkout_engine.specs.Reading.{IsRead}
 use Rattle.checkout_engine.specs.Rehearsed.{new_memory, IsTried}
@@ -26,7 +26,7 @@ pub tried : PathsAreOrdered → (told told' : RepoTold) (ahead : List ℕ → St
     → IsRead told p repo mid → slice ≡ p.plan.paths → users ≡ p.plan.drivers
     → ArePathsDone ahead told'.object slice users vs history mid repo' tree tree' spawner spawner'
     → IsRun (starts_of slice) (workers_for None p.workers p.threshold (length (filter in_pool slice))) (length users) history vs
-    → IsTried told ahead vs tree'
+    → IsTried told ahead vs tree' spawner'
 tried law told told' ahead p slice users vs history repo mid repo' tree tree' spawner spawner' same repo_is tree_is spawner_is read slice_is users_is ends run =
     let planned = read.read.planned in
     let paths = p.plan.paths in
@@ -53,4 +53,5 @@ tried law told told' ahead p slice users vs history repo mid repo' tree tree' sp
       checkout = checks_out law told ahead None p.plan vs new_memory (seen repo' tree' spawner' new_memory.sink history) refl planned refl ended ran;
       verdicts_are = sym ended.same;
       tree_is = refl;
+      spawner_is = refl;
     }

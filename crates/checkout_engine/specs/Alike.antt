@@ -1,5 +1,5 @@
--- What two checkouts have in common, whatever the number of their workers.
-use Rattle.std.specs.Prelude.{◌≡◌, ℕ, false, List, Option, Some}
+-- What two checkouts have in common, whatever the number of their workers, and how that number binds each.
+use Rattle.std.specs.Prelude.{◌≡◌, ◌+◌, ℕ, false, List, length, Option, Some}
 use Rattle.std.specs.List.{AllByRecursion}
 use Rattle.std.specs.Global.{Vec}
 use Rattle.edge_kit.specs.Memory.{repo_told}
@@ -15,6 +15,7 @@ use Rattle.checkout_engine.specs.Complete.{failed_leaves}
 use Rattle.checkout_engine.specs.Ends.{Seen, IsCheckedOut, verdicts_of, files_of}
 use Rattle.checkout_engine.specs.Report.{lacks_memory, report}
 use Rattle.checkout_engine.specs.Sources.{HasSettings}
+use Rattle.checkout_engine.specs.Workers.{starts_of, worker_count, HaveActorsBelow}
 
 -- something is told: bytes, that there are none, or that taking them fails
 abbrev pub IsTold : Told → Type 0
@@ -81,3 +82,10 @@ SettingsChangeNothing = (told told' : RepoTold) (ahead : List ℕ → Starts) (a
     (old new before after : Seen) → TellAll told ahead → DifferInWorkers told told'
     → (c : IsCheckedOut told ahead a old new) → (e : IsCheckedOut told' ahead b before after)
     → IsUndisturbed c → IsUndisturbed e → AreAlike c e
+
+-- Whoever made an entry of the history of a checkout is below the number of its workers and its drivers.
+abbrev pub ActorsAreNumbered : Type 0
+ActorsAreNumbered = (told : RepoTold) (ahead : List ℕ → Starts) (asked : Option ℕ) (old new : Seen)
+    → (c : IsCheckedOut told ahead asked old new)
+    → (let workers = worker_count asked c.planned.settings c.plan.paths in
+    HaveActorsBelow (workers + length c.plan.drivers) (starts_of c.plan.paths) workers new.history)

@@ -1,5 +1,5 @@
 -- Why a repository is refused, and what a failed read leaves.
-use Rattle.std.specs.Prelude.{◌≡◌, ◌⊎◌, ◌<◌, ◌++◌, ℕ, List, slice_get, Some}
+use Rattle.std.specs.Prelude.{◌≡◌, ◌⊎◌, ◌<◌, ◌≤◌, ◌++◌, ℕ, List, [], length, take, slice_get, Some}
 use Rattle.edge_kit.specs.Faults.{Rose}
 use Rattle.edge_kit.specs.Seen.{RepoSeen}
 use Rattle.edge_kit.specs.Told.{RepoTold, TellsNone, TellsLong, MayFail}
@@ -44,25 +44,64 @@ pub record IsFaultyFile (told : RepoTold) (path : List ℕ) (fault : ℕ → Pla
   pub there : slice_get faulty.entries number ≡ Some entry
   pub named : path ≡ entry.path
 
+-- why a repository is refused before an attribute file of its index is read
+abbrev pub IsSourceCause : RepoTold → Refusal → Type 0
+IsSourceCause told refusal.IndexAbsent = TellsNone told.index
+IsSourceCause told (refusal.Index fault) = HasIndexFault told.index fault
+IsSourceCause told (refusal.Config fault) = IsIndexRead told × HasConfigFault told.config fault
+IsSourceCause told (refusal.Setting fault) = IsIndexRead told × HasSettingFault told.config fault
+IsSourceCause told refusal.InfoTooLarge =
+    IsIndexRead told × IsConfigRead told × TellsLong told.info max_attributes
+IsSourceCause told (refusal.Attribute path kind) = ⊥
+IsSourceCause told (refusal.AttributeTooLarge path) = ⊥
+IsSourceCause told (refusal.TooManyDrivers n) = ⊥
+
 -- Why a repository is refused: the first cause that applies. The index is read first, then the
 -- configuration, `info/attributes`, and the attribute files.
 abbrev pub IsCause : RepoTold → Refusal → Type 0
-IsCause told refusal.IndexAbsent = TellsNone told.index
-IsCause told (refusal.Index fault) = HasIndexFault told.index fault
-IsCause told (refusal.Config fault) = IsIndexRead told × HasConfigFault told.config fault
-IsCause told (refusal.Setting fault) = IsIndexRead told × HasSettingFault told.config fault
-IsCause told refusal.InfoTooLarge =
-    IsIndexRead told × IsConfigRead told × TellsLong told.info max_attributes
 IsCause told (refusal.Attribute path kind) = IsFaultyFile told path (λ k. fault.Attribute k kind)
 IsCause told (refusal.AttributeTooLarge path) =
     IsFaultyFile told path (λ k. fault.AttributeTooLarge k)
 IsCause told (refusal.TooManyDrivers n) = IsFaulty told (fault.TooManyDrivers n)
+IsCause told refusal.IndexAbsent = IsSourceCause told refusal.IndexAbsent
+IsCause told (refusal.Index fault) = IsSourceCause told (refusal.Index fault)
+IsCause told (refusal.Config fault) = IsSourceCause told (refusal.Config fault)
+IsCause told (refusal.Setting fault) = IsSourceCause told (refusal.Setting fault)
+IsCause told refusal.InfoTooLarge = IsSourceCause told refusal.InfoTooLarge
 
--- the blobs that were made, those of attribute files, were given back
-pub record IsRepoBack (old new : RepoSeen) : Type 0 where
-  pub out : new.out ≡ old.out
-  pub blobs : List (List ℕ × ℕ)
-  pub returned : new.returned ≡ old.returned ++ blobs
+-- The blobs that are made before a repository is refused for a cause: those of the attribute files, in the order of the
+-- index, up to the one that is refused. None has failed.
+abbrev pub blobs_before : (told : RepoTold) (r : Refusal) → IsCause told r → List (List ℕ × ℕ)
+blobs_before told (refusal.Attribute path kind) cause =
+    blobs_to cause.faulty.entries cause.number cause.entry 0
+blobs_before told (refusal.AttributeTooLarge path) cause =
+    blobs_to cause.faulty.entries cause.number cause.entry 0
+blobs_before told (refusal.TooManyDrivers n) cause = blobs_of cause.entries
+blobs_before told refusal.IndexAbsent cause = []
+blobs_before told (refusal.Index fault) cause = []
+blobs_before told (refusal.Config fault) cause = []
+blobs_before told (refusal.Setting fault) cause = []
+blobs_before told refusal.InfoTooLarge cause = []
+
+-- The repository is refused for this cause. Nothing failed, and just these blobs were made and given back.
+pub record IsRefusedFor (told : RepoTold) (r : Refusal) (old new : RepoSeen) : Type 0 where
+  pub cause : IsCause told r
+  pub seen : new ≡ record old { returned = old.returned ++ blobs_before told r cause }
+
+-- Memory ran out after the three files were read. Nothing failed, and just the blobs of the attribute files among the
+-- first entries, so many, were made and given back.
+pub record IsPartRead (told : RepoTold) (old new : RepoSeen) : Type 0 where
+  pub entries : List Entry
+  pub settings : Settings
+  pub info : AttrFile
+  pub sources : HasSources told entries settings info
+  pub count : ℕ
+  pub within : count ≤ length entries
+  pub seen : new ≡ record old { returned = old.returned ++ blobs_of (take count entries) }
+
+-- Memory ran out, and nothing failed. No blob was made, or those of the first attribute files.
+abbrev pub IsCutShort : RepoTold → RepoSeen → RepoSeen → Type 0
+IsCutShort told old new = (new ≡ old) ⊎ IsPartRead told old new
 
 -- how often the blobs of a list have failed
 abbrev pub failed_blobs : List (List ℕ × ℕ) → ℕ

@@ -1,7 +1,10 @@
 //! What follows from the contracts of a checkout.
 ghost use Rattle.checkout_engine.specs.Alike.{MemoryTellsAll, WorkersChangeNothing, SettingsChangeNothing};
+ghost use Rattle.checkout_engine.specs.Alike.{ActorsAreNumbered};
 ghost use Rattle.checkout_engine.specs.Given.{WrittenIsGiven};
+ghost use Rattle.checkout_engine.specs.Rehearsed.{RehearsalsAreAlike};
 
+use core_laws::laws;
 use driver_line::{a_path_gets_one_content, equal_outputs_give_equal_talks};
 use git_index::{one_reading, paths_are_ordered};
 
@@ -32,4 +35,23 @@ pub fn written_paths_are_given()
 {
     paths_are_ordered();
     a_path_gets_one_content();
+}
+
+/// A rehearsal has one line: two with the same seed and as many paths that wrote their line wrote the same.
+pub fn rehearsals_are_alike()
+    ensures { RehearsalsAreAlike }
+{
+    one_reading();
+    paths_are_ordered();
+    equal_outputs_give_equal_talks();
+    a_path_gets_one_content();
+}
+
+/// No actor but the workers and the desks of a checkout makes an entry of its history, also where its report is cut off
+/// or memory ran out for a path.
+pub fn actors_are_numbered()
+    ensures { ActorsAreNumbered }
+{
+    laws::a_history_keeps_its_size();
+    laws::own_entries_tell_what_is_in_hand();
 }

@@ -19,5 +19,8 @@ mod stop;
 mod workers;
 
 pub use command::run;
-pub use laws::{memory_tells_all, workers_change_nothing, written_paths_are_given};
+pub use laws::{
+    actors_are_numbered, memory_tells_all, rehearsals_are_alike, workers_change_nothing,
+    written_paths_are_given,
+};
 pub use show::plan_text;

@@ -1,9 +1,11 @@
 //! The command `rehearse`: a checkout in memory, of a repository and drivers that two numbers make, and its summary.
 ghost use Rattle.std.specs.Prelude.{◌≡◌, ◌≤◌, IfOk, Some, string_bytes};
+ghost use Rattle.std.specs.List.{list_any};
 ghost use Rattle.checkout_engine.specs.Complete.{IsValid};
 ghost use Rattle.checkout_engine.specs.Reading.{IsRead};
 ghost use Rattle.checkout_engine.specs.Rehearsed.{is_memory, bytes_of, first_words, last_words, summary, new_memory};
-ghost use Rattle.checkout_engine.specs.Rehearsed.{IsTried, IsRehearsed, IsSummed, Rehearses};
+ghost use Rattle.checkout_engine.specs.Rehearsed.{is_write_failed, is_link_failed, is_driver_failed, is_disturbed};
+ghost use Rattle.checkout_engine.specs.Rehearsed.{IsTried, IsTriedWell, IsRehearsed, IsSummed, Rehearses};
 
 use crate::paths::check_out_paths;
 use crate::planning::{Planned, read_plan};
@@ -11,10 +13,11 @@ use crate::report::{lacks_memory, status_of};
 use crate::status::{Status, number_of};
 use crate::stop::Stop;
 use crate::workers::Pace;
-use checkout_core::Verdict;
+use checkout_core::{FailCause, Verdict};
 use checkout_report::{failed_count, unfiltered_count, written_count};
 use edge_kit::{
-    Gate, MemoryRepo, MemorySpawner, MemoryTree, Repo, SendFault, Sink, Spawner, TreeFile, Worktree,
+    DriverSeen, Gate, MemoryRepo, MemorySpawner, MemoryTree, Repo, SendFault, Sink, Spawner,
+    StartOutcome, StartSeen, TreeFile, Worktree,
 };
 use git_index::{index_has_no_fault, one_reading, paths_are_ordered};
 use rehearsal::{Rehearsed, attributes_are_right, files_have_an_index, rehearse};
@@ -97,6 +100,50 @@ fn valid_plan<R: Repo>(alloc: Global, repo: &mut R) -> Result<Planned, AllocErro
     }
 }
 
+/// Whether the file of a path could not be written.
+fn is_write_failed(verdict: &Verdict) -> bool
+    ensures { result ≡ is_write_failed verdict.now }
+{
+    matches!(verdict, Verdict::Failed(FailCause::WriteFailed))
+}
+
+fn has_write_failed(verdicts: &[Verdict]) -> bool
+    ensures { result ≡ list_any is_write_failed verdicts.now }
+{
+    verdicts.iter().any(|verdict| is_write_failed(verdict))
+}
+
+/// Whether a start gave a session whose link failed.
+fn is_link_failed(start: &StartSeen) -> bool
+    ensures { result ≡ is_link_failed start.now.outcome }
+{
+    match &start.outcome {
+        StartOutcome::Session(session) => session.faults != 0,
+        StartOutcome::Failed => false,
+    }
+}
+
+fn is_driver_failed(driver: &DriverSeen) -> bool
+    ensures { result ≡ is_driver_failed driver.now }
+{
+    let starts = driver.starts.as_slice();
+    starts.iter().any(|start| is_link_failed(start))
+}
+
+fn has_link_failed(drivers: &[DriverSeen]) -> bool
+    ensures { result ≡ list_any is_driver_failed drivers.now }
+{
+    drivers.iter().any(|driver| is_driver_failed(driver))
+}
+
+/// Whether anything disturbed a checkout with these verdicts and drivers: memory ran out for a path, or a leaf or a
+/// link failed.
+fn is_disturbed(verdicts: &[Verdict], drivers: &[DriverSeen]) -> bool
+    ensures { result ≡ is_disturbed verdicts.now drivers.now }
+{
+    lacks_memory(verdicts) || has_write_failed(verdicts) || has_link_failed(drivers)
+}
+
 /// Checks out a valid repository, of which nothing was called, into a new and empty worktree: the verdicts of the
 /// paths.
 fn tried<R: Repo, T: Worktree, P: Spawner, G: Gate, H: Threads + Wait + Sync>(
@@ -111,7 +158,8 @@ fn tried<R: Repo, T: Worktree, P: Spawner, G: Gate, H: Threads + Wait + Sync>(
     requires repo { R.seen repo.old ≡ new_memory.repo }
     requires tree { T.seen tree.old ≡ new_memory.tree }
     requires spawner { P.seen spawner.old ≡ new_memory.spawner }
-    ensures { IfOk result (λ v. IsTried (R.told repo.old) (P.told spawner.old) v.items (T.seen tree.new)) }
+    ensures { IfOk result (λ v. IsTried (R.told repo.old) (P.told spawner.old) v.items
+        (T.seen tree.new) (P.seen spawner.new)) }
 {
     paths_are_ordered();
     let planned = valid_plan(alloc, repo)?;
@@ -127,7 +175,7 @@ fn tried<R: Repo, T: Worktree, P: Spawner, G: Gate, H: Threads + Wait + Sync>(
 }
 
 /// Checks out what a rehearsal is made of into an empty worktree in memory: the verdicts of the paths, and that
-/// worktree.
+/// worktree. What disturbed the checkout is taken for want of memory: nothing is told to fail.
 fn checked_out<G: Gate, H: Threads + Wait + Sync>(
     rt: &H,
     alloc: Global,
@@ -137,7 +185,7 @@ fn checked_out<G: Gate, H: Threads + Wait + Sync>(
     requires valid { IsValid (⟦<MemoryRepo as Repo>⟧.told made.repo) }
     requires repo { ⟦<MemoryRepo as Repo>⟧.seen made.repo ≡ new_memory.repo }
     requires spawner { ⟦<MemorySpawner as Spawner>⟧.seen made.spawner ≡ new_memory.spawner }
-    ensures { IfOk result (λ r. IsTried (⟦<MemoryRepo as Repo>⟧.told made.repo)
+    ensures { IfOk result (λ r. IsTriedWell (⟦<MemoryRepo as Repo>⟧.told made.repo)
         (⟦<MemorySpawner as Spawner>⟧.told made.spawner) r.0.items (⟦<MemoryTree as Worktree>⟧.seen r.1)) }
 {
     let mut tree = MemoryTree::new(alloc, true, Vec::new(alloc), false);
@@ -149,6 +197,9 @@ fn checked_out<G: Gate, H: Threads + Wait + Sync>(
         &mut made.spawner,
         gate,
     )?;
+    if is_disturbed(&verdicts, made.spawner.drivers()) {
+        return Err(AllocError);
+    }
     Ok((verdicts, tree))
 }
 
@@ -182,9 +233,6 @@ fn rehearsal_summary<G: Gate, H: Threads + Wait + Sync>(
     ensures { IfOk result (λ s. IsSummed seed paths (string_bytes s)) }
 {
     let (verdicts, tree) = rehearsed(rt, alloc, seed, paths, gate)?;
-    if lacks_memory(&verdicts) {
-        return Err(AllocError);
-    }
     let text = summary(alloc, paths, &verdicts, tree.files())?;
     Ok(text)
 }

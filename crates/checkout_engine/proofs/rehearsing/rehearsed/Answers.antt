@@ -7,7 +7,7 @@ use Rattle.checkout_core.specs.declared.verdict.Verdict.{Verdict}
 use Rattle.rehearsal.specs.Drivers.{scripts}
 use Rattle.rehearsal.specs.Paths.{in_order}
 use Rattle.rehearsal.specs.Repository.{files, IsRepository}
-use Rattle.checkout_engine.specs.Rehearsed.{IsTried, IsRehearsed}
+use Rattle.checkout_engine.specs.Rehearsed.{IsTriedWell, IsRehearsed}
 use Rattle.checkout_engine.proofs.Valid.{valid}
 use Rattle.checkout_engine.proofs.rehearsing.rehearsed.Goals as goal
 
@@ -17,11 +17,11 @@ checked_out-requires-clause-valid g c κs within =
 
 as_made : (seed paths : ℕ) (told : RepoTold) (made : List DriverScript) (verdicts : List Verdict) (tree : TreeSeen)
     → IsRepository (files seed (in_order paths)) told → made ≡ scripts seed (in_order paths)
-    → IsTried told (starts_for made) verdicts tree → IsRehearsed seed paths verdicts tree
+    → IsTriedWell told (starts_for made) verdicts tree → IsRehearsed seed paths verdicts tree
 as_made seed paths told made verdicts tree repo same tried = record {
   told = told;
   made = repo;
-  tried = subst (λ (l : List DriverScript). IsTried told (starts_for l) verdicts tree) same tried;
+  well = subst (λ (l : List DriverScript). IsTriedWell told (starts_for l) verdicts tree) same tried;
 }
 
 pub returns : goal.returns
