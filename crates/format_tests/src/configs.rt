@@ -1,4 +1,4 @@
-use crate::table::{Row, check, cut, filled, is_shown, push_all};
+use crate::table::{Row, Seen, check, cut, filled, push_all, shown};
 use git_config::{ConfigFault, Setting, read_config};
 use std::alloc::{AllocError, Global};
 use std::test::Fail;
@@ -89,10 +89,9 @@ const LISTED: &[u8] = b"\
 struct AsGitLists;
 
 impl Row for AsGitLists {
-    fn is_so(alloc: Global, row: &[u8]) -> Result<bool, Fail> {
-        let (text, want) = cut(row, b'|');
-        let list = listed(alloc, text)?;
-        Ok(list.as_slice() == want)
+    fn seen(alloc: Global, row: &[u8]) -> Result<Seen<'_>, Fail> {
+        let (text, want) = cut(row, b'|')?;
+        Ok((listed(alloc, text)?, want))
     }
 }
 
@@ -129,10 +128,10 @@ const FAULTY_HERE: &[u8] = b"\
 struct Faulty;
 
 impl Row for Faulty {
-    fn is_so(alloc: Global, row: &[u8]) -> Result<bool, Fail> {
-        let (text, want) = cut(row, b'|');
+    fn seen(alloc: Global, row: &[u8]) -> Result<Seen<'_>, Fail> {
+        let (text, want) = cut(row, b'|')?;
         let fault = fault_of(alloc, text);
-        is_shown(alloc, fault, want)
+        Ok((shown(alloc, fault)?, want))
     }
 }
 

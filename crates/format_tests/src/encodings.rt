@@ -1,4 +1,4 @@
-use crate::table::{Row, check, cut, is_shown, state_of};
+use crate::table::{Row, Seen, check, cut, noted, shown, state_of, unknown};
 use attr_line::AttrState;
 use byte_path::Bytes;
 use std::alloc::{AllocError, Global};
@@ -34,10 +34,10 @@ const NAMED: &[u8] = b"\
 struct Named;
 
 impl Row for Named {
-    fn is_so(alloc: Global, row: &[u8]) -> Result<bool, Fail> {
-        let (said, want) = cut(row, b'|');
+    fn seen(alloc: Global, row: &[u8]) -> Result<Seen<'_>, Fail> {
+        let (said, want) = cut(row, b'|')?;
         let state = state_of(alloc, said)?;
-        is_shown(alloc, encoding_of(&state), want)
+        Ok((shown(alloc, encoding_of(&state))?, want))
     }
 }
 
@@ -70,19 +70,23 @@ const ENCODED: &[u8] = b"\
     |UTF-32|%\
     |UTF-32BE|%";
 
-/// Whether the content is prepared so.
-fn is_prepared(
+/// The content in this encoding, with a note if it is said to be unencoded, or not to be.
+fn prepared(
     alloc: Global,
     content: &[u8],
     encoding: Encoding,
-    want: &[u8],
     unencoded: bool,
-) -> Result<bool, AllocError> {
+) -> Result<Vec<u8>, AllocError> {
     let read = encode(alloc, content, encoding)?;
-    Ok(read.bytes.as_slice() == want && read.unencoded == unencoded)
+    let came = Vec::from_slice(alloc, read.bytes.as_slice())?;
+    noted(
+        came,
+        read.unencoded == unencoded,
+        b"`unencoded` says otherwise",
+    )
 }
 
-/// Whether the content is encoded so, or is empty.
+/// Whether the text is encoded so, or is empty.
 fn is_encoded(
     alloc: Global,
     content: &[u8],
@@ -99,17 +103,19 @@ fn is_encoded(
 struct Encoded;
 
 impl Row for Encoded {
-    fn is_so(alloc: Global, row: &[u8]) -> Result<bool, Fail> {
-        let (content, rest) = cut(row, b'|');
-        let (name, want) = cut(rest, b'|');
+    fn seen(alloc: Global, row: &[u8]) -> Result<Seen<'_>, Fail> {
+        let (content, rest) = cut(row, b'|')?;
+        let (name, want) = cut(rest, b'|')?;
         let state = AttrState::Value(Bytes::copy_of(alloc, name)?);
         let Ok(Some(encoding)) = encoding_of(&state) else {
-            return Ok(false);
+            return Err(unknown(name));
         };
-        Ok(
-            is_prepared(alloc, content, encoding, want, false)?
-                && is_encoded(alloc, content, encoding, want)?,
-        )
+        let came = prepared(alloc, content, encoding, false)?;
+        let is_same = is_encoded(alloc, content, encoding, want)?;
+        Ok((
+            noted(came, is_same, b"`encode_text` gives another text")?,
+            want,
+        ))
     }
 }
 
@@ -127,21 +133,21 @@ const NO_TEXTS: &[u8] = b"\
     abcdefgh\xf4\x90\x80\x80%\
     abcdefgh\xe2\x82%";
 
-/// Whether the content is no text to be encoded.
-fn is_no_text(alloc: Global, content: &[u8]) -> Result<bool, AllocError> {
-    let text = encode_text(alloc, content, Utf16Le)?;
-    Ok(text.is_none())
+/// What comes of the content in this encoding. It is no text to be encoded.
+fn kept(alloc: Global, content: &[u8], encoding: Encoding) -> Result<Vec<u8>, AllocError> {
+    let came = prepared(alloc, content, encoding, true)?;
+    let text = encode_text(alloc, content, encoding)?;
+    noted(came, text.is_none(), b"`encode_text` gives a text")
 }
 
 struct Unencoded;
 
 impl Row for Unencoded {
-    fn is_so(alloc: Global, content: &[u8]) -> Result<bool, Fail> {
-        Ok(
-            is_no_text(alloc, content)?
-                && is_prepared(alloc, content, Utf16Le, content, true)?
-                && is_prepared(alloc, content, Utf16, content, true)?,
-        )
+    fn seen(alloc: Global, content: &[u8]) -> Result<Seen<'_>, Fail> {
+        let came = kept(alloc, content, Utf16Le)?;
+        let marked = kept(alloc, content, Utf16)?;
+        let is_same = marked.as_slice() == came.as_slice();
+        Ok((noted(came, is_same, b"UTF-16 gives another")?, content))
     }
 }
 

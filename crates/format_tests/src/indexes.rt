@@ -1,4 +1,4 @@
-use crate::table::{Row, check, cut, filled, is_shown, number_of, push_all};
+use crate::table::{Row, Seen, check, cut, filled, number_of, push_all, shown, unknown};
 use git_index::{Entry, IndexFault, Mode, read_index, spell_index};
 use std::alloc::{AllocError, Global};
 use std::test::Fail;
@@ -98,31 +98,32 @@ const NO_HASH: &[u8] = b"\0\0\0\0\0\0\0\0\0\0\0\0\0\0\0\0\0\0\0\0";
 const HASH_OF_NONE: &[u8] = b"9\xd8\x90\x13\x9e\xe55l~\xf5r!l\xeb\xcd'\xaaA\xf9\xdf";
 
 /// The part of an index that a letter stands for, or the header of so many entries, for a digit.
-fn part_of(letter: u8) -> (&'static [u8], &'static [u8]) {
+fn part_of(letter: u8) -> Result<(&'static [u8], &'static [u8]), Fail> {
     match letter {
-        b'F' => (FILE, b""),
-        b'T' => (TREE, b""),
-        b'A' => (A, b""),
-        b'B' => (A_B, b""),
-        b'Z' => (NO_HASH, b""),
-        b'H' => (HASH_OF_NONE, b""),
-        b'0' => (HEADER, b"\0"),
-        b'1' => (HEADER, b"\x01"),
-        b'2' => (HEADER, b"\x02"),
-        b'3' => (HEADER, b"\x03"),
-        _ => (HEADER, b"\x04"),
+        b'F' => Ok((FILE, b"")),
+        b'T' => Ok((TREE, b"")),
+        b'A' => Ok((A, b"")),
+        b'B' => Ok((A_B, b"")),
+        b'Z' => Ok((NO_HASH, b"")),
+        b'H' => Ok((HASH_OF_NONE, b"")),
+        b'0' => Ok((HEADER, b"\0")),
+        b'1' => Ok((HEADER, b"\x01")),
+        b'2' => Ok((HEADER, b"\x02")),
+        b'3' => Ok((HEADER, b"\x03")),
+        b'4' => Ok((HEADER, b"\x04")),
+        _ => Err(unknown(&[letter])),
     }
 }
 
 /// The parts of an index. `$` and a letter stand for a part that is named here, and `$` and a digit for the header of
 /// so many entries. The other bytes stand for themselves.
-fn index_of(alloc: Global, parts: &[u8]) -> Result<Vec<u8>, AllocError> {
+fn index_of(alloc: Global, parts: &[u8]) -> Result<Vec<u8>, Fail> {
     let mut text = Vec::new(alloc);
     let mut is_named = false;
     for byte in parts {
         let byte = *byte;
         if is_named {
-            let (front, count) = part_of(byte);
+            let (front, count) = part_of(byte)?;
             push_all(&mut text, &[front, count])?;
         } else if byte != b'$' {
             push_all(&mut text, &[&[byte]])?;
@@ -187,12 +188,12 @@ const RIGHT: &[u8] = b"\
 struct Refused;
 
 impl Row for Refused {
-    fn is_so(alloc: Global, row: &[u8]) -> Result<bool, Fail> {
-        let (what, rest) = cut(row, b'|');
-        let (parts, want) = cut(rest, b'|');
+    fn seen(alloc: Global, row: &[u8]) -> Result<Seen<'_>, Fail> {
+        let (_, rest) = cut(row, b'|')?;
+        let (parts, want) = cut(rest, b'|')?;
         let text = index_of(alloc, parts)?;
         let fault = fault_of(alloc, &text);
-        is_shown(alloc, fault, want)
+        Ok((shown(alloc, fault)?, want))
     }
 }
 
@@ -213,11 +214,7 @@ const LONG: &[u8] = b"\
     4097|\0|Some(Path(0, TooLong))%";
 
 /// What is wrong with an entry whose path has so many bytes.
-fn fault_of_long(
-    alloc: Global,
-    count: usize,
-    padding: &[u8],
-) -> Result<Option<IndexFault>, AllocError> {
+fn fault_of_long(alloc: Global, count: usize, padding: &[u8]) -> Result<Option<IndexFault>, Fail> {
     let front = index_of(alloc, b"$1$F\x0f\xff")?;
     let end = [padding, NO_HASH].concat(alloc)?;
     let text = filled(alloc, &front, b'a', count, &end)?;
@@ -227,11 +224,11 @@ fn fault_of_long(
 struct Long;
 
 impl Row for Long {
-    fn is_so(alloc: Global, row: &[u8]) -> Result<bool, Fail> {
-        let (count, rest) = cut(row, b'|');
-        let (padding, want) = cut(rest, b'|');
-        let fault = fault_of_long(alloc, number_of(count) as usize, padding)?;
-        is_shown(alloc, fault, want)
+    fn seen(alloc: Global, row: &[u8]) -> Result<Seen<'_>, Fail> {
+        let (count, rest) = cut(row, b'|')?;
+        let (padding, want) = cut(rest, b'|')?;
+        let fault = fault_of_long(alloc, number_of(count)? as usize, padding)?;
+        Ok((shown(alloc, fault)?, want))
     }
 }
 
