@@ -13,6 +13,7 @@ mod paths;
 mod process_link;
 mod process_spawner;
 mod process_starter;
+mod shell;
 mod standard_error;
 mod whole_file;
 mod write_errors;

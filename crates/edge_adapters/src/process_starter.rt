@@ -7,6 +7,7 @@ ghost use Rattle.edge_kit.specs.MemoryDrivers.{waits};
 use crate::front::is_no_packet;
 use crate::given_up::{end_all, thin_out};
 use crate::process_link::{EndedSession, ProcessLink};
+use crate::shell::shell_text;
 use byte_path::Bytes;
 use edge_kit::{Link, SendFault, Starter};
 use std::alloc::{AllocError, Global};
@@ -89,7 +90,8 @@ fn spawn(rt: HostRuntime, alloc: Global, command: &[u8], quiet: bool) -> io::Res
     let Ok(text) = str::from_utf8(command) else {
         return Err(io::Error::from(ErrorKind::InvalidInput));
     };
-    let mut shell = shell_of(alloc, text)?;
+    let text = shell_text(alloc, text)?;
+    let mut shell = shell_of(alloc, text.as_str())?;
     shell.stdin(Stdio::piped());
     shell.stdout(Stdio::piped());
     if quiet {
