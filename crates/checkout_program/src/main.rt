@@ -1,7 +1,8 @@
 //! Checks out the index of a Git folder with uncompressed objects into an empty folder, by its configuration and its
 //! attributes, or shows the plan of that.
 //!
-//! A checkout shows how many paths are closed, if standard error is a terminal.
+//! A checkout shows how many paths are closed, if standard error is a terminal. Standard error also says what is wrong
+//! with words, why files weren't written, and what a driver wrote in place of packets.
 #![tactic(auto)]
 
 ghost use Rattle.std.specs.Prelude.{◌≡◌, IfOk, IfErr, IsErr, drop, option_map, string_bytes};
@@ -10,9 +11,15 @@ ghost use Rattle.std.specs.IoError.{error_kind};
 ghost use Rattle.std.specs.declared.io.ErrorKind.TheVariants.{OutOfMemory};
 ghost use Rattle.checkout_program.specs.Words.{word_at, words_of, message_of};
 
+mod notes;
 mod progress;
+mod refused_path;
+mod wrong_words;
 
+use crate::notes::{show_drivers, show_errors};
 use crate::progress::{CountingTree, Progress};
+use crate::refused_path::refused_path;
+use crate::wrong_words::{answer, explanation};
 use checkout_engine::run;
 use edge_adapters::{FolderRepo, FolderTree, OutputSink, ProcessSpawner};
 use edge_kit::{Gate, Repo, Sink, Spawner, Worktree};
@@ -103,7 +110,7 @@ fn status_of<R: Repo, T: Worktree, P: Spawner, G: Gate, O: Sink, H: Threads + Wa
     )
 }
 
-/// Runs these words in these folders, and shows how many paths are closed.
+/// Runs these words in these folders, and shows how many paths are closed, and then what else is to be said.
 fn run_in<H: Threads + Wait + Sync>(
     rt: HostRuntime,
     threads: &H,
@@ -111,13 +118,14 @@ fn run_in<H: Threads + Wait + Sync>(
     repo: &mut FolderRepo,
     tree: FolderTree,
 ) -> u8 {
+    // first, since it takes the number of a closed standard error
+    let mut spawner = ProcessSpawner::new(rt);
     let leaves = AtomicU32::new(0);
     let progress = Progress::new(rt, &leaves);
     let mut tree = CountingTree {
         tree,
         leaves: &leaves,
     };
-    let mut spawner = ProcessSpawner::new(rt);
     let mut out = OutputSink::new(writer(&rt));
     let status = status_of(
         threads,
@@ -130,19 +138,74 @@ fn run_in<H: Threads + Wait + Sync>(
         &mut out,
     );
     progress.end();
+    show_errors(rt, tree.tree.errors());
+    show_drivers(rt, spawner.drivers());
+    status
+}
+
+/// Writes what a status says on standard error.
+fn show_message(rt: HostRuntime, status: u8) {
+    if let Some(message) = message_of(status) {
+        let _ = eprintln!(rt; "{message}");
+    }
+}
+
+/// Says that the words name no command, and why. If they ask for help or the version, they get it on standard output.
+fn end_wrong(rt: HostRuntime, words: &[String], are_text: bool) -> u8 {
+    if let Some(text) = answer(words) {
+        return match print!(rt; "{text}") {
+            Ok(()) => 2,
+            Err(_) => {
+                show_message(rt, 4);
+                4
+            }
+        };
+    }
+    show_message(rt, 2);
+    if !are_text {
+        let _ = eprintln!(rt; "a word is not UTF-8");
+    } else if let Ok(Some(why)) = explanation(rt.alloc(), words) {
+        let _ = eprintln!(rt; "{why}");
+    }
+    let _ = eprintln!(rt; "the manual page is docs/siuwbren.1");
+    2
+}
+
+/// Says more of a status.
+fn end_with(
+    rt: HostRuntime,
+    status: u8,
+    words: &[String],
+    are_text: bool,
+    repo: &mut FolderRepo,
+) -> u8 {
+    if status == 2 {
+        return end_wrong(rt, words, are_text);
+    }
+    show_message(rt, status);
+    if status == 3 {
+        if let Some(path) = refused_path(rt, repo) {
+            let _ = eprintln!(rt; "the entry's path: {path}");
+        }
+    }
     status
 }
 
 fn run_words<H: Threads + Wait + Sync>(rt: HostRuntime, threads: &H) -> Result<u8, AllocError> {
-    let words = words_of(rt.alloc(), args(&rt))?;
+    let all = args(&rt);
+    let are_text = all.is_ok();
+    let words = words_of(rt.alloc(), all)?;
     let (mut repo, tree) = folders_of(rt, &words)?;
-    Ok(run_in(rt, threads, &words, &mut repo, tree))
+    let status = run_in(rt, threads, &words, &mut repo, tree);
+    Ok(end_with(rt, status, &words, are_text, &mut repo))
 }
 
 fn main(rt: HostRuntime) -> ExitCode {
-    let status = run_words(rt, &rt).unwrap_or(5);
-    if let Some(message) = message_of(status) {
-        let _ = eprintln!(rt; "{message}");
+    match run_words(rt, &rt) {
+        Ok(status) => ExitCode::from(status),
+        Err(_) => {
+            show_message(rt, 5);
+            ExitCode::from(5)
+        }
     }
-    ExitCode::from(status)
 }

@@ -5,9 +5,10 @@
 //! call that opens below an open folder: if another process puts a link in a folder's place between them, it is
 //! followed. The path of the worktree's folder itself may lead over links.
 
-use std::fs::{File, OpenOptions, create_dir, create_dir_all, symlink_metadata};
+use std::fs::{File, OpenOptions, create_dir, create_dir_all, remove_file, symlink_metadata};
 use std::io;
 use std::io::ErrorKind;
+use std::os::unix::fs::MetadataExt;
 
 /// Makes a file where nothing is, and never through a link.
 fn create_new(rt: HostRuntime, path: &str) -> io::Result<File> {
@@ -69,4 +70,15 @@ pub fn create_in_tree(rt: HostRuntime, path: &str, top: usize) -> io::Result<Fil
         create_dir_all(&rt, tree)?;
     }
     create_below(rt, path, top)
+}
+
+/// Removes this open file from the path. If anything else is there, that is a fault, and it stays. No other file can have
+/// the open file's number. The look and the removal are two calls.
+pub fn remove_own(rt: HostRuntime, file: &File, path: &str) -> io::Result<()> {
+    let own = file.metadata()?;
+    let found = symlink_metadata(&rt, path)?;
+    if own.dev() != found.dev() || own.ino() != found.ino() {
+        return Err(io::Error::from(ErrorKind::AlreadyExists));
+    }
+    remove_file(&rt, path)
 }

@@ -1,6 +1,6 @@
 ghost use Rattle.std.specs.Prelude.{◌≡◌, None};
 
-use crate::write_whole::write_whole;
+use crate::write_whole::{told, write_whole};
 use edge_kit::{SendFault, Sink};
 use std::io::Write;
 
@@ -23,7 +23,7 @@ impl<W: Write + Drop> Sink for OutputSink<W> {
     ghost seen = { λ s. record { written = None; faults = s.faults } };
 
     fn write(&mut self, piece: &[u8]) -> Result<(), SendFault> {
-        let written = write_whole(&mut self.out, piece);
+        let written = write_whole(&mut self.out, piece).map_err(told);
         if let Err(SendFault::Failed) = written {
             self.faults = self.faults.saturating_add(1);
         }

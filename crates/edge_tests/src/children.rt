@@ -1,9 +1,14 @@
 //! Child processes: what they are sent, what they write, how they end.
+use crate::place::{folder_with, path_in};
 use crate::table::is_right;
-use edge_adapters::{ProcessLink, ProcessSpawner};
+use edge_adapters::{ProcessLink, ProcessSpawner, ProcessStarter};
 use edge_kit::{Failed, Link, SendFault, Spawner, Starter};
 use std::alloc::{AllocError, Global};
+use std::fs::remove_dir_all;
+use std::io;
 use std::test::Fail;
+use std::thread::sleep;
+use std::time::Duration;
 
 /// A command, what it is sent before its input is closed, and the whole of what it writes.
 const CASES: [(&[u8], &[u8], &[u8]); 4] = [
@@ -68,7 +73,7 @@ fn a_child_is_sent_its_input_and_its_output_is_read(rt: HostRuntime) -> Result<(
 }
 
 #[test]
-fn a_child_that_has_ended_is_a_fault_and_no_signal(rt: HostRuntime) -> Result<(), Fail> {
+fn a_send_to_a_closed_input_is_no_fault_and_no_signal(rt: HostRuntime) -> Result<(), Fail> {
     let mut starter = ProcessSpawner::new(rt).starter(b"exec <&-; printf x")?;
     let Ok(mut link) = starter.start() else {
         panic!(rt; "not started");
@@ -76,8 +81,125 @@ fn a_child_that_has_ended_is_a_fault_and_no_signal(rt: HostRuntime) -> Result<()
     // its output ends after its input is closed
     let output = read_all(rt.alloc(), &mut link)?;
     assert!(rt; output.is_some_and(|bytes| bytes.as_slice() == b"x".as_slice()));
+    assert!(rt; link.send(b"more").is_ok());
+    assert!(rt; link.send(b"and more").is_ok());
+    // what it wrote has ended, and stays so
+    let rest = read_all(rt.alloc(), &mut link)?;
+    assert!(rt; rest.is_some_and(|bytes| bytes.is_empty()));
+    // but nothing is sent once this side has closed the input
+    assert!(rt; link.shut_input().is_ok());
     assert!(rt; matches!(link.send(b"more"), Err(SendFault::Failed)));
     starter.end(link);
+    Ok(())
+}
+
+/// The number of a child that is started, writes it, and is given up.
+fn number_of(rt: HostRuntime, starter: &mut ProcessStarter) -> Result<String, Fail> {
+    let Ok(mut link) = starter.start() else {
+        return Ok(String::new(rt.alloc()));
+    };
+    let mut piece = [0; 12];
+    let count = match link.read(&mut piece) {
+        Ok(count) => count.min(12),
+        Err(Failed) => 0,
+    };
+    let (digits, _) = piece.split_at(count);
+    let number = String::from_utf8(Vec::from_slice(rt.alloc(), digits)?);
+    starter.end(link);
+    match number {
+        Ok(number) => Ok(number),
+        Err(_) => Ok(String::new(rt.alloc())),
+    }
+}
+
+/// Whether the system has a process of this number, be it a zombie.
+fn is_there(rt: HostRuntime, number: &str) -> io::Result<bool> {
+    let path = format!(in rt.alloc(); "/proc/{number}/stat")?;
+    std::fs::exists(&rt, path.as_str())
+}
+
+#[test]
+fn a_child_that_goes_on_is_ended_with_its_starter(rt: HostRuntime) -> Result<(), Fail> {
+    if !std::fs::exists(&rt, "/proc/self/stat")? {
+        return Ok(());
+    }
+    let mut spawner = ProcessSpawner::new(rt);
+    let mut starter = spawner.starter(b"printf %s $$; exec sleep 1000")?;
+    let first = number_of(rt, &mut starter)?;
+    let second = number_of(rt, &mut starter)?;
+    assert!(rt; is_there(rt, first.as_str())? && is_there(rt, second.as_str())?);
+    spawner.take_back(starter);
+    assert!(rt; !is_there(rt, first.as_str())? && !is_there(rt, second.as_str())?);
+    Ok(())
+}
+
+/// A driver that goes on if no file is at the path, and makes one; and else ends.
+const FIRST_GOES_ON: &str = "printf %s $$; [ -e PATH ] && exit; : >PATH; exec sleep 1000";
+
+#[test]
+fn a_child_that_has_ended_is_no_zombie_while_an_older_one_goes_on(
+    rt: HostRuntime,
+) -> Result<(), Fail> {
+    if !std::fs::exists(&rt, "/proc/self/stat")? {
+        return Ok(());
+    }
+    let folder = folder_with(rt, "zombie", "")?;
+    let mark = path_in(rt, folder.as_str(), "mark")?;
+    let command = FIRST_GOES_ON.replace(rt.alloc(), "PATH", mark.as_str())?;
+    let mut spawner = ProcessSpawner::new(rt);
+    let mut starter = spawner.starter(command.as_bytes())?;
+    let first = number_of(rt, &mut starter)?;
+    let second = number_of(rt, &mut starter)?;
+    // time to end, and a start, which looks
+    sleep(&rt, Duration::from_millis(300));
+    let third = number_of(rt, &mut starter)?;
+    assert!(rt; is_there(rt, first.as_str())? && !is_there(rt, second.as_str())?);
+    spawner.take_back(starter);
+    assert!(rt; !is_there(rt, first.as_str())? && !is_there(rt, third.as_str())?);
+    remove_dir_all(&rt, folder.as_str())?;
+    Ok(())
+}
+
+/// Whether this is what is kept of the first bytes of a command's output, after two sessions.
+fn begins_with(rt: HostRuntime, command: &[u8], front: &[u8]) -> Result<bool, Fail> {
+    let mut spawner = ProcessSpawner::new(rt);
+    let mut starter = spawner.starter(command)?;
+    for _ in 0..2 {
+        let Ok(mut link) = starter.start() else {
+            return Ok(false);
+        };
+        let _ = read_all(rt.alloc(), &mut link)?;
+        starter.end(link);
+    }
+    spawner.take_back(starter);
+    match spawner.drivers() {
+        [driver] => Ok(driver.front.as_slice() == front),
+        _ => Ok(false),
+    }
+}
+
+/// A command, and what is kept of what it writes first.
+const FRONTS: [(&[u8], &[u8]); 5] = [
+    (
+        b"echo Not in a Git repository.",
+        b"Not in a Git repository.\n",
+    ),
+    // packets begin with four hexadecimal digits
+    (b"printf '0016git-filter-server\\n'", b""),
+    (b"printf 00AfX", b""),
+    (b"printf 00", b""),
+    // 80 bytes of many
+    (
+        b"printf '%080d' 0 | tr 0 x; printf 'more than that'",
+        &[b'x'; 80],
+    ),
+];
+
+#[test]
+fn what_a_driver_writes_in_place_of_packets_is_kept(rt: HostRuntime) -> Result<(), Fail> {
+    for (command, front) in FRONTS {
+        is_right(&rt, begins_with(rt, command, front)?, command);
+    }
     Ok(())
 }
 

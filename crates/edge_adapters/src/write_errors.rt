@@ -1,0 +1,69 @@
+//! Why files of a worktree couldn't be written.
+use std::alloc::{AllocError, Global};
+use std::io;
+
+/// How many different errors are kept.
+const MOST: usize = 8;
+
+/// An error of the system, and at how many paths it came.
+#[derive(Clone, Copy)]
+pub struct ErrorCount {
+    pub error: io::Error,
+    pub paths: u64,
+}
+
+/// The first error of each path that had one. Of many different errors only the first are kept.
+#[derive(Drop)]
+pub struct WriteErrors {
+    counts: Vec<ErrorCount>,
+    others: u64,
+}
+
+fn is_same(one: &io::Error, other: &io::Error) -> bool {
+    one.raw_os_error() == other.raw_os_error() && one.kind() == other.kind()
+}
+
+impl WriteErrors {
+    pub fn new(alloc: Global) -> WriteErrors {
+        WriteErrors {
+            counts: Vec::new(alloc),
+            others: 0,
+        }
+    }
+
+    /// Takes the room for all errors that are kept.
+    pub fn reserve(&mut self) -> Result<(), AllocError> {
+        self.counts.reserve(MOST)
+    }
+
+    /// Counts the error of a path. It takes no memory after `reserve`.
+    pub fn add(&mut self, error: &io::Error) {
+        for count in self.counts.iter_mut() {
+            if is_same(&count.error, error) {
+                count.paths = count.paths.saturating_add(1);
+                return;
+            }
+        }
+        let is_kept = self.counts.len() < MOST
+            && self
+                .counts
+                .push(ErrorCount {
+                    error: *error,
+                    paths: 1,
+                })
+                .is_ok();
+        if !is_kept {
+            self.others = self.others.saturating_add(1);
+        }
+    }
+
+    /// The errors that are kept, in the order in which they first came.
+    pub fn counts(&self) -> &[ErrorCount] {
+        self.counts.as_slice()
+    }
+
+    /// At how many paths another error came.
+    pub fn others(&self) -> u64 {
+        self.others
+    }
+}
