@@ -1,10 +1,9 @@
 -- The text of entries of some index is an index of them.
-use Rattle.std.proofs.Common.{◌≡◌, ℕ, zero, suc, ◌+◌, ◌<◌, ◌≤◌, Bool, true, false, List, [], ◌∷◌, ◌++◌, length, get_or, take, replicate, refl, sym, ap, subst, ◌∙◌, append_assoc, add-one, arith}
+use Rattle.std.proofs.Common.{◌≡◌, ℕ, zero, suc, ◌+◌, ◌<◌, ◌≤◌, Bool, true, false, List, [], ◌∷◌, ◌++◌, length, get_or, take, refl, sym, ap, subst, ◌∙◌, append_assoc, add-one, arith}
 use Rattle.std.specs.Prelude.{map, if◌then◌else◌, ◌||◌}
-use Rattle.std.specs.List.{flat_map, list_any}
-use Rattle.std.specs.Int.{w16, w32, to_be_bytes}
+use Rattle.std.specs.List.{flat_map, list_any, AllByRecursion}
 use Rattle.std.proofs.lemmas.Bool.{or_right}
-use Rattle.std.proofs.lemmas.List.{length-append, append-nil, length-map, length-replicate, take_all}
+use Rattle.std.proofs.lemmas.List.{append-nil, length-map, take_all}
 use Rattle.std.proofs.lemmas.Grind.{flat_map-append}
 use Rattle.std.proofs.Math.Seq.{take-suc}
 use Rattle.std.proofs.lemmas.List.Concat.{flat_map-cons}
@@ -13,34 +12,39 @@ use Rattle.sha1.specs.Sha1.{sha1}
 use Rattle.git_index.specs.declared.entry.Entry.{Entry}
 use Rattle.git_index.specs.declared.version.Version.{Version as Release}
 use Rattle.git_index.specs.declared.version.Version.TheVariants.{Two, Three, Four}
-use Rattle.git_index.specs.Spelling.{Written, IsWritten, AreWritten, all_spelled, header, body, is_hash_of, IsIndexText, IsIndex, is_flagged, plain, plain_version, plain_spelled, plain_body, plain_text}
+use Rattle.git_index.specs.Spelling.{Written, IsWritten, AreWritten, all_spelled, header, body, is_hash_of, IsIndexText, IsIndex, IsEntry, EntriesHaveAText, is_flagged, plain, plain_version, plain_spelled, plain_body, plain_text}
 use Rattle.git_index.proofs.Whole.{entries_of}
-use Rattle.git_index.proofs.AgainWhole.{length-sha1, length-hash}
 
 neither : (a b : Bool) → (a || b) ≡ false → (a ≡ false) × (b ≡ false)
 neither true b e = absurd cc
 neither false b e = (refl, e)
 
-plain_fits : (from version : Release) (before last : List ℕ) (w : Written) → (version ≡ Two → is_flagged w.entry ≡ false) → (version ≡ Four → ⊥) → IsWritten from before w → IsWritten version last (plain w.entry)
-plain_fits from version before last w two never fits = record {
+plain_fits : (version : Release) (last : List ℕ) (e : Entry) → (version ≡ Two → is_flagged e ≡ false) → (version ≡ Four → ⊥) → IsEntry e → IsWritten version last (plain e)
+plain_fits version last e two never is = record {
   before = refl;
   after = refl;
-  name = fits.name;
+  name = is.name;
   valid = omega arith;
-  stage = fits.stage;
-  path = fits.path;
-  no_nul = fits.no_nul;
+  stage = is.stage;
+  path = is.path;
+  no_nul = is.no_nul;
   bits = two;
-  none = neither w.entry.sparse w.entry.intent;
+  none = neither e.sparse e.intent;
   changed = λ four. absurd (never four);
 }
 
-all_plain : (from version : Release) (before last : List ℕ) (ws : List Written) → (version ≡ Two → list_any is_flagged (entries_of ws) ≡ false) → (version ≡ Four → ⊥) → AreWritten from before ws → AreWritten version last (map plain (entries_of ws))
-all_plain from version before last [] two never fits = tt
-all_plain from version before last (w ∷ ws) two never fits = (
-  plain_fits from version before last w (λ e. (neither (is_flagged w.entry) (list_any is_flagged (entries_of ws)) (two e)).0) never fits.0,
-  all_plain from version w.entry.path w.entry.path ws (λ e. (neither (is_flagged w.entry) (list_any is_flagged (entries_of ws)) (two e)).1) never fits.1,
+all_plain : (version : Release) (last : List ℕ) (es : List Entry) → (version ≡ Two → list_any is_flagged es ≡ false) → (version ≡ Four → ⊥) → AllByRecursion IsEntry es → AreWritten version last (map plain es)
+all_plain version last [] two never are = tt
+all_plain version last (e ∷ es) two never are = (
+  plain_fits version last e (λ is. (neither (is_flagged e) (list_any is_flagged es) (two is)).0) never are.0,
+  all_plain version e.path es (λ is. (neither (is_flagged e) (list_any is_flagged es) (two is)).1) never are.1,
 )
+
+entries_are : (version : Release) (last : List ℕ) (ws : List Written) → AreWritten version last ws → AllByRecursion IsEntry (entries_of ws)
+entries_are version last [] fits = tt
+entries_are version last (w ∷ ws) fits =
+    let f = fits.0 in
+    (record { name = f.name; stage = f.stage; path = f.path; no_nul = f.no_nul }, entries_are version w.entry.path ws fits.1)
 
 same_entries : (es : List Entry) → entries_of (map plain es) ≡ es
 same_entries [] = refl
@@ -69,36 +73,37 @@ plain_body-is es =
 hash_of : (text : List ℕ) → is_hash_of text (sha1 text) ≡ true
 hash_of text = or_right _ _ ((bytes_eq-Decides (sha1 text) (sha1 text)).1 refl)
 
-pub plain_index : (bytes : List ℕ) (es : List Entry) → IsIndex bytes es → IsIndexText (plain_text es) es
-plain_index bytes es index =
-    let text : IsIndexText bytes es = index.text in
-    let version : Release = plain_version es in
-    let two : version ≡ Two → list_any is_flagged (entries_of text.written) ≡ false = λ e. ap (list_any is_flagged) text.same ∙ two_by (list_any is_flagged es) e in
-    record {
-      version = version;
-      written = map plain es;
-      extensions = [];
-      hash = sha1 (plain_body es);
-      spelled_so = ap (λ (b : List ℕ). b ++ sha1 (plain_body es)) (plain_body-is es);
-      same = same_entries es;
-      fit = subst (λ (xs : List Entry). AreWritten version [] (map plain xs)) text.same (all_plain text.version version [] [] text.written two (never_four (list_any is_flagged es)) text.fit);
-      passed = tt;
-      hashed = subst (λ (b : List ℕ). is_hash_of b (sha1 (plain_body es)) ≡ true) (plain_body-is es) (hash_of (plain_body es));
-      few = text.few;
-      rising = text.rising;
-      alone = text.alone;
-      apart = text.apart;
-    }
+pub have_a_text : EntriesHaveAText
+have_a_text es are few rising alone apart = record {
+  version = plain_version es;
+  written = map plain es;
+  extensions = [];
+  hash = sha1 (plain_body es);
+  spelled_so = ap (λ (b : List ℕ). b ++ sha1 (plain_body es)) (plain_body-is es);
+  same = same_entries es;
+  fit = all_plain (plain_version es) [] es (two_by (list_any is_flagged es)) (never_four (list_any is_flagged es)) are;
+  passed = tt;
+  hashed = subst (λ (b : List ℕ). is_hash_of b (sha1 (plain_body es)) ≡ true) (plain_body-is es) (hash_of (plain_body es));
+  few = few;
+  rising = rising;
+  alone = alone;
+  apart = apart;
+}
 
-stages : (version : Release) (last : List ℕ) (ws : List Written) → AreWritten version last ws → (i : ℕ) (d : Entry) → i < length (entries_of ws) → (get_or (entries_of ws) i d).stage < 4
-stages version last [] fits i d lt = absurd (omega arith)
-stages version last (w ∷ ws) fits zero d lt = fits.0.stage
-stages version last (w ∷ ws) fits (suc i) d lt = stages version w.entry.path ws fits.1 i d (omega arith)
+index_entries : (bytes : List ℕ) (es : List Entry) → IsIndex bytes es → AllByRecursion IsEntry es
+index_entries bytes es index = subst (AllByRecursion IsEntry) index.text.same (entries_are index.text.version [] index.text.written index.text.fit)
+
+pub plain_index : (bytes : List ℕ) (es : List Entry) → IsIndex bytes es → IsIndexText (plain_text es) es
+plain_index bytes es index = let text = index.text in have_a_text es (index_entries bytes es index) text.few text.rising text.alone text.apart
+
+stages : (es : List Entry) → AllByRecursion IsEntry es → (i : ℕ) (d : Entry) → i < length es → (get_or es i d).stage < 4
+stages [] are i d lt = absurd (omega arith)
+stages (e ∷ es) are zero d lt = are.0.stage
+stages (e ∷ es) are (suc i) d lt = stages es are.1 i d (omega arith)
 
 -- each entry of an index has a stage of two bits
 pub stage_at : (bytes : List ℕ) (es : List Entry) → IsIndex bytes es → (i : ℕ) (e : Entry) → i < length es → e ≡ get_or es i e → e.stage < 4
-stage_at bytes es index i e lt is =
-    subst (λ (x : Entry). x.stage < 4) (sym is) (subst (λ (xs : List Entry). i < length xs → (get_or xs i e).stage < 4) index.text.same (stages index.text.version [] index.text.written index.text.fit i e) lt)
+stage_at bytes es index i e lt is = subst (λ (x : Entry). x.stage < 4) (sym is) (stages es (index_entries bytes es index) i e lt)
 
 -- one more entry
 pub one_more : (es : List Entry) (i : ℕ) (e : Entry) (start text more : List ℕ) → i < length es → e ≡ get_or es i e → text ≡ start ++ flat_map plain_spelled (take i es) → more ≡ text ++ plain_spelled e → more ≡ start ++ flat_map plain_spelled (take (i + 1) es)

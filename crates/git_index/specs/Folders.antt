@@ -1,6 +1,6 @@
 -- The paths of stage 0 that the last one begins with, as a stack, the longest last.
 use Rattle.std.specs.Prelude.{◌≡◌, ℕ, ◌-◌, Bool, true, false, ◌&&◌, not, nat_eq, nat_lt, List, [], ◌∷◌, ◌++◌}
-use Rattle.std.specs.Prelude.{length, map, slice_get, slice_index, MatchOption, Option, Some, None, ◌==◌}
+use Rattle.std.specs.Prelude.{length, map, slice_get, slice_index, MatchOption, ◌==◌}
 use Rattle.std.specs.List.{list_all, list_any, starts_with}
 use Rattle.git_index.specs.declared.entry.Entry.{Entry}
 use Rattle.git_index.specs.Spelling.{pairwise, is_before, is_below, is_in_folder, is_folder_of}

@@ -1,4 +1,4 @@
-use Rattle.std.proofs.Common.{rules, arith, ◌≤◌, ◌<◌, ◌-◌, ◌^◌, length, sym, ◌∙◌}
+use Rattle.std.proofs.Common.{rules, arith, ◌<◌, ◌-◌, ◌^◌, length, sym, ◌∙◌}
 use Rattle.git_index.proofs.Changing.{refused, made}
 use Rattle.git_index.proofs.path_part.changed_of.Goals as goal
 

@@ -1,4 +1,4 @@
-use Rattle.std.proofs.Common.{rules, ◌≡◌, ◌++◌, ◌∷◌, [], true, false, List, subst, sym, ap, ◌∙◌}
+use Rattle.std.proofs.Common.{rules, ◌≡◌, ◌++◌, ◌∷◌, [], true, false, List, subst, sym}
 use Rattle.git_index.specs.declared.entry.Entry.{Entry}
 use Rattle.git_index.specs.Spelling.{is_below, is_alone}
 use Rattle.git_index.specs.Reading.{is_none_or, last_of}
