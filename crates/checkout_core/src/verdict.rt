@@ -39,6 +39,10 @@ pub enum SkipCause {
     Gitlink,
     /// A path with stages 1 to 3.
     Unmerged,
+    /// A path that a sparse checkout leaves out.
+    Sparse,
+    /// A path that is to be added and has no content yet.
+    Intent,
 }
 
 /// Why a path failed.

@@ -26,8 +26,9 @@ use Rattle.checkout_core.specs.declared.path.Start.TheVariants as start
 use Rattle.checkout_plan.specs.declared.path_plan.PathPlan.{PathPlan}
 use Rattle.checkout_plan.specs.declared.path_plan.Plan.{Plan}
 use Rattle.checkout_plan.specs.AttributeFiles.{attribute_files}
-use Rattle.checkout_plan.specs.Paths.{no_conversion, path_with, closed, converted, file_path, path_of_mode, asked_path, asked_paths, first_entries, path_among, start_among, plan_of}
+use Rattle.checkout_plan.specs.Paths.{no_conversion, path_with, closed, converted, file_path, text_path, link_path, path_of_mode, asked_path, asked_paths, first_entries, path_among, start_among, plan_of}
 use Rattle.checkout_plan.specs.Paths.{start_by, start_at, start_named, filter_start, is_desk_of, asks_for, is_used, used_from, number_at}
+use Rattle.checkout_engine.proofs.LeftOut.{left_out_by}
 use Rattle.checkout_engine.specs.Cards.{AreOrdered, AreDrivers, HasDriver}
 use Rattle.checkout_engine.specs.Sources.{IsPlanned}
 use Rattle.checkout_engine.proofs.Order.{precedes, plan_rises}
@@ -78,9 +79,9 @@ text_is ds e p true is = is
 text_is ds e p false is = tt
 
 mode_is : (m : Mode) (files : AttrFiles) (settings : Settings) (e : Entry) → StartsBy settings.drivers (path_of_mode m files settings e).start
-mode_is mode.Plain files settings e = text_is settings.drivers e (file_path files settings e) (is_utf8 e.path) (converted_is settings.drivers e _ _ (filter_is settings.drivers _))
-mode_is mode.Executable files settings e = text_is settings.drivers e (file_path files settings e) (is_utf8 e.path) (converted_is settings.drivers e _ _ (filter_is settings.drivers _))
-mode_is mode.Link files settings e = text_is settings.drivers e (path_with e no_conversion start.Pool) (is_utf8 e.path) tt
+mode_is mode.Plain files settings e = left_out_by (λ p. StartsBy settings.drivers p.start) e (text_path files settings e) (λ v. tt) (text_is settings.drivers e (file_path files settings e) (is_utf8 e.path) (converted_is settings.drivers e _ _ (filter_is settings.drivers _)))
+mode_is mode.Executable files settings e = left_out_by (λ p. StartsBy settings.drivers p.start) e (text_path files settings e) (λ v. tt) (text_is settings.drivers e (file_path files settings e) (is_utf8 e.path) (converted_is settings.drivers e _ _ (filter_is settings.drivers _)))
+mode_is mode.Link files settings e = left_out_by (λ p. StartsBy settings.drivers p.start) e (link_path e) (λ v. tt) (text_is settings.drivers e (path_with e no_conversion start.Pool) (is_utf8 e.path) tt)
 mode_is mode.Gitlink files settings e = tt
 
 asked_is : (files : AttrFiles) (settings : Settings) (e : Entry) → StartsBy settings.drivers (asked_path files settings e).start

@@ -32,6 +32,7 @@ use Rattle.checkout_core.specs.declared.verdict.SkipCause.TheVariants as skip
 use Rattle.checkout_plan.specs.AttributeFiles.{attribute_files}
 use Rattle.checkout_plan.specs.Paths.{no_conversion, path_with, closed, converted, file_path, text_path, link_path, path_of_mode, asked_path, first_entries_after, first_entries, asked_paths, path_among, plan_of}
 use Rattle.convert_plan.specs.Prepared.{prepared}
+use Rattle.checkout_engine.proofs.LeftOut.{left_out_by}
 use Rattle.checkout_engine.specs.Ends.{files_of}
 use Rattle.checkout_engine.specs.Outcome.{Outcome, MayLeavePart, LeavesPart, LeavesFile, HasVerdict, HasDeskVerdict, HasOutcome, AreOutcomes}
 use Rattle.checkout_engine.specs.Talks.{DriverTalk}
@@ -108,9 +109,9 @@ link_path-path e = elim (is_utf8 e.path) as (λ t. (if t then path_with e no_con
 ]
 
 path_of_mode-path : (m : Mode) (files : AttrFiles) (settings : Settings) (e : Entry) → (path_of_mode m files settings e).path ≡ e.path
-path_of_mode-path mode.Plain files settings e = text_path-path files settings e
-path_of_mode-path mode.Executable files settings e = text_path-path files settings e
-path_of_mode-path mode.Link files settings e = link_path-path e
+path_of_mode-path mode.Plain files settings e = left_out_by (λ p. p.path ≡ e.path) e (text_path files settings e) (λ v. refl) (text_path-path files settings e)
+path_of_mode-path mode.Executable files settings e = left_out_by (λ p. p.path ≡ e.path) e (text_path files settings e) (λ v. refl) (text_path-path files settings e)
+path_of_mode-path mode.Link files settings e = left_out_by (λ p. p.path ≡ e.path) e (link_path e) (λ v. refl) (link_path-path e)
 path_of_mode-path mode.Gitlink files settings e = refl
 
 asked_path-path : (files : AttrFiles) (settings : Settings) (e : Entry) → (asked_path files settings e).path ≡ e.path

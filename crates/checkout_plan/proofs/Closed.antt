@@ -18,6 +18,7 @@ use Rattle.checkout_core.specs.declared.verdict.FailCause.TheVariants as fail
 use Rattle.checkout_core.specs.declared.verdict.SkipCause.TheVariants as skip
 use Rattle.checkout_core.specs.declared.path.Start.{Start}
 use Rattle.checkout_core.specs.declared.path.Start.TheVariants as start
+use Rattle.checkout_plan.proofs.LeftOut.{left_out_by}
 use Rattle.checkout_plan.specs.AttributeFiles.{attribute_files}
 use Rattle.checkout_plan.specs.declared.path_plan.PathPlan.{PathPlan}
 use Rattle.checkout_plan.specs.Paths.{no_conversion, path_with, closed, start_by, start_at, start_named, filter_start, converted, file_path, text_path, link_path, path_of_mode, asked_path, first_entries, asked_paths, start_among, path_among, plan_of, HasCause}
@@ -61,9 +62,9 @@ link_path-cause e = elim (is_utf8 e.path) as (λ t. HasCause (if t then path_wit
 ]
 
 mode-cause : (m : Mode) (files : AttrFiles) (settings : Settings) (e : Entry) → HasCause (path_of_mode m files settings e).start
-mode-cause mode.Plain files settings e = text_path-cause files settings e
-mode-cause mode.Executable files settings e = text_path-cause files settings e
-mode-cause mode.Link files settings e = link_path-cause e
+mode-cause mode.Plain files settings e = left_out_by (λ p. HasCause p.start) e (text_path files settings e) (λ c. tt) (text_path-cause files settings e)
+mode-cause mode.Executable files settings e = left_out_by (λ p. HasCause p.start) e (text_path files settings e) (λ c. tt) (text_path-cause files settings e)
+mode-cause mode.Link files settings e = left_out_by (λ p. HasCause p.start) e (link_path e) (λ c. tt) (link_path-cause e)
 mode-cause mode.Gitlink files settings e = tt
 
 asked-cause : (files : AttrFiles) (settings : Settings) (e : Entry) → HasCause (asked_path files settings e).start

@@ -1,6 +1,6 @@
 -- The attribute files of an index (gitattributes(5)).
 use Rattle.std.specs.Prelude.{ℕ, Bool, true, false, ◌-◌, ◌+◌, ◌&&◌, ◌||◌, ◌==◌, ◌^◌, nat_eq, min}
-use Rattle.std.specs.Prelude.{sum_by, List, [], ◌∷◌, length, take, fold, filter, codes}
+use Rattle.std.specs.Prelude.{not, sum_by, List, [], ◌∷◌, length, take, fold, filter, codes}
 use Rattle.std.specs.List.{ends_with}
 use Rattle.std.specs.Str.{bytes_eq}
 use Rattle.std.specs.Ordering.{nat_cmp, match_ordering}
@@ -22,9 +22,9 @@ is_file_mode m = false
 abbrev pub names_attributes : List ℕ → Bool
 names_attributes path = bytes_eq path (codes ".gitattributes") || ends_with nat_eq path (codes "/.gitattributes")
 
--- an entry that is an attribute file: a file, executable or not, of stage 0
+-- an entry that is an attribute file: a file, executable or not, of stage 0, that has its content
 abbrev pub is_attribute_file : Entry → Bool
-is_attribute_file e = e.stage == 0 && is_file_mode e.mode && names_attributes e.path
+is_attribute_file e = e.stage == 0 && is_file_mode e.mode && not e.intent && names_attributes e.path
 
 abbrev pub attribute_entries : List Entry → List Entry
 attribute_entries es = filter is_attribute_file es

@@ -101,10 +101,17 @@ link_path e =
     if is_utf8 e.path then path_with e no_conversion start.Pool
     else closed e (verdict.Failed fail.NameNotText)
 
+-- a path that its index entry leaves out: in a sparse checkout, or since it has no content yet
+abbrev pub unless_left_out : Entry → PathPlan → PathPlan
+unless_left_out e p =
+    if e.sparse then closed e (verdict.Skipped skip.Sparse)
+    else if e.intent then closed e (verdict.Skipped skip.Intent)
+    else p
+
 abbrev pub path_of_mode : Mode → AttrFiles → Settings → Entry → PathPlan
-path_of_mode mode.Plain files settings e = text_path files settings e
-path_of_mode mode.Executable files settings e = text_path files settings e
-path_of_mode mode.Link files settings e = link_path e
+path_of_mode mode.Plain files settings e = unless_left_out e (text_path files settings e)
+path_of_mode mode.Executable files settings e = unless_left_out e (text_path files settings e)
+path_of_mode mode.Link files settings e = unless_left_out e (link_path e)
 path_of_mode mode.Gitlink files settings e = closed e (verdict.Skipped skip.Gitlink)
 
 -- the path of an entry with the lowest stage, with its driver numbered among all those of the settings

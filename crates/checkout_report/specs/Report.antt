@@ -81,6 +81,8 @@ fail_word fail.WriteFailed = codes "write"
 abbrev pub skip_word : SkipCause → List ℕ
 skip_word skip.Gitlink = codes "gitlink"
 skip_word skip.Unmerged = codes "unmerged"
+skip_word skip.Sparse = codes "sparse"
+skip_word skip.Intent = codes "intent"
 
 abbrev pub cause_of : Verdict → List ℕ
 cause_of (verdict.Written unencoded) = codes "-"

@@ -112,6 +112,8 @@ fn skip_word(cause: SkipCause) -> &'static str
     match cause {
         SkipCause::Gitlink => "gitlink",
         SkipCause::Unmerged => "unmerged",
+        SkipCause::Sparse => "sparse",
+        SkipCause::Intent => "intent",
     }
 }
 
