@@ -1,5 +1,5 @@
 -- How a path of a driver ends, by what its desk or an actor that had its card from the book leaves.
-use Rattle.std.proofs.Common.{◌≡◌, ℕ, Bool, true, false, cond, List, [], ◌∷◌, take, Option, Some, None, Err, refl, sym, ap, ◌∙◌, subst, inl, inr}
+use Rattle.std.proofs.Common.{◌≡◌, ℕ, Bool, true, false, cond, List, [], ◌∷◌, Option, Some, None, Err, refl, sym, ap, ◌∙◌, subst, inl, inr}
 use Rattle.std.specs.Prelude.{slice_get}
 use Rattle.std.specs.Str.{IsUtf8}
 use Rattle.edge_kit.specs.Faults.{Rose}
@@ -8,7 +8,6 @@ use Rattle.edge_kit.specs.Joins.{JoinsBy, JoinsLeaf}
 use Rattle.edge_kit.specs.Seen.{BlobSeen, LeafSeen, IsNewLeaf, new_blob}
 use Rattle.edge_kit.specs.declared.leaf_state.LeafState.{LeafState}
 use Rattle.edge_kit.specs.declared.leaf_state.LeafState.TheVariants.{Fresh, Sealed, Gone, Stuck}
-use Rattle.edge_kit.specs.declared.leaf_state.Mark.{Mark}
 use Rattle.edge_kit.specs.declared.tree_file.TreeFile.{TreeFile}
 use Rattle.object_dir.specs.Object.{IsObject}
 use Rattle.object_dir.specs.declared.fault.ObjectFault.{ObjectFault}

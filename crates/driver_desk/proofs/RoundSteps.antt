@@ -18,7 +18,6 @@ use Rattle.filter_proto.specs.declared.session.Standing.TheVariants as standing
 use Rattle.checkout_core.specs.Talks.{talk_run, IsOver}
 use Rattle.driver_line.specs.Conversations.{Exchange, Listing, Second, Shutting, notes_of, notes_in, list_notes, FitsTalk}
 use Rattle.driver_line.specs.Lines.{LineView, Paths, Says, RunsTo, MayReply, GoesOn, NamesAre, AreKnown, IsLive, IsOpen, list_standing}
-use Rattle.edge_kit.specs.Told.{Tells}
 use Rattle.edge_kit.specs.Starters.{StarterSeen, Had}
 use Rattle.checkout_core.specs.Transcripts.{Item}
 use Rattle.checkout_core.specs.Transcripts as result

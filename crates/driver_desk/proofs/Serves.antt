@@ -1,6 +1,6 @@
 -- One more exchange of a desk.
 use Rattle.std.proofs.Common.{◌≡◌, ◌==◌, inl, inr, ℕ, Bool, true, false, cond, List, [], ◌∷◌, ◌++◌, Option, Some, None, Result, Ok, Err, refl, sym, ap, subst, ◌∙◌, append_assoc, eq-eqb}
-use Rattle.std.specs.Prelude.{⊤, ◌⊎◌, not, ◌&&◌, map, IsTrue, IsSome, ◌↔◌}
+use Rattle.std.specs.Prelude.{⊤, not, ◌&&◌, map, IsTrue, IsSome, ◌↔◌}
 use Rattle.std.proofs.lemmas.List.{append-nil}
 use Rattle.filter_words.specs.declared.reply.Caps.{Caps}
 use Rattle.filter_words.specs.declared.reply.Reply.{Reply}
@@ -24,11 +24,9 @@ use Rattle.driver_line.specs.Lines.{LineView, Paths, Says, RunsTo, OpenIs, IsOpe
 use Rattle.edge_kit.specs.Seen.{LeafSeen}
 use Rattle.edge_kit.specs.Told.{Tells}
 use Rattle.edge_kit.specs.declared.faults.SendFault.{SendFault}
-use Rattle.edge_kit.specs.declared.leaf_state.LeafState.TheVariants.{Sealed, Stuck}
-use Rattle.edge_kit.specs.declared.leaf_state.Mark.{Mark}
 use Rattle.driver_desk.specs.Rounds.{LateSeen, paths_of}
 use Rattle.driver_desk.specs.Works.{WorkSeen, FitsWork, FitAll, asked_of, asked_in}
-use Rattle.driver_desk.specs.Serving.{Given, Noted, Closed, HandedBack, noted_of, noted_in, AllClosed, TellsPart, IsAnswer, HasAnswer, IsSent, HasSent, HasPart, Holds}
+use Rattle.driver_desk.specs.Serving.{Given, Noted, Closed, HandedBack, noted_of, noted_in, AllClosed, IsAnswer, HasAnswer, IsSent, HasSent, HasPart, Holds}
 use Rattle.driver_desk.specs.Progress.{AreClosings, IsBare, IsUnsealed, EndsPut, EndsAsked, Serves, talk_in, talk_now, newest, IsAskable, is_abort, late_after}
 
 pub runs_more : (paths : Paths) (a b c : LineView) (es : List Exchange) (e : Exchange) → RunsTo paths a es b → Says paths b e c → RunsTo paths a (es ++ e ∷ []) c

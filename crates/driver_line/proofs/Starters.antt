@@ -1,5 +1,5 @@
 -- The starter of a line stays the same one.
-use Rattle.std.proofs.Common.{◌≡◌, inl, inr, ◌≤◌, Bool, true, false, ℕ, List, [], ◌∷◌, ap, ◌∙◌, arith, subst, sym, refl}
+use Rattle.std.proofs.Common.{◌≡◌, inl, inr, ◌≤◌, ℕ, List, [], ◌∷◌, ap, ◌∙◌, arith, subst, sym, refl}
 use Rattle.std.proofs.lemmas.Bool.{cases_Bool}
 use Rattle.std.proofs.lemmas.Bool.{cases_order}
 use Rattle.filter_proto.specs.Wires.{Wire, SessionSeen}

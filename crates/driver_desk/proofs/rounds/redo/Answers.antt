@@ -1,6 +1,5 @@
-use Rattle.std.proofs.Common.{refl, sym, subst, ◌∙◌, ◌≤◌, ℕ, List, Option, length, ap}
+use Rattle.std.proofs.Common.{refl, sym, subst, ◌∙◌, ◌≤◌, ℕ, List, length, ap}
 use Rattle.convert_plan.specs.Card.{card_seen}
-use Rattle.edge_kit.specs.Told.{Tells}
 use Rattle.driver_desk.proofs.Closings.{read_fresh, read_some, read_few, asked_again, read_bare}
 use Rattle.driver_desk.proofs.LeafEnds.{asked_put}
 use Rattle.driver_desk.proofs.Serves.{closed_as}

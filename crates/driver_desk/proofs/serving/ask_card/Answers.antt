@@ -1,6 +1,5 @@
-use Rattle.std.proofs.Common.{ap, sym, subst, ◌∙◌, ◌≤◌, ℕ, List, length, Option, refl, Some}
+use Rattle.std.proofs.Common.{ap, sym, subst, ◌∙◌, ◌≤◌, ℕ, List, length, refl, Some}
 use Rattle.convert_plan.specs.Card.{CardSeen, card_seen}
-use Rattle.edge_kit.specs.Told.{Tells}
 use Rattle.driver_desk.proofs.RoundSteps.{ready_as}
 use Rattle.driver_desk.proofs.Closings.{asked_of, read_again, grows_as, planned_bare}
 use Rattle.driver_desk.proofs.LeafEnds.{asked_put}

@@ -1,4 +1,4 @@
-use Rattle.std.proofs.Common.{◌≡◌, List, ℕ, Ok, subst, rules}
+use Rattle.std.proofs.Common.{◌≡◌, Ok, subst, rules}
 use Rattle.std.specs.Prelude.{Result, ⊤}
 use Rattle.edge_kit.specs.declared.faults.SendFault.{SendFault}
 use Rattle.filter_proto.specs.Replies.{IsPut}

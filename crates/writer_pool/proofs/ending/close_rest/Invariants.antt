@@ -1,4 +1,4 @@
-use Rattle.std.proofs.Common.{◌≡◌, ◌-◌, ◌*◌, ◌<◌, ℕ, List, Option, length}
+use Rattle.std.proofs.Common.{◌≡◌, ◌-◌, ◌*◌, ◌<◌, ℕ, List, length}
 use Rattle.edge_kit.specs.Seen.{LeafSeen}
 use Rattle.checkout_core.specs.declared.path.Start.{Start}
 use Rattle.checkout_core.specs.Actors.{own_entries}
