@@ -50,8 +50,8 @@ module _ {B L : Type 0} (see : Sight B L) where
 
 module _ {S : Type 0} (starter : S → StarterSeen) where
   -- The starter of a desk that has served. Its sessions are a talk over the paths whose content was prepared, with just
-  -- the notes of the actor's own list, and with what the leaf of each card holds that the desk closed. Each path ended as what
-  -- its object gave says.
+  -- the notes of the actor's own list, and with what the leaf of each card holds that the desk closed. Each path ended
+  -- as what its object gave says.
   pub record HasServed (desk : DeskView) (back : S) (mine : List Entry) : Type 0 where
     pub works : List WorkSeen
     pub cards : desk.cards ≡ cards_in works
