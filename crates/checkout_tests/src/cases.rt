@@ -1,7 +1,7 @@
 //! The cases of the tests: what a run meets, and what it leaves.
 //!
 //! A case is a row of cells. Its last cell is what it leaves: the output, the status, and a line for each file. The
-//! others say what it meets, each by a word, whose first letter tells, and what stands behind it:
+//! others say what it meets, each by a word, whose first letter tells, and what stands behind it. Any other is an error:
 //!
 //! - `words`: the words after the two folders, `checkout` if there are none;
 //! - `entry`: the letters of its mode and of its object, and its path;
@@ -18,7 +18,7 @@
 use crate::gate::Watch;
 use crate::index::{PLAIN, index_bytes, mode_of, push_entry};
 use crate::out_of_memory::OutOfMemoryRepo;
-use crate::table::{number_of, parted, rows_of};
+use crate::table::{number_of, parted, rows_of, text_of_row, unknown};
 use byte_path::{Bytes, Items};
 use checkout_core::Event;
 use checkout_engine::run;
@@ -104,8 +104,8 @@ const OBJECTS: [([u8; 20], &[u8]); 9] = [
 ];
 
 /// The name of the object with this letter.
-fn name_of(letters: &[u8]) -> [u8; 20] {
-    match letters {
+fn name_of(letters: &[u8]) -> Result<[u8; 20], Fail> {
+    Ok(match letters {
         [b'h'] => HI,
         [b'b'] => BIN,
         [b'm'] => MIXED,
@@ -117,8 +117,9 @@ fn name_of(letters: &[u8]) -> [u8; 20] {
         [b'n'] => NULS,
         [b'4'] => LETTERS,
         [b'p'] => POINTER,
-        _ => [9; 20],
-    }
+        [b'9'] => [9; 20],
+        _ => return Err(unknown(letters)),
+    })
 }
 
 /// What a run meets.
@@ -188,12 +189,13 @@ fn no_case(alloc: Global) -> Result<Case, Fail> {
     })
 }
 
-fn add_entry(case: &mut Case, value: &[u8]) -> Result<(), AllocError> {
-    if let [mode, object, b' ', path @ ..] = value {
-        let (mode, stage) = mode_of(*mode);
-        push_entry(&mut case.entries, mode, stage, &name_of(&[*object]), path)?;
-        case.count = case.count.wrapping_add(1);
-    }
+fn add_entry(case: &mut Case, value: &[u8]) -> Result<(), Fail> {
+    let [mode, object, b' ', path @ ..] = value else {
+        return Err(unknown(value));
+    };
+    let (mode, stage) = mode_of(*mode)?;
+    push_entry(&mut case.entries, mode, stage, &name_of(&[*object])?, path)?;
+    case.count = case.count.wrapping_add(1);
     Ok(())
 }
 
@@ -206,28 +208,31 @@ fn add_plain_files(alloc: Global, case: &mut Case, count: u32) -> Result<(), All
     Ok(())
 }
 
-fn hash_of(word: &[u8]) -> [u8; 20] {
+fn hash_of(word: &[u8]) -> Result<[u8; 20], Fail> {
     match word {
-        [b'o', b'n', ..] => ONE_ENTRY,
-        [b'n', ..] => NO_ENTRIES,
-        _ => [1; 20],
+        b"one" => Ok(ONE_ENTRY),
+        b"none" => Ok(NO_ENTRIES),
+        b"other" => Ok([1; 20]),
+        _ => Err(unknown(word)),
     }
 }
 
-fn read_fail_of(word: &[u8]) -> RepoFail {
+fn read_fail_of(word: &[u8]) -> Result<RepoFail, Fail> {
     match word {
-        [_] => RepoFail::Object(name_of(word)),
-        [_, b'n', b'd', ..] => RepoFail::Index,
-        [_, b'n', ..] => RepoFail::Info,
-        _ => RepoFail::Config,
+        b"index" => Ok(RepoFail::Index),
+        b"config" => Ok(RepoFail::Config),
+        b"info" => Ok(RepoFail::Info),
+        _ => Ok(RepoFail::Object(name_of(word)?)),
     }
 }
 
-fn leaf_call_of(word: &[u8]) -> LeafCall {
+fn leaf_call_of(word: &[u8]) -> Result<LeafCall, Fail> {
     match word {
-        [b'p', ..] => LeafCall::Put,
-        [b's', ..] => LeafCall::Seal,
-        _ => LeafCall::Restart,
+        b"put" => Ok(LeafCall::Put),
+        b"seal" => Ok(LeafCall::Seal),
+        b"restart" => Ok(LeafCall::Restart),
+        b"discard" => Ok(LeafCall::Discard),
+        _ => Err(unknown(word)),
     }
 }
 
@@ -251,54 +256,63 @@ fn script_of(alloc: Global, command: &[u8], output: &[u8]) -> Result<DriverScrip
     })
 }
 
-/// Takes what a cell says of the repository. Any other cell says nothing of it.
-fn set_repo(alloc: Global, case: &mut Case, letter: u8, value: &[u8]) -> Result<(), Fail> {
+/// Takes what a cell says of the repository. Whether it is such a cell.
+fn set_repo(alloc: Global, case: &mut Case, letter: u8, value: &[u8]) -> Result<bool, Fail> {
     match letter {
         b'e' => add_entry(case, value)?,
-        b'p' => add_plain_files(alloc, case, number_of(value))?,
+        b'p' => add_plain_files(alloc, case, number_of(value)?)?,
         b't' => case.tail = Vec::from_slice(alloc, value)?,
-        b'h' => case.hash = hash_of(value),
+        b'h' => case.hash = hash_of(value)?,
         b'a' => case.has_index = false,
-        b'o' => case.object = name_of(value),
+        b'o' => case.object = name_of(value)?,
         b'b' => case.stored = Vec::from_slice(alloc, value)?,
-        b'n' => case.nuls = number_of(value),
+        b'n' => case.nuls = number_of(value)?,
         b'c' => case.config = Some(Vec::from_slice(alloc, value)?),
         b'i' => case.info = Some(Vec::from_slice(alloc, value)?),
-        b'r' => case.read_fails.push(read_fail_of(value))?,
-        _ => {}
+        b'r' => case.read_fails.push(read_fail_of(value)?)?,
+        _ => return Ok(false),
+    }
+    Ok(true)
+}
+
+/// Takes what a cell says of memory that runs out.
+fn set_memory(case: &mut Case, word: &[u8], letter: &[u8]) -> Result<(), Fail> {
+    match word {
+        b"make" => case.unmade = Some(name_of(letter)?),
+        b"read" => case.unread = Some(name_of(letter)?),
+        _ => return Err(unknown(word)),
     }
     Ok(())
 }
 
-/// Takes what a cell says of all else.
-fn set_rest(alloc: Global, case: &mut Case, letter: u8, value: &[u8]) -> Result<(), Fail> {
+/// Takes what a cell says of all else. Whether it is such a cell.
+fn set_rest(alloc: Global, case: &mut Case, letter: u8, value: &[u8]) -> Result<bool, Fail> {
     let (word, rest) = parted(value);
     match letter {
         b'w' => case.words = words_of(alloc, value)?,
-        b'm' => match word {
-            [b'm', ..] => case.unmade = Some(name_of(rest)),
-            _ => case.unread = Some(name_of(rest)),
-        },
+        b'm' => set_memory(case, word, rest)?,
         b'l' => case
             .leaf_fails
-            .push((Bytes::copy_of(alloc, rest)?, leaf_call_of(word)))?,
-        b's' => case.sink_fails = Some(number_of(value)),
+            .push((Bytes::copy_of(alloc, rest)?, leaf_call_of(word)?))?,
+        b's' => case.sink_fails = Some(number_of(value)?),
         b'f' => case.empty = false,
         b'u' => case.check_fails = true,
         b'd' => case.scripts.push(script_of(alloc, word, rest)?)?,
-        _ => {}
+        _ => return Ok(false),
     }
-    Ok(())
+    Ok(true)
 }
 
-/// Takes what a cell says of a case. A cell with a capital says nothing of it.
+/// Takes what a cell says of a case.
 pub fn set(alloc: Global, case: &mut Case, cell: &[u8]) -> Result<(), Fail> {
     let (_, value) = parted(cell);
-    if let [letter, ..] = cell {
-        set_repo(alloc, case, *letter, value)?;
-        set_rest(alloc, case, *letter, value)?;
+    let [letter, ..] = cell else {
+        return Err(unknown(cell));
+    };
+    if set_repo(alloc, case, *letter, value)? || set_rest(alloc, case, *letter, value)? {
+        return Ok(());
     }
-    Ok(())
+    Err(unknown(cell))
 }
 
 /// The case of these cells.
@@ -447,7 +461,8 @@ pub fn check<H: Threads + Wait + Sync + Abort>(
         };
         let left = ended(rt, alloc, case_of(alloc, cells)?)?;
         let seen = text_of(alloc, &left)?;
-        assert_eq!(rt; seen.as_str(), str::from_utf8(wanted)?);
+        let row = text_of_row(alloc, cells)?;
+        assert_eq!(rt; seen.as_str(), str::from_utf8(wanted)?, "{row}");
     }
     Ok(())
 }

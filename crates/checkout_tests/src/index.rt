@@ -1,5 +1,7 @@
 //! An index as git spells it (gitformat-index(5)), for the tests.
+use crate::table::unknown;
 use std::alloc::{AllocError, Global};
+use std::test::Fail;
 
 pub const PLAIN: u32 = 0o100644;
 
@@ -11,17 +13,18 @@ pub const GITLINK: u32 = 0o160000;
 
 /// The mode and the stage of an entry, by a letter: `-` plain, `x` executable, `l` link, `g` gitlink, a digit a plain
 /// one of that stage, `y` an executable one of stage 1, and `6` one with a mode that isn't right.
-pub fn mode_of(letter: u8) -> (u32, u16) {
+pub fn mode_of(letter: u8) -> Result<(u32, u16), Fail> {
     match letter {
-        b'x' => (EXECUTABLE, 0),
-        b'l' => (LINK, 0),
-        b'g' => (GITLINK, 0),
-        b'1' => (PLAIN, 1),
-        b'2' => (PLAIN, 2),
-        b'3' => (PLAIN, 3),
-        b'6' => (0o100600, 0),
-        b'y' => (EXECUTABLE, 1),
-        _ => (PLAIN, 0),
+        b'-' => Ok((PLAIN, 0)),
+        b'x' => Ok((EXECUTABLE, 0)),
+        b'l' => Ok((LINK, 0)),
+        b'g' => Ok((GITLINK, 0)),
+        b'1' => Ok((PLAIN, 1)),
+        b'2' => Ok((PLAIN, 2)),
+        b'3' => Ok((PLAIN, 3)),
+        b'6' => Ok((0o100600, 0)),
+        b'y' => Ok((EXECUTABLE, 1)),
+        _ => Err(unknown(&[letter])),
     }
 }
 

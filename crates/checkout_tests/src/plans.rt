@@ -5,8 +5,10 @@
 //! - `info`: what `info/attributes` holds;
 //! - `driver`: `+` for one that is required, or `-`, its name, and its command if it has one;
 //! - `objects`: whether they are `there`, or `failing`. Without it they are absent.
+//!
+//! A cell that begins with another word is an error.
 use crate::index::{index_bytes, mode_of, push_entry};
-use crate::table::{parted, rows_of};
+use crate::table::{parted, rows_of, text_of_row, unknown};
 use attr_line::read_attributes;
 use byte_path::{Bytes, Items, quote_path};
 use checkout_core::{FailCause, SkipCause, Start, Verdict};
@@ -34,38 +36,40 @@ struct Given {
     drivers: Vec<Driver>,
 }
 
-fn add_entry(alloc: Global, given: &mut Given, value: &[u8]) -> Result<(), AllocError> {
+fn add_entry(alloc: Global, given: &mut Given, value: &[u8]) -> Result<(), Fail> {
     let (path, content) = parted(value);
-    if let [mode, path @ ..] = path {
-        let (mode, stage) = mode_of(*mode);
-        let name = blob_name(content);
-        push_entry(&mut given.entries, mode, stage, &name, path)?;
-        given.count = given.count.wrapping_add(1);
-        given
-            .objects
-            .push((name, Vec::from_slice(alloc, content)?))?;
-    }
+    let [mode, path @ ..] = path else {
+        return Err(unknown(value));
+    };
+    let (mode, stage) = mode_of(*mode)?;
+    let name = blob_name(content);
+    push_entry(&mut given.entries, mode, stage, &name, path)?;
+    given.count = given.count.wrapping_add(1);
+    given
+        .objects
+        .push((name, Vec::from_slice(alloc, content)?))?;
     Ok(())
 }
 
-fn add_driver(alloc: Global, given: &mut Given, value: &[u8]) -> Result<(), AllocError> {
+fn add_driver(alloc: Global, given: &mut Given, value: &[u8]) -> Result<(), Fail> {
     let (name, process) = parted(value);
-    if let [required, name @ ..] = name {
-        let process = if process.is_empty() {
-            None
-        } else {
-            Some(Bytes::copy_of(alloc, process)?)
-        };
-        given.drivers.push(Driver {
-            name: Bytes::copy_of(alloc, name)?,
-            process,
-            required: *required == b'+',
-        })?;
-    }
+    let [required @ (b'+' | b'-'), name @ ..] = name else {
+        return Err(unknown(value));
+    };
+    let process = if process.is_empty() {
+        None
+    } else {
+        Some(Bytes::copy_of(alloc, process)?)
+    };
+    given.drivers.push(Driver {
+        name: Bytes::copy_of(alloc, name)?,
+        process,
+        required: *required == b'+',
+    })?;
     Ok(())
 }
 
-fn given_of(alloc: Global, cells: &[Vec<u8>]) -> Result<Given, AllocError> {
+fn given_of(alloc: Global, cells: &[Vec<u8>]) -> Result<Given, Fail> {
     let mut given = Given {
         entries: Vec::new(alloc),
         count: 0,
@@ -78,11 +82,12 @@ fn given_of(alloc: Global, cells: &[Vec<u8>]) -> Result<Given, AllocError> {
     for cell in cells {
         let (word, value) = parted(cell);
         match (word, value) {
-            ([b'e', ..], _) => add_entry(alloc, &mut given, value)?,
-            ([b'd', ..], _) => add_driver(alloc, &mut given, value)?,
-            ([b'i', ..], _) => given.info = Vec::from_slice(alloc, value)?,
-            (_, [b't', ..]) => given.are_there = true,
-            _ => given.are_failing = true,
+            (b"entry", _) => add_entry(alloc, &mut given, value)?,
+            (b"driver", _) => add_driver(alloc, &mut given, value)?,
+            (b"info", _) => given.info = Vec::from_slice(alloc, value)?,
+            (b"objects", b"there") => given.are_there = true,
+            (b"objects", b"failing") => given.are_failing = true,
+            _ => return Err(unknown(cell)),
         }
     }
     Ok(given)
@@ -173,7 +178,8 @@ fn check(rt: &impl Abort, alloc: Global, table: &[u8]) -> Result<(), Fail> {
             panic!(rt; "no cells");
         };
         let seen = seen_of(alloc, given_of(alloc, cells)?)?;
-        assert_eq!(rt; seen.as_str(), str::from_utf8(wanted)?);
+        let row = text_of_row(alloc, cells)?;
+        assert_eq!(rt; seen.as_str(), str::from_utf8(wanted)?, "{row}");
     }
     Ok(())
 }

@@ -11,7 +11,7 @@
 //! - `Back`: the numbers of the paths that it must hand back.
 use crate::cases::{Case, case_of, left_by_own, session_of, set, text_of};
 use crate::gate::Watch;
-use crate::table::{number_of, parted, rows_of};
+use crate::table::{number_of, parted, rows_of, unknown};
 use byte_path::{Bytes, Items};
 use checkout_core::Event;
 use edge_kit::{DriverScript, MemorySpawner, SessionScript, SessionSeen, StartOutcome};
@@ -63,13 +63,11 @@ fn text_in(alloc: Global, bytes: &[u8]) -> Result<String, Fail> {
 }
 
 /// Takes what a cell says of the last start.
-fn set_last(alloc: Global, talk: &mut Talk, letter: u8, value: &[u8]) -> Result<(), AllocError> {
-    if let Some(start) = talk.starts.last_mut() {
-        match letter {
-            b'S' => start.sent = Vec::from_slice(alloc, value)?,
-            b'O' => start.shut = false,
-            _ => {}
-        }
+fn set_last(alloc: Global, talk: &mut Talk, cell: &[u8], value: &[u8]) -> Result<(), Fail> {
+    match (cell, talk.starts.last_mut()) {
+        ([b'S', ..], Some(start)) => start.sent = Vec::from_slice(alloc, value)?,
+        ([b'O', ..], Some(start)) => start.shut = false,
+        _ => return Err(unknown(cell)),
     }
     Ok(())
 }
@@ -83,14 +81,19 @@ fn start_of(alloc: Global, starts: bool, output: &[u8]) -> Result<Session, Alloc
     })
 }
 
-fn numbers_of(alloc: Global, text: &[u8]) -> Result<Vec<u32>, AllocError> {
+fn numbers_of(alloc: Global, text: &[u8]) -> Result<Vec<u32>, Fail> {
     let mut numbers = Vec::new(alloc);
     for byte in text {
-        if byte.is_ascii_digit() {
-            numbers.push(number_of(&[*byte]))?;
+        if *byte != b' ' {
+            numbers.push(number_of(&[*byte])?)?;
         }
     }
     Ok(numbers)
+}
+
+/// Whether a cell says something of the case, and not of the talk.
+fn is_of_case(cell: &[u8]) -> bool {
+    matches!(cell, [b'a'..=b'z', ..])
 }
 
 /// Takes what a cell says of a talk.
@@ -98,13 +101,12 @@ fn set_talk(alloc: Global, talk: &mut Talk, cell: &[u8]) -> Result<(), Fail> {
     let (_, value) = parted(cell);
     match cell {
         [b'R', ..] => talk.required = true,
-        [b'P', ..] => talk.piece = number_of(value),
+        [b'P', ..] => talk.piece = number_of(value)?,
         [b'G', ..] => talk.starts.push(start_of(alloc, true, value)?)?,
         [b'F', ..] => talk.starts.push(start_of(alloc, false, b"")?)?,
         [b'N', ..] => talk.notes = text_in(alloc, value)?,
         [b'B', ..] => talk.handed_back = numbers_of(alloc, value)?,
-        [letter, ..] => set_last(alloc, talk, *letter, value)?,
-        [] => {}
+        _ => set_last(alloc, talk, cell, value)?,
     }
     Ok(())
 }
@@ -119,7 +121,9 @@ fn talk_of(alloc: Global, name: &[u8], cells: &[Vec<u8>]) -> Result<Talk, Fail> 
         handed_back: Vec::new(alloc),
     };
     for cell in cells {
-        set_talk(alloc, &mut talk, cell)?;
+        if !is_of_case(cell) {
+            set_talk(alloc, &mut talk, cell)?;
+        }
     }
     Ok(talk)
 }
@@ -141,7 +145,12 @@ fn script_of(alloc: Global, talk: &Talk) -> Result<DriverScript, AllocError> {
 
 /// The checkout of a talk, with these words.
 fn case_with(alloc: Global, talk: &Talk, cells: &[Vec<u8>], words: &[u8]) -> Result<Case, Fail> {
-    let mut case = case_of(alloc, cells)?;
+    let mut case = case_of(alloc, &[])?;
+    for cell in cells {
+        if is_of_case(cell) {
+            set(alloc, &mut case, cell)?;
+        }
+    }
     set(alloc, &mut case, words)?;
     set(alloc, &mut case, b"info * filter=lfs\n")?;
     set(
