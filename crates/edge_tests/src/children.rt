@@ -1,7 +1,9 @@
 //! Child processes: what they are sent, what they write, how they end.
+ghost use Rattle.std.specs.Prelude.{◌≡◌, ◌≤◌, ◌<◌, ◌+◌, length};
+
 use crate::place::{folder_with, path_in};
 use crate::table::is_right;
-use edge_adapters::{ProcessLink, ProcessSpawner, ProcessStarter};
+use edge_adapters::{ProcessLink, ProcessSpawner};
 use edge_kit::{Failed, Link, SendFault, Spawner, Starter};
 use std::alloc::{AllocError, Global};
 use std::fs::remove_dir_all;
@@ -93,22 +95,25 @@ fn a_send_to_a_closed_input_is_no_fault_and_no_signal(rt: HostRuntime) -> Result
     Ok(())
 }
 
-/// The number of a child that is started, writes it, and is given up.
-fn number_of(rt: HostRuntime, starter: &mut ProcessStarter) -> Result<String, Fail> {
-    let Ok(mut link) = starter.start() else {
-        return Ok(String::new(rt.alloc()));
-    };
+/// The number of a child that is started, writes it, and is given up; or the empty text.
+fn number_of<S: Starter>(alloc: Global, starter: &mut S) -> Result<String, AllocError>
+    requires { length (S.seen starter.old).had < 10 }
+    ensures had { length (S.seen starter.new).had ≤ length (S.seen starter.old).had + 1 }
+    ensures out { (S.seen starter.new).out ≡ (S.seen starter.old).out }
+{
     let mut piece = [0; 12];
-    let count = match link.read(&mut piece) {
-        Ok(count) => count.min(12),
-        Err(Failed) => 0,
+    let count = match starter.start() {
+        Ok(mut link) => {
+            let count = link.read(&mut piece);
+            starter.end(link);
+            count.unwrap_or(0)
+        }
+        Err(_) => 0,
     };
-    let (digits, _) = piece.split_at(count);
-    let number = String::from_utf8(Vec::from_slice(rt.alloc(), digits)?);
-    starter.end(link);
-    match number {
-        Ok(number) => Ok(number),
-        Err(_) => Ok(String::new(rt.alloc())),
+    let (digits, _) = piece.as_slice().split_at(count.min(12));
+    match str::from_utf8(digits) {
+        Ok(number) => String::from_str(alloc, number),
+        Err(_) => Ok(String::new(alloc)),
     }
 }
 
@@ -125,8 +130,8 @@ fn a_child_that_goes_on_is_ended_with_its_starter(rt: HostRuntime) -> Result<(),
     }
     let mut spawner = ProcessSpawner::new(rt);
     let mut starter = spawner.starter(b"printf %s $$; exec sleep 1000")?;
-    let first = number_of(rt, &mut starter)?;
-    let second = number_of(rt, &mut starter)?;
+    let first = number_of(rt.alloc(), &mut starter)?;
+    let second = number_of(rt.alloc(), &mut starter)?;
     assert!(rt; is_there(rt, first.as_str())? && is_there(rt, second.as_str())?);
     spawner.take_back(starter);
     assert!(rt; !is_there(rt, first.as_str())? && !is_there(rt, second.as_str())?);
@@ -148,11 +153,11 @@ fn a_child_that_has_ended_is_no_zombie_while_an_older_one_goes_on(
     let command = FIRST_GOES_ON.replace(rt.alloc(), "PATH", mark.as_str())?;
     let mut spawner = ProcessSpawner::new(rt);
     let mut starter = spawner.starter(command.as_bytes())?;
-    let first = number_of(rt, &mut starter)?;
-    let second = number_of(rt, &mut starter)?;
+    let first = number_of(rt.alloc(), &mut starter)?;
+    let second = number_of(rt.alloc(), &mut starter)?;
     // time to end, and a start, which looks
     sleep(&rt, Duration::from_millis(300));
-    let third = number_of(rt, &mut starter)?;
+    let third = number_of(rt.alloc(), &mut starter)?;
     assert!(rt; is_there(rt, first.as_str())? && !is_there(rt, second.as_str())?);
     spawner.take_back(starter);
     assert!(rt; !is_there(rt, first.as_str())? && !is_there(rt, third.as_str())?);
@@ -160,17 +165,35 @@ fn a_child_that_has_ended_is_no_zombie_while_an_older_one_goes_on(
     Ok(())
 }
 
-/// Whether this is what is kept of the first bytes of a command's output, after two sessions.
-fn begins_with(rt: HostRuntime, command: &[u8], front: &[u8]) -> Result<bool, Fail> {
-    let mut spawner = ProcessSpawner::new(rt);
-    let mut starter = spawner.starter(command)?;
-    for _ in 0..2 {
-        let Ok(mut link) = starter.start() else {
-            return Ok(false);
-        };
-        let _ = read_all(rt.alloc(), &mut link)?;
+/// Reads to the end of the output, or so far.
+fn read_out<L: Link>(link: &mut L) {
+    let mut piece = [0; 64];
+    for _ in 0..100 {
+        match link.read(&mut piece) {
+            Ok(0) | Err(Failed) => return,
+            Ok(_) => {}
+        }
+    }
+}
+
+/// One session, which is given up at the end of the output.
+fn run_once<S: Starter>(starter: &mut S)
+    requires { length (S.seen starter.old).had < 10 }
+    ensures had { length (S.seen starter.new).had ≤ length (S.seen starter.old).had + 1 }
+    ensures out { (S.seen starter.new).out ≡ (S.seen starter.old).out }
+{
+    if let Ok(mut link) = starter.start() {
+        read_out(&mut link);
         starter.end(link);
     }
+}
+
+/// Whether this is what is kept of the first bytes of a command's output, after two sessions.
+fn begins_with(rt: HostRuntime, command: &[u8], front: &[u8]) -> Result<bool, AllocError> {
+    let mut spawner = ProcessSpawner::new(rt);
+    let mut starter = spawner.starter(command)?;
+    run_once(&mut starter);
+    run_once(&mut starter);
     spawner.take_back(starter);
     match spawner.drivers() {
         [driver] => Ok(driver.front.as_slice() == front),
