@@ -207,4 +207,4 @@ planned_drivers told plan planned =
 pub planned_ordered : PathsAreOrdered → (told : RepoTold) (plan : Plan) → IsPlanned told plan → AreOrdered plan.paths
 planned_ordered law told plan planned =
     subst (λ (p : Plan). pairwise precedes p.paths ≡ true) (sym planned.made.is)
-    (plan_rises law planned.entries planned.settings planned.info planned.made.contents planned.sources.index.is_index.rising)
+    (plan_rises law planned.entries planned.settings planned.info planned.made.contents planned.sources.index.is_index.text.rising)
