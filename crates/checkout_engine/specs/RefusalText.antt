@@ -3,7 +3,7 @@ use Rattle.std.specs.Prelude.{ℕ, List, [], ◌∷◌, ◌++◌, codes}
 use Rattle.std.specs.Fmt.{decimal}
 use Rattle.hex.specs.Hex.{encode_lower}
 use Rattle.byte_path.specs.Quote.{quoted}
-use Rattle.checkout_report.specs.Report.{object_word}
+use Rattle.checkout_core.specs.CauseWords.{object_word}
 use Rattle.byte_path.specs.Path as path
 use Rattle.git_index.specs.Words.{kind_word, fault_word}
 use Rattle.git_config.specs.Words.{line_word}
