@@ -29,8 +29,7 @@ use Rattle.checkout_book.specs.Sights.{Sight, seen}
 use Rattle.checkout_plan.specs.declared.path_plan.PathPlan.{PathPlan}
 use Rattle.driver_line.specs.Conversations.{notes_in}
 use Rattle.driver_line.specs.Lines.{Paths}
-use Rattle.driver_line.specs.ToldStarts.{GoBy}
-use Rattle.driver_line.specs.Transcripts.{IsTalk}
+use Rattle.driver_line.specs.ToldStarts.{Fills, GoBy}
 use Rattle.driver_desk.specs.Serving.{Holds}
 use Rattle.driver_desk.specs.Ties.{FitsOwn}
 use Rattle.driver_desk.specs.Works.{WorkSeen, AreRead, ReadsAs, ReadsTo, FitAll, FitsContent, FitsWork, asked_in, cards_in}
@@ -225,8 +224,10 @@ module _ {S B L : Type 0} (starter : S → StarterSeen) (see : Sight B L) (ahead
     talks_by : IsTalkBy (ahead (starter s).command) d talk
     talks_by = record {
       left = (starter s).ahead;
-      starts = subst (λ (told : Starts). GoBy told (starter s).had (starter s).ahead) ahead_is (subst (λ (hs : List Had). GoBy (starter seed.starter).ahead hs (starter s).ahead) (sym had_is) said.starts);
-      talk = subst (λ (hs : List Had). IsTalk d over (asked_in works) hs said.exchanges) (sym had_is) said.talk;
+      full = said.full;
+      fills = subst (λ (hs : List Had). Fills hs said.full) (sym had_is) said.fills;
+      starts = subst (λ (told : Starts). GoBy told said.full (starter s).ahead) ahead_is said.starts;
+      talk = said.talk;
       results = said.results;
       whole = said.whole;
       same = said.same;

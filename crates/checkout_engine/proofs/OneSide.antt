@@ -161,7 +161,7 @@ module _ (object : List ℕ → Told) (ahead : List ℕ → Starts) (ps : List P
     said = (talk_at d t there).2
 
     pub given : (n : ℕ) (answer : List ℕ) → Gave t n answer → content_of n t.exchanges ≡ Some answer
-    given n answer gave = g.one d t.paths t.asked t.had t.exchanges (apart t.asked said.over.rises) said.talk.talk n answer (answers_given t.exchanges n answer gave)
+    given n answer gave = g.one d t.paths t.asked said.talk.full t.exchanges (apart t.asked said.over.rises) said.talk.talk n answer (answers_given t.exchanges n answer gave)
 
     -- a path that is asked for has an object that is right
     pub read_in : (n : ℕ) (p : PathPlan) → slice_get ps n ≡ Some p → contains n t.asked ≡ true → (content : List ℕ) × (found_of (object p.object) p.object ≡ Ok content)
@@ -206,9 +206,11 @@ module _ (object : List ℕ → Told) (ahead : List ℕ → Starts) (ps : List P
 
     pub told_talk : (starts : List StartTold) → ahead t.command ≡ Some starts → IsToldTalk d t.paths t.asked starts t.had t.exchanges
     told_talk starts is = record {
+      full = said.talk.full;
+      fills = said.talk.fills;
       talk = said.talk.talk;
       left = said.talk.left;
-      goes = subst (λ (told : Starts). GoBy told t.had said.talk.left) is said.talk.starts;
+      goes = subst (λ (told : Starts). GoBy told said.talk.full said.talk.left) is said.talk.starts;
       fine = holds_at (λ (u : DriverTalk). NoneFailed u.had) talks d t s.links there;
       memory = memory_is;
     }

@@ -207,9 +207,11 @@ module _ (object : List ℕ → Told) (ahead : List ℕ → Starts) (ps : List P
 
     told_talk : IsToldTalk d t.paths t.asked best.starts t.had t.exchanges
     told_talk = record {
+      full = said.2.talk.full;
+      fills = said.2.talk.fills;
       talk = said.2.talk.talk;
       left = said.2.talk.left;
-      goes = subst (λ (told : Starts). GoBy told t.had said.2.talk.left) same_starts said.2.talk.starts;
+      goes = subst (λ (told : Starts). GoBy told said.2.talk.full said.2.talk.left) same_starts said.2.talk.starts;
       fine = holds_at (λ (u : DriverTalk). NoneFailed u.had) talks d t s.links there;
       memory = none_wants;
     }

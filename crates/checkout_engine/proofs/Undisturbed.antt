@@ -95,7 +95,7 @@ module _ (object : List ℕ → Told) (talks : List DriverTalk) where
 
 fine_more : (hs ks : List Had) → NoneFailed hs → NoneFailed ks → NoneFailed (hs ++ ks)
 fine_more [] ks a b = b
-fine_more (Session seen ∷ hs) ks a b = (a.0, a.1, fine_more hs ks a.2 b)
+fine_more (Session seen ∷ hs) ks a b = (a.0, fine_more hs ks a.1 b)
 fine_more (StartFailed ∷ hs) ks a b = fine_more hs ks a b
 fine_more (StartOutOfMemory ∷ hs) ks a b = fine_more hs ks a b
 
@@ -111,7 +111,7 @@ not_zero n is = by (n == 0) refl is
     by false e is = absurd cc
 
 start_fine : (o : StartOutcome) → is_link_failed o ≡ false → NoneFailed (outcome_had o ∷ [])
-start_fine (outcome.Session s) is = (not_zero s.faults is, (s.taken, refl), tt)
+start_fine (outcome.Session s) is = (not_zero s.faults is, tt)
 start_fine outcome.Failed is = tt
 
 starts_fine : (ss : List StartSeen) → list_any (λ s. is_link_failed s.outcome) ss ≡ false → NoneFailed (starts_had ss)

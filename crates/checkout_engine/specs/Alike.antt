@@ -38,8 +38,7 @@ MemoryTellsAll = (index config info : Option (Vec ℕ)) (objects : List (List �
     (fails : List RepoFail) (scripts : List DriverScript)
     → TellAll (repo_told index config info objects fails) (starts_for scripts)
 
--- No leaf of the checkout failed, and no link. Each link told what it took. There was memory for
--- each path.
+-- No leaf of the checkout failed, and no link. There was memory for each path.
 pub record IsUndisturbed {told : RepoTold} {ahead : List ℕ → Starts} {asked : Option ℕ}
     {old new : Seen} (c : IsCheckedOut told ahead asked old new) : Type 0 where
   pub leaves : failed_leaves new.tree.returned ≡ failed_leaves old.tree.returned

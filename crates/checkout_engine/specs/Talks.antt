@@ -18,7 +18,7 @@ use Rattle.checkout_core.specs.Transcripts as result
 use Rattle.driver_line.specs.Conversations.{Exchange, notes_in}
 use Rattle.driver_line.specs.Lines.{Paths}
 use Rattle.driver_line.specs.Transcripts.{IsTalk}
-use Rattle.driver_line.specs.ToldStarts.{GoBy}
+use Rattle.driver_line.specs.ToldStarts.{Fills, GoBy}
 use Rattle.driver_desk.specs.Serving.{HasAnswer}
 use Rattle.checkout_plan.specs.declared.path_plan.PathPlan.{PathPlan}
 use Rattle.checkout_engine.specs.Prepared.{IsPreparedTo}
@@ -43,11 +43,13 @@ abbrev pub Gave : DriverTalk → ℕ → List ℕ → Type 0
 Gave t n bytes = HasAnswer t.exchanges n (Some bytes)
 
 -- What came of the driver's starts goes by the starts that are told, in order. Its sessions and its starts that gave
--- none are a whole talk, case by case.
+-- none are a whole talk, case by case. What its sessions sent and took, told or not, is one list of items for both.
 pub record IsTalkBy (told : Starts) (d : ℕ) (t : DriverTalk) : Type 0 where
+  pub full : List Had
+  pub fills : Fills t.had full
   pub left : Starts
-  pub starts : GoBy told t.had left
-  pub talk : IsTalk d t.paths t.asked t.had t.exchanges
+  pub starts : GoBy told full left
+  pub talk : IsTalk d t.paths t.asked full t.exchanges
   pub results : List Item
   pub whole : result.IsTalk t.asked results
   pub same : result.notes_of d results ≡ notes_in d t.exchanges

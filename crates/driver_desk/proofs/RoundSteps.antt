@@ -18,7 +18,7 @@ use Rattle.filter_proto.specs.declared.session.Standing.TheVariants as standing
 use Rattle.checkout_core.specs.Talks.{talk_run, IsOver}
 use Rattle.driver_line.specs.Conversations.{Exchange, Listing, Second, Shutting, notes_of, notes_in, list_notes, FitsTalk}
 use Rattle.driver_line.specs.Lines.{LineView, Paths, Says, RunsTo, MayReply, GoesOn, NamesAre, AreKnown, IsLive, IsOpen, list_standing}
-use Rattle.edge_kit.specs.Starters.{StarterSeen, Had}
+use Rattle.edge_kit.specs.Starters.{StarterSeen}
 use Rattle.checkout_core.specs.Transcripts.{Item}
 use Rattle.checkout_core.specs.Transcripts as result
 use Rattle.driver_line.specs.Transcripts.{HasItems}
@@ -700,23 +700,24 @@ some_cards (c ∷ cs) h = newest_empty (c.card.path ∷ paths_of cs) (omega arit
 
 pub served : (d : ℕ) (paths : Paths) (asked : List ℕ) (starter last : StarterSeen) (line : LineView) (given0 given : List Given) → ((v w : LineView) (es : List Exchange) → v.session ≡ None → w.session ≡ None → RunsTo paths v es w → HasItems paths v es w)
     → ((v w : LineView) (es : List Exchange) → v.session ≡ None → w.session ≡ None → RunsTo paths v es w → w.starter.out ≡ v.starter.out)
-    → ((v w : LineView) (es : List Exchange) (items : List Had) → v.session ≡ None → w.session ≡ None → RunsTo paths v es w → w.starter.had ≡ v.starter.had ++ items → GoBy v.starter.ahead items w.starter.ahead)
     → ((v w : LineView) (es : List Exchange) → RunsTo paths v es w → IsSameStarter es v.starter w.starter)
     → ((k : ℕ) (ps : List ℕ) (notes : List Event) (t : Talk) → talk_run k (Between ps) notes ≡ Some t → IsOver t → (items : List Item) × result.IsTalk ps items × (result.notes_of k items ≡ notes))
     → last ≡ line.starter → line.session ≡ None → TalkOver d paths (record { starter = starter; session = None }) given0 asked line given → IsServed d paths asked starter last given0 given
-served d paths asked starter last line given0 given law back told stays whole e none h =
+served d paths asked starter last line given0 given law back stays whole e none h =
     let t = h.1 in
     let i = law (record { starter = starter; session = None }) line t.exchanges refl none t.runs in
     let r = whole d asked (notes_in d t.exchanges) h.0 (leads_run d (Between asked) h.0 t.exchanges t.talk) h.2 in
     record {
       items = i.items;
+      full = i.full;
       exchanges = t.exchanges;
       more = t.more;
       results = r.0;
       whole = r.1;
       same = r.2;
       kept = ap (λ (x : StarterSeen). x.had) e ∙ i.had;
-      starts = subst (λ (x : StarterSeen). GoBy starter.ahead i.items x.ahead) (sym e) (told (record { starter = starter; session = None }) line t.exchanges i.items refl none t.runs i.had);
+      fills = i.fills;
+      starts = subst (λ (x : StarterSeen). GoBy starter.ahead i.full x.ahead) (sym e) i.starts;
       links = ap (λ (x : StarterSeen). x.out) e ∙ back (record { starter = starter; session = None }) line t.exchanges refl none t.runs;
       stays = subst (λ (x : StarterSeen). IsSameStarter t.exchanges starter x) (sym e)
           (stays (record { starter = starter; session = None }) line t.exchanges t.runs);

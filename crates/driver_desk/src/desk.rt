@@ -26,10 +26,7 @@ use crate::serving::{Placed, Seat, Service, serve_one};
 use checkout_core::Event;
 use convert_plan::Card;
 use core_laws::laws::a_talk_is_a_transcript;
-use driver_line::{
-    Line, a_starter_stays_the_same, exchanges_are_spelled, exchanges_go_by_the_starts,
-    links_are_given_back,
-};
+use driver_line::{Line, a_starter_stays_the_same, exchanges_are_spelled, links_are_given_back};
 use edge_kit::{Blob, Gate, Leaf, Starter};
 use std::alloc::{AllocError, Global};
 use std::collections::VecDeque;
@@ -266,7 +263,6 @@ impl<S: Starter, B: Blob, L: Leaf> Desk<S, B, L> {
     {
         desk_laws();
         exchanges_are_spelled();
-        exchanges_go_by_the_starts();
         links_are_given_back();
         a_starter_stays_the_same();
         a_talk_is_a_transcript();

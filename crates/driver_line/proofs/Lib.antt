@@ -8,6 +8,8 @@ pub mod Matching
 pub mod Lists
 pub mod Links
 pub mod ToldStarts
+pub mod Fills
+pub mod OneWitness
 pub mod Starters
 pub mod Examples
 pub mod ToldExamples

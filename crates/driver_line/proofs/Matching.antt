@@ -20,9 +20,15 @@ use Rattle.driver_line.specs.Conversations.{Exchange, NoStart, NoRoom, Opening, 
 use Rattle.driver_line.specs.Lines.{LineView, Paths, RunsTo, IsEnded, IsFresh, IsOpenedLine, started}
 use Rattle.edge_kit.specs.Links.{is_shut}
 use Rattle.driver_line.proofs.Failed.{opening_counts, opening_one, opening_stage}
-use Rattle.driver_line.specs.Transcripts.{AllFit, HasOneCount, is_fine, all_fine, IsOpenedSession, IsSession, HasItems}
+use Rattle.driver_line.specs.Transcripts.{AllFit, HasOneCount, is_fine, all_fine, IsOpenedSession, IsSession, Matches}
 use Rattle.driver_line.proofs.Spoken.{SpokenFrom, stops_good}
 use Rattle.driver_line.proofs.Effects.{Goes, IsQuiet, effect, stops_still}
+
+-- the run spells the items by which what its starter keeps grew
+pub record SpellsItems (paths : Paths) (v : LineView) (es : List Exchange) (w : LineView) : Type 0 where
+  pub items : List Had
+  pub had : w.starter.had ≡ v.starter.had ++ items
+  pub matches : Matches paths es items
 
 -- the rest of an open session, and the run after it
 pub record RestOf (paths : Paths) (s : SessionSeen) (v : LineView) (es : List Exchange) (w : LineView) : Type 0 where
@@ -123,14 +129,14 @@ opened_session paths start wire caps es seen fresh o h counts one shut = record 
 one_more : (a b c : List Had) (h : Had) (hs : List Had) → b ≡ a ++ h ∷ [] → c ≡ b ++ hs → c ≡ a ++ h ∷ hs
 one_more a b c h hs e i = i ∙ (ap (λ (x : List Had). x ++ hs) e ∙ append_assoc a (h ∷ []) hs)
 
-failed_item : (paths : Paths) (v u w : LineView) (p : ℕ) (end : Ends Caps) (es : List Exchange) (start last : Wire) → IsOpenedLine v end start last → (k : IsEnded (started v.starter) last standing.Over u) → IsSession paths end [] k.seen → HasItems paths u es w → HasItems paths v (Opening p end ∷ es) w
+failed_item : (paths : Paths) (v u w : LineView) (p : ℕ) (end : Ends Caps) (es : List Exchange) (start last : Wire) → IsOpenedLine v end start last → (k : IsEnded (started v.starter) last standing.Over u) → IsSession paths end [] k.seen → SpellsItems paths u es w → SpellsItems paths v (Opening p end ∷ es) w
 failed_item paths v u w p end es start last o k s h = record {
   items = Session k.seen ∷ h.items;
   had = one_more v.starter.had u.starter.had w.starter.had (Session k.seen) h.items (ap (λ (x : StarterSeen). x.had) k.kept) h.had;
   matches = (p, end, [], es, refl, s, h.matches);
 }
 
-pub items_of : (paths : Paths) (n : ℕ) (v w : LineView) (es : List Exchange) → length es ≤ n → v.session ≡ None → w.session ≡ None → RunsTo paths v es w → HasItems paths v es w
+pub items_of : (paths : Paths) (n : ℕ) (v w : LineView) (es : List Exchange) → length es ≤ n → v.session ≡ None → w.session ≡ None → RunsTo paths v es w → SpellsItems paths v es w
 items_of paths n v w [] le none ended r = record { items = []; had = ap (λ (x : LineView). x.starter.had) (sym r) ∙ sym (append-nil v.starter.had); matches = refl }
 items_of paths zero v w (e ∷ es) le none ended r = absurd (omega (arith, le))
 items_of paths (suc n) v w (NoStart p ∷ es) le none ended r =

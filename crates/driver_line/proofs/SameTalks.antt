@@ -26,7 +26,7 @@ use Rattle.driver_line.specs.Conversations.{Exchange, NoStart, NoRoom, Opening, 
 use Rattle.driver_line.specs.Lines.{Paths, IsFresh}
 use Rattle.driver_line.specs.Parts.{IsPartOf, IsOnePart}
 use Rattle.driver_line.specs.SameHeard.{NoneFailed, HaveTexts, HaveSameTexts, AreApart, SameHeard}
-use Rattle.driver_line.specs.ToldStarts.{GoBy}
+use Rattle.driver_line.specs.ToldStarts.{GoBy, Fills}
 use Rattle.driver_line.specs.Transcripts.{IsPart, IsOpenedSession, IsFailedSession, IsSession, Matches, break_in}
 use Rattle.driver_line.proofs.Spoken.{stops_at}
 use Rattle.driver_line.proofs.TalkDue.{Start, due_at, due_is}
@@ -35,6 +35,33 @@ use Rattle.driver_line.proofs.TalkLists.{over_nothing, nothing_more}
 use Rattle.driver_line.proofs.SameStates.{Stands, Spared, Alike, Runs, after, known_stays, alike_none, to_alike, both_more, no_room, no_opening}
 use Rattle.driver_line.proofs.SameExchanges.{ReplyLaw, ListLaw, part_of, settled_break}
 use Rattle.driver_line.proofs.SameSessions.{IsOutside, IsQuiet, no_link, all_came, same_left, same_session}
+
+-- each session tells what it took, and its link never failed
+abbrev AreFine : List Had → Type 0
+AreFine [] = Unit {0}
+AreFine (Session seen ∷ hs) = (seen.faults ≡ 0) × ((taken : List ℕ) × (seen.taken ≡ Some taken)) × AreFine hs
+AreFine (StartFailed ∷ hs) = AreFine hs
+AreFine (StartOutOfMemory ∷ hs) = AreFine hs
+
+full_fine : (hs fs : List Had) → Fills hs fs → NoneFailed hs → AreFine fs
+full_fine [] [] f h = tt
+full_fine (Session seen ∷ hs) (Session full ∷ fs) f h = (
+  ap (λ (x : SessionHad). x.faults) f.0.full_is ∙ h.0,
+  (f.0.taken, ap (λ (x : SessionHad). x.taken) f.0.full_is),
+  full_fine hs fs f.1 h.1,
+)
+full_fine (StartFailed ∷ hs) (StartFailed ∷ fs) f h = full_fine hs fs f h
+full_fine (StartOutOfMemory ∷ hs) (StartOutOfMemory ∷ fs) f h = full_fine hs fs f h
+full_fine [] (k ∷ fs) f h = absurd f
+full_fine (Session seen ∷ hs) [] f h = absurd f
+full_fine (StartFailed ∷ hs) [] f h = absurd f
+full_fine (StartOutOfMemory ∷ hs) [] f h = absurd f
+full_fine (Session seen ∷ hs) (StartFailed ∷ fs) f h = absurd f
+full_fine (Session seen ∷ hs) (StartOutOfMemory ∷ fs) f h = absurd f
+full_fine (StartFailed ∷ hs) (Session full ∷ fs) f h = absurd f
+full_fine (StartFailed ∷ hs) (StartOutOfMemory ∷ fs) f h = absurd f
+full_fine (StartOutOfMemory ∷ hs) (Session full ∷ fs) f h = absurd f
+full_fine (StartOutOfMemory ∷ hs) (StartFailed ∷ fs) f h = absurd f
 
 -- a session of a told output, whose link never failed
 pub record IsToldSession (output : List ℕ) (seen : SessionHad) : Type 0 where
@@ -225,7 +252,7 @@ module _ (replies_law : ReplyLaw) (lists_law : ListLaw) (hand_law : HandLaw) (pa
       both_more asked d t fate (NoStart p) (NoStart q) es fs u v (ap NoStart path) s g h (λ mid run st x y. left mid (after d (NoStart p) fate) st x y)
 
   pub same_items : (i j : List Had) (told : List StartTold) (es fs : List Exchange) (t : Talk) (fate : ℕ → Fate) (u v : Talk) (left1 left2 : Starts) → Stands asked t fate
-      → Matches paths1 es i → Matches paths2 fs j → GoBy (Some told) i left1 → GoBy (Some told) j left2 → NoneFailed i → NoneFailed j → IsOver u → IsOver v
+      → Matches paths1 es i → Matches paths2 fs j → GoBy (Some told) i left1 → GoBy (Some told) j left2 → AreFine i → AreFine j → IsOver u → IsOver v
       → Runs d t fate es u → Runs d t fate fs v → Alike d fate es fs
   same_items [] j told es fs t fate u v left1 left2 s m n a b x y over1 over2 g h =
       let k = none_left t fate es fs u v m over1 g.0 h.0 in
@@ -305,7 +332,7 @@ same_first false p xs ys e h = absurd (cc e)
 
 pub same_heard : ReplyLaw → ListLaw → HandLaw → SameHeard
 same_heard replies_law lists_law hand_law d a b asked told i j es fs apart texts agree one two =
-    let k = same_items replies_law lists_law hand_law a b asked texts agree d i j told es fs (Between asked) (first_fate asked) one.talk.end two.talk.end one.left two.left (begins asked apart)
-    one.talk.spells two.talk.spells one.goes two.goes one.fine two.fine one.talk.over two.talk.over
+    let k = same_items replies_law lists_law hand_law a b asked texts agree d one.full two.full told es fs (Between asked) (first_fate asked) one.talk.end two.talk.end one.left two.left (begins asked apart)
+    one.talk.spells two.talk.spells one.goes two.goes (full_fine i one.full one.fills one.fine) (full_fine j two.full two.fills two.fine) one.talk.over two.talk.over
     (one.talk.goes, λ p. first_spared (contains p asked) p (notes_in d es) (one.memory p)) (two.talk.goes, λ p. first_spared (contains p asked) p (notes_in d fs) (two.memory p)) in
     (λ p here. (same_first (contains p asked) p (notes_in d es) (notes_in d fs) here (k.fates p), k.contents p), k.same)

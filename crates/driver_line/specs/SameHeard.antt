@@ -9,14 +9,13 @@ use Rattle.checkout_core.specs.Fates.{Fate, Untold, Known, fate_of}
 use Rattle.checkout_core.specs.Talks.{contains}
 use Rattle.driver_line.specs.Conversations.{Exchange, NoRoom, Opening, First, Listing, Second, notes_in}
 use Rattle.driver_line.specs.Lines.{Paths}
-use Rattle.driver_line.specs.ToldStarts.{GoBy}
+use Rattle.driver_line.specs.ToldStarts.{Fills, GoBy}
 use Rattle.driver_line.specs.Transcripts.{IsTalk}
 
--- each session tells what it took, and its link never failed
+-- no session's link ever failed
 abbrev pub NoneFailed : List Had → Type 0
 NoneFailed [] = Unit {0}
-NoneFailed (Session seen ∷ hs) =
-    (seen.faults ≡ 0) × ((taken : List ℕ) × (seen.taken ≡ Some taken)) × NoneFailed hs
+NoneFailed (Session seen ∷ hs) = (seen.faults ≡ 0) × NoneFailed hs
 NoneFailed (StartFailed ∷ hs) = NoneFailed hs
 NoneFailed (StartOutOfMemory ∷ hs) = NoneFailed hs
 
@@ -43,13 +42,15 @@ abbrev pub NoneWanting : List Exchange → Type 0
 NoneWanting [] = Unit {0}
 NoneWanting (e ∷ es) = (is_wanting e ≡ false) × NoneWanting es
 
--- A talk over these paths with a driver whose starts are told. No link failed, and memory ran out
--- for no path.
+-- A talk over these paths with a driver whose starts are told. What its sessions took, told or not, goes by these
+-- starts. No link failed, and memory ran out for no path.
 pub record IsToldTalk (d : ℕ) (paths : Paths) (asked : List ℕ) (told : List StartTold)
     (items : List Had) (exchanges : List Exchange) : Type 0 where
-  pub talk : IsTalk d paths asked items exchanges
+  pub full : List Had
+  pub fills : Fills items full
+  pub talk : IsTalk d paths asked full exchanges
   pub left : Starts
-  pub goes : GoBy (Some told) items left
+  pub goes : GoBy (Some told) full left
   pub fine : NoneFailed items
   pub memory : (p : ℕ) → contains p asked ≡ true
       → fate_in d p exchanges ≡ Known heard.OutOfMemory → ⊥

@@ -26,6 +26,7 @@ use Rattle.driver_line.specs.Conversations.{Shutting, LeadsTo}
 use Rattle.filter_proto.specs.Wires.{Wire}
 use Rattle.filter_proto.specs.Openings.{IsOpening}
 use Rattle.driver_line.specs.Lines.{LineView, Paths, HasContent, ListIs, IsFresh}
+use Rattle.driver_line.specs.ToldStarts.{Fills, GoBy}
 
 -- how the reading of an answer stops, where these taken bytes stand after its packets
 abbrev pub StopsAt : {P G : Type 0} → AnswerState P G → List ℕ → Ends G → Type 0
@@ -185,8 +186,12 @@ pub record IsTalk (d : ℕ) (paths : Paths) (asked : List ℕ) (items : List Had
   pub goes : LeadsTo d (Between asked) exchanges end
   pub over : IsOver end
 
--- A run of a line that ends with no session open spells the items by which what its starter keeps grew.
+-- A run of a line that ends with no session open grows what its starter keeps. What its sessions sent and took, told or
+-- not, is one list of items: these go by the told starts, and spell the exchanges.
 pub record HasItems (paths : Paths) (v : LineView) (es : List Exchange) (w : LineView) : Type 0 where
   pub items : List Had
+  pub full : List Had
   pub had : w.starter.had ≡ v.starter.had ++ items
-  pub matches : Matches paths es items
+  pub fills : Fills items full
+  pub starts : GoBy v.starter.ahead full w.starter.ahead
+  pub matches : Matches paths es full

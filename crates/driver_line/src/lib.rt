@@ -9,6 +9,6 @@ mod line;
 
 pub use laws::{
     a_path_gets_one_content, a_starter_stays_the_same, equal_outputs_give_equal_talks,
-    exchanges_are_spelled, exchanges_go_by_the_starts, links_are_given_back, one_part,
+    exchanges_are_spelled, links_are_given_back, one_part,
 };
 pub use line::{Line, Start};

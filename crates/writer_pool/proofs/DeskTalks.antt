@@ -153,9 +153,11 @@ module _ {B L : Type 0} (see : Sight B L) where
       ∙ noted_quiet (own_events (mine_of s)) (own_events w.more) w.quiet) in
       record {
         items = served.items;
+        full = served.full;
         exchanges = served.exchanges;
         results = served.results;
         kept = served.kept;
+        fills = served.fills;
         starts = served.starts;
         links = served.links;
         stays = served.stays;

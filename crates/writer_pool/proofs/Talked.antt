@@ -12,9 +12,11 @@ pub talked_of : (d : ℕ) (paths : Paths) (asked : List ℕ) (old new : StarterS
     → HasTalked d paths asked old new xs P → HasTalked d paths asked old new ys Q
 talked_of d paths asked old new xs ys P Q same within h = record {
   items = h.items;
+  full = h.full;
   exchanges = h.exchanges;
   results = h.results;
   kept = h.kept;
+  fills = h.fills;
   starts = h.starts;
   links = h.links;
   stays = h.stays;

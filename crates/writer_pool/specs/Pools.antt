@@ -15,7 +15,7 @@ use Rattle.edge_kit.specs.Starters.{Had, StarterSeen}
 use Rattle.driver_line.specs.Conversations.{Exchange, notes_in}
 use Rattle.driver_line.specs.Lines.{Paths}
 use Rattle.driver_line.specs.Transcripts.{IsTalk}
-use Rattle.driver_line.specs.ToldStarts.{GoBy}
+use Rattle.driver_line.specs.ToldStarts.{Fills, GoBy}
 use Rattle.driver_line.specs.Starters.{IsSameStarter}
 use Rattle.driver_desk.specs.Serving.{Holds}
 use Rattle.edge_kit.specs.Seen.{LeafSeen}
@@ -26,19 +26,21 @@ use Rattle.writer_pool.specs.Sealing.{EndsAt, leaf_at}
 use Rattle.writer_pool.specs.Tying.{AreTiedAt}
 
 -- The talk of a driver with these notes: what its starter keeps grew by a talk over the paths `asked`, which goes by
--- the starts that it tells, and as many of its links are out as before. It is the same starter. The results are a
--- whole talk, case by case. The leaf of each card that its desk closed holds what the driver gave for the leaf's path,
+-- the starts that it tells. What its sessions sent and took, told or not, is one list of items for both. As many of its
+-- links are out as before. It is the same starter. The results are a whole talk, case by case. The leaf of each card that its desk closed holds what the driver gave for the leaf's path,
 -- if it holds anything.
 pub record HasTalked (d : ℕ) (paths : Paths) (asked : List ℕ) (old new : StarterSeen) (noted : List Event)
     (ends : ℕ → LeafSeen → Type 0) : Type 0 where
   pub items : List Had
+  pub full : List Had
   pub exchanges : List Exchange
   pub results : List Item
   pub kept : new.had ≡ old.had ++ items
-  pub starts : GoBy old.ahead items new.ahead
+  pub fills : Fills items full
+  pub starts : GoBy old.ahead full new.ahead
   pub links : new.out ≡ old.out
   pub stays : IsSameStarter exchanges old new
-  pub talk : IsTalk d paths asked items exchanges
+  pub talk : IsTalk d paths asked full exchanges
   pub whole : result.IsTalk asked results
   pub same : result.notes_of d results ≡ notes_in d exchanges
   pub noted_is : noted ≡ notes_in d exchanges

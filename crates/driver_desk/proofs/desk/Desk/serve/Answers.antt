@@ -45,7 +45,7 @@ returns g c =
         (λ paths fit.
             subst (λ (v : DeskView). IsServed v.driver paths (asked_in e.0) v.starter (g.S.Starter.seen c.into_starter.result) (g.C.Recorder.given c.args.recorder.now) (g.C.Recorder.given c.serve_noted.new.recorder)) c.self.view_is
             (served c.self.inside.seat.driver paths (asked_in e.0) (g.S.Starter.seen c.self.inside.starter) (g.S.Starter.seen c.into_starter.result) c.serve_noted.new.line (g.C.Recorder.given c.args.recorder.now) (g.C.Recorder.given c.serve_noted.new.recorder)
-            (c.exchanges_are_spelled.ensures paths) (c.links_are_given_back.ensures paths) (c.exchanges_go_by_the_starts.ensures paths) (c.a_starter_stays_the_same.ensures paths) c.a_talk_is_a_transcript.ensures c.into_starter.ensures c.serve_noted.ensures.none
+            (c.exchanges_are_spelled.ensures paths) (c.links_are_given_back.ensures paths) (c.a_starter_stays_the_same.ensures paths) c.a_talk_is_a_transcript.ensures c.into_starter.ensures c.serve_noted.ensures.none
             (subst (λ (v : LineView). TalkOver c.self.inside.seat.driver paths v (g.C.Recorder.given c.args.recorder.now) (asked_in e.0) c.serve_noted.new.line (g.C.Recorder.given c.serve_noted.new.recorder)) c.new-line.ensures (e.3 paths fit)))),
         tied_desk e.0 _ _ _ _ e.4.0 _ c.self.invariant.late_is e.1 (ap (λ (x : Standing). x.cards) c.serve_noted.ensures.standing ∙ cards) c.requires.none whole e.4.1 e.4.2,
       );
