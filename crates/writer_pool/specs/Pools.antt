@@ -27,8 +27,8 @@ use Rattle.writer_pool.specs.Tying.{AreTiedAt}
 
 -- The talk of a driver with these notes: what its starter keeps grew by a talk over the paths `asked`, which goes by
 -- the starts that it tells. What its sessions sent and took, told or not, is one list of items for both. As many of its
--- links are out as before. It is the same starter. The results are a whole talk, case by case. The leaf of each card that its desk closed holds what the driver gave for the leaf's path,
--- if it holds anything.
+-- links are out as before. It is the same starter. The results are a whole talk, case by case. The leaf of each card
+-- that its desk closed holds what the driver gave for the leaf's path, if it holds anything.
 pub record HasTalked (d : ℕ) (paths : Paths) (asked : List ℕ) (old new : StarterSeen) (noted : List Event)
     (ends : ℕ → LeafSeen → Type 0) : Type 0 where
   pub items : List Had
