@@ -17,7 +17,7 @@ use Rattle.filter_proto.specs.Wires.{Wire}
 use Rattle.filter_proto.specs.Exchanges.{Ends, Good, Broke, OutOfMemory, IsHeard}
 use Rattle.filter_proto.specs.Openings.{IsOpening}
 use Rattle.driver_line.specs.Transcripts.{FitsCounts, HasOneCount, break_in}
-use Rattle.driver_line.proofs.Effects.{PlainTurn, IsQuiet, HasOne, runs_plain, stops_counts, unsent_counts, heard_one, unsent_one, seen_one}
+use Rattle.driver_line.proofs.Effects.{PlainTurn, IsQuiet, HasOne, runs_plain, stops_counts, unsent_counts, heard_one, unsent_one, seen_one, IsCaused, unsent_caused, heard_caused}
 
 wanted_plain : (b : Bool) (p : HandshakePhase) → PlainTurn {P = HandshakePhase} {G = Caps} (if b then On p else Broken cause.BadHandshake)
 wanted_plain true p = tt
@@ -55,6 +55,12 @@ opening_ends old new end (inr (inr (inr o))) q = heard_one handshake_step handsh
 
 pub opening_one : (old new : Wire) (end : Ends Caps) (seen : SessionHad) → IsOpening old new end → IsQuiet old → seen.faults ≡ new.faults → seen.ends ≡ new.ends → HasOneCount seen
 opening_one old new end seen o q faults ends = seen_one seen new (opening_ends old new end o q) faults ends
+
+pub opening_caused : (old new : Wire) (end : Ends Caps) → IsOpening old new end → IsQuiet old → IsCaused new end
+opening_caused old new end (inl u) q = unsent_caused Caps _ old new end u.sent u.why q
+opening_caused old new end (inr (inl r)) q = heard_caused _ _ handshake_step handshake_start old new end _ r.heard q
+opening_caused old new end (inr (inr (inl u))) q = unsent_caused Caps _ u.mid new end u.unsent.sent u.unsent.why (u.hello.still.0 ∙ q.0, u.hello.still.1 ∙ q.1)
+opening_caused old new end (inr (inr (inr o))) q = heard_caused _ _ handshake_step handshake_start old new end _ o.heard q
 
 -- no opening shuts a link
 pub opening_stage : (old new : Wire) (end : Ends Caps) → IsOpening old new end → new.stage ≡ old.stage

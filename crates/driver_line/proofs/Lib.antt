@@ -22,3 +22,4 @@ pub mod SameExchanges
 pub mod SameSessions
 pub mod SameTalks
 pub mod OneContents
+pub mod SameCauses

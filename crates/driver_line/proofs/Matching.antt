@@ -1,5 +1,5 @@
 -- A run of a line spells its sessions.
-use Rattle.std.proofs.Common.{◌≡◌, inl, inr, ℕ, zero, suc, Bool, true, false, List, [], ◌∷◌, ◌++◌, length, Option, Some, None, refl, sym, ap, subst, ◌∙◌, append_assoc, ◌+◌, ◌≤◌, arith}
+use Rattle.std.proofs.Common.{◌≡◌, inl, inr, ℕ, zero, suc, Bool, true, false, List, [], ◌∷◌, ◌++◌, length, Option, Some, None, refl, sym, ap, subst, ◌∙◌, append_assoc, ◌+◌, ◌<◌, ◌≤◌, arith}
 use Rattle.std.specs.Prelude.{◌&&◌}
 use Rattle.std.proofs.lemmas.List.{append-nil}
 use Rattle.filter_words.specs.Requests.{hello_text, caps_text}
@@ -19,8 +19,8 @@ use Rattle.filter_proto.specs.Wires.{SessionSeen}
 use Rattle.driver_line.specs.Conversations.{Exchange, NoStart, NoRoom, Opening, First, Listing, Second, Shutting}
 use Rattle.driver_line.specs.Lines.{LineView, Paths, RunsTo, IsEnded, IsFresh, IsOpenedLine, started}
 use Rattle.edge_kit.specs.Links.{is_shut}
-use Rattle.driver_line.proofs.Failed.{opening_counts, opening_one, opening_stage}
-use Rattle.driver_line.specs.Transcripts.{AllFit, HasOneCount, is_fine, all_fine, IsOpenedSession, IsSession, Matches}
+use Rattle.driver_line.proofs.Failed.{opening_counts, opening_one, opening_caused, opening_stage}
+use Rattle.driver_line.specs.Transcripts.{AllFit, HasOneCount, HasCauses, is_fine, all_fine, IsOpenedSession, IsSession, Matches}
 use Rattle.driver_line.proofs.Spoken.{SpokenFrom, stops_good}
 use Rattle.driver_line.proofs.Effects.{Goes, IsQuiet, effect, stops_still}
 
@@ -42,6 +42,7 @@ pub record RestOf (paths : Paths) (s : SessionSeen) (v : LineView) (es : List Ex
   pub spoken : SpokenFrom paths s.caps s.wire own seen
   pub counts : AllFit seen own
   pub one : HasOneCount seen
+  pub causes : HasCauses seen own
   pub shut : seen.shut ≡ all_fine own
   pub runs : RunsTo paths mid rest w
   pub shorter : length rest + 1 ≤ length es
@@ -70,6 +71,7 @@ rest_of paths s v w (e ∷ es) is st q none r =
         spoken = f.spoken;
         counts = (f.counts, tt);
         one = f.one;
+        causes = record { ended = λ lt. inl (f.cause.ended lt); failed = λ lt left. inl (f.cause.failed lt left) };
         shut = f.shut ∙ sym (and_true (is_fine e));
         runs = r.2;
         shorter = omega arith;
@@ -88,6 +90,7 @@ rest_of paths s v w (e ∷ es) is st q none r =
       spoken = g.spoken h.own h.seen (subst (λ (k : Caps). SpokenFrom paths k g.next.wire h.own h.seen) g.caps h.spoken);
       counts = (g.counts h.seen, h.counts);
       one = h.one;
+      causes = record { ended = λ lt. inr (h.causes.ended lt); failed = λ lt left. inr (h.causes.failed lt left) };
       shut = h.shut ∙ sym (true_and (is_fine e) (all_fine h.own) g.fine);
       runs = h.runs;
       shorter = let le = h.shorter in omega (arith, le);
@@ -104,8 +107,8 @@ opened_of start last caps (inr (inr (inl u))) = absurd u.unsent.why
 opened_of start last caps (inr (inr (inr o))) = o
 
 -- an open session from its opening on
-opened_session : (paths : Paths) (start wire : Wire) (caps : Caps) (es : List Exchange) (seen : SessionHad) → IsFresh start → IsOpened start wire (Good caps) → SpokenFrom paths caps wire es seen → AllFit seen es → HasOneCount seen → seen.shut ≡ all_fine es → IsOpenedSession paths caps es seen
-opened_session paths start wire caps es seen fresh o h counts one shut = record {
+opened_session : (paths : Paths) (start wire : Wire) (caps : Caps) (es : List Exchange) (seen : SessionHad) → IsFresh start → IsOpened start wire (Good caps) → SpokenFrom paths caps wire es seen → AllFit seen es → HasOneCount seen → HasCauses seen es → seen.shut ≡ all_fine es → IsOpenedSession paths caps es seen
+opened_session paths start wire caps es seen fresh o h counts one causes shut = record {
   sent = (hello_text ++ caps_text) ++ h.more;
   taken = o.heard.took.came ++ h.came;
   sent_is = subst (λ (x : Option (List ℕ)). Tells x ((hello_text ++ caps_text) ++ h.more))
@@ -123,6 +126,7 @@ opened_session paths start wire caps es seen fresh o h counts one shut = record 
   spoken = h.spoken;
   counts = counts;
   one = one;
+  causes = causes;
   shut = shut;
 }
 
@@ -158,6 +162,8 @@ items_of paths (suc n) v w (Opening p (Broke c) ∷ es) le none ended r =
         taken = k.taken;
         counts = opening_counts r.1.0 r.1.1 (Broke c) k.seen r.1.2.opening (r.1.2.fresh.faults, r.1.2.fresh.ends) k.faults k.ends;
         one = opening_one r.1.0 r.1.1 (Broke c) k.seen r.1.2.opening (r.1.2.fresh.faults, r.1.2.fresh.ends) k.faults k.ends;
+        ended = λ lt. (opening_caused r.1.0 r.1.1 (Broke c) r.1.2.opening (r.1.2.fresh.faults, r.1.2.fresh.ends)).ended (subst (λ (n : ℕ). 0 < n) k.ends lt);
+        failed = λ lt. (opening_caused r.1.0 r.1.1 (Broke c) r.1.2.opening (r.1.2.fresh.faults, r.1.2.fresh.ends)).failed (subst (λ (n : ℕ). 0 < n) k.faults lt);
         shut = k.shut ∙ ap is_shut (opening_stage r.1.0 r.1.1 (Broke c) r.1.2.opening ∙ r.1.2.fresh.stage);
       },
     )
@@ -175,6 +181,8 @@ items_of paths (suc n) v w (Opening p OutOfMemory ∷ es) le none ended r =
         taken = k.taken;
         counts = opening_counts r.1.0 r.1.1 OutOfMemory k.seen r.1.2.opening (r.1.2.fresh.faults, r.1.2.fresh.ends) k.faults k.ends;
         one = opening_one r.1.0 r.1.1 OutOfMemory k.seen r.1.2.opening (r.1.2.fresh.faults, r.1.2.fresh.ends) k.faults k.ends;
+        ended = λ lt. (opening_caused r.1.0 r.1.1 OutOfMemory r.1.2.opening (r.1.2.fresh.faults, r.1.2.fresh.ends)).ended (subst (λ (n : ℕ). 0 < n) k.ends lt);
+        failed = λ lt. (opening_caused r.1.0 r.1.1 OutOfMemory r.1.2.opening (r.1.2.fresh.faults, r.1.2.fresh.ends)).failed (subst (λ (n : ℕ). 0 < n) k.faults lt);
         shut = k.shut ∙ ap is_shut (opening_stage r.1.0 r.1.1 OutOfMemory r.1.2.opening ∙ r.1.2.fresh.stage);
       },
     )
@@ -196,7 +204,7 @@ items_of paths (suc n) v w (Opening p (Good caps) ∷ es) le none ended r =
         k.own,
         k.rest,
         ap (λ (x : List Exchange). Opening p (Good caps) ∷ x) k.split,
-        opened_session paths r.1.1 s.wire caps k.own k.seen line.fresh o (subst (λ (c : Caps). SpokenFrom paths c s.wire k.own k.seen) r.1.3 k.spoken) k.counts k.one k.shut,
+        opened_session paths r.1.1 s.wire caps k.own k.seen line.fresh o (subst (λ (c : Caps). SpokenFrom paths c s.wire k.own k.seen) r.1.3 k.spoken) k.counts k.one k.causes k.shut,
         h.matches,
       );
     }

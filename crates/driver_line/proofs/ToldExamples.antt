@@ -60,6 +60,8 @@ failed = record {
   taken = refl;
   counts = (omega arith, refl);
   one = inr refl;
+  ended = λ lt. refl;
+  failed = λ lt. absurd (omega (arith, lt));
   shut = refl;
 }
 

@@ -5,4 +5,5 @@ pub mod ToldStarts
 pub mod Starters
 pub mod Parts
 pub mod SameHeard
+pub mod SameCauses
 pub mod OneContent

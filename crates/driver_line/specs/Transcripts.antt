@@ -84,11 +84,19 @@ wants e = false
 abbrev pub MayCut : Exchange → Type 0
 MayCut e = (break_of e ≡ Some cause.LinkFault) ⊎ (wants e ≡ true)
 
+-- no answer was looked at: no content came, and no name
+abbrev pub HasNothing : Exchange → Type 0
+HasNothing (First p r content) = content ≡ []
+HasNothing (Second p r content) = content ≡ []
+HasNothing (Listing late names r) = names ≡ []
+HasNothing e = Unit {0}
+
 pub record IsCut (paths : Paths) (caps : Caps) (e : Exchange) (sent : List ℕ) : Type 0 where
   pub after : List ℕ
   pub text : request_of paths caps e ≡ sent ++ after
   pub proper : 0 < length (request_of paths caps e) → 0 < length after
   pub may : MayCut e
+  pub nothing : HasNothing e
 
 -- The sent bytes are the requests' texts, and the answers are consecutive parts of the taken bytes; bytes may stand
 -- unread
@@ -110,6 +118,17 @@ FitsCounts seen why = Unit {0}
 -- met. A fault while it was shut counts too, and such a session met neither.
 abbrev pub HasOneCount : SessionHad → Type 0
 HasOneCount seen = (seen.ends ≡ 0) ⊎ (seen.faults ≡ 0)
+
+-- one of the exchanges broke its session with this cause
+abbrev pub HasBreak : BreakCause → List Exchange → Type 0
+HasBreak why [] = ⊥
+HasBreak why (e ∷ es) = (break_of e ≡ Some why) ⊎ HasBreak why es
+
+-- A count above 0 has its cause among the exchanges: an end of input, and a fault of the link where the session wasn't
+-- shut.
+pub record HasCauses (seen : SessionHad) (es : List Exchange) : Type 0 where
+  pub ended : 0 < seen.ends → HasBreak cause.Ended es
+  pub failed : 0 < seen.faults → seen.shut ≡ false → HasBreak cause.LinkFault es
 
 abbrev pub AllFit : SessionHad → List Exchange → Type 0
 AllFit seen [] = Unit {0}
@@ -142,6 +161,7 @@ pub record IsOpenedSession (paths : Paths) (caps : Caps) (es : List Exchange) (s
   pub spoken : Spoken paths caps es more later
   pub counts : AllFit seen es
   pub one : HasOneCount seen
+  pub causes : HasCauses seen es
   pub shut : seen.shut ≡ all_fine es
 
 -- with what cause an opening failed, if it broke
@@ -160,6 +180,8 @@ pub record IsFailedSession (end : Ends Caps) (seen : SessionHad) : Type 0 where
   pub taken : seen.taken ≡ last.taken
   pub counts : FitsCounts seen (break_in end)
   pub one : HasOneCount seen
+  pub ended : 0 < seen.ends → end ≡ Broke cause.Ended
+  pub failed : 0 < seen.faults → end ≡ Broke cause.LinkFault
   pub shut : seen.shut ≡ false
 
 abbrev pub IsSession : Paths → Ends Caps → List Exchange → SessionHad → Type 0

@@ -11,6 +11,7 @@ ghost use Rattle.driver_line.specs.Conversations.{Exchange};
 ghost use Rattle.driver_line.specs.Lines.{LineView, Paths, RunsTo};
 ghost use Rattle.driver_line.specs.OneContent.{OneContent};
 ghost use Rattle.driver_line.specs.Parts.{IsOnePart};
+ghost use Rattle.driver_line.specs.SameCauses.{SameCauses};
 ghost use Rattle.driver_line.specs.SameHeard.{SameHeard};
 ghost use Rattle.driver_line.specs.Starters.{IsSameStarter};
 ghost use Rattle.driver_line.specs.Transcripts.{HasItems};
@@ -60,6 +61,12 @@ pub fn equal_outputs_give_equal_talks()
 {
     one_part();
 }
+
+/// The counts of a session tell how it broke: of two with equal counts that were both shut, or neither, both broke by a
+/// fault of the link or neither, and so with an end of input.
+pub fn counts_tell_the_cause()
+    ensures { SameCauses }
+{}
 
 /// A path gets one content in a talk at most.
 pub fn a_path_gets_one_content()
