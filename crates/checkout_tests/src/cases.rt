@@ -4,7 +4,9 @@
 //! others say what it meets, each by a word, whose first letter tells, and what stands behind it. Any other is an error:
 //!
 //! - `words`: the words after the two folders, `checkout` if there are none;
-//! - `entry`: the letters of its mode and of its object, and its path;
+//! - `entry`: the letters of its kind and of its object, and its path;
+//! - `given`: the same letters, and the bytes of the entry from its flags on;
+//! - `version`: that of the index. Without it, it is 3 if the kind of an entry asks for it, and else 2;
 //! - `plain`: so many plain files, the first with the path `p10000`, the next `p10001`, and so on;
 //! - `tail`: the extensions of the index, and `hash`: its hash, if it has one;
 //! - `absent`: there is no index;
@@ -16,7 +18,7 @@
 //! - `full`: the worktree isn't empty, and `unchecked`: it can't tell;
 //! - `driver`: a driver's command, and what it writes in its only session.
 use crate::gate::Watch;
-use crate::index::{PLAIN, index_bytes, mode_of, push_entry};
+use crate::index::{PLAIN, index_bytes, kind_of, push_entry, push_head, whole};
 use crate::out_of_memory::OutOfMemoryRepo;
 use crate::table::{number_of, parted, rows_of, text_of_row, unknown};
 use byte_path::{Bytes, Items};
@@ -126,6 +128,7 @@ fn name_of(letters: &[u8]) -> Result<[u8; 20], Fail> {
 #[derive(Drop)]
 pub struct Case {
     pub words: Vec<String>,
+    pub version: u32,
     pub entries: Vec<u8>,
     pub count: u32,
     pub tail: Vec<u8>,
@@ -168,6 +171,7 @@ fn words_of(alloc: Global, text: &[u8]) -> Result<Vec<String>, Fail> {
 fn no_case(alloc: Global) -> Result<Case, Fail> {
     Ok(Case {
         words: words_of(alloc, b"checkout")?,
+        version: 2,
         entries: Vec::new(alloc),
         count: 0,
         tail: Vec::new(alloc),
@@ -190,11 +194,28 @@ fn no_case(alloc: Global) -> Result<Case, Fail> {
 }
 
 fn add_entry(case: &mut Case, value: &[u8]) -> Result<(), Fail> {
-    let [mode, object, b' ', path @ ..] = value else {
+    let [kind, object, b' ', path @ ..] = value else {
         return Err(unknown(value));
     };
-    let (mode, stage) = mode_of(*mode)?;
-    push_entry(&mut case.entries, mode, stage, &name_of(&[*object])?, path)?;
+    let kind = kind_of(*kind)?;
+    if kind.more != 0 {
+        case.version = 3;
+    }
+    push_entry(&mut case.entries, kind, &name_of(&[*object])?, path)?;
+    case.count = case.count.wrapping_add(1);
+    Ok(())
+}
+
+fn add_given(case: &mut Case, value: &[u8]) -> Result<(), Fail> {
+    let [kind, object, b' ', bytes @ ..] = value else {
+        return Err(unknown(value));
+    };
+    push_head(
+        &mut case.entries,
+        kind_of(*kind)?.mode,
+        &name_of(&[*object])?,
+    )?;
+    case.entries.extend_from_slice(bytes)?;
     case.count = case.count.wrapping_add(1);
     Ok(())
 }
@@ -202,7 +223,7 @@ fn add_entry(case: &mut Case, value: &[u8]) -> Result<(), Fail> {
 fn add_plain_files(alloc: Global, case: &mut Case, count: u32) -> Result<(), AllocError> {
     for number in 0..count {
         let path = format!(in alloc; "p{}", 10_000u32.wrapping_add(number))?;
-        push_entry(&mut case.entries, PLAIN, 0, &HI, path.as_bytes())?;
+        push_entry(&mut case.entries, whole(PLAIN), &HI, path.as_bytes())?;
     }
     case.count = case.count.wrapping_add(count);
     Ok(())
@@ -260,6 +281,8 @@ fn script_of(alloc: Global, command: &[u8], output: &[u8]) -> Result<DriverScrip
 fn set_repo(alloc: Global, case: &mut Case, letter: u8, value: &[u8]) -> Result<bool, Fail> {
     match letter {
         b'e' => add_entry(case, value)?,
+        b'g' => add_given(case, value)?,
+        b'v' => case.version = number_of(value)?,
         b'p' => add_plain_files(alloc, case, number_of(value)?)?,
         b't' => case.tail = Vec::from_slice(alloc, value)?,
         b'h' => case.hash = hash_of(value)?,
@@ -327,7 +350,14 @@ pub fn case_of(alloc: Global, cells: &[Vec<u8>]) -> Result<Case, Fail> {
 fn memory_repo_of(alloc: Global, case: &Case) -> Result<MemoryRepo, AllocError> {
     let index = if case.has_index {
         let entries = case.entries.as_slice();
-        Some(index_bytes(alloc, case.count, entries, &case.tail, &case.hash)?)
+        Some(index_bytes(
+            alloc,
+            case.version,
+            case.count,
+            entries,
+            &case.tail,
+            &case.hash,
+        )?)
     } else {
         None
     };

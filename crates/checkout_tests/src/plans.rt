@@ -1,13 +1,13 @@
 //! Plans. Each case is a row of cells, of which the last is what the plan shows: a line for each path, the drivers in
 //! use and the number of skipped lines, or the fault. The others, whose first letter tells, are:
 //!
-//! - `entry`: the letter of its mode, its path, and what its object holds;
+//! - `entry`: the letter of its kind, its path, and what its object holds;
 //! - `info`: what `info/attributes` holds;
 //! - `driver`: `+` for one that is required, or `-`, its name, and its command if it has one;
 //! - `objects`: whether they are `there`, or `failing`. Without it they are absent.
 //!
 //! A cell that begins with another word is an error.
-use crate::index::{index_bytes, mode_of, push_entry};
+use crate::index::{index_bytes, kind_of, push_entry};
 use crate::table::{parted, rows_of, text_of_row, unknown};
 use attr_line::read_attributes;
 use byte_path::{Bytes, Items, quote_path};
@@ -25,6 +25,8 @@ use std::test::Fail;
 /// What a plan is made from.
 #[derive(Drop)]
 struct Given {
+    /// 3 if the kind of an entry asks for it, and else 2.
+    version: u32,
     entries: Vec<u8>,
     count: u32,
     /// The names and the contents of the objects.
@@ -38,12 +40,15 @@ struct Given {
 
 fn add_entry(alloc: Global, given: &mut Given, value: &[u8]) -> Result<(), Fail> {
     let (path, content) = parted(value);
-    let [mode, path @ ..] = path else {
+    let [kind, path @ ..] = path else {
         return Err(unknown(value));
     };
-    let (mode, stage) = mode_of(*mode)?;
+    let kind = kind_of(*kind)?;
+    if kind.more != 0 {
+        given.version = 3;
+    }
     let name = blob_name(content);
-    push_entry(&mut given.entries, mode, stage, &name, path)?;
+    push_entry(&mut given.entries, kind, &name, path)?;
     given.count = given.count.wrapping_add(1);
     given
         .objects
@@ -71,6 +76,7 @@ fn add_driver(alloc: Global, given: &mut Given, value: &[u8]) -> Result<(), Fail
 
 fn given_of(alloc: Global, cells: &[Vec<u8>]) -> Result<Given, Fail> {
     let mut given = Given {
+        version: 2,
         entries: Vec::new(alloc),
         count: 0,
         objects: Vec::new(alloc),
@@ -94,7 +100,14 @@ fn given_of(alloc: Global, cells: &[Vec<u8>]) -> Result<Given, Fail> {
 }
 
 fn index_of(alloc: Global, given: &Given) -> Result<Index, Fail> {
-    let bytes = index_bytes(alloc, given.count, &given.entries, &[], &[0; 20])?;
+    let bytes = index_bytes(
+        alloc,
+        given.version,
+        given.count,
+        &given.entries,
+        &[],
+        &[0; 20],
+    )?;
     Ok(read_index(alloc, &bytes)?)
 }
 
@@ -141,6 +154,8 @@ fn closed_by(verdict: Verdict) -> &'static str {
     match verdict {
         Verdict::Skipped(SkipCause::Gitlink) => "Gitlink",
         Verdict::Skipped(SkipCause::Unmerged) => "Unmerged",
+        Verdict::Skipped(SkipCause::Sparse) => "Sparse",
+        Verdict::Skipped(SkipCause::Intent) => "Intent",
         Verdict::Failed(FailCause::NoProcess) => "NoProcess",
         Verdict::Failed(FailCause::UnknownEncoding) => "UnknownEncoding",
         Verdict::Failed(FailCause::NameNotText) => "NameNotText",
@@ -210,6 +225,19 @@ const CLOSED: &[u8] = b"\
 #[test]
 fn some_paths_are_closed_by_the_plan(rt: HostRuntime) -> Result<(), Fail> {
     check(&rt, rt.alloc(), CLOSED)
+}
+
+const LEFT_OUT: &[u8] = b"\
+    entry s.gitattributes *.txt text eol=crlf\n|entry ia/.gitattributes *.txt -text\n|entry -a/b.txt hi\n|\
+        entry sc.txt hi\n|entry tsub hi\n|entry uu hi\n|objects there|\
+        .gitattributes: Plain Keep false Done Sparse\na/.gitattributes: Plain Keep false Done Intent\n\
+        a/b.txt: Plain ToCrlf false Pool\nc.txt: Plain Keep false Done Sparse\n\
+        sub: Plain Keep false Done Gitlink\nu: Plain Keep false Done Unmerged\nskipped 0\n%";
+
+/// A sparse attribute file decides, and one that is to be added has no content yet.
+#[test]
+fn marked_entries_are_closed_by_the_plan(rt: HostRuntime) -> Result<(), Fail> {
+    check(&rt, rt.alloc(), LEFT_OUT)
 }
 
 const DRIVERS: &[u8] = b"\

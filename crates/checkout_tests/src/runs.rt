@@ -1,6 +1,6 @@
 //! Runs over a few paths. Each case is a row of a table, as `cases` reads it.
 use crate::cases::{Case, HI, case_of, check, ended};
-use crate::index::{GITLINK, PLAIN, push_entry};
+use crate::index::{GITLINK, PLAIN, push_entry, whole};
 use std::alloc::Global;
 use std::test::Fail;
 
@@ -122,6 +122,53 @@ const REFUSED_ENTRIES: &[u8] = b"\
 #[test]
 fn entries_that_are_not_right_are_refused(rt: HostRuntime) -> Result<(), Fail> {
     check(&rt, rt.alloc(), REFUSED_ENTRIES)
+}
+
+/// In version 4 the second path takes a byte off the first one, and then more than it has.
+const VERSIONS: &[u8] = b"\
+    version 3|entry -h a|written - - - a\ndone 1 0 0 0\nstatus 0\na: hi\n%\
+    version 4|given -h \0\x03\0a/b\0|given -h \0\x03\x01c\0|\
+        written - - - a/b\nwritten - - - a/c\ndone 2 0 0 0\nstatus 0\na/b: hi\na/c: hi\n%\
+    version 4|given -h \0\x03\0a/b\0|given -h \0\x03\x04c\0|refused index entry 1 prefix\nstatus 3\n%\
+    version 4|given -h \0\x03\0a/b\0|given -h \0\x01\x01c\0|refused index entry 1 name\nstatus 3\n%\
+    version 4|given -h \0\x01\0a|refused index short\nstatus 3\n%\
+    version 3|given -h @\x01\x80\0a\0\0\0\0\0\0\0|refused index entry 0 extended-bits\nstatus 3\n%\
+    entry sh a|version 2|refused index entry 0 extended\nstatus 3\n%\
+    version 1|entry -h a|refused index version 1\nstatus 3\n%\
+    version 5|entry -h a|refused index version 5\nstatus 3\n%";
+
+#[test]
+fn versions_2_3_and_4_are_read(rt: HostRuntime) -> Result<(), Fail> {
+    check(&rt, rt.alloc(), VERSIONS)
+}
+
+/// The object of the third entry isn't there.
+const LEFT_OUT: &[u8] = b"\
+    entry sh a|skipped - - sparse a\ndone 0 0 0 1\nstatus 0\n%\
+    entry ih a|skipped - - intent a\ndone 0 0 0 1\nstatus 0\n%\
+    entry s9 a|entry -h b|skipped - - sparse a\nwritten - - - b\ndone 1 0 0 1\nstatus 0\nb: hi\n%\
+    version 4|given -h @\x01@\0\0a\0|skipped - - sparse a\ndone 0 0 0 1\nstatus 0\n%\
+    entry th sub|entry uh u|entry 2h u|\
+        skipped - - gitlink sub\nskipped - - unmerged u\ndone 0 0 0 2\nstatus 0\n%\
+    words plan|entry sh a|entry ih b|entry th sub|entry uh u|\
+        sparse - - - - - - a\nintent - - - - - - b\ngitlink - - - - - - sub\nunmerged - - - - - - u\n\
+        skipped-lines 0\nstatus 0\n%";
+
+#[test]
+fn sparse_entries_and_those_to_be_added_are_left_out(rt: HostRuntime) -> Result<(), Fail> {
+    check(&rt, rt.alloc(), LEFT_OUT)
+}
+
+/// The file of the second case has no content yet.
+const LEFT_OUT_ATTRIBUTES: &[u8] = b"\
+    entry sa .gitattributes|entry -m a.txt|\
+        skipped - - sparse .gitattributes\nwritten - - - a.txt\ndone 1 0 0 1\nstatus 0\na.txt: a\r\nb\r\n%\
+    entry ia .gitattributes|entry -m a.txt|\
+        skipped - - intent .gitattributes\nwritten - - - a.txt\ndone 1 0 0 1\nstatus 0\na.txt: a\nb\r\n%";
+
+#[test]
+fn a_sparse_attribute_file_decides(rt: HostRuntime) -> Result<(), Fail> {
+    check(&rt, rt.alloc(), LEFT_OUT_ATTRIBUTES)
 }
 
 /// In the second case an automatic conversion leaves a content with CR alone.
@@ -254,9 +301,9 @@ fn many_entries(alloc: Global) -> Result<Case, Fail> {
     let mut case = case_of(alloc, &[])?;
     for number in 10_000..80_000u32 {
         let path = format!(in alloc; "p{number}")?;
-        push_entry(&mut case.entries, GITLINK, 0, &[0; 20], path.as_bytes())?;
+        push_entry(&mut case.entries, whole(GITLINK), &[0; 20], path.as_bytes())?;
     }
-    push_entry(&mut case.entries, PLAIN, 0, &HI, b"z")?;
+    push_entry(&mut case.entries, whole(PLAIN), &HI, b"z")?;
     case.count = 70_001;
     Ok(case)
 }
