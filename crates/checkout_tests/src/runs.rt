@@ -142,10 +142,11 @@ fn versions_2_3_and_4_are_read(rt: HostRuntime) -> Result<(), Fail> {
     check(&rt, rt.alloc(), VERSIONS)
 }
 
-/// The object of the third entry isn't there.
+/// In the fourth case the object of the sparse entry isn't there.
 const LEFT_OUT: &[u8] = b"\
     entry sh a|skipped - - sparse a\ndone 0 0 0 1\nstatus 0\n%\
     entry ih a|skipped - - intent a\ndone 0 0 0 1\nstatus 0\n%\
+    entry bh a|skipped - - sparse a\ndone 0 0 0 1\nstatus 0\n%\
     entry s9 a|entry -h b|skipped - - sparse a\nwritten - - - b\ndone 1 0 0 1\nstatus 0\nb: hi\n%\
     version 4|given -h @\x01@\0\0a\0|skipped - - sparse a\ndone 0 0 0 1\nstatus 0\n%\
     entry th sub|entry uh u|entry 2h u|\
