@@ -268,16 +268,19 @@ plan_texts bytes es settings info contents index = unfold plan_of in
     all_text files settings (asked_paths files settings es) (first_entries es)
     (first_long [] es (subst (λ (xs : List Entry). AllByRecursion (λ e. IsLong e.path) xs) index.text.same (written_long index.text.version [] index.text.written index.text.fit)))
 
-pub plan_size : (bytes : List ℕ) (es : List Entry) (settings : Settings) (info : AttrFile) (contents : List (List ℕ)) → IsIndex bytes es → length (plan_of es settings info contents).paths < 2 ^ 32
-plan_size bytes es settings info contents index = unfold plan_of in
+-- a plan has no more paths than the index has entries
+pub no_more_paths : (es : List Entry) (settings : Settings) (info : AttrFile) (contents : List (List ℕ)) → length (plan_of es settings info contents).paths ≤ length es
+no_more_paths es settings info contents = unfold plan_of in
     let files = attribute_files info es contents in
     omega (
       arith,
       length-map (map (asked_path files settings) (first_entries es)) (path_among (asked_paths files settings es)),
       length-map (first_entries es) (asked_path files settings),
       first_few [] es,
-      index.text.few,
     )
+
+pub plan_size : (bytes : List ℕ) (es : List Entry) (settings : Settings) (info : AttrFile) (contents : List (List ℕ)) → IsIndex bytes es → length (plan_of es settings info contents).paths < 2 ^ 32
+plan_size bytes es settings info contents index = omega (arith, no_more_paths es settings info contents, index.text.few)
 
 -- the same of a plan that was read
 pub planned_texts : (told : RepoTold) (plan : Plan) → IsPlanned told plan → AreTexts plan.paths

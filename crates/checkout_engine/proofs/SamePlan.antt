@@ -31,7 +31,7 @@ use Rattle.checkout_engine.proofs.ToldObjects.{same_told, same_bytes, gives_foun
 same_ok : {A E : Type 0} (x y : A) → ◌≡◌ {A = Result A E} (Ok x) (Ok y) → x ≡ y
 same_ok x y e = cc
 
-same_entries : OneReading → (told : Told) (es fs : List Entry) → IsTold told → HasIndex told es → HasIndex told fs → es ≡ fs
+pub same_entries : OneReading → (told : Told) (es fs : List Entry) → IsTold told → HasIndex told es → HasIndex told fs → es ≡ fs
 same_entries law told es fs is a b =
     law b.bytes es fs (subst (λ (bytes : List ℕ). IsIndex bytes es) (same_told told a.bytes b.bytes is a.tells b.tells) a.is_index) b.is_index
 

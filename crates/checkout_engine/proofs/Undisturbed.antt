@@ -20,6 +20,7 @@ use Rattle.checkout_core.specs.declared.verdict.Verdict.{Verdict}
 use Rattle.checkout_core.specs.declared.verdict.Verdict.TheVariants as verdict
 use Rattle.checkout_core.specs.declared.verdict.FailCause.TheVariants as fail
 use Rattle.checkout_plan.specs.declared.path_plan.PathPlan.{PathPlan}
+use Rattle.checkout_engine.specs.declared.rehearsing.TriedRun.{TriedRun}
 use Rattle.checkout_engine.specs.Complete.{failed_leaves}
 use Rattle.checkout_engine.specs.Ends.{verdicts_of}
 use Rattle.checkout_engine.specs.Outcome.{Outcome, HasCounts, HasVerdict, HasDeskVerdict, HasOutcome, AreOutcomes, leaf_back}
@@ -129,9 +130,9 @@ drivers_fine (d ∷ ds) is =
 
 -- ---- the whole
 
-pub tried_well : (told : RepoTold) (ahead : List ℕ → Starts) (vs ws : List Verdict) (tree : TreeSeen) (spawner : SpawnerSeen) (drivers : List DriverSeen) (b : Bool) → IsTried told ahead vs tree spawner
-    → map driver_back drivers ≡ spawner.returned → ws ≡ vs → b ≡ is_disturbed ws drivers → b ≡ false → IsTriedWell told ahead vs tree
-tried_well told ahead vs ws tree spawner drivers b tried kept same test none =
+pub tried_well : (told : RepoTold) (ahead : List ℕ → Starts) (run : TriedRun) (ws : List Verdict) (tree : TreeSeen) (spawner : SpawnerSeen) (drivers : List DriverSeen) (b : Bool) → IsTried told ahead run tree spawner
+    → map driver_back drivers ≡ spawner.returned → ws ≡ run.verdicts.items → b ≡ is_disturbed ws drivers → b ≡ false → IsTriedWell told ahead run tree
+tried_well told ahead run ws tree spawner drivers b tried kept same test none =
     let c = tried.checkout in
     let os = c.outcomes in
     let now : ws ≡ verdicts_of os = same ∙ tried.verdicts_are in

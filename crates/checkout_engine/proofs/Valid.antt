@@ -113,7 +113,7 @@ short = omega arith
 known : {told : Told} (bytes : List ℕ) → told ≡ Raw bytes → IsKnown told
 known bytes e = subst IsKnown (sym e) tt
 
-tells : {told : Told} (bytes : List ℕ) → told ≡ Raw bytes → TellsBytes told bytes
+pub tells : {told : Told} (bytes : List ℕ) → told ≡ Raw bytes → TellsBytes told bytes
 tells bytes e = subst (λ (t : Told). TellsBytes t bytes) (sym e) refl
 
 pub valid : FilesHaveAnIndex → AttributesAreRight → (seed n : ℕ) → n ≤ 99999 → (told : RepoTold)

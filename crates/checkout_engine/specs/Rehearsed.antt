@@ -1,7 +1,7 @@
 -- How the command `rehearse` ends, and what it writes.
-use Rattle.std.specs.Prelude.{◌≡◌, ◌==◌, ◌||◌, ℕ, Bool, true, false, not, List, [], ◌∷◌, ◌++◌, length, codes}
+use Rattle.std.specs.Prelude.{◌≡◌, ◌==◌, ◌||◌, ◌≤◌, ℕ, Bool, true, false, not, List, [], ◌∷◌, ◌++◌, length, codes}
 use Rattle.std.specs.Prelude.{count_by, sum_by, Some, None}
-use Rattle.std.specs.List.{list_any}
+use Rattle.std.specs.List.{list_any, AllByRecursion}
 use Rattle.std.specs.Fmt.{decimal}
 use Rattle.byte_path.specs.Characters.{line_feed}
 use Rattle.edge_kit.specs.Faults.{Rose}
@@ -19,7 +19,13 @@ use Rattle.rehearsal.specs.Drivers.{scripts}
 use Rattle.checkout_core.specs.declared.verdict.Verdict.{Verdict}
 use Rattle.checkout_core.specs.declared.verdict.Verdict.TheVariants as verdict
 use Rattle.checkout_core.specs.declared.verdict.FailCause.TheVariants as fail
+use Rattle.checkout_core.specs.declared.event.Event.{Event}
+use Rattle.checkout_core.specs.declared.path.Start.{Start}
+use Rattle.checkout_core.specs.States.{AreBelow}
+use Rattle.checkout_plan.specs.Paths.{HasCause}
+use Rattle.writer_pool.specs.Ends.{IsRun}
 use Rattle.checkout_report.specs.Report.{is_written, is_unfiltered, is_failed}
+use Rattle.checkout_engine.specs.declared.rehearsing.TriedRun.{TriedRun}
 use Rattle.checkout_engine.specs.declared.status.Status.{Status}
 use Rattle.checkout_engine.specs.declared.status.Status.TheVariants as status
 use Rattle.checkout_engine.specs.declared.stop.Stop.{Stop}
@@ -28,6 +34,7 @@ use Rattle.checkout_engine.specs.Alike.{IsUndisturbed}
 use Rattle.checkout_engine.specs.Ends.{Seen, begun, IsCheckedOut, verdicts_of}
 use Rattle.checkout_engine.specs.Output.{IsCut, with_text}
 use Rattle.checkout_engine.specs.Report.{number_of, status_of, lacks_memory}
+use Rattle.checkout_engine.specs.Workers.{starts_of, worker_count}
 
 -- the sum of all files' bytes
 abbrev pub bytes_of : List TreeFile → ℕ
@@ -62,40 +69,69 @@ new_memory = begun (record { faults = 0; out = 0; returned = [] })
     (record { written = None; faults = 0 })
 
 -- A repository was checked out into an empty worktree in memory, by its drivers and as many workers as its
--- configuration says. These are the verdicts of its paths, and this is left of the worktree and of the spawner.
-pub record IsTried (told : RepoTold) (ahead : List ℕ → Starts) (verdicts : List Verdict) (tree : TreeSeen)
+-- configuration says. This is its plan, its workers, its history and the verdicts of its paths, and this is left of the
+-- worktree and of the spawner.
+pub record IsTried (told : RepoTold) (ahead : List ℕ → Starts) (run : TriedRun) (tree : TreeSeen)
     (spawner : SpawnerSeen) : Type 0 where
   pub left : Seen
   pub checkout : IsCheckedOut told ahead None new_memory left
-  pub verdicts_are : verdicts ≡ verdicts_of checkout.outcomes
+  pub plan_is : run.plan ≡ checkout.plan
+  pub workers_are : run.workers ≡ worker_count None checkout.planned.settings checkout.plan.paths
+  pub history_is : run.history.items ≡ left.history
+  pub verdicts_are : run.verdicts.items ≡ verdicts_of checkout.outcomes
   pub tree_is : tree ≡ left.tree
   pub spawner_is : spawner ≡ left.spawner
 
 -- The same, and nothing disturbed it: no leaf and no link failed, and there was memory for each path.
-pub record IsTriedWell (told : RepoTold) (ahead : List ℕ → Starts) (verdicts : List Verdict) (tree : TreeSeen)
-    : Type 0 where
+pub record IsTriedWell (told : RepoTold) (ahead : List ℕ → Starts) (run : TriedRun) (tree : TreeSeen) : Type 0 where
   pub spawner : SpawnerSeen
-  pub tried : IsTried told ahead verdicts tree spawner
+  pub tried : IsTried told ahead run tree spawner
   pub undisturbed : IsUndisturbed tried.checkout
 
 -- the same for the repository and the drivers of a rehearsal
-pub record IsRehearsed (seed paths : ℕ) (verdicts : List Verdict) (tree : TreeSeen) : Type 0 where
+pub record IsRehearsed (seed paths : ℕ) (run : TriedRun) (tree : TreeSeen) : Type 0 where
   pub told : RepoTold
   pub made : IsRepository (files seed (in_order paths)) told
-  pub well : IsTriedWell told (starts_for (scripts seed (in_order paths))) verdicts tree
+  pub well : IsTriedWell told (starts_for (scripts seed (in_order paths))) run tree
 
 -- A rehearsal ended, undisturbed, and its summary is this text.
 pub record IsSummed (seed paths : ℕ) (text : List ℕ) : Type 0 where
-  pub verdicts : List Verdict
+  pub run : TriedRun
   pub tree : TreeSeen
-  pub rehearsed : IsRehearsed seed paths verdicts tree
+  pub rehearsed : IsRehearsed seed paths run tree
   pub fs : List TreeFile
   pub has : tree.files ≡ Some fs
-  pub is : text ≡ summary paths verdicts fs
+  pub is : text ≡ summary paths run.verdicts.items fs
 
 -- Two rehearsals by the same numbers have the same summary.
 abbrev pub RehearsalsAreAlike : Type 0
 RehearsalsAreAlike = (seed paths : ℕ) (a b : List ℕ) → IsSummed seed paths a → IsSummed seed paths b → a ≡ b
+
+-- The run of a rehearsal that nothing disturbed: how its paths began, its workers and its drivers, and all that
+-- happened. The history is complete and legal, and its replay gives the verdicts of the paths.
+pub record IsRehearsedRun (seed paths : ℕ) (starts : List Start) (workers drivers : ℕ) (history : List Event)
+    : Type 0 where
+  pub told : RepoTold
+  pub made : IsRepository (files seed (in_order paths)) told
+  pub left : Seen
+  pub checkout : IsCheckedOut told (starts_for (scripts seed (in_order paths))) None new_memory left
+  pub undisturbed : IsUndisturbed checkout
+  pub starts_are : starts ≡ starts_of checkout.plan.paths
+  pub workers_are : workers ≡ worker_count None checkout.planned.settings checkout.plan.paths
+  pub drivers_are : drivers ≡ length checkout.plan.drivers
+  pub history_is : history ≡ left.history
+  pub run : IsRun starts workers drivers history (verdicts_of checkout.outcomes)
+
+-- How large the run of a rehearsal can be. Each path begins as in a plan: at the desk of one of the drivers, in the
+-- pool, or closed with a cause that a plan gives.
+pub record IsSmallRun (starts : List Start) (workers drivers : ℕ) (history : List Event) : Type 0 where
+  pub some_workers : 1 ≤ workers
+  pub few_workers : workers ≤ 16
+  pub few_drivers : drivers ≤ 16
+  pub few_starts : length starts ≤ 100000
+  pub few_events : length history ≤ 900000
+  pub desks : AreBelow drivers starts
+  pub causes : AllByRecursion HasCause starts
 
 -- What the forms in memory kept of a checkout that something disturbed. If the file of a path could not be written, its
 -- verdict says so.

@@ -6,15 +6,19 @@ ghost use Rattle.checkout_engine.specs.Reading.{IsRead};
 ghost use Rattle.checkout_engine.specs.Rehearsed.{is_memory, bytes_of, first_words, last_words, summary, new_memory};
 ghost use Rattle.checkout_engine.specs.Rehearsed.{is_write_failed, is_link_failed, is_driver_failed, is_disturbed};
 ghost use Rattle.checkout_engine.specs.Rehearsed.{IsTried, IsTriedWell, IsRehearsed, IsSummed, Rehearses};
+ghost use Rattle.checkout_engine.specs.Rehearsed.{IsRehearsedRun, IsSmallRun};
 
-use crate::paths::check_out_paths;
+use crate::cards::starts_of;
+use crate::paths::{PathsDone, check_out_paths};
 use crate::planning::{Planned, read_plan};
 use crate::report::{lacks_memory, status_of};
 use crate::status::{Status, number_of};
 use crate::stop::Stop;
 use crate::workers::Pace;
-use checkout_core::{FailCause, Verdict};
+use checkout_core::{Event, FailCause, Start, Verdict};
+use checkout_plan::{Plan, closed_paths_have_causes};
 use checkout_report::{failed_count, unfiltered_count, written_count};
+use core_laws::laws;
 use edge_kit::{
     DriverSeen, Gate, MemoryRepo, MemorySpawner, MemoryTree, Repo, SendFault, Sink, Spawner,
     StartOutcome, StartSeen, TreeFile, Worktree,
@@ -24,6 +28,29 @@ use rehearsal::{Rehearsed, attributes_are_right, files_have_an_index, rehearse};
 use std::alloc::{AllocError, Global};
 use std::sync::Wait;
 use std::thread::Threads;
+
+/// What a checkout in memory hands on of its run.
+#[derive(Drop)]
+pub struct TriedRun {
+    pub plan: Plan,
+    /// How many workers there were.
+    pub workers: u32,
+    /// The events of all workers, in the order in which they happened.
+    pub history: Vec<Event>,
+    /// The verdict of each path.
+    pub verdicts: Vec<Verdict>,
+}
+
+/// The run of a rehearsal, as a journal tells it.
+#[derive(Drop)]
+pub struct RehearsedRun {
+    /// How each path begins.
+    pub starts: Vec<Start>,
+    pub workers: u32,
+    pub drivers: u32,
+    /// All that happened, in order.
+    pub history: Vec<Event>,
+}
 
 /// The sum of all files' bytes.
 fn bytes_of(files: &[TreeFile]) -> u128
@@ -144,8 +171,7 @@ fn is_disturbed(verdicts: &[Verdict], drivers: &[DriverSeen]) -> bool
     lacks_memory(verdicts) || has_write_failed(verdicts) || has_link_failed(drivers)
 }
 
-/// Checks out a valid repository, of which nothing was called, into a new and empty worktree: the verdicts of the
-/// paths.
+/// Checks out a valid repository, of which nothing was called, into a new and empty worktree: its run.
 fn tried<R: Repo, T: Worktree, P: Spawner, G: Gate, H: Threads + Wait + Sync>(
     rt: &H,
     alloc: Global,
@@ -153,12 +179,12 @@ fn tried<R: Repo, T: Worktree, P: Spawner, G: Gate, H: Threads + Wait + Sync>(
     tree: &mut T,
     spawner: &mut P,
     gate: &G,
-) -> Result<Vec<Verdict>, AllocError>
+) -> Result<TriedRun, AllocError>
     requires valid { IsValid (R.told repo.old) }
     requires repo { R.seen repo.old ≡ new_memory.repo }
     requires tree { T.seen tree.old ≡ new_memory.tree }
     requires spawner { P.seen spawner.old ≡ new_memory.spawner }
-    ensures { IfOk result (λ v. IsTried (R.told repo.old) (P.told spawner.old) v.items
+    ensures { IfOk result (λ r. IsTried (R.told repo.old) (P.told spawner.old) r
         (T.seen tree.new) (P.seen spawner.new)) }
 {
     paths_are_ordered();
@@ -171,25 +197,35 @@ fn tried<R: Repo, T: Worktree, P: Spawner, G: Gate, H: Threads + Wait + Sync>(
     let slice = planned.plan.paths.as_slice();
     let drivers = planned.plan.drivers.as_slice();
     let done = check_out_paths(rt, alloc, repo, tree, spawner, gate, slice, drivers, pace)?;
-    Ok(done.verdicts)
+    let PathsDone {
+        history,
+        verdicts,
+        workers,
+    } = done;
+    Ok(TriedRun {
+        plan: planned.plan,
+        workers,
+        history,
+        verdicts,
+    })
 }
 
-/// Checks out what a rehearsal is made of into an empty worktree in memory: the verdicts of the paths, and that
-/// worktree. What disturbed the checkout is taken for want of memory: nothing is told to fail.
+/// Checks out what a rehearsal is made of into an empty worktree in memory: its run, and that worktree. What disturbed
+/// the checkout is taken for want of memory: nothing is told to fail.
 fn checked_out<G: Gate, H: Threads + Wait + Sync>(
     rt: &H,
     alloc: Global,
     mut made: Rehearsed,
     gate: &G,
-) -> Result<(Vec<Verdict>, MemoryTree), AllocError>
+) -> Result<(TriedRun, MemoryTree), AllocError>
     requires valid { IsValid (⟦<MemoryRepo as Repo>⟧.told made.repo) }
     requires repo { ⟦<MemoryRepo as Repo>⟧.seen made.repo ≡ new_memory.repo }
     requires spawner { ⟦<MemorySpawner as Spawner>⟧.seen made.spawner ≡ new_memory.spawner }
     ensures { IfOk result (λ r. IsTriedWell (⟦<MemoryRepo as Repo>⟧.told made.repo)
-        (⟦<MemorySpawner as Spawner>⟧.told made.spawner) r.0.items (⟦<MemoryTree as Worktree>⟧.seen r.1)) }
+        (⟦<MemorySpawner as Spawner>⟧.told made.spawner) r.0 (⟦<MemoryTree as Worktree>⟧.seen r.1)) }
 {
     let mut tree = MemoryTree::new(alloc, true, Vec::new(alloc), false);
-    let verdicts = tried(
+    let run = tried(
         rt,
         alloc,
         &mut made.repo,
@@ -197,22 +233,22 @@ fn checked_out<G: Gate, H: Threads + Wait + Sync>(
         &mut made.spawner,
         gate,
     )?;
-    if is_disturbed(&verdicts, made.spawner.drivers()) {
+    if is_disturbed(&run.verdicts, made.spawner.drivers()) {
         return Err(AllocError);
     }
-    Ok((verdicts, tree))
+    Ok((run, tree))
 }
 
-/// Rehearses so many paths: their verdicts, and the worktree in memory.
+/// Rehearses so many paths: the run, and the worktree in memory.
 fn rehearsed<G: Gate, H: Threads + Wait + Sync>(
     rt: &H,
     alloc: Global,
     seed: u64,
     paths: u32,
     gate: &G,
-) -> Result<(Vec<Verdict>, MemoryTree), AllocError>
+) -> Result<(TriedRun, MemoryTree), AllocError>
     requires { paths ≤ 99999 }
-    ensures { IfOk result (λ r. IsRehearsed seed paths r.0.items (⟦<MemoryTree as Worktree>⟧.seen r.1)) }
+    ensures { IfOk result (λ r. IsRehearsed seed paths r.0 (⟦<MemoryTree as Worktree>⟧.seen r.1)) }
 {
     files_have_an_index();
     attributes_are_right();
@@ -232,9 +268,39 @@ fn rehearsal_summary<G: Gate, H: Threads + Wait + Sync>(
     requires { paths ≤ 99999 }
     ensures { IfOk result (λ s. IsSummed seed paths (string_bytes s)) }
 {
-    let (verdicts, tree) = rehearsed(rt, alloc, seed, paths, gate)?;
-    let text = summary(alloc, paths, &verdicts, tree.files())?;
+    let (run, tree) = rehearsed(rt, alloc, seed, paths, gate)?;
+    let text = summary(alloc, paths, &run.verdicts, tree.files())?;
     Ok(text)
+}
+
+/// Rehearses so many paths, as the command `rehearse` does, and hands on the run for a journal.
+pub fn rehearsed_run<G: Gate, H: Threads + Wait + Sync>(
+    rt: &H,
+    alloc: Global,
+    seed: u64,
+    paths: u32,
+    gate: &G,
+) -> Result<RehearsedRun, AllocError>
+    requires { paths ≤ 99999 }
+    // It is that of a checkout in memory that nothing disturbed.
+    ensures rehearsed { IfOk result (λ r.
+        IsRehearsedRun seed paths r.starts.items r.workers r.drivers r.history.items) }
+    // It is small enough for a journal.
+    ensures small { IfOk result (λ r. IsSmallRun r.starts.items r.workers r.drivers r.history.items) }
+{
+    one_reading();
+    files_have_an_index();
+    closed_paths_have_causes();
+    laws::a_history_is_short();
+    let (run, _) = rehearsed(rt, alloc, seed, paths, gate)?;
+    let starts = starts_of(alloc, run.plan.paths.as_slice())?;
+    let drivers = run.plan.drivers.as_slice().len();
+    Ok(RehearsedRun {
+        starts,
+        workers: run.workers,
+        drivers: drivers as u32,
+        history: run.history,
+    })
 }
 
 /// The command `rehearse`: rehearses so many paths, and writes the summary.
