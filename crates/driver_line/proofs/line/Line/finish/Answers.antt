@@ -1,6 +1,5 @@
 use Rattle.std.proofs.Common.{◌≡◌, Some, sym, ap, ◌∙◌}
 use Rattle.driver_line.specs.Lines.{LineView}
-use Rattle.filter_proto.specs.Wires.{SessionSeen}
 use Rattle.driver_line.proofs.Ends.{finished}
 use Rattle.driver_line.proofs.line.Line.finish.Goals as goal
 
