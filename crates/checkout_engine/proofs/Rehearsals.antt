@@ -44,11 +44,13 @@ object_is_told (f ∷ fs) name = by (bytes_eq (entry_of f).name name) (object_is
 
 tells_all : (fs : List File) (told : RepoTold) (ds : List DriverScript) → IsRepository fs told → TellAll told (starts_for ds)
 tells_all fs told ds made = record {
-  index = subst IsTold (sym made.index) tt;
-  config = subst IsTold (sym made.config) tt;
-  info = subst IsTold (sym made.info) tt;
-  base = subst IsTold (sym made.base) tt;
-  object = λ name. subst IsTold (sym (made.object name)) (object_is_told fs name);
+  repo = record {
+    index = subst IsTold (sym made.index) tt;
+    config = subst IsTold (sym made.config) tt;
+    info = subst IsTold (sym made.info) tt;
+    base = subst IsTold (sym made.base) tt;
+    object = λ name. subst IsTold (sym (made.object name)) (object_is_told fs name);
+  };
   starts = λ command. (map start_told (sessions_for ds command), refl);
 }
 

@@ -24,12 +24,11 @@ use Rattle.checkout_core.specs.declared.verdict.SkipCause.TheVariants as skip
 use Rattle.checkout_plan.specs.declared.path_plan.PathPlan.{PathPlan}
 use Rattle.checkout_plan.specs.Paths.{closed, path_of_mode, asked_path, first_entries, plan_with, plan_of}
 use Rattle.checkout_plan.specs.Making.{HasContent, HaveContents}
-use Rattle.checkout_engine.specs.Alike.{IsTold, TellAll, DifferInWorkers}
+use Rattle.checkout_engine.specs.Alike.{IsTold, RepoTellsAll, DifferInWorkers}
 use Rattle.checkout_engine.specs.Sources.{HasIndex, HasSettings, HasAttributes, IsPlanned}
-use Rattle.edge_kit.specs.Starters.{Starts}
 use Rattle.checkout_engine.proofs.ToldObjects.{same_told, same_bytes, gives_found}
 
-same_ok : {A E : Type 0} (x y : A) → ◌≡◌ {A = Result A E} (Ok x) (Ok y) → x ≡ y
+pub same_ok : {A E : Type 0} (x y : A) → ◌≡◌ {A = Result A E} (Ok x) (Ok y) → x ≡ y
 same_ok x y e = cc
 
 pub same_entries : OneReading → (told : Told) (es fs : List Entry) → IsTold told → HasIndex told es → HasIndex told fs → es ≡ fs
@@ -90,8 +89,8 @@ plan_unpaced es s i cs workers threshold = unfold plan_of in
     ap (λ (asked : List PathPlan). plan_with (attribute_files i es cs) asked s) (all_same (attribute_files i es cs) s workers threshold (first_entries es))
 
 -- two repositories that differ in the number of workers and the threshold alone have one plan
-pub same_plan : OneReading → (told told' : RepoTold) (ahead : List ℕ → Starts) (p q : Plan) → TellAll told ahead → DifferInWorkers told told' → IsPlanned told p → IsPlanned told' q → p ≡ q
-same_plan law told told' ahead p q all differ a b =
+pub same_plan : OneReading → (told told' : RepoTold) (p q : Plan) → RepoTellsAll told → DifferInWorkers told told' → IsPlanned told p → IsPlanned told' q → p ≡ q
+same_plan law told told' p q all differ a b =
     let index : HasIndex told.index b.entries = subst (λ (t : Told). HasIndex t b.entries) differ.index b.sources.index in
     let attributes : HasAttributes told.info b.outer.info = subst (λ (t : Told). HasAttributes t b.outer.info) differ.info b.sources.info in
     let base : HasAttributes told.base b.outer.base = subst (λ (t : Told). HasAttributes t b.outer.base) differ.base b.sources.base in

@@ -72,7 +72,7 @@ module _ (required : Bool) (d : ℕ) (t : DriverTalk) (n : ℕ) where
   desk_fine told p o (verdict.Failed fail.UnknownEncoding) has memory written = absurd has
 
 module _ (object : List ℕ → Told) (talks : List DriverTalk) where
-  path_fine : (n : ℕ) (p : PathPlan) (o : Outcome) (s : Start) → HasOutcome object talks s n p o → is_no_memory o.verdict ≡ false → is_write_failed o.verdict ≡ false → failed_leaves (leaf_back p o.leaf) ≡ 0
+  pub path_fine : (n : ℕ) (p : PathPlan) (o : Outcome) (s : Start) → HasOutcome object talks s n p o → is_no_memory o.verdict ≡ false → is_write_failed o.verdict ≡ false → failed_leaves (leaf_back p o.leaf) ≡ 0
   path_fine n p o (start.Done v) has memory written = unmade p o has.1.leaf
   path_fine n p o start.Pool has memory written = pool_fine (object p.object) p o o.verdict has memory written
   path_fine n p o (start.Desk d required) (text, t, there, has) memory written = desk_fine required d t n (object p.object) p o o.verdict has memory written

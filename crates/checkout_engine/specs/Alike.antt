@@ -24,13 +24,17 @@ IsTold Absent = Unit {0}
 IsTold Failing = Unit {0}
 IsTold Untold = ⊥
 
--- The repository tells all that it holds, and the spawner tells the starts of each command.
-pub record TellAll (told : RepoTold) (ahead : List ℕ → Starts) : Type 0 where
+-- The repository tells all that it holds.
+pub record RepoTellsAll (told : RepoTold) : Type 0 where
   pub index : IsTold told.index
   pub config : IsTold told.config
   pub info : IsTold told.info
   pub base : IsTold told.base
   pub object : (name : List ℕ) → IsTold (told.object name)
+
+-- It does, and the spawner tells the starts of each command.
+pub record TellAll (told : RepoTold) (ahead : List ℕ → Starts) : Type 0 where
+  pub repo : RepoTellsAll told
   pub starts : (command : List ℕ) → (starts : List StartTold) × (ahead command ≡ Some starts)
 
 -- The forms in memory do so.

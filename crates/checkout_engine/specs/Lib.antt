@@ -15,6 +15,7 @@ pub mod Report
 pub mod RefusalText
 pub mod Complete
 pub mod Alike
+pub mod SameFaults
 pub mod Given
 pub mod Workers
 -- what its parts promise each other

@@ -3,9 +3,12 @@ ghost use Rattle.checkout_engine.specs.Alike.{MemoryTellsAll, WorkersChangeNothi
 ghost use Rattle.checkout_engine.specs.Alike.{ActorsAreNumbered};
 ghost use Rattle.checkout_engine.specs.Given.{WrittenIsGiven};
 ghost use Rattle.checkout_engine.specs.Rehearsed.{RehearsalsAreAlike};
+ghost use Rattle.checkout_engine.specs.SameFaults.{SameFaultsChangeNothing};
 
 use core_laws::laws;
-use driver_line::{a_path_gets_one_content, equal_outputs_give_equal_talks};
+use driver_line::{
+    a_path_gets_one_content, equal_outputs_give_equal_talks, equal_sessions_give_equal_talks,
+};
 use git_index::{one_reading, paths_are_ordered};
 
 /// The number of workers changes nothing: two checkouts of one repository with the same drivers, in which no leaf and
@@ -20,6 +23,18 @@ pub fn workers_change_nothing()
     one_reading();
     paths_are_ordered();
     equal_outputs_give_equal_talks();
+    a_path_gets_one_content();
+}
+
+/// Where leaves or links failed, the verdicts and the reports of two checkouts of one repository are equal if their
+/// sessions, their failed starts and the counts of their leaves are, with any two numbers of workers, and memory was left
+/// for each path. So is the file of each path whose leaf didn't fail.
+pub fn same_faults_change_nothing()
+    ensures { SameFaultsChangeNothing }
+{
+    one_reading();
+    paths_are_ordered();
+    equal_sessions_give_equal_talks();
     a_path_gets_one_content();
 }
 

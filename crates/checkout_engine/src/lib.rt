@@ -20,8 +20,8 @@ mod workers;
 
 pub use command::run;
 pub use laws::{
-    actors_are_numbered, memory_tells_all, rehearsals_are_alike, workers_change_nothing,
-    written_paths_are_given,
+    actors_are_numbered, memory_tells_all, rehearsals_are_alike, same_faults_change_nothing,
+    workers_change_nothing, written_paths_are_given,
 };
 pub use rehearsing::{RehearsedRun, rehearsed_run};
 pub use show::plan_text;
