@@ -87,10 +87,12 @@ CountsShut standing.Live input end before after = CountsCalls input end before a
 CountsShut standing.Aborted input end before after = CountsCalls input end before after
 CountsShut standing.Over input end before after = (after ≡ before) × (input ≡ Ok tt) × (end ≡ Ok tt)
 
--- what a session's link is after `shut`
-abbrev pub IsShutAfter : Standing → Wire → LinkSeen → Type 0
-IsShutAfter s wire link =
-    wire_of wire.unread link ≡ record wire { stage = shut_after s wire.stage; faults = link.faults }
+-- what a session's link is after `shut`, with what the two calls answered
+pub record IsShutAfter (s : Standing) (wire : Wire) (link : LinkSeen) : Type 0 where
+  pub input : Result ⊤ Failed
+  pub end : Result ⊤ Failed
+  pub kept : wire_of wire.unread link ≡ record wire { stage = shut_after s wire.stage; faults = link.faults }
+  pub counts : CountsShut s input end wire.faults link.faults
 
 -- a proper first part of a text was sent, or nothing
 pub record IsSentPart (text : List ℕ) (old new : Wire) : Type 0 where
