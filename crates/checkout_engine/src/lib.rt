@@ -1,6 +1,7 @@
 //! A worktree from an index and its objects.
 #![tactic(auto)]
 
+mod begin;
 mod cards;
 mod command;
 mod dealing;
@@ -18,6 +19,7 @@ mod status;
 mod stop;
 mod workers;
 
+pub use begin::{PlannedRun, planned_run};
 pub use command::run;
 pub use laws::{
     actors_are_numbered, memory_tells_all, rehearsals_are_alike, workers_change_nothing,
@@ -25,3 +27,4 @@ pub use laws::{
 };
 pub use rehearsing::{RehearsedRun, rehearsed_run};
 pub use show::plan_text;
+pub use stop::{Refusal, Stop};
