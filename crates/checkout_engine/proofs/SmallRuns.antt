@@ -1,8 +1,8 @@
 -- A plan is small, and so is the run of a rehearsal.
-use Rattle.std.proofs.Common.{◌≡◌, ◌≤◌, ◌*◌, ℕ, List, [], ◌∷◌, length, map, Option, None, sym, ap, ◌∙◌, subst, arith}
+use Rattle.std.proofs.Common.{◌≡◌, ◌≤◌, ◌*◌, ℕ, List, [], ◌∷◌, length, map, Option, Some, None, Ok, sym, ap, ◌∙◌, subst, arith}
 use Rattle.std.specs.List.{AllByRecursion, filter}
 use Rattle.std.proofs.lemmas.List.{length-map}
-use Rattle.edge_kit.specs.Seen.{TreeSeen}
+use Rattle.edge_kit.specs.Seen.{RepoSeen, TreeSeen}
 use Rattle.edge_kit.specs.Told.{RepoTold}
 use Rattle.checkout_core.specs.declared.event.Event.{Event}
 use Rattle.checkout_core.specs.declared.path.Start.{Start}
@@ -11,14 +11,20 @@ use Rattle.checkout_core.specs.Steps.{IsLegal}
 use Rattle.checkout_plan.specs.Paths.{HasCause, ClosedPathsHaveCauses}
 use Rattle.checkout_plan.specs.declared.path_plan.PathPlan.{PathPlan}
 use Rattle.checkout_plan.specs.declared.path_plan.Plan.{Plan}
+use Rattle.checkout_words.specs.Words.{command_of}
+use Rattle.checkout_words.specs.declared.Command.{Command}
+use Rattle.checkout_words.specs.declared.Command.TheVariants as command
 use Rattle.writer_pool.specs.Ends.{IsRun}
+use Rattle.checkout_engine.specs.declared.begin.PlannedRun.{PlannedRun}
+use Rattle.checkout_engine.specs.declared.planning.Planned.{Planned}
 use Rattle.checkout_engine.specs.declared.rehearsing.TriedRun.{TriedRun}
-use Rattle.checkout_engine.specs.Begun.{IsSmallStart}
+use Rattle.checkout_engine.specs.Begun.{IsSmallStart, PlansRun}
 use Rattle.checkout_engine.specs.Ends.{verdicts_of}
+use Rattle.checkout_engine.specs.Reading.{IsRead}
 use Rattle.checkout_engine.specs.Rehearsed.{IsRehearsed, IsRehearsedRun, IsSmallRun}
 use Rattle.checkout_engine.specs.Sources.{IsPlanned}
-use Rattle.checkout_engine.specs.Workers.{starts_of, in_pool, worker_count, IsAsked}
-use Rattle.checkout_engine.proofs.Bounds.{no_more_paths, settings_few, count_few}
+use Rattle.checkout_engine.specs.Workers.{starts_of, in_pool, worker_count, workers_for, IsAsked}
+use Rattle.checkout_engine.proofs.Bounds.{no_more_paths, settings_few, count_few, asked_few}
 use Rattle.checkout_engine.proofs.Drivers.{planned_drivers}
 use Rattle.checkout_engine.proofs.Seeds.{below}
 
@@ -88,6 +94,26 @@ small_as starts starts' workers workers' drivers drivers' a b c small =
     subst (λ (l : List Start). IsSmallStart l workers drivers) (sym a)
     (subst (λ (k : ℕ). IsSmallStart starts' k drivers) (sym b)
     (subst (λ (k : ℕ). IsSmallStart starts' workers' k) (sym c) small))
+
+-- what is handed on of a plan that was read
+pub run_planned : ClosedPathsHaveCauses → (told : RepoTold) (words : List (List ℕ)) (asked : Option ℕ) (old new : RepoSeen) (p : Planned) (run : PlannedRun) → command_of words ≡ Some (command.Checkout asked) → IsRead told p old new
+    → run.starts.items ≡ starts_of p.plan.paths → run.workers ≡ workers_for asked p.workers p.threshold (length (filter in_pool p.plan.paths)) → run.drivers ≡ length p.plan.drivers
+    → PlansRun told (command_of words) old new (Ok (Some run))
+run_planned closed told words asked old new p run is read starts workers drivers =
+    let plan = p.plan in
+    let planned : IsPlanned told plan = read.read.planned in
+    let cards = length (filter in_pool plan.paths) in
+    let begun : run.workers ≡ worker_count asked planned.settings plan.paths =
+    workers ∙ ap (λ (n : ℕ). workers_for asked n p.threshold cards) read.workers ∙ ap (λ (t : ℕ). workers_for asked planned.settings.workers t cards) read.threshold in
+    subst (λ (c : Option Command). PlansRun told c old new (Ok (Some run))) (sym is)
+    (tt, record {
+      plan = plan;
+      read = read.read;
+      starts_are = starts;
+      workers_are = begun;
+      drivers_are = drivers;
+      small = small_as run.starts.items _ run.workers _ run.drivers _ starts begun drivers (start_small closed told asked plan planned (asked_few words asked is));
+    })
 
 -- and the run of a rehearsal is
 pub run_small : ClosedPathsHaveCauses → IsShort → (seed n : ℕ) (starts : List Start) (workers drivers : ℕ) (history : List Event) → IsRehearsedRun seed n starts workers drivers history → IsSmallRun starts workers drivers history

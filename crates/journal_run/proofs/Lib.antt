@@ -1,3 +1,3 @@
 pub mod Ends
-pub mod Laws
+pub mod Legal
 pub mod Starts
