@@ -1,6 +1,6 @@
 -- One thing is found of a file, and the journal of a run is legal.
 use Rattle.std.proofs.Common.{◌≡◌, ◌≤◌, ◌*◌, ℕ, List, length, refl, sym, ap, ◌∙◌, subst, arith}
-use Rattle.edge_kit.specs.Told.{Told, Raw, Absent, Failing, Untold}
+use Rattle.edge_kit.specs.Told.{Raw, Absent, Failing, Untold}
 use Rattle.checkout_core.specs.declared.event.Event.{Event}
 use Rattle.checkout_core.specs.declared.path.Start.{Start}
 use Rattle.checkout_core.specs.States.{Core, AreBelow, unclosed_count}
@@ -8,10 +8,8 @@ use Rattle.checkout_core.specs.Steps.{IsLegal}
 use Rattle.checkout_core.specs.Closes.{IsComplete}
 use Rattle.journal_audit.specs.Audits.{IsAudit}
 use Rattle.journal_audit.specs.Laws.{OneAudit, FitsAudit}
-use Rattle.journal_run.specs.declared.finding.Finding.{Finding}
 use Rattle.journal_run.specs.declared.finding.Finding.TheVariants as finding
-use Rattle.journal_run.specs.Findings.{IsFinding}
-use Rattle.journal_run.specs.Laws.{IsTold, OneFinding, RunsAreLegal, RehearsalsAreLegal}
+use Rattle.journal_run.specs.Laws.{OneFinding, RunsAreLegal, RehearsalsAreLegal}
 use Rattle.journal_run.proofs.Starts.{starts_below}
 
 pub one_finding : OneAudit → OneFinding

@@ -1,14 +1,16 @@
 -- The starts of a plan fit a journal, and those of a journal name its drivers.
-use Rattle.std.proofs.Common.{◌≡◌, ◌<◌, ◌&&◌, ℕ, zero, suc, Bool, true, false, List, [], ◌∷◌, Some, slice_get, refl, ap, subst}
+use Rattle.std.proofs.Common.{◌≡◌, ◌<◌, ◌^◌, ◌&&◌, ℕ, zero, suc, Bool, true, false, List, [], ◌∷◌, length, Some, refl, sym, ap, subst}
 use Rattle.std.specs.List.{AllByRecursion, list_all}
 use Rattle.std.proofs.lemmas.Bool.{ltb-true, lt-ltb}
 use Rattle.checkout_core.specs.declared.path.Start.{Start}
 use Rattle.checkout_core.specs.declared.path.Start.TheVariants.{Pool, Desk, Done}
-use Rattle.checkout_core.specs.declared.verdict.Verdict.{Verdict}
 use Rattle.checkout_core.specs.declared.verdict.Verdict.TheVariants as verdict
 use Rattle.checkout_core.specs.declared.verdict.FailCause.TheVariants as fail
 use Rattle.checkout_core.specs.States.{AreBelow}
+use Rattle.checkout_core.specs.declared.event.Event.{Event}
+use Rattle.checkout_engine.specs.Begun.{IsSmallStart}
 use Rattle.checkout_plan.specs.Paths.{HasCause}
+use Rattle.journal_audit.specs.Audits.{IsPrintable}
 use Rattle.journal_audit.specs.Journal.{start_fits}
 
 both : (a b : Bool) → a ≡ true → b ≡ true → (a && b) ≡ true
@@ -48,3 +50,18 @@ starts_below drivers (s ∷ ss) fit zero d required is =
     ltb-true d drivers (subst (λ (x : Start). start_fits drivers x ≡ true) same (first (start_fits drivers s) (list_all (λ s. start_fits drivers s) ss) fit))
 starts_below drivers (s ∷ ss) fit (suc p) d required is =
     starts_below drivers ss (second (start_fits drivers s) (list_all (λ s. start_fits drivers s) ss) fit) p d required is
+
+-- a checkout that is small can be printed
+pub printable : (starts starts' : List Start) (workers drivers : ℕ) (history history' : List Event) → starts' ≡ starts → history' ≡ history
+    → IsSmallStart starts workers drivers → length history < 2 ^ 32 → IsPrintable starts' workers drivers history'
+printable starts starts' workers drivers history history' same events small few =
+    subst (λ (l : List Start). IsPrintable l workers drivers history') (sym same)
+    (subst (λ (h : List Event). IsPrintable starts workers drivers h) (sym events)
+    (record {
+      some_workers = small.some_workers;
+      few_workers = small.few_workers;
+      few_drivers = small.few_drivers;
+      few_paths = small.few_starts;
+      few_events = few;
+      starts_fit = starts_fit drivers starts small.desks small.causes;
+    }))

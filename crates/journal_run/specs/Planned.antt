@@ -7,6 +7,8 @@ use Rattle.checkout_core.specs.declared.event.Event.{Event}
 use Rattle.checkout_words.specs.declared.Command.{Command}
 use Rattle.checkout_plan.specs.declared.path_plan.Plan.{Plan}
 use Rattle.checkout_engine.specs.declared.stop.Refusal.{Refusal}
+use Rattle.checkout_engine.specs.declared.stop.Stop.{Stop}
+use Rattle.checkout_engine.specs.declared.stop.Stop.TheVariants as stop
 use Rattle.checkout_engine.specs.Causes.{IsPlanRead, IsReadCause, IsRefusedFor}
 use Rattle.checkout_engine.specs.Ends.{IsCheckout, workers_asked}
 use Rattle.checkout_engine.specs.Workers.{starts_of, worker_count}
@@ -22,6 +24,11 @@ pub record IsCheckoutJournal (told : RepoTold) (asked : Option ℕ) (history : L
   pub read : IsPlanRead told plan old new
   pub spelled : Spells text (journal_of (starts_of plan.paths) (worker_count asked (read.planned).settings plan.paths)
       (length plan.drivers) history)
+
+-- why there is no journal if the plan stops
+abbrev pub fault_of : Stop → JournalFault
+fault_of stop.NoMemory = NoMemory
+fault_of s = NoPlan
 
 -- the journal of the checkout that words ask for, or why there is none
 abbrev pub Journals : RepoTold → Option Command → List Event → RepoSeen → RepoSeen

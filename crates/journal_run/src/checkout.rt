@@ -2,7 +2,7 @@
 ghost use Rattle.std.specs.Prelude.{◌≡◌};
 ghost use Rattle.checkout_engine.specs.Ends.{asked};
 ghost use Rattle.journal_run.specs.declared.checkout.JournalFault.TheVariants.{NoMemory};
-ghost use Rattle.journal_run.specs.Planned.{Journals};
+ghost use Rattle.journal_run.specs.Planned.{Journals, fault_of};
 
 use checkout_core::Event;
 use checkout_engine::{Stop, planned_run};
@@ -37,6 +37,16 @@ impl From<AllocError> for JournalFault {
     }
 }
 
+/// Why there is no journal if the plan stops.
+fn fault_of(stop: Stop) -> JournalFault
+    ensures { result ≡ fault_of stop }
+{
+    match stop {
+        Stop::NoMemory => JournalFault::NoMemory,
+        Stop::NotEmpty | Stop::ReadFault | Stop::Refused(_) => JournalFault::NoPlan,
+    }
+}
+
 /// The journal of the checkout that `run` of `checkout_engine` did of these words, with the history that it left.
 ///
 /// `run` doesn't hand on its plan, so the repository is planned a second time here. If it is as it was, the journal of
@@ -60,8 +70,6 @@ pub fn checkout_journal<R: Repo>(
             Ok(journal)
         }
         Ok(None) => Err(JournalFault::NoCheckout),
-        Err(Stop::ReadFault | Stop::Refused(_)) => Err(JournalFault::NoPlan),
-        Err(Stop::NoMemory) => Err(JournalFault::NoMemory),
-        Err(Stop::NotEmpty) => unreachable!(),
+        Err(stop) => Err(fault_of(stop)),
     }
 }
