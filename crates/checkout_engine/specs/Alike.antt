@@ -11,10 +11,11 @@ use Rattle.edge_kit.specs.declared.script.DriverScript.{DriverScript}
 use Rattle.edge_kit.specs.declared.tree_file.TreeFile.{TreeFile}
 use Rattle.driver_line.specs.SameHeard.{NoneFailed}
 use Rattle.settings_view.specs.declared.view.Settings.{Settings}
+use Rattle.checkout_plan.specs.declared.path_plan.Plan.{Plan}
 use Rattle.checkout_engine.specs.Complete.{failed_leaves}
 use Rattle.checkout_engine.specs.Ends.{Seen, IsCheckedOut, verdicts_of, files_of}
 use Rattle.checkout_engine.specs.Report.{lacks_memory, report}
-use Rattle.checkout_engine.specs.Sources.{HasSettings}
+use Rattle.checkout_engine.specs.Sources.{HasSettings, IsPlanned}
 use Rattle.checkout_engine.specs.Workers.{starts_of, worker_count, HaveActorsBelow}
 
 -- something is told: bytes, that there are none, or that taking them fails
@@ -31,6 +32,11 @@ pub record TellAll (told : RepoTold) (ahead : List ℕ → Starts) : Type 0 wher
   pub info : IsTold told.info
   pub object : (name : List ℕ) → IsTold (told.object name)
   pub starts : (command : List ℕ) → (starts : List StartTold) × (ahead command ≡ Some starts)
+
+-- Such a repository has one plan, and it is made by one list of settings.
+abbrev pub OnePlan : Type 0
+OnePlan = (told : RepoTold) (ahead : List ℕ → Starts) → TellAll told ahead → (p q : Plan)
+    → (a : IsPlanned told p) → (b : IsPlanned told q) → (p ≡ q) × (a.settings ≡ b.settings)
 
 -- The forms in memory do so.
 abbrev pub MemoryTellsAll : Type 0

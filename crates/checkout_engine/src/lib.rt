@@ -22,8 +22,8 @@ mod workers;
 pub use begin::{PlannedRun, planned_run};
 pub use command::run;
 pub use laws::{
-    actors_are_numbered, memory_tells_all, rehearsals_are_alike, workers_change_nothing,
-    written_paths_are_given,
+    a_told_repository_has_one_plan, actors_are_numbered, memory_tells_all, rehearsals_are_alike,
+    workers_change_nothing, written_paths_are_given,
 };
 pub use rehearsing::{RehearsedRun, rehearsed_run};
 pub use show::plan_text;

@@ -8,8 +8,14 @@ use Rattle.checkout_core.specs.Steps.{IsLegal}
 use Rattle.checkout_core.specs.Closes.{IsComplete}
 use Rattle.journal_audit.specs.Audits.{IsAudit}
 use Rattle.journal_audit.specs.Laws.{OneAudit, FitsAudit}
+use Rattle.settings_view.specs.declared.view.Settings.{Settings}
+use Rattle.checkout_plan.specs.declared.path_plan.Plan.{Plan}
+use Rattle.checkout_engine.specs.Alike.{OnePlan}
+use Rattle.checkout_engine.specs.Ends.{verdicts_of}
+use Rattle.checkout_engine.specs.Workers.{starts_of, worker_count}
+use Rattle.writer_pool.specs.Ends.{IsRun}
 use Rattle.journal_run.specs.declared.finding.Finding.TheVariants as finding
-use Rattle.journal_run.specs.Laws.{OneFinding, RunsAreLegal, RehearsalsAreLegal}
+use Rattle.journal_run.specs.Laws.{OneFinding, RunsAreLegal, RehearsalsAreLegal, CheckoutsAreLegal}
 use Rattle.journal_run.proofs.Starts.{starts_below}
 
 pub one_finding : OneAudit → OneFinding
@@ -50,3 +56,13 @@ runs_legal closed short fits starts workers drivers history verdicts text run sp
 pub rehearsals_legal : RunsAreLegal → RehearsalsAreLegal
 rehearsals_legal law seed paths text j =
     (length (j.journal).history, law (j.journal).starts (j.journal).workers (j.journal).drivers (j.journal).history _ text (j.run).run j.spelled)
+
+-- a second look at the repository shows the plan of the checkout
+pub checkouts_legal : OnePlan → RunsAreLegal → CheckoutsAreLegal
+checkouts_legal one law told ahead asked old new before after text all c j =
+    let vs = verdicts_of c.outcomes in
+    let same = one told ahead all c.plan j.plan c.planned (j.read).planned in
+    let P : Plan → Settings → Type 0 = λ p s. IsRun (starts_of p.paths) (worker_count asked s p.paths) (length p.drivers) new.history vs in
+    let run : P j.plan ((j.read).planned).settings =
+    subst (λ (s : Settings). P j.plan s) same.1 (subst (λ (p : Plan). P p (c.planned).settings) same.0 c.run) in
+    law (starts_of (j.plan).paths) (worker_count asked ((j.read).planned).settings (j.plan).paths) (length (j.plan).drivers) new.history vs text run j.spelled

@@ -1,22 +1,20 @@
 -- What follows of an answer.
-use Rattle.std.specs.Prelude.{◌≡◌, ◌≤◌, ℕ, List, length}
-use Rattle.edge_kit.specs.Told.{Told, Raw, Absent, Failing, Untold}
+use Rattle.std.specs.Prelude.{◌≡◌, ◌≤◌, ℕ, List, length, Option}
+use Rattle.edge_kit.specs.Seen.{RepoSeen}
+use Rattle.edge_kit.specs.Starters.{Starts}
+use Rattle.edge_kit.specs.Told.{Told, RepoTold}
 use Rattle.checkout_core.specs.declared.event.Event.{Event}
 use Rattle.checkout_core.specs.declared.path.Start.{Start}
 use Rattle.checkout_core.specs.declared.verdict.Verdict.{Verdict}
 use Rattle.journal_audit.specs.Audits.{IsAudit, Spells, journal_of}
 use Rattle.journal_audit.specs.declared.answer.Audit.TheVariants.{Legal}
+use Rattle.checkout_engine.specs.Alike.{IsTold, TellAll}
+use Rattle.checkout_engine.specs.Ends.{Seen, IsCheckedOut}
 use Rattle.writer_pool.specs.Ends.{IsRun}
 use Rattle.journal_run.specs.declared.finding.Finding.{Finding}
 use Rattle.journal_run.specs.Findings.{IsFinding, text_limit}
+use Rattle.journal_run.specs.Planned.{IsCheckoutJournal}
 use Rattle.journal_run.specs.Rehearsed.{IsJournalOf}
-
--- something is told of the file
-abbrev pub IsTold : Told → Type 0
-IsTold (Raw bytes) = Unit {0}
-IsTold Absent = Unit {0}
-IsTold Failing = Unit {0}
-IsTold Untold = ⊥
 
 -- one thing is found of a file that is told
 abbrev pub OneFinding : Type 0
@@ -37,3 +35,9 @@ RunsAreLegal = (starts : List Start) (workers drivers : ℕ) (history : List Eve
 abbrev pub RehearsalsAreLegal : Type 0
 RehearsalsAreLegal = (seed paths : ℕ) (text : List ℕ) → IsJournalOf seed paths text
     → (events : ℕ) × IsLegalText text events
+
+-- So is the journal of a checkout that has its history, if the repository tells all that it holds.
+abbrev pub CheckoutsAreLegal : Type 0
+CheckoutsAreLegal = (told : RepoTold) (ahead : List ℕ → Starts) (asked : Option ℕ) (old new : Seen)
+    (before after : RepoSeen) (text : List ℕ) → TellAll told ahead → IsCheckedOut told ahead asked old new
+    → IsCheckoutJournal told asked new.history before after text → IsLegalText text (length new.history)

@@ -1,6 +1,7 @@
 //! What follows of an answer. The functions do nothing.
-ghost use Rattle.journal_run.specs.Laws.{OneFinding, RunsAreLegal, RehearsalsAreLegal};
+ghost use Rattle.journal_run.specs.Laws.{OneFinding, RunsAreLegal, RehearsalsAreLegal, CheckoutsAreLegal};
 
+use checkout_engine::a_told_repository_has_one_plan;
 use core_laws::laws;
 use journal_audit::{journal_fits_audit, text_has_one_audit};
 
@@ -24,5 +25,13 @@ pub fn runs_are_legal()
 pub fn rehearsals_are_legal()
     ensures { RehearsalsAreLegal }
 {
+    runs_are_legal();
+}
+
+/// The same of the journal of a checkout that reached its report, where the repository tells all that it holds.
+pub fn checkouts_are_legal()
+    ensures { CheckoutsAreLegal }
+{
+    a_told_repository_has_one_plan();
     runs_are_legal();
 }
