@@ -8,7 +8,6 @@ import subprocess
 import sys
 
 MOST = 4_294_967_295
-ACTORS = MOST
 BROKEN = [f"broken-{word}" for word in "ended link packet handshake status delay too-long".split()]
 LIST_ONLY = ["broken-strange-path", "broken-list"]
 REPLIES = ["content", "error", "error-late", "abort", "delayed", "no-memory"]
@@ -308,8 +307,10 @@ def random_event(rng, paths, drivers, workers):
             words.append(actor)
         else:
             words.append(rng.choice(place[:2] if rng.random() < 0.5 else place))
-    if name in ("answered",) and rng.random() < 0.4:
+    if name == "answered" and rng.random() < 0.4:
         words[-1] = "delayed"
+    if name == "opened" and rng.random() < 0.7:
+        words[2:] = ["smudge", "delay"]
     return words
 
 
@@ -317,6 +318,10 @@ def changed(rng, lines):
     """The lines with something changed, as a text."""
     lines = list(lines)
     at, other = rng.randrange(len(lines)), rng.randrange(len(lines))
+    first = 1 + int(lines[0].split(" ")[3])
+    if first < len(lines) - 1 and rng.random() < 0.7:
+        # lines of events
+        at, other = rng.randrange(first, len(lines) - 1), rng.randrange(first, len(lines) - 1)
     kind = rng.choice(["away", "doubled", "swapped", "moved", "number", "number", "word", "byte", "cut", "end"])
     if kind == "away":
         del lines[at]
@@ -332,16 +337,18 @@ def changed(rng, lines):
         if kind == "number" and digits:
             k = rng.choice(digits)
             old = int(words[k])
-            words[k] = rng.choice([str(old + 1), str(max(old - 1, 0)), "0" + words[k], str(MOST), str(MOST + 1), ""])
+            near = [str(old + 1), str(max(old - 1, 0))]
+            words[k] = rng.choice(near * 2 + ["0" + words[k], str(MOST), str(MOST + 1), ""])
         else:
             k = rng.randrange(len(words))
-            words[k] = rng.choice(lines[other].split(" ") + ["-", "x"])
+            places = SHAPES.get(words[0], [])
+            words[k] = rng.choice((places[k - 1] if 0 < k <= len(places) and places[k - 1] is not NUMBER
+                                   else lines[other].split(" ")) + ["-", "x"])
         lines[at] = " ".join(words)
     text = "".join(line + "\n" for line in lines).encode()
-    if kind in ("away", "doubled") and rng.random() < 0.6 and lines and lines[-1].startswith("end "):
-        # with a right end, the run itself is judged
-        count = len(lines) - 2 - int(lines[0].split(" ")[3]) if lines[0].startswith("journal ") else 0
-        text = "".join(line + "\n" for line in lines[:-1] + [f"end {max(count, 0)}"]).encode()
+    if kind in ("away", "doubled") and first <= at and rng.random() < 0.8:
+        # with a right end, so that the events are judged
+        text = "".join(line + "\n" for line in lines[:-1] + [f"end {len(lines) - 1 - first}"]).encode()
     if kind == "byte" and text:
         k = rng.randrange(len(text))
         text = text[:k] + bytes([rng.choice(b" \n\r\t\0-09az\xff")]) + text[k + rng.randint(0, 1):]
