@@ -24,7 +24,7 @@ use Rattle.checkout_core.specs.declared.verdict.SkipCause.TheVariants as skip
 use Rattle.checkout_plan.specs.declared.path_plan.PathPlan.{PathPlan}
 use Rattle.checkout_plan.specs.Paths.{closed, path_of_mode, asked_path, first_entries, plan_with, plan_of}
 use Rattle.checkout_plan.specs.Making.{HasContent, HaveContents}
-use Rattle.checkout_engine.specs.Alike.{IsTold, RepoTellsAll, DifferInWorkers}
+use Rattle.checkout_engine.specs.Alike.{IsTold, RepoTellsAll, DifferInWorkers, OnePlan}
 use Rattle.checkout_engine.specs.Sources.{HasIndex, HasSettings, HasAttributes, IsPlanned}
 use Rattle.checkout_engine.proofs.ToldObjects.{same_told, same_bytes, gives_found}
 
@@ -35,7 +35,7 @@ pub same_entries : OneReading → (told : Told) (es fs : List Entry) → IsTold 
 same_entries law told es fs is a b =
     law b.bytes es fs (subst (λ (bytes : List ℕ). IsIndex bytes es) (same_told told a.bytes b.bytes is a.tells b.tells) a.is_index) b.is_index
 
-same_settings : (told : Told) (s t : Settings) → IsTold told → HasSettings told s → HasSettings told t → s ≡ t
+pub same_settings : (told : Told) (s t : Settings) → IsTold told → HasSettings told s → HasSettings told t → s ≡ t
 same_settings told s t is a b =
     let bytes : a.has.bytes ≡ b.has.bytes = same_bytes told a.has.bytes b.has.bytes is a.has.has b.has.has in
     let list : a.list ≡ b.list = same_ok {A = List Setting} {E = ConfigFault} a.list b.list (sym a.has.reads ∙ ap config_at bytes ∙ b.has.reads) in
@@ -117,3 +117,8 @@ differs_not told is = record {
       let same : s' ≡ s = same_settings told.config s' s is b a in
       same ∙ ap (λ (x : Settings). with_pace s x.workers x.threshold) (sym same);
 }
+
+-- one repository has one plan, by one list of settings
+pub one_plan : OneReading → OnePlan
+one_plan reading told all p q a b =
+    (same_plan reading told told p q all (differs_not told all.config) a b, same_settings told.config a.settings b.settings all.config a.sources.config b.sources.config)

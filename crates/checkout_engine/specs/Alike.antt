@@ -11,10 +11,11 @@ use Rattle.edge_kit.specs.declared.script.DriverScript.{DriverScript}
 use Rattle.edge_kit.specs.declared.tree_file.TreeFile.{TreeFile}
 use Rattle.driver_line.specs.SameHeard.{NoneFailed}
 use Rattle.settings_view.specs.declared.view.Settings.{Settings}
+use Rattle.checkout_plan.specs.declared.path_plan.Plan.{Plan}
 use Rattle.checkout_engine.specs.Complete.{failed_leaves}
 use Rattle.checkout_engine.specs.Ends.{Seen, IsCheckedOut, verdicts_of, files_of}
 use Rattle.checkout_engine.specs.Report.{lacks_memory, report}
-use Rattle.checkout_engine.specs.Sources.{HasSettings}
+use Rattle.checkout_engine.specs.Sources.{HasSettings, IsPlanned}
 use Rattle.checkout_engine.specs.Workers.{starts_of, worker_count, HaveActorsBelow}
 
 -- something is told: bytes, that there are none, or that taking them fails
@@ -32,7 +33,12 @@ pub record RepoTellsAll (told : RepoTold) : Type 0 where
   pub base : IsTold told.base
   pub object : (name : List ℕ) → IsTold (told.object name)
 
--- It does, and the spawner tells the starts of each command.
+-- Such a repository has one plan, and it is made by one list of settings.
+abbrev pub OnePlan : Type 0
+OnePlan = (told : RepoTold) → RepoTellsAll told → (p q : Plan)
+    → (a : IsPlanned told p) → (b : IsPlanned told q) → (p ≡ q) × (a.settings ≡ b.settings)
+
+-- A repository tells all, and the spawner tells the starts of each command.
 pub record TellAll (told : RepoTold) (ahead : List ℕ → Starts) : Type 0 where
   pub repo : RepoTellsAll told
   pub starts : (command : List ℕ) → (starts : List StartTold) × (ahead command ≡ Some starts)

@@ -2,6 +2,7 @@
 pub mod Ends
 pub mod Headline
 pub mod Shown
+pub mod Begun
 pub mod Rehearsed
 pub mod Sources
 pub mod Causes

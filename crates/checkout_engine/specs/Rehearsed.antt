@@ -1,7 +1,7 @@
 -- How the command `rehearse` ends, and what it writes.
 use Rattle.std.specs.Prelude.{◌≡◌, ◌==◌, ◌||◌, ◌≤◌, ℕ, Bool, true, false, not, List, [], ◌∷◌, ◌++◌, length, codes}
 use Rattle.std.specs.Prelude.{count_by, sum_by, Some, None}
-use Rattle.std.specs.List.{list_any, AllByRecursion}
+use Rattle.std.specs.List.{list_any}
 use Rattle.std.specs.Fmt.{decimal}
 use Rattle.byte_path.specs.Characters.{line_feed}
 use Rattle.edge_kit.specs.Faults.{Rose}
@@ -21,8 +21,6 @@ use Rattle.checkout_core.specs.declared.verdict.Verdict.TheVariants as verdict
 use Rattle.checkout_core.specs.declared.verdict.FailCause.TheVariants as fail
 use Rattle.checkout_core.specs.declared.event.Event.{Event}
 use Rattle.checkout_core.specs.declared.path.Start.{Start}
-use Rattle.checkout_core.specs.States.{AreBelow}
-use Rattle.checkout_plan.specs.Paths.{HasCause}
 use Rattle.writer_pool.specs.Ends.{IsRun}
 use Rattle.checkout_report.specs.Report.{is_written, is_unfiltered, is_failed}
 use Rattle.checkout_engine.specs.declared.rehearsing.TriedRun.{TriedRun}
@@ -31,6 +29,7 @@ use Rattle.checkout_engine.specs.declared.status.Status.TheVariants as status
 use Rattle.checkout_engine.specs.declared.stop.Stop.{Stop}
 use Rattle.checkout_engine.specs.declared.stop.Stop.TheVariants as stop
 use Rattle.checkout_engine.specs.Alike.{IsUndisturbed}
+use Rattle.checkout_engine.specs.Begun.{IsSmallStart}
 use Rattle.checkout_engine.specs.Ends.{Seen, begun, IsCheckedOut, verdicts_of}
 use Rattle.checkout_engine.specs.Output.{IsCut, with_text}
 use Rattle.checkout_engine.specs.Report.{number_of, status_of, lacks_memory}
@@ -122,16 +121,10 @@ pub record IsRehearsedRun (seed paths : ℕ) (starts : List Start) (workers driv
   pub history_is : history ≡ left.history
   pub run : IsRun starts workers drivers history (verdicts_of checkout.outcomes)
 
--- How large the run of a rehearsal can be. Each path begins as in a plan: at the desk of one of the drivers, in the
--- pool, or closed with a cause that a plan gives.
+-- how large the run of a rehearsal can be
 pub record IsSmallRun (starts : List Start) (workers drivers : ℕ) (history : List Event) : Type 0 where
-  pub some_workers : 1 ≤ workers
-  pub few_workers : workers ≤ 16
-  pub few_drivers : drivers ≤ 16
-  pub few_starts : length starts ≤ 100000
+  pub start : IsSmallStart starts workers drivers
   pub few_events : length history ≤ 900000
-  pub desks : AreBelow drivers starts
-  pub causes : AllByRecursion HasCause starts
 
 -- What the forms in memory kept of a checkout that something disturbed. If the file of a path could not be written, its
 -- verdict says so.

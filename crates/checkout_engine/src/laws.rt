@@ -1,6 +1,6 @@
 //! What follows from the contracts of a checkout.
 ghost use Rattle.checkout_engine.specs.Alike.{MemoryTellsAll, WorkersChangeNothing, SettingsChangeNothing};
-ghost use Rattle.checkout_engine.specs.Alike.{ActorsAreNumbered};
+ghost use Rattle.checkout_engine.specs.Alike.{ActorsAreNumbered, OnePlan};
 ghost use Rattle.checkout_engine.specs.Given.{WrittenIsGiven};
 ghost use Rattle.checkout_engine.specs.Rehearsed.{RehearsalsAreAlike};
 ghost use Rattle.checkout_engine.specs.SameFaults.{SameFaultsChangeNothing};
@@ -42,6 +42,13 @@ pub fn same_faults_change_nothing()
 pub fn memory_tells_all()
     ensures { MemoryTellsAll }
 {}
+
+/// A repository that tells all that it holds has one plan, so a second look at it shows the plan of its checkout.
+pub fn a_told_repository_has_one_plan()
+    ensures { OnePlan }
+{
+    one_reading();
+}
 
 /// What `run` needs of drivers to be done can be met: what is told of their starts gives all their paths if a checkout
 /// that was not disturbed wrote all of these.

@@ -288,8 +288,6 @@ pub fn rehearsed_run<G: Gate, H: Threads + Wait + Sync>(
     // It is small enough for a journal.
     ensures small { IfOk result (λ r. IsSmallRun r.starts.items r.workers r.drivers r.history.items) }
 {
-    one_reading();
-    files_have_an_index();
     closed_paths_have_causes();
     laws::a_history_is_short();
     let (run, _) = rehearsed(rt, alloc, seed, paths, gate)?;

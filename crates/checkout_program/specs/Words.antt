@@ -19,7 +19,7 @@ word_at words number = unwrap_or (slice_get (map string_bytes words) number) []
 -- what a status says on standard error
 abbrev pub message_of : ℕ → Option (List ℕ)
 message_of status =
-    if status == 2 then Some (codes "usage: REPO TREE checkout|plan|rehearse")
+    if status == 2 then Some (codes "usage: REPO TREE checkout|plan|rehearse|journal|audit")
     else if status == 4 then Some (codes "output not written")
     else if status == 5 then Some (codes "out of memory")
     else if status == 6 then Some (codes "read fault")

@@ -1,8 +1,9 @@
 //! Checks out the index of a Git folder with uncompressed objects into an empty folder, by its configuration and its
-//! attributes, or shows the plan of that.
+//! attributes, or shows the plan of that. It also writes and judges journals.
 //!
 //! A checkout shows how many paths are closed, if standard error is a terminal. Standard error also says what is wrong
-//! with words, why files weren't written, and what a driver wrote in place of packets.
+//! with words, why files weren't written, and what a driver wrote in place of packets. A checkout writes its journal if
+//! the environment names a file for it.
 #![tactic(auto)]
 
 ghost use Rattle.std.specs.Prelude.{◌≡◌, IfOk, IfErr, IsErr, drop, option_map, string_bytes};
@@ -11,18 +12,22 @@ ghost use Rattle.std.specs.IoError.{error_kind};
 ghost use Rattle.std.specs.declared.io.ErrorKind.TheVariants.{OutOfMemory};
 ghost use Rattle.checkout_program.specs.Words.{word_at, words_of, message_of};
 
+mod journal_file;
 mod notes;
 mod progress;
 mod refused_path;
 mod wrong_words;
 
+use crate::journal_file::{JournalPlace, journal_place, write_journal};
 use crate::notes::{show_drivers, show_errors};
 use crate::progress::{CountingTree, Progress};
 use crate::refused_path::refused_path;
 use crate::wrong_words::{answer, explanation};
+use checkout_core::Event;
 use checkout_engine::run;
-use edge_adapters::{FolderRepo, FolderTree, OutputSink, ProcessSpawner};
-use edge_kit::{Gate, Repo, Sink, Spawner, Worktree};
+use edge_adapters::{FolderBlob, FolderRepo, FolderTree, OutputSink, ProcessSpawner};
+use edge_kit::NoGate;
+use journal_run::{is_journal, journal_run};
 use std::alloc::{AllocError, Global};
 use std::env::{Args, args};
 use std::io;
@@ -66,7 +71,7 @@ fn message_of(status: u8) -> Option<&'static str>
     ensures { option_map (λ text. text.now) result ≡ message_of status }
 {
     match status {
-        2 => Some("usage: REPO TREE checkout|plan|rehearse"),
+        2 => Some("usage: REPO TREE checkout|plan|rehearse|journal|audit"),
         4 => Some("output not written"),
         5 => Some("out of memory"),
         6 => Some("read fault"),
@@ -85,38 +90,15 @@ fn folders_of(rt: HostRuntime, words: &[String]) -> Result<(FolderRepo, FolderTr
     Ok((FolderRepo::new(rt, repo), FolderTree::new(rt, tree)))
 }
 
-/// The status of a run of these words. Its history isn't kept.
-fn status_of<R: Repo, T: Worktree, P: Spawner, G: Gate, O: Sink, H: Threads + Wait + Sync>(
-    threads: &H,
-    alloc: Global,
-    words: &[String],
-    repo: &mut R,
-    tree: &mut T,
-    spawner: &mut P,
-    gate: &G,
-    out: &mut O,
-) -> u8 {
-    let mut history = Vec::new(alloc);
-    run(
-        threads,
-        alloc,
-        words,
-        repo,
-        tree,
-        spawner,
-        gate,
-        out,
-        &mut history,
-    )
-}
-
-/// Runs these words in these folders, and shows how many paths are closed, and then what else is to be said.
+/// Runs these words in these folders, and shows how many paths are closed, and then what else is to be said. The events
+/// of a checkout are left in `history`.
 fn run_in<H: Threads + Wait + Sync>(
     rt: HostRuntime,
     threads: &H,
     words: &[String],
     repo: &mut FolderRepo,
     tree: FolderTree,
+    history: &mut Vec<Event>,
 ) -> u8 {
     // first, since it takes the number of a closed standard error
     let mut spawner = ProcessSpawner::new(rt);
@@ -127,7 +109,7 @@ fn run_in<H: Threads + Wait + Sync>(
         leaves: &leaves,
     };
     let mut out = OutputSink::new(writer(&rt));
-    let status = status_of(
+    let status = run(
         threads,
         rt.alloc(),
         words,
@@ -136,6 +118,7 @@ fn run_in<H: Threads + Wait + Sync>(
         &mut spawner,
         &progress,
         &mut out,
+        history,
     );
     progress.end();
     show_errors(rt, tree.tree.errors());
@@ -172,32 +155,69 @@ fn end_wrong(rt: HostRuntime, words: &[String], are_text: bool) -> u8 {
 }
 
 /// Says more of a status.
-fn end_with(
-    rt: HostRuntime,
-    status: u8,
-    words: &[String],
-    are_text: bool,
-    repo: &mut FolderRepo,
-) -> u8 {
+fn end_with(rt: HostRuntime, status: u8, words: &[String], are_text: bool) -> u8 {
     if status == 2 {
         return end_wrong(rt, words, are_text);
     }
     show_message(rt, status);
-    if status == 3 {
-        if let Some(path) = refused_path(rt, repo) {
-            let _ = eprintln!(rt; "the entry's path: {path}");
-        }
-    }
     status
+}
+
+/// Says for which entry the index is refused, if it is for one.
+fn show_refused_path(rt: HostRuntime, repo: &mut FolderRepo) {
+    if let Some(path) = refused_path(rt, repo) {
+        let _ = eprintln!(rt; "the entry's path: {path}");
+    }
+}
+
+/// Writes or judges a journal, as these words ask for it: the status.
+fn journal_words<H: Threads + Wait + Sync>(
+    rt: HostRuntime,
+    threads: &H,
+    words: &[String],
+) -> Result<u8, AllocError> {
+    let mut text = FolderBlob::of_file(rt, word_at(rt, words, 0)?);
+    let mut out = OutputSink::new(writer(&rt));
+    let status = journal_run(threads, rt.alloc(), words, &mut text, &NoGate, &mut out);
+    Ok(status)
+}
+
+/// Runs these words in the folders that they name, and writes the journal of a checkout that reached its report.
+fn folder_words<H: Threads + Wait + Sync>(
+    rt: HostRuntime,
+    threads: &H,
+    words: &[String],
+    are_text: bool,
+    place: JournalPlace,
+) -> Result<u8, AllocError> {
+    let (mut repo, tree) = folders_of(rt, words)?;
+    let mut history = Vec::new(rt.alloc());
+    let status = run_in(rt, threads, words, &mut repo, tree, &mut history);
+    let ended = end_with(rt, status, words, are_text);
+    if status == 3 {
+        show_refused_path(rt, &mut repo);
+    }
+    match place {
+        JournalPlace::File(path) if status < 2 || !history.is_empty() => {
+            write_journal(rt, path.as_str(), words, &mut repo, &history);
+        }
+        _ => {}
+    }
+    Ok(ended)
 }
 
 fn run_words<H: Threads + Wait + Sync>(rt: HostRuntime, threads: &H) -> Result<u8, AllocError> {
     let all = args(&rt);
     let are_text = all.is_ok();
     let words = words_of(rt.alloc(), all)?;
-    let (mut repo, tree) = folders_of(rt, &words)?;
-    let status = run_in(rt, threads, &words, &mut repo, tree);
-    Ok(end_with(rt, status, &words, are_text, &mut repo))
+    if is_journal(&words) {
+        let status = journal_words(rt, threads, &words)?;
+        return Ok(end_with(rt, status, &words, are_text));
+    }
+    match journal_place(rt, &words)? {
+        JournalPlace::Unusable => Ok(2),
+        place => folder_words(rt, threads, &words, are_text, place),
+    }
 }
 
 fn main(rt: HostRuntime) -> ExitCode {

@@ -11,10 +11,14 @@ const HELP: &str = "\
 usage: REPO TREE checkout [--workers N]
        REPO TREE plan
        REPO TREE rehearse SEED PATHS
+       REPO TREE journal SEED PATHS
+       FILE TREE audit
 
 checkout  writes the files of the index of REPO into the folder TREE, and prints a report
 plan      prints what a checkout would do
 rehearse  checks out a made-up repository in memory, and prints a line
+journal   does the same, and prints all that happened
+audit     says whether the file FILE is the journal of a run that the rules allow
 
 tools/raw_repository makes REPO of a folder .git. The manual page is docs/siuwbren.1.
 ";
@@ -88,8 +92,8 @@ fn explain_checkout(alloc: Global, tail: &[String]) -> Result<String, AllocError
     }
 }
 
-/// What is wrong with the tail of a rehearsal.
-fn explain_rehearse(alloc: Global, tail: &[String]) -> Result<String, AllocError> {
+/// What is wrong with the tail of a command that takes two numbers alone, as this text says.
+fn explain_numbers(alloc: Global, tail: &[String], alone: &str) -> Result<String, AllocError> {
     match tail {
         [] => String::from_str(alloc, "SEED is missing"),
         [_] => String::from_str(alloc, "PATHS is missing"),
@@ -100,11 +104,15 @@ fn explain_rehearse(alloc: Global, tail: &[String]) -> Result<String, AllocError
                 said_of(alloc, paths.as_str(), ": PATHS is 0 to 99999")
             }
         }
-        [_, _, word, ..] => said_of(
-            alloc,
-            word.as_str(),
-            ": rehearse takes SEED and PATHS alone",
-        ),
+        [_, _, word, ..] => said_of(alloc, word.as_str(), alone),
+    }
+}
+
+/// What is wrong with the tail of a command that takes none, as this text says.
+fn explain_bare(alloc: Global, tail: &[String], none: &str) -> Result<String, AllocError> {
+    match tail {
+        [word, ..] => said_of(alloc, word.as_str(), none),
+        [] => Ok(String::new(alloc)),
     }
 }
 
@@ -116,11 +124,10 @@ fn explain(alloc: Global, words: &[String]) -> Result<String, AllocError> {
         [_, _] => String::from_str(alloc, "the command is missing"),
         [_, _, name, tail @ ..] => match name.as_str() {
             "checkout" => explain_checkout(alloc, tail),
-            "plan" => match tail {
-                [word, ..] => said_of(alloc, word.as_str(), ": plan takes no more words"),
-                [] => Ok(String::new(alloc)),
-            },
-            "rehearse" => explain_rehearse(alloc, tail),
+            "plan" => explain_bare(alloc, tail, ": plan takes no more words"),
+            "audit" => explain_bare(alloc, tail, ": audit takes no more words"),
+            "rehearse" => explain_numbers(alloc, tail, ": rehearse takes SEED and PATHS alone"),
+            "journal" => explain_numbers(alloc, tail, ": journal takes SEED and PATHS alone"),
             name => said_of(alloc, name, ": no command has this name"),
         },
     }

@@ -10,6 +10,6 @@ returns-clause-rehearsed g c =
 
 pub returns-clause-small : goal.returns-clause-small
 returns-clause-small g c =
-    run_small c.one_reading.ensures c.files_have_an_index.ensures c.closed_paths_have_causes.ensures c.a_history_is_short.ensures c.args.seed c.args.paths c.requires _ _ _ _
+    run_small c.closed_paths_have_causes.ensures c.a_history_is_short.ensures c.args.seed c.args.paths _ _ _ _
     (run_rehearsed c.args.seed c.args.paths c.in_ok-run.run' _ _ _ c.in_ok-run.ensures
     (c.in_ok-starts.ensures ∙ ap starts_of c.as_slice.ensures) (ap length c.as_slice-drivers.ensures))
