@@ -90,16 +90,15 @@ fn folders_of(rt: HostRuntime, words: &[String]) -> Result<(FolderRepo, FolderTr
     Ok((FolderRepo::new(rt, repo), FolderTree::new(rt, tree)))
 }
 
-/// Runs these words in these folders, and shows how many paths are closed, and then what else is to be said. The events
-/// of a checkout are left in `history`.
+/// Runs these words in these folders, and shows how many paths are closed, and then what else is to be said. With the
+/// status come the events of a checkout.
 fn run_in<H: Threads + Wait + Sync>(
     rt: HostRuntime,
     threads: &H,
     words: &[String],
     repo: &mut FolderRepo,
     tree: FolderTree,
-    history: &mut Vec<Event>,
-) -> u8 {
+) -> (u8, Vec<Event>) {
     // first, since it takes the number of a closed standard error
     let mut spawner = ProcessSpawner::new(rt);
     let leaves = AtomicU32::new(0);
@@ -109,6 +108,7 @@ fn run_in<H: Threads + Wait + Sync>(
         leaves: &leaves,
     };
     let mut out = OutputSink::new(writer(&rt));
+    let mut history = Vec::new(rt.alloc());
     let status = run(
         threads,
         rt.alloc(),
@@ -118,12 +118,12 @@ fn run_in<H: Threads + Wait + Sync>(
         &mut spawner,
         &progress,
         &mut out,
-        history,
+        &mut history,
     );
     progress.end();
     show_errors(rt, tree.tree.errors());
     show_drivers(rt, spawner.drivers());
-    status
+    (status, history)
 }
 
 /// Writes what a status says on standard error.
@@ -191,8 +191,7 @@ fn folder_words<H: Threads + Wait + Sync>(
     place: JournalPlace,
 ) -> Result<u8, AllocError> {
     let (mut repo, tree) = folders_of(rt, words)?;
-    let mut history = Vec::new(rt.alloc());
-    let status = run_in(rt, threads, words, &mut repo, tree, &mut history);
+    let (status, history) = run_in(rt, threads, words, &mut repo, tree);
     let ended = end_with(rt, status, words, are_text);
     if status == 3 {
         show_refused_path(rt, &mut repo);
