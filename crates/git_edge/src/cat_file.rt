@@ -30,11 +30,22 @@ enum Head<'a> {
     There { text: &'a [u8], size: u64 },
 }
 
+/// What stands behind the front of a line, if the line begins with it.
+fn behind<'a>(front: &[u8], line: &'a [u8]) -> Option<&'a [u8]>
+    ensures { IfSome result (λ rest. line.now ≡ front.now ++ rest.now) }
+{
+    if line.len() < front.len() {
+        return None;
+    }
+    let (begun, rest) = line.split_at(front.len());
+    if begun == front { Some(rest) } else { None }
+}
+
 /// What a line says behind the name that was asked for. A line of any other object says nothing.
 fn behind_name<'a>(digits: &[u8], line: &'a [u8]) -> Option<&'a [u8]>
     ensures { IfSome result (λ rest. line.now ≡ digits.now ++ codes " " ++ rest.now) }
 {
-    line.strip_prefix(digits)?.strip_prefix(b" ")
+    behind(b" ", behind(digits, line)?)
 }
 
 fn is_missing(rest: &[u8]) -> bool

@@ -11,9 +11,11 @@ use std::process::{Command, Output, Stdio};
 pub struct Git {
     pub rt: HostRuntime,
     pub alloc: Global,
+    // the name or the path of the program git
+    program: String,
     pub named: Option<String>,
-    /// The folder of objects, if git isn't to use the one that it finds.
-    pub objects: Option<String>,
+    // the folder of objects, if git isn't to use the one that it finds
+    objects: Option<String>,
 }
 
 /// What a process of git gave.
@@ -70,22 +72,23 @@ fn copy_of(alloc: Global, text: Option<&str>) -> Result<Option<String>, AllocErr
 }
 
 impl Git {
-    /// Asks about the repository with this Git folder, or about the one that git finds.
-    pub fn new(rt: HostRuntime, named: Option<&str>) -> Result<Git, AllocError> {
+    /// Asks this program about the repository with this Git folder, or about the one that git finds.
+    pub fn new(rt: HostRuntime, program: &str, named: Option<&str>) -> Result<Git, AllocError> {
         let alloc = rt.alloc();
         Ok(Git {
             rt,
             alloc,
+            program: String::from_str(alloc, program)?,
             named: copy_of(alloc, named)?,
             objects: None,
         })
     }
 
-    /// The same once more.
-    pub fn copy(&self) -> Result<Git, AllocError> {
-        let mut copy = Git::new(self.rt, self.named.as_deref())?;
-        copy.objects = copy_of(self.alloc, self.objects.as_deref())?;
-        Ok(copy)
+    /// Asks the same program about another Git folder or the same, over this folder of objects if there is one.
+    pub fn about(&self, named: Option<&str>, objects: Option<&str>) -> Result<Git, AllocError> {
+        let mut git = Git::new(self.rt, self.program.as_str(), named)?;
+        git.objects = copy_of(self.alloc, objects)?;
+        Ok(git)
     }
 
     fn add_repository(&self, command: &mut Command) -> Result<(), AllocError> {
@@ -101,7 +104,7 @@ impl Git {
 
     /// What starts git with these words.
     pub fn command(&self, words: &[&str]) -> Result<Command, AllocError> {
-        let mut command = Command::new(self.alloc, "git")?;
+        let mut command = Command::new(self.alloc, self.program.as_str())?;
         self.add_repository(&mut command)?;
         add_words(&mut command, words)?;
         add_variables(&mut command)?;

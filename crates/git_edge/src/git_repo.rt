@@ -46,7 +46,17 @@ impl GitRepo {
         git_dir: Option<&str>,
         revision: Option<&str>,
     ) -> Result<GitRepo, GitFault> {
-        let git = Git::new(rt, git_dir)?;
+        GitRepo::open_by(rt, "git", git_dir, revision)
+    }
+
+    /// The same, where git is this program.
+    pub fn open_by(
+        rt: HostRuntime,
+        program: &str,
+        git_dir: Option<&str>,
+        revision: Option<&str>,
+    ) -> Result<GitRepo, GitFault> {
+        let git = Git::new(rt, program, git_dir)?;
         let found = find(&git)?;
         let listing = list(&git)?;
         let tree = match revision {

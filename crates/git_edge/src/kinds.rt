@@ -5,7 +5,7 @@ ghost use Rattle.git_edge.specs.Kinds.{kind_of, mode_of};
 use edge_kit::Mark;
 
 /// What a worktree's file system keeps (git-config(1)).
-#[derive(Clone, Copy, Debug, PartialEq, Eq)]
+#[derive(Clone, Copy)]
 pub struct Keeps {
     /// Links, as `core.symlinks` says. Without them a link is a plain file with its text.
     pub links: bool,
@@ -15,7 +15,7 @@ pub struct Keeps {
 }
 
 /// What stands at a path.
-#[derive(Clone, Copy, Debug, PartialEq, Eq)]
+#[derive(Clone, Copy)]
 pub enum Kind {
     File,
     Program,

@@ -20,8 +20,7 @@ fn make_git_dir(git: &Git, scratch: &Scratch) -> io::Result<()> {
 fn borrowing(git: &Git, found: &Found) -> io::Result<CatPool> {
     let scratch = Scratch::make(git.rt, git.alloc)?;
     make_git_dir(git, &scratch)?;
-    let mut borrower = Git::new(git.rt, Some(scratch.path.as_str()))?;
-    borrower.objects = Some(String::from_str(git.alloc, found.objects.as_str())?);
+    let borrower = git.about(Some(scratch.path.as_str()), Some(found.objects.as_str()))?;
     Ok(CatPool::new(borrower, Some(scratch))?)
 }
 
@@ -31,5 +30,6 @@ pub fn lender_of(git: &Git, found: &Found, listing: &Listing) -> Result<CatPool,
     if listing.promisor().is_some() {
         return Ok(borrowing(git, found)?);
     }
-    Ok(CatPool::new(git.copy()?, None)?)
+    let own = git.about(git.named.as_deref(), None)?;
+    Ok(CatPool::new(own, None)?)
 }
