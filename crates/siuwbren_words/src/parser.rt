@@ -142,6 +142,7 @@ fn checkout<'a>(alloc: Global) -> Result<Command<'a>, AllocError>
     let tree = place(alloc, "tree", "TREE", "The folder to fill: absent or empty");
     checkout_report(alloc)?
         .about("Write the files of the index, or of a commit, into a folder")
+        .override_usage("siuwbren checkout [OPTIONS] TREE")
         .after_help(CHECKOUT_END)
         .arg(hidden)?
         .arg(quiet(alloc))?
@@ -155,6 +156,7 @@ fn plan<'a>(alloc: Global) -> Result<Command<'a>, AllocError>
     let report = option(alloc, "report", "FORM", "text or json [default: text]");
     Command::new(alloc, "plan")
         .about("Show what a checkout of the index would do")
+        .override_usage("siuwbren plan [OPTIONS]")
         .after_help(PLAN_END)
         .arg(git_dir(alloc))?
         .arg(report)?
@@ -169,6 +171,7 @@ fn rehearse<'a>(alloc: Global) -> Result<Command<'a>, AllocError>
     let paths = place(alloc, "paths", "PATHS", "How many paths, up to 99999");
     Command::new(alloc, "rehearse")
         .about("Check out a made-up repository in memory")
+        .override_usage("siuwbren rehearse SEED PATHS")
         .after_help(REHEARSE_END)
         .arg(seed)?
         .arg(paths)
@@ -181,6 +184,7 @@ fn top<'a>(alloc: Global) -> Command<'a>
     Command::new(alloc, "siuwbren")
         .version("0.1.0")
         .about("Checks out a Git repository into an empty folder")
+        .override_usage("siuwbren COMMAND")
         .no_binary_name(true)
         .subcommand_required(true)
 }
