@@ -7,6 +7,7 @@ use byte_path::unmarked;
 use edge_adapters::read_whole;
 use edge_kit::TakeFault;
 use std::env::var;
+use std::fs::metadata;
 use std::io;
 use std::io::ErrorKind;
 
@@ -72,9 +73,18 @@ fn user_path(git: &Git, listing: &Listing) -> io::Result<Option<String>> {
     Ok(path_said(git, &answer)?.flatten())
 }
 
+/// Whether nothing is at a path, or one of its folders is none, as in that of a home which is `/dev/null`.
+fn is_nowhere(git: &Git, path: &str) -> bool {
+    match metadata(&git.rt, path) {
+        Ok(_) => false,
+        Err(error) => { matches!(error.kind(), ErrorKind::NotFound | ErrorKind::NotADirectory) }
+    }
+}
+
 /// The file at this path, or nothing if it isn't there.
 fn file_at(git: &Git, path: io::Result<Option<String>>, limit: u64) -> Result<Vec<u8>, TakeFault> {
     match path {
+        Ok(Some(path)) if is_nowhere(git, path.as_str()) => Ok(Vec::new(git.alloc)),
         Ok(Some(path)) => match read_whole(git.rt, git.alloc, path.as_str(), limit)? {
             Some(bytes) => Ok(bytes),
             None => Ok(Vec::new(git.alloc)),

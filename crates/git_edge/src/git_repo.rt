@@ -113,6 +113,17 @@ impl GitRepo {
         self.pool.end();
     }
 
+    /// The attribute files of the system and of the user as one, or `None` if neither has anything.
+    pub fn base_attribute_bytes(&mut self, limit: u64) -> Result<Option<Vec<u8>>, TakeFault>
+        ensures out { self.new.out ≡ self.old.out }
+        ensures returned { self.new.returned.items ≡ self.old.returned.items }
+        ensures bytes { Takes Untold limit result }
+        ensures faults { AfterTake self.old.faults self.new.faults result }
+    {
+        let taken = base_attributes(&self.git, &self.listing, limit);
+        self.counted(taken)
+    }
+
     /// Counts a fault if the content wasn't taken for one.
     fn counted(
         &mut self,
