@@ -5,9 +5,7 @@ use crate::engine_words::checkout_words;
 use checkout_engine::run;
 use edge_adapters::{OutputSink, ProcessSpawner};
 use git_edge::{GitRepo, GitTree};
-use program_kit::{
-    CountingTree, Progress, has_terminal, refused_path, show_drivers, show_errors,
-};
+use program_kit::{CountingTree, Progress, has_terminal, refused_path, show_drivers, show_errors};
 use report_forms::FormSink;
 use siuwbren_words::{Checkout, Progress as Wanted};
 use std::alloc::AllocError;
