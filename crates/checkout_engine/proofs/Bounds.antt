@@ -32,7 +32,7 @@ use Rattle.settings_view.specs.declared.view.Driver.{Driver}
 use Rattle.settings_view.specs.declared.fault.SettingFault.{SettingFault}
 use Rattle.eol_convert.specs.declared.setting.AutoCrlf.{AutoCrlf}
 use Rattle.eol_convert.specs.declared.setting.EolSetting.{EolSetting}
-use Rattle.attr_line.specs.declared.file.AttrFile.{AttrFile}
+use Rattle.attr_stack.specs.declared.files.OuterFiles.{OuterFiles}
 use Rattle.attr_stack.specs.declared.files.AttrFiles.{AttrFiles}
 use Rattle.tree_encoding.specs.declared.encoding.UnknownEncoding.{UnknownEncoding}
 use Rattle.convert_plan.specs.declared.conversion.Conversion.{Conversion}
@@ -262,16 +262,16 @@ all_text files settings asked [] all = tt
 all_text files settings asked (e ∷ es) all =
     (among_text asked (asked_path files settings e).path (asked_path files settings e).start (asked_text files settings e all.0), all_text files settings asked es all.1)
 
-pub plan_texts : (bytes : List ℕ) (es : List Entry) (settings : Settings) (info : AttrFile) (contents : List (List ℕ)) → IsIndex bytes es → AreTexts (plan_of es settings info contents).paths
-plan_texts bytes es settings info contents index = unfold plan_of in
-    let files = attribute_files info es contents in
+pub plan_texts : (bytes : List ℕ) (es : List Entry) (settings : Settings) (outer : OuterFiles) (contents : List (List ℕ)) → IsIndex bytes es → AreTexts (plan_of es settings outer contents).paths
+plan_texts bytes es settings outer contents index = unfold plan_of in
+    let files = attribute_files outer es contents in
     all_text files settings (asked_paths files settings es) (first_entries es)
     (first_long [] es (subst (λ (xs : List Entry). AllByRecursion (λ e. IsLong e.path) xs) index.text.same (written_long index.text.version [] index.text.written index.text.fit)))
 
 -- a plan has no more paths than the index has entries
-pub no_more_paths : (es : List Entry) (settings : Settings) (info : AttrFile) (contents : List (List ℕ)) → length (plan_of es settings info contents).paths ≤ length es
-no_more_paths es settings info contents = unfold plan_of in
-    let files = attribute_files info es contents in
+pub no_more_paths : (es : List Entry) (settings : Settings) (outer : OuterFiles) (contents : List (List ℕ)) → length (plan_of es settings outer contents).paths ≤ length es
+no_more_paths es settings outer contents = unfold plan_of in
+    let files = attribute_files outer es contents in
     omega (
       arith,
       length-map (map (asked_path files settings) (first_entries es)) (path_among (asked_paths files settings es)),
@@ -279,17 +279,17 @@ no_more_paths es settings info contents = unfold plan_of in
       first_few [] es,
     )
 
-pub plan_size : (bytes : List ℕ) (es : List Entry) (settings : Settings) (info : AttrFile) (contents : List (List ℕ)) → IsIndex bytes es → length (plan_of es settings info contents).paths < 2 ^ 32
-plan_size bytes es settings info contents index = omega (arith, no_more_paths es settings info contents, index.text.few)
+pub plan_size : (bytes : List ℕ) (es : List Entry) (settings : Settings) (outer : OuterFiles) (contents : List (List ℕ)) → IsIndex bytes es → length (plan_of es settings outer contents).paths < 2 ^ 32
+plan_size bytes es settings outer contents index = omega (arith, no_more_paths es settings outer contents, index.text.few)
 
 -- the same of a plan that was read
 pub planned_texts : (told : RepoTold) (plan : Plan) → IsPlanned told plan → AreTexts plan.paths
 planned_texts told plan planned =
-    subst (λ (p : Plan). AreTexts p.paths) (sym planned.made.is) (plan_texts _ planned.entries planned.settings planned.info planned.made.contents planned.sources.index.is_index)
+    subst (λ (p : Plan). AreTexts p.paths) (sym planned.made.is) (plan_texts _ planned.entries planned.settings planned.outer planned.made.contents planned.sources.index.is_index)
 
 pub planned_size : (told : RepoTold) (plan : Plan) → IsPlanned told plan → length plan.paths < 2 ^ 32
 planned_size told plan planned =
-    subst (λ (p : Plan). length p.paths < 2 ^ 32) (sym planned.made.is) (plan_size _ planned.entries planned.settings planned.info planned.made.contents planned.sources.index.is_index)
+    subst (λ (p : Plan). length p.paths < 2 ^ 32) (sym planned.made.is) (plan_size _ planned.entries planned.settings planned.outer planned.made.contents planned.sources.index.is_index)
 
 -- the pace of a plan that was read
 pub planned_pace : (told : RepoTold) (p : Planned) (old new : RepoSeen) (pace : Pace) → IsAsked pace.asked → IsRead told p old new → pace.workers ≡ p.workers → IsPace pace

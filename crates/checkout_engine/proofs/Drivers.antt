@@ -10,7 +10,7 @@ use Rattle.git_index.specs.declared.entry.Entry.{Entry}
 use Rattle.git_index.specs.declared.entry.Mode.{Mode}
 use Rattle.git_index.specs.declared.entry.Mode.TheVariants as mode
 use Rattle.git_index.specs.Spelling.{pairwise, PathsAreOrdered}
-use Rattle.attr_line.specs.declared.file.AttrFile.{AttrFile}
+use Rattle.attr_stack.specs.declared.files.OuterFiles.{OuterFiles}
 use Rattle.attr_line.specs.declared.state.AttrState.{AttrState}
 use Rattle.attr_line.specs.declared.state.AttrState.TheVariants as state
 use Rattle.attr_stack.specs.declared.files.AttrFiles.{AttrFiles}
@@ -186,9 +186,9 @@ all_among all asked (p ∷ ps) used starts = (
   all_among all asked ps (λ place is. used place (or_right (is_desk_of place p.start) (list_any (asks_for place) ps) is)) starts.1,
 )
 
-plan_drivers : (es : List Entry) (settings : Settings) (info : AttrFile) (contents : List (List ℕ)) → let plan = plan_of es settings info contents in length plan.drivers ≤ 16 → AreDrivers plan.drivers plan.paths
-plan_drivers es settings info contents few =
-    let files = attribute_files info es contents in
+plan_drivers : (es : List Entry) (settings : Settings) (outer : OuterFiles) (contents : List (List ℕ)) → let plan = plan_of es settings outer contents in length plan.drivers ≤ 16 → AreDrivers plan.drivers plan.paths
+plan_drivers es settings outer contents few =
+    let files = attribute_files outer es contents in
     let asked = asked_paths files settings es in
     let starts = all_asked files settings (first_entries es) in
     record {
@@ -201,10 +201,10 @@ plan_drivers es settings info contents few =
 pub planned_drivers : (told : RepoTold) (plan : Plan) → IsPlanned told plan → AreDrivers plan.drivers plan.paths
 planned_drivers told plan planned =
     subst (λ (p : Plan). AreDrivers p.drivers p.paths) (sym planned.made.is)
-    (plan_drivers planned.entries planned.settings planned.info planned.made.contents (subst (λ (p : Plan). length p.drivers ≤ 16) planned.made.is planned.few))
+    (plan_drivers planned.entries planned.settings planned.outer planned.made.contents (subst (λ (p : Plan). length p.drivers ≤ 16) planned.made.is planned.few))
 
 -- its paths rise
 pub planned_ordered : PathsAreOrdered → (told : RepoTold) (plan : Plan) → IsPlanned told plan → AreOrdered plan.paths
 planned_ordered law told plan planned =
     subst (λ (p : Plan). pairwise precedes p.paths ≡ true) (sym planned.made.is)
-    (plan_rises law planned.entries planned.settings planned.info planned.made.contents planned.sources.index.is_index.text.rising)
+    (plan_rises law planned.entries planned.settings planned.outer planned.made.contents planned.sources.index.is_index.text.rising)

@@ -153,7 +153,7 @@ actors_of sizes hands told ahead asked old new c =
 pub headline : KeepsSize → HandsAreTold → ClosedPathsHaveCauses → (told : RepoTold) (ahead : List ℕ → Starts) (asked : Option ℕ) (old new : Seen) (n : ℕ) → n < 2 → IsDone told ahead asked old new n → IsHeadline told ahead asked old new n
 headline sizes hands law told ahead asked old new n less (c, reported) =
     let causes : AllByRecursion (λ p. HasCause p.start) c.plan.paths = subst (λ (plan : Plan). AllByRecursion (λ p. HasCause p.start) plan.paths) (sym c.planned.made.is)
-    (law c.planned.entries c.planned.settings c.planned.info c.planned.made.contents) in
+    (law c.planned.entries c.planned.settings c.planned.outer c.planned.made.contents) in
     let left = memory_left (verdicts_of c.outcomes) n less reported.status in
     record {
       plan = c.plan;

@@ -21,7 +21,7 @@ use Rattle.checkout_plan.specs.declared.path_plan.PathPlan.{PathPlan}
 use Rattle.std.specs.Str.{is_utf8}
 use Rattle.git_index.specs.declared.entry.Mode.{Mode}
 use Rattle.git_index.specs.declared.entry.Mode.TheVariants as mode
-use Rattle.attr_line.specs.declared.file.AttrFile.{AttrFile}
+use Rattle.attr_stack.specs.declared.files.OuterFiles.{OuterFiles}
 use Rattle.attr_stack.specs.declared.files.AttrFiles.{AttrFiles}
 use Rattle.settings_view.specs.declared.view.Settings.{Settings}
 use Rattle.tree_encoding.specs.declared.encoding.UnknownEncoding.{UnknownEncoding}
@@ -138,9 +138,9 @@ map-map f g [] = refl
 map-map f g (e ∷ es) = ap (λ (ps : List PathPlan). f (g e) ∷ ps) (map-map f g es)
 
 -- the paths of a plan rise
-pub plan_rises : PathsAreOrdered → (es : List Entry) (settings : Settings) (info : AttrFile) (contents : List (List ℕ)) → pairwise is_below es ≡ true → pairwise precedes (plan_of es settings info contents).paths ≡ true
-plan_rises law es settings info contents rise =
-    let files = attribute_files info es contents in
+pub plan_rises : PathsAreOrdered → (es : List Entry) (settings : Settings) (outer : OuterFiles) (contents : List (List ℕ)) → pairwise is_below es ≡ true → pairwise precedes (plan_of es settings outer contents).paths ≡ true
+plan_rises law es settings outer contents rise =
+    let files = attribute_files outer es contents in
     let asked = asked_paths files settings es in
     let made : Entry → PathPlan = λ e. path_among asked (asked_path files settings e) in
     unfold plan_of in

@@ -20,17 +20,18 @@ use Rattle.checkout_engine.specs.Rehearsed.{IsTriedWell, RehearsalsAreAlike, new
 use Rattle.checkout_engine.proofs.Alike.{alike_words}
 
 -- one repository tells the same each time
-repo_of : Told → Told → Told → (List ℕ → Told) → RepoTold
-repo_of index config info object = record { index = index; config = config; info = info; object = object }
+repo_of : Told → Told → Told → Told → (List ℕ → Told) → RepoTold
+repo_of index config info base object = record { index = index; config = config; info = info; base = base; object = object }
 
 same_repo : (fs : List File) (t u : RepoTold) → IsRepository fs t → IsRepository fs u → u ≡ t
 unfolding repo_of
 same_repo fs t u a b =
     let objects : u.object ≡ t.object = λ i name. (b.object name ∙ sym (a.object name)) i in
-    ap (λ (x : Told). repo_of x u.config u.info u.object) (b.index ∙ sym a.index)
-    ∙ ap (λ (x : Told). repo_of t.index x u.info u.object) (b.config ∙ sym a.config)
-    ∙ ap (λ (x : Told). repo_of t.index t.config x u.object) (b.info ∙ sym a.info)
-    ∙ ap (λ (x : List ℕ → Told). repo_of t.index t.config t.info x) objects
+    ap (λ (x : Told). repo_of x u.config u.info u.base u.object) (b.index ∙ sym a.index)
+    ∙ ap (λ (x : Told). repo_of t.index x u.info u.base u.object) (b.config ∙ sym a.config)
+    ∙ ap (λ (x : Told). repo_of t.index t.config x u.base u.object) (b.info ∙ sym a.info)
+    ∙ ap (λ (x : Told). repo_of t.index t.config t.info x u.object) (b.base ∙ sym a.base)
+    ∙ ap (λ (x : List ℕ → Told). repo_of t.index t.config t.info t.base x) objects
 
 -- and it tells all
 object_is_told : (fs : List File) (name : List ℕ) → IsTold (object_told fs name)
@@ -46,6 +47,7 @@ tells_all fs told ds made = record {
   index = subst IsTold (sym made.index) tt;
   config = subst IsTold (sym made.config) tt;
   info = subst IsTold (sym made.info) tt;
+  base = subst IsTold (sym made.base) tt;
   object = λ name. subst IsTold (sym (made.object name)) (object_is_told fs name);
   starts = λ command. (map start_told (sessions_for ds command), refl);
 }

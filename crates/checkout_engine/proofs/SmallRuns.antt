@@ -89,7 +89,7 @@ paths_few law indexed seed n few told made plan planned =
     let index : HasIndex told.index es = record { bytes = plain_text es; tells = tells (plain_text es) made.index; is_index = indexed seed n few } in
     let same : planned.entries ≡ es = same_entries law told.index planned.entries es (subst IsTold (sym made.index) tt) planned.sources.index index in
     let size : length plan.paths ≤ length planned.entries =
-    subst (λ (p : Plan). length p.paths ≤ length planned.entries) (sym planned.made.is) (no_more_paths planned.entries planned.settings planned.info planned.made.contents) in
+    subst (λ (p : Plan). length p.paths ≤ length planned.entries) (sym planned.made.is) (no_more_paths planned.entries planned.settings planned.outer planned.made.contents) in
     omega (arith, size, ap length same, files_few seed n, few)
 
 -- ---- their starts
@@ -101,7 +101,7 @@ causes_of (p ∷ ps) all = (all.0, causes_of ps all.1)
 planned_causes : ClosedPathsHaveCauses → (told : RepoTold) (plan : Plan) → IsPlanned told plan → AllByRecursion HasCause (starts_of plan.paths)
 planned_causes law told plan planned =
     causes_of plan.paths
-    (subst (λ (p : Plan). AllByRecursion (λ q. HasCause q.start) p.paths) (sym planned.made.is) (law planned.entries planned.settings planned.info planned.made.contents))
+    (subst (λ (p : Plan). AllByRecursion (λ q. HasCause q.start) p.paths) (sym planned.made.is) (law planned.entries planned.settings planned.outer planned.made.contents))
 
 -- ---- the whole
 

@@ -21,6 +21,7 @@ refused_so told old new (refusal.Index fault) same cause = record { cause = caus
 refused_so told old new (refusal.Config fault) same cause = record { cause = cause; seen = same ∙ none_made old }
 refused_so told old new (refusal.Setting fault) same cause = record { cause = cause; seen = same ∙ none_made old }
 refused_so told old new refusal.InfoTooLarge same cause = record { cause = cause; seen = same ∙ none_made old }
+refused_so told old new refusal.BaseTooLarge same cause = record { cause = cause; seen = same ∙ none_made old }
 refused_so told old new (refusal.Attribute path kind) same cause = absurd cause
 refused_so told old new (refusal.AttributeTooLarge path) same cause = absurd cause
 refused_so told old new (refusal.TooManyDrivers n) same cause = absurd cause

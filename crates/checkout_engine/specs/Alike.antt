@@ -29,14 +29,15 @@ pub record TellAll (told : RepoTold) (ahead : List ℕ → Starts) : Type 0 wher
   pub index : IsTold told.index
   pub config : IsTold told.config
   pub info : IsTold told.info
+  pub base : IsTold told.base
   pub object : (name : List ℕ) → IsTold (told.object name)
   pub starts : (command : List ℕ) → (starts : List StartTold) × (ahead command ≡ Some starts)
 
 -- The forms in memory do so.
 abbrev pub MemoryTellsAll : Type 0
-MemoryTellsAll = (index config info : Option (Vec ℕ)) (objects : List (List ℕ × Vec ℕ))
+MemoryTellsAll = (index config info base : Option (Vec ℕ)) (objects : List (List ℕ × Vec ℕ))
     (fails : List RepoFail) (scripts : List DriverScript)
-    → TellAll (repo_told index config info objects fails) (starts_for scripts)
+    → TellAll (repo_told index config info base objects fails) (starts_for scripts)
 
 -- No leaf of the checkout failed, and no link. There was memory for each path.
 pub record IsUndisturbed {told : RepoTold} {ahead : List ℕ → Starts} {asked : Option ℕ}
@@ -71,6 +72,7 @@ WorkersChangeNothing = (told : RepoTold) (ahead : List ℕ → Starts) (a b : Op
 pub record DifferInWorkers (told told' : RepoTold) : Type 0 where
   pub index : told'.index ≡ told.index
   pub info : told'.info ≡ told.info
+  pub base : told'.base ≡ told.base
   pub object : told'.object ≡ told.object
   pub settings : (s s' : Settings) → HasSettings told.config s → HasSettings told'.config s'
       → s' ≡ record s { workers = s'.workers; threshold = s'.threshold }

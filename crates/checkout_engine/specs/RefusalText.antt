@@ -46,6 +46,7 @@ refusal_words (refusal.Index fault) = codes "index " ++ index_words fault
 refusal_words (refusal.Config fault) = codes "config " ++ config_words fault
 refusal_words (refusal.Setting fault) = codes "setting " ++ setting_word fault
 refusal_words refusal.InfoTooLarge = codes "attributes info too-large"
+refusal_words refusal.BaseTooLarge = codes "base-attributes too-large"
 refusal_words (refusal.Attribute path kind) = attribute_words path (object_word kind)
 refusal_words (refusal.AttributeTooLarge path) = attribute_words path (codes "too-large")
 refusal_words (refusal.TooManyDrivers n) = codes "drivers " ++ decimal n

@@ -97,6 +97,7 @@ fn refusal_words(alloc: Global, refusal: &Refusal) -> Result<Vec<u8>, AllocError
         }
         Refusal::Setting(fault) => behind(alloc, b"setting ", fault.word().as_bytes()),
         Refusal::InfoTooLarge => Vec::from_slice(alloc, b"attributes info too-large"),
+        Refusal::BaseTooLarge => Vec::from_slice(alloc, b"base-attributes too-large"),
         Refusal::Attribute(path, kind) => attribute_words(alloc, path, kind.word()),
         Refusal::AttributeTooLarge(path) => attribute_words(alloc, path, "too-large"),
         Refusal::TooManyDrivers(n) => Ok(numbered(alloc, "drivers", *n)?.into_bytes()),

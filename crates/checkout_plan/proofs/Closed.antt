@@ -7,7 +7,7 @@ use Rattle.git_index.specs.declared.entry.Mode.{Mode}
 use Rattle.git_index.specs.declared.entry.Mode.TheVariants as mode
 use Rattle.attr_line.specs.declared.state.AttrState.{AttrState}
 use Rattle.attr_line.specs.declared.state.AttrState.TheVariants as state
-use Rattle.attr_line.specs.declared.file.AttrFile.{AttrFile}
+use Rattle.attr_stack.specs.declared.files.OuterFiles.{OuterFiles}
 use Rattle.attr_stack.specs.declared.files.AttrFiles.{AttrFiles}
 use Rattle.settings_view.specs.declared.view.Driver.{Driver}
 use Rattle.settings_view.specs.declared.view.Settings.{Settings}
@@ -85,8 +85,8 @@ all_causes files settings asked [] = tt
 all_causes files settings asked (e ∷ es) =
     (among-cause asked (asked_path files settings e).start (asked-cause files settings e), all_causes files settings asked es)
 
-pub closed_causes : (es : List Entry) (settings : Settings) (info : AttrFile) (contents : List (List ℕ))
-    → AllByRecursion (λ p. HasCause p.start) (plan_of es settings info contents).paths
-closed_causes es settings info contents =
-    let files = attribute_files info es contents in
+pub closed_causes : (es : List Entry) (settings : Settings) (outer : OuterFiles) (contents : List (List ℕ))
+    → AllByRecursion (λ p. HasCause p.start) (plan_of es settings outer contents).paths
+closed_causes es settings outer contents =
+    let files = attribute_files outer es contents in
     unfold plan_of in all_causes files settings (asked_paths files settings es) (first_entries es)

@@ -12,6 +12,7 @@ use Rattle.attr_line.specs.declared.file.AttrFile.{AttrFile}
 use Rattle.attr_line.specs.File.{attributes_at}
 use Rattle.attr_stack.specs.declared.files.FileAt.{FileAt}
 use Rattle.attr_stack.specs.declared.files.AttrFiles.{AttrFiles}
+use Rattle.attr_stack.specs.declared.files.OuterFiles.{OuterFiles}
 
 abbrev pub is_file_mode : Mode → Bool
 is_file_mode mode.Plain = true
@@ -50,9 +51,13 @@ with_file (g ∷ gs) f = match_ordering (slice_cmp nat_cmp f.folder g.folder) (f
 abbrev pub by_folder : List FileAt → List FileAt
 by_folder files = fold with_file [] files
 
--- the attribute files that reach the paths of an index, whose own have these contents
-unfoldable pub attribute_files : AttrFile → List Entry → List (List ℕ) → AttrFiles
-attribute_files info es contents = record { info = info; files = by_folder (files_at (attribute_entries es) contents) }
+-- the attribute files that reach the paths of an index: those outside it, and its own, which have these contents
+unfoldable pub attribute_files : OuterFiles → List Entry → List (List ℕ) → AttrFiles
+attribute_files outer es contents = record {
+  info = outer.info;
+  base = outer.base;
+  files = by_folder (files_at (attribute_entries es) contents);
+}
 
 -- how many lines of a file were skipped
 abbrev pub skipped_in : AttrFile → ℕ
@@ -63,4 +68,5 @@ skipped_at at = skipped_in at.file
 
 -- how many lines of all files were skipped, or 2^64 - 1 if there are more
 unfoldable pub skipped_lines : AttrFiles → ℕ
-skipped_lines files = min (skipped_in files.info + sum_by skipped_at files.files) (2 ^ 64 - 1)
+skipped_lines files =
+    min (skipped_in files.info + sum_by skipped_at files.files + skipped_in files.base) (2 ^ 64 - 1)

@@ -10,7 +10,7 @@ use Rattle.git_index.specs.declared.entry.Mode.{Mode}
 use Rattle.git_index.specs.declared.entry.Mode.TheVariants as mode
 use Rattle.attr_line.specs.declared.state.AttrState.{AttrState}
 use Rattle.attr_line.specs.declared.state.AttrState.TheVariants as state
-use Rattle.attr_line.specs.declared.file.AttrFile.{AttrFile}
+use Rattle.attr_stack.specs.declared.files.OuterFiles.{OuterFiles}
 use Rattle.attr_stack.specs.declared.files.AttrFiles.{AttrFiles}
 use Rattle.attr_stack.specs.Decided.{state_of}
 use Rattle.eol_convert.specs.declared.setting.LineEnds.TheVariants.{Keep}
@@ -177,10 +177,10 @@ plan_with files asked settings = record {
 abbrev pub plan_by : AttrFiles → Settings → List Entry → Plan
 plan_by files settings es = plan_with files (asked_paths files settings es) settings
 
--- The plan of an index, from its entries, the settings, what `info/attributes` says, and the contents
--- of its attribute files.
-unfoldable pub plan_of : List Entry → Settings → AttrFile → List (List ℕ) → Plan
-plan_of es settings info contents = plan_by (attribute_files info es contents) settings es
+-- The plan of an index, from its entries, the settings, the attribute files outside it, and the contents
+-- of its own.
+unfoldable pub plan_of : List Entry → Settings → OuterFiles → List (List ℕ) → Plan
+plan_of es settings outer contents = plan_by (attribute_files outer es contents) settings es
 
 -- a path that the plan closes is skipped, or fails for one of three causes
 abbrev pub HasCause : Start → Type 0
@@ -193,6 +193,6 @@ HasCause s = Unit {0}
 
 -- No path that a plan closes has a file.
 abbrev pub ClosedPathsHaveCauses : Type 0
-ClosedPathsHaveCauses = (es : List Entry) (settings : Settings) (info : AttrFile)
+ClosedPathsHaveCauses = (es : List Entry) (settings : Settings) (outer : OuterFiles)
     (contents : List (List ℕ))
-    → AllByRecursion (λ p. HasCause p.start) (plan_of es settings info contents).paths
+    → AllByRecursion (λ p. HasCause p.start) (plan_of es settings outer contents).paths

@@ -12,7 +12,9 @@
 //! - `absent`: there is no index;
 //! - `object`: the letter of another name for the object `HI`, `bytes`: its bytes, and `nuls`: how many NULs follow;
 //! - `config` and `info`: the configuration, and what `info/attributes` holds;
-//! - `read-fails`: what can't be read: the `index`, the `config`, the `info`, or the object with this letter;
+//! - `xdg`: a number, and a text: the system's and the user's attribute files hold the text so many times;
+//! - `read-fails`: what can't be read: the `index`, the `config`, the `info`, the `base` (the user's file), or the object with this
+//!   letter;
 //! - `memory`: whether memory runs out at the `make` or the `read` of a blob, and the letter of its object;
 //! - `leaf`: which call on a leaf fails, and its path, and `sink`: the write that fails;
 //! - `full`: the worktree isn't empty, and `unchecked`: it can't tell;
@@ -139,6 +141,7 @@ pub struct Case {
     pub nuls: u32,
     pub config: Option<Vec<u8>>,
     pub info: Option<Vec<u8>>,
+    pub base: Option<Vec<u8>>,
     pub read_fails: Vec<RepoFail>,
     pub unmade: Option<[u8; 20]>,
     pub unread: Option<[u8; 20]>,
@@ -182,6 +185,7 @@ fn no_case(alloc: Global) -> Result<Case, Fail> {
         nuls: 0,
         config: None,
         info: None,
+        base: None,
         read_fails: Vec::new(alloc),
         unmade: None,
         unread: None,
@@ -243,6 +247,7 @@ fn read_fail_of(word: &[u8]) -> Result<RepoFail, Fail> {
         b"index" => Ok(RepoFail::Index),
         b"config" => Ok(RepoFail::Config),
         b"info" => Ok(RepoFail::Info),
+        b"base" => Ok(RepoFail::Base),
         _ => Ok(RepoFail::Object(name_of(word)?)),
     }
 }
@@ -277,6 +282,16 @@ fn script_of(alloc: Global, command: &[u8], output: &[u8]) -> Result<DriverScrip
     })
 }
 
+/// A text, so many times as the number before it says.
+fn repeated(alloc: Global, value: &[u8]) -> Result<Vec<u8>, Fail> {
+    let (count, text) = parted(value);
+    let mut all = Vec::new(alloc);
+    for _ in 0..number_of(count)? {
+        all.extend_from_slice(text)?;
+    }
+    Ok(all)
+}
+
 /// Takes what a cell says of the repository. Whether it is such a cell.
 fn set_repo(alloc: Global, case: &mut Case, letter: u8, value: &[u8]) -> Result<bool, Fail> {
     match letter {
@@ -292,6 +307,7 @@ fn set_repo(alloc: Global, case: &mut Case, letter: u8, value: &[u8]) -> Result<
         b'n' => case.nuls = number_of(value)?,
         b'c' => case.config = Some(Vec::from_slice(alloc, value)?),
         b'i' => case.info = Some(Vec::from_slice(alloc, value)?),
+        b'x' => case.base = Some(repeated(alloc, value)?),
         b'r' => case.read_fails.push(read_fail_of(value)?)?,
         _ => return Ok(false),
     }
@@ -374,7 +390,11 @@ fn memory_repo_of(alloc: Global, case: &Case) -> Result<MemoryRepo, AllocError> 
     for fail in case.read_fails.as_slice() {
         fails.push(*fail)?;
     }
-    Ok(MemoryRepo::new(alloc, index, config, info, objects, fails))
+    let repo = MemoryRepo::new(alloc, index, config, info, objects, fails);
+    match &case.base {
+        Some(base) => Ok(repo.with_base(Vec::from_slice(alloc, base)?)),
+        None => Ok(repo),
+    }
 }
 
 fn copied(alloc: Global, file: &Option<Vec<u8>>) -> Result<Option<Vec<u8>>, AllocError> {

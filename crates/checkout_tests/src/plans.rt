@@ -10,6 +10,7 @@
 use crate::index::{index_bytes, kind_of, push_entry};
 use crate::table::{parted, rows_of, text_of_row, unknown};
 use attr_line::read_attributes;
+use attr_stack::OuterFiles;
 use byte_path::{Bytes, Items, quote_path};
 use checkout_core::{FailCause, SkipCause, Start, Verdict};
 use checkout_plan::{PathPlan, Plan, make_plan};
@@ -178,9 +179,12 @@ fn shown(alloc: Global, plan: &Plan) -> Result<String, Fail> {
 fn seen_of(alloc: Global, given: Given) -> Result<String, Fail> {
     let index = index_of(alloc, &given)?;
     let mut repo = repo_of(alloc, &given)?;
-    let info = read_attributes(alloc, &given.info, true)?;
+    let outer = OuterFiles {
+        info: read_attributes(alloc, &given.info, true)?,
+        base: read_attributes(alloc, b"", true)?,
+    };
     let settings = settings_of(given.drivers);
-    match make_plan(alloc, &index, &mut repo, info, &settings) {
+    match make_plan(alloc, &index, &mut repo, outer, &settings) {
         Ok(plan) => shown(alloc, &plan),
         Err(fault) => Ok(format!(in alloc; "{fault:?}")?),
     }

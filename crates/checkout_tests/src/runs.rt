@@ -172,7 +172,8 @@ fn a_sparse_attribute_file_decides(rt: HostRuntime) -> Result<(), Fail> {
     check(&rt, rt.alloc(), LEFT_OUT_ATTRIBUTES)
 }
 
-/// In the second case an automatic conversion leaves a content with CR alone.
+/// In the second case an automatic conversion leaves a content with CR alone. In the last two the user's attribute file
+/// speaks of the path, and then `info/attributes` too, which goes first.
 const CONVERSIONS: &[u8] = b"\
     info *.txt text eol=crlf\n|entry -m a.txt|\
         written - - - a.txt\ndone 1 0 0 0\nstatus 0\na.txt: a\r\nb\r\n%\
@@ -193,7 +194,11 @@ const CONVERSIONS: &[u8] = b"\
     info b working-tree-encoding=KOI8-R\n|entry -o b|\
         failed - - encoding b\ndone 0 0 1 0\nstatus 1\n%\
     info * text eol=crlf ident\n|entry lm ln.txt|\
-        written l - - ln.txt\ndone 1 0 0 0\nstatus 0\nln.txt: a\nb\r\n%";
+        written l - - ln.txt\ndone 1 0 0 0\nstatus 0\nln.txt: a\nb\r\n%\
+    xdg 1 *.txt text eol=crlf\n|entry -m a.txt|\
+        written - - - a.txt\ndone 1 0 0 0\nstatus 0\na.txt: a\r\nb\r\n%\
+    xdg 1 *.txt text eol=crlf\n|info *.txt -text\n|entry -m a.txt|\
+        written - - - a.txt\ndone 1 0 0 0\nstatus 0\na.txt: a\nb\r\n%";
 
 #[test]
 fn contents_are_converted(rt: HostRuntime) -> Result<(), Fail> {
@@ -222,7 +227,8 @@ const WRONG_ATTRIBUTES: &[u8] = b"\
     bytes blob 3\0ho\n|entry -h .gitattributes|\
         refused attributes .gitattributes object-name\nstatus 3\n%\
     object n|bytes blob 1048577\0|nuls 1048577|entry -n .gitattributes|\
-        refused attributes .gitattributes too-large\nstatus 3\n%";
+        refused attributes .gitattributes too-large\nstatus 3\n%\
+    xdg 1048577 \n|entry -h a|refused base-attributes too-large\nstatus 3\n%";
 
 #[test]
 fn an_attribute_file_without_a_right_object_stops_it(rt: HostRuntime) -> Result<(), Fail> {
@@ -277,7 +283,8 @@ const READS: &[u8] = b"\
     full|unchecked|entry -h a|status 6\n%\
     read-fails index|entry -h a|status 6\n%\
     read-fails config|entry -h a|status 6\n%\
-    read-fails info|entry -h a|status 6\n%";
+    read-fails info|entry -h a|status 6\n%\
+    read-fails base|entry -h a|status 6\n%";
 
 #[test]
 fn a_full_worktree_and_a_read_that_fails_stop_it(rt: HostRuntime) -> Result<(), Fail> {

@@ -25,7 +25,7 @@ fn is_asked(rt: HostRuntime, command: &[u8], want: u8, content: &[u8]) -> Result
     let mut page = Page::new(rt.alloc(), Pipe::new(rt.alloc(), 1)?.counter()?);
     let mut session = begin(rt.alloc(), link)?;
     let letter = came_letter(ask(&mut session, b"big.psd", b"pointer", &mut page));
-    starter.end(session.shut());
+    starter.end(session.shut().link);
     Ok(letter == want && page.content.as_slice() == content)
 }
 

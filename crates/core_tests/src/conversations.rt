@@ -54,7 +54,7 @@ fn converse(alloc: Global, piece: usize) -> Result<Talk, AllocError> {
         letters: [delayed, listed, given, empty],
         is_kept: is_listed && place == Some(0) && matches!(fresh.state, LeafState::Fresh),
         content: page.content,
-        pipe: session.shut(),
+        pipe: session.shut().link,
     })
 }
 
@@ -97,7 +97,7 @@ fn a_reply_streams(rt: HostRuntime) -> Result<(), Fail> {
     let mut page = Page::new(alloc, pipe.counter()?);
     let mut session = begin(alloc, pipe)?;
     let letter = came_letter(ask(&mut session, b"p", b"", &mut page));
-    let pipe = session.shut();
+    let pipe = session.shut().link;
     assert!(rt; letter == b'C' && page.content.as_slice() == b"onetwothree".as_slice());
     // The reads of the handshake, of the key list and of its flush, of three packets and of the end.
     assert!(rt; matches!(pipe.puts.as_slice(), [0, 0, 0, 0, 1, 2, 3]));

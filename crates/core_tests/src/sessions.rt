@@ -67,7 +67,7 @@ fn is_replied(alloc: Global, row: &[u8]) -> Result<bool, AllocError> {
     let mut session = begin(alloc, pipe)?;
     let letter = came_letter(ask(&mut session, b"p1", b"abcd", &mut page));
     let is_live = session.live();
-    let pipe = session.shut();
+    let pipe = session.shut().link;
     Ok(letter == *want && is_live == (*live == b'+') && pipe.end_letter() == *end)
 }
 

@@ -78,7 +78,7 @@ last_plain d (Some status.Abort) = tt
 last_plain d (Some status.Delayed) = tt
 last_plain d (Some status.Other) = tt
 
-reply_plain : (d : Bool) (p : ReplyPhase) (x : Packet) → PlainTurn (reply_step d p x)
+pub reply_plain : (d : Bool) (p : ReplyPhase) (x : Packet) → PlainTurn (reply_step d p x)
 reply_plain d (KeyList s) (Payload l) = tt
 reply_plain d (KeyList s) Flush = first_plain d s
 reply_plain d Content (Payload l) = tt
@@ -353,13 +353,13 @@ asked_effect d paths v w s e reply.Abort content a answers be we bare st q =
     (shut_caused a.after.seen e (a.after.ends ∙ (exchange_quiet _ _ _ _ _ _ _ a.exchange q).1) (a.after.shut ∙ shut_always a.wire.stage)) (shut_always a.wire.stage ∙ rw (be, we) refl)
 asked_effect d paths v w s e (reply.Broken c) content a answers be we bare st q =
     finish_with d paths v w s e (Broke c) content a.wire standing.Over a.exchange answers (λ u done. (inl (be ∙ ap Some (unsent_link GoodReply s.wire a.wire c u)), bare done)) a.after
-    (rw be (exchange_counts GoodReply (reply_step d) (KeyList None) (request_of paths s.caps e) s.wire a.wire c (HasContent d content) a.after.seen (reply_plain d) a.exchange q a.after.faults a.after.ends))
-    (seen_one a.after.seen a.wire (exchange_one _ _ _ _ _ _ _ a.exchange q) a.after.faults a.after.ends)
-    (seen_caused GoodReply a.after.seen a.wire (Broke c) e (exchange_caused _ _ _ _ _ _ _ _ _ a.exchange q) a.after.faults a.after.ends (λ why i. be ∙ ap Some (broke_is c why _ _ refl refl i)))
+    (rw be (exchange_counts GoodReply (reply_step d) (KeyList None) (request_of paths s.caps e) s.wire a.wire c (HasContent d content) a.after.seen (reply_plain d) a.exchange q a.after.faults.0 a.after.ends))
+    (seen_one a.after.seen a.wire (exchange_one _ _ _ _ _ _ _ a.exchange q) a.after.faults.0 a.after.ends)
+    (seen_caused GoodReply a.after.seen a.wire (Broke c) e (exchange_caused _ _ _ _ _ _ _ _ _ a.exchange q) a.after.faults.0 a.after.ends (λ why i. be ∙ ap Some (broke_is c why _ _ refl refl i)))
     (rw (exchange_stage _ _ _ _ _ _ _ a.exchange, st, be) refl)
 asked_effect d paths v w s e reply.NoMemory content a answers be we bare st q =
-    finish_with d paths v w s e OutOfMemory content a.wire standing.Over a.exchange answers (λ u done. (inr we, bare done)) a.after (rw be tt) (seen_one a.after.seen a.wire (exchange_one _ _ _ _ _ _ _ a.exchange q) a.after.faults a.after.ends)
-    (seen_caused GoodReply a.after.seen a.wire OutOfMemory e (exchange_caused _ _ _ _ _ _ _ _ _ a.exchange q) a.after.faults a.after.ends (λ why i. absurd (cc i))) (rw (exchange_stage _ _ _ _ _ _ _ a.exchange, st, be, we) refl)
+    finish_with d paths v w s e OutOfMemory content a.wire standing.Over a.exchange answers (λ u done. (inr we, bare done)) a.after (rw be tt) (seen_one a.after.seen a.wire (exchange_one _ _ _ _ _ _ _ a.exchange q) a.after.faults.0 a.after.ends)
+    (seen_caused GoodReply a.after.seen a.wire OutOfMemory e (exchange_caused _ _ _ _ _ _ _ _ _ a.exchange q) a.after.faults.0 a.after.ends (λ why i. absurd (cc i))) (rw (exchange_stage _ _ _ _ _ _ _ a.exchange, st, be, we) refl)
 
 -- lists
 
@@ -379,7 +379,7 @@ value_plain : (delayed listed : List (List ℕ)) (o : Option (List ℕ)) → Pla
 value_plain delayed listed None = tt
 value_plain delayed listed (Some name) = name_plain (name_in delayed name && not (name_in listed name)) (Names (listed ++ name ∷ []))
 
-list_plain : (delayed : List (List ℕ)) (p : ListPhase) (x : Packet) → PlainTurn (list_step delayed p x)
+pub list_plain : (delayed : List (List ℕ)) (p : ListPhase) (x : Packet) → PlainTurn (list_step delayed p x)
 list_plain delayed (Names listed) (Payload line) = value_plain delayed listed (value_of (codes "pathname") line)
 list_plain delayed (Names listed) Flush = tt
 list_plain delayed (phase.KeyList listed s) (Payload line) = tt
@@ -419,19 +419,19 @@ listed_effect paths v w s late names list.Abort a st q = inr (record {
   spoken = last_spoken (list_step (map paths.text late)) list_start a.end (λ _. Unit {0}) paths s.caps (Listing late names list.Abort) s.wire a.wire a.after.seen a.exchange (λ used rest part. (a.end, a.is, part)) (λ u done. absurd (subst (λ (end : Ends GoodList). Unsent s.wire a.wire end) a.is.0 u)) a.after.sent a.after.taken;
 })
 listed_effect paths v w s late names (list.Broken c) a st q = inr (record {
-  one = seen_one a.after.seen a.wire (exchange_one _ _ _ _ _ _ _ a.exchange q) a.after.faults a.after.ends;
-  cause = seen_caused GoodList a.after.seen a.wire a.end (Listing late names (list.Broken c)) (exchange_caused _ _ _ _ _ _ _ _ _ a.exchange q) a.after.faults a.after.ends (λ why i. ap Some (broke_is c why _ _ refl refl (sym a.is.0 ∙ i)));
+  one = seen_one a.after.seen a.wire (exchange_one _ _ _ _ _ _ _ a.exchange q) a.after.faults.0 a.after.ends;
+  cause = seen_caused GoodList a.after.seen a.wire a.end (Listing late names (list.Broken c)) (exchange_caused _ _ _ _ _ _ _ _ _ a.exchange q) a.after.faults.0 a.after.ends (λ why i. ap Some (broke_is c why _ _ refl refl (sym a.is.0 ∙ i)));
   seen = a.after.seen;
   none = a.after.none;
   had = ap (λ (x : StarterSeen). x.had) a.after.kept;
-  counts = exchange_counts GoodList (list_step (map paths.text late)) (Names []) list_text s.wire a.wire c (λ _. Unit {0}) a.after.seen (list_plain (map paths.text late)) (subst (λ (end : Ends GoodList). IsExchange (list_step (map paths.text late)) list_start list_text s.wire a.wire end (λ _. Unit {0})) a.is.0 a.exchange) q a.after.faults a.after.ends;
+  counts = exchange_counts GoodList (list_step (map paths.text late)) (Names []) list_text s.wire a.wire c (λ _. Unit {0}) a.after.seen (list_plain (map paths.text late)) (subst (λ (end : Ends GoodList). IsExchange (list_step (map paths.text late)) list_start list_text s.wire a.wire end (λ _. Unit {0})) a.is.0 a.exchange) q a.after.faults.0 a.after.ends;
   shut = a.after.shut ∙ (ap is_shut (exchange_stage _ _ _ _ _ _ _ a.exchange) ∙ ap is_shut st);
   spoken = last_spoken (list_step (map paths.text late)) list_start a.end (λ _. Unit {0}) paths s.caps (Listing late names (list.Broken c)) s.wire a.wire a.after.seen a.exchange (λ used rest part. (a.end, a.is, part))
       (λ u done. (inl (ap Some (unsent_link GoodList s.wire a.wire c (subst (λ (end : Ends GoodList). Unsent s.wire a.wire end) a.is.0 u))), a.is.1)) a.after.sent a.after.taken;
 })
 listed_effect paths v w s late names list.NoMemory a st q = inr (record {
-  one = seen_one a.after.seen a.wire (exchange_one _ _ _ _ _ _ _ a.exchange q) a.after.faults a.after.ends;
-  cause = seen_caused GoodList a.after.seen a.wire a.end (Listing late names list.NoMemory) (exchange_caused _ _ _ _ _ _ _ _ _ a.exchange q) a.after.faults a.after.ends (λ why i. let no = sym a.is.0 ∙ i in absurd (cc no));
+  one = seen_one a.after.seen a.wire (exchange_one _ _ _ _ _ _ _ a.exchange q) a.after.faults.0 a.after.ends;
+  cause = seen_caused GoodList a.after.seen a.wire a.end (Listing late names list.NoMemory) (exchange_caused _ _ _ _ _ _ _ _ _ a.exchange q) a.after.faults.0 a.after.ends (λ why i. let no = sym a.is.0 ∙ i in absurd (cc no));
   seen = a.after.seen;
   none = a.after.none;
   had = ap (λ (x : StarterSeen). x.had) a.after.kept;

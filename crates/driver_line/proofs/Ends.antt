@@ -1,5 +1,5 @@
 -- How replies end, and what is known of their contents.
-use Rattle.std.proofs.Common.{◌≡◌, inl, inr, ℕ, ◌-◌, Bool, true, false, List, [], ◌∷◌, Option, Some, None, Result, refl, sym, ap, subst, ◌∙◌}
+use Rattle.std.proofs.Common.{◌≡◌, inl, inr, ℕ, ◌+◌, ◌++◌, ◌-◌, Bool, true, false, List, [], ◌∷◌, Option, Some, None, Result, refl, sym, ap, subst, ◌∙◌}
 use Rattle.std.specs.Prelude.{⊤}
 use Rattle.std.proofs.lemmas.Bool.{lt-ltb, le-ltb, cases_lt}
 use Rattle.pkt_line.specs.Packets.{Packet, Payload, Flush, size}
@@ -17,7 +17,10 @@ use Rattle.filter_words.specs.declared.smudge_reply.ReplyPhase.TheVariants.{KeyL
 use Rattle.filter_words.specs.declared.answer_state.AnswerState.{AnswerState}
 use Rattle.filter_words.specs.declared.answer_state.AnswerState.TheVariants.{On, Done, Broken, Late}
 use Rattle.edge_kit.specs.declared.faults.SendFault.{SendFault}
-use Rattle.filter_proto.specs.Wires.{Wire}
+use Rattle.edge_kit.specs.declared.faults.Failed.{Failed}
+use Rattle.edge_kit.specs.Links.{LinkSeen, is_shut}
+use Rattle.edge_kit.specs.Starters.{StarterSeen, session_had}
+use Rattle.filter_proto.specs.Wires.{Wire, IsShutAfter, CountsShut}
 use Rattle.filter_proto.specs.Exchanges.{Ends, Good, Broke, OutOfMemory, Stops, Unsent, IsExchange}
 use Rattle.edge_kit.specs.Seen.{LeafSeen}
 use Rattle.filter_proto.specs.Replies.{IsFrontPut, IsKept, EndPut, TouchesNot, reply_end}
@@ -199,3 +202,24 @@ pub goes_live : (o s u : SessionSeen) (r : Reply) → Some o ≡ Some s → u.ca
 goes_live o s u r same caps is live =
     let one : o ≡ s = cc in
     subst (λ (z : Standing). GoesOn s z (Some u)) (sym live ∙ is) (u.wire, rw (sym one, sym caps, sym live) refl)
+
+-- a session that was shut, and whose link its starter took back
+pub finished : (mid s : SessionSeen) (from old last : StarterSeen) (o : Option SessionSeen) (input end : Result ⊤ Failed) (link : LinkSeen) → mid ≡ s → from ≡ old → o ≡ None
+    → IsShutAfter mid.standing mid.wire link → CountsShut mid.standing input end mid.wire.faults link.faults → last.out + 1 ≡ from.out
+    → last ≡ record from { had = from.had ++ session_had link ∷ []; out = last.out } → IsEnded old s.wire s.standing (record { starter = last; session = o })
+finished mid s from old last o input end link is same none wire counts out kept =
+    let ended : IsEnded from mid.wire mid.standing (record { starter = last; session = o }) = record {
+      seen = record { sent = link.sent; taken = link.taken; faults = link.faults; ends = link.ends; shut = is_shut link.stage };
+      none = none;
+      kept = kept;
+      out = out;
+      sent = ap (λ (w : Wire). w.sent) wire;
+      taken = ap (λ (w : Wire). w.taken) wire;
+      ends = ap (λ (w : Wire). w.ends) wire;
+      input = input;
+      end = end;
+      faults = counts;
+      shut = ap (λ (w : Wire). is_shut w.stage) wire;
+    } in
+    subst (λ (x : SessionSeen). IsEnded old x.wire x.standing (record { starter = last; session = o })) is
+    (subst (λ (x : StarterSeen). IsEnded x mid.wire mid.standing (record { starter = last; session = o })) same ended)

@@ -23,7 +23,7 @@ wanted_plain : (b : Bool) (p : HandshakePhase) → PlainTurn {P = HandshakePhase
 wanted_plain true p = tt
 wanted_plain false p = tt
 
-hand_plain : (p : HandshakePhase) (x : Packet) → PlainTurn (handshake_step p x)
+pub hand_plain : (p : HandshakePhase) (x : Packet) → PlainTurn (handshake_step p x)
 hand_plain Server (Payload l) = wanted_plain (bytes_eq (without_lf l) _) Version
 hand_plain Server Flush = tt
 hand_plain Version (Payload l) = wanted_plain (bytes_eq (without_lf l) _) EndOfHello

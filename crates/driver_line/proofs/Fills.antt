@@ -221,6 +221,8 @@ ended_full v w from had last k z same h =
         sent = refl;
         taken = refl;
         ends = h.ends;
+        input = h.input;
+        end = h.end;
         faults = h.faults;
         shut = h.shut;
       };

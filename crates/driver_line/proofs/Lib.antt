@@ -23,3 +23,5 @@ pub mod SameSessions
 pub mod SameTalks
 pub mod OneContents
 pub mod SameCauses
+pub mod Calm
+pub mod EqualSessions

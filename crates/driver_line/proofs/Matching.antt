@@ -160,10 +160,10 @@ items_of paths (suc n) v w (Opening p (Broke c) ∷ es) le none ended r =
         opening = r.1.2.opening;
         sent = k.sent;
         taken = k.taken;
-        counts = opening_counts r.1.0 r.1.1 (Broke c) k.seen r.1.2.opening (r.1.2.fresh.faults, r.1.2.fresh.ends) k.faults k.ends;
-        one = opening_one r.1.0 r.1.1 (Broke c) k.seen r.1.2.opening (r.1.2.fresh.faults, r.1.2.fresh.ends) k.faults k.ends;
+        counts = opening_counts r.1.0 r.1.1 (Broke c) k.seen r.1.2.opening (r.1.2.fresh.faults, r.1.2.fresh.ends) k.faults.0 k.ends;
+        one = opening_one r.1.0 r.1.1 (Broke c) k.seen r.1.2.opening (r.1.2.fresh.faults, r.1.2.fresh.ends) k.faults.0 k.ends;
         ended = λ lt. (opening_caused r.1.0 r.1.1 (Broke c) r.1.2.opening (r.1.2.fresh.faults, r.1.2.fresh.ends)).ended (subst (λ (n : ℕ). 0 < n) k.ends lt);
-        failed = λ lt. (opening_caused r.1.0 r.1.1 (Broke c) r.1.2.opening (r.1.2.fresh.faults, r.1.2.fresh.ends)).failed (subst (λ (n : ℕ). 0 < n) k.faults lt);
+        failed = λ lt. (opening_caused r.1.0 r.1.1 (Broke c) r.1.2.opening (r.1.2.fresh.faults, r.1.2.fresh.ends)).failed (subst (λ (n : ℕ). 0 < n) k.faults.0 lt);
         shut = k.shut ∙ ap is_shut (opening_stage r.1.0 r.1.1 (Broke c) r.1.2.opening ∙ r.1.2.fresh.stage);
       },
     )
@@ -179,10 +179,10 @@ items_of paths (suc n) v w (Opening p OutOfMemory ∷ es) le none ended r =
         opening = r.1.2.opening;
         sent = k.sent;
         taken = k.taken;
-        counts = opening_counts r.1.0 r.1.1 OutOfMemory k.seen r.1.2.opening (r.1.2.fresh.faults, r.1.2.fresh.ends) k.faults k.ends;
-        one = opening_one r.1.0 r.1.1 OutOfMemory k.seen r.1.2.opening (r.1.2.fresh.faults, r.1.2.fresh.ends) k.faults k.ends;
+        counts = opening_counts r.1.0 r.1.1 OutOfMemory k.seen r.1.2.opening (r.1.2.fresh.faults, r.1.2.fresh.ends) k.faults.0 k.ends;
+        one = opening_one r.1.0 r.1.1 OutOfMemory k.seen r.1.2.opening (r.1.2.fresh.faults, r.1.2.fresh.ends) k.faults.0 k.ends;
         ended = λ lt. (opening_caused r.1.0 r.1.1 OutOfMemory r.1.2.opening (r.1.2.fresh.faults, r.1.2.fresh.ends)).ended (subst (λ (n : ℕ). 0 < n) k.ends lt);
-        failed = λ lt. (opening_caused r.1.0 r.1.1 OutOfMemory r.1.2.opening (r.1.2.fresh.faults, r.1.2.fresh.ends)).failed (subst (λ (n : ℕ). 0 < n) k.faults lt);
+        failed = λ lt. (opening_caused r.1.0 r.1.1 OutOfMemory r.1.2.opening (r.1.2.fresh.faults, r.1.2.fresh.ends)).failed (subst (λ (n : ℕ). 0 < n) k.faults.0 lt);
         shut = k.shut ∙ ap is_shut (opening_stage r.1.0 r.1.1 OutOfMemory r.1.2.opening ∙ r.1.2.fresh.stage);
       },
     )

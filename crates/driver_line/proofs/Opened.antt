@@ -1,5 +1,5 @@
 -- Openings of a line.
-use Rattle.std.proofs.Common.{◌≡◌, inl, inr, ℕ, ◌+◌, ◌-◌, Bool, true, false, List, [], ◌∷◌, ◌++◌, Option, Some, None, refl, sym, ap, subst, ◌∙◌}
+use Rattle.std.proofs.Common.{◌≡◌, inl, inr, ℕ, ◌+◌, ◌-◌, Bool, true, false, List, [], ◌∷◌, ◌++◌, Option, Some, None, Ok, refl, sym, ap, subst, ◌∙◌}
 use Rattle.std.proofs.lemmas.Bool.{lt-ltb, le-ltb, cases_lt}
 use Rattle.std.specs.Prelude.{if◌then◌else◌}
 use Rattle.std.specs.Str.{bytes_eq}
@@ -143,7 +143,9 @@ failed_says old from mid last link back unread o end none gone same st open_ out
         sent = refl;
         taken = refl;
         ends = refl;
-        faults = refl;
+        input = Ok tt;
+        end = Ok tt;
+        faults = (refl, refl, refl);
         shut = refl;
       },
     )

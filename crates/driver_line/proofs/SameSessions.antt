@@ -36,7 +36,7 @@ inside paths caps (Second q r c) es sent taken p h e = absurd (cc e)
 inside paths caps Shutting es sent taken p h e = absurd (cc e)
 
 -- where one talk's session is over, the other's is
-over_too : (paths : Paths) (caps : Caps) (asked : List ℕ) (d : ℕ) (t : Talk) (fate : ℕ → Fate) (rest : List Exchange) (u : Talk) (f : Exchange) (fs more : List Exchange) (v : Talk) (sent taken : List ℕ)
+pub over_too : (paths : Paths) (caps : Caps) (asked : List ℕ) (d : ℕ) (t : Talk) (fate : ℕ → Fate) (rest : List Exchange) (u : Talk) (f : Exchange) (fs more : List Exchange) (v : Talk) (sent taken : List ℕ)
     → Stands asked t fate → IsOutside rest → LeadsTo d t rest u → IsOver u → Spoken paths caps (f ∷ fs) sent taken → LeadsTo d t (f ∷ more) v → ⊥
 over_too paths caps asked d t fate [] u f fs more v sent taken s out l over h k =
     let due : due_of f ≡ due_at t = due_is d t f k.0 k.1 k.2 s.none s.turns in

@@ -71,7 +71,7 @@ pub record IsToldSession (output : List ℕ) (seen : SessionHad) : Type 0 where
   pub whole : output ≡ taken ++ ahead
   pub quiet : IsQuiet seen ahead
 
-told_taken : (t : Option (List ℕ)) (taken came : List ℕ) → t ≡ Some taken → Tells t came → taken ≡ came
+pub told_taken : (t : Option (List ℕ)) (taken came : List ℕ) → t ≡ Some taken → Tells t came → taken ≡ came
 told_taken t taken came e h = subst (λ (x : Option (List ℕ)). Tells x came) e h
 
 told_session : (out left : Option (List ℕ)) (output came taken : List ℕ) (seen : SessionHad) → out ≡ Some output → out ≡ led came left → Tells seen.taken came → (0 < seen.ends → Tells left [])
@@ -111,11 +111,11 @@ pub record IsAnswerTo (taken : List ℕ) (end : Ends Caps) : Type 0 where
   pub parts : taken ≡ used ++ later
   pub part : IsPart handshake_step handshake_start used later end (λ ps. Unit {0})
 
-all_grown : (t : Option (List ℕ)) (came taken : List ℕ) → Tells t [] → grown t came ≡ Some taken → taken ≡ came
+pub all_grown : (t : Option (List ℕ)) (came taken : List ℕ) → Tells t [] → grown t came ≡ Some taken → taken ≡ came
 all_grown None came taken h e = absurd (cc e)
 all_grown (Some t) came taken h e = let one : t ++ came ≡ taken = cc e in sym one ∙ ap (λ (x : List ℕ). x ++ came) h
 
-heard_answer : (start last : Wire) (end : Ends Caps) (extra : List Packet → Type 0) (taken : List ℕ) → IsFresh start → last.taken ≡ Some taken → IsHeard handshake_step handshake_start start last end extra
+pub heard_answer : (start last : Wire) (end : Ends Caps) (extra : List Packet → Type 0) (taken : List ℕ) → IsFresh start → last.taken ≡ Some taken → IsHeard handshake_step handshake_start start last end extra
     → IsAnswerTo taken end
 heard_answer start last end extra taken fresh is h = record {
   used = h.used;
@@ -136,7 +136,7 @@ pub record IsOpeningOf (output : List ℕ) (end : Ends Caps) : Type 0 where
   pub later : List ℕ
   pub part : IsPartOf handshake_step handshake_start output used later end
 
-failed_part : (output : List ℕ) (end : Ends Caps) (seen : SessionHad) → IsToldSession output seen → IsFailedSession end seen → (end ≡ OutOfMemory → ⊥) → IsOpeningOf output end
+pub failed_part : (output : List ℕ) (end : Ends Caps) (seen : SessionHad) → IsToldSession output seen → IsFailedSession end seen → (end ≡ OutOfMemory → ⊥) → IsOpeningOf output end
 failed_part output end seen told h room =
     let link : end ≡ Broke cause.LinkFault → ⊥ = λ e. no_link seen (break_in end) told.quiet.faults h.counts (ap break_in e) in
     let a = opening_answer h.start h.last end told.taken h.fresh (sym h.taken ∙ told.is) h.opening link room in
@@ -147,7 +147,7 @@ failed_part output end seen told h room =
           (λ e. all_came seen told.ahead (break_in end) told.quiet.whole h.counts (ap break_in e)) (end_settled end link room);
     }
 
-opened_part : (output : List ℕ) (paths : Paths) (caps : Caps) (own : List Exchange) (seen : SessionHad) (told : IsToldSession output seen) (h : IsOpenedSession paths caps own seen)
+pub opened_part : (output : List ℕ) (paths : Paths) (caps : Caps) (own : List Exchange) (seen : SessionHad) (told : IsToldSession output seen) (h : IsOpenedSession paths caps own seen)
     → IsPartOf handshake_step handshake_start output h.used h.later (Good caps)
 opened_part output paths caps own seen told h =
     part_of handshake_step handshake_start output h.used h.later told.ahead (Good caps) _ h.opened
@@ -159,7 +159,7 @@ session_part output paths (Broke why) own seen told h room = failed_part output 
 session_part output paths OutOfMemory own seen told h room = absurd (room refl)
 
 -- what follows an item is nothing, or a start
-outside_of : (paths : Paths) (hs : List Had) (es : List Exchange) → Matches paths es hs → IsOutside es
+pub outside_of : (paths : Paths) (hs : List Had) (es : List Exchange) → Matches paths es hs → IsOutside es
 outside_of paths [] es h = subst IsOutside (sym h) tt
 outside_of paths (StartFailed ∷ hs) es h = subst IsOutside (sym h.2) (h.0, refl)
 outside_of paths (StartOutOfMemory ∷ hs) es h = subst IsOutside (sym h.2) (h.0, refl)
@@ -237,12 +237,12 @@ module _ (replies_law : ReplyLaw) (lists_law : ListLaw) (hand_law : HandLaw) (pa
         (λ mid run st x y. bodies end1 mid (after d (Opening p end1) fate) own1 own2 a b2 st x y)
 
   -- nothing is left of both
-  none_left : (t : Talk) (fate : ℕ → Fate) (es fs : List Exchange) (u v : Talk) → es ≡ [] → IsOver u → LeadsTo d t es u → LeadsTo d t fs v → (es ≡ []) × (fs ≡ [])
+  pub none_left : (t : Talk) (fate : ℕ → Fate) (es fs : List Exchange) (u v : Talk) → es ≡ [] → IsOver u → LeadsTo d t es u → LeadsTo d t fs v → (es ≡ []) × (fs ≡ [])
   none_left t fate es fs u v e over l k =
       let here : t ≡ u = subst (λ (z : List Exchange). LeadsTo d t z u) e l in
       (e, nothing_more d t fs v (ap due_at here ∙ over_nothing u over) k)
 
-  failed_starts : (t : Talk) (fate : ℕ → Fate) (p q : ℕ) (es fs : List Exchange) (u v : Talk) → Stands asked t fate → Runs d t fate (NoStart p ∷ es) u → Runs d t fate (NoStart q ∷ fs) v
+  pub failed_starts : (t : Talk) (fate : ℕ → Fate) (p q : ℕ) (es fs : List Exchange) (u v : Talk) → Stands asked t fate → Runs d t fate (NoStart p ∷ es) u → Runs d t fate (NoStart q ∷ fs) v
       → ((mid : Talk) (more : ℕ → Fate) → Stands asked mid more → Runs d mid more es u → Runs d mid more fs v → Alike d more es fs) → Alike d fate (NoStart p ∷ es) (NoStart q ∷ fs)
   failed_starts t fate p q es fs u v s g h left =
       let l = g.0 in
@@ -322,11 +322,11 @@ begins asked apart = record {
   within = λ p. first_within (contains p asked);
 }
 
-first_spared : (b : Bool) (p : ℕ) (es : List Event) → (b ≡ true → fate_of p Untold es ≡ Known heard.OutOfMemory → ⊥) → fate_of p (cond b Untold (Known heard.Got)) es ≡ Known heard.OutOfMemory → ⊥
+pub first_spared : (b : Bool) (p : ℕ) (es : List Event) → (b ≡ true → fate_of p Untold es ≡ Known heard.OutOfMemory → ⊥) → fate_of p (cond b Untold (Known heard.Got)) es ≡ Known heard.OutOfMemory → ⊥
 first_spared true p es h e = h refl e
 first_spared false p es h e = let bad : Known heard.Got ≡ Known heard.OutOfMemory = sym (known_stays p heard.Got es) ∙ e in absurd (cc bad)
 
-same_first : (b : Bool) (p : ℕ) (xs ys : List Event) → b ≡ true → fate_of p (cond b Untold (Known heard.Got)) xs ≡ fate_of p (cond b Untold (Known heard.Got)) ys → fate_of p Untold xs ≡ fate_of p Untold ys
+pub same_first : (b : Bool) (p : ℕ) (xs ys : List Event) → b ≡ true → fate_of p (cond b Untold (Known heard.Got)) xs ≡ fate_of p (cond b Untold (Known heard.Got)) ys → fate_of p Untold xs ≡ fate_of p Untold ys
 same_first true p xs ys e h = h
 same_first false p xs ys e h = absurd (cc e)
 

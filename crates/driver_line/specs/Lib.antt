@@ -6,4 +6,5 @@ pub mod Starters
 pub mod Parts
 pub mod SameHeard
 pub mod SameCauses
+pub mod EqualSessions
 pub mod OneContent

@@ -1,6 +1,8 @@
 -- A line to a driver: what came of its starts, and the session that is open, if one is. What each exchange does to
 -- it.
 use Rattle.std.specs.Prelude.{◌≡◌, ◌⊎◌, ℕ, ◌+◌, Bool, true, false, Option, Some, None, List, [], ◌∷◌, ◌++◌, map}
+use Rattle.std.specs.Prelude.{Result, ⊤}
+use Rattle.edge_kit.specs.declared.faults.Failed.{Failed}
 use Rattle.pkt_line.specs.Packets.{Packet}
 use Rattle.filter_words.specs.SmudgeReply.{reply_step, reply_start, content_in}
 use Rattle.filter_words.specs.Listing.{GoodList, Listed, Aborted, list_step, list_start}
@@ -17,7 +19,7 @@ use Rattle.filter_proto.specs.Wires.{Wire}
 use Rattle.filter_proto.specs.Exchanges.{Ends, Good, Broke, OutOfMemory, IsExchange}
 use Rattle.filter_proto.specs.Wires.{SessionSeen}
 use Rattle.filter_proto.specs.Replies.{reply_end, standing_after}
-use Rattle.filter_proto.specs.Wires.{shut_after, ShutsQuietly}
+use Rattle.filter_proto.specs.Wires.{shut_after, CountsShut}
 use Rattle.filter_proto.specs.Openings.{IsOpening}
 use Rattle.filter_proto.specs.declared.session.Standing.{Standing}
 use Rattle.filter_proto.specs.declared.session.Standing.TheVariants as standing
@@ -56,7 +58,8 @@ pub record IsFresh (w : Wire) : Type 0 where
   pub ends : w.ends ≡ 0
   pub stage : w.stage ≡ Open
 
--- the session is over, and its starter keeps it
+-- The session is over, and its starter keeps it. Its count of faults rose in each of the two calls that shut it and failed,
+-- and in no other.
 pub record IsEnded (old : StarterSeen) (last : Wire) (how : Standing) (new : LineView) : Type 0 where
   pub seen : SessionHad
   pub none : new.session ≡ None
@@ -65,7 +68,9 @@ pub record IsEnded (old : StarterSeen) (last : Wire) (how : Standing) (new : Lin
   pub sent : seen.sent ≡ last.sent
   pub taken : seen.taken ≡ last.taken
   pub ends : seen.ends ≡ last.ends
-  pub faults : ShutsQuietly how last.faults seen.faults
+  pub input : Result ⊤ Failed
+  pub end : Result ⊤ Failed
+  pub faults : CountsShut how input end last.faults seen.faults
   pub shut : seen.shut ≡ is_shut (shut_after how last.stage)
 
 -- the session goes on, or is over

@@ -8,6 +8,7 @@ ghost use Rattle.filter_words.specs.declared.handshake.HandshakePhase.{Handshake
 ghost use Rattle.filter_words.specs.declared.smudge_reply.GoodReply.{GoodReply};
 ghost use Rattle.filter_words.specs.declared.smudge_reply.ReplyPhase.{ReplyPhase};
 ghost use Rattle.driver_line.specs.Conversations.{Exchange};
+ghost use Rattle.driver_line.specs.EqualSessions.{EqualSessions};
 ghost use Rattle.driver_line.specs.Lines.{LineView, Paths, RunsTo};
 ghost use Rattle.driver_line.specs.OneContent.{OneContent};
 ghost use Rattle.driver_line.specs.Parts.{IsOnePart};
@@ -58,6 +59,14 @@ pub fn one_part()
 /// exchanges.
 pub fn equal_outputs_give_equal_talks()
     ensures { SameHeard }
+{
+    one_part();
+}
+
+/// Two talks over the same paths with equal failed starts and sessions tell the same of each path, also where a link
+/// failed, if memory ran out for no path. If besides memory ran out in no exchange, they have the same exchanges.
+pub fn equal_sessions_give_equal_talks()
+    ensures { EqualSessions }
 {
     one_part();
 }

@@ -13,7 +13,7 @@ ghost use Rattle.driver_line.specs.Lines.{late_in, names_in, AreDelayed, IsListe
 use checkout_core::OpenCause;
 use delay_table::DelayTable;
 use edge_kit::{Leaf, Link, SendFault, Starter};
-use filter_proto::{Asked, Begun, Session, Standing};
+use filter_proto::{Asked, Begun, Session, Shut, Standing};
 use filter_words::{Caps, ListReply};
 use std::alloc::Global;
 use std::marker::Model;
@@ -66,7 +66,7 @@ impl<S: Starter> Line<S> {
         ensures starts { starts_of self.new ≤ starts_of self.old }
     {
         if let Some(session) = self.session.take() {
-            let link = session.shut();
+            let Shut { link, .. } = session.shut();
             self.starter.end(link);
         }
     }

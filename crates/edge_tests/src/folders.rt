@@ -16,6 +16,7 @@ const CASES: &[&str] = &[
     "|i9.",
     "|c9.",
     "|a9.",
+    "|u9.",
     "|o9.",
     // each file at its place
     "d repo;f repo/index DIRC!|i5=DIRC!",

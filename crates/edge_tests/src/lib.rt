@@ -17,12 +17,6 @@ mod empty_trees;
 #[cfg(test)]
 mod folders;
 #[cfg(test)]
-mod git_leaves;
-#[cfg(test)]
-mod git_objects;
-#[cfg(test)]
-mod git_place;
-#[cfg(test)]
 mod leaf_files;
 #[cfg(test)]
 mod objects;

@@ -15,4 +15,4 @@ mod session;
 pub use laws::same_heard;
 pub use opening::Begun;
 pub use reading::Asked;
-pub use session::{Session, Standing};
+pub use session::{Session, Shut, Standing};

@@ -5,6 +5,7 @@ ghost use Rattle.filter_words.specs.Requests.{first_text, list_text};
 ghost use Rattle.edge_kit.specs.Faults.{AfterCall};
 ghost use Rattle.edge_kit.specs.Links.{Reads};
 ghost use Rattle.filter_proto.specs.Wires.{wire_of, Filled, FillFails, Sees, SendsOn, IsShutAfter};
+ghost use Rattle.filter_proto.specs.Wires.{CountsShut};
 
 use crate::sending::{send_list, send_smudge};
 use edge_kit::{Failed, Link, SendFault};
@@ -20,6 +21,17 @@ pub enum Standing {
     Aborted,
     /// It broke, or memory ran out.
     Over,
+}
+
+/// The link of a session that was ended, and what the two calls answered that shut it: each `Ok` where the session was
+/// over and neither was made.
+#[derive(Drop)]
+pub struct Shut<K: Link> {
+    pub link: K,
+    /// Of the closing of its input.
+    pub input: Result<(), Failed>,
+    /// Of the waiting for its end.
+    pub end: Result<(), Failed>,
 }
 
 /// A session with a driver over a link: gitattributes(5), "Long Running Filter Process".
@@ -204,8 +216,9 @@ impl<K: Link> Session<K> {
 
     /// Ends a session and gives its link back. If the session could be asked or was aborted, the input of its link is
     /// shut and its end is waited for, and a fault there changes nothing else. On any other link nothing is called.
-    pub fn shut(self) -> K
-        ensures { IsShutAfter self.standing self.wire (K.seen result) }
+    pub fn shut(self) -> Shut<K>
+        ensures wire { IsShutAfter self.standing self.wire (K.seen result.link) }
+        ensures faults { CountsShut self.standing result.input result.end self.wire.faults (K.seen result.link).faults }
     {
         let Session {
             mut link,
@@ -214,12 +227,16 @@ impl<K: Link> Session<K> {
         } = self;
         match standing {
             Standing::Live | Standing::Aborted => {
-                let _ = link.shut_input();
-                let _ = link.wait_end();
+                let input = link.shut_input();
+                let end = link.wait_end();
+                Shut { link, input, end }
             }
-            Standing::Over => {}
+            Standing::Over => Shut {
+                link,
+                input: Ok(()),
+                end: Ok(()),
+            },
         }
-        link
     }
 }
 

@@ -16,14 +16,15 @@ fn file_at(alloc: Global, folder: &[u8], text: &[u8]) -> Result<FileAt, AllocErr
 }
 
 /// The files, in an order that has no meaning.
-fn files_of(alloc: Global, texts: [&[u8]; 4]) -> Result<AttrFiles, AllocError> {
-    let [info, top, a, deep] = texts;
+fn files_of(alloc: Global, texts: [&[u8]; 5]) -> Result<AttrFiles, AllocError> {
+    let [info, top, a, deep, base] = texts;
     let mut files = Vec::new(alloc);
     files.push(file_at(alloc, b"a/b", deep)?)?;
     files.push(file_at(alloc, b"", top)?)?;
     files.push(file_at(alloc, b"a", a)?)?;
     Ok(AttrFiles {
         info: read_attributes(alloc, info, true)?,
+        base: read_attributes(alloc, base, true)?,
         files: Items::from_vec(files),
     })
 }
@@ -116,7 +117,37 @@ impl Row for Stated {
         let (path, rest) = cut(rest, b'|')?;
         let (name, want) = cut(rest, b'|')?;
         let name = Bytes::copy_of(alloc, name)?;
-        let files = files_of(alloc, [info, top, a, deep])?;
+        let files = files_of(alloc, [info, top, a, deep, b""])?;
+        Ok((states_of(alloc, files, path, from_ref(&name))?, want))
+    }
+}
+
+/// `info/attributes`, the file of the top folder, and the system's and the user's files, a path, a name, and the state's
+/// spelling, as `git check-attr` gives it.
+const BASE: &[u8] = b"\
+    ||* t=base|a/f|t|base%\
+    |* t=top|* t=base|f|t|top%\
+    * t=info||* t=base|f|t|info%\
+    |* !t|* t|f|t|!%\
+    ||a/f t|a/f|t|+%\
+    ||* t=1\n* t=2|f|t|2%\
+    ||[attr]m t\n* m|f|t|+%\
+    |* m|[attr]m t|f|t|+%\
+    |[attr]m t=top|[attr]m t=base\n* m|f|t|top%\
+    [attr]m t=info||[attr]m t=base\n* m|f|t|info%\
+    ||[attr]binary t\n* binary|f|t|+%";
+
+struct Based;
+
+impl Row for Based {
+    fn seen(alloc: Global, row: &[u8]) -> Result<Seen<'_>, Fail> {
+        let (info, rest) = cut(row, b'|')?;
+        let (top, rest) = cut(rest, b'|')?;
+        let (base, rest) = cut(rest, b'|')?;
+        let (path, rest) = cut(rest, b'|')?;
+        let (name, want) = cut(rest, b'|')?;
+        let name = Bytes::copy_of(alloc, name)?;
+        let files = files_of(alloc, [info, top, b"", b"", base])?;
         Ok((states_of(alloc, files, path, from_ref(&name))?, want))
     }
 }
@@ -126,15 +157,17 @@ fn a_path_has_the_states_of_its_files_in_a_stack_too(rt: HostRuntime) -> Result<
     check::<Stated, _>(&rt, rt.alloc(), LAST)?;
     check::<Stated, _>(&rt, rt.alloc(), NEAREST)?;
     check::<Stated, _>(&rt, rt.alloc(), MACROS)?;
-    check::<Stated, _>(&rt, rt.alloc(), FIRST)
+    check::<Stated, _>(&rt, rt.alloc(), FIRST)?;
+    check::<Based, _>(&rt, rt.alloc(), BASE)
 }
 
-/// `info/attributes` and the files of the top folder, of `a` and of `a/b`, as above.
-const WALKED: [&[u8]; 4] = [
+/// `info/attributes`, the files of the top folder, of `a` and of `a/b`, and the user's file.
+const WALKED: [&[u8]; 5] = [
     b"*.i t=info",
     b"[attr]m n\n* t=top -n\nc m",
     b"[attr]k n=k\n* t=a\nb/y k n=a",
     b"* t=b\n/x n",
+    b"* t=base\n*.i n=base",
 ];
 
 /// Paths of these files in the order in which they are asked for, and how their states of `t` and `n` are spelled.

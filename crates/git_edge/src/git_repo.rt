@@ -113,17 +113,6 @@ impl GitRepo {
         self.pool.end();
     }
 
-    /// The attribute files of the system and of the user as one, or `None` if neither has anything.
-    pub fn base_attribute_bytes(&mut self, limit: u64) -> Result<Option<Vec<u8>>, TakeFault>
-        ensures out { self.new.out ≡ self.old.out }
-        ensures returned { self.new.returned.items ≡ self.old.returned.items }
-        ensures bytes { Takes Untold limit result }
-        ensures faults { AfterTake self.old.faults self.new.faults result }
-    {
-        let taken = base_attributes(&self.git, &self.listing, limit);
-        self.counted(taken)
-    }
-
     /// Counts a fault if the content wasn't taken for one.
     fn counted(
         &mut self,
@@ -144,7 +133,7 @@ impl GitRepo {
 impl Repo for GitRepo {
     type Blob = GitBlob;
 
-    ghost told = { λ _. record { index = Untold; config = Untold; info = Untold; object = λ _. Untold } };
+    ghost told = { λ _. record { index = Untold; config = Untold; info = Untold; base = Untold; object = λ _. Untold } };
 
     ghost seen = { λ r. record { faults = r.faults; out = r.out; returned = r.returned.items } };
 
@@ -167,6 +156,11 @@ impl Repo for GitRepo {
     fn info_attributes(&mut self, limit: u64) -> Result<Option<Vec<u8>>, TakeFault> {
         let path = self.found.info.as_str();
         let taken = read_whole(self.git.rt, self.git.alloc, path, limit);
+        self.counted(taken)
+    }
+
+    fn base_attributes(&mut self, limit: u64) -> Result<Option<Vec<u8>>, TakeFault> {
+        let taken = base_attributes(&self.git, &self.listing, limit);
         self.counted(taken)
     }
 

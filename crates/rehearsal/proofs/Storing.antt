@@ -58,12 +58,13 @@ found (o ∷ os) (f ∷ fs) e hash =
 pub tells : (index config_is : Vec ℕ) (objects : List (List ℕ × Vec ℕ)) (fails : List RepoFail) (fs : List File)
     → fails ≡ [] → index.items ≡ plain_text (map entry_of fs) → config_is.items ≡ config
     → map seen_object objects ≡ map object_of fs
-    → IsRepository fs (repo_told (Some index) (Some config_is) None objects fails)
+    → IsRepository fs (repo_told (Some index) (Some config_is) None None objects fails)
 tells index config_is objects fails fs none text settings stored =
-    subst (λ (l : List RepoFail). IsRepository fs (repo_told (Some index) (Some config_is) None objects l)) (sym none)
+    subst (λ (l : List RepoFail). IsRepository fs (repo_told (Some index) (Some config_is) None None objects l)) (sym none)
     record {
       index = ap Raw text;
       config = ap Raw settings;
       info = refl;
+      base = refl;
       object = found objects fs stored;
     }

@@ -61,6 +61,7 @@ pub record IsRepository (fs : List File) (told : RepoTold) : Type 0 where
   pub index : told.index ≡ Raw (plain_text (entries fs))
   pub config : told.config ≡ Raw config
   pub info : told.info ≡ Absent
+  pub base : told.base ≡ Absent
   pub object : (name : List ℕ) → told.object name ≡ object_told fs name
 
 -- The files of a rehearsal of up to 99,999 paths have an index: the text of their entries.

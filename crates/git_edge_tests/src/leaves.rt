@@ -1,6 +1,5 @@
 //! The files, programs and links that leaves make as git does.
-use crate::git_place::runs;
-use crate::place::{folder_with, path_in};
+use crate::place::{folder_after, path_in, runs};
 use crate::table::{cut, is_right};
 use edge_kit::{Leaf, LeafState, Mark, Worktree};
 use git_edge::{GitLeaf, GitTree, Keeps};
@@ -68,7 +67,7 @@ fn all_go(leaf: &mut GitLeaf, calls: &str) -> bool {
     true
 }
 
-/// What is there, `l` if links are kept or `-`, the path of a leaf, the calls on it, and what a shell finds. A file that
+/// What the shell does, `l` if links are kept or `-`, the path of a leaf, the calls on it, and what a shell finds. A file that
 /// it makes has the mode of a plain file by its umask, and a folder that of a program.
 const CASES: &[&str] = &[
     "|l|a/b|+px;+s|test -f tree/a/b; test $(stat -c %a tree/a/b) = $(stat -c %a plain)",
@@ -88,9 +87,9 @@ const CASES: &[&str] = &[
     "|l|a|-l;+d|test ! -e tree/a",
     "|l|a|+z;-l;+d|test ! -e tree/a",
     // what is there stays, and no link is followed
-    "d tree;f tree/a old|l|a|+pb;-l;+d|test $(cat tree/a) = old",
-    "d tree;l tree/a b|l|a|+px;-s;+d|test ! -e tree/b",
-    "d tree;d c;l tree/a ../c|l|a/b|+px;-l;+d|test ! -e c/b; test ! -L c/b",
+    "mkdir tree; printf old > tree/a|l|a|+pb;-l;+d|test $(cat tree/a) = old",
+    "mkdir tree; ln -s b tree/a|l|a|+px;-s;+d|test ! -e tree/b",
+    "mkdir tree c; ln -s ../c tree/a|l|a/b|+px;-l;+d|test ! -e c/b; test ! -L c/b",
 ];
 
 /// Whether the calls on the leaf go as they should in this folder.
@@ -113,7 +112,7 @@ fn is_so(rt: HostRuntime, row: &str) -> Result<bool, Fail> {
     let Some((calls, text)) = rest.rsplit_once('|') else {
         return Ok(false);
     };
-    let folder = folder_with(rt, "made", things)?;
+    let folder = folder_after(rt, "made", things)?;
     let well = leaf_goes(rt, folder.as_str(), calls)?;
     let text = format!(in rt.alloc(); "mkdir made; : > plain; {text}")?;
     let is_found = runs(rt, folder.as_str(), text.as_str())?;
@@ -124,7 +123,7 @@ fn is_so(rt: HostRuntime, row: &str) -> Result<bool, Fail> {
 #[test]
 fn leaves_make_files_programs_and_links(rt: HostRuntime) -> Result<(), Fail> {
     for row in CASES {
-        is_right(&rt, is_so(rt, row)?, row.as_bytes());
+        is_right(&rt, is_so(rt, row)?, row, "another thing");
     }
     Ok(())
 }

@@ -1,10 +1,12 @@
-//! A repository of a test's own, made by git.
-use crate::place::{folder_with, path_in};
+//! A folder of a test's own, and the repository in it.
+use edge_kit::{Blob, Repo, TakeFault};
 use git_edge::{GitFault, GitRepo};
-use std::fs::exists;
+use std::alloc::AllocError;
+use std::env::temp_dir;
+use std::fs::{create_dir, remove_dir_all};
 use std::process::Command;
 use std::test::Fail;
-use std::{fmt, io};
+use std::{io, process};
 
 /// What a test's shell begins with. `git` and the program `git` of the folder are git without the settings of the user
 /// and of the system. `new` makes a repository `repo` with the object `hi`, and `fake` has the program do this first.
@@ -42,9 +44,24 @@ pub fn runs(rt: HostRuntime, folder: &str, text: &str) -> io::Result<bool> {
     Ok(shell.status(&rt)?.success())
 }
 
+/// The path of what is in a folder.
+pub fn path_in(rt: HostRuntime, folder: &str, path: &str) -> Result<String, AllocError> {
+    format!(in rt.alloc(); "{folder}/{path}")
+}
+
+/// A fresh folder for the test with this name.
+fn fresh_folder(rt: HostRuntime, test: &str) -> io::Result<String> {
+    let base = temp_dir(&rt)?;
+    let id = process::id(rt.process());
+    let folder = format!(in rt.alloc(); "{}/git-edge-{test}-{id}", base.display())?;
+    let _ = remove_dir_all(&rt, folder.as_str());
+    create_dir(&rt, folder.as_str())?;
+    Ok(folder)
+}
+
 /// A fresh folder for the test with this name, in which this shell's text was run.
 pub fn folder_after(rt: HostRuntime, test: &str, text: &str) -> Result<String, Fail> {
-    let folder = folder_with(rt, test, "")?;
+    let folder = fresh_folder(rt, test)?;
     if !runs(rt, folder.as_str(), text)? {
         return Err(Fail::new(format_args!("the shell fails: {text}")));
     }
@@ -61,4 +78,16 @@ pub fn open(rt: HostRuntime, folder: &str, revision: &str) -> Result<GitRepo, Gi
         Some(revision)
     };
     GitRepo::open_by(rt, program.as_str(), Some(git_dir.as_str()), revision)
+}
+
+/// The SHA-1 of `blob 3`, NUL, `hi\n`.
+const HI: [u8; 20] =
+    *b"\x45\xB9\x83\xBE\x36\xB7\x3C\x07\x88\xDC\x9C\xBC\xB7\x6C\xBB\x80\xFC\x7B\xB0\x57";
+
+/// What is read of the object `hi`.
+pub fn read_hi(repo: &mut GitRepo, limit: u64) -> Result<Option<Vec<u8>>, TakeFault> {
+    let mut blob = repo.blob(&HI)?;
+    let taken = blob.take_all(limit);
+    repo.take_back(blob);
+    taken
 }
