@@ -100,6 +100,18 @@ pub fn says_no(value: &[u8]) -> bool {
         || value.eq_ignore_ascii_case(b"off")
 }
 
+/// The remote that a setting says a partial clone is of: `remote.<name>.promisor`, or as it was said before,
+/// `extensions.partialClone`.
+fn promised_by<'a>(setting: Setting<'a>) -> Option<&'a [u8]> {
+    if setting.key == b"extensions.partialclone".as_slice() {
+        return setting.value;
+    }
+    setting
+        .key
+        .strip_prefix(b"remote.")?
+        .strip_suffix(b".promisor")
+}
+
 impl Listing {
     pub fn new(bytes: Vec<u8>) -> Listing {
         Listing { bytes }
@@ -128,9 +140,7 @@ impl Listing {
     /// The name of a remote from which objects may still be fetched, as a partial clone has one.
     pub fn promisor(&self) -> Option<&[u8]> {
         for text in self.bytes.split(|byte| *byte == 0) {
-            let setting = setting_of(text);
-            let name = setting.key.strip_prefix(b"remote.");
-            if let Some(remote) = name.and_then(|name| name.strip_suffix(b".promisor")) {
+            if let Some(remote) = promised_by(setting_of(text)) {
                 return Some(remote);
             }
         }

@@ -41,13 +41,15 @@ fn a_driver_runs_in_its_place(rt: HostRuntime) -> Result<(), Fail> {
         folder: path_in(rt, folder.as_str(), "d")?,
         git_dir: Some(String::from_str(rt.alloc(), "there")?),
     };
-    let mut starter = ProcessSpawner::in_place(rt, place)?.starter(DRIVER)?;
+    let mut spawner = ProcessSpawner::in_place(rt, place)?;
+    let mut starter = spawner.starter(DRIVER)?;
     let Ok(mut link) = starter.start() else {
         panic!(rt; "no driver");
     };
     let mut wrote = [0; 20];
     let read = link.read(&mut wrote);
     starter.end(link);
+    spawner.take_back(starter);
     remove_dir_all(&rt, folder.as_str())?;
     assert!(rt; read.is_ok() && wrote.starts_with(b"hi there\n"));
     Ok(())
