@@ -103,7 +103,7 @@ impl Worktree for GitTree {
 
     fn take_back(&mut self, leaf: GitLeaf) {
         if let Some(error) = &leaf.error {
-            self.errors.add(error);
+            self.errors.add(error, &leaf.path);
         }
         let _ = self.returned.push(leaf.ended());
         self.out -= 1;

@@ -1,7 +1,7 @@
 //! What standard error says, beside the report, of files that weren't written and of drivers that don't speak the
 //! protocol.
 use byte_path::quote_path;
-use edge_adapters::{Driver, WriteErrors};
+use edge_adapters::{Driver, ErrorCount, WriteErrors};
 use std::alloc::{AllocError, Global};
 use std::io;
 
@@ -14,30 +14,49 @@ fn words_of(alloc: Global, error: &io::Error) -> Result<String, AllocError> {
     }
 }
 
-/// A number of paths, and what is said of them.
-fn show_paths(rt: HostRuntime, paths: u64, words: &str) {
-    let unit = if paths == 1 { "path" } else { "paths" };
-    let _ = eprintln!(rt; "{paths} {unit}: {words}");
+/// What a count of paths is of.
+fn unit(paths: u64) -> &'static str {
+    if paths == 1 { "path" } else { "paths" }
 }
 
-/// Says why files weren't written: each error once, with the number of its paths.
-pub fn show_errors(rt: HostRuntime, errors: &WriteErrors) {
-    for count in errors.counts() {
-        if let Ok(words) = words_of(rt.alloc(), &count.error) {
-            show_paths(rt, count.paths, words.as_str());
+fn shown(alloc: Global, path: &[u8]) -> Result<String, AllocError> {
+    match String::from_utf8(quote_path(alloc, path)?) {
+        Ok(text) => Ok(text),
+        Err(_) => Ok(String::new(alloc)),
+    }
+}
+
+/// Says of an error how many paths had it, and which was the first.
+fn show_error(rt: HostRuntime, count: &ErrorCount) -> Result<(), AllocError> {
+    let words = words_of(rt.alloc(), &count.error)?;
+    let (paths, unit) = (count.paths, unit(count.paths));
+    match &count.first {
+        Some(first) => {
+            let first = shown(rt.alloc(), first.as_slice())?;
+            let _ = eprintln!(rt; "{paths} {unit}: {words} (the first: {first})");
+        }
+        None => {
+            let _ = eprintln!(rt; "{paths} {unit}: {words}");
         }
     }
-    if errors.others() > 0 {
-        show_paths(rt, errors.others(), "other errors");
+    Ok(())
+}
+
+/// Says why files weren't written: each error once, with the number of its paths and the first of them.
+pub fn show_errors(rt: HostRuntime, errors: &WriteErrors) {
+    for count in errors.counts() {
+        let _ = show_error(rt, count);
+    }
+    let others = errors.others();
+    if others > 0 {
+        let unit = unit(others);
+        let _ = eprintln!(rt; "{others} {unit}: other errors");
     }
 }
 
 /// Bytes in double quotes, escaped as in the report.
 fn in_quotes(alloc: Global, bytes: &[u8]) -> Result<String, AllocError> {
-    let text = match String::from_utf8(quote_path(alloc, bytes)?) {
-        Ok(text) => text,
-        Err(_) => String::new(alloc),
-    };
+    let text = shown(alloc, bytes)?;
     if text.as_str().starts_with('"') {
         return Ok(text);
     }

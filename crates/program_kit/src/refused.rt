@@ -1,8 +1,8 @@
 //! The path of the entry for which an index is refused.
 use byte_path::quote_path;
-use edge_adapters::FolderRepo;
 use edge_kit::Repo;
 use git_index::{IndexFault, read_index};
+use std::alloc::Global;
 
 /// How many bytes an index may have.
 const MOST: u64 = 67_108_864;
@@ -48,8 +48,7 @@ fn path_at(index: &[u8], number: u32) -> Option<&[u8]> {
 }
 
 /// The path of the entry for which the repository's index is refused, quoted as in the report.
-pub fn refused_path(rt: HostRuntime, repo: &mut FolderRepo) -> Option<String> {
-    let alloc = rt.alloc();
+pub fn refused_path<R: Repo>(alloc: Global, repo: &mut R) -> Option<String> {
     let bytes = repo.index_bytes(MOST).ok()??;
     let fault = read_index(alloc, &bytes).err()?;
     let path = path_at(bytes.as_slice(), number_of(fault)?)?;

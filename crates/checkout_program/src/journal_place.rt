@@ -1,12 +1,7 @@
 //! The file for the journal of a checkout, if the environment names one.
-use anyhow::Result;
-use checkout_core::Event;
-use edge_adapters::FolderRepo;
-use journal_run::checkout_journal;
 use std::alloc::AllocError;
 use std::env::{VarError, var};
-use std::fs::{OpenOptions, symlink_metadata};
-use std::io::Write;
+use std::fs::symlink_metadata;
 
 /// Where the journal of a checkout goes.
 #[derive(Drop)]
@@ -46,36 +41,5 @@ pub fn journal_place(rt: HostRuntime, words: &[String]) -> Result<JournalPlace, 
             Ok(JournalPlace::Unusable)
         }
         Err(VarError::OutOfMemory) => Err(AllocError),
-    }
-}
-
-/// Writes the journal of a checkout into a new file.
-fn write_new(
-    rt: HostRuntime,
-    path: &str,
-    words: &[String],
-    repo: &mut FolderRepo,
-    history: &[Event],
-) -> Result<()> {
-    let journal = checkout_journal(rt.alloc(), words, repo, history)?;
-    let mut file = OpenOptions::new()
-        .write(true)
-        .create_new(true)
-        .open(&rt, path)?;
-    file.write_all(&journal)?;
-    Ok(())
-}
-
-/// Writes the journal of a checkout by these words, which left this history, into a new file. If it can't be written,
-/// standard error says why.
-pub fn write_journal(
-    rt: HostRuntime,
-    path: &str,
-    words: &[String],
-    repo: &mut FolderRepo,
-    history: &[Event],
-) {
-    if let Err(error) = write_new(rt, path, words, repo, history) {
-        let _ = eprintln!(rt; "SIUWBREN_JOURNAL: {error}");
     }
 }

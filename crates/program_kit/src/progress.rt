@@ -1,5 +1,4 @@
 //! How many paths of a checkout are closed, on standard error while it runs.
-use edge_adapters::{FileLeaf, FolderTree};
 use edge_kit::{Failed, Gate, Point, Worktree};
 use std::alloc::AllocError;
 use std::io::IsTerminal;
@@ -8,31 +7,31 @@ use std::time::Instant;
 
 /// A worktree that counts the leaves that it gave: there is one for each path that is to be written.
 #[derive(Drop)]
-pub struct CountingTree<'a> {
-    pub tree: FolderTree,
+pub struct CountingTree<'a, T: Worktree + Drop> {
+    pub tree: T,
     pub leaves: &'a AtomicU32,
 }
 
-impl Worktree for CountingTree<'_> {
-    type Leaf = FileLeaf;
+impl<T: Worktree + Drop> Worktree for CountingTree<'_, T> {
+    type Leaf = T::Leaf;
 
-    ghost seen = { λ t. ⟦<FolderTree as Worktree>⟧.seen t.tree };
+    ghost seen = { λ t. T.seen t.tree };
 
-    ghost empty_files = { λ _ _. tt };
+    ghost empty_files = { λ t. T.empty_files t.tree };
 
-    ghost ordered_files = { λ _. tt };
+    ghost ordered_files = { λ t. T.ordered_files t.tree };
 
     fn is_empty(&mut self) -> Result<bool, Failed> {
         self.tree.is_empty()
     }
 
-    fn leaf(&mut self, path: &str) -> Result<FileLeaf, AllocError> {
+    fn leaf(&mut self, path: &str) -> Result<T::Leaf, AllocError> {
         let leaf = self.tree.leaf(path)?;
         self.leaves.fetch_add(1, Ordering::SeqCst);
         Ok(leaf)
     }
 
-    fn take_back(&mut self, leaf: FileLeaf) {
+    fn take_back(&mut self, leaf: T::Leaf) {
         self.tree.take_back(leaf)
     }
 }
@@ -50,9 +49,9 @@ pub struct Progress<'a> {
 }
 
 impl<'a> Progress<'a> {
-    /// A gate that shows something where standard error is a terminal.
-    pub fn new(rt: HostRuntime, total: &'a AtomicU32) -> Progress<'a> {
-        let begun = if rt.stderr().is_terminal() {
+    /// A gate that shows something, or doesn't.
+    pub fn new(rt: HostRuntime, total: &'a AtomicU32, is_shown: bool) -> Progress<'a> {
+        let begun = if is_shown {
             Instant::now(&rt).ok()
         } else {
             None
@@ -79,6 +78,11 @@ impl<'a> Progress<'a> {
             let _ = eprintln!(self.rt; "");
         }
     }
+}
+
+/// Whether standard error is a terminal.
+pub fn has_terminal(rt: HostRuntime) -> bool {
+    rt.stderr().is_terminal()
 }
 
 /// How many percent of the total this is.
