@@ -10,8 +10,6 @@ mod status;
 mod words;
 
 pub use checkout::{JournalFault, checkout_journal};
-pub use laws::{
-    a_file_has_one_finding, checkouts_are_legal, rehearsals_are_legal, runs_are_legal,
-};
+pub use laws::{a_file_has_one_finding, checkouts_are_legal, rehearsals_are_legal, runs_are_legal};
 pub use run::journal_run;
 pub use words::is_journal;
