@@ -1,6 +1,7 @@
 //! A child process `git cat-file --batch`, which gives one object after another (git-cat-file(1)).
-ghost use Rattle.std.specs.Prelude.{◌≡◌, ◌↔◌, ◌+◌, ◌++◌, ◌≤◌, ◌<◌, IfOk, IfSome, IsTrue, codes, length};
+ghost use Rattle.std.specs.Prelude.{◌≡◌, ◌↔◌, ◌+◌, ◌++◌, ◌≤◌, ◌<◌, IfOk, IfSome, IsTrue, None, Ok, Some, codes, length};
 ghost use Rattle.edge_kit.specs.Told.{Untold, Takes};
+ghost use Rattle.git_edge.specs.declared.cat_file.Head.TheVariants.{Missing};
 
 use crate::git::{Git, fault_of};
 use byte_path::read_decimal;
@@ -68,11 +69,34 @@ fn head_of<'a>(digits: &[u8], line: &'a [u8]) -> Option<Head<'a>> {
     })
 }
 
-/// How many bytes an object with this head and a content of this size has as it is stored.
-fn stored_len(head: &[u8], size: u64) -> Option<u64>
-    ensures { IfSome result (λ len. len ≡ length head.now + 1 + size) }
+/// An object as it is stored: the text before its NUL, and how many bytes it has in all.
+#[derive(Clone, Copy)]
+struct Stored<'a> {
+    head: &'a [u8],
+    len: u64,
+}
+
+/// The object with this head and a content of this size.
+fn stored_with(head: &[u8], size: u64) -> Option<Stored<'_>>
+    ensures { IfSome result (λ s. s.len ≡ length head.now + 1 + size) }
 {
-    size.checked_add(1)?.checked_add(head.len() as u64)
+    let len = size.checked_add(1)?.checked_add(head.len() as u64)?;
+    Some(Stored { head, len })
+}
+
+/// The object that an answer with this head has, or `None` if it isn't there.
+fn answered(head: Option<Head<'_>>, limit: u64) -> Result<Option<Stored<'_>>, TakeFault>
+    ensures missing { head.entry ≡ Some Missing → result ≡ Ok None }
+    ensures within { IfOk result (λ told. IfSome told (λ s. s.len ≤ limit)) }
+{
+    match head {
+        None => Err(TakeFault::Failed),
+        Some(Head::Missing) => Ok(None),
+        Some(Head::There { text, size }) => match stored_with(text, size) {
+            Some(stored) if stored.len <= limit => Ok(Some(stored)),
+            _ => Err(TakeFault::TooLong),
+        },
+    }
 }
 
 /// Reads until there is a whole line, and returns how many bytes were read and where the line ends.
@@ -155,29 +179,23 @@ impl CatFile {
         };
         let (read, _) = first.split_at(had);
         let (line, rest) = read.split_at(end);
-        match head_of(digits, line) {
-            None => Err(TakeFault::Failed),
-            Some(Head::Missing) => Ok(None),
-            Some(Head::There { text, size }) => {
-                let (_, begun) = rest.split_at(1);
-                match stored_len(text, size) {
-                    Some(len) if len <= limit => Ok(Some(self.take_rest(alloc, text, begun, len)?)),
-                    _ => Err(TakeFault::TooLong),
-                }
-            }
-        }
+        let Some(stored) = answered(head_of(digits, line), limit)? else {
+            return Ok(None);
+        };
+        let (_, begun) = rest.split_at(1);
+        Ok(Some(self.take_rest(alloc, stored, begun)?))
     }
 
-    /// The object of this length with this head, whose content has begun.
+    /// The object whose content has begun.
     fn take_rest(
         &mut self,
         alloc: Global,
-        head: &[u8],
+        object: Stored<'_>,
         begun: &[u8],
-        len: u64,
     ) -> Result<Vec<u8>, TakeFault>
-        ensures { IfOk result (λ stored. length stored.items ≡ len) }
+        ensures { IfOk result (λ stored. length stored.items ≡ object.entry.len) }
     {
+        let Stored { head, len } = object;
         // the line end behind the content, and one byte so that the end is seen without growing
         let room = len.saturating_add(2);
         let mut stored = Vec::with_capacity(alloc, room as usize)?;

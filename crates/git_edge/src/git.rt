@@ -42,6 +42,20 @@ const VARIABLES: [(&str, &str); 4] = [
     ("GIT_OPTIONAL_LOCKS", "0"),
 ];
 
+/// The settings by which git writes a whole index, asks no watcher of files, and leaves it to others which paths are bad.
+const WHOLE: [&str; 10] = [
+    "-c",
+    "core.splitIndex=false",
+    "-c",
+    "index.sparse=false",
+    "-c",
+    "core.fsmonitor=false",
+    "-c",
+    "core.protectNTFS=false",
+    "-c",
+    "core.protectHFS=false",
+];
+
 fn add_words(command: &mut Command, words: &[&str]) -> Result<(), AllocError> {
     for word in words {
         command.arg(*word)?;
@@ -104,8 +118,14 @@ impl Git {
 
     /// What starts git with these words.
     pub fn command(&self, words: &[&str]) -> Result<Command, AllocError> {
+        self.command_with(&[], words)
+    }
+
+    /// What starts git with these settings and words.
+    fn command_with(&self, settings: &[&str], words: &[&str]) -> Result<Command, AllocError> {
         let mut command = Command::new(self.alloc, self.program.as_str())?;
         self.add_repository(&mut command)?;
+        add_words(&mut command, settings)?;
         add_words(&mut command, words)?;
         add_variables(&mut command)?;
         Ok(command)
@@ -125,10 +145,10 @@ impl Git {
         })
     }
 
-    /// Runs git with these words over another index, and returns whether it ended well. What it writes on standard error
-    /// is seen.
+    /// Runs git with these words over another index, which it writes whole, and returns whether it ended well. What it
+    /// writes on standard error is seen.
     pub fn run_over(&self, index: &str, words: &[&str]) -> io::Result<bool> {
-        let mut command = self.command(words)?;
+        let mut command = self.command_with(WHOLE.as_slice(), words)?;
         command.env("GIT_INDEX_FILE", index)?;
         command.stdin(Stdio::null());
         command.stdout(Stdio::null());

@@ -10,12 +10,12 @@ use crate::finding::{Found, find, list, tree_of};
 use crate::git::Git;
 use crate::git_blob::GitBlob;
 use crate::index_file::{index_of_tree, own_index};
-use crate::kinds::Keeps;
 use crate::lender::lender_of;
 use crate::listing::Listing;
 use crate::notes::{notes_of, place_of};
 use edge_adapters::{DriverPlace, read_whole};
 use edge_kit::{Repo, TakeFault};
+use git_tree::Keeps;
 use std::alloc::{AllocError, Global};
 use std::sync::Arc;
 

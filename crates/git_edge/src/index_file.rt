@@ -11,9 +11,6 @@ use std::{fs, io};
 /// How many bytes the hash at an index's end has.
 const HASH: usize = 20;
 
-/// What makes git write a whole index.
-const WHOLE: [&str; 4] = ["-c", "core.splitIndex=false", "-c", "index.sparse=false"];
-
 /// Whether these bytes can be those of an extension behind its signature: its length, so many bytes, and then at least the
 /// index's hash (gitformat-index(5)).
 fn is_extension(bytes: &[u8]) -> bool {
@@ -74,24 +71,11 @@ fn limited(written: io::Result<Option<Vec<u8>>>, limit: u64) -> Result<Option<Ve
     }
 }
 
-/// An index of this tree. Which paths are bad isn't for git to say.
+/// An index of this tree.
 pub fn index_of_tree(git: &Git, tree: &str, limit: u64) -> Result<Option<Vec<u8>>, TakeFault>
     ensures { Takes Untold limit result }
 {
-    let [a, b, c, d] = WHOLE;
-    let words = [
-        a,
-        b,
-        c,
-        d,
-        "-c",
-        "core.protectNTFS=false",
-        "-c",
-        "core.protectHFS=false",
-        "read-tree",
-        tree,
-    ];
-    limited(written(git, None, words.as_slice()), limit)
+    limited(written(git, None, &["read-tree", tree]), limit)
 }
 
 /// The index at this path, which git makes whole if it is split or has folders among its entries. One that is broken stays
@@ -105,8 +89,7 @@ pub fn own_index(git: &Git, path: &str, limit: u64) -> Result<Option<Vec<u8>>, T
     if !may_be_partial(bytes.as_slice()) {
         return Ok(Some(bytes));
     }
-    let [a, b, c, d] = WHOLE;
-    let words = [a, b, c, d, "update-index", "--no-split-index"];
+    let words = ["update-index", "--no-split-index"];
     match written(git, Some(bytes.as_slice()), words.as_slice()) {
         Ok(None) => Ok(Some(bytes)),
         whole => limited(whole, limit),

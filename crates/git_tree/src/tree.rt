@@ -2,8 +2,8 @@ ghost use Rattle.std.specs.Prelude.{◌≡◌, ◌+◌, ◌≤◌, IfOk, None, s
 ghost use Rattle.edge_kit.specs.declared.leaf_state.LeafState.TheVariants.{Fresh};
 ghost use Rattle.edge_adapters.specs.Paths.{path_in};
 
-use crate::git_leaf::GitLeaf;
 use crate::kinds::Keeps;
+use crate::leaf::GitLeaf;
 use byte_path::Bytes;
 use edge_adapters::{WriteErrors, holds_nothing, path_in};
 use edge_kit::{Failed, LeafState, Worktree};

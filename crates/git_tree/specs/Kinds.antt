@@ -2,10 +2,10 @@
 use Rattle.std.specs.Prelude.{◌≡◌, ℕ, if◌then◌else◌}
 use Rattle.edge_kit.specs.declared.leaf_state.Mark.{Mark}
 use Rattle.edge_kit.specs.declared.leaf_state.Mark.TheVariants as mark
-use Rattle.git_edge.specs.declared.kinds.Keeps.{Keeps}
-use Rattle.git_edge.specs.declared.kinds.Kind.{Kind}
-use Rattle.git_edge.specs.declared.kinds.Kind.TheVariants as kind
-use Rattle.git_edge.specs.declared.git_leaf.GitLeaf.{GitLeaf}
+use Rattle.git_tree.specs.declared.kinds.Keeps.{Keeps}
+use Rattle.git_tree.specs.declared.kinds.Kind.{Kind}
+use Rattle.git_tree.specs.declared.kinds.Kind.TheVariants as kind
+use Rattle.git_tree.specs.declared.leaf.GitLeaf.{GitLeaf}
 
 abbrev pub kind_of : Keeps → Mark → Kind
 kind_of keeps mark.Plain = kind.File
