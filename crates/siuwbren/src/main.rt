@@ -10,12 +10,12 @@ mod checkout;
 mod ends;
 mod engine_words;
 mod plan;
-mod rehearsal;
+mod rehearsing;
 
 use crate::checkout::check_out;
 use crate::ends::{end_with, give, refuse_words};
 use crate::plan::show_plan;
-use crate::rehearsal::rehearse;
+use crate::rehearsing::rehearse;
 use program_kit::words_of;
 use siuwbren_words::{Command, WordFault, read_words};
 use std::alloc::AllocError;
