@@ -4,7 +4,7 @@
 mod checkout;
 mod finding;
 mod laws;
-mod rehearsal;
+mod rehearsing;
 mod run;
 mod status;
 mod words;

@@ -10,7 +10,7 @@ ghost use Rattle.journal_run.specs.Words.{asked};
 ghost use Rattle.journal_run.specs.Ends.{Ends, EndsForm, IsAnswered, IsAnsweredBy, IsCutOff, IsUnread, Writes};
 
 use crate::finding::{FindFault, find, finding_line, status_of};
-use crate::rehearsal::rehearsal_journal;
+use crate::rehearsing::rehearsal_journal;
 use crate::status::{Status, number_of};
 use crate::words::{Form, form_of};
 use edge_kit::{Blob, Gate, SendFault, Sink};

@@ -1,6 +1,6 @@
 use Rattle.std.proofs.Common.{arith}
 use Rattle.journal_run.proofs.Starts.{printable}
-use Rattle.journal_run.proofs.rehearsal.rehearsal_journal.Goals as goal
+use Rattle.journal_run.proofs.rehearsing.rehearsal_journal.Goals as goal
 
 pub print_journal-requires : goal.print_journal-requires
 print_journal-requires g c =
