@@ -3,13 +3,17 @@ _siuwbren() {
   local current=${COMP_WORDS[COMP_CWORD]} before=${COMP_WORDS[COMP_CWORD - 1]} command=${COMP_WORDS[1]} words=
   COMPREPLY=()
   if [ "$COMP_CWORD" -eq 1 ]; then
-    words='checkout plan rehearse help --help --version'
+    words='checkout plan rehearse audit help --help --version'
   elif [ "$command" = help ]; then
-    [ "$COMP_CWORD" -ne 2 ] || words='checkout plan rehearse'
+    [ "$COMP_CWORD" -ne 2 ] || words='checkout plan rehearse audit'
   else
     case $before in
       --git-dir)
         mapfile -t COMPREPLY < <(compgen -d -- "$current")
+        return
+        ;;
+      --journal)
+        mapfile -t COMPREPLY < <(compgen -f -- "$current")
         return
         ;;
       --commit) words=$(git for-each-ref --format='%(refname:short)' 2>/dev/null) ;;
@@ -20,12 +24,16 @@ _siuwbren() {
         ;;
       *)
         case $command in
-          checkout) words='--git-dir --commit --workers --report -z --progress --no-progress -q --quiet --help' ;;
+          checkout) words='--git-dir --commit --workers --report -z --journal --progress --no-progress -q --quiet --help' ;;
           plan) words='--git-dir --report -z --help' ;;
-          rehearse) words='--help' ;;
+          rehearse | audit) words='--help' ;;
         esac
         if [ "$command" = checkout ] && [[ $current != -* ]]; then
           mapfile -t COMPREPLY < <(compgen -d -- "$current")
+          return
+        fi
+        if [ "$command" = audit ] && [[ $current != -* ]]; then
+          mapfile -t COMPREPLY < <(compgen -f -- "$current")
           return
         fi
         ;;

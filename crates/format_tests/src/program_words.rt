@@ -33,15 +33,19 @@ fn read(alloc: Global, words: &[String]) -> Result<String, Fail> {
 
 /// What comes of words, and the words.
 const WORDS: &str = "\
-    Checkout(Checkout { git_dir: None, commit: None, workers: None, form: Text, progress: OnTerminal, quiet: false, tree: \"T\" })|checkout|T%\
-    Checkout(Checkout { git_dir: Some(\"G\"), commit: Some(\"v1\"), workers: Some(16), form: Json, progress: Shown, quiet: true, tree: \"T\" })|checkout|--git-dir|G|--commit=v1|--workers|16|-q|--report=json|--progress|T%\
-    Checkout(Checkout { git_dir: None, commit: None, workers: Some(1), form: Nul, progress: Hidden, quiet: false, tree: \"-T\" })|checkout|-z|--no-progress|--workers=1|--|-T%\
-    Checkout(Checkout { git_dir: None, commit: None, workers: None, form: Failures, progress: Hidden, quiet: true, tree: \"T\" })|checkout|T|--report|none|--quiet%\
-    Checkout(Checkout { git_dir: None, commit: None, workers: None, form: Nul, progress: Hidden, quiet: true, tree: \"T\" })|checkout|-qz|--report|text|T%\
+    Checkout(Checkout { git_dir: None, commit: None, workers: None, form: Text, progress: OnTerminal, quiet: false, journal: None, tree: \"T\" })|checkout|T%\
+    Checkout(Checkout { git_dir: Some(\"G\"), commit: Some(\"v1\"), workers: Some(16), form: Json, progress: Shown, quiet: true, journal: None, tree: \"T\" })|checkout|--git-dir|G|--commit=v1|--workers|16|-q|--report=json|--progress|T%\
+    Checkout(Checkout { git_dir: None, commit: None, workers: Some(1), form: Nul, progress: Hidden, quiet: false, journal: None, tree: \"-T\" })|checkout|-z|--no-progress|--workers=1|--|-T%\
+    Checkout(Checkout { git_dir: None, commit: None, workers: None, form: Failures, progress: Hidden, quiet: true, journal: None, tree: \"T\" })|checkout|T|--report|none|--quiet%\
+    Checkout(Checkout { git_dir: None, commit: None, workers: None, form: Nul, progress: Hidden, quiet: true, journal: None, tree: \"T\" })|checkout|-qz|--report|text|T%\
+    Checkout(Checkout { git_dir: None, commit: None, workers: None, form: Text, progress: OnTerminal, quiet: false, journal: Some(\"run\"), tree: \"T\" })|checkout|--journal|run|T%\
+    Checkout(Checkout { git_dir: None, commit: Some(\"run\"), workers: None, form: Json, progress: OnTerminal, quiet: false, journal: Some(\"-\"), tree: \"T\" })|checkout|T|--journal=-|--commit|run|--report|json%\
     Plan(Plan { git_dir: None, form: Text })|plan%\
     Plan(Plan { git_dir: Some(\"\"), form: Json })|plan|--git-dir=|--report|json%\
     Plan(Plan { git_dir: None, form: Nul })|plan|-z%\
     Rehearse { seed: 18446744073709551615, paths: 99999 }|rehearse|18446744073709551615|99999%\
+    Audit { file: \"run\" }|audit|run%\
+    Audit { file: \"-run\" }|audit|--|-run%\
     wish: siuwbren 0.1.0|--version%\
     wish: siuwbren 0.1.0|-V%\
     wish: Checks out a Git repository into an empty folder|--help%\
@@ -50,12 +54,15 @@ const WORDS: &str = "\
     wish: Write the files of the index, or of a commit, into a folder|checkout|--workers|2|-h%\
     wish: Show what a checkout of the index would do|help|plan%\
     wish: Check out a made-up repository in memory|rehearse|--help%\
+    wish: Say whether the rules of a checkout allow a journal|help|audit%\
     wrong: error: invalid value '17' for '--workers': 1 to 16|checkout|--workers|17|T%\
     wrong: error: invalid value '0' for '--workers': 1 to 16|checkout|--workers=0|T%\
     wrong: error: invalid value '01' for '--workers': 1 to 16|checkout|--workers=01|T%\
     wrong: error: invalid value '' for '--workers': 1 to 16|checkout|--workers=|T%\
     wrong: error: a value is required for '--workers <N>' but none was supplied|checkout|T|--workers%\
     wrong: error: the argument '--workers <N>' cannot be used multiple times|checkout|--workers|2|--workers|3|T%\
+    wrong: error: a value is required for '--journal <FILE>' but none was supplied|checkout|T|--journal%\
+    wrong: error: the argument '--journal <FILE>' cannot be used multiple times|checkout|--journal|a|--journal|b|T%\
     wrong: error: invalid value 'xml' for '--report': text, json or none|checkout|--report|xml|T%\
     wrong: error: invalid value 'none' for '--report': text or json|plan|--report|none%\
     wrong: error: the argument '-z' cannot be used with '--report json'|checkout|-z|--report|json|T%\
@@ -66,10 +73,13 @@ const WORDS: &str = "\
     wrong: error: invalid value '18446744073709551616' for 'SEED': 0 to 18446744073709551615|rehearse|18446744073709551616|8%\
     wrong: error: invalid value '100000' for 'PATHS': 0 to 99999|rehearse|0|100000%\
     wrong: error: unexpected argument '--commit' found|plan|--commit|v1%\
+    wrong: error: unexpected argument '--journal' found|plan|--journal|run%\
+    wrong: error: unexpected argument 'U' found|audit|run|U%\
     wrong: error: unexpected argument 'U' found|checkout|T|U%\
     wrong: error: unexpected argument 'x' found|plan|x%\
     wrong: error: the following required arguments were not provided:|checkout%\
     wrong: error: the following required arguments were not provided:|rehearse|0%\
+    wrong: error: the following required arguments were not provided:|audit%\
     wrong: error: unrecognized subcommand 'Checkout'|Checkout|T%\
     wrong: error: unexpected argument '--workers' found|--workers|2|checkout|T%\
     wrong: error: unrecognized subcommand ''|";

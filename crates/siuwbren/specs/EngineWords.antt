@@ -15,6 +15,10 @@ checkout_words git_dir tree workers = git_dir ∷ tree ∷ codes "checkout" ∷ 
 abbrev pub rehearse_words : ℕ → ℕ → List (List ℕ)
 rehearse_words seed paths = [] ∷ [] ∷ codes "rehearse" ∷ decimal seed ∷ decimal paths ∷ []
 
+-- the file, no folder, and `audit`
+abbrev pub audit_words : List ℕ → List (List ℕ)
+audit_words file = file ∷ [] ∷ codes "audit" ∷ []
+
 -- 1 to 16, or none
 abbrev pub IsWorkers : Option ℕ → Type 0
 IsWorkers None = Unit {0}

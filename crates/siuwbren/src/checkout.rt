@@ -2,6 +2,8 @@
 use crate::channel::{Channel, sink_of};
 use crate::ends::{end_with, refuse_repository, show_notes};
 use crate::engine_words::checkout_words;
+use crate::journal::{give_journal, is_in_use};
+use checkout_core::Event;
 use checkout_engine::run;
 use edge_adapters::{OutputSink, ProcessSpawner};
 use git_edge::GitRepo;
@@ -23,7 +25,16 @@ fn is_shown(rt: HostRuntime, wanted: Wanted) -> bool {
     }
 }
 
-/// Writes the worktree and its report, and returns the engine's status.
+/// What is left of a checkout.
+#[derive(Drop)]
+struct Left {
+    status: u8,
+    /// The words that the engine got, and the events of its run.
+    words: Vec<String>,
+    history: Vec<Event>,
+}
+
+/// Writes the worktree and its report, and returns the engine's status and the events of its run.
 fn write_tree<H: Threads + Wait + Sync>(
     rt: HostRuntime,
     threads: &H,
@@ -33,9 +44,9 @@ fn write_tree<H: Threads + Wait + Sync>(
     spawner: &mut ProcessSpawner,
     progress: &Progress<'_>,
     out: &mut FormSink<OutputSink<Channel>>,
-) -> u8 {
+) -> (u8, Vec<Event>) {
     let mut history = Vec::new(rt.alloc());
-    run(
+    let status = run(
         threads,
         rt.alloc(),
         words,
@@ -45,7 +56,8 @@ fn write_tree<H: Threads + Wait + Sync>(
         progress,
         out,
         &mut history,
-    )
+    );
+    (status, history)
 }
 
 /// Says what else is to be said of a status and of a repository.
@@ -67,7 +79,7 @@ fn check_out_of<H: Threads + Wait + Sync>(
     threads: &H,
     asked: &Checkout<'_>,
     repo: &mut GitRepo,
-) -> Result<u8, AllocError> {
+) -> Result<Left, AllocError> {
     let words = checkout_words(rt.alloc(), repo.git_dir(), asked.tree, asked.workers)?;
     let folder = String::from_str(rt.alloc(), asked.tree)?;
     let mut spawner = ProcessSpawner::in_place(rt, repo.driver_place()?)?;
@@ -78,7 +90,7 @@ fn check_out_of<H: Threads + Wait + Sync>(
         leaves: &leaves,
     };
     let mut out = sink_of(rt, asked.form);
-    let status = write_tree(
+    let (status, history) = write_tree(
         rt,
         threads,
         words.as_slice(),
@@ -91,23 +103,49 @@ fn check_out_of<H: Threads + Wait + Sync>(
     progress.end();
     show_errors(rt, tree.tree.errors());
     show_drivers(rt, spawner.drivers());
-    Ok(status)
+    Ok(Left {
+        status,
+        words,
+        history,
+    })
 }
 
-/// Checks out a repository into an empty folder. No process of git is left running.
+/// Writes the journal of a checkout that reached its report, if it is wanted.
+fn keep_journal(rt: HostRuntime, asked: &Checkout<'_>, repo: &mut GitRepo, left: &Left) {
+    if let Some(path) = asked.journal {
+        if left.status < 2 || !left.history.is_empty() {
+            give_journal(
+                rt,
+                path,
+                left.words.as_slice(),
+                repo,
+                left.history.as_slice(),
+            );
+        }
+    }
+}
+
+/// Checks out a repository into an empty folder, unless something is where its journal is to be. No process of git is left
+/// running.
 pub fn check_out<H: Threads + Wait + Sync>(
     rt: HostRuntime,
     threads: &H,
     asked: &Checkout<'_>,
 ) -> Result<u8, AllocError> {
+    if let Some(path) = asked.journal {
+        if is_in_use(rt, path) {
+            return Ok(2);
+        }
+    }
     let mut repo = match GitRepo::open(rt, asked.git_dir, asked.commit) {
         Ok(repo) => repo,
         Err(fault) => return Ok(refuse_repository(rt, &fault)),
     };
-    let status = check_out_of(rt, threads, asked, &mut repo);
-    if let Ok(status) = &status {
-        explain(rt, *status, asked.quiet, &mut repo);
+    let left = check_out_of(rt, threads, asked, &mut repo);
+    if let Ok(left) = &left {
+        explain(rt, left.status, asked.quiet, &mut repo);
+        keep_journal(rt, asked, &mut repo, left);
     }
     repo.end();
-    status
+    Ok(left?.status)
 }

@@ -1,4 +1,5 @@
-//! Checks out a Git repository into an empty folder, straight from its git folder, or shows the plan of that.
+//! Checks out a Git repository into an empty folder, straight from its git folder, or shows the plan of that. It also judges
+//! the journals of checkouts.
 //!
 //! Git itself is asked for the repository's index, settings and objects. Standard output has the report, in the form that
 //! the words ask for. Standard error says what is wrong with words or with the repository, why files weren't written, what
@@ -9,11 +10,13 @@ mod channel;
 mod checkout;
 mod ends;
 mod engine_words;
+mod journal;
 mod plan;
 mod rehearsing;
 
 use crate::checkout::check_out;
 use crate::ends::{end_with, give, refuse_words};
+use crate::journal::audit;
 use crate::plan::show_plan;
 use crate::rehearsing::rehearse;
 use program_kit::words_of;
@@ -34,6 +37,7 @@ fn obey<H: Threads + Wait + Sync>(
         Command::Checkout(asked) => check_out(rt, threads, asked),
         Command::Plan(asked) => show_plan(rt, asked),
         Command::Rehearse { seed, paths } => rehearse(rt, threads, *seed, *paths),
+        Command::Audit { file } => audit(rt, threads, *file),
     }
 }
 

@@ -21,6 +21,7 @@ pub record AskedCheckout : Type 0 where
   pub form : Form
   pub progress : Progress
   pub quiet : Bool
+  pub journal : Option Text
   pub tree : Text
 
 pub record AskedPlan : Type 0 where
@@ -32,6 +33,7 @@ pub data Asked : Type 0 where
   checkout : AskedCheckout → Asked
   plan : AskedPlan → Asked
   rehearse : ℕ → ℕ → Asked
+  audit : Text → Asked
 
 abbrev pub shown_checkout : Checkout → AskedCheckout
 shown_checkout c = record {
@@ -41,6 +43,7 @@ shown_checkout c = record {
   form = c.form;
   progress = c.progress;
   quiet = c.quiet;
+  journal = option_map (λ t. t.now) c.journal;
   tree = c.tree.now;
 }
 
@@ -51,6 +54,7 @@ abbrev pub shown : Command → Asked
 shown (command.Checkout c) = checkout (shown_checkout c)
 shown (command.Plan p) = plan (shown_plan p)
 shown (command.Rehearse seed paths) = rehearse seed paths
+shown (command.Audit file) = audit file.now
 
 -- the value of an option or of a place, and whether a flag is given
 abbrev pub has_flag : List Row → Text → Bool
@@ -69,6 +73,7 @@ checkout_by rows =
       form = form;
       progress = progress;
       quiet = quiet;
+      journal = first_of (codes "journal") rows;
       tree = tree;
     }) (first_of (codes "tree") rows))
     (progress_of (has_flag rows (codes "progress")) (has_flag rows (codes "no-progress")) quiet))
@@ -88,11 +93,15 @@ rehearse_by rows =
     (option_and_then (λ text. decimal_within text 99999) (first_of (codes "paths") rows)))
     (option_and_then (λ text. decimal_within text (2 ^ 64 - 1)) (first_of (codes "seed") rows))
 
+abbrev pub audit_by : List Row → Option Asked
+audit_by rows = option_map audit (first_of (codes "file") rows)
+
 abbrev pub asked_by : Text → List Row → Option Asked
 asked_by name rows =
     if bytes_eq name (codes "checkout") then option_map checkout (checkout_by rows)
     else if bytes_eq name (codes "plan") then option_map plan (plan_by rows)
     else if bytes_eq name (codes "rehearse") then rehearse_by rows
+    else if bytes_eq name (codes "audit") then audit_by rows
     else None
 
 -- the command of a subcommand's name and its arguments

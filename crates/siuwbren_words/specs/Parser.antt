@@ -30,17 +30,21 @@ checkout_source =
     with_rule (with_rule (with_rule (new_app (codes "checkout"))
     (option_rule (codes "git-dir"))) (option_rule (codes "commit"))) (option_rule (codes "workers"))
 
--- .. [--report FORM] [-z] [--progress] ..
+-- .. [--report FORM] [-z] [--journal FILE] ..
 abbrev pub checkout_report : App
 checkout_report =
     with_rule (with_rule (with_rule checkout_source
-    (option_rule (codes "report"))) (letter_rule (codes "nul") 122)) (flag_rule (codes "progress"))
+    (option_rule (codes "report"))) (letter_rule (codes "nul") 122)) (option_rule (codes "journal"))
 
--- .. [--no-progress] [-q] TREE
-abbrev pub checkout_app : App
-checkout_app =
+-- .. [--progress] [--no-progress] [-q] ..
+abbrev pub checkout_progress : App
+checkout_progress =
     with_rule (with_rule (with_rule checkout_report
-    (flag_rule (codes "no-progress"))) quiet_rule) (place_rule (codes "tree"))
+    (flag_rule (codes "progress"))) (flag_rule (codes "no-progress"))) quiet_rule
+
+-- .. TREE
+abbrev pub checkout_app : App
+checkout_app = with_rule checkout_progress (place_rule (codes "tree"))
 
 -- plan [--git-dir DIR] [--report FORM] [-z]
 abbrev pub plan_app : App
@@ -52,7 +56,11 @@ plan_app =
 abbrev pub rehearse_app : App
 rehearse_app = with_rule (with_rule (new_app (codes "rehearse")) (place_rule (codes "seed"))) (place_rule (codes "paths"))
 
--- the program: it has a version, and needs one of the three commands
+-- audit FILE
+abbrev pub audit_app : App
+audit_app = with_rule (new_app (codes "audit")) (place_rule (codes "file"))
+
+-- the program: it has a version, and needs one of the four commands
 abbrev pub siuwbren_shape : Shape
 siuwbren_shape = record (new_app (codes "siuwbren")).top {
   no_binary_name = true;
@@ -63,9 +71,12 @@ siuwbren_shape = record (new_app (codes "siuwbren")).top {
 abbrev pub top_app : App
 top_app = record { top = siuwbren_shape; subs = [] }
 
+-- with the commands that read a repository
+abbrev pub repository_app : App
+repository_app = with_subcommand (with_subcommand top_app checkout_app.top) plan_app.top
+
 abbrev pub siuwbren_app : App
-siuwbren_app =
-    with_subcommand (with_subcommand (with_subcommand top_app checkout_app.top) plan_app.top) rehearse_app.top
+siuwbren_app = with_subcommand (with_subcommand repository_app rehearse_app.top) audit_app.top
 
 -- what was found, unless some kind of refusal comes
 abbrev pub unless_refused : Kinds → Option (Text × List Row) → Option (Text × List Row)

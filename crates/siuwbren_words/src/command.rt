@@ -23,6 +23,8 @@ pub struct Checkout<'a> {
     pub progress: Progress,
     /// Whether only failures stand on standard error.
     pub quiet: bool,
+    /// The new file for the journal, if it is wanted.
+    pub journal: Option<&'a str>,
     pub tree: &'a str,
 }
 
@@ -42,4 +44,6 @@ pub enum Command<'a> {
     Plan(Plan<'a>),
     /// Check out a made-up repository of this many paths, up to 99,999.
     Rehearse { seed: u64, paths: u32 },
+    /// Judge the journal in this file.
+    Audit { file: &'a str },
 }

@@ -3,7 +3,7 @@ ghost use Rattle.std.specs.Prelude.{◌≡◌, option_map};
 ghost use Rattle.std.specs.Result.{result_ok};
 ghost use Rattle.clap.specs.Words.{found_of, rows_of};
 ghost use Rattle.siuwbren_words.specs.Asked.{shown_checkout, shown_plan, shown, checkout_by, plan_by};
-ghost use Rattle.siuwbren_words.specs.Asked.{rehearse_by, asked_by};
+ghost use Rattle.siuwbren_words.specs.Asked.{rehearse_by, audit_by, asked_by};
 
 use crate::command::{Checkout, Command, Plan};
 use crate::values::{
@@ -30,6 +30,7 @@ fn checkout_of<'a>(matches: &ArgMatches<'a>) -> Result<Checkout<'a>, Mistake<'a>
         form,
         progress,
         quiet,
+        journal: value_of(matches, "journal"),
         tree,
     })
 }
@@ -52,6 +53,13 @@ fn rehearsal_of<'a>(matches: &ArgMatches<'a>) -> Result<Command<'a>, Mistake<'a>
     Ok(Command::Rehearse { seed, paths })
 }
 
+fn audit_of<'a>(matches: &ArgMatches<'a>) -> Result<Command<'a>, Mistake<'a>>
+    ensures { option_map shown (result_ok result) ≡ audit_by (rows_of (found_of matches.now)) }
+{
+    let file = value_of(matches, "file").ok_or(Mistake::NoFile)?;
+    Ok(Command::Audit { file })
+}
+
 /// The command of that name with these arguments.
 pub fn command_of<'a>(name: &str, matches: &ArgMatches<'a>) -> Result<Command<'a>, Mistake<'a>>
     ensures { option_map shown (result_ok result) ≡ asked_by name.now (rows_of (found_of matches.now)) }
@@ -60,6 +68,7 @@ pub fn command_of<'a>(name: &str, matches: &ArgMatches<'a>) -> Result<Command<'a
         "checkout" => Ok(Command::Checkout(checkout_of(matches)?)),
         "plan" => Ok(Command::Plan(plan_of(matches)?)),
         "rehearse" => rehearsal_of(matches),
+        "audit" => audit_of(matches),
         _ => Err(Mistake::NoCommand),
     }
 }

@@ -3,16 +3,18 @@ ghost use Rattle.std.specs.Prelude.{◌≡◌, IfOk, false, codes};
 ghost use Rattle.clap.specs.Words.{app_of, rule_of};
 ghost use Rattle.clap.specs.declared.builder.command.Command.TheViews.{out-Command};
 ghost use Rattle.siuwbren_words.specs.Parser.{option_rule, flag_rule, letter_rule, place_rule};
-ghost use Rattle.siuwbren_words.specs.Parser.{checkout_app, plan_app, rehearse_app, siuwbren_app};
-ghost use Rattle.siuwbren_words.specs.Parser.{quiet_rule, checkout_source, checkout_report, top_app};
+ghost use Rattle.siuwbren_words.specs.Parser.{checkout_app, plan_app, rehearse_app, audit_app};
+ghost use Rattle.siuwbren_words.specs.Parser.{quiet_rule, checkout_source, checkout_report, checkout_progress};
+ghost use Rattle.siuwbren_words.specs.Parser.{top_app, repository_app, siuwbren_app};
 
 use clap::{Arg, ArgAction, Command};
 use std::alloc::{AllocError, Global};
 
 const CHECKOUT_END: &str = "\
-Example, in a repository, of its index and then of a release:
+Example, in a repository, of its index, of a release, and with a journal for siuwbren audit:
   siuwbren checkout /tmp/tree
   siuwbren checkout --commit v1.0 --workers 4 --report json /tmp/release
+  siuwbren checkout --journal /tmp/run /tmp/again
 
 Status: 0 if all is written, 1 if some path failed, 2 for wrong words, 3 if the repository is refused,
 4 if output failed, 5 out of memory, 6 for a read fault, 7 if TREE isn't empty. See siuwbren(1).";
@@ -24,6 +26,14 @@ Example:
 const REHEARSE_END: &str = "\
 Example, whose line is the same on each machine:
   siuwbren rehearse 0 2000";
+
+const AUDIT_END: &str = "\
+Example:
+  siuwbren checkout --journal /tmp/run /tmp/tree
+  siuwbren audit /tmp/run
+
+Status: 0 if each event is legal, 1 if one isn't, 3 if FILE is no journal, 4 if output failed, 5 out of
+memory, 6 for a read fault. See siuwbren(1).";
 
 /// An option with a value.
 fn option<'a>(alloc: Global, name: &'a str, value: &'a str, help: &'a str) -> Arg<'a>
@@ -123,29 +133,44 @@ fn checkout_report<'a>(alloc: Global) -> Result<Command<'a>, AllocError>
         "FORM",
         "text, json or none [default: text]",
     );
+    let journal = option(
+        alloc,
+        "journal",
+        "FILE",
+        "Write all that happened, in order, into a new file",
+    );
+    checkout_source(alloc)?
+        .arg(report)?
+        .arg(nul(alloc))?
+        .arg(journal)
+}
+
+/// And what else is said of it.
+fn checkout_progress<'a>(alloc: Global) -> Result<Command<'a>, AllocError>
+    ensures app { IfOk result (λ command. app_of command ≡ checkout_progress) }
+    ensures local { IfOk result (λ command. (out-Command command).has_globals ≡ false) }
+{
     let shown = flag(
         alloc,
         "progress",
         "Show progress, also where no terminal is",
     );
-    checkout_source(alloc)?
-        .arg(report)?
-        .arg(nul(alloc))?
-        .arg(shown)
+    let hidden = flag(alloc, "no-progress", "Show no progress");
+    checkout_report(alloc)?
+        .arg(shown)?
+        .arg(hidden)?
+        .arg(quiet(alloc))
 }
 
 fn checkout<'a>(alloc: Global) -> Result<Command<'a>, AllocError>
     ensures app { IfOk result (λ command. app_of command ≡ checkout_app) }
     ensures local { IfOk result (λ command. (out-Command command).has_globals ≡ false) }
 {
-    let hidden = flag(alloc, "no-progress", "Show no progress");
     let tree = place(alloc, "tree", "TREE", "The folder to fill: absent or empty");
-    checkout_report(alloc)?
+    checkout_progress(alloc)?
         .about("Write the files of the index, or of a commit, into a folder")
         .override_usage("siuwbren checkout [OPTIONS] TREE")
         .after_help(CHECKOUT_END)
-        .arg(hidden)?
-        .arg(quiet(alloc))?
         .arg(tree)
 }
 
@@ -177,6 +202,18 @@ fn rehearse<'a>(alloc: Global) -> Result<Command<'a>, AllocError>
         .arg(paths)
 }
 
+fn audit<'a>(alloc: Global) -> Result<Command<'a>, AllocError>
+    ensures app { IfOk result (λ command. app_of command ≡ audit_app) }
+    ensures local { IfOk result (λ command. (out-Command command).has_globals ≡ false) }
+{
+    let file = place(alloc, "file", "FILE", "A journal");
+    Command::new(alloc, "audit")
+        .about("Say whether the rules of a checkout allow a journal")
+        .override_usage("siuwbren audit FILE")
+        .after_help(AUDIT_END)
+        .arg(file)
+}
+
 /// The program without its commands. The words don't begin with its name.
 fn top<'a>(alloc: Global) -> Command<'a>
     ensures { app_of result ≡ top_app }
@@ -189,15 +226,22 @@ fn top<'a>(alloc: Global) -> Command<'a>
         .subcommand_required(true)
 }
 
+/// The program with the commands that read a repository.
+fn repository_commands<'a>(alloc: Global) -> Result<Command<'a>, AllocError>
+    ensures { IfOk result (λ command. app_of command ≡ repository_app) }
+{
+    let checkout = checkout(alloc)?;
+    let plan = plan(alloc)?;
+    top(alloc).subcommand(checkout)?.subcommand(plan)
+}
+
 /// The program's parser.
 pub fn siuwbren<'a>(alloc: Global) -> Result<Command<'a>, AllocError>
     ensures { IfOk result (λ command. app_of command ≡ siuwbren_app) }
 {
-    let checkout = checkout(alloc)?;
-    let plan = plan(alloc)?;
     let rehearse = rehearse(alloc)?;
-    top(alloc)
-        .subcommand(checkout)?
-        .subcommand(plan)?
-        .subcommand(rehearse)
+    let audit = audit(alloc)?;
+    repository_commands(alloc)?
+        .subcommand(rehearse)?
+        .subcommand(audit)
 }

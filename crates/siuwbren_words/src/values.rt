@@ -28,6 +28,7 @@ pub enum Mistake<'a> {
     NoTree,
     NoSeed,
     NoPaths,
+    NoFile,
     Seed(&'a str),
     Paths(&'a str),
 }
@@ -60,6 +61,7 @@ impl fmt::Display for Mistake<'_> {
             Mistake::NoTree => f.write_str("TREE is missing"),
             Mistake::NoSeed => f.write_str("SEED is missing"),
             Mistake::NoPaths => f.write_str("PATHS is missing"),
+            Mistake::NoFile => f.write_str("FILE is missing"),
             Mistake::Seed(value) => write!(
                 f,
                 "invalid value '{value}' for 'SEED': 0 to 18446744073709551615"
