@@ -1,0 +1,6 @@
+//! The numbers in the line of a rehearsal, tied to what the definitions of a checkout give.
+#![tactic(auto)]
+
+mod laws;
+
+pub use laws::contents_are_apart;
