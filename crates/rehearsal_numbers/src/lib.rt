@@ -3,4 +3,4 @@
 
 mod laws;
 
-pub use laws::contents_are_apart;
+pub use laws::{contents_are_apart, rehearsals_have_plans};
