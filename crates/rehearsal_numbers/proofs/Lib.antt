@@ -2,3 +2,4 @@ pub mod Apart
 pub mod Rows
 pub mod Asked
 pub mod Plans
+pub mod Read

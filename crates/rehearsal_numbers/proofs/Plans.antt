@@ -58,14 +58,14 @@ first_ones seed is p =
     ap (λ (es : List Entry). entry_of first ∷ es) (kept seed (codes ".gitattributes") is more.0 more.1)
 
 -- the paths as they are asked for
-abbrev asked : ℕ → List ℕ → List PathPlan
+abbrev pub asked : ℕ → List ℕ → List PathPlan
 asked seed is = attributes_path ∷ map (path_at 1 seed) is
 
 asked_all : (seed : ℕ) (is : List ℕ) → map (asked_path given settings) (entries_at seed is) ≡ map (path_at 1 seed) is
 asked_all seed [] = refl
 asked_all seed (i ∷ is) = λ j. asked_is seed i j ∷ asked_all seed is j
 
-asked_are : (seed : ℕ) (is : List ℕ) → pairwise is_alone (entries (files seed is)) ≡ true
+pub asked_are : (seed : ℕ) (is : List ℕ) → pairwise is_alone (entries (files seed is)) ≡ true
     → asked_paths given settings (entries (files seed is)) ≡ asked seed is
 asked_are seed is p =
     ap (map (asked_path given settings)) (first_ones seed is p) ∙ (λ j. first_is j ∷ asked_all seed is j)
@@ -108,12 +108,10 @@ drivers_are : (a b : Bool) → (if a then alpha ∷ (if b then beta ∷ [] else 
 drivers_are true b = refl
 drivers_are false b = refl
 
-plan_is : (seed : ℕ) (is : List ℕ) → IsPlanOf seed is (plan_with given (asked seed is) settings)
+pub plan_is : (seed : ℕ) (is : List ℕ) → IsPlanOf seed is (plan_with given (asked seed is) settings)
 plan_is seed is = record {
   paths = λ j. attributes_path ∷ among (asked seed is) (beta_number seed is) (beta_is seed is) seed is j;
   drivers = (λ j. if alpha_used seed is j then alpha ∷ (if beta_used seed is j then beta ∷ [] else []) else (if beta_used seed is j then beta ∷ [] else []))
       ∙ drivers_are (has_kind is_alpha seed is) (has_kind is_beta seed is);
 }
 
-pub have_plans : HavePlans
-have_plans = ?
