@@ -90,7 +90,7 @@ unfolding code
 code_small false n lt = omega (arith, lt)
 code_small true n lt = omega (arith, lt)
 
-few_lines : (seed i : ℕ) → line_count seed i < 50
+pub few_lines : (seed i : ℕ) → line_count seed i < 50
 few_lines seed i = omega arith
 
 same_key : (x y : List ℕ) → name_of x ≡ name_of y → key x ≡ key y

@@ -3,3 +3,4 @@ pub mod Rows
 pub mod Asked
 pub mod Plans
 pub mod Read
+pub mod Sizes

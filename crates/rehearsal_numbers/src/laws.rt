@@ -1,6 +1,7 @@
 //! What follows of a rehearsal's numbers.
 ghost use Rattle.rehearsal_numbers.specs.Contents.{ContentsAreApart};
 ghost use Rattle.rehearsal_numbers.specs.Plans.{HavePlans};
+ghost use Rattle.rehearsal_numbers.specs.Paths.{Todo};
 
 use git_index::one_reading;
 use rehearsal::{attributes_are_right, files_have_an_index};
@@ -18,3 +19,8 @@ pub fn rehearsals_have_plans()
     attributes_are_right();
     one_reading();
 }
+
+/// Todo.
+pub fn todo()
+    ensures { Todo }
+{}

@@ -3,4 +3,4 @@
 
 mod laws;
 
-pub use laws::{contents_are_apart, rehearsals_have_plans};
+pub use laws::{contents_are_apart, rehearsals_have_plans, todo};

@@ -1,0 +1,5 @@
+use Rattle.rehearsal_numbers.proofs.Sizes.{size_is}
+use Rattle.rehearsal_numbers.proofs.laws.todo.Goals as goal
+
+pub returns : goal.returns
+returns c = let x = size_is in tt

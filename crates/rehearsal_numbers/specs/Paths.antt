@@ -1,0 +1,3 @@
+use Rattle.std.specs.Prelude.{ℕ}
+abbrev pub Todo : Type 0
+Todo = Unit {0}
