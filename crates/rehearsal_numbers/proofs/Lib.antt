@@ -4,3 +4,6 @@ pub mod Asked
 pub mod Plans
 pub mod Read
 pub mod Sizes
+pub mod Replies
+pub mod Marked
+pub mod Beta

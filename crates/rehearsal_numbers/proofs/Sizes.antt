@@ -1,5 +1,5 @@
 -- How many bytes the content of each kind has once it is converted.
-use Rattle.std.proofs.Common.{◌≡◌, ℕ, zero, suc, ◌+◌, ◌*◌, ◌<◌, ◌/◌, ◌%◌, Bool, true, false, List, [], ◌∷◌, ◌++◌, length, length-append, append_assoc, refl, sym, ap, ◌∙◌, subst, arith}
+use Rattle.std.proofs.Common.{◌≡◌, ℕ, zero, suc, ◌+◌, ◌*◌, ◌<◌, ◌≤◌, ◌/◌, ◌%◌, Bool, true, false, List, [], ◌∷◌, ◌++◌, length, length-append, append_assoc, refl, sym, ap, ◌∙◌, subst, arith}
 use Rattle.std.specs.Prelude.{codes, ◌==◌, ◌||◌, if◌then◌else◌}
 use Rattle.std.specs.List.{range_with_len, list_all}
 use Rattle.std.specs.Str.{chars, is_utf8}
@@ -89,3 +89,19 @@ pub size_is : (seed i : ℕ) → is_filtered (kind seed i) ≡ false
     → length (prepared (conversion_at (kind seed i)) (name_of (content seed i)) (content seed i)).bytes
     ≡ sized (kind seed i) (line_count seed i) (length (content seed i))
 size_is seed i h = sizes (kind seed i) (below_eight (seed + 7 * i)) (line_count seed i) (few_lines seed i) h
+
+lines_size : (n : ℕ) → length (lines n) ≡ 5 * n
+lines_size zero = refl
+lines_size (suc n) = omega (arith, length-append (lines n) (line_of (codes "line")), lines_size n)
+
+keyword_short : (k : ℕ) → length (ident_line k) ≤ 5
+keyword_short k = by (k == 2)
+  where
+    by : (b : Bool) → length (if b then line_of (codes "$Id$") else []) ≤ 5
+    by true = omega arith
+    by false = omega arith
+
+pub short_content : (seed i : ℕ) → length (content seed i) ≤ 255
+short_content seed i =
+    omega (arith, length-append (lines (line_count seed i)) (ident_line (kind seed i)), lines_size (line_count seed i),
+    keyword_short (kind seed i), few_lines seed i)

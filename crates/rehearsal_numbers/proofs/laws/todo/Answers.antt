@@ -1,5 +1,6 @@
 use Rattle.rehearsal_numbers.proofs.Sizes.{size_is}
+use Rattle.rehearsal_numbers.proofs.Beta.{beta_talk}
 use Rattle.rehearsal_numbers.proofs.laws.todo.Goals as goal
 
 pub returns : goal.returns
-returns c = let x = size_is in tt
+returns c = let x = size_is in let y = beta_talk in tt
