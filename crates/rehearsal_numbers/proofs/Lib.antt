@@ -7,3 +7,6 @@ pub mod Sizes
 pub mod Replies
 pub mod Marked
 pub mod Beta
+pub mod Lists
+pub mod Alpha
+pub mod AlphaTalk
