@@ -23,6 +23,11 @@ abbrev round : Bool → Bool → List ℕ → List ℕ → List ℕ → Talk
 round any noting rest late turns =
     InRound (record { delay = true; any_delayed = any; noting_list = noting; rest = rest; late = late; turns = turns })
 
+-- each of these can be listed, one after another
+abbrev pub Listable : List ℕ → List ℕ → Type 0
+Listable late [] = Unit {0}
+Listable late (q ∷ qs) = (contains q late ≡ true) × Listable (without q late) qs
+
 module _ (d seed : ℕ) where
   -- the first requests
   fits : (t : Talk) (m : Mark) → FitsTalk t (asks seed m)
@@ -72,5 +77,60 @@ module _ (d seed : ℕ) where
   last_leads : (late : List ℕ) → LeadsTo d (round true false [] late []) (last_list late) Ended
   last_leads late = (Ended, refl, empties late, refl)
 
-  pub shuts : talk_run d (round false false [] [] []) (notes_of d Shutting) ≡ Some Ended
-  shuts = rw (self d, talk_run) refl
+  shuts : (late : List ℕ) → talk_run d (round false false [] late []) (notes_of d Shutting) ≡ Some Ended
+  shuts late = rw (self d, talk_run) refl
+
+  -- a list of names
+  first_name : (q : ℕ) (late : List ℕ) (es : List Event) → contains q late ≡ true
+      → talk_run d (round true false [] late []) (event.Named q ∷ es) ≡ talk_run d (round true true [] (without q late) (q ∷ [])) es
+  first_name q late es h = rw (h, talk_run) refl
+
+  next_name : (q : ℕ) (late turns : List ℕ) (es : List Event) → contains q late ≡ true
+      → talk_run d (round true true [] late turns) (event.Named q ∷ es) ≡ talk_run d (round true true [] (without q late) (turns ++ q ∷ [])) es
+  next_name q late turns es h = rw (h, talk_run) refl
+
+  names_lead : (late turns qs : List ℕ) (es : List Event) → Listable late qs
+      → talk_run d (round true true [] late turns) (map event.Named qs ++ es) ≡ talk_run d (round true true [] (withouts late qs) (turns ++ qs)) es
+  names_lead late turns [] es h =
+      ap (λ (l : List ℕ). talk_run d (round true true [] late l) es) (sym (append-nil turns))
+  names_lead late turns (q ∷ qs) es h =
+      next_name q late turns (map event.Named qs ++ es) h.0
+      ∙ names_lead (without q late) (turns ++ q ∷ []) qs es h.1
+      ∙ ap (λ (l : List ℕ). talk_run d (round true true [] (withouts (without q late) qs) l) es) (append_assoc turns (q ∷ []) qs)
+
+  names_end : (late turns : List ℕ)
+      → talk_run d (round true true [] late turns) (event.Listed d (list.Names (length turns)) ∷ []) ≡ Some (round true false [] late turns)
+  names_end late turns = rw (self d, self (length turns), talk_run) refl
+
+  list_leads : (late : List ℕ) (m : Mark) (ms : List Mark) → Listable late (places (m ∷ ms))
+      → talk_run d (round true false [] late []) (notes_of d (Listing late (places (m ∷ ms)) (list.Names (length (places (m ∷ ms))))))
+      ≡ Some (round true false [] (withouts late (places (m ∷ ms))) (places (m ∷ ms)))
+  list_leads late m ms h =
+      let ps = places (m ∷ ms) in
+      let es : List Event = event.Listed d (list.Names (length ps)) ∷ [] in
+      first_name m.place late (map event.Named (places ms) ++ es) h.0
+      ∙ names_lead (without m.place late) (m.place ∷ []) (places ms) es h.1
+      ∙ names_end (withouts late ps) ps
+
+  listed_lead : (late : List ℕ) (gs : List Mark) → Listable late (places gs)
+      → LeadsTo d (round true false [] late []) (listed seed late gs) Ended
+  listed_lead late [] h = last_leads late
+  listed_lead late (m ∷ ms) h =
+      (round true false [] (withouts late (places (m ∷ ms))) (places (m ∷ ms)), refl, list_leads late m ms h,
+      seconds_lead (withouts late (places (m ∷ ms))) (m ∷ ms) (last_list (withouts late (places (m ∷ ms))))
+      (last_leads (withouts late (places (m ∷ ms)))))
+
+  tail_leads : (any : Bool) (late : List ℕ) (gs : List Mark) → Listable late (places gs)
+      → LeadsTo d (round any false [] late []) (tail_of seed any late gs) Ended
+  tail_leads true late gs h = listed_lead late gs h
+  tail_leads false late gs h = (Ended, tt, shuts late, refl)
+
+  opens : (m : Mark) (ms : List Mark)
+      → talk_run d (Between (places (m ∷ ms))) (notes_of d (Opening m.place (Good alpha_caps))) ≡ Some (round false false (places (m ∷ ms)) [] [])
+  opens m ms = rw (self d, talk_run) refl
+
+  pub leads_all : (m : Mark) (ms : List Mark) → Listable (late_of seed (m ∷ ms)) (places (given_marks seed (m ∷ ms)))
+      → LeadsTo d (Between (places (m ∷ ms))) (Opening m.place (Good alpha_caps) ∷ said seed (m ∷ ms)) Ended
+  leads_all m ms h =
+      (round false false (places (m ∷ ms)) [] [], refl, opens m ms,
+      firsts_lead false [] (m ∷ ms) _ (tail_leads (any_of seed (m ∷ ms)) (late_of seed (m ∷ ms)) (given_marks seed (m ∷ ms)) h))

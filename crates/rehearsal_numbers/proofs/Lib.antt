@@ -10,3 +10,4 @@ pub mod Beta
 pub mod Lists
 pub mod Alpha
 pub mod AlphaTalk
+pub mod Given
