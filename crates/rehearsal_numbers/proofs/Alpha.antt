@@ -73,20 +73,20 @@ tail_of seed true late gs = listed seed late gs
 tail_of seed false late gs = Shutting ∷ []
 
 -- what it writes for that
-abbrev seconds_text : ℕ → List Mark → List ℕ → List ℕ
+abbrev pub seconds_text : ℕ → List Mark → List ℕ → List ℕ
 seconds_text seed [] more = more
 seconds_text seed (m ∷ ms) more = filtered (codes "alpha") seed m.number ++ seconds_text seed ms more
 
-abbrev listed_text : ℕ → List Mark → List ℕ
+abbrev pub listed_text : ℕ → List Mark → List ℕ
 listed_text seed [] = list_text seed []
 listed_text seed (m ∷ ms) = list_text seed (numbers (m ∷ ms)) ++ seconds_text seed (m ∷ ms) (list_text seed [])
 
-abbrev tail_text : ℕ → Bool → List Mark → List ℕ
+abbrev pub tail_text : ℕ → Bool → List Mark → List ℕ
 tail_text seed true gs = listed_text seed gs
 tail_text seed false gs = []
 
 -- and what it is sent
-abbrev requests : Paths → List Exchange → List ℕ
+abbrev pub requests : Paths → List Exchange → List ℕ
 requests paths [] = []
 requests paths (e ∷ es) = request_of paths alpha_caps e ++ requests paths es
 

@@ -109,7 +109,7 @@ late_keeps seed p late (m ∷ ms) h = late_keeps seed p (if kind seed m.number =
     by true u = h
     by false u = one (p == m.place)
 
-late_has : (seed : ℕ) (late : List ℕ) (ms : List Mark) (m : Mark) → Among m ms → (kind seed m.number == 4) ≡ false
+pub late_has : (seed : ℕ) (late : List ℕ) (ms : List Mark) (m : Mark) → Among m ms → (kind seed m.number == 4) ≡ false
     → contains m.place (late_after seed late ms) ≡ true
 late_has seed late [] m h e = absurd h
 late_has seed late (x ∷ xs) m h e = ⊎_elim
@@ -122,7 +122,7 @@ late_has seed late (x ∷ xs) m h e = ⊎_elim
     here k true f = absurd (true≢false f)
     here k false f = rw (eq-eqb m.place x.place (ap (λ (y : Mark). y.place) k)) refl
 
-delayed_kind : (seed i : ℕ) → is_given seed i ≡ true → (kind seed i == 4) ≡ false
+pub delayed_kind : (seed i : ℕ) → is_given seed i ≡ true → (kind seed i == 4) ≡ false
 delayed_kind seed i h =
     let five : kind seed i ≡ 5 = is_equal (kind seed i) 5 (and_parts (is_delayed seed i) (not (i % 5 == 0)) h).0 in
     ap (λ (k : ℕ). k == 4) five

@@ -11,3 +11,4 @@ pub mod Lists
 pub mod Alpha
 pub mod AlphaTalk
 pub mod Given
+pub mod AlphaTold

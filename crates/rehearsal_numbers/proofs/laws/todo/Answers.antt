@@ -2,8 +2,8 @@ use Rattle.rehearsal_numbers.proofs.Sizes.{size_is}
 use Rattle.rehearsal_numbers.proofs.Beta.{beta_talk}
 use Rattle.rehearsal_numbers.proofs.Alpha.{text_is}
 use Rattle.rehearsal_numbers.proofs.AlphaTalk.{leads_all}
-use Rattle.rehearsal_numbers.proofs.Given.{given_listable}
+use Rattle.rehearsal_numbers.proofs.AlphaTold.{alpha_talk}
 use Rattle.rehearsal_numbers.proofs.laws.todo.Goals as goal
 
 pub returns : goal.returns
-returns c = let z = text_is in let y = leads_all in let w = given_listable in let x = size_is in let y = beta_talk in tt
+returns c = let z = text_is in let y = leads_all in let w = alpha_talk in let x = size_is in let y = beta_talk in tt
