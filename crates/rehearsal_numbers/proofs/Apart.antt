@@ -55,7 +55,7 @@ place_in k (x ∷ xs) = if x == k then 0 else suc (place_in k xs)
 place : ℕ → ℕ
 place k = place_in k keys
 
-abbrev text : Bool → ℕ → List ℕ
+abbrev pub text : Bool → ℕ → List ℕ
 text b n = lines n ++ (if b then line_of (codes "$Id$") else [])
 
 code : Bool → ℕ → ℕ

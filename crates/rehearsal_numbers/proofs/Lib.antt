@@ -12,3 +12,8 @@ pub mod Alpha
 pub mod AlphaTalk
 pub mod Given
 pub mod AlphaTold
+pub mod Rising
+pub mod Objects
+pub mod PathEnds
+pub mod Places
+pub mod Order

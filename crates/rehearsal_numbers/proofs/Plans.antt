@@ -33,7 +33,7 @@ apart : (t : Bool) → not (t && true) ≡ true → t ≡ false
 apart true h = absurd (true≢false (sym h))
 apart false h = refl
 
-abbrev entries_at : ℕ → List ℕ → List Entry
+abbrev pub entries_at : ℕ → List ℕ → List Entry
 entries_at seed is = map entry_of (map (file seed) is)
 
 abbrev bare : List ℕ → Entry
