@@ -17,3 +17,5 @@ pub mod Objects
 pub mod PathEnds
 pub mod Places
 pub mod Order
+pub mod Checkouts
+pub mod Driven
