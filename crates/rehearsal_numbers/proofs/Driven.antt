@@ -92,7 +92,7 @@ module _ (law : SameHeard) (one : OneContent) (d : ℕ) (required : Bool) (test 
     (seed : ℕ) (is : List ℕ) (told : RepoTold) (talks : List DriverTalk) (outcomes : List Outcome) (history : List Event)
     (g : IsRehearsal seed is told talks outcomes history)
     (begins : (k : ℕ) → k < 8 → test k ≡ true → start_at (beta_number seed is) k ≡ start.Desk d required)
-    (has_test : (k : ℕ) → k < 8 → is_at d (start_at (beta_number seed is) k) ≡ true → test k ≡ true)
+    (has_test : (k i : ℕ) → slice_get is k ≡ Some i → is_at d (start_at (beta_number seed is) (kind seed i)) ≡ true → test (kind seed i) ≡ true)
     (t : DriverTalk) (driver : Driver)
     (said : IsDriverTalk (starts_for (scripts seed is)) told.object (paths_of seed is) (verdicts_of outcomes) history d driver t)
     (here : slice_get talks d ≡ Some t) (ahead : starts_for (scripts seed is) t.command ≡ Some (Gives output ∷ [])) where
@@ -167,7 +167,7 @@ module _ (law : SameHeard) (one : OneContent) (d : ℕ) (required : Bool) (test 
   marked (suc k) p at e =
       let x = got_path b seed is k p at in
       let test_is : test (kind seed x.0) ≡ true =
-          has_test (kind seed x.0) (below_eight (seed + 7 * x.0)) (ap (λ (q : PathPlan). is_at d q.start) (sym x.2) ∙ e) in
+          has_test k x.0 x.1 (ap (λ (q : PathPlan). is_at d q.start) (sym x.2) ∙ e) in
       let other : ◌≡◌ {A = ℕ} (1 + k) (suc k) = omega arith in
       (x.0, subst (λ (n : ℕ). Among (record { place = n; number = x.0 }) ms) other (place_is test seed 1 k x.0 is x.1 test_is), x.2)
 

@@ -19,3 +19,4 @@ pub mod Places
 pub mod Order
 pub mod Checkouts
 pub mod Driven
+pub mod Drivers
