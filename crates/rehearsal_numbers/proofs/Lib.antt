@@ -20,3 +20,4 @@ pub mod Order
 pub mod Checkouts
 pub mod Driven
 pub mod Drivers
+pub mod Ends

@@ -1,3 +1,4 @@
 pub mod Contents
 pub mod Plans
 pub mod Paths
+pub mod Lines
