@@ -21,3 +21,4 @@ pub mod Checkouts
 pub mod Driven
 pub mod Drivers
 pub mod Ends
+pub mod Totals

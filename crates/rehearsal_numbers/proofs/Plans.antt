@@ -29,7 +29,7 @@ turned a b h = go (bytes_eq b a) refl
         let same : b ≡ a = (bytes_eq-Decides b a).0 e in
         absurd (true≢false (sym e ∙ ap (λ (x : List ℕ). bytes_eq x a) same ∙ ap (λ (x : List ℕ). bytes_eq a x) (sym same) ∙ h))
 
-apart : (t : Bool) → not (t && true) ≡ true → t ≡ false
+pub apart : (t : Bool) → not (t && true) ≡ true → t ≡ false
 apart true h = absurd (true≢false (sym h))
 apart false h = refl
 

@@ -1,4 +1,3 @@
 pub mod Contents
 pub mod Plans
-pub mod Paths
 pub mod Lines

@@ -26,7 +26,7 @@ LinesAreRight = (seed paths : ℕ) (text : List ℕ) → paths ≤ 99999 → IsS
 -- the line of so many blocks of 200 paths, with these bytes
 abbrev pub block_line : ℕ → ℕ → List ℕ
 block_line blocks bytes =
-    first_words (200 * blocks) (status_with blocks) (1 + 170 * blocks) ++ last_words (25 * blocks) (5 * blocks) bytes
+    first_words (200 * blocks) (status_with (5 * blocks)) (1 + 170 * blocks) ++ last_words (25 * blocks) (5 * blocks) bytes
 
 -- Where the paths are whole blocks, each block adds the same. For a seed that is a multiple of 5 the bytes are known too.
 pub record BlockLinesAreRight : Type 0 where

@@ -1,12 +1,14 @@
-//! What follows of a rehearsal's numbers.
+//! What the definitions of a checkout give for a rehearsal.
 ghost use Rattle.rehearsal_numbers.specs.Contents.{ContentsAreApart};
+ghost use Rattle.rehearsal_numbers.specs.Lines.{LinesAreRight, BlockLinesAreRight};
 ghost use Rattle.rehearsal_numbers.specs.Plans.{HavePlans};
-ghost use Rattle.rehearsal_numbers.specs.Paths.{Todo};
 
+use driver_line::{a_path_gets_one_content, equal_outputs_give_equal_talks};
 use git_index::one_reading;
-use rehearsal::{attributes_are_right, files_have_an_index};
+use pkt_line::spells;
+use rehearsal::{attributes_are_right, blocks_are_alike, files_have_an_index};
 
-/// The law that no two contents of a rehearsal have one name. It does nothing.
+/// The law that no two contents of a rehearsal have one name: SHA-1 tells them apart. It does nothing.
 pub fn contents_are_apart()
     ensures { ContentsAreApart }
 {}
@@ -20,7 +22,23 @@ pub fn rehearsals_have_plans()
     one_reading();
 }
 
-/// Todo.
-pub fn todo()
-    ensures { Todo }
-{}
+/// The law that the line of a rehearsal has the counts of its numbers: how many are written, unfiltered and failed, and
+/// the bytes of their files. It does nothing.
+pub fn lines_are_right()
+    ensures { LinesAreRight }
+{
+    files_have_an_index();
+    attributes_are_right();
+    one_reading();
+    spells();
+    equal_outputs_give_equal_talks();
+    a_path_gets_one_content();
+}
+
+/// The law that each 200 paths of a rehearsal add the same to its line. It does nothing.
+pub fn block_lines_are_right()
+    ensures { BlockLinesAreRight }
+{
+    lines_are_right();
+    blocks_are_alike();
+}
