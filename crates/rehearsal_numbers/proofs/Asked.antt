@@ -5,6 +5,7 @@ use Rattle.std.specs.Option.{unwrap_or}
 use Rattle.std.specs.List.{AllByRecursion}
 use Rattle.std.specs.Str.{IsAscii, chars, is_utf8}
 use lib.Utf8.{encode}
+use Rattle.std.proofs.lemmas.List.{append-nil}
 use Rattle.std.proofs.lemmas.Str.{IsUtf8-from_ascii, is_utf8-from_IsUtf8}
 use Rattle.attr_line.specs.declared.state.AttrState.{AttrState}
 use Rattle.attr_line.specs.declared.state.AttrState.TheVariants.{Unspecified}
@@ -16,7 +17,7 @@ use Rattle.wild_match.specs.Pieces.{plain_front, front}
 use Rattle.wild_match.specs.Fits.{is_match}
 use Rattle.attr_stack.specs.Macros.{macros_of}
 use Rattle.attr_stack.specs.Decided.{decided, said_of, no_names, state_of}
-use Rattle.attr_stack.specs.Pairs.{pairs_of}
+use Rattle.attr_stack.specs.Pairs.{pairs_of, pairs_before}
 use Rattle.attr_stack.specs.declared.files.AttrFiles.{AttrFiles}
 use Rattle.eol_convert.specs.declared.setting.AutoCrlf.TheVariants as crlf
 use Rattle.eol_convert.specs.declared.setting.EolSetting.TheVariants as eol
@@ -52,7 +53,7 @@ unfolding attributes_at lines_from line_len
 none_is = refl
 
 abbrev pub given : AttrFiles
-given = record { info = no_file; files = top }
+given = record { info = no_file; base = no_file; files = top }
 
 all_ascii : (xs : List ℕ) → AllByRecursion (λ x. x < 128) xs → IsAscii xs
 all_ascii [] h i = omega arith
@@ -100,7 +101,8 @@ by_kind a b c d e f g path name k lt =
     refl refl refl refl refl refl refl refl k lt
 
 pairs_are : (a b c d e f g k : ℕ) → pairs_of given (spelled a b c d e f g k) ≡ says a b c d e f g k
-pairs_are a b c d e f g k = folders_say a b c d e f g k
+pairs_are a b c d e f g k =
+    append-nil (pairs_before top (spelled a b c d e f g k) 13) ∙ folders_say a b c d e f g k
 
 is_text : (a b c d e f g k : ℕ) → a < 10 → b < 10 → c < 10 → d < 10 → e < 10 → f < 10 → g < 10 → k < 10
     → is_utf8 (spelled a b c d e f g k) ≡ true

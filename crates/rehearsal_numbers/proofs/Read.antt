@@ -22,6 +22,7 @@ use Rattle.attr_line.specs.declared.file.AttrFile.{AttrFile}
 use Rattle.attr_line.specs.File.{attributes_at}
 use Rattle.attr_stack.specs.declared.files.FileAt.{FileAt}
 use Rattle.attr_stack.specs.declared.files.AttrFiles.{AttrFiles}
+use Rattle.attr_stack.specs.declared.files.OuterFiles.{OuterFiles}
 use Rattle.checkout_plan.specs.declared.path_plan.Plan.{Plan}
 use Rattle.checkout_plan.specs.AttributeFiles.{attribute_entries, attribute_files, by_folder, files_at}
 use Rattle.checkout_plan.specs.Making.{HaveContents}
@@ -30,7 +31,7 @@ use Rattle.rehearsal.specs.Paths.{in_order}
 use Rattle.rehearsal.specs.Repository.{File, attributes, attributes_name, config, files, entry_of, entries, IsRepository}
 use Rattle.rehearsal.specs.Repository as repository
 use Rattle.rehearsal.specs.Repository.{FilesHaveAnIndex, AttributesAreRight}
-use Rattle.checkout_engine.specs.Sources.{HasSettings, HasInfo, HasBytes, IsPlanned}
+use Rattle.checkout_engine.specs.Sources.{HasSettings, HasAttributes, HasBytes, IsPlanned}
 use Rattle.rehearsal_numbers.specs.Plans.{IsPlanOf, HavePlans}
 use Rattle.rehearsal_numbers.proofs.Rows.{rows_are, file, top}
 use Rattle.rehearsal_numbers.proofs.Asked.{settings, no_file, none_is, given, first}
@@ -97,7 +98,7 @@ settings_are told s e h =
     let same : Ok s ≡ Ok settings = sym h.says ∙ ap settings_of list ∙ says in
     cc (same)
 
-nothing_said : (told : Told) (f : AttrFile) → told ≡ Absent → HasInfo told f → f ≡ no_file
+nothing_said : (told : Told) (f : AttrFile) → told ≡ Absent → HasAttributes told f → f ≡ no_file
 nothing_said told f e h = h.says ∙ ap (λ (b : List ℕ). attributes_at b true) (has_none told h.bytes e h.has) ∙ none_is
 
 -- the attribute file alone is one
@@ -133,10 +134,13 @@ module _ (right : AttributesAreRight) (seed : ℕ) (is : List ℕ) (told : RepoT
           (made.object attributes_name ∙ right.there seed is) right.right h.0.0)
       go (c ∷ d ∷ cs) h = absurd h.1
 
-abbrev given_by : List FileAt → AttrFiles
-given_by files = record { info = no_file; files = files }
+abbrev no_outer : OuterFiles
+no_outer = record { info = no_file; base = no_file }
 
-files_are : (seed : ℕ) (is : List ℕ) → attribute_files no_file (entries (files seed is)) (attributes ∷ []) ≡ given
+abbrev given_by : List FileAt → AttrFiles
+given_by files = record { info = no_file; base = no_file; files = files }
+
+files_are : (seed : ℕ) (is : List ℕ) → attribute_files no_outer (entries (files seed is)) (attributes ∷ []) ≡ given
 unfolding attribute_files
 files_are seed is =
     ap (λ (es : List Entry). given_by (by_folder (files_at es (attributes ∷ [])))) (one_file seed is)
@@ -144,17 +148,18 @@ files_are seed is =
 
 by_sources : (seed : ℕ) (is : List ℕ) (told : RepoTold) → IsRepository (files seed is) told → AttributesAreRight
     → (plan : Plan) → (p : IsPlanned told plan) → p.entries ≡ entries (files seed is)
-    → plan ≡ plan_of (entries (files seed is)) settings no_file (attributes ∷ [])
+    → plan ≡ plan_of (entries (files seed is)) settings no_outer (attributes ∷ [])
 by_sources seed is told made right plan p same =
     let set = settings_are told p.settings made.config p.sources.config in
-    let info = nothing_said told.info p.info made.info p.sources.attributes in
+    let info = nothing_said told.info (p.outer).info made.info p.sources.info in
+    let base = nothing_said told.base (p.outer).base made.base p.sources.base in
     let contents = contents_are right seed is told made p.made.contents
     (subst (λ (es : List Entry). HaveContents told.object es p.made.contents) same p.made.read) in
-    p.made.is ∙ (λ j. plan_of (same j) (set j) (info j) (contents j))
+    p.made.is ∙ (λ j. plan_of (same j) (set j) (record { info = info j; base = base j }) (contents j))
 
 plan_seen : (seed : ℕ) (is : List ℕ)
-    → plan_of (entries (files seed is)) settings no_file (attributes ∷ [])
-    ≡ plan_by (attribute_files no_file (entries (files seed is)) (attributes ∷ [])) settings (entries (files seed is))
+    → plan_of (entries (files seed is)) settings no_outer (attributes ∷ [])
+    ≡ plan_by (attribute_files no_outer (entries (files seed is)) (attributes ∷ [])) settings (entries (files seed is))
 unfolding plan_of
 plan_seen seed is = refl
 
