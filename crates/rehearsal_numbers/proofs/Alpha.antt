@@ -1,27 +1,25 @@
 -- The talk of a rehearsal with its driver `alpha`: what it is asked for, and what that spells.
-use Rattle.std.proofs.Common.{◌≡◌, ℕ, zero, suc, ◌+◌, ◌*◌, ◌<◌, ◌≤◌, inl, inr, ◌⊎◌, ⊎_elim, Bool, true, false, not, cond, ◌&&◌, ◌||◌, List, [], ◌∷◌, ◌++◌, map, length, length-append, append_assoc, Some, None, refl, sym, ap, ◌∙◌, subst, arith, eq-eqb, ne_eqb}
-use Rattle.std.specs.Prelude.{codes, ◌==◌, ◌%◌, if◌then◌else◌, Option}
+use Rattle.std.proofs.Common.{◌≡◌, ℕ, ◌≤◌, inr, Bool, true, false, ◌||◌, List, [], ◌∷◌, ◌++◌, map, length, append_assoc, refl, sym, ap, ◌∙◌, subst, arith}
+use Rattle.std.specs.Prelude.{codes, ◌==◌, if◌then◌else◌}
 use Rattle.std.specs.List.{AllByRecursion, flat_map, list_any}
-use Rattle.std.specs.Str.{bytes_eq}
 use Rattle.std.proofs.lemmas.List.{append-nil, map-append}
-use Rattle.std.proofs.lemmas.Bool.{true≢false, and_parts}
-use Rattle.std.proofs.lemmas.Slice.Eq.{bytes_eq-Decides}
-use Rattle.pkt_line.specs.Packets.{Packet, Flush, pkt_len}
+use Rattle.std.proofs.lemmas.Bool.{true≢false}
+use Rattle.pkt_line.specs.Packets.{Flush, pkt_len}
 use Rattle.pkt_line.specs.Spelling.{spelling_all}
 use Rattle.filter_words.specs.Outcomes.{limit}
-use Rattle.filter_words.specs.Listing.{GoodList, Listed, list_step, list_start, name_in}
+use Rattle.filter_words.specs.Listing.{Listed, list_step, list_start, name_in}
 use Rattle.filter_words.specs.declared.reply.Reply.TheVariants as reply
 use Rattle.filter_words.specs.declared.reply.ListReply.TheVariants as list
-use Rattle.filter_proto.specs.Exchanges.{Ends, Good}
-use Rattle.checkout_core.specs.Talks.{contains, without}
+use Rattle.filter_proto.specs.Exchanges.{Good}
+use Rattle.checkout_core.specs.Talks.{without}
 use Rattle.driver_line.specs.Conversations.{Exchange, First, Second, Listing, Shutting}
-use Rattle.driver_line.specs.Lines.{Paths, ListIs}
+use Rattle.driver_line.specs.Lines.{Paths}
 use Rattle.driver_line.specs.Transcripts.{Spoken, AnswerIs, IsPart, StopsAt, request_of}
-use Rattle.rehearsal.specs.Paths.{kind, name, content, line_of}
+use Rattle.rehearsal.specs.Paths.{kind, name}
 use Rattle.rehearsal.specs.Drivers.{status, filtered, is_delayed, is_given, given, alpha_first, pathname, list_text, given_text, alpha_lists}
 use Rattle.rehearsal_numbers.specs.Plans.{is_alpha}
 use Rattle.rehearsal_numbers.proofs.Apart.{is_equal}
-use Rattle.rehearsal_numbers.proofs.Marked.{Mark, places, numbers, Among, Rises, all_at, found, other_place}
+use Rattle.rehearsal_numbers.proofs.Marked.{Mark, places, numbers}
 use Rattle.rehearsal_numbers.proofs.Replies.{SpellingSpells, spelled, good_part, delayed_part, alpha_caps}
 use Rattle.rehearsal_numbers.proofs.Beta.{answer, short_answer}
 use Rattle.rehearsal_numbers.proofs.Lists.{lists, Differ}
@@ -125,9 +123,15 @@ module _ (law : SpellingSpells) (paths : Paths) (seed : ℕ) where
   firsts_spoken [] tail taken h s = s
   firsts_spoken (m ∷ ms) tail taken h s =
       let more = flat_map (alpha_first seed) (numbers ms) ++ taken in
-      inr (requests paths (firsts seed ms tail), alpha_first seed m.number, more, refl,
-      append_assoc (alpha_first seed m.number) (flat_map (alpha_first seed) (numbers ms)) taken,
-      first_answer m more h.0, firsts_spoken ms tail taken h.1 s)
+      inr (
+        requests paths (firsts seed ms tail),
+        alpha_first seed m.number,
+        more,
+        refl,
+        append_assoc (alpha_first seed m.number) (flat_map (alpha_first seed) (numbers ms)) taken,
+        first_answer m more h.0,
+        firsts_spoken ms tail taken h.1 s,
+      )
 
   seconds_spoken : (ms : List Mark) (tail : List Exchange) (taken : List ℕ)
       → Spoken paths alpha_caps tail (requests paths tail) taken
@@ -136,8 +140,15 @@ module _ (law : SpellingSpells) (paths : Paths) (seed : ℕ) where
   seconds_spoken (m ∷ ms) tail taken s =
       let size = short_answer (codes "alpha") seed m.number (omega arith) in
       let more = seconds_text seed ms taken in
-      inr (requests paths (seconds seed ms tail), filtered (codes "alpha") seed m.number, more, refl, refl,
-      good_part law false (answer (codes "alpha") seed m.number) more size.0 size.1, seconds_spoken ms tail taken s)
+      inr (
+        requests paths (seconds seed ms tail),
+        filtered (codes "alpha") seed m.number,
+        more,
+        refl,
+        refl,
+        good_part law false (answer (codes "alpha") seed m.number) more size.0 size.1,
+        seconds_spoken ms tail taken s,
+      )
 
   -- a list names paths that are late, each once
   small_names : (is : List ℕ) → AllByRecursion (λ p. pkt_len p ≤ 65520) (map (pathname seed) is ++ Flush ∷ status (codes "success"))
@@ -166,8 +177,15 @@ module _ (law : SpellingSpells) (paths : Paths) (seed : ℕ) where
 
   last_spoken : (late : List ℕ) → Spoken paths alpha_caps (last_list late) (requests paths (last_list late)) (list_text seed [])
   last_spoken late =
-      inr ([], list_text seed [], [], refl, sym (append-nil (list_text seed [])),
-      (Good (Listed []), (refl, refl), list_part late [] [] tt tt (omega arith)), refl)
+      inr (
+        [],
+        list_text seed [],
+        [],
+        refl,
+        sym (append-nil (list_text seed [])),
+        (Good (Listed []), (refl, refl), list_part late [] [] tt tt (omega arith)),
+        refl,
+      )
 
   listed_spoken : (late : List ℕ) (gs : List Mark) → AreGiven paths seed late gs
       → Spoken paths alpha_caps (listed seed late gs) (requests paths (listed seed late gs)) (listed_text seed gs)
@@ -176,10 +194,19 @@ module _ (law : SpellingSpells) (paths : Paths) (seed : ℕ) where
       let gs = m ∷ ms in
       let rest = seconds seed gs (last_list (withouts late (places gs))) in
       let more = seconds_text seed gs (list_text seed []) in
-      inr (requests paths rest, list_text seed (numbers gs), more, refl, refl,
-      (Good (Listed (map (name seed) (numbers gs))), ap (λ (l : List (List ℕ)). Good (Listed l)) (names_are gs h.named),
-      list_part late (numbers gs) more h.late_ones h.differ h.few),
-      seconds_spoken gs (last_list (withouts late (places gs))) (list_text seed []) (last_spoken (withouts late (places gs))))
+      inr (
+        requests paths rest,
+        list_text seed (numbers gs),
+        more,
+        refl,
+        refl,
+        (
+          Good (Listed (map (name seed) (numbers gs))),
+          ap (λ (l : List (List ℕ)). Good (Listed l)) (names_are gs h.named),
+          list_part late (numbers gs) more h.late_ones h.differ h.few,
+        ),
+        seconds_spoken gs (last_list (withouts late (places gs))) (list_text seed []) (last_spoken (withouts late (places gs))),
+      )
 
   tail_spoken : (any : Bool) (late : List ℕ) (gs : List Mark) → AreGiven paths seed late gs
       → Spoken paths alpha_caps (tail_of seed any late gs) (requests paths (tail_of seed any late gs)) (tail_text seed any gs)

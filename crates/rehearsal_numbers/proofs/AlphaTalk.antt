@@ -1,23 +1,19 @@
 -- The talk of a rehearsal with its driver `alpha` leads to its end.
-use Rattle.std.proofs.Common.{◌≡◌, ℕ, zero, suc, ◌+◌, ◌*◌, ◌<◌, ◌≤◌, inl, inr, ◌⊎◌, ⊎_elim, Bool, true, false, not, cond, ◌&&◌, ◌||◌, List, [], ◌∷◌, ◌++◌, map, length, length-append, append_assoc, Some, None, refl, sym, ap, ◌∙◌, subst, arith, eq-eqb, ne_eqb}
-use Rattle.std.specs.Prelude.{codes, ◌==◌, if◌then◌else◌, Option}
-use Rattle.std.specs.List.{AllByRecursion}
+use Rattle.std.proofs.Common.{◌≡◌, ℕ, Bool, true, false, List, [], ◌∷◌, ◌++◌, map, length, append_assoc, Some, refl, sym, ap, ◌∙◌}
+use Rattle.std.specs.Prelude.{codes, ◌==◌, if◌then◌else◌}
 use Rattle.std.proofs.lemmas.List.{append-nil}
 use Rattle.filter_words.specs.declared.reply.Reply.TheVariants as reply
 use Rattle.filter_words.specs.declared.reply.ListReply.TheVariants as list
 use Rattle.filter_proto.specs.Exchanges.{Good}
 use Rattle.checkout_core.specs.declared.event.Event.{Event}
 use Rattle.checkout_core.specs.declared.event.Event.TheVariants as event
-use Rattle.checkout_core.specs.Talks.{Talk, Between, InRound, Ended, contains, without, opened, talk_run}
+use Rattle.checkout_core.specs.Talks.{Talk, Between, InRound, Ended, contains, without, talk_run}
 use Rattle.driver_line.specs.Conversations.{Exchange, Opening, First, Second, Listing, Shutting, notes_of, FitsTalk, LeadsTo}
 use Rattle.rehearsal.specs.Paths.{kind}
-use Rattle.rehearsal_numbers.proofs.Marked.{Mark, places, numbers, Among, Rises, all_at, found, other_place}
+use Rattle.rehearsal_numbers.proofs.Marked.{Mark, places, self}
 use Rattle.rehearsal_numbers.proofs.Replies.{alpha_caps}
 use Rattle.rehearsal_numbers.proofs.Beta.{answer}
 use Rattle.rehearsal_numbers.proofs.Alpha.{asks, firsts, seconds, last_list, listed, tail_of, withouts, late_after, any_after, late_of, any_of, given_marks, said}
-
-self : (n : ℕ) → (n == n) ≡ true
-self n = eq-eqb n n refl
 
 abbrev round : Bool → Bool → List ℕ → List ℕ → List ℕ → Talk
 round any noting rest late turns =
@@ -52,10 +48,12 @@ module _ (d seed : ℕ) where
       → LeadsTo d (round (any_after seed any ms) false [] (late_after seed late ms) []) tail Ended
       → LeadsTo d (round any false (places ms) late []) (firsts seed ms tail) Ended
   firsts_lead any late [] tail h = h
-  firsts_lead any late (m ∷ ms) tail h =
-      (round (if kind seed m.number == 4 then any else true) false (places ms) (if kind seed m.number == 4 then late else m.place ∷ late) [],
-      fits (round any false (places (m ∷ ms)) late []) m, goes_on any m (places ms) late,
-      firsts_lead (if kind seed m.number == 4 then any else true) (if kind seed m.number == 4 then late else m.place ∷ late) ms tail h)
+  firsts_lead any late (m ∷ ms) tail h = (
+    round (if kind seed m.number == 4 then any else true) false (places ms) (if kind seed m.number == 4 then late else m.place ∷ late) [],
+    fits (round any false (places (m ∷ ms)) late []) m,
+    goes_on any m (places ms) late,
+    firsts_lead (if kind seed m.number == 4 then any else true) (if kind seed m.number == 4 then late else m.place ∷ late) ms tail h,
+  )
 
   -- the second requests
   redoes : (m : Mark) (late turns : List ℕ)
@@ -115,10 +113,13 @@ module _ (d seed : ℕ) where
   listed_lead : (late : List ℕ) (gs : List Mark) → Listable late (places gs)
       → LeadsTo d (round true false [] late []) (listed seed late gs) Ended
   listed_lead late [] h = last_leads late
-  listed_lead late (m ∷ ms) h =
-      (round true false [] (withouts late (places (m ∷ ms))) (places (m ∷ ms)), refl, list_leads late m ms h,
-      seconds_lead (withouts late (places (m ∷ ms))) (m ∷ ms) (last_list (withouts late (places (m ∷ ms))))
-      (last_leads (withouts late (places (m ∷ ms)))))
+  listed_lead late (m ∷ ms) h = (
+    round true false [] (withouts late (places (m ∷ ms))) (places (m ∷ ms)),
+    refl,
+    list_leads late m ms h,
+    seconds_lead (withouts late (places (m ∷ ms))) (m ∷ ms) (last_list (withouts late (places (m ∷ ms))))
+        (last_leads (withouts late (places (m ∷ ms)))),
+  )
 
   tail_leads : (any : Bool) (late : List ℕ) (gs : List Mark) → Listable late (places gs)
       → LeadsTo d (round any false [] late []) (tail_of seed any late gs) Ended
@@ -131,6 +132,9 @@ module _ (d seed : ℕ) where
 
   pub leads_all : (m : Mark) (ms : List Mark) → Listable (late_of seed (m ∷ ms)) (places (given_marks seed (m ∷ ms)))
       → LeadsTo d (Between (places (m ∷ ms))) (Opening m.place (Good alpha_caps) ∷ said seed (m ∷ ms)) Ended
-  leads_all m ms h =
-      (round false false (places (m ∷ ms)) [] [], refl, opens m ms,
-      firsts_lead false [] (m ∷ ms) _ (tail_leads (any_of seed (m ∷ ms)) (late_of seed (m ∷ ms)) (given_marks seed (m ∷ ms)) h))
+  leads_all m ms h = (
+    round false false (places (m ∷ ms)) [] [],
+    refl,
+    opens m ms,
+    firsts_lead false [] (m ∷ ms) _ (tail_leads (any_of seed (m ∷ ms)) (late_of seed (m ∷ ms)) (given_marks seed (m ∷ ms)) h),
+  )

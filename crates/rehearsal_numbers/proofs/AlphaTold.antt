@@ -1,5 +1,5 @@
 -- The whole talk of a rehearsal with `alpha` is what its script tells.
-use Rattle.std.proofs.Common.{◌≡◌, ℕ, zero, suc, ◌+◌, ◌*◌, ◌<◌, ◌≤◌, inl, inr, ◌⊎◌, ⊎_elim, Bool, true, false, not, cond, ◌&&◌, ◌||◌, List, [], ◌∷◌, ◌++◌, map, length, append_assoc, Some, None, refl, sym, ap, ◌∙◌, subst, arith, eq-eqb, ne_eqb}
+use Rattle.std.proofs.Common.{◌≡◌, ℕ, ◌<◌, ◌≤◌, inl, inr, ⊎_elim, Bool, true, false, cond, ◌||◌, List, [], ◌∷◌, ◌++◌, map, length, append_assoc, Some, refl, sym, ap, ◌∙◌, subst, arith, eq-eqb, ne_eqb}
 use Rattle.std.specs.Prelude.{codes, ◌==◌, if◌then◌else◌, Option}
 use Rattle.std.specs.List.{AllByRecursion, flat_map}
 use Rattle.std.specs.Str.{bytes_eq}
@@ -7,7 +7,7 @@ use Rattle.std.proofs.lemmas.List.{append-nil}
 use Rattle.std.proofs.lemmas.Bool.{true≢false}
 use Rattle.std.proofs.lemmas.Slice.Eq.{bytes_eq-Decides}
 use Rattle.pkt_line.specs.Spelling.{spelling_all}
-use Rattle.edge_kit.specs.Starters.{Had, Session, SessionHad, Gives}
+use Rattle.edge_kit.specs.Starters.{Session, SessionHad, Gives}
 use Rattle.filter_words.specs.Requests.{hello_text, caps_text}
 use Rattle.filter_words.specs.Listing.{name_in}
 use Rattle.filter_words.specs.declared.reply.Reply.TheVariants as reply
@@ -15,11 +15,10 @@ use Rattle.filter_words.specs.declared.reply.ListReply.TheVariants as list
 use Rattle.filter_proto.specs.Exchanges.{Good}
 use Rattle.checkout_core.specs.declared.event.Event.{Event}
 use Rattle.checkout_core.specs.declared.event.Event.TheVariants as event
-use Rattle.checkout_core.specs.declared.path.Heard.{Heard}
 use Rattle.checkout_core.specs.declared.path.Heard.TheVariants as heard
 use Rattle.checkout_core.specs.Fates.{Fate, Untold, Later, Known, fate_of}
 use Rattle.checkout_core.specs.Talks.{Ended, contains}
-use Rattle.driver_line.specs.Conversations.{Exchange, Opening, First, Second, Listing, Shutting, notes_of, notes_in}
+use Rattle.driver_line.specs.Conversations.{Exchange, Opening, First, Second, notes_in}
 use Rattle.driver_line.specs.Lines.{Paths}
 use Rattle.driver_line.specs.SameHeard.{IsToldTalk, HaveTexts, fate_in, content_of}
 use Rattle.driver_line.specs.Transcripts.{Spoken, IsTalk, IsOpenedSession, AllFit, all_fine}
@@ -29,8 +28,8 @@ use Rattle.rehearsal_numbers.proofs.Apart.{is_equal}
 use Rattle.rehearsal_numbers.proofs.Marked.{Mark, places, numbers, Among, Rises, all_at, all_from, holds, found, other_place}
 use Rattle.rehearsal_numbers.proofs.Replies.{SpellingSpells, alpha_caps, alpha_hello, alpha_opens}
 use Rattle.rehearsal_numbers.proofs.Lists.{Differ}
-use Rattle.rehearsal_numbers.proofs.Beta.{answer}
-use Rattle.rehearsal_numbers.proofs.Alpha.{asks, firsts, seconds, last_list, listed, tail_of, tail_text, requests, withouts, late_of, any_of, any_after, given_marks, said, AreAlphas, HaveNames, AreGiven, all_spoken, text_is}
+use Rattle.rehearsal_numbers.proofs.Beta.{answer, stays}
+use Rattle.rehearsal_numbers.proofs.Alpha.{asks, firsts, seconds, last_list, listed, tail_of, requests, withouts, late_of, any_of, any_after, given_marks, said, AreAlphas, HaveNames, AreGiven, all_spoken, text_is}
 use Rattle.rehearsal_numbers.proofs.AlphaTalk.{leads_all}
 use Rattle.rehearsal_numbers.proofs.Given.{Falls, given_among, among_given, given_falls, given_few, given_listable, late_has, delayed_kind}
 
@@ -43,6 +42,7 @@ late_name paths (q ∷ qs) p h = by (p == q) refl h (late_name paths qs p)
     or_true : (t : Bool) → (t || true) ≡ true
     or_true true = refl
     or_true false = refl
+
     by : (t : Bool) → (p == q) ≡ t → cond t true (contains p qs) ≡ true
         → (contains p qs ≡ true → name_in (map paths.text qs) (paths.text p) ≡ true)
         → (bytes_eq (paths.text q) (paths.text p) || name_in (map paths.text qs) (paths.text p)) ≡ true
@@ -82,9 +82,10 @@ are_late : (paths : Paths) (seed : ℕ) (late : List ℕ) (gs : List Mark) → H
     → ((m : Mark) → Among m gs → contains m.place late ≡ true)
     → AllByRecursion (λ i. name_in (map paths.text late) (name seed i) ≡ true) (numbers gs)
 are_late paths seed late [] h f = tt
-are_late paths seed late (x ∷ xs) h f =
-    (subst (λ (n : List ℕ). name_in (map paths.text late) n ≡ true) h.0 (late_name paths late x.place (f x (inl refl))),
-    are_late paths seed late xs h.1 (λ m k. f m (inr k)))
+are_late paths seed late (x ∷ xs) h f = (
+  subst (λ (n : List ℕ). name_in (map paths.text late) n ≡ true) h.0 (late_name paths late x.place (f x (inl refl))),
+  are_late paths seed late xs h.1 (λ m k. f m (inr k)),
+)
 
 are_given : (paths : Paths) (seed : ℕ) (ms : List Mark) → HaveNames paths seed ms → HaveTexts paths (places ms) → Rises ms
     → length ms ≤ 99999 → AreGiven paths seed (late_of seed ms) (given_marks seed ms)
@@ -183,9 +184,15 @@ is_talk : SpellingSpells → (d : ℕ) (paths : Paths) (seed : ℕ) (m : Mark) (
     → Rises (m ∷ ms) → AreGiven paths seed (late_of seed (m ∷ ms)) (given_marks seed (m ∷ ms))
     → IsTalk d paths (places (m ∷ ms)) (Session (seen paths seed (m ∷ ms)) ∷ []) (exchanges seed m ms)
 is_talk law d paths seed m ms h r g = record {
-  spells = (m.place, Good alpha_caps, said seed (m ∷ ms), [],
-      ap (λ (es : List Exchange). Opening m.place (Good alpha_caps) ∷ es) (sym (append-nil (said seed (m ∷ ms)))),
-      session law paths seed (m ∷ ms) h g, refl);
+  spells = (
+    m.place,
+    Good alpha_caps,
+    said seed (m ∷ ms),
+    [],
+    ap (λ (es : List Exchange). Opening m.place (Good alpha_caps) ∷ es) (sym (append-nil (said seed (m ∷ ms)))),
+    session law paths seed (m ∷ ms) h g,
+    refl,
+  );
   end = Ended;
   goes = leads_all d seed m ms (given_listable seed (m ∷ ms) r);
   over = tt;
@@ -194,10 +201,6 @@ is_talk law d paths seed m ms h r g = record {
 -- what each path hears
 abbrev asked_as : ℕ → Mark → Bool → Exchange
 asked_as seed x a = if a then First x.place reply.Content (answer (codes "alpha") seed x.number) else First x.place reply.Delayed []
-
-stays : (p : ℕ) (h : Heard) (es : List Event) → fate_of p (Known h) es ≡ Known h
-stays p h [] = refl
-stays p h (e ∷ es) = stays p h es
 
 module _ (d seed p : ℕ) where
   passes : (f : Bool) (x : Mark) (es : List Exchange) → (p == x.place) ≡ false
@@ -338,10 +341,12 @@ said_fates d seed ms r m is =
   where
     gs : List Mark
     gs = given_marks seed ms
+
     tail : (kind seed m.number == 4) ≡ false
         → fate_of m.place Later (notes_in d (tail_of seed (any_of seed ms) (late_of seed ms) (given_marks seed ms)))
         ≡ fate_of m.place Later (notes_in d (listed seed (late_of seed ms) (given_marks seed ms)))
     tail e = ap (λ (t : Bool). fate_of m.place Later (notes_in d (tail_of seed t (late_of seed ms) (given_marks seed ms)))) (any_has seed false ms m is e)
+
     by : (a b : Bool) → (kind seed m.number == 4) ≡ a → is_given seed m.number ≡ b
         → (if a then Known heard.Got else fate_of m.place Later (notes_in d (tail_of seed (any_of seed ms) (late_of seed ms) (given_marks seed ms))))
         ≡ (if a then Known heard.Got else if b then Known heard.Got else Known heard.Lost)
@@ -442,8 +447,12 @@ alpha_talk law d paths seed m ms h named texts r few =
       fills = (record { sent = (hello_text ++ caps_text) ++ requests paths (said seed (m ∷ ms)); taken = output seed (m ∷ ms); sent_is = refl; taken_is = refl; full_is = refl }, tt);
       talk = is_talk law d paths seed m ms h r g;
       left = Some [];
-      goes = (Some (output seed (m ∷ ms)), refl,
-          record { came = output seed (m ∷ ms); left = Some []; part = ap Some (sym (append-nil (output seed (m ∷ ms)))); taken = refl; whole = λ lt. refl }, refl);
+      goes = (
+        Some (output seed (m ∷ ms)),
+        refl,
+        record { came = output seed (m ∷ ms); left = Some []; part = ap Some (sym (append-nil (output seed (m ∷ ms)))); taken = refl; whole = λ lt. refl },
+        refl,
+      );
       fine = (refl, tt);
       memory = λ p here bad.
           let f = found p (m ∷ ms) here in

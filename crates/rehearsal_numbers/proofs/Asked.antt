@@ -1,6 +1,6 @@
 -- How each path of a rehearsal is converted, and who writes it.
-use Rattle.std.proofs.Common.{◌≡◌, ℕ, zero, suc, ◌+◌, ◌*◌, ◌<◌, ◌/◌, ◌%◌, Bool, true, false, List, [], ◌∷◌, ◌++◌, refl, sym, ap, ◌∙◌, subst, arith, length, map, Some, None, Result, Ok, Err, get_or}
-use Rattle.std.specs.Prelude.{codes, ◌==◌, if◌then◌else◌, slice_index}
+use Rattle.std.proofs.Common.{◌≡◌, ℕ, zero, suc, ◌+◌, ◌*◌, ◌<◌, ◌/◌, ◌%◌, true, false, List, [], ◌∷◌, refl, sym, ap, ◌∙◌, subst, arith, map}
+use Rattle.std.specs.Prelude.{codes}
 use Rattle.std.specs.Option.{unwrap_or}
 use Rattle.std.specs.List.{AllByRecursion}
 use Rattle.std.specs.Str.{IsAscii, chars, is_utf8}
@@ -16,7 +16,7 @@ use Rattle.bstr.specs.Text.{lines_from, line_len}
 use Rattle.wild_match.specs.Pieces.{plain_front, front}
 use Rattle.wild_match.specs.Fits.{is_match}
 use Rattle.attr_stack.specs.Macros.{macros_of}
-use Rattle.attr_stack.specs.Decided.{decided, said_of, no_names, state_of}
+use Rattle.attr_stack.specs.Decided.{decided, said_of, no_names}
 use Rattle.attr_stack.specs.Pairs.{pairs_of, pairs_before}
 use Rattle.attr_stack.specs.declared.files.AttrFiles.{AttrFiles}
 use Rattle.eol_convert.specs.declared.setting.AutoCrlf.TheVariants as crlf
@@ -30,11 +30,11 @@ use Rattle.settings_view.specs.declared.view.Settings.{Settings}
 use Rattle.checkout_plan.specs.declared.path_plan.PathPlan.{PathPlan}
 use Rattle.checkout_plan.specs.Paths.{asked_path, filter_start, converted, conversion_names}
 use Rattle.rehearsal.specs.Paths.{kind, name, content}
-use Rattle.rehearsal.specs.Repository.{attributes, attributes_name, entry_of} 
+use Rattle.rehearsal.specs.Repository.{attributes, attributes_name, entry_of}
 use Rattle.rehearsal.specs.Repository as repository
 use Rattle.rehearsal_numbers.specs.Contents.{name_of}
 use Rattle.rehearsal_numbers.specs.Plans.{conversion_at, start_at, path_at, attributes_path, alpha, beta}
-use Rattle.rehearsal_numbers.proofs.Rows.{file, top, spelled, says, folders_say}
+use Rattle.rehearsal_numbers.proofs.Rows.{top, spelled, says, folders_say}
 
 abbrev pub settings : Settings
 settings = record {

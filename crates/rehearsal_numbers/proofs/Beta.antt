@@ -1,11 +1,11 @@
 -- The talk of a rehearsal with its driver `beta`.
-use Rattle.std.proofs.Common.{◌≡◌, ℕ, zero, suc, ◌+◌, ◌<◌, ◌≤◌, inl, inr, ◌⊎◌, ⊎_elim, Bool, true, false, cond, List, [], ◌∷◌, ◌++◌, map, length, length-append, Some, None, refl, sym, ap, ◌∙◌, subst, arith, eq-eqb, ne_eqb}
+use Rattle.std.proofs.Common.{◌≡◌, ℕ, ◌<◌, ◌≤◌, inl, inr, ⊎_elim, Bool, true, false, cond, List, [], ◌∷◌, ◌++◌, length, length-append, Some, None, refl, sym, ap, ◌∙◌, arith, eq-eqb, ne_eqb}
 use Rattle.std.specs.Prelude.{codes, ◌==◌, ◌||◌, if◌then◌else◌, Option}
 use Rattle.std.specs.List.{AllByRecursion, flat_map}
 use Rattle.std.proofs.lemmas.List.{append-nil}
 use Rattle.std.proofs.lemmas.Bool.{true≢false}
 use Rattle.pkt_line.specs.Spelling.{spelling_all}
-use Rattle.edge_kit.specs.Starters.{Had, Session, SessionHad, Gives}
+use Rattle.edge_kit.specs.Starters.{Session, SessionHad, Gives}
 use Rattle.filter_words.specs.Requests.{hello_text, caps_text}
 use Rattle.filter_words.specs.declared.reply.Reply.TheVariants as reply
 use Rattle.filter_proto.specs.Exchanges.{Good}
@@ -13,17 +13,17 @@ use Rattle.checkout_core.specs.declared.event.Event.{Event}
 use Rattle.checkout_core.specs.declared.path.Heard.{Heard}
 use Rattle.checkout_core.specs.declared.path.Heard.TheVariants as heard
 use Rattle.checkout_core.specs.declared.verdict.FilterCause.TheVariants as cause
-use Rattle.checkout_core.specs.Fates.{Fate, Untold, Known, fate_of, fate_after}
-use Rattle.checkout_core.specs.Talks.{Talk, Between, InRound, Ended, contains, opened, talk_run}
+use Rattle.checkout_core.specs.Fates.{Fate, Untold, Known, fate_of}
+use Rattle.checkout_core.specs.Talks.{Talk, Between, InRound, Ended, talk_run}
 use Rattle.driver_line.specs.Conversations.{Exchange, Opening, First, Shutting, notes_of, notes_in, FitsTalk, LeadsTo}
 use Rattle.driver_line.specs.Lines.{Paths}
 use Rattle.driver_line.specs.SameHeard.{IsToldTalk, fate_in, content_of}
 use Rattle.driver_line.specs.Transcripts.{Spoken, AnswerIs, IsTalk, IsOpenedSession, request_of, AllFit, all_fine}
-use Rattle.rehearsal.specs.Paths.{kind, content, line_of, lines}
-use Rattle.rehearsal.specs.Drivers.{status, beta_first, beta_text, filtered}
+use Rattle.rehearsal.specs.Paths.{kind, content, line_of}
+use Rattle.rehearsal.specs.Drivers.{status, beta_first, filtered}
 use Rattle.rehearsal_numbers.specs.Plans.{is_beta}
 use Rattle.rehearsal_numbers.proofs.Sizes.{short_content}
-use Rattle.rehearsal_numbers.proofs.Marked.{Mark, places, numbers, Among, Rises, all_at, found, other_place}
+use Rattle.rehearsal_numbers.proofs.Marked.{Mark, places, numbers, Among, Rises, all_at, found, other_place, self}
 use Rattle.rehearsal_numbers.proofs.Replies.{SpellingSpells, good_part, error_part, beta_caps, beta_hello, beta_opens}
 
 -- what a driver gives for a path
@@ -74,11 +74,15 @@ spoken : SpellingSpells → (paths : Paths) (seed : ℕ) (ms : List Mark) → Ar
     → Spoken paths beta_caps (said seed ms) (requests paths seed ms) (flat_map (beta_first seed) (numbers ms))
 spoken law paths seed [] h = inr ([], [], [], refl, refl, refl, refl)
 spoken law paths seed (m ∷ ms) h =
-    inr (requests paths seed ms, beta_first seed m.number, flat_map (beta_first seed) (numbers ms), refl, refl,
-    answer_is law paths seed m (flat_map (beta_first seed) (numbers ms)) h.0, spoken law paths seed ms h.1)
-
-self : (n : ℕ) → (n == n) ≡ true
-self n = eq-eqb n n refl
+    inr (
+      requests paths seed ms,
+      beta_first seed m.number,
+      flat_map (beta_first seed) (numbers ms),
+      refl,
+      refl,
+      answer_is law paths seed m (flat_map (beta_first seed) (numbers ms)) h.0,
+      spoken law paths seed ms h.1,
+    )
 
 -- the talk before the paths that are left
 abbrev round : List ℕ → Talk
@@ -168,9 +172,15 @@ session law paths seed ms h = record {
 pub is_talk : SpellingSpells → (d : ℕ) (paths : Paths) (seed : ℕ) (m : Mark) (ms : List Mark) → AreBetas seed (m ∷ ms)
     → IsTalk d paths (places (m ∷ ms)) (Session (seen paths seed (m ∷ ms)) ∷ []) (exchanges seed m ms)
 is_talk law d paths seed m ms h = record {
-  spells = (m.place, Good beta_caps, said seed (m ∷ ms), [],
-      ap (λ (es : List Exchange). Opening m.place (Good beta_caps) ∷ es) (sym (append-nil (said seed (m ∷ ms)))),
-      session law paths seed (m ∷ ms) h, refl);
+  spells = (
+    m.place,
+    Good beta_caps,
+    said seed (m ∷ ms),
+    [],
+    ap (λ (es : List Exchange). Opening m.place (Good beta_caps) ∷ es) (sym (append-nil (said seed (m ∷ ms)))),
+    session law paths seed (m ∷ ms) h,
+    refl,
+  );
   end = Ended;
   goes = leads_all d seed m ms;
   over = tt;
@@ -183,7 +193,8 @@ fate_at seed i = if kind seed i == 6 then Known heard.Got else Known (heard.Refu
 abbrev pub content_at : ℕ → ℕ → Option (List ℕ)
 content_at seed i = if kind seed i == 6 then Some (answer (codes "beta") seed i) else None
 
-stays : (p : ℕ) (h : Heard) (es : List Event) → fate_of p (Known h) es ≡ Known h
+-- what is known stays so
+pub stays : (p : ℕ) (h : Heard) (es : List Event) → fate_of p (Known h) es ≡ Known h
 stays p h [] = refl
 stays p h (e ∷ es) = stays p h es
 

@@ -1,7 +1,7 @@
 -- A checkout of a rehearsal that nothing disturbed: each path's outcome, and each driver's talk.
-use Rattle.std.proofs.Common.{◌≡◌, ℕ, zero, suc, ◌+◌, ◌*◌, ◌<◌, ◌≤◌, inl, inr, ◌⊎◌, ⊎_elim, Bool, true, false, cond, not, ◌&&◌, ◌||◌, List, [], ◌∷◌, ◌++◌, map, length, Some, None, refl, sym, ap, ◌∙◌, subst, arith}
-use Rattle.std.specs.Prelude.{codes, ◌==◌, if◌then◌else◌, slice_get, sum_by, Option}
-use Rattle.std.specs.List.{AllByRecursion, list_any}
+use Rattle.std.proofs.Common.{◌≡◌, ℕ, zero, suc, ◌+◌, ◌≤◌, Bool, true, false, ◌||◌, List, [], ◌∷◌, map, length, Some, None, refl, sym, ap, ◌∙◌, subst, arith}
+use Rattle.std.specs.Prelude.{slice_get, Option}
+use Rattle.std.specs.List.{AllByRecursion}
 use Rattle.std.specs.Str.{bytes_eq}
 use Rattle.std.proofs.lemmas.List.Sums.{sum_by-append, sum_by-cons}
 use Rattle.std.proofs.lemmas.Bool.{true≢false}
@@ -10,13 +10,10 @@ use Rattle.edge_kit.specs.MemoryDrivers.{starts_for}
 use Rattle.edge_kit.specs.Starters.{Starts}
 use Rattle.edge_kit.specs.Told.{Told, Raw, RepoTold}
 use Rattle.edge_kit.specs.declared.leaf_state.LeafState.{LeafState}
-use Rattle.object_dir.specs.Object.{object_of}
 use Rattle.object_dir.specs.Spelling.{spelled_blob}
 use Rattle.settings_view.specs.declared.view.Driver.{Driver}
 use Rattle.checkout_core.specs.declared.event.Event.{Event}
 use Rattle.checkout_core.specs.declared.verdict.Verdict.{Verdict}
-use Rattle.checkout_core.specs.declared.path.Start.{Start}
-use Rattle.checkout_core.specs.declared.path.Start.TheVariants as start
 use Rattle.driver_line.specs.SameHeard.{NoneFailed}
 use Rattle.checkout_plan.specs.declared.path_plan.PathPlan.{PathPlan}
 use Rattle.checkout_engine.specs.Complete.{failed_leaves}
@@ -25,13 +22,13 @@ use Rattle.checkout_engine.specs.Outcome.{Outcome, HasOutcome, AreOutcomes, leaf
 use Rattle.checkout_engine.specs.Paths.{leaves_back}
 use Rattle.checkout_engine.specs.Report.{is_no_memory, lacks_memory}
 use Rattle.checkout_engine.specs.Talks.{DriverTalk, IsDriverTalk, AreDriverTalks}
-use Rattle.rehearsal.specs.Paths.{kind, name, content}
+use Rattle.rehearsal.specs.Paths.{name, content}
 use Rattle.rehearsal.specs.Repository.{files, IsRepository}
 use Rattle.rehearsal.specs.Drivers.{scripts}
 use Rattle.rehearsal_numbers.specs.Contents.{name_of}
-use Rattle.rehearsal_numbers.specs.Plans.{paths_of, drivers_of, path_at, beta_number}
+use Rattle.rehearsal_numbers.specs.Plans.{paths_of, drivers_of, path_at}
 use Rattle.rehearsal_numbers.proofs.Lists.{Differ}
-use Rattle.rehearsal_numbers.proofs.Objects.{In, told_at, content_right}
+use Rattle.rehearsal_numbers.proofs.Objects.{told_at}
 use Rattle.rehearsal_numbers.proofs.PathEnds.{leaf_count}
 use Rattle.rehearsal_numbers.proofs.Places.{in_at}
 
@@ -55,7 +52,7 @@ pub record FineAt (object : List ℕ → Told) (talks : List DriverTalk) (os : L
   pub memory : is_no_memory outcome.verdict ≡ false
   pub leaf : leaf_count outcome.leaf ≡ 0
 
-or_parts : (a b : Bool) → (a || b) ≡ false → (a ≡ false) × (b ≡ false)
+pub or_parts : (a b : Bool) → (a || b) ≡ false → (a ≡ false) × (b ≡ false)
 or_parts true b h = absurd (true≢false h)
 or_parts false b h = (refl, h)
 

@@ -1,26 +1,24 @@
 -- What the paths of a driver heard in a checkout, against the talk that its script tells.
-use Rattle.std.proofs.Common.{◌≡◌, ℕ, zero, suc, ◌+◌, ◌*◌, ◌<◌, ◌≤◌, inl, inr, ◌⊎◌, ⊎_elim, Bool, true, false, cond, not, ◌&&◌, ◌||◌, List, [], ◌∷◌, ◌++◌, map, length, Some, None, refl, sym, ap, ◌∙◌, subst, arith, eq-eqb}
-use Rattle.std.specs.Prelude.{codes, ◌==◌, if◌then◌else◌, slice_get, Option}
+use Rattle.std.proofs.Common.{◌≡◌, ℕ, zero, suc, ◌+◌, ◌*◌, ◌<◌, inl, inr, ⊎_elim, Bool, true, false, cond, List, [], ◌∷◌, Some, None, refl, sym, ap, ◌∙◌, subst, arith, eq-eqb}
+use Rattle.std.specs.Prelude.{slice_get}
 use Rattle.std.specs.List.{AllByRecursion}
 use Rattle.std.proofs.lemmas.Bool.{true≢false}
 use Rattle.edge_kit.specs.MemoryDrivers.{starts_for}
-use Rattle.edge_kit.specs.Starters.{Had, StartTold, Starts, Gives}
-use Rattle.edge_kit.specs.Told.{Told, RepoTold}
+use Rattle.edge_kit.specs.Starters.{Had, Starts, Gives}
+use Rattle.edge_kit.specs.Told.{RepoTold}
 use Rattle.object_dir.specs.Spelling.{spelled_blob}
 use Rattle.settings_view.specs.declared.view.Driver.{Driver}
 use Rattle.checkout_core.specs.declared.event.Event.{Event}
-use Rattle.checkout_core.specs.declared.path.Heard.{Heard}
 use Rattle.checkout_core.specs.declared.path.Heard.TheVariants as heard
 use Rattle.checkout_core.specs.declared.path.Start.{Start}
 use Rattle.checkout_core.specs.declared.path.Start.TheVariants as start
-use Rattle.checkout_core.specs.Fates.{Fate, Known, heard_by, heard_in}
+use Rattle.checkout_core.specs.Fates.{Known, heard_by}
 use Rattle.checkout_core.specs.States.{is_at}
 use Rattle.checkout_core.specs.Talks.{contains}
-use Rattle.driver_line.specs.Conversations.{Exchange, notes_in}
+use Rattle.driver_line.specs.Conversations.{Exchange}
 use Rattle.driver_line.specs.OneContent.{Gives as GivesContent, HasGiven, OneContent}
-use Rattle.driver_line.specs.SameHeard.{NoneFailed, AreApart, HaveTexts, IsToldTalk, SameHeard, fate_in, content_of}
+use Rattle.driver_line.specs.SameHeard.{AreApart, HaveTexts, IsToldTalk, SameHeard, fate_in, content_of}
 use Rattle.driver_line.specs.Conversations.{First, Second, NoStart, NoRoom, Opening, Listing, Shutting}
-use Rattle.filter_words.specs.declared.reply.Reply.{Reply}
 use Rattle.filter_words.specs.declared.reply.Reply.TheVariants as reply
 use Rattle.driver_line.specs.ToldStarts.{GoBy}
 use Rattle.driver_desk.specs.Serving.{HasAnswer, IsAnswer}
@@ -28,19 +26,19 @@ use Rattle.checkout_plan.specs.declared.path_plan.PathPlan.{PathPlan}
 use Rattle.checkout_engine.specs.Ends.{verdicts_of}
 use Rattle.checkout_engine.specs.Outcome.{Outcome, HasOutcome, HasDeskVerdict}
 use Rattle.checkout_engine.specs.Report.{is_no_memory}
-use Rattle.checkout_engine.specs.Talks.{DriverTalk, IsDriverTalk, heard_at, was_read, Gave}
+use Rattle.checkout_engine.specs.Talks.{DriverTalk, IsDriverTalk, heard_at, Gave}
 use Rattle.rehearsal.specs.Paths.{kind, name, content}
 use Rattle.rehearsal.specs.Drivers.{scripts}
 use Rattle.rehearsal_numbers.specs.Plans.{paths_of, attributes_path, path_at, start_at, beta_number}
 use Rattle.rehearsal_numbers.proofs.Asked.{below_eight}
-use Rattle.rehearsal_numbers.proofs.Marked.{Mark, places, numbers, Among, Rises, all_at, all_from, holds, found}
+use Rattle.rehearsal_numbers.proofs.Marked.{Mark, places, Among, Rises, all_at, all_from, holds, found}
 use Rattle.rehearsal_numbers.proofs.Alpha.{HaveNames}
 use Rattle.rehearsal_numbers.proofs.Rising.{IsRising, same_rising}
 use Rattle.rehearsal_numbers.proofs.Rising as rising
 use Rattle.rehearsal_numbers.proofs.Objects.{content_right}
 use Rattle.rehearsal_numbers.proofs.PathEnds.{leaf_count, read_is, had_memory}
 use Rattle.rehearsal_numbers.proofs.Places.{marks_from, marks_rise, marks_pass, place_is, mark_is}
-use Rattle.rehearsal_numbers.proofs.Checkouts.{IsRehearsal, FineAt, fine_at, TalkAt, talk_at, links_at, got_path, path_got, verdict_got, one_place, object_is}
+use Rattle.rehearsal_numbers.proofs.Checkouts.{IsRehearsal, fine_at, links_at, got_path, path_got, verdict_got, one_place, object_is}
 
 -- places that rise
 above_all : (p : ℕ) (ms : List Mark) → AllByRecursion (λ m. p < m.place) ms → (j n : ℕ) → slice_get (places ms) j ≡ Some n → p < n
@@ -153,7 +151,7 @@ module _ (law : SameHeard) (one : OneContent) (d : ℕ) (required : Bool) (test 
       let e : test (kind seed m.number) ≡ true = all_at (λ x. test (kind seed x.number) ≡ true) ms (marks_pass test seed 1 is) m h in
       let x = ended at.0 m.number at.2 e in
       let read = read_is (told.object (path m.number).object) (path m.number) (raw m.number) (content seed m.number)
-          (object_is seed is told g.made at.0 m.number at.2) (content_right seed m.number) required d t (1 + at.0) x.outcome x.leaf x.memory x.has in
+      (object_is seed is told g.made at.0 m.number at.2) (content_right seed m.number) required d t (1 + at.0) x.outcome x.leaf x.memory x.has in
       ap (λ (n : ℕ). contains n t.asked) at.1
       ∙ said.over.asked (1 + at.0) (path m.number) (x.outcome).verdict (path_there at.0 m.number at.2) x.there (path_at_desk m.number e) x.memory
       ∙ read
@@ -167,7 +165,7 @@ module _ (law : SameHeard) (one : OneContent) (d : ℕ) (required : Bool) (test 
   marked (suc k) p at e =
       let x = got_path b seed is k p at in
       let test_is : test (kind seed x.0) ≡ true =
-          has_test k x.0 x.1 (ap (λ (q : PathPlan). is_at d q.start) (sym x.2) ∙ e) in
+      has_test k x.0 x.1 (ap (λ (q : PathPlan). is_at d q.start) (sym x.2) ∙ e) in
       let other : ◌≡◌ {A = ℕ} (1 + k) (suc k) = omega arith in
       (x.0, subst (λ (n : ℕ). Among (record { place = n; number = x.0 }) ms) other (place_is test seed 1 k x.0 is x.1 test_is), x.2)
 
@@ -199,7 +197,7 @@ module _ (law : SameHeard) (one : OneContent) (d : ℕ) (required : Bool) (test 
       let at = mark_is test seed 1 is m h in
       let p = said.over.each m.place (asks_each m h) in
       let there : slice_get (paths_of seed is) m.place ≡ Some (path m.number) =
-          ap (slice_get (paths_of seed is)) at.1 ∙ path_there at.0 m.number at.2 in
+      ap (slice_get (paths_of seed is)) at.1 ∙ path_there at.0 m.number at.2 in
       let both : Some p.0 ≡ Some (path m.number) = sym p.1 ∙ there in
       let same : p.0 ≡ path m.number = cc (both) in
       p.3 ∙ ap (λ (q : PathPlan). q.path) same
@@ -214,7 +212,7 @@ module _ (law : SameHeard) (one : OneContent) (d : ℕ) (required : Bool) (test 
       let k = mark_is test seed 1 is x.0 x.1 in
       let l = mark_is test seed 1 is y.0 y.1 in
       let texts : name seed (x.0).number ≡ name seed (y.0).number =
-          sym (name_is x.0 x.1) ∙ ap t.paths.text (sym x.2) ∙ e ∙ ap t.paths.text y.2 ∙ name_is y.0 y.1 in
+      sym (name_is x.0 x.1) ∙ ap t.paths.text (sym x.2) ∙ e ∙ ap t.paths.text y.2 ∙ name_is y.0 y.1 in
       let same : k.0 ≡ l.0 = one_place seed is g.differ k.0 l.0 (x.0).number (y.0).number k.2 l.2 texts in
       omega (arith, x.2, y.2, k.1, l.1, same)
 
@@ -229,7 +227,7 @@ module _ (law : SameHeard) (one : OneContent) (d : ℕ) (required : Bool) (test 
       let e : test (kind seed m.number) ≡ true = all_at (λ x. test (kind seed x.number) ≡ true) ms (marks_pass test seed 1 is) m f.1 in
       let x = ended at.0 m.number at.2 e in
       let hears : heard_at d t (1 + at.0) ≡ Some heard.OutOfMemory =
-          ap (heard_at d t) (sym (f.2 ∙ at.1)) ∙ heard_is n h ∙ ap heard_by bad in
+      ap (heard_at d t) (sym (f.2 ∙ at.1)) ∙ heard_is n h ∙ ap heard_by bad in
       had_memory (told.object (path m.number).object) (path m.number) (raw m.number) (content seed m.number)
       (object_is seed is told g.made at.0 m.number at.2) (content_right seed m.number) required d t (1 + at.0) x.outcome x.leaf x.memory x.has hears
 
@@ -253,7 +251,7 @@ module _ (law : SameHeard) (one : OneContent) (d : ℕ) (required : Bool) (test 
       → (heard_at d t m.place ≡ heard_by (fate_in d m.place es)) × (content_of m.place t.exchanges ≡ content_of m.place es)
   hears had es mine m h =
       let both = (law d t.paths t.paths (places ms) (Gives output ∷ []) t.had had t.exchanges es apart_places have_texts (λ p is. refl) told_talk mine).0
-          m.place (holds m ms h) in
+      m.place (holds m ms h) in
       (heard_is m.place (asks_each m h) ∙ ap heard_by both.0, both.1)
 
   -- and what was given is one content

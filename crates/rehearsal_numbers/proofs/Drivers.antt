@@ -1,11 +1,11 @@
 -- What each path of the two drivers of a rehearsal heard, and got.
-use Rattle.std.proofs.Common.{◌≡◌, ℕ, zero, suc, ◌+◌, ◌*◌, ◌<◌, ◌≤◌, inl, inr, ◌⊎◌, ⊎_elim, Bool, true, false, cond, not, ◌&&◌, ◌||◌, List, [], ◌∷◌, ◌++◌, map, length, Some, None, refl, sym, ap, ◌∙◌, subst, arith, eq-eqb}
+use Rattle.std.proofs.Common.{◌≡◌, ℕ, zero, suc, ◌+◌, ◌<◌, ◌≤◌, Bool, true, false, ◌||◌, List, [], ◌∷◌, ◌++◌, length, Some, refl, sym, ap, ◌∙◌, subst, arith}
 use Rattle.std.specs.Prelude.{codes, ◌==◌, if◌then◌else◌, slice_get, Option}
-use Rattle.std.specs.List.{AllByRecursion, list_any, flat_map}
+use Rattle.std.specs.List.{flat_map}
 use Rattle.std.proofs.lemmas.Bool.{true≢false}
 use Rattle.pkt_line.specs.Spelling.{spelling_all}
 use Rattle.edge_kit.specs.MemoryDrivers.{starts_for}
-use Rattle.edge_kit.specs.Starters.{Had, Starts, Gives, Session}
+use Rattle.edge_kit.specs.Starters.{Had, Gives, Session}
 use Rattle.edge_kit.specs.Told.{RepoTold}
 use Rattle.settings_view.specs.declared.view.Driver.{Driver}
 use Rattle.checkout_core.specs.declared.event.Event.{Event}
@@ -22,7 +22,7 @@ use Rattle.checkout_engine.specs.Ends.{verdicts_of}
 use Rattle.checkout_engine.specs.Outcome.{Outcome}
 use Rattle.checkout_engine.specs.Talks.{DriverTalk, IsDriverTalk, heard_at, Gave}
 use Rattle.rehearsal.specs.Paths.{kind}
-use Rattle.rehearsal.specs.Drivers.{scripts, alpha_text, beta_text, alpha_first, beta_first, alpha_lists}
+use Rattle.rehearsal.specs.Drivers.{scripts, alpha_text, beta_text, beta_first}
 use Rattle.rehearsal_numbers.specs.Plans.{paths_of, drivers_of, alpha, beta, is_alpha, is_beta, has_kind, start_at, beta_number}
 use Rattle.rehearsal_numbers.proofs.Asked.{eight}
 use Rattle.rehearsal_numbers.proofs.Marked.{Mark, places, numbers, Among, Rises}
@@ -32,7 +32,7 @@ use Rattle.rehearsal_numbers.proofs.Beta as second
 use Rattle.rehearsal_numbers.proofs.Alpha.{AreAlphas, HaveNames}
 use Rattle.rehearsal_numbers.proofs.AlphaTold as first
 use Rattle.rehearsal_numbers.proofs.Places.{place_is, marks_from, marks_rise, marks_pass, marks_few, alpha_firsts, beta_firsts, alpha_lists_are}
-use Rattle.rehearsal_numbers.proofs.Checkouts.{IsRehearsal, TalkAt, talk_at}
+use Rattle.rehearsal_numbers.proofs.Checkouts.{IsRehearsal, talk_at}
 use Rattle.rehearsal_numbers.proofs.Driven as driven
 
 -- a path of some kind is there
@@ -136,7 +136,7 @@ alpha_driver : (seed : ℕ) (is : List ℕ) (driver : Driver) → has_kind is_al
     → slice_get (drivers_of seed is) 0 ≡ Some driver → driver ≡ alpha
 alpha_driver seed is driver h at =
     let same : Some driver ≡ Some alpha =
-        sym at ∙ ap (λ (t : Bool). slice_get ((if t then alpha ∷ [] else []) ++ (if has_kind is_beta seed is then beta ∷ [] else [])) 0) h in
+    sym at ∙ ap (λ (t : Bool). slice_get ((if t then alpha ∷ [] else []) ++ (if has_kind is_beta seed is then beta ∷ [] else [])) 0) h in
     cc (same)
 
 beta_driver : (seed : ℕ) (is : List ℕ) (driver : Driver) → has_kind is_beta seed is ≡ true
@@ -172,27 +172,31 @@ module _ (spells : SpellingSpells) (law : SameHeard) (one : OneContent) (seed : 
       let x = talk_at (starts_for (scripts seed is)) told.object (paths_of seed is) (verdicts_of outcomes) history 0 (drivers_of seed is) talks g.conversations 0 t here in
       let is_driver = alpha_driver seed is x.driver some x.there in
       let command : t.command ≡ codes "alpha" =
-          (let both : Some t.command ≡ Some (codes "alpha") = sym (x.said).command ∙ ap (λ (y : Driver). y.process) is_driver in cc (both)) in
+      (let both : Some t.command ≡ Some (codes "alpha") = sym (x.said).command ∙ ap (λ (y : Driver). y.process) is_driver in cc (both)) in
       let ahead : starts_for (scripts seed is) t.command ≡ Some (Gives (alpha_text seed is) ∷ []) =
-          ap (starts_for (scripts seed is)) command ∙ starts_alpha seed is in
+      ap (starts_for (scripts seed is)) command ∙ starts_alpha seed is in
       let begins = alpha_begins (beta_number seed is) in
       let has_test : (k i : ℕ) → slice_get is k ≡ Some i → is_at 0 (start_at (beta_number seed is) (kind seed i)) ≡ true → is_alpha (kind seed i) ≡ true =
-          λ l j a h. alpha_test (beta_number seed is) (kind seed j) second_one h in
+      λ l j a h. alpha_test (beta_number seed is) (kind seed j) second_one h in
       let ms = marks_from is_alpha 1 seed is in
       let m : Mark = record { place = 1 + k; number = i } in
       let among : Among m ms = place_is is_alpha seed 1 k i is at e in
       let mine = alpha_told spells 0 t.paths seed ms (marks_pass is_alpha seed 1 is)
-          (driven.names law one 0 true is_alpha (alpha_text seed is) seed is told talks outcomes history g begins has_test t x.driver x.said here ahead)
-          (driven.have_texts law one 0 true is_alpha (alpha_text seed is) seed is told talks outcomes history g begins has_test t x.driver x.said here ahead)
-          (marks_rise is_alpha seed 1 is) (omega (arith, marks_few is_alpha seed 1 is, g.few)) m among in
+      (driven.names law one 0 true is_alpha (alpha_text seed is) seed is told talks outcomes history g begins has_test t x.driver x.said here ahead)
+      (driven.have_texts law one 0 true is_alpha (alpha_text seed is) seed is told talks outcomes history g begins has_test t x.driver x.said here ahead)
+      (marks_rise is_alpha seed 1 is) (omega (arith, marks_few is_alpha seed 1 is, g.few)) m among in
       let talk : IsToldTalk 0 t.paths (places ms) (Gives (alpha_text seed is) ∷ []) mine.had mine.exchanges =
-          subst (λ (o : List ℕ). IsToldTalk 0 t.paths (places ms) (Gives o ∷ []) mine.had mine.exchanges) (alpha_output seed is) mine.talk in
+      subst (λ (o : List ℕ). IsToldTalk 0 t.paths (places ms) (Gives o ∷ []) mine.had mine.exchanges) (alpha_output seed is) mine.talk in
       let both = driven.hears law one 0 true is_alpha (alpha_text seed is) seed is told talks outcomes history g begins has_test t x.driver x.said here ahead
-          mine.had mine.exchanges talk m among in
+      mine.had mine.exchanges talk m among in
       record {
         heard = both.0 ∙ ap heard_by (mine.hears m among);
-        got = λ bytes gave. (content_of m.place mine.exchanges, mine.gets m among, sym both.1
-            ∙ driven.gave_one law one 0 true is_alpha (alpha_text seed is) seed is told talks outcomes history g begins has_test t x.driver x.said here ahead m among bytes gave);
+        got = λ bytes gave. (
+          content_of m.place mine.exchanges,
+          mine.gets m among,
+          sym both.1
+              ∙ driven.gave_one law one 0 true is_alpha (alpha_text seed is) seed is told talks outcomes history g begins has_test t x.driver x.said here ahead m among bytes gave,
+        );
       }
 
   pub beta_heard : (t : DriverTalk) → slice_get talks (beta_number seed is) ≡ Some t → (k i : ℕ) → slice_get is k ≡ Some i
@@ -204,25 +208,29 @@ module _ (spells : SpellingSpells) (law : SameHeard) (one : OneContent) (seed : 
       let x = talk_at (starts_for (scripts seed is)) told.object (paths_of seed is) (verdicts_of outcomes) history 0 (drivers_of seed is) talks g.conversations d t here in
       let number : ◌≡◌ {A = ℕ} (0 + d) d = omega arith in
       let said : IsDriverTalk (starts_for (scripts seed is)) told.object (paths_of seed is) (verdicts_of outcomes) history d x.driver t =
-          subst (λ (n : ℕ). IsDriverTalk (starts_for (scripts seed is)) told.object (paths_of seed is) (verdicts_of outcomes) history n x.driver t) number x.said in
+      subst (λ (n : ℕ). IsDriverTalk (starts_for (scripts seed is)) told.object (paths_of seed is) (verdicts_of outcomes) history n x.driver t) number x.said in
       let is_driver = beta_driver seed is x.driver some x.there in
       let command : t.command ≡ codes "beta" =
-          (let both : Some t.command ≡ Some (codes "beta") = sym said.command ∙ ap (λ (y : Driver). y.process) is_driver in cc (both)) in
+      (let both : Some t.command ≡ Some (codes "beta") = sym said.command ∙ ap (λ (y : Driver). y.process) is_driver in cc (both)) in
       let ahead : starts_for (scripts seed is) t.command ≡ Some (Gives (beta_text seed is) ∷ []) =
-          ap (starts_for (scripts seed is)) command ∙ starts_beta seed is in
+      ap (starts_for (scripts seed is)) command ∙ starts_beta seed is in
       let begins = beta_begins (beta_number seed is) in
       let has_test : (k i : ℕ) → slice_get is k ≡ Some i → is_at d (start_at (beta_number seed is) (kind seed i)) ≡ true → is_beta (kind seed i) ≡ true =
-          λ l j a h. beta_test (beta_number seed is) (kind seed j) (λ f. beta_second seed is (some_kind is_alpha seed is l j a f)) h in
+      λ l j a h. beta_test (beta_number seed is) (kind seed j) (λ f. beta_second seed is (some_kind is_alpha seed is l j a f)) h in
       let ms = marks_from is_beta 1 seed is in
       let m : Mark = record { place = 1 + k; number = i } in
       let among : Among m ms = place_is is_beta seed 1 k i is at e in
       let mine = beta_told spells d t.paths seed ms (marks_pass is_beta seed 1 is) (marks_rise is_beta seed 1 is) m among in
       let talk : IsToldTalk d t.paths (places ms) (Gives (beta_text seed is) ∷ []) mine.had mine.exchanges =
-          subst (λ (o : List ℕ). IsToldTalk d t.paths (places ms) (Gives o ∷ []) mine.had mine.exchanges) (beta_output seed is) mine.talk in
+      subst (λ (o : List ℕ). IsToldTalk d t.paths (places ms) (Gives o ∷ []) mine.had mine.exchanges) (beta_output seed is) mine.talk in
       let both = driven.hears law one d false is_beta (beta_text seed is) seed is told talks outcomes history g begins has_test t x.driver said here ahead
-          mine.had mine.exchanges talk m among in
+      mine.had mine.exchanges talk m among in
       record {
         heard = both.0 ∙ ap heard_by (mine.hears m among);
-        got = λ bytes gave. (content_of m.place mine.exchanges, mine.gets m among, sym both.1
-            ∙ driven.gave_one law one d false is_beta (beta_text seed is) seed is told talks outcomes history g begins has_test t x.driver said here ahead m among bytes gave);
+        got = λ bytes gave. (
+          content_of m.place mine.exchanges,
+          mine.gets m among,
+          sym both.1
+              ∙ driven.gave_one law one d false is_beta (beta_text seed is) seed is told talks outcomes history g begins has_test t x.driver said here ahead m among bytes gave,
+        );
       }

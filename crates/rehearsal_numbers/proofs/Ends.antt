@@ -1,13 +1,11 @@
 -- How each path of a rehearsal ends.
-use Rattle.std.proofs.Common.{◌≡◌, ℕ, zero, suc, ◌+◌, ◌*◌, ◌<◌, ◌≤◌, ◌%◌, inl, inr, ◌⊎◌, ⊎_elim, Bool, true, false, cond, not, ◌&&◌, ◌||◌, List, [], ◌∷◌, ◌++◌, map, length, length-append, Some, None, refl, sym, ap, ◌∙◌, subst, arith}
+use Rattle.std.proofs.Common.{◌≡◌, ℕ, suc, ◌+◌, ◌%◌, Bool, true, false, not, ◌&&◌, ◌||◌, List, length, length-append, Some, None, refl, sym, ap, ◌∙◌, subst, arith}
 use Rattle.std.specs.Prelude.{codes, ◌==◌, if◌then◌else◌, slice_get, Option}
 use Rattle.std.proofs.lemmas.Bool.{true≢false}
 use Rattle.edge_kit.specs.Told.{RepoTold}
 use Rattle.edge_kit.specs.declared.tree_file.TreeFile.{TreeFile}
-use Rattle.object_dir.specs.Object.{object_of}
 use Rattle.object_dir.specs.Spelling.{spelled_blob}
 use Rattle.checkout_core.specs.declared.event.Event.{Event}
-use Rattle.checkout_core.specs.declared.verdict.Verdict.{Verdict}
 use Rattle.checkout_core.specs.declared.verdict.Verdict.TheVariants as verdict
 use Rattle.checkout_core.specs.declared.verdict.FailCause.TheVariants as fail
 use Rattle.checkout_core.specs.declared.verdict.FilterCause.{FilterCause}
@@ -22,13 +20,11 @@ use Rattle.convert_plan.specs.Prepared.{prepared}
 use Rattle.checkout_report.specs.Report as report
 use Rattle.checkout_plan.specs.declared.path_plan.PathPlan.{PathPlan}
 use Rattle.checkout_engine.specs.Outcome.{Outcome, HasOutcome, HasDeskVerdict, file_with}
-use Rattle.checkout_engine.specs.Report.{is_no_memory}
 use Rattle.checkout_engine.specs.Talks.{DriverTalk, heard_at, Gave}
-use Rattle.rehearsal.specs.Paths.{kind, line_count, line_of, name, content}
-use Rattle.rehearsal.specs.Drivers.{is_delayed, is_given}
+use Rattle.rehearsal.specs.Paths.{kind, line_count, line_of, content}
+use Rattle.rehearsal.specs.Drivers.{is_given}
 use Rattle.rehearsal.specs.Blocks.{is_written, is_unfiltered, is_failed, sized, file_size}
-use Rattle.rehearsal_numbers.specs.Contents.{name_of}
-use Rattle.rehearsal_numbers.specs.Plans.{paths_of, path_at, is_alpha, is_beta, start_at, conversion_at, beta_number}
+use Rattle.rehearsal_numbers.specs.Plans.{paths_of, path_at, is_alpha, is_beta, beta_number}
 use Rattle.rehearsal_numbers.proofs.Apart.{is_equal}
 use Rattle.rehearsal_numbers.proofs.Sizes.{is_filtered, size_is}
 use Rattle.rehearsal_numbers.proofs.Beta.{answer}
@@ -36,8 +32,8 @@ use Rattle.rehearsal_numbers.proofs.Beta as second
 use Rattle.rehearsal_numbers.proofs.AlphaTold as first
 use Rattle.rehearsal_numbers.proofs.Replies.{SpellingSpells}
 use Rattle.rehearsal_numbers.proofs.Objects.{content_right}
-use Rattle.rehearsal_numbers.proofs.PathEnds.{leaf_count, pool_ends, got_ends, lost_ends, refused_ends}
-use Rattle.rehearsal_numbers.proofs.Checkouts.{IsRehearsal, FineAt, fine_at, path_got, object_is}
+use Rattle.rehearsal_numbers.proofs.PathEnds.{pool_ends, got_ends, lost_ends, refused_ends}
+use Rattle.rehearsal_numbers.proofs.Checkouts.{IsRehearsal, FineAt, fine_at, path_got, object_is, or_parts}
 use Rattle.rehearsal_numbers.proofs.Drivers.{Heard, AlphaGets, BetaGets, alpha_heard, beta_heard}
 
 abbrev pub file_bytes : Option TreeFile → ℕ
@@ -92,10 +88,6 @@ was_lost o e f = record {
 answer_size : (driver : List ℕ) (seed i : ℕ) → length (answer driver seed i) ≡ length (line_of driver) + length (content seed i)
 answer_size driver seed i = length-append (line_of driver) (content seed i)
 
-or_parts : (a b : Bool) → (a || b) ≡ false → (a ≡ false) × (b ≡ false)
-or_parts true b h = absurd (true≢false h)
-or_parts false b h = (refl, h)
-
 module _ (spells : SpellingSpells) (law : SameHeard) (one : OneContent) (seed : ℕ) (is : List ℕ) (told : RepoTold)
     (talks : List DriverTalk) (outcomes : List Outcome) (history : List Event)
     (g : IsRehearsal seed is told talks outcomes history) (k i : ℕ) (at : slice_get is k ≡ Some i) where
@@ -121,17 +113,17 @@ module _ (spells : SpellingSpells) (law : SameHeard) (one : OneContent) (seed : 
   plain_end : is_alpha (kind seed i) ≡ false → is_beta (kind seed i) ≡ false → EndsSo seed i o
   plain_end a c =
       let begun : path.start ≡ start.Pool =
-          ap (λ (t : Bool). if t then start.Desk 0 true else if is_beta (kind seed i) then start.Desk (beta_number seed is) false else start.Pool) a
-          ∙ ap (λ (t : Bool). if t then start.Desk (beta_number seed is) false else start.Pool) c in
+      ap (λ (t : Bool). if t then start.Desk 0 true else if is_beta (kind seed i) then start.Desk (beta_number seed is) false else start.Pool) a
+      ∙ ap (λ (t : Bool). if t then start.Desk (beta_number seed is) false else start.Pool) c in
       let has = subst (λ (s : Start). HasOutcome told.object talks s (1 + k) path o) begun fine.has in
       let so = pool_ends (told.object path.object) path raw (content seed i) (object_is seed is told g.made k i at) (content_right seed i)
-          o fine.leaf fine.memory has in
+      o fine.leaf fine.memory has in
       let six : (kind seed i == 6) ≡ false = (or_parts (kind seed i == 6) (kind seed i == 7) c).0 in
       let seven : (kind seed i == 7) ≡ false = (or_parts (kind seed i == 6) (kind seed i == 7) c).1 in
       let five : (kind seed i == 5) ≡ false = (or_parts (kind seed i == 4) (kind seed i == 5) a).1 in
       let unfiltered : is_filtered (kind seed i) ≡ false = ap (λ (t : Bool). t || (kind seed i == 6)) a ∙ six in
       let ended = was_written o so.0 path (prepared path.conversion path.object (content seed i)).bytes
-          (sized (kind seed i) (line_count seed i) (length (content seed i))) so.1 so.2 (size_is seed i unfiltered) in
+      (sized (kind seed i) (line_count seed i) (length (content seed i))) so.1 so.2 (size_is seed i unfiltered) in
       subst (λ (u : Bool). EndsAs (not (u || ((kind seed i == 5) && fifth))) u ((kind seed i == 5) && fifth)
       (if (kind seed i == 5) && fifth then 0 else sized (kind seed i) (line_count seed i) (length (content seed i))) o) (sym seven)
       (subst (λ (f : Bool). EndsAs (not (false || (f && fifth))) false (f && fifth)
@@ -145,7 +137,7 @@ module _ (spells : SpellingSpells) (law : SameHeard) (one : OneContent) (seed : 
       → EndsAs true false false (length (line_of driver) + length (content seed i)) o
   got_size d required t driver h got answers =
       let so = got_ends (told.object path.object) path raw (content seed i) (object_is seed is told g.made k i at) (content_right seed i)
-          required d t (1 + k) o fine.leaf fine.memory h got in
+      required d t (1 + k) o fine.leaf fine.memory h got in
       let same : answer driver seed i ≡ so.2 = (let both : Some (answer driver seed i) ≡ Some so.2 = answers so.2 so.3 in cc (both)) in
       was_written o so.0 path so.2 (length (line_of driver) + length (content seed i)) so.1 so.4
       (ap length (sym same) ∙ answer_size driver seed i)
@@ -161,7 +153,7 @@ module _ (spells : SpellingSpells) (law : SameHeard) (one : OneContent) (seed : 
       × HasDeskVerdict true 0 t (1 + k) (told.object path.object) path o o.verdict
   alpha_desk a =
       let begun : path.start ≡ start.Desk 0 true =
-          ap (λ (t : Bool). if t then start.Desk 0 true else if is_beta (kind seed i) then start.Desk (beta_number seed is) false else start.Pool) a in
+      ap (λ (t : Bool). if t then start.Desk 0 true else if is_beta (kind seed i) then start.Desk (beta_number seed is) false else start.Pool) a in
       let has = subst (λ (s : Start). HasOutcome told.object talks s (1 + k) path o) begun fine.has in
       (has.1, has.2, has.3)
 
@@ -169,8 +161,8 @@ module _ (spells : SpellingSpells) (law : SameHeard) (one : OneContent) (seed : 
       × HasDeskVerdict false (beta_number seed is) t (1 + k) (told.object path.object) path o o.verdict
   beta_desk a c =
       let begun : path.start ≡ start.Desk (beta_number seed is) false =
-          ap (λ (t : Bool). if t then start.Desk 0 true else if is_beta (kind seed i) then start.Desk (beta_number seed is) false else start.Pool) a
-          ∙ ap (λ (t : Bool). if t then start.Desk (beta_number seed is) false else start.Pool) c in
+      ap (λ (t : Bool). if t then start.Desk 0 true else if is_beta (kind seed i) then start.Desk (beta_number seed is) false else start.Pool) a
+      ∙ ap (λ (t : Bool). if t then start.Desk (beta_number seed is) false else start.Pool) c in
       let has = subst (λ (s : Start). HasOutcome told.object talks s (1 + k) path o) begun fine.has in
       (has.1, has.2, has.3)
 
@@ -179,16 +171,20 @@ module _ (spells : SpellingSpells) (law : SameHeard) (one : OneContent) (seed : 
     where
       desk : (t : DriverTalk) × (slice_get talks 0 ≡ Some t) × HasDeskVerdict true 0 t (1 + k) (told.object path.object) path o o.verdict
       desk = alpha_desk a
+
       hears : Heard 0 desk.0 (1 + k) (first.fate_at seed i) (AlphaGets seed (record { place = 1 + k; number = i }))
       hears = alpha_heard spells law one seed is told talks outcomes history g desk.0 desk.1 k i at a
+
       got : first.fate_at seed i ≡ Known heard.Got → EndsAs true false false (length (line_of (codes "alpha")) + length (content seed i)) o
       got e = got_size 0 true desk.0 (codes "alpha") desk.2 (hears.heard ∙ ap heard_by e)
           (λ bytes gave. let x = hears.got bytes gave in sym (x.1 e) ∙ x.2)
+
       lost : first.fate_at seed i ≡ Known heard.Lost → EndsAs false false true 0 o
       lost e =
           let so = lost_ends (told.object path.object) path raw (content seed i) (object_is seed is told g.made k i at) (content_right seed i)
-              true 0 desk.0 (1 + k) o fine.leaf fine.memory desk.2 (hears.heard ∙ ap heard_by e) in
+          true 0 desk.0 (1 + k) o fine.leaf fine.memory desk.2 (hears.heard ∙ ap heard_by e) in
           was_lost o so.0 so.1
+
       by : (x y z : Bool) → (kind seed i == 4) ≡ x → (kind seed i == 5) ≡ y → fifth ≡ z → is_alpha (kind seed i) ≡ true → EndsSo seed i o
       by true y z e f h a = at_kind 4 (is_equal (kind seed i) 4 e)
           (got (ap (λ (t : Bool). if t then Known heard.Got else if is_given seed i then Known heard.Got else Known heard.Lost) e))
@@ -209,10 +205,13 @@ module _ (spells : SpellingSpells) (law : SameHeard) (one : OneContent) (seed : 
     where
       d : ℕ
       d = beta_number seed is
+
       desk : (t : DriverTalk) × (slice_get talks (beta_number seed is) ≡ Some t) × HasDeskVerdict false (beta_number seed is) t (1 + k) (told.object path.object) path o o.verdict
       desk = beta_desk a c
+
       hears : Heard (beta_number seed is) desk.0 (1 + k) (second.fate_at seed i) (BetaGets seed (record { place = 1 + k; number = i }))
       hears = beta_heard spells law one seed is told talks outcomes history g desk.0 desk.1 k i at c
+
       by : (x y : Bool) → (kind seed i == 6) ≡ x → (kind seed i == 7) ≡ y → is_beta (kind seed i) ≡ true → EndsSo seed i o
       by true y e f c = at_kind 6 (is_equal (kind seed i) 6 e)
           (got_size (beta_number seed is) false desk.0 (codes "beta") desk.2
@@ -221,8 +220,8 @@ module _ (spells : SpellingSpells) (law : SameHeard) (one : OneContent) (seed : 
           sym (x.1 ∙ ap (λ (t : Bool). if t then Some (answer (codes "beta") seed i) else None) e) ∙ x.2))
       by false true e f c =
           let so = refused_ends (told.object path.object) path raw (content seed i) (object_is seed is told g.made k i at) (content_right seed i)
-              false (beta_number seed is) desk.0 (1 + k) o fine.leaf fine.memory desk.2 cause.Error refl
-              (hears.heard ∙ ap (λ (t : Bool). heard_by (if t then Known heard.Got else Known (heard.Refused cause.Error))) e) in
+          false (beta_number seed is) desk.0 (1 + k) o fine.leaf fine.memory desk.2 cause.Error refl
+          (hears.heard ∙ ap (λ (t : Bool). heard_by (if t then Known heard.Got else Known (heard.Refused cause.Error))) e) in
           let seven = is_equal (kind seed i) 7 f in
           let unfiltered : is_filtered (kind seed i) ≡ false = ap (λ (t : Bool). t || (kind seed i == 6)) a ∙ e in
           let size = size_is seed i unfiltered ∙ ap (λ (n : ℕ). sized n (line_count seed i) (length (content seed i))) seven in

@@ -1,21 +1,15 @@
 -- The paths that `alpha` gives later are late before, each by its own name.
-use Rattle.std.proofs.Common.{◌≡◌, ℕ, zero, suc, ◌+◌, ◌*◌, ◌<◌, ◌≤◌, inl, inr, ◌⊎◌, ⊎_elim, Bool, true, false, not, cond, ◌&&◌, ◌||◌, List, [], ◌∷◌, ◌++◌, map, length, length-append, append_assoc, Some, None, refl, sym, ap, ◌∙◌, subst, arith, eq-eqb, ne_eqb}
-use Rattle.std.specs.Prelude.{codes, ◌==◌, ◌%◌, if◌then◌else◌}
+use Rattle.std.proofs.Common.{◌≡◌, ℕ, ◌+◌, ◌<◌, ◌≤◌, inl, inr, ◌⊎◌, ⊎_elim, Bool, true, false, not, cond, List, [], ◌∷◌, ◌++◌, length, length-append, refl, sym, ap, ◌∙◌, subst, arith, eq-eqb, ne_eqb}
+use Rattle.std.specs.Prelude.{◌==◌, ◌%◌, if◌then◌else◌}
 use Rattle.std.specs.List.{AllByRecursion}
-use Rattle.std.specs.Str.{bytes_eq}
 use Rattle.std.proofs.lemmas.Bool.{true≢false, and_parts}
 use Rattle.std.proofs.lemmas.List.{append-nil, map-append}
-use Rattle.std.proofs.lemmas.Slice.Eq.{bytes_eq-Decides}
-use Rattle.filter_words.specs.Listing.{name_in}
 use Rattle.checkout_core.specs.Talks.{contains, without}
-use Rattle.driver_line.specs.Lines.{Paths}
-use Rattle.driver_line.specs.SameHeard.{HaveTexts}
-use Rattle.rehearsal.specs.Paths.{kind, name}
+use Rattle.rehearsal.specs.Paths.{kind}
 use Rattle.rehearsal.specs.Drivers.{is_delayed, is_given}
 use Rattle.rehearsal_numbers.proofs.Apart.{is_equal}
-use Rattle.rehearsal_numbers.proofs.Marked.{Mark, places, numbers, Among, Rises, all_at, all_from, holds, found, other_place}
-use Rattle.rehearsal_numbers.proofs.Lists.{Differ}
-use Rattle.rehearsal_numbers.proofs.Alpha.{HaveNames, AreGiven, given_marks, late_after, late_of}
+use Rattle.rehearsal_numbers.proofs.Marked.{Mark, places, numbers, Among, Rises, all_at, all_from}
+use Rattle.rehearsal_numbers.proofs.Alpha.{given_marks, late_after, late_of}
 use Rattle.rehearsal_numbers.proofs.AlphaTalk.{Listable}
 
 pub join : (m : Mark) (xs ys : List Mark) → Among m xs ⊎ Among m ys → Among m (xs ++ ys)
@@ -66,12 +60,13 @@ Falls (x ∷ xs) = AllByRecursion (λ y. y.place < x.place) xs × Falls xs
 
 falls_more : (xs : List Mark) (m : Mark) → Falls xs → ((x : Mark) → Among x xs → m.place < x.place) → Falls (xs ++ m ∷ [])
 falls_more [] m h f = (tt, tt)
-falls_more (x ∷ xs) m h f =
-    (all_from (λ (y : Mark). y.place < x.place) (xs ++ m ∷ []) (λ y k. ⊎_elim
-    (λ (a : Among y xs). all_at (λ (z : Mark). z.place < x.place) xs h.0 y a)
-    (λ (b : Among y (m ∷ [])). ⊎_elim (λ (e : y ≡ m). subst (λ (z : Mark). z.place < x.place) (sym e) (f x (inl refl))) (λ (e : ⊥). absurd e) b)
-    (split y xs (m ∷ []) k)),
-    falls_more xs m h.1 (λ y k. f y (inr k)))
+falls_more (x ∷ xs) m h f = (
+  all_from (λ (y : Mark). y.place < x.place) (xs ++ m ∷ []) (λ y k. ⊎_elim
+      (λ (a : Among y xs). all_at (λ (z : Mark). z.place < x.place) xs h.0 y a)
+      (λ (b : Among y (m ∷ [])). ⊎_elim (λ (e : y ≡ m). subst (λ (z : Mark). z.place < x.place) (sym e) (f x (inl refl))) (λ (e : ⊥). absurd e) b)
+      (split y xs (m ∷ []) k)),
+  falls_more xs m h.1 (λ y k. f y (inr k)),
+)
 
 pub given_falls : (seed : ℕ) (ms : List Mark) → Rises ms → Falls (given_marks seed ms)
 given_falls seed [] r = tt
@@ -88,7 +83,7 @@ pub given_few : (seed : ℕ) (ms : List Mark) → length (numbers (given_marks s
 given_few seed [] = omega arith
 given_few seed (m ∷ ms) =
     let all : length (numbers (given_marks seed ms ++ (if is_given seed m.number then m ∷ [] else [])))
-        ≡ length (numbers (given_marks seed ms)) + length (numbers (if is_given seed m.number then m ∷ [] else [])) =
+    ≡ length (numbers (given_marks seed ms)) + length (numbers (if is_given seed m.number then m ∷ [] else [])) =
     ap length (map-append (λ (x : Mark). x.number) (given_marks seed ms) (if is_given seed m.number then m ∷ [] else []))
     ∙ length-append (numbers (given_marks seed ms)) (numbers (if is_given seed m.number then m ∷ [] else [])) in
     omega (arith, all, one (is_given seed m.number), given_few seed ms)
@@ -105,6 +100,7 @@ late_keeps seed p late (m ∷ ms) h = late_keeps seed p (if kind seed m.number =
     one : (t : Bool) → cond t true (contains p late) ≡ true
     one true = refl
     one false = h
+
     by : (t u : Bool) → contains p (if t then late else m.place ∷ late) ≡ true
     by true u = h
     by false u = one (p == m.place)
@@ -145,10 +141,12 @@ keeps q r other (x ∷ xs) h = by (q == x) refl (keeps q r other xs)
 listable : (late : List ℕ) (gs : List Mark) → Falls gs → ((m : Mark) → Among m gs → contains m.place late ≡ true)
     → Listable late (places gs)
 listable late [] h f = tt
-listable late (x ∷ xs) h f =
-    (f x (inl refl), listable (without x.place late) xs h.1
-    (λ m k. keeps x.place m.place (ne_eqb m.place x.place (λ e. omega (arith, e, all_at (λ (y : Mark). y.place < x.place) xs h.0 m k)))
-    late (f m (inr k))))
+listable late (x ∷ xs) h f = (
+  f x (inl refl),
+  listable (without x.place late) xs h.1
+      (λ m k. keeps x.place m.place (ne_eqb m.place x.place (λ e. omega (arith, e, all_at (λ (y : Mark). y.place < x.place) xs h.0 m k)))
+      late (f m (inr k))),
+)
 
 pub given_listable : (seed : ℕ) (ms : List Mark) → Rises ms → Listable (late_of seed ms) (places (given_marks seed ms))
 given_listable seed ms r = listable (late_of seed ms) (given_marks seed ms) (given_falls seed ms r)

@@ -1,20 +1,17 @@
 -- What `alpha` lists, as an exchange reads it.
-use Rattle.std.proofs.Common.{◌≡◌, ℕ, zero, suc, ◌+◌, ◌-◌, ◌*◌, ◌<◌, ◌≤◌, inl, inr, Bool, true, false, not, cond, ◌&&◌, ◌||◌, List, [], ◌∷◌, ◌++◌, map, length, append_assoc, Some, refl, sym, ap, ◌∙◌, subst, arith}
-use Rattle.std.specs.Prelude.{codes, ◌==◌, if◌then◌else◌, nat_lt}
-use Rattle.std.specs.List.{AllByRecursion, list_any}
+use Rattle.std.proofs.Common.{◌≡◌, ℕ, ◌+◌, ◌-◌, ◌*◌, ◌≤◌, Bool, true, false, ◌||◌, List, [], ◌∷◌, ◌++◌, map, length, append_assoc, Some, refl, sym, ap, ◌∙◌, arith}
+use Rattle.std.specs.Prelude.{codes, nat_lt}
+use Rattle.std.specs.List.{AllByRecursion}
 use Rattle.std.specs.Str.{bytes_eq}
 use Rattle.std.proofs.lemmas.List.{append-nil}
 use Rattle.std.proofs.lemmas.Bool.{le-ltb, true≢false}
-use Rattle.std.proofs.lemmas.Slice.Eq.{bytes_eq-Decides}
-use Rattle.pkt_line.specs.Packets.{Packet, Payload, Flush}
+use Rattle.pkt_line.specs.Packets.{Packet, Flush}
 use Rattle.filter_words.specs.Outcomes.{outcome}
 use Rattle.filter_words.specs.Words.{value_of}
-use Rattle.filter_words.specs.Requests.{line}
-use Rattle.filter_words.specs.Listing.{Names, Listed, list_step, name_in, after_value, after_name}
+use Rattle.filter_words.specs.Listing.{Names, Listed, list_step, name_in, after_name}
 use Rattle.filter_words.specs.declared.answer_state.AnswerState.TheVariants.{On, Done}
 use Rattle.rehearsal.specs.Paths.{name}
 use Rattle.rehearsal.specs.Drivers.{status, pathname}
-use Rattle.rehearsal_numbers.proofs.Marked.{Mark, numbers}
 
 value_is : (seed i : ℕ) → value_of (codes "pathname") (codes "pathname=" ++ name seed i ++ 10 ∷ []) ≡ Some (name seed i)
 value_is seed i = refl

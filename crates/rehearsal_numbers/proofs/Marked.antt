@@ -1,6 +1,6 @@
 -- The paths of a driver, by their places in the plan and their numbers.
-use Rattle.std.proofs.Common.{◌≡◌, ℕ, zero, suc, ◌+◌, ◌<◌, ◌≤◌, inl, inr, ◌⊎◌, ⊎_elim, Bool, true, false, cond, List, [], ◌∷◌, ◌++◌, map, length, refl, sym, ap, ◌∙◌, subst, arith, eq-eqb, ne_eqb}
-use Rattle.std.specs.Prelude.{◌==◌, if◌then◌else◌}
+use Rattle.std.proofs.Common.{◌≡◌, ℕ, ◌<◌, inl, inr, ◌⊎◌, ⊎_elim, Bool, true, false, cond, List, [], ◌∷◌, map, refl, sym, ap, ◌∙◌, subst, arith, eq-eqb, ne_eqb}
+use Rattle.std.specs.Prelude.{◌==◌}
 use Rattle.std.specs.List.{AllByRecursion}
 use Rattle.std.proofs.lemmas.Bool.{true≢false}
 use Rattle.checkout_core.specs.Talks.{contains}
@@ -33,8 +33,8 @@ pub all_from : (P : Mark → Type 0) (ms : List Mark) → ((m : Mark) → Among 
 all_from P [] f = tt
 all_from P (x ∷ xs) f = (f x (inl refl), all_from P xs (λ m k. f m (inr k)))
 
-pub same_place : (m n : ℕ) → m ≡ n → (m == n) ≡ true
-same_place m n e = eq-eqb m n e
+pub self : (n : ℕ) → (n == n) ≡ true
+self n = eq-eqb n n refl
 
 pub other_place : (m n : ℕ) → m < n → (n == m) ≡ false
 other_place m n lt = ne_eqb n m (λ e. omega (arith, lt, e))

@@ -1,6 +1,6 @@
 -- The object of each path of a rehearsal is told, and right.
-use Rattle.std.proofs.Common.{◌≡◌, ℕ, zero, suc, ◌+◌, ◌*◌, ◌<◌, ◌≤◌, inl, inr, ◌⊎◌, ⊎_elim, Bool, true, false, not, ◌&&◌, List, [], ◌∷◌, ◌++◌, map, length, Some, Ok, Err, refl, sym, ap, ◌∙◌, subst, arith}
-use Rattle.std.specs.Prelude.{codes, ◌==◌, if◌then◌else◌, nat_lt}
+use Rattle.std.proofs.Common.{◌≡◌, ℕ, ◌<◌, ◌⊎◌, ⊎_elim, Bool, true, false, not, ◌&&◌, List, [], ◌∷◌, map, length, Ok, refl, sym, ap, ◌∙◌}
+use Rattle.std.specs.Prelude.{◌==◌, if◌then◌else◌, nat_lt}
 use Rattle.std.specs.Fmt.{digits}
 use Rattle.std.specs.List.{range_with_len, list_all}
 use Rattle.std.specs.Str.{bytes_eq}
@@ -8,12 +8,12 @@ use Rattle.std.specs.Str.Parse.{digits_value}
 use Rattle.std.proofs.lemmas.Bool.{true≢false, and_parts}
 use Rattle.std.proofs.lemmas.Slice.Eq.{bytes_eq-Decides}
 use Rattle.sha1.specs.Sha1.{sha1}
-use Rattle.edge_kit.specs.Told.{Told, Raw}
+use Rattle.edge_kit.specs.Told.{Raw}
 use Rattle.object_dir.specs.Object.{object_of, stored_content, max_stored, has_header, size_text, content_of}
 use Rattle.object_dir.specs.Spelling.{spelled_blob}
-use Rattle.rehearsal.specs.Paths.{kind, line_count, lines, line_of, content}
-use Rattle.rehearsal.specs.Repository.{File, attributes, file, files, object_told}
-use Rattle.rehearsal_numbers.specs.Contents.{name_of, ContentsAreApart}
+use Rattle.rehearsal.specs.Paths.{kind, line_count, content}
+use Rattle.rehearsal.specs.Repository.{attributes, file, files, object_told}
+use Rattle.rehearsal_numbers.specs.Contents.{name_of}
 use Rattle.rehearsal_numbers.proofs.Apart.{text, passes, few_lines, contents_apart}
 
 is_false : (t : Bool) → not t ≡ true → t ≡ false

@@ -1,6 +1,6 @@
 -- A count over the numbers in the order of their paths is the count over all of them.
-use Rattle.std.proofs.Common.{◌≡◌, ℕ, zero, suc, ◌+◌, ◌*◌, ◌<◌, ◌≤◌, ◌%◌, ◌⊎◌, inl, inr, ⊎_elim, Bool, true, false, cond, List, [], ◌∷◌, ◌++◌, refl, sym, ap, ◌∙◌, subst, arith, eq-eqb, ne_eqb}
-use Rattle.std.specs.Prelude.{count_by, sum_by, ◌==◌, if◌then◌else◌}
+use Rattle.std.proofs.Common.{◌≡◌, ℕ, zero, suc, ◌+◌, ◌<◌, ◌≤◌, ◌%◌, ◌⊎◌, inl, inr, ⊎_elim, Bool, [], ◌∷◌, ◌++◌, refl, ap, ◌∙◌, arith, eq-eqb, ne_eqb}
+use Rattle.std.specs.Prelude.{sum_by, if◌then◌else◌}
 use Rattle.std.specs.List.{range_with_len}
 use Rattle.std.proofs.lemmas.List.Sums.{sum_by-cons, sum_by-append}
 use mathlib.Core.Logic.{dite}
@@ -12,13 +12,20 @@ module _ (f : ℕ → ℕ) where
   ending_more : (d n : ℕ) → ((n % 10 ≡ d) × (sum_by f (ending_in d (suc n)) ≡ sum_by f (ending_in d n) + f n))
       ⊎ (((n % 10 ≡ d) → ⊥) × (sum_by f (ending_in d (suc n)) ≡ sum_by f (ending_in d n)))
   ending_more d n = dite (ℕ_discrete (n % 10) d)
-      (λ same. inl (same, ap (λ (t : Bool). sum_by f (ending_in d n ++ (if t then n ∷ [] else []))) (eq-eqb (n % 10) d same)
-      ∙ sum_by-append f (ending_in d n) (n ∷ []) ∙ ap (λ (x : ℕ). sum_by f (ending_in d n) + x) (sum_by-cons f n [] ∙ one)))
-      (λ other. inr (other, ap (λ (t : Bool). sum_by f (ending_in d n ++ (if t then n ∷ [] else []))) (ne_eqb (n % 10) d other)
-      ∙ sum_by-append f (ending_in d n) [] ∙ none))
+      (λ same. inl (
+        same,
+        ap (λ (t : Bool). sum_by f (ending_in d n ++ (if t then n ∷ [] else []))) (eq-eqb (n % 10) d same)
+            ∙ sum_by-append f (ending_in d n) (n ∷ []) ∙ ap (λ (x : ℕ). sum_by f (ending_in d n) + x) (sum_by-cons f n [] ∙ one),
+      ))
+      (λ other. inr (
+        other,
+        ap (λ (t : Bool). sum_by f (ending_in d n ++ (if t then n ∷ [] else []))) (ne_eqb (n % 10) d other)
+            ∙ sum_by-append f (ending_in d n) [] ∙ none,
+      ))
     where
       one : f n + sum_by f [] ≡ f n
       one = omega arith
+
       none : sum_by f (ending_in d n) + sum_by f [] ≡ sum_by f (ending_in d n)
       none = omega arith
 
@@ -33,9 +40,10 @@ module _ (f : ℕ → ℕ) where
       (λ (k : (n % 10 ≡ d) × (sum_by f (ending_in d (suc n)) ≡ sum_by f (ending_in d n) + f n)).
       let less = h.1 (omega (arith, k.0)) in
       (λ lt. omega (arith, new, old, k.1, less), λ le. absurd (omega (arith, le, k.0))))
-      (λ (k : ((n % 10 ≡ d) → ⊥) × (sum_by f (ending_in d (suc n)) ≡ sum_by f (ending_in d n))).
-      (λ lt. (let more = h.0 (below lt k.0) in omega (arith, new, old, k.1, more)),
-      λ le. (let less = h.1 (omega (arith, le)) in omega (arith, new, old, k.1, less))))
+      (λ (k : ((n % 10 ≡ d) → ⊥) × (sum_by f (ending_in d (suc n)) ≡ sum_by f (ending_in d n))). (
+        λ lt. (let more = h.0 (below lt k.0) in omega (arith, new, old, k.1, more)),
+        λ le. (let less = h.1 (omega (arith, le)) in omega (arith, new, old, k.1, less)),
+      ))
       (ending_more d n)
     where
       below : n % 10 < suc d → (n % 10 ≡ d → ⊥) → n % 10 < d

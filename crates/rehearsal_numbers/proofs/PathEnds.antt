@@ -1,10 +1,9 @@
 -- What becomes of one path of a checkout that nothing disturbed, if its object is right.
-use Rattle.std.proofs.Common.{◌≡◌, ℕ, zero, suc, ◌+◌, ◌*◌, ◌<◌, ◌≤◌, inl, inr, ◌⊎◌, ⊎_elim, Bool, true, false, cond, not, ◌&&◌, List, [], ◌∷◌, ◌++◌, map, length, Option, Some, None, Ok, Err, refl, sym, ap, ◌∙◌, subst, arith}
+use Rattle.std.proofs.Common.{◌≡◌, ℕ, ◌<◌, Bool, true, false, cond, List, length, Option, Some, None, Ok, Err, refl, sym, ap, ◌∙◌, subst, arith}
 use Rattle.std.specs.Prelude.{nat_lt}
 use Rattle.std.proofs.lemmas.Bool.{true≢false, lt-ltb}
-use Rattle.edge_kit.specs.Told.{Told, Raw, MayFail, TellsBytes, TellsNone, TellsLong}
+use Rattle.edge_kit.specs.Told.{Told, Raw, MayFail, TellsNone, TellsLong}
 use Rattle.edge_kit.specs.declared.leaf_state.LeafState.{LeafState}
-use Rattle.edge_kit.specs.declared.tree_file.TreeFile.{TreeFile}
 use Rattle.object_dir.specs.Object.{object_of, stored_content, max_stored, Gives, IsObject}
 use Rattle.object_dir.specs.declared.fault.ObjectFault.{ObjectFault}
 use Rattle.object_dir.specs.declared.fault.ObjectFault.TheVariants as object
@@ -112,6 +111,7 @@ module _ (told : Told) (p : PathPlan) (raw content : List ℕ) (is : told ≡ Ra
       where
         other : (h : Heard) → (h ≡ heard.OutOfMemory → ⊥) → heard_at d t n ≡ Some h → ⊥
         other h not_so e = let same : Some h ≡ Some heard.OutOfMemory = sym e ∙ bad in not_so (cc (same))
+
         by : (v : Verdict) → is_no_memory v ≡ false → HasDeskVerdict required d t n told p o v → ⊥
         by verdict.NoMemory m h = true≢false m
         by (verdict.Failed fail.ReadFailed) m h = cannot_fail h.0
@@ -136,6 +136,7 @@ module _ (told : Told) (p : PathPlan) (raw content : List ℕ) (is : told ≡ Ra
       where
         other : (h : Heard) → (h ≡ heard.Got → ⊥) → heard_at d t n ≡ Some h → ⊥
         other h not_so e = let same : Some h ≡ Some heard.Got = sym e ∙ got in not_so (cc (same))
+
         by : (v : Verdict) → o.verdict ≡ v → is_no_memory v ≡ false → HasDeskVerdict required d t n told p o v → GotSo
         by verdict.NoMemory e m h = absurd (true≢false m)
         by (verdict.Failed fail.ReadFailed) e m h = absurd (cannot_fail h.0)
@@ -159,6 +160,7 @@ module _ (told : Told) (p : PathPlan) (raw content : List ℕ) (is : told ≡ Ra
       where
         other : (h : Heard) → (h ≡ heard.Lost → ⊥) → heard_at d t n ≡ Some h → ⊥
         other h not_so e = let same : Some h ≡ Some heard.Lost = sym e ∙ lost in not_so (cc (same))
+
         by : (v : Verdict) → o.verdict ≡ v → is_no_memory v ≡ false → HasDeskVerdict required d t n told p o v → LostSo
         by verdict.NoMemory e m h = absurd (true≢false m)
         by (verdict.Failed fail.ReadFailed) e m h = absurd (cannot_fail h.0)
@@ -183,6 +185,7 @@ module _ (told : Told) (p : PathPlan) (raw content : List ℕ) (is : told ≡ Ra
       where
         other : (h : Heard) → (h ≡ heard.Refused why → ⊥) → heard_at d t n ≡ Some h → ⊥
         other h not_so e = let same : Some h ≡ Some (heard.Refused why) = sym e ∙ refused in not_so (cc (same))
+
         by : (v : Verdict) → o.verdict ≡ v → is_no_memory v ≡ false → HasDeskVerdict required d t n told p o v → RefusedSo why
         by verdict.NoMemory e m h = absurd (true≢false m)
         by (verdict.Failed fail.ReadFailed) e m h = absurd (cannot_fail h.0)
@@ -196,9 +199,11 @@ module _ (told : Told) (p : PathPlan) (raw content : List ℕ) (is : told ≡ Ra
         by (verdict.Unfiltered w u) e m h =
             let same : Some (heard.Refused w) ≡ Some (heard.Refused why) = sym h.1 ∙ refused in
             let cause : w ≡ why = cc (same) in
-            let one : (h.4).content ≡ content = one_content told raw p.object content (h.4).content is right (h.4).object in
-            (u, e ∙ ap (λ (c : FilterCause). verdict.Unfiltered c u) cause,
-            h.6 ∙ ap (λ r. Some (file_with p r.bytes)) (h.4).is
-            ∙ ap (λ (c : List ℕ). Some (file_with p (prepared p.conversion p.object c).bytes)) one)
+            let one : (h.4).content ≡ content = one_content told raw p.object content (h.4).content is right (h.4).object in (
+              u,
+              e ∙ ap (λ (c : FilterCause). verdict.Unfiltered c u) cause,
+              h.6 ∙ ap (λ r. Some (file_with p r.bytes)) (h.4).is
+                  ∙ ap (λ (c : List ℕ). Some (file_with p (prepared p.conversion p.object c).bytes)) one,
+            )
         by (verdict.Skipped w) e m h = absurd h
         by (verdict.Written flag) e m h = absurd (other heard.Got (λ e. cc (e)) h.0)

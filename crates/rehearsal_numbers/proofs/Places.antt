@@ -1,26 +1,15 @@
 -- The paths of a driver in the plan of a rehearsal.
-use Rattle.std.proofs.Common.{◌≡◌, ℕ, zero, suc, ◌+◌, ◌*◌, ◌<◌, ◌≤◌, inl, inr, ◌⊎◌, ⊎_elim, Bool, true, false, cond, not, ◌&&◌, ◌||◌, List, [], ◌∷◌, ◌++◌, map, length, append_assoc, Some, None, refl, sym, ap, ◌∙◌, subst, arith, eq-eqb}
-use Rattle.std.specs.Prelude.{codes, ◌==◌, ◌%◌, if◌then◌else◌, slice_get, Option}
-use Rattle.std.specs.List.{AllByRecursion, flat_map, list_any, list_all}
-use Rattle.std.specs.Str.{bytes_eq}
+use Rattle.std.proofs.Common.{◌≡◌, ℕ, zero, suc, ◌+◌, ◌≤◌, inl, inr, ⊎_elim, Bool, true, false, not, ◌&&◌, ◌||◌, List, [], ◌∷◌, ◌++◌, length, Some, refl, sym, ap, ◌∙◌, subst, arith}
+use Rattle.std.specs.Prelude.{codes, ◌==◌, ◌%◌, if◌then◌else◌, slice_get}
+use Rattle.std.specs.List.{AllByRecursion, flat_map, list_any}
 use Rattle.std.proofs.lemmas.List.{append-nil}
-use Rattle.std.proofs.lemmas.Bool.{true≢false, and_parts}
-use Rattle.std.proofs.lemmas.Slice.Eq.{bytes_eq-Decides}
-use Rattle.git_index.specs.Spelling.{pairwise, is_alone}
-use Rattle.checkout_core.specs.States.{is_at}
-use Rattle.checkout_core.specs.Talks.{contains}
-use Rattle.checkout_plan.specs.declared.path_plan.PathPlan.{PathPlan}
-use Rattle.rehearsal.specs.Paths.{kind, name}
-use Rattle.rehearsal.specs.Repository.{file, entry_of}
+use Rattle.std.proofs.lemmas.Bool.{true≢false}
+use Rattle.rehearsal.specs.Paths.{kind}
 use Rattle.pkt_line.specs.Spelling.{spelling_all}
 use Rattle.rehearsal.specs.Drivers.{status, filtered, is_delayed, is_given, given, given_text, list_text, alpha_first, alpha_lists, beta_first}
-use Rattle.rehearsal_numbers.specs.Plans.{is_alpha, is_beta, start_at, path_at}
-use Rattle.rehearsal_numbers.proofs.Apart.{is_equal}
-use Rattle.rehearsal_numbers.proofs.Asked.{eight, below_eight}
-use Rattle.rehearsal_numbers.proofs.Marked.{Mark, places, numbers, Among, Rises}
-use Rattle.rehearsal_numbers.proofs.Lists.{Differ}
+use Rattle.rehearsal_numbers.specs.Plans.{is_alpha, is_beta}
+use Rattle.rehearsal_numbers.proofs.Marked.{Mark, numbers, Among, Rises}
 use Rattle.rehearsal_numbers.proofs.Objects.{In}
-use Rattle.rehearsal_numbers.proofs.Plans.{entries_at}
 
 -- the paths of these kinds, from a place on
 abbrev pub marks_from : (ℕ → Bool) → ℕ → ℕ → List ℕ → List Mark
@@ -37,6 +26,7 @@ module _ (test : ℕ → Bool) (seed : ℕ) where
       weaker : (ms : List Mark) → AllByRecursion (λ m. suc n ≤ m.place) ms → AllByRecursion (λ m. n ≤ m.place) ms
       weaker [] h = tt
       weaker (m ∷ ms) h = (omega (arith, h.0), weaker ms h.1)
+
       by : (t : Bool) → AllByRecursion (λ m. n ≤ m.place) (marks_from test (suc n) seed is)
           → AllByRecursion (λ m. n ≤ m.place) (if t then record { place = n; number = i } ∷ marks_from test (suc n) seed is else marks_from test (suc n) seed is)
       by true h = (omega arith, h)
@@ -114,6 +104,7 @@ module _ (test : ℕ → Bool) (seed : ℕ) where
       further : (k : ℕ) × (m.place ≡ suc n + k) × (slice_get is k ≡ Some m.number)
           → (k : ℕ) × (m.place ≡ n + k) × (slice_get (i ∷ is) k ≡ Some m.number)
       further r = (suc r.0, omega (arith, r.1), r.2)
+
       by : (t : Bool) → (Among m (marks_from test (suc n) seed is) → (k : ℕ) × (m.place ≡ suc n + k) × (slice_get is k ≡ Some m.number))
           → Among m (if t then record { place = n; number = i } ∷ marks_from test (suc n) seed is else marks_from test (suc n) seed is)
           → (k : ℕ) × (m.place ≡ n + k) × (slice_get (i ∷ is) k ≡ Some m.number)

@@ -1,22 +1,17 @@
 -- The plan of a rehearsal's repository.
-use Rattle.std.proofs.Common.{◌≡◌, ℕ, zero, suc, ◌+◌, ◌*◌, ◌<◌, ◌≤◌, Bool, true, false, not, ◌&&◌, List, [], ◌∷◌, ◌++◌, refl, sym, ap, ◌∙◌, subst, arith, length, map, Some, None}
-use Rattle.std.specs.Prelude.{codes, ◌==◌, ◌||◌, if◌then◌else◌}
+use Rattle.std.proofs.Common.{◌≡◌, ℕ, ◌+◌, ◌*◌, ◌<◌, Bool, true, false, not, ◌&&◌, List, [], ◌∷◌, ◌++◌, refl, sym, ap, ◌∙◌, map}
+use Rattle.std.specs.Prelude.{codes, ◌||◌, if◌then◌else◌}
 use Rattle.std.specs.List.{list_any, list_all}
 use Rattle.std.specs.Str.{bytes_eq}
 use Rattle.std.proofs.lemmas.Bool.{and_parts, true≢false}
 use Rattle.std.proofs.lemmas.Slice.Eq.{bytes_eq-Decides}
 use Rattle.git_index.specs.declared.entry.Entry.{Entry}
-use Rattle.git_index.specs.Spelling.{pairwise, is_alone, IsIndex}
-use Rattle.edge_kit.specs.Told.{RepoTold}
-use Rattle.checkout_core.specs.declared.path.Start.{Start}
-use Rattle.checkout_core.specs.declared.path.Start.TheVariants as start
+use Rattle.git_index.specs.Spelling.{pairwise, is_alone}
 use Rattle.checkout_plan.specs.declared.path_plan.PathPlan.{PathPlan}
-use Rattle.checkout_plan.specs.declared.path_plan.Plan.{Plan}
-use Rattle.checkout_plan.specs.Paths.{first_entries, first_entries_after, asked_paths, asked_path, path_among, start_among, asks_for, is_desk_of, is_used, used_from, number_at, plan_with, plan_by}
-use Rattle.rehearsal.specs.Paths.{kind, name, content, in_order}
-use Rattle.rehearsal.specs.Repository.{entry_of, entries, files, file, IsRepository}
-use Rattle.checkout_engine.specs.Sources.{IsPlanned}
-use Rattle.rehearsal_numbers.specs.Plans.{alpha, beta, is_alpha, is_beta, start_at, has_kind, beta_number, path_at, attributes_path, drivers_of, paths_of, IsPlanOf, HavePlans}
+use Rattle.checkout_plan.specs.Paths.{first_entries, first_entries_after, asked_paths, asked_path, path_among, start_among, asks_for, is_desk_of, is_used, number_at, plan_with}
+use Rattle.rehearsal.specs.Paths.{kind, name}
+use Rattle.rehearsal.specs.Repository.{entry_of, entries, files, file}
+use Rattle.rehearsal_numbers.specs.Plans.{alpha, beta, is_alpha, is_beta, start_at, has_kind, beta_number, path_at, attributes_path, IsPlanOf}
 use Rattle.rehearsal_numbers.proofs.Asked.{settings, given, first, first_is, asked_is, eight, below_eight}
 
 -- two paths that differ, both ways
@@ -114,4 +109,3 @@ plan_is seed is = record {
   drivers = (λ j. if alpha_used seed is j then alpha ∷ (if beta_used seed is j then beta ∷ [] else []) else (if beta_used seed is j then beta ∷ [] else []))
       ∙ drivers_are (has_kind is_alpha seed is) (has_kind is_beta seed is);
 }
-

@@ -1,6 +1,6 @@
 -- What is read of a rehearsal's repository: its entries, its settings and its attribute files.
-use Rattle.std.proofs.Common.{◌≡◌, ℕ, suc, ◌≤◌, inl, inr, ⊎_elim, Bool, true, false, List, [], ◌∷◌, length, map, Some, None, Ok, refl, sym, subst, ap, ◌∙◌, arith}
-use Rattle.std.specs.Prelude.{codes, if◌then◌else◌}
+use Rattle.std.proofs.Common.{◌≡◌, ℕ, ⊎_elim, true, List, [], ◌∷◌, map, Some, None, Ok, refl, sym, subst, ap, ◌∙◌}
+use Rattle.std.specs.Prelude.{codes}
 use Rattle.std.specs.List.{AllZip}
 use Rattle.edge_kit.specs.Told.{Told, Raw, Absent, RepoTold, TellsBytes, TellsNone}
 use Rattle.object_dir.specs.Object.{Gives, object_of}
@@ -25,15 +25,15 @@ use Rattle.attr_stack.specs.declared.files.AttrFiles.{AttrFiles}
 use Rattle.attr_stack.specs.declared.files.OuterFiles.{OuterFiles}
 use Rattle.checkout_plan.specs.declared.path_plan.Plan.{Plan}
 use Rattle.checkout_plan.specs.AttributeFiles.{attribute_entries, attribute_files, by_folder, files_at}
-use Rattle.checkout_plan.specs.Making.{HaveContents}
-use Rattle.checkout_plan.specs.Paths.{plan_of, plan_by, plan_with, asked_paths}
+use Rattle.checkout_plan.specs.Making.{HasContent, HaveContents}
+use Rattle.checkout_plan.specs.Paths.{plan_of, plan_by, plan_with}
 use Rattle.rehearsal.specs.Paths.{in_order}
 use Rattle.rehearsal.specs.Repository.{File, attributes, attributes_name, config, files, entry_of, entries, IsRepository}
 use Rattle.rehearsal.specs.Repository as repository
 use Rattle.rehearsal.specs.Repository.{FilesHaveAnIndex, AttributesAreRight}
 use Rattle.checkout_engine.specs.Sources.{HasSettings, HasAttributes, HasBytes, IsPlanned}
 use Rattle.rehearsal_numbers.specs.Plans.{IsPlanOf, HavePlans}
-use Rattle.rehearsal_numbers.proofs.Rows.{rows_are, file, top}
+use Rattle.rehearsal_numbers.proofs.Rows.{rows_are}
 use Rattle.rehearsal_numbers.proofs.Asked.{settings, no_file, none_is, given, first}
 use Rattle.rehearsal_numbers.proofs.Plans.{asked, asked_are, plan_is}
 
@@ -121,11 +121,11 @@ module _ (right : AttributesAreRight) (seed : ℕ) (is : List ℕ) (told : RepoT
   contents_are : (contents : List (List ℕ)) → HaveContents told.object (entries (files seed is)) contents
       → contents ≡ attributes ∷ []
   contents_are contents h =
-      go contents (subst (λ (es : List Entry). AllZip (λ e content. Gives (told.object e.name) e.name (Ok content) × (length content ≤ 1048576)) es contents)
+      go contents (subst (λ (es : List Entry). AllZip (λ e content. HasContent (told.object e.name) e content) es contents)
       (one_file seed is) h)
     where
       go : (contents : List (List ℕ))
-          → AllZip (λ (e : Entry) (content : List ℕ). Gives (told.object e.name) e.name (Ok content) × (length content ≤ 1048576)) (entry_of first ∷ []) contents
+          → AllZip (λ (e : Entry) (content : List ℕ). HasContent (told.object e.name) e content) (entry_of first ∷ []) contents
           → contents ≡ attributes ∷ []
       go [] h = absurd h
       go (c ∷ []) h =

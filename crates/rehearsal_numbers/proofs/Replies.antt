@@ -1,13 +1,13 @@
 -- The answers of the rehearsal's drivers, as exchanges read them.
-use Rattle.std.proofs.Common.{◌≡◌, ℕ, zero, suc, ◌+◌, ◌-◌, ◌*◌, ◌<◌, ◌≤◌, ◌/◌, ◌%◌, Bool, true, false, List, [], ◌∷◌, ◌++◌, length, length-append, append_assoc, refl, sym, ap, ◌∙◌, subst, arith, map, take}
-use Rattle.std.specs.Prelude.{codes, ◌==◌, ◌||◌, if◌then◌else◌, nat_lt}
+use Rattle.std.proofs.Common.{◌≡◌, ℕ, ◌+◌, ◌-◌, ◌<◌, ◌≤◌, Bool, true, false, List, [], ◌∷◌, ◌++◌, length, refl, sym, ap, ◌∙◌, subst, arith, map}
+use Rattle.std.specs.Prelude.{codes, nat_lt}
 use Rattle.std.specs.List.{AllByRecursion}
 use Rattle.std.proofs.lemmas.List.{append-nil, take_all}
 use Rattle.std.proofs.lemmas.Bool.{le-ltb}
 use Rattle.pkt_line.specs.Packets.{Packet, Payload, Flush, Spells, SpellAll, pkt_len}
 use Rattle.pkt_line.specs.Spelling.{spelling, spelling_all, content_packets, pieces_of, piece_count}
 use Rattle.filter_words.specs.Outcomes.{outcome, limit}
-use Rattle.filter_words.specs.SmudgeReply.{reply_step, reply_start, content_in}
+use Rattle.filter_words.specs.SmudgeReply.{reply_step, reply_start}
 use Rattle.filter_words.specs.Handshake.{handshake_step, handshake_start}
 use Rattle.filter_words.specs.Requests.{line}
 use Rattle.filter_words.specs.declared.reply.Caps.{Caps}

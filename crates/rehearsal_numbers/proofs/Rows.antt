@@ -1,5 +1,5 @@
 -- What the attribute file of a rehearsal says of each path.
-use Rattle.std.proofs.Common.{◌≡◌, ℕ, zero, suc, ◌+◌, ◌*◌, ◌<◌, ◌/◌, ◌%◌, Bool, true, false, List, [], ◌∷◌, ◌++◌, refl, sym, ap, ◌∙◌, subst, arith, ne_eqb, length}
+use Rattle.std.proofs.Common.{◌≡◌, ℕ, ◌+◌, Bool, true, false, List, [], ◌∷◌, ◌++◌, refl, ap, ◌∙◌, arith, ne_eqb}
 use Rattle.std.specs.Prelude.{codes, ◌==◌, if◌then◌else◌, nat_eq, ◌&&◌, ◌||◌}
 use Rattle.bstr.specs.Text.{lines_from, line_len}
 use Rattle.attr_line.specs.declared.state.AttrState.TheVariants.{Set, Value}
@@ -13,7 +13,7 @@ use Rattle.wild_match.specs.Pieces.{Piece, Run, One, plain_front, front}
 use Rattle.wild_match.specs.Fits.{is_match, last_part, fits}
 use Rattle.attr_stack.specs.Pairs.{file_pairs, pairs_before}
 use Rattle.attr_stack.specs.declared.files.FileAt.{FileAt}
-use Rattle.rehearsal.specs.Paths.{kind, name}
+use Rattle.rehearsal.specs.Paths.{name}
 use Rattle.rehearsal.specs.Repository.{attributes}
 
 abbrev pub value : List ℕ → List ℕ → Pair
@@ -126,9 +126,15 @@ module _ (a b c d e f g k : ℕ) where
 
   file_says : file_pairs (spelled a b c d e f g k) file ≡ says
   file_says =
-      rw (by_last (codes "*.k1") 49 form_1, by_last (codes "*.k2") 50 form_2, by_last (codes "*.k3") 51 form_3,
-      by_last (codes "*.k4") 52 form_4, by_last (codes "*.k5") 53 form_5, by_last (codes "*.k6") 54 form_6,
-      by_last (codes "*.k7") 55 form_7) refl
+      rw (
+        by_last (codes "*.k1") 49 form_1,
+        by_last (codes "*.k2") 50 form_2,
+        by_last (codes "*.k3") 51 form_3,
+        by_last (codes "*.k4") 52 form_4,
+        by_last (codes "*.k5") 53 form_5,
+        by_last (codes "*.k6") 54 form_6,
+        by_last (codes "*.k7") 55 form_7,
+      ) refl
 
   -- no folder but the top one has a file
   pub folders_say : pairs_before top (spelled a b c d e f g k) 13 ≡ says

@@ -1,5 +1,5 @@
 -- How many bytes the content of each kind has once it is converted.
-use Rattle.std.proofs.Common.{◌≡◌, ℕ, zero, suc, ◌+◌, ◌*◌, ◌<◌, ◌≤◌, ◌/◌, ◌%◌, Bool, true, false, List, [], ◌∷◌, ◌++◌, length, length-append, append_assoc, refl, sym, ap, ◌∙◌, subst, arith}
+use Rattle.std.proofs.Common.{◌≡◌, ℕ, zero, suc, ◌+◌, ◌*◌, ◌<◌, ◌≤◌, Bool, true, false, List, [], ◌∷◌, ◌++◌, length, length-append, refl, sym, ap, ◌∙◌, arith}
 use Rattle.std.specs.Prelude.{codes, ◌==◌, ◌||◌, if◌then◌else◌}
 use Rattle.std.specs.List.{range_with_len, list_all}
 use Rattle.std.specs.Str.{chars, is_utf8}
@@ -103,5 +103,10 @@ keyword_short k = by (k == 2)
 
 pub short_content : (seed i : ℕ) → length (content seed i) ≤ 255
 short_content seed i =
-    omega (arith, length-append (lines (line_count seed i)) (ident_line (kind seed i)), lines_size (line_count seed i),
-    keyword_short (kind seed i), few_lines seed i)
+    omega (
+      arith,
+      length-append (lines (line_count seed i)) (ident_line (kind seed i)),
+      lines_size (line_count seed i),
+      keyword_short (kind seed i),
+      few_lines seed i,
+    )

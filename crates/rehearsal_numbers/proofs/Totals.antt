@@ -1,57 +1,49 @@
 -- The numbers of a rehearsal's line.
-use Rattle.std.proofs.Common.{◌≡◌, ℕ, zero, suc, ◌+◌, ◌*◌, ◌<◌, ◌≤◌, ◌%◌, inl, inr, ◌⊎◌, ⊎_elim, Bool, true, false, cond, not, ◌&&◌, ◌||◌, List, [], ◌∷◌, ◌++◌, map, length, length-append, Some, None, refl, sym, ap, ◌∙◌, subst, arith, ne_eqb}
+use Rattle.std.proofs.Common.{◌≡◌, ℕ, zero, suc, ◌+◌, ◌*◌, Bool, true, false, cond, not, ◌&&◌, ◌||◌, List, [], ◌∷◌, ◌++◌, map, length, Some, None, refl, sym, ap, ◌∙◌, subst, arith, ne_eqb}
 use Rattle.std.specs.Prelude.{codes, ◌==◌, if◌then◌else◌, slice_get, Option, count_by, sum_by}
 use Rattle.std.specs.List.{AllByRecursion, list_any, list_all, range_with_len, filter_map}
 use Rattle.std.specs.Str.{bytes_eq}
-use Rattle.std.proofs.lemmas.Bool.{true≢false, and_parts}
+use Rattle.std.proofs.lemmas.Bool.{and_parts}
 use Rattle.std.proofs.lemmas.List.Sums.{sum_by-cons, sum_by-append}
 use Rattle.edge_kit.specs.MemoryDrivers.{starts_for}
 use Rattle.edge_kit.specs.Seen.{TreeSeen}
 use Rattle.edge_kit.specs.Told.{Told, RepoTold, Tells}
 use Rattle.edge_kit.specs.declared.leaf_state.LeafState.{LeafState}
 use Rattle.edge_kit.specs.declared.tree_file.TreeFile.{TreeFile}
-use Rattle.object_dir.specs.Object.{object_of}
 use Rattle.object_dir.specs.Spelling.{spelled_blob}
-use Rattle.git_index.specs.declared.entry.Entry.{Entry}
 use Rattle.git_index.specs.Spelling.{OneReading, pairwise, is_alone}
 use Rattle.checkout_core.specs.declared.event.Event.{Event}
 use Rattle.checkout_core.specs.declared.verdict.Verdict.{Verdict}
 use Rattle.driver_line.specs.OneContent.{OneContent}
 use Rattle.driver_line.specs.SameHeard.{SameHeard}
-use Rattle.convert_plan.specs.Prepared.{prepared}
 use Rattle.settings_view.specs.declared.view.Driver.{Driver}
 use Rattle.checkout_report.specs.Report as report
 use Rattle.checkout_plan.specs.declared.path_plan.PathPlan.{PathPlan}
 use Rattle.checkout_engine.specs.Complete.{failed_leaves}
-use Rattle.checkout_engine.specs.Ends.{verdicts_of, files_of, IsCheckedOut}
-use Rattle.checkout_engine.specs.Alike.{IsUndisturbed}
+use Rattle.checkout_engine.specs.Ends.{verdicts_of, files_of}
 use Rattle.checkout_engine.specs.Outcome.{Outcome, AreOutcomes}
 use Rattle.checkout_engine.specs.Paths.{leaves_back}
-use Rattle.checkout_engine.specs.Rehearsed.{IsSummed, summary, bytes_of, new_memory, first_words, last_words}
-use Rattle.checkout_engine.specs.Report.{is_no_memory, lacks_memory, number_of, status_of}
+use Rattle.checkout_engine.specs.Rehearsed.{summary, bytes_of, new_memory, first_words, last_words}
+use Rattle.checkout_engine.specs.Report.{lacks_memory, number_of, status_of}
 use Rattle.checkout_engine.specs.Talks.{DriverTalk, AreDriverTalks}
-use Rattle.checkout_engine.specs.declared.status.Status.{Status}
 use Rattle.checkout_engine.specs.declared.status.Status.TheVariants as status
-use Rattle.rehearsal.specs.Paths.{kind, name, content, in_order}
+use Rattle.rehearsal.specs.Paths.{name, in_order}
 use Rattle.rehearsal.specs.Drivers.{scripts}
-use Rattle.rehearsal.specs.Repository.{attributes, attributes_name, file, entry_of, entries, files, IsRepository}
+use Rattle.rehearsal.specs.Repository.{attributes, attributes_name, file, entry_of}
 use Rattle.rehearsal.specs.Repository.{FilesHaveAnIndex, AttributesAreRight}
 use Rattle.rehearsal.specs.Blocks.{is_written, is_unfiltered, is_failed, file_size, BlocksAreAlike}
-use Rattle.rehearsal_numbers.specs.Plans.{paths_of, path_at, drivers_of, attributes_path, beta_number}
+use Rattle.rehearsal_numbers.specs.Plans.{paths_of, path_at, attributes_path, beta_number}
 use Rattle.rehearsal_numbers.specs.Lines.{counted, status_with, line, LinesAreRight, block_line, BlockLinesAreRight}
 use Rattle.rehearsal_numbers.proofs.Plans.{entries_at, apart}
 use Rattle.rehearsal_numbers.proofs.Read.{have_plans}
 use Rattle.rehearsal_numbers.proofs.Replies.{SpellingSpells}
 use Rattle.rehearsal_numbers.proofs.Lists.{Differ}
-use Rattle.rehearsal_numbers.proofs.PathEnds.{leaf_count, pool_ends}
+use Rattle.rehearsal_numbers.proofs.PathEnds.{pool_ends}
 use Rattle.rehearsal_numbers.proofs.Checkouts.{IsRehearsal, parts}
 use Rattle.rehearsal_numbers.proofs.Ends.{file_bytes, EndsAs, EndsSo, path_ends}
 use Rattle.rehearsal_numbers.proofs.Order.{in_any_order}
 
 -- the sums over outcomes, one by one
-flag : Bool → ℕ
-flag b = cond b 1 0
-
 count_more : {A : Type 0} (p : A → Bool) (x : A) (xs : List A) → count_by p (x ∷ xs) ≡ cond (p x) 1 0 + count_by p xs
 count_more p x xs = sum_by-cons (λ y. cond (p y) 1 0) x xs
 
@@ -152,7 +144,7 @@ module _ (right : AttributesAreRight) (spells : SpellingSpells) (law : SameHeard
   first_ends os x g =
       let mine = parts attributes_path (map (path_at (beta_number seed is) seed) is) x os g.memory g.leaves in
       let so = pool_ends (told.object attributes_name) attributes_path (spelled_blob attributes) attributes
-          ((g.made).object attributes_name ∙ right.there seed is) right.right x mine.1 mine.0 (g.fits).0 in
+      ((g.made).object attributes_name ∙ right.there seed is) right.right x mine.1 mine.0 (g.fits).0 in
       record {
         written = ap report.is_written so.1;
         unfiltered = ap report.is_unfiltered so.1;
@@ -172,7 +164,7 @@ module _ (right : AttributesAreRight) (spells : SpellingSpells) (law : SameHeard
   all_add_up (x ∷ os) g =
       let head = first_ends os x g in
       let size : length os ≡ length is =
-          same_length told.object talks 1 (map (path_at (beta_number seed is) seed) is) os (g.fits).1 ∙ map_length (beta_number seed is) seed is in
+      same_length told.object talks 1 (map (path_at (beta_number seed is) seed) is) os (g.fits).1 ∙ map_length (beta_number seed is) seed is in
       let rest = adds_up seed is os size (λ k i o a b. path_ends spells law one seed is told talks (x ∷ os) history g k i a o b) in
       let zero_more : ◌≡◌ {A = ℕ} (0 + count_by (is_unfiltered seed) is) (count_by (is_unfiltered seed) is) = omega arith in
       let zero_failed : ◌≡◌ {A = ℕ} (0 + count_by (is_failed seed) is) (count_by (is_failed seed) is) = omega arith in
@@ -215,8 +207,8 @@ lines_right indexed right reading spells law one seed paths text few x =
     let plan = have_plans indexed right reading seed paths few told made c.plan c.planned in
     let alone = and_parts (list_all (is_alone (entry_of (record { path = codes ".gitattributes"; content = attributes }))) (entries_at seed is)) _ (index.text).alone in
     let grew : failed_leaves left.tree.returned ≡ failed_leaves (new_memory.tree).returned + failed_leaves (leaves_back c.plan.paths c.outcomes) =
-        ap (λ (t : TreeSeen). failed_leaves t.returned) c.leaves
-        ∙ sum_by-append (λ (l : List ℕ × LeafState × ℕ). l.2) (new_memory.tree).returned (leaves_back c.plan.paths c.outcomes) in
+    ap (λ (t : TreeSeen). failed_leaves t.returned) c.leaves
+    ∙ sum_by-append (λ (l : List ℕ × LeafState × ℕ). l.2) (new_memory.tree).returned (leaves_back c.plan.paths c.outcomes) in
     let none : failed_leaves (leaves_back c.plan.paths c.outcomes) ≡ 0 = omega (arith, grew, (well.undisturbed).leaves) in
     let ahead = starts_for (scripts seed is) in
     let g : IsRehearsal seed is told c.talks c.outcomes left.history = record {
@@ -234,16 +226,16 @@ lines_right indexed right reading spells law one seed paths text few x =
     let vs = verdicts_of c.outcomes in
     let verdicts : (x.run).verdicts.items ≡ vs = (well.tried).verdicts_are in
     let trees : x.fs ≡ files_of c.outcomes =
-        tells left.tree.files x.fs (files_of c.outcomes) (ap (λ (t : TreeSeen). t.files) (sym (well.tried).tree_is) ∙ x.has) c.files in
+    tells left.tree.files x.fs (files_of c.outcomes) (ap (λ (t : TreeSeen). t.files) (sym (well.tried).tree_is) ∙ x.has) c.files in
     let failed : count_by report.is_failed vs ≡ counted (is_failed seed) paths = sums.failed ∙ any_order (is_failed seed) paths in
     let state : number_of (status_of vs) ≡ status_with (counted (is_failed seed) paths) =
-        status_is vs (well.undisturbed).memory ∙ ap status_with failed in
+    status_is vs (well.undisturbed).memory ∙ ap status_with failed in
     let written : count_by report.is_written vs ≡ 1 + counted (is_written seed) paths =
-        sums.written ∙ ap (λ (n : ℕ). 1 + n) (any_order (is_written seed) paths) in
+    sums.written ∙ ap (λ (n : ℕ). 1 + n) (any_order (is_written seed) paths) in
     let unfiltered : count_by report.is_unfiltered vs ≡ counted (is_unfiltered seed) paths =
-        sums.unfiltered ∙ any_order (is_unfiltered seed) paths in
+    sums.unfiltered ∙ any_order (is_unfiltered seed) paths in
     let bytes : bytes_of (files_of c.outcomes) ≡ 136 + sum_by (file_size seed) (range_with_len 0 paths) =
-        sums.bytes ∙ ap (λ (n : ℕ). 136 + n) (in_any_order (file_size seed) paths) in
+    sums.bytes ∙ ap (λ (n : ℕ). 136 + n) (in_any_order (file_size seed) paths) in
     x.is ∙ (λ j. summary paths (verdicts j) (trees j)) ∙ summary_is paths vs (files_of c.outcomes)
     ∙ (λ j. words paths (state j) (written j) (unfiltered j) (failed j) (bytes j)) ∙ sym (line_is seed paths)
 
@@ -276,7 +268,7 @@ module _ (f : ℕ → ℕ) where
   in_blocks each same (suc blocks) =
       let all : ◌≡◌ {A = ℕ} (200 * suc blocks) (200 * blocks + 200) = omega arith in
       let one : sum_by f (range_with_len 0 (200 * suc blocks)) ≡ sum_by f (range_with_len 0 (200 * blocks + 200)) =
-          ap (λ (k : ℕ). sum_by f (range_with_len 0 k)) all in
+      ap (λ (k : ℕ). sum_by f (range_with_len 0 k)) all in
       one ∙ in_two 0 (200 * blocks) 200 ∙ (λ j. in_blocks each same blocks j + same (0 + 200 * blocks) j) ∙ sym (one_block_more each blocks)
 
 counts_of : BlocksAreAlike → (seed blocks bytes : ℕ)
@@ -285,11 +277,11 @@ counts_of : BlocksAreAlike → (seed blocks bytes : ℕ)
 unfolding words
 counts_of alike seed blocks bytes =
     let failed : counted (is_failed seed) (200 * blocks) ≡ 5 * blocks =
-        in_blocks (λ i. cond (is_failed seed i) 1 0) 5 (λ first. (alike.counts seed first).failed) blocks in
+    in_blocks (λ i. cond (is_failed seed i) 1 0) 5 (λ first. (alike.counts seed first).failed) blocks in
     let written : counted (is_written seed) (200 * blocks) ≡ 170 * blocks =
-        in_blocks (λ i. cond (is_written seed i) 1 0) 170 (λ first. (alike.counts seed first).written) blocks in
+    in_blocks (λ i. cond (is_written seed i) 1 0) 170 (λ first. (alike.counts seed first).written) blocks in
     let unfiltered : counted (is_unfiltered seed) (200 * blocks) ≡ 25 * blocks =
-        in_blocks (λ i. cond (is_unfiltered seed i) 1 0) 25 (λ first. (alike.counts seed first).unfiltered) blocks in
+    in_blocks (λ i. cond (is_unfiltered seed i) 1 0) 25 (λ first. (alike.counts seed first).unfiltered) blocks in
     λ j. first_words (200 * blocks) (status_with (failed j)) (1 + written j) ++ last_words (unfiltered j) (failed j) bytes
 
 pub block_lines_right : LinesAreRight → BlocksAreAlike → BlockLinesAreRight
@@ -299,7 +291,7 @@ block_lines_right lines alike = record {
       (bytes, lines seed (200 * blocks) text few x ∙ line_is seed (200 * blocks) ∙ counts_of alike seed blocks bytes);
   bytes = λ seed blocks text few five x.
       let bytes : sum_by (file_size seed) (range_with_len 0 (200 * blocks)) ≡ 29220 * blocks =
-          in_blocks (file_size seed) 29220 (λ first. alike.bytes seed first five) blocks in
+      in_blocks (file_size seed) 29220 (λ first. alike.bytes seed first five) blocks in
       lines seed (200 * blocks) text few x ∙ line_is seed (200 * blocks)
       ∙ counts_of alike seed blocks (136 + sum_by (file_size seed) (range_with_len 0 (200 * blocks)))
       ∙ ap (λ (n : ℕ). block_line blocks (136 + n)) bytes;
