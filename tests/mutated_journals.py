@@ -286,18 +286,23 @@ def made_up(rng):
         starts.append(start_in(lines[-1].split(" "), drivers))
     core, events = Core(starts, workers, drivers), 0
     for _ in range(rng.choice([5, 60, 600])):
-        words = random_event(rng, paths, drivers, workers)
+        words = random_event(rng, core)
         if core.step(event_in(words)):
             lines.append(" ".join(words))
             events += 1
     return lines + [f"end {events}"]
 
 
-def random_event(rng, paths, drivers, workers):
-    """The words of an event with numbers that may be there. Good answers are more frequent than others."""
-    name = rng.choice(list(SHAPES))
-    path, driver = str(rng.randrange(max(paths, 1))), str(rng.randrange(max(drivers, 1)))
-    actor = str(rng.randrange(workers + drivers))
+def random_event(rng, core):
+    """The words of an event. Paths that are open, their own actors and good answers are more frequent than others."""
+    name = rng.choice(list(SHAPES) + ["named", "redone", "listed"])
+    rare = [p for p, state in enumerate(core.paths) if state[0] in ("held", "delayed", "named")]
+    path = rng.choice(rare) if rare and rng.random() < 0.6 else rng.randrange(max(len(core.paths), 1))
+    driver, actor = rng.randrange(max(len(core.drivers), 1)), rng.randrange(core.workers + len(core.drivers) + 1)
+    if name == "close" and path < len(core.paths) and rng.random() < 0.5:
+        state, start = core.paths[path], core.starts[path]
+        actor = state[1] if state[0] == "held" else core.workers + start[1] if start[0] == "desk" else actor
+    path, driver, actor = str(path), str(driver), str(actor)
     if name == "listed" and rng.random() < 0.5:
         return [name, driver, "names", str(rng.randint(1, 3))]
     first = driver if name in ("opened", "listed", "shut") else path
@@ -307,7 +312,7 @@ def random_event(rng, paths, drivers, workers):
             words.append(actor)
         else:
             words.append(rng.choice(place[:2] if rng.random() < 0.5 else place))
-    if name == "answered" and rng.random() < 0.4:
+    if name == "answered" and rng.random() < 0.6:
         words[-1] = "delayed"
     if name == "opened" and rng.random() < 0.7:
         words[2:] = ["smudge", "delay"]
@@ -322,8 +327,16 @@ def changed(rng, lines):
     if first < len(lines) - 1 and rng.random() < 0.7:
         # lines of events
         at, other = rng.randrange(first, len(lines) - 1), rng.randrange(first, len(lines) - 1)
-    kind = rng.choice(["away", "doubled", "swapped", "moved", "number", "number", "word", "byte", "cut", "end"])
-    if kind == "away":
+    kind = rng.choice(["put", "away", "doubled", "swapped", "moved", "number", "number", "word", "byte", "cut", "end"])
+    if kind == "put" and first < len(lines):
+        # an event, at a random place behind legal ones
+        at = rng.randrange(first, len(lines))
+        starts = [start_in(line.split(" "), int(lines[0].split(" ")[2])) for line in lines[1:first]]
+        core = Core(starts, int(lines[0].split(" ")[1]), int(lines[0].split(" ")[2]))
+        for line in lines[first:at]:
+            core.step(event_in(line.split(" ")))
+        lines.insert(at, " ".join(random_event(rng, core)))
+    elif kind == "away":
         del lines[at]
     elif kind == "doubled":
         lines.insert(at, lines[at])
@@ -346,7 +359,7 @@ def changed(rng, lines):
                                    else lines[other].split(" ")) + ["-", "x"])
         lines[at] = " ".join(words)
     text = "".join(line + "\n" for line in lines).encode()
-    if kind in ("away", "doubled") and first <= at and rng.random() < 0.8:
+    if kind in ("put", "away", "doubled") and first <= at and rng.random() < 0.8:
         # with a right end, so that the events are judged
         text = "".join(line + "\n" for line in lines[:-1] + [f"end {len(lines) - 1 - first}"]).encode()
     if kind == "byte" and text:

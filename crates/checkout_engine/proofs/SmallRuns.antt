@@ -1,5 +1,5 @@
 -- A plan is small, and so is the run of a rehearsal.
-use Rattle.std.proofs.Common.{◌≡◌, ◌≤◌, ◌*◌, ℕ, List, [], ◌∷◌, length, map, Option, Some, None, Ok, sym, ap, ◌∙◌, subst, arith}
+use Rattle.std.proofs.Common.{◌≡◌, ◌≤◌, ◌*◌, ℕ, List, [], ◌∷◌, length, Option, Some, None, Ok, sym, ap, ◌∙◌, subst, arith}
 use Rattle.std.specs.List.{AllByRecursion, filter}
 use Rattle.std.proofs.lemmas.List.{length-map}
 use Rattle.edge_kit.specs.Seen.{RepoSeen, TreeSeen}
@@ -105,15 +105,17 @@ run_planned closed told words asked old new p run is read starts workers drivers
     let cards = length (filter in_pool plan.paths) in
     let begun : run.workers ≡ worker_count asked planned.settings plan.paths =
     workers ∙ ap (λ (n : ℕ). workers_for asked n p.threshold cards) read.workers ∙ ap (λ (t : ℕ). workers_for asked planned.settings.workers t cards) read.threshold in
-    subst (λ (c : Option Command). PlansRun told c old new (Ok (Some run))) (sym is)
-    (tt, record {
-      plan = plan;
-      read = read.read;
-      starts_are = starts;
-      workers_are = begun;
-      drivers_are = drivers;
-      small = small_as run.starts.items _ run.workers _ run.drivers _ starts begun drivers (start_small closed told asked plan planned (asked_few words asked is));
-    })
+    subst (λ (c : Option Command). PlansRun told c old new (Ok (Some run))) (sym is) (
+      tt,
+      record {
+        plan = plan;
+        read = read.read;
+        starts_are = starts;
+        workers_are = begun;
+        drivers_are = drivers;
+        small = small_as run.starts.items _ run.workers _ run.drivers _ starts begun drivers (start_small closed told asked plan planned (asked_few words asked is));
+      },
+    )
 
 -- and the run of a rehearsal is
 pub run_small : ClosedPathsHaveCauses → IsShort → (seed n : ℕ) (starts : List Start) (workers drivers : ℕ) (history : List Event) → IsRehearsedRun seed n starts workers drivers history → IsSmallRun starts workers drivers history

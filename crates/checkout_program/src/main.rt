@@ -6,55 +6,30 @@
 //! the environment names a file for it.
 #![tactic(auto)]
 
-ghost use Rattle.std.specs.Prelude.{◌≡◌, IfOk, IfErr, IsErr, drop, option_map, string_bytes};
-ghost use Rattle.std.specs.Vec.Iter.{into_iter_items};
-ghost use Rattle.std.specs.IoError.{error_kind};
-ghost use Rattle.std.specs.declared.io.ErrorKind.TheVariants.{OutOfMemory};
-ghost use Rattle.checkout_program.specs.Words.{word_at, words_of, message_of};
+ghost use Rattle.std.specs.Prelude.{◌≡◌, IfOk, option_map, string_bytes};
+ghost use Rattle.checkout_program.specs.Words.{word_at, message_for};
 
-mod journal_file;
-mod notes;
-mod progress;
-mod refused_path;
+mod journal_place;
 mod wrong_words;
 
-use crate::journal_file::{JournalPlace, journal_place, write_journal};
-use crate::notes::{show_drivers, show_errors};
-use crate::progress::{CountingTree, Progress};
-use crate::refused_path::refused_path;
+use crate::journal_place::{JournalPlace, journal_place};
 use crate::wrong_words::{answer, explanation};
 use checkout_core::Event;
 use checkout_engine::run;
 use edge_adapters::{FolderBlob, FolderRepo, FolderTree, OutputSink, ProcessSpawner};
 use edge_kit::NoGate;
 use journal_run::{is_journal, journal_run};
+use program_kit::{
+    CountingTree, Progress, has_terminal, message_of, refused_path, show_drivers, show_errors,
+    words_of, write_journal,
+};
 use std::alloc::{AllocError, Global};
-use std::env::{Args, args};
-use std::io;
-use std::io::{ErrorKind, writer};
+use std::env::args;
+use std::io::writer;
 use std::process::ExitCode;
 use std::sync::Wait;
 use std::sync::atomic::AtomicU32;
 use std::thread::Threads;
-
-/// The words after the first.
-fn rest_of(alloc: Global, all: Args) -> Result<Vec<String>, AllocError>
-    ensures { IfOk result (λ words. words.items ≡ drop 1 (into_iter_items all)) }
-{
-    all.skip(1).collect(alloc)
-}
-
-/// The words after the program's name, or none if one of them isn't text.
-fn words_of(alloc: Global, all: io::Result<Args>) -> Result<Vec<String>, AllocError>
-    ensures words { IfOk result (λ words. words.items ≡ words_of all) }
-    ensures memory { IfErr all (λ e. error_kind e ≡ OutOfMemory → IsErr result) }
-{
-    match all {
-        Ok(all) => rest_of(alloc, all),
-        Err(error) if error.kind() == ErrorKind::OutOfMemory => Err(AllocError),
-        Err(_) => Ok(Vec::new(alloc)),
-    }
-}
 
 /// The word with this number, or the empty text if it is missing.
 fn word_at(rt: HostRuntime, words: &[String], number: usize) -> Result<String, AllocError>
@@ -67,16 +42,12 @@ fn word_at(rt: HostRuntime, words: &[String], number: usize) -> Result<String, A
 }
 
 /// What a status says on standard error.
-fn message_of(status: u8) -> Option<&'static str>
-    ensures { option_map (λ text. text.now) result ≡ message_of status }
+fn message_for(status: u8) -> Option<&'static str>
+    ensures { option_map (λ text. text.now) result ≡ message_for status }
 {
     match status {
         2 => Some("usage: REPO TREE checkout|plan|rehearse|journal|audit"),
-        4 => Some("output not written"),
-        5 => Some("out of memory"),
-        6 => Some("read fault"),
-        7 => Some("worktree not empty"),
-        _ => None,
+        _ => message_of(status),
     }
 }
 
@@ -90,25 +61,25 @@ fn folders_of(rt: HostRuntime, words: &[String]) -> Result<(FolderRepo, FolderTr
     Ok((FolderRepo::new(rt, repo), FolderTree::new(rt, tree)))
 }
 
-/// Runs these words in these folders, and shows how many paths are closed, and then what else is to be said. The events
-/// of a checkout are left in `history`.
+/// Runs these words in these folders, and shows how many paths are closed, and then what else is to be said. With the
+/// status come the events of a checkout.
 fn run_in<H: Threads + Wait + Sync>(
     rt: HostRuntime,
     threads: &H,
     words: &[String],
     repo: &mut FolderRepo,
     tree: FolderTree,
-    history: &mut Vec<Event>,
-) -> u8 {
+) -> (u8, Vec<Event>) {
     // first, since it takes the number of a closed standard error
     let mut spawner = ProcessSpawner::new(rt);
     let leaves = AtomicU32::new(0);
-    let progress = Progress::new(rt, &leaves);
+    let progress = Progress::new(rt, &leaves, has_terminal(rt));
     let mut tree = CountingTree {
         tree,
         leaves: &leaves,
     };
     let mut out = OutputSink::new(writer(&rt));
+    let mut history = Vec::new(rt.alloc());
     let status = run(
         threads,
         rt.alloc(),
@@ -118,17 +89,17 @@ fn run_in<H: Threads + Wait + Sync>(
         &mut spawner,
         &progress,
         &mut out,
-        history,
+        &mut history,
     );
     progress.end();
     show_errors(rt, tree.tree.errors());
     show_drivers(rt, spawner.drivers());
-    status
+    (status, history)
 }
 
 /// Writes what a status says on standard error.
 fn show_message(rt: HostRuntime, status: u8) {
-    if let Some(message) = message_of(status) {
+    if let Some(message) = message_for(status) {
         let _ = eprintln!(rt; "{message}");
     }
 }
@@ -165,7 +136,7 @@ fn end_with(rt: HostRuntime, status: u8, words: &[String], are_text: bool) -> u8
 
 /// Says for which entry the index is refused, if it is for one.
 fn show_refused_path(rt: HostRuntime, repo: &mut FolderRepo) {
-    if let Some(path) = refused_path(rt, repo) {
+    if let Some(path) = refused_path(rt.alloc(), repo) {
         let _ = eprintln!(rt; "the entry's path: {path}");
     }
 }
@@ -182,6 +153,20 @@ fn journal_words<H: Threads + Wait + Sync>(
     Ok(status)
 }
 
+/// Writes the journal of a checkout by these words, which left this history, into a new file. If it can't be written,
+/// standard error says why.
+fn give_journal(
+    rt: HostRuntime,
+    path: &str,
+    words: &[String],
+    repo: &mut FolderRepo,
+    history: &[Event],
+) {
+    if let Err(error) = write_journal(rt, path, words, repo, history) {
+        let _ = eprintln!(rt; "SIUWBREN_JOURNAL: {error}");
+    }
+}
+
 /// Runs these words in the folders that they name, and writes the journal of a checkout that reached its report.
 fn folder_words<H: Threads + Wait + Sync>(
     rt: HostRuntime,
@@ -191,15 +176,14 @@ fn folder_words<H: Threads + Wait + Sync>(
     place: JournalPlace,
 ) -> Result<u8, AllocError> {
     let (mut repo, tree) = folders_of(rt, words)?;
-    let mut history = Vec::new(rt.alloc());
-    let status = run_in(rt, threads, words, &mut repo, tree, &mut history);
+    let (status, history) = run_in(rt, threads, words, &mut repo, tree);
     let ended = end_with(rt, status, words, are_text);
     if status == 3 {
         show_refused_path(rt, &mut repo);
     }
     match place {
         JournalPlace::File(path) if status < 2 || !history.is_empty() => {
-            write_journal(rt, path.as_str(), words, &mut repo, &history);
+            give_journal(rt, path.as_str(), words, &mut repo, &history);
         }
         _ => {}
     }

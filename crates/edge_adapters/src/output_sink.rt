@@ -1,6 +1,6 @@
 ghost use Rattle.std.specs.Prelude.{◌≡◌, None};
 
-use crate::write_whole::{told, write_whole};
+use crate::writing::{told, write_whole};
 use edge_kit::{SendFault, Sink};
 use std::io::Write;
 

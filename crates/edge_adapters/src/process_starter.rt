@@ -7,6 +7,7 @@ ghost use Rattle.edge_kit.specs.MemoryDrivers.{waits};
 use crate::front::is_no_packet;
 use crate::given_up::{end_all, thin_out};
 use crate::process_link::{EndedSession, ProcessLink};
+use crate::process_spawner::DriverPlace;
 use crate::shell::shell_text;
 use byte_path::Bytes;
 use edge_kit::{Link, SendFault, Starter};
@@ -14,6 +15,7 @@ use std::alloc::{AllocError, Global};
 use std::io;
 use std::io::ErrorKind;
 use std::process::{Child, Command, Stdio};
+use std::sync::Arc;
 
 /// What is kept of a session.
 #[derive(Clone, Copy)]
@@ -64,6 +66,7 @@ pub struct ProcessStarter {
     front: Vec<u8>,
     // whether this program's standard error is closed
     quiet: bool,
+    place: Option<Arc<DriverPlace, Global>>,
     // there is room for each link that is out
     ghost room: { vec_len had + out ≤ vec_capacity had },
     // and for its child
@@ -84,14 +87,32 @@ fn shell_of(alloc: Global, text: &str) -> Result<Command, AllocError> {
     Ok(shell)
 }
 
-/// Starts the command by the shell, in the folder that this program was started in. Its standard error is this
-/// program's own, or nothing if that is closed. A command that isn't text can't be started.
-fn spawn(rt: HostRuntime, alloc: Global, command: &[u8], quiet: bool) -> io::Result<Child> {
+/// Has a driver run in its place.
+fn put_in_place(shell: &mut Command, place: &DriverPlace) -> Result<(), AllocError> {
+    shell.current_dir(place.folder.as_str())?;
+    if let Some(git_dir) = &place.git_dir {
+        shell.env("GIT_DIR", git_dir.as_str())?;
+    }
+    Ok(())
+}
+
+/// Starts the command by the shell, in its place or else in the folder that this program was started in. Its standard
+/// error is this program's own, or nothing if that is closed. A command that isn't text can't be started.
+fn spawn(
+    rt: HostRuntime,
+    alloc: Global,
+    command: &[u8],
+    quiet: bool,
+    place: Option<&DriverPlace>,
+) -> io::Result<Child> {
     let Ok(text) = str::from_utf8(command) else {
         return Err(io::Error::from(ErrorKind::InvalidInput));
     };
     let text = shell_text(alloc, text)?;
     let mut shell = shell_of(alloc, text.as_str())?;
+    if let Some(place) = place {
+        put_in_place(&mut shell, place)?;
+    }
     shell.stdin(Stdio::piped());
     shell.stdout(Stdio::piped());
     if quiet {
@@ -120,8 +141,9 @@ fn next_child(
     alloc: Global,
     command: &[u8],
     quiet: bool,
+    place: Option<&DriverPlace>,
 ) -> Result<Child, SendFault> {
-    match spawn(rt, alloc, command, quiet) {
+    match spawn(rt, alloc, command, quiet, place) {
         Ok(child) => Ok(child),
         Err(error) if error.kind() == ErrorKind::OutOfMemory => Err(SendFault::NoMemory),
         Err(_) => Err(SendFault::Failed),
@@ -144,9 +166,15 @@ fn keep(had: &mut Vec<Start>, out_of_memory: u64, outcome: Outcome)
 }
 
 impl ProcessStarter {
-    /// A starter of this command, which has started nothing. If it is quiet, what a driver writes on its standard error
-    /// is lost.
-    pub fn new(rt: HostRuntime, alloc: Global, command: Bytes, quiet: bool) -> ProcessStarter
+    /// A starter of this command in its place, which has started nothing. If it is quiet, what a driver writes on its
+    /// standard error is lost.
+    pub fn new(
+        rt: HostRuntime,
+        alloc: Global,
+        command: Bytes,
+        quiet: bool,
+        place: Option<Arc<DriverPlace, Global>>,
+    ) -> ProcessStarter
         ensures { ⟦<ProcessStarter as Starter>⟧.seen result ≡ new_starter command None }
     {
         ProcessStarter {
@@ -160,6 +188,7 @@ impl ProcessStarter {
             given_up: Vec::new(alloc),
             front: Vec::new(alloc),
             quiet,
+            place,
         }
     }
 
@@ -201,7 +230,13 @@ impl Starter for ProcessStarter {
     fn start(&mut self) -> Result<ProcessLink, SendFault> {
         thin_out(&mut self.given_up);
         let started = match take_room(&mut self.had, &mut self.given_up, self.out) {
-            Ok(()) => next_child(self.rt, self.alloc, self.command.as_slice(), self.quiet),
+            Ok(()) => next_child(
+                self.rt,
+                self.alloc,
+                self.command.as_slice(),
+                self.quiet,
+                self.place.as_deref(),
+            ),
             Err(_) => Err(SendFault::NoMemory),
         };
         match &started {

@@ -1,4 +1,5 @@
 //! Why files of a worktree couldn't be written.
+use byte_path::Bytes;
 use std::alloc::{AllocError, Global};
 use std::io;
 
@@ -6,15 +7,18 @@ use std::io;
 const MOST: usize = 8;
 
 /// An error of the system, and at how many paths it came.
-#[derive(Clone, Copy)]
+#[derive(Drop)]
 pub struct ErrorCount {
     pub error: io::Error,
     pub paths: u64,
+    /// The first of these paths, if there was memory to keep it.
+    pub first: Option<Bytes>,
 }
 
 /// The first error of each path that had one. Of many different errors only the first are kept.
 #[derive(Drop)]
 pub struct WriteErrors {
+    alloc: Global,
     counts: Vec<ErrorCount>,
     others: u64,
 }
@@ -26,6 +30,7 @@ fn is_same(one: &io::Error, other: &io::Error) -> bool {
 impl WriteErrors {
     pub fn new(alloc: Global) -> WriteErrors {
         WriteErrors {
+            alloc,
             counts: Vec::new(alloc),
             others: 0,
         }
@@ -36,25 +41,30 @@ impl WriteErrors {
         self.counts.reserve(MOST)
     }
 
-    /// Counts the error of a path. It takes no memory after `reserve`.
-    pub fn add(&mut self, error: &io::Error) {
+    /// Counts the error of a path. After `reserve` it needs memory for the first path of an error alone, and does without.
+    pub fn add(&mut self, error: &io::Error, path: &Bytes) {
         for count in self.counts.iter_mut() {
             if is_same(&count.error, error) {
                 count.paths = count.paths.saturating_add(1);
                 return;
             }
         }
-        let is_kept = self.counts.len() < MOST
-            && self
-                .counts
-                .push(ErrorCount {
-                    error: *error,
-                    paths: 1,
-                })
-                .is_ok();
-        if !is_kept {
+        if !self.keep(error, path) {
             self.others = self.others.saturating_add(1);
         }
+    }
+
+    /// Keeps the error of its first path, if there is room.
+    fn keep(&mut self, error: &io::Error, path: &Bytes) -> bool {
+        if self.counts.len() >= MOST {
+            return false;
+        }
+        let count = ErrorCount {
+            error: *error,
+            paths: 1,
+            first: Bytes::copy_of(self.alloc, path.as_slice()).ok(),
+        };
+        self.counts.push(count).is_ok()
     }
 
     /// The errors that are kept, in the order in which they first came.

@@ -1,5 +1,6 @@
 -- How words end, by the status.
-use Rattle.std.proofs.Common.{◌≡◌, ◌==◌, ◌<◌, ℕ, if◌then◌else◌, List, Option, Some, None, refl, sym, ap, ◌∙◌, subst, inl, inr, arith}
+use Rattle.std.proofs.Common.{◌⊎◌, ◌≡◌, ◌==◌, ◌<◌, ℕ, if◌then◌else◌, List, Option, Some, None, refl, sym, ap, ◌∙◌, subst, inl, inr, arith}
+use Rattle.edge_kit.specs.Faults.{Rose}
 use Rattle.edge_kit.specs.Seen.{BlobSeen, SinkSeen}
 use Rattle.edge_kit.specs.Told.{Told}
 use Rattle.journal_audit.specs.declared.answer.Audit.TheVariants.{Legal, Illegal, Unreadable}
@@ -10,7 +11,7 @@ use Rattle.journal_run.specs.declared.status.Status.{Status}
 use Rattle.journal_run.specs.declared.status.Status.TheVariants as status
 use Rattle.journal_run.specs.declared.words.Form.{Form}
 use Rattle.journal_run.specs.declared.words.Form.TheVariants.{Rehearsal, Audit}
-use Rattle.journal_run.specs.Ends.{number_of, IsAnswered, IsCutOff, IsUnread, Writes, EndsForm, Ends}
+use Rattle.journal_run.specs.Ends.{number_of, IsAnswered, IsAnsweredBy, IsCutOff, IsUnread, Writes, EndsForm, Ends}
 use Rattle.journal_run.specs.Findings.{IsFinding, finding_line, status_of}
 use Rattle.journal_run.specs.Rehearsed.{IsJournalOf}
 
@@ -137,3 +138,20 @@ module _ (told : Told) (file file' : BlobSeen) (sink sink' : SinkSeen) where
   -- where the words are neither form
   pub nothing : (o : Option Form) (s : Status) → Ends o told file file' sink sink' s → o ≡ None → (s ≡ status.Usage) × (file' ≡ file) × (sink' ≡ sink)
   nothing o s ends is = subst (λ (x : Option Form). Ends x told file file' sink sink' s) is ends
+
+  -- where nothing fails
+  pub complete : (o : Option Form) (form : Form) (s : Status) (n : ℕ) → Ends o told file file' sink sink' s → o ≡ Some form → n ≡ number_of s
+      → (Rose file.faults file'.faults → ⊥) → (Rose sink.faults sink'.faults → ⊥) → (n ≡ 5) ⊎ IsAnsweredBy form told n sink sink'
+  complete o form s n ends is number read written = by s number (of_form o form s is ends)
+    where
+      audited : (t : Status) → form ≡ Audit → IsAnswered Audit told t sink sink' → IsAnswered form told t sink sink'
+      audited t same answer = subst (λ (f : Form). IsAnswered f told t sink sink') (sym same) answer
+
+      by : (s : Status) → n ≡ number_of s → EndsForm form told file file' sink sink' s → (n ≡ 5) ⊎ IsAnsweredBy form told n sink sink'
+      by status.Done number answer = inr (status.Done, number, answer)
+      by status.Illegal number answer = inr (status.Illegal, number, audited status.Illegal answer.0 answer.1)
+      by status.Usage number none = absurd none
+      by status.Unreadable number answer = inr (status.Unreadable, number, audited status.Unreadable answer.0 answer.1)
+      by status.OutputNotWritten number cut = absurd (written cut.rose)
+      by status.OutOfMemory number same = inl number
+      by status.ReadFault number unread = absurd (read (unread.1).rose)

@@ -32,6 +32,10 @@ IsAnswer (Rehearsal seed paths) told s answer = (s ≡ status.Done) × IsJournal
 abbrev pub IsAnswered : Form → Told → Status → SinkSeen → SinkSeen → Type 0
 IsAnswered form told s old new = (answer : List ℕ) × IsAnswer form told s answer × (new ≡ with_text answer old)
 
+-- the same for the number of a status
+abbrev pub IsAnsweredBy : Form → Told → ℕ → SinkSeen → SinkSeen → Type 0
+IsAnsweredBy form told n old new = (s : Status) × (n ≡ number_of s) × IsAnswered form told s old new
+
 -- the sink failed, and a first part of the right answer was written
 pub record IsCutOff (form : Form) (told : Told) (old new : SinkSeen) : Type 0 where
   pub rose : Rose old.faults new.faults

@@ -4,14 +4,12 @@
 mod checkout;
 mod finding;
 mod laws;
-mod rehearsal;
+mod rehearsing;
 mod run;
 mod status;
 mod words;
 
 pub use checkout::{JournalFault, checkout_journal};
-pub use laws::{
-    a_file_has_one_finding, checkouts_are_legal, rehearsals_are_legal, runs_are_legal,
-};
+pub use laws::{a_file_has_one_finding, checkouts_are_legal, rehearsals_are_legal, runs_are_legal};
 pub use run::journal_run;
 pub use words::is_journal;

@@ -1,15 +1,16 @@
 //! What the words ask for: the journal of a rehearsal, or the audit of a file.
-ghost use Rattle.std.specs.Prelude.{◌≡◌, ◌≤◌, ◌<◌, ◌↔◌, ℕ, Some, None};
+ghost use Rattle.std.specs.Prelude.{◌≡◌, ◌⊎◌, ◌≤◌, ◌<◌, ◌↔◌, ℕ, Some, None};
+ghost use Rattle.edge_kit.specs.Faults.{Rose};
 ghost use Rattle.edge_kit.specs.Seen.{BlobSeen};
 ghost use Rattle.edge_kit.specs.Told.{Told};
 ghost use Rattle.journal_run.specs.declared.status.Status.TheVariants.{Done, Illegal, Unreadable};
 ghost use Rattle.journal_run.specs.declared.words.Form.{Form};
 ghost use Rattle.journal_run.specs.declared.words.Form.TheVariants.{Audit, Rehearsal};
 ghost use Rattle.journal_run.specs.Words.{asked};
-ghost use Rattle.journal_run.specs.Ends.{Ends, EndsForm, IsAnswered, IsCutOff, IsUnread, Writes};
+ghost use Rattle.journal_run.specs.Ends.{Ends, EndsForm, IsAnswered, IsAnsweredBy, IsCutOff, IsUnread, Writes};
 
 use crate::finding::{FindFault, find, finding_line, status_of};
-use crate::rehearsal::rehearsal_journal;
+use crate::rehearsing::rehearsal_journal;
 use crate::status::{Status, number_of};
 use crate::words::{Form, form_of};
 use edge_kit::{Blob, Gate, SendFault, Sink};
@@ -126,6 +127,11 @@ pub fn journal_run<B: Blob, G: Gate, O: Sink, H: Threads + Wait + Sync>(
         × IsUnread (B.told text.old) (B.seen text.old) (B.seen text.new) × (O.seen out.new ≡ O.seen out.old) }
     // There is no other end.
     ensures number { result < 7 }
+    // Where no count of faults rises, the answer is written whole and the status is its own, or memory runs out.
+    ensures complete { (form : Form) → asked words.now ≡ Some form
+        → (Rose (B.seen text.old).faults (B.seen text.new).faults → ⊥)
+        → (Rose (O.seen out.old).faults (O.seen out.new).faults → ⊥)
+        → (result ≡ 5) ⊎ IsAnsweredBy form (B.told text.old) result (O.seen out.old) (O.seen out.new) }
     // What the text tells stays, and so does its name.
     ensures told { B.told text.new ≡ B.told text.old }
     ensures kept { B.seen text.new ≡ record (B.seen text.old) { faults = (B.seen text.new).faults } }

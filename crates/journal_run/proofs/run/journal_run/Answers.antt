@@ -1,6 +1,6 @@
 use Rattle.std.proofs.Common.{sym, ap, ◌∙◌}
 use Rattle.journal_run.specs.Ends.{number_of}
-use Rattle.journal_run.proofs.Ends.{number_few, done, illegal, unreadable, cut_off, out_of_memory, read_fault, unused, nothing}
+use Rattle.journal_run.proofs.Ends.{number_few, done, illegal, unreadable, cut_off, out_of_memory, read_fault, unused, nothing, complete}
 use Rattle.journal_run.proofs.run.journal_run.Goals as goal
 
 pub returns-clause-printed : goal.returns-clause-printed
@@ -35,3 +35,6 @@ returns-clause-number g c = rw c.number_of.ensures (number_few c.obey.result)
 
 pub returns-clause-unasked : goal.returns-clause-unasked
 returns-clause-unasked g c none = let idle = nothing _ _ _ _ _ _ _ c.obey.ensures.ends none in (idle.1, idle.2)
+
+pub returns-clause-complete : goal.returns-clause-complete
+returns-clause-complete g c form is read written = complete _ _ _ _ _ _ _ _ _ c.obey.ensures.ends is c.number_of.ensures read written

@@ -1,0 +1,47 @@
+//! Why a repository can't be used.
+use std::alloc::{AllocError, AllocFailed};
+use std::io;
+use std::io::ErrorKind;
+use thiserror::Error;
+
+/// Why a repository can't be used, in words.
+#[derive(Error, Debug, Drop)]
+pub enum GitFault {
+    /// The program git can't be started, or what it writes can't be read.
+    #[error("git can't be run: {0}")]
+    NoGit(io::Error),
+    /// Git finds no repository that it can read. The text is git's own.
+    #[error("{0}")]
+    NoRepository(String),
+    #[error("'{0}' names no commit, tag or tree")]
+    NoRevision(String),
+    /// The names of objects are not by SHA-1. The text is git's word for what they are by.
+    #[error("object names are by {0}, and only names by SHA-1 are read")]
+    ObjectFormat(String),
+    /// A path of the repository isn't UTF-8 or has a line end in it.
+    #[error("a path of the repository isn't UTF-8, or has a line end in it")]
+    BadPath,
+    #[error("out of memory")]
+    NoMemory,
+}
+
+impl From<AllocError> for GitFault {
+    fn from(_: AllocError) -> Self {
+        GitFault::NoMemory
+    }
+}
+
+impl From<io::Error> for GitFault {
+    fn from(error: io::Error) -> Self {
+        match error.kind() {
+            ErrorKind::OutOfMemory => GitFault::NoMemory,
+            _ => GitFault::NoGit(error),
+        }
+    }
+}
+
+impl<T: Drop> From<AllocFailed<T>> for GitFault {
+    fn from(_: AllocFailed<T>) -> Self {
+        GitFault::NoMemory
+    }
+}

@@ -1,0 +1,48 @@
+ghost use Rattle.std.specs.Prelude.{◌≡◌};
+ghost use Rattle.edge_kit.specs.Told.{Untold};
+
+use crate::cat_pool::CatPool;
+use edge_kit::{Blob, TakeFault};
+use std::alloc::Global;
+use std::sync::Arc;
+
+/// An object of a repository, which a process of git gives.
+#[derive(Drop)]
+pub struct GitBlob {
+    pool: Arc<CatPool, Global>,
+    pub name: [u8; 20],
+    pub faults: u64,
+    /// Whether it was asked for and isn't there.
+    pub is_absent: bool,
+}
+
+impl GitBlob {
+    /// The object with this name, of which nothing was read.
+    pub fn new(pool: Arc<CatPool, Global>, name: [u8; 20]) -> GitBlob
+        ensures name { result.name ≡ name }
+        ensures unfailed { result.faults ≡ 0 }
+    {
+        GitBlob {
+            pool,
+            name,
+            faults: 0,
+            is_absent: false,
+        }
+    }
+}
+
+impl Blob for GitBlob {
+    ghost told = { λ _. Untold };
+
+    ghost seen = { λ b. record { name = b.name; faults = b.faults } };
+
+    fn take_all(&mut self, limit: u64) -> Result<Option<Vec<u8>>, TakeFault> {
+        let taken = self.pool.take(&self.name, limit);
+        match &taken {
+            Err(TakeFault::Failed) => self.faults = self.faults.saturating_add(1),
+            Ok(None) => self.is_absent = true,
+            _ => {}
+        }
+        taken
+    }
+}
