@@ -1,5 +1,5 @@
 //! A content with the line ends of the repository.
-ghost use Rattle.std.specs.Prelude.{◌≡◌, IfOk, true, false};
+ghost use Rattle.std.specs.Prelude.{◌≡◌, IfOk, MatchOption, true, false};
 ghost use Rattle.back_convert.specs.Ends.{begins_with_lf, has_crlf, without_cr, back_auto, back_ends};
 
 use eol_convert::{Action, LineEnds, changes_ends};
@@ -51,16 +51,44 @@ fn without_cr(alloc: Global, content: &[u8]) -> Result<Vec<u8>, AllocError>
 }
 
 /// An automatic file that has CR LF, without the CRs if it looks like a text.
-fn back_auto(alloc: Global, content: &[u8]) -> Result<Vec<u8>, AllocError>
+fn changed_auto(alloc: Global, content: &[u8]) -> Result<Option<Vec<u8>>, AllocError>
     requires { has_crlf content.now ≡ true }
-    ensures { IfOk result (λ text. text.items ≡ back_auto content.now false) }
+    ensures { IfOk result (λ text. MatchOption text (back_auto content.now false ≡ content.now)
+        (λ v. v.items ≡ back_auto content.now false)) }
 {
     let text = without_cr(alloc, content)?;
     // It has an LF, so it changes exactly if it looks like a text.
     if changes_ends(&text, LineEnds::AutoCrlf) {
-        return Ok(text);
+        return Ok(Some(text));
     }
-    Vec::from_slice(alloc, content)
+    Ok(None)
+}
+
+/// A file's content as it stands in the repository, if that is another content. A caller then needs no copy of one that
+/// stays.
+pub fn changed_ends(
+    alloc: Global,
+    content: &[u8],
+    action: Action,
+    old_crlf: bool,
+) -> Result<Option<Vec<u8>>, AllocError>
+    ensures { IfOk result (λ text. MatchOption text (back_ends content.now action old_crlf ≡ content.now)
+        (λ v. v.items ≡ back_ends content.now action old_crlf)) }
+{
+    if !has_crlf(content) {
+        return Ok(None);
+    }
+    match action {
+        Action::Binary => Ok(None),
+        Action::TextLf | Action::TextCrlf => Ok(Some(without_cr(alloc, content)?)),
+        Action::AutoLf | Action::AutoCrlf => {
+            if old_crlf {
+                Ok(None)
+            } else {
+                changed_auto(alloc, content)
+            }
+        }
+    }
 }
 
 /// A file's content as it stands in the repository, by what is done with its line ends (gitattributes(5), "End-of-line
@@ -75,18 +103,8 @@ pub fn back_ends(
 ) -> Result<Vec<u8>, AllocError>
     ensures { IfOk result (λ text. text.items ≡ back_ends content.now action old_crlf) }
 {
-    if !has_crlf(content) {
-        return Vec::from_slice(alloc, content);
-    }
-    match action {
-        Action::Binary => Vec::from_slice(alloc, content),
-        Action::TextLf | Action::TextCrlf => without_cr(alloc, content),
-        Action::AutoLf | Action::AutoCrlf => {
-            if old_crlf {
-                Vec::from_slice(alloc, content)
-            } else {
-                back_auto(alloc, content)
-            }
-        }
+    match changed_ends(alloc, content, action, old_crlf)? {
+        Some(text) => Ok(text),
+        None => Vec::from_slice(alloc, content),
     }
 }

@@ -1,11 +1,12 @@
 //! A file's content, as it is stored.
 ghost use Rattle.std.specs.Prelude.{◌≡◌, IfOk, MatchResult, Some};
 ghost use Rattle.back_convert.specs.Encoding.{Explains};
+ghost use Rattle.back_convert.specs.Ends.{back_ends};
 ghost use Rattle.back_convert.specs.Laws.{back_ident_if, back_encoded_if, stored};
 
 use crate::encoding::{BackFault, back_encode};
-use crate::ends::back_ends;
-use crate::ident::back_ident;
+use crate::ends::changed_ends;
+use crate::ident::{back_ident, has_expanded};
 use eol_convert::Action;
 use std::alloc::{AllocError, Global};
 use tree_encoding::Encoding;
@@ -25,18 +26,38 @@ fn back_encoded_if(
     }
 }
 
+/// A content with the repository's line ends, without a copy if it stays.
+fn ended(
+    alloc: Global,
+    content: Vec<u8>,
+    action: Action,
+    old_crlf: bool,
+) -> Result<Vec<u8>, AllocError>
+    ensures { IfOk result (λ v. v.items ≡ back_ends content.items action old_crlf) }
+{
+    match changed_ends(alloc, &content, action, old_crlf)? {
+        Some(text) => Ok(text),
+        None => Ok(content),
+    }
+}
+
+/// A content with its keywords as they were, without a copy if it stays.
 fn back_ident_if(alloc: Global, ident: bool, content: Vec<u8>) -> Result<Vec<u8>, AllocError>
     ensures { IfOk result (λ v. v.items ≡ back_ident_if ident content.items) }
 {
-    if ident {
-        back_ident(alloc, &content)
-    } else {
-        Ok(content)
+    if !ident {
+        return Ok(content);
     }
+    if has_expanded(&content) {
+        return back_ident(alloc, &content);
+    }
+    Ok(content)
 }
 
 /// A file's content as it is stored, by what its attributes say: first it is read out of its encoding, then the line
 /// ends are converted, and then the keyword. `old_crlf` is as for `back_ends`.
+///
+/// A content without an encoding that doesn't change is passed on without a copy.
 pub fn to_stored(
     alloc: Global,
     ident: bool,
@@ -52,7 +73,6 @@ pub fn to_stored(
         Ok(content) => content,
         Err(fault) => return Err(fault),
     };
-    let ended = back_ends(alloc, &content, action, old_crlf)?;
-    let text = back_ident_if(alloc, ident, ended)?;
-    Ok(text)
+    let text = ended(alloc, content, action, old_crlf)?;
+    Ok(back_ident_if(alloc, ident, text)?)
 }
