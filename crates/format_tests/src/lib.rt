@@ -32,6 +32,8 @@ mod program_words;
 #[cfg(test)]
 mod settings;
 #[cfg(test)]
+mod storing;
+#[cfg(test)]
 mod table;
 #[cfg(test)]
 mod words;
