@@ -85,6 +85,16 @@ has_given (e ∷ es) p bytes h = ⊎_elim
     (λ (b : HasAnswer es p (Some bytes)). inr (has_given es p bytes b))
     h
 
+-- what a checkout says of the paths of a driver that was told to write this
+pub record IsDriven (d : ℕ) (t : DriverTalk) (output : List ℕ) (seed : ℕ) (ms : List Mark) : Type 0 where
+  pub named : HaveNames t.paths seed ms
+  pub texts : HaveTexts t.paths (places ms)
+  -- each hears what a talk tells that goes by this output
+  pub hears : (had : List Had) (es : List Exchange) → IsToldTalk d t.paths (places ms) (Gives output ∷ []) had es
+      → (m : Mark) → Among m ms
+      → (heard_at d t m.place ≡ heard_by (fate_in d m.place es)) × (content_of m.place t.exchanges ≡ content_of m.place es)
+  pub gave : (m : Mark) → Among m ms → (answer : List ℕ) → Gave t m.place answer → content_of m.place t.exchanges ≡ Some answer
+
 -- a driver by its number, whether it is required, the kinds that it has, and what it writes
 module _ (law : SameHeard) (one : OneContent) (d : ℕ) (required : Bool) (test : ℕ → Bool) (output : List ℕ)
     (seed : ℕ) (is : List ℕ) (told : RepoTold) (talks : List DriverTalk) (outcomes : List Outcome) (history : List Event)
@@ -104,7 +114,7 @@ module _ (law : SameHeard) (one : OneContent) (d : ℕ) (required : Bool) (test 
   path i = path_at b seed i
 
   -- a path of the driver, and its outcome
-  pub record Ended (n i : ℕ) : Type 0 where
+  record Ended (n i : ℕ) : Type 0 where
     pub outcome : Outcome
     pub memory : is_no_memory outcome.verdict ≡ false
     pub leaf : leaf_count outcome.leaf ≡ 0
@@ -118,7 +128,7 @@ module _ (law : SameHeard) (one : OneContent) (d : ℕ) (required : Bool) (test 
       let same : x.1 ≡ t = (let both : Some x.1 ≡ Some t = sym x.2 ∙ here in cc (both)) in
       subst (λ (u : DriverTalk). HasDeskVerdict required d u n (told.object p.object) p o o.verdict) same x.3
 
-  pub ended : (k i : ℕ) → slice_get is k ≡ Some i → test (kind seed i) ≡ true → Ended (1 + k) i
+  ended : (k i : ℕ) → slice_get is k ≡ Some i → test (kind seed i) ≡ true → Ended (1 + k) i
   ended k i at e =
       let fine = fine_at told.object talks 0 (paths_of seed is) outcomes g.fits g.memory g.leaves (suc k) (path i) (path_got b seed is k i at) in
       let place : ◌≡◌ {A = ℕ} (0 + suc k) (1 + k) = omega arith in
@@ -180,7 +190,7 @@ module _ (law : SameHeard) (one : OneContent) (d : ℕ) (required : Bool) (test 
       let f = found n ms h in
       ap (λ (q : ℕ). contains q t.asked) f.2 ∙ asks_each f.0 f.1
 
-  pub asked_are : t.asked ≡ places ms
+  asked_are : t.asked ≡ places ms
   asked_are = same_rising t.asked (places ms) said.over.rises (places_rise ms (marks_rise test seed 1 is)) same
     where
       same : (n : ℕ) → contains n t.asked ≡ contains n (places ms)
@@ -202,10 +212,10 @@ module _ (law : SameHeard) (one : OneContent) (d : ℕ) (required : Bool) (test 
       let same : p.0 ≡ path m.number = cc (both) in
       p.3 ∙ ap (λ (q : PathPlan). q.path) same
 
-  pub names : HaveNames t.paths seed ms
+  names : HaveNames t.paths seed ms
   names = all_from (λ m. t.paths.text m.place ≡ name seed m.number) ms name_is
 
-  pub have_texts : HaveTexts t.paths (places ms)
+  have_texts : HaveTexts t.paths (places ms)
   have_texts p q a c e =
       let x = found p ms a in
       let y = found q ms c in
@@ -246,7 +256,7 @@ module _ (law : SameHeard) (one : OneContent) (d : ℕ) (required : Bool) (test 
   apart_places = rising.apart (places ms) (places_rise ms (marks_rise test seed 1 is))
 
   -- so each hears what the script's talk tells
-  pub hears : (had : List Had) (es : List Exchange) → IsToldTalk d t.paths (places ms) (Gives output ∷ []) had es
+  hears : (had : List Had) (es : List Exchange) → IsToldTalk d t.paths (places ms) (Gives output ∷ []) had es
       → (m : Mark) → Among m ms
       → (heard_at d t m.place ≡ heard_by (fate_in d m.place es)) × (content_of m.place t.exchanges ≡ content_of m.place es)
   hears had es mine m h =
@@ -255,7 +265,10 @@ module _ (law : SameHeard) (one : OneContent) (d : ℕ) (required : Bool) (test 
       (heard_is m.place (asks_each m h) ∙ ap heard_by both.0, both.1)
 
   -- and what was given is one content
-  pub gave_one : (m : Mark) → Among m ms → (answer : List ℕ) → Gave t m.place answer → content_of m.place t.exchanges ≡ Some answer
+  gave_one : (m : Mark) → Among m ms → (answer : List ℕ) → Gave t m.place answer → content_of m.place t.exchanges ≡ Some answer
   gave_one m h answer gave =
       one d t.paths t.asked said.talk.full t.exchanges (subst AreApart (sym asked_are) apart_places) said.talk.talk m.place answer
       (has_given t.exchanges m.place answer gave)
+
+  pub is_driven : IsDriven d t output seed (marks_from test 1 seed is)
+  is_driven = record { named = names; texts = have_texts; hears = hears; gave = gave_one }

@@ -5,7 +5,7 @@ use Rattle.std.specs.List.{flat_map}
 use Rattle.std.proofs.lemmas.Bool.{true≢false}
 use Rattle.pkt_line.specs.Spelling.{spelling_all}
 use Rattle.edge_kit.specs.MemoryDrivers.{starts_for}
-use Rattle.edge_kit.specs.Starters.{Had, Gives, Session}
+use Rattle.edge_kit.specs.Starters.{Had, Gives, Session, Starts}
 use Rattle.edge_kit.specs.Told.{RepoTold}
 use Rattle.settings_view.specs.declared.view.Driver.{Driver}
 use Rattle.checkout_core.specs.declared.event.Event.{Event}
@@ -33,7 +33,7 @@ use Rattle.rehearsal_numbers.proofs.Alpha.{AreAlphas, HaveNames}
 use Rattle.rehearsal_numbers.proofs.AlphaTold as first
 use Rattle.rehearsal_numbers.proofs.Places.{place_is, marks_from, marks_rise, marks_pass, marks_few, alpha_firsts, beta_firsts, alpha_lists_are}
 use Rattle.rehearsal_numbers.proofs.Checkouts.{IsRehearsal, talk_at}
-use Rattle.rehearsal_numbers.proofs.Driven as driven
+use Rattle.rehearsal_numbers.proofs.Driven.{IsDriven, is_driven}
 
 -- a path of some kind is there
 pub some_kind : (test : ℕ → Bool) (seed : ℕ) (is : List ℕ) (k i : ℕ) → slice_get is k ≡ Some i → test (kind seed i) ≡ true
@@ -161,76 +161,80 @@ pub record Heard (d : ℕ) (t : DriverTalk) (n : ℕ) (fate : Fate) (gets : Opti
   pub heard : heard_at d t n ≡ heard_by fate
   pub got : (bytes : List ℕ) → Gave t n bytes → (c : Option (List ℕ)) × gets c × (c ≡ Some bytes)
 
+joined : (d : ℕ) (t : DriverTalk) (n : ℕ) (fate told : Fate) (gets : Option (List ℕ) → Type 0) (mine theirs : Option (List ℕ))
+    → heard_at d t n ≡ heard_by told → told ≡ fate → theirs ≡ mine → gets mine
+    → ((bytes : List ℕ) → Gave t n bytes → theirs ≡ Some bytes) → Heard d t n fate gets
+joined d t n fate told gets mine theirs hears is same got gave = record {
+  heard = hears ∙ ap heard_by is;
+  got = λ bytes given. (mine, got, sym same ∙ gave bytes given);
+}
+
 module _ (spells : SpellingSpells) (law : SameHeard) (one : OneContent) (seed : ℕ) (is : List ℕ) (told : RepoTold)
     (talks : List DriverTalk) (outcomes : List Outcome) (history : List Event)
     (g : IsRehearsal seed is told talks outcomes history) where
+  abbrev ahead : List ℕ → Starts
+  ahead = starts_for (scripts seed is)
+
+  abbrev alphas : List Mark
+  alphas = marks_from is_alpha 1 seed is
+
+  abbrev betas : List Mark
+  betas = marks_from is_beta 1 seed is
+
+  -- the command of a driver is the one that the plan says
+  command_is : (driver plain : Driver) (t : DriverTalk) (command : List ℕ) → driver.process ≡ Some t.command → driver ≡ plain
+      → plain.process ≡ Some command → t.command ≡ command
+  command_is driver plain t command said is process =
+      let both : Some t.command ≡ Some command = sym said ∙ ap (λ (y : Driver). y.process) is ∙ process in
+      cc (both)
+
+  alpha_driven : (t : DriverTalk) → slice_get talks 0 ≡ Some t → has_kind is_alpha seed is ≡ true
+      → IsDriven 0 t (alpha_text seed is) seed alphas
+  alpha_driven t here some =
+      let x = talk_at ahead told.object (paths_of seed is) (verdicts_of outcomes) history 0 (drivers_of seed is) talks g.conversations 0 t here in
+      let command = command_is x.driver alpha t (codes "alpha") (x.said).command (alpha_driver seed is x.driver some x.there) refl in
+      is_driven law one 0 true is_alpha (alpha_text seed is) seed is told talks outcomes history g (alpha_begins (beta_number seed is))
+      (λ l j a h. alpha_test (beta_number seed is) (kind seed j) (beta_second seed is some) h) t x.driver x.said here
+      (ap ahead command ∙ starts_alpha seed is)
+
+  beta_driven : (t : DriverTalk) → slice_get talks (beta_number seed is) ≡ Some t → has_kind is_beta seed is ≡ true
+      → IsDriven (beta_number seed is) t (beta_text seed is) seed betas
+  beta_driven t here some =
+      let d = beta_number seed is in
+      let x = talk_at ahead told.object (paths_of seed is) (verdicts_of outcomes) history 0 (drivers_of seed is) talks g.conversations d t here in
+      let number : ◌≡◌ {A = ℕ} (0 + d) d = omega arith in
+      let said : IsDriverTalk ahead told.object (paths_of seed is) (verdicts_of outcomes) history d x.driver t =
+      subst (λ (n : ℕ). IsDriverTalk ahead told.object (paths_of seed is) (verdicts_of outcomes) history n x.driver t) number x.said in
+      let command = command_is x.driver beta t (codes "beta") said.command (beta_driver seed is x.driver some x.there) refl in
+      is_driven law one d false is_beta (beta_text seed is) seed is told talks outcomes history g (beta_begins d)
+      (λ l j a h. beta_test d (kind seed j) (λ f. beta_second seed is (some_kind is_alpha seed is l j a f)) h) t x.driver said here
+      (ap ahead command ∙ starts_beta seed is)
+
   pub alpha_heard : (t : DriverTalk) → slice_get talks 0 ≡ Some t → (k i : ℕ) → slice_get is k ≡ Some i → is_alpha (kind seed i) ≡ true
       → Heard 0 t (1 + k) (first.fate_at seed i) (AlphaGets seed (record { place = 1 + k; number = i }))
   alpha_heard t here k i at e =
-      let some = some_kind is_alpha seed is k i at e in
-      let second_one = beta_second seed is some in
-      let x = talk_at (starts_for (scripts seed is)) told.object (paths_of seed is) (verdicts_of outcomes) history 0 (drivers_of seed is) talks g.conversations 0 t here in
-      let is_driver = alpha_driver seed is x.driver some x.there in
-      let command : t.command ≡ codes "alpha" =
-      (let both : Some t.command ≡ Some (codes "alpha") = sym (x.said).command ∙ ap (λ (y : Driver). y.process) is_driver in cc (both)) in
-      let ahead : starts_for (scripts seed is) t.command ≡ Some (Gives (alpha_text seed is) ∷ []) =
-      ap (starts_for (scripts seed is)) command ∙ starts_alpha seed is in
-      let begins = alpha_begins (beta_number seed is) in
-      let has_test : (k i : ℕ) → slice_get is k ≡ Some i → is_at 0 (start_at (beta_number seed is) (kind seed i)) ≡ true → is_alpha (kind seed i) ≡ true =
-      λ l j a h. alpha_test (beta_number seed is) (kind seed j) second_one h in
-      let ms = marks_from is_alpha 1 seed is in
+      let x = alpha_driven t here (some_kind is_alpha seed is k i at e) in
       let m : Mark = record { place = 1 + k; number = i } in
-      let among : Among m ms = place_is is_alpha seed 1 k i is at e in
-      let mine = alpha_told spells 0 t.paths seed ms (marks_pass is_alpha seed 1 is)
-      (driven.names law one 0 true is_alpha (alpha_text seed is) seed is told talks outcomes history g begins has_test t x.driver x.said here ahead)
-      (driven.have_texts law one 0 true is_alpha (alpha_text seed is) seed is told talks outcomes history g begins has_test t x.driver x.said here ahead)
-      (marks_rise is_alpha seed 1 is) (omega (arith, marks_few is_alpha seed 1 is, g.few)) m among in
-      let talk : IsToldTalk 0 t.paths (places ms) (Gives (alpha_text seed is) ∷ []) mine.had mine.exchanges =
-      subst (λ (o : List ℕ). IsToldTalk 0 t.paths (places ms) (Gives o ∷ []) mine.had mine.exchanges) (alpha_output seed is) mine.talk in
-      let both = driven.hears law one 0 true is_alpha (alpha_text seed is) seed is told talks outcomes history g begins has_test t x.driver x.said here ahead
-      mine.had mine.exchanges talk m among in
-      record {
-        heard = both.0 ∙ ap heard_by (mine.hears m among);
-        got = λ bytes gave. (
-          content_of m.place mine.exchanges,
-          mine.gets m among,
-          sym both.1
-              ∙ driven.gave_one law one 0 true is_alpha (alpha_text seed is) seed is told talks outcomes history g begins has_test t x.driver x.said here ahead m among bytes gave,
-        );
-      }
+      let among : Among m alphas = place_is is_alpha seed 1 k i is at e in
+      let mine = alpha_told spells 0 t.paths seed alphas (marks_pass is_alpha seed 1 is) x.named x.texts (marks_rise is_alpha seed 1 is)
+      (omega (arith, marks_few is_alpha seed 1 is, g.few)) m among in
+      let talk : IsToldTalk 0 t.paths (places alphas) (Gives (alpha_text seed is) ∷ []) mine.had mine.exchanges =
+      subst (λ (o : List ℕ). IsToldTalk 0 t.paths (places alphas) (Gives o ∷ []) mine.had mine.exchanges) (alpha_output seed is) mine.talk in
+      let both = x.hears mine.had mine.exchanges talk m among in
+      joined 0 t (1 + k) (first.fate_at seed i) (fate_in 0 (1 + k) mine.exchanges) (AlphaGets seed m) (content_of (1 + k) mine.exchanges)
+      (content_of (1 + k) t.exchanges) both.0 (mine.hears m among) both.1 (mine.gets m among) (x.gave m among)
 
   pub beta_heard : (t : DriverTalk) → slice_get talks (beta_number seed is) ≡ Some t → (k i : ℕ) → slice_get is k ≡ Some i
       → is_beta (kind seed i) ≡ true
       → Heard (beta_number seed is) t (1 + k) (second.fate_at seed i) (BetaGets seed (record { place = 1 + k; number = i }))
   beta_heard t here k i at e =
       let d = beta_number seed is in
-      let some = some_kind is_beta seed is k i at e in
-      let x = talk_at (starts_for (scripts seed is)) told.object (paths_of seed is) (verdicts_of outcomes) history 0 (drivers_of seed is) talks g.conversations d t here in
-      let number : ◌≡◌ {A = ℕ} (0 + d) d = omega arith in
-      let said : IsDriverTalk (starts_for (scripts seed is)) told.object (paths_of seed is) (verdicts_of outcomes) history d x.driver t =
-      subst (λ (n : ℕ). IsDriverTalk (starts_for (scripts seed is)) told.object (paths_of seed is) (verdicts_of outcomes) history n x.driver t) number x.said in
-      let is_driver = beta_driver seed is x.driver some x.there in
-      let command : t.command ≡ codes "beta" =
-      (let both : Some t.command ≡ Some (codes "beta") = sym said.command ∙ ap (λ (y : Driver). y.process) is_driver in cc (both)) in
-      let ahead : starts_for (scripts seed is) t.command ≡ Some (Gives (beta_text seed is) ∷ []) =
-      ap (starts_for (scripts seed is)) command ∙ starts_beta seed is in
-      let begins = beta_begins (beta_number seed is) in
-      let has_test : (k i : ℕ) → slice_get is k ≡ Some i → is_at d (start_at (beta_number seed is) (kind seed i)) ≡ true → is_beta (kind seed i) ≡ true =
-      λ l j a h. beta_test (beta_number seed is) (kind seed j) (λ f. beta_second seed is (some_kind is_alpha seed is l j a f)) h in
-      let ms = marks_from is_beta 1 seed is in
+      let x = beta_driven t here (some_kind is_beta seed is k i at e) in
       let m : Mark = record { place = 1 + k; number = i } in
-      let among : Among m ms = place_is is_beta seed 1 k i is at e in
-      let mine = beta_told spells d t.paths seed ms (marks_pass is_beta seed 1 is) (marks_rise is_beta seed 1 is) m among in
-      let talk : IsToldTalk d t.paths (places ms) (Gives (beta_text seed is) ∷ []) mine.had mine.exchanges =
-      subst (λ (o : List ℕ). IsToldTalk d t.paths (places ms) (Gives o ∷ []) mine.had mine.exchanges) (beta_output seed is) mine.talk in
-      let both = driven.hears law one d false is_beta (beta_text seed is) seed is told talks outcomes history g begins has_test t x.driver said here ahead
-      mine.had mine.exchanges talk m among in
-      record {
-        heard = both.0 ∙ ap heard_by (mine.hears m among);
-        got = λ bytes gave. (
-          content_of m.place mine.exchanges,
-          mine.gets m among,
-          sym both.1
-              ∙ driven.gave_one law one d false is_beta (beta_text seed is) seed is told talks outcomes history g begins has_test t x.driver said here ahead m among bytes gave,
-        );
-      }
+      let among : Among m betas = place_is is_beta seed 1 k i is at e in
+      let mine = beta_told spells d t.paths seed betas (marks_pass is_beta seed 1 is) (marks_rise is_beta seed 1 is) m among in
+      let talk : IsToldTalk d t.paths (places betas) (Gives (beta_text seed is) ∷ []) mine.had mine.exchanges =
+      subst (λ (o : List ℕ). IsToldTalk d t.paths (places betas) (Gives o ∷ []) mine.had mine.exchanges) (beta_output seed is) mine.talk in
+      let both = x.hears mine.had mine.exchanges talk m among in
+      joined d t (1 + k) (second.fate_at seed i) (fate_in d (1 + k) mine.exchanges) (BetaGets seed m) (content_of (1 + k) mine.exchanges)
+      (content_of (1 + k) t.exchanges) both.0 (mine.hears m among) both.1 (mine.gets m among) (x.gave m among)

@@ -33,7 +33,7 @@ use Rattle.rehearsal.specs.Repository.{attributes, attributes_name, file, entry_
 use Rattle.rehearsal.specs.Repository.{FilesHaveAnIndex, AttributesAreRight}
 use Rattle.rehearsal.specs.Blocks.{is_written, is_unfiltered, is_failed, file_size, BlocksAreAlike}
 use Rattle.rehearsal_numbers.specs.Plans.{paths_of, path_at, attributes_path, beta_number}
-use Rattle.rehearsal_numbers.specs.Lines.{counted, status_with, line, LinesAreRight, block_line, BlockLinesAreRight}
+use Rattle.rehearsal_numbers.specs.Lines.{counted, status_with, bytes_with, line, LinesAreRight, block_line, BlockLinesAreRight}
 use Rattle.rehearsal_numbers.proofs.Plans.{entries_at, apart}
 use Rattle.rehearsal_numbers.proofs.Read.{have_plans}
 use Rattle.rehearsal_numbers.proofs.Replies.{SpellingSpells}
@@ -183,7 +183,7 @@ words paths s w u f b = first_words paths s w ++ last_words u f b
 
 line_is : (seed paths : ℕ) → line seed paths
     ≡ words paths (status_with (counted (is_failed seed) paths)) (1 + counted (is_written seed) paths) (counted (is_unfiltered seed) paths)
-    (counted (is_failed seed) paths) (136 + sum_by (file_size seed) (range_with_len 0 paths))
+    (counted (is_failed seed) paths) (bytes_with seed paths)
 unfolding line words
 line_is seed paths = refl
 
@@ -234,7 +234,7 @@ lines_right indexed right reading spells law one seed paths text few x =
     sums.written ∙ ap (λ (n : ℕ). 1 + n) (any_order (is_written seed) paths) in
     let unfiltered : count_by report.is_unfiltered vs ≡ counted (is_unfiltered seed) paths =
     sums.unfiltered ∙ any_order (is_unfiltered seed) paths in
-    let bytes : bytes_of (files_of c.outcomes) ≡ 136 + sum_by (file_size seed) (range_with_len 0 paths) =
+    let bytes : bytes_of (files_of c.outcomes) ≡ bytes_with seed paths =
     sums.bytes ∙ ap (λ (n : ℕ). 136 + n) (in_any_order (file_size seed) paths) in
     x.is ∙ (λ j. summary paths (verdicts j) (trees j)) ∙ summary_is paths vs (files_of c.outcomes)
     ∙ (λ j. words paths (state j) (written j) (unfiltered j) (failed j) (bytes j)) ∙ sym (line_is seed paths)
@@ -287,12 +287,12 @@ counts_of alike seed blocks bytes =
 pub block_lines_right : LinesAreRight → BlocksAreAlike → BlockLinesAreRight
 block_lines_right lines alike = record {
   counts = λ seed blocks text few x.
-      let bytes = 136 + sum_by (file_size seed) (range_with_len 0 (200 * blocks)) in
-      (bytes, lines seed (200 * blocks) text few x ∙ line_is seed (200 * blocks) ∙ counts_of alike seed blocks bytes);
+      lines seed (200 * blocks) text few x ∙ line_is seed (200 * blocks)
+      ∙ counts_of alike seed blocks (bytes_with seed (200 * blocks));
   bytes = λ seed blocks text few five x.
       let bytes : sum_by (file_size seed) (range_with_len 0 (200 * blocks)) ≡ 29220 * blocks =
       in_blocks (file_size seed) 29220 (λ first. alike.bytes seed first five) blocks in
       lines seed (200 * blocks) text few x ∙ line_is seed (200 * blocks)
-      ∙ counts_of alike seed blocks (136 + sum_by (file_size seed) (range_with_len 0 (200 * blocks)))
+      ∙ counts_of alike seed blocks (bytes_with seed (200 * blocks))
       ∙ ap (λ (n : ℕ). block_line blocks (136 + n)) bytes;
 }

@@ -1,5 +1,6 @@
 -- What the plan of a rehearsal has of each path.
-use Rattle.std.specs.Prelude.{◌≡◌, ◌≤◌, ◌==◌, ◌||◌, ℕ, Bool, true, false, List, [], ◌∷◌, ◌++◌, map, codes, Some, None, if◌then◌else◌}
+use Rattle.std.specs.Prelude.{◌≡◌, ◌≤◌, ◌==◌, ◌||◌, ℕ, Bool, true, false, List, [], ◌∷◌, ◌++◌, map, codes}
+use Rattle.std.specs.Prelude.{Some, None, if◌then◌else◌}
 use Rattle.std.specs.List.{list_any}
 use Rattle.edge_kit.specs.Told.{RepoTold}
 use Rattle.edge_kit.specs.declared.leaf_state.Mark.TheVariants as mark
@@ -30,8 +31,8 @@ is_alpha k = (k == 4) || (k == 5)
 abbrev pub is_beta : ℕ → Bool
 is_beta k = (k == 6) || (k == 7)
 
--- The driver `alpha`, which is required, has the kinds 4 and 5, and `beta` has 6 and 7. The kinds below are for the
--- workers. `beta` has this number.
+-- The driver `alpha`, which is required, has the kinds 4 and 5, and `beta` has 6 and 7. The kinds below
+-- are for the workers. `beta` has this number.
 abbrev pub start_at : ℕ → ℕ → Start
 start_at beta k =
     if is_alpha k then start.Desk 0 true else if is_beta k then start.Desk beta false else start.Pool
