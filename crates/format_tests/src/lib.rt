@@ -2,7 +2,7 @@
 //!
 //! A crate with tests is proved twice, with them and without. So the tests of these crates are here, over the built
 //! libraries: `paths`, `indexes`, `configs`, `settings`, `attribute_lines`, `attributes`, `line_ends`, `encodings`,
-//! `keywords`, `patterns`, `words`, `program_words`, `forms` and `digests`. It has nothing but tests.
+//! `keywords`, `storing`, `patterns`, `words`, `program_words`, `forms` and `digests`. It has nothing but tests.
 #![tactic(auto)]
 
 #[cfg(test)]
