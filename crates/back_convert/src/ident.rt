@@ -58,8 +58,8 @@ fn first_expanded(text: &[u8]) -> Option<Expanded>
     }
 }
 
-/// Whether a content has an expanded keyword `$Id: .. $`, with no LF between its first `:` and the next `$`. It takes no
-/// memory. A content without one stays, so a caller needs no copy of it.
+/// Whether a content has an expanded keyword `$Id: .. $`, with no LF between its first `:` and the next `$`. It takes
+/// no memory. A content without one stays, so a caller needs no copy of it.
 pub fn has_expanded(content: &[u8]) -> bool
     ensures { result ≡ has_expanded content.now }
 {

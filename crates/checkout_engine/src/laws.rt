@@ -27,8 +27,8 @@ pub fn workers_change_nothing()
 }
 
 /// Where leaves or links failed, the verdicts and the reports of two checkouts of one repository are equal if their
-/// sessions, their failed starts and the counts of their leaves are, with any two numbers of workers, and memory was left
-/// for each path. So is the file of each path whose leaf didn't fail.
+/// sessions, their failed starts and the counts of their leaves are, with any two numbers of workers, and memory was
+/// left for each path. So is the file of each path whose leaf didn't fail.
 pub fn same_faults_change_nothing()
     ensures { SameFaultsChangeNothing }
 {

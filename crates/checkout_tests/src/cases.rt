@@ -1,7 +1,8 @@
 //! The cases of the tests: what a run meets, and what it leaves.
 //!
 //! A case is a row of cells. Its last cell is what it leaves: the output, the status, and a line for each file. The
-//! others say what it meets, each by a word, whose first letter tells, and what stands behind it. Any other is an error:
+//! others say what it meets, each by a word, whose first letter tells, and what stands behind it. Any other is an
+//! error:
 //!
 //! - `words`: the words after the two folders, `checkout` if there are none;
 //! - `entry`: the letters of its kind and of its object, and its path;
@@ -13,7 +14,8 @@
 //! - `object`: the letter of another name for the object `HI`, `bytes`: its bytes, and `nuls`: how many NULs follow;
 //! - `config` and `info`: the configuration, and what `info/attributes` holds;
 //! - `xdg`: a number, and a text: the system's and the user's attribute files hold the text so many times;
-//! - `read-fails`: what can't be read: the `index`, the `config`, the `info`, the `base` (the user's file), or the object with this
+//! - `read-fails`: what can't be read: the `index`, the `config`, the `info`, the `base` (the user's file), or the
+//! object with this
 //!   letter;
 //! - `memory`: whether memory runs out at the `make` or the `read` of a blob, and the letter of its object;
 //! - `leaf`: which call on a leaf fails, and its path, and `sink`: the write that fails;

@@ -33,7 +33,7 @@ pub fn whole(mode: u32) -> Kind {
     }
 }
 
-/// The kind of a plain entry of this stage.
+/// The kind of a plain entry with one of git's stage numbers: 0, or 1 to 3 for a side of a merge (git-ls-files(1)).
 fn staged(stage: u16) -> Kind {
     Kind {
         mode: PLAIN,
@@ -51,9 +51,9 @@ fn marked(mode: u32, more: u16) -> Kind {
     }
 }
 
-/// The kind of an entry, by a letter: `-` plain, `x` executable, `l` link, `g` gitlink, a digit a plain one of that stage,
-/// `y` an executable one of stage 1, and `6` one with a mode that isn't right. `s` is a sparse plain one, `i` one that is
-/// to be added, `b` both, `t` a sparse gitlink, and `u` a sparse one of stage 1.
+/// The kind of an entry, by a letter: `-` plain, `x` executable, `l` link, `g` gitlink, a digit a plain one of that
+/// stage, `y` an executable one of stage 1, and `6` one with a mode that isn't right. `s` is a sparse plain one, `i`
+/// one that is to be added, `b` both, `t` a sparse gitlink, and `u` a sparse one of stage 1.
 pub fn kind_of(letter: u8) -> Result<Kind, Fail> {
     match letter {
         b'-' => Ok(whole(PLAIN)),

@@ -248,7 +248,8 @@ const DRIVERS: &[u8] = b"\
     entry -1 hi\n|entry -2 hi\n|entry -3 hi\n|entry -4 hi\n|entry -5 hi\n|entry -6 hi\n|entry -7 hi\n|\
         driver +a run a|driver +closed run closed|driver -idle run idle|driver -mute|driver +needed|\
         driver -z run z|\
-        info 1 filter=z\n2 filter=a\n3 filter=needed\n4 filter=mute\n5 filter=none\n6 filter=z\n7 filter=closed working-tree-encoding\n|\
+        info 1 filter=z\n2 filter=a\n3 filter=needed\n4 filter=mute\n5 filter=none\n6 filter=z\n7 \
+        filter=closed working-tree-encoding\n|\
         1: Plain Keep false Desk 1 false\n\
         2: Plain Keep false Desk 0 true\n3: Plain Keep false Done NoProcess\n\
         4: Plain Keep false Pool\n5: Plain Keep false Pool\n\
@@ -277,7 +278,9 @@ const SEVENTEEN: &[u8] = b"\
         entry -o hi\n|entry -p hi\n|entry -q hi\n|driver -a run|driver -b run|driver -c run|driver -d run|\
         driver -e run|driver -f run|driver -g run|driver -h run|driver -i run|driver -j run|driver -k run|\
         driver -l run|driver -m run|driver -n run|driver -o run|driver -p run|driver -q run|\
-        info a filter=a\nb filter=b\nc filter=c\nd filter=d\ne filter=e\nf filter=f\ng filter=g\nh filter=h\ni filter=i\nj filter=j\nk filter=k\nl filter=l\nm filter=m\nn filter=n\no filter=o\np filter=p\nq filter=q\n|\
+        info a filter=a\nb filter=b\nc filter=c\nd filter=d\ne filter=e\nf filter=f\ng filter=g\n\
+        h filter=h\ni filter=i\nj filter=j\nk filter=k\nl filter=l\nm filter=m\nn filter=n\no filt\
+        er=o\np filter=p\nq filter=q\n|\
         TooManyDrivers(17)%";
 
 #[test]

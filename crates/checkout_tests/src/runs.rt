@@ -267,8 +267,15 @@ fn a_required_driver_needs_its_process(rt: HostRuntime) -> Result<(), Fail> {
 }
 
 const SEVENTEEN: &[u8] = b"\
-    config [filter \"a\"]\nprocess = x\n[filter \"b\"]\nprocess = x\n[filter \"c\"]\nprocess = x\n[filter \"d\"]\nprocess = x\n[filter \"e\"]\nprocess = x\n[filter \"f\"]\nprocess = x\n[filter \"g\"]\nprocess = x\n[filter \"h\"]\nprocess = x\n[filter \"i\"]\nprocess = x\n[filter \"j\"]\nprocess = x\n[filter \"k\"]\nprocess = x\n[filter \"l\"]\nprocess = x\n[filter \"m\"]\nprocess = x\n[filter \"n\"]\nprocess = x\n[filter \"o\"]\nprocess = x\n[filter \"p\"]\nprocess = x\n[filter \"q\"]\nprocess = x\n|\
-        info a filter=a\nb filter=b\nc filter=c\nd filter=d\ne filter=e\nf filter=f\ng filter=g\nh filter=h\ni filter=i\nj filter=j\nk filter=k\nl filter=l\nm filter=m\nn filter=n\no filter=o\np filter=p\nq filter=q\n|\
+    config [filter \"a\"]\nprocess = x\n[filter \"b\"]\nprocess = x\n[filter \"c\"]\nprocess = x\n\
+    [filter \"d\"]\nprocess = x\n[filter \"e\"]\nprocess = x\n[filter \"f\"]\nprocess = x\n[filte\
+    r \"g\"]\nprocess = x\n[filter \"h\"]\nprocess = x\n[filter \"i\"]\nprocess = x\n[filter \"j\"\
+    ]\nprocess = x\n[filter \"k\"]\nprocess = x\n[filter \"l\"]\nprocess = x\n[filter \"m\"]\nproc\
+    ess = x\n[filter \"n\"]\nprocess = x\n[filter \"o\"]\nprocess = x\n[filter \"p\"]\nprocess = \
+    x\n[filter \"q\"]\nprocess = x\n|\
+        info a filter=a\nb filter=b\nc filter=c\nd filter=d\ne filter=e\nf filter=f\ng filter=g\n\
+        h filter=h\ni filter=i\nj filter=j\nk filter=k\nl filter=l\nm filter=m\nn filter=n\no filt\
+        er=o\np filter=p\nq filter=q\n|\
         entry -h a|entry -h b|entry -h c|entry -h d|entry -h e|entry -h f|entry -h g|entry -h h|entry -h i|\
         entry -h j|entry -h k|entry -h l|entry -h m|entry -h n|entry -h o|entry -h p|entry -h q|\
         refused drivers 17\nstatus 3\n%";

@@ -1,9 +1,9 @@
 //! Makes a file or a link below the worktree's folder, and its folders.
 //!
-//! Each folder on the way is looked at first, and a link is a fault, even if it leads to a folder. The file or the link
-//! itself is made only where nothing is, so never through a link. The look and what follows are two calls, since the kit has no
-//! call that opens below an open folder: if another process puts a link in a folder's place between them, it is
-//! followed. The path of the worktree's folder itself may lead over links.
+//! Each folder on the way is looked at first, and a link is a fault, even if it leads to a folder. The file or the
+//! link itself is made only where nothing is, so never through a link. The look and what follows are two calls, since
+//! the kit has no call that opens below an open folder: if another process puts a link in a folder's place between
+//! them, it is followed. The path of the worktree's folder itself may lead over links.
 
 use std::fs::{File, OpenOptions, create_dir, create_dir_all, remove_file, symlink_metadata};
 use std::io;
@@ -74,8 +74,8 @@ fn make_tree(rt: HostRuntime, path: &str, top: usize) -> io::Result<()> {
     }
 }
 
-/// Makes a file where nothing is, with this mode less the umask, and its folders. The first `top` bytes of the path name
-/// the worktree's folder, which is made if it isn't there.
+/// Makes a file where nothing is, with this mode less the umask, and its folders. The first `top` bytes of the path
+/// name the worktree's folder, which is made if it isn't there.
 pub fn create_in_tree(rt: HostRuntime, path: &str, top: usize, mode: u32) -> io::Result<File> {
     match create_below(rt, path, top, mode) {
         Err(error) if error.kind() == ErrorKind::NotFound => {}
@@ -85,8 +85,8 @@ pub fn create_in_tree(rt: HostRuntime, path: &str, top: usize, mode: u32) -> io:
     create_below(rt, path, top, mode)
 }
 
-/// Makes a link with this text where nothing is, and its folders, as `create_in_tree` does. What it leads to isn't looked
-/// at.
+/// Makes a link with this text where nothing is, and its folders, as `create_in_tree` does. What it leads to isn't
+/// looked at.
 pub fn link_in_tree(rt: HostRuntime, text: &str, path: &str, top: usize) -> io::Result<()> {
     match link_below(rt, text, path, top) {
         Err(error) if error.kind() == ErrorKind::NotFound => {}
@@ -103,8 +103,8 @@ pub fn empty_file(file: &mut File) -> io::Result<()> {
     Ok(())
 }
 
-/// Removes this open file from the path. If anything else is there, that is a fault, and it stays. No other file can have
-/// the open file's number. The look and the removal are two calls.
+/// Removes this open file from the path. If anything else is there, that is a fault, and it stays. No other file can
+/// have the open file's number. The look and the removal are two calls.
 pub fn remove_own(rt: HostRuntime, file: &File, path: &str) -> io::Result<()> {
     let own = file.metadata()?;
     let found = symlink_metadata(&rt, path)?;

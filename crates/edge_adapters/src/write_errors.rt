@@ -41,7 +41,8 @@ impl WriteErrors {
         self.counts.reserve(MOST)
     }
 
-    /// Counts the error of a path. After `reserve` it needs memory for the first path of an error alone, and does without.
+    /// Counts the error of a path. After `reserve` it needs memory for the first path of an error alone, and does
+    /// without.
     pub fn add(&mut self, error: &io::Error, path: &Bytes) {
         for count in self.counts.iter_mut() {
             if is_same(&count.error, error) {

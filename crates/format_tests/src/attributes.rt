@@ -122,8 +122,8 @@ impl Row for Stated {
     }
 }
 
-/// `info/attributes`, the file of the top folder, and the system's and the user's files, a path, a name, and the state's
-/// spelling, as `git check-attr` gives it.
+/// `info/attributes`, the file of the top folder, and the system's and the user's files, a path, a name, and the
+/// state's spelling, as `git check-attr` gives it.
 const BASE: &[u8] = b"\
     ||* t=base|a/f|t|base%\
     |* t=top|* t=base|f|t|top%\

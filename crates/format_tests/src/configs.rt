@@ -59,7 +59,8 @@ fn fault_of(alloc: Global, text: &[u8]) -> Option<ConfigFault> {
 const LISTED: &[u8] = b"\
     [core]\n\tautocrlf = input\n|core.autocrlf\ninput\0%\
     [Core]\r\nEOL = LF\r\n|core.eol\nLF\0%\
-    [filter \"lfs\"]\n\tprocess = git-lfs filter-process\n\trequired = true\n|filter.lfs.process\ngit-lfs filter-process\0filter.lfs.required\ntrue\0%\
+    [filter \"lfs\"]\n\tprocess = git-lfs filter-process\n\trequired = true\n|\
+    filter.lfs.process\ngit-lfs filter-process\0filter.lfs.required\ntrue\0%\
     [a \"x\\\"y\"]\nk\n|a.x\"y.k\0%\
     [A.B.C]\nKey-1 = v\n|a.b.c.key-1\nv\0%\
     [a.B \"S\"] k = 1\n|a.b.S.k\n1\0%\

@@ -21,16 +21,28 @@ const LINES: &str = "\
     nul|skipped - - gitlink s b\ndone 1 0 0 1\n|skipped - - gitlink s b\0done 1 0 0 1\0%\
     nul|card - crlf ident UTF-16 required \"f\\\"\" \"\\\\\"\n|card - crlf ident UTF-16 required \"f\\\"\" \\\0%\
     nul|refused attributes \"a\\tb\" too-large\n|refused attributes \"a\\tb\" too-large\0%\
-    json|written x - - a b\n|{\"path\":\"a b\",\"state\":\"written\",\"mark\":\"x\",\"unencoded\":false,\"cause\":null}\n%\
-    json|written - unencoded - t\n|{\"path\":\"t\",\"state\":\"written\",\"mark\":null,\"unencoded\":true,\"cause\":null}\n%\
-    json|failed l - object-absent \"\\303\\244\\\"\"\n|{\"path\":\"ä\\\"\",\"state\":\"failed\",\"mark\":\"l\",\"unencoded\":false,\"cause\":\"object-absent\"}\n%\
-    json|failed - - name \"a\\377\"\n|{\"path\":[97,255],\"state\":\"failed\",\"mark\":null,\"unencoded\":false,\"cause\":\"name\"}\n%\
-    json|no-memory - - - a\n|{\"path\":\"a\",\"state\":\"no-memory\",\"mark\":null,\"unencoded\":false,\"cause\":null}\n%\
+    json|written x - - a b\n|{\"path\":\"a b\",\"state\":\"written\",\"mark\":\"x\",\"unencoded\":\
+    false,\"cause\":null}\n%\
+    json|written - unencoded - t\n|{\"path\":\"t\",\"state\":\"written\",\"mark\":null,\"unencoded\
+    \":true,\"cause\":null}\n%\
+    json|failed l - object-absent \"\\303\\244\\\"\"\n|\
+    {\"path\":\"ä\\\"\",\"state\":\"failed\",\"mark\":\"l\",\"unencoded\":false,\"cause\":\"object\
+    -absent\"}\n%\
+    json|failed - - name \"a\\377\"\n|\
+    {\"path\":[97,255],\"state\":\"failed\",\"mark\":null,\"unencoded\":false,\"cause\":\"name\"\
+    }\n%\
+    json|no-memory - - - a\n|{\"path\":\"a\",\"state\":\"no-memory\",\"mark\":null,\"unencoded\":f\
+    alse,\"cause\":null}\n%\
     json|done 3 1 0 2\n|{\"done\":{\"written\":3,\"unfiltered\":1,\"failed\":0,\"skipped\":2}}\n%\
-    json|card - crlf ident UTF-16LE required lfs a.txt\n|{\"path\":\"a.txt\",\"state\":\"card\",\"mark\":null,\"ends\":\"crlf\",\"ident\":true,\"encoding\":\"UTF-16LE\",\"need\":\"required\",\"driver\":\"lfs\"}\n%\
-    json|name x - - - - - \"\\001\"\nskipped-lines 12\n|{\"path\":\"\\u0001\",\"state\":\"name\",\"mark\":\"x\",\"ends\":null,\"ident\":false,\"encoding\":null,\"need\":null,\"driver\":null}\n{\"skipped-lines\":12}\n%\
+    json|card - crlf ident UTF-16LE required lfs a.txt\n|\
+    {\"path\":\"a.txt\",\"state\":\"card\",\"mark\":null,\"ends\":\"crlf\",\"ident\":true,\"encodi\
+    ng\":\"UTF-16LE\",\"need\":\"required\",\"driver\":\"lfs\"}\n%\
+    json|name x - - - - - \"\\001\"\nskipped-lines 12\n|\
+    {\"path\":\"\\u0001\",\"state\":\"name\",\"mark\":\"x\",\"ends\":null,\"ident\":false,\"encodi\
+    ng\":null,\"need\":null,\"driver\":null}\n{\"skipped-lines\":12}\n%\
     json|refused attributes \"a\\tb\" too-large\n|{\"refused\":\"attributes \\\"a\\\\tb\\\" too-large\"}\n%\
-    failures|written - - - a\nfailed - - read b\nno-memory - - - c\ndone 1 0 1 0\n|failed - - read b\nno-memory - - - c\n%\
+    failures|written - - - a\nfailed - - read b\nno-memory - - - c\ndone 1 0 1 0\n|\
+    failed - - read b\nno-memory - - - c\n%\
     failures|refused index absent\n|refused index absent\n%\
     failures|written - - - failed\n|%\
     json|written\n|fault%\

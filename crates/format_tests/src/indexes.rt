@@ -5,7 +5,9 @@ use std::test::Fail;
 
 /// An index with one entry `a`, whose object is a blob of `hi` and a line feed, by Python's hashlib.
 const ONE_FILE: &[u8] =
-    b"DIRC\0\0\0\x02\0\0\0\x01\0\0\0\0\0\0\0\0\0\0\0\0\0\0\0\0\0\0\0\0\0\0\0\0\0\0\x81\xa4\0\0\0\0\0\0\0\0\0\0\0\0E\xb9\x83\xbe6\xb7<\x07\x88\xdc\x9c\xbc\xb7l\xbb\x80\xfc{\xb0W\0\x01a\0\x1cl\x18Y\xc8\xad\xa0\x11\x07\xc2k\x97n\xe0d>\xd8\xc1\xc7I";
+    b"DIRC\0\0\0\x02\0\0\0\x01\0\0\0\0\0\0\0\0\0\0\0\0\0\0\0\0\0\0\0\0\0\0\0\0\0\0\x81\xa4\0\0\0\0\
+    \0\0\0\0\0\0\0\0E\xb9\x83\xbe6\xb7<\x07\x88\xdc\x9c\xbc\xb7l\xbb\x80\xfc{\xb0W\0\x01a\0\x1cl\
+    \x18Y\xc8\xad\xa0\x11\x07\xc2k\x97n\xe0d>\xd8\xc1\xc7I";
 
 fn fault_of(alloc: Global, text: &[u8]) -> Option<IndexFault> {
     match read_index(alloc, text) {
@@ -107,8 +109,8 @@ const NO_HASH: &[u8] = b"\0\0\0\0\0\0\0\0\0\0\0\0\0\0\0\0\0\0\0\0";
 /// The SHA-1 of `NONE`, by Python's hashlib.
 const HASH_OF_NONE: &[u8] = b"9\xd8\x90\x13\x9e\xe55l~\xf5r!l\xeb\xcd'\xaaA\xf9\xdf";
 
-/// The part of an index that a letter stands for, or the header of so many entries, for a digit. `M` is the header of one
-/// entry of version 3, and `P` and `Q` those of one and two entries of version 4.
+/// The part of an index that a letter stands for, or the header of so many entries, for a digit. `M` is the header of
+/// one entry of version 3, and `P` and `Q` those of one and two entries of version 4.
 fn part_of(letter: u8) -> Result<(&'static [u8], &'static [u8]), Fail> {
     match letter {
         b'F' => Ok((FILE, b"")),
@@ -217,7 +219,8 @@ const COUNTS: &[u8] = b"\
     a count above the path before|$Q$F\0\x03\0a/b\0$F\0\x03\x04c\0$Z|Some(Entry(1, Prefix))%\
     a count in the first entry|$P$F\0\x01\x01a\0$Z|Some(Entry(0, Prefix))%\
     such a count, before a cut rest|$P$F\0\x01\x01a$Z|Some(Entry(0, Prefix))%\
-    a count above the largest one|$P$F\0\x01\xff\xff\xff\xff\xff\xff\xff\xff\xff\xff\xff\xff\x7fa\0$Z|Some(Entry(0, Prefix))%\
+    a count above the largest one|$P$F\0\x01\xff\xff\xff\xff\xff\xff\xff\xff\xff\xff\xff\xff\x7fa\
+    \0$Z|Some(Entry(0, Prefix))%\
     a count that does not end|$P$F\0\x01\x80$Z|Some(Short)%\
     no count|$P$F\0\x01$Z|Some(Short)%\
     a rest without NUL|$P$F\0\x01\0a$Z|Some(Short)%\

@@ -33,13 +33,22 @@ fn read(alloc: Global, words: &[String]) -> Result<String, Fail> {
 
 /// What comes of words, and the words.
 const WORDS: &str = "\
-    Checkout(Checkout { git_dir: None, commit: None, workers: None, form: Text, progress: OnTerminal, quiet: false, journal: None, tree: \"T\" })|checkout|T%\
-    Checkout(Checkout { git_dir: Some(\"G\"), commit: Some(\"v1\"), workers: Some(16), form: Json, progress: Shown, quiet: true, journal: None, tree: \"T\" })|checkout|--git-dir|G|--commit=v1|--workers|16|-q|--report=json|--progress|T%\
-    Checkout(Checkout { git_dir: None, commit: None, workers: Some(1), form: Nul, progress: Hidden, quiet: false, journal: None, tree: \"-T\" })|checkout|-z|--no-progress|--workers=1|--|-T%\
-    Checkout(Checkout { git_dir: None, commit: None, workers: None, form: Failures, progress: Hidden, quiet: true, journal: None, tree: \"T\" })|checkout|T|--report|none|--quiet%\
-    Checkout(Checkout { git_dir: None, commit: None, workers: None, form: Nul, progress: Hidden, quiet: true, journal: None, tree: \"T\" })|checkout|-qz|--report|text|T%\
-    Checkout(Checkout { git_dir: None, commit: None, workers: None, form: Text, progress: OnTerminal, quiet: false, journal: Some(\"run\"), tree: \"T\" })|checkout|--journal|run|T%\
-    Checkout(Checkout { git_dir: None, commit: Some(\"run\"), workers: None, form: Json, progress: OnTerminal, quiet: false, journal: Some(\"-\"), tree: \"T\" })|checkout|T|--journal=-|--commit|run|--report|json%\
+    Checkout(Checkout { git_dir: None, commit: None, workers: None, form: Text, progress: OnTermin\
+    al, quiet: false, journal: None, tree: \"T\" })|checkout|T%\
+    Checkout(Checkout { git_dir: Some(\"G\"), commit: Some(\"v1\"), workers: Some(16), form: Json\
+    , progress: Shown, quiet: true, journal: None, tree: \"T\" })|checkout|--git-dir|G|\
+    --commit=v1|--workers|16|-q|--report=json|--progress|T%\
+    Checkout(Checkout { git_dir: None, commit: None, workers: Some(1), form: Nul, progress: Hidden\
+    , quiet: false, journal: None, tree: \"-T\" })|checkout|-z|--no-progress|--workers=1|--|-T%\
+    Checkout(Checkout { git_dir: None, commit: None, workers: None, form: Failures, progress: Hidd\
+    en, quiet: true, journal: None, tree: \"T\" })|checkout|T|--report|none|--quiet%\
+    Checkout(Checkout { git_dir: None, commit: None, workers: None, form: Nul, progress: Hidden, q\
+    uiet: true, journal: None, tree: \"T\" })|checkout|-qz|--report|text|T%\
+    Checkout(Checkout { git_dir: None, commit: None, workers: None, form: Text, progress: OnTermin\
+    al, quiet: false, journal: Some(\"run\"), tree: \"T\" })|checkout|--journal|run|T%\
+    Checkout(Checkout { git_dir: None, commit: Some(\"run\"), workers: None, form: Json, progress\
+    : OnTerminal, quiet: false, journal: Some(\"-\"), tree: \"T\" })|checkout|T|--journal=-|\
+    --commit|run|--report|json%\
     Plan(Plan { git_dir: None, form: Text })|plan%\
     Plan(Plan { git_dir: Some(\"\"), form: Json })|plan|--git-dir=|--report|json%\
     Plan(Plan { git_dir: None, form: Nul })|plan|-z%\
@@ -70,7 +79,8 @@ const WORDS: &str = "\
     wrong: error: the argument '-z' cannot be used with '--report json'|plan|-z|--report|json%\
     wrong: error: the argument '--progress' cannot be used with '--no-progress'|checkout|--progress|--no-progress|T%\
     wrong: error: invalid value '00' for 'SEED': 0 to 18446744073709551615|rehearse|00|8%\
-    wrong: error: invalid value '18446744073709551616' for 'SEED': 0 to 18446744073709551615|rehearse|18446744073709551616|8%\
+    wrong: error: invalid value '18446744073709551616' for 'SEED': 0 to 18446744073709551615|\
+    rehearse|18446744073709551616|8%\
     wrong: error: invalid value '100000' for 'PATHS': 0 to 99999|rehearse|0|100000%\
     wrong: error: unexpected argument '--commit' found|plan|--commit|v1%\
     wrong: error: unexpected argument '--journal' found|plan|--journal|run%\

@@ -147,23 +147,51 @@ fn keywords_are_stored_as_before(rt: HostRuntime) -> Result<(), Fail> {
 /// Files, their encodings, and their texts by python's codecs, which git stores too. The first four have the first and
 /// the last character of each length in UTF-8, and those beside the surrogates.
 const TEXTS: &[u8] = b"\
-    \0\0\x7f\0\x80\0\xff\x07\0\x08\xff\xd7\0\xe0\xff\xff\0\xd8\0\xdc\xff\xdb\xff\xdf|UTF-16LE|\0\x7f\xc2\x80\xdf\xbf\xe0\xa0\x80\xed\x9f\xbf\xee\x80\x80\xef\xbf\xbf\xf0\x90\x80\x80\xf4\x8f\xbf\xbf%\
-    \0\0\0\x7f\0\x80\x07\xff\x08\0\xd7\xff\xe0\0\xff\xff\xd8\0\xdc\0\xdb\xff\xdf\xff|UTF-16BE|\0\x7f\xc2\x80\xdf\xbf\xe0\xa0\x80\xed\x9f\xbf\xee\x80\x80\xef\xbf\xbf\xf0\x90\x80\x80\xf4\x8f\xbf\xbf%\
-    \0\0\0\0\x7f\0\0\0\x80\0\0\0\xff\x07\0\0\0\x08\0\0\xff\xd7\0\0\0\xe0\0\0\xff\xff\0\0\0\0\x01\0\xff\xff\x10\0|UTF-32LE|\0\x7f\xc2\x80\xdf\xbf\xe0\xa0\x80\xed\x9f\xbf\xee\x80\x80\xef\xbf\xbf\xf0\x90\x80\x80\xf4\x8f\xbf\xbf%\
-    \0\0\0\0\0\0\0\x7f\0\0\0\x80\0\0\x07\xff\0\0\x08\0\0\0\xd7\xff\0\0\xe0\0\0\0\xff\xff\0\x01\0\0\0\x10\xff\xff|UTF-32BE|\0\x7f\xc2\x80\xdf\xbf\xe0\xa0\x80\xed\x9f\xbf\xee\x80\x80\xef\xbf\xbf\xf0\x90\x80\x80\xf4\x8f\xbf\xbf%\
+    \0\0\x7f\0\x80\0\xff\x07\0\x08\xff\xd7\0\xe0\xff\xff\0\xd8\0\xdc\xff\xdb\xff\xdf|UTF-16LE|\
+    \0\x7f\xc2\x80\xdf\xbf\xe0\xa0\x80\xed\x9f\xbf\xee\x80\x80\xef\xbf\xbf\xf0\x90\x80\x80\xf4\x8f\
+    \xbf\xbf%\
+    \0\0\0\x7f\0\x80\x07\xff\x08\0\xd7\xff\xe0\0\xff\xff\xd8\0\xdc\0\xdb\xff\xdf\xff|UTF-16BE|\
+    \0\x7f\xc2\x80\xdf\xbf\xe0\xa0\x80\xed\x9f\xbf\xee\x80\x80\xef\xbf\xbf\xf0\x90\x80\x80\xf4\x8f\
+    \xbf\xbf%\
+    \0\0\0\0\x7f\0\0\0\x80\0\0\0\xff\x07\0\0\0\x08\0\0\xff\xd7\0\0\0\xe0\0\0\xff\xff\0\0\0\0\x01\0\
+    \xff\xff\x10\0|UTF-32LE|\0\x7f\xc2\x80\xdf\xbf\xe0\xa0\x80\xed\x9f\xbf\xee\x80\x80\xef\xbf\xbf\
+    \xf0\x90\x80\x80\xf4\x8f\xbf\xbf%\
+    \0\0\0\0\0\0\0\x7f\0\0\0\x80\0\0\x07\xff\0\0\x08\0\0\0\xd7\xff\0\0\xe0\0\0\0\xff\xff\0\x01\0\0\
+    \0\x10\xff\xff|UTF-32BE|\0\x7f\xc2\x80\xdf\xbf\xe0\xa0\x80\xed\x9f\xbf\xee\x80\x80\xef\xbf\xbf\
+    \xf0\x90\x80\x80\xf4\x8f\xbf\xbf%\
     \xff\xfe\xe9\0=\xd8\0\xde|UTF-16|\xc3\xa9\xf0\x9f\x98\x80%\
     \xfe\xff\0\xe9\xd8=\xde\0|UTF-16|\xc3\xa9\xf0\x9f\x98\x80%\
     \xff\xfe\xe9\0=\xd8\0\xde|UTF-16LE-BOM|\xc3\xa9\xf0\x9f\x98\x80%\
     \xff\xfe\0\0\xe9\0\0\0\0\xf6\x01\0|UTF-32|\xc3\xa9\xf0\x9f\x98\x80%\
     \0\0\xfe\xff\0\0\0\xe9\0\x01\xf6\0|UTF-32|\xc3\xa9\xf0\x9f\x98\x80%\
-    s\0i\0x\0t\0e\0e\0n\0 \0a\0n\0d\0 \0m\0o\0r\0e\0 \0c\0h\0a\0r\0a\0c\0t\0e\0r\0s\0\n\0\xe9\0s\0i\0x\0t\0e\0e\0n\0 \0a\0n\0d\0 \0m\0o\0r\0e\0 \0|UTF-16LE|sixteen and more characters\n\xc3\xa9sixteen and more %\
-    \0s\0i\0x\0t\0e\0e\0n\0 \0a\0n\0d\0 \0m\0o\0r\0e\0 \0c\0h\0a\0r\0a\0c\0t\0e\0r\0s\0\n\0\xe9\0s\0i\0x\0t\0e\0e\0n\0 \0a\0n\0d\0 \0m\0o\0r\0e\0 |UTF-16BE|sixteen and more characters\n\xc3\xa9sixteen and more %\
-    s\0\0\0i\0\0\0x\0\0\0t\0\0\0e\0\0\0e\0\0\0n\0\0\0 \0\0\0a\0\0\0n\0\0\0d\0\0\0 \0\0\0m\0\0\0o\0\0\0r\0\0\0e\0\0\0 \0\0\0c\0\0\0h\0\0\0a\0\0\0r\0\0\0a\0\0\0c\0\0\0t\0\0\0e\0\0\0r\0\0\0s\0\0\0\n\0\0\0\xe9\0\0\0s\0\0\0i\0\0\0x\0\0\0t\0\0\0e\0\0\0e\0\0\0n\0\0\0 \0\0\0a\0\0\0n\0\0\0d\0\0\0 \0\0\0m\0\0\0o\0\0\0r\0\0\0e\0\0\0 \0\0\0|UTF-32LE|sixteen and more characters\n\xc3\xa9sixteen and more %\
-    \0\0\0s\0\0\0i\0\0\0x\0\0\0t\0\0\0e\0\0\0e\0\0\0n\0\0\0 \0\0\0a\0\0\0n\0\0\0d\0\0\0 \0\0\0m\0\0\0o\0\0\0r\0\0\0e\0\0\0 \0\0\0c\0\0\0h\0\0\0a\0\0\0r\0\0\0a\0\0\0c\0\0\0t\0\0\0e\0\0\0r\0\0\0s\0\0\0\n\0\0\0\xe9\0\0\0s\0\0\0i\0\0\0x\0\0\0t\0\0\0e\0\0\0e\0\0\0n\0\0\0 \0\0\0a\0\0\0n\0\0\0d\0\0\0 \0\0\0m\0\0\0o\0\0\0r\0\0\0e\0\0\0 |UTF-32BE|sixteen and more characters\n\xc3\xa9sixteen and more %\
-    f\0i\0f\0t\0e\0e\0n\0 \0l\0e\0t\0t\0e\0r\0s\0\x80\0f\0i\0f\0t\0e\0e\0n\0 \0l\0e\0t\0t\0e\0r\0s\0\0\x01|UTF-16LE|fifteen letters\xc2\x80fifteen letters\xc4\x80%\
-    \0f\0i\0f\0t\0e\0e\0n\0 \0l\0e\0t\0t\0e\0r\0s\0\x80\0f\0i\0f\0t\0e\0e\0n\0 \0l\0e\0t\0t\0e\0r\0s\x01\0|UTF-16BE|fifteen letters\xc2\x80fifteen letters\xc4\x80%\
-    f\0\0\0i\0\0\0f\0\0\0t\0\0\0e\0\0\0e\0\0\0n\0\0\0 \0\0\0l\0\0\0e\0\0\0t\0\0\0t\0\0\0e\0\0\0r\0\0\0s\0\0\0\x80\0\0\0f\0\0\0i\0\0\0f\0\0\0t\0\0\0e\0\0\0e\0\0\0n\0\0\0 \0\0\0l\0\0\0e\0\0\0t\0\0\0t\0\0\0e\0\0\0r\0\0\0s\0\0\0\0\x01\0\0|UTF-32LE|fifteen letters\xc2\x80fifteen letters\xc4\x80%\
-    \0\0\0f\0\0\0i\0\0\0f\0\0\0t\0\0\0e\0\0\0e\0\0\0n\0\0\0 \0\0\0l\0\0\0e\0\0\0t\0\0\0t\0\0\0e\0\0\0r\0\0\0s\0\0\0\x80\0\0\0f\0\0\0i\0\0\0f\0\0\0t\0\0\0e\0\0\0e\0\0\0n\0\0\0 \0\0\0l\0\0\0e\0\0\0t\0\0\0t\0\0\0e\0\0\0r\0\0\0s\0\0\x01\0|UTF-32BE|fifteen letters\xc2\x80fifteen letters\xc4\x80%\
+    s\0i\0x\0t\0e\0e\0n\0 \0a\0n\0d\0 \0m\0o\0r\0e\0 \0c\0h\0a\0r\0a\0c\0t\0e\0r\0s\0\n\0\xe9\0s\0\
+    i\0x\0t\0e\0e\0n\0 \0a\0n\0d\0 \0m\0o\0r\0e\0 \0|UTF-16LE|\
+    sixteen and more characters\n\xc3\xa9sixteen and more %\
+    \0s\0i\0x\0t\0e\0e\0n\0 \0a\0n\0d\0 \0m\0o\0r\0e\0 \0c\0h\0a\0r\0a\0c\0t\0e\0r\0s\0\n\0\xe9\0s\
+    \0i\0x\0t\0e\0e\0n\0 \0a\0n\0d\0 \0m\0o\0r\0e\0 |UTF-16BE|\
+    sixteen and more characters\n\xc3\xa9sixteen and more %\
+    s\0\0\0i\0\0\0x\0\0\0t\0\0\0e\0\0\0e\0\0\0n\0\0\0 \0\0\0a\0\0\0n\0\0\0d\0\0\0 \0\0\0m\0\0\0o\0\
+    \0\0r\0\0\0e\0\0\0 \0\0\0c\0\0\0h\0\0\0a\0\0\0r\0\0\0a\0\0\0c\0\0\0t\0\0\0e\0\0\0r\0\0\0s\0\0\
+    \0\n\0\0\0\xe9\0\0\0s\0\0\0i\0\0\0x\0\0\0t\0\0\0e\0\0\0e\0\0\0n\0\0\0 \0\0\0a\0\0\0n\0\0\0d\0\
+    \0\0 \0\0\0m\0\0\0o\0\0\0r\0\0\0e\0\0\0 \0\0\0|UTF-32LE|\
+    sixteen and more characters\n\xc3\xa9sixteen and more %\
+    \0\0\0s\0\0\0i\0\0\0x\0\0\0t\0\0\0e\0\0\0e\0\0\0n\0\0\0 \0\0\0a\0\0\0n\0\0\0d\0\0\0 \0\0\0m\0\
+    \0\0o\0\0\0r\0\0\0e\0\0\0 \0\0\0c\0\0\0h\0\0\0a\0\0\0r\0\0\0a\0\0\0c\0\0\0t\0\0\0e\0\0\0r\0\0\
+    \0s\0\0\0\n\0\0\0\xe9\0\0\0s\0\0\0i\0\0\0x\0\0\0t\0\0\0e\0\0\0e\0\0\0n\0\0\0 \0\0\0a\0\0\0n\0\
+    \0\0d\0\0\0 \0\0\0m\0\0\0o\0\0\0r\0\0\0e\0\0\0 |UTF-32BE|\
+    sixteen and more characters\n\xc3\xa9sixteen and more %\
+    f\0i\0f\0t\0e\0e\0n\0 \0l\0e\0t\0t\0e\0r\0s\0\x80\0f\0i\0f\0t\0e\0e\0n\0 \0l\0e\0t\0t\0e\0r\0s\
+    \0\0\x01|UTF-16LE|fifteen letters\xc2\x80fifteen letters\xc4\x80%\
+    \0f\0i\0f\0t\0e\0e\0n\0 \0l\0e\0t\0t\0e\0r\0s\0\x80\0f\0i\0f\0t\0e\0e\0n\0 \0l\0e\0t\0t\0e\0r\
+    \0s\x01\0|UTF-16BE|fifteen letters\xc2\x80fifteen letters\xc4\x80%\
+    f\0\0\0i\0\0\0f\0\0\0t\0\0\0e\0\0\0e\0\0\0n\0\0\0 \0\0\0l\0\0\0e\0\0\0t\0\0\0t\0\0\0e\0\0\0r\0\
+    \0\0s\0\0\0\x80\0\0\0f\0\0\0i\0\0\0f\0\0\0t\0\0\0e\0\0\0e\0\0\0n\0\0\0 \0\0\0l\0\0\0e\0\0\0t\0\
+    \0\0t\0\0\0e\0\0\0r\0\0\0s\0\0\0\0\x01\0\0|UTF-32LE|\
+    fifteen letters\xc2\x80fifteen letters\xc4\x80%\
+    \0\0\0f\0\0\0i\0\0\0f\0\0\0t\0\0\0e\0\0\0e\0\0\0n\0\0\0 \0\0\0l\0\0\0e\0\0\0t\0\0\0t\0\0\0e\0\
+    \0\0r\0\0\0s\0\0\0\x80\0\0\0f\0\0\0i\0\0\0f\0\0\0t\0\0\0e\0\0\0e\0\0\0n\0\0\0 \0\0\0l\0\0\0e\0\
+    \0\0t\0\0\0t\0\0\0e\0\0\0r\0\0\0s\0\0\x01\0|UTF-32BE|\
+    fifteen letters\xc2\x80fifteen letters\xc4\x80%\
     \xff\xfe\xff\xfea\0|UTF-16|\xef\xbb\xbfa%\
     \xff\xfe\xff\xfea\0|UTF-16LE-BOM|\xef\xbb\xbfa%\
     \xff\xfe\0\0\xff\xfe\0\0|UTF-32|\xef\xbb\xbf%\

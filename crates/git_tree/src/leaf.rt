@@ -108,7 +108,8 @@ impl GitLeaf {
         written
     }
 
-    /// Adds the piece to what is in memory, or to the file. Out of memory changes nothing, and any other error may have.
+    /// Adds the piece to what is in memory, or to the file. Out of memory changes nothing, and any other error may
+    /// have.
     fn add(&mut self, piece: &[u8]) -> io::Result<()>
         ensures kept { self.new ≡ record self.old {
           text = self.new.text;

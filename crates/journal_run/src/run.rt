@@ -90,7 +90,8 @@ fn obey<B: Blob, G: Gate, O: Sink, H: Threads + Wait + Sync>(
 /// Does what these words ask for: `REPO TREE journal SEED PATHS` or `REPO TREE audit`.
 ///
 /// `journal` rehearses so many paths in memory, as the command `rehearse` does, and writes the journal of its run.
-/// `audit` judges `text`, which stands for the file REPO, and writes one line. Neither looks at the words REPO and TREE.
+/// `audit` judges `text`, which stands for the file REPO, and writes one line. Neither looks at the words REPO and
+/// TREE.
 ///
 /// It returns the status that the program ends with.
 pub fn journal_run<B: Blob, G: Gate, O: Sink, H: Threads + Wait + Sync>(

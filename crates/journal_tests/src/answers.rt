@@ -2,8 +2,8 @@
 use crate::asking::{File, asked, is_right};
 use std::test::Fail;
 
-/// The journal of a run in which path 1 is delayed; one in which path 0 is closed before it is claimed; the first without
-/// its last line. Then one of no path, and files that are none.
+/// The journal of a run in which path 1 is delayed; one in which path 0 is closed before it is claimed; the first
+/// without its last line. Then one of no path, and files that are none.
 const AUDITS: &[&str] = &[
     "R T audit|journal 1 1 2\npool\ndesk 0 required\nopened 0 smudge delay\nanswered 1 delayed\nnamed 1\n\
     listed 0 names 1\nredone 1 content\nlisted 0 empty\nclose 1 1 fine\nclaim 0 0\nclose 0 0 fine\nend 9\n\

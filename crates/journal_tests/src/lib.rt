@@ -1,5 +1,5 @@
-//! The tests of `journal_run`, over the built library: `answers` has what the words get, and `checkouts` the journal of a
-//! checkout. It has nothing but tests.
+//! The tests of `journal_run`, over the built library: `answers` has what the words get, and `checkouts` the journal of
+//! a checkout. It has nothing but tests.
 #![tactic(auto)]
 
 #[cfg(test)]

@@ -1,5 +1,5 @@
-//! What the programs share: their words, what standard error says of a run beside the report, its progress, and the file
-//! of its journal.
+//! What the programs share: their words, what standard error says of a run beside the report, its progress, and the
+//! file of its journal.
 #![tactic(auto)]
 
 mod journal_file;

@@ -1,5 +1,6 @@
 //! The blocks of a message with its padding.
-ghost use Rattle.std.specs.Prelude.{◌≡◌, ℕ, ◌+◌, ◌-◌, ◌*◌, ◌/◌, ◌%◌, ◌<◌, ◌≤◌, List, [], ◌∷◌, length, take, drop, replicate};
+ghost use Rattle.std.specs.Prelude.{◌≡◌, ℕ, ◌+◌, ◌-◌, ◌*◌, ◌/◌, ◌%◌, ◌<◌, ◌≤◌, List, [], ◌∷◌};
+ghost use Rattle.std.specs.Prelude.{length, take, drop, replicate};
 ghost use Rattle.sha1.specs.Sha1.{padded_message};
 ghost use Rattle.sha1_lanes.specs.Lanes.{block_count, block_at};
 

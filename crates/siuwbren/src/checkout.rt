@@ -125,8 +125,8 @@ fn keep_journal(rt: HostRuntime, asked: &Checkout<'_>, repo: &mut GitRepo, left:
     }
 }
 
-/// Checks out a repository into an empty folder, unless something is where its journal is to be. No process of git is left
-/// running.
+/// Checks out a repository into an empty folder, unless something is where its journal is to be. No process of git is
+/// left running.
 pub fn check_out<H: Threads + Wait + Sync>(
     rt: HostRuntime,
     threads: &H,

@@ -1,4 +1,5 @@
-//! The words after the program's name: `checkout`, `plan`, `rehearse` or `audit` with its arguments, or a wish for help.
+//! The words after the program's name: `checkout`, `plan`, `rehearse` or `audit` with its arguments, or a wish for
+//! help.
 #![tactic(auto)]
 
 mod command;
