@@ -20,8 +20,8 @@ use edge_adapters::{FolderBlob, FolderRepo, FolderTree, OutputSink, ProcessSpawn
 use edge_kit::NoGate;
 use journal_run::{is_journal, journal_run};
 use program_kit::{
-    CountingTree, Progress, has_terminal, message_of, refused_path, show_drivers, show_errors,
-    words_of, write_journal,
+    CountingTree, Ended, Progress, has_terminal, message_of, show_drivers, show_errors,
+    show_refused_path, words_of,
 };
 use std::alloc::{AllocError, Global};
 use std::env::args;
@@ -134,13 +134,6 @@ fn end_with(rt: HostRuntime, status: u8, words: &[String], are_text: bool) -> u8
     status
 }
 
-/// Says for which entry the index is refused, if it is for one.
-fn show_refused_path(rt: HostRuntime, repo: &mut FolderRepo) {
-    if let Some(path) = refused_path(rt.alloc(), repo) {
-        let _ = eprintln!(rt; "the entry's path: {path}");
-    }
-}
-
 /// Writes or judges a journal, as these words ask for it: the status.
 fn journal_words<H: Threads + Wait + Sync>(
     rt: HostRuntime,
@@ -153,20 +146,6 @@ fn journal_words<H: Threads + Wait + Sync>(
     Ok(status)
 }
 
-/// Writes the journal of a checkout by these words, which left this history, into a new file. If it can't be written,
-/// standard error says why.
-fn give_journal(
-    rt: HostRuntime,
-    path: &str,
-    words: &[String],
-    repo: &mut FolderRepo,
-    history: &[Event],
-) {
-    if let Err(error) = write_journal(rt, path, words, repo, history) {
-        let _ = eprintln!(rt; "SIUWBREN_JOURNAL: {error}");
-    }
-}
-
 /// Runs these words in the folders that they name, and writes the journal of a checkout that reached its report.
 fn folder_words<H: Threads + Wait + Sync>(
     rt: HostRuntime,
@@ -177,17 +156,20 @@ fn folder_words<H: Threads + Wait + Sync>(
 ) -> Result<u8, AllocError> {
     let (mut repo, tree) = folders_of(rt, words)?;
     let (status, history) = run_in(rt, threads, words, &mut repo, tree);
-    let ended = end_with(rt, status, words, are_text);
+    let said = end_with(rt, status, words, are_text);
     if status == 3 {
         show_refused_path(rt, &mut repo);
     }
-    match place {
-        JournalPlace::File(path) if status < 2 || !history.is_empty() => {
-            give_journal(rt, path.as_str(), words, &mut repo, &history);
-        }
-        _ => {}
+    if let JournalPlace::File(journal) = place {
+        let history = history.as_slice();
+        let ended = Ended {
+            words,
+            status,
+            history,
+        };
+        journal.end(&mut repo, ended);
     }
-    Ok(ended)
+    Ok(said)
 }
 
 fn run_words<H: Threads + Wait + Sync>(rt: HostRuntime, threads: &H) -> Result<u8, AllocError> {

@@ -9,9 +9,9 @@ mod own_words;
 mod progress;
 mod refused;
 
-pub use journal_file::write_journal;
+pub use journal_file::{Ended, JournalFile};
 pub use messages::message_of;
 pub use notes::{show_drivers, show_errors};
 pub use own_words::words_of;
 pub use progress::{CountingTree, Progress, has_terminal};
-pub use refused::refused_path;
+pub use refused::show_refused_path;

@@ -1,4 +1,4 @@
-//! The path of the entry for which an index is refused.
+//! What standard error says of the entry for which an index is refused.
 use byte_path::quote_path;
 use edge_kit::Repo;
 use git_index::{IndexFault, read_index};
@@ -7,10 +7,13 @@ use std::alloc::Global;
 /// How many bytes an index may have.
 const MOST: u64 = 67_108_864;
 
-/// How many bytes stand before the first entry, and in an entry before its path.
+/// How many bytes stand before the first entry, and in an entry of version 2 before its path.
 const HEADER: usize = 12;
 
 const FIELDS: usize = 62;
+
+/// How an index of version 2 begins. In the other versions a path stands elsewhere.
+const BEGINNING: &[u8] = b"DIRC\0\0\0\x02";
 
 /// The number of the entry that a fault is about.
 fn number_of(fault: IndexFault) -> Option<u32> {
@@ -38,9 +41,12 @@ fn after_first(entries: &[u8]) -> Option<&[u8]> {
     Some(rest)
 }
 
-/// The path of the entry with this number.
+/// The path of the entry with this number, in an index of version 2.
 fn path_at(index: &[u8], number: u32) -> Option<&[u8]> {
-    let (_, mut entries) = index.split_at_checked(HEADER)?;
+    let (header, mut entries) = index.split_at_checked(HEADER)?;
+    if !header.starts_with(BEGINNING) {
+        return None;
+    }
     for _ in 0..number {
         entries = after_first(entries)?;
     }
@@ -48,9 +54,16 @@ fn path_at(index: &[u8], number: u32) -> Option<&[u8]> {
 }
 
 /// The path of the entry for which the repository's index is refused, quoted as in the report.
-pub fn refused_path<R: Repo>(alloc: Global, repo: &mut R) -> Option<String> {
+fn refused_path<R: Repo>(alloc: Global, repo: &mut R) -> Option<String> {
     let bytes = repo.index_bytes(MOST).ok()??;
     let fault = read_index(alloc, &bytes).err()?;
     let path = path_at(bytes.as_slice(), number_of(fault)?)?;
     String::from_utf8(quote_path(alloc, path).ok()?).ok()
+}
+
+/// Says for which entry the repository's index is refused, if it is for one.
+pub fn show_refused_path<R: Repo>(rt: HostRuntime, repo: &mut R) {
+    if let Some(path) = refused_path(rt.alloc(), repo) {
+        let _ = eprintln!(rt; "the entry's path: {path}");
+    }
 }

@@ -3,7 +3,7 @@ use crate::channel::sink_of;
 use crate::ends::{end_with, refuse_repository};
 use checkout_engine::plan_text;
 use git_edge::GitRepo;
-use program_kit::refused_path;
+use program_kit::show_refused_path;
 use siuwbren_words::Plan;
 use std::alloc::AllocError;
 
@@ -17,9 +17,7 @@ pub fn show_plan(rt: HostRuntime, asked: &Plan<'_>) -> Result<u8, AllocError> {
     let status = plan_text(rt.alloc(), &mut repo, &mut out);
     end_with(rt, status);
     if status == 3 {
-        if let Some(path) = refused_path(rt.alloc(), &mut repo) {
-            let _ = eprintln!(rt; "the entry's path: {path}");
-        }
+        show_refused_path(rt, &mut repo);
     }
     repo.end();
     Ok(status)
