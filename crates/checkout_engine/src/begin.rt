@@ -1,16 +1,14 @@
 //! How a checkout begins, by its plan.
-ghost use Rattle.std.specs.Prelude.{◌≡◌, length};
-ghost use Rattle.std.specs.List.{filter};
+ghost use Rattle.std.specs.Prelude.{◌≡◌};
 ghost use Rattle.checkout_engine.specs.Begun.{PlansRun};
 ghost use Rattle.checkout_engine.specs.Ends.{asked};
-ghost use Rattle.checkout_engine.specs.Workers.{in_pool};
 
-use crate::cards::starts_of;
+use crate::cards::{count_of, starts_of};
 use crate::planning::read_plan;
 use crate::stop::Stop;
 use crate::workers::{Pace, workers_for};
 use checkout_core::Start;
-use checkout_plan::{PathPlan, closed_paths_have_causes};
+use checkout_plan::closed_paths_have_causes;
 use checkout_words::{Command, WordFault, read_words};
 use edge_kit::Repo;
 use std::alloc::Global;
@@ -23,20 +21,6 @@ pub struct PlannedRun {
     pub workers: u32,
     /// How many drivers are in use.
     pub drivers: u32,
-}
-
-/// Whether a path begins in the pool.
-fn in_pool(path: &PathPlan) -> bool
-    ensures { result ≡ in_pool path.now }
-{
-    matches!(path.start, Start::Pool)
-}
-
-/// How many paths begin in the pool.
-fn pool_size(paths: &[PathPlan]) -> usize
-    ensures { result ≡ length (filter in_pool paths.now) }
-{
-    paths.iter().filter(|path| in_pool(path)).count()
 }
 
 /// How the checkout that these words ask for begins, by the plan of the repository, which is read for it. There is none
@@ -63,7 +47,7 @@ pub fn planned_run<R: Repo>(
     };
     let paths = planned.plan.paths.as_slice();
     let starts = starts_of(alloc, paths)?;
-    let workers = workers_for(pace, pool_size(paths));
+    let workers = workers_for(pace, count_of(paths, None));
     let drivers = planned.plan.drivers.as_slice().len();
     Ok(Some(PlannedRun {
         starts,

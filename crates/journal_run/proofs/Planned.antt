@@ -18,7 +18,7 @@ pub no_journal : (told : RepoTold) (command : Option Command) (history : List Ev
 no_journal told command history old new stop.NotEmpty reads = absurd reads
 no_journal told command history old new stop.ReadFault reads = inl reads
 no_journal told command history old new (stop.Refused r) reads = inr (r, reads)
-no_journal told command history old new stop.NoMemory reads = tt
+no_journal told command history old new stop.NoMemory reads = inl reads
 
 pub spells_checkout : (told : RepoTold) (asked : Option ℕ) (history : List Event) (old new : RepoSeen) (run : PlannedRun) (starts : List Start) (text : List ℕ) → IsPlannedRun told asked old new run
     → starts ≡ run.starts.items → Spells text (journal_of starts run.workers run.drivers history) → IsCheckoutJournal told asked history old new text

@@ -9,7 +9,7 @@ use Rattle.checkout_plan.specs.declared.path_plan.Plan.{Plan}
 use Rattle.checkout_engine.specs.declared.stop.Refusal.{Refusal}
 use Rattle.checkout_engine.specs.declared.stop.Stop.{Stop}
 use Rattle.checkout_engine.specs.declared.stop.Stop.TheVariants as stop
-use Rattle.checkout_engine.specs.Causes.{IsPlanRead, IsReadCause, IsRefusedFor}
+use Rattle.checkout_engine.specs.Causes.{IsPlanRead, IsReadCause, IsRefusedFor, IsCutShort}
 use Rattle.checkout_engine.specs.Ends.{IsCheckout, workers_asked}
 use Rattle.checkout_engine.specs.Workers.{starts_of, worker_count}
 use Rattle.journal_audit.specs.Audits.{Spells, journal_of}
@@ -30,7 +30,8 @@ abbrev pub fault_of : Stop → JournalFault
 fault_of stop.NoMemory = NoMemory
 fault_of s = NoPlan
 
--- the journal of the checkout that words ask for, or why there is none
+-- The journal of the checkout that words ask for, or why there is none. Too many events are seen before the repository is
+-- read. Memory runs out while its plan is read, or after that.
 abbrev pub Journals : RepoTold → Option Command → List Event → RepoSeen → RepoSeen
     → Result (Vec ℕ) JournalFault → Type 0
 Journals told command history old new (Ok text) =
@@ -38,5 +39,6 @@ Journals told command history old new (Ok text) =
 Journals told command history old new (Err NoCheckout) = (IsCheckout command → ⊥) × (new ≡ old)
 Journals told command history old new (Err NoPlan) =
     IsReadCause told old new ⊎ ((r : Refusal) × IsRefusedFor told r old new)
-Journals told command history old new (Err TooManyEvents) = 2 ^ 32 - 1 < length history
-Journals told command history old new (Err NoMemory) = Unit {0}
+Journals told command history old new (Err TooManyEvents) = (2 ^ 32 - 1 < length history) × (new ≡ old)
+Journals told command history old new (Err NoMemory) =
+    IsCutShort told old new ⊎ ((plan : Plan) × IsPlanRead told plan old new)

@@ -1,6 +1,6 @@
 //! The audit of a file.
-ghost use Rattle.std.specs.Prelude.{◌≡◌, IfOk, string_bytes};
-ghost use Rattle.journal_run.specs.declared.finding.FindFault.TheVariants.{NoMemory};
+ghost use Rattle.std.specs.Prelude.{◌≡◌, ◌⊎◌, Err, IfOk, string_bytes};
+ghost use Rattle.journal_run.specs.declared.finding.FindFault.TheVariants.{NoMemory, ReadFault};
 ghost use Rattle.journal_run.specs.Findings.{finding_line, status_of, Finds};
 
 use crate::status::Status;
@@ -68,6 +68,7 @@ pub fn finding_line(alloc: Global, finding: Finding) -> Result<String, AllocErro
 pub fn find<B: Blob>(alloc: Global, file: &mut B) -> Result<Finding, FindFault>
     ensures told { B.told file.new ≡ B.told file.old }
     ensures kept { B.seen file.new ≡ record (B.seen file.old) { faults = (B.seen file.new).faults } }
+    ensures still { (result ≡ Err ReadFault) ⊎ (B.seen file.new ≡ B.seen file.old) }
     ensures finds { Finds (B.told file.old) (B.seen file.old).faults (B.seen file.new).faults result }
 {
     match file.take_all(TEXT_LIMIT) {

@@ -3,7 +3,7 @@ ghost use Rattle.std.specs.Prelude.{◌≡◌, ◌⊎◌, ◌≤◌, ◌<◌, �
 ghost use Rattle.edge_kit.specs.Faults.{Rose};
 ghost use Rattle.edge_kit.specs.Seen.{BlobSeen};
 ghost use Rattle.edge_kit.specs.Told.{Told};
-ghost use Rattle.journal_run.specs.declared.status.Status.TheVariants.{Done, Illegal, Unreadable};
+ghost use Rattle.journal_run.specs.declared.status.Status.TheVariants.{Done, Illegal, ReadFault, Unreadable};
 ghost use Rattle.journal_run.specs.declared.words.Form.{Form};
 ghost use Rattle.journal_run.specs.declared.words.Form.TheVariants.{Audit, Rehearsal};
 ghost use Rattle.journal_run.specs.Words.{asked};
@@ -33,6 +33,7 @@ fn write_answer<O: Sink>(out: &mut O, answer: &[u8], status: Status) -> Status
 fn show_audit<B: Blob, O: Sink>(alloc: Global, text: &mut B, out: &mut O) -> Status
     ensures told { B.told text.new ≡ B.told text.old }
     ensures kept { B.seen text.new ≡ record (B.seen text.old) { faults = (B.seen text.new).faults } }
+    ensures still { (result ≡ ReadFault) ⊎ (B.seen text.new ≡ B.seen text.old) }
     ensures ends { EndsForm Audit (B.told text.old)
         (B.seen text.old) (B.seen text.new) (O.seen out.old) (O.seen out.new) result }
 {
@@ -77,6 +78,7 @@ fn obey<B: Blob, G: Gate, O: Sink, H: Threads + Wait + Sync>(
 ) -> Status
     ensures told { B.told text.new ≡ B.told text.old }
     ensures kept { B.seen text.new ≡ record (B.seen text.old) { faults = (B.seen text.new).faults } }
+    ensures still { (result ≡ ReadFault) ⊎ (B.seen text.new ≡ B.seen text.old) }
     ensures ends { Ends (asked words.now) (B.told text.old)
         (B.seen text.old) (B.seen text.new) (O.seen out.old) (O.seen out.new) result }
 {
@@ -136,6 +138,8 @@ pub fn journal_run<B: Blob, G: Gate, O: Sink, H: Threads + Wait + Sync>(
     // What the text tells stays, and so does its name.
     ensures told { B.told text.new ≡ B.told text.old }
     ensures kept { B.seen text.new ≡ record (B.seen text.old) { faults = (B.seen text.new).faults } }
+    // Its count of faults rises only with 6.
+    ensures still { (result ≡ 6) ⊎ (B.seen text.new ≡ B.seen text.old) }
     // Where the words ask for neither, nothing at all is done.
     ensures unasked { asked words.now ≡ None
         → (B.seen text.new ≡ B.seen text.old) × (O.seen out.new ≡ O.seen out.old) }

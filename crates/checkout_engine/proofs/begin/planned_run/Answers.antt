@@ -19,5 +19,5 @@ returns-clause-plans g c =
     (g.R.Repo.seen c.args.repo.now) (g.R.Repo.seen c.read_plan.new.repo) planned _
     (c.in-Ok-Checkout.ensures.reads ∙ ap (λ (command : Command). Some command) c.in-Ok-Checkout.field-0-is) c.in_ok-planned.ensures.reads
     (c.in_ok-starts.ensures ∙ ap starts_of c.as_slice-paths.ensures)
-    (c.workers_for-workers.ensures ∙ ap (λ n. workers_for c.in-Ok-Checkout.workers planned.workers planned.threshold n) (c.pool_size.ensures ∙ ap (λ ps. length (filter in_pool ps)) c.as_slice-paths.ensures))
+    (c.workers_for-workers.ensures ∙ ap (λ n. workers_for c.in-Ok-Checkout.workers planned.workers planned.threshold n) (c.count_of.ensures ∙ ap (λ ps. length (filter in_pool ps)) c.as_slice-paths.ensures))
     (ap length c.as_slice-drivers.ensures)
