@@ -78,7 +78,7 @@ fn run_in<H: Threads + Wait + Sync>(
         tree,
         leaves: &leaves,
     };
-    let mut out = OutputSink::new(writer(&rt));
+    let mut out = OutputSink::new(rt, writer(&rt));
     let mut history = Vec::new(rt.alloc());
     let status = run(
         threads,
@@ -141,7 +141,7 @@ fn journal_words<H: Threads + Wait + Sync>(
     words: &[String],
 ) -> Result<u8, AllocError> {
     let mut text = FolderBlob::of_file(rt, word_at(rt, words, 0)?);
-    let mut out = OutputSink::new(writer(&rt));
+    let mut out = OutputSink::new(rt, writer(&rt));
     let status = journal_run(threads, rt.alloc(), words, &mut text, &NoGate, &mut out);
     Ok(status)
 }

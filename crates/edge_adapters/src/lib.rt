@@ -11,6 +11,7 @@ mod front;
 mod given_up;
 mod output_sink;
 mod paths;
+mod patient;
 mod process_link;
 mod process_spawner;
 mod process_starter;

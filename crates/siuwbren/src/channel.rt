@@ -30,5 +30,5 @@ pub fn sink_of(rt: HostRuntime, form: Form) -> FormSink<OutputSink<Channel>> {
         Form::Failures => Channel::Errors(rt.stderr()),
         Form::Text | Form::Nul | Form::Json => Channel::Output(rt.stdout()),
     };
-    FormSink::new(rt.alloc(), form, OutputSink::new(channel))
+    FormSink::new(rt.alloc(), form, OutputSink::new(rt, channel))
 }

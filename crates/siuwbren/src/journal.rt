@@ -24,7 +24,7 @@ pub fn audit<H: Threads + Wait + Sync>(
 ) -> Result<u8, AllocError> {
     let words = audit_words(rt.alloc(), file)?;
     let mut text = FolderBlob::of_file(rt, String::from_str(rt.alloc(), file)?);
-    let mut out = OutputSink::new(rt.stdout());
+    let mut out = OutputSink::new(rt, rt.stdout());
     let status = journal_run(
         threads,
         rt.alloc(),
