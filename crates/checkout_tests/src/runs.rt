@@ -77,6 +77,7 @@ fn an_object_that_is_not_right_fails_its_path_alone(rt: HostRuntime) -> Result<(
     check(&rt, rt.alloc(), OBJECTS)
 }
 
+/// What a failed `discard` does stands in `mistakes`.
 const LEAVES: &[u8] = b"\
     leaf seal p2|entry -h p1|entry -h p2|entry -h p3|\
         written - - - p1\nfailed - - write p2\nwritten - - - p3\ndone 2 0 1 0\nstatus 1\np1: hi\np3: hi\n%\
@@ -86,6 +87,25 @@ const LEAVES: &[u8] = b"\
 #[test]
 fn a_leaf_that_fails_fails_its_path_alone(rt: HostRuntime) -> Result<(), Fail> {
     check(&rt, rt.alloc(), LEAVES)
+}
+
+/// The writes of one report fail, each in turn. The files are there.
+const CUT_REPORTS: &[u8] = b"\
+    sink 0|entry xh bin|entry lb ln|entry gh sub|entry 1h u|entry 2h u|entry 3h u|\
+        status 4\nbin: hi\nln: bin%\
+    sink 1|entry xh bin|entry lb ln|entry gh sub|entry 1h u|entry 2h u|entry 3h u|\
+        written x - - bin\nstatus 4\nbin: hi\nln: bin%\
+    sink 2|entry xh bin|entry lb ln|entry gh sub|entry 1h u|entry 2h u|entry 3h u|\
+        written x - - bin\nwritten l - - ln\nstatus 4\nbin: hi\nln: bin%\
+    sink 3|entry xh bin|entry lb ln|entry gh sub|entry 1h u|entry 2h u|entry 3h u|\
+        written x - - bin\nwritten l - - ln\nskipped - - gitlink sub\nstatus 4\nbin: hi\nln: bin%\
+    sink 4|entry xh bin|entry lb ln|entry gh sub|entry 1h u|entry 2h u|entry 3h u|\
+        written x - - bin\nwritten l - - ln\nskipped - - gitlink sub\nskipped - - unmerged u\nstatus 4\n\
+        bin: hi\nln: bin%";
+
+#[test]
+fn a_report_is_cut_at_the_write_that_fails(rt: HostRuntime) -> Result<(), Fail> {
+    check(&rt, rt.alloc(), CUT_REPORTS)
 }
 
 /// A plan is one piece for the sink: a second write, which would fail, isn't made.
@@ -291,7 +311,8 @@ const READS: &[u8] = b"\
     read-fails index|entry -h a|status 6\n%\
     read-fails config|entry -h a|status 6\n%\
     read-fails info|entry -h a|status 6\n%\
-    read-fails base|entry -h a|status 6\n%";
+    read-fails base|entry -h a|status 6\n%\
+    read-fails a|entry -a .gitattributes|entry -m a.txt|status 6\n%";
 
 #[test]
 fn a_full_worktree_and_a_read_that_fails_stop_it(rt: HostRuntime) -> Result<(), Fail> {

@@ -96,7 +96,8 @@ const EDGES: &[u8] = b"\
     000300003\
     000100001\
     0000~....\
-    00g4#....";
+    00g4#....\
+    zz00#....";
 
 fn is_so(next: Result<Next<'_>, PktFault>, want: &[u8], longest: &[u8]) -> bool {
     match (next, want) {
@@ -158,6 +159,20 @@ fn a_fault_stays_at_its_place(rt: HostRuntime) -> Result<(), Fail> {
     });
     assert!(rt; reader.next() == fault);
     reader.feed(b"0000");
+    assert!(rt; reader.next() == fault);
+    Ok(())
+}
+
+#[test]
+fn a_fault_behind_a_packet_is_told_again_and_again(rt: HostRuntime) -> Result<(), Fail> {
+    let mut reader = PktReader::reserve(rt.alloc())?;
+    reader.feed(b"0005a0001");
+    assert!(rt; reader.next() == Ok(Next::Payload(b"a")));
+    let fault = Err(PktFault::BadLength {
+        place: 5,
+        length: 1,
+    });
+    assert!(rt; reader.next() == fault);
     assert!(rt; reader.next() == fault);
     Ok(())
 }

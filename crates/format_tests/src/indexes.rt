@@ -46,13 +46,6 @@ fn are_cuts_short(alloc: Global, whole: &[u8]) -> bool {
     true
 }
 
-#[test]
-fn each_cut_is_short(rt: HostRuntime) {
-    assert!(rt; fault_of(rt.alloc(), EMPTY).is_none());
-    assert!(rt; are_cuts_short(rt.alloc(), ONE_FILE));
-    assert!(rt; are_cuts_short(rt.alloc(), EMPTY));
-}
-
 /// What is wrong with so many NULs.
 fn fault_at(alloc: Global, count: usize) -> Result<Option<IndexFault>, AllocError> {
     let text = vec![in alloc; 0u8; count]?;
@@ -202,6 +195,19 @@ const RIGHT: &[u8] = b"\
     a folder of another stage|$2$F\x10\x01a\0$F$B$Z|None%\
     a folder at another stage|$2$F$A$F\x10\x03a/b\0\0\0\0\0\0\0$Z|None%\
     a beginning that is no folder|$2$F$A$F\0\x02ab\0\0\0\0\0\0\0\0$Z|None%";
+
+/// An extension that states one byte more than there is, and a bit of another version: a row of the table above.
+const CUT_OR_FORGED: &[u8] = b"\
+    an extension of one byte that is not there|$1$F$ATREE\0\0\0\x01$Z|Some(Short)%\
+    the extended bit|$1$F@\x01a\0$Z|Some(Entry(0, Extended))%";
+
+#[test]
+fn each_cut_is_short(rt: HostRuntime) -> Result<(), Fail> {
+    assert!(rt; fault_of(rt.alloc(), EMPTY).is_none());
+    assert!(rt; are_cuts_short(rt.alloc(), ONE_FILE));
+    assert!(rt; are_cuts_short(rt.alloc(), EMPTY));
+    check::<Refused, _>(&rt, rt.alloc(), CUT_OR_FORGED)
+}
 
 /// The 16 more bits, from version 3 on: a row of the table above.
 const BITS: &[u8] = b"\
