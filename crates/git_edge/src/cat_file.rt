@@ -13,15 +13,21 @@ use std::io;
 use std::io::{ErrorKind, PipeReader, PipeWriter, Read};
 use std::process::Child;
 
-/// A child that has answered all that it was asked. When it is dropped it is ended, and waited for.
+/// A child that has answered all that it was asked, but for at most one object that it was asked for ahead. When it is
+/// dropped it is ended, and waited for.
 pub struct CatFile {
     child: Child,
     input: PipeWriter,
     output: PipeReader,
+    // the object that it was asked for ahead
+    ahead: Option<[u8; 20]>,
 }
 
 /// The bytes of a first read: a head and, of most source files, all of the content.
 const FIRST: usize = 4096;
+
+/// The longest object that is read only to be dropped: what a pipe holds (pipe(7)), so that all of it may be there.
+const DROPPED: u64 = 65_536;
 
 /// What the line before a content says behind the object's name.
 #[derive(Clone, Copy)]
@@ -133,53 +139,122 @@ impl CatFile {
             child,
             input,
             output,
+            ahead: None,
         })
     }
 
-    /// Sends a line.
-    fn send(&mut self, line: &[u8]) -> Result<(), TakeFault> {
-        match write_whole(&mut self.input, line) {
+    /// Ends the child, and starts another one in its place.
+    fn restart(&mut self, git: &Git) -> Result<(), TakeFault> {
+        match CatFile::start(git) {
+            Ok(child) => {
+                *self = child;
+                Ok(())
+            }
+            Err(error) => Err(fault_of(&error)),
+        }
+    }
+
+    /// Asks for an object.
+    fn ask(&mut self, name: &[u8; 20]) -> Result<(), TakeFault> {
+        let mut line = [b'\n'; 41];
+        let (digits, _) = line.split_at_mut(40);
+        let _ = hex::encode_to_slice(name.as_slice(), digits);
+        match write_whole(&mut self.input, line.as_slice()) {
             Ok(()) => Ok(()),
             Err(ErrorKind::OutOfMemory) => Err(TakeFault::NoMemory),
             Err(_) => Err(TakeFault::Failed),
         }
     }
 
+    /// Asks for the object that will probably be taken next, if there is one, once the last take went well. The child gets
+    /// it ready meanwhile, as far as the pipe holds it. Returns whether the child is still of use.
+    pub fn ask_ahead(&mut self, next: Option<[u8; 20]>) -> bool {
+        let Some(name) = next else {
+            return true;
+        };
+        self.ahead = Some(name);
+        self.ask(&name).is_ok()
+    }
+
     /// The object with this name as it is stored uncompressed, or `None` if it isn't there. After an error the child is
     /// of no more use.
     pub fn take(
         &mut self,
-        alloc: Global,
+        git: &Git,
         name: &[u8; 20],
         limit: u64,
     ) -> Result<Option<Vec<u8>>, TakeFault>
         ensures { Takes Untold limit result }
     {
-        let mut asked = [b'\n'; 41];
-        let (digits, _) = asked.split_at_mut(40);
-        let _ = hex::encode_to_slice(name.as_slice(), digits);
-        self.send(asked.as_slice())?;
-        let (digits, _) = asked.split_at(40);
-        self.receive(alloc, digits, limit)
+        let mut first = [0u8; FIRST];
+        let (had, end) = self.answer(git, name, first.as_mut_slice())?;
+        let (read, _) = first.split_at(had);
+        self.receive(git.alloc, name, read, end, limit)
     }
 
-    /// The answer to the name in these digits.
+    /// Reads until the line of the answer for an object is whole, as `read_line` does.
+    fn answer(
+        &mut self,
+        git: &Git,
+        name: &[u8; 20],
+        into: &mut [u8],
+    ) -> Result<(usize, usize), TakeFault>
+        ensures { IfOk result (λ at. (at.1 < at.0) × (at.0 ≤ length into.new)) }
+    {
+        if self.was_asked(git, name)? {
+            if let Ok(read) = read_line(&mut self.output, into) {
+                return Ok(read);
+            }
+            // The child may have ended before it was asked, which is no fault of the object: another one decides.
+            self.restart(git)?;
+        }
+        self.ask(name)?;
+        match read_line(&mut self.output, into) {
+            Ok(read) => Ok(read),
+            Err(error) => Err(fault_of(&error)),
+        }
+    }
+
+    /// Whether the child was asked for this object ahead. If it was asked for another one, that answer is dropped.
+    fn was_asked(&mut self, git: &Git, name: &[u8; 20]) -> Result<bool, TakeFault> {
+        match self.ahead.take() {
+            None => Ok(false),
+            Some(asked) if asked == *name => Ok(true),
+            Some(asked) => {
+                if !self.drop_answer(git.alloc, &asked) {
+                    self.restart(git)?;
+                }
+                Ok(false)
+            }
+        }
+    }
+
+    /// Reads the answer for an object that nobody wants. Returns whether the child is still of use, as after a short one.
+    fn drop_answer(&mut self, alloc: Global, name: &[u8; 20]) -> bool {
+        let mut first = [0u8; FIRST];
+        let Ok((had, end)) = read_line(&mut self.output, first.as_mut_slice()) else {
+            return false;
+        };
+        let (read, _) = first.split_at(had);
+        self.receive(alloc, name, read, end, DROPPED).is_ok()
+    }
+
+    /// The object of this name, where so much of the answer was read, whose line ends there.
     fn receive(
         &mut self,
         alloc: Global,
-        digits: &[u8],
+        name: &[u8; 20],
+        read: &[u8],
+        end: usize,
         limit: u64,
     ) -> Result<Option<Vec<u8>>, TakeFault>
+        requires { end < length read.now }
         ensures { Takes Untold limit result }
     {
-        let mut first = [0u8; FIRST];
-        let (had, end) = match read_line(&mut self.output, first.as_mut_slice()) {
-            Ok(read) => read,
-            Err(error) => return Err(fault_of(&error)),
-        };
-        let (read, _) = first.split_at(had);
+        let mut digits = [0u8; 40];
+        let _ = hex::encode_to_slice(name.as_slice(), digits.as_mut_slice());
         let (line, rest) = read.split_at(end);
-        let Some(stored) = answered(head_of(digits, line), limit)? else {
+        let Some(stored) = answered(head_of(digits.as_slice(), line), limit)? else {
             return Ok(None);
         };
         let (_, begun) = rest.split_at(1);
@@ -219,6 +294,7 @@ impl Drop for CatFile {
             mut child,
             input,
             output,
+            ahead: _,
         } = self;
         drop(input);
         drop(output);

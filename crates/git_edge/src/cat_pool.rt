@@ -3,6 +3,7 @@ ghost use Rattle.edge_kit.specs.Told.{Untold, Takes};
 
 use crate::cat_file::CatFile;
 use crate::git::{Git, fault_of};
+use crate::lent::Lent;
 use crate::scratch::Scratch;
 use edge_kit::TakeFault;
 use std::alloc::AllocError;
@@ -16,16 +17,19 @@ pub struct CatPool {
     // the Git folder that they are asked in, if it isn't the repository's
     scratch: Option<Scratch>,
     seats: Vec<Mutex<Option<CatFile>>>,
+    lent: Lent,
 }
 
 /// More than threads ever read at once.
 const SEATS: usize = 64;
 
-/// Takes an object by the child in a seat, which is started if there is none. After an error the seat is empty.
+/// Takes an object by the child in a seat, which is started if there is none, and asks it ahead for the next one. After an
+/// error the seat is empty.
 fn take_by(
     git: &Git,
     seat: &mut Option<CatFile>,
     name: &[u8; 20],
+    next: Option<[u8; 20]>,
     limit: u64,
 ) -> Result<Option<Vec<u8>>, TakeFault>
     ensures { Takes Untold limit result }
@@ -37,8 +41,8 @@ fn take_by(
             Err(error) => return Err(fault_of(&error)),
         },
     };
-    let taken = child.take(git.alloc, name, limit);
-    if taken.is_ok() {
+    let taken = child.take(git, name, limit);
+    if taken.is_ok() && child.ask_ahead(next) {
         *seat = Some(child);
     }
     taken
@@ -51,24 +55,43 @@ impl CatPool {
         for _ in 0..SEATS {
             seats.push(Mutex::new(None))?;
         }
+        let lent = Lent::new(git.alloc);
         Ok(CatPool {
             git,
             scratch,
             seats,
+            lent,
         })
     }
 
-    /// Takes an object by the first child that is idle. It waits for no other thread.
-    pub fn take(&self, name: &[u8; 20], limit: u64) -> Result<Option<Vec<u8>>, TakeFault>
+    /// Notes that an object will be taken after those before it, and returns its place among them, if it is known.
+    pub fn lend(&self, name: &[u8; 20]) -> Result<Option<usize>, AllocError> {
+        self.lent.add(name)
+    }
+
+    /// Takes an object, which was lent in this place, by the first child that is idle. It waits for no other thread.
+    ///
+    /// The first child alone is asked ahead, and only until another one is asked at all. While one thread reads, git gets
+    /// the next object ready. Of several threads each has a child, and those are at work beside each other.
+    pub fn take(
+        &self,
+        name: &[u8; 20],
+        place: Option<usize>,
+        limit: u64,
+    ) -> Result<Option<Vec<u8>>, TakeFault>
         ensures { Takes Untold limit result }
     {
-        for seat in self.seats.iter() {
+        for (number, seat) in self.seats.iter().enumerate() {
             if let Some(mut child) = seat.try_lock() {
-                return take_by(&self.git, &mut *child, name, limit);
+                if number > 0 {
+                    self.lent.share();
+                }
+                let next = self.lent.next(place);
+                return take_by(&self.git, &mut *child, name, next, limit);
             }
         }
         let mut own = None;
-        take_by(&self.git, &mut own, name, limit)
+        take_by(&self.git, &mut own, name, None, limit)
     }
 
     /// Ends each child that is idle, and waits for it.

@@ -168,8 +168,9 @@ impl Repo for GitRepo {
         let pool = Arc::try_clone(&self.pool)?;
         self.absent.reserve(self.out.saturating_add(1))?;
         self.returned.reserve(self.out + 1)?;
+        let place = self.pool.lend(name)?;
         self.out += 1;
-        Ok(GitBlob::new(pool, *name))
+        Ok(GitBlob::new(pool, *name, place))
     }
 
     /// The name of an object that isn't there is kept too, for which there is room.

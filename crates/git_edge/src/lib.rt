@@ -14,6 +14,7 @@ mod git_blob;
 mod git_repo;
 mod index_file;
 mod lender;
+mod lent;
 mod listing;
 mod notes;
 mod scratch;
