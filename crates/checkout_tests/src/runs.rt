@@ -59,7 +59,7 @@ fn a_configuration_is_read_or_refused(rt: HostRuntime) -> Result<(), Fail> {
     check(&rt, rt.alloc(), CONFIGURATIONS)
 }
 
-/// The third object is as zlib compresses it, and the fourth has 67,108,865 bytes.
+/// The third object is as zlib compresses it, and the fourth has 268,435,457 bytes.
 const OBJECTS: &[u8] = b"\
     bytes blob 3\0ho\n|entry -h a|entry lb b|\
         failed - - object-name a\nwritten l - - b\ndone 1 0 1 0\nstatus 1\nb: bin%\
@@ -67,7 +67,7 @@ const OBJECTS: &[u8] = b"\
         failed - - object-size a\nwritten l - - b\ndone 1 0 1 0\nstatus 1\nb: bin%\
     bytes x\x01K\xca\xc9O|entry -h a|entry lb b|\
         failed - - object-header a\nwritten l - - b\ndone 1 0 1 0\nstatus 1\nb: bin%\
-    bytes blob 67108865\0|nuls 67108865|entry -h a|entry lb b|\
+    bytes blob 268435457\0|nuls 268435457|entry -h a|entry lb b|\
         failed - - object-too-large a\nwritten l - - b\ndone 1 0 1 0\nstatus 1\nb: bin%\
     object 9|entry -h a|entry lb b|failed - - object-absent a\nwritten l - - b\ndone 1 0 1 0\nstatus 1\nb: bin%\
     read-fails h|entry -h a|entry lb b|failed - - read a\nwritten l - - b\ndone 1 0 1 0\nstatus 1\nb: bin%";
