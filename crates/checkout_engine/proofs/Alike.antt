@@ -18,8 +18,8 @@ use Rattle.checkout_core.specs.States.{is_at}
 use Rattle.checkout_core.specs.Talks.{contains}
 use Rattle.checkout_core.specs.Fates.{heard_by}
 use Rattle.driver_line.specs.OneContent.{OneContent}
-use Rattle.driver_line.specs.EqualSessions.{EqualSessions, IsTalkWith, HaveSamePaths}
-use Rattle.driver_line.specs.SameHeard.{SameHeard, NoneFailed, IsToldTalk, HaveTexts, HaveSameTexts, content_of, fate_in}
+use Rattle.driver_line.specs.EqualSessions.{EqualSessions, IsTalkWith}
+use Rattle.driver_line.specs.SameHeard.{SameHeard, NoneFailed, IsToldTalk, HaveTexts, HaveSamePaths, HaveSameTexts, content_of, fate_in}
 use Rattle.checkout_plan.specs.declared.path_plan.PathPlan.{PathPlan}
 use Rattle.checkout_plan.specs.declared.path_plan.Plan.{Plan}
 use Rattle.checkout_engine.specs.Alike.{IsTold, IsUndisturbed, WorkersChangeNothing, SettingsChangeNothing}
@@ -91,14 +91,17 @@ module _ (object : List ℕ → Told) (ps : List PathPlan) (g : Ground object ps
         let q = first_said.over.each n are in
         same_place ps g.rise m n p.0 q.0 p.1 q.1 (sym p.3 ∙ same ∙ q.3)
 
-    -- the texts and the prepared bytes of both
+    -- the texts, the objects' names and the prepared bytes of both
     pub have_same_paths : HaveSamePaths t.paths u.paths t.asked
     have_same_paths n is =
         let p = first_said.over.each n is in
         let q = second_said.over.each n (sym (same_number n) ∙ is) in
         let same : q.0 ≡ p.0 = same_Some q.0 p.0 (sym q.1 ∙ p.1) in
-        let other : IsPreparedTo (object (p.0).object) p.0 q.4 = subst (λ (z : PathPlan). IsPreparedTo (object z.object) z q.4) same q.5 in
-        (p.3 ∙ ap (λ (z : PathPlan). z.path) (sym same) ∙ sym q.3, p.6 ∙ ap (λ (r : Prepared). r.bytes) (same_ready (object (p.0).object) p.0 p.4 q.4 (g.told (p.0).object) p.5 other) ∙ sym q.6)
+        let other : IsPreparedTo (object (p.0).object) p.0 q.5 = subst (λ (z : PathPlan). IsPreparedTo (object z.object) z q.5) same q.6 in (
+          p.3 ∙ ap (λ (z : PathPlan). z.path) (sym same) ∙ sym q.3,
+          p.4 ∙ ap (λ (z : PathPlan). z.object) (sym same) ∙ sym q.4,
+          p.7 ∙ ap (λ (r : Prepared). r.bytes) (same_ready (object (p.0).object) p.0 p.5 q.5 (g.told (p.0).object) p.6 other) ∙ sym q.7,
+        )
 
     have_same_texts : HaveSameTexts t.paths u.paths t.asked
     have_same_texts n is = (have_same_paths n is).0

@@ -32,7 +32,7 @@ use Rattle.driver_line.specs.Lines.{Paths}
 use Rattle.driver_line.specs.ToldStarts.{Fills, GoBy}
 use Rattle.driver_desk.specs.Serving.{Holds}
 use Rattle.driver_desk.specs.Ties.{FitsOwn}
-use Rattle.driver_desk.specs.Works.{WorkSeen, AreRead, ReadsAs, ReadsTo, FitAll, FitsContent, FitsWork, asked_in, cards_in}
+use Rattle.driver_desk.specs.Works.{WorkSeen, AreRead, ReadsAs, ReadsTo, FitAll, FitsContent, FitsWork, asked_in, cards_in, label_of}
 use Rattle.writer_pool.specs.declared.pooled.DeskSeed.{DeskSeed}
 use Rattle.writer_pool.specs.Pools.{HasTalked, IsSeed, AreSeeds, IsStarterBack, AreStartersBack}
 use Rattle.writer_pool.specs.Sealing.{EndsAt, leaf_at}
@@ -63,7 +63,8 @@ pub record AsksForRead {S B L : Type 0} (starter : S → StarterSeen) (see : Sig
   pub rises : (starts : List Start) (d : ℕ) (seed : DeskSeed S B L) (works : List WorkSeen) → IsSeed starter starts d seed → map (λ c. seen see c) seed.cards.items ≡ cards_in works
       → (i j p q : ℕ) → i < j → slice_get (asked_in works) i ≡ Some p → slice_get (asked_in works) j ≡ Some q → p < q
   pub fit : (starts : List Start) (d : ℕ) (seed : DeskSeed S B L) (works : List WorkSeen) → IsSeed starter starts d seed → map (λ c. seen see c) seed.cards.items ≡ cards_in works
-      → (text : ℕ → List ℕ) → ((k : ℕ) (w : WorkSeen) → slice_get works k ≡ Some w → text w.card.path ≡ w.card.text) → FitAll (record { text = text; content = content_in works }) works
+      → (text name : ℕ → List ℕ) → ((k : ℕ) (w : WorkSeen) → slice_get works k ≡ Some w → label_of w.card ≡ (text w.card.path, name w.card.path))
+      → FitAll (record { text = text; name = name; content = content_in works }) works
 
 -- the works of a list, one by one
 card_there : (works : List WorkSeen) (k : ℕ) (w : WorkSeen) → slice_get works k ≡ Some w → slice_get (cards_in works) k ≡ Some w.card
@@ -160,9 +161,19 @@ abbrev pub text_or : Option PathPlan → List ℕ
 text_or None = []
 text_or (Some p) = p.path
 
--- the texts of paths
+abbrev pub name_or : Option PathPlan → List ℕ
+name_or None = []
+name_or (Some p) = p.object
+
+abbrev label_or : Option PathPlan → List ℕ × List ℕ
+label_or o = (text_or o, name_or o)
+
+-- the texts of paths, and the names of their objects
 abbrev pub texts_of : List PathPlan → ℕ → List ℕ
 texts_of paths n = text_or (slice_get paths n)
+
+abbrev pub names_of : List PathPlan → ℕ → List ℕ
+names_of paths n = name_or (slice_get paths n)
 
 -- a driver as it is found in the list
 at_it : (d : ℕ) (required : Bool) → is_at d (start.Desk d required) ≡ true
@@ -185,7 +196,7 @@ module _ {S B L : Type 0} (starter : S → StarterSeen) (see : Sight B L) (ahead
     works = h.back.works
 
     abbrev pub over : Paths
-    over = record { text = texts_of paths; content = content_in works }
+    over = record { text = texts_of paths; name = names_of paths; content = content_in works }
 
     -- a work is that of a path of the driver
     path_of : (k : ℕ) (w : WorkSeen) → slice_get works k ≡ Some w → (p : PathPlan) × (slice_get paths w.card.path ≡ Some p) × (is_at d p.start ≡ true) × IsCardFor object w.card.path p w.card
@@ -202,9 +213,9 @@ module _ {S B L : Type 0} (starter : S → StarterSeen) (see : Sight B L) (ahead
         (one.0, w.0, w.1, ap (λ (y : CardSeen). y.path) w.2 ∙ one.3)
 
     pub fits : FitAll over works
-    fits = laws.fit (starts_of paths) d seed works h.dealt h.back.cards (texts_of paths) (λ k w at.
+    fits = laws.fit (starts_of paths) d seed works h.dealt h.back.cards (texts_of paths) (names_of paths) (λ k w at.
         let p = path_of k w at in
-        ap text_or p.1 ∙ sym (ap (λ (y : CardSeen). y.text) (p.3).same))
+        ap label_of (p.3).same ∙ sym (ap label_or p.1))
 
     pub said : HasTalked d over (asked_in works) (starter seed.starter) (starter s) (notes (starts_of paths) d history) (EndsAt see (starts_of paths) history (leaf_at (starts_of paths) leaves) d)
     said = h.back.talked over fits
@@ -276,7 +287,7 @@ module _ {S B L : Type 0} (starter : S → StarterSeen) (see : Sight B L) (ahead
         let r = asked_where_read n p at is end.0 end.1 end.2 end.3 in
         r.4 ∙ (content_read begun.0 fate r.0 r.1 end.2 r.2 r.3 (ap is_no_memory same ∙ left) ∙ ap was_read same)
 
-    each_is : (n : ℕ) → contains n (asked_in works) ≡ true → (p : PathPlan) × (slice_get paths n ≡ Some p) × (is_at d p.start ≡ true) × (texts_of paths n ≡ p.path)
+    each_is : (n : ℕ) → contains n (asked_in works) ≡ true → (p : PathPlan) × (slice_get paths n ≡ Some p) × (is_at d p.start ≡ true) × (texts_of paths n ≡ p.path) × (names_of paths n ≡ p.object)
         × (ready : Prepared) × IsPreparedTo (object p.object) p ready × (content_in works n ≡ ready.bytes)
     each_is n has =
         let w = laws.each works n has in
@@ -284,7 +295,7 @@ module _ {S B L : Type 0} (starter : S → StarterSeen) (see : Sight B L) (ahead
         let at : slice_get paths n ≡ Some p.0 = ap (slice_get paths) (sym w.3) ∙ p.1 in
         let read = read_ready over w.1.card w.1.content (read_at works w.0 w.1 h.back.read w.2) (fit_at over works w.0 w.1 fits w.2).1 w.4 in
         let ready : IsPreparedTo (object (p.0).object) p.0 read.0 = prepares object p.0 w.1.card read.0 w.1.card.path p.3 read.1 in
-        (p.0, at, p.2, ap text_or at, read.0, ready, ap (content_in works) (sym w.3) ∙ read.2)
+        (p.0, at, p.2, ap text_or at, ap name_or at, read.0, ready, ap (content_in works) (sym w.3) ∙ read.2)
 
     -- the driver of the plan has this talk
     pub driver_talk : (verdicts : List Verdict) → IsEndTold paths history verdicts → IsDriverTalk ahead object paths verdicts history d x talk

@@ -182,8 +182,8 @@ module _ (object : List ℕ → Told) (ahead : List ℕ → Starts) (ps : List P
     read_in n p at is =
         let e = said.over.each n is in
         let same : e.0 ≡ p = same_Some e.0 p (sym e.1 ∙ at) in
-        let content : List ℕ = e.5.content in
-        (content, subst (λ (q : PathPlan). found_of (object q.object) q.object ≡ Ok content) same (gives_found (object (e.0).object) (e.0).object (Ok content) (g.told (e.0).object) e.5.object))
+        let content : List ℕ = e.6.content in
+        (content, subst (λ (q : PathPlan). found_of (object q.object) q.object ≡ Ok content) same (gives_found (object (e.0).object) (e.0).object (Ok content) (g.told (e.0).object) e.6.object))
 
     -- how a path of the driver ends
     pub desk_end_is : (n : ℕ) (p : PathPlan) (o : Outcome) (required : Bool) → slice_get ps n ≡ Some p → HasDeskVerdict required d t n (object p.object) p o o.verdict → is_no_memory o.verdict ≡ false → failed_leaves (leaf_back p o.leaf) ≡ 0

@@ -25,8 +25,8 @@ use Rattle.checkout_engine.specs.Prepared.{IsPreparedTo}
 use Rattle.checkout_engine.specs.Report.{is_no_memory}
 use Rattle.checkout_engine.specs.Workers.{starts_of}
 
--- What was said with one driver: its command, the texts and the prepared bytes of paths, the paths that it was to be
--- asked for, what came of its starts, and the exchanges that this spells.
+-- What was said with one driver: its command, the texts, the objects' names and the prepared bytes of paths, the paths
+-- that it was to be asked for, what came of its starts, and the exchanges that this spells.
 pub record DriverTalk : Type 0 where
   pub command : List ℕ
   pub paths : Paths
@@ -60,14 +60,14 @@ was_read (verdict.Failed fail.ReadFailed) = false
 was_read (verdict.Failed (fail.Object kind)) = false
 was_read v = true
 
--- The talk is over just those paths of the driver d whose object was read and prepared, in path order, with their texts
--- and their prepared bytes. A path that ran out of memory may be among them.
+-- The talk is over just those paths of the driver d whose object was read and prepared, in path order, with their
+-- texts, the names of their objects and their prepared bytes. A path that ran out of memory may be among them.
 pub record IsOverPaths (object : List ℕ → Told) (ps : List PathPlan) (verdicts : List Verdict) (d : ℕ)
     (t : DriverTalk) : Type 0 where
   pub asked : (n : ℕ) (p : PathPlan) (v : Verdict) → slice_get ps n ≡ Some p → slice_get verdicts n ≡ Some v
       → is_at d p.start ≡ true → is_no_memory v ≡ false → contains n t.asked ≡ was_read v
   pub each : (n : ℕ) → contains n t.asked ≡ true → (p : PathPlan) × (slice_get ps n ≡ Some p)
-      × (is_at d p.start ≡ true) × (t.paths.text n ≡ p.path)
+      × (is_at d p.start ≡ true) × (t.paths.text n ≡ p.path) × (t.paths.name n ≡ p.object)
       × (ready : Prepared) × IsPreparedTo (object p.object) p ready × (t.paths.content n ≡ ready.bytes)
   pub rises : (i j m n : ℕ) → i < j → slice_get t.asked i ≡ Some m → slice_get t.asked j ≡ Some n → m < n
 

@@ -11,7 +11,7 @@ use Rattle.checkout_core.specs.declared.verdict.Own.{Own}
 use Rattle.checkout_core.specs.declared.verdict.Own.TheVariants as own
 use Rattle.object_dir.specs.declared.fault.ObjectFault.{ObjectFault}
 use Rattle.object_dir.specs.declared.fault.ObjectFault.TheVariants as fault
-use Rattle.driver_desk.specs.Works.{own_of, ReadsTo, WorkSeen, ReadsAs, AreRead, FitAll, FitsWork, cards_in, card_paths, card_texts, AreNew}
+use Rattle.driver_desk.specs.Works.{own_of, ReadsTo, WorkSeen, ReadsAs, AreRead, FitAll, FitsWork, label_in, label_of, cards_in, card_paths, card_texts, AreNew}
 use Rattle.driver_desk.specs.Late.{LateView, IsLate, IsNewLate, KeepsNames, FitsNames, filled, is_filled}
 use Rattle.std.specs.Option.{option_map}
 use Rattle.delay_table.specs.Table.{Table, idle_table, is_pending}
@@ -83,8 +83,8 @@ next_planned s whole works rest rest1 c same e i new = (
   new,
 )
 
-pub text_of : (paths : Paths) (w : WorkSeen) (c : CardSeen) → w.card ≡ c → FitsWork paths w → paths.text c.path ≡ c.text
-text_of paths w c e h = subst (λ (x : CardSeen). paths.text x.path ≡ x.text) e h.0
+pub label_is : (paths : Paths) (w : WorkSeen) (c : CardSeen) → w.card ≡ c → FitsWork paths w → label_in paths c.path ≡ label_of c
+label_is paths w c e h = subst (λ (x : CardSeen). label_in paths x.path ≡ label_of x) e h.0
 
 pub sane_none : (o : Option SessionSeen) (late : List ℕ) → o ≡ None → late ≡ [] → IsAskable o late
 sane_none None late e l = l
@@ -97,7 +97,7 @@ serves_late d paths line0 given0 asked line given b late now e s = subst (λ (x 
 
 texts_fit : (paths : Paths) (works : List WorkSeen) → FitAll paths works → card_texts (cards_in works) ≡ map paths.text (card_paths (cards_in works))
 texts_fit paths [] h = refl
-texts_fit paths (w ∷ ws) h = two (sym h.0.0) (texts_fit paths ws h.1)
+texts_fit paths (w ∷ ws) h = two (sym (ap (λ (z : List ℕ × List ℕ). z.0) h.0.0)) (texts_fit paths ws h.1)
   where
     two : {x y : List ℕ} {xs ys : List (List ℕ)} → x ≡ y → xs ≡ ys → x ∷ xs ≡ y ∷ ys
     two {x} {y} {xs} {ys} e f = cc

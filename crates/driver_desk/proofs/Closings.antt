@@ -178,8 +178,8 @@ asked_again s s1 old now u put same1 h same kept = subst (λ (z : Standing). IsA
 pub planned_as : (s s1 : Standing) (c d : CardSeen) → s1 ≡ s → d ≡ c → IsPlanned s c → IsPlanned s1 d
 planned_as s s1 c d same is h = subst (λ (z : Standing). IsPlanned z d) (sym same) (subst (λ (x : CardSeen). IsPlanned s x) (sym is) h)
 
-pub grows_as : (s s1 : Standing) (old new : List LateSeen) (p q : ℕ) (text text1 : List ℕ) → s1 ≡ s → q ≡ p → text1 ≡ text → GrowsLate s old p text new → GrowsLate s1 old q text1 new
-grows_as s s1 old new p q text text1 same i j h = subst (λ (z : Standing). GrowsLate z old q text1 new) (sym same) (subst (λ (x : ℕ). GrowsLate s old x text1 new) (sym i) (subst (λ (x : List ℕ). GrowsLate s old p x new) (sym j) h))
+pub grows_as : (s s1 : Standing) (old new : List LateSeen) (p q : ℕ) (label label1 : List ℕ × List ℕ) → s1 ≡ s → q ≡ p → label1 ≡ label → GrowsLate s old p label new → GrowsLate s1 old q label1 new
+grows_as s s1 old new p q label label1 same i j h = subst (λ (z : Standing). GrowsLate z old q label1 new) (sym same) (subst (λ (x : ℕ). GrowsLate s old x label1 new) (sym i) (subst (λ (x : List ℕ × List ℕ). GrowsLate s old p x new) (sym j) h))
 
 -- where its object was read, the card is as before
 pub read_ok : {T : Type 0} (old new : CardSeen) (x : T) → KeepsCard old new → CountsRead old.blob.faults new.blob.faults (Ok x) → new ≡ old

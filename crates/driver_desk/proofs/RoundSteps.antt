@@ -26,12 +26,12 @@ use Rattle.driver_line.specs.Starters.{IsSameStarter}
 use Rattle.driver_line.specs.ToldStarts.{GoBy}
 use Rattle.driver_desk.specs.Serving.{IsServed, Given, Noted, noted_in, AllClosed, Holds}
 use Rattle.driver_desk.specs.Progress.{AreClosings, IsBare, EndsAsked, Talks, Serves, talk_now, newest}
-use Rattle.driver_desk.specs.Rounds.{round_of, minus, AreAmong, AreApart, AreWaiting, InRounds, TalkOver, RoundsBy, LateSeen, paths_of, AreReady, FitTexts, IsTaken, IsNext, GrowsLate, RedoneCards, TurnsBy}
+use Rattle.driver_desk.specs.Rounds.{round_of, minus, AreAmong, AreApart, AreWaiting, InRounds, TalkOver, RoundsBy, LateSeen, paths_of, AreReady, FitLabels, IsTaken, IsNext, GrowsLate, RedoneCards, TurnsBy}
 use Rattle.driver_desk.specs.Recorders.{Standing as Seat}
 use Rattle.driver_desk.specs.Cards.{IsReadCard}
 use Rattle.driver_desk.specs.Places.{naming_after}
 use Rattle.driver_desk.specs.Late.{LateView, KeepsNames, FitsNames, cards_of, names_at}
-use Rattle.driver_desk.specs.Works.{card_paths}
+use Rattle.driver_desk.specs.Works.{card_paths, label_in, label_of}
 use Rattle.driver_line.specs.Lines.{weight, number_at, names_in}
 use Rattle.convert_plan.specs.Card.{CardSeen}
 use Rattle.driver_desk.proofs.Serves.{answers_more, all_more, all_mono, all_bare, asked_holds, second_answer, runs_more, notes_more, noted_more, talk_more, one_step, leads_more, leads_run, leads_from}
@@ -354,7 +354,7 @@ ready_split : (s : Seat) (before after : List LateSeen) (c : LateSeen) → AreRe
 ready_split s [] after c h = (h.0, h.1)
 ready_split s (b ∷ bs) after c h = let rest = ready_split s bs after c h.1 in (rest.0, (h.0, rest.1))
 
-fit_split : (paths : Paths) (before after : List LateSeen) (c : LateSeen) → FitTexts paths (before ++ c ∷ after) → (paths.text c.card.path ≡ c.card.text) × FitTexts paths (before ++ after)
+fit_split : (paths : Paths) (before after : List LateSeen) (c : LateSeen) → FitLabels paths (before ++ c ∷ after) → (label_in paths c.card.path ≡ label_of c.card) × FitLabels paths (before ++ after)
 fit_split paths [] after c h = (h.0, h.1)
 fit_split paths (b ∷ bs) after c h = let rest = fit_split paths bs after c h.1 in (rest.0, (h.0, rest.1))
 
@@ -368,10 +368,10 @@ ready_as s s1 cs same h = subst (λ (z : Seat). AreReady z cs) (sym same) h
 pub read_as : (s s1 : Seat) (c : CardSeen) (u : Bool) → s1 ≡ s → IsReadCard s c u → IsReadCard s1 c u
 read_as s s1 c u same h = subst (λ (z : Seat). IsReadCard z c u) (sym same) h
 
-pub taken_fits : (paths : Paths) (p : ℕ) (old new : List LateSeen) (c : LateSeen) → IsTaken p old c new → FitTexts paths old → (paths.text p ≡ c.card.text) × FitTexts paths new
+pub taken_fits : (paths : Paths) (p : ℕ) (old new : List LateSeen) (c : LateSeen) → IsTaken p old c new → FitLabels paths old → (label_in paths p ≡ label_of c.card) × FitLabels paths new
 taken_fits paths p old new c t h =
-    let r = fit_split paths t.before t.after c (subst (FitTexts paths) t.was h) in
-    (ap paths.text (sym t.named) ∙ r.0, subst (FitTexts paths) (sym t.left) r.1)
+    let r = fit_split paths t.before t.after c (subst (FitLabels paths) t.was h) in
+    (ap (label_in paths) (sym t.named) ∙ r.0, subst (FitLabels paths) (sym t.left) r.1)
 
 pub taken_apart : (p : ℕ) (old new : List LateSeen) (c : LateSeen) → IsTaken p old c new → AreApart (paths_of old) → AreApart (paths_of new)
 taken_apart p old new c t h = subst (λ (x : List LateSeen). AreApart (paths_of x)) (sym t.left) (apart_split t.before t.after c (subst (λ (x : List LateSeen). AreApart (paths_of x)) t.was h)).0
@@ -466,19 +466,19 @@ ready_push : (s : Seat) (cs : List LateSeen) (c : LateSeen) → IsReadCard s c.c
 ready_push s [] c r h = (r, tt)
 ready_push s (x ∷ xs) c r h = (h.0, ready_push s xs c r h.1)
 
-pub grows_ready : (s : Seat) (old new : List LateSeen) (path : ℕ) (text : List ℕ) → GrowsLate s old path text new → AreReady s old → AreReady s new
-grows_ready s old new path text (inl e) h = subst (AreReady s) (sym e) h
-grows_ready s old new path text (inr (inl e)) h = subst (AreReady s) (sym e.1) (ready_push s old e.0 e.2 h)
-grows_ready s old new path text (inr (inr e)) h = subst (AreReady s) (sym e) tt
+pub grows_ready : (s : Seat) (old new : List LateSeen) (path : ℕ) (label : List ℕ × List ℕ) → GrowsLate s old path label new → AreReady s old → AreReady s new
+grows_ready s old new path label (inl e) h = subst (AreReady s) (sym e) h
+grows_ready s old new path label (inr (inl e)) h = subst (AreReady s) (sym e.1) (ready_push s old e.0 e.2 h)
+grows_ready s old new path label (inr (inr e)) h = subst (AreReady s) (sym e) tt
 
-fits_push : (paths : Paths) (cs : List LateSeen) (c : LateSeen) → paths.text c.card.path ≡ c.card.text → FitTexts paths cs → FitTexts paths (cs ++ c ∷ [])
+fits_push : (paths : Paths) (cs : List LateSeen) (c : LateSeen) → label_in paths c.card.path ≡ label_of c.card → FitLabels paths cs → FitLabels paths (cs ++ c ∷ [])
 fits_push paths [] c r h = (r, tt)
 fits_push paths (x ∷ xs) c r h = (h.0, fits_push paths xs c r h.1)
 
-pub grows_fits : (s : Seat) (paths : Paths) (old new : List LateSeen) (path : ℕ) (text : List ℕ) → GrowsLate s old path text new → paths.text path ≡ text → FitTexts paths old → FitTexts paths new
-grows_fits s paths old new path text (inl e) r h = subst (FitTexts paths) (sym e) h
-grows_fits s paths old new path text (inr (inl e)) r h = subst (FitTexts paths) (sym e.1) (fits_push paths old e.0 (ap paths.text e.3 ∙ (r ∙ sym e.4)) h)
-grows_fits s paths old new path text (inr (inr e)) r h = subst (FitTexts paths) (sym e) tt
+pub grows_fits : (s : Seat) (paths : Paths) (old new : List LateSeen) (path : ℕ) (label : List ℕ × List ℕ) → GrowsLate s old path label new → label_in paths path ≡ label → FitLabels paths old → FitLabels paths new
+grows_fits s paths old new path label (inl e) r h = subst (FitLabels paths) (sym e) h
+grows_fits s paths old new path label (inr (inl e)) r h = subst (FitLabels paths) (sym e.1) (fits_push paths old e.0 (ap (label_in paths) e.3 ∙ (r ∙ sym e.4)) h)
+grows_fits s paths old new path label (inr (inr e)) r h = subst (FitLabels paths) (sym e) tt
 
 pub has_append : (q : ℕ) (xs ys : List ℕ) → contains q ys ≡ true → contains q (xs ++ ys) ≡ true
 has_append q [] ys h = h
@@ -520,14 +520,14 @@ pub paths_push : (cs : List LateSeen) (c : LateSeen) → paths_of (cs ++ c ∷ [
 paths_push [] c = refl
 paths_push (x ∷ xs) c = ap (λ (ps : List ℕ). x.card.path ∷ ps) (paths_push xs c)
 
-pub grows_apart : (s : Seat) (old new : List LateSeen) (text : List ℕ) (rest rest1 : List CardSeen) (w : CardSeen) → GrowsLate s old w.path text new → rest ≡ w ∷ rest1 → AreApart (paths_of old ++ card_paths rest) → AreApart (paths_of new ++ card_paths rest1)
-grows_apart s old new text rest rest1 w (inl e) i h =
+pub grows_apart : (s : Seat) (old new : List LateSeen) (label : List ℕ × List ℕ) (rest rest1 : List CardSeen) (w : CardSeen) → GrowsLate s old w.path label new → rest ≡ w ∷ rest1 → AreApart (paths_of old ++ card_paths rest) → AreApart (paths_of new ++ card_paths rest1)
+grows_apart s old new label rest rest1 w (inl e) i h =
     subst (λ (x : List LateSeen). AreApart (paths_of x ++ card_paths rest1)) (sym e) (apart_drop w.path (paths_of old) (card_paths rest1) (rw i at h))
-grows_apart s old new text rest rest1 w (inr (inl e)) i h =
+grows_apart s old new label rest rest1 w (inr (inl e)) i h =
     subst (λ (x : List LateSeen). AreApart (paths_of x ++ card_paths rest1)) (sym e.1)
     (subst (λ (x : List ℕ). AreApart (x ++ card_paths rest1)) (sym (paths_push old e.0))
     (subst AreApart (sym (append_assoc (paths_of old) (e.0.card.path ∷ []) (card_paths rest1))) (subst (λ (x : ℕ). AreApart (paths_of old ++ x ∷ card_paths rest1)) (sym e.3) (rw i at h))))
-grows_apart s old new text rest rest1 w (inr (inr e)) i h =
+grows_apart s old new label rest rest1 w (inr (inr e)) i h =
     subst (λ (x : List LateSeen). AreApart (paths_of x ++ card_paths rest1)) (sym e) (apart_last (paths_of old) (card_paths rest1) (apart_drop w.path (paths_of old) (card_paths rest1) (rw i at h)))
 
 -- the end of a talk

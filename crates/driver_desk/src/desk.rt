@@ -6,7 +6,7 @@ ghost use Rattle.convert_plan.specs.Card.{CardSeen, card_seen, IsNewCard};
 ghost use Rattle.driver_line.specs.Lines.{LineView, Paths, starts_of};
 ghost use Rattle.driver_desk.specs.Late.{AreIdle, FitsNames, IsNewLate, KeepsNames, StaysUnlisted, cards_of};
 ghost use Rattle.delay_table.specs.Table.{IsRising};
-ghost use Rattle.driver_desk.specs.Rounds.{paths_of, AreApart, AreReady, FitTexts, TalkOver};
+ghost use Rattle.driver_desk.specs.Rounds.{paths_of, AreApart, AreReady, FitLabels, TalkOver};
 ghost use Rattle.driver_desk.specs.Added.{AddsRead, AddsWorks};
 ghost use Rattle.driver_desk.specs.Desks.{IsDealt, AreThrough};
 ghost use Rattle.driver_desk.specs.Ties.{AreTied};
@@ -64,7 +64,7 @@ fn serve_all<S: Starter, B: Blob, L: Leaf, C: Recorder<B, L>, G: Gate>(
         → Serves service.now.seat.driver paths line0 given0 asked [] line.old (C.given recorder.old) false []
         → Serves service.now.seat.driver paths line0 given0 (asked ++ asked_in works) [] line.new
         (C.given recorder.new) result (newest (paths_of (cards_of late.new))))
-        × ((paths : Paths) → FitAll paths works → FitTexts paths (cards_of late.new))
+        × ((paths : Paths) → FitAll paths works → FitLabels paths (cards_of late.new))
         × AddsWorks works (C.given recorder.old) (C.given recorder.new) }
     ensures ready { AreReady (C.standing recorder.old) (cards_of late.new) }
     ensures apart { AreApart (paths_of (cards_of late.new)) }

@@ -5,8 +5,9 @@ ghost use Rattle.convert_plan.specs.Card.{card_seen};
 ghost use Rattle.driver_line.specs.Conversations.{list_notes};
 ghost use Rattle.driver_line.specs.Lines.{LineView, Paths, IsOpen, names_in, weight};
 ghost use Rattle.driver_desk.specs.Late.{FitsNames, KeepsNames, cards_of, names_at};
-ghost use Rattle.driver_desk.specs.Rounds.{paths_of, AreReady, AreApart, FitTexts, IsNext, RedoneCards, RoundsBy};
+ghost use Rattle.driver_desk.specs.Rounds.{paths_of, AreReady, AreApart, FitLabels, IsNext, RedoneCards, RoundsBy};
 ghost use Rattle.driver_desk.specs.Rounds.{TalkOver, TurnsBy};
+ghost use Rattle.driver_desk.specs.Works.{label_in};
 ghost use Rattle.checkout_core.specs.Talks.{contains};
 ghost use Rattle.driver_desk.specs.Added.{AddsRead};
 ghost use Rattle.driver_desk.specs.Cards.{IsReadCard};
@@ -111,7 +112,7 @@ fn redo<S: Starter, B: Blob, L: Leaf, C: Recorder<B, L>>(
     ensures sound { C.sound recorder.new }
     ensures read { AddsRead (C.given recorder.old) (C.given recorder.new) }
     ensures rounds { (paths : Paths) (line0 : LineView) (given0 : List Given) (asked turns cards left : List ℕ)
-        → paths.text work.card.path ≡ work.card.text → RedoneCards cards work.card.path left
+        → label_in paths work.card.path ≡ (work.card.text, work.card.object) → RedoneCards cards work.card.path left
         → RoundsBy seat.driver paths line0 given0 asked line.old.session line.old (C.given recorder.old) cards
         (work.card.path ∷ turns)
         → RoundsBy seat.driver paths line0 given0 asked line.new.session line.new (C.given recorder.new) left turns }
@@ -120,7 +121,7 @@ fn redo<S: Starter, B: Blob, L: Leaf, C: Recorder<B, L>>(
     desk_laws();
     let path = work.card.path;
     let lent = &mut work.card;
-    let Asked { reply, put } = line.ask_again(lent.text.as_slice(), &mut lent.leaf);
+    let Asked { reply, put } = line.ask_again(lent.text.as_slice(), &lent.object, &mut lent.leaf);
     recorder.note(Event::Redone { path, reply });
     end_told(work, seat.required, reply, put, recorder);
 }
@@ -147,7 +148,7 @@ fn redo_all<S: Starter, B: Blob, L: Leaf, C: Recorder<B, L>>(
     ensures sound { C.sound recorder.new }
     ensures read { AddsRead (C.given recorder.old) (C.given recorder.new) }
     ensures rounds { (paths : Paths) (line0 : LineView) (given0 : List Given) (asked : List ℕ)
-        → FitTexts paths (cards_of late.old)
+        → FitLabels paths (cards_of late.old)
         → RoundsBy seat.driver paths line0 given0 asked line.old.session line.old (C.given recorder.old) (paths_of
         (cards_of late.old)) (names_at late.old)
         → RoundsBy seat.driver paths line0 given0 asked line.new.session line.new (C.given recorder.new) (paths_of
@@ -156,7 +157,7 @@ fn redo_all<S: Starter, B: Blob, L: Leaf, C: Recorder<B, L>>(
     ensures turns { TurnsBy line.new.session late.new.table.turns }
     ensures ready { AreReady (C.standing recorder.old) (cards_of late.new) }
     ensures apart { AreApart (paths_of (cards_of late.new)) }
-    ensures fits { (paths : Paths) → FitTexts paths (cards_of late.old) → FitTexts paths (cards_of late.new) }
+    ensures fits { (paths : Paths) → FitLabels paths (cards_of late.old) → FitLabels paths (cards_of late.new) }
     ensures names { KeepsNames late.old late.new }
     ensures shuts { line.old.session ≡ None → line.new.session ≡ None }
     ensures len { length (cards_of late.new) ≤ length (cards_of late.old) }
@@ -194,7 +195,7 @@ fn one_round<S: Starter, B: Blob, L: Leaf, C: Recorder<B, L>>(
     ensures sound { C.sound recorder.new }
     ensures read { AddsRead (C.given recorder.old) (C.given recorder.new) }
     ensures rounds { (paths : Paths) (line0 : LineView) (given0 : List Given) (asked : List ℕ)
-        → FitTexts paths (cards_of late.old) → FitsNames paths late.old
+        → FitLabels paths (cards_of late.old) → FitsNames paths late.old
         → RoundsBy seat.driver paths line0 given0 asked line.old.session line.old (C.given recorder.old) (paths_of
         (cards_of late.old)) []
         → RoundsBy seat.driver paths line0 given0 asked line.new.session line.new (C.given recorder.new) (paths_of
@@ -203,7 +204,7 @@ fn one_round<S: Starter, B: Blob, L: Leaf, C: Recorder<B, L>>(
     ensures turns { TurnsBy line.new.session late.new.table.turns }
     ensures ready { AreReady (C.standing recorder.old) (cards_of late.new) }
     ensures apart { AreApart (paths_of (cards_of late.new)) }
-    ensures fits { (paths : Paths) → FitTexts paths (cards_of late.old) → FitTexts paths (cards_of late.new) }
+    ensures fits { (paths : Paths) → FitLabels paths (cards_of late.old) → FitLabels paths (cards_of late.new) }
     ensures names { KeepsNames late.old late.new }
     ensures fewer { weight line.new.session + length (cards_of late.new) < 1 + length (cards_of late.old) }
 {
@@ -234,7 +235,7 @@ fn rounds<S: Starter, B: Blob, L: Leaf, C: Recorder<B, L>>(
     ensures sound { C.sound recorder.new }
     ensures read { AddsRead (C.given recorder.old) (C.given recorder.new) }
     ensures over { (paths : Paths) (line0 : LineView) (given0 : List Given) (asked : List ℕ)
-        → FitTexts paths (cards_of late.old) → FitsNames paths late.old
+        → FitLabels paths (cards_of late.old) → FitsNames paths late.old
         → RoundsBy seat.driver paths line0 given0 asked line.old.session line.old (C.given recorder.old) (paths_of
         (cards_of late.old)) []
         → TalkOver seat.driver paths line0 given0 asked line.new (C.given recorder.new) }
@@ -268,7 +269,7 @@ pub(crate) fn end_talk<S: Starter, B: Blob, L: Leaf, C: Recorder<B, L>>(
     ensures sound { C.sound recorder.new }
     ensures read { AddsRead (C.given recorder.old) (C.given recorder.new) }
     ensures over { (paths : Paths) (line0 : LineView) (given0 : List Given) (asked : List ℕ)
-        → FitTexts paths (cards_of late.old) → FitsNames paths late.old
+        → FitLabels paths (cards_of late.old) → FitsNames paths late.old
         → Serves seat.driver paths line0 given0 asked [] line.old (C.given recorder.old) false (newest (paths_of
         (cards_of late.old)))
         → TalkOver seat.driver paths line0 given0 asked line.new (C.given recorder.new) }

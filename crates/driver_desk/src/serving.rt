@@ -9,7 +9,7 @@ ghost use Rattle.driver_desk.specs.Rounds.{paths_of, AreApart, AreReady, GrowsLa
 ghost use Rattle.driver_desk.specs.Serving.{Given};
 ghost use Rattle.driver_desk.specs.Progress.{AreClosings, EndsPut, IsBare, Serves, newest, IsAskable};
 ghost use Rattle.driver_desk.specs.Progress.{late_after, is_abort};
-ghost use Rattle.driver_desk.specs.Works.{WorkSeen, ReadsAs, FitsWork, asked_of};
+ghost use Rattle.driver_desk.specs.Works.{WorkSeen, ReadsAs, FitsWork, asked_of, label_in};
 ghost use Rattle.checkout_core.specs.Conditions.{heard_opening};
 ghost use Rattle.checkout_core.specs.declared.path.Heard.{Heard};
 ghost use Rattle.checkout_core.specs.Fates.{Known, fate_here};
@@ -183,7 +183,6 @@ fn keep_ready<B: Blob, L: Leaf>(
     required: bool,
 ) -> Work<B, L>
     ensures path { result.card.path ≡ card.path }
-    ensures text { result.card.text ≡ card.text }
     ensures card { card_seen B.told B.seen L.seen result.card
         ≡ record (card_seen B.told B.seen L.seen card) { ready = ready_of required prepared card.ready } }
     ensures flag { result.unencoded ≡ prepared.unencoded }
@@ -225,8 +224,8 @@ fn after_reply<B: Blob, L: Leaf, C: Recorder<B, L>>(
     ensures fixed { C.fixed recorder.new ≡ C.fixed recorder.old }
     ensures sound { C.sound recorder.new }
     ensures read { AddsRead (C.given recorder.old) (C.given recorder.new) }
-    ensures cards { GrowsLate (C.standing recorder.old) (cards_of late.old) work.card.path work.card.text
-        (cards_of late.new) }
+    ensures cards { GrowsLate (C.standing recorder.old) (cards_of late.old) work.card.path
+        (work.card.text, work.card.object) (cards_of late.new) }
     ensures late { newest (paths_of (cards_of late.new))
         ≡ late_after work.card.path asked.reply (newest (paths_of (cards_of late.old))) }
     ensures closed { AreClosings (EndsPut asked.reply asked.put work.card.path (L.seen work.card.leaf).content)
@@ -280,13 +279,14 @@ fn ask_card<S: Starter, B: Blob, L: Leaf, C: Recorder<B, L>, G: Gate>(
     ensures sound { C.sound recorder.new }
     ensures read { AddsRead (C.given recorder.old) (C.given recorder.new) }
     ensures serves { (paths : Paths) (line0 : LineView) (given0 : List Given) (asked : List ℕ)
-        → paths.text placed.card.path ≡ placed.card.text → paths.content placed.card.path ≡ prepared.bytes
+        → label_in paths placed.card.path ≡ (placed.card.text, placed.card.object)
+        → paths.content placed.card.path ≡ prepared.bytes
         → Serves service.now.seat.driver paths line0 given0 asked (placed.card.path ∷ []) line.old
         (C.given recorder.old) false (newest (paths_of (cards_of late.old)))
         → Serves service.now.seat.driver paths line0 given0 (asked ++ placed.card.path ∷ []) [] line.new
         (C.given recorder.new) result (newest (paths_of (cards_of late.new))) }
-    ensures cards { GrowsLate (C.standing recorder.old) (cards_of late.old) placed.card.path placed.card.text
-        (cards_of late.new) }
+    ensures cards { GrowsLate (C.standing recorder.old) (cards_of late.old) placed.card.path
+        (placed.card.text, placed.card.object) (cards_of late.new) }
     ensures done { result ≡ true → line.new.session ≡ None }
     ensures askable { IsAskable line.new.session (newest (paths_of (cards_of late.new))) }
     ensures names { KeepsNames late.old late.new }
@@ -300,6 +300,7 @@ fn ask_card<S: Starter, B: Blob, L: Leaf, C: Recorder<B, L>, G: Gate>(
     let lent = &mut card;
     let asked = line.ask(
         lent.text.as_slice(),
+        &lent.object,
         prepared.bytes.as_slice(),
         &mut lent.leaf,
     );
@@ -378,13 +379,14 @@ fn serve_card<S: Starter, B: Blob, L: Leaf, C: Recorder<B, L>, G: Gate>(
     ensures sound { C.sound recorder.new }
     ensures read { AddsRead (C.given recorder.old) (C.given recorder.new) }
     ensures serves { (paths : Paths) (line0 : LineView) (given0 : List Given) (asked : List ℕ)
-        → paths.text placed.card.path ≡ placed.card.text → paths.content placed.card.path ≡ prepared.bytes
+        → label_in paths placed.card.path ≡ (placed.card.text, placed.card.object)
+        → paths.content placed.card.path ≡ prepared.bytes
         → Serves service.now.seat.driver paths line0 given0 asked [] line.old (C.given recorder.old) false
         (newest (paths_of (cards_of late.old)))
         → Serves service.now.seat.driver paths line0 given0 (asked ++ placed.card.path ∷ []) [] line.new
         (C.given recorder.new) result (newest (paths_of (cards_of late.new))) }
-    ensures cards { GrowsLate (C.standing recorder.old) (cards_of late.old) placed.card.path placed.card.text
-        (cards_of late.new) }
+    ensures cards { GrowsLate (C.standing recorder.old) (cards_of late.old) placed.card.path
+        (placed.card.text, placed.card.object) (cards_of late.new) }
     ensures done { result ≡ true → line.new.session ≡ None }
     ensures askable { IsAskable line.new.session (newest (paths_of (cards_of late.new))) }
     ensures names { KeepsNames late.old late.new }
@@ -443,8 +445,8 @@ pub(crate) fn serve_one<S: Starter, B: Blob, L: Leaf, C: Recorder<B, L>, G: Gate
         → Serves service.now.seat.driver paths line0 given0 (asked ++ asked_of w.card.path w.content) [] line.new
         (C.given recorder.new) result (newest (paths_of (cards_of late.new))))
         × AddsWork w.card.path w.content (C.given recorder.old) (C.given recorder.new) }
-    ensures cards { GrowsLate (C.standing recorder.old) (cards_of late.old) placed.card.path placed.card.text
-        (cards_of late.new) }
+    ensures cards { GrowsLate (C.standing recorder.old) (cards_of late.old) placed.card.path
+        (placed.card.text, placed.card.object) (cards_of late.new) }
     ensures done { result ≡ true → line.new.session ≡ None }
     ensures askable { IsAskable line.new.session (newest (paths_of (cards_of late.new))) }
     ensures names { KeepsNames late.old late.new }

@@ -488,10 +488,10 @@ effect paths v w s (Opening p (Broke c)) is st q says = absurd (cc (sym is ∙ s
 effect paths v w s (Opening p OutOfMemory) is st q says = absurd (cc (sym is ∙ says.2.closed))
 effect paths v w s (First p r content) is st q says =
     let same = same_some says.0 s (sym says.1 ∙ is) in
-    asked_effect s.caps.delay paths v w s (First p r content) r content (subst (λ (z : SessionSeen). IsAsked z.caps.delay (first_text (paths.text p) z.caps.delay (paths.content p)) v z r content w) same says.2) (λ used rest part. part) (first_break p r content) (first_wants p r content) (λ e. e) st q
+    asked_effect s.caps.delay paths v w s (First p r content) r content (subst (λ (z : SessionSeen). IsAsked z.caps.delay (first_text (paths.text p) (paths.name p) z.caps.delay (paths.content p)) v z r content w) same says.2) (λ used rest part. part) (first_break p r content) (first_wants p r content) (λ e. e) st q
 effect paths v w s (Second p r content) is st q says =
     let same = same_some says.0 s (sym says.1 ∙ is) in
-    asked_effect false paths v w s (Second p r content) r content (subst (λ (z : SessionSeen). IsAsked false (second_text (paths.text p)) v z r content w) same says.2) (λ used rest part. part) (second_break p r content) (second_wants p r content) (λ e. e) st q
+    asked_effect false paths v w s (Second p r content) r content (subst (λ (z : SessionSeen). IsAsked false (second_text (paths.text p) (paths.name p)) v z r content w) same says.2) (λ used rest part. part) (second_break p r content) (second_wants p r content) (λ e. e) st q
 effect paths v w s (Listing late names r) is st q says =
     let same = same_some says.0 s (sym says.1 ∙ is) in
     listed_effect paths v w s late names r (subst (λ (z : SessionSeen). IsListed paths (map paths.text late) v z names r w) same says.2) st q

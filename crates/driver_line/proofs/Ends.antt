@@ -177,17 +177,17 @@ after_over_as standing.Over old new s wire nope h = h
 pub after_over : (old new : LineView) (s u : SessionSeen) (r : Reply) → u.standing ≡ standing_after r → (u.standing ≡ standing.Live → ⊥) → IsEnded old.starter u.wire u.standing new → After old s u.wire (standing_after r) new
 after_over old new s u r is nope h = subst (λ (z : Standing). After old s u.wire z new) is (after_over_as u.standing old new s u.wire nope h)
 
-pub first_says : (p : ℕ) (text content : List ℕ) (old new : LineView) (s : SessionSeen) (wire : Wire) (before leaf : LeafSeen) (put : Result ⊤ SendFault) (r : Reply) → old.session ≡ Some s → s.standing ≡ standing.Live → s.caps.smudge ≡ true
-    → HasAnswered s.caps.delay (first_text text s.caps.delay content) s.wire wire before leaf put r → After old s wire (standing_after r) new
-    → (c : List ℕ) × ((paths : Paths) → paths.text p ≡ text → paths.content p ≡ content → Says paths old (First p r c) new) × IsLeafAfter before leaf put r c
-first_says p text content old new s wire before leaf put r is live smudge h after =
-    (h.content, (λ paths e i. (s, is, record { wire = wire; live = live; smudge = smudge; exchange = rw (e, i) h.exchange; after = after })), h.leaf)
+pub first_says : (p : ℕ) (text name content : List ℕ) (old new : LineView) (s : SessionSeen) (wire : Wire) (before leaf : LeafSeen) (put : Result ⊤ SendFault) (r : Reply) → old.session ≡ Some s → s.standing ≡ standing.Live → s.caps.smudge ≡ true
+    → HasAnswered s.caps.delay (first_text text name s.caps.delay content) s.wire wire before leaf put r → After old s wire (standing_after r) new
+    → (c : List ℕ) × ((paths : Paths) → paths.text p ≡ text → paths.name p ≡ name → paths.content p ≡ content → Says paths old (First p r c) new) × IsLeafAfter before leaf put r c
+first_says p text name content old new s wire before leaf put r is live smudge h after =
+    (h.content, (λ paths e n i. (s, is, record { wire = wire; live = live; smudge = smudge; exchange = rw (e, n, i) h.exchange; after = after })), h.leaf)
 
-pub second_says : (p : ℕ) (text : List ℕ) (old new : LineView) (s : SessionSeen) (wire : Wire) (before leaf : LeafSeen) (put : Result ⊤ SendFault) (r : Reply) → old.session ≡ Some s → s.standing ≡ standing.Live → s.caps.smudge ≡ true
-    → HasAnswered false (second_text text) s.wire wire before leaf put r → After old s wire (standing_after r) new
-    → (c : List ℕ) × ((paths : Paths) → paths.text p ≡ text → Says paths old (Second p r c) new) × IsLeafAfter before leaf put r c
-second_says p text old new s wire before leaf put r is live smudge h after =
-    (h.content, (λ paths e. (s, is, record { wire = wire; live = live; smudge = smudge; exchange = rw e h.exchange; after = after })), h.leaf)
+pub second_says : (p : ℕ) (text name : List ℕ) (old new : LineView) (s : SessionSeen) (wire : Wire) (before leaf : LeafSeen) (put : Result ⊤ SendFault) (r : Reply) → old.session ≡ Some s → s.standing ≡ standing.Live → s.caps.smudge ≡ true
+    → HasAnswered false (second_text text name) s.wire wire before leaf put r → After old s wire (standing_after r) new
+    → (c : List ℕ) × ((paths : Paths) → paths.text p ≡ text → paths.name p ≡ name → Says paths old (Second p r c) new) × IsLeafAfter before leaf put r c
+second_says p text name old new s wire before leaf put r is live smudge h after =
+    (h.content, (λ paths e n. (s, is, record { wire = wire; live = live; smudge = smudge; exchange = rw (e, n) h.exchange; after = after })), h.leaf)
 
 goes_over_as : (z : Standing) (s : SessionSeen) (new : Option SessionSeen) → (z ≡ standing.Live → ⊥) → new ≡ None → GoesOn s z new
 goes_over_as standing.Live s new nope e = absurd (nope refl)

@@ -17,20 +17,21 @@ use Rattle.edge_kit.specs.Starters.{Had, Session, StartFailed, StartOutOfMemory,
 use Rattle.filter_proto.specs.Exchanges.{Ends, Good, Broke, OutOfMemory}
 use Rattle.filter_proto.specs.Openings.{IsOpening}
 use Rattle.checkout_core.specs.declared.path.Heard.{Heard}
-use Rattle.checkout_core.specs.Fates.{Fate, Untold, Later, Known}
+use Rattle.checkout_core.specs.Fates.{Fate}
 use Rattle.checkout_core.specs.Talks.{Talk, Between, IsOver, contains}
 use Rattle.driver_line.specs.Conversations.{Exchange, NoStart, NoRoom, Opening, First, Listing, Second, Shutting, notes_in}
 use Rattle.driver_line.specs.Lines.{Paths}
-use Rattle.driver_line.specs.SameHeard.{HaveTexts, HaveSameTexts}
-use Rattle.driver_line.specs.EqualSessions.{HaveSamePaths, EqualSessions}
+use Rattle.driver_line.specs.SameHeard.{HaveTexts, HaveSameTexts, HaveSamePaths}
+use Rattle.driver_line.specs.EqualSessions.{EqualSessions}
 use Rattle.driver_line.specs.Parts.{IsPartOf}
 use Rattle.driver_line.specs.ToldStarts.{Fills}
 use Rattle.driver_line.specs.Transcripts.{AnswerIs, MayCut, HasNothing, Spoken, FitsCounts, AllFit, IsOpenedSession, IsFailedSession, IsSession, Matches, break_of, wants, request_of}
 use Rattle.driver_line.proofs.Calm.{calm, calmed, Goes, part_calm, answer_calm, goes_calm, wants_calm, never_linked, calm_never, told_apart}
 use Rattle.driver_line.proofs.Failed.{hand_plain}
+use Rattle.driver_line.proofs.Requests.{same_due, same_request}
 use Rattle.driver_line.proofs.Told.{grown_both}
-use Rattle.driver_line.proofs.TalkDue.{Due, Start, Ask, AskAgain, Lists, Shuts, Nothing, due_of, due_at, due_is}
-use Rattle.driver_line.proofs.SameStates.{Stands, Alike, Runs, after, alike_none, to_alike, both_more, wanted, bare_ends, no_room, no_opening, ask_untold, again_later}
+use Rattle.driver_line.proofs.TalkDue.{Start, due_of, due_at, due_is}
+use Rattle.driver_line.proofs.SameStates.{Stands, Alike, Runs, after, alike_none, to_alike, both_more, wanted, bare_ends, no_room, no_opening}
 use Rattle.driver_line.proofs.SameExchanges.{IsRead, ReplyLaw, ListLaw, same_exchange, part_of, settled_break}
 use Rattle.driver_line.proofs.SameSessions.{IsOutside, same_left, over_too}
 use Rattle.driver_line.proofs.SameTalks.{IsToldSession, IsAnswerTo, HandLaw, told_taken, all_grown, heard_answer, failed_part, outside_of, failed_starts, first_fate, first_spared, same_first, begins}
@@ -51,41 +52,22 @@ list_filled : 0 < length list_text
 unfolding list_text
 list_filled = filled _ _ _ _
 
-first_filled : (path : List ℕ) (d : Bool) (content : List ℕ) → 0 < length (first_text path d content)
+first_filled : (path name : List ℕ) (d : Bool) (content : List ℕ) → 0 < length (first_text path name d content)
 unfolding first_text
-first_filled path d content = filled _ _ _ _
+first_filled path name d content = filled _ _ _ _
 
-second_filled : (path : List ℕ) → 0 < length (second_text path)
+second_filled : (path name : List ℕ) → 0 < length (second_text path name)
 unfolding second_text
-second_filled path = first_filled path false []
+second_filled path name = first_filled path name false []
 
 request_filled : (paths : Paths) (caps : Caps) (e : Exchange) → MayCut e → 0 < length (request_of paths caps e)
-request_filled paths caps (First p r c) h = first_filled (paths.text p) caps.delay (paths.content p)
-request_filled paths caps (Second p r c) h = second_filled (paths.text p)
+request_filled paths caps (First p r c) h = first_filled (paths.text p) (paths.name p) caps.delay (paths.content p)
+request_filled paths caps (Second p r c) h = second_filled (paths.text p) (paths.name p)
 request_filled paths caps (Listing late names r) h = list_filled
 request_filled paths caps Shutting h = elim h [ inl k ↦ absurd (cc k) | inr k ↦ absurd (cc k) ]
 request_filled paths caps (NoStart p) h = elim h [ inl k ↦ absurd (cc k) | inr k ↦ absurd (cc k) ]
 request_filled paths caps (NoRoom p) h = elim h [ inl k ↦ absurd (cc k) | inr k ↦ absurd (cc k) ]
 request_filled paths caps (Opening p end) h = elim h [ inl k ↦ absurd (cc k) | inr k ↦ absurd (cc k) ]
-
--- the request of what comes next
-
-abbrev request_at : Paths → Caps → Due → List ℕ
-request_at paths caps (Ask p) = first_text (paths.text p) caps.delay (paths.content p)
-request_at paths caps (AskAgain p) = second_text (paths.text p)
-request_at paths caps Lists = list_text
-request_at paths caps (Start p) = []
-request_at paths caps Shuts = []
-request_at paths caps Nothing = []
-
-request_due : (paths : Paths) (caps : Caps) (e : Exchange) → request_of paths caps e ≡ request_at paths caps (due_of e)
-request_due paths caps (First p r c) = refl
-request_due paths caps (Second p r c) = refl
-request_due paths caps (Listing late names r) = refl
-request_due paths caps Shutting = refl
-request_due paths caps (NoStart p) = refl
-request_due paths caps (NoRoom p) = refl
-request_due paths caps (Opening p end) = refl
 
 -- a text that was cut isn't the front of what was sent
 never_whole : (text sent after more : List ℕ) → text ≡ sent ++ after → sent ≡ text ++ more → 0 < length after → ⊥
@@ -173,49 +155,24 @@ module _ (replies_law : ReplyLaw) (lists_law : ListLaw) (a b : Paths) (asked : L
   same_texts : HaveSameTexts a b asked
   same_texts p here = (agree p here).0
 
-  asked_path : (t : Talk) (fate : ℕ → Fate) (p : ℕ) → Stands asked t fate → ((h : Heard) → fate p ≡ Known h → ⊥) → contains p asked ≡ true
-  asked_path t fate p s open_ = elim (s.within p) [ inl k ↦ k | inr k ↦ absurd (open_ k.0 k.1) ]
-
-  requests_at : (t : Talk) (fate : ℕ → Fate) (x : Due) → Stands asked t fate → x ≡ due_at t → request_at a caps x ≡ request_at b caps x
-  requests_at t fate (Ask p) s due =
-      let untold : fate p ≡ Untold = ask_untold t p (fate p) due (s.fits p) in
-      let same = agree p (asked_path t fate p s (λ h k. let bad : Untold ≡ Known h = sym untold ∙ k in absurd (cc bad))) in
-      ap (λ (x : List ℕ). first_text x caps.delay (a.content p)) same.0 ∙ ap (λ (x : List ℕ). first_text (b.text p) caps.delay x) same.1
-  requests_at t fate (AskAgain p) s due =
-      let later : fate p ≡ Later = again_later t p (fate p) due (s.fits p) in
-      let same = agree p (asked_path t fate p s (λ h k. let bad : Later ≡ Known h = sym later ∙ k in absurd (cc bad))) in
-      ap second_text same.0
-  requests_at t fate Lists s due = refl
-  requests_at t fate (Start p) s due = refl
-  requests_at t fate Shuts s due = refl
-  requests_at t fate Nothing s due = refl
-
-  same_due : (t : Talk) (fate : ℕ → Fate) (e f : Exchange) (u v : Talk) → Stands asked t fate → Goes d t e u → Goes d t f v → due_of e ≡ due_of f
-  same_due t fate e f u v s g h = due_is d t e u g.0 g.1 s.none s.turns ∙ sym (due_is d t f v h.0 h.1 s.none s.turns)
-
-  same_request : (t : Talk) (fate : ℕ → Fate) (e f : Exchange) (u v : Talk) → Stands asked t fate → Goes d t e u → Goes d t f v → request_of a caps e ≡ request_of b caps f
-  same_request t fate e f u v s g h =
-      request_due a caps e ∙ (requests_at t fate (due_of e) s (due_is d t e u g.0 g.1 s.none s.turns)
-      ∙ (ap (request_at b caps) (same_due t fate e f u v s g h) ∙ sym (request_due b caps f)))
-
   both_spoken : (t : Talk) (fate : ℕ → Fate) (e f : Exchange) (es fs : List Exchange) (sent taken : List ℕ) (u v : Talk) → Stands asked t fate → Goes d t e u → Goes d t f v → wants e ≡ false → wants f ≡ false
       → FitsCounts seen (break_of e) → FitsCounts seen (break_of f) → Spoken a caps (e ∷ es) sent taken → Spoken b caps (f ∷ fs) sent taken → GoesOn a b caps e f es fs
   both_spoken t fate e f es fs sent taken u v s g h m n i j (inl p) (inl q) = record {
-    same = both_cut d t e f u v (same_due t fate e f u v s g h) g h (cut_linked e p.1.may m) (cut_linked f q.1.may n) p.1.nothing q.1.nothing;
+    same = both_cut d t e f u v (same_due a b asked agree caps d t fate e f u v s g h) g h (cut_linked e p.1.may m) (cut_linked f q.1.may n) p.1.nothing q.1.nothing;
     more = [];
     later = [];
     spoken1 = subst (λ (x : List Exchange). Spoken a caps x [] []) (sym p.0) refl;
     spoken2 = subst (λ (x : List Exchange). Spoken b caps x [] []) (sym q.0) refl;
   }
   both_spoken t fate e f es fs sent taken u v s g h m n i j (inl p) (inr q) =
-      absurd (never_whole (request_of a caps e) sent p.1.after q.0 p.1.text (q.3 ∙ ap (λ (x : List ℕ). x ++ q.0) (sym (same_request t fate e f u v s g h))) (p.1.proper (request_filled a caps e p.1.may)))
+      absurd (never_whole (request_of a caps e) sent p.1.after q.0 p.1.text (q.3 ∙ ap (λ (x : List ℕ). x ++ q.0) (sym (same_request a b asked agree caps d t fate e f u v s g h))) (p.1.proper (request_filled a caps e p.1.may)))
   both_spoken t fate e f es fs sent taken u v s g h m n i j (inr p) (inl q) =
-      absurd (never_whole (request_of b caps f) sent q.1.after p.0 q.1.text (p.3 ∙ ap (λ (x : List ℕ). x ++ p.0) (same_request t fate e f u v s g h)) (q.1.proper (request_filled b caps f q.1.may)))
+      absurd (never_whole (request_of b caps f) sent q.1.after p.0 q.1.text (p.3 ∙ ap (λ (x : List ℕ). x ++ p.0) (same_request a b asked agree caps d t fate e f u v s g h)) (q.1.proper (request_filled b caps f q.1.may)))
   both_spoken t fate e f es fs sent taken u v s g h m n i j (inr p) (inr q) =
       let w = same_exchange replies_law lists_law a b asked texts same_texts caps d t fate s taken p.1 p.2 [] q.1 q.2 [] u v (calmed e) (calmed f) (goes_calm d t e u g) (goes_calm d t f v h)
       (read_calm a caps e taken p.1 p.2 p.4 m p.5) (read_calm b caps f taken q.1 q.2 q.4 n q.5) in
       let later : q.2 ≡ p.2 = same_left q.1 p.1 q.2 p.2 (sym w.1) (sym q.4 ∙ p.4) in
-      let more : q.0 ≡ p.0 = same_left (request_of b caps f) (request_of a caps e) q.0 p.0 (sym (same_request t fate e f u v s g h)) (sym q.3 ∙ p.3) in
+      let more : q.0 ≡ p.0 = same_left (request_of b caps f) (request_of a caps e) q.0 p.0 (sym (same_request a b asked agree caps d t fate e f u v s g h)) (sym q.3 ∙ p.3) in
       record {
         same = told_apart seen e f i j w.0;
         more = p.0;

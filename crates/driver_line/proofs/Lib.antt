@@ -18,6 +18,7 @@ pub mod TalkFates
 pub mod TalkDue
 pub mod TalkLists
 pub mod SameStates
+pub mod Requests
 pub mod SameExchanges
 pub mod SameSessions
 pub mod SameTalks

@@ -29,6 +29,7 @@ use Rattle.driver_line.specs.SameHeard.{NoneFailed, HaveTexts, HaveSameTexts, Ar
 use Rattle.driver_line.specs.ToldStarts.{GoBy, Fills}
 use Rattle.driver_line.specs.Transcripts.{IsPart, IsOpenedSession, IsFailedSession, IsSession, Matches, break_in}
 use Rattle.driver_line.proofs.Spoken.{stops_at}
+use Rattle.driver_line.proofs.Requests.{same_requests}
 use Rattle.driver_line.proofs.TalkDue.{Start, due_at, due_is}
 use Rattle.driver_line.proofs.TalkFates.{count, first_due, second_due}
 use Rattle.driver_line.proofs.TalkLists.{over_nothing, nothing_more}
@@ -334,5 +335,8 @@ pub same_heard : ReplyLaw → ListLaw → HandLaw → SameHeard
 same_heard replies_law lists_law hand_law d a b asked told i j es fs apart texts agree one two =
     let k = same_items replies_law lists_law hand_law a b asked texts agree d one.full two.full told es fs (Between asked) (first_fate asked) one.talk.end two.talk.end one.left two.left (begins asked apart)
     one.talk.spells two.talk.spells one.goes two.goes (full_fine i one.full one.fills one.fine) (full_fine j two.full two.fills two.fine) one.talk.over two.talk.over
-    (one.talk.goes, λ p. first_spared (contains p asked) p (notes_in d es) (one.memory p)) (two.talk.goes, λ p. first_spared (contains p asked) p (notes_in d fs) (two.memory p)) in
-    (λ p here. (same_first (contains p asked) p (notes_in d es) (notes_in d fs) here (k.fates p), k.contents p), k.same)
+    (one.talk.goes, λ p. first_spared (contains p asked) p (notes_in d es) (one.memory p)) (two.talk.goes, λ p. first_spared (contains p asked) p (notes_in d fs) (two.memory p)) in (
+      λ p here. (same_first (contains p asked) p (notes_in d es) (notes_in d fs) here (k.fates p), k.contents p),
+      k.same,
+      λ agree caps. same_requests a b asked agree caps d (Between asked) (first_fate asked) es one.talk.end (begins asked apart) one.talk.goes,
+    )

@@ -6,7 +6,7 @@ use Rattle.checkout_core.specs.Fates.{Known}
 use Rattle.checkout_core.specs.Talks.{contains}
 use Rattle.driver_line.specs.Conversations.{Exchange}
 use Rattle.driver_line.specs.Lines.{Paths}
-use Rattle.driver_line.specs.SameHeard.{AreApart, HaveTexts, NoneWanting, fate_in, content_of}
+use Rattle.driver_line.specs.SameHeard.{AreApart, HaveTexts, HaveSamePaths, NoneWanting, fate_in, content_of}
 use Rattle.driver_line.specs.ToldStarts.{Fills}
 use Rattle.driver_line.specs.Transcripts.{IsTalk}
 
@@ -19,11 +19,6 @@ pub record IsTalkWith (d : ℕ) (paths : Paths) (asked : List ℕ) (full : List 
   pub talk : IsTalk d paths asked full exchanges
   pub memory : (p : ℕ) → contains p asked ≡ true
       → fate_in d p exchanges ≡ Known heard.OutOfMemory → ⊥
-
--- the two know each of these paths by the same text, and have the same prepared bytes for it
-abbrev pub HaveSamePaths : Paths → Paths → List ℕ → Type 0
-HaveSamePaths a b asked = (p : ℕ) → contains p asked ≡ true
-    → (a.text p ≡ b.text p) × (a.content p ≡ b.content p)
 
 -- Two such talks tell the same of each path, and its driver gave the same content for it, whatever links failed. If
 -- besides memory ran out in none of their exchanges, they have the same.

@@ -44,9 +44,10 @@ pub record LineView : Type 0 where
   pub starter : StarterSeen
   pub session : Option SessionSeen
 
--- the texts of a driver's paths and their prepared bytes
+-- the texts of a driver's paths, the names of their objects and their prepared bytes
 pub record Paths : Type 0 where
   pub text : ℕ → List ℕ
+  pub name : ℕ → List ℕ
   pub content : ℕ → List ℕ
 
 -- a link that was just given
@@ -139,11 +140,11 @@ Says paths old (Opening p (Good caps)) new = (s : SessionSeen) × (start : Wire)
 Says paths old (Opening p end) new = (start : Wire) × (last : Wire) × IsOpenedLine old end start last
     × IsEnded (started old.starter) last standing.Over new
 Says paths old (First p r content) new = (s : SessionSeen) × (old.session ≡ Some s)
-    × IsAsked s.caps.delay (first_text (paths.text p) s.caps.delay (paths.content p)) old s r content new
+    × IsAsked s.caps.delay (first_text (paths.text p) (paths.name p) s.caps.delay (paths.content p)) old s r content new
 Says paths old (Listing late names r) new = (s : SessionSeen) × (old.session ≡ Some s)
     × IsListed paths (map paths.text late) old s names r new
 Says paths old (Second p r content) new = (s : SessionSeen) × (old.session ≡ Some s)
-    × IsAsked false (second_text (paths.text p)) old s r content new
+    × IsAsked false (second_text (paths.text p) (paths.name p)) old s r content new
 Says paths old Shutting new = (s : SessionSeen) × (old.session ≡ Some s)
     × IsEnded old.starter s.wire standing.Live new
 

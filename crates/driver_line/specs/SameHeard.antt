@@ -1,6 +1,7 @@
 -- Two talks with a driver that writes the same: what they have in common.
-use Rattle.std.specs.Prelude.{◌≡◌, ◌==◌, ℕ, Bool, true, false, cond, Option, Some, None, List, [], ◌∷◌}
+use Rattle.std.specs.Prelude.{◌≡◌, ◌==◌, ℕ, Bool, true, false, cond, Option, Some, None, List, [], ◌∷◌, map}
 use Rattle.edge_kit.specs.Starters.{Had, Session, StartFailed, StartOutOfMemory, Starts, StartTold}
+use Rattle.filter_words.specs.declared.reply.Caps.{Caps}
 use Rattle.filter_words.specs.declared.reply.Reply.TheVariants as reply
 use Rattle.filter_words.specs.declared.reply.ListReply.TheVariants as list
 use Rattle.filter_proto.specs.Exchanges.{OutOfMemory}
@@ -10,7 +11,7 @@ use Rattle.checkout_core.specs.Talks.{contains}
 use Rattle.driver_line.specs.Conversations.{Exchange, NoRoom, Opening, First, Listing, Second, notes_in}
 use Rattle.driver_line.specs.Lines.{Paths}
 use Rattle.driver_line.specs.ToldStarts.{Fills, GoBy}
-use Rattle.driver_line.specs.Transcripts.{IsTalk}
+use Rattle.driver_line.specs.Transcripts.{IsTalk, request_of}
 
 -- no session's link ever failed
 abbrev pub NoneFailed : List Had → Type 0
@@ -69,8 +70,14 @@ HaveTexts paths asked = (p q : ℕ) → contains p asked ≡ true → contains q
 abbrev pub HaveSameTexts : Paths → Paths → List ℕ → Type 0
 HaveSameTexts a b asked = (p : ℕ) → contains p asked ≡ true → a.text p ≡ b.text p
 
+-- the two have besides the same name of its object and the same prepared bytes for each
+abbrev pub HaveSamePaths : Paths → Paths → List ℕ → Type 0
+HaveSamePaths a b asked = (p : ℕ) → contains p asked ≡ true
+    → (a.text p ≡ b.text p) × (a.name p ≡ b.name p) × (a.content p ≡ b.content p)
+
 -- Two such talks tell the same of each path, and its driver gave the same content for it. If besides
--- memory ran out in none of their exchanges, they have the same.
+-- memory ran out in none of their exchanges, they have the same: the same requests too, where the
+-- paths have the same object names and prepared bytes.
 abbrev pub SameHeard : Type 0
 SameHeard = (d : ℕ) (a b : Paths) (asked : List ℕ) (told : List StartTold) (i j : List Had)
     (es fs : List Exchange) → AreApart asked → HaveTexts a asked → HaveSameTexts a b asked
@@ -78,3 +85,5 @@ SameHeard = (d : ℕ) (a b : Paths) (asked : List ℕ) (told : List StartTold) (
     → ((p : ℕ) → contains p asked ≡ true
     → (fate_in d p es ≡ fate_in d p fs) × (content_of p es ≡ content_of p fs))
     × (NoneWanting es → NoneWanting fs → es ≡ fs)
+    × (HaveSamePaths a b asked → (caps : Caps)
+    → map (request_of a caps) es ≡ map (request_of b caps) es)

@@ -51,9 +51,9 @@ pub record IsPart {P G : Type 0} (step : P → Packet
 
 -- the request of an exchange, in a session with these capabilities
 abbrev pub request_of : Paths → Caps → Exchange → List ℕ
-request_of paths caps (First p r content) = first_text (paths.text p) caps.delay (paths.content p)
+request_of paths caps (First p r content) = first_text (paths.text p) (paths.name p) caps.delay (paths.content p)
 request_of paths caps (Listing late names r) = list_text
-request_of paths caps (Second p r content) = second_text (paths.text p)
+request_of paths caps (Second p r content) = second_text (paths.text p) (paths.name p)
 request_of paths caps e = []
 
 -- the answer to it

@@ -2,7 +2,7 @@ use Rattle.std.proofs.Common.{◌≡◌, ◌∷◌, ◌++◌, [], List, ℕ, Boo
 use Rattle.std.proofs.lemmas.List.{append-nil}
 use Rattle.convert_plan.specs.Card.{CardSeen, card_seen}
 use Rattle.convert_plan.specs.declared.card.Card.{Card}
-use Rattle.driver_desk.specs.Rounds.{LateSeen, paths_of, AreReady, AreApart, FitTexts}
+use Rattle.driver_desk.specs.Rounds.{LateSeen, paths_of, AreReady, AreApart, FitLabels}
 use Rattle.filter_proto.specs.Wires.{SessionSeen}
 use Rattle.driver_desk.specs.Late.{cards_of}
 use Rattle.driver_desk.specs.Places.{IsServing}
@@ -13,7 +13,7 @@ use Rattle.driver_desk.proofs.Serves.{fit_done, asked_more, serves_asked}
 use Rattle.driver_desk.specs.Recorders.{Standing}
 use Rattle.driver_desk.proofs.RoundSteps.{grows_ready, grows_apart, grows_fits, ready_as}
 use Rattle.driver_desk.proofs.Closings.{grows_as}
-use Rattle.driver_desk.proofs.CardLists.{all_next, here_is, read_push, len_push, place_below, new_next, next_planned, text_of, sane_none, serves_late}
+use Rattle.driver_desk.proofs.CardLists.{all_next, here_is, read_push, len_push, place_below, new_next, next_planned, label_is, sane_none, serves_late}
 use Rattle.driver_desk.proofs.RoundCalls.{serving_none, serving_card, apart_next}
 use Rattle.driver_desk.proofs.Ties.{works_push}
 use Rattle.driver_desk.proofs.desk.serve_all.Goals as goal
@@ -49,7 +49,7 @@ loop-card-init g c = record {
     refl,
     tt,
     (λ paths line0 given0 asked fit s. serves_late _ _ _ _ _ _ _ _ [] _ (sym (ap (λ (x : List LateSeen). newest (paths_of x)) c.requires.empty)) (serves_asked _ _ _ _ asked (asked ++ []) [] _ _ _ _ (sym (append-nil asked)) s)),
-    (λ paths fit. subst (λ (x : List LateSeen). FitTexts paths x) (sym c.requires.empty) tt),
+    (λ paths fit. subst (λ (x : List LateSeen). FitLabels paths x) (sym c.requires.empty) tt),
     refl,
   );
 }
@@ -115,7 +115,7 @@ loop-card-preserved g c =
         read_push h.serves.0 w h.serves.3 e.serves.2,
         (λ paths line0 given0 asked fit s. let k = fit_done paths h.serves.0 w fit in
             serves_asked _ _ _ _ _ _ [] _ _ _ _ (asked_more asked h.serves.0 w) (e.serves.3 paths line0 given0 _ k.1 (h.serves.4 paths line0 given0 asked k.0 s))),
-        (λ paths fit. let k = fit_done paths h.serves.0 w fit in grows_fits _ paths _ _ _ _ e.cards (text_of paths w card e.serves.1 k.1) (h.serves.5 paths k.0)),
+        (λ paths fit. let k = fit_done paths h.serves.0 w fit in grows_fits _ paths _ _ _ _ e.cards (label_is paths w card e.serves.1 k.1) (h.serves.5 paths k.0)),
         works_push h.serves.0 w _ _ _ h.serves.6 e.serves.4,
       );
     }

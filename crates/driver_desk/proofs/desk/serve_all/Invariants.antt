@@ -3,7 +3,7 @@ use Rattle.convert_plan.specs.Card.{card_seen}
 use Rattle.driver_line.specs.Lines.{LineView, Paths, starts_of}
 use Rattle.driver_desk.specs.Works.{WorkSeen, AreNew, AreRead, FitAll, asked_in, cards_in, card_paths}
 use Rattle.driver_desk.specs.Late.{AreIdle, KeepsNames, StaysUnlisted, cards_of}
-use Rattle.driver_desk.specs.Rounds.{paths_of, AreReady, AreApart, FitTexts}
+use Rattle.driver_desk.specs.Rounds.{paths_of, AreReady, AreApart, FitLabels}
 use Rattle.driver_desk.specs.Places.{IsServing}
 use Rattle.driver_desk.specs.Added.{AddsWorks}
 use Rattle.driver_desk.specs.Serving.{Given}
@@ -31,7 +31,7 @@ invariant-loop-card g l = record {
       × ((paths : Paths) (line0 : LineView) (given0 : List Given) (asked : List ℕ) → FitAll paths works
       → Serves l.service.seat.driver paths line0 given0 asked [] l.initial.line (g.C.Recorder.given l.initial.recorder) false []
       → Serves l.service.seat.driver paths line0 given0 (asked ++ asked_in works) [] l.line (g.C.Recorder.given l.recorder) l.aborted (newest (paths_of (cards_of l.late))))
-      × ((paths : Paths) → FitAll paths works → FitTexts paths (cards_of l.late))
+      × ((paths : Paths) → FitAll paths works → FitLabels paths (cards_of l.late))
       × AddsWorks works (g.C.Recorder.given l.initial.recorder) (g.C.Recorder.given l.recorder);
 }
 

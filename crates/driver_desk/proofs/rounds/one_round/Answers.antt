@@ -4,7 +4,7 @@ use Rattle.std.proofs.Common.{ℕ, ◌≡◌, ◌<◌, ◌+◌, length, List, ap
 use Rattle.checkout_core.specs.Talks.{contains}
 use Rattle.driver_line.specs.Lines.{names_in, weight}
 use Rattle.driver_desk.specs.Late.{cards_of}
-use Rattle.driver_desk.specs.Rounds.{LateSeen, paths_of, AreReady, FitTexts}
+use Rattle.driver_desk.specs.Rounds.{LateSeen, paths_of, AreReady, FitLabels}
 use Rattle.driver_desk.proofs.RoundSteps.{ready_as, next_listed, listed, listed_at, open_live, fewer_round, some_at}
 use Rattle.driver_desk.proofs.RoundCalls.{lists, after_list_at, names_same}
 use Rattle.driver_desk.proofs.Ties.{adds_both}
@@ -33,14 +33,14 @@ redo_all-requires-clause-next g c κs within = next_listed c.args.line.now.sessi
 
 pub returns-clause-rounds : goal.returns-clause-rounds
 returns-clause-rounds g c paths line0 given0 asked fit names h =
-    c.redo_all.ensures.rounds paths line0 given0 asked (subst (λ (x : List LateSeen). FitTexts paths x) (sym c.list-reply.ensures.cards) fit)
+    c.redo_all.ensures.rounds paths line0 given0 asked (subst (λ (x : List LateSeen). FitLabels paths x) (sym c.list-reply.ensures.cards) fit)
     (listed_at c.args.seat.driver paths line0 given0 asked c.args.line.now.session c.list-reply.new.line.session c.list-reply.new.line _ c.args.late.now c.list-reply.new.self c.list-reply.result c.requires.open c.list-reply.ensures.goes c.list-reply.ensures.cards c.list-reply.ensures.kept.1
     (listed c.args.seat.driver paths line0 given0 asked c.args.line.now c.list-reply.new.line _ _ c.note_list.ensures.noted.0 (paths_of (cards_of c.args.late.now)) _ c.list-reply.result c.args.line.now.session c.list-reply.new.line.session
     (open_live c.args.line.now.session c.requires.open) h c.list-reply.ensures.names (λ late same. c.list-reply.ensures.says paths late names (λ q. same q ∙ ap (λ (x : List ℕ). contains q x) (sym c.list-reply.ensures.slate))) c.list-reply.ensures.goes c.note_list.ensures.noted.1
     (subst (λ (ns : List ℕ). noted_in c.note_list.ensures.noted.0 ≡ list_notes c.args.seat.driver (names_in ns c.list-reply.new.self.table.turns c.list-reply.result) c.list-reply.result) c.list-reply.ensures.kept.1 c.note_list.ensures.noted.2) c.note_list.ensures.noted.3))
 
 pub returns-clause-fits : goal.returns-clause-fits
-returns-clause-fits g c paths fit = c.redo_all.ensures.fits paths (subst (λ (x : List LateSeen). FitTexts paths x) (sym c.list-reply.ensures.cards) fit)
+returns-clause-fits g c paths fit = c.redo_all.ensures.fits paths (subst (λ (x : List LateSeen). FitLabels paths x) (sym c.list-reply.ensures.cards) fit)
 
 pub returns-clause-fewer : goal.returns-clause-fewer
 returns-clause-fewer g c = subst (λ (n : List LateSeen). weight c.redo_all.new.line.session + length (cards_of c.redo_all.new.late) < 1 + length n) c.list-reply.ensures.cards

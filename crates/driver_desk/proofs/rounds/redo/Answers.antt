@@ -48,10 +48,10 @@ returns-clause-state g c cards turns left here drops h =
     (is_end_back _ _ _ _ _ c.note.ensures.standing c.end_told.ensures.ends))
 
 pub returns-clause-rounds : goal.returns-clause-rounds
-returns-clause-rounds g c paths line0 given0 asked turns cards left text gone h =
+returns-clause-rounds g c paths line0 given0 asked turns cards left label gone h =
     let s = c.ask_again-reply.ensures.says c.args.work.card.path in
     redone c.args.seat.driver paths line0 given0 asked c.args.line.now c.ask_again-reply.new.self _ _ _ cards left c.args.work.card.path turns c.args.line.now.session c.ask_again-reply.new.self.session c.ask_again-reply.result.reply s.0
-    (open_live c.args.line.now.session c.requires.open) h c.ask_again-reply.ensures.may (s.1 paths (text ∙ sym c.as_slice.ensures)) c.ask_again-reply.ensures.goes c.note.ensures.given
+    (open_live c.args.line.now.session c.requires.open) h c.ask_again-reply.ensures.may (s.1 paths (ap (λ (z : List ℕ × List ℕ). z.0) label ∙ sym c.as_slice.ensures) (ap (λ (z : List ℕ × List ℕ). z.1) label)) c.ask_again-reply.ensures.goes c.note.ensures.given
     (closed_as _ _ _ _ (asked_put _ _ c.args.work.card.path _ _ (g.L.Leaf.seen c.args.work.card.leaf) (g.L.Leaf.seen c.ask_again-reply.new.leaf) s.0 refl refl (read_bare (g.C.Recorder.standing c.args.recorder.now) (card_seen g.B.Blob.told g.B.Blob.seen g.L.Leaf.seen c.args.work.card) _ c.requires.read) s.2) c.end_told.ensures.closed) gone
 
 pub returns-clause-next : goal.returns-clause-next

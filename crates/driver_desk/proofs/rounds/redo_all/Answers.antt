@@ -1,7 +1,8 @@
 use Rattle.std.proofs.Common.{◌≡◌, ◌⊎◌, inl, inr, ◌<◌, ◌+◌, ℕ, List, length, ap, sym, subst, ◌∙◌, arith, refl}
 use Rattle.delay_table.specs.Table.{Table}
 use Rattle.driver_desk.specs.Late.{LateView, cards_of, names_at}
-use Rattle.driver_desk.specs.Rounds.{FitTexts, paths_of, RedoneCards, RoundsBy}
+use Rattle.driver_desk.specs.Rounds.{FitLabels, paths_of, RedoneCards, RoundsBy}
+use Rattle.driver_desk.specs.Works.{label_in}
 use Rattle.driver_desk.proofs.LateCards.{step_names, taken_length}
 use Rattle.driver_desk.proofs.RoundSteps.{read_as, taken_ready, taken_apart, taken_fits, taken_redone, some_there}
 use Rattle.driver_desk.proofs.Serves.{is_none}
@@ -27,7 +28,7 @@ pub returns-in_default-clause-state : goal.returns-in_default-clause-state
 returns-in_default-clause-state g c = redo_over _ _ _ _ _ c.in_default.ensures.next.0 c.in_default.ensures.next.1 c.loop-seat.invariant.state
 
 pub returns-in_default-clause-fits : goal.returns-in_default-clause-fits
-returns-in_default-clause-fits g c paths fit = subst (λ (v : LateView). FitTexts paths (cards_of v)) (sym c.in_default.ensures.next.1) (c.loop-seat.invariant.fits paths fit)
+returns-in_default-clause-fits g c paths fit = subst (λ (v : LateView). FitLabels paths (cards_of v)) (sym c.in_default.ensures.next.1) (c.loop-seat.invariant.fits paths fit)
 
 pub loop-seat-preserved : goal.loop-seat-preserved
 loop-seat-preserved g c =
@@ -50,7 +51,7 @@ loop-seat-preserved g c =
       sound = c.redo.ensures.sound;
       fixed = c.redo.ensures.fixed ∙ h.fixed;
       rounds = λ paths line0 given0 asked fit r. c.redo.ensures.rounds paths line0 given0 asked _ (paths_of (cards_of c.loop-seat.late)) _
-          (ap paths.text taken.named ∙ (taken_fits paths _ _ _ _ taken (h.fits paths fit)).0)
+          (ap (label_in paths) taken.named ∙ (taken_fits paths _ _ _ _ taken (h.fits paths fit)).0)
           (subst (λ (x : ℕ). RedoneCards (paths_of (cards_of c.loop-seat.late)) x (paths_of (cards_of c.next_listed.new.self))) (sym taken.named) (taken_redone _ _ _ _ taken h.apart))
           (subst (λ (x : List ℕ). RoundsBy c.args.seat.driver paths line0 given0 asked c.loop-seat.line.session c.loop-seat.line (g.C.Recorder.given c.loop-seat.recorder) (paths_of (cards_of c.loop-seat.late)) x) names (h.rounds paths line0 given0 asked fit r));
       shuts = λ none. absurd (some_there _ (rw c.loop-seat-test.true at c.is_open.ensures) (h.shuts none));

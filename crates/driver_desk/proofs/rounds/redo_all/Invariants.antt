@@ -1,7 +1,7 @@
 use Rattle.std.proofs.Common.{◌≡◌, ◌⊎◌, ◌<◌, ℕ, List, length, None}
 use Rattle.driver_line.specs.Lines.{LineView, Paths}
 use Rattle.driver_desk.specs.Late.{KeepsNames, cards_of, names_at}
-use Rattle.driver_desk.specs.Rounds.{paths_of, IsNext, AreReady, AreApart, FitTexts, RoundsBy}
+use Rattle.driver_desk.specs.Rounds.{paths_of, IsNext, AreReady, AreApart, FitLabels, RoundsBy}
 use Rattle.driver_desk.specs.Places.{InRoundsAt}
 use Rattle.driver_desk.specs.Added.{AddsRead}
 use Rattle.driver_desk.specs.Serving.{Given}
@@ -12,9 +12,9 @@ invariant-loop-seat g l = record {
   next : IsNext l.line.session;
   ready : AreReady (g.C.Recorder.standing l.initial.recorder) (cards_of l.late);
   apart : AreApart (paths_of (cards_of l.late));
-  fits : (paths : Paths) → FitTexts paths (cards_of l.initial.late) → FitTexts paths (cards_of l.late);
+  fits : (paths : Paths) → FitLabels paths (cards_of l.initial.late) → FitLabels paths (cards_of l.late);
   names : KeepsNames l.initial.late l.late;
-  rounds : (paths : Paths) (line0 : LineView) (given0 : List Given) (asked : List ℕ) → FitTexts paths (cards_of l.initial.late)
+  rounds : (paths : Paths) (line0 : LineView) (given0 : List Given) (asked : List ℕ) → FitLabels paths (cards_of l.initial.late)
       → RoundsBy l.seat.driver paths line0 given0 asked l.initial.line.session l.initial.line (g.C.Recorder.given l.initial.recorder) (paths_of (cards_of l.initial.late)) (names_at l.initial.late)
       → RoundsBy l.seat.driver paths line0 given0 asked l.line.session l.line (g.C.Recorder.given l.recorder) (paths_of (cards_of l.late)) (names_at l.late);
   state : InRoundsAt (g.C.Recorder.standing l.recorder) (g.C.Recorder.given l.recorder) l.line.session (paths_of (cards_of l.late)) (names_at l.late);

@@ -1,5 +1,6 @@
 use Rattle.std.proofs.Common.{ap, sym, subst, ◌∙◌, ◌≤◌, ℕ, List, length, refl, Some}
 use Rattle.convert_plan.specs.Card.{CardSeen, card_seen}
+use Rattle.driver_desk.specs.Works.{label_of}
 use Rattle.driver_desk.proofs.RoundSteps.{ready_as}
 use Rattle.driver_desk.proofs.Closings.{asked_of, read_again, grows_as, planned_bare}
 use Rattle.driver_desk.proofs.LeafEnds.{asked_put}
@@ -45,7 +46,7 @@ pub after_reply-requires-clause-ready : goal.after_reply-requires-clause-ready
 after_reply-requires-clause-ready g c = ready_as _ _ _ c.note.ensures.standing c.requires.ready
 
 pub returns-clause-cards : goal.returns-clause-cards
-returns-clause-cards g c = grows_as _ _ _ _ _ _ _ _ (sym c.note.ensures.standing) (sym c.keep_ready-work.ensures.path) (sym c.keep_ready-work.ensures.text) c.after_reply.ensures.cards
+returns-clause-cards g c = grows_as _ _ _ _ _ _ _ _ (sym c.note.ensures.standing) (sym c.keep_ready-work.ensures.path) (sym (ap label_of c.keep_ready-work.ensures.card)) c.after_reply.ensures.cards
 
 pub after_reply-requires-clause-may : goal.after_reply-requires-clause-may
 after_reply-requires-clause-may g c h is =
@@ -71,7 +72,7 @@ pub returns-clause-serves : goal.returns-clause-serves
 returns-clause-serves g c paths line0 given0 asked e i h =
     let s = c.ask-asked.ensures.says c.args.placed.card.path in
     asked_card c.args.service.now.seat.driver paths line0 given0 asked c.args.placed.card.path c.args.line.now c.ask-asked.new.self _ (g.C.Recorder.given c.note.new.self) _ _ _ c.ask-asked.result.reply s.0 _ c.requires.open c.ask-asked.ensures.may c.ask-asked.ensures.goes
-    (s.1 paths (e ∙ sym c.as_slice.ensures) (i ∙ sym c.as_slice-2.ensures)) c.note.ensures.given
+    (s.1 paths (ap (λ (z : List ℕ × List ℕ). z.0) e ∙ sym c.as_slice.ensures) (ap (λ (z : List ℕ × List ℕ). z.1) e) (i ∙ sym c.as_slice-2.ensures)) c.note.ensures.given
     (closed_as _ _ _ _ (asked_put _ _ c.args.placed.card.path _ _ (g.L.Leaf.seen c.args.placed.card.leaf) (g.L.Leaf.seen c.ask-asked.new.leaf) s.0 c.keep_ready-work.ensures.path (ap (λ (x : CardSeen). x.leaf.content) c.keep_ready-work.ensures.card) (planned_bare (g.C.Recorder.standing c.args.recorder.now) (card_seen g.B.Blob.told g.B.Blob.seen g.L.Leaf.seen c.args.placed.card) c.requires.planned) s.2) c.after_reply.ensures.closed)
     c.is_abort.ensures
     (c.after_reply.ensures.late ∙ ap (λ (p : ℕ). late_after p c.ask-asked.result.reply (newest (paths_of (cards_of c.args.late.now)))) c.keep_ready-work.ensures.path) h

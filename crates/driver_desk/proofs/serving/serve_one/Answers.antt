@@ -10,6 +10,7 @@ use Rattle.driver_desk.specs.Endings.{MayEnd}
 use Rattle.driver_desk.specs.Places.{IsServing}
 use Rattle.edge_kit.specs.Seen.{LeafSeen}
 use Rattle.edge_kit.specs.Told.{Tells}
+use Rattle.driver_desk.specs.Works.{label_in, label_of}
 use Rattle.driver_desk.proofs.Serves.{work_past, work_failed, serves_asked, unsealed_bare}
 use Rattle.driver_desk.proofs.RoundSteps.{serves_as}
 use Rattle.driver_desk.proofs.CardLists.{alone_own}
@@ -46,7 +47,7 @@ close_unread-requires-clause-unread g c = record { planned = _; is_planned = c.r
 
 pub returns-else-aborted-clause-cards : goal.returns-else-aborted-clause-cards
 returns-else-aborted-clause-cards g c =
-    grows_as _ _ _ _ _ _ _ _ refl (sym (ap (λ (x : CardSeen). x.path) c.read_card.ensures.kept)) (sym (ap (λ (x : CardSeen). x.text) c.read_card.ensures.kept)) c.serve_card.ensures.cards
+    grows_as _ _ _ _ _ _ _ _ refl (sym (ap (λ (x : CardSeen). x.path) c.read_card.ensures.kept)) (sym (ap label_of c.read_card.ensures.kept)) c.serve_card.ensures.cards
 
 pub serve_card-requires-clause-next : goal.serve_card-requires-clause-next
 serve_card-requires-clause-next g c κs within =
@@ -96,12 +97,12 @@ returns-then-aborted-clause-serves g c = (
 pub returns-else-aborted-clause-serves : goal.returns-else-aborted-clause-serves
 returns-else-aborted-clause-serves g c =
     let path = ap (λ (x : CardSeen). x.path) c.read_card.ensures.kept in
-    let text = ap (λ (x : CardSeen). x.text) c.read_card.ensures.kept in (
+    let label = ap label_of c.read_card.ensures.kept in (
       record { card = card_seen g.B.Blob.told g.B.Blob.seen g.L.Leaf.seen c.args.placed.card; content = Ok c.in-Ok.prepared.bytes },
       refl,
       (c.in-Ok.prepared, c.in-Ok.ensures.read, refl),
       (λ paths line0 given0 asked fit s. serves_asked _ _ _ _ _ _ [] _ _ _ _ (ap (λ (p : ℕ). asked ++ p ∷ []) path)
-          (c.serve_card.ensures.serves paths line0 given0 asked (ap paths.text path ∙ (fit.0 ∙ sym text)) (ap paths.content path ∙ fit.1) (serves_as c.args.service.now.seat.driver paths _ _ _ _ _ _ _ _ c.if-aborted.false s))),
+          (c.serve_card.ensures.serves paths line0 given0 asked (ap (label_in paths) path ∙ (fit.0 ∙ sym label)) (ap paths.content path ∙ fit.1) (serves_as c.args.service.now.seat.driver paths _ _ _ _ _ _ _ _ c.if-aborted.false s))),
       c.serve_card.ensures.read,
     )
 
