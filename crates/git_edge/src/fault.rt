@@ -10,6 +10,9 @@ pub enum GitFault {
     /// The program git can't be started, or what it writes can't be read.
     #[error("git can't be run: {0}")]
     NoGit(io::Error),
+    /// Git is of a version that doesn't know what it is asked.
+    #[error("git is too old: it has to be of version 2.31 or later")]
+    TooOld,
     /// Git finds no repository that it can read. The text is git's own.
     #[error("{0}")]
     NoRepository(String),

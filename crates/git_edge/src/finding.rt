@@ -15,10 +15,13 @@ pub struct Found {
     pub objects: String,
 }
 
+/// The word that git 2.31 was the first to know. `git rev-parse` writes a word as it is if it doesn't know it.
+const NEWEST: &str = "--path-format=absolute";
+
 /// What is asked of `git rev-parse`: the paths, each a line, and then what object names are by.
 const ASKED: [&str; 10] = [
     "rev-parse",
-    "--path-format=absolute",
+    NEWEST,
     "--absolute-git-dir",
     "--git-path",
     "index",
@@ -56,6 +59,9 @@ fn lines_of(alloc: Global, text: &str) -> Result<Vec<&str>, AllocError> {
 }
 
 fn found_in(alloc: Global, lines: &[&str]) -> Result<Found, GitFault> {
+    if lines.contains(&NEWEST) {
+        return Err(GitFault::TooOld);
+    }
     let [git_dir, index, info, objects, format] = lines else {
         return Err(GitFault::BadPath);
     };

@@ -13,6 +13,9 @@ const REFUSED: &[&str] = &[
     "new; echo '[' >> .git/config~-~bad config line",
     "new~v9~'v9' names no commit, tag or tree",
     "new~--all~'--all' names no commit, tag or tree",
+    // a git that doesn't know a word says it again (git-rev-parse(1))
+    "new; cd ..; fake 'case $* in *path-format*) printf -- \"--path-format=absolute\\n/a\\nb\\nc\\nd\\nsha1\\n\"; exit;; esac'~-~\
+      git is too old: it has to be of version 2.31 or later",
     "new; rm ../git~-~git can't be run: No such file or directory",
 ];
 
