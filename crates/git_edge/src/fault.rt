@@ -16,6 +16,9 @@ pub enum GitFault {
     /// Git finds no repository that it can read. The text is git's own.
     #[error("{0}")]
     NoRepository(String),
+    /// Git's processes need a folder for temporary files, and none can be made.
+    #[error("no temporary folder can be made: {0}")]
+    NoScratch(io::Error),
     #[error("'{0}' names no commit, tag or tree")]
     NoRevision(String),
     /// The names of objects are not by SHA-1. The text is git's word for what they are by.
@@ -26,6 +29,16 @@ pub enum GitFault {
     BadPath,
     #[error("out of memory")]
     NoMemory,
+}
+
+impl GitFault {
+    /// Why a folder for temporary files couldn't be made.
+    pub fn of_scratch(error: io::Error) -> GitFault {
+        match error.kind() {
+            ErrorKind::OutOfMemory => GitFault::NoMemory,
+            _ => GitFault::NoScratch(error),
+        }
+    }
 }
 
 impl From<AllocError> for GitFault {

@@ -28,7 +28,10 @@ fn borrowing(git: &Git, found: &Found) -> io::Result<CatPool> {
 /// so they are asked in another Git folder.
 pub fn lender_of(git: &Git, found: &Found, listing: &Listing) -> Result<CatPool, GitFault> {
     if listing.promisor().is_some() {
-        return Ok(borrowing(git, found)?);
+        return match borrowing(git, found) {
+            Ok(pool) => Ok(pool),
+            Err(error) => Err(GitFault::of_scratch(error)),
+        };
     }
     let own = git.about(git.named.as_deref(), None)?;
     Ok(CatPool::new(own, None)?)

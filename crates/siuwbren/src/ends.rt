@@ -27,7 +27,7 @@ pub fn refuse_words(rt: HostRuntime, text: &str) -> u8 {
 /// The status of a repository that can't be used.
 fn status_of(fault: &GitFault) -> u8 {
     match fault {
-        GitFault::NoGit(_) | GitFault::TooOld => 6,
+        GitFault::NoGit(_) | GitFault::TooOld | GitFault::NoScratch(_) => 6,
         GitFault::NoMemory => 5,
         GitFault::NoRepository(_)
         | GitFault::NoRevision(_)
