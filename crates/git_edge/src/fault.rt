@@ -13,9 +13,9 @@ pub enum GitFault {
     /// Git is of a version that doesn't know what it is asked.
     #[error("git is too old: it has to be of version 2.31 or later")]
     TooOld,
-    /// Git finds no repository that it can read. The text is git's own.
+    /// Git finds no repository, or fails at a question on it. The text is git's own.
     #[error("{0}")]
-    NoRepository(String),
+    Refused(String),
     /// Git's processes need a folder for temporary files, and none can be made.
     #[error("no temporary folder can be made: {0}")]
     NoScratch(io::Error),

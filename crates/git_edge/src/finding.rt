@@ -32,8 +32,8 @@ const ASKED: [&str; 10] = [
     "--show-object-format",
 ];
 
-/// The first line that git wrote on standard error, without its first word.
-fn said_by(alloc: Global, answer: &Answer) -> Result<String, AllocError> {
+/// The first line that git wrote on standard error, without its first word, or these words if it wrote none.
+fn said_by(alloc: Global, answer: &Answer, otherwise: &str) -> Result<String, AllocError> {
     let said = match str::from_utf8(answer.said.as_slice()) {
         Ok(said) => said,
         Err(_) => "",
@@ -44,7 +44,7 @@ fn said_by(alloc: Global, answer: &Answer) -> Result<String, AllocError> {
     };
     match line.strip_prefix("fatal: ") {
         Some(words) => String::from_str(alloc, words),
-        None if line.is_empty() => String::from_str(alloc, "git finds no repository"),
+        None if line.is_empty() => String::from_str(alloc, otherwise),
         None => String::from_str(alloc, line),
     }
 }
@@ -76,11 +76,19 @@ fn found_in(alloc: Global, lines: &[&str]) -> Result<Found, GitFault> {
     })
 }
 
+/// Why git didn't answer, in its words if it wrote some.
+fn refused(git: &Git, answer: &Answer, otherwise: &str) -> GitFault {
+    match said_by(git.alloc, answer, otherwise) {
+        Ok(words) => GitFault::Refused(words),
+        Err(AllocError) => GitFault::NoMemory,
+    }
+}
+
 /// Where git finds the parts of the repository.
 pub fn find(git: &Git) -> Result<Found, GitFault> {
     let answer = git.ask(ASKED.as_slice())?;
     if !answer.is_good() {
-        return Err(GitFault::NoRepository(said_by(git.alloc, &answer)?));
+        return Err(refused(git, &answer, "git finds no repository"));
     }
     match str::from_utf8(answer.bytes.as_slice()) {
         Ok(text) => found_in(git.alloc, lines_of(git.alloc, text)?.as_slice()),
@@ -92,20 +100,26 @@ pub fn find(git: &Git) -> Result<Found, GitFault> {
 pub fn list(git: &Git) -> Result<Listing, GitFault> {
     let answer = git.ask(&["config", "--list", "-z"])?;
     if !answer.is_good() {
-        return Err(GitFault::NoRepository(said_by(git.alloc, &answer)?));
+        return Err(refused(git, &answer, "git finds no repository"));
     }
     Ok(Listing::new(answer.bytes))
 }
 
+/// What is asked of `git rev-parse` before a revision. It says nothing and ends with the status 1 if there is none.
+const NAMED: [&str; 4] = ["rev-parse", "--verify", "--quiet", "--end-of-options"];
+
 /// The name of the tree of a commit, a tag or a tree, in hex.
 pub fn tree_of(git: &Git, revision: &str) -> Result<String, GitFault> {
     let wanted = format!(in git.alloc; "{revision}^{{tree}}")?;
-    let answer = git.ask(&["rev-parse", "--verify", "--end-of-options", wanted.as_str()])?;
+    let [asked, verify, quiet, end] = NAMED;
+    let answer = git.ask(&[asked, verify, quiet, end, wanted.as_str()])?;
+    if answer.status == Some(1) {
+        return Err(GitFault::NoRevision(String::from_str(git.alloc, revision)?));
+    }
     match str::from_utf8(answer.bytes.as_slice()) {
-        Ok(text) if answer.is_good() => match text.strip_suffix("\n") {
-            Some(name) => Ok(String::from_str(git.alloc, name)?),
-            None => Err(GitFault::NoRevision(String::from_str(git.alloc, revision)?)),
-        },
-        _ => Err(GitFault::NoRevision(String::from_str(git.alloc, revision)?)),
+        Ok(text) if answer.is_good() && text.ends_with('\n') => {
+            Ok(String::from_str(git.alloc, text.trim_end())?)
+        }
+        _ => Err(refused(git, &answer, "git names no tree")),
     }
 }

@@ -13,7 +13,9 @@ const REFUSED: &[&str] = &[
     "new; echo '[' >> .git/config~-~bad config line",
     "new~v9~'v9' names no commit, tag or tree",
     "new~--all~'--all' names no commit, tag or tree",
-    // a git that doesn't know a word says it again (git-rev-parse(1))
+    // a git that fails at a revision, and one that doesn't know what it is asked, and so says it again (git-rev-parse(1))
+    "new; cd ..; fake 'case $* in *--verify*) echo fatal: it fails >&2; exit 128;; esac'~HEAD~it fails",
+    "new; cd ..; fake 'case $* in *--verify*) kill -9 $$;; esac'~HEAD~git names no tree",
     "new; cd ..; fake 'case $* in *path-format*) printf -- \"--path-format=absolute\\n/a\\nb\\nc\\nd\\nsha1\\n\"; exit;; esac'~-~\
       git is too old: it has to be of version 2.31 or later",
     "new; rm ../git~-~git can't be run: No such file or directory",

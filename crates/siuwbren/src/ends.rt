@@ -29,7 +29,7 @@ fn status_of(fault: &GitFault) -> u8 {
     match fault {
         GitFault::NoGit(_) | GitFault::TooOld | GitFault::NoScratch(_) => 6,
         GitFault::NoMemory => 5,
-        GitFault::NoRepository(_)
+        GitFault::Refused(_)
         | GitFault::NoRevision(_)
         | GitFault::ObjectFormat(_)
         | GitFault::BadPath => 3,
