@@ -100,16 +100,22 @@ pub fn says_no(value: &[u8]) -> bool {
         || value.eq_ignore_ascii_case(b"off")
 }
 
-/// The remote that a setting says a partial clone is of: `remote.<name>.promisor`, or as it was said before,
-/// `extensions.partialClone`.
+/// The remote that a setting says a partial clone is of, as git takes it: by `remote.<name>.promisor` where that is true, by
+/// `remote.<name>.partialCloneFilter` or, as it was said before, by `extensions.partialClone`. A later setting takes
+/// nothing back.
 fn promised_by<'a>(setting: Setting<'a>) -> Option<&'a [u8]> {
     if setting.key == b"extensions.partialclone".as_slice() {
         return setting.value;
     }
-    setting
-        .key
-        .strip_prefix(b"remote.")?
-        .strip_suffix(b".promisor")
+    let rest = setting.key.strip_prefix(b"remote.")?;
+    if let Some(remote) = rest.strip_suffix(b".partialclonefilter") {
+        return Some(remote);
+    }
+    let remote = rest.strip_suffix(b".promisor")?;
+    match setting.value {
+        Some(value) if says_no(value) => None,
+        _ => Some(remote),
+    }
 }
 
 impl Listing {

@@ -96,10 +96,12 @@ const NOTES: &[&str] = &[
     "new~",
     "new; git replace $(cat ../hi) $(echo ho | git hash-object -w --stdin)~\
       object 45b983be36b73c0788dc9cbcb76cbb80fc7bb057 is replaced (git replace)",
-    "new; git config uploadpack.allowFilter true; echo hi > f; git add f; git commit -qm f; cd ..; mv repo a; \
-      git clone -qn --filter=blob:none file://$PWD/a repo~\
-      this partial clone lacks 1 objects. To fetch them: \
-      git fetch --no-tags --filter=blob:none origin 45b983be36b73c0788dc9cbcb76cbb80fc7bb057",
+    // a partial clone is one whose remote is said to be a promisor, or has a filter, whatever is said behind
+    "git init -q repo; git -C repo config remote.a.promisor false~",
+    "git init -q repo; git -C repo config remote.a.promisor true; git -C repo config --add remote.a.promisor false~\
+      this partial clone lacks 1 objects",
+    "git init -q repo; git -C repo config remote.a.partialCloneFilter blob:none~this partial clone lacks 1 objects",
+    "git init -q repo; git -C repo config extensions.partialClone a~this partial clone lacks 1 objects",
     "new; printf '100644 %s 1\\td/.gitattributes\\n100644 %s 2\\td/.gitattributes\\n' $(cat ../hi) $(cat ../hi) | \
       git update-index --index-info~d/.gitattributes is unmerged",
 ];
