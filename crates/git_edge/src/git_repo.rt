@@ -101,7 +101,7 @@ impl GitRepo {
     pub fn notes(&self) -> Result<Vec<String>, AllocError> {
         notes_of(
             &self.git,
-            self.tree.is_none(),
+            self.tree.as_deref(),
             self.listing.promisor(),
             self.absent.as_slice(),
             self.returned.as_slice(),

@@ -5,9 +5,6 @@ use edge_adapters::DriverPlace;
 use std::alloc::{AllocError, Global};
 use std::env::var;
 
-/// How many objects one command fetches.
-const MOST: usize = 20;
-
 /// What git with these words gives, or nothing if it fails.
 fn said(git: &Git, words: &[&str]) -> Result<Vec<u8>, AllocError> {
     match git.ask(words) {
@@ -68,27 +65,67 @@ fn hex_of(alloc: Global, name: &[u8; 20]) -> Result<String, AllocError> {
     hex::encode(alloc, name.as_slice())
 }
 
-/// The note on the objects that a partial clone lacks.
-fn lack_of(git: &Git, remote: &[u8], absent: &[[u8; 20]]) -> Result<String, AllocError> {
-    let alloc = git.alloc;
-    let remote = text_of(alloc, remote)?;
-    let count = absent.len();
-    let mut note = format!(in alloc;
-        "this partial clone lacks {count} objects. To fetch them: git fetch --no-tags --filter=blob:none {remote}"
-    )?;
-    for name in absent.iter().take(MOST) {
-        note.push_str(" ")?;
-        note.push_str(hex_of(alloc, name)?.as_str())?;
-    }
-    if count > MOST {
-        note.push_str(" ..")?;
-    }
-    Ok(note)
+/// The names, each once and in order.
+fn each_once(mut names: Vec<[u8; 20]>) -> Vec<[u8; 20]> {
+    names.sort_unstable();
+    names.dedup();
+    names
 }
 
-/// Whether one of the objects that were given back has this name.
-fn was_read(returned: &[([u8; 20], u64)], name: &[u8]) -> bool {
-    returned.iter().any(|blob| blob.0.as_slice() == name)
+/// Whether a byte means itself wherever it stands in a shell's word.
+fn is_plain(byte: u8) -> bool {
+    byte.is_ascii_alphanumeric() || b"/._-".contains(&byte)
+}
+
+/// A text as one word of a shell's command.
+fn word_of(alloc: Global, text: &str) -> Result<String, AllocError> {
+    if text.bytes().all(is_plain) {
+        return String::from_str(alloc, text);
+    }
+    let mut word = String::from_str(alloc, "'")?;
+    for (place, part) in text.split('\'').enumerate() {
+        if place > 0 {
+            word.push_str("'\\''")?;
+        }
+        word.push_str(part)?;
+    }
+    word.push_str("'")?;
+    Ok(word)
+}
+
+/// How a shell calls git for the same repository.
+fn call_of(git: &Git) -> Result<String, AllocError> {
+    match &git.named {
+        Some(folder) => {
+            let folder = word_of(git.alloc, folder.as_str())?;
+            format!(in git.alloc; "git --git-dir={folder}")
+        }
+        None => String::from_str(git.alloc, "git"),
+    }
+}
+
+/// The command that fetches all that the clone lacks of a tree, or else of its own index, however much that is. It fetches
+/// as git itself does what was promised, without a word on the commits that are here, whose objects may be lacking.
+fn fetch_of(git: &Git, remote: &[u8], tree: Option<&str>) -> Result<String, AllocError> {
+    let call = call_of(git)?;
+    let remote = word_of(git.alloc, text_of(git.alloc, remote)?.as_str())?;
+    let wanted = tree.unwrap_or("--indexed-objects");
+    format!(in git.alloc;
+        "{call} rev-list --objects --missing=print {wanted} | sed -n 's/^?//p' | \
+         {call} -c fetch.negotiationAlgorithm=noop fetch -q --no-tags --no-write-fetch-head --filter=blob:none --stdin {remote}"
+    )
+}
+
+/// The note on the objects that a partial clone lacks.
+fn lack_of(
+    git: &Git,
+    remote: &[u8],
+    tree: Option<&str>,
+    absent: &[[u8; 20]],
+) -> Result<String, AllocError> {
+    let count = each_once(absent.to_vec(git.alloc)?).len();
+    let fetch = fetch_of(git, remote, tree)?;
+    format!(in git.alloc; "this partial clone lacks {count} objects. To fetch them: {fetch}")
 }
 
 fn add_replaced(
@@ -104,10 +141,14 @@ fn add_replaced(
             "refs/replace/",
         ],
     )?;
+    if listed.is_empty() {
+        return Ok(());
+    }
+    let read = each_once(returned.iter().map(|blob| blob.0).collect(git.alloc)?);
     for digits in listed.split(|byte| *byte == b'\n') {
         let mut name = [0u8; 20];
         if hex::decode_to_slice(digits, name.as_mut_slice()).is_ok()
-            && was_read(returned, name.as_slice())
+            && read.binary_search(&name).is_ok()
         {
             let digits = hex_of(git.alloc, &name)?;
             notes.push(format!(in git.alloc;
@@ -118,22 +159,22 @@ fn add_replaced(
     Ok(())
 }
 
-/// What is to be said of a repository: of its own index if that was read, of the objects that a clone of part of this
-/// remote lacks, and of those that were given back.
+/// What is to be said of a repository: of its own index if no tree was read in its place, of the objects that a clone of
+/// part of this remote lacks, and of those that were given back.
 pub fn notes_of(
     git: &Git,
-    own_index: bool,
+    tree: Option<&str>,
     remote: Option<&[u8]>,
     absent: &[[u8; 20]],
     returned: &[([u8; 20], u64)],
 ) -> Result<Vec<String>, AllocError> {
     let mut notes = Vec::new(git.alloc);
-    if own_index {
+    if tree.is_none() {
         add_unmerged(git, &mut notes)?;
     }
     if let Some(remote) = remote {
         if !absent.is_empty() {
-            notes.push(lack_of(git, remote, absent)?)?;
+            notes.push(lack_of(git, remote, tree, absent)?)?;
         }
     }
     add_replaced(git, returned, &mut notes)?;

@@ -1,7 +1,8 @@
 //! The index of a repository, and what is said of one.
-use crate::place::{folder_after, has_git, open, read_hi};
+use crate::place::{folder_after, has_git, open, read_hi, runs};
 use crate::table::{cut, is_right};
-use edge_kit::Repo;
+use edge_kit::{Blob, Repo};
+use git_edge::GitRepo;
 use git_index::read_index;
 use std::fs::remove_dir_all;
 use std::test::Fail;
@@ -130,6 +131,62 @@ fn notes_name_what_git_would_give_otherwise(rt: HostRuntime) -> Result<(), Fail>
         remove_dir_all(&rt, folder.as_str())?;
         let is_so = note.as_str().starts_with(want) && note.is_empty() == want.is_empty();
         is_right(&rt, is_so, row, note.as_str());
+    }
+    Ok(())
+}
+
+/// Makes a partial clone that lacks thirty objects, of a remote with a name that has to be quoted for a shell.
+const PARTIAL: &str =
+    "new; git config uploadpack.allowFilter true; for n in $(seq 30); do echo $n > $n; done; \
+    git add .; git commit -qm a; cd ..; mv repo a; git clone -qn -o \"it's\" --filter=blob:none file://$PWD/a repo; \
+    git -C repo read-tree HEAD";
+
+/// Whether the object with this name is there.
+fn is_there(repo: &mut GitRepo, name: &[u8; 20]) -> Result<bool, Fail> {
+    let mut blob = repo.blob(name)?;
+    let taken = blob.take_all(99);
+    repo.take_back(blob);
+    Ok(matches!(taken, Ok(Some(_))))
+}
+
+/// How many objects of the index are there. Each is read twice.
+fn count_there(rt: HostRuntime, repo: &mut GitRepo) -> Result<usize, Fail> {
+    let mut count = 0usize;
+    let Ok(Some(bytes)) = repo.index_bytes(1_048_576) else {
+        return Ok(count);
+    };
+    let Ok(index) = read_index(rt.alloc(), bytes.as_slice()) else {
+        return Ok(count);
+    };
+    for entry in index.entries() {
+        let was_there = is_there(repo, &entry.name)?;
+        if is_there(repo, &entry.name)? && was_there {
+            count = count.saturating_add(1);
+        }
+    }
+    Ok(count)
+}
+
+#[test]
+fn a_note_has_the_command_that_fetches_what_a_partial_clone_lacks(
+    rt: HostRuntime,
+) -> Result<(), Fail> {
+    if !has_git(rt)? {
+        return Ok(());
+    }
+    for revision in ["-", "HEAD"] {
+        let folder = folder_after(rt, "partial", PARTIAL)?;
+        let Ok(mut repo) = open(rt, folder.as_str(), revision) else {
+            panic!(rt; "no repository");
+        };
+        let before = count_there(rt, &mut repo)?;
+        let notes = repo.notes()?;
+        let (words, command) = cut(notes.first().map_or("", |note| note.as_str()), ':');
+        let is_fetched = runs(rt, folder.as_str(), command)?;
+        let after = count_there(rt, &mut repo)?;
+        remove_dir_all(&rt, folder.as_str())?;
+        assert!(rt; words == "this partial clone lacks 30 objects. To fetch them");
+        assert!(rt; is_fetched && before == 0 && after == 30);
     }
     Ok(())
 }
