@@ -17,7 +17,7 @@ def object_fault(stored, name):
     """Why a stored object isn't right, or None; and its content."""
     if stored is None:
         return "object-absent", b""
-    if len(stored) > 67_108_880:
+    if len(stored) > 268_435_471:
         return "object-too-large", b""
     head = re.match(rb"blob (0|[1-9][0-9]*)\0", stored)
     if not head:
