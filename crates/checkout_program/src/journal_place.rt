@@ -18,7 +18,7 @@ const TITLE: &str = "SIUWBREN_JOURNAL";
 /// A new file at this path.
 fn new_file(rt: HostRuntime, path: String) -> Result<JournalPlace, AllocError> {
     let title = String::from_str(rt.alloc(), TITLE)?;
-    match JournalFile::make(rt, title, path) {
+    match JournalFile::make(rt, title, path)? {
         Some(file) => Ok(JournalPlace::File(file)),
         None => Ok(JournalPlace::Unusable),
     }

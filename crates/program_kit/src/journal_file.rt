@@ -4,6 +4,7 @@ use checkout_core::Event;
 use edge_adapters::remove_own;
 use edge_kit::Repo;
 use journal_run::checkout_journal;
+use std::alloc::AllocError;
 use std::fs::{File, OpenOptions};
 use std::io;
 use std::io::{ErrorKind, Write};
@@ -43,25 +44,40 @@ fn new_file(rt: HostRuntime, path: &str) -> io::Result<File> {
         .open(&rt, path)
 }
 
+/// Says why no file can be made, unless memory ran out.
+fn refuse(
+    rt: HostRuntime,
+    title: &str,
+    error: &io::Error,
+) -> Result<Option<JournalFile>, AllocError> {
+    match error.kind() {
+        ErrorKind::OutOfMemory => return Err(AllocError),
+        ErrorKind::AlreadyExists => {
+            let _ = eprintln!(rt; "{title}: the file exists");
+        }
+        _ => {
+            let _ = eprintln!(rt; "{title}: {error}");
+        }
+    }
+    Ok(None)
+}
+
 impl JournalFile {
-    /// Makes the file where nothing is. If it can't be made, standard error says why.
-    pub fn make(rt: HostRuntime, title: String, path: String) -> Option<JournalFile> {
+    /// Makes the file where nothing is. If none can be there, standard error says why.
+    pub fn make(
+        rt: HostRuntime,
+        title: String,
+        path: String,
+    ) -> Result<Option<JournalFile>, AllocError> {
         match new_file(rt, path.as_str()) {
-            Ok(file) => Some(JournalFile {
+            Ok(file) => Ok(Some(JournalFile {
                 rt,
                 title,
                 path,
                 file,
                 is_whole: false,
-            }),
-            Err(error) if error.kind() == ErrorKind::AlreadyExists => {
-                let _ = eprintln!(rt; "{title}: the file exists");
-                None
-            }
-            Err(error) => {
-                let _ = eprintln!(rt; "{title}: {error}");
-                None
-            }
+            })),
+            Err(error) => refuse(rt, title.as_str(), &error),
         }
     }
 

@@ -13,7 +13,7 @@ use std::thread::Threads;
 pub fn journal_file(rt: HostRuntime, path: &str) -> Result<Option<JournalFile>, AllocError> {
     let title = format!(in rt.alloc(); "error: journal '{path}'")?;
     let path = String::from_str(rt.alloc(), path)?;
-    Ok(JournalFile::make(rt, title, path))
+    JournalFile::make(rt, title, path)
 }
 
 /// Judges the journal in a file, and prints a line of that.
