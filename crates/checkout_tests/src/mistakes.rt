@@ -67,7 +67,7 @@ const REPLIES: &[u8] = b"\
         entry -h p1|\
         Gives 0016git-filter-server\n000eversion=2\n00000016capability=smudge\n0000\
             0011status=maybe\n0000|\
-        Sent 0013command=smudge\n0010pathname=p1\n00000007hi\n0000|\
+        Sent 0013command=smudge\n0010pathname=p1\n0032blob=45b983be36b73c0788dc9cbcb76cbb80fc7bb057\n00000007hi\n0000|\
         Open|\
         Notes open\n0 Broken(UnknownStatus)\n|\
         Back 0|\
@@ -76,7 +76,7 @@ const REPLIES: &[u8] = b"\
         entry -h p1|\
         Gives 0016git-filter-server\n000eversion=2\n00000016capability=smudge\n0000\
             0013status=delayed\n0000|\
-        Sent 0013command=smudge\n0010pathname=p1\n00000007hi\n0000|\
+        Sent 0013command=smudge\n0010pathname=p1\n0032blob=45b983be36b73c0788dc9cbcb76cbb80fc7bb057\n00000007hi\n0000|\
         Open|\
         Notes open\n0 Broken(StrangeDelay)\n|\
         Back 0|\
@@ -85,7 +85,7 @@ const REPLIES: &[u8] = b"\
         entry -h p1|\
         Gives 0016git-filter-server\n000eversion=2\n00000016capability=smudge\n0000\
             0013status=success\n00000009abc|\
-        Sent 0013command=smudge\n0010pathname=p1\n00000007hi\n0000|\
+        Sent 0013command=smudge\n0010pathname=p1\n0032blob=45b983be36b73c0788dc9cbcb76cbb80fc7bb057\n00000007hi\n0000|\
         Open|\
         Notes open\n0 Broken(Ended)\n|\
         Back 0|\
@@ -104,8 +104,10 @@ const LISTS: &[u8] = b"\
         Gives 0016git-filter-server\n000eversion=2\n00000016capability=smudge\n0015capability=delay\n0000\
             0013status=delayed\n00000013status=delayed\n0000\
             0010pathname=p1\n0010pathname=p1\n00000013status=success\n0000|\
-        Sent 0013command=smudge\n0010pathname=p1\n0010can-delay=1\n00000007hi\n0000\
-            0013command=smudge\n0010pathname=p2\n0010can-delay=1\n00000007hi\n00000021command=list_available_blobs\n0000|\
+        Sent 0013command=smudge\n0010pathname=p1\n0032blob=45b983be36b73c0788dc9cbcb76cbb80fc7bb057\n\
+            0010can-delay=1\n00000007hi\n0000\
+            0013command=smudge\n0010pathname=p2\n0032blob=45b983be36b73c0788dc9cbcb76cbb80fc7bb057\n\
+            0010can-delay=1\n00000007hi\n00000021command=list_available_blobs\n0000|\
         Open|\
         Notes open\n0 Delayed\n1 Delayed\nlist Broken(StrangePath)\n|\
         failed - - missing p1\nfailed - - missing p2\ndone 0 0 2 0\nstatus 1\n%\
@@ -115,8 +117,10 @@ const LISTS: &[u8] = b"\
         Gives 0016git-filter-server\n000eversion=2\n00000016capability=smudge\n0015capability=delay\n0000\
             0013status=delayed\n00000013status=delayed\n0000\
             00000011status=error\n0000|\
-        Sent 0013command=smudge\n0010pathname=p1\n0010can-delay=1\n00000007hi\n0000\
-            0013command=smudge\n0010pathname=p2\n0010can-delay=1\n00000007hi\n00000021command=list_available_blobs\n0000|\
+        Sent 0013command=smudge\n0010pathname=p1\n0032blob=45b983be36b73c0788dc9cbcb76cbb80fc7bb057\n\
+            0010can-delay=1\n00000007hi\n0000\
+            0013command=smudge\n0010pathname=p2\n0032blob=45b983be36b73c0788dc9cbcb76cbb80fc7bb057\n\
+            0010can-delay=1\n00000007hi\n00000021command=list_available_blobs\n0000|\
         Open|\
         Notes open\n0 Delayed\n1 Delayed\nlist Broken(ListRefused)\n|\
         failed - - missing p1\nfailed - - missing p2\ndone 0 0 2 0\nstatus 1\n%\
@@ -126,8 +130,10 @@ const LISTS: &[u8] = b"\
         Gives 0016git-filter-server\n000eversion=2\n00000016capability=smudge\n0015capability=delay\n0000\
             0013status=delayed\n00000013status=delayed\n0000\
             00000011status=maybe\n0000|\
-        Sent 0013command=smudge\n0010pathname=p1\n0010can-delay=1\n00000007hi\n0000\
-            0013command=smudge\n0010pathname=p2\n0010can-delay=1\n00000007hi\n00000021command=list_available_blobs\n0000|\
+        Sent 0013command=smudge\n0010pathname=p1\n0032blob=45b983be36b73c0788dc9cbcb76cbb80fc7bb057\n\
+            0010can-delay=1\n00000007hi\n0000\
+            0013command=smudge\n0010pathname=p2\n0032blob=45b983be36b73c0788dc9cbcb76cbb80fc7bb057\n\
+            0010can-delay=1\n00000007hi\n00000021command=list_available_blobs\n0000|\
         Open|\
         Notes open\n0 Delayed\n1 Delayed\nlist Broken(UnknownStatus)\n|\
         failed - - missing p1\nfailed - - missing p2\ndone 0 0 2 0\nstatus 1\n%\
@@ -137,8 +143,10 @@ const LISTS: &[u8] = b"\
         Gives 0016git-filter-server\n000eversion=2\n00000016capability=smudge\n0015capability=delay\n0000\
             0013status=delayed\n00000013status=delayed\n0000\
             00000011status=abort\n0000|\
-        Sent 0013command=smudge\n0010pathname=p1\n0010can-delay=1\n00000007hi\n0000\
-            0013command=smudge\n0010pathname=p2\n0010can-delay=1\n00000007hi\n00000021command=list_available_blobs\n0000|\
+        Sent 0013command=smudge\n0010pathname=p1\n0032blob=45b983be36b73c0788dc9cbcb76cbb80fc7bb057\n\
+            0010can-delay=1\n00000007hi\n0000\
+            0013command=smudge\n0010pathname=p2\n0032blob=45b983be36b73c0788dc9cbcb76cbb80fc7bb057\n\
+            0010can-delay=1\n00000007hi\n00000021command=list_available_blobs\n0000|\
         Notes open\n0 Delayed\n1 Delayed\nlist Abort\n|\
         failed - - missing p1\nfailed - - missing p2\ndone 0 0 2 0\nstatus 1\n%\
     the end of the output|\
@@ -147,8 +155,10 @@ const LISTS: &[u8] = b"\
         Gives 0016git-filter-server\n000eversion=2\n00000016capability=smudge\n0015capability=delay\n0000\
             0013status=delayed\n00000013status=delayed\n0000\
             0010pathname=p1\n|\
-        Sent 0013command=smudge\n0010pathname=p1\n0010can-delay=1\n00000007hi\n0000\
-            0013command=smudge\n0010pathname=p2\n0010can-delay=1\n00000007hi\n00000021command=list_available_blobs\n0000|\
+        Sent 0013command=smudge\n0010pathname=p1\n0032blob=45b983be36b73c0788dc9cbcb76cbb80fc7bb057\n\
+            0010can-delay=1\n00000007hi\n0000\
+            0013command=smudge\n0010pathname=p2\n0032blob=45b983be36b73c0788dc9cbcb76cbb80fc7bb057\n\
+            0010can-delay=1\n00000007hi\n00000021command=list_available_blobs\n0000|\
         Open|\
         Notes open\n0 Delayed\n1 Delayed\nlist Broken(Ended)\n|\
         failed - - missing p1\nfailed - - missing p2\ndone 0 0 2 0\nstatus 1\n%";
@@ -167,7 +177,9 @@ const STUCK: &[u8] = b"\
         leaf discard p1|\
         Gives 0016git-filter-server\n000eversion=2\n00000016capability=smudge\n0000\
             0011status=error\n00000013status=success\n00000007two00000000|\
-        Sent 0013command=smudge\n0010pathname=p1\n00000007hi\n00000013command=smudge\n0010pathname=p2\n00000007hi\n0000|\
+        Sent 0013command=smudge\n0010pathname=p1\n0032blob=45b983be36b73c0788dc9cbcb76cbb80fc7bb057\n\
+            00000007hi\n00000013command=smudge\n0010pathname=p2\n0032blob=45b983be36b73c0788dc9cbcb76cbb80fc7bb057\n\
+            00000007hi\n0000|\
         Notes open\n0 Error\n1 Content\nshut\n|\
         failed - - write p1\nwritten - - - p2\ndone 1 0 1 0\nstatus 1\np2: two%";
 
