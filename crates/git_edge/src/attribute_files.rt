@@ -94,7 +94,8 @@ fn file_at(git: &Git, path: io::Result<Option<String>>, limit: u64) -> Result<Ve
     }
 }
 
-/// The two files as one, of which the later lines win: the system's, and then the user's. Neither has its mark (U+FEFF).
+/// The two files as one, of which the later lines win: the system's, and then the user's. Neither has its mark
+/// (U+FEFF).
 pub fn base_attributes(
     git: &Git,
     listing: &Listing,

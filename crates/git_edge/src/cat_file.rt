@@ -166,8 +166,8 @@ impl CatFile {
         }
     }
 
-    /// Asks for the object that will probably be taken next, if there is one, once the last take went well. The child gets
-    /// it ready meanwhile, as far as the pipe holds it. Returns whether the child is still of use.
+    /// Asks for the object that will probably be taken next, if there is one, once the last take went well. The
+    /// child gets it ready meanwhile, as far as the pipe holds it. Returns whether the child is still of use.
     pub fn ask_ahead(&mut self, next: Option<[u8; 20]>) -> bool {
         let Some(name) = next else {
             return true;
@@ -229,7 +229,8 @@ impl CatFile {
         }
     }
 
-    /// Reads the answer for an object that nobody wants. Returns whether the child is still of use, as after a short one.
+    /// Reads the answer for an object that nobody wants. Returns whether the child is still of use, as after a
+    /// short one.
     fn drop_answer(&mut self, alloc: Global, name: &[u8; 20]) -> bool {
         let mut first = [0u8; FIRST];
         let Ok((had, end)) = read_line(&mut self.output, first.as_mut_slice()) else {

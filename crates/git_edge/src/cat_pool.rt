@@ -23,8 +23,8 @@ pub struct CatPool {
 /// More than threads ever read at once.
 const SEATS: usize = 64;
 
-/// Takes an object by the child in a seat, which is started if there is none, and asks it ahead for the next one. After an
-/// error the seat is empty.
+/// Takes an object by the child in a seat, which is started if there is none, and asks it ahead for the next one.
+/// After an error the seat is empty.
 fn take_by(
     git: &Git,
     seat: &mut Option<CatFile>,
@@ -71,8 +71,9 @@ impl CatPool {
 
     /// Takes an object, which was lent in this place, by the first child that is idle. It waits for no other thread.
     ///
-    /// The first child alone is asked ahead, and only until another one is asked at all. While one thread reads, git gets
-    /// the next object ready. Of several threads each has a child, and those are at work beside each other.
+    /// The first child alone is asked ahead, and only until another one is asked at all. While one thread reads,
+    /// git gets the next object ready. Of several threads each has a child, and those are at work beside each
+    /// other.
     pub fn take(
         &self,
         name: &[u8; 20],

@@ -5,8 +5,8 @@ use std::io;
 use std::io::ErrorKind;
 use std::process::{Command, Output, Stdio};
 
-/// What git is asked by: the program's own environment, and the Git folder if one was named. Without one git finds it as
-/// it always does.
+/// What git is asked by: the program's own environment, and the Git folder if one was named. Without one git finds
+/// it as it always does.
 #[derive(Drop)]
 pub struct Git {
     pub rt: HostRuntime,
@@ -42,7 +42,8 @@ const VARIABLES: [(&str, &str); 4] = [
     ("GIT_OPTIONAL_LOCKS", "0"),
 ];
 
-/// The settings by which git writes a whole index, asks no watcher of files, and leaves it to others which paths are bad.
+/// The settings by which git writes a whole index, asks no watcher of files, and leaves it to others which paths
+/// are bad.
 const WHOLE: [&str; 10] = [
     "-c",
     "core.splitIndex=false",

@@ -38,9 +38,9 @@ pub struct GitRepo {
 }
 
 impl GitRepo {
-    /// The repository that has the Git folder `git_dir`, or without one the repository that git finds from the folder in
-    /// which this program was started. Its index is that of a commit, a tag or a tree if a revision names one, and else
-    /// the repository's own.
+    /// The repository that has the Git folder `git_dir`, or without one the repository that git finds from the
+    /// folder in which this program was started. Its index is that of a commit, a tag or a tree if a revision names
+    /// one, and else the repository's own.
     pub fn open(
         rt: HostRuntime,
         git_dir: Option<&str>,

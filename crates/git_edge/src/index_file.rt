@@ -11,8 +11,8 @@ use std::{fs, io};
 /// How many bytes the hash at an index's end has.
 const HASH: usize = 20;
 
-/// Whether these bytes can be those of an extension behind its signature: its length, so many bytes, and then at least the
-/// index's hash (gitformat-index(5)).
+/// Whether these bytes can be those of an extension behind its signature: its length, so many bytes, and then at least
+/// the index's hash (gitformat-index(5)).
 fn is_extension(bytes: &[u8]) -> bool {
     match bytes {
         [a, b, c, d, rest @ ..] => {
@@ -45,8 +45,8 @@ fn may_be_partial(index: &[u8]) -> bool {
     may_have(index, b"link") || may_have(index, b"sdir")
 }
 
-/// The bytes of an index that git writes in a folder of its own, where these bytes are first if there are any. `None` if
-/// git can't.
+/// The bytes of an index that git writes in a folder of its own, where these bytes are first if there are any. `None`
+/// if git can't.
 fn written(git: &Git, before: Option<&[u8]>, words: &[&str]) -> io::Result<Option<Vec<u8>>> {
     let scratch = Scratch::make(git.rt, git.alloc)?;
     let path = scratch.path_of(git.alloc, "index")?;
@@ -78,8 +78,8 @@ pub fn index_of_tree(git: &Git, tree: &str, limit: u64) -> Result<Option<Vec<u8>
     limited(written(git, None, &["read-tree", tree]), limit)
 }
 
-/// The index at this path, which git makes whole if it is split or has folders among its entries. One that is broken stays
-/// as it is.
+/// The index at this path, which git makes whole if it is split or has folders among its entries. One that is broken
+/// stays as it is.
 pub fn own_index(git: &Git, path: &str, limit: u64) -> Result<Option<Vec<u8>>, TakeFault>
     ensures { Takes Untold limit result }
 {

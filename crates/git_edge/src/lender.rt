@@ -24,8 +24,8 @@ fn borrowing(git: &Git, found: &Found) -> io::Result<CatPool> {
     Ok(CatPool::new(borrower, Some(scratch))?)
 }
 
-/// The processes that give the objects of a repository. In a partial clone they would end at an object that isn't there,
-/// so they are asked in another Git folder.
+/// The processes that give the objects of a repository. In a partial clone they would end at an object that isn't
+/// there, so they are asked in another Git folder.
 pub fn lender_of(git: &Git, found: &Found, listing: &Listing) -> Result<CatPool, GitFault> {
     if listing.promisor().is_some() {
         return match borrowing(git, found) {

@@ -104,15 +104,17 @@ fn call_of(git: &Git) -> Result<String, AllocError> {
     }
 }
 
-/// The command that fetches all that the clone lacks of a tree, or else of its own index, however much that is. It fetches
-/// as git itself does what was promised, without a word on the commits that are here, whose objects may be lacking.
+/// The command that fetches all that the clone lacks of a tree, or else of its own index, however much that is. It
+/// fetches as git itself does what was promised, without a word on the commits that are here, whose objects may be
+/// lacking.
 fn fetch_of(git: &Git, remote: &[u8], tree: Option<&str>) -> Result<String, AllocError> {
     let call = call_of(git)?;
     let remote = word_of(git.alloc, text_of(git.alloc, remote)?.as_str())?;
     let wanted = tree.unwrap_or("--indexed-objects");
     format!(in git.alloc;
         "{call} rev-list --objects --missing=print {wanted} | sed -n 's/^?//p' | \
-         {call} -c fetch.negotiationAlgorithm=noop fetch -q --no-tags --no-write-fetch-head --filter=blob:none --stdin {remote}"
+         {call} -c fetch.negotiationAlgorithm=noop fetch -q --no-tags --no-write-fetch-head --filter=blob:none \
+         --stdin {remote}"
     )
 }
 
@@ -152,15 +154,16 @@ fn add_replaced(
         {
             let digits = hex_of(git.alloc, &name)?;
             notes.push(format!(in git.alloc;
-                "object {digits} is replaced (git replace): git writes what replaces it, and this program the object itself"
+                "object {digits} is replaced (git replace): git writes what replaces it, \
+                 and this program the object itself"
             )?)?;
         }
     }
     Ok(())
 }
 
-/// What is to be said of a repository: of its own index if no tree was read in its place, of the objects that a clone of
-/// part of this remote lacks, and of those that were given back.
+/// What is to be said of a repository: of its own index if no tree was read in its place, of the objects that a clone
+/// of part of this remote lacks, and of those that were given back.
 pub fn notes_of(
     git: &Git,
     tree: Option<&str>,
@@ -193,8 +196,8 @@ fn folder_of(git: &Git, git_dir: &str) -> Result<String, AllocError> {
     }
 }
 
-/// Where git runs the drivers of this repository. The Git folder is named if git wouldn't find it there by its usual name,
-/// or would look for another one.
+/// Where git runs the drivers of this repository. The Git folder is named if git wouldn't find it there by its usual
+/// name, or would look for another one.
 pub fn place_of(git: &Git, git_dir: &str) -> Result<DriverPlace, AllocError> {
     let folder = folder_of(git, git_dir)?;
     let usual = format!(in git.alloc; "{folder}/.git")?;

@@ -14,10 +14,12 @@ const REFUSED: &[&str] = &[
     "new; echo '[' >> .git/config~-~bad config line",
     "new~v9~'v9' names no commit, tag or tree",
     "new~--all~'--all' names no commit, tag or tree",
-    // a git that fails at a revision, and one that doesn't know what it is asked, and so says it again (git-rev-parse(1))
+    // a git that fails at a revision, and one that doesn't know what it is asked, and so says it again
+    // (git-rev-parse(1))
     "new; cd ..; fake 'case $* in *--verify*) echo fatal: it fails >&2; exit 128;; esac'~HEAD~it fails",
     "new; cd ..; fake 'case $* in *--verify*) kill -9 $$;; esac'~HEAD~git names no tree",
-    "new; cd ..; fake 'case $* in *path-format*) printf -- \"--path-format=absolute\\n/a\\nb\\nc\\nd\\nsha1\\n\"; exit;; esac'~-~\
+    "new; cd ..; fake 'case $* in *path-format*) \
+      printf -- \"--path-format=absolute\\n/a\\nb\\nc\\nd\\nsha1\\n\"; exit;; esac'~-~\
       git is too old: it has to be of version 2.31 or later",
     "new; rm ../git~-~git can't be run: No such file or directory",
 ];
@@ -48,7 +50,8 @@ const INDEXES: &[&str] = &[
     // of version 4, split, and with folders among its entries
     "new; mkdir d; echo a > d/a; echo b > d/b; git add .; git update-index --index-version 4~-~d/a d/b ",
     "new; echo a > a; git add .; git update-index --split-index; echo b > b; git add b~-~a b ",
-    "new; mkdir d; echo a > d/a; echo b > b; git add .; git commit -qm b; git sparse-checkout set --cone --sparse-index~-~b d/a* ",
+    "new; mkdir d; echo a > d/a; echo b > b; git add .; git commit -qm b; \
+      git sparse-checkout set --cone --sparse-index~-~b d/a* ",
     "new; echo a > a; git add .; git commit -qm a; git tag -am v v; git rm -q a~v~a ",
     "new; echo a > a; git add .; git commit -qm a; git rm -q a~HEAD^{tree}~a ",
 ];

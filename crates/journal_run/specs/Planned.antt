@@ -16,8 +16,8 @@ use Rattle.journal_audit.specs.Audits.{Spells, journal_of}
 use Rattle.journal_run.specs.declared.checkout.JournalFault.{JournalFault}
 use Rattle.journal_run.specs.declared.checkout.JournalFault.TheVariants.{NoCheckout, NoPlan, TooManyEvents, NoMemory}
 
--- The plan of the repository was read, and the text spells this history over it: how its paths begin, as many workers as
--- are asked for and its settings give, and the drivers in use.
+-- The plan of the repository was read, and the text spells this history over it: how its paths begin, as many
+-- workers as are asked for and its settings give, and the drivers in use.
 pub record IsCheckoutJournal (told : RepoTold) (asked : Option ℕ) (history : List Event) (old new : RepoSeen)
     (text : List ℕ) : Type 0 where
   pub plan : Plan
@@ -30,8 +30,8 @@ abbrev pub fault_of : Stop → JournalFault
 fault_of stop.NoMemory = NoMemory
 fault_of s = NoPlan
 
--- The journal of the checkout that words ask for, or why there is none. Too many events are seen before the repository is
--- read. Memory runs out while its plan is read, or after that.
+-- The journal of the checkout that words ask for, or why there is none. Too many events are seen before the
+-- repository is read. Memory runs out while its plan is read, or after that.
 abbrev pub Journals : RepoTold → Option Command → List Event → RepoSeen → RepoSeen
     → Result (Vec ℕ) JournalFault → Type 0
 Journals told command history old new (Ok text) =
