@@ -1,6 +1,7 @@
 /* Loaded before the C library, it makes one allocation fail, and says so on standard error. The number of that allocation,
    from 1, is in FAIL_AT. It counts those of the program whose name is in FAIL_IN alone, or of each program where that is
-   unset. With COUNT_IN, a file, it writes there at the end how many there were. */
+   unset. With COUNT_IN, a file, it writes there at the end how many there were. With LINES_IN, a file, it writes there what the
+   program writes on standard output, and before each such text how many there were until then. */
 #define _GNU_SOURCE
 #include <dlfcn.h>
 #include <errno.h>
@@ -41,6 +42,21 @@ static int fails(void) {
   if (write(2, said, sizeof said - 1) < 0) abort();
   errno = ENOMEM;
   return 1;
+}
+
+/* of one thread's text: what is written in pieces at once isn't told apart */
+ssize_t write(int file, const void *text, size_t size) {
+  static ssize_t (*real)(int, const void *, size_t);
+  static int lines = -1;
+  const char *path = getenv("LINES_IN");
+  char number[32];
+  if (!real) real = (ssize_t (*)(int, const void *, size_t))dlsym(RTLD_NEXT, "write");
+  if (path && file == 1) {
+    if (lines < 0) lines = open(path, O_WRONLY | O_CREAT | O_TRUNC | O_CLOEXEC, 0666);
+    if (real(lines, number, (size_t)snprintf(number, sizeof number, "%lu ", count)) < 0) abort();
+    if (real(lines, text, size) < 0) abort();
+  }
+  return real(file, text, size);
 }
 
 void *malloc(size_t size) {

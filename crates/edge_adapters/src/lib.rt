@@ -9,6 +9,7 @@ mod folder_tree;
 mod folders;
 mod front;
 mod given_up;
+mod looking;
 mod output_sink;
 mod paths;
 mod patient;
@@ -23,8 +24,9 @@ mod writing;
 
 pub use file_leaf::FileLeaf;
 pub use folder_repo::{FolderBlob, FolderRepo};
-pub use folder_tree::{FolderTree, holds_nothing};
+pub use folder_tree::FolderTree;
 pub use folders::{create_in_tree, empty_file, link_in_tree, remove_own};
+pub use looking::holds_nothing;
 pub use output_sink::OutputSink;
 pub use paths::path_in;
 pub use process_link::ProcessLink;
