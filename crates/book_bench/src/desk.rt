@@ -6,6 +6,7 @@ ghost use Rattle.checkout_book.specs.Shelves.{IsRefused, cards_of};
 ghost use Rattle.checkout_book.specs.Sights.{sight};
 ghost use Rattle.book_bench.specs.Pairs.{IsFirst};
 
+use crate::marks::Mark;
 use crate::work::work;
 use checkout_book::book::{Book, Pass, hand_back, note};
 use checkout_core::{Event, OpenCause};
@@ -15,8 +16,9 @@ use edge_kit::{Blob, Leaf};
 use std::sync::Wait;
 
 /// Notes that the driver of path 1 can't be started, and hands the path's card back.
-pub fn give_back<B: Blob, L: Leaf, H: Wait>(
+pub fn give_back<B: Blob, L: Leaf, H: Wait, M: Mark>(
     rt: &H,
+    marks: &M,
     book: &Book<B, L>,
     mut pass: Pass<B, L>,
     card: Card<B, L>,
@@ -29,6 +31,7 @@ pub fn give_back<B: Blob, L: Leaf, H: Wait>(
 {
     laws::what_may_follow_is_a_step();
     checkout_book::laws::a_pass_lists_its_own_entries::<B, L>();
+    marks.begin("note");
     note(
         rt,
         book,
@@ -38,14 +41,18 @@ pub fn give_back<B: Blob, L: Leaf, H: Wait>(
             cause: OpenCause::NotStarted,
         },
     );
+    marks.end();
+    marks.begin("hand_back");
     hand_back(rt, book, &mut pass, card);
+    marks.end();
     pass
 }
 
 /// The worker closes what waits, and gets nothing more. Then the desk hands its card back. Now the worker gets that,
 /// and after it the desk gets nothing.
-pub fn turns<B: Blob, L: Leaf, H: Wait>(
+pub fn turns<B: Blob, L: Leaf, H: Wait, M: Mark>(
     rt: &H,
+    marks: &M,
     book: &Book<B, L>,
     worker: Pass<B, L>,
     desk: Pass<B, L>,
@@ -57,9 +64,9 @@ pub fn turns<B: Blob, L: Leaf, H: Wait>(
     ensures { (d : Plan B L) (made : ℕ) → HasNothing book.now d 0 made worker → IsFirst book.now d 0 desk
         → HasNothing book.now d 0 made result.0 × HasNothing book.now d 1 0 result.1 }
 {
-    let idle = work(rt, book, worker);
-    let desk = give_back(rt, book, desk, card);
-    let worker = work(rt, book, idle);
-    let desk = work(rt, book, desk);
+    let idle = work(rt, marks, book, worker);
+    let desk = give_back(rt, marks, book, desk, card);
+    let worker = work(rt, marks, book, idle);
+    let desk = work(rt, marks, book, desk);
     (worker, desk)
 }

@@ -1,8 +1,9 @@
 //! Claims and closes the cards of a book, one after another.
 //!
 //! Without words it makes four books: one and three cards with one worker, two cards with a worker and a driver's desk,
-//! and two cards that are left for the caller. It tells each history, and the verdict of each path. With the word COUNT
-//! it makes one book with that many cards and one worker, and tells its time.
+//! and two cards that are left for the caller. It tells each history, and the verdict of each path. The calls of
+//! the books with a desk stand between two lines each: `tests/fail_alloc` counts the allocations between. With the
+//! word COUNT it makes one book with that many cards and one worker, and tells its time.
 #![tactic(auto)]
 
 ghost use Rattle.std.specs.Prelude.{◌≡◌, IfOk};
@@ -12,12 +13,14 @@ ghost use Rattle.checkout_book.specs.Sights.{sight, seen};
 mod cards;
 mod desk;
 mod lists;
+mod marks;
 mod pair;
 mod runs;
 mod work;
 
 use crate::cards::new_pair;
 use crate::lists::both;
+use crate::marks::Lines;
 use crate::runs::{by_one_worker, by_the_caller, by_worker_and_desk};
 use checkout_book::ending::Ended;
 use checkout_core::Verdict;
@@ -140,7 +143,7 @@ fn tell_none<R: Print>(rt: &R) -> io::Result<()> {
 fn tell_desk<R: Print + Wait + AllocGlobal>(rt: &R) -> io::Result<()> {
     println!(rt; "a worker and a desk")?;
     let (free, filtered) = two_cards(rt.alloc(), &HELLO)?;
-    match by_worker_and_desk(rt, rt.alloc(), free, filtered)? {
+    match by_worker_and_desk(rt, &Lines { rt }, rt.alloc(), free, filtered)? {
         Some(ended) => tell(rt, &ended, 2),
         None => tell_none(rt),
     }
@@ -150,7 +153,7 @@ fn tell_desk<R: Print + Wait + AllocGlobal>(rt: &R) -> io::Result<()> {
 fn tell_caller<R: Print + Wait + AllocGlobal>(rt: &R) -> io::Result<()> {
     println!(rt; "a desk, and then the caller")?;
     let (free, filtered) = two_cards(rt.alloc(), &HI)?;
-    let Some(ended) = by_the_caller(rt, rt.alloc(), free, filtered)? else {
+    let Some(ended) = by_the_caller(rt, &Lines { rt }, rt.alloc(), free, filtered)? else {
         return tell_none(rt);
     };
     tell(rt, &ended, 2)?;

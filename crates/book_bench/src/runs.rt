@@ -10,6 +10,7 @@ ghost use Rattle.book_bench.specs.Pools.{IsPool};
 use crate::cards::{NewCards, new_cards, refused_card};
 use crate::desk::{give_back, turns};
 use crate::lists::{alone, both};
+use crate::marks::{Mark, Silent};
 use crate::pair::{PairBegun, begin_pair};
 use crate::work::work;
 use checkout_book::book::{Book, Pass};
@@ -68,12 +69,13 @@ pub fn by_one_worker<R: Repo, W: Worktree, H: Wait>(
     let new = new_cards(alloc, repo, tree, count)?;
     let begun = begin_pool(alloc, new)?;
     let (book, pass) = begun;
-    let idle = work(rt, &book, pass);
+    let idle = work(rt, &Silent, &book, pass);
     finish_one(alloc, book, idle)
 }
 
 /// What a book is after its two passes came back.
-fn finish_both<B: Blob, L: Leaf>(
+fn finish_both<B: Blob, L: Leaf, M: Mark>(
+    marks: &M,
     alloc: Global,
     book: Book<B, L>,
     worker: Pass<B, L>,
@@ -84,13 +86,17 @@ fn finish_both<B: Blob, L: Leaf>(
     ensures { IfOk result (λ e. GoesOn (sight B.told B.seen L.seen) e.shelf) }
 {
     let done = both(alloc, worker, desk)?;
-    Ok(finish(book, done))
+    marks.begin("finish");
+    let ended = finish(book, done);
+    marks.end();
+    Ok(ended)
 }
 
 /// What a book is after a worker, and the desk of a driver that can't be started. Path 0 is for any actor, path 1 is
 /// the driver's. `None` where the object of path 1 can't be read, or memory runs out.
-pub fn by_worker_and_desk<B: Blob, L: Leaf, H: Wait>(
+pub fn by_worker_and_desk<B: Blob, L: Leaf, H: Wait, M: Mark>(
     rt: &H,
+    marks: &M,
     alloc: Global,
     free: Card<B, L>,
     filtered: Card<B, L>,
@@ -110,32 +116,41 @@ pub fn by_worker_and_desk<B: Blob, L: Leaf, H: Wait>(
     let Some(refused) = refused_card(alloc, card) else {
         return Ok(None);
     };
-    let (worker, desk) = turns(rt, &book, worker, desk, refused);
-    let ended = finish_both(alloc, book, worker, desk)?;
+    let (worker, desk) = turns(rt, marks, &book, worker, desk, refused);
+    let ended = finish_both(marks, alloc, book, worker, desk)?;
     Ok(Some(ended))
 }
 
 /// Closes the next card that waits, as actor 0. Whether one waited is returned.
-fn close_next<B: Blob, L: Leaf>(ended: &mut Ended<B, L>) -> bool
+fn close_next<B: Blob, L: Leaf, M: Mark>(marks: &M, ended: &mut Ended<B, L>) -> bool
     requires { GoesOn (sight B.told B.seen L.seen) ended.old.shelf }
     ensures { GoesOn (sight B.told B.seen L.seen) ended.new.shelf }
 {
     core_laws::laws::a_path_in_hand_may_be_closed();
     checkout_book::laws::a_claimed_card_is_out::<B, L>();
+    marks.begin("Ended::take_waiting");
     let Some(card) = ended.take_waiting() else {
+        marks.end();
         return false;
     };
+    marks.end();
+    marks.begin("Ended::close");
     ended.close(card, Own::Fine { unencoded: false });
+    marks.end();
     true
 }
 
 /// Closes the cards that still wait, up to so many, as actor 0.
-fn close_rest<B: Blob, L: Leaf>(mut ended: Ended<B, L>, most: u32) -> Ended<B, L>
+fn close_rest<B: Blob, L: Leaf, M: Mark>(
+    marks: &M,
+    mut ended: Ended<B, L>,
+    most: u32,
+) -> Ended<B, L>
     requires { GoesOn (sight B.told B.seen L.seen) ended.shelf }
     ensures { GoesOn (sight B.told B.seen L.seen) result.shelf }
 {
     for _card in 0..most {
-        if !close_next(&mut ended) {
+        if !close_next(marks, &mut ended) {
             return ended;
         }
     }
@@ -143,8 +158,9 @@ fn close_rest<B: Blob, L: Leaf>(mut ended: Ended<B, L>, most: u32) -> Ended<B, L
 }
 
 /// The same book after its desk handed its card back and no pass claimed a card. Actor 0 closes both. `None` as above.
-pub fn by_the_caller<B: Blob, L: Leaf, H: Wait>(
+pub fn by_the_caller<B: Blob, L: Leaf, H: Wait, M: Mark>(
     rt: &H,
+    marks: &M,
     alloc: Global,
     free: Card<B, L>,
     filtered: Card<B, L>,
@@ -165,7 +181,7 @@ pub fn by_the_caller<B: Blob, L: Leaf, H: Wait>(
     let Some(refused) = refused_card(alloc, card) else {
         return Ok(None);
     };
-    let desk = give_back(rt, &book, desk, refused);
-    let ended = finish_both(alloc, book, worker, desk)?;
-    Ok(Some(close_rest(ended, 2)))
+    let desk = give_back(rt, marks, &book, desk, refused);
+    let ended = finish_both(marks, alloc, book, worker, desk)?;
+    Ok(Some(close_rest(marks, ended, 2)))
 }

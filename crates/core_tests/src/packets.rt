@@ -1,4 +1,4 @@
-use crate::table::{is_right, number_of};
+use crate::table::{cut, is_right};
 use pkt_line::{Next, PktFault, PktReader, push_content, push_flush, push_line, push_payload};
 use std::alloc::{AllocError, Global};
 use std::test::Fail;
@@ -33,15 +33,19 @@ fn filled(
     Ok(text)
 }
 
+/// Adds a payload between brackets.
+fn push_payload_of(shown: &mut Vec<u8>, payload: &[u8]) -> Result<(), AllocError> {
+    shown.push(b'[')?;
+    shown.extend_from_slice(payload)?;
+    shown.push(b']')?;
+    Ok(())
+}
+
 /// Adds what is at the front: a payload between brackets, a flush packet as `~`, and a fault as `!`. Returns whether
 /// anything is there.
 fn push_next(reader: &mut PktReader, shown: &mut Vec<u8>) -> Result<bool, AllocError> {
     match reader.next() {
-        Ok(Next::Payload(payload)) => {
-            shown.push(b'[')?;
-            shown.extend_from_slice(payload)?;
-            shown.push(b']')?;
-        }
+        Ok(Next::Payload(payload)) => push_payload_of(shown, payload)?,
         Ok(Next::Flush) => shown.push(b'~')?,
         Ok(Next::NeedMore) => return Ok(false),
         Err(_) => shown.push(b'!')?,
@@ -85,52 +89,74 @@ fn any_cut_gives_the_same_packets(rt: HostRuntime) -> Result<(), Fail> {
     Ok(())
 }
 
-/// Four digits with which bytes begin that go on with many `x`, and what is at their front: `+` for the longest
-/// payload, `-` for an empty one, `~` for a flush packet, `#` for bad digits, or the length that is bad.
+/// Bytes that go on with many `x`, and what a full reader gives of them, call by call: a payload between brackets, or
+/// `+` for the longest, a flush packet as `~`, bad digits as `#` with their place, and a bad length as `!` with its
+/// place and itself.
 const EDGES: &[u8] = b"\
-    fff0+....\
-    FFF0+....\
-    fff165521\
-    ffff65535\
-    0004-....\
-    000300003\
-    000100001\
-    0000~....\
-    00g4#....\
-    zz00#....";
+    fff0|+;\
+    FFF0|+;\
+    fff1|!0,65521;\
+    ffff|!0,65535;\
+    0004|[];\
+    0003|!0,3;\
+    0001|!0,1;\
+    0000|~;\
+    00g4|#0;\
+    zz00|#0;\
+    0005a0001|[a]!5,1!5,1;";
 
-fn is_so(next: Result<Next<'_>, PktFault>, want: &[u8], longest: &[u8]) -> bool {
-    match (next, want) {
-        (Ok(Next::Payload(payload)), [b'+', ..]) => payload == longest,
-        (Ok(Next::Payload(payload)), [b'-', ..]) => payload.is_empty(),
-        (Ok(Next::Flush), [b'~', ..]) => true,
-        (Err(PktFault::BadDigits { place }), [b'#', ..]) => place == 0,
-        (Err(PktFault::BadLength { place, length }), _) => place == 0 && length == number_of(want),
-        _ => false,
+/// Adds what a call gave.
+fn push_shown(
+    alloc: Global,
+    shown: &mut Vec<u8>,
+    given: Result<Next<'_>, PktFault>,
+    longest: &[u8],
+) -> Result<(), AllocError> {
+    match given {
+        Ok(Next::Payload(payload)) if payload == longest => shown.push(b'+')?,
+        Ok(Next::Payload(payload)) => push_payload_of(shown, payload)?,
+        Ok(Next::Flush) => shown.push(b'~')?,
+        Ok(Next::NeedMore) => shown.push(b'.')?,
+        Err(PktFault::BadDigits { place }) => {
+            shown.extend_from_slice(format!(in alloc; "#{place}")?.as_bytes())?;
+        }
+        Err(PktFault::BadLength { place, length }) => {
+            shown.extend_from_slice(format!(in alloc; "!{place},{length}")?.as_bytes())?;
+        }
     }
+    Ok(())
 }
 
-/// Whether a full reader has this at its front.
-fn has_edge(alloc: Global, digits: &[u8], want: &[u8], longest: &[u8]) -> Result<bool, AllocError> {
+/// Whether a full reader that begins with these bytes gives this, and tells it before.
+fn has_edge(alloc: Global, bytes: &[u8], want: &[u8], longest: &[u8]) -> Result<bool, AllocError> {
     let mut reader = PktReader::reserve(alloc)?;
-    let fed = reader.feed(digits);
+    let fed = reader.feed(bytes);
     let room = reader.room();
     let filled = reader.feed(longest);
     let more = reader.feed(b"y");
-    let is_seen = is_so(reader.peek(), want, longest);
-    let is_given = is_so(reader.next(), want, longest);
-    Ok(fed == 4 && room == 65_516 && filled == 65_516 && more == 0 && is_seen && is_given)
+    let (mut seen, mut given) = (Vec::new(alloc), Vec::new(alloc));
+    for _ in 0..want.len() {
+        if given.len() < want.len() {
+            push_shown(alloc, &mut seen, reader.peek(), longest)?;
+            push_shown(alloc, &mut given, reader.next(), longest)?;
+        }
+    }
+    let is_full = fed == bytes.len() && filled == room && more == 0;
+    Ok(is_full && seen.as_slice() == want && given.as_slice() == want)
 }
 
 #[test]
-fn edges_of_lengths(rt: HostRuntime) -> Result<(), Fail> {
+fn edges_of_packets(rt: HostRuntime) -> Result<(), Fail> {
     let longest = filled(rt.alloc(), b"", b'x', 65_516, b"")?;
-    for edge in EDGES.chunks(9) {
-        let [a, b, c, d, want @ ..] = edge else {
-            panic!(rt; "no digits");
-        };
-        let digits = [*a, *b, *c, *d];
-        is_right(&rt, has_edge(rt.alloc(), &digits, want, &longest)?, edge);
+    let mut rest = EDGES;
+    for _ in 0..EDGES.len() {
+        if rest.is_empty() {
+            break;
+        }
+        let (row, more) = cut(rest, b';');
+        let (bytes, want) = cut(row, b'|');
+        is_right(&rt, has_edge(rt.alloc(), bytes, want, &longest)?, row);
+        rest = more;
     }
     Ok(())
 }
@@ -159,20 +185,6 @@ fn a_fault_stays_at_its_place(rt: HostRuntime) -> Result<(), Fail> {
     });
     assert!(rt; reader.next() == fault);
     reader.feed(b"0000");
-    assert!(rt; reader.next() == fault);
-    Ok(())
-}
-
-#[test]
-fn a_fault_behind_a_packet_is_told_again_and_again(rt: HostRuntime) -> Result<(), Fail> {
-    let mut reader = PktReader::reserve(rt.alloc())?;
-    reader.feed(b"0005a0001");
-    assert!(rt; reader.next() == Ok(Next::Payload(b"a")));
-    let fault = Err(PktFault::BadLength {
-        place: 5,
-        length: 1,
-    });
-    assert!(rt; reader.next() == fault);
     assert!(rt; reader.next() == fault);
     Ok(())
 }

@@ -16,6 +16,9 @@ const CASES: &[&str] = &[
     "d tree;d tree/.git;f tree/a |-",
     "d tree;f tree/a ;d tree/.git|-",
     "f tree |!",
+    // a link to a folder is followed
+    "d other;l tree other|+",
+    "d other;f other/a ;l tree other|-",
 ];
 
 fn is_so(rt: HostRuntime, row: &str) -> Result<bool, Fail> {

@@ -1,49 +1,40 @@
 use crate::table::{Row, Seen, check, cut, filled, number_of, push_all, shown, unknown};
 use byte_path::{
-    ByteKind, Bytes, Items, PathFault, QuoteFault, check_path, from_first, len_to, quote_path,
-    read_decimal, unmarked, unquote,
+    ByteKind, Bytes, Items, QuoteFault, check_path, from_first, len_to, quote_path, read_decimal,
+    unmarked, unquote,
 };
 use std::alloc::{AllocError, Global};
 use std::test::Fail;
 
-/// Paths, and their first faults.
+/// How paths begin, how many `a` follow, and their first faults.
 const PATHS: &[u8] = b"\
-    |Err(Empty)%\
-    a//b|Err(EmptyPart)%\
-    /a|Err(EmptyPart)%\
-    a/|Err(EmptyPart)%\
-    ./a|Err(Dot)%\
-    a/..|Err(DotDot)%\
-    .Git|Err(DotGit)%\
-    ...|Ok(())%\
-    .gitx|Ok(())%\
-    ../.git|Err(DotDot)%";
+    |0|Err(Empty)%\
+    a//b|0|Err(EmptyPart)%\
+    /a|0|Err(EmptyPart)%\
+    a/|0|Err(EmptyPart)%\
+    ./a|0|Err(Dot)%\
+    a/..|0|Err(DotDot)%\
+    .Git|0|Err(DotGit)%\
+    |4097|Err(TooLong)%\
+    ...|0|Ok(())%\
+    .gitx|0|Ok(())%\
+    |4096|Ok(())%\
+    ../.git|0|Err(DotDot)%";
 
 struct Checked;
 
 impl Row for Checked {
     fn seen(alloc: Global, row: &[u8]) -> Result<Seen<'_>, Fail> {
-        let (path, want) = cut(row, b'|')?;
-        Ok((shown(alloc, check_path(path))?, want))
+        let (front, rest) = cut(row, b'|')?;
+        let (count, want) = cut(rest, b'|')?;
+        let path = filled(alloc, front, b'a', number_of(count)? as usize, b"")?;
+        Ok((shown(alloc, check_path(&path))?, want))
     }
 }
 
 #[test]
 fn paths_have_their_first_fault(rt: HostRuntime) -> Result<(), Fail> {
     check::<Checked, _>(&rt, rt.alloc(), PATHS)
-}
-
-/// What is wrong with a path of so many bytes.
-fn fault_at(alloc: Global, count: usize) -> Result<Option<PathFault>, AllocError> {
-    let path = filled(alloc, b"", b'a', count, b"")?;
-    Ok(check_path(&path).err())
-}
-
-#[test]
-fn paths_have_at_most_4096_bytes(rt: HostRuntime) -> Result<(), Fail> {
-    assert!(rt; fault_at(rt.alloc(), 4096)?.is_none());
-    assert!(rt; matches!(fault_at(rt.alloc(), 4097)?, Some(PathFault::TooLong)));
-    Ok(())
 }
 
 /// Paths, and how they are quoted.
