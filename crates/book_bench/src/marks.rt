@@ -9,6 +9,7 @@ pub trait Mark {
 }
 
 /// Tells nothing, where time counts.
+#[derive(Drop)]
 pub struct Silent;
 
 impl Mark for Silent {
@@ -20,6 +21,7 @@ impl Mark for Silent {
 }
 
 /// Tells each as a line, between which `tests/fail_alloc` counts allocations.
+#[derive(Drop)]
 pub struct Lines<'a, R: Print> {
     pub rt: &'a R,
 }

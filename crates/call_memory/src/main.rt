@@ -8,6 +8,7 @@ mod conversions;
 mod delays;
 mod driver_words;
 mod events;
+mod looks;
 mod marks;
 mod texts;
 
@@ -18,5 +19,6 @@ fn main(rt: HostRuntime) -> io::Result<()> {
     conversions::make_calls(&rt)?;
     driver_words::make_calls(&rt)?;
     delays::make_calls(&rt)?;
-    events::make_calls(&rt)
+    events::make_calls(&rt)?;
+    looks::make_calls(rt)
 }
