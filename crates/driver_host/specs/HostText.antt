@@ -81,23 +81,19 @@ AllAnswered own batch s (r ∷ rs) cs ps t =
     (mid : Stage) × (c d : List Choice) × (p q : List Packet) × (cs ≡ c ++ d) × (ps ≡ p ++ q)
     × Answers own batch s r c p mid × AllAnswered own batch mid rs d q t
 
--- a key list asks for what may be asked
+-- a path is named that may be asked for: none that is delayed and not listed
 abbrev pub may_name : Owed → Option (List ℕ) → Bool
 may_name owed None = false
 may_name owed (Some path) = not (name_in owed.delayed path)
 
-abbrev pub may_ask : Caps → Owed → List (List ℕ) → Bool
-may_ask agreed owed keys =
-    if asks_smudge keys then agreed.smudge && may_name owed (value_in (codes "pathname") keys)
-    else (asks_list keys && agreed.delay)
-
--- a content is read after a key list that asks to smudge
+-- a content is read after a key list that asks to smudge a path that may be asked for
 pub record IsContentPart (agreed : Caps) (owed : Owed) (ps : List Packet) : Type 0 where
   pub keys : List (List ℕ)
   pub pieces : List (List ℕ)
   pub whole : ps ≡ block keys ++ map Payload pieces
   pub command : asks_smudge keys ≡ true
-  pub may : may_ask agreed owed keys ≡ true
+  pub announced : agreed.smudge ≡ true
+  pub may : may_name owed (value_in (codes "pathname") keys) ≡ true
 
 abbrev pub IsLines : List Packet → Type 0
 IsLines ps = (lines : List (List ℕ)) × (ps ≡ map Payload lines)
@@ -180,10 +176,8 @@ pub record HasRefused (s : Stage) (bytes : List ℕ) (why : HostFault) : Type 0 
 
 -- how the bytes after the last answered request end
 abbrev pub EndsSo : Stage → List ℕ → HostEnd → Type 0
-EndsSo Over bytes Waits = ⊥
 EndsSo s bytes Waits = HasPart s bytes IsPartial
-EndsSo Over bytes Stopped = Unit {0}
-EndsSo s bytes Stopped = ⊥
+EndsSo s bytes Stopped = s ≡ Over
 EndsSo s bytes (Refused fault.BadPacket) = HasPart s bytes HasFault
 EndsSo s bytes (Refused fault.NoMemory) = ⊥
 EndsSo s bytes (Refused why) = HasRefused s bytes why
