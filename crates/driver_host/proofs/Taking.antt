@@ -1,6 +1,9 @@
 -- Packets that are taken, one after another.
 use Rattle.std.proofs.Common.{◌≡◌, ℕ, ◌≤◌, ◌⊎◌, inl, inr, Bool, true, false, List, [], ◌∷◌, ◌++◌, length, take, drop}
 use Rattle.std.proofs.Common.{Option, Some, None, Result, Ok, Err, refl, sym, ap, ◌∙◌, subst, append_assoc, arith}
+use Rattle.std.specs.Result.{result_err}
+use Rattle.std.specs.Prelude.{◌==◌}
+use Rattle.std.proofs.lemmas.Grind.{common_steps}
 use Rattle.std.proofs.lemmas.List.{append-nil}
 use Rattle.pkt_line.specs.Packets.{Packet, Payload, Flush, SpellAll, Stands, IsPartial, HasFault, size}
 use Rattle.pkt_line.specs.Spelling.{spelling_all}
@@ -11,7 +14,7 @@ use Rattle.driver_host.specs.declared.host.HostFault.TheVariants as fault
 use Rattle.driver_host.specs.HostText.{Stage, Over, Waits, Stopped, Refused, IsHostText, HasPart, HasRefused, EndsSo}
 use Rattle.driver_host.specs.Talks.{TalkSeen, Reading, IsTalkAfter, TakesFlush, Finishes, BeginsContent, Fits, IsSameHost}
 use Rattle.driver_host.specs.Hosts.{HostSeen, IsHeld, IsOfFront, RefusedBy, GoesOn, IsHostAfter, AfterBy, TakesPiece, TakesPacket}
-use Rattle.driver_host.specs.Hosts.{StepIs, TakesOn, RefusesOn, Goes, FedOn, FedAll, Feeds, IsReady, Reads, new_talk}
+use Rattle.driver_host.specs.Hosts.{StepIs, TakesOn, RefusesOn, Goes, FedOn, FedAll, Feeds, IsReady, Reads, new_talk, Grown}
 use Rattle.driver_host.proofs.History.{line_taken}
 use Rattle.driver_host.proofs.Ends.{finished, content_begun}
 use Rattle.driver_host.proofs.Held.{spell_snoc, front_off, held_part, waits, stops, stuck}
@@ -277,14 +280,10 @@ fed_end bytes cs text piece rest before after unread t x (inl r) (inr over) = ov
 
 -- a host
 
-abbrev pub err_of : {A : Type 0} → Result A HostFault → Option HostFault
-err_of (Ok x) = None
-err_of (Err why) = Some why
-
 pub took_piece : {A : Type 0} (result : Result A HostFault) (bytes : List ℕ) (cs : List Choice)
     (text piece before after unread : List ℕ) (t : TalkSeen)
     → Feeds result (bytes ++ piece) cs text before after unread t
-    → TakesPiece bytes cs text piece (record { talk = t; unread = unread; fault = err_of result }) before after
+    → TakesPiece bytes cs text piece (record { talk = t; unread = unread; fault = result_err result }) before after
 took_piece (Ok v) bytes cs text piece before after unread t x =
     record { more = x.more; added = x.added; grew = x.grew; host = x.on }
 took_piece (Err why) bytes cs text piece before after unread t x =
@@ -337,3 +336,25 @@ new_host own batch h some e = subst (λ (z : HostSeen). IsHostAfter [] [] [] z) 
         answered = (refl, refl, refl); text_is = refl; holds = refl; fits = refl;
       };
     }
+
+-- what was appended stays
+
+pub step_grows : (result : Result Bool HostFault) (old new : List ℕ) (t u : TalkSeen) (before after : List ℕ)
+    → StepIs old t new u before after result → Grown before after
+step_grows (Ok true) old new t u before after s = taken s.0 s.3
+  where
+    taken : (p : Packet) → TakesPacket p t u before after → Grown before after
+    taken (Payload line) x = ([], x.2 ∙ sym (append-nil before))
+    taken Flush x = (spelling_all x.answers, x.text)
+step_grows (Ok false) old new t u before after s = ([], s.3 ∙ sym (append-nil before))
+step_grows (Err why) old new t u before after s = ([], s.2 ∙ sym (append-nil before))
+
+pub grows_on : (before mid after : List ℕ) → Grown before mid → Grown mid after → Grown before after
+grows_on before mid after x y = (x.0 ++ y.0, grown before mid after x.0 y.0 x.1 y.1)
+
+pub none_grown : (out : List ℕ) → Grown out out
+none_grown out = ([], sym (append-nil out))
+
+pub none_left : (xs : List ℕ) (b : Bool) → b ≡ (length xs == 0) → b ≡ true → xs ≡ []
+none_left [] b e f = refl
+none_left (x ∷ xs) b e f = absurd (grind (arith, common_steps, sym e ∙ f))

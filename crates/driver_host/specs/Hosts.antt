@@ -73,6 +73,10 @@ AnswerIs (Err why) h = h.fault ≡ Some why
 abbrev pub Reads : HostSeen → Type 0
 Reads h = (h.fault ≡ None) × (h.talk.stage ≡ Over → ⊥)
 
+-- bytes were appended
+abbrev pub Grown : List ℕ → List ℕ → Type 0
+Grown before after = (added : List ℕ) × (after ≡ before ++ added)
+
 -- one packet is taken
 abbrev pub TakesPacket : Packet → TalkSeen → TalkSeen → List ℕ → List ℕ → Type 0
 TakesPacket (Payload line) t u before after = LineIs {E = ⊤} t.reading line (Ok tt) u.reading
