@@ -1,7 +1,7 @@
 -- The part that is read belongs to the stage, and each delayed path fits in a line.
 use Rattle.std.proofs.Common.{◌≡◌, ℕ, zero, suc, ◌+◌, ◌-◌, ◌≤◌, ◌⊎◌, inl, inr, Bool, true, false, List, [], ◌∷◌, ◌++◌, length, Option}
-use Rattle.std.proofs.Common.{Some, None, Result, Ok, Err, refl, sym, ap, ◌∙◌, subst, arith, take, drop, length-take, length-drop}
-use Rattle.std.specs.Prelude.{codes, OnOk, ◌||◌, not, if◌then◌else◌, position, ◌==◌, nat_eq}
+use Rattle.std.proofs.Common.{Some, None, Result, Ok, Err, refl, sym, ap, subst, arith, take, drop, length-take, length-drop}
+use Rattle.std.specs.Prelude.{codes, OnOk, not, if◌then◌else◌, position, ◌==◌, nat_eq}
 use Rattle.std.specs.List.{ends_with}
 use Rattle.std.specs.Str.{bytes_eq}
 use Rattle.filter_words.specs.Words.{without_lf, value_of, value_with, cut_at}
@@ -20,9 +20,9 @@ use Rattle.driver_host.specs.declared.work.Choice.TheVariants.{Give, Refuse, Lat
 use Rattle.driver_host.specs.Requests.{Request, Hello, Offer, Smudge, Listing, or_before}
 use Rattle.driver_host.specs.Answers.{AreNameable}
 use Rattle.driver_host.specs.KeyLists.{keys_after, no_keys}
-use Rattle.driver_host.specs.HostText.{Stage, Fresh, Greeted, Serving, Over, Owed, Answers, after_choice, after_list, may_name, none_owed}
+use Rattle.driver_host.specs.HostText.{Stage, Fresh, Greeted, Serving, Over, Owed, Answers, after_choice, after_list, may_name}
 use Rattle.driver_host.specs.Talks.{Reading, TalkSeen, after_line, reading_after, LineIs, Fits, FitsPart, FitsOrOver, NameFits}
-use Rattle.driver_host.specs.Talks.{MaySmudge, EndsRequest, TakesFlush, Finishes, BeginsContent, part_at, stage_of}
+use Rattle.driver_host.specs.Talks.{EndsRequest, TakesFlush, Finishes, BeginsContent, part_at, stage_of}
 use Rattle.driver_host.proofs.History.{some_is, bytes_eq-true}
 use Rattle.driver_host.proofs.Flushes.{owed_of}
 

@@ -1,14 +1,12 @@
 -- The text of a host, by its packets.
-use Rattle.std.proofs.Common.{◌≡◌, ℕ, ◌+◌, ◌≤◌, ◌<◌, ◌⊎◌, inl, inr, Bool, true, false, List, [], ◌∷◌, ◌++◌, length, map, take, drop}
-use Rattle.std.proofs.Common.{Option, Some, None, Result, Ok, Err, refl, sym, ap, ◌∙◌, subst, append_assoc, arith, take-append-drop}
-use Rattle.std.specs.Prelude.{codes, if◌then◌else◌, ⊤}
+use Rattle.std.proofs.Common.{◌≡◌, ℕ, ◌+◌, ◌≤◌, ◌<◌, ◌⊎◌, inl, inr, Bool, true, false, List, [], ◌∷◌, ◌++◌, take, drop}
+use Rattle.std.proofs.Common.{Option, Some, None, refl, sym, ap, ◌∙◌, subst, append_assoc, arith, take-append-drop}
+use Rattle.std.specs.Prelude.{codes, if◌then◌else◌}
 use Rattle.std.specs.Str.{bytes_eq}
 use Rattle.std.proofs.lemmas.List.{append-nil}
 use Rattle.pkt_line.specs.Packets.{Packet, Payload, Flush, SpellAll, Stands, IsPartial, HasFault, size, total}
-use Rattle.pkt_line.specs.Spelling.{spelling_all}
 use Rattle.filter_words.specs.Outcomes.{limit}
 use Rattle.filter_words.specs.Words.{without_lf}
-use Rattle.filter_words.specs.Grammar.{block}
 use Rattle.filter_words.specs.declared.reply.Caps.{Caps}
 use Rattle.driver_host.specs.declared.work.Choice.{Choice}
 use Rattle.driver_host.specs.declared.keys.Keys.{Keys}
@@ -18,11 +16,11 @@ use Rattle.driver_host.specs.declared.talk.Part.{Part}
 use Rattle.driver_host.specs.declared.talk.Part.TheVariants as part
 use Rattle.driver_host.specs.HostText.{Stage, Fresh, Greeted, Serving, Over, Owed, HostEnd, Waits, Stopped, Refused, EndsSo}
 use Rattle.driver_host.specs.HostText.{IsUnfinished, IsBad, IsHostText, HasPart, HasRefused, may_name}
-use Rattle.driver_host.specs.Talks.{Reading, TalkSeen, IsTalkAfter, HoldsPart, Holds, LineIs, after_line, reading_after, Fits, FitsPart}
-use Rattle.driver_host.specs.Talks.{AreBadKeys, RefusesFlush, TakesFlush, Finishes, BeginsContent, IsSameHost}
-use Rattle.driver_host.specs.Hosts.{IsHeld, IsOfFront, RefusedBy, IsStuck, RefusesPacket, TakesPacket, TakesOn, RefusesOn, Goes, StepIs}
-use Rattle.driver_host.proofs.History.{line_taken, total_snoc}
-use Rattle.driver_host.proofs.Ends.{finished, content_begun, flush_total}
+use Rattle.driver_host.specs.Talks.{Reading, TalkSeen, HoldsPart, Holds, after_line, reading_after, Fits, FitsPart}
+use Rattle.driver_host.specs.Talks.{AreBadKeys}
+use Rattle.driver_host.specs.Hosts.{IsHeld, IsOfFront, RefusedBy, IsStuck, RefusesPacket}
+use Rattle.driver_host.proofs.History.{total_snoc}
+use Rattle.driver_host.proofs.Ends.{flush_total}
 
 -- packets and the bytes that spell them
 

@@ -1,13 +1,13 @@
 -- Answers of a host, as a client's grammar has them, and requests of a client as a host's has them.
-use Rattle.std.proofs.Common.{◌≡◌, ℕ, ◌≤◌, ◌⊎◌, inl, inr, Bool, true, false, List, [], ◌∷◌, ◌++◌, length, map, refl, sym, ap}
-use Rattle.std.proofs.Common.{◌∙◌, append_assoc, arith, Option, Some, None}
+use Rattle.std.proofs.Common.{◌≡◌, ℕ, ◌≤◌, inl, inr, Bool, true, false, List, [], ◌∷◌, ◌++◌, length, map, refl, sym, ap}
+use Rattle.std.proofs.Common.{append_assoc, arith}
 use Rattle.std.specs.Prelude.{codes, nat_le}
 use Rattle.std.proofs.lemmas.Grind.{common_steps}
 use Rattle.pkt_line.specs.Packets.{Packet, Payload, Flush}
-use Rattle.pkt_line.specs.Spelling.{pieces_of, piece_count, content_packets}
+use Rattle.pkt_line.specs.Spelling.{pieces_of, piece_count}
 use Rattle.filter_words.specs.Requests.{line, smudge_packets}
 use Rattle.filter_words.specs.Grammar.{block}
-use Rattle.filter_words.specs.ReplyGrammar.{IsReply, IsLongReply, joined}
+use Rattle.filter_words.specs.ReplyGrammar.{IsReply}
 use Rattle.filter_words.specs.HandshakeGrammar.{IsHandshake}
 use Rattle.filter_words.specs.ListGrammar.{IsList, AreExpected, names_of}
 use Rattle.filter_words.specs.Listing.{Listed}

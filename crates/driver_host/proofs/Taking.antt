@@ -5,16 +5,16 @@ use Rattle.std.specs.Result.{result_err}
 use Rattle.std.specs.Prelude.{◌==◌}
 use Rattle.std.proofs.lemmas.Grind.{common_steps}
 use Rattle.std.proofs.lemmas.List.{append-nil}
-use Rattle.pkt_line.specs.Packets.{Packet, Payload, Flush, SpellAll, Stands, IsPartial, HasFault, size}
+use Rattle.pkt_line.specs.Packets.{Packet, Payload, Flush, Stands, IsPartial, HasFault, size}
 use Rattle.pkt_line.specs.Spelling.{spelling_all}
 use Rattle.filter_words.specs.declared.reply.Caps.{Caps}
 use Rattle.driver_host.specs.declared.work.Choice.{Choice}
 use Rattle.driver_host.specs.declared.host.HostFault.{HostFault}
 use Rattle.driver_host.specs.declared.host.HostFault.TheVariants as fault
-use Rattle.driver_host.specs.HostText.{Stage, Over, Waits, Stopped, Refused, IsHostText, HasPart, HasRefused, EndsSo}
-use Rattle.driver_host.specs.Talks.{TalkSeen, Reading, IsTalkAfter, TakesFlush, Finishes, BeginsContent, Fits, IsSameHost}
-use Rattle.driver_host.specs.Hosts.{HostSeen, IsHeld, IsOfFront, RefusedBy, GoesOn, IsHostAfter, AfterBy, TakesPiece, TakesPacket}
-use Rattle.driver_host.specs.Hosts.{StepIs, TakesOn, RefusesOn, Goes, FedOn, FedAll, Feeds, IsReady, Reads, new_talk, Grown}
+use Rattle.driver_host.specs.HostText.{Stage, Over, Stopped, Refused, IsHostText, HasPart, HasRefused, EndsSo}
+use Rattle.driver_host.specs.Talks.{TalkSeen, IsTalkAfter, Finishes, BeginsContent, Fits}
+use Rattle.driver_host.specs.Hosts.{HostSeen, IsHeld, RefusedBy, GoesOn, IsHostAfter, AfterBy, TakesPiece, TakesPacket}
+use Rattle.driver_host.specs.Hosts.{StepIs, TakesOn, RefusesOn, Goes, FedOn, FedAll, Feeds, IsReady, new_talk, Grown}
 use Rattle.driver_host.proofs.History.{line_taken}
 use Rattle.driver_host.proofs.Ends.{finished, content_begun}
 use Rattle.driver_host.proofs.Held.{spell_snoc, front_off, held_part, waits, stops, stuck}

@@ -1,5 +1,5 @@
 -- Choices that are those that a work tells.
-use Rattle.std.specs.Prelude.{◌≡◌, ℕ, if◌then◌else◌, Bool, true, false, Option, Some, None, List, [], ◌∷◌}
+use Rattle.std.specs.Prelude.{◌≡◌, ℕ, if◌then◌else◌, Bool, true, false, Option, Some, None, List, ◌∷◌}
 use Rattle.std.specs.Str.{bytes_eq}
 use Rattle.edge_kit.specs.Told.{Tells}
 use Rattle.filter_words.specs.Listing.{name_in}
@@ -10,7 +10,7 @@ use Rattle.driver_host.specs.declared.work.LateChoice.{LateChoice}
 use Rattle.driver_host.specs.declared.work.LateChoice.TheVariants as late
 use Rattle.driver_host.specs.Requests.{Request, Hello, Offer, Smudge, Listing}
 use Rattle.driver_host.specs.Answers.{both}
-use Rattle.driver_host.specs.HostText.{Stage, Fresh, Greeted, Serving, Owed, none_owed, after_list, after_choice}
+use Rattle.driver_host.specs.HostText.{Stage, Fresh, Greeted, Serving, none_owed, after_list, after_choice}
 use Rattle.driver_host.specs.Works.{WorkTold}
 
 -- the content of the latest first request for each path

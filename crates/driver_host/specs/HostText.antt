@@ -1,6 +1,6 @@
 -- What a driver that reads these bytes and makes these choices answers: gitattributes(5), "Long Running Filter
 -- Process".
-use Rattle.std.specs.Prelude.{◌≡◌, ◌⊎◌, ℕ, ◌<◌, ◌≤◌, ◌&&◌, not, if◌then◌else◌, Bool, true, false, List, [], ◌∷◌, ◌++◌}
+use Rattle.std.specs.Prelude.{◌≡◌, ◌⊎◌, ℕ, ◌<◌, ◌≤◌, not, Bool, true, false, List, [], ◌∷◌, ◌++◌}
 use Rattle.std.specs.Prelude.{filter, map, take, drop, Option, Some, None, codes}
 use Rattle.std.specs.Str.{bytes_eq}
 use Rattle.pkt_line.specs.Packets.{Packet, Payload, Flush, SpellAll, IsPartial, HasFault, total}

@@ -1,5 +1,5 @@
 -- A host as its callers see it.
-use Rattle.std.specs.Prelude.{◌≡◌, ◌⊎◌, ℕ, ◌≤◌, Bool, true, false, List, [], ◌∷◌, ◌++◌, drop, length}
+use Rattle.std.specs.Prelude.{◌≡◌, ◌⊎◌, ℕ, Bool, true, false, List, ◌++◌, drop}
 use Rattle.std.specs.Prelude.{Option, Some, None, Result, Ok, Err, ⊤}
 use Rattle.pkt_line.specs.Packets.{Packet, Payload, Flush, SpellAll, Stands, IsPartial, HasFault, size}
 use Rattle.filter_words.specs.declared.reply.Caps.{Caps}
@@ -8,7 +8,7 @@ use Rattle.driver_host.specs.declared.host.HostFault.{HostFault}
 use Rattle.driver_host.specs.declared.host.HostFault.TheVariants as fault
 use Rattle.driver_host.specs.declared.host.HostState.{HostState}
 use Rattle.driver_host.specs.declared.host.HostState.TheVariants as state
-use Rattle.driver_host.specs.HostText.{Fresh, Over, HostEnd, Waits, Stopped, Refused, IsHostText}
+use Rattle.driver_host.specs.HostText.{Fresh, Over, Waits, Stopped, Refused, IsHostText}
 use Rattle.driver_host.specs.Talks.{TalkSeen, Reading, IsTalkAfter, LineIs, TakesFlush, RefusesFlush, reading_at, Fits, IsSameHost}
 
 -- its talk, the bytes that it took and hasn't read, and the fault that it has met

@@ -1,4 +1,4 @@
-use Rattle.std.proofs.Common.{rules, ◌≡◌, ◌∙◌, sym, ap, subst, ℕ, List, [], ◌++◌, take, take-append-drop, inl, inr}
+use Rattle.std.proofs.Common.{rules, ◌≡◌, ◌∙◌, sym, ap, subst, ℕ, List, ◌++◌, take, take-append-drop, inl, inr}
 use Rattle.pkt_line.specs.Reading.{Reading}
 use Rattle.driver_host.specs.HostText.{Over}
 use Rattle.driver_host.specs.Hosts.{IsHeld}

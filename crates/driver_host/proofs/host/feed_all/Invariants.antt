@@ -1,4 +1,4 @@
-use Rattle.std.proofs.Common.{◌≡◌, List, ℕ, length}
+use Rattle.std.proofs.Common.{List, ℕ, length}
 use Rattle.driver_host.specs.declared.work.Choice.{Choice}
 use Rattle.driver_host.specs.Hosts.{IsHeld, FedOn, IsReady, Grown}
 use Rattle.driver_host.proofs.host.feed_all.Given as goal

@@ -1,4 +1,4 @@
-use Rattle.std.proofs.Common.{rules, ◌≡◌, ◌++◌, Ok, Err, Bool, inl}
+use Rattle.std.proofs.Common.{rules, ◌++◌, Ok, Err, Bool, inl}
 use Rattle.driver_host.specs.Talks.{Fits}
 use Rattle.driver_host.proofs.Taking.{none_taken, step_goes, go_on, none_grown, grows_on, step_grows}
 use Rattle.driver_host.proofs.host.serve.Goals as goal

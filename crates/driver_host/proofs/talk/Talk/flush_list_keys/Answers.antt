@@ -1,4 +1,4 @@
-use Rattle.std.proofs.Common.{◌≡◌, ◌∙◌, refl, sym}
+use Rattle.std.proofs.Common.{◌∙◌, sym}
 use Rattle.driver_host.proofs.Flushes.{both_true, refuses_list}
 use Rattle.driver_host.proofs.Fits.{list_fits}
 use Rattle.driver_host.proofs.talk.Talk.flush_list_keys.Goals as goal

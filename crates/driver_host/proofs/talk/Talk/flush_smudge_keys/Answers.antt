@@ -1,4 +1,4 @@
-use Rattle.std.proofs.Common.{◌≡◌, ◌∙◌, refl, sym}
+use Rattle.std.proofs.Common.{◌∙◌, refl, sym}
 use Rattle.driver_host.proofs.Flushes.{begins_content, refuses_smudge}
 use Rattle.driver_host.proofs.Fits.{list_fits}
 use Rattle.driver_host.proofs.talk.Talk.flush_smudge_keys.Goals as goal
