@@ -36,18 +36,29 @@ split [] qs bytes s = record { front = []; back = bytes; first = refl; second = 
 split (p ∷ ps) qs bytes s =
     let r = split ps qs s.1 s.3 in
     record {
-      front = s.0 ++ r.front; back = r.back; first = (s.0, r.front, s.2, r.first, refl); second = r.second;
+      front = s.0 ++ r.front;
+      back = r.back;
+      first = (s.0, r.front, s.2, r.first, refl);
+      second = r.second;
       whole = s.4 ∙ (ap (λ (z : List ℕ). s.0 ++ z) r.whole ∙ sym (append_assoc s.0 r.front r.back));
     }
 
 pub spell_snoc : (ps : List Packet) (p : Packet) (read unread : List ℕ) → SpellAll ps read → Stands p unread
     → SpellAll (ps ++ p ∷ []) (read ++ take (size p) unread)
-spell_snoc [] p read unread s stands =
-    (take (size p) unread, [], stands, refl,
-    ap (λ (z : List ℕ). z ++ take (size p) unread) s ∙ sym (append-nil (take (size p) unread)))
-spell_snoc (q ∷ ps) p read unread s stands =
-    (s.0, s.1 ++ take (size p) unread, s.2, spell_snoc ps p s.1 unread s.3 stands,
-    ap (λ (z : List ℕ). z ++ take (size p) unread) s.4 ∙ append_assoc s.0 s.1 (take (size p) unread))
+spell_snoc [] p read unread s stands = (
+  take (size p) unread,
+  [],
+  stands,
+  refl,
+  ap (λ (z : List ℕ). z ++ take (size p) unread) s ∙ sym (append-nil (take (size p) unread)),
+)
+spell_snoc (q ∷ ps) p read unread s stands = (
+  s.0,
+  s.1 ++ take (size p) unread,
+  s.2,
+  spell_snoc ps p s.1 unread s.3 stands,
+  ap (λ (z : List ℕ). z ++ take (size p) unread) s.4 ∙ append_assoc s.0 s.1 (take (size p) unread),
+)
 
 pub front_off : (n : ℕ) (read unread : List ℕ) → read ++ unread ≡ (read ++ take n unread) ++ drop n unread
 front_off n read unread =
@@ -79,7 +90,11 @@ unfinished (Serving agreed owed) (part.Version found) r ps h = absurd h
 unfinished (Serving agreed owed) (part.Offer caps) r ps h = absurd h
 unfinished (Serving agreed owed) part.KeyList r ps h = inl (h.0, h.1)
 unfinished (Serving agreed owed) part.Content r ps h = inr (record {
-  keys = h.0; pieces = h.1; whole = h.2; command = sym (ap (λ (k : Keys). k.smudge) h.3) ∙ h.5; announced = h.6;
+  keys = h.0;
+  pieces = h.1;
+  whole = h.2;
+  command = sym (ap (λ (k : Keys). k.smudge) h.3) ∙ h.5;
+  announced = h.6;
   may = subst (λ (o : Option (List ℕ)). may_name owed o ≡ true) (ap (λ (k : Keys). k.path) h.3) h.7;
 })
 unfinished Over p r ps h = absurd h
@@ -103,10 +118,18 @@ text_at bytes cs text unread t h end ends =
     let a = h.talk in
     let s = split a.past a.current h.read (subst (λ (ps : List Packet). SpellAll ps h.read) a.whole h.spelled) in
     record {
-      batch_some = a.batch_some; requests = a.requests; packets = a.past; read = s.front; rest = s.back ++ unread;
-      answers = a.answers; stage = t.stage; spelled = s.first;
+      batch_some = a.batch_some;
+      requests = a.requests;
+      packets = a.past;
+      read = s.front;
+      rest = s.back ++ unread;
+      answers = a.answers;
+      stage = t.stage;
+      spelled = s.first;
       whole = h.whole ∙ (ap (λ (z : List ℕ). z ++ unread) s.whole ∙ append_assoc s.front s.back unread);
-      are = a.are; answered = a.answered; text_is = a.text_is;
+      are = a.are;
+      answered = a.answered;
+      text_is = a.text_is;
       ends = ends s.back s.second;
     }
 
@@ -114,8 +137,14 @@ part_then : (t : TalkSeen) (ps : List Packet) (read unread : List ℕ) (after : 
     → Holds t.stage t.reading ps → t.reading.room + total ps ≡ limit → SpellAll ps read → after unread
     → HasPart t.stage (read ++ unread) after
 part_then t ps read unread after f h fits s x = record {
-  packets = ps; read = read; rest = unread; spelled = s; whole = refl; unfinished = part_of t ps f h;
-  fits = omega (arith, fits); ends = x;
+  packets = ps;
+  read = read;
+  rest = unread;
+  spelled = s;
+  whole = refl;
+  unfinished = part_of t ps f h;
+  fits = omega (arith, fits);
+  ends = x;
 }
 
 pub waits : (bytes : List ℕ) (cs : List Choice) (text unread : List ℕ) (t : TalkSeen) → IsHeld bytes cs text unread t
@@ -134,15 +163,31 @@ front bytes cs text unread t h f =
     let a = h.talk in
     let s = split a.past a.current h.read (subst (λ (ps : List Packet). SpellAll ps h.read) a.whole h.spelled) in
     record {
-      front = s.front; after = s.back ++ unread;
+      front = s.front;
+      after = s.back ++ unread;
       cut = h.whole ∙ (ap (λ (z : List ℕ). z ++ unread) s.whole ∙ append_assoc s.front s.back unread);
       text_is = record {
-        batch_some = a.batch_some; requests = a.requests; packets = a.past; read = s.front; rest = [];
-        answers = a.answers; stage = t.stage; spelled = s.first; whole = sym (append-nil s.front);
-        are = a.are; answered = a.answered; text_is = a.text_is;
+        batch_some = a.batch_some;
+        requests = a.requests;
+        packets = a.past;
+        read = s.front;
+        rest = [];
+        answers = a.answers;
+        stage = t.stage;
+        spelled = s.first;
+        whole = sym (append-nil s.front);
+        are = a.are;
+        answered = a.answered;
+        text_is = a.text_is;
         ends = record {
-          packets = []; read = []; rest = []; spelled = refl; whole = refl;
-          unfinished = not_begun t.stage t.reading.part t.reading.keys f; fits = omega arith; ends = inl (omega arith);
+          packets = [];
+          read = [];
+          rest = [];
+          spelled = refl;
+          whole = refl;
+          unfinished = not_begun t.stage t.reading.part t.reading.keys f;
+          fits = omega arith;
+          ends = inl (omega arith);
         };
       };
     }
@@ -156,10 +201,18 @@ refused_with : (why : HostFault) (t : TalkSeen) (ps : List Packet) (read unread 
     → Holds t.stage t.reading ps → t.reading.room + total ps ≡ limit → SpellAll ps read → Stands p unread
     → IsCause t.stage why (ps ++ p ∷ []) → HasRefused t.stage (read ++ unread) why
 refused_with why t ps read unread p f h fits s stands cause = record {
-  packets = ps ++ p ∷ []; read = read ++ take (size p) unread; rest = drop (size p) unread;
-  spelled = spell_snoc ps p read unread s stands; whole = front_off (size p) read unread;
+  packets = ps ++ p ∷ [];
+  read = read ++ take (size p) unread;
+  rest = drop (size p) unread;
+  spelled = spell_snoc ps p read unread s stands;
+  whole = front_off (size p) read unread;
   refused = record {
-    before = ps; last = p; whole = refl; unfinished = part_of t ps f h; fitted = omega (arith, fits); cause_is = cause;
+    before = ps;
+    last = p;
+    whole = refl;
+    unfinished = part_of t ps f h;
+    fitted = omega (arith, fits);
+    cause_is = cause;
   };
 }
 
@@ -195,7 +248,11 @@ no_client_ends Over r ps h = absurd h
 no_version_ends : (s : Stage) (r : Reading) (ps : List Packet) → HoldsPart s (part.Version false) r ps
     → IsBad s fault.BadHello (ps ++ Flush ∷ [])
 no_version_ends Fresh r ps h = inr (record {
-  client = h.0; lines = h.1; whole = ap (λ (z : List Packet). z ++ Flush ∷ []) h.2; client_is = h.3; no_version = sym h.4;
+  client = h.0;
+  lines = h.1;
+  whole = ap (λ (z : List Packet). z ++ Flush ∷ []) h.2;
+  client_is = h.3;
+  no_version = sym h.4;
 })
 no_version_ends Greeted r ps h = absurd h
 no_version_ends (Serving agreed owed) r ps h = absurd h
@@ -248,8 +305,10 @@ refuses bytes cs text unread t h f (Payload line) stands fault.BadHello x =
     let room = x.1.0 in
     text_at bytes cs text unread t h (Refused fault.BadHello)
     (λ read s. refused_with fault.BadHello t ps read unread (Payload line) f h.talk.holds fits s stands
-    (inr (omega (arith, fits, longer, room),
-    bad_line t.stage t.reading.part t.reading line ps (held_part t.stage t.reading ps f h.talk.holds) x.1.1)))
+    (inr (
+      omega (arith, fits, longer, room),
+      bad_line t.stage t.reading.part t.reading line ps (held_part t.stage t.reading ps f h.talk.holds) x.1.1,
+    )))
 refuses bytes cs text unread t h f Flush stands fault.BadHello x =
     let ps = h.talk.current in
     let fits = h.talk.fits in
@@ -257,8 +316,10 @@ refuses bytes cs text unread t h f Flush stands fault.BadHello x =
     let room = x.0 in
     text_at bytes cs text unread t h (Refused fault.BadHello)
     (λ read s. refused_with fault.BadHello t ps read unread Flush f h.talk.holds fits s stands
-    (inr (omega (arith, fits, longer, room),
-    hello_ends t.stage t.reading ps (held_part t.stage t.reading ps f h.talk.holds) x.1)))
+    (inr (
+      omega (arith, fits, longer, room),
+      hello_ends t.stage t.reading ps (held_part t.stage t.reading ps f h.talk.holds) x.1,
+    )))
 refuses bytes cs text unread t h f Flush stands fault.BadRequest x =
     let ps = h.talk.current in
     let fits = h.talk.fits in
@@ -267,8 +328,10 @@ refuses bytes cs text unread t h f Flush stands fault.BadRequest x =
     let k = x.2 in
     text_at bytes cs text unread t h (Refused fault.BadRequest)
     (λ read s. refused_with fault.BadRequest t ps read unread Flush f h.talk.holds fits s stands
-    (inr (omega (arith, fits, longer, room),
-    list_ends t.stage t.reading ps (held_part t.stage t.reading ps f h.talk.holds) x.1 k.0 k.1 k.2 k.3)))
+    (inr (
+      omega (arith, fits, longer, room),
+      list_ends t.stage t.reading ps (held_part t.stage t.reading ps f h.talk.holds) x.1 k.0 k.1 k.2 k.3,
+    )))
 
 pub stuck : (bytes : List ℕ) (cs : List Choice) (text unread : List ℕ) (t : TalkSeen) → IsHeld bytes cs text unread t
     → Fits t → (why : HostFault) → IsStuck why unread t → RefusedBy why t.own t.batch bytes cs text

@@ -26,24 +26,40 @@ lf text = text ++ 10 ∷ []
 pub handshake : (a b : Bool) → IsHandshake (hello_answer ++ caps_answer (record { smudge = a; delay = b }))
     (record { smudge = a; delay = b })
 handshake true true = record {
-  server = lf (codes "git-filter-server"); version = lf (codes "version=2");
+  server = lf (codes "git-filter-server");
+  version = lf (codes "version=2");
   lines = lf (codes "capability=smudge") ∷ lf (codes "capability=delay") ∷ [];
-  whole = refl; server_is = refl; version_is = refl; caps_are = refl;
+  whole = refl;
+  server_is = refl;
+  version_is = refl;
+  caps_are = refl;
 }
 handshake true false = record {
-  server = lf (codes "git-filter-server"); version = lf (codes "version=2");
+  server = lf (codes "git-filter-server");
+  version = lf (codes "version=2");
   lines = lf (codes "capability=smudge") ∷ [];
-  whole = refl; server_is = refl; version_is = refl; caps_are = refl;
+  whole = refl;
+  server_is = refl;
+  version_is = refl;
+  caps_are = refl;
 }
 handshake false true = record {
-  server = lf (codes "git-filter-server"); version = lf (codes "version=2");
+  server = lf (codes "git-filter-server");
+  version = lf (codes "version=2");
   lines = lf (codes "capability=delay") ∷ [];
-  whole = refl; server_is = refl; version_is = refl; caps_are = refl;
+  whole = refl;
+  server_is = refl;
+  version_is = refl;
+  caps_are = refl;
 }
 handshake false false = record {
-  server = lf (codes "git-filter-server"); version = lf (codes "version=2");
+  server = lf (codes "git-filter-server");
+  version = lf (codes "version=2");
   lines = [];
-  whole = refl; server_is = refl; version_is = refl; caps_are = refl;
+  whole = refl;
+  server_is = refl;
+  version_is = refl;
+  caps_are = refl;
 }
 
 -- the pieces of a content
@@ -60,8 +76,12 @@ given_whole bytes =
 
 pub replies : (d : Bool) (c : Choice) → (c ≡ Later → d ≡ true) → IsReply d (choice_answer c) (reply_to c)
 replies d (Give bytes) e = inr (record {
-  keys = success_keys; pieces = cut bytes; last_keys = [];
-  whole = given_whole bytes; success = refl; ends = inl refl;
+  keys = success_keys;
+  pieces = cut bytes;
+  last_keys = [];
+  whole = given_whole bytes;
+  success = refl;
+  ends = inl refl;
 })
 replies d Refuse e = inl (record { keys = lf (codes "status=error") ∷ []; whole = refl; ends = refl })
 replies d Later e = inl (record { keys = lf (codes "status=delayed") ∷ []; whole = refl; ends = (refl, e refl) })
@@ -81,7 +101,8 @@ names_again (n ∷ ns) = rw (named n, names_again ns) refl
 pub lists : (delayed names : List (List ℕ)) → AreShort names → AreExpected delayed [] names
     → IsList delayed (list_answer names) (Listed names)
 lists delayed names short expected = record {
-  lines = map raw names; keys = success_keys;
+  lines = map raw names;
+  keys = success_keys;
   whole = rw (lines_fit names short) (sym (append_assoc (map Payload (map raw names)) (Flush ∷ []) (block success_keys)));
   expected = rw (names_again names) expected;
   ends = (refl, sym (names_again names));
@@ -98,7 +119,8 @@ smudges path name content true = record {
   content_is = sym (joined_content content);
 }
 smudges path name content false = record {
-  keys = lf (codes "command=smudge") ∷ raw path ∷ raw_blob (encode_lower name) ∷ []; pieces = cut content;
+  keys = lf (codes "command=smudge") ∷ raw path ∷ raw_blob (encode_lower name) ∷ [];
+  pieces = cut content;
   whole = refl;
   command = rw (no_command path, blob_no_command (encode_lower name)) refl;
   names = rw (named path, blob_no_path (encode_lower name)) refl;

@@ -23,9 +23,11 @@ held_next : (bytes : List ℕ) (cs ds : List Choice) (text text2 unread : List �
     → (h : IsHeld bytes cs text unread t) → Stands p unread → IsTalkAfter (h.packets ++ p ∷ []) ds text2 u
     → IsHeld bytes ds text2 (drop (size p) unread) u
 held_next bytes cs ds text text2 unread t u p h stands a = record {
-  packets = h.packets ++ p ∷ []; read = h.read ++ take (size p) unread;
+  packets = h.packets ++ p ∷ [];
+  read = h.read ++ take (size p) unread;
   spelled = spell_snoc h.packets p h.read unread h.spelled stands;
-  whole = h.whole ∙ front_off (size p) h.read unread; talk = a;
+  whole = h.whole ∙ front_off (size p) h.read unread;
+  talk = a;
 }
 
 -- nothing was added
@@ -54,7 +56,9 @@ took bytes cs text unread t u Flush before after h f stands x = by_kind x.is
     by_kind : Finishes t x.choices x.answers u ⊎ BeginsContent t x.choices x.answers u
         → TakesOn bytes cs text before after (drop (size Flush) unread) u
     by_kind (inl y) = record {
-      more = x.choices; added = spelling_all x.answers; grew = x.text;
+      more = x.choices;
+      added = spelling_all x.answers;
+      grew = x.text;
       held = held_next bytes cs (cs ++ x.choices) text (text ++ spelling_all x.answers) unread t u Flush h stands
           (finished h.packets cs x.choices text x.answers t u h.talk
           (held_part t.stage t.reading h.talk.current f h.talk.holds) x.room y);
@@ -89,7 +93,9 @@ step_goes (Ok false) old new t u before after f s bytes cs text h =
     (subst (λ (z : List ℕ). IsHeld bytes cs text z u) (sym s.1)
     (subst (λ (z : TalkSeen). IsHeld bytes cs text old z) (sym s.2) h))
 step_goes (Err why) old new t u before after f s bytes cs text h = record {
-  more = []; added = []; grew = s.2 ∙ sym (append-nil before);
+  more = [];
+  added = [];
+  grew = s.2 ∙ sym (append-nil before);
   refused = refused_same why t.own u.own t.batch u.batch bytes cs text s.1.0 s.1.1
       (stuck bytes cs text old t h f why s.0);
 }
@@ -116,11 +122,15 @@ pub go_on : {A : Type 0} (result : Result A HostFault) (bytes : List ℕ) (cs : 
     → Goes result bytes (cs ++ x.more) (text ++ x.added) mid after unread2 u
     → Goes result bytes cs text before after unread2 u
 go_on (Ok v) bytes cs text before mid after unread unread2 t u x y = record {
-  more = x.more ++ y.more; added = x.added ++ y.added; grew = grown before mid after x.added y.added x.grew y.grew;
+  more = x.more ++ y.more;
+  added = x.added ++ y.added;
+  grew = grown before mid after x.added y.added x.grew y.grew;
   held = held_assoc bytes cs x.more y.more text x.added y.added unread2 u y.held;
 }
 go_on (Err why) bytes cs text before mid after unread unread2 t u x y = record {
-  more = x.more ++ y.more; added = x.added ++ y.added; grew = grown before mid after x.added y.added x.grew y.grew;
+  more = x.more ++ y.more;
+  added = x.added ++ y.added;
+  grew = grown before mid after x.added y.added x.grew y.grew;
   refused = refused_assoc why u.own u.batch bytes cs x.more y.more text x.added y.added y.refused;
 }
 
@@ -133,8 +143,11 @@ none_taken bytes cs text out unread t h = takes_none bytes cs text out out unrea
 held_fed : (bytes piece : List ℕ) (cs : List Choice) (text unread : List ℕ) (t : TalkSeen)
     → IsHeld bytes cs text unread t → IsHeld (bytes ++ piece) cs text (unread ++ piece) t
 held_fed bytes piece cs text unread t h = record {
-  packets = h.packets; read = h.read; spelled = h.spelled;
-  whole = ap (λ (z : List ℕ). z ++ piece) h.whole ∙ append_assoc h.read unread piece; talk = h.talk;
+  packets = h.packets;
+  read = h.read;
+  spelled = h.spelled;
+  whole = ap (λ (z : List ℕ). z ++ piece) h.whole ∙ append_assoc h.read unread piece;
+  talk = h.talk;
 }
 
 abbrev pub StaysFault : Type 0
@@ -142,14 +155,22 @@ StaysFault = (bytes more : List ℕ) → HasFault bytes → HasFault (bytes ++ m
 
 part_fed : (s : Stage) (bytes more : List ℕ) → StaysFault → HasPart s bytes HasFault → HasPart s (bytes ++ more) HasFault
 part_fed s bytes more law p = record {
-  packets = p.packets; read = p.read; rest = p.rest ++ more; spelled = p.spelled;
+  packets = p.packets;
+  read = p.read;
+  rest = p.rest ++ more;
+  spelled = p.spelled;
   whole = ap (λ (z : List ℕ). z ++ more) p.whole ∙ append_assoc p.read p.rest more;
-  unfinished = p.unfinished; fits = p.fits; ends = law p.rest more p.ends;
+  unfinished = p.unfinished;
+  fits = p.fits;
+  ends = law p.rest more p.ends;
 }
 
 bad_fed : (s : Stage) (why : HostFault) (bytes more : List ℕ) → HasRefused s bytes why → HasRefused s (bytes ++ more) why
 bad_fed s why bytes more p = record {
-  packets = p.packets; read = p.read; rest = p.rest ++ more; spelled = p.spelled;
+  packets = p.packets;
+  read = p.read;
+  rest = p.rest ++ more;
+  spelled = p.spelled;
   whole = ap (λ (z : List ℕ). z ++ more) p.whole ∙ append_assoc p.read p.rest more;
   refused = p.refused;
 }
@@ -158,26 +179,46 @@ text_fed : (own : Caps) (batch : ℕ) (bytes more : List ℕ) (cs : List Choice)
     → (x : IsHostText own batch bytes cs text (Refused why)) → EndsSo x.stage (x.rest ++ more) (Refused why)
     → IsHostText own batch (bytes ++ more) cs text (Refused why)
 text_fed own batch bytes more cs text why x e = record {
-  batch_some = x.batch_some; requests = x.requests; packets = x.packets; read = x.read; rest = x.rest ++ more;
-  answers = x.answers; stage = x.stage; spelled = x.spelled;
+  batch_some = x.batch_some;
+  requests = x.requests;
+  packets = x.packets;
+  read = x.read;
+  rest = x.rest ++ more;
+  answers = x.answers;
+  stage = x.stage;
+  spelled = x.spelled;
   whole = ap (λ (z : List ℕ). z ++ more) x.whole ∙ append_assoc x.read x.rest more;
-  are = x.are; answered = x.answered; text_is = x.text_is; ends = e;
+  are = x.are;
+  answered = x.answered;
+  text_is = x.text_is;
+  ends = e;
 }
 
 pub stopped_fed : (own : Caps) (batch : ℕ) (bytes more : List ℕ) (cs : List Choice) (text : List ℕ)
     → IsHostText own batch bytes cs text Stopped → IsHostText own batch (bytes ++ more) cs text Stopped
 stopped_fed own batch bytes more cs text x = record {
-  batch_some = x.batch_some; requests = x.requests; packets = x.packets; read = x.read; rest = x.rest ++ more;
-  answers = x.answers; stage = x.stage; spelled = x.spelled;
+  batch_some = x.batch_some;
+  requests = x.requests;
+  packets = x.packets;
+  read = x.read;
+  rest = x.rest ++ more;
+  answers = x.answers;
+  stage = x.stage;
+  spelled = x.spelled;
   whole = ap (λ (z : List ℕ). z ++ more) x.whole ∙ append_assoc x.read x.rest more;
-  are = x.are; answered = x.answered; text_is = x.text_is; ends = x.ends;
+  are = x.are;
+  answered = x.answered;
+  text_is = x.text_is;
+  ends = x.ends;
 }
 
 refused_fed : (why : HostFault) (own : Caps) (batch : ℕ) (bytes more : List ℕ) (cs : List Choice) (text : List ℕ)
     → StaysFault → RefusedBy why own batch bytes cs text → RefusedBy why own batch (bytes ++ more) cs text
 refused_fed fault.NoMemory own batch bytes more cs text law x = record {
-  front = x.front; after = x.after ++ more;
-  cut = ap (λ (z : List ℕ). z ++ more) x.cut ∙ append_assoc x.front x.after more; text_is = x.text_is;
+  front = x.front;
+  after = x.after ++ more;
+  cut = ap (λ (z : List ℕ). z ++ more) x.cut ∙ append_assoc x.front x.after more;
+  text_is = x.text_is;
 }
 refused_fed fault.BadPacket own batch bytes more cs text law x =
     text_fed own batch bytes more cs text fault.BadPacket x (part_fed x.stage x.rest more law x.ends)
@@ -198,14 +239,16 @@ pub fed_goes : {A : Type 0} (result : Result A HostFault) (bytes : List ℕ) (cs
 fed_goes result bytes cs text piece rest bit rest2 before mid after unread unread2 t u x cut serve =
     let on = x.on in
     let next : TakesOn (bytes ++ (x.fed ++ bit)) cs text before mid (unread ++ bit) t = record {
-      more = on.more; added = on.added; grew = on.grew;
+      more = on.more;
+      added = on.added;
+      grew = on.grew;
       held = subst (λ (z : List ℕ). IsHeld z (cs ++ on.more) (text ++ on.added) (unread ++ bit) t)
           (append_assoc bytes x.fed bit)
           (held_fed (bytes ++ x.fed) bit (cs ++ on.more) (text ++ on.added) unread t on.held);
     } in (
       x.cut ∙ (ap (λ (z : List ℕ). x.fed ++ z) cut ∙ sym (append_assoc x.fed bit rest2)),
       go_on result (bytes ++ (x.fed ++ bit)) cs text before mid after (unread ++ bit) unread2 t u next
-      (serve (bytes ++ (x.fed ++ bit)) (cs ++ on.more) (text ++ on.added) next.held),
+          (serve (bytes ++ (x.fed ++ bit)) (cs ++ on.more) (text ++ on.added) next.held),
     )
 
 -- and it goes on
@@ -230,7 +273,9 @@ fed_refused why bytes cs text piece rest bit rest2 before mid after unread unrea
     let g = fed_goes {A = Unit {0}} (Err why) bytes cs text piece rest bit rest2 before mid after unread unread2 t u x cut serve in
     let r = g.1 in
     record {
-      more = r.more; added = r.added; grew = r.grew;
+      more = r.more;
+      added = r.added;
+      grew = r.grew;
       refused = subst (λ (z : List ℕ). RefusedBy why u.own u.batch z (cs ++ r.more) (text ++ r.added))
           (append_assoc bytes (x.fed ++ bit) rest2 ∙ ap (λ (z : List ℕ). bytes ++ z) (sym g.0))
           (refused_fed why u.own u.batch (bytes ++ (x.fed ++ bit)) rest2 (cs ++ r.more) (text ++ r.added) law r.refused);
@@ -239,7 +284,8 @@ fed_refused why bytes cs text piece rest bit rest2 before mid after unread unrea
 pub none_fed : (bytes : List ℕ) (cs : List Choice) (text piece out unread : List ℕ) (t : TalkSeen)
     → IsHeld bytes cs text unread t → FedOn bytes cs text piece piece out out unread t
 none_fed bytes cs text piece out unread t h = record {
-  fed = []; cut = refl;
+  fed = [];
+  cut = refl;
   on = takes_none (bytes ++ []) cs text out out unread t refl
       (subst (λ (z : List ℕ). IsHeld z cs text unread t) (sym (append-nil bytes)) h);
 }
@@ -250,11 +296,16 @@ over_fed : (bytes : List ℕ) (cs : List Choice) (text piece rest before after u
 over_fed bytes cs text piece rest before after unread t x over =
     let on = x.on in
     record {
-      more = on.more; added = on.added; grew = on.grew;
-      on = inr (over, subst (λ (z : List ℕ). IsHostText t.own t.batch z (cs ++ on.more) (text ++ on.added) Stopped)
-          (append_assoc bytes x.fed rest ∙ ap (λ (z : List ℕ). bytes ++ z) (sym x.cut))
-          (stopped_fed t.own t.batch (bytes ++ x.fed) rest (cs ++ on.more) (text ++ on.added)
-          (stops (bytes ++ x.fed) (cs ++ on.more) (text ++ on.added) unread t on.held over)));
+      more = on.more;
+      added = on.added;
+      grew = on.grew;
+      on = inr (
+        over,
+        subst (λ (z : List ℕ). IsHostText t.own t.batch z (cs ++ on.more) (text ++ on.added) Stopped)
+            (append_assoc bytes x.fed rest ∙ ap (λ (z : List ℕ). bytes ++ z) (sym x.cut))
+            (stopped_fed t.own t.batch (bytes ++ x.fed) rest (cs ++ on.more) (text ++ on.added)
+            (stops (bytes ++ x.fed) (cs ++ on.more) (text ++ on.added) unread t on.held over)),
+      );
     }
 
 all_fed : (bytes : List ℕ) (cs : List Choice) (text piece rest before after unread : List ℕ) (t : TalkSeen)
@@ -266,7 +317,9 @@ all_fed bytes cs text piece rest before after unread t x none f part =
     ap (λ (z : List ℕ). bytes ++ z) (sym (x.cut ∙ (ap (λ (z : List ℕ). x.fed ++ z) none ∙ append-nil x.fed))) in
     let held = subst (λ (z : List ℕ). IsHeld z (cs ++ on.more) (text ++ on.added) unread t) whole on.held in
     record {
-      more = on.more; added = on.added; grew = on.grew;
+      more = on.more;
+      added = on.added;
+      grew = on.grew;
       on = inl (waits (bytes ++ piece) (cs ++ on.more) (text ++ on.added) unread t held f part, held);
     }
 
@@ -308,7 +361,9 @@ pub stays : (bytes : List ℕ) (cs : List Choice) (text piece : List ℕ) (h : H
     → ((h.fault ≡ None) → h.talk.stage ≡ Over) → IsHostAfter bytes cs text h
     → TakesPiece bytes cs text piece h out out
 stays bytes cs text piece h out law over x = record {
-  more = []; added = []; grew = sym (append-nil out);
+  more = [];
+  added = [];
+  grew = sym (append-nil out);
   host = after_same (bytes ++ piece) cs text h (reads_on h.fault bytes piece cs text h law over x);
 }
 
@@ -325,15 +380,28 @@ held_host bytes cs text h none going x = by_kind (subst (λ (f : Option HostFaul
 pub new_host : (own : Caps) (batch : ℕ) (h : HostSeen) → 1 ≤ batch
     → h ≡ record { talk = new_talk own batch; unread = []; fault = None } → IsHostAfter [] [] [] h
 new_host own batch h some e = subst (λ (z : HostSeen). IsHostAfter [] [] [] z) (sym e) (inl (
-  waits [] [] [] [] (new_talk own batch) held tt (inl (omega arith)), held,
+  waits [] [] [] [] (new_talk own batch) held tt (inl (omega arith)),
+  held,
 ))
   where
     held : IsHeld [] [] [] [] (new_talk own batch)
     held = record {
-      packets = []; read = []; spelled = refl; whole = refl;
+      packets = [];
+      read = [];
+      spelled = refl;
+      whole = refl;
       talk = record {
-        batch_some = some; requests = []; past = []; current = []; answers = []; whole = refl; are = refl;
-        answered = (refl, refl, refl); text_is = refl; holds = refl; fits = refl;
+        batch_some = some;
+        requests = [];
+        past = [];
+        current = [];
+        answers = [];
+        whole = refl;
+        are = refl;
+        answered = (refl, refl, refl);
+        text_is = refl;
+        holds = refl;
+        fits = refl;
       };
     }
 

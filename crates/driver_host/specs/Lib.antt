@@ -7,3 +7,4 @@ pub mod KeyLists
 pub mod Talks
 pub mod Hosts
 pub mod HostLinks
+pub mod LateWorks

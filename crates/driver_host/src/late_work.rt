@@ -1,5 +1,7 @@
 //! A sample work.
-ghost use Rattle.std.specs.Prelude.{◌≡◌, ℕ, List, None, IfOk};
+ghost use Rattle.std.specs.Prelude.{◌≡◌, ℕ, List, Some, None, IfOk, OnOk, cond};
+ghost use Rattle.std.specs.Str.{bytes_eq};
+ghost use Rattle.driver_host.specs.LateWorks.{kept_at, late_told};
 
 use crate::work::{Choice, LateChoice, Work};
 use byte_path::Bytes;
@@ -26,7 +28,10 @@ impl LateWork {
     }
 
     /// Keeps the content of a path.
-    fn keep(&mut self, path: &[u8], content: Bytes) -> Result<(), AllocError> {
+    fn keep(&mut self, path: &[u8], content: Bytes) -> Result<(), AllocError>
+        ensures { let latest = ⟦<LateWork as Work>⟧.latest in OnOk result ((q : List ℕ)
+            → latest self.new q ≡ cond (bytes_eq path.now q) (Some content) (latest self.old q)) }
+    {
         let path = Vec::from_slice(self.alloc, path)?;
         self.kept.insert(path, content)?;
         Ok(())
@@ -34,11 +39,11 @@ impl LateWork {
 }
 
 impl Work for LateWork {
-    ghost use Rattle.driver_host.specs.LateWorks.{kept_at, late_told};
-
     ghost told = { λ w. late_told };
+
     ghost latest = { λ w path. kept_at w.kept path };
 
+    #[tactic(auto, using(crate::proofs::Late::remembers_later))]
     fn first(
         &mut self,
         path: &[u8],

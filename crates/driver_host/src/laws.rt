@@ -12,13 +12,6 @@ ghost use Rattle.driver_host.specs.declared.work.Choice.TheVariants as choice;
 ghost use Rattle.driver_host.specs.Requests.{IsRequest, Hello, Offer, Smudge, Listing};
 ghost use Rattle.driver_host.specs.Answers.{hello_answer, caps_answer, choice_answer, list_answer, reply_to, given};
 ghost use Rattle.driver_host.specs.Answers.{AreShort};
-ghost use Rattle.std.specs.Prelude.{◌∷◌, Some, ◌+◌};
-ghost use Rattle.pkt_line.specs.Packets.{Packet, Payload, Flush};
-ghost use Rattle.pkt_line.specs.Spelling.{spelling_all};
-ghost use Rattle.driver_host.specs.Talks.{TalkSeen, IsTalkAfter, Finishes};
-ghost use Rattle.driver_host.specs.HostText.{Stage};
-ghost use Rattle.driver_host.specs.Talks.{Reading, HoldsPart, after_line};
-ghost use Rattle.driver_host.specs.declared.talk.Part.{Part};
 
 use filter_words::reply_content;
 
@@ -49,27 +42,4 @@ pub fn client_requests()
     ensures smudge { (path name content : List ℕ) (d : Bool)
         → IsRequest (Smudge path d content) (smudge_packets path name d content) }
     ensures listing { IsRequest Listing list_packets }
-{}
-
-/// What is kept of a request that is read holds after one more line.
-pub fn lines_held()
-    ensures { (s : Stage) (p : Part) (old new : Reading) (ps : List Packet) (line : List ℕ)
-        → HoldsPart s p old ps → after_line p old line ≡ Some new
-        → HoldsPart s new.part new (ps ++ Payload line ∷ []) }
-{}
-
-/// A flush packet that ends a request: the talk is after one more request, which was answered.
-pub fn requests_finished()
-    ensures { (ps : List Packet) (cs ds : List Choice) (text : List ℕ) (answers : List Packet) (t u : TalkSeen)
-        → (a : IsTalkAfter ps cs text t) → HoldsPart t.stage t.reading.part t.reading a.current
-        → 4 ≤ t.reading.room → Finishes t ds answers u
-        → IsTalkAfter (ps ++ Flush ∷ []) (cs ++ ds) (text ++ spelling_all answers) u }
-{}
-
-/// A line that is taken: the talk is after one more packet.
-pub fn line_taken()
-    ensures { (ps : List Packet) (cs : List Choice) (text : List ℕ) (t : TalkSeen) (line : List ℕ) (r : Reading)
-        → (a : IsTalkAfter ps cs text t) → HoldsPart t.stage t.reading.part t.reading a.current
-        → 4 + length line ≤ t.reading.room → after_line t.reading.part t.reading line ≡ Some r
-        → IsTalkAfter (ps ++ Payload line ∷ []) cs text (record t { reading = r }) }
 {}

@@ -23,7 +23,7 @@ pub returns-else-is_none-clause-takes : goal.returns-else-is_none-clause-takes
 returns-else-is_none-clause-takes g c =
     let over : c.args.self.now.fault ≡ None → c.args.self.now.talk.stage ≡ Over =
     elim c.else-is_none.branch [
-      else-is_none-via-then-is_none+else-not-is_over w ↦ Prim.search rules
+      | else-is_none-via-then-is_none+else-not-is_over w ↦ Prim.search rules
       | else-is_none-via-else-is_none w ↦ Prim.search rules
     ] in
     λ bytes cs text h.
