@@ -1,0 +1,14 @@
+use Rattle.std.proofs.Common.{List, ℕ, length}
+use Rattle.driver_host.specs.declared.work.Choice.{Choice}
+use Rattle.driver_host.specs.Hosts.{IsHeld, FedOn, IsReady, Grown}
+use Rattle.driver_host.proofs.host.feed_all.Given as goal
+
+abbrev pub invariant-loop-talk : goal.invariant-loop-talk
+invariant-loop-talk g l = record {
+  ready : IsReady l.talk l.reader.unread;
+  fed : (bytes : List ℕ) (cs : List Choice) (text : List ℕ) → IsHeld bytes cs text l.initial.reader.unread l.initial.talk → FedOn bytes cs text l.initial.piece l.rest l.initial.out.items l.out.items l.reader.unread l.talk;
+  grown : Grown l.initial.out.items l.out.items;
+}
+
+abbrev pub decreases-loop-talk : goal.decreases-loop-talk
+decreases-loop-talk g l = length l.rest
