@@ -172,7 +172,7 @@ module _ {B L : Type 0} where
       ∙ (ap (map (λ e. e.event)) e ∙ sym (own_events d.starts.items d.workers n k s.stamped))) q
 
   -- what was in hand is so at the next turn
-  still_holds : HandsStay → (d : Plan B L) (n p : ℕ) (raw : Option FilterCause) (h k : List (ℕ × Entry)) (c x : Core)
+  pub still_holds : HandsStay → (d : Plan B L) (n p : ℕ) (raw : Option FilterCause) (h k : List (ℕ × Entry)) (c x : Core)
       → AreBelow d.drivers d.starts.items → IsRun d h c → IsRun d k x → Begins h k → own n h ≡ own n k
       → Holds c p n raw → Holds x p n raw
   still_holds law d n p raw h k c x below r s b e holds =

@@ -17,7 +17,7 @@ use Rattle.checkout_core.specs.declared.event.Event.{Event}
 use Rattle.checkout_core.specs.declared.event.Event.TheVariants.{Claim, Close, HandBack}
 use Rattle.checkout_core.specs.States.{Core, AreBelow, with_state}
 use Rattle.checkout_core.specs.Actors.{actor_of}
-use Rattle.checkout_core.specs.Hands.{is_held, held_at}
+use Rattle.checkout_core.specs.Hands.{is_held, held_at, Holds}
 use Rattle.core_laws.specs.Moves.{Moved, RowStays, StaysOr, is_with_driver, is_noted}
 use Rattle.checkout_book.specs.declared.plan.Plan.{Plan}
 use Rattle.checkout_book.specs.declared.plan.Entry.{Entry}
@@ -29,15 +29,15 @@ use Rattle.checkout_book.specs.Entries.{number_or, number_in, entries, entry_of,
 use Rattle.checkout_book.specs.Shelves.{is_waiting, waits, cards_of, plan_of, IsSound, IsPlanned, IsFrom, IsOut}
 use Rattle.checkout_book.specs.Ending.{IsTaken}
 use Rattle.checkout_book.specs.Turns.{NoneWaits, Turned, Claimed, Unclaimed, Noted}
-use Rattle.checkout_book.specs.Passes.{IsRun, IsPass, IsTurned, Claims, Closes, Appends}
+use Rattle.checkout_book.specs.Passes.{IsRun, IsPass, IsTurned, Keeps, Claims, Closes, Appends}
 use Rattle.checkout_book.specs.Passes.{EndsWith, claim_entry, close_entry, note_entry}
 use Rattle.convert_plan.specs.Card.{CardSeen}
 use Rattle.checkout_book.proofs.Lists.{get_set_same}
 use Rattle.checkout_book.proofs.Runs.{eqb_self, same_number, hands_moved, moved_here, moved_there, with_not_held}
 use Rattle.checkout_book.proofs.Entries.{NotEnded, entries_more, note_parts}
 use Rattle.checkout_book.proofs.Sounding.{waited, close_away, back_away, slot_at, waits_not}
-use Rattle.checkout_book.proofs.Histories.{own_more, follows_more, same_hands, reads_of}
-use Rattle.checkout_book.proofs.CoreLaws.{TakesPath, ClosesPath, BacksPath, KeepsPaths, TellsHands, KeepsSeat}
+use Rattle.checkout_book.proofs.Histories.{own_more, follows_more, same_hands, still_holds, reads_of}
+use Rattle.checkout_book.proofs.CoreLaws.{TakesPath, ClosesPath, BacksPath, KeepsPaths, TellsHands, HandsStay, KeepsSeat}
 
 module _ {B L : Type 0} (see : Sight B L) where
   pub out_from : (cards : List (Card B L)) (card : Card B L) → IsOut see cards card
@@ -185,6 +185,22 @@ module _ {B L : Type 0} (see : Sight B L) where
       (below_of d v t.is t.sound) t.pass.reads (reads_of see d v t.is t.sound)
       (sym (t.pass.seat).receipts ∙ t.mine) q)
 
+  -- what the pass had in hand stays so until it came
+  stayed : HandsStay → (lock : TableId) (d : Plan B L) (n made : ℕ) (s0 s2 : SeatView Entry (Plan B L)) (c : Core)
+      (v w : Shelf B L) → Went lock d n made s0 s2 c v w → (q : ℕ) (raw : Option FilterCause) → Holds c q n raw
+      → Holds v.core q n raw
+  stayed law lock d n made s0 s2 c v w t q raw = still_holds law d n q raw (seen_of s0) (history_of (tell see) v) c
+      v.core (below_of d v t.is t.sound) t.pass.reads (reads_of see d v t.is t.sound) t.begins
+      (sym (t.pass.seat).receipts ∙ t.mine)
+
+  -- and after a step on another path
+  kept : HandsStay → (lock : TableId) (d : Plan B L) (n made : ℕ) (s0 s2 : SeatView Entry (Plan B L)) (c : Core)
+      (v w : Shelf B L) (p : ℕ) (a b : PathState) → Went lock d n made s0 s2 c v w → Moved v.core w.core p a b
+      → Keeps n c w.core p
+  kept law lock d n made s0 s2 c v w p a b t m q raw other holds =
+      let h = stayed law lock d n made s0 s2 c v w t q raw holds in
+      (h.0, moved_there v.core w.core p q a b m other ∙ h.1, h.2)
+
   -- the pass got one entry
   mine_more : (lock : TableId) (d : Plan B L) (n made : ℕ) (s0 s2 : SeatView Entry (Plan B L)) (c : Core)
       (v w : Shelf B L) (e : Entry) → Went lock d n made s0 s2 c v w
@@ -244,11 +260,11 @@ module _ {B L : Type 0} (see : Sight B L) where
   claim_grown_if n v w None one sound = tt
   claim_grown_if n v w (Some k) one sound = claim_grown n v w k one sound
 
-  pub took : TellsHands → TakesPath → (lock : TableId) (d : Plan B L) (n made : ℕ)
+  pub took : TellsHands → HandsStay → TakesPath → (lock : TableId) (d : Plan B L) (n made : ℕ)
       (s0 s2 : SeatView Entry (Plan B L)) (c : Core) (v w : Shelf B L) (o : Option (Card B L))
       → Went lock d n made s0 s2 c v w → IfNone o (Unclaimed v w) → IfSome o (Claimed n v w)
       → Claims see lock d n made s0 s2 c o
-  took law path lock d n made s0 s2 c v w None t nil one = (
+  took law stay path lock d n made s0 s2 c v w None t nil one = (
     w.core,
     record {
       turn = turned lock d n made s0 s2 c v w t (claim_plan n v w None nil one)
@@ -256,9 +272,11 @@ module _ {B L : Type 0} (see : Sight B L) where
       mine = t.made_now ∙ (ap (λ (z : Shelf B L). own n (history_of (tell see) z)) nil.same ∙ sym t.mine);
       none = subst (λ (z : Shelf B L). NoneWaits z.core) (sym nil.same) nil.none;
       hands = λ q. ap (λ (z : Shelf B L). held_at z.core n q) nil.same ∙ hands law lock d n made s0 s2 c v w t q;
+      keeps = λ q raw h. subst (λ (z : Shelf B L). Holds z.core q n raw) (sym nil.same)
+          (stayed stay lock d n made s0 s2 c v w t q raw h);
     },
   )
-  took law path lock d n made s0 s2 c v w (Some k) t nil one =
+  took law stay path lock d n made s0 s2 c v w (Some k) t nil one =
       let h = taken path n v w k one t.sound in (
         w.core,
         record {
@@ -273,14 +291,18 @@ module _ {B L : Type 0} (see : Sight B L) where
           hands = λ q. hands_moved v.core w.core k.path (Waiting h.raw) (Held n h.raw) n h.moved q
               ∙ (ap (λ (b : Bool). cond (q == k.path) b (held_at v.core n q)) (eqb_self n)
               ∙ ap (λ (b : Bool). cond (q == k.path) true b) (hands law lock d n made s0 s2 c v w t q));
+          fresh = sym (hands law lock d n made s0 s2 c v w t k.path)
+              ∙ (ap (λ (o : Option Path). elim o as (λ _. Bool) [ None ↦ false | Some r ↦ is_held n r.state ])
+              h.moved.there ∙ ap (is_held n) h.moved.was);
+          keeps = kept stay lock d n made s0 s2 c v w k.path (Waiting h.raw) (Held n h.raw) t h.moved;
         },
       )
 
-  pub closed : TellsHands → ClosesPath → (lock : TableId) (d : Plan B L) (n made : ℕ)
+  pub closed : TellsHands → HandsStay → ClosesPath → (lock : TableId) (d : Plan B L) (n made : ℕ)
       (s0 s2 : SeatView Entry (Plan B L)) (c : Core) (v w : Shelf B L) (p : ℕ) (o : Own) (b : B) (l : L)
       → Went lock d n made s0 s2 c v w → Turned (Close p n o) p (Ended b l) v w
       → Closes lock d n made s0 s2 c p o (tell see b l)
-  closed law path lock d n made s0 s2 c v w p o b l t one =
+  closed law stay path lock d n made s0 s2 c v w p o b l t one =
       let more = close_grown path n p o b l v w one t.sound in
       let move = path v.core w.core p n o one.step in
       record {
@@ -290,6 +312,7 @@ module _ {B L : Type 0} (see : Sight B L) where
         last = ends_with lock d n made s0 s2 c v w (close_entry p n o (tell see b l)) t more;
         hands = λ q. hands_moved v.core w.core p move.0 (Closed move.1) n move.2 q
             ∙ ap (λ (x : Bool). cond (q == p) false x) (hands law lock d n made s0 s2 c v w t q);
+        keeps = kept stay lock d n made s0 s2 c v w p move.0 (Closed move.1) t move.2;
       }
 
   stays_unheld : (n : ℕ) (s t : PathState) → StaysOr s t → is_held n t ≡ is_held n s

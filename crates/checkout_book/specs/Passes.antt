@@ -39,6 +39,10 @@ close_entry p n o parts = record { event = Close p n o; parts = Some parts }
 abbrev pub note_entry : Event → Entry
 note_entry e = record { event = e; parts = None }
 
+-- what the actor has in hand in the one state but this path, it has in hand in the other
+abbrev pub Keeps : ℕ → Core → Core → ℕ → Type 0
+Keeps n c x p = (q : ℕ) (raw : Option FilterCause) → (q ≡ p → ⊥) → Holds c q n raw → Holds x q n raw
+
 module _ {B L : Type 0} where
   -- the history is a run of the core, which leaves it so
   pub record IsRun (d : Plan B L) (h : List (ℕ × Entry)) (c : Core) : Type 0 where
@@ -70,6 +74,7 @@ module _ {B L : Type 0} where
     pub mine : mine_of new ≡ mine_of old
     pub none : NoneWaits x
     pub hands : (q : ℕ) → held_at x n q ≡ held_at c n q
+    pub keeps : (q : ℕ) (raw : Option FilterCause) → Holds c q n raw → Holds x q n raw
 
   -- the planned card of a path, with nothing changed but `ready`, is in the actor's hands
   pub record TookCard (see : Sight B L) (lock : TableId) (d : Plan B L) (n made : ℕ)
@@ -83,6 +88,8 @@ module _ {B L : Type 0} where
     pub holds : Holds x k.path n raw
     pub ready : WaitsSo (seen see k) (Waiting raw) k.ready
     pub hands : (q : ℕ) → held_at x n q ≡ cond (q == k.path) true (held_at c n q)
+    pub fresh : held_at c n k.path ≡ false
+    pub keeps : Keeps n c x k.path
 
   abbrev pub Claims : Sight B L → TableId → Plan B L → ℕ → ℕ → SeatView Entry (Plan B L) → SeatView Entry (Plan B L)
       → Core → Option (Card B L) → Type 0
@@ -96,6 +103,7 @@ module _ {B L : Type 0} where
     pub mine : mine_of new ≡ mine_of old ++ close_entry p n o parts ∷ []
     pub last : EndsWith n (close_entry p n o parts) old new
     pub hands : (q : ℕ) → held_at core n q ≡ cond (q == p) false (held_at c n q)
+    pub keeps : Keeps n c core p
 
   pub record Appends (lock : TableId) (d : Plan B L) (n made : ℕ) (old new : SeatView Entry (Plan B L)) (c : Core)
       (e : Event) : Type 0 where

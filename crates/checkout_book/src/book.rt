@@ -39,6 +39,7 @@ pub fn claim<B: Blob, L: Leaf, H: Wait>(
         → Claims (sight B.told B.seen L.seen) book.now d (number_of pass.old) made pass.old pass.new c result }
 {
     laws::own_entries_tell_what_is_in_hand();
+    laws::what_is_in_hand_stays();
     laws::a_claim_takes_its_path();
     turn_lock::laws::a_turn_keeps_a_seat::<Shelf<B, L>>();
     let actor = pass.number();

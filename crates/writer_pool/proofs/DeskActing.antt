@@ -30,9 +30,10 @@ use Rattle.driver_desk.specs.Works.{card_paths}
 use Rattle.writer_pool.specs.Closing.{IsFromBook, RefusedBacks, ServesCard}
 use Rattle.writer_pool.specs.Ends.{ShowsEnd, IsShownAll, IsBack}
 use Rattle.writer_pool.specs.OnBook.{given_in, CloseOwn, Recording, Place, place_of, IsDeskPass, standing_at, standing_of, given_of}
-use Rattle.writer_pool.specs.Working.{AreTurns, AreShown, IsReady, Idled, blob_in, leaf_in, own_events}
+use Rattle.writer_pool.specs.Turns.{AreTurns}
+use Rattle.writer_pool.specs.Working.{AreShown, IsReady, Idled, blob_in, leaf_in, own_events}
 use Rattle.writer_pool.proofs.Places.{some_is, get_map, get_map_back, get_within, get_behind, split}
-use Rattle.writer_pool.proofs.WorkTurns.{turns_back}
+use Rattle.writer_pool.proofs.TurnSteps.{turns_back}
 use Rattle.writer_pool.proofs.Acting.{work_shown}
 use Rattle.writer_pool.proofs.Closings.{notes_quiet}
 use Rattle.writer_pool.proofs.Recordings.{AllBy, own_by, seat_is, standing_is, events_own}

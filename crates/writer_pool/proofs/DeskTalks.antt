@@ -24,7 +24,8 @@ use Rattle.driver_desk.specs.Serving.{Given, Noted, Closed, HandedBack, AllClose
 use Rattle.writer_pool.specs.OnBook.{IsDeskPass, given_in, place_of, standing_of, given_of}
 use Rattle.writer_pool.specs.Pools.{HasTalked}
 use Rattle.writer_pool.specs.Sealing.{EndsIn}
-use Rattle.writer_pool.specs.Working.{AreTurns, Idled, own_events}
+use Rattle.writer_pool.specs.Turns.{AreTurns}
+use Rattle.writer_pool.specs.Working.{Idled, own_events}
 use Rattle.writer_pool.proofs.Places.{get_map, get_within, get_behind, split}
 use Rattle.writer_pool.proofs.Acting.{turn_claim}
 use Rattle.writer_pool.proofs.Recordings.{standing_is, events_own}

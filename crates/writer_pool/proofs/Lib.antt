@@ -1,4 +1,8 @@
 pub mod WorkTurns
+pub mod TurnSteps
+pub mod FourLemmas
+pub mod HeldCards
+pub mod Hands
 pub mod Places
 pub mod Closings
 pub mod CoreMoves

@@ -31,13 +31,14 @@ use Rattle.checkout_book.specs.Shelves.{cards_of, IsPlanned, IsOut, WaitsSo}
 use Rattle.checkout_book.specs.Passes.{Claims, Closes, TookNone, TookCard, claim_entry, close_entry}
 use Rattle.checkout_book.specs.Reserving.{HasNothing, AreNew}
 use Rattle.writer_pool.specs.Writing.{IsToWrite, WritesCard}
-use Rattle.writer_pool.specs.Working.{AreTurns, IsShown, AreShown, Worked, Idled, own_events}
+use Rattle.writer_pool.specs.Turns.{AreTurns}
+use Rattle.writer_pool.specs.Working.{IsShown, AreShown, Worked, Idled, own_events}
 use Rattle.writer_pool.proofs.Places.{some_is}
 
 pub begins_trans : {E : Type 0} (xs ys zs : List (ℕ × E)) → Begins xs ys → Begins ys zs → Begins xs zs
 begins_trans xs ys zs b c = (b.0 ++ c.0, sym (append_assoc xs b.0 c.0) ∙ (ap (λ l. l ++ c.0) b.1 ∙ c.1))
 
-noted_more : (xs ys : List Event) → noted ys ≡ [] → noted xs ≡ [] → noted (xs ++ ys) ≡ []
+pub noted_more : (xs ys : List Event) → noted ys ≡ [] → noted xs ≡ [] → noted (xs ++ ys) ≡ []
 noted_more [] ys e f = e
 noted_more (x ∷ xs) ys e f = go (is_noted x) f (noted_more xs ys e)
   where
@@ -45,36 +46,6 @@ noted_more (x ∷ xs) ys e f = go (is_noted x) f (noted_more xs ys e)
         → cond b (x ∷ noted (xs ++ ys)) (noted (xs ++ ys)) ≡ []
     go true h more = absurd (cc (h))
     go false h more = more h
-
-turns_more : (xs ys : List Event) → AreTurns xs → AreTurns ys → AreTurns (xs ++ ys)
-turns_more [] ys h k = k
-turns_more (c ∷ []) ys h k = absurd h
-turns_more (c ∷ e ∷ xs) ys h k = (h.0, turns_more xs ys h.1 k)
-
--- what is closed in turns was claimed before
-pub turns_claimed : (es : List Event) (i p a : ℕ) (o : Own) → AreTurns es → slice_get es i ≡ Some (Close p a o)
-    → (j : ℕ) × (j < i) × (slice_get es j ≡ Some (Claim p a))
-turns_claimed [] i p a o h at = absurd (cc (at))
-turns_claimed (c ∷ []) i p a o h at = absurd h
-turns_claimed (c ∷ e ∷ es) zero p a o h at = absurd (let t = h.0 in let claim = t.3 in cc (at, claim))
-turns_claimed (c ∷ e ∷ es) (suc zero) p a o h at =
-    let t = h.0 in
-    let is : Close t.0 t.1 t.2 ≡ Close p a o = sym t.4 ∙ some_is e (Close p a o) at in
-    let path : t.0 ≡ p = cc (is) in
-    let actor : t.1 ≡ a = cc (is) in
-    (zero, omega arith, ap (λ (x : Event). Some x) (t.3 ∙ λ k. Claim (path k) (actor k)))
-turns_claimed (c ∷ e ∷ es) (suc (suc i)) p a o h at =
-    let r = turns_claimed es i p a o h.1 at in
-    let less = r.1 in
-    (suc (suc r.0), omega (arith, less), r.2)
-
--- no path is handed back in turns
-pub turns_back : (es : List Event) (i p : ℕ) → AreTurns es → slice_get es i ≡ Some (HandBack p) → ⊥
-turns_back [] i p h at = cc (at)
-turns_back (c ∷ []) i p h at = h
-turns_back (c ∷ e ∷ es) zero p h at = let t = h.0 in let claim = t.3 in cc (at, claim)
-turns_back (c ∷ e ∷ es) (suc zero) p h at = let t = h.0 in let close = t.4 in cc (at, close)
-turns_back (c ∷ e ∷ es) (suc (suc i)) p h at = turns_back es i p h.1 at
 
 -- what was prepared for a card that was claimed is its own
 ready_is_prepared : (card : CardSeen) (raw : Option FilterCause) (ready : Option Prepared)
@@ -111,12 +82,6 @@ wrote_planned card ready (own.Object k) blob leaf h =
 wrote_planned card ready own.NoMemory blob leaf h = h
 
 module _ {B L : Type 0} (see : Sight B L) where
-  pub took_none : (lock : TableId) (d : Plan B L) (n made : ℕ) (s t : SeatView Entry (Plan B L)) (c : Core)
-      (o : Option (Card B L)) → Claims see lock d n made s t c o → ((k : Card B L) → o ≡ Some k → ⊥)
-      → (x : Core) × TookNone lock d n made s t c x
-  took_none lock d n made s t c None h other = h
-  took_none lock d n made s t c (Some k) h other = absurd (other k refl)
-
   -- a planned card may be written
   pub planned_to_write : (cards : List (Card B L)) (k : Card B L) (raw : Option FilterCause) → AreNew see cards
       → IsPlanned see cards k → WaitsSo (seen see k) (Waiting raw) k.ready → IsToWrite (seen see k)
@@ -128,10 +93,6 @@ module _ {B L : Type 0} (see : Sight B L) where
         ready = λ r is. ready_is_prepared (seen see k) raw k.ready so r is;
       }
 
-  pub to_write : (lock : TableId) (d : Plan B L) (n made : ℕ) (s t : SeatView Entry (Plan B L)) (c x : Core)
-      (k : Card B L) → AreNew see (cards_of d) → TookCard see lock d n made s t c x k → IsToWrite (seen see k)
-  to_write lock d n made s t c x k new took = planned_to_write (cards_of d) k took.raw new took.planned took.ready
-
   -- a card that an actor has in hand may be closed after it was written
   pub held_may_close : ((c : Core) (p a : ℕ) (raw : Option FilterCause) (o : Own) (v : Verdict) → Holds c p a raw
       → held_close raw o ≡ Some v → is_step c (Close p a o) ≡ true)
@@ -142,15 +103,6 @@ module _ {B L : Type 0} (see : Sight B L) where
       let v = has_verdict (seen see k) raw k.ready o so read in
       subst (λ (p : ℕ). is_step x (Close p n o) ≡ true) (sym (ap (λ (z : CardSeen). z.path) kept))
       (law x k.path n raw o v.0 holds v.1)
-
-  pub may_close : ((c : Core) (p a : ℕ) (raw : Option FilterCause) (o : Own) (v : Verdict) → Holds c p a raw
-      → held_close raw o ≡ Some v → is_step c (Close p a o) ≡ true)
-      → (lock : TableId) (d : Plan B L) (n made : ℕ) (s t : SeatView Entry (Plan B L)) (c x : Core) (k w : Card B L)
-      (m : ℕ) (o : Own) → TookCard see lock d n made s t c x k → m ≡ n → IsCardOf (seen see k) (seen see w)
-      → (is_some k.ready ≡ true → was_read o ≡ true) → is_step x (Close w.path m o) ≡ true
-  may_close law lock d n made s t c x k w m o took is kept read =
-      held_may_close law x k w took.raw m o (subst (λ (j : ℕ). Holds x k.path j took.raw) (sym is) took.holds) took.ready
-      kept read
 
   pub out_again : (cards : List (Card B L)) (k w : Card B L) → IsPlanned see cards k
       → IsCardOf (seen see k) (seen see w) → IsOut see cards w
@@ -173,69 +125,3 @@ module _ {B L : Type 0} (see : Sight B L) where
       → AreShown see cards (xs ++ ys)
   shown_more cards [] ys h k = k
   shown_more cards (x ∷ xs) ys h k = (h.0, shown_more cards xs ys h.1 k)
-
-  pub begun : (lock : TableId) (d : Plan B L) (n made : ℕ) (s : SeatView Entry (Plan B L)) → HasNothing lock d n made s
-      → Worked see lock d n made s s
-  begun lock d n made s h = record {
-    nothing = h;
-    more = [];
-    mine = sym (append-nil (mine_of s));
-    turns = tt;
-    shown = tt;
-    quiet = refl;
-    seen = ([], append-nil (seen_of s));
-  }
-
-  pub rests : (lock : TableId) (d : Plan B L) (n made : ℕ) (s0 s s1 : SeatView Entry (Plan B L))
-      (w : Worked see lock d n made s0 s) (x : Core) → TookNone lock d n made s s1 (w.nothing.0) x
-      → Idled see lock d n made s0 s1
-  rests lock d n made s0 s s1 w x t = record {
-    worked = record {
-      nothing = (x, t.turn.pass, λ q. t.hands q ∙ w.nothing.2 q);
-      more = w.more;
-      mine = t.mine ∙ w.mine;
-      turns = w.turns;
-      shown = w.shown;
-      quiet = w.quiet;
-      seen = begins_trans (seen_of s0) (seen_of s) (seen_of s1) w.seen t.turn.seen;
-    };
-    last = (x, t.turn.pass, t.none);
-  }
-
-  free_after : (b : Bool) (h : Bool) → h ≡ false → cond b false (cond b true h) ≡ false
-  free_after true h e = refl
-  free_after false h e = e
-
-  pub goes_on : (lock : TableId) (d : Plan B L) (n made : ℕ) (s0 s s1 s2 : SeatView Entry (Plan B L))
-      (w : Worked see lock d n made s0 s) (x : Core) (k z : Card B L) (o : Own)
-      → TookCard see lock d n made s s1 (w.nothing.0) x k
-      → Closes lock d n made s1 s2 x z.path o (tell see z.blob z.leaf)
-      → IsCardOf (seen see k) (seen see z) → WritesCard (seen see k) o (see.blob z.blob) (see.leaf z.leaf)
-      → Worked see lock d n made s0 s2
-  goes_on lock d n made s0 s s1 s2 w x k z o took closes kept wrote =
-      let is : z.path ≡ k.path = ap (λ (y : CardSeen). y.path) kept in
-      let parts = tell see z.blob z.leaf in
-      let two : List Entry = claim_entry k.path n ∷ close_entry z.path n o parts ∷ [] in
-      record {
-        nothing = (
-          closes.core,
-          closes.turn.pass,
-          λ q. closes.hands q
-              ∙ (ap (λ (b : Bool). cond (q == z.path) false b) (took.hands q)
-              ∙ (ap (λ j. cond (q == z.path) false (cond (q == j) true (held_at w.nothing.0 n q))) (sym is)
-              ∙ free_after (q == z.path) (held_at w.nothing.0 n q) (w.nothing.2 q))),
-        );
-        more = w.more ++ two;
-        mine = closes.mine ∙ (ap (λ l. l ++ close_entry z.path n o parts ∷ [])
-            (took.mine ∙ ap (λ l. l ++ claim_entry k.path n ∷ []) w.mine)
-            ∙ (append_assoc (mine_of s0 ++ w.more) (claim_entry k.path n ∷ []) (close_entry z.path n o parts ∷ [])
-            ∙ append_assoc (mine_of s0) w.more two));
-        turns = subst AreTurns (sym (map-append (λ (e : Entry). e.event) w.more two))
-            (turns_more (own_events w.more) (own_events two) w.turns
-            ((k.path, n, o, refl, ap (λ p. Close p n o) is), tt));
-        shown = shown_more (cards_of d) w.more two w.shown (tt, (shown (cards_of d) k z n o took.planned kept wrote, tt));
-        quiet = ap noted (map-append (λ (e : Entry). e.event) w.more two)
-            ∙ noted_more (own_events w.more) (own_events two) refl w.quiet;
-        seen = begins_trans (seen_of s0) (seen_of s1) (seen_of s2)
-            (begins_trans (seen_of s0) (seen_of s) (seen_of s1) w.seen took.turn.seen) closes.turn.seen;
-      }

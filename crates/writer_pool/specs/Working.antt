@@ -6,7 +6,7 @@ use Rattle.turn_lock.specs.Seat.{SeatView, mine_of, seen_of}
 use Rattle.edge_kit.specs.Seen.{BlobSeen, LeafSeen}
 use Rattle.convert_plan.specs.declared.card.Card.{Card}
 use Rattle.checkout_core.specs.declared.event.Event.{Event}
-use Rattle.checkout_core.specs.declared.event.Event.TheVariants.{Claim, Close}
+use Rattle.checkout_core.specs.declared.event.Event.TheVariants.{Close}
 use Rattle.checkout_core.specs.declared.verdict.Own.{Own}
 use Rattle.checkout_core.specs.States.{Core}
 use Rattle.checkout_core.specs.Notes.{noted}
@@ -18,6 +18,7 @@ use Rattle.checkout_book.specs.Shelves.{cards_of}
 use Rattle.checkout_book.specs.Turns.{NoneWaits}
 use Rattle.checkout_book.specs.Passes.{IsPass}
 use Rattle.checkout_book.specs.Reserving.{HasNothing, AreNew}
+use Rattle.writer_pool.specs.Turns.{AreTurns}
 use Rattle.writer_pool.specs.Writing.{WritesCard}
 
 -- what is seen of the blob and the leaf of a closed card, as the entry of its Close tells
@@ -26,12 +27,6 @@ blob_in x = record { name = x.name; faults = x.blob_faults }
 
 abbrev pub leaf_in : Parts → LeafSeen
 leaf_in x = record { path = x.path; content = x.content; state = x.state; faults = x.leaf_faults }
-
--- a claim, and then the Close of the claimed path, again and again
-abbrev pub AreTurns : List Event → Type 0
-AreTurns [] = Unit {0}
-AreTurns (c ∷ []) = ⊥
-AreTurns (c ∷ e ∷ es) = ((p : ℕ) × (a : ℕ) × (o : Own) × (c ≡ Claim p a) × (e ≡ Close p a o)) × AreTurns es
 
 -- the events of a pass's own list
 abbrev pub own_events : List Entry → List Event
@@ -53,8 +48,8 @@ module _ {B L : Type 0} (see : Sight B L) where
   abbrev pub IsReady : TableId → Plan B L → ℕ → ℕ → SeatView Entry (Plan B L) → Type 0
   IsReady lock d n made s = HasNothing lock d n made s × AreNew see (cards_of d)
 
-  -- The actor has nothing in hand again. What it did meanwhile are claims, each with the Close of its path, which shows
-  -- how the writing ended.
+  -- The actor has nothing in hand again. What it did meanwhile are turns, in which each Close shows how the writing of
+  -- its path's card ended.
   pub record Worked (lock : TableId) (d : Plan B L) (n made : ℕ) (old new : SeatView Entry (Plan B L)) : Type 0 where
     pub nothing : HasNothing lock d n made new
     pub more : List Entry

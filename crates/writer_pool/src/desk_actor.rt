@@ -17,13 +17,13 @@ ghost use Rattle.writer_pool.specs.Sealing.{EndsIn};
 ghost use Rattle.writer_pool.specs.Tying.{AreTiedIn};
 ghost use Rattle.writer_pool.specs.Working.{own_events};
 
+use crate::hand::Gathering;
 use crate::on_book::OnBook;
 use crate::workers::work;
 use checkout_book::book::{Book, Pass};
 use core_laws::laws::a_transcript_is_a_talk;
 use driver_desk::{Desk, Served};
 use edge_kit::{Blob, Gate, Leaf, Starter};
-use std::alloc::Global;
 use std::sync::Wait;
 
 /// What a desk leaves: its pass, and what is left of the desk itself.
@@ -69,7 +69,7 @@ pub(crate) fn serve_desk<S: Starter, B: Blob, L: Leaf, G: Gate, H: Wait>(
 /// required.
 pub(crate) fn run_desk<S: Starter, B: Blob, L: Leaf, G: Gate, H: Wait>(
     rt: &H,
-    alloc: Global,
+    gathering: Gathering,
     book: &Book<B, L>,
     gate: &G,
     required: bool,
@@ -92,7 +92,7 @@ pub(crate) fn run_desk<S: Starter, B: Blob, L: Leaf, G: Gate, H: Wait>(
     a_transcript_is_a_talk();
     let DeskEnd { pass, served } = serve_desk(rt, book, gate, required, desk, pass);
     DeskEnd {
-        pass: work(rt, alloc, book, gate, pass),
+        pass: work(rt, gathering, book, gate, pass),
         served,
     }
 }

@@ -7,11 +7,12 @@ ghost use Rattle.writer_pool.specs.Dealing.{JobSeen};
 ghost use Rattle.writer_pool.specs.Jobs.{IsJob, AreJobs, IsThroughJob, AreThroughJobs, passes_in, starters_in};
 
 use crate::desk_actor::{DeskEnd, run_desk};
+use crate::hand::Gathering;
 use crate::workers::work;
 use checkout_book::book::{Book, Pass};
 use driver_desk::{Desk, Served};
 use edge_kit::{Blob, Gate, Leaf, Starter};
-use std::alloc::{AllocError, Global};
+use std::alloc::AllocError;
 use std::sync::Wait;
 use std::thread;
 use std::thread::Threads;
@@ -46,7 +47,7 @@ pub(crate) type ActorEnd<S: Starter, B: Blob, L: Leaf> = JobEnd<Pass<B, L>, S>;
 /// Does an actor's job.
 fn act<S: Starter, B: Blob, L: Leaf, G: Gate, H: Wait>(
     rt: &H,
-    alloc: Global,
+    gathering: Gathering,
     book: &Book<B, L>,
     gate: &G,
     job: ActorJob<S, B, L>,
@@ -60,7 +61,9 @@ fn act<S: Starter, B: Blob, L: Leaf, G: Gate, H: Wait>(
     let Job { pass, desk } = job;
     match desk {
         Some(DeskJob { required, desk }) => {
-            let DeskEnd { pass, served } = run_desk(rt, alloc, book, gate, required, desk, pass);
+            let DeskEnd { pass, served } = run_desk(
+                rt, gathering, book, gate, required, desk, pass,
+            );
             let Served { starter, .. } = served;
             JobEnd {
                 pass,
@@ -68,7 +71,7 @@ fn act<S: Starter, B: Blob, L: Leaf, G: Gate, H: Wait>(
             }
         }
         None => JobEnd {
-            pass: work(rt, alloc, book, gate, pass),
+            pass: work(rt, gathering, book, gate, pass),
             starter: None,
         },
     }
@@ -83,7 +86,7 @@ pub(crate) fn act_all<
     H: Threads + Wait + Sync,
 >(
     rt: &H,
-    alloc: Global,
+    gathering: Gathering,
     book: &Book<B, L>,
     gate: &G,
     jobs: Vec<ActorJob<S, B, L>>,
@@ -103,7 +106,7 @@ pub(crate) fn act_all<
                 → IsJob (sight B.told B.seen L.seen) book.entry.now d (number_of job.pass) made job
                 → IsThroughJob S.seen (sight B.told B.seen L.seen) book.entry.now d (number_of job.pass) made job
                 result }
-        { act(rt, alloc, book, gate, job) },
+        { act(rt, gathering, book, gate, job) },
     )
 }
 

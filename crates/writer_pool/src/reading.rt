@@ -1,6 +1,7 @@
 //! What a card's object is prepared to.
-ghost use Rattle.std.specs.Prelude.{◌≡◌, IfOk, IfErr};
-ghost use Rattle.convert_plan.specs.Card.{card_seen};
+ghost use Rattle.std.specs.Prelude.{◌≡◌, ℕ, IfOk, IfErr};
+ghost use Rattle.object_dir.specs.Object.{IsObject, AfterRead};
+ghost use Rattle.convert_plan.specs.Card.{CardSeen, card_seen};
 ghost use Rattle.convert_plan.specs.Prepared.{prepared};
 ghost use Rattle.driver_desk.specs.Cards.{KeepsCard};
 ghost use Rattle.driver_desk.specs.Works.{own_of, ReadsTo, CountsRead};
@@ -43,6 +44,22 @@ fn prepared_of(
     }
 }
 
+/// Prepares the content of a card's object, from what reading the object gave.
+pub(crate) fn prepared_from<B: Blob, L: Leaf>(
+    alloc: Global,
+    card: &Card<B, L>,
+    object: Result<Vec<u8>, ObjectFault>,
+) -> Result<Prepared, Own>
+    ensures read { (c : CardSeen) → card.now.object ≡ c.object → card.now.conversion ≡ c.conversion
+        → IsObject c.told c.object object → ReadsTo c result }
+    ensures counts { (before after : ℕ) → AfterRead before after object → CountsRead before after result }
+{
+    match object {
+        Ok(content) => prepared_of(alloc, &card.conversion, &card.object, content),
+        Err(fault) => Err(own_of(fault)),
+    }
+}
+
 /// Reads the object of a card and prepares its content.
 pub(crate) fn read_card<B: Blob, L: Leaf>(
     alloc: Global,
@@ -52,8 +69,6 @@ pub(crate) fn read_card<B: Blob, L: Leaf>(
     ensures kept { KeepsCard (card_seen B.told B.seen L.seen card.old) (card_seen B.told B.seen L.seen card.new) }
     ensures counts { CountsRead (B.seen card.old.blob).faults (B.seen card.new.blob).faults result }
 {
-    match read_blob(alloc, &mut card.blob, &card.object) {
-        Ok(content) => prepared_of(alloc, &card.conversion, &card.object, content),
-        Err(fault) => Err(own_of(fault)),
-    }
+    let object = read_blob(alloc, &mut card.blob, &card.object);
+    prepared_from(alloc, card, object)
 }

@@ -9,6 +9,7 @@ ghost use Rattle.writer_pool.specs.Pools.{AreSeeds, AreStartersBack, AreTalks, s
 use crate::beginning::{Begun, begin_pool};
 use crate::end_room::{EndRoom, end_room};
 use crate::ending::{end_all, leave};
+use crate::hand::Gathering;
 use crate::jobs::{act_all, came_back};
 use crate::path_ends::PathEnds;
 use crate::pooled::{DeskSeed, Pooled};
@@ -20,6 +21,18 @@ use edge_kit::{Blob, Gate, Leaf, Starter};
 use std::alloc::{AllocError, Global};
 use std::sync::Wait;
 use std::thread::Threads;
+
+/// Where several actors are at work, one claims more than a card at once only while so many are left for each of them.
+const SHARE: usize = 8;
+
+/// The path below which cards are plenty: so many are behind it that each actor gets its share of them.
+fn plenty_below(paths: usize, workers: u32, drivers: usize) -> usize {
+    let actors = drivers.saturating_add(workers as usize);
+    if actors < 2 {
+        return paths;
+    }
+    paths.saturating_sub(actors.saturating_mul(SHARE))
+}
 
 /// Writes all cards of a checkout: by as many workers, and by a desk for each driver, each in a thread of its own. The
 /// caller closes what still waits after all of them came back.
@@ -65,13 +78,17 @@ pub fn pool_run<
     let paths = starts.len();
     let drivers = desks.len();
     let room = end_room(alloc, starts.as_slice(), workers, drivers)?;
+    let gathering = Gathering {
+        alloc,
+        below: plenty_below(paths, workers, drivers),
+    };
     let begun = begin_pool(alloc, pool, desks, starts, workers)?;
     let Begun {
         book,
         jobs,
         talks: rooms,
     } = begun;
-    let ends = act_all(rt, alloc, &book, gate, jobs)?;
+    let ends = act_all(rt, gathering, &book, gate, jobs)?;
     let EndRoom {
         ends: room,
         passes,

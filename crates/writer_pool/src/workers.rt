@@ -5,21 +5,21 @@ ghost use Rattle.checkout_book.specs.declared.plan.Plan.{Plan};
 ghost use Rattle.checkout_book.specs.Sights.{sight};
 ghost use Rattle.writer_pool.specs.Working.{IsReady, Idled};
 
-use crate::writing::{Written, write_card};
-use checkout_book::book::{Book, Pass, claim, close};
-use core_laws::laws;
-use edge_kit::{Blob, Gate, Leaf, Point};
-use std::alloc::Global;
+use crate::four::Four;
+use crate::hand::{Gathering, Hand};
+use checkout_book::book::{Book, Pass};
+use edge_kit::{Blob, Gate, Leaf};
 use std::sync::Wait;
 
-/// Claims a card, writes it and closes it, again and again until no card waits. The gate is called outside the lock,
-/// after a card was claimed and after it was closed. At most one content is held.
+/// Claims cards, writes each and closes it, again and again until no card waits. It claims up to four, reads them and
+/// finds their SHA-1 at once, and then writes and closes each. The gate is called outside the lock, after a card was
+/// claimed and after it was closed.
 pub(crate) fn work<B: Blob, L: Leaf, G: Gate, H: Wait>(
     rt: &H,
-    alloc: Global,
+    gathering: Gathering,
     book: &Book<B, L>,
     gate: &G,
-    mut pass: Pass<B, L>,
+    pass: Pass<B, L>,
 ) -> Pass<B, L>
     requires { (d : Plan B L) × (made : ℕ)
         × IsReady (sight B.told B.seen L.seen) book.now d (number_of pass) made pass }
@@ -27,17 +27,18 @@ pub(crate) fn work<B: Blob, L: Leaf, G: Gate, H: Wait>(
         → IsReady (sight B.told B.seen L.seen) book.now d (number_of pass) made pass
         → Idled (sight B.told B.seen L.seen) book.now d (number_of pass) made pass result }
 {
-    laws::a_path_in_hand_may_be_closed();
-    let actor = pass.number();
+    let mut hand = Hand {
+        pass,
+        cards: Four::new(),
+    };
     'turns: for _ in rt.forever() {
-        let Some(card) = claim(rt, book, &mut pass) else {
+        if !hand.take_turn(rt, gathering, book, gate) {
+            let Hand {
+                pass,
+                cards: _cards,
+            } = hand;
             return pass;
-        };
-        let path = card.path;
-        gate.at(actor, path, Point::Claimed);
-        let Written { card, own } = write_card(alloc, card);
-        close(rt, book, &mut pass, card, own);
-        gate.at(actor, path, Point::Closed);
+        }
     }
     unreachable!()
 }

@@ -67,6 +67,6 @@ returns g c d made core pass =
     let t = went see c.a_turn_keeps_a_seat.ensures _ d _ made c.args.pass.now c.enter-value.new.seat c.leave.new.seat
     core v c.claim-card.new.self pass c.enter-value.ensures.inside c.leave.ensures f.0 f.1
     c.claim-card.ensures.sound c.enter-value.ensures.mine c.enter-value.ensures.begins in
-    took see c.own_entries_tell_what_is_in_hand.ensures c.a_claim_takes_its_path.ensures _ d _ made c.args.pass.now
+    took see c.own_entries_tell_what_is_in_hand.ensures c.what_is_in_hand_stays.ensures c.a_claim_takes_its_path.ensures _ d _ made c.args.pass.now
     c.leave.new.seat core v c.claim-card.new.self c.claim-card.result t c.claim-card.ensures.none
     (subst (λ (k : ℕ). IfSome c.claim-card.result (Claimed k v c.claim-card.new.self)) n c.claim-card.ensures.some)

@@ -79,7 +79,7 @@ returns g c d made core pass =
     let t = went see c.a_turn_keeps_a_seat.ensures _ d _ made c.args.pass.now c.enter-value.new.seat c.leave.new.seat
     core v c.close.new.self pass c.enter-value.ensures.inside c.leave.ensures f.0 f.1 c.close.ensures.sound
     c.enter-value.ensures.mine c.enter-value.ensures.begins in
-    closed see c.own_entries_tell_what_is_in_hand.ensures c.a_close_closes_its_path.ensures _ d _ made
+    closed see c.own_entries_tell_what_is_in_hand.ensures c.what_is_in_hand_stays.ensures c.a_close_closes_its_path.ensures _ d _ made
     c.args.pass.now c.leave.new.seat core v c.close.new.self c.args.card.path c.args.own c.args.card.blob
     c.args.card.leaf t
     (subst (λ (k : ℕ). Turned (Close c.args.card.path k c.args.own) c.args.card.path (Ended c.args.card.blob

@@ -1,0 +1,144 @@
+-- What a worker has in hand.
+use Rattle.std.specs.Prelude.{◌≡◌, ◌++◌, ℕ, Bool, true, false, cond, List, [], ◌∷◌, map, Option, Some, None, ◌==◌, is_some}
+use Rattle.atomic_table.specs.Seated.{TableId}
+use Rattle.turn_lock.specs.History.{Begins}
+use Rattle.turn_lock.specs.Seat.{SeatView, mine_of, seen_of}
+use Rattle.edge_kit.specs.Seen.{BlobSeen, LeafSeen}
+use Rattle.object_dir.specs.declared.taking.Taken.{Taken}
+use Rattle.object_dir.specs.Taking.{IsTaken, stored_in}
+use Rattle.convert_plan.specs.declared.card.Card.{Card}
+use Rattle.convert_plan.specs.Card.{CardSeen, IsCardOf}
+use Rattle.checkout_core.specs.declared.event.Event.{Event}
+use Rattle.checkout_core.specs.declared.event.Event.TheVariants.{Claim}
+use Rattle.checkout_core.specs.declared.path.PathState.TheVariants.{Waiting}
+use Rattle.checkout_core.specs.declared.verdict.FilterCause.{FilterCause}
+use Rattle.checkout_core.specs.declared.verdict.Own.{Own}
+use Rattle.checkout_core.specs.Desks.{was_read}
+use Rattle.checkout_core.specs.Hands.{Holds, held_at}
+use Rattle.checkout_core.specs.Notes.{noted}
+use Rattle.checkout_core.specs.States.{Core}
+use Rattle.checkout_book.specs.declared.plan.Plan.{Plan}
+use Rattle.checkout_book.specs.declared.plan.Entry.{Entry}
+use Rattle.checkout_book.specs.Sights.{Sight, seen}
+use Rattle.checkout_book.specs.Shelves.{cards_of, IsPlanned, WaitsSo}
+use Rattle.checkout_book.specs.Passes.{IsPass}
+use Rattle.checkout_book.specs.Reserving.{AreNew}
+use Rattle.checkout_book.specs.Turns.{NoneWaits}
+use Rattle.driver_desk.specs.Cards.{KeepsCard}
+use Rattle.writer_pool.specs.declared.held.Held.{Held}
+use Rattle.writer_pool.specs.declared.hand.Hand.{Hand}
+use Rattle.writer_pool.specs.Fours.{items}
+use Rattle.writer_pool.specs.declared.writing.Written.{Written}
+use Rattle.writer_pool.specs.Turns.{InTurn, TurnSteps, begun}
+use Rattle.writer_pool.specs.Working.{AreShown, own_events}
+use Rattle.writer_pool.specs.Writing.{IsToWrite, WritesCard}
+
+-- A claimed card as it is held: nothing was taken of its blob, or this.
+abbrev pub HoldsCard : CardSeen → CardSeen → Option Taken → Type 0
+HoldsCard claimed card None = card ≡ claimed
+HoldsCard claimed card (Some taken) = KeepsCard claimed card × (claimed.ready ≡ None)
+    × IsTaken claimed.told claimed.object claimed.blob.faults card.blob.faults taken
+
+-- How the writing of a claimed card ended, with this blob and this leaf in its card.
+pub record WritesHeld (claimed card : CardSeen) (o : Own) : Type 0 where
+  pub kept : IsCardOf claimed card
+  pub wrote : WritesCard claimed o card.blob card.leaf
+  pub read : is_some claimed.ready ≡ true → was_read o ≡ true
+
+-- whether a path is among these
+abbrev pub is_among : ℕ → List ℕ → Bool
+is_among q [] = false
+is_among q (p ∷ ps) = cond (q == p) true (is_among q ps)
+
+-- for which plan a worker works, its number, how many numbers it gave, and its pass as it began
+pub record Shift (B L : Type 0) : Type 0 where
+  pub plan : Plan B L
+  pub number : ℕ
+  pub made : ℕ
+  pub pass : SeatView Entry (Plan B L)
+
+module _ {B L : Type 0} where
+  abbrev pub paths_in : List (Held B L) → List ℕ
+  paths_in hs = map (λ h. h.card.path) hs
+
+  -- the stored bytes that were taken of the object of a card
+  abbrev pub stored_in_held : Held B L → List ℕ
+  stored_in_held h = elim h.taken [ None ↦ [] | Some taken ↦ stored_in taken.stored ]
+
+  -- and if there is a card
+  abbrev pub stored_in_slot : Option (Held B L) → List ℕ
+  stored_in_slot None = []
+  stored_in_slot (Some h) = stored_in_held h
+
+  -- none of these is of this path
+  abbrev pub NoneOf : ℕ → List (Held B L) → Type 0
+  NoneOf p [] = Unit {0}
+  NoneOf p (h ∷ hs) = (h.card.path ≡ p → ⊥) × NoneOf p hs
+
+  -- the claims of these cards by the actor n
+  abbrev pub claims_in : ℕ → List (Held B L) → List Event
+  claims_in n hs = map (λ h. Claim h.card.path n) hs
+
+  -- no path waits, by what the pass saw at its last turn
+  abbrev pub SawNone : TableId → Shift B L → SeatView Entry (Plan B L) → Type 0
+  SawNone lock w pass = (c : Core) × IsPass lock w.plan w.number w.made pass c × NoneWaits c
+
+  -- the same cards, of which a SHA-1 more may be known
+  abbrev pub SameHeld : Held B L → Held B L → Type 0
+  SameHeld h k = (k.card ≡ h.card) × ((claimed card : CardSeen) → HoldsCard claimed card h.taken
+      → HoldsCard claimed card k.taken)
+
+  abbrev pub AreSame : List (Held B L) → List (Held B L) → Type 0
+  AreSame [] [] = Unit {0}
+  AreSame (h ∷ hs) (k ∷ ks) = SameHeld h k × AreSame hs ks
+  AreSame [] (k ∷ ks) = ⊥
+  AreSame (h ∷ hs) [] = ⊥
+
+module _ {B L : Type 0} (see : Sight B L) where
+  -- the actor has the path of a planned card in hand, and this is the card as it was claimed
+  pub record IsClaimed (cards : List (Card B L)) (c : Core) (n : ℕ) (card : Card B L) : Type 0 where
+    pub planned : IsPlanned see cards card
+    pub raw : Option FilterCause
+    pub holds : Holds c card.path n raw
+    pub ready : WaitsSo (seen see card) (Waiting raw) card.ready
+
+  -- and this is how the card is held
+  pub record IsHeld (cards : List (Card B L)) (c : Core) (n : ℕ) (h : Held B L) : Type 0 where
+    pub card : Card B L
+    pub claimed : IsClaimed cards c n card
+    pub held : HoldsCard (seen see card) (seen see h.card) h.taken
+
+  -- cards of different paths
+  abbrev pub AreHeld : List (Card B L) → Core → ℕ → List (Held B L) → Type 0
+  AreHeld cards c n [] = Unit {0}
+  AreHeld cards c n (h ∷ hs) = IsHeld cards c n h × NoneOf h.card.path hs × AreHeld cards c n hs
+
+  -- The worker has these cards in hand. What it did since it began are turns, of which the last may be under way, and
+  -- each Close shows how the writing ended.
+  pub record IsHand (lock : TableId) (w : Shift B L) (closing : Bool) (pass : SeatView Entry (Plan B L))
+      (hs : List (Held B L)) : Type 0 where
+    pub new : AreNew see (cards_of w.plan)
+    pub core : Core
+    pub is_pass : IsPass lock w.plan w.number w.made pass core
+    pub none_other : (q : ℕ) → held_at core w.number q ≡ true → is_among q (paths_in hs) ≡ true
+    pub held : AreHeld (cards_of w.plan) core w.number hs
+    pub more : List Entry
+    pub mine : mine_of pass ≡ mine_of w.pass ++ more
+    pub turns : TurnSteps begun (own_events more) (record { claims = claims_in w.number hs; closing = closing })
+    pub shown : AreShown see (cards_of w.plan) more
+    pub quiet : noted (own_events more) ≡ []
+    pub begins : Begins (seen_of w.pass) (seen_of pass)
+
+  -- the cards of this hand, and it closes none of them yet
+  abbrev pub IsInHand : TableId → Shift B L → Hand B L → Type 0
+  IsInHand lock w hand = IsHand lock w false hand.pass (items hand.cards)
+
+  -- the card may be written, as it was claimed
+  abbrev pub IsToBeWritten : Held B L → Type 0
+  IsToBeWritten h = (card : Card B L) × IsToWrite (seen see card)
+      × HoldsCard (seen see card) (seen see h.card) h.taken
+
+  -- and it was written so
+  abbrev pub IsWrittenSo : Held B L → Written B L → Type 0
+  IsWrittenSo h x = (card : Card B L) → IsToWrite (seen see card) → HoldsCard (seen see card) (seen see h.card) h.taken
+      → WritesHeld (seen see card) (seen see x.card) x.own
