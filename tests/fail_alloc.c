@@ -1,18 +1,40 @@
 /* Loaded before the C library, it makes one allocation fail, and says so on standard error. The number of that allocation,
-   from 1, is in FAIL_AT. */
+   from 1, is in FAIL_AT. It counts those of the program whose name is in FAIL_IN alone, or of each program where that is
+   unset. With COUNT_IN, a file, it writes there at the end how many there were. */
 #define _GNU_SOURCE
 #include <dlfcn.h>
 #include <errno.h>
+#include <fcntl.h>
+#include <stdio.h>
 #include <stdlib.h>
+#include <string.h>
 #include <unistd.h>
 
 static const char said[] = "an allocation fails\n";
 
+static unsigned long count;
+
+static int is_meant(void) {
+  const char *name = getenv("FAIL_IN");
+  return !name || strcmp(name, program_invocation_short_name) == 0;
+}
+
+/* without a stream, which would allocate */
+__attribute__((destructor)) static void tell(void) {
+  const char *path = getenv("COUNT_IN");
+  char text[32];
+  int file;
+  if (!path || !is_meant()) return;
+  file = open(path, O_WRONLY | O_CREAT | O_TRUNC, 0666);
+  if (file < 0 || write(file, text, (size_t)snprintf(text, sizeof text, "%lu\n", count)) < 0) abort();
+  close(file);
+}
+
 static int fails(void) {
-  static unsigned long count, fail_at;
+  static unsigned long fail_at;
   if (count == 0) {
     const char *text = getenv("FAIL_AT");
-    fail_at = text ? strtoul(text, NULL, 10) : 0;
+    fail_at = text && is_meant() ? strtoul(text, NULL, 10) : 0;
   }
   /* threads allocate too */
   if (__atomic_add_fetch(&count, 1, __ATOMIC_RELAXED) != fail_at) return 0;

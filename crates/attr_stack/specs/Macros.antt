@@ -39,10 +39,11 @@ abbrev pub binary : MacroLine
 binary =
     record { name = codes "binary"; pairs = unset (codes "diff") ∷ unset (codes "merge") ∷ unset (codes "text") ∷ [] }
 
--- the macros in the order in which rows are read: those of `info/attributes`, those of the top folder's file, and
--- `binary`
+-- the macros in the order in which rows are read: those of `info/attributes`, those of the top folder's file, those of
+-- the lowest file, and `binary`
 abbrev pub macros_of : AttrFiles → List MacroLine
-macros_of files = file_macros files.info.rows ++ (top_macros files.files ++ binary ∷ [])
+macros_of files =
+    file_macros files.info.rows ++ (top_macros files.files ++ (file_macros files.base.rows ++ binary ∷ []))
 
 -- what a name stands for: the first macro with this name, or nothing
 abbrev pub meaning : List MacroLine → List ℕ → List Pair

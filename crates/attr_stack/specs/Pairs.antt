@@ -49,6 +49,7 @@ abbrev pub pairs_before : List FileAt → List ℕ → ℕ → List Pair
 pairs_before files path zero = folder_pairs files [] path
 pairs_before files path (suc place) = pairs_ending files path place ++ pairs_before files path place
 
--- those of `info/attributes`, then of the path's own folder, then of each parent up to the top
+-- those of `info/attributes`, then of the path's own folder, then of each parent up to the top, then of the lowest file
 abbrev pub pairs_of : AttrFiles → List ℕ → List Pair
-pairs_of files path = file_pairs path files.info ++ pairs_before files.files path (length path)
+pairs_of files path =
+    file_pairs path files.info ++ (pairs_before files.files path (length path) ++ file_pairs path files.base)

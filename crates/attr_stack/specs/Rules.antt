@@ -8,7 +8,7 @@ use Rattle.attr_stack.specs.Levels.{ArePlaces, IsChain}
 
 -- the files as they were read
 abbrev pub files_of : Rules → AttrFiles
-files_of rules = record { info = rules.info; files = rules.folders.items }
+files_of rules = record { info = rules.info; base = rules.base; files = rules.folders.items }
 
 -- its macros are those of the files, and each folder's file is found
 pub record IsRules (rules : Rules) : Type 0 where

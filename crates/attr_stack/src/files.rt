@@ -14,11 +14,22 @@ pub struct FileAt {
     pub file: AttrFile,
 }
 
+/// The attribute files that stand outside the index (gitattributes(5)).
+#[derive(Drop)]
+pub struct OuterFiles {
+    /// `info/attributes`, which decides before the files of the index.
+    pub info: AttrFile,
+    /// The system's and the user's files as one, which decides after them.
+    pub base: AttrFile,
+}
+
 /// The attribute files of a repository.
 #[derive(Drop)]
 pub struct AttrFiles {
     /// `info/attributes`, which reaches every path before the others.
     pub info: AttrFile,
+    /// The system's and the user's files (`core.attributesFile`) as one, which reach every path after the others.
+    pub base: AttrFile,
     /// The files of the folders, in any order, one for a folder.
     pub files: Items<FileAt>,
 }

@@ -11,7 +11,7 @@ mod reach;
 mod stack;
 mod states;
 
-pub use files::{AttrFiles, FileAt};
+pub use files::{AttrFiles, FileAt, OuterFiles};
 pub use laws::pairs_decide_by_rule;
 pub use stack::AttrStack;
 pub use states::attributes_of;

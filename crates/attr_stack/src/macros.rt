@@ -101,12 +101,13 @@ fn define_top(alloc: Global, macros: &mut Macros, files: &[FileAt]) -> Result<()
     }
 }
 
-/// The macros of `info/attributes` and of the top folder's file, and `binary`.
+/// The macros of `info/attributes`, of the top folder's file and of the lowest file, and `binary`.
 pub fn macros_of(alloc: Global, files: &AttrFiles) -> Result<Macros, AllocError>
     ensures { IfOk result (λ macros. AreMacros macros (macros_of files.now)) }
 {
     let mut macros = BTreeMap::new(alloc);
     define(alloc, &mut macros, b"binary", binary_pairs(alloc)?)?;
+    define_rows(alloc, &mut macros, files.base.rows.as_slice())?;
     define_top(alloc, &mut macros, files.files.as_slice())?;
     define_rows(alloc, &mut macros, files.info.rows.as_slice())?;
     Ok(macros)

@@ -93,6 +93,7 @@ pub fn push_all<'a>(
     ensures { OnOk result (from_end pending.new.items ≡ pairs_of files.now path.now ++ from_end pending.old.items) }
 {
     let folders = files.files.as_slice();
+    push_file(pending, &files.base, path)?;
     push_folder(pending, folders, b"", path)?;
     for place in 0..path.len() {
         push_ending(pending, folders, path, place)?;

@@ -3,6 +3,7 @@ ghost use Rattle.std.specs.Prelude.{◌≡◌, ℕ, true, List, [], ◌∷◌, �
 ghost use Rattle.std.specs.List.{flat_map};
 ghost use Rattle.attr_stack.specs.Decided.{decision, state_of};
 ghost use Rattle.attr_stack.specs.Levels.{level_pairs, StandsIn};
+ghost use Rattle.attr_stack.specs.Pairs.{file_pairs};
 ghost use Rattle.attr_stack.specs.Seen.{state_at};
 ghost use Rattle.attr_stack.specs.Search.{is_asked, Reads};
 ghost use Rattle.attr_stack.specs.Rules.{files_of, IsRules, IsStack};
@@ -24,6 +25,7 @@ use wild_match::last_part;
 #[derive(Drop)]
 pub struct Rules {
     pub info: CompiledFile,
+    pub base: CompiledFile,
     pub folders: Vec<CompiledAt>,
     pub macros: Macros,
     pub places: Places,
@@ -55,11 +57,13 @@ fn rules_of(alloc: Global, files: AttrFiles) -> Result<Rules, AllocError>
 {
     let macros = macros_of(alloc, &files)?;
     let places = places_of(alloc, files.files.as_slice())?;
-    let AttrFiles { info, files } = files;
+    let AttrFiles { info, base, files } = files;
     let info = CompiledFile::of(alloc, info)?;
+    let base = CompiledFile::of(alloc, base)?;
     let folders = compiled_all(alloc, files)?;
     Ok(Rules {
         info,
+        base,
         folders,
         macros,
         places,
@@ -117,6 +121,22 @@ fn read_levels<'a>(
     Ok(())
 }
 
+/// Notes what the lowest file decides for a path, if a name is left.
+fn read_base<'a>(
+    asked: &Asked<'a>,
+    states: &mut States<'a>,
+    pending: &mut Vec<&'a Pair>,
+    base: &'a CompiledFile,
+    path: &[u8],
+) -> Result<(), AllocError>
+    ensures { OnOk result (Reads asked.now (file_pairs path.now base.now) states.old [] states.new) }
+{
+    if is_done(asked.names, states) {
+        return Ok(());
+    }
+    base.read(asked, states, pending, path)
+}
+
 /// What is decided of some names for a path of the chain's folder.
 fn decided_of<'a>(
     alloc: Global,
@@ -143,6 +163,7 @@ fn decided_of<'a>(
         &chain.levels,
         path,
     )?;
+    read_base(&asked, &mut states, &mut pending, &rules.base, path)?;
     Ok(states)
 }
 

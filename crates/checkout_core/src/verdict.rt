@@ -1,3 +1,7 @@
+//! How a path ended, and why.
+ghost use Rattle.std.specs.Prelude.{◌≡◌};
+ghost use Rattle.checkout_core.specs.CauseWords.{filter_word, object_word, skip_word, fail_word};
+
 use filter_words::BreakCause;
 
 /// Why a filter driver's answer for a path isn't its content.
@@ -17,6 +21,22 @@ pub enum FilterCause {
     Broken(BreakCause),
 }
 
+impl FilterCause {
+    /// The cause in one word.
+    pub fn word(self) -> &'static str
+        ensures { result.now ≡ filter_word self }
+    {
+        match self {
+            FilterCause::Error => "filter-error",
+            FilterCause::ErrorAfter => "filter-error-late",
+            FilterCause::Abort => "filter-abort",
+            FilterCause::NoSmudge => "filter-no-smudge",
+            FilterCause::NotStarted => "filter-not-started",
+            FilterCause::Broken(cause) => cause.word(),
+        }
+    }
+}
+
 /// What is wrong with the object of a path.
 #[derive(Clone, Copy, Debug, PartialEq, Eq)]
 pub enum ObjectKind {
@@ -32,6 +52,21 @@ pub enum ObjectKind {
     TooLarge,
 }
 
+impl ObjectKind {
+    /// What is wrong in one word.
+    pub fn word(self) -> &'static str
+        ensures { result.now ≡ object_word self }
+    {
+        match self {
+            ObjectKind::Absent => "object-absent",
+            ObjectKind::Header => "object-header",
+            ObjectKind::Size => "object-size",
+            ObjectKind::WrongName => "object-name",
+            ObjectKind::TooLarge => "object-too-large",
+        }
+    }
+}
+
 /// Why nothing is written for a path, though nothing failed.
 #[derive(Clone, Copy, PartialEq, Eq)]
 pub enum SkipCause {
@@ -39,6 +74,24 @@ pub enum SkipCause {
     Gitlink,
     /// A path with stages 1 to 3.
     Unmerged,
+    /// A path that a sparse checkout leaves out.
+    Sparse,
+    /// A path that is to be added and has no content yet.
+    Intent,
+}
+
+impl SkipCause {
+    /// The cause in one word.
+    pub fn word(self) -> &'static str
+        ensures { result.now ≡ skip_word self }
+    {
+        match self {
+            SkipCause::Gitlink => "gitlink",
+            SkipCause::Unmerged => "unmerged",
+            SkipCause::Sparse => "sparse",
+            SkipCause::Intent => "intent",
+        }
+    }
 }
 
 /// Why a path failed.
@@ -58,6 +111,24 @@ pub enum FailCause {
     ReadFailed,
     /// The file could not be written.
     WriteFailed,
+}
+
+impl FailCause {
+    /// The cause in one word.
+    pub fn word(self) -> &'static str
+        ensures { result.now ≡ fail_word self }
+    {
+        match self {
+            FailCause::Filter(cause) => cause.word(),
+            FailCause::Missing => "missing",
+            FailCause::NoProcess => "no-process",
+            FailCause::Object(kind) => kind.word(),
+            FailCause::UnknownEncoding => "encoding",
+            FailCause::NameNotText => "name",
+            FailCause::ReadFailed => "read",
+            FailCause::WriteFailed => "write",
+        }
+    }
 }
 
 /// How a path of a checkout ended.

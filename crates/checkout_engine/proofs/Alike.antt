@@ -1,12 +1,12 @@
 -- Two checkouts of one repository with the same drivers, in which no leaf and no link failed, are alike.
-use Rattle.std.proofs.Common.{◌≡◌, ◌+◌, ℕ, zero, suc, Bool, true, false, List, [], ◌∷◌, Option, Some, None, refl, sym, ap, ◌∙◌, subst, arith}
+use Rattle.std.proofs.Common.{◌≡◌, ◌+◌, ℕ, zero, suc, Bool, true, false, List, [], ◌∷◌, Option, Some, None, Ok, refl, sym, ap, ◌∙◌, subst, arith}
 use Rattle.std.specs.Prelude.{slice_get}
 use Rattle.std.proofs.lemmas.Bool.{eq-eqb}
 use Rattle.std.proofs.lemmas.Option.{same_Some}
 use Rattle.std.proofs.lemmas.List.Sums.{sum_by-append}
 use Rattle.edge_kit.specs.Seen.{TreeSeen}
 use Rattle.edge_kit.specs.Told.{Told, RepoTold, Tells}
-use Rattle.edge_kit.specs.Starters.{Starts}
+use Rattle.edge_kit.specs.Starters.{Had, Starts, StartTold}
 use Rattle.edge_kit.specs.declared.tree_file.TreeFile.{TreeFile}
 use Rattle.settings_view.specs.declared.view.Driver.{Driver}
 use Rattle.git_index.specs.Spelling.{OneReading, PathsAreOrdered}
@@ -18,10 +18,15 @@ use Rattle.checkout_core.specs.States.{is_at}
 use Rattle.checkout_core.specs.Talks.{contains}
 use Rattle.checkout_core.specs.Fates.{heard_by}
 use Rattle.driver_line.specs.OneContent.{OneContent}
-use Rattle.driver_line.specs.SameHeard.{SameHeard, IsToldTalk, HaveTexts, HaveSameTexts, content_of}
+use Rattle.driver_line.specs.EqualSessions.{EqualSessions, IsTalkWith}
+use Rattle.driver_line.specs.SameHeard.{SameHeard, NoneFailed, IsToldTalk, HaveTexts, HaveSamePaths, HaveSameTexts, content_of, fate_in}
 use Rattle.checkout_plan.specs.declared.path_plan.PathPlan.{PathPlan}
 use Rattle.checkout_plan.specs.declared.path_plan.Plan.{Plan}
-use Rattle.checkout_engine.specs.Alike.{IsUndisturbed, WorkersChangeNothing, SettingsChangeNothing}
+use Rattle.checkout_engine.specs.Alike.{IsTold, IsUndisturbed, WorkersChangeNothing, SettingsChangeNothing}
+use Rattle.checkout_engine.specs.SameFaults.{HaveSameItems}
+use Rattle.checkout_engine.specs.Prepared.{IsPreparedTo}
+use Rattle.tree_encoding.specs.declared.prepared.Prepared.{Prepared}
+use Rattle.convert_plan.specs.Prepared.{prepared}
 use Rattle.checkout_engine.specs.Complete.{failed_leaves}
 use Rattle.checkout_engine.specs.Ends.{Seen, IsCheckedOut, verdicts_of, files_of}
 use Rattle.checkout_engine.specs.Outcome.{Outcome, HasOutcome, AreOutcomes}
@@ -31,29 +36,35 @@ use Rattle.checkout_engine.specs.Talks.{DriverTalk, IsDriverTalk, heard_at}
 use Rattle.checkout_engine.proofs.Drivers.{planned_ordered}
 use Rattle.checkout_engine.proofs.Seeds.{same_place}
 use Rattle.checkout_engine.proofs.Rising.{apart, same_rising}
-use Rattle.checkout_engine.proofs.SamePlan.{same_plan, differs_not}
-use Rattle.checkout_engine.proofs.ToldObjects.{found_of}
+use Rattle.checkout_engine.proofs.SamePlan.{same_ok, same_plan, differs_not}
+use Rattle.checkout_engine.proofs.ToldObjects.{found_of, gives_found}
 use Rattle.checkout_engine.proofs.PathsAlike.{PathEnd, end_at, has_read, pool_is, heard_if_asked, same_desk_end}
-use Rattle.checkout_engine.proofs.OneSide.{Ground, IsSide, FineAt, first_fine, talk_at, driver, said, desk_end_is, asked_is, told_talk}
+use Rattle.checkout_engine.proofs.OneSide.{Ground, HasEnds, IsSide, FineAt, first_fine, holds_at, talk_at, driver, said, desk_end_is, asked_is, memory_is, told_talk}
 
 done_is : (o q : Outcome) (v : Verdict) → o.verdict ≡ v → o.file ≡ None → q.verdict ≡ v → q.file ≡ None → end_at o.verdict o.file ≡ end_at q.verdict q.file
 done_is o q v a f b h = ap (λ (x : Verdict). end_at x o.file) (a ∙ sym b) ∙ ap (end_at q.verdict) (f ∙ sym h)
 
-module _ (object : List ℕ → Told) (ahead : List ℕ → Starts) (ps : List PathPlan) (g : Ground object ahead ps) (law : SameHeard) (drivers : List Driver)
-    (talks : List DriverTalk) (outcomes : List Outcome) (history : List Event) (a : IsSide object ahead ps drivers talks outcomes history)
-    (talks' : List DriverTalk) (outcomes' : List Outcome) (history' : List Event) (b : IsSide object ahead ps drivers talks' outcomes' history') where
+-- an object is prepared to one content
+same_ready : (told : Told) (p : PathPlan) (r s : Prepared) → IsTold told → IsPreparedTo told p r → IsPreparedTo told p s → r ≡ s
+same_ready told p r s is a b =
+    let content : a.content ≡ b.content = same_ok a.content b.content (sym (gives_found told p.object (Ok a.content) is a.object) ∙ gives_found told p.object (Ok b.content) is b.object) in
+    a.is ∙ ap (λ (c : List ℕ). prepared p.conversion p.object c) content ∙ sym b.is
+
+module _ (object : List ℕ → Told) (ps : List PathPlan) (g : Ground object ps) (drivers : List Driver)
+    (ahead : List ℕ → Starts) (talks : List DriverTalk) (outcomes : List Outcome) (history : List Event) (a : HasEnds object ahead ps drivers talks outcomes history)
+    (ahead' : List ℕ → Starts) (talks' : List DriverTalk) (outcomes' : List Outcome) (history' : List Event) (b : HasEnds object ahead' ps drivers talks' outcomes' history') where
   module _ (d : ℕ) (t u : DriverTalk) (here : slice_get talks d ≡ Some t) (there : slice_get talks' d ≡ Some u) where
     -- the talks of the two with the driver
     first_said : IsDriverTalk ahead object ps (verdicts_of outcomes) history d (driver object ahead ps g drivers talks outcomes history a d t here) t
     first_said = said object ahead ps g drivers talks outcomes history a d t here
 
-    second_said : IsDriverTalk ahead object ps (verdicts_of outcomes') history' d (driver object ahead ps g drivers talks' outcomes' history' b d u there) u
-    second_said = said object ahead ps g drivers talks' outcomes' history' b d u there
+    second_said : IsDriverTalk ahead' object ps (verdicts_of outcomes') history' d (driver object ahead' ps g drivers talks' outcomes' history' b d u there) u
+    second_said = said object ahead' ps g drivers talks' outcomes' history' b d u there
 
     same_command : u.command ≡ t.command
     same_command =
         let x = talk_at object ahead ps g drivers talks outcomes history a d t here in
-        let y = talk_at object ahead ps g drivers talks' outcomes' history' b d u there in
+        let y = talk_at object ahead' ps g drivers talks' outcomes' history' b d u there in
         let same : y.0 ≡ x.0 = same_Some y.0 x.0 (sym y.1 ∙ x.1) in
         same_Some u.command t.command (sym y.2.command ∙ ap (λ (z : Driver). z.process) same ∙ x.2.command)
 
@@ -61,7 +72,7 @@ module _ (object : List ℕ → Told) (ahead : List ℕ → Starts) (ps : List P
     first_asked n p at is = asked_is object ahead ps g drivers talks outcomes history a d t here n p at is
 
     second_asked : (n : ℕ) (p : PathPlan) → slice_get ps n ≡ Some p → is_at d p.start ≡ true → contains n u.asked ≡ has_read (found_of (object p.object) p.object)
-    second_asked n p at is = asked_is object ahead ps g drivers talks' outcomes' history' b d u there n p at is
+    second_asked n p at is = asked_is object ahead' ps g drivers talks' outcomes' history' b d u there n p at is
 
     same_number : (n : ℕ) → contains n t.asked ≡ contains n u.asked
     same_number n = by (contains n t.asked) (contains n u.asked) refl refl
@@ -71,35 +82,63 @@ module _ (object : List ℕ → Told) (ahead : List ℕ → Starts) (ps : List P
         by false true e f = let p = second_said.over.each n f in first_asked n p.0 p.1 p.2 ∙ sym (second_asked n p.0 p.1 p.2)
         by false false e f = e ∙ sym f
 
-    same_asked : u.asked ≡ t.asked
+    pub same_asked : u.asked ≡ t.asked
     same_asked = sym (same_rising t.asked u.asked first_said.over.rises second_said.over.rises same_number)
 
-    have_texts : HaveTexts t.paths t.asked
+    pub have_texts : HaveTexts t.paths t.asked
     have_texts m n is are same =
         let p = first_said.over.each m is in
         let q = first_said.over.each n are in
         same_place ps g.rise m n p.0 q.0 p.1 q.1 (sym p.3 ∙ same ∙ q.3)
 
-    have_same_texts : HaveSameTexts t.paths u.paths t.asked
-    have_same_texts n is =
+    -- the texts, the objects' names and the prepared bytes of both
+    pub have_same_paths : HaveSamePaths t.paths u.paths t.asked
+    have_same_paths n is =
         let p = first_said.over.each n is in
         let q = second_said.over.each n (sym (same_number n) ∙ is) in
-        let same : p.0 ≡ q.0 = same_Some p.0 q.0 (sym p.1 ∙ q.1) in
-        p.3 ∙ ap (λ (z : PathPlan). z.path) same ∙ sym q.3
+        let same : q.0 ≡ p.0 = same_Some q.0 p.0 (sym q.1 ∙ p.1) in
+        let other : IsPreparedTo (object (p.0).object) p.0 q.5 = subst (λ (z : PathPlan). IsPreparedTo (object z.object) z q.5) same q.6 in (
+          p.3 ∙ ap (λ (z : PathPlan). z.path) (sym same) ∙ sym q.3,
+          p.4 ∙ ap (λ (z : PathPlan). z.object) (sym same) ∙ sym q.4,
+          p.7 ∙ ap (λ (r : Prepared). r.bytes) (same_ready (object (p.0).object) p.0 p.5 q.5 (g.told (p.0).object) p.6 other) ∙ sym q.7,
+        )
 
-    -- each path that is asked for heard the same in both, and got the same
-    same_heard : (n : ℕ) → contains n t.asked ≡ true → (heard_at d t n ≡ heard_at d u n) × (content_of n t.exchanges ≡ content_of n u.exchanges)
-    same_heard n is =
-        let starts = g.starts t.command in
-        let first : IsToldTalk d t.paths t.asked starts.0 t.had t.exchanges = told_talk object ahead ps g drivers talks outcomes history a d t here starts.0 starts.1 in
-        let second : IsToldTalk d u.paths u.asked starts.0 u.had u.exchanges = told_talk object ahead ps g drivers talks' outcomes' history' b d u there starts.0 (ap ahead same_command ∙ starts.1) in
-        let moved : IsToldTalk d u.paths t.asked starts.0 u.had u.exchanges = subst (λ (asked : List ℕ). IsToldTalk d u.paths asked starts.0 u.had u.exchanges) same_asked second in
-        let same = (law d t.paths u.paths t.asked starts.0 t.had u.had t.exchanges u.exchanges (apart t.asked first_said.over.rises) have_texts have_same_texts first moved).0 n is in
-        (heard_if_asked d t n is ∙ ap heard_by same.0 ∙ sym (heard_if_asked d u n (sym (same_number n) ∙ is)), same.1)
+    have_same_texts : HaveSameTexts t.paths u.paths t.asked
+    have_same_texts n is = (have_same_paths n is).0
+
+    -- what both say is heard of each path that is asked for
+    pub both_hear : ((n : ℕ) → contains n t.asked ≡ true → (fate_in d n t.exchanges ≡ fate_in d n u.exchanges) × (content_of n t.exchanges ≡ content_of n u.exchanges))
+        → (n : ℕ) → contains n t.asked ≡ true → (heard_at d t n ≡ heard_at d u n) × (content_of n t.exchanges ≡ content_of n u.exchanges)
+    both_hear same n is = (heard_if_asked d t n is ∙ ap heard_by (same n is).0 ∙ sym (heard_if_asked d u n (sym (same_number n) ∙ is)), (same n is).1)
+
+    -- drivers that are told to write the same, where no link failed
+    same_told : SameHeard → (starts : List StartTold) → ahead t.command ≡ Some starts → ahead' u.command ≡ Some starts → NoneFailed t.had → NoneFailed u.had
+        → (n : ℕ) → contains n t.asked ≡ true → (heard_at d t n ≡ heard_at d u n) × (content_of n t.exchanges ≡ content_of n u.exchanges)
+    same_told law starts tells tells' fine fine' =
+        let first : IsToldTalk d t.paths t.asked starts t.had t.exchanges = told_talk object ahead ps g drivers talks outcomes history a d t here starts tells fine in
+        let second : IsToldTalk d u.paths u.asked starts u.had u.exchanges = told_talk object ahead' ps g drivers talks' outcomes' history' b d u there starts tells' fine' in
+        let moved : IsToldTalk d u.paths t.asked starts u.had u.exchanges = subst (λ (asked : List ℕ). IsToldTalk d u.paths asked starts u.had u.exchanges) same_asked second in
+        both_hear (law d t.paths u.paths t.asked starts t.had u.had t.exchanges u.exchanges (apart t.asked first_said.over.rises) have_texts have_same_texts first moved).0
+
+    -- equal sessions
+    pub same_sessions : EqualSessions → HaveSameItems ahead ahead' d t u → (n : ℕ) → contains n t.asked ≡ true → (heard_at d t n ≡ heard_at d u n) × (content_of n t.exchanges ≡ content_of n u.exchanges)
+    same_sessions law items =
+        let first : IsTalkWith d t.paths t.asked (items.0).full t.exchanges =
+        record { items = t.had; fills = (items.0).fills; talk = (items.0).talk; memory = memory_is object ahead ps g drivers talks outcomes history a d t here } in
+        let second : IsTalkWith d u.paths u.asked (items.1).full u.exchanges =
+        record { items = u.had; fills = (items.1).fills; talk = (items.1).talk; memory = memory_is object ahead' ps g drivers talks' outcomes' history' b d u there } in
+        let moved : IsTalkWith d u.paths t.asked (items.0).full u.exchanges =
+        subst (λ (full : List Had). IsTalkWith d u.paths t.asked full u.exchanges) (sym items.2) (subst (λ (asked : List ℕ). IsTalkWith d u.paths asked (items.1).full u.exchanges) same_asked second) in
+        both_hear (law d t.paths u.paths t.asked (items.0).full t.exchanges u.exchanges (apart t.asked first_said.over.rises) have_texts have_same_paths first moved).0
+
+  -- each path that is asked for heard the same in both, and got the same
+  abbrev pub HearAlike : Type 0
+  HearAlike = (d : ℕ) (t u : DriverTalk) → slice_get talks d ≡ Some t → slice_get talks' d ≡ Some u
+      → (n : ℕ) → contains n t.asked ≡ true → (heard_at d t n ≡ heard_at d u n) × (content_of n t.exchanges ≡ content_of n u.exchanges)
 
   -- a path ends in the same way in both
-  same_path : (n : ℕ) (p : PathPlan) (o q : Outcome) → slice_get ps n ≡ Some p → FineAt object talks n p o → FineAt object talks' n p q → end_at o.verdict o.file ≡ end_at q.verdict q.file
-  same_path n p o q at x y = by p.start refl x.has y.has
+  pub same_path : HearAlike → (n : ℕ) (p : PathPlan) (o q : Outcome) → slice_get ps n ≡ Some p → FineAt object talks n p o → FineAt object talks' n p q → end_at o.verdict o.file ≡ end_at q.verdict q.file
+  same_path hear n p o q at x y = by p.start refl x.has y.has
     where
       by : (s : Start) → p.start ≡ s → HasOutcome object talks s n p o → HasOutcome object talks' s n p q → end_at o.verdict o.file ≡ end_at q.verdict q.file
       by (start.Done v) is f h = done_is o q v f.0 f.1.file h.0 h.1.file
@@ -108,8 +147,8 @@ module _ (object : List ℕ → Told) (ahead : List ℕ → Starts) (ps : List P
           let at_d : is_at d p.start ≡ true = ap (is_at d) is ∙ eq-eqb d d refl in
           desk_end_is object ahead ps g drivers talks outcomes history a d t here n p o required at f x.memory x.leaf
           ∙ same_desk_end (found_of (object p.object) p.object) (heard_at d t n) (heard_at d u n) required (content_of n t.exchanges) (content_of n u.exchanges) p
-          (λ read. same_heard d t u here there n (first_asked d t u here there n p at at_d ∙ read))
-          ∙ sym (desk_end_is object ahead ps g drivers talks' outcomes' history' b d u there n p q required at h y.memory y.leaf)
+          (λ read. hear d t u here there n (first_asked d t u here there n p at at_d ∙ read))
+          ∙ sym (desk_end_is object ahead' ps g drivers talks' outcomes' history' b d u there n p q required at h y.memory y.leaf)
 
 -- outcomes that end in the same way, path by path
 same_outcomes : (object : List ℕ → Told) (talks talks' : List DriverTalk) (n : ℕ) (ps : List PathPlan) (os qs : List Outcome) → AreOutcomes object talks n ps os → AreOutcomes object talks' n ps qs
@@ -134,29 +173,38 @@ same_outcomes object talks talks' n (p ∷ ps) (o ∷ os) (q ∷ qs) f h m k l r
     let file : o.file ≡ q.file = ap (λ (e : PathEnd). e.file) here in
     (rw (verdict, rest.0) refl, rw (file, rest.1) refl)
 
+pub ends_of : (told : RepoTold) (ahead : List ℕ → Starts) (asked : Option ℕ) (old new : Seen) (c : IsCheckedOut told ahead asked old new) → lacks_memory (verdicts_of c.outcomes) ≡ false
+    → HasEnds told.object ahead c.plan.paths c.plan.drivers c.talks c.outcomes new.history
+ends_of told ahead asked old new c memory = record { fit = c.verdicts; conversations = c.conversations; memory = memory }
+
 pub side_of : (told : RepoTold) (ahead : List ℕ → Starts) (asked : Option ℕ) (old new : Seen) (c : IsCheckedOut told ahead asked old new) → IsUndisturbed c
     → IsSide told.object ahead c.plan.paths c.plan.drivers c.talks c.outcomes new.history
 side_of told ahead asked old new c u =
     let grew : failed_leaves new.tree.returned ≡ failed_leaves old.tree.returned + failed_leaves (leaves_back c.plan.paths c.outcomes) =
     ap (λ (t : TreeSeen). failed_leaves t.returned) c.leaves ∙ sum_by-append (λ l. l.2) old.tree.returned (leaves_back c.plan.paths c.outcomes) in
     let none : failed_leaves (leaves_back c.plan.paths c.outcomes) ≡ 0 = omega (arith, grew, u.leaves) in
-    record { fit = c.verdicts; conversations = c.conversations; memory = u.memory; leaves = none; links = u.links }
+    record { ends = ends_of told ahead asked old new c u.memory; leaves = none; links = u.links }
 
 tells : (told : Option (List TreeFile)) (fs gs : List TreeFile) → told ≡ Some fs → Tells told gs → fs ≡ gs
 tells told fs gs is has = subst (λ (t : Option (List TreeFile)). Tells t gs) is has
 
 pub alike_settings : OneReading → PathsAreOrdered → SameHeard → OneContent → SettingsChangeNothing
 alike_settings reading ordered law one told told' ahead a b old new before after all differ c e u w =
-    let plan : c.plan ≡ e.plan = same_plan reading told told' ahead c.plan e.plan all differ c.planned e.planned in
-    let ground : Ground told.object ahead c.plan.paths = record { told = all.object; starts = all.starts; rise = planned_ordered ordered told c.plan c.planned; one = one } in
+    let plan : c.plan ≡ e.plan = same_plan reading told told' c.plan e.plan all.repo differ c.planned e.planned in
+    let ground : Ground told.object c.plan.paths = record { told = all.repo.object; rise = planned_ordered ordered told c.plan c.planned; one = one } in
     let first = side_of told ahead a old new c u in
     let other : IsSide told.object ahead e.plan.paths e.plan.drivers e.talks e.outcomes after.history =
     subst (λ (object : List ℕ → Told). IsSide object ahead e.plan.paths e.plan.drivers e.talks e.outcomes after.history) differ.object (side_of told' ahead b before after e w) in
     let second : IsSide told.object ahead c.plan.paths c.plan.drivers e.talks e.outcomes after.history =
     subst (λ (p : Plan). IsSide told.object ahead p.paths p.drivers e.talks e.outcomes after.history) (sym plan) other in
-    let same = same_outcomes told.object c.talks e.talks 0 c.plan.paths c.outcomes e.outcomes first.fit second.fit first.memory second.memory first.leaves second.leaves (λ k p o q at fine fine'.
+    let hear : HearAlike told.object c.plan.paths ground c.plan.drivers ahead c.talks c.outcomes new.history first.ends ahead e.talks e.outcomes after.history second.ends = λ d t u here there.
+    let starts = all.starts t.command in
+    let command = same_command told.object c.plan.paths ground c.plan.drivers ahead c.talks c.outcomes new.history first.ends ahead e.talks e.outcomes after.history second.ends d t u here there in
+    same_told told.object c.plan.paths ground c.plan.drivers ahead c.talks c.outcomes new.history first.ends ahead e.talks e.outcomes after.history second.ends d t u here there law starts.0 starts.1
+    (ap ahead command ∙ starts.1) (holds_at (λ (x : DriverTalk). NoneFailed x.had) c.talks d t first.links here) (holds_at (λ (x : DriverTalk). NoneFailed x.had) e.talks d u second.links there) in
+    let same = same_outcomes told.object c.talks e.talks 0 c.plan.paths c.outcomes e.outcomes first.ends.fit second.ends.fit first.ends.memory second.ends.memory first.leaves second.leaves (λ k p o q at fine fine'.
     let here : ◌≡◌ {A = ℕ} (0 + k) k = omega arith in
-    same_path told.object ahead c.plan.paths ground law c.plan.drivers c.talks c.outcomes new.history first e.talks e.outcomes after.history second k p o q at
+    same_path told.object c.plan.paths ground c.plan.drivers ahead c.talks c.outcomes new.history first.ends ahead e.talks e.outcomes after.history second.ends hear k p o q at
     (subst (λ (m : ℕ). FineAt told.object c.talks m p o) here fine) (subst (λ (m : ℕ). FineAt told.object e.talks m p q) here fine')) in
     record {
       plan = plan;
@@ -168,4 +216,4 @@ alike_settings reading ordered law one told told' ahead a b old new before after
 
 pub alike_words : OneReading → PathsAreOrdered → SameHeard → OneContent → WorkersChangeNothing
 alike_words reading ordered law one told ahead a b old new before after all c e u w =
-    alike_settings reading ordered law one told told ahead a b old new before after all (differs_not told all.config) c e u w
+    alike_settings reading ordered law one told told ahead a b old new before after all (differs_not told all.repo.config) c e u w

@@ -16,7 +16,8 @@ use Rattle.byte_path.specs.Path.{path_fault, first_fault, parts}
 use Rattle.byte_path.specs.declared.path.PathFault.{PathFault}
 use Rattle.byte_path.specs.declared.path.PathFault.TheVariants as fault
 use Rattle.byte_path.specs.Steps.{◌>>=◌, want}
-use Rattle.git_index.specs.Spelling.{IsIndex, Written, IsWritten}
+use Rattle.git_index.specs.declared.version.Version.{Version}
+use Rattle.git_index.specs.Spelling.{IsIndex, Written, AreWritten}
 use Rattle.git_index.specs.declared.entry.Entry.{Entry}
 use Rattle.git_index.specs.declared.entry.Mode.{Mode}
 use Rattle.git_index.specs.declared.entry.Mode.TheVariants as mode
@@ -31,7 +32,7 @@ use Rattle.settings_view.specs.declared.view.Driver.{Driver}
 use Rattle.settings_view.specs.declared.fault.SettingFault.{SettingFault}
 use Rattle.eol_convert.specs.declared.setting.AutoCrlf.{AutoCrlf}
 use Rattle.eol_convert.specs.declared.setting.EolSetting.{EolSetting}
-use Rattle.attr_line.specs.declared.file.AttrFile.{AttrFile}
+use Rattle.attr_stack.specs.declared.files.OuterFiles.{OuterFiles}
 use Rattle.attr_stack.specs.declared.files.AttrFiles.{AttrFiles}
 use Rattle.tree_encoding.specs.declared.encoding.UnknownEncoding.{UnknownEncoding}
 use Rattle.convert_plan.specs.declared.conversion.Conversion.{Conversion}
@@ -44,9 +45,10 @@ use Rattle.checkout_words.specs.Words.{with_workers, workers_command, checkout_c
 use Rattle.checkout_words.specs.declared.Command.{Command}
 use Rattle.checkout_words.specs.declared.Command.TheVariants as command
 use Rattle.checkout_plan.specs.AttributeFiles.{attribute_files}
-use Rattle.checkout_plan.specs.Paths.{no_conversion, path_with, closed, converted, file_path, path_of_mode, asked_path, first_entries_after, first_entries, asked_paths, start_among, path_among, plan_of}
+use Rattle.checkout_plan.specs.Paths.{no_conversion, path_with, closed, converted, file_path, text_path, link_path, path_of_mode, asked_path, first_entries_after, first_entries, asked_paths, start_among, path_among, plan_of}
 use Rattle.checkout_plan.specs.declared.path_plan.PathPlan.{PathPlan}
 use Rattle.checkout_plan.specs.declared.path_plan.Plan.{Plan}
+use Rattle.checkout_engine.proofs.LeftOut.{left_out_by}
 use Rattle.checkout_engine.specs.Cards.{IsText, IsTextIn, AreTexts}
 use Rattle.edge_kit.specs.Seen.{RepoSeen}
 use Rattle.edge_kit.specs.Told.{RepoTold}
@@ -195,9 +197,9 @@ path_long path e =
     let same : (if length path == 0 then Some fault.Empty else if nat_lt 4096 (length path) then Some fault.TooLong else first_fault (parts path)) ≡ None = unfold path_fault in e in
     long_by (length path) (length path == 0) (nat_lt 4096 (length path)) (first_fault (parts path)) refl refl same
 
-written_long : (ws : List Written) → AllByRecursion IsWritten ws → AllByRecursion (λ e. IsLong e.path) (map (λ w. w.entry) ws)
-written_long [] all = tt
-written_long (w ∷ ws) all = (path_long w.entry.path all.0.path, written_long ws all.1)
+written_long : (version : Version) (last : List ℕ) (ws : List Written) → AreWritten version last ws → AllByRecursion (λ e. IsLong e.path) (map (λ w. w.entry) ws)
+written_long version last [] all = tt
+written_long version last (w ∷ ws) all = (path_long w.entry.path all.0.path, written_long version w.entry.path ws all.1)
 
 first_long : (c : List ℕ) (es : List Entry) → AllByRecursion (λ e. IsLong e.path) es → AllByRecursion (λ e. IsLong e.path) (first_entries_after c es)
 first_long c [] all = tt
@@ -237,9 +239,9 @@ text_by e p true is text = text (IsUtf8-from_is_utf8 e.path is)
 text_by e p false is text = tt
 
 mode_text : (m : Mode) (files : AttrFiles) (settings : Settings) (e : Entry) → IsLong e.path → IsPlannedText (path_of_mode m files settings e)
-mode_text mode.Plain files settings e long = text_by e (file_path files settings e) (is_utf8 e.path) refl (converted_text e _ _ long)
-mode_text mode.Executable files settings e long = text_by e (file_path files settings e) (is_utf8 e.path) refl (converted_text e _ _ long)
-mode_text mode.Link files settings e long = text_by e (path_with e no_conversion start.Pool) (is_utf8 e.path) refl (long_text e.path long)
+mode_text mode.Plain files settings e long = left_out_by IsPlannedText e (text_path files settings e) (λ v. tt) (text_by e (file_path files settings e) (is_utf8 e.path) refl (converted_text e _ _ long))
+mode_text mode.Executable files settings e long = left_out_by IsPlannedText e (text_path files settings e) (λ v. tt) (text_by e (file_path files settings e) (is_utf8 e.path) refl (converted_text e _ _ long))
+mode_text mode.Link files settings e long = left_out_by IsPlannedText e (link_path e) (λ v. tt) (text_by e (path_with e no_conversion start.Pool) (is_utf8 e.path) refl (long_text e.path long))
 mode_text mode.Gitlink files settings e long = tt
 
 asked_text : (files : AttrFiles) (settings : Settings) (e : Entry) → IsLong e.path → IsPlannedText (asked_path files settings e)
@@ -260,31 +262,34 @@ all_text files settings asked [] all = tt
 all_text files settings asked (e ∷ es) all =
     (among_text asked (asked_path files settings e).path (asked_path files settings e).start (asked_text files settings e all.0), all_text files settings asked es all.1)
 
-pub plan_texts : (bytes : List ℕ) (es : List Entry) (settings : Settings) (info : AttrFile) (contents : List (List ℕ)) → IsIndex bytes es → AreTexts (plan_of es settings info contents).paths
-plan_texts bytes es settings info contents index = unfold plan_of in
-    let files = attribute_files info es contents in
+pub plan_texts : (bytes : List ℕ) (es : List Entry) (settings : Settings) (outer : OuterFiles) (contents : List (List ℕ)) → IsIndex bytes es → AreTexts (plan_of es settings outer contents).paths
+plan_texts bytes es settings outer contents index = unfold plan_of in
+    let files = attribute_files outer es contents in
     all_text files settings (asked_paths files settings es) (first_entries es)
-    (first_long [] es (subst (λ (xs : List Entry). AllByRecursion (λ e. IsLong e.path) xs) index.same (written_long index.written index.fit)))
+    (first_long [] es (subst (λ (xs : List Entry). AllByRecursion (λ e. IsLong e.path) xs) index.text.same (written_long index.text.version [] index.text.written index.text.fit)))
 
-pub plan_size : (bytes : List ℕ) (es : List Entry) (settings : Settings) (info : AttrFile) (contents : List (List ℕ)) → IsIndex bytes es → length (plan_of es settings info contents).paths < 2 ^ 32
-plan_size bytes es settings info contents index = unfold plan_of in
-    let files = attribute_files info es contents in
+-- a plan has no more paths than the index has entries
+pub no_more_paths : (es : List Entry) (settings : Settings) (outer : OuterFiles) (contents : List (List ℕ)) → length (plan_of es settings outer contents).paths ≤ length es
+no_more_paths es settings outer contents = unfold plan_of in
+    let files = attribute_files outer es contents in
     omega (
       arith,
       length-map (map (asked_path files settings) (first_entries es)) (path_among (asked_paths files settings es)),
       length-map (first_entries es) (asked_path files settings),
       first_few [] es,
-      index.few,
     )
+
+pub plan_size : (bytes : List ℕ) (es : List Entry) (settings : Settings) (outer : OuterFiles) (contents : List (List ℕ)) → IsIndex bytes es → length (plan_of es settings outer contents).paths < 2 ^ 32
+plan_size bytes es settings outer contents index = omega (arith, no_more_paths es settings outer contents, index.text.few)
 
 -- the same of a plan that was read
 pub planned_texts : (told : RepoTold) (plan : Plan) → IsPlanned told plan → AreTexts plan.paths
 planned_texts told plan planned =
-    subst (λ (p : Plan). AreTexts p.paths) (sym planned.made.is) (plan_texts _ planned.entries planned.settings planned.info planned.made.contents planned.sources.index.is_index)
+    subst (λ (p : Plan). AreTexts p.paths) (sym planned.made.is) (plan_texts _ planned.entries planned.settings planned.outer planned.made.contents planned.sources.index.is_index)
 
 pub planned_size : (told : RepoTold) (plan : Plan) → IsPlanned told plan → length plan.paths < 2 ^ 32
 planned_size told plan planned =
-    subst (λ (p : Plan). length p.paths < 2 ^ 32) (sym planned.made.is) (plan_size _ planned.entries planned.settings planned.info planned.made.contents planned.sources.index.is_index)
+    subst (λ (p : Plan). length p.paths < 2 ^ 32) (sym planned.made.is) (plan_size _ planned.entries planned.settings planned.outer planned.made.contents planned.sources.index.is_index)
 
 -- the pace of a plan that was read
 pub planned_pace : (told : RepoTold) (p : Planned) (old new : RepoSeen) (pace : Pace) → IsAsked pace.asked → IsRead told p old new → pace.workers ≡ p.workers → IsPace pace

@@ -1,15 +1,13 @@
 -- How a path of a driver ends, by what its desk or an actor that had its card from the book leaves.
-use Rattle.std.proofs.Common.{◌≡◌, ℕ, Bool, true, false, cond, List, [], ◌∷◌, take, Option, Some, None, Err, refl, sym, ap, ◌∙◌, subst, inl, inr}
+use Rattle.std.proofs.Common.{◌≡◌, ℕ, Bool, true, false, cond, List, [], ◌∷◌, Option, Some, None, Err, refl, sym, ap, ◌∙◌, subst, inl, inr}
 use Rattle.std.specs.Prelude.{slice_get}
 use Rattle.std.specs.Str.{IsUtf8}
 use Rattle.edge_kit.specs.Faults.{Rose}
 use Rattle.edge_kit.specs.Told.{Told, Tells, MayFail}
-use Rattle.edge_kit.specs.Files.{with_file}
-use Rattle.edge_kit.specs.Joins.{files_with, MayGainPart, JoinsBy, JoinsLeaf}
+use Rattle.edge_kit.specs.Joins.{JoinsBy, JoinsLeaf}
 use Rattle.edge_kit.specs.Seen.{BlobSeen, LeafSeen, IsNewLeaf, new_blob}
 use Rattle.edge_kit.specs.declared.leaf_state.LeafState.{LeafState}
 use Rattle.edge_kit.specs.declared.leaf_state.LeafState.TheVariants.{Fresh, Sealed, Gone, Stuck}
-use Rattle.edge_kit.specs.declared.leaf_state.Mark.{Mark}
 use Rattle.edge_kit.specs.declared.tree_file.TreeFile.{TreeFile}
 use Rattle.object_dir.specs.Object.{IsObject}
 use Rattle.object_dir.specs.declared.fault.ObjectFault.{ObjectFault}
@@ -30,50 +28,37 @@ use Rattle.checkout_core.specs.Fates.{Fate, Untold, Later, Known, fate_of, heard
 use Rattle.checkout_core.specs.Talks.{contains}
 use Rattle.driver_line.specs.Conversations.{Exchange, NoStart, NoRoom, Opening, First, Listing, Second, Shutting, notes_in}
 use Rattle.filter_words.specs.declared.reply.Reply.TheVariants as reply
-use Rattle.driver_desk.specs.Serving.{IsAnswer, HasAnswer}
-use Rattle.driver_desk.specs.Shown.{IsGivenUp, ShowsRead, ShowsUnread, MayClose}
+use Rattle.driver_desk.specs.Serving.{IsAnswer, HasAnswer, HasPart, Holds, TellsPart}
+use Rattle.driver_desk.specs.Shown.{IsGivenUp, IsDropped, ShowsRead, ShowsUnread, MayClose}
 use Rattle.driver_desk.specs.Works.{own_of}
 use Rattle.checkout_plan.specs.declared.path_plan.PathPlan.{PathPlan}
 use Rattle.writer_pool.specs.Closing.{closed_card}
 use Rattle.writer_pool.specs.Writing.{WritesCard}
-use Rattle.checkout_engine.specs.Outcome.{Outcome, LeavesFile, HasDeskVerdict, HasOutcome, file_with}
+use Rattle.checkout_engine.specs.Outcome.{Outcome, LeavesFile, MayBePut, MayHaveFailed, HasDeskVerdict, HasOutcome, file_with}
 use Rattle.checkout_engine.specs.Prepared.{IsPreparedTo}
 use Rattle.checkout_engine.specs.Talks.{DriverTalk, heard_at}
-use Rattle.checkout_engine.proofs.PathEnds.{FilesGrow, files_stay, file_joins, seals, rose_some, kind_of, counted, same_count, pair_is, triple_is, IsPathEnd, card_for}
+use Rattle.checkout_engine.proofs.PathEnds.{FilesGrow, files_stay, gains, seals, rose_some, kind_of, counted, same_count, pair_is, triple_is, IsPathEnd, card_for}
 
 -- what remains of a leaf that a desk gave up, and what that does to the files
-record Leaves (old : Option (List TreeFile)) (path : List ℕ) (state : LeafState) (new : Option (List TreeFile)) : Type 0 where
+record Leaves (put : List ℕ → Type 0) (old : Option (List TreeFile)) (path : List ℕ) (state : LeafState) (new : Option (List TreeFile)) : Type 0 where
   file : Option TreeFile
-  left : LeavesFile path state file
+  left : LeavesFile put path state file
   grow : FilesGrow old file new
 
-untold_file : (old : Option (List TreeFile)) (path : List ℕ) (mark : Mark) → files_with old path None mark ≡ None
-untold_file None path mark = refl
-untold_file (Some fs) path mark = refl
+-- what is told of it, if it is stuck
+abbrev HasPut : (List ℕ → Type 0) → LeafSeen → Type 0
+HasPut put leaf = leaf.state ≡ Stuck → (content : List ℕ) × put content × TellsPart leaf.content content
 
-may_gain : (old new : Option (List TreeFile)) (path : List ℕ) (told : Option (List ℕ)) → MayGainPart old path told new → Leaves old path Stuck new
-may_gain old new path told (inl same) = record { file = None; left = tt; grow = files_stay old new same }
-may_gain old new path None (inr (n, mark, grew)) = record {
+given_up : (put : List ℕ → Type 0) (old new : Option (List TreeFile)) (path : List ℕ) (leaf : LeafSeen) → IsGivenUp leaf.state → HasPut put leaf → JoinsBy old path leaf.content leaf.state new → Leaves put old path leaf.state new
+given_up put old new path leaf (inl gone) has joins = record {
   file = None;
-  left = tt;
-  grow = λ fs had. subst (λ (x : Option (List TreeFile)). Tells x fs) (sym (grew ∙ untold_file old path mark)) tt;
+  left = subst (λ (s : LeafState). LeavesFile put path s None) (sym gone) refl;
+  grow = files_stay old new (subst (λ (s : LeafState). JoinsBy old path leaf.content s new) gone joins);
 }
-may_gain old new path (Some bytes) (inr (n, mark, grew)) = record {
-  file = Some (record { path = path; bytes = take n bytes; mark = mark });
-  left = refl;
-  grow = λ fs had. subst (λ (x : Option (List TreeFile)). Tells x (with_file (record { path = path; bytes = take n bytes; mark = mark }) fs)) (sym grew)
-      (file_joins old path (Some (take n bytes)) (take n bytes) mark fs refl had);
-}
-
-given_up : (old new : Option (List TreeFile)) (path : List ℕ) (told : Option (List ℕ)) (state : LeafState) → IsGivenUp state → JoinsBy old path told state new → Leaves old path state new
-given_up old new path told state (inl gone) joins = record {
-  file = None;
-  left = subst (λ (s : LeafState). LeavesFile path s None) (sym gone) refl;
-  grow = files_stay old new (subst (λ (s : LeafState). JoinsBy old path told s new) gone joins);
-}
-given_up old new path told state (inr stuck) joins =
-    let kept = may_gain old new path told (subst (λ (s : LeafState). JoinsBy old path told s new) stuck joins) in
-    record { file = kept.file; left = subst (λ (s : LeafState). LeavesFile path s kept.file) (sym stuck) kept.left; grow = kept.grow }
+given_up put old new path leaf (inr stuck) has joins =
+    let c = has stuck in
+    let kept = gains old new path leaf.content c.0 c.2 (subst (λ (s : LeafState). JoinsBy old path leaf.content s new) stuck joins) in
+    record { file = kept.file; left = subst (λ (s : LeafState). LeavesFile put path s kept.file) (sym stuck) (c.0, c.1, kept.part); grow = kept.grow }
 
 begun_leaf : (state : LeafState) → IsGivenUp state → state ≡ Fresh → ⊥
 begun_leaf state (inl gone) fresh = let no : Gone ≡ Fresh = sym gone ∙ fresh in cc
@@ -201,22 +186,38 @@ module _ (objects : List ℕ → Told) (talks : List DriverTalk) (n : ℕ) (p : 
     gone_file : leaf.state ≡ Gone → FilesGrow old None new
     gone_file gone = files_stay old new (subst (λ (s : LeafState). JoinsBy old p.path leaf.content s new) gone joins_path)
 
+    -- what the desk put into it
+    put_part : HasPart t.exchanges n leaf.content → (content : List ℕ) × MayBePut required d t n (objects p.object) p content × TellsPart leaf.content content
+    put_part (inl none) = ([], inl refl, (0, none))
+    put_part (inr (sent, has, part)) = (sent, inr (inl has), part)
+
+    put_there : Holds t.exchanges n leaf → HasPut (MayBePut required d t n (objects p.object) p) leaf
+    put_there holds stuck = put_part (holds.stuck stuck)
+
+    dropped_up : IsDropped made leaf → IsGivenUp leaf.state
+    dropped_up (inl gone) = inl gone.0
+    dropped_up (inr stuck) = inr stuck.0
+
+    dropped_count : IsDropped made leaf → MayHaveFailed required d t n leaf.state leaf.faults
+    dropped_count (inl gone) = inl (gone.1 ∙ w.new_leaf.unfailed)
+    dropped_count (inr stuck) = inr (inl stuck.0)
+
     -- no content was read
-    pub unread_ends : (f : Fate) (o : Own) → ShowsUnread (card_for objects n p made) o (closed_card (card_for objects n p made) blob leaf) → IsPathEnd objects talks n p (desk_verdict required f o) blob leaf old new
-    unread_ends f own.ReadFailed shows =
+    pub unread_ends : (f : Fate) (o : Own) → Holds t.exchanges n leaf → ShowsUnread (card_for objects n p made) o (closed_card (card_for objects n p made) blob leaf) → IsPathEnd objects talks n p (desk_verdict required f o) blob leaf old new
+    unread_ends f own.ReadFailed holds shows =
         subst (λ (v : Verdict). IsPathEnd objects talks n p v blob leaf old new) (sym (object_verdict required f))
         (desk_end (verdict.Failed fail.ReadFailed) None (no_file shows.leaf)
         (read_failed (objects p.object) p.object shows.reads.fault shows.reads.object shows.reads.own, (blob.faults, rose_some blob.faults shows.counts, (refl, as_made shows.leaf)), refl))
-    unread_ends f (own.Object k) shows =
+    unread_ends f (own.Object k) holds shows =
         subst (λ (v : Verdict). IsPathEnd objects talks n p v blob leaf old new) (sym (kind_verdict required f k))
         (desk_end (verdict.Failed (fail.Object k)) None (no_file shows.leaf)
         (kind_of (objects p.object) p.object shows.reads.fault k shows.reads.object shows.reads.own, (ap Some shows.counts, as_made shows.leaf), refl))
-    unread_ends f own.NoMemory shows =
-        let kept = given_up old new p.path leaf.content leaf.state shows.leaf joins_path in
+    unread_ends f own.NoMemory holds shows =
+        let kept = given_up (MayBePut required d t n (objects p.object) p) old new p.path leaf (dropped_up shows.leaf) (put_there holds) joins_path in
         subst (λ (v : Verdict). IsPathEnd objects talks n p v blob leaf old new) (sym (memory_verdict required f))
-        (desk_end verdict.NoMemory kept.file kept.grow (leaf.state, leaf.faults, (ap Some shows.counts, refl), kept.left))
-    unread_ends f (own.Fine u) shows = absurd (not_fine u shows.reads.fault shows.reads.own)
-    unread_ends f own.WriteFailed shows = absurd (not_write_failed shows.reads.fault shows.reads.own)
+        (desk_end verdict.NoMemory kept.file kept.grow (leaf.state, leaf.faults, dropped_count shows.leaf, (ap Some shows.counts, refl), kept.left))
+    unread_ends f (own.Fine u) holds shows = absurd (not_fine u shows.reads.fault shows.reads.own)
+    unread_ends f own.WriteFailed holds shows = absurd (not_write_failed shows.reads.fault shows.reads.own)
 
     -- what the path heard
     hears : (h : Heard) → contains n t.asked ≡ true → fate_of n Untold (notes_in d t.exchanges) ≡ Known h → heard_at d t n ≡ Some h
@@ -229,24 +230,24 @@ module _ (objects : List ℕ → Told) (talks : List DriverTalk) (n : ℕ) (p : 
     prepares ready (content, gives, is) = record { content = content; object = gives; is = is }
 
     -- a leaf that failed and was given up
-    write_failed : (h : Heard) → heard_at d t n ≡ Some h → (h ≡ heard.OutOfMemory → ⊥) → blob ≡ new_blob p.object → IsGivenUp leaf.state → Rose 0 leaf.faults
+    write_failed : (h : Heard) → heard_at d t n ≡ Some h → (h ≡ heard.OutOfMemory → ⊥) → blob ≡ new_blob p.object → IsGivenUp leaf.state → HasPut (MayBePut required d t n (objects p.object) p) leaf → Rose 0 leaf.faults
         → IsPathEnd objects talks n p (verdict.Failed fail.WriteFailed) blob leaf old new
-    write_failed h told memory same up rose =
-        let kept = given_up old new p.path leaf.content leaf.state up joins_path in
+    write_failed h told memory same up has rose =
+        let kept = given_up (MayBePut required d t n (objects p.object) p) old new p.path leaf up has joins_path in
         desk_end (verdict.Failed fail.WriteFailed) kept.file kept.grow
         ((h, told, memory), leaf.state, leaf.faults, rose_some leaf.faults rose, begun_leaf leaf.state up, (unfailed same, refl), kept.left)
 
-    gave_up : blob ≡ new_blob p.object → IsGivenUp leaf.state → IsPathEnd objects talks n p verdict.NoMemory blob leaf old new
-    gave_up same up =
-        let kept = given_up old new p.path leaf.content leaf.state up joins_path in
-        desk_end verdict.NoMemory kept.file kept.grow (leaf.state, leaf.faults, (unfailed same, refl), kept.left)
+    gave_up : blob ≡ new_blob p.object → IsGivenUp leaf.state → HasPut (MayBePut required d t n (objects p.object) p) leaf → MayHaveFailed required d t n leaf.state leaf.faults
+        → IsPathEnd objects talks n p verdict.NoMemory blob leaf old new
+    gave_up same up has failed =
+        let kept = given_up (MayBePut required d t n (objects p.object) p) old new p.path leaf up has joins_path in
+        desk_end verdict.NoMemory kept.file kept.grow (leaf.state, leaf.faults, failed, (unfailed same, refl), kept.left)
 
     -- The card never left its desk and was read: it ends by what its driver told.
     pub read_ends : (h : Heard) (o : Own) → fate_of n Untold (notes_in d t.exchanges) ≡ Known h → (wrote o ≡ true → contains n t.asked ≡ true)
-        → ((m : Mark) → leaf.state ≡ Sealed m → HasAnswer t.exchanges n leaf.content)
-        → ShowsRead required h (card_for objects n p made) o (closed_card (card_for objects n p made) blob leaf) → IsPathEnd objects talks n p (desk_verdict required (Known h) o) blob leaf old new
-    read_ends heard.Got (own.Fine u) fate asked answers shows =
-        let got = answer_of t.exchanges n leaf.content (answers p.mark shows.leaf.1) in
+        → Holds t.exchanges n leaf → ShowsRead required h (card_for objects n p made) o (closed_card (card_for objects n p made) blob leaf) → IsPathEnd objects talks n p (desk_verdict required (Known h) o) blob leaf old new
+    read_ends heard.Got (own.Fine u) fate asked holds shows =
+        let got = answer_of t.exchanges n leaf.content (holds.sealed p.mark shows.leaf.1) in
         desk_end (verdict.Written u) (Some (file_with p got.0))
         (seals old new p.path leaf.content got.0 p.mark leaf.state shows.leaf.1 got.2 joins_path) (
           hears heard.Got (asked refl) fate,
@@ -258,7 +259,7 @@ module _ (objects : List ℕ → Told) (talks : List DriverTalk) (n : ℕ) (p : 
           got.1,
           refl,
         )
-    read_ends (heard.Refused why) (own.Fine u) fate asked answers shows =
+    read_ends (heard.Refused why) (own.Fine u) fate asked holds shows =
         let is : required ≡ true = must required why u shows.may in
         subst (λ (r : Bool). IsPathEnd objects talks n p (desk_verdict r (Known (heard.Refused why)) (own.Fine u)) blob leaf old new) (sym is)
         (desk_end (verdict.Failed (fail.Filter why)) None (gone_file shows.leaf.1) (
@@ -267,18 +268,18 @@ module _ (objects : List ℕ → Told) (talks : List DriverTalk) (n : ℕ) (p : 
           (unfailed shows.blob, same_count leaf.state Gone leaf.faults 0 shows.leaf.1 (shows.leaf.2 ∙ w.new_leaf.unfailed)),
           refl,
         ))
-    read_ends heard.Lost (own.Fine u) fate asked answers shows =
+    read_ends heard.Lost (own.Fine u) fate asked holds shows =
         desk_end (verdict.Failed fail.Missing) None (gone_file shows.leaf.1)
         (hears heard.Lost (asked refl) fate, (unfailed shows.blob, same_count leaf.state Gone leaf.faults 0 shows.leaf.1 (shows.leaf.2 ∙ w.new_leaf.unfailed)), refl)
-    read_ends heard.OutOfMemory (own.Fine u) fate asked answers shows = gave_up shows.blob (inl shows.leaf.1)
-    read_ends heard.Got own.WriteFailed fate asked answers shows = write_failed heard.Got (hears heard.Got (asked refl) fate) (λ e. absurd cc) shows.blob shows.leaf.0 (subst (λ (k : ℕ). Rose k leaf.faults) w.new_leaf.unfailed shows.leaf.1)
-    read_ends (heard.Refused why) own.WriteFailed fate asked answers shows =
-        write_failed (heard.Refused why) (hears (heard.Refused why) (asked refl) fate) (λ e. absurd cc) shows.blob shows.leaf.0 (subst (λ (k : ℕ). Rose k leaf.faults) w.new_leaf.unfailed shows.leaf.1)
-    read_ends heard.Lost own.WriteFailed fate asked answers shows = write_failed heard.Lost (hears heard.Lost (asked refl) fate) (λ e. absurd cc) shows.blob shows.leaf.0 (subst (λ (k : ℕ). Rose k leaf.faults) w.new_leaf.unfailed shows.leaf.1)
-    read_ends heard.OutOfMemory own.WriteFailed fate asked answers shows = gave_up shows.blob shows.leaf.0
-    read_ends h own.NoMemory fate asked answers shows = gave_up shows.blob shows.leaf
-    read_ends h (own.Object k) fate asked answers shows = absurd shows.leaf
-    read_ends h own.ReadFailed fate asked answers shows = absurd shows.leaf
+    read_ends heard.OutOfMemory (own.Fine u) fate asked holds shows = gave_up shows.blob (inl shows.leaf.1) (put_there holds) (inl (shows.leaf.2 ∙ w.new_leaf.unfailed))
+    read_ends heard.Got own.WriteFailed fate asked holds shows = write_failed heard.Got (hears heard.Got (asked refl) fate) (λ e. absurd cc) shows.blob shows.leaf.0 (put_there holds) (subst (λ (k : ℕ). Rose k leaf.faults) w.new_leaf.unfailed shows.leaf.1)
+    read_ends (heard.Refused why) own.WriteFailed fate asked holds shows =
+        write_failed (heard.Refused why) (hears (heard.Refused why) (asked refl) fate) (λ e. absurd cc) shows.blob shows.leaf.0 (put_there holds) (subst (λ (k : ℕ). Rose k leaf.faults) w.new_leaf.unfailed shows.leaf.1)
+    read_ends heard.Lost own.WriteFailed fate asked holds shows = write_failed heard.Lost (hears heard.Lost (asked refl) fate) (λ e. absurd cc) shows.blob shows.leaf.0 (put_there holds) (subst (λ (k : ℕ). Rose k leaf.faults) w.new_leaf.unfailed shows.leaf.1)
+    read_ends heard.OutOfMemory own.WriteFailed fate asked holds shows = gave_up shows.blob shows.leaf.0 (put_there holds) (inr (inr (hears heard.OutOfMemory (asked refl) fate)))
+    read_ends h own.NoMemory fate asked holds shows = gave_up shows.blob (dropped_up shows.leaf) (put_there holds) (dropped_count shows.leaf)
+    read_ends h (own.Object k) fate asked holds shows = absurd shows.leaf
+    read_ends h own.ReadFailed fate asked holds shows = absurd shows.leaf
 
     -- An actor had the card from the book: the driver isn't required and refused the path.
     pub book_ends : (why : FilterCause) (o : Own) → required ≡ false → fate_of n Untold (notes_in d t.exchanges) ≡ Known (heard.Refused why) → (wrote o ≡ true → contains n t.asked ≡ true)
@@ -295,9 +296,10 @@ module _ (objects : List ℕ → Told) (talks : List DriverTalk) (n : ℕ) (p : 
           refl,
         ))
     book_ends why own.WriteFailed free fate asked (ready, is, cut, same) =
-        write_failed (heard.Refused why) (hears (heard.Refused why) (asked refl) fate) (λ e. absurd cc) same cut.state (subst (λ (k : ℕ). Rose k leaf.faults) w.new_leaf.unfailed cut.rose)
+        write_failed (heard.Refused why) (hears (heard.Refused why) (asked refl) fate) (λ e. absurd cc) same cut.state
+        (λ stuck. (ready.bytes, inr (inr (free, why, hears (heard.Refused why) (asked refl) fate, ready, prepares ready is, refl)), cut.content)) (subst (λ (k : ℕ). Rose k leaf.faults) w.new_leaf.unfailed cut.rose)
     book_ends why own.NoMemory free fate asked (same, kept) =
-        desk_end verdict.NoMemory None (no_file kept) (Fresh, 0, (unfailed same, as_made kept), refl)
+        desk_end verdict.NoMemory None (no_file kept) (Fresh, 0, inl refl, (unfailed same, as_made kept), refl)
     book_ends why own.ReadFailed free fate asked (may, rose, kept) =
         desk_end (verdict.Failed fail.ReadFailed) None (no_file kept) (may, (blob.faults, rose_some blob.faults rose, (refl, as_made kept)), refl)
     book_ends why (own.Object k) free fate asked (fault, same, kept) =

@@ -3,6 +3,7 @@ use Rattle.std.proofs.Common.{◌≡◌, ◌+◌, ◌<◌, ℕ, zero, suc, Bool,
 use Rattle.std.specs.Prelude.{slice_get}
 use Rattle.std.specs.Option.{option_map}
 use Rattle.std.proofs.lemmas.Option.{same_Some, slice_get-map}
+use Rattle.edge_kit.specs.Seen.{LeafSeen}
 use Rattle.edge_kit.specs.Told.{Told}
 use Rattle.edge_kit.specs.Starters.{Had, Starts, StarterSeen, SpawnerSeen, starter_back}
 use Rattle.settings_view.specs.declared.view.Driver.{Driver}
@@ -28,14 +29,13 @@ use Rattle.checkout_book.specs.Sights.{Sight, seen}
 use Rattle.checkout_plan.specs.declared.path_plan.PathPlan.{PathPlan}
 use Rattle.driver_line.specs.Conversations.{notes_in}
 use Rattle.driver_line.specs.Lines.{Paths}
-use Rattle.driver_line.specs.ToldStarts.{GoBy}
-use Rattle.driver_line.specs.Transcripts.{IsTalk}
-use Rattle.driver_desk.specs.Serving.{HasAnswer}
+use Rattle.driver_line.specs.ToldStarts.{Fills, GoBy}
+use Rattle.driver_desk.specs.Serving.{Holds}
 use Rattle.driver_desk.specs.Ties.{FitsOwn}
-use Rattle.driver_desk.specs.Works.{WorkSeen, AreRead, ReadsAs, ReadsTo, FitAll, FitsContent, FitsWork, asked_in, cards_in}
+use Rattle.driver_desk.specs.Works.{WorkSeen, AreRead, ReadsAs, ReadsTo, FitAll, FitsContent, FitsWork, asked_in, cards_in, label_of}
 use Rattle.writer_pool.specs.declared.pooled.DeskSeed.{DeskSeed}
 use Rattle.writer_pool.specs.Pools.{HasTalked, IsSeed, AreSeeds, IsStarterBack, AreStartersBack}
-use Rattle.writer_pool.specs.Sealing.{SealsAt, leaf_at}
+use Rattle.writer_pool.specs.Sealing.{EndsAt, leaf_at}
 use Rattle.writer_pool.specs.Tying.{content_in, has_content}
 use Rattle.checkout_engine.specs.Cards.{IsCardFor}
 use Rattle.checkout_engine.specs.Dealing.{IsSeedFor, AreSeedsFor, AreEnded}
@@ -47,11 +47,11 @@ use Rattle.checkout_engine.proofs.DeskEnds.{wrote, not_fine, not_write_failed}
 use Rattle.checkout_engine.proofs.Places.{get_map, get_map_back}
 use Rattle.checkout_engine.proofs.Seeds.{at_desk}
 
--- The talk has the notes of the driver d. It has an answer for each leaf that the desk sealed, and is over each path of
+-- The talk has the notes of the driver d. It has what the leaf of each card holds that the desk closed, and is over each path of
 -- which something was written, or was to be.
 pub record IsTalkOf {B L : Type 0} (see : Sight B L) (paths : List PathPlan) (history : List Event) (leaf_of : ℕ → Option L) (d : ℕ) (t : DriverTalk) : Type 0 where
   pub noted : notes (starts_of paths) d history ≡ notes_in d t.exchanges
-  pub answers : (n : ℕ) (told : Option (List ℕ)) → SealsAt see (starts_of paths) history leaf_of d n told → HasAnswer t.exchanges n told
+  pub answers : (n : ℕ) (leaf : LeafSeen) → EndsAt see (starts_of paths) history leaf_of d n leaf → Holds t.exchanges n leaf
   pub asked : (n place actor : ℕ) (required : Bool) (own : Own) → slice_get (starts_of paths) n ≡ Some (start.Desk d required) → slice_get history place ≡ Some (Close n actor own) → wrote own ≡ true
       → contains n t.asked ≡ true
 
@@ -63,7 +63,8 @@ pub record AsksForRead {S B L : Type 0} (starter : S → StarterSeen) (see : Sig
   pub rises : (starts : List Start) (d : ℕ) (seed : DeskSeed S B L) (works : List WorkSeen) → IsSeed starter starts d seed → map (λ c. seen see c) seed.cards.items ≡ cards_in works
       → (i j p q : ℕ) → i < j → slice_get (asked_in works) i ≡ Some p → slice_get (asked_in works) j ≡ Some q → p < q
   pub fit : (starts : List Start) (d : ℕ) (seed : DeskSeed S B L) (works : List WorkSeen) → IsSeed starter starts d seed → map (λ c. seen see c) seed.cards.items ≡ cards_in works
-      → (text : ℕ → List ℕ) → ((k : ℕ) (w : WorkSeen) → slice_get works k ≡ Some w → text w.card.path ≡ w.card.text) → FitAll (record { text = text; content = content_in works }) works
+      → (text name : ℕ → List ℕ) → ((k : ℕ) (w : WorkSeen) → slice_get works k ≡ Some w → label_of w.card ≡ (text w.card.path, name w.card.path))
+      → FitAll (record { text = text; name = name; content = content_in works }) works
 
 -- the works of a list, one by one
 card_there : (works : List WorkSeen) (k : ℕ) (w : WorkSeen) → slice_get works k ≡ Some w → slice_get (cards_in works) k ≡ Some w.card
@@ -160,9 +161,19 @@ abbrev pub text_or : Option PathPlan → List ℕ
 text_or None = []
 text_or (Some p) = p.path
 
--- the texts of paths
+abbrev pub name_or : Option PathPlan → List ℕ
+name_or None = []
+name_or (Some p) = p.object
+
+abbrev label_or : Option PathPlan → List ℕ × List ℕ
+label_or o = (text_or o, name_or o)
+
+-- the texts of paths, and the names of their objects
 abbrev pub texts_of : List PathPlan → ℕ → List ℕ
 texts_of paths n = text_or (slice_get paths n)
+
+abbrev pub names_of : List PathPlan → ℕ → List ℕ
+names_of paths n = name_or (slice_get paths n)
 
 -- a driver as it is found in the list
 at_it : (d : ℕ) (required : Bool) → is_at d (start.Desk d required) ≡ true
@@ -185,7 +196,7 @@ module _ {S B L : Type 0} (starter : S → StarterSeen) (see : Sight B L) (ahead
     works = h.back.works
 
     abbrev pub over : Paths
-    over = record { text = texts_of paths; content = content_in works }
+    over = record { text = texts_of paths; name = names_of paths; content = content_in works }
 
     -- a work is that of a path of the driver
     path_of : (k : ℕ) (w : WorkSeen) → slice_get works k ≡ Some w → (p : PathPlan) × (slice_get paths w.card.path ≡ Some p) × (is_at d p.start ≡ true) × IsCardFor object w.card.path p w.card
@@ -202,11 +213,11 @@ module _ {S B L : Type 0} (starter : S → StarterSeen) (see : Sight B L) (ahead
         (one.0, w.0, w.1, ap (λ (y : CardSeen). y.path) w.2 ∙ one.3)
 
     pub fits : FitAll over works
-    fits = laws.fit (starts_of paths) d seed works h.dealt h.back.cards (texts_of paths) (λ k w at.
+    fits = laws.fit (starts_of paths) d seed works h.dealt h.back.cards (texts_of paths) (names_of paths) (λ k w at.
         let p = path_of k w at in
-        ap text_or p.1 ∙ sym (ap (λ (y : CardSeen). y.text) (p.3).same))
+        ap label_of (p.3).same ∙ sym (ap label_or p.1))
 
-    pub said : HasTalked d over (asked_in works) (starter seed.starter) (starter s) (notes (starts_of paths) d history) (SealsAt see (starts_of paths) history (leaf_at (starts_of paths) leaves) d)
+    pub said : HasTalked d over (asked_in works) (starter seed.starter) (starter s) (notes (starts_of paths) d history) (EndsAt see (starts_of paths) history (leaf_at (starts_of paths) leaves) d)
     said = h.back.talked over fits
 
     abbrev pub talk : DriverTalk
@@ -224,8 +235,10 @@ module _ {S B L : Type 0} (starter : S → StarterSeen) (see : Sight B L) (ahead
     talks_by : IsTalkBy (ahead (starter s).command) d talk
     talks_by = record {
       left = (starter s).ahead;
-      starts = subst (λ (told : Starts). GoBy told (starter s).had (starter s).ahead) ahead_is (subst (λ (hs : List Had). GoBy (starter seed.starter).ahead hs (starter s).ahead) (sym had_is) said.starts);
-      talk = subst (λ (hs : List Had). IsTalk d over (asked_in works) hs said.exchanges) (sym had_is) said.talk;
+      full = said.full;
+      fills = subst (λ (hs : List Had). Fills hs said.full) (sym had_is) said.fills;
+      starts = subst (λ (told : Starts). GoBy told said.full (starter s).ahead) ahead_is said.starts;
+      talk = said.talk;
       results = said.results;
       whole = said.whole;
       same = said.same;
@@ -274,7 +287,7 @@ module _ {S B L : Type 0} (starter : S → StarterSeen) (see : Sight B L) (ahead
         let r = asked_where_read n p at is end.0 end.1 end.2 end.3 in
         r.4 ∙ (content_read begun.0 fate r.0 r.1 end.2 r.2 r.3 (ap is_no_memory same ∙ left) ∙ ap was_read same)
 
-    each_is : (n : ℕ) → contains n (asked_in works) ≡ true → (p : PathPlan) × (slice_get paths n ≡ Some p) × (is_at d p.start ≡ true) × (texts_of paths n ≡ p.path)
+    each_is : (n : ℕ) → contains n (asked_in works) ≡ true → (p : PathPlan) × (slice_get paths n ≡ Some p) × (is_at d p.start ≡ true) × (texts_of paths n ≡ p.path) × (names_of paths n ≡ p.object)
         × (ready : Prepared) × IsPreparedTo (object p.object) p ready × (content_in works n ≡ ready.bytes)
     each_is n has =
         let w = laws.each works n has in
@@ -282,7 +295,7 @@ module _ {S B L : Type 0} (starter : S → StarterSeen) (see : Sight B L) (ahead
         let at : slice_get paths n ≡ Some p.0 = ap (slice_get paths) (sym w.3) ∙ p.1 in
         let read = read_ready over w.1.card w.1.content (read_at works w.0 w.1 h.back.read w.2) (fit_at over works w.0 w.1 fits w.2).1 w.4 in
         let ready : IsPreparedTo (object (p.0).object) p.0 read.0 = prepares object p.0 w.1.card read.0 w.1.card.path p.3 read.1 in
-        (p.0, at, p.2, ap text_or at, read.0, ready, ap (content_in works) (sym w.3) ∙ read.2)
+        (p.0, at, p.2, ap text_or at, ap name_or at, read.0, ready, ap (content_in works) (sym w.3) ∙ read.2)
 
     -- the driver of the plan has this talk
     pub driver_talk : (verdicts : List Verdict) → IsEndTold paths history verdicts → IsDriverTalk ahead object paths verdicts history d x talk

@@ -10,7 +10,7 @@ use Rattle.git_index.specs.declared.entry.Entry.{Entry}
 use Rattle.git_index.specs.declared.entry.Mode.{Mode}
 use Rattle.git_index.specs.declared.entry.Mode.TheVariants as mode
 use Rattle.git_index.specs.Spelling.{pairwise, PathsAreOrdered}
-use Rattle.attr_line.specs.declared.file.AttrFile.{AttrFile}
+use Rattle.attr_stack.specs.declared.files.OuterFiles.{OuterFiles}
 use Rattle.attr_line.specs.declared.state.AttrState.{AttrState}
 use Rattle.attr_line.specs.declared.state.AttrState.TheVariants as state
 use Rattle.attr_stack.specs.declared.files.AttrFiles.{AttrFiles}
@@ -26,8 +26,9 @@ use Rattle.checkout_core.specs.declared.path.Start.TheVariants as start
 use Rattle.checkout_plan.specs.declared.path_plan.PathPlan.{PathPlan}
 use Rattle.checkout_plan.specs.declared.path_plan.Plan.{Plan}
 use Rattle.checkout_plan.specs.AttributeFiles.{attribute_files}
-use Rattle.checkout_plan.specs.Paths.{no_conversion, path_with, closed, converted, file_path, path_of_mode, asked_path, asked_paths, first_entries, path_among, start_among, plan_of}
+use Rattle.checkout_plan.specs.Paths.{no_conversion, path_with, closed, converted, file_path, text_path, link_path, path_of_mode, asked_path, asked_paths, first_entries, path_among, start_among, plan_of}
 use Rattle.checkout_plan.specs.Paths.{start_by, start_at, start_named, filter_start, is_desk_of, asks_for, is_used, used_from, number_at}
+use Rattle.checkout_engine.proofs.LeftOut.{left_out_by}
 use Rattle.checkout_engine.specs.Cards.{AreOrdered, AreDrivers, HasDriver}
 use Rattle.checkout_engine.specs.Sources.{IsPlanned}
 use Rattle.checkout_engine.proofs.Order.{precedes, plan_rises}
@@ -78,9 +79,9 @@ text_is ds e p true is = is
 text_is ds e p false is = tt
 
 mode_is : (m : Mode) (files : AttrFiles) (settings : Settings) (e : Entry) → StartsBy settings.drivers (path_of_mode m files settings e).start
-mode_is mode.Plain files settings e = text_is settings.drivers e (file_path files settings e) (is_utf8 e.path) (converted_is settings.drivers e _ _ (filter_is settings.drivers _))
-mode_is mode.Executable files settings e = text_is settings.drivers e (file_path files settings e) (is_utf8 e.path) (converted_is settings.drivers e _ _ (filter_is settings.drivers _))
-mode_is mode.Link files settings e = text_is settings.drivers e (path_with e no_conversion start.Pool) (is_utf8 e.path) tt
+mode_is mode.Plain files settings e = left_out_by (λ p. StartsBy settings.drivers p.start) e (text_path files settings e) (λ v. tt) (text_is settings.drivers e (file_path files settings e) (is_utf8 e.path) (converted_is settings.drivers e _ _ (filter_is settings.drivers _)))
+mode_is mode.Executable files settings e = left_out_by (λ p. StartsBy settings.drivers p.start) e (text_path files settings e) (λ v. tt) (text_is settings.drivers e (file_path files settings e) (is_utf8 e.path) (converted_is settings.drivers e _ _ (filter_is settings.drivers _)))
+mode_is mode.Link files settings e = left_out_by (λ p. StartsBy settings.drivers p.start) e (link_path e) (λ v. tt) (text_is settings.drivers e (path_with e no_conversion start.Pool) (is_utf8 e.path) tt)
 mode_is mode.Gitlink files settings e = tt
 
 asked_is : (files : AttrFiles) (settings : Settings) (e : Entry) → StartsBy settings.drivers (asked_path files settings e).start
@@ -185,9 +186,9 @@ all_among all asked (p ∷ ps) used starts = (
   all_among all asked ps (λ place is. used place (or_right (is_desk_of place p.start) (list_any (asks_for place) ps) is)) starts.1,
 )
 
-plan_drivers : (es : List Entry) (settings : Settings) (info : AttrFile) (contents : List (List ℕ)) → let plan = plan_of es settings info contents in length plan.drivers ≤ 16 → AreDrivers plan.drivers plan.paths
-plan_drivers es settings info contents few =
-    let files = attribute_files info es contents in
+plan_drivers : (es : List Entry) (settings : Settings) (outer : OuterFiles) (contents : List (List ℕ)) → let plan = plan_of es settings outer contents in length plan.drivers ≤ 16 → AreDrivers plan.drivers plan.paths
+plan_drivers es settings outer contents few =
+    let files = attribute_files outer es contents in
     let asked = asked_paths files settings es in
     let starts = all_asked files settings (first_entries es) in
     record {
@@ -200,10 +201,10 @@ plan_drivers es settings info contents few =
 pub planned_drivers : (told : RepoTold) (plan : Plan) → IsPlanned told plan → AreDrivers plan.drivers plan.paths
 planned_drivers told plan planned =
     subst (λ (p : Plan). AreDrivers p.drivers p.paths) (sym planned.made.is)
-    (plan_drivers planned.entries planned.settings planned.info planned.made.contents (subst (λ (p : Plan). length p.drivers ≤ 16) planned.made.is planned.few))
+    (plan_drivers planned.entries planned.settings planned.outer planned.made.contents (subst (λ (p : Plan). length p.drivers ≤ 16) planned.made.is planned.few))
 
 -- its paths rise
 pub planned_ordered : PathsAreOrdered → (told : RepoTold) (plan : Plan) → IsPlanned told plan → AreOrdered plan.paths
 planned_ordered law told plan planned =
     subst (λ (p : Plan). pairwise precedes p.paths ≡ true) (sym planned.made.is)
-    (plan_rises law planned.entries planned.settings planned.info planned.made.contents planned.sources.index.is_index.rising)
+    (plan_rises law planned.entries planned.settings planned.outer planned.made.contents planned.sources.index.is_index.text.rising)

@@ -2,10 +2,11 @@
 use Rattle.std.proofs.Common.{◌≡◌, ◌+◌, ℕ, zero, suc, Bool, List, [], ◌∷◌, Some, refl, sym, ap, ◌∙◌, subst, arith}
 use Rattle.std.specs.Prelude.{slice_get}
 use Rattle.std.proofs.lemmas.Option.{same_Some}
-use Rattle.edge_kit.specs.Starters.{Starts}
+use Rattle.edge_kit.specs.Starters.{Starts, StartTold}
 use Rattle.edge_kit.specs.Told.{Told}
 use Rattle.git_index.specs.Spelling.{PathsAreOrdered}
 use Rattle.driver_line.specs.OneContent.{OneContent}
+use Rattle.driver_line.specs.SameHeard.{NoneFailed}
 use Rattle.settings_view.specs.declared.view.Driver.{Driver}
 use Rattle.checkout_core.specs.declared.event.Event.{Event}
 use Rattle.checkout_core.specs.declared.path.Heard.TheVariants as heard
@@ -23,7 +24,7 @@ use Rattle.checkout_engine.proofs.Alike.{side_of}
 use Rattle.checkout_engine.proofs.Drivers.{planned_ordered}
 use Rattle.checkout_engine.proofs.Places.{get_map}
 use Rattle.checkout_engine.proofs.Seeds.{at_desk}
-use Rattle.checkout_engine.proofs.OneSide.{Ground, IsSide, outcome_at, told_talk}
+use Rattle.checkout_engine.proofs.OneSide.{Ground, IsSide, holds_at, outcome_at, told_talk}
 
 talk_with : (ahead : List ℕ → Starts) (object : List ℕ → Told) (ps : List PathPlan) (vs : List Verdict) (history : List Event) (m : ℕ) (xs : List Driver) (ts : List DriverTalk) → AreDriverTalks ahead object ps vs history m xs ts
     → (d : ℕ) (x : Driver) → slice_get xs d ≡ Some x → (t : DriverTalk) × (slice_get ts d ≡ Some t) × IsDriverTalk ahead object ps vs history (m + d) x t
@@ -40,33 +41,33 @@ talk_with ahead object ps vs history m (y ∷ xs) (t ∷ ts) are (suc d) x at =
 got_by : (required : Bool) (d : ℕ) (t : DriverTalk) (n : ℕ) (told : Told) (p : PathPlan) (o : Outcome) (v : Verdict) (u : Bool) → v ≡ verdict.Written u → HasDeskVerdict required d t n told p o v → heard_at d t n ≡ Some heard.Got
 got_by required d t n told p o v u is has = let own : HasDeskVerdict required d t n told p o (verdict.Written u) = subst (HasDeskVerdict required d t n told p o) is has in own.0
 
-module _ (object : List ℕ → Told) (ahead : List ℕ → Starts) (ps : List PathPlan) (g : Ground object ahead ps) (drivers : List Driver) (talks : List DriverTalk) (outcomes : List Outcome) (history : List Event)
+module _ (object : List ℕ → Told) (ahead : List ℕ → Starts) (ps : List PathPlan) (g : Ground object ps) (starts : (command : List ℕ) → (starts : List StartTold) × (ahead command ≡ Some starts)) (drivers : List Driver) (talks : List DriverTalk) (outcomes : List Outcome) (history : List Event)
     (s : IsSide object ahead ps drivers talks outcomes history)
     (written : AreWritten ps outcomes) where
   gives_all : (d : ℕ) (x : Driver) → slice_get drivers d ≡ Some x → GivesAll ahead ps d x
   gives_all d x at =
-      let found = talk_with ahead object ps (verdicts_of outcomes) history 0 drivers talks s.conversations d x at in
+      let found = talk_with ahead object ps (verdicts_of outcomes) history 0 drivers talks s.ends.conversations d x at in
       let t = found.0 in
       let same : ◌≡◌ {A = ℕ} (0 + d) d = omega arith in
       let said : IsDriverTalk ahead object ps (verdicts_of outcomes) history d x t = subst (λ (k : ℕ). IsDriverTalk ahead object ps (verdicts_of outcomes) history k x t) same found.2 in
-      let starts = g.starts t.command in
+      let told = starts t.command in
       record {
         talk = t;
         command = said.command;
-        starts = starts.0;
-        told = starts.1;
+        starts = told.0;
+        told = told.1;
         over = record {
           asked = λ n p here is.
-              let o = outcome_at object ahead ps g drivers talks outcomes history s n p here in
+              let o = outcome_at object ahead ps g drivers talks outcomes history s.ends n p here in
               let w = written n d p o.0 here is o.1 in
               said.over.asked n p (verdict.Written w.0) here (get_map (λ (y : Outcome). y.verdict) outcomes n o.0 o.1 ∙ ap Some w.1) is refl;
           each = λ n is. let e = said.over.each n is in (e.0, e.1, e.2, e.3);
           rises = said.over.rises;
         };
-        goes = told_talk object ahead ps g drivers talks outcomes history s d t found.1 starts.0 starts.1;
+        goes = told_talk object ahead ps g drivers talks outcomes history s.ends d t found.1 told.0 told.1 (holds_at (λ (y : DriverTalk). NoneFailed y.had) talks d t s.links found.1);
         got = λ n is.
             let e = said.over.each n is in
-            let o = outcome_at object ahead ps g drivers talks outcomes history s n e.0 e.1 in
+            let o = outcome_at object ahead ps g drivers talks outcomes history s.ends n e.0 e.1 in
             let w = written n d e.0 o.0 e.1 e.2 o.1 in
             let desk = at_desk d (e.0).start e.2 in
             let has : HasOutcome object talks (start.Desk d desk.0) n e.0 o.0 = subst (λ (y : Start). HasOutcome object talks y n e.0 o.0) desk.1 o.2.has in
@@ -76,5 +77,5 @@ module _ (object : List ℕ → Told) (ahead : List ℕ → Starts) (ps : List P
 
 pub written_given : PathsAreOrdered → OneContent → WrittenIsGiven
 written_given ordered one told ahead asked old new all c u written =
-    let ground : Ground told.object ahead c.plan.paths = record { told = all.object; starts = all.starts; rise = planned_ordered ordered told c.plan c.planned; one = one } in
-    gives_all told.object ahead c.plan.paths ground c.plan.drivers c.talks c.outcomes new.history (side_of told ahead asked old new c u) written
+    let ground : Ground told.object c.plan.paths = record { told = all.repo.object; rise = planned_ordered ordered told c.plan c.planned; one = one } in
+    gives_all told.object ahead c.plan.paths ground all.starts c.plan.drivers c.talks c.outcomes new.history (side_of told ahead asked old new c u) written

@@ -1,5 +1,5 @@
 -- What a checkout that is done leaves, path by path.
-use Rattle.std.proofs.Common.{◌≡◌, ◌<◌, ℕ, suc, Bool, true, false, ◌||◌, if◌then◌else◌, List, [], ◌∷◌, length, map, Option, Some, None, refl, sym, ap, ◌∙◌, subst, arith}
+use Rattle.std.proofs.Common.{◌≡◌, ◌<◌, inl, ℕ, suc, Bool, true, false, ◌||◌, if◌then◌else◌, List, [], ◌∷◌, length, map, Option, Some, None, refl, sym, ap, ◌∙◌, subst, arith}
 use Rattle.std.specs.List.{AllByRecursion, filter_map, list_any}
 use Rattle.edge_kit.specs.Seen.{RepoSeen, TreeSeen}
 use Rattle.edge_kit.specs.Starters.{Starts}
@@ -18,6 +18,7 @@ use Rattle.tree_encoding.specs.declared.prepared.Prepared.{Prepared}
 use Rattle.checkout_plan.specs.declared.path_plan.PathPlan.{PathPlan}
 use Rattle.checkout_plan.specs.declared.path_plan.Plan.{Plan}
 use Rattle.checkout_plan.specs.Paths.{HasCause, ClosedPathsHaveCauses}
+use Rattle.checkout_engine.specs.Alike.{ActorsAreNumbered}
 use Rattle.checkout_engine.specs.Ending.{IsDone}
 use Rattle.checkout_engine.specs.Ends.{Seen, verdicts_of, files_of}
 use Rattle.checkout_engine.specs.Headline.{EndsInPool, EndsAtDesk, EndsWith, AllEnd, IsHeadline}
@@ -26,6 +27,10 @@ use Rattle.checkout_engine.specs.Output.{with_text}
 use Rattle.checkout_engine.specs.Report.{is_no_memory, lacks_memory, status_of, number_of, report}
 use Rattle.writer_pool.specs.Ends.{IsRun}
 use Rattle.checkout_engine.specs.Workers.{starts_of, worker_count}
+use Rattle.checkout_engine.proofs.Actors.{HandsAreTold, actors_below}
+use Rattle.checkout_engine.proofs.Drivers.{planned_drivers}
+use Rattle.checkout_engine.proofs.PathsEnd.{KeepsSize}
+use Rattle.checkout_engine.proofs.Seeds.{below}
 use Rattle.checkout_engine.specs.Talks.{DriverTalk, AreDriverTalks}
 
 -- what may remain of a leaf that was given up
@@ -38,13 +43,13 @@ part_left path content (Sealed mark) file part = absurd part
 part_left path content Broken file part = absurd part
 
 -- the same of a leaf that a desk gave up
-file_left : (path : List ℕ) (state : LeafState) (file : Option TreeFile) → LeavesFile path state file → MayLeaveFile path file
-file_left path Fresh file left = subst (λ (x : Option TreeFile). MayLeaveFile path x) (sym left) tt
-file_left path Gone file left = subst (λ (x : Option TreeFile). MayLeaveFile path x) (sym left) tt
-file_left path Stuck file left = left
-file_left path Partly file left = absurd left
-file_left path (Sealed mark) file left = absurd left
-file_left path Broken file left = absurd left
+file_left : (put : List ℕ → Type 0) (path : List ℕ) (state : LeafState) (file : Option TreeFile) → put [] → LeavesFile put path state file → MayLeaveFile put path file
+file_left put path Fresh file none left = subst (λ (x : Option TreeFile). MayLeaveFile put path x) (sym left) ([], none, tt)
+file_left put path Gone file none left = subst (λ (x : Option TreeFile). MayLeaveFile put path x) (sym left) ([], none, tt)
+file_left put path Stuck file none left = left
+file_left put path Partly file none left = absurd left
+file_left put path (Sealed mark) file none left = absurd left
+file_left put path Broken file none left = absurd left
 
 -- a path of the pool, if memory was left
 pool_ends : (told : Told) (p : PathPlan) (o : Outcome) (v : Verdict) → HasVerdict told p o v → is_no_memory v ≡ false → EndsInPool told p v o.file
@@ -83,7 +88,7 @@ desk_ends required d t n told p o (verdict.Unfiltered why unencoded) (free, hear
 )
 desk_ends required d t n told p o (verdict.Failed (fail.Filter why)) has left = (has.0, has.1, has.3)
 desk_ends required d t n told p o (verdict.Failed fail.Missing) has left = (has.0, has.2)
-desk_ends required d t n told p o (verdict.Failed fail.WriteFailed) (heard, state, count, failed, begun, counts, part) left = file_left p.path state o.file part
+desk_ends required d t n told p o (verdict.Failed fail.WriteFailed) (heard, state, count, failed, begun, counts, part) left = file_left _ p.path state o.file (inl refl) part
 desk_ends required d t n told p o (verdict.Failed fail.ReadFailed) has left = (has.0, has.2)
 desk_ends required d t n told p o (verdict.Failed (fail.Object kind)) has left = (has.0, has.2)
 desk_ends required d t n told p o verdict.NoMemory has left = absurd cc
@@ -139,10 +144,16 @@ number_is vs n left is = elim (list_any is_failed vs) as (λ failed. list_any is
   | false ↦ λ f. rw (left, f) at is
 ] refl
 
-pub headline : ClosedPathsHaveCauses → (told : RepoTold) (ahead : List ℕ → Starts) (asked : Option ℕ) (old new : Seen) (n : ℕ) → n < 2 → IsDone told ahead asked old new n → IsHeadline told ahead asked old new n
-headline law told ahead asked old new n less (c, reported) =
+-- the actors of a run
+pub actors_of : KeepsSize → HandsAreTold → ActorsAreNumbered
+actors_of sizes hands told ahead asked old new c =
+    let known = planned_drivers told c.plan c.planned in
+    actors_below (starts_of c.plan.paths) (worker_count asked c.planned.settings c.plan.paths) (length c.plan.drivers) (below c.plan.drivers c.plan.paths known.of_paths) sizes hands new.history c.run.core c.run.legal
+
+pub headline : KeepsSize → HandsAreTold → ClosedPathsHaveCauses → (told : RepoTold) (ahead : List ℕ → Starts) (asked : Option ℕ) (old new : Seen) (n : ℕ) → n < 2 → IsDone told ahead asked old new n → IsHeadline told ahead asked old new n
+headline sizes hands law told ahead asked old new n less (c, reported) =
     let causes : AllByRecursion (λ p. HasCause p.start) c.plan.paths = subst (λ (plan : Plan). AllByRecursion (λ p. HasCause p.start) plan.paths) (sym c.planned.made.is)
-    (law c.planned.entries c.planned.settings c.planned.info c.planned.made.contents) in
+    (law c.planned.entries c.planned.settings c.planned.outer c.planned.made.contents) in
     let left = memory_left (verdicts_of c.outcomes) n less reported.status in
     record {
       plan = c.plan;
@@ -159,4 +170,5 @@ headline law told ahead asked old new n less (c, reported) =
       leaves = ap (λ (t : TreeSeen). t.out) c.leaves;
       starters = c.starters;
       run = subst (λ (vs : List Verdict). IsRun (starts_of c.plan.paths) (worker_count asked c.planned.settings c.plan.paths) (length c.plan.drivers) new.history vs) (sym (same_verdicts c.outcomes)) c.run;
+      actors = actors_of sizes hands told ahead asked old new c;
     }

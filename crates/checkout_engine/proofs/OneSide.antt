@@ -35,24 +35,32 @@ use Rattle.checkout_engine.proofs.Order.{precedes}
 use Rattle.checkout_engine.proofs.Places.{get_map}
 use Rattle.checkout_engine.proofs.Rising.{apart}
 use Rattle.checkout_engine.proofs.ToldObjects.{found_of, gives_found}
-use Rattle.checkout_engine.proofs.PathsAlike.{PathEnd, end_at, desk_end, has_read, desk_is, read_is, not_wanting, heard_if_asked}
+use Rattle.checkout_engine.proofs.PathsAlike.{end_at, desk_end, has_read, desk_is, read_by, not_wanting, heard_if_asked}
 
 -- what both checkouts stand on
-pub record Ground (object : List ℕ → Told) (ahead : List ℕ → Starts) (ps : List PathPlan) : Type 0 where
+pub record Ground (object : List ℕ → Told) (ps : List PathPlan) : Type 0 where
   pub told : (name : List ℕ) → IsTold (object name)
-  pub starts : (command : List ℕ) → (starts : List StartTold) × (ahead command ≡ Some starts)
   pub rise : pairwise precedes ps ≡ true
   pub one : OneContent
 
 -- what each of them has by itself
-pub record IsSide (object : List ℕ → Told) (ahead : List ℕ → Starts) (ps : List PathPlan) (drivers : List Driver) (talks : List DriverTalk) (outcomes : List Outcome) (history : List Event) : Type 0 where
+pub record HasEnds (object : List ℕ → Told) (ahead : List ℕ → Starts) (ps : List PathPlan) (drivers : List Driver) (talks : List DriverTalk) (outcomes : List Outcome) (history : List Event) : Type 0 where
   pub fit : AreOutcomes object talks 0 ps outcomes
   pub conversations : AreDriverTalks ahead object ps (verdicts_of outcomes) history 0 drivers talks
   pub memory : lacks_memory (verdicts_of outcomes) ≡ false
+
+-- the same of one in which no leaf and no link failed
+pub record IsSide (object : List ℕ → Told) (ahead : List ℕ → Starts) (ps : List PathPlan) (drivers : List Driver) (talks : List DriverTalk) (outcomes : List Outcome) (history : List Event) : Type 0 where
+  pub ends : HasEnds object ahead ps drivers talks outcomes history
   pub leaves : failed_leaves (leaves_back ps outcomes) ≡ 0
   pub links : AllByRecursion (λ t. NoneFailed t.had) talks
 
--- an outcome of the path n whose leaf didn't fail, and for which there was memory
+-- an outcome of the path n for which there was memory
+pub record EndsAt (object : List ℕ → Told) (talks : List DriverTalk) (n : ℕ) (p : PathPlan) (o : Outcome) : Type 0 where
+  pub has : HasOutcome object talks p.start n p o
+  pub memory : is_no_memory o.verdict ≡ false
+
+-- and whose leaf didn't fail
 pub record FineAt (object : List ℕ → Told) (talks : List DriverTalk) (n : ℕ) (p : PathPlan) (o : Outcome) : Type 0 where
   pub has : HasOutcome object talks p.start n p o
   pub memory : is_no_memory o.verdict ≡ false
@@ -72,19 +80,25 @@ first_fine object talks n p ps o os fit memory none =
     let there : failed_leaves (leaves_back ps os) ≡ 0 = omega (arith, both) in
     (record { has = fit.0; memory = left.0; leaf = here }, left.1, there)
 
+pub first_ends : (object : List ℕ → Told) (talks : List DriverTalk) (n : ℕ) (p : PathPlan) (ps : List PathPlan) (o : Outcome) (os : List Outcome) → AreOutcomes object talks n (p ∷ ps) (o ∷ os) → lacks_memory (verdicts_of (o ∷ os)) ≡ false
+    → EndsAt object talks n p o × (lacks_memory (verdicts_of os) ≡ false)
+first_ends object talks n p ps o os fit memory =
+    let left = both_false (is_no_memory o.verdict) (lacks_memory (verdicts_of os)) memory in
+    (record { has = fit.0; memory = left.0 }, left.1)
+
 pub outcome_from : (object : List ℕ → Told) (talks : List DriverTalk) (n : ℕ) (ps : List PathPlan) (os : List Outcome) → AreOutcomes object talks n ps os → lacks_memory (verdicts_of os) ≡ false
-    → failed_leaves (leaves_back ps os) ≡ 0 → (k : ℕ) (p : PathPlan) → slice_get ps k ≡ Some p → (o : Outcome) × (slice_get os k ≡ Some o) × FineAt object talks (n + k) p o
-outcome_from object talks n [] os fit memory none k p at = absurd cc
-outcome_from object talks n (q ∷ ps) [] fit memory none k p at = absurd fit
-outcome_from object talks n (q ∷ ps) (o ∷ os) fit memory none zero p at =
+    → (k : ℕ) (p : PathPlan) → slice_get ps k ≡ Some p → (o : Outcome) × (slice_get os k ≡ Some o) × EndsAt object talks (n + k) p o
+outcome_from object talks n [] os fit memory k p at = absurd cc
+outcome_from object talks n (q ∷ ps) [] fit memory k p at = absurd fit
+outcome_from object talks n (q ∷ ps) (o ∷ os) fit memory zero p at =
     let here : ◌≡◌ {A = ℕ} n (n + zero) = omega arith in
-    let fine : FineAt object talks n q o = (first_fine object talks n q ps o os fit memory none).0 in
-    (o, refl, subst (λ (m : ℕ). FineAt object talks m p o) here (subst (λ (r : PathPlan). FineAt object talks n r o) (same_Some q p at) fine))
-outcome_from object talks n (q ∷ ps) (o ∷ os) fit memory none (suc k) p at =
-    let first = first_fine object talks n q ps o os fit memory none in
-    let more = outcome_from object talks (suc n) ps os fit.1 first.1 first.2 k p at in
+    let first : EndsAt object talks n q o = (first_ends object talks n q ps o os fit memory).0 in
+    (o, refl, subst (λ (m : ℕ). EndsAt object talks m p o) here (subst (λ (r : PathPlan). EndsAt object talks n r o) (same_Some q p at) first))
+outcome_from object talks n (q ∷ ps) (o ∷ os) fit memory (suc k) p at =
+    let first = first_ends object talks n q ps o os fit memory in
+    let more = outcome_from object talks (suc n) ps os fit.1 first.1 k p at in
     let same : ◌≡◌ {A = ℕ} (suc n + k) (n + suc k) = omega arith in
-    (more.0, more.1, subst (λ (m : ℕ). FineAt object talks m p more.0) same more.2)
+    (more.0, more.1, subst (λ (m : ℕ). EndsAt object talks m p more.0) same more.2)
 
 pub talk_from : (ahead : List ℕ → Starts) (object : List ℕ → Told) (ps : List PathPlan) (vs : List Verdict) (history : List Event) (m : ℕ) (xs : List Driver) (ts : List DriverTalk) → AreDriverTalks ahead object ps vs history m xs ts
     → (d : ℕ) (t : DriverTalk) → slice_get ts d ≡ Some t → (x : Driver) × (slice_get xs d ≡ Some x) × IsDriverTalk ahead object ps vs history (m + d) x t
@@ -139,13 +153,13 @@ answers_given (e ∷ es) n answer has = elim (answer_given e n answer es has) [
   | inr more ↦ inr (answers_given es n answer more)
 ]
 
-module _ (object : List ℕ → Told) (ahead : List ℕ → Starts) (ps : List PathPlan) (g : Ground object ahead ps) (drivers : List Driver) (talks : List DriverTalk) (outcomes : List Outcome) (history : List Event)
-    (s : IsSide object ahead ps drivers talks outcomes history) where
-  pub outcome_at : (n : ℕ) (p : PathPlan) → slice_get ps n ≡ Some p → (o : Outcome) × (slice_get outcomes n ≡ Some o) × FineAt object talks n p o
+module _ (object : List ℕ → Told) (ahead : List ℕ → Starts) (ps : List PathPlan) (g : Ground object ps) (drivers : List Driver) (talks : List DriverTalk) (outcomes : List Outcome) (history : List Event)
+    (s : HasEnds object ahead ps drivers talks outcomes history) where
+  pub outcome_at : (n : ℕ) (p : PathPlan) → slice_get ps n ≡ Some p → (o : Outcome) × (slice_get outcomes n ≡ Some o) × EndsAt object talks n p o
   outcome_at n p at =
-      let o = outcome_from object talks 0 ps outcomes s.fit s.memory s.leaves n p at in
+      let o = outcome_from object talks 0 ps outcomes s.fit s.memory n p at in
       let same : ◌≡◌ {A = ℕ} (0 + n) n = omega arith in
-      (o.0, o.1, subst (λ (m : ℕ). FineAt object talks m p o.0) same o.2)
+      (o.0, o.1, subst (λ (m : ℕ). EndsAt object talks m p o.0) same o.2)
 
   pub talk_at : (d : ℕ) (t : DriverTalk) → slice_get talks d ≡ Some t → (x : Driver) × (slice_get drivers d ≡ Some x) × IsDriverTalk ahead object ps (verdicts_of outcomes) history d x t
   talk_at d t at =
@@ -161,15 +175,15 @@ module _ (object : List ℕ → Told) (ahead : List ℕ → Starts) (ps : List P
     said = (talk_at d t there).2
 
     pub given : (n : ℕ) (answer : List ℕ) → Gave t n answer → content_of n t.exchanges ≡ Some answer
-    given n answer gave = g.one d t.paths t.asked t.had t.exchanges (apart t.asked said.over.rises) said.talk.talk n answer (answers_given t.exchanges n answer gave)
+    given n answer gave = g.one d t.paths t.asked said.talk.full t.exchanges (apart t.asked said.over.rises) said.talk.talk n answer (answers_given t.exchanges n answer gave)
 
     -- a path that is asked for has an object that is right
     pub read_in : (n : ℕ) (p : PathPlan) → slice_get ps n ≡ Some p → contains n t.asked ≡ true → (content : List ℕ) × (found_of (object p.object) p.object ≡ Ok content)
     read_in n p at is =
         let e = said.over.each n is in
         let same : e.0 ≡ p = same_Some e.0 p (sym e.1 ∙ at) in
-        let content : List ℕ = e.5.content in
-        (content, subst (λ (q : PathPlan). found_of (object q.object) q.object ≡ Ok content) same (gives_found (object (e.0).object) (e.0).object (Ok content) (g.told (e.0).object) e.5.object))
+        let content : List ℕ = e.6.content in
+        (content, subst (λ (q : PathPlan). found_of (object q.object) q.object ≡ Ok content) same (gives_found (object (e.0).object) (e.0).object (Ok content) (g.told (e.0).object) e.6.object))
 
     -- how a path of the driver ends
     pub desk_end_is : (n : ℕ) (p : PathPlan) (o : Outcome) (required : Bool) → slice_get ps n ≡ Some p → HasDeskVerdict required d t n (object p.object) p o o.verdict → is_no_memory o.verdict ≡ false → failed_leaves (leaf_back p o.leaf) ≡ 0
@@ -178,13 +192,13 @@ module _ (object : List ℕ → Told) (ahead : List ℕ → Starts) (ps : List P
 
     -- the outcome of a path of the driver
     at_desk : (n : ℕ) (p : PathPlan) → slice_get ps n ≡ Some p → is_at d p.start ≡ true
-        → (o : Outcome) × (slice_get outcomes n ≡ Some o) × (required : Bool) × HasDeskVerdict required d t n (object p.object) p o o.verdict × (is_no_memory o.verdict ≡ false) × (failed_leaves (leaf_back p o.leaf) ≡ 0)
+        → (o : Outcome) × (slice_get outcomes n ≡ Some o) × (required : Bool) × HasDeskVerdict required d t n (object p.object) p o o.verdict × (is_no_memory o.verdict ≡ false)
     at_desk n p at is =
         let o = outcome_at n p at in
         let desk = desk_of d p.start is in
         let has : HasOutcome object talks (start.Desk d desk.0) n p o.0 = subst (λ (x : Start). HasOutcome object talks x n p o.0) desk.1 o.2.has in
         let same : has.1 ≡ t = same_Some has.1 t (sym has.2 ∙ there) in
-        (o.0, o.1, desk.0, subst (λ (u : DriverTalk). HasDeskVerdict desk.0 d u n (object p.object) p o.0 (o.0).verdict) same has.3, o.2.memory, o.2.leaf)
+        (o.0, o.1, desk.0, subst (λ (u : DriverTalk). HasDeskVerdict desk.0 d u n (object p.object) p o.0 (o.0).verdict) same has.3, o.2.memory)
 
     -- the talk asks for the verdict's path if its object was read
     verdict_asked : (n : ℕ) (p : PathPlan) (o : Outcome) → slice_get ps n ≡ Some p → is_at d p.start ≡ true → slice_get outcomes n ≡ Some o → is_no_memory o.verdict ≡ false → contains n t.asked ≡ was_read o.verdict
@@ -194,21 +208,22 @@ module _ (object : List ℕ → Told) (ahead : List ℕ → Starts) (ps : List P
     pub asked_is : (n : ℕ) (p : PathPlan) → slice_get ps n ≡ Some p → is_at d p.start ≡ true → contains n t.asked ≡ has_read (found_of (object p.object) p.object)
     asked_is n p at is =
         let o = at_desk n p at is in
-        verdict_asked n p o.0 at is o.1 o.4 ∙ ap (λ (e : PathEnd). was_read e.verdict) (desk_end_is n p o.0 o.2 at o.3 o.4 o.5)
-        ∙ read_is (found_of (object p.object) p.object) (heard_at d t n) o.2 (content_of n t.exchanges) p
+        verdict_asked n p o.0 at is o.1 o.4 ∙ read_by o.2 d t n (object p.object) p o.0 (g.told p.object) (read_in n p at) (o.0).verdict o.3 o.4
 
-    memory_is : (n : ℕ) → contains n t.asked ≡ true → fate_in d n t.exchanges ≡ Known heard.OutOfMemory → ⊥
+    pub memory_is : (n : ℕ) → contains n t.asked ≡ true → fate_in d n t.exchanges ≡ Known heard.OutOfMemory → ⊥
     memory_is n is wants =
         let e = said.over.each n is in
         let o = at_desk n e.0 e.1 e.2 in
         let read : was_read (o.0).verdict ≡ true = sym (verdict_asked n e.0 o.0 e.1 e.2 o.1 o.4) ∙ is in
-        not_wanting o.2 d t n (object (e.0).object) e.0 o.0 (o.0).verdict o.3 o.4 read o.5 (heard_if_asked d t n is ∙ ap heard_by wants)
+        not_wanting o.2 d t n (object (e.0).object) e.0 o.0 (o.0).verdict o.3 o.4 read (heard_if_asked d t n is ∙ ap heard_by wants)
 
-    pub told_talk : (starts : List StartTold) → ahead t.command ≡ Some starts → IsToldTalk d t.paths t.asked starts t.had t.exchanges
-    told_talk starts is = record {
+    pub told_talk : (starts : List StartTold) → ahead t.command ≡ Some starts → NoneFailed t.had → IsToldTalk d t.paths t.asked starts t.had t.exchanges
+    told_talk starts is fine = record {
+      full = said.talk.full;
+      fills = said.talk.fills;
       talk = said.talk.talk;
       left = said.talk.left;
-      goes = subst (λ (told : Starts). GoBy told t.had said.talk.left) is said.talk.starts;
-      fine = holds_at (λ (u : DriverTalk). NoneFailed u.had) talks d t s.links there;
+      goes = subst (λ (told : Starts). GoBy told said.talk.full said.talk.left) is said.talk.starts;
+      fine = fine;
       memory = memory_is;
     }

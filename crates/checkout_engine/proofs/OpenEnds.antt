@@ -164,28 +164,27 @@ module _ {B L : Type 0} (see : Sight B L) (objects : List ℕ → Told) (talks :
       })
       (λ (stayed : EndsAtDesk (starts_of paths) history c.place n c.actor c.own (card_for objects n p (see.leaf (c.card).leaf)) (see.blob b) (see.leaf l)).
       let here = desk_served (starts_of paths) history c.place n c.actor c.own (card_for objects n p (see.leaf (c.card).leaf)) (see.blob b) (see.leaf l) d required begins stayed in
+      let holds = talk.answers n (see.leaf l) (record {
+        place = c.place;
+        actor = c.actor;
+        own = c.own;
+        required = required;
+        leaf = l;
+        entry = c.entry;
+        desk = here.0;
+        there = there;
+        is = refl;
+      }) in
       ⊎_elim
       (λ unread. record {
         verdict = desk_verdict required (fate_of n Untold (notes (starts_of paths) d history)) c.own;
-        end = unread_ends objects talks n p d required t (see.leaf (c.card).leaf) (see.blob b) (see.leaf l) old new w (fate_of n Untold (notes (starts_of paths) d history)) c.own unread;
+        end = unread_ends objects talks n p d required t (see.leaf (c.card).leaf) (see.blob b) (see.leaf l) old new w (fate_of n Untold (notes (starts_of paths) d history)) c.own holds unread;
         told = told;
       })
       (λ served. record {
         verdict = desk_verdict required (Known served.0) c.own;
         end = read_ends objects talks n p d required t (see.leaf (c.card).leaf) (see.blob b) (see.leaf l) old new w served.0 c.own (sym noted ∙ served.1) asked
-            (λ m sealed. talk.answers n (see.leaf l).content (record {
-              place = c.place;
-              actor = c.actor;
-              own = c.own;
-              required = required;
-              leaf = l;
-              mark = m;
-              entry = c.entry;
-              desk = here.0;
-              there = there;
-              sealed = sealed;
-              content = refl;
-            })) served.2;
+            holds served.2;
         told = told ∙ ap (λ (f : Fate). Some (desk_verdict required f c.own)) served.1;
       })
       here.1)

@@ -21,7 +21,7 @@ use Rattle.checkout_plan.specs.declared.path_plan.PathPlan.{PathPlan}
 use Rattle.std.specs.Str.{is_utf8}
 use Rattle.git_index.specs.declared.entry.Mode.{Mode}
 use Rattle.git_index.specs.declared.entry.Mode.TheVariants as mode
-use Rattle.attr_line.specs.declared.file.AttrFile.{AttrFile}
+use Rattle.attr_stack.specs.declared.files.OuterFiles.{OuterFiles}
 use Rattle.attr_stack.specs.declared.files.AttrFiles.{AttrFiles}
 use Rattle.settings_view.specs.declared.view.Settings.{Settings}
 use Rattle.tree_encoding.specs.declared.encoding.UnknownEncoding.{UnknownEncoding}
@@ -32,6 +32,7 @@ use Rattle.checkout_core.specs.declared.verdict.SkipCause.TheVariants as skip
 use Rattle.checkout_plan.specs.AttributeFiles.{attribute_files}
 use Rattle.checkout_plan.specs.Paths.{no_conversion, path_with, closed, converted, file_path, text_path, link_path, path_of_mode, asked_path, first_entries_after, first_entries, asked_paths, path_among, plan_of}
 use Rattle.convert_plan.specs.Prepared.{prepared}
+use Rattle.checkout_engine.proofs.LeftOut.{left_out_by}
 use Rattle.checkout_engine.specs.Ends.{files_of}
 use Rattle.checkout_engine.specs.Outcome.{Outcome, MayLeavePart, LeavesPart, LeavesFile, HasVerdict, HasDeskVerdict, HasOutcome, AreOutcomes}
 use Rattle.checkout_engine.specs.Talks.{DriverTalk}
@@ -108,9 +109,9 @@ link_path-path e = elim (is_utf8 e.path) as (λ t. (if t then path_with e no_con
 ]
 
 path_of_mode-path : (m : Mode) (files : AttrFiles) (settings : Settings) (e : Entry) → (path_of_mode m files settings e).path ≡ e.path
-path_of_mode-path mode.Plain files settings e = text_path-path files settings e
-path_of_mode-path mode.Executable files settings e = text_path-path files settings e
-path_of_mode-path mode.Link files settings e = link_path-path e
+path_of_mode-path mode.Plain files settings e = left_out_by (λ p. p.path ≡ e.path) e (text_path files settings e) (λ v. refl) (text_path-path files settings e)
+path_of_mode-path mode.Executable files settings e = left_out_by (λ p. p.path ≡ e.path) e (text_path files settings e) (λ v. refl) (text_path-path files settings e)
+path_of_mode-path mode.Link files settings e = left_out_by (λ p. p.path ≡ e.path) e (link_path e) (λ v. refl) (link_path-path e)
 path_of_mode-path mode.Gitlink files settings e = refl
 
 asked_path-path : (files : AttrFiles) (settings : Settings) (e : Entry) → (asked_path files settings e).path ≡ e.path
@@ -137,9 +138,9 @@ map-map f g [] = refl
 map-map f g (e ∷ es) = ap (λ (ps : List PathPlan). f (g e) ∷ ps) (map-map f g es)
 
 -- the paths of a plan rise
-pub plan_rises : PathsAreOrdered → (es : List Entry) (settings : Settings) (info : AttrFile) (contents : List (List ℕ)) → pairwise is_below es ≡ true → pairwise precedes (plan_of es settings info contents).paths ≡ true
-plan_rises law es settings info contents rise =
-    let files = attribute_files info es contents in
+pub plan_rises : PathsAreOrdered → (es : List Entry) (settings : Settings) (outer : OuterFiles) (contents : List (List ℕ)) → pairwise is_below es ≡ true → pairwise precedes (plan_of es settings outer contents).paths ≡ true
+plan_rises law es settings outer contents rise =
+    let files = attribute_files outer es contents in
     let asked = asked_paths files settings es in
     let made : Entry → PathPlan = λ e. path_among asked (asked_path files settings e) in
     unfold plan_of in
@@ -220,20 +221,20 @@ no_file_at : (p : PathPlan) (file : Option TreeFile) → file ≡ None → IsAt 
 no_file_at p file none = subst (λ (x : Option TreeFile). IsAt p.path x) (sym none) tt
 
 -- the same of a leaf that a desk gave up
-left_at : (p : PathPlan) (state : LeafState) (file : Option TreeFile) → LeavesFile p.path state file → IsAt p.path file
-left_at p Fresh file left = no_file_at p file left
-left_at p Gone file left = no_file_at p file left
-left_at p Stuck None left = tt
-left_at p Stuck (Some f) left = left
-left_at p Partly file left = absurd left
-left_at p (Sealed mark) file left = absurd left
-left_at p Broken file left = absurd left
+left_at : (put : List ℕ → Type 0) (p : PathPlan) (state : LeafState) (file : Option TreeFile) → LeavesFile put p.path state file → IsAt p.path file
+left_at put p Fresh file left = no_file_at p file left
+left_at put p Gone file left = no_file_at p file left
+left_at put p Stuck None left = tt
+left_at put p Stuck (Some f) left = left.2.0
+left_at put p Partly file left = absurd left
+left_at put p (Sealed mark) file left = absurd left
+left_at put p Broken file left = absurd left
 
 desk_file : (required : Bool) (d : ℕ) (t : DriverTalk) (n : ℕ) (told : Told) (p : PathPlan) (o : Outcome) (v : Verdict) → HasDeskVerdict required d t n told p o v → IsAt p.path o.file
-desk_file required d t n told p o verdict.NoMemory (state, count, counts, left) = left_at p state o.file left
+desk_file required d t n told p o verdict.NoMemory (state, count, failed, counts, left) = left_at _ p state o.file left
 desk_file required d t n told p o (verdict.Failed fail.ReadFailed) has = no_file_at p o.file has.2
 desk_file required d t n told p o (verdict.Failed (fail.Object k)) has = no_file_at p o.file has.2
-desk_file required d t n told p o (verdict.Failed fail.WriteFailed) (heard, state, count, failed, begun, counts, left) = left_at p state o.file left
+desk_file required d t n told p o (verdict.Failed fail.WriteFailed) (heard, state, count, failed, begun, counts, left) = left_at _ p state o.file left
 desk_file required d t n told p o (verdict.Failed fail.Missing) has = no_file_at p o.file has.2
 desk_file required d t n told p o (verdict.Failed (fail.Filter cause)) has = no_file_at p o.file has.3
 desk_file required d t n told p o (verdict.Unfiltered cause unencoded) (free, heard, counts, ready, prepared, flag, file) = subst (λ (x : Option TreeFile). IsAt p.path x) (sym file) refl

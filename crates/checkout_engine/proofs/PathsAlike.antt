@@ -1,5 +1,6 @@
 -- What is told of a path's object, and what its driver is heard to say of it, settle its verdict and its file.
 use Rattle.std.proofs.Common.{◌≡◌, ℕ, ◌<◌, Bool, true, false, cond, List, Option, Some, None, Result, Ok, Err, refl, sym, ap, ◌∙◌, subst, arith}
+use Rattle.std.proofs.lemmas.Option.{same_Some}
 use Rattle.edge_kit.specs.Told.{Told}
 use Rattle.edge_kit.specs.declared.leaf_state.LeafState.{LeafState}
 use Rattle.edge_kit.specs.declared.tree_file.TreeFile.{TreeFile}
@@ -167,43 +168,42 @@ module _ (required : Bool) (d : ℕ) (t : DriverTalk) (n : ℕ) (told : Told) (p
 
 -- where memory was left, no path that was asked for heard that there was none
 pub not_wanting : (required : Bool) (d : ℕ) (t : DriverTalk) (n : ℕ) (told : Told) (p : PathPlan) (o : Outcome) (v : Verdict) → HasDeskVerdict required d t n told p o v → is_no_memory v ≡ false → was_read v ≡ true
-    → failed_leaves (leaf_back p o.leaf) ≡ 0 → heard_at d t n ≡ Some heard.OutOfMemory → ⊥
-not_wanting required d t n told p o (verdict.Written u) has memory read none wants = let no : Some heard.Got ≡ Some heard.OutOfMemory = sym has.0 ∙ wants in absurd cc
-not_wanting required d t n told p o (verdict.Unfiltered why u) has memory read none wants = let no : Some (heard.Refused why) ≡ Some heard.OutOfMemory = sym has.1 ∙ wants in absurd cc
-not_wanting required d t n told p o (verdict.Failed (fail.Filter why)) has memory read none wants = let no : Some (heard.Refused why) ≡ Some heard.OutOfMemory = sym has.1 ∙ wants in absurd cc
-not_wanting required d t n told p o (verdict.Failed fail.Missing) has memory read none wants = let no : Some heard.Lost ≡ Some heard.OutOfMemory = sym has.0 ∙ wants in absurd cc
-not_wanting required d t n told p o (verdict.Failed fail.WriteFailed) (told_of, state, count, failed, fresh, counts, part) memory read none wants = leaf_failed p o state count failed counts.1 none
-not_wanting required d t n told p o (verdict.Failed fail.ReadFailed) has memory read none wants = absurd cc
-not_wanting required d t n told p o (verdict.Failed (fail.Object k)) has memory read none wants = absurd cc
-not_wanting required d t n told p o verdict.NoMemory has memory read none wants = absurd cc
-not_wanting required d t n told p o (verdict.Skipped cause) has memory read none wants = has
-not_wanting required d t n told p o (verdict.Failed fail.NameNotText) has memory read none wants = has
-not_wanting required d t n told p o (verdict.Failed fail.NoProcess) has memory read none wants = has
-not_wanting required d t n told p o (verdict.Failed fail.UnknownEncoding) has memory read none wants = has
-
-failed_unread : (k : Option ObjectKind) → was_read (failed_end k).verdict ≡ false
-failed_unread (Some k) = refl
-failed_unread None = refl
-
-refused_read : (b : Bool) (why : FilterCause) (p : PathPlan) (ready : Prepared) → was_read (refused_end b why p ready).verdict ≡ true
-refused_read true why p ready = refl
-refused_read false why p ready = refl
-
-got_read : (answer : Option (List ℕ)) (p : PathPlan) (ready : Prepared) → was_read (got_end answer p ready).verdict ≡ true
-got_read (Some answer) p ready = refl
-got_read None p ready = refl
-
-heard_read : (h : Option Heard) (required : Bool) (answer : Option (List ℕ)) (p : PathPlan) (ready : Prepared) → was_read (heard_end h required answer p ready).verdict ≡ true
-heard_read (Some heard.Got) required answer p ready = got_read answer p ready
-heard_read (Some (heard.Refused why)) required answer p ready = refused_read required why p ready
-heard_read (Some heard.Lost) required answer p ready = refl
-heard_read (Some heard.OutOfMemory) required answer p ready = refl
-heard_read None required answer p ready = refl
+    → heard_at d t n ≡ Some heard.OutOfMemory → ⊥
+not_wanting required d t n told p o (verdict.Written u) has memory read wants = let no : Some heard.Got ≡ Some heard.OutOfMemory = sym has.0 ∙ wants in absurd cc
+not_wanting required d t n told p o (verdict.Unfiltered why u) has memory read wants = let no : Some (heard.Refused why) ≡ Some heard.OutOfMemory = sym has.1 ∙ wants in absurd cc
+not_wanting required d t n told p o (verdict.Failed (fail.Filter why)) has memory read wants = let no : Some (heard.Refused why) ≡ Some heard.OutOfMemory = sym has.1 ∙ wants in absurd cc
+not_wanting required d t n told p o (verdict.Failed fail.Missing) has memory read wants = let no : Some heard.Lost ≡ Some heard.OutOfMemory = sym has.0 ∙ wants in absurd cc
+not_wanting required d t n told p o (verdict.Failed fail.WriteFailed) has memory read wants = has.0.2 (same_Some has.0.0 heard.OutOfMemory (sym has.0.1 ∙ wants))
+not_wanting required d t n told p o (verdict.Failed fail.ReadFailed) has memory read wants = absurd cc
+not_wanting required d t n told p o (verdict.Failed (fail.Object k)) has memory read wants = absurd cc
+not_wanting required d t n told p o verdict.NoMemory has memory read wants = absurd cc
+not_wanting required d t n told p o (verdict.Skipped cause) has memory read wants = has
+not_wanting required d t n told p o (verdict.Failed fail.NameNotText) has memory read wants = has
+not_wanting required d t n told p o (verdict.Failed fail.NoProcess) has memory read wants = has
+not_wanting required d t n told p o (verdict.Failed fail.UnknownEncoding) has memory read wants = has
 
 -- the verdict of a driver's path tells whether its object was read
-pub read_is : (r : Result (List ℕ) ObjectFault) (h : Option Heard) (required : Bool) (answer : Option (List ℕ)) (p : PathPlan) → was_read (desk_end r h required answer p).verdict ≡ has_read r
-read_is (Ok content) h required answer p = heard_read h required answer p (prepared p.conversion p.object content)
-read_is (Err f) h required answer p = failed_unread (object_kind f)
+module _ (required : Bool) (d : ℕ) (t : DriverTalk) (n : ℕ) (told : Told) (p : PathPlan) (o : Outcome) (is : IsTold told)
+    (read : contains n t.asked ≡ true → (content : List ℕ) × (found_of told p.object ≡ Ok content)) where
+  read_found : (content : List ℕ) → found_of told p.object ≡ Ok content → true ≡ has_read (found_of told p.object)
+  read_found content e = ap has_read (sym e)
+
+  read_heard : (h : Heard) → heard_at d t n ≡ Some h → true ≡ has_read (found_of told p.object)
+  read_heard h e = let found = read (asked_if_heard d t n h e) in read_found found.0 found.1
+
+  pub read_by : (v : Verdict) → HasDeskVerdict required d t n told p o v → is_no_memory v ≡ false → was_read v ≡ has_read (found_of told p.object)
+  read_by (verdict.Written u) has memory = read_heard heard.Got has.0
+  read_by (verdict.Unfiltered why u) has memory = read_heard (heard.Refused why) has.1
+  read_by (verdict.Failed (fail.Filter why)) has memory = read_heard (heard.Refused why) has.1
+  read_by (verdict.Failed fail.Missing) has memory = read_heard heard.Lost has.0
+  read_by (verdict.Failed fail.WriteFailed) has memory = read_heard has.0.0 has.0.1
+  read_by (verdict.Failed fail.ReadFailed) has memory = ap has_read (sym (fails_found told p.object is has.0))
+  read_by (verdict.Failed (fail.Object k)) has memory = ap has_read (sym (kind_found told p.object k is has.0).1)
+  read_by verdict.NoMemory has memory = no_memory memory
+  read_by (verdict.Skipped cause) has memory = absurd has
+  read_by (verdict.Failed fail.NameNotText) has memory = absurd has
+  read_by (verdict.Failed fail.NoProcess) has memory = absurd has
+  read_by (verdict.Failed fail.UnknownEncoding) has memory = absurd has
 
 -- what is heard of a path counts only if its object is right
 pub same_desk_end : (r : Result (List ℕ) ObjectFault) (h k : Option Heard) (required : Bool) (a b : Option (List ℕ)) (p : PathPlan) → (has_read r ≡ true → (h ≡ k) × (a ≡ b))

@@ -40,7 +40,7 @@ use Rattle.checkout_engine.proofs.Places.{get_map}
 use Rattle.checkout_engine.proofs.PathsAlike.{heard_if_asked, leaf_failed, not_wanting}
 use Rattle.checkout_engine.proofs.Rising.{apart, same_rising}
 use Rattle.checkout_engine.proofs.Seeds.{at_desk, same_place}
-use Rattle.checkout_engine.proofs.OneSide.{IsSide, FineAt, first_fine, outcome_from, talk_from, holds_at}
+use Rattle.checkout_engine.proofs.OneSide.{IsSide, EndsAt, FineAt, first_fine, outcome_from, talk_from, holds_at}
 
 -- a right object gives nothing but its content
 pub gives_right : (told : Told) (name raw content : List ℕ) (answer : Result (List ℕ) ObjectFault) → told ≡ Raw raw → object_of raw name ≡ Ok content → Gives told name answer → answer ≡ Ok content
@@ -131,16 +131,16 @@ content_of_desk d (start.Done v) told p is right = absurd cc
 module _ (object : List ℕ → Told) (ahead : List ℕ → Starts) (ps : List PathPlan) (drivers : List Driver) (talks : List DriverTalk) (outcomes : List Outcome) (history : List Event)
     (s : IsSide object ahead ps drivers talks outcomes history) (right : AllByRecursion (IsRightPath object) ps) (rise : pairwise precedes ps ≡ true) (law : SameHeard)
     (gives : (d : ℕ) (x : Driver) → slice_get drivers d ≡ Some x → GivesAll ahead ps d x) where
-  fine_at : (n : ℕ) (p : PathPlan) → slice_get ps n ≡ Some p → (o : Outcome) × (slice_get outcomes n ≡ Some o) × FineAt object talks n p o
+  fine_at : (n : ℕ) (p : PathPlan) → slice_get ps n ≡ Some p → (o : Outcome) × (slice_get outcomes n ≡ Some o) × EndsAt object talks n p o
   fine_at n p at =
-      let o = outcome_from object talks 0 ps outcomes s.fit s.memory s.leaves n p at in
+      let o = outcome_from object talks 0 ps outcomes s.ends.fit s.ends.memory n p at in
       let same : ◌≡◌ {A = ℕ} (0 + n) n = omega arith in
-      (o.0, o.1, subst (λ (m : ℕ). FineAt object talks m p o.0) same o.2)
+      (o.0, o.1, subst (λ (m : ℕ). EndsAt object talks m p o.0) same o.2)
 
   module _ (d : ℕ) (t : DriverTalk) (there : slice_get talks d ≡ Some t) where
     said : (x : Driver) × (slice_get drivers d ≡ Some x) × IsDriverTalk ahead object ps (verdicts_of outcomes) history d x t
     said =
-        let x = talk_from ahead object ps (verdicts_of outcomes) history 0 drivers talks s.conversations d t there in
+        let x = talk_from ahead object ps (verdicts_of outcomes) history 0 drivers talks s.ends.conversations d t there in
         let same : ◌≡◌ {A = ℕ} (0 + d) d = omega arith in
         (x.0, x.1, subst (λ (k : ℕ). IsDriverTalk ahead object ps (verdicts_of outcomes) history k x.0 t) same x.2)
 
@@ -200,16 +200,18 @@ module _ (object : List ℕ → Told) (ahead : List ℕ → Starts) (ps : List P
         let e = said.2.over.each n is in
         let o = fine_at n e.0 e.1 in
         let own = desk_verdict_at n e.0 o.0 e.2 o.2.has in
-        not_wanting own.0 d t n (object (e.0).object) e.0 o.0 (o.0).verdict own.1 o.2.memory (read_at n e.0 o.0 e.1 e.2 o.2.has) o.2.leaf (heard_if_asked d t n is ∙ ap heard_by wants)
+        not_wanting own.0 d t n (object (e.0).object) e.0 o.0 (o.0).verdict own.1 o.2.memory (read_at n e.0 o.0 e.1 e.2 o.2.has) (heard_if_asked d t n is ∙ ap heard_by wants)
 
     same_starts : ahead t.command ≡ Some best.starts
     same_starts = ap ahead (same_Some t.command best.talk.command (sym said.2.command ∙ best.command)) ∙ best.told
 
     told_talk : IsToldTalk d t.paths t.asked best.starts t.had t.exchanges
     told_talk = record {
+      full = said.2.talk.full;
+      fills = said.2.talk.fills;
       talk = said.2.talk.talk;
       left = said.2.talk.left;
-      goes = subst (λ (told : Starts). GoBy told t.had said.2.talk.left) same_starts said.2.talk.starts;
+      goes = subst (λ (told : Starts). GoBy told said.2.talk.full said.2.talk.left) same_starts said.2.talk.starts;
       fine = holds_at (λ (u : DriverTalk). NoneFailed u.had) talks d t s.links there;
       memory = none_wants;
     }
@@ -256,6 +258,6 @@ none_fails object talks n (p ∷ ps) (o ∷ os) fit memory none each =
 pub paths_fail_not : (object : List ℕ → Told) (ahead : List ℕ → Starts) (ps : List PathPlan) (drivers : List Driver) (talks : List DriverTalk) (outcomes : List Outcome) (history : List Event) → IsSide object ahead ps drivers talks outcomes history
     → AllByRecursion (IsRightPath object) ps → pairwise precedes ps ≡ true → SameHeard → ((d : ℕ) (x : Driver) → slice_get drivers d ≡ Some x → GivesAll ahead ps d x) → list_any is_failed (verdicts_of outcomes) ≡ false
 paths_fail_not object ahead ps drivers talks outcomes history s right rise law gives =
-    none_fails object talks 0 ps outcomes s.fit s.memory s.leaves (λ k p o at fine.
+    none_fails object talks 0 ps outcomes s.ends.fit s.ends.memory s.leaves (λ k p o at fine.
     let same : ◌≡◌ {A = ℕ} (0 + k) k = omega arith in
     path_fails_not object ahead ps drivers talks outcomes history s right rise law gives k p o at (subst (λ (m : ℕ). FineAt object talks m p o) same fine))

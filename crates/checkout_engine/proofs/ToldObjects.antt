@@ -96,10 +96,13 @@ object_is_told true objects name = tt
 object_is_told false objects name = first_is_told objects name
 
 pub memory_told : MemoryTellsAll
-memory_told index config info objects fails scripts = record {
-  index = file_is_told (fails_with fail.Index fails) index;
-  config = file_is_told (fails_with fail.Config fails) config;
-  info = file_is_told (fails_with fail.Info fails) info;
-  object = λ name. object_is_told (fails_with (fail.Object name) fails) objects name;
+memory_told index config info base objects fails scripts = record {
+  repo = record {
+    index = file_is_told (fails_with fail.Index fails) index;
+    config = file_is_told (fails_with fail.Config fails) config;
+    info = file_is_told (fails_with fail.Info fails) info;
+    base = file_is_told (fails_with fail.Base fails) base;
+    object = λ name. object_is_told (fails_with (fail.Object name) fails) objects name;
+  };
   starts = λ command. (map start_told (sessions_for scripts command), refl);
 }

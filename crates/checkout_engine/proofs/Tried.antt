@@ -7,12 +7,11 @@ use Rattle.edge_kit.specs.Told.{RepoTold}
 use Rattle.git_index.specs.Spelling.{PathsAreOrdered}
 use Rattle.writer_pool.specs.Ends.{IsRun}
 use Rattle.settings_view.specs.declared.view.Driver.{Driver}
-use Rattle.checkout_core.specs.declared.event.Event.{Event}
-use Rattle.checkout_core.specs.declared.verdict.Verdict.{Verdict}
 use Rattle.checkout_plan.specs.declared.path_plan.PathPlan.{PathPlan}
 use Rattle.checkout_plan.specs.Making.{blobs_of}
 use Rattle.checkout_engine.specs.declared.planning.Planned.{Planned}
-use Rattle.checkout_engine.specs.Ends.{Seen, seen}
+use Rattle.checkout_engine.specs.declared.rehearsing.TriedRun.{TriedRun}
+use Rattle.checkout_engine.specs.Ends.{seen}
 use Rattle.checkout_engine.specs.Paths.{with_blobs}
 use Rattle.checkout_engine.specs.Reading.{IsRead}
 use Rattle.checkout_engine.specs.Rehearsed.{new_memory, IsTried}
@@ -21,13 +20,15 @@ use Rattle.checkout_engine.specs.Writing.{ArePathsDone}
 use Rattle.checkout_engine.proofs.Done.{checks_out}
 
 -- the paths of a plan are done in memory
-pub tried : PathsAreOrdered → (told told' : RepoTold) (ahead : List ℕ → Starts) (p : Planned) (slice : List PathPlan) (users : List Driver) (vs : List Verdict) (history : List Event)
+pub tried : PathsAreOrdered → (told told' : RepoTold) (ahead : List ℕ → Starts) (p : Planned) (slice : List PathPlan) (users : List Driver) (r : TriedRun)
     (repo mid repo' : RepoSeen) (tree tree' : TreeSeen) (spawner spawner' : SpawnerSeen) → told' ≡ told → repo ≡ new_memory.repo → tree ≡ new_memory.tree → spawner ≡ new_memory.spawner
-    → IsRead told p repo mid → slice ≡ p.plan.paths → users ≡ p.plan.drivers
-    → ArePathsDone ahead told'.object slice users vs history mid repo' tree tree' spawner spawner'
-    → IsRun (starts_of slice) (workers_for None p.workers p.threshold (length (filter in_pool slice))) (length users) history vs
-    → IsTried told ahead vs tree'
-tried law told told' ahead p slice users vs history repo mid repo' tree tree' spawner spawner' same repo_is tree_is spawner_is read slice_is users_is ends run =
+    → IsRead told p repo mid → slice ≡ p.plan.paths → users ≡ p.plan.drivers → r.plan ≡ p.plan → r.workers ≡ workers_for None p.workers p.threshold (length (filter in_pool slice))
+    → ArePathsDone ahead told'.object slice users r.verdicts.items r.history.items mid repo' tree tree' spawner spawner'
+    → IsRun (starts_of slice) (workers_for None p.workers p.threshold (length (filter in_pool slice))) (length users) r.history.items r.verdicts.items
+    → IsTried told ahead r tree' spawner'
+tried law told told' ahead p slice users r repo mid repo' tree tree' spawner spawner' same repo_is tree_is spawner_is read slice_is users_is plan_is workers_is ends run =
+    let vs = r.verdicts.items in
+    let history = r.history.items in
     let planned = read.read.planned in
     let paths = p.plan.paths in
     let drivers = p.plan.drivers in
@@ -51,6 +52,10 @@ tried law told told' ahead p slice users vs history repo mid repo' tree tree' sp
     record {
       left = seen repo' tree' spawner' new_memory.sink history;
       checkout = checks_out law told ahead None p.plan vs new_memory (seen repo' tree' spawner' new_memory.sink history) refl planned refl ended ran;
+      plan_is = plan_is;
+      workers_are = workers_is ∙ ap (λ (l : List PathPlan). workers_for None p.workers p.threshold (length (filter in_pool l))) slice_is ∙ count;
+      history_is = refl;
       verdicts_are = sym ended.same;
       tree_is = refl;
+      spawner_is = refl;
     }

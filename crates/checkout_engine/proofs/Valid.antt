@@ -18,7 +18,7 @@ use Rattle.settings_view.specs.Value.{is_word, is_true_word, is_false_word}
 use Rattle.settings_view.specs.Keys.{is_key, last_value}
 use Rattle.settings_view.specs.Drivers.{names_of, is_driver_key, said_of}
 use Rattle.settings_view.specs.View.{settings_of}
-use Rattle.attr_line.specs.declared.file.AttrFile.{AttrFile}
+use Rattle.attr_stack.specs.declared.files.OuterFiles.{OuterFiles}
 use Rattle.attr_line.specs.File.{attributes_at}
 use Rattle.checkout_plan.specs.declared.path_plan.PathPlan.{PathPlan}
 use Rattle.checkout_plan.specs.AttributeFiles.{attribute_entries, attribute_files}
@@ -88,11 +88,11 @@ used_few place paths (d ∷ ds) = by (is_used paths place) (used_few (suc place)
     by true h = omega (arith, h)
     by false h = omega (arith, h)
 
-few_drivers : (es : List Entry) (info : AttrFile) (contents : List (List ℕ))
-    → length (plan_of es settings info contents).drivers ≤ max_drivers
+few_drivers : (es : List Entry) (outer : OuterFiles) (contents : List (List ℕ))
+    → length (plan_of es settings outer contents).drivers ≤ max_drivers
 unfolding plan_of settings
-few_drivers es info contents =
-    let asked = asked_paths (attribute_files info es contents) settings es in
+few_drivers es outer contents =
+    let asked = asked_paths (attribute_files outer es contents) settings es in
     omega (arith, used_few 0 asked settings.drivers)
 
 -- the attribute file alone is one
@@ -113,7 +113,7 @@ short = omega arith
 known : {told : Told} (bytes : List ℕ) → told ≡ Raw bytes → IsKnown told
 known bytes e = subst IsKnown (sym e) tt
 
-tells : {told : Told} (bytes : List ℕ) → told ≡ Raw bytes → TellsBytes told bytes
+pub tells : {told : Told} (bytes : List ℕ) → told ≡ Raw bytes → TellsBytes told bytes
 tells bytes e = subst (λ (t : Told). TellsBytes t bytes) (sym e) refl
 
 pub valid : FilesHaveAnIndex → AttributesAreRight → (seed n : ℕ) → n ≤ 99999 → (told : RepoTold)
@@ -123,11 +123,12 @@ valid indexed right seed n few told made =
     record {
       entries = entries (files seed is);
       settings = settings;
-      info = attributes_at [] true;
+      outer = record { info = attributes_at [] true; base = attributes_at [] true };
       contents = attributes ∷ [];
       index = known _ made.index;
       config = known config made.config;
-      attributes = subst IsKnown (sym made.info) tt;
+      info = subst IsKnown (sym made.info) tt;
+      base = subst IsKnown (sym made.base) tt;
       sources = record {
         index = record { bytes = _; tells = tells _ made.index; is_index = indexed seed n few };
         config = record {
@@ -135,9 +136,15 @@ valid indexed right seed n few told made =
           has = record { bytes = config; has = inl (tells config made.config); reads = reads };
           says = says;
         };
-        attributes = record {
+        info = record {
           bytes = [];
           has = inr (subst TellsNone (sym made.info) tt, refl);
+          within = omega arith;
+          says = refl;
+        };
+        base = record {
+          bytes = [];
+          has = inr (subst TellsNone (sym made.base) tt, refl);
           within = omega arith;
           says = refl;
         };

@@ -1,5 +1,5 @@
--- What two checkouts have in common, whatever the number of their workers.
-use Rattle.std.specs.Prelude.{◌≡◌, ℕ, false, List, Option, Some}
+-- What two checkouts have in common, whatever the number of their workers, and how that number binds each.
+use Rattle.std.specs.Prelude.{◌≡◌, ◌+◌, ℕ, false, List, length, Option, Some}
 use Rattle.std.specs.List.{AllByRecursion}
 use Rattle.std.specs.Global.{Vec}
 use Rattle.edge_kit.specs.Memory.{repo_told}
@@ -11,10 +11,12 @@ use Rattle.edge_kit.specs.declared.script.DriverScript.{DriverScript}
 use Rattle.edge_kit.specs.declared.tree_file.TreeFile.{TreeFile}
 use Rattle.driver_line.specs.SameHeard.{NoneFailed}
 use Rattle.settings_view.specs.declared.view.Settings.{Settings}
+use Rattle.checkout_plan.specs.declared.path_plan.Plan.{Plan}
 use Rattle.checkout_engine.specs.Complete.{failed_leaves}
 use Rattle.checkout_engine.specs.Ends.{Seen, IsCheckedOut, verdicts_of, files_of}
 use Rattle.checkout_engine.specs.Report.{lacks_memory, report}
-use Rattle.checkout_engine.specs.Sources.{HasSettings}
+use Rattle.checkout_engine.specs.Sources.{HasSettings, IsPlanned}
+use Rattle.checkout_engine.specs.Workers.{starts_of, worker_count, HaveActorsBelow}
 
 -- something is told: bytes, that there are none, or that taking them fails
 abbrev pub IsTold : Told → Type 0
@@ -23,22 +25,31 @@ IsTold Absent = Unit {0}
 IsTold Failing = Unit {0}
 IsTold Untold = ⊥
 
--- The repository tells all that it holds, and the spawner tells the starts of each command.
-pub record TellAll (told : RepoTold) (ahead : List ℕ → Starts) : Type 0 where
+-- The repository tells all that it holds.
+pub record RepoTellsAll (told : RepoTold) : Type 0 where
   pub index : IsTold told.index
   pub config : IsTold told.config
   pub info : IsTold told.info
+  pub base : IsTold told.base
   pub object : (name : List ℕ) → IsTold (told.object name)
+
+-- Such a repository has one plan, and it is made by one list of settings.
+abbrev pub OnePlan : Type 0
+OnePlan = (told : RepoTold) → RepoTellsAll told → (p q : Plan)
+    → (a : IsPlanned told p) → (b : IsPlanned told q) → (p ≡ q) × (a.settings ≡ b.settings)
+
+-- A repository tells all, and the spawner tells the starts of each command.
+pub record TellAll (told : RepoTold) (ahead : List ℕ → Starts) : Type 0 where
+  pub repo : RepoTellsAll told
   pub starts : (command : List ℕ) → (starts : List StartTold) × (ahead command ≡ Some starts)
 
 -- The forms in memory do so.
 abbrev pub MemoryTellsAll : Type 0
-MemoryTellsAll = (index config info : Option (Vec ℕ)) (objects : List (List ℕ × Vec ℕ))
+MemoryTellsAll = (index config info base : Option (Vec ℕ)) (objects : List (List ℕ × Vec ℕ))
     (fails : List RepoFail) (scripts : List DriverScript)
-    → TellAll (repo_told index config info objects fails) (starts_for scripts)
+    → TellAll (repo_told index config info base objects fails) (starts_for scripts)
 
--- No leaf of the checkout failed, and no link. Each link told what it took. There was memory for
--- each path.
+-- No leaf of the checkout failed, and no link. There was memory for each path.
 pub record IsUndisturbed {told : RepoTold} {ahead : List ℕ → Starts} {asked : Option ℕ}
     {old new : Seen} (c : IsCheckedOut told ahead asked old new) : Type 0 where
   pub leaves : failed_leaves new.tree.returned ≡ failed_leaves old.tree.returned
@@ -71,6 +82,7 @@ WorkersChangeNothing = (told : RepoTold) (ahead : List ℕ → Starts) (a b : Op
 pub record DifferInWorkers (told told' : RepoTold) : Type 0 where
   pub index : told'.index ≡ told.index
   pub info : told'.info ≡ told.info
+  pub base : told'.base ≡ told.base
   pub object : told'.object ≡ told.object
   pub settings : (s s' : Settings) → HasSettings told.config s → HasSettings told'.config s'
       → s' ≡ record s { workers = s'.workers; threshold = s'.threshold }
@@ -81,3 +93,10 @@ SettingsChangeNothing = (told told' : RepoTold) (ahead : List ℕ → Starts) (a
     (old new before after : Seen) → TellAll told ahead → DifferInWorkers told told'
     → (c : IsCheckedOut told ahead a old new) → (e : IsCheckedOut told' ahead b before after)
     → IsUndisturbed c → IsUndisturbed e → AreAlike c e
+
+-- Whoever made an entry of the history of a checkout is below the number of its workers and its drivers.
+abbrev pub ActorsAreNumbered : Type 0
+ActorsAreNumbered = (told : RepoTold) (ahead : List ℕ → Starts) (asked : Option ℕ) (old new : Seen)
+    → (c : IsCheckedOut told ahead asked old new)
+    → (let workers = worker_count asked c.planned.settings c.plan.paths in
+    HaveActorsBelow (workers + length c.plan.drivers) (starts_of c.plan.paths) workers new.history)

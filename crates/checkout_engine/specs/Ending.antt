@@ -19,8 +19,7 @@ use Rattle.checkout_engine.specs.declared.status.Status.{Status}
 use Rattle.checkout_engine.specs.declared.status.Status.TheVariants as status
 use Rattle.checkout_engine.specs.declared.stop.Stop.{Stop}
 use Rattle.checkout_engine.specs.declared.stop.Stop.TheVariants as stop
-use Rattle.checkout_engine.specs.Causes.{IsCause, IsReadCause, IsRepoBack}
-use Rattle.checkout_engine.specs.Causes.{IsRepoSteady}
+use Rattle.checkout_engine.specs.Causes.{IsReadCause, IsRefusedFor, IsCutShort}
 use Rattle.checkout_engine.specs.Ends.{Seen, IsCheckedOut, IsReported, IsRefused, IsCutOff}
 use Rattle.checkout_engine.specs.Ends.{IsOutOfMemory, IsReadFault, IsNotEmpty, verdicts_of}
 use Rattle.checkout_engine.specs.Shown.{Refuses, EndsPlan}
@@ -48,14 +47,12 @@ StopsRun told tree tree' old new (Ok r) =
 StopsRun told tree tree' old new (Err stop.NotEmpty) =
     Tells tree.empty false × (tree'.faults ≡ tree.faults) × (new ≡ old)
 StopsRun told tree tree' old new (Err stop.ReadFault) =
-    ((Rose tree.faults tree'.faults × (new ≡ old))
-    ⊎ (Tells tree.empty true × (tree'.faults ≡ tree.faults) × IsReadCause told old new))
-    × IsRepoBack old new
+    (Rose tree.faults tree'.faults × (new ≡ old))
+    ⊎ (Tells tree.empty true × (tree'.faults ≡ tree.faults) × IsReadCause told old new)
 StopsRun told tree tree' old new (Err (stop.Refused r)) =
-    Tells tree.empty true × IsCause told r × (tree'.faults ≡ tree.faults)
-    × IsRepoSteady old new × IsRepoBack old new
+    Tells tree.empty true × IsRefusedFor told r old new × (tree'.faults ≡ tree.faults)
 StopsRun told tree tree' old new (Err stop.NoMemory) =
-    (tree'.faults ≡ tree.faults) × IsRepoSteady old new × IsRepoBack old new
+    (tree'.faults ≡ tree.faults) × IsCutShort told old new
 
 -- how a run ends that stopped before it touched a file, by why it stopped
 abbrev pub ReportsStop : Stop → SinkSeen → SinkSeen → Status → Type 0
@@ -97,12 +94,11 @@ WritesLines text old new (Ok x) = new ≡ with_text text old
 WritesLines text old new (Err send.Failed) = IsCut text old new × Rose old.faults new.faults
 WritesLines text old new (Err send.NoMemory) = IsCut text old new × (new.faults ≡ old.faults)
 
--- how the writing of a text ends, line by line
+-- how the writing of a text in one piece ends
 abbrev pub ShowsLines : List ℕ → SinkSeen → SinkSeen → Status → Type 0
 ShowsLines text old new status.Done = new ≡ with_text text old
 ShowsLines text old new status.OutputNotWritten = Rose old.faults new.faults × IsCut text old new
-ShowsLines text old new status.OutOfMemory =
-    (new.faults ≡ old.faults) × ((new ≡ old) ⊎ IsCut text old new)
+ShowsLines text old new status.OutOfMemory = new ≡ old
 ShowsLines text old new s = ⊥
 
 -- a checkout that is done, with its report and its number

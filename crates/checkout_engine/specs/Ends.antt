@@ -19,7 +19,7 @@ use Rattle.checkout_plan.specs.declared.path_plan.Plan.{Plan}
 use Rattle.checkout_plan.specs.Making.{blobs_of}
 use Rattle.checkout_engine.specs.declared.stop.Refusal.{Refusal}
 use Rattle.checkout_engine.specs.Sources.{IsPlanned}
-use Rattle.checkout_engine.specs.Causes.{IsCause, IsReadCause, IsRepoBack, IsRepoSteady}
+use Rattle.checkout_engine.specs.Causes.{IsReadCause, IsRepoSteady, IsRefusedFor, IsCutShort}
 use Rattle.checkout_engine.specs.Outcome.{Outcome, AreOutcomes}
 use Rattle.checkout_engine.specs.Talks.{DriverTalk, AreDriverTalks, with_talks}
 use Rattle.checkout_engine.specs.Made.{BreaksOff}
@@ -105,15 +105,15 @@ pub record IsSteady (old new : Seen) : Type 0 where
 
 -- No leaf and no starter was made, no file was touched, and nothing is in the history.
 pub record IsUntouched (old new : Seen) : Type 0 where
-  pub repo : IsRepoBack old.repo new.repo
   pub tree : new.tree ≡ record old.tree { faults = new.tree.faults }
   pub spawner : new.spawner ≡ old.spawner
   pub history : new.history ≡ old.history
 
--- The worktree was empty, and the repository is refused for this cause before a file is touched.
+-- The worktree was empty, and the repository is refused for this cause before a file is touched. Just
+-- the blobs of the attribute files up to the refused one were made and given back.
 pub record HasRefusal (told : RepoTold) (refusal : Refusal) (old new : Seen) : Type 0 where
   pub empty : Tells old.tree.empty true
-  pub cause : IsCause told refusal
+  pub refused : IsRefusedFor told refusal old.repo new.repo
   pub untouched : IsUntouched old new
   pub steady : IsSteady old new
 
@@ -156,10 +156,17 @@ pub record IsBrokenOff (told : RepoTold) (old new : Seen) : Type 0 where
   pub silent : new.sink ≡ old.sink
   pub history : new.history ≡ old.history
 
+-- Memory ran out before any leaf or starter was made. The blobs of the first attribute files may have been made and
+-- given back.
+pub record IsStopped (told : RepoTold) (old new : Seen) : Type 0 where
+  pub idle : IsIdle old new
+  pub repo : IsCutShort told old.repo new.repo
+  pub steady : IsSteady old new
+
 -- 5: memory ran out, before any file was touched, before the paths were done, or after that.
 abbrev pub IsOutOfMemory : RepoTold → (List ℕ → Starts) → Option ℕ → Seen → Seen → Type 0
 IsOutOfMemory told ahead asked old new =
-    (IsIdle old new × IsSteady old new) ⊎ IsBrokenOff told old new ⊎ IsReportCut told ahead asked old new
+    IsStopped told old new ⊎ IsBrokenOff told old new ⊎ IsReportCut told ahead asked old new
 
 -- 6: the worktree or a read of the repository failed, and nothing else, before a file was touched.
 pub record IsReadFault (told : RepoTold) (old new : Seen) : Type 0 where

@@ -1,6 +1,6 @@
 -- The headline: what a checkout that ends with 0 or 1 leaves, path by path.
-use Rattle.std.specs.Prelude.{◌≡◌, ℕ, suc, Bool, true, false, List, [], ◌∷◌, map, length, slice_get, Option, Some, None}
-use Rattle.std.specs.Prelude.{Ok, if◌then◌else◌}
+use Rattle.std.specs.Prelude.{◌≡◌, ◌+◌, ℕ, suc, Bool, true, false, List, [], ◌∷◌, map, length, slice_get, Option, Some}
+use Rattle.std.specs.Prelude.{None, Ok, if◌then◌else◌}
 use Rattle.std.specs.List.{filter_map, list_any}
 use Rattle.edge_kit.specs.Starters.{Starts}
 use Rattle.edge_kit.specs.Told.{Told, RepoTold, MayFail, Tells}
@@ -21,13 +21,13 @@ use Rattle.checkout_plan.specs.declared.path_plan.Plan.{Plan}
 use Rattle.checkout_plan.specs.Making.{FitsKind}
 use Rattle.checkout_plan.specs.Paths.{HasCause}
 use Rattle.checkout_engine.specs.Ends.{Seen}
-use Rattle.checkout_engine.specs.Outcome.{MayLeavePart, MayLeaveFile, file_with}
+use Rattle.checkout_engine.specs.Outcome.{MayLeavePart, MayLeaveFile, MayBePut, file_with}
 use Rattle.checkout_engine.specs.Output.{with_text}
 use Rattle.checkout_engine.specs.Prepared.{IsPreparedTo}
 use Rattle.checkout_engine.specs.Report.{report}
 use Rattle.checkout_engine.specs.Sources.{IsPlanned}
 use Rattle.checkout_engine.specs.Talks.{DriverTalk, heard_at, Gave, AreDriverTalks, with_talks}
-use Rattle.checkout_engine.specs.Workers.{starts_of, worker_count}
+use Rattle.checkout_engine.specs.Workers.{starts_of, worker_count, HaveActorsBelow}
 
 -- The file of a written path: its object's content, converted, with its mark. `unencoded` says that
 -- the content was left as it is because it isn't UTF-8.
@@ -62,7 +62,7 @@ module _ (required : Bool) (d : ℕ) (t : DriverTalk) (n : ℕ) where
   EndsAtDesk told p (verdict.Failed (fail.Filter why)) file =
       (required ≡ true) × (heard_at d t n ≡ Some (heard.Refused why)) × (file ≡ None)
   EndsAtDesk told p (verdict.Failed fail.Missing) file = (heard_at d t n ≡ Some heard.Lost) × (file ≡ None)
-  EndsAtDesk told p (verdict.Failed fail.WriteFailed) file = MayLeaveFile p.path file
+  EndsAtDesk told p (verdict.Failed fail.WriteFailed) file = MayLeaveFile (MayBePut required d t n told p) p.path file
   EndsAtDesk told p (verdict.Failed fail.ReadFailed) file = MayFail told × (file ≡ None)
   EndsAtDesk told p (verdict.Failed (fail.Object kind)) file = FitsKind told p.object kind × (file ≡ None)
   EndsAtDesk told p v file = ⊥
@@ -89,7 +89,7 @@ verdicts_in ends = map (λ end. end.0) ends
 -- the report has a line for each path, in order, with its verdict. The number is 1 if some path failed. As many blobs,
 -- leaves and starters are out as before. There was a talk with each driver of the plan and with no other, which goes by
 -- what the spawner told ahead of its command. The history is a complete run over the starts of the plan, with these
--- verdicts, by its drivers and the number of workers that the words and the settings give.
+-- verdicts, by its drivers and the number of workers that the words and the settings give. Nobody else made an entry.
 pub record IsHeadline (told : RepoTold) (ahead : List ℕ → Starts) (asked : Option ℕ) (old new : Seen) (number : ℕ)
     : Type 0 where
   pub plan : Plan
@@ -106,3 +106,5 @@ pub record IsHeadline (told : RepoTold) (ahead : List ℕ → Starts) (asked : O
   pub starters : new.spawner ≡ with_talks old.spawner talks
   pub run : IsRun (starts_of plan.paths) (worker_count asked planned.settings plan.paths) (length plan.drivers)
       new.history (verdicts_in ends)
+  pub actors : let workers = worker_count asked planned.settings plan.paths in
+      HaveActorsBelow (workers + length plan.drivers) (starts_of plan.paths) workers new.history

@@ -2,6 +2,7 @@
 pub mod Ends
 pub mod Headline
 pub mod Shown
+pub mod Begun
 pub mod Rehearsed
 pub mod Sources
 pub mod Causes
@@ -15,6 +16,7 @@ pub mod Report
 pub mod RefusalText
 pub mod Complete
 pub mod Alike
+pub mod SameFaults
 pub mod Given
 pub mod Workers
 -- what its parts promise each other

@@ -24,7 +24,7 @@ use Rattle.checkout_engine.specs.declared.stop.Refusal.{Refusal}
 use Rattle.checkout_engine.specs.declared.stop.Refusal.TheVariants as refusal
 use Rattle.checkout_engine.specs.declared.stop.Stop.{Stop}
 use Rattle.checkout_engine.specs.declared.stop.Stop.TheVariants as stop
-use Rattle.checkout_engine.specs.Causes.{IsCause, IsReadCause, IsRepoBack, IsRepoSteady, IsPlanRead}
+use Rattle.checkout_engine.specs.Causes.{IsReadCause, IsPlanRead, IsRefusedFor, IsCutShort}
 use Rattle.settings_view.specs.declared.fault.SettingFault.TheVariants as setting
 
 -- the bytes that were taken of an index, which must be there
@@ -86,10 +86,9 @@ pub record IsRead (told : RepoTold) (p : Planned) (old new : RepoSeen) : Type 0 
 abbrev pub ReadsPlan : RepoTold → RepoSeen → RepoSeen → Result Planned Stop → Type 0
 ReadsPlan told old new (Ok p) = IsRead told p old new
 ReadsPlan told old new (Err stop.NotEmpty) = ⊥
-ReadsPlan told old new (Err stop.ReadFault) = IsReadCause told old new × IsRepoBack old new
-ReadsPlan told old new (Err (stop.Refused r)) =
-    IsCause told r × IsRepoSteady old new × IsRepoBack old new
-ReadsPlan told old new (Err stop.NoMemory) = IsRepoSteady old new × IsRepoBack old new
+ReadsPlan told old new (Err stop.ReadFault) = IsReadCause told old new
+ReadsPlan told old new (Err (stop.Refused r)) = IsRefusedFor told r old new
+ReadsPlan told old new (Err stop.NoMemory) = IsCutShort told old new
 
 -- the path of an entry
 abbrev pub IsPathAt : List Entry → ℕ → List ℕ → Type 0

@@ -3,7 +3,7 @@ use Rattle.std.specs.Prelude.{ℕ, List, [], ◌∷◌, ◌++◌, codes}
 use Rattle.std.specs.Fmt.{decimal}
 use Rattle.hex.specs.Hex.{encode_lower}
 use Rattle.byte_path.specs.Quote.{quoted}
-use Rattle.checkout_report.specs.Report.{object_word}
+use Rattle.checkout_core.specs.CauseWords.{object_word}
 use Rattle.byte_path.specs.Path as path
 use Rattle.git_index.specs.Words.{kind_word, fault_word}
 use Rattle.git_config.specs.Words.{line_word}
@@ -46,6 +46,7 @@ refusal_words (refusal.Index fault) = codes "index " ++ index_words fault
 refusal_words (refusal.Config fault) = codes "config " ++ config_words fault
 refusal_words (refusal.Setting fault) = codes "setting " ++ setting_word fault
 refusal_words refusal.InfoTooLarge = codes "attributes info too-large"
+refusal_words refusal.BaseTooLarge = codes "base-attributes too-large"
 refusal_words (refusal.Attribute path kind) = attribute_words path (object_word kind)
 refusal_words (refusal.AttributeTooLarge path) = attribute_words path (codes "too-large")
 refusal_words (refusal.TooManyDrivers n) = codes "drivers " ++ decimal n

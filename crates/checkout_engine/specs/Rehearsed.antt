@@ -1,25 +1,39 @@
 -- How the command `rehearse` ends, and what it writes.
-use Rattle.std.specs.Prelude.{◌≡◌, ℕ, Bool, true, false, List, [], ◌∷◌, ◌++◌, length, codes, count_by, sum_by, Some, None}
+use Rattle.std.specs.Prelude.{◌≡◌, ◌==◌, ◌||◌, ◌≤◌, ℕ, Bool, true, false, not, List, [], ◌∷◌, ◌++◌, length, codes}
+use Rattle.std.specs.Prelude.{count_by, sum_by, Some, None}
+use Rattle.std.specs.List.{list_any}
 use Rattle.std.specs.Fmt.{decimal}
 use Rattle.byte_path.specs.Characters.{line_feed}
 use Rattle.edge_kit.specs.Faults.{Rose}
 use Rattle.edge_kit.specs.MemoryDrivers.{starts_for}
 use Rattle.edge_kit.specs.Seen.{TreeSeen, SinkSeen}
-use Rattle.edge_kit.specs.Starters.{Starts}
+use Rattle.edge_kit.specs.Starters.{Starts, SpawnerSeen}
 use Rattle.edge_kit.specs.Told.{RepoTold}
+use Rattle.edge_kit.specs.declared.session_seen.DriverSeen.{DriverSeen}
+use Rattle.edge_kit.specs.declared.session_seen.StartOutcome.{StartOutcome}
+use Rattle.edge_kit.specs.declared.session_seen.StartOutcome.TheVariants as outcome
 use Rattle.edge_kit.specs.declared.tree_file.TreeFile.{TreeFile}
 use Rattle.rehearsal.specs.Paths.{in_order}
 use Rattle.rehearsal.specs.Repository.{files, IsRepository}
 use Rattle.rehearsal.specs.Drivers.{scripts}
 use Rattle.checkout_core.specs.declared.verdict.Verdict.{Verdict}
+use Rattle.checkout_core.specs.declared.verdict.Verdict.TheVariants as verdict
+use Rattle.checkout_core.specs.declared.verdict.FailCause.TheVariants as fail
+use Rattle.checkout_core.specs.declared.event.Event.{Event}
+use Rattle.checkout_core.specs.declared.path.Start.{Start}
+use Rattle.writer_pool.specs.Ends.{IsRun}
 use Rattle.checkout_report.specs.Report.{is_written, is_unfiltered, is_failed}
+use Rattle.checkout_engine.specs.declared.rehearsing.TriedRun.{TriedRun}
 use Rattle.checkout_engine.specs.declared.status.Status.{Status}
 use Rattle.checkout_engine.specs.declared.status.Status.TheVariants as status
 use Rattle.checkout_engine.specs.declared.stop.Stop.{Stop}
 use Rattle.checkout_engine.specs.declared.stop.Stop.TheVariants as stop
+use Rattle.checkout_engine.specs.Alike.{IsUndisturbed}
+use Rattle.checkout_engine.specs.Begun.{IsSmallStart}
 use Rattle.checkout_engine.specs.Ends.{Seen, begun, IsCheckedOut, verdicts_of}
 use Rattle.checkout_engine.specs.Output.{IsCut, with_text}
 use Rattle.checkout_engine.specs.Report.{number_of, status_of, lacks_memory}
+use Rattle.checkout_engine.specs.Workers.{starts_of, worker_count}
 
 -- the sum of all files' bytes
 abbrev pub bytes_of : List TreeFile → ℕ
@@ -54,31 +68,83 @@ new_memory = begun (record { faults = 0; out = 0; returned = [] })
     (record { written = None; faults = 0 })
 
 -- A repository was checked out into an empty worktree in memory, by its drivers and as many workers as its
--- configuration says. These are the verdicts of its paths, and this is the worktree.
-pub record IsTried (told : RepoTold) (ahead : List ℕ → Starts) (verdicts : List Verdict) (tree : TreeSeen) : Type 0 where
+-- configuration says. This is its plan, its workers, its history and the verdicts of its paths, and this is left of the
+-- worktree and of the spawner.
+pub record IsTried (told : RepoTold) (ahead : List ℕ → Starts) (run : TriedRun) (tree : TreeSeen)
+    (spawner : SpawnerSeen) : Type 0 where
   pub left : Seen
   pub checkout : IsCheckedOut told ahead None new_memory left
-  pub verdicts_are : verdicts ≡ verdicts_of checkout.outcomes
+  pub plan_is : run.plan ≡ checkout.plan
+  pub workers_are : run.workers ≡ worker_count None checkout.planned.settings checkout.plan.paths
+  pub history_is : run.history.items ≡ left.history
+  pub verdicts_are : run.verdicts.items ≡ verdicts_of checkout.outcomes
   pub tree_is : tree ≡ left.tree
+  pub spawner_is : spawner ≡ left.spawner
+
+-- The same, and nothing disturbed it: no leaf and no link failed, and there was memory for each path.
+pub record IsTriedWell (told : RepoTold) (ahead : List ℕ → Starts) (run : TriedRun) (tree : TreeSeen) : Type 0 where
+  pub spawner : SpawnerSeen
+  pub tried : IsTried told ahead run tree spawner
+  pub undisturbed : IsUndisturbed tried.checkout
 
 -- the same for the repository and the drivers of a rehearsal
-pub record IsRehearsed (seed paths : ℕ) (verdicts : List Verdict) (tree : TreeSeen) : Type 0 where
+pub record IsRehearsed (seed paths : ℕ) (run : TriedRun) (tree : TreeSeen) : Type 0 where
   pub told : RepoTold
   pub made : IsRepository (files seed (in_order paths)) told
-  pub tried : IsTried told (starts_for (scripts seed (in_order paths))) verdicts tree
+  pub well : IsTriedWell told (starts_for (scripts seed (in_order paths))) run tree
 
--- A rehearsal ended, with memory for each path, and its summary is this text.
+-- A rehearsal ended, undisturbed, and its summary is this text.
 pub record IsSummed (seed paths : ℕ) (text : List ℕ) : Type 0 where
-  pub verdicts : List Verdict
+  pub run : TriedRun
   pub tree : TreeSeen
-  pub rehearsed : IsRehearsed seed paths verdicts tree
-  pub memory : lacks_memory verdicts ≡ false
+  pub rehearsed : IsRehearsed seed paths run tree
   pub fs : List TreeFile
   pub has : tree.files ≡ Some fs
-  pub is : text ≡ summary paths verdicts fs
+  pub is : text ≡ summary paths run.verdicts.items fs
+
+-- Two rehearsals by the same numbers have the same summary.
+abbrev pub RehearsalsAreAlike : Type 0
+RehearsalsAreAlike = (seed paths : ℕ) (a b : List ℕ) → IsSummed seed paths a → IsSummed seed paths b → a ≡ b
+
+-- The run of a rehearsal that nothing disturbed: how its paths began, its workers and its drivers, and all that
+-- happened. The history is complete and legal, and its replay gives the verdicts of the paths.
+pub record IsRehearsedRun (seed paths : ℕ) (starts : List Start) (workers drivers : ℕ) (history : List Event)
+    : Type 0 where
+  pub told : RepoTold
+  pub made : IsRepository (files seed (in_order paths)) told
+  pub left : Seen
+  pub checkout : IsCheckedOut told (starts_for (scripts seed (in_order paths))) None new_memory left
+  pub undisturbed : IsUndisturbed checkout
+  pub starts_are : starts ≡ starts_of checkout.plan.paths
+  pub workers_are : workers ≡ worker_count None checkout.planned.settings checkout.plan.paths
+  pub drivers_are : drivers ≡ length checkout.plan.drivers
+  pub history_is : history ≡ left.history
+  pub run : IsRun starts workers drivers history (verdicts_of checkout.outcomes)
+
+-- how large the run of a rehearsal can be
+pub record IsSmallRun (starts : List Start) (workers drivers : ℕ) (history : List Event) : Type 0 where
+  pub start : IsSmallStart starts workers drivers
+  pub few_events : length history ≤ 900000
+
+-- What the forms in memory kept of a checkout that something disturbed. If the file of a path could not be written, its
+-- verdict says so.
+abbrev pub is_write_failed : Verdict → Bool
+is_write_failed (verdict.Failed fail.WriteFailed) = true
+is_write_failed v = false
+
+abbrev pub is_link_failed : StartOutcome → Bool
+is_link_failed (outcome.Session s) = not (s.faults == 0)
+is_link_failed outcome.Failed = false
+
+abbrev pub is_driver_failed : DriverSeen → Bool
+is_driver_failed d = list_any (λ s. is_link_failed s.outcome) d.starts
+
+abbrev pub is_disturbed : List Verdict → List DriverSeen → Bool
+is_disturbed verdicts drivers =
+    lacks_memory verdicts || (list_any is_write_failed verdicts || list_any is_driver_failed drivers)
 
 -- How a rehearsal ends, by its status. The summary is written whole, or a first part of it if the sink failed. Nothing
--- is written if memory ran out.
+-- is written if memory ran out, or if something disturbed the checkout.
 abbrev pub Rehearses : ℕ → ℕ → SinkSeen → SinkSeen → Status → Type 0
 Rehearses seed paths old new status.Done =
     (text : List ℕ) × IsSummed seed paths text × (new ≡ with_text text old)

@@ -7,7 +7,7 @@ use Rattle.checkout_plan.specs.declared.path_plan.Plan.{Plan}
 use Rattle.checkout_engine.specs.declared.status.Status.{Status}
 use Rattle.checkout_engine.specs.declared.status.Status.TheVariants as status
 use Rattle.checkout_engine.specs.declared.stop.Refusal.{Refusal}
-use Rattle.checkout_engine.specs.Causes.{IsCause, IsReadCause, IsPlanRead, IsRepoBack, IsRepoSteady}
+use Rattle.checkout_engine.specs.Causes.{IsReadCause, IsPlanRead, IsRefusedFor, IsCutShort}
 use Rattle.checkout_engine.specs.Ends.{Seen}
 use Rattle.checkout_engine.specs.Output.{IsCut, with_text}
 use Rattle.checkout_engine.specs.RefusalText.{refusal_line}
@@ -21,12 +21,6 @@ Refuses refusal old new status.OutputNotWritten =
 Refuses refusal old new status.OutOfMemory = new ≡ old
 Refuses refusal old new s = ⊥
 
--- The repository is refused for this cause.
-pub record HasCause (told : RepoTold) (refusal : Refusal) (old new : RepoSeen) : Type 0 where
-  pub cause : IsCause told refusal
-  pub steady : IsRepoSteady old new
-  pub back : IsRepoBack old new
-
 -- The plan was read, and a first part of its text was written.
 pub record IsPlanCut (told : RepoTold) (repo repo' : RepoSeen) (sink sink' : SinkSeen) : Type 0 where
   pub plan : Plan
@@ -34,21 +28,19 @@ pub record IsPlanCut (told : RepoTold) (repo repo' : RepoSeen) (sink sink' : Sin
   pub text : IsCut (plan_lines plan) sink sink'
 
 -- How the showing of a plan ends, by its status. If it is shown whole, exactly the blobs of the
--- attribute files were made and given back. It doesn't look at the worktree.
+-- attribute files were made and given back. If memory runs out, nothing is written: the text is
+-- one piece. It doesn't look at the worktree.
 abbrev pub Shows : RepoTold → RepoSeen → RepoSeen → SinkSeen → SinkSeen → Status → Type 0
 Shows told repo repo' sink sink' status.Done =
     (plan : Plan) × IsPlanRead told plan repo repo' × (sink' ≡ with_text (plan_lines plan) sink)
 Shows told repo repo' sink sink' status.Refused =
-    (r : Refusal) × HasCause told r repo repo' × (sink' ≡ with_text (refusal_line r) sink)
+    (r : Refusal) × IsRefusedFor told r repo repo' × (sink' ≡ with_text (refusal_line r) sink)
 Shows told repo repo' sink sink' status.OutputNotWritten =
     Rose sink.faults sink'.faults
-    × (((r : Refusal) × HasCause told r repo repo' × IsCut (refusal_line r) sink sink')
+    × (((r : Refusal) × IsRefusedFor told r repo repo' × IsCut (refusal_line r) sink sink')
     ⊎ IsPlanCut told repo repo' sink sink')
-Shows told repo repo' sink sink' status.OutOfMemory =
-    (sink'.faults ≡ sink.faults) × IsRepoSteady repo repo' × IsRepoBack repo repo'
-    × ((sink' ≡ sink) ⊎ IsPlanCut told repo repo' sink sink')
-Shows told repo repo' sink sink' status.ReadFault =
-    IsReadCause told repo repo' × (sink' ≡ sink) × IsRepoBack repo repo'
+Shows told repo repo' sink sink' status.OutOfMemory = (sink' ≡ sink) × IsCutShort told repo repo'
+Shows told repo repo' sink sink' status.ReadFault = (sink' ≡ sink) × IsReadCause told repo repo'
 Shows told repo repo' sink sink' s = ⊥
 
 -- The same for `run`: the worktree and the spawner don't change, and nothing is in the history.

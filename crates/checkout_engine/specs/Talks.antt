@@ -18,15 +18,15 @@ use Rattle.checkout_core.specs.Transcripts as result
 use Rattle.driver_line.specs.Conversations.{Exchange, notes_in}
 use Rattle.driver_line.specs.Lines.{Paths}
 use Rattle.driver_line.specs.Transcripts.{IsTalk}
-use Rattle.driver_line.specs.ToldStarts.{GoBy}
+use Rattle.driver_line.specs.ToldStarts.{Fills, GoBy}
 use Rattle.driver_desk.specs.Serving.{HasAnswer}
 use Rattle.checkout_plan.specs.declared.path_plan.PathPlan.{PathPlan}
 use Rattle.checkout_engine.specs.Prepared.{IsPreparedTo}
 use Rattle.checkout_engine.specs.Report.{is_no_memory}
 use Rattle.checkout_engine.specs.Workers.{starts_of}
 
--- What was said with one driver: its command, the texts and the prepared bytes of paths, the paths that it was to be
--- asked for, what came of its starts, and the exchanges that this spells.
+-- What was said with one driver: its command, the texts, the objects' names and the prepared bytes of paths, the paths
+-- that it was to be asked for, what came of its starts, and the exchanges that this spells.
 pub record DriverTalk : Type 0 where
   pub command : List ℕ
   pub paths : Paths
@@ -43,11 +43,13 @@ abbrev pub Gave : DriverTalk → ℕ → List ℕ → Type 0
 Gave t n bytes = HasAnswer t.exchanges n (Some bytes)
 
 -- What came of the driver's starts goes by the starts that are told, in order. Its sessions and its starts that gave
--- none are a whole talk, case by case.
+-- none are a whole talk, case by case. What its sessions sent and took, told or not, is one list of items for both.
 pub record IsTalkBy (told : Starts) (d : ℕ) (t : DriverTalk) : Type 0 where
+  pub full : List Had
+  pub fills : Fills t.had full
   pub left : Starts
-  pub starts : GoBy told t.had left
-  pub talk : IsTalk d t.paths t.asked t.had t.exchanges
+  pub starts : GoBy told full left
+  pub talk : IsTalk d t.paths t.asked full t.exchanges
   pub results : List Item
   pub whole : result.IsTalk t.asked results
   pub same : result.notes_of d results ≡ notes_in d t.exchanges
@@ -58,14 +60,14 @@ was_read (verdict.Failed fail.ReadFailed) = false
 was_read (verdict.Failed (fail.Object kind)) = false
 was_read v = true
 
--- The talk is over just those paths of the driver d whose object was read and prepared, in path order, with their texts
--- and their prepared bytes. A path that ran out of memory may be among them.
+-- The talk is over just those paths of the driver d whose object was read and prepared, in path order, with their
+-- texts, the names of their objects and their prepared bytes. A path that ran out of memory may be among them.
 pub record IsOverPaths (object : List ℕ → Told) (ps : List PathPlan) (verdicts : List Verdict) (d : ℕ)
     (t : DriverTalk) : Type 0 where
   pub asked : (n : ℕ) (p : PathPlan) (v : Verdict) → slice_get ps n ≡ Some p → slice_get verdicts n ≡ Some v
       → is_at d p.start ≡ true → is_no_memory v ≡ false → contains n t.asked ≡ was_read v
   pub each : (n : ℕ) → contains n t.asked ≡ true → (p : PathPlan) × (slice_get ps n ≡ Some p)
-      × (is_at d p.start ≡ true) × (t.paths.text n ≡ p.path)
+      × (is_at d p.start ≡ true) × (t.paths.text n ≡ p.path) × (t.paths.name n ≡ p.object)
       × (ready : Prepared) × IsPreparedTo (object p.object) p ready × (t.paths.content n ≡ ready.bytes)
   pub rises : (i j m n : ℕ) → i < j → slice_get t.asked i ≡ Some m → slice_get t.asked j ≡ Some n → m < n
 

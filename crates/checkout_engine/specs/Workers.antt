@@ -1,9 +1,12 @@
 -- How many workers a checkout has.
-use Rattle.std.specs.Prelude.{ℕ, ◌≤◌, nat_lt, Bool, true, false, List, map, length, Option, Some, None, if◌then◌else◌}
+use Rattle.std.specs.Prelude.{◌≡◌, ℕ, ◌≤◌, ◌<◌, nat_lt, Bool, true, false, List, map, length, Option}
+use Rattle.std.specs.Prelude.{Some, None, slice_get, if◌then◌else◌}
 use Rattle.std.specs.List.{filter}
 use Rattle.std.specs.Option.{unwrap_or}
 use Rattle.checkout_core.specs.declared.path.Start.{Start}
 use Rattle.checkout_core.specs.declared.path.Start.TheVariants as start
+use Rattle.checkout_core.specs.declared.event.Event.{Event}
+use Rattle.checkout_core.specs.Actors.{actor_of}
 use Rattle.checkout_plan.specs.declared.path_plan.PathPlan.{PathPlan}
 use Rattle.settings_view.specs.declared.view.Settings.{Settings}
 use Rattle.checkout_engine.specs.declared.workers.Pace.{Pace}
@@ -29,6 +32,12 @@ workers_for asked workers threshold cards = if nat_lt cards threshold then 1 els
 abbrev pub worker_count : Option ℕ → Settings → List PathPlan → ℕ
 worker_count asked settings paths =
     workers_for asked settings.workers settings.threshold (length (filter in_pool paths))
+
+-- Whoever made an entry of the history has a number below this one. Worker w is actor w, and the desk of driver d comes
+-- after the workers.
+abbrev pub HaveActorsBelow : ℕ → List Start → ℕ → List Event → Type 0
+HaveActorsBelow number starts workers history =
+    (k a : ℕ) (e : Event) → slice_get history k ≡ Some e → actor_of starts workers e ≡ Some a → a < number
 
 -- words that ask for workers ask for 1 to 16
 abbrev pub IsAsked : Option ℕ → Type 0

@@ -35,7 +35,7 @@ fn is_of(owner: Option<u32>, start: Start) -> bool
 }
 
 /// How many paths are the pool's, or are at the desk of that driver.
-fn count_of(paths: &[PathPlan], owner: Option<u32>) -> usize
+pub fn count_of(paths: &[PathPlan], owner: Option<u32>) -> usize
     ensures { result ≡ length (filter (λ p. is_of owner p.start) paths.now) }
 {
     paths.iter().filter(|path| is_of(owner, path.start)).count()

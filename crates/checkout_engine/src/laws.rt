@@ -1,8 +1,14 @@
 //! What follows from the contracts of a checkout.
 ghost use Rattle.checkout_engine.specs.Alike.{MemoryTellsAll, WorkersChangeNothing, SettingsChangeNothing};
+ghost use Rattle.checkout_engine.specs.Alike.{ActorsAreNumbered, OnePlan};
 ghost use Rattle.checkout_engine.specs.Given.{WrittenIsGiven};
+ghost use Rattle.checkout_engine.specs.Rehearsed.{RehearsalsAreAlike};
+ghost use Rattle.checkout_engine.specs.SameFaults.{SameFaultsChangeNothing};
 
-use driver_line::{a_path_gets_one_content, equal_outputs_give_equal_talks};
+use core_laws::laws;
+use driver_line::{
+    a_path_gets_one_content, equal_outputs_give_equal_talks, equal_sessions_give_equal_talks,
+};
 use git_index::{one_reading, paths_are_ordered};
 
 /// The number of workers changes nothing: two checkouts of one repository with the same drivers, in which no leaf and
@@ -20,10 +26,29 @@ pub fn workers_change_nothing()
     a_path_gets_one_content();
 }
 
+/// Where leaves or links failed, the verdicts and the reports of two checkouts of one repository are equal if their
+/// sessions, their failed starts and the counts of their leaves are, with any two numbers of workers, and memory was
+/// left for each path. So is the file of each path whose leaf didn't fail.
+pub fn same_faults_change_nothing()
+    ensures { SameFaultsChangeNothing }
+{
+    one_reading();
+    paths_are_ordered();
+    equal_sessions_give_equal_talks();
+    a_path_gets_one_content();
+}
+
 /// The forms in memory tell all that the law on the number of workers asks to be told of a repository and a spawner.
 pub fn memory_tells_all()
     ensures { MemoryTellsAll }
 {}
+
+/// A repository that tells all that it holds has one plan, so a second look at it shows the plan of its checkout.
+pub fn a_told_repository_has_one_plan()
+    ensures { OnePlan }
+{
+    one_reading();
+}
 
 /// What `run` needs of drivers to be done can be met: what is told of their starts gives all their paths if a checkout
 /// that was not disturbed wrote all of these.
@@ -32,4 +57,23 @@ pub fn written_paths_are_given()
 {
     paths_are_ordered();
     a_path_gets_one_content();
+}
+
+/// A rehearsal has one line: two with the same seed and as many paths that wrote their line wrote the same.
+pub fn rehearsals_are_alike()
+    ensures { RehearsalsAreAlike }
+{
+    one_reading();
+    paths_are_ordered();
+    equal_outputs_give_equal_talks();
+    a_path_gets_one_content();
+}
+
+/// No actor but the workers and the desks of a checkout makes an entry of its history, also where its report is cut off
+/// or memory ran out for a path.
+pub fn actors_are_numbered()
+    ensures { ActorsAreNumbered }
+{
+    laws::a_history_keeps_its_size();
+    laws::own_entries_tell_what_is_in_hand();
 }

@@ -1,6 +1,7 @@
 //! A worktree from an index and its objects.
 #![tactic(auto)]
 
+mod begin;
 mod cards;
 mod command;
 mod dealing;
@@ -18,6 +19,12 @@ mod status;
 mod stop;
 mod workers;
 
+pub use begin::{PlannedRun, planned_run};
 pub use command::run;
-pub use laws::{memory_tells_all, workers_change_nothing, written_paths_are_given};
+pub use laws::{
+    a_told_repository_has_one_plan, actors_are_numbered, memory_tells_all, rehearsals_are_alike,
+    same_faults_change_nothing, workers_change_nothing, written_paths_are_given,
+};
+pub use rehearsing::{RehearsedRun, rehearsed_run};
 pub use show::plan_text;
+pub use stop::{Refusal, Stop};

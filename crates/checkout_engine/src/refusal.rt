@@ -6,7 +6,6 @@ ghost use Rattle.checkout_engine.specs.RefusalText.{attribute_words, refusal_wor
 
 use crate::stop::Refusal;
 use byte_path::{Bytes, quote_path};
-use checkout_report::object_word;
 use git_config::ConfigFault;
 use git_index::IndexFault;
 use std::alloc::{AllocError, Global};
@@ -98,7 +97,8 @@ fn refusal_words(alloc: Global, refusal: &Refusal) -> Result<Vec<u8>, AllocError
         }
         Refusal::Setting(fault) => behind(alloc, b"setting ", fault.word().as_bytes()),
         Refusal::InfoTooLarge => Vec::from_slice(alloc, b"attributes info too-large"),
-        Refusal::Attribute(path, kind) => attribute_words(alloc, path, object_word(*kind)),
+        Refusal::BaseTooLarge => Vec::from_slice(alloc, b"base-attributes too-large"),
+        Refusal::Attribute(path, kind) => attribute_words(alloc, path, kind.word()),
         Refusal::AttributeTooLarge(path) => attribute_words(alloc, path, "too-large"),
         Refusal::TooManyDrivers(n) => Ok(numbered(alloc, "drivers", *n)?.into_bytes()),
     }

@@ -1,26 +1,56 @@
 //! The command `rehearse`: a checkout in memory, of a repository and drivers that two numbers make, and its summary.
 ghost use Rattle.std.specs.Prelude.{◌≡◌, ◌≤◌, IfOk, Some, string_bytes};
+ghost use Rattle.std.specs.List.{list_any};
 ghost use Rattle.checkout_engine.specs.Complete.{IsValid};
 ghost use Rattle.checkout_engine.specs.Reading.{IsRead};
 ghost use Rattle.checkout_engine.specs.Rehearsed.{is_memory, bytes_of, first_words, last_words, summary, new_memory};
-ghost use Rattle.checkout_engine.specs.Rehearsed.{IsTried, IsRehearsed, IsSummed, Rehearses};
+ghost use Rattle.checkout_engine.specs.Rehearsed.{is_write_failed, is_link_failed, is_driver_failed, is_disturbed};
+ghost use Rattle.checkout_engine.specs.Rehearsed.{IsTried, IsTriedWell, IsRehearsed, IsSummed, Rehearses};
+ghost use Rattle.checkout_engine.specs.Rehearsed.{IsRehearsedRun, IsSmallRun};
 
-use crate::paths::check_out_paths;
+use crate::cards::starts_of;
+use crate::paths::{PathsDone, check_out_paths};
 use crate::planning::{Planned, read_plan};
 use crate::report::{lacks_memory, status_of};
 use crate::status::{Status, number_of};
 use crate::stop::Stop;
 use crate::workers::Pace;
-use checkout_core::Verdict;
+use checkout_core::{Event, FailCause, Start, Verdict};
+use checkout_plan::{Plan, closed_paths_have_causes};
 use checkout_report::{failed_count, unfiltered_count, written_count};
+use core_laws::laws;
 use edge_kit::{
-    Gate, MemoryRepo, MemorySpawner, MemoryTree, Repo, SendFault, Sink, Spawner, TreeFile, Worktree,
+    DriverSeen, Gate, MemoryRepo, MemorySpawner, MemoryTree, Repo, SendFault, Sink, Spawner,
+    StartOutcome, StartSeen, TreeFile, Worktree,
 };
 use git_index::{index_has_no_fault, one_reading, paths_are_ordered};
 use rehearsal::{Rehearsed, attributes_are_right, files_have_an_index, rehearse};
 use std::alloc::{AllocError, Global};
 use std::sync::Wait;
 use std::thread::Threads;
+
+/// What a checkout in memory hands on of its run.
+#[derive(Drop)]
+pub struct TriedRun {
+    pub plan: Plan,
+    /// How many workers there were.
+    pub workers: u32,
+    /// The events of all workers, in the order in which they happened.
+    pub history: Vec<Event>,
+    /// The verdict of each path.
+    pub verdicts: Vec<Verdict>,
+}
+
+/// The run of a rehearsal, as a journal tells it.
+#[derive(Drop)]
+pub struct RehearsedRun {
+    /// How each path begins.
+    pub starts: Vec<Start>,
+    pub workers: u32,
+    pub drivers: u32,
+    /// All that happened, in order.
+    pub history: Vec<Event>,
+}
 
 /// The sum of all files' bytes.
 fn bytes_of(files: &[TreeFile]) -> u128
@@ -97,8 +127,51 @@ fn valid_plan<R: Repo>(alloc: Global, repo: &mut R) -> Result<Planned, AllocErro
     }
 }
 
-/// Checks out a valid repository, of which nothing was called, into a new and empty worktree: the verdicts of the
-/// paths.
+/// Whether the file of a path could not be written.
+fn is_write_failed(verdict: &Verdict) -> bool
+    ensures { result ≡ is_write_failed verdict.now }
+{
+    matches!(verdict, Verdict::Failed(FailCause::WriteFailed))
+}
+
+fn has_write_failed(verdicts: &[Verdict]) -> bool
+    ensures { result ≡ list_any is_write_failed verdicts.now }
+{
+    verdicts.iter().any(|verdict| is_write_failed(verdict))
+}
+
+/// Whether a start gave a session whose link failed.
+fn is_link_failed(start: &StartSeen) -> bool
+    ensures { result ≡ is_link_failed start.now.outcome }
+{
+    match &start.outcome {
+        StartOutcome::Session(session) => session.faults != 0,
+        StartOutcome::Failed => false,
+    }
+}
+
+fn is_driver_failed(driver: &DriverSeen) -> bool
+    ensures { result ≡ is_driver_failed driver.now }
+{
+    let starts = driver.starts.as_slice();
+    starts.iter().any(|start| is_link_failed(start))
+}
+
+fn has_link_failed(drivers: &[DriverSeen]) -> bool
+    ensures { result ≡ list_any is_driver_failed drivers.now }
+{
+    drivers.iter().any(|driver| is_driver_failed(driver))
+}
+
+/// Whether anything disturbed a checkout with these verdicts and drivers: memory ran out for a path, or a leaf or a
+/// link failed.
+fn is_disturbed(verdicts: &[Verdict], drivers: &[DriverSeen]) -> bool
+    ensures { result ≡ is_disturbed verdicts.now drivers.now }
+{
+    lacks_memory(verdicts) || has_write_failed(verdicts) || has_link_failed(drivers)
+}
+
+/// Checks out a valid repository, of which nothing was called, into a new and empty worktree: its run.
 fn tried<R: Repo, T: Worktree, P: Spawner, G: Gate, H: Threads + Wait + Sync>(
     rt: &H,
     alloc: Global,
@@ -106,12 +179,13 @@ fn tried<R: Repo, T: Worktree, P: Spawner, G: Gate, H: Threads + Wait + Sync>(
     tree: &mut T,
     spawner: &mut P,
     gate: &G,
-) -> Result<Vec<Verdict>, AllocError>
+) -> Result<TriedRun, AllocError>
     requires valid { IsValid (R.told repo.old) }
     requires repo { R.seen repo.old ≡ new_memory.repo }
     requires tree { T.seen tree.old ≡ new_memory.tree }
     requires spawner { P.seen spawner.old ≡ new_memory.spawner }
-    ensures { IfOk result (λ v. IsTried (R.told repo.old) (P.told spawner.old) v.items (T.seen tree.new)) }
+    ensures { IfOk result (λ r. IsTried (R.told repo.old) (P.told spawner.old) r
+        (T.seen tree.new) (P.seen spawner.new)) }
 {
     paths_are_ordered();
     let planned = valid_plan(alloc, repo)?;
@@ -123,25 +197,35 @@ fn tried<R: Repo, T: Worktree, P: Spawner, G: Gate, H: Threads + Wait + Sync>(
     let slice = planned.plan.paths.as_slice();
     let drivers = planned.plan.drivers.as_slice();
     let done = check_out_paths(rt, alloc, repo, tree, spawner, gate, slice, drivers, pace)?;
-    Ok(done.verdicts)
+    let PathsDone {
+        history,
+        verdicts,
+        workers,
+    } = done;
+    Ok(TriedRun {
+        plan: planned.plan,
+        workers,
+        history,
+        verdicts,
+    })
 }
 
-/// Checks out what a rehearsal is made of into an empty worktree in memory: the verdicts of the paths, and that
-/// worktree.
+/// Checks out what a rehearsal is made of into an empty worktree in memory: its run, and that worktree. What disturbed
+/// the checkout is taken for want of memory: nothing is told to fail.
 fn checked_out<G: Gate, H: Threads + Wait + Sync>(
     rt: &H,
     alloc: Global,
     mut made: Rehearsed,
     gate: &G,
-) -> Result<(Vec<Verdict>, MemoryTree), AllocError>
+) -> Result<(TriedRun, MemoryTree), AllocError>
     requires valid { IsValid (⟦<MemoryRepo as Repo>⟧.told made.repo) }
     requires repo { ⟦<MemoryRepo as Repo>⟧.seen made.repo ≡ new_memory.repo }
     requires spawner { ⟦<MemorySpawner as Spawner>⟧.seen made.spawner ≡ new_memory.spawner }
-    ensures { IfOk result (λ r. IsTried (⟦<MemoryRepo as Repo>⟧.told made.repo)
-        (⟦<MemorySpawner as Spawner>⟧.told made.spawner) r.0.items (⟦<MemoryTree as Worktree>⟧.seen r.1)) }
+    ensures { IfOk result (λ r. IsTriedWell (⟦<MemoryRepo as Repo>⟧.told made.repo)
+        (⟦<MemorySpawner as Spawner>⟧.told made.spawner) r.0 (⟦<MemoryTree as Worktree>⟧.seen r.1)) }
 {
     let mut tree = MemoryTree::new(alloc, true, Vec::new(alloc), false);
-    let verdicts = tried(
+    let run = tried(
         rt,
         alloc,
         &mut made.repo,
@@ -149,19 +233,22 @@ fn checked_out<G: Gate, H: Threads + Wait + Sync>(
         &mut made.spawner,
         gate,
     )?;
-    Ok((verdicts, tree))
+    if is_disturbed(&run.verdicts, made.spawner.drivers()) {
+        return Err(AllocError);
+    }
+    Ok((run, tree))
 }
 
-/// Rehearses so many paths: their verdicts, and the worktree in memory.
+/// Rehearses so many paths: the run, and the worktree in memory.
 fn rehearsed<G: Gate, H: Threads + Wait + Sync>(
     rt: &H,
     alloc: Global,
     seed: u64,
     paths: u32,
     gate: &G,
-) -> Result<(Vec<Verdict>, MemoryTree), AllocError>
+) -> Result<(TriedRun, MemoryTree), AllocError>
     requires { paths ≤ 99999 }
-    ensures { IfOk result (λ r. IsRehearsed seed paths r.0.items (⟦<MemoryTree as Worktree>⟧.seen r.1)) }
+    ensures { IfOk result (λ r. IsRehearsed seed paths r.0 (⟦<MemoryTree as Worktree>⟧.seen r.1)) }
 {
     files_have_an_index();
     attributes_are_right();
@@ -181,12 +268,37 @@ fn rehearsal_summary<G: Gate, H: Threads + Wait + Sync>(
     requires { paths ≤ 99999 }
     ensures { IfOk result (λ s. IsSummed seed paths (string_bytes s)) }
 {
-    let (verdicts, tree) = rehearsed(rt, alloc, seed, paths, gate)?;
-    if lacks_memory(&verdicts) {
-        return Err(AllocError);
-    }
-    let text = summary(alloc, paths, &verdicts, tree.files())?;
+    let (run, tree) = rehearsed(rt, alloc, seed, paths, gate)?;
+    let text = summary(alloc, paths, &run.verdicts, tree.files())?;
     Ok(text)
+}
+
+/// Rehearses so many paths, as the command `rehearse` does, and hands on the run for a journal.
+pub fn rehearsed_run<G: Gate, H: Threads + Wait + Sync>(
+    rt: &H,
+    alloc: Global,
+    seed: u64,
+    paths: u32,
+    gate: &G,
+) -> Result<RehearsedRun, AllocError>
+    requires { paths ≤ 99999 }
+    // It is that of a checkout in memory that nothing disturbed.
+    ensures rehearsed { IfOk result (λ r.
+        IsRehearsedRun seed paths r.starts.items r.workers r.drivers r.history.items) }
+    // It is small enough for a journal.
+    ensures small { IfOk result (λ r. IsSmallRun r.starts.items r.workers r.drivers r.history.items) }
+{
+    closed_paths_have_causes();
+    laws::a_history_is_short();
+    let (run, _) = rehearsed(rt, alloc, seed, paths, gate)?;
+    let starts = starts_of(alloc, run.plan.paths.as_slice())?;
+    let drivers = run.plan.drivers.as_slice().len();
+    Ok(RehearsedRun {
+        starts,
+        workers: run.workers,
+        drivers: drivers as u32,
+        history: run.history,
+    })
 }
 
 /// The command `rehearse`: rehearses so many paths, and writes the summary.

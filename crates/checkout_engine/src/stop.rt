@@ -21,6 +21,8 @@ pub enum Refusal {
     Setting(SettingFault),
     /// `info/attributes` is too large.
     InfoTooLarge,
+    /// The system's and the user's attribute files are too large together.
+    BaseTooLarge,
     /// The object of an attribute file isn't right: its path, and what is wrong.
     Attribute(Bytes, ObjectKind),
     /// An attribute file is too large: its path.

@@ -7,7 +7,7 @@ use Rattle.git_index.specs.declared.entry.Mode.{Mode}
 use Rattle.git_index.specs.declared.entry.Mode.TheVariants as mode
 use Rattle.attr_line.specs.declared.state.AttrState.{AttrState}
 use Rattle.attr_line.specs.declared.state.AttrState.TheVariants as state
-use Rattle.attr_line.specs.declared.file.AttrFile.{AttrFile}
+use Rattle.attr_stack.specs.declared.files.OuterFiles.{OuterFiles}
 use Rattle.attr_stack.specs.declared.files.AttrFiles.{AttrFiles}
 use Rattle.settings_view.specs.declared.view.Driver.{Driver}
 use Rattle.settings_view.specs.declared.view.Settings.{Settings}
@@ -18,6 +18,7 @@ use Rattle.checkout_core.specs.declared.verdict.FailCause.TheVariants as fail
 use Rattle.checkout_core.specs.declared.verdict.SkipCause.TheVariants as skip
 use Rattle.checkout_core.specs.declared.path.Start.{Start}
 use Rattle.checkout_core.specs.declared.path.Start.TheVariants as start
+use Rattle.checkout_plan.proofs.LeftOut.{left_out_by}
 use Rattle.checkout_plan.specs.AttributeFiles.{attribute_files}
 use Rattle.checkout_plan.specs.declared.path_plan.PathPlan.{PathPlan}
 use Rattle.checkout_plan.specs.Paths.{no_conversion, path_with, closed, start_by, start_at, start_named, filter_start, converted, file_path, text_path, link_path, path_of_mode, asked_path, first_entries, asked_paths, start_among, path_among, plan_of, HasCause}
@@ -61,9 +62,9 @@ link_path-cause e = elim (is_utf8 e.path) as (λ t. HasCause (if t then path_wit
 ]
 
 mode-cause : (m : Mode) (files : AttrFiles) (settings : Settings) (e : Entry) → HasCause (path_of_mode m files settings e).start
-mode-cause mode.Plain files settings e = text_path-cause files settings e
-mode-cause mode.Executable files settings e = text_path-cause files settings e
-mode-cause mode.Link files settings e = link_path-cause e
+mode-cause mode.Plain files settings e = left_out_by (λ p. HasCause p.start) e (text_path files settings e) (λ c. tt) (text_path-cause files settings e)
+mode-cause mode.Executable files settings e = left_out_by (λ p. HasCause p.start) e (text_path files settings e) (λ c. tt) (text_path-cause files settings e)
+mode-cause mode.Link files settings e = left_out_by (λ p. HasCause p.start) e (link_path e) (λ c. tt) (link_path-cause e)
 mode-cause mode.Gitlink files settings e = tt
 
 asked-cause : (files : AttrFiles) (settings : Settings) (e : Entry) → HasCause (asked_path files settings e).start
@@ -84,8 +85,8 @@ all_causes files settings asked [] = tt
 all_causes files settings asked (e ∷ es) =
     (among-cause asked (asked_path files settings e).start (asked-cause files settings e), all_causes files settings asked es)
 
-pub closed_causes : (es : List Entry) (settings : Settings) (info : AttrFile) (contents : List (List ℕ))
-    → AllByRecursion (λ p. HasCause p.start) (plan_of es settings info contents).paths
-closed_causes es settings info contents =
-    let files = attribute_files info es contents in
+pub closed_causes : (es : List Entry) (settings : Settings) (outer : OuterFiles) (contents : List (List ℕ))
+    → AllByRecursion (λ p. HasCause p.start) (plan_of es settings outer contents).paths
+closed_causes es settings outer contents =
+    let files = attribute_files outer es contents in
     unfold plan_of in all_causes files settings (asked_paths files settings es) (first_entries es)

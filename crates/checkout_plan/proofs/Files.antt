@@ -13,6 +13,7 @@ use Rattle.std.specs.Cmp.Lexicographic.{slice_cmp}
 use Rattle.edge_kit.specs.Told.{Told}
 use Rattle.git_index.specs.declared.entry.Entry.{Entry}
 use Rattle.attr_line.specs.declared.file.AttrFile.{AttrFile}
+use Rattle.attr_stack.specs.declared.files.OuterFiles.{OuterFiles}
 use Rattle.attr_stack.specs.declared.files.FileAt.{FileAt}
 use Rattle.settings_view.specs.declared.view.Settings.{Settings}
 use Rattle.checkout_plan.specs.declared.fault.PlanFault.{PlanFault}
@@ -111,12 +112,12 @@ first object es i k e fs same there is reads = record {
 }
 
 pub fault_stands : (object : List ℕ → Told) (es : List Entry) (i : ℕ) (e : Entry) (fs : List FileAt) (f : PlanFault) → slice_get es i ≡ Some e → Reads object (take i es) [] fs → Fails object e i f
-    → (info : AttrFile) (settings : Settings) → HasPlanFault object es info settings f
-fault_stands object es i e fs (fault.AttributeRead k) there reads fails info settings = (first object es i k e fs fails.why.0 there fails.is_file reads, fails.why.1)
-fault_stands object es i e fs (fault.Attribute k kind) there reads fails info settings = (first object es i k e fs fails.why.0 there fails.is_file reads, fails.why.1)
-fault_stands object es i e fs (fault.AttributeTooLarge k) there reads fails info settings = (first object es i k e fs fails.why.0 there fails.is_file reads, fails.why.1)
-fault_stands object es i e fs (fault.TooManyDrivers n) there reads fails info settings = absurd fails.why
-fault_stands object es i e fs fault.NoMemory there reads fails info settings = tt
+    → (outer : OuterFiles) (settings : Settings) → HasPlanFault object es outer settings f
+fault_stands object es i e fs (fault.AttributeRead k) there reads fails outer settings = (first object es i k e fs fails.why.0 there fails.is_file reads, fails.why.1)
+fault_stands object es i e fs (fault.Attribute k kind) there reads fails outer settings = (first object es i k e fs fails.why.0 there fails.is_file reads, fails.why.1)
+fault_stands object es i e fs (fault.AttributeTooLarge k) there reads fails outer settings = (first object es i k e fs fails.why.0 there fails.is_file reads, fails.why.1)
+fault_stands object es i e fs (fault.TooManyDrivers n) there reads fails outer settings = absurd fails.why
+fault_stands object es i e fs fault.NoMemory there reads fails outer settings = tt
 
 blob_last : (es : List Entry) (i k : ℕ) (e : Entry) (count : ℕ) (start before after : List (List ℕ × ℕ)) → k ≡ i → before ≡ start ++ blobs_of (take i es) → after ≡ with_blob before e.name count → after ≡ start ++ blobs_to es k e count
 blob_last es i k e count start before after same was now =
@@ -143,9 +144,9 @@ fault_returns object es i e fault.NoMemory start before after lt is there fails 
 
 -- ---- all entries
 
-pub all_read : (object : List ℕ → Told) (es : List Entry) (info : AttrFile) (fs : List FileAt) → Reads object es [] fs → ReadsAll object es info (record { info = info; files = fs })
+pub all_read : (object : List ℕ → Told) (es : List Entry) (outer : OuterFiles) (fs : List FileAt) → Reads object es [] fs → ReadsAll object es outer (record { info = outer.info; base = outer.base; files = fs })
 unfolding attribute_files
-all_read object es info fs a = record { contents = a.contents; read = a.read; is = ap (λ (files : List FileAt). record { info = info; files = files }) a.stand }
+all_read object es outer fs a = record { contents = a.contents; read = a.read; is = ap (λ (files : List FileAt). record { info = outer.info; base = outer.base; files = files }) a.stand }
 
 pub all_returned : (es : List Entry) (before after : List (List ℕ × ℕ)) → after ≡ before ++ blobs_of es → GivesBack es before after (Err fault.NoMemory)
 all_returned es before after is = (length es, omega arith, is ∙ ap (λ (xs : List Entry). before ++ blobs_of xs) (sym (take_all (length es) es (omega arith))))

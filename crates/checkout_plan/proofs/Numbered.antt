@@ -21,10 +21,11 @@ use Rattle.checkout_core.specs.declared.verdict.FailCause.TheVariants.{NameNotTe
 use Rattle.checkout_core.specs.declared.verdict.SkipCause.TheVariants.{Unmerged}
 use Rattle.settings_view.specs.declared.view.Driver.{Driver}
 use Rattle.settings_view.specs.declared.view.Settings.{Settings}
+use Rattle.checkout_plan.proofs.LeftOut.{left_out_by}
 use Rattle.checkout_plan.specs.declared.path_plan.PathPlan.{PathPlan}
 use Rattle.checkout_plan.specs.declared.path_plan.Plan.{Plan}
 use Rattle.checkout_plan.specs.AttributeFiles.{skipped_lines}
-use Rattle.checkout_plan.specs.Paths.{closed, start_by, start_at, start_named, filter_start, converted, conversion_names, file_path, text_path, path_of_mode, asked_path, asked_paths, first_entries, used_from, path_among, start_among, plan_with}
+use Rattle.checkout_plan.specs.Paths.{closed, start_by, start_at, start_named, filter_start, converted, conversion_names, file_path, text_path, link_path, path_of_mode, asked_path, asked_paths, first_entries, used_from, path_among, start_among, plan_with}
 use Rattle.checkout_plan.specs.Seen.{AreNumbers, StartsWithin, IsWithin, renumbered, renumbered_start}
 
 -- ---- within
@@ -66,9 +67,9 @@ text_within files settings e =
     tt
 
 mode_within : (m : Mode) (files : AttrFiles) (settings : Settings) (e : Entry) → IsWithin (length settings.drivers) (path_of_mode m files settings e)
-mode_within mode.Plain files settings e = text_within files settings e
-mode_within mode.Executable files settings e = text_within files settings e
-mode_within mode.Link files settings e = path_if (length settings.drivers) (is_utf8 e.path) _ _ tt tt
+mode_within mode.Plain files settings e = left_out_by (IsWithin (length settings.drivers)) e (text_path files settings e) (λ v. tt) (text_within files settings e)
+mode_within mode.Executable files settings e = left_out_by (IsWithin (length settings.drivers)) e (text_path files settings e) (λ v. tt) (text_within files settings e)
+mode_within mode.Link files settings e = left_out_by (IsWithin (length settings.drivers)) e (link_path e) (λ v. tt) (path_if (length settings.drivers) (is_utf8 e.path) _ _ tt tt)
 mode_within mode.Gitlink files settings e = tt
 
 path_within : (files : AttrFiles) (settings : Settings) (e : Entry) → IsWithin (length settings.drivers) (asked_path files settings e)

@@ -1,6 +1,6 @@
 -- The attribute files of an index (gitattributes(5)).
 use Rattle.std.specs.Prelude.{ℕ, Bool, true, false, ◌-◌, ◌+◌, ◌&&◌, ◌||◌, ◌==◌, ◌^◌, nat_eq, min}
-use Rattle.std.specs.Prelude.{sum_by, List, [], ◌∷◌, length, take, fold, filter, codes}
+use Rattle.std.specs.Prelude.{not, sum_by, List, [], ◌∷◌, length, take, fold, filter, codes}
 use Rattle.std.specs.List.{ends_with}
 use Rattle.std.specs.Str.{bytes_eq}
 use Rattle.std.specs.Ordering.{nat_cmp, match_ordering}
@@ -12,6 +12,7 @@ use Rattle.attr_line.specs.declared.file.AttrFile.{AttrFile}
 use Rattle.attr_line.specs.File.{attributes_at}
 use Rattle.attr_stack.specs.declared.files.FileAt.{FileAt}
 use Rattle.attr_stack.specs.declared.files.AttrFiles.{AttrFiles}
+use Rattle.attr_stack.specs.declared.files.OuterFiles.{OuterFiles}
 
 abbrev pub is_file_mode : Mode → Bool
 is_file_mode mode.Plain = true
@@ -22,9 +23,9 @@ is_file_mode m = false
 abbrev pub names_attributes : List ℕ → Bool
 names_attributes path = bytes_eq path (codes ".gitattributes") || ends_with nat_eq path (codes "/.gitattributes")
 
--- an entry that is an attribute file: a file, executable or not, of stage 0
+-- an entry that is an attribute file: a file, executable or not, of stage 0, that has its content
 abbrev pub is_attribute_file : Entry → Bool
-is_attribute_file e = e.stage == 0 && is_file_mode e.mode && names_attributes e.path
+is_attribute_file e = e.stage == 0 && is_file_mode e.mode && not e.intent && names_attributes e.path
 
 abbrev pub attribute_entries : List Entry → List Entry
 attribute_entries es = filter is_attribute_file es
@@ -50,9 +51,13 @@ with_file (g ∷ gs) f = match_ordering (slice_cmp nat_cmp f.folder g.folder) (f
 abbrev pub by_folder : List FileAt → List FileAt
 by_folder files = fold with_file [] files
 
--- the attribute files that reach the paths of an index, whose own have these contents
-unfoldable pub attribute_files : AttrFile → List Entry → List (List ℕ) → AttrFiles
-attribute_files info es contents = record { info = info; files = by_folder (files_at (attribute_entries es) contents) }
+-- the attribute files that reach the paths of an index: those outside it, and its own, which have these contents
+unfoldable pub attribute_files : OuterFiles → List Entry → List (List ℕ) → AttrFiles
+attribute_files outer es contents = record {
+  info = outer.info;
+  base = outer.base;
+  files = by_folder (files_at (attribute_entries es) contents);
+}
 
 -- how many lines of a file were skipped
 abbrev pub skipped_in : AttrFile → ℕ
@@ -63,4 +68,5 @@ skipped_at at = skipped_in at.file
 
 -- how many lines of all files were skipped, or 2^64 - 1 if there are more
 unfoldable pub skipped_lines : AttrFiles → ℕ
-skipped_lines files = min (skipped_in files.info + sum_by skipped_at files.files) (2 ^ 64 - 1)
+skipped_lines files =
+    min (skipped_in files.info + sum_by skipped_at files.files + skipped_in files.base) (2 ^ 64 - 1)

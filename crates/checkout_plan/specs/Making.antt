@@ -7,7 +7,7 @@ use Rattle.git_index.specs.declared.entry.Entry.{Entry}
 use Rattle.object_dir.specs.Object.{Gives, IsObject}
 use Rattle.object_dir.specs.declared.fault.ObjectFault.{ObjectFault}
 use Rattle.object_dir.specs.declared.fault.ObjectFault.TheVariants as object
-use Rattle.attr_line.specs.declared.file.AttrFile.{AttrFile}
+use Rattle.attr_stack.specs.declared.files.OuterFiles.{OuterFiles}
 use Rattle.checkout_core.specs.declared.verdict.ObjectKind.{ObjectKind}
 use Rattle.checkout_core.specs.declared.verdict.ObjectKind.TheVariants as kind
 use Rattle.settings_view.specs.declared.view.Settings.{Settings}
@@ -67,36 +67,36 @@ abbrev pub max_drivers : ℕ
 max_drivers = 16
 
 -- a plan of these entries, by what is told of their attribute files
-pub record HasPlan (object : List ℕ → Told) (es : List Entry) (info : AttrFile)
+pub record HasPlan (object : List ℕ → Told) (es : List Entry) (outer : OuterFiles)
     (settings : Settings) (plan : Plan) : Type 0 where
   pub contents : List (List ℕ)
   pub read : HaveContents object es contents
-  pub is : plan ≡ plan_of es settings info contents
+  pub is : plan ≡ plan_of es settings outer contents
 
 -- a number as a fault gives it, up to 2^32 - 1
 abbrev pub told_number : ℕ → ℕ
 told_number n = min n (2 ^ 32 - 1)
 
 -- why there is no plan, by what is told; out of memory needs no cause
-abbrev pub HasPlanFault : (List ℕ → Told) → List Entry → AttrFile → Settings → PlanFault → Type 0
-HasPlanFault object es info settings (fault.AttributeRead k) =
+abbrev pub HasPlanFault : (List ℕ → Told) → List Entry → OuterFiles → Settings → PlanFault → Type 0
+HasPlanFault object es outer settings (fault.AttributeRead k) =
     (f : IsFirstFault object es k) × MayFail (object f.entry.name)
-HasPlanFault object es info settings (fault.Attribute k kind) =
+HasPlanFault object es outer settings (fault.Attribute k kind) =
     (f : IsFirstFault object es k) × FitsKind (object f.entry.name) f.entry.name kind
-HasPlanFault object es info settings (fault.AttributeTooLarge k) =
+HasPlanFault object es outer settings (fault.AttributeTooLarge k) =
     (f : IsFirstFault object es k) × ((content : List ℕ)
     × Gives (object f.entry.name) f.entry.name (Ok content) × (max_attributes < length content))
-HasPlanFault object es info settings (fault.TooManyDrivers n) =
-    (plan : Plan) × HasPlan object es info settings plan
+HasPlanFault object es outer settings (fault.TooManyDrivers n) =
+    (plan : Plan) × HasPlan object es outer settings plan
     × (n ≡ told_number (length plan.drivers)) × (max_drivers < length plan.drivers)
-HasPlanFault object es info settings fault.NoMemory = Unit {0}
+HasPlanFault object es outer settings fault.NoMemory = Unit {0}
 
 -- What the making of a plan gives: the plan, or the first fault, with what shows it.
-abbrev pub MakesPlan : (List ℕ → Told) → List Entry → AttrFile → Settings → Result Plan PlanFault
+abbrev pub MakesPlan : (List ℕ → Told) → List Entry → OuterFiles → Settings → Result Plan PlanFault
     → Type 0
-MakesPlan object es info settings (Ok plan) =
-    HasPlan object es info settings plan × (length plan.drivers ≤ max_drivers)
-MakesPlan object es info settings (Err f) = HasPlanFault object es info settings f
+MakesPlan object es outer settings (Ok plan) =
+    HasPlan object es outer settings plan × (length plan.drivers ≤ max_drivers)
+MakesPlan object es outer settings (Err f) = HasPlanFault object es outer settings f
 
 -- Which blobs were given back meanwhile: those of the attribute files that were read, none of which
 -- failed, and last the one whose reading failed.

@@ -10,7 +10,7 @@ use Rattle.git_index.specs.declared.entry.Mode.{Mode}
 use Rattle.git_index.specs.declared.entry.Mode.TheVariants as mode
 use Rattle.attr_line.specs.declared.state.AttrState.{AttrState}
 use Rattle.attr_line.specs.declared.state.AttrState.TheVariants as state
-use Rattle.attr_line.specs.declared.file.AttrFile.{AttrFile}
+use Rattle.attr_stack.specs.declared.files.OuterFiles.{OuterFiles}
 use Rattle.attr_stack.specs.declared.files.AttrFiles.{AttrFiles}
 use Rattle.attr_stack.specs.Decided.{state_of}
 use Rattle.eol_convert.specs.declared.setting.LineEnds.TheVariants.{Keep}
@@ -101,10 +101,17 @@ link_path e =
     if is_utf8 e.path then path_with e no_conversion start.Pool
     else closed e (verdict.Failed fail.NameNotText)
 
+-- a path that its index entry leaves out: in a sparse checkout, or since it has no content yet
+abbrev pub unless_left_out : Entry → PathPlan → PathPlan
+unless_left_out e p =
+    if e.sparse then closed e (verdict.Skipped skip.Sparse)
+    else if e.intent then closed e (verdict.Skipped skip.Intent)
+    else p
+
 abbrev pub path_of_mode : Mode → AttrFiles → Settings → Entry → PathPlan
-path_of_mode mode.Plain files settings e = text_path files settings e
-path_of_mode mode.Executable files settings e = text_path files settings e
-path_of_mode mode.Link files settings e = link_path e
+path_of_mode mode.Plain files settings e = unless_left_out e (text_path files settings e)
+path_of_mode mode.Executable files settings e = unless_left_out e (text_path files settings e)
+path_of_mode mode.Link files settings e = unless_left_out e (link_path e)
 path_of_mode mode.Gitlink files settings e = closed e (verdict.Skipped skip.Gitlink)
 
 -- the path of an entry with the lowest stage, with its driver numbered among all those of the settings
@@ -170,10 +177,10 @@ plan_with files asked settings = record {
 abbrev pub plan_by : AttrFiles → Settings → List Entry → Plan
 plan_by files settings es = plan_with files (asked_paths files settings es) settings
 
--- The plan of an index, from its entries, the settings, what `info/attributes` says, and the contents
--- of its attribute files.
-unfoldable pub plan_of : List Entry → Settings → AttrFile → List (List ℕ) → Plan
-plan_of es settings info contents = plan_by (attribute_files info es contents) settings es
+-- The plan of an index, from its entries, the settings, the attribute files outside it, and the contents
+-- of its own.
+unfoldable pub plan_of : List Entry → Settings → OuterFiles → List (List ℕ) → Plan
+plan_of es settings outer contents = plan_by (attribute_files outer es contents) settings es
 
 -- a path that the plan closes is skipped, or fails for one of three causes
 abbrev pub HasCause : Start → Type 0
@@ -186,6 +193,6 @@ HasCause s = Unit {0}
 
 -- No path that a plan closes has a file.
 abbrev pub ClosedPathsHaveCauses : Type 0
-ClosedPathsHaveCauses = (es : List Entry) (settings : Settings) (info : AttrFile)
+ClosedPathsHaveCauses = (es : List Entry) (settings : Settings) (outer : OuterFiles)
     (contents : List (List ℕ))
-    → AllByRecursion (λ p. HasCause p.start) (plan_of es settings info contents).paths
+    → AllByRecursion (λ p. HasCause p.start) (plan_of es settings outer contents).paths

@@ -13,6 +13,7 @@ use Rattle.object_dir.specs.Object.{Gives}
 use Rattle.object_dir.specs.declared.fault.ObjectFault.{ObjectFault}
 use Rattle.object_dir.specs.declared.fault.ObjectFault.TheVariants as object
 use Rattle.attr_line.specs.declared.file.AttrFile.{AttrFile}
+use Rattle.attr_stack.specs.declared.files.OuterFiles.{OuterFiles}
 use Rattle.attr_line.specs.declared.state.AttrState.{AttrState}
 use Rattle.attr_line.specs.declared.state.AttrState.TheVariants.{Unspecified}
 use Rattle.attr_stack.specs.declared.files.FileAt.{FileAt}
@@ -104,10 +105,10 @@ ReturnsEntry {T} e before after (Ok x) = after ≡ before ++ blobs_of (e ∷ [])
 ReturnsEntry {T} e before after (Err f) = ReturnsFile {T = T} e.name before after (Err f)
 
 -- the attribute files of an index are read, as they reach its paths
-pub record ReadsAll (object : List ℕ → Told) (es : List Entry) (info : AttrFile) (files : AttrFiles) : Type 0 where
+pub record ReadsAll (object : List ℕ → Told) (es : List Entry) (outer : OuterFiles) (files : AttrFiles) : Type 0 where
   pub contents : List (List ℕ)
   pub read : HaveContents object es contents
-  pub is : files ≡ attribute_files info es contents
+  pub is : files ≡ attribute_files outer es contents
 
 -- starts of paths by the names of drivers
 abbrev pub Starts : Type 0

@@ -195,9 +195,11 @@ impl<'a> Asking<'a> {
             return closed(alloc, entry, Verdict::Skipped(SkipCause::Unmerged));
         }
         match entry.mode {
+            Mode::Gitlink => closed(alloc, entry, Verdict::Skipped(SkipCause::Gitlink)),
+            _ if entry.sparse => closed(alloc, entry, Verdict::Skipped(SkipCause::Sparse)),
+            _ if entry.intent => closed(alloc, entry, Verdict::Skipped(SkipCause::Intent)),
             Mode::Plain | Mode::Executable => self.text_path(alloc, entry),
             Mode::Link => link_path(alloc, entry),
-            Mode::Gitlink => closed(alloc, entry, Verdict::Skipped(SkipCause::Gitlink)),
         }
     }
 

@@ -22,5 +22,5 @@ pub fn skipped_lines(files: &AttrFiles) -> u64
     for at in folders {
         lines = lines.saturating_add(skipped_in(&at.file));
     }
-    lines
+    lines.saturating_add(skipped_in(&files.base))
 }

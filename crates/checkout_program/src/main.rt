@@ -1,48 +1,35 @@
 //! Checks out the index of a Git folder with uncompressed objects into an empty folder, by its configuration and its
-//! attributes, or shows the plan of that.
+//! attributes, or shows the plan of that. It also writes and judges journals.
 //!
-//! A checkout shows how many paths are closed, if standard error is a terminal.
+//! A checkout shows how many paths are closed, if standard error is a terminal. Standard error also says what is wrong
+//! with words, why files weren't written, and what a driver wrote in place of packets. A checkout writes its journal if
+//! the environment names a file for it.
 #![tactic(auto)]
 
-ghost use Rattle.std.specs.Prelude.{◌≡◌, IfOk, IfErr, IsErr, drop, option_map, string_bytes};
-ghost use Rattle.std.specs.Vec.Iter.{into_iter_items};
-ghost use Rattle.std.specs.IoError.{error_kind};
-ghost use Rattle.std.specs.declared.io.ErrorKind.TheVariants.{OutOfMemory};
-ghost use Rattle.checkout_program.specs.Words.{word_at, words_of, message_of};
+ghost use Rattle.std.specs.Prelude.{◌≡◌, IfOk, option_map, string_bytes};
+ghost use Rattle.checkout_program.specs.Words.{word_at, message_for};
 
-mod progress;
+mod journal_place;
+mod wrong_words;
 
-use crate::progress::{CountingTree, Progress};
+use crate::journal_place::{JournalPlace, journal_place};
+use crate::wrong_words::{answer, explanation};
+use checkout_core::Event;
 use checkout_engine::run;
-use edge_adapters::{FolderRepo, FolderTree, OutputSink, ProcessSpawner};
-use edge_kit::{Gate, Repo, Sink, Spawner, Worktree};
+use edge_adapters::{FolderBlob, FolderRepo, FolderTree, OutputSink, ProcessSpawner};
+use edge_kit::NoGate;
+use journal_run::{is_journal, journal_run};
+use program_kit::{
+    CountingTree, Ended, Progress, has_terminal, message_of, show_drivers, show_errors,
+    show_refused_path, words_of,
+};
 use std::alloc::{AllocError, Global};
-use std::env::{Args, args};
-use std::io;
-use std::io::{ErrorKind, writer};
+use std::env::args;
+use std::io::writer;
 use std::process::ExitCode;
 use std::sync::Wait;
 use std::sync::atomic::AtomicU32;
 use std::thread::Threads;
-
-/// The words after the first.
-fn rest_of(alloc: Global, all: Args) -> Result<Vec<String>, AllocError>
-    ensures { IfOk result (λ words. words.items ≡ drop 1 (into_iter_items all)) }
-{
-    all.skip(1).collect(alloc)
-}
-
-/// The words after the program's name, or none if one of them isn't text.
-fn words_of(alloc: Global, all: io::Result<Args>) -> Result<Vec<String>, AllocError>
-    ensures words { IfOk result (λ words. words.items ≡ words_of all) }
-    ensures memory { IfErr all (λ e. error_kind e ≡ OutOfMemory → IsErr result) }
-{
-    match all {
-        Ok(all) => rest_of(alloc, all),
-        Err(error) if error.kind() == ErrorKind::OutOfMemory => Err(AllocError),
-        Err(_) => Ok(Vec::new(alloc)),
-    }
-}
 
 /// The word with this number, or the empty text if it is missing.
 fn word_at(rt: HostRuntime, words: &[String], number: usize) -> Result<String, AllocError>
@@ -55,16 +42,12 @@ fn word_at(rt: HostRuntime, words: &[String], number: usize) -> Result<String, A
 }
 
 /// What a status says on standard error.
-fn message_of(status: u8) -> Option<&'static str>
-    ensures { option_map (λ text. text.now) result ≡ message_of status }
+fn message_for(status: u8) -> Option<&'static str>
+    ensures { option_map (λ text. text.now) result ≡ message_for status }
 {
     match status {
-        2 => Some("usage: REPO TREE checkout|plan|rehearse"),
-        4 => Some("output not written"),
-        5 => Some("out of memory"),
-        6 => Some("read fault"),
-        7 => Some("worktree not empty"),
-        _ => None,
+        2 => Some("usage: REPO TREE checkout|plan|rehearse|journal|audit"),
+        _ => message_of(status),
     }
 }
 
@@ -78,48 +61,26 @@ fn folders_of(rt: HostRuntime, words: &[String]) -> Result<(FolderRepo, FolderTr
     Ok((FolderRepo::new(rt, repo), FolderTree::new(rt, tree)))
 }
 
-/// The status of a run of these words. Its history isn't kept.
-fn status_of<R: Repo, T: Worktree, P: Spawner, G: Gate, O: Sink, H: Threads + Wait + Sync>(
-    threads: &H,
-    alloc: Global,
-    words: &[String],
-    repo: &mut R,
-    tree: &mut T,
-    spawner: &mut P,
-    gate: &G,
-    out: &mut O,
-) -> u8 {
-    let mut history = Vec::new(alloc);
-    run(
-        threads,
-        alloc,
-        words,
-        repo,
-        tree,
-        spawner,
-        gate,
-        out,
-        &mut history,
-    )
-}
-
-/// Runs these words in these folders, and shows how many paths are closed.
+/// Runs these words in these folders, and shows how many paths are closed, and then what else is to be said. With the
+/// status come the events of a checkout.
 fn run_in<H: Threads + Wait + Sync>(
     rt: HostRuntime,
     threads: &H,
     words: &[String],
     repo: &mut FolderRepo,
     tree: FolderTree,
-) -> u8 {
+) -> (u8, Vec<Event>) {
+    // first, since it takes the number of a closed standard error
+    let mut spawner = ProcessSpawner::new(rt);
     let leaves = AtomicU32::new(0);
-    let progress = Progress::new(rt, &leaves);
+    let progress = Progress::new(rt, &leaves, has_terminal(rt));
     let mut tree = CountingTree {
         tree,
         leaves: &leaves,
     };
-    let mut spawner = ProcessSpawner::new(rt);
-    let mut out = OutputSink::new(writer(&rt));
-    let status = status_of(
+    let mut out = OutputSink::new(rt, writer(&rt));
+    let mut history = Vec::new(rt.alloc());
+    let status = run(
         threads,
         rt.alloc(),
         words,
@@ -128,21 +89,109 @@ fn run_in<H: Threads + Wait + Sync>(
         &mut spawner,
         &progress,
         &mut out,
+        &mut history,
     );
     progress.end();
+    show_errors(rt, tree.tree.errors());
+    show_drivers(rt, spawner.drivers());
+    (status, history)
+}
+
+/// Writes what a status says on standard error.
+fn show_message(rt: HostRuntime, status: u8) {
+    if let Some(message) = message_for(status) {
+        let _ = eprintln!(rt; "{message}");
+    }
+}
+
+/// Says that the words name no command, and why. If they ask for help or the version, they get it on standard output.
+fn end_wrong(rt: HostRuntime, words: &[String], are_text: bool) -> u8 {
+    if let Some(text) = answer(words) {
+        return match print!(rt; "{text}") {
+            Ok(()) => 2,
+            Err(_) => {
+                show_message(rt, 4);
+                4
+            }
+        };
+    }
+    show_message(rt, 2);
+    if !are_text {
+        let _ = eprintln!(rt; "a word is not UTF-8");
+    } else if let Ok(Some(why)) = explanation(rt.alloc(), words) {
+        let _ = eprintln!(rt; "{why}");
+    }
+    let _ = eprintln!(rt; "the manual page is docs/siuwbren.1");
+    2
+}
+
+/// Says more of a status.
+fn end_with(rt: HostRuntime, status: u8, words: &[String], are_text: bool) -> u8 {
+    if status == 2 {
+        return end_wrong(rt, words, are_text);
+    }
+    show_message(rt, status);
     status
 }
 
+/// Writes or judges a journal, as these words ask for it: the status.
+fn journal_words<H: Threads + Wait + Sync>(
+    rt: HostRuntime,
+    threads: &H,
+    words: &[String],
+) -> Result<u8, AllocError> {
+    let mut text = FolderBlob::of_file(rt, word_at(rt, words, 0)?);
+    let mut out = OutputSink::new(rt, writer(&rt));
+    let status = journal_run(threads, rt.alloc(), words, &mut text, &NoGate, &mut out);
+    Ok(status)
+}
+
+/// Runs these words in the folders that they name, and writes the journal of a checkout that reached its report.
+fn folder_words<H: Threads + Wait + Sync>(
+    rt: HostRuntime,
+    threads: &H,
+    words: &[String],
+    are_text: bool,
+    place: JournalPlace,
+) -> Result<u8, AllocError> {
+    let (mut repo, tree) = folders_of(rt, words)?;
+    let (status, history) = run_in(rt, threads, words, &mut repo, tree);
+    let said = end_with(rt, status, words, are_text);
+    if status == 3 {
+        show_refused_path(rt, &mut repo);
+    }
+    if let JournalPlace::File(journal) = place {
+        let history = history.as_slice();
+        let ended = Ended {
+            words,
+            status,
+            history,
+        };
+        journal.end(&mut repo, ended);
+    }
+    Ok(said)
+}
+
 fn run_words<H: Threads + Wait + Sync>(rt: HostRuntime, threads: &H) -> Result<u8, AllocError> {
-    let words = words_of(rt.alloc(), args(&rt))?;
-    let (mut repo, tree) = folders_of(rt, &words)?;
-    Ok(run_in(rt, threads, &words, &mut repo, tree))
+    let all = args(&rt);
+    let are_text = all.is_ok();
+    let words = words_of(rt.alloc(), all)?;
+    if is_journal(&words) {
+        let status = journal_words(rt, threads, &words)?;
+        return Ok(end_with(rt, status, &words, are_text));
+    }
+    match journal_place(rt, &words)? {
+        JournalPlace::Unusable => Ok(2),
+        place => folder_words(rt, threads, &words, are_text, place),
+    }
 }
 
 fn main(rt: HostRuntime) -> ExitCode {
-    let status = run_words(rt, &rt).unwrap_or(5);
-    if let Some(message) = message_of(status) {
-        let _ = eprintln!(rt; "{message}");
+    match run_words(rt, &rt) {
+        Ok(status) => ExitCode::from(status),
+        Err(_) => {
+            show_message(rt, 5);
+            ExitCode::from(5)
+        }
     }
-    ExitCode::from(status)
 }

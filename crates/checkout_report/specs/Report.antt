@@ -4,16 +4,7 @@ use Rattle.std.specs.Fmt.{decimal}
 use Rattle.byte_path.specs.Quote.{quoted}
 use Rattle.edge_kit.specs.declared.leaf_state.Mark.{Mark}
 use Rattle.edge_kit.specs.declared.leaf_state.Mark.TheVariants as mark
-use Rattle.filter_words.specs.declared.reply.BreakCause.{BreakCause}
-use Rattle.filter_words.specs.declared.reply.BreakCause.TheVariants as break
-use Rattle.checkout_core.specs.declared.verdict.FilterCause.{FilterCause}
-use Rattle.checkout_core.specs.declared.verdict.FilterCause.TheVariants as filter
-use Rattle.checkout_core.specs.declared.verdict.ObjectKind.{ObjectKind}
-use Rattle.checkout_core.specs.declared.verdict.ObjectKind.TheVariants as object
-use Rattle.checkout_core.specs.declared.verdict.SkipCause.{SkipCause}
-use Rattle.checkout_core.specs.declared.verdict.SkipCause.TheVariants as skip
-use Rattle.checkout_core.specs.declared.verdict.FailCause.{FailCause}
-use Rattle.checkout_core.specs.declared.verdict.FailCause.TheVariants as fail
+use Rattle.checkout_core.specs.CauseWords.{filter_word, fail_word, skip_word}
 use Rattle.checkout_core.specs.declared.verdict.Verdict.{Verdict}
 use Rattle.checkout_core.specs.declared.verdict.Verdict.TheVariants as verdict
 use Rattle.checkout_report.specs.declared.report.ReportPath.{ReportPath}
@@ -40,47 +31,6 @@ abbrev pub note_of : Verdict → List ℕ
 note_of (verdict.Written unencoded) = encoding_word unencoded
 note_of (verdict.Unfiltered cause unencoded) = encoding_word unencoded
 note_of v = codes "-"
-
-abbrev pub break_word : BreakCause → List ℕ
-break_word break.Ended = codes "broken-ended"
-break_word break.LinkFault = codes "broken-link"
-break_word break.BadPacket = codes "broken-packet"
-break_word break.BadHandshake = codes "broken-handshake"
-break_word break.UnknownStatus = codes "broken-status"
-break_word break.StrangeDelay = codes "broken-delay"
-break_word break.TooLong = codes "broken-too-long"
--- these two end a list and are in no verdict
-break_word break.StrangePath = codes "broken-path"
-break_word break.ListRefused = codes "broken-list"
-
-abbrev pub filter_word : FilterCause → List ℕ
-filter_word filter.Error = codes "filter-error"
-filter_word filter.ErrorAfter = codes "filter-error-late"
-filter_word filter.Abort = codes "filter-abort"
-filter_word filter.NoSmudge = codes "filter-no-smudge"
-filter_word filter.NotStarted = codes "filter-not-started"
-filter_word (filter.Broken cause) = break_word cause
-
-abbrev pub object_word : ObjectKind → List ℕ
-object_word object.Absent = codes "object-absent"
-object_word object.Header = codes "object-header"
-object_word object.Size = codes "object-size"
-object_word object.WrongName = codes "object-name"
-object_word object.TooLarge = codes "object-too-large"
-
-abbrev pub fail_word : FailCause → List ℕ
-fail_word (fail.Filter cause) = filter_word cause
-fail_word fail.Missing = codes "missing"
-fail_word fail.NoProcess = codes "no-process"
-fail_word (fail.Object kind) = object_word kind
-fail_word fail.UnknownEncoding = codes "encoding"
-fail_word fail.NameNotText = codes "name"
-fail_word fail.ReadFailed = codes "read"
-fail_word fail.WriteFailed = codes "write"
-
-abbrev pub skip_word : SkipCause → List ℕ
-skip_word skip.Gitlink = codes "gitlink"
-skip_word skip.Unmerged = codes "unmerged"
 
 abbrev pub cause_of : Verdict → List ℕ
 cause_of (verdict.Written unencoded) = codes "-"

@@ -7,4 +7,4 @@ mod words;
 pub use report::{
     ReportPath, failed_count, is_failed, report_text, unfiltered_count, written_count,
 };
-pub use words::{cause_of, mark_word, object_word};
+pub use words::{cause_of, mark_word};

@@ -1,12 +1,9 @@
 //! The words of a line of the report.
 ghost use Rattle.std.specs.Prelude.{◌≡◌};
-ghost use Rattle.checkout_report.specs.Report.{word_of, mark_word, encoding_word, note_of};
-ghost use Rattle.checkout_report.specs.Report.{break_word, filter_word, object_word, fail_word};
-ghost use Rattle.checkout_report.specs.Report.{skip_word, cause_of};
+ghost use Rattle.checkout_report.specs.Report.{word_of, mark_word, encoding_word, note_of, cause_of};
 
-use checkout_core::{FailCause, FilterCause, ObjectKind, SkipCause, Verdict};
+use checkout_core::Verdict;
 use edge_kit::Mark;
-use filter_words::BreakCause;
 
 /// What happened to the path.
 pub fn word_of(verdict: Verdict) -> &'static str
@@ -49,80 +46,14 @@ pub fn note_of(verdict: Verdict) -> &'static str
     }
 }
 
-fn break_word(cause: BreakCause) -> &'static str
-    ensures { result.now ≡ break_word cause }
-{
-    match cause {
-        BreakCause::Ended => "broken-ended",
-        BreakCause::LinkFault => "broken-link",
-        BreakCause::BadPacket => "broken-packet",
-        BreakCause::BadHandshake => "broken-handshake",
-        BreakCause::UnknownStatus => "broken-status",
-        BreakCause::StrangeDelay => "broken-delay",
-        BreakCause::TooLong => "broken-too-long",
-        BreakCause::StrangePath => "broken-path",
-        BreakCause::ListRefused => "broken-list",
-    }
-}
-
-fn filter_word(cause: FilterCause) -> &'static str
-    ensures { result.now ≡ filter_word cause }
-{
-    match cause {
-        FilterCause::Error => "filter-error",
-        FilterCause::ErrorAfter => "filter-error-late",
-        FilterCause::Abort => "filter-abort",
-        FilterCause::NoSmudge => "filter-no-smudge",
-        FilterCause::NotStarted => "filter-not-started",
-        FilterCause::Broken(cause) => break_word(cause),
-    }
-}
-
-/// What is wrong with an object, in the report's words.
-pub fn object_word(kind: ObjectKind) -> &'static str
-    ensures { result.now ≡ object_word kind }
-{
-    match kind {
-        ObjectKind::Absent => "object-absent",
-        ObjectKind::Header => "object-header",
-        ObjectKind::Size => "object-size",
-        ObjectKind::WrongName => "object-name",
-        ObjectKind::TooLarge => "object-too-large",
-    }
-}
-
-fn fail_word(cause: FailCause) -> &'static str
-    ensures { result.now ≡ fail_word cause }
-{
-    match cause {
-        FailCause::Filter(cause) => filter_word(cause),
-        FailCause::Missing => "missing",
-        FailCause::NoProcess => "no-process",
-        FailCause::Object(kind) => object_word(kind),
-        FailCause::UnknownEncoding => "encoding",
-        FailCause::NameNotText => "name",
-        FailCause::ReadFailed => "read",
-        FailCause::WriteFailed => "write",
-    }
-}
-
-fn skip_word(cause: SkipCause) -> &'static str
-    ensures { result.now ≡ skip_word cause }
-{
-    match cause {
-        SkipCause::Gitlink => "gitlink",
-        SkipCause::Unmerged => "unmerged",
-    }
-}
-
 /// The cause of the path's word.
 pub fn cause_of(verdict: Verdict) -> &'static str
     ensures { result.now ≡ cause_of verdict }
 {
     match verdict {
         Verdict::Written { .. } | Verdict::NoMemory => "-",
-        Verdict::Unfiltered { cause, .. } => filter_word(cause),
-        Verdict::Failed(cause) => fail_word(cause),
-        Verdict::Skipped(cause) => skip_word(cause),
+        Verdict::Unfiltered { cause, .. } => cause.word(),
+        Verdict::Failed(cause) => cause.word(),
+        Verdict::Skipped(cause) => cause.word(),
     }
 }

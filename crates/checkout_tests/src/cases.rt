@@ -1,24 +1,30 @@
 //! The cases of the tests: what a run meets, and what it leaves.
 //!
 //! A case is a row of cells. Its last cell is what it leaves: the output, the status, and a line for each file. The
-//! others say what it meets, each by a word, whose first letter tells, and what stands behind it:
+//! others say what it meets, each by a word, whose first letter tells, and what stands behind it. Any other is an
+//! error:
 //!
 //! - `words`: the words after the two folders, `checkout` if there are none;
-//! - `entry`: the letters of its mode and of its object, and its path;
+//! - `entry`: the letters of its kind and of its object, and its path;
+//! - `given`: the same letters, and the bytes of the entry from its flags on;
+//! - `version`: that of the index. Without it, it is 3 if the kind of an entry asks for it, and else 2;
 //! - `plain`: so many plain files, the first with the path `p10000`, the next `p10001`, and so on;
 //! - `tail`: the extensions of the index, and `hash`: its hash, if it has one;
 //! - `absent`: there is no index;
 //! - `object`: the letter of another name for the object `HI`, `bytes`: its bytes, and `nuls`: how many NULs follow;
 //! - `config` and `info`: the configuration, and what `info/attributes` holds;
-//! - `read-fails`: what can't be read: the `index`, the `config`, the `info`, or the object with this letter;
+//! - `xdg`: a number, and a text: the system's and the user's attribute files hold the text so many times;
+//! - `read-fails`: what can't be read: the `index`, the `config`, the `info`, the `base` (the user's file), or the
+//! object with this
+//!   letter;
 //! - `memory`: whether memory runs out at the `make` or the `read` of a blob, and the letter of its object;
 //! - `leaf`: which call on a leaf fails, and its path, and `sink`: the write that fails;
 //! - `full`: the worktree isn't empty, and `unchecked`: it can't tell;
 //! - `driver`: a driver's command, and what it writes in its only session.
 use crate::gate::Watch;
-use crate::index::{PLAIN, index_bytes, mode_of, push_entry};
+use crate::index::{PLAIN, index_bytes, kind_of, push_entry, push_head, whole};
 use crate::out_of_memory::OutOfMemoryRepo;
-use crate::table::{number_of, parted, rows_of};
+use crate::table::{number_of, parted, rows_of, text_of_row, unknown};
 use byte_path::{Bytes, Items};
 use checkout_core::Event;
 use checkout_engine::run;
@@ -104,8 +110,8 @@ const OBJECTS: [([u8; 20], &[u8]); 9] = [
 ];
 
 /// The name of the object with this letter.
-fn name_of(letters: &[u8]) -> [u8; 20] {
-    match letters {
+fn name_of(letters: &[u8]) -> Result<[u8; 20], Fail> {
+    Ok(match letters {
         [b'h'] => HI,
         [b'b'] => BIN,
         [b'm'] => MIXED,
@@ -117,14 +123,16 @@ fn name_of(letters: &[u8]) -> [u8; 20] {
         [b'n'] => NULS,
         [b'4'] => LETTERS,
         [b'p'] => POINTER,
-        _ => [9; 20],
-    }
+        [b'9'] => [9; 20],
+        _ => return Err(unknown(letters)),
+    })
 }
 
 /// What a run meets.
 #[derive(Drop)]
 pub struct Case {
     pub words: Vec<String>,
+    pub version: u32,
     pub entries: Vec<u8>,
     pub count: u32,
     pub tail: Vec<u8>,
@@ -135,6 +143,7 @@ pub struct Case {
     pub nuls: u32,
     pub config: Option<Vec<u8>>,
     pub info: Option<Vec<u8>>,
+    pub base: Option<Vec<u8>>,
     pub read_fails: Vec<RepoFail>,
     pub unmade: Option<[u8; 20]>,
     pub unread: Option<[u8; 20]>,
@@ -167,6 +176,7 @@ fn words_of(alloc: Global, text: &[u8]) -> Result<Vec<String>, Fail> {
 fn no_case(alloc: Global) -> Result<Case, Fail> {
     Ok(Case {
         words: words_of(alloc, b"checkout")?,
+        version: 2,
         entries: Vec::new(alloc),
         count: 0,
         tail: Vec::new(alloc),
@@ -177,6 +187,7 @@ fn no_case(alloc: Global) -> Result<Case, Fail> {
         nuls: 0,
         config: None,
         info: None,
+        base: None,
         read_fails: Vec::new(alloc),
         unmade: None,
         unread: None,
@@ -188,46 +199,68 @@ fn no_case(alloc: Global) -> Result<Case, Fail> {
     })
 }
 
-fn add_entry(case: &mut Case, value: &[u8]) -> Result<(), AllocError> {
-    if let [mode, object, b' ', path @ ..] = value {
-        let (mode, stage) = mode_of(*mode);
-        push_entry(&mut case.entries, mode, stage, &name_of(&[*object]), path)?;
-        case.count = case.count.wrapping_add(1);
+fn add_entry(case: &mut Case, value: &[u8]) -> Result<(), Fail> {
+    let [kind, object, b' ', path @ ..] = value else {
+        return Err(unknown(value));
+    };
+    let kind = kind_of(*kind)?;
+    if kind.more != 0 {
+        case.version = 3;
     }
+    push_entry(&mut case.entries, kind, &name_of(&[*object])?, path)?;
+    case.count = case.count.wrapping_add(1);
+    Ok(())
+}
+
+fn add_given(case: &mut Case, value: &[u8]) -> Result<(), Fail> {
+    let [kind, object, b' ', bytes @ ..] = value else {
+        return Err(unknown(value));
+    };
+    push_head(
+        &mut case.entries,
+        kind_of(*kind)?.mode,
+        &name_of(&[*object])?,
+    )?;
+    case.entries.extend_from_slice(bytes)?;
+    case.count = case.count.wrapping_add(1);
     Ok(())
 }
 
 fn add_plain_files(alloc: Global, case: &mut Case, count: u32) -> Result<(), AllocError> {
     for number in 0..count {
         let path = format!(in alloc; "p{}", 10_000u32.wrapping_add(number))?;
-        push_entry(&mut case.entries, PLAIN, 0, &HI, path.as_bytes())?;
+        push_entry(&mut case.entries, whole(PLAIN), &HI, path.as_bytes())?;
     }
     case.count = case.count.wrapping_add(count);
     Ok(())
 }
 
-fn hash_of(word: &[u8]) -> [u8; 20] {
+fn hash_of(word: &[u8]) -> Result<[u8; 20], Fail> {
     match word {
-        [b'o', b'n', ..] => ONE_ENTRY,
-        [b'n', ..] => NO_ENTRIES,
-        _ => [1; 20],
+        b"one" => Ok(ONE_ENTRY),
+        b"none" => Ok(NO_ENTRIES),
+        b"other" => Ok([1; 20]),
+        _ => Err(unknown(word)),
     }
 }
 
-fn read_fail_of(word: &[u8]) -> RepoFail {
+fn read_fail_of(word: &[u8]) -> Result<RepoFail, Fail> {
     match word {
-        [_] => RepoFail::Object(name_of(word)),
-        [_, b'n', b'd', ..] => RepoFail::Index,
-        [_, b'n', ..] => RepoFail::Info,
-        _ => RepoFail::Config,
+        b"index" => Ok(RepoFail::Index),
+        b"config" => Ok(RepoFail::Config),
+        b"info" => Ok(RepoFail::Info),
+        b"base" => Ok(RepoFail::Base),
+        _ => Ok(RepoFail::Object(name_of(word)?)),
     }
 }
 
-fn leaf_call_of(word: &[u8]) -> LeafCall {
+fn leaf_call_of(word: &[u8]) -> Result<LeafCall, Fail> {
     match word {
-        [b'p', ..] => LeafCall::Put,
-        [b's', ..] => LeafCall::Seal,
-        _ => LeafCall::Restart,
+        b"put" => Ok(LeafCall::Put),
+        b"seal" => Ok(LeafCall::Seal),
+        b"restart" => Ok(LeafCall::Restart),
+        b"discard" => Ok(LeafCall::Discard),
+        _ => Err(unknown(word)),
     }
 }
 
@@ -251,54 +284,76 @@ fn script_of(alloc: Global, command: &[u8], output: &[u8]) -> Result<DriverScrip
     })
 }
 
-/// Takes what a cell says of the repository. Any other cell says nothing of it.
-fn set_repo(alloc: Global, case: &mut Case, letter: u8, value: &[u8]) -> Result<(), Fail> {
+/// A text, so many times as the number before it says.
+fn repeated(alloc: Global, value: &[u8]) -> Result<Vec<u8>, Fail> {
+    let (count, text) = parted(value);
+    let mut all = Vec::new(alloc);
+    for _ in 0..number_of(count)? {
+        all.extend_from_slice(text)?;
+    }
+    Ok(all)
+}
+
+/// Takes what a cell says of the repository. Whether it is such a cell.
+fn set_repo(alloc: Global, case: &mut Case, letter: u8, value: &[u8]) -> Result<bool, Fail> {
     match letter {
         b'e' => add_entry(case, value)?,
-        b'p' => add_plain_files(alloc, case, number_of(value))?,
+        b'g' => add_given(case, value)?,
+        b'v' => case.version = number_of(value)?,
+        b'p' => add_plain_files(alloc, case, number_of(value)?)?,
         b't' => case.tail = Vec::from_slice(alloc, value)?,
-        b'h' => case.hash = hash_of(value),
+        b'h' => case.hash = hash_of(value)?,
         b'a' => case.has_index = false,
-        b'o' => case.object = name_of(value),
+        b'o' => case.object = name_of(value)?,
         b'b' => case.stored = Vec::from_slice(alloc, value)?,
-        b'n' => case.nuls = number_of(value),
+        b'n' => case.nuls = number_of(value)?,
         b'c' => case.config = Some(Vec::from_slice(alloc, value)?),
         b'i' => case.info = Some(Vec::from_slice(alloc, value)?),
-        b'r' => case.read_fails.push(read_fail_of(value))?,
-        _ => {}
+        b'x' => case.base = Some(repeated(alloc, value)?),
+        b'r' => case.read_fails.push(read_fail_of(value)?)?,
+        _ => return Ok(false),
+    }
+    Ok(true)
+}
+
+/// Takes what a cell says of memory that runs out.
+fn set_memory(case: &mut Case, word: &[u8], letter: &[u8]) -> Result<(), Fail> {
+    match word {
+        b"make" => case.unmade = Some(name_of(letter)?),
+        b"read" => case.unread = Some(name_of(letter)?),
+        _ => return Err(unknown(word)),
     }
     Ok(())
 }
 
-/// Takes what a cell says of all else.
-fn set_rest(alloc: Global, case: &mut Case, letter: u8, value: &[u8]) -> Result<(), Fail> {
+/// Takes what a cell says of all else. Whether it is such a cell.
+fn set_rest(alloc: Global, case: &mut Case, letter: u8, value: &[u8]) -> Result<bool, Fail> {
     let (word, rest) = parted(value);
     match letter {
         b'w' => case.words = words_of(alloc, value)?,
-        b'm' => match word {
-            [b'm', ..] => case.unmade = Some(name_of(rest)),
-            _ => case.unread = Some(name_of(rest)),
-        },
+        b'm' => set_memory(case, word, rest)?,
         b'l' => case
             .leaf_fails
-            .push((Bytes::copy_of(alloc, rest)?, leaf_call_of(word)))?,
-        b's' => case.sink_fails = Some(number_of(value)),
+            .push((Bytes::copy_of(alloc, rest)?, leaf_call_of(word)?))?,
+        b's' => case.sink_fails = Some(number_of(value)?),
         b'f' => case.empty = false,
         b'u' => case.check_fails = true,
         b'd' => case.scripts.push(script_of(alloc, word, rest)?)?,
-        _ => {}
+        _ => return Ok(false),
     }
-    Ok(())
+    Ok(true)
 }
 
-/// Takes what a cell says of a case. A cell with a capital says nothing of it.
+/// Takes what a cell says of a case.
 pub fn set(alloc: Global, case: &mut Case, cell: &[u8]) -> Result<(), Fail> {
     let (_, value) = parted(cell);
-    if let [letter, ..] = cell {
-        set_repo(alloc, case, *letter, value)?;
-        set_rest(alloc, case, *letter, value)?;
+    let [letter, ..] = cell else {
+        return Err(unknown(cell));
+    };
+    if set_repo(alloc, case, *letter, value)? || set_rest(alloc, case, *letter, value)? {
+        return Ok(());
     }
-    Ok(())
+    Err(unknown(cell))
 }
 
 /// The case of these cells.
@@ -313,7 +368,14 @@ pub fn case_of(alloc: Global, cells: &[Vec<u8>]) -> Result<Case, Fail> {
 fn memory_repo_of(alloc: Global, case: &Case) -> Result<MemoryRepo, AllocError> {
     let index = if case.has_index {
         let entries = case.entries.as_slice();
-        Some(index_bytes(alloc, case.count, entries, &case.tail, &case.hash)?)
+        Some(index_bytes(
+            alloc,
+            case.version,
+            case.count,
+            entries,
+            &case.tail,
+            &case.hash,
+        )?)
     } else {
         None
     };
@@ -330,7 +392,11 @@ fn memory_repo_of(alloc: Global, case: &Case) -> Result<MemoryRepo, AllocError> 
     for fail in case.read_fails.as_slice() {
         fails.push(*fail)?;
     }
-    Ok(MemoryRepo::new(alloc, index, config, info, objects, fails))
+    let repo = MemoryRepo::new(alloc, index, config, info, objects, fails);
+    match &case.base {
+        Some(base) => Ok(repo.with_base(Vec::from_slice(alloc, base)?)),
+        None => Ok(repo),
+    }
 }
 
 fn copied(alloc: Global, file: &Option<Vec<u8>>) -> Result<Option<Vec<u8>>, AllocError> {
@@ -447,7 +513,8 @@ pub fn check<H: Threads + Wait + Sync + Abort>(
         };
         let left = ended(rt, alloc, case_of(alloc, cells)?)?;
         let seen = text_of(alloc, &left)?;
-        assert_eq!(rt; seen.as_str(), str::from_utf8(wanted)?);
+        let row = text_of_row(alloc, cells)?;
+        assert_eq!(rt; seen.as_str(), str::from_utf8(wanted)?, "{row}");
     }
     Ok(())
 }

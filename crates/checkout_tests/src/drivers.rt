@@ -10,11 +10,11 @@ const DELAYED: &[u8] = b"\
         Gives 0016git-filter-server\n000eversion=2\n00000016capability=smudge\n0015capability=delay\n\
             00000013status=delayed\n00000015pathname=big.psd\n00000013status=success\n00000013status=success\n\
             0000000bpixels\n0000000000000013status=success\n0000|\
-        Sent 0013command=smudge\n0015pathname=big.psd\n0010can-delay=1\n\
-            00000086version https://git-lfs.github.com/spec/v1\n\
+        Sent 0013command=smudge\n0015pathname=big.psd\n0032blob=60c8d8ab2adcf57a391163a7eeb0cdb8bf348e44\n\
+            0010can-delay=1\n00000086version https://git-lfs.github.com/spec/v1\n\
             oid sha256:4d7a214614ab2935c943f9e0ff69d22eadbb8f32b1258daaa5e2ca24d17e2393\nsize 12345\n\
             00000021command=list_available_blobs\n00000013command=smudge\n0015pathname=big.psd\n\
-            000000000021command=list_available_blobs\n0000|\
+            0032blob=60c8d8ab2adcf57a391163a7eeb0cdb8bf348e44\n000000000021command=list_available_blobs\n0000|\
         Notes open\n0 Delayed\n0 named\nlist Names(1)\n0 again Content\nlist Empty\n|\
         written - - - big.psd\ndone 1 0 0 0\nstatus 0\nbig.psd: pixels\n%\
     a path that is never listed|\
@@ -25,11 +25,13 @@ const DELAYED: &[u8] = b"\
             00000013status=delayed\n00000013status=delayed\n00000013status=delayed\n00000010pathname=p3\n\
             0010pathname=p1\n00000013status=success\n00000013status=success\n0000000athree\n\
             000000000013status=success\n00000008one\n0000000000000013status=success\n0000|\
-        Sent 0013command=smudge\n0010pathname=p1\n0010can-delay=1\n00000007hi\n00000013command=smudge\n\
-            0010pathname=p2\n0010can-delay=1\n00000007hi\n00000013command=smudge\n0010pathname=p3\n\
-            0010can-delay=1\n00000007hi\n00000021command=list_available_blobs\n00000013command=smudge\n\
-            0010pathname=p3\n000000000013command=smudge\n0010pathname=p1\n\
-            000000000021command=list_available_blobs\n0000|\
+        Sent 0013command=smudge\n0010pathname=p1\n0032blob=45b983be36b73c0788dc9cbcb76cbb80fc7bb057\n\
+            0010can-delay=1\n00000007hi\n00000013command=smudge\n0010pathname=p2\n\
+            0032blob=45b983be36b73c0788dc9cbcb76cbb80fc7bb057\n0010can-delay=1\n00000007hi\n00000013command=smudge\n\
+            0010pathname=p3\n0032blob=45b983be36b73c0788dc9cbcb76cbb80fc7bb057\n0010can-delay=1\n00000007hi\n\
+            00000021command=list_available_blobs\n00000013command=smudge\n0010pathname=p3\n\
+            0032blob=45b983be36b73c0788dc9cbcb76cbb80fc7bb057\n000000000013command=smudge\n0010pathname=p1\n\
+            0032blob=45b983be36b73c0788dc9cbcb76cbb80fc7bb057\n000000000021command=list_available_blobs\n0000|\
         Notes open\n0 Delayed\n1 Delayed\n2 Delayed\n2 named\n0 named\nlist Names(2)\n2 again Content\n\
             0 again Content\nlist Empty\n|\
         written - - - p1\nfailed - - missing p2\nwritten - - - p3\ndone 2 0 1 0\nstatus 1\np1: one\n\
@@ -43,11 +45,13 @@ const DELAYED: &[u8] = b"\
             00000013status=delayed\n00000013status=delayed\n00000013status=delayed\n00000010pathname=p3\n\
             0010pathname=p1\n00000013status=success\n00000013status=success\n0000000athree\n\
             000000000013status=success\n00000008one\n0000000000000013status=success\n0000|\
-        Sent 0013command=smudge\n0010pathname=p1\n0010can-delay=1\n00000007hi\n00000013command=smudge\n\
-            0010pathname=p2\n0010can-delay=1\n00000007hi\n00000013command=smudge\n0010pathname=p3\n\
-            0010can-delay=1\n00000007hi\n00000021command=list_available_blobs\n00000013command=smudge\n\
-            0010pathname=p3\n000000000013command=smudge\n0010pathname=p1\n\
-            000000000021command=list_available_blobs\n0000|\
+        Sent 0013command=smudge\n0010pathname=p1\n0032blob=45b983be36b73c0788dc9cbcb76cbb80fc7bb057\n\
+            0010can-delay=1\n00000007hi\n00000013command=smudge\n0010pathname=p2\n\
+            0032blob=45b983be36b73c0788dc9cbcb76cbb80fc7bb057\n0010can-delay=1\n00000007hi\n00000013command=smudge\n\
+            0010pathname=p3\n0032blob=45b983be36b73c0788dc9cbcb76cbb80fc7bb057\n0010can-delay=1\n00000007hi\n\
+            00000021command=list_available_blobs\n00000013command=smudge\n0010pathname=p3\n\
+            0032blob=45b983be36b73c0788dc9cbcb76cbb80fc7bb057\n000000000013command=smudge\n0010pathname=p1\n\
+            0032blob=45b983be36b73c0788dc9cbcb76cbb80fc7bb057\n000000000021command=list_available_blobs\n0000|\
         Notes open\n0 Delayed\n1 Delayed\n2 Delayed\n2 named\n0 named\nlist Names(2)\n2 again Content\n\
             0 again Content\nlist Empty\n|\
         written - - - p1\nfailed - - missing p2\nwritten - - - p3\ndone 2 0 1 0\nstatus 1\np1: one\n\
@@ -57,8 +61,10 @@ const DELAYED: &[u8] = b"\
         entry -h p2|\
         Gives 0016git-filter-server\n000eversion=2\n00000016capability=smudge\n0015capability=delay\n\
             00000013status=delayed\n00000013status=delayed\n00000010pathname=zz\n00000013status=success\n0000|\
-        Sent 0013command=smudge\n0010pathname=p1\n0010can-delay=1\n00000007hi\n00000013command=smudge\n\
-            0010pathname=p2\n0010can-delay=1\n00000007hi\n00000021command=list_available_blobs\n0000|\
+        Sent 0013command=smudge\n0010pathname=p1\n0032blob=45b983be36b73c0788dc9cbcb76cbb80fc7bb057\n\
+            0010can-delay=1\n00000007hi\n00000013command=smudge\n0010pathname=p2\n\
+            0032blob=45b983be36b73c0788dc9cbcb76cbb80fc7bb057\n0010can-delay=1\n00000007hi\n\
+            00000021command=list_available_blobs\n0000|\
         Open|\
         Notes open\n0 Delayed\n1 Delayed\nlist Broken(StrangePath)\n|\
         failed - - missing p1\nfailed - - missing p2\ndone 0 0 2 0\nstatus 1\n%\
@@ -68,8 +74,10 @@ const DELAYED: &[u8] = b"\
         entry -h p2|\
         Gives 0016git-filter-server\n000eversion=2\n00000016capability=smudge\n0015capability=delay\n\
             00000013status=delayed\n00000013status=delayed\n00000010pathname=zz\n00000013status=success\n0000|\
-        Sent 0013command=smudge\n0010pathname=p1\n0010can-delay=1\n00000007hi\n00000013command=smudge\n\
-            0010pathname=p2\n0010can-delay=1\n00000007hi\n00000021command=list_available_blobs\n0000|\
+        Sent 0013command=smudge\n0010pathname=p1\n0032blob=45b983be36b73c0788dc9cbcb76cbb80fc7bb057\n\
+            0010can-delay=1\n00000007hi\n00000013command=smudge\n0010pathname=p2\n\
+            0032blob=45b983be36b73c0788dc9cbcb76cbb80fc7bb057\n0010can-delay=1\n00000007hi\n\
+            00000021command=list_available_blobs\n0000|\
         Open|\
         Notes open\n0 Delayed\n1 Delayed\nlist Broken(StrangePath)\n|\
         failed - - missing p1\nfailed - - missing p2\ndone 0 0 2 0\nstatus 1\n%\
@@ -77,8 +85,9 @@ const DELAYED: &[u8] = b"\
         entry -h p1|\
         Gives 0016git-filter-server\n000eversion=2\n00000016capability=smudge\n0015capability=delay\n\
             00000013status=delayed\n00000010pathname=p1\n00000013status=success\n00000013status=delayed\n0000|\
-        Sent 0013command=smudge\n0010pathname=p1\n0010can-delay=1\n00000007hi\n\
-            00000021command=list_available_blobs\n00000013command=smudge\n0010pathname=p1\n00000000|\
+        Sent 0013command=smudge\n0010pathname=p1\n0032blob=45b983be36b73c0788dc9cbcb76cbb80fc7bb057\n\
+            0010can-delay=1\n00000007hi\n00000021command=list_available_blobs\n00000013command=smudge\n\
+            0010pathname=p1\n0032blob=45b983be36b73c0788dc9cbcb76cbb80fc7bb057\n00000000|\
         Open|\
         Notes open\n0 Delayed\n0 named\nlist Names(1)\n0 again Broken(StrangeDelay)\n|\
         Back 0|\
@@ -87,8 +96,8 @@ const DELAYED: &[u8] = b"\
         entry -h p1|\
         Gives 0016git-filter-server\n000eversion=2\n00000016capability=smudge\n0015capability=delay\n\
             00000013status=delayed\n000000000013status=success\n0000|\
-        Sent 0013command=smudge\n0010pathname=p1\n0010can-delay=1\n00000007hi\n\
-            00000021command=list_available_blobs\n0000|\
+        Sent 0013command=smudge\n0010pathname=p1\n0032blob=45b983be36b73c0788dc9cbcb76cbb80fc7bb057\n\
+            0010can-delay=1\n00000007hi\n00000021command=list_available_blobs\n0000|\
         Notes open\n0 Delayed\nlist Empty\n|\
         failed - - missing p1\ndone 0 0 1 0\nstatus 1\n%";
 
@@ -104,7 +113,7 @@ const LATE: &[u8] = b"\
         entry -4 p1|\
         Gives 0016git-filter-server\n000eversion=2\n00000016capability=smudge\n00000013status=success\n\
             00000006xy00000011status=error\n0000|\
-        Sent 0013command=smudge\n0010pathname=p1\n00000008abcd0000|\
+        Sent 0013command=smudge\n0010pathname=p1\n0032blob=85df50785d62d3b05ab03d9cbf7e4a0b49449730\n00000008abcd0000|\
         Notes open\n0 ErrorAfter\nshut\n|\
         Back 0|\
         unfiltered - - filter-error-late p1\ndone 0 1 0 0\nstatus 0\np1: abcd%\
@@ -113,7 +122,7 @@ const LATE: &[u8] = b"\
         Piece 1|\
         Gives 0016git-filter-server\n000eversion=2\n00000016capability=smudge\n00000013status=success\n\
             00000006xy00000011status=error\n0000|\
-        Sent 0013command=smudge\n0010pathname=p1\n00000008abcd0000|\
+        Sent 0013command=smudge\n0010pathname=p1\n0032blob=85df50785d62d3b05ab03d9cbf7e4a0b49449730\n00000008abcd0000|\
         Notes open\n0 ErrorAfter\nshut\n|\
         Back 0|\
         unfiltered - - filter-error-late p1\ndone 0 1 0 0\nstatus 0\np1: abcd%\
@@ -122,7 +131,7 @@ const LATE: &[u8] = b"\
         entry -4 p1|\
         Gives 0016git-filter-server\n000eversion=2\n00000016capability=smudge\n00000013status=success\n\
             00000006xy00000011status=error\n0000|\
-        Sent 0013command=smudge\n0010pathname=p1\n00000008abcd0000|\
+        Sent 0013command=smudge\n0010pathname=p1\n0032blob=85df50785d62d3b05ab03d9cbf7e4a0b49449730\n00000008abcd0000|\
         Notes open\n0 ErrorAfter\nshut\n|\
         failed - - filter-error-late p1\ndone 0 0 1 0\nstatus 1\n%\
     an error after the content of a required driver|\
@@ -131,7 +140,7 @@ const LATE: &[u8] = b"\
         Piece 1|\
         Gives 0016git-filter-server\n000eversion=2\n00000016capability=smudge\n00000013status=success\n\
             00000006xy00000011status=error\n0000|\
-        Sent 0013command=smudge\n0010pathname=p1\n00000008abcd0000|\
+        Sent 0013command=smudge\n0010pathname=p1\n0032blob=85df50785d62d3b05ab03d9cbf7e4a0b49449730\n00000008abcd0000|\
         Notes open\n0 ErrorAfter\nshut\n|\
         failed - - filter-error-late p1\ndone 0 0 1 0\nstatus 1\n%\
     an error after the content, and a file that can't be sealed|\
@@ -139,7 +148,7 @@ const LATE: &[u8] = b"\
         leaf seal p1|\
         Gives 0016git-filter-server\n000eversion=2\n00000016capability=smudge\n00000013status=success\n\
             00000006xy00000011status=error\n0000|\
-        Sent 0013command=smudge\n0010pathname=p1\n00000008abcd0000|\
+        Sent 0013command=smudge\n0010pathname=p1\n0032blob=85df50785d62d3b05ab03d9cbf7e4a0b49449730\n00000008abcd0000|\
         Notes open\n0 ErrorAfter\nshut\n|\
         Back 0|\
         failed - - write p1\ndone 0 0 1 0\nstatus 1\n%\
@@ -148,7 +157,7 @@ const LATE: &[u8] = b"\
         leaf restart p1|\
         Gives 0016git-filter-server\n000eversion=2\n00000016capability=smudge\n00000013status=success\n\
             00000006xy00000011status=error\n0000|\
-        Sent 0013command=smudge\n0010pathname=p1\n00000008abcd0000|\
+        Sent 0013command=smudge\n0010pathname=p1\n0032blob=85df50785d62d3b05ab03d9cbf7e4a0b49449730\n00000008abcd0000|\
         Notes open\n0 ErrorAfter\nshut\n|\
         failed - - write p1\ndone 0 0 1 0\nstatus 1\n%\
     a file that takes no content|\
@@ -157,7 +166,8 @@ const LATE: &[u8] = b"\
         leaf put p1|\
         Gives 0016git-filter-server\n000eversion=2\n00000016capability=smudge\n00000013status=success\n\
             00000005a0005b0005c000000000013status=success\n00000008two\n00000000|\
-        Sent 0013command=smudge\n0010pathname=p1\n00000008abcd00000013command=smudge\n0010pathname=p2\n\
+        Sent 0013command=smudge\n0010pathname=p1\n0032blob=85df50785d62d3b05ab03d9cbf7e4a0b49449730\n\
+            00000008abcd00000013command=smudge\n0010pathname=p2\n0032blob=85df50785d62d3b05ab03d9cbf7e4a0b49449730\n\
             00000008abcd0000|\
         Notes open\n0 Content\n1 Content\nshut\n|\
         failed - - write p1\nwritten - - - p2\ndone 1 0 1 0\nstatus 1\np2: two\n%";
@@ -179,8 +189,9 @@ const ENDED: &[u8] = b"\
         entry -h p4|\
         Gives 0016git-filter-server\n000eversion=2\n00000016capability=smudge\n00000013status=success\n\
             00000008one\n000000000011status=abort\n0000|\
-        Sent 0013command=smudge\n0010pathname=p1\n00000007hi\n00000013command=smudge\n0010pathname=p2\n\
-            00000007hi\n0000|\
+        Sent 0013command=smudge\n0010pathname=p1\n0032blob=45b983be36b73c0788dc9cbcb76cbb80fc7bb057\n00000007hi\n\
+            00000013command=smudge\n0010pathname=p2\n0032blob=45b983be36b73c0788dc9cbcb76cbb80fc7bb057\n00000007hi\n\
+            0000|\
         Notes open\n0 Content\n1 Abort\n|\
         written - - - p1\nfailed - - filter-abort p2\nfailed - - filter-abort p3\n\
             failed - - filter-abort p4\ndone 1 0 3 0\nstatus 1\np1: one\n%\
@@ -189,8 +200,9 @@ const ENDED: &[u8] = b"\
         entry -h p2|\
         Gives 0016git-filter-server\n000eversion=2\n00000016capability=smudge\n0015capability=delay\n\
             00000013status=delayed\n00000011status=abort\n0000|\
-        Sent 0013command=smudge\n0010pathname=p1\n0010can-delay=1\n00000007hi\n00000013command=smudge\n\
-            0010pathname=p2\n0010can-delay=1\n00000007hi\n0000|\
+        Sent 0013command=smudge\n0010pathname=p1\n0032blob=45b983be36b73c0788dc9cbcb76cbb80fc7bb057\n\
+            0010can-delay=1\n00000007hi\n00000013command=smudge\n0010pathname=p2\n\
+            0032blob=45b983be36b73c0788dc9cbcb76cbb80fc7bb057\n0010can-delay=1\n00000007hi\n0000|\
         Notes open\n0 Delayed\n1 Abort\n|\
         Back 1|\
         failed - - missing p1\nunfiltered - - filter-abort p2\ndone 0 1 1 0\nstatus 1\np2: hi\n%\
@@ -201,12 +213,14 @@ const ENDED: &[u8] = b"\
         entry -h p4|\
         Gives 0016git-filter-server\n000eversion=2\n00000016capability=smudge\n00000013status=success\n\
             00000008one\n000000000013status=success\n00000008two\n000000000013status=success\n0000000athr|\
-        Sent 0013command=smudge\n0010pathname=p1\n00000007hi\n00000013command=smudge\n0010pathname=p2\n\
-            00000007hi\n00000013command=smudge\n0010pathname=p3\n00000007hi\n0000|\
+        Sent 0013command=smudge\n0010pathname=p1\n0032blob=45b983be36b73c0788dc9cbcb76cbb80fc7bb057\n00000007hi\n\
+            00000013command=smudge\n0010pathname=p2\n0032blob=45b983be36b73c0788dc9cbcb76cbb80fc7bb057\n00000007hi\n\
+            00000013command=smudge\n0010pathname=p3\n0032blob=45b983be36b73c0788dc9cbcb76cbb80fc7bb057\n00000007hi\n\
+            0000|\
         Open|\
         Gives 0016git-filter-server\n000eversion=2\n00000016capability=smudge\n00000013status=success\n\
             00000009four\n00000000|\
-        Sent 0013command=smudge\n0010pathname=p4\n00000007hi\n0000|\
+        Sent 0013command=smudge\n0010pathname=p4\n0032blob=45b983be36b73c0788dc9cbcb76cbb80fc7bb057\n00000007hi\n0000|\
         Notes open\n0 Content\n1 Content\n2 Broken(Ended)\nopen\n3 Content\nshut\n|\
         Back 2|\
         written - - - p1\nwritten - - - p2\nunfiltered - - broken-ended p3\nwritten - - - p4\ndone 3 1 0 0\n\
@@ -242,7 +256,7 @@ const ENDED: &[u8] = b"\
         Fails|\
         Gives 0016git-filter-server\n000eversion=2\n00000016capability=smudge\n00000013status=success\n\
             0000000athree\n00000000|\
-        Sent 0013command=smudge\n0010pathname=p3\n00000007hi\n0000|\
+        Sent 0013command=smudge\n0010pathname=p3\n0032blob=45b983be36b73c0788dc9cbcb76cbb80fc7bb057\n00000007hi\n0000|\
         Notes 0 NotStarted\n1 NotStarted\nopen\n2 Content\nshut\n|\
         Back 0 1|\
         unfiltered - - filter-not-started p1\nunfiltered - - filter-not-started p2\nwritten - - - p3\n\

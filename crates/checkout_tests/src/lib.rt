@@ -1,7 +1,7 @@
 //! The tests of a checkout: its runs, its plan, its report and what becomes of a content.
 //!
-//! They are over the built libraries, as those of `format_tests` are: `runs`, `drivers`, `many` and `children` (with
-//! filter drivers), `workers`, `meeting` (of threads), `rehearsals`, `plans`, `reports` and `conversions`. It has
+//! They are over the built libraries, as those of `format_tests` are: `runs`, `drivers`, `mistakes`, `many` and
+//! `children` (with filter drivers), `workers`, `meeting` (of threads), `rehearsals`, `plans`, `reports` and `conversions`. It has
 //! nothing but tests.
 #![tactic(auto)]
 
@@ -21,6 +21,8 @@ mod index;
 mod many;
 #[cfg(test)]
 mod meeting;
+#[cfg(test)]
+mod mistakes;
 #[cfg(test)]
 mod out_of_memory;
 #[cfg(test)]

@@ -1,13 +1,16 @@
 //! Plans. Each case is a row of cells, of which the last is what the plan shows: a line for each path, the drivers in
 //! use and the number of skipped lines, or the fault. The others, whose first letter tells, are:
 //!
-//! - `entry`: the letter of its mode, its path, and what its object holds;
+//! - `entry`: the letter of its kind, its path, and what its object holds;
 //! - `info`: what `info/attributes` holds;
 //! - `driver`: `+` for one that is required, or `-`, its name, and its command if it has one;
 //! - `objects`: whether they are `there`, or `failing`. Without it they are absent.
-use crate::index::{index_bytes, mode_of, push_entry};
-use crate::table::{parted, rows_of};
+//!
+//! A cell that begins with another word is an error.
+use crate::index::{index_bytes, kind_of, push_entry};
+use crate::table::{parted, rows_of, text_of_row, unknown};
 use attr_line::read_attributes;
+use attr_stack::OuterFiles;
 use byte_path::{Bytes, Items, quote_path};
 use checkout_core::{FailCause, SkipCause, Start, Verdict};
 use checkout_plan::{PathPlan, Plan, make_plan};
@@ -23,6 +26,8 @@ use std::test::Fail;
 /// What a plan is made from.
 #[derive(Drop)]
 struct Given {
+    /// 3 if the kind of an entry asks for it, and else 2.
+    version: u32,
     entries: Vec<u8>,
     count: u32,
     /// The names and the contents of the objects.
@@ -34,39 +39,45 @@ struct Given {
     drivers: Vec<Driver>,
 }
 
-fn add_entry(alloc: Global, given: &mut Given, value: &[u8]) -> Result<(), AllocError> {
+fn add_entry(alloc: Global, given: &mut Given, value: &[u8]) -> Result<(), Fail> {
     let (path, content) = parted(value);
-    if let [mode, path @ ..] = path {
-        let (mode, stage) = mode_of(*mode);
-        let name = blob_name(content);
-        push_entry(&mut given.entries, mode, stage, &name, path)?;
-        given.count = given.count.wrapping_add(1);
-        given
-            .objects
-            .push((name, Vec::from_slice(alloc, content)?))?;
+    let [kind, path @ ..] = path else {
+        return Err(unknown(value));
+    };
+    let kind = kind_of(*kind)?;
+    if kind.more != 0 {
+        given.version = 3;
     }
+    let name = blob_name(content);
+    push_entry(&mut given.entries, kind, &name, path)?;
+    given.count = given.count.wrapping_add(1);
+    given
+        .objects
+        .push((name, Vec::from_slice(alloc, content)?))?;
     Ok(())
 }
 
-fn add_driver(alloc: Global, given: &mut Given, value: &[u8]) -> Result<(), AllocError> {
+fn add_driver(alloc: Global, given: &mut Given, value: &[u8]) -> Result<(), Fail> {
     let (name, process) = parted(value);
-    if let [required, name @ ..] = name {
-        let process = if process.is_empty() {
-            None
-        } else {
-            Some(Bytes::copy_of(alloc, process)?)
-        };
-        given.drivers.push(Driver {
-            name: Bytes::copy_of(alloc, name)?,
-            process,
-            required: *required == b'+',
-        })?;
-    }
+    let [required @ (b'+' | b'-'), name @ ..] = name else {
+        return Err(unknown(value));
+    };
+    let process = if process.is_empty() {
+        None
+    } else {
+        Some(Bytes::copy_of(alloc, process)?)
+    };
+    given.drivers.push(Driver {
+        name: Bytes::copy_of(alloc, name)?,
+        process,
+        required: *required == b'+',
+    })?;
     Ok(())
 }
 
-fn given_of(alloc: Global, cells: &[Vec<u8>]) -> Result<Given, AllocError> {
+fn given_of(alloc: Global, cells: &[Vec<u8>]) -> Result<Given, Fail> {
     let mut given = Given {
+        version: 2,
         entries: Vec::new(alloc),
         count: 0,
         objects: Vec::new(alloc),
@@ -78,18 +89,26 @@ fn given_of(alloc: Global, cells: &[Vec<u8>]) -> Result<Given, AllocError> {
     for cell in cells {
         let (word, value) = parted(cell);
         match (word, value) {
-            ([b'e', ..], _) => add_entry(alloc, &mut given, value)?,
-            ([b'd', ..], _) => add_driver(alloc, &mut given, value)?,
-            ([b'i', ..], _) => given.info = Vec::from_slice(alloc, value)?,
-            (_, [b't', ..]) => given.are_there = true,
-            _ => given.are_failing = true,
+            (b"entry", _) => add_entry(alloc, &mut given, value)?,
+            (b"driver", _) => add_driver(alloc, &mut given, value)?,
+            (b"info", _) => given.info = Vec::from_slice(alloc, value)?,
+            (b"objects", b"there") => given.are_there = true,
+            (b"objects", b"failing") => given.are_failing = true,
+            _ => return Err(unknown(cell)),
         }
     }
     Ok(given)
 }
 
 fn index_of(alloc: Global, given: &Given) -> Result<Index, Fail> {
-    let bytes = index_bytes(alloc, given.count, &given.entries, &[], &[0; 20])?;
+    let bytes = index_bytes(
+        alloc,
+        given.version,
+        given.count,
+        &given.entries,
+        &[],
+        &[0; 20],
+    )?;
     Ok(read_index(alloc, &bytes)?)
 }
 
@@ -136,6 +155,8 @@ fn closed_by(verdict: Verdict) -> &'static str {
     match verdict {
         Verdict::Skipped(SkipCause::Gitlink) => "Gitlink",
         Verdict::Skipped(SkipCause::Unmerged) => "Unmerged",
+        Verdict::Skipped(SkipCause::Sparse) => "Sparse",
+        Verdict::Skipped(SkipCause::Intent) => "Intent",
         Verdict::Failed(FailCause::NoProcess) => "NoProcess",
         Verdict::Failed(FailCause::UnknownEncoding) => "UnknownEncoding",
         Verdict::Failed(FailCause::NameNotText) => "NameNotText",
@@ -158,9 +179,12 @@ fn shown(alloc: Global, plan: &Plan) -> Result<String, Fail> {
 fn seen_of(alloc: Global, given: Given) -> Result<String, Fail> {
     let index = index_of(alloc, &given)?;
     let mut repo = repo_of(alloc, &given)?;
-    let info = read_attributes(alloc, &given.info, true)?;
+    let outer = OuterFiles {
+        info: read_attributes(alloc, &given.info, true)?,
+        base: read_attributes(alloc, b"", true)?,
+    };
     let settings = settings_of(given.drivers);
-    match make_plan(alloc, &index, &mut repo, info, &settings) {
+    match make_plan(alloc, &index, &mut repo, outer, &settings) {
         Ok(plan) => shown(alloc, &plan),
         Err(fault) => Ok(format!(in alloc; "{fault:?}")?),
     }
@@ -173,7 +197,8 @@ fn check(rt: &impl Abort, alloc: Global, table: &[u8]) -> Result<(), Fail> {
             panic!(rt; "no cells");
         };
         let seen = seen_of(alloc, given_of(alloc, cells)?)?;
-        assert_eq!(rt; seen.as_str(), str::from_utf8(wanted)?);
+        let row = text_of_row(alloc, cells)?;
+        assert_eq!(rt; seen.as_str(), str::from_utf8(wanted)?, "{row}");
     }
     Ok(())
 }
@@ -206,11 +231,25 @@ fn some_paths_are_closed_by_the_plan(rt: HostRuntime) -> Result<(), Fail> {
     check(&rt, rt.alloc(), CLOSED)
 }
 
+const LEFT_OUT: &[u8] = b"\
+    entry s.gitattributes *.txt text eol=crlf\n|entry ia/.gitattributes *.txt -text\n|entry -a/b.txt hi\n|\
+        entry sc.txt hi\n|entry tsub hi\n|entry uu hi\n|objects there|\
+        .gitattributes: Plain Keep false Done Sparse\na/.gitattributes: Plain Keep false Done Intent\n\
+        a/b.txt: Plain ToCrlf false Pool\nc.txt: Plain Keep false Done Sparse\n\
+        sub: Plain Keep false Done Gitlink\nu: Plain Keep false Done Unmerged\nskipped 0\n%";
+
+/// A sparse attribute file decides, and one that is to be added has no content yet.
+#[test]
+fn marked_entries_are_closed_by_the_plan(rt: HostRuntime) -> Result<(), Fail> {
+    check(&rt, rt.alloc(), LEFT_OUT)
+}
+
 const DRIVERS: &[u8] = b"\
     entry -1 hi\n|entry -2 hi\n|entry -3 hi\n|entry -4 hi\n|entry -5 hi\n|entry -6 hi\n|entry -7 hi\n|\
         driver +a run a|driver +closed run closed|driver -idle run idle|driver -mute|driver +needed|\
         driver -z run z|\
-        info 1 filter=z\n2 filter=a\n3 filter=needed\n4 filter=mute\n5 filter=none\n6 filter=z\n7 filter=closed working-tree-encoding\n|\
+        info 1 filter=z\n2 filter=a\n3 filter=needed\n4 filter=mute\n5 filter=none\n6 filter=z\n7 \
+        filter=closed working-tree-encoding\n|\
         1: Plain Keep false Desk 1 false\n\
         2: Plain Keep false Desk 0 true\n3: Plain Keep false Done NoProcess\n\
         4: Plain Keep false Pool\n5: Plain Keep false Pool\n\
@@ -239,7 +278,9 @@ const SEVENTEEN: &[u8] = b"\
         entry -o hi\n|entry -p hi\n|entry -q hi\n|driver -a run|driver -b run|driver -c run|driver -d run|\
         driver -e run|driver -f run|driver -g run|driver -h run|driver -i run|driver -j run|driver -k run|\
         driver -l run|driver -m run|driver -n run|driver -o run|driver -p run|driver -q run|\
-        info a filter=a\nb filter=b\nc filter=c\nd filter=d\ne filter=e\nf filter=f\ng filter=g\nh filter=h\ni filter=i\nj filter=j\nk filter=k\nl filter=l\nm filter=m\nn filter=n\no filter=o\np filter=p\nq filter=q\n|\
+        info a filter=a\nb filter=b\nc filter=c\nd filter=d\ne filter=e\nf filter=f\ng filter=g\n\
+        h filter=h\ni filter=i\nj filter=j\nk filter=k\nl filter=l\nm filter=m\nn filter=n\no filt\
+        er=o\np filter=p\nq filter=q\n|\
         TooManyDrivers(17)%";
 
 #[test]

@@ -1,6 +1,6 @@
 //! Runs over a few paths. Each case is a row of a table, as `cases` reads it.
 use crate::cases::{Case, HI, case_of, check, ended};
-use crate::index::{GITLINK, PLAIN, push_entry};
+use crate::index::{GITLINK, PLAIN, push_entry, whole};
 use std::alloc::Global;
 use std::test::Fail;
 
@@ -59,7 +59,7 @@ fn a_configuration_is_read_or_refused(rt: HostRuntime) -> Result<(), Fail> {
     check(&rt, rt.alloc(), CONFIGURATIONS)
 }
 
-/// The third object is as zlib compresses it, and the fourth has 67,108,865 bytes.
+/// The third object is as zlib compresses it, and the fourth has 268,435,457 bytes.
 const OBJECTS: &[u8] = b"\
     bytes blob 3\0ho\n|entry -h a|entry lb b|\
         failed - - object-name a\nwritten l - - b\ndone 1 0 1 0\nstatus 1\nb: bin%\
@@ -67,7 +67,7 @@ const OBJECTS: &[u8] = b"\
         failed - - object-size a\nwritten l - - b\ndone 1 0 1 0\nstatus 1\nb: bin%\
     bytes x\x01K\xca\xc9O|entry -h a|entry lb b|\
         failed - - object-header a\nwritten l - - b\ndone 1 0 1 0\nstatus 1\nb: bin%\
-    bytes blob 67108865\0|nuls 67108865|entry -h a|entry lb b|\
+    bytes blob 268435457\0|nuls 268435457|entry -h a|entry lb b|\
         failed - - object-too-large a\nwritten l - - b\ndone 1 0 1 0\nstatus 1\nb: bin%\
     object 9|entry -h a|entry lb b|failed - - object-absent a\nwritten l - - b\ndone 1 0 1 0\nstatus 1\nb: bin%\
     read-fails h|entry -h a|entry lb b|failed - - read a\nwritten l - - b\ndone 1 0 1 0\nstatus 1\nb: bin%";
@@ -77,6 +77,7 @@ fn an_object_that_is_not_right_fails_its_path_alone(rt: HostRuntime) -> Result<(
     check(&rt, rt.alloc(), OBJECTS)
 }
 
+/// What a failed `discard` does stands in `mistakes`.
 const LEAVES: &[u8] = b"\
     leaf seal p2|entry -h p1|entry -h p2|entry -h p3|\
         written - - - p1\nfailed - - write p2\nwritten - - - p3\ndone 2 0 1 0\nstatus 1\np1: hi\np3: hi\n%\
@@ -86,6 +87,25 @@ const LEAVES: &[u8] = b"\
 #[test]
 fn a_leaf_that_fails_fails_its_path_alone(rt: HostRuntime) -> Result<(), Fail> {
     check(&rt, rt.alloc(), LEAVES)
+}
+
+/// The writes of one report fail, each in turn. The files are there.
+const CUT_REPORTS: &[u8] = b"\
+    sink 0|entry xh bin|entry lb ln|entry gh sub|entry 1h u|entry 2h u|entry 3h u|\
+        status 4\nbin: hi\nln: bin%\
+    sink 1|entry xh bin|entry lb ln|entry gh sub|entry 1h u|entry 2h u|entry 3h u|\
+        written x - - bin\nstatus 4\nbin: hi\nln: bin%\
+    sink 2|entry xh bin|entry lb ln|entry gh sub|entry 1h u|entry 2h u|entry 3h u|\
+        written x - - bin\nwritten l - - ln\nstatus 4\nbin: hi\nln: bin%\
+    sink 3|entry xh bin|entry lb ln|entry gh sub|entry 1h u|entry 2h u|entry 3h u|\
+        written x - - bin\nwritten l - - ln\nskipped - - gitlink sub\nstatus 4\nbin: hi\nln: bin%\
+    sink 4|entry xh bin|entry lb ln|entry gh sub|entry 1h u|entry 2h u|entry 3h u|\
+        written x - - bin\nwritten l - - ln\nskipped - - gitlink sub\nskipped - - unmerged u\nstatus 4\n\
+        bin: hi\nln: bin%";
+
+#[test]
+fn a_report_is_cut_at_the_write_that_fails(rt: HostRuntime) -> Result<(), Fail> {
+    check(&rt, rt.alloc(), CUT_REPORTS)
 }
 
 /// A plan is one piece for the sink: a second write, which would fail, isn't made.
@@ -124,7 +144,56 @@ fn entries_that_are_not_right_are_refused(rt: HostRuntime) -> Result<(), Fail> {
     check(&rt, rt.alloc(), REFUSED_ENTRIES)
 }
 
-/// In the second case an automatic conversion leaves a content with CR alone.
+/// In version 4 the second path takes a byte off the first one, and then more than it has.
+const VERSIONS: &[u8] = b"\
+    version 3|entry -h a|written - - - a\ndone 1 0 0 0\nstatus 0\na: hi\n%\
+    version 4|given -h \0\x03\0a/b\0|given -h \0\x03\x01c\0|\
+        written - - - a/b\nwritten - - - a/c\ndone 2 0 0 0\nstatus 0\na/b: hi\na/c: hi\n%\
+    version 4|given -h \0\x03\0a/b\0|given -h \0\x03\x04c\0|refused index entry 1 prefix\nstatus 3\n%\
+    version 4|given -h \0\x03\0a/b\0|given -h \0\x01\x01c\0|refused index entry 1 name\nstatus 3\n%\
+    version 4|given -h \0\x01\0a|refused index short\nstatus 3\n%\
+    version 3|given -h @\x01\x80\0a\0\0\0\0\0\0\0|refused index entry 0 extended-bits\nstatus 3\n%\
+    entry sh a|version 2|refused index entry 0 extended\nstatus 3\n%\
+    version 1|entry -h a|refused index version 1\nstatus 3\n%\
+    version 5|entry -h a|refused index version 5\nstatus 3\n%";
+
+#[test]
+fn versions_2_3_and_4_are_read(rt: HostRuntime) -> Result<(), Fail> {
+    check(&rt, rt.alloc(), VERSIONS)
+}
+
+/// In the fourth case the object of the sparse entry isn't there.
+const LEFT_OUT: &[u8] = b"\
+    entry sh a|skipped - - sparse a\ndone 0 0 0 1\nstatus 0\n%\
+    entry ih a|skipped - - intent a\ndone 0 0 0 1\nstatus 0\n%\
+    entry bh a|skipped - - sparse a\ndone 0 0 0 1\nstatus 0\n%\
+    entry s9 a|entry -h b|skipped - - sparse a\nwritten - - - b\ndone 1 0 0 1\nstatus 0\nb: hi\n%\
+    version 4|given -h @\x01@\0\0a\0|skipped - - sparse a\ndone 0 0 0 1\nstatus 0\n%\
+    entry th sub|entry uh u|entry 2h u|\
+        skipped - - gitlink sub\nskipped - - unmerged u\ndone 0 0 0 2\nstatus 0\n%\
+    words plan|entry sh a|entry ih b|entry th sub|entry uh u|\
+        sparse - - - - - - a\nintent - - - - - - b\ngitlink - - - - - - sub\nunmerged - - - - - - u\n\
+        skipped-lines 0\nstatus 0\n%";
+
+#[test]
+fn sparse_entries_and_those_to_be_added_are_left_out(rt: HostRuntime) -> Result<(), Fail> {
+    check(&rt, rt.alloc(), LEFT_OUT)
+}
+
+/// The file of the second case has no content yet.
+const LEFT_OUT_ATTRIBUTES: &[u8] = b"\
+    entry sa .gitattributes|entry -m a.txt|\
+        skipped - - sparse .gitattributes\nwritten - - - a.txt\ndone 1 0 0 1\nstatus 0\na.txt: a\r\nb\r\n%\
+    entry ia .gitattributes|entry -m a.txt|\
+        skipped - - intent .gitattributes\nwritten - - - a.txt\ndone 1 0 0 1\nstatus 0\na.txt: a\nb\r\n%";
+
+#[test]
+fn a_sparse_attribute_file_decides(rt: HostRuntime) -> Result<(), Fail> {
+    check(&rt, rt.alloc(), LEFT_OUT_ATTRIBUTES)
+}
+
+/// In the second case an automatic conversion leaves a content with CR alone. In the last two the user's attribute file
+/// speaks of the path, and then `info/attributes` too, which goes first.
 const CONVERSIONS: &[u8] = b"\
     info *.txt text eol=crlf\n|entry -m a.txt|\
         written - - - a.txt\ndone 1 0 0 0\nstatus 0\na.txt: a\r\nb\r\n%\
@@ -145,7 +214,11 @@ const CONVERSIONS: &[u8] = b"\
     info b working-tree-encoding=KOI8-R\n|entry -o b|\
         failed - - encoding b\ndone 0 0 1 0\nstatus 1\n%\
     info * text eol=crlf ident\n|entry lm ln.txt|\
-        written l - - ln.txt\ndone 1 0 0 0\nstatus 0\nln.txt: a\nb\r\n%";
+        written l - - ln.txt\ndone 1 0 0 0\nstatus 0\nln.txt: a\nb\r\n%\
+    xdg 1 *.txt text eol=crlf\n|entry -m a.txt|\
+        written - - - a.txt\ndone 1 0 0 0\nstatus 0\na.txt: a\r\nb\r\n%\
+    xdg 1 *.txt text eol=crlf\n|info *.txt -text\n|entry -m a.txt|\
+        written - - - a.txt\ndone 1 0 0 0\nstatus 0\na.txt: a\nb\r\n%";
 
 #[test]
 fn contents_are_converted(rt: HostRuntime) -> Result<(), Fail> {
@@ -174,7 +247,8 @@ const WRONG_ATTRIBUTES: &[u8] = b"\
     bytes blob 3\0ho\n|entry -h .gitattributes|\
         refused attributes .gitattributes object-name\nstatus 3\n%\
     object n|bytes blob 1048577\0|nuls 1048577|entry -n .gitattributes|\
-        refused attributes .gitattributes too-large\nstatus 3\n%";
+        refused attributes .gitattributes too-large\nstatus 3\n%\
+    xdg 1048577 \n|entry -h a|refused base-attributes too-large\nstatus 3\n%";
 
 #[test]
 fn an_attribute_file_without_a_right_object_stops_it(rt: HostRuntime) -> Result<(), Fail> {
@@ -213,8 +287,15 @@ fn a_required_driver_needs_its_process(rt: HostRuntime) -> Result<(), Fail> {
 }
 
 const SEVENTEEN: &[u8] = b"\
-    config [filter \"a\"]\nprocess = x\n[filter \"b\"]\nprocess = x\n[filter \"c\"]\nprocess = x\n[filter \"d\"]\nprocess = x\n[filter \"e\"]\nprocess = x\n[filter \"f\"]\nprocess = x\n[filter \"g\"]\nprocess = x\n[filter \"h\"]\nprocess = x\n[filter \"i\"]\nprocess = x\n[filter \"j\"]\nprocess = x\n[filter \"k\"]\nprocess = x\n[filter \"l\"]\nprocess = x\n[filter \"m\"]\nprocess = x\n[filter \"n\"]\nprocess = x\n[filter \"o\"]\nprocess = x\n[filter \"p\"]\nprocess = x\n[filter \"q\"]\nprocess = x\n|\
-        info a filter=a\nb filter=b\nc filter=c\nd filter=d\ne filter=e\nf filter=f\ng filter=g\nh filter=h\ni filter=i\nj filter=j\nk filter=k\nl filter=l\nm filter=m\nn filter=n\no filter=o\np filter=p\nq filter=q\n|\
+    config [filter \"a\"]\nprocess = x\n[filter \"b\"]\nprocess = x\n[filter \"c\"]\nprocess = x\n\
+    [filter \"d\"]\nprocess = x\n[filter \"e\"]\nprocess = x\n[filter \"f\"]\nprocess = x\n[filte\
+    r \"g\"]\nprocess = x\n[filter \"h\"]\nprocess = x\n[filter \"i\"]\nprocess = x\n[filter \"j\"\
+    ]\nprocess = x\n[filter \"k\"]\nprocess = x\n[filter \"l\"]\nprocess = x\n[filter \"m\"]\nproc\
+    ess = x\n[filter \"n\"]\nprocess = x\n[filter \"o\"]\nprocess = x\n[filter \"p\"]\nprocess = \
+    x\n[filter \"q\"]\nprocess = x\n|\
+        info a filter=a\nb filter=b\nc filter=c\nd filter=d\ne filter=e\nf filter=f\ng filter=g\n\
+        h filter=h\ni filter=i\nj filter=j\nk filter=k\nl filter=l\nm filter=m\nn filter=n\no filt\
+        er=o\np filter=p\nq filter=q\n|\
         entry -h a|entry -h b|entry -h c|entry -h d|entry -h e|entry -h f|entry -h g|entry -h h|entry -h i|\
         entry -h j|entry -h k|entry -h l|entry -h m|entry -h n|entry -h o|entry -h p|entry -h q|\
         refused drivers 17\nstatus 3\n%";
@@ -229,7 +310,9 @@ const READS: &[u8] = b"\
     full|unchecked|entry -h a|status 6\n%\
     read-fails index|entry -h a|status 6\n%\
     read-fails config|entry -h a|status 6\n%\
-    read-fails info|entry -h a|status 6\n%";
+    read-fails info|entry -h a|status 6\n%\
+    read-fails base|entry -h a|status 6\n%\
+    read-fails a|entry -a .gitattributes|entry -m a.txt|status 6\n%";
 
 #[test]
 fn a_full_worktree_and_a_read_that_fails_stop_it(rt: HostRuntime) -> Result<(), Fail> {
@@ -254,9 +337,9 @@ fn many_entries(alloc: Global) -> Result<Case, Fail> {
     let mut case = case_of(alloc, &[])?;
     for number in 10_000..80_000u32 {
         let path = format!(in alloc; "p{number}")?;
-        push_entry(&mut case.entries, GITLINK, 0, &[0; 20], path.as_bytes())?;
+        push_entry(&mut case.entries, whole(GITLINK), &[0; 20], path.as_bytes())?;
     }
-    push_entry(&mut case.entries, PLAIN, 0, &HI, b"z")?;
+    push_entry(&mut case.entries, whole(PLAIN), &HI, b"z")?;
     case.count = 70_001;
     Ok(case)
 }

@@ -3,6 +3,8 @@
 //! The check goes through each literal of a program, so a table of many literals costs much. Here a table is one
 //! literal: `|` stands between the cells of a row, and `%` ends the row. What stands after the last `%` is a row too.
 use std::alloc::{AllocError, Global};
+use std::string::String;
+use std::test::Fail;
 
 /// The cells of a row.
 pub type Row = Vec<Vec<u8>>;
@@ -49,12 +51,24 @@ pub fn parted(text: &[u8]) -> (&[u8], &[u8]) {
 }
 
 /// The number that these digits spell.
-pub fn number_of(digits: &[u8]) -> u32 {
-    let mut number = 0u32;
-    for digit in digits {
-        number = number
-            .wrapping_mul(10)
-            .wrapping_add(u32::from(digit.wrapping_sub(b'0')));
+pub fn number_of(digits: &[u8]) -> Result<u32, Fail> {
+    match str::from_utf8(digits)?.parse::<u32>() {
+        Ok(number) => Ok(number),
+        Err(_) => Err(unknown(digits)),
     }
-    number
+}
+
+/// The error of a cell that no table knows.
+pub fn unknown(cell: &[u8]) -> Fail {
+    Fail::new(format_args!("no table knows the cell `{}`", cell.escape_ascii()))
+}
+
+/// The cells of a row as they stand in their table.
+pub fn text_of_row(alloc: Global, cells: &[Vec<u8>]) -> Result<String, AllocError> {
+    let mut text = String::new(alloc);
+    for cell in cells {
+        text.push_str("|")?;
+        text.push_str(format!(in alloc; "{}", cell.escape_ascii())?.as_str())?;
+    }
+    Ok(text)
 }

@@ -6,12 +6,14 @@
 //! - `Required`: the driver is required;
 //! - `Piece`: a read gives at most so many bytes;
 //! - `Gives`: a start, and all that the driver writes, and `Fails`: a start that fails;
-//! - `Sent`: what the session of the last start must be sent after the handshake, and `Open`: it need not be shut;
+//! - `Cut`: the first `send` or the first `read` of the last start's session fails;
+//! - `Sent`: what the session of the last start must be sent after the handshake, `All`: what it must be sent in all, and
+//!   `Open`: it need not be shut;
 //! - `Notes`: what the desk must note of the talk, in order;
 //! - `Back`: the numbers of the paths that it must hand back.
 use crate::cases::{Case, case_of, left_by_own, session_of, set, text_of};
 use crate::gate::Watch;
-use crate::table::{number_of, parted, rows_of};
+use crate::table::{number_of, parted, rows_of, unknown};
 use byte_path::{Bytes, Items};
 use checkout_core::Event;
 use edge_kit::{DriverScript, MemorySpawner, SessionScript, SessionSeen, StartOutcome};
@@ -38,7 +40,9 @@ struct Session {
     starts: bool,
     /// All that it writes.
     output: Vec<u8>,
-    /// What it must be sent after the handshake.
+    /// Whether the first send, and whether the first read fails.
+    cut: (bool, bool),
+    /// What it must be sent.
     sent: Vec<u8>,
     /// Whether its input must be closed, and its end waited for.
     shut: bool,
@@ -62,14 +66,23 @@ fn text_in(alloc: Global, bytes: &[u8]) -> Result<String, Fail> {
     Ok(String::from_str(alloc, str::from_utf8(bytes)?)?)
 }
 
+/// Whether the first send, and whether the first read fails.
+fn cut_of(word: &[u8]) -> Result<(bool, bool), Fail> {
+    match word {
+        b"send" => Ok((true, false)),
+        b"read" => Ok((false, true)),
+        _ => Err(unknown(word)),
+    }
+}
+
 /// Takes what a cell says of the last start.
-fn set_last(alloc: Global, talk: &mut Talk, letter: u8, value: &[u8]) -> Result<(), AllocError> {
-    if let Some(start) = talk.starts.last_mut() {
-        match letter {
-            b'S' => start.sent = Vec::from_slice(alloc, value)?,
-            b'O' => start.shut = false,
-            _ => {}
-        }
+fn set_last(alloc: Global, talk: &mut Talk, cell: &[u8], value: &[u8]) -> Result<(), Fail> {
+    match (cell, talk.starts.last_mut()) {
+        ([b'S', ..], Some(start)) => start.sent.extend_from_slice(value)?,
+        ([b'A', ..], Some(start)) => start.sent = Vec::from_slice(alloc, value)?,
+        ([b'C', ..], Some(start)) => start.cut = cut_of(value)?,
+        ([b'O', ..], Some(start)) => start.shut = false,
+        _ => return Err(unknown(cell)),
     }
     Ok(())
 }
@@ -78,19 +91,25 @@ fn start_of(alloc: Global, starts: bool, output: &[u8]) -> Result<Session, Alloc
     Ok(Session {
         starts,
         output: Vec::from_slice(alloc, output)?,
-        sent: Vec::new(alloc),
+        cut: (false, false),
+        sent: Vec::from_slice(alloc, HANDSHAKE)?,
         shut: starts,
     })
 }
 
-fn numbers_of(alloc: Global, text: &[u8]) -> Result<Vec<u32>, AllocError> {
+fn numbers_of(alloc: Global, text: &[u8]) -> Result<Vec<u32>, Fail> {
     let mut numbers = Vec::new(alloc);
     for byte in text {
-        if byte.is_ascii_digit() {
-            numbers.push(number_of(&[*byte]))?;
+        if *byte != b' ' {
+            numbers.push(number_of(&[*byte])?)?;
         }
     }
     Ok(numbers)
+}
+
+/// Whether a cell says something of the case, and not of the talk.
+fn is_of_case(cell: &[u8]) -> bool {
+    matches!(cell, [b'a'..=b'z', ..])
 }
 
 /// Takes what a cell says of a talk.
@@ -98,13 +117,12 @@ fn set_talk(alloc: Global, talk: &mut Talk, cell: &[u8]) -> Result<(), Fail> {
     let (_, value) = parted(cell);
     match cell {
         [b'R', ..] => talk.required = true,
-        [b'P', ..] => talk.piece = number_of(value),
+        [b'P', ..] => talk.piece = number_of(value)?,
         [b'G', ..] => talk.starts.push(start_of(alloc, true, value)?)?,
         [b'F', ..] => talk.starts.push(start_of(alloc, false, b"")?)?,
         [b'N', ..] => talk.notes = text_in(alloc, value)?,
         [b'B', ..] => talk.handed_back = numbers_of(alloc, value)?,
-        [letter, ..] => set_last(alloc, talk, *letter, value)?,
-        [] => {}
+        _ => set_last(alloc, talk, cell, value)?,
     }
     Ok(())
 }
@@ -119,17 +137,27 @@ fn talk_of(alloc: Global, name: &[u8], cells: &[Vec<u8>]) -> Result<Talk, Fail> 
         handed_back: Vec::new(alloc),
     };
     for cell in cells {
-        set_talk(alloc, &mut talk, cell)?;
+        if !is_of_case(cell) {
+            set_talk(alloc, &mut talk, cell)?;
+        }
     }
     Ok(talk)
+}
+
+/// The number of the first call, if it fails.
+fn first_if(fails: bool) -> Option<u32> {
+    if fails { Some(0) } else { None }
 }
 
 fn script_of(alloc: Global, talk: &Talk) -> Result<DriverScript, AllocError> {
     let mut sessions = Vec::new(alloc);
     for start in talk.starts.as_slice() {
         let session = session_of(alloc, &start.output, talk.piece)?;
+        let (send, read) = start.cut;
         sessions.push(SessionScript {
             starts: start.starts,
+            fail_send: first_if(send),
+            fail_read: first_if(read),
             ..session
         })?;
     }
@@ -141,7 +169,12 @@ fn script_of(alloc: Global, talk: &Talk) -> Result<DriverScript, AllocError> {
 
 /// The checkout of a talk, with these words.
 fn case_with(alloc: Global, talk: &Talk, cells: &[Vec<u8>], words: &[u8]) -> Result<Case, Fail> {
-    let mut case = case_of(alloc, cells)?;
+    let mut case = case_of(alloc, &[])?;
+    for cell in cells {
+        if is_of_case(cell) {
+            set(alloc, &mut case, cell)?;
+        }
+    }
     set(alloc, &mut case, words)?;
     set(alloc, &mut case, b"info * filter=lfs\n")?;
     set(
@@ -208,27 +241,18 @@ fn check_steps<H: Abort>(
 }
 
 /// The session was sent what it must be, and was shut if it must be.
-fn check_session<H: Abort>(
-    rt: &H,
-    alloc: Global,
-    talk: &Talk,
-    start: &Session,
-    session: &SessionSeen,
-) -> Result<(), Fail> {
-    let mut wanted = Vec::from_slice(alloc, HANDSHAKE)?;
-    wanted.extend_from_slice(&start.sent)?;
-    assert_eq!(rt; session.sent.as_slice(), wanted.as_slice(), "{}", talk.name);
+fn check_session<H: Abort>(rt: &H, talk: &Talk, start: &Session, session: &SessionSeen) {
+    assert_eq!(rt;
+        session.sent.as_slice(),
+        start.sent.as_slice(),
+        "{}",
+        talk.name
+    );
     assert_eq!(rt; session.shut, start.shut, "{}", talk.name);
-    Ok(())
 }
 
 /// The driver was started as often as it must be, and no other was.
-fn check_starts<H: Abort>(
-    rt: &H,
-    alloc: Global,
-    talk: &Talk,
-    spawner: &MemorySpawner,
-) -> Result<(), Fail> {
+fn check_starts<H: Abort>(rt: &H, talk: &Talk, spawner: &MemorySpawner) {
     assert_eq!(rt; spawner.drivers().len(), 1, "{}", talk.name);
     for driver in spawner.drivers() {
         let starts = driver.starts.as_slice();
@@ -236,11 +260,10 @@ fn check_starts<H: Abort>(
         for (seen, start) in starts.iter().zip(talk.starts.as_slice()) {
             match &seen.outcome {
                 StartOutcome::Failed => assert!(rt; !start.starts, "{}", talk.name),
-                StartOutcome::Session(session) => check_session(rt, alloc, talk, start, session)?,
+                StartOutcome::Session(session) => check_session(rt, talk, start, session),
             }
         }
     }
-    Ok(())
 }
 
 const COMMANDS: [&[u8]; 3] = [
@@ -266,7 +289,8 @@ fn check_talk<H: Threads + Wait + Sync + Abort>(
     for path in 0..paths {
         check_steps(rt, alloc, talk, &left.history, path)?;
     }
-    check_starts(rt, alloc, talk, &spawner)
+    check_starts(rt, talk, &spawner);
+    Ok(())
 }
 
 /// The same files, report, notes and sessions, whatever the number of workers.

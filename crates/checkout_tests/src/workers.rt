@@ -68,7 +68,7 @@ fn check<H: Threads + Wait + Sync + Abort>(
         assert_eq!(rt; other.status, 0);
         assert!(rt; other.output.as_slice() == one.output.as_slice());
         assert!(rt; same_files(other.tree.files(), one.tree.files()));
-        assert!(rt; is_by(other.history.as_slice(), number_of(workers), count));
+        assert!(rt; is_by(other.history.as_slice(), number_of(workers)?, count));
     }
     Ok(())
 }
@@ -132,7 +132,7 @@ fn a_refusal_empties_the_history(rt: HostRuntime) -> Result<(), Fail> {
             panic!(rt; "no cells");
         };
         let left = plain_run(&rt, rt.alloc(), b"plain 2", cells)?;
-        assert_eq!(rt; u32::from(left.status), number_of(status));
+        assert_eq!(rt; u32::from(left.status), number_of(status)?);
         assert_eq!(rt; left.history.len(), 0);
         assert_eq!(rt; left.tree.files().len(), 0);
     }
@@ -172,7 +172,7 @@ fn the_desk_of_a_driver_comes_after_the_workers(rt: HostRuntime) -> Result<(), F
         set(rt.alloc(), &mut case, DRIVER)?;
         let left = ended(&rt, rt.alloc(), case)?;
         assert_eq!(rt; left.status, 0);
-        assert_eq!(rt; closer_of(&left.history, 0), Some(number_of(workers)));
+        assert_eq!(rt; closer_of(&left.history, 0), Some(number_of(workers)?));
     }
     Ok(())
 }

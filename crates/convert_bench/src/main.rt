@@ -1,4 +1,5 @@
-//! Converts contents of about 1 MB, and measures each conversion beside a copy of the same content.
+//! Converts contents of about 1 MB, and measures each conversion beside a copy of the same content. On the way back the
+//! file that a checkout makes of the content is converted and copied, and the bytes told are the content's.
 //!
 //! Each line of its output has fields with a tab between: a content, its bytes, a conversion, the bytes that come out
 //! and the one in their middle. With the argument `time` these follow: the nanoseconds of the conversion and of the
@@ -8,6 +9,7 @@
 mod content;
 mod work;
 
+use back_convert::Action;
 use content::Content;
 use eol_convert::LineEnds;
 use std::rt::{Clock, Env};
@@ -23,8 +25,16 @@ const UTF_16LE: Work = Work::Encoded(Encoding::Utf16Le);
 
 const UTF_32BE: Work = Work::Encoded(Encoding::Utf32Be);
 
+const TEXT_BACK: Work = Work::BackEnds(Action::TextCrlf);
+
+const AUTO_BACK: Work = Work::BackEnds(Action::AutoCrlf);
+
+const UTF_16LE_BACK: Work = Work::BackEncoded(Encoding::Utf16Le);
+
+const UTF_32BE_BACK: Work = Work::BackEncoded(Encoding::Utf32Be);
+
 /// Contents and conversions.
-const ROWS: [(&str, Content, &str, Work); 12] = [
+const ROWS: [(&str, Content, &str, Work); 22] = [
     ("lines of 40", Content::Lines, "crlf", TO_CRLF),
     ("lines of 40", Content::Lines, "auto-crlf", AUTO_CRLF),
     ("lines of 60", Content::LongLines, "crlf", TO_CRLF),
@@ -37,6 +47,36 @@ const ROWS: [(&str, Content, &str, Work); 12] = [
     ("ASCII", Content::Lines, "UTF-32BE", UTF_32BE),
     ("1 to 4 bytes", Content::Mixed, "UTF-16LE", UTF_16LE),
     ("1 to 4 bytes", Content::Mixed, "UTF-32BE", UTF_32BE),
+    ("lines of 40", Content::Lines, "crlf back", TEXT_BACK),
+    ("lines of 40", Content::Lines, "auto-crlf back", AUTO_BACK),
+    ("lines of 60", Content::LongLines, "crlf back", TEXT_BACK),
+    (
+        "lines of 60",
+        Content::LongLines,
+        "auto-crlf back",
+        AUTO_BACK,
+    ),
+    ("no `$`", Content::Lines, "ident back", Work::BackIdent),
+    (
+        "`$Id$` each 4 KB",
+        Content::Keywords,
+        "ident back",
+        Work::BackIdent,
+    ),
+    ("ASCII", Content::Lines, "UTF-16LE back", UTF_16LE_BACK),
+    ("ASCII", Content::Lines, "UTF-32BE back", UTF_32BE_BACK),
+    (
+        "1 to 4 bytes",
+        Content::Mixed,
+        "UTF-16LE back",
+        UTF_16LE_BACK,
+    ),
+    (
+        "1 to 4 bytes",
+        Content::Mixed,
+        "UTF-32BE back",
+        UTF_32BE_BACK,
+    ),
 ];
 
 /// Whether the argument asks for times.
@@ -53,6 +93,7 @@ fn main(rt: HostRuntime) -> io::Result<()> {
     for (about, content, name, work) in ROWS {
         let content = content.bytes(rt.alloc())?;
         let before = content.len();
+        let content = work.source(rt.alloc(), content)?;
         let seen = work.seen(rt.alloc(), &content)?;
         let after = seen.length;
         let middle = seen.middle;

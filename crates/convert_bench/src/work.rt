@@ -1,4 +1,5 @@
 //! The conversions, and a copy beside them.
+use back_convert::{Action, BackFault, back_encode, back_ends, back_ident};
 use eol_convert::{LineEnds, to_tree_ends};
 use ident_convert::expand_ident;
 use std::alloc::{AllocError, Global};
@@ -20,6 +21,9 @@ pub enum Work {
     Ends(LineEnds),
     Ident,
     Encoded(Encoding),
+    BackEnds(Action),
+    BackIdent,
+    BackEncoded(Encoding),
 }
 
 /// What is read of a result. A compiler may leave out a result from which nothing is read.
@@ -40,8 +44,30 @@ impl Seen {
     }
 }
 
+/// A file's content out of its encoding.
+fn decoded(alloc: Global, file: &[u8], encoding: Encoding) -> io::Result<Vec<u8>> {
+    match back_encode(alloc, file, encoding) {
+        Ok(text) => Ok(text),
+        Err(BackFault::Form) => Err(io::ErrorKind::InvalidData.into()),
+        Err(BackFault::NoMemory) => Err(AllocError.into()),
+    }
+}
+
 impl Work {
-    pub fn seen(self, alloc: Global, content: &[u8]) -> Result<Seen, AllocError> {
+    /// What the work is done on: on the way back it is the file that a checkout makes of the content.
+    pub fn source(self, alloc: Global, content: Vec<u8>) -> Result<Vec<u8>, AllocError> {
+        match self {
+            Work::BackEnds(_) => to_tree_ends(alloc, &content, LineEnds::ToCrlf),
+            Work::BackIdent => expand_ident(alloc, &content, &NAME),
+            Work::BackEncoded(encoding) => {
+                let prepared = encode(alloc, &content, encoding)?;
+                Vec::from_slice(alloc, prepared.bytes.as_slice())
+            }
+            Work::Copy | Work::Ends(_) | Work::Ident | Work::Encoded(_) => Ok(content),
+        }
+    }
+
+    pub fn seen(self, alloc: Global, content: &[u8]) -> io::Result<Seen> {
         match self {
             Work::Copy => {
                 let copy = Vec::from_slice(alloc, content)?;
@@ -58,6 +84,18 @@ impl Work {
             Work::Encoded(encoding) => {
                 let prepared = encode(alloc, content, encoding)?;
                 Ok(Seen::of(prepared.bytes.as_slice()))
+            }
+            Work::BackEnds(action) => {
+                let text = back_ends(alloc, content, action, false)?;
+                Ok(Seen::of(&text))
+            }
+            Work::BackIdent => {
+                let text = back_ident(alloc, content)?;
+                Ok(Seen::of(&text))
+            }
+            Work::BackEncoded(encoding) => {
+                let text = decoded(alloc, content, encoding)?;
+                Ok(Seen::of(&text))
             }
         }
     }

@@ -9,24 +9,29 @@ use std::alloc::{AllocError, Global};
 use std::process::Abort;
 use std::test::Fail;
 
+/// A name with each hexadecimal digit.
+const LETTERS: [u8; 20] =
+    *b"\x01\x23\x45\x67\x89\xab\xcd\xef\xfe\xdc\xba\x98\x76\x54\x32\x10\x00\xff\x0a\xa0";
+
 /// A hello, the capabilities, a list request, and requests for three paths.
 fn requests(alloc: Global) -> Result<Vec<u8>, AllocError> {
     let mut out = Vec::new(alloc);
     push_hello(alloc, &mut out)?;
     push_caps(alloc, &mut out)?;
     push_list(alloc, &mut out)?;
-    push_smudge(alloc, &mut out, b"big.psd", true, b"pointer")?;
-    push_smudge(alloc, &mut out, b"big.psd", false, b"")?;
-    push_smudge(alloc, &mut out, b"a", false, b"x")?;
+    push_smudge(alloc, &mut out, b"big.psd", &LETTERS, true, b"pointer")?;
+    push_smudge(alloc, &mut out, b"big.psd", &LETTERS, false, b"")?;
+    push_smudge(alloc, &mut out, b"a", &[0; 20], false, b"x")?;
     Ok(out)
 }
 
 const REQUESTS: &[u8] =
     b"0016git-filter-client\n000eversion=2\n00000015capability=clean\n0016capability=smudge\n0015capability=delay\n0000\
 0021command=list_available_blobs\n0000\
-0013command=smudge\n0015pathname=big.psd\n0010can-delay=1\n0000000bpointer0000\
-0013command=smudge\n0015pathname=big.psd\n00000000\
-0013command=smudge\n000fpathname=a\n00000005x0000";
+0013command=smudge\n0015pathname=big.psd\n0032blob=0123456789abcdeffedcba987654321000ff0aa0\n\
+0010can-delay=1\n0000000bpointer0000\
+0013command=smudge\n0015pathname=big.psd\n0032blob=0123456789abcdeffedcba987654321000ff0aa0\n00000000\
+0013command=smudge\n000fpathname=a\n0032blob=0000000000000000000000000000000000000000\n00000005x0000";
 
 #[test]
 fn requests_are_spelled(rt: HostRuntime) -> Result<(), Fail> {

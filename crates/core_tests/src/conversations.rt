@@ -12,10 +12,11 @@ oid sha256:4d7a214614ab2935c943f9e0ff69d22eadbb8f32b1258daaa5e2ca24d17e2393\nsiz
 /// What the client sends while the path `big.psd` is delayed, listed and delivered.
 const SENT: &[u8] = b"0016git-filter-client\n000eversion=2\n0000\
 0015capability=clean\n0016capability=smudge\n0015capability=delay\n0000\
-0013command=smudge\n0015pathname=big.psd\n0010can-delay=1\n00000086version https://git-lfs.github.com/spec/v1\n\
+0013command=smudge\n0015pathname=big.psd\n0032blob=60c8d8ab2adcf57a391163a7eeb0cdb8bf348e44\n\
+0010can-delay=1\n00000086version https://git-lfs.github.com/spec/v1\n\
 oid sha256:4d7a214614ab2935c943f9e0ff69d22eadbb8f32b1258daaa5e2ca24d17e2393\nsize 12345\n0000\
 0021command=list_available_blobs\n0000\
-0013command=smudge\n0015pathname=big.psd\n00000000\
+0013command=smudge\n0015pathname=big.psd\n0032blob=60c8d8ab2adcf57a391163a7eeb0cdb8bf348e44\n00000000\
 0021command=list_available_blobs\n0000";
 
 /// What the driver sends then.

@@ -1,9 +1,10 @@
 //! The tests of the core, and of the crates for a talk with a filter driver.
 //!
 //! A crate with tests is proved twice, with them and without. So the tests of these crates are here, over the built
-//! libraries: `packets` has those of `pkt_line`, `answers` of `filter_words`, `delays` of `delay_table`, and `events`
-//! of `checkout_core`. Those of `filter_proto` are `sessions` and `conversations`, with a leaf of their own, `page`,
-//! and a link, `pipe`; and `children`, with a real child process. It has nothing but tests, whose tables `table` reads.
+//! libraries: `packets` has those of `pkt_line`, `answers` of `filter_words`, `delays` of `delay_table`, `events` of
+//! `checkout_core`, and `journals` of `journal_audit`. Those of `filter_proto` are `sessions` and `conversations`, with
+//! a leaf of their own, `page`, and a link, `pipe`; and `children`, with a real child process. It has nothing but
+//! tests, whose tables `table` reads.
 #![tactic(auto)]
 
 #[cfg(test)]
@@ -16,6 +17,8 @@ mod conversations;
 mod delays;
 #[cfg(test)]
 mod events;
+#[cfg(test)]
+mod journals;
 #[cfg(test)]
 mod packets;
 #[cfg(test)]

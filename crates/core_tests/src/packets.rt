@@ -6,13 +6,15 @@ use std::test::Fail;
 /// What a driver sends in one conversation, up to a packet of 3,002 bytes, and after it.
 const CONVERSATION: &[u8] =
     b"0016git-filter-server\n000eversion=2\n00000016capability=smudge\n0015capability=delay\n\
-    00000013status=delayed\n00000015pathname=big.psd\n00000013status=success\n00000013status=success\n0000000bpixels\n00000bbc";
+    00000013status=delayed\n00000015pathname=big.psd\n00000013status=success\n00000013status=succe\
+    ss\n0000000bpixels\n00000bbc";
 
 const AFTER: &[u8] = b"000000000013STATUS=success\n0004002";
 
 /// Its packets, as `packets_in` shows them.
 const SHOWN: &[u8] =
-    b"[git-filter-server\n][version=2\n]~[capability=smudge\n][capability=delay\n]~[status=delayed\n]~[pathname=big.psd\n]~\
+    b"[git-filter-server\n][version=2\n]~[capability=smudge\n][capability=delay\n]~[status=delaye\
+    d\n]~[pathname=big.psd\n]~\
 [status=success\n]~[status=success\n]~[pixels\n]~[";
 
 const SHOWN_AFTER: &[u8] = b"]~~[STATUS=success\n][]";
@@ -94,7 +96,8 @@ const EDGES: &[u8] = b"\
     000300003\
     000100001\
     0000~....\
-    00g4#....";
+    00g4#....\
+    zz00#....";
 
 fn is_so(next: Result<Next<'_>, PktFault>, want: &[u8], longest: &[u8]) -> bool {
     match (next, want) {
@@ -156,6 +159,20 @@ fn a_fault_stays_at_its_place(rt: HostRuntime) -> Result<(), Fail> {
     });
     assert!(rt; reader.next() == fault);
     reader.feed(b"0000");
+    assert!(rt; reader.next() == fault);
+    Ok(())
+}
+
+#[test]
+fn a_fault_behind_a_packet_is_told_again_and_again(rt: HostRuntime) -> Result<(), Fail> {
+    let mut reader = PktReader::reserve(rt.alloc())?;
+    reader.feed(b"0005a0001");
+    assert!(rt; reader.next() == Ok(Next::Payload(b"a")));
+    let fault = Err(PktFault::BadLength {
+        place: 5,
+        length: 1,
+    });
+    assert!(rt; reader.next() == fault);
     assert!(rt; reader.next() == fault);
     Ok(())
 }

@@ -29,6 +29,9 @@ pub struct Pipe {
     keeps: bool,
     /// What was sent, if it keeps that.
     pub sent: Vec<u8>,
+    /// How many bytes were sent, and the most in one call.
+    pub sent_bytes: u64,
+    pub most_sent: usize,
     /// How many puts there were at each read so far.
     pub puts: Vec<u32>,
     counter: Rc<Cell<u32>>,
@@ -59,6 +62,8 @@ impl Pipe {
             fails_read: false,
             keeps: true,
             sent: Vec::new(alloc),
+            sent_bytes: 0,
+            most_sent: 0,
             puts: Vec::new(alloc),
             counter: Rc::new(alloc, Cell::new(0))?,
             shut: false,
@@ -161,6 +166,8 @@ impl Link for Pipe {
         if self.keeps && self.sent.extend_from_slice(piece).is_err() {
             return Err(SendFault::NoMemory);
         }
+        self.sent_bytes = self.sent_bytes.saturating_add(piece.len() as u64);
+        self.most_sent = self.most_sent.max(piece.len());
         Ok(())
     }
 

@@ -134,3 +134,24 @@ fn the_longest_reply(rt: HostRuntime) -> Result<(), Fail> {
     assert!(rt; is_long(rt.alloc(), 8195, b't')?);
     Ok(())
 }
+
+/// A driver that is sent 268,435,456 bytes and answers with twice as many: the request goes out packet by packet, the
+/// first with the key list before it, and the answer is too long. The texts of the handshake have 108 bytes, the key
+/// list 88, and 4,098 packets and the last flush four more each.
+#[test]
+fn a_driver_that_sends_the_largest_content_twice(rt: HostRuntime) -> Result<(), Fail> {
+    let alloc = rt.alloc();
+    let mut packet = Vec::from_slice(alloc, b"fff0")?;
+    packet.resize(65_520, b'c')?;
+    let mut pipe = Pipe::of(alloc, HELLO_DIRECT, 65_520)?.forgets();
+    pipe.add(alloc, b"0013status=success\n0000", 1)?;
+    pipe.add(alloc, &packet, 8_196)?;
+    let content = vec![in alloc; b'c'; 268_435_456]?;
+    let mut page = Page::new(alloc, pipe.counter()?).forgets();
+    let mut session = begin(alloc, pipe)?;
+    let letter = came_letter(ask(&mut session, b"p", &content, &mut page));
+    let pipe = session.shut();
+    assert!(rt; letter == b't' && pipe.end_letter() == b'-');
+    assert!(rt; pipe.sent_bytes == 268_452_048 && pipe.most_sent == 65_608);
+    Ok(())
+}

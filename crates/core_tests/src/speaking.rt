@@ -18,6 +18,10 @@ pub const HELLO: &[u8] =
 pub const HELLO_DIRECT: &[u8] =
     b"0016git-filter-server\n000eversion=2\n00000016capability=smudge\n0000";
 
+/// The name that `git hash-object` gives to a pointer of 130 bytes to a large file. Each request has this name.
+const NAME: [u8; 20] =
+    *b"\x60\xc8\xd8\xab\x2a\xdc\xf5\x7a\x39\x11\x63\xa7\xee\xb0\xcd\xb8\xbf\x34\x8e\x44";
+
 /// A session over the link. Anything but a live session counts as a failed test.
 pub fn begin<K: Link>(alloc: Global, link: K) -> Result<Session<K>, AllocError> {
     match Session::begin(alloc, link) {
@@ -47,7 +51,7 @@ pub fn ask<K: Link>(
     if path.is_empty() || path.len() > 4096 {
         return None;
     }
-    let asked = session.ask(path, content, page);
+    let asked = session.ask(path, &NAME, content, page);
     Some((asked.reply, asked.put))
 }
 
@@ -64,7 +68,7 @@ pub fn ask_again<K: Link>(session: &mut Session<K>, path: &[u8], page: &mut Page
     if path.is_empty() || path.len() > 4096 {
         return None;
     }
-    let asked = session.ask_again(path, page);
+    let asked = session.ask_again(path, &NAME, page);
     Some((asked.reply, asked.put))
 }
 

@@ -1,5 +1,5 @@
 -- How replies end, and what is known of their contents.
-use Rattle.std.proofs.Common.{◌≡◌, inl, inr, ℕ, ◌-◌, Bool, true, false, List, [], ◌∷◌, Option, Some, None, Result, refl, sym, ap, subst, ◌∙◌}
+use Rattle.std.proofs.Common.{◌≡◌, inl, inr, ℕ, ◌+◌, ◌++◌, ◌-◌, Bool, true, false, List, [], ◌∷◌, Option, Some, None, Result, refl, sym, ap, subst, ◌∙◌}
 use Rattle.std.specs.Prelude.{⊤}
 use Rattle.std.proofs.lemmas.Bool.{lt-ltb, le-ltb, cases_lt}
 use Rattle.pkt_line.specs.Packets.{Packet, Payload, Flush, size}
@@ -17,10 +17,12 @@ use Rattle.filter_words.specs.declared.smudge_reply.ReplyPhase.TheVariants.{KeyL
 use Rattle.filter_words.specs.declared.answer_state.AnswerState.{AnswerState}
 use Rattle.filter_words.specs.declared.answer_state.AnswerState.TheVariants.{On, Done, Broken, Late}
 use Rattle.edge_kit.specs.declared.faults.SendFault.{SendFault}
-use Rattle.filter_proto.specs.Wires.{Wire}
+use Rattle.edge_kit.specs.Links.{LinkSeen, is_shut}
+use Rattle.edge_kit.specs.Starters.{StarterSeen, session_had}
+use Rattle.filter_proto.specs.Wires.{Wire, IsShutAfter}
 use Rattle.filter_proto.specs.Exchanges.{Ends, Good, Broke, OutOfMemory, Stops, Unsent, IsExchange}
 use Rattle.edge_kit.specs.Seen.{LeafSeen}
-use Rattle.filter_proto.specs.Replies.{IsKept, EndPut, TouchesNot, reply_end}
+use Rattle.filter_proto.specs.Replies.{IsFrontPut, IsKept, EndPut, TouchesNot, reply_end}
 use Rattle.checkout_core.specs.Conditions.{is_path_break}
 use Rattle.driver_line.specs.Lines.{LineView, Paths, Says, After, IsEnded, IsLeafAfter, MayReply, HasAnswered, GoesOn}
 use Rattle.driver_line.specs.Conversations.{First, Second}
@@ -138,11 +140,16 @@ asked_may d text old new r extra h = may_reply d r (may_come d text old new (rep
 -- the content of an exchange, and what the leaf has of it
 kept_end : (d : Bool) (old new : LeafSeen) (put : Result ⊤ SendFault) (end : Ends GoodReply) (ps : List Packet) → EndPut d old new put end ps → IsKept old new put
 kept_end d old new put (Good g) ps h = record { path = h.path; told = h.told; usable = h.usable; broken = h.broken }
-kept_end d old new put (Broke c) ps h = h
-kept_end d old new put OutOfMemory ps h = h
+kept_end d old new put (Broke c) ps h = h.0
+kept_end d old new put OutOfMemory ps h = h.0
+
+front_end : (d : Bool) (old new : LeafSeen) (put : Result ⊤ SendFault) (end : Ends GoodReply) (ps : List Packet) → EndPut d old new put end ps → IsFrontPut old new (content_in d reply_start ps)
+front_end d old new put (Good g) ps h = h.part
+front_end d old new put (Broke c) ps h = h.1
+front_end d old new put OutOfMemory ps h = h.1
 
 leaf_after : (d : Bool) (old new : LeafSeen) (put : Result ⊤ SendFault) (r : Reply) (ps : List Packet) → EndPut d old new put (reply_end r) ps → TouchesNot r old new put → IsLeafAfter old new put r (content_in d reply_start ps)
-leaf_after d old new put r ps h t = record { kept = kept_end d old new put (reply_end r) ps h; touches = t; holds = λ e. (subst (λ (x : Reply). EndPut d old new put (reply_end x) ps) e h).holds }
+leaf_after d old new put r ps h t = record { kept = kept_end d old new put (reply_end r) ps h; part = front_end d old new put (reply_end r) ps h; touches = t; holds = λ e. (subst (λ (x : Reply). EndPut d old new put (reply_end x) ps) e h).holds }
 
 pub with_content : (d : Bool) (text : List ℕ) (s t : Wire) (old new : LeafSeen) (put : Result ⊤ SendFault) (r : Reply) → IsExchange (reply_step d) reply_start text s t (reply_end r) (EndPut d old new put (reply_end r)) → TouchesNot r old new put → HasAnswered d text s t old new put r
 with_content d text s t old new put r (inl u) k = record {
@@ -170,17 +177,17 @@ after_over_as standing.Over old new s wire nope h = h
 pub after_over : (old new : LineView) (s u : SessionSeen) (r : Reply) → u.standing ≡ standing_after r → (u.standing ≡ standing.Live → ⊥) → IsEnded old.starter u.wire u.standing new → After old s u.wire (standing_after r) new
 after_over old new s u r is nope h = subst (λ (z : Standing). After old s u.wire z new) is (after_over_as u.standing old new s u.wire nope h)
 
-pub first_says : (p : ℕ) (text content : List ℕ) (old new : LineView) (s : SessionSeen) (wire : Wire) (before leaf : LeafSeen) (put : Result ⊤ SendFault) (r : Reply) → old.session ≡ Some s → s.standing ≡ standing.Live → s.caps.smudge ≡ true
-    → HasAnswered s.caps.delay (first_text text s.caps.delay content) s.wire wire before leaf put r → After old s wire (standing_after r) new
-    → (c : List ℕ) × ((paths : Paths) → paths.text p ≡ text → paths.content p ≡ content → Says paths old (First p r c) new) × IsLeafAfter before leaf put r c
-first_says p text content old new s wire before leaf put r is live smudge h after =
-    (h.content, (λ paths e i. (s, is, record { wire = wire; live = live; smudge = smudge; exchange = rw (e, i) h.exchange; after = after })), h.leaf)
+pub first_says : (p : ℕ) (text name content : List ℕ) (old new : LineView) (s : SessionSeen) (wire : Wire) (before leaf : LeafSeen) (put : Result ⊤ SendFault) (r : Reply) → old.session ≡ Some s → s.standing ≡ standing.Live → s.caps.smudge ≡ true
+    → HasAnswered s.caps.delay (first_text text name s.caps.delay content) s.wire wire before leaf put r → After old s wire (standing_after r) new
+    → (c : List ℕ) × ((paths : Paths) → paths.text p ≡ text → paths.name p ≡ name → paths.content p ≡ content → Says paths old (First p r c) new) × IsLeafAfter before leaf put r c
+first_says p text name content old new s wire before leaf put r is live smudge h after =
+    (h.content, (λ paths e n i. (s, is, record { wire = wire; live = live; smudge = smudge; exchange = rw (e, n, i) h.exchange; after = after })), h.leaf)
 
-pub second_says : (p : ℕ) (text : List ℕ) (old new : LineView) (s : SessionSeen) (wire : Wire) (before leaf : LeafSeen) (put : Result ⊤ SendFault) (r : Reply) → old.session ≡ Some s → s.standing ≡ standing.Live → s.caps.smudge ≡ true
-    → HasAnswered false (second_text text) s.wire wire before leaf put r → After old s wire (standing_after r) new
-    → (c : List ℕ) × ((paths : Paths) → paths.text p ≡ text → Says paths old (Second p r c) new) × IsLeafAfter before leaf put r c
-second_says p text old new s wire before leaf put r is live smudge h after =
-    (h.content, (λ paths e. (s, is, record { wire = wire; live = live; smudge = smudge; exchange = rw e h.exchange; after = after })), h.leaf)
+pub second_says : (p : ℕ) (text name : List ℕ) (old new : LineView) (s : SessionSeen) (wire : Wire) (before leaf : LeafSeen) (put : Result ⊤ SendFault) (r : Reply) → old.session ≡ Some s → s.standing ≡ standing.Live → s.caps.smudge ≡ true
+    → HasAnswered false (second_text text name) s.wire wire before leaf put r → After old s wire (standing_after r) new
+    → (c : List ℕ) × ((paths : Paths) → paths.text p ≡ text → paths.name p ≡ name → Says paths old (Second p r c) new) × IsLeafAfter before leaf put r c
+second_says p text name old new s wire before leaf put r is live smudge h after =
+    (h.content, (λ paths e n. (s, is, record { wire = wire; live = live; smudge = smudge; exchange = rw (e, n) h.exchange; after = after })), h.leaf)
 
 goes_over_as : (z : Standing) (s : SessionSeen) (new : Option SessionSeen) → (z ≡ standing.Live → ⊥) → new ≡ None → GoesOn s z new
 goes_over_as standing.Live s new nope e = absurd (nope refl)
@@ -194,3 +201,23 @@ pub goes_live : (o s u : SessionSeen) (r : Reply) → Some o ≡ Some s → u.ca
 goes_live o s u r same caps is live =
     let one : o ≡ s = cc in
     subst (λ (z : Standing). GoesOn s z (Some u)) (sym live ∙ is) (u.wire, rw (sym one, sym caps, sym live) refl)
+
+-- a session that was shut, and whose link its starter took back
+pub finished : (mid s : SessionSeen) (from old last : StarterSeen) (o : Option SessionSeen) (link : LinkSeen) → mid ≡ s → from ≡ old → o ≡ None → IsShutAfter mid.standing mid.wire link → last.out + 1 ≡ from.out
+    → last ≡ record from { had = from.had ++ session_had link ∷ []; out = last.out } → IsEnded old s.wire s.standing (record { starter = last; session = o })
+finished mid s from old last o link is same none shut out kept =
+    let ended : IsEnded from mid.wire mid.standing (record { starter = last; session = o }) = record {
+      seen = record { sent = link.sent; taken = link.taken; faults = link.faults; ends = link.ends; shut = is_shut link.stage };
+      none = none;
+      kept = kept;
+      out = out;
+      sent = ap (λ (w : Wire). w.sent) shut.kept;
+      taken = ap (λ (w : Wire). w.taken) shut.kept;
+      ends = ap (λ (w : Wire). w.ends) shut.kept;
+      input = shut.input;
+      end = shut.end;
+      faults = shut.counts;
+      shut = ap (λ (w : Wire). is_shut w.stage) shut.kept;
+    } in
+    subst (λ (x : SessionSeen). IsEnded old x.wire x.standing (record { starter = last; session = o })) is
+    (subst (λ (x : StarterSeen). IsEnded x mid.wire mid.standing (record { starter = last; session = o })) same ended)

@@ -8,6 +8,8 @@ pub mod Matching
 pub mod Lists
 pub mod Links
 pub mod ToldStarts
+pub mod Fills
+pub mod OneWitness
 pub mod Starters
 pub mod Examples
 pub mod ToldExamples
@@ -16,7 +18,11 @@ pub mod TalkFates
 pub mod TalkDue
 pub mod TalkLists
 pub mod SameStates
+pub mod Requests
 pub mod SameExchanges
 pub mod SameSessions
 pub mod SameTalks
 pub mod OneContents
+pub mod SameCauses
+pub mod Calm
+pub mod EqualSessions

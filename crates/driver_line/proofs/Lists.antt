@@ -10,6 +10,7 @@ use Rattle.filter_words.specs.Requests.{list_text}
 use Rattle.filter_words.specs.Listing.{ListPhase, Names, KeyList, GoodList, Listed, Aborted, list_step, list_start, after_value, name_in}
 use Rattle.filter_words.specs.Words.{value_of}
 use Rattle.filter_words.specs.Outcomes.{outcome, limit}
+use Rattle.filter_words.specs.declared.reply.BreakCause.{BreakCause}
 use Rattle.filter_words.specs.declared.reply.BreakCause.TheVariants as cause
 use Rattle.filter_words.specs.declared.answer_state.AnswerState.TheVariants.{On, Done, Broken, Late}
 use Rattle.filter_words.specs.ListGrammar.{names_of}
@@ -23,7 +24,7 @@ use Rattle.delay_table.specs.declared.place.Place.{Place}
 use Rattle.delay_table.specs.declared.place.Place.TheVariants as place
 use Rattle.filter_proto.specs.Wires.{Wire, SessionSeen}
 use Rattle.filter_proto.specs.Exchanges.{Ends, Good, Broke, OutOfMemory, Stops, IsExchange}
-use Rattle.filter_proto.specs.Lists.{Lists, EndLists, IsListExchange, delayed_of, delayed_in, listed_at, list_reply_of, standing_after_list}
+use Rattle.filter_proto.specs.Lists.{Lists, HasListed, BreaksLists, EndLists, IsListExchange, delayed_of, delayed_in, listed_at, list_reply_of, standing_after_list}
 use Rattle.filter_proto.specs.declared.session.Standing.{Standing}
 use Rattle.filter_proto.specs.declared.session.Standing.TheVariants as standing
 use Rattle.driver_line.specs.Conversations.{Listing}
@@ -293,11 +294,25 @@ names_known known numbers delayed s t old new OutOfMemory x none a = tt
 pub list_names : (known numbers : List ℕ) (s t : Wire) (old new : Table) (r : ListReply) → IsListExchange s t old new r → old.turns ≡ [] → AreDelayed known numbers old → NamesAre known (names_in numbers new.turns r) r
 list_names known numbers s t old new r x none a = subst (λ (y : ListReply). NamesAre known (names_in numbers new.turns y) y) (sym x.reply) (names_known known numbers (delayed_in old) s t old new x.end x.exchange none a)
 
+listed_table : (old new : Table) (ps : List Packet) → HasListed old new ps → IsListedTable old new
+listed_table old new ps h = (turns_of (names_of h.lines) old new h.listed).table
+
+breaks_table : (why : BreakCause) (old new : Table) (ps : List Packet) → BreaksLists why old new ps → IsListedTable old new
+breaks_table cause.StrangePath old new ps h = listed_table old new h.0 h.3
+breaks_table cause.TooLong old new ps h = listed_table old new h.0 h.3
+breaks_table cause.Ended old new ps h = listed_table old new ps h
+breaks_table cause.LinkFault old new ps h = listed_table old new ps h
+breaks_table cause.BadPacket old new ps h = listed_table old new ps h
+breaks_table cause.BadHandshake old new ps h = listed_table old new ps h
+breaks_table cause.UnknownStatus old new ps h = listed_table old new ps h
+breaks_table cause.StrangeDelay old new ps h = listed_table old new ps h
+breaks_table cause.ListRefused old new ps h = listed_table old new ps h
+
 ends_table : (old new : Table) (end : Ends GoodList) (ps : List Packet) → EndLists old new end ps → IsListedTable old new
 ends_table old new (Good (Listed ns)) ps h = (turns_of ns old new h).table
-ends_table old new (Good Aborted) ps h = (turns_of (names_of h.lines) old new h.listed).table
-ends_table old new (Broke why) ps h = (turns_of (names_of h.lines) old new h.listed).table
-ends_table old new OutOfMemory ps h = (turns_of (names_of h.lines) old new h.listed).table
+ends_table old new (Good Aborted) ps h = listed_table old new ps h
+ends_table old new (Broke why) ps h = breaks_table why old new ps h
+ends_table old new OutOfMemory ps h = (turns_of [] old new h).table
 
 pub list_table : (s t : Wire) (old new : Table) (r : ListReply) → IsListExchange s t old new r → IsListedTable old new
 list_table s t old new r x = elim (x.exchange) [
@@ -309,7 +324,7 @@ list_table s t old new r x = elim (x.exchange) [
 
 over_as : (z : Standing) (v w : LineView) (wire : Wire) → z ≡ standing.Live → IsEnded v.starter wire z w → IsEnded v.starter wire standing.Aborted w
 over_as z v w wire e h = let k = subst (λ (y : Standing). IsEnded v.starter wire y w) e h in
-    record { seen = k.seen; none = k.none; kept = k.kept; out = k.out; sent = k.sent; taken = k.taken; ends = k.ends; faults = k.faults; shut = k.shut }
+    record { seen = k.seen; none = k.none; kept = k.kept; out = k.out; sent = k.sent; taken = k.taken; ends = k.ends; input = k.input; end = k.end; faults = k.faults; shut = k.shut }
 
 pub list_over : (r : ListReply) (v w : LineView) (s u : SessionSeen) → (list_standing r ≡ standing.Live → ⊥) → u ≡ record s { wire = u.wire; standing = standing_after_list r } → IsEnded v.starter u.wire u.standing w → After v s u.wire (list_standing r) w
 list_over (list.Names n) v w s u live is h = absurd (live refl)

@@ -1,5 +1,5 @@
 -- Openings of a line.
-use Rattle.std.proofs.Common.{◌≡◌, inl, inr, ℕ, ◌+◌, ◌-◌, ◌≤◌, Bool, true, false, List, [], ◌∷◌, ◌++◌, Option, Some, None, refl, sym, ap, subst, ◌∙◌, arith}
+use Rattle.std.proofs.Common.{◌≡◌, inl, inr, ℕ, ◌+◌, ◌-◌, Bool, true, false, List, [], ◌∷◌, ◌++◌, Option, Some, None, Ok, refl, sym, ap, subst, ◌∙◌}
 use Rattle.std.proofs.lemmas.Bool.{lt-ltb, le-ltb, cases_lt}
 use Rattle.std.specs.Prelude.{if◌then◌else◌}
 use Rattle.std.specs.Str.{bytes_eq}
@@ -96,9 +96,6 @@ opening_may old new why (inr (inl r)) = heard_may old new why _ r.heard
 opening_may old new why (inr (inr (inl u))) = unsent_may u.mid new why u.unsent.why
 opening_may old new why (inr (inr (inr o))) = heard_may old new why _ o.heard
 
-pub reflexive : (n : ℕ) → n ≤ n
-reflexive n = omega arith
-
 pub opening_caps : (a b : Wire) (k l : Caps) → k ≡ l → IsOpening a b (Good l) → IsOpening a b (Good k)
 opening_caps a b k l e h = subst (λ (c : Caps). IsOpening a b (Good c)) (sym e) h
 
@@ -146,7 +143,9 @@ failed_says old from mid last link back unread o end none gone same st open_ out
         sent = refl;
         taken = refl;
         ends = refl;
-        faults = reflexive back.faults;
+        input = Ok tt;
+        end = Ok tt;
+        faults = (refl, refl, refl);
         shut = refl;
       },
     )

@@ -36,7 +36,7 @@ inside paths caps (Second q r c) es sent taken p h e = absurd (cc e)
 inside paths caps Shutting es sent taken p h e = absurd (cc e)
 
 -- where one talk's session is over, the other's is
-over_too : (paths : Paths) (caps : Caps) (asked : List ℕ) (d : ℕ) (t : Talk) (fate : ℕ → Fate) (rest : List Exchange) (u : Talk) (f : Exchange) (fs more : List Exchange) (v : Talk) (sent taken : List ℕ)
+pub over_too : (paths : Paths) (caps : Caps) (asked : List ℕ) (d : ℕ) (t : Talk) (fate : ℕ → Fate) (rest : List Exchange) (u : Talk) (f : Exchange) (fs more : List Exchange) (v : Talk) (sent taken : List ℕ)
     → Stands asked t fate → IsOutside rest → LeadsTo d t rest u → IsOver u → Spoken paths caps (f ∷ fs) sent taken → LeadsTo d t (f ∷ more) v → ⊥
 over_too paths caps asked d t fate [] u f fs more v sent taken s out l over h k =
     let due : due_of f ≡ due_at t = due_is d t f k.0 k.1 k.2 s.none s.turns in
@@ -49,10 +49,10 @@ over_too paths caps asked d t fate (e ∷ es) u f fs more v sent taken s out l o
 -- the counts of a session whose link never failed
 
 pub no_link : (seen : SessionHad) (b : Option BreakCause) → seen.faults ≡ 0 → FitsCounts seen b → b ≡ Some cause.LinkFault → ⊥
-no_link seen b none h e = let lt : 0 < seen.faults = subst (FitsCounts seen) e h in omega (arith, lt, none)
+no_link seen b none h e = let lt = (subst (FitsCounts seen) e h).0 in omega (arith, lt, none)
 
 pub all_came : (seen : SessionHad) (ahead : List ℕ) (b : Option BreakCause) → (0 < seen.ends → ahead ≡ []) → FitsCounts seen b → b ≡ Some cause.Ended → ahead ≡ []
-all_came seen ahead b whole h e = let lt : 0 < seen.ends = subst (FitsCounts seen) e h in whole lt
+all_came seen ahead b whole h e = whole (subst (FitsCounts seen) e h).0
 
 -- the session of one talk: its link never failed, and an end of input came only where nothing was ahead
 pub record IsQuiet (seen : SessionHad) (ahead : List ℕ) : Type 0 where

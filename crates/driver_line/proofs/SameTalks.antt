@@ -26,15 +26,43 @@ use Rattle.driver_line.specs.Conversations.{Exchange, NoStart, NoRoom, Opening, 
 use Rattle.driver_line.specs.Lines.{Paths, IsFresh}
 use Rattle.driver_line.specs.Parts.{IsPartOf, IsOnePart}
 use Rattle.driver_line.specs.SameHeard.{NoneFailed, HaveTexts, HaveSameTexts, AreApart, SameHeard}
-use Rattle.driver_line.specs.ToldStarts.{GoBy}
+use Rattle.driver_line.specs.ToldStarts.{GoBy, Fills}
 use Rattle.driver_line.specs.Transcripts.{IsPart, IsOpenedSession, IsFailedSession, IsSession, Matches, break_in}
 use Rattle.driver_line.proofs.Spoken.{stops_at}
+use Rattle.driver_line.proofs.Requests.{same_requests}
 use Rattle.driver_line.proofs.TalkDue.{Start, due_at, due_is}
 use Rattle.driver_line.proofs.TalkFates.{count, first_due, second_due}
 use Rattle.driver_line.proofs.TalkLists.{over_nothing, nothing_more}
 use Rattle.driver_line.proofs.SameStates.{Stands, Spared, Alike, Runs, after, known_stays, alike_none, to_alike, both_more, no_room, no_opening}
 use Rattle.driver_line.proofs.SameExchanges.{ReplyLaw, ListLaw, part_of, settled_break}
 use Rattle.driver_line.proofs.SameSessions.{IsOutside, IsQuiet, no_link, all_came, same_left, same_session}
+
+-- each session tells what it took, and its link never failed
+abbrev AreFine : List Had → Type 0
+AreFine [] = Unit {0}
+AreFine (Session seen ∷ hs) = (seen.faults ≡ 0) × ((taken : List ℕ) × (seen.taken ≡ Some taken)) × AreFine hs
+AreFine (StartFailed ∷ hs) = AreFine hs
+AreFine (StartOutOfMemory ∷ hs) = AreFine hs
+
+full_fine : (hs fs : List Had) → Fills hs fs → NoneFailed hs → AreFine fs
+full_fine [] [] f h = tt
+full_fine (Session seen ∷ hs) (Session full ∷ fs) f h = (
+  ap (λ (x : SessionHad). x.faults) f.0.full_is ∙ h.0,
+  (f.0.taken, ap (λ (x : SessionHad). x.taken) f.0.full_is),
+  full_fine hs fs f.1 h.1,
+)
+full_fine (StartFailed ∷ hs) (StartFailed ∷ fs) f h = full_fine hs fs f h
+full_fine (StartOutOfMemory ∷ hs) (StartOutOfMemory ∷ fs) f h = full_fine hs fs f h
+full_fine [] (k ∷ fs) f h = absurd f
+full_fine (Session seen ∷ hs) [] f h = absurd f
+full_fine (StartFailed ∷ hs) [] f h = absurd f
+full_fine (StartOutOfMemory ∷ hs) [] f h = absurd f
+full_fine (Session seen ∷ hs) (StartFailed ∷ fs) f h = absurd f
+full_fine (Session seen ∷ hs) (StartOutOfMemory ∷ fs) f h = absurd f
+full_fine (StartFailed ∷ hs) (Session full ∷ fs) f h = absurd f
+full_fine (StartFailed ∷ hs) (StartOutOfMemory ∷ fs) f h = absurd f
+full_fine (StartOutOfMemory ∷ hs) (Session full ∷ fs) f h = absurd f
+full_fine (StartOutOfMemory ∷ hs) (StartFailed ∷ fs) f h = absurd f
 
 -- a session of a told output, whose link never failed
 pub record IsToldSession (output : List ℕ) (seen : SessionHad) : Type 0 where
@@ -44,7 +72,7 @@ pub record IsToldSession (output : List ℕ) (seen : SessionHad) : Type 0 where
   pub whole : output ≡ taken ++ ahead
   pub quiet : IsQuiet seen ahead
 
-told_taken : (t : Option (List ℕ)) (taken came : List ℕ) → t ≡ Some taken → Tells t came → taken ≡ came
+pub told_taken : (t : Option (List ℕ)) (taken came : List ℕ) → t ≡ Some taken → Tells t came → taken ≡ came
 told_taken t taken came e h = subst (λ (x : Option (List ℕ)). Tells x came) e h
 
 told_session : (out left : Option (List ℕ)) (output came taken : List ℕ) (seen : SessionHad) → out ≡ Some output → out ≡ led came left → Tells seen.taken came → (0 < seen.ends → Tells left [])
@@ -84,11 +112,11 @@ pub record IsAnswerTo (taken : List ℕ) (end : Ends Caps) : Type 0 where
   pub parts : taken ≡ used ++ later
   pub part : IsPart handshake_step handshake_start used later end (λ ps. Unit {0})
 
-all_grown : (t : Option (List ℕ)) (came taken : List ℕ) → Tells t [] → grown t came ≡ Some taken → taken ≡ came
+pub all_grown : (t : Option (List ℕ)) (came taken : List ℕ) → Tells t [] → grown t came ≡ Some taken → taken ≡ came
 all_grown None came taken h e = absurd (cc e)
 all_grown (Some t) came taken h e = let one : t ++ came ≡ taken = cc e in sym one ∙ ap (λ (x : List ℕ). x ++ came) h
 
-heard_answer : (start last : Wire) (end : Ends Caps) (extra : List Packet → Type 0) (taken : List ℕ) → IsFresh start → last.taken ≡ Some taken → IsHeard handshake_step handshake_start start last end extra
+pub heard_answer : (start last : Wire) (end : Ends Caps) (extra : List Packet → Type 0) (taken : List ℕ) → IsFresh start → last.taken ≡ Some taken → IsHeard handshake_step handshake_start start last end extra
     → IsAnswerTo taken end
 heard_answer start last end extra taken fresh is h = record {
   used = h.used;
@@ -109,7 +137,7 @@ pub record IsOpeningOf (output : List ℕ) (end : Ends Caps) : Type 0 where
   pub later : List ℕ
   pub part : IsPartOf handshake_step handshake_start output used later end
 
-failed_part : (output : List ℕ) (end : Ends Caps) (seen : SessionHad) → IsToldSession output seen → IsFailedSession end seen → (end ≡ OutOfMemory → ⊥) → IsOpeningOf output end
+pub failed_part : (output : List ℕ) (end : Ends Caps) (seen : SessionHad) → IsToldSession output seen → IsFailedSession end seen → (end ≡ OutOfMemory → ⊥) → IsOpeningOf output end
 failed_part output end seen told h room =
     let link : end ≡ Broke cause.LinkFault → ⊥ = λ e. no_link seen (break_in end) told.quiet.faults h.counts (ap break_in e) in
     let a = opening_answer h.start h.last end told.taken h.fresh (sym h.taken ∙ told.is) h.opening link room in
@@ -120,7 +148,7 @@ failed_part output end seen told h room =
           (λ e. all_came seen told.ahead (break_in end) told.quiet.whole h.counts (ap break_in e)) (end_settled end link room);
     }
 
-opened_part : (output : List ℕ) (paths : Paths) (caps : Caps) (own : List Exchange) (seen : SessionHad) (told : IsToldSession output seen) (h : IsOpenedSession paths caps own seen)
+pub opened_part : (output : List ℕ) (paths : Paths) (caps : Caps) (own : List Exchange) (seen : SessionHad) (told : IsToldSession output seen) (h : IsOpenedSession paths caps own seen)
     → IsPartOf handshake_step handshake_start output h.used h.later (Good caps)
 opened_part output paths caps own seen told h =
     part_of handshake_step handshake_start output h.used h.later told.ahead (Good caps) _ h.opened
@@ -132,7 +160,7 @@ session_part output paths (Broke why) own seen told h room = failed_part output 
 session_part output paths OutOfMemory own seen told h room = absurd (room refl)
 
 -- what follows an item is nothing, or a start
-outside_of : (paths : Paths) (hs : List Had) (es : List Exchange) → Matches paths es hs → IsOutside es
+pub outside_of : (paths : Paths) (hs : List Had) (es : List Exchange) → Matches paths es hs → IsOutside es
 outside_of paths [] es h = subst IsOutside (sym h) tt
 outside_of paths (StartFailed ∷ hs) es h = subst IsOutside (sym h.2) (h.0, refl)
 outside_of paths (StartOutOfMemory ∷ hs) es h = subst IsOutside (sym h.2) (h.0, refl)
@@ -210,12 +238,12 @@ module _ (replies_law : ReplyLaw) (lists_law : ListLaw) (hand_law : HandLaw) (pa
         (λ mid run st x y. bodies end1 mid (after d (Opening p end1) fate) own1 own2 a b2 st x y)
 
   -- nothing is left of both
-  none_left : (t : Talk) (fate : ℕ → Fate) (es fs : List Exchange) (u v : Talk) → es ≡ [] → IsOver u → LeadsTo d t es u → LeadsTo d t fs v → (es ≡ []) × (fs ≡ [])
+  pub none_left : (t : Talk) (fate : ℕ → Fate) (es fs : List Exchange) (u v : Talk) → es ≡ [] → IsOver u → LeadsTo d t es u → LeadsTo d t fs v → (es ≡ []) × (fs ≡ [])
   none_left t fate es fs u v e over l k =
       let here : t ≡ u = subst (λ (z : List Exchange). LeadsTo d t z u) e l in
       (e, nothing_more d t fs v (ap due_at here ∙ over_nothing u over) k)
 
-  failed_starts : (t : Talk) (fate : ℕ → Fate) (p q : ℕ) (es fs : List Exchange) (u v : Talk) → Stands asked t fate → Runs d t fate (NoStart p ∷ es) u → Runs d t fate (NoStart q ∷ fs) v
+  pub failed_starts : (t : Talk) (fate : ℕ → Fate) (p q : ℕ) (es fs : List Exchange) (u v : Talk) → Stands asked t fate → Runs d t fate (NoStart p ∷ es) u → Runs d t fate (NoStart q ∷ fs) v
       → ((mid : Talk) (more : ℕ → Fate) → Stands asked mid more → Runs d mid more es u → Runs d mid more fs v → Alike d more es fs) → Alike d fate (NoStart p ∷ es) (NoStart q ∷ fs)
   failed_starts t fate p q es fs u v s g h left =
       let l = g.0 in
@@ -225,7 +253,7 @@ module _ (replies_law : ReplyLaw) (lists_law : ListLaw) (hand_law : HandLaw) (pa
       both_more asked d t fate (NoStart p) (NoStart q) es fs u v (ap NoStart path) s g h (λ mid run st x y. left mid (after d (NoStart p) fate) st x y)
 
   pub same_items : (i j : List Had) (told : List StartTold) (es fs : List Exchange) (t : Talk) (fate : ℕ → Fate) (u v : Talk) (left1 left2 : Starts) → Stands asked t fate
-      → Matches paths1 es i → Matches paths2 fs j → GoBy (Some told) i left1 → GoBy (Some told) j left2 → NoneFailed i → NoneFailed j → IsOver u → IsOver v
+      → Matches paths1 es i → Matches paths2 fs j → GoBy (Some told) i left1 → GoBy (Some told) j left2 → AreFine i → AreFine j → IsOver u → IsOver v
       → Runs d t fate es u → Runs d t fate fs v → Alike d fate es fs
   same_items [] j told es fs t fate u v left1 left2 s m n a b x y over1 over2 g h =
       let k = none_left t fate es fs u v m over1 g.0 h.0 in
@@ -295,17 +323,20 @@ begins asked apart = record {
   within = λ p. first_within (contains p asked);
 }
 
-first_spared : (b : Bool) (p : ℕ) (es : List Event) → (b ≡ true → fate_of p Untold es ≡ Known heard.OutOfMemory → ⊥) → fate_of p (cond b Untold (Known heard.Got)) es ≡ Known heard.OutOfMemory → ⊥
+pub first_spared : (b : Bool) (p : ℕ) (es : List Event) → (b ≡ true → fate_of p Untold es ≡ Known heard.OutOfMemory → ⊥) → fate_of p (cond b Untold (Known heard.Got)) es ≡ Known heard.OutOfMemory → ⊥
 first_spared true p es h e = h refl e
 first_spared false p es h e = let bad : Known heard.Got ≡ Known heard.OutOfMemory = sym (known_stays p heard.Got es) ∙ e in absurd (cc bad)
 
-same_first : (b : Bool) (p : ℕ) (xs ys : List Event) → b ≡ true → fate_of p (cond b Untold (Known heard.Got)) xs ≡ fate_of p (cond b Untold (Known heard.Got)) ys → fate_of p Untold xs ≡ fate_of p Untold ys
+pub same_first : (b : Bool) (p : ℕ) (xs ys : List Event) → b ≡ true → fate_of p (cond b Untold (Known heard.Got)) xs ≡ fate_of p (cond b Untold (Known heard.Got)) ys → fate_of p Untold xs ≡ fate_of p Untold ys
 same_first true p xs ys e h = h
 same_first false p xs ys e h = absurd (cc e)
 
 pub same_heard : ReplyLaw → ListLaw → HandLaw → SameHeard
 same_heard replies_law lists_law hand_law d a b asked told i j es fs apart texts agree one two =
-    let k = same_items replies_law lists_law hand_law a b asked texts agree d i j told es fs (Between asked) (first_fate asked) one.talk.end two.talk.end one.left two.left (begins asked apart)
-    one.talk.spells two.talk.spells one.goes two.goes one.fine two.fine one.talk.over two.talk.over
-    (one.talk.goes, λ p. first_spared (contains p asked) p (notes_in d es) (one.memory p)) (two.talk.goes, λ p. first_spared (contains p asked) p (notes_in d fs) (two.memory p)) in
-    (λ p here. (same_first (contains p asked) p (notes_in d es) (notes_in d fs) here (k.fates p), k.contents p), k.same)
+    let k = same_items replies_law lists_law hand_law a b asked texts agree d one.full two.full told es fs (Between asked) (first_fate asked) one.talk.end two.talk.end one.left two.left (begins asked apart)
+    one.talk.spells two.talk.spells one.goes two.goes (full_fine i one.full one.fills one.fine) (full_fine j two.full two.fills two.fine) one.talk.over two.talk.over
+    (one.talk.goes, λ p. first_spared (contains p asked) p (notes_in d es) (one.memory p)) (two.talk.goes, λ p. first_spared (contains p asked) p (notes_in d fs) (two.memory p)) in (
+      λ p here. (same_first (contains p asked) p (notes_in d es) (notes_in d fs) here (k.fates p), k.contents p),
+      k.same,
+      λ agree caps. same_requests a b asked agree caps d (Between asked) (first_fate asked) es one.talk.end (begins asked apart) one.talk.goes,
+    )

@@ -14,7 +14,7 @@ use Rattle.filter_proto.specs.Exchanges.{Ends, Good, Broke, OutOfMemory, Stops, 
 use Rattle.driver_line.proofs.Told.{grown_nothing, grown_both}
 use Rattle.driver_line.specs.Conversations.{Exchange}
 use Rattle.driver_line.specs.Lines.{Paths}
-use Rattle.driver_line.specs.Transcripts.{StopsAt, IsPart, request_of, AnswerIs, MayCut, Spoken}
+use Rattle.driver_line.specs.Transcripts.{StopsAt, IsPart, request_of, AnswerIs, MayCut, HasNothing, Spoken}
 
 stops_on : {P G : Type 0} (p : P) (old new : Wire) (end : Ends G) → Stops {G = G} (On p) old new end → StopsAt {G = G} (On p) new.unread end
 stops_on p old new (Good g) h = h
@@ -52,14 +52,14 @@ pub record SpokenFrom (paths : Paths) (caps : Caps) (wire : Wire) (es : List Exc
 
 -- the last exchange
 pub last_spoken : {P G : Type 0} (step : P → Packet → AnswerState P G) (start : AnswerState P G) (end : Ends G) (extra : List Packet → Type 0) (paths : Paths) (caps : Caps) (e : Exchange) (s t : Wire) (seen : SessionHad)
-    → IsExchange step start (request_of paths caps e) s t end extra → ((used rest : List ℕ) → IsPart step start used rest end extra → AnswerIs paths caps e used rest) → (Unsent s t end → MayCut e)
+    → IsExchange step start (request_of paths caps e) s t end extra → ((used rest : List ℕ) → IsPart step start used rest end extra → AnswerIs paths caps e used rest) → (Unsent s t end → extra [] → MayCut e × HasNothing e)
     → seen.sent ≡ t.sent → seen.taken ≡ t.taken → SpokenFrom paths caps s (e ∷ []) seen
 last_spoken step start end extra paths caps e s t seen (inl u) answers cuts se ta = record {
   more = u.sent.part.front;
   came = [];
   sent = se ∙ u.sent.part.told;
   taken = ta ∙ (ap (λ (w : Wire). w.taken) u.sent.stays ∙ sym (grown_nothing s.taken));
-  spoken = inl (refl, record { after = u.sent.part.after; text = u.sent.part.cut; proper = u.sent.part.proper; may = cuts u.why });
+  spoken = inl (refl, record { after = u.sent.part.after; text = u.sent.part.cut; proper = u.sent.part.proper; may = (cuts u.why u.done).0; nothing = (cuts u.why u.done).1 });
 }
 last_spoken step start end extra paths caps e s t seen (inr a) answers cuts se ta = record {
   more = request_of paths caps e;

@@ -1,5 +1,6 @@
 -- The starter of a line stays the same one.
-use Rattle.std.proofs.Common.{◌≡◌, inl, inr, ◌≤◌, true, ℕ, List, [], ◌∷◌, ap, ◌∙◌, arith, subst, sym, refl}
+use Rattle.std.proofs.Common.{◌≡◌, inl, inr, ◌≤◌, ℕ, List, [], ◌∷◌, ap, ◌∙◌, arith, subst, sym, refl}
+use Rattle.std.proofs.lemmas.Bool.{cases_Bool}
 use Rattle.std.proofs.lemmas.Bool.{cases_order}
 use Rattle.filter_proto.specs.Wires.{Wire, SessionSeen}
 use Rattle.filter_proto.specs.Exchanges.{Good, Broke, OutOfMemory}
@@ -32,15 +33,23 @@ after_keeps standing.Live v w s wire h = kept v.starter w.starter (ap (λ (x : S
 after_keeps standing.Aborted v w s wire h = ended_keeps v.starter wire standing.Aborted w h
 after_keeps standing.Over v w s wire h = ended_keeps v.starter wire standing.Over w h
 
-one_more : (old mid new : StarterSeen) (es rest : List Exchange) → Keeps old mid → IsSameStarter rest mid new
-    → (has_failed_start es ≡ true → Rose old.faults new.faults) → IsSameStarter es old new
-one_more old mid new es rest k h failed =
-    let same = k.faults in
-    let most = h.kept in
-    record { command = h.command ∙ k.command; kept = omega (arith, same, most); rose = failed }
-
 then_rose : (old mid new : StarterSeen) → Keeps old mid → Rose mid.faults new.faults → Rose old.faults new.faults
 then_rose old mid new k h = subst (λ (n : ℕ). Rose n new.faults) k.faults h
+
+-- the count never falls
+least : (es : List Exchange) (old new : StarterSeen) → IsSameStarter es old new → old.faults ≤ new.faults
+least es old new h = elim (cases_Bool (has_failed_start es)) [
+  | inl failed ↦ (h.rose failed).kept
+  | inr none ↦ (let same = h.still none in omega (arith, same))
+]
+
+one_more : (old mid new : StarterSeen) (es rest : List Exchange) → Keeps old mid → IsSameStarter rest mid new
+    → has_failed_start es ≡ has_failed_start rest → IsSameStarter es old new
+one_more old mid new es rest k h same = record {
+  command = h.command ∙ k.command;
+  rose = λ f. then_rose old mid new k (h.rose (sym same ∙ f));
+  still = λ f. h.still (sym same ∙ f) ∙ k.faults;
+}
 
 rose_then : (old mid new : StarterSeen) → Rose old.faults mid.faults → mid.faults ≤ new.faults
     → Rose old.faults new.faults
@@ -65,22 +74,21 @@ pub same_starter : (paths : Paths) (v w : LineView) (es : List Exchange) → Run
     → IsSameStarter es v.starter w.starter
 same_starter paths v w [] h = record {
   command = sym (ap (λ (x : LineView). x.starter.command) h);
-  kept = let same = ap (λ (x : LineView). x.starter.faults) h in omega (arith, same);
   rose = λ e. absurd (cc (e));
+  still = λ e. sym (ap (λ (x : LineView). x.starter.faults) h);
 }
 same_starter paths v w (e ∷ es) h = go e h.1 (same_starter paths h.0 w es h.2)
   where
     plain : (e : Exchange) → has_failed_start (e ∷ es) ≡ has_failed_start es → Keeps v.starter (h.0).starter
         → IsSameStarter es (h.0).starter w.starter → IsSameStarter (e ∷ es) v.starter w.starter
-    plain e same k i = one_more v.starter (h.0).starter w.starter (e ∷ es) es k i
-        (λ f. then_rose v.starter (h.0).starter w.starter k (i.rose (sym same ∙ f)))
+    plain e same k i = one_more v.starter (h.0).starter w.starter (e ∷ es) es k i same
 
     go : (e : Exchange) → Says paths v e h.0 → IsSameStarter es (h.0).starter w.starter
         → IsSameStarter (e ∷ es) v.starter w.starter
     go (NoStart p) s i = record {
       command = i.command ∙ ap (λ (x : StarterSeen). x.command) s.2.kept;
-      kept = let a = s.2.rose.kept in let b = i.kept in omega (arith, a, b);
-      rose = λ f. rose_then v.starter (h.0).starter w.starter s.2.rose i.kept;
+      rose = λ f. rose_then v.starter (h.0).starter w.starter s.2.rose (least es (h.0).starter w.starter i);
+      still = λ f. absurd (cc (f));
     }
     go (NoRoom p) s i = plain (NoRoom p) refl (kept v.starter (h.0).starter (ap (λ (x : StarterSeen). x.command) s.2)
         (ap (λ (x : StarterSeen). x.faults) s.2)) i

@@ -1,5 +1,5 @@
 -- A talk with a driver that ends its output at once, and then doesn't start again.
-use Rattle.std.proofs.Common.{◌≡◌, ◌==◌, inl, inr, ℕ, Bool, true, false, cond, List, [], ◌∷◌, ◌++◌, Some, refl, sym, ◌∙◌, arith}
+use Rattle.std.proofs.Common.{◌≡◌, ◌==◌, inl, inr, ℕ, Bool, true, false, cond, List, [], ◌∷◌, ◌++◌, Some, None, refl, sym, ◌∙◌, arith}
 use Rattle.pkt_line.specs.Packets.{Packet}
 use Rattle.filter_words.specs.Handshake.{IsHello}
 use Rattle.filter_words.specs.Requests.{hello_text}
@@ -23,6 +23,10 @@ wire sent ends = record { sent = Some sent; taken = Some []; left = Some []; unr
 
 abbrev seen : SessionHad
 seen = record { sent = Some hello_text; taken = Some []; faults = 0; ends = 1; shut = false }
+
+-- the same session, of a link that tells nothing
+abbrev untold : SessionHad
+untold = record seen { sent = None; taken = None }
 
 abbrev exchanges : List Exchange
 exchanges = Opening 7 (Broke cause.Ended) ∷ NoStart 8 ∷ []
@@ -54,7 +58,10 @@ failed = record {
   opening = ends_at_once;
   sent = refl;
   taken = refl;
-  counts = omega arith;
+  counts = (omega arith, refl);
+  one = inr refl;
+  ended = λ lt. refl;
+  failed = λ lt. absurd (omega (arith, lt));
   shut = refl;
 }
 
@@ -80,11 +87,13 @@ both_fates p = go (p == 7)
     go true = refl
     go false = refl
 
-told : (paths : Paths) → IsToldTalk 0 paths (7 ∷ 8 ∷ []) (Gives [] ∷ Fails ∷ []) (Session seen ∷ StartFailed ∷ []) exchanges
+told : (paths : Paths) → IsToldTalk 0 paths (7 ∷ 8 ∷ []) (Gives [] ∷ Fails ∷ []) (Session untold ∷ StartFailed ∷ []) exchanges
 told paths = record {
+  full = Session seen ∷ StartFailed ∷ [];
+  fills = (record { sent = hello_text; taken = []; sent_is = tt; taken_is = tt; full_is = refl }, tt);
   talk = talk paths;
   left = Some [];
   goes = (Some [], refl, record { came = []; left = Some []; part = refl; taken = refl; whole = λ lt. refl }, (tt, refl));
-  fine = (refl, ([], refl), tt);
+  fine = (refl, tt);
   memory = λ p here. not_memory (p == 7) (p == 8) (fate_in 0 p exchanges) (both_fates p);
 }

@@ -32,7 +32,7 @@ led_both : (a b : List ℕ) (x : Option (List ℕ)) → led a (led b x) ≡ led 
 led_both a b None = refl
 led_both a b (Some w) = ap Some (sym (append_assoc a b w))
 
-tells_more : (t : Option (List ℕ)) (a b : List ℕ) → Tells t a → Tells (grown t b) (a ++ b)
+pub tells_more : (t : Option (List ℕ)) (a b : List ℕ) → Tells t a → Tells (grown t b) (a ++ b)
 tells_more None a b h = tt
 tells_more (Some t) a b h = ap (λ (y : List ℕ). y ++ b) h
 
@@ -236,7 +236,7 @@ gone paths (e ∷ es) told v w at ended r =
       go = m.go k.items w.starter.ahead k.go;
     }
 
-same_rest : (xs ys zs : List Had) → xs ++ ys ≡ xs ++ zs → ys ≡ zs
+pub same_rest : (xs ys zs : List Had) → xs ++ ys ≡ xs ++ zs → ys ≡ zs
 same_rest [] ys zs e = e
 same_rest (x ∷ xs) ys zs e = same_rest xs ys zs (tails e)
   where

@@ -5,4 +5,6 @@ pub mod ToldStarts
 pub mod Starters
 pub mod Parts
 pub mod SameHeard
+pub mod SameCauses
+pub mod EqualSessions
 pub mod OneContent

@@ -1,6 +1,8 @@
 -- A line to a driver: what came of its starts, and the session that is open, if one is. What each exchange does to
 -- it.
-use Rattle.std.specs.Prelude.{◌≡◌, ◌⊎◌, ℕ, ◌+◌, ◌≤◌, Bool, true, false, Option, Some, None, List, [], ◌∷◌, ◌++◌, map}
+use Rattle.std.specs.Prelude.{◌≡◌, ◌⊎◌, ℕ, ◌+◌, Bool, true, false, Option, Some, None, List, [], ◌∷◌, ◌++◌, map}
+use Rattle.std.specs.Prelude.{Result, ⊤}
+use Rattle.edge_kit.specs.declared.faults.Failed.{Failed}
 use Rattle.pkt_line.specs.Packets.{Packet}
 use Rattle.filter_words.specs.SmudgeReply.{reply_step, reply_start, content_in}
 use Rattle.filter_words.specs.Listing.{GoodList, Listed, Aborted, list_step, list_start}
@@ -17,7 +19,7 @@ use Rattle.filter_proto.specs.Wires.{Wire}
 use Rattle.filter_proto.specs.Exchanges.{Ends, Good, Broke, OutOfMemory, IsExchange}
 use Rattle.filter_proto.specs.Wires.{SessionSeen}
 use Rattle.filter_proto.specs.Replies.{reply_end, standing_after}
-use Rattle.filter_proto.specs.Wires.{shut_after}
+use Rattle.filter_proto.specs.Wires.{shut_after, CountsShut}
 use Rattle.filter_proto.specs.Openings.{IsOpening}
 use Rattle.filter_proto.specs.declared.session.Standing.{Standing}
 use Rattle.filter_proto.specs.declared.session.Standing.TheVariants as standing
@@ -27,7 +29,7 @@ use Rattle.edge_kit.specs.Files.{grown}
 use Rattle.edge_kit.specs.declared.faults.SendFault.{SendFault}
 use Rattle.filter_words.specs.declared.reply.Reply.TheVariants as reply
 use Rattle.edge_kit.specs.Seen.{LeafSeen}
-use Rattle.filter_proto.specs.Replies.{IsKept, TouchesNot}
+use Rattle.filter_proto.specs.Replies.{IsFrontPut, IsKept, TouchesNot}
 use Rattle.checkout_core.specs.Conditions.{is_path_break}
 use Rattle.checkout_core.specs.declared.event.OpenCause.TheVariants as opening
 use Rattle.std.specs.Prelude.{slice_get, slice_index_or}
@@ -42,9 +44,10 @@ pub record LineView : Type 0 where
   pub starter : StarterSeen
   pub session : Option SessionSeen
 
--- the texts of a driver's paths and their prepared bytes
+-- the texts of a driver's paths, the names of their objects and their prepared bytes
 pub record Paths : Type 0 where
   pub text : ℕ → List ℕ
+  pub name : ℕ → List ℕ
   pub content : ℕ → List ℕ
 
 -- a link that was just given
@@ -56,7 +59,8 @@ pub record IsFresh (w : Wire) : Type 0 where
   pub ends : w.ends ≡ 0
   pub stage : w.stage ≡ Open
 
--- the session is over, and its starter keeps it
+-- The session is over, and its starter keeps it. Its count of faults rose in each of the two calls that shut it and failed,
+-- and in no other.
 pub record IsEnded (old : StarterSeen) (last : Wire) (how : Standing) (new : LineView) : Type 0 where
   pub seen : SessionHad
   pub none : new.session ≡ None
@@ -65,7 +69,9 @@ pub record IsEnded (old : StarterSeen) (last : Wire) (how : Standing) (new : Lin
   pub sent : seen.sent ≡ last.sent
   pub taken : seen.taken ≡ last.taken
   pub ends : seen.ends ≡ last.ends
-  pub faults : last.faults ≤ seen.faults
+  pub input : Result ⊤ Failed
+  pub end : Result ⊤ Failed
+  pub faults : CountsShut how input end last.faults seen.faults
   pub shut : seen.shut ≡ is_shut (shut_after how last.stage)
 
 -- the session goes on, or is over
@@ -134,11 +140,11 @@ Says paths old (Opening p (Good caps)) new = (s : SessionSeen) × (start : Wire)
 Says paths old (Opening p end) new = (start : Wire) × (last : Wire) × IsOpenedLine old end start last
     × IsEnded (started old.starter) last standing.Over new
 Says paths old (First p r content) new = (s : SessionSeen) × (old.session ≡ Some s)
-    × IsAsked s.caps.delay (first_text (paths.text p) s.caps.delay (paths.content p)) old s r content new
+    × IsAsked s.caps.delay (first_text (paths.text p) (paths.name p) s.caps.delay (paths.content p)) old s r content new
 Says paths old (Listing late names r) new = (s : SessionSeen) × (old.session ≡ Some s)
     × IsListed paths (map paths.text late) old s names r new
 Says paths old (Second p r content) new = (s : SessionSeen) × (old.session ≡ Some s)
-    × IsAsked false (second_text (paths.text p)) old s r content new
+    × IsAsked false (second_text (paths.text p) (paths.name p)) old s r content new
 Says paths old Shutting new = (s : SessionSeen) × (old.session ≡ Some s)
     × IsEnded old.starter s.wire standing.Live new
 
@@ -163,6 +169,7 @@ IsOpen (Some s) = (s.standing ≡ standing.Live) × (s.caps.smudge ≡ true)
 pub record IsLeafAfter (old new : LeafSeen) (put : Result ⊤ SendFault) (r : Reply) (content : List ℕ) : Type 0 where
   pub kept : IsKept old new put
   pub holds : r ≡ reply.Content → put ≡ Ok tt → new.content ≡ grown old.content content
+  pub part : IsFrontPut old new content
   pub touches : TouchesNot r old new put
 
 -- the replies that a request may have

@@ -1,6 +1,7 @@
 -- Two talks with a driver that writes the same: what they have in common.
-use Rattle.std.specs.Prelude.{◌≡◌, ◌==◌, ℕ, Bool, true, false, cond, Option, Some, None, List, [], ◌∷◌}
+use Rattle.std.specs.Prelude.{◌≡◌, ◌==◌, ℕ, Bool, true, false, cond, Option, Some, None, List, [], ◌∷◌, map}
 use Rattle.edge_kit.specs.Starters.{Had, Session, StartFailed, StartOutOfMemory, Starts, StartTold}
+use Rattle.filter_words.specs.declared.reply.Caps.{Caps}
 use Rattle.filter_words.specs.declared.reply.Reply.TheVariants as reply
 use Rattle.filter_words.specs.declared.reply.ListReply.TheVariants as list
 use Rattle.filter_proto.specs.Exchanges.{OutOfMemory}
@@ -9,14 +10,13 @@ use Rattle.checkout_core.specs.Fates.{Fate, Untold, Known, fate_of}
 use Rattle.checkout_core.specs.Talks.{contains}
 use Rattle.driver_line.specs.Conversations.{Exchange, NoRoom, Opening, First, Listing, Second, notes_in}
 use Rattle.driver_line.specs.Lines.{Paths}
-use Rattle.driver_line.specs.ToldStarts.{GoBy}
-use Rattle.driver_line.specs.Transcripts.{IsTalk}
+use Rattle.driver_line.specs.ToldStarts.{Fills, GoBy}
+use Rattle.driver_line.specs.Transcripts.{IsTalk, request_of}
 
--- each session tells what it took, and its link never failed
+-- no session's link ever failed
 abbrev pub NoneFailed : List Had → Type 0
 NoneFailed [] = Unit {0}
-NoneFailed (Session seen ∷ hs) =
-    (seen.faults ≡ 0) × ((taken : List ℕ) × (seen.taken ≡ Some taken)) × NoneFailed hs
+NoneFailed (Session seen ∷ hs) = (seen.faults ≡ 0) × NoneFailed hs
 NoneFailed (StartFailed ∷ hs) = NoneFailed hs
 NoneFailed (StartOutOfMemory ∷ hs) = NoneFailed hs
 
@@ -43,13 +43,15 @@ abbrev pub NoneWanting : List Exchange → Type 0
 NoneWanting [] = Unit {0}
 NoneWanting (e ∷ es) = (is_wanting e ≡ false) × NoneWanting es
 
--- A talk over these paths with a driver whose starts are told. No link failed, and memory ran out
--- for no path.
+-- A talk over these paths with a driver whose starts are told. What its sessions took, told or not, goes by these
+-- starts. No link failed, and memory ran out for no path.
 pub record IsToldTalk (d : ℕ) (paths : Paths) (asked : List ℕ) (told : List StartTold)
     (items : List Had) (exchanges : List Exchange) : Type 0 where
-  pub talk : IsTalk d paths asked items exchanges
+  pub full : List Had
+  pub fills : Fills items full
+  pub talk : IsTalk d paths asked full exchanges
   pub left : Starts
-  pub goes : GoBy (Some told) items left
+  pub goes : GoBy (Some told) full left
   pub fine : NoneFailed items
   pub memory : (p : ℕ) → contains p asked ≡ true
       → fate_in d p exchanges ≡ Known heard.OutOfMemory → ⊥
@@ -68,8 +70,14 @@ HaveTexts paths asked = (p q : ℕ) → contains p asked ≡ true → contains q
 abbrev pub HaveSameTexts : Paths → Paths → List ℕ → Type 0
 HaveSameTexts a b asked = (p : ℕ) → contains p asked ≡ true → a.text p ≡ b.text p
 
+-- the two have besides the same name of its object and the same prepared bytes for each
+abbrev pub HaveSamePaths : Paths → Paths → List ℕ → Type 0
+HaveSamePaths a b asked = (p : ℕ) → contains p asked ≡ true
+    → (a.text p ≡ b.text p) × (a.name p ≡ b.name p) × (a.content p ≡ b.content p)
+
 -- Two such talks tell the same of each path, and its driver gave the same content for it. If besides
--- memory ran out in none of their exchanges, they have the same.
+-- memory ran out in none of their exchanges, they have the same: the same requests too, where the
+-- paths have the same object names and prepared bytes.
 abbrev pub SameHeard : Type 0
 SameHeard = (d : ℕ) (a b : Paths) (asked : List ℕ) (told : List StartTold) (i j : List Had)
     (es fs : List Exchange) → AreApart asked → HaveTexts a asked → HaveSameTexts a b asked
@@ -77,3 +85,5 @@ SameHeard = (d : ℕ) (a b : Paths) (asked : List ℕ) (told : List StartTold) (
     → ((p : ℕ) → contains p asked ≡ true
     → (fate_in d p es ≡ fate_in d p fs) × (content_of p es ≡ content_of p fs))
     × (NoneWanting es → NoneWanting fs → es ≡ fs)
+    × (HaveSamePaths a b asked → (caps : Caps)
+    → map (request_of a caps) es ≡ map (request_of b caps) es)

@@ -1,5 +1,5 @@
 -- What came of a starter's starts, against the starts that it tells.
-use Rattle.std.specs.Prelude.{◌≡◌, ℕ, ◌<◌, List, [], ◌∷◌, Option}
+use Rattle.std.specs.Prelude.{◌≡◌, ℕ, ◌<◌, List, [], ◌∷◌, Option, Some}
 use Rattle.edge_kit.specs.Links.{led}
 use Rattle.edge_kit.specs.Told.{Tells}
 use Rattle.edge_kit.specs.Starters.{Had, Session, StartFailed, StartOutOfMemory, SessionHad}
@@ -12,6 +12,22 @@ pub record TookOf (output : Option (List ℕ)) (seen : SessionHad) : Type 0 wher
   pub part : output ≡ led came left
   pub taken : Tells seen.taken came
   pub whole : 0 < seen.ends → Tells left []
+
+-- the same session, which tells what it sent and took
+pub record FillsSession (seen full : SessionHad) : Type 0 where
+  pub sent : List ℕ
+  pub taken : List ℕ
+  pub sent_is : Tells seen.sent sent
+  pub taken_is : Tells seen.taken taken
+  pub full_is : full ≡ record seen { sent = Some sent; taken = Some taken }
+
+-- the same items, in which each session tells what it sent and took
+abbrev pub Fills : List Had → List Had → Type 0
+Fills [] [] = Unit {0}
+Fills (Session seen ∷ hs) (Session full ∷ fs) = FillsSession seen full × Fills hs fs
+Fills (StartFailed ∷ hs) (StartFailed ∷ fs) = Fills hs fs
+Fills (StartOutOfMemory ∷ hs) (StartOutOfMemory ∷ fs) = Fills hs fs
+Fills hs fs = ⊥
 
 -- The items go by the told starts, in order, and leave the last ones: each failed start was told to fail or isn't told,
 -- and each session took from the output that is told. A start that was out of memory uses up none.

@@ -26,6 +26,7 @@ use Rattle.driver_line.specs.Conversations.{Shutting, LeadsTo}
 use Rattle.filter_proto.specs.Wires.{Wire}
 use Rattle.filter_proto.specs.Openings.{IsOpening}
 use Rattle.driver_line.specs.Lines.{LineView, Paths, HasContent, ListIs, IsFresh}
+use Rattle.driver_line.specs.ToldStarts.{Fills, GoBy}
 
 -- how the reading of an answer stops, where these taken bytes stand after its packets
 abbrev pub StopsAt : {P G : Type 0} → AnswerState P G → List ℕ → Ends G → Type 0
@@ -50,9 +51,9 @@ pub record IsPart {P G : Type 0} (step : P → Packet
 
 -- the request of an exchange, in a session with these capabilities
 abbrev pub request_of : Paths → Caps → Exchange → List ℕ
-request_of paths caps (First p r content) = first_text (paths.text p) caps.delay (paths.content p)
+request_of paths caps (First p r content) = first_text (paths.text p) (paths.name p) caps.delay (paths.content p)
 request_of paths caps (Listing late names r) = list_text
-request_of paths caps (Second p r content) = second_text (paths.text p)
+request_of paths caps (Second p r content) = second_text (paths.text p) (paths.name p)
 request_of paths caps e = []
 
 -- the answer to it
@@ -83,11 +84,19 @@ wants e = false
 abbrev pub MayCut : Exchange → Type 0
 MayCut e = (break_of e ≡ Some cause.LinkFault) ⊎ (wants e ≡ true)
 
+-- no answer was looked at: no content came, and no name
+abbrev pub HasNothing : Exchange → Type 0
+HasNothing (First p r content) = content ≡ []
+HasNothing (Second p r content) = content ≡ []
+HasNothing (Listing late names r) = names ≡ []
+HasNothing e = Unit {0}
+
 pub record IsCut (paths : Paths) (caps : Caps) (e : Exchange) (sent : List ℕ) : Type 0 where
   pub after : List ℕ
   pub text : request_of paths caps e ≡ sent ++ after
   pub proper : 0 < length (request_of paths caps e) → 0 < length after
   pub may : MayCut e
+  pub nothing : HasNothing e
 
 -- The sent bytes are the requests' texts, and the answers are consecutive parts of the taken bytes; bytes may stand
 -- unread
@@ -99,11 +108,27 @@ Spoken paths caps (e ∷ es) sent taken =
     ⊎ ((more used later : List ℕ) × (sent ≡ request_of paths caps e ++ more) × (taken ≡ used ++ later)
     × AnswerIs paths caps e used later × Spoken paths caps es more later)
 
--- a fault of the link stands only where the count of faults rose, and an end only where the count of ends did
+-- a fault of the link stands only where the count of faults rose alone, and an end only where the count of ends did
 abbrev pub FitsCounts : SessionHad → Option BreakCause → Type 0
-FitsCounts seen (Some cause.LinkFault) = 0 < seen.faults
-FitsCounts seen (Some cause.Ended) = 0 < seen.ends
+FitsCounts seen (Some cause.LinkFault) = (0 < seen.faults) × (seen.ends ≡ 0)
+FitsCounts seen (Some cause.Ended) = (0 < seen.ends) × (seen.faults ≡ 0)
 FitsCounts seen why = Unit {0}
+
+-- A session has at most one of its two counts above 0: it ended at the first end of input or fault that an exchange
+-- met. A fault while it was shut counts too, and such a session met neither.
+abbrev pub HasOneCount : SessionHad → Type 0
+HasOneCount seen = (seen.ends ≡ 0) ⊎ (seen.faults ≡ 0)
+
+-- one of the exchanges broke its session with this cause
+abbrev pub HasBreak : BreakCause → List Exchange → Type 0
+HasBreak why [] = ⊥
+HasBreak why (e ∷ es) = (break_of e ≡ Some why) ⊎ HasBreak why es
+
+-- A count above 0 has its cause among the exchanges: an end of input, and a fault of the link where the session wasn't
+-- shut.
+pub record HasCauses (seen : SessionHad) (es : List Exchange) : Type 0 where
+  pub ended : 0 < seen.ends → HasBreak cause.Ended es
+  pub failed : 0 < seen.faults → seen.shut ≡ false → HasBreak cause.LinkFault es
 
 abbrev pub AllFit : SessionHad → List Exchange → Type 0
 AllFit seen [] = Unit {0}
@@ -135,6 +160,8 @@ pub record IsOpenedSession (paths : Paths) (caps : Caps) (es : List Exchange) (s
   pub opened : IsPart handshake_step handshake_start used later (Good caps) BeginsHello
   pub spoken : Spoken paths caps es more later
   pub counts : AllFit seen es
+  pub one : HasOneCount seen
+  pub causes : HasCauses seen es
   pub shut : seen.shut ≡ all_fine es
 
 -- with what cause an opening failed, if it broke
@@ -152,6 +179,9 @@ pub record IsFailedSession (end : Ends Caps) (seen : SessionHad) : Type 0 where
   pub sent : seen.sent ≡ last.sent
   pub taken : seen.taken ≡ last.taken
   pub counts : FitsCounts seen (break_in end)
+  pub one : HasOneCount seen
+  pub ended : 0 < seen.ends → end ≡ Broke cause.Ended
+  pub failed : 0 < seen.faults → end ≡ Broke cause.LinkFault
   pub shut : seen.shut ≡ false
 
 abbrev pub IsSession : Paths → Ends Caps → List Exchange → SessionHad → Type 0
@@ -178,8 +208,12 @@ pub record IsTalk (d : ℕ) (paths : Paths) (asked : List ℕ) (items : List Had
   pub goes : LeadsTo d (Between asked) exchanges end
   pub over : IsOver end
 
--- A run of a line that ends with no session open spells the items by which what its starter keeps grew.
+-- A run of a line that ends with no session open grows what its starter keeps. What its sessions sent and took, told or
+-- not, is one list of items: these go by the told starts, and spell the exchanges.
 pub record HasItems (paths : Paths) (v : LineView) (es : List Exchange) (w : LineView) : Type 0 where
   pub items : List Had
+  pub full : List Had
   pub had : w.starter.had ≡ v.starter.had ++ items
-  pub matches : Matches paths es items
+  pub fills : Fills items full
+  pub starts : GoBy v.starter.ahead full w.starter.ahead
+  pub matches : Matches paths es full

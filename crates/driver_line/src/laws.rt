@@ -1,4 +1,4 @@
-ghost use Rattle.std.specs.Prelude.{◌≡◌, ◌++◌, List, None};
+ghost use Rattle.std.specs.Prelude.{◌≡◌, List, None};
 ghost use Rattle.std.specs.Prelude.{ℕ, Bool};
 ghost use Rattle.filter_words.specs.SmudgeReply.{reply_step, reply_start};
 ghost use Rattle.filter_words.specs.Listing.{ListPhase, GoodList, list_step, list_start};
@@ -7,21 +7,21 @@ ghost use Rattle.filter_words.specs.declared.reply.Caps.{Caps};
 ghost use Rattle.filter_words.specs.declared.handshake.HandshakePhase.{HandshakePhase};
 ghost use Rattle.filter_words.specs.declared.smudge_reply.GoodReply.{GoodReply};
 ghost use Rattle.filter_words.specs.declared.smudge_reply.ReplyPhase.{ReplyPhase};
-ghost use Rattle.edge_kit.specs.Starters.{Had};
 ghost use Rattle.driver_line.specs.Conversations.{Exchange};
+ghost use Rattle.driver_line.specs.EqualSessions.{EqualSessions};
 ghost use Rattle.driver_line.specs.Lines.{LineView, Paths, RunsTo};
 ghost use Rattle.driver_line.specs.OneContent.{OneContent};
 ghost use Rattle.driver_line.specs.Parts.{IsOnePart};
+ghost use Rattle.driver_line.specs.SameCauses.{SameCauses};
 ghost use Rattle.driver_line.specs.SameHeard.{SameHeard};
 ghost use Rattle.driver_line.specs.Starters.{IsSameStarter};
-ghost use Rattle.driver_line.specs.ToldStarts.{GoBy};
 ghost use Rattle.driver_line.specs.Transcripts.{HasItems};
 
 use filter_words::{one_handshake, one_list, one_reply};
 use pkt_line::{no_packet, one_reading};
 
 /// The exchanges of a line, from where no session is open to where none is, are spelled by the sessions and the failed
-/// starts that its starter keeps.
+/// starts that its starter keeps. These go by the starts that it tells, with the same bytes where a session tells none.
 pub fn exchanges_are_spelled()
     ensures { (paths : Paths) (v w : LineView) (es : List Exchange) → v.session ≡ None → w.session ≡ None
         → RunsTo paths v es w → HasItems paths v es w }
@@ -37,13 +37,6 @@ pub fn links_are_given_back()
 pub fn a_starter_stays_the_same()
     ensures { (paths : Paths) (v w : LineView) (es : List Exchange)
         → RunsTo paths v es w → IsSameStarter es v.starter w.starter }
-{}
-
-/// What the starter of a line keeps of the exchanges goes by the starts that it tells.
-pub fn exchanges_go_by_the_starts()
-    ensures { (paths : Paths) (v w : LineView) (es : List Exchange) (items : List Had) → v.session ≡ None
-        → w.session ≡ None → RunsTo paths v es w → w.starter.had ≡ v.starter.had ++ items
-        → GoBy v.starter.ahead items w.starter.ahead }
 {}
 
 /// Two answers to one request that stand at the front of one output are the same, and so are their packets and bytes,
@@ -69,6 +62,20 @@ pub fn equal_outputs_give_equal_talks()
 {
     one_part();
 }
+
+/// Two talks over the same paths with equal failed starts and sessions tell the same of each path, also where a link
+/// failed, if memory ran out for no path. If besides memory ran out in no exchange, they have the same exchanges.
+pub fn equal_sessions_give_equal_talks()
+    ensures { EqualSessions }
+{
+    one_part();
+}
+
+/// The counts of a session tell how it broke: of two with equal counts that were both shut, or neither, both broke by a
+/// fault of the link or neither, and so with an end of input.
+pub fn counts_tell_the_cause()
+    ensures { SameCauses }
+{}
 
 /// A path gets one content in a talk at most.
 pub fn a_path_gets_one_content()

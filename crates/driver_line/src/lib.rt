@@ -8,7 +8,8 @@ mod laws;
 mod line;
 
 pub use laws::{
-    a_path_gets_one_content, a_starter_stays_the_same, equal_outputs_give_equal_talks,
-    exchanges_are_spelled, exchanges_go_by_the_starts, links_are_given_back, one_part,
+    a_path_gets_one_content, a_starter_stays_the_same, counts_tell_the_cause,
+    equal_outputs_give_equal_talks, equal_sessions_give_equal_talks, exchanges_are_spelled,
+    links_are_given_back, one_part,
 };
 pub use line::{Line, Start};

@@ -130,14 +130,20 @@ impl<S: Starter> Line<S> {
         }
     }
 
-    /// Asks for a path in the open session, and ends the session where it is over.
-    pub fn ask<L: Leaf>(&mut self, text: &[u8], content: &[u8], leaf: &mut L) -> Asked
+    /// Asks for a path in the open session, with the name of its object, and ends the session where it is over.
+    pub fn ask<L: Leaf>(
+        &mut self,
+        text: &[u8],
+        name: &[u8; 20],
+        content: &[u8],
+        leaf: &mut L,
+    ) -> Asked
         requires open { IsOpen self.old.session }
         requires fresh { (L.seen leaf.old).state ≡ state.Fresh }
         requires some { 1 ≤ length text.now }
         requires few { length text.now ≤ 4096 }
         ensures says { (p : ℕ) → (c : List ℕ) × ((paths : Paths) → paths.text p ≡ text.now
-            → paths.content p ≡ content.now → Says paths self.old (First p result.reply c) self.new)
+            → paths.name p ≡ name.now → paths.content p ≡ content.now → Says paths self.old (First p result.reply c) self.new)
             × IsLeafAfter (L.seen leaf.old) (L.seen leaf.new) result.put result.reply c }
         ensures kept { IsKept (L.seen leaf.old) (L.seen leaf.new) result.put }
         ensures touches { TouchesNot result.reply (L.seen leaf.old) (L.seen leaf.new) result.put }
@@ -149,7 +155,7 @@ impl<S: Starter> Line<S> {
         let Some(session) = &mut self.session else {
             unreachable!()
         };
-        let asked = ask_in(session, text, content, leaf);
+        let asked = ask_in(session, text, name, content, leaf);
         if !session.live() {
             self.finish();
         }
@@ -157,13 +163,13 @@ impl<S: Starter> Line<S> {
     }
 
     /// Asks again for a path in the open session, and ends the session where it is over.
-    pub fn ask_again<L: Leaf>(&mut self, text: &[u8], leaf: &mut L) -> Asked
+    pub fn ask_again<L: Leaf>(&mut self, text: &[u8], name: &[u8; 20], leaf: &mut L) -> Asked
         requires open { IsOpen self.old.session }
         requires fresh { (L.seen leaf.old).state ≡ state.Fresh }
         requires some { 1 ≤ length text.now }
         requires few { length text.now ≤ 4096 }
         ensures says { (p : ℕ) → (c : List ℕ) × ((paths : Paths) → paths.text p ≡ text.now
-            → Says paths self.old (Second p result.reply c) self.new)
+            → paths.name p ≡ name.now → Says paths self.old (Second p result.reply c) self.new)
             × IsLeafAfter (L.seen leaf.old) (L.seen leaf.new) result.put result.reply c }
         ensures kept { IsKept (L.seen leaf.old) (L.seen leaf.new) result.put }
         ensures touches { TouchesNot result.reply (L.seen leaf.old) (L.seen leaf.new) result.put }
@@ -175,7 +181,7 @@ impl<S: Starter> Line<S> {
         let Some(session) = &mut self.session else {
             unreachable!()
         };
-        let asked = ask_again_in(session, text, leaf);
+        let asked = ask_again_in(session, text, name, leaf);
         if !session.live() {
             self.finish();
         }
@@ -224,6 +230,7 @@ impl<S: Starter> Line<S> {
 fn ask_in<K: Link, L: Leaf>(
     session: &mut Session<K>,
     text: &[u8],
+    name: &[u8; 20],
     content: &[u8],
     leaf: &mut L,
 ) -> Asked
@@ -233,30 +240,35 @@ fn ask_in<K: Link, L: Leaf>(
     requires some { 1 ≤ length text.now }
     requires few { length text.now ≤ 4096 }
     ensures answered { HasAnswered session.old.caps.delay
-        (first_text text.now session.old.caps.delay content.now) session.old.wire session.new.wire (L.seen leaf.old)
-        (L.seen leaf.new) result.put result.reply }
+        (first_text text.now name.now session.old.caps.delay content.now) session.old.wire session.new.wire
+        (L.seen leaf.old) (L.seen leaf.new) result.put result.reply }
     ensures may { MayReply session.old.caps.delay result.reply }
     ensures caps { session.new.caps ≡ session.old.caps }
     ensures standing { session.new.standing ≡ standing_after result.reply }
 {
-    session.ask(text, content, leaf)
+    session.ask(text, name, content, leaf)
 }
 
 /// Asks again in an open session.
 #[tactic(auto, using(crate::proofs::Ends::with_content, crate::proofs::Ends::asked_may))]
-fn ask_again_in<K: Link, L: Leaf>(session: &mut Session<K>, text: &[u8], leaf: &mut L) -> Asked
+fn ask_again_in<K: Link, L: Leaf>(
+    session: &mut Session<K>,
+    text: &[u8],
+    name: &[u8; 20],
+    leaf: &mut L,
+) -> Asked
     requires live { session.old.standing ≡ Standing.Live }
     requires smudge { session.old.caps.smudge ≡ true }
     requires fresh { (L.seen leaf.old).state ≡ state.Fresh }
     requires some { 1 ≤ length text.now }
     requires few { length text.now ≤ 4096 }
-    ensures answered { HasAnswered false (second_text text.now) session.old.wire session.new.wire (L.seen leaf.old)
-        (L.seen leaf.new) result.put result.reply }
+    ensures answered { HasAnswered false (second_text text.now name.now) session.old.wire session.new.wire
+        (L.seen leaf.old) (L.seen leaf.new) result.put result.reply }
     ensures may { MayReply false result.reply }
     ensures caps { session.new.caps ≡ session.old.caps }
     ensures standing { session.new.standing ≡ standing_after result.reply }
 {
-    session.ask_again(text, leaf)
+    session.ask_again(text, name, leaf)
 }
 
 /// Whether a session is over after a list.

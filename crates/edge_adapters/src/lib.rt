@@ -1,23 +1,35 @@
 //! The outside of a checkout as the system has it: a Git folder, a worktree's folder, the child processes of filter
-//! drivers, and an output. They tell nothing of what they hold, and each counts its faults.
+//! drivers, and an output. They tell nothing of what they hold, and each counts its faults. What an adapter of another
+//! crate needs of files, folders and paths is here too.
 #![tactic(auto)]
 
 mod file_leaf;
 mod folder_repo;
 mod folder_tree;
 mod folders;
+mod front;
+mod given_up;
 mod output_sink;
 mod paths;
+mod patient;
 mod process_link;
 mod process_spawner;
 mod process_starter;
+mod shell;
+mod standard_error;
 mod whole_file;
-mod write_whole;
+mod write_errors;
+mod writing;
 
 pub use file_leaf::FileLeaf;
 pub use folder_repo::{FolderBlob, FolderRepo};
-pub use folder_tree::FolderTree;
+pub use folder_tree::{FolderTree, holds_nothing};
+pub use folders::{create_in_tree, empty_file, link_in_tree, remove_own};
 pub use output_sink::OutputSink;
+pub use paths::path_in;
 pub use process_link::ProcessLink;
-pub use process_spawner::ProcessSpawner;
-pub use process_starter::ProcessStarter;
+pub use process_spawner::{DriverPlace, ProcessSpawner};
+pub use process_starter::{Driver, ProcessStarter};
+pub use whole_file::read_whole;
+pub use write_errors::{ErrorCount, WriteErrors};
+pub use writing::write_whole;

@@ -5,12 +5,14 @@ ghost use Rattle.edge_kit.specs.Links.{IsNewLink};
 ghost use Rattle.edge_kit.specs.MemoryDrivers.{stage_of};
 ghost use Rattle.edge_adapters.specs.Starts.{session_of};
 
+use crate::front::keep_front;
 use crate::process_starter::Session;
-use crate::write_whole::write_whole;
+use crate::writing::{told, write_whole};
 use edge_kit::{Failed, Link, SendFault};
+use std::alloc::Global;
 use std::io;
 use std::io::{ErrorKind, Read};
-use std::process::{Child, ChildStdout};
+use std::process::{Child, ChildStdin, ChildStdout};
 
 /// A driver's child process, with the pipes to its input and from its output.
 #[derive(Drop)]
@@ -20,7 +22,28 @@ pub struct ProcessLink {
     waited: bool,
     faults: u64,
     ends: u64,
+    // what it wrote first
+    front: Vec<u8>,
     ghost order: { waited ≡ true → input_shut ≡ true },
+}
+
+/// A session that ended.
+#[derive(Drop)]
+pub struct EndedSession {
+    pub session: Session,
+    /// What the driver wrote first.
+    pub front: Vec<u8>,
+    /// The child, if it wasn't waited for. Both pipes are closed.
+    pub child: Option<Child>,
+}
+
+/// Sends the whole piece. A driver that has closed its input is sent nothing, and that is no fault: what it wrote
+/// decides.
+fn send_all(pipe: &mut ChildStdin, piece: &[u8]) -> Result<(), SendFault> {
+    match write_whole(pipe, piece) {
+        Ok(()) | Err(ErrorKind::BrokenPipe) => Ok(()),
+        Err(kind) => Err(told(kind)),
+    }
 }
 
 /// Reads once. A call that a signal cut short is made again.
@@ -38,7 +61,7 @@ fn read_once(pipe: &mut ChildStdout, into: &mut [u8]) -> io::Result<usize>
 
 impl ProcessLink {
     /// A link to a child on which nothing was called.
-    pub fn new(child: Child) -> ProcessLink
+    pub fn new(alloc: Global, child: Child) -> ProcessLink
         ensures { IsNewLink (⟦<ProcessLink as Link>⟧.seen result) }
     {
         ProcessLink {
@@ -47,12 +70,13 @@ impl ProcessLink {
             waited: false,
             faults: 0,
             ends: 0,
+            front: Vec::new(alloc),
         }
     }
 
-    /// What is kept of its session, and its child if that wasn't waited for. Both pipes are closed.
-    pub fn into_session(self) -> (Session, Option<Child>)
-        ensures { session_of result.0 ≡ session_had (⟦<ProcessLink as Link>⟧.seen self) }
+    /// What is kept of its session.
+    pub fn into_session(self) -> EndedSession
+        ensures { session_of result.session ≡ session_had (⟦<ProcessLink as Link>⟧.seen self) }
     {
         let ProcessLink {
             mut child,
@@ -60,6 +84,7 @@ impl ProcessLink {
             waited,
             faults,
             ends,
+            front,
         } = self;
         child.stdin = None;
         child.stdout = None;
@@ -68,18 +93,25 @@ impl ProcessLink {
             ends,
             shut: input_shut && waited,
         };
-        (session, if waited { None } else { Some(child) })
+        EndedSession {
+            session,
+            front,
+            child: if waited { None } else { Some(child) },
+        }
     }
 
     /// Reads from the child's output.
     fn read_output(&mut self, into: &mut [u8]) -> io::Result<usize>
         ensures within { IfOk result (λ count. count ≤ length into.new) }
-        ensures kept { self.new ≡ record self.old { child = self.new.child } }
+        ensures kept { self.new ≡ record self.old { child = self.new.child; front = self.new.front } }
     {
-        match &mut self.child.stdout {
-            Some(pipe) => read_once(pipe, into),
-            None => Err(io::Error::from(ErrorKind::BrokenPipe)),
-        }
+        let Some(pipe) = &mut self.child.stdout else {
+            return Err(io::Error::from(ErrorKind::BrokenPipe));
+        };
+        let count = read_once(pipe, into)?;
+        let (taken, _) = into.split_at(count);
+        keep_front(&mut self.front, taken);
+        Ok(count)
     }
 }
 
@@ -93,9 +125,11 @@ impl Link for ProcessLink {
       stage = stage_of l.input_shut l.waited;
     } };
 
+    /// A driver may have closed its input, or have ended. Whether that is seen as early as here is chance, so it is no
+    /// fault, here and in later sends: the answer counts that it wrote before, and then the end of its output.
     fn send(&mut self, piece: &[u8]) -> Result<(), SendFault> {
         let sent = match &mut self.child.stdin {
-            Some(pipe) => write_whole(pipe, piece),
+            Some(pipe) => send_all(pipe, piece),
             None => Err(SendFault::Failed),
         };
         if let Err(SendFault::Failed) = sent {

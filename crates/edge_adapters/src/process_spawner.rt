@@ -3,9 +3,21 @@ ghost use Rattle.std.specs.Prelude.{◌≡◌, ◌≤◌, ◌+◌, None, map, ve
 ghost use Rattle.edge_adapters.specs.Starts.{driver_of};
 
 use crate::process_starter::{Driver, ProcessStarter};
+use crate::standard_error::{is_closed, stand_ins};
 use byte_path::Bytes;
 use edge_kit::{Spawner, Starter};
 use std::alloc::{AllocError, Global};
+use std::fs::File;
+use std::sync::Arc;
+
+/// Where drivers run.
+#[derive(Drop)]
+pub struct DriverPlace {
+    /// The folder that they run in.
+    pub folder: String,
+    /// The value that they find in `GIT_DIR`, if it isn't the one that this program was given.
+    pub git_dir: Option<String>,
+}
 
 /// The maker of starters that start child processes by the shell.
 #[derive(Drop)]
@@ -14,20 +26,51 @@ pub struct ProcessSpawner {
     alloc: Global,
     returned: Vec<Driver>,
     out: usize,
+    // whether standard error is closed, and what has its number then
+    quiet: bool,
+    held: Vec<File>,
+    // if it is none, drivers run where this program was started
+    place: Option<Arc<DriverPlace, Global>>,
     // there is room for each starter that is out
     ghost room: { vec_len returned + out ≤ vec_capacity returned },
 }
 
 impl ProcessSpawner {
-    /// A spawner that has given nothing. It starts nothing.
+    /// A spawner that has given nothing. It starts nothing. If standard error is closed, its number is taken until the
+    /// spawner is dropped, so this comes before anything is opened.
     pub fn new(rt: HostRuntime) -> ProcessSpawner {
+        ProcessSpawner::with_place(rt, None)
+    }
+
+    /// The same for drivers that run in this place.
+    pub fn in_place(rt: HostRuntime, place: DriverPlace) -> Result<ProcessSpawner, AllocError> {
+        let place = Arc::new(rt.alloc(), place)?;
+        Ok(ProcessSpawner::with_place(rt, Some(place)))
+    }
+
+    fn with_place(rt: HostRuntime, place: Option<Arc<DriverPlace, Global>>) -> ProcessSpawner {
         let alloc = rt.alloc();
+        let quiet = is_closed(rt);
         ProcessSpawner {
             rt,
             alloc,
             returned: Vec::new(alloc),
             out: 0,
+            quiet,
+            held: if quiet {
+                stand_ins(rt, alloc)
+            } else {
+                Vec::new(alloc)
+            },
+            place,
         }
+    }
+
+    /// The drivers whose starters were given back.
+    pub fn drivers(&self) -> &[Driver]
+        ensures { result.now ≡ self.now.returned.items }
+    {
+        self.returned.as_slice()
     }
 }
 
@@ -40,9 +83,13 @@ impl Spawner for ProcessSpawner {
 
     fn starter(&mut self, command: &[u8]) -> Result<ProcessStarter, AllocError> {
         let command = Bytes::copy_of(self.alloc, command)?;
+        let place = match &self.place {
+            Some(place) => Some(Arc::try_clone(place)?),
+            None => None,
+        };
         self.returned.reserve(self.out + 1)?;
         self.out += 1;
-        Ok(ProcessStarter::new(self.rt, self.alloc, command))
+        Ok(ProcessStarter::new(self.rt, self.alloc, command, self.quiet, place))
     }
 
     fn take_back(&mut self, starter: ProcessStarter) {

@@ -1,17 +1,21 @@
 //! What starts a driver as a child process.
-ghost use Rattle.std.specs.Prelude.{◌≡◌, ◌≤◌, ◌<◌, ◌+◌, ◌^◌, ◌∷◌, ◌++◌, [], None, length, vec_len, vec_capacity};
+ghost use Rattle.std.specs.Prelude.{◌≡◌, ◌≤◌, ◌<◌, ◌+◌, ◌^◌, ◌∷◌, ◌++◌, [], None, OnOk, length, vec_len, vec_capacity};
 ghost use Rattle.edge_kit.specs.Starters.{StartsOne, session_had, starter_back, new_starter};
 ghost use Rattle.edge_adapters.specs.Starts.{outcome_of, starts_of, driver_of};
 ghost use Rattle.edge_kit.specs.MemoryDrivers.{waits};
 
-use crate::process_link::ProcessLink;
+use crate::front::is_no_packet;
+use crate::given_up::{end_all, thin_out};
+use crate::process_link::{EndedSession, ProcessLink};
+use crate::process_spawner::DriverPlace;
+use crate::shell::shell_text;
 use byte_path::Bytes;
 use edge_kit::{Link, SendFault, Starter};
 use std::alloc::{AllocError, Global};
-use std::collections::VecDeque;
 use std::io;
 use std::io::ErrorKind;
 use std::process::{Child, Command, Stdio};
+use std::sync::Arc;
 
 /// What is kept of a session.
 #[derive(Clone, Copy)]
@@ -41,6 +45,8 @@ pub struct Driver {
     pub command: Bytes,
     pub starts: Vec<Start>,
     pub out_of_memory: u64,
+    /// What it wrote first in the first session that it began with no packet.
+    pub front: Vec<u8>,
 }
 
 /// Starts a command, one child process after another.
@@ -55,9 +61,16 @@ pub struct ProcessStarter {
     out: usize,
     faults: u64,
     // children that were given up, the oldest first
-    given_up: VecDeque<Child>,
+    given_up: Vec<Child>,
+    // what it wrote first in a session that it began with no packet
+    front: Vec<u8>,
+    // whether this program's standard error is closed
+    quiet: bool,
+    place: Option<Arc<DriverPlace, Global>>,
     // there is room for each link that is out
     ghost room: { vec_len had + out ≤ vec_capacity had },
+    // and for its child
+    ghost children: { vec_len given_up + out ≤ vec_capacity given_up },
 }
 
 /// Gives the shell a command to run.
@@ -74,41 +87,63 @@ fn shell_of(alloc: Global, text: &str) -> Result<Command, AllocError> {
     Ok(shell)
 }
 
-/// Starts the command by the shell, in the folder that this program was started in. Its standard error stays this
-/// program's own. A command that isn't text can't be started.
-fn spawn(rt: HostRuntime, alloc: Global, command: &[u8]) -> io::Result<Child> {
+/// Has a driver run in its place.
+fn put_in_place(shell: &mut Command, place: &DriverPlace) -> Result<(), AllocError> {
+    shell.current_dir(place.folder.as_str())?;
+    if let Some(git_dir) = &place.git_dir {
+        shell.env("GIT_DIR", git_dir.as_str())?;
+    }
+    Ok(())
+}
+
+/// Starts the command by the shell, in its place or else in the folder that this program was started in. Its standard
+/// error is this program's own, or nothing if that is closed. A command that isn't text can't be started.
+fn spawn(
+    rt: HostRuntime,
+    alloc: Global,
+    command: &[u8],
+    quiet: bool,
+    place: Option<&DriverPlace>,
+) -> io::Result<Child> {
     let Ok(text) = str::from_utf8(command) else {
         return Err(io::Error::from(ErrorKind::InvalidInput));
     };
-    let mut shell = shell_of(alloc, text)?;
+    let text = shell_text(alloc, text)?;
+    let mut shell = shell_of(alloc, text.as_str())?;
+    if let Some(place) = place {
+        put_in_place(&mut shell, place)?;
+    }
     shell.stdin(Stdio::piped());
     shell.stdout(Stdio::piped());
+    if quiet {
+        shell.stderr(Stdio::null());
+    }
     shell.spawn(&rt)
 }
 
-/// Forgets the children that have ended, up to the first that hasn't, so that they don't stay as zombies.
-fn forget_ended(children: &mut VecDeque<Child>) {
-    for _ in 0..children.len() {
-        let Some(mut child) = children.pop_front() else {
-            return;
-        };
-        if let Ok(None) = child.try_wait() {
-            let _ = children.push_front(child);
-            return;
-        }
-    }
+/// Takes room for the links that are out and one more: for what is kept of each, and for its child.
+fn take_room(had: &mut Vec<Start>, given_up: &mut Vec<Child>, out: usize) -> Result<(), AllocError>
+    requires { vec_len had.old + out ≤ vec_capacity had.old }
+    ensures had { had.new.items ≡ had.old.items }
+    ensures len { vec_len given_up.new ≡ vec_len given_up.old }
+    ensures had_room { vec_capacity had.old ≤ vec_capacity had.new }
+    ensures room { vec_capacity given_up.old ≤ vec_capacity given_up.new }
+    ensures more_had { OnOk result (vec_len had.new + out < vec_capacity had.new) }
+    ensures more { OnOk result (vec_len given_up.new + out < vec_capacity given_up.new) }
+{
+    had.reserve(out + 1)?;
+    given_up.reserve(out + 1)
 }
 
-/// The next child, after it took room for giving it up.
+/// The next child.
 fn next_child(
     rt: HostRuntime,
     alloc: Global,
     command: &[u8],
-    given_up: &mut VecDeque<Child>,
+    quiet: bool,
+    place: Option<&DriverPlace>,
 ) -> Result<Child, SendFault> {
-    forget_ended(given_up);
-    given_up.reserve(1)?;
-    match spawn(rt, alloc, command) {
+    match spawn(rt, alloc, command, quiet, place) {
         Ok(child) => Ok(child),
         Err(error) if error.kind() == ErrorKind::OutOfMemory => Err(SendFault::NoMemory),
         Err(_) => Err(SendFault::Failed),
@@ -131,8 +166,15 @@ fn keep(had: &mut Vec<Start>, out_of_memory: u64, outcome: Outcome)
 }
 
 impl ProcessStarter {
-    /// A starter of this command, which has started nothing.
-    pub fn new(rt: HostRuntime, alloc: Global, command: Bytes) -> ProcessStarter
+    /// A starter of this command in its place, which has started nothing. If it is quiet, what a driver writes on its
+    /// standard error is lost.
+    pub fn new(
+        rt: HostRuntime,
+        alloc: Global,
+        command: Bytes,
+        quiet: bool,
+        place: Option<Arc<DriverPlace, Global>>,
+    ) -> ProcessStarter
         ensures { ⟦<ProcessStarter as Starter>⟧.seen result ≡ new_starter command None }
     {
         ProcessStarter {
@@ -143,26 +185,32 @@ impl ProcessStarter {
             out_of_memory: 0,
             out: 0,
             faults: 0,
-            given_up: VecDeque::new(alloc),
+            given_up: Vec::new(alloc),
+            front: Vec::new(alloc),
+            quiet,
+            place,
         }
     }
 
-    /// What is kept of the starter. It takes no memory.
+    /// What is kept of the starter, once each of its children has ended. It takes no memory.
     pub fn into_driver(self) -> Driver
         ensures { driver_of result ≡ starter_back (⟦<ProcessStarter as Starter>⟧.seen self) }
     {
         let ProcessStarter {
+            rt,
             command,
             had,
             out_of_memory,
-            mut given_up,
+            given_up,
+            front,
             ..
         } = self;
-        forget_ended(&mut given_up);
+        end_all(rt, given_up);
         Driver {
             command,
             starts: had,
             out_of_memory,
+            front,
         }
     }
 }
@@ -180,12 +228,14 @@ impl Starter for ProcessStarter {
 
     #[tactic(auto, using(crate::proofs::Starts::had_one_waits, crate::proofs::Starts::had_one_kept))]
     fn start(&mut self) -> Result<ProcessLink, SendFault> {
-        let started = match self.had.reserve(self.out + 1) {
+        thin_out(&mut self.given_up);
+        let started = match take_room(&mut self.had, &mut self.given_up, self.out) {
             Ok(()) => next_child(
                 self.rt,
                 self.alloc,
                 self.command.as_slice(),
-                &mut self.given_up,
+                self.quiet,
+                self.place.as_deref(),
             ),
             Err(_) => Err(SendFault::NoMemory),
         };
@@ -198,16 +248,24 @@ impl Starter for ProcessStarter {
             }
             Err(SendFault::NoMemory) => self.out_of_memory += 1,
         }
-        Ok(ProcessLink::new(started?))
+        Ok(ProcessLink::new(self.alloc, started?))
     }
 
     #[tactic(auto, using(crate::proofs::Starts::had_one_kept))]
     fn end(&mut self, link: ProcessLink) {
-        let (session, child) = link.into_session();
+        let EndedSession {
+            session,
+            front,
+            child,
+        } = link.into_session();
         if let Some(child) = child {
-            let _ = self.given_up.push_back(child);
+            let _ = self.given_up.push(child);
         }
-        keep(&mut self.had, self.out_of_memory, Outcome::Session(session));
+        if self.front.is_empty() && is_no_packet(&front) {
+            self.front = front;
+        }
+        let outcome = Outcome::Session(session);
+        keep(&mut self.had, self.out_of_memory, outcome);
         self.out_of_memory = 0;
         self.out -= 1;
     }

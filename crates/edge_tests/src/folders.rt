@@ -1,7 +1,8 @@
-//! What is read of a Git folder.
+//! What is read of a Git folder, and of a file by its path alone.
 use crate::place::{folder_with, path_in};
 use crate::table::{cut, is_read, is_right, read_part};
-use edge_adapters::FolderRepo;
+use edge_adapters::{FolderBlob, FolderRepo};
+use edge_kit::{Blob, TakeFault};
 use std::fs::remove_dir_all;
 use std::test::Fail;
 
@@ -9,13 +10,14 @@ use std::test::Fail;
 const NAME: [u8; 20] =
     *b"\x01\x23\x45\x67\x89\xAB\xCD\xEF\x01\x23\x45\x67\x89\xAB\xCD\xEF\x01\x23\x45\x67";
 
-/// What is there, the letter of what is read of the folder `repo`, a limit of one digit, and what
-/// is read.
+/// What is there, the letter of what is read of the folder `repo` (`f` of a file of that path), a limit of one digit,
+/// and what is read.
 const CASES: &[&str] = &[
     // no Git folder
     "|i9.",
     "|c9.",
     "|a9.",
+    "|u9.",
     "|o9.",
     // each file at its place
     "d repo;f repo/index DIRC!|i5=DIRC!",
@@ -43,7 +45,21 @@ const CASES: &[&str] = &[
     "f repo |c9x",
     "f repo |a9x",
     "d repo;d repo/objects;f repo/objects/01 |o9x",
+    // a file by its path
+    "|f9.",
+    "f repo journal|f7=journal",
+    "f repo journal|f6l",
+    "d repo|f9x",
 ];
+
+/// What is read of a path.
+fn read(rt: HostRuntime, path: String, part: u8, limit: u64) -> Result<Option<Vec<u8>>, TakeFault> {
+    if part == b'f' {
+        return FolderBlob::of_file(rt, path).take_all(limit);
+    }
+    let mut repo = FolderRepo::new(rt, path);
+    read_part(&mut repo, part, &NAME, limit)
+}
 
 fn is_so(rt: HostRuntime, row: &str) -> Result<bool, Fail> {
     let (things, rest) = cut(row, '|');
@@ -51,15 +67,15 @@ fn is_so(rt: HostRuntime, row: &str) -> Result<bool, Fail> {
         return Ok(false);
     };
     let folder = folder_with(rt, "repo", things)?;
-    let mut repo = FolderRepo::new(rt, path_in(rt, folder.as_str(), "repo")?);
+    let path = path_in(rt, folder.as_str(), "repo")?;
     let limit = u64::from(limit.wrapping_sub(b'0'));
-    let is_wanted = is_read(read_part(&mut repo, *part, &NAME, limit), want);
+    let is_wanted = is_read(read(rt, path, *part, limit), want);
     remove_dir_all(&rt, folder.as_str())?;
     Ok(is_wanted)
 }
 
 #[test]
-fn files_of_a_git_folder_are_read_whole(rt: HostRuntime) -> Result<(), Fail> {
+fn files_are_read_whole(rt: HostRuntime) -> Result<(), Fail> {
     for row in CASES {
         is_right(&rt, is_so(rt, row)?, row.as_bytes());
     }

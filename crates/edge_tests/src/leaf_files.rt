@@ -3,7 +3,8 @@ use crate::place::{folder_with, holds, path_in};
 use crate::table::{cut, is_right};
 use edge_adapters::{FileLeaf, FolderTree};
 use edge_kit::{Leaf, LeafState, Mark, Worktree};
-use std::fs::remove_dir_all;
+use std::fs::{remove_dir_all, remove_file};
+use std::io::ErrorKind;
 use std::test::Fail;
 
 /// Calls the leaf, and returns whether that went well: `p` puts these bytes, `r` restarts, `s`
@@ -81,6 +82,49 @@ fn is_so(rt: HostRuntime, row: &str) -> Result<bool, Fail> {
     let is_held = holds(rt, folder.as_str(), held, text)?;
     remove_dir_all(&rt, folder.as_str())?;
     Ok(well && is_held)
+}
+
+#[test]
+fn a_discard_leaves_what_another_put_at_the_path(rt: HostRuntime) -> Result<(), Fail> {
+    let folder = folder_with(rt, "other", "d tree")?;
+    let mut tree = FolderTree::new(rt, path_in(rt, folder.as_str(), "tree")?);
+    let mut leaf = tree.leaf("a")?;
+    assert!(rt; goes_well(&mut leaf, b"pmine"));
+    let path = path_in(rt, folder.as_str(), "tree/a")?;
+    remove_file(&rt, path.as_str())?;
+    std::fs::write(&rt, path.as_str(), "theirs")?;
+    assert!(rt; !goes_well(&mut leaf, b"d"));
+    tree.take_back(leaf);
+    assert!(rt; holds(rt, folder.as_str(), "tree/a", "theirs")?);
+    remove_dir_all(&rt, folder.as_str())?;
+    Ok(())
+}
+
+#[test]
+fn errors_are_counted_by_path(rt: HostRuntime) -> Result<(), Fail> {
+    let folder = folder_with(rt, "errors", "d tree;f tree/a old")?;
+    let mut tree = FolderTree::new(rt, path_in(rt, folder.as_str(), "tree")?);
+    for (path, calls) in [
+        ("a", "-pnew;+d"),
+        ("a/b", "-pnew;+d"),
+        ("c", "+s"),
+        ("a/d", "-s;+d"),
+    ] {
+        let mut leaf = tree.leaf(path)?;
+        is_right(&rt, all_go(&mut leaf, calls), path.as_bytes());
+        tree.take_back(leaf);
+    }
+    // EEXIST for one path, and ENOTDIR for two
+    match tree.errors().counts() {
+        [exists, folder] => {
+            assert!(rt; exists.paths == 1 && exists.error.kind() == ErrorKind::AlreadyExists);
+            assert!(rt; folder.paths == 2 && folder.error.kind() == ErrorKind::NotADirectory);
+        }
+        _ => panic!(rt; "other errors"),
+    }
+    assert!(rt; tree.errors().others() == 0);
+    remove_dir_all(&rt, folder.as_str())?;
+    Ok(())
 }
 
 #[test]

@@ -13,17 +13,31 @@ const HI: [u8; 20] =
 const HO: [u8; 20] =
     *b"\xAB\x4A\x98\x19\x0C\xF7\x76\xB4\x3C\xB0\xFE\x57\xCE\xF2\x31\xFB\x93\xFD\x07\xE6";
 
+/// The name that `git hash-object` gives to 67,108,865 NULs.
+const NULS: [u8; 20] =
+    *b"\x4D\x38\xBB\xD5\x2D\x33\x6B\x12\x9C\xF3\x5F\x58\xF8\xAF\x68\x3F\x61\x34\xAD\x0D";
+
+/// What the object with this name gives in a repository with these objects and failures.
+fn read_named(
+    alloc: Global,
+    name: &[u8; 20],
+    objects: Vec<([u8; 20], Vec<u8>)>,
+    fails: Vec<RepoFail>,
+) -> Result<Result<Vec<u8>, ObjectFault>, AllocError> {
+    let mut repo = MemoryRepo::new(alloc, None, None, None, objects, fails);
+    let mut blob = repo.blob(name)?;
+    let answer = read_blob(alloc, &mut blob, name);
+    repo.take_back(blob);
+    Ok(answer)
+}
+
 /// What the object `HI` gives in a repository with these objects and failures.
 fn read_hi(
     alloc: Global,
     objects: Vec<([u8; 20], Vec<u8>)>,
     fails: Vec<RepoFail>,
 ) -> Result<Result<Vec<u8>, ObjectFault>, AllocError> {
-    let mut repo = MemoryRepo::new(alloc, None, None, None, objects, fails);
-    let mut blob = repo.blob(&HI)?;
-    let answer = read_blob(alloc, &mut blob, &HI);
-    repo.take_back(blob);
-    Ok(answer)
+    read_named(alloc, &HI, objects, fails)
 }
 
 /// What the object `HI` gives with these stored bytes.
@@ -94,8 +108,23 @@ fn objects_are_absent_fail_or_are_too_large(rt: HostRuntime) -> Result<(), Fail>
     fails.push(RepoFail::Object(HI))?;
     let failing = letter_of(read_hi(alloc, Vec::new(alloc), fails)?);
     assert!(rt; absent == b'a' && failing == b'r');
-    assert!(rt; letter_of_nuls(alloc, 67_108_878)? == b'h');
-    assert!(rt; letter_of_nuls(alloc, 67_108_879)? == b't');
+    assert!(rt; letter_of_nuls(alloc, 268_435_471)? == b'h');
+    assert!(rt; letter_of_nuls(alloc, 268_435_472)? == b't');
+    Ok(())
+}
+
+/// A content of 67,108,865 NULs, stored under the name of 20 NULs, has another name.
+#[test]
+fn a_large_object_is_hashed(rt: HostRuntime) -> Result<(), Fail> {
+    let alloc = rt.alloc();
+    let name = [0; 20];
+    let mut stored = Vec::with_capacity(alloc, 67_108_879)?;
+    stored.extend_from_slice(b"blob 67108865\0")?;
+    stored.resize(67_108_879, 0)?;
+    let mut objects = Vec::new(alloc);
+    objects.push((name, stored))?;
+    let answer = read_named(alloc, &name, objects, Vec::new(alloc))?;
+    assert!(rt; matches!(answer, Err(ObjectFault::WrongName(found)) if found == NULS));
     Ok(())
 }
 

@@ -17,7 +17,8 @@ fn repo_with(alloc: Global, fail: Option<RepoFail>) -> Result<MemoryRepo, AllocE
     if let Some(fail) = fail {
         fails.push(fail)?;
     }
-    Ok(MemoryRepo::new(alloc, Some(index), Some(config), None, objects, fails))
+    let repo = MemoryRepo::new(alloc, Some(index), Some(config), None, objects, fails);
+    Ok(repo.with_base(vec![in alloc; 3]?))
 }
 
 /// The letter of what fails, of what is read, a limit of one digit, and what is read. A digit is an
@@ -27,6 +28,8 @@ const READS: &[&[u8]] = &[
     b"-c1=\x02",
     b"-c0l",
     b"-a1.",
+    b"-u1=\x03",
+    b"-u0l",
     b"-75=first",
     b"-74l",
     b"-95=third",
@@ -34,6 +37,7 @@ const READS: &[&[u8]] = &[
     b"ii1x",
     b"cc1x",
     b"aa1x",
+    b"uu1x",
     b"775x",
     b"795=third",
     b"ic1=\x02",
@@ -44,6 +48,7 @@ fn fail_of(letter: u8) -> Option<RepoFail> {
         b'i' => Some(RepoFail::Index),
         b'c' => Some(RepoFail::Config),
         b'a' => Some(RepoFail::Info),
+        b'u' => Some(RepoFail::Base),
         b'7' => Some(RepoFail::Object([7; 20])),
         _ => None,
     }

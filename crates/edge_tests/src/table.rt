@@ -18,8 +18,8 @@ pub fn is_right(rt: &impl Abort, is_so: bool, row: &[u8]) {
     assert!(rt; is_so, "{row:?}");
 }
 
-/// What a letter stands for: `i` the index, `c` the configuration, `a` the attributes, and else the
-/// object of this name.
+/// What a letter stands for: `i` the index, `c` the configuration, `a` the attributes, `u` the user's, and
+/// else the object of this name.
 pub fn read_part<R: Repo>(
     repo: &mut R,
     part: u8,
@@ -30,6 +30,7 @@ pub fn read_part<R: Repo>(
         b'i' => repo.index_bytes(limit),
         b'c' => repo.config_bytes(limit),
         b'a' => repo.info_attributes(limit),
+        b'u' => repo.base_attributes(limit),
         _ => {
             let mut blob = repo.blob(name)?;
             let taken = blob.take_all(limit);

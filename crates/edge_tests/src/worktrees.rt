@@ -2,7 +2,6 @@
 ghost use Rattle.std.specs.Prelude.{◌≡◌};
 ghost use Rattle.edge_kit.specs.declared.leaf_state.LeafState.TheVariants.{Fresh};
 
-use crate::table::is_right;
 use byte_path::Bytes;
 use edge_kit::{Failed, Leaf, LeafCall, Mark, MemoryLeaf, MemoryTree, Worktree};
 use std::alloc::{AllocError, Global};
@@ -37,28 +36,47 @@ fn goes_beside(
     Ok(well)
 }
 
+/// The error of a cell that no table knows.
+fn unknown(letter: u8) -> Fail {
+    Fail::new(format_args!("no table knows the cell `{}`", char::from(letter)))
+}
+
 /// The letter of the call that is to fail, the path, the letter of the call on it, and `+` if that
-/// goes well.
+/// goes well, or `-`.
 const CALLS: &[&[u8; 4]] = &[
     b"pap-", b"rar-", b"sas-", b"dad-", b"pbp+", b"par+", b"das+", b"sad+",
 ];
 
-fn call_of(letter: u8) -> LeafCall {
+fn call_of(letter: u8) -> Result<LeafCall, Fail> {
     match letter {
-        b'p' => LeafCall::Put,
-        b'r' => LeafCall::Restart,
-        b's' => LeafCall::Seal,
-        _ => LeafCall::Discard,
+        b'p' => Ok(LeafCall::Put),
+        b'r' => Ok(LeafCall::Restart),
+        b's' => Ok(LeafCall::Seal),
+        b'd' => Ok(LeafCall::Discard),
+        _ => Err(unknown(letter)),
+    }
+}
+
+fn path_of(letter: u8) -> Result<&'static str, Fail> {
+    match letter {
+        b'a' => Ok("a"),
+        b'b' => Ok("b"),
+        _ => Err(unknown(letter)),
     }
 }
 
 #[test]
 fn a_leaf_fails_at_a_set_call(rt: HostRuntime) -> Result<(), Fail> {
     for row in CALLS {
-        let [fail, path, call, well] = **row;
-        let path = if path == b'a' { "a" } else { "b" };
-        let goes = goes_beside(rt.alloc(), call_of(fail), path, call_of(call))?;
-        is_right(&rt, goes == (well == b'+'), *row);
+        let [fail, path, call, wanted] = **row;
+        let goes = goes_beside(rt.alloc(), call_of(fail)?, path_of(path)?, call_of(call)?)?;
+        let came = if goes { b'+' } else { b'-' };
+        assert!(rt;
+            came == wanted,
+            "{} gives {}",
+            row.escape_ascii(),
+            char::from(came)
+        );
     }
     Ok(())
 }
@@ -92,19 +110,19 @@ fn all_files(alloc: Global, tree: &MemoryTree) -> Result<Vec<u8>, AllocError> {
     Ok(seen)
 }
 
-/// Whether the tree is empty as its files say, and has these paths and contents after one more
-/// leaf.
-fn is_grown(
+/// The paths and the contents after one more leaf. Before it the tree is empty as its files say.
+fn grown(
     alloc: Global,
     tree: &mut MemoryTree,
     path: &str,
     content: &[u8],
-    wanted: &[u8],
-) -> Result<bool, AllocError> {
-    let is_empty = tree.is_empty() == Ok(tree.files().is_empty());
+) -> Result<Vec<u8>, Fail> {
+    let is_told = tree.is_empty() == Ok(tree.files().is_empty());
     let is_written = write_one(tree, path, content, path != "c")?;
-    let seen = all_files(alloc, tree)?;
-    Ok(is_empty && is_written && seen.as_slice() == wanted)
+    if !is_told || !is_written {
+        return Err(Fail::new(format_args!("told: {is_told}, written: {is_written}")));
+    }
+    Ok(all_files(alloc, tree)?)
 }
 
 #[test]
@@ -119,8 +137,12 @@ fn sealed_leaves_become_files_in_path_order(rt: HostRuntime) -> Result<(), Fail>
         ("d", b"", b"aonebtwod"),
     ];
     for (path, content, wanted) in steps {
-        let grown = is_grown(alloc, &mut tree, path, content, wanted)?;
-        is_right(&rt, grown, wanted);
+        let came = grown(alloc, &mut tree, path, content)?;
+        assert!(rt;
+            came.as_slice() == wanted,
+            "{path} gives {}",
+            came.escape_ascii()
+        );
     }
     let mut failing = MemoryTree::new(alloc, true, Vec::new(alloc), true);
     assert!(rt; failing.is_empty() == Err(Failed));

@@ -26,8 +26,8 @@ use Rattle.edge_kit.specs.declared.faults.SendFault.TheVariants as send
 use Rattle.delay_table.specs.Table.{Table, IsDelayed}
 use Rattle.filter_proto.specs.Wires.{Wire, SendsOn, Filled, FillFails}
 use Rattle.filter_proto.specs.Exchanges.{Ends, Good, Broke, OutOfMemory, Still, Stops}
-use Rattle.filter_proto.specs.Lists.{Lists, HasListed, EndLists, delayed_in, listed_at, IsListExchange}
-use Rattle.filter_proto.specs.ListSteps.{IsNamed, HasNames, IsListing, IsReadList, ListStepIs, EndsSo, TakesName, TakesList}
+use Rattle.filter_proto.specs.Lists.{Lists, HasListed, BreaksLists, EndLists, IsBehindNames, delayed_in, listed_at, IsListExchange}
+use Rattle.filter_proto.specs.ListSteps.{ComesBehind, IsNamed, HasNames, IsListing, IsReadList, ListStepIs, EndsSo, TakesName, TakesList}
 use Rattle.filter_proto.specs.declared.listing.Listing.{Listing}
 use Rattle.filter_proto.specs.declared.listing.ListStep.{ListStep}
 use Rattle.filter_proto.specs.declared.listing.ListStep.TheVariants as step
@@ -54,27 +54,38 @@ named_line : (names : List (List ℕ)) (line : List ℕ) (ps : List Packet) → 
 named_line names line ps h = record {
   lines = h.lines ++ line ∷ [];
   rest = [];
-  whole = ap (λ (x : List Packet). x ++ Payload line ∷ []) (h.whole ∙ (ap (λ (x : List Packet). map Payload h.lines ++ x) (h.front refl) ∙ append-nil (map Payload h.lines))) ∙ (sym (map_more h.lines line) ∙ sym (append-nil (map Payload (h.lines ++ line ∷ []))));
+  whole = ap (λ (x : List Packet). x ++ Payload line ∷ []) (h.whole ∙ (ap (λ (x : List Packet). map Payload h.lines ++ x) h.behind ∙ append-nil (map Payload h.lines))) ∙ (sym (map_more h.lines line) ∙ sym (append-nil (map Payload (h.lines ++ line ∷ []))));
   are = ap (λ (x : List (List ℕ)). x ++ names_of (line ∷ [])) h.are ∙ sym (names_of_more h.lines line);
-  front = λ e. refl;
+  behind = refl;
 }
 
--- any other packet
-named_behind : (p q : ListPart) (names : List (List ℕ)) (x : Packet) (ps : List Packet) → (q ≡ part.Names → ⊥) → IsNamed p names ps → IsNamed q (names ++ []) (ps ++ x ∷ [])
-named_behind p q names x ps other h = record {
+-- the names end at the first flush packet
+is_behind : (p : ListPart) (rest : List Packet) → ComesBehind p rest → IsBehindNames rest
+is_behind part.Names rest h = rw h tt
+is_behind (part.KeyList s) rest h = rw h.1 tt
+
+flush_behind : (p : ListPart) (rest : List Packet) → ComesBehind p rest → (more : List Packet) × (rest ++ Flush ∷ [] ≡ Flush ∷ more)
+flush_behind part.Names rest h = ([], ap (λ (x : List Packet). x ++ Flush ∷ []) h)
+flush_behind (part.KeyList s) rest h = (h.0 ++ Flush ∷ [], ap (λ (x : List Packet). x ++ Flush ∷ []) h.1)
+
+-- a packet after the names
+named_behind : (p : ListPart) (t : Option Status) (names : List (List ℕ)) (x : Packet) (ps : List Packet) → ((rest : List Packet) → ComesBehind p rest → (more : List Packet) × (rest ++ x ∷ [] ≡ Flush ∷ more)) → IsNamed p names ps
+    → IsNamed (part.KeyList t) (names ++ []) (ps ++ x ∷ [])
+named_behind p t names x ps goes h = record {
   lines = h.lines;
   rest = h.rest ++ x ∷ [];
   whole = ap (λ (y : List Packet). y ++ x ∷ []) h.whole ∙ append_assoc (map Payload h.lines) h.rest (x ∷ []);
   are = append-nil names ∙ h.are;
-  front = λ e. absurd (other e);
+  behind = goes h.rest h.behind;
 }
 
 -- an answer that ends otherwise than with a list
-listed_before : (p : ListPart) (names : List (List ℕ)) (before now : Table) (ps : List Packet) (x : List Packet) → Lists names before now → IsNamed p names ps → HasListed before now (ps ++ x)
-listed_before p names before now ps x l h = record {
+listed_flush : (p : ListPart) (names : List (List ℕ)) (before now : Table) (ps : List Packet) → Lists names before now → IsNamed p names ps → HasListed before now (ps ++ Flush ∷ [])
+listed_flush p names before now ps l h = record {
   lines = h.lines;
-  rest = h.rest ++ x;
-  whole = ap (λ (y : List Packet). y ++ x) h.whole ∙ append_assoc (map Payload h.lines) h.rest x;
+  rest = h.rest ++ Flush ∷ [];
+  whole = ap (λ (y : List Packet). y ++ Flush ∷ []) h.whole ∙ append_assoc (map Payload h.lines) h.rest (Flush ∷ []);
+  behind = let next = flush_behind p h.rest h.behind in subst IsBehindNames (sym next.1) tt;
   listed = subst (λ (n : List (List ℕ)). Lists n before now) h.are l;
 }
 
@@ -83,8 +94,21 @@ listed_here p names before now ps l h = record {
   lines = h.lines;
   rest = h.rest;
   whole = h.whole;
+  behind = is_behind p h.rest h.behind;
   listed = subst (λ (n : List (List ℕ)). Lists n before now) h.are l;
 }
+
+-- a flush packet that breaks the answer, for whatever cause
+breaks_flush : (why : BreakCause) (p : ListPart) (names : List (List ℕ)) (before now : Table) (ps : List Packet) → Lists names before now → IsNamed p names ps → BreaksLists why before now (ps ++ Flush ∷ [])
+breaks_flush cause.StrangePath p names before now ps l h = (ps, Flush, refl, listed_here p names before now ps l h)
+breaks_flush cause.TooLong p names before now ps l h = (ps, Flush, refl, listed_here p names before now ps l h)
+breaks_flush cause.Ended p names before now ps l h = listed_flush p names before now ps l h
+breaks_flush cause.LinkFault p names before now ps l h = listed_flush p names before now ps l h
+breaks_flush cause.BadPacket p names before now ps l h = listed_flush p names before now ps l h
+breaks_flush cause.BadHandshake p names before now ps l h = listed_flush p names before now ps l h
+breaks_flush cause.UnknownStatus p names before now ps l h = listed_flush p names before now ps l h
+breaks_flush cause.StrangeDelay p names before now ps l h = listed_flush p names before now ps l h
+breaks_flush cause.ListRefused p names before now ps l h = listed_flush p names before now ps l h
 
 -- the names after a line
 
@@ -137,7 +161,7 @@ line_too_long old new x told lt before names h = record {
   end = Broke cause.TooLong;
   ends = rw (too_long (list_step (delayed_in before)) old.room (list_phase old.part names) x lt) refl;
   reply = refl;
-  done = λ ps n. listed_before old.part names before told ps (x ∷ []) h.listed n;
+  done = λ ps n. (ps, x, refl, listed_here old.part names before told ps h.listed n);
 }
 
 pub line_names : (old new : Listing) (line : List ℕ) (told now : Table) → old.part ≡ part.Names → new.part ≡ part.Names → new.room + size (Payload line) ≡ old.room → TakesName line old.count told true new.count now
@@ -158,7 +182,7 @@ line_strange old new line count told now o fits t before names h = record {
   end = Broke cause.StrangePath;
   ends = rw (fitting (list_step (delayed_in before)) old.room (list_phase old.part names) (Payload line) (Broken cause.StrangePath) fits (rw o (t.1 before names h))) refl;
   reply = refl;
-  done = λ ps n. rw (t.0) (listed_before old.part names before told ps (Payload line ∷ []) h.listed n);
+  done = λ ps n. rw (t.0) (ps, Payload line, refl, listed_here old.part names before told ps h.listed n);
 }
 
 same_names : (before told : Table) (names : List (List ℕ)) (count more : ℕ) → more ≡ count → HasNames before told names count → HasNames before told (names ++ []) more
@@ -174,11 +198,8 @@ line_keys old new line told s t o n e fits count before names h = record {
   has = same_names before told names old.count new.count count h;
   fits = fits;
   leads = rw (o, n, e, append-nil names) refl;
-  named = λ ps i. named_behind old.part new.part names (Payload line) ps (λ w. not_names (sym n ∙ w)) i;
+  named = λ ps i. rw n (named_behind (part.KeyList s) t names (Payload line) ps (λ rest r. (r.0 ++ Payload line ∷ [], ap (λ (x : List Packet). x ++ Payload line ∷ []) r.1)) (rw o at i));
 }
-  where
-    not_names : part.KeyList t ≡ part.Names → ⊥
-    not_names w = cc w
 
 -- a flush
 
@@ -189,9 +210,13 @@ flush_on old new told leads fits count before names h = record {
   has = same_names before told names old.count new.count count h;
   fits = fits;
   leads = sym (leads (delayed_in before) names) ∙ ap (λ (n : List (List ℕ)). On (list_phase new.part n)) (sym (append-nil names));
-  named = λ ps i. named_behind old.part new.part names Flush ps (not_names old.part new.part (leads [] [])) i;
+  named = λ ps i. goes new.part (not_names old.part new.part (leads [] [])) ps i;
 }
   where
+    goes : (q : ListPart) → (q ≡ part.Names → ⊥) → (ps : List Packet) → IsNamed old.part names ps → IsNamed q (names ++ []) (ps ++ Flush ∷ [])
+    goes part.Names other ps i = absurd (other refl)
+    goes (part.KeyList t) other ps i = named_behind old.part t names Flush ps (flush_behind old.part) i
+
     not_names : (p q : ListPart) → list_state (On q) [] ≡ list_step [] (list_phase p []) Flush → q ≡ part.Names → ⊥
     not_names part.Names part.Names e w = cc e
     not_names (part.KeyList s) part.Names e w = no_state s e
@@ -216,7 +241,7 @@ flush_done old new told end r leads fits replies before names h = record {
   where
     well : (e : ListEnd) (ps : List Packet) → IsNamed old.part names ps → EndLists before told (Good (good_list e names)) (ps ++ Flush ∷ [])
     well ends.Success ps i = h.listed
-    well ends.Abort ps i = listed_before old.part names before told ps (Flush ∷ []) h.listed i
+    well ends.Abort ps i = listed_flush old.part names before told ps h.listed i
 
 pub flush_broken : (old new : Listing) (told : Table) (why : BreakCause) → ((delayed names : List (List ℕ)) → list_state (Broken why) names ≡ list_step delayed (list_phase old.part names) Flush) → 4 ≤ old.room
     → TakesList old Flush (step.End (reply.Broken why)) new told told
@@ -224,7 +249,7 @@ flush_broken old new told why leads fits before names h = record {
   end = Broke why;
   ends = rw (fitting (list_step (delayed_in before)) old.room (list_phase old.part names) Flush (Broken why) fits (sym (leads (delayed_in before) names))) refl;
   reply = refl;
-  done = λ ps i. listed_before old.part names before told ps (Flush ∷ []) h.listed i;
+  done = λ ps i. breaks_flush why old.part names before told ps h.listed i;
 }
 
 pub never_late_list : (p : ListPart) → ((delayed names : List (List ℕ)) → list_state Late names ≡ list_step delayed (list_phase p names) Flush) → ⊥
@@ -270,9 +295,20 @@ list_fill s a b l before told r f = record { names = r.names; has = r.has; readi
 pub list_stops : (s a b : Wire) (l : Listing) (before told : Table) (c : BreakCause) → IsListing s a l before told → IsPartial a.unread → FillFails a b (Err c) → ListStepIs s b (step.End (reply.Broken c)) l before told
 list_stops s a b l before told c r part f = record {
   end = Broke c;
-  heard = heard_less _ _ s b (Broke c) _ _ (reading_stops _ _ s a b l.room _ _ c r.reading part f) (λ ps h. listed_here l.part r.names before told ps r.has.listed h);
+  heard = heard_less _ _ s b (Broke c) _ _ (reading_stops _ _ s a b l.room _ _ c r.reading part f) (λ ps h. stop c f ps (listed_here l.part r.names before told ps r.has.listed h));
   reply = refl;
 }
+  where
+    stop : (c : BreakCause) → FillFails a b (Err c) → (ps : List Packet) → HasListed before told ps → BreaksLists c before told ps
+    stop cause.Ended f ps h = h
+    stop cause.LinkFault f ps h = h
+    stop cause.BadPacket f ps h = absurd f
+    stop cause.BadHandshake f ps h = absurd f
+    stop cause.UnknownStatus f ps h = absurd f
+    stop cause.StrangeDelay f ps h = absurd f
+    stop cause.TooLong f ps h = absurd f
+    stop cause.StrangePath f ps h = absurd f
+    stop cause.ListRefused f ps h = absurd f
 
 pub list_bad : (s a : Wire) (l : Listing) (before told : Table) → IsListing s a l before told → HasFault a.unread → ListStepIs s a (step.End (reply.Broken cause.BadPacket)) l before told
 list_bad s a l before told r bad = record {
@@ -285,7 +321,7 @@ pub list_starts : (s : Wire) (l : Listing) (t : Table) → l ≡ record { room =
 list_starts s l t e = rw e (record {
   names = [];
   has = record { listed = refl; counted = refl };
-  reading = reading_starts _ _ s _ (record { lines = []; rest = []; whole = refl; are = refl; front = λ e. refl });
+  reading = reading_starts _ _ s _ (record { lines = []; rest = []; whole = refl; are = refl; behind = refl });
 })
 
 -- the whole exchange
@@ -294,10 +330,10 @@ pub listed : (old mid new : Wire) (before now : Table) (r : ListReply) → mid �
 listed old mid new before now r e se st h = record { end = h.end; exchange = answered _ _ old mid new list_text h.end _ e se st h.heard; reply = h.reply }
 
 none_listed : (t : Table) → HasListed t t []
-none_listed t = record { lines = []; rest = []; whole = refl; listed = refl }
+none_listed t = record { lines = []; rest = []; whole = refl; behind = tt; listed = refl }
 
 pub list_fault : (old new : Wire) (t : Table) → SendsOn {T = ⊤} list_text old new (Err send.Failed) → IsListExchange old new t t (reply.Broken cause.LinkFault)
 list_fault old new t h = record { end = Broke cause.LinkFault; exchange = unsent_fault _ _ old new list_text _ h (none_listed t); reply = refl }
 
 pub list_memory : (old new : Wire) (t : Table) → SendsOn {T = ⊤} list_text old new (Err send.NoMemory) → IsListExchange old new t t reply.NoMemory
-list_memory old new t h = record { end = OutOfMemory; exchange = unsent_memory _ _ old new list_text _ h (none_listed t); reply = refl }
+list_memory old new t h = record { end = OutOfMemory; exchange = unsent_memory _ _ old new list_text _ h refl; reply = refl }

@@ -1,6 +1,6 @@
 -- One packet of a list that is being read.
 use Rattle.std.specs.Prelude.{◌≡◌, ℕ, ◌+◌, Bool, true, false, List, [], ◌∷◌, ◌++◌, length, map}
-use Rattle.pkt_line.specs.Packets.{Packet, Payload, size}
+use Rattle.pkt_line.specs.Packets.{Packet, Payload, Flush, size}
 use Rattle.filter_words.specs.Outcomes.{outcome}
 use Rattle.filter_words.specs.Listing.{GoodList, ListPhase, Names, list_step, list_start}
 use Rattle.filter_words.specs.ListGrammar.{names_of}
@@ -19,13 +19,18 @@ use Rattle.filter_proto.specs.declared.listing.Listing.{Listing}
 use Rattle.filter_proto.specs.declared.listing.ListStep.{ListStep}
 use Rattle.filter_proto.specs.declared.listing.ListStep.TheVariants as step
 
--- the lines so far name these, and while names are read nothing comes after the lines
+-- what comes after the lines with names: nothing while they are read, and then a flush packet first
+abbrev pub ComesBehind : ListPart → List Packet → Type 0
+ComesBehind part.Names rest = rest ≡ []
+ComesBehind (part.KeyList s) rest = (more : List Packet) × (rest ≡ Flush ∷ more)
+
+-- the lines so far name these
 pub record IsNamed (p : ListPart) (names : List (List ℕ)) (packets : List Packet) : Type 0 where
   pub lines : List (List ℕ)
   pub rest : List Packet
   pub whole : packets ≡ map Payload lines ++ rest
   pub are : names ≡ names_of lines
-  pub front : p ≡ part.Names → rest ≡ []
+  pub behind : ComesBehind p rest
 
 -- these names were listed so far
 pub record HasNames (before now : Table) (names : List (List ℕ)) (count : ℕ) : Type 0 where

@@ -1,9 +1,11 @@
 -- A list request and its answer, and what it makes of the table of delayed paths.
 use Rattle.std.specs.Prelude.{◌≡◌, ℕ, List, [], ◌∷◌, ◌++◌, map}
-use Rattle.pkt_line.specs.Packets.{Packet, Payload}
+use Rattle.pkt_line.specs.Packets.{Packet, Payload, Flush}
 use Rattle.filter_words.specs.Requests.{list_text}
 use Rattle.filter_words.specs.Listing.{GoodList, Listed, Aborted, list_step, list_start, reply_of_good}
 use Rattle.filter_words.specs.ListGrammar.{names_of}
+use Rattle.filter_words.specs.declared.reply.BreakCause.{BreakCause}
+use Rattle.filter_words.specs.declared.reply.BreakCause.TheVariants as cause
 use Rattle.filter_words.specs.declared.reply.ListReply.{ListReply}
 use Rattle.filter_words.specs.declared.reply.ListReply.TheVariants as reply
 use Rattle.delay_table.specs.Table.{Table, IsDelayed, with_place}
@@ -35,19 +37,37 @@ abbrev pub Lists : List (List ℕ) → Table → Table → Type 0
 Lists [] old new = new ≡ old
 Lists (name ∷ names) old new = (p : ℕ) × IsDelayed name old p × Lists names (listed_at p old) new
 
--- the names in the lines of a first part of the packets were listed
+-- the first flush packet ends the lines with names, or nothing does yet
+abbrev pub IsBehindNames : List Packet → Type 0
+IsBehindNames [] = Unit {0}
+IsBehindNames (Flush ∷ ps) = Unit {0}
+IsBehindNames (Payload line ∷ ps) = ⊥
+
+-- the names in the lines before the first flush packet were listed, and no others
 pub record HasListed (old new : Table) (packets : List Packet) : Type 0 where
   pub lines : List (List ℕ)
   pub rest : List Packet
   pub whole : packets ≡ map Payload lines ++ rest
+  pub behind : IsBehindNames rest
   pub listed : Lists (names_of lines) old new
 
--- the names of a good list were listed, and for any other answer those of a first part
+-- the same, but for the last packet, which broke the answer
+abbrev pub HasListedAhead : Table → Table → List Packet → Type 0
+HasListedAhead old new packets = (front : List Packet) × (last : Packet) × (packets ≡ front ++ last ∷ [])
+    × HasListed old new front
+
+-- a path that isn't delayed isn't listed, and neither is one of a packet for which there was no room
+abbrev pub BreaksLists : BreakCause → Table → Table → List Packet → Type 0
+BreaksLists cause.StrangePath old new packets = HasListedAhead old new packets
+BreaksLists cause.TooLong old new packets = HasListedAhead old new packets
+BreaksLists why old new packets = HasListed old new packets
+
+-- the names of a good list were listed, and for any other answer those that came before it ended
 abbrev pub EndLists : Table → Table → Ends GoodList → List Packet → Type 0
 EndLists old new (Good (Listed names)) packets = Lists names old new
 EndLists old new (Good Aborted) packets = HasListed old new packets
-EndLists old new (Broke why) packets = HasListed old new packets
-EndLists old new OutOfMemory packets = HasListed old new packets
+EndLists old new (Broke why) packets = BreaksLists why old new packets
+EndLists old new OutOfMemory packets = new ≡ old
 
 -- what came of a list request, as a reply
 abbrev pub list_reply_of : Ends GoodList → ListReply

@@ -1,5 +1,5 @@
 -- A smudge request and its reply, and what the leaf has of it.
-use Rattle.std.specs.Prelude.{◌≡◌, ◌≢◌, ℕ, Bool, List, Result, Ok, Err, ⊤, is_some}
+use Rattle.std.specs.Prelude.{◌≡◌, ◌≢◌, ℕ, Bool, List, ◌++◌, Result, Ok, Err, ⊤, is_some}
 use Rattle.pkt_line.specs.Packets.{Packet}
 use Rattle.filter_words.specs.SmudgeReply.{reply_start, content_in}
 use Rattle.filter_words.specs.declared.reply.Reply.{Reply}
@@ -18,11 +18,19 @@ use Rattle.filter_proto.specs.Exchanges.{Ends, Good, Broke, OutOfMemory}
 use Rattle.filter_proto.specs.declared.session.Standing.{Standing}
 use Rattle.filter_proto.specs.declared.session.Standing.TheVariants as standing
 
+-- a first part of these bytes was put
+pub record IsFrontPut (old new : LeafSeen) (content : List ℕ) : Type 0 where
+  pub front : List ℕ
+  pub after : List ℕ
+  pub cut : content ≡ front ++ after
+  pub grew : new.content ≡ grown old.content front
+
 -- What the puts so far did to the leaf, if these bytes were to be put. Its content is told as before, or isn't.
 pub record IsPut (old new : LeafSeen) (put : Result ⊤ SendFault) (content : List ℕ) : Type 0 where
   pub path : new.path ≡ old.path
   pub told : is_some new.content ≡ is_some old.content
   pub holds : put ≡ Ok tt → new.content ≡ grown old.content content
+  pub part : IsFrontPut old new content
   pub usable : put ≢ Err send.Failed → IsOpenLeaf new.state × (new.faults ≡ old.faults)
   pub broken : put ≡ Err send.Failed → (new.state ≡ leaf.Broken) × Rose old.faults new.faults
 
@@ -37,11 +45,15 @@ pub record IsKept (old new : LeafSeen) (put : Result ⊤ SendFault) : Type 0 whe
 abbrev pub HasPut : Bool → LeafSeen → LeafSeen → Result ⊤ SendFault → List Packet → Type 0
 HasPut d old new put packets = IsPut old new put (content_in d reply_start packets)
 
--- a good reply's content was put whole; for any other reply it isn't said what was put
+-- what was put of a content that may not be whole: a first part
+abbrev pub HasPutPart : Bool → LeafSeen → LeafSeen → Result ⊤ SendFault → List Packet → Type 0
+HasPutPart d old new put packets = IsKept old new put × IsFrontPut old new (content_in d reply_start packets)
+
+-- a good reply's content was put whole, unless a put failed; of any other reply's a first part was put
 abbrev pub EndPut : Bool → LeafSeen → LeafSeen → Result ⊤ SendFault → Ends GoodReply → List Packet → Type 0
 EndPut d old new put (Good g) packets = HasPut d old new put packets
-EndPut d old new put (Broke why) packets = IsKept old new put
-EndPut d old new put OutOfMemory packets = IsKept old new put
+EndPut d old new put (Broke why) packets = HasPutPart d old new put packets
+EndPut d old new put OutOfMemory packets = HasPutPart d old new put packets
 
 -- what came of a request, as a reply
 abbrev pub reply_end : Reply → Ends GoodReply

@@ -1,5 +1,5 @@
 -- What a session's link tells, and what the session took that no answer used.
-use Rattle.std.specs.Prelude.{◌≡◌, ◌≤◌, ℕ, List, [], ◌++◌, Option, Result, Ok, Err, ⊤}
+use Rattle.std.specs.Prelude.{◌≡◌, ℕ, List, [], ◌++◌, Option, Result, Ok, Err, ⊤}
 use Rattle.pkt_line.specs.Packets.{HasFault}
 use Rattle.pkt_line.specs.Reader.{Lends}
 use Rattle.pkt_line.specs.declared.reader.Next.{Next}
@@ -7,9 +7,10 @@ use Rattle.pkt_line.specs.declared.reader.PktFault.{PktFault}
 use Rattle.filter_words.specs.declared.reply.Caps.{Caps}
 use Rattle.filter_words.specs.declared.reply.BreakCause.{BreakCause}
 use Rattle.filter_words.specs.declared.reply.BreakCause.TheVariants as cause
-use Rattle.edge_kit.specs.Faults.{Rose}
+use Rattle.edge_kit.specs.Faults.{Rose, AfterCall}
 use Rattle.edge_kit.specs.Files.{grown}
 use Rattle.edge_kit.specs.Told.{Tells}
+use Rattle.edge_kit.specs.declared.faults.Failed.{Failed}
 use Rattle.edge_kit.specs.declared.faults.SendFault.{SendFault}
 use Rattle.edge_kit.specs.declared.faults.SendFault.TheVariants as send
 use Rattle.edge_kit.specs.Links.{LinkSeen, Stage, led, input_shut, waited, SendsPart}
@@ -74,17 +75,24 @@ shut_after standing.Live stage = waited (input_shut stage)
 shut_after standing.Aborted stage = waited (input_shut stage)
 shut_after standing.Over stage = stage
 
--- a fault is counted if something is called
-abbrev pub ShutsQuietly : Standing → ℕ → ℕ → Type 0
-ShutsQuietly standing.Live before after = before ≤ after
-ShutsQuietly standing.Aborted before after = before ≤ after
-ShutsQuietly standing.Over before after = after ≡ before
+-- What the two calls of `shut` answered, against the count of faults: it rose in each that failed, and in no other.
+pub record CountsCalls (input end : Result ⊤ Failed) (before after : ℕ) : Type 0 where
+  pub between : ℕ
+  pub closed : AfterCall before between input
+  pub waited : AfterCall between after end
 
--- what a session's link is after `shut`
-abbrev pub IsShutAfter : Standing → Wire → LinkSeen → Type 0
-IsShutAfter s wire link =
-    (wire_of wire.unread link ≡ record wire { stage = shut_after s wire.stage; faults = link.faults })
-    × ShutsQuietly s wire.faults link.faults
+-- a session that is over calls neither
+abbrev pub CountsShut : Standing → Result ⊤ Failed → Result ⊤ Failed → ℕ → ℕ → Type 0
+CountsShut standing.Live input end before after = CountsCalls input end before after
+CountsShut standing.Aborted input end before after = CountsCalls input end before after
+CountsShut standing.Over input end before after = (after ≡ before) × (input ≡ Ok tt) × (end ≡ Ok tt)
+
+-- what a session's link is after `shut`, with what the two calls answered
+pub record IsShutAfter (s : Standing) (wire : Wire) (link : LinkSeen) : Type 0 where
+  pub input : Result ⊤ Failed
+  pub end : Result ⊤ Failed
+  pub kept : wire_of wire.unread link ≡ record wire { stage = shut_after s wire.stage; faults = link.faults }
+  pub counts : CountsShut s input end wire.faults link.faults
 
 -- a proper first part of a text was sent, or nothing
 pub record IsSentPart (text : List ℕ) (old new : Wire) : Type 0 where

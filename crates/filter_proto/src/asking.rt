@@ -172,6 +172,7 @@ impl<K: Link> Session<K> {
     fn request<L: Leaf>(
         &mut self,
         path: &[u8],
+        name: &[u8; 20],
         can_delay: bool,
         content: &[u8],
         leaf: &mut L,
@@ -179,13 +180,13 @@ impl<K: Link> Session<K> {
         requires usable { IsOpenLeaf (L.seen leaf.old).state }
         requires some { 1 ≤ length path.now }
         requires few { length path.now ≤ 4096 }
-        ensures exchange { IsExchange (reply_step can_delay) reply_start (first_text path.now can_delay content.now)
-            self.old.wire self.new.wire (reply_end result.reply)
+        ensures exchange { IsExchange (reply_step can_delay) reply_start
+            (first_text path.now name.now can_delay content.now) self.old.wire self.new.wire (reply_end result.reply)
             (EndPut can_delay (L.seen leaf.old) (L.seen leaf.new) result.put (reply_end result.reply)) }
         ensures begins { TouchesNot result.reply (L.seen leaf.old) (L.seen leaf.new) result.put }
         ensures rest { self.new ≡ record self.old { wire = self.new.wire } }
     {
-        match self.send_smudge(path, can_delay, content) {
+        match self.send_smudge(path, name, can_delay, content) {
             Ok(()) => self.read_reply(can_delay, leaf),
             Err(SendFault::Failed) => Asked {
                 reply: Reply::Broken(BreakCause::LinkFault),
@@ -198,16 +199,24 @@ impl<K: Link> Session<K> {
         }
     }
 
-    /// Asks for a path, with `can-delay=1` exactly if the driver announced `delay`. The content of the reply is put
-    /// into the leaf, packet by packet. After a put that failed the rest of the reply is read and dropped.
-    pub fn ask<L: Leaf>(&mut self, path: &[u8], content: &[u8], leaf: &mut L) -> Asked
+    /// Asks for a path with the name of its blob, and with `can-delay=1` exactly if the driver announced `delay`. The
+    /// content of the reply is put into the leaf, packet by packet. After a put that failed the rest of the reply is
+    /// read and dropped.
+    pub fn ask<L: Leaf>(
+        &mut self,
+        path: &[u8],
+        name: &[u8; 20],
+        content: &[u8],
+        leaf: &mut L,
+    ) -> Asked
         requires live { self.old.standing ≡ Standing.Live }
         requires smudge { self.old.caps.smudge ≡ true }
         requires fresh { (L.seen leaf.old).state ≡ leaf_state.Fresh }
         requires some { 1 ≤ length path.now }
         requires few { length path.now ≤ 4096 }
         ensures exchange { IsExchange (reply_step self.old.caps.delay) reply_start
-            (first_text path.now self.old.caps.delay content.now) self.old.wire self.new.wire (reply_end result.reply)
+            (first_text path.now name.now self.old.caps.delay content.now)
+            self.old.wire self.new.wire (reply_end result.reply)
             (EndPut self.old.caps.delay (L.seen leaf.old) (L.seen leaf.new) result.put (reply_end result.reply)) }
         ensures begins { TouchesNot result.reply (L.seen leaf.old) (L.seen leaf.new) result.put }
         ensures complete { IsComplete (reply_step self.old.caps.delay) reply_start
@@ -218,20 +227,20 @@ impl<K: Link> Session<K> {
         } }
     {
         complete();
-        let asked = self.request(path, self.caps().delay, content, leaf);
+        let asked = self.request(path, name, self.caps().delay, content, leaf);
         self.set_standing(standing_after(asked.reply));
         asked
     }
 
     /// Asks again for a path that was delayed and then listed, with an empty content and without `can-delay=1`.
     #[tactic(auto, unfolding(filter_words::specs::Requests::second_text))]
-    pub fn ask_again<L: Leaf>(&mut self, path: &[u8], leaf: &mut L) -> Asked
+    pub fn ask_again<L: Leaf>(&mut self, path: &[u8], name: &[u8; 20], leaf: &mut L) -> Asked
         requires live { self.old.standing ≡ Standing.Live }
         requires smudge { self.old.caps.smudge ≡ true }
         requires fresh { (L.seen leaf.old).state ≡ leaf_state.Fresh }
         requires some { 1 ≤ length path.now }
         requires few { length path.now ≤ 4096 }
-        ensures exchange { IsExchange (reply_step false) reply_start (second_text path.now)
+        ensures exchange { IsExchange (reply_step false) reply_start (second_text path.now name.now)
             self.old.wire self.new.wire (reply_end result.reply)
             (EndPut false (L.seen leaf.old) (L.seen leaf.new) result.put (reply_end result.reply)) }
         ensures begins { TouchesNot result.reply (L.seen leaf.old) (L.seen leaf.new) result.put }
@@ -243,7 +252,7 @@ impl<K: Link> Session<K> {
         } }
     {
         complete();
-        let asked = self.request(path, false, b"", leaf);
+        let asked = self.request(path, name, false, b"", leaf);
         self.set_standing(standing_after(asked.reply));
         asked
     }

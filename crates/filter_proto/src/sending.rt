@@ -21,17 +21,18 @@ pub(crate) fn send_smudge<K: Link>(
     link: &mut K,
     text: &mut Vec<u8>,
     path: &[u8],
+    name: &[u8; 20],
     can_delay: bool,
     content: &[u8],
 ) -> Result<(), SendFault>
     requires some { 1 ≤ length path.now }
     requires few { length path.now ≤ 4096 }
-    ensures { SendsAll (first_text path.now can_delay content.now)
+    ensures { SendsAll (first_text path.now name.now can_delay content.now)
         (K.seen link.old) (K.seen link.new) result }
 {
     request_in_parts();
     text.clear();
-    match push_smudge_keys(alloc, text, path, can_delay) {
+    match push_smudge_keys(alloc, text, path, name, can_delay) {
         Ok(()) => send_behind(alloc, link, text, content),
         Err(_) => Err(SendFault::NoMemory),
     }

@@ -145,12 +145,14 @@ impl<K: Link> Session<K> {
     pub(crate) fn send_smudge(
         &mut self,
         path: &[u8],
+        name: &[u8; 20],
         can_delay: bool,
         content: &[u8],
     ) -> Result<(), SendFault>
         requires some { 1 ≤ length path.now }
         requires few { length path.now ≤ 4096 }
-        ensures sends { SendsOn (first_text path.now can_delay content.now) self.old.wire self.new.wire result }
+        ensures sends { SendsOn (first_text path.now name.now can_delay content.now)
+            self.old.wire self.new.wire result }
         ensures rest { self.new ≡ record self.old { wire = self.new.wire } }
     {
         send_smudge(
@@ -158,6 +160,7 @@ impl<K: Link> Session<K> {
             &mut self.link,
             &mut self.text,
             path,
+            name,
             can_delay,
             content,
         )

@@ -48,14 +48,18 @@ three_texts r old one two new ps qs p f g =
     ∙ (ap (λ (z : List ℕ). z ++ spelling_all (p ∷ [])) (sym (spelling_all-append ps qs))
     ∙ sym (spelling_all-append (ps ++ qs) (p ∷ [])))))))))
 
--- two packets, then packets, and then one
-pub keys_texts : {A E : Type 0} (r : Result A E) (old one two three new : List ℕ) (p q t : Packet) (ps : List Packet)
-    → one ≡ old ++ spelling p → two ≡ one ++ spelling q → three ≡ two ++ spelling_all ps
-    → OnOk r (new ≡ three ++ spelling t)
-    → OnOk r (new ≡ old ++ spelling_all (p ∷ q ∷ ps ++ t ∷ []))
-keys_texts r old one two three new p q t ps f g h =
+-- three packets, then packets, and then one
+pub keys_texts : {A E : Type 0} (r : Result A E) (old one two three four new : List ℕ) (p q s t : Packet)
+    (ps : List Packet)
+    → one ≡ old ++ spelling p → two ≡ one ++ spelling q → three ≡ two ++ spelling s → four ≡ three ++ spelling_all ps
+    → OnOk r (new ≡ four ++ spelling t)
+    → OnOk r (new ≡ old ++ spelling_all (p ∷ q ∷ s ∷ ps ++ t ∷ []))
+keys_texts r old one two three four new p q s t ps f g h i =
     on_ok r _ _
-    (λ (k : new ≡ three ++ spelling t).
-    four_texts old one two three new (spelling p) (spelling q) (spelling_all ps) (spelling t ++ []) f g h
-    (k ∙ ap (λ (z : List ℕ). three ++ z) (sym (append-nil (spelling t))))
-    ∙ ap (λ (z : List ℕ). old ++ (spelling p ++ (spelling q ++ z))) (sym (spelling_all-append ps (t ∷ []))))
+    (λ (k : new ≡ four ++ spelling t).
+    four_texts one two three four new (spelling q) (spelling s) (spelling_all ps) (spelling t ++ []) g h i
+    (k ∙ ap (λ (z : List ℕ). four ++ z) (sym (append-nil (spelling t))))
+    ∙ (ap (λ (z : List ℕ). z ++ (spelling q ++ (spelling s ++ (spelling_all ps ++ (spelling t ++ []))))) f
+    ∙ (append_assoc old (spelling p) (spelling q ++ (spelling s ++ (spelling_all ps ++ (spelling t ++ []))))
+    ∙ ap (λ (z : List ℕ). old ++ (spelling p ++ (spelling q ++ (spelling s ++ z))))
+    (sym (spelling_all-append ps (t ∷ []))))))

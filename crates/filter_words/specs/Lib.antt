@@ -1,4 +1,5 @@
 pub mod Words
+pub mod BreakWords
 pub mod Requests
 pub mod Outcomes
 pub mod SmudgeReply

@@ -177,6 +177,6 @@ pub fn own_causes()
 
 /// The request for a path is its key list and then its content, which may be sent apart.
 pub fn request_in_parts()
-    ensures { (path : List ℕ) (d : Bool) (content : List ℕ)
-        → first_text path d content ≡ keys_text path d ++ content_text content }
+    ensures { (path name : List ℕ) (d : Bool) (content : List ℕ)
+        → first_text path name d content ≡ keys_text path name d ++ content_text content }
 {}

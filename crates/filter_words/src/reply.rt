@@ -1,4 +1,6 @@
 //! What an answer comes to.
+ghost use Rattle.std.specs.Prelude.{◌≡◌};
+ghost use Rattle.filter_words.specs.BreakWords.{break_word};
 
 /// Why an answer of a driver, or its handshake, is broken.
 ///
@@ -23,6 +25,25 @@ pub enum BreakCause {
     StrangePath,
     /// A list with `status=error`.
     ListRefused,
+}
+
+impl BreakCause {
+    /// The cause in one word.
+    pub fn word(self) -> &'static str
+        ensures { result.now ≡ break_word self }
+    {
+        match self {
+            BreakCause::Ended => "broken-ended",
+            BreakCause::LinkFault => "broken-link",
+            BreakCause::BadPacket => "broken-packet",
+            BreakCause::BadHandshake => "broken-handshake",
+            BreakCause::UnknownStatus => "broken-status",
+            BreakCause::StrangeDelay => "broken-delay",
+            BreakCause::TooLong => "broken-too-long",
+            BreakCause::StrangePath => "broken-strange-path",
+            BreakCause::ListRefused => "broken-list",
+        }
+    }
 }
 
 /// What a driver answered to a smudge request (gitattributes(5), "Long Running Filter Process").

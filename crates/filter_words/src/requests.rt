@@ -1,5 +1,6 @@
 ghost use Rattle.std.specs.Prelude.{◌≡◌, ◌≤◌, ◌++◌, take, length, codes, OnOk, OnErr, vec_len};
 ghost use Rattle.pkt_line.specs.Spelling.{spelling, spelling_all};
+ghost use Rattle.hex.specs.Hex.{encode_lower};
 ghost use Rattle.filter_words.specs.Requests.{line, hello_packets, caps_packets, list_packets, can_delay_line};
 ghost use Rattle.filter_words.specs.Requests.{smudge_keys, smudge_packets, hello_text, caps_text, list_text};
 ghost use Rattle.filter_words.specs.Requests.{keys_text, first_text};
@@ -45,25 +46,27 @@ pub fn push_list(alloc: Global, out: &mut Vec<u8>) -> Result<(), AllocError>
     whole_or_nothing(out, before, pushed)
 }
 
-/// Appends the request to smudge a content for a path of 1 to 4,096 bytes: the lines `command=smudge` and
-/// `pathname=<path>`, the line `can-delay=1` if `can_delay`, flush, the content, and flush. A path that was delayed
-/// is asked for again without `can_delay` and with an empty content.
+/// Appends the request to smudge a content for a path of 1 to 4,096 bytes: the lines `command=smudge`,
+/// `pathname=<path>` and `blob=<name>`, with the name of the path's blob in lower case hexadecimal digits, the line
+/// `can-delay=1` if `can_delay`, flush, the content, and flush. A path that was delayed is asked for again without
+/// `can_delay` and with an empty content.
 #[tactic(auto, unfolding(crate::specs::Requests::first_text))]
 pub fn push_smudge(
     alloc: Global,
     out: &mut Vec<u8>,
     path: &[u8],
+    name: &[u8; 20],
     can_delay: bool,
     content: &[u8],
 ) -> Result<(), AllocError>
     requires some { 1 ≤ length path.now }
     requires few { length path.now ≤ 4096 }
-    ensures ok { OnOk result
-        (out.new.items ≡ out.old.items ++ first_text path.now can_delay content.now) }
+    ensures ok { OnOk result (out.new.items
+        ≡ out.old.items ++ first_text path.now name.now can_delay content.now) }
     ensures err { OnErr result (out.new.items ≡ out.old.items) }
 {
     let before = out.len();
-    let pushed = push_smudge_packets(alloc, out, path, can_delay, content);
+    let pushed = push_smudge_packets(alloc, out, path, name, can_delay, content);
     whole_or_nothing(out, before, pushed)
 }
 
@@ -74,15 +77,16 @@ pub fn push_smudge_keys(
     alloc: Global,
     out: &mut Vec<u8>,
     path: &[u8],
+    name: &[u8; 20],
     can_delay: bool,
 ) -> Result<(), AllocError>
     requires some { 1 ≤ length path.now }
     requires few { length path.now ≤ 4096 }
-    ensures ok { OnOk result (out.new.items ≡ out.old.items ++ keys_text path.now can_delay) }
+    ensures ok { OnOk result (out.new.items ≡ out.old.items ++ keys_text path.now name.now can_delay) }
     ensures err { OnErr result (out.new.items ≡ out.old.items) }
 {
     let before = out.len();
-    let pushed = push_key_packets(alloc, out, path, can_delay);
+    let pushed = push_key_packets(alloc, out, path, name, can_delay);
     whole_or_nothing(out, before, pushed)
 }
 
@@ -133,16 +137,17 @@ fn push_smudge_packets(
     alloc: Global,
     out: &mut Vec<u8>,
     path: &[u8],
+    name: &[u8; 20],
     can_delay: bool,
     content: &[u8],
 ) -> Result<(), AllocError>
     requires { length path.now ≤ 4096 }
     ensures ok { OnOk result
         (out.new.items ≡ out.old.items
-        ++ spelling_all (smudge_packets path.now can_delay content.now)) }
+        ++ spelling_all (smudge_packets path.now name.now can_delay content.now)) }
     ensures err { OnErr result (take (vec_len out.old) out.new.items ≡ out.old.items) }
 {
-    push_key_packets(alloc, out, path, can_delay)?;
+    push_key_packets(alloc, out, path, name, can_delay)?;
     push_content(alloc, out, content)?;
     push_flush(alloc, out)
 }
@@ -151,15 +156,17 @@ fn push_key_packets(
     alloc: Global,
     out: &mut Vec<u8>,
     path: &[u8],
+    name: &[u8; 20],
     can_delay: bool,
 ) -> Result<(), AllocError>
     requires { length path.now ≤ 4096 }
     ensures ok { OnOk result
-        (out.new.items ≡ out.old.items ++ spelling_all (smudge_keys path.now can_delay)) }
+        (out.new.items ≡ out.old.items ++ spelling_all (smudge_keys path.now name.now can_delay)) }
     ensures err { OnErr result (take (vec_len out.old) out.new.items ≡ out.old.items) }
 {
     push_line(alloc, out, b"command=smudge")?;
     push_pathname(alloc, out, path)?;
+    push_blob(alloc, out, name)?;
     push_can_delay(alloc, out, can_delay)?;
     push_flush(alloc, out)
 }
@@ -184,5 +191,17 @@ fn push_pathname(alloc: Global, out: &mut Vec<u8>, path: &[u8]) -> Result<(), Al
 {
     let mut text = Vec::from_slice(alloc, b"pathname=")?;
     text.extend_from_slice(path)?;
+    push_line(alloc, out, text.as_slice())
+}
+
+fn push_blob(alloc: Global, out: &mut Vec<u8>, name: &[u8; 20]) -> Result<(), AllocError>
+    ensures ok { OnOk result
+        (out.new.items ≡ out.old.items ++ spelling (line (codes "blob=" ++ encode_lower name.now))) }
+    ensures err { OnErr result (out.new.items ≡ out.old.items) }
+{
+    let mut digits = [0; 40];
+    let _ = hex::encode_to_slice(name.as_slice(), &mut digits);
+    let mut text = Vec::from_slice(alloc, b"blob=")?;
+    text.extend_from_slice(&digits)?;
     push_line(alloc, out, text.as_slice())
 }

@@ -1,4 +1,4 @@
-use crate::table::{Row, check, cut, filled, number_of, push_all};
+use crate::table::{Row, Seen, check, cut, filled, number_of, push_all, unknown};
 use attr_line::{AttrFile, AttrRow, AttrState, Pair, Skipped, read_attributes};
 use std::alloc::{AllocError, Global};
 use std::test::Fail;
@@ -90,36 +90,27 @@ fn counts_of(alloc: Global, skipped: &Skipped) -> Result<String, AllocError> {
     format!(in alloc; "{long} {negative} {name} {place}")
 }
 
-/// Whether a file that may be in the top folder has these rows, and so many lines that are skipped.
-fn is_read(
-    alloc: Global,
-    text: &[u8],
-    is_top: bool,
-    want: &[u8],
-    skipped: &[u8],
-) -> Result<bool, AllocError> {
+/// The rows of a file that may be in the top folder, and after `|` the numbers of its lines that are skipped.
+fn read(alloc: Global, text: &[u8], is_top: bool) -> Result<Vec<u8>, AllocError> {
     let file = read_attributes(alloc, text, is_top)?;
-    Ok(is_listed(alloc, &file, want)? && are_skipped(alloc, &file.skipped, skipped)?)
-}
-
-fn is_listed(alloc: Global, file: &AttrFile, want: &[u8]) -> Result<bool, AllocError> {
-    let list = listed(alloc, file)?;
-    Ok(list.as_slice() == want)
-}
-
-fn are_skipped(alloc: Global, skipped: &Skipped, want: &[u8]) -> Result<bool, AllocError> {
-    let counts = counts_of(alloc, skipped)?;
-    Ok(counts.as_bytes() == want)
+    let mut list = listed(alloc, &file)?;
+    let counts = counts_of(alloc, &file.skipped)?;
+    push_all(&mut list, &[b"|", counts.as_bytes()])?;
+    Ok(list)
 }
 
 struct Line;
 
 impl Row for Line {
-    fn is_so(alloc: Global, row: &[u8]) -> Result<bool, Fail> {
-        let (text, rest) = cut(row, b'|');
-        let (folder, rest) = cut(rest, b'|');
-        let (want, skipped) = cut(rest, b'|');
-        Ok(is_read(alloc, text, folder == b"top".as_slice(), want, skipped)?)
+    fn seen(alloc: Global, row: &[u8]) -> Result<Seen<'_>, Fail> {
+        let (text, rest) = cut(row, b'|')?;
+        let (folder, want) = cut(rest, b'|')?;
+        let is_top = match folder {
+            b"top" => true,
+            b"below" => false,
+            _ => return Err(unknown(folder)),
+        };
+        Ok((read(alloc, text, is_top)?, want))
     }
 }
 
@@ -142,22 +133,26 @@ const LONG: &[u8] = b"\
 struct Long;
 
 impl Row for Long {
-    fn is_so(alloc: Global, row: &[u8]) -> Result<bool, Fail> {
-        let (count, rest) = cut(row, b'|');
-        let (end, want) = cut(rest, b'|');
-        let count = number_of(count) as usize;
+    fn seen(alloc: Global, row: &[u8]) -> Result<Seen<'_>, Fail> {
+        let (count, rest) = cut(row, b'|')?;
+        let (end, want) = cut(rest, b'|')?;
+        let count = number_of(count)? as usize;
         let text = filled(alloc, b"a ", b'x', count, end)?;
-        Ok(match want {
-            b"read" => is_read_whole(alloc, &text, count)?,
-            _ => is_read(alloc, &text, true, b"", b"1 0 0 0")?,
-        })
+        let list = read(alloc, &text, true)?;
+        Ok((length_told(alloc, list, count)?, want))
     }
 }
 
-/// Whether the file gives a row with a name of so many bytes.
-fn is_read_whole(alloc: Global, text: &[u8], count: usize) -> Result<bool, AllocError> {
-    let want = filled(alloc, b"a ", b'x', count, b":set\n")?;
-    is_read(alloc, text, true, &want, b"0 0 0 0")
+/// What the list says of a row with a name of so many bytes.
+fn length_told(alloc: Global, list: Vec<u8>, count: usize) -> Result<Vec<u8>, AllocError> {
+    let whole = filled(alloc, b"a ", b'x', count, b":set\n|0 0 0 0")?;
+    if list.as_slice() == whole.as_slice() {
+        return Vec::from_slice(alloc, b"read");
+    }
+    match list.as_slice() {
+        b"|1 0 0 0" => Vec::from_slice(alloc, b"too long"),
+        _ => Ok(list),
+    }
 }
 
 #[test]

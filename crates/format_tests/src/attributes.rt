@@ -1,8 +1,9 @@
-use crate::table::{Row, check, cut};
+use crate::table::{Row, Seen, check, cut, is_right, noted, parted};
 use attr_line::{AttrState, read_attributes};
 use attr_stack::{AttrFiles, AttrStack, FileAt, attributes_of};
 use byte_path::{Bytes, Items};
 use std::alloc::{AllocError, Global};
+use std::process::Abort;
 use std::slice::from_ref;
 use std::test::Fail;
 
@@ -15,24 +16,25 @@ fn file_at(alloc: Global, folder: &[u8], text: &[u8]) -> Result<FileAt, AllocErr
 }
 
 /// The files, in an order that has no meaning.
-fn files_of(alloc: Global, texts: [&[u8]; 4]) -> Result<AttrFiles, AllocError> {
-    let [info, top, a, deep] = texts;
+fn files_of(alloc: Global, texts: [&[u8]; 5]) -> Result<AttrFiles, AllocError> {
+    let [info, top, a, deep, base] = texts;
     let mut files = Vec::new(alloc);
     files.push(file_at(alloc, b"a/b", deep)?)?;
     files.push(file_at(alloc, b"", top)?)?;
     files.push(file_at(alloc, b"a", a)?)?;
     Ok(AttrFiles {
         info: read_attributes(alloc, info, true)?,
+        base: read_attributes(alloc, base, true)?,
         files: Items::from_vec(files),
     })
 }
 
-fn is_spelled(state: &AttrState, want: &[u8]) -> bool {
+fn spelled(state: &AttrState) -> &[u8] {
     match state {
-        AttrState::Set => matches!(want, [b'+']),
-        AttrState::Unset => matches!(want, [b'-']),
-        AttrState::Unspecified => matches!(want, [b'!']),
-        AttrState::Value(value) => value.as_slice() == want,
+        AttrState::Set => b"+",
+        AttrState::Unset => b"-",
+        AttrState::Unspecified => b"!",
+        AttrState::Value(value) => value.as_slice(),
     }
 }
 
@@ -76,67 +78,77 @@ const FIRST: &[u8] = b"\
     ||[attr]m t\n* m||a/b/f.c|t|!%\
     |[attr]m t|* m||a/b/f.c|t|+%";
 
-/// Whether there is one state, which is spelled so.
-fn is_one(states: &[AttrState], want: &[u8]) -> bool {
-    match states {
-        [state] => is_spelled(state, want),
-        _ => false,
+/// The states as they are spelled, with `|` between them.
+fn listed(alloc: Global, states: &[AttrState]) -> Result<Vec<u8>, AllocError> {
+    let mut list = Vec::new(alloc);
+    for state in states {
+        if !list.is_empty() {
+            list.push(b'|')?;
+        }
+        list.extend_from_slice(spelled(state))?;
     }
+    Ok(list)
 }
 
-/// Whether the files give this state of the names.
-fn is_of_files(
-    alloc: Global,
-    files: &AttrFiles,
-    path: &[u8],
-    names: &[Bytes],
-    want: &[u8],
-) -> Result<bool, AllocError> {
-    let states = attributes_of(alloc, files, path, names)?;
-    Ok(is_one(&states, want))
-}
-
-/// Whether a stack of the files gives this state of the names.
-fn is_of_stack(
+/// The states that the files give of the names, with a note if a stack of the files gives others.
+fn states_of(
     alloc: Global,
     files: AttrFiles,
     path: &[u8],
     names: &[Bytes],
-    want: &[u8],
-) -> Result<bool, AllocError> {
+) -> Result<Vec<u8>, AllocError> {
+    let states = attributes_of(alloc, &files, path, names)?;
+    let came = listed(alloc, &states)?;
     let mut stack = AttrStack::begin(alloc, files)?;
     let states = stack.states(alloc, path, names)?;
-    Ok(is_one(&states, want))
-}
-
-/// Whether both give this state of the names.
-fn is_of_both(
-    alloc: Global,
-    texts: [&[u8]; 4],
-    path: &[u8],
-    names: &[Bytes],
-    want: &[u8],
-) -> Result<bool, AllocError> {
-    let files = files_of(alloc, texts)?;
-    Ok(
-        is_of_files(alloc, &files, path, names, want)?
-            && is_of_stack(alloc, files, path, names, want)?,
-    )
+    let same = listed(alloc, &states)?;
+    let is_same = same.as_slice() == came.as_slice();
+    noted(came, is_same, &same)
 }
 
 struct Stated;
 
 impl Row for Stated {
-    fn is_so(alloc: Global, row: &[u8]) -> Result<bool, Fail> {
-        let (info, rest) = cut(row, b'|');
-        let (top, rest) = cut(rest, b'|');
-        let (a, rest) = cut(rest, b'|');
-        let (deep, rest) = cut(rest, b'|');
-        let (path, rest) = cut(rest, b'|');
-        let (name, want) = cut(rest, b'|');
+    fn seen(alloc: Global, row: &[u8]) -> Result<Seen<'_>, Fail> {
+        let (info, rest) = cut(row, b'|')?;
+        let (top, rest) = cut(rest, b'|')?;
+        let (a, rest) = cut(rest, b'|')?;
+        let (deep, rest) = cut(rest, b'|')?;
+        let (path, rest) = cut(rest, b'|')?;
+        let (name, want) = cut(rest, b'|')?;
         let name = Bytes::copy_of(alloc, name)?;
-        let names = from_ref(&name);
-        Ok(is_of_both(alloc, [info, top, a, deep], path, names, want)?)
+        let files = files_of(alloc, [info, top, a, deep, b""])?;
+        Ok((states_of(alloc, files, path, from_ref(&name))?, want))
+    }
+}
+
+/// `info/attributes`, the file of the top folder, and the system's and the user's files, a path, a name, and the
+/// state's spelling, as `git check-attr` gives it.
+const BASE: &[u8] = b"\
+    ||* t=base|a/f|t|base%\
+    |* t=top|* t=base|f|t|top%\
+    * t=info||* t=base|f|t|info%\
+    |* !t|* t|f|t|!%\
+    ||a/f t|a/f|t|+%\
+    ||* t=1\n* t=2|f|t|2%\
+    ||[attr]m t\n* m|f|t|+%\
+    |* m|[attr]m t|f|t|+%\
+    |[attr]m t=top|[attr]m t=base\n* m|f|t|top%\
+    [attr]m t=info||[attr]m t=base\n* m|f|t|info%\
+    ||[attr]binary t\n* binary|f|t|+%";
+
+struct Based;
+
+impl Row for Based {
+    fn seen(alloc: Global, row: &[u8]) -> Result<Seen<'_>, Fail> {
+        let (info, rest) = cut(row, b'|')?;
+        let (top, rest) = cut(rest, b'|')?;
+        let (base, rest) = cut(rest, b'|')?;
+        let (path, rest) = cut(rest, b'|')?;
+        let (name, want) = cut(rest, b'|')?;
+        let name = Bytes::copy_of(alloc, name)?;
+        let files = files_of(alloc, [info, top, b"", b"", base])?;
+        Ok((states_of(alloc, files, path, from_ref(&name))?, want))
     }
 }
 
@@ -145,15 +157,17 @@ fn a_path_has_the_states_of_its_files_in_a_stack_too(rt: HostRuntime) -> Result<
     check::<Stated, _>(&rt, rt.alloc(), LAST)?;
     check::<Stated, _>(&rt, rt.alloc(), NEAREST)?;
     check::<Stated, _>(&rt, rt.alloc(), MACROS)?;
-    check::<Stated, _>(&rt, rt.alloc(), FIRST)
+    check::<Stated, _>(&rt, rt.alloc(), FIRST)?;
+    check::<Based, _>(&rt, rt.alloc(), BASE)
 }
 
-/// `info/attributes` and the files of the top folder, of `a` and of `a/b`, as above.
-const WALKED: [&[u8]; 4] = [
+/// `info/attributes`, the files of the top folder, of `a` and of `a/b`, and the user's file.
+const WALKED: [&[u8]; 5] = [
     b"*.i t=info",
     b"[attr]m n\n* t=top -n\nc m",
     b"[attr]k n=k\n* t=a\nb/y k n=a",
     b"* t=b\n/x n",
+    b"* t=base\n*.i n=base",
 ];
 
 /// Paths of these files in the order in which they are asked for, and how their states of `t` and `n` are spelled.
@@ -167,38 +181,26 @@ const WALK: &[u8] = b"\
     a/b/x.i|info|-%\
     a|top|-%";
 
-/// Whether the stack has these states at a path.
-fn has_states(
-    alloc: Global,
-    stack: &mut AttrStack,
-    names: &[Bytes],
-    row: &[u8],
-) -> Result<bool, AllocError> {
-    let (path, rest) = cut(row, b'|');
-    let (t, n) = cut(rest, b'|');
-    let states = stack.states(alloc, path, names)?;
-    Ok(match states.as_slice() {
-        [state_t, state_n] => is_spelled(state_t, t) && is_spelled(state_n, n),
-        _ => false,
-    })
-}
-
-/// Whether each row has the states of its path that the stack has then.
-fn are_walked(
+/// The stack has the states of each row at its path, one path after the other.
+fn check_walk<H: Abort>(
+    rt: &H,
     alloc: Global,
     stack: &mut AttrStack,
     names: &[Bytes],
     table: &[u8],
-) -> Result<bool, AllocError> {
+) -> Result<(), Fail> {
     let mut rest = table;
     for _ in 0..table.len() {
-        let (row, more) = cut(rest, b'%');
-        if !rest.is_empty() && !has_states(alloc, stack, names, row)? {
-            return Ok(false);
+        if rest.is_empty() {
+            break;
         }
+        let (row, more) = parted(rest, b'%').unwrap_or((rest, b""));
+        let (path, want) = cut(row, b'|')?;
+        let states = stack.states(alloc, path, names)?;
+        is_right(rt, row, &listed(alloc, &states)?, want);
         rest = more;
     }
-    Ok(true)
+    Ok(())
 }
 
 /// The names `t` and `n`.
@@ -210,15 +212,9 @@ fn two_names(alloc: Global) -> Result<Vec<Bytes>, AllocError> {
     Ok(names)
 }
 
-/// Whether a stack of these files has the states of each row.
-fn is_walk(alloc: Global, table: &[u8]) -> Result<bool, AllocError> {
-    let names = two_names(alloc)?;
-    let mut stack = AttrStack::begin(alloc, files_of(alloc, WALKED)?)?;
-    are_walked(alloc, &mut stack, &names, table)
-}
-
 #[test]
 fn a_stack_leaves_the_folders_that_it_was_in(rt: HostRuntime) -> Result<(), Fail> {
-    assert!(rt; is_walk(rt.alloc(), WALK)?);
-    Ok(())
+    let names = two_names(rt.alloc())?;
+    let mut stack = AttrStack::begin(rt.alloc(), files_of(rt.alloc(), WALKED)?)?;
+    check_walk(&rt, rt.alloc(), &mut stack, &names, WALK)
 }

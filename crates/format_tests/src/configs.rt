@@ -1,4 +1,4 @@
-use crate::table::{Row, check, cut, filled, is_shown, push_all};
+use crate::table::{Row, Seen, check, cut, filled, push_all, shown};
 use git_config::{ConfigFault, Setting, read_config};
 use std::alloc::{AllocError, Global};
 use std::test::Fail;
@@ -59,7 +59,8 @@ fn fault_of(alloc: Global, text: &[u8]) -> Option<ConfigFault> {
 const LISTED: &[u8] = b"\
     [core]\n\tautocrlf = input\n|core.autocrlf\ninput\0%\
     [Core]\r\nEOL = LF\r\n|core.eol\nLF\0%\
-    [filter \"lfs\"]\n\tprocess = git-lfs filter-process\n\trequired = true\n|filter.lfs.process\ngit-lfs filter-process\0filter.lfs.required\ntrue\0%\
+    [filter \"lfs\"]\n\tprocess = git-lfs filter-process\n\trequired = true\n|\
+    filter.lfs.process\ngit-lfs filter-process\0filter.lfs.required\ntrue\0%\
     [a \"x\\\"y\"]\nk\n|a.x\"y.k\0%\
     [A.B.C]\nKey-1 = v\n|a.b.c.key-1\nv\0%\
     [a.B \"S\"] k = 1\n|a.b.S.k\n1\0%\
@@ -89,10 +90,9 @@ const LISTED: &[u8] = b"\
 struct AsGitLists;
 
 impl Row for AsGitLists {
-    fn is_so(alloc: Global, row: &[u8]) -> Result<bool, Fail> {
-        let (text, want) = cut(row, b'|');
-        let list = listed(alloc, text)?;
-        Ok(list.as_slice() == want)
+    fn seen(alloc: Global, row: &[u8]) -> Result<Seen<'_>, Fail> {
+        let (text, want) = cut(row, b'|')?;
+        Ok((listed(alloc, text)?, want))
     }
 }
 
@@ -129,10 +129,10 @@ const FAULTY_HERE: &[u8] = b"\
 struct Faulty;
 
 impl Row for Faulty {
-    fn is_so(alloc: Global, row: &[u8]) -> Result<bool, Fail> {
-        let (text, want) = cut(row, b'|');
+    fn seen(alloc: Global, row: &[u8]) -> Result<Seen<'_>, Fail> {
+        let (text, want) = cut(row, b'|')?;
         let fault = fault_of(alloc, text);
-        is_shown(alloc, fault, want)
+        Ok((shown(alloc, fault)?, want))
     }
 }
 

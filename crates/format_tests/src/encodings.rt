@@ -1,4 +1,4 @@
-use crate::table::{Row, check, cut, is_shown, state_of};
+use crate::table::{Row, Seen, check, cut, noted, shown, state_of, unknown};
 use attr_line::AttrState;
 use byte_path::Bytes;
 use std::alloc::{AllocError, Global};
@@ -34,10 +34,10 @@ const NAMED: &[u8] = b"\
 struct Named;
 
 impl Row for Named {
-    fn is_so(alloc: Global, row: &[u8]) -> Result<bool, Fail> {
-        let (said, want) = cut(row, b'|');
+    fn seen(alloc: Global, row: &[u8]) -> Result<Seen<'_>, Fail> {
+        let (said, want) = cut(row, b'|')?;
         let state = state_of(alloc, said)?;
-        is_shown(alloc, encoding_of(&state), want)
+        Ok((shown(alloc, encoding_of(&state))?, want))
     }
 }
 
@@ -49,10 +49,18 @@ fn states_name_encodings(rt: HostRuntime) -> Result<(), Fail> {
 /// Texts, encodings, and what python's codecs make of them. The first four texts have the first and the last character
 /// of each length in UTF-8, and those beside the surrogates: U+0000, 7F, 80, 7FF, 800, D7FF, E000, FFFF, 10000, 10FFFF.
 const ENCODED: &[u8] = b"\
-    \0\x7f\xc2\x80\xdf\xbf\xe0\xa0\x80\xed\x9f\xbf\xee\x80\x80\xef\xbf\xbf\xf0\x90\x80\x80\xf4\x8f\xbf\xbf|UTF-16LE|\0\0\x7f\0\x80\0\xff\x07\0\x08\xff\xd7\0\xe0\xff\xff\0\xd8\0\xdc\xff\xdb\xff\xdf%\
-    \0\x7f\xc2\x80\xdf\xbf\xe0\xa0\x80\xed\x9f\xbf\xee\x80\x80\xef\xbf\xbf\xf0\x90\x80\x80\xf4\x8f\xbf\xbf|UTF-16BE|\0\0\0\x7f\0\x80\x07\xff\x08\0\xd7\xff\xe0\0\xff\xff\xd8\0\xdc\0\xdb\xff\xdf\xff%\
-    \0\x7f\xc2\x80\xdf\xbf\xe0\xa0\x80\xed\x9f\xbf\xee\x80\x80\xef\xbf\xbf\xf0\x90\x80\x80\xf4\x8f\xbf\xbf|UTF-32LE|\0\0\0\0\x7f\0\0\0\x80\0\0\0\xff\x07\0\0\0\x08\0\0\xff\xd7\0\0\0\xe0\0\0\xff\xff\0\0\0\0\x01\0\xff\xff\x10\0%\
-    \0\x7f\xc2\x80\xdf\xbf\xe0\xa0\x80\xed\x9f\xbf\xee\x80\x80\xef\xbf\xbf\xf0\x90\x80\x80\xf4\x8f\xbf\xbf|UTF-32BE|\0\0\0\0\0\0\0\x7f\0\0\0\x80\0\0\x07\xff\0\0\x08\0\0\0\xd7\xff\0\0\xe0\0\0\0\xff\xff\0\x01\0\0\0\x10\xff\xff%\
+    \0\x7f\xc2\x80\xdf\xbf\xe0\xa0\x80\xed\x9f\xbf\xee\x80\x80\xef\xbf\xbf\xf0\x90\x80\x80\xf4\x8f\
+    \xbf\xbf|UTF-16LE|\0\0\x7f\0\x80\0\xff\x07\0\x08\xff\xd7\0\xe0\xff\xff\0\xd8\0\xdc\xff\xdb\xff\
+    \xdf%\
+    \0\x7f\xc2\x80\xdf\xbf\xe0\xa0\x80\xed\x9f\xbf\xee\x80\x80\xef\xbf\xbf\xf0\x90\x80\x80\xf4\x8f\
+    \xbf\xbf|UTF-16BE|\0\0\0\x7f\0\x80\x07\xff\x08\0\xd7\xff\xe0\0\xff\xff\xd8\0\xdc\0\xdb\xff\xdf\
+    \xff%\
+    \0\x7f\xc2\x80\xdf\xbf\xe0\xa0\x80\xed\x9f\xbf\xee\x80\x80\xef\xbf\xbf\xf0\x90\x80\x80\xf4\x8f\
+    \xbf\xbf|UTF-32LE|\0\0\0\0\x7f\0\0\0\x80\0\0\0\xff\x07\0\0\0\x08\0\0\xff\xd7\0\0\0\xe0\0\0\xff\
+    \xff\0\0\0\0\x01\0\xff\xff\x10\0%\
+    \0\x7f\xc2\x80\xdf\xbf\xe0\xa0\x80\xed\x9f\xbf\xee\x80\x80\xef\xbf\xbf\xf0\x90\x80\x80\xf4\x8f\
+    \xbf\xbf|UTF-32BE|\0\0\0\0\0\0\0\x7f\0\0\0\x80\0\0\x07\xff\0\0\x08\0\0\0\xd7\xff\0\0\xe0\0\0\0\
+    \xff\xff\0\x01\0\0\0\x10\xff\xff%\
     \xc3\xa9\xf0\x9f\x98\x80|UTF-16|\xff\xfe\xe9\0=\xd8\0\xde%\
     \xc3\xa9\xf0\x9f\x98\x80|UTF-16LE-BOM|\xff\xfe\xe9\0=\xd8\0\xde%\
     \xc3\xa9\xf0\x9f\x98\x80|UTF-32|\xff\xfe\0\0\xe9\0\0\0\0\xf6\x01\0%\
@@ -70,19 +78,23 @@ const ENCODED: &[u8] = b"\
     |UTF-32|%\
     |UTF-32BE|%";
 
-/// Whether the content is prepared so.
-fn is_prepared(
+/// The content in this encoding, with a note if it is said to be unencoded, or not to be.
+fn prepared(
     alloc: Global,
     content: &[u8],
     encoding: Encoding,
-    want: &[u8],
     unencoded: bool,
-) -> Result<bool, AllocError> {
+) -> Result<Vec<u8>, AllocError> {
     let read = encode(alloc, content, encoding)?;
-    Ok(read.bytes.as_slice() == want && read.unencoded == unencoded)
+    let came = Vec::from_slice(alloc, read.bytes.as_slice())?;
+    noted(
+        came,
+        read.unencoded == unencoded,
+        b"`unencoded` says otherwise",
+    )
 }
 
-/// Whether the content is encoded so, or is empty.
+/// Whether the text is encoded so, or is empty.
 fn is_encoded(
     alloc: Global,
     content: &[u8],
@@ -99,17 +111,19 @@ fn is_encoded(
 struct Encoded;
 
 impl Row for Encoded {
-    fn is_so(alloc: Global, row: &[u8]) -> Result<bool, Fail> {
-        let (content, rest) = cut(row, b'|');
-        let (name, want) = cut(rest, b'|');
+    fn seen(alloc: Global, row: &[u8]) -> Result<Seen<'_>, Fail> {
+        let (content, rest) = cut(row, b'|')?;
+        let (name, want) = cut(rest, b'|')?;
         let state = AttrState::Value(Bytes::copy_of(alloc, name)?);
         let Ok(Some(encoding)) = encoding_of(&state) else {
-            return Ok(false);
+            return Err(unknown(name));
         };
-        Ok(
-            is_prepared(alloc, content, encoding, want, false)?
-                && is_encoded(alloc, content, encoding, want)?,
-        )
+        let came = prepared(alloc, content, encoding, false)?;
+        let is_same = is_encoded(alloc, content, encoding, want)?;
+        Ok((
+            noted(came, is_same, b"`encode_text` gives another text")?,
+            want,
+        ))
     }
 }
 
@@ -127,21 +141,21 @@ const NO_TEXTS: &[u8] = b"\
     abcdefgh\xf4\x90\x80\x80%\
     abcdefgh\xe2\x82%";
 
-/// Whether the content is no text to be encoded.
-fn is_no_text(alloc: Global, content: &[u8]) -> Result<bool, AllocError> {
-    let text = encode_text(alloc, content, Utf16Le)?;
-    Ok(text.is_none())
+/// What comes of the content in this encoding. It is no text to be encoded.
+fn kept(alloc: Global, content: &[u8], encoding: Encoding) -> Result<Vec<u8>, AllocError> {
+    let came = prepared(alloc, content, encoding, true)?;
+    let text = encode_text(alloc, content, encoding)?;
+    noted(came, text.is_none(), b"`encode_text` gives a text")
 }
 
 struct Unencoded;
 
 impl Row for Unencoded {
-    fn is_so(alloc: Global, content: &[u8]) -> Result<bool, Fail> {
-        Ok(
-            is_no_text(alloc, content)?
-                && is_prepared(alloc, content, Utf16Le, content, true)?
-                && is_prepared(alloc, content, Utf16, content, true)?,
-        )
+    fn seen(alloc: Global, content: &[u8]) -> Result<Seen<'_>, Fail> {
+        let came = kept(alloc, content, Utf16Le)?;
+        let marked = kept(alloc, content, Utf16)?;
+        let is_same = marked.as_slice() == came.as_slice();
+        Ok((noted(came, is_same, b"UTF-16 gives another")?, content))
     }
 }
 

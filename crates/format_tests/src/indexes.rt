@@ -1,11 +1,13 @@
-use crate::table::{Row, check, cut, filled, is_shown, number_of, push_all};
+use crate::table::{Row, Seen, check, cut, filled, noted, number_of, push_all, shown, unknown};
 use git_index::{Entry, IndexFault, Mode, read_index, spell_index};
 use std::alloc::{AllocError, Global};
 use std::test::Fail;
 
 /// An index with one entry `a`, whose object is a blob of `hi` and a line feed, by Python's hashlib.
 const ONE_FILE: &[u8] =
-    b"DIRC\0\0\0\x02\0\0\0\x01\0\0\0\0\0\0\0\0\0\0\0\0\0\0\0\0\0\0\0\0\0\0\0\0\0\0\x81\xa4\0\0\0\0\0\0\0\0\0\0\0\0E\xb9\x83\xbe6\xb7<\x07\x88\xdc\x9c\xbc\xb7l\xbb\x80\xfc{\xb0W\0\x01a\0\x1cl\x18Y\xc8\xad\xa0\x11\x07\xc2k\x97n\xe0d>\xd8\xc1\xc7I";
+    b"DIRC\0\0\0\x02\0\0\0\x01\0\0\0\0\0\0\0\0\0\0\0\0\0\0\0\0\0\0\0\0\0\0\0\0\0\0\x81\xa4\0\0\0\0\
+    \0\0\0\0\0\0\0\0E\xb9\x83\xbe6\xb7<\x07\x88\xdc\x9c\xbc\xb7l\xbb\x80\xfc{\xb0W\0\x01a\0\x1cl\
+    \x18Y\xc8\xad\xa0\x11\x07\xc2k\x97n\xe0d>\xd8\xc1\xc7I";
 
 fn fault_of(alloc: Global, text: &[u8]) -> Option<IndexFault> {
     match read_index(alloc, text) {
@@ -44,13 +46,6 @@ fn are_cuts_short(alloc: Global, whole: &[u8]) -> bool {
     true
 }
 
-#[test]
-fn each_cut_is_short(rt: HostRuntime) {
-    assert!(rt; fault_of(rt.alloc(), EMPTY).is_none());
-    assert!(rt; are_cuts_short(rt.alloc(), ONE_FILE));
-    assert!(rt; are_cuts_short(rt.alloc(), EMPTY));
-}
-
 /// What is wrong with so many NULs.
 fn fault_at(alloc: Global, count: usize) -> Result<Option<IndexFault>, AllocError> {
     let text = vec![in alloc; 0u8; count]?;
@@ -85,6 +80,16 @@ const TREE: &[u8] =
 /// The header of an index up to the last byte of its count.
 const HEADER: &[u8] = b"DIRC\0\0\0\x02\0\0\0";
 
+/// The same for version 3.
+const MORE_BITS: &[u8] = b"DIRC\0\0\0\x03\0\0\0";
+
+/// The same for version 4.
+const PREFIXED: &[u8] = b"DIRC\0\0\0\x04\0\0\0";
+
+/// A path of 130 bytes.
+const LONG_PATH: &[u8] = b"aaaaaaaaaaaaaaaaaaaaaaaaaaaaaaaaaaaaaaaaaaaaaaaaaaaaaaaaaaaaaaaaa\
+    aaaaaaaaaaaaaaaaaaaaaaaaaaaaaaaaaaaaaaaaaaaaaaaaaaaaaaaaaaaaaaaaa";
+
 /// The flags, the path and the padding of an entry `a`.
 const A: &[u8] = b"\0\x01a\0";
 
@@ -97,32 +102,38 @@ const NO_HASH: &[u8] = b"\0\0\0\0\0\0\0\0\0\0\0\0\0\0\0\0\0\0\0\0";
 /// The SHA-1 of `NONE`, by Python's hashlib.
 const HASH_OF_NONE: &[u8] = b"9\xd8\x90\x13\x9e\xe55l~\xf5r!l\xeb\xcd'\xaaA\xf9\xdf";
 
-/// The part of an index that a letter stands for, or the header of so many entries, for a digit.
-fn part_of(letter: u8) -> (&'static [u8], &'static [u8]) {
+/// The part of an index that a letter stands for, or the header of so many entries, for a digit. `M` is the header of
+/// one entry of version 3, and `P` and `Q` those of one and two entries of version 4.
+fn part_of(letter: u8) -> Result<(&'static [u8], &'static [u8]), Fail> {
     match letter {
-        b'F' => (FILE, b""),
-        b'T' => (TREE, b""),
-        b'A' => (A, b""),
-        b'B' => (A_B, b""),
-        b'Z' => (NO_HASH, b""),
-        b'H' => (HASH_OF_NONE, b""),
-        b'0' => (HEADER, b"\0"),
-        b'1' => (HEADER, b"\x01"),
-        b'2' => (HEADER, b"\x02"),
-        b'3' => (HEADER, b"\x03"),
-        _ => (HEADER, b"\x04"),
+        b'F' => Ok((FILE, b"")),
+        b'T' => Ok((TREE, b"")),
+        b'A' => Ok((A, b"")),
+        b'B' => Ok((A_B, b"")),
+        b'L' => Ok((LONG_PATH, b"")),
+        b'Z' => Ok((NO_HASH, b"")),
+        b'H' => Ok((HASH_OF_NONE, b"")),
+        b'0' => Ok((HEADER, b"\0")),
+        b'1' => Ok((HEADER, b"\x01")),
+        b'2' => Ok((HEADER, b"\x02")),
+        b'3' => Ok((HEADER, b"\x03")),
+        b'4' => Ok((HEADER, b"\x04")),
+        b'M' => Ok((MORE_BITS, b"\x01")),
+        b'P' => Ok((PREFIXED, b"\x01")),
+        b'Q' => Ok((PREFIXED, b"\x02")),
+        _ => Err(unknown(&[letter])),
     }
 }
 
 /// The parts of an index. `$` and a letter stand for a part that is named here, and `$` and a digit for the header of
 /// so many entries. The other bytes stand for themselves.
-fn index_of(alloc: Global, parts: &[u8]) -> Result<Vec<u8>, AllocError> {
+fn index_of(alloc: Global, parts: &[u8]) -> Result<Vec<u8>, Fail> {
     let mut text = Vec::new(alloc);
     let mut is_named = false;
     for byte in parts {
         let byte = *byte;
         if is_named {
-            let (front, count) = part_of(byte);
+            let (front, count) = part_of(byte)?;
             push_all(&mut text, &[front, count])?;
         } else if byte != b'$' {
             push_all(&mut text, &[&[byte]])?;
@@ -135,7 +146,8 @@ fn index_of(alloc: Global, parts: &[u8]) -> Result<Vec<u8>, AllocError> {
 /// What an index has, its parts, and its first fault, or `None` if it is read. A header is refused at its first fault.
 const HEADERS: &[u8] = b"\
     a signature|DIRD\0\0\0\x03\0\0\0\0$Z|Some(Signature)%\
-    a version|DIRC\0\0\0\x03\xff\0\0\0$Z|Some(Version(3))%\
+    a version below 2|DIRC\0\0\0\x01\xff\0\0\0$Z|Some(Version(1))%\
+    a version above 4|DIRC\0\0\0\x05\xff\0\0\0$Z|Some(Version(5))%\
     a count|DIRC\0\0\0\x02\0\x01\x86\xa1$Z|Some(Count(100001))%\
     the largest count|DIRC\0\0\0\x02\0\x01\x86\xa0$Z|Some(Short)%";
 
@@ -184,15 +196,57 @@ const RIGHT: &[u8] = b"\
     a folder at another stage|$2$F$A$F\x10\x03a/b\0\0\0\0\0\0\0$Z|None%\
     a beginning that is no folder|$2$F$A$F\0\x02ab\0\0\0\0\0\0\0\0$Z|None%";
 
+/// An extension that states one byte more than there is, and a bit of another version: a row of the table above.
+const CUT_OR_FORGED: &[u8] = b"\
+    an extension of one byte that is not there|$1$F$ATREE\0\0\0\x01$Z|Some(Short)%\
+    the extended bit|$1$F@\x01a\0$Z|Some(Entry(0, Extended))%";
+
+#[test]
+fn each_cut_is_short(rt: HostRuntime) -> Result<(), Fail> {
+    assert!(rt; fault_of(rt.alloc(), EMPTY).is_none());
+    assert!(rt; are_cuts_short(rt.alloc(), ONE_FILE));
+    assert!(rt; are_cuts_short(rt.alloc(), EMPTY));
+    check::<Refused, _>(&rt, rt.alloc(), CUT_OR_FORGED)
+}
+
+/// The 16 more bits, from version 3 on: a row of the table above.
+const BITS: &[u8] = b"\
+    the reserved bit|$M$F@\x01\x80\0a\0\0\0\0\0\0\0$Z|Some(Entry(0, ExtendedBits))%\
+    the highest unused bit, before a cut path|$M$F@\x01\x10\0$Z|Some(Entry(0, ExtendedBits))%\
+    the lowest unused bit beside skip-worktree|$M$F@\x01@\x01a\0\0\0\0\0\0\0$Z|Some(Entry(0, ExtendedBits))%\
+    cut bits|$M$F@\x01@$Z|Some(Short)%\
+    a path that is cut behind them|$M$F@\x01@\0a\0\0\0\0\0\0$Z|Some(Short)%\
+    a padding byte|$M$F@\x01@\0a\0\0\0\0\0\0x$Z|Some(Entry(0, Padding))%\
+    the extended bit in version 2|$1$F@\x01@\0a\0\0\0\0\0\0\0$Z|Some(Entry(0, Extended))%\
+    the reserved bit in version 4|$P$F@\x01\x80\0\0a\0$Z|Some(Entry(0, ExtendedBits))%";
+
+/// A path as a count and a rest, in version 4: a row of the table above.
+const COUNTS: &[u8] = b"\
+    a count above the path before|$Q$F\0\x03\0a/b\0$F\0\x03\x04c\0$Z|Some(Entry(1, Prefix))%\
+    a count in the first entry|$P$F\0\x01\x01a\0$Z|Some(Entry(0, Prefix))%\
+    such a count, before a cut rest|$P$F\0\x01\x01a$Z|Some(Entry(0, Prefix))%\
+    a count above the largest one|$P$F\0\x01\xff\xff\xff\xff\xff\xff\xff\xff\xff\xff\xff\xff\x7fa\
+    \0$Z|Some(Entry(0, Prefix))%\
+    a count that does not end|$P$F\0\x01\x80$Z|Some(Short)%\
+    no count|$P$F\0\x01$Z|Some(Short)%\
+    a rest without NUL|$P$F\0\x01\0a$Z|Some(Short)%\
+    a length that is too large|$P$F\0\x04\0a/b\0$Z|Some(Entry(0, Name))%\
+    the length of the rest|$Q$F\0\x03\0a/b\0$F\0\x01\x01c\0$Z|Some(Entry(1, Name))%\
+    a second NUL, as a cut extension|$P$F\0\x01\0a\0\0$Z|Some(Short)%\
+    a mode|$P$T\0\x01\0a\0$Z|Some(Mode(0))%\
+    the same path again|$Q$F\0\x01\0a\0$F\0\x01\0\0$Z|Some(Order(1))%\
+    an empty path|$Q$F\0\x01\0a\0$F\0\0\x01\0$Z|Some(Path(1, Empty))%\
+    a folder of an earlier path|$Q$F\0\x01\0a\0$F\0\x03\0/b\0$Z|Some(FolderClash(1))%";
+
 struct Refused;
 
 impl Row for Refused {
-    fn is_so(alloc: Global, row: &[u8]) -> Result<bool, Fail> {
-        let (what, rest) = cut(row, b'|');
-        let (parts, want) = cut(rest, b'|');
+    fn seen(alloc: Global, row: &[u8]) -> Result<Seen<'_>, Fail> {
+        let (_, rest) = cut(row, b'|')?;
+        let (parts, want) = cut(rest, b'|')?;
         let text = index_of(alloc, parts)?;
         let fault = fault_of(alloc, &text);
-        is_shown(alloc, fault, want)
+        Ok((shown(alloc, fault)?, want))
     }
 }
 
@@ -202,23 +256,97 @@ fn indexes_are_refused_at_their_first_fault(rt: HostRuntime) -> Result<(), Fail>
     check::<Refused, _>(&rt, rt.alloc(), ENTRIES)?;
     check::<Refused, _>(&rt, rt.alloc(), ORDERS)?;
     check::<Refused, _>(&rt, rt.alloc(), ENDINGS)?;
+    check::<Refused, _>(&rt, rt.alloc(), BITS)?;
+    check::<Refused, _>(&rt, rt.alloc(), COUNTS)?;
     check::<Refused, _>(&rt, rt.alloc(), RIGHT)
 }
 
-/// The length of a path whose entry states FFF, its padding, and the first fault. A length of FFF is 4095 or more.
+/// What an index has, its parts, the entries that are read, and the parts of their text but for its hash. It has
+/// version 3 exactly if an entry is sparse or to be added.
+const MARKED: &[u8] = b"\
+    neither|$M$F$A$Z|a;|$1$F$A%\
+    more bits without a mark|$M$F@\x01\0\0a\0\0\0\0\0\0\0$Z|a;|$1$F$A%\
+    skip-worktree|$M$F@\x01@\0a\0\0\0\0\0\0\0$Z|a sparse;|$M$F@\x01@\0a\0\0\0\0\0\0\0%\
+    intent-to-add|$M$F@\x01 \0a\0\0\0\0\0\0\0$Z|a intent;|$M$F@\x01 \0a\0\0\0\0\0\0\0%\
+    both|$M$F@\x01`\0a\0\0\0\0\0\0\0$Z|a sparse intent;|$M$F@\x01`\0a\0\0\0\0\0\0\0%\
+    intent-to-add in version 4|$P$F@\x01 \0\0a\0$Z|a intent;|$M$F@\x01 \0a\0\0\0\0\0\0\0%";
+
+/// The same, in version 4. A count of 129 takes two bytes.
+const PREFIXES: &[u8] = b"\
+    a last byte taken off|$Q$F\0\x03\0a/b\0$F\0\x03\x01c\0$Z|a/b;a/c;|$2$F$B$F\0\x03a/c\0\0\0\0\0\0\0%\
+    nothing taken off|$Q$F\0\x01\0a\0$F\0\x02\0b\0$Z|a;ab;|$2$F$A$F\0\x02ab\0\0\0\0\0\0\0\0%\
+    all taken off|$Q$F\0\x01\0a\0$F\0\x01\x01b\0$Z|a;b;|$2$F$A$F\0\x01b\0%\
+    nothing added|$Q$F \x01\0a\0$F0\x01\0\0$Z|a;a;|$2$F \x01a\0$F0\x01a\0%\
+    129 bytes taken off|$Q$F\0\x82\0$L\0$F\0\x02\x80\x01b\0$Z|\
+        aaaaaaaaaaaaaaaaaaaaaaaaaaaaaaaaaaaaaaaaaaaaaaaaaaaaaaaaaaaaaaaaa\
+        aaaaaaaaaaaaaaaaaaaaaaaaaaaaaaaaaaaaaaaaaaaaaaaaaaaaaaaaaaaaaaaaa;ab;|\
+        $2$F\0\x82$L\0\0\0\0\0\0\0\0$F\0\x02ab\0\0\0\0\0\0\0\0%";
+
+fn push_marked(list: &mut Vec<u8>, entry: &Entry) -> Result<(), AllocError> {
+    let sparse: &[u8] = if entry.sparse { b" sparse" } else { b"" };
+    let intent: &[u8] = if entry.intent { b" intent" } else { b"" };
+    push_all(list, &[entry.path.as_slice(), sparse, intent, b";"])
+}
+
+/// The paths of the entries, each with its marks.
+fn listed(alloc: Global, entries: &[Entry]) -> Result<Vec<u8>, AllocError> {
+    let mut list = Vec::new(alloc);
+    for entry in entries {
+        push_marked(&mut list, entry)?;
+    }
+    Ok(list)
+}
+
+/// The entries that are read, and their text.
+fn read_and_spelled(alloc: Global, text: &[u8]) -> Result<(Vec<u8>, Vec<u8>), Fail> {
+    let index = read_index(alloc, text)?;
+    let spelled = spell_index(alloc, index.entries())?;
+    Ok((listed(alloc, index.entries())?, spelled))
+}
+
+struct Marked;
+
+impl Row for Marked {
+    fn seen(alloc: Global, row: &[u8]) -> Result<Seen<'_>, Fail> {
+        let (_, rest) = cut(row, b'|')?;
+        let (parts, rest) = cut(rest, b'|')?;
+        let (want, spelled) = cut(rest, b'|')?;
+        let (list, text) = read_and_spelled(alloc, &index_of(alloc, parts)?)?;
+        let (again, _) = read_and_spelled(alloc, &text)?;
+        let bytes = index_of(alloc, spelled)?;
+        let is_so = text.starts_with(&bytes) && text.len() == bytes.len().wrapping_add(20);
+        let is_same = again == list;
+        Ok((noted(list, is_so && is_same, b"another text")?, want))
+    }
+}
+
+#[test]
+fn marks_and_paths_are_read_and_spelled_again(rt: HostRuntime) -> Result<(), Fail> {
+    check::<Marked, _>(&rt, rt.alloc(), MARKED)?;
+    check::<Marked, _>(&rt, rt.alloc(), PREFIXES)
+}
+
+/// How an entry that states FFF begins, the length of its path, what follows, and the first fault. A length of FFF is
+/// 4095 or more.
 const LONG: &[u8] = b"\
-    4094|\0\0\0\0|Some(Entry(0, Name))%\
-    4095|\0\0\0|None%\
-    4096|\0\0|None%\
-    4097|\0|Some(Path(0, TooLong))%";
+    $1$F\x0f\xff|4094|\0\0\0\0|Some(Entry(0, Name))%\
+    $1$F\x0f\xff|4095|\0\0\0|None%\
+    $1$F\x0f\xff|4096|\0\0|None%\
+    $1$F\x0f\xff|4097|\0|Some(Path(0, TooLong))%\
+    $P$F\x0f\xff\0|4094|\0|Some(Entry(0, Name))%\
+    $P$F\x0f\xff\0|4095|\0|None%\
+    $P$F\x0f\xff\0|4096|\0|None%\
+    $P$F\x0f\xff\0|4097|\0|Some(Path(0, TooLong))%\
+    $P$F\x0f\xfe\0|4095|\0|Some(Entry(0, Name))%";
 
 /// What is wrong with an entry whose path has so many bytes.
 fn fault_of_long(
     alloc: Global,
+    parts: &[u8],
     count: usize,
     padding: &[u8],
-) -> Result<Option<IndexFault>, AllocError> {
-    let front = index_of(alloc, b"$1$F\x0f\xff")?;
+) -> Result<Option<IndexFault>, Fail> {
+    let front = index_of(alloc, parts)?;
     let end = [padding, NO_HASH].concat(alloc)?;
     let text = filled(alloc, &front, b'a', count, &end)?;
     Ok(fault_of(alloc, &text))
@@ -227,11 +355,12 @@ fn fault_of_long(
 struct Long;
 
 impl Row for Long {
-    fn is_so(alloc: Global, row: &[u8]) -> Result<bool, Fail> {
-        let (count, rest) = cut(row, b'|');
-        let (padding, want) = cut(rest, b'|');
-        let fault = fault_of_long(alloc, number_of(count) as usize, padding)?;
-        is_shown(alloc, fault, want)
+    fn seen(alloc: Global, row: &[u8]) -> Result<Seen<'_>, Fail> {
+        let (parts, rest) = cut(row, b'|')?;
+        let (count, rest) = cut(rest, b'|')?;
+        let (padding, want) = cut(rest, b'|')?;
+        let fault = fault_of_long(alloc, parts, number_of(count)? as usize, padding)?;
+        Ok((shown(alloc, fault)?, want))
     }
 }
 

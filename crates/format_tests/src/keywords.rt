@@ -1,4 +1,4 @@
-use crate::table::{Row, check, cut};
+use crate::table::{Row, Seen, check, cut, noted};
 use ident_convert::{expand_ident, has_keyword};
 use std::alloc::Global;
 use std::test::Fail;
@@ -23,10 +23,13 @@ const EXPANDED: &[u8] = b"\
 struct Expanded;
 
 impl Row for Expanded {
-    fn is_so(alloc: Global, row: &[u8]) -> Result<bool, Fail> {
-        let (content, want) = cut(row, b'|');
+    fn seen(alloc: Global, row: &[u8]) -> Result<Seen<'_>, Fail> {
+        let (content, want) = cut(row, b'|')?;
         let text = expand_ident(alloc, content, &NAME)?;
-        Ok(text.as_slice() == want && has_keyword(content))
+        Ok((
+            noted(text, has_keyword(content), b"no keyword is told")?,
+            want,
+        ))
     }
 }
 
@@ -49,9 +52,12 @@ const KEPT: &[u8] = b"\
 struct Kept;
 
 impl Row for Kept {
-    fn is_so(alloc: Global, content: &[u8]) -> Result<bool, Fail> {
+    fn seen(alloc: Global, content: &[u8]) -> Result<Seen<'_>, Fail> {
         let text = expand_ident(alloc, content, &NAME)?;
-        Ok(text.as_slice() == content && !has_keyword(content))
+        Ok((
+            noted(text, !has_keyword(content), b"a keyword is told")?,
+            content,
+        ))
     }
 }
 

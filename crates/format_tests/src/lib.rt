@@ -2,7 +2,7 @@
 //!
 //! A crate with tests is proved twice, with them and without. So the tests of these crates are here, over the built
 //! libraries: `paths`, `indexes`, `configs`, `settings`, `attribute_lines`, `attributes`, `line_ends`, `encodings`,
-//! `keywords`, `patterns` and `words`. It has nothing but tests.
+//! `keywords`, `storing`, `patterns`, `words`, `program_words`, `forms` and `digests`. It has nothing but tests.
 #![tactic(auto)]
 
 #[cfg(test)]
@@ -12,7 +12,11 @@ mod attributes;
 #[cfg(test)]
 mod configs;
 #[cfg(test)]
+mod digests;
+#[cfg(test)]
 mod encodings;
+#[cfg(test)]
+mod forms;
 #[cfg(test)]
 mod indexes;
 #[cfg(test)]
@@ -24,7 +28,11 @@ mod paths;
 #[cfg(test)]
 mod patterns;
 #[cfg(test)]
+mod program_words;
+#[cfg(test)]
 mod settings;
+#[cfg(test)]
+mod storing;
 #[cfg(test)]
 mod table;
 #[cfg(test)]

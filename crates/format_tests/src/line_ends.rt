@@ -1,4 +1,4 @@
-use crate::table::{Row, check, cut, filled, is_shown, number_of, state_of};
+use crate::table::{Row, Seen, check, cut, filled, noted, number_of, shown, state_of, unknown};
 use eol_convert::{AutoCrlf, EolSetting, LineEnds, changes_ends, line_ends_of, to_tree_ends};
 use std::alloc::{AllocError, Global};
 use std::test::Fail;
@@ -30,36 +30,38 @@ const DECIDED: &[u8] = b"\
     !|!|=lf|True|Crlf|Keep%\
     !|!|=other|True|Lf|AutoCrlf%";
 
-fn auto_of(cell: &[u8]) -> AutoCrlf {
+fn auto_of(cell: &[u8]) -> Result<AutoCrlf, Fail> {
     match cell {
-        b"True" => AutoCrlf::True,
-        b"Input" => AutoCrlf::Input,
-        _ => AutoCrlf::False,
+        b"True" => Ok(AutoCrlf::True),
+        b"Input" => Ok(AutoCrlf::Input),
+        b"False" => Ok(AutoCrlf::False),
+        _ => Err(unknown(cell)),
     }
 }
 
-fn setting_of(cell: &[u8]) -> EolSetting {
+fn setting_of(cell: &[u8]) -> Result<EolSetting, Fail> {
     match cell {
-        b"Crlf" => EolSetting::Crlf,
-        b"Lf" => EolSetting::Lf,
-        _ => EolSetting::Native,
+        b"Crlf" => Ok(EolSetting::Crlf),
+        b"Lf" => Ok(EolSetting::Lf),
+        b"Native" => Ok(EolSetting::Native),
+        _ => Err(unknown(cell)),
     }
 }
 
 struct Decided;
 
 impl Row for Decided {
-    fn is_so(alloc: Global, row: &[u8]) -> Result<bool, Fail> {
-        let (text, rest) = cut(row, b'|');
-        let (crlf, rest) = cut(rest, b'|');
-        let (eol, rest) = cut(rest, b'|');
-        let (auto, rest) = cut(rest, b'|');
-        let (setting, want) = cut(rest, b'|');
+    fn seen(alloc: Global, row: &[u8]) -> Result<Seen<'_>, Fail> {
+        let (text, rest) = cut(row, b'|')?;
+        let (crlf, rest) = cut(rest, b'|')?;
+        let (eol, rest) = cut(rest, b'|')?;
+        let (auto, rest) = cut(rest, b'|')?;
+        let (setting, want) = cut(rest, b'|')?;
         let text = state_of(alloc, text)?;
         let crlf = state_of(alloc, crlf)?;
         let eol = state_of(alloc, eol)?;
-        let ends = line_ends_of(&text, &crlf, &eol, auto_of(auto), setting_of(setting));
-        is_shown(alloc, ends, want)
+        let ends = line_ends_of(&text, &crlf, &eol, auto_of(auto)?, setting_of(setting)?);
+        Ok((shown(alloc, ends)?, want))
     }
 }
 
@@ -68,11 +70,12 @@ fn attributes_and_settings_decide(rt: HostRuntime) -> Result<(), Fail> {
     check::<Decided, _>(&rt, rt.alloc(), DECIDED)
 }
 
-fn ends_of(cell: &[u8]) -> LineEnds {
+fn ends_of(cell: &[u8]) -> Result<LineEnds, Fail> {
     match cell {
-        b"ToCrlf" => LineEnds::ToCrlf,
-        b"AutoCrlf" => LineEnds::AutoCrlf,
-        _ => LineEnds::Keep,
+        b"ToCrlf" => Ok(LineEnds::ToCrlf),
+        b"AutoCrlf" => Ok(LineEnds::AutoCrlf),
+        b"Keep" => Ok(LineEnds::Keep),
+        _ => Err(unknown(cell)),
     }
 }
 
@@ -99,34 +102,39 @@ const AFTER_127: &[u8] = b"\
     \x01\nb|AutoCrlf|\x01\r\nb%\
     \x01\nb\x7f|AutoCrlf|\x01\nb\x7f%";
 
-/// Whether the content becomes this, and is said to change if it does.
-fn becomes(alloc: Global, content: &[u8], ends: LineEnds, want: &[u8]) -> Result<bool, AllocError> {
+/// What becomes of the content, and a note if it isn't said to change as it does.
+fn converted(alloc: Global, content: &[u8], ends: LineEnds) -> Result<Vec<u8>, AllocError> {
     let text = to_tree_ends(alloc, content, ends)?;
-    Ok(text.as_slice() == want && changes_ends(content, ends) == (content != want))
+    let is_told = changes_ends(content, ends) == (content != text.as_slice());
+    noted(text, is_told, b"this change isn't told")
 }
 
-/// The content after so many times `a`.
-fn is_ended(alloc: Global, count: usize, row: &[u8]) -> Result<bool, Fail> {
-    let (content, rest) = cut(row, b'|');
-    let (ends, want) = cut(rest, b'|');
-    let content = filled(alloc, b"", b'a', count, content)?;
-    let want = filled(alloc, b"", b'a', count, want)?;
-    Ok(becomes(alloc, &content, ends_of(ends), &want)?)
+/// What becomes of the content behind so many times `a`, which stay.
+fn ended_behind(alloc: Global, count: usize, row: &[u8]) -> Result<Seen<'_>, Fail> {
+    let (content, rest) = cut(row, b'|')?;
+    let (ends, want) = cut(rest, b'|')?;
+    let front = filled(alloc, b"", b'a', count, b"")?;
+    let content = filled(alloc, &front, b'a', 0, content)?;
+    let text = converted(alloc, &content, ends_of(ends)?)?;
+    match text.strip_prefix(front.as_slice()) {
+        Some(end) => Ok((Vec::from_slice(alloc, end)?, want)),
+        None => Ok((text, want)),
+    }
 }
 
 struct Ended;
 
 impl Row for Ended {
-    fn is_so(alloc: Global, row: &[u8]) -> Result<bool, Fail> {
-        is_ended(alloc, 0, row)
+    fn seen(alloc: Global, row: &[u8]) -> Result<Seen<'_>, Fail> {
+        ended_behind(alloc, 0, row)
     }
 }
 
 struct EndedAfter127;
 
 impl Row for EndedAfter127 {
-    fn is_so(alloc: Global, row: &[u8]) -> Result<bool, Fail> {
-        is_ended(alloc, 127, row)
+    fn seen(alloc: Global, row: &[u8]) -> Result<Seen<'_>, Fail> {
+        ended_behind(alloc, 127, row)
     }
 }
 
@@ -169,13 +177,22 @@ const LENGTHS: &[u8] = b"\
 struct Long;
 
 impl Row for Long {
-    fn is_so(alloc: Global, row: &[u8]) -> Result<bool, Fail> {
-        let (first, second) = cut(row, b'|');
-        let first = number_of(first) as usize;
-        let second = number_of(second) as usize;
+    fn seen(alloc: Global, row: &[u8]) -> Result<Seen<'_>, Fail> {
+        let (first, second) = cut(row, b'|')?;
+        let first = number_of(first)? as usize;
+        let second = number_of(second)? as usize;
         let content = two_lines(alloc, first, b"\n", second)?;
         let want = two_lines(alloc, first, b"\r\n", second)?;
-        Ok(becomes(alloc, &content, LineEnds::ToCrlf, &want)?)
+        let text = converted(alloc, &content, LineEnds::ToCrlf)?;
+        let is_right = text.as_slice() == want.as_slice();
+        Ok((
+            if is_right {
+                Vec::from_slice(alloc, row)?
+            } else {
+                text
+            },
+            row,
+        ))
     }
 }
 

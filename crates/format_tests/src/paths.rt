@@ -1,4 +1,4 @@
-use crate::table::{Row, check, cut, filled, is_shown, number_of};
+use crate::table::{Row, Seen, check, cut, filled, number_of, push_all, shown, unknown};
 use byte_path::{
     ByteKind, Bytes, Items, PathFault, QuoteFault, check_path, from_first, len_to, quote_path,
     read_decimal, unmarked, unquote,
@@ -22,9 +22,9 @@ const PATHS: &[u8] = b"\
 struct Checked;
 
 impl Row for Checked {
-    fn is_so(alloc: Global, row: &[u8]) -> Result<bool, Fail> {
-        let (path, want) = cut(row, b'|');
-        is_shown(alloc, check_path(path), want)
+    fn seen(alloc: Global, row: &[u8]) -> Result<Seen<'_>, Fail> {
+        let (path, want) = cut(row, b'|')?;
+        Ok((shown(alloc, check_path(path))?, want))
     }
 }
 
@@ -58,10 +58,9 @@ const QUOTED: &[u8] = b"\
 struct Quoted;
 
 impl Row for Quoted {
-    fn is_so(alloc: Global, row: &[u8]) -> Result<bool, Fail> {
-        let (path, want) = cut(row, b'|');
-        let text = quote_path(alloc, path)?;
-        Ok(text.as_slice() == want)
+    fn seen(alloc: Global, row: &[u8]) -> Result<Seen<'_>, Fail> {
+        let (path, want) = cut(row, b'|')?;
+        Ok((quote_path(alloc, path)?, want))
     }
 }
 
@@ -89,11 +88,11 @@ const DECIMALS: &[u8] = b"\
 struct Decimal;
 
 impl Row for Decimal {
-    fn is_so(alloc: Global, row: &[u8]) -> Result<bool, Fail> {
-        let (text, rest) = cut(row, b'|');
-        let (most, want) = cut(rest, b'|');
-        let number = read_decimal(text, number_of(most));
-        is_shown(alloc, number, want)
+    fn seen(alloc: Global, row: &[u8]) -> Result<Seen<'_>, Fail> {
+        let (text, rest) = cut(row, b'|')?;
+        let (most, want) = cut(rest, b'|')?;
+        let number = read_decimal(text, number_of(most)?);
+        Ok((shown(alloc, number)?, want))
     }
 }
 
@@ -127,10 +126,10 @@ fn copies_keep_their_values(rt: HostRuntime) -> Result<(), Fail> {
 }
 
 /// What a text that begins with a double quote gives.
-fn read_quoted(alloc: Global, text: &[u8]) -> Result<(Bytes, usize), QuoteFault> {
+fn read_quoted(alloc: Global, text: &[u8]) -> Result<Result<(Bytes, usize), QuoteFault>, Fail> {
     match text {
-        [b'"', ..] => unquote(alloc, text),
-        _ => Err(QuoteFault::NoMemory),
+        [b'"', ..] => Ok(unquote(alloc, text)),
+        _ => Err(unknown(text)),
     }
 }
 
@@ -145,11 +144,12 @@ const READ: &[u8] = b"\
 struct Whole;
 
 impl Row for Whole {
-    fn is_so(alloc: Global, row: &[u8]) -> Result<bool, Fail> {
-        let (text, rest) = cut(row, b'|');
-        let (want, len) = cut(rest, b'|');
-        let (bytes, read) = read_quoted(alloc, text)?;
-        Ok(bytes.as_slice() == want && is_shown(alloc, read, len)?)
+    fn seen(alloc: Global, row: &[u8]) -> Result<Seen<'_>, Fail> {
+        let (text, want) = cut(row, b'|')?;
+        let (bytes, len) = read_quoted(alloc, text)??;
+        let len = shown(alloc, len)?;
+        let came = [bytes.as_slice(), b"|", &len].concat(alloc)?;
+        Ok((came, want))
     }
 }
 
@@ -172,10 +172,10 @@ const FAULTS: &[u8] = b"\
 struct Fault;
 
 impl Row for Fault {
-    fn is_so(alloc: Global, row: &[u8]) -> Result<bool, Fail> {
-        let (text, want) = cut(row, b'|');
-        let fault = read_quoted(alloc, text).err();
-        is_shown(alloc, fault, want)
+    fn seen(alloc: Global, row: &[u8]) -> Result<Seen<'_>, Fail> {
+        let (text, want) = cut(row, b'|')?;
+        let fault = read_quoted(alloc, text)?.err();
+        Ok((shown(alloc, fault)?, want))
     }
 }
 
@@ -209,12 +209,11 @@ const CUT: &[u8] = b"\
 struct Cutting;
 
 impl Row for Cutting {
-    fn is_so(alloc: Global, row: &[u8]) -> Result<bool, Fail> {
-        let (text, rest) = cut(row, b'|');
-        let (len, rest) = cut(rest, b'|');
-        let behind = from_first::<Blank>(text);
-        let is_cut = is_shown(alloc, len_to::<Blank>(text), len)?;
-        Ok(is_cut && behind == rest)
+    fn seen(alloc: Global, row: &[u8]) -> Result<Seen<'_>, Fail> {
+        let (text, want) = cut(row, b'|')?;
+        let len = shown(alloc, len_to::<Blank>(text))?;
+        let came = [len.as_slice(), b"|", from_first::<Blank>(text)].concat(alloc)?;
+        Ok((came, want))
     }
 }
 
@@ -235,9 +234,9 @@ const MARKED: &[u8] = b"\
 struct Marking;
 
 impl Row for Marking {
-    fn is_so(alloc: Global, row: &[u8]) -> Result<bool, Fail> {
-        let (text, want) = cut(row, b'|');
-        Ok(unmarked(text) == want)
+    fn seen(alloc: Global, row: &[u8]) -> Result<Seen<'_>, Fail> {
+        let (text, want) = cut(row, b'|')?;
+        Ok((Vec::from_slice(alloc, unmarked(text))?, want))
     }
 }
 

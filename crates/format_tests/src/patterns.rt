@@ -1,4 +1,4 @@
-use crate::table::{Row, check, cut};
+use crate::table::{Row, Seen, check, cut, noted, shown};
 use std::alloc::Global;
 use std::test::Fail;
 use wild_match::{Compiled, matches};
@@ -110,16 +110,17 @@ const KINDS: &[u8] = b"\
 struct Matched;
 
 impl Row for Matched {
-    fn is_so(alloc: Global, row: &[u8]) -> Result<bool, Fail> {
-        let (pattern, rest) = cut(row, b'|');
-        let (path, want) = cut(rest, b'|');
-        let want = want == b"true".as_slice();
-        if matches(pattern, path) != want {
-            return Ok(false);
-        }
-        // a compiled pattern answers alike
+    fn seen(alloc: Global, row: &[u8]) -> Result<Seen<'_>, Fail> {
+        let (pattern, rest) = cut(row, b'|')?;
+        let (path, want) = cut(rest, b'|')?;
+        let does = matches(pattern, path);
         let compiled = Compiled::of(alloc, pattern)?;
-        Ok(compiled.matches(path) == want)
+        let is_same = compiled.matches(path) == does;
+        let came = shown(alloc, does)?;
+        Ok((
+            noted(came, is_same, b"compiled it answers otherwise")?,
+            want,
+        ))
     }
 }
 

@@ -1,4 +1,4 @@
-use crate::table::{Row, check, cut, is_shown, push_all};
+use crate::table::{Row, Seen, check, cut, push_all, shown};
 use eol_convert::{AutoCrlf, EolSetting};
 use git_config::read_config;
 use settings_view::{Driver, SettingFault, Settings, settings};
@@ -45,10 +45,10 @@ const TRUTHS: &[u8] = b"\
 struct Truth;
 
 impl Row for Truth {
-    fn is_so(alloc: Global, row: &[u8]) -> Result<bool, Fail> {
-        let (text, want) = cut(row, b'|');
+    fn seen(alloc: Global, row: &[u8]) -> Result<Seen<'_>, Fail> {
+        let (text, want) = cut(row, b'|')?;
         let crlf = crlf_read(alloc, text);
-        is_shown(alloc, crlf, want)
+        Ok((shown(alloc, crlf)?, want))
     }
 }
 
@@ -75,10 +75,10 @@ const LINE_ENDS: &[u8] = b"\
 struct Ends;
 
 impl Row for Ends {
-    fn is_so(alloc: Global, row: &[u8]) -> Result<bool, Fail> {
-        let (text, want) = cut(row, b'|');
+    fn seen(alloc: Global, row: &[u8]) -> Result<Seen<'_>, Fail> {
+        let (text, want) = cut(row, b'|')?;
         let eol = eol_read(alloc, text);
-        is_shown(alloc, eol, want)
+        Ok((shown(alloc, eol)?, want))
     }
 }
 
@@ -126,10 +126,10 @@ const THRESHOLDS: &[u8] = b"\
 struct Number;
 
 impl Row for Number {
-    fn is_so(alloc: Global, row: &[u8]) -> Result<bool, Fail> {
-        let (value, want) = cut(row, b'|');
+    fn seen(alloc: Global, row: &[u8]) -> Result<Seen<'_>, Fail> {
+        let (value, want) = cut(row, b'|')?;
         let number = of_value(alloc, value);
-        is_shown(alloc, number, want)
+        Ok((shown(alloc, number)?, want))
     }
 }
 
@@ -169,10 +169,10 @@ const WORKERS: &[u8] = b"\
 struct Count;
 
 impl Row for Count {
-    fn is_so(alloc: Global, row: &[u8]) -> Result<bool, Fail> {
-        let (text, want) = cut(row, b'|');
+    fn seen(alloc: Global, row: &[u8]) -> Result<Seen<'_>, Fail> {
+        let (text, want) = cut(row, b'|')?;
         let workers = workers_read(alloc, text);
-        is_shown(alloc, workers, want)
+        Ok((shown(alloc, workers)?, want))
     }
 }
 
@@ -195,10 +195,10 @@ const FAULTS: &[u8] = b"\
 struct BadKey;
 
 impl Row for BadKey {
-    fn is_so(alloc: Global, row: &[u8]) -> Result<bool, Fail> {
-        let (text, want) = cut(row, b'|');
+    fn seen(alloc: Global, row: &[u8]) -> Result<Seen<'_>, Fail> {
+        let (text, want) = cut(row, b'|')?;
         let fault = read(alloc, text).err();
-        is_shown(alloc, fault, want)
+        Ok((shown(alloc, fault)?, want))
     }
 }
 
@@ -250,10 +250,9 @@ const DRIVERS: &[u8] = b"\
 struct Named;
 
 impl Row for Named {
-    fn is_so(alloc: Global, row: &[u8]) -> Result<bool, Fail> {
-        let (text, want) = cut(row, b'|');
-        let list = drivers_listed(alloc, text)?;
-        Ok(list.as_slice() == want)
+    fn seen(alloc: Global, row: &[u8]) -> Result<Seen<'_>, Fail> {
+        let (text, want) = cut(row, b'|')?;
+        Ok((drivers_listed(alloc, text)?, want))
     }
 }
 

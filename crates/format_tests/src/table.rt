@@ -19,59 +19,84 @@ pub fn parted(text: &[u8], byte: u8) -> Option<(&[u8], &[u8])> {
     None
 }
 
-/// The same. Where there is none, the whole text stands before it.
-pub fn cut(text: &[u8], byte: u8) -> (&[u8], &[u8]) {
+/// The same. A text without such a byte is an error.
+pub fn cut(text: &[u8], byte: u8) -> Result<(&[u8], &[u8]), Fail> {
     match parted(text, byte) {
-        Some(parts) => parts,
-        None => (text, b""),
+        Some(parts) => Ok(parts),
+        None => Err(unknown(text)),
     }
 }
 
-/// What the cells of a row say.
-pub trait Row {
-    /// Whether it is so.
-    fn is_so(alloc: Global, row: &[u8]) -> Result<bool, Fail>;
+/// The error of a cell that no table knows.
+pub fn unknown(cell: &[u8]) -> Fail {
+    Fail::new(format_args!("no table knows the cell `{}`", cell.escape_ascii()))
 }
 
-/// Each row of the table is so.
+/// What comes, and what should come.
+pub type Seen<'a> = (Vec<u8>, &'a [u8]);
+
+/// What the cells of a row say.
+pub trait Row {
+    /// What comes of some of the cells, and what should come, as the others say.
+    fn seen(alloc: Global, row: &[u8]) -> Result<Seen<'_>, Fail>;
+}
+
+/// What comes of the row is what should come. This is the one place that shows a row.
+pub fn is_right(rt: &impl Abort, row: &[u8], came: &[u8], want: &[u8]) {
+    assert!(rt;
+        came == want,
+        "{} gives {}",
+        row.escape_ascii(),
+        came.escape_ascii()
+    );
+}
+
+/// Of each row of the table comes what should come.
 pub fn check<R: Row, H: Abort>(rt: &H, alloc: Global, table: &[u8]) -> Result<(), Fail> {
     let mut rest = table;
     for _ in 0..table.len() {
         if rest.is_empty() {
             break;
         }
-        let (row, more) = cut(rest, b'%');
-        assert!(rt; R::is_so(alloc, row)?, "{row:?}");
+        let (row, more) = parted(rest, b'%').unwrap_or((rest, b""));
+        let (came, want) = R::seen(alloc, row)?;
+        is_right(rt, row, &came, want);
         rest = more;
     }
     Ok(())
 }
 
-/// Whether the value is shown so.
-pub fn is_shown<T: Debug + Drop>(alloc: Global, value: T, shown: &[u8]) -> Result<bool, Fail> {
+/// How the value is shown.
+pub fn shown<T: Debug + Drop>(alloc: Global, value: T) -> Result<Vec<u8>, AllocError> {
     let text = format!(in alloc; "{value:?}")?;
-    Ok(text.as_bytes() == shown)
+    Vec::from_slice(alloc, text.as_bytes())
+}
+
+/// What comes, with a note behind it if something beside it isn't so.
+pub fn noted(mut came: Vec<u8>, is_so: bool, note: &[u8]) -> Result<Vec<u8>, AllocError> {
+    if !is_so {
+        push_all(&mut came, &[b" but ", note])?;
+    }
+    Ok(came)
 }
 
 /// The state of an attribute that a cell spells: `+`, `-`, `!`, or `=` and the value.
-pub fn state_of(alloc: Global, cell: &[u8]) -> Result<AttrState, AllocError> {
-    Ok(match cell {
-        [b'+'] => AttrState::Set,
-        [b'-'] => AttrState::Unset,
-        [b'=', value @ ..] => AttrState::Value(Bytes::copy_of(alloc, value)?),
-        _ => AttrState::Unspecified,
-    })
+pub fn state_of(alloc: Global, cell: &[u8]) -> Result<AttrState, Fail> {
+    match cell {
+        [b'+'] => Ok(AttrState::Set),
+        [b'-'] => Ok(AttrState::Unset),
+        [b'!'] => Ok(AttrState::Unspecified),
+        [b'=', value @ ..] => Ok(AttrState::Value(Bytes::copy_of(alloc, value)?)),
+        _ => Err(unknown(cell)),
+    }
 }
 
 /// The number that these digits spell.
-pub fn number_of(digits: &[u8]) -> u64 {
-    let mut number = 0u64;
-    for digit in digits {
-        number = number
-            .wrapping_mul(10)
-            .wrapping_add(u64::from(digit.wrapping_sub(b'0')));
+pub fn number_of(digits: &[u8]) -> Result<u64, Fail> {
+    match str::from_utf8(digits)?.parse::<u64>() {
+        Ok(number) => Ok(number),
+        Err(_) => Err(unknown(digits)),
     }
-    number
 }
 
 /// Appends each of the texts.

@@ -1,4 +1,4 @@
-use crate::table::{Row, check, is_shown, parted};
+use crate::table::{Row, Seen, check, cut, parted, shown};
 use checkout_words::{Command, WordFault, read_words};
 use std::alloc::{AllocError, Global};
 use std::test::Fail;
@@ -32,27 +32,22 @@ fn read(alloc: Global, words: &[String]) -> Result<Option<Command>, Fail> {
     }
 }
 
-/// Words, and the command that they give.
+/// Commands, and words that give them.
 const READ: &str = "\
-    R|T|checkout|Checkout { workers: None }%\
-    --|--help|checkout|--workers=16|Checkout { workers: Some(16) }%\
-    ||checkout|--workers|1|Checkout { workers: Some(1) }%\
-    R|T|plan|Plan%\
-    R|T|rehearse|0|8|Rehearse { seed: 0, paths: 8 }%\
-    R|T|rehearse|18446744073709551615|99999|Rehearse { seed: 18446744073709551615, paths: 99999 }%";
+    Some(Checkout { workers: None })|R|T|checkout%\
+    Some(Checkout { workers: Some(16) })|--|--help|checkout|--workers=16%\
+    Some(Checkout { workers: Some(1) })|||checkout|--workers|1%\
+    Some(Plan)|R|T|plan%\
+    Some(Rehearse { seed: 0, paths: 8 })|R|T|rehearse|0|8%\
+    Some(Rehearse { seed: 18446744073709551615, paths: 99999 })|R|T|rehearse|18446744073709551615|99999%";
 
 struct Given;
 
 impl Row for Given {
-    fn is_so(alloc: Global, row: &[u8]) -> Result<bool, Fail> {
-        let cells = words_of(alloc, row)?;
-        let [words @ .., want] = cells.as_slice() else {
-            return Ok(false);
-        };
-        let Some(command) = read(alloc, words)? else {
-            return Ok(false);
-        };
-        is_shown(alloc, command, want.as_bytes())
+    fn seen(alloc: Global, row: &[u8]) -> Result<Seen<'_>, Fail> {
+        let (want, words) = cut(row, b'|')?;
+        let words = words_of(alloc, words)?;
+        Ok((shown(alloc, read(alloc, &words)?)?, want))
     }
 }
 
@@ -113,9 +108,9 @@ const USAGE: &str = "\
 struct Other;
 
 impl Row for Other {
-    fn is_so(alloc: Global, row: &[u8]) -> Result<bool, Fail> {
+    fn seen(alloc: Global, row: &[u8]) -> Result<Seen<'_>, Fail> {
         let words = words_of(alloc, row)?;
-        Ok(read(alloc, &words)?.is_none())
+        Ok((shown(alloc, read(alloc, &words)?)?, b"None"))
     }
 }
 

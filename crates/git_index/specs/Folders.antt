@@ -1,15 +1,11 @@
 -- The paths of stage 0 that the last one begins with, as a stack, the longest last.
 use Rattle.std.specs.Prelude.{◌≡◌, ℕ, ◌-◌, Bool, true, false, ◌&&◌, not, nat_eq, nat_lt, List, [], ◌∷◌, ◌++◌}
-use Rattle.std.specs.Prelude.{length, map, slice_get, slice_index, MatchOption, Option, Some, None, ◌==◌}
+use Rattle.std.specs.Prelude.{length, map, slice_get, slice_index, MatchOption, ◌==◌}
 use Rattle.std.specs.List.{list_all, list_any, starts_with}
 use Rattle.git_index.specs.declared.entry.Entry.{Entry}
 use Rattle.git_index.specs.Spelling.{pairwise, is_before, is_below, is_in_folder, is_folder_of}
+use Rattle.git_index.specs.Reading.{path_or_none}
 use Rattle.byte_path.specs.Characters.{slash}
-
--- the path of an entry, where there is one
-abbrev pub path_or_none : Option Entry → List ℕ
-path_or_none (Some e) = e.path
-path_or_none None = []
 
 abbrev pub path_at : List Entry → ℕ → List ℕ
 path_at es number = path_or_none (slice_get es number)

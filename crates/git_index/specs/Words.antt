@@ -10,6 +10,8 @@ kind_word kind.Extended = codes "extended"
 kind_word kind.Name = codes "name"
 kind_word kind.Padding = codes "padding"
 kind_word kind.MixedStage = codes "mixed-stage"
+kind_word kind.ExtendedBits = codes "extended-bits"
+kind_word kind.Prefix = codes "prefix"
 
 abbrev pub fault_word : IndexFault → List ℕ
 fault_word index.TooLarge = codes "too-large"

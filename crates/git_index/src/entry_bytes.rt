@@ -1,133 +1,143 @@
 //! One entry and one extension, as their bytes are in the file.
 ghost use Rattle.std.specs.Prelude.{◌≡◌, ◌<◌, ◌≤◌, length, take, IfOk};
-ghost use Rattle.git_index.specs.Reading.{seen_by, sized_at, path_at, made_at, flagged_at, entry_at, extension_at};
-ghost use Rattle.git_index.specs.Seen.{read_of};
+ghost use Rattle.git_index.specs.Reading.{Gives, seen_by, more_at, made_at, headed_at, flagged_at, entry_at};
+ghost use Rattle.git_index.specs.Reading.{extension_at, extended_at};
+ghost use Rattle.git_index.specs.Seen.{head_of, found_of};
 
-use crate::entry::Mode;
+use crate::entry::Entry;
 use crate::fault::{EntryKind, IndexFault};
-use crate::field::{has_no_nul, is_zero, length_of, mode_of, name_of, number16_of, number32_of};
+use crate::field::{is_known, mode_of, name_of, number16_of, number32_of};
+use crate::path_part::{Before, joined_path, part_of};
 use crate::version::Version;
-use byte_path::check_path;
+use byte_path::{Bytes, check_path};
+use std::alloc::Global;
 
-/// What is known before an entry is read.
+/// The fixed part of an entry: its length, and the 16 more bits, of which none is set where they aren't there.
 #[derive(Clone, Copy)]
-pub struct Before<'a> {
-    pub version: Version,
-    /// The path of the entry before, or nothing before the first one. A later version writes a path as what it changes
-    /// in this one.
-    pub path: &'a [u8],
+pub struct Head {
+    pub length: usize,
+    pub more: u16,
 }
 
-/// An entry whose path still lies in the file, and the bytes after it.
-#[derive(Clone, Copy)]
-pub struct Spelled<'a> {
-    pub path: &'a [u8],
-    pub stage: u8,
-    pub mode: Mode,
-    pub name: [u8; 20],
+/// An entry, and the bytes after it.
+#[derive(Drop)]
+pub struct Found<'a> {
+    pub entry: Entry,
     pub rest: &'a [u8],
 }
 
-#[tactic(auto, unfolding(crate::specs::Reading::sized_at))]
-fn sized_of<'a>(
-    k: u32,
-    told: usize,
-    len: usize,
-    tail: &'a [u8],
-) -> Result<(&'a [u8], &'a [u8]), IndexFault>
-    ensures { seen_by (λ x. (x.0.now, x.1.now)) result ≡ sized_at k told len tail.now }
+#[tactic(auto, unfolding(crate::specs::Reading::extended_at))]
+fn extended_of(k: u32, bytes: &[u8]) -> Result<Head, IndexFault>
+    requires { 62 ≤ length bytes.now }
+    ensures value { seen_by head_of result ≡ extended_at k bytes.now }
+    ensures within { IfOk result (λ h. (h.length ≤ length bytes.now) × (h.length ≤ 64)) }
 {
-    if tail.len() < len {
+    if bytes.len() < 64 {
         return Err(IndexFault::Short);
     }
-    let (path, after) = tail.split_at(len);
-    let pad = 8 - (62 + len) % 8;
-    if after.len() < pad {
-        return Err(IndexFault::Short);
+    let more = number16_of(&bytes[62..64]);
+    if !is_known(more) {
+        return Err(IndexFault::Entry(k, EntryKind::ExtendedBits));
     }
-    let (padding, rest) = after.split_at(pad);
-    if len < told {
-        return Err(IndexFault::Entry(k, EntryKind::Name));
-    }
-    if !has_no_nul(path) {
-        return Err(IndexFault::Entry(k, EntryKind::Name));
-    }
-    if !is_zero(padding) {
-        return Err(IndexFault::Entry(k, EntryKind::Padding));
-    }
-    Ok((path, rest))
+    Ok(Head { length: 64, more })
 }
 
-/// The path at the front of an entry's tail. In version 2 it stands there whole, whatever the path before it is.
-#[tactic(auto, unfolding(crate::specs::Reading::path_at))]
-fn path_of<'a>(
-    before: &Before,
-    k: u32,
-    told: usize,
-    tail: &'a [u8],
-) -> Result<(&'a [u8], &'a [u8]), IndexFault>
-    ensures { seen_by (λ x. (x.0.now, x.1.now)) result ≡ path_at k told tail.now }
+/// The fixed part, by its flags. Version 2 has no more bits.
+#[tactic(auto, unfolding(crate::specs::Reading::more_at))]
+fn more_of(version: Version, k: u32, flags: u16, bytes: &[u8]) -> Result<Head, IndexFault>
+    requires { 62 ≤ length bytes.now }
+    ensures value { seen_by head_of result ≡ more_at version k flags bytes.now }
+    ensures within { IfOk result (λ h. (h.length ≤ length bytes.now) × (h.length ≤ 64)) }
 {
-    match (before.version, length_of(told, tail)) {
-        (Version::Two, Some(len)) => sized_of(k, told, len, tail),
-        (Version::Two, None) => Err(IndexFault::Short),
+    if flags % 0x8000 < 0x4000 {
+        return Ok(Head {
+            length: 62,
+            more: 0,
+        });
     }
+    if version == Version::Two {
+        return Err(IndexFault::Entry(k, EntryKind::Extended));
+    }
+    extended_of(k, bytes)
 }
 
 /// Mode and path of an entry, in this order; its flags are good.
 #[tactic(auto, unfolding(crate::specs::Reading::made_at))]
-fn made_of<'a>(
-    k: u32,
-    flags: u16,
-    bytes: &[u8],
-    path: &'a [u8],
-    rest: &'a [u8],
-) -> Result<Spelled<'a>, IndexFault>
+fn made_of(k: u32, flags: u16, more: u16, bytes: &[u8], path: Bytes) -> Result<Entry, IndexFault>
     requires { 62 ≤ length bytes.now }
-    ensures { seen_by read_of result ≡ made_at k flags bytes.now (path.now, rest.now) }
+    ensures { result ≡ made_at k flags more bytes.now path }
 {
     let Some(mode) = mode_of(number32_of(&bytes[24..28])) else {
         return Err(IndexFault::Mode(k));
     };
-    if let Err(fault) = check_path(path) {
+    if let Err(fault) = check_path(path.as_slice()) {
         return Err(IndexFault::Path(k, fault));
     }
-    Ok(Spelled {
+    Ok(Entry {
         path,
         stage: (flags / 0x1000 % 4) as u8,
         mode,
         name: name_of(bytes),
-        rest,
+        sparse: more / 0x4000 % 2 == 1,
+        intent: more / 0x2000 % 2 == 1,
+    })
+}
+
+/// The entry with this fixed part.
+#[tactic(auto, unfolding(crate::specs::Reading::headed_at))]
+fn headed_of<'a>(
+    alloc: Global,
+    before: &Before,
+    k: u32,
+    flags: u16,
+    head: Head,
+    bytes: &'a [u8],
+) -> Result<Found<'a>, IndexFault>
+    requires some { 62 ≤ length bytes.now }
+    requires within { (head.length ≤ length bytes.now) × (head.length ≤ 64) }
+    ensures { Gives found_of result
+        (headed_at before.now.version k before.now.path.now flags (head_of head) bytes.now) }
+{
+    let (_, tail) = bytes.split_at(head.length);
+    let part = part_of(before, k, head.length, (flags % 0x1000) as usize, tail)?;
+    let path = joined_path(alloc, before.path, &part)?;
+    let entry = made_of(k, flags, head.more, bytes, path)?;
+    Ok(Found {
+        entry,
+        rest: part.rest,
     })
 }
 
 #[tactic(auto, unfolding(crate::specs::Reading::flagged_at))]
 fn flagged_of<'a>(
+    alloc: Global,
     before: &Before,
     k: u32,
     flags: u16,
     bytes: &'a [u8],
-) -> Result<Spelled<'a>, IndexFault>
+) -> Result<Found<'a>, IndexFault>
     requires { 62 ≤ length bytes.now }
-    ensures { seen_by read_of result ≡ flagged_at k flags bytes.now }
+    ensures { Gives found_of result
+        (flagged_at before.now.version k before.now.path.now flags bytes.now) }
 {
-    if flags % 0x8000 >= 0x4000 {
-        return Err(IndexFault::Entry(k, EntryKind::Extended));
-    }
-    let (_, tail) = bytes.split_at(62);
-    let (path, rest) = path_of(before, k, (flags % 0x1000) as usize, tail)?;
-    made_of(k, flags, bytes, path, rest)
+    let head = more_of(before.version, k, flags, bytes)?;
+    headed_of(alloc, before, k, flags, head, bytes)
 }
 
 /// The entry of this number at the front of the bytes.
 #[tactic(auto, unfolding(crate::specs::Reading::entry_at))]
-pub fn entry_of<'a>(before: &Before, k: u32, bytes: &'a [u8]) -> Result<Spelled<'a>, IndexFault>
-    ensures { seen_by read_of result ≡ entry_at k bytes.now }
+pub fn entry_of<'a>(
+    alloc: Global,
+    before: &Before,
+    k: u32,
+    bytes: &'a [u8],
+) -> Result<Found<'a>, IndexFault>
+    ensures { Gives found_of result (entry_at before.now.version k before.now.path.now bytes.now) }
 {
     if bytes.len() < 62 {
         return Err(IndexFault::Short);
     }
-    flagged_of(before, k, number16_of(&bytes[60..62]), bytes)
+    flagged_of(alloc, before, k, number16_of(&bytes[60..62]), bytes)
 }
 
 fn signature_of(bytes: &[u8]) -> [u8; 4]

@@ -3,7 +3,7 @@ ghost use Rattle.std.specs.Prelude.{◌≡◌, ◌≤◌, length, take, drop, po
 ghost use Rattle.std.specs.List.{list_all};
 ghost use Rattle.std.specs.Int.{w16, w32, from_be_bytes};
 ghost use Rattle.git_index.specs.Spelling.{is_nul, is_not_nul};
-ghost use Rattle.git_index.specs.Reading.{length_at, mode_at};
+ghost use Rattle.git_index.specs.Reading.{length_at, mode_at, is_known};
 
 use crate::entry::Mode;
 
@@ -19,7 +19,8 @@ pub fn has_no_nul(bytes: &[u8]) -> bool
     bytes.iter().all(|b| *b != 0)
 }
 
-fn first_nul(bytes: &[u8]) -> Option<usize>
+/// Where the first NUL stands.
+pub fn first_nul(bytes: &[u8]) -> Option<usize>
     ensures { result ≡ position is_nul bytes.now }
 {
     bytes.iter().position(|b| *b == 0)
@@ -47,6 +48,13 @@ pub fn number32_of(four: &[u8]) -> u32
     ensures { result ≡ from_be_bytes w32 four.now }
 {
     u32::from_be_bytes([four[0], four[1], four[2], four[3]])
+}
+
+/// Whether of 16 more bits only those are set that mean something here.
+pub fn is_known(more: u16) -> bool
+    ensures { result ≡ is_known more }
+{
+    more < 0x8000 && more % 0x2000 == 0
 }
 
 /// The object name of an entry.

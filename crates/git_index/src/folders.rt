@@ -1,11 +1,9 @@
 //! The paths of stage 0 that a later path may lie in.
 ghost use Rattle.std.specs.Prelude.{◌≡◌, ◌++◌, ◌∷◌, [], true, IfOk, OnOk};
 ghost use Rattle.git_index.specs.Spelling.{is_in_folder};
-ghost use Rattle.git_index.specs.Seen.{entry_of_spelled};
 ghost use Rattle.git_index.specs.Folders.{path_at, paths, are_numbers, Closes, Opens};
 
 use crate::entry::Entry;
-use crate::entry_bytes::Spelled;
 use std::alloc::AllocError;
 
 fn is_in_folder(folder: &[u8], path: &[u8]) -> bool
@@ -46,17 +44,17 @@ fn close_before(entries: &[Entry], stack: &mut Vec<usize>, path: &[u8]) -> bool
 pub fn open_path(
     entries: &[Entry],
     stack: &mut Vec<usize>,
-    found: &Spelled,
+    found: &Entry,
 ) -> Result<bool, AllocError>
     requires { are_numbers entries.now stack.old.items ≡ true }
-    ensures opens { IfOk result (Opens (entry_of_spelled found.now) (paths entries.now stack.old.items)
-        (paths (entries.now ++ entry_of_spelled found.now ∷ []) stack.new.items)) }
-    ensures known { OnOk result (are_numbers (entries.now ++ entry_of_spelled found.now ∷ []) stack.new.items ≡ true) }
+    ensures opens { IfOk result (Opens found.now (paths entries.now stack.old.items)
+        (paths (entries.now ++ found.now ∷ []) stack.new.items)) }
+    ensures known { OnOk result (are_numbers (entries.now ++ found.now ∷ []) stack.new.items ≡ true) }
 {
     if found.stage != 0 {
         return Ok(false);
     }
-    if close_before(entries, stack, found.path) {
+    if close_before(entries, stack, found.path.as_slice()) {
         return Ok(true);
     }
     stack.push(entries.len())?;

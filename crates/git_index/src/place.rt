@@ -2,35 +2,31 @@
 ghost use Rattle.std.specs.Prelude.{◌≡◌, ◌++◌, ◌∷◌, [], true, length, IfOk, OnOk, IfErr};
 ghost use Rattle.git_index.specs.Spelling.{is_below, is_alone};
 ghost use Rattle.git_index.specs.Reading.{is_none_or, last_of, placed_at};
-ghost use Rattle.git_index.specs.Seen.{entry_of_spelled};
 ghost use Rattle.git_index.specs.Folders.{paths, are_numbers, AreOpen};
 
 use crate::entry::Entry;
-use crate::entry_bytes::Spelled;
 use crate::fault::{EntryKind, IndexFault};
 use crate::folders::open_path;
-use byte_path::Bytes;
-use std::alloc::{AllocError, Global};
 use std::cmp::Ordering;
 
-fn is_below(before: &Entry, found: &Spelled) -> bool
-    ensures { result ≡ is_below before.now (entry_of_spelled found.now) }
+fn is_below(before: &Entry, found: &Entry) -> bool
+    ensures { result ≡ is_below before.now found.now }
 {
-    match before.path.as_slice().cmp(&found.path) {
+    match before.path.as_slice().cmp(found.path.as_slice()) {
         Ordering::Less => true,
         Ordering::Equal => before.stage < found.stage,
         Ordering::Greater => false,
     }
 }
 
-fn is_alone(before: &Entry, found: &Spelled) -> bool
-    ensures { result ≡ is_alone before.now (entry_of_spelled found.now) }
+fn is_alone(before: &Entry, found: &Entry) -> bool
+    ensures { result ≡ is_alone before.now found.now }
 {
-    before.path.as_slice() != found.path || before.stage != 0
+    before.path.as_slice() != found.path.as_slice() || before.stage != 0
 }
 
-fn rises(earlier: &[Entry], found: &Spelled) -> bool
-    ensures { result ≡ is_none_or (λ b. is_below b (entry_of_spelled found.now)) (last_of earlier.now) }
+fn rises(earlier: &[Entry], found: &Entry) -> bool
+    ensures { result ≡ is_none_or (λ b. is_below b found.now) (last_of earlier.now) }
 {
     match earlier.last() {
         Some(before) => is_below(before, found),
@@ -38,8 +34,8 @@ fn rises(earlier: &[Entry], found: &Spelled) -> bool
     }
 }
 
-fn is_unmixed(earlier: &[Entry], found: &Spelled) -> bool
-    ensures { result ≡ is_none_or (λ b. is_alone b (entry_of_spelled found.now)) (last_of earlier.now) }
+fn is_unmixed(earlier: &[Entry], found: &Entry) -> bool
+    ensures { result ≡ is_none_or (λ b. is_alone b found.now) (last_of earlier.now) }
 {
     match earlier.last() {
         Some(before) => is_alone(before, found),
@@ -47,47 +43,34 @@ fn is_unmixed(earlier: &[Entry], found: &Spelled) -> bool
     }
 }
 
-fn copied(alloc: Global, found: &Spelled) -> Result<Entry, AllocError>
-    ensures { IfOk result (λ e. e ≡ entry_of_spelled found.now) }
-{
-    Ok(Entry {
-        path: Bytes::copy_of(alloc, found.path)?,
-        stage: found.stage,
-        mode: found.mode,
-        name: found.name,
-    })
-}
-
 /// Puts an entry after the earlier ones, of which there are k.
 #[tactic(auto, using(crate::proofs::Placed::placing))]
 pub fn place(
-    alloc: Global,
     k: u32,
-    found: &Spelled,
+    found: Entry,
     entries: &mut Vec<Entry>,
     stack: &mut Vec<usize>,
 ) -> Result<(), IndexFault>
     requires count { length entries.old.items ≡ k }
     requires known { AreOpen entries.old.items (paths entries.old.items stack.old.items) }
     requires numbers { are_numbers entries.old.items stack.old.items ≡ true }
-    ensures placed { OnOk result (placed_at entries.old.items (entry_of_spelled found.now)
-        ≡ Ok (entry_of_spelled found.now)) }
-    ensures grown { OnOk result (entries.new.items ≡ entries.old.items ++ entry_of_spelled found.now ∷ []) }
+    ensures placed { OnOk result (placed_at entries.old.items found ≡ Ok found) }
+    ensures grown { OnOk result (entries.new.items ≡ entries.old.items ++ found ∷ []) }
     ensures still { OnOk result (AreOpen entries.new.items (paths entries.new.items stack.new.items)) }
     ensures numbered { OnOk result (are_numbers entries.new.items stack.new.items ≡ true) }
     // Which fault it is.
     ensures refused { IfErr result (λ f. (f ≡ IndexFault.NoMemory → ⊥)
-        → placed_at entries.old.items (entry_of_spelled found.now) ≡ Err f) }
+        → placed_at entries.old.items found ≡ Err f) }
 {
-    if !rises(entries, found) {
+    if !rises(entries, &found) {
         return Err(IndexFault::Order(k));
     }
-    if !is_unmixed(entries, found) {
+    if !is_unmixed(entries, &found) {
         return Err(IndexFault::Entry(k, EntryKind::MixedStage));
     }
-    if open_path(entries, stack, found)? {
+    if open_path(entries, stack, &found)? {
         return Err(IndexFault::FolderClash(k));
     }
-    entries.push(copied(alloc, found)?)?;
+    entries.push(found)?;
     Ok(())
 }

@@ -1,9 +1,12 @@
 //! The bytes of an index.
 ghost use Rattle.std.specs.Prelude.{◌≡◌, ◌++◌, ◌<◌, ◌≤◌, length, IfOk, OnOk};
-ghost use Rattle.git_index.specs.Spelling.{IsIndex, AreEntries, mode_number, padding, flags, spelled, plain};
-ghost use Rattle.git_index.specs.Spelling.{plain_body, plain_text, header};
+ghost use Rattle.git_index.specs.Spelling.{IsIndexText, AreEntries, mode_number, padding, flags, more, more_flags};
+ghost use Rattle.git_index.specs.Spelling.{is_flagged, head_length, plain, plain_version, plain_spelled, plain_body};
+ghost use Rattle.git_index.specs.Spelling.{plain_text, header, bit};
+ghost use Rattle.std.specs.List.{list_any};
 
 use crate::entry::{Entry, Mode};
+use crate::version::Version;
 use sha1::Sha1;
 use std::alloc::{AllocError, Global};
 
@@ -22,12 +25,45 @@ fn flags_of(entry: &Entry) -> u16
     requires { entry.now.stage < 4 }
     ensures { result ≡ flags (plain entry.now) }
 {
-    entry.stage as u16 * 0x1000 + entry.path.as_slice().len().min(4095) as u16
+    let extended = if is_flagged(entry) { 0x4000 } else { 0 };
+    extended + entry.stage as u16 * 0x1000 + entry.path.as_slice().len().min(4095) as u16
+}
+
+/// Whether the entry needs the 16 more bits.
+fn is_flagged(entry: &Entry) -> bool
+    ensures { result ≡ is_flagged entry.now }
+{
+    entry.sparse || entry.intent
+}
+
+fn more_flags_of(entry: &Entry) -> u16
+    ensures { result ≡ more_flags entry.now }
+{
+    let sparse = if entry.sparse { 0x4000 } else { 0 };
+    let intent = if entry.intent { 0x2000 } else { 0 };
+    sparse + intent
+}
+
+/// The 16 more bits, where the entry needs them.
+fn push_more(text: &mut Vec<u8>, entry: &Entry) -> Result<(), AllocError>
+    ensures { OnOk result (text.new.items ≡ text.old.items ++ more (is_flagged entry.now) entry.now) }
+{
+    if is_flagged(entry) {
+        text.extend_from_slice(&more_flags_of(entry).to_be_bytes())?;
+    }
+    Ok(())
+}
+
+/// The length of the fixed part.
+fn head_length_of(entry: &Entry) -> usize
+    ensures { result ≡ head_length (is_flagged entry.now) }
+{
+    if is_flagged(entry) { 64 } else { 62 }
 }
 
 fn push_entry(text: &mut Vec<u8>, entry: &Entry) -> Result<(), AllocError>
     requires { entry.now.stage < 4 }
-    ensures { OnOk result (text.new.items ≡ text.old.items ++ spelled (plain entry.now)) }
+    ensures { OnOk result (text.new.items ≡ text.old.items ++ plain_spelled entry.now) }
 {
     let path = entry.path.as_slice();
     text.extend_from_slice(&[0; 24])?;
@@ -35,22 +71,42 @@ fn push_entry(text: &mut Vec<u8>, entry: &Entry) -> Result<(), AllocError>
     text.extend_from_slice(&[0; 12])?;
     text.extend_from_slice(&entry.name)?;
     text.extend_from_slice(&flags_of(entry).to_be_bytes())?;
+    push_more(text, entry)?;
     text.extend_from_slice(path)?;
-    text.extend_from_slice(&[0; 8][..8 - (62 + path.len()) % 8])?;
+    text.extend_from_slice(&[0; 8][..8 - (head_length_of(entry) + path.len()) % 8])?;
     Ok(())
 }
 
-/// The index of these entries (gitformat-index(5), version 2): all fields zero but the mode, no extension, and the
-/// hash.
+/// Whether an entry needs the 16 more bits.
+fn has_flagged(entries: &[Entry]) -> bool
+    ensures { result ≡ list_any is_flagged entries.now }
+{
+    entries.iter().any(|entry| is_flagged(entry))
+}
+
+/// The version that has the flags of all these entries.
+fn version_of(entries: &[Entry]) -> Version
+    ensures { result ≡ plain_version entries.now }
+{
+    if has_flagged(entries) {
+        Version::Three
+    } else {
+        Version::Two
+    }
+}
+
+/// The index of these entries (gitformat-index(5)): all fields zero but the mode and the flags, no extension, and the
+/// hash. It has version 3 exactly if an entry is sparse or intent, and version 2 if not.
 ///
 /// The entries have to be those of some index: in order, with paths that may be written, and with no clash.
 pub fn spell_index(alloc: Global, entries: &[Entry]) -> Result<Vec<u8>, AllocError>
     requires { AreEntries entries.now }
-    ensures index { IfOk result (λ text. IsIndex text.items entries.now) }
+    ensures index { IfOk result (λ text. IsIndexText text.items entries.now) }
     ensures value { IfOk result (λ text. text.items ≡ plain_text entries.now) }
 {
     let mut text = Vec::new(alloc);
-    text.extend_from_slice(b"DIRC\0\0\0\x02")?;
+    text.extend_from_slice(b"DIRC")?;
+    text.extend_from_slice(&version_of(entries).number().to_be_bytes())?;
     text.extend_from_slice(&(entries.len() as u32).to_be_bytes())?;
     for entry in entries {
         push_entry(&mut text, entry)?;

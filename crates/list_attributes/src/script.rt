@@ -109,6 +109,7 @@ impl Script {
         let folders = folders_of(alloc, self.drafts.as_slice())?;
         let files = AttrFiles {
             info,
+            base: read_attributes(alloc, b"", true)?,
             files: folders,
         };
         let stack = AttrStack::begin(alloc, files)?;

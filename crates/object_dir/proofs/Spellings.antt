@@ -85,13 +85,13 @@ spelled : (content : List ℕ) → spelled_blob content ≡ stored_as (decimal (
 unfolding stored_as
 spelled content = refl
 
-length-spelled : (content : List ℕ) → length content ≤ 67108864 → length (stored_as (decimal (length content)) content) ≤ max_stored
+length-spelled : (content : List ℕ) → length content ≤ 268435456 → length (stored_as (decimal (length content)) content) ≤ max_stored
 unfolding stored_as
 length-spelled content few =
-    let size : length (decimal (length content)) ≤ 8 = length-decimal-le 8 (length content) (omega arith) (omega arith) (omega arith) in
+    let size : length (decimal (length content)) ≤ 9 = length-decimal-le 9 (length content) (omega arith) (omega arith) (omega arith) in
     omega (arith, length-append (decimal (length content)) (0 ∷ content))
 
-pub object_of-spelled : OneDecimal → (content : List ℕ) → length content ≤ 67108864 → object_of (spelled_blob content) (sha1 (spelled_blob content)) ≡ Ok content
+pub object_of-spelled : OneDecimal → (content : List ℕ) → length content ≤ 268435456 → object_of (spelled_blob content) (sha1 (spelled_blob content)) ≡ Ok content
 object_of-spelled law content few =
     let small : length content < 2 ^ 64 = omega arith in
     let stored : List ℕ = stored_as (decimal (length content)) content in

@@ -16,9 +16,9 @@ use Rattle.object_dir.specs.declared.fault.ObjectFault.TheVariants.{ReadFailed, 
 use Rattle.object_dir.specs.declared.fault.ObjectFault.TheVariants.{WrongName, NoMemory}
 pub use Rattle.byte_path.specs.Characters.{is_nul}
 
--- the most stored bytes: `blob 67108864`, a NUL and 67,108,864 bytes
+-- the most stored bytes: `blob 268435456`, a NUL and 268,435,456 bytes
 abbrev pub max_stored : ℕ
-max_stored = 67108878
+max_stored = 268435471
 
 -- the text of the size and the content are on the two sides of the first NUL after `blob `
 abbrev pub size_text : List ℕ → List ℕ

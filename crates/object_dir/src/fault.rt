@@ -7,7 +7,7 @@ pub enum ObjectFault {
     ReadFailed,
     #[error("the object is absent")]
     Absent,
-    /// Its stored bytes are more than 67,108,878, the most that a content of 67,108,864 bytes takes.
+    /// Its stored bytes are more than 268,435,471, the most that a content of 268,435,456 bytes takes.
     #[error("the object is too large")]
     TooLarge,
     /// The stored bytes don't begin with `blob `, a decimal without a leading zero and a NUL. A compressed object has

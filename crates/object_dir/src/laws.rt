@@ -7,7 +7,7 @@ use byte_path::one_decimal;
 
 /// The law that the stored bytes of a content within the limit give that content under their name. It does nothing.
 pub fn spelling_gives_its_content(content: &[u8])
-    requires { length content.now ≤ 67108864 }
+    requires { length content.now ≤ 268435456 }
     ensures { let stored = spelled_blob content.now in
         object_of stored (sha1 stored) ≡ Ok content.now }
 {

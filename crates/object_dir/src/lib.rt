@@ -9,8 +9,10 @@ mod fault;
 mod laws;
 mod reading;
 mod spelling;
+mod taking;
 
 pub use fault::ObjectFault;
 pub use laws::{content_has_one_spelling, spelling_gives_its_content};
 pub use reading::read_blob;
 pub use spelling::{blob_name, object_path, spell_blob};
+pub use taking::{Taken, sha1_of_four, take_blob};

@@ -1,5 +1,5 @@
 -- The entries and the objects of files, one after another, and what a repository of them tells.
-use Rattle.std.proofs.Common.{◌≡◌, ℕ, ◌+◌, ◌<◌, List, [], ◌∷◌, ◌++◌, length, map, take, get_or, Some, None}
+use Rattle.std.proofs.Common.{◌≡◌, ℕ, ◌+◌, ◌<◌, List, [], ◌∷◌, ◌++◌, length, map, take, get_or, Some, None, false}
 use Rattle.std.proofs.Common.{refl, sym, ap, subst, ◌∙◌, add-one}
 use Rattle.std.proofs.Math.Seq.{take-suc}
 use Rattle.std.proofs.lemmas.List.{map-append}
@@ -20,13 +20,13 @@ use Rattle.rehearsal.specs.Stored.{IsStored, object_of, seen_object}
 
 -- one file more
 pub more_stored : (old new : Stored) (fs : List File) (path text hash : List ℕ) (v : Vec ℕ) → IsStored old fs
-    → new.entries.items ≡ old.entries.items ++ (record { path = path; stage = 0; mode = Plain; name = hash }) ∷ []
+    → new.entries.items ≡ old.entries.items ++ (record { path = path; stage = 0; mode = Plain; name = hash; sparse = false; intent = false }) ∷ []
     → new.objects.items ≡ old.objects.items ++ (hash, v) ∷ [] → hash ≡ sha1 (spelled_blob text)
     → v.items ≡ spelled_blob text → IsStored new (fs ++ (record { path = path; content = text }) ∷ [])
 more_stored old new fs path text hash v is entries objects named stored =
     let f : File = record { path = path; content = text } in
-    let entry : Entry = record { path = path; stage = 0; mode = Plain; name = hash } in
-    let one : entry ≡ entry_of f = ap (λ (n : List ℕ). record { path = path; stage = 0; mode = Plain; name = n }) named in
+    let entry : Entry = record { path = path; stage = 0; mode = Plain; name = hash; sparse = false; intent = false } in
+    let one : entry ≡ entry_of f = ap (λ (n : List ℕ). record { path = path; stage = 0; mode = Plain; name = n; sparse = false; intent = false }) named in
     let object : seen_object (hash, v) ≡ object_of f = λ i. (named i, stored i) in
     record {
       entries = entries ∙ ((λ i. is.entries i ++ one i ∷ []) ∙ sym (map-append entry_of fs (f ∷ [])));
@@ -58,12 +58,13 @@ found (o ∷ os) (f ∷ fs) e hash =
 pub tells : (index config_is : Vec ℕ) (objects : List (List ℕ × Vec ℕ)) (fails : List RepoFail) (fs : List File)
     → fails ≡ [] → index.items ≡ plain_text (map entry_of fs) → config_is.items ≡ config
     → map seen_object objects ≡ map object_of fs
-    → IsRepository fs (repo_told (Some index) (Some config_is) None objects fails)
+    → IsRepository fs (repo_told (Some index) (Some config_is) None None objects fails)
 tells index config_is objects fails fs none text settings stored =
-    subst (λ (l : List RepoFail). IsRepository fs (repo_told (Some index) (Some config_is) None objects l)) (sym none)
+    subst (λ (l : List RepoFail). IsRepository fs (repo_told (Some index) (Some config_is) None None objects l)) (sym none)
     record {
       index = ap Raw text;
       config = ap Raw settings;
       info = refl;
+      base = refl;
       object = found objects fs stored;
     }

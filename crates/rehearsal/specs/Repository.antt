@@ -1,5 +1,5 @@
 -- The repository of a rehearsal.
-use Rattle.std.specs.Prelude.{◌≡◌, ◌≤◌, ℕ, List, [], ◌∷◌, ◌++◌, map, codes, if◌then◌else◌, Ok}
+use Rattle.std.specs.Prelude.{◌≡◌, ◌≤◌, ℕ, List, [], ◌∷◌, ◌++◌, map, codes, if◌then◌else◌, Ok, false}
 use Rattle.std.specs.Str.{bytes_eq}
 use Rattle.sha1.specs.Sha1.{sha1}
 use Rattle.object_dir.specs.Object.{object_of}
@@ -37,7 +37,14 @@ abbrev pub files : ℕ → List ℕ → List File
 files seed is = record { path = codes ".gitattributes"; content = attributes } ∷ map (file seed) is
 
 abbrev pub entry_of : File → Entry
-entry_of f = record { path = f.path; stage = 0; mode = Plain; name = sha1 (spelled_blob f.content) }
+entry_of f = record {
+  path = f.path;
+  stage = 0;
+  mode = Plain;
+  name = sha1 (spelled_blob f.content);
+  sparse = false;
+  intent = false;
+}
 
 -- the entries of these files
 abbrev pub entries : List File → List Entry
@@ -54,6 +61,7 @@ pub record IsRepository (fs : List File) (told : RepoTold) : Type 0 where
   pub index : told.index ≡ Raw (plain_text (entries fs))
   pub config : told.config ≡ Raw config
   pub info : told.info ≡ Absent
+  pub base : told.base ≡ Absent
   pub object : (name : List ℕ) → told.object name ≡ object_told fs name
 
 -- The files of a rehearsal of up to 99,999 paths have an index: the text of their entries.

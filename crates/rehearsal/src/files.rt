@@ -40,6 +40,8 @@ fn store(alloc: Global, stored: &mut Stored, path: &[u8], content: &[u8]) -> Res
         stage: 0,
         mode: Mode::Plain,
         name,
+        sparse: false,
+        intent: false,
     })?;
     stored.objects.push((name, bytes))?;
     Ok(())

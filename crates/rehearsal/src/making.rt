@@ -10,6 +10,7 @@ use crate::files::{ATTRIBUTES, repository};
 use crate::order::path_order;
 use crate::scripts::scripts;
 use edge_kit::{MemoryRepo, MemorySpawner, Repo, Spawner};
+use git_index::entries_have_a_text;
 use object_dir::spelling_gives_its_content;
 use std::alloc::{AllocError, Global};
 
@@ -23,7 +24,9 @@ pub struct Rehearsed {
 /// The law that the files of a rehearsal have an index. It does nothing.
 pub fn files_have_an_index()
     ensures { FilesHaveAnIndex }
-{}
+{
+    entries_have_a_text();
+}
 
 /// The law that the object of a rehearsal's attribute file is there and right. It does nothing.
 pub fn attributes_are_right()

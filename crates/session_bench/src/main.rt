@@ -62,7 +62,10 @@ fn exchange(session: &mut Session<Driver>, content: &[u8], page: &mut Page) -> b
     if !page.is_fresh() {
         return false;
     }
-    matches!(session.ask(b"path", content, page).reply, Reply::Content)
+    matches!(
+        session.ask(b"path", &[7; 20], content, page).reply,
+        Reply::Content
+    )
 }
 
 /// Copies a content `count` times, and returns how many bytes the copies had.

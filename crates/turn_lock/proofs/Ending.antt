@@ -1,5 +1,5 @@
 -- The rule at the start and at the end.
-use Rattle.std.proofs.Common.{◌≡◌, ℕ, zero, suc, ◌<◌, List, [], ◌∷◌, Option, Some, refl, sym, ap, ◌∙◌, subst, arith}
+use Rattle.std.proofs.Common.{◌≡◌, ℕ, zero, suc, ◌<◌, List, [], ◌∷◌, Option, Some, refl, sym, ap, ◌∙◌, subst, inl, arith}
 use Rattle.std.specs.Prelude.{slice_index}
 use mathlib.Core.Logic.{dite}
 use mathlib.Core.Option.{some, some-ne-none, some-injective}
@@ -45,6 +45,7 @@ module _ {T E D : Type 0} (hist : T → List (ℕ × E)) (fits : T → D → Typ
       omega arith,
     );
     fresh = λ k le. refl;
+    held = λ k lt. (0, record { number = 0; place = Out; seen = []; mine = []; told = told; made = 1; olds = [] }, refl, inl (omega arith));
     gone = λ i j a b o ea eb h n. some-ne-none o (sym (subst (IsOld o) (sym (ap (λ (x : View E D). x.olds) (only_first i a ea).1)) h).1);
   }
 

@@ -18,7 +18,7 @@ use Rattle.turn_lock.specs.declared.view.Knows.TheVariants.{Seated}
 use Rattle.turn_lock.specs.History.{own, Begins, Follows}
 use Rattle.turn_lock.specs.Rule.{IsOld, Fits, InPlace, Live, entering, leaving, Ruled, Enters, tried_by, tried, passed}
 use Rattle.turn_lock.proofs.Histories.{begins_self, follows_begins, follows_own}
-use Rattle.turn_lock.proofs.Seating.{live_set, live_one, Was, was, live_here, live_else}
+use Rattle.turn_lock.proofs.Seating.{live_set, live_one, Was, was, live_here, live_else, held_on}
 
 out_when_free : {E : Type 0} (word : ℕ) (log : List (ℕ × E)) (p : Place E) → word ≡ 0 → InPlace word log p → p ≡ Out
 out_when_free word log Out e h = refl
@@ -91,6 +91,7 @@ module _ {T E D : Type 0} (hist : T → List (ℕ × E)) (fits : T → D → Typ
         makers = λ i j a b ea eb p q. let x = back i a ea in let y = back j b eb in r.makers i j x.before y.before x.live y.live (subst (λ (n : ℕ). 0 < n) (sym x.made) p) (subst (λ (n : ℕ). 0 < n) (sym y.made) q);
         giver = gives_on s r id v w at refl;
         fresh = r.fresh;
+        held = λ k lt. held_on s.views id v w at refl refl k (r.held k lt);
         gone = λ i j a b o ea eb h n. let x = back i a ea in let y = back j b eb in r.gone i j x.before y.before o x.live y.live (subst (IsOld o) (sym x.olds) h) (y.number ∙ n);
       }
 
@@ -175,6 +176,7 @@ module _ {T E D : Type 0} (hist : T → List (ℕ × E)) (fits : T → D → Typ
         makers = λ i j a b ea eb p q. let x = back i a ea in let y = back j b eb in r.makers i j x.before y.before x.live y.live (subst (λ (n : ℕ). 0 < n) (sym x.made) p) (subst (λ (n : ℕ). 0 < n) (sym y.made) q);
         giver = gives_on s r id v w at refl;
         fresh = λ k le. follows_own k v.number r.log (hist value) more (λ n. let b : v.number < r.given = fit.below in absurd (omega arith)) ∙ r.fresh k le;
+        held = λ k lt. held_on s.views id v w at refl refl k (r.held k lt);
         gone = λ i j a b o ea eb h n. let x = back i a ea in let y = back j b eb in r.gone i j x.before y.before o x.live y.live (subst (IsOld o) (sym x.olds) h) (y.number ∙ n);
       }
 

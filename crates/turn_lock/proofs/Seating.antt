@@ -1,12 +1,15 @@
 -- One view is replaced by another of the same seat.
 use Rattle.std.proofs.Common.{◌≡◌, ◌≢◌, ℕ, zero, suc, ◌<◌, ◌⊎◌, length, List, [], ◌∷◌, ◌++◌, set, refl, sym, ap, ◌∙◌, subst, inl, inr, ⊎_elim, arith}
+use mathlib.Core.Logic.{dite}
 use mathlib.Core.Option.{some, some-injective, some-ne-none}
+use native.Mathlib.Decide.{ℕ_discrete}
 use lib.ListN.{get_elem?}
 use Rattle.atomic_table.proofs.Lists.{at_set, set_here, set_else, at_longer}
 use Rattle.turn_lock.specs.declared.view.View.{View}
 use Rattle.turn_lock.specs.declared.view.Knows.{Knows}
 use Rattle.turn_lock.specs.declared.view.Knows.TheVariants.{Spent, Seated}
-use Rattle.turn_lock.specs.Rule.{Live}
+use Rattle.turn_lock.specs.declared.view.Old.{Old}
+use Rattle.turn_lock.specs.Rule.{IsOld, IsHeld, Live}
 
 module _ {E D : Type 0} where
   pub live_set : (views : List (Knows E D)) (id j : ℕ) (w u : View E D) → Live (set views id (Seated w)) j u → ((j ≡ id) × (w ≡ u)) ⊎ ((j ≢ id) × Live views j u)
@@ -73,3 +76,22 @@ module _ {E D : Type 0} where
 
   pub live_not_spent : (views : List (Knows E D)) (other j : ℕ) (u : View E D) → j ≢ other → Live views j u → Live (set views other Spent) j u
   live_not_spent views other j u apart e = set_else views other j Spent apart ∙ e
+
+  pub live_last : (l : List (Knows E D)) (u : View E D) → Live (l ++ Seated u ∷ []) (length l) u
+  live_last [] u = refl
+  live_last (x ∷ xs) u = live_last xs u
+
+  -- a number that is held still is where a seat's view keeps its number and what it took in
+  pub held_on : (views : List (Knows E D)) (id : ℕ) (v w : View E D) → Live views id v → v.number ≡ w.number → v.olds ≡ w.olds
+      → (k : ℕ) → IsHeld views k → IsHeld (set views id (Seated w)) k
+  held_on views id v w at n o k t = dite (ℕ_discrete t.0 id)
+      (λ here. let same = live_one views id v t.1 at (subst (λ (i : ℕ). Live views i t.1) here t.2) in (
+        id,
+        w,
+        live_here views id (Seated v) w at,
+        ⊎_elim
+            (λ (q : (t.1).number ≡ k). inl (sym n ∙ (ap (λ (x : View E D). x.number) same ∙ q)))
+            (λ (q : (a : Old E) × IsOld a (t.1).olds × (a.number ≡ k)). inr (q.0, subst (IsOld q.0) (sym (ap (λ (x : View E D). x.olds) same) ∙ o) q.1, q.2))
+            t.3,
+      ))
+      (λ else. (t.0, t.1, live_else views id t.0 w t.1 else t.2, t.3))

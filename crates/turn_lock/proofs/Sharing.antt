@@ -15,7 +15,7 @@ use Rattle.turn_lock.specs.declared.view.Knows.TheVariants.{Spent, Seated}
 use Rattle.turn_lock.specs.History.{own, Begins}
 use Rattle.turn_lock.specs.Rule.{IsOld, Fits, InPlace, Live, Ruled, risen, new_seat, old_of, with_other, gave, newcomer, joined}
 use Rattle.turn_lock.proofs.Histories.{own_none, longer_begins, longer_own, longer_left, longer_right}
-use Rattle.turn_lock.proofs.Seating.{live_set, live_one, live_here, live_else, live_end, live_more, live_spent, live_not_spent}
+use Rattle.turn_lock.proofs.Seating.{live_set, live_one, live_here, live_else, live_end, live_more, live_spent, live_not_spent, live_last, held_on}
 
 at_cases : {A : Type 0} (xs ys : List A) (i : ℕ) (a : A) → get_elem? (xs ++ ys) i ≡ some a → ((j : ℕ) × (get_elem? xs j ≡ some a)) ⊎ ((j : ℕ) × (get_elem? ys j ≡ some a))
 at_cases [] ys i a e = inr (i, e)
@@ -30,6 +30,15 @@ module _ {E : Type 0} where
   old_cases : (a : Old E) (xs ys : List (Old E)) (o : Old E) → IsOld o (a ∷ (xs ++ ys)) → (a ≡ o) ⊎ (IsOld o xs ⊎ IsOld o ys)
   old_cases a xs ys o (zero, e) = inl (some-injective a o e)
   old_cases a xs ys o (suc i, e) = inr (at_cases xs ys i o e)
+
+  old_left : (xs ys : List (Old E)) (o : Old E) → IsOld o xs → IsOld o (xs ++ ys)
+  old_left [] ys o h = absurd (old_none o h)
+  old_left (x ∷ xs) ys o (zero, e) = (zero, e)
+  old_left (x ∷ xs) ys o (suc i, e) = let h = old_left xs ys o (i, e) in (suc h.0, h.1)
+
+  old_right : (xs ys : List (Old E)) (o : Old E) → IsOld o ys → IsOld o (xs ++ ys)
+  old_right [] ys o h = h
+  old_right (x ∷ xs) ys o h = let t = old_right xs ys o h in (suc t.0, t.1)
 
 module _ {T E D : Type 0} (hist : T → List (ℕ × E)) (fits : T → D → Type 0) (told : D) where
   abbrev R : State (Option T) (Knows E D) → Type 0
@@ -129,6 +138,9 @@ module _ {T E D : Type 0} (hist : T → List (ℕ × E)) (fits : T → D → Typ
             (before i a ea);
         giver = (id, w, live_more vs (Seated u) w id (live_here s.views id (Seated v) w at), omega arith);
         fresh = λ k le. r.fresh k (omega arith);
+        held = λ k lt. dite (ℕ_discrete k r.given)
+            (λ here. (length vs, u, live_last vs u, inl (next ∙ sym here)))
+            (λ else. let t = held_on s.views id v w at refl refl k (r.held k (omega arith)) in (t.0, t.1, live_more vs (Seated u) t.1 t.0 t.2, t.3));
         gone = λ i j a b o ea eb h n. ⊎_elim
             (λ (p : (y : View E D) × Live s.views i y × (y.number ≡ a.number) × (y.olds ≡ a.olds) × (0 < a.made → 0 < y.made) × (y.place ≡ a.place)). let was = subst (IsOld o) (sym p.3) h in ⊎_elim
             (λ (q : (y : View E D) × Live s.views j y × (y.number ≡ b.number) × (y.olds ≡ b.olds) × (0 < b.made → 0 < y.made) × (y.place ≡ b.place)). r.gone i j p.0 q.0 o p.1 q.1 was (q.2 ∙ n))
@@ -221,6 +233,29 @@ module _ {T E D : Type 0} (hist : T → List (ℕ × E)) (fits : T → D → Typ
             (id, x, x_live, omega arith))
             (λ else'. (t.0, t.1, stays t.0 t.1 else' else t.2, t.3)));
         fresh = r.fresh;
+        held = λ k lt. let t = r.held k lt in dite (ℕ_discrete t.0 id)
+            (λ here.
+            let same = live_one s.views id v t.1 at (subst (λ (i : ℕ). Live s.views i t.1) here t.2) in (
+              id,
+              x,
+              x_live,
+              ⊎_elim
+                  (λ (q : (t.1).number ≡ k). inl (ap (λ (z : View E D). z.number) same ∙ q))
+                  (λ (q : (o : Old E) × IsOld o (t.1).olds × (o.number ≡ k)). inr (q.0, old_right (old_of w ∷ w.olds) v.olds q.0 (subst (IsOld q.0) (sym (ap (λ (z : View E D). z.olds) same)) q.1), q.2))
+                  t.3,
+            ))
+            (λ else. dite (ℕ_discrete t.0 other)
+            (λ here.
+            let same = live_one s.views other w t.1 w_at (subst (λ (i : ℕ). Live s.views i t.1) here t.2) in (
+              id,
+              x,
+              x_live,
+              ⊎_elim
+                  (λ (q : (t.1).number ≡ k). inr (old_of w, (0, refl), ap (λ (z : View E D). z.number) same ∙ q))
+                  (λ (q : (o : Old E) × IsOld o (t.1).olds × (o.number ≡ k)). inr (q.0, old_right (old_of w ∷ []) (w.olds ++ v.olds) q.0 (old_left w.olds v.olds q.0 (subst (IsOld q.0) (sym (ap (λ (z : View E D). z.olds) same)) q.1)), q.2))
+                  t.3,
+            ))
+            (λ else'. (t.0, t.1, stays t.0 t.1 else' else t.2, t.3)));
         gone = λ i j a b o ea eb c n. let h = look i a ea in let q = number j b eb in let same : (q.0).number ≡ o.number = q.2 ∙ n in ⊎_elim
             (λ (p : (i ≡ id) × (x ≡ a)). ⊎_elim
             (λ (t : old_of w ≡ o). q.4 (r.apart j other q.0 w q.1 w_at (same ∙ sym (ap (λ (z : Old E). z.number) t))))

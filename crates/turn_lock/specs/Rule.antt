@@ -1,5 +1,5 @@
 -- The rule of the lock, and what its steps tell.
-use Rattle.std.specs.Prelude.{◌≡◌, ◌≢◌, ◌==◌, ℕ, ◌+◌, ◌<◌, ◌≤◌, max, List, [], ◌∷◌, ◌++◌, length, slice_index}
+use Rattle.std.specs.Prelude.{◌≡◌, ◌≢◌, ◌==◌, ℕ, ◌+◌, ◌<◌, ◌≤◌, max, List, [], ◌∷◌, ◌++◌, ◌⊎◌, length, slice_index}
 use Rattle.std.specs.Prelude.{Option, Some, None, MatchBool}
 use mathlib.Core.Option.{some}
 use lib.ListN.{get_elem?}
@@ -34,6 +34,11 @@ module _ {E D : Type 0} where
 
   abbrev pub Live : List (Knows E D) → ℕ → View E D → Type 0
   Live views id v = get_elem? views id ≡ some (Seated v)
+
+  -- a seat that is left has this number, or took in one that had it
+  abbrev pub IsHeld : List (Knows E D) → ℕ → Type 0
+  IsHeld views k = (id : ℕ) × (v : View E D) × Live views id v
+      × ((v.number ≡ k) ⊎ ((o : Old E) × IsOld o v.olds × (o.number ≡ k)))
 
   -- the first view
   abbrev pub opened : D → Knows E D
@@ -108,6 +113,8 @@ module _ {T E D : Type 0} (hist : T → List (ℕ × E)) where
           → 0 < v.made → 0 < w.made → i ≡ j
       pub giver : (id : ℕ) × (v : View E D) × Live s.views id v × (0 < v.made)
       pub fresh : (k : ℕ) → given ≤ k → own k log ≡ []
+      -- the numbers below `given` are those that were given: a seat has each, or took in the one that had it
+      pub held : (k : ℕ) → k < given → IsHeld s.views k
       pub gone : (i j : ℕ) (v w : View E D) (o : Old E) → Live s.views i v → Live s.views j w
           → IsOld o v.olds → w.number ≢ o.number
 

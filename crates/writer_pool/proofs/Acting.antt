@@ -1,5 +1,6 @@
 -- What all actors did.
 use Rattle.std.proofs.Common.{◌≡◌, ℕ, zero, suc, ◌+◌, ◌<◌, List, [], ◌∷◌, ◌++◌, length, map, Bool, Option, Some, None, inl, inr, refl, sym, ap, ◌∙◌, subst, arith}
+use Rattle.edge_kit.specs.Seen.{LeafSeen}
 use Rattle.std.specs.Prelude.{slice_get, Result, Ok, Err, IfOk}
 use Rattle.atomic_table.specs.Seated.{TableId}
 use Rattle.turn_lock.specs.Seat.{SeatView, mine_of}
@@ -27,7 +28,7 @@ use Rattle.writer_pool.specs.declared.jobs.JobEnd.{JobEnd}
 use Rattle.writer_pool.specs.Dealing.{JobSeen, desk_of, head_of}
 use Rattle.writer_pool.specs.Jobs.{EndSeen, IsJob, AreJobs, LeavesStarter, IsThroughJob, AreThroughJobs, AreSeedJobs, AreActors, passes_in, with_starter, starters_in}
 use Rattle.writer_pool.specs.Pools.{IsSeed, AreSeeds, AreStartersBack}
-use Rattle.writer_pool.specs.Sealing.{SealsIn, SealsAt, leaf_at}
+use Rattle.writer_pool.specs.Sealing.{EndsIn, EndsAt, leaf_at}
 use Rattle.writer_pool.specs.Tying.{IsTiedIn, IsTiedAt}
 use Rattle.writer_pool.specs.Writing.{WritesCard}
 use Rattle.writer_pool.specs.Working.{AreTurns, IsShown, AreShown, Idled, blob_in, leaf_in, own_events}
@@ -225,8 +226,8 @@ module _ {S B L : Type 0} (starter : S → StarterSeen) (see : Sight B L) where
   pub record Tells (starts : List Start) (history : List Event) (leaves : List L) (q : ℕ) (mine : List Entry)
       : Type 0 where
     pub notes_are : notes starts q history ≡ noted (own_events mine)
-    pub seals : (p : ℕ) (told : Option (List ℕ)) → SealsAt see starts history (leaf_at starts leaves) q p told
-        → SealsIn mine p told
+    pub seals : (p : ℕ) (leaf : LeafSeen) → EndsAt see starts history (leaf_at starts leaves) q p leaf
+        → EndsIn mine p leaf
     pub tied : (w : WorkSeen) (required : Bool) → IsTiedIn (own_events mine) w
         → slice_get starts w.card.path ≡ Some (Desk q required) → IsTiedAt history w
 
@@ -277,8 +278,8 @@ module _ {S B L : Type 0} (starter : S → StarterSeen) (see : Sight B L) where
           cards = l.cards;
           read = l.read;
           talked = λ paths fit. talked_of q paths (asked_in l.works) (starter x.starter) (starter s)
-              (noted (own_events (mine_of t.pass))) (notes starts q history) (SealsIn (mine_of t.pass))
-              (SealsAt see starts history (leaf_at starts leaves) q) (sym own.notes_are) own.seals (l.talked paths fit);
+              (noted (own_events (mine_of t.pass))) (notes starts q history) (EndsIn (mine_of t.pass))
+              (EndsAt see starts history (leaf_at starts leaves) q) (sym own.notes_are) own.seals (l.talked paths fit);
           tied = λ i w at. own.tied w x.required (l.tied i w at)
               (seeds.0.desk w.card.path (contains_at (paths_of q starts) i w.card.path
               (seed_path starts q x seeds.0 l.works l.cards i w at)));

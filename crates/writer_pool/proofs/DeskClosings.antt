@@ -1,8 +1,7 @@
 -- What a desk's own list shows of the cards that it closed.
 use Rattle.std.proofs.Common.{◌≡◌, ◌==◌, ◌⊎◌, ℕ, zero, suc, ◌+◌, ◌-◌, Bool, true, false, cond, List, [], ◌∷◌, map, Option, Some, None, Result, refl, sym, ap, ◌∙◌, subst, arith}
 use Rattle.std.specs.Prelude.{slice_get}
-use Rattle.edge_kit.specs.declared.leaf_state.LeafState.TheVariants.{Sealed}
-use Rattle.edge_kit.specs.declared.leaf_state.Mark.{Mark}
+use Rattle.edge_kit.specs.Seen.{LeafSeen}
 use Rattle.convert_plan.specs.declared.card.Card.{Card}
 use Rattle.convert_plan.specs.Card.{CardSeen}
 use Rattle.checkout_core.specs.declared.event.Event.{Event}
@@ -26,7 +25,7 @@ use Rattle.checkout_book.specs.Passes.{close_entry}
 use Rattle.checkout_book.specs.Reserving.{AreDealt}
 use Rattle.driver_desk.specs.Desks.{DeskView, IsDealt, AreThrough}
 use Rattle.driver_desk.specs.Recorders.{Standing, ShowsClose, Shows, AreShown, events_in, fate_now}
-use Rattle.driver_desk.specs.Serving.{Given, Closed, IfSealed, AllSealed}
+use Rattle.driver_desk.specs.Serving.{Given, Closed, IfClosed, AllClosed}
 use Rattle.driver_desk.specs.Shown.{ShowsRead, ShowsUnread}
 use Rattle.driver_desk.specs.Ties.{FitsOwn, HasContent, FitsEnd, AllFit}
 use Rattle.driver_desk.specs.Works.{card_paths}
@@ -112,11 +111,11 @@ shows_at s given [] i g all at = absurd (cc (at))
 shows_at s given (x ∷ gs) zero g all at = subst (Shows s given) (some_is x g at) all.0
 shows_at s given (x ∷ gs) (suc i) g all at = shows_at s given gs i g all.1 at
 
-sealed_at : (P : ℕ → Option (List ℕ) → Type 0) (gs : List Given) (i : ℕ) (g : Given) → AllSealed P gs
-    → slice_get gs i ≡ Some g → IfSealed P g
-sealed_at P [] i g all at = absurd (cc (at))
-sealed_at P (x ∷ gs) zero g all at = subst (IfSealed P) (some_is x g at) all.0
-sealed_at P (x ∷ gs) (suc i) g all at = sealed_at P gs i g all.1 at
+closed_at : (P : ℕ → LeafSeen → Type 0) (gs : List Given) (i : ℕ) (g : Given) → AllClosed P gs
+    → slice_get gs i ≡ Some g → IfClosed P g
+closed_at P [] i g all at = absurd (cc (at))
+closed_at P (x ∷ gs) zero g all at = subst (IfClosed P) (some_is x g at) all.0
+closed_at P (x ∷ gs) (suc i) g all at = closed_at P gs i g all.1 at
 
 fits_at : (p : ℕ) (content : Result (List ℕ) Own) (gs : List Given) (i : ℕ) (g : Given) → AllFit p content gs
     → slice_get gs i ≡ Some g → FitsEnd p content g
@@ -260,22 +259,21 @@ module _ {B L : Type 0} (see : Sight B L) where
             (card_served d n required given p o own.0 dealt c shows);
       }
 
-  -- what holds of each leaf that the desk sealed
-  pub sealed_own : (d : Plan B L) (n : ℕ) (required : Bool) (desk : DeskView) (mine : List Entry)
+  -- what holds of the leaf of each card that the desk closed
+  pub closed_own : (d : Plan B L) (n : ℕ) (required : Bool) (desk : DeskView) (mine : List Entry)
       → AreDealt d.starts.items 0 d.desks.items → CloseOwn d.starts.items (n - d.workers) mine
-      → IsDealt (standing_at see (Some d) n required) desk → (P : ℕ → Option (List ℕ) → Type 0)
-      → AllSealed P (given_in (standing_at see (Some d) n required).cards mine)
-      → (i p a : ℕ) (o : Own) (x : Parts) (m : Mark) → slice_get mine i ≡ Some (close_entry p a o x)
-      → x.state ≡ Sealed m → P p x.content
-  sealed_own d n required desk mine dealt closes of P all i p a o x m at sealed =
+      → IsDealt (standing_at see (Some d) n required) desk → (P : ℕ → LeafSeen → Type 0)
+      → AllClosed P (given_in (standing_at see (Some d) n required).cards mine)
+      → (i p a : ℕ) (o : Own) (x : Parts) → slice_get mine i ≡ Some (close_entry p a o x) → P p (leaf_in x)
+  closed_own d n required desk mine dealt closes of P all i p a o x at =
       let q = n - d.workers in
       let s = standing_at see (Some d) n required in
       let e = close_entry p a o x in
       let c = card_closed d n required desk p of (own_at d.starts.items q mine i e closes at) in
-      let here = subst (IfSealed P) (given_closed d q required e p a o x dealt refl refl c)
-      (sealed_at P (given_in s.cards mine) i (given_by s.cards e.event e.parts) all
+      let here = subst (IfClosed P) (given_closed d q required e p a o x dealt refl refl c)
+      (closed_at P (given_in s.cards mine) i (given_by s.cards e.event e.parts) all
       (get_map (λ (z : Entry). given_by s.cards z.event z.parts) mine i e at)) in
-      subst (λ (z : ℕ). P z x.content) c.path (here m sealed)
+      subst (λ (z : ℕ). P z (leaf_in x)) c.path here
 
   -- each Close that the desk gave fits what its card's object gave
   pub closed_fits : (d : Plan B L) (n : ℕ) (required : Bool) (desk : DeskView) (mine : List Entry)

@@ -3,6 +3,7 @@ use Rattle.std.proofs.Common.{◌≡◌, ℕ, ◌-◌, Bool, true, cond, List, [
 use mathlib.Core.List.{map-append}
 use Rattle.atomic_table.specs.Seated.{TableId}
 use Rattle.turn_lock.specs.Seat.{SeatView, mine_of, number_of}
+use Rattle.edge_kit.specs.Seen.{LeafSeen}
 use Rattle.edge_kit.specs.Starters.{StarterSeen}
 use Rattle.checkout_core.specs.declared.event.Event.{Event}
 use Rattle.checkout_core.specs.declared.event.Event.TheVariants as event
@@ -19,15 +20,15 @@ use Rattle.driver_line.specs.Conversations.{notes_in}
 use Rattle.driver_line.specs.Lines.{Paths}
 use Rattle.driver_desk.specs.Desks.{DeskView, IsDealt}
 use Rattle.driver_desk.specs.Recorders.{Standing, events_in}
-use Rattle.driver_desk.specs.Serving.{Given, Noted, Closed, HandedBack, AllSealed, HasAnswer, noted_in, IsServed}
+use Rattle.driver_desk.specs.Serving.{Given, Noted, Closed, HandedBack, AllClosed, Holds, noted_in, IsServed}
 use Rattle.writer_pool.specs.OnBook.{IsDeskPass, given_in, place_of, standing_of, given_of}
 use Rattle.writer_pool.specs.Pools.{HasTalked}
-use Rattle.writer_pool.specs.Sealing.{SealsIn}
+use Rattle.writer_pool.specs.Sealing.{EndsIn}
 use Rattle.writer_pool.specs.Working.{AreTurns, Idled, own_events}
 use Rattle.writer_pool.proofs.Places.{get_map, get_within, get_behind, split}
 use Rattle.writer_pool.proofs.Acting.{turn_claim}
 use Rattle.writer_pool.proofs.Recordings.{standing_is, events_own}
-use Rattle.writer_pool.proofs.DeskClosings.{sealed_own}
+use Rattle.writer_pool.proofs.DeskClosings.{closed_own}
 use Rattle.writer_pool.proofs.DeskActing.{standing_same}
 
 abbrev AllNoted : List Event → Type 0
@@ -101,25 +102,25 @@ TranscriptIsTalk = (d : ℕ) (paths : List ℕ) (items : List result.Item) → r
     → (t : Talk) × (talk_run d (Between paths) (result.notes_of d items) ≡ Some t) × IsOver t
 
 module _ {B L : Type 0} (see : Sight B L) where
-  -- the leaves that the pass sealed without a claim are those that its desk sealed
+  -- the leaves that the pass closed without a claim are those that its desk closed
   desk_answered : (lock : TableId) (s0 s : SeatView Entry (Plan B L)) (more : List Entry) (required : Bool)
       (j : IsDeskPass lock s) (desk : DeskView)
       → place_of (record { pass = s; required = required }) ≡ place_of (record { pass = s0; required = required })
       → IsDealt (standing_of see (record { pass = s0; required = required })) desk → AreTurns (own_events more)
-      → (P : ℕ → Option (List ℕ) → Type 0)
-      → AllSealed P (given_of see (record { pass = s; required = required }))
-      → (p : ℕ) (told : Option (List ℕ)) → SealsIn (mine_of s ++ more) p told → P p told
-  desk_answered lock s0 s more required j desk place dealt turns P all p told z =
+      → (P : ℕ → LeafSeen → Type 0)
+      → AllClosed P (given_of see (record { pass = s; required = required }))
+      → (p : ℕ) (leaf : LeafSeen) → EndsIn (mine_of s ++ more) p leaf → P p leaf
+  desk_answered lock s0 s more required j desk place dealt turns P all p leaf z =
       let d = j.plan in
       let n = number_of s in
       let is = standing_is see lock s required j in
       let of = subst (λ (y : Standing). IsDealt y desk)
       (sym (standing_same see s0 s required place) ∙ is) dealt in
-      let given = subst (λ (y : Standing). AllSealed P (given_in y.cards (mine_of s))) is all in
+      let given = subst (λ (y : Standing). AllClosed P (given_in y.cards (mine_of s))) is all in
       let e = close_entry p z.actor z.own z.ended in
       split z.place (length (mine_of s))
-      (λ lt. subst (P p) z.content (sealed_own see d n required desk (mine_of s) j.dealt j.own of P given z.place p
-      z.actor z.own z.ended z.mark (sym (get_within (mine_of s) more z.place lt) ∙ z.here) z.sealed))
+      (λ lt. subst (P p) z.is (closed_own see d n required desk (mine_of s) j.dealt j.own of P given z.place p
+      z.actor z.own z.ended (sym (get_within (mine_of s) more z.place lt) ∙ z.here)))
       (λ le.
       let at = sym (get_behind (mine_of s) more z.place le) ∙ z.here in
       let t = turn_claim (mine_of s) more (z.place - length (mine_of s)) z.place p z.actor z.own turns
@@ -134,7 +135,7 @@ module _ {B L : Type 0} (see : Sight B L) where
       → (d : ℕ) (paths : Paths) (asked : List ℕ) (old new : StarterSeen)
       → IsServed d paths asked old new [] (given_of see (record { pass = s; required = required }))
       → Idled see lock j.plan (number_of s) j.made s t
-      → HasTalked d paths asked old new (noted (own_events (mine_of t))) (SealsIn (mine_of t))
+      → HasTalked d paths asked old new (noted (own_events (mine_of t))) (EndsIn (mine_of t))
   desk_talked law lock s0 s t required j desk place dealt d paths asked old new served idled =
       let w = idled.worked in
       let x = standing_of see (record { pass = s; required = required }) in
@@ -152,9 +153,11 @@ module _ {B L : Type 0} (see : Sight B L) where
       ∙ noted_quiet (own_events (mine_of s)) (own_events w.more) w.quiet) in
       record {
         items = served.items;
+        full = served.full;
         exchanges = served.exchanges;
         results = served.results;
         kept = served.kept;
+        fills = served.fills;
         starts = served.starts;
         links = served.links;
         stays = served.stays;
@@ -162,7 +165,7 @@ module _ {B L : Type 0} (see : Sight B L) where
         whole = served.whole;
         same = served.same;
         noted_is = after ∙ own;
-        answers = λ p told seals. desk_answered lock s0 s w.more required j desk place dealt w.turns
-            (HasAnswer served.exchanges) (subst (AllSealed (HasAnswer served.exchanges)) (sym served.told) served.answers)
-            p told (subst (λ (l : List Entry). SealsIn l p told) w.mine seals);
+        answers = λ p leaf ends. desk_answered lock s0 s w.more required j desk place dealt w.turns
+            (Holds served.exchanges) (subst (AllClosed (Holds served.exchanges)) (sym served.told) served.answers)
+            p leaf (subst (λ (l : List Entry). EndsIn l p leaf) w.mine ends);
       }

@@ -27,7 +27,7 @@ use Rattle.edge_kit.specs.Seen.{BlobSeen, LeafSeen}
 use Rattle.writer_pool.specs.Closing.{IsFromBook, EndsAtDesk, EndsCard, ClosesCard}
 use Rattle.writer_pool.specs.Writing.{WritesCard}
 use Rattle.writer_pool.specs.Ends.{IsThrough, IsRun, IsEndOf, AreEnds}
-use Rattle.writer_pool.specs.Sealing.{SealsAt, SealsOn, leaf_at, leaf_in_slot}
+use Rattle.writer_pool.specs.Sealing.{EndsAt, EndsOn, leaf_at, leaf_in_slot}
 use Rattle.writer_pool.proofs.Places.{some_is, same_or}
 use Rattle.writer_pool.proofs.Dealt.{IsFitting}
 use Rattle.writer_pool.proofs.Resting.{TakesPath, ClosesPath, ended_at}
@@ -326,39 +326,37 @@ module _ {B L : Type 0} (see : Sight B L) where
 
   plan_seals : MovesPaths → TellsVerdict → (s : Shelf B L) → IsThrough see (plan_of s) s
       → IsFitting s.starts.value.items (cards_of (plan_of s)) → length s.slots.items ≡ length s.starts.value.items
-      → (q p : ℕ) (told : Option (List ℕ))
-      → SealsAt see s.starts.value.items s.events.items
-      (leaf_at s.starts.value.items (map (λ (x : B × L). x.1) (parts_in s.slots.items))) q p told
-      → SealsOn see s q p told
-  plan_seals moves tells s t fits long q p told z = record {
+      → (q p : ℕ) (leaf : LeafSeen)
+      → EndsAt see s.starts.value.items s.events.items
+      (leaf_at s.starts.value.items (map (λ (x : B × L). x.1) (parts_in s.slots.items))) q p leaf
+      → EndsOn see s q p leaf
+  plan_seals moves tells s t fits long q p leaf z = record {
     place = z.place;
     actor = z.actor;
     own = z.own;
     required = z.required;
     leaf = z.leaf;
-    mark = z.mark;
     entry = z.entry;
     desk = z.desk;
     there = leaf_stays s.starts.value.items s.slots.items z.leaf long (λ i st x at there.
         kind_of s.starts.value.items s.events.items (cards_of (plan_of s)) i st x (fit_at moves tells s t fits i st x at there))
         p z.there;
-    sealed = z.sealed;
-    content = z.content;
+    is = z.is;
   }
 
-  -- a leaf that a desk sealed is that of its path's slot
+  -- the leaf of a card that a desk closed is that of its path's slot
   pub seals_there : MovesPaths → TellsVerdict → (d : Plan B L) (s : Shelf B L) → IsThrough see d s
       → IsFitting d.starts.items (cards_of d) → length s.slots.items ≡ length d.starts.items → (q p : ℕ)
-      (told : Option (List ℕ))
-      → SealsAt see d.starts.items s.events.items
-      (leaf_at d.starts.items (map (λ (x : B × L). x.1) (parts_in s.slots.items))) q p told
-      → SealsOn see s q p told
-  seals_there moves tells d s t fits long q p told z =
+      (leaf : LeafSeen)
+      → EndsAt see d.starts.items s.events.items
+      (leaf_at d.starts.items (map (λ (x : B × L). x.1) (parts_in s.slots.items))) q p leaf
+      → EndsOn see s q p leaf
+  seals_there moves tells d s t fits long q p leaf z =
       plan_seals moves tells s (record { quiet = t.quiet; plan = refl; none = t.none })
       (subst (λ (x : Plan B L). IsFitting x.starts.items (cards_of x)) (sym t.plan) fits)
-      (long ∙ ap (λ (x : Plan B L). length x.starts.items) (sym t.plan)) q p told
-      (subst (λ (x : Plan B L). SealsAt see x.starts.items s.events.items
-      (leaf_at x.starts.items (map (λ (x : B × L). x.1) (parts_in s.slots.items))) q p told) (sym t.plan) z)
+      (long ∙ ap (λ (x : Plan B L). length x.starts.items) (sym t.plan)) q p leaf
+      (subst (λ (x : Plan B L). EndsAt see x.starts.items s.events.items
+      (leaf_at x.starts.items (map (λ (x : B × L). x.1) (parts_in s.slots.items))) q p leaf) (sym t.plan) z)
 
   pub ends_are : MovesPaths → TellsVerdict → (d : Plan B L) (s : Shelf B L) → IsThrough see d s
       → IsFitting d.starts.items (cards_of d) → length s.slots.items ≡ length d.starts.items

@@ -7,7 +7,7 @@ use Rattle.checkout_core.specs.Desks.{paths_of}
 use Rattle.checkout_core.specs.States.{is_at}
 use Rattle.checkout_core.specs.Talks.{contains}
 use Rattle.driver_line.specs.Lines.{Paths}
-use Rattle.driver_desk.specs.Works.{WorkSeen, FitsContent, FitsWork, FitAll, asked_of, asked_in}
+use Rattle.driver_desk.specs.Works.{WorkSeen, FitsContent, FitsWork, FitAll, asked_of, asked_in, label_of}
 use Rattle.writer_pool.specs.Tying.{has_content, content_or_none, content_in}
 use Rattle.writer_pool.proofs.Places.{some_is, same_or, eqb_self, get_map_back}
 use Rattle.writer_pool.proofs.Dealt.{same_place}
@@ -198,11 +198,11 @@ module _ (d : ℕ) (starts : List Start) (works : List WorkSeen) (have : HavePat
       → slice_get (asked_in works) j ≡ Some q → p < q
   asked_in_order i j p q lt a b = asked_rises works (rising_by d starts works have) i j p q lt a b
 
-  pub works_fit : (text : ℕ → List ℕ)
-      → ((k : ℕ) (w : WorkSeen) → slice_get works k ≡ Some w → text w.card.path ≡ w.card.text)
-      → FitAll (record { text = text; content = content_in works }) works
-  works_fit text texts = fit_each (record { text = text; content = content_in works }) works (λ k w at. (
-    texts k w at,
-    fits_content (record { text = text; content = content_in works }) w.card.path w.content
+  pub works_fit : (text name : ℕ → List ℕ)
+      → ((k : ℕ) (w : WorkSeen) → slice_get works k ≡ Some w → label_of w.card ≡ (text w.card.path, name w.card.path))
+      → FitAll (record { text = text; name = name; content = content_in works }) works
+  works_fit text name labels = fit_each (record { text = text; name = name; content = content_in works }) works (λ k w at. (
+    sym (labels k w at),
+    fits_content (record { text = text; name = name; content = content_in works }) w.card.path w.content
         (content_found works (apart_by d starts works have) k w at),
   ))

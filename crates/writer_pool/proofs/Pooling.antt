@@ -1,5 +1,6 @@
 -- What a pool leaves, from the plan of its book to what the caller gave.
-use Rattle.std.proofs.Common.{◌≡◌, ℕ, zero, suc, ◌+◌, ◌<◌, List, [], ◌∷◌, length, Option, Some, sym, ap, ◌∙◌, subst, arith}
+use Rattle.std.proofs.Common.{◌≡◌, ℕ, zero, suc, ◌+◌, ◌<◌, List, [], ◌∷◌, length, Some, sym, ap, ◌∙◌, subst, arith}
+use Rattle.edge_kit.specs.Seen.{LeafSeen}
 use Rattle.std.specs.Prelude.{slice_get}
 use Rattle.atomic_table.specs.Seated.{TableId}
 use Rattle.turn_lock.specs.Seat.{SeatView, mine_of}
@@ -18,7 +19,7 @@ use Rattle.writer_pool.specs.declared.jobs.JobEnd.{JobEnd}
 use Rattle.writer_pool.specs.Dealing.{JobSeen}
 use Rattle.writer_pool.specs.Ends.{AreBack, IsRun, AreEnds}
 use Rattle.writer_pool.specs.Jobs.{EndSeen, AreThroughJobs, passes_in}
-use Rattle.writer_pool.specs.Sealing.{SealsIn, SealsAt, SealsOn, leaf_at}
+use Rattle.writer_pool.specs.Sealing.{EndsIn, EndsAt, EndsOn, leaf_at}
 use Rattle.writer_pool.specs.Working.{own_events}
 use Rattle.writer_pool.proofs.Places.{some_is}
 use Rattle.writer_pool.proofs.Acting.{passes_back, passes_length}
@@ -90,12 +91,12 @@ module _ {S B L : Type 0} (see : Sight B L) where
       (starts : List Start) (history : List Event) (leaves : List L) (s : Shelf B L) (w : ℕ) → ps ≡ passes_in ts
       → d.starts.items ≡ starts → d.workers ≡ w
       → ((q : ℕ) (x : SeatView Entry (Plan B L)) → slice_get ps (d.workers + q) ≡ Some x → (p : ℕ)
-      (told : Option (List ℕ)) → SealsOn see s q p told → SealsIn (mine_of x) p told)
-      → ((q p : ℕ) (told : Option (List ℕ))
-      → SealsAt see d.starts.items history (leaf_at d.starts.items leaves) q p told → SealsOn see s q p told)
-      → (i : ℕ) (u : EndSeen S B L) → slice_get ts (w + i) ≡ Some u → (p : ℕ) (told : Option (List ℕ))
-      → SealsAt see starts history (leaf_at starts leaves) i p told → SealsIn (mine_of u.pass) p told
-  pool_sealed d ts ps starts history leaves s w is starts_are workers_are each left i u at p told z =
+      (leaf : LeafSeen) → EndsOn see s q p leaf → EndsIn (mine_of x) p leaf)
+      → ((q p : ℕ) (leaf : LeafSeen)
+      → EndsAt see d.starts.items history (leaf_at d.starts.items leaves) q p leaf → EndsOn see s q p leaf)
+      → (i : ℕ) (u : EndSeen S B L) → slice_get ts (w + i) ≡ Some u → (p : ℕ) (leaf : LeafSeen)
+      → EndsAt see starts history (leaf_at starts leaves) i p leaf → EndsIn (mine_of u.pass) p leaf
+  pool_sealed d ts ps starts history leaves s w is starts_are workers_are each left i u at p leaf z =
       each i u.pass (ap (λ (l : List (SeatView Entry (Plan B L))). slice_get l (d.workers + i)) is
-      ∙ (ap (λ (n : ℕ). slice_get (passes_in ts) (n + i)) workers_are ∙ pass_at ts (w + i) u at)) p told
-      (left i p told (subst (λ (l : List Start). SealsAt see l history (leaf_at l leaves) i p told) (sym starts_are) z))
+      ∙ (ap (λ (n : ℕ). slice_get (passes_in ts) (n + i)) workers_are ∙ pass_at ts (w + i) u at)) p leaf
+      (left i p leaf (subst (λ (l : List Start). EndsAt see l history (leaf_at l leaves) i p leaf) (sym starts_are) z))

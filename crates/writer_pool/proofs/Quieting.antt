@@ -1,5 +1,6 @@
 -- A book after all its passes came back.
 use Rattle.std.proofs.Common.{◌≡◌, ◌==◌, ◌||◌, ℕ, zero, suc, ◌+◌, ◌<◌, ◌≤◌, inl, inr, ⊎_elim, Bool, true, false, cond, List, [], ◌∷◌, length, Option, Some, None, refl, sym, ap, ◌∙◌, subst, arith}
+use Rattle.edge_kit.specs.Seen.{LeafSeen}
 use Rattle.std.specs.Prelude.{slice_get}
 use Rattle.atomic_table.specs.Seated.{TableId}
 use Rattle.turn_lock.specs.History.{own}
@@ -29,7 +30,7 @@ use Rattle.writer_pool.specs.Closing.{IsFromBook, IsFromDesk, RefusedBacks, Serv
 use Rattle.writer_pool.specs.Writing.{WritesCard}
 use Rattle.writer_pool.specs.Working.{blob_in, leaf_in, own_events}
 use Rattle.writer_pool.specs.Ends.{ShowsEnd, AreBack, IsQuiet}
-use Rattle.writer_pool.specs.Sealing.{SealsIn, SealsOn, leaf_in_slot}
+use Rattle.writer_pool.specs.Sealing.{EndsIn, EndsOn, leaf_in_slot}
 use Rattle.writer_pool.proofs.Places.{some_is, same_number, eqb_self, there_or_past, get_map, get_map_back}
 use Rattle.writer_pool.proofs.Closings.{own_notes}
 use Rattle.writer_pool.proofs.Resting.{TakesPath, ClosesPath, ended_at}
@@ -344,12 +345,12 @@ module _ {B L : Type 0} (see : Sight B L) where
   slot_of (Some (Waits c)) l e = absurd (cc (e))
   slot_of (Some (Ended b k)) l e = (b, ap (λ (z : L). Some (Ended b z)) (some_is k l e))
 
-  -- a leaf that a desk sealed, by the history, is one of those that its own list tells of
+  -- the leaf of a card that a desk closed, by the history, is one of those that its own list tells of
   pub seals_own : (lock : TableId) (d : Plan B L) (made : ℕ) (ts : List (SeatView Entry (Plan B L))) (s : Shelf B L)
       → AreBack see lock d 0 made ts → IsFinished see d ts s → (q : ℕ) (t : SeatView Entry (Plan B L))
-      → slice_get ts (d.workers + q) ≡ Some t → (p : ℕ) (told : Option (List ℕ)) → SealsOn see s q p told
-      → SealsIn (mine_of t) p told
-  seals_own lock d made ts s back f q t at p told z =
+      → slice_get ts (d.workers + q) ≡ Some t → (p : ℕ) (leaf : LeafSeen) → EndsOn see s q p leaf
+      → EndsIn (mine_of t) p leaf
+  seals_own lock d made ts s back f q t at p leaf z =
       let c = own_close lock d made ts s back f z.place p z.actor z.own z.entry in
       let own_from = own_desk d s (mine_of c.0) z.place p z.actor q z.required z.own c.2
       (subst (λ (x : Plan B L). IsFromDesk x.starts.items s.events.items z.place p z.actor q z.required) f.plan
@@ -357,19 +358,17 @@ module _ {B L : Type 0} (see : Sight B L) where
       let seat = c.2.shown.desk q z.required own_from in
       let same : c.0 ≡ t = some_is c.0 t (sym c.1 ∙ (ap (slice_get ts) seat ∙ at)) in
       let slot = slot_of (slice_get s.slots.items p) z.leaf z.there in
-      subst (λ (x : SeatView Entry (Plan B L)). SealsIn (mine_of x) p told) same (record {
+      subst (λ (x : SeatView Entry (Plan B L)). EndsIn (mine_of x) p leaf) same (record {
         place = c.2.at.place;
         actor = z.actor;
         own = z.own;
         ended = tell see slot.0 z.leaf;
-        mark = z.mark;
         here = ap (λ (l : List Entry). slice_get l c.2.at.place) (sym c.2.is)
             ∙ (c.2.at.there
             ∙ ap (λ (o : Option (Slot B L)).
             Some (record { event = Close p z.actor z.own; parts = parts_at (tell see) o })) slot.1);
         unclaimed = own_from.unclaimed;
-        sealed = z.sealed;
-        content = z.content;
+        is = z.is;
       })
 
   -- the desks left each path of their drivers

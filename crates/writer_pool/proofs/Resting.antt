@@ -1,5 +1,6 @@
 -- What still waits is written and closed.
 use Rattle.std.proofs.Common.{◌≡◌, ◌==◌, ℕ, zero, suc, ◌<◌, ⊎_elim, Bool, true, false, cond, List, [], ◌∷◌, ◌++◌, length, Option, Some, None, refl, sym, ap, ◌∙◌, subst, append_assoc, arith}
+use Rattle.edge_kit.specs.Seen.{LeafSeen}
 use Rattle.std.specs.Prelude.{slice_get, slice_set, ◌||◌}
 use Rattle.convert_plan.specs.declared.card.Card.{Card}
 use Rattle.convert_plan.specs.Card.{CardSeen, IsCardOf}
@@ -28,7 +29,7 @@ use Rattle.checkout_book.specs.Turns.{Turned, Claimed}
 use Rattle.writer_pool.specs.Writing.{WritesCard}
 use Rattle.writer_pool.specs.Closing.{IsFromDesk, RefusedBacks, EndsCard}
 use Rattle.writer_pool.specs.Ends.{IsQuiet}
-use Rattle.writer_pool.specs.Sealing.{SealsOn, leaf_in_slot}
+use Rattle.writer_pool.specs.Sealing.{EndsOn, leaf_in_slot}
 use Rattle.writer_pool.proofs.Places.{some_is, get_set_same, get_set_other, get_more, get_front, get_last, place_is}
 use Rattle.writer_pool.proofs.Closings.{notes_quiet, desk_before, ends_longer, ends_claimed}
 use Rattle.writer_pool.proofs.CoreMoves.{moved_here, hands_moved, away_moved}
@@ -150,11 +151,11 @@ module _ {B L : Type 0} (see : Sight B L) where
       ends_claimed (plan_of s2).starts.items s2.events.items t.0 i p a x card (see.blob w.blob) (see.leaf w.leaf) t.1
       t.2 (subst (λ (y : Own). WritesCard card y (see.blob w.blob) (see.leaf w.leaf)) owns wrote)
 
-  -- a leaf that a desk sealed was sealed before
+  -- the leaf of a card that a desk closed was closed before
   pub rest_seals : (s0 s1 s2 : Shelf B L) (k w : Card B L) (o : Own) → IsQuiet see s0 → Claimed 0 s0 s1 k
       → Turned (Close w.path 0 o) w.path (Ended w.blob w.leaf) s1 s2 → IsCardOf (seen see k) (seen see w)
-      → (q p : ℕ) (told : Option (List ℕ)) → SealsOn see s2 q p told → SealsOn see s0 q p told
-  rest_seals s0 s1 s2 k w o quiet c turned kept q p told z = ⊎_elim
+      → (q p : ℕ) (leaf : LeafSeen) → EndsOn see s2 q p leaf → EndsOn see s0 q p leaf
+  rest_seals s0 s1 s2 k w o quiet c turned kept q p leaf z = ⊎_elim
       (λ (older : slice_get s1.events.items z.place ≡ Some (Close p z.actor z.own)). ⊎_elim
       (λ (oldest : slice_get s0.events.items z.place ≡ Some (Close p z.actor z.own)).
       let before = desk_before s2.starts.value.items s0.events.items (Claim k.path 0 ∷ Close w.path 0 o ∷ [])
@@ -165,14 +166,12 @@ module _ {B L : Type 0} (see : Sight B L) where
         own = z.own;
         required = z.required;
         leaf = z.leaf;
-        mark = z.mark;
         entry = oldest;
         desk = subst (λ (d : Plan B L). IsFromDesk d.starts.items s0.events.items z.place p z.actor q z.required)
             (turned.plan ∙ c.turned.plan) before;
         there = ap leaf_in_slot (sym (slot_stays s0 s1 s2 k w o p c turned (sym is)
             (close_same s0 s1 k quiet c z.place p z.actor z.own oldest))) ∙ z.there;
-        sealed = z.sealed;
-        content = z.content;
+        is = z.is;
       })
       (λ (claim : (Claim k.path 0 ≡ Close p z.actor z.own) × (z.place ≡ length s0.events.items)).
       absurd (let u = claim.0 in cc (u)))

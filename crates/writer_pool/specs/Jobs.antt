@@ -21,7 +21,7 @@ use Rattle.writer_pool.specs.Dealing.{JobSeen, desk_of, head_of}
 use Rattle.writer_pool.specs.Ends.{IsBack}
 use Rattle.writer_pool.specs.OnBook.{standing_at}
 use Rattle.writer_pool.specs.Pools.{HasTalked, seed_cards}
-use Rattle.writer_pool.specs.Sealing.{SealsIn}
+use Rattle.writer_pool.specs.Sealing.{EndsIn}
 use Rattle.writer_pool.specs.Tying.{AreTiedIn}
 use Rattle.writer_pool.specs.Working.{own_events}
 
@@ -50,15 +50,15 @@ module _ {B L : Type 0} (see : Sight B L) where
 
 module _ {S : Type 0} (starter : S → StarterSeen) where
   -- The starter of a desk that has served. Its sessions are a talk over the paths whose content was prepared, with just
-  -- the notes of the actor's own list, and with the content of each leaf that the desk sealed. Each path ended as what
-  -- its object gave says.
+  -- the notes of the actor's own list, and with what the leaf of each card holds that the desk closed. Each path ended
+  -- as what its object gave says.
   pub record HasServed (desk : DeskView) (back : S) (mine : List Entry) : Type 0 where
     pub works : List WorkSeen
     pub cards : desk.cards ≡ cards_in works
     pub read : AreRead works
     pub talked : (paths : Paths) → FitAll paths works
         → HasTalked desk.driver paths (asked_in works) desk.starter (starter back) (noted (own_events mine))
-        (SealsIn mine)
+        (EndsIn mine)
     pub tied : AreTiedIn (own_events mine) works
 
   -- a worker leaves no starter, and a desk its own

@@ -1,5 +1,5 @@
 -- What a pool is given, and what it leaves.
-use Rattle.std.specs.Prelude.{◌≡◌, ◌+◌, ◌<◌, ◌^◌, ℕ, suc, true, List, [], ◌∷◌, ◌++◌, map, length, Option, Some, slice_get}
+use Rattle.std.specs.Prelude.{◌≡◌, ◌+◌, ◌<◌, ◌^◌, ℕ, suc, true, List, [], ◌∷◌, ◌++◌, map, length, Some, slice_get}
 use Rattle.std.specs.Global.{Vec}
 use Rattle.convert_plan.specs.declared.card.Card.{Card}
 use Rattle.checkout_core.specs.declared.event.Event.{Event}
@@ -15,32 +15,36 @@ use Rattle.edge_kit.specs.Starters.{Had, StarterSeen}
 use Rattle.driver_line.specs.Conversations.{Exchange, notes_in}
 use Rattle.driver_line.specs.Lines.{Paths}
 use Rattle.driver_line.specs.Transcripts.{IsTalk}
-use Rattle.driver_line.specs.ToldStarts.{GoBy}
+use Rattle.driver_line.specs.ToldStarts.{Fills, GoBy}
 use Rattle.driver_line.specs.Starters.{IsSameStarter}
-use Rattle.driver_desk.specs.Serving.{HasAnswer}
+use Rattle.driver_desk.specs.Serving.{Holds}
+use Rattle.edge_kit.specs.Seen.{LeafSeen}
 use Rattle.driver_desk.specs.Works.{WorkSeen, AreRead, FitAll, asked_in, cards_in}
 use Rattle.checkout_book.specs.Sights.{Sight, seen}
 use Rattle.writer_pool.specs.declared.pooled.DeskSeed.{DeskSeed}
-use Rattle.writer_pool.specs.Sealing.{SealsAt, leaf_at}
+use Rattle.writer_pool.specs.Sealing.{EndsAt, leaf_at}
 use Rattle.writer_pool.specs.Tying.{AreTiedAt}
 
 -- The talk of a driver with these notes: what its starter keeps grew by a talk over the paths `asked`, which goes by
--- the starts that it tells, and as many of its links are out as before. It is the same starter. The results are a
--- whole talk, case by case. Each leaf that its desk sealed holds the content that the driver gave for the leaf's path.
+-- the starts that it tells. What its sessions sent and took, told or not, is one list of items for both. As many of
+-- its links are out as before. It is the same starter. The results are a whole talk, case by case. The leaf of each
+-- card that its desk closed holds what the driver gave for the leaf's path, if it holds anything.
 pub record HasTalked (d : ℕ) (paths : Paths) (asked : List ℕ) (old new : StarterSeen) (noted : List Event)
-    (seals : ℕ → Option (List ℕ) → Type 0) : Type 0 where
+    (ends : ℕ → LeafSeen → Type 0) : Type 0 where
   pub items : List Had
+  pub full : List Had
   pub exchanges : List Exchange
   pub results : List Item
   pub kept : new.had ≡ old.had ++ items
-  pub starts : GoBy old.ahead items new.ahead
+  pub fills : Fills items full
+  pub starts : GoBy old.ahead full new.ahead
   pub links : new.out ≡ old.out
   pub stays : IsSameStarter exchanges old new
-  pub talk : IsTalk d paths asked items exchanges
+  pub talk : IsTalk d paths asked full exchanges
   pub whole : result.IsTalk asked results
   pub same : result.notes_of d results ≡ notes_in d exchanges
   pub noted_is : noted ≡ notes_in d exchanges
-  pub answers : (p : ℕ) (told : Option (List ℕ)) → seals p told → HasAnswer exchanges p told
+  pub answers : (p : ℕ) (leaf : LeafSeen) → ends p leaf → Holds exchanges p leaf
 
 module _ {S B L : Type 0} (starter : S → StarterSeen) where
   -- The seed of the driver d. It has the cards of the driver's paths, in path order, and their texts rise. Each of
@@ -58,8 +62,8 @@ module _ {S B L : Type 0} (starter : S → StarterSeen) where
 
 module _ {S B L : Type 0} (starter : S → StarterSeen) (see : Sight B L) where
   -- The starter of the driver d is back with its sessions. They are a talk with the driver's notes in the history, over
-  -- the paths whose content was prepared. Each leaf that its desk sealed holds what the driver gave for its path. Each
-  -- path was closed as what its object gave says.
+  -- the paths whose content was prepared. The leaf of each card that its desk closed holds what the driver gave for its
+  -- path, if anything. Each path was closed as what its object gave says.
   pub record IsStarterBack (starts : List Start) (history : List Event) (leaves : List L) (d : ℕ)
       (seed : DeskSeed S B L) (back : S) : Type 0 where
     pub works : List WorkSeen
@@ -67,7 +71,7 @@ module _ {S B L : Type 0} (starter : S → StarterSeen) (see : Sight B L) where
     pub read : AreRead works
     pub talked : (paths : Paths) → FitAll paths works
         → HasTalked d paths (asked_in works) (starter seed.starter) (starter back) (notes starts d history)
-        (SealsAt see starts history (leaf_at starts leaves) d)
+        (EndsAt see starts history (leaf_at starts leaves) d)
     pub tied : AreTiedAt history works
 
   -- the starters of the drivers from d on, each with its seed

@@ -1,7 +1,6 @@
--- The leaves that desks sealed, in an own list and by the history.
+-- The leaves of the cards that desks closed, in an own list and by the history.
 use Rattle.std.specs.Prelude.{◌≡◌, ◌<◌, ℕ, zero, suc, Bool, List, [], ◌∷◌, Option, None, Some, slice_get}
-use Rattle.edge_kit.specs.declared.leaf_state.LeafState.TheVariants.{Sealed}
-use Rattle.edge_kit.specs.declared.leaf_state.Mark.{Mark}
+use Rattle.edge_kit.specs.Seen.{LeafSeen}
 use Rattle.checkout_core.specs.declared.event.Event.{Event}
 use Rattle.checkout_core.specs.declared.event.Event.TheVariants.{Claim, Close}
 use Rattle.checkout_core.specs.declared.path.Start.{Start}
@@ -15,36 +14,31 @@ use Rattle.checkout_book.specs.Shape.{Shelf}
 use Rattle.checkout_book.specs.Sights.{Sight}
 use Rattle.checkout_book.specs.Passes.{close_entry}
 use Rattle.writer_pool.specs.Closing.{IsFromDesk}
-use Rattle.writer_pool.specs.Working.{own_events}
+use Rattle.writer_pool.specs.Working.{leaf_in, own_events}
 
--- In its own list, an actor closed the path p, which it hadn't claimed, with a sealed leaf of this told content.
-pub record SealsIn (mine : List Entry) (p : ℕ) (told : Option (List ℕ)) : Type 0 where
+-- In its own list, an actor closed the path p, which it hadn't claimed, and its leaf ended so.
+pub record EndsIn (mine : List Entry) (p : ℕ) (leaf : LeafSeen) : Type 0 where
   pub place : ℕ
   pub actor : ℕ
   pub own : Own
   pub ended : Parts
-  pub mark : Mark
   pub here : slice_get mine place ≡ Some (close_entry p actor own ended)
   pub unclaimed : (j : ℕ) → j < place → slice_get (own_events mine) j ≡ Some (Claim p actor) → ⊥
-  pub sealed : ended.state ≡ Sealed mark
-  pub content : ended.content ≡ told
+  pub is : leaf_in ended ≡ leaf
 
 module _ {B L : Type 0} (see : Sight B L) where
-  -- By the history, the card of the path p never left the desk of the driver d. Its leaf is sealed, with this told
-  -- content.
-  pub record SealsAt (starts : List Start) (history : List Event) (leaf_of : ℕ → Option L) (d p : ℕ)
-      (told : Option (List ℕ)) : Type 0 where
+  -- By the history, the card of the path p never left the desk of the driver d, and its leaf ended so.
+  pub record EndsAt (starts : List Start) (history : List Event) (leaf_of : ℕ → Option L) (d p : ℕ)
+      (end : LeafSeen) : Type 0 where
     pub place : ℕ
     pub actor : ℕ
     pub own : Own
     pub required : Bool
     pub leaf : L
-    pub mark : Mark
     pub entry : slice_get history place ≡ Some (Close p actor own)
     pub desk : IsFromDesk starts history place p actor d required
     pub there : leaf_of p ≡ Some leaf
-    pub sealed : (see.leaf leaf).state ≡ Sealed mark
-    pub content : (see.leaf leaf).content ≡ told
+    pub is : see.leaf leaf ≡ end
 
 module _ {L : Type 0} where
   -- the leaf of the path p, of those of the paths that aren't closed from the start
@@ -71,6 +65,6 @@ module _ {B L : Type 0} where
   leaf_in_slot x = None
 
   -- the same by a shelf
-  abbrev pub SealsOn : Sight B L → Shelf B L → ℕ → ℕ → Option (List ℕ) → Type 0
-  SealsOn see s d p told = SealsAt see s.starts.value.items s.events.items
-      (λ q. leaf_in_slot (slice_get s.slots.items q)) d p told
+  abbrev pub EndsOn : Sight B L → Shelf B L → ℕ → ℕ → LeafSeen → Type 0
+  EndsOn see s d p leaf = EndsAt see s.starts.value.items s.events.items
+      (λ q. leaf_in_slot (slice_get s.slots.items q)) d p leaf

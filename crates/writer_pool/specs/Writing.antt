@@ -1,5 +1,5 @@
 -- What a card's own outcome shows of its blob and its leaf, where the actor that closes it had claimed it.
-use Rattle.std.specs.Prelude.{◌≡◌, ℕ, List, [], take, Option, Some, Result, Ok, Err}
+use Rattle.std.specs.Prelude.{◌≡◌, ℕ, List, [], Some, Result, Ok, Err}
 use Rattle.edge_kit.specs.Told.{Tells, MayFail}
 use Rattle.edge_kit.specs.Faults.{Rose}
 use Rattle.edge_kit.specs.Files.{grown}
@@ -13,11 +13,8 @@ use Rattle.checkout_core.specs.declared.verdict.Own.{Own}
 use Rattle.checkout_core.specs.declared.verdict.Own.TheVariants as own
 use Rattle.convert_plan.specs.Card.{CardSeen, IsPrepared}
 use Rattle.driver_desk.specs.Works.{IsUnread}
+use Rattle.driver_desk.specs.Serving.{TellsPart}
 use Rattle.driver_desk.specs.Shown.{IsGivenUp}
-
--- a first part of these bytes is what is told, if anything is
-abbrev pub TellsPart : Option (List ℕ) → List ℕ → Type 0
-TellsPart told bytes = (n : ℕ) × Tells told (take n bytes)
 
 -- the content was put and the leaf sealed, or a first part was put and the leaf failed, or memory ran out and nothing
 -- has changed

@@ -13,7 +13,7 @@ ghost use Rattle.checkout_book.specs.Sights.{sight};
 ghost use Rattle.writer_pool.specs.Ends.{IsBack};
 ghost use Rattle.writer_pool.specs.OnBook.{Recording, IsDeskPass, standing_of, given_of, place_of};
 ghost use Rattle.writer_pool.specs.Pools.{HasTalked};
-ghost use Rattle.writer_pool.specs.Sealing.{SealsIn};
+ghost use Rattle.writer_pool.specs.Sealing.{EndsIn};
 ghost use Rattle.writer_pool.specs.Tying.{AreTiedIn};
 ghost use Rattle.writer_pool.specs.Working.{own_events};
 
@@ -86,7 +86,7 @@ pub(crate) fn run_desk<S: Starter, B: Blob, L: Leaf, G: Gate, H: Wait>(
     ensures talked { (works : List WorkSeen) × (desk.cards ≡ cards_in works) × AreRead works
         × ((paths : Paths) → FitAll paths works
         → HasTalked desk.driver paths (asked_in works) desk.starter (S.seen result.served.starter)
-        (noted (own_events (mine_of result.pass))) (SealsIn (mine_of result.pass)))
+        (noted (own_events (mine_of result.pass))) (EndsIn (mine_of result.pass)))
         × AreTiedIn (own_events (mine_of result.pass)) works }
 {
     a_transcript_is_a_talk();

@@ -1,5 +1,5 @@
 //! What the actors of a checkout leave, after all of them came back.
-ghost use Rattle.std.specs.Prelude.{◌≡◌, ◌≤◌, ◌<◌, ◌+◌, ℕ, List, [], Option, Some, length, map, slice_get, vec_capacity};
+ghost use Rattle.std.specs.Prelude.{◌≡◌, ◌≤◌, ◌<◌, ◌+◌, ℕ, List, [], Some, length, map, slice_get, vec_capacity};
 ghost use Rattle.turn_lock.specs.Seat.{SeatView, mine_of};
 ghost use Rattle.checkout_core.specs.declared.path.Start.{Start};
 ghost use Rattle.checkout_core.specs.Actors.{own_entries};
@@ -14,7 +14,8 @@ ghost use Rattle.checkout_book.specs.Turns.{NoneWaits};
 ghost use Rattle.checkout_book.specs.Reserving.{ArePool, AreDealt};
 ghost use Rattle.writer_pool.specs.Ends.{AreBack, AreEnds, IsQuiet, IsRun, IsThrough};
 ghost use Rattle.writer_pool.specs.Rooms.{HasRoom};
-ghost use Rattle.writer_pool.specs.Sealing.{SealsIn, SealsAt, SealsOn, leaf_at};
+ghost use Rattle.edge_kit.specs.Seen.{LeafSeen};
+ghost use Rattle.writer_pool.specs.Sealing.{EndsIn, EndsAt, EndsOn, leaf_at};
 ghost use Rattle.writer_pool.specs.Working.{own_events};
 
 use crate::path_ends::PathEnds;
@@ -33,8 +34,8 @@ pub(crate) fn close_rest<B: Blob, L: Leaf>(alloc: Global, ended: &mut Ended<B, L
     ensures quiet { IsQuiet (sight B.told B.seen L.seen) ended.new.shelf }
     ensures plan { plan_of ended.new.shelf ≡ plan_of ended.old.shelf }
     ensures none { NoneWaits ended.new.shelf.core }
-    ensures seals { (q p : ℕ) (told : Option (List ℕ)) → SealsOn (sight B.told B.seen L.seen) ended.new.shelf q p told
-        → SealsOn (sight B.told B.seen L.seen) ended.old.shelf q p told }
+    ensures seals { (q p : ℕ) (leaf : LeafSeen) → EndsOn (sight B.told B.seen L.seen) ended.new.shelf q p leaf
+        → EndsOn (sight B.told B.seen L.seen) ended.old.shelf q p leaf }
     ensures notes { (starts : List Start) (d : ℕ) → notes starts d ended.new.shelf.events.items
         ≡ notes starts d ended.old.shelf.events.items }
     ensures own { (starts : List Start) (workers n : ℕ) → 0 < n
@@ -67,8 +68,8 @@ pub(crate) fn end_all<B: Blob, L: Leaf>(
     ensures seals { (d : Plan B L)
         → AreBack (sight B.told B.seen L.seen) book d 0 (length passes.items) passes.items
         → (q : ℕ) (s : SeatView Entry (Plan B L)) → slice_get passes.items (d.workers + q) ≡ Some s
-        → (p : ℕ) (told : Option (List ℕ)) → SealsOn (sight B.told B.seen L.seen) result.shelf q p told
-        → SealsIn (mine_of s) p told }
+        → (p : ℕ) (leaf : LeafSeen) → EndsOn (sight B.told B.seen L.seen) result.shelf q p leaf
+        → EndsIn (mine_of s) p leaf }
     ensures notes { (d : Plan B L)
         → AreBack (sight B.told B.seen L.seen) book d 0 (length passes.items) passes.items
         → (q : ℕ) (s : SeatView Entry (Plan B L)) → slice_get passes.items (d.workers + q) ≡ Some s
@@ -160,10 +161,10 @@ pub(crate) fn leave<B: Blob, L: Leaf>(
         result.blobs.items result.leaves.items }
     ensures seals { (d : Plan B L) → IsThrough (sight B.told B.seen L.seen) d ended.shelf
         → ArePool d.starts.items d.pool.items → AreDealt d.starts.items 0 d.desks.items
-        → (q p : ℕ) (told : Option (List ℕ))
-        → SealsAt (sight B.told B.seen L.seen) d.starts.items result.history.items
-        (leaf_at d.starts.items result.leaves.items) q p told
-        → SealsOn (sight B.told B.seen L.seen) ended.shelf q p told }
+        → (q p : ℕ) (leaf : LeafSeen)
+        → EndsAt (sight B.told B.seen L.seen) d.starts.items result.history.items
+        (leaf_at d.starts.items result.leaves.items) q p leaf
+        → EndsOn (sight B.told B.seen L.seen) ended.shelf q p leaf }
     ensures history { result.history.items ≡ ended.shelf.events.items }
 {
     laws::a_claim_takes_its_path();

@@ -5,7 +5,7 @@ ghost use Rattle.checkout_core.specs.declared.event.Event.{Event};
 ghost use Rattle.checkout_core.specs.declared.path.Start.{Start};
 ghost use Rattle.checkout_core.specs.Talks.{contains};
 ghost use Rattle.checkout_book.specs.Sights.{seen, sight};
-ghost use Rattle.driver_desk.specs.Works.{WorkSeen, FitAll, asked_in, cards_in};
+ghost use Rattle.driver_desk.specs.Works.{WorkSeen, FitAll, asked_in, cards_in, label_of};
 ghost use Rattle.writer_pool.specs.declared.pooled.DeskSeed.{DeskSeed};
 ghost use Rattle.writer_pool.specs.Ends.{AreEnds};
 ghost use Rattle.writer_pool.specs.Pools.{IsSeed};
@@ -43,7 +43,8 @@ pub fn works_fit_their_contents<S: Starter, B: Blob, L: Leaf>()
     ensures { (starts : List Start) (d : ℕ) (seed : DeskSeed S B L) (works : List WorkSeen)
         → IsSeed S.seen starts d seed
         → map (λ c. seen (sight B.told B.seen L.seen) c) seed.cards.items ≡ cards_in works
-        → (text : ℕ → List ℕ)
-        → ((k : ℕ) (w : WorkSeen) → slice_get works k ≡ Some w → text w.card.path ≡ w.card.text)
-        → FitAll (record { text = text; content = content_in works }) works }
+        → (text name : ℕ → List ℕ)
+        → ((k : ℕ) (w : WorkSeen) → slice_get works k ≡ Some w
+        → label_of w.card ≡ (text w.card.path, name w.card.path))
+        → FitAll (record { text = text; name = name; content = content_in works }) works }
 {}

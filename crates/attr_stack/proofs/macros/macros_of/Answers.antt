@@ -10,6 +10,9 @@ pub returns : goal.returns
 returns c =
     let built : AreMacros c.define.new.macros (binary ∷ []) =
     λ name. c.in_ok-define.ensures [] (nothing-defined c.new-macros.result c.new-macros.ensures.empty) name ∙ ap (λ (pairs : List Pair). cond (bytes_eq binary.name name) pairs []) c.in_ok-binary_pairs.ensures in
-    λ name. c.in_ok-define_rows.ensures (top_macros c.as_slice.result.now ++ binary ∷ []) (c.in_ok-define_top.ensures (binary ∷ []) built) name
-    ∙ ap (λ files. meaning (file_macros c.as_slice-2.result.now ++ (top_macros files ++ binary ∷ [])) name) c.as_slice.ensures
-    ∙ ap (λ rows. meaning (file_macros rows ++ (top_macros c.args.files.now.files ++ binary ∷ [])) name) c.as_slice-2.ensures
+    let base = file_macros c.as_slice.result.now ++ binary ∷ [] in
+    λ name. c.in_ok-define_rows-2.ensures (top_macros c.as_slice-2.result.now ++ base)
+    (c.in_ok-define_top.ensures base (c.in_ok-define_rows.ensures (binary ∷ []) built)) name
+    ∙ ap (λ rows. meaning (file_macros c.as_slice-3.result.now ++ (top_macros c.as_slice-2.result.now ++ (file_macros rows ++ binary ∷ []))) name) c.as_slice.ensures
+    ∙ ap (λ files. meaning (file_macros c.as_slice-3.result.now ++ (top_macros files ++ (file_macros c.args.files.now.base.rows ++ binary ∷ []))) name) c.as_slice-2.ensures
+    ∙ ap (λ rows. meaning (file_macros rows ++ (top_macros c.args.files.now.files ++ (file_macros c.args.files.now.base.rows ++ binary ∷ []))) name) c.as_slice-3.ensures

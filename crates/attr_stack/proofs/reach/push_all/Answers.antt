@@ -1,5 +1,5 @@
 use Rattle.std.proofs.Common.{◌++◌, sym, ◌∙◌, ap}
-use Rattle.attr_stack.specs.Pairs.{pairs_ending}
+use Rattle.attr_stack.specs.Pairs.{file_pairs, pairs_ending}
 use Rattle.attr_stack.specs.Seen.{from_end}
 use Rattle.attr_stack.proofs.Lists.{pairs_before-more}
 use Rattle.attr_stack.proofs.reach.push_all.Goals as goal
@@ -7,4 +7,5 @@ use Rattle.attr_stack.proofs.reach.push_all.Goals as goal
 pub loop-place-preserved : goal.loop-place-preserved
 loop-place-preserved c =
     c.in_ok-push_ending.ensures ∙ ap (λ pairs. pairs_ending c.as_slice-folders.result.now c.args.path.now c.loop-place.place ++ pairs) c.loop-place.invariant
-    ∙ sym (pairs_before-more c.as_slice-folders.result.now c.args.path.now c.loop-place.place (from_end c.args.pending.now.items))
+    ∙ sym (pairs_before-more c.as_slice-folders.result.now c.args.path.now c.loop-place.place
+    (file_pairs c.args.path.now c.args.files.now.base ++ from_end c.args.pending.now.items))

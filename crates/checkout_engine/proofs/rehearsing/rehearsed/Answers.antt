@@ -3,11 +3,11 @@ use Rattle.edge_kit.specs.MemoryDrivers.{starts_for}
 use Rattle.edge_kit.specs.Seen.{TreeSeen}
 use Rattle.edge_kit.specs.Told.{RepoTold}
 use Rattle.edge_kit.specs.declared.script.DriverScript.{DriverScript}
-use Rattle.checkout_core.specs.declared.verdict.Verdict.{Verdict}
+use Rattle.checkout_engine.specs.declared.rehearsing.TriedRun.{TriedRun}
 use Rattle.rehearsal.specs.Drivers.{scripts}
 use Rattle.rehearsal.specs.Paths.{in_order}
 use Rattle.rehearsal.specs.Repository.{files, IsRepository}
-use Rattle.checkout_engine.specs.Rehearsed.{IsTried, IsRehearsed}
+use Rattle.checkout_engine.specs.Rehearsed.{IsTriedWell, IsRehearsed}
 use Rattle.checkout_engine.proofs.Valid.{valid}
 use Rattle.checkout_engine.proofs.rehearsing.rehearsed.Goals as goal
 
@@ -15,13 +15,13 @@ pub checked_out-requires-clause-valid : goal.checked_out-requires-clause-valid
 checked_out-requires-clause-valid g c κs within =
     valid c.files_have_an_index.ensures c.attributes_are_right.ensures c.args.seed c.args.paths c.requires _ c.in_ok-made.ensures.repo
 
-as_made : (seed paths : ℕ) (told : RepoTold) (made : List DriverScript) (verdicts : List Verdict) (tree : TreeSeen)
+as_made : (seed paths : ℕ) (told : RepoTold) (made : List DriverScript) (run : TriedRun) (tree : TreeSeen)
     → IsRepository (files seed (in_order paths)) told → made ≡ scripts seed (in_order paths)
-    → IsTried told (starts_for made) verdicts tree → IsRehearsed seed paths verdicts tree
-as_made seed paths told made verdicts tree repo same tried = record {
+    → IsTriedWell told (starts_for made) run tree → IsRehearsed seed paths run tree
+as_made seed paths told made run tree repo same tried = record {
   told = told;
   made = repo;
-  tried = subst (λ (l : List DriverScript). IsTried told (starts_for l) verdicts tree) same tried;
+  well = subst (λ (l : List DriverScript). IsTriedWell told (starts_for l) run tree) same tried;
 }
 
 pub returns : goal.returns

@@ -31,5 +31,5 @@ check_out_paths-requires-clause-pace g c κs within = planned_pace _ c.in_ok-pla
 
 pub returns : goal.returns
 returns g c =
-    tried c.paths_are_ordered.ensures _ _ _ c.in_ok-planned.planned _ _ _ _ _ _ _ _ _ _ _ c.in_ok-planned.ensures.told c.requires.repo c.requires.tree c.requires.spawner
-    c.in_ok-planned.ensures.read c.as_slice-slice.ensures c.as_slice-drivers.ensures c.in_ok-done.ensures.ended c.in_ok-done.ensures.run
+    tried c.paths_are_ordered.ensures _ _ _ c.in_ok-planned.planned _ _ _ _ _ _ _ _ _ _ c.in_ok-planned.ensures.told c.requires.repo c.requires.tree c.requires.spawner
+    c.in_ok-planned.ensures.read c.as_slice-slice.ensures c.as_slice-drivers.ensures refl c.in_ok-done.ensures.workers c.in_ok-done.ensures.ended c.in_ok-done.ensures.run

@@ -9,3 +9,10 @@ returns-in-Err-clause-stops g c =
     stops_behind AttrFile Sources (g.R.Repo.told c.args.repo.now) (g.R.Repo.told c.read_settings.new.repo) (g.R.Repo.seen c.args.repo.now) (g.R.Repo.seen c.read_settings.new.repo)
     (g.R.Repo.seen c.read_info.new.repo) c.in-Err.stop (c.in_ok-settings.ensures.told ∙ c.in_ok-index.ensures.told)
     (c.in_ok-settings.ensures.stops ∙ c.in_ok-index.ensures.stops) c.in-Err.ensures.stops
+
+pub returns-in-Err-read_base-clause-stops : goal.returns-in-Err-read_base-clause-stops
+returns-in-Err-read_base-clause-stops g c =
+    stops_behind AttrFile Sources (g.R.Repo.told c.args.repo.now) (g.R.Repo.told c.read_info.new.repo) (g.R.Repo.seen c.args.repo.now) (g.R.Repo.seen c.read_info.new.repo)
+    (g.R.Repo.seen c.read_base.new.repo) c.in-Err-read_base.stop
+    (c.in-Ok.ensures.told ∙ c.in_ok-settings.ensures.told ∙ c.in_ok-index.ensures.told)
+    (c.in-Ok.ensures.stops ∙ c.in_ok-settings.ensures.stops ∙ c.in_ok-index.ensures.stops) c.in-Err-read_base.ensures.stops

@@ -7,6 +7,6 @@ use Rattle.filter_words.proofs.laws.request_in_parts.Goals as goal
 
 pub returns : goal.returns
 unfolding first_text keys_text content_text
-returns c path d content =
-    ap spelling_all (append_assoc (smudge_keys path d) (content_packets content) (Flush ∷ []))
-    ∙ spelling_all-append (smudge_keys path d) (content_packets content ++ Flush ∷ [])
+returns c path name d content =
+    ap spelling_all (append_assoc (smudge_keys path name d) (content_packets content) (Flush ∷ []))
+    ∙ spelling_all-append (smudge_keys path name d) (content_packets content ++ Flush ∷ [])

@@ -7,6 +7,6 @@ use Rattle.filter_words.proofs.requests.push_smudge_packets.Goals as goal
 pub returns-clause-ok : goal.returns-clause-ok
 returns-clause-ok c =
     three_texts c.push_flush.result c.args.out.now.items c.push_key_packets.new.out.items c.push_content.new.out.items
-    c.push_flush.new.out.items (smudge_keys c.args.path.now c.args.can_delay) (content_packets c.args.content.now)
+    c.push_flush.new.out.items (smudge_keys c.args.path.now c.args.name.now c.args.can_delay) (content_packets c.args.content.now)
     Flush
     c.in_ok-push_key_packets.ensures.ok c.in_ok-push_content.ensures.ok c.push_flush.ensures.ok

@@ -2,4 +2,4 @@ use Rattle.rehearsal.proofs.Whole.{have_an_index}
 use Rattle.rehearsal.proofs.making.files_have_an_index.Goals as goal
 
 pub returns : goal.returns
-returns g = have_an_index
+returns c = have_an_index c.entries_have_a_text.ensures

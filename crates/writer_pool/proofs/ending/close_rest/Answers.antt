@@ -61,10 +61,10 @@ loop-card-preserved g c =
           c.write_card-card.result.own c.loop-card.invariant.quiet c.in-Some.ensures.some c.close.ensures.closed
           c.close.ensures.goes_on c.write_card-card.ensures.kept c.write_card-card.ensures.wrote;
       plan = c.close.ensures.closed.plan ∙ (c.in-Some.ensures.some.turned.plan ∙ c.loop-card.invariant.plan);
-      seals = λ q p told z. c.loop-card.invariant.seals q p told (rest_seals see c.loop-card.ended.shelf
+      seals = λ q p leaf z. c.loop-card.invariant.seals q p leaf (rest_seals see c.loop-card.ended.shelf
           c.take_waiting.new.self.shelf c.close.new.self.shelf c.in-Some.card c.write_card-card.result.card
           c.write_card-card.result.own c.loop-card.invariant.quiet c.in-Some.ensures.some c.close.ensures.closed
-          c.write_card-card.ensures.kept q p told z);
+          c.write_card-card.ensures.kept q p leaf z);
       notes = λ starts d. turn_quiet starts d c.in-Some.card.path c.write_card-card.result.card.path 0 0
           c.write_card-card.result.own c.loop-card.ended.shelf.events.items
           c.take_waiting.new.self.shelf.events.items c.close.new.self.shelf.events.items

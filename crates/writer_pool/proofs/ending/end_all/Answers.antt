@@ -33,12 +33,12 @@ returns-clause-through g c d back long =
     }
 
 pub returns-clause-seals : goal.returns-clause-seals
-returns-clause-seals g c d back q s at p told z =
+returns-clause-seals g c d back q s at p leaf z =
     let see = sight g.B.Blob.told g.B.Blob.seen g.L.Leaf.seen in
     let ps = c.args.passes.items in
     let f = c.finish-ended.ensures d (back_idle see c.args.book d 0 (length ps) ps back) in
-    seals_own see c.args.book d (length ps) ps c.finish-ended.result.shelf back f q s at p told
-    (c.close_rest.ensures.seals q p told z)
+    seals_own see c.args.book d (length ps) ps c.finish-ended.result.shelf back f q s at p leaf
+    (c.close_rest.ensures.seals q p leaf z)
 
 pub returns-clause-notes : goal.returns-clause-notes
 returns-clause-notes g c d back q s at =

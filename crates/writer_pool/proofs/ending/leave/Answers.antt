@@ -4,7 +4,7 @@ use Rattle.checkout_book.specs.Sights.{sight}
 use Rattle.checkout_book.specs.Shelves.{cards_of}
 use Rattle.checkout_book.specs.Ending.{parts_in}
 use Rattle.writer_pool.specs.Ends.{IsRun, AreEnds}
-use Rattle.writer_pool.specs.Sealing.{SealsAt, leaf_at}
+use Rattle.writer_pool.specs.Sealing.{EndsAt, leaf_at}
 use Rattle.writer_pool.proofs.Dealt.{fitting}
 use Rattle.writer_pool.proofs.Outcomes.{completed, ran, ends_are, seals_there, paths_count, slots_count, events_few, parts_fewer}
 use Rattle.writer_pool.proofs.ending.leave.Goals as goal
@@ -78,7 +78,7 @@ returns-clause-ends g c d t pool dealt =
     (map (λ (x : B × L). x.1) (parts_in s.slots.items))) (sym blobs) ends))
 
 pub returns-clause-seals : goal.returns-clause-seals
-returns-clause-seals g c d t pool dealt q p told z =
+returns-clause-seals g c d t pool dealt q p leaf z =
     let see = sight g.B.Blob.told g.B.Blob.seen g.L.Leaf.seen in
     let B = g.row.B.Denot in
     let L = g.row.L.Denot in
@@ -90,10 +90,10 @@ returns-clause-seals g c d t pool dealt q p told z =
       closes = c.a_close_closes_its_path.ensures;
       backs = c.a_path_that_is_handed_back_waits.ensures;
       keeps = c.a_note_keeps_paths_with_their_driver.ensures;
-    }) c.a_verdict_is_what_is_told.ensures d s t (fitting d pool dealt) slots q p told
-    (subst (λ (ls : List L). SealsAt see d.starts.items s.events.items (leaf_at d.starts.items ls) q p told) leaves
-    (subst (λ (h : List Event). SealsAt see d.starts.items h (leaf_at d.starts.items c.apart-blobs.result.1.items) q p
-    told) (c.copied-history.ensures ∙ c.history.ensures) z))
+    }) c.a_verdict_is_what_is_told.ensures d s t (fitting d pool dealt) slots q p leaf
+    (subst (λ (ls : List L). EndsAt see d.starts.items s.events.items (leaf_at d.starts.items ls) q p leaf) leaves
+    (subst (λ (h : List Event). EndsAt see d.starts.items h (leaf_at d.starts.items c.apart-blobs.result.1.items) q p
+    leaf) (c.copied-history.ensures ∙ c.history.ensures) z))
 
 pub returns-clause-history : goal.returns-clause-history
 returns-clause-history g c = c.copied-history.ensures ∙ c.history.ensures

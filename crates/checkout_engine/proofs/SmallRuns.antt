@@ -1,0 +1,126 @@
+-- A plan is small, and so is the run of a rehearsal.
+use Rattle.std.proofs.Common.{◌≡◌, ◌≤◌, ◌*◌, ℕ, List, [], ◌∷◌, length, Option, Some, None, Ok, sym, ap, ◌∙◌, subst, arith}
+use Rattle.std.specs.List.{AllByRecursion, filter}
+use Rattle.std.proofs.lemmas.List.{length-map}
+use Rattle.edge_kit.specs.Seen.{RepoSeen, TreeSeen}
+use Rattle.edge_kit.specs.Told.{RepoTold}
+use Rattle.checkout_core.specs.declared.event.Event.{Event}
+use Rattle.checkout_core.specs.declared.path.Start.{Start}
+use Rattle.checkout_core.specs.States.{Core, AreBelow}
+use Rattle.checkout_core.specs.Steps.{IsLegal}
+use Rattle.checkout_plan.specs.Paths.{HasCause, ClosedPathsHaveCauses}
+use Rattle.checkout_plan.specs.declared.path_plan.PathPlan.{PathPlan}
+use Rattle.checkout_plan.specs.declared.path_plan.Plan.{Plan}
+use Rattle.checkout_words.specs.Words.{command_of}
+use Rattle.checkout_words.specs.declared.Command.{Command}
+use Rattle.checkout_words.specs.declared.Command.TheVariants as command
+use Rattle.writer_pool.specs.Ends.{IsRun}
+use Rattle.checkout_engine.specs.declared.begin.PlannedRun.{PlannedRun}
+use Rattle.checkout_engine.specs.declared.planning.Planned.{Planned}
+use Rattle.checkout_engine.specs.declared.rehearsing.TriedRun.{TriedRun}
+use Rattle.checkout_engine.specs.Begun.{IsSmallStart, PlansRun}
+use Rattle.checkout_engine.specs.Ends.{verdicts_of}
+use Rattle.checkout_engine.specs.Reading.{IsRead}
+use Rattle.checkout_engine.specs.Rehearsed.{IsRehearsed, IsRehearsedRun, IsSmallRun}
+use Rattle.checkout_engine.specs.Sources.{IsPlanned}
+use Rattle.checkout_engine.specs.Workers.{starts_of, in_pool, worker_count, workers_for, IsAsked}
+use Rattle.checkout_engine.proofs.Bounds.{no_more_paths, settings_few, count_few, asked_few}
+use Rattle.checkout_engine.proofs.Drivers.{planned_drivers}
+use Rattle.checkout_engine.proofs.Seeds.{below}
+
+-- ---- their starts
+
+causes_of : (ps : List PathPlan) → AllByRecursion (λ p. HasCause p.start) ps → AllByRecursion HasCause (starts_of ps)
+causes_of [] all = tt
+causes_of (p ∷ ps) all = (all.0, causes_of ps all.1)
+
+planned_causes : ClosedPathsHaveCauses → (told : RepoTold) (plan : Plan) → IsPlanned told plan → AllByRecursion HasCause (starts_of plan.paths)
+planned_causes law told plan planned =
+    causes_of plan.paths
+    (subst (λ (p : Plan). AllByRecursion (λ q. HasCause q.start) p.paths) (sym planned.made.is) (law planned.entries planned.settings planned.outer planned.made.contents))
+
+-- ---- the whole
+
+-- the law of the core that a history is short
+abbrev pub IsShort : Type 0
+IsShort = (starts : List Start) (workers drivers : ℕ) (history : List Event) (x : Core) → AreBelow drivers starts → IsLegal starts workers drivers history x → length history ≤ 9 * length starts
+
+-- what is handed on is the run of the checkout
+pub run_rehearsed : (seed n : ℕ) (run : TriedRun) (tree : TreeSeen) (starts : List Start) (drivers : ℕ) → IsRehearsed seed n run tree → starts ≡ starts_of run.plan.paths → drivers ≡ length run.plan.drivers
+    → IsRehearsedRun seed n starts run.workers drivers run.history.items
+run_rehearsed seed n run tree starts drivers rehearsed starts_is drivers_is =
+    let tried = rehearsed.well.tried in
+    let c = tried.checkout in
+    let begins : starts ≡ starts_of (c.plan).paths = starts_is ∙ ap (λ (p : Plan). starts_of p.paths) tried.plan_is in
+    let many : drivers ≡ length (c.plan).drivers = drivers_is ∙ ap (λ (p : Plan). length p.drivers) tried.plan_is in
+    let vs = verdicts_of c.outcomes in
+    let count : ℕ = worker_count None (c.planned).settings (c.plan).paths in
+    record {
+      told = rehearsed.told;
+      made = rehearsed.made;
+      left = tried.left;
+      checkout = c;
+      undisturbed = rehearsed.well.undisturbed;
+      starts_are = begins;
+      workers_are = tried.workers_are;
+      drivers_are = many;
+      history_is = tried.history_is;
+      run = subst (λ (l : List Start). IsRun l run.workers drivers run.history.items vs) (sym begins)
+          (subst (λ (k : ℕ). IsRun (starts_of (c.plan).paths) k drivers run.history.items vs) (sym tried.workers_are)
+          (subst (λ (k : ℕ). IsRun (starts_of (c.plan).paths) count k run.history.items vs) (sym many)
+          (subst (λ (h : List Event). IsRun (starts_of (c.plan).paths) count (length (c.plan).drivers) h vs) (sym tried.history_is) c.run)));
+    }
+
+-- a plan is small, whatever number of workers is asked for
+pub start_small : ClosedPathsHaveCauses → (told : RepoTold) (asked : Option ℕ) (plan : Plan) (planned : IsPlanned told plan) → IsAsked asked
+    → IsSmallStart (starts_of plan.paths) (worker_count asked planned.settings plan.paths) (length plan.drivers)
+start_small closed told asked plan planned few =
+    let config = planned.sources.config in
+    let pace = count_few asked planned.settings.workers planned.settings.threshold (length (filter in_pool plan.paths)) few (settings_few config.list planned.settings config.says) in
+    let size : length plan.paths ≤ length planned.entries =
+    subst (λ (p : Plan). length p.paths ≤ length planned.entries) (sym planned.made.is) (no_more_paths planned.entries planned.settings planned.outer planned.made.contents) in
+    record {
+      some_workers = pace.0;
+      few_workers = pace.1;
+      few_drivers = planned.few;
+      few_starts = omega (arith, size, planned.sources.index.is_index.text.few, length-map plan.paths (λ (p : PathPlan). p.start));
+      desks = below plan.drivers plan.paths (planned_drivers told plan planned).of_paths;
+      causes = planned_causes closed told plan planned;
+    }
+
+-- the same of what is handed on
+pub small_as : (starts starts' : List Start) (workers workers' drivers drivers' : ℕ) → starts ≡ starts' → workers ≡ workers' → drivers ≡ drivers' → IsSmallStart starts' workers' drivers' → IsSmallStart starts workers drivers
+small_as starts starts' workers workers' drivers drivers' a b c small =
+    subst (λ (l : List Start). IsSmallStart l workers drivers) (sym a)
+    (subst (λ (k : ℕ). IsSmallStart starts' k drivers) (sym b)
+    (subst (λ (k : ℕ). IsSmallStart starts' workers' k) (sym c) small))
+
+-- what is handed on of a plan that was read
+pub run_planned : ClosedPathsHaveCauses → (told : RepoTold) (words : List (List ℕ)) (asked : Option ℕ) (old new : RepoSeen) (p : Planned) (run : PlannedRun) → command_of words ≡ Some (command.Checkout asked) → IsRead told p old new
+    → run.starts.items ≡ starts_of p.plan.paths → run.workers ≡ workers_for asked p.workers p.threshold (length (filter in_pool p.plan.paths)) → run.drivers ≡ length p.plan.drivers
+    → PlansRun told (command_of words) old new (Ok (Some run))
+run_planned closed told words asked old new p run is read starts workers drivers =
+    let plan = p.plan in
+    let planned : IsPlanned told plan = read.read.planned in
+    let cards = length (filter in_pool plan.paths) in
+    let begun : run.workers ≡ worker_count asked planned.settings plan.paths =
+    workers ∙ ap (λ (n : ℕ). workers_for asked n p.threshold cards) read.workers ∙ ap (λ (t : ℕ). workers_for asked planned.settings.workers t cards) read.threshold in
+    subst (λ (c : Option Command). PlansRun told c old new (Ok (Some run))) (sym is) (
+      tt,
+      record {
+        plan = plan;
+        read = read.read;
+        starts_are = starts;
+        workers_are = begun;
+        drivers_are = drivers;
+        small = small_as run.starts.items _ run.workers _ run.drivers _ starts begun drivers (start_small closed told asked plan planned (asked_few words asked is));
+      },
+    )
+
+-- and the run of a rehearsal is
+pub run_small : ClosedPathsHaveCauses → IsShort → (seed n : ℕ) (starts : List Start) (workers drivers : ℕ) (history : List Event) → IsRehearsedRun seed n starts workers drivers history → IsSmallRun starts workers drivers history
+run_small closed short seed n starts workers drivers history r =
+    let c = r.checkout in
+    let small : IsSmallStart starts workers drivers =
+    small_as starts _ workers _ drivers _ r.starts_are r.workers_are r.drivers_are (start_small closed r.told None c.plan c.planned tt) in
+    record { start = small; few_events = omega (arith, small.few_starts, short starts workers drivers history r.run.core small.desks r.run.legal) }

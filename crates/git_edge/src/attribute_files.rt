@@ -1,0 +1,120 @@
+//! The attribute files of the system and of the user, which decide where no other does (gitattributes(5)).
+ghost use Rattle.edge_kit.specs.Told.{Untold, Takes};
+
+use crate::git::{Answer, Git, fault_of};
+use crate::listing::{Listing, says_no};
+use byte_path::unmarked;
+use edge_adapters::read_whole;
+use edge_kit::TakeFault;
+use std::env::var;
+use std::fs::metadata;
+use std::io;
+use std::io::ErrorKind;
+
+/// Where the system's file is, if git doesn't say.
+const SYSTEM: &str = "/etc/gitattributes";
+
+/// The status with which git ends if it doesn't know its words.
+const USAGE: i32 = 129;
+
+/// What git says of a file: its path, or none. `None` if this git doesn't say it.
+fn path_said(git: &Git, answer: &Answer) -> io::Result<Option<Option<String>>> {
+    if answer.status == Some(USAGE) {
+        return Ok(None);
+    }
+    let Ok(text) = str::from_utf8(answer.bytes.as_slice()) else {
+        return Err(io::Error::from(ErrorKind::InvalidFilename));
+    };
+    match text.strip_suffix("\n") {
+        Some(path) if answer.is_good() && !path.is_empty() => {
+            Ok(Some(Some(String::from_str(git.alloc, path)?)))
+        }
+        _ => Ok(Some(None)),
+    }
+}
+
+/// A variable of the environment, if it is there and isn't empty.
+fn variable(git: &Git, name: &str) -> Option<String> {
+    match var(&git.rt, name) {
+        Ok(value) if !value.is_empty() => Some(value),
+        _ => None,
+    }
+}
+
+/// Where the system's file is, if it is to be read.
+fn system_path(git: &Git) -> io::Result<Option<String>> {
+    let answer = git.ask(&["var", "GIT_ATTR_SYSTEM"])?;
+    if let Some(path) = path_said(git, &answer)? {
+        return Ok(path);
+    }
+    match variable(git, "GIT_ATTR_NOSYSTEM") {
+        Some(value) if !says_no(value.as_bytes()) => Ok(None),
+        _ => Ok(Some(String::from_str(git.alloc, SYSTEM)?)),
+    }
+}
+
+/// Where the user's file is if no setting names one.
+fn default_path(git: &Git) -> io::Result<Option<String>> {
+    if let Some(folder) = variable(git, "XDG_CONFIG_HOME") {
+        return Ok(Some(format!(in git.alloc; "{folder}/git/attributes")?));
+    }
+    match variable(git, "HOME") {
+        Some(folder) => Ok(Some(format!(in git.alloc; "{folder}/.config/git/attributes")?)),
+        None => Ok(None),
+    }
+}
+
+/// Where the user's file is, if there may be one.
+fn user_path(git: &Git, listing: &Listing) -> io::Result<Option<String>> {
+    if listing.last(b"core.attributesfile").is_none() {
+        return default_path(git);
+    }
+    let answer = git.ask(&["config", "--type=path", "--get", "core.attributesFile"])?;
+    Ok(path_said(git, &answer)?.flatten())
+}
+
+/// Whether nothing is at a path, or one of its folders is none, as in that of a home which is `/dev/null`.
+fn is_nowhere(git: &Git, path: &str) -> bool {
+    match metadata(&git.rt, path) {
+        Ok(_) => false,
+        Err(error) => { matches!(error.kind(), ErrorKind::NotFound | ErrorKind::NotADirectory) }
+    }
+}
+
+/// The file at this path, or nothing if it isn't there.
+fn file_at(git: &Git, path: io::Result<Option<String>>, limit: u64) -> Result<Vec<u8>, TakeFault> {
+    match path {
+        Ok(Some(path)) if is_nowhere(git, path.as_str()) => Ok(Vec::new(git.alloc)),
+        Ok(Some(path)) => match read_whole(git.rt, git.alloc, path.as_str(), limit)? {
+            Some(bytes) => Ok(bytes),
+            None => Ok(Vec::new(git.alloc)),
+        },
+        Ok(None) => Ok(Vec::new(git.alloc)),
+        Err(error) => Err(fault_of(&error)),
+    }
+}
+
+/// The two files as one, of which the later lines win: the system's, and then the user's. Neither has its mark (U+FEFF).
+pub fn base_attributes(
+    git: &Git,
+    listing: &Listing,
+    limit: u64,
+) -> Result<Option<Vec<u8>>, TakeFault>
+    ensures { Takes Untold limit result }
+{
+    let system = file_at(git, system_path(git), limit)?;
+    let user = file_at(git, user_path(git, listing), limit)?;
+    if system.is_empty() && user.is_empty() {
+        return Ok(None);
+    }
+    let mut both = Vec::new(git.alloc);
+    if !system.is_empty() {
+        both.extend_from_slice(unmarked(system.as_slice()))?;
+        both.extend_from_slice(b"\n")?;
+    }
+    both.extend_from_slice(unmarked(user.as_slice()))?;
+    if both.len() as u64 > limit {
+        return Err(TakeFault::TooLong);
+    }
+    Ok(Some(both))
+}

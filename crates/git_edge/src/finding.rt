@@ -1,0 +1,125 @@
+//! Where a repository is, and which tree of it is wanted.
+use crate::fault::GitFault;
+use crate::git::{Answer, Git};
+use crate::listing::Listing;
+use std::alloc::{AllocError, Global};
+
+/// The absolute paths of a repository's parts.
+#[derive(Drop)]
+pub struct Found {
+    pub git_dir: String,
+    pub index: String,
+    /// The file `info/attributes`.
+    pub info: String,
+    /// The folder `objects`.
+    pub objects: String,
+}
+
+/// The word that git 2.31 was the first to know. `git rev-parse` writes a word as it is if it doesn't know it.
+const NEWEST: &str = "--path-format=absolute";
+
+/// What is asked of `git rev-parse`: the paths, each a line, and then what object names are by.
+const ASKED: [&str; 10] = [
+    "rev-parse",
+    NEWEST,
+    "--absolute-git-dir",
+    "--git-path",
+    "index",
+    "--git-path",
+    "info/attributes",
+    "--git-path",
+    "objects",
+    "--show-object-format",
+];
+
+/// The first line that git wrote on standard error, without its first word, or these words if it wrote none.
+fn said_by(alloc: Global, answer: &Answer, otherwise: &str) -> Result<String, AllocError> {
+    let said = match str::from_utf8(answer.said.as_slice()) {
+        Ok(said) => said,
+        Err(_) => "",
+    };
+    let line = match said.split_once('\n') {
+        Some((line, _)) => line,
+        None => said,
+    };
+    match line.strip_prefix("fatal: ") {
+        Some(words) => String::from_str(alloc, words),
+        None if line.is_empty() => String::from_str(alloc, otherwise),
+        None => String::from_str(alloc, line),
+    }
+}
+
+/// The lines of a text, of which each has an end.
+fn lines_of(alloc: Global, text: &str) -> Result<Vec<&str>, AllocError> {
+    let whole = match text.strip_suffix("\n") {
+        Some(whole) => whole,
+        None => text,
+    };
+    whole.split('\n').collect(alloc)
+}
+
+fn found_in(alloc: Global, lines: &[&str]) -> Result<Found, GitFault> {
+    if lines.contains(&NEWEST) {
+        return Err(GitFault::TooOld);
+    }
+    let [git_dir, index, info, objects, format] = lines else {
+        return Err(GitFault::BadPath);
+    };
+    if *format != "sha1" {
+        return Err(GitFault::ObjectFormat(String::from_str(alloc, format)?));
+    }
+    Ok(Found {
+        git_dir: String::from_str(alloc, git_dir)?,
+        index: String::from_str(alloc, index)?,
+        info: String::from_str(alloc, info)?,
+        objects: String::from_str(alloc, objects)?,
+    })
+}
+
+/// Why git didn't answer, in its words if it wrote some.
+fn refused(git: &Git, answer: &Answer, otherwise: &str) -> GitFault {
+    match said_by(git.alloc, answer, otherwise) {
+        Ok(words) => GitFault::Refused(words),
+        Err(AllocError) => GitFault::NoMemory,
+    }
+}
+
+/// Where git finds the parts of the repository.
+pub fn find(git: &Git) -> Result<Found, GitFault> {
+    let answer = git.ask(ASKED.as_slice())?;
+    if !answer.is_good() {
+        return Err(refused(git, &answer, "git finds no repository"));
+    }
+    match str::from_utf8(answer.bytes.as_slice()) {
+        Ok(text) => found_in(git.alloc, lines_of(git.alloc, text)?.as_slice()),
+        Err(_) => Err(GitFault::BadPath),
+    }
+}
+
+/// The settings that git uses in the repository.
+pub fn list(git: &Git) -> Result<Listing, GitFault> {
+    let answer = git.ask(&["config", "--list", "-z"])?;
+    if !answer.is_good() {
+        return Err(refused(git, &answer, "git finds no repository"));
+    }
+    Ok(Listing::new(answer.bytes))
+}
+
+/// What is asked of `git rev-parse` before a revision. It says nothing and ends with the status 1 if there is none.
+const NAMED: [&str; 4] = ["rev-parse", "--verify", "--quiet", "--end-of-options"];
+
+/// The name of the tree of a commit, a tag or a tree, in hex.
+pub fn tree_of(git: &Git, revision: &str) -> Result<String, GitFault> {
+    let wanted = format!(in git.alloc; "{revision}^{{tree}}")?;
+    let [asked, verify, quiet, end] = NAMED;
+    let answer = git.ask(&[asked, verify, quiet, end, wanted.as_str()])?;
+    if answer.status == Some(1) {
+        return Err(GitFault::NoRevision(String::from_str(git.alloc, revision)?));
+    }
+    match str::from_utf8(answer.bytes.as_slice()) {
+        Ok(text) if answer.is_good() && text.ends_with('\n') => {
+            Ok(String::from_str(git.alloc, text.trim_end())?)
+        }
+        _ => Err(refused(git, &answer, "git names no tree")),
+    }
+}

@@ -1,0 +1,157 @@
+//! How git is asked about one repository.
+use edge_kit::TakeFault;
+use std::alloc::{AllocError, Global};
+use std::io;
+use std::io::ErrorKind;
+use std::process::{Command, Output, Stdio};
+
+/// What git is asked by: the program's own environment, and the Git folder if one was named. Without one git finds it as
+/// it always does.
+#[derive(Drop)]
+pub struct Git {
+    pub rt: HostRuntime,
+    pub alloc: Global,
+    // the name or the path of the program git
+    program: String,
+    pub named: Option<String>,
+    // the folder of objects, if git isn't to use the one that it finds
+    objects: Option<String>,
+}
+
+/// What a process of git gave.
+#[derive(Drop)]
+pub struct Answer {
+    pub status: Option<i32>,
+    pub bytes: Vec<u8>,
+    /// What it wrote on standard error.
+    pub said: Vec<u8>,
+}
+
+impl Answer {
+    pub fn is_good(&self) -> bool {
+        self.status == Some(0)
+    }
+}
+
+/// No object is fetched, and one that `git replace` replaces is given as it is.
+const VARIABLES: [(&str, &str); 4] = [
+    ("GIT_NO_REPLACE_OBJECTS", "1"),
+    ("GIT_NO_LAZY_FETCH", "1"),
+    // for a git that doesn't know the one above: no protocol is allowed
+    ("GIT_ALLOW_PROTOCOL", "none"),
+    ("GIT_OPTIONAL_LOCKS", "0"),
+];
+
+/// The settings by which git writes a whole index, asks no watcher of files, and leaves it to others which paths are bad.
+const WHOLE: [&str; 10] = [
+    "-c",
+    "core.splitIndex=false",
+    "-c",
+    "index.sparse=false",
+    "-c",
+    "core.fsmonitor=false",
+    "-c",
+    "core.protectNTFS=false",
+    "-c",
+    "core.protectHFS=false",
+];
+
+fn add_words(command: &mut Command, words: &[&str]) -> Result<(), AllocError> {
+    for word in words {
+        command.arg(*word)?;
+    }
+    Ok(())
+}
+
+fn add_variables(command: &mut Command) -> Result<(), AllocError> {
+    for (name, value) in VARIABLES {
+        command.env(name, value)?;
+    }
+    Ok(())
+}
+
+/// How an error of the system is told.
+pub fn fault_of(error: &io::Error) -> TakeFault {
+    match error.kind() {
+        ErrorKind::OutOfMemory => TakeFault::NoMemory,
+        _ => TakeFault::Failed,
+    }
+}
+
+fn copy_of(alloc: Global, text: Option<&str>) -> Result<Option<String>, AllocError> {
+    match text {
+        Some(text) => Ok(Some(String::from_str(alloc, text)?)),
+        None => Ok(None),
+    }
+}
+
+impl Git {
+    /// Asks this program about the repository with this Git folder, or about the one that git finds.
+    pub fn new(rt: HostRuntime, program: &str, named: Option<&str>) -> Result<Git, AllocError> {
+        let alloc = rt.alloc();
+        Ok(Git {
+            rt,
+            alloc,
+            program: String::from_str(alloc, program)?,
+            named: copy_of(alloc, named)?,
+            objects: None,
+        })
+    }
+
+    /// Asks the same program about another Git folder or the same, over this folder of objects if there is one.
+    pub fn about(&self, named: Option<&str>, objects: Option<&str>) -> Result<Git, AllocError> {
+        let mut git = Git::new(self.rt, self.program.as_str(), named)?;
+        git.objects = copy_of(self.alloc, objects)?;
+        Ok(git)
+    }
+
+    fn add_repository(&self, command: &mut Command) -> Result<(), AllocError> {
+        if let Some(folder) = &self.named {
+            command.arg("--git-dir")?;
+            command.arg(folder.as_str())?;
+        }
+        if let Some(folder) = &self.objects {
+            command.env("GIT_OBJECT_DIRECTORY", folder.as_str())?;
+        }
+        Ok(())
+    }
+
+    /// What starts git with these words.
+    pub fn command(&self, words: &[&str]) -> Result<Command, AllocError> {
+        self.command_with(&[], words)
+    }
+
+    /// What starts git with these settings and words.
+    fn command_with(&self, settings: &[&str], words: &[&str]) -> Result<Command, AllocError> {
+        let mut command = Command::new(self.alloc, self.program.as_str())?;
+        self.add_repository(&mut command)?;
+        add_words(&mut command, settings)?;
+        add_words(&mut command, words)?;
+        add_variables(&mut command)?;
+        Ok(command)
+    }
+
+    /// What git with these words gives. What it writes on standard error is kept.
+    pub fn ask(&self, words: &[&str]) -> io::Result<Answer> {
+        let Output {
+            status,
+            stdout,
+            stderr,
+        } = self.command(words)?.output(&self.rt)?;
+        Ok(Answer {
+            status: status.code(),
+            bytes: stdout,
+            said: stderr,
+        })
+    }
+
+    /// Runs git with these words over another index, which it writes whole, and returns whether it ended well. What it
+    /// writes on standard error is seen.
+    pub fn run_over(&self, index: &str, words: &[&str]) -> io::Result<bool> {
+        let mut command = self.command_with(WHOLE.as_slice(), words)?;
+        command.env("GIT_INDEX_FILE", index)?;
+        command.stdin(Stdio::null());
+        command.stdout(Stdio::null());
+        Ok(command.status(&self.rt)?.success())
+    }
+}

@@ -1,0 +1,51 @@
+ghost use Rattle.std.specs.Prelude.{◌≡◌};
+ghost use Rattle.edge_kit.specs.Told.{Untold};
+
+use crate::cat_pool::CatPool;
+use edge_kit::{Blob, TakeFault};
+use std::alloc::Global;
+use std::sync::Arc;
+
+/// An object of a repository, which a process of git gives.
+#[derive(Drop)]
+pub struct GitBlob {
+    pool: Arc<CatPool, Global>,
+    pub name: [u8; 20],
+    // its place among those that were lent, if it is known
+    place: Option<usize>,
+    pub faults: u64,
+    /// Whether it was asked for and isn't there.
+    pub is_absent: bool,
+}
+
+impl GitBlob {
+    /// The object with this name, which was lent in this place, and of which nothing was read.
+    pub fn new(pool: Arc<CatPool, Global>, name: [u8; 20], place: Option<usize>) -> GitBlob
+        ensures name { result.name ≡ name }
+        ensures unfailed { result.faults ≡ 0 }
+    {
+        GitBlob {
+            pool,
+            name,
+            place,
+            faults: 0,
+            is_absent: false,
+        }
+    }
+}
+
+impl Blob for GitBlob {
+    ghost told = { λ _. Untold };
+
+    ghost seen = { λ b. record { name = b.name; faults = b.faults } };
+
+    fn take_all(&mut self, limit: u64) -> Result<Option<Vec<u8>>, TakeFault> {
+        let taken = self.pool.take(&self.name, self.place, limit);
+        match &taken {
+            Err(TakeFault::Failed) => self.faults = self.faults.saturating_add(1),
+            Ok(None) => self.is_absent = true,
+            _ => {}
+        }
+        taken
+    }
+}

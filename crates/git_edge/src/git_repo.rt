@@ -1,0 +1,185 @@
+//! A repository as git has it, read through git's own processes.
+ghost use Rattle.std.specs.Prelude.{◌≡◌, ◌+◌, ◌≤◌, IfOk, vec_len, vec_capacity};
+ghost use Rattle.edge_kit.specs.Faults.{AfterTake};
+ghost use Rattle.edge_kit.specs.Told.{Untold, Takes};
+
+use crate::attribute_files::base_attributes;
+use crate::cat_pool::CatPool;
+use crate::fault::GitFault;
+use crate::finding::{Found, find, list, tree_of};
+use crate::git::Git;
+use crate::git_blob::GitBlob;
+use crate::index_file::{index_of_tree, own_index};
+use crate::lender::lender_of;
+use crate::listing::Listing;
+use crate::notes::{notes_of, place_of};
+use edge_adapters::{DriverPlace, read_whole};
+use edge_kit::{Repo, TakeFault};
+use git_tree::Keeps;
+use std::alloc::{AllocError, Global};
+use std::sync::Arc;
+
+/// A repository whose objects processes of git give.
+#[derive(Drop)]
+pub struct GitRepo {
+    git: Git,
+    found: Found,
+    listing: Listing,
+    // the name of the tree that is wanted in place of the index
+    tree: Option<String>,
+    pool: Arc<CatPool, Global>,
+    faults: u64,
+    out: usize,
+    returned: Vec<([u8; 20], u64)>,
+    // the names of those among them that aren't there
+    absent: Vec<[u8; 20]>,
+    // there is room for each blob that is out
+    ghost room: { vec_len returned + out ≤ vec_capacity returned },
+}
+
+impl GitRepo {
+    /// The repository that has the Git folder `git_dir`, or without one the repository that git finds from the folder in
+    /// which this program was started. Its index is that of a commit, a tag or a tree if a revision names one, and else
+    /// the repository's own.
+    pub fn open(
+        rt: HostRuntime,
+        git_dir: Option<&str>,
+        revision: Option<&str>,
+    ) -> Result<GitRepo, GitFault> {
+        GitRepo::open_by(rt, "git", git_dir, revision)
+    }
+
+    /// The same, where git is this program.
+    pub fn open_by(
+        rt: HostRuntime,
+        program: &str,
+        git_dir: Option<&str>,
+        revision: Option<&str>,
+    ) -> Result<GitRepo, GitFault> {
+        let git = Git::new(rt, program, git_dir)?;
+        let found = find(&git)?;
+        let listing = list(&git)?;
+        let tree = match revision {
+            Some(revision) => Some(tree_of(&git, revision)?),
+            None => None,
+        };
+        let pool = lender_of(&git, &found, &listing)?;
+        let pool = Arc::new(rt.alloc(), pool)?;
+        Ok(GitRepo {
+            git,
+            found,
+            listing,
+            tree,
+            pool,
+            faults: 0,
+            out: 0,
+            returned: Vec::new(rt.alloc()),
+            absent: Vec::new(rt.alloc()),
+        })
+    }
+
+    /// The absolute path of its Git folder.
+    pub fn git_dir(&self) -> &str {
+        self.found.git_dir.as_str()
+    }
+
+    /// What the file system of its worktree keeps.
+    pub fn keeps(&self) -> Keeps {
+        Keeps {
+            links: self.listing.is_on(b"core.symlinks"),
+            modes: self.listing.is_on(b"core.filemode"),
+        }
+    }
+
+    /// Where git runs the drivers of its paths.
+    pub fn driver_place(&self) -> Result<DriverPlace, AllocError> {
+        place_of(&self.git, self.found.git_dir.as_str())
+    }
+
+    /// What is to be said of it once its blobs are given back, each in a line without its end: attribute files that are
+    /// unmerged, objects that a partial clone lacks, and objects that are replaced. What git can't say isn't said.
+    pub fn notes(&self) -> Result<Vec<String>, AllocError> {
+        notes_of(
+            &self.git,
+            self.tree.as_deref(),
+            self.listing.promisor(),
+            self.absent.as_slice(),
+            self.returned.as_slice(),
+        )
+    }
+
+    /// Ends the processes that give objects, and waits for each. No blob may be in use.
+    pub fn end(&self) {
+        self.pool.end();
+    }
+
+    /// Counts a fault if the content wasn't taken for one.
+    fn counted(
+        &mut self,
+        taken: Result<Option<Vec<u8>>, TakeFault>,
+    ) -> Result<Option<Vec<u8>>, TakeFault>
+        ensures result { result ≡ taken }
+        ensures out { self.new.out ≡ self.old.out }
+        ensures returned { self.new.returned.items ≡ self.old.returned.items }
+        ensures faults { AfterTake self.old.faults self.new.faults result }
+    {
+        if let Err(TakeFault::Failed) = taken {
+            self.faults = self.faults.saturating_add(1);
+        }
+        taken
+    }
+}
+
+impl Repo for GitRepo {
+    type Blob = GitBlob;
+
+    ghost told = { λ _. record { index = Untold; config = Untold; info = Untold; base = Untold; object = λ _. Untold } };
+
+    ghost seen = { λ r. record { faults = r.faults; out = r.out; returned = r.returned.items } };
+
+    fn index_bytes(&mut self, limit: u64) -> Result<Option<Vec<u8>>, TakeFault> {
+        let taken = match &self.tree {
+            Some(tree) => index_of_tree(&self.git, tree.as_str(), limit),
+            None => own_index(&self.git, self.found.index.as_str(), limit),
+        };
+        self.counted(taken)
+    }
+
+    fn config_bytes(&mut self, limit: u64) -> Result<Option<Vec<u8>>, TakeFault> {
+        let config = self.listing.config(self.git.alloc)?;
+        if config.len() as u64 > limit {
+            return Err(TakeFault::TooLong);
+        }
+        Ok(Some(config))
+    }
+
+    fn info_attributes(&mut self, limit: u64) -> Result<Option<Vec<u8>>, TakeFault> {
+        let path = self.found.info.as_str();
+        let taken = read_whole(self.git.rt, self.git.alloc, path, limit);
+        self.counted(taken)
+    }
+
+    fn base_attributes(&mut self, limit: u64) -> Result<Option<Vec<u8>>, TakeFault> {
+        let taken = base_attributes(&self.git, &self.listing, limit);
+        self.counted(taken)
+    }
+
+    fn blob(&mut self, name: &[u8; 20]) -> Result<GitBlob, AllocError> {
+        let pool = Arc::try_clone(&self.pool)?;
+        self.absent.reserve(self.out.saturating_add(1))?;
+        self.returned.reserve(self.out + 1)?;
+        let place = self.pool.lend(name)?;
+        self.out += 1;
+        Ok(GitBlob::new(pool, *name, place))
+    }
+
+    /// The name of an object that isn't there is kept too, for which there is room.
+    fn take_back(&mut self, blob: GitBlob) {
+        if blob.is_absent {
+            let _ = self.absent.push(blob.name);
+        }
+        let name = blob.name;
+        let _ = self.returned.push((name, blob.faults));
+        self.out -= 1;
+    }
+}

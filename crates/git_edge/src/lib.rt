@@ -1,0 +1,24 @@
+//! A repository as git has it: the outside of a checkout straight from a Git folder.
+//!
+//! Git itself is asked for all that it knows of the repository. Its processes give the objects, the settings and where
+//! the files are. Nothing is told of what they give, and each object counts its faults.
+#![tactic(auto)]
+
+mod attribute_files;
+mod cat_file;
+mod cat_pool;
+mod fault;
+mod finding;
+mod git;
+mod git_blob;
+mod git_repo;
+mod index_file;
+mod lender;
+mod lent;
+mod listing;
+mod notes;
+mod scratch;
+
+pub use fault::GitFault;
+pub use git_blob::GitBlob;
+pub use git_repo::GitRepo;

@@ -1,0 +1,208 @@
+//! What is to be said of a repository beside the report, and where its drivers run.
+use crate::git::Git;
+use byte_path::quote_path;
+use edge_adapters::DriverPlace;
+use std::alloc::{AllocError, Global};
+use std::env::var;
+
+/// What git with these words gives, or nothing if it fails.
+fn said(git: &Git, words: &[&str]) -> Result<Vec<u8>, AllocError> {
+    match git.ask(words) {
+        Ok(answer) if answer.is_good() => Ok(answer.bytes),
+        _ => Ok(Vec::new(git.alloc)),
+    }
+}
+
+/// Bytes as a text, quoted as in the report if they have to be.
+fn text_of(alloc: Global, bytes: &[u8]) -> Result<String, AllocError> {
+    match String::from_utf8(quote_path(alloc, bytes)?) {
+        Ok(text) => Ok(text),
+        Err(_) => Ok(String::new(alloc)),
+    }
+}
+
+/// The path of a row of `git ls-files --stage -z` with an entry of the second stage.
+fn second_stage(row: &[u8]) -> Option<&[u8]> {
+    let (told, path) = cut(row, b'\t')?;
+    if told.ends_with(b" 2") {
+        Some(path)
+    } else {
+        None
+    }
+}
+
+fn cut(bytes: &[u8], at: u8) -> Option<(&[u8], &[u8])> {
+    let place = bytes.iter().position(|byte| *byte == at)?;
+    let (front, rest) = bytes.split_at(place);
+    let (_, behind) = rest.split_at(1);
+    Some((front, behind))
+}
+
+/// The attribute files that git reads at their second stage.
+const UNMERGED: [&str; 6] = [
+    "ls-files",
+    "--unmerged",
+    "-z",
+    "--full-name",
+    "--",
+    ":(top,glob)**/.gitattributes",
+];
+
+fn add_unmerged(git: &Git, notes: &mut Vec<String>) -> Result<(), AllocError> {
+    let rows = said(git, UNMERGED.as_slice())?;
+    for row in rows.split(|byte| *byte == 0) {
+        if let Some(path) = second_stage(row) {
+            let path = text_of(git.alloc, path)?;
+            notes.push(format!(in git.alloc;
+                "{path} is unmerged: git reads its second stage, and this program none"
+            )?)?;
+        }
+    }
+    Ok(())
+}
+
+fn hex_of(alloc: Global, name: &[u8; 20]) -> Result<String, AllocError> {
+    hex::encode(alloc, name.as_slice())
+}
+
+/// The names, each once and in order.
+fn each_once(mut names: Vec<[u8; 20]>) -> Vec<[u8; 20]> {
+    names.sort_unstable();
+    names.dedup();
+    names
+}
+
+/// Whether a byte means itself wherever it stands in a shell's word.
+fn is_plain(byte: u8) -> bool {
+    byte.is_ascii_alphanumeric() || b"/._-".contains(&byte)
+}
+
+/// A text as one word of a shell's command.
+fn word_of(alloc: Global, text: &str) -> Result<String, AllocError> {
+    if text.bytes().all(is_plain) {
+        return String::from_str(alloc, text);
+    }
+    let mut word = String::from_str(alloc, "'")?;
+    for (place, part) in text.split('\'').enumerate() {
+        if place > 0 {
+            word.push_str("'\\''")?;
+        }
+        word.push_str(part)?;
+    }
+    word.push_str("'")?;
+    Ok(word)
+}
+
+/// How a shell calls git for the same repository.
+fn call_of(git: &Git) -> Result<String, AllocError> {
+    match &git.named {
+        Some(folder) => {
+            let folder = word_of(git.alloc, folder.as_str())?;
+            format!(in git.alloc; "git --git-dir={folder}")
+        }
+        None => String::from_str(git.alloc, "git"),
+    }
+}
+
+/// The command that fetches all that the clone lacks of a tree, or else of its own index, however much that is. It fetches
+/// as git itself does what was promised, without a word on the commits that are here, whose objects may be lacking.
+fn fetch_of(git: &Git, remote: &[u8], tree: Option<&str>) -> Result<String, AllocError> {
+    let call = call_of(git)?;
+    let remote = word_of(git.alloc, text_of(git.alloc, remote)?.as_str())?;
+    let wanted = tree.unwrap_or("--indexed-objects");
+    format!(in git.alloc;
+        "{call} rev-list --objects --missing=print {wanted} | sed -n 's/^?//p' | \
+         {call} -c fetch.negotiationAlgorithm=noop fetch -q --no-tags --no-write-fetch-head --filter=blob:none --stdin {remote}"
+    )
+}
+
+/// The note on the objects that a partial clone lacks.
+fn lack_of(
+    git: &Git,
+    remote: &[u8],
+    tree: Option<&str>,
+    absent: &[[u8; 20]],
+) -> Result<String, AllocError> {
+    let count = each_once(absent.to_vec(git.alloc)?).len();
+    let fetch = fetch_of(git, remote, tree)?;
+    format!(in git.alloc; "this partial clone lacks {count} objects. To fetch them: {fetch}")
+}
+
+fn add_replaced(
+    git: &Git,
+    returned: &[([u8; 20], u64)],
+    notes: &mut Vec<String>,
+) -> Result<(), AllocError> {
+    let listed = said(
+        git,
+        &[
+            "for-each-ref",
+            "--format=%(refname:lstrip=2)",
+            "refs/replace/",
+        ],
+    )?;
+    if listed.is_empty() {
+        return Ok(());
+    }
+    let read = each_once(returned.iter().map(|blob| blob.0).collect(git.alloc)?);
+    for digits in listed.split(|byte| *byte == b'\n') {
+        let mut name = [0u8; 20];
+        if hex::decode_to_slice(digits, name.as_mut_slice()).is_ok()
+            && read.binary_search(&name).is_ok()
+        {
+            let digits = hex_of(git.alloc, &name)?;
+            notes.push(format!(in git.alloc;
+                "object {digits} is replaced (git replace): git writes what replaces it, and this program the object itself"
+            )?)?;
+        }
+    }
+    Ok(())
+}
+
+/// What is to be said of a repository: of its own index if no tree was read in its place, of the objects that a clone of
+/// part of this remote lacks, and of those that were given back.
+pub fn notes_of(
+    git: &Git,
+    tree: Option<&str>,
+    remote: Option<&[u8]>,
+    absent: &[[u8; 20]],
+    returned: &[([u8; 20], u64)],
+) -> Result<Vec<String>, AllocError> {
+    let mut notes = Vec::new(git.alloc);
+    if tree.is_none() {
+        add_unmerged(git, &mut notes)?;
+    }
+    if let Some(remote) = remote {
+        if !absent.is_empty() {
+            notes.push(lack_of(git, remote, tree, absent)?)?;
+        }
+    }
+    add_replaced(git, returned, &mut notes)?;
+    Ok(notes)
+}
+
+/// The folder in which git runs drivers: the top of the worktree, or the Git folder of a repository without one.
+fn folder_of(git: &Git, git_dir: &str) -> Result<String, AllocError> {
+    let top = said(git, &["rev-parse", "--show-toplevel"])?;
+    match str::from_utf8(top.as_slice()) {
+        Ok(text) => match text.strip_suffix("\n") {
+            Some(folder) => String::from_str(git.alloc, folder),
+            None => String::from_str(git.alloc, git_dir),
+        },
+        Err(_) => String::from_str(git.alloc, git_dir),
+    }
+}
+
+/// Where git runs the drivers of this repository. The Git folder is named if git wouldn't find it there by its usual name,
+/// or would look for another one.
+pub fn place_of(git: &Git, git_dir: &str) -> Result<DriverPlace, AllocError> {
+    let folder = folder_of(git, git_dir)?;
+    let usual = format!(in git.alloc; "{folder}/.git")?;
+    let is_found = usual.as_str() == git_dir && var(&git.rt, "GIT_DIR").is_err();
+    let git_dir = if is_found {
+        None
+    } else {
+        Some(String::from_str(git.alloc, git_dir)?)
+    };
+    Ok(DriverPlace { folder, git_dir })
+}

@@ -1,0 +1,192 @@
+//! The index of a repository, and what is said of one.
+use crate::place::{folder_after, has_git, open, read_hi, runs};
+use crate::table::{cut, is_right};
+use edge_kit::{Blob, Repo};
+use git_edge::GitRepo;
+use git_index::read_index;
+use std::fs::remove_dir_all;
+use std::test::Fail;
+
+/// What the shell does, a revision, and the first words of the refusal.
+const REFUSED: &[&str] = &[
+    "mkdir repo~-~not a git repository",
+    "git init -q --object-format=sha256 repo~-~object names are by sha256, and only names by SHA-1 are read",
+    "new; echo '[' >> .git/config~-~bad config line",
+    "new~v9~'v9' names no commit, tag or tree",
+    "new~--all~'--all' names no commit, tag or tree",
+    // a git that fails at a revision, and one that doesn't know what it is asked, and so says it again (git-rev-parse(1))
+    "new; cd ..; fake 'case $* in *--verify*) echo fatal: it fails >&2; exit 128;; esac'~HEAD~it fails",
+    "new; cd ..; fake 'case $* in *--verify*) kill -9 $$;; esac'~HEAD~git names no tree",
+    "new; cd ..; fake 'case $* in *path-format*) printf -- \"--path-format=absolute\\n/a\\nb\\nc\\nd\\nsha1\\n\"; exit;; esac'~-~\
+      git is too old: it has to be of version 2.31 or later",
+    "new; rm ../git~-~git can't be run: No such file or directory",
+];
+
+#[test]
+fn what_git_cannot_give_is_refused_in_words(rt: HostRuntime) -> Result<(), Fail> {
+    if !has_git(rt)? {
+        return Ok(());
+    }
+    for row in REFUSED {
+        let (script, rest) = cut(row, '~');
+        let (revision, words) = cut(rest, '~');
+        let folder = folder_after(rt, "refused", script)?;
+        let said = match open(rt, folder.as_str(), revision) {
+            Ok(_) => String::new(rt.alloc()),
+            Err(fault) => format!(in rt.alloc(); "{fault}")?,
+        };
+        remove_dir_all(&rt, folder.as_str())?;
+        is_right(&rt, said.as_str().starts_with(words), row, said.as_str());
+    }
+    Ok(())
+}
+
+/// What the shell does, a revision, and the paths of the index, a `*` behind one that is marked skip-worktree.
+const INDEXES: &[&str] = &[
+    "new~-~!",
+    "new; mkdir d; echo a > d/a; echo b > b; git add .~-~b d/a ",
+    // of version 4, split, and with folders among its entries
+    "new; mkdir d; echo a > d/a; echo b > d/b; git add .; git update-index --index-version 4~-~d/a d/b ",
+    "new; echo a > a; git add .; git update-index --split-index; echo b > b; git add b~-~a b ",
+    "new; mkdir d; echo a > d/a; echo b > b; git add .; git commit -qm b; git sparse-checkout set --cone --sparse-index~-~b d/a* ",
+    "new; echo a > a; git add .; git commit -qm a; git tag -am v v; git rm -q a~v~a ",
+    "new; echo a > a; git add .; git commit -qm a; git rm -q a~HEAD^{tree}~a ",
+];
+
+/// The paths of the index, or `!` if there is none.
+fn paths_of(rt: HostRuntime, folder: &str, revision: &str) -> Result<String, Fail> {
+    let mut paths = String::new(rt.alloc());
+    let Ok(mut repo) = open(rt, folder, revision) else {
+        return Ok(paths);
+    };
+    let Ok(taken) = repo.index_bytes(1_048_576) else {
+        return Ok(paths);
+    };
+    let Some(bytes) = taken else {
+        paths.push_str("!")?;
+        return Ok(paths);
+    };
+    let Ok(index) = read_index(rt.alloc(), bytes.as_slice()) else {
+        return Ok(paths);
+    };
+    for entry in index.entries() {
+        paths.push_str(str::from_utf8(entry.path.as_slice()).unwrap_or("?"))?;
+        paths.push_str(if entry.sparse { "* " } else { " " })?;
+    }
+    Ok(paths)
+}
+
+#[test]
+fn indexes_are_whole_however_git_keeps_them(rt: HostRuntime) -> Result<(), Fail> {
+    if !has_git(rt)? {
+        return Ok(());
+    }
+    for row in INDEXES {
+        let (script, rest) = cut(row, '~');
+        let (revision, want) = cut(rest, '~');
+        let folder = folder_after(rt, "index", script)?;
+        let paths = paths_of(rt, folder.as_str(), revision)?;
+        remove_dir_all(&rt, folder.as_str())?;
+        is_right(&rt, paths.as_str() == want, row, paths.as_str());
+    }
+    Ok(())
+}
+
+/// What the shell does, and how the first note begins on what is said of the object `hi` and of the index.
+const NOTES: &[&str] = &[
+    "new~",
+    "new; git replace $(cat ../hi) $(echo ho | git hash-object -w --stdin)~\
+      object 45b983be36b73c0788dc9cbcb76cbb80fc7bb057 is replaced (git replace)",
+    // a partial clone is one whose remote is said to be a promisor, or has a filter, whatever is said behind
+    "git init -q repo; git -C repo config remote.a.promisor false~",
+    "git init -q repo; git -C repo config remote.a.promisor true; git -C repo config --add remote.a.promisor false~\
+      this partial clone lacks 1 objects",
+    "git init -q repo; git -C repo config remote.a.partialCloneFilter blob:none~this partial clone lacks 1 objects",
+    "git init -q repo; git -C repo config extensions.partialClone a~this partial clone lacks 1 objects",
+    "new; printf '100644 %s 1\\td/.gitattributes\\n100644 %s 2\\td/.gitattributes\\n' $(cat ../hi) $(cat ../hi) | \
+      git update-index --index-info~d/.gitattributes is unmerged",
+];
+
+/// The first note on a repository once this object was read.
+fn first_note(rt: HostRuntime, folder: &str) -> Result<String, Fail> {
+    let Ok(mut repo) = open(rt, folder, "-") else {
+        return Ok(String::from_str(rt.alloc(), "no repository")?);
+    };
+    let _ = read_hi(&mut repo, 99);
+    match repo.notes()?.first() {
+        Some(note) => Ok(note.clone()?),
+        None => Ok(String::new(rt.alloc())),
+    }
+}
+
+#[test]
+fn notes_name_what_git_would_give_otherwise(rt: HostRuntime) -> Result<(), Fail> {
+    if !has_git(rt)? {
+        return Ok(());
+    }
+    for row in NOTES {
+        let (script, want) = cut(row, '~');
+        let folder = folder_after(rt, "notes", script)?;
+        let note = first_note(rt, folder.as_str())?;
+        remove_dir_all(&rt, folder.as_str())?;
+        let is_so = note.as_str().starts_with(want) && note.is_empty() == want.is_empty();
+        is_right(&rt, is_so, row, note.as_str());
+    }
+    Ok(())
+}
+
+/// Makes a partial clone that lacks thirty objects, of a remote with a name that has to be quoted for a shell.
+const PARTIAL: &str =
+    "new; git config uploadpack.allowFilter true; for n in $(seq 30); do echo $n > $n; done; \
+    git add .; git commit -qm a; cd ..; mv repo a; git clone -qn -o \"it's\" --filter=blob:none file://$PWD/a repo; \
+    git -C repo read-tree HEAD";
+
+/// Whether the object with this name is there.
+fn is_there(repo: &mut GitRepo, name: &[u8; 20]) -> Result<bool, Fail> {
+    let mut blob = repo.blob(name)?;
+    let taken = blob.take_all(99);
+    repo.take_back(blob);
+    Ok(matches!(taken, Ok(Some(_))))
+}
+
+/// How many objects of the index are there. Each is read twice.
+fn count_there(rt: HostRuntime, repo: &mut GitRepo) -> Result<usize, Fail> {
+    let mut count = 0usize;
+    let Ok(Some(bytes)) = repo.index_bytes(1_048_576) else {
+        return Ok(count);
+    };
+    let Ok(index) = read_index(rt.alloc(), bytes.as_slice()) else {
+        return Ok(count);
+    };
+    for entry in index.entries() {
+        let was_there = is_there(repo, &entry.name)?;
+        if is_there(repo, &entry.name)? && was_there {
+            count = count.saturating_add(1);
+        }
+    }
+    Ok(count)
+}
+
+#[test]
+fn a_note_has_the_command_that_fetches_what_a_partial_clone_lacks(
+    rt: HostRuntime,
+) -> Result<(), Fail> {
+    if !has_git(rt)? {
+        return Ok(());
+    }
+    for revision in ["-", "HEAD"] {
+        let folder = folder_after(rt, "partial", PARTIAL)?;
+        let Ok(mut repo) = open(rt, folder.as_str(), revision) else {
+            panic!(rt; "no repository");
+        };
+        let before = count_there(rt, &mut repo)?;
+        let notes = repo.notes()?;
+        let (words, command) = cut(notes.first().map_or("", |note| note.as_str()), ':');
+        let is_fetched = runs(rt, folder.as_str(), command)?;
+        let after = count_there(rt, &mut repo)?;
+        remove_dir_all(&rt, folder.as_str())?;
+        assert!(rt; words == "this partial clone lacks 30 objects. To fetch them");
+        assert!(rt; is_fetched && before == 0 && after == 30);
+    }
+    Ok(())
+}

@@ -1,0 +1,45 @@
+//! What a leaf makes, by its mark and by what the worktree's file system keeps.
+ghost use Rattle.std.specs.Prelude.{◌≡◌};
+ghost use Rattle.git_tree.specs.Kinds.{kind_of, mode_of};
+
+use edge_kit::Mark;
+
+/// What a worktree's file system keeps (git-config(1)).
+#[derive(Clone, Copy)]
+pub struct Keeps {
+    /// Links, as `core.symlinks` says. Without them a link is a plain file with its text.
+    pub links: bool,
+    /// Whether a file is executable, as `core.fileMode` says. Git makes executable files whatever it says. Without it a
+    /// file system may refuse to take the permission from a file.
+    pub modes: bool,
+}
+
+/// What stands at a path.
+#[derive(Clone, Copy)]
+pub enum Kind {
+    File,
+    Program,
+    Link,
+}
+
+/// What a sealed leaf leaves.
+pub fn kind_of(keeps: Keeps, mark: Mark) -> Kind
+    ensures { result ≡ kind_of keeps mark }
+{
+    match mark {
+        Mark::Plain => Kind::File,
+        Mark::Executable => Kind::Program,
+        Mark::LinkText if keeps.links => Kind::Link,
+        Mark::LinkText => Kind::File,
+    }
+}
+
+/// The mode that a file is made with. The system takes the umask from it.
+pub fn mode_of(kind: Kind) -> u32
+    ensures { result ≡ mode_of kind }
+{
+    match kind {
+        Kind::Program => 0o777,
+        Kind::File | Kind::Link => 0o666,
+    }
+}

@@ -1,0 +1,111 @@
+ghost use Rattle.std.specs.Prelude.{◌≡◌, ◌+◌, ◌≤◌, IfOk, None, string_bytes, vec_len, vec_capacity};
+ghost use Rattle.edge_kit.specs.declared.leaf_state.LeafState.TheVariants.{Fresh};
+ghost use Rattle.edge_adapters.specs.Paths.{path_in};
+
+use crate::kinds::Keeps;
+use crate::leaf::GitLeaf;
+use byte_path::Bytes;
+use edge_adapters::{WriteErrors, holds_nothing, path_in};
+use edge_kit::{Failed, LeafState, Worktree};
+use std::alloc::{AllocError, Global};
+use std::io::ErrorKind;
+
+/// A folder that a checkout fills as git does, with executable files and links.
+#[derive(Drop)]
+pub struct GitTree {
+    rt: HostRuntime,
+    alloc: Global,
+    pub folder: String,
+    pub keeps: Keeps,
+    faults: u64,
+    out: usize,
+    returned: Vec<(Bytes, LeafState, u64)>,
+    // what the leaves that were given back failed for
+    errors: WriteErrors,
+    // there is room for each leaf that is out
+    ghost room: { vec_len returned + out ≤ vec_capacity returned },
+}
+
+impl GitTree {
+    /// The folder at this path, there or not, on a file system that keeps this. It reads nothing.
+    pub fn new(rt: HostRuntime, folder: String, keeps: Keeps) -> GitTree
+        ensures folder { result.folder ≡ folder }
+        ensures keeps { result.keeps ≡ keeps }
+    {
+        let alloc = rt.alloc();
+        GitTree {
+            rt,
+            alloc,
+            folder,
+            keeps,
+            faults: 0,
+            out: 0,
+            returned: Vec::new(alloc),
+            errors: WriteErrors::new(alloc),
+        }
+    }
+
+    /// What the leaves that were given back failed for.
+    pub fn errors(&self) -> &WriteErrors {
+        &self.errors
+    }
+
+    /// A leaf for the file with this path.
+    fn file(&self, path: &str) -> Result<GitLeaf, AllocError>
+        ensures path { IfOk result (λ l. l.path ≡ path.now) }
+        ensures full { IfOk result (λ l.
+            string_bytes l.full ≡ path_in (string_bytes self.now.folder) path.now) }
+        ensures keeps { IfOk result (λ l. l.keeps ≡ self.now.keeps) }
+        ensures fresh { IfOk result (λ l. l.state ≡ Fresh) }
+        ensures unfailed { IfOk result (λ l. l.faults ≡ 0) }
+    {
+        let full = path_in(self.alloc, self.folder.as_str(), path)?;
+        let path = Bytes::copy_of(self.alloc, path.as_bytes())?;
+        Ok(GitLeaf::new(self.rt, path, full, self.folder.len(), self.keeps))
+    }
+}
+
+impl Worktree for GitTree {
+    type Leaf = GitLeaf;
+
+    ghost seen = { λ t. record {
+      empty = None;
+      files = None;
+      faults = t.faults;
+      out = t.out;
+      returned = t.returned.items;
+    } };
+
+    ghost empty_files = { λ _ _. tt };
+
+    ghost ordered_files = { λ _. tt };
+
+    fn is_empty(&mut self) -> Result<bool, Failed> {
+        match holds_nothing(self.rt, self.folder.as_str()) {
+            Ok(empty) => Ok(empty),
+            Err(error) => match error.kind() {
+                ErrorKind::NotFound => Ok(true),
+                _ => {
+                    self.faults = self.faults.saturating_add(1);
+                    Err(Failed)
+                }
+            },
+        }
+    }
+
+    fn leaf(&mut self, path: &str) -> Result<GitLeaf, AllocError> {
+        let leaf = self.file(path)?;
+        self.errors.reserve()?;
+        self.returned.reserve(self.out + 1)?;
+        self.out += 1;
+        Ok(leaf)
+    }
+
+    fn take_back(&mut self, leaf: GitLeaf) {
+        if let Some(error) = &leaf.error {
+            self.errors.add(error, &leaf.path);
+        }
+        let _ = self.returned.push(leaf.ended());
+        self.out -= 1;
+    }
+}

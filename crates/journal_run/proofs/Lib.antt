@@ -1,0 +1,4 @@
+pub mod Ends
+pub mod Legal
+pub mod Starts
+pub mod Planned

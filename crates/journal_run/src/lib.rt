@@ -1,0 +1,15 @@
+//! Journals at work: that of a rehearsal, that of a checkout, and the audit of one in a file.
+#![tactic(auto)]
+
+mod checkout;
+mod finding;
+mod laws;
+mod rehearsing;
+mod run;
+mod status;
+mod words;
+
+pub use checkout::{JournalFault, checkout_journal};
+pub use laws::{a_file_has_one_finding, checkouts_are_legal, rehearsals_are_legal, runs_are_legal};
+pub use run::journal_run;
+pub use words::is_journal;

@@ -1,0 +1,120 @@
+//! The file for the journal of a checkout.
+use anyhow::Result;
+use checkout_core::Event;
+use edge_adapters::remove_own;
+use edge_kit::Repo;
+use journal_run::checkout_journal;
+use std::alloc::AllocError;
+use std::fs::{File, OpenOptions};
+use std::io;
+use std::io::{ErrorKind, Write};
+
+/// What a checkout leaves for its journal.
+#[derive(Clone, Copy)]
+pub struct Ended<'a> {
+    /// The words that the engine got.
+    pub words: &'a [String],
+    pub status: u8,
+    /// The events of the run, in order.
+    pub history: &'a [Event],
+}
+
+impl Ended<'_> {
+    /// Whether the checkout reached its report.
+    fn has_journal(&self) -> bool {
+        self.status < 2 || !self.history.is_empty()
+    }
+}
+
+/// A new file for the journal of a checkout. It is made before the checkout, so that a place where none can be is told
+/// in time. When it is dropped without its whole journal, it is removed.
+pub struct JournalFile {
+    rt: HostRuntime,
+    /// What standard error says first of it.
+    title: String,
+    path: String,
+    file: File,
+    is_whole: bool,
+}
+
+fn new_file(rt: HostRuntime, path: &str) -> io::Result<File> {
+    OpenOptions::new()
+        .write(true)
+        .create_new(true)
+        .open(&rt, path)
+}
+
+/// Says why no file can be made, unless memory ran out.
+fn refuse(
+    rt: HostRuntime,
+    title: &str,
+    error: &io::Error,
+) -> Result<Option<JournalFile>, AllocError> {
+    match error.kind() {
+        ErrorKind::OutOfMemory => return Err(AllocError),
+        ErrorKind::AlreadyExists => {
+            let _ = eprintln!(rt; "{title}: the file exists");
+        }
+        _ => {
+            let _ = eprintln!(rt; "{title}: {error}");
+        }
+    }
+    Ok(None)
+}
+
+impl JournalFile {
+    /// Makes the file where nothing is. If none can be there, standard error says why.
+    pub fn make(
+        rt: HostRuntime,
+        title: String,
+        path: String,
+    ) -> Result<Option<JournalFile>, AllocError> {
+        match new_file(rt, path.as_str()) {
+            Ok(file) => Ok(Some(JournalFile {
+                rt,
+                title,
+                path,
+                file,
+                is_whole: false,
+            })),
+            Err(error) => refuse(rt, title.as_str(), &error),
+        }
+    }
+
+    /// Writes the journal. The repository is read once more for its plan.
+    fn write<R: Repo>(&mut self, repo: &mut R, ended: Ended<'_>) -> Result<()> {
+        let alloc = self.rt.alloc();
+        let journal = checkout_journal(alloc, ended.words, repo, ended.history)?;
+        self.file.write_all(&journal)?;
+        Ok(())
+    }
+
+    /// Writes the journal of a checkout that reached its report. If it can't be written, standard error says why.
+    pub fn end<R: Repo>(mut self, repo: &mut R, ended: Ended<'_>) {
+        if !ended.has_journal() {
+            return;
+        }
+        match self.write(repo, ended) {
+            Ok(()) => self.is_whole = true,
+            Err(error) => {
+                let title = &self.title;
+                let _ = eprintln!(self.rt; "{title}: {error}");
+            }
+        }
+    }
+}
+
+impl Drop for JournalFile {
+    fn drop(self) {
+        let JournalFile {
+            rt,
+            title: _,
+            path,
+            file,
+            is_whole,
+        } = self;
+        if !is_whole {
+            let _ = remove_own(rt, &file, path.as_str());
+        }
+    }
+}

@@ -1,0 +1,52 @@
+//! How the program ends, and what it says of that.
+use git_edge::{GitFault, GitRepo};
+use program_kit::message_of;
+
+/// Says what a status of the engine means.
+pub fn end_with(rt: HostRuntime, status: u8) -> u8 {
+    if let Some(message) = message_of(status) {
+        let _ = eprintln!(rt; "error: {message}");
+    }
+    status
+}
+
+/// Gives the help or the version that the words ask for.
+pub fn give(rt: HostRuntime, text: &str) -> u8 {
+    match print!(rt; "{text}") {
+        Ok(()) => 0,
+        Err(_) => end_with(rt, 4),
+    }
+}
+
+/// Says what is wrong with the words.
+pub fn refuse_words(rt: HostRuntime, text: &str) -> u8 {
+    let _ = eprint!(rt; "{text}");
+    2
+}
+
+/// The status of a repository that can't be used.
+fn status_of(fault: &GitFault) -> u8 {
+    match fault {
+        GitFault::NoGit(_) | GitFault::TooOld | GitFault::NoScratch(_) => 6,
+        GitFault::NoMemory => 5,
+        GitFault::Refused(_)
+        | GitFault::NoRevision(_)
+        | GitFault::ObjectFormat(_)
+        | GitFault::BadPath => 3,
+    }
+}
+
+/// Says why a repository can't be used.
+pub fn refuse_repository(rt: HostRuntime, fault: &GitFault) -> u8 {
+    let _ = eprintln!(rt; "error: {fault}");
+    status_of(fault)
+}
+
+/// Says what git would do otherwise.
+pub fn show_notes(rt: HostRuntime, repo: &GitRepo) {
+    if let Ok(notes) = repo.notes() {
+        for note in notes.iter() {
+            let _ = eprintln!(rt; "note: {note}");
+        }
+    }
+}

@@ -1,0 +1,64 @@
+//! Checks out a Git repository into an empty folder, straight from its git folder, or shows the plan of that.
+//! It also judges the journals of checkouts.
+//!
+//! Git itself is asked for the repository's index, settings and objects. Standard output has the report, in the form
+//! that the words ask for. Standard error says what is wrong with words or with the repository, why files weren't
+//! written, what a driver wrote in place of packets, and what git would do otherwise.
+#![tactic(auto)]
+
+mod channel;
+mod checkout;
+mod ends;
+mod engine_words;
+mod journal;
+mod plan;
+mod rehearsing;
+
+use crate::checkout::check_out;
+use crate::ends::{end_with, give, refuse_words};
+use crate::journal::audit;
+use crate::plan::show_plan;
+use crate::rehearsing::rehearse;
+use program_kit::words_of;
+use siuwbren_words::{Command, WordFault, read_words};
+use std::alloc::AllocError;
+use std::env::args;
+use std::process::ExitCode;
+use std::sync::Wait;
+use std::thread::Threads;
+
+/// Does what a command asks for.
+fn obey<H: Threads + Wait + Sync>(
+    rt: HostRuntime,
+    threads: &H,
+    command: &Command<'_>,
+) -> Result<u8, AllocError> {
+    match command {
+        Command::Checkout(asked) => check_out(rt, threads, asked),
+        Command::Plan(asked) => show_plan(rt, asked),
+        Command::Rehearse { seed, paths } => rehearse(rt, threads, *seed, *paths),
+        Command::Audit { file } => audit(rt, threads, *file),
+    }
+}
+
+fn run_words<H: Threads + Wait + Sync>(rt: HostRuntime, threads: &H) -> Result<u8, AllocError> {
+    let all = args(&rt);
+    let are_text = all.is_ok();
+    let words = words_of(rt.alloc(), all)?;
+    if !are_text {
+        return Ok(refuse_words(rt, "error: a word is not UTF-8\n"));
+    }
+    match read_words(rt.alloc(), words.as_slice()) {
+        Ok(command) => obey(rt, threads, &command),
+        Err(WordFault::Wish(text)) => Ok(give(rt, text.as_str())),
+        Err(WordFault::Wrong(text)) => Ok(refuse_words(rt, text.as_str())),
+        Err(WordFault::NoMemory) => Err(AllocError),
+    }
+}
+
+fn main(rt: HostRuntime) -> ExitCode {
+    match run_words(rt, &rt) {
+        Ok(status) => ExitCode::from(status),
+        Err(_) => ExitCode::from(end_with(rt, 5)),
+    }
+}

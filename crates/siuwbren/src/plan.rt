@@ -1,0 +1,24 @@
+//! The plan of a checkout.
+use crate::channel::sink_of;
+use crate::ends::{end_with, refuse_repository};
+use checkout_engine::plan_text;
+use git_edge::GitRepo;
+use program_kit::show_refused_path;
+use siuwbren_words::Plan;
+use std::alloc::AllocError;
+
+/// Shows what a checkout of a repository's index would do.
+pub fn show_plan(rt: HostRuntime, asked: &Plan<'_>) -> Result<u8, AllocError> {
+    let mut repo = match GitRepo::open(rt, asked.git_dir, None) {
+        Ok(repo) => repo,
+        Err(fault) => return Ok(refuse_repository(rt, &fault)),
+    };
+    let mut out = sink_of(rt, asked.form);
+    let status = plan_text(rt.alloc(), &mut repo, &mut out);
+    end_with(rt, status);
+    if status == 3 {
+        show_refused_path(rt, &mut repo);
+    }
+    repo.end();
+    Ok(status)
+}

@@ -1,0 +1,52 @@
+-- What the values of options and flags say.
+use Rattle.std.specs.Prelude.{ℕ, Bool, true, false, ◌&&◌, ◌^◌, ◌-◌, if◌then◌else◌, nat_le, Option, Some, None, codes}
+use Rattle.std.specs.Str.{bytes_eq}
+use Rattle.clap.specs.Words.{Text}
+use Rattle.byte_path.specs.Decimal.{decimal_within}
+use Rattle.report_forms.specs.declared.form.Form.{Form}
+use Rattle.report_forms.specs.declared.form.Form.TheVariants as form
+use Rattle.siuwbren_words.specs.declared.command.Progress.{Progress}
+use Rattle.siuwbren_words.specs.declared.command.Progress.TheVariants as progress
+
+-- whether a flag is given
+abbrev pub is_set : Option Text → Bool
+is_set None = false
+is_set (Some text) = bytes_eq text (codes "true")
+
+abbrev pub from_one : Option ℕ → Option (Option ℕ)
+from_one None = None
+from_one (Some n) = if nat_le 1 n then Some (Some n) else None
+
+-- `--workers N`: a decimal from 1 to 16
+abbrev pub workers_of : Option Text → Option (Option ℕ)
+workers_of None = Some None
+workers_of (Some text) = from_one (decimal_within text 16)
+
+-- lines that end in NUL are a text
+abbrev pub text_form : Bool → Form
+text_form nul = if nul then form.Nul else form.Text
+
+abbrev pub other_form : Bool → Form → Option Form
+other_form nul form = if nul then None else Some form
+
+-- `--report text|json` and `-z`
+abbrev pub plan_form : Option Text → Bool → Option Form
+plan_form None nul = Some (text_form nul)
+plan_form (Some word) nul =
+    if bytes_eq word (codes "text") then Some (text_form nul)
+    else if bytes_eq word (codes "json") then other_form nul form.Json
+    else None
+
+-- `--report text|json|none` and `-z`
+abbrev pub report_form : Option Text → Bool → Option Form
+report_form None nul = Some (text_form nul)
+report_form (Some word) nul =
+    if bytes_eq word (codes "none") then other_form nul form.Failures else plan_form (Some word) nul
+
+-- `--progress`, `--no-progress` and `-q`
+abbrev pub progress_of : Bool → Bool → Bool → Option Progress
+progress_of shown hidden quiet =
+    if shown then (if hidden then None else Some progress.Shown)
+    else if hidden then Some progress.Hidden
+    else if quiet then Some progress.Hidden
+    else Some progress.OnTerminal

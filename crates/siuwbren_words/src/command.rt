@@ -1,0 +1,49 @@
+//! What the words ask the program to do.
+use report_forms::Form;
+
+/// Where the progress of a checkout is shown.
+#[derive(Clone, Copy, Debug, PartialEq, Eq)]
+pub enum Progress {
+    /// On standard error, if that is a terminal.
+    OnTerminal,
+    Shown,
+    Hidden,
+}
+
+/// A checkout into the folder `tree`.
+#[derive(Clone, Copy, Debug)]
+pub struct Checkout<'a> {
+    /// The git folder, or none for the one that git finds.
+    pub git_dir: Option<&'a str>,
+    /// The commit, tag or tree to check out, or none for the index.
+    pub commit: Option<&'a str>,
+    /// How many workers, from 1 to 16, or none for the number that the configuration has.
+    pub workers: Option<u32>,
+    pub form: Form,
+    pub progress: Progress,
+    /// Whether only failures stand on standard error.
+    pub quiet: bool,
+    /// The new file for the journal, if it is wanted.
+    pub journal: Option<&'a str>,
+    pub tree: &'a str,
+}
+
+/// The plan of a checkout.
+#[derive(Clone, Copy, Debug)]
+pub struct Plan<'a> {
+    /// The git folder, or none for the one that git finds.
+    pub git_dir: Option<&'a str>,
+    pub form: Form,
+}
+
+#[derive(Clone, Copy, Debug)]
+pub enum Command<'a> {
+    /// Write the worktree.
+    Checkout(Checkout<'a>),
+    /// Show what a checkout would do.
+    Plan(Plan<'a>),
+    /// Check out a made-up repository of this many paths, up to 99,999.
+    Rehearse { seed: u64, paths: u32 },
+    /// Judge the journal in this file.
+    Audit { file: &'a str },
+}

@@ -1,0 +1,14 @@
+//! The words after the program's name: `checkout`, `plan`, `rehearse` or `audit` with its arguments, or a wish for
+//! help.
+#![tactic(auto)]
+
+mod command;
+mod commands;
+mod fault;
+mod parser;
+mod reading;
+mod values;
+
+pub use command::{Checkout, Command, Plan, Progress};
+pub use fault::WordFault;
+pub use reading::read_words;

@@ -1,0 +1,247 @@
+//! The program's words for `clap`, with their help.
+ghost use Rattle.std.specs.Prelude.{◌≡◌, IfOk, false, codes};
+ghost use Rattle.clap.specs.Words.{app_of, rule_of};
+ghost use Rattle.clap.specs.declared.builder.command.Command.TheViews.{out-Command};
+ghost use Rattle.siuwbren_words.specs.Parser.{option_rule, flag_rule, letter_rule, place_rule};
+ghost use Rattle.siuwbren_words.specs.Parser.{checkout_app, plan_app, rehearse_app, audit_app};
+ghost use Rattle.siuwbren_words.specs.Parser.{quiet_rule, checkout_source, checkout_report, checkout_progress};
+ghost use Rattle.siuwbren_words.specs.Parser.{top_app, repository_app, siuwbren_app};
+
+use clap::{Arg, ArgAction, Command};
+use std::alloc::{AllocError, Global};
+
+const CHECKOUT_END: &str = "\
+Example, in a repository, of its index, of a release, and with a journal for siuwbren audit:
+  siuwbren checkout /tmp/tree
+  siuwbren checkout --commit v1.0 --workers 4 --report json /tmp/release
+  siuwbren checkout --journal /tmp/run /tmp/again
+
+Status: 0 if all is written, 1 if some path failed, 2 for wrong words, 3 if the repository is refused,
+4 if output failed, 5 out of memory, 6 for a read fault, 7 if TREE isn't empty. See siuwbren(1).";
+
+const PLAN_END: &str = "\
+Example:
+  siuwbren plan --git-dir /srv/project.git --report json";
+
+const REHEARSE_END: &str = "\
+Example, whose line is the same on each machine:
+  siuwbren rehearse 0 2000";
+
+const AUDIT_END: &str = "\
+Example:
+  siuwbren checkout --journal /tmp/run /tmp/tree
+  siuwbren audit /tmp/run
+
+Status: 0 if each event is legal, 1 if one isn't, 3 if FILE is no journal, 4 if output failed, 5 out of
+memory, 6 for a read fault. See siuwbren(1).";
+
+/// An option with a value.
+fn option<'a>(alloc: Global, name: &'a str, value: &'a str, help: &'a str) -> Arg<'a>
+    ensures rule { rule_of result ≡ option_rule name.entry.now }
+    ensures local { result.global ≡ false }
+{
+    Arg::new(alloc, name)
+        .long(name)
+        .value_name(value)
+        .help(help)
+}
+
+/// A flag by its long name.
+fn flag<'a>(alloc: Global, name: &'a str, help: &'a str) -> Arg<'a>
+    ensures rule { rule_of result ≡ flag_rule name.entry.now }
+    ensures local { result.global ≡ false }
+{
+    Arg::new(alloc, name)
+        .long(name)
+        .action(ArgAction::SetTrue)
+        .help(help)
+}
+
+/// A word that has to be there.
+fn place<'a>(alloc: Global, name: &'a str, value: &'a str, help: &'a str) -> Arg<'a>
+    ensures rule { rule_of result ≡ place_rule name.entry.now }
+    ensures local { result.global ≡ false }
+{
+    Arg::new(alloc, name)
+        .value_name(value)
+        .required(true)
+        .help(help)
+}
+
+fn git_dir<'a>(alloc: Global) -> Arg<'a>
+    ensures rule { rule_of result ≡ option_rule (codes "git-dir") }
+    ensures local { result.global ≡ false }
+{
+    option(
+        alloc,
+        "git-dir",
+        "DIR",
+        "The repository's git folder [default: the one that git finds]",
+    )
+}
+
+/// `-z`.
+fn nul<'a>(alloc: Global) -> Arg<'a>
+    ensures rule { rule_of result ≡ letter_rule (codes "nul") 122 }
+    ensures local { result.global ≡ false }
+{
+    Arg::new(alloc, "nul")
+        .short('z')
+        .action(ArgAction::SetTrue)
+        .help("End lines with NUL, and quote no path")
+}
+
+/// `-q`.
+fn quiet<'a>(alloc: Global) -> Arg<'a>
+    ensures rule { rule_of result ≡ quiet_rule }
+    ensures local { result.global ≡ false }
+{
+    flag(alloc, "quiet", "Say only of failures on standard error").short('q')
+}
+
+/// What is checked out, and by how many workers.
+fn checkout_source<'a>(alloc: Global) -> Result<Command<'a>, AllocError>
+    ensures app { IfOk result (λ command. app_of command ≡ checkout_source) }
+    ensures local { IfOk result (λ command. (out-Command command).has_globals ≡ false) }
+{
+    let commit = option(
+        alloc,
+        "commit",
+        "REV",
+        "A commit, tag or tree to check out [default: the index]",
+    );
+    let workers = option(
+        alloc,
+        "workers",
+        "N",
+        "1 to 16 [default: by checkout.workers]",
+    );
+    Command::new(alloc, "checkout")
+        .arg(git_dir(alloc))?
+        .arg(commit)?
+        .arg(workers)
+}
+
+/// And how that is reported.
+fn checkout_report<'a>(alloc: Global) -> Result<Command<'a>, AllocError>
+    ensures app { IfOk result (λ command. app_of command ≡ checkout_report) }
+    ensures local { IfOk result (λ command. (out-Command command).has_globals ≡ false) }
+{
+    let report = option(
+        alloc,
+        "report",
+        "FORM",
+        "text, json or none [default: text]",
+    );
+    let journal = option(
+        alloc,
+        "journal",
+        "FILE",
+        "Write all that happened, in order, into a new file",
+    );
+    checkout_source(alloc)?
+        .arg(report)?
+        .arg(nul(alloc))?
+        .arg(journal)
+}
+
+/// And what else is said of it.
+fn checkout_progress<'a>(alloc: Global) -> Result<Command<'a>, AllocError>
+    ensures app { IfOk result (λ command. app_of command ≡ checkout_progress) }
+    ensures local { IfOk result (λ command. (out-Command command).has_globals ≡ false) }
+{
+    let shown = flag(
+        alloc,
+        "progress",
+        "Show progress, also where no terminal is",
+    );
+    let hidden = flag(alloc, "no-progress", "Show no progress");
+    checkout_report(alloc)?
+        .arg(shown)?
+        .arg(hidden)?
+        .arg(quiet(alloc))
+}
+
+fn checkout<'a>(alloc: Global) -> Result<Command<'a>, AllocError>
+    ensures app { IfOk result (λ command. app_of command ≡ checkout_app) }
+    ensures local { IfOk result (λ command. (out-Command command).has_globals ≡ false) }
+{
+    let tree = place(alloc, "tree", "TREE", "The folder to fill: absent or empty");
+    checkout_progress(alloc)?
+        .about("Write the files of the index, or of a commit, into a folder")
+        .override_usage("siuwbren checkout [OPTIONS] TREE")
+        .after_help(CHECKOUT_END)
+        .arg(tree)
+}
+
+fn plan<'a>(alloc: Global) -> Result<Command<'a>, AllocError>
+    ensures app { IfOk result (λ command. app_of command ≡ plan_app) }
+    ensures local { IfOk result (λ command. (out-Command command).has_globals ≡ false) }
+{
+    let report = option(alloc, "report", "FORM", "text or json [default: text]");
+    Command::new(alloc, "plan")
+        .about("Show what a checkout of the index would do")
+        .override_usage("siuwbren plan [OPTIONS]")
+        .after_help(PLAN_END)
+        .arg(git_dir(alloc))?
+        .arg(report)?
+        .arg(nul(alloc))
+}
+
+fn rehearse<'a>(alloc: Global) -> Result<Command<'a>, AllocError>
+    ensures app { IfOk result (λ command. app_of command ≡ rehearse_app) }
+    ensures local { IfOk result (λ command. (out-Command command).has_globals ≡ false) }
+{
+    let seed = place(alloc, "seed", "SEED", "A number");
+    let paths = place(alloc, "paths", "PATHS", "How many paths, up to 99999");
+    Command::new(alloc, "rehearse")
+        .about("Check out a made-up repository in memory")
+        .override_usage("siuwbren rehearse SEED PATHS")
+        .after_help(REHEARSE_END)
+        .arg(seed)?
+        .arg(paths)
+}
+
+fn audit<'a>(alloc: Global) -> Result<Command<'a>, AllocError>
+    ensures app { IfOk result (λ command. app_of command ≡ audit_app) }
+    ensures local { IfOk result (λ command. (out-Command command).has_globals ≡ false) }
+{
+    let file = place(alloc, "file", "FILE", "A journal");
+    Command::new(alloc, "audit")
+        .about("Say whether the rules of a checkout allow a journal")
+        .override_usage("siuwbren audit FILE")
+        .after_help(AUDIT_END)
+        .arg(file)
+}
+
+/// The program without its commands. The words don't begin with its name.
+fn top<'a>(alloc: Global) -> Command<'a>
+    ensures { app_of result ≡ top_app }
+{
+    Command::new(alloc, "siuwbren")
+        .version("0.1.0")
+        .about("Checks out a Git repository into an empty folder")
+        .override_usage("siuwbren COMMAND")
+        .no_binary_name(true)
+        .subcommand_required(true)
+}
+
+/// The program with the commands that read a repository.
+fn repository_commands<'a>(alloc: Global) -> Result<Command<'a>, AllocError>
+    ensures { IfOk result (λ command. app_of command ≡ repository_app) }
+{
+    let checkout = checkout(alloc)?;
+    let plan = plan(alloc)?;
+    top(alloc).subcommand(checkout)?.subcommand(plan)
+}
+
+/// The program's parser.
+pub fn siuwbren<'a>(alloc: Global) -> Result<Command<'a>, AllocError>
+    ensures { IfOk result (λ command. app_of command ≡ siuwbren_app) }
+{
+    let rehearse = rehearse(alloc)?;
+    let audit = audit(alloc)?;
+    repository_commands(alloc)?
+        .subcommand(rehearse)?
+        .subcommand(audit)
+}

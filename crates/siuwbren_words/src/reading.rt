@@ -1,0 +1,97 @@
+//! Reads the words.
+ghost use Rattle.std.specs.Prelude.{◌≡◌, map, option_map, string_bytes, true};
+ghost use Rattle.clap.specs.Words.{app_of, found_of, is_simple_and_free, kind_of, rows_of};
+ghost use Rattle.clap.specs.Words.{subcommand_rows_of};
+ghost use Rattle.clap.specs.declared.error.kind.ErrorKind.TheVariants.{OutOfMemory};
+ghost use Rattle.siuwbren_words.specs.Asked.{Gives, asked_in, asked_of};
+ghost use Rattle.siuwbren_words.specs.Parser.{Finds, command_in, siuwbren_app};
+ghost use Rattle.siuwbren_words.specs.declared.fault.WordFault.TheVariants.{NoMemory};
+
+use crate::command::Command;
+use crate::commands::command_of;
+use crate::fault::WordFault;
+use crate::parser::siuwbren;
+use crate::values::Mistake;
+use clap::error::ErrorKind;
+use clap::{ArgMatches, Error};
+use std::alloc::Global;
+
+/// What a refusal of `clap` comes to.
+fn fault_of(alloc: Global, error: &Error) -> WordFault
+    ensures { kind_of error.now ≡ OutOfMemory → result ≡ NoMemory }
+{
+    let kind = error.kind();
+    if kind == ErrorKind::OutOfMemory {
+        return WordFault::NoMemory;
+    }
+    let Ok(text) = format!(in alloc; "{error}") else {
+        return WordFault::NoMemory;
+    };
+    match kind {
+        ErrorKind::DisplayHelp | ErrorKind::DisplayVersion => WordFault::Wish(text),
+        _ => WordFault::Wrong(text),
+    }
+}
+
+/// What a mistake comes to.
+fn wrong(alloc: Global, mistake: &Mistake<'_>) -> WordFault {
+    match format!(in alloc; "error: {mistake}\n\nFor more information, try '--help'.\n") {
+        Ok(text) => WordFault::Wrong(text),
+        Err(_) => WordFault::NoMemory,
+    }
+}
+
+/// The arguments that words give to a parser.
+fn matches_in<'a>(
+    alloc: Global,
+    parser: clap::Command<'a>,
+    words: &'a [String],
+) -> Result<ArgMatches<'a>, WordFault>
+    requires { is_simple_and_free (app_of parser) ≡ true }
+    ensures { Finds (command_in (app_of parser.entry) (map string_bytes words.entry.now)) result }
+{
+    match parser.try_get_matches_from(words) {
+        Ok(matches) => Ok(matches),
+        Err(error) => Err(fault_of(alloc, &error)),
+    }
+}
+
+/// The command's name and its arguments.
+fn subcommand_of<'m, 'a>(matches: &'m ArgMatches<'a>) -> Option<(&'a str, &'m ArgMatches<'a>)>
+    ensures { option_map (λ p. (p.0.now, rows_of (found_of p.1.now))) result ≡ subcommand_rows_of matches.now }
+{
+    matches.subcommand()
+}
+
+/// The arguments that words give to the program's parser.
+fn found_in(alloc: Global, words: &[String]) -> Result<ArgMatches<'_>, WordFault>
+    ensures { Finds (command_in siuwbren_app (map string_bytes words.now)) result }
+{
+    match siuwbren(alloc) {
+        Ok(parser) => matches_in(alloc, parser, words),
+        Err(_) => Err(WordFault::NoMemory),
+    }
+}
+
+/// The command that the arguments give, or what is wrong with them.
+fn command_by<'a>(alloc: Global, matches: &ArgMatches<'a>) -> Result<Command<'a>, WordFault>
+    ensures { Gives (asked_in (subcommand_rows_of matches.now)) result }
+{
+    let Some((name, arguments)) = subcommand_of(matches) else {
+        return Err(wrong(alloc, &Mistake::NoCommand));
+    };
+    match command_of(name, arguments) {
+        Ok(command) => Ok(command),
+        Err(mistake) => Err(wrong(alloc, &mistake)),
+    }
+}
+
+/// The command that the words after the program's name ask for, or a text: help, the version, or what is wrong.
+pub fn read_words(alloc: Global, words: &[String]) -> Result<Command<'_>, WordFault>
+    ensures { Gives (asked_of (map string_bytes words.now)) result }
+{
+    match found_in(alloc, words) {
+        Ok(matches) => command_by(alloc, &matches),
+        Err(fault) => Err(fault),
+    }
+}
