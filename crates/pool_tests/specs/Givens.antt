@@ -3,7 +3,7 @@ use Rattle.std.specs.Prelude.{Bool, List, map}
 use Rattle.edge_kit.specs.Told.{Told}
 use Rattle.checkout_core.specs.declared.path.Start.{Start}
 use Rattle.convert_plan.specs.declared.card.Card.{Card}
-use Rattle.driver_desk.specs.Recorders.{Standing}
+use Rattle.driver_desk.specs.Recorders.{Standing, RecorderSeen}
 use Rattle.edge_kit.specs.Seen.{BlobSeen, LeafSeen}
 use Rattle.convert_plan.specs.Card.{card_seen}
 use Rattle.driver_desk.specs.Serving.{Given}
@@ -31,4 +31,12 @@ module _ (told : Source → Told) (blob : Source → BlobSeen) (leaf : Sheet →
     driver = 0;
     required = required;
     cards = map (λ c. card_seen told blob leaf c) cards;
+  }
+
+  -- what is seen of the ledger of that driver
+  abbrev pub ledger_seen : Bool → List Start → List (Card Source Sheet) → List Taken → RecorderSeen (Unit {0})
+  ledger_seen required starts cards taken = record {
+    standing = standing_of required starts cards;
+    given = given_in taken;
+    fixed = tt;
   }

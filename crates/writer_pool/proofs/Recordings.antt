@@ -29,10 +29,10 @@ use Rattle.checkout_book.specs.Entries.{events_of}
 use Rattle.checkout_book.specs.Shelves.{cards_of, joined, IsOut, IsRefused}
 use Rattle.checkout_book.specs.Passes.{Stamped, IsPass, Closes, Appends, note_entry, close_entry}
 use Rattle.checkout_book.specs.Reserving.{AreDealt}
-use Rattle.driver_desk.specs.Recorders.{Standing, event_of, events_in, MayDo}
+use Rattle.driver_desk.specs.Recorders.{Standing, RecorderSeen, gave, event_of, events_in, MayDo}
 use Rattle.driver_desk.specs.Serving.{Given, Noted, Closed, HandedBack}
 use Rattle.writer_pool.specs.Working.{own_events}
-use Rattle.writer_pool.specs.OnBook.{card_of, closed_by, given_by, given_in, ClosesOwn, CloseOwn, Recording, place_of, items_of, desk_cards, IsDeskPass, standing_at, standing_of, given_of}
+use Rattle.writer_pool.specs.OnBook.{card_of, closed_by, given_by, given_in, ClosesOwn, CloseOwn, Recording, place_of, items_of, desk_cards, IsDeskPass, Place, standing_at, standing_of, given_of, recorder_of}
 use Rattle.writer_pool.proofs.Places.{some_is, same_number, eqb_self, get_map, get_map_back, get_front, get_second}
 use Rattle.writer_pool.proofs.Dealt.{same_place, starts_at}
 
@@ -285,6 +285,17 @@ module _ {B L : Type 0} (see : Sight B L) where
     pub given : given_of see (record { pass = t; required = required }) ≡ given_of see r ++ g ∷ []
     pub standing : standing_of see (record { pass = t; required = required }) ≡ standing_of see r
     pub place : place_of (record { pass = t; required = required }) ≡ place_of r
+
+  -- it is one more entry, and nothing else
+  pub is_gave : (r s : Recording B L) (g : Given) → given_of see s ≡ given_of see r ++ g ∷ []
+      → standing_of see s ≡ standing_of see r → place_of s ≡ place_of r → recorder_of see s ≡ gave (recorder_of see r) g
+  is_gave r s g given standing place =
+      ap (λ (z : Standing). recorded z (given_of see s) (place_of s)) standing
+      ∙ (ap (λ (z : List Given). recorded (standing_of see r) z (place_of s)) given
+      ∙ ap (λ (z : Place B L). recorded (standing_of see r) (given_of see r ++ g ∷ []) z) place)
+    where
+      recorded : Standing → List Given → Place B L → RecorderSeen (Place B L)
+      recorded z gs p = record { standing = z; given = gs; fixed = p }
 
   pub standing_is : (lock : TableId) (s : SeatView Entry (Plan B L)) (required : Bool) (i : IsDeskPass lock s)
       → standing_of see (record { pass = s; required = required })

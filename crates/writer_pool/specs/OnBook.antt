@@ -18,7 +18,7 @@ use Rattle.checkout_book.specs.declared.plan.Entry.{Entry}
 use Rattle.checkout_book.specs.Sights.{Sight, seen}
 use Rattle.checkout_book.specs.Passes.{IsPass}
 use Rattle.checkout_book.specs.Reserving.{AreDealt}
-use Rattle.driver_desk.specs.Recorders.{Standing}
+use Rattle.driver_desk.specs.Recorders.{Standing, RecorderSeen}
 use Rattle.driver_desk.specs.Serving.{Given, Noted, Closed, HandedBack}
 use Rattle.writer_pool.specs.Closing.{closed_card}
 use Rattle.writer_pool.specs.Working.{blob_in, leaf_in}
@@ -112,3 +112,7 @@ module _ {B L : Type 0} (see : Sight B L) where
 
   abbrev pub given_of : Recording B L → List Given
   given_of r = given_in (standing_of r).cards (mine_of r.pass)
+
+  -- what is seen of it as a recorder
+  abbrev pub recorder_of : Recording B L → RecorderSeen (Place B L)
+  recorder_of r = record { standing = standing_of r; given = given_of r; fixed = place_of r }

@@ -1,12 +1,12 @@
 //! The recorder that writes into a book.
-ghost use Rattle.std.specs.Prelude.{◌≡◌, ◌++◌, ◌+◌, ◌∷◌, [], Some, None, false};
+ghost use Rattle.std.specs.Prelude.{◌≡◌, ◌+◌, Some, None, false};
 ghost use Rattle.convert_plan.specs.Card.{card_seen, IsOneOf, IsRefusedOneOf};
 ghost use Rattle.checkout_core.specs.Actors.{driver_at};
 ghost use Rattle.checkout_core.specs.declared.event.Event.TheVariants.{Close, HandBack};
 ghost use Rattle.checkout_book.specs.Sights.{sight};
-ghost use Rattle.driver_desk.specs.Recorders.{MayDo};
+ghost use Rattle.driver_desk.specs.Recorders.{MayDo, gave};
 ghost use Rattle.driver_desk.specs.Serving.{Closed, HandedBack};
-ghost use Rattle.writer_pool.specs.OnBook.{Place, IsDeskPass, standing_of, given_of, place_of};
+ghost use Rattle.writer_pool.specs.OnBook.{Place, IsDeskPass, standing_of, given_of, recorder_of};
 
 use checkout_book::book;
 use checkout_book::book::{Book, Pass};
@@ -77,15 +77,11 @@ impl<'a, B: Blob, L: Leaf, G: Gate, H: Wait> OnBook<'a, B, L, G, H> {
 }
 
 impl<'a, B: Blob, L: Leaf, G: Gate, H: Wait> Recorder<B, L> for OnBook<'a, B, L, G, H> {
-    ghost standing = { λ s. standing_of (sight B.told B.seen L.seen) s };
-
-    ghost given = { λ s. given_of (sight B.told B.seen L.seen) s };
-
-    ghost sound = { λ _. Unit {0} };
-
     ghost Fixed = { Place B L };
 
-    ghost fixed = { λ s. place_of s };
+    ghost seen = { λ s. recorder_of (sight B.told B.seen L.seen) s };
+
+    ghost sound = { λ _. Unit {0} };
 
     fn note(&mut self, event: Event) {
         laws::what_may_follow_is_a_step();
@@ -99,11 +95,9 @@ impl<'a, B: Blob, L: Leaf, G: Gate, H: Wait> Recorder<B, L> for OnBook<'a, B, L,
         requires unready { card.ready ≡ None }
         requires next { let s = standing_of (sight B.told B.seen L.seen) self.old in
             MayDo s (given_of (sight B.told B.seen L.seen) self.old) (Close card.path (s.workers + s.driver) own) }
-        ensures given { given_of (sight B.told B.seen L.seen) self.new
-            ≡ given_of (sight B.told B.seen L.seen) self.old ++ Closed own (card_seen B.told B.seen L.seen card) ∷ [] }
-        ensures standing { standing_of (sight B.told B.seen L.seen) self.new
-            ≡ standing_of (sight B.told B.seen L.seen) self.old }
-        ensures fixed { place_of self.new ≡ place_of self.old }
+        ensures gave { recorder_of (sight B.told B.seen L.seen) self.new
+            ≡ gave (recorder_of (sight B.told B.seen L.seen) self.old)
+            (Closed own (card_seen B.told B.seen L.seen card)) }
         ensures sound { Unit {0} }
     {
         laws::what_may_follow_is_a_step();
@@ -121,11 +115,8 @@ impl<'a, B: Blob, L: Leaf, G: Gate, H: Wait> Recorder<B, L> for OnBook<'a, B, L,
             driver_at s.starts card.path ≡ Some s.driver }
         requires next { MayDo (standing_of (sight B.told B.seen L.seen) self.old)
             (given_of (sight B.told B.seen L.seen) self.old) (HandBack card.path) }
-        ensures given { given_of (sight B.told B.seen L.seen) self.new
-            ≡ given_of (sight B.told B.seen L.seen) self.old ++ HandedBack card.path ∷ [] }
-        ensures standing { standing_of (sight B.told B.seen L.seen) self.new
-            ≡ standing_of (sight B.told B.seen L.seen) self.old }
-        ensures fixed { place_of self.new ≡ place_of self.old }
+        ensures gave { recorder_of (sight B.told B.seen L.seen) self.new
+            ≡ gave (recorder_of (sight B.told B.seen L.seen) self.old) (HandedBack card.path) }
         ensures sound { Unit {0} }
     {
         laws::what_may_follow_is_a_step();

@@ -1,8 +1,9 @@
 //! A recorder in memory, which keeps all that it takes.
-ghost use Rattle.std.specs.Prelude.{◌≡◌, ◌++◌, ◌∷◌, [], map};
+ghost use Rattle.std.specs.Prelude.{◌≡◌, ◌++◌, ◌∷◌, []};
 ghost use Rattle.convert_plan.specs.Card.{card_seen};
+ghost use Rattle.driver_desk.specs.Recorders.{gave};
 ghost use Rattle.driver_desk.specs.Serving.{Closed, HandedBack};
-ghost use Rattle.pool_tests.specs.Givens.{given_in, standing_of};
+ghost use Rattle.pool_tests.specs.Givens.{ledger_seen};
 
 use crate::desk::sheet::{Sheet, Source};
 use crate::desk::taken::Taken;
@@ -61,51 +62,38 @@ impl<'a, H: Abort> Ledger<'a, H> {
 }
 
 impl<'a, H: Abort> Recorder<Source, Sheet> for Ledger<'a, H> {
-    ghost standing = { λ l. standing_of ⟦<Source as Blob>⟧.told ⟦<Source as Blob>⟧.seen ⟦<Sheet as Leaf>⟧.seen
-        l.required l.starts.items l.planned.value.items };
-
-    ghost given = { λ l. given_in ⟦<Source as Blob>⟧.told ⟦<Source as Blob>⟧.seen ⟦<Sheet as Leaf>⟧.seen
-        l.taken.items };
-
-    ghost sound = { λ _. Unit {0} };
-
     ghost Fixed = { Unit {0} };
 
-    ghost fixed = { λ _. tt };
+    ghost seen = { λ l. ledger_seen ⟦<Source as Blob>⟧.told ⟦<Source as Blob>⟧.seen ⟦<Sheet as Leaf>⟧.seen
+        l.required l.starts.items l.planned.value.items l.taken.items };
+
+    ghost sound = { λ _. Unit {0} };
 
     fn note(&mut self, event: Event) {
         self.keep(Taken::Noted(event));
     }
 
     fn close(&mut self, card: Card<Source, Sheet>, own: Own)
-        ensures given { let told = ⟦<Source as Blob>⟧.told in
+        ensures gave { let told = ⟦<Source as Blob>⟧.told in
             let blob = ⟦<Source as Blob>⟧.seen in
             let leaf = ⟦<Sheet as Leaf>⟧.seen in
-            given_in told blob leaf self.new.taken.items
-            ≡ given_in told blob leaf self.old.taken.items ++ Closed own (card_seen told blob leaf card) ∷ [] }
-        ensures standing { let told = ⟦<Source as Blob>⟧.told in
-            let blob = ⟦<Source as Blob>⟧.seen in
-            let leaf = ⟦<Sheet as Leaf>⟧.seen in
-            standing_of told blob leaf self.new.required self.new.starts.items self.new.planned.value.items
-            ≡ standing_of told blob leaf self.old.required self.old.starts.items self.old.planned.value.items }
-        ensures fixed { tt {0} ≡ tt {0} }
+            ledger_seen told blob leaf self.new.required self.new.starts.items self.new.planned.value.items
+            self.new.taken.items
+            ≡ gave (ledger_seen told blob leaf self.old.required self.old.starts.items self.old.planned.value.items
+            self.old.taken.items) (Closed own (card_seen told blob leaf card)) }
         ensures sound { Unit {0} }
     {
         self.keep(Taken::Closed(own, card));
     }
 
     fn hand_back(&mut self, card: Card<Source, Sheet>)
-        ensures given { let told = ⟦<Source as Blob>⟧.told in
+        ensures gave { let told = ⟦<Source as Blob>⟧.told in
             let blob = ⟦<Source as Blob>⟧.seen in
             let leaf = ⟦<Sheet as Leaf>⟧.seen in
-            given_in told blob leaf self.new.taken.items
-            ≡ given_in told blob leaf self.old.taken.items ++ HandedBack card.path ∷ [] }
-        ensures standing { let told = ⟦<Source as Blob>⟧.told in
-            let blob = ⟦<Source as Blob>⟧.seen in
-            let leaf = ⟦<Sheet as Leaf>⟧.seen in
-            standing_of told blob leaf self.new.required self.new.starts.items self.new.planned.value.items
-            ≡ standing_of told blob leaf self.old.required self.old.starts.items self.old.planned.value.items }
-        ensures fixed { tt {0} ≡ tt {0} }
+            ledger_seen told blob leaf self.new.required self.new.starts.items self.new.planned.value.items
+            self.new.taken.items
+            ≡ gave (ledger_seen told blob leaf self.old.required self.old.starts.items self.old.planned.value.items
+            self.old.taken.items) (HandedBack card.path) }
         ensures sound { Unit {0} }
     {
         self.keep(Taken::Back(card));

@@ -1,5 +1,5 @@
 use Rattle.checkout_book.specs.Sights.{sight}
-use Rattle.writer_pool.proofs.Recordings.{close_may, closed}
+use Rattle.writer_pool.proofs.Recordings.{is_gave, close_may, closed}
 use Rattle.writer_pool.proofs.on_book.OnBookRecorder.close.Goals as goal
 
 pub close-requires : goal.close-requires
@@ -23,32 +23,12 @@ invariant_of-self g c =
     c.args.own c.requires.card c.requires.unready (c.close.ensures i.plan i.made i.core i.pass) in
     a.desk
 
-pub returns-clause-given : goal.returns-clause-given
-returns-clause-given g c =
+pub returns-clause-gave : goal.returns-clause-gave
+returns-clause-gave g c =
     let see = sight g.B.Blob.told g.B.Blob.seen g.L.Leaf.seen in
     let s = c.self.inside in
     let i = c.self.invariant in
     let is = c.self.view_is in
     let a = closed see s.book.now s.pass c.close.new.pass s.required c.args.self.now is i c.args.card
     c.args.own c.requires.card c.requires.unready (c.close.ensures i.plan i.made i.core i.pass) in
-    a.given
-
-pub returns-clause-standing : goal.returns-clause-standing
-returns-clause-standing g c =
-    let see = sight g.B.Blob.told g.B.Blob.seen g.L.Leaf.seen in
-    let s = c.self.inside in
-    let i = c.self.invariant in
-    let is = c.self.view_is in
-    let a = closed see s.book.now s.pass c.close.new.pass s.required c.args.self.now is i c.args.card
-    c.args.own c.requires.card c.requires.unready (c.close.ensures i.plan i.made i.core i.pass) in
-    a.standing
-
-pub returns-clause-fixed : goal.returns-clause-fixed
-returns-clause-fixed g c =
-    let see = sight g.B.Blob.told g.B.Blob.seen g.L.Leaf.seen in
-    let s = c.self.inside in
-    let i = c.self.invariant in
-    let is = c.self.view_is in
-    let a = closed see s.book.now s.pass c.close.new.pass s.required c.args.self.now is i c.args.card
-    c.args.own c.requires.card c.requires.unready (c.close.ensures i.plan i.made i.core i.pass) in
-    a.place
+    is_gave see _ _ _ a.given a.standing a.place
