@@ -12,7 +12,6 @@ ghost use Rattle.driver_host.specs.declared.work.Choice.TheVariants as choice;
 ghost use Rattle.driver_host.specs.Requests.{IsRequest, Hello, Offer, Smudge, Listing};
 ghost use Rattle.driver_host.specs.Answers.{hello_answer, caps_answer, choice_answer, list_answer, reply_to, given};
 ghost use Rattle.driver_host.specs.Answers.{AreShort};
-
 ghost use Rattle.pkt_line.specs.Packets.{Packet, total};
 ghost use Rattle.filter_words.specs.Outcomes.{outcome, limit};
 ghost use Rattle.filter_words.specs.Handshake.{handshake_step, handshake_start};

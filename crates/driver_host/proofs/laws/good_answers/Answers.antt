@@ -17,7 +17,8 @@ pub returns-clause-smudge : goal.returns-clause-smudge
 returns-clause-smudge c own batch agreed owed path content d cs ps t a fits =
     let x = a.2 in
     record {
-      choice = x.0; one = x.1;
+      choice = x.0;
+      one = x.1;
       heard = subst (λ (z : List Packet). outcome (reply_step d) limit reply_start z ≡ Done (reply_to x.0)) (sym x.3)
           (c.reply_grammar.ensures.again d (choice_answer x.0) (reply_to x.0)
           (c.right_replies.ensures.good d x.0 (may_later owed path d x.0 x.2))
