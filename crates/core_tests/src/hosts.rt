@@ -6,9 +6,7 @@ use crate::speaking::{ask, ask_again, begin, came_letter, list, list_letter};
 use crate::table::is_right;
 use byte_path::Bytes;
 use delay_table::DelayTable;
-use driver_host::{
-    Choice, Host, HostFault, HostLink, HostState, LateChoice, LateWork, Work,
-};
+use driver_host::{Choice, Host, HostFault, HostLink, HostState, LateChoice, LateWork, Work};
 use filter_proto::Session;
 use filter_words::{Caps, push_caps, push_hello, push_smudge};
 use std::alloc::{AllocError, Global};
@@ -24,6 +22,7 @@ struct Obeying {
 
 impl Work for Obeying {
     ghost told = { λ w. record { first = λ p c d. None; second = λ p c. None } };
+
     ghost latest = { λ w p. None };
 
     fn first(
@@ -68,7 +67,8 @@ fn letter(answer: Result<HostState, HostFault>) -> u8 {
 }
 
 /// The handshake of a client.
-const HELLO: &[u8] = b"0016git-filter-client\n000eversion=2\n00000015capability=clean\n0016capability=smudge\n\
+const HELLO: &[u8] =
+    b"0016git-filter-client\n000eversion=2\n00000015capability=clean\n0016capability=smudge\n\
     0015capability=delay\n0000";
 
 /// What comes of a first input.
@@ -230,6 +230,10 @@ fn late_letters(alloc: Global) -> Result<Vec<u8>, AllocError> {
 #[test]
 fn three_paths_come_late(rt: HostRuntime) -> Result<(), Fail> {
     let letters = late_letters(rt.alloc())?;
-    is_right(&rt, letters.as_slice() == b"DDD2CC1C0+".as_slice(), letters.as_slice());
+    is_right(
+        &rt,
+        letters.as_slice() == b"DDD2CC1C0+".as_slice(),
+        letters.as_slice(),
+    );
     Ok(())
 }

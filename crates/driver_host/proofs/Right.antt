@@ -3,7 +3,9 @@ use Rattle.std.proofs.Common.{◌≡◌, ℕ, ◌≤◌, inl, inr, Bool, true, f
 use Rattle.std.proofs.Common.{append_assoc, arith}
 use Rattle.std.specs.Prelude.{codes, nat_le}
 use Rattle.std.proofs.lemmas.Grind.{common_steps}
-use Rattle.pkt_line.specs.Packets.{Packet, Payload, Flush}
+use Rattle.pkt_line.specs.Packets.{Packet, Payload, Flush, total}
+use Rattle.filter_words.specs.Outcomes.{limit}
+use Rattle.driver_host.specs.HostText.{Owed, MayChoose}
 use Rattle.pkt_line.specs.Spelling.{pieces_of, piece_count}
 use Rattle.filter_words.specs.Requests.{line, smudge_packets}
 use Rattle.filter_words.specs.Grammar.{block}
@@ -127,3 +129,15 @@ smudges path name content false = record {
   waits = rw (no_can_delay path, blob_no_can_delay (encode_lower name)) refl;
   content_is = sym (joined_content content);
 }
+
+pub hands_fit : (a b : Bool) → total (hello_answer ++ caps_answer (record { smudge = a; delay = b })) ≤ limit
+hands_fit true true = omega arith
+hands_fit true false = omega arith
+hands_fit false true = omega arith
+hands_fit false false = omega arith
+
+pub may_later : (owed : Owed) (path : List ℕ) (d : Bool) (c : Choice) → MayChoose owed path d c → c ≡ Later → d ≡ true
+may_later owed path d (Give bytes) m e = absurd cc
+may_later owed path d Refuse m e = absurd cc
+may_later owed path d Later m e = m.0
+may_later owed path d Stop m e = absurd cc

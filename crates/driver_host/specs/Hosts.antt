@@ -9,7 +9,8 @@ use Rattle.driver_host.specs.declared.host.HostFault.TheVariants as fault
 use Rattle.driver_host.specs.declared.host.HostState.{HostState}
 use Rattle.driver_host.specs.declared.host.HostState.TheVariants as state
 use Rattle.driver_host.specs.HostText.{Fresh, Over, Waits, Stopped, Refused, IsHostText}
-use Rattle.driver_host.specs.Talks.{TalkSeen, Reading, IsTalkAfter, LineIs, TakesFlush, RefusesFlush, reading_at, Fits, IsSameHost}
+use Rattle.driver_host.specs.Talks.{TalkSeen, Reading, IsTalkAfter, LineIs, TakesFlush, RefusesFlush, reading_at}
+use Rattle.driver_host.specs.Talks.{Fits, IsSameHost}
 
 -- its talk, the bytes that it took and hasn't read, and the fault that it has met
 pub record HostSeen : Type 0 where

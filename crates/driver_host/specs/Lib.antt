@@ -2,9 +2,9 @@ pub mod Requests
 pub mod Works
 pub mod Answers
 pub mod HostText
-pub mod Chosen
 pub mod KeyLists
 pub mod Talks
 pub mod Hosts
 pub mod HostLinks
 pub mod LateWorks
+pub mod GoodAnswers

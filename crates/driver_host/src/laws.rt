@@ -4,7 +4,7 @@ ghost use Rattle.filter_words.specs.HandshakeGrammar.{IsHandshake};
 ghost use Rattle.filter_words.specs.ReplyGrammar.{IsReply};
 ghost use Rattle.filter_words.specs.SmudgeReply.{reply_start, content_in};
 ghost use Rattle.filter_words.specs.ListGrammar.{IsList, AreExpected};
-ghost use Rattle.filter_words.specs.Listing.{Listed};
+ghost use Rattle.filter_words.specs.Listing.{Listed, list_step, list_start};
 ghost use Rattle.filter_words.specs.Requests.{hello_packets, caps_packets, smudge_packets, list_packets};
 ghost use Rattle.filter_words.specs.declared.reply.Caps.{Caps};
 ghost use Rattle.driver_host.specs.declared.work.Choice.{Choice};
@@ -12,8 +12,14 @@ ghost use Rattle.driver_host.specs.declared.work.Choice.TheVariants as choice;
 ghost use Rattle.driver_host.specs.Requests.{IsRequest, Hello, Offer, Smudge, Listing};
 ghost use Rattle.driver_host.specs.Answers.{hello_answer, caps_answer, choice_answer, list_answer, reply_to, given};
 ghost use Rattle.driver_host.specs.Answers.{AreShort};
+ghost use Rattle.pkt_line.specs.Packets.{Packet, total};
+ghost use Rattle.filter_words.specs.Outcomes.{outcome, limit};
+ghost use Rattle.filter_words.specs.Handshake.{handshake_step, handshake_start};
+ghost use Rattle.filter_words.specs.declared.answer_state.AnswerState.TheVariants as state;
+ghost use Rattle.driver_host.specs.HostText.{Stage, Serving, Owed, Answers};
+ghost use Rattle.driver_host.specs.GoodAnswers.{IsHeardAs};
 
-use filter_words::reply_content;
+use filter_words::{handshake_grammar, list_grammar, reply_content, reply_grammar};
 
 /// The two answers to a handshake are a driver's.
 pub fn right_handshake()
@@ -43,3 +49,25 @@ pub fn client_requests()
         → IsRequest (Smudge path d content) (smudge_packets path name d content) }
     ensures listing { IsRequest Listing list_packets }
 {}
+
+/// Each answer of at most 536,870,912 bytes of packets is a good one to a client, which reads it packet by packet.
+pub fn good_answers()
+    ensures handshake { (caps : Caps)
+        → outcome handshake_step limit handshake_start (hello_answer ++ caps_answer caps)
+        ≡ state.Done caps }
+    ensures smudge { (own : Caps) (batch : ℕ) (agreed : Caps) (owed : Owed) (path content : List ℕ)
+        (d : Bool) (cs : List Choice) (ps : List Packet) (t : Stage)
+        → Answers own batch (Serving agreed owed) (Smudge path d content) cs ps t
+        → total ps ≤ limit → IsHeardAs d cs ps }
+    ensures list { (delayed names : List (List ℕ)) → AreShort names → AreExpected delayed [] names
+        → total (list_answer names) ≤ limit
+        → outcome (list_step delayed) limit list_start (list_answer names)
+        ≡ state.Done (Listed names) }
+{
+    right_handshake();
+    right_replies();
+    right_lists();
+    handshake_grammar();
+    reply_grammar();
+    list_grammar();
+}
