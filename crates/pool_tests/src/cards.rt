@@ -22,10 +22,11 @@ pub const HELLO: [u8; 20] =
 pub const EMPTY: [u8; 20] =
     *b"\xe6\x9d\xe2\x9b\xb2\xd1\xd6\x43\x4b\x8b\x29\xae\x77\x5a\xd8\xc2\xe4\x8c\x53\x91";
 
-/// The name of an object that isn't there.
-pub const ABSENT: [u8; 20] = [7; 20];
+/// The name of the object of 8,388,609 letters `a`.
+pub const LARGE: [u8; 20] =
+    *b"\x8c\xb2\xac\x40\xd9\x88\x7c\xbe\xb9\xa8\x69\x70\xb5\xed\x65\x84\xed\x65\x3f\x91";
 
-/// A repository in memory with the objects `HELLO` and `EMPTY`.
+/// A repository in memory with the objects `HELLO` and `EMPTY`, and no other.
 pub fn objects(alloc: Global) -> Result<MemoryRepo, AllocError> {
     let mut objects = Vec::new(alloc);
     objects.push((HELLO, Vec::from_slice(alloc, b"blob 6\0hello\n")?))?;
@@ -45,12 +46,12 @@ fn goes_to(owner: Option<u32>, start: Start) -> bool
 }
 
 /// The object of the path with this number. A driver's has the content `hello`. Of three others in a row one has it,
-/// the next none, and the last an object that isn't there.
+/// the next none, and the last many letters `a`.
 fn object_of(owner: Option<u32>, path: u32) -> [u8; 20] {
     match (owner, path % 3) {
         (Some(_), _) | (None, 0) => HELLO,
         (None, 1) => EMPTY,
-        _ => ABSENT,
+        _ => LARGE,
     }
 }
 
