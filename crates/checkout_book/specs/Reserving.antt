@@ -1,5 +1,5 @@
 -- The cards of a book as it begins and ends.
-use Rattle.std.specs.Prelude.{◌≡◌, ℕ, zero, suc, ◌≤◌, ◌<◌, false, List, [], ◌∷◌, length, map, Some}
+use Rattle.std.specs.Prelude.{◌≡◌, ℕ, zero, suc, ◌≤◌, ◌<◌, ◌+◌, ◌^◌, false, List, [], ◌∷◌, length, map, Some}
 use Rattle.std.specs.Prelude.{slice_get, slice_set}
 use Rattle.std.specs.Global.{Vec}
 use Rattle.atomic_table.specs.Seated.{TableId}
@@ -9,7 +9,7 @@ use Rattle.convert_plan.specs.declared.card.Card.{Card}
 use Rattle.convert_plan.specs.Card.{IsNewCard}
 use Rattle.checkout_core.specs.declared.path.Start.{Start}
 use Rattle.checkout_core.specs.declared.path.Start.TheVariants.{Pool}
-use Rattle.checkout_core.specs.States.{Core}
+use Rattle.checkout_core.specs.States.{Core, AreBelow}
 use Rattle.checkout_core.specs.Desks.{paths_of}
 use Rattle.checkout_core.specs.Hands.{held_at}
 use Rattle.checkout_book.specs.declared.plan.Plan.{Plan}
@@ -19,7 +19,7 @@ use Rattle.checkout_book.specs.declared.shelf.Slot.TheVariants.{Away, Waits}
 use Rattle.checkout_book.specs.Shape.{Shelf}
 use Rattle.checkout_book.specs.Sights.{Sight, seen, tell}
 use Rattle.checkout_book.specs.Entries.{history_of}
-use Rattle.checkout_book.specs.Shelves.{plan_of, IsSound, HasRoom}
+use Rattle.checkout_book.specs.Shelves.{plan_of, cards_of, IsSound, HasRoom}
 use Rattle.checkout_book.specs.Passes.{IsPass}
 
 module _ {B L : Type 0} where
@@ -60,6 +60,27 @@ module _ {B L : Type 0} where
   abbrev pub AreFresh : List (SeatView Entry (Plan B L)) → Type 0
   AreFresh [] = Unit {0}
   AreFresh (s ∷ ss) = (mine_of s ≡ []) × (seen_of s ≡ []) × AreFresh ss
+
+  -- what a book is made for
+  abbrev pub plan_for : Vec (Card B L) → Vec (Vec (Card B L)) → Vec Start → ℕ → Plan B L
+  plan_for pool desks starts workers =
+      record { pool = pool; desks = desks; starts = starts; workers = workers; drivers = length desks.items }
+
+  -- a book can be made for it
+  pub record IsPlan (see : Sight B L) (d : Plan B L) : Type 0 where
+    pub few_paths : length d.starts.items < 2 ^ 32
+    pub below : AreBelow d.drivers d.starts.items
+    pub some : 1 ≤ d.workers
+    pub few_workers : d.workers ≤ 16
+    pub few_desks : d.drivers ≤ 16
+    pub pool_is : ArePool d.starts.items d.pool.items
+    pub new : AreNew see (cards_of d)
+
+  -- the passes of its actors, which have done nothing yet
+  pub record IsBegun (lock : TableId) (d : Plan B L) (passes : List (SeatView Entry (Plan B L))) : Type 0 where
+    pub count : length passes ≡ d.workers + d.drivers
+    pub idle : AreIdle lock d 0 (d.workers + d.drivers) passes
+    pub fresh : AreFresh passes
 
   -- The shelf, after all passes came back: their entries are all that its history has, and nothing is in hand.
   pub record IsFinished (see : Sight B L) (d : Plan B L) (ss : List (SeatView Entry (Plan B L))) (s : Shelf B L)

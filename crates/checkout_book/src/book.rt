@@ -80,7 +80,7 @@ pub fn close<B: Blob, L: Leaf, H: Wait>(
         ..
     } = card;
     let Turn { mut value } = book.enter(rt, pass);
-    value.close(actor, path, blob, leaf, own);
+    value.close(actor, path, (blob, leaf), own);
     book.leave(pass, Turn { value });
 }
 

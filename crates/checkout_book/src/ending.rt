@@ -60,7 +60,7 @@ impl<B: Blob, L: Leaf> Ended<B, L> {
             leaf,
             ..
         } = card;
-        self.shelf.close(0, path, blob, leaf, own);
+        self.shelf.close(0, path, (blob, leaf), own);
     }
 
     /// The events so far.
@@ -86,10 +86,27 @@ impl<B: Blob, L: Leaf> Ended<B, L> {
             ≡ told_from 0 (length self.shelf.starts.value.items)
             (history_of (tell (sight B.told B.seen L.seen)) self.shelf) }
     {
+        self.into_history_and_parts().1
+    }
+
+    /// The events, and the blob and the leaf of every closed card as `into_parts` gives them. It takes no memory.
+    pub fn into_history_and_parts(self) -> (Vec<Event>, Vec<(B, L)>)
+        requires { GoesOn (sight B.told B.seen L.seen) self.shelf }
+        ensures history { result.0.items ≡ self.shelf.events.items }
+        ensures parts { result.1.items ≡ parts_in self.shelf.slots.items }
+        ensures told { map (λ x. tell (sight B.told B.seen L.seen) x.0 x.1) result.1.items
+            ≡ told_from 0 (length self.shelf.starts.value.items)
+            (history_of (tell (sight B.told B.seen L.seen)) self.shelf) }
+    {
         laws::a_history_keeps_its_size();
         let Ended { shelf } = self;
-        let Rack { slots, parts, .. } = shelf;
-        ended_parts(slots, parts)
+        let Rack {
+            events,
+            slots,
+            parts,
+            ..
+        } = shelf;
+        (events, ended_parts(slots, parts))
     }
 }
 

@@ -6,7 +6,7 @@ ghost use Rattle.checkout_core.specs.States.{AreBelow};
 ghost use Rattle.checkout_book.specs.declared.plan.Plan.{Plan};
 ghost use Rattle.checkout_book.specs.Shelves.{waits, joined};
 ghost use Rattle.checkout_book.specs.Reserving.{aways, placed, ArePool, AreDealt, AreNew, AreIdle};
-ghost use Rattle.checkout_book.specs.Reserving.{AreFresh, IsFinished};
+ghost use Rattle.checkout_book.specs.Reserving.{AreFresh, IsFinished, IsPlan, IsBegun, plan_for};
 ghost use Rattle.checkout_book.specs.Sights.{sight};
 
 use crate::book::{Book, Pass};
@@ -112,24 +112,8 @@ fn begin<B: Blob, L: Leaf>(
     starts: Vec<Start>,
     workers: u32,
 ) -> Result<(Book<B, L>, Vec<Pass<B, L>>), AllocError>
-    requires few_paths { length starts.items < 2 ^ 32 }
-    requires below { AreBelow (length desks.now.items) starts.items }
-    requires some { 1 ≤ workers }
-    requires few_workers { workers ≤ 16 }
-    requires few_desks { length desks.now.items ≤ 16 }
-    requires pool { ArePool starts.items pool.items }
-    requires new { AreNew (sight B.told B.seen L.seen) (pool.items ++ joined desks.now.items) }
-    ensures count { IfOk result (λ r. length r.1.items ≡ workers + length desks.now.items) }
-    ensures passes { IfOk result (λ r. AreIdle r.0
-        (record {
-          pool = pool;
-          desks = desks.now;
-          starts = starts;
-          workers = workers;
-          drivers = length desks.now.items;
-        })
-        0 (workers + length desks.now.items) r.1.items) }
-    ensures fresh { IfOk result (λ r. AreFresh r.1.items) }
+    requires { IsPlan (sight B.told B.seen L.seen) (plan_for pool desks.now starts workers) }
+    ensures { IfOk result (λ r. IsBegun r.0 (plan_for pool desks.now starts workers) r.1.items) }
 {
     let told = Snapshot::of(&pool);
     let begun = Snapshot::of(&starts);

@@ -57,17 +57,18 @@ impl<B: Blob, L: Leaf> Shelf<B, L> {
         Some(card)
     }
 
-    /// Ends the card of a path.
-    pub(crate) fn close(&mut self, actor: u32, path: u32, blob: B, leaf: L, own: Own)
+    /// Ends the card of a path, and keeps its blob and its leaf.
+    pub(crate) fn close(&mut self, actor: u32, path: u32, parts: (B, L), own: Own)
         requires sound { IsSound (sight B.told B.seen L.seen) self.old }
         requires step { is_step self.old.core (Close path actor own) ≡ true }
-        requires from { IsFrom (sight B.told B.seen L.seen) (cards_of (plan_of self.old)) path blob leaf }
+        requires from { IsFrom (sight B.told B.seen L.seen) (cards_of (plan_of self.old)) path parts.0 parts.1 }
         ensures sound { IsSound (sight B.told B.seen L.seen) self.new }
         ensures room { HasRoom self.old → HasRoom self.new }
-        ensures turned { Turned (Close path actor own) path (Ended blob leaf) self.old self.new }
+        ensures turned { Turned (Close path actor own) path (Ended parts.0 parts.1) self.old self.new }
     {
         laws::a_close_closes_its_path();
         laws::a_history_is_short();
+        let (blob, leaf) = parts;
         let closed = Event::Close { path, actor, own };
         take(&mut self.core, closed);
         let Slot::Away = mem::replace(&mut self.slots[path as usize], Slot::Ended(blob, leaf))

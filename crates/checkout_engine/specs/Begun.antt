@@ -15,8 +15,8 @@ use Rattle.checkout_engine.specs.Ends.{IsCheckout, workers_asked}
 use Rattle.checkout_engine.specs.Reading.{ReadsPlan}
 use Rattle.checkout_engine.specs.Workers.{starts_of, worker_count}
 
--- How large a checkout is. Each path begins as in a plan: at the desk of one of the drivers, in the pool, or closed with
--- a cause that a plan gives.
+-- How large a checkout is. Each path begins as in a plan: at the desk of one of the drivers, in the pool, or closed
+-- with a cause that a plan gives.
 pub record IsSmallStart (starts : List Start) (workers drivers : ℕ) : Type 0 where
   pub some_workers : 1 ≤ workers
   pub few_workers : workers ≤ 16
@@ -35,8 +35,8 @@ pub record IsPlannedRun (told : RepoTold) (asked : Option ℕ) (old new : RepoSe
   pub drivers_are : run.drivers ≡ length plan.drivers
   pub small : IsSmallStart run.starts.items run.workers run.drivers
 
--- How the checkout that words ask for begins. It stops as the reading of a plan does. There is none exactly if the words
--- are no checkout, and then nothing is read.
+-- How the checkout that words ask for begins. It stops as the reading of a plan does. There is none exactly if the
+-- words are no checkout, and then nothing is read.
 abbrev pub PlansRun : RepoTold → Option Command → RepoSeen → RepoSeen → Result (Option PlannedRun) Stop → Type 0
 PlansRun told command old new (Ok None) = (IsCheckout command → ⊥) × (new ≡ old)
 PlansRun told command old new (Ok (Some run)) =

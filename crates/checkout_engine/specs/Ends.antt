@@ -82,7 +82,8 @@ pub record IsCheckedOut (told : RepoTold) (ahead : List ℕ → Starts) (asked :
   pub talks : List DriverTalk
   pub outcomes : List Outcome
   pub verdicts : AreOutcomes told.object talks 0 plan.paths outcomes
-  pub conversations : AreDriverTalks ahead told.object plan.paths (verdicts_of outcomes) new.history 0 plan.drivers talks
+  pub conversations : AreDriverTalks ahead told.object plan.paths (verdicts_of outcomes) new.history 0 plan.drivers
+      talks
   pub files : Tells new.tree.files (files_of outcomes)
   pub blobs : new.repo ≡ with_blobs (with_blobs old.repo (blobs_of planned.entries))
       (blobs_back plan.paths outcomes)

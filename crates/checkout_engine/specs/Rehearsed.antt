@@ -42,7 +42,8 @@ bytes_of fs = sum_by (λ f. length f.bytes) fs
 -- the two halves of the line of a rehearsal, of these numbers
 abbrev pub first_words : ℕ → ℕ → ℕ → List ℕ
 first_words paths status written =
-    codes "rehearse " ++ (decimal paths ++ (codes " status " ++ (decimal status ++ (codes " written " ++ decimal written))))
+    codes "rehearse " ++ (decimal paths
+    ++ (codes " status " ++ (decimal status ++ (codes " written " ++ decimal written))))
 
 abbrev pub last_words : ℕ → ℕ → ℕ → List ℕ
 last_words unfiltered failed bytes =

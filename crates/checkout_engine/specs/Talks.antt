@@ -84,7 +84,8 @@ module _ (ahead : List ℕ → Starts) (object : List ℕ → Told) (ps : List P
   -- the talks with the drivers from d on, each with its own
   abbrev pub AreDriverTalks : ℕ → List Driver → List DriverTalk → Type 0
   AreDriverTalks d [] [] = Unit {0}
-  AreDriverTalks d (x ∷ xs) (t ∷ ts) = IsDriverTalk ahead object ps verdicts history d x t × AreDriverTalks (suc d) xs ts
+  AreDriverTalks d (x ∷ xs) (t ∷ ts) = IsDriverTalk ahead object ps verdicts history d x t
+      × AreDriverTalks (suc d) xs ts
   AreDriverTalks d [] (t ∷ ts) = ⊥
   AreDriverTalks d (x ∷ xs) [] = ⊥
 

@@ -21,8 +21,8 @@ struct Row {
     second: &'static [u8],
     /// Whether that can't be read.
     is_broken: bool,
-    /// Whether `LARGE` is there.
-    is_large: bool,
+    /// How many letters are stored as the object `LARGE`. If there are none, it is absent.
+    letters: usize,
     /// Why the second and the last path fail.
     fault: Option<FailCause>,
     /// Which path it claims (`+`) and closes (`-`).
@@ -34,7 +34,7 @@ const ROWS: &[Row] = &[
         name: "right objects, and one that is absent",
         second: b"blob 0\0",
         is_broken: false,
-        is_large: false,
+        letters: 0,
         fault: None,
         steps: "+0 +1 +2 +3 -0 -1 -2 -3 +4 -4 ",
     },
@@ -42,7 +42,7 @@ const ROWS: &[Row] = &[
         name: "a wrong name",
         second: b"blob 6\0other\n",
         is_broken: false,
-        is_large: false,
+        letters: 0,
         fault: Some(FailCause::Object(ObjectKind::WrongName)),
         steps: "+0 +1 +2 +3 -0 -1 -2 -3 +4 -4 ",
     },
@@ -50,7 +50,7 @@ const ROWS: &[Row] = &[
         name: "an object that can't be read",
         second: b"blob 0\0",
         is_broken: true,
-        is_large: false,
+        letters: 0,
         fault: Some(FailCause::ReadFailed),
         steps: "+0 +1 +2 +3 -0 -1 -2 -3 +4 -4 ",
     },
@@ -58,9 +58,17 @@ const ROWS: &[Row] = &[
         name: "more than 8 MiB",
         second: b"blob 0\0",
         is_broken: false,
-        is_large: true,
+        letters: LONG,
         fault: None,
         steps: "+0 +1 +2 -0 -1 -2 +3 +4 -3 -4 ",
+    },
+    Row {
+        name: "so much that the next path is read meanwhile, under a wrong name",
+        second: b"blob 0\0",
+        is_broken: false,
+        letters: 300_000,
+        fault: None,
+        steps: "+0 +1 +2 +3 +4 -0 -1 -2 -3 -4 ",
     },
 ];
 
@@ -69,8 +77,9 @@ fn stored(alloc: Global, row: &Row, letters: &[u8]) -> Result<MemoryRepo, AllocE
     let mut objects = Vec::new(alloc);
     objects.push((HELLO, Vec::from_slice(alloc, b"blob 6\0hello\n")?))?;
     objects.push((EMPTY, Vec::from_slice(alloc, row.second)?))?;
-    if row.is_large {
-        let mut large = Vec::from_slice(alloc, b"blob 8388609\0")?;
+    if row.letters > 0 {
+        let head = format!(in alloc; "blob {}\0", row.letters)?;
+        let mut large = Vec::from_slice(alloc, head.as_bytes())?;
         large.extend_from_slice(letters)?;
         objects.push((LARGE, large))?;
     }
@@ -84,11 +93,13 @@ fn stored(alloc: Global, row: &Row, letters: &[u8]) -> Result<MemoryRepo, AllocE
 /// The verdict, the state of the leaf and the content of a path.
 fn want<'a>(row: &Row, path: u32, letters: &'a [u8]) -> (Verdict, LeafState, &'a [u8]) {
     let absent = FailCause::Object(ObjectKind::Absent);
-    let (fault, content): (Option<FailCause>, &'a [u8]) = match path % 3 {
-        0 => (None, b"hello\n"),
-        1 => (row.fault, b""),
-        _ if row.is_large => (None, letters),
-        _ => (Some(absent), b""),
+    let wrong = FailCause::Object(ObjectKind::WrongName);
+    let (fault, content): (Option<FailCause>, &'a [u8]) = match (path % 3, row.letters) {
+        (0, _) => (None, b"hello\n"),
+        (1, _) => (row.fault, b""),
+        (_, 0) => (Some(absent), b""),
+        (_, LONG) => (None, letters),
+        _ => (Some(wrong), b""),
     };
     match fault {
         Some(cause) => (Verdict::Failed(cause), LeafState::Fresh, b""),
@@ -131,10 +142,11 @@ fn check<H: Threads + Wait + Sync + Abort>(
 }
 
 #[test]
-fn a_worker_alone_claims_four_paths_or_8_mib(rt: HostRuntime) -> Result<(), Fail> {
+fn a_worker_alone_claims_four_paths_or_8_mib_and_reads_ahead(rt: HostRuntime) -> Result<(), Fail> {
     let letters = vec![in rt.alloc(); b'a'; LONG]?;
     for row in ROWS {
-        check(&rt, rt.alloc(), row, letters.as_slice())?;
+        let (stored, _) = letters.as_slice().split_at(row.letters.min(LONG));
+        check(&rt, rt.alloc(), row, stored)?;
     }
     Ok(())
 }

@@ -20,14 +20,15 @@ use Rattle.checkout_book.specs.declared.plan.Entry.{Entry}
 use Rattle.checkout_book.specs.Sights.{Sight, seen}
 use Rattle.checkout_book.specs.Shelves.{cards_of}
 use Rattle.checkout_book.specs.Reserving.{AreIdle}
+use Rattle.driver_desk.specs.declared.desk.Served.{Served}
 use Rattle.driver_desk.specs.Desks.{DeskView}
 use Rattle.driver_desk.specs.Works.{WorkSeen, asked_in, cards_in}
 use Rattle.writer_pool.specs.declared.pooled.DeskSeed.{DeskSeed}
 use Rattle.writer_pool.specs.declared.jobs.DeskJob.{DeskJob}
 use Rattle.writer_pool.specs.declared.jobs.JobEnd.{JobEnd}
 use Rattle.writer_pool.specs.Dealing.{JobSeen, desk_of, head_of}
-use Rattle.writer_pool.specs.Jobs.{EndSeen, IsJob, AreJobs, LeavesStarter, IsThroughJob, AreThroughJobs, AreSeedJobs, AreActors, passes_in, with_starter, starters_in}
-use Rattle.writer_pool.specs.Pools.{IsSeed, AreSeeds, AreStartersBack}
+use Rattle.writer_pool.specs.Jobs.{EndSeen, IsJob, AreJobs, LeavesDesk, IsThroughJob, AreThroughJobs, AreSeedJobs, AreActors, passes_in, with_served, served_in}
+use Rattle.writer_pool.specs.Pools.{IsSeed, AreSeeds, AreStartersBack, AreTalks}
 use Rattle.writer_pool.specs.Sealing.{EndsIn, EndsAt, leaf_at}
 use Rattle.writer_pool.specs.Tying.{IsTiedIn, IsTiedAt}
 use Rattle.writer_pool.specs.Writing.{WritesCard}
@@ -187,38 +188,38 @@ module _ {S B L : Type 0} (starter : S → StarterSeen) (see : Sight B L) where
   -- each desk's starter is back
   desks_count : (lock : TableId) (d : Plan B L) (k made workers q : ℕ) (xs : List (DeskSeed S B L))
       (js : List (JobSeen B L)) (ts : List (EndSeen S B L)) → AreSeedJobs starter see workers q xs js
-      → AreThroughJobs starter see lock d k made js ts → length (starters_in ts) ≡ length xs
+      → AreThroughJobs starter see lock d k made js ts → length (served_in ts) ≡ length xs
   desks_count lock d k made workers q [] [] [] a h = refl
   desks_count lock d k made workers q [] [] (t ∷ ts) a h = absurd h
   desks_count lock d k made workers q [] (j ∷ js) ts a h = absurd a
   desks_count lock d k made workers q (x ∷ xs) [] ts a h = absurd a
   desks_count lock d k made workers q (x ∷ xs) (j ∷ js) [] a h = absurd h
   desks_count lock d k made workers q (x ∷ xs) (j ∷ js) (t ∷ ts) a h =
-      go (desks_count lock d (suc k) 0 workers (suc q) xs js ts a.1 h.1) t.starter
-      (subst (λ (o : Option (DeskJob DeskView)). LeavesStarter starter o t.starter (mine_of t.pass)) a.0
-      h.0.starter_is)
+      go (desks_count lock d (suc k) 0 workers (suc q) xs js ts a.1 h.1) t.served
+      (subst (λ (o : Option (DeskJob DeskView)). LeavesDesk starter o t.served (mine_of t.pass)) a.0
+      h.0.desk_is)
     where
-      go : length (starters_in ts) ≡ length xs → (o : Option S)
-          → LeavesStarter starter (Some (record {
+      go : length (served_in ts) ≡ length xs → (o : Option (Served S))
+          → LeavesDesk starter (Some (record {
             required = x.required;
             desk = desk_of starter see workers q (head_of x) x.cards.items;
-          })) o (mine_of t.pass) → length (with_starter o (starters_in ts)) ≡ suc (length xs)
+          })) o (mine_of t.pass) → length (with_served o (served_in ts)) ≡ suc (length xs)
       go more None l = absurd l
       go more (Some s) l = ap suc more
 
-  pub starters_count : (lock : TableId) (d : Plan B L) (k made workers n : ℕ) (xs : List (DeskSeed S B L))
+  pub served_count : (lock : TableId) (d : Plan B L) (k made workers n : ℕ) (xs : List (DeskSeed S B L))
       (js : List (JobSeen B L)) (ts : List (EndSeen S B L)) → AreActors starter see n workers xs js
-      → AreThroughJobs starter see lock d k made js ts → length (starters_in ts) ≡ length xs
-  starters_count lock d k made workers zero xs js ts a h = desks_count lock d k made workers 0 xs js ts a h
-  starters_count lock d k made workers (suc n) xs [] ts a h = absurd a
-  starters_count lock d k made workers (suc n) xs (j ∷ js) [] a h = absurd h
-  starters_count lock d k made workers (suc n) xs (j ∷ js) (t ∷ ts) a h =
-      go (starters_count lock d (suc k) 0 workers n xs js ts a.1 h.1) t.starter
-      (subst (λ (o : Option (DeskJob DeskView)). LeavesStarter starter o t.starter (mine_of t.pass)) a.0
-      h.0.starter_is)
+      → AreThroughJobs starter see lock d k made js ts → length (served_in ts) ≡ length xs
+  served_count lock d k made workers zero xs js ts a h = desks_count lock d k made workers 0 xs js ts a h
+  served_count lock d k made workers (suc n) xs [] ts a h = absurd a
+  served_count lock d k made workers (suc n) xs (j ∷ js) [] a h = absurd h
+  served_count lock d k made workers (suc n) xs (j ∷ js) (t ∷ ts) a h =
+      go (served_count lock d (suc k) 0 workers n xs js ts a.1 h.1) t.served
+      (subst (λ (o : Option (DeskJob DeskView)). LeavesDesk starter o t.served (mine_of t.pass)) a.0
+      h.0.desk_is)
     where
-      go : length (starters_in ts) ≡ length xs → (o : Option S) → LeavesStarter starter None o (mine_of t.pass)
-          → length (with_starter o (starters_in ts)) ≡ length xs
+      go : length (served_in ts) ≡ length xs → (o : Option (Served S)) → LeavesDesk starter None o (mine_of t.pass)
+          → length (with_served o (served_in ts)) ≡ length xs
       go more None l = more
       go more (Some s) l = absurd l
 
@@ -242,6 +243,12 @@ module _ {S B L : Type 0} (starter : S → StarterSeen) (see : Sight B L) where
       ap (λ (l : List ℕ). slice_get l k) (sym seed.paths)
       ∙ (get_map (λ (c : Card B L). c.path) x.cards.items k c.0 c.1 ∙ ap (λ (y : CardSeen). Some y.path) c.2)
 
+  -- what is left of the desks from that of the driver q on: their starters and their talks
+  abbrev pub AreLeft : List Start → List Event → List L → ℕ → List (DeskSeed S B L) → List (Served S) → Type 0
+  AreLeft starts history leaves q xs left =
+      AreStartersBack starter see starts history leaves q xs (map (λ s. s.starter) left)
+      × AreTalks starts history q (map (λ s. s.talk) left)
+
   -- and has talked so
   desks_back : (lock : TableId) (d : Plan B L) (k made workers q : ℕ) (xs : List (DeskSeed S B L))
       (js : List (JobSeen B L)) (ts : List (EndSeen S B L)) (starts : List Start) (history : List Event)
@@ -249,8 +256,8 @@ module _ {S B L : Type 0} (starter : S → StarterSeen) (see : Sight B L) where
       → AreSeedJobs starter see workers q xs js → AreThroughJobs starter see lock d k made js ts
       → AreSeeds starter starts q xs
       → ((i : ℕ) (t : EndSeen S B L) → slice_get ts i ≡ Some t → Tells starts history leaves (q + i) (mine_of t.pass))
-      → AreStartersBack starter see starts history leaves q xs (starters_in ts)
-  desks_back lock d k made workers q [] [] [] starts history leaves a h seeds n = tt
+      → AreLeft starts history leaves q xs (served_in ts)
+  desks_back lock d k made workers q [] [] [] starts history leaves a h seeds n = (tt, tt)
   desks_back lock d k made workers q [] [] (t ∷ ts) starts history leaves a h seeds n = absurd h
   desks_back lock d k made workers q [] (j ∷ js) ts starts history leaves a h seeds n = absurd a
   desks_back lock d k made workers q (x ∷ xs) [] ts starts history leaves a h seeds n = absurd a
@@ -258,34 +265,37 @@ module _ {S B L : Type 0} (starter : S → StarterSeen) (see : Sight B L) where
   desks_back lock d k made workers q (x ∷ xs) (j ∷ js) (t ∷ ts) starts history leaves a h seeds n =
       go (desks_back lock d (suc k) 0 workers (suc q) xs js ts starts history leaves a.1 h.1 seeds.1 (λ i u at.
       let z : q + suc i ≡ suc q + i = omega arith in
-      subst (λ (e : ℕ). Tells starts history leaves e (mine_of u.pass)) z (n (suc i) u at))) t.starter
-      (subst (λ (o : Option (DeskJob DeskView)). LeavesStarter starter o t.starter (mine_of t.pass)) a.0
-      h.0.starter_is)
+      subst (λ (e : ℕ). Tells starts history leaves e (mine_of u.pass)) z (n (suc i) u at))) t.served
+      (subst (λ (o : Option (DeskJob DeskView)). LeavesDesk starter o t.served (mine_of t.pass)) a.0
+      h.0.desk_is)
     where
       own : Tells starts history leaves q (mine_of t.pass)
       own = let z : q + 0 ≡ q = omega arith in
           subst (λ (e : ℕ). Tells starts history leaves e (mine_of t.pass)) z (n 0 t refl)
 
-      go : AreStartersBack starter see starts history leaves (suc q) xs (starters_in ts) → (o : Option S)
-          → LeavesStarter starter (Some (record {
+      go : AreLeft starts history leaves (suc q) xs (served_in ts) → (o : Option (Served S))
+          → LeavesDesk starter (Some (record {
             required = x.required;
             desk = desk_of starter see workers q (head_of x) x.cards.items;
           })) o (mine_of t.pass)
-          → AreStartersBack starter see starts history leaves q (x ∷ xs) (with_starter o (starters_in ts))
+          → AreLeft starts history leaves q (x ∷ xs) (with_served o (served_in ts))
       go more None l = absurd l
       go more (Some s) l = (
-        record {
-          works = l.works;
-          cards = l.cards;
-          read = l.read;
-          talked = λ paths fit. talked_of q paths (asked_in l.works) (starter x.starter) (starter s)
-              (noted (own_events (mine_of t.pass))) (notes starts q history) (EndsIn (mine_of t.pass))
-              (EndsAt see starts history (leaf_at starts leaves) q) (sym own.notes_are) own.seals (l.talked paths fit);
-          tied = λ i w at. own.tied w x.required (l.tied i w at)
-              (seeds.0.desk w.card.path (contains_at (paths_of q starts) i w.card.path
-              (seed_path starts q x seeds.0 l.works l.cards i w at)));
-        },
-        more,
+        (
+          record {
+            works = l.works;
+            cards = l.cards;
+            read = l.read;
+            talked = λ paths fit. talked_of q paths (asked_in l.works) (starter x.starter) (starter s.starter)
+                (noted (own_events (mine_of t.pass))) (notes starts q history) (EndsIn (mine_of t.pass))
+                (EndsAt see starts history (leaf_at starts leaves) q) (sym own.notes_are) own.seals (l.talked paths fit);
+            tied = λ i w at. own.tied w x.required (l.tied i w at)
+                (seeds.0.desk w.card.path (contains_at (paths_of q starts) i w.card.path
+                (seed_path starts q x seeds.0 l.works l.cards i w at)));
+          },
+          more.0,
+        ),
+        (l.talk ∙ sym own.notes_are, more.1),
       )
 
   pub starters_back : (lock : TableId) (d : Plan B L) (k made workers n : ℕ) (xs : List (DeskSeed S B L))
@@ -294,7 +304,7 @@ module _ {S B L : Type 0} (starter : S → StarterSeen) (see : Sight B L) where
       → AreActors starter see n workers xs js → AreThroughJobs starter see lock d k made js ts
       → AreSeeds starter starts 0 xs
       → ((i : ℕ) (t : EndSeen S B L) → slice_get ts (n + i) ≡ Some t → Tells starts history leaves i (mine_of t.pass))
-      → AreStartersBack starter see starts history leaves 0 xs (starters_in ts)
+      → AreLeft starts history leaves 0 xs (served_in ts)
   starters_back lock d k made workers zero xs js ts starts history leaves a h seeds n =
       desks_back lock d k made workers 0 xs js ts starts history leaves a h seeds (λ i t at.
       let z : 0 + i ≡ i = omega arith in
@@ -304,34 +314,34 @@ module _ {S B L : Type 0} (starter : S → StarterSeen) (see : Sight B L) where
   starters_back lock d k made workers (suc n) xs (j ∷ js) (t ∷ ts) starts history leaves a h seeds f =
       go (starters_back lock d (suc k) 0 workers n xs js ts starts history leaves a.1 h.1 seeds (λ i u at.
       let z : suc n + i ≡ suc (n + i) = omega arith in
-      f i u (ap (slice_get (t ∷ ts)) z ∙ at))) t.starter
-      (subst (λ (o : Option (DeskJob DeskView)). LeavesStarter starter o t.starter (mine_of t.pass)) a.0
-      h.0.starter_is)
+      f i u (ap (slice_get (t ∷ ts)) z ∙ at))) t.served
+      (subst (λ (o : Option (DeskJob DeskView)). LeavesDesk starter o t.served (mine_of t.pass)) a.0
+      h.0.desk_is)
     where
-      go : AreStartersBack starter see starts history leaves 0 xs (starters_in ts) → (o : Option S)
-          → LeavesStarter starter None o (mine_of t.pass)
-          → AreStartersBack starter see starts history leaves 0 xs (with_starter o (starters_in ts))
+      go : AreLeft starts history leaves 0 xs (served_in ts) → (o : Option (Served S))
+          → LeavesDesk starter None o (mine_of t.pass)
+          → AreLeft starts history leaves 0 xs (with_served o (served_in ts))
       go more None l = more
       go more (Some s) l = absurd l
 
-with_more : {S : Type 0} (o : Option S) (xs ys : List S) → with_starter o (xs ++ ys) ≡ with_starter o xs ++ ys
+with_more : {S : Type 0} (o : Option S) (xs ys : List S) → with_served o (xs ++ ys) ≡ with_served o xs ++ ys
 with_more None xs ys = refl
 with_more (Some s) xs ys = refl
 
 -- what one more leaves
-module _ {P S : Type 0} where
-  pub passes_more : (ts : List (JobEnd P S)) (t : JobEnd P S) → passes_in (ts ++ t ∷ []) ≡ passes_in ts ++ t.pass ∷ []
+module _ {P D : Type 0} where
+  pub passes_more : (ts : List (JobEnd P D)) (t : JobEnd P D) → passes_in (ts ++ t ∷ []) ≡ passes_in ts ++ t.pass ∷ []
   passes_more [] t = refl
   passes_more (x ∷ ts) t = ap (λ (l : List P). x.pass ∷ l) (passes_more ts t)
 
-  pub passes_long : (ts : List (JobEnd P S)) → length (passes_in ts) ≡ length ts
+  pub passes_long : (ts : List (JobEnd P D)) → length (passes_in ts) ≡ length ts
   passes_long [] = refl
   passes_long (t ∷ ts) = ap suc (passes_long ts)
 
-  pub starters_more : (ts us : List (JobEnd P S)) → starters_in (ts ++ us) ≡ starters_in ts ++ starters_in us
-  starters_more [] us = refl
-  starters_more (x ∷ ts) us =
-      ap (with_starter x.starter) (starters_more ts us) ∙ with_more x.starter (starters_in ts) (starters_in us)
+  pub served_more : (ts us : List (JobEnd P D)) → served_in (ts ++ us) ≡ served_in ts ++ served_in us
+  served_more [] us = refl
+  served_more (x ∷ ts) us =
+      ap (with_served x.served) (served_more ts us) ∙ with_more x.served (served_in ts) (served_in us)
 
 pub ok_two : {X Y : Type 0} (P Q S : X → Type 0) (r : Result X Y) → ((x : X) → P x → Q x → S x) → IfOk r P → IfOk r Q
     → IfOk r S

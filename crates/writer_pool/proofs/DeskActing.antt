@@ -30,6 +30,7 @@ use Rattle.driver_desk.specs.Works.{card_paths}
 use Rattle.writer_pool.specs.Closing.{IsFromBook, RefusedBacks, ServesCard}
 use Rattle.writer_pool.specs.Ends.{ShowsEnd, IsShownAll, IsBack}
 use Rattle.writer_pool.specs.OnBook.{given_in, CloseOwn, Recording, Place, place_of, IsDeskPass, standing_at, standing_of, given_of}
+use Rattle.writer_pool.specs.Serving.{recording}
 use Rattle.writer_pool.specs.Turns.{AreTurns}
 use Rattle.writer_pool.specs.Working.{AreShown, IsReady, Idled, blob_in, leaf_in, own_events}
 use Rattle.writer_pool.proofs.Places.{some_is, get_map, get_map_back, get_within, get_behind, split}
@@ -57,21 +58,23 @@ module _ {B L : Type 0} where
       }
 
 module _ {B L : Type 0} (see : Sight B L) where
-  -- what a recorder was given is what its pass lists
-  pub same_given : (s t : SeatView Entry (Plan B L)) (required : Bool) (r : Recording B L)
-      → standing_of see r ≡ standing_of see (record { pass = s; required = required })
-      → place_of r ≡ place_of (record { pass = s; required = required }) → t ≡ r.pass
-      → given_of see r ≡ given_of see (record { pass = t; required = required })
-  same_given s t required r standing place is =
+  -- a recorder stands for its pass
+  pub same_standing : (s t : SeatView Entry (Plan B L)) (required : Bool) (r : Recording B L)
+      → standing_of see r ≡ standing_of see (recording required s) → place_of r ≡ place_of (recording required s)
+      → t ≡ r.pass → standing_of see (recording required t) ≡ standing_of see r
+  same_standing s t required r standing place is =
       let told = ap (λ (p : Place B L). p.plan) place in
       let number = ap (λ (p : Place B L). p.number) place in
-      let at : standing_of see (record { pass = r.pass; required = required })
-      ≡ standing_of see (record { pass = s; required = required }) =
+      let at : standing_of see (recording required r.pass) ≡ standing_of see (recording required s) =
       λ k. standing_at see (told k) (number k) required in
-      let same : standing_of see (record { pass = t; required = required }) ≡ standing_of see r =
-      ap (λ (x : SeatView Entry (Plan B L)). standing_of see (record { pass = x; required = required })) is
-      ∙ (at ∙ sym standing) in
-      sym (ap (λ (x : Standing). given_in x.cards (mine_of t)) same
+      ap (λ (x : SeatView Entry (Plan B L)). standing_of see (recording required x)) is ∙ (at ∙ sym standing)
+
+  -- what it was given is what its pass lists
+  pub same_given : (s t : SeatView Entry (Plan B L)) (required : Bool) (r : Recording B L)
+      → standing_of see r ≡ standing_of see (recording required s) → place_of r ≡ place_of (recording required s)
+      → t ≡ r.pass → given_of see r ≡ given_of see (recording required t)
+  same_given s t required r standing place is =
+      sym (ap (λ (x : Standing). given_in x.cards (mine_of t)) (same_standing s t required r standing place is)
       ∙ ap (λ (x : SeatView Entry (Plan B L)). given_in (standing_of see r).cards (mine_of x)) is)
 
   pub none_given : (s : SeatView Entry (Plan B L)) (required : Bool) (r : Recording B L)

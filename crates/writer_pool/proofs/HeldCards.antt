@@ -1,8 +1,8 @@
 -- How a held card is written.
-use Rattle.std.proofs.Common.{◌≡◌, ℕ, Bool, true, false, Option, Some, None, Result, Ok, Err, refl, sym, ap, ◌∙◌, subst}
+use Rattle.std.proofs.Common.{◌≡◌, ℕ, Bool, true, Option, Some, None, Ok, Err, refl, sym, ap, ◌∙◌, subst}
 use Rattle.std.specs.Prelude.{is_some}
 use Rattle.edge_kit.specs.Told.{MayFail}
-use Rattle.edge_kit.specs.Seen.{BlobSeen, LeafSeen}
+use Rattle.edge_kit.specs.Seen.{LeafSeen}
 use Rattle.edge_kit.specs.declared.leaf_state.Mark.{Mark}
 use Rattle.object_dir.specs.Object.{IsObject}
 use Rattle.object_dir.specs.declared.fault.ObjectFault.{ObjectFault}
@@ -14,7 +14,7 @@ use Rattle.checkout_core.specs.declared.verdict.Own.{Own}
 use Rattle.checkout_core.specs.declared.verdict.Own.TheVariants as own
 use Rattle.checkout_core.specs.Desks.{was_read}
 use Rattle.driver_desk.specs.Cards.{KeepsCard}
-use Rattle.driver_desk.specs.Works.{IsUnread, ReadsTo, CountsRead, own_of}
+use Rattle.driver_desk.specs.Works.{ReadsTo, CountsRead, own_of}
 use Rattle.writer_pool.specs.Holding.{HoldsCard, WritesHeld}
 use Rattle.writer_pool.specs.Writing.{WritesContent, WritesCard}
 

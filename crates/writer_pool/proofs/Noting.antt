@@ -1,21 +1,14 @@
 -- What the history has of each driver's notes.
-use Rattle.std.proofs.Common.{◌≡◌, ◌==◌, ◌&&◌, ℕ, suc, ◌+◌, ◌*◌, ◌<◌, ◌≤◌, ⊎_elim, Bool, true, false, cond, List, [], ◌∷◌, ◌++◌, length, Option, Some, None, refl, sym, ap, ◌∙◌, subst, eq-eqb, ne_eqb, arith}
-use Rattle.std.specs.Prelude.{slice_get, vec_capacity, is_some}
-use Rattle.std.specs.Global.{Vec}
-use Rattle.std.proofs.lemmas.List.{length-map}
+use Rattle.std.proofs.Common.{◌≡◌, ◌==◌, ◌&&◌, ℕ, ◌+◌, ◌<◌, ⊎_elim, Bool, true, false, cond, List, [], ◌∷◌, ◌++◌, Option, Some, None, refl, sym, ap, ◌∙◌, subst, eq-eqb, ne_eqb, arith}
+use Rattle.std.specs.Prelude.{slice_get, is_some}
 use Rattle.turn_lock.specs.History.{own}
 use Rattle.turn_lock.specs.Seat.{SeatView, mine_of}
-use Rattle.edge_kit.specs.Starters.{StarterSeen}
-use Rattle.convert_plan.specs.declared.card.Card.{Card}
 use Rattle.checkout_core.specs.declared.verdict.Own.{Own}
 use Rattle.checkout_core.specs.declared.path.Start.{Start}
 use Rattle.checkout_core.specs.declared.event.Event.{Event}
 use Rattle.checkout_core.specs.declared.event.Event.TheVariants.{Claim, Close}
 use Rattle.checkout_core.specs.Actors.{actor_of, own_entries, is_actor, is_own, driver_in}
-use Rattle.checkout_core.specs.Desks.{paths_of}
 use Rattle.checkout_core.specs.Notes.{is_note, is_noted, noted, notes}
-use Rattle.checkout_core.specs.States.{Core, AreBelow}
-use Rattle.checkout_core.specs.Steps.{IsLegal}
 use Rattle.checkout_book.specs.declared.plan.Plan.{Plan}
 use Rattle.checkout_book.specs.declared.plan.Entry.{Entry}
 use Rattle.checkout_book.specs.declared.shelf.Slot.{Slot}
@@ -23,10 +16,6 @@ use Rattle.checkout_book.specs.Shape.{Shelf}
 use Rattle.checkout_book.specs.Sights.{Sight, tell}
 use Rattle.checkout_book.specs.Entries.{HaveActors, number_or, entries, entry_of}
 use Rattle.checkout_book.specs.Reserving.{IsFinished}
-use Rattle.writer_pool.specs.declared.pooled.DeskSeed.{DeskSeed}
-use Rattle.writer_pool.specs.Dealing.{AreRooms}
-use Rattle.writer_pool.specs.Pools.{AreSeeds, AreTalks}
-use Rattle.writer_pool.specs.Talks.{HaveRoom}
 use Rattle.writer_pool.specs.Working.{own_events}
 use Rattle.writer_pool.proofs.Places.{same_or}
 
@@ -114,53 +103,3 @@ module _ {B L : Type 0} (see : Sight B L) where
       ∙ ap (λ (l : List Event). noted l)
       (sym (own_same s.starts.value.items s.workers (s.workers + q) s.slots.items s.events.items f.sound.actors)
       ∙ ap (λ (l : List Entry). own_events l) (f.mine (s.workers + q) t here))) at
-
--- a driver has few notes
-abbrev pub FewNotes : Type 0
-FewNotes = (starts : List Start) (workers drivers : ℕ) (history : List Event) (x : Core) (d : ℕ)
-    → AreBelow drivers starts → d < drivers → IsLegal starts workers drivers history x
-    → length (notes starts d history) ≤ 7 * length (paths_of d starts) + 4
-
-module _ {S B L : Type 0} where
-  pub rooms_more : (xs : List (DeskSeed S B L)) (vs : List (Vec Event)) (x : DeskSeed S B L) (v : Vec Event)
-      → AreRooms xs vs → v.items ≡ [] → 7 * length x.cards.items + 4 ≤ vec_capacity v
-      → AreRooms (xs ++ x ∷ []) (vs ++ v ∷ [])
-  rooms_more [] [] x v h empty room = (empty, room, tt)
-  rooms_more [] (w ∷ vs) x v h empty room = absurd h
-  rooms_more (y ∷ xs) [] x v h empty room = absurd h
-  rooms_more (y ∷ xs) (w ∷ vs) x v h empty room = (h.0, h.1, rooms_more xs vs x v h.2 empty room)
-
-  pub rooms_length : (xs : List (DeskSeed S B L)) (vs : List (Vec Event)) → AreRooms xs vs → length vs ≡ length xs
-  rooms_length [] [] h = refl
-  rooms_length [] (v ∷ vs) h = absurd h
-  rooms_length (x ∷ xs) [] h = absurd h
-  rooms_length (x ∷ xs) (v ∷ vs) h = ap suc (rooms_length xs vs h.2)
-
-module _ {S B L : Type 0} (starter : S → StarterSeen) where
-  -- the vectors that were made for the seeds have room for the notes
-  pub have_room : FewNotes → (starts : List Start) (workers drivers : ℕ) (history : List Event) (core : Core)
-      → AreBelow drivers starts → IsLegal starts workers drivers history core → (q : ℕ)
-      (xs : List (DeskSeed S B L)) (vs : List (Vec Event)) → AreSeeds starter starts q xs → q + length xs ≤ drivers
-      → AreRooms xs vs → HaveRoom starts history q vs
-  have_room law starts workers drivers history core below legal q [] [] seeds few h = tt
-  have_room law starts workers drivers history core below legal q [] (v ∷ vs) seeds few h = absurd h
-  have_room law starts workers drivers history core below legal q (x ∷ xs) [] seeds few h = absurd h
-  have_room law starts workers drivers history core below legal q (x ∷ xs) (v ∷ vs) seeds few h =
-      let most = law starts workers drivers history core q below (omega (arith, few)) legal in
-      let count : length x.cards.items ≡ length (paths_of q starts) =
-      sym (length-map x.cards.items (λ (c : Card B L). c.path)) ∙ ap length seeds.0.paths in
-      let room = h.1 in (
-        h.0,
-        omega (arith, most, count, room),
-        have_room law starts workers drivers history core below legal (suc q) xs vs seeds.1 (omega (arith, few)) h.2,
-      )
-
-pub talks_more : (starts : List Start) (history : List Event) (q : ℕ) (vs : List (Vec Event)) (v : Vec Event)
-    → AreTalks starts history q vs → v.items ≡ notes starts (q + length vs) history
-    → AreTalks starts history q (vs ++ v ∷ [])
-talks_more starts history q [] v talks is =
-    let z : q + 0 ≡ q = omega arith in
-    (is ∙ ap (λ (j : ℕ). notes starts j history) z, tt)
-talks_more starts history q (w ∷ vs) v talks is =
-    let z : q + suc (length vs) ≡ suc q + length vs = omega arith in
-    (talks.0, talks_more starts history (suc q) vs v talks.1 (is ∙ ap (λ (j : ℕ). notes starts j history) z))

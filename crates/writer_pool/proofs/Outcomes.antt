@@ -1,5 +1,5 @@
 -- The blobs and the leaves of a complete history.
-use Rattle.std.proofs.Common.{◌≡◌, ◌==◌, ℕ, zero, suc, ◌+◌, ◌≤◌, ◌*◌, ◌⊎◌, inl, inr, ⊎_elim, Bool, true, false, cond, List, [], ◌∷◌, length, map, Option, Some, None, refl, sym, ap, ◌∙◌, subst, arith}
+use Rattle.std.proofs.Common.{◌≡◌, ◌==◌, ℕ, zero, suc, ◌+◌, ◌≤◌, ◌⊎◌, inl, inr, ⊎_elim, Bool, true, false, cond, List, [], ◌∷◌, length, map, Option, Some, None, refl, sym, ap, ◌∙◌, subst, arith}
 use Rattle.std.specs.Prelude.{slice_get}
 use Rattle.convert_plan.specs.declared.card.Card.{Card}
 use Rattle.convert_plan.specs.Card.{CardSeen}
@@ -374,10 +374,6 @@ KeepsSize = (starts : List Start) (workers drivers : ℕ) (history : List Event)
     → IsLegal starts workers drivers history x
     → (x.workers ≡ workers) × (length x.drivers ≡ drivers) × (length x.paths ≡ length starts)
 
-abbrev pub IsShort : Type 0
-IsShort = (starts : List Start) (workers drivers : ℕ) (history : List Event) (x : Core) → AreBelow drivers starts
-    → IsLegal starts workers drivers history x → length history ≤ 9 * length starts
-
 module _ {B L : Type 0} (see : Sight B L) where
   pub paths_count : KeepsSize → (d : Plan B L) (s : Shelf B L) → IsThrough see d s
       → length s.core.paths ≡ length d.starts.items
@@ -393,9 +389,3 @@ module _ {B L : Type 0} (see : Sight B L) where
       subst (λ j. IsRow see (cards_of (plan_of s)) j (slice_get s.slots.items q) (slice_get s.core.paths q)) n
       (t.quiet.goes_on.sound.rows q))
       ∙ paths_count law d s t
-
-  pub events_few : IsShort → (d : Plan B L) (s : Shelf B L) → IsThrough see d s
-      → length s.events.items ≤ 9 * length d.starts.items
-  events_few law d s t = subst (λ (x : Plan B L). length s.events.items ≤ 9 * length x.starts.items) t.plan
-      (law s.starts.value.items s.workers s.drivers s.events.items s.core t.quiet.goes_on.sound.below
-      t.quiet.goes_on.sound.run)

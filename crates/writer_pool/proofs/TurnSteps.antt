@@ -1,31 +1,26 @@
 -- Turns, step by step.
-use Rattle.std.proofs.Common.{◌≡◌, ℕ, zero, suc, ◌<◌, ◌⊎◌, inl, inr, ⊎_elim, Bool, false, List, [], ◌∷◌, ◌++◌, Some, refl, sym, ap, ◌∙◌, subst, arith}
+use Rattle.std.proofs.Common.{◌≡◌, ℕ, zero, suc, ◌<◌, ◌⊎◌, inl, inr, ⊎_elim, List, [], ◌∷◌, ◌++◌, Some, refl, sym, ap, ◌∙◌, subst, arith}
 use Rattle.std.specs.Prelude.{slice_get, length}
 use Rattle.checkout_core.specs.declared.event.Event.{Event}
 use Rattle.checkout_core.specs.declared.event.Event.TheVariants.{Claim, Close, HandBack}
 use Rattle.checkout_core.specs.declared.verdict.Own.{Own}
-use Rattle.writer_pool.specs.Turns.{InTurn, begun, any, IsClaimStep, IsCloseStep, TurnStep, TurnSteps, AreTurns}
+use Rattle.writer_pool.specs.Turns.{IsClaimStep, IsCloseStep, TurnStep, TurnSteps, AreTurns}
 use Rattle.writer_pool.proofs.Places.{some_is}
 
-pub steps_more : (xs ys : List Event) (t m u : InTurn) → TurnSteps t xs m → TurnSteps m ys u → TurnSteps t (xs ++ ys) u
-steps_more [] ys t m u h k = subst (λ (z : InTurn). TurnSteps z ys u) (sym h) k
+pub steps_more : (xs ys : List Event) (t m u : List Event) → TurnSteps t xs m → TurnSteps m ys u → TurnSteps t (xs ++ ys) u
+steps_more [] ys t m u h k = subst (λ (z : List Event). TurnSteps z ys u) (sym h) k
 steps_more (x ∷ xs) ys t m u h k = (h.0, h.1, steps_more xs ys h.0 m u h.2 k)
 
-pub claims_more : (es claims : List Event) (p a : ℕ) → TurnSteps begun es (record { claims = claims; closing = false })
-    → length claims < 4
-    → TurnSteps begun (es ++ Claim p a ∷ []) (record { claims = claims ++ Claim p a ∷ []; closing = false })
+pub claims_more : (es claims : List Event) (p a : ℕ) → TurnSteps [] es claims → length claims < 8
+    → TurnSteps [] (es ++ Claim p a ∷ []) (claims ++ Claim p a ∷ [])
 claims_more es claims p a h few =
-    let t : InTurn = record { claims = claims; closing = false } in
-    let u : InTurn = record { claims = claims ++ Claim p a ∷ []; closing = false } in
-    steps_more es (Claim p a ∷ []) begun t u h (u, inl (p, a, refl, refl, few, refl), refl)
+    let u : List Event = claims ++ Claim p a ∷ [] in
+    steps_more es (Claim p a ∷ []) [] claims u h (u, inl (p, a, refl, few, refl), refl)
 
-pub closes_more : (es claims : List Event) (p a : ℕ) (o : Own) (b : Bool)
-    → TurnSteps begun es (record { claims = Claim p a ∷ claims; closing = b })
-    → TurnSteps begun (es ++ Close p a o ∷ []) (record { claims = claims; closing = any claims })
-closes_more es claims p a o b h =
-    let t : InTurn = record { claims = Claim p a ∷ claims; closing = b } in
-    let u : InTurn = record { claims = claims; closing = any claims } in
-    steps_more es (Close p a o ∷ []) begun t u h (u, inr (p, a, o, refl, refl, refl), refl)
+pub closes_more : (es claims : List Event) (p a : ℕ) (o : Own) → TurnSteps [] es (Claim p a ∷ claims)
+    → TurnSteps [] (es ++ Close p a o ∷ []) claims
+closes_more es claims p a o h =
+    steps_more es (Close p a o ∷ []) [] (Claim p a ∷ claims) claims h (claims, inr (p, a, o, refl, refl), refl)
 
 abbrev Among : Event → List Event → Type 0
 Among x [] = ⊥
@@ -42,8 +37,8 @@ among_more x y (z ∷ ys) h = ⊎_elim
 abbrev WasClaimed : List Event → List Event → ℕ → ℕ → ℕ → Type 0
 WasClaimed hand es i p a = Among (Claim p a) hand ⊎ ((j : ℕ) × (j < i) × (slice_get es j ≡ Some (Claim p a)))
 
-closed_now : (t u : InTurn) (e : Event) (es : List Event) (p a : ℕ) (o : Own) → TurnStep t e u → e ≡ Close p a o
-    → WasClaimed t.claims (e ∷ es) zero p a
+closed_now : (t u : List Event) (e : Event) (es : List Event) (p a : ℕ) (o : Own) → TurnStep t e u → e ≡ Close p a o
+    → WasClaimed t (e ∷ es) zero p a
 closed_now t u e es p a o step is = ⊎_elim
     (λ (k : IsClaimStep t e u). absurd (let claim = k.2 in cc (is, claim)))
     (λ (k : IsCloseStep t e u).
@@ -53,23 +48,23 @@ closed_now t u e es p a o step is = ⊎_elim
     inl (subst (Among (Claim p a)) (sym k.4) (inl (sym (λ i. Claim (path i) (actor i))))))
     step
 
-claimed_now : (t u : InTurn) (e : Event) (es : List Event) (i p a : ℕ) → TurnStep t e u
-    → Among (Claim p a) u.claims → WasClaimed t.claims (e ∷ es) (suc i) p a
+claimed_now : (t u : List Event) (e : Event) (es : List Event) (i p a : ℕ) → TurnStep t e u
+    → Among (Claim p a) u → WasClaimed t (e ∷ es) (suc i) p a
 claimed_now t u e es i p a step among = ⊎_elim
     (λ (k : IsClaimStep t e u).
     ⊎_elim
-    (λ (m : Among (Claim p a) t.claims). inl m)
+    (λ (m : Among (Claim p a) t). inl m)
     (λ (is : Claim p a ≡ e). inr (zero, omega arith, ap (λ (x : Event). Some x) (sym is)))
-    (among_more (Claim p a) e t.claims (subst (λ (z : InTurn). Among (Claim p a) z.claims) k.5 among)))
+    (among_more (Claim p a) e t (subst (Among (Claim p a)) k.4 among)))
     (λ (k : IsCloseStep t e u). inl (subst (Among (Claim p a)) (sym k.4) (inr among)))
     step
 
-claimed_before : (es : List Event) (t u : InTurn) (i p a : ℕ) (o : Own) → TurnSteps t es u
-    → slice_get es i ≡ Some (Close p a o) → WasClaimed t.claims es i p a
+claimed_before : (es : List Event) (t u : List Event) (i p a : ℕ) (o : Own) → TurnSteps t es u
+    → slice_get es i ≡ Some (Close p a o) → WasClaimed t es i p a
 claimed_before [] t u i p a o h at = absurd (cc (at))
 claimed_before (e ∷ es) t u zero p a o h at = closed_now t h.0 e es p a o h.1 (some_is e (Close p a o) at)
 claimed_before (e ∷ es) t u (suc i) p a o h at = ⊎_elim
-    (λ (k : Among (Claim p a) h.0.claims). claimed_now t h.0 e es i p a h.1 k)
+    (λ (k : Among (Claim p a) h.0). claimed_now t h.0 e es i p a h.1 k)
     (λ (k : (j : ℕ) × (j < i) × (slice_get es j ≡ Some (Claim p a))).
     let less = k.1 in
     inr (suc k.0, omega (arith, less), k.2))
@@ -81,19 +76,19 @@ pub turns_claimed : (es : List Event) (i p a : ℕ) (o : Own) → AreTurns es �
 turns_claimed es i p a o h at = ⊎_elim
     (λ (k : ⊥). absurd k)
     (λ (k : (j : ℕ) × (j < i) × (slice_get es j ≡ Some (Claim p a))). k)
-    (claimed_before es begun begun i p a o h at)
+    (claimed_before es [] [] i p a o h at)
 
-no_back : (t u : InTurn) (e : Event) (p : ℕ) → TurnStep t e u → e ≡ HandBack p → ⊥
+no_back : (t u : List Event) (e : Event) (p : ℕ) → TurnStep t e u → e ≡ HandBack p → ⊥
 no_back t u e p step is = ⊎_elim
     (λ (k : IsClaimStep t e u). let claim = k.2 in cc (is, claim))
     (λ (k : IsCloseStep t e u). let close = k.3 in cc (is, close))
     step
 
-back_never : (es : List Event) (t u : InTurn) (i p : ℕ) → TurnSteps t es u → slice_get es i ≡ Some (HandBack p) → ⊥
+back_never : (es : List Event) (t u : List Event) (i p : ℕ) → TurnSteps t es u → slice_get es i ≡ Some (HandBack p) → ⊥
 back_never [] t u i p h at = cc (at)
 back_never (e ∷ es) t u zero p h at = no_back t h.0 e p h.1 (some_is e (HandBack p) at)
 back_never (e ∷ es) t u (suc i) p h at = back_never es h.0 u i p h.2 at
 
 -- no path is handed back in turns
 pub turns_back : (es : List Event) (i p : ℕ) → AreTurns es → slice_get es i ≡ Some (HandBack p) → ⊥
-turns_back es i p h at = back_never es begun begun i p h at
+turns_back es i p h at = back_never es [] [] i p h at

@@ -1,11 +1,7 @@
 -- What a worker did, turn by turn.
-use Rattle.std.proofs.Common.{◌≡◌, ◌==◌, ℕ, zero, suc, ◌<◌, Bool, true, false, cond, List, [], ◌∷◌, ◌++◌, Option, Some, None, refl, sym, ap, ◌∙◌, subst, append_assoc, arith}
-use Rattle.std.specs.Prelude.{is_some, slice_get}
-use Rattle.std.proofs.lemmas.List.{append-nil}
-use mathlib.Core.List.{map-append}
-use Rattle.atomic_table.specs.Seated.{TableId}
+use Rattle.std.proofs.Common.{◌≡◌, ℕ, Bool, true, false, cond, List, [], ◌∷◌, ◌++◌, Option, Some, None, refl, sym, ap, ◌∙◌, subst, append_assoc}
+use Rattle.std.specs.Prelude.{is_some}
 use Rattle.turn_lock.specs.History.{Begins}
-use Rattle.turn_lock.specs.Seat.{SeatView, mine_of, seen_of}
 use Rattle.edge_kit.specs.Told.{Tells}
 use Rattle.edge_kit.specs.Seen.{BlobSeen, LeafSeen}
 use Rattle.tree_encoding.specs.declared.prepared.Prepared.{Prepared}
@@ -17,23 +13,19 @@ use Rattle.checkout_core.specs.declared.verdict.Own.TheVariants as own
 use Rattle.checkout_core.specs.declared.verdict.Verdict.{Verdict}
 use Rattle.checkout_core.specs.declared.path.PathState.TheVariants.{Waiting}
 use Rattle.checkout_core.specs.declared.event.Event.{Event}
-use Rattle.checkout_core.specs.declared.event.Event.TheVariants.{Claim, Close, HandBack}
+use Rattle.checkout_core.specs.declared.event.Event.TheVariants.{Close}
 use Rattle.checkout_core.specs.States.{Core}
 use Rattle.checkout_core.specs.Verdicts.{held_close}
 use Rattle.checkout_core.specs.Actors.{is_step}
-use Rattle.checkout_core.specs.Hands.{held_at, Holds}
+use Rattle.checkout_core.specs.Hands.{Holds}
 use Rattle.checkout_core.specs.Desks.{was_read}
 use Rattle.checkout_core.specs.Notes.{is_noted, noted}
-use Rattle.checkout_book.specs.declared.plan.Plan.{Plan}
 use Rattle.checkout_book.specs.declared.plan.Entry.{Entry}
 use Rattle.checkout_book.specs.Sights.{Sight, seen, tell}
-use Rattle.checkout_book.specs.Shelves.{cards_of, IsPlanned, IsOut, WaitsSo}
-use Rattle.checkout_book.specs.Passes.{Claims, Closes, TookNone, TookCard, claim_entry, close_entry}
-use Rattle.checkout_book.specs.Reserving.{HasNothing, AreNew}
+use Rattle.checkout_book.specs.Shelves.{IsPlanned, IsOut, WaitsSo}
+use Rattle.checkout_book.specs.Reserving.{AreNew}
 use Rattle.writer_pool.specs.Writing.{IsToWrite, WritesCard}
-use Rattle.writer_pool.specs.Turns.{AreTurns}
-use Rattle.writer_pool.specs.Working.{IsShown, AreShown, Worked, Idled, own_events}
-use Rattle.writer_pool.proofs.Places.{some_is}
+use Rattle.writer_pool.specs.Working.{IsShown, AreShown}
 
 pub begins_trans : {E : Type 0} (xs ys zs : List (ℕ × E)) → Begins xs ys → Begins ys zs → Begins xs zs
 begins_trans xs ys zs b c = (b.0 ++ c.0, sym (append_assoc xs b.0 c.0) ∙ (ap (λ l. l ++ c.0) b.1 ∙ c.1))

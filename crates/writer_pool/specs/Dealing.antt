@@ -1,12 +1,11 @@
 -- The desks of a pool, made of their seeds, and the jobs that begin with them.
-use Rattle.std.specs.Prelude.{◌≡◌, ◌<◌, ◌≤◌, ◌+◌, ◌*◌, ◌^◌, ℕ, suc, List, [], ◌∷◌, map, length, Some, vec_capacity}
+use Rattle.std.specs.Prelude.{◌<◌, ◌+◌, ◌^◌, ℕ, suc, List, [], ◌∷◌, map, length, Some}
 use Rattle.std.specs.Global.{Vec}
 use Rattle.turn_lock.specs.Seat.{SeatView}
 use Rattle.delay_table.specs.Table.{IsRising}
 use Rattle.edge_kit.specs.Starters.{StarterSeen}
 use Rattle.convert_plan.specs.declared.card.Card.{Card}
 use Rattle.convert_plan.specs.Card.{CardSeen}
-use Rattle.checkout_core.specs.declared.event.Event.{Event}
 use Rattle.checkout_book.specs.declared.plan.Plan.{Plan}
 use Rattle.checkout_book.specs.declared.plan.Entry.{Entry}
 use Rattle.checkout_book.specs.Sights.{Sight, seen}
@@ -60,10 +59,3 @@ module _ {S B L : Type 0} (starter : S → StarterSeen) (see : Sight B L) where
 -- a seed without its cards
 abbrev pub head_of : {S B L : Type 0} → DeskSeed S B L → DeskHead S
 head_of seed = record { required = seed.required; starter = seed.starter }
-
--- an empty vector for each seed, with room for what is noted of its driver's talk
-abbrev pub AreRooms : {S B L : Type 0} → List (DeskSeed S B L) → List (Vec Event) → Type 0
-AreRooms [] [] = Unit {0}
-AreRooms (x ∷ xs) (v ∷ vs) = (v.items ≡ []) × (7 * length x.cards.items + 4 ≤ vec_capacity v) × AreRooms xs vs
-AreRooms [] (v ∷ vs) = ⊥
-AreRooms (x ∷ xs) [] = ⊥

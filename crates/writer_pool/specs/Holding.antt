@@ -1,9 +1,8 @@
 -- What a worker has in hand.
-use Rattle.std.specs.Prelude.{◌≡◌, ◌++◌, ℕ, Bool, true, false, cond, List, [], ◌∷◌, map, Option, Some, None, ◌==◌, is_some}
+use Rattle.std.specs.Prelude.{◌≡◌, ◌++◌, ℕ, true, List, [], ◌∷◌, map, Option, Some, None, is_some}
 use Rattle.atomic_table.specs.Seated.{TableId}
 use Rattle.turn_lock.specs.History.{Begins}
 use Rattle.turn_lock.specs.Seat.{SeatView, mine_of, seen_of}
-use Rattle.edge_kit.specs.Seen.{BlobSeen, LeafSeen}
 use Rattle.object_dir.specs.declared.taking.Taken.{Taken}
 use Rattle.object_dir.specs.Taking.{IsTaken, stored_in}
 use Rattle.convert_plan.specs.declared.card.Card.{Card}
@@ -17,6 +16,7 @@ use Rattle.checkout_core.specs.Desks.{was_read}
 use Rattle.checkout_core.specs.Hands.{Holds, held_at}
 use Rattle.checkout_core.specs.Notes.{noted}
 use Rattle.checkout_core.specs.States.{Core}
+use Rattle.checkout_core.specs.Talks.{contains}
 use Rattle.checkout_book.specs.declared.plan.Plan.{Plan}
 use Rattle.checkout_book.specs.declared.plan.Entry.{Entry}
 use Rattle.checkout_book.specs.Sights.{Sight, seen}
@@ -25,11 +25,12 @@ use Rattle.checkout_book.specs.Passes.{IsPass}
 use Rattle.checkout_book.specs.Reserving.{AreNew}
 use Rattle.checkout_book.specs.Turns.{NoneWaits}
 use Rattle.driver_desk.specs.Cards.{KeepsCard}
+use Rattle.driver_desk.specs.Rounds.{AreApart}
 use Rattle.writer_pool.specs.declared.held.Held.{Held}
 use Rattle.writer_pool.specs.declared.hand.Hand.{Hand}
 use Rattle.writer_pool.specs.Fours.{items}
 use Rattle.writer_pool.specs.declared.writing.Written.{Written}
-use Rattle.writer_pool.specs.Turns.{InTurn, TurnSteps, begun}
+use Rattle.writer_pool.specs.Turns.{TurnSteps}
 use Rattle.writer_pool.specs.Working.{AreShown, own_events}
 use Rattle.writer_pool.specs.Writing.{IsToWrite, WritesCard}
 
@@ -44,11 +45,6 @@ pub record WritesHeld (claimed card : CardSeen) (o : Own) : Type 0 where
   pub kept : IsCardOf claimed card
   pub wrote : WritesCard claimed o card.blob card.leaf
   pub read : is_some claimed.ready ≡ true → was_read o ≡ true
-
--- whether a path is among these
-abbrev pub is_among : ℕ → List ℕ → Bool
-is_among q [] = false
-is_among q (p ∷ ps) = cond (q == p) true (is_among q ps)
 
 -- for which plan a worker works, its number, how many numbers it gave, and its pass as it began
 pub record Shift (B L : Type 0) : Type 0 where
@@ -70,11 +66,6 @@ module _ {B L : Type 0} where
   stored_in_slot None = []
   stored_in_slot (Some h) = stored_in_held h
 
-  -- none of these is of this path
-  abbrev pub NoneOf : ℕ → List (Held B L) → Type 0
-  NoneOf p [] = Unit {0}
-  NoneOf p (h ∷ hs) = (h.card.path ≡ p → ⊥) × NoneOf p hs
-
   -- the claims of these cards by the actor n
   abbrev pub claims_in : ℕ → List (Held B L) → List Event
   claims_in n hs = map (λ h. Claim h.card.path n) hs
@@ -83,10 +74,11 @@ module _ {B L : Type 0} where
   abbrev pub SawNone : TableId → Shift B L → SeatView Entry (Plan B L) → Type 0
   SawNone lock w pass = (c : Core) × IsPass lock w.plan w.number w.made pass c × NoneWaits c
 
-  -- the same cards, of which a SHA-1 more may be known
+module _ {B L : Type 0} (see : Sight B L) where
+  -- the same card, of which more may have been taken or be known
   abbrev pub SameHeld : Held B L → Held B L → Type 0
-  SameHeld h k = (k.card ≡ h.card) × ((claimed card : CardSeen) → HoldsCard claimed card h.taken
-      → HoldsCard claimed card k.taken)
+  SameHeld h k = (k.card.path ≡ h.card.path) × ((claimed : CardSeen) → HoldsCard claimed (seen see h.card) h.taken
+      → HoldsCard claimed (seen see k.card) k.taken)
 
   abbrev pub AreSame : List (Held B L) → List (Held B L) → Type 0
   AreSame [] [] = Unit {0}
@@ -94,7 +86,6 @@ module _ {B L : Type 0} where
   AreSame [] (k ∷ ks) = ⊥
   AreSame (h ∷ hs) [] = ⊥
 
-module _ {B L : Type 0} (see : Sight B L) where
   -- the actor has the path of a planned card in hand, and this is the card as it was claimed
   pub record IsClaimed (cards : List (Card B L)) (c : Core) (n : ℕ) (card : Card B L) : Type 0 where
     pub planned : IsPlanned see cards card
@@ -108,30 +99,30 @@ module _ {B L : Type 0} (see : Sight B L) where
     pub claimed : IsClaimed cards c n card
     pub held : HoldsCard (seen see card) (seen see h.card) h.taken
 
-  -- cards of different paths
   abbrev pub AreHeld : List (Card B L) → Core → ℕ → List (Held B L) → Type 0
   AreHeld cards c n [] = Unit {0}
-  AreHeld cards c n (h ∷ hs) = IsHeld cards c n h × NoneOf h.card.path hs × AreHeld cards c n hs
+  AreHeld cards c n (h ∷ hs) = IsHeld cards c n h × AreHeld cards c n hs
 
-  -- The worker has these cards in hand. What it did since it began are turns, of which the last may be under way, and
-  -- each Close shows how the writing ended.
-  pub record IsHand (lock : TableId) (w : Shift B L) (closing : Bool) (pass : SeatView Entry (Plan B L))
-      (hs : List (Held B L)) : Type 0 where
+  -- The worker has these cards, of different paths, in hand. What it did since it began are claims and closes in their
+  -- order, and each Close shows how the writing ended.
+  pub record IsHand (lock : TableId) (w : Shift B L) (pass : SeatView Entry (Plan B L)) (hs : List (Held B L))
+      : Type 0 where
     pub new : AreNew see (cards_of w.plan)
     pub core : Core
     pub is_pass : IsPass lock w.plan w.number w.made pass core
-    pub none_other : (q : ℕ) → held_at core w.number q ≡ true → is_among q (paths_in hs) ≡ true
+    pub none_other : (q : ℕ) → held_at core w.number q ≡ true → contains q (paths_in hs) ≡ true
+    pub apart : AreApart (paths_in hs)
     pub held : AreHeld (cards_of w.plan) core w.number hs
     pub more : List Entry
     pub mine : mine_of pass ≡ mine_of w.pass ++ more
-    pub turns : TurnSteps begun (own_events more) (record { claims = claims_in w.number hs; closing = closing })
+    pub turns : TurnSteps [] (own_events more) (claims_in w.number hs)
     pub shown : AreShown see (cards_of w.plan) more
     pub quiet : noted (own_events more) ≡ []
     pub begins : Begins (seen_of w.pass) (seen_of pass)
 
-  -- the cards of this hand, and it closes none of them yet
+  -- the cards of this hand: those that are written next, and those after them
   abbrev pub IsInHand : TableId → Shift B L → Hand B L → Type 0
-  IsInHand lock w hand = IsHand lock w false hand.pass (items hand.cards)
+  IsInHand lock w hand = IsHand lock w hand.pass (items hand.cards ++ items hand.next)
 
   -- the card may be written, as it was claimed
   abbrev pub IsToBeWritten : Held B L → Type 0

@@ -12,6 +12,7 @@ use Rattle.checkout_book.specs.Sights.{Sight}
 use Rattle.checkout_book.specs.Shelves.{cards_of}
 use Rattle.checkout_book.specs.Reserving.{AreNew, AreDealt, HasNothing}
 use Rattle.driver_line.specs.Lines.{Paths}
+use Rattle.driver_desk.specs.declared.desk.Served.{Served}
 use Rattle.driver_desk.specs.Desks.{DeskView, IsDealt}
 use Rattle.driver_desk.specs.Works.{WorkSeen, AreRead, FitAll, asked_in, cards_in}
 use Rattle.writer_pool.specs.declared.pooled.DeskSeed.{DeskSeed}
@@ -27,7 +28,7 @@ use Rattle.writer_pool.specs.Working.{own_events}
 
 -- what an actor leaves
 abbrev pub EndSeen : Type 0 → Type 0 → Type 0 → Type 0
-EndSeen S B L = JobEnd (SeatView Entry (Plan B L)) S
+EndSeen S B L = JobEnd (SeatView Entry (Plan B L)) (Served S)
 
 module _ {B L : Type 0} (see : Sight B L) where
   -- the actor n is a worker, or the desk is that of the driver n - workers, with the cards that the book dealt it
@@ -49,31 +50,32 @@ module _ {B L : Type 0} (see : Sight B L) where
   AreJobs lock d k made (j ∷ js) = IsJob lock d k made j × AreJobs lock d (suc k) 0 js
 
 module _ {S : Type 0} (starter : S → StarterSeen) where
-  -- The starter of a desk that has served. Its sessions are a talk over the paths whose content was prepared, with just
-  -- the notes of the actor's own list, and with what the leaf of each card holds that the desk closed. Each path ended
-  -- as what its object gave says.
-  pub record HasServed (desk : DeskView) (back : S) (mine : List Entry) : Type 0 where
+  -- What is left of a desk that has served. Its talk has just the notes of the actor's own list. The sessions of its
+  -- starter are a talk over the paths whose content was prepared, with these notes, and with what the leaf of each card
+  -- holds that the desk closed. Each path ended as what its object gave says.
+  pub record HasServed (desk : DeskView) (left : Served S) (mine : List Entry) : Type 0 where
+    pub talk : left.talk.items ≡ noted (own_events mine)
     pub works : List WorkSeen
     pub cards : desk.cards ≡ cards_in works
     pub read : AreRead works
     pub talked : (paths : Paths) → FitAll paths works
-        → HasTalked desk.driver paths (asked_in works) desk.starter (starter back) (noted (own_events mine))
+        → HasTalked desk.driver paths (asked_in works) desk.starter (starter left.starter) (noted (own_events mine))
         (EndsIn mine)
     pub tied : AreTiedIn (own_events mine) works
 
-  -- a worker leaves no starter, and a desk its own
-  abbrev pub LeavesStarter : Option (DeskJob DeskView) → Option S → List Entry → Type 0
-  LeavesStarter None None mine = Unit {0}
-  LeavesStarter (Some x) (Some back) mine = HasServed x.desk back mine
-  LeavesStarter None (Some back) mine = ⊥
-  LeavesStarter (Some x) None mine = ⊥
+  -- a worker leaves no desk, and a desk what is left of it
+  abbrev pub LeavesDesk : Option (DeskJob DeskView) → Option (Served S) → List Entry → Type 0
+  LeavesDesk None None mine = Unit {0}
+  LeavesDesk (Some x) (Some left) mine = HasServed x.desk left mine
+  LeavesDesk None (Some left) mine = ⊥
+  LeavesDesk (Some x) None mine = ⊥
 
 module _ {S B L : Type 0} (starter : S → StarterSeen) (see : Sight B L) where
   -- the actor n is through with its job
   pub record IsThroughJob (lock : TableId) (d : Plan B L) (n made : ℕ) (j : JobSeen B L) (t : EndSeen S B L)
       : Type 0 where
     pub back : IsBack see lock d n made t.pass
-    pub starter_is : LeavesStarter starter j.desk t.starter (mine_of t.pass)
+    pub desk_is : LeavesDesk starter j.desk t.served (mine_of t.pass)
 
   abbrev pub AreThroughJobs : TableId → Plan B L → ℕ → ℕ → List (JobSeen B L) → List (EndSeen S B L) → Type 0
   AreThroughJobs lock d k made [] [] = Unit {0}
@@ -114,15 +116,15 @@ module _ {S B L : Type 0} (starter : S → StarterSeen) (see : Sight B L) where
     pub actors : AreActors workers workers seeds jobs
 
 -- the passes that came back
-abbrev pub passes_in : {P S : Type 0} → List (JobEnd P S) → List P
+abbrev pub passes_in : {P D : Type 0} → List (JobEnd P D) → List P
 passes_in [] = []
 passes_in (t ∷ ts) = t.pass ∷ passes_in ts
 
-abbrev pub with_starter : {S : Type 0} → Option S → List S → List S
-with_starter None ss = ss
-with_starter (Some s) ss = s ∷ ss
+abbrev pub with_served : {D : Type 0} → Option D → List D → List D
+with_served None ds = ds
+with_served (Some d) ds = d ∷ ds
 
--- the starters that came back
-abbrev pub starters_in : {P S : Type 0} → List (JobEnd P S) → List S
-starters_in [] = []
-starters_in (t ∷ ts) = with_starter t.starter (starters_in ts)
+-- what is left of the desks
+abbrev pub served_in : {P D : Type 0} → List (JobEnd P D) → List D
+served_in [] = []
+served_in (t ∷ ts) = with_served t.served (served_in ts)

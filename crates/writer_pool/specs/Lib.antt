@@ -10,6 +10,6 @@ pub mod Sealing
 pub mod Tying
 pub mod Pools
 pub mod OnBook
-pub mod Talks
+pub mod Serving
 pub mod Dealing
 pub mod Jobs

@@ -1,11 +1,12 @@
 -- What a pool is given, and what it leaves.
-use Rattle.std.specs.Prelude.{◌≡◌, ◌+◌, ◌<◌, ◌^◌, ℕ, suc, true, List, [], ◌∷◌, ◌++◌, map, length, Some, slice_get}
+use Rattle.std.specs.Prelude.{◌≡◌, ◌+◌, ◌<◌, ◌≤◌, ◌^◌, ℕ, suc, true, List, [], ◌∷◌, ◌++◌, map, length, Some, slice_get}
 use Rattle.std.specs.Global.{Vec}
 use Rattle.convert_plan.specs.declared.card.Card.{Card}
 use Rattle.checkout_core.specs.declared.event.Event.{Event}
 use Rattle.checkout_core.specs.declared.path.Start.{Start}
 use Rattle.checkout_core.specs.declared.path.Start.TheVariants.{Desk}
 use Rattle.checkout_core.specs.Desks.{paths_of}
+use Rattle.checkout_core.specs.States.{AreBelow}
 use Rattle.checkout_core.specs.Notes.{notes}
 use Rattle.checkout_core.specs.Talks.{contains}
 use Rattle.checkout_core.specs.Transcripts.{Item}
@@ -20,6 +21,7 @@ use Rattle.driver_line.specs.Starters.{IsSameStarter}
 use Rattle.driver_desk.specs.Serving.{Holds}
 use Rattle.edge_kit.specs.Seen.{LeafSeen}
 use Rattle.driver_desk.specs.Works.{WorkSeen, AreRead, FitAll, asked_in, cards_in}
+use Rattle.checkout_book.specs.Reserving.{ArePool, AreNew}
 use Rattle.checkout_book.specs.Sights.{Sight, seen}
 use Rattle.writer_pool.specs.declared.pooled.DeskSeed.{DeskSeed}
 use Rattle.writer_pool.specs.Sealing.{EndsAt, leaf_at}
@@ -60,7 +62,24 @@ module _ {S B L : Type 0} (starter : S → StarterSeen) where
   AreSeeds starts d [] = Unit {0}
   AreSeeds starts d (x ∷ xs) = IsSeed starts d x × AreSeeds starts (suc d) xs
 
+-- all cards: those of the pool, and those of the desks
+abbrev pub seed_cards : {S B L : Type 0} → List (DeskSeed S B L) → List (Card B L)
+seed_cards [] = []
+seed_cards (x ∷ xs) = x.cards.items ++ seed_cards xs
+
 module _ {S B L : Type 0} (starter : S → StarterSeen) (see : Sight B L) where
+  -- what a pool may be given
+  pub record CanBegin (starts : List Start) (workers : ℕ) (pool : List (Card B L)) (seeds : List (DeskSeed S B L))
+      : Type 0 where
+    pub few_paths : length starts < 2 ^ 32
+    pub below : AreBelow (length seeds) starts
+    pub some : 1 ≤ workers
+    pub few_workers : workers ≤ 16
+    pub few_desks : length seeds ≤ 16
+    pub pool_is : ArePool starts pool
+    pub seeds_are : AreSeeds starter starts 0 seeds
+    pub new : AreNew see (pool ++ seed_cards seeds)
+
   -- The starter of the driver d is back with its sessions. They are a talk with the driver's notes in the history, over
   -- the paths whose content was prepared. The leaf of each card that its desk closed holds what the driver gave for its
   -- path, if anything. Each path was closed as what its object gave says.
@@ -81,11 +100,6 @@ module _ {S B L : Type 0} (starter : S → StarterSeen) (see : Sight B L) where
       × AreStartersBack starts history leaves (suc d) xs ss
   AreStartersBack starts history leaves d [] (s ∷ ss) = ⊥
   AreStartersBack starts history leaves d (x ∷ xs) [] = ⊥
-
--- all cards: those of the pool, and those of the desks
-abbrev pub seed_cards : {S B L : Type 0} → List (DeskSeed S B L) → List (Card B L)
-seed_cards [] = []
-seed_cards (x ∷ xs) = x.cards.items ++ seed_cards xs
 
 -- the talks of the drivers from d on are their notes in the history
 abbrev pub AreTalks : List Start → List Event → ℕ → List (Vec Event) → Type 0

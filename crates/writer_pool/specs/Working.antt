@@ -7,7 +7,6 @@ use Rattle.edge_kit.specs.Seen.{BlobSeen, LeafSeen}
 use Rattle.convert_plan.specs.declared.card.Card.{Card}
 use Rattle.checkout_core.specs.declared.event.Event.{Event}
 use Rattle.checkout_core.specs.declared.event.Event.TheVariants.{Close}
-use Rattle.checkout_core.specs.declared.verdict.Own.{Own}
 use Rattle.checkout_core.specs.States.{Core}
 use Rattle.checkout_core.specs.Notes.{noted}
 use Rattle.checkout_book.specs.declared.plan.Plan.{Plan}

@@ -1,16 +1,11 @@
 //! The desks of a pool, made of their seeds before anything is started.
-ghost use Rattle.std.specs.Prelude.{◌≡◌, ◌≤◌, ◌<◌, ◌^◌, ◌++◌, ◌∷◌, [], ℕ, Some, None, IfOk, OnOk, length, map};
-ghost use Rattle.std.specs.Prelude.{slice_get, vec_capacity};
-ghost use Rattle.std.specs.Global.{Vec};
-ghost use Rattle.checkout_core.specs.declared.event.Event.{Event};
+ghost use Rattle.std.specs.Prelude.{◌≡◌, ◌≤◌, ◌++◌, ◌∷◌, [], Some, None, IfOk, OnOk, length, map};
 ghost use Rattle.checkout_book.specs.Sights.{sight};
-ghost use Rattle.writer_pool.specs.declared.pooled.DeskSeed.{DeskSeed};
-ghost use Rattle.writer_pool.specs.Dealing.{AreDecks, AreRooms, desk_jobs, head_of};
+ghost use Rattle.writer_pool.specs.Dealing.{AreDecks, desk_jobs, head_of};
 
 use crate::jobs::{ActorJob, DeskJob, Job};
 use crate::pooled::DeskSeed;
 use checkout_book::reserving::DeskPass;
-use checkout_core::Event;
 use convert_plan::Card;
 use driver_desk::Desk;
 use edge_kit::{Blob, Leaf, Starter};
@@ -22,23 +17,6 @@ pub(crate) struct DeskHead<S> {
     /// Whether the driver is required.
     pub required: bool,
     pub starter: S,
-}
-
-/// Seeds without their cards, the cards, and room for what is noted of each driver's talk.
-#[derive(Drop)]
-pub(crate) struct Apart<S, B: Blob, L: Leaf> {
-    pub heads: Vec<DeskHead<S>>,
-    pub cards: Vec<Vec<Card<B, L>>>,
-    pub talks: Vec<Vec<Event>>,
-}
-
-/// Adds room for so many notes.
-fn add_room(alloc: Global, talks: &mut Vec<Vec<Event>>, notes: usize) -> Result<(), AllocError>
-    ensures { OnOk result ((v : Vec Event) × (talks.new.items ≡ talks.old.items ++ v ∷ []) × (v.items ≡ [])
-        × (notes ≤ vec_capacity v)) }
-{
-    talks.push(Vec::with_capacity(alloc, notes)?)?;
-    Ok(())
 }
 
 /// Adds a value to each of two vectors.
@@ -56,21 +34,17 @@ fn add_both<H: Drop, C: Drop>(
     Ok(())
 }
 
-/// Takes seeds apart. A driver has at most seven notes for each of its paths, and four more.
+/// Seeds without their cards, and the cards, which the book deals.
 pub(crate) fn take_apart<S: Starter, B: Blob, L: Leaf>(
     alloc: Global,
     seeds: Vec<DeskSeed<S, B, L>>,
-) -> Result<Apart<S, B, L>, AllocError>
-    requires { (k : ℕ) (x : DeskSeed S B L) → slice_get seeds.items k ≡ Some x → length x.cards.items < 2 ^ 32 }
-    ensures heads { IfOk result (λ r. r.heads.items ≡ map (λ x. head_of x) seeds.items) }
-    ensures cards { IfOk result (λ r. r.cards.items ≡ map (λ x. x.cards) seeds.items) }
-    ensures talks { IfOk result (λ r. AreRooms seeds.items r.talks.items) }
+) -> Result<(Vec<DeskHead<S>>, Vec<Vec<Card<B, L>>>), AllocError>
+    ensures heads { IfOk result (λ r. r.0.items ≡ map (λ x. head_of x) seeds.items) }
+    ensures cards { IfOk result (λ r. r.1.items ≡ map (λ x. x.cards) seeds.items) }
 {
     let mut heads = Vec::new(alloc);
     let mut decks = Vec::new(alloc);
-    let mut talks = Vec::new(alloc);
     for seed in seeds {
-        add_room(alloc, &mut talks, 7 * seed.cards.len() + 4)?;
         let DeskSeed {
             required,
             starter,
@@ -83,11 +57,7 @@ pub(crate) fn take_apart<S: Starter, B: Blob, L: Leaf>(
             cards,
         )?;
     }
-    Ok(Apart {
-        heads,
-        cards: decks,
-        talks,
-    })
+    Ok((heads, decks))
 }
 
 /// The jobs of workers with these passes.

@@ -111,18 +111,6 @@ fn verdicts_of<B: Blob, L: Leaf>(
     verdicts
 }
 
-/// The same events, in a vector with room for them.
-fn copied(events: &[Event], mut copy: Vec<Event>) -> Vec<Event>
-    requires empty { copy.items ≡ [] }
-    requires room { length events.now ≤ vec_capacity copy }
-    ensures { result.items ≡ events.now }
-{
-    for event in events {
-        copy.push_reserved(*event);
-    }
-    copy
-}
-
 /// The blobs and the leaves apart.
 fn apart<B: Drop, L: Drop>(
     parts: Vec<(B, L)>,
@@ -144,28 +132,28 @@ fn apart<B: Drop, L: Drop>(
     (blobs, leaves)
 }
 
-/// How the paths ended, in the room that was taken for it.
+/// The history, and how the paths ended, in the room that was taken for it.
 pub(crate) fn leave<B: Blob, L: Leaf>(
     ended: Ended<B, L>,
     paths: u32,
     room: PathEnds<B, L>,
-) -> PathEnds<B, L>
+) -> (Vec<Event>, PathEnds<B, L>)
     requires through { (d : Plan B L) × IsThrough (sight B.told B.seen L.seen) d ended.shelf
         × (length d.starts.items ≡ paths) }
     requires room { HasRoom paths room }
     ensures run { (d : Plan B L) → IsThrough (sight B.told B.seen L.seen) d ended.shelf
-        → IsRun d.starts.items d.workers d.drivers result.history.items result.verdicts.items }
+        → IsRun d.starts.items d.workers d.drivers result.0.items result.1.verdicts.items }
     ensures ends { (d : Plan B L) → IsThrough (sight B.told B.seen L.seen) d ended.shelf
         → ArePool d.starts.items d.pool.items → AreDealt d.starts.items 0 d.desks.items
-        → AreEnds (sight B.told B.seen L.seen) d.starts.items result.history.items (cards_of d) 0 d.starts.items
-        result.blobs.items result.leaves.items }
+        → AreEnds (sight B.told B.seen L.seen) d.starts.items result.0.items (cards_of d) 0 d.starts.items
+        result.1.blobs.items result.1.leaves.items }
     ensures seals { (d : Plan B L) → IsThrough (sight B.told B.seen L.seen) d ended.shelf
         → ArePool d.starts.items d.pool.items → AreDealt d.starts.items 0 d.desks.items
         → (q p : ℕ) (leaf : LeafSeen)
-        → EndsAt (sight B.told B.seen L.seen) d.starts.items result.history.items
-        (leaf_at d.starts.items result.leaves.items) q p leaf
+        → EndsAt (sight B.told B.seen L.seen) d.starts.items result.0.items
+        (leaf_at d.starts.items result.1.leaves.items) q p leaf
         → EndsOn (sight B.told B.seen L.seen) ended.shelf q p leaf }
-    ensures history { result.history.items ≡ ended.shelf.events.items }
+    ensures history { result.0.items ≡ ended.shelf.events.items }
 {
     laws::a_claim_takes_its_path();
     laws::a_close_closes_its_path();
@@ -173,20 +161,18 @@ pub(crate) fn leave<B: Blob, L: Leaf>(
     laws::a_note_keeps_paths_with_their_driver();
     laws::a_verdict_is_what_is_told();
     laws::a_history_keeps_its_size();
-    laws::a_history_is_short();
     let PathEnds {
-        history,
         verdicts,
         leaves,
         blobs,
     } = room;
     let verdicts = verdicts_of(&ended, paths, verdicts);
-    let history = copied(ended.history(), history);
-    let (blobs, leaves) = apart(ended.into_parts(), blobs, leaves);
-    PathEnds {
-        history,
+    let (history, parts) = ended.into_history_and_parts();
+    let (blobs, leaves) = apart(parts, blobs, leaves);
+    let ends = PathEnds {
         verdicts,
         leaves,
         blobs,
-    }
+    };
+    (history, ends)
 }

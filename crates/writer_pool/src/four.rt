@@ -1,5 +1,5 @@
 //! Up to four values, first in, first out.
-ghost use Rattle.std.specs.Prelude.{◌≡◌, [], ◌∷◌, ◌++◌, is_none, None, Some, MatchOption};
+ghost use Rattle.std.specs.Prelude.{◌≡◌, [], ◌∷◌, ◌++◌, is_none, None, Some, true, MatchOption};
 ghost use Rattle.writer_pool.specs.Fours.{items};
 
 /// Up to four values. It takes no memory of its own.
@@ -22,6 +22,16 @@ impl<T: Drop> Four<T> {
             third: None,
             fourth: None,
         }
+    }
+
+    /// Whether there is none.
+    pub fn is_empty(&self) -> bool
+        ensures { result ≡ true → items self.now ≡ [] }
+    {
+        self.first.is_none()
+            && self.second.is_none()
+            && self.third.is_none()
+            && self.fourth.is_none()
     }
 
     /// Whether there is room behind the others for one more.

@@ -20,26 +20,44 @@ pub(crate) struct Held<B: Blob, L: Leaf> {
     pub taken: Option<Taken>,
 }
 
-/// Takes the stored bytes of a card's object, unless its content was prepared before.
-pub(crate) fn hold_card<B: Blob, L: Leaf>(mut card: Card<B, L>) -> Held<B, L>
+/// When the object of a claimed card is read.
+#[derive(Clone, Copy)]
+pub(crate) enum Reading {
+    Now,
+    Later,
+}
+
+/// Takes the stored bytes of a card's object, unless its content was prepared before, or they are taken later.
+pub(crate) fn hold_card<B: Blob, L: Leaf>(mut card: Card<B, L>, reading: Reading) -> Held<B, L>
     ensures path { result.card.path ≡ card.path }
     ensures holds { HoldsCard (card_seen B.told B.seen L.seen card) (card_seen B.told B.seen L.seen result.card)
         result.taken }
 {
-    if card.ready.is_some() {
-        return Held { card, taken: None };
+    match reading {
+        Reading::Now if card.ready.is_none() => {
+            let taken = take_blob(&mut card.blob, &card.object);
+            Held {
+                card,
+                taken: Some(taken),
+            }
+        }
+        _ => Held { card, taken: None },
     }
-    let taken = take_blob(&mut card.blob, &card.object);
-    Held {
-        card,
-        taken: Some(taken),
+}
+
+/// Takes the stored bytes of a held card's object, unless they were taken or its content was prepared before.
+pub(crate) fn read_held<B: Blob, L: Leaf>(held: &mut Held<B, L>)
+    ensures { SameHeld (sight B.told B.seen L.seen) held.old held.new }
+{
+    if held.taken.is_none() && held.card.ready.is_none() {
+        held.taken = Some(take_blob(&mut held.card.blob, &held.card.object));
     }
 }
 
 /// Keeps the SHA-1 of what was taken, if there is any.
 pub(crate) fn keep_known<B: Blob, L: Leaf>(held: &mut Held<B, L>, found: [u8; 20])
     requires { found ≡ sha1 (stored_in_held held.old) }
-    ensures { SameHeld held.old held.new }
+    ensures { SameHeld (sight B.told B.seen L.seen) held.old held.new }
 {
     match &mut held.taken {
         Some(taken) => taken.keep_sha1(found),

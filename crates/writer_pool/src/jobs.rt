@@ -1,12 +1,11 @@
 //! The actors of a pool, each in a thread of its own.
-ghost use Rattle.std.specs.Prelude.{◌≡◌, ◌≤◌, ℕ, [], IfOk, length, vec_capacity};
+ghost use Rattle.std.specs.Prelude.{ℕ, IfOk};
 ghost use Rattle.turn_lock.specs.Seat.{number_of};
 ghost use Rattle.checkout_book.specs.declared.plan.Plan.{Plan};
 ghost use Rattle.checkout_book.specs.Sights.{sight};
-ghost use Rattle.writer_pool.specs.Dealing.{JobSeen};
-ghost use Rattle.writer_pool.specs.Jobs.{IsJob, AreJobs, IsThroughJob, AreThroughJobs, passes_in, starters_in};
+ghost use Rattle.writer_pool.specs.Jobs.{IsJob, AreJobs, IsThroughJob, AreThroughJobs};
 
-use crate::desk_actor::{DeskEnd, run_desk};
+use crate::desk_actor::{DeskEnd, serve_desk};
 use crate::hand::Gathering;
 use crate::workers::work;
 use checkout_book::book::{Book, Pass};
@@ -33,19 +32,19 @@ pub(crate) struct Job<P, D> {
     pub desk: Option<D>,
 }
 
-/// What an actor leaves. A worker has no starter.
+/// What an actor leaves: its pass, and what is left of its desk.
 #[derive(Drop)]
-pub(crate) struct JobEnd<P, S> {
+pub(crate) struct JobEnd<P, D> {
     pub pass: P,
-    pub starter: Option<S>,
+    pub served: Option<D>,
 }
 
 pub(crate) type ActorJob<S: Starter, B: Blob, L: Leaf> = Job<Pass<B, L>, DeskJob<Desk<S, B, L>>>;
 
-pub(crate) type ActorEnd<S: Starter, B: Blob, L: Leaf> = JobEnd<Pass<B, L>, S>;
+pub(crate) type ActorEnd<S: Starter, B: Blob, L: Leaf> = JobEnd<Pass<B, L>, Served<S>>;
 
-/// Does an actor's job.
-fn act<S: Starter, B: Blob, L: Leaf, G: Gate, H: Wait>(
+/// Does an actor's job: a desk serves its cards, and then each actor works until no card waits.
+fn act<S: Starter, B: Blob + Send, L: Leaf + Send, G: Gate, H: Threads + Wait>(
     rt: &H,
     gathering: Gathering,
     book: &Book<B, L>,
@@ -60,19 +59,16 @@ fn act<S: Starter, B: Blob, L: Leaf, G: Gate, H: Wait>(
 {
     let Job { pass, desk } = job;
     match desk {
-        Some(DeskJob { required, desk }) => {
-            let DeskEnd { pass, served } = run_desk(
-                rt, gathering, book, gate, required, desk, pass,
-            );
-            let Served { starter, .. } = served;
+        Some(job) => {
+            let DeskEnd { pass, served } = serve_desk(rt, book, gate, job, pass);
             JobEnd {
-                pass,
-                starter: Some(starter),
+                pass: work(rt, gathering, book, gate, pass),
+                served: Some(served),
             }
         }
         None => JobEnd {
             pass: work(rt, gathering, book, gate, pass),
-            starter: None,
+            served: None,
         },
     }
 }
@@ -108,28 +104,4 @@ pub(crate) fn act_all<
                 result }
         { act(rt, gathering, book, gate, job) },
     )
-}
-
-/// The passes and the starters that came back, in the room that was taken for them.
-pub(crate) fn came_back<P: Drop, S: Drop>(
-    ends: Vec<JobEnd<P, S>>,
-    mut passes: Vec<P>,
-    mut starters: Vec<S>,
-) -> (Vec<P>, Vec<S>)
-    requires no_pass { passes.items ≡ [] }
-    requires no_starter { starters.items ≡ [] }
-    requires room { length ends.items ≤ vec_capacity passes }
-    requires starter_room { length (starters_in ends.items) ≤ vec_capacity starters }
-    ensures passes { result.0.items ≡ passes_in ends.items }
-    ensures starters { result.1.items ≡ starters_in ends.items }
-{
-    for end in ends {
-        let JobEnd { pass, starter } = end;
-        passes.push_reserved(pass);
-        match starter {
-            Some(starter) => starters.push_reserved(starter),
-            None => {}
-        }
-    }
-    (passes, starters)
 }

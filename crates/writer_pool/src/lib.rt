@@ -2,10 +2,11 @@
 //! from the book, writes each as a file and closes it, until no card waits.
 #![tactic(auto)]
 
+mod ahead;
+mod back;
 mod beginning;
 mod desk_actor;
 mod desks;
-mod end_room;
 mod ending;
 mod four;
 mod hand;
@@ -18,7 +19,6 @@ mod path_ends;
 mod pooled;
 mod reading;
 mod run;
-mod talks;
 mod workers;
 mod writing;
 

@@ -81,8 +81,6 @@ impl<'a, B: Blob, L: Leaf, G: Gate, H: Wait> Recorder<B, L> for OnBook<'a, B, L,
 
     ghost seen = { λ s. recorder_of (sight B.told B.seen L.seen) s };
 
-    ghost sound = { λ _. Unit {0} };
-
     fn note(&mut self, event: Event) {
         laws::what_may_follow_is_a_step();
         a_pass_lists_its_own_entries::<B, L>();
@@ -98,7 +96,6 @@ impl<'a, B: Blob, L: Leaf, G: Gate, H: Wait> Recorder<B, L> for OnBook<'a, B, L,
         ensures gave { recorder_of (sight B.told B.seen L.seen) self.new
             ≡ gave (recorder_of (sight B.told B.seen L.seen) self.old)
             (Closed own (card_seen B.told B.seen L.seen card)) }
-        ensures sound { Unit {0} }
     {
         laws::what_may_follow_is_a_step();
         a_pass_lists_its_own_entries::<B, L>();
@@ -117,7 +114,6 @@ impl<'a, B: Blob, L: Leaf, G: Gate, H: Wait> Recorder<B, L> for OnBook<'a, B, L,
             (given_of (sight B.told B.seen L.seen) self.old) (HandBack card.path) }
         ensures gave { recorder_of (sight B.told B.seen L.seen) self.new
             ≡ gave (recorder_of (sight B.told B.seen L.seen) self.old) (HandedBack card.path) }
-        ensures sound { Unit {0} }
     {
         laws::what_may_follow_is_a_step();
         a_pass_lists_its_own_entries::<B, L>();

@@ -1,16 +1,14 @@
 //! How the paths of a checkout ended, and the room for it.
-ghost use Rattle.std.specs.Prelude.{◌<◌, ◌^◌, IfOk};
+ghost use Rattle.std.specs.Prelude.{IfOk};
 ghost use Rattle.writer_pool.specs.Rooms.{HasRoom};
 
-use checkout_core::{Event, Verdict};
+use checkout_core::Verdict;
 use edge_kit::{Blob, Leaf};
 use std::alloc::{AllocError, Global};
 
 /// How the paths of a checkout ended.
 #[derive(Drop)]
 pub(crate) struct PathEnds<B: Blob, L: Leaf> {
-    /// The events of all actors, in the order in which they happened.
-    pub history: Vec<Event>,
     /// The verdict of each path.
     pub verdicts: Vec<Verdict>,
     /// The leaves of all cards, in path order.
@@ -24,11 +22,9 @@ pub(crate) fn room_for<B: Blob, L: Leaf>(
     alloc: Global,
     paths: usize,
 ) -> Result<PathEnds<B, L>, AllocError>
-    requires { paths < 2 ^ 32 }
     ensures { IfOk result (λ r. HasRoom paths r) }
 {
     Ok(PathEnds {
-        history: Vec::with_capacity(alloc, 9 * paths)?,
         verdicts: Vec::with_capacity(alloc, paths)?,
         leaves: Vec::with_capacity(alloc, paths)?,
         blobs: Vec::with_capacity(alloc, paths)?,

@@ -1,19 +1,18 @@
 //! All actors of a checkout at once.
-ghost use Rattle.std.specs.Prelude.{◌≡◌, ◌<◌, ◌≤◌, ◌^◌, ◌++◌, ℕ, IfOk, length};
+ghost use Rattle.std.specs.Prelude.{◌≡◌, ◌<◌, ◌≤◌, ◌^◌, ◌++◌, IfOk, length};
 ghost use Rattle.checkout_core.specs.States.{AreBelow};
 ghost use Rattle.checkout_book.specs.Sights.{sight};
 ghost use Rattle.checkout_book.specs.Reserving.{ArePool, AreNew};
 ghost use Rattle.writer_pool.specs.Ends.{IsRun, AreEnds};
 ghost use Rattle.writer_pool.specs.Pools.{AreSeeds, AreStartersBack, AreTalks, seed_cards};
 
-use crate::beginning::{Begun, begin_pool};
-use crate::end_room::{EndRoom, end_room};
+use crate::back::{Back, back_room, came_back};
+use crate::beginning::begin_pool;
 use crate::ending::{end_all, leave};
 use crate::hand::Gathering;
-use crate::jobs::{act_all, came_back};
-use crate::path_ends::PathEnds;
+use crate::jobs::act_all;
+use crate::path_ends::{PathEnds, room_for};
 use crate::pooled::{DeskSeed, Pooled};
-use crate::talks::talks_of;
 use checkout_core::Start;
 use convert_plan::Card;
 use core_laws::laws;
@@ -70,41 +69,32 @@ pub fn pool_run<
     ensures talks { IfOk result (λ r. AreTalks starts.items r.history.items 0 r.talks.items) }
     ensures talk_count { IfOk result (λ r. length r.talks.items ≡ length desks.items) }
 {
-    laws::a_driver_has_few_notes();
     laws::a_claim_takes_its_path();
     laws::a_close_closes_its_path();
     laws::a_path_that_is_handed_back_waits();
     laws::a_note_keeps_paths_with_their_driver();
     let paths = starts.len();
     let drivers = desks.len();
-    let room = end_room(alloc, starts.as_slice(), workers, drivers)?;
+    let room = room_for(alloc, paths)?;
+    let back = back_room(alloc, workers, drivers)?;
     let gathering = Gathering {
         alloc,
         below: plenty_below(paths, workers, drivers),
     };
-    let begun = begin_pool(alloc, pool, desks, starts, workers)?;
-    let Begun {
-        book,
-        jobs,
-        talks: rooms,
-    } = begun;
+    let (book, jobs) = begin_pool(alloc, pool, desks, starts, workers)?;
     let ends = act_all(rt, gathering, &book, gate, jobs)?;
-    let EndRoom {
-        ends: room,
+    let Back {
         passes,
         starters,
         talks,
-        starts,
-    } = room;
-    let (passes, starters) = came_back(ends, passes, starters);
+    } = came_back(ends, back);
     let ended = end_all(alloc, book, passes);
+    let (history, ends) = leave(ended, paths as u32, room);
     let PathEnds {
-        history,
         verdicts,
         leaves,
         blobs,
-    } = leave(ended, paths as u32, room);
-    let talks = talks_of(history.as_slice(), starts.as_slice(), rooms, talks);
+    } = ends;
     Ok(Pooled {
         history,
         verdicts,

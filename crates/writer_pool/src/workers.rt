@@ -1,5 +1,5 @@
 //! Workers: each claims cards and writes them.
-ghost use Rattle.std.specs.Prelude.{◌≡◌, ℕ};
+ghost use Rattle.std.specs.Prelude.{ℕ};
 ghost use Rattle.turn_lock.specs.Seat.{number_of};
 ghost use Rattle.checkout_book.specs.declared.plan.Plan.{Plan};
 ghost use Rattle.checkout_book.specs.Sights.{sight};
@@ -10,11 +10,12 @@ use crate::hand::{Gathering, Hand};
 use checkout_book::book::{Book, Pass};
 use edge_kit::{Blob, Gate, Leaf};
 use std::sync::Wait;
+use std::thread::Threads;
 
-/// Claims cards, writes each and closes it, again and again until no card waits. It claims up to four, reads them and
-/// finds their SHA-1 at once, and then writes and closes each. The gate is called outside the lock, after a card was
-/// claimed and after it was closed.
-pub(crate) fn work<B: Blob, L: Leaf, G: Gate, H: Wait>(
+/// Claims cards, writes each and closes it, again and again until no card waits. It claims up to four and reads them.
+/// While it finds their SHA-1 at once, up to four more are read, if there is much to hash. Then it writes and closes
+/// the first ones. The gate is called outside the lock, after a card was claimed and after it was closed.
+pub(crate) fn work<B: Blob + Send, L: Leaf + Send, G: Gate, H: Threads + Wait>(
     rt: &H,
     gathering: Gathering,
     book: &Book<B, L>,
@@ -30,12 +31,14 @@ pub(crate) fn work<B: Blob, L: Leaf, G: Gate, H: Wait>(
     let mut hand = Hand {
         pass,
         cards: Four::new(),
+        next: Four::new(),
     };
     'turns: for _ in rt.forever() {
         if !hand.take_turn(rt, gathering, book, gate) {
             let Hand {
                 pass,
                 cards: _cards,
+                next: _next,
             } = hand;
             return pass;
         }

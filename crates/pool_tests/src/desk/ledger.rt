@@ -67,8 +67,6 @@ impl<'a, H: Abort> Recorder<Source, Sheet> for Ledger<'a, H> {
     ghost seen = { λ l. ledger_seen ⟦<Source as Blob>⟧.told ⟦<Source as Blob>⟧.seen ⟦<Sheet as Leaf>⟧.seen
         l.required l.starts.items l.planned.value.items l.taken.items };
 
-    ghost sound = { λ _. Unit {0} };
-
     fn note(&mut self, event: Event) {
         self.keep(Taken::Noted(event));
     }
@@ -81,7 +79,6 @@ impl<'a, H: Abort> Recorder<Source, Sheet> for Ledger<'a, H> {
             self.new.taken.items
             ≡ gave (ledger_seen told blob leaf self.old.required self.old.starts.items self.old.planned.value.items
             self.old.taken.items) (Closed own (card_seen told blob leaf card)) }
-        ensures sound { Unit {0} }
     {
         self.keep(Taken::Closed(own, card));
     }
@@ -94,7 +91,6 @@ impl<'a, H: Abort> Recorder<Source, Sheet> for Ledger<'a, H> {
             self.new.taken.items
             ≡ gave (ledger_seen told blob leaf self.old.required self.old.starts.items self.old.planned.value.items
             self.old.taken.items) (HandedBack card.path) }
-        ensures sound { Unit {0} }
     {
         self.keep(Taken::Back(card));
     }

@@ -3,7 +3,7 @@ use Rattle.turn_lock.specs.Seats.{AreSeats}
 use Rattle.checkout_core.specs.States.{start}
 use Rattle.checkout_book.specs.declared.plan.Plan.{Plan}
 use Rattle.checkout_book.specs.Sights.{sight}
-use Rattle.checkout_book.specs.Reserving.{aways, placed}
+use Rattle.checkout_book.specs.Reserving.{aways, placed, plan_for}
 use Rattle.checkout_book.proofs.Lists.{past_none}
 use Rattle.checkout_book.proofs.Finishing.{aways_length, placed_length, begins_at, idle_new, fresh_seats, ok_three}
 use Rattle.checkout_book.proofs.reserving.begin.Goals as goal
@@ -27,19 +27,12 @@ lay-requires-clause-few g c = omega (arith, c.len-paths.ensures, c.args.starts.o
 
 pub lay-requires-clause-there : goal.lay-requires-clause-there
 lay-requires-clause-there g c k card at =
-    let lt = past_none c.args.starts.items card.path _ (c.requires.pool.there k card at) in
+    let lt = past_none c.args.starts.items card.path _ (c.requires.pool_is.there k card at) in
     omega (arith, lt, c.len-paths.ensures, c.args.starts.ok.0)
 
 pub make-requires-clause-fits : goal.make-requires-clause-fits
 make-requires-clause-fits g c =
-    let d : Plan g.row.B.Denot g.row.L.Denot = record {
-      pool = c.args.pool;
-      desks = c.args.desks.now;
-      starts =
-          c.args.starts;
-      workers = c.args.workers;
-      drivers = length c.args.desks.now.items;
-    } in
+    let d = plan_for c.args.pool c.args.desks.now c.args.starts c.args.workers in
     let p = c.of-told.ensures in
     let s = c.of-begun.ensures in
     let k = c.of-kept.ensures in
@@ -63,28 +56,20 @@ make-requires-clause-fits g c =
         starts = s i;
         workers = c.args.workers;
         drivers = dr i;
-      }) c.requires.below c.requires.pool c.requires.new
+      }) c.requires.below c.requires.pool_is c.requires.new
           (omega (arith, c.in_ok-room.ensures.events, n)) (c.in_ok-core.ensures ∙ ap (λ m. start
           c.args.starts.items c.args.workers m) dr) c.in_ok-room.ensures.no_event laid
           c.in_ok-laid.ensures.waiting,
       (c.in_ok-room.ensures.no_part, omega (arith, c.in_ok-room.ensures.parts, len, n)),
     )
 
-pub returns-clause-passes : goal.returns-clause-passes
-returns-clause-passes g c =
-    let B = g.row.B.Denot in
-    let L = g.row.L.Denot in
-    let d : Plan B L = record {
-      pool = c.args.pool;
-      desks = c.args.desks.now;
-      starts = c.args.starts;
-      workers =
-          c.args.workers;
-      drivers = length c.args.desks.now.items;
-    } in
+pub returns : goal.returns
+returns g c =
+    let d = plan_for c.args.pool c.args.desks.now c.args.starts c.args.workers in
     let p = c.of-told.ensures in
     let s = c.of-begun.ensures in
     let k = c.of-kept.ensures in
+    let n = c.args.workers + length c.args.desks.now.items in
     let dr : c.len-drivers.result ≡ length c.args.desks.now.items = omega (
       arith,
       c.len-drivers.ensures,
@@ -94,25 +79,15 @@ returns-clause-passes g c =
     let is : record {
       pool = c.of-told.result.value;
       desks = c.of-kept.result.value;
-      starts =
-          c.of-begun.result.value;
+      starts = c.of-begun.result.value;
       workers = c.args.workers;
       drivers = c.len-drivers.result;
-    } ≡ d = (λ i. record {
-      pool
-          = p i;
-      desks = k i;
-      starts = s i;
-      workers = c.args.workers;
-      drivers = dr i;
-    }) in
-    ok_three _ _ _ _ c.make.result (λ r count seats unseen. idle_new r.0 d 0 (c.args.workers + length
-    c.args.desks.now.items) r.1.items
-    (subst (λ (n : ℕ). AreSeats r.0 d 0 (c.args.workers + n) r.1.items) dr (subst (λ (x : Plan B L). AreSeats r.0 x 0
-    (c.args.workers + c.len-drivers.result) r.1.items) is seats)) unseen (omega (arith, count, dr)))
-    c.make.ensures.count c.make.ensures.seats c.make.ensures.unseen
-
-pub returns-clause-fresh : goal.returns-clause-fresh
-returns-clause-fresh g c =
-    ok_three _ _ _ _ c.make.result (λ r count seats unseen. fresh_seats r.0 _ 0 _ r.1.items seats unseen)
-    c.make.ensures.count c.make.ensures.seats c.make.ensures.unseen
+    } ≡ d = (λ i. record { pool = p i; desks = k i; starts = s i; workers = c.args.workers; drivers = dr i }) in
+    ok_three _ _ _ _ c.make.result (λ r count seats unseen. record {
+      count = omega (arith, count, dr);
+      idle = idle_new r.0 d 0 n r.1.items
+          (subst (λ (m : ℕ). AreSeats r.0 d 0 (c.args.workers + m) r.1.items) dr
+          (subst (λ (x : Plan g.row.B.Denot g.row.L.Denot). AreSeats r.0 x 0 (c.args.workers + c.len-drivers.result)
+          r.1.items) is seats)) unseen (omega (arith, count, dr));
+      fresh = fresh_seats r.0 _ 0 _ r.1.items seats unseen;
+    }) c.make.ensures.count c.make.ensures.seats c.make.ensures.unseen

@@ -6,7 +6,7 @@ use Rattle.checkout_book.specs.Ending.{parts_in}
 use Rattle.writer_pool.specs.Ends.{IsRun, AreEnds}
 use Rattle.writer_pool.specs.Sealing.{EndsAt, leaf_at}
 use Rattle.writer_pool.proofs.Dealt.{fitting}
-use Rattle.writer_pool.proofs.Outcomes.{completed, ran, ends_are, seals_there, paths_count, slots_count, events_few, parts_fewer}
+use Rattle.writer_pool.proofs.Outcomes.{completed, ran, ends_are, seals_there, paths_count, slots_count, parts_fewer}
 use Rattle.writer_pool.proofs.ending.leave.Goals as goal
 
 pub verdicts_of-verdicts-requires-clause-complete :
@@ -21,14 +21,6 @@ verdicts_of-verdicts-requires-clause-count g c =
     paths_count (sight g.B.Blob.told g.B.Blob.seen g.L.Leaf.seen) c.a_history_keeps_its_size.ensures r.0
     c.args.ended.shelf r.1 ∙ r.2
 
-pub copied-history-requires-clause-room : goal.copied-history-requires-clause-room
-copied-history-requires-clause-room g c =
-    let r = c.requires.through in
-    let few = events_few (sight g.B.Blob.told g.B.Blob.seen g.L.Leaf.seen) c.a_history_is_short.ensures r.0
-    c.args.ended.shelf r.1 in
-    let count = r.2 in
-    omega (arith, ap length c.history.ensures, few, c.requires.room.events, count)
-
 pub apart-blobs-requires-clause-room : goal.apart-blobs-requires-clause-room
 apart-blobs-requires-clause-room g c =
     let r = c.requires.through in
@@ -36,7 +28,7 @@ apart-blobs-requires-clause-room g c =
     c.args.ended.shelf r.1 in
     let fewer = parts_fewer c.args.ended.shelf.slots.items in
     let count = r.2 in
-    omega (arith, ap length c.into_parts.ensures.parts, fewer, slots, c.requires.room.all_blobs, count)
+    omega (arith, ap length c.into_history_and_parts-history.ensures.parts, fewer, slots, c.requires.room.all_blobs, count)
 
 pub apart-blobs-requires-clause-leaf_room : goal.apart-blobs-requires-clause-leaf_room
 apart-blobs-requires-clause-leaf_room g c =
@@ -45,13 +37,13 @@ apart-blobs-requires-clause-leaf_room g c =
     c.args.ended.shelf r.1 in
     let fewer = parts_fewer c.args.ended.shelf.slots.items in
     let count = r.2 in
-    omega (arith, ap length c.into_parts.ensures.parts, fewer, slots, c.requires.room.all_leaves, count)
+    omega (arith, ap length c.into_history_and_parts-history.ensures.parts, fewer, slots, c.requires.room.all_leaves, count)
 
 pub returns-clause-run : goal.returns-clause-run
 returns-clause-run g c d t =
     let see = sight g.B.Blob.told g.B.Blob.seen g.L.Leaf.seen in
     subst (λ (h : List Event). IsRun d.starts.items d.workers d.drivers h c.verdicts_of-verdicts.result.items)
-    (sym (c.copied-history.ensures ∙ c.history.ensures))
+    (sym c.into_history_and_parts-history.ensures.history)
     (ran see d c.args.ended.shelf c.verdicts_of-verdicts.result.items t c.verdicts_of-verdicts.ensures)
 
 pub returns-clause-ends : goal.returns-clause-ends
@@ -67,11 +59,11 @@ returns-clause-ends g c d t pool dealt =
       backs = c.a_path_that_is_handed_back_waits.ensures;
       keeps = c.a_note_keeps_paths_with_their_driver.ensures;
     }) c.a_verdict_is_what_is_told.ensures d s t (fitting d pool dealt) slots in
-    let blobs = c.apart-blobs.ensures.blobs ∙ ap (map (λ (x : B × L). x.0)) c.into_parts.ensures.parts in
-    let leaves = c.apart-blobs.ensures.leaves ∙ ap (map (λ (x : B × L). x.1)) c.into_parts.ensures.parts in
+    let blobs = c.apart-blobs.ensures.blobs ∙ ap (map (λ (x : B × L). x.0)) c.into_history_and_parts-history.ensures.parts in
+    let leaves = c.apart-blobs.ensures.leaves ∙ ap (map (λ (x : B × L). x.1)) c.into_history_and_parts-history.ensures.parts in
     subst (λ (h : List Event). AreEnds see d.starts.items h (cards_of d) 0 d.starts.items
     c.apart-blobs.result.0.items c.apart-blobs.result.1.items)
-    (sym (c.copied-history.ensures ∙ c.history.ensures))
+    (sym c.into_history_and_parts-history.ensures.history)
     (subst (λ (ls : List L). AreEnds see d.starts.items s.events.items (cards_of d) 0 d.starts.items
     c.apart-blobs.result.0.items ls) (sym leaves)
     (subst (λ (bs : List B). AreEnds see d.starts.items s.events.items (cards_of d) 0 d.starts.items bs
@@ -84,7 +76,7 @@ returns-clause-seals g c d t pool dealt q p leaf z =
     let L = g.row.L.Denot in
     let s = c.args.ended.shelf in
     let slots = slots_count see c.a_history_keeps_its_size.ensures d s t in
-    let leaves = c.apart-blobs.ensures.leaves ∙ ap (map (λ (x : B × L). x.1)) c.into_parts.ensures.parts in
+    let leaves = c.apart-blobs.ensures.leaves ∙ ap (map (λ (x : B × L). x.1)) c.into_history_and_parts-history.ensures.parts in
     seals_there see (record {
       takes = c.a_claim_takes_its_path.ensures;
       closes = c.a_close_closes_its_path.ensures;
@@ -93,7 +85,7 @@ returns-clause-seals g c d t pool dealt q p leaf z =
     }) c.a_verdict_is_what_is_told.ensures d s t (fitting d pool dealt) slots q p leaf
     (subst (λ (ls : List L). EndsAt see d.starts.items s.events.items (leaf_at d.starts.items ls) q p leaf) leaves
     (subst (λ (h : List Event). EndsAt see d.starts.items h (leaf_at d.starts.items c.apart-blobs.result.1.items) q p
-    leaf) (c.copied-history.ensures ∙ c.history.ensures) z))
+    leaf) c.into_history_and_parts-history.ensures.history z))
 
 pub returns-clause-history : goal.returns-clause-history
-returns-clause-history g c = c.copied-history.ensures ∙ c.history.ensures
+returns-clause-history g c = c.into_history_and_parts-history.ensures.history

@@ -1,4 +1,4 @@
-use Rattle.std.proofs.Common.{false, List, sym, subst}
+use Rattle.std.proofs.Common.{List, sym, subst}
 use Rattle.std.proofs.lemmas.List.{append-nil}
 use Rattle.checkout_book.specs.Passes.{IsPass}
 use Rattle.checkout_book.specs.Sights.{sight}
@@ -26,7 +26,7 @@ returns-in_default-clause-hand g c w hs i few =
     (c.claim.ensures w.plan w.made i.core
     (subst (λ k. IsPass lock w.plan k w.made c.args.pass.now i.core) (sym i.is_pass.seat.named) i.is_pass))
     c.in_default.not-Some in
-    subst (λ (l : List (Held g.row.B.Denot g.row.L.Denot)). IsHand see lock w false c.claim.new.pass l)
+    subst (λ (l : List (Held g.row.B.Denot g.row.L.Denot)). IsHand see lock w c.claim.new.pass l)
     (sym (append-nil hs)) (hand_stays see lock w c.args.pass.now c.claim.new.pass t.0 hs i t.1).0
 
 pub returns-in_default-clause-none : goal.returns-in_default-clause-none

@@ -1,4 +1,4 @@
-use Rattle.std.proofs.Common.{Option, sym, ap, subst}
+use Rattle.std.proofs.Common.{Option, ap, subst}
 use Rattle.object_dir.specs.declared.taking.Taken.{Taken}
 use Rattle.convert_plan.specs.Card.{CardSeen}
 use Rattle.checkout_book.specs.Sights.{sight, seen}

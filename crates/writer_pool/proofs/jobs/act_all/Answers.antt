@@ -41,7 +41,7 @@ returns g c =
     let long : length v.items ≡ length c.args.jobs.items = omega (arith, len, v.ok.0, c.args.jobs.ok.0) in
     through_all starter see lock d 0 made c.args.jobs.items v.items long jobs (λ i m s at is.
     let lt : i < length c.args.jobs.items = place_is c.args.jobs.items i s at in
-    let t0 : EndSeen g.row.S.Denot B L = record { pass = s.pass; starter = None } in
+    let t0 : EndSeen g.row.S.Denot B L = record { pass = s.pass; served = None } in
     let e = (each i t0 lt).1 in
     let t = get_or v.items i t0 in
     let post : (d : Plan B L) (made : ℕ) → IsJob see lock d (number_of (e.job).pass) made e.job

@@ -1,47 +1,57 @@
-use Rattle.std.proofs.Common.{◌≡◌, ℕ, List, length, sym, ap, ◌∙◌, subst, arith}
+use Rattle.std.proofs.Common.{◌≡◌, ℕ, ◌+◌, List, length, sym, ap, ◌∙◌, subst, arith}
+use Rattle.std.specs.Global.{Vec}
+use Rattle.std.proofs.lemmas.List.{length-map}
 use Rattle.convert_plan.specs.declared.card.Card.{Card}
 use Rattle.checkout_core.specs.declared.path.Start.{Start}
 use Rattle.checkout_core.specs.declared.event.Event.{Event}
 use Rattle.checkout_book.specs.Sights.{sight}
 use Rattle.checkout_book.specs.Reserving.{ArePool, AreDealt}
-use Rattle.writer_pool.specs.Pools.{AreStartersBack}
-use Rattle.writer_pool.specs.Rooms.{HasRoom}
-use Rattle.writer_pool.specs.Talks.{HaveRoom}
-use Rattle.writer_pool.proofs.Acting.{passes_length, starters_count, starters_back}
-use Rattle.writer_pool.proofs.Noting.{rooms_length, have_room}
+use Rattle.driver_desk.specs.declared.desk.Served.{Served}
+use Rattle.writer_pool.specs.Jobs.{served_in}
+use Rattle.writer_pool.specs.Pools.{AreStartersBack, AreTalks}
+use Rattle.writer_pool.specs.Rooms.{HasRoomBack}
+use Rattle.writer_pool.proofs.Acting.{passes_length, served_count, starters_back}
 use Rattle.writer_pool.proofs.Pooling.{run_is, ends_in, pool_back, pool_noted, pool_own, pool_sealed}
 use Rattle.writer_pool.proofs.Tied.{tied_in_history}
 use Rattle.writer_pool.proofs.run.pool_run.Goals as goal
 
-pub came_back-passes-requires-clause-room : goal.came_back-passes-requires-clause-room
-came_back-passes-requires-clause-room g c =
-    let see = sight g.B.Blob.told g.B.Blob.seen g.L.Leaf.seen in
-    let b = c.in_ok-begun.ensures.begun in
-    let js = c.in_ok-begun.begun.jobs.items in
-    let t = c.in_ok-ends.ensures b.plan (length js) b.ready in
-    let n = passes_length g.S.Starter.seen see _ b.plan 0 (length js) js c.in_ok-ends.ends.items t in
-    let count = b.count in
-    omega (arith, n.0, count, c.in_ok-room.ensures.passes, c.len-drivers.ensures, c.args.desks.ok.0)
+pub begin_pool-requires-after_bounds : goal.begin_pool-requires-after_bounds
+begin_pool-requires-after_bounds g c κs within = record {
+  few_paths = c.requires.few_paths;
+  below = c.requires.below;
+  some = c.requires.some;
+  few_workers = c.requires.few_workers;
+  few_desks = c.requires.few_desks;
+  pool_is = c.requires.pool;
+  seeds_are = c.requires.desks;
+  new = c.requires.new;
+}
 
-pub came_back-passes-requires-clause-starter_room :
-    goal.came_back-passes-requires-clause-starter_room
-came_back-passes-requires-clause-starter_room g c =
+pub came_back-passes-requires : goal.came_back-passes-requires
+came_back-passes-requires g c =
     let see = sight g.B.Blob.told g.B.Blob.seen g.L.Leaf.seen in
-    let b = c.in_ok-begun.ensures.begun in
-    let js = c.in_ok-begun.begun.jobs.items in
+    let b = c.in_ok-book.ensures in
+    let js = c.in_ok-book.jobs.items in
     let t = c.in_ok-ends.ensures b.plan (length js) b.ready in
     let w = c.args.workers in
-    let n = starters_count g.S.Starter.seen see _ b.plan 0 (length js) w w c.args.desks.items js
+    let n = passes_length g.S.Starter.seen see _ b.plan 0 (length js) js c.in_ok-ends.ends.items t in
+    let count = b.count in
+    let passes : w + c.len-drivers.result ≡ length c.in_ok-ends.ends.items =
+    omega (arith, n.0, count, c.len-drivers.ensures, c.args.desks.ok.0) in
+    let m = served_count g.S.Starter.seen see _ b.plan 0 (length js) w w c.args.desks.items js
     c.in_ok-ends.ends.items b.actors t in
-    omega (arith, n, c.in_ok-room.ensures.starters, c.len-drivers.ensures, c.args.desks.ok.0)
+    let desks : c.len-drivers.result ≡ length (served_in c.in_ok-ends.ends.items) =
+    omega (arith, m, c.len-drivers.ensures, c.args.desks.ok.0) in
+    subst (λ (z : ℕ). HasRoomBack z (length (served_in c.in_ok-ends.ends.items)) c.in_ok-back.back) passes
+    (subst (λ (z : ℕ). HasRoomBack (w + c.len-drivers.result) z c.in_ok-back.back) desks c.in_ok-back.ensures)
 
 pub end_all-ended-requires : goal.end_all-ended-requires
 end_all-ended-requires g c =
     let see = sight g.B.Blob.told g.B.Blob.seen g.L.Leaf.seen in
-    let b = c.in_ok-begun.ensures.begun in
-    let js = c.in_ok-begun.begun.jobs.items in
+    let b = c.in_ok-book.ensures in
+    let js = c.in_ok-book.jobs.items in
     let t = c.in_ok-ends.ensures b.plan (length js) b.ready in
-    let back = pool_back g.S.Starter.seen see _ b.plan js c.in_ok-ends.ends.items c.came_back-passes.result.0.items
+    let back = pool_back g.S.Starter.seen see _ b.plan js c.in_ok-ends.ends.items c.came_back-passes.result.passes.items
     c.came_back-passes.ensures.passes t in
     let count = b.count in
     let workers = b.workers_are in
@@ -57,10 +67,10 @@ end_all-ended-requires g c =
 pub leave-history-requires-clause-through : goal.leave-history-requires-clause-through
 leave-history-requires-clause-through g c =
     let see = sight g.B.Blob.told g.B.Blob.seen g.L.Leaf.seen in
-    let b = c.in_ok-begun.ensures.begun in
-    let js = c.in_ok-begun.begun.jobs.items in
+    let b = c.in_ok-book.ensures in
+    let js = c.in_ok-book.jobs.items in
     let t = c.in_ok-ends.ensures b.plan (length js) b.ready in
-    let back = pool_back g.S.Starter.seen see _ b.plan js c.in_ok-ends.ends.items c.came_back-passes.result.0.items
+    let back = pool_back g.S.Starter.seen see _ b.plan js c.in_ok-ends.ends.items c.came_back-passes.result.passes.items
     c.came_back-passes.ensures.passes t in
     let count = b.count in
     let workers = b.workers_are in
@@ -72,129 +82,62 @@ leave-history-requires-clause-through g c =
     )
 
 pub leave-history-requires-clause-room : goal.leave-history-requires-clause-room
-leave-history-requires-clause-room g c =
-    let count : length c.as_slice.result.now ≡ c.len-paths.result =
-    omega (arith, ap length c.as_slice.ensures.value, c.len-paths.ensures, c.args.starts.ok.0) in
-    subst (λ (n : ℕ). HasRoom n c.in_ok-room.room.ends) count c.in_ok-room.ensures.ends
+leave-history-requires-clause-room g c = c.in_ok-room.ensures
 
-pub talks_of-talks-requires-clause-few : goal.talks_of-talks-requires-clause-few
-talks_of-talks-requires-clause-few g c =
-    let n = rooms_length c.args.desks.items c.in_ok-begun.begun.talks.items c.in_ok-begun.ensures.talks in
-    omega (arith, n, c.requires.few_desks)
-
-pub talks_of-talks-requires-clause-all : goal.talks_of-talks-requires-clause-all
-talks_of-talks-requires-clause-all g c =
-    let n = rooms_length c.args.desks.items c.in_ok-begun.begun.talks.items c.in_ok-begun.ensures.talks in
-    omega (arith, n, c.in_ok-room.ensures.talks, c.len-drivers.ensures, c.args.desks.ok.0)
-
-pub talks_of-talks-requires-clause-room : goal.talks_of-talks-requires-clause-room
-talks_of-talks-requires-clause-room g c =
-    let b = c.in_ok-begun.ensures.begun in
-    let js = c.in_ok-begun.begun.jobs.items in
-    let t = c.in_ok-ends.ensures b.plan (length js) b.ready in
-    let back = pool_back g.S.Starter.seen (sight g.B.Blob.told g.B.Blob.seen g.L.Leaf.seen) _ b.plan js
-    c.in_ok-ends.ends.items c.came_back-passes.result.0.items c.came_back-passes.ensures.passes t in
-    let count = b.count in
-    let workers = b.workers_are in
-    let drivers = b.drivers_are in
-    let long = back.1 in
-    let through = c.end_all-ended.ensures.through b.plan back.0 (omega (arith, long, count, workers, drivers)) in
-    let starts = c.args.starts.items in
-    let history = c.leave-history.result.history.items in
-    let n = length c.args.desks.items in
-    let run = run_is _ starts _ c.args.workers _ n history c.leave-history.result.verdicts.items b.starts_are
-    b.workers_are b.drivers_are (c.leave-history.ensures.run b.plan through) in
-    let rooms = c.in_ok-begun.begun.talks.items in
-    let have = have_room g.S.Starter.seen c.a_driver_has_few_notes.ensures starts c.args.workers n history run.core
-    c.requires.below run.legal 0 c.args.desks.items rooms c.requires.desks (omega arith)
-    c.in_ok-begun.ensures.talks in
-    let begins = c.as_slice-3.ensures.value ∙ (c.in_ok-room.ensures.starts ∙ c.as_slice.ensures.value) in
-    subst (λ (l : List Start). HaveRoom l c.as_slice-2.result.now 0 rooms) (sym begins)
-    (subst (λ (l : List Event). HaveRoom starts l 0 rooms) (sym c.as_slice-2.ensures.value) have)
-
-pub returns-clause-run : goal.returns-clause-run
-returns-clause-run g c =
-    let b = c.in_ok-begun.ensures.begun in
-    let js = c.in_ok-begun.begun.jobs.items in
-    let t = c.in_ok-ends.ensures b.plan (length js) b.ready in
-    let back = pool_back g.S.Starter.seen (sight g.B.Blob.told g.B.Blob.seen g.L.Leaf.seen) _ b.plan js
-    c.in_ok-ends.ends.items c.came_back-passes.result.0.items c.came_back-passes.ensures.passes t in
-    let count = b.count in
-    let workers = b.workers_are in
-    let drivers = b.drivers_are in
-    let long = back.1 in
-    let through = c.end_all-ended.ensures.through b.plan back.0 (omega (arith, long, count, workers, drivers)) in
-    run_is _ c.args.starts.items _ c.args.workers _ (length c.args.desks.items) c.leave-history.result.history.items
-    c.leave-history.result.verdicts.items b.starts_are b.workers_are b.drivers_are
-    (c.leave-history.ensures.run b.plan through)
-
-pub returns-clause-ends : goal.returns-clause-ends
-returns-clause-ends g c =
-    let see = sight g.B.Blob.told g.B.Blob.seen g.L.Leaf.seen in
-    let b = c.in_ok-begun.ensures.begun in
-    let js = c.in_ok-begun.begun.jobs.items in
-    let t = c.in_ok-ends.ensures b.plan (length js) b.ready in
-    let back = pool_back g.S.Starter.seen (sight g.B.Blob.told g.B.Blob.seen g.L.Leaf.seen) _ b.plan js
-    c.in_ok-ends.ends.items c.came_back-passes.result.0.items c.came_back-passes.ensures.passes t in
-    let count = b.count in
-    let workers = b.workers_are in
-    let drivers = b.drivers_are in
-    let long = back.1 in
-    let through = c.end_all-ended.ensures.through b.plan back.0 (omega (arith, long, count, workers, drivers)) in
-    let pool = subst (λ (l : List Start). ArePool l b.plan.pool.items) (sym b.starts_are)
-    (subst (λ (l : List (Card g.row.B.Denot g.row.L.Denot)). ArePool c.args.starts.items l) (sym b.pool_is)
-    c.requires.pool) in
-    let dealt = subst (λ (l : List Start). AreDealt l 0 b.plan.desks.items) (sym b.starts_are) b.dealt in
-    ends_in see _ c.args.starts.items c.leave-history.result.history.items _ _ c.leave-history.result.blobs.items
-    c.leave-history.result.leaves.items b.starts_are b.cards_are (c.leave-history.ensures.ends b.plan through pool dealt)
-
-pub returns-clause-starters : goal.returns-clause-starters
-returns-clause-starters g c =
+pub returns : goal.returns
+returns g c =
+    let S = g.row.S.Denot in
     let see = sight g.B.Blob.told g.B.Blob.seen g.L.Leaf.seen in
     let starter = g.S.Starter.seen in
-    let b = c.in_ok-begun.ensures.begun in
-    let js = c.in_ok-begun.begun.jobs.items in
+    let b = c.in_ok-book.ensures in
+    let js = c.in_ok-book.jobs.items in
     let ts = c.in_ok-ends.ends.items in
-    let ps = c.came_back-passes.result.0.items in
+    let ps = c.came_back-passes.result.passes.items in
     let w = c.args.workers in
     let starts = c.args.starts.items in
-    let history = c.leave-history.result.history.items in
+    let seeds = c.args.desks.items in
+    let history = c.leave-history.result.0.items in
+    let leaves = c.leave-history.result.1.leaves.items in
     let t = c.in_ok-ends.ensures b.plan (length js) b.ready in
     let back = pool_back starter see _ b.plan js ts ps c.came_back-passes.ensures.passes t in
-    let each = pool_noted b.plan ts ps starts history c.end_all-ended.result.shelf.events.items w
-    c.came_back-passes.ensures.passes b.starts_are b.workers_are c.leave-history.ensures.history
-    (c.end_all-ended.ensures.notes b.plan back.0) in
-    let leaves = c.leave-history.result.leaves.items in
     let count = b.count in
     let workers = b.workers_are in
     let drivers = b.drivers_are in
     let long = back.1 in
+    let some = c.requires.some in
     let through = c.end_all-ended.ensures.through b.plan back.0 (omega (arith, long, count, workers, drivers)) in
     let pool = subst (λ (l : List Start). ArePool l b.plan.pool.items) (sym b.starts_are)
     (subst (λ (l : List (Card g.row.B.Denot g.row.L.Denot)). ArePool starts l) (sym b.pool_is) c.requires.pool) in
     let dealt = subst (λ (l : List Start). AreDealt l 0 b.plan.desks.items) (sym b.starts_are) b.dealt in
-    let some = c.requires.some in
+    let run = run_is _ starts _ w _ (length seeds) history c.leave-history.result.1.verdicts.items b.starts_are
+    b.workers_are b.drivers_are (c.leave-history.ensures.run b.plan through) in
+    let noted = pool_noted b.plan ts ps starts history c.end_all-ended.result.shelf.events.items w
+    c.came_back-passes.ensures.passes b.starts_are b.workers_are c.leave-history.ensures.history
+    (c.end_all-ended.ensures.notes b.plan back.0) in
     let own = pool_own b.plan ts ps starts history c.end_all-ended.result.shelf.events.items w
     c.came_back-passes.ensures.passes b.starts_are b.workers_are c.leave-history.ensures.history (omega (arith, some))
     (c.end_all-ended.ensures.own b.plan back.0) in
-    let run = run_is _ starts _ w _ (length c.args.desks.items) history c.leave-history.result.verdicts.items
-    b.starts_are b.workers_are b.drivers_are (c.leave-history.ensures.run b.plan through) in
     let sealed = pool_sealed see b.plan ts ps starts history leaves c.end_all-ended.result.shelf w
     c.came_back-passes.ensures.passes b.starts_are b.workers_are (c.end_all-ended.ensures.seals b.plan back.0)
     (c.leave-history.ensures.seals b.plan through pool dealt) in
-    subst (λ (l : List g.row.S.Denot). AreStartersBack starter see starts history leaves 0 c.args.desks.items l)
-    (sym c.came_back-passes.ensures.starters)
-    (starters_back starter see _ b.plan 0 (length js) w w c.args.desks.items js ts starts history leaves b.actors t
+    let left = starters_back starter see _ b.plan 0 (length js) w w seeds js ts starts history leaves b.actors t
     c.requires.desks (λ i u at. record {
-      notes_are = each i u at;
+      notes_are = noted i u at;
       seals = sealed i u at;
       tied = λ work required tied begun. tied_in_history c.a_claim_takes_its_path.ensures
           c.a_close_closes_its_path.ensures c.a_path_that_is_handed_back_waits.ensures
-          c.a_note_keeps_paths_with_their_driver.ensures starts w (length c.args.desks.items) i history run.core
+          c.a_note_keeps_paths_with_their_driver.ensures starts w (length seeds) i history run.core
           run.legal _ (own i u at) work required tied begun;
-    }))
-
-pub returns-clause-talk_count : goal.returns-clause-talk_count
-returns-clause-talk_count g c =
-    c.talks_of-talks.ensures.count
-    ∙ rooms_length c.args.desks.items c.in_ok-begun.begun.talks.items c.in_ok-begun.ensures.talks
+    }) in
+    record {
+      run = run;
+      ends = ends_in see _ starts history _ _ c.leave-history.result.1.blobs.items leaves b.starts_are b.cards_are
+          (c.leave-history.ensures.ends b.plan through pool dealt);
+      starters = subst (λ (l : List S). AreStartersBack starter see starts history leaves 0 seeds l)
+          (sym c.came_back-passes.ensures.starters) left.0;
+      talks = subst (λ (l : List (Vec Event)). AreTalks starts history 0 l) (sym c.came_back-passes.ensures.talks)
+          left.1;
+      talk_count = ap length c.came_back-passes.ensures.talks
+          ∙ (length-map (served_in ts) (λ (s : Served S). s.talk)
+          ∙ served_count starter see _ b.plan 0 (length js) w w seeds js ts b.actors t);
+    }

@@ -1,7 +1,8 @@
-use Rattle.std.proofs.Common.{List, false, sym, subst}
+use Rattle.std.proofs.Common.{◌++◌, ◌∙◌, List, sym, ap, subst}
 use Rattle.turn_lock.specs.Seat.{number_of}
 use Rattle.checkout_book.specs.Sights.{sight}
 use Rattle.writer_pool.specs.declared.held.Held.{Held}
+use Rattle.writer_pool.specs.Fours.{items}
 use Rattle.writer_pool.specs.Holding.{IsHand, Shift}
 use Rattle.writer_pool.proofs.Hands.{hand_begins, hand_idle}
 use Rattle.writer_pool.proofs.workers.work.Goals as goal
@@ -11,9 +12,11 @@ turns-init g c = record {
   hand = λ d made ready.
       let see = sight g.B.Blob.told g.B.Blob.seen g.L.Leaf.seen in
       subst (λ (l : List (Held g.row.B.Denot g.row.L.Denot)). IsHand see c.args.book.now
-      (record { plan = d; number = number_of c.args.pass; made = made; pass = c.args.pass }) false c.args.pass l)
-      (sym c.new.ensures) (hand_begins see c.args.book.now d (number_of c.args.pass) made c.args.pass ready);
-  none = c.new.ensures;
+      (record { plan = d; number = number_of c.args.pass; made = made; pass = c.args.pass }) c.args.pass l)
+      (sym (ap (λ (l : List (Held g.row.B.Denot g.row.L.Denot)). l ++ items c.new-2.result) c.new.ensures
+      ∙ c.new-2.ensures))
+      (hand_begins see c.args.book.now d (number_of c.args.pass) made c.args.pass ready);
+  none = c.new-2.ensures;
 }
 
 pub take_turn-requires-clause-hand : goal.take_turn-requires-clause-hand
@@ -28,5 +31,6 @@ returns-then-not-take_turn g c d made ready =
     let see = sight g.B.Blob.told g.B.Blob.seen g.L.Leaf.seen in
     let i = c.turns.invariant.hand d made ready in
     let w : Shift g.row.B.Denot g.row.L.Denot = record { plan = d; number = number_of c.args.pass; made = made; pass = c.args.pass } in
-    hand_idle see c.args.book.now w c.take_turn.new.self (c.take_turn.ensures.hand w i) c.take_turn.ensures.none
-    (c.take_turn.ensures.idle c.if-not-take_turn.true w i)
+    hand_idle see c.args.book.now w c.take_turn.new.self (c.take_turn.ensures.hand w i)
+    (c.take_turn.ensures.idle c.if-not-take_turn.true).0 c.take_turn.ensures.none
+    ((c.take_turn.ensures.idle c.if-not-take_turn.true).1 w i)

@@ -3,7 +3,7 @@ use Rattle.turn_lock.specs.Seat.{number_of}
 use Rattle.checkout_book.specs.declared.plan.Plan.{Plan}
 use Rattle.checkout_book.specs.Sights.{sight}
 use Rattle.writer_pool.specs.Fours.{items}
-use Rattle.writer_pool.specs.Holding.{Shift, IsInHand}
+use Rattle.writer_pool.specs.Holding.{IsInHand}
 use Rattle.writer_pool.specs.Working.{IsReady}
 use Rattle.writer_pool.proofs.workers.work.Given as goal
 
@@ -13,5 +13,5 @@ invariant-turns g l = record {
       → IsReady (sight g.B.Blob.told g.B.Blob.seen g.L.Leaf.seen) l.book d (number_of l.fn.pass) made l.fn.pass
       → IsInHand (sight g.B.Blob.told g.B.Blob.seen g.L.Leaf.seen) l.book
       (record { plan = d; number = number_of l.fn.pass; made = made; pass = l.fn.pass }) l.hand;
-  none : items l.hand.cards ≡ [];
+  none : items l.hand.next ≡ [];
 }

@@ -46,7 +46,7 @@ returns-clause-sound g c =
     let d = plan_of self in
     let b0 = close_sound (sight g.B.Blob.told g.B.Blob.seen g.L.Leaf.seen) c.a_close_closes_its_path.ensures d
     self.core c.take.new.core self.events.items self.slots.items self.waiting _ c.args.path c.args.actor
-    c.args.own c.args.blob c.args.leaf c.requires.sound c.take.ensures c.requires.from in
+    c.args.own (c.args.parts).0 (c.args.parts).1 c.requires.sound c.take.ensures c.requires.from in
     let b = subst (λ z. Sound (sight g.B.Blob.told g.B.Blob.seen g.L.Leaf.seen) d c.take.new.core (self.events.items
     ++ Close c.args.path c.args.actor c.args.own ∷ []) (set self.slots.items c.args.path z) self.waiting
     (vec_capacity self.events)) (sym c.replace.ensures.after) b0 in

@@ -1,9 +1,8 @@
-use Rattle.std.proofs.Common.{List, ap, subst}
+use Rattle.std.proofs.Common.{◌++◌, List, ap, subst}
 use Rattle.checkout_book.specs.Sights.{sight}
 use Rattle.writer_pool.specs.declared.held.Held.{Held}
 use Rattle.writer_pool.specs.Fours.{items}
-use Rattle.writer_pool.specs.Holding.{IsHand, claims_in}
-use Rattle.writer_pool.specs.Turns.{any}
+use Rattle.writer_pool.specs.Holding.{IsHand}
 use Rattle.writer_pool.proofs.Hands.{to_be_written}
 use Rattle.writer_pool.proofs.hand.Hand.close_all.Goals as goal
 
@@ -12,23 +11,23 @@ write_held-written-requires g c =
     let see = sight g.B.Blob.told g.B.Blob.seen g.L.Leaf.seen in
     let lock = c.args.book.now in
     let r = c.requires in
-    let k = c.loop-held.invariant.hand r.0 r.1 in
-    to_be_written see lock r.0 k.0 c.loop-held.self.pass c.in-Some.held (items c.pop.new.self)
-    (subst (λ (l : List (Held g.row.B.Denot g.row.L.Denot)). IsHand see lock r.0 k.0 c.loop-held.self.pass l)
-    c.in-Some.ensures k.1)
+    let next = items c.loop-held.self.next in
+    to_be_written see lock r.0 c.loop-held.self.pass c.in-Some.held (items c.pop.new.self ++ next)
+    (subst (λ (l : List (Held g.row.B.Denot g.row.L.Denot)). IsHand see lock r.0 c.loop-held.self.pass (l ++ next))
+    c.in-Some.ensures (c.loop-held.invariant.hand r.0 r.1))
 
 pub close_written-requires-after_bounds : goal.close_written-requires-after_bounds
 close_written-requires-after_bounds g c κs within =
     let see = sight g.B.Blob.told g.B.Blob.seen g.L.Leaf.seen in
     let r = c.requires in
-    let k = c.loop-held.invariant.hand r.0 r.1 in (
+    let next = items c.loop-held.self.next in (
       r.0,
-      k.0,
       c.in-Some.held,
-      items c.pop.new.self,
+      items c.pop.new.self ++ next,
       subst
-          (λ (l : List (Held g.row.B.Denot g.row.L.Denot)). IsHand see c.args.book.now r.0 k.0 c.loop-held.self.pass l)
-          c.in-Some.ensures k.1,
+          (λ (l : List (Held g.row.B.Denot g.row.L.Denot)). IsHand see c.args.book.now r.0 c.loop-held.self.pass
+          (l ++ next))
+          c.in-Some.ensures (c.loop-held.invariant.hand r.0 r.1),
       c.write_held-written.ensures,
     )
 
@@ -36,13 +35,10 @@ pub loop-held-preserved : goal.loop-held-preserved
 loop-held-preserved g c = record {
   hand = λ w i.
       let see = sight g.B.Blob.told g.B.Blob.seen g.L.Leaf.seen in
-      let k = c.loop-held.invariant.hand w i in (
-        any (claims_in w.number (items c.pop.new.self)),
-        c.close_written.ensures w k.0 c.in-Some.held (items c.pop.new.self)
-            (subst
-            (λ (l : List (Held g.row.B.Denot g.row.L.Denot)). IsHand see c.args.book.now w k.0 c.loop-held.self.pass l)
-            c.in-Some.ensures k.1)
-            c.write_held-written.ensures,
-        λ e. ap (λ (l : List (Held g.row.B.Denot g.row.L.Denot)). any (claims_in w.number l)) e,
-      );
+      let next = items c.loop-held.self.next in
+      c.close_written.ensures w c.in-Some.held (items c.pop.new.self ++ next)
+      (subst
+      (λ (l : List (Held g.row.B.Denot g.row.L.Denot)). IsHand see c.args.book.now w c.loop-held.self.pass (l ++ next))
+      c.in-Some.ensures (c.loop-held.invariant.hand w i))
+      c.write_held-written.ensures;
 }

@@ -1,3 +1,4 @@
+use Rattle.std.proofs.Common.{◌≡◌}
 use Rattle.checkout_book.specs.Sights.{sight}
 use Rattle.writer_pool.specs.Holding.{Shift, IsInHand}
 use Rattle.writer_pool.proofs.hand.Hand.gather.Given as goal
@@ -7,4 +8,5 @@ invariant-more g l = record {
   hand : (w : Shift g.row.B.Denot g.row.L.Denot)
       → IsInHand (sight g.B.Blob.told g.B.Blob.seen g.L.Leaf.seen) l.book w l.fn.self
       → IsInHand (sight g.B.Blob.told g.B.Blob.seen g.L.Leaf.seen) l.book w l.self;
+  next : l.self.next ≡ l.fn.self.next;
 }

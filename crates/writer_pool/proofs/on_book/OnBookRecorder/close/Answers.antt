@@ -23,12 +23,12 @@ invariant_of-self g c =
     c.args.own c.requires.card c.requires.unready (c.close.ensures i.plan i.made i.core i.pass) in
     a.desk
 
-pub returns-clause-gave : goal.returns-clause-gave
-returns-clause-gave g c =
+pub returns : goal.returns
+returns g c =
     let see = sight g.B.Blob.told g.B.Blob.seen g.L.Leaf.seen in
     let s = c.self.inside in
     let i = c.self.invariant in
     let is = c.self.view_is in
     let a = closed see s.book.now s.pass c.close.new.pass s.required c.args.self.now is i c.args.card
     c.args.own c.requires.card c.requires.unready (c.close.ensures i.plan i.made i.core i.pass) in
-    is_gave see _ _ _ a.given a.standing a.place
+    record { gave = is_gave see _ _ _ a.given a.standing a.place }

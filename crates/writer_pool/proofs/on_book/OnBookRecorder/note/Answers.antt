@@ -26,8 +26,8 @@ invariant_of-self g c =
     (c.note.ensures i.plan i.made i.core i.pass k.0) in
     a.desk
 
-pub returns-clause-gave : goal.returns-clause-gave
-returns-clause-gave g c =
+pub returns : goal.returns
+returns g c =
     let see = sight g.B.Blob.told g.B.Blob.seen g.L.Leaf.seen in
     let s = c.self.inside in
     let i = c.self.invariant in
@@ -37,4 +37,4 @@ returns-clause-gave g c =
     c.requires.next in
     let a = noted see s.book.now s.pass c.note.new.pass s.required c.args.self.now is i c.args.event c.requires.noted
     (c.note.ensures i.plan i.made i.core i.pass k.0) in
-    is_gave see _ _ _ a.given a.standing a.place
+    record { gave = is_gave see _ _ _ a.given a.standing a.place }
