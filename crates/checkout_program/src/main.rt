@@ -19,6 +19,7 @@ use checkout_engine::run;
 use edge_adapters::{FolderBlob, FolderRepo, FolderTree, OutputSink, ProcessSpawner};
 use edge_kit::NoGate;
 use journal_run::{is_journal, journal_run};
+use one_shot::OnceSpawner;
 use program_kit::{
     CountingTree, Ended, Progress, has_terminal, message_of, show_drivers, show_errors,
     show_refused_path, words_of,
@@ -26,6 +27,7 @@ use program_kit::{
 use std::alloc::{AllocError, Global};
 use std::env::args;
 use std::io::writer;
+use std::mem::forget;
 use std::process::ExitCode;
 use std::sync::Wait;
 use std::sync::atomic::AtomicU32;
@@ -53,12 +55,12 @@ fn message_for(status: u8) -> Option<&'static str>
 
 /// The Git folder and the worktree's folder, by the first and the second word. It reads nothing.
 fn folders_of(rt: HostRuntime, words: &[String]) -> Result<(FolderRepo, FolderTree), AllocError>
-    ensures repo { IfOk result (λ made. string_bytes made.0.folder ≡ word_at words.now 0) }
+    ensures repo { IfOk result (λ made. string_bytes made.0.folder.value ≡ word_at words.now 0) }
     ensures tree { IfOk result (λ made. string_bytes made.1.folder ≡ word_at words.now 1) }
 {
     let repo = word_at(rt, words, 0)?;
     let tree = word_at(rt, words, 1)?;
-    Ok((FolderRepo::new(rt, repo), FolderTree::new(rt, tree)))
+    Ok((FolderRepo::new(rt, repo)?, FolderTree::new(rt, tree)))
 }
 
 /// Runs these words in these folders, and shows how many paths are closed, and then what else is to be said. With the
@@ -69,9 +71,11 @@ fn run_in<H: Threads + Wait + Sync>(
     words: &[String],
     repo: &mut FolderRepo,
     tree: FolderTree,
-) -> (u8, Vec<Event>) {
+) -> Result<(u8, Vec<Event>), AllocError> {
     // first, since it takes the number of a closed standard error
-    let mut spawner = ProcessSpawner::new(rt);
+    let spawner = ProcessSpawner::new(rt);
+    let maker = spawner.once_maker(threads)?;
+    let mut spawner = OnceSpawner::new(rt.alloc(), spawner, maker, false);
     let leaves = AtomicU32::new(0);
     let progress = Progress::new(rt, &leaves, has_terminal(rt));
     let mut tree = CountingTree {
@@ -93,8 +97,10 @@ fn run_in<H: Threads + Wait + Sync>(
     );
     progress.end();
     show_errors(rt, tree.tree.errors());
-    show_drivers(rt, spawner.drivers());
-    (status, history)
+    show_drivers(rt, spawner.inner().drivers());
+    // the program ends now, and its system takes back what is left
+    forget(spawner);
+    Ok((status, history))
 }
 
 /// Writes what a status says on standard error.
@@ -155,7 +161,7 @@ fn folder_words<H: Threads + Wait + Sync>(
     place: JournalPlace,
 ) -> Result<u8, AllocError> {
     let (mut repo, tree) = folders_of(rt, words)?;
-    let (status, history) = run_in(rt, threads, words, &mut repo, tree);
+    let (status, history) = run_in(rt, threads, words, &mut repo, tree)?;
     let said = end_with(rt, status, words, are_text);
     if status == 3 {
         show_refused_path(rt, &mut repo);

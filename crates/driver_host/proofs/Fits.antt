@@ -19,6 +19,8 @@ use Rattle.driver_host.specs.declared.work.Choice.{Choice}
 use Rattle.driver_host.specs.declared.work.Choice.TheVariants.{Give, Refuse, Later, Stop}
 use Rattle.driver_host.specs.Requests.{Request, Hello, Offer, Smudge, Listing, or_before}
 use Rattle.driver_host.specs.Answers.{AreNameable}
+use Rattle.driver_host.specs.Works.{WorkTold}
+use Rattle.driver_host.specs.Chosen.{Contents}
 use Rattle.driver_host.specs.KeyLists.{keys_after, no_keys}
 use Rattle.driver_host.specs.HostText.{Stage, Fresh, Greeted, Serving, Over, Owed, Answers, after_choice, after_list, may_name}
 use Rattle.driver_host.specs.Talks.{Reading, TalkSeen, after_line, reading_after, LineIs, Fits, FitsPart, FitsOrOver, NameFits}
@@ -111,10 +113,10 @@ part_fits (Serving agreed owed) part.Content old new line le f e =
     (some_is (reading_after old part.Content old.keys (old.content ++ line) line) new e) f
 part_fits Over p old new line le f e = absurd f
 
-pub line_fits : {A : Type 0} (result : Result A HostFault) (t u : TalkSeen) (line : List ℕ) → length line ≤ 65516
+pub line_fits : {W : Type 0} {A : Type 0} (result : Result A HostFault) (t u : TalkSeen W) (line : List ℕ) → length line ≤ 65516
     → Fits t → LineIs t.reading line result u.reading → u ≡ record t { reading = u.reading } → OnOk result (Fits u)
 line_fits (Ok x) t u line le f is next =
-    subst (λ (z : TalkSeen). Fits z) (sym next)
+    subst (λ (z : TalkSeen _). Fits z) (sym next)
     (part_fits t.stage t.reading.part t.reading u.reading line le f is.1)
 line_fits (Err e) t u line le f is next = tt
 
@@ -171,11 +173,11 @@ next_fits own batch (Serving agreed owed) r Hello cs ps s2 f e a = absurd a
 next_fits own batch (Serving agreed owed) r (Offer offered) cs ps s2 f e a = absurd a
 next_fits own batch Over r q cs ps s2 f e a = absurd f
 
-finished_fits : (t u : TalkSeen) (cs : List Choice) (ps : List Packet) → Fits t → Finishes t cs ps u → FitsOrOver u
-finished_fits t u cs ps f x = placed (next_fits t.own t.batch t.stage t.reading x.request cs ps u.stage f x.ends x.answered)
+finished_fits : {W : Type 0} (told : W → WorkTold) (latest : W → Contents) (t u : TalkSeen W) (cs : List Choice) (ps : List Packet) → Fits t → Finishes told latest t cs ps u → FitsOrOver u
+finished_fits told latest t u cs ps f x = placed (next_fits t.own t.batch t.stage t.reading x.request cs ps u.stage f x.ends x.answered)
   where
     placed : FitsNext u.stage → FitsOrOver u
-    placed (inl g) = inl (subst (λ (z : TalkSeen). Fits z) (sym x.next) g)
+    placed (inl g) = inl (subst (λ (z : TalkSeen _). Fits z) (sym x.next) g)
     placed (inr over) = inr over
 
 free_of : (owed : Owed) (o : Option (List ℕ)) → may_name owed o ≡ true
@@ -187,24 +189,24 @@ free_of owed (Some path) e = (path, refl, turned (name_in owed.delayed path) e)
     turned true e = absurd cc
     turned false e = refl
 
-begun_fits : (t u : TalkSeen) (cs : List Choice) (ps : List Packet) → Fits t → BeginsContent t cs ps u → FitsOrOver u
+begun_fits : {W : Type 0} (t u : TalkSeen W) (cs : List Choice) (ps : List Packet) → Fits t → BeginsContent t cs ps u → FitsOrOver u
 begun_fits t u cs ps f x =
     let m = x.may in
     let g = at (Serving m.0 m.1) t.reading part.KeyList x.list
     (subst (λ (s : Stage). FitsPart s t.reading.part t.reading.keys) m.2 f) in
     let free = free_of m.1 t.reading.keys.path m.4 in
-    inl (subst (λ (z : TalkSeen). Fits z) (sym x.next)
+    inl (subst (λ (z : TalkSeen _). Fits z) (sym x.next)
     (subst (λ (s : Stage). FitsPart s part.Content t.reading.keys) (sym m.2)
     (g.0, g.1, record { path = free.0; is = free.1; smudge = m.3; free = free.2 })))
 
-pub flush_fits : {A : Type 0} (result : Result A HostFault) (t u : TalkSeen) (before after : List ℕ) → Fits t
-    → OnOk result (TakesFlush t u before after) → OnOk result (FitsOrOver u)
-flush_fits (Ok x) t u before after f g = by_kind g.is
+pub flush_fits : {W : Type 0} (told : W → WorkTold) (latest : W → Contents) {A : Type 0} (result : Result A HostFault) (t u : TalkSeen W) (before after : List ℕ) → Fits t
+    → OnOk result (TakesFlush told latest t u before after) → OnOk result (FitsOrOver u)
+flush_fits told latest (Ok x) t u before after f g = by_kind g.is
   where
-    by_kind : Finishes t g.choices g.answers u ⊎ BeginsContent t g.choices g.answers u → FitsOrOver u
-    by_kind (inl y) = finished_fits t u g.choices g.answers f y
+    by_kind : Finishes told latest t g.choices g.answers u ⊎ BeginsContent t g.choices g.answers u → FitsOrOver u
+    by_kind (inl y) = finished_fits told latest t u g.choices g.answers f y
     by_kind (inr y) = begun_fits t u g.choices g.answers f y
-flush_fits (Err e) t u before after f g = tt
+flush_fits told latest (Err e) t u before after f g = tt
 
 -- what a key list asks for
 
@@ -215,7 +217,7 @@ list_part Greeted keys f = absurd f
 list_part (Serving agreed owed) keys f = (agreed, owed, refl, f.0)
 list_part Over keys f = absurd f
 
-pub list_fits : (t : TalkSeen) → t.reading.part ≡ part.KeyList → Fits t
+pub list_fits : {W : Type 0} (t : TalkSeen W) → t.reading.part ≡ part.KeyList → Fits t
     → (agreed : Caps) × (owed : Owed) × (t.stage ≡ Serving agreed owed) × AreNameable owed.delayed
 list_fits t e f = list_part t.stage t.reading.keys (at t.stage t.reading part.KeyList e f)
 

@@ -15,7 +15,9 @@ use Rattle.driver_host.specs.declared.host.HostFault.TheVariants as fault
 use Rattle.driver_host.specs.declared.talk.Part.{Part}
 use Rattle.driver_host.specs.declared.talk.Part.TheVariants as part
 use Rattle.driver_host.specs.HostText.{Stage, Fresh, Greeted, Serving, Over, Owed, HostEnd, Waits, Stopped, Refused, EndsSo}
-use Rattle.driver_host.specs.HostText.{IsUnfinished, IsBad, IsHostText, HasPart, HasRefused, may_name}
+use Rattle.driver_host.specs.Works.{WorkTold}
+use Rattle.driver_host.specs.Chosen.{Contents, IsChosenText}
+use Rattle.driver_host.specs.HostText.{IsUnfinished, IsBad, HasPart, HasRefused, may_name}
 use Rattle.driver_host.specs.Talks.{Reading, TalkSeen, HoldsPart, Holds, after_line, reading_after, Fits, FitsPart}
 use Rattle.driver_host.specs.Talks.{AreBadKeys}
 use Rattle.driver_host.specs.Hosts.{IsHeld, IsOfFront, RefusedBy, IsStuck, RefusesPacket}
@@ -105,35 +107,39 @@ not_begun Greeted p k f = ([], refl)
 not_begun (Serving agreed owed) p k f = inl ([], refl)
 not_begun Over p k f = absurd f
 
-part_of : (t : TalkSeen) (ps : List Packet) → Fits t → Holds t.stage t.reading ps → IsUnfinished t.stage ps
+part_of : {W : Type 0} (t : TalkSeen W) (ps : List Packet) → Fits t → Holds t.stage t.reading ps → IsUnfinished t.stage ps
 part_of t ps f h = unfinished t.stage t.reading.part t.reading ps (held_part t.stage t.reading ps f h)
 
 -- the text, by how what was read of the next request ends
 
-text_at : (bytes : List ℕ) (cs : List Choice) (text unread : List ℕ) (t : TalkSeen)
-    → (h : IsHeld bytes cs text unread t) → (end : HostEnd)
+text_at : {W : Type 0} (told : W → WorkTold) (latest : W → Contents) (bytes : List ℕ) (cs : List Choice) (text unread : List ℕ) (t : TalkSeen W)
+    → (h : IsHeld told latest bytes cs text unread t) → (end : HostEnd)
     → ((read : List ℕ) → SpellAll h.talk.current read → EndsSo t.stage (read ++ unread) end)
-    → IsHostText t.own t.batch bytes cs text end
-text_at bytes cs text unread t h end ends =
+    → IsChosenText (told t.work) t.own t.batch bytes cs text end
+text_at told latest bytes cs text unread t h end ends =
     let a = h.talk in
     let s = split a.past a.current h.read (subst (λ (ps : List Packet). SpellAll ps h.read) a.whole h.spelled) in
     record {
-      batch_some = a.batch_some;
-      requests = a.requests;
-      packets = a.past;
-      read = s.front;
-      rest = s.back ++ unread;
-      answers = a.answers;
-      stage = t.stage;
-      spelled = s.first;
-      whole = h.whole ∙ (ap (λ (z : List ℕ). z ++ unread) s.whole ∙ append_assoc s.front s.back unread);
-      are = a.are;
-      answered = a.answered;
-      text_is = a.text_is;
-      ends = ends s.back s.second;
+      is = record {
+        batch_some = a.batch_some;
+        requests = a.requests;
+        packets = a.past;
+        read = s.front;
+        rest = s.back ++ unread;
+        answers = a.answers;
+        stage = t.stage;
+        spelled = s.first;
+        whole = h.whole ∙ (ap (λ (z : List ℕ). z ++ unread) s.whole ∙ append_assoc s.front s.back unread);
+        are = a.are;
+        answered = a.answered;
+        text_is = a.text_is;
+        ends = ends s.back s.second;
+      };
+      contents = a.contents;
+      chosen = a.chosen;
     }
 
-part_then : (t : TalkSeen) (ps : List Packet) (read unread : List ℕ) (after : List ℕ → Type 0) → Fits t
+part_then : {W : Type 0} (t : TalkSeen W) (ps : List Packet) (read unread : List ℕ) (after : List ℕ → Type 0) → Fits t
     → Holds t.stage t.reading ps → t.reading.room + total ps ≡ limit → SpellAll ps read → after unread
     → HasPart t.stage (read ++ unread) after
 part_then t ps read unread after f h fits s x = record {
@@ -147,19 +153,19 @@ part_then t ps read unread after f h fits s x = record {
   ends = x;
 }
 
-pub waits : (bytes : List ℕ) (cs : List Choice) (text unread : List ℕ) (t : TalkSeen) → IsHeld bytes cs text unread t
-    → Fits t → IsPartial unread → IsHostText t.own t.batch bytes cs text Waits
-waits bytes cs text unread t h f part =
-    text_at bytes cs text unread t h Waits
+pub waits : {W : Type 0} (told : W → WorkTold) (latest : W → Contents) (bytes : List ℕ) (cs : List Choice) (text unread : List ℕ) (t : TalkSeen W) → IsHeld told latest bytes cs text unread t
+    → Fits t → IsPartial unread → IsChosenText (told t.work) t.own t.batch bytes cs text Waits
+waits told latest bytes cs text unread t h f part =
+    text_at told latest bytes cs text unread t h Waits
     (λ read s. part_then t h.talk.current read unread IsPartial f h.talk.holds h.talk.fits s part)
 
-pub stops : (bytes : List ℕ) (cs : List Choice) (text unread : List ℕ) (t : TalkSeen) → IsHeld bytes cs text unread t
-    → t.stage ≡ Over → IsHostText t.own t.batch bytes cs text Stopped
-stops bytes cs text unread t h over = text_at bytes cs text unread t h Stopped (λ read s. over)
+pub stops : {W : Type 0} (told : W → WorkTold) (latest : W → Contents) (bytes : List ℕ) (cs : List Choice) (text unread : List ℕ) (t : TalkSeen W) → IsHeld told latest bytes cs text unread t
+    → t.stage ≡ Over → IsChosenText (told t.work) t.own t.batch bytes cs text Stopped
+stops told latest bytes cs text unread t h over = text_at told latest bytes cs text unread t h Stopped (λ read s. over)
 
-front : (bytes : List ℕ) (cs : List Choice) (text unread : List ℕ) (t : TalkSeen) → IsHeld bytes cs text unread t
-    → Fits t → IsOfFront t.own t.batch bytes cs text
-front bytes cs text unread t h f =
+front : {W : Type 0} (told : W → WorkTold) (latest : W → Contents) (bytes : List ℕ) (cs : List Choice) (text unread : List ℕ) (t : TalkSeen W) → IsHeld told latest bytes cs text unread t
+    → Fits t → IsOfFront (told t.work) t.own t.batch bytes cs text
+front told latest bytes cs text unread t h f =
     let a = h.talk in
     let s = split a.past a.current h.read (subst (λ (ps : List Packet). SpellAll ps h.read) a.whole h.spelled) in
     record {
@@ -167,28 +173,32 @@ front bytes cs text unread t h f =
       after = s.back ++ unread;
       cut = h.whole ∙ (ap (λ (z : List ℕ). z ++ unread) s.whole ∙ append_assoc s.front s.back unread);
       text_is = record {
-        batch_some = a.batch_some;
-        requests = a.requests;
-        packets = a.past;
-        read = s.front;
-        rest = [];
-        answers = a.answers;
-        stage = t.stage;
-        spelled = s.first;
-        whole = sym (append-nil s.front);
-        are = a.are;
-        answered = a.answered;
-        text_is = a.text_is;
-        ends = record {
-          packets = [];
-          read = [];
+        is = record {
+          batch_some = a.batch_some;
+          requests = a.requests;
+          packets = a.past;
+          read = s.front;
           rest = [];
-          spelled = refl;
-          whole = refl;
-          unfinished = not_begun t.stage t.reading.part t.reading.keys f;
-          fits = omega arith;
-          ends = inl (omega arith);
+          answers = a.answers;
+          stage = t.stage;
+          spelled = s.first;
+          whole = sym (append-nil s.front);
+          are = a.are;
+          answered = a.answered;
+          text_is = a.text_is;
+          ends = record {
+            packets = [];
+            read = [];
+            rest = [];
+            spelled = refl;
+            whole = refl;
+            unfinished = not_begun t.stage t.reading.part t.reading.keys f;
+            fits = omega arith;
+            ends = inl (omega arith);
+          };
         };
+        contents = a.contents;
+        chosen = a.chosen;
       };
     }
 
@@ -197,7 +207,7 @@ front bytes cs text unread t h f =
 abbrev pub IsCause : Stage → HostFault → List Packet → Type 0
 IsCause s why ps = ((why ≡ fault.TooLong) × (limit < total ps)) ⊎ ((total ps ≤ limit) × IsBad s why ps)
 
-refused_with : (why : HostFault) (t : TalkSeen) (ps : List Packet) (read unread : List ℕ) (p : Packet) → Fits t
+refused_with : {W : Type 0} (why : HostFault) (t : TalkSeen W) (ps : List Packet) (read unread : List ℕ) (p : Packet) → Fits t
     → Holds t.stage t.reading ps → t.reading.room + total ps ≡ limit → SpellAll ps read → Stands p unread
     → IsCause t.stage why (ps ++ p ∷ []) → HasRefused t.stage (read ++ unread) why
 refused_with why t ps read unread p f h fits s stands cause = record {
@@ -276,67 +286,67 @@ list_ends s r ps h list agreed owed stage bad =
     (keys_end agreed owed r ps (subst (λ (z : Stage). HoldsPart z part.KeyList r ps) stage
     (subst (λ (p : Part). HoldsPart s p r ps) list h)) bad)
 
-refuses : (bytes : List ℕ) (cs : List Choice) (text unread : List ℕ) (t : TalkSeen) → (h : IsHeld bytes cs text unread t)
+refuses : {W : Type 0} (told : W → WorkTold) (latest : W → Contents) (bytes : List ℕ) (cs : List Choice) (text unread : List ℕ) (t : TalkSeen W) → (h : IsHeld told latest bytes cs text unread t)
     → Fits t → (p : Packet) → Stands p unread → (why : HostFault) → RefusesPacket p t why
-    → RefusedBy why t.own t.batch bytes cs text
-refuses bytes cs text unread t h f p stands fault.NoMemory x = front bytes cs text unread t h f
-refuses bytes cs text unread t h f (Payload line) stands fault.BadPacket x = absurd x.1
-refuses bytes cs text unread t h f Flush stands fault.BadPacket x = absurd x
-refuses bytes cs text unread t h f (Payload line) stands fault.BadRequest x = absurd x.1
-refuses bytes cs text unread t h f (Payload line) stands fault.TooLong x =
+    → RefusedBy why (told t.work) t.own t.batch bytes cs text
+refuses told latest bytes cs text unread t h f p stands fault.NoMemory x = front told latest bytes cs text unread t h f
+refuses told latest bytes cs text unread t h f (Payload line) stands fault.BadPacket x = absurd x.1
+refuses told latest bytes cs text unread t h f Flush stands fault.BadPacket x = absurd x
+refuses told latest bytes cs text unread t h f (Payload line) stands fault.BadRequest x = absurd x.1
+refuses told latest bytes cs text unread t h f (Payload line) stands fault.TooLong x =
     let ps = h.talk.current in
     let fits = h.talk.fits in
     let longer = total_snoc ps line in
     let over = x.1 in
-    text_at bytes cs text unread t h (Refused fault.TooLong)
+    text_at told latest bytes cs text unread t h (Refused fault.TooLong)
     (λ read s. refused_with fault.TooLong t ps read unread (Payload line) f h.talk.holds fits s stands
     (inl (refl, omega (arith, fits, longer, over))))
-refuses bytes cs text unread t h f Flush stands fault.TooLong x =
+refuses told latest bytes cs text unread t h f Flush stands fault.TooLong x =
     let ps = h.talk.current in
     let fits = h.talk.fits in
     let longer = flush_total ps in
-    text_at bytes cs text unread t h (Refused fault.TooLong)
+    text_at told latest bytes cs text unread t h (Refused fault.TooLong)
     (λ read s. refused_with fault.TooLong t ps read unread Flush f h.talk.holds fits s stands
     (inl (refl, omega (arith, fits, longer, x))))
-refuses bytes cs text unread t h f (Payload line) stands fault.BadHello x =
+refuses told latest bytes cs text unread t h f (Payload line) stands fault.BadHello x =
     let ps = h.talk.current in
     let fits = h.talk.fits in
     let longer = total_snoc ps line in
     let room = x.1.0 in
-    text_at bytes cs text unread t h (Refused fault.BadHello)
+    text_at told latest bytes cs text unread t h (Refused fault.BadHello)
     (λ read s. refused_with fault.BadHello t ps read unread (Payload line) f h.talk.holds fits s stands
     (inr (
       omega (arith, fits, longer, room),
       bad_line t.stage t.reading.part t.reading line ps (held_part t.stage t.reading ps f h.talk.holds) x.1.1,
     )))
-refuses bytes cs text unread t h f Flush stands fault.BadHello x =
+refuses told latest bytes cs text unread t h f Flush stands fault.BadHello x =
     let ps = h.talk.current in
     let fits = h.talk.fits in
     let longer = flush_total ps in
     let room = x.0 in
-    text_at bytes cs text unread t h (Refused fault.BadHello)
+    text_at told latest bytes cs text unread t h (Refused fault.BadHello)
     (λ read s. refused_with fault.BadHello t ps read unread Flush f h.talk.holds fits s stands
     (inr (
       omega (arith, fits, longer, room),
       hello_ends t.stage t.reading ps (held_part t.stage t.reading ps f h.talk.holds) x.1,
     )))
-refuses bytes cs text unread t h f Flush stands fault.BadRequest x =
+refuses told latest bytes cs text unread t h f Flush stands fault.BadRequest x =
     let ps = h.talk.current in
     let fits = h.talk.fits in
     let longer = flush_total ps in
     let room = x.0 in
     let k = x.2 in
-    text_at bytes cs text unread t h (Refused fault.BadRequest)
+    text_at told latest bytes cs text unread t h (Refused fault.BadRequest)
     (λ read s. refused_with fault.BadRequest t ps read unread Flush f h.talk.holds fits s stands
     (inr (
       omega (arith, fits, longer, room),
       list_ends t.stage t.reading ps (held_part t.stage t.reading ps f h.talk.holds) x.1 k.0 k.1 k.2 k.3,
     )))
 
-pub stuck : (bytes : List ℕ) (cs : List Choice) (text unread : List ℕ) (t : TalkSeen) → IsHeld bytes cs text unread t
-    → Fits t → (why : HostFault) → IsStuck why unread t → RefusedBy why t.own t.batch bytes cs text
-stuck bytes cs text unread t h f why (inl x) =
-    subst (λ (w : HostFault). RefusedBy w t.own t.batch bytes cs text) (sym x.0)
-    (text_at bytes cs text unread t h (Refused fault.BadPacket)
+pub stuck : {W : Type 0} (told : W → WorkTold) (latest : W → Contents) (bytes : List ℕ) (cs : List Choice) (text unread : List ℕ) (t : TalkSeen W) → IsHeld told latest bytes cs text unread t
+    → Fits t → (why : HostFault) → IsStuck why unread t → RefusedBy why (told t.work) t.own t.batch bytes cs text
+stuck told latest bytes cs text unread t h f why (inl x) =
+    subst (λ (w : HostFault). RefusedBy w (told t.work) t.own t.batch bytes cs text) (sym x.0)
+    (text_at told latest bytes cs text unread t h (Refused fault.BadPacket)
     (λ read s. part_then t h.talk.current read unread HasFault f h.talk.holds h.talk.fits s x.1))
-stuck bytes cs text unread t h f why (inr x) = refuses bytes cs text unread t h f x.0 x.1 why x.2
+stuck told latest bytes cs text unread t h f why (inr x) = refuses told latest bytes cs text unread t h f x.0 x.1 why x.2

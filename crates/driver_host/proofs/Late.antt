@@ -14,7 +14,10 @@ use Rattle.std.proofs.lemmas.Slice.Eq.{bytes_eq-Decides}
 use Rattle.std.proofs.lemmas.Bool.{false_from_ne_true}
 use Rattle.edge_kit.specs.Told.{Tells}
 use Rattle.driver_host.specs.declared.work.Choice.TheVariants as choice
-use Rattle.driver_host.specs.Works.{RemembersOne}
+use Rattle.driver_host.specs.Works.{RemembersOne, Retains}
+use Rattle.driver_host.specs.LateWorks.{late_told}
+use Rattle.std.specs.Prelude.{Ok}
+use Rattle.std.proofs.Common.{inr}
 use Rattle.driver_host.specs.LateWorks.{kept_at}
 
 apart : (name other key : List ℕ) → bytes_eq name other ≡ false → is_eq (slice_cmp nat_cmp name key) ≡ true
@@ -56,3 +59,9 @@ remembers_later old new path content set = record {
       (sym (set path ∙ ap (λ (b : Bool). cond b (Some content) (old path)) ((bytes_eq-Decides path path).1 refl))) refl;
   others = others_keep old new path (Some content) set;
 }
+
+pub retains_later : (E : Type 0) (old new : List ℕ → Option (List ℕ)) (path content : List ℕ)
+    → ((q : List ℕ) → new q ≡ cond (bytes_eq path q) (Some content) (old q))
+    → Retains {E = E} late_told path content (new path) (Ok choice.Later)
+retains_later E old new path content set e =
+    inr (set path ∙ ap (λ (b : Bool). cond b (Some content) (old path)) ((bytes_eq-Decides path path).1 refl))

@@ -2,6 +2,7 @@ pub mod Requests
 pub mod Works
 pub mod Answers
 pub mod HostText
+pub mod Chosen
 pub mod KeyLists
 pub mod Talks
 pub mod Hosts

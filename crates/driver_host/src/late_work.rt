@@ -43,7 +43,7 @@ impl Work for LateWork {
 
     ghost latest = { λ w path. kept_at w.kept path };
 
-    #[tactic(auto, using(crate::proofs::Late::remembers_later))]
+    #[tactic(auto, using(crate::proofs::Late::remembers_later, crate::proofs::Late::retains_later))]
     fn first(
         &mut self,
         path: &[u8],

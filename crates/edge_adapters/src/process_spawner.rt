@@ -2,6 +2,7 @@
 ghost use Rattle.std.specs.Prelude.{◌≡◌, ◌≤◌, ◌+◌, None, map, vec_len, vec_capacity};
 ghost use Rattle.edge_adapters.specs.Starts.{driver_of};
 
+use crate::process_once::ProcessOnceMaker;
 use crate::process_starter::{Driver, ProcessStarter};
 use crate::standard_error::{is_closed, stand_ins};
 use byte_path::Bytes;
@@ -9,6 +10,7 @@ use edge_kit::{Spawner, Starter};
 use std::alloc::{AllocError, Global};
 use std::fs::File;
 use std::sync::Arc;
+use std::thread::Threads;
 
 /// Where drivers run.
 #[derive(Drop)]
@@ -64,6 +66,14 @@ impl ProcessSpawner {
             },
             place,
         }
+    }
+
+    /// A maker of single runs where its drivers run, with the same standard error. What starts threads is given.
+    pub fn once_maker<T: Threads + Copy>(
+        &self,
+        threads: T,
+    ) -> Result<ProcessOnceMaker<T>, AllocError> {
+        ProcessOnceMaker::new(self.rt, threads, self.quiet, self.place.as_ref())
     }
 
     /// The drivers whose starters were given back.

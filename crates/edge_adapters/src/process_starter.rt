@@ -98,7 +98,7 @@ fn put_in_place(shell: &mut Command, place: &DriverPlace) -> Result<(), AllocErr
 
 /// Starts the command by the shell, in its place or else in the folder that this program was started in. Its standard
 /// error is this program's own, or nothing if that is closed. A command that isn't text can't be started.
-fn spawn(
+pub fn spawn(
     rt: HostRuntime,
     alloc: Global,
     command: &[u8],

@@ -57,7 +57,7 @@ fn read(rt: HostRuntime, path: String, part: u8, limit: u64) -> Result<Option<Ve
     if part == b'f' {
         return FolderBlob::of_file(rt, path).take_all(limit);
     }
-    let mut repo = FolderRepo::new(rt, path);
+    let mut repo = FolderRepo::new(rt, path)?;
     read_part(&mut repo, part, &NAME, limit)
 }
 

@@ -3,9 +3,9 @@
 //! A crate with tests is proved twice, with them and without. So the tests of these crates are
 //! here, over the built libraries: `repositories`, `worktrees`, `drivers` and `sinks` have those of
 //! `edge_kit`, `objects` those of `object_dir`, `rehearsals` those of `rehearsal`. `folders`,
-//! `empty_trees`, `leaf_files`, `children` and `output` have those of `edge_adapters`, with real
-//! files and children in a `place` of their own. It has nothing but tests, whose tables `table`
-//! reads.
+//! `empty_trees`, `leaf_files`, `children`, `single_runs` and `output` have those of
+//! `edge_adapters`, with real files and children in a `place` of their own. It has nothing but
+//! tests, whose tables `table` reads.
 #![tactic(auto)]
 
 #[cfg(test)]
@@ -28,6 +28,8 @@ mod place;
 mod rehearsals;
 #[cfg(test)]
 mod repositories;
+#[cfg(test)]
+mod single_runs;
 #[cfg(test)]
 mod sinks;
 #[cfg(test)]

@@ -207,7 +207,7 @@ fn the_first_bad_key_decides(rt: HostRuntime) -> Result<(), Fail> {
     check::<BadKey, _>(&rt, rt.alloc(), FAULTS)
 }
 
-/// A driver's command after `=`, if it has one.
+/// What runs a driver after `=`, if something does.
 fn process_of(driver: &Driver) -> (&[u8], &[u8]) {
     match &driver.process {
         Some(process) => (b"=", process.as_slice()),
@@ -215,7 +215,7 @@ fn process_of(driver: &Driver) -> (&[u8], &[u8]) {
     }
 }
 
-/// Appends a driver as its name, `=` and its command if it has one, and `!` if it is required.
+/// Appends a driver as its name, `=` and what runs it if something does, and `!` if it is required.
 fn push_driver(list: &mut Vec<u8>, driver: &Driver) -> Result<(), AllocError> {
     let (equals, process) = process_of(driver);
     let end: &[u8] = if driver.required { b"!;" } else { b";" };
@@ -242,6 +242,12 @@ const DRIVERS: &[u8] = b"\
     [filter \"a\"]\nprocess =|a;%\
     [filter \"a\"]\nprocess|a;%\
     [filter \"a\"]\nprocess = p\nprocess = \"\"|a;%\
+    [filter \"up\"]\nsmudge = tr a-z A-Z|up=\0tr a-z A-Z;%\
+    [filter \"a\"]\nprocess = p\nsmudge = s|a=p;%\
+    [filter \"a\"]\nprocess = \"\"\nsmudge = s|a=\0s;%\
+    [filter \"a\"]\nsmudge = s\nsmudge|a;%\
+    [filter \"a\"]\nprocess = p\0q\nsmudge = s|a=\0s;%\
+    [filter \"a\"]\nsmudge = s\0|a;%\
     [filter \"a\"]\nrequired|a!;%\
     [filter \"a\"]\nrequired = x\nrequired = no\n[FILTER \"a\"]\nProcess = p|a=p;%\
     [filter]\nprocess = p\nrequired = x\n[filters \"a\"]\nx|%\

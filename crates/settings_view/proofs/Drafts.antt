@@ -22,7 +22,7 @@ use Rattle.settings_view.specs.declared.view.Driver.{Driver}
 use Rattle.settings_view.specs.declared.fault.SettingFault.{SettingFault}
 use Rattle.settings_view.specs.Fault.{◌>>=◌}
 use Rattle.settings_view.specs.Keys.{later, last_value}
-use Rattle.settings_view.specs.Drivers.{Said, driver_name, is_driver_key, with_name, with_driver, names_of, process_told, required_told, said_of, driver_from, drivers_named, drivers_told}
+use Rattle.settings_view.specs.Drivers.{Said, driver_name, is_driver_key, with_name, with_driver, names_of, command_told, required_told, said_of, driver_from, drivers_named, drivers_told}
 use Rattle.settings_view.specs.Seen.{Drafts, IsInOrder, said_by, said_if, said_at, said_with, said_after, names_in, name_cmp, entry_seen, entries_seen, entry_of}
 use Rattle.settings_view.proofs.Last.{last_value_more}
 
@@ -40,28 +40,36 @@ pub said_none : (name : List ℕ) → said_of [] name ≡ said_if None
 unfolding said_of last_value
 said_none name = refl
 
-process_more : (s : Setting) (name : List ℕ) (before : Option (Option (List ℕ))) (said : Said) → process_told before ≡ said.process
-    → process_told (later (is_driver_key name (codes "process")) before s) ≡ (said_after s name said).process
+process_more : (s : Setting) (name : List ℕ) (before : Option (Option (List ℕ))) (said : Said) → command_told before ≡ said.process
+    → command_told (later (is_driver_key name (codes "process")) before s) ≡ (said_after s name said).process
 unfolding is_driver_key
 process_more s name before said e = grind (arith, common_steps)
+
+smudge_more : (s : Setting) (name : List ℕ) (before : Option (Option (List ℕ))) (said : Said) → command_told before ≡ said.smudge
+    → command_told (later (is_driver_key name (codes "smudge")) before s) ≡ (said_after s name said).smudge
+unfolding is_driver_key
+smudge_more s name before said e = grind (arith, common_steps)
 
 required_more : (s : Setting) (name : List ℕ) (before : Option (Option (List ℕ))) (said : Said) → required_told before ≡ said.required
     → required_told (later (is_driver_key name (codes "required")) before s) ≡ (said_after s name said).required
 unfolding is_driver_key
 required_more s name before said e = grind (arith, common_steps)
 
-said_as : Option (List ℕ) → Option Bool → Said
-said_as process required = record { process = process; required = required }
+said_as : Option (List ℕ) → Option (List ℕ) → Option Bool → Said
+said_as process smudge required = record { process = process; smudge = smudge; required = required }
 
-said_is : (a b : Said) → a.process ≡ b.process → a.required ≡ b.required → a ≡ b
+said_is : (a b : Said) → a.process ≡ b.process → a.smudge ≡ b.smudge → a.required ≡ b.required → a ≡ b
 unfolding said_as
-said_is a b p r = ap (λ (x : Option (List ℕ)). said_as x a.required) p ∙ ap (λ (x : Option Bool). said_as b.process x) r
+said_is a b p m r =
+    ap (λ (x : Option (List ℕ)). said_as x a.smudge a.required) p ∙ ap (λ (x : Option (List ℕ)). said_as b.process x a.required) m
+    ∙ ap (λ (x : Option Bool). said_as b.process b.smudge x) r
 
 pub said_of_more : (xs : List Setting) (i : ℕ) (d : Setting) (name : List ℕ) → i < length xs → said_of (take (i + 1) xs) name ≡ said_after (get_or xs i d) name (said_of (take i xs) name)
 unfolding said_of
 said_of_more xs i d name lt =
     said_is _ _
-    (ap process_told (last_value_more (is_driver_key name (codes "process")) xs i d lt) ∙ process_more (get_or xs i d) name _ (said_of (take i xs) name) refl)
+    (ap command_told (last_value_more (is_driver_key name (codes "process")) xs i d lt) ∙ process_more (get_or xs i d) name _ (said_of (take i xs) name) refl)
+    (ap command_told (last_value_more (is_driver_key name (codes "smudge")) xs i d lt) ∙ smudge_more (get_or xs i d) name _ (said_of (take i xs) name) refl)
     (ap required_told (last_value_more (is_driver_key name (codes "required")) xs i d lt) ∙ required_more (get_or xs i d) name _ (said_of (take i xs) name) refl)
 
 -- ---- one setting put into a map
@@ -82,7 +90,7 @@ names_insert k v (e ∷ es) = names_insert_at (slice_cmp nat_cmp k.now e.0.now) 
 pub names_taken : (m n : Drafts) (s : Setting) (k : Bor (List ℕ)) (v : Draft) → Some k.now ≡ driver_name s → n.entries ≡ insert_entry name_cmp m.entries k v → names_in n ≡ with_driver (names_in m) (driver_name s)
 names_taken m n s k v named is = rw (is, ← named) (names_insert k v m.entries)
 
-pub said_by-unwrap_or : (o : Option Draft) → said_by (unwrap_or o (record { process = None; required = Some false })) ≡ said_if o
+pub said_by-unwrap_or : (o : Option Draft) → said_by (unwrap_or o (record { process = None; smudge = None; required = Some false })) ≡ said_if o
 said_by-unwrap_or None = refl
 said_by-unwrap_or (Some d) = refl
 

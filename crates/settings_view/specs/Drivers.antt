@@ -1,11 +1,13 @@
 -- The filter drivers.
-use Rattle.std.specs.Prelude.{ℕ, Bool, false, ◌&&◌, ◌==◌, List, [], ◌∷◌, length, map, fold, codes, Option}
+use Rattle.std.specs.Prelude.{ℕ, Bool, false, not, ◌&&◌, ◌==◌, List, [], ◌∷◌, length, map, fold, codes, Option}
 use Rattle.std.specs.Prelude.{Some, None, Result, Ok, Err, if◌then◌else◌}
+use Rattle.std.specs.List.{list_any}
 use Rattle.std.specs.Str.{bytes_eq}
 use Rattle.std.specs.Ordering.{nat_cmp, match_ordering}
 use Rattle.std.specs.declared.cmp.Ordering.{Ordering}
 use Rattle.std.specs.Cmp.Lexicographic.{slice_cmp}
 use Rattle.std.specs.List.Sorted.{IsStrictlySortedBy}
+use Rattle.byte_path.specs.Characters.{nul, is_nul}
 use Rattle.git_config.specs.declared.setting.Setting.{Setting}
 use Rattle.settings_view.specs.declared.fault.KeyId.TheVariants.{Required}
 use Rattle.settings_view.specs.declared.fault.SettingFault.{SettingFault}
@@ -47,28 +49,40 @@ speaks_of name s = is_named name (driver_name s)
 unfoldable pub is_driver_key : List ℕ → List ℕ → Setting → Bool
 is_driver_key name key s = speaks_of name s && bytes_eq s.key key
 
-abbrev pub process_text : List ℕ → Option (List ℕ)
-process_text text = if length text == 0 then None else Some text
+-- a text is a command unless it is empty or holds a NUL
+abbrev pub is_command : List ℕ → Bool
+is_command text = not (length text == 0) && not (list_any is_nul text)
 
--- an empty command counts as none
-abbrev pub process_told : Option (Option (List ℕ)) → Option (List ℕ)
-process_told None = None
-process_told (Some value) = process_text (text_of value)
+abbrev pub command_text : List ℕ → Option (List ℕ)
+command_text text = if is_command text then Some text else None
+
+-- the command that a key's last value is
+abbrev pub command_told : Option (Option (List ℕ)) → Option (List ℕ)
+command_told None = None
+command_told (Some value) = command_text (text_of value)
+
+-- what runs a driver: its `process`, or else a NUL and its `smudge`
+abbrev pub process_by : Option (List ℕ) → Option (List ℕ) → Option (List ℕ)
+process_by (Some process) smudge = Some process
+process_by None (Some smudge) = Some (nul ∷ smudge)
+process_by None None = None
 
 -- a driver isn't required if nothing says so
 abbrev pub required_told : Option (Option (List ℕ)) → Option Bool
 required_told None = Some false
 required_told (Some value) = bool_of value
 
--- what is said of a driver: its command, and whether it is required, if that is a truth value
+-- what is said of a driver: its commands, and whether it is required, if that is a truth value
 pub record Said : Type 0 where
   pub process : Option (List ℕ)
+  pub smudge : Option (List ℕ)
   pub required : Option Bool
 
--- what the last values of its two keys say of a driver
+-- what the last values of its three keys say of a driver
 unfoldable pub said_of : List Setting → List ℕ → Said
 said_of settings name = record {
-  process = process_told (last_value (is_driver_key name (codes "process")) settings);
+  process = command_told (last_value (is_driver_key name (codes "process")) settings);
+  smudge = command_told (last_value (is_driver_key name (codes "smudge")) settings);
   required = required_told (last_value (is_driver_key name (codes "required")) settings);
 }
 
@@ -78,7 +92,7 @@ required_driver name process None = Err (BadBool Required)
 required_driver name process (Some required) = Ok (record { name = name; process = process; required = required })
 
 abbrev pub driver_from : List ℕ → Said → Result Driver SettingFault
-driver_from name said = required_driver name said.process said.required
+driver_from name said = required_driver name (process_by said.process said.smudge) said.required
 
 -- the drivers of these names, or the first fault
 abbrev pub drivers_named : List Setting → List (List ℕ) → Result (List Driver) SettingFault

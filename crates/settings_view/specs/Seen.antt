@@ -9,14 +9,18 @@ use Rattle.std.specs.Borrow.{Bor}
 use Rattle.git_config.specs.declared.setting.Setting.{Setting}
 use Rattle.settings_view.specs.declared.drivers.Draft.{Draft}
 use Rattle.settings_view.specs.Value.{bool_of}
-use Rattle.settings_view.specs.Drivers.{Said, said_of, speaks_of, process_told}
+use Rattle.settings_view.specs.Drivers.{Said, said_of, speaks_of, command_told}
 
 abbrev pub said_by : Draft → Said
-said_by d = record { process = option_copied d.process; required = d.required }
+said_by d = record {
+  process = option_copied d.process;
+  smudge = option_copied d.smudge;
+  required = d.required;
+}
 
 -- what is said of a driver, which is nothing before its first setting
 abbrev pub said_if : Option Draft → Said
-said_if None = record { process = None; required = Some false }
+said_if None = record { process = None; smudge = None; required = Some false }
 said_if (Some d) = said_by d
 
 abbrev pub Drafts : Type 0
@@ -47,7 +51,8 @@ entry_of settings name = (name, said_of settings name)
 -- what one more setting of a driver says
 abbrev pub said_with : Setting → Said → Said
 said_with s said = record {
-  process = if bytes_eq s.key (codes "process") then process_told (Some s.value) else said.process;
+  process = if bytes_eq s.key (codes "process") then command_told (Some s.value) else said.process;
+  smudge = if bytes_eq s.key (codes "smudge") then command_told (Some s.value) else said.smudge;
   required = if bytes_eq s.key (codes "required") then bool_of s.value else said.required;
 }
 

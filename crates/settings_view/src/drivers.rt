@@ -1,8 +1,9 @@
 //! The filter drivers.
-ghost use Rattle.std.specs.Prelude.{◌≡◌, ℕ, List, Some, IfOk, OnOk, map, option_copied};
+ghost use Rattle.std.specs.Prelude.{◌≡◌, ◌∷◌, ℕ, List, Some, IfOk, OnOk, map, option_copied};
+ghost use Rattle.byte_path.specs.Characters.{nul};
 ghost use Rattle.settings_view.specs.Fault.{Gives};
-ghost use Rattle.settings_view.specs.Drivers.{driver_name, with_driver, names_of, process_told, driver_from};
-ghost use Rattle.settings_view.specs.Drivers.{drivers_told, StandsByName};
+ghost use Rattle.settings_view.specs.Drivers.{driver_name, with_driver, names_of, is_command, command_told};
+ghost use Rattle.settings_view.specs.Drivers.{process_by, driver_from, drivers_told, StandsByName};
 ghost use Rattle.settings_view.specs.Seen.{said_by, said_at, said_with, said_after, names_in, entries_seen};
 ghost use Rattle.settings_view.specs.Seen.{entry_of, IsInOrder};
 
@@ -18,6 +19,7 @@ use std::collections::BTreeMap;
 #[derive(Clone, Copy)]
 struct Draft<'a> {
     process: Option<&'a [u8]>,
+    smudge: Option<&'a [u8]>,
     /// `None` if the value is no truth value.
     required: Option<bool>,
 }
@@ -35,12 +37,19 @@ fn driver_name(setting: &Setting) -> Option<&[u8]>
     }
 }
 
-/// The text of a command. An empty text counts as no command.
-fn process_told(value: &Option<Bytes>) -> Option<&[u8]>
-    ensures { option_copied result ≡ process_told (Some value.now) }
+/// Whether a text is a command: it isn't empty, and holds no NUL.
+fn is_command(text: &[u8]) -> bool
+    ensures { result ≡ is_command text.now }
+{
+    !text.is_empty() && !text.contains(&0)
+}
+
+/// The command that a value is, if it is one.
+fn command_told(value: &Option<Bytes>) -> Option<&[u8]>
+    ensures { option_copied result ≡ command_told (Some value.now) }
 {
     match value {
-        Some(text) if !text.as_slice().is_empty() => Some(text.as_slice()),
+        Some(text) if is_command(text.as_slice()) => Some(text.as_slice()),
         _ => None,
     }
 }
@@ -53,9 +62,14 @@ impl<'a> Draft<'a> {
         let key = setting.key.as_slice();
         Draft {
             process: if key == b"process".as_slice() {
-                process_told(&setting.value)
+                command_told(&setting.value)
             } else {
                 self.process
+            },
+            smudge: if key == b"smudge".as_slice() {
+                command_told(&setting.value)
+            } else {
+                self.smudge
             },
             required: if key == b"required".as_slice() {
                 bool_of(&setting.value)
@@ -81,6 +95,7 @@ fn take_setting<'a>(
     };
     let draft = drafts.get(&name).copied().unwrap_or(Draft {
         process: None,
+        smudge: None,
         required: Some(false),
     });
     drafts.insert(name, draft.with(setting))?;
@@ -98,6 +113,30 @@ fn drafts(alloc: Global, settings: &[Setting]) -> Result<BTreeMap<&[u8], Draft<'
     Ok(drafts)
 }
 
+/// The text of a command that runs once for each content: a NUL, and the command.
+fn single_run(alloc: Global, command: &[u8]) -> Result<Bytes, AllocError>
+    ensures { IfOk result (λ text. text ≡ nul ∷ command.now) }
+{
+    let mut text = vec![in alloc; 0u8]?;
+    text.extend_from_slice(command)?;
+    Ok(Bytes::from_vec(text))
+}
+
+/// What runs a driver: its `process`, or else its `smudge`, once for each content.
+fn process_by(
+    alloc: Global,
+    process: Option<&[u8]>,
+    smudge: Option<&[u8]>,
+) -> Result<Option<Bytes>, AllocError>
+    ensures { IfOk result (λ text. text ≡ process_by (option_copied process.entry) (option_copied smudge.entry)) }
+{
+    match (process, smudge) {
+        (Some(process), _) => Ok(Some(Bytes::copy_of(alloc, process)?)),
+        (None, Some(smudge)) => Ok(Some(single_run(alloc, smudge)?)),
+        (None, None) => Ok(None),
+    }
+}
+
 fn driver_from(alloc: Global, name: &[u8], draft: Draft) -> Result<Driver, SettingFault>
     ensures { Gives (λ d. d) result (driver_from name.now (said_by draft.entry)) }
 {
@@ -105,10 +144,7 @@ fn driver_from(alloc: Global, name: &[u8], draft: Draft) -> Result<Driver, Setti
         return Err(SettingFault::BadBool(KeyId::Required));
     };
     let name = Bytes::copy_of(alloc, name)?;
-    let process = match draft.process {
-        Some(text) => Some(Bytes::copy_of(alloc, text)?),
-        None => None,
-    };
+    let process = process_by(alloc, draft.process, draft.smudge)?;
     Ok(Driver {
         name,
         process,

@@ -7,7 +7,9 @@ use eol_convert::{AutoCrlf, EolSetting};
 pub struct Driver {
     /// The subsection of `filter` that its keys are in.
     pub name: Bytes,
-    /// `filter.<name>.process`, the command of a long-running filter process. An empty value counts as none.
+    /// What runs it: `filter.<name>.process`, the command of a long-running filter process, or else a NUL and
+    /// `filter.<name>.smudge`, the command that runs once for each content. A value that is empty or holds a NUL counts
+    /// as none.
     pub process: Option<Bytes>,
     /// `filter.<name>.required`.
     pub required: bool,

@@ -1,20 +1,22 @@
 //! A checkout from a git folder.
-use crate::channel::{Channel, sink_of};
+use crate::channel::sink_of;
 use crate::ends::{end_with, refuse_repository, show_notes};
 use crate::engine_words::checkout_words;
 use crate::journal::journal_file;
 use checkout_core::Event;
 use checkout_engine::run;
-use edge_adapters::{OutputSink, ProcessSpawner};
+use edge_adapters::ProcessSpawner;
+use edge_kit::Spawner;
 use git_edge::GitRepo;
 use git_tree::GitTree;
+use one_shot::OnceSpawner;
 use program_kit::{
     CountingTree, Ended, JournalFile, Progress, has_terminal, show_drivers, show_errors,
     show_refused_path,
 };
-use report_forms::FormSink;
 use siuwbren_words::{Checkout, Progress as Wanted};
 use std::alloc::AllocError;
+use std::mem::forget;
 use std::sync::Wait;
 use std::sync::atomic::AtomicU32;
 use std::thread::Threads;
@@ -48,40 +50,6 @@ impl Left {
     }
 }
 
-/// What a checkout works with.
-#[derive(Drop)]
-struct Outside<'a> {
-    repo: &'a mut GitRepo,
-    tree: CountingTree<'a, GitTree>,
-    spawner: ProcessSpawner,
-    out: FormSink<OutputSink<Channel>>,
-}
-
-impl Outside<'_> {
-    /// Writes the worktree and its report, and returns the engine's status and the events of its run.
-    fn run<H: Threads + Wait + Sync>(
-        &mut self,
-        rt: HostRuntime,
-        threads: &H,
-        words: &[String],
-        progress: &Progress<'_>,
-    ) -> (u8, Vec<Event>) {
-        let mut history = Vec::new(rt.alloc());
-        let status = run(
-            threads,
-            rt.alloc(),
-            words,
-            self.repo,
-            &mut self.tree,
-            &mut self.spawner,
-            progress,
-            &mut self.out,
-            &mut history,
-        );
-        (status, history)
-    }
-}
-
 /// Says what else is to be said of a status and of a repository.
 fn explain(rt: HostRuntime, status: u8, is_quiet: bool, repo: &mut GitRepo) {
     end_with(rt, status);
@@ -93,6 +61,44 @@ fn explain(rt: HostRuntime, status: u8, is_quiet: bool, repo: &mut GitRepo) {
     }
 }
 
+/// Checks out a repository that is open, with this spawner of its drivers.
+fn check_out_with<P: Spawner, H: Threads + Wait + Sync>(
+    rt: HostRuntime,
+    threads: &H,
+    asked: &Checkout<'_>,
+    repo: &mut GitRepo,
+    spawner: &mut P,
+) -> Result<Left, AllocError> {
+    let words = checkout_words(rt.alloc(), repo.git_dir(), asked.tree, asked.workers)?;
+    let folder = String::from_str(rt.alloc(), asked.tree)?;
+    let leaves = AtomicU32::new(0);
+    let progress = Progress::new(rt, &leaves, is_shown(rt, asked.progress));
+    let mut tree = CountingTree {
+        tree: GitTree::new(rt, folder, repo.keeps()),
+        leaves: &leaves,
+    };
+    let mut out = sink_of(rt, asked.form);
+    let mut history = Vec::new(rt.alloc());
+    let status = run(
+        threads,
+        rt.alloc(),
+        words.as_slice(),
+        repo,
+        &mut tree,
+        spawner,
+        &progress,
+        &mut out,
+        &mut history,
+    );
+    progress.end();
+    show_errors(rt, tree.tree.errors());
+    Ok(Left {
+        status,
+        words,
+        history,
+    })
+}
+
 /// Checks out a repository that is open.
 fn check_out_of<H: Threads + Wait + Sync>(
     rt: HostRuntime,
@@ -100,28 +106,14 @@ fn check_out_of<H: Threads + Wait + Sync>(
     asked: &Checkout<'_>,
     repo: &mut GitRepo,
 ) -> Result<Left, AllocError> {
-    let words = checkout_words(rt.alloc(), repo.git_dir(), asked.tree, asked.workers)?;
-    let folder = String::from_str(rt.alloc(), asked.tree)?;
-    let spawner = ProcessSpawner::in_place(rt, repo.driver_place()?)?;
-    let leaves = AtomicU32::new(0);
-    let progress = Progress::new(rt, &leaves, is_shown(rt, asked.progress));
-    let tree = GitTree::new(rt, folder, repo.keeps());
-    let leaves = &leaves;
-    let mut outside = Outside {
-        repo,
-        tree: CountingTree { tree, leaves },
-        spawner,
-        out: sink_of(rt, asked.form),
-    };
-    let (status, history) = outside.run(rt, threads, words.as_slice(), &progress);
-    progress.end();
-    show_errors(rt, outside.tree.tree.errors());
-    show_drivers(rt, outside.spawner.drivers());
-    Ok(Left {
-        status,
-        words,
-        history,
-    })
+    let drivers = ProcessSpawner::in_place(rt, repo.driver_place()?)?;
+    let maker = drivers.once_maker(threads)?;
+    let mut spawner = OnceSpawner::new(rt.alloc(), drivers, maker, false);
+    let left = check_out_with(rt, threads, asked, repo, &mut spawner);
+    show_drivers(rt, spawner.inner().drivers());
+    // the program ends now, and its system takes back what is left
+    forget(spawner);
+    left
 }
 
 /// Checks out a repository into an empty folder. No process of git is left running.

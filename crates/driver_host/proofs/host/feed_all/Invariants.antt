@@ -6,7 +6,7 @@ use Rattle.driver_host.proofs.host.feed_all.Given as goal
 abbrev pub invariant-loop-talk : goal.invariant-loop-talk
 invariant-loop-talk g l = record {
   ready : IsReady l.talk l.reader.unread;
-  fed : (bytes : List ℕ) (cs : List Choice) (text : List ℕ) → IsHeld bytes cs text l.initial.reader.unread l.initial.talk → FedOn bytes cs text l.initial.piece l.rest l.initial.out.items l.out.items l.reader.unread l.talk;
+  fed : (bytes : List ℕ) (cs : List Choice) (text : List ℕ) → IsHeld g.W.Work.told g.W.Work.latest bytes cs text l.initial.reader.unread l.initial.talk → FedOn g.W.Work.told g.W.Work.latest bytes cs text l.initial.piece l.rest l.initial.out.items l.out.items l.reader.unread l.talk;
   grown : Grown l.initial.out.items l.out.items;
 }
 

@@ -7,7 +7,7 @@ pub loop-reader-init : goal.loop-reader-init
 loop-reader-init g c = record {
   fits = inl c.requires;
   on = λ bytes cs text h.
-      none_taken bytes cs text c.args.out.now.items c.args.reader.now.unread c.args.talk.now h;
+      none_taken g.W.Work.told g.W.Work.latest bytes cs text c.args.out.now.items c.args.reader.now.unread c.args.talk.now h;
   grown = none_grown c.args.out.now.items;
 }
 
@@ -20,12 +20,12 @@ loop-reader-preserved g c =
       fits = c.in-Ok-true.ensures.fits;
       on = λ bytes cs text h.
           let x = l.invariant.on bytes cs text h in
-          go_on (Ok c.in-Ok-true.field-0) bytes cs text _ l.out.items new.out.items l.reader.unread new.reader.unread l.talk
+          go_on g.W.Work.told g.W.Work.latest (Ok c.in-Ok-true.field-0) bytes cs text _ l.out.items new.out.items l.reader.unread new.reader.unread l.talk
           new.talk x
-          (step_goes (Ok c.in-Ok-true.field-0) l.reader.unread new.reader.unread l.talk new.talk l.out.items new.out.items f
+          (step_goes g.W.Work.told g.W.Work.latest (Ok c.in-Ok-true.field-0) l.reader.unread new.reader.unread l.talk new.talk l.out.items new.out.items f
           c.in-Ok-true.ensures.step bytes (cs ++ x.more) (text ++ x.added) x.held);
       grown = grows_on _ l.out.items new.out.items l.invariant.grown
-          (step_grows (Ok c.in-Ok-true.field-0) l.reader.unread new.reader.unread l.talk new.talk l.out.items new.out.items
+          (step_grows g.W.Work.told g.W.Work.latest (Ok c.in-Ok-true.field-0) l.reader.unread new.reader.unread l.talk new.talk l.out.items new.out.items
           c.in-Ok-true.ensures.step);
     }
 
@@ -36,9 +36,9 @@ returns-in-Err-clause-goes g c =
     let f : Fits l.talk = Prim.search rules in
     λ bytes cs text h.
     let x = l.invariant.on bytes cs text h in
-    go_on {A = Bool} (Err c.in-Err.fault) bytes cs text _ l.out.items new.out.items l.reader.unread new.reader.unread l.talk
+    go_on g.W.Work.told g.W.Work.latest {A = Bool} (Err c.in-Err.fault) bytes cs text _ l.out.items new.out.items l.reader.unread new.reader.unread l.talk
     new.talk x
-    (step_goes (Err c.in-Err.fault) l.reader.unread new.reader.unread l.talk new.talk l.out.items new.out.items f
+    (step_goes g.W.Work.told g.W.Work.latest (Err c.in-Err.fault) l.reader.unread new.reader.unread l.talk new.talk l.out.items new.out.items f
     c.in-Err.ensures.step bytes (cs ++ x.more) (text ++ x.added) x.held)
 
 pub returns-in-Err-clause-grown : goal.returns-in-Err-clause-grown
@@ -46,7 +46,7 @@ returns-in-Err-clause-grown g c =
     let l = c.loop-reader in
     let new = c.step.new in
     grows_on _ l.out.items new.out.items l.invariant.grown
-    (step_grows (Err c.in-Err.fault) l.reader.unread new.reader.unread l.talk new.talk l.out.items new.out.items
+    (step_grows g.W.Work.told g.W.Work.latest (Err c.in-Err.fault) l.reader.unread new.reader.unread l.talk new.talk l.out.items new.out.items
     c.in-Err.ensures.step)
 
 pub returns-in-Ok-false-clause-grown : goal.returns-in-Ok-false-clause-grown
@@ -54,5 +54,5 @@ returns-in-Ok-false-clause-grown g c =
     let l = c.loop-reader in
     let new = c.step.new in
     grows_on _ l.out.items new.out.items l.invariant.grown
-    (step_grows (Ok c.in-Ok-false.field-0) l.reader.unread new.reader.unread l.talk new.talk l.out.items new.out.items
+    (step_grows g.W.Work.told g.W.Work.latest (Ok c.in-Ok-false.field-0) l.reader.unread new.reader.unread l.talk new.talk l.out.items new.out.items
     c.in-Ok-false.ensures.step)

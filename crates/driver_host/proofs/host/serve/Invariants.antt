@@ -7,7 +7,7 @@ use Rattle.driver_host.proofs.host.serve.Given as goal
 abbrev pub invariant-loop-reader : goal.invariant-loop-reader
 invariant-loop-reader g l = record {
   fits : FitsOrOver l.talk;
-  on : (bytes : List ℕ) (cs : List Choice) (text : List ℕ) → IsHeld bytes cs text l.initial.reader.unread l.initial.talk → TakesOn bytes cs text l.initial.out.items l.out.items l.reader.unread l.talk;
+  on : (bytes : List ℕ) (cs : List Choice) (text : List ℕ) → IsHeld g.W.Work.told g.W.Work.latest bytes cs text l.initial.reader.unread l.initial.talk → TakesOn g.W.Work.told g.W.Work.latest bytes cs text l.initial.out.items l.out.items l.reader.unread l.talk;
   grown : Grown l.initial.out.items l.out.items;
 }
 

@@ -12,12 +12,12 @@ returns-then-not-is_over-clause-takes g c =
     let going : c.args.self.now.talk.stage ≡ Over → ⊥ = Prim.search rules in
     let new = c.feed_all.new in
     λ bytes cs text h.
-    let held = held_host bytes cs text c.args.self.now none going h in
-    subst (λ (f : Option HostFault). TakesPiece bytes cs text c.args.piece.now (record { talk = new.talk; unread = new.reader.unread; fault = f }) c.args.out.now.items new.out.items)
+    let held = held_host g.W.Work.told g.W.Work.latest bytes cs text c.args.self.now none going h in
+    subst (λ (f : Option HostFault). TakesPiece g.W.Work.told g.W.Work.latest bytes cs text c.args.piece.now (record { talk = new.talk; unread = new.reader.unread; fault = f }) c.args.out.now.items new.out.items)
     (sym c.err-self-inside.ensures.value)
-    (took_piece c.feed_all.result bytes cs text c.args.piece.now c.args.out.now.items new.out.items new.reader.unread new.talk
+    (took_piece g.W.Work.told g.W.Work.latest c.feed_all.result bytes cs text c.args.piece.now c.args.out.now.items new.out.items new.reader.unread new.talk
     (c.feed_all.ensures.feeds bytes cs text
-    (subst (λ (z : HostSeen). IsHeld bytes cs text z.unread z.talk) (sym c.self.view_is) held)))
+    (subst (λ (z : HostSeen _). IsHeld g.W.Work.told g.W.Work.latest bytes cs text z.unread z.talk) (sym c.self.view_is) held)))
 
 pub returns-else-is_none-clause-takes : goal.returns-else-is_none-clause-takes
 returns-else-is_none-clause-takes g c =
@@ -27,7 +27,7 @@ returns-else-is_none-clause-takes g c =
       | else-is_none-via-else-is_none w ↦ Prim.search rules
     ] in
     λ bytes cs text h.
-    stays bytes cs text c.args.piece.now c.args.self.now c.args.out.now.items c.no_packet.ensures.fault over h
+    stays g.W.Work.told g.W.Work.latest bytes cs text c.args.piece.now c.args.self.now c.args.out.now.items c.no_packet.ensures.fault over h
 
 pub returns-else-is_none-clause-grown : goal.returns-else-is_none-clause-grown
 returns-else-is_none-clause-grown g c = none_grown c.args.out.now.items

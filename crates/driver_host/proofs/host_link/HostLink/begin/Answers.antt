@@ -3,5 +3,5 @@ use Rattle.driver_host.proofs.host_link.HostLink.begin.Goals as goal
 
 pub invariant_of-result : goal.invariant_of-result
 invariant_of-result g c =
-    link_begins c.args.host c.args.keeps c.is_new-fresh.result c.both_hold-tells.result c.new.result.items
+    link_begins g.W.Work.told g.W.Work.latest c.args.host c.args.keeps c.is_new-fresh.result c.both_hold-tells.result c.new.result.items
     c.new-2.result.items c.both_hold-tells.ensures c.is_new-fresh.ensures c.new.ensures.items c.new-2.ensures.items

@@ -7,7 +7,7 @@ pub returns-then-self : goal.returns-then-self
 returns-then-self g c =
     let l = c.self.inside in
     λ yes.
-    subst (λ (v : LinkState). (sent taken : List ℕ) → kept_bytes v.keeps v.sent ≡ Some sent → kept_bytes v.keeps (take v.taken v.output) ≡ Some taken → IsTaken v.host.talk.own v.host.talk.batch sent taken)
+    subst (λ (v : LinkState _). (sent taken : List ℕ) → kept_bytes v.keeps v.sent ≡ Some sent → kept_bytes v.keeps (take v.taken v.output) ≡ Some taken → IsTaken v.host.talk.own v.host.talk.batch sent taken)
     c.self.view_is
-    (taken_text l.keeps l.tells c.lacks_memory.result l.host l.sent.items l.output.items l.taken c.self.invariant.kept
+    (taken_text g.W.Work.told g.W.Work.latest l.keeps l.tells c.lacks_memory.result l.host l.sent.items l.output.items l.taken c.self.invariant.kept
     c.self.invariant.serves c.lacks_memory.ensures c.if-self.true (not_true c.lacks_memory.result yes))

@@ -1,0 +1,12 @@
+pub mod Blocks
+pub mod OneParse
+pub mod Small
+pub mod Good
+pub mod Counts
+pub mod Rounds
+pub mod Ended
+pub mod Served
+pub mod Opened
+pub mod Hosted
+pub mod Failed
+pub mod Asked

@@ -1,0 +1,3 @@
+pub mod HostTalks
+pub mod Awaiting
+pub mod Exchanges

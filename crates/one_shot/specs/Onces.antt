@@ -1,0 +1,40 @@
+-- What is told of single runs of commands, and how a run ends.
+use Rattle.std.specs.Prelude.{◌≡◌, ◌<◌, ◌≤◌, ℕ, Bool, List, length, Result, Ok, Err}
+use Rattle.edge_kit.specs.declared.faults.TakeFault.{TakeFault}
+use Rattle.edge_kit.specs.declared.faults.TakeFault.TheVariants as take
+use Rattle.one_shot.specs.declared.once.OnceEnd.{OnceEnd}
+
+-- what is told of one run: its output and whether its exit status is 0, that it fails, or nothing
+pub data OnceTold : Type 0 where
+  Ended : (output : List ℕ) → (zero : Bool) → OnceTold
+  Failing : OnceTold
+  Untold : OnceTold
+
+-- what is told of the run of each command with each input
+abbrev pub OnceTells : Type 0
+OnceTells = List ℕ → List ℕ → OnceTold
+
+-- this end is what is told, if anything is
+abbrev pub TellsEnd : OnceTold → OnceEnd → Type 0
+TellsEnd (Ended output zero) e = (e.output ≡ output) × (e.zero ≡ zero)
+TellsEnd Failing e = ⊥
+TellsEnd Untold e = Unit {0}
+
+-- an output that is longer than the limit is what is told, if anything is
+abbrev pub TellsLong : OnceTold → ℕ → Type 0
+TellsLong (Ended output zero) limit = limit < length output
+TellsLong Failing limit = ⊥
+TellsLong Untold limit = Unit {0}
+
+-- that the run fails is what is told, if anything is
+abbrev pub MayFail : OnceTold → Type 0
+MayFail (Ended output zero) = ⊥
+MayFail Failing = Unit {0}
+MayFail Untold = Unit {0}
+
+-- what a run with this limit answers
+abbrev pub EndsSo : OnceTold → ℕ → Result OnceEnd TakeFault → Type 0
+EndsSo told limit (Ok e) = TellsEnd told e × (length e.output ≤ limit)
+EndsSo told limit (Err take.TooLong) = TellsLong told limit
+EndsSo told limit (Err take.Failed) = MayFail told
+EndsSo told limit (Err take.NoMemory) = Unit {0}

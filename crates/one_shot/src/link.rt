@@ -1,0 +1,43 @@
+//! A link to a long-running driver, or to a host that stands for one.
+ghost use Rattle.one_shot.specs.Links.{either_seen};
+
+use edge_kit::{Failed, Link, SendFault};
+
+/// A link of the spawner below, or one to a host.
+#[derive(Drop)]
+pub enum OnceLink<L: Link, K: Link> {
+    Inner(L),
+    Hosted(K),
+}
+
+impl<L: Link, K: Link> Link for OnceLink<L, K> {
+    ghost seen = { λ l. either_seen L.seen K.seen l };
+
+    fn send(&mut self, piece: &[u8]) -> Result<(), SendFault> {
+        match self {
+            OnceLink::Inner(link) => link.send(piece),
+            OnceLink::Hosted(link) => link.send(piece),
+        }
+    }
+
+    fn read(&mut self, into: &mut [u8]) -> Result<usize, Failed> {
+        match self {
+            OnceLink::Inner(link) => link.read(into),
+            OnceLink::Hosted(link) => link.read(into),
+        }
+    }
+
+    fn shut_input(&mut self) -> Result<(), Failed> {
+        match self {
+            OnceLink::Inner(link) => link.shut_input(),
+            OnceLink::Hosted(link) => link.shut_input(),
+        }
+    }
+
+    fn wait_end(&mut self) -> Result<(), Failed> {
+        match self {
+            OnceLink::Inner(link) => link.wait_end(),
+            OnceLink::Hosted(link) => link.wait_end(),
+        }
+    }
+}

@@ -1,0 +1,98 @@
+//! What starts a long-running driver, or a host that stands for one.
+ghost use Rattle.std.specs.Prelude.{◌≡◌, ◌≤◌, ◌<◌, ◌+◌, ◌^◌, ◌++◌, ◌∷◌, [], IfOk, IfErr, OnErr, length};
+ghost use Rattle.std.specs.Prelude.{vec_len, vec_capacity};
+ghost use Rattle.edge_kit.specs.Starters.{StartsOne, session_had};
+ghost use Rattle.driver_host.specs.HostLinks.{link_seen};
+ghost use Rattle.one_shot.specs.Links.{either_seen};
+ghost use Rattle.one_shot.specs.Starters.{IsEmpty, starter_seen, out_below, Serves};
+
+use crate::kept::KeptLinks;
+use crate::link::OnceLink;
+use crate::once::OnceMaker;
+use crate::run::Run;
+use crate::work::OnceWork;
+use driver_host::HostLink;
+use edge_kit::{Link, SendFault, Starter};
+use std::alloc::Global;
+
+/// What gives the links of a starter.
+#[derive(Drop)]
+pub enum Source<S, M> {
+    /// A starter of the spawner below.
+    Inner(S),
+    /// A command that runs once for each content.
+    Single(Run<M>),
+}
+
+/// A link of a starter: one of the starter below, or one to a host that runs a command.
+pub type LinkOf<S: Starter, M: OnceMaker> = OnceLink<S::Link, HostLink<OnceWork<M::Once>>>;
+
+/// Starts a long-running driver, or a host that stands for one.
+#[derive(Drop)]
+pub struct OnceStarter<S: Starter, M, K> {
+    pub(crate) alloc: Global,
+    pub(crate) source: Source<S, M>,
+    // the sessions that its source doesn't have
+    pub(crate) kept: KeptLinks<K>,
+    pub(crate) out: usize,
+    // there is room for each link that is out
+    ghost room: { vec_len kept.ended + out ≤ vec_capacity kept.ended },
+    // until something is kept, a starter below has just these links out
+    ghost lends: { IsEmpty kept → out_below S.seen source out ≡ out },
+}
+
+impl<S: Starter, M: OnceMaker> Starter for OnceStarter<S, M, LinkOf<S, M>>
+where
+    M::Once: Send,
+{
+    type Link = LinkOf<S, M>;
+
+    ghost seen = { λ s. starter_seen S.seen (either_seen S.Link.seen link_seen) s.source s.kept s.out };
+
+    /// A starter below starts nothing more once a link ended here that isn't its own, or once there was no room.
+    fn start(&mut self) -> Result<LinkOf<S, M>, SendFault>
+        requires { let seen = ⟦<OnceStarter<S, M, LinkOf<S, M>> as Starter>⟧.seen in
+            length (seen self.old).had < 2 ^ 32 }
+        ensures started { let seen = ⟦<OnceStarter<S, M, LinkOf<S, M>> as Starter>⟧.seen in
+            StartsOne (either_seen S.Link.seen link_seen) (seen self.old) (seen self.new) result }
+        ensures serves { Serves self.old.source result }
+    {
+        if self.kept.reserve(self.out + 1).is_err() {
+            self.kept.lack();
+            return Err(SendFault::NoMemory);
+        }
+        let is_whole = self.kept.is_empty();
+        match &mut self.source {
+            Source::Inner(starter) if is_whole => match starter.start() {
+                Ok(link) => {
+                    self.out += 1;
+                    Ok(OnceLink::Inner(link))
+                }
+                Err(fault) => Err(fault),
+            },
+            Source::Inner(_) => {
+                self.kept.lack();
+                Err(SendFault::NoMemory)
+            }
+            Source::Single(run) => match run.begin(self.alloc) {
+                Ok(link) => {
+                    self.out += 1;
+                    Ok(OnceLink::Hosted(link))
+                }
+                Err(_) => {
+                    self.kept.lack();
+                    Err(SendFault::NoMemory)
+                }
+            },
+        }
+    }
+
+    fn end(&mut self, link: LinkOf<S, M>) {
+        let is_whole = self.kept.is_empty();
+        match (&mut self.source, link) {
+            (Source::Inner(starter), OnceLink::Inner(link)) if is_whole => starter.end(link),
+            (_, link) => self.kept.keep(link),
+        }
+        self.out -= 1;
+    }
+}
