@@ -64,7 +64,7 @@ def attributes_of(rng):
 
 
 def setting_line(rng):
-    key = rng.choice([b"autocrlf", b"AutoCRLF", b"eol", b"EOL", b"workers", b"thresholdForParallelism", b"process", b"required", b"other"])
+    key = rng.choice([b"autocrlf", b"AutoCRLF", b"eol", b"EOL", b"workers", b"thresholdForParallelism", b"process", b"smudge", b"required", b"other"])
     value = rng.choice([
         b"", b" = true", b" = input", b"=lf", b" = crlf", b" = native", b"= 4", b" = 1k", b" = -1", b" = no", b" = \"tr\"ue", b" = on ; comment",
         b" =  off\t# x", b" = \"a b\" c ", b" = x\\\ny", b" = \\q", b" = \"open", b" = 1234567890123456789", b" = yes\\", b"= \\t\\\"\\\\\\n\\b", b" x",
@@ -83,7 +83,9 @@ def config_of(rng, commands):
             rng.choice([b"autocrlf = true", b"autocrlf = input", b"eol = crlf", b"workers = 3", b"thresholdForParallelism = 1", b"x = y"])]
     for name, command in commands.items():
         required = rng.choice([b"", b"\trequired\n", b"\trequired = true\n", b"\trequired = no\n"])
-        lines.append(b"[filter \"" + name + b"\"]\n\tprocess = \"" + command + b"\"\n" + required)
+        long_running, single_run = b"\tprocess = \"" + command + b"\"\n", b"\tsmudge = \"" + command + b" %f\"\n"
+        keys = rng.choice([long_running] * 5 + [single_run] * 3 + [single_run + long_running, single_run + b"\tprocess =\n"])
+        lines.append(b"[filter \"" + name + b"\"]\n" + keys + required)
     end = rng.choice([b"\n", b"\n", b"\r\n"])
     return rng.choice([b"", b"", b"\xef\xbb\xbf"]) + end.join(lines) + rng.choice([b"\n", b""])
 

@@ -4,7 +4,7 @@ from dataclasses import dataclass, field
 from reference.attributes import File, read_file, states_of
 from reference.config import Settings, read_config
 from reference.contents import SHOWN, encoding_of, line_ends, object_fault, prepared
-from reference.drivers import Talk
+from reference.drivers import Talk, single_ends
 from reference.index import EXECUTABLE, GITLINK, LINK, PLAIN, read_index
 from reference.texts import Refused, quoted
 
@@ -76,7 +76,7 @@ def planned(entry, files, settings):
         return path
     filtered = states.get(b"filter", ("unspecified",))
     if filtered[0] == "value" and filtered[1] in settings.drivers:
-        command, required = settings.drivers[filtered[1]]
+        command, required, _ = settings.drivers[filtered[1]]
         if command is None and required:
             path.closed = "no-process"
             return path
@@ -129,9 +129,11 @@ class Checkout:
             self.begin(repository, path, contents)
         for driver in plan.drivers:
             paths = [path for path in plan.paths if path.driver == driver and path.entry.path in contents]
-            talk = Talk(scripts[driver], [path.entry.path for path in paths])
+            _, required, is_single = plan.settings.drivers[driver]
+            names = [path.entry.path for path in paths]
+            ends = single_ends(scripts[driver], names) if is_single else Talk(scripts[driver], names).ends
             for path in paths:
-                self.end(path, contents[path.entry.path], talk.ends[path.entry.path], plan.settings.drivers[driver][1])
+                self.end(path, contents[path.entry.path], ends[path.entry.path], required)
         words = [row[0] for row in self.rows.values()]
         counts = " ".join(str(words.count(word)) for word in ("written", "unfiltered", "failed", "skipped"))
         lines = [" ".join([*self.rows[path.entry.path], quoted(path.entry.path)]) for path in plan.paths]

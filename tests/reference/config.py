@@ -189,7 +189,7 @@ KEYS = [
 
 
 class Settings:
-    """What a configuration says. A driver is its command, or None, and whether it is required."""
+    """What a configuration says. A driver is its command, or None, whether it is required, and whether it is a single-run one."""
 
     def __init__(self, config):
         last, names, self.drivers = {}, set(), {}
@@ -210,4 +210,5 @@ class Settings:
                 required = truth(last.get(("filter", name, "required"), b""))
             except Bad:
                 raise Refused("setting required") from None
-            self.drivers[name] = (last.get(("filter", name, "process")) or None, required)
+            process, smudge = (last.get(("filter", name, key)) or None for key in ("process", "smudge"))
+            self.drivers[name] = (process or smudge, required, process is None)

@@ -2,6 +2,7 @@
 
 A script is a dict: `hello` is how a session begins, `delay` whether `delay` is announced, `replies` what is answered of each
 path at first, `second` what is answered when it is asked again, and `lists` the lists of a session. tests/fuzz_driver acts by it.
+Of a single-run driver only `replies` count: each that isn't `content` or `delayed` is one of its ways to fail.
 """
 
 # what a reply is, beside `content` and `delayed`: the cause, and whether the session ends, and the driver is given up
@@ -17,6 +18,12 @@ REPLIES = {
 HELLOS = {
     "ends": "broken-ended", "packet": "broken-packet", "version": "broken-handshake", "name": "broken-handshake",
 }
+
+
+def single_ends(script, paths):
+    """The ends of the paths of a single-run driver, each `content` or the cause of a refusal."""
+    given = ("content", "delayed")
+    return {path: "content" if script["replies"].get(path, "content") in given else "filter-error" for path in paths}
 
 
 class Talk:
