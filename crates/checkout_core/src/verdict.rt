@@ -100,7 +100,7 @@ pub enum FailCause {
     Filter(FilterCause),
     /// A delayed path that its driver never listed.
     Missing,
-    /// A required driver without `process`.
+    /// A required driver without a command.
     NoProcess,
     Object(ObjectKind),
     /// The encoding isn't known.

@@ -57,7 +57,7 @@ closed e v = path_with e no_conversion (start.Done v)
 abbrev pub conversion_names : List (List ℕ)
 conversion_names = codes "text" ∷ codes "crlf" ∷ codes "eol" ∷ codes "ident" ∷ codes "working-tree-encoding" ∷ []
 
--- by its `process` and whether it is required: a required driver needs its `process`
+-- by the command that serves it and whether it is required: a required driver needs a command
 abbrev pub start_by : ℕ → Option (List ℕ) → Bool → Start
 start_by place (Some process) required = start.Desk place required
 start_by place None true = start.Done (verdict.Failed fail.NoProcess)

@@ -41,7 +41,8 @@ fn put_line<L: Leaf>(phase: ReplyPhase, put: &mut Result<(), SendFault>, leaf: &
     requires { put.old ≡ Ok tt → IsOpenLeaf (L.seen leaf.old).state }
     ensures put { (before : LeafSeen) (content : List ℕ) → IsPut before (L.seen leaf.old) put.old content
         → IsPut before (L.seen leaf.new) put.new (content ++ piece_in (state.On phase) (Payload line.now)) }
-    ensures begun { (next : ReplyPhase) (before : LeafSeen) → reply_step true phase (Payload line.now) ≡ state.On next
+    ensures begun { (next : ReplyPhase) (before : LeafSeen)
+        → reply_step true phase (Payload line.now) ≡ state.On next
         → NotBegun phase before (L.seen leaf.old) put.old → NotBegun next before (L.seen leaf.new) put.new }
     ensures usable { put.new ≡ Ok tt → IsOpenLeaf (L.seen leaf.new).state }
 {

@@ -54,7 +54,8 @@ plan_app =
 
 -- rehearse SEED PATHS
 abbrev pub rehearse_app : App
-rehearse_app = with_rule (with_rule (new_app (codes "rehearse")) (place_rule (codes "seed"))) (place_rule (codes "paths"))
+rehearse_app =
+    with_rule (with_rule (new_app (codes "rehearse")) (place_rule (codes "seed"))) (place_rule (codes "paths"))
 
 -- audit FILE
 abbrev pub audit_app : App

@@ -14,8 +14,8 @@ use convert_plan::Card;
 use edge_kit::{Blob, Leaf, Starter};
 use std::alloc::{AllocError, Global};
 
-/// Makes the book of a checkout, and a job for each actor: those of the workers, and then those of the desks in order of
-/// driver.
+/// Makes the book of a checkout, and a job for each actor: those of the workers, and then those of the desks in order
+/// of driver.
 pub(crate) fn begin_pool<S: Starter, B: Blob, L: Leaf>(
     alloc: Global,
     pool: Vec<Card<B, L>>,
