@@ -136,7 +136,7 @@ not_cut seen left e quiet fits none (inl h) = link_fails seen (break_of e) quiet
 not_cut seen left e quiet fits none (inr h) = let no : true ≡ false = sym (wants_is e h) ∙ none in cc
 
 -- a client's part of a host's text
-pub heard_of : {P G : Type 0} (step : P → Packet → AnswerState P G) (start : AnswerState P G)
+abbrev pub heard_of : {P G : Type 0} (step : P → Packet → AnswerState P G) (start : AnswerState P G)
     (output taken used later left : List ℕ) (end : Ends G) (extra : List Packet → Type 0) (seen : SessionHad)
     → output ≡ taken ++ left → taken ≡ used ++ later → IsPart step start used later end extra → IsCalm seen left end
     → IsPartOf step start output used later end

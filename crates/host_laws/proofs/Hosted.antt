@@ -27,18 +27,18 @@ use Rattle.host_laws.proofs.Served.{IsOutside}
 use Rattle.host_laws.proofs.Opened.{AskForPaths, SpellsLaw, opened_well}
 
 -- what follows an item is a start, or nothing
-outside_of : (paths : Paths) (hs : List Had) (es : List Exchange) → Matches paths es hs → IsOutside es
+pub outside_of : (paths : Paths) (hs : List Had) (es : List Exchange) → Matches paths es hs → IsOutside es
 outside_of paths [] es h = subst IsOutside (sym h) tt
 outside_of paths (StartFailed ∷ hs) es h = subst IsOutside (sym h.2) tt
 outside_of paths (StartOutOfMemory ∷ hs) es h = subst IsOutside (sym h.2) tt
 outside_of paths (Session seen ∷ hs) es h = subst IsOutside (sym h.4) tt
 
 -- the first of two parts
-wants_front : (es fs : List Exchange) → NoneWanting (es ++ fs) → NoneWanting es
+pub wants_front : (es fs : List Exchange) → NoneWanting (es ++ fs) → NoneWanting es
 wants_front [] fs h = tt
 wants_front (e ∷ es) fs h = (h.0, wants_front es fs h.1)
 
-asks_front : (paths : Paths) (es fs : List Exchange) → AskForPaths paths (es ++ fs) → AskForPaths paths es
+pub asks_front : (paths : Paths) (es fs : List Exchange) → AskForPaths paths (es ++ fs) → AskForPaths paths es
 asks_front paths [] fs h = tt
 asks_front paths (First p y c ∷ es) fs h = (h.0, asks_front paths es fs h.1)
 asks_front paths (Second p y c ∷ es) fs h = (h.0, asks_front paths es fs h.1)
@@ -83,7 +83,7 @@ failed_start d p (q ∷ rest) mid h =
     (one_step d (Between (q ∷ rest)) (ev.OpenFailed p opening.NotStarted) mid h) in
     (q, rest, refl, sym a.1)
 
-opened_start : (d : ℕ) (caps : Caps) (rest : List ℕ) (mid : Talk)
+pub opened_start : (d : ℕ) (caps : Caps) (rest : List ℕ) (mid : Talk)
     → talk_run d (Between rest) (ev.Opened d caps ∷ []) ≡ Some mid → mid ≡ opened caps rest
 opened_start d caps [] mid h = absurd (cc (one_step d (Between []) (ev.Opened d caps) mid h))
 opened_start d caps (q ∷ rest) mid h = sym (cc (one_step d (Between (q ∷ rest)) (ev.Opened d caps) mid h))

@@ -10,3 +10,7 @@ pub mod Opened
 pub mod Hosted
 pub mod Failed
 pub mod Asked
+pub mod OnceSteps
+pub mod OnceSessions
+pub mod OnceItems
+pub mod OnceFits

@@ -185,7 +185,7 @@ pub record Front (ps all : List Packet) (after : List ℕ) : Type 0 where
   pub whole : all ≡ ps ++ more
   pub spelled : SpellAll more after
 
-size_some : (p : Packet) → 4 ≤ size p
+pub size_some : (p : Packet) → 4 ≤ size p
 size_some (Payload bytes) = omega arith
 size_some Flush = omega arith
 
@@ -233,7 +233,7 @@ cut (x ∷ xs) ys (z ∷ zs) ws e = longer (cut xs ys zs ws (tails x z (xs ++ ys
       m.2,
     )
 
-total_both : (ps qs : List Packet) → total (ps ++ qs) ≡ total ps + total qs
+pub total_both : (ps qs : List Packet) → total (ps ++ qs) ≡ total ps + total qs
 total_both [] qs = omega arith
 total_both (p ∷ ps) qs = let e = total_both ps qs in omega (arith, e)
 
@@ -277,7 +277,7 @@ refused_at s why r ps xs part more may a le e h = by_cut (cut ps xs h.before (h.
     by_cut (inl m) = not_unfinished s r ps m.0 h.before may a m.1 h.unfinished
     by_cut (inr m) = with_last m.0 m.1 m.2
 
-none_left : PacketLaws → (s : Stage) (r : Request) (ps xs : List Packet) (rest : List ℕ) (end : HostEnd) → MayCome s r
+pub none_left : PacketLaws → (s : Stage) (r : Request) (ps xs : List Packet) (rest : List ℕ) (end : HostEnd) → MayCome s r
     → IsRequest r ps → total ps ≤ limit → SpellAll (ps ++ xs) rest → EndsSo s rest end → ⊥
 none_left laws s r ps xs rest Waits may a le spelled h =
     ends_in_part laws s r ps xs rest IsPartial (λ bytes x. inl x) may a spelled h

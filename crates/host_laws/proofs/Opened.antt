@@ -72,7 +72,7 @@ no_opening paths caps seen left (Opening p end ∷ es) sent taken quiet (inr s) 
 
 -- the bytes of the requests
 
-request_is : (paths : Paths) (caps : Caps) (e : Exchange)
+pub request_is : (paths : Paths) (caps : Caps) (e : Exchange)
     → request_of paths caps e ≡ spelling_all (request_packets paths caps e)
 unfolding first_text second_text list_text
 request_is paths caps (First p y c) = refl
@@ -87,7 +87,7 @@ pub hands_are : hello_text ++ caps_text ≡ spelling_all (hello_packets ++ caps_
 unfolding hello_text caps_text
 hands_are = sym (spelled_both hello_packets caps_packets)
 
-sent_is : (paths : Paths) (caps : Caps) (seen : SessionHad) (left : List ℕ) (es : List Exchange) (sent taken : List ℕ)
+pub sent_is : (paths : Paths) (caps : Caps) (seen : SessionHad) (left : List ℕ) (es : List Exchange) (sent taken : List ℕ)
     → IsQuiet seen left → Spoken paths caps es sent taken → AllFit seen es → NoneWanting es
     → sent ≡ spelling_all (sent_packets paths caps es)
 sent_is paths caps seen left [] sent taken quiet spoken fit wants = spoken
@@ -109,7 +109,7 @@ small_delay : (d : Bool) → AreSmall (can_delay_line d ++ Flush ∷ [])
 small_delay true = (omega arith, (omega arith, tt))
 small_delay false = (omega arith, tt)
 
-small_smudge : (path name : List ℕ) (d : Bool) (content : List ℕ) → IsPath path name
+pub small_smudge : (path name : List ℕ) (d : Bool) (content : List ℕ) → IsPath path name
     → AreSmall (smudge_packets path name d content)
 small_smudge path name d content is =
     let long = is.long in
@@ -127,7 +127,7 @@ small_smudge path name d content is =
     (small_pieces (piece_count (length content)) content))
     (omega arith, tt)
 
-small_sent : (paths : Paths) (caps : Caps) (es : List Exchange) → AskForPaths paths es
+pub small_sent : (paths : Paths) (caps : Caps) (es : List Exchange) → AskForPaths paths es
     → AreSmall (sent_packets paths caps es)
 small_sent paths caps [] a = tt
 small_sent paths caps (First p y c ∷ es) a =
@@ -142,7 +142,7 @@ small_sent paths caps (NoRoom p ∷ es) a = small_sent paths caps es a
 small_sent paths caps (Opening p end ∷ es) a = small_sent paths caps es a
 small_sent paths caps (Shutting ∷ es) a = small_sent paths caps es a
 
-total_is : SpellsLaw → (ps : List Packet) → AreSmall ps → length (spelling_all ps) ≡ total ps
+pub total_is : SpellsLaw → (ps : List Packet) → AreSmall ps → length (spelling_all ps) ≡ total ps
 total_is law [] s = refl
 total_is law (p ∷ ps) s =
     let one = (law p s.0).sized in
@@ -175,14 +175,14 @@ all_short law paths caps (Opening p end ∷ es) a none fit = absurd none
 all_short law paths caps (Shutting ∷ es) a none fit = (omega arith, all_short law paths caps es a none fit.1)
 
 -- what a session tells is what it sent and took
-told_is : (t : Option (List ℕ)) (x y : List ℕ) → t ≡ Some x → Tells t y → x ≡ y
+pub told_is : (t : Option (List ℕ)) (x y : List ℕ) → t ≡ Some x → Tells t y → x ≡ y
 told_is t x y e h = subst (λ (z : Option (List ℕ)). Tells z y) e h
 
-hands_caps : (x y : Caps) → Good x ≡ Good y → x ≡ y
+pub hands_caps : (x y : Caps) → Good x ≡ Good y → x ≡ y
 hands_caps x y e = ap (λ (z : Ends Caps). elim z [ Good c ↦ c | Broke w ↦ x | OutOfMemory ↦ x ]) e
 
 -- the host's part of a session
-pub host_awaits : PacketLaws → (own : Caps) (batch : ℕ) (seen : SessionHad) (end : HostEnd) (all : List Packet)
+abbrev pub host_awaits : PacketLaws → (own : Caps) (batch : ℕ) (seen : SessionHad) (end : HostEnd) (all : List Packet)
     → (h : IsHostSession own batch seen end) → SpellAll all h.sent → Awaits own batch Fresh all h.text.answers end
 host_awaits laws own batch seen end all h spelled =
     let t = h.text in

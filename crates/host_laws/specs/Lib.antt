@@ -1,3 +1,4 @@
 pub mod HostTalks
 pub mod Awaiting
 pub mod Exchanges
+pub mod OnceTalks

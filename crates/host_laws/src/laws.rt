@@ -17,10 +17,15 @@ ghost use Rattle.driver_host.specs.Answers.{hello_answer, caps_answer, choice_an
 ghost use Rattle.driver_host.specs.Answers.{reply_to, given, AreShort};
 ghost use Rattle.pkt_line.specs.Packets.{Packet};
 ghost use Rattle.driver_host.specs.Requests.{Request, IsRequest};
-ghost use Rattle.driver_host.specs.HostText.{Stage, HostEnd};
+ghost use Rattle.driver_host.specs.HostText.{Stage, Fresh, HostEnd};
 ghost use Rattle.host_laws.specs.Awaiting.{Awaits, MayCome, IsTaken};
 ghost use Rattle.host_laws.specs.Exchanges.{RepliesAreGood, ListsAreGood, HandshakesAreGood};
-ghost use Rattle.host_laws.specs.HostTalks.{HostedTalk};
+ghost use Rattle.driver_host.specs.Chosen.{IsChosenText};
+ghost use Rattle.one_shot.specs.Onces.{OnceTells, Untold};
+ghost use Rattle.one_shot.specs.Starters.{smudge_alone};
+ghost use Rattle.one_shot.specs.Works.{work_told};
+ghost use Rattle.host_laws.specs.HostTalks.{AnswersFit, HostedTalk};
+ghost use Rattle.host_laws.specs.OnceTalks.{OnceHeard};
 
 use driver_host::{client_requests, right_handshake, right_lists, right_replies};
 use driver_line::one_part;
@@ -103,6 +108,32 @@ pub fn hosts_serve()
     handshakes_are_good();
     replies_are_good();
     lists_are_good();
+    client_requests();
+    spells();
+    prefix_free();
+    one_reading();
+    no_packet();
+}
+
+/// No answer of a host is over the limit that announces `smudge` alone and runs a command, where each run is told.
+pub fn told_answers_fit()
+    ensures { (tells : OnceTells) (command : List ℕ) (batch : ℕ) (bytes : List ℕ) (choices : List Choice)
+        (text : List ℕ) (end : HostEnd) → ((c : List ℕ) (i : List ℕ) → tells c i ≡ Untold → ⊥)
+        → (host : IsChosenText (work_told tells command) smudge_alone batch bytes choices text end)
+        → AnswersFit smudge_alone batch host.is.requests Fresh host.is.stage choices host.is.answers
+        host.is.answered }
+{}
+
+/// A talk with hosts that run a command once for each content, in which no link and no start failed, memory never ran
+/// out, no answer is over the limit, and the run for each path is told: each path gets the output that its command gave,
+/// or is refused with an error if the run didn't end well within its limit. A path whose request is over the limit breaks
+/// its session.
+pub fn single_runs_serve()
+    ensures { OnceHeard }
+{
+    handshakes_are_good();
+    one_exchange();
+    one_part();
     client_requests();
     spells();
     prefix_free();

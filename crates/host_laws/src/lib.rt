@@ -5,5 +5,5 @@ mod laws;
 
 pub use laws::{
     a_request_is_taken, handshakes_are_good, hosts_serve, lists_are_good, one_exchange,
-    replies_are_good,
+    replies_are_good, single_runs_serve, told_answers_fit,
 };

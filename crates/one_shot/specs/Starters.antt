@@ -1,5 +1,5 @@
 -- A starter of long-running drivers and of single runs, as it is seen.
-use Rattle.std.specs.Prelude.{◌≡◌, ℕ, ◌==◌, Bool, true, false, List, [], ◌∷◌, ◌++◌, None, Result, Ok, Err}
+use Rattle.std.specs.Prelude.{◌≡◌, ℕ, ◌==◌, Bool, true, false, List, [], ◌∷◌, ◌++◌, drop, None, Result, Ok, Err}
 use Rattle.edge_kit.specs.Links.{LinkSeen}
 use Rattle.edge_kit.specs.Starters.{Had, StarterSeen, new_starter, session_had}
 use Rattle.edge_kit.specs.MemoryDrivers.{waits}
@@ -7,6 +7,7 @@ use Rattle.edge_kit.specs.declared.faults.SendFault.{SendFault}
 use Rattle.edge_kit.specs.declared.faults.SendFault.TheVariants as send
 use Rattle.filter_words.specs.declared.reply.Caps.{Caps}
 use Rattle.driver_host.specs.HostLinks.{LinkState}
+use Rattle.driver_host.specs.Works.{WorkTold}
 use Rattle.byte_path.specs.Characters.{nul}
 use Rattle.one_shot.specs.declared.link.OnceLink.{OnceLink}
 use Rattle.one_shot.specs.declared.link.OnceLink.TheVariants as link
@@ -14,6 +15,8 @@ use Rattle.one_shot.specs.declared.kept.EndedLink.{EndedLink}
 use Rattle.one_shot.specs.declared.kept.KeptLinks.{KeptLinks}
 use Rattle.one_shot.specs.declared.starter.Source.{Source}
 use Rattle.one_shot.specs.declared.starter.Source.TheVariants as source
+use Rattle.one_shot.specs.Onces.{OnceTells}
+use Rattle.one_shot.specs.Works.{work_told}
 
 -- a command that runs once for each content begins with a NUL
 abbrev pub is_single_run : List ℕ → Bool
@@ -54,11 +57,22 @@ abbrev pub out_below : {S M : Type 0} → (S → StarterSeen) → Source S M →
 out_below seen (source.Inner s) out = (seen s).out
 out_below seen (source.Single run) out = out
 
--- a single run is served by a host that announces `smudge` alone, and its start never fails
-abbrev pub Serves : {S M L W : Type 0} → Source S M → Result (OnceLink L (LinkState W)) SendFault → Type 0
-Serves (source.Inner s) result = Unit {0}
-Serves (source.Single run) (Ok (link.Inner l)) = ⊥
-Serves (source.Single run) (Ok (link.Hosted l)) =
-    (l.host.talk.own ≡ smudge_alone) × (run.keeps ≡ true → l.tells ≡ true)
-Serves (source.Single run) (Err send.Failed) = ⊥
-Serves (source.Single run) (Err send.NoMemory) = Unit {0}
+-- A host announces `smudge` alone, and what its work tells is the run of this command for each content. Its link keeps
+-- what is sent and taken if this is so, and then it tells that.
+pub record IsRunOf {W : Type 0} (told : W → WorkTold) (tells : OnceTells) (keeps : Bool) (command : List ℕ)
+    (l : LinkState W) : Type 0 where
+  pub caps : l.host.talk.own ≡ smudge_alone
+  pub runs : told l.host.talk.work ≡ work_told tells command
+  pub kept : l.keeps ≡ keeps
+  pub telling : keeps ≡ true → l.tells ≡ true
+
+-- A single run is served by a host that runs its command without the NUL, by what its maker tells, and its start never
+-- fails.
+abbrev pub Serves : {S M L W : Type 0} → (M → OnceTells) → (W → WorkTold) → Source S M
+    → Result (OnceLink L (LinkState W)) SendFault → Type 0
+Serves tells told (source.Inner s) result = Unit {0}
+Serves tells told (source.Single run) (Ok (link.Inner l)) = ⊥
+Serves tells told (source.Single run) (Ok (link.Hosted l)) =
+    IsRunOf told (tells run.maker) run.keeps (drop 1 run.command) l
+Serves tells told (source.Single run) (Err send.Failed) = ⊥
+Serves tells told (source.Single run) (Err send.NoMemory) = Unit {0}

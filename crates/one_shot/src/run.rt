@@ -1,13 +1,14 @@
 //! A command that runs once for each content.
-ghost use Rattle.std.specs.Prelude.{◌≡◌, true, IfOk};
+ghost use Rattle.std.specs.Prelude.{◌≡◌, true, drop, IfOk};
 ghost use Rattle.edge_kit.specs.Links.{IsNewLink};
 ghost use Rattle.driver_host.specs.HostLinks.{link_seen};
 ghost use Rattle.one_shot.specs.Starters.{smudge_alone};
+ghost use Rattle.one_shot.specs.Works.{work_told};
 
 use crate::once::OnceMaker;
 use crate::work::OnceWork;
 use byte_path::Bytes;
-use driver_host::{Host, HostLink};
+use driver_host::{Host, HostLink, Work};
 use filter_words::Caps;
 use std::alloc::{AllocError, Global};
 
@@ -28,7 +29,9 @@ pub struct Run<M> {
 }
 
 /// The command without its NUL.
-fn without_nul(command: &[u8]) -> &[u8] {
+fn without_nul(command: &[u8]) -> &[u8]
+    ensures { result.now ≡ drop 1 command.now }
+{
     match command {
         [_, run @ ..] => run,
         [] => &[],
@@ -53,9 +56,12 @@ impl<M: OnceMaker> Run<M> {
     pub fn begin(&mut self, alloc: Global) -> Result<HostLink<OnceWork<M::Once>>, AllocError>
         ensures fresh { IfOk result (λ l. IsNewLink (link_seen l)) }
         ensures caps { IfOk result (λ l. l.host.talk.own ≡ smudge_alone) }
+        ensures keeps { IfOk result (λ l. l.keeps ≡ self.old.keeps) }
         ensures tells { IfOk result (λ l. self.old.keeps ≡ true → l.tells ≡ true) }
+        ensures runs { IfOk result (λ l. ⟦<OnceWork<M::Once> as Work>⟧.told l.host.talk.work
+            ≡ work_told (M.told self.old.maker) (drop 1 self.old.command)) }
         ensures command { self.new.command ≡ self.old.command }
-        ensures keeps { self.new.keeps ≡ self.old.keeps }
+        ensures kept { self.new.keeps ≡ self.old.keeps }
         ensures told { M.told self.new.maker ≡ M.told self.old.maker }
     {
         let once = self.maker.once()?;

@@ -1,17 +1,18 @@
 //! What starts a long-running driver, or a host that stands for one.
-ghost use Rattle.std.specs.Prelude.{◌≡◌, ◌≤◌, ◌<◌, ◌+◌, ◌^◌, ◌++◌, ◌∷◌, [], IfOk, IfErr, OnErr, length};
+ghost use Rattle.std.specs.Prelude.{◌≡◌, ◌≤◌, ◌<◌, ◌+◌, ◌^◌, ◌++◌, ◌∷◌, [], ℕ, List, Bool, IfOk, IfErr, OnErr, length};
 ghost use Rattle.std.specs.Prelude.{vec_len, vec_capacity};
 ghost use Rattle.edge_kit.specs.Starters.{StartsOne, session_had};
 ghost use Rattle.driver_host.specs.HostLinks.{link_seen};
 ghost use Rattle.one_shot.specs.Links.{either_seen};
 ghost use Rattle.one_shot.specs.Starters.{IsEmpty, starter_seen, out_below, Serves};
+ghost use Rattle.one_shot.specs.Spawners.{RunsBy};
 
 use crate::kept::KeptLinks;
 use crate::link::OnceLink;
 use crate::once::OnceMaker;
 use crate::run::Run;
 use crate::work::OnceWork;
-use driver_host::HostLink;
+use driver_host::{HostLink, Work};
 use edge_kit::{Link, SendFault, Starter};
 use std::alloc::Global;
 
@@ -55,7 +56,10 @@ where
             length (seen self.old).had < 2 ^ 32 }
         ensures started { let seen = ⟦<OnceStarter<S, M, LinkOf<S, M>> as Starter>⟧.seen in
             StartsOne (either_seen S.Link.seen link_seen) (seen self.old) (seen self.new) result }
-        ensures serves { Serves self.old.source result }
+        ensures serves { Serves M.told ⟦<OnceWork<M::Once> as Work>⟧.told self.old.source result }
+        ensures stays { (maker : M) (keeps : Bool) (command : List ℕ)
+            → RunsBy M.told maker keeps command self.old.source
+            → RunsBy M.told maker keeps command self.new.source }
     {
         if self.kept.reserve(self.out + 1).is_err() {
             self.kept.lack();
@@ -87,7 +91,20 @@ where
         }
     }
 
-    fn end(&mut self, link: LinkOf<S, M>) {
+    fn end(&mut self, link: LinkOf<S, M>)
+        requires { let seen = ⟦<OnceStarter<S, M, LinkOf<S, M>> as Starter>⟧.seen in
+            0 < (seen self.old).out }
+        ensures out { let seen = ⟦<OnceStarter<S, M, LinkOf<S, M>> as Starter>⟧.seen in
+            (seen self.new).out + 1 ≡ (seen self.old).out }
+        ensures back { let seen = ⟦<OnceStarter<S, M, LinkOf<S, M>> as Starter>⟧.seen in
+            seen self.new ≡ record (seen self.old) {
+              had = (seen self.old).had ++ session_had (either_seen S.Link.seen link_seen link) ∷ [];
+              out = (seen self.new).out;
+            } }
+        ensures stays { (maker : M) (keeps : Bool) (command : List ℕ)
+            → RunsBy M.told maker keeps command self.old.source
+            → RunsBy M.told maker keeps command self.new.source }
+    {
         let is_whole = self.kept.is_empty();
         match (&mut self.source, link) {
             (Source::Inner(starter), OnceLink::Inner(link)) if is_whole => starter.end(link),

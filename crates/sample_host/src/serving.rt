@@ -1,6 +1,7 @@
 //! What is read and written.
 ghost use Rattle.std.specs.Prelude.{ℕ, List, Ok, IfOk, OnOk};
 ghost use Rattle.driver_host.specs.declared.work.Choice.{Choice};
+ghost use Rattle.driver_host.specs.Talks.{IsSameHost};
 ghost use Rattle.driver_host.specs.Hosts.{IsHostAfter, AnswerIs};
 ghost use Rattle.sample_host.specs.Serving.{AnswersPiece, Serves};
 
@@ -19,6 +20,7 @@ fn answer_piece<A: Work, W: Write>(
     ensures answers { (bytes : List ℕ) (cs : List Choice) (text : List ℕ)
         → IsHostAfter A.told A.latest bytes cs text host.old → OnOk result
         (AnswersPiece A.told A.latest bytes cs text piece.now (W.contents out.old) host.new (W.contents out.new)) }
+    ensures same { IsSameHost A.told host.old.talk host.new.talk }
     ensures state { IfOk result (λ s. AnswerIs (Ok s) host.new) }
 {
     let mut answer = Vec::new(alloc);
@@ -37,10 +39,11 @@ pub fn serve<A: Work, R: Read, W: Write>(
     input: &mut R,
     out: &mut W,
 ) -> Result<(), anyhow::Error>
-    ensures { (bytes : List ℕ) (cs : List Choice) (text : List ℕ)
+    ensures serves { (bytes : List ℕ) (cs : List Choice) (text : List ℕ)
         → IsHostAfter A.told A.latest bytes cs text host.old
         → OnOk result (Serves A.told A.latest bytes cs text (R.remaining input.old) (W.contents out.old)
         host.new (R.remaining input.new) (W.contents out.new)) }
+    ensures same { IsSameHost A.told host.old.talk host.new.talk }
 {
     let mut piece = [0; 4096];
     for _ in 0..u64::MAX {

@@ -1,4 +1,4 @@
-use Rattle.std.proofs.Common.{rules, ◌≡◌, ◌∙◌, sym, ap, subst, ℕ, List, ◌++◌, take, take-append-drop, inl, inr}
+use Rattle.std.proofs.Common.{rules, refl, ◌≡◌, ◌∙◌, sym, ap, subst, ℕ, List, ◌++◌, take, take-append-drop, inl, inr}
 use Rattle.pkt_line.specs.Reading.{Reading}
 use Rattle.driver_host.specs.HostText.{Over}
 use Rattle.driver_host.specs.Hosts.{IsHeld}
@@ -10,6 +10,7 @@ loop-talk-init g c = record {
   ready = inl (c.requires.fits, c.requires.part);
   fed = λ bytes cs text h.
       none_fed g.W.Work.told g.W.Work.latest bytes cs text c.args.piece.now c.args.out.now.items c.args.reader.now.unread c.args.talk.now h;
+  same = (refl, refl, refl);
   grown = none_grown c.args.out.now.items;
 }
 
@@ -26,6 +27,7 @@ loop-talk-preserved g c =
           new.out.items l.reader.unread new.reader.unread l.talk new.talk (l.invariant.fed bytes cs text h)
           (sym (take-append-drop c.feed-count.result l.rest.now) ∙ ap (λ (z : List ℕ). bit ++ z) (sym c.split_at.ensures.back))
           (λ b d y held. c.in-Ok.ensures.goes b d y (subst (λ (z : List ℕ). IsHeld g.W.Work.told g.W.Work.latest b d y z l.talk) (sym fed) held));
+      same = (c.serve.ensures.same.0 ∙ l.invariant.same.0, c.serve.ensures.same.1 ∙ l.invariant.same.1, c.serve.ensures.same.2 ∙ l.invariant.same.2);
       grown = grows_on _ l.out.items new.out.items l.invariant.grown c.serve.ensures.grown;
     }
 

@@ -1,4 +1,4 @@
-use Rattle.std.proofs.Common.{rules, ◌++◌, Ok, Err, Bool, inl}
+use Rattle.std.proofs.Common.{rules, refl, ◌∙◌, ◌++◌, Ok, Err, Bool, inl}
 use Rattle.driver_host.specs.Talks.{Fits}
 use Rattle.driver_host.proofs.Taking.{none_taken, step_goes, go_on, none_grown, grows_on, step_grows}
 use Rattle.driver_host.proofs.host.serve.Goals as goal
@@ -8,6 +8,7 @@ loop-reader-init g c = record {
   fits = inl c.requires;
   on = λ bytes cs text h.
       none_taken g.W.Work.told g.W.Work.latest bytes cs text c.args.out.now.items c.args.reader.now.unread c.args.talk.now h;
+  same = (refl, refl, refl);
   grown = none_grown c.args.out.now.items;
 }
 
@@ -24,6 +25,7 @@ loop-reader-preserved g c =
           new.talk x
           (step_goes g.W.Work.told g.W.Work.latest (Ok c.in-Ok-true.field-0) l.reader.unread new.reader.unread l.talk new.talk l.out.items new.out.items f
           c.in-Ok-true.ensures.step bytes (cs ++ x.more) (text ++ x.added) x.held);
+      same = (c.step.ensures.same.0 ∙ l.invariant.same.0, c.step.ensures.same.1 ∙ l.invariant.same.1, c.step.ensures.same.2 ∙ l.invariant.same.2);
       grown = grows_on _ l.out.items new.out.items l.invariant.grown
           (step_grows g.W.Work.told g.W.Work.latest (Ok c.in-Ok-true.field-0) l.reader.unread new.reader.unread l.talk new.talk l.out.items new.out.items
           c.in-Ok-true.ensures.step);
