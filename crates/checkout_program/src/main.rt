@@ -21,7 +21,7 @@ use edge_kit::NoGate;
 use journal_run::{is_journal, journal_run};
 use one_shot::OnceSpawner;
 use program_kit::{
-    CountingTree, Ended, Progress, has_terminal, message_of, show_drivers, show_errors,
+    CountingTree, EndedCheckout, Progress, has_terminal, message_of, show_drivers, show_errors,
     show_refused_path, words_of,
 };
 use std::alloc::{AllocError, Global};
@@ -168,7 +168,7 @@ fn folder_words<H: Threads + Wait + Sync>(
     }
     if let JournalPlace::File(journal) = place {
         let history = history.as_slice();
-        let ended = Ended {
+        let ended = EndedCheckout {
             words,
             status,
             history,

@@ -4,9 +4,9 @@ use Rattle.std.proofs.lemmas.List.{replicate_more}
 use Rattle.edge_kit.specs.Starters.{Had, StartOutOfMemory}
 use Rattle.edge_kit.specs.MemoryDrivers.{waits}
 use Rattle.edge_adapters.specs.Starts.{outcome_of, starts_of}
-use Rattle.edge_adapters.specs.declared.process_starter.Start.{Start}
+use Rattle.edge_adapters.specs.declared.process_starter.PastStart.{PastStart}
 
-pub starts_of_more : (ss : List Start) (s : Start) →
+pub starts_of_more : (ss : List PastStart) (s : PastStart) →
     starts_of (ss ++ s ∷ []) ≡ starts_of ss ++ (waits s.out_of_memory ++ outcome_of s.outcome ∷ [])
 starts_of_more [] s = append-nil (waits s.out_of_memory ++ outcome_of s.outcome ∷ [])
 starts_of_more (x ∷ ss) s =

@@ -2,25 +2,25 @@
 use Rattle.std.specs.Prelude.{ℕ, List, [], ◌∷◌, ◌++◌, None}
 use Rattle.edge_kit.specs.Starters.{Had, Session, StartFailed}
 use Rattle.edge_kit.specs.MemoryDrivers.{waits}
-use Rattle.edge_adapters.specs.declared.process_starter.Session.{Session as Kept}
-use Rattle.edge_adapters.specs.declared.process_starter.Outcome.{Outcome}
-use Rattle.edge_adapters.specs.declared.process_starter.Outcome.TheVariants as outcome
-use Rattle.edge_adapters.specs.declared.process_starter.Start.{Start}
-use Rattle.edge_adapters.specs.declared.process_starter.Driver.{Driver}
+use Rattle.edge_adapters.specs.declared.process_starter.EndedSession.{EndedSession}
+use Rattle.edge_adapters.specs.declared.process_starter.PastOutcome.{PastOutcome}
+use Rattle.edge_adapters.specs.declared.process_starter.PastOutcome.TheVariants as outcome
+use Rattle.edge_adapters.specs.declared.process_starter.PastStart.{PastStart}
+use Rattle.edge_adapters.specs.declared.process_starter.ReturnedDriver.{ReturnedDriver}
 
 -- a session, whose bytes aren't told
-abbrev pub session_of : Kept → Had
+abbrev pub session_of : EndedSession → Had
 session_of s = Session (record { sent = None; taken = None; faults = s.faults; ends = s.ends; shut = s.shut })
 
-abbrev pub outcome_of : Outcome → Had
+abbrev pub outcome_of : PastOutcome → Had
 outcome_of (outcome.Session s) = session_of s
 outcome_of outcome.Failed = StartFailed
 
 -- each start, after the starts before it that ran out of memory
-abbrev pub starts_of : List Start → List Had
+abbrev pub starts_of : List PastStart → List Had
 starts_of [] = []
 starts_of (s ∷ ss) = (waits s.out_of_memory ++ outcome_of s.outcome ∷ []) ++ starts_of ss
 
 -- a driver in the list of those that were given back
-abbrev pub driver_of : Driver → List ℕ × List Had
+abbrev pub driver_of : ReturnedDriver → List ℕ × List Had
 driver_of d = (d.command, starts_of d.starts.items ++ waits d.out_of_memory)

@@ -33,7 +33,7 @@ pub use paths::path_in;
 pub use process_link::ProcessLink;
 pub use process_once::{ProcessOnce, ProcessOnceMaker};
 pub use process_spawner::{DriverPlace, ProcessSpawner};
-pub use process_starter::{Driver, ProcessStarter};
+pub use process_starter::{ProcessStarter, ReturnedDriver};
 pub use whole_file::read_whole;
 pub use write_errors::{ErrorCount, WriteErrors};
 pub use writing::write_whole;

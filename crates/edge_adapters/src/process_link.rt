@@ -30,7 +30,7 @@ pub struct ProcessLink {
 /// A session that ended.
 #[derive(Drop)]
 pub struct EndedSession {
-    pub session: Session,
+    pub session: EndedSession,
     /// What the driver wrote first.
     pub front: Vec<u8>,
     /// The child, if it wasn't waited for. Both pipes are closed.
@@ -88,7 +88,7 @@ impl ProcessLink {
         } = self;
         child.stdin = None;
         child.stdout = None;
-        let session = Session {
+        let session = EndedSession {
             faults,
             ends,
             shut: input_shut && waited,

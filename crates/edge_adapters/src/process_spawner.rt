@@ -3,7 +3,7 @@ ghost use Rattle.std.specs.Prelude.{◌≡◌, ◌≤◌, ◌+◌, None, map, ve
 ghost use Rattle.edge_adapters.specs.Starts.{driver_of};
 
 use crate::process_once::ProcessOnceMaker;
-use crate::process_starter::{Driver, ProcessStarter};
+use crate::process_starter::{ProcessStarter, ReturnedDriver};
 use crate::standard_error::{is_closed, stand_ins};
 use byte_path::Bytes;
 use edge_kit::{Spawner, Starter};
@@ -26,7 +26,7 @@ pub struct DriverPlace {
 pub struct ProcessSpawner {
     rt: HostRuntime,
     alloc: Global,
-    returned: Vec<Driver>,
+    returned: Vec<ReturnedDriver>,
     out: usize,
     // whether standard error is closed, and what has its number then
     quiet: bool,
@@ -77,7 +77,7 @@ impl ProcessSpawner {
     }
 
     /// The drivers whose starters were given back.
-    pub fn drivers(&self) -> &[Driver]
+    pub fn drivers(&self) -> &[ReturnedDriver]
         ensures { result.now ≡ self.now.returned.items }
     {
         self.returned.as_slice()

@@ -19,7 +19,7 @@ use std::sync::Arc;
 
 /// What is kept of a session.
 #[derive(Clone, Copy)]
-pub struct Session {
+pub struct EndedSession {
     pub faults: u64,
     pub ends: u64,
     pub shut: bool,
@@ -27,23 +27,23 @@ pub struct Session {
 
 /// What came of a start that didn't run out of memory.
 #[derive(Clone, Copy)]
-pub enum Outcome {
-    Session(Session),
+pub enum PastOutcome {
+    Session(EndedSession),
     Failed,
 }
 
 /// A start, or its session when that ended, and how many starts before it ran out of memory.
 #[derive(Clone, Copy)]
-pub struct Start {
+pub struct PastStart {
     pub out_of_memory: u64,
-    pub outcome: Outcome,
+    pub outcome: PastOutcome,
 }
 
 /// A driver whose starter was given back.
 #[derive(Drop)]
-pub struct Driver {
+pub struct ReturnedDriver {
     pub command: Bytes,
-    pub starts: Vec<Start>,
+    pub starts: Vec<PastStart>,
     pub out_of_memory: u64,
     /// What it wrote first in the first session that it began with no packet.
     pub front: Vec<u8>,
@@ -55,7 +55,7 @@ pub struct ProcessStarter {
     rt: HostRuntime,
     alloc: Global,
     command: Bytes,
-    had: Vec<Start>,
+    had: Vec<PastStart>,
     // how many starts after the last of these ran out of memory
     out_of_memory: u64,
     out: usize,
@@ -122,7 +122,11 @@ pub fn spawn(
 }
 
 /// Takes room for the links that are out and one more: for what is kept of each, and for its child.
-fn take_room(had: &mut Vec<Start>, given_up: &mut Vec<Child>, out: usize) -> Result<(), AllocError>
+fn take_room(
+    had: &mut Vec<PastStart>,
+    given_up: &mut Vec<Child>,
+    out: usize,
+) -> Result<(), AllocError>
     requires { vec_len had.old + out ≤ vec_capacity had.old }
     ensures had { had.new.items ≡ had.old.items }
     ensures len { vec_len given_up.new ≡ vec_len given_up.old }
@@ -152,14 +156,14 @@ fn next_child(
 
 /// Keeps what came of a start, after the starts before it that ran out of memory. There is room for it.
 #[tactic(auto, using(crate::proofs::Starts::starts_of_more))]
-fn keep(had: &mut Vec<Start>, out_of_memory: u64, outcome: Outcome)
+fn keep(had: &mut Vec<PastStart>, out_of_memory: u64, outcome: PastOutcome)
     requires { vec_len had.old < vec_capacity had.old }
     ensures had { starts_of had.new.items ≡
         starts_of had.old.items ++ (waits out_of_memory ++ outcome_of outcome ∷ []) }
     ensures len { vec_len had.new ≡ vec_len had.old + 1 }
     ensures capacity { vec_capacity had.old ≤ vec_capacity had.new }
 {
-    let _ = had.push(Start {
+    let _ = had.push(PastStart {
         out_of_memory,
         outcome,
     });
@@ -193,7 +197,7 @@ impl ProcessStarter {
     }
 
     /// What is kept of the starter, once each of its children has ended. It takes no memory.
-    pub fn into_driver(self) -> Driver
+    pub fn into_driver(self) -> ReturnedDriver
         ensures { driver_of result ≡ starter_back (⟦<ProcessStarter as Starter>⟧.seen self) }
     {
         let ProcessStarter {
@@ -206,7 +210,7 @@ impl ProcessStarter {
             ..
         } = self;
         end_all(rt, given_up);
-        Driver {
+        ReturnedDriver {
             command,
             starts: had,
             out_of_memory,
@@ -243,7 +247,7 @@ impl Starter for ProcessStarter {
             Ok(_) => self.out += 1,
             Err(SendFault::Failed) => {
                 self.faults = self.faults.saturating_add(1);
-                keep(&mut self.had, self.out_of_memory, Outcome::Failed);
+                keep(&mut self.had, self.out_of_memory, PastOutcome::Failed);
                 self.out_of_memory = 0;
             }
             Err(SendFault::NoMemory) => self.out_of_memory += 1,
@@ -264,7 +268,7 @@ impl Starter for ProcessStarter {
         if self.front.is_empty() && is_no_packet(&front) {
             self.front = front;
         }
-        let outcome = Outcome::Session(session);
+        let outcome = PastOutcome::Session(session);
         keep(&mut self.had, self.out_of_memory, outcome);
         self.out_of_memory = 0;
         self.out -= 1;

@@ -1,15 +1,15 @@
 use crate::table::{Row, Seen, check, cut, unknown};
 use edge_kit::{MemorySink, SendFault, Sink};
-use report_forms::{Form, FormSink};
+use report_forms::{FormSink, ReportForm};
 use std::alloc::{AllocError, Global};
 use std::test::Fail;
 
-fn form_of(cell: &[u8]) -> Result<Form, Fail> {
+fn form_of(cell: &[u8]) -> Result<ReportForm, Fail> {
     match cell {
-        b"text" => Ok(Form::Text),
-        b"nul" => Ok(Form::Nul),
-        b"json" => Ok(Form::Json),
-        b"failures" => Ok(Form::Failures),
+        b"text" => Ok(ReportForm::Text),
+        b"nul" => Ok(ReportForm::Nul),
+        b"json" => Ok(ReportForm::Json),
+        b"failures" => Ok(ReportForm::Failures),
         _ => Err(unknown(cell)),
     }
 }
@@ -55,7 +55,7 @@ const LINES: &str = "\
     nul|written - - - \"\\9\"\n|fault%\
     nul|other a\n|fault";
 
-fn formed(alloc: Global, form: Form, lines: &[u8]) -> Result<Vec<u8>, Fail> {
+fn formed(alloc: Global, form: ReportForm, lines: &[u8]) -> Result<Vec<u8>, Fail> {
     let mut sink = FormSink::new(alloc, form, MemorySink::new(alloc, None));
     match sink.write(lines) {
         Ok(()) => Ok(Vec::from_slice(alloc, sink.out().bytes())?),
@@ -82,7 +82,12 @@ fn reports_and_plans_have_four_forms(rt: HostRuntime) -> Result<(), Fail> {
 /// A failure of what takes the lines is handed on, and counts once.
 #[test]
 fn a_failed_write_is_a_failure_in_each_form(rt: HostRuntime) -> Result<(), Fail> {
-    for form in [Form::Text, Form::Nul, Form::Json, Form::Failures] {
+    for form in [
+        ReportForm::Text,
+        ReportForm::Nul,
+        ReportForm::Json,
+        ReportForm::Failures,
+    ] {
         let mut sink = FormSink::new(rt.alloc(), form, MemorySink::new(rt.alloc(), Some(0)));
         let written = sink.write(b"failed - - read a\n");
         assert!(rt; written == Err(SendFault::Failed), "{form:?}");

@@ -1,5 +1,5 @@
 use crate::table::{Row, Seen, check, cut};
-use siuwbren_words::{WordFault, read_words};
+use siuwbren_words::{UsageFault, read_words};
 use std::alloc::{AllocError, Global};
 use std::test::Fail;
 
@@ -25,9 +25,9 @@ fn first_line(alloc: Global, word: &str, text: &str) -> Result<String, Fail> {
 fn read(alloc: Global, words: &[String]) -> Result<String, Fail> {
     match read_words(alloc, words) {
         Ok(command) => Ok(format!(in alloc; "{command:?}")?),
-        Err(WordFault::Wish(text)) => first_line(alloc, "wish", text.as_str()),
-        Err(WordFault::Wrong(text)) => first_line(alloc, "wrong", text.as_str()),
-        Err(WordFault::NoMemory) => Err(AllocError.into()),
+        Err(UsageFault::Wish(text)) => first_line(alloc, "wish", text.as_str()),
+        Err(UsageFault::Wrong(text)) => first_line(alloc, "wrong", text.as_str()),
+        Err(UsageFault::NoMemory) => Err(AllocError.into()),
     }
 }
 
@@ -49,9 +49,9 @@ const WORDS: &str = "\
     Checkout(Checkout { git_dir: None, commit: Some(\"run\"), workers: None, form: Json, progress\
     : OnTerminal, quiet: false, journal: Some(\"-\"), tree: \"T\" })|checkout|T|--journal=-|\
     --commit|run|--report|json%\
-    Plan(Plan { git_dir: None, form: Text })|plan%\
-    Plan(Plan { git_dir: Some(\"\"), form: Json })|plan|--git-dir=|--report|json%\
-    Plan(Plan { git_dir: None, form: Nul })|plan|-z%\
+    Plan(PlanWords { git_dir: None, form: Text })|plan%\
+    Plan(PlanWords { git_dir: Some(\"\"), form: Json })|plan|--git-dir=|--report|json%\
+    Plan(PlanWords { git_dir: None, form: Nul })|plan|-z%\
     Rehearse { seed: 18446744073709551615, paths: 99999 }|rehearse|18446744073709551615|99999%\
     Audit { file: \"run\" }|audit|run%\
     Audit { file: \"-run\" }|audit|--|-run%\

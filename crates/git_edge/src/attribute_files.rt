@@ -2,7 +2,7 @@
 ghost use Rattle.edge_kit.specs.Told.{Untold, Takes};
 
 use crate::git::{Answer, Git, fault_of};
-use crate::listing::{Listing, says_no};
+use crate::listing::{SettingsList, says_no};
 use byte_path::unmarked;
 use edge_adapters::read_whole;
 use edge_kit::TakeFault;
@@ -65,7 +65,7 @@ fn default_path(git: &Git) -> io::Result<Option<String>> {
 }
 
 /// Where the user's file is, if there may be one.
-fn user_path(git: &Git, listing: &Listing) -> io::Result<Option<String>> {
+fn user_path(git: &Git, listing: &SettingsList) -> io::Result<Option<String>> {
     if listing.last(b"core.attributesfile").is_none() {
         return default_path(git);
     }
@@ -98,7 +98,7 @@ fn file_at(git: &Git, path: io::Result<Option<String>>, limit: u64) -> Result<Ve
 /// (U+FEFF).
 pub fn base_attributes(
     git: &Git,
-    listing: &Listing,
+    listing: &SettingsList,
     limit: u64,
 ) -> Result<Option<Vec<u8>>, TakeFault>
     ensures { Takes Untold limit result }

@@ -1,12 +1,12 @@
 //! Where a repository is, and which tree of it is wanted.
 use crate::fault::GitFault;
 use crate::git::{Answer, Git};
-use crate::listing::Listing;
+use crate::listing::SettingsList;
 use std::alloc::{AllocError, Global};
 
 /// The absolute paths of a repository's parts.
 #[derive(Drop)]
-pub struct Found {
+pub struct FoundRepository {
     pub git_dir: String,
     pub index: String,
     /// The file `info/attributes`.
@@ -58,7 +58,7 @@ fn lines_of(alloc: Global, text: &str) -> Result<Vec<&str>, AllocError> {
     whole.split('\n').collect(alloc)
 }
 
-fn found_in(alloc: Global, lines: &[&str]) -> Result<Found, GitFault> {
+fn found_in(alloc: Global, lines: &[&str]) -> Result<FoundRepository, GitFault> {
     if lines.contains(&NEWEST) {
         return Err(GitFault::TooOld);
     }
@@ -68,7 +68,7 @@ fn found_in(alloc: Global, lines: &[&str]) -> Result<Found, GitFault> {
     if *format != "sha1" {
         return Err(GitFault::ObjectFormat(String::from_str(alloc, format)?));
     }
-    Ok(Found {
+    Ok(FoundRepository {
         git_dir: String::from_str(alloc, git_dir)?,
         index: String::from_str(alloc, index)?,
         info: String::from_str(alloc, info)?,
@@ -85,7 +85,7 @@ fn refused(git: &Git, answer: &Answer, otherwise: &str) -> GitFault {
 }
 
 /// Where git finds the parts of the repository.
-pub fn find(git: &Git) -> Result<Found, GitFault> {
+pub fn find(git: &Git) -> Result<FoundRepository, GitFault> {
     let answer = git.ask(ASKED.as_slice())?;
     if !answer.is_good() {
         return Err(refused(git, &answer, "git finds no repository"));
@@ -97,12 +97,12 @@ pub fn find(git: &Git) -> Result<Found, GitFault> {
 }
 
 /// The settings that git uses in the repository.
-pub fn list(git: &Git) -> Result<Listing, GitFault> {
+pub fn list(git: &Git) -> Result<SettingsList, GitFault> {
     let answer = git.ask(&["config", "--list", "-z"])?;
     if !answer.is_good() {
         return Err(refused(git, &answer, "git finds no repository"));
     }
-    Ok(Listing::new(answer.bytes))
+    Ok(SettingsList::new(answer.bytes))
 }
 
 /// What is asked of `git rev-parse` before a revision. It says nothing and ends with the status 1 if there is none.

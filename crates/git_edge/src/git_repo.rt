@@ -6,12 +6,12 @@ ghost use Rattle.edge_kit.specs.Told.{Untold, Takes};
 use crate::attribute_files::base_attributes;
 use crate::cat_pool::CatPool;
 use crate::fault::GitFault;
-use crate::finding::{Found, find, list, tree_of};
+use crate::finding::{FoundRepository, find, list, tree_of};
 use crate::git::Git;
 use crate::git_blob::GitBlob;
 use crate::index_file::{index_of_tree, own_index};
 use crate::lender::lender_of;
-use crate::listing::Listing;
+use crate::listing::SettingsList;
 use crate::notes::{notes_of, place_of};
 use edge_adapters::{DriverPlace, read_whole};
 use edge_kit::{Repo, TakeFault};
@@ -23,8 +23,8 @@ use std::sync::Arc;
 #[derive(Drop)]
 pub struct GitRepo {
     git: Git,
-    found: Found,
-    listing: Listing,
+    found: FoundRepository,
+    listing: SettingsList,
     // the name of the tree that is wanted in place of the index
     tree: Option<String>,
     pool: Arc<CatPool, Global>,

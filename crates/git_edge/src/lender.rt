@@ -1,9 +1,9 @@
 //! What gives the objects of a repository.
 use crate::cat_pool::CatPool;
 use crate::fault::GitFault;
-use crate::finding::Found;
+use crate::finding::FoundRepository;
 use crate::git::Git;
-use crate::listing::Listing;
+use crate::listing::SettingsList;
 use crate::scratch::Scratch;
 use std::fs::{create_dir, write};
 use std::io;
@@ -17,7 +17,7 @@ fn make_git_dir(git: &Git, scratch: &Scratch) -> io::Result<()> {
 }
 
 /// Another Git folder over the same objects. Git asks no remote for what isn't there, since it knows of none.
-fn borrowing(git: &Git, found: &Found) -> io::Result<CatPool> {
+fn borrowing(git: &Git, found: &FoundRepository) -> io::Result<CatPool> {
     let scratch = Scratch::make(git.rt, git.alloc)?;
     make_git_dir(git, &scratch)?;
     let borrower = git.about(Some(scratch.path.as_str()), Some(found.objects.as_str()))?;
@@ -26,7 +26,11 @@ fn borrowing(git: &Git, found: &Found) -> io::Result<CatPool> {
 
 /// The processes that give the objects of a repository. In a partial clone they would end at an object that isn't
 /// there, so they are asked in another Git folder.
-pub fn lender_of(git: &Git, found: &Found, listing: &Listing) -> Result<CatPool, GitFault> {
+pub fn lender_of(
+    git: &Git,
+    found: &FoundRepository,
+    listing: &SettingsList,
+) -> Result<CatPool, GitFault> {
     if listing.promisor().is_some() {
         return match borrowing(git, found) {
             Ok(pool) => Ok(pool),

@@ -11,7 +11,7 @@ struct Setting<'a> {
 
 /// All settings, one after the other. Each is a key, behind a line end its value if it has one, and a NUL.
 #[derive(Drop)]
-pub struct Listing {
+pub struct SettingsList {
     bytes: Vec<u8>,
 }
 
@@ -118,9 +118,9 @@ fn promised_by<'a>(setting: Setting<'a>) -> Option<&'a [u8]> {
     }
 }
 
-impl Listing {
-    pub fn new(bytes: Vec<u8>) -> Listing {
-        Listing { bytes }
+impl SettingsList {
+    pub fn new(bytes: Vec<u8>) -> SettingsList {
+        SettingsList { bytes }
     }
 
     /// The value of the last setting with this key.

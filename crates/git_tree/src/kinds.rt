@@ -16,30 +16,30 @@ pub struct Keeps {
 
 /// What stands at a path.
 #[derive(Clone, Copy)]
-pub enum Kind {
+pub enum FileKind {
     File,
     Program,
     Link,
 }
 
 /// What a sealed leaf leaves.
-pub fn kind_of(keeps: Keeps, mark: Mark) -> Kind
+pub fn kind_of(keeps: Keeps, mark: Mark) -> FileKind
     ensures { result ≡ kind_of keeps mark }
 {
     match mark {
-        Mark::Plain => Kind::File,
-        Mark::Executable => Kind::Program,
-        Mark::LinkText if keeps.links => Kind::Link,
-        Mark::LinkText => Kind::File,
+        Mark::Plain => FileKind::File,
+        Mark::Executable => FileKind::Program,
+        Mark::LinkText if keeps.links => FileKind::Link,
+        Mark::LinkText => FileKind::File,
     }
 }
 
 /// The mode that a file is made with. The system takes the umask from it.
-pub fn mode_of(kind: Kind) -> u32
+pub fn mode_of(kind: FileKind) -> u32
     ensures { result ≡ mode_of kind }
 {
     match kind {
-        Kind::Program => 0o777,
-        Kind::File | Kind::Link => 0o666,
+        FileKind::Program => 0o777,
+        FileKind::File | FileKind::Link => 0o666,
     }
 }

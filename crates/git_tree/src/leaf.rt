@@ -5,7 +5,7 @@ ghost use Rattle.git_tree.specs.Kinds.{HoldsSame};
 ghost use Rattle.edge_kit.specs.Faults.{Rose};
 ghost use Rattle.edge_kit.specs.declared.leaf_state.LeafState.TheVariants.{Fresh};
 
-use crate::kinds::{Keeps, Kind, kind_of, mode_of};
+use crate::kinds::{FileKind, Keeps, kind_of, mode_of};
 use byte_path::Bytes;
 use edge_adapters::{create_in_tree, empty_file, link_in_tree, remove_own};
 use edge_kit::{Failed, Leaf, LeafState, Mark, SendFault};
@@ -208,7 +208,7 @@ impl GitLeaf {
         ensures kept { self.new ≡ record self.old { file = self.new.file } }
     {
         match kind_of(self.keeps, mark) {
-            Kind::Link => self.make_link(),
+            FileKind::Link => self.make_link(),
             kind => self.make_file(mode_of(kind)),
         }
     }

@@ -6,6 +6,6 @@ mod kinds;
 mod leaf;
 mod tree;
 
-pub use kinds::{Keeps, Kind};
+pub use kinds::{FileKind, Keeps};
 pub use leaf::GitLeaf;
 pub use tree::GitTree;

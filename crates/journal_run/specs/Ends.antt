@@ -5,15 +5,15 @@ use Rattle.edge_kit.specs.Seen.{BlobSeen, SinkSeen}
 use Rattle.edge_kit.specs.Told.{Told, MayFail}
 use Rattle.checkout_engine.specs.Output.{IsCut, with_text}
 use Rattle.journal_run.specs.declared.finding.Finding.{Finding}
-use Rattle.journal_run.specs.declared.status.Status.{Status}
-use Rattle.journal_run.specs.declared.status.Status.TheVariants as status
-use Rattle.journal_run.specs.declared.words.Form.{Form}
-use Rattle.journal_run.specs.declared.words.Form.TheVariants.{Rehearsal, Audit}
+use Rattle.journal_run.specs.declared.status.JournalStatus.{JournalStatus}
+use Rattle.journal_run.specs.declared.status.JournalStatus.TheVariants as status
+use Rattle.journal_run.specs.declared.words.JournalTask.{JournalTask}
+use Rattle.journal_run.specs.declared.words.JournalTask.TheVariants.{Rehearsal, Audit}
 use Rattle.journal_run.specs.Findings.{IsFinding, finding_line, status_of}
 use Rattle.journal_run.specs.Rehearsed.{IsJournalOf}
 
 -- the number of a status, which the program ends with
-abbrev pub number_of : Status → ℕ
+abbrev pub number_of : JournalStatus → ℕ
 number_of status.Done = 0
 number_of status.Illegal = 1
 number_of status.Usage = 2
@@ -23,23 +23,23 @@ number_of status.OutOfMemory = 5
 number_of status.ReadFault = 6
 
 -- The right answer to a form, and its status: the line of what is found of the file, or the journal of the rehearsal.
-abbrev pub IsAnswer : Form → Told → Status → List ℕ → Type 0
+abbrev pub IsAnswer : JournalTask → Told → JournalStatus → List ℕ → Type 0
 IsAnswer Audit told s answer =
     (f : Finding) × IsFinding told f × (s ≡ status_of f) × (answer ≡ finding_line f)
 IsAnswer (Rehearsal seed paths) told s answer = (s ≡ status.Done) × IsJournalOf seed paths answer
 
 -- the right answer has this status, and was written whole
-abbrev pub IsAnswered : Form → Told → Status → SinkSeen → SinkSeen → Type 0
+abbrev pub IsAnswered : JournalTask → Told → JournalStatus → SinkSeen → SinkSeen → Type 0
 IsAnswered form told s old new = (answer : List ℕ) × IsAnswer form told s answer × (new ≡ with_text answer old)
 
 -- the same for the number of a status
-abbrev pub IsAnsweredBy : Form → Told → ℕ → SinkSeen → SinkSeen → Type 0
-IsAnsweredBy form told n old new = (s : Status) × (n ≡ number_of s) × IsAnswered form told s old new
+abbrev pub IsAnsweredBy : JournalTask → Told → ℕ → SinkSeen → SinkSeen → Type 0
+IsAnsweredBy form told n old new = (s : JournalStatus) × (n ≡ number_of s) × IsAnswered form told s old new
 
 -- the sink failed, and a first part of the right answer was written
-pub record IsCutOff (form : Form) (told : Told) (old new : SinkSeen) : Type 0 where
+pub record IsCutOff (form : JournalTask) (told : Told) (old new : SinkSeen) : Type 0 where
   pub rose : Rose old.faults new.faults
-  pub status : Status
+  pub status : JournalStatus
   pub answer : List ℕ
   pub is : IsAnswer form told status answer
   pub cut : IsCut answer old new
@@ -50,14 +50,14 @@ pub record IsUnread (told : Told) (old new : BlobSeen) : Type 0 where
   pub may : MayFail told
 
 -- how the writing of an answer ends, which has this status if it is written whole
-abbrev pub Writes : Status → List ℕ → SinkSeen → SinkSeen → Status → Type 0
+abbrev pub Writes : JournalStatus → List ℕ → SinkSeen → SinkSeen → JournalStatus → Type 0
 Writes s answer old new end =
     ((end ≡ s) × (new ≡ with_text answer old))
     ⊎ (((end ≡ status.OutputNotWritten) × Rose old.faults new.faults × IsCut answer old new)
     ⊎ ((end ≡ status.OutOfMemory) × (new ≡ old)))
 
 -- how a form ends
-abbrev pub EndsForm : Form → Told → BlobSeen → BlobSeen → SinkSeen → SinkSeen → Status → Type 0
+abbrev pub EndsForm : JournalTask → Told → BlobSeen → BlobSeen → SinkSeen → SinkSeen → JournalStatus → Type 0
 EndsForm form told file file' sink sink' status.Done = IsAnswered form told status.Done sink sink'
 EndsForm form told file file' sink sink' status.Illegal =
     (form ≡ Audit) × IsAnswered Audit told status.Illegal sink sink'
@@ -70,6 +70,6 @@ EndsForm form told file file' sink sink' status.ReadFault =
     (form ≡ Audit) × IsUnread told file file' × (sink' ≡ sink)
 
 -- how words end
-abbrev pub Ends : Option Form → Told → BlobSeen → BlobSeen → SinkSeen → SinkSeen → Status → Type 0
+abbrev pub Ends : Option JournalTask → Told → BlobSeen → BlobSeen → SinkSeen → SinkSeen → JournalStatus → Type 0
 Ends None told file file' sink sink' s = (s ≡ status.Usage) × (file' ≡ file) × (sink' ≡ sink)
 Ends (Some form) told file file' sink sink' s = EndsForm form told file file' sink sink' s

@@ -10,8 +10,8 @@ use Rattle.journal_run.specs.declared.finding.FindFault.{FindFault}
 use Rattle.journal_run.specs.declared.finding.FindFault.TheVariants as fault
 use Rattle.journal_run.specs.declared.finding.Finding.{Finding}
 use Rattle.journal_run.specs.declared.finding.Finding.TheVariants.{Absent, TooLarge, Audited}
-use Rattle.journal_run.specs.declared.status.Status.{Status}
-use Rattle.journal_run.specs.declared.status.Status.TheVariants as status
+use Rattle.journal_run.specs.declared.status.JournalStatus.{JournalStatus}
+use Rattle.journal_run.specs.declared.status.JournalStatus.TheVariants as status
 
 -- the most bytes of a journal that is judged
 abbrev pub text_limit : ℕ
@@ -25,7 +25,7 @@ IsFinding told (Audited a) =
     (text : List ℕ) × TellsBytes told text × (length text ≤ text_limit) × IsAudit text a
 
 -- the status that goes with a finding
-abbrev pub status_of : Finding → Status
+abbrev pub status_of : Finding → JournalStatus
 status_of Absent = status.Unreadable
 status_of TooLarge = status.Unreadable
 status_of (Audited (Unreadable line)) = status.Unreadable

@@ -3,7 +3,7 @@ ghost use Rattle.std.specs.Prelude.{◌≡◌, ◌⊎◌, Err, IfOk, string_byte
 ghost use Rattle.journal_run.specs.declared.finding.FindFault.TheVariants.{NoMemory, ReadFault};
 ghost use Rattle.journal_run.specs.Findings.{finding_line, status_of, Finds};
 
-use crate::status::Status;
+use crate::status::JournalStatus;
 use edge_kit::{Blob, TakeFault};
 use journal_audit::{Audit, audit};
 use std::alloc::{AllocError, Global};
@@ -38,14 +38,14 @@ impl From<AllocError> for FindFault {
 }
 
 /// The status that goes with a finding.
-pub fn status_of(finding: Finding) -> Status
+pub fn status_of(finding: Finding) -> JournalStatus
     ensures { result ≡ status_of finding }
 {
     match finding {
-        Finding::Absent | Finding::TooLarge => Status::Unreadable,
-        Finding::Audited(Audit::Unreadable { .. }) => Status::Unreadable,
-        Finding::Audited(Audit::Illegal { .. }) => Status::Illegal,
-        Finding::Audited(Audit::Legal { .. }) => Status::Done,
+        Finding::Absent | Finding::TooLarge => JournalStatus::Unreadable,
+        Finding::Audited(Audit::Unreadable { .. }) => JournalStatus::Unreadable,
+        Finding::Audited(Audit::Illegal { .. }) => JournalStatus::Illegal,
+        Finding::Audited(Audit::Legal { .. }) => JournalStatus::Done,
     }
 }
 

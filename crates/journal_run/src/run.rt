@@ -3,34 +3,34 @@ ghost use Rattle.std.specs.Prelude.{◌≡◌, ◌⊎◌, ◌≤◌, ◌<◌, �
 ghost use Rattle.edge_kit.specs.Faults.{Rose};
 ghost use Rattle.edge_kit.specs.Seen.{BlobSeen};
 ghost use Rattle.edge_kit.specs.Told.{Told};
-ghost use Rattle.journal_run.specs.declared.status.Status.TheVariants.{Done, Illegal, ReadFault, Unreadable};
-ghost use Rattle.journal_run.specs.declared.words.Form.{Form};
-ghost use Rattle.journal_run.specs.declared.words.Form.TheVariants.{Audit, Rehearsal};
+ghost use Rattle.journal_run.specs.declared.status.JournalStatus.TheVariants.{Done, Illegal, ReadFault, Unreadable};
+ghost use Rattle.journal_run.specs.declared.words.JournalTask.{JournalTask};
+ghost use Rattle.journal_run.specs.declared.words.JournalTask.TheVariants.{Audit, Rehearsal};
 ghost use Rattle.journal_run.specs.Words.{asked};
 ghost use Rattle.journal_run.specs.Ends.{Ends, EndsForm, IsAnswered, IsAnsweredBy, IsCutOff, IsUnread, Writes};
 
 use crate::finding::{FindFault, find, finding_line, status_of};
 use crate::rehearsing::rehearsal_journal;
-use crate::status::{Status, number_of};
-use crate::words::{Form, form_of};
+use crate::status::{JournalStatus, number_of};
+use crate::words::{JournalTask, form_of};
 use edge_kit::{Blob, Gate, SendFault, Sink};
 use std::alloc::Global;
 use std::sync::Wait;
 use std::thread::Threads;
 
 /// Writes an answer in one piece: the status that goes with it, if it is written whole.
-fn write_answer<O: Sink>(out: &mut O, answer: &[u8], status: Status) -> Status
+fn write_answer<O: Sink>(out: &mut O, answer: &[u8], status: JournalStatus) -> JournalStatus
     ensures { Writes status answer.now (O.seen out.old) (O.seen out.new) result }
 {
     match out.write(answer) {
         Ok(()) => status,
-        Err(SendFault::Failed) => Status::OutputNotWritten,
-        Err(SendFault::NoMemory) => Status::OutOfMemory,
+        Err(SendFault::Failed) => JournalStatus::OutputNotWritten,
+        Err(SendFault::NoMemory) => JournalStatus::OutOfMemory,
     }
 }
 
 /// Judges a file, and writes what is found of it.
-fn show_audit<B: Blob, O: Sink>(alloc: Global, text: &mut B, out: &mut O) -> Status
+fn show_audit<B: Blob, O: Sink>(alloc: Global, text: &mut B, out: &mut O) -> JournalStatus
     ensures told { B.told text.new ≡ B.told text.old }
     ensures kept { B.seen text.new ≡ record (B.seen text.old) { faults = (B.seen text.new).faults } }
     ensures still { (result ≡ ReadFault) ⊎ (B.seen text.new ≡ B.seen text.old) }
@@ -39,11 +39,11 @@ fn show_audit<B: Blob, O: Sink>(alloc: Global, text: &mut B, out: &mut O) -> Sta
 {
     let finding = match find(alloc, text) {
         Ok(finding) => finding,
-        Err(FindFault::ReadFault) => return Status::ReadFault,
-        Err(FindFault::NoMemory) => return Status::OutOfMemory,
+        Err(FindFault::ReadFault) => return JournalStatus::ReadFault,
+        Err(FindFault::NoMemory) => return JournalStatus::OutOfMemory,
     };
     let Ok(line) = finding_line(alloc, finding) else {
-        return Status::OutOfMemory;
+        return JournalStatus::OutOfMemory;
     };
     write_answer(out, line.as_bytes(), status_of(finding))
 }
@@ -56,15 +56,15 @@ fn show_journal<G: Gate, O: Sink, H: Threads + Wait + Sync>(
     paths: u32,
     gate: &G,
     out: &mut O,
-) -> Status
+) -> JournalStatus
     requires { paths ≤ 99999 }
     ensures { (told : Told) (text : BlobSeen) → EndsForm (Rehearsal seed paths) told text text
         (O.seen out.old) (O.seen out.new) result }
 {
     let Ok(journal) = rehearsal_journal(rt, alloc, seed, paths, gate) else {
-        return Status::OutOfMemory;
+        return JournalStatus::OutOfMemory;
     };
-    write_answer(out, &journal, Status::Done)
+    write_answer(out, &journal, JournalStatus::Done)
 }
 
 /// Does what the words ask for.
@@ -75,7 +75,7 @@ fn obey<B: Blob, G: Gate, O: Sink, H: Threads + Wait + Sync>(
     text: &mut B,
     gate: &G,
     out: &mut O,
-) -> Status
+) -> JournalStatus
     ensures told { B.told text.new ≡ B.told text.old }
     ensures kept { B.seen text.new ≡ record (B.seen text.old) { faults = (B.seen text.new).faults } }
     ensures still { (result ≡ ReadFault) ⊎ (B.seen text.new ≡ B.seen text.old) }
@@ -83,9 +83,11 @@ fn obey<B: Blob, G: Gate, O: Sink, H: Threads + Wait + Sync>(
         (B.seen text.old) (B.seen text.new) (O.seen out.old) (O.seen out.new) result }
 {
     match form_of(words) {
-        Some(Form::Audit) => show_audit(alloc, text, out),
-        Some(Form::Rehearsal { seed, paths }) => show_journal(rt, alloc, seed, paths, gate, out),
-        None => Status::Usage,
+        Some(JournalTask::Audit) => show_audit(alloc, text, out),
+        Some(JournalTask::Rehearsal { seed, paths }) => show_journal(
+            rt, alloc, seed, paths, gate, out,
+        ),
+        None => JournalStatus::Usage,
     }
 }
 
@@ -121,7 +123,7 @@ pub fn journal_run<B: Blob, G: Gate, O: Sink, H: Threads + Wait + Sync>(
     ensures unreadable { result ≡ 3 → (asked words.now ≡ Some Audit)
         × IsAnswered Audit (B.told text.old) Unreadable (O.seen out.old) (O.seen out.new) }
     // 4: the sink failed, and a first part of the answer was written.
-    ensures cut_off { (form : Form) → asked words.now ≡ Some form → result ≡ 4
+    ensures cut_off { (form : JournalTask) → asked words.now ≡ Some form → result ≡ 4
         → IsCutOff form (B.told text.old) (O.seen out.old) (O.seen out.new) }
     // 5: memory ran out, and nothing was written.
     ensures out_of_memory { result ≡ 5 → O.seen out.new ≡ O.seen out.old }
@@ -131,7 +133,7 @@ pub fn journal_run<B: Blob, G: Gate, O: Sink, H: Threads + Wait + Sync>(
     // There is no other end.
     ensures number { result < 7 }
     // Where no count of faults rises, the answer is written whole and the status is its own, or memory runs out.
-    ensures complete { (form : Form) → asked words.now ≡ Some form
+    ensures complete { (form : JournalTask) → asked words.now ≡ Some form
         → (Rose (B.seen text.old).faults (B.seen text.new).faults → ⊥)
         → (Rose (O.seen out.old).faults (O.seen out.new).faults → ⊥)
         → (result ≡ 5) ⊎ IsAnsweredBy form (B.told text.old) result (O.seen out.old) (O.seen out.new) }

@@ -4,7 +4,7 @@ ghost use Rattle.journal_run.specs.Ends.{number_of};
 
 /// How a call ends. The number of each is the status that the program ends with.
 #[derive(Clone, Copy)]
-pub enum Status {
+pub enum JournalStatus {
     /// The journal is written, or all events of the audited one are legal.
     Done = 0,
     /// An event of the audited journal isn't legal.
@@ -19,7 +19,7 @@ pub enum Status {
 }
 
 /// The number of a status, which the program ends with.
-pub fn number_of(status: Status) -> u8
+pub fn number_of(status: JournalStatus) -> u8
     ensures { result ≡ number_of status }
 {
     status as u8

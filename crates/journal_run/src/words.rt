@@ -7,7 +7,7 @@ use byte_path::read_decimal;
 
 /// What words ask for.
 #[derive(Clone, Copy)]
-pub enum Form {
+pub enum JournalTask {
     /// The journal of a rehearsal of this many paths, up to 99,999.
     Rehearsal { seed: u64, paths: u32 },
     /// The audit of the file REPO.
@@ -25,31 +25,31 @@ pub fn is_journal(words: &[String]) -> bool
 }
 
 /// The rehearsal of two numbers.
-fn rehearsal_of(seed: &str, paths: &str) -> Option<Form>
+fn rehearsal_of(seed: &str, paths: &str) -> Option<JournalTask>
     ensures { result ≡
         with_numbers (decimal_within seed.now (2 ^ 64 - 1)) (decimal_within paths.now 99999) }
 {
     let seed = read_decimal(seed.as_bytes(), u64::MAX)?;
     let paths = read_decimal(paths.as_bytes(), 99_999)?;
-    Some(Form::Rehearsal {
+    Some(JournalTask::Rehearsal {
         seed,
         paths: paths as u32,
     })
 }
 
 /// What a name and its tail ask for.
-fn named_form(name: &str, tail: &[String]) -> Option<Form>
+fn named_form(name: &str, tail: &[String]) -> Option<JournalTask>
     ensures { result ≡ named_form name.now (map string_bytes tail.now) }
 {
     match tail {
-        [] if name == "audit" => Some(Form::Audit),
+        [] if name == "audit" => Some(JournalTask::Audit),
         [seed, paths] if name == "journal" => rehearsal_of(seed.as_str(), paths.as_str()),
         _ => None,
     }
 }
 
 /// What words ask for: `REPO TREE journal SEED PATHS` or `REPO TREE audit`. REPO and TREE may be any text.
-pub fn form_of(words: &[String]) -> Option<Form>
+pub fn form_of(words: &[String]) -> Option<JournalTask>
     ensures form { result ≡ asked words.now }
     ensures few { IfSome result HasFewPaths }
 {

@@ -11,7 +11,7 @@ use std::io::{ErrorKind, Write};
 
 /// What a checkout leaves for its journal.
 #[derive(Clone, Copy)]
-pub struct Ended<'a> {
+pub struct EndedCheckout<'a> {
     /// The words that the engine got.
     pub words: &'a [String],
     pub status: u8,
@@ -19,7 +19,7 @@ pub struct Ended<'a> {
     pub history: &'a [Event],
 }
 
-impl Ended<'_> {
+impl EndedCheckout<'_> {
     /// Whether the checkout reached its report.
     fn has_journal(&self) -> bool {
         self.status < 2 || !self.history.is_empty()
@@ -82,7 +82,7 @@ impl JournalFile {
     }
 
     /// Writes the journal. The repository is read once more for its plan.
-    fn write<R: Repo>(&mut self, repo: &mut R, ended: Ended<'_>) -> Result<()> {
+    fn write<R: Repo>(&mut self, repo: &mut R, ended: EndedCheckout<'_>) -> Result<()> {
         let alloc = self.rt.alloc();
         let journal = checkout_journal(alloc, ended.words, repo, ended.history)?;
         self.file.write_all(&journal)?;
@@ -90,7 +90,7 @@ impl JournalFile {
     }
 
     /// Writes the journal of a checkout that reached its report. If it can't be written, standard error says why.
-    pub fn end<R: Repo>(mut self, repo: &mut R, ended: Ended<'_>) {
+    pub fn end<R: Repo>(mut self, repo: &mut R, ended: EndedCheckout<'_>) {
         if !ended.has_journal() {
             return;
         }

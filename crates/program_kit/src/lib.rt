@@ -9,7 +9,7 @@ mod own_words;
 mod progress;
 mod refused;
 
-pub use journal_file::{Ended, JournalFile};
+pub use journal_file::{EndedCheckout, JournalFile};
 pub use messages::message_of;
 pub use notes::{show_drivers, show_errors};
 pub use own_words::words_of;

@@ -1,7 +1,7 @@
 //! What standard error says, beside the report, of files that weren't written and of drivers that don't speak the
 //! protocol.
 use byte_path::quote_path;
-use edge_adapters::{Driver, ErrorCount, WriteErrors};
+use edge_adapters::{ErrorCount, ReturnedDriver, WriteErrors};
 use std::alloc::{AllocError, Global};
 use std::io;
 
@@ -71,7 +71,7 @@ fn first_line(bytes: &[u8]) -> &[u8] {
         .unwrap_or(bytes)
 }
 
-fn show_driver(rt: HostRuntime, driver: &Driver) -> Result<(), AllocError> {
+fn show_driver(rt: HostRuntime, driver: &ReturnedDriver) -> Result<(), AllocError> {
     let command = in_quotes(rt.alloc(), driver.command.as_slice())?;
     let wrote = in_quotes(rt.alloc(), first_line(&driver.front))?;
     let _ = eprintln!(rt; "driver {command} wrote {wrote}");
@@ -79,7 +79,7 @@ fn show_driver(rt: HostRuntime, driver: &Driver) -> Result<(), AllocError> {
 }
 
 /// Says of each driver that began with no packet what it wrote.
-pub fn show_drivers(rt: HostRuntime, drivers: &[Driver]) {
+pub fn show_drivers(rt: HostRuntime, drivers: &[ReturnedDriver]) {
     for driver in drivers {
         if !driver.front.is_empty() {
             let _ = show_driver(rt, driver);

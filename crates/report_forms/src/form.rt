@@ -8,7 +8,7 @@ use std::alloc::Global;
 
 /// How a report or a plan is written.
 #[derive(Clone, Copy, Debug, PartialEq, Eq)]
-pub enum Form {
+pub enum ReportForm {
     /// The lines as they are.
     Text,
     /// The lines with NUL at their ends and with paths that aren't quoted.
@@ -23,14 +23,14 @@ pub enum Form {
 #[derive(Drop)]
 pub struct FormSink<O: Sink + Drop> {
     alloc: Global,
-    form: Form,
+    form: ReportForm,
     out: O,
     pub faults: u64,
 }
 
 impl<O: Sink + Drop> FormSink<O> {
     /// A sink that hands its lines on to `out`.
-    pub fn new(alloc: Global, form: Form, out: O) -> FormSink<O>
+    pub fn new(alloc: Global, form: ReportForm, out: O) -> FormSink<O>
         ensures { result.faults ≡ 0 }
     {
         FormSink {
@@ -50,7 +50,7 @@ impl<O: Sink + Drop> FormSink<O> {
     fn hand_on(&mut self, piece: &[u8]) -> Result<(), SendFault>
         ensures { self.new.faults ≡ self.old.faults }
     {
-        if self.form == Form::Text {
+        if self.form == ReportForm::Text {
             return self.out.write(piece);
         }
         let text = formed(self.alloc, self.form, piece)?;
@@ -62,12 +62,17 @@ impl<O: Sink + Drop> FormSink<O> {
 }
 
 /// Appends a line in a form.
-fn push_line(alloc: Global, form: Form, text: &mut Vec<u8>, line: &[u8]) -> Result<(), SendFault> {
+fn push_line(
+    alloc: Global,
+    form: ReportForm,
+    text: &mut Vec<u8>,
+    line: &[u8],
+) -> Result<(), SendFault> {
     match form {
-        Form::Nul => push_nul_line(alloc, text, line),
-        Form::Json => push_object(alloc, text, line),
-        Form::Failures if !is_failure(line) => Ok(()),
-        Form::Text | Form::Failures => {
+        ReportForm::Nul => push_nul_line(alloc, text, line),
+        ReportForm::Json => push_object(alloc, text, line),
+        ReportForm::Failures if !is_failure(line) => Ok(()),
+        ReportForm::Text | ReportForm::Failures => {
             text.extend_from_slice(line)?;
             text.push(b'\n')?;
             Ok(())
@@ -76,7 +81,7 @@ fn push_line(alloc: Global, form: Form, text: &mut Vec<u8>, line: &[u8]) -> Resu
 }
 
 /// Whole lines in a form.
-fn formed(alloc: Global, form: Form, lines: &[u8]) -> Result<Vec<u8>, SendFault> {
+fn formed(alloc: Global, form: ReportForm, lines: &[u8]) -> Result<Vec<u8>, SendFault> {
     let mut text = Vec::new(alloc);
     for line in lines.split(|byte| *byte == b'\n') {
         if !line.is_empty() {

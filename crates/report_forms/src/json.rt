@@ -1,5 +1,5 @@
 //! The JSON object of a line.
-use crate::line::{DoneLine, Line, PlanLine, ReportLine, read_line};
+use crate::line::{DoneLine, OutputLine, PlanLine, ReportLine, read_line};
 use crate::shown_name::name_of;
 use byte_path::read_decimal;
 use edge_kit::SendFault;
@@ -123,18 +123,18 @@ fn text_of<T: Serialize>(alloc: Global, value: &T) -> Result<String, SendFault> 
     to_string(alloc, value).map_err(|_| SendFault::NoMemory)
 }
 
-fn object_of(alloc: Global, line: &Line<'_>) -> Result<String, SendFault> {
+fn object_of(alloc: Global, line: &OutputLine<'_>) -> Result<String, SendFault> {
     match line {
-        Line::Report(line) => text_of(alloc, &path_report(alloc, line)?),
-        Line::Done(line) => text_of(alloc, &done_counts(line)?),
-        Line::Plan(line) => text_of(alloc, &path_plan(alloc, line)?),
-        Line::SkippedLines(count) => text_of(
+        OutputLine::Report(line) => text_of(alloc, &path_report(alloc, line)?),
+        OutputLine::Done(line) => text_of(alloc, &done_counts(line)?),
+        OutputLine::Plan(line) => text_of(alloc, &path_plan(alloc, line)?),
+        OutputLine::SkippedLines(count) => text_of(
             alloc,
             &SkippedLines {
                 skipped_lines: number_of(count)?,
             },
         ),
-        Line::Refused(why) => text_of(alloc, &Refusal { refused: why }),
+        OutputLine::Refused(why) => text_of(alloc, &Refusal { refused: why }),
     }
 }
 

@@ -9,4 +9,4 @@ mod line;
 mod nul;
 mod shown_name;
 
-pub use form::{Form, FormSink};
+pub use form::{FormSink, ReportForm};

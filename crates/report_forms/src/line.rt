@@ -2,7 +2,7 @@
 
 /// A line of a report, a plan or a refusal.
 #[derive(Clone, Copy)]
-pub enum Line<'a> {
+pub enum OutputLine<'a> {
     Report(ReportLine<'a>),
     /// The last line of a report.
     Done(DoneLine<'a>),
@@ -114,13 +114,13 @@ fn plan_line<'a>(state: &'a str, rest: &'a str) -> Option<PlanLine<'a>> {
 }
 
 /// The fields of a line, or none if it is none of these.
-pub fn read_line(line: &str) -> Option<Line<'_>> {
+pub fn read_line(line: &str) -> Option<OutputLine<'_>> {
     let (word, rest) = line.split_once(' ')?;
     match word {
         "written" | "unfiltered" | "failed" | "no-memory" | "skipped" => {
-            report_line(word, rest).map(Line::Report)
+            report_line(word, rest).map(OutputLine::Report)
         }
-        "done" => done_line(rest).map(Line::Done),
+        "done" => done_line(rest).map(OutputLine::Done),
         "card"
         | "gitlink"
         | "unmerged"
@@ -128,9 +128,9 @@ pub fn read_line(line: &str) -> Option<Line<'_>> {
         | "intent"
         | "name"
         | "encoding"
-        | "no-process" => plan_line(word, rest).map(Line::Plan),
-        "skipped-lines" => Some(Line::SkippedLines(rest)),
-        "refused" => Some(Line::Refused(rest)),
+        | "no-process" => plan_line(word, rest).map(OutputLine::Plan),
+        "skipped-lines" => Some(OutputLine::SkippedLines(rest)),
+        "refused" => Some(OutputLine::Refused(rest)),
         _ => None,
     }
 }

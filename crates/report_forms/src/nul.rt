@@ -1,15 +1,15 @@
 //! A line that ends in NUL, with its path as it is.
-use crate::line::{Line, read_line};
+use crate::line::{OutputLine, read_line};
 use crate::shown_name::name_of;
 use edge_kit::SendFault;
 use std::alloc::Global;
 
 /// The path that a line shows, if it is a path's line.
-fn path_of<'a>(line: &Line<'a>) -> Option<&'a str> {
+fn path_of<'a>(line: &OutputLine<'a>) -> Option<&'a str> {
     match line {
-        Line::Report(fields) => Some(fields.path),
-        Line::Plan(fields) => Some(fields.path),
-        Line::Done(_) | Line::SkippedLines(_) | Line::Refused(_) => None,
+        OutputLine::Report(fields) => Some(fields.path),
+        OutputLine::Plan(fields) => Some(fields.path),
+        OutputLine::Done(_) | OutputLine::SkippedLines(_) | OutputLine::Refused(_) => None,
     }
 }
 

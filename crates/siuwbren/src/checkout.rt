@@ -11,10 +11,10 @@ use git_edge::GitRepo;
 use git_tree::GitTree;
 use one_shot::OnceSpawner;
 use program_kit::{
-    CountingTree, Ended, JournalFile, Progress, has_terminal, show_drivers, show_errors,
+    CountingTree, EndedCheckout, JournalFile, Progress, has_terminal, show_drivers, show_errors,
     show_refused_path,
 };
-use siuwbren_words::{Checkout, Progress as Wanted};
+use siuwbren_words::{Checkout, ProgressChoice};
 use std::alloc::AllocError;
 use std::mem::forget;
 use std::sync::Wait;
@@ -22,11 +22,11 @@ use std::sync::atomic::AtomicU32;
 use std::thread::Threads;
 
 /// Whether progress is to be shown.
-fn is_shown(rt: HostRuntime, wanted: Wanted) -> bool {
+fn is_shown(rt: HostRuntime, wanted: ProgressChoice) -> bool {
     match wanted {
-        Wanted::Shown => true,
-        Wanted::Hidden => false,
-        Wanted::OnTerminal => has_terminal(rt),
+        ProgressChoice::Shown => true,
+        ProgressChoice::Hidden => false,
+        ProgressChoice::OnTerminal => has_terminal(rt),
     }
 }
 
@@ -41,8 +41,8 @@ struct Left {
 
 impl Left {
     /// What its journal is made of.
-    fn ended(&self) -> Ended<'_> {
-        Ended {
+    fn ended(&self) -> EndedCheckout<'_> {
+        EndedCheckout {
             words: self.words.as_slice(),
             status: self.status,
             history: self.history.as_slice(),

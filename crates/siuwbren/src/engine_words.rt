@@ -3,7 +3,7 @@ ghost use Rattle.std.specs.Prelude.{◌≡◌, ◌≤◌, ◌++◌, Some, IfOk, 
 ghost use Rattle.checkout_words.specs.Words.{command_of};
 ghost use Rattle.checkout_words.specs.declared.Command.TheVariants as asked;
 ghost use Rattle.journal_run.specs.Words.{form_of};
-ghost use Rattle.journal_run.specs.declared.words.Form.TheVariants.{Audit};
+ghost use Rattle.journal_run.specs.declared.words.JournalTask.TheVariants.{Audit};
 ghost use Rattle.siuwbren.specs.EngineWords.{workers_words, checkout_words, rehearse_words, audit_words};
 ghost use Rattle.siuwbren.specs.EngineWords.{IsWorkers};
 

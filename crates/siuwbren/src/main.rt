@@ -20,7 +20,7 @@ use crate::journal::audit;
 use crate::plan::show_plan;
 use crate::rehearsing::rehearse;
 use program_kit::words_of;
-use siuwbren_words::{Command, WordFault, read_words};
+use siuwbren_words::{Subcommand, UsageFault, read_words};
 use std::alloc::AllocError;
 use std::env::args;
 use std::process::ExitCode;
@@ -31,13 +31,13 @@ use std::thread::Threads;
 fn obey<H: Threads + Wait + Sync>(
     rt: HostRuntime,
     threads: &H,
-    command: &Command<'_>,
+    command: &Subcommand<'_>,
 ) -> Result<u8, AllocError> {
     match command {
-        Command::Checkout(asked) => check_out(rt, threads, asked),
-        Command::Plan(asked) => show_plan(rt, asked),
-        Command::Rehearse { seed, paths } => rehearse(rt, threads, *seed, *paths),
-        Command::Audit { file } => audit(rt, threads, *file),
+        Subcommand::Checkout(asked) => check_out(rt, threads, asked),
+        Subcommand::Plan(asked) => show_plan(rt, asked),
+        Subcommand::Rehearse { seed, paths } => rehearse(rt, threads, *seed, *paths),
+        Subcommand::Audit { file } => audit(rt, threads, *file),
     }
 }
 
@@ -50,9 +50,9 @@ fn run_words<H: Threads + Wait + Sync>(rt: HostRuntime, threads: &H) -> Result<u
     }
     match read_words(rt.alloc(), words.as_slice()) {
         Ok(command) => obey(rt, threads, &command),
-        Err(WordFault::Wish(text)) => Ok(give(rt, text.as_str())),
-        Err(WordFault::Wrong(text)) => Ok(refuse_words(rt, text.as_str())),
-        Err(WordFault::NoMemory) => Err(AllocError),
+        Err(UsageFault::Wish(text)) => Ok(give(rt, text.as_str())),
+        Err(UsageFault::Wrong(text)) => Ok(refuse_words(rt, text.as_str())),
+        Err(UsageFault::NoMemory) => Err(AllocError),
     }
 }
 

@@ -4,11 +4,11 @@ use crate::ends::{end_with, refuse_repository};
 use checkout_engine::plan_text;
 use git_edge::GitRepo;
 use program_kit::show_refused_path;
-use siuwbren_words::Plan;
+use siuwbren_words::PlanWords;
 use std::alloc::AllocError;
 
 /// Shows what a checkout of a repository's index would do.
-pub fn show_plan(rt: HostRuntime, asked: &Plan<'_>) -> Result<u8, AllocError> {
+pub fn show_plan(rt: HostRuntime, asked: &PlanWords<'_>) -> Result<u8, AllocError> {
     let mut repo = match GitRepo::open(rt, asked.git_dir, None) {
         Ok(repo) => repo,
         Err(fault) => return Ok(refuse_repository(rt, &fault)),

@@ -4,7 +4,7 @@ use crate::ends::end_with;
 use crate::engine_words::rehearse_words;
 use checkout_engine::run;
 use edge_kit::{MemoryRepo, MemorySpawner, MemoryTree, NoGate};
-use report_forms::Form;
+use report_forms::ReportForm;
 use std::alloc::AllocError;
 use std::sync::Wait;
 use std::thread::Threads;
@@ -21,7 +21,7 @@ pub fn rehearse<H: Threads + Wait + Sync>(
     let mut repo = MemoryRepo::new(alloc, None, None, None, Vec::new(alloc), Vec::new(alloc));
     let mut tree = MemoryTree::new(alloc, true, Vec::new(alloc), false);
     let mut spawner = MemorySpawner::new(alloc, Vec::new(alloc));
-    let mut out = sink_of(rt, Form::Text);
+    let mut out = sink_of(rt, ReportForm::Text);
     let mut history = Vec::new(alloc);
     let status = run(
         threads,

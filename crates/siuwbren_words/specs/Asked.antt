@@ -3,30 +3,30 @@ use Rattle.std.specs.Prelude.{◌≡◌, ℕ, Bool, ◌^◌, ◌-◌, if◌then�
 use Rattle.std.specs.Str.{bytes_eq}
 use Rattle.clap.specs.Words.{Row, Text, first_of}
 use Rattle.byte_path.specs.Decimal.{decimal_within}
-use Rattle.report_forms.specs.declared.form.Form.{Form}
+use Rattle.report_forms.specs.declared.form.ReportForm.{ReportForm}
 use Rattle.siuwbren_words.specs.Parser.{command_in, siuwbren_app}
 use Rattle.siuwbren_words.specs.Values.{is_set, workers_of, plan_form, report_form, progress_of}
 use Rattle.siuwbren_words.specs.declared.command.Checkout.{Checkout}
-use Rattle.siuwbren_words.specs.declared.command.Plan.{Plan}
-use Rattle.siuwbren_words.specs.declared.command.Progress.{Progress}
-use Rattle.siuwbren_words.specs.declared.command.Command.{Command}
-use Rattle.siuwbren_words.specs.declared.command.Command.TheVariants as command
-use Rattle.siuwbren_words.specs.declared.fault.WordFault.{WordFault}
-use Rattle.siuwbren_words.specs.declared.fault.WordFault.TheVariants.{Wish, Wrong, NoMemory}
+use Rattle.siuwbren_words.specs.declared.command.PlanWords.{PlanWords}
+use Rattle.siuwbren_words.specs.declared.command.ProgressChoice.{ProgressChoice}
+use Rattle.siuwbren_words.specs.declared.command.Subcommand.{Subcommand}
+use Rattle.siuwbren_words.specs.declared.command.Subcommand.TheVariants as command
+use Rattle.siuwbren_words.specs.declared.fault.UsageFault.{UsageFault}
+use Rattle.siuwbren_words.specs.declared.fault.UsageFault.TheVariants.{Wish, Wrong, NoMemory}
 
 pub record AskedCheckout : Type 0 where
   pub git_dir : Option Text
   pub commit : Option Text
   pub workers : Option ℕ
-  pub form : Form
-  pub progress : Progress
+  pub form : ReportForm
+  pub progress : ProgressChoice
   pub quiet : Bool
   pub journal : Option Text
   pub tree : Text
 
 pub record AskedPlan : Type 0 where
   pub git_dir : Option Text
-  pub form : Form
+  pub form : ReportForm
 
 -- a command by its texts
 pub data Asked : Type 0 where
@@ -47,10 +47,10 @@ shown_checkout c = record {
   tree = c.tree.now;
 }
 
-abbrev pub shown_plan : Plan → AskedPlan
+abbrev pub shown_plan : PlanWords → AskedPlan
 shown_plan p = record { git_dir = option_map (λ t. t.now) p.git_dir; form = p.form }
 
-abbrev pub shown : Command → Asked
+abbrev pub shown : Subcommand → Asked
 shown (command.Checkout c) = checkout (shown_checkout c)
 shown (command.Plan p) = plan (shown_plan p)
 shown (command.Rehearse seed paths) = rehearse seed paths
@@ -113,7 +113,7 @@ abbrev pub asked_of : List Text → Option Asked
 asked_of words = asked_in (command_in siuwbren_app words)
 
 -- the command that is asked for, or a text if there is none; or memory ran out
-abbrev pub Gives : Option Asked → Result Command WordFault → Type 0
+abbrev pub Gives : Option Asked → Result Subcommand UsageFault → Type 0
 Gives asked (Ok command) = asked ≡ Some (shown command)
 Gives asked (Err (Wish text)) = asked ≡ None
 Gives asked (Err (Wrong text)) = asked ≡ None

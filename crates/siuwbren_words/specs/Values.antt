@@ -3,10 +3,10 @@ use Rattle.std.specs.Prelude.{ℕ, Bool, true, false, ◌&&◌, ◌^◌, ◌-◌
 use Rattle.std.specs.Str.{bytes_eq}
 use Rattle.clap.specs.Words.{Text}
 use Rattle.byte_path.specs.Decimal.{decimal_within}
-use Rattle.report_forms.specs.declared.form.Form.{Form}
-use Rattle.report_forms.specs.declared.form.Form.TheVariants as form
-use Rattle.siuwbren_words.specs.declared.command.Progress.{Progress}
-use Rattle.siuwbren_words.specs.declared.command.Progress.TheVariants as progress
+use Rattle.report_forms.specs.declared.form.ReportForm.{ReportForm}
+use Rattle.report_forms.specs.declared.form.ReportForm.TheVariants as form
+use Rattle.siuwbren_words.specs.declared.command.ProgressChoice.{ProgressChoice}
+use Rattle.siuwbren_words.specs.declared.command.ProgressChoice.TheVariants as progress
 
 -- whether a flag is given
 abbrev pub is_set : Option Text → Bool
@@ -23,14 +23,14 @@ workers_of None = Some None
 workers_of (Some text) = from_one (decimal_within text 16)
 
 -- lines that end in NUL are a text
-abbrev pub text_form : Bool → Form
+abbrev pub text_form : Bool → ReportForm
 text_form nul = if nul then form.Nul else form.Text
 
-abbrev pub other_form : Bool → Form → Option Form
+abbrev pub other_form : Bool → ReportForm → Option ReportForm
 other_form nul form = if nul then None else Some form
 
 -- `--report text|json` and `-z`
-abbrev pub plan_form : Option Text → Bool → Option Form
+abbrev pub plan_form : Option Text → Bool → Option ReportForm
 plan_form None nul = Some (text_form nul)
 plan_form (Some word) nul =
     if bytes_eq word (codes "text") then Some (text_form nul)
@@ -38,13 +38,13 @@ plan_form (Some word) nul =
     else None
 
 -- `--report text|json|none` and `-z`
-abbrev pub report_form : Option Text → Bool → Option Form
+abbrev pub report_form : Option Text → Bool → Option ReportForm
 report_form None nul = Some (text_form nul)
 report_form (Some word) nul =
     if bytes_eq word (codes "none") then other_form nul form.Failures else plan_form (Some word) nul
 
 -- `--progress`, `--no-progress` and `-q`
-abbrev pub progress_of : Bool → Bool → Bool → Option Progress
+abbrev pub progress_of : Bool → Bool → Bool → Option ProgressChoice
 progress_of shown hidden quiet =
     if shown then (if hidden then None else Some progress.Shown)
     else if hidden then Some progress.Hidden

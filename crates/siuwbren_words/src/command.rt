@@ -1,9 +1,9 @@
 //! What the words ask the program to do.
-use report_forms::Form;
+use report_forms::ReportForm;
 
 /// Where the progress of a checkout is shown.
 #[derive(Clone, Copy, Debug, PartialEq, Eq)]
-pub enum Progress {
+pub enum ProgressChoice {
     /// On standard error, if that is a terminal.
     OnTerminal,
     Shown,
@@ -19,8 +19,8 @@ pub struct Checkout<'a> {
     pub commit: Option<&'a str>,
     /// How many workers, from 1 to 16, or none for the number that the configuration has.
     pub workers: Option<u32>,
-    pub form: Form,
-    pub progress: Progress,
+    pub form: ReportForm,
+    pub progress: ProgressChoice,
     /// Whether only failures stand on standard error.
     pub quiet: bool,
     /// The new file for the journal, if it is wanted.
@@ -30,18 +30,18 @@ pub struct Checkout<'a> {
 
 /// The plan of a checkout.
 #[derive(Clone, Copy, Debug)]
-pub struct Plan<'a> {
+pub struct PlanWords<'a> {
     /// The git folder, or none for the one that git finds.
     pub git_dir: Option<&'a str>,
-    pub form: Form,
+    pub form: ReportForm,
 }
 
 #[derive(Clone, Copy, Debug)]
-pub enum Command<'a> {
+pub enum Subcommand<'a> {
     /// Write the worktree.
     Checkout(Checkout<'a>),
     /// Show what a checkout would do.
-    Plan(Plan<'a>),
+    Plan(PlanWords<'a>),
     /// Check out a made-up repository of this many paths, up to 99,999.
     Rehearse { seed: u64, paths: u32 },
     /// Judge the journal in this file.

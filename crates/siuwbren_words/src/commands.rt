@@ -5,7 +5,7 @@ ghost use Rattle.clap.specs.Words.{found_of, rows_of};
 ghost use Rattle.siuwbren_words.specs.Asked.{shown_checkout, shown_plan, shown, checkout_by, plan_by};
 ghost use Rattle.siuwbren_words.specs.Asked.{rehearse_by, audit_by, asked_by};
 
-use crate::command::{Checkout, Command, Plan};
+use crate::command::{Checkout, PlanWords, Subcommand};
 use crate::values::{
     Mistake, has_flag, paths_of, plan_form, progress_of, report_form, seed_of, value_of, workers_of,
 };
@@ -35,38 +35,38 @@ fn checkout_of<'a>(matches: &ArgMatches<'a>) -> Result<Checkout<'a>, Mistake<'a>
     })
 }
 
-fn plan_of<'a>(matches: &ArgMatches<'a>) -> Result<Plan<'a>, Mistake<'a>>
+fn plan_of<'a>(matches: &ArgMatches<'a>) -> Result<PlanWords<'a>, Mistake<'a>>
     ensures { option_map shown_plan (result_ok result) ≡ plan_by (rows_of (found_of matches.now)) }
 {
     let form = plan_form(value_of(matches, "report"), has_flag(matches, "nul"))?;
-    Ok(Plan {
+    Ok(PlanWords {
         git_dir: value_of(matches, "git-dir"),
         form,
     })
 }
 
-fn rehearsal_of<'a>(matches: &ArgMatches<'a>) -> Result<Command<'a>, Mistake<'a>>
+fn rehearsal_of<'a>(matches: &ArgMatches<'a>) -> Result<Subcommand<'a>, Mistake<'a>>
     ensures { option_map shown (result_ok result) ≡ rehearse_by (rows_of (found_of matches.now)) }
 {
     let seed = seed_of(value_of(matches, "seed"))?;
     let paths = paths_of(value_of(matches, "paths"))?;
-    Ok(Command::Rehearse { seed, paths })
+    Ok(Subcommand::Rehearse { seed, paths })
 }
 
-fn audit_of<'a>(matches: &ArgMatches<'a>) -> Result<Command<'a>, Mistake<'a>>
+fn audit_of<'a>(matches: &ArgMatches<'a>) -> Result<Subcommand<'a>, Mistake<'a>>
     ensures { option_map shown (result_ok result) ≡ audit_by (rows_of (found_of matches.now)) }
 {
     let file = value_of(matches, "file").ok_or(Mistake::NoFile)?;
-    Ok(Command::Audit { file })
+    Ok(Subcommand::Audit { file })
 }
 
 /// The command of that name with these arguments.
-pub fn command_of<'a>(name: &str, matches: &ArgMatches<'a>) -> Result<Command<'a>, Mistake<'a>>
+pub fn command_of<'a>(name: &str, matches: &ArgMatches<'a>) -> Result<Subcommand<'a>, Mistake<'a>>
     ensures { option_map shown (result_ok result) ≡ asked_by name.now (rows_of (found_of matches.now)) }
 {
     match name {
-        "checkout" => Ok(Command::Checkout(checkout_of(matches)?)),
-        "plan" => Ok(Command::Plan(plan_of(matches)?)),
+        "checkout" => Ok(Subcommand::Checkout(checkout_of(matches)?)),
+        "plan" => Ok(Subcommand::Plan(plan_of(matches)?)),
         "rehearse" => rehearsal_of(matches),
         "audit" => audit_of(matches),
         _ => Err(Mistake::NoCommand),

@@ -1,12 +1,12 @@
 //! Why words ask for no command.
 ghost use Rattle.std.specs.Prelude.{◌≡◌};
-ghost use Rattle.siuwbren_words.specs.declared.fault.WordFault.TheVariants.{NoMemory};
+ghost use Rattle.siuwbren_words.specs.declared.fault.UsageFault.TheVariants.{NoMemory};
 
 use std::alloc::AllocError;
 
 /// Why words ask for no command.
 #[derive(Drop)]
-pub enum WordFault {
+pub enum UsageFault {
     /// They ask for help or for the version, which this text is.
     Wish(String),
     /// They are wrong, as this text says.
@@ -14,10 +14,10 @@ pub enum WordFault {
     NoMemory,
 }
 
-impl From<AllocError> for WordFault {
+impl From<AllocError> for UsageFault {
     ghost from_gives = { λ _ fault. fault ≡ NoMemory };
 
-    fn from(_error: AllocError) -> WordFault {
-        WordFault::NoMemory
+    fn from(_error: AllocError) -> UsageFault {
+        UsageFault::NoMemory
     }
 }

@@ -9,6 +9,6 @@ mod parser;
 mod reading;
 mod values;
 
-pub use command::{Checkout, Command, Plan, Progress};
-pub use fault::WordFault;
+pub use command::{Checkout, PlanWords, ProgressChoice, Subcommand};
+pub use fault::UsageFault;
 pub use reading::read_words;

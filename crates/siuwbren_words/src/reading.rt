@@ -5,11 +5,11 @@ ghost use Rattle.clap.specs.Words.{subcommand_rows_of};
 ghost use Rattle.clap.specs.declared.error.kind.ErrorKind.TheVariants.{OutOfMemory};
 ghost use Rattle.siuwbren_words.specs.Asked.{Gives, asked_in, asked_of};
 ghost use Rattle.siuwbren_words.specs.Parser.{Finds, command_in, siuwbren_app};
-ghost use Rattle.siuwbren_words.specs.declared.fault.WordFault.TheVariants.{NoMemory};
+ghost use Rattle.siuwbren_words.specs.declared.fault.UsageFault.TheVariants.{NoMemory};
 
-use crate::command::Command;
+use crate::command::Subcommand;
 use crate::commands::command_of;
-use crate::fault::WordFault;
+use crate::fault::UsageFault;
 use crate::parser::siuwbren;
 use crate::values::Mistake;
 use clap::error::ErrorKind;
@@ -17,27 +17,27 @@ use clap::{ArgMatches, Error};
 use std::alloc::Global;
 
 /// What a refusal of `clap` comes to.
-fn fault_of(alloc: Global, error: &Error) -> WordFault
+fn fault_of(alloc: Global, error: &Error) -> UsageFault
     ensures { kind_of error.now ≡ OutOfMemory → result ≡ NoMemory }
 {
     let kind = error.kind();
     if kind == ErrorKind::OutOfMemory {
-        return WordFault::NoMemory;
+        return UsageFault::NoMemory;
     }
     let Ok(text) = format!(in alloc; "{error}") else {
-        return WordFault::NoMemory;
+        return UsageFault::NoMemory;
     };
     match kind {
-        ErrorKind::DisplayHelp | ErrorKind::DisplayVersion => WordFault::Wish(text),
-        _ => WordFault::Wrong(text),
+        ErrorKind::DisplayHelp | ErrorKind::DisplayVersion => UsageFault::Wish(text),
+        _ => UsageFault::Wrong(text),
     }
 }
 
 /// What a mistake comes to.
-fn wrong(alloc: Global, mistake: &Mistake<'_>) -> WordFault {
+fn wrong(alloc: Global, mistake: &Mistake<'_>) -> UsageFault {
     match format!(in alloc; "error: {mistake}\n\nFor more information, try '--help'.\n") {
-        Ok(text) => WordFault::Wrong(text),
-        Err(_) => WordFault::NoMemory,
+        Ok(text) => UsageFault::Wrong(text),
+        Err(_) => UsageFault::NoMemory,
     }
 }
 
@@ -46,7 +46,7 @@ fn matches_in<'a>(
     alloc: Global,
     parser: clap::Command<'a>,
     words: &'a [String],
-) -> Result<ArgMatches<'a>, WordFault>
+) -> Result<ArgMatches<'a>, UsageFault>
     requires { is_simple_and_free (app_of parser) ≡ true }
     ensures { Finds (command_in (app_of parser.entry) (map string_bytes words.entry.now)) result }
 {
@@ -64,17 +64,17 @@ fn subcommand_of<'m, 'a>(matches: &'m ArgMatches<'a>) -> Option<(&'a str, &'m Ar
 }
 
 /// The arguments that words give to the program's parser.
-fn found_in(alloc: Global, words: &[String]) -> Result<ArgMatches<'_>, WordFault>
+fn found_in(alloc: Global, words: &[String]) -> Result<ArgMatches<'_>, UsageFault>
     ensures { Finds (command_in siuwbren_app (map string_bytes words.now)) result }
 {
     match siuwbren(alloc) {
         Ok(parser) => matches_in(alloc, parser, words),
-        Err(_) => Err(WordFault::NoMemory),
+        Err(_) => Err(UsageFault::NoMemory),
     }
 }
 
 /// The command that the arguments give, or what is wrong with them.
-fn command_by<'a>(alloc: Global, matches: &ArgMatches<'a>) -> Result<Command<'a>, WordFault>
+fn command_by<'a>(alloc: Global, matches: &ArgMatches<'a>) -> Result<Subcommand<'a>, UsageFault>
     ensures { Gives (asked_in (subcommand_rows_of matches.now)) result }
 {
     let Some((name, arguments)) = subcommand_of(matches) else {
@@ -87,7 +87,7 @@ fn command_by<'a>(alloc: Global, matches: &ArgMatches<'a>) -> Result<Command<'a>
 }
 
 /// The command that the words after the program's name ask for, or a text: help, the version, or what is wrong.
-pub fn read_words(alloc: Global, words: &[String]) -> Result<Command<'_>, WordFault>
+pub fn read_words(alloc: Global, words: &[String]) -> Result<Subcommand<'_>, UsageFault>
     ensures { Gives (asked_of (map string_bytes words.now)) result }
 {
     match found_in(alloc, words) {

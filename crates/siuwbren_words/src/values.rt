@@ -6,10 +6,10 @@ ghost use Rattle.byte_path.specs.Decimal.{decimal_within};
 ghost use Rattle.siuwbren_words.specs.Values.{is_set, workers_of, text_form, other_form};
 ghost use Rattle.siuwbren_words.specs.Values.{plan_form, report_form, progress_of};
 
-use crate::command::Progress;
+use crate::command::ProgressChoice;
 use byte_path::read_decimal;
 use clap::ArgMatches;
-use report_forms::Form;
+use report_forms::ReportForm;
 use std::fmt;
 
 /// A value that an option or a place can't have.
@@ -104,14 +104,18 @@ pub fn workers_of(word: Option<&str>) -> Result<Option<u32>, Mistake<'_>>
 }
 
 /// The form of a text.
-fn text_form(nul: bool) -> Form
+fn text_form(nul: bool) -> ReportForm
     ensures { result ≡ text_form nul }
 {
-    if nul { Form::Nul } else { Form::Text }
+    if nul {
+        ReportForm::Nul
+    } else {
+        ReportForm::Text
+    }
 }
 
 /// A form that isn't a text, which `-z` says nothing of.
-fn other_form(word: &str, nul: bool, form: Form) -> Result<Form, Mistake<'_>>
+fn other_form(word: &str, nul: bool, form: ReportForm) -> Result<ReportForm, Mistake<'_>>
     ensures { result_ok result ≡ other_form nul form }
 {
     if nul {
@@ -121,7 +125,7 @@ fn other_form(word: &str, nul: bool, form: Form) -> Result<Form, Mistake<'_>>
 }
 
 /// The form of a plan.
-pub fn plan_form(word: Option<&str>, nul: bool) -> Result<Form, Mistake<'_>>
+pub fn plan_form(word: Option<&str>, nul: bool) -> Result<ReportForm, Mistake<'_>>
     ensures { result_ok result ≡ plan_form (option_map (λ text. text.now) word.entry) nul }
 {
     let Some(word) = word else {
@@ -129,13 +133,13 @@ pub fn plan_form(word: Option<&str>, nul: bool) -> Result<Form, Mistake<'_>>
     };
     match word {
         "text" => Ok(text_form(nul)),
-        "json" => other_form(word, nul, Form::Json),
+        "json" => other_form(word, nul, ReportForm::Json),
         _ => Err(Mistake::PlanReport(word)),
     }
 }
 
 /// The form of a checkout's report.
-pub fn report_form(word: Option<&str>, nul: bool) -> Result<Form, Mistake<'_>>
+pub fn report_form(word: Option<&str>, nul: bool) -> Result<ReportForm, Mistake<'_>>
     ensures { result_ok result ≡ report_form (option_map (λ text. text.now) word.entry) nul }
 {
     let Some(word) = word else {
@@ -143,22 +147,26 @@ pub fn report_form(word: Option<&str>, nul: bool) -> Result<Form, Mistake<'_>>
     };
     match word {
         "text" => Ok(text_form(nul)),
-        "json" => other_form(word, nul, Form::Json),
-        "none" => other_form(word, nul, Form::Failures),
+        "json" => other_form(word, nul, ReportForm::Json),
+        "none" => other_form(word, nul, ReportForm::Failures),
         _ => Err(Mistake::Report(word)),
     }
 }
 
 /// Where progress is shown.
-pub fn progress_of(shown: bool, hidden: bool, quiet: bool) -> Result<Progress, Mistake<'static>>
+pub fn progress_of(
+    shown: bool,
+    hidden: bool,
+    quiet: bool,
+) -> Result<ProgressChoice, Mistake<'static>>
     ensures { result_ok result ≡ progress_of shown hidden quiet }
 {
     match (shown, hidden) {
         (true, true) => Err(Mistake::BothProgress),
-        (true, false) => Ok(Progress::Shown),
-        (false, true) => Ok(Progress::Hidden),
-        (false, false) if quiet => Ok(Progress::Hidden),
-        (false, false) => Ok(Progress::OnTerminal),
+        (true, false) => Ok(ProgressChoice::Shown),
+        (false, true) => Ok(ProgressChoice::Hidden),
+        (false, false) if quiet => Ok(ProgressChoice::Hidden),
+        (false, false) => Ok(ProgressChoice::OnTerminal),
     }
 }
 
