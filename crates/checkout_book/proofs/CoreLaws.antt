@@ -14,7 +14,8 @@ use Rattle.checkout_core.specs.States.{Core, AreBelow}
 use Rattle.checkout_core.specs.Steps.{IsLegal, step_of}
 use Rattle.checkout_core.specs.Actors.{actor_of, own_entries, is_claim, is_step, AlikeClaims}
 use Rattle.checkout_core.specs.Hands.{Holds, held_at, is_held}
-use Rattle.core_laws.specs.Moves.{Moved, RowStays, is_with_driver, is_noted}
+use Rattle.core_laws.specs.Moves.{Moved, RowStays, is_with_driver}
+use Rattle.checkout_core.specs.Notes.{is_noted}
 use Rattle.atomic_table.specs.Seated.{TableId}
 use Rattle.turn_lock.specs.Seat.{SeatView, entered}
 use Rattle.turn_lock.specs.Seats.{IsSeat, Within}

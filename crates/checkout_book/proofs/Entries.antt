@@ -9,7 +9,7 @@ use Rattle.checkout_core.specs.declared.event.Event.{Event}
 use Rattle.checkout_core.specs.declared.event.Event.TheVariants as ev
 use Rattle.checkout_core.specs.Actors.{actor_of}
 use Rattle.checkout_core.specs.Closes.{closing_of, closes}
-use Rattle.core_laws.specs.Moves.{is_noted}
+use Rattle.checkout_core.specs.Notes.{is_noted}
 use Rattle.checkout_book.specs.declared.plan.Parts.{Parts}
 use Rattle.checkout_book.specs.declared.shelf.Slot.{Slot}
 use Rattle.checkout_book.specs.declared.shelf.Slot.TheVariants.{Ended}

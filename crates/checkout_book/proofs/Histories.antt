@@ -20,7 +20,7 @@ use Rattle.checkout_core.specs.Steps.{replay}
 use Rattle.checkout_core.specs.Actors.{actor_of, is_actor, own_entries, is_step, is_claim, is_ready, ready_at}
 use Rattle.checkout_core.specs.Actors.{AlikeClaims}
 use Rattle.checkout_core.specs.Hands.{is_held, held_at, Holds}
-use Rattle.core_laws.specs.Moves.{is_noted}
+use Rattle.checkout_core.specs.Notes.{is_noted}
 use Rattle.checkout_book.specs.declared.plan.Plan.{Plan}
 use Rattle.checkout_book.specs.declared.plan.Entry.{Entry}
 use Rattle.checkout_book.specs.declared.shelf.Slot.{Slot}

@@ -22,7 +22,8 @@ use Rattle.checkout_core.specs.Closes.{closes}
 use Rattle.checkout_core.specs.States.{Core, start, is_closed, with_state}
 use Rattle.checkout_core.specs.Steps.{step_of}
 use Rattle.checkout_core.specs.Actors.{actor_of, is_step}
-use Rattle.core_laws.specs.Moves.{Moved, RowStays, StaysOr, is_with_driver, is_noted}
+use Rattle.core_laws.specs.Moves.{Moved, RowStays, StaysOr, is_with_driver}
+use Rattle.checkout_core.specs.Notes.{is_noted}
 use Rattle.checkout_book.specs.declared.plan.Plan.{Plan}
 use Rattle.checkout_book.specs.declared.shelf.Slot.{Slot}
 use Rattle.checkout_book.specs.declared.shelf.Slot.TheVariants.{Away, Waits, Ended}

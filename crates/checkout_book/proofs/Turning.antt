@@ -18,7 +18,8 @@ use Rattle.checkout_core.specs.declared.event.Event.TheVariants.{Claim, Close, H
 use Rattle.checkout_core.specs.States.{Core, AreBelow, with_state}
 use Rattle.checkout_core.specs.Actors.{actor_of}
 use Rattle.checkout_core.specs.Hands.{is_held, held_at, Holds}
-use Rattle.core_laws.specs.Moves.{Moved, RowStays, StaysOr, is_with_driver, is_noted}
+use Rattle.core_laws.specs.Moves.{Moved, RowStays, StaysOr, is_with_driver}
+use Rattle.checkout_core.specs.Notes.{is_noted}
 use Rattle.checkout_book.specs.declared.plan.Plan.{Plan}
 use Rattle.checkout_book.specs.declared.plan.Entry.{Entry}
 use Rattle.checkout_book.specs.declared.shelf.Slot.{Slot}

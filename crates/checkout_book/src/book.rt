@@ -4,7 +4,7 @@ ghost use Rattle.turn_lock.specs.Seat.{number_of};
 ghost use Rattle.checkout_core.specs.States.{Core};
 ghost use Rattle.checkout_core.specs.Actors.{actor_of, is_step};
 ghost use Rattle.checkout_core.specs.declared.event.Event.TheVariants.{Close, HandBack};
-ghost use Rattle.core_laws.specs.Moves.{is_noted};
+ghost use Rattle.checkout_core.specs.Notes.{is_noted};
 ghost use Rattle.checkout_book.specs.declared.plan.Plan.{Plan};
 ghost use Rattle.checkout_book.specs.Sights.{sight, tell};
 ghost use Rattle.checkout_book.specs.Shelves.{cards_of, IsOut, IsRefused};

@@ -3,7 +3,7 @@ ghost use Rattle.std.specs.Prelude.{◌≡◌, ◌<◌, ◌+◌, ℕ, true, Some
 ghost use Rattle.checkout_core.specs.Actors.{actor_of, is_step};
 ghost use Rattle.checkout_core.specs.Steps.{step_of};
 ghost use Rattle.checkout_core.specs.declared.event.Event.TheVariants.{Claim, Close, HandBack};
-ghost use Rattle.core_laws.specs.Moves.{is_noted};
+ghost use Rattle.checkout_core.specs.Notes.{is_noted};
 ghost use Rattle.checkout_book.specs.declared.shelf.Slot.TheVariants.{Waits, Ended};
 ghost use Rattle.checkout_book.specs.Shelves.{IsSound, HasRoom, IsFrom, IsRefused, plan_of, cards_of, waits};
 ghost use Rattle.checkout_book.specs.Turns.{Turned, Claimed, Unclaimed, Noted};

@@ -40,7 +40,8 @@ use Rattle.checkout_core.proofs.Basics.{other_number}
 use Rattle.checkout_core.proofs.Basics.{start_after}
 use Rattle.checkout_core.proofs.Inverses.{claim_is, close_moves, back_is, redo_is, open_is, unasked_is, late_is}
 use Rattle.core_laws.proofs.OwnViews.{get_after}
-use Rattle.core_laws.specs.Moves.{Moved, is_with_driver, is_noted, StaysOr, RowStays}
+use Rattle.core_laws.specs.Moves.{Moved, is_with_driver, StaysOr, RowStays}
+use Rattle.checkout_core.specs.Notes.{is_noted}
 
 module _ {A : Type 0} where
   each_same : (f : ℕ → A → A) (xs : List A) → ((i : ℕ) (x : A) → f i x ≡ x) → each f xs ≡ xs

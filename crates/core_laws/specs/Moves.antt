@@ -4,8 +4,6 @@ use Rattle.checkout_core.specs.declared.path.Path.{Path}
 use Rattle.checkout_core.specs.declared.path.PathState.{PathState}
 use Rattle.checkout_core.specs.declared.path.PathState.TheVariants as path
 use Rattle.checkout_core.specs.declared.path.PathState.TheVariants.{Unasked}
-use Rattle.checkout_core.specs.declared.event.Event.{Event}
-use Rattle.checkout_core.specs.declared.event.Event.TheVariants.{Claim, Close, HandBack}
 use Rattle.checkout_core.specs.States.{Core, with_state}
 
 -- one path went from the one state to the other, and nothing else changed
@@ -22,13 +20,6 @@ is_with_driver path.Delayed = true
 is_with_driver (path.Named t) = true
 is_with_driver (path.Heard h) = true
 is_with_driver s = false
-
--- what a desk notes of the talk with its driver
-abbrev pub is_noted : Event → Bool
-is_noted (Claim p a) = false
-is_noted (Close p a o) = false
-is_noted (HandBack p) = false
-is_noted e = true
 
 -- a path stays as it is, or it was and is with its driver
 abbrev pub StaysOr : PathState → PathState → Type 0

@@ -7,7 +7,8 @@ use Rattle.driver_desk.specs.Noting.{IsNotes}
 use Rattle.driver_desk.specs.On.{Grows, late_paths}
 use Rattle.driver_desk.specs.Places.{InRoundsAt}
 use Rattle.driver_desk.specs.Recorders.{RecorderSeen}
-use Rattle.driver_desk.specs.Rounds.{AreApart, AreReady, FitLabels, IsNext, RoundsBy}
+use Rattle.driver_desk.specs.Rounds.{AreReady, FitLabels, IsNext, RoundsBy}
+use Rattle.driver_line.specs.SameHeard.{AreApart}
 use Rattle.driver_desk.specs.Serving.{Given}
 
 module _ {S K B L F : Type 0} where

@@ -20,7 +20,7 @@ use Rattle.checkout_book.specs.Shelves.{cards_of, joined}
 use Rattle.checkout_book.specs.Reserving as book
 use Rattle.checkout_book.specs.Reserving.{AreDealt, AreIdle, AreFresh}
 use Rattle.driver_desk.specs.Desks.{DeskView}
-use Rattle.driver_desk.specs.Rounds.{AreApart}
+use Rattle.driver_line.specs.SameHeard.{AreApart}
 use Rattle.driver_desk.specs.Works.{AreNew, card_paths, card_texts}
 use Rattle.writer_pool.specs.declared.pooled.DeskSeed.{DeskSeed}
 use Rattle.writer_pool.specs.declared.desks.DeskHead.{DeskHead}

@@ -24,7 +24,7 @@ use Rattle.checkout_book.specs.declared.plan.Entry.{Entry}
 use Rattle.checkout_book.specs.Sights.{Sight, seen, tell}
 use Rattle.checkout_book.specs.Shelves.{cards_of, IsOut}
 use Rattle.checkout_book.specs.Passes.{Claims, Closes, TookNone, TookCard, Keeps, claim_entry, close_entry}
-use Rattle.driver_desk.specs.Rounds.{AreApart}
+use Rattle.driver_line.specs.SameHeard.{AreApart}
 use Rattle.writer_pool.specs.declared.hand.Hand.{Hand}
 use Rattle.writer_pool.specs.declared.held.Held.{Held}
 use Rattle.writer_pool.specs.declared.writing.Written.{Written}

@@ -25,4 +25,3 @@ pub mod DeskTalks
 pub mod Backs
 pub mod Tied
 pub mod Pooling
-pub mod ReadCards

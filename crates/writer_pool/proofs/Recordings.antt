@@ -20,7 +20,7 @@ use Rattle.checkout_core.specs.Hands.{held_at}
 use Rattle.checkout_core.specs.Steps.{IsLegal}
 use Rattle.checkout_core.specs.Actors.{actor_of, own_entries, is_claim, is_step, driver_in, driver_at, seat, own_driver}
 use Rattle.checkout_core.specs.Desks.{MayNext, paths_of}
-use Rattle.core_laws.specs.Moves.{is_noted}
+use Rattle.checkout_core.specs.Notes.{is_noted}
 use Rattle.checkout_book.specs.declared.plan.Plan.{Plan}
 use Rattle.checkout_book.specs.declared.plan.Parts.{Parts}
 use Rattle.checkout_book.specs.declared.plan.Entry.{Entry}

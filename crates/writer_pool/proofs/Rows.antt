@@ -16,7 +16,8 @@ use Rattle.checkout_core.specs.Steps.{step_of, replay, IsLegal}
 use Rattle.checkout_core.specs.Actors.{own_driver}
 use Rattle.checkout_core.specs.Desks.{paths_of, is_left}
 use Rattle.checkout_core.specs.Talks.{contains}
-use Rattle.core_laws.specs.Moves.{Moved, RowStays, is_with_driver, is_noted}
+use Rattle.core_laws.specs.Moves.{Moved, RowStays, is_with_driver}
+use Rattle.checkout_core.specs.Notes.{is_noted}
 use Rattle.writer_pool.specs.Closing.{IsFromBook}
 use Rattle.writer_pool.specs.Ends.{NoneWithDriver}
 use Rattle.writer_pool.proofs.Places.{some_is, same_or, eqb_self}

@@ -10,7 +10,7 @@ use Rattle.checkout_book.specs.declared.plan.Plan.{Plan}
 use Rattle.checkout_book.specs.declared.plan.Entry.{Entry}
 use Rattle.checkout_book.specs.Sights.{Sight, seen}
 use Rattle.driver_desk.specs.Desks.{DeskView}
-use Rattle.driver_desk.specs.Rounds.{AreApart}
+use Rattle.driver_line.specs.SameHeard.{AreApart}
 use Rattle.driver_desk.specs.Works.{AreNew, card_paths, card_texts}
 use Rattle.writer_pool.specs.declared.pooled.DeskSeed.{DeskSeed}
 use Rattle.writer_pool.specs.declared.desks.DeskHead.{DeskHead}

@@ -25,7 +25,7 @@ use Rattle.checkout_book.specs.Passes.{IsPass}
 use Rattle.checkout_book.specs.Reserving.{AreNew}
 use Rattle.checkout_book.specs.Turns.{NoneWaits}
 use Rattle.driver_desk.specs.Cards.{KeepsCard}
-use Rattle.driver_desk.specs.Rounds.{AreApart}
+use Rattle.driver_line.specs.SameHeard.{AreApart}
 use Rattle.writer_pool.specs.declared.held.Held.{Held}
 use Rattle.writer_pool.specs.declared.hand.Hand.{Hand}
 use Rattle.writer_pool.specs.Fours.{items}

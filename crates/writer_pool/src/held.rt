@@ -6,9 +6,9 @@ ghost use Rattle.checkout_book.specs.Sights.{sight};
 ghost use Rattle.writer_pool.specs.Holding.{HoldsCard, SameHeld, IsToBeWritten, IsWrittenSo, stored_in_held};
 
 use crate::leaf::write_leaf;
-use crate::reading::prepared_from;
 use crate::writing::{Written, write_card};
 use convert_plan::Card;
+use driver_desk::prepared_from;
 use edge_kit::{Blob, Leaf};
 use object_dir::{Taken, take_blob};
 use std::alloc::Global;

@@ -17,7 +17,6 @@ mod leaf;
 mod on_book;
 mod path_ends;
 mod pooled;
-mod reading;
 mod run;
 mod workers;
 mod writing;

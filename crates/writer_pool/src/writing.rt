@@ -5,9 +5,9 @@ ghost use Rattle.checkout_core.specs.Desks.{was_read};
 ghost use Rattle.writer_pool.specs.Writing.{IsToWrite, WritesCard};
 
 use crate::leaf::write_leaf;
-use crate::reading::read_card;
 use checkout_core::Own;
 use convert_plan::Card;
+use driver_desk::read_card;
 use edge_kit::{Blob, Leaf};
 use std::alloc::Global;
 

@@ -2,8 +2,8 @@ use Rattle.std.proofs.Common.{ℕ, Result, subst}
 use Rattle.std.specs.Global.{Vec}
 use Rattle.object_dir.specs.Object.{IsObject, AfterRead}
 use Rattle.object_dir.specs.declared.fault.ObjectFault.{ObjectFault}
-use Rattle.writer_pool.proofs.ReadCards.{read_done, count_done, read_fault, count_fault}
-use Rattle.writer_pool.proofs.reading.prepared_from.Goals as goal
+use Rattle.driver_desk.proofs.ReadCards.{read_done, count_done, read_fault, count_fault}
+use Rattle.driver_desk.proofs.reading.prepared_from.Goals as goal
 
 pub returns-in-Ok-clause-read : goal.returns-in-Ok-clause-read
 returns-in-Ok-clause-read g c seen object conversion is =
