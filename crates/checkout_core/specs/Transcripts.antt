@@ -15,10 +15,10 @@ use Rattle.checkout_core.specs.Conditions.{is_delay, is_good_reply, is_good_open
 use Rattle.checkout_core.specs.Talks.{contains, without, is_empty}
 
 -- a request and its answer: the first for a path, one for a list of delayed paths, the second for a path
-pub data Exchange : Type 0 where
-  First : (path : ℕ) → (reply : Reply) → Exchange
-  Listing : (names : List ℕ) → (reply : ListReply) → Exchange
-  Second : (path : ℕ) → (reply : Reply) → Exchange
+pub data NotedExchange : Type 0 where
+  First : (path : ℕ) → (reply : Reply) → NotedExchange
+  Listing : (names : List ℕ) → (reply : ListReply) → NotedExchange
+  Second : (path : ℕ) → (reply : Reply) → NotedExchange
 
 -- how a session ended
 pub data End : Type 0 where
@@ -31,7 +31,7 @@ pub data End : Type 0 where
 -- a start or a handshake for the path that gave no session, or a session
 pub data Item : Type 0 where
   NoSession : (path : ℕ) → (why : OpenCause) → Item
-  Session : (caps : Caps) → (exchanges : List Exchange) → (end : End) → Item
+  Session : (caps : Caps) → (exchanges : List NotedExchange) → (end : End) → Item
 
 -- an answer that ends its session
 abbrev pub reply_end : Reply → Option End
@@ -71,7 +71,7 @@ IsList late names list.NoMemory = names ≡ []
 
 -- Rounds: a list, and a second request for each listed path in the list's order. They go on until an empty list, an
 -- abort, a break or out of memory.
-abbrev pub Rounds : List ℕ → List ℕ → List Exchange → End → Type 0
+abbrev pub Rounds : List ℕ → List ℕ → List NotedExchange → End → Type 0
 Rounds late turns [] end = ⊥
 Rounds late [] (First q y ∷ es) end = ⊥
 Rounds late [] (Listing names y ∷ es) end =
@@ -93,7 +93,7 @@ late_after _ p late = late
 
 -- First requests for the paths in order, until a reply ends the session or no path is left. `left` are the paths that
 -- weren't asked for. If none was delayed the session is shut, or else there are rounds.
-abbrev pub Asks : Bool → List ℕ → List ℕ → List Exchange → End → List ℕ → Type 0
+abbrev pub Asks : Bool → List ℕ → List ℕ → List NotedExchange → End → List ℕ → Type 0
 Asks delay [] [] es end left = (es ≡ []) × (end ≡ Shut) × (left ≡ [])
 Asks delay [] (q ∷ late) es end left = Rounds (q ∷ late) [] es end × (left ≡ [])
 Asks delay (p ∷ rest) late [] end left = ⊥
@@ -104,7 +104,7 @@ Asks delay (p ∷ rest) late (First q y ∷ es) end left =
     × GoesOn (reply_end y) end ((es ≡ []) × (left ≡ rest)) (Asks delay rest (late_after y p late) es end left)
 
 -- a session without smudge refuses all paths, and is shut
-abbrev pub IsSession : Bool → Bool → List ℕ → List Exchange → End → List ℕ → Type 0
+abbrev pub IsSession : Bool → Bool → List ℕ → List NotedExchange → End → List ℕ → Type 0
 IsSession true delay paths es end left = Asks delay paths [] es end left
 IsSession false delay paths es end left = (es ≡ []) × (end ≡ Shut) × (left ≡ [])
 
@@ -127,12 +127,12 @@ IsTalk (p ∷ rest) (Session caps es end ∷ items) =
     × Then end (IsTalk left items) (items ≡ [])
 
 -- each exchange with the driver d as events: a list with names gives each name in order and then its end
-abbrev pub exchange_notes : ℕ → Exchange → List Event
+abbrev pub exchange_notes : ℕ → NotedExchange → List Event
 exchange_notes d (First q y) = event.Answered q y ∷ []
 exchange_notes d (Listing names y) = map event.Named names ++ event.Listed d y ∷ []
 exchange_notes d (Second q y) = event.Redone q y ∷ []
 
-abbrev pub exchanges_notes : ℕ → List Exchange → List Event
+abbrev pub exchanges_notes : ℕ → List NotedExchange → List Event
 exchanges_notes d [] = []
 exchanges_notes d (e ∷ es) = exchange_notes d e ++ exchanges_notes d es
 

@@ -13,7 +13,7 @@ use Rattle.checkout_core.specs.declared.event.Event.TheVariants as ev
 use Rattle.checkout_core.specs.Conditions.{is_good_opening, is_good_reply, is_delay}
 use Rattle.checkout_core.specs.Talks.{Round, Talk, Between, Refusing, InRound, Ended, talk_step, talk_run, IsOver}
 use Rattle.checkout_core.specs.Talks.{opened, answered, redone, contains, without, is_empty}
-use Rattle.checkout_core.specs.Transcripts.{Exchange, First, Listing, Second, End, Shut, NothingLeft, Aborted, Broke}
+use Rattle.checkout_core.specs.Transcripts.{NotedExchange, First, Listing, Second, End, Shut, NothingLeft, Aborted, Broke}
 use Rattle.checkout_core.specs.Transcripts.{OutOfMemory, Item, NoSession, Session, reply_end, list_reply_end, GoesOn}
 use Rattle.checkout_core.specs.Transcripts.{IsList, are_late, minus, Rounds, may_reply, late_after, Asks, IsSession}
 use Rattle.checkout_core.specs.Transcripts.{Then, IsTalk, exchanges_notes, end_notes, notes_of}
@@ -57,16 +57,16 @@ stands (Broke why) left = Between left
 stands OutOfMemory left = Between left
 
 -- the notes of a session's exchanges from here on, and those after them
-abbrev pub said : ℕ → List Exchange → End → List Event → List Event
+abbrev pub said : ℕ → List NotedExchange → End → List Event → List Event
 said d es end more = exchanges_notes d es ++ (end_notes d end ++ more)
 
 -- after the last exchange
-last : (d : ℕ) (es : List Exchange) (end made : End) (left : List ℕ) (more : List Event) (t : Talk) → es ≡ []
+last : (d : ℕ) (es : List NotedExchange) (end made : End) (left : List ℕ) (more : List Event) (t : Talk) → es ≡ []
     → end ≡ made
     → talk_run d t (end_notes d made ++ more) ≡ talk_run d (stands made left) more
     → talk_run d t (said d es end more) ≡ talk_run d (stands end left) more
 last d es end made left more t none is h =
-    ap (λ (xs : List Exchange). talk_run d t (said d xs end more)) none
+    ap (λ (xs : List NotedExchange). talk_run d t (said d xs end more)) none
     ∙ (ap (λ (e : End). talk_run d t (end_notes d e ++ more)) is
     ∙ (h ∙ ap (λ (e : End). talk_run d (stands e left) more) (sym is)))
 
@@ -123,7 +123,7 @@ list_run d delay late (q ∷ names) n more h =
     (same_path n (length (q ∷ names)) h.1))))
 
 -- a list that is the last, after which the talk stands at u
-last_list : (d : ℕ) (delay : Bool) (late names : List ℕ) (y : ListReply) (u : Talk) (es : List Exchange)
+last_list : (d : ℕ) (delay : Bool) (late names : List ℕ) (y : ListReply) (u : Talk) (es : List NotedExchange)
     (end made : End) (more : List Event)
     → names ≡ [] → talk_step d (talk_of (Again delay late [])) (ev.Listed d y) ≡ Some u → end ≡ made → es ≡ []
     → talk_run d u (end_notes d made ++ more) ≡ talk_run d (stands made []) more
@@ -134,7 +134,7 @@ last_list d delay late names y u es end made more none step is over h =
     ∙ (run_step d (talk_of (Again delay late [])) u (ev.Listed d y) (said d es end more) step
     ∙ last d es end made [] more u over is h)
 
-second_goes : (d : ℕ) (delay : Bool) (late turns : List ℕ) (y : Reply) (es : List Exchange) (end : End)
+second_goes : (d : ℕ) (delay : Bool) (late turns : List ℕ) (y : Reply) (es : List NotedExchange) (end : End)
     (more : List Event)
     → GoesOn (reply_end y) end (es ≡ []) (Rounds late turns es end)
     → (Rounds late turns es end → talk_run d (talk_of (Again delay late turns)) (said d es end more) ≡ talk_run d
@@ -162,7 +162,7 @@ second_step d delay late turns p q y same no_delay good =
     (and_from (q == p) (not (is_delay y) && is_good_reply y) (same_path q p same)
     (and_from (not (is_delay y)) (is_good_reply y) (ap not no_delay) good))
 
-list_goes : (d : ℕ) (delay : Bool) (late names : List ℕ) (y : ListReply) (es : List Exchange) (end : End)
+list_goes : (d : ℕ) (delay : Bool) (late names : List ℕ) (y : ListReply) (es : List NotedExchange) (end : End)
     (more : List Event)
     → IsList late names y → GoesOn (list_reply_end y) end (es ≡ []) (Rounds (minus names late) names es end)
     → (Rounds (minus names late) names es end → talk_run d (talk_of (Again delay (minus names late) names))
@@ -186,7 +186,7 @@ list_goes d delay late names list.NoMemory es end more is g ih =
     last_list d delay late names list.NoMemory (Between []) es end OutOfMemory more is
     (of_driver d (Some (Between [])) (Between []) refl) g.0 g.1 refl
 
-rounds_run : (d : ℕ) (delay : Bool) (late turns : List ℕ) (es : List Exchange) (end : End) (more : List Event)
+rounds_run : (d : ℕ) (delay : Bool) (late turns : List ℕ) (es : List NotedExchange) (end : End) (more : List Event)
     → Rounds late turns es end
     → talk_run d (talk_of (Again delay late turns)) (said d es end more) ≡ talk_run d (stands end []) more
 rounds_run d delay late [] [] end more h = absurd h
@@ -203,7 +203,7 @@ rounds_run d delay late (p ∷ turns) (Second q y ∷ es) end more h =
     (second_step d delay late turns p q y h.0 h.1 h.2)
     ∙ second_goes d delay late turns y es end more h.3 (λ g. rounds_run d delay late turns es end more g) h.1
 
-first_goes : (d : ℕ) (delay : Bool) (p : ℕ) (rest late : List ℕ) (y : Reply) (es : List Exchange) (end : End)
+first_goes : (d : ℕ) (delay : Bool) (p : ℕ) (rest late : List ℕ) (y : Reply) (es : List NotedExchange) (end : End)
     (left : List ℕ) (more : List Event)
     → GoesOn (reply_end y) end ((es ≡ []) × (left ≡ rest)) (Asks delay rest (late_after y p late) es end left)
     → (Asks delay rest (late_after y p late) es end left → talk_run d
@@ -222,7 +222,7 @@ first_goes d delay p rest late reply.NoMemory es end left more g ih =
     last d es end OutOfMemory left more (Between rest) g.1.0 g.0
     (ap (λ (z : List ℕ). talk_run d (Between z) more) (sym g.1.1))
 
-asks_run : (d : ℕ) (delay : Bool) (rest late : List ℕ) (es : List Exchange) (end : End) (left : List ℕ)
+asks_run : (d : ℕ) (delay : Bool) (rest late : List ℕ) (es : List NotedExchange) (end : End) (left : List ℕ)
     (more : List Event)
     → Asks delay rest late es end left
     → talk_run d (talk_of (Asking delay rest late)) (said d es end more) ≡ talk_run d (stands end left) more
@@ -242,7 +242,7 @@ asks_run d delay (p ∷ rest) late (First q y ∷ es) end left more h =
     ∙ first_goes d delay p rest late y es end left more h.2 (λ g.
     asks_run d delay rest (late_after y p late) es end left more g)
 
-session_run : (d : ℕ) (smudge delay : Bool) (paths : List ℕ) (es : List Exchange) (end : End) (left : List ℕ)
+session_run : (d : ℕ) (smudge delay : Bool) (paths : List ℕ) (es : List NotedExchange) (end : End) (left : List ℕ)
     (more : List Event)
     → IsSession smudge delay paths es end left
     → talk_run d (cond smudge (talk_of (Asking delay paths [])) Refusing) (said d es end more) ≡ talk_run d

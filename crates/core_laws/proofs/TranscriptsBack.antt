@@ -14,7 +14,7 @@ use Rattle.checkout_core.specs.declared.event.Event.TheVariants as ev
 use Rattle.checkout_core.specs.Conditions.{is_good_opening, is_good_reply, is_delay}
 use Rattle.checkout_core.specs.Talks.{Talk, Between, Refusing, InRound, Ended, talk_next, talk_run, is_with, IsOver}
 use Rattle.checkout_core.specs.Talks.{opened, answered, redone, contains, without, is_empty}
-use Rattle.checkout_core.specs.Transcripts.{Exchange, First, Listing, Second, End, Shut, NothingLeft, Aborted, Broke}
+use Rattle.checkout_core.specs.Transcripts.{NotedExchange, First, Listing, Second, End, Shut, NothingLeft, Aborted, Broke}
 use Rattle.checkout_core.specs.Transcripts.{OutOfMemory, Item, NoSession, Session, are_late, minus, Rounds, may_reply}
 use Rattle.checkout_core.specs.Transcripts.{reply_end, GoesOn, late_after}
 use Rattle.checkout_core.specs.Transcripts.{Asks, IsSession, Then, IsTalk, exchanges_notes, end_notes, notes_of}
@@ -27,14 +27,14 @@ abbrev From : ℕ → Phase → List Event → Type 0
 From d (Before paths) ns = (items : List Item) × IsTalk paths items × (notes_of d items ≡ ns)
 From d Refuses ns = ns ≡ ev.Shut d ∷ []
 From d (Asking delay rest late) ns =
-    (es : List Exchange) × (end : End) × (left : List ℕ) × (items : List Item)
+    (es : List NotedExchange) × (end : End) × (left : List ℕ) × (items : List Item)
     × Asks delay rest late es end left × Then end (IsTalk left items) (items ≡ [])
     × (said d es end (notes_of d items) ≡ ns)
 From d (Again delay late turns) ns =
-    (es : List Exchange) × (end : End) × (items : List Item)
+    (es : List NotedExchange) × (end : End) × (items : List Item)
     × Rounds late turns es end × Then end (IsTalk [] items) (items ≡ []) × (said d es end (notes_of d items) ≡ ns)
 From d (Noting delay late turns) ns =
-    (names : List ℕ) × (es : List Exchange) × (end : End) × (items : List Item)
+    (names : List ℕ) × (es : List NotedExchange) × (end : End) × (items : List Item)
     × (are_late names late ≡ true) × Rounds (minus names late) (turns ++ names) es end
     × Then end (IsTalk [] items) (items ≡ [])
     × (map ev.Named names ++ (ev.Listed d (list.Names (length (turns ++ names))) ∷ said d es end (notes_of d items))

@@ -7,7 +7,7 @@ use Rattle.std.proofs.lemmas.Bool.{and_parts}
 use Rattle.std.proofs.lemmas.Grind.{common_steps}
 use Rattle.std.proofs.lemmas.List.Sums.{sum_by-cons}
 use Rattle.rehearsal.specs.Paths.{kind, line_count, line_of, lines, ident_line, content}
-use Rattle.rehearsal.specs.Blocks.{is_written, is_unfiltered, is_failed, sized, file_size, BlocksAreAlike}
+use Rattle.rehearsal.specs.Blocks.{path_is_written, path_is_unfiltered, path_is_failed, sized, file_size, BlocksAreAlike}
 
 -- the sum over n numbers from a on
 abbrev total : (ℕ → ℕ) → ℕ → ℕ → ℕ
@@ -85,13 +85,13 @@ counted f wanted right seed first =
     ∙ is_equal (total (by_kind f (seed % 8)) 0 200) wanted
     (passes (λ s. total (by_kind f s) 0 200 == wanted) 8 right (seed % 8) (below_eight seed))
 
-written_counts : (seed first : ℕ) → count_by (is_written seed) (range_with_len first 200) ≡ 170
+written_counts : (seed first : ℕ) → count_by (path_is_written seed) (range_with_len first 200) ≡ 170
 written_counts = counted (λ k rest. cond (not ((k == 7) || ((k == 5) && (rest == 0)))) 1 0) 170 refl
 
-unfiltered_counts : (seed first : ℕ) → count_by (is_unfiltered seed) (range_with_len first 200) ≡ 25
+unfiltered_counts : (seed first : ℕ) → count_by (path_is_unfiltered seed) (range_with_len first 200) ≡ 25
 unfiltered_counts = counted (λ k rest. cond (k == 7) 1 0) 25 refl
 
-failed_counts : (seed first : ℕ) → count_by (is_failed seed) (range_with_len first 200) ≡ 5
+failed_counts : (seed first : ℕ) → count_by (path_is_failed seed) (range_with_len first 200) ≡ 5
 failed_counts = counted (λ k rest. cond ((k == 5) && (rest == 0)) 1 0) 5 refl
 
 -- the bytes of so many lines

@@ -6,16 +6,16 @@ use Rattle.rehearsal.specs.Paths.{kind, line_count, line_of, content}
 use Rattle.rehearsal.specs.Drivers.{is_delayed}
 
 -- `beta` answers `error` for the path, and isn't required: its file has the content as it is
-abbrev pub is_unfiltered : ℕ → ℕ → Bool
-is_unfiltered seed i = kind seed i == 7
+abbrev pub path_is_unfiltered : ℕ → ℕ → Bool
+path_is_unfiltered seed i = kind seed i == 7
 
 -- `alpha` delays the path and never gives it, and is required: it has no file
-abbrev pub is_failed : ℕ → ℕ → Bool
-is_failed seed i = is_delayed seed i && i % 5 == 0
+abbrev pub path_is_failed : ℕ → ℕ → Bool
+path_is_failed seed i = is_delayed seed i && i % 5 == 0
 
 -- each other path is written, converted or filtered
-abbrev pub is_written : ℕ → ℕ → Bool
-is_written seed i = not (is_unfiltered seed i || is_failed seed i)
+abbrev pub path_is_written : ℕ → ℕ → Bool
+path_is_written seed i = not (path_is_unfiltered seed i || path_is_failed seed i)
 
 -- how many bytes a file of this kind has, by the number of its lines `line` and of its content's bytes
 abbrev pub sized : ℕ → ℕ → ℕ → ℕ
@@ -34,13 +34,13 @@ sized k count bytes =
 -- the same for a path, which has none if it failed
 abbrev pub file_size : ℕ → ℕ → ℕ
 file_size seed i =
-    if is_failed seed i then 0 else sized (kind seed i) (line_count seed i) (length (content seed i))
+    if path_is_failed seed i then 0 else sized (kind seed i) (line_count seed i) (length (content seed i))
 
 -- this becomes of 200 paths
 pub record IsBlock (seed : ℕ) (numbers : List ℕ) : Type 0 where
-  pub written : count_by (is_written seed) numbers ≡ 170
-  pub unfiltered : count_by (is_unfiltered seed) numbers ≡ 25
-  pub failed : count_by (is_failed seed) numbers ≡ 5
+  pub written : count_by (path_is_written seed) numbers ≡ 170
+  pub unfiltered : count_by (path_is_unfiltered seed) numbers ≡ 25
+  pub failed : count_by (path_is_failed seed) numbers ≡ 5
 
 -- The same becomes of any 200 paths that follow one another. Their files have the same number of bytes if the seed is a
 -- multiple of 5. For another seed the failed paths have other lines.

@@ -23,7 +23,7 @@ use Rattle.checkout_engine.specs.Outcome.{Outcome, HasOutcome, HasDeskVerdict, f
 use Rattle.checkout_engine.specs.Talks.{DriverTalk, heard_at, Gave}
 use Rattle.rehearsal.specs.Paths.{kind, line_count, line_of, content}
 use Rattle.rehearsal.specs.Drivers.{is_given}
-use Rattle.rehearsal.specs.Blocks.{is_written, is_unfiltered, is_failed, sized, file_size}
+use Rattle.rehearsal.specs.Blocks.{path_is_written, path_is_unfiltered, path_is_failed, sized, file_size}
 use Rattle.rehearsal_numbers.specs.Plans.{paths_of, path_at, is_alpha, is_beta, beta_number}
 use Rattle.rehearsal_numbers.proofs.Apart.{is_equal}
 use Rattle.rehearsal_numbers.proofs.Sizes.{is_filtered, size_is}
@@ -56,7 +56,7 @@ ByKind k fifth count bytes o =
     EndsAs (not ((k == 7) || fails k fifth)) (k == 7) (fails k fifth) (if fails k fifth then 0 else sized k count bytes) o
 
 abbrev pub EndsSo : ℕ → ℕ → Outcome → Type 0
-EndsSo seed i o = EndsAs (is_written seed i) (is_unfiltered seed i) (is_failed seed i) (file_size seed i) o
+EndsSo seed i o = EndsAs (path_is_written seed i) (path_is_unfiltered seed i) (path_is_failed seed i) (file_size seed i) o
 
 -- its verdict and its file, if it is written
 was_written : (o : Outcome) (flag : Bool) (p : PathPlan) (bytes : List ℕ) (n : ℕ) → o.verdict ≡ verdict.Written flag

@@ -31,7 +31,7 @@ use Rattle.rehearsal.specs.Paths.{name, in_order}
 use Rattle.rehearsal.specs.Drivers.{scripts}
 use Rattle.rehearsal.specs.Repository.{attributes, attributes_name, file, entry_of}
 use Rattle.rehearsal.specs.Repository.{FilesHaveAnIndex, AttributesAreRight}
-use Rattle.rehearsal.specs.Blocks.{is_written, is_unfiltered, is_failed, file_size, BlocksAreAlike}
+use Rattle.rehearsal.specs.Blocks.{path_is_written, path_is_unfiltered, path_is_failed, file_size, BlocksAreAlike}
 use Rattle.rehearsal_numbers.specs.Plans.{paths_of, path_at, attributes_path, beta_number}
 use Rattle.rehearsal_numbers.specs.Lines.{counted, status_with, bytes_with, line, LinesAreRight, block_line, BlockLinesAreRight}
 use Rattle.rehearsal_numbers.proofs.Plans.{entries_at, apart}
@@ -56,9 +56,9 @@ bytes_more o os = by o.file
 
 -- what the outcomes of some numbers add up to
 pub record AddUp (seed : ℕ) (is : List ℕ) (os : List Outcome) : Type 0 where
-  pub written : count_by report.is_written (verdicts_of os) ≡ count_by (is_written seed) is
-  pub unfiltered : count_by report.is_unfiltered (verdicts_of os) ≡ count_by (is_unfiltered seed) is
-  pub failed : count_by report.is_failed (verdicts_of os) ≡ count_by (is_failed seed) is
+  pub written : count_by report.is_written (verdicts_of os) ≡ count_by (path_is_written seed) is
+  pub unfiltered : count_by report.is_unfiltered (verdicts_of os) ≡ count_by (path_is_unfiltered seed) is
+  pub failed : count_by report.is_failed (verdicts_of os) ≡ count_by (path_is_failed seed) is
   pub bytes : bytes_of (files_of os) ≡ sum_by (file_size seed) is
 
 one_more : {A B : Type 0} (p : A → Bool) (q : B → Bool) (x : A) (y : B) (xs : List A) (ys : List B) → p x ≡ q y
@@ -75,9 +75,9 @@ adds_up seed (i ∷ is) (o ∷ os) l each =
     let rest = adds_up seed is os (omega (arith, l)) (λ k j x a b. each (suc k) j x a b) in
     let one = each zero i o refl refl in
     record {
-      written = one_more report.is_written (is_written seed) o.verdict i (verdicts_of os) is one.written rest.written;
-      unfiltered = one_more report.is_unfiltered (is_unfiltered seed) o.verdict i (verdicts_of os) is one.unfiltered rest.unfiltered;
-      failed = one_more report.is_failed (is_failed seed) o.verdict i (verdicts_of os) is one.failed rest.failed;
+      written = one_more report.is_written (path_is_written seed) o.verdict i (verdicts_of os) is one.written rest.written;
+      unfiltered = one_more report.is_unfiltered (path_is_unfiltered seed) o.verdict i (verdicts_of os) is one.unfiltered rest.unfiltered;
+      failed = one_more report.is_failed (path_is_failed seed) o.verdict i (verdicts_of os) is one.failed rest.failed;
       bytes = bytes_more o os ∙ (λ j. one.bytes j + rest.bytes j) ∙ sym (sum_by-cons (file_size seed) i is);
     }
 
@@ -154,9 +154,9 @@ module _ (right : AttributesAreRight) (spells : SpellingSpells) (law : SameHeard
 
   -- the numbers of all outcomes
   pub record AllAddUp (os : List Outcome) : Type 0 where
-    pub written : count_by report.is_written (verdicts_of os) ≡ 1 + count_by (is_written seed) is
-    pub unfiltered : count_by report.is_unfiltered (verdicts_of os) ≡ count_by (is_unfiltered seed) is
-    pub failed : count_by report.is_failed (verdicts_of os) ≡ count_by (is_failed seed) is
+    pub written : count_by report.is_written (verdicts_of os) ≡ 1 + count_by (path_is_written seed) is
+    pub unfiltered : count_by report.is_unfiltered (verdicts_of os) ≡ count_by (path_is_unfiltered seed) is
+    pub failed : count_by report.is_failed (verdicts_of os) ≡ count_by (path_is_failed seed) is
     pub bytes : bytes_of (files_of os) ≡ 136 + sum_by (file_size seed) is
 
   pub all_add_up : (os : List Outcome) → IsRehearsal seed is told talks os history → AllAddUp os
@@ -166,8 +166,8 @@ module _ (right : AttributesAreRight) (spells : SpellingSpells) (law : SameHeard
       let size : length os ≡ length is =
       same_length told.object talks 1 (map (path_at (beta_number seed is) seed) is) os (g.fits).1 ∙ map_length (beta_number seed is) seed is in
       let rest = adds_up seed is os size (λ k i o a b. path_ends spells law one seed is told talks (x ∷ os) history g k i a o b) in
-      let zero_more : ◌≡◌ {A = ℕ} (0 + count_by (is_unfiltered seed) is) (count_by (is_unfiltered seed) is) = omega arith in
-      let zero_failed : ◌≡◌ {A = ℕ} (0 + count_by (is_failed seed) is) (count_by (is_failed seed) is) = omega arith in
+      let zero_more : ◌≡◌ {A = ℕ} (0 + count_by (path_is_unfiltered seed) is) (count_by (path_is_unfiltered seed) is) = omega arith in
+      let zero_failed : ◌≡◌ {A = ℕ} (0 + count_by (path_is_failed seed) is) (count_by (path_is_failed seed) is) = omega arith in
       record {
         written = count_more report.is_written x.verdict (verdicts_of os) ∙ (λ j. cond (head.written j) 1 0 + rest.written j);
         unfiltered = count_more report.is_unfiltered x.verdict (verdicts_of os) ∙ (λ j. cond (head.unfiltered j) 1 0 + rest.unfiltered j) ∙ zero_more;
@@ -182,8 +182,8 @@ words : ℕ → ℕ → ℕ → ℕ → ℕ → ℕ → List ℕ
 words paths s w u f b = first_words paths s w ++ last_words u f b
 
 line_is : (seed paths : ℕ) → line seed paths
-    ≡ words paths (status_with (counted (is_failed seed) paths)) (1 + counted (is_written seed) paths) (counted (is_unfiltered seed) paths)
-    (counted (is_failed seed) paths) (bytes_with seed paths)
+    ≡ words paths (status_with (counted (path_is_failed seed) paths)) (1 + counted (path_is_written seed) paths) (counted (path_is_unfiltered seed) paths)
+    (counted (path_is_failed seed) paths) (bytes_with seed paths)
 unfolding line words
 line_is seed paths = refl
 
@@ -227,13 +227,13 @@ lines_right indexed right reading spells law one seed paths text few x =
     let verdicts : (x.run).verdicts.items ≡ vs = (well.tried).verdicts_are in
     let trees : x.fs ≡ files_of c.outcomes =
     tells left.tree.files x.fs (files_of c.outcomes) (ap (λ (t : TreeSeen). t.files) (sym (well.tried).tree_is) ∙ x.has) c.files in
-    let failed : count_by report.is_failed vs ≡ counted (is_failed seed) paths = sums.failed ∙ any_order (is_failed seed) paths in
-    let state : number_of (status_of vs) ≡ status_with (counted (is_failed seed) paths) =
+    let failed : count_by report.is_failed vs ≡ counted (path_is_failed seed) paths = sums.failed ∙ any_order (path_is_failed seed) paths in
+    let state : number_of (status_of vs) ≡ status_with (counted (path_is_failed seed) paths) =
     status_is vs (well.undisturbed).memory ∙ ap status_with failed in
-    let written : count_by report.is_written vs ≡ 1 + counted (is_written seed) paths =
-    sums.written ∙ ap (λ (n : ℕ). 1 + n) (any_order (is_written seed) paths) in
-    let unfiltered : count_by report.is_unfiltered vs ≡ counted (is_unfiltered seed) paths =
-    sums.unfiltered ∙ any_order (is_unfiltered seed) paths in
+    let written : count_by report.is_written vs ≡ 1 + counted (path_is_written seed) paths =
+    sums.written ∙ ap (λ (n : ℕ). 1 + n) (any_order (path_is_written seed) paths) in
+    let unfiltered : count_by report.is_unfiltered vs ≡ counted (path_is_unfiltered seed) paths =
+    sums.unfiltered ∙ any_order (path_is_unfiltered seed) paths in
     let bytes : bytes_of (files_of c.outcomes) ≡ bytes_with seed paths =
     sums.bytes ∙ ap (λ (n : ℕ). 136 + n) (in_any_order (file_size seed) paths) in
     x.is ∙ (λ j. summary paths (verdicts j) (trees j)) ∙ summary_is paths vs (files_of c.outcomes)
@@ -272,16 +272,16 @@ module _ (f : ℕ → ℕ) where
       one ∙ in_two 0 (200 * blocks) 200 ∙ (λ j. in_blocks each same blocks j + same (0 + 200 * blocks) j) ∙ sym (one_block_more each blocks)
 
 counts_of : BlocksAreAlike → (seed blocks bytes : ℕ)
-    → words (200 * blocks) (status_with (counted (is_failed seed) (200 * blocks))) (1 + counted (is_written seed) (200 * blocks))
-    (counted (is_unfiltered seed) (200 * blocks)) (counted (is_failed seed) (200 * blocks)) bytes ≡ block_line blocks bytes
+    → words (200 * blocks) (status_with (counted (path_is_failed seed) (200 * blocks))) (1 + counted (path_is_written seed) (200 * blocks))
+    (counted (path_is_unfiltered seed) (200 * blocks)) (counted (path_is_failed seed) (200 * blocks)) bytes ≡ block_line blocks bytes
 unfolding words
 counts_of alike seed blocks bytes =
-    let failed : counted (is_failed seed) (200 * blocks) ≡ 5 * blocks =
-    in_blocks (λ i. cond (is_failed seed i) 1 0) 5 (λ first. (alike.counts seed first).failed) blocks in
-    let written : counted (is_written seed) (200 * blocks) ≡ 170 * blocks =
-    in_blocks (λ i. cond (is_written seed i) 1 0) 170 (λ first. (alike.counts seed first).written) blocks in
-    let unfiltered : counted (is_unfiltered seed) (200 * blocks) ≡ 25 * blocks =
-    in_blocks (λ i. cond (is_unfiltered seed i) 1 0) 25 (λ first. (alike.counts seed first).unfiltered) blocks in
+    let failed : counted (path_is_failed seed) (200 * blocks) ≡ 5 * blocks =
+    in_blocks (λ i. cond (path_is_failed seed i) 1 0) 5 (λ first. (alike.counts seed first).failed) blocks in
+    let written : counted (path_is_written seed) (200 * blocks) ≡ 170 * blocks =
+    in_blocks (λ i. cond (path_is_written seed i) 1 0) 170 (λ first. (alike.counts seed first).written) blocks in
+    let unfiltered : counted (path_is_unfiltered seed) (200 * blocks) ≡ 25 * blocks =
+    in_blocks (λ i. cond (path_is_unfiltered seed i) 1 0) 25 (λ first. (alike.counts seed first).unfiltered) blocks in
     λ j. first_words (200 * blocks) (status_with (failed j)) (1 + written j) ++ last_words (unfiltered j) (failed j) bytes
 
 pub block_lines_right : LinesAreRight → BlocksAreAlike → BlockLinesAreRight

@@ -2,7 +2,7 @@
 use Rattle.std.specs.Prelude.{◌≡◌, ◌≤◌, ◌+◌, ◌*◌, ◌%◌, ◌==◌, ℕ, Bool, List, ◌++◌, count_by, sum_by}
 use Rattle.std.specs.Prelude.{if◌then◌else◌}
 use Rattle.std.specs.List.{range_with_len}
-use Rattle.rehearsal.specs.Blocks.{is_written, is_unfiltered, is_failed, file_size}
+use Rattle.rehearsal.specs.Blocks.{path_is_written, path_is_unfiltered, path_is_failed, file_size}
 use Rattle.checkout_engine.specs.Rehearsed.{first_words, last_words, IsSummed}
 
 -- how many of the numbers below this one pass
@@ -20,8 +20,8 @@ bytes_with seed paths = 136 + sum_by (file_size seed) (range_with_len 0 paths)
 -- The line of so many paths. The attribute file is written too.
 unfoldable pub line : ℕ → ℕ → List ℕ
 line seed paths =
-    first_words paths (status_with (counted (is_failed seed) paths)) (1 + counted (is_written seed) paths)
-    ++ last_words (counted (is_unfiltered seed) paths) (counted (is_failed seed) paths) (bytes_with seed paths)
+    first_words paths (status_with (counted (path_is_failed seed) paths)) (1 + counted (path_is_written seed) paths)
+    ++ last_words (counted (path_is_unfiltered seed) paths) (counted (path_is_failed seed) paths) (bytes_with seed paths)
 
 -- What a rehearsal writes is that line.
 abbrev pub LinesAreRight : Type 0
