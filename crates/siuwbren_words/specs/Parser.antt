@@ -4,8 +4,8 @@ use Rattle.clap.specs.Words.{App, Kinds, Row, Rule, Shape, Text, fault_of, new_a
 use Rattle.clap.specs.Words.{subcommand_rows_of, with_rule, with_subcommand}
 use Rattle.clap.specs.declared.parser.matches.ArgMatches.{ArgMatches}
 use Rattle.clap.specs.declared.builder.action.ArgAction.TheVariants.{SetTrue}
-use Rattle.siuwbren_words.specs.declared.fault.WordFault.{WordFault}
-use Rattle.siuwbren_words.specs.declared.fault.WordFault.TheVariants.{Wish, Wrong, NoMemory}
+use Rattle.siuwbren_words.specs.declared.fault.UsageFault.{UsageFault}
+use Rattle.siuwbren_words.specs.declared.fault.UsageFault.TheVariants.{Wish, Wrong, NoMemory}
 
 -- an option with a value, and a flag, by its long name or by a letter
 abbrev pub option_rule : Text → Rule
@@ -90,7 +90,7 @@ abbrev pub command_in : App → List Text → Option (Text × List Row)
 command_in app words = unless_refused (fault_of app words) (subcommand_of app words)
 
 -- what a parse gives: that subcommand, or a text if there is none; or memory ran out
-abbrev pub Finds : Option (Text × List Row) → Result ArgMatches WordFault → Type 0
+abbrev pub Finds : Option (Text × List Row) → Result ArgMatches UsageFault → Type 0
 Finds found (Ok matches) = found ≡ subcommand_rows_of matches
 Finds found (Err (Wish text)) = found ≡ None
 Finds found (Err (Wrong text)) = found ≡ None
