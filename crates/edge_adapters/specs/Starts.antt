@@ -2,14 +2,14 @@
 use Rattle.std.specs.Prelude.{ℕ, List, [], ◌∷◌, ◌++◌, None}
 use Rattle.edge_kit.specs.Starters.{Had, Session, StartFailed}
 use Rattle.edge_kit.specs.MemoryDrivers.{waits}
-use Rattle.edge_adapters.specs.declared.process_starter.EndedSession.{EndedSession}
+use Rattle.edge_adapters.specs.declared.process_starter.PastSession.{PastSession}
 use Rattle.edge_adapters.specs.declared.process_starter.PastOutcome.{PastOutcome}
 use Rattle.edge_adapters.specs.declared.process_starter.PastOutcome.TheVariants as outcome
 use Rattle.edge_adapters.specs.declared.process_starter.PastStart.{PastStart}
 use Rattle.edge_adapters.specs.declared.process_starter.ReturnedDriver.{ReturnedDriver}
 
 -- a session, whose bytes aren't told
-abbrev pub session_of : EndedSession → Had
+abbrev pub session_of : PastSession → Had
 session_of s = Session (record { sent = None; taken = None; faults = s.faults; ends = s.ends; shut = s.shut })
 
 abbrev pub outcome_of : PastOutcome → Had

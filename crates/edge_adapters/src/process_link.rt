@@ -6,7 +6,7 @@ ghost use Rattle.edge_kit.specs.MemoryDrivers.{stage_of};
 ghost use Rattle.edge_adapters.specs.Starts.{session_of};
 
 use crate::front::keep_front;
-use crate::process_starter::Session;
+use crate::process_starter::PastSession;
 use crate::writing::{told, write_whole};
 use edge_kit::{Failed, Link, SendFault};
 use std::alloc::Global;
@@ -30,7 +30,7 @@ pub struct ProcessLink {
 /// A session that ended.
 #[derive(Drop)]
 pub struct EndedSession {
-    pub session: EndedSession,
+    pub session: PastSession,
     /// What the driver wrote first.
     pub front: Vec<u8>,
     /// The child, if it wasn't waited for. Both pipes are closed.
@@ -88,7 +88,7 @@ impl ProcessLink {
         } = self;
         child.stdin = None;
         child.stdout = None;
-        let session = EndedSession {
+        let session = PastSession {
             faults,
             ends,
             shut: input_shut && waited,

@@ -19,7 +19,7 @@ use std::sync::Arc;
 
 /// What is kept of a session.
 #[derive(Clone, Copy)]
-pub struct EndedSession {
+pub struct PastSession {
     pub faults: u64,
     pub ends: u64,
     pub shut: bool,
@@ -28,7 +28,7 @@ pub struct EndedSession {
 /// What came of a start that didn't run out of memory.
 #[derive(Clone, Copy)]
 pub enum PastOutcome {
-    Session(EndedSession),
+    Session(PastSession),
     Failed,
 }
 
