@@ -1,3 +1,4 @@
+pub mod LeafPlaces
 pub mod Paths
 pub mod Places
 pub mod Starts

@@ -43,7 +43,7 @@ impl WriteErrors {
 
     /// Counts the error of a path. After `reserve` it needs memory for the first path of an error alone, and does
     /// without.
-    pub fn add(&mut self, error: &io::Error, path: &Bytes) {
+    pub fn add(&mut self, error: &io::Error, path: &[u8]) {
         for count in self.counts.iter_mut() {
             if is_same(&count.error, error) {
                 count.paths = count.paths.saturating_add(1);
@@ -56,14 +56,14 @@ impl WriteErrors {
     }
 
     /// Keeps the error of its first path, if there is room.
-    fn keep(&mut self, error: &io::Error, path: &Bytes) -> bool {
+    fn keep(&mut self, error: &io::Error, path: &[u8]) -> bool {
         if self.counts.len() >= MOST {
             return false;
         }
         let count = ErrorCount {
             error: *error,
             paths: 1,
-            first: Bytes::copy_of(self.alloc, path.as_slice()).ok(),
+            first: Bytes::copy_of(self.alloc, path).ok(),
         };
         self.counts.push(count).is_ok()
     }

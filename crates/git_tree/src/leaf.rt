@@ -7,7 +7,7 @@ ghost use Rattle.edge_kit.specs.declared.leaf_state.LeafState.TheVariants.{Fresh
 
 use crate::kinds::{FileKind, Keeps, kind_of, mode_of};
 use byte_path::Bytes;
-use edge_adapters::{create_in_tree, empty_file, link_in_tree, remove_own};
+use edge_adapters::{LeafPlace, create_in_tree, empty_file, link_in_tree, remove_own};
 use edge_kit::{Failed, Leaf, LeafState, Mark, SendFault};
 use std::fs::{File, Permissions};
 use std::io;
@@ -26,11 +26,7 @@ const EARLY: u32 = 0o777;
 #[derive(Drop)]
 pub struct GitLeaf {
     rt: HostRuntime,
-    pub path: Bytes,
-    /// The path to open.
-    pub full: String,
-    // how many bytes of the path name the worktree's folder
-    top: usize,
+    pub place: LeafPlace,
     pub keeps: Keeps,
     /// What was put, until it is in the file.
     pub text: Vec<u8>,
@@ -45,10 +41,9 @@ pub struct GitLeaf {
 }
 
 impl GitLeaf {
-    /// A leaf for what will be at the path `full`, of which `top` bytes name the worktree's folder. It touches nothing.
-    pub fn new(rt: HostRuntime, path: Bytes, full: String, top: usize, keeps: Keeps) -> GitLeaf
-        ensures path { result.path ≡ path }
-        ensures full { result.full ≡ full }
+    /// A leaf for what will be at this place. It touches nothing.
+    pub fn new(rt: HostRuntime, place: LeafPlace, keeps: Keeps) -> GitLeaf
+        ensures place { result.place ≡ place }
         ensures keeps { result.keeps ≡ keeps }
         ensures empty { result.text.items ≡ [] }
         ensures unmade { result.file ≡ None }
@@ -57,9 +52,7 @@ impl GitLeaf {
     {
         GitLeaf {
             rt,
-            path,
-            full,
-            top,
+            place,
             keeps,
             text: Vec::new(rt.alloc()),
             file: None,
@@ -72,9 +65,9 @@ impl GitLeaf {
 
     /// Its path, its state and its count of faults. A file that is open is closed.
     pub fn ended(self) -> (Bytes, LeafState, u64)
-        ensures { result ≡ (self.path, self.state, self.faults) }
+        ensures { result ≡ (self.place.path, self.state, self.faults) }
     {
-        (self.path, self.state, self.faults)
+        (self.place.into_path(), self.state, self.faults)
     }
 
     /// Counts a fault that leaves the leaf in this state.
@@ -101,7 +94,7 @@ impl GitLeaf {
     {
         let mut file = match self.file.take() {
             Some(file) => file,
-            None => create_in_tree(self.rt, self.full.as_str(), self.top, mode)?,
+            None => create_in_tree(self.rt, self.place.full(), self.place.top(), mode)?,
         };
         let written = write_both(&mut file, self.text.as_slice(), piece);
         self.file = Some(file);
@@ -162,7 +155,7 @@ impl GitLeaf {
         ensures unmade { OnOk result (self.new.file ≡ None) }
     {
         match &self.file {
-            Some(file) => remove_own(self.rt, file, self.full.as_str())?,
+            Some(file) => remove_own(self.rt, file, self.place.full())?,
             None => {}
         }
         self.file = None;
@@ -178,7 +171,7 @@ impl GitLeaf {
         }
         self.remove()?;
         match str::from_utf8(self.text.as_slice()) {
-            Ok(text) => link_in_tree(self.rt, text, self.full.as_str(), self.top),
+            Ok(text) => link_in_tree(self.rt, text, self.place.full(), self.place.top()),
             Err(_) => Err(io::Error::from(ErrorKind::InvalidFilename)),
         }
     }
@@ -226,7 +219,7 @@ fn limit_mode(file: &File, mode: u32) -> io::Result<()> {
 }
 
 impl Leaf for GitLeaf {
-    ghost seen = { λ l. record { path = l.path; content = None; state = l.state; faults = l.faults } };
+    ghost seen = { λ l. record { path = l.place.path; content = None; state = l.state; faults = l.faults } };
 
     ghost fresh_content = { λ _ _. tt };
 

@@ -5,7 +5,7 @@ ghost use Rattle.edge_adapters.specs.Paths.{path_in};
 use crate::kinds::Keeps;
 use crate::leaf::GitLeaf;
 use byte_path::Bytes;
-use edge_adapters::{WriteErrors, holds_nothing, path_in};
+use edge_adapters::{LeafPlace, WriteErrors, holds_nothing};
 use edge_kit::{Failed, LeafState, Worktree};
 use std::alloc::{AllocError, Global};
 use std::io::ErrorKind;
@@ -52,16 +52,15 @@ impl GitTree {
 
     /// A leaf for the file with this path.
     fn file(&self, path: &str) -> Result<GitLeaf, AllocError>
-        ensures path { IfOk result (λ l. l.path ≡ path.now) }
+        ensures path { IfOk result (λ l. l.place.path ≡ path.now) }
         ensures full { IfOk result (λ l.
-            string_bytes l.full ≡ path_in (string_bytes self.now.folder) path.now) }
+            l.place.full ≡ path_in (string_bytes self.now.folder) path.now) }
         ensures keeps { IfOk result (λ l. l.keeps ≡ self.now.keeps) }
         ensures fresh { IfOk result (λ l. l.state ≡ Fresh) }
         ensures unfailed { IfOk result (λ l. l.faults ≡ 0) }
     {
-        let full = path_in(self.alloc, self.folder.as_str(), path)?;
-        let path = Bytes::copy_of(self.alloc, path.as_bytes())?;
-        Ok(GitLeaf::new(self.rt, path, full, self.folder.len(), self.keeps))
+        let place = LeafPlace::new(self.alloc, self.folder.as_str(), path)?;
+        Ok(GitLeaf::new(self.rt, place, self.keeps))
     }
 }
 
@@ -103,7 +102,7 @@ impl Worktree for GitTree {
 
     fn take_back(&mut self, leaf: GitLeaf) {
         if let Some(error) = &leaf.error {
-            self.errors.add(error, &leaf.path);
+            self.errors.add(error, leaf.place.path());
         }
         let _ = self.returned.push(leaf.ended());
         self.out -= 1;
