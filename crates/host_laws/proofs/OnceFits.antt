@@ -19,7 +19,7 @@ use Rattle.driver_host.specs.HostText.{Stage, Fresh, Greeted, Serving, Over, Owe
 use Rattle.driver_host.specs.Chosen.{Contents, AreChosen, IsChosen, IsSecond, contents_after, choice_of}
 use Rattle.one_shot.specs.Onces.{OnceTold, Ended, Failing, Untold, OnceTells}
 use Rattle.one_shot.specs.Starters.{smudge_alone}
-use Rattle.one_shot.specs.Works.{choice_told, work_told, most}
+use Rattle.one_shot.specs.Works.{choice_told, work_told, most_output}
 use Rattle.host_laws.specs.HostTalks.{AnswersFit}
 use Rattle.host_laws.proofs.OneParse.{total_both}
 use Rattle.host_laws.proofs.OnceSteps.{head_of, tail_of}
@@ -32,7 +32,7 @@ pieces_total (suc n) content =
     let both_are = length-append (take 65516 content) (drop 65516 content) in
     omega (arith, more, whole, both_are)
 
-content_total : (content : List ℕ) → length content ≤ most → total (content_packets content) ≤ 536040000
+content_total : (content : List ℕ) → length content ≤ most_output → total (content_packets content) ≤ 536040000
 content_total content le =
     let pieces = pieces_total (piece_count (length content)) content in
     omega (arith, pieces, le)
@@ -42,24 +42,24 @@ content_total content le =
 abbrev pub Fits : Choice → Type 0
 Fits c = total (choice_answer c) ≤ limit
 
-given_fits : (content : List ℕ) → length content ≤ most → Fits (choice.Give content)
+given_fits : (content : List ℕ) → length content ≤ most_output → Fits (choice.Give content)
 given_fits content le =
     let one = content_total content le in
     let two = total_both (content_packets content) (Flush ∷ Flush ∷ []) in
     omega (arith, one, two)
 
-if_fits : (b : Bool) (output : List ℕ) → (b ≡ true → length output ≤ most)
+if_fits : (b : Bool) (output : List ℕ) → (b ≡ true → length output ≤ most_output)
     → Fits (if b then choice.Give output else choice.Refuse)
 if_fits true output le = given_fits output (le refl)
 if_fits false output le = omega arith
 
-ended_long : (well : Bool) (output : List ℕ) → (well && nat_le (length output) most) ≡ true → length output ≤ most
+ended_long : (well : Bool) (output : List ℕ) → (well && nat_le (length output) most_output) ≡ true → length output ≤ most_output
 ended_long true output e = grind (arith, common_steps, e)
 ended_long false output e = absurd (cc e)
 
 told_fits : (t : OnceTold) (c : Choice) → (t ≡ Untold → ⊥) → Tells (choice_told t) c → Fits c
 told_fits (Ended output well) c some is =
-    subst Fits is (if_fits (well && nat_le (length output) most) output (ended_long well output))
+    subst Fits is (if_fits (well && nat_le (length output) most_output) output (ended_long well output))
 told_fits Failing c some is = subst Fits is (omega arith)
 told_fits Untold c some is = absurd (some refl)
 

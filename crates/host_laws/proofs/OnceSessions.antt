@@ -40,7 +40,7 @@ use Rattle.driver_host.specs.Answers.{choice_answer, reply_to, given}
 use Rattle.driver_host.specs.HostText.{HostEnd, after_choice, none_owed}
 use Rattle.one_shot.specs.Onces.{OnceTold, Ended, Failing, Untold, OnceTells}
 use Rattle.one_shot.specs.Starters.{smudge_alone}
-use Rattle.one_shot.specs.Works.{choice_told, work_told, most}
+use Rattle.one_shot.specs.Works.{choice_told, work_told, most_output}
 use Rattle.host_laws.specs.OnceTalks.{run_of, AreTold, once_request, HearsChoice, IsHeardOf}
 use Rattle.host_laws.proofs.Counts.{some_contains, some_here}
 use Rattle.host_laws.proofs.Good.{host_part, later_waits}
@@ -86,7 +86,7 @@ plain_if true output = tt
 plain_if false output = tt
 
 plain : (t : OnceTold) → (t ≡ Untold → ⊥) → IsPlain (choice_told t)
-plain (Ended output well) some = plain_if (well && nat_le (length output) most) output
+plain (Ended output well) some = plain_if (well && nat_le (length output) most_output) output
 plain Failing some = tt
 plain Untold some = absurd (some refl)
 

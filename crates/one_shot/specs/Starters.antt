@@ -57,11 +57,12 @@ abbrev pub out_below : {S M : Type 0} → (S → StarterSeen) → Source S M →
 out_below seen (source.Inner s) out = (seen s).out
 out_below seen (source.Single run) out = out
 
--- A host announces `smudge` alone, and what its work tells is the run of this command for each content. Its link keeps
--- what is sent and taken if this is so, and then it tells that.
+-- A host announces `smudge` alone and lists one path at most, and its work tells the run of this command for each
+-- content. Its link keeps what is sent and taken if this is so, and then it tells that.
 pub record IsRunOf {W : Type 0} (told : W → WorkTold) (tells : OnceTells) (keeps : Bool) (command : List ℕ)
     (l : LinkState W) : Type 0 where
   pub caps : l.host.talk.own ≡ smudge_alone
+  pub batch : l.host.talk.batch ≡ 1
   pub runs : told l.host.talk.work ≡ work_told tells command
   pub kept : l.keeps ≡ keeps
   pub telling : keeps ≡ true → l.tells ≡ true

@@ -10,13 +10,13 @@ use Rattle.one_shot.specs.Commands.{once_command}
 use Rattle.one_shot.specs.Onces.{OnceTold, Ended, Failing, Untold, OnceTells, TellsEnd, TellsLong, MayFail}
 
 -- how many bytes an output may have
-abbrev pub most : ℕ
-most = 536000000
+abbrev pub most_output : ℕ
+most_output = 536000000
 
 -- a content is given if the run ended well with no more bytes than that, and refused if not
 abbrev pub choice_told : OnceTold → Option Choice
 choice_told (Ended output zero) =
-    Some (if zero && nat_le (length output) most then choice.Give output else choice.Refuse)
+    Some (if zero && nat_le (length output) most_output then choice.Give output else choice.Refuse)
 choice_told Failing = Some choice.Refuse
 choice_told Untold = None
 
@@ -31,9 +31,9 @@ work_told tells command = record {
 -- long, or the run failed
 abbrev pub IsChosen : OnceTold → ℕ → ℕ → Choice → Type 0
 IsChosen told before after (choice.Give output) =
-    TellsEnd told (record { output = output; zero = true }) × (length output ≤ most) × (after ≡ before)
+    TellsEnd told (record { output = output; zero = true }) × (length output ≤ most_output) × (after ≡ before)
 IsChosen told before after choice.Refuse =
     ((output : List ℕ) × TellsEnd told (record { output = output; zero = false }) × (after ≡ before))
-    ⊎ (TellsLong told most × (after ≡ before))
+    ⊎ (TellsLong told most_output × (after ≡ before))
     ⊎ (MayFail told × Rose before after)
 IsChosen told before after c = ⊥

@@ -55,7 +55,7 @@ impl<K: Link> KeptLinks<K> {
 
     /// One more start ran out of memory.
     #[tactic(auto, using(crate::proofs::Sessions::had_one_waits))]
-    pub fn lack(&mut self)
+    pub fn count_out_of_memory(&mut self)
         requires { length (kept_had K.seen self.old) < 2 ^ 32 }
         ensures had { kept_had K.seen self.new ≡ kept_had K.seen self.old ++ StartOutOfMemory ∷ [] }
         ensures ended { self.new.ended ≡ self.old.ended }

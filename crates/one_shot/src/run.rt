@@ -1,9 +1,8 @@
 //! A command that runs once for each content.
-ghost use Rattle.std.specs.Prelude.{◌≡◌, true, drop, IfOk};
+ghost use Rattle.std.specs.Prelude.{◌≡◌, drop, IfOk};
 ghost use Rattle.edge_kit.specs.Links.{IsNewLink};
 ghost use Rattle.driver_host.specs.HostLinks.{link_seen};
-ghost use Rattle.one_shot.specs.Starters.{smudge_alone};
-ghost use Rattle.one_shot.specs.Works.{work_told};
+ghost use Rattle.one_shot.specs.Starters.{IsRunOf};
 
 use crate::once::OnceMaker;
 use crate::work::OnceWork;
@@ -55,13 +54,10 @@ impl<M: OnceMaker> Run<M> {
     /// A link to a host that runs the command.
     pub fn begin(&mut self, alloc: Global) -> Result<HostLink<OnceWork<M::Once>>, AllocError>
         ensures fresh { IfOk result (λ l. IsNewLink (link_seen l)) }
-        ensures caps { IfOk result (λ l. l.host.talk.own ≡ smudge_alone) }
-        ensures keeps { IfOk result (λ l. l.keeps ≡ self.old.keeps) }
-        ensures tells { IfOk result (λ l. self.old.keeps ≡ true → l.tells ≡ true) }
-        ensures runs { IfOk result (λ l. ⟦<OnceWork<M::Once> as Work>⟧.told l.host.talk.work
-            ≡ work_told (M.told self.old.maker) (drop 1 self.old.command)) }
+        ensures runs { IfOk result (λ l. IsRunOf ⟦<OnceWork<M::Once> as Work>⟧.told
+            (M.told self.old.maker) self.old.keeps (drop 1 self.old.command) l) }
         ensures command { self.new.command ≡ self.old.command }
-        ensures kept { self.new.keeps ≡ self.old.keeps }
+        ensures keeps { self.new.keeps ≡ self.old.keeps }
         ensures told { M.told self.new.maker ≡ M.told self.old.maker }
     {
         let once = self.maker.once()?;

@@ -62,7 +62,7 @@ where
             → RunsBy M.told maker keeps command self.new.source }
     {
         if self.kept.reserve(self.out + 1).is_err() {
-            self.kept.lack();
+            self.kept.count_out_of_memory();
             return Err(SendFault::NoMemory);
         }
         let is_whole = self.kept.is_empty();
@@ -75,7 +75,7 @@ where
                 Err(fault) => Err(fault),
             },
             Source::Inner(_) => {
-                self.kept.lack();
+                self.kept.count_out_of_memory();
                 Err(SendFault::NoMemory)
             }
             Source::Single(run) => match run.begin(self.alloc) {
@@ -84,7 +84,7 @@ where
                     Ok(OnceLink::Hosted(link))
                 }
                 Err(_) => {
-                    self.kept.lack();
+                    self.kept.count_out_of_memory();
                     Err(SendFault::NoMemory)
                 }
             },

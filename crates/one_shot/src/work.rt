@@ -12,7 +12,7 @@ use edge_kit::TakeFault;
 use std::alloc::{AllocError, Global};
 
 /// How many bytes an output may have.
-const MOST: u64 = 536_000_000;
+const MOST_OUTPUT: u64 = 536_000_000;
 
 /// A command that runs once for each content, which is its input.
 #[derive(Drop)]
@@ -54,7 +54,7 @@ impl<O: Once> Work for OnceWork<O> {
         ensures command { self.new.command ≡ self.old.command }
     {
         let command = once_command(self.alloc, self.command.as_slice(), path)?;
-        match self.once.run_once(command.as_slice(), content, MOST) {
+        match self.once.run_once(command.as_slice(), content, MOST_OUTPUT) {
             Ok(OnceEnd { output, zero }) if zero => Ok(Choice::Give(output)),
             Ok(_) | Err(TakeFault::TooLong | TakeFault::Failed) => Ok(Choice::Refuse),
             Err(TakeFault::NoMemory) => Err(AllocError),
