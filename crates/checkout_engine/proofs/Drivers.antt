@@ -30,7 +30,9 @@ use Rattle.checkout_plan.specs.Paths.{no_conversion, path_with, closed, converte
 use Rattle.checkout_plan.specs.Paths.{start_by, start_at, start_named, filter_start, is_desk_of, asks_for, is_used, used_from, number_at}
 use Rattle.checkout_engine.proofs.LeftOut.{left_out_by}
 use Rattle.checkout_engine.specs.Cards.{AreOrdered, AreDrivers, HasDriver}
+use Rattle.checkout_engine.specs.Dealing.{IsWork}
 use Rattle.checkout_engine.specs.Sources.{IsPlanned}
+use Rattle.checkout_engine.proofs.Bounds.{planned_texts, planned_size}
 use Rattle.checkout_engine.proofs.Order.{precedes, plan_rises}
 
 -- the driver has a command
@@ -208,3 +210,11 @@ pub planned_ordered : PathsAreOrdered → (told : RepoTold) (plan : Plan) → Is
 planned_ordered law told plan planned =
     subst (λ (p : Plan). pairwise precedes p.paths ≡ true) (sym planned.made.is)
     (plan_rises law planned.entries planned.settings planned.outer planned.made.contents planned.sources.index.is_index.text.rising)
+
+-- what is dealt from is that of a plan
+pub planned_work : (told : RepoTold) (plan : Plan) → IsPlanned told plan → IsWork plan.paths plan.drivers
+planned_work told plan planned = record {
+  few = planned_size told plan planned;
+  texts = planned_texts told plan planned;
+  drivers_are = planned_drivers told plan planned;
+}

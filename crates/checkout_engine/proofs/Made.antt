@@ -31,6 +31,9 @@ plus_none n = omega arith
 pub none_more : (n : ℕ) → n ≡ 0 + n
 none_more n = omega arith
 
+pub other_way : (n : ℕ) → n + 0 ≡ 0 + n
+other_way n = omega arith
+
 same_tree : (tree : TreeSeen) → tree ≡ record tree { out = tree.out + 0; returned = tree.returned ++ [] }
 same_tree tree =
     sym (ap (λ (n : ℕ). record tree { out = n; returned = tree.returned ++ [] }) (plus_none tree.out) ∙ ap (λ (l : List (List ℕ × LeafState × ℕ)). record tree { returned = l }) (append-nil tree.returned))

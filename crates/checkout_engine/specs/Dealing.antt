@@ -1,13 +1,21 @@
 -- What the desks of a checkout begin with.
-use Rattle.std.specs.Prelude.{◌≡◌, ℕ, suc, List, [], ◌∷◌, Some}
+use Rattle.std.specs.Prelude.{◌≡◌, ◌<◌, ◌^◌, ℕ, suc, List, [], ◌∷◌, length, Some}
 use Rattle.std.specs.List.{AllByRecursion}
 use Rattle.edge_kit.specs.Told.{Told}
 use Rattle.edge_kit.specs.Starters.{Starts, StarterSeen, new_starter}
 use Rattle.settings_view.specs.declared.view.Driver.{Driver}
+use Rattle.checkout_book.specs.Reserving.{AreNew}
 use Rattle.checkout_book.specs.Sights.{Sight}
 use Rattle.checkout_plan.specs.declared.path_plan.PathPlan.{PathPlan}
 use Rattle.writer_pool.specs.declared.pooled.DeskSeed.{DeskSeed}
-use Rattle.checkout_engine.specs.Cards.{AreCards}
+use Rattle.writer_pool.specs.Pools.{seed_cards}
+use Rattle.checkout_engine.specs.Cards.{AreCards, AreTexts, AreDrivers}
+
+-- What is dealt from: not too many paths, each of which is text if it is open, and the drivers of its desks.
+pub record IsWork (paths : List PathPlan) (drivers : List Driver) : Type 0 where
+  pub few : length paths < 2 ^ 32
+  pub texts : AreTexts paths
+  pub drivers_are : AreDrivers drivers paths
 
 -- a starter that has started nothing, and hasn't failed
 abbrev pub IsIdle : StarterSeen → Type 0
@@ -17,6 +25,12 @@ module _ {S B L : Type 0} (starter : S → StarterSeen) where
   abbrev pub AreIdle : List (DeskSeed S B L) → Type 0
   AreIdle [] = Unit {0}
   AreIdle (x ∷ xs) = IsIdle (starter x.starter) × AreIdle xs
+
+-- The seeds weren't used: their cards are new, and their starters have started nothing.
+pub record AreUnused {S B L : Type 0} (starter : S → StarterSeen) (see : Sight B L) (seeds : List (DeskSeed S B L))
+    : Type 0 where
+  pub new : AreNew see (seed_cards seeds)
+  pub idle : AreIdle starter seeds
 
 -- no link of any of the starters is out
 abbrev pub AreEnded : {S : Type 0} → (S → StarterSeen) → List S → Type 0

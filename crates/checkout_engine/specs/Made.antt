@@ -1,5 +1,5 @@
 -- What is left of what a checkout made for its paths and drivers, if it doesn't come to their end.
-use Rattle.std.specs.Prelude.{◌≡◌, ◌⊎◌, ◌+◌, ℕ, Bool, true, false, List, [], ◌++◌, length, map}
+use Rattle.std.specs.Prelude.{◌≡◌, ◌⊎◌, ◌+◌, ◌≤◌, ℕ, Bool, true, false, List, [], ◌++◌, length, map}
 use Rattle.std.specs.List.{filter}
 use Rattle.edge_kit.specs.Seen.{RepoSeen, TreeSeen}
 use Rattle.edge_kit.specs.Starters.{Had, SpawnerSeen}
@@ -53,10 +53,31 @@ pub record HasMade (cards starters : ℕ) (repo repo' : RepoSeen) (tree tree' : 
   pub tree_kept : tree' ≡ record tree { out = tree.out + cards }
   pub spawner_kept : spawner' ≡ record spawner { out = spawner.out + starters }
 
+-- So many blobs and leaves, and so many starters, are out at least.
+pub record AreOut (cards starters : ℕ) (repo : RepoSeen) (tree : TreeSeen) (spawner : SpawnerSeen) : Type 0 where
+  pub blobs : cards ≤ repo.out
+  pub leaves : cards ≤ tree.out
+  pub starters_out : starters ≤ spawner.out
+
+-- So many blobs and leaves, and so many starters, were given back unused. What was made before them is out or back as
+-- it was.
+pub record AreBack (cards starters : ℕ) (repo repo' : RepoSeen) (tree tree' : TreeSeen) (spawner spawner' : SpawnerSeen)
+    : Type 0 where
+  pub blobs_out : repo'.out + cards ≡ repo.out
+  pub leaves_out : tree'.out + cards ≡ tree.out
+  pub cards_back : (n : ℕ) (repo0 : RepoSeen) (tree0 : TreeSeen) → HasCards (n + cards) repo0 repo tree0 tree
+      → HasCards n repo0 repo' tree0 tree'
+  pub starters_back : (n : ℕ) (spawner0 : SpawnerSeen) → HasStarters (n + starters) spawner0 spawner
+      → HasStarters n spawner0 spawner'
+
+-- None of what was made is out: all of it is back, unused.
+abbrev pub NoneOut : RepoSeen → RepoSeen → TreeSeen → TreeSeen → SpawnerSeen → SpawnerSeen → Type 0
+NoneOut repo repo' tree tree' spawner spawner' = HasCards 0 repo repo' tree tree' × HasStarters 0 spawner spawner'
+
 -- Memory ran out before the paths were done. What was made is back, unused. Or a blob and a leaf for each open path and
 -- a starter for each driver are out, and files may be there that no list tells.
 abbrev pub BreaksOff : List PathPlan → List Driver → RepoSeen → RepoSeen → TreeSeen → TreeSeen → SpawnerSeen
     → SpawnerSeen → Type 0
 BreaksOff ps drivers repo repo' tree tree' spawner spawner' =
-    (HasCards 0 repo repo' tree tree' × HasStarters 0 spawner spawner')
+    NoneOut repo repo' tree tree' spawner spawner'
     ⊎ HasMade (length (open_paths ps)) (length drivers) repo repo' tree tree' spawner spawner'

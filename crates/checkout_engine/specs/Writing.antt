@@ -1,5 +1,6 @@
 -- What the writing of the paths leaves.
-use Rattle.std.specs.Prelude.{◌≡◌, ℕ, List, [], ◌∷◌, Option, Some, None, map}
+use Rattle.std.specs.Prelude.{◌≡◌, ℕ, List, [], ◌∷◌, Option, Some, None, length, map}
+use Rattle.std.specs.List.{filter}
 use Rattle.edge_kit.specs.Told.{Told, Tells}
 use Rattle.edge_kit.specs.Files.{with_file}
 use Rattle.edge_kit.specs.Seen.{RepoSeen, TreeSeen}
@@ -9,6 +10,9 @@ use Rattle.checkout_core.specs.declared.event.Event.{Event}
 use Rattle.checkout_core.specs.declared.verdict.Verdict.{Verdict}
 use Rattle.settings_view.specs.declared.view.Driver.{Driver}
 use Rattle.checkout_plan.specs.declared.path_plan.PathPlan.{PathPlan}
+use Rattle.writer_pool.specs.Ends.{IsRun}
+use Rattle.checkout_engine.specs.declared.workers.Pace.{Pace}
+use Rattle.checkout_engine.specs.Workers.{starts_of, in_pool, workers_for}
 use Rattle.checkout_engine.specs.Outcome.{Outcome, AreOutcomes}
 use Rattle.checkout_engine.specs.Talks.{DriverTalk, AreDriverTalks, with_talks}
 use Rattle.checkout_engine.specs.Paths.{with_blobs, GotLeaves, blobs_back, leaves_back}
@@ -38,3 +42,13 @@ pub record ArePathsDone (ahead : List ℕ → Starts) (object : List ℕ → Tol
   pub leaves : GotLeaves tree (leaves_back ps outcomes) tree'
   pub files : (fs : List TreeFile)
       → Tells tree.files fs → Tells tree'.files (all_joined outcomes fs)
+
+-- how many workers write the paths at this pace
+abbrev pub workers_at : Pace → List PathPlan → ℕ
+workers_at pace ps = workers_for pace.asked pace.workers pace.threshold (length (filter in_pool ps))
+
+-- The run over the paths is complete, by as many workers as the pace says and by the desks of the drivers.
+pub record IsRunAt (pace : Pace) (ps : List PathPlan) (drivers : List Driver) (workers : ℕ) (history : List Event)
+    (verdicts : List Verdict) : Type 0 where
+  pub many : workers ≡ workers_at pace ps
+  pub run : IsRun (starts_of ps) (workers_at pace ps) (length drivers) history verdicts

@@ -1,5 +1,5 @@
 //! The cards of a plan's open paths.
-ghost use Rattle.std.specs.Prelude.{◌≡◌, ◌+◌, ◌≤◌, ◌<◌, ◌^◌, ℕ, IfOk, OnOk, OnErr, length, vec_capacity};
+ghost use Rattle.std.specs.Prelude.{◌≡◌, ◌+◌, ◌≤◌, ◌<◌, ◌^◌, ℕ, IfOk, OnOk, OnErr, length};
 ghost use Rattle.std.specs.List.{filter};
 ghost use Rattle.std.specs.Str.{IsUtf8};
 ghost use Rattle.edge_kit.specs.Seen.{RepoSeen, TreeSeen};
@@ -86,39 +86,6 @@ fn new_card<R: Repo, T: Worktree>(
     })
 }
 
-/// Adds the new cards of the paths that are the pool's, or are at the desk of that driver, in path order. If memory
-/// runs out, those that were added are still out.
-fn add_cards<R: Repo, T: Worktree>(
-    alloc: Global,
-    repo: &mut R,
-    tree: &mut T,
-    paths: &[PathPlan],
-    owner: Option<u32>,
-    cards: &mut Vec<Card<R::Blob, T::Leaf>>,
-) -> Result<(), AllocError>
-    requires few { length paths.now < 2 ^ 32 }
-    requires texts { AreTexts paths.now }
-    requires none { length cards.old.items ≡ 0 }
-    requires room { length (filter (λ p. is_of owner p.start) paths.now) ≤ vec_capacity cards.old }
-    ensures told { R.told repo.new ≡ R.told repo.old }
-    ensures new { AreNew (sight R.Blob.told R.Blob.seen T.Leaf.seen) cards.new.items }
-    ensures repo { OnOk result (R.seen repo.new
-        ≡ record (R.seen repo.old) { out = (R.seen repo.old).out + length cards.new.items }) }
-    ensures tree { OnOk result (T.seen tree.new
-        ≡ record (T.seen tree.old) { out = (T.seen tree.old).out + length cards.new.items }) }
-    ensures some { OnErr result (HasCards (length cards.new.items)
-        (R.seen repo.old) (R.seen repo.new) (T.seen tree.old) (T.seen tree.new)) }
-    ensures cards { OnOk result (AreCards owner (sight R.Blob.told R.Blob.seen T.Leaf.seen) (R.told repo.old).object
-        paths.now cards.new.items) }
-{
-    for (place, path) in paths.iter().enumerate() {
-        if is_of(owner, path.start) {
-            cards.push_reserved(new_card(alloc, repo, tree, place as u32, path)?);
-        }
-    }
-    Ok(())
-}
-
 /// Gives cards back that were never used: their blobs and leaves.
 pub fn give_cards<R: Repo, T: Worktree>(
     repo: &mut R,
@@ -165,11 +132,16 @@ pub fn cards_of<R: Repo, T: Worktree>(
         (R.told repo.old).object paths.now v.items) }
 {
     let mut cards = Vec::with_capacity(alloc, count_of(paths, owner))?;
-    match add_cards(alloc, repo, tree, paths, owner, &mut cards) {
-        Ok(()) => Ok(cards),
-        Err(AllocError) => {
-            give_cards(repo, tree, cards);
-            Err(AllocError)
+    for (place, path) in paths.iter().enumerate() {
+        if is_of(owner, path.start) {
+            match new_card(alloc, repo, tree, place as u32, path) {
+                Ok(card) => cards.push_reserved(card),
+                Err(AllocError) => {
+                    give_cards(repo, tree, cards);
+                    return Err(AllocError);
+                }
+            }
         }
     }
+    Ok(cards)
 }

@@ -17,6 +17,7 @@ mod show;
 mod sources;
 mod status;
 mod stop;
+mod work;
 mod workers;
 
 pub use begin::{PlannedRun, planned_run};

@@ -14,6 +14,7 @@ use crate::planning::{Planned, read_plan};
 use crate::report::{lacks_memory, status_of};
 use crate::status::{Status, number_of};
 use crate::stop::Stop;
+use crate::work::{Means, Work};
 use crate::workers::Pace;
 use checkout_core::{Event, FailCause, Start, Verdict};
 use checkout_plan::{Plan, closed_paths_have_causes};
@@ -173,12 +174,10 @@ fn is_disturbed(verdicts: &[Verdict], drivers: &[DriverSeen]) -> bool
 
 /// Checks out a valid repository, of which nothing was called, into a new and empty worktree: its run.
 fn tried<R: Repo, T: Worktree, P: Spawner, G: Gate, H: Threads + Wait + Sync>(
-    rt: &H,
-    alloc: Global,
+    means: &Means<'_, G, H>,
     repo: &mut R,
     tree: &mut T,
     spawner: &mut P,
-    gate: &G,
 ) -> Result<TriedRun, AllocError>
     requires valid { IsValid (R.told repo.old) }
     requires repo { R.seen repo.old ≡ new_memory.repo }
@@ -188,7 +187,7 @@ fn tried<R: Repo, T: Worktree, P: Spawner, G: Gate, H: Threads + Wait + Sync>(
         (T.seen tree.new) (P.seen spawner.new)) }
 {
     paths_are_ordered();
-    let planned = valid_plan(alloc, repo)?;
+    let planned = valid_plan(means.alloc, repo)?;
     let pace = Pace {
         asked: None,
         workers: planned.workers,
@@ -196,7 +195,12 @@ fn tried<R: Repo, T: Worktree, P: Spawner, G: Gate, H: Threads + Wait + Sync>(
     };
     let slice = planned.plan.paths.as_slice();
     let drivers = planned.plan.drivers.as_slice();
-    let done = check_out_paths(rt, alloc, repo, tree, spawner, gate, slice, drivers, pace)?;
+    let work = Work {
+        paths: slice,
+        drivers,
+        pace,
+    };
+    let done = check_out_paths(means, repo, tree, spawner, &work)?;
     let PathsDone {
         history,
         verdicts,
@@ -213,10 +217,8 @@ fn tried<R: Repo, T: Worktree, P: Spawner, G: Gate, H: Threads + Wait + Sync>(
 /// Checks out what a rehearsal is made of into an empty worktree in memory: its run, and that worktree. What disturbed
 /// the checkout is taken for want of memory: nothing is told to fail.
 fn checked_out<G: Gate, H: Threads + Wait + Sync>(
-    rt: &H,
-    alloc: Global,
+    means: &Means<'_, G, H>,
     mut made: Rehearsed,
-    gate: &G,
 ) -> Result<(TriedRun, MemoryTree), AllocError>
     requires valid { IsValid (⟦<MemoryRepo as Repo>⟧.told made.repo) }
     requires repo { ⟦<MemoryRepo as Repo>⟧.seen made.repo ≡ new_memory.repo }
@@ -224,15 +226,9 @@ fn checked_out<G: Gate, H: Threads + Wait + Sync>(
     ensures { IfOk result (λ r. IsTriedWell (⟦<MemoryRepo as Repo>⟧.told made.repo)
         (⟦<MemorySpawner as Spawner>⟧.told made.spawner) r.0 (⟦<MemoryTree as Worktree>⟧.seen r.1)) }
 {
+    let alloc = means.alloc;
     let mut tree = MemoryTree::new(alloc, true, Vec::new(alloc), false);
-    let run = tried(
-        rt,
-        alloc,
-        &mut made.repo,
-        &mut tree,
-        &mut made.spawner,
-        gate,
-    )?;
+    let run = tried(means, &mut made.repo, &mut tree, &mut made.spawner)?;
     if is_disturbed(&run.verdicts, made.spawner.drivers()) {
         return Err(AllocError);
     }
@@ -241,35 +237,31 @@ fn checked_out<G: Gate, H: Threads + Wait + Sync>(
 
 /// Rehearses so many paths: the run, and the worktree in memory.
 fn rehearsed<G: Gate, H: Threads + Wait + Sync>(
-    rt: &H,
-    alloc: Global,
+    means: &Means<'_, G, H>,
     seed: u64,
     paths: u32,
-    gate: &G,
 ) -> Result<(TriedRun, MemoryTree), AllocError>
     requires { paths ≤ 99999 }
     ensures { IfOk result (λ r. IsRehearsed seed paths r.0 (⟦<MemoryTree as Worktree>⟧.seen r.1)) }
 {
     files_have_an_index();
     attributes_are_right();
-    let made = rehearse(alloc, seed, paths)?;
-    let left = checked_out(rt, alloc, made, gate)?;
+    let made = rehearse(means.alloc, seed, paths)?;
+    let left = checked_out(means, made)?;
     Ok(left)
 }
 
 /// The summary of the rehearsal of so many paths.
 fn rehearsal_summary<G: Gate, H: Threads + Wait + Sync>(
-    rt: &H,
-    alloc: Global,
+    means: &Means<'_, G, H>,
     seed: u64,
     paths: u32,
-    gate: &G,
 ) -> Result<String, AllocError>
     requires { paths ≤ 99999 }
     ensures { IfOk result (λ s. IsSummed seed paths (string_bytes s)) }
 {
-    let (run, tree) = rehearsed(rt, alloc, seed, paths, gate)?;
-    let text = summary(alloc, paths, &run.verdicts, tree.files())?;
+    let (run, tree) = rehearsed(means, seed, paths)?;
+    let text = summary(means.alloc, paths, &run.verdicts, tree.files())?;
     Ok(text)
 }
 
@@ -290,7 +282,8 @@ pub fn rehearsed_run<G: Gate, H: Threads + Wait + Sync>(
 {
     closed_paths_have_causes();
     laws::a_history_is_short();
-    let (run, _) = rehearsed(rt, alloc, seed, paths, gate)?;
+    let means = Means { rt, alloc, gate };
+    let (run, _) = rehearsed(&means, seed, paths)?;
     let starts = starts_of(alloc, run.plan.paths.as_slice())?;
     let drivers = run.plan.drivers.as_slice().len();
     Ok(RehearsedRun {
@@ -303,17 +296,15 @@ pub fn rehearsed_run<G: Gate, H: Threads + Wait + Sync>(
 
 /// The command `rehearse`: rehearses so many paths, and writes the summary.
 pub fn show_rehearsal<G: Gate, O: Sink, H: Threads + Wait + Sync>(
-    rt: &H,
-    alloc: Global,
+    means: &Means<'_, G, H>,
     seed: u64,
     paths: u32,
-    gate: &G,
     out: &mut O,
 ) -> Status
     requires { paths ≤ 99999 }
     ensures { Rehearses seed paths (O.seen out.old) (O.seen out.new) result }
 {
-    let Ok(text) = rehearsal_summary(rt, alloc, seed, paths, gate) else {
+    let Ok(text) = rehearsal_summary(means, seed, paths) else {
         return Status::OutOfMemory;
     };
     match out.write(text.as_bytes()) {

@@ -28,19 +28,19 @@ pub give_cards-requires-clause-new : goal.give_cards-requires-clause-new
 give_cards-requires-clause-new g c κs within =
     let see = sight g.R.Blob.Blob.told g.R.Blob.Blob.seen g.T.Leaf.Leaf.seen in
     let y = c.loop-seed.yielded in
-    new_seed see y c.next.new.self.rest.items c.args.desks.items c.in-Some.seed (ap (λ l. y ++ l) (sym c.in-Some.ensures.steps.0) ∙ c.loop-seed.invariant.whole) c.requires.new
+    new_seed see y c.next.new.self.rest.items c.args.desks.items c.in-Some.seed (ap (λ l. y ++ l) (sym c.in-Some.ensures.steps.0) ∙ c.loop-seed.invariant.whole) c.requires.unused.new
 
 pub give_cards-requires-clause-blobs : goal.give_cards-requires-clause-blobs
 give_cards-requires-clause-blobs g c κs within =
     let y = c.loop-seed.yielded in
     few_before y c.next.new.self.rest.items c.args.desks.items c.in-Some.seed (g.R.Repo.seen c.loop-seed.repo).out (g.R.Repo.seen c.args.repo.now).out
-    (ap (λ l. y ++ l) (sym c.in-Some.ensures.steps.0) ∙ c.loop-seed.invariant.whole) c.loop-seed.invariant.blobs c.requires.blobs
+    (ap (λ l. y ++ l) (sym c.in-Some.ensures.steps.0) ∙ c.loop-seed.invariant.whole) c.loop-seed.invariant.blobs c.requires.out.blobs
 
 pub give_cards-requires-clause-leaves : goal.give_cards-requires-clause-leaves
 give_cards-requires-clause-leaves g c κs within =
     let y = c.loop-seed.yielded in
     few_before y c.next.new.self.rest.items c.args.desks.items c.in-Some.seed (g.T.Worktree.seen c.loop-seed.tree).out (g.T.Worktree.seen c.args.tree.now).out
-    (ap (λ l. y ++ l) (sym c.in-Some.ensures.steps.0) ∙ c.loop-seed.invariant.whole) c.loop-seed.invariant.leaves c.requires.leaves
+    (ap (λ l. y ++ l) (sym c.in-Some.ensures.steps.0) ∙ c.loop-seed.invariant.whole) c.loop-seed.invariant.leaves c.requires.out.leaves
 
 pub take_back-requires-clause-given : goal.take_back-requires-clause-given
 take_back-requires-clause-given g c =
@@ -48,7 +48,7 @@ take_back-requires-clause-given g c =
     omega (
       arith,
       i.starters,
-      c.requires.starters,
+      c.requires.out.starters_out,
       ap length i.whole,
       length-append c.loop-seed.yielded c.loop-seed.seed-iterator.rest.items,
       ap length c.in-Some.ensures.steps.0,
@@ -57,7 +57,7 @@ take_back-requires-clause-given g c =
 pub take_back-requires-clause-ended : goal.take_back-requires-clause-ended
 take_back-requires-clause-ended g c =
     let y = c.loop-seed.yielded in
-    ap (λ (s : StarterSeen). s.out) (idle_seed g.P.Starter.Starter.seen y c.next.new.self.rest.items c.args.desks.items c.in-Some.seed (ap (λ l. y ++ l) (sym c.in-Some.ensures.steps.0) ∙ c.loop-seed.invariant.whole) c.requires.idle)
+    ap (λ (s : StarterSeen). s.out) (idle_seed g.P.Starter.Starter.seen y c.next.new.self.rest.items c.args.desks.items c.in-Some.seed (ap (λ l. y ++ l) (sym c.in-Some.ensures.steps.0) ∙ c.loop-seed.invariant.whole) c.requires.unused.idle)
 
 pub loop-seed-preserved : goal.loop-seed-preserved
 loop-seed-preserved g c =
@@ -79,7 +79,7 @@ loop-seed-preserved g c =
           (subst (λ (k : ℕ). HasCards k repo0 (g.R.Repo.seen c.loop-seed.repo) tree0 (g.T.Worktree.seen c.loop-seed.tree))
           (omega (arith, ap (λ l. length (seed_cards l)) c.in-Some.ensures.steps.0, length-append x.cards.items (seed_cards rest))) (i.cards_back n repo0 tree0 h));
       starters_back = λ n spawner0 h. starter_returns (n + length rest) (g.P.Starter.Starter.seen x.starter) spawner0 (g.P.Spawner.seen c.loop-seed.spawner) (g.P.Spawner.seen c.take_back.new.self)
-          (idle_seed g.P.Starter.Starter.seen y rest c.args.desks.items x here c.requires.idle)
+          (idle_seed g.P.Starter.Starter.seen y rest c.args.desks.items x here c.requires.unused.idle)
           (subst (λ (k : ℕ). HasStarters k spawner0 (g.P.Spawner.seen c.loop-seed.spawner)) (omega (arith, ap length c.in-Some.ensures.steps.0)) (i.starters_back n spawner0 h))
           c.take_back.ensures.out c.take_back.ensures.back;
       can = tt;
@@ -96,9 +96,11 @@ returns g c =
     record {
       told = i.told;
       starts = i.starts;
-      blobs_out = omega (arith, i.blobs, ap (λ l. length (seed_cards l)) whole);
-      leaves_out = omega (arith, i.leaves, ap (λ l. length (seed_cards l)) whole);
-      cards_back = λ n repo0 tree0 h. subst (λ (k : ℕ). HasCards k repo0 (g.R.Repo.seen c.loop-seed.repo) tree0 (g.T.Worktree.seen c.loop-seed.tree))
-          (omega (arith, ap (λ l. length (seed_cards l)) none)) (i.cards_back n repo0 tree0 h);
-      starters_back = λ n spawner0 h. subst (λ (k : ℕ). HasStarters k spawner0 (g.P.Spawner.seen c.loop-seed.spawner)) (omega (arith, ap length none)) (i.starters_back n spawner0 h);
+      back = record {
+        blobs_out = omega (arith, i.blobs, ap (λ l. length (seed_cards l)) whole);
+        leaves_out = omega (arith, i.leaves, ap (λ l. length (seed_cards l)) whole);
+        cards_back = λ n repo0 tree0 h. subst (λ (k : ℕ). HasCards k repo0 (g.R.Repo.seen c.loop-seed.repo) tree0 (g.T.Worktree.seen c.loop-seed.tree))
+            (omega (arith, ap (λ l. length (seed_cards l)) none)) (i.cards_back n repo0 tree0 h);
+        starters_back = λ n spawner0 h. subst (λ (k : ℕ). HasStarters k spawner0 (g.P.Spawner.seen c.loop-seed.spawner)) (omega (arith, ap length none)) (i.starters_back n spawner0 h);
+      };
     }

@@ -4,14 +4,17 @@ use Rattle.checkout_engine.specs.Made.{HasCards}
 use Rattle.checkout_engine.proofs.Made.{on_err, none_back, none_more}
 use Rattle.checkout_engine.proofs.dealing.new_seed.Goals as goal
 
-pub returns-in-Err-clause-cards_back : goal.returns-in-Err-clause-cards_back
-returns-in-Err-clause-cards_back g c =
+pub returns-in-Err-clause-none : goal.returns-in-Err-clause-none
+returns-in-Err-clause-none g c =
     let repo = g.R.Repo.seen c.args.repo.now in
     let tree = g.T.Worktree.seen c.args.tree.now in
     let n = length c.in_ok-cards.cards.items in
-    c.give_cards.ensures.back 0 repo tree
-    (subst (λ (k : ℕ). HasCards k repo (g.R.Repo.seen c.cards_of.new.repo) tree (g.T.Worktree.seen c.cards_of.new.tree)) (none_more n)
-    (none_back n repo (g.R.Repo.seen c.cards_of.new.repo) tree (g.T.Worktree.seen c.cards_of.new.tree) c.in_ok-cards.ensures.repo c.in_ok-cards.ensures.tree))
+    (
+      c.in-Err.ensures.kept,
+      c.give_cards.ensures.back 0 repo tree
+      (subst (λ (k : ℕ). HasCards k repo (g.R.Repo.seen c.cards_of.new.repo) tree (g.T.Worktree.seen c.cards_of.new.tree)) (none_more n)
+      (none_back n repo (g.R.Repo.seen c.cards_of.new.repo) tree (g.T.Worktree.seen c.cards_of.new.tree) c.in_ok-cards.ensures.repo c.in_ok-cards.ensures.tree)),
+    )
 
 pub returns-in_err-cards-clause-told : goal.returns-in_err-cards-clause-told
 returns-in_err-cards-clause-told g c = c.in_err-cards.ensures.told
@@ -19,11 +22,8 @@ returns-in_err-cards-clause-told g c = c.in_err-cards.ensures.told
 pub returns-in_err-cards-clause-starts : goal.returns-in_err-cards-clause-starts
 returns-in_err-cards-clause-starts g c = refl
 
-pub returns-in_err-cards-clause-cards_back : goal.returns-in_err-cards-clause-cards_back
-returns-in_err-cards-clause-cards_back g c = on_err _ c.from_residual.result c.in_err-cards.ensures.none
-
-pub returns-in_err-cards-clause-spawner_kept : goal.returns-in_err-cards-clause-spawner_kept
-returns-in_err-cards-clause-spawner_kept g c = on_err _ c.from_residual.result refl
+pub returns-in_err-cards-clause-none : goal.returns-in_err-cards-clause-none
+returns-in_err-cards-clause-none g c = on_err _ c.from_residual.result (refl, c.in_err-cards.ensures.none)
 
 pub give_cards-requires-clause-new : goal.give_cards-requires-clause-new
 give_cards-requires-clause-new g c κs within = c.in_ok-cards.ensures.new
@@ -40,11 +40,5 @@ returns-in-Err-clause-told g c = c.give_cards.ensures.told ∙ c.in_ok-cards.ens
 pub returns-in-Err-clause-starts : goal.returns-in-Err-clause-starts
 returns-in-Err-clause-starts g c = c.in-Err.ensures.told
 
-pub returns-in-Err-clause-spawner_kept : goal.returns-in-Err-clause-spawner_kept
-returns-in-Err-clause-spawner_kept g c = c.in-Err.ensures.kept
-
 pub returns-clause-told : goal.returns-clause-told
 returns-clause-told g c = c.in_ok-cards.ensures.told
-
-pub returns-clause-new : goal.returns-clause-new
-returns-clause-new g c = c.in_ok-cards.ensures.new

@@ -1,30 +1,23 @@
-use Rattle.std.proofs.Common.{◌<◌, ◌^◌, List, length, refl, sym, subst}
+use Rattle.std.proofs.Common.{List, refl, sym, subst}
 use Rattle.settings_view.specs.declared.view.Driver.{Driver}
 use Rattle.checkout_plan.specs.declared.path_plan.PathPlan.{PathPlan}
-use Rattle.checkout_engine.specs.Cards.{AreTexts, AreDrivers, AreOrdered}
-use Rattle.checkout_engine.proofs.Bounds.{planned_texts, planned_size, planned_pace}
-use Rattle.checkout_engine.proofs.Drivers.{planned_drivers, planned_ordered}
+use Rattle.checkout_engine.specs.Cards.{AreOrdered}
+use Rattle.checkout_engine.specs.Dealing.{IsWork}
+use Rattle.checkout_engine.proofs.Bounds.{planned_pace}
+use Rattle.checkout_engine.proofs.Drivers.{planned_ordered, planned_work}
 use Rattle.checkout_engine.proofs.Tried.{tried}
 use Rattle.checkout_engine.proofs.rehearsing.tried.Goals as goal
 
-pub check_out_paths-requires-clause-few : goal.check_out_paths-requires-clause-few
-check_out_paths-requires-clause-few g c κs within =
-    subst (λ (l : List PathPlan). length l < 2 ^ 32) (sym c.as_slice-slice.ensures) (planned_size _ c.in_ok-planned.planned.plan c.in_ok-planned.ensures.read.read.planned)
-
-pub check_out_paths-requires-clause-texts : goal.check_out_paths-requires-clause-texts
-check_out_paths-requires-clause-texts g c κs within =
-    subst AreTexts (sym c.as_slice-slice.ensures) (planned_texts _ c.in_ok-planned.planned.plan c.in_ok-planned.ensures.read.read.planned)
+pub check_out_paths-requires-clause-work : goal.check_out_paths-requires-clause-work
+check_out_paths-requires-clause-work g c κs within =
+    let plan = c.in_ok-planned.planned.plan in
+    subst (λ (l : List PathPlan). IsWork l c.as_slice-drivers.result.now) (sym c.as_slice-slice.ensures)
+    (subst (λ (l : List Driver). IsWork plan.paths l) (sym c.as_slice-drivers.ensures) (planned_work _ plan c.in_ok-planned.ensures.read.read.planned))
 
 pub check_out_paths-requires-clause-ordered : goal.check_out_paths-requires-clause-ordered
 check_out_paths-requires-clause-ordered g c κs within =
     subst (λ (l : List PathPlan). AreOrdered l) (sym c.as_slice-slice.ensures)
     (planned_ordered c.paths_are_ordered.ensures _ c.in_ok-planned.planned.plan c.in_ok-planned.ensures.read.read.planned)
-
-pub check_out_paths-requires-clause-drivers : goal.check_out_paths-requires-clause-drivers
-check_out_paths-requires-clause-drivers g c κs within =
-    subst (λ (l : List PathPlan). AreDrivers c.as_slice-drivers.result.now l) (sym c.as_slice-slice.ensures)
-    (subst (λ (l : List Driver). AreDrivers l c.in_ok-planned.planned.plan.paths) (sym c.as_slice-drivers.ensures)
-    (planned_drivers _ c.in_ok-planned.planned.plan c.in_ok-planned.ensures.read.read.planned))
 
 pub check_out_paths-requires-clause-pace : goal.check_out_paths-requires-clause-pace
 check_out_paths-requires-clause-pace g c κs within = planned_pace _ c.in_ok-planned.planned _ _ _ tt c.in_ok-planned.ensures.read refl
@@ -32,4 +25,4 @@ check_out_paths-requires-clause-pace g c κs within = planned_pace _ c.in_ok-pla
 pub returns : goal.returns
 returns g c =
     tried c.paths_are_ordered.ensures _ _ _ c.in_ok-planned.planned _ _ _ _ _ _ _ _ _ _ c.in_ok-planned.ensures.told c.requires.repo c.requires.tree c.requires.spawner
-    c.in_ok-planned.ensures.read c.as_slice-slice.ensures c.as_slice-drivers.ensures refl c.in_ok-done.ensures.workers c.in_ok-done.ensures.ended c.in_ok-done.ensures.run
+    c.in_ok-planned.ensures.read c.as_slice-slice.ensures c.as_slice-drivers.ensures refl c.in_ok-done.ensures.run.many c.in_ok-done.ensures.ended c.in_ok-done.ensures.run.run

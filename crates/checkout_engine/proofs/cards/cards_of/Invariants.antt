@@ -3,7 +3,7 @@ use Rattle.std.specs.List.{filter}
 use Rattle.checkout_book.specs.Sights.{sight}
 use Rattle.checkout_engine.specs.Cards.{AreCards}
 use Rattle.checkout_engine.proofs.PoolCards.{mine}
-use Rattle.checkout_engine.proofs.cards.add_cards.Given as goal
+use Rattle.checkout_engine.proofs.cards.cards_of.Given as goal
 
 abbrev pub invariant-loop-place : goal.invariant-loop-place
 invariant-loop-place g l = record {
