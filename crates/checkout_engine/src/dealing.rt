@@ -8,7 +8,7 @@ ghost use Rattle.checkout_engine.specs.Dealing.{IsSeedFor, AreSeedsFor, AreUnuse
 ghost use Rattle.checkout_engine.specs.Made.{HasCards, HasMade, AreOut, AreBack, NoneOut};
 
 use crate::cards::{cards_of, give_cards};
-use crate::work::Work;
+use crate::work::PlannedWork;
 use checkout_plan::PathPlan;
 use convert_plan::Card;
 use edge_kit::{Blob, Leaf, Repo, Spawner, Worktree};
@@ -101,7 +101,7 @@ fn seeds_of<R: Repo, T: Worktree, P: Spawner>(
     repo: &mut R,
     tree: &mut T,
     spawner: &mut P,
-    work: &Work<'_>,
+    work: &PlannedWork<'_>,
 ) -> Result<Vec<DeskSeed<P::Starter, R::Blob, T::Leaf>>, AllocError>
     requires { IsWork work.now.paths.now work.now.drivers.now }
     ensures told { R.told repo.new ≡ R.told repo.old }
@@ -143,7 +143,7 @@ pub fn deal<R: Repo, T: Worktree, P: Spawner>(
     repo: &mut R,
     tree: &mut T,
     spawner: &mut P,
-    work: &Work<'_>,
+    work: &PlannedWork<'_>,
 ) -> Result<Dealt<P::Starter, R::Blob, T::Leaf>, AllocError>
     requires { IsWork work.now.paths.now work.now.drivers.now }
     ensures told { R.told repo.new ≡ R.told repo.old }

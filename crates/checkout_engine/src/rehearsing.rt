@@ -14,7 +14,7 @@ use crate::planning::{Planned, read_plan};
 use crate::report::{lacks_memory, status_of};
 use crate::status::{Status, number_of};
 use crate::stop::Stop;
-use crate::work::{Means, Work};
+use crate::work::{Means, PlannedWork};
 use crate::workers::Pace;
 use checkout_core::{Event, FailCause, Start, Verdict};
 use checkout_plan::{Plan, closed_paths_have_causes};
@@ -195,7 +195,7 @@ fn tried<R: Repo, T: Worktree, P: Spawner, G: Gate, H: Threads + Wait + Sync>(
     };
     let slice = planned.plan.paths.as_slice();
     let drivers = planned.plan.drivers.as_slice();
-    let work = Work {
+    let work = PlannedWork {
         paths: slice,
         drivers,
         pace,

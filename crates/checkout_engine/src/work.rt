@@ -18,7 +18,7 @@ pub struct Means<'a, G: Gate, H: Threads + Wait + Sync> {
 
 /// The paths and the drivers of a plan, and how many workers write them.
 #[derive(Clone, Copy)]
-pub struct Work<'a> {
+pub struct PlannedWork<'a> {
     pub paths: &'a [PathPlan],
     /// The drivers in use, in the order of their desks.
     pub drivers: &'a [Driver],

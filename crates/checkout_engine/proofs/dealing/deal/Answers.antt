@@ -65,12 +65,11 @@ pub returns-in-Err-clause-none : goal.returns-in-Err-clause-none
 returns-in-Err-clause-none g c =
     let repo = g.R.Repo.seen c.args.repo.now in
     let tree = g.T.Worktree.seen c.args.tree.now in
-    let n = length c.in_ok-pool.pool.items in
-    (
+    let n = length c.in_ok-pool.pool.items in (
       c.give_cards.ensures.back 0 repo tree
-      (subst (λ (k : ℕ). HasCards k repo (g.R.Repo.seen c.seeds_of.new.repo) tree (g.T.Worktree.seen c.seeds_of.new.tree)) (other_way n)
-      (more_made n 0 repo (g.R.Repo.seen c.cards_of.new.repo) (g.R.Repo.seen c.seeds_of.new.repo) tree (g.T.Worktree.seen c.cards_of.new.tree) (g.T.Worktree.seen c.seeds_of.new.tree)
-      c.in_ok-pool.ensures.repo c.in_ok-pool.ensures.tree c.in-Err.ensures.none.0)),
+          (subst (λ (k : ℕ). HasCards k repo (g.R.Repo.seen c.seeds_of.new.repo) tree (g.T.Worktree.seen c.seeds_of.new.tree)) (other_way n)
+          (more_made n 0 repo (g.R.Repo.seen c.cards_of.new.repo) (g.R.Repo.seen c.seeds_of.new.repo) tree (g.T.Worktree.seen c.cards_of.new.tree) (g.T.Worktree.seen c.seeds_of.new.tree)
+          c.in_ok-pool.ensures.repo c.in_ok-pool.ensures.tree c.in-Err.ensures.none.0)),
       c.in-Err.ensures.none.1,
     )
 

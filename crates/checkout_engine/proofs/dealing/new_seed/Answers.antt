@@ -8,12 +8,11 @@ pub returns-in-Err-clause-none : goal.returns-in-Err-clause-none
 returns-in-Err-clause-none g c =
     let repo = g.R.Repo.seen c.args.repo.now in
     let tree = g.T.Worktree.seen c.args.tree.now in
-    let n = length c.in_ok-cards.cards.items in
-    (
+    let n = length c.in_ok-cards.cards.items in (
       c.in-Err.ensures.kept,
       c.give_cards.ensures.back 0 repo tree
-      (subst (λ (k : ℕ). HasCards k repo (g.R.Repo.seen c.cards_of.new.repo) tree (g.T.Worktree.seen c.cards_of.new.tree)) (none_more n)
-      (none_back n repo (g.R.Repo.seen c.cards_of.new.repo) tree (g.T.Worktree.seen c.cards_of.new.tree) c.in_ok-cards.ensures.repo c.in_ok-cards.ensures.tree)),
+          (subst (λ (k : ℕ). HasCards k repo (g.R.Repo.seen c.cards_of.new.repo) tree (g.T.Worktree.seen c.cards_of.new.tree)) (none_more n)
+          (none_back n repo (g.R.Repo.seen c.cards_of.new.repo) tree (g.T.Worktree.seen c.cards_of.new.tree) c.in_ok-cards.ensures.repo c.in_ok-cards.ensures.tree)),
     )
 
 pub returns-in_err-cards-clause-told : goal.returns-in_err-cards-clause-told

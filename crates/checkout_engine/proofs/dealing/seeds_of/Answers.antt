@@ -62,15 +62,14 @@ returns-in-Err-clause-none g c =
     let n = length (seed_cards desks) in
     let i = c.loop-place.invariant in
     let none = c.in-Err.ensures.none in
-    let back = c.give_seeds.ensures.back in
-    (
+    let back = c.give_seeds.ensures.back in (
       back.cards_back 0 repo tree
-      (subst (λ (k : ℕ). HasCards k repo repo' tree tree') (other_way n)
-      (more_made n 0 repo (g.R.Repo.seen c.loop-place.repo) repo' tree (g.T.Worktree.seen c.loop-place.tree) tree' i.repo i.tree none.1)),
+          (subst (λ (k : ℕ). HasCards k repo repo' tree tree') (other_way n)
+          (more_made n 0 repo (g.R.Repo.seen c.loop-place.repo) repo' tree (g.T.Worktree.seen c.loop-place.tree) tree' i.repo i.tree none.1)),
       back.starters_back 0 spawner
-      (subst (λ (k : ℕ). HasStarters k spawner (g.P.Spawner.seen c.new_seed.new.spawner)) (none_more (length desks))
-      (subst (λ (s : SpawnerSeen). HasStarters (length desks) spawner s) (sym none.0)
-      (all_starters (length desks) spawner (g.P.Spawner.seen c.loop-place.spawner) i.spawner))),
+          (subst (λ (k : ℕ). HasStarters k spawner (g.P.Spawner.seen c.new_seed.new.spawner)) (none_more (length desks))
+          (subst (λ (s : SpawnerSeen). HasStarters (length desks) spawner s) (sym none.0)
+          (all_starters (length desks) spawner (g.P.Spawner.seen c.loop-place.spawner) i.spawner))),
     )
 
 pub returns-in-Err-clause-told : goal.returns-in-Err-clause-told
