@@ -125,9 +125,9 @@ pub fn told_answers_fit()
 {}
 
 /// A talk with hosts that run a command once for each content, in which no link and no start failed, memory never ran
-/// out, no answer is over the limit, and the run for each path is told: each path gets the output that its command gave,
-/// or is refused with an error if the run didn't end well within its limit. A path whose request is over the limit breaks
-/// its session.
+/// out, no answer is over the limit, and the run for each path is told: each path gets the output that its command
+/// gave, or is refused with an error if the run didn't end well within its limit. A path whose request is over the
+/// limit breaks its session.
 pub fn single_runs_serve()
     ensures { OnceHeard }
 {
