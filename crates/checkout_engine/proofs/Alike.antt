@@ -6,7 +6,7 @@ use Rattle.std.proofs.lemmas.Option.{same_Some}
 use Rattle.std.proofs.lemmas.List.Sums.{sum_by-append}
 use Rattle.edge_kit.specs.Seen.{TreeSeen}
 use Rattle.edge_kit.specs.Told.{Told, RepoTold, Tells}
-use Rattle.edge_kit.specs.Starters.{Had, Starts, StartTold}
+use Rattle.edge_kit.specs.Starters.{Had, Starts, StartsListed, StartTold}
 use Rattle.edge_kit.specs.declared.tree_file.TreeFile.{TreeFile}
 use Rattle.settings_view.specs.declared.view.Driver.{Driver}
 use Rattle.git_index.specs.Spelling.{OneReading, PathsAreOrdered}
@@ -112,7 +112,7 @@ module _ (object : List ℕ → Told) (ps : List PathPlan) (g : Ground object ps
     both_hear same n is = (heard_if_asked d t n is ∙ ap heard_by (same n is).0 ∙ sym (heard_if_asked d u n (sym (same_number n) ∙ is)), (same n is).1)
 
     -- drivers that are told to write the same, where no link failed
-    same_told : SameHeard → (starts : List StartTold) → ahead t.command ≡ Some starts → ahead' u.command ≡ Some starts → NoneFailed t.had → NoneFailed u.had
+    same_told : SameHeard → (starts : List StartTold) → ahead t.command ≡ StartsListed starts → ahead' u.command ≡ StartsListed starts → NoneFailed t.had → NoneFailed u.had
         → (n : ℕ) → contains n t.asked ≡ true → (heard_at d t n ≡ heard_at d u n) × (content_of n t.exchanges ≡ content_of n u.exchanges)
     same_told law starts tells tells' fine fine' =
         let first : IsToldTalk d t.paths t.asked starts t.had t.exchanges = told_talk object ahead ps g drivers talks outcomes history a d t here starts tells fine in

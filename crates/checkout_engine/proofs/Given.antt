@@ -2,7 +2,7 @@
 use Rattle.std.proofs.Common.{◌≡◌, ◌+◌, ℕ, zero, suc, Bool, List, [], ◌∷◌, Some, refl, sym, ap, ◌∙◌, subst, arith}
 use Rattle.std.specs.Prelude.{slice_get}
 use Rattle.std.proofs.lemmas.Option.{same_Some}
-use Rattle.edge_kit.specs.Starters.{Starts, StartTold}
+use Rattle.edge_kit.specs.Starters.{Starts, StartsListed, StartTold}
 use Rattle.edge_kit.specs.Told.{Told}
 use Rattle.git_index.specs.Spelling.{PathsAreOrdered}
 use Rattle.driver_line.specs.OneContent.{OneContent}
@@ -41,7 +41,7 @@ talk_with ahead object ps vs history m (y ∷ xs) (t ∷ ts) are (suc d) x at =
 got_by : (required : Bool) (d : ℕ) (t : DriverTalk) (n : ℕ) (told : Told) (p : PathPlan) (o : Outcome) (v : Verdict) (u : Bool) → v ≡ verdict.Written u → HasDeskVerdict required d t n told p o v → heard_at d t n ≡ Some heard.Got
 got_by required d t n told p o v u is has = let own : HasDeskVerdict required d t n told p o (verdict.Written u) = subst (HasDeskVerdict required d t n told p o) is has in own.0
 
-module _ (object : List ℕ → Told) (ahead : List ℕ → Starts) (ps : List PathPlan) (g : Ground object ps) (starts : (command : List ℕ) → (starts : List StartTold) × (ahead command ≡ Some starts)) (drivers : List Driver) (talks : List DriverTalk) (outcomes : List Outcome) (history : List Event)
+module _ (object : List ℕ → Told) (ahead : List ℕ → Starts) (ps : List PathPlan) (g : Ground object ps) (starts : (command : List ℕ) → (starts : List StartTold) × (ahead command ≡ StartsListed starts)) (drivers : List Driver) (talks : List DriverTalk) (outcomes : List Outcome) (history : List Event)
     (s : IsSide object ahead ps drivers talks outcomes history)
     (written : AreWritten ps outcomes) where
   gives_all : (d : ℕ) (x : Driver) → slice_get drivers d ≡ Some x → GivesAll ahead ps d x

@@ -6,7 +6,7 @@ use Rattle.std.proofs.lemmas.Bool.{eqb-true}
 use Rattle.std.proofs.lemmas.Option.{same_Some}
 use Rattle.std.proofs.lemmas.List.Sums.{sum_by-append}
 use Rattle.edge_kit.specs.Told.{Told}
-use Rattle.edge_kit.specs.Starters.{Starts, StartTold}
+use Rattle.edge_kit.specs.Starters.{Starts, StartsListed, StartTold}
 use Rattle.settings_view.specs.declared.view.Driver.{Driver}
 use Rattle.filter_words.specs.declared.reply.Reply.TheVariants as reply
 use Rattle.checkout_core.specs.declared.event.Event.{Event}
@@ -217,7 +217,7 @@ module _ (object : List ℕ → Told) (ahead : List ℕ → Starts) (ps : List P
         let read : was_read (o.0).verdict ≡ true = sym (verdict_asked n e.0 o.0 e.1 e.2 o.1 o.4) ∙ is in
         not_wanting o.2 d t n (object (e.0).object) e.0 o.0 (o.0).verdict o.3 o.4 read (heard_if_asked d t n is ∙ ap heard_by wants)
 
-    pub told_talk : (starts : List StartTold) → ahead t.command ≡ Some starts → NoneFailed t.had → IsToldTalk d t.paths t.asked starts t.had t.exchanges
+    pub told_talk : (starts : List StartTold) → ahead t.command ≡ StartsListed starts → NoneFailed t.had → IsToldTalk d t.paths t.asked starts t.had t.exchanges
     told_talk starts is fine = record {
       full = said.talk.full;
       fills = said.talk.fills;

@@ -6,7 +6,7 @@ use Rattle.std.specs.List.{list_any, AllByRecursion}
 use Rattle.std.proofs.lemmas.Bool.{lt-ltb, eq-eqb}
 use Rattle.std.proofs.lemmas.Option.{same_Some}
 use Rattle.edge_kit.specs.Told.{Told, Raw, TellsNone, TellsLong, MayFail}
-use Rattle.edge_kit.specs.Starters.{Starts}
+use Rattle.edge_kit.specs.Starters.{Starts, StartsListed}
 use Rattle.edge_kit.specs.declared.leaf_state.LeafState.{LeafState}
 use Rattle.settings_view.specs.declared.view.Driver.{Driver}
 use Rattle.git_index.specs.Spelling.{pairwise}
@@ -202,7 +202,7 @@ module _ (object : List ℕ → Told) (ahead : List ℕ → Starts) (ps : List P
         let own = desk_verdict_at n e.0 o.0 e.2 o.2.has in
         not_wanting own.0 d t n (object (e.0).object) e.0 o.0 (o.0).verdict own.1 o.2.memory (read_at n e.0 o.0 e.1 e.2 o.2.has) (heard_if_asked d t n is ∙ ap heard_by wants)
 
-    same_starts : ahead t.command ≡ Some best.starts
+    same_starts : ahead t.command ≡ StartsListed best.starts
     same_starts = ap ahead (same_Some t.command best.talk.command (sym said.2.command ∙ best.command)) ∙ best.told
 
     told_talk : IsToldTalk d t.paths t.asked best.starts t.had t.exchanges

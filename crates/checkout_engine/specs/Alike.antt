@@ -4,7 +4,7 @@ use Rattle.std.specs.List.{AllByRecursion}
 use Rattle.std.specs.Global.{Vec}
 use Rattle.edge_kit.specs.Memory.{repo_told}
 use Rattle.edge_kit.specs.MemoryDrivers.{starts_for}
-use Rattle.edge_kit.specs.Starters.{Starts, StartTold}
+use Rattle.edge_kit.specs.Starters.{Starts, StartsListed, StartTold}
 use Rattle.edge_kit.specs.Told.{Told, Raw, Absent, Failing, Untold, RepoTold}
 use Rattle.edge_kit.specs.declared.memory_repo.RepoFail.{RepoFail}
 use Rattle.edge_kit.specs.declared.script.DriverScript.{DriverScript}
@@ -41,7 +41,7 @@ OnePlan = (told : RepoTold) → RepoTellsAll told → (p q : Plan)
 -- A repository tells all, and the spawner tells the starts of each command.
 pub record TellAll (told : RepoTold) (ahead : List ℕ → Starts) : Type 0 where
   pub repo : RepoTellsAll told
-  pub starts : (command : List ℕ) → (starts : List StartTold) × (ahead command ≡ Some starts)
+  pub starts : (command : List ℕ) → (starts : List StartTold) × (ahead command ≡ StartsListed starts)
 
 -- The forms in memory do so.
 abbrev pub MemoryTellsAll : Type 0

@@ -17,7 +17,7 @@ use Rattle.filter_words.specs.declared.smudge_reply.ReplyPhase.TheVariants.{KeyL
 use Rattle.filter_words.specs.declared.answer_state.AnswerState.{AnswerState}
 use Rattle.filter_words.specs.declared.answer_state.AnswerState.TheVariants.{On, Done, Broken, Late}
 use Rattle.edge_kit.specs.declared.faults.SendFault.{SendFault}
-use Rattle.edge_kit.specs.Links.{LinkSeen, is_shut}
+use Rattle.edge_kit.specs.Links.{LinkSeen, is_shut, replies_in}
 use Rattle.edge_kit.specs.Starters.{StarterSeen, session_had}
 use Rattle.filter_proto.specs.Wires.{Wire, IsShutAfter}
 use Rattle.filter_proto.specs.Exchanges.{Ends, Good, Broke, OutOfMemory, Stops, Unsent, IsExchange}
@@ -207,13 +207,14 @@ pub finished : (mid s : SessionSeen) (from old last : StarterSeen) (o : Option S
     → last ≡ record from { had = from.had ++ session_had link ∷ []; out = last.out } → IsEnded old s.wire s.standing (record { starter = last; session = o })
 finished mid s from old last o link is same none shut out kept =
     let ended : IsEnded from mid.wire mid.standing (record { starter = last; session = o }) = record {
-      seen = record { sent = link.sent; taken = link.taken; faults = link.faults; ends = link.ends; shut = is_shut link.stage };
+      seen = record { sent = link.sent; taken = link.taken; replies = replies_in link.left; faults = link.faults; ends = link.ends; shut = is_shut link.stage };
       none = none;
       kept = kept;
       out = out;
       sent = ap (λ (w : Wire). w.sent) shut.kept;
       taken = ap (λ (w : Wire). w.taken) shut.kept;
       ends = ap (λ (w : Wire). w.ends) shut.kept;
+      replies = ap (λ (w : Wire). replies_in w.left) shut.kept;
       input = shut.input;
       end = shut.end;
       faults = shut.counts;

@@ -221,6 +221,7 @@ ended_full v w from had last k z same h =
         sent = refl;
         taken = refl;
         ends = h.ends;
+        replies = h.replies;
         input = h.input;
         end = h.end;
         faults = h.faults;

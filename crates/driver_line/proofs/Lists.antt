@@ -324,7 +324,7 @@ list_table s t old new r x = elim (x.exchange) [
 
 over_as : (z : Standing) (v w : LineView) (wire : Wire) → z ≡ standing.Live → IsEnded v.starter wire z w → IsEnded v.starter wire standing.Aborted w
 over_as z v w wire e h = let k = subst (λ (y : Standing). IsEnded v.starter wire y w) e h in
-    record { seen = k.seen; none = k.none; kept = k.kept; out = k.out; sent = k.sent; taken = k.taken; ends = k.ends; input = k.input; end = k.end; faults = k.faults; shut = k.shut }
+    record { seen = k.seen; none = k.none; kept = k.kept; out = k.out; sent = k.sent; taken = k.taken; ends = k.ends; replies = k.replies; input = k.input; end = k.end; faults = k.faults; shut = k.shut }
 
 pub list_over : (r : ListReply) (v w : LineView) (s u : SessionSeen) → (list_standing r ≡ standing.Live → ⊥) → u ≡ record s { wire = u.wire; standing = standing_after_list r } → IsEnded v.starter u.wire u.standing w → After v s u.wire (list_standing r) w
 list_over (list.Names n) v w s u live is h = absurd (live refl)

@@ -19,7 +19,7 @@ use Rattle.filter_proto.specs.Exchanges.{Ends, Good, Broke, Stops, Unsent, IsHea
 use Rattle.filter_proto.specs.Openings.{IsOpening}
 use Rattle.checkout_core.specs.Conditions.{is_path_break}
 use Rattle.edge_kit.specs.Starters.{StarterSeen, StartOutOfMemory, IsStarted, NextGives, session_had}
-use Rattle.edge_kit.specs.Links.{LinkSeen, IsNewLink, is_shut}
+use Rattle.edge_kit.specs.Links.{LinkSeen, IsNewLink, is_shut, replies_in}
 use Rattle.filter_proto.specs.Wires.{SessionSeen}
 use Rattle.filter_proto.specs.declared.session.Standing.{Standing}
 use Rattle.filter_proto.specs.declared.session.Standing.TheVariants as standing
@@ -136,13 +136,14 @@ failed_says old from mid last link back unread o end none gone same st open_ out
       wire_of unread back,
       opened_line old end from mid link (wire_of unread back) none same st open_,
       record {
-        seen = record { sent = back.sent; taken = back.taken; faults = back.faults; ends = back.ends; shut = is_shut back.stage };
+        seen = record { sent = back.sent; taken = back.taken; replies = replies_in back.left; faults = back.faults; ends = back.ends; shut = is_shut back.stage };
         none = gone;
         kept = kept ∙ ap (λ (x : StarterSeen). record x { had = x.had ++ session_had back ∷ []; out = last.out }) is;
         out = out ∙ ap (λ (x : StarterSeen). x.out) is;
         sent = refl;
         taken = refl;
         ends = refl;
+        replies = refl;
         input = Ok tt;
         end = Ok tt;
         faults = (refl, refl, refl);

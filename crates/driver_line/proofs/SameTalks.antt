@@ -11,8 +11,8 @@ use Rattle.filter_words.specs.declared.reply.BreakCause.TheVariants as cause
 use Rattle.filter_words.specs.declared.handshake.HandshakePhase.{HandshakePhase}
 use Rattle.edge_kit.specs.Files.{grown}
 use Rattle.edge_kit.specs.Told.{Tells}
-use Rattle.edge_kit.specs.Links.{led}
-use Rattle.edge_kit.specs.Starters.{Had, Session, StartFailed, StartOutOfMemory, SessionHad, StartTold, Fails, Gives, Starts, NextGives, NextFails}
+use Rattle.edge_kit.specs.Links.{Left, LeftUntold, LeftBytes, LeftAnswers, led, TellsLeft}
+use Rattle.edge_kit.specs.Starters.{Had, Session, StartFailed, StartOutOfMemory, SessionHad, StartTold, Fails, Gives, Starts, StartsListed, NextGives, NextFails}
 use Rattle.filter_proto.specs.Wires.{Wire}
 use Rattle.filter_proto.specs.Complete.{IsSettled}
 use Rattle.filter_proto.specs.Exchanges.{Ends, Good, Broke, OutOfMemory, IsHeard, Unsent}
@@ -75,14 +75,15 @@ pub record IsToldSession (output : List ℕ) (seen : SessionHad) : Type 0 where
 pub told_taken : (t : Option (List ℕ)) (taken came : List ℕ) → t ≡ Some taken → Tells t came → taken ≡ came
 told_taken t taken came e h = subst (λ (x : Option (List ℕ)). Tells x came) e h
 
-told_session : (out left : Option (List ℕ)) (output came taken : List ℕ) (seen : SessionHad) → out ≡ Some output → out ≡ led came left → Tells seen.taken came → (0 < seen.ends → Tells left [])
+told_session : (out left : Left) (output came taken : List ℕ) (seen : SessionHad) → out ≡ LeftBytes output → out ≡ led came left → Tells seen.taken came → (0 < seen.ends → TellsLeft left [])
     → seen.faults ≡ 0 → seen.taken ≡ Some taken → IsToldSession output seen
-told_session out None output came taken seen e part tells whole none is = absurd (cc (sym e ∙ part))
-told_session out (Some l) output came taken seen e part tells whole none is = record {
+told_session out LeftUntold output came taken seen e part tells whole none is = absurd (cc (sym e ∙ part))
+told_session out (LeftAnswers r) output came taken seen e part tells whole none is = absurd (cc (sym e ∙ part))
+told_session out (LeftBytes l) output came taken seen e part tells whole none is = record {
   taken = taken;
   ahead = l;
   is = is;
-  whole = let one : Some output ≡ Some (came ++ l) = sym e ∙ part in let two : output ≡ came ++ l = cc one in two ∙ ap (λ (x : List ℕ). x ++ l) (sym (told_taken seen.taken taken came is tells));
+  whole = let one : LeftBytes output ≡ LeftBytes (came ++ l) = sym e ∙ part in let two : output ≡ came ++ l = cc one in two ∙ ap (λ (x : List ℕ). x ++ l) (sym (told_taken seen.taken taken came is tells));
   quiet = record { faults = none; whole = whole };
 }
 
@@ -168,17 +169,17 @@ outside_of paths (Session seen ∷ hs) es h = subst IsOutside (sym h.4) (h.0, re
 
 -- what two starts are told to do
 
-pub record IsSameOutput (told : List StartTold) (out1 out2 : Option (List ℕ)) : Type 0 where
+pub record IsSameOutput (told : List StartTold) (out1 out2 : Left) : Type 0 where
   pub output : List ℕ
-  pub one : out1 ≡ Some output
-  pub two : out2 ≡ Some output
+  pub one : out1 ≡ LeftBytes output
+  pub two : out2 ≡ LeftBytes output
 
-same_output : (told : List StartTold) (out1 out2 : Option (List ℕ)) → NextGives (Some told) out1 → NextGives (Some told) out2 → IsSameOutput told out1 out2
+same_output : (told : List StartTold) (out1 out2 : Left) → NextGives (StartsListed told) out1 → NextGives (StartsListed told) out2 → IsSameOutput told out1 out2
 same_output [] out1 out2 h k = absurd h
 same_output (Fails ∷ rest) out1 out2 h k = absurd h
 same_output (Gives output ∷ rest) out1 out2 h k = record { output = output; one = h; two = k }
 
-one_kind : (told : List StartTold) (out : Option (List ℕ)) → NextGives (Some told) out → NextFails (Some told) → ⊥
+one_kind : (told : List StartTold) (out : Left) → NextGives (StartsListed told) out → NextFails (StartsListed told) → ⊥
 one_kind [] out h k = h
 one_kind (Fails ∷ rest) out h k = h
 one_kind (Gives output ∷ rest) out h k = k
@@ -253,7 +254,7 @@ module _ (replies_law : ReplyLaw) (lists_law : ListLaw) (hand_law : HandLaw) (pa
       both_more asked d t fate (NoStart p) (NoStart q) es fs u v (ap NoStart path) s g h (λ mid run st x y. left mid (after d (NoStart p) fate) st x y)
 
   pub same_items : (i j : List Had) (told : List StartTold) (es fs : List Exchange) (t : Talk) (fate : ℕ → Fate) (u v : Talk) (left1 left2 : Starts) → Stands asked t fate
-      → Matches paths1 es i → Matches paths2 fs j → GoBy (Some told) i left1 → GoBy (Some told) j left2 → AreFine i → AreFine j → IsOver u → IsOver v
+      → Matches paths1 es i → Matches paths2 fs j → GoBy (StartsListed told) i left1 → GoBy (StartsListed told) j left2 → AreFine i → AreFine j → IsOver u → IsOver v
       → Runs d t fate es u → Runs d t fate fs v → Alike d fate es fs
   same_items [] j told es fs t fate u v left1 left2 s m n a b x y over1 over2 g h =
       let k = none_left t fate es fs u v m over1 g.0 h.0 in

@@ -4,8 +4,8 @@ use Rattle.pkt_line.specs.Packets.{Packet}
 use Rattle.filter_words.specs.Handshake.{IsHello}
 use Rattle.filter_words.specs.Requests.{hello_text}
 use Rattle.filter_words.specs.declared.reply.BreakCause.TheVariants as cause
-use Rattle.edge_kit.specs.Links.{Open}
-use Rattle.edge_kit.specs.Starters.{Session, StartFailed, SessionHad, Fails, Gives}
+use Rattle.edge_kit.specs.Links.{Open, LeftBytes}
+use Rattle.edge_kit.specs.Starters.{Session, StartFailed, SessionHad, Fails, Gives, StartsListed}
 use Rattle.filter_proto.specs.Wires.{Wire}
 use Rattle.filter_proto.specs.Exchanges.{Broke}
 use Rattle.filter_proto.specs.Openings.{IsOpening}
@@ -19,10 +19,10 @@ use Rattle.driver_line.specs.SameHeard.{IsToldTalk, fate_in}
 use Rattle.driver_line.specs.Transcripts.{IsTalk, IsFailedSession}
 
 abbrev wire : List ℕ → ℕ → Wire
-wire sent ends = record { sent = Some sent; taken = Some []; left = Some []; unread = []; faults = 0; ends = ends; stage = Open }
+wire sent ends = record { sent = Some sent; taken = Some []; left = LeftBytes []; unread = []; faults = 0; ends = ends; stage = Open }
 
 abbrev seen : SessionHad
-seen = record { sent = Some hello_text; taken = Some []; faults = 0; ends = 1; shut = false }
+seen = record { sent = Some hello_text; taken = Some []; replies = None; faults = 0; ends = 1; shut = false }
 
 -- the same session, of a link that tells nothing
 abbrev untold : SessionHad
@@ -92,8 +92,8 @@ told paths = record {
   full = Session seen ∷ StartFailed ∷ [];
   fills = (record { sent = hello_text; taken = []; sent_is = tt; taken_is = tt; full_is = refl }, tt);
   talk = talk paths;
-  left = Some [];
-  goes = (Some [], refl, record { came = []; left = Some []; part = refl; taken = refl; whole = λ lt. refl }, (tt, refl));
+  left = StartsListed [];
+  goes = (LeftBytes [], refl, record { came = []; left = LeftBytes []; part = refl; taken = refl; whole = λ lt. refl; replies = refl }, (tt, refl));
   fine = (refl, tt);
   memory = λ p here. not_memory (p == 7) (p == 8) (fate_in 0 p exchanges) (both_fates p);
 }

@@ -10,7 +10,7 @@ use Rattle.filter_words.specs.declared.answer_state.AnswerState.{AnswerState}
 use Rattle.filter_words.specs.declared.answer_state.AnswerState.TheVariants.{On, Done, Broken, Late}
 use Rattle.edge_kit.specs.Files.{grown}
 use Rattle.edge_kit.specs.Told.{Tells}
-use Rattle.edge_kit.specs.Links.{led}
+use Rattle.edge_kit.specs.Links.{Left, LeftUntold, LeftBytes, LeftAnswers, led, TellsLeft, replies_in}
 use Rattle.edge_kit.specs.Starters.{StarterSeen, Had, Session, StartFailed, StartOutOfMemory, SessionHad, Starts, NextGives, NextFails, behind_next}
 use Rattle.filter_proto.specs.Wires.{Wire, SessionSeen, Took, IsSentPart}
 use Rattle.filter_proto.specs.Exchanges.{Ends, Good, Broke, OutOfMemory, Stops, IsHeard, IsExchange}
@@ -24,13 +24,20 @@ use Rattle.driver_line.specs.ToldStarts.{TookOf, GoBy}
 
 -- what is left of an output
 
-led_nothing : (x : Option (List ℕ)) → x ≡ led [] x
-led_nothing None = refl
-led_nothing (Some w) = refl
+led_nothing : (x : Left) → x ≡ led [] x
+led_nothing LeftUntold = refl
+led_nothing (LeftBytes w) = refl
+led_nothing (LeftAnswers r) = refl
 
-led_both : (a b : List ℕ) (x : Option (List ℕ)) → led a (led b x) ≡ led (a ++ b) x
-led_both a b None = refl
-led_both a b (Some w) = ap Some (sym (append_assoc a b w))
+led_both : (a b : List ℕ) (x : Left) → led a (led b x) ≡ led (a ++ b) x
+led_both a b LeftUntold = refl
+led_both a b (LeftBytes w) = ap LeftBytes (sym (append_assoc a b w))
+led_both a b (LeftAnswers r) = refl
+
+replies_led : (came : List ℕ) (x : Left) → replies_in (led came x) ≡ replies_in x
+replies_led came LeftUntold = refl
+replies_led came (LeftBytes w) = refl
+replies_led came (LeftAnswers r) = refl
 
 pub tells_more : (t : Option (List ℕ)) (a b : List ℕ) → Tells t a → Tells (grown t b) (a ++ b)
 tells_more None a b h = tt
@@ -40,16 +47,17 @@ nothing_left : (a b : List ℕ) → a ++ b ≡ [] → b ≡ []
 nothing_left [] b e = e
 nothing_left (x ∷ xs) b e = absurd (cc e)
 
-tells_left : (came : List ℕ) (x : Option (List ℕ)) → Tells (led came x) [] → Tells x []
-tells_left came None h = tt
-tells_left came (Some w) h = nothing_left came w h
+tells_left : (came : List ℕ) (x : Left) → TellsLeft (led came x) [] → TellsLeft x []
+tells_left came LeftUntold h = tt
+tells_left came (LeftBytes w) h = nothing_left came w h
+tells_left came (LeftAnswers r) h = tt
 
 -- a link took a first part of its output
-pub record TakesFrom (output : Option (List ℕ)) (wire : Wire) : Type 0 where
+pub record TakesFrom (output : Left) (wire : Wire) : Type 0 where
   pub came : List ℕ
   pub part : output ≡ led came wire.left
   pub taken : Tells wire.taken came
-  pub whole : 0 < wire.ends → Tells wire.left []
+  pub whole : 0 < wire.ends → TellsLeft wire.left []
 
 fresh_takes : (start : Wire) → IsFresh start → TakesFrom start.left start
 fresh_takes start fresh = record {
@@ -59,28 +67,28 @@ fresh_takes start fresh = record {
   whole = λ lt. absurd (let e = fresh.ends in omega (arith, lt, e));
 }
 
-unsent_takes : (output : Option (List ℕ)) (text : List ℕ) (s t : Wire) → IsSentPart text s t → TakesFrom output s → TakesFrom output t
+unsent_takes : (output : Left) (text : List ℕ) (s t : Wire) → IsSentPart text s t → TakesFrom output s → TakesFrom output t
 unsent_takes output text s t u h = record {
   came = h.came;
   part = h.part ∙ ap (λ (w : Wire). led h.came w.left) (sym u.stays);
   taken = subst (λ (x : Option (List ℕ)). Tells x h.came) (sym (ap (λ (w : Wire). w.taken) u.stays)) h.taken;
-  whole = λ lt. subst (λ (x : Option (List ℕ)). Tells x []) (sym (ap (λ (w : Wire). w.left) u.stays)) (h.whole (subst (λ (n : ℕ). 0 < n) (ap (λ (w : Wire). w.ends) u.stays) lt));
+  whole = λ lt. subst (λ (x : Left). TellsLeft x []) (sym (ap (λ (w : Wire). w.left) u.stays)) (h.whole (subst (λ (n : ℕ). 0 < n) (ap (λ (w : Wire). w.ends) u.stays) lt));
 }
 
-took_takes : (output : Option (List ℕ)) (s t : Wire) (used : List ℕ) → Took s t used → (t.ends ≡ s.ends) ⊎ Tells t.left [] → TakesFrom output s → TakesFrom output t
+took_takes : (output : Left) (s t : Wire) (used : List ℕ) → Took s t used → (t.ends ≡ s.ends) ⊎ TellsLeft t.left [] → TakesFrom output s → TakesFrom output t
 took_takes output s t used k ends h = record {
   came = h.came ++ k.came;
-  part = h.part ∙ (ap (λ (x : Option (List ℕ)). led h.came x) k.left ∙ led_both h.came k.came t.left);
+  part = h.part ∙ (ap (λ (x : Left). led h.came x) k.left ∙ led_both h.came k.came t.left);
   taken = subst (λ (x : Option (List ℕ)). Tells x (h.came ++ k.came)) (sym k.taken) (tells_more s.taken h.came k.came h.taken);
   whole = λ lt. elim ends [
-    | inl same ↦ tells_left k.came t.left (subst (λ (x : Option (List ℕ)). Tells x []) k.left (h.whole (subst (λ (n : ℕ). 0 < n) same lt)))
+    | inl same ↦ tells_left k.came t.left (subst (λ (x : Left). TellsLeft x []) k.left (h.whole (subst (λ (n : ℕ). 0 < n) same lt)))
     | inr all ↦ all
   ];
 }
 
 -- an end of input was met only with nothing left
 
-on_ends : {P G : Type 0} (p : P) (s t : Wire) (end : Ends G) → Stops {G = G} (On p) s t end → (t.ends ≡ s.ends) ⊎ Tells t.left []
+on_ends : {P G : Type 0} (p : P) (s t : Wire) (end : Ends G) → Stops {G = G} (On p) s t end → (t.ends ≡ s.ends) ⊎ TellsLeft t.left []
 on_ends p s t (Good g) h = absurd h
 on_ends p s t OutOfMemory h = absurd h
 on_ends p s t (Broke cause.BadPacket) h = inl h.1.1
@@ -93,20 +101,20 @@ on_ends p s t (Broke cause.TooLong) h = absurd h
 on_ends p s t (Broke cause.StrangePath) h = absurd h
 on_ends p s t (Broke cause.ListRefused) h = absurd h
 
-stops_ends : {P G : Type 0} (a : AnswerState P G) (s t : Wire) (end : Ends G) → Stops a s t end → (t.ends ≡ s.ends) ⊎ Tells t.left []
+stops_ends : {P G : Type 0} (a : AnswerState P G) (s t : Wire) (end : Ends G) → Stops a s t end → (t.ends ≡ s.ends) ⊎ TellsLeft t.left []
 stops_ends (On p) s t end h = on_ends p s t end h
 stops_ends (Done g) s t end h = inl h.1.1
 stops_ends (Broken c) s t end h = inl h.1.1
 stops_ends Late s t end h = absurd h
 
-heard_takes : {P G : Type 0} (step : P → Packet → AnswerState P G) (start : AnswerState P G) (output : Option (List ℕ)) (s t : Wire) (end : Ends G) (extra : List Packet → Type 0) → IsHeard step start s t end extra → TakesFrom output s → TakesFrom output t
+heard_takes : {P G : Type 0} (step : P → Packet → AnswerState P G) (start : AnswerState P G) (output : Left) (s t : Wire) (end : Ends G) (extra : List Packet → Type 0) → IsHeard step start s t end extra → TakesFrom output s → TakesFrom output t
 heard_takes step start output s t end extra a h = took_takes output s t a.used a.took (stops_ends (outcome step limit start a.packets) s t end a.stops) h
 
-exchange_takes : {P G : Type 0} (step : P → Packet → AnswerState P G) (start : AnswerState P G) (output : Option (List ℕ)) (text : List ℕ) (s t : Wire) (end : Ends G) (extra : List Packet → Type 0) → IsExchange step start text s t end extra → TakesFrom output s → TakesFrom output t
+exchange_takes : {P G : Type 0} (step : P → Packet → AnswerState P G) (start : AnswerState P G) (output : Left) (text : List ℕ) (s t : Wire) (end : Ends G) (extra : List Packet → Type 0) → IsExchange step start text s t end extra → TakesFrom output s → TakesFrom output t
 exchange_takes step start output text s t end extra (inl u) h = unsent_takes output text s t u.sent h
 exchange_takes step start output text s t end extra (inr a) h = heard_takes step start output s t end extra a.heard h
 
-opening_takes : (output : Option (List ℕ)) (s t : Wire) (end : Ends Caps) → IsOpening s t end → TakesFrom output s → TakesFrom output t
+opening_takes : (output : Left) (s t : Wire) (end : Ends Caps) → IsOpening s t end → TakesFrom output s → TakesFrom output t
 opening_takes output s t end (inl u) h = unsent_takes output _ s t u.sent h
 opening_takes output s t end (inr (inl r)) h = heard_takes handshake_step handshake_start output s t end _ r.heard h
 opening_takes output s t end (inr (inr (inl u))) h = unsent_takes output _ u.mid t u.unsent.sent (took_takes output s u.mid u.hello.used u.hello.took (inl u.hello.still.1) h)
@@ -116,7 +124,7 @@ opening_takes output s t end (inr (inr (inr o))) h = heard_takes handshake_step 
 
 abbrev pub StandsAt : Starts → LineView → Option SessionSeen → Type 0
 StandsAt told v None = v.starter.ahead ≡ told
-StandsAt told v (Some s) = (output : Option (List ℕ)) × NextGives told output × (v.starter.ahead ≡ behind_next told) × TakesFrom output s.wire
+StandsAt told v (Some s) = (output : Left) × NextGives told output × (v.starter.ahead ≡ behind_next told) × TakesFrom output s.wire
 
 pub record Moves (told : Starts) (v w : LineView) : Type 0 where
   pub items : List Had
@@ -131,26 +139,27 @@ none_at told w none e = subst (λ (o : Option SessionSeen). StandsAt told w o) (
 some_at : (told : Starts) (w : LineView) (s : SessionSeen) → w.session ≡ Some s → StandsAt told w (Some s) → StandsAt told w w.session
 some_at told w s is e = subst (λ (o : Option SessionSeen). StandsAt told w o) (sym is) e
 
-took_of : (output : Option (List ℕ)) (wire : Wire) (seen : SessionHad) → TakesFrom output wire → seen.taken ≡ wire.taken → seen.ends ≡ wire.ends → TookOf output seen
-took_of output wire seen h taken ends = record {
+took_of : (output : Left) (wire : Wire) (seen : SessionHad) → TakesFrom output wire → seen.taken ≡ wire.taken → seen.ends ≡ wire.ends → seen.replies ≡ replies_in wire.left → TookOf output seen
+took_of output wire seen h taken ends replies = record {
   came = h.came;
   left = wire.left;
   part = h.part;
   taken = subst (λ (x : Option (List ℕ)). Tells x h.came) (sym taken) h.taken;
   whole = λ lt. h.whole (subst (λ (n : ℕ). 0 < n) ends lt);
+  replies = replies ∙ (sym (replies_led h.came wire.left) ∙ sym (ap replies_in h.part));
 }
 
 -- a session is over
-ended_moves : (told : Starts) (v w : LineView) (from : StarterSeen) (output : Option (List ℕ)) (wire : Wire) (z : Standing) → from.had ≡ v.starter.had → from.ahead ≡ behind_next told → NextGives told output → TakesFrom output wire → IsEnded from wire z w → Moves told v w
+ended_moves : (told : Starts) (v w : LineView) (from : StarterSeen) (output : Left) (wire : Wire) (z : Standing) → from.had ≡ v.starter.had → from.ahead ≡ behind_next told → NextGives told output → TakesFrom output wire → IsEnded from wire z w → Moves told v w
 ended_moves told v w from output wire z had ahead gives takes h = record {
   items = Session h.seen ∷ [];
   next = behind_next told;
   had = ap (λ (x : StarterSeen). x.had) h.kept ∙ ap (λ (x : List Had). x ++ Session h.seen ∷ []) had;
   at = none_at (behind_next told) w h.none (ap (λ (x : StarterSeen). x.ahead) h.kept ∙ ahead);
-  go = λ hs left k. (output, gives, took_of output wire h.seen takes h.taken h.ends, k);
+  go = λ hs left k. (output, gives, took_of output wire h.seen takes h.taken h.ends h.replies, k);
 }
 
-after_moves : (told : Starts) (v w : LineView) (s : SessionSeen) (output : Option (List ℕ)) (wire : Wire) (z : Standing) → v.starter.ahead ≡ behind_next told → NextGives told output → TakesFrom output wire → After v s wire z w → Moves told v w
+after_moves : (told : Starts) (v w : LineView) (s : SessionSeen) (output : Left) (wire : Wire) (z : Standing) → v.starter.ahead ≡ behind_next told → NextGives told output → TakesFrom output wire → After v s wire z w → Moves told v w
 after_moves told v w s output wire standing.Live ahead gives takes h = record {
   items = [];
   next = told;

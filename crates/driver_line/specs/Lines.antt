@@ -14,7 +14,7 @@ use Rattle.filter_words.specs.declared.reply.Reply.{Reply}
 use Rattle.edge_kit.specs.Told.{Tells}
 use Rattle.edge_kit.specs.Starters.{StarterSeen, Session, StartOutOfMemory, SessionHad, NextGives, behind_next}
 use Rattle.edge_kit.specs.Starters.{IsStartFailed}
-use Rattle.edge_kit.specs.Links.{Open, is_shut}
+use Rattle.edge_kit.specs.Links.{Open, is_shut, replies_in}
 use Rattle.filter_proto.specs.Wires.{Wire}
 use Rattle.filter_proto.specs.Exchanges.{Ends, Good, Broke, OutOfMemory, IsExchange}
 use Rattle.filter_proto.specs.Wires.{SessionSeen}
@@ -69,6 +69,7 @@ pub record IsEnded (old : StarterSeen) (last : Wire) (how : Standing) (new : Lin
   pub sent : seen.sent ≡ last.sent
   pub taken : seen.taken ≡ last.taken
   pub ends : seen.ends ≡ last.ends
+  pub replies : seen.replies ≡ replies_in last.left
   pub input : Result ⊤ Failed
   pub end : Result ⊤ Failed
   pub faults : CountsShut how input end last.faults seen.faults

@@ -1,6 +1,6 @@
 -- Two talks with a driver that writes the same: what they have in common.
 use Rattle.std.specs.Prelude.{◌≡◌, ◌==◌, ℕ, Bool, true, false, cond, Option, Some, None, List, [], ◌∷◌, map}
-use Rattle.edge_kit.specs.Starters.{Had, Session, StartFailed, StartOutOfMemory, Starts, StartTold}
+use Rattle.edge_kit.specs.Starters.{Had, Session, StartFailed, StartOutOfMemory, Starts, StartsListed, StartTold}
 use Rattle.filter_words.specs.declared.reply.Caps.{Caps}
 use Rattle.filter_words.specs.declared.reply.Reply.TheVariants as reply
 use Rattle.filter_words.specs.declared.reply.ListReply.TheVariants as list
@@ -51,7 +51,7 @@ pub record IsToldTalk (d : ℕ) (paths : Paths) (asked : List ℕ) (told : List 
   pub fills : Fills items full
   pub talk : IsTalk d paths asked full exchanges
   pub left : Starts
-  pub goes : GoBy (Some told) full left
+  pub goes : GoBy (StartsListed told) full left
   pub fine : NoneFailed items
   pub memory : (p : ℕ) → contains p asked ≡ true
       → fate_in d p exchanges ≡ Known heard.OutOfMemory → ⊥

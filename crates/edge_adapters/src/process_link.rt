@@ -1,7 +1,7 @@
 //! The two pipes of a driver's child process.
 ghost use Rattle.std.specs.Prelude.{◌≡◌, ◌≤◌, true, None, IfOk, length};
 ghost use Rattle.edge_kit.specs.Starters.{session_had};
-ghost use Rattle.edge_kit.specs.Links.{IsNewLink};
+ghost use Rattle.edge_kit.specs.Links.{IsNewLink, LeftUntold};
 ghost use Rattle.edge_kit.specs.MemoryDrivers.{stage_of};
 ghost use Rattle.edge_adapters.specs.Starts.{session_of};
 
@@ -119,7 +119,7 @@ impl Link for ProcessLink {
     ghost seen = { λ l. record {
       sent = None;
       taken = None;
-      left = None;
+      left = LeftUntold;
       faults = l.faults;
       ends = l.ends;
       stage = stage_of l.input_shut l.waited;

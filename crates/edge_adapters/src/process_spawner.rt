@@ -1,5 +1,6 @@
 //! The maker of the starters of drivers as child processes.
-ghost use Rattle.std.specs.Prelude.{◌≡◌, ◌≤◌, ◌+◌, None, map, vec_len, vec_capacity};
+ghost use Rattle.std.specs.Prelude.{◌≡◌, ◌≤◌, ◌+◌, map, vec_len, vec_capacity};
+ghost use Rattle.edge_kit.specs.Starters.{StartsUntold};
 ghost use Rattle.edge_adapters.specs.Starts.{driver_of};
 
 use crate::process_once::ProcessOnceMaker;
@@ -87,7 +88,7 @@ impl ProcessSpawner {
 impl Spawner for ProcessSpawner {
     type Starter = ProcessStarter;
 
-    ghost told = { λ _ _. None };
+    ghost told = { λ _ _. StartsUntold };
 
     ghost seen = { λ s. record { returned = map driver_of s.returned.items; out = s.out } };
 

@@ -1,6 +1,6 @@
 //! What starts a driver as a child process.
-ghost use Rattle.std.specs.Prelude.{◌≡◌, ◌≤◌, ◌<◌, ◌+◌, ◌^◌, ◌∷◌, ◌++◌, [], None, OnOk, length, vec_len, vec_capacity};
-ghost use Rattle.edge_kit.specs.Starters.{StartsOne, session_had, starter_back, new_starter};
+ghost use Rattle.std.specs.Prelude.{◌≡◌, ◌≤◌, ◌<◌, ◌+◌, ◌^◌, ◌∷◌, ◌++◌, [], OnOk, length, vec_len, vec_capacity};
+ghost use Rattle.edge_kit.specs.Starters.{StartsOne, StartsUntold, session_had, starter_back, new_starter};
 ghost use Rattle.edge_adapters.specs.Starts.{outcome_of, starts_of, driver_of};
 ghost use Rattle.edge_kit.specs.MemoryDrivers.{waits};
 
@@ -179,7 +179,7 @@ impl ProcessStarter {
         quiet: bool,
         place: Option<Arc<DriverPlace, Global>>,
     ) -> ProcessStarter
-        ensures { ⟦<ProcessStarter as Starter>⟧.seen result ≡ new_starter command None }
+        ensures { ⟦<ProcessStarter as Starter>⟧.seen result ≡ new_starter command StartsUntold }
     {
         ProcessStarter {
             rt,
@@ -225,7 +225,7 @@ impl Starter for ProcessStarter {
     ghost seen = { λ s. record {
       command = s.command;
       had = starts_of s.had.items ++ waits s.out_of_memory;
-      ahead = None;
+      ahead = StartsUntold;
       faults = s.faults;
       out = s.out;
     } };

@@ -2,7 +2,7 @@
 use Rattle.std.proofs.Common.{arith, ◌≡◌, ◌≤◌, ◌<◌, ◌+◌, ◌-◌, ℕ, List, [], ◌++◌, length, take, drop}
 use Rattle.std.proofs.Common.{Some, refl, sym, ◌∙◌, ap}
 use Rattle.std.proofs.lemmas.List.{take-append-drop, drop-drop, drop-take, take-take, length-drop}
-use Rattle.edge_kit.specs.Links.{LinkSeen, IsRead}
+use Rattle.edge_kit.specs.Links.{LinkSeen, LeftBytes, IsRead}
 
 -- this many bytes from a place on, and what follows them
 pub left_behind : (output : List ℕ) (at count : ℕ) →
@@ -22,7 +22,7 @@ taken_before output at count =
 
 -- a link that has given so much of its output
 abbrev pub given : LinkSeen → List ℕ → ℕ → LinkSeen
-given link output at = record link { taken = Some (take at output); left = Some (drop at output) }
+given link output at = record link { taken = Some (take at output); left = LeftBytes (drop at output) }
 
 -- a read that gives some
 pub reads_some : (link : LinkSeen) (output into : List ℕ) (at count : ℕ) →
@@ -31,9 +31,9 @@ pub reads_some : (link : LinkSeen) (output into : List ℕ) (at count : ℕ) →
     IsRead count into (given link output at) (given link output (at + count))
 reads_some link output into at count some within fits same = record {
   within = fits;
-  left = ap Some (left_behind output at count
+  left = ap LeftBytes (left_behind output at count
       ∙ ap (λ part. part ++ drop (at + count) output) (sym same));
-  kept = ap (λ bytes. record link { taken = Some bytes; left = Some (drop (at + count) output) })
+  kept = ap (λ bytes. record link { taken = Some bytes; left = LeftBytes (drop (at + count) output) })
       (taken_before output at count ∙ ap (λ part. take at output ++ part) (sym same));
   ended = λ none. absurd (omega arith);
   going = λ _. refl;

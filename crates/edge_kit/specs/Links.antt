@@ -1,7 +1,6 @@
 -- What is seen of a link to a driver, and how its calls change that.
 use Rattle.std.specs.Prelude.{◌≡◌, ◌≤◌, ◌<◌, ℕ, List, [], ◌++◌, take, length, Bool, true, false}
-use Rattle.std.specs.Prelude.{Option, Some, Result, Ok, Err}
-use Rattle.std.specs.Option.{option_map}
+use Rattle.std.specs.Prelude.{Option, Some, None, Result, Ok, Err}
 use Rattle.edge_kit.specs.Faults.{Rose}
 use Rattle.edge_kit.specs.Told.{Tells}
 use Rattle.edge_kit.specs.Files.{grown}
@@ -14,12 +13,31 @@ pub data Stage : Type 0 where
   InputShut : Stage
   Shut : Stage
 
--- The bytes that were sent, those that were taken and those that are left to read, each if it is
--- told; how often it has failed, how often it met an end of input, and how far it was shut.
+-- a told run of a command with an input: its output, and whether its exit status is 0
+pub record RunTold : Type 0 where
+  pub command : List ℕ
+  pub input : List ℕ
+  pub output : List ℕ
+  pub zero : Bool
+
+-- How a driver answers that runs a command once for each content, where its runs are told. One that isn't among them
+-- fails.
+pub record Replies : Type 0 where
+  pub command : List ℕ
+  pub runs : List RunTold
+
+-- what is told of the bytes that are left to read: nothing, all of them, or that the driver answers so
+pub data Left : Type 0 where
+  LeftUntold : Left
+  LeftBytes : List ℕ → Left
+  LeftAnswers : Replies → Left
+
+-- The bytes that were sent and those that were taken, each if it is told, and those that are left to
+-- read; how often it has failed, how often it met an end of input, and how far it was shut.
 pub record LinkSeen : Type 0 where
   pub sent : Option (List ℕ)
   pub taken : Option (List ℕ)
-  pub left : Option (List ℕ)
+  pub left : Left
   pub faults : ℕ
   pub ends : ℕ
   pub stage : Stage
@@ -40,9 +58,29 @@ is_shut Open = false
 is_shut InputShut = false
 is_shut Shut = true
 
--- bytes before what is told
-abbrev pub led : List ℕ → Option (List ℕ) → Option (List ℕ)
-led piece told = option_map (λ w. piece ++ w) told
+-- bytes before those that are left; a driver that answers goes on answering so
+abbrev pub led : List ℕ → Left → Left
+led piece LeftUntold = LeftUntold
+led piece (LeftBytes bytes) = LeftBytes (piece ++ bytes)
+led piece (LeftAnswers replies) = LeftAnswers replies
+
+-- these bytes are left, if they are told
+abbrev pub TellsLeft : Left → List ℕ → Type 0
+TellsLeft LeftUntold bytes = Unit {0}
+TellsLeft (LeftBytes told) bytes = told ≡ bytes
+TellsLeft (LeftAnswers replies) bytes = Unit {0}
+
+-- the bytes that are left, if they are told
+abbrev pub bytes_in : Left → Option (List ℕ)
+bytes_in LeftUntold = None
+bytes_in (LeftBytes bytes) = Some bytes
+bytes_in (LeftAnswers replies) = None
+
+-- how the driver answers, if that is told
+abbrev pub replies_in : Left → Option Replies
+replies_in LeftUntold = None
+replies_in (LeftBytes bytes) = None
+replies_in (LeftAnswers replies) = Some replies
 
 -- a link on which nothing was called
 pub record IsNewLink (link : LinkSeen) : Type 0 where
@@ -80,9 +118,9 @@ pub record IsRead (count : ℕ) (into : List ℕ) (old new : LinkSeen) : Type 0 
     left = new.left;
     ends = new.ends;
   }
-  pub ended : count ≡ 0 → Rose old.ends new.ends × Tells old.left []
+  pub ended : count ≡ 0 → Rose old.ends new.ends × TellsLeft old.left []
   pub going : 0 < count → new.ends ≡ old.ends
-  pub all_taken : old.left ≡ Some [] → count ≡ 0
+  pub all_taken : old.left ≡ LeftBytes [] → count ≡ 0
 
 -- a read that fails has taken nothing
 abbrev pub Reads : List ℕ → LinkSeen → LinkSeen → Result ℕ Failed → Type 0

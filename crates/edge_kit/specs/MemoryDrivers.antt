@@ -3,9 +3,9 @@ use Rattle.std.specs.Prelude.{◌≡◌, ◌+◌, ℕ, Bool, true, false, List, 
 use Rattle.std.specs.Prelude.{map, replicate, min, max, Option, Some, None, Result, Ok, Err, if◌then◌else◌}
 use Rattle.std.specs.Option.{option_map}
 use Rattle.std.specs.Str.{bytes_eq}
-use Rattle.edge_kit.specs.Links.{LinkSeen, Stage, Open, InputShut, Shut}
+use Rattle.edge_kit.specs.Links.{LinkSeen, LeftBytes, Stage, Open, InputShut, Shut}
 use Rattle.edge_kit.specs.Starters.{Had, Session, StartFailed, StartOutOfMemory, SessionHad}
-use Rattle.edge_kit.specs.Starters.{StartTold, Fails, Gives, Starts, NextFails}
+use Rattle.edge_kit.specs.Starters.{StartTold, Fails, Gives, Starts, StartsListed, NextFails}
 use Rattle.edge_kit.specs.declared.faults.Failed.{Failed}
 use Rattle.edge_kit.specs.declared.faults.SendFault.{SendFault}
 use Rattle.edge_kit.specs.declared.faults.SendFault.TheVariants as send
@@ -29,7 +29,7 @@ abbrev pub new_link : List ℕ → LinkSeen
 new_link output = record {
   sent = Some [];
   taken = Some [];
-  left = Some output;
+  left = LeftBytes output;
   faults = 0;
   ends = 0;
   stage = Open;
@@ -66,7 +66,7 @@ abbrev pub start_told : SessionScript → StartTold
 start_told s = if s.starts then Gives s.output else Fails
 
 abbrev pub starts_told : List SessionScript → Starts
-starts_told sessions = Some (map start_told sessions)
+starts_told sessions = StartsListed (map start_told sessions)
 
 -- what the next start gives unless memory runs out: a link for a session that starts, or a failure
 abbrev pub Opens : {L : Type 0} → (L → LinkSeen) → (L → LinkScript) → List SessionScript
@@ -91,6 +91,7 @@ abbrev pub session_told : SessionSeen → SessionHad
 session_told s = record {
   sent = Some s.sent;
   taken = Some s.taken;
+  replies = None;
   faults = s.faults;
   ends = s.ends;
   shut = s.shut;

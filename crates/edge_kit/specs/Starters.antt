@@ -1,16 +1,17 @@
 -- What is seen of the starters of drivers and of their makers, and how their calls change that.
-use Rattle.std.specs.Prelude.{◌≡◌, ◌+◌, ℕ, Bool, List, [], ◌∷◌, ◌++◌, drop, Option, Some, None, Result, Ok, Err}
-use Rattle.std.specs.Option.{option_map}
+use Rattle.std.specs.Prelude.{◌≡◌, ◌+◌, ℕ, Bool, List, [], ◌∷◌, ◌++◌, drop, Option, Result, Ok, Err}
 use Rattle.edge_kit.specs.Faults.{Rose}
-use Rattle.edge_kit.specs.Links.{LinkSeen, IsNewLink, is_shut}
+use Rattle.edge_kit.specs.Links.{LinkSeen, Left, LeftBytes, LeftAnswers, Replies, IsNewLink, is_shut, replies_in}
 use Rattle.edge_kit.specs.declared.faults.SendFault.{SendFault}
 use Rattle.edge_kit.specs.declared.faults.SendFault.TheVariants as send
 
--- A session that ended: the bytes sent and taken, if its link told them, how often its link had
--- failed and how often it had met an end of input, and whether it was shut.
+-- A session that ended: the bytes sent and taken, if its link told them, how its driver answered, if
+-- its link told that, how often its link had failed and how often it had met an end of input, and
+-- whether it was shut.
 pub record SessionHad : Type 0 where
   pub sent : Option (List ℕ)
   pub taken : Option (List ℕ)
+  pub replies : Option Replies
   pub faults : ℕ
   pub ends : ℕ
   pub shut : Bool
@@ -26,9 +27,12 @@ pub data StartTold : Type 0 where
   Fails : StartTold
   Gives : List ℕ → StartTold
 
--- the starts that follow, in order, if they are told
-abbrev pub Starts : Type 0
-Starts = Option (List StartTold)
+-- what is told of the starts that follow: nothing, each of them in order, or that each gives a session
+-- whose driver answers so
+pub data Starts : Type 0 where
+  StartsUntold : Starts
+  StartsListed : List StartTold → Starts
+  StartsAnswer : Replies → Starts
 
 -- The command that a starter starts, what came of its starts, in order, with each session when it
 -- ended, the starts that follow, how often it has failed, and how many of its links are out.
@@ -59,28 +63,33 @@ abbrev pub session_had : LinkSeen → Had
 session_had link = Session (record {
   sent = link.sent;
   taken = link.taken;
+  replies = replies_in link.left;
   faults = link.faults;
   ends = link.ends;
   shut = is_shut link.stage;
 })
 
--- the starts after the next one, if they are told
+-- the starts after the next one
 abbrev pub behind_next : Starts → Starts
-behind_next starts = option_map (drop 1) starts
+behind_next StartsUntold = StartsUntold
+behind_next (StartsListed starts) = StartsListed (drop 1 starts)
+behind_next (StartsAnswer replies) = StartsAnswer replies
 
--- the next start is told to give this output, if anything is told
-abbrev pub NextGives : Starts → Option (List ℕ) → Type 0
-NextGives None left = Unit {0}
-NextGives (Some []) left = ⊥
-NextGives (Some (Fails ∷ rest)) left = ⊥
-NextGives (Some (Gives output ∷ rest)) left = left ≡ Some output
+-- the next start is told to give this output or this driver, if anything is told
+abbrev pub NextGives : Starts → Left → Type 0
+NextGives StartsUntold left = Unit {0}
+NextGives (StartsListed []) left = ⊥
+NextGives (StartsListed (Fails ∷ rest)) left = ⊥
+NextGives (StartsListed (Gives output ∷ rest)) left = left ≡ LeftBytes output
+NextGives (StartsAnswer replies) left = left ≡ LeftAnswers replies
 
 -- the next start is told to fail, or no more are told, if anything is told
 abbrev pub NextFails : Starts → Type 0
-NextFails None = Unit {0}
-NextFails (Some []) = Unit {0}
-NextFails (Some (Fails ∷ rest)) = Unit {0}
-NextFails (Some (Gives output ∷ rest)) = ⊥
+NextFails StartsUntold = Unit {0}
+NextFails (StartsListed []) = Unit {0}
+NextFails (StartsListed (Fails ∷ rest)) = Unit {0}
+NextFails (StartsListed (Gives output ∷ rest)) = ⊥
+NextFails (StartsAnswer replies) = ⊥
 
 -- a start gave a link
 pub record IsStarted (link : LinkSeen) (old new : StarterSeen) : Type 0 where

@@ -2,7 +2,7 @@ ghost use Rattle.std.specs.Prelude.{◌≡◌, ◌≤◌, ◌<◌, ◌+◌, true
 ghost use Rattle.std.specs.Prelude.{take, drop, vec_len, option_map};
 ghost use Rattle.std.specs.Result.{is_err};
 ghost use Rattle.edge_kit.specs.Faults.{AfterSend, AfterCall};
-ghost use Rattle.edge_kit.specs.Links.{Sends, Reads, IsRead, input_shut, waited};
+ghost use Rattle.edge_kit.specs.Links.{LeftBytes, Sends, Reads, IsRead, bytes_in, input_shut, waited};
 ghost use Rattle.edge_kit.specs.Starters.{session_had, Session};
 ghost use Rattle.edge_kit.specs.MemoryLeaves.{CountsDown};
 ghost use Rattle.edge_kit.specs.MemoryDrivers.{stage_of, new_link, read_count};
@@ -93,7 +93,7 @@ impl MemoryLink {
             IsRead result into.new (seen self.old) (seen self.new) }
         ensures count { let seen = ⟦<MemoryLink as Link>⟧.seen in
             Some result ≡ option_map
-            (read_count self.old.script.piece (length into.old)) (seen self.old).left }
+            (read_count self.old.script.piece (length into.old)) (bytes_in (seen self.old).left) }
         ensures script { self.new.script ≡ self.old.script }
     {
         let count = self.read_count(into.len());
@@ -124,7 +124,7 @@ impl Link for MemoryLink {
     ghost seen = { λ l. record {
       sent = Some l.sent.items;
       taken = Some (take l.taken l.output.items);
-      left = Some (drop l.taken l.output.items);
+      left = LeftBytes (drop l.taken l.output.items);
       faults = l.faults;
       ends = l.ends;
       stage = stage_of l.input_shut l.waited;
@@ -163,7 +163,7 @@ impl Link for MemoryLink {
             AfterCall (seen self.old).faults (seen self.new).faults result }
         ensures count { let seen = ⟦<MemoryLink as Link>⟧.seen in
             IfOk result (λ n. Some n ≡ option_map
-            (read_count self.old.script.piece (length into.old)) (seen self.old).left) }
+            (read_count self.old.script.piece (length into.old)) (bytes_in (seen self.old).left)) }
         ensures fails { CountsCalls self.old.script.fail_read self.new.script.fail_read result }
         ensures script { self.new.script ≡
             record self.old.script { fail_read = self.new.script.fail_read } }

@@ -11,7 +11,7 @@ use Rattle.filter_words.specs.declared.answer_state.AnswerState.{AnswerState}
 use Rattle.filter_words.specs.declared.answer_state.AnswerState.TheVariants.{On, Done, Broken, Late}
 use Rattle.edge_kit.specs.Faults.{Rose}
 use Rattle.edge_kit.specs.Files.{grown}
-use Rattle.edge_kit.specs.Links.{led}
+use Rattle.edge_kit.specs.Links.{led, Left}
 use Rattle.edge_kit.specs.declared.faults.SendFault.TheVariants as send
 use Rattle.filter_proto.specs.Wires.{Wire, Took, Filled, FillFails, IsSentPart, SendsOn}
 use Rattle.filter_proto.specs.Exchanges.{Ends, Good, Broke, OutOfMemory, Still, Stops, IsHeard, IsReading, IsExchange}
@@ -59,7 +59,7 @@ pub took_both : (s a b : Wire) (used more : List ℕ) → Took s a used → Took
 took_both s a b used more t f = record {
   came = t.came ++ f.came;
   taken = f.taken ∙ (ap (λ (x : Option (List ℕ)). grown x f.came) t.taken ∙ grown_both s.taken t.came f.came);
-  left = t.left ∙ (ap (λ (x : Option (List ℕ)). led t.came x) f.left ∙ led_both b.left t.came f.came);
+  left = t.left ∙ (ap (λ (x : Left). led t.came x) f.left ∙ led_both b.left t.came f.came);
   unread = sym (append_assoc s.unread t.came f.came) ∙ (ap (λ (x : List ℕ). x ++ f.came) t.unread ∙ (append_assoc used a.unread f.came ∙ (ap (λ (x : List ℕ). used ++ x) f.unread ∙ sym (append_assoc used more b.unread))));
 }
 

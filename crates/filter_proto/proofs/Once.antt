@@ -16,8 +16,7 @@ use Rattle.filter_words.specs.declared.reply.ListReply.{ListReply}
 use Rattle.filter_words.specs.declared.answer_state.AnswerState.{AnswerState}
 use Rattle.filter_words.specs.declared.answer_state.AnswerState.TheVariants.{On, Done, Broken, Late}
 use Rattle.edge_kit.specs.Faults.{Rose}
-use Rattle.edge_kit.specs.Told.{Tells}
-use Rattle.edge_kit.specs.Links.{led}
+use Rattle.edge_kit.specs.Links.{led, Left, LeftUntold, LeftBytes, LeftAnswers, TellsLeft}
 use Rattle.filter_proto.specs.Wires.{Wire}
 use Rattle.filter_proto.specs.Exchanges.{Ends, Good, Broke, OutOfMemory, Stops, Unsent, IsHeard, IsExchange}
 use Rattle.filter_proto.specs.Openings.{IsOpening}
@@ -63,26 +62,28 @@ exchange_plain step start text old new end extra (inr h) = inr (record { sent = 
 -- completeness
 
 -- what was ahead before, and what is now
-pub record IsAhead (came left : List ℕ) (now : Option (List ℕ)) : Type 0 where
+pub record IsAhead (came left : List ℕ) (now : Left) : Type 0 where
   pub ahead : List ℕ
-  pub told : now ≡ Some ahead
+  pub told : now ≡ LeftBytes ahead
   pub whole : left ≡ came ++ ahead
 
-ahead_of : (came left : List ℕ) (now : Option (List ℕ)) → led came now ≡ Some left → IsAhead came left now
-ahead_of came left None e = absurd (cc e)
-ahead_of came left (Some l) e = record { ahead = l; told = refl; whole = let w : came ++ l ≡ left = cc e in sym w }
+ahead_of : (came left : List ℕ) (now : Left) → led came now ≡ LeftBytes left → IsAhead came left now
+ahead_of came left LeftUntold e = absurd (cc e)
+ahead_of came left (LeftAnswers r) e = absurd (cc e)
+ahead_of came left (LeftBytes l) e = record { ahead = l; told = refl; whole = let w : came ++ l ≡ left = cc e in sym w }
 
 -- the whole of what is left unread, by what an answer used
 joins : (unread came ahead used rest : List ℕ) → unread ++ came ≡ used ++ rest → unread ++ (came ++ ahead) ≡ used ++ (rest ++ ahead)
 joins unread came ahead used rest e = sym (append_assoc unread came ahead) ∙ (ap (λ (x : List ℕ). x ++ ahead) e ∙ append_assoc used rest ahead)
 
-nothing_ahead : (ahead : List ℕ) (now : Option (List ℕ)) → now ≡ Some ahead → Tells now [] → ahead ≡ []
-nothing_ahead ahead None e t = absurd (cc e)
-nothing_ahead ahead (Some l) e t = let w : l ≡ ahead = cc e in sym w ∙ t
+nothing_ahead : (ahead : List ℕ) (now : Left) → now ≡ LeftBytes ahead → TellsLeft now [] → ahead ≡ []
+nothing_ahead ahead LeftUntold e t = absurd (cc e)
+nothing_ahead ahead (LeftAnswers r) e t = absurd (cc e)
+nothing_ahead ahead (LeftBytes l) e t = let w : l ≡ ahead = cc e in sym w ∙ t
 
 module _ {P G : Type 0} (step : P → Packet → AnswerState P G) (start : AnswerState P G) (faults : FaultLaw) (same : SameLaw P G step start) (longer : LongerLaw P G step start) where
   open_gives : (p : P) (ps : List Packet) (used : List ℕ) (old new : Wire) (end : Ends G) (ahead : List ℕ) (g : G) (b : BeginsGood step start old g) → SpellAll ps used → outcome step limit start ps ≡ On p
-      → new.left ≡ Some ahead → used ++ (new.unread ++ ahead) ≡ b.used ++ b.rest → Stops {G = G} (On p) old new end → Gives g old new end
+      → new.left ≡ LeftBytes ahead → used ++ (new.unread ++ ahead) ≡ b.used ++ b.rest → Stops {G = G} (On p) old new end → Gives g old new end
   open_gives p ps used old new (Good x) ahead g b sp out told e h = absurd h
   open_gives p ps used old new OutOfMemory ahead g b sp out told e h = absurd h
   open_gives p ps used old new (Broke cause.BadPacket) ahead g b sp out told e h =
@@ -103,7 +104,7 @@ module _ {P G : Type 0} (step : P → Packet → AnswerState P G) (start : Answe
   done_gives x g old new end e f = rw f (let w : x ≡ g = cc e in w)
 
   any_gives : (t : AnswerState P G) (ps : List Packet) (used : List ℕ) (old new : Wire) (end : Ends G) (ahead : List ℕ) (g : G) (b : BeginsGood step start old g) → SpellAll ps used → outcome step limit start ps ≡ t
-      → new.left ≡ Some ahead → used ++ (new.unread ++ ahead) ≡ b.used ++ b.rest → Stops t old new end → Gives g old new end
+      → new.left ≡ LeftBytes ahead → used ++ (new.unread ++ ahead) ≡ b.used ++ b.rest → Stops t old new end → Gives g old new end
   any_gives (On p) ps used old new end ahead g b sp out told e h = open_gives p ps used old new end ahead g b sp out told e h
   any_gives (Done x) ps used old new end ahead g b sp out told e h =
       done_gives x g old new end (same ps b.packets used b.used (new.unread ++ ahead) b.rest (Done x) (Done g) sp b.spelled e out b.good tt tt).2 h.0

@@ -8,7 +8,7 @@ use Rattle.pkt_line.specs.declared.reader.Next.{Next}
 use Rattle.pkt_line.specs.declared.reader.PktFault.{PktFault}
 use Rattle.pkt_line.specs.declared.reader.PktFault.TheVariants as fault
 use Rattle.edge_kit.specs.Files.{grown}
-use Rattle.edge_kit.specs.Links.{led}
+use Rattle.edge_kit.specs.Links.{led, Left, LeftUntold, LeftBytes, LeftAnswers}
 use Rattle.filter_words.specs.SmudgeReply.{reply_step}
 use Rattle.filter_words.specs.declared.words.Status.TheVariants as status
 use Rattle.filter_words.specs.declared.smudge_reply.ReplyPhase.{ReplyPhase}
@@ -34,13 +34,15 @@ pub grown_both : (t : Option (List ℕ)) (a b : List ℕ) → grown (grown t a) 
 grown_both None a b = refl
 grown_both (Some t) a b = ap Some (append_assoc t a b)
 
-pub led_both : (t : Option (List ℕ)) (a b : List ℕ) → led a (led b t) ≡ led (a ++ b) t
-led_both None a b = refl
-led_both (Some t) a b = ap Some (sym (append_assoc a b t))
+pub led_both : (t : Left) (a b : List ℕ) → led a (led b t) ≡ led (a ++ b) t
+led_both LeftUntold a b = refl
+led_both (LeftBytes t) a b = ap LeftBytes (sym (append_assoc a b t))
+led_both (LeftAnswers r) a b = refl
 
-pub led_nothing : (t : Option (List ℕ)) → led [] t ≡ t
-led_nothing None = refl
-led_nothing (Some t) = refl
+pub led_nothing : (t : Left) → led [] t ≡ t
+led_nothing LeftUntold = refl
+led_nothing (LeftBytes t) = refl
+led_nothing (LeftAnswers r) = refl
 
 pub never_late : (d : Bool) (p : ReplyPhase) → reply_step d p Flush ≡ Late → ⊥
 never_late d (KeyList None) e = cc

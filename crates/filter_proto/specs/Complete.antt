@@ -1,5 +1,5 @@
 -- Which answer an exchange gives if a good one was sent, and when two exchanges give the same.
-use Rattle.std.specs.Prelude.{◌≡◌, ℕ, List, [], ◌++◌, Some}
+use Rattle.std.specs.Prelude.{◌≡◌, ℕ, List, [], ◌++◌}
 use Rattle.pkt_line.specs.Packets.{Packet, SpellAll}
 use Rattle.filter_words.specs.Outcomes.{outcome, limit}
 use Rattle.filter_words.specs.Listing.{GoodList, reply_of_good}
@@ -9,6 +9,7 @@ use Rattle.filter_words.specs.declared.reply.ListReply.TheVariants as reply
 use Rattle.filter_words.specs.declared.answer_state.AnswerState.{AnswerState}
 use Rattle.filter_words.specs.declared.answer_state.AnswerState.TheVariants.{Done}
 use Rattle.edge_kit.specs.Faults.{Rose}
+use Rattle.edge_kit.specs.Links.{LeftBytes}
 use Rattle.filter_proto.specs.Wires.{Wire}
 use Rattle.filter_proto.specs.Exchanges.{Ends, Good, Broke, OutOfMemory, IsHeard}
 
@@ -19,7 +20,7 @@ pub record BeginsGood {P G : Type 0} (step : P → Packet → AnswerState P G) (
   pub used : List ℕ
   pub rest : List ℕ
   pub left : List ℕ
-  pub told : wire.left ≡ Some left
+  pub told : wire.left ≡ LeftBytes left
   pub whole : wire.unread ++ left ≡ used ++ rest
   pub spelled : SpellAll packets used
   pub good : outcome step limit start packets ≡ Done g

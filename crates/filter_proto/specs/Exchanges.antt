@@ -8,7 +8,7 @@ use Rattle.filter_words.specs.declared.answer_state.AnswerState.{AnswerState}
 use Rattle.filter_words.specs.declared.answer_state.AnswerState.TheVariants.{On, Done, Broken, Late}
 use Rattle.edge_kit.specs.Faults.{Rose}
 use Rattle.edge_kit.specs.Files.{grown}
-use Rattle.edge_kit.specs.Told.{Tells}
+use Rattle.edge_kit.specs.Links.{TellsLeft}
 use Rattle.filter_proto.specs.Wires.{Wire, Took, IsSentPart}
 
 -- what came of an exchange
@@ -28,7 +28,7 @@ Stops (On phase) old new (Good g) = ⊥
 Stops (On phase) old new OutOfMemory = ⊥
 Stops (On phase) old new (Broke cause.BadPacket) = HasFault new.unread × Still old new
 Stops (On phase) old new (Broke cause.Ended) =
-    IsPartial new.unread × Rose old.ends new.ends × (new.faults ≡ old.faults) × Tells new.left []
+    IsPartial new.unread × Rose old.ends new.ends × (new.faults ≡ old.faults) × TellsLeft new.left []
 Stops (On phase) old new (Broke cause.LinkFault) =
     IsPartial new.unread × Rose old.faults new.faults × (new.ends ≡ old.ends)
 Stops (On phase) old new (Broke why) = ⊥

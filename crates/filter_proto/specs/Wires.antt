@@ -9,18 +9,17 @@ use Rattle.filter_words.specs.declared.reply.BreakCause.{BreakCause}
 use Rattle.filter_words.specs.declared.reply.BreakCause.TheVariants as cause
 use Rattle.edge_kit.specs.Faults.{Rose, AfterCall}
 use Rattle.edge_kit.specs.Files.{grown}
-use Rattle.edge_kit.specs.Told.{Tells}
 use Rattle.edge_kit.specs.declared.faults.Failed.{Failed}
 use Rattle.edge_kit.specs.declared.faults.SendFault.{SendFault}
 use Rattle.edge_kit.specs.declared.faults.SendFault.TheVariants as send
-use Rattle.edge_kit.specs.Links.{LinkSeen, Stage, led, input_shut, waited, SendsPart}
+use Rattle.edge_kit.specs.Links.{LinkSeen, Left, TellsLeft, Stage, led, input_shut, waited, SendsPart}
 use Rattle.filter_proto.specs.declared.session.Standing.{Standing}
 use Rattle.filter_proto.specs.declared.session.Standing.TheVariants as standing
 
 pub record Wire : Type 0 where
   pub sent : Option (List ℕ)
   pub taken : Option (List ℕ)
-  pub left : Option (List ℕ)
+  pub left : Left
   pub unread : List ℕ
   pub faults : ℕ
   pub ends : ℕ
@@ -59,7 +58,7 @@ Filled old new = Took old new [] × (new.faults ≡ old.faults) × (new.ends ≡
 abbrev pub FillFails : Wire → Wire → Result ⊤ BreakCause → Type 0
 FillFails old new (Ok x) = Unit {0}
 FillFails old new (Err cause.Ended) =
-    (new ≡ record old { ends = new.ends }) × Rose old.ends new.ends × Tells old.left []
+    (new ≡ record old { ends = new.ends }) × Rose old.ends new.ends × TellsLeft old.left []
 FillFails old new (Err cause.LinkFault) =
     (new ≡ record old { faults = new.faults }) × Rose old.faults new.faults
 FillFails old new (Err c) = ⊥

@@ -7,7 +7,8 @@ use Rattle.std.proofs.lemmas.List.{append-nil}
 use Rattle.std.proofs.lemmas.Bool.{true≢false}
 use Rattle.std.proofs.lemmas.Slice.Eq.{bytes_eq-Decides}
 use Rattle.pkt_line.specs.Spelling.{spelling_all}
-use Rattle.edge_kit.specs.Starters.{Session, SessionHad, Gives}
+use Rattle.edge_kit.specs.Links.{LeftBytes}
+use Rattle.edge_kit.specs.Starters.{Session, SessionHad, Gives, StartsListed}
 use Rattle.filter_words.specs.Requests.{hello_text, caps_text}
 use Rattle.filter_words.specs.Listing.{name_in}
 use Rattle.filter_words.specs.declared.reply.Reply.TheVariants as reply
@@ -151,6 +152,7 @@ abbrev pub seen : Paths → ℕ → List Mark → SessionHad
 seen paths seed ms = record {
   sent = Some ((hello_text ++ caps_text) ++ requests paths (said seed ms));
   taken = Some (output seed ms);
+  replies = None;
   faults = 0;
   ends = 0;
   shut = true;
@@ -446,11 +448,11 @@ alpha_talk law d paths seed m ms h named texts r few =
       full = Session (seen paths seed (m ∷ ms)) ∷ [];
       fills = (record { sent = (hello_text ++ caps_text) ++ requests paths (said seed (m ∷ ms)); taken = output seed (m ∷ ms); sent_is = refl; taken_is = refl; full_is = refl }, tt);
       talk = is_talk law d paths seed m ms h r g;
-      left = Some [];
+      left = StartsListed [];
       goes = (
-        Some (output seed (m ∷ ms)),
+        LeftBytes (output seed (m ∷ ms)),
         refl,
-        record { came = output seed (m ∷ ms); left = Some []; part = ap Some (sym (append-nil (output seed (m ∷ ms)))); taken = refl; whole = λ lt. refl },
+        record { came = output seed (m ∷ ms); left = LeftBytes []; part = ap LeftBytes (sym (append-nil (output seed (m ∷ ms)))); taken = refl; whole = λ lt. refl; replies = refl },
         refl,
       );
       fine = (refl, tt);

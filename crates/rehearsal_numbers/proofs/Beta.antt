@@ -5,7 +5,8 @@ use Rattle.std.specs.List.{AllByRecursion, flat_map}
 use Rattle.std.proofs.lemmas.List.{append-nil}
 use Rattle.std.proofs.lemmas.Bool.{true≢false}
 use Rattle.pkt_line.specs.Spelling.{spelling_all}
-use Rattle.edge_kit.specs.Starters.{Session, SessionHad, Gives}
+use Rattle.edge_kit.specs.Links.{LeftBytes}
+use Rattle.edge_kit.specs.Starters.{Session, SessionHad, Gives, StartsListed}
 use Rattle.filter_words.specs.Requests.{hello_text, caps_text}
 use Rattle.filter_words.specs.declared.reply.Reply.TheVariants as reply
 use Rattle.filter_proto.specs.Exchanges.{Good}
@@ -126,6 +127,7 @@ abbrev pub seen : Paths → ℕ → List Mark → SessionHad
 seen paths seed ms = record {
   sent = Some ((hello_text ++ caps_text) ++ requests paths seed ms);
   taken = Some (spelling_all beta_hello ++ flat_map (beta_first seed) (numbers ms));
+  replies = None;
   faults = 0;
   ends = 0;
   shut = true;
@@ -282,8 +284,8 @@ beta_talk law d paths seed m ms h r =
       full = Session (seen paths seed (m ∷ ms)) ∷ [];
       fills = (record { sent = (hello_text ++ caps_text) ++ requests paths seed (m ∷ ms); taken = output; sent_is = refl; taken_is = refl; full_is = refl }, tt);
       talk = is_talk law d paths seed m ms h;
-      left = Some [];
-      goes = (Some output, refl, record { came = output; left = Some []; part = ap Some (sym (append-nil output)); taken = refl; whole = λ lt. refl }, refl);
+      left = StartsListed [];
+      goes = (LeftBytes output, refl, record { came = output; left = LeftBytes []; part = ap LeftBytes (sym (append-nil output)); taken = refl; whole = λ lt. refl; replies = refl }, refl);
       fine = (refl, tt);
       memory = λ p here bad.
           let f = found p (m ∷ ms) here in

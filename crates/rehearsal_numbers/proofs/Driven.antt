@@ -4,7 +4,7 @@ use Rattle.std.specs.Prelude.{slice_get}
 use Rattle.std.specs.List.{AllByRecursion}
 use Rattle.std.proofs.lemmas.Bool.{true≢false}
 use Rattle.edge_kit.specs.MemoryDrivers.{starts_for}
-use Rattle.edge_kit.specs.Starters.{Had, Starts, Gives}
+use Rattle.edge_kit.specs.Starters.{Had, Starts, StartsListed, Gives}
 use Rattle.edge_kit.specs.Told.{RepoTold}
 use Rattle.object_dir.specs.Spelling.{spelled_blob}
 use Rattle.settings_view.specs.declared.view.Driver.{Driver}
@@ -103,7 +103,7 @@ module _ (law : SameHeard) (one : OneContent) (d : ℕ) (required : Bool) (test 
     (has_test : (k i : ℕ) → slice_get is k ≡ Some i → is_at d (start_at (beta_number seed is) (kind seed i)) ≡ true → test (kind seed i) ≡ true)
     (t : DriverTalk) (driver : Driver)
     (said : IsDriverTalk (starts_for (scripts seed is)) told.object (paths_of seed is) (verdicts_of outcomes) history d driver t)
-    (here : slice_get talks d ≡ Some t) (ahead : starts_for (scripts seed is) t.command ≡ Some (Gives output ∷ [])) where
+    (here : slice_get talks d ≡ Some t) (ahead : starts_for (scripts seed is) t.command ≡ StartsListed (Gives output ∷ [])) where
   abbrev ms : List Mark
   ms = marks_from test 1 seed is
 

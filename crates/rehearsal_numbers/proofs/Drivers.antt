@@ -5,7 +5,7 @@ use Rattle.std.specs.List.{flat_map}
 use Rattle.std.proofs.lemmas.Bool.{true≢false}
 use Rattle.pkt_line.specs.Spelling.{spelling_all}
 use Rattle.edge_kit.specs.MemoryDrivers.{starts_for}
-use Rattle.edge_kit.specs.Starters.{Had, Gives, Session, Starts}
+use Rattle.edge_kit.specs.Starters.{Had, Gives, Session, Starts, StartsListed}
 use Rattle.edge_kit.specs.Told.{RepoTold}
 use Rattle.settings_view.specs.declared.view.Driver.{Driver}
 use Rattle.checkout_core.specs.declared.event.Event.{Event}
@@ -150,10 +150,10 @@ beta_driver seed is driver h at =
     by false true h = refl
     by a false h = absurd (true≢false (sym h))
 
-starts_alpha : (seed : ℕ) (is : List ℕ) → starts_for (scripts seed is) (codes "alpha") ≡ Some (Gives (alpha_text seed is) ∷ [])
+starts_alpha : (seed : ℕ) (is : List ℕ) → starts_for (scripts seed is) (codes "alpha") ≡ StartsListed (Gives (alpha_text seed is) ∷ [])
 starts_alpha seed is = refl
 
-starts_beta : (seed : ℕ) (is : List ℕ) → starts_for (scripts seed is) (codes "beta") ≡ Some (Gives (beta_text seed is) ∷ [])
+starts_beta : (seed : ℕ) (is : List ℕ) → starts_for (scripts seed is) (codes "beta") ≡ StartsListed (Gives (beta_text seed is) ∷ [])
 starts_beta seed is = refl
 
 -- what a path of a driver heard and got

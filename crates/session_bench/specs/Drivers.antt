@@ -1,6 +1,6 @@
 -- How a link to a driver in memory is seen: it tells nothing except its ends of input and how far it was shut.
 use Rattle.std.specs.Prelude.{ℕ, None}
-use Rattle.edge_kit.specs.Links.{Stage, Open, InputShut, Shut, LinkSeen}
+use Rattle.edge_kit.specs.Links.{Stage, Open, InputShut, Shut, LeftUntold, LinkSeen}
 use Rattle.session_bench.specs.declared.driver.Shutting.{Shutting}
 use Rattle.session_bench.specs.declared.driver.Shutting.TheVariants as driver
 
@@ -13,7 +13,7 @@ abbrev pub seen_of : ℕ → Shutting → LinkSeen
 seen_of ends shutting = record {
   sent = None;
   taken = None;
-  left = None;
+  left = LeftUntold;
   faults = 0;
   ends = ends;
   stage = stage_of shutting;

@@ -1,5 +1,5 @@
 use Rattle.std.proofs.Common.{rules, arith, ◌≤◌, ◌∙◌, ap, take, drop, Some, None, length}
-use Rattle.edge_kit.specs.Links.{LinkSeen}
+use Rattle.edge_kit.specs.Links.{LinkSeen, LeftUntold}
 use Rattle.edge_kit.specs.MemoryDrivers.{stage_of}
 use Rattle.edge_kit.proofs.Taking.{reads_some}
 use Rattle.edge_kit.proofs.memory_link.MemoryLink.take_front.Goals as goal
@@ -11,7 +11,7 @@ returns-clause-read c =
     let other : LinkSeen = record {
       sent = Some link.sent.items;
       taken = None;
-      left = None;
+      left = LeftUntold;
       faults = link.faults;
       ends = link.ends;
       stage = stage_of link.input_shut link.waited;
