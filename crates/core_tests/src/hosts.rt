@@ -22,7 +22,7 @@ struct Obeying {
 }
 
 impl Work for Obeying {
-    ghost told = { λ w. record { first = λ p c d. None; second = λ p c. None } };
+    ghost told = { λ w. record { first = λ p c d. None; second = λ p c. None; runs = None } };
 
     ghost latest = { λ w p. None };
 

@@ -1,5 +1,5 @@
 -- The sample work.
-use Rattle.std.specs.Prelude.{ℕ, if◌then◌else◌, List, Option, Some}
+use Rattle.std.specs.Prelude.{ℕ, if◌then◌else◌, List, Option, Some, None}
 use Rattle.std.specs.Cmp.Lexicographic.{slice_cmp}
 use Rattle.std.specs.Ordering.{nat_cmp}
 use Rattle.std.specs.BTreeMap as tree
@@ -18,4 +18,5 @@ abbrev pub late_told : WorkTold
 late_told = record {
   first = λ path content can_delay. Some (if can_delay then choice.Later else choice.Give content);
   second = λ path content. Some (late.Give content);
+  runs = None;
 }

@@ -11,4 +11,5 @@ capitals_told = record {
   first = λ path content can_delay.
       Some (if can_delay then choice.Later else choice.Give (map to_ascii_uppercase content));
   second = λ path content. Some (late.Give (map to_ascii_uppercase content));
+  runs = None;
 }
