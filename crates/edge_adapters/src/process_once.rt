@@ -1,6 +1,6 @@
 //! Single runs of commands as child processes.
 ghost use Rattle.std.specs.Prelude.{◌≡◌, ◌≤◌, IfOk, length, vec_len};
-ghost use Rattle.one_shot.specs.Onces.{Untold};
+ghost use Rattle.one_shot.specs.Onces.{RunsUntold};
 
 use crate::process_spawner::DriverPlace;
 use crate::process_starter::spawn;
@@ -144,7 +144,7 @@ impl<T: Threads + Copy> ProcessOnce<T> {
 }
 
 impl<T: Threads + Copy> Once for ProcessOnce<T> {
-    ghost told = { λ _ _ _. Untold };
+    ghost told = { λ _. RunsUntold };
 
     ghost faults = { λ o. o.faults };
 
@@ -188,7 +188,7 @@ impl<T: Threads + Copy> ProcessOnceMaker<T> {
 impl<T: Threads + Copy + Send> OnceMaker for ProcessOnceMaker<T> {
     type Once = ProcessOnce<T>;
 
-    ghost told = { λ _ _ _. Untold };
+    ghost told = { λ _. RunsUntold };
 
     fn once(&mut self) -> Result<ProcessOnce<T>, AllocError> {
         Ok(ProcessOnce {

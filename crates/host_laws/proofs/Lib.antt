@@ -14,3 +14,4 @@ pub mod OnceSteps
 pub mod OnceSessions
 pub mod OnceItems
 pub mod OnceFits
+pub mod KeptTalks

@@ -17,8 +17,8 @@ use Rattle.driver_host.specs.Requests.{Request, Hello, Offer, Smudge, Listing}
 use Rattle.driver_host.specs.Answers.{choice_answer, hello_answer, caps_answer, both}
 use Rattle.driver_host.specs.HostText.{Stage, Fresh, Greeted, Serving, Over, Owed, AllAnswered, after_choice, none_owed}
 use Rattle.driver_host.specs.Chosen.{Contents, AreChosen, IsChosen, IsSecond, contents_after, choice_of}
-use Rattle.one_shot.specs.Onces.{OnceTold, Ended, Failing, Untold, OnceTells}
-use Rattle.one_shot.specs.Starters.{smudge_alone}
+use Rattle.one_shot.specs.Onces.{OnceTold, Ended, Failing, Untold, RunsTold, told_of}
+use Rattle.one_shot.specs.Replies.{smudge_alone}
 use Rattle.one_shot.specs.Works.{choice_told, work_told, most_output}
 use Rattle.host_laws.specs.HostTalks.{AnswersFit}
 use Rattle.host_laws.proofs.OneParse.{total_both}
@@ -63,7 +63,7 @@ told_fits (Ended output well) c some is =
 told_fits Failing c some is = subst Fits is (omega arith)
 told_fits Untold c some is = absurd (some refl)
 
-module _ (tells : OnceTells) (command : List ℕ) (batch : ℕ) (told : (c i : List ℕ) → tells c i ≡ Untold → ⊥) where
+module _ (tells : RunsTold) (command : List ℕ) (batch : ℕ) (told : (c i : List ℕ) → told_of tells c i ≡ Untold → ⊥) where
   second_fits : (path : List ℕ) (known : Option (List ℕ)) (c : Choice) → IsSecond (work_told tells command) path known c → Fits c
   second_fits path None c is = absurd is
   second_fits path (Some content) c is =

@@ -20,8 +20,8 @@ use Rattle.driver_host.specs.Requests.{Hello, Offer, IsRequest}
 use Rattle.driver_host.specs.Answers.{hello_answer, caps_answer, both}
 use Rattle.driver_host.specs.HostText.{Fresh, HostEnd}
 use Rattle.driver_host.specs.Chosen.{none_asked}
-use Rattle.one_shot.specs.Onces.{OnceTells}
-use Rattle.one_shot.specs.Starters.{smudge_alone}
+use Rattle.one_shot.specs.Onces.{RunsTold}
+use Rattle.one_shot.specs.Replies.{smudge_alone}
 use Rattle.one_shot.specs.Works.{work_told}
 use Rattle.host_laws.specs.HostTalks.{IsHostSession}
 use Rattle.host_laws.specs.Exchanges.{HandshakesAreGood, offered}
@@ -52,7 +52,7 @@ later_asks paths (Opening p end ∷ es) fs h = later_asks paths es fs h
 later_asks paths (Shutting ∷ es) fs h = later_asks paths es fs h
 
 -- an opened session: its host serves from here on
-record HasServing (tells : OnceTells) (command : List ℕ) (paths : Paths) (caps : Caps) (es : List Exchange) (left : List ℕ) (end : HostEnd)
+record HasServing (tells : RunsTold) (command : List ℕ) (paths : Paths) (caps : Caps) (es : List Exchange) (left : List ℕ) (end : HostEnd)
     : Type 0 where
   caps_are : caps ≡ smudge_alone
   later : List Packet
@@ -62,7 +62,7 @@ record HasServing (tells : OnceTells) (command : List ℕ) (paths : Paths) (caps
   output : spelling_all later ≡ taken ++ left
   spoken : Spoken paths caps es sent taken
 
-module _ (laws : OnceLaws) (handshakes : HandshakesAreGood) (hello : IsRequest Hello hello_packets) (offer : IsRequest (Offer offered) caps_packets) (tells : OnceTells) (command : List ℕ) (paths : Paths) where
+module _ (laws : OnceLaws) (handshakes : HandshakesAreGood) (hello : IsRequest Hello hello_packets) (offer : IsRequest (Offer offered) caps_packets) (tells : RunsTold) (command : List ℕ) (paths : Paths) where
   hands : (caps : Caps) (es : List Exchange) (seen : SessionHad) (s : IsOnceSession (work_told tells command) seen)
       → IsOpenedSession paths caps es seen → NoneWanting es → AskForPaths paths es
       → HasServing tells command paths caps es s.host.left s.end

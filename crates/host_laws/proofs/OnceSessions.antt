@@ -38,8 +38,8 @@ use Rattle.driver_host.specs.declared.work.Choice.TheVariants as choice
 use Rattle.driver_host.specs.Requests.{Smudge, IsRequest}
 use Rattle.driver_host.specs.Answers.{choice_answer, reply_to, given}
 use Rattle.driver_host.specs.HostText.{HostEnd, after_choice, none_owed}
-use Rattle.one_shot.specs.Onces.{OnceTold, Ended, Failing, Untold, OnceTells}
-use Rattle.one_shot.specs.Starters.{smudge_alone}
+use Rattle.one_shot.specs.Onces.{OnceTold, Ended, Failing, Untold, RunsTold}
+use Rattle.one_shot.specs.Replies.{smudge_alone}
 use Rattle.one_shot.specs.Works.{choice_told, work_told, most_output}
 use Rattle.host_laws.specs.OnceTalks.{run_of, AreTold, once_request, HearsChoice, IsHeardOf}
 use Rattle.host_laws.proofs.Counts.{some_contains, some_here}
@@ -223,7 +223,7 @@ nothing_between paths d more u rest (Opening p end ∷ es) sent taken (inl (none
     no_cut (inr e) = cc e
 nothing_between paths d more u rest (Opening p end ∷ es) sent taken (inr s) leads = absurd s.5
 
-module _ (laws : OnceLaws) (tells : OnceTells) (command : List ℕ) (paths : Paths) (asked_paths : List ℕ) (told : AreTold tells command paths asked_paths) (d : ℕ) where
+module _ (laws : OnceLaws) (tells : RunsTold) (command : List ℕ) (paths : Paths) (asked_paths : List ℕ) (told : AreTold tells command paths asked_paths) (d : ℕ) where
   -- each of these paths hears what it should
   abbrev pub HearWell : List ℕ → List Exchange → Type 0
   HearWell rest es = (p : ℕ) → contains p rest ≡ true

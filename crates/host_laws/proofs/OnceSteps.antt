@@ -11,7 +11,7 @@ use Rattle.driver_host.specs.HostText.{Stage, Fresh, Greeted, Serving, HostEnd, 
 use Rattle.driver_host.specs.HostText.{none_owed, after_choice}
 use Rattle.driver_host.specs.Chosen.{Contents, AreChosen, contents_after}
 use Rattle.driver_host.specs.Works.{WorkTold}
-use Rattle.one_shot.specs.Starters.{smudge_alone}
+use Rattle.one_shot.specs.Replies.{smudge_alone}
 use Rattle.host_laws.specs.HostTalks.{AnswersFit}
 use Rattle.host_laws.specs.Awaiting.{Awaits, MayCome}
 use Rattle.host_laws.specs.Exchanges.{offered}

@@ -2,3 +2,4 @@ pub mod HostTalks
 pub mod Awaiting
 pub mod Exchanges
 pub mod OnceTalks
+pub mod KeptTalks

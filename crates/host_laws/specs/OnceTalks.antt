@@ -18,8 +18,8 @@ use Rattle.driver_host.specs.HostText.{Fresh, HostEnd}
 use Rattle.driver_host.specs.Chosen.{Contents, none_asked, AreChosen}
 use Rattle.driver_host.specs.Works.{WorkTold}
 use Rattle.one_shot.specs.Commands.{once_command}
-use Rattle.one_shot.specs.Onces.{OnceTold, Untold, OnceTells}
-use Rattle.one_shot.specs.Starters.{smudge_alone}
+use Rattle.one_shot.specs.Onces.{OnceTold, Untold, RunsTold, told_of}
+use Rattle.one_shot.specs.Replies.{smudge_alone}
 use Rattle.one_shot.specs.Works.{choice_told, work_told}
 use Rattle.host_laws.specs.HostTalks.{IsHostSession, ArePaths}
 
@@ -38,15 +38,15 @@ AreOnce told (StartFailed ∷ hs) = ⊥
 AreOnce told (StartOutOfMemory ∷ hs) = AreOnce told hs
 
 -- what is told of the run for a path
-abbrev pub run_of : OnceTells → List ℕ → Paths → ℕ → OnceTold
-run_of tells command paths p = tells (once_command command (paths.text p)) (paths.content p)
+abbrev pub run_of : RunsTold → List ℕ → Paths → ℕ → OnceTold
+run_of tells command paths p = told_of tells (once_command command (paths.text p)) (paths.content p)
 
-abbrev pub AreTold : OnceTells → List ℕ → Paths → List ℕ → Type 0
+abbrev pub AreTold : RunsTold → List ℕ → Paths → List ℕ → Type 0
 AreTold tells command paths asked = (p : ℕ) → contains p asked ≡ true → run_of tells command paths p ≡ Untold → ⊥
 
 -- A talk with hosts that run this command, in which no link and no start failed, memory never ran out, and no answer is
 -- over the limit. The run for each asked path is told.
-pub record IsOnceTalk (tells : OnceTells) (command : List ℕ) (d : ℕ) (paths : Paths) (asked : List ℕ)
+pub record IsOnceTalk (tells : RunsTold) (command : List ℕ) (d : ℕ) (paths : Paths) (asked : List ℕ)
     (items : List Had) (exchanges : List Exchange) : Type 0 where
   pub names : ArePaths paths asked
   pub told : AreTold tells command paths asked
@@ -72,7 +72,7 @@ pub record IsHeardOf (told : OnceTold) (request : List ℕ) (fate : Fate) (conte
 
 -- so it is with each asked path of such a talk
 abbrev pub OnceHeard : Type 0
-OnceHeard = (tells : OnceTells) (command : List ℕ) (d : ℕ) (paths : Paths) (asked : List ℕ) (items : List Had)
+OnceHeard = (tells : RunsTold) (command : List ℕ) (d : ℕ) (paths : Paths) (asked : List ℕ) (items : List Had)
     (exchanges : List Exchange) → IsOnceTalk tells command d paths asked items exchanges
     → (p : ℕ) → contains p asked ≡ true
     → IsHeardOf (run_of tells command paths p) (once_request paths p) (fate_in d p exchanges) (content_of p exchanges)

@@ -21,11 +21,12 @@ ghost use Rattle.driver_host.specs.HostText.{Stage, Fresh, HostEnd};
 ghost use Rattle.host_laws.specs.Awaiting.{Awaits, MayCome, IsTaken};
 ghost use Rattle.host_laws.specs.Exchanges.{RepliesAreGood, ListsAreGood, HandshakesAreGood};
 ghost use Rattle.driver_host.specs.Chosen.{IsChosenText};
-ghost use Rattle.one_shot.specs.Onces.{OnceTells, Untold};
-ghost use Rattle.one_shot.specs.Starters.{smudge_alone};
+ghost use Rattle.one_shot.specs.Onces.{RunsTold, Untold, told_of};
+ghost use Rattle.one_shot.specs.Replies.{smudge_alone};
 ghost use Rattle.one_shot.specs.Works.{work_told};
 ghost use Rattle.host_laws.specs.HostTalks.{AnswersFit, HostedTalk};
 ghost use Rattle.host_laws.specs.OnceTalks.{OnceHeard};
+ghost use Rattle.host_laws.specs.KeptTalks.{KeptHeard};
 
 use driver_host::{client_requests, right_handshake, right_lists, right_replies};
 use driver_line::one_part;
@@ -117,8 +118,8 @@ pub fn hosts_serve()
 
 /// No answer of a host is over the limit that announces `smudge` alone and runs a command, where each run is told.
 pub fn told_answers_fit()
-    ensures { (tells : OnceTells) (command : List ℕ) (batch : ℕ) (bytes : List ℕ) (choices : List Choice)
-        (text : List ℕ) (end : HostEnd) → ((c : List ℕ) (i : List ℕ) → tells c i ≡ Untold → ⊥)
+    ensures { (tells : RunsTold) (command : List ℕ) (batch : ℕ) (bytes : List ℕ) (choices : List Choice)
+        (text : List ℕ) (end : HostEnd) → ((c : List ℕ) (i : List ℕ) → told_of tells c i ≡ Untold → ⊥)
         → (host : IsChosenText (work_told tells command) smudge_alone batch bytes choices text end)
         → AnswersFit smudge_alone batch host.is.requests Fresh host.is.stage choices host.is.answers
         host.is.answered }
@@ -139,4 +140,13 @@ pub fn single_runs_serve()
     prefix_free();
     one_reading();
     no_packet();
+}
+
+/// The same of a talk whose starts are told to run a command and whose sessions a starter keeps: each path gets the
+/// output that its command gave, or is refused as there.
+pub fn kept_runs_serve()
+    ensures { KeptHeard }
+{
+    single_runs_serve();
+    told_answers_fit();
 }

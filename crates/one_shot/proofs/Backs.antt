@@ -1,5 +1,5 @@
 -- The starters that were given back, one after another.
-use Rattle.std.proofs.Common.{◌≡◌, ℕ, List, [], ◌∷◌, ◌++◌, map, reverse, Option, Some, None, ap, sym, ◌∙◌, append-nil}
+use Rattle.std.proofs.Common.{◌≡◌, ℕ, List, [], ◌∷◌, ◌++◌, map, reverse, Option, Some, None, ap, sym, subst, ◌∙◌, append-nil, append_assoc}
 use Rattle.std.specs.Option.{option_map}
 use Rattle.std.proofs.lemmas.List.{reverse-append, map-append}
 use Rattle.edge_kit.specs.Links.{LinkSeen}
@@ -7,8 +7,11 @@ use Rattle.edge_kit.specs.Starters.{StarterSeen, SpawnerSeen, Had, starter_back}
 use Rattle.one_shot.specs.declared.kept.KeptLinks.{KeptLinks}
 use Rattle.one_shot.specs.declared.starter.Source.{Source}
 use Rattle.one_shot.specs.declared.starter.Source.TheVariants as source
+use Rattle.one_shot.specs.Onces.{RunsTold}
 use Rattle.one_shot.specs.Starters.{kept_had, starter_seen}
-use Rattle.one_shot.specs.Spawners.{woven, all_back}
+use Rattle.one_shot.specs.Replies.{AreServed}
+use Rattle.one_shot.specs.Spawners.{woven, all_back, AllServed}
+use Rattle.one_shot.proofs.Sessions.{served_both}
 
 -- one more that was given back is the first of those in reverse
 pushed : {A B : Type 0} (f : A → B) (xs : List A) (x : A) → reverse (map f (xs ++ x ∷ [])) ≡ f x ∷ reverse (map f xs)
@@ -47,12 +50,60 @@ stays_here tells back items below s y out is same =
     ap (spawner_as out) (ap (λ i. all_back tells i below) is ∙ one_here tells back below s ∙ ap (λ z. all_back tells back below ++ z ∷ []) (sym same))
 
 -- all that came of a starter's starts is what the one below has
-pub whole_back : {S M K : Type 0} (starter : S → StarterSeen) (link : K → LinkSeen) (from : Source S M) (s : S) (kept : KeptLinks K) (out : ℕ)
-    → from ≡ source.Inner s → kept_had link kept ≡ [] → starter_back (starter_seen starter link from kept out) ≡ starter_back (starter s)
-whole_back starter link from s kept out is none =
+pub whole_back : {S M K : Type 0} (starter : S → StarterSeen) (tells : M → RunsTold) (link : K → LinkSeen) (from : Source S M) (s : S) (kept : KeptLinks K) (out : ℕ)
+    → from ≡ source.Inner s → kept_had link kept ≡ [] → starter_back (starter_seen starter tells link from kept out) ≡ starter_back (starter s)
+whole_back starter tells link from s kept out is none =
     rw (is, none) (ap (λ (hs : List Had). ((starter s).command, hs)) (append-nil ((starter s).had)))
 
 -- equal sources tell the same
-pub same_back : {S M K : Type 0} (starter : S → StarterSeen) (link : K → LinkSeen) (from to : Source S M) (kept : KeptLinks K) (out : ℕ)
-    → from ≡ to → starter_back (starter_seen starter link from kept out) ≡ starter_back (starter_seen starter link to kept out)
-same_back starter link from to kept out is = ap (λ s. starter_back (starter_seen starter link s kept out)) is
+pub same_back : {S M K : Type 0} (starter : S → StarterSeen) (tells : M → RunsTold) (link : K → LinkSeen) (from to : Source S M) (kept : KeptLinks K) (out : ℕ)
+    → from ≡ to → starter_back (starter_seen starter tells link from kept out) ≡ starter_back (starter_seen starter tells link to kept out)
+same_back starter tells link from to kept out is = ap (λ s. starter_back (starter_seen starter tells link s kept out)) is
+
+-- sessions that are served, in the starters that were given back
+
+served_reverse : (xs ys : List (List ℕ × List Had)) → AllServed xs → AllServed ys → AllServed (reverse xs ++ ys)
+served_reverse [] ys a b = b
+served_reverse (x ∷ xs) ys a b =
+    subst AllServed (sym (ap (λ z. z ++ ys) (reverse-append (x ∷ []) xs) ∙ append_assoc (reverse xs) (x ∷ []) ys))
+    (served_reverse xs (x ∷ ys) a.1 (a.0, b))
+
+served_back : (xs : List (List ℕ × List Had)) → AllServed xs → AllServed (reverse xs)
+served_back xs a = subst AllServed (append-nil (reverse xs)) (served_reverse xs [] a tt)
+
+abbrev AllKept : List (Option (List ℕ × List Had)) → Type 0
+AllKept [] = Unit {0}
+AllKept (Some x ∷ xs) = AreServed x.1 × AllKept xs
+AllKept (None ∷ xs) = AllKept xs
+
+served_woven : (kept : List (Option (List ℕ × List Had))) (below : List (List ℕ × List Had)) → AllKept kept → AllServed below → AllServed (woven kept below)
+served_woven [] below a b = b
+served_woven (Some x ∷ kept) below a b = (a.0, served_woven kept below a.1 b)
+served_woven (None ∷ kept) [] a b = served_woven kept [] a b
+served_woven (None ∷ kept) (x ∷ below) a b = (b.0, served_woven kept below a b.1)
+
+kept_both : (xs ys : List (Option (List ℕ × List Had))) → AllKept xs → AllKept ys → AllKept (xs ++ ys)
+kept_both [] ys a b = b
+kept_both (Some x ∷ xs) ys a b = (a.0, kept_both xs ys a.1 b)
+kept_both (None ∷ xs) ys a b = kept_both xs ys a b
+
+kept_map : {S : Type 0} (tells : S → List ℕ × List Had) → ((s : S) → AreServed (tells s).1) → (back : List (Option S))
+    → AllKept (reverse (map (option_map tells) back))
+kept_map tells all [] = tt
+kept_map tells all (Some s ∷ back) =
+    subst AllKept (sym (reverse-append (Some (tells s) ∷ []) (map (option_map tells) back)))
+    (kept_both (reverse (map (option_map tells) back)) (Some (tells s) ∷ []) (kept_map tells all back) (all s, tt))
+kept_map tells all (None ∷ back) =
+    subst AllKept (sym (reverse-append (None ∷ []) (map (option_map tells) back)))
+    (kept_both (reverse (map (option_map tells) back)) (None ∷ []) (kept_map tells all back) tt)
+
+pub all_back_served : {S : Type 0} (tells : S → List ℕ × List Had) → ((s : S) → AreServed (tells s).1) → (back : List (Option S)) (below : List (List ℕ × List Had))
+    → AllServed below → AllServed (all_back tells back below)
+all_back_served tells all back below a =
+    served_back _ (served_woven (reverse (map (option_map tells) back)) (reverse below) (kept_map tells all back) (served_back below a))
+
+-- what one starter has
+pub starter_served : {S M K : Type 0} (starter : S → StarterSeen) (tells : M → RunsTold) (link : K → LinkSeen) (from : Source S M) (kept : KeptLinks K) (out : ℕ)
+    → ((s : S) → AreServed (starter s).had) → AreServed (kept_had link kept) → AreServed (starter_back (starter_seen starter tells link from kept out)).1
+starter_served starter tells link (source.Inner s) kept out below here = served_both (starter s).had (kept_had link kept) (below s) here
+starter_served starter tells link (source.Single run) kept out below here = here

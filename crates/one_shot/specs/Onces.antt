@@ -1,5 +1,7 @@
 -- What is told of single runs of commands, and how a run ends.
-use Rattle.std.specs.Prelude.{◌≡◌, ◌<◌, ◌≤◌, ℕ, Bool, List, length, Result, Ok, Err}
+use Rattle.std.specs.Prelude.{◌≡◌, ◌<◌, ◌≤◌, ◌&&◌, ℕ, Bool, List, [], ◌∷◌, length, Result, Ok, Err, if◌then◌else◌}
+use Rattle.std.specs.Str.{bytes_eq}
+use Rattle.edge_kit.specs.Links.{RunTold}
 use Rattle.edge_kit.specs.declared.faults.TakeFault.{TakeFault}
 use Rattle.edge_kit.specs.declared.faults.TakeFault.TheVariants as take
 use Rattle.one_shot.specs.declared.once.OnceEnd.{OnceEnd}
@@ -10,9 +12,21 @@ pub data OnceTold : Type 0 where
   Failing : OnceTold
   Untold : OnceTold
 
--- what is told of the run of each command with each input
-abbrev pub OnceTells : Type 0
-OnceTells = List ℕ → List ℕ → OnceTold
+-- what is told of the runs of commands: nothing, or each of these, and that every other run fails
+pub data RunsTold : Type 0 where
+  RunsUntold : RunsTold
+  RunsListed : List RunTold → RunsTold
+
+-- the first run of this command with this input
+abbrev pub run_in : List RunTold → List ℕ → List ℕ → OnceTold
+run_in [] command input = Failing
+run_in (r ∷ rs) command input =
+    if bytes_eq r.command command && bytes_eq r.input input then Ended r.output r.zero else run_in rs command input
+
+-- what is told of the run of a command with an input
+abbrev pub told_of : RunsTold → List ℕ → List ℕ → OnceTold
+told_of RunsUntold command input = Untold
+told_of (RunsListed runs) command input = run_in runs command input
 
 -- this end is what is told, if anything is
 abbrev pub TellsEnd : OnceTold → OnceEnd → Type 0

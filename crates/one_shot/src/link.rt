@@ -1,6 +1,9 @@
 //! A link to a long-running driver, or to a host that stands for one.
 ghost use Rattle.one_shot.specs.Links.{either_seen};
+ghost use Rattle.one_shot.specs.Replies.{run_seen, record_of, IsServed, TellNoAnswers};
 
+use crate::run_link::RunLink;
+use driver_host::Work;
 use edge_kit::{Failed, Link, SendFault};
 
 /// A link of the spawner below, or one to a host.
@@ -8,6 +11,20 @@ use edge_kit::{Failed, Link, SendFault};
 pub enum OnceLink<L: Link, K: Link> {
     Inner(L),
     Hosted(K),
+}
+
+impl<L: Link, W: Work> OnceLink<L, RunLink<W>> {
+    /// What it tells of its driver's answers is so, unless it is a link of the spawner below.
+    #[tactic(auto, using(crate::proofs::RunLinks::unanswered))]
+    pub(crate) fn serves(&self)
+        ensures { TellNoAnswers L.seen
+            → IsServed (record_of (either_seen L.seen (run_seen W.told) self.now)) }
+    {
+        match self {
+            OnceLink::Inner(_) => {}
+            OnceLink::Hosted(link) => link.serves(),
+        }
+    }
 }
 
 impl<L: Link, K: Link> Link for OnceLink<L, K> {

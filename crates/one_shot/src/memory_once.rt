@@ -1,7 +1,8 @@
 //! Single runs in memory.
 ghost use Rattle.std.specs.Prelude.{◌≡◌, ◌&&◌, IfOk, option_copied};
 ghost use Rattle.std.specs.Str.{bytes_eq};
-ghost use Rattle.one_shot.specs.MemoryOnces.{told_by, scripts_tell};
+ghost use Rattle.one_shot.specs.Onces.{run_in};
+ghost use Rattle.one_shot.specs.MemoryOnces.{told_by, runs_in, scripts_tell};
 
 use crate::once::{Once, OnceEnd, OnceMaker};
 use byte_path::Bytes;
@@ -63,7 +64,7 @@ fn is_script_of(script: &OnceScript, command: &[u8], input: &[u8]) -> bool
 
 /// The first script with this command and this input.
 fn script_of<'a>(scripts: &'a [OnceScript], command: &[u8], input: &[u8]) -> Option<&'a OnceScript>
-    ensures { told_by (option_copied result) ≡ scripts_tell scripts.now command.now input.now }
+    ensures { told_by (option_copied result) ≡ run_in (runs_in scripts.now) command.now input.now }
 {
     for script in scripts {
         if is_script_of(script, command, input) {

@@ -1,7 +1,7 @@
 //! Single runs of commands.
 ghost use Rattle.std.specs.Prelude.{◌≡◌, ℕ, IfOk};
 ghost use Rattle.edge_kit.specs.Faults.{AfterTake};
-ghost use Rattle.one_shot.specs.Onces.{OnceTells, EndsSo};
+ghost use Rattle.one_shot.specs.Onces.{RunsTold, told_of, EndsSo};
 
 use byte_path::Bytes;
 use edge_kit::TakeFault;
@@ -18,8 +18,8 @@ pub struct OnceEnd {
 
 /// What runs commands, one after another.
 pub trait Once: Drop {
-    /// What it tells of the run of a command with an input. No call changes it.
-    ghost told: { Self → OnceTells };
+    /// What it tells of the runs of commands. No call changes it.
+    ghost told: { Self → RunsTold };
 
     /// How often it has failed.
     ghost faults: { Self → ℕ };
@@ -28,7 +28,7 @@ pub trait Once: Drop {
     /// limit, and `Failed` if it couldn't be run.
     fn run_once(&mut self, command: &[u8], input: &[u8], limit: u64) -> Result<OnceEnd, TakeFault>
         ensures told { told self.new ≡ told self.old }
-        ensures ends { EndsSo (told self.old command.now input.now) limit result }
+        ensures ends { EndsSo (told_of (told self.old) command.now input.now) limit result }
         ensures faults { AfterTake (faults self.old) (faults self.new) result };
 }
 
@@ -36,8 +36,8 @@ pub trait Once: Drop {
 pub trait OnceMaker: Drop {
     type Once: Once;
 
-    /// What it tells of the run of a command with an input. No call changes it.
-    ghost told: { Self → OnceTells };
+    /// What it tells of the runs of commands. No call changes it.
+    ghost told: { Self → RunsTold };
 
     /// A value that tells the same, and hasn't failed.
     fn once(&mut self) -> Result<Self::Once, AllocError>

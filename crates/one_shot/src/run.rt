@@ -1,10 +1,11 @@
 //! A command that runs once for each content.
 ghost use Rattle.std.specs.Prelude.{◌≡◌, drop, IfOk};
 ghost use Rattle.edge_kit.specs.Links.{IsNewLink};
-ghost use Rattle.driver_host.specs.HostLinks.{link_seen};
+ghost use Rattle.one_shot.specs.Replies.{run_seen};
 ghost use Rattle.one_shot.specs.Starters.{IsRunOf};
 
 use crate::once::OnceMaker;
+use crate::run_link::RunLink;
 use crate::work::OnceWork;
 use byte_path::Bytes;
 use driver_host::{Host, HostLink, Work};
@@ -52,8 +53,10 @@ impl<M: OnceMaker> Run<M> {
     }
 
     /// A link to a host that runs the command.
-    pub fn begin(&mut self, alloc: Global) -> Result<HostLink<OnceWork<M::Once>>, AllocError>
-        ensures fresh { IfOk result (λ l. IsNewLink (link_seen l)) }
+    #[tactic(auto, using(crate::proofs::RunLinks::plain_work, crate::proofs::RunLinks::same_bool))]
+    pub fn begin(&mut self, alloc: Global) -> Result<RunLink<OnceWork<M::Once>>, AllocError>
+        ensures fresh { IfOk result (λ l. IsNewLink
+            (run_seen ⟦<OnceWork<M::Once> as Work>⟧.told l)) }
         ensures runs { IfOk result (λ l. IsRunOf ⟦<OnceWork<M::Once> as Work>⟧.told
             (M.told self.old.maker) self.old.keeps (drop 1 self.old.command) l) }
         ensures command { self.new.command ≡ self.old.command }
@@ -63,6 +66,6 @@ impl<M: OnceMaker> Run<M> {
         let once = self.maker.once()?;
         let work = OnceWork::make(alloc, once, without_nul(self.command.as_slice()))?;
         let host = Host::reserve(alloc, work, SMUDGE_ALONE, 1)?;
-        Ok(HostLink::begin(alloc, host, self.keeps))
+        Ok(RunLink::begin(HostLink::begin(alloc, host, self.keeps)))
     }
 }

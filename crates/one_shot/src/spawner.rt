@@ -1,15 +1,17 @@
 //! The maker of the starters of long-running drivers and of single runs.
 ghost use Rattle.std.specs.Prelude.{◌≡◌, ◌≤◌, ◌<◌, ◌+◌, ◌∷◌, ◌++◌, [], IfOk, OnOk, OnErr, vec_len, vec_capacity};
 ghost use Rattle.edge_kit.specs.Starters.{new_starter, starter_back};
-ghost use Rattle.driver_host.specs.HostLinks.{link_seen};
 ghost use Rattle.one_shot.specs.Links.{either_seen};
+ghost use Rattle.one_shot.specs.Replies.{run_seen};
 ghost use Rattle.one_shot.specs.Starters.{is_single_run, starter_seen};
-ghost use Rattle.one_shot.specs.Spawners.{commands_tell, all_back, RunsBy};
+ghost use Rattle.one_shot.specs.Spawners.{commands_tell, all_back, RunsBy, AllServed, IsPlainBelow};
 
 use crate::kept::KeptLinks;
 use crate::once::OnceMaker;
 use crate::run::Run;
 use crate::starter::{LinkOf, OnceStarter, Source};
+use crate::work::OnceWork;
+use driver_host::Work;
 use edge_kit::{Spawner, Starter};
 use std::alloc::{AllocError, Global};
 
@@ -47,7 +49,8 @@ where
     /// A spawner over this one, which runs single runs by this maker. The links to them keep what is sent and taken if
     /// `keeps`.
     pub fn new(alloc: Global, inner: P, maker: M, keeps: bool) -> OnceSpawner<P, M>
-        ensures told { ⟦<OnceSpawner<P, M> as Spawner>⟧.told result ≡ commands_tell (P.told inner) }
+        ensures told { ⟦<OnceSpawner<P, M> as Spawner>⟧.told result ≡
+            commands_tell (P.told inner) keeps (M.told maker) }
         ensures returned { (⟦<OnceSpawner<P, M> as Spawner>⟧.seen result).returned ≡ (P.seen inner).returned }
         ensures out { (⟦<OnceSpawner<P, M> as Spawner>⟧.seen result).out ≡ 0 }
         ensures maker { result.maker ≡ maker }
@@ -64,6 +67,14 @@ where
         }
     }
 
+    /// Each session that was given back and tells how its driver answers is a talk with a host that makes these
+    /// choices, if the spawner below tells nothing of this.
+    pub fn sessions_are_served(&self)
+        ensures { IsPlainBelow P.seen P.Starter.seen P.Starter.Link.seen
+            → AllServed (⟦<OnceSpawner<P, M> as Spawner>⟧.seen self.now).returned }
+    {
+    }
+
     /// The spawner of the other commands.
     pub fn inner(&self) -> &P
         ensures { result.now ≡ self.now.inner }
@@ -78,11 +89,12 @@ where
 {
     type Starter = StarterOf<P, M>;
 
-    ghost told = { λ s. commands_tell (P.told s.inner) };
+    ghost told = { λ s. commands_tell (P.told s.inner) s.keeps (M.told s.maker) };
 
     ghost seen = { λ s. record {
-      returned = all_back (λ t. starter_back (starter_seen P.Starter.seen
-          (either_seen P.Starter.Link.seen link_seen) t.source t.kept t.out)) s.back.items (P.seen s.inner).returned;
+      returned = all_back (λ t. starter_back (starter_seen P.Starter.seen M.told
+          (either_seen P.Starter.Link.seen (run_seen ⟦<OnceWork<M::Once> as Work>⟧.told))
+          t.source t.kept t.out)) s.back.items (P.seen s.inner).returned;
       out = s.out;
     } };
 

@@ -2,17 +2,18 @@
 ghost use Rattle.std.specs.Prelude.{◌≡◌, ◌≤◌, ◌<◌, ◌+◌, ◌^◌, ◌++◌, ◌∷◌, [], ℕ, List, Bool, IfOk, IfErr, OnErr, length};
 ghost use Rattle.std.specs.Prelude.{vec_len, vec_capacity};
 ghost use Rattle.edge_kit.specs.Starters.{StartsOne, session_had};
-ghost use Rattle.driver_host.specs.HostLinks.{link_seen};
 ghost use Rattle.one_shot.specs.Links.{either_seen};
-ghost use Rattle.one_shot.specs.Starters.{IsEmpty, starter_seen, out_below, Serves};
+ghost use Rattle.one_shot.specs.Replies.{run_seen, AreServed, TellNoAnswers};
+ghost use Rattle.one_shot.specs.Starters.{IsEmpty, kept_had, starter_seen, out_below, Serves};
 ghost use Rattle.one_shot.specs.Spawners.{RunsBy};
 
 use crate::kept::KeptLinks;
 use crate::link::OnceLink;
 use crate::once::OnceMaker;
 use crate::run::Run;
+use crate::run_link::RunLink;
 use crate::work::OnceWork;
-use driver_host::{HostLink, Work};
+use driver_host::Work;
 use edge_kit::{Link, SendFault, Starter};
 use std::alloc::Global;
 
@@ -26,11 +27,11 @@ pub enum Source<S, M> {
 }
 
 /// A link of a starter: one of the starter below, or one to a host that runs a command.
-pub type LinkOf<S: Starter, M: OnceMaker> = OnceLink<S::Link, HostLink<OnceWork<M::Once>>>;
+pub type LinkOf<S: Starter, M: OnceMaker> = OnceLink<S::Link, RunLink<OnceWork<M::Once>>>;
 
 /// Starts a long-running driver, or a host that stands for one.
 #[derive(Drop)]
-pub struct OnceStarter<S: Starter, M, K> {
+pub struct OnceStarter<S: Starter, M, K: Link> {
     pub(crate) alloc: Global,
     pub(crate) source: Source<S, M>,
     // the sessions that its source doesn't have
@@ -40,6 +41,8 @@ pub struct OnceStarter<S: Starter, M, K> {
     ghost room: { vec_len kept.ended + out ≤ vec_capacity kept.ended },
     // until something is kept, a starter below has just these links out
     ghost lends: { IsEmpty kept → out_below S.seen source out ≡ out },
+    // what a link below tells of answers is not this starter's
+    ghost served: { TellNoAnswers S.Link.seen → AreServed (kept_had K.seen kept) },
 }
 
 impl<S: Starter, M: OnceMaker> Starter for OnceStarter<S, M, LinkOf<S, M>>
@@ -48,14 +51,14 @@ where
 {
     type Link = LinkOf<S, M>;
 
-    ghost seen = { λ s. starter_seen S.seen (either_seen S.Link.seen link_seen) s.source s.kept s.out };
+    ghost seen = { λ s. starter_seen S.seen M.told (either_seen S.Link.seen (run_seen ⟦<OnceWork<M::Once> as Work>⟧.told)) s.source s.kept s.out };
 
     /// A starter below starts nothing more once a link ended here that isn't its own, or once there was no room.
     fn start(&mut self) -> Result<LinkOf<S, M>, SendFault>
         requires { let seen = ⟦<OnceStarter<S, M, LinkOf<S, M>> as Starter>⟧.seen in
             length (seen self.old).had < 2 ^ 32 }
         ensures started { let seen = ⟦<OnceStarter<S, M, LinkOf<S, M>> as Starter>⟧.seen in
-            StartsOne (either_seen S.Link.seen link_seen) (seen self.old) (seen self.new) result }
+            StartsOne (either_seen S.Link.seen (run_seen ⟦<OnceWork<M::Once> as Work>⟧.told)) (seen self.old) (seen self.new) result }
         ensures serves { Serves M.told ⟦<OnceWork<M::Once> as Work>⟧.told self.old.source result }
         ensures stays { (maker : M) (keeps : Bool) (command : List ℕ)
             → RunsBy M.told maker keeps command self.old.source
@@ -98,7 +101,7 @@ where
             (seen self.new).out + 1 ≡ (seen self.old).out }
         ensures back { let seen = ⟦<OnceStarter<S, M, LinkOf<S, M>> as Starter>⟧.seen in
             seen self.new ≡ record (seen self.old) {
-              had = (seen self.old).had ++ session_had (either_seen S.Link.seen link_seen link) ∷ [];
+              had = (seen self.old).had ++ session_had (either_seen S.Link.seen (run_seen ⟦<OnceWork<M::Once> as Work>⟧.told) link) ∷ [];
               out = (seen self.new).out;
             } }
         ensures stays { (maker : M) (keeps : Bool) (command : List ℕ)
@@ -108,7 +111,10 @@ where
         let is_whole = self.kept.is_empty();
         match (&mut self.source, link) {
             (Source::Inner(starter), OnceLink::Inner(link)) if is_whole => starter.end(link),
-            (_, link) => self.kept.keep(link),
+            (_, link) => {
+                link.serves();
+                self.kept.keep(link);
+            }
         }
         self.out -= 1;
     }

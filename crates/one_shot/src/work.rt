@@ -2,6 +2,7 @@
 ghost use Rattle.std.specs.Prelude.{◌≡◌, ◌≢◌, ℕ, List, true, None, IfOk};
 ghost use Rattle.driver_host.specs.Works.{ChoosesFirst, ChoosesSecond, Remembers};
 ghost use Rattle.one_shot.specs.Commands.{once_command};
+ghost use Rattle.one_shot.specs.Onces.{told_of};
 ghost use Rattle.one_shot.specs.Works.{work_told, IsChosen};
 
 use crate::command::once_command;
@@ -49,7 +50,7 @@ impl<O: Once> Work for OnceWork<O> {
         ensures remembers { let latest = ⟦<OnceWork<O> as Work>⟧.latest in
             Remembers (latest self.old) path.now content.now (latest self.new) result }
         ensures ran { IfOk result (λ c.
-            let tells = O.told self.old.once (once_command self.old.command path.now) content.now in
+            let tells = told_of (O.told self.old.once) (once_command self.old.command path.now) content.now in
             IsChosen tells (O.faults self.old.once) (O.faults self.new.once) c) }
         ensures command { self.new.command ≡ self.old.command }
     {

@@ -1,5 +1,5 @@
 use Rattle.checkout_core.specs.Talks.{Between}
-use Rattle.one_shot.specs.Starters.{smudge_alone}
+use Rattle.one_shot.specs.Replies.{smudge_alone}
 use Rattle.host_laws.proofs.Asked.{asks_paths}
 use Rattle.host_laws.proofs.Counts.{some_contains}
 use Rattle.host_laws.proofs.OneParse.{PacketLaws}
