@@ -61,19 +61,26 @@ fn read_row<'a>(
     Ok(is_done(asked.names, states))
 }
 
-/// Notes what these rows with these patterns decide, from the last on, for a path in the folder of their file. It stops
-/// once all names are decided.
+/// The rows of a file, with the pattern of each.
+#[derive(Clone, Copy)]
+struct CompiledRows<'a> {
+    rows: &'a [AttrRow],
+    patterns: &'a [Compiled],
+}
+
+/// Notes what these rows decide, from the last on, for a path in the folder of their file. It stops once all names are
+/// decided.
 fn read_rows<'a>(
     asked: &Asked<'a>,
     states: &mut States<'a>,
     pending: &mut Vec<&'a Pair>,
-    rows: &'a [AttrRow],
-    patterns: &[Compiled],
+    compiled: CompiledRows<'a>,
     path: &[u8],
 ) -> Result<(), AllocError>
-    requires { patterns.now ≡ map row_pattern rows.now }
-    ensures { OnOk result (Reads asked.now (rows_pairs path.now rows.now) states.old [] states.new) }
+    requires { compiled.patterns.now ≡ map row_pattern compiled.rows.now }
+    ensures { OnOk result (Reads asked.now (rows_pairs path.now compiled.rows.now) states.old [] states.new) }
 {
+    let CompiledRows { rows, patterns } = compiled;
     let name = last_part(path);
     for place in (0..rows.len()).rev() {
         if !patterns[place].matches_named(path, name) {
@@ -125,7 +132,8 @@ impl CompiledFile {
         ensures { OnOk result (Reads asked.now (file_pairs path.now self.now) states.old [] states.new) }
     {
         let rows = self.file.rows.as_slice();
-        read_rows(asked, states, pending, rows, &self.patterns, path)
+        let patterns = &self.patterns;
+        read_rows(asked, states, pending, CompiledRows { rows, patterns }, path)
     }
 }
 

@@ -81,21 +81,29 @@ fn behind(path: &[u8], len: usize) -> &[u8]
     inner
 }
 
+/// A path, and the files of the folders above it, of which `levels` says where they stand.
+#[derive(Clone, Copy)]
+struct Branch<'a, 'p> {
+    folders: &'a [CompiledAt],
+    levels: &'p [Level],
+    path: &'p [u8],
+}
+
 /// Notes what one file decides for a path.
 fn read_level<'a>(
     asked: &Asked<'a>,
     states: &mut States<'a>,
     pending: &mut Vec<&'a Pair>,
-    folders: &'a [CompiledAt],
+    branch: Branch<'a, '_>,
     level: Level,
-    path: &[u8],
 ) -> Result<(), AllocError>
-    ensures { OnOk result (Reads asked.now (level_pairs folders.now path.now level) states.old [] states.new) }
+    ensures { OnOk result (Reads asked.now (level_pairs branch.folders.now branch.path.now level)
+        states.old [] states.new) }
 {
-    match folders.get(level.place) {
+    match branch.folders.get(level.place) {
         Some(at) => at
             .file()
-            .read(asked, states, pending, behind(path, level.start)),
+            .read(asked, states, pending, behind(branch.path, level.start)),
         None => Ok(()),
     }
 }
@@ -105,18 +113,18 @@ fn read_levels<'a>(
     asked: &Asked<'a>,
     states: &mut States<'a>,
     pending: &mut Vec<&'a Pair>,
-    folders: &'a [CompiledAt],
-    levels: &[Level],
-    path: &[u8],
+    branch: Branch<'a, '_>,
 ) -> Result<(), AllocError>
-    ensures { OnOk result (Reads asked.now (flat_map (level_pairs folders.now path.now) (reverse levels.now))
+    ensures { OnOk result (Reads asked.now
+        (flat_map (level_pairs branch.folders.now branch.path.now) (reverse branch.levels.now))
         states.old [] states.new) }
 {
+    let levels = branch.levels;
     for place in (0..levels.len()).rev() {
         if is_done(asked.names, states) {
             return Ok(());
         }
-        read_level(asked, states, pending, folders, levels[place], path)?;
+        read_level(asked, states, pending, branch, levels[place])?;
     }
     Ok(())
 }
@@ -155,14 +163,12 @@ fn decided_of<'a>(
     let mut states = BTreeMap::new(alloc);
     let mut pending = Vec::new(alloc);
     rules.info.read(&asked, &mut states, &mut pending, path)?;
-    read_levels(
-        &asked,
-        &mut states,
-        &mut pending,
-        &rules.folders,
-        &chain.levels,
+    let branch = Branch {
+        folders: &rules.folders,
+        levels: &chain.levels,
         path,
-    )?;
+    };
+    read_levels(&asked, &mut states, &mut pending, branch)?;
     read_base(&asked, &mut states, &mut pending, &rules.base, path)?;
     Ok(states)
 }

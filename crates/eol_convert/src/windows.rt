@@ -64,14 +64,15 @@ fn copy_window(block: &mut [u8], at: usize, content: &[u8], from: usize)
 /// Copies a window into a block, with so many CRs before its byte at `place`: one, or none. What follows it is copied
 /// too.
 #[inline(always)]
-fn copy_with_cr(block: &mut [u8], at: usize, content: &[u8], from: usize, place: usize, more: usize)
-    requires { (place ≤ WINDOW) × (more ≤ 1) × (from + 2 * WINDOW ≤ length content.now)
-        × (at + 2 * WINDOW + 1 ≤ length block.old) }
-    ensures written { take (at + place + more + WINDOW) block.new
-        ≡ take at block.old ++ (take place (drop from content.now)
-        ++ (replicate more carriage_return ++ take WINDOW (drop (from + place) content.now))) }
+fn copy_with_cr(block: &mut [u8], content: &[u8], reach: Reach, place: usize, more: usize)
+    requires { (place ≤ WINDOW) × (more ≤ 1) × (reach.from + 2 * WINDOW ≤ length content.now)
+        × (reach.at + 2 * WINDOW + 1 ≤ length block.old) }
+    ensures written { take (reach.at + place + more + WINDOW) block.new
+        ≡ take reach.at block.old ++ (take place (drop reach.from content.now)
+        ++ (replicate more carriage_return ++ take WINDOW (drop (reach.from + place) content.now))) }
     ensures len { length block.new ≡ length block.old }
 {
+    let Reach { from, at } = reach;
     copy_window(block, at, content, from);
     block[at + place] = b'\r';
     copy_window(block, at + place + more, content, from + place);
@@ -99,7 +100,7 @@ fn take_front(block: &mut [u8], at: usize, content: &[u8], from: usize, first: u
     ensures len { length block.new ≡ length block.old }
 {
     let more = crs_before(content, from, first);
-    copy_with_cr(block, at, content, from, first, more);
+    copy_with_cr(block, content, Reach { from, at }, first, more);
     let taken = first + 1;
     Reach {
         from: from + taken,
@@ -120,7 +121,7 @@ fn take_whole(block: &mut [u8], at: usize, content: &[u8], from: usize, first: u
     ensures len { length block.new ≡ length block.old }
 {
     let more = crs_before(content, from, first);
-    copy_with_cr(block, at, content, from, first, more);
+    copy_with_cr(block, content, Reach { from, at }, first, more);
     Reach {
         from: from + WINDOW,
         at: at + WINDOW + more,

@@ -16,6 +16,7 @@ ghost use Rattle.filter_proto.specs.declared.reading.Step.TheVariants as step;
 
 use crate::laws::complete;
 use crate::reading::{Asked, Reading, Step};
+use crate::sending::SmudgeRequest;
 use crate::session::{Session, Standing};
 use edge_kit::{Leaf, Link, SendFault};
 use filter_words::{
@@ -56,8 +57,8 @@ fn put_line<L: Leaf>(phase: ReplyPhase, put: &mut Result<(), SendFault>, leaf: &
 fn take_line<L: Leaf>(reading: &mut Reading, leaf: &mut L, piece: &[u8]) -> bool
     requires long { length piece.now ≤ 65516 }
     requires usable { reading.old.put ≡ Ok tt → IsOpenLeaf (L.seen leaf.old).state }
-    ensures long { result ≡ false → reading.old.room < 4 + length piece.now }
-    ensures still { result ≡ false → (reading.new ≡ reading.old) × (L.seen leaf.new ≡ L.seen leaf.old) }
+    ensures long { result ≡ false → (reading.old.room < 4 + length piece.now)
+        × (reading.new ≡ reading.old) × (L.seen leaf.new ≡ L.seen leaf.old) }
     ensures room { result ≡ true → reading.new.room + (4 + length piece.now) ≡ reading.old.room }
     ensures phase { result ≡ true → (d : Bool)
         → reply_step d reading.old.phase (Payload piece.now) ≡ state.On reading.new.phase }
@@ -170,25 +171,20 @@ impl<K: Link> Session<K> {
 
     /// Sends a request and reads its reply.
     #[tactic(auto, using(crate::proofs::More::answered, crate::proofs::Lines::reply_fault, crate::proofs::Lines::reply_memory))]
-    fn request<L: Leaf>(
-        &mut self,
-        path: &[u8],
-        name: &[u8; 20],
-        can_delay: bool,
-        content: &[u8],
-        leaf: &mut L,
-    ) -> Asked
+    fn request<L: Leaf>(&mut self, request: SmudgeRequest<'_>, leaf: &mut L) -> Asked
         requires usable { IsOpenLeaf (L.seen leaf.old).state }
-        requires some { 1 ≤ length path.now }
-        requires few { length path.now ≤ 4096 }
-        ensures exchange { IsExchange (reply_step can_delay) reply_start
-            (first_text path.now name.now can_delay content.now) self.old.wire self.new.wire (reply_end result.reply)
-            (EndPut can_delay (L.seen leaf.old) (L.seen leaf.new) result.put (reply_end result.reply)) }
+        requires some { 1 ≤ length request.path.now }
+        requires few { length request.path.now ≤ 4096 }
+        ensures exchange { IsExchange (reply_step request.can_delay) reply_start
+            (first_text request.path.now request.name.now request.can_delay request.content.now)
+            self.old.wire self.new.wire (reply_end result.reply)
+            (EndPut request.can_delay (L.seen leaf.old) (L.seen leaf.new) result.put
+            (reply_end result.reply)) }
         ensures begins { TouchesNot result.reply (L.seen leaf.old) (L.seen leaf.new) result.put }
         ensures rest { self.new ≡ record self.old { wire = self.new.wire } }
     {
-        match self.send_smudge(path, name, can_delay, content) {
-            Ok(()) => self.read_reply(can_delay, leaf),
+        match self.send_smudge(request) {
+            Ok(()) => self.read_reply(request.can_delay, leaf),
             Err(SendFault::Failed) => Asked {
                 reply: Reply::Broken(BreakCause::LinkFault),
                 put: Ok(()),
@@ -228,7 +224,9 @@ impl<K: Link> Session<K> {
         } }
     {
         complete();
-        let asked = self.request(path, name, self.caps().delay, content, leaf);
+        let can_delay = self.caps().delay;
+        let request = SmudgeRequest { path, name, can_delay, content };
+        let asked = self.request(request, leaf);
         self.set_standing(standing_after(asked.reply));
         asked
     }
@@ -253,7 +251,8 @@ impl<K: Link> Session<K> {
         } }
     {
         complete();
-        let asked = self.request(path, name, false, b"", leaf);
+        let request = SmudgeRequest { path, name, can_delay: false, content: b"" };
+        let asked = self.request(request, leaf);
         self.set_standing(standing_after(asked.reply));
         asked
     }

@@ -13,6 +13,15 @@ use std::alloc::{AllocError, Global};
 /// The most bytes of a content in one packet.
 const MOST_PAYLOAD: usize = 65_516;
 
+/// What a driver is asked for a path of 1 to 4,096 bytes, with the name of its blob. gitattributes(5), `smudge`
+#[derive(Clone, Copy)]
+pub(crate) struct SmudgeRequest<'a> {
+    pub path: &'a [u8],
+    pub name: &'a [u8; 20],
+    pub can_delay: bool,
+    pub content: &'a [u8],
+}
+
 /// Sends the request to smudge a content for a path of 1 to 4,096 bytes. `text` holds one packet at a time, with the
 /// key list before the first and the flush packet after the last.
 #[tactic(auto, using(crate::proofs::Sent::sent_none, crate::proofs::Sent::sent_as))]
@@ -20,18 +29,17 @@ pub(crate) fn send_smudge<K: Link>(
     alloc: Global,
     link: &mut K,
     text: &mut Vec<u8>,
-    path: &[u8],
-    name: &[u8; 20],
-    can_delay: bool,
-    content: &[u8],
+    request: SmudgeRequest<'_>,
 ) -> Result<(), SendFault>
-    requires some { 1 ≤ length path.now }
-    requires few { length path.now ≤ 4096 }
-    ensures { SendsAll (first_text path.now name.now can_delay content.now)
+    requires some { 1 ≤ length request.path.now }
+    requires few { length request.path.now ≤ 4096 }
+    ensures { SendsAll
+        (first_text request.path.now request.name.now request.can_delay request.content.now)
         (K.seen link.old) (K.seen link.new) result }
 {
     request_in_parts();
     text.clear();
+    let SmudgeRequest { path, name, can_delay, content } = request;
     match push_smudge_keys(alloc, text, path, name, can_delay) {
         Ok(()) => send_behind(alloc, link, text, content),
         Err(_) => Err(SendFault::NoMemory),

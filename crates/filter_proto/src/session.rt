@@ -6,7 +6,7 @@ ghost use Rattle.edge_kit.specs.Faults.{AfterCall};
 ghost use Rattle.edge_kit.specs.Links.{Reads};
 ghost use Rattle.filter_proto.specs.Wires.{wire_of, Filled, FillFails, Sees, SendsOn, IsShutAfter};
 
-use crate::sending::{send_list, send_smudge};
+use crate::sending::{SmudgeRequest, send_list, send_smudge};
 use edge_kit::{Failed, Link, SendFault};
 use filter_words::{BreakCause, Caps};
 use pkt_line::{Next, PktFault, PktReader};
@@ -142,28 +142,15 @@ impl<K: Link> Session<K> {
 
     /// Sends the request to smudge a content for a path.
     #[tactic(auto, using(crate::proofs::Told::sends_all_on))]
-    pub(crate) fn send_smudge(
-        &mut self,
-        path: &[u8],
-        name: &[u8; 20],
-        can_delay: bool,
-        content: &[u8],
-    ) -> Result<(), SendFault>
-        requires some { 1 ≤ length path.now }
-        requires few { length path.now ≤ 4096 }
-        ensures sends { SendsOn (first_text path.now name.now can_delay content.now)
+    pub(crate) fn send_smudge(&mut self, request: SmudgeRequest<'_>) -> Result<(), SendFault>
+        requires some { 1 ≤ length request.path.now }
+        requires few { length request.path.now ≤ 4096 }
+        ensures sends { SendsOn
+            (first_text request.path.now request.name.now request.can_delay request.content.now)
             self.old.wire self.new.wire result }
         ensures rest { self.new ≡ record self.old { wire = self.new.wire } }
     {
-        send_smudge(
-            self.alloc,
-            &mut self.link,
-            &mut self.text,
-            path,
-            name,
-            can_delay,
-            content,
-        )
+        send_smudge(self.alloc, &mut self.link, &mut self.text, request)
     }
 
     /// Sends the request for a list.

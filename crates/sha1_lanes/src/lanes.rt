@@ -65,21 +65,23 @@ fn message<'a>(messages: &[&'a [u8]], i: usize) -> &'a [u8]
     if i < messages.len() { messages[i] } else { &[] }
 }
 
+/// The message that each lane is at.
+#[derive(Clone, Copy)]
+struct AtLanes<'a> {
+    m0: &'a [u8],
+    m1: &'a [u8],
+    m2: &'a [u8],
+    m3: &'a [u8],
+}
+
 /// Takes the next `steps` blocks of four messages, each from the block that `done` says.
-fn run(
-    h: &mut [u32x4; 5],
-    m0: &[u8],
-    m1: &[u8],
-    m2: &[u8],
-    m3: &[u8],
-    done: [usize; 4],
-    steps: usize,
-)
-    ensures { let ms = m0.now ∷ m1.now ∷ m2.now ∷ m3.now ∷ [] in
+fn run(h: &mut [u32x4; 5], at: AtLanes<'_>, done: [usize; 4], steps: usize)
+    ensures { let ms = at.m0.now ∷ at.m1.now ∷ at.m2.now ∷ at.m3.now ∷ [] in
         (j : ℕ) → j < 4 → slice_index done j + steps ≤ block_count (message ms j)
         → lane j h.old ≡ hash_after (padded_message (message ms j)) (slice_index done j)
         → lane j h.new ≡ hash_after (padded_message (message ms j)) (slice_index done j + steps) }
 {
+    let AtLanes { m0, m1, m2, m3 } = at;
     let mut b0 = [0u8; 64];
     let mut b1 = [0u8; 64];
     let mut b2 = [0u8; 64];
@@ -127,11 +129,13 @@ impl Lanes {
             → IsAt (map (λ m. m.now) messages.now) n self.new h.new out }
     {
         let steps = self.least_left();
-        let m0 = message(messages, self.index[0]);
-        let m1 = message(messages, self.index[1]);
-        let m2 = message(messages, self.index[2]);
-        let m3 = message(messages, self.index[3]);
-        run(h, m0, m1, m2, m3, self.done, steps);
+        let at = AtLanes {
+            m0: message(messages, self.index[0]),
+            m1: message(messages, self.index[1]),
+            m2: message(messages, self.index[2]),
+            m3: message(messages, self.index[3]),
+        };
+        run(h, at, self.done, steps);
         self.done = [
             self.done[0].wrapping_add(steps),
             self.done[1].wrapping_add(steps),

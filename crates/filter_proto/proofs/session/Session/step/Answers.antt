@@ -25,7 +25,7 @@ returns-else-fits-clause-step g c s before r =
     let st = rw c.in-Ok-Payload.field-0-is at c.in-Ok-Payload.ensures in
     let e = c.take_line-fits.ensures in
     let no = c.if-fits.false in
-    line_long c.args.can_delay s _ _ _ _ before _ _ _ _ (Payload c.in-Ok-Payload.piece.now) r (st, ap (λ (v : SessionSeen). v.wire) c.skip-in-Ok-Payload.ensures) (e.long no) (ap (λ (x : Reading). x.put) (e.still no).0) (e.still no).1
+    line_long c.args.can_delay s _ _ _ _ before _ _ _ _ (Payload c.in-Ok-Payload.piece.now) r (st, ap (λ (v : SessionSeen). v.wire) c.skip-in-Ok-Payload.ensures) (e.long no).0 (ap (λ (x : Reading). x.put) (e.long no).1) (e.long no).2
 
 pub returns-in-Err-fill-clause-step : goal.returns-in-Err-fill-clause-step
 returns-in-Err-fill-clause-step g c s before r = stopped c.args.can_delay s _ _ before _ _ (reading_stops _ _ s _ _ _ _ _ _ r (rw c.in-Ok-NeedMore.field-0-is at c.in-Ok-NeedMore.ensures) c.in-Err-fill.ensures.err)
