@@ -6,7 +6,7 @@ use Rattle.std.specs.BTreeMap.{BTreeMap}
 use denote.Ref.{Bor}
 use Rattle.attr_line.specs.declared.state.AttrState.{AttrState}
 use Rattle.attr_line.specs.declared.file.Pair.{Pair}
-use Rattle.attr_stack.specs.declared.decide.Asked.{Asked}
+use Rattle.attr_stack.specs.declared.decide.AttributeQuery.{AttributeQuery}
 use Rattle.attr_stack.specs.Macros.{MacroLine}
 use Rattle.attr_stack.specs.Decided.{Names, decided, said_of}
 use Rattle.attr_stack.specs.Seen.{AreMacros, macro_at, state_at}
@@ -32,7 +32,7 @@ abbrev pub is_asked : List (List ℕ) → Names
 is_asked names name = list_any (λ (other : List ℕ). bytes_eq other name) names
 
 -- whether a name may decide one that is asked for: it is asked for itself, or it is a macro
-abbrev pub is_needed : Asked → Names
+abbrev pub is_needed : AttributeQuery → Names
 is_needed asked name = is_asked asked.names.now name || is_some (macro_at asked.macros.now name)
 
 -- Of each name that is asked for, the same is decided by the pairs before, after what was noted then, as by the pairs
@@ -42,7 +42,7 @@ Leads lines asked pairs old left new = (rest : List Pair) (name : List ℕ) → 
     → still_of lines (pairs ++ rest) old name ≡ still_of lines (left ++ rest) new name
 
 -- the same for the maps of the code
-abbrev pub Reads : Asked → List Pair → BTreeMap (Bor (List ℕ)) (Bor AttrState) → List Pair
+abbrev pub Reads : AttributeQuery → List Pair → BTreeMap (Bor (List ℕ)) (Bor AttrState) → List Pair
     → BTreeMap (Bor (List ℕ)) (Bor AttrState) → Type 0
 Reads asked pairs old left new = (lines : List MacroLine) → AreMacros asked.macros.now lines
     → Leads lines (is_asked asked.names.now) pairs (state_at old) left (state_at new)

@@ -7,7 +7,7 @@ ghost use Rattle.attr_stack.specs.Levels.{row_pattern, row_rule, rows_pairs};
 ghost use Rattle.attr_stack.specs.Search.{Reads};
 ghost use Rattle.attr_stack.specs.Seen.{state_at};
 
-use crate::decide::{Asked, States, is_done, read_rule};
+use crate::decide::{AttributeQuery, States, is_done, read_rule};
 use crate::files::FileAt;
 use attr_line::{AttrFile, AttrRow, Pair};
 use byte_path::Bytes;
@@ -48,7 +48,7 @@ fn patterns_of(alloc: Global, rows: &[AttrRow]) -> Result<Vec<Compiled>, AllocEr
 
 /// Notes what a row that matches says, and gives whether the search may stop.
 fn read_row<'a>(
-    asked: &Asked<'a>,
+    asked: &AttributeQuery<'a>,
     states: &mut States<'a>,
     pending: &mut Vec<&'a Pair>,
     row: &'a AttrRow,
@@ -71,7 +71,7 @@ struct CompiledRows<'a> {
 /// Notes what these rows decide, from the last on, for a path in the folder of their file. It stops once all names are
 /// decided.
 fn read_rows<'a>(
-    asked: &Asked<'a>,
+    asked: &AttributeQuery<'a>,
     states: &mut States<'a>,
     pending: &mut Vec<&'a Pair>,
     compiled: CompiledRows<'a>,
@@ -124,7 +124,7 @@ impl CompiledFile {
     /// Notes what the file decides for a path in its folder.
     pub fn read<'a>(
         &'a self,
-        asked: &Asked<'a>,
+        asked: &AttributeQuery<'a>,
         states: &mut States<'a>,
         pending: &mut Vec<&'a Pair>,
         path: &[u8],

@@ -16,7 +16,7 @@ use std::collections::BTreeMap;
 
 /// What a search is for.
 #[derive(Clone, Copy)]
-pub struct Asked<'a> {
+pub struct AttributeQuery<'a> {
     pub names: &'a [Bytes],
     pub macros: &'a Macros,
 }
@@ -57,7 +57,7 @@ fn is_asked(names: &[Bytes], name: &[u8]) -> bool
 }
 
 /// Whether a name may decide one that is asked for.
-fn is_needed(asked: &Asked<'_>, name: &[u8]) -> bool
+fn is_needed(asked: &AttributeQuery<'_>, name: &[u8]) -> bool
     ensures { result ≡ is_needed asked.now name.now }
 {
     if is_asked(asked.names, name) {
@@ -80,7 +80,7 @@ fn decides<'a>(states: &mut States<'a>, pair: &'a Pair) -> Result<bool, AllocErr
 
 /// Notes what these pairs decide, of which the last is read first. None is left.
 pub fn read_pairs<'a>(
-    asked: &Asked<'a>,
+    asked: &AttributeQuery<'a>,
     states: &mut States<'a>,
     pending: &mut Vec<&'a Pair>,
 ) -> Result<(), AllocError>
@@ -99,7 +99,7 @@ pub fn read_pairs<'a>(
 
 /// Notes what the pairs of a rule decide. They wait in `pending`, whose room serves one rule after another.
 pub fn read_rule<'a>(
-    asked: &Asked<'a>,
+    asked: &AttributeQuery<'a>,
     states: &mut States<'a>,
     pending: &mut Vec<&'a Pair>,
     pairs: &'a [Pair],

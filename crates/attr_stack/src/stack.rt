@@ -10,7 +10,7 @@ ghost use Rattle.attr_stack.specs.Rules.{files_of, IsRules, IsStack};
 
 use crate::chain::{Chain, Level, Places, places_of};
 use crate::compiled_file::{CompiledAt, CompiledFile};
-use crate::decide::{Asked, States, is_done};
+use crate::decide::{AttributeQuery, States, is_done};
 use crate::files::{AttrFiles, FileAt};
 use crate::macros::{Macros, macros_of};
 use crate::states::states_in;
@@ -91,7 +91,7 @@ struct Branch<'a, 'p> {
 
 /// Notes what one file decides for a path.
 fn read_level<'a>(
-    asked: &Asked<'a>,
+    asked: &AttributeQuery<'a>,
     states: &mut States<'a>,
     pending: &mut Vec<&'a Pair>,
     branch: Branch<'a, '_>,
@@ -110,7 +110,7 @@ fn read_level<'a>(
 
 /// Notes what these files decide for a path, from the last on. It stops once all names are decided.
 fn read_levels<'a>(
-    asked: &Asked<'a>,
+    asked: &AttributeQuery<'a>,
     states: &mut States<'a>,
     pending: &mut Vec<&'a Pair>,
     branch: Branch<'a, '_>,
@@ -131,7 +131,7 @@ fn read_levels<'a>(
 
 /// Notes what the lowest file decides for a path, if a name is left.
 fn read_base<'a>(
-    asked: &Asked<'a>,
+    asked: &AttributeQuery<'a>,
     states: &mut States<'a>,
     pending: &mut Vec<&'a Pair>,
     base: &'a CompiledFile,
@@ -159,7 +159,7 @@ fn decided_of<'a>(
         → state_at states name ≡ decision (files_of rules.now) path.now name) }
 {
     let macros = &rules.macros;
-    let asked = Asked { names, macros };
+    let asked = AttributeQuery { names, macros };
     let mut states = BTreeMap::new(alloc);
     let mut pending = Vec::new(alloc);
     rules.info.read(&asked, &mut states, &mut pending, path)?;

@@ -3,7 +3,7 @@ ghost use Rattle.std.specs.Prelude.{◌≡◌, IfOk, map};
 ghost use Rattle.attr_stack.specs.Decided.{state_of};
 ghost use Rattle.attr_stack.specs.Seen.{said_in};
 
-use crate::decide::{Asked, States, read_pairs};
+use crate::decide::{AttributeQuery, States, read_pairs};
 use crate::files::AttrFiles;
 use crate::macros::macros_of;
 use crate::reach::push_all;
@@ -64,7 +64,7 @@ pub fn attributes_of(
     let macros = macros_of(alloc, files)?;
     let mut pending = Vec::new(alloc);
     push_all(&mut pending, files, path)?;
-    let asked = Asked {
+    let asked = AttributeQuery {
         names,
         macros: &macros,
     };

@@ -23,8 +23,8 @@ use Rattle.checkout_core.specs.Steps.{IsLegal, replay}
 use Rattle.checkout_core.specs.Actors.{actor_of, is_claim, is_step, own_entries}
 use Rattle.checkout_core.specs.Hands.{held_at}
 use Rattle.checkout_core.specs.Desks.{MayNext}
-use Rattle.checkout_book.specs.declared.plan.Plan.{Plan}
-use Rattle.checkout_book.specs.declared.plan.Entry.{Entry}
+use Rattle.checkout_book.specs.declared.plan.BookPlan.{BookPlan}
+use Rattle.checkout_book.specs.declared.plan.HistoryEntry.{HistoryEntry}
 use Rattle.checkout_book.specs.Sights.{Sight, seen}
 use Rattle.checkout_book.specs.Entries.{events_of}
 use Rattle.checkout_book.specs.Shape.{Shelf}
@@ -45,7 +45,7 @@ MayFollow = (starts : List Start) (workers drivers a : ℕ) (history : List Even
 
 -- the law of checkout_book on a pass's own list
 abbrev pub ListsOwn : (B L : Type 0) → Type 0
-ListsOwn B L = (lock : TableId) (d : Plan B L) (n made : ℕ) (pass : SeatView Entry (Plan B L)) (c : Core)
+ListsOwn B L = (lock : TableId) (d : BookPlan B L) (n made : ℕ) (pass : SeatView HistoryEntry (BookPlan B L)) (c : Core)
     → IsPass lock d n made pass c
     → own_entries d.starts.items d.workers n (events_of (seen_of pass)) ≡ map (λ e. e.event) (mine_of pass)
 
@@ -69,14 +69,14 @@ below_two (suc (suc p)) d required at = absurd (cc (at))
 may_after : MayNext two 1 1 (not_started ∷ []) (HandBack 1)
 may_after = (refused, refl, refl, (refl, tt), below_two)
 
-module _ {B L : Type 0} (lock : TableId) (d : Plan B L) (made : ℕ) (s : SeatView Entry (Plan B L))
+module _ {B L : Type 0} (lock : TableId) (d : BookPlan B L) (made : ℕ) (s : SeatView HistoryEntry (BookPlan B L))
     (f : IsFirst lock d made s) where
   pub by_desk : (e : Event) → actor_of two 1 e ≡ Some 1 → actor_of d.starts.items d.workers e ≡ Some 1
   by_desk e h = let same : actor_of d.starts.items d.workers e ≡ actor_of two 1 e = λ i. actor_of (f.starts i)
       (f.workers i) e in same ∙ h
 
   -- what the desk's first note does, by its number
-  pub first_note : (new : SeatView Entry (Plan B L)) (c : Core) (pass : IsPass lock d 1 made s c)
+  pub first_note : (new : SeatView HistoryEntry (BookPlan B L)) (c : Core) (pass : IsPass lock d 1 made s c)
       → ((x : Core) → IsPass lock d (number_of s) made s x
       → actor_of d.starts.items d.workers not_started ≡ Some (number_of s)
       → Appends lock d (number_of s) made s new x not_started)
@@ -104,7 +104,7 @@ module _ {B L : Type 0} (lock : TableId) (d : Plan B L) (made : ℕ) (s : SeatVi
   may_fail c pass = subst (λ (x : Core). is_step x not_started ≡ true) (first_core c pass) refl
 
   -- and then the path may be handed back
-  pub may_hand_back : MayFollow → ListsOwn B L → (new : SeatView Entry (Plan B L)) (c : Core)
+  pub may_hand_back : MayFollow → ListsOwn B L → (new : SeatView HistoryEntry (BookPlan B L)) (c : Core)
       (t : Appends lock d 1 made s new c not_started)
       → IsPass lock d 1 made s c → (p : ℕ) → p ≡ 1 → is_step t.core (HandBack p) ≡ true
   may_hand_back law lists new c t pass p is =
@@ -123,7 +123,7 @@ module _ {B L : Type 0} (lock : TableId) (d : Plan B L) (made : ℕ) (s : SeatVi
       (law d.starts.items d.workers d.drivers 1 (events_of (seen_of new)) t.core (HandBack 1) now.reads.run
       (by_desk (HandBack 1) refl) next refl)
 
-  pub nothing_after : (new last : SeatView Entry (Plan B L)) (c : Core) (t : Appends lock d 1 made s new c not_started)
+  pub nothing_after : (new last : SeatView HistoryEntry (BookPlan B L)) (c : Core) (t : Appends lock d 1 made s new c not_started)
       (p : ℕ) → Appends lock d 1 made new last t.core (HandBack p) → ((q : ℕ) → held_at c 1 q ≡ false)
       → HasNothing lock d 1 made last
   nothing_after new last c t p u none = (u.core, u.turn.pass, λ q. u.hands q ∙ (t.hands q ∙ none q))
@@ -137,7 +137,7 @@ map_length f [] = refl
 map_length f (x ∷ xs) = ap suc (map_length f xs)
 
 module _ {B L : Type 0} (see : Sight B L) where
-  pub pair_below : (d : Plan B L) (a b : Card B L) → IsPair see d a b → AreBelow (length d.desks.items) d.starts.items
+  pub pair_below : (d : BookPlan B L) (a b : Card B L) → IsPair see d a b → AreBelow (length d.desks.items) d.starts.items
   pair_below d a b is = subst (λ (n : ℕ). AreBelow n d.starts.items) (sym is.count)
       (subst (AreBelow 1) (sym is.starts) below_two)
 
@@ -160,11 +160,11 @@ module _ {B L : Type 0} (see : Sight B L) where
       rises i zero x y lt at later = absurd (omega (arith, lt))
       rises i (suc j) x y lt at later = absurd (cc (later))
 
-  pub pair_pool : (d : Plan B L) (a b : Card B L) → IsPair see d a b → ArePool d.starts.items d.pool.items
+  pub pair_pool : (d : BookPlan B L) (a b : Card B L) → IsPair see d a b → ArePool d.starts.items d.pool.items
   pair_pool d a b is = subst (λ (ss : List Start). ArePool ss d.pool.items) (sym is.starts)
       (subst (λ (cs : List (Card B L)). ArePool two cs) (sym is.pool) (two_pool a is.free_path))
 
-  pub two_cards : (d : Plan B L) (a b : Card B L) → IsPair see d a b → cards_of d ≡ a ∷ b ∷ []
+  pub two_cards : (d : BookPlan B L) (a b : Card B L) → IsPair see d a b → cards_of d ≡ a ∷ b ∷ []
   two_cards d a b is = λ i. is.pool i ++ is.desks i
 
   two_new : (a b : Card B L) → IsNewCard (seen see a) → IsNewCard (seen see b) → AreNew see (a ∷ b ∷ [])
@@ -172,7 +172,7 @@ module _ {B L : Type 0} (see : Sight B L) where
   two_new a b m n (suc zero) c at = let e : b ≡ c = cc (at) in subst (λ (z : Card B L). IsNewCard (seen see z)) e n
   two_new a b m n (suc (suc k)) c at = absurd (cc (at))
 
-  pub pair_new : (d : Plan B L) (a b : Card B L) → IsPair see d a b → AreNew see (cards_of d)
+  pub pair_new : (d : BookPlan B L) (a b : Card B L) → IsPair see d a b → AreNew see (cards_of d)
   pair_new d a b is = subst (AreNew see) (sym (two_cards d a b is)) (two_new a b is.free_new is.filtered_new)
 
   -- the card that the desk has is the second
@@ -184,7 +184,7 @@ module _ {B L : Type 0} (see : Sight B L) where
       (ap (map (λ (c : Card B L). c.path)) one ∙ ap (λ (q : ℕ). q ∷ []) p, tt)
   dealt (v ∷ w ∷ vs) b n j p = absurd (omega (arith, n))
 
-  pub pair_dealt : (d : Plan B L) (a b : Card B L) → IsPair see d a b → AreDealt d.starts.items 0 d.desks.items
+  pub pair_dealt : (d : BookPlan B L) (a b : Card B L) → IsPair see d a b → AreDealt d.starts.items 0 d.desks.items
   pair_dealt d a b is = subst (λ (ss : List Start). AreDealt ss 0 d.desks.items) (sym is.starts)
       (dealt d.desks.items b is.count is.desks is.filtered_path)
 
@@ -200,18 +200,18 @@ last_card cs rest b x one e =
     let same : x ∷ [] ≡ b ∷ [] = sym alone ∙ whole in
     cc (same)
 
-module _ {B L : Type 0} (see : Sight B L) (lock : TableId) (d : Plan B L) (made : ℕ) (a b : Card B L)
-    (is : IsPair see d a b) (ws : List (SeatView Entry (Plan B L)))
-    (ds : List (SeatView Entry (Plan B L) × Vec (Card B L))) (count : length ws ≡ 1)
+module _ {B L : Type 0} (see : Sight B L) (lock : TableId) (d : BookPlan B L) (made : ℕ) (a b : Card B L)
+    (is : IsPair see d a b) (ws : List (SeatView HistoryEntry (BookPlan B L)))
+    (ds : List (SeatView HistoryEntry (BookPlan B L) × Vec (Card B L))) (count : length ws ≡ 1)
     (idle : AreIdle lock d 0 made (ws ++ map (λ x. x.0) ds)) (fresh : AreFresh (ws ++ map (λ x. x.0) ds))
     (decks : map (λ x. x.1) ds ≡ d.desks.items) (two_made : made ≡ 2) where
   pub desk_count : length ds ≡ 1
-  desk_count = sym (map_length (λ (x : SeatView Entry (Plan B L) × Vec (Card B L)). x.1) ds)
+  desk_count = sym (map_length (λ (x : SeatView HistoryEntry (BookPlan B L) × Vec (Card B L)). x.1) ds)
       ∙ (ap length decks ∙ is.count)
 
   -- the passes and the card that a book of a pair gives
-  pub begun : (rest : List (SeatView Entry (Plan B L))) (w : SeatView Entry (Plan B L))
-      (left : List (SeatView Entry (Plan B L) × Vec (Card B L))) (p : SeatView Entry (Plan B L)) (cs : Vec (Card B L))
+  pub begun : (rest : List (SeatView HistoryEntry (BookPlan B L))) (w : SeatView HistoryEntry (BookPlan B L))
+      (left : List (SeatView HistoryEntry (BookPlan B L) × Vec (Card B L))) (p : SeatView HistoryEntry (BookPlan B L)) (cs : Vec (Card B L))
       (more : List (Card B L)) (card : Card B L) → ws ≡ rest ++ w ∷ [] → ds ≡ left ++ (p, cs) ∷ []
       → cs.items ≡ more ++ card ∷ [] → IsBegun see lock d w p card
   begun rest w left p cs more card ew ed ec =
@@ -219,7 +219,7 @@ module _ {B L : Type 0} (see : Sight B L) (lock : TableId) (d : Plan B L) (made 
       let dk : ds ≡ (p, cs) ∷ [] = only ds left (p, cs) desk_count ed in
       let both : ws ++ map (λ x. x.0) ds ≡ w ∷ p ∷ [] = λ i. one i ++ map (λ x. x.0) (dk i) in
       let ok = subst (AreIdle lock d 0 made) both idle in
-      let new = subst (λ (l : List (SeatView Entry (Plan B L))). AreFresh l) both fresh in
+      let new = subst (λ (l : List (SeatView HistoryEntry (BookPlan B L))). AreFresh l) both fresh in
       let same : card ≡ b = last_card cs.items more b card
       (one_desk see d.desks.items cs b (sym decks ∙ ap (map (λ x. x.1)) dk) is.desks) ec in
       record {
@@ -238,19 +238,19 @@ module _ {B L : Type 0} (see : Sight B L) (lock : TableId) (d : Plan B L) (made 
 
 -- two passes that have nothing in hand, in order
 module _ {B L : Type 0} where
-  pub both_idle : (lock : TableId) (d : Plan B L) (made : ℕ) (w p : SeatView Entry (Plan B L))
-      (all : List (SeatView Entry (Plan B L))) → HasNothing lock d 0 made w → HasNothing lock d 1 0 p
+  pub both_idle : (lock : TableId) (d : BookPlan B L) (made : ℕ) (w p : SeatView HistoryEntry (BookPlan B L))
+      (all : List (SeatView HistoryEntry (BookPlan B L))) → HasNothing lock d 0 made w → HasNothing lock d 1 0 p
       → all ≡ w ∷ p ∷ [] → made ≡ 2 → AreIdle lock d 0 (length all) all
   both_idle lock d made w p all hw hp e n =
-      subst (λ (l : List (SeatView Entry (Plan B L))). AreIdle lock d 0 (length l) l) (sym e)
+      subst (λ (l : List (SeatView HistoryEntry (BookPlan B L))). AreIdle lock d 0 (length l) l) (sym e)
       (subst (λ (m : ℕ). HasNothing lock d 0 m w) n hw, (hp, tt))
 
   -- what a book of two actors leaves goes on
-  pub goes_on : (see : Sight B L) (d : Plan B L) (ss : List (SeatView Entry (Plan B L))) (s : Shelf B L)
+  pub goes_on : (see : Sight B L) (d : BookPlan B L) (ss : List (SeatView HistoryEntry (BookPlan B L))) (s : Shelf B L)
       → IsFinished see d ss s → d.workers + d.drivers ≡ 2 → GoesOn see s
   goes_on see d ss s is count =
-      let workers : s.workers ≡ d.workers = ap (λ (x : Plan B L). x.workers) is.plan in
-      let drivers : s.drivers ≡ d.drivers = ap (λ (x : Plan B L). x.drivers) is.plan in
+      let workers : s.workers ≡ d.workers = ap (λ (x : BookPlan B L). x.workers) is.plan in
+      let drivers : s.drivers ≡ d.drivers = ap (λ (x : BookPlan B L). x.drivers) is.plan in
       record { sound = is.sound; room = is.room; some = omega (arith, count, workers, drivers) }
 
 -- the path of a refused card is that of the planned one

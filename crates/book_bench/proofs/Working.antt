@@ -20,9 +20,9 @@ use Rattle.checkout_core.specs.States.{Core, AreBelow}
 use Rattle.checkout_core.specs.Actors.{is_step}
 use Rattle.checkout_core.specs.Hands.{Holds, held_at}
 use Rattle.checkout_core.specs.Verdicts.{held_close, raw_verdict}
-use Rattle.checkout_book.specs.declared.plan.Plan.{Plan}
+use Rattle.checkout_book.specs.declared.plan.BookPlan.{BookPlan}
 use Rattle.checkout_book.specs.declared.plan.Parts.{Parts}
-use Rattle.checkout_book.specs.declared.plan.Entry.{Entry}
+use Rattle.checkout_book.specs.declared.plan.HistoryEntry.{HistoryEntry}
 use Rattle.checkout_book.specs.Sights.{Sight, seen}
 use Rattle.checkout_book.specs.Shape.{Shelf}
 use Rattle.checkout_book.specs.Shelves.{joined}
@@ -47,25 +47,25 @@ fine (Some c) = refl
 
 module _ {B L : Type 0} where
   -- the pass, by its own number
-  pub by_number : (lock : TableId) (d : Plan B L) (n made : ℕ) (s : SeatView Entry (Plan B L)) (c : Core)
+  pub by_number : (lock : TableId) (d : BookPlan B L) (n made : ℕ) (s : SeatView HistoryEntry (BookPlan B L)) (c : Core)
       → IsPass lock d n made s c → IsPass lock d (number_of s) made s c
   by_number lock d n made s c pass = subst (λ k. IsPass lock d k made s c) (sym (pass.seat).named) pass
 
   -- a pass that has nothing in hand, by its own number
-  pub own_number : (lock : TableId) (d : Plan B L) (n made : ℕ) (s : SeatView Entry (Plan B L))
+  pub own_number : (lock : TableId) (d : BookPlan B L) (n made : ℕ) (s : SeatView HistoryEntry (BookPlan B L))
       → HasNothing lock d n made s → HasNothing lock d (number_of s) made s
   own_number lock d n made s h = subst (λ (k : ℕ). HasNothing lock d k made s) (sym h.1.seat.named) h
 
   -- what a pass that works has after it
-  pub after_work : (lock : TableId) (d : Plan B L) (n made : ℕ) (old new : SeatView Entry (Plan B L))
+  pub after_work : (lock : TableId) (d : BookPlan B L) (n made : ℕ) (old new : SeatView HistoryEntry (BookPlan B L))
       → HasNothing lock d n made old
       → (HasNothing lock d (number_of old) made old → HasNothing lock d (number_of old) made new)
       → HasNothing lock d n made new
   after_work lock d n made old new h post =
       subst (λ (k : ℕ). HasNothing lock d k made new) h.1.seat.named (post (own_number lock d n made old h))
 
-  pub may_close : MayClose → (see : Sight B L) (lock : TableId) (d : Plan B L) (n made : ℕ)
-      (old new : SeatView Entry (Plan B L)) (c x : Core) (k : Card B L)
+  pub may_close : MayClose → (see : Sight B L) (lock : TableId) (d : BookPlan B L) (n made : ℕ)
+      (old new : SeatView HistoryEntry (BookPlan B L)) (c x : Core) (k : Card B L)
       → TookCard see lock d n made old new c x k
       → is_step x (Close k.path (number_of new) (own.Fine false)) ≡ true
   may_close law see lock d n made old new c x k took =
@@ -79,7 +79,7 @@ module _ {B L : Type 0} where
       law s.core k.path n t.raw (own.Fine false) (raw_verdict t.raw false) t.holds (fine t.raw)
 
   -- after a claim that got nothing
-  pub after_none : (lock : TableId) (d : Plan B L) (n made : ℕ) (old new : SeatView Entry (Plan B L))
+  pub after_none : (lock : TableId) (d : BookPlan B L) (n made : ℕ) (old new : SeatView HistoryEntry (BookPlan B L))
       (h : HasNothing lock d n made old) (x : Core) → TookNone lock d (number_of old) made old new h.0 x
       → HasNothing lock d n made new
   after_none lock d n made old new h x took =
@@ -87,8 +87,8 @@ module _ {B L : Type 0} where
       (x, t.turn.pass, λ q. t.hands q ∙ h.2 q)
 
   -- after a claim whose card was closed
-  pub after_card : (see : Sight B L) (lock : TableId) (d : Plan B L) (n made : ℕ)
-      (old new last : SeatView Entry (Plan B L)) (h : HasNothing lock d n made old) (x : Core) (k : Card B L) (o : Own)
+  pub after_card : (see : Sight B L) (lock : TableId) (d : BookPlan B L) (n made : ℕ)
+      (old new last : SeatView HistoryEntry (BookPlan B L)) (h : HasNothing lock d n made old) (x : Core) (k : Card B L) (o : Own)
       (parts : Parts) → TookCard see lock d (number_of old) made old new h.0 x k
       → Closes lock d (number_of new) made new last x k.path o parts → HasNothing lock d n made last
   after_card see lock d n made old new last h x k o parts took closed =
@@ -101,7 +101,7 @@ module _ {B L : Type 0} where
       )
 
   -- a note of a pass, by its number
-  pub note_named : (lock : TableId) (d : Plan B L) (n made : ℕ) (old new : SeatView Entry (Plan B L)) (c : Core)
+  pub note_named : (lock : TableId) (d : BookPlan B L) (n made : ℕ) (old new : SeatView HistoryEntry (BookPlan B L)) (c : Core)
       (e : Event) → number_of old ≡ n → Appends lock d (number_of old) made old new c e
       → Appends lock d n made old new c e
   note_named lock d n made old new c e is t = subst (λ (k : ℕ). Appends lock d k made old new c e) is t
@@ -205,18 +205,18 @@ module _ {B L : Type 0} (see : Sight B L) where
 
 module _ {B L : Type 0} where
   -- the one pass
-  pub alone : (lock : TableId) (d : Plan B L) (made : ℕ) (ws rest : List (SeatView Entry (Plan B L)))
-      (s : SeatView Entry (Plan B L)) (more : List (SeatView Entry (Plan B L))) → AreIdle lock d 0 made (ws ++ more)
+  pub alone : (lock : TableId) (d : BookPlan B L) (made : ℕ) (ws rest : List (SeatView HistoryEntry (BookPlan B L)))
+      (s : SeatView HistoryEntry (BookPlan B L)) (more : List (SeatView HistoryEntry (BookPlan B L))) → AreIdle lock d 0 made (ws ++ more)
       → length ws ≡ 1 → ws ≡ rest ++ s ∷ [] → HasNothing lock d 0 made s
   alone lock d made ws rest s more idle one is = go rest is
     where
-      go : (rest : List (SeatView Entry (Plan B L))) → ws ≡ rest ++ s ∷ [] → HasNothing lock d 0 made s
+      go : (rest : List (SeatView HistoryEntry (BookPlan B L))) → ws ≡ rest ++ s ∷ [] → HasNothing lock d 0 made s
       go [] e = (subst (λ l. AreIdle lock d 0 made (l ++ more)) e idle).0
       go (x ∷ xs) e = absurd (omega (arith, one, ap length e, length-append xs (s ∷ [])))
 
-  pub alone_idle : (lock : TableId) (d : Plan B L) (made : ℕ) (s : SeatView Entry (Plan B L))
-      (all : List (SeatView Entry (Plan B L))) → HasNothing lock d 0 made s → all ≡ s ∷ [] → made ≡ 1
+  pub alone_idle : (lock : TableId) (d : BookPlan B L) (made : ℕ) (s : SeatView HistoryEntry (BookPlan B L))
+      (all : List (SeatView HistoryEntry (BookPlan B L))) → HasNothing lock d 0 made s → all ≡ s ∷ [] → made ≡ 1
       → AreIdle lock d 0 (length all) all
   alone_idle lock d made s all h e n =
-      subst (λ (l : List (SeatView Entry (Plan B L))). AreIdle lock d 0 (length l) l) (sym e)
+      subst (λ (l : List (SeatView HistoryEntry (BookPlan B L))). AreIdle lock d 0 (length l) l) (sym e)
       (subst (λ (m : ℕ). HasNothing lock d 0 m s) n h, tt)

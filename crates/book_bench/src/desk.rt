@@ -1,6 +1,6 @@
 // The turns of a worker, and of the desk of a driver that can't be started.
 ghost use Rattle.std.specs.Prelude.{◌≡◌, ℕ};
-ghost use Rattle.checkout_book.specs.declared.plan.Plan.{Plan};
+ghost use Rattle.checkout_book.specs.declared.plan.BookPlan.{BookPlan};
 ghost use Rattle.checkout_book.specs.Reserving.{HasNothing};
 ghost use Rattle.checkout_book.specs.Shelves.{IsRefused, cards_of};
 ghost use Rattle.checkout_book.specs.Sights.{sight};
@@ -23,10 +23,10 @@ pub fn give_back<B: Blob, L: Leaf, H: Wait, M: Mark>(
     mut pass: Pass<B, L>,
     card: Card<B, L>,
 ) -> Pass<B, L>
-    requires first { (d : Plan B L) × (made : ℕ) × IsFirst book.now d made pass
+    requires first { (d : BookPlan B L) × (made : ℕ) × IsFirst book.now d made pass
         × IsRefused (sight B.told B.seen L.seen) (cards_of d) card }
     requires path { card.path ≡ 1 }
-    ensures { (d : Plan B L) (made : ℕ) → IsFirst book.now d made pass
+    ensures { (d : BookPlan B L) (made : ℕ) → IsFirst book.now d made pass
         → HasNothing book.now d 1 made result }
 {
     laws::what_may_follow_is_a_step();
@@ -58,10 +58,11 @@ pub fn turns<B: Blob, L: Leaf, H: Wait, M: Mark>(
     desk: Pass<B, L>,
     card: Card<B, L>,
 ) -> (Pass<B, L>, Pass<B, L>)
-    requires first { (d : Plan B L) × (made : ℕ) × HasNothing book.now d 0 made worker
+    requires first { (d : BookPlan B L) × (made : ℕ) × HasNothing book.now d 0 made worker
         × IsFirst book.now d 0 desk × IsRefused (sight B.told B.seen L.seen) (cards_of d) card }
     requires path { card.path ≡ 1 }
-    ensures { (d : Plan B L) (made : ℕ) → HasNothing book.now d 0 made worker → IsFirst book.now d 0 desk
+    ensures { (d : BookPlan B L) (made : ℕ) → HasNothing book.now d 0 made worker
+        → IsFirst book.now d 0 desk
         → HasNothing book.now d 0 made result.0 × HasNothing book.now d 1 0 result.1 }
 {
     let idle = work(rt, marks, book, worker);

@@ -1,7 +1,7 @@
 // A book with a path for any actor, and a path of a driver.
 ghost use Rattle.std.specs.Prelude.{◌≡◌, IfOk};
 ghost use Rattle.convert_plan.specs.Card.{IsNewCard};
-ghost use Rattle.checkout_book.specs.declared.plan.Plan.{Plan};
+ghost use Rattle.checkout_book.specs.declared.plan.BookPlan.{BookPlan};
 ghost use Rattle.checkout_book.specs.Sights.{sight, seen};
 ghost use Rattle.book_bench.specs.Pairs.{two, IsPair, IsBegun, pair_plan};
 
@@ -70,7 +70,7 @@ pub fn begin_pair<B: Blob, L: Leaf>(
     requires filtered { filtered.path ≡ 1 }
     requires free_new { IsNewCard (seen (sight B.told B.seen L.seen) free) }
     requires filtered_new { IsNewCard (seen (sight B.told B.seen L.seen) filtered) }
-    ensures { IfOk result (λ r. (d : Plan B L)
+    ensures { IfOk result (λ r. (d : BookPlan B L)
         × IsBegun (sight B.told B.seen L.seen) r.book d r.worker r.desk r.card) }
 {
     let cards = make_pair(alloc, free, filtered)?;

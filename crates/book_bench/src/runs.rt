@@ -1,7 +1,7 @@
 // Books from their beginning to their end.
 ghost use Rattle.std.specs.Prelude.{◌≡◌, ◌+◌, ◌<◌, ◌^◌, ℕ, IfOk, IfSome, length};
 ghost use Rattle.convert_plan.specs.Card.{IsNewCard};
-ghost use Rattle.checkout_book.specs.declared.plan.Plan.{Plan};
+ghost use Rattle.checkout_book.specs.declared.plan.BookPlan.{BookPlan};
 ghost use Rattle.checkout_book.specs.Ending.{GoesOn};
 ghost use Rattle.checkout_book.specs.Reserving.{HasNothing};
 ghost use Rattle.checkout_book.specs.Sights.{sight, seen};
@@ -29,7 +29,7 @@ fn begin_pool<B: Blob, L: Leaf>(
 ) -> Result<(Book<B, L>, Pass<B, L>), AllocError>
     requires pool { (count : ℕ) × IsPool (sight B.told B.seen L.seen) count new.starts.items new.cards.items }
     requires few { length new.starts.items < 2 ^ 32 }
-    ensures { IfOk result (λ r. (d : Plan B L) × HasNothing r.0 d 0 (d.workers + d.drivers) r.1
+    ensures { IfOk result (λ r. (d : BookPlan B L) × HasNothing r.0 d 0 (d.workers + d.drivers) r.1
         × (d.workers + d.drivers ≡ 1)) }
 {
     let NewCards { cards, starts } = new;
@@ -52,7 +52,8 @@ fn finish_one<B: Blob, L: Leaf>(
     book: Book<B, L>,
     pass: Pass<B, L>,
 ) -> Result<Ended<B, L>, AllocError>
-    requires { (d : Plan B L) × HasNothing book d 0 (d.workers + d.drivers) pass × (d.workers + d.drivers ≡ 1) }
+    requires { (d : BookPlan B L) × HasNothing book d 0 (d.workers + d.drivers) pass
+        × (d.workers + d.drivers ≡ 1) }
 {
     let done = alone(alloc, pass)?;
     Ok(finish(book, done))
@@ -81,7 +82,7 @@ fn finish_both<B: Blob, L: Leaf, M: Mark>(
     worker: Pass<B, L>,
     desk: Pass<B, L>,
 ) -> Result<Ended<B, L>, AllocError>
-    requires { (d : Plan B L) × HasNothing book d 0 2 worker × HasNothing book d 1 0 desk
+    requires { (d : BookPlan B L) × HasNothing book d 0 2 worker × HasNothing book d 1 0 desk
         × (d.workers + d.drivers ≡ 2) }
     ensures { IfOk result (λ e. GoesOn (sight B.told B.seen L.seen) e.shelf) }
 {

@@ -1,7 +1,7 @@
 // One pass at work.
 ghost use Rattle.std.specs.Prelude.{ℕ};
 ghost use Rattle.turn_lock.specs.Seat.{number_of};
-ghost use Rattle.checkout_book.specs.declared.plan.Plan.{Plan};
+ghost use Rattle.checkout_book.specs.declared.plan.BookPlan.{BookPlan};
 ghost use Rattle.checkout_book.specs.Reserving.{HasNothing};
 
 use crate::marks::Mark;
@@ -17,8 +17,10 @@ fn close_one<B: Blob, L: Leaf, H: Wait, M: Mark>(
     book: &Book<B, L>,
     pass: &mut Pass<B, L>,
 ) -> bool
-    requires { (d : Plan B L) × (made : ℕ) × HasNothing book.now d (number_of pass.old) made pass.old }
-    ensures { (d : Plan B L) (made : ℕ) → HasNothing book.now d (number_of pass.old) made pass.old
+    requires { (d : BookPlan B L) × (made : ℕ)
+        × HasNothing book.now d (number_of pass.old) made pass.old }
+    ensures { (d : BookPlan B L) (made : ℕ)
+        → HasNothing book.now d (number_of pass.old) made pass.old
         → HasNothing book.now d (number_of pass.old) made pass.new }
 {
     core_laws::laws::a_path_in_hand_may_be_closed();
@@ -42,8 +44,8 @@ pub fn work<B: Blob, L: Leaf, H: Wait, M: Mark>(
     book: &Book<B, L>,
     mut pass: Pass<B, L>,
 ) -> Pass<B, L>
-    requires { (d : Plan B L) × (made : ℕ) × HasNothing book.now d (number_of pass) made pass }
-    ensures { (d : Plan B L) (made : ℕ) → HasNothing book.now d (number_of pass) made pass
+    requires { (d : BookPlan B L) × (made : ℕ) × HasNothing book.now d (number_of pass) made pass }
+    ensures { (d : BookPlan B L) (made : ℕ) → HasNothing book.now d (number_of pass) made pass
         → HasNothing book.now d (number_of pass) made result }
 {
     for _turn in rt.forever() {

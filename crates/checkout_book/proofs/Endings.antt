@@ -8,7 +8,7 @@ use Rattle.checkout_core.specs.declared.event.Event.{Event}
 use Rattle.checkout_core.specs.declared.event.Event.TheVariants as ev
 use Rattle.checkout_core.specs.Closes.{closing_of, closes}
 use Rattle.convert_plan.specs.declared.card.Card.{Card}
-use Rattle.checkout_book.specs.declared.plan.Entry.{Entry}
+use Rattle.checkout_book.specs.declared.plan.HistoryEntry.{HistoryEntry}
 use Rattle.checkout_book.specs.declared.plan.Parts.{Parts}
 use Rattle.checkout_book.specs.declared.shelf.Slot.{Slot}
 use Rattle.checkout_book.specs.declared.shelf.Slot.TheVariants.{Away, Waits, Ended}
@@ -108,7 +108,7 @@ module _ {B L : Type 0} where
         go (Some (Waits c)) is = none_told es (λ b l at. cc (is, at)) are ∙ sym (ap (parts_at tells) is)
         go (Some (Ended b l)) is = closed_told es (closed b l is)
 
-  module _ (tells : B → L → Parts) (h : List (ℕ × Entry)) where
+  module _ (tells : B → L → Parts) (h : List (ℕ × HistoryEntry)) where
     all_told : (slots : List (Slot B L)) (p : ℕ)
         → ((q k : ℕ) → q ≡ p + k → told_of q h ≡ parts_at tells (slice_get slots k))
         → told_from p (length slots) h ≡ map (λ x. tells x.0 x.1) (parts_in slots)

@@ -18,8 +18,8 @@ use Rattle.checkout_core.specs.declared.path.PathState.TheVariants.{Waiting}
 use Rattle.checkout_core.specs.declared.event.Event.{Event}
 use Rattle.checkout_core.specs.States.{Core, AreBelow, start, path_of, begins}
 use Rattle.checkout_core.specs.Hands.{is_held, held_at}
-use Rattle.checkout_book.specs.declared.plan.Plan.{Plan}
-use Rattle.checkout_book.specs.declared.plan.Entry.{Entry}
+use Rattle.checkout_book.specs.declared.plan.BookPlan.{BookPlan}
+use Rattle.checkout_book.specs.declared.plan.HistoryEntry.{HistoryEntry}
 use Rattle.checkout_book.specs.declared.shelf.Slot.{Slot}
 use Rattle.checkout_book.specs.declared.shelf.Slot.TheVariants.{Away, Waits, Ended}
 use Rattle.checkout_book.specs.Shape.{Shelf}
@@ -52,13 +52,13 @@ module _ {B L : Type 0} where
   placed_length slots [] = refl
   placed_length slots (c ∷ cs) = placed_length (set slots c.path (Waits c)) cs ∙ length-set slots c.path (Waits c)
 
-  pub seats_of : (lock : TableId) (d : Plan B L) (k made : ℕ) (ss : List (SeatView Entry (Plan B L)))
+  pub seats_of : (lock : TableId) (d : BookPlan B L) (k made : ℕ) (ss : List (SeatView HistoryEntry (BookPlan B L)))
       → AreIdle lock d k made ss → AreSeats lock d k made ss
   seats_of lock d k made [] a = tt
   seats_of lock d k made (s ∷ ss) a = (a.0.1.seat, seats_of lock d (suc k) 0 ss a.1)
 
-  idle_at : (lock : TableId) (d : Plan B L) (k made : ℕ) (ss : List (SeatView Entry (Plan B L))) (i : ℕ)
-      (s : SeatView Entry (Plan B L)) → AreIdle lock d k made ss → slice_get ss i ≡ Some s
+  idle_at : (lock : TableId) (d : BookPlan B L) (k made : ℕ) (ss : List (SeatView HistoryEntry (BookPlan B L))) (i : ℕ)
+      (s : SeatView HistoryEntry (BookPlan B L)) → AreIdle lock d k made ss → slice_get ss i ≡ Some s
       → (m : ℕ) × HasNothing lock d (k + i) m s
   idle_at lock d k made [] i s a e = absurd (cc (e))
   idle_at lock d k made (x ∷ ss) zero s a e =
@@ -91,11 +91,11 @@ within_or_past (x ∷ xs) (suc i) = ⊎_elim (λ (h : (y : _) × (slice_get xs i
     (λ (h : length xs ≤ i). inr (omega arith)) (within_or_past xs i)
 
 module _ {B L : Type 0} (see : Sight B L) where
-  pub finished : TellsHands → (lock : TableId) (d : Plan B L) (made : ℕ) (ss : List (SeatView Entry (Plan B L)))
+  pub finished : TellsHands → (lock : TableId) (d : BookPlan B L) (made : ℕ) (ss : List (SeatView HistoryEntry (BookPlan B L)))
       (v : Shelf B L) → AreIdle lock d 0 made ss → plan_of v ≡ d → IsSound see v → HasRoom v
-      → ((k : ℕ) (p : SeatView Entry (Plan B L)) → slice_get ss k ≡ Some p
+      → ((k : ℕ) (p : SeatView HistoryEntry (BookPlan B L)) → slice_get ss k ≡ Some p
       → Begins (seen_of p) (history_of (tell see) v))
-      → ((k : ℕ) (p : SeatView Entry (Plan B L)) → slice_get ss k ≡ Some p
+      → ((k : ℕ) (p : SeatView HistoryEntry (BookPlan B L)) → slice_get ss k ≡ Some p
       → own k (history_of (tell see) v) ≡ mine_of p)
       → ((k : ℕ) → length ss ≤ k → own k (history_of (tell see) v) ≡ []) → IsFinished see d ss v
   finished law lock d made ss v idle is sound room begins mine none = record {
@@ -116,7 +116,7 @@ module _ {B L : Type 0} (see : Sight B L) where
 
       hands : (a : ℕ) (q : ℕ) → held_at v.core a q ≡ false
       hands a q = ⊎_elim
-          (λ (h : (p : SeatView Entry (Plan B L)) × (slice_get ss a ≡ Some p)).
+          (λ (h : (p : SeatView HistoryEntry (BookPlan B L)) × (slice_get ss a ≡ Some p)).
           let i = idle_at lock d 0 made ss a h.0 idle h.1 in
           let n : 0 + a ≡ a = omega arith in
           let k = subst (λ j. HasNothing lock d j i.0 h.0) n i.1 in
@@ -267,7 +267,7 @@ module _ {B L : Type 0} (see : Sight B L) where
           is
 
   -- a book as it begins
-  begins_sound : (d : Plan B L) (capacity : ℕ) → AreBelow d.drivers d.starts.items
+  begins_sound : (d : BookPlan B L) (capacity : ℕ) → AreBelow d.drivers d.starts.items
       → ArePool d.starts.items d.pool.items → AreNew see (cards_of d) → 10 * length d.starts.items ≤ capacity
       → Sound see d (start d.starts.items d.workers d.drivers) []
       (placed (aways (length d.starts.items)) d.pool.items)
@@ -285,14 +285,14 @@ module _ {B L : Type 0} (see : Sight B L) where
     room = room;
   }
 
-  pub begins_at : (d e : Plan B L) (core : Core) (events : List Event) (slots : List (Slot B L)) (flags : List Bool)
+  pub begins_at : (d e : BookPlan B L) (core : Core) (events : List Event) (slots : List (Slot B L)) (flags : List Bool)
       (capacity : ℕ) → e ≡ d → AreBelow d.drivers d.starts.items → ArePool d.starts.items d.pool.items
       → AreNew see (cards_of d) → 10 * length d.starts.items ≤ capacity
       → core ≡ start d.starts.items d.workers d.drivers → events ≡ []
       → slots ≡ placed (aways (length d.starts.items)) d.pool.items → flags ≡ map (λ s. waits s) slots
       → Sound see e core events slots flags capacity
   begins_at d e core events slots flags capacity same below are new room is none laid flag =
-      subst (λ (x : Plan B L). Sound see x core events slots flags capacity) (sym same)
+      subst (λ (x : BookPlan B L). Sound see x core events slots flags capacity) (sym same)
       (subst (λ (x : Core). Sound see d x events slots flags capacity) (sym is)
       (subst (λ l. Sound see d (start d.starts.items d.workers d.drivers) l slots flags capacity) (sym none)
       (subst (λ f. Sound see d (start d.starts.items d.workers d.drivers) [] slots f capacity) (sym flag)
@@ -301,7 +301,7 @@ module _ {B L : Type 0} (see : Sight B L) where
       (begins_sound d capacity below are new room)))))
 
 module _ {B L : Type 0} where
-  idle_one : (lock : TableId) (d : Plan B L) (k made : ℕ) (s : SeatView Entry (Plan B L)) → IsSeat lock d k made s
+  idle_one : (lock : TableId) (d : BookPlan B L) (k made : ℕ) (s : SeatView HistoryEntry (BookPlan B L)) → IsSeat lock d k made s
       → seen_of s ≡ [] → k < d.workers + d.drivers → HasNothing lock d k made s
   idle_one lock d k made s seat unseen few = (
     start d.starts.items d.workers d.drivers,
@@ -314,7 +314,7 @@ module _ {B L : Type 0} where
     λ q. start_free d.starts.items d.workers d.drivers k q,
   )
 
-  pub idle_new : (lock : TableId) (d : Plan B L) (k made : ℕ) (ss : List (SeatView Entry (Plan B L)))
+  pub idle_new : (lock : TableId) (d : BookPlan B L) (k made : ℕ) (ss : List (SeatView HistoryEntry (BookPlan B L)))
       → AreSeats lock d k made ss → All (λ s. seen_of s ≡ []) ss → k + length ss ≤ d.workers + d.drivers
       → AreIdle lock d k made ss
   idle_new lock d k made [] a u few = tt
@@ -323,7 +323,7 @@ module _ {B L : Type 0} where
     idle_new lock d (suc k) 0 ss a.1 (λ i x h. u (suc i) x (omega arith)) (omega arith),
   )
 
-  pub fresh_seats : (lock : TableId) (d : Plan B L) (k made : ℕ) (ss : List (SeatView Entry (Plan B L)))
+  pub fresh_seats : (lock : TableId) (d : BookPlan B L) (k made : ℕ) (ss : List (SeatView HistoryEntry (BookPlan B L)))
       → AreSeats lock d k made ss → All (λ s. seen_of s ≡ []) ss → AreFresh ss
   fresh_seats lock d k made [] a u = tt
   fresh_seats lock d k made (s ∷ ss) a u = (

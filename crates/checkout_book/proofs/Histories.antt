@@ -21,8 +21,8 @@ use Rattle.checkout_core.specs.Actors.{actor_of, is_actor, own_entries, is_step,
 use Rattle.checkout_core.specs.Actors.{AlikeClaims}
 use Rattle.checkout_core.specs.Hands.{is_held, held_at, Holds}
 use Rattle.checkout_core.specs.Notes.{is_noted}
-use Rattle.checkout_book.specs.declared.plan.Plan.{Plan}
-use Rattle.checkout_book.specs.declared.plan.Entry.{Entry}
+use Rattle.checkout_book.specs.declared.plan.BookPlan.{BookPlan}
+use Rattle.checkout_book.specs.declared.plan.HistoryEntry.{HistoryEntry}
 use Rattle.checkout_book.specs.declared.shelf.Slot.{Slot}
 use Rattle.checkout_book.specs.Shape.{Shelf}
 use Rattle.checkout_book.specs.Sights.{Sight, tell}
@@ -41,29 +41,29 @@ own_append k (x ∷ xs) ys = go (x.0 == k) (own_append k xs ys)
     go true h = ap (λ l. x.1 ∷ l) h
     go false h = h
 
-own_here : (n : ℕ) (e : Entry) → own n ((n, e) ∷ []) ≡ e ∷ []
+own_here : (n : ℕ) (e : HistoryEntry) → own n ((n, e) ∷ []) ≡ e ∷ []
 own_here n e = ap (λ (b : Bool). cond b (e ∷ []) []) (eqb_self n)
 
-pub own_more : (n : ℕ) (h : List (ℕ × Entry)) (e : Entry) → own n (h ++ (n, e) ∷ []) ≡ own n h ++ e ∷ []
+pub own_more : (n : ℕ) (h : List (ℕ × HistoryEntry)) (e : HistoryEntry) → own n (h ++ (n, e) ∷ []) ≡ own n h ++ e ∷ []
 own_more n h e = own_append n h ((n, e) ∷ []) ∙ ap (λ l. own n h ++ l) (own_here n e)
 
-pub begins_more : (xs ys zs : List (ℕ × Entry)) → Begins xs ys → Begins xs (ys ++ zs)
+pub begins_more : (xs ys zs : List (ℕ × HistoryEntry)) → Begins xs ys → Begins xs (ys ++ zs)
 begins_more xs ys zs b = (b.0 ++ zs, sym (append_assoc xs b.0 zs) ∙ ap (λ l. l ++ zs) b.1)
 
-pub follows_more : (n : ℕ) (xs ys zs : List (ℕ × Entry)) → Follows n ys zs → Begins xs ys → Begins xs zs
+pub follows_more : (n : ℕ) (xs ys zs : List (ℕ × HistoryEntry)) → Follows n ys zs → Begins xs ys → Begins xs zs
 follows_more n xs ys zs f b = ⊎_elim
     (λ (same : zs ≡ ys). subst (Begins xs) (sym same) b)
-    (λ (more : (e : Entry) × (zs ≡ ys ++ (n, e) ∷ [])). subst (Begins xs) (sym more.1)
+    (λ (more : (e : HistoryEntry) × (zs ≡ ys ++ (n, e) ∷ [])). subst (Begins xs) (sym more.1)
     (begins_more xs ys ((n, more.0) ∷ []) b))
     f
 
-own_cond : (n : ℕ) (x : Entry) (es : List Event) (os : List Entry) (b : Bool) → es ≡ map (λ e. e.event) os
+own_cond : (n : ℕ) (x : HistoryEntry) (es : List Event) (os : List HistoryEntry) (b : Bool) → es ≡ map (λ e. e.event) os
     → cond b (x.event ∷ es) es ≡ map (λ e. e.event) (cond b (x ∷ os) os)
 own_cond n x es os true e = ap (λ l. x.event ∷ l) e
 own_cond n x es os false e = e
 
 -- the events of an actor's own entries
-pub own_events : (starts : List Start) (workers n : ℕ) (h : List (ℕ × Entry)) → Stamped starts workers h
+pub own_events : (starts : List Start) (workers n : ℕ) (h : List (ℕ × HistoryEntry)) → Stamped starts workers h
     → own_entries starts workers n (events_of h) ≡ map (λ e. e.event) (own n h)
 own_events starts workers n [] s = refl
 own_events starts workers n (x ∷ xs) s =
@@ -71,7 +71,7 @@ own_events starts workers n (x ∷ xs) s =
     ap (λ (b : Bool). cond b (x.1.event ∷ rest) rest) (ap (is_actor n) s.0 ∙ eqb_swap n x.0)
     ∙ own_cond n x.1 rest (own n xs) (x.0 == n) (own_events starts workers n xs s.1)
 
-stamped_rest : (starts : List Start) (workers : ℕ) (xs ys : List (ℕ × Entry)) → Stamped starts workers (xs ++ ys)
+stamped_rest : (starts : List Start) (workers : ℕ) (xs ys : List (ℕ × HistoryEntry)) → Stamped starts workers (xs ++ ys)
     → Stamped starts workers ys
 stamped_rest starts workers [] ys s = s
 stamped_rest starts workers (x ∷ xs) ys s = stamped_rest starts workers xs ys s.1
@@ -154,16 +154,16 @@ module _ {B L : Type 0} (see : Sight B L) where
   events_entries starts workers slots [] = refl
   events_entries starts workers slots (e ∷ es) = ap (λ l. e ∷ l) (events_entries starts workers slots es)
 
-  pub reads_of : (d : Plan B L) (v : Shelf B L) → plan_of v ≡ d → IsSound see v
+  pub reads_of : (d : BookPlan B L) (v : Shelf B L) → plan_of v ≡ d → IsSound see v
       → IsRun d (history_of (tell see) v) v.core
-  reads_of d v is sound = subst (λ (x : Plan B L). IsRun x (history_of (tell see) v) v.core) is record {
+  reads_of d v is sound = subst (λ (x : BookPlan B L). IsRun x (history_of (tell see) v) v.core) is record {
     stamped = stamped_entries v.starts.value.items v.workers v.slots.items v.events.items sound.actors;
     run = ap (replay (start v.starts.value.items v.workers v.drivers))
         (events_entries v.starts.value.items v.workers v.slots.items v.events.items) ∙ sound.run;
   }
 
 module _ {B L : Type 0} where
-  pub same_hands : TellsHands → (d : Plan B L) (n : ℕ) (h k : List (ℕ × Entry)) (c x : Core)
+  pub same_hands : TellsHands → (d : BookPlan B L) (n : ℕ) (h k : List (ℕ × HistoryEntry)) (c x : Core)
       → AreBelow d.drivers d.starts.items → IsRun d h c → IsRun d k x → own n h ≡ own n k → (q : ℕ)
       → held_at c n q ≡ held_at x n q
   same_hands law d n h k c x below r s e q =
@@ -172,7 +172,7 @@ module _ {B L : Type 0} where
       ∙ (ap (map (λ e. e.event)) e ∙ sym (own_events d.starts.items d.workers n k s.stamped))) q
 
   -- what was in hand is so at the next turn
-  pub still_holds : HandsStay → (d : Plan B L) (n p : ℕ) (raw : Option FilterCause) (h k : List (ℕ × Entry)) (c x : Core)
+  pub still_holds : HandsStay → (d : BookPlan B L) (n p : ℕ) (raw : Option FilterCause) (h k : List (ℕ × HistoryEntry)) (c x : Core)
       → AreBelow d.drivers d.starts.items → IsRun d h c → IsRun d k x → Begins h k → own n h ≡ own n k
       → Holds c p n raw → Holds x p n raw
   still_holds law d n p raw h k c x below r s b e holds =
@@ -183,10 +183,10 @@ module _ {B L : Type 0} where
       (subst (Stamped d.starts.items d.workers) (sym b.1) s.stamped)) ∙ ap (map (λ e. e.event)) none in
       law d.starts.items d.workers d.drivers p n raw c x (events_of h) (events_of b.0) below r.run
       (ap (replay (start d.starts.items d.workers d.drivers))
-      (sym (map-append (λ (x : ℕ × Entry). x.1.event) h b.0) ∙ ap events_of b.1) ∙ s.run) rest holds
+      (sym (map-append (λ (x : ℕ × HistoryEntry). x.1.event) h b.0) ∙ ap events_of b.1) ∙ s.run) rest holds
 
   -- what the pass may do by what it saw, it may do now
-  pub steps_still : Decides → (d : Plan B L) (n : ℕ) (h k : List (ℕ × Entry)) (c x : Core) (e : Event)
+  pub steps_still : Decides → (d : BookPlan B L) (n : ℕ) (h k : List (ℕ × HistoryEntry)) (c x : Core) (e : Event)
       → AreBelow d.drivers d.starts.items → IsRun d h c → IsRun d k x → own n h ≡ own n k → is_claim e ≡ false
       → AlikeClaims (own_entries d.starts.items d.workers n (events_of h)) c x e
       → actor_of d.starts.items d.workers e ≡ Some n → is_step c e ≡ true → is_step x e ≡ true
@@ -196,14 +196,14 @@ module _ {B L : Type 0} where
       sym (law d.starts.items d.workers d.drivers n (events_of h) (events_of k) c x e below r.run s.run by equal other
       alike) ∙ step
 
-  pub note_still : Decides → (d : Plan B L) (n : ℕ) (h k : List (ℕ × Entry)) (c x : Core) (e : Event)
+  pub note_still : Decides → (d : BookPlan B L) (n : ℕ) (h k : List (ℕ × HistoryEntry)) (c x : Core) (e : Event)
       → AreBelow d.drivers d.starts.items → IsRun d h c → IsRun d k x → own n h ≡ own n k → is_noted e ≡ true
       → actor_of d.starts.items d.workers e ≡ Some n → is_step c e ≡ true → is_step x e ≡ true
   note_still law d n h k c x e below r s same noted by step =
       let alike = noted_alike (own_entries d.starts.items d.workers n (events_of h)) c x e noted in
       steps_still law d n h k c x e below r s same alike.1 alike.0 by step
 
-  pub close_still : TellsHands → HandsStay → Decides → (d : Plan B L) (n p : ℕ) (o : Own) (h k : List (ℕ × Entry))
+  pub close_still : TellsHands → HandsStay → Decides → (d : BookPlan B L) (n p : ℕ) (o : Own) (h k : List (ℕ × HistoryEntry))
       (c x : Core) → AreBelow d.drivers d.starts.items → IsRun d h c → IsRun d k x → Begins h k → own n h ≡ own n k
       → is_step c (Close p n o) ≡ true → is_step x (Close p n o) ≡ true
   close_still hands stay law d n p o h k c x below r s b e step =

@@ -24,7 +24,7 @@ use Rattle.checkout_core.specs.Steps.{step_of}
 use Rattle.checkout_core.specs.Actors.{actor_of, is_step}
 use Rattle.core_laws.specs.Moves.{Moved, RowStays, StaysOr, is_with_driver}
 use Rattle.checkout_core.specs.Notes.{is_noted}
-use Rattle.checkout_book.specs.declared.plan.Plan.{Plan}
+use Rattle.checkout_book.specs.declared.plan.BookPlan.{BookPlan}
 use Rattle.checkout_book.specs.declared.shelf.Slot.{Slot}
 use Rattle.checkout_book.specs.declared.shelf.Slot.TheVariants.{Away, Waits, Ended}
 use Rattle.checkout_book.specs.Sights.{Sight, seen}
@@ -125,7 +125,7 @@ module _ {B L : Type 0} (see : Sight B L) where
       (same_or q p)
 
   -- one event came, and one slot changed
-  pub moved_sound : (d : Plan B L) (core new : Core) (events : List Event) (slots : List (Slot B L))
+  pub moved_sound : (d : BookPlan B L) (core new : Core) (events : List Event) (slots : List (Slot B L))
       (waiting flags : List Bool) (capacity p : ℕ) (e : Event) (y z : Slot B L) (s t : PathState)
       → Sound see d core events slots waiting capacity → Moved core new p s t → step_of core e ≡ Some new
       → is_some (actor_of d.starts.items d.workers e) ≡ true → Lies see (cards_of d) p y t
@@ -147,7 +147,7 @@ module _ {B L : Type 0} (see : Sight B L) where
       }
 
   -- a path whose card waits
-  pub record Waited (d : Plan B L) (core : Core) (p : ℕ) (c : Card B L) : Type 0 where
+  pub record Waited (d : BookPlan B L) (core : Core) (p : ℕ) (c : Card B L) : Type 0 where
     pub row : Path
     pub there : slice_get core.paths p ≡ Some row
     pub raw : Option FilterCause
@@ -166,7 +166,7 @@ module _ {B L : Type 0} (see : Sight B L) where
   waiting_so c (st.Heard t) r h = absurd h
   waiting_so c (Closed v) r h = absurd h
 
-  pub waited : (d : Plan B L) (core : Core) (events : List Event) (slots : List (Slot B L)) (waiting : List Bool)
+  pub waited : (d : BookPlan B L) (core : Core) (events : List Event) (slots : List (Slot B L)) (waiting : List Bool)
       (capacity p : ℕ) (c : Card B L) → Sound see d core events slots waiting capacity
       → slice_get slots p ≡ Some (Waits c) → Waited d core p c
   waited d core events slots waiting capacity p c sound at =
@@ -174,7 +174,7 @@ module _ {B L : Type 0} (see : Sight B L) where
       let w = waiting_so (seen see c) (k.0).state c.ready k.2.0 in
       record { row = k.0; there = k.1; raw = w.0; state = w.1; ready = w.2; is_path = k.2.1; planned = k.2.2 }
 
-  pub claim_steps : MayTake → KeepsSize → (d : Plan B L) (core : Core) (events : List Event) (slots : List (Slot B L))
+  pub claim_steps : MayTake → KeepsSize → (d : BookPlan B L) (core : Core) (events : List Event) (slots : List (Slot B L))
       (waiting : List Bool) (capacity p a : ℕ) (c : Card B L) → Sound see d core events slots waiting capacity
       → slice_get slots p ≡ Some (Waits c) → a < d.workers + d.drivers → is_step core (Claim p a) ≡ true
   claim_steps may size d core events slots waiting capacity p a c sound at few =
@@ -182,7 +182,7 @@ module _ {B L : Type 0} (see : Sight B L) where
       let k = size d.starts.items d.workers d.drivers events core sound.run in
       may core p a w.raw w.row w.there w.state (omega (arith, few, k.0, k.1))
 
-  pub claim_sound : TakesPath → (d : Plan B L) (core new : Core) (events : List Event) (slots : List (Slot B L))
+  pub claim_sound : TakesPath → (d : BookPlan B L) (core new : Core) (events : List Event) (slots : List (Slot B L))
       (waiting flags : List Bool) (capacity p a : ℕ) (c : Card B L) → Sound see d core events slots waiting capacity
       → slice_get slots p ≡ Some (Waits c) → step_of core (Claim p a) ≡ Some new → flags ≡ set waiting p false
       → Sound see d new (events ++ Claim p a ∷ []) (set slots p Away) flags capacity
@@ -191,7 +191,7 @@ module _ {B L : Type 0} (see : Sight B L) where
       moved_sound d core new events slots waiting flags capacity p (Claim p a) Away (Waits c) (Waiting m.0) (Held a m.0)
       sound m.1 step refl refl at (λ b l i. cc (i, at)) tt (λ b l i. absurd (cc (i))) flag
 
-  pub close_away : ClosesPath → (d : Plan B L) (core new : Core) (events : List Event) (slots : List (Slot B L))
+  pub close_away : ClosesPath → (d : BookPlan B L) (core new : Core) (events : List Event) (slots : List (Slot B L))
       (waiting : List Bool) (capacity p a : ℕ) (o : Own) → Sound see d core events slots waiting capacity
       → step_of core (Close p a o) ≡ Some new → slice_get slots p ≡ Some Away
   close_away law d core new events slots waiting capacity p a o sound step =
@@ -202,7 +202,7 @@ module _ {B L : Type 0} (see : Sight B L) where
       y.1 ∙ ap (λ z. Some z) (away_here (cards_of d) p y.0 (m.row).state y.2 (ap is_waiting m.was ∙ n.0)
       (ap is_closed m.was ∙ n.1))
 
-  pub close_sound : ClosesPath → (d : Plan B L) (core new : Core) (events : List Event) (slots : List (Slot B L))
+  pub close_sound : ClosesPath → (d : BookPlan B L) (core new : Core) (events : List Event) (slots : List (Slot B L))
       (waiting : List Bool) (capacity p a : ℕ) (o : Own) (b : B) (l : L)
       → Sound see d core events slots waiting capacity → step_of core (Close p a o) ≡ Some new
       → IsFrom see (cards_of d) p b l
@@ -217,7 +217,7 @@ module _ {B L : Type 0} (see : Sight B L) where
       (λ x z i. closed_here p a o events) (sym (set_same waiting p false flag))
 
   -- a card that was refused is the planned one, ready
-  pub refused_planned : (d : Plan B L) → ((k : ℕ) (c : Card B L) → slice_get (cards_of d) k ≡ Some c
+  pub refused_planned : (d : BookPlan B L) → ((k : ℕ) (c : Card B L) → slice_get (cards_of d) k ≡ Some c
       → IsNewCard (seen see c)) → (card : Card B L) → (why : FilterCause) → IsRefused see (cards_of d) card
       → WaitsSo (seen see card) (Waiting (Some why)) card.ready × IsPlanned see (cards_of d) card
   refused_planned d new card why refused =
@@ -234,7 +234,7 @@ module _ {B L : Type 0} (see : Sight B L) where
         (k, p, refused.2, same ∙ ap (λ (o : Option Prepared). record (seen see p) { ready = o }) (sym ready)),
       )
 
-  pub back_away : BacksPath → (d : Plan B L) (core new : Core) (events : List Event) (slots : List (Slot B L))
+  pub back_away : BacksPath → (d : BookPlan B L) (core new : Core) (events : List Event) (slots : List (Slot B L))
       (waiting : List Bool) (capacity p : ℕ) → Sound see d core events slots waiting capacity
       → step_of core (HandBack p) ≡ Some new → slice_get slots p ≡ Some Away
   back_away law d core new events slots waiting capacity p sound step =
@@ -244,7 +244,7 @@ module _ {B L : Type 0} (see : Sight B L) where
       y.1 ∙ ap (λ z. Some z) (away_here (cards_of d) p y.0 (m.row).state y.2
       (ap is_waiting m.was ∙ with_not_waiting k.0 k.3) (ap is_closed m.was ∙ with_not_closed k.0 k.3))
 
-  pub back_sound : BacksPath → (d : Plan B L) (core new : Core) (events : List Event) (slots : List (Slot B L))
+  pub back_sound : BacksPath → (d : BookPlan B L) (core new : Core) (events : List Event) (slots : List (Slot B L))
       (waiting flags : List Bool) (capacity : ℕ) (card : Card B L)
       → Sound see d core events slots waiting capacity → step_of core (HandBack card.path) ≡ Some new
       → is_some (actor_of d.starts.items d.workers (HandBack card.path)) ≡ true → IsRefused see (cards_of d) card
@@ -276,7 +276,7 @@ module _ {B L : Type 0} (see : Sight B L) where
   row_on cards q None (Some r) (Some s) h k = absurd k
   row_on cards q (Some x) None None h k = absurd k
 
-  pub note_sound : KeepsPaths → (d : Plan B L) (core new : Core) (events : List Event) (slots : List (Slot B L))
+  pub note_sound : KeepsPaths → (d : BookPlan B L) (core new : Core) (events : List Event) (slots : List (Slot B L))
       (waiting : List Bool) (capacity : ℕ) (e : Event) → Sound see d core events slots waiting capacity
       → is_noted e ≡ true → is_some (actor_of d.starts.items d.workers e) ≡ true → step_of core e ≡ Some new
       → Sound see d new (events ++ e ∷ []) slots waiting capacity
@@ -294,7 +294,7 @@ module _ {B L : Type 0} (see : Sight B L) where
   }
 
   -- there is room for one event more
-  pub has_room : IsShort → (d : Plan B L) (core new : Core) (events : List Event) (slots : List (Slot B L))
+  pub has_room : IsShort → (d : BookPlan B L) (core new : Core) (events : List Event) (slots : List (Slot B L))
       (waiting : List Bool) (capacity : ℕ) (e : Event) → Sound see d core events slots waiting capacity
       → step_of core e ≡ Some new → length events < capacity
   has_room law d core new events slots waiting capacity e sound step =
@@ -314,14 +314,14 @@ module _ {B L : Type 0} (see : Sight B L) where
   waits_not cards p (Ended b l) (st.Named t) h n = refl
   waits_not cards p (Ended b l) (st.Heard t) h n = refl
 
-  pub none_waits : (d : Plan B L) (core : Core) (events : List Event) (slots : List (Slot B L)) (waiting : List Bool)
+  pub none_waits : (d : BookPlan B L) (core : Core) (events : List Event) (slots : List (Slot B L)) (waiting : List Bool)
       (capacity : ℕ) → Sound see d core events slots waiting capacity → NoneIs waiting → NoneWaits core
   none_waits d core events slots waiting capacity sound none p r there =
       let y = slot_at (cards_of d) slots core p r sound.rows there in
       waits_not (cards_of d) p y.0 r.state y.2
       (none p (waits y.0) (ap (λ f. slice_get f p) sound.flags ∙ flag_at slots p y.0 y.1))
 
-  pub none_lower : (d : Plan B L) (core : Core) (events : List Event) (slots : List (Slot B L)) (waiting : List Bool)
+  pub none_lower : (d : BookPlan B L) (core : Core) (events : List Event) (slots : List (Slot B L)) (waiting : List Bool)
       (capacity p : ℕ) → Sound see d core events slots waiting capacity → NoneBelow waiting p
       → (q : ℕ) (x : Slot B L) → q < p → slice_get slots q ≡ Some x → waits x ≡ false
   none_lower d core events slots waiting capacity p sound none q x lt at =

@@ -20,8 +20,8 @@ use Rattle.checkout_core.specs.Actors.{actor_of}
 use Rattle.checkout_core.specs.Hands.{is_held, held_at, Holds}
 use Rattle.core_laws.specs.Moves.{Moved, RowStays, StaysOr, is_with_driver}
 use Rattle.checkout_core.specs.Notes.{is_noted}
-use Rattle.checkout_book.specs.declared.plan.Plan.{Plan}
-use Rattle.checkout_book.specs.declared.plan.Entry.{Entry}
+use Rattle.checkout_book.specs.declared.plan.BookPlan.{BookPlan}
+use Rattle.checkout_book.specs.declared.plan.HistoryEntry.{HistoryEntry}
 use Rattle.checkout_book.specs.declared.shelf.Slot.{Slot}
 use Rattle.checkout_book.specs.declared.shelf.Slot.TheVariants.{Away, Waits, Ended}
 use Rattle.checkout_book.specs.Shape.{Shelf}
@@ -54,7 +54,7 @@ module _ {B L : Type 0} (see : Sight B L) where
   )
 
   -- the history of a shelf, by its parts
-  at_plan : Plan B L → List (Slot B L) → List Event → List (ℕ × Entry)
+  at_plan : BookPlan B L → List (Slot B L) → List Event → List (ℕ × HistoryEntry)
   at_plan d slots es = entries (tell see) d.starts.items d.workers slots es
 
   grown : (e : Event) (p : ℕ) (x : Slot B L) (v w : Shelf B L) → Turned e p x v w → IsSound see v
@@ -132,7 +132,7 @@ module _ {B L : Type 0} (see : Sight B L) where
   claim_plan n v w (Some k) nil one = one.turned.plan
 
   -- A turn of the pass: the shelf v was found, and w was put back.
-  pub record Went (lock : TableId) (d : Plan B L) (n made : ℕ) (s0 s2 : SeatView Entry (Plan B L)) (c : Core)
+  pub record Went (lock : TableId) (d : BookPlan B L) (n made : ℕ) (s0 s2 : SeatView HistoryEntry (BookPlan B L)) (c : Core)
       (v w : Shelf B L) : Type 0 where
     pub pass : IsPass lock d n made s0 c
     pub is : plan_of v ≡ d
@@ -144,8 +144,8 @@ module _ {B L : Type 0} (see : Sight B L) where
     pub seen : seen_of s2 ≡ history_of (tell see) w
     pub made_now : mine_of s2 ≡ own n (history_of (tell see) w)
 
-  pub went : KeepsSeat Entry (Plan B L) → (lock : TableId) (d : Plan B L) (n made : ℕ)
-      (s0 s1 s2 : SeatView Entry (Plan B L)) (c : Core) (v w : Shelf B L) → IsPass lock d n made s0 c
+  pub went : KeepsSeat HistoryEntry (BookPlan B L) → (lock : TableId) (d : BookPlan B L) (n made : ℕ)
+      (s0 s1 s2 : SeatView HistoryEntry (BookPlan B L)) (c : Core) (v w : Shelf B L) → IsPass lock d n made s0 c
       → s1 ≡ entered (history_of (tell see) v) s0 → s2 ≡ left (history_of (tell see) w) s1 → plan_of v ≡ d
       → IsSound see v → IsSound see w → mine_of s0 ≡ own n (history_of (tell see) v)
       → Begins (seen_of s0) (history_of (tell see) v) → Went lock d n made s0 s2 c v w
@@ -158,12 +158,12 @@ module _ {B L : Type 0} (see : Sight B L) where
         later = later;
         mine = mine;
         begins = begins;
-        left = subst (λ (s : SeatView Entry (Plan B L)). IsSeat lock d n made s) (sym l) t.0;
+        left = subst (λ (s : SeatView HistoryEntry (BookPlan B L)). IsSeat lock d n made s) (sym l) t.0;
         seen = ap seen_of l ∙ t.1;
         made_now = ap mine_of l ∙ t.2;
       }
 
-  turned : (lock : TableId) (d : Plan B L) (n made : ℕ) (s0 s2 : SeatView Entry (Plan B L)) (c : Core)
+  turned : (lock : TableId) (d : BookPlan B L) (n made : ℕ) (s0 s2 : SeatView HistoryEntry (BookPlan B L)) (c : Core)
       (v w : Shelf B L) → Went lock d n made s0 s2 c v w → plan_of w ≡ plan_of v
       → Follows n (history_of (tell see) v) (history_of (tell see) w) → IsTurned lock d n made s0 s2 w.core
   turned lock d n made s0 s2 c v w t same follows = record {
@@ -176,18 +176,18 @@ module _ {B L : Type 0} (see : Sight B L) where
         (follows_more n (seen_of s0) (history_of (tell see) v) (history_of (tell see) w) follows t.begins);
   }
 
-  pub below_of : (d : Plan B L) (v : Shelf B L) → plan_of v ≡ d → IsSound see v → AreBelow d.drivers d.starts.items
-  below_of d v is sound = subst (λ (x : Plan B L). AreBelow x.drivers x.starts.items) is sound.below
+  pub below_of : (d : BookPlan B L) (v : Shelf B L) → plan_of v ≡ d → IsSound see v → AreBelow d.drivers d.starts.items
+  below_of d v is sound = subst (λ (x : BookPlan B L). AreBelow x.drivers x.starts.items) is sound.below
 
   -- what the pass had in hand when it came
-  hands : TellsHands → (lock : TableId) (d : Plan B L) (n made : ℕ) (s0 s2 : SeatView Entry (Plan B L)) (c : Core)
+  hands : TellsHands → (lock : TableId) (d : BookPlan B L) (n made : ℕ) (s0 s2 : SeatView HistoryEntry (BookPlan B L)) (c : Core)
       (v w : Shelf B L) → Went lock d n made s0 s2 c v w → (q : ℕ) → held_at v.core n q ≡ held_at c n q
   hands law lock d n made s0 s2 c v w t q = sym (same_hands law d n (seen_of s0) (history_of (tell see) v) c v.core
       (below_of d v t.is t.sound) t.pass.reads (reads_of see d v t.is t.sound)
       (sym (t.pass.seat).receipts ∙ t.mine) q)
 
   -- what the pass had in hand stays so until it came
-  stayed : HandsStay → (lock : TableId) (d : Plan B L) (n made : ℕ) (s0 s2 : SeatView Entry (Plan B L)) (c : Core)
+  stayed : HandsStay → (lock : TableId) (d : BookPlan B L) (n made : ℕ) (s0 s2 : SeatView HistoryEntry (BookPlan B L)) (c : Core)
       (v w : Shelf B L) → Went lock d n made s0 s2 c v w → (q : ℕ) (raw : Option FilterCause) → Holds c q n raw
       → Holds v.core q n raw
   stayed law lock d n made s0 s2 c v w t q raw = still_holds law d n q raw (seen_of s0) (history_of (tell see) v) c
@@ -195,7 +195,7 @@ module _ {B L : Type 0} (see : Sight B L) where
       (sym (t.pass.seat).receipts ∙ t.mine)
 
   -- and after a step on another path
-  kept : HandsStay → (lock : TableId) (d : Plan B L) (n made : ℕ) (s0 s2 : SeatView Entry (Plan B L)) (c : Core)
+  kept : HandsStay → (lock : TableId) (d : BookPlan B L) (n made : ℕ) (s0 s2 : SeatView HistoryEntry (BookPlan B L)) (c : Core)
       (v w : Shelf B L) (p : ℕ) (a b : PathState) → Went lock d n made s0 s2 c v w → Moved v.core w.core p a b
       → Keeps n c w.core p
   kept law lock d n made s0 s2 c v w p a b t m q raw other holds =
@@ -203,14 +203,14 @@ module _ {B L : Type 0} (see : Sight B L) where
       (h.0, moved_there v.core w.core p q a b m other ∙ h.1, h.2)
 
   -- the pass got one entry
-  mine_more : (lock : TableId) (d : Plan B L) (n made : ℕ) (s0 s2 : SeatView Entry (Plan B L)) (c : Core)
-      (v w : Shelf B L) (e : Entry) → Went lock d n made s0 s2 c v w
+  mine_more : (lock : TableId) (d : BookPlan B L) (n made : ℕ) (s0 s2 : SeatView HistoryEntry (BookPlan B L)) (c : Core)
+      (v w : Shelf B L) (e : HistoryEntry) → Went lock d n made s0 s2 c v w
       → history_of (tell see) w ≡ history_of (tell see) v ++ (n, e) ∷ [] → mine_of s2 ≡ mine_of s0 ++ e ∷ []
   mine_more lock d n made s0 s2 c v w e t more = t.made_now
       ∙ (ap (own n) more ∙ (own_more n (history_of (tell see) v) e ∙ ap (λ l. l ++ e ∷ []) (sym t.mine)))
 
-  ends_with : (lock : TableId) (d : Plan B L) (n made : ℕ) (s0 s2 : SeatView Entry (Plan B L)) (c : Core)
-      (v w : Shelf B L) (e : Entry) → Went lock d n made s0 s2 c v w
+  ends_with : (lock : TableId) (d : BookPlan B L) (n made : ℕ) (s0 s2 : SeatView HistoryEntry (BookPlan B L)) (c : Core)
+      (v w : Shelf B L) (e : HistoryEntry) → Went lock d n made s0 s2 c v w
       → history_of (tell see) w ≡ history_of (tell see) v ++ (n, e) ∷ [] → EndsWith n e s0 s2
   ends_with lock d n made s0 s2 c v w e t more = (history_of (tell see) v, t.begins, t.seen ∙ more)
 
@@ -240,7 +240,7 @@ module _ {B L : Type 0} (see : Sight B L) where
       let here = moved_here v.core w.core k.path (Waiting move.0) (Held n move.0) m in
       record {
         is = record {
-          planned = subst (λ (x : Plan B L). IsPlanned see (cards_of x) k) (sym one.turned.plan) wait.planned;
+          planned = subst (λ (x : BookPlan B L). IsPlanned see (cards_of x) k) (sym one.turned.plan) wait.planned;
           raw = wait.raw;
           holds = (with_state m.row (Held n move.0), here, ap (λ z. Held n z) same);
           held = ap (λ (o : Option Path). elim o as (λ _. Bool) [ None ↦ false | Some r ↦ is_held n r.state ]) here
@@ -261,8 +261,8 @@ module _ {B L : Type 0} (see : Sight B L) where
   claim_grown_if n v w None one sound = tt
   claim_grown_if n v w (Some k) one sound = claim_grown n v w k one sound
 
-  pub took : TellsHands → HandsStay → TakesPath → (lock : TableId) (d : Plan B L) (n made : ℕ)
-      (s0 s2 : SeatView Entry (Plan B L)) (c : Core) (v w : Shelf B L) (o : Option (Card B L))
+  pub took : TellsHands → HandsStay → TakesPath → (lock : TableId) (d : BookPlan B L) (n made : ℕ)
+      (s0 s2 : SeatView HistoryEntry (BookPlan B L)) (c : Core) (v w : Shelf B L) (o : Option (Card B L))
       → Went lock d n made s0 s2 c v w → IfNone o (Unclaimed v w) → IfSome o (Claimed n v w)
       → Claims see lock d n made s0 s2 c o
   took law stay path lock d n made s0 s2 c v w None t nil one = (
@@ -285,7 +285,7 @@ module _ {B L : Type 0} (see : Sight B L) where
           mine = mine_more lock d n made s0 s2 c v w (claim_entry k.path n) t (claim_grown n v w k one t.sound);
           last = ends_with lock d n made s0 s2 c v w (claim_entry k.path n) t (claim_grown n v w k one t.sound);
           lowest = none_lower v w k.path n (Waiting h.raw) (Held n h.raw) h.moved t.sound one.lowest;
-          planned = subst (λ (x : Plan B L). IsPlanned see (cards_of x) k) (one.turned.plan ∙ t.is) h.is.planned;
+          planned = subst (λ (x : BookPlan B L). IsPlanned see (cards_of x) k) (one.turned.plan ∙ t.is) h.is.planned;
           raw = h.is.raw;
           holds = h.is.holds;
           ready = h.is.ready;
@@ -299,8 +299,8 @@ module _ {B L : Type 0} (see : Sight B L) where
         },
       )
 
-  pub closed : TellsHands → HandsStay → ClosesPath → (lock : TableId) (d : Plan B L) (n made : ℕ)
-      (s0 s2 : SeatView Entry (Plan B L)) (c : Core) (v w : Shelf B L) (p : ℕ) (o : Own) (b : B) (l : L)
+  pub closed : TellsHands → HandsStay → ClosesPath → (lock : TableId) (d : BookPlan B L) (n made : ℕ)
+      (s0 s2 : SeatView HistoryEntry (BookPlan B L)) (c : Core) (v w : Shelf B L) (p : ℕ) (o : Own) (b : B) (l : L)
       → Went lock d n made s0 s2 c v w → Turned (Close p n o) p (Ended b l) v w
       → Closes lock d n made s0 s2 c p o (tell see b l)
   closed law stay path lock d n made s0 s2 c v w p o b l t one =
@@ -331,13 +331,13 @@ module _ {B L : Type 0} (see : Sight B L) where
   row_unheld n None (Some s) h = absurd h
   row_unheld n (Some r) None h = absurd h
 
-  pub noted : TellsHands → KeepsPaths → (lock : TableId) (d : Plan B L) (n made : ℕ)
-      (s0 s2 : SeatView Entry (Plan B L)) (c : Core) (v w : Shelf B L) (e : Event)
+  pub noted : TellsHands → KeepsPaths → (lock : TableId) (d : BookPlan B L) (n made : ℕ)
+      (s0 s2 : SeatView HistoryEntry (BookPlan B L)) (c : Core) (v w : Shelf B L) (e : Event)
       → Went lock d n made s0 s2 c v w → is_noted e ≡ true → actor_of d.starts.items d.workers e ≡ Some n
       → Noted e v w → Appends lock d n made s0 s2 c e
   noted law path lock d n made s0 s2 c v w e t noted_is by one =
       let here : actor_of v.starts.value.items v.workers e ≡ Some n =
-      subst (λ (x : Plan B L). actor_of x.starts.items x.workers e ≡ Some n) (sym t.is) by in
+      subst (λ (x : BookPlan B L). actor_of x.starts.items x.workers e ≡ Some n) (sym t.is) by in
       let more = note_grown n e v w one noted_is here in
       record {
         core = w.core;
@@ -352,14 +352,14 @@ module _ {B L : Type 0} (see : Sight B L) where
   back_hands true x h = sym (h refl)
   back_hands false x h = refl
 
-  pub backed : TellsHands → BacksPath → (lock : TableId) (d : Plan B L) (n made : ℕ)
-      (s0 s2 : SeatView Entry (Plan B L)) (c : Core) (v w : Shelf B L) (card : Card B L)
+  pub backed : TellsHands → BacksPath → (lock : TableId) (d : BookPlan B L) (n made : ℕ)
+      (s0 s2 : SeatView HistoryEntry (BookPlan B L)) (c : Core) (v w : Shelf B L) (card : Card B L)
       → Went lock d n made s0 s2 c v w → actor_of d.starts.items d.workers (HandBack card.path) ≡ Some n
       → Turned (HandBack card.path) card.path (Waits card) v w → Appends lock d n made s0 s2 c (HandBack card.path)
   backed law path lock d n made s0 s2 c v w card t by one =
       let e = HandBack card.path in
       let here : actor_of v.starts.value.items v.workers e ≡ Some n =
-      subst (λ (x : Plan B L). actor_of x.starts.items x.workers e ≡ Some n) (sym t.is) by in
+      subst (λ (x : BookPlan B L). actor_of x.starts.items x.workers e ≡ Some n) (sym t.is) by in
       let more = back_grown path n card v w one t.sound here in
       let move = path v.core w.core card.path one.step in
       let m = move.2 in

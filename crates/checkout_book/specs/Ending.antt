@@ -6,7 +6,7 @@ use Rattle.checkout_core.specs.declared.path.PathState.TheVariants.{Waiting}
 use Rattle.checkout_core.specs.Closes.{closing_of}
 use Rattle.checkout_core.specs.Hands.{held_at, Holds}
 use Rattle.checkout_book.specs.declared.plan.Parts.{Parts}
-use Rattle.checkout_book.specs.declared.plan.Entry.{Entry}
+use Rattle.checkout_book.specs.declared.plan.HistoryEntry.{HistoryEntry}
 use Rattle.checkout_book.specs.declared.shelf.Slot.{Slot}
 use Rattle.checkout_book.specs.declared.shelf.Slot.TheVariants.{Away, Waits, Ended}
 use Rattle.checkout_book.specs.Shape.{Shelf}
@@ -14,7 +14,7 @@ use Rattle.checkout_book.specs.Sights.{Sight, seen}
 use Rattle.checkout_book.specs.Shelves.{IsSound, HasRoom, IsPlanned, WaitsSo, plan_of, cards_of}
 
 -- what the entry of a path's Close tells
-abbrev pub told_of : ℕ → List (ℕ × Entry) → Option Parts
+abbrev pub told_of : ℕ → List (ℕ × HistoryEntry) → Option Parts
 told_of p [] = None
 told_of p (x ∷ xs) = cond (closing_of p x.1.event == 0) (told_of p xs) x.1.parts
 
@@ -23,7 +23,7 @@ with_first None rest = rest
 with_first (Some first) rest = first ∷ rest
 
 -- the same of each closed path in path order, for n paths from p on
-abbrev pub told_from : ℕ → ℕ → List (ℕ × Entry) → List Parts
+abbrev pub told_from : ℕ → ℕ → List (ℕ × HistoryEntry) → List Parts
 told_from p zero h = []
 told_from p (suc n) h = with_first (told_of p h) (told_from (suc p) n h)
 

@@ -5,7 +5,7 @@ use Rattle.checkout_core.specs.declared.event.Event.{Event}
 use Rattle.checkout_core.specs.declared.event.Event.TheVariants.{Close}
 use Rattle.checkout_core.specs.Actors.{actor_of}
 use Rattle.checkout_book.specs.declared.plan.Parts.{Parts}
-use Rattle.checkout_book.specs.declared.plan.Entry.{Entry}
+use Rattle.checkout_book.specs.declared.plan.HistoryEntry.{HistoryEntry}
 use Rattle.checkout_book.specs.declared.shelf.Slot.{Slot}
 use Rattle.checkout_book.specs.declared.shelf.Slot.TheVariants.{Ended}
 use Rattle.checkout_book.specs.Shape.{Shelf}
@@ -32,15 +32,15 @@ module _ {B L : Type 0} (tells : B → L → Parts) where
   parts_of slots (Close p a o) = parts_at (slice_get slots p)
   parts_of slots _ = None
 
-  abbrev pub entry_of : List (Slot B L) → Event → Entry
+  abbrev pub entry_of : List (Slot B L) → Event → HistoryEntry
   entry_of slots e = record { event = e; parts = parts_of slots e }
 
-  abbrev pub entries : List Start → ℕ → List (Slot B L) → List Event → List (ℕ × Entry)
+  abbrev pub entries : List Start → ℕ → List (Slot B L) → List Event → List (ℕ × HistoryEntry)
   entries starts workers slots es = map (λ e. (number_in starts workers e, entry_of slots e)) es
 
-  abbrev pub history_of : Shelf B L → List (ℕ × Entry)
+  abbrev pub history_of : Shelf B L → List (ℕ × HistoryEntry)
   history_of s = entries s.starts.value.items s.workers s.slots.items s.events.items
 
 -- the events of a history
-abbrev pub events_of : List (ℕ × Entry) → List Event
+abbrev pub events_of : List (ℕ × HistoryEntry) → List Event
 events_of h = map (λ x. x.1.event) h

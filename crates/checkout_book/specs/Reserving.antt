@@ -12,8 +12,8 @@ use Rattle.checkout_core.specs.declared.path.Start.TheVariants.{Pool}
 use Rattle.checkout_core.specs.States.{Core, AreBelow}
 use Rattle.checkout_core.specs.Desks.{paths_of}
 use Rattle.checkout_core.specs.Hands.{held_at}
-use Rattle.checkout_book.specs.declared.plan.Plan.{Plan}
-use Rattle.checkout_book.specs.declared.plan.Entry.{Entry}
+use Rattle.checkout_book.specs.declared.plan.BookPlan.{BookPlan}
+use Rattle.checkout_book.specs.declared.plan.HistoryEntry.{HistoryEntry}
 use Rattle.checkout_book.specs.declared.shelf.Slot.{Slot}
 use Rattle.checkout_book.specs.declared.shelf.Slot.TheVariants.{Away, Waits}
 use Rattle.checkout_book.specs.Shape.{Shelf}
@@ -49,25 +49,25 @@ module _ {B L : Type 0} where
   AreNew see cards = (k : ℕ) (c : Card B L) → slice_get cards k ≡ Some c → IsNewCard (seen see c)
 
   -- passes that have nothing in hand, in order of number from k on
-  abbrev pub HasNothing : TableId → Plan B L → ℕ → ℕ → SeatView Entry (Plan B L) → Type 0
+  abbrev pub HasNothing : TableId → BookPlan B L → ℕ → ℕ → SeatView HistoryEntry (BookPlan B L) → Type 0
   HasNothing lock d k made s = (c : Core) × IsPass lock d k made s c × ((q : ℕ) → held_at c k q ≡ false)
 
-  abbrev pub AreIdle : TableId → Plan B L → ℕ → ℕ → List (SeatView Entry (Plan B L)) → Type 0
+  abbrev pub AreIdle : TableId → BookPlan B L → ℕ → ℕ → List (SeatView HistoryEntry (BookPlan B L)) → Type 0
   AreIdle lock d k made [] = Unit {0}
   AreIdle lock d k made (s ∷ ss) = HasNothing lock d k made s × AreIdle lock d (suc k) 0 ss
 
   -- they have done nothing yet
-  abbrev pub AreFresh : List (SeatView Entry (Plan B L)) → Type 0
+  abbrev pub AreFresh : List (SeatView HistoryEntry (BookPlan B L)) → Type 0
   AreFresh [] = Unit {0}
   AreFresh (s ∷ ss) = (mine_of s ≡ []) × (seen_of s ≡ []) × AreFresh ss
 
   -- what a book is made for
-  abbrev pub plan_for : Vec (Card B L) → Vec (Vec (Card B L)) → Vec Start → ℕ → Plan B L
+  abbrev pub plan_for : Vec (Card B L) → Vec (Vec (Card B L)) → Vec Start → ℕ → BookPlan B L
   plan_for pool desks starts workers =
       record { pool = pool; desks = desks; starts = starts; workers = workers; drivers = length desks.items }
 
   -- a book can be made for it
-  pub record IsPlan (see : Sight B L) (d : Plan B L) : Type 0 where
+  pub record IsPlan (see : Sight B L) (d : BookPlan B L) : Type 0 where
     pub few_paths : length d.starts.items < 2 ^ 32
     pub below : AreBelow d.drivers d.starts.items
     pub some : 1 ≤ d.workers
@@ -77,20 +77,21 @@ module _ {B L : Type 0} where
     pub new : AreNew see (cards_of d)
 
   -- the passes of its actors, which have done nothing yet
-  pub record IsBegun (lock : TableId) (d : Plan B L) (passes : List (SeatView Entry (Plan B L))) : Type 0 where
+  pub record IsBegun (lock : TableId) (d : BookPlan B L) (passes : List (SeatView HistoryEntry (BookPlan B L)))
+      : Type 0 where
     pub count : length passes ≡ d.workers + d.drivers
     pub idle : AreIdle lock d 0 (d.workers + d.drivers) passes
     pub fresh : AreFresh passes
 
   -- The shelf, after all passes came back: their entries are all that its history has, and nothing is in hand.
-  pub record IsFinished (see : Sight B L) (d : Plan B L) (ss : List (SeatView Entry (Plan B L))) (s : Shelf B L)
-      : Type 0 where
+  pub record IsFinished (see : Sight B L) (d : BookPlan B L) (ss : List (SeatView HistoryEntry (BookPlan B L)))
+      (s : Shelf B L) : Type 0 where
     pub plan : plan_of s ≡ d
     pub sound : IsSound see s
     pub room : HasRoom s
-    pub begins : (k : ℕ) (p : SeatView Entry (Plan B L)) → slice_get ss k ≡ Some p
+    pub begins : (k : ℕ) (p : SeatView HistoryEntry (BookPlan B L)) → slice_get ss k ≡ Some p
         → Begins (seen_of p) (history_of (tell see) s)
-    pub mine : (k : ℕ) (p : SeatView Entry (Plan B L)) → slice_get ss k ≡ Some p
+    pub mine : (k : ℕ) (p : SeatView HistoryEntry (BookPlan B L)) → slice_get ss k ≡ Some p
         → own k (history_of (tell see) s) ≡ mine_of p
     pub none : (k : ℕ) → length ss ≤ k → own k (history_of (tell see) s) ≡ []
     pub hands : (a : ℕ) (q : ℕ) → held_at s.core a q ≡ false

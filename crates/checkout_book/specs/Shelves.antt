@@ -13,7 +13,7 @@ use Rattle.checkout_core.specs.declared.event.Event.TheVariants.{Close}
 use Rattle.checkout_core.specs.Closes.{closes}
 use Rattle.checkout_core.specs.States.{Core, AreBelow, start, is_closed}
 use Rattle.checkout_core.specs.Steps.{replay}
-use Rattle.checkout_book.specs.declared.plan.Plan.{Plan}
+use Rattle.checkout_book.specs.declared.plan.BookPlan.{BookPlan}
 use Rattle.checkout_book.specs.declared.shelf.Slot.{Slot}
 use Rattle.checkout_book.specs.declared.shelf.Slot.TheVariants.{Away, Waits, Ended}
 use Rattle.checkout_book.specs.Shape.{Shelf}
@@ -40,11 +40,11 @@ module _ {B L : Type 0} where
   joined (v ∷ vs) = v.items ++ joined vs
 
   -- the planned cards
-  abbrev pub cards_of : Plan B L → List (Card B L)
+  abbrev pub cards_of : BookPlan B L → List (Card B L)
   cards_of d = d.pool.items ++ joined d.desks.items
 
   -- what a shelf was made for
-  abbrev pub plan_of : Shelf B L → Plan B L
+  abbrev pub plan_of : Shelf B L → BookPlan B L
   plan_of s = record {
     pool = s.pool.value;
     desks = s.desks.value;
@@ -99,7 +99,7 @@ module _ {B L : Type 0} (see : Sight B L) where
   IsRow cards p None (Some r) = ⊥
   IsRow cards p (Some s) None = ⊥
 
-  pub record Sound (d : Plan B L) (core : Core) (events : List Event) (slots : List (Slot B L))
+  pub record Sound (d : BookPlan B L) (core : Core) (events : List Event) (slots : List (Slot B L))
       (waiting : List Bool) (capacity : ℕ) : Type 0 where
     pub below : AreBelow d.drivers d.starts.items
     pub new : (k : ℕ) (c : Card B L) → slice_get (cards_of d) k ≡ Some c → IsNewCard (seen see c)

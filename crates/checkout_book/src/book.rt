@@ -5,7 +5,7 @@ ghost use Rattle.checkout_core.specs.States.{Core};
 ghost use Rattle.checkout_core.specs.Actors.{actor_of, is_step};
 ghost use Rattle.checkout_core.specs.declared.event.Event.TheVariants.{Close, HandBack};
 ghost use Rattle.checkout_core.specs.Notes.{is_noted};
-ghost use Rattle.checkout_book.specs.declared.plan.Plan.{Plan};
+ghost use Rattle.checkout_book.specs.declared.plan.BookPlan.{BookPlan};
 ghost use Rattle.checkout_book.specs.Sights.{sight, tell};
 ghost use Rattle.checkout_book.specs.Shelves.{cards_of, IsOut, IsRefused};
 ghost use Rattle.checkout_book.specs.Passes.{IsPass, Claims, Closes, Appends};
@@ -32,9 +32,9 @@ pub fn claim<B: Blob, L: Leaf, H: Wait>(
     book: &Book<B, L>,
     pass: &mut Pass<B, L>,
 ) -> Option<Card<B, L>>
-    requires { (d : Plan B L) × (made : ℕ) × (c : Core)
+    requires { (d : BookPlan B L) × (made : ℕ) × (c : Core)
         × IsPass book.now d (number_of pass.old) made pass.old c }
-    ensures { (d : Plan B L) (made : ℕ) (c : Core)
+    ensures { (d : BookPlan B L) (made : ℕ) (c : Core)
         → IsPass book.now d (number_of pass.old) made pass.old c
         → Claims (sight B.told B.seen L.seen) book.now d (number_of pass.old) made pass.old pass.new c result }
 {
@@ -57,11 +57,11 @@ pub fn close<B: Blob, L: Leaf, H: Wait>(
     card: Card<B, L>,
     own: Own,
 )
-    requires { (d : Plan B L) × (made : ℕ) × (c : Core)
+    requires { (d : BookPlan B L) × (made : ℕ) × (c : Core)
         × IsPass book.now d (number_of pass.old) made pass.old c
         × (is_step c (Close card.path (number_of pass.old) own) ≡ true)
         × IsOut (sight B.told B.seen L.seen) (cards_of d) card }
-    ensures { (d : Plan B L) (made : ℕ) (c : Core)
+    ensures { (d : BookPlan B L) (made : ℕ) (c : Core)
         → IsPass book.now d (number_of pass.old) made pass.old c
         → Closes book.now d (number_of pass.old) made pass.old pass.new c card.path own
         (tell (sight B.told B.seen L.seen) card.blob card.leaf) }
@@ -91,11 +91,11 @@ pub fn note<B: Blob, L: Leaf, H: Wait>(
     pass: &mut Pass<B, L>,
     event: Event,
 )
-    requires { (d : Plan B L) × (made : ℕ) × (c : Core)
+    requires { (d : BookPlan B L) × (made : ℕ) × (c : Core)
         × IsPass book.now d (number_of pass.old) made pass.old c × (is_noted event ≡ true)
         × (actor_of d.starts.items d.workers event ≡ Some (number_of pass.old))
         × (is_step c event ≡ true) }
-    ensures { (d : Plan B L) (made : ℕ) (c : Core)
+    ensures { (d : BookPlan B L) (made : ℕ) (c : Core)
         → IsPass book.now d (number_of pass.old) made pass.old c
         → actor_of d.starts.items d.workers event ≡ Some (number_of pass.old)
         → Appends book.now d (number_of pass.old) made pass.old pass.new c event }
@@ -116,12 +116,12 @@ pub fn hand_back<B: Blob, L: Leaf, H: Wait>(
     pass: &mut Pass<B, L>,
     card: Card<B, L>,
 )
-    requires { (d : Plan B L) × (made : ℕ) × (c : Core)
+    requires { (d : BookPlan B L) × (made : ℕ) × (c : Core)
         × IsPass book.now d (number_of pass.old) made pass.old c
         × (actor_of d.starts.items d.workers (HandBack card.path) ≡ Some (number_of pass.old))
         × (is_step c (HandBack card.path) ≡ true)
         × IsRefused (sight B.told B.seen L.seen) (cards_of d) card }
-    ensures { (d : Plan B L) (made : ℕ) (c : Core)
+    ensures { (d : BookPlan B L) (made : ℕ) (c : Core)
         → IsPass book.now d (number_of pass.old) made pass.old c
         → actor_of d.starts.items d.workers (HandBack card.path) ≡ Some (number_of pass.old)
         → Appends book.now d (number_of pass.old) made pass.old pass.new c (HandBack card.path) }

@@ -5,8 +5,8 @@ ghost use Rattle.turn_lock.specs.Seat.{SeatView, mine_of, seen_of};
 ghost use Rattle.checkout_core.specs.Actors.{own_entries};
 ghost use Rattle.checkout_core.specs.States.{Core};
 ghost use Rattle.convert_plan.specs.declared.card.Card.{Card};
-ghost use Rattle.checkout_book.specs.declared.plan.Entry.{Entry};
-ghost use Rattle.checkout_book.specs.declared.plan.Plan.{Plan};
+ghost use Rattle.checkout_book.specs.declared.plan.HistoryEntry.{HistoryEntry};
+ghost use Rattle.checkout_book.specs.declared.plan.BookPlan.{BookPlan};
 ghost use Rattle.checkout_book.specs.Entries.{events_of};
 ghost use Rattle.checkout_book.specs.Passes.{IsPass};
 ghost use Rattle.checkout_book.specs.Shelves.{IsPlanned, IsOut};
@@ -23,7 +23,8 @@ pub fn a_claimed_card_is_out<B: Blob, L: Leaf>()
 
 /// The own list of a pass has the events that are its actor's own entries in the history that it saw.
 pub fn a_pass_lists_its_own_entries<B: Blob, L: Leaf>()
-    ensures { (lock : TableId) (d : Plan B L) (n made : ℕ) (pass : SeatView Entry (Plan B L)) (c : Core)
+    ensures { (lock : TableId) (d : BookPlan B L) (n made : ℕ)
+        (pass : SeatView HistoryEntry (BookPlan B L)) (c : Core)
         → IsPass lock d n made pass c
         → own_entries d.starts.items d.workers n (events_of (seen_of pass))
         ≡ map (λ e. e.event) (mine_of pass) }

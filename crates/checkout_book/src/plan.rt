@@ -5,7 +5,7 @@ use edge_kit::{Blob, Leaf, LeafState};
 use std::collections::LinkedList;
 
 /// What a book is made for.
-pub struct Plan<B: Blob, L: Leaf> {
+pub struct BookPlan<B: Blob, L: Leaf> {
     /// The cards that wait at first.
     pub pool: Vec<Card<B, L>>,
     /// The cards of each driver.
@@ -26,7 +26,7 @@ pub struct Parts {
 }
 
 /// An entry of the history.
-pub struct Entry {
+pub struct HistoryEntry {
     pub event: Event,
     /// There in the entry of a close.
     pub parts: Option<Parts>,

@@ -3,7 +3,7 @@ ghost use Rattle.std.specs.Prelude.{◌≡◌, ◌≤◌, ◌<◌, ◌+◌, ◌*
 ghost use Rattle.std.specs.Prelude.{slice_get, map, IfOk, vec_capacity};
 ghost use Rattle.convert_plan.specs.declared.card.Card.{Card};
 ghost use Rattle.checkout_core.specs.States.{AreBelow};
-ghost use Rattle.checkout_book.specs.declared.plan.Plan.{Plan};
+ghost use Rattle.checkout_book.specs.declared.plan.BookPlan.{BookPlan};
 ghost use Rattle.checkout_book.specs.Shelves.{waits, joined};
 ghost use Rattle.checkout_book.specs.Reserving.{aways, placed, ArePool, AreDealt, AreNew, AreIdle};
 ghost use Rattle.checkout_book.specs.Reserving.{AreFresh, IsFinished, IsPlan, IsBegun, plan_for};
@@ -196,9 +196,9 @@ pub fn reserve<B: Blob, L: Leaf>(
 
 /// What the book holds, after all its passes came back with nothing in hand.
 pub fn finish<B: Blob, L: Leaf>(book: Book<B, L>, passes: Vec<Pass<B, L>>) -> Ended<B, L>
-    requires { (d : Plan B L) × AreIdle book d 0 (length passes.items) passes.items
+    requires { (d : BookPlan B L) × AreIdle book d 0 (length passes.items) passes.items
         × (0 < length passes.items) × (length passes.items ≡ d.workers + d.drivers) }
-    ensures { (d : Plan B L) → AreIdle book d 0 (length passes.items) passes.items
+    ensures { (d : BookPlan B L) → AreIdle book d 0 (length passes.items) passes.items
         → IsFinished (sight B.told B.seen L.seen) d passes.items result.shelf }
 {
     laws::own_entries_tell_what_is_in_hand();

@@ -1,5 +1,5 @@
 // What lies under the lock.
-use crate::plan::{Entry, Plan};
+use crate::plan::{BookPlan, HistoryEntry};
 use crate::waiting::Waiting;
 use checkout_core::{Event, Start, State};
 use convert_plan::Card;
@@ -48,9 +48,9 @@ impl<B: Blob, L: Leaf> Kept for Shelf<B, L> {
     ghost use Rattle.checkout_book.specs.Shelves.{plan_of, IsSound, HasRoom};
     ghost use Rattle.checkout_book.specs.Sights.{sight, tell};
 
-    type Entry = Entry;
+    type Entry = HistoryEntry;
 
-    type Told = Plan<B, L>;
+    type Told = BookPlan<B, L>;
 
     ghost history = { λ s. history_of (tell (sight B.told B.seen L.seen)) s };
 

@@ -7,7 +7,7 @@ use native.Mathlib.Decide.{ℕ_discrete}
 use Rattle.checkout_core.specs.declared.path.Start.{Start}
 use Rattle.checkout_core.specs.declared.path.Start.TheVariants.{Pool, Desk, Done}
 use Rattle.checkout_core.specs.declared.path.Path.{Path}
-use Rattle.checkout_core.specs.declared.driver.Session.{Session}
+use Rattle.checkout_core.specs.declared.driver.OpenSession.{OpenSession}
 use Rattle.checkout_core.specs.declared.driver.DriverState.{DriverState}
 use Rattle.checkout_core.specs.declared.driver.DriverState.TheVariants as driver
 use Rattle.checkout_core.specs.declared.event.Event.{Event}
@@ -76,8 +76,8 @@ of_driver_is (Desk d b) f m e = (d, b, refl, e)
 of_driver_is Pool f m e = none_is_some e
 of_driver_is (Done v) f m e = none_is_some e
 
-pub at_session_is : (x : DriverState) (f : Session → Option Effect) (m : Effect) → at_session x f ≡ Some m
-    → (s : Session) × (x ≡ driver.On s) × (f s ≡ Some m)
+pub at_session_is : (x : DriverState) (f : OpenSession → Option Effect) (m : Effect) → at_session x f ≡ Some m
+    → (s : OpenSession) × (x ≡ driver.On s) × (f s ≡ Some m)
 at_session_is (driver.On s) f m e = (s, refl, e)
 at_session_is driver.Off f m e = none_is_some e
 at_session_is driver.Aborted f m e = none_is_some e

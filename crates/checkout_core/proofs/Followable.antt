@@ -14,7 +14,7 @@ use Rattle.checkout_core.specs.declared.path.PathState.{PathState}
 use Rattle.checkout_core.specs.declared.path.PathState.TheVariants as path
 use Rattle.checkout_core.specs.declared.path.PathState.TheVariants.{Waiting, Held, Unasked, Closed}
 use Rattle.checkout_core.specs.declared.path.Path.{Path}
-use Rattle.checkout_core.specs.declared.driver.Session.{Session}
+use Rattle.checkout_core.specs.declared.driver.OpenSession.{OpenSession}
 use Rattle.checkout_core.specs.declared.driver.DriverState.{DriverState}
 use Rattle.checkout_core.specs.declared.driver.DriverState.TheVariants as driver
 use Rattle.checkout_core.specs.declared.event.Event.{Event}
@@ -71,7 +71,7 @@ own_noting : (b : Bool) → (not b || b) ≡ true
 own_noting true = refl
 own_noting false = refl
 
-answer_advances : (n : ℕ) (f : ℕ → Bool) (k : Session) (y : Reply)
+answer_advances : (n : ℕ) (f : ℕ → Bool) (k : OpenSession) (y : Reply)
     → advances n k.noting_list (is_noting_list (replied_desk k y)) f Unasked (replied_state y) ≡ true
 answer_advances n f k reply.Content = own_noting k.noting_list
 answer_advances n f k reply.Error = own_noting k.noting_list
@@ -81,7 +81,7 @@ answer_advances n f k reply.Abort = refl
 answer_advances n f k (reply.Broken b) = refl
 answer_advances n f k reply.NoMemory = refl
 
-redo_advances : (n : ℕ) (o : Bool) (f : ℕ → Bool) (k : Session) (y : Reply) (t : ℕ) → is_delay y ≡ false
+redo_advances : (n : ℕ) (o : Bool) (f : ℕ → Bool) (k : OpenSession) (y : Reply) (t : ℕ) → is_delay y ≡ false
     → not k.noting_list ≡ true → f t ≡ true → advances n o (is_noting_list (replied_desk k y)) f (path.Named t)
     (replied_state y) ≡ true
 redo_advances n o f k reply.Content t d i j = and_from _ _ j i
@@ -92,7 +92,7 @@ redo_advances n o f k reply.Abort t d i j = and_from _ _ j refl
 redo_advances n o f k (reply.Broken b) t d i j = and_from _ _ j refl
 redo_advances n o f k reply.NoMemory t d i j = and_from _ _ j refl
 
-list_off : (k : Session) (y : ListReply) → is_noting_list (list_desk k y) ≡ false
+list_off : (k : OpenSession) (y : ListReply) → is_noting_list (list_desk k y) ≡ false
 list_off k (list.Names n) = refl
 list_off k list.Empty = refl
 list_off k list.Abort = refl

@@ -10,7 +10,7 @@ use Rattle.checkout_core.specs.declared.path.PathState.{PathState}
 use Rattle.checkout_core.specs.declared.path.PathState.TheVariants as path
 use Rattle.checkout_core.specs.declared.path.PathState.TheVariants.{Waiting, Held, Unasked, Closed}
 use Rattle.checkout_core.specs.declared.path.Path.{Path}
-use Rattle.checkout_core.specs.declared.driver.Session.{Session}
+use Rattle.checkout_core.specs.declared.driver.OpenSession.{OpenSession}
 use Rattle.checkout_core.specs.declared.driver.DriverState.{DriverState}
 use Rattle.checkout_core.specs.declared.driver.DriverState.TheVariants as driver
 use Rattle.checkout_core.specs.declared.effect.Effect.{Effect}
@@ -51,7 +51,7 @@ off_is (driver.On s) e = absurd (cc (e))
 off_is driver.Aborted e = absurd (cc (e))
 off_is driver.Done e = absurd (cc (e))
 
-pub redo_is : (c : Core) (p : ℕ) (y : Reply) (d : ℕ) (k : Session) (s : PathState) (m : Effect)
+pub redo_is : (c : Core) (p : ℕ) (y : Reply) (d : ℕ) (k : OpenSession) (s : PathState) (m : Effect)
     → redo c p y d k s ≡ Some m → (t : ℕ) × (s ≡ path.Named t)
     × ((not k.noting_list && (not (is_delay y) && (is_good_reply y && none_of d (is_named_below t) c.paths))) ≡
     true) × (replied p d k y ≡ m)

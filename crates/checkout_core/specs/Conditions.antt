@@ -22,7 +22,7 @@ use Rattle.checkout_core.specs.declared.path.PathState.TheVariants.{Waiting, Hel
 use Rattle.checkout_core.specs.declared.path.Start.{Start}
 use Rattle.checkout_core.specs.declared.path.Start.TheVariants.{Desk}
 use Rattle.checkout_core.specs.declared.path.Path.{Path}
-use Rattle.checkout_core.specs.declared.driver.Session.{Session}
+use Rattle.checkout_core.specs.declared.driver.OpenSession.{OpenSession}
 use Rattle.checkout_core.specs.declared.driver.DriverState.{DriverState}
 use Rattle.checkout_core.specs.declared.driver.DriverState.TheVariants as driver
 use Rattle.checkout_core.specs.declared.effect.Sweep.{Sweep}
@@ -54,7 +54,7 @@ of_driver (Desk d required) f = f d required
 of_driver _ f = None
 
 -- for a driver that is on
-abbrev pub at_session : DriverState → (Session → Option Effect) → Option Effect
+abbrev pub at_session : DriverState → (OpenSession → Option Effect) → Option Effect
 at_session (driver.On s) f = f s
 at_session _ f = None
 
@@ -97,7 +97,7 @@ abbrev pub claim_at : Core → ℕ → ℕ → Path → Option Effect
 claim_at c p a r = cond (nat_lt a (c.workers + length c.drivers)) (claim p a r.state) None
 
 -- Opened: a driver that is off and has an unasked path, of which the lowest is its first
-abbrev pub fresh : Caps → ℕ → Session
+abbrev pub fresh : Caps → ℕ → OpenSession
 fresh caps p = record { caps = caps; first = p; any_delayed = false; noting_list = false }
 
 abbrev pub open_first : ℕ → Caps → DriverState → Option ℕ → Option Effect
@@ -118,13 +118,13 @@ fail_at c p o r d required x = given (is_off x && (is_unasked r.state && (none_b
     (Moves p (path.Heard (heard_opening o)))
 
 -- Answered: the lowest unasked path, by a driver that is on with smudge
-abbrev pub delayed : Session → Session
+abbrev pub delayed : OpenSession → OpenSession
 delayed s = record { caps = s.caps; first = s.first; any_delayed = true; noting_list = s.noting_list }
 
-abbrev pub named : Session → Session
+abbrev pub named : OpenSession → OpenSession
 named s = record { caps = s.caps; first = s.first; any_delayed = s.any_delayed; noting_list = true }
 
-abbrev pub listed : Session → Session
+abbrev pub listed : OpenSession → OpenSession
 listed s = record { caps = s.caps; first = s.first; any_delayed = s.any_delayed; noting_list = false }
 
 abbrev pub replied_state : Reply → PathState
@@ -136,7 +136,7 @@ replied_state reply.Abort = path.Heard (heard.Refused cause.Abort)
 replied_state (reply.Broken b) = path.Heard (heard.Refused (cause.Broken b))
 replied_state reply.NoMemory = path.Heard heard.OutOfMemory
 
-abbrev pub replied_desk : Session → Reply → DriverState
+abbrev pub replied_desk : OpenSession → Reply → DriverState
 replied_desk s reply.Delayed = driver.On (delayed s)
 replied_desk s reply.Abort = driver.Aborted
 replied_desk s (reply.Broken b) = driver.Off
@@ -149,10 +149,10 @@ replied_sweep (reply.Broken b) = Lose
 replied_sweep reply.NoMemory = OutOfMemory
 replied_sweep _ = Keep
 
-abbrev pub replied : ℕ → ℕ → Session → Reply → Effect
+abbrev pub replied : ℕ → ℕ → OpenSession → Reply → Effect
 replied p d s y = Both p (replied_state y) d (replied_desk s y) (replied_sweep y)
 
-abbrev pub answer_in : Core → ℕ → Reply → PathState → ℕ → Session → Option Effect
+abbrev pub answer_in : Core → ℕ → Reply → PathState → ℕ → OpenSession → Option Effect
 answer_in c p y t d s =
     given (s.caps.smudge
     && (is_unasked t && (none_below c d p && (is_good_reply y && not (is_delay y && not s.caps.delay)))))
@@ -162,7 +162,7 @@ abbrev pub answer_at : Core → ℕ → Reply → Path → ℕ → Bool → Driv
 answer_at c p y r d required x = at_session x (λ s. answer_in c p y r.state d s)
 
 -- Named: a delayed path, if none is unasked, in the list that is being noted or in a new one
-abbrev pub name_in : Core → ℕ → PathState → ℕ → Session → Option Effect
+abbrev pub name_in : Core → ℕ → PathState → ℕ → OpenSession → Option Effect
 name_in c p t d s = given
     (s.any_delayed && (none_of d is_unasked c.paths && (is_delayed t && (s.noting_list || none_of d is_named c.paths))))
     (Both p (path.Named (named_count d c.paths)) d (driver.On (named s)) Keep)
@@ -171,7 +171,7 @@ abbrev pub name_at : Core → ℕ → Path → ℕ → Bool → DriverState → 
 name_at c p r d required x = at_session x (λ s. name_in c p r.state d s)
 
 -- Listed: the end of a list with n names, or a list that ends the session
-abbrev pub list_desk : Session → ListReply → DriverState
+abbrev pub list_desk : OpenSession → ListReply → DriverState
 list_desk s (list.Names n) = driver.On (listed s)
 list_desk s list.Empty = driver.Done
 list_desk s list.Abort = driver.Aborted
@@ -183,19 +183,19 @@ list_sweep (list.Names n) = Keep
 list_sweep list.NoMemory = OutOfMemory
 list_sweep _ = Lose
 
-abbrev pub list_allowed : Core → ℕ → Session → ListReply → Bool
+abbrev pub list_allowed : Core → ℕ → OpenSession → ListReply → Bool
 list_allowed c d s (list.Names n) = s.noting_list && n == named_count d c.paths
 list_allowed c d s _ =
     s.any_delayed && (not s.noting_list && (none_of d is_unasked c.paths && none_of d is_named c.paths))
 
-abbrev pub list_step : Core → ℕ → Session → ListReply → Option Effect
+abbrev pub list_step : Core → ℕ → OpenSession → ListReply → Option Effect
 list_step c d s y = given (list_allowed c d s y) (Switches d (list_desk s y) (list_sweep y))
 
 abbrev pub list_at : Core → ℕ → ListReply → DriverState → Option Effect
 list_at c d y x = at_session x (λ s. list_step c d s y)
 
 -- Redone: the named path of the lowest turn
-abbrev pub redo : Core → ℕ → Reply → ℕ → Session → PathState → Option Effect
+abbrev pub redo : Core → ℕ → Reply → ℕ → OpenSession → PathState → Option Effect
 redo c p r d s (path.Named t) =
     given (not s.noting_list && (not (is_delay r) && (is_good_reply r && none_of d (is_named_below t) c.paths)))
     (replied p d s r)
@@ -213,7 +213,7 @@ abbrev pub hand_back_at : ℕ → Path → ℕ → Bool → DriverState → Opti
 hand_back_at p r d required x = cond required None (hand_back p (refused_cause x r.state))
 
 -- Shut: a session in which nothing was delayed, and which has no path left to ask for
-abbrev pub shut_in : Core → ℕ → Session → Option Effect
+abbrev pub shut_in : Core → ℕ → OpenSession → Option Effect
 shut_in c d s = given (not s.any_delayed && none_of d is_unasked c.paths) (Switches d driver.Done Keep)
 
 abbrev pub shut_at : Core → ℕ → DriverState → Option Effect

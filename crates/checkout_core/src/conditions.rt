@@ -10,7 +10,7 @@ ghost use Rattle.checkout_core.specs.Conditions.{list_allowed, is_delay};
 ghost use Rattle.checkout_core.specs.DriverPaths.{IsDriverPath, LacksDriverPath, IsDesk, LacksDesk};
 ghost use Rattle.checkout_core.specs.declared.event.Event.TheVariants.{Close};
 
-use crate::driver::{DriverState, Session};
+use crate::driver::{DriverState, OpenSession};
 use crate::driver_path::DriverPath;
 use crate::effect::{Effect, Sweep};
 use crate::event::{Event, OpenCause};
@@ -68,11 +68,11 @@ fn replied_state(reply: Reply) -> PathState
     }
 }
 
-fn replied_desk(session: Session, reply: Reply) -> DriverState
+fn replied_desk(session: OpenSession, reply: Reply) -> DriverState
     ensures { result ≡ replied_desk session reply }
 {
     match reply {
-        Reply::Delayed => DriverState::On(Session {
+        Reply::Delayed => DriverState::On(OpenSession {
             any_delayed: true,
             ..session
         }),
@@ -92,7 +92,7 @@ fn replied_sweep(reply: Reply) -> Sweep
     }
 }
 
-fn replied(path: u32, driver: u32, session: Session, reply: Reply) -> Effect
+fn replied(path: u32, driver: u32, session: OpenSession, reply: Reply) -> Effect
     ensures { result ≡ replied path driver session reply }
 {
     Effect::Both {
@@ -104,11 +104,11 @@ fn replied(path: u32, driver: u32, session: Session, reply: Reply) -> Effect
     }
 }
 
-fn list_desk(session: Session, reply: ListReply) -> DriverState
+fn list_desk(session: OpenSession, reply: ListReply) -> DriverState
     ensures { result ≡ list_desk session reply }
 {
     match reply {
-        ListReply::Names(_) => DriverState::On(Session {
+        ListReply::Names(_) => DriverState::On(OpenSession {
             noting_list: false,
             ..session
         }),
@@ -247,7 +247,7 @@ fn unasked_close(required: bool, state: DriverState, path: u32, own: Own) -> Opt
 }
 
 /// Whether a first request may be answered like this.
-fn may_answer(session: Session, reply: Reply) -> bool
+fn may_answer(session: OpenSession, reply: Reply) -> bool
     ensures { result ≡ (session.caps.smudge
         && (is_good_reply reply && not (is_delay reply && not session.caps.delay))) }
 {
@@ -299,7 +299,7 @@ impl State {
         }
         Some(Effect::Switches {
             driver,
-            state: DriverState::On(Session {
+            state: DriverState::On(OpenSession {
                 caps,
                 first,
                 any_delayed: false,
@@ -358,7 +358,7 @@ impl State {
             path,
             state: PathState::Named(turn),
             driver: driver_path.driver,
-            next: DriverState::On(Session {
+            next: DriverState::On(OpenSession {
                 noting_list: true,
                 ..session
             }),
@@ -384,7 +384,7 @@ impl State {
         })
     }
 
-    fn may_list(&mut self, driver: u32, session: Session, reply: ListReply) -> bool
+    fn may_list(&mut self, driver: u32, session: OpenSession, reply: ListReply) -> bool
         requires { driver < length self.old.drivers }
         ensures same { self.new ≡ self.old }
         ensures allowed { result ≡ list_allowed self.old driver session reply }

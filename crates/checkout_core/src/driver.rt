@@ -3,7 +3,7 @@ use filter_words::Caps;
 
 /// An open session of a driver.
 #[derive(Clone, Copy)]
-pub struct Session {
+pub struct OpenSession {
     pub caps: Caps,
     /// The path for which it was opened.
     pub first: u32,
@@ -18,7 +18,7 @@ pub struct Session {
 pub enum DriverState {
     /// No session is open.
     Off,
-    On(Session),
+    On(OpenSession),
     /// It answered `abort`, and isn't asked again.
     Aborted,
     /// Its last session is shut.

@@ -12,7 +12,7 @@ mod state;
 mod steps;
 mod verdict;
 
-pub use driver::{DriverState, Session};
+pub use driver::{DriverState, OpenSession};
 pub use effect::{Effect, Sweep};
 pub use event::{Event, OpenCause};
 pub use path::{Heard, Path, PathState, Start};

@@ -15,8 +15,8 @@ use Rattle.writer_pool.specs.Ends.{IsRun}
 use Rattle.checkout_engine.specs.Workers.{starts_of}
 use Rattle.checkout_engine.specs.Reading.{IsRead}
 use Rattle.checkout_engine.specs.declared.planning.Planned.{Planned}
-use Rattle.checkout_engine.specs.declared.status.Status.{Status}
-use Rattle.checkout_engine.specs.declared.status.Status.TheVariants as status
+use Rattle.checkout_engine.specs.declared.exit_status.ExitStatus.{ExitStatus}
+use Rattle.checkout_engine.specs.declared.exit_status.ExitStatus.TheVariants as status
 use Rattle.checkout_engine.specs.declared.stop.Stop.{Stop}
 use Rattle.checkout_engine.specs.declared.stop.Stop.TheVariants as stop
 use Rattle.checkout_engine.specs.Causes.{IsReadCause, IsRefusedFor, IsCutShort}
@@ -55,7 +55,7 @@ StopsRun told tree tree' old new (Err stop.NoMemory) =
     (tree'.faults ≡ tree.faults) × IsCutShort told old new
 
 -- how a run ends that stopped before it touched a file, by why it stopped
-abbrev pub ReportsStop : Stop → SinkSeen → SinkSeen → Status → Type 0
+abbrev pub ReportsStop : Stop → SinkSeen → SinkSeen → ExitStatus → Type 0
 ReportsStop (stop.Refused r) old new s = Refuses r old new s
 ReportsStop stop.NotEmpty old new s = (s ≡ status.NotEmpty) × (new ≡ old)
 ReportsStop stop.ReadFault old new s = (s ≡ status.ReadFault) × (new ≡ old)
@@ -63,7 +63,7 @@ ReportsStop stop.NoMemory old new s = (s ≡ status.OutOfMemory) × (new ≡ old
 
 -- The report is written whole, and the status is that of the verdicts. Or a first part of it is
 -- written: the sink failed, or memory ran out.
-abbrev pub Reports : List ℕ → List Verdict → SinkSeen → SinkSeen → Status → Type 0
+abbrev pub Reports : List ℕ → List Verdict → SinkSeen → SinkSeen → ExitStatus → Type 0
 Reports text verdicts old new status.Done =
     (status_of verdicts ≡ status.Done) × (new ≡ with_text text old)
 Reports text verdicts old new status.DoneWithFailures =
@@ -76,8 +76,8 @@ Reports text verdicts old new s = ⊥
 
 -- how the writing of open and closed paths ends, by so many workers and the desks of these drivers, and that of their
 -- report
-abbrev pub ReportsPaths : (List ℕ → Starts) → (List ℕ → Told) → List PathPlan → List Driver → ℕ → Seen → Seen → Status
-    → Type 0
+abbrev pub ReportsPaths : (List ℕ → Starts) → (List ℕ → Told) → List PathPlan → List Driver → ℕ → Seen → Seen
+    → ExitStatus → Type 0
 ReportsPaths ahead object paths drivers workers old new s =
     ((s ≡ status.OutOfMemory)
     × BreaksOff paths drivers old.repo new.repo old.tree new.tree old.spawner new.spawner
@@ -95,7 +95,7 @@ WritesLines text old new (Err send.Failed) = IsCut text old new × Rose old.faul
 WritesLines text old new (Err send.NoMemory) = IsCut text old new × (new.faults ≡ old.faults)
 
 -- how the writing of a text in one piece ends
-abbrev pub ShowsLines : List ℕ → SinkSeen → SinkSeen → Status → Type 0
+abbrev pub ShowsLines : List ℕ → SinkSeen → SinkSeen → ExitStatus → Type 0
 ShowsLines text old new status.Done = new ≡ with_text text old
 ShowsLines text old new status.OutputNotWritten = Rose old.faults new.faults × IsCut text old new
 ShowsLines text old new status.OutOfMemory = new ≡ old
@@ -108,7 +108,7 @@ IsDone told ahead asked old new number =
     × IsReported c.plan.paths (verdicts_of c.outcomes) old.sink new.sink number
 
 -- how a checkout ends, by its status
-abbrev pub EndsCheckout : RepoTold → (List ℕ → Starts) → Option ℕ → Seen → Seen → Status → Type 0
+abbrev pub EndsCheckout : RepoTold → (List ℕ → Starts) → Option ℕ → Seen → Seen → ExitStatus → Type 0
 EndsCheckout told ahead asked old new status.Done = IsDone told ahead asked old new 0
 EndsCheckout told ahead asked old new status.DoneWithFailures = IsDone told ahead asked old new 1
 EndsCheckout told ahead asked old new status.Usage = ⊥
@@ -119,12 +119,12 @@ EndsCheckout told ahead asked old new status.ReadFault = IsReadFault told old ne
 EndsCheckout told ahead asked old new status.NotEmpty = IsNotEmpty old new
 
 -- how words end that are not a command: nothing at all was done
-pub record EndsUnasked (old new : Seen) (s : Status) : Type 0 where
+pub record EndsUnasked (old new : Seen) (s : ExitStatus) : Type 0 where
   pub is : (s ≡ status.Usage) ⊎ (s ≡ status.OutOfMemory)
   pub same : new ≡ old
 
 -- how a run ends with these words
-abbrev pub Ends : Option Command → RepoTold → (List ℕ → Starts) → Seen → Seen → Status → Type 0
+abbrev pub Ends : Option Command → RepoTold → (List ℕ → Starts) → Seen → Seen → ExitStatus → Type 0
 Ends None told ahead old new s = EndsUnasked old new s
 Ends (Some (command.Checkout workers)) told ahead old new s = EndsCheckout told ahead workers old new s
 Ends (Some command.Plan) told ahead old new s = EndsPlan told old new s

@@ -24,8 +24,8 @@ use Rattle.checkout_core.specs.declared.path.Start.{Start}
 use Rattle.writer_pool.specs.Ends.{IsRun}
 use Rattle.checkout_report.specs.Report.{is_written, is_unfiltered, is_failed}
 use Rattle.checkout_engine.specs.declared.rehearsing.TriedRun.{TriedRun}
-use Rattle.checkout_engine.specs.declared.status.Status.{Status}
-use Rattle.checkout_engine.specs.declared.status.Status.TheVariants as status
+use Rattle.checkout_engine.specs.declared.exit_status.ExitStatus.{ExitStatus}
+use Rattle.checkout_engine.specs.declared.exit_status.ExitStatus.TheVariants as status
 use Rattle.checkout_engine.specs.declared.stop.Stop.{Stop}
 use Rattle.checkout_engine.specs.declared.stop.Stop.TheVariants as stop
 use Rattle.checkout_engine.specs.Alike.{IsUndisturbed}
@@ -146,7 +146,7 @@ is_disturbed verdicts drivers =
 
 -- How a rehearsal ends, by its status. The summary is written whole, or a first part of it if the sink failed. Nothing
 -- is written if memory ran out, or if something disturbed the checkout.
-abbrev pub Rehearses : ℕ → ℕ → SinkSeen → SinkSeen → Status → Type 0
+abbrev pub Rehearses : ℕ → ℕ → SinkSeen → SinkSeen → ExitStatus → Type 0
 Rehearses seed paths old new status.Done =
     (text : List ℕ) × IsSummed seed paths text × (new ≡ with_text text old)
 Rehearses seed paths old new status.OutputNotWritten =
@@ -155,7 +155,7 @@ Rehearses seed paths old new status.OutOfMemory = new ≡ old
 Rehearses seed paths old new s = ⊥
 
 -- The same for `run`: the repository, the worktree and the spawner don't change, and nothing is in the history.
-pub record EndsRehearsal (seed paths : ℕ) (old new : Seen) (s : Status) : Type 0 where
+pub record EndsRehearsal (seed paths : ℕ) (old new : Seen) (s : ExitStatus) : Type 0 where
   pub shown : Rehearses seed paths old.sink new.sink s
   pub repo : new.repo ≡ old.repo
   pub tree : new.tree ≡ old.tree

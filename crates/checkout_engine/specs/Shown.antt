@@ -4,8 +4,8 @@ use Rattle.edge_kit.specs.Faults.{Rose}
 use Rattle.edge_kit.specs.Seen.{RepoSeen, SinkSeen}
 use Rattle.edge_kit.specs.Told.{RepoTold}
 use Rattle.checkout_plan.specs.declared.path_plan.Plan.{Plan}
-use Rattle.checkout_engine.specs.declared.status.Status.{Status}
-use Rattle.checkout_engine.specs.declared.status.Status.TheVariants as status
+use Rattle.checkout_engine.specs.declared.exit_status.ExitStatus.{ExitStatus}
+use Rattle.checkout_engine.specs.declared.exit_status.ExitStatus.TheVariants as status
 use Rattle.checkout_engine.specs.declared.stop.Refusal.{Refusal}
 use Rattle.checkout_engine.specs.Causes.{IsReadCause, IsPlanRead, IsRefusedFor, IsCutShort}
 use Rattle.checkout_engine.specs.Ends.{Seen}
@@ -14,7 +14,7 @@ use Rattle.checkout_engine.specs.RefusalText.{refusal_line}
 use Rattle.plan_report.specs.Lines.{plan_lines}
 
 -- How the writing of a refusal's line ends, by its status.
-abbrev pub Refuses : Refusal → SinkSeen → SinkSeen → Status → Type 0
+abbrev pub Refuses : Refusal → SinkSeen → SinkSeen → ExitStatus → Type 0
 Refuses refusal old new status.Refused = new ≡ with_text (refusal_line refusal) old
 Refuses refusal old new status.OutputNotWritten =
     Rose old.faults new.faults × IsCut (refusal_line refusal) old new
@@ -30,7 +30,7 @@ pub record IsPlanCut (told : RepoTold) (repo repo' : RepoSeen) (sink sink' : Sin
 -- How the showing of a plan ends, by its status. If it is shown whole, exactly the blobs of the
 -- attribute files were made and given back. If memory runs out, nothing is written: the text is
 -- one piece. It doesn't look at the worktree.
-abbrev pub Shows : RepoTold → RepoSeen → RepoSeen → SinkSeen → SinkSeen → Status → Type 0
+abbrev pub Shows : RepoTold → RepoSeen → RepoSeen → SinkSeen → SinkSeen → ExitStatus → Type 0
 Shows told repo repo' sink sink' status.Done =
     (plan : Plan) × IsPlanRead told plan repo repo' × (sink' ≡ with_text (plan_lines plan) sink)
 Shows told repo repo' sink sink' status.Refused =
@@ -44,7 +44,7 @@ Shows told repo repo' sink sink' status.ReadFault = (sink' ≡ sink) × IsReadCa
 Shows told repo repo' sink sink' s = ⊥
 
 -- The same for `run`: the worktree and the spawner don't change, and nothing is in the history.
-pub record EndsPlan (told : RepoTold) (old new : Seen) (s : Status) : Type 0 where
+pub record EndsPlan (told : RepoTold) (old new : Seen) (s : ExitStatus) : Type 0 where
   pub shown : Shows told old.repo new.repo old.sink new.sink s
   pub tree : new.tree ≡ old.tree
   pub spawner : new.spawner ≡ old.spawner

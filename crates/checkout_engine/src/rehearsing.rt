@@ -9,10 +9,10 @@ ghost use Rattle.checkout_engine.specs.Rehearsed.{IsTried, IsTriedWell, IsRehear
 ghost use Rattle.checkout_engine.specs.Rehearsed.{IsRehearsedRun, IsSmallRun};
 
 use crate::cards::starts_of;
+use crate::exit_status::{ExitStatus, number_of};
 use crate::paths::{PathsDone, check_out_paths};
 use crate::planning::{Planned, read_plan};
 use crate::report::{lacks_memory, status_of};
-use crate::status::{Status, number_of};
 use crate::stop::Stop;
 use crate::work::{Means, PlannedWork};
 use crate::workers::Pace;
@@ -300,16 +300,16 @@ pub fn show_rehearsal<G: Gate, O: Sink, H: Threads + Wait + Sync>(
     seed: u64,
     paths: u32,
     out: &mut O,
-) -> Status
+) -> ExitStatus
     requires { paths ≤ 99999 }
     ensures { Rehearses seed paths (O.seen out.old) (O.seen out.new) result }
 {
     let Ok(text) = rehearsal_summary(means, seed, paths) else {
-        return Status::OutOfMemory;
+        return ExitStatus::OutOfMemory;
     };
     match out.write(text.as_bytes()) {
-        Ok(()) => Status::Done,
-        Err(SendFault::Failed) => Status::OutputNotWritten,
-        Err(SendFault::NoMemory) => Status::OutOfMemory,
+        Ok(()) => ExitStatus::Done,
+        Err(SendFault::Failed) => ExitStatus::OutputNotWritten,
+        Err(SendFault::NoMemory) => ExitStatus::OutOfMemory,
     }
 }

@@ -13,7 +13,7 @@ use Rattle.checkout_core.specs.declared.path.PathState.TheVariants.{Waiting, Hel
 use Rattle.checkout_core.specs.declared.path.Start.{Start}
 use Rattle.checkout_core.specs.declared.path.Start.TheVariants.{Desk}
 use Rattle.checkout_core.specs.declared.path.Path.{Path}
-use Rattle.checkout_core.specs.declared.driver.Session.{Session}
+use Rattle.checkout_core.specs.declared.driver.OpenSession.{OpenSession}
 use Rattle.checkout_core.specs.declared.driver.DriverState.{DriverState}
 use Rattle.checkout_core.specs.declared.driver.DriverState.TheVariants as driver
 use Rattle.checkout_core.specs.declared.event.Event.{Event}
@@ -85,7 +85,7 @@ ahead_told (driver.On k) rest late turns other = go k.caps.smudge
     go false = refl
 
 -- in a session with smudge
-waits_on : (p : ℕ) (x : DriverState) (k : Session) (rest late turns : List ℕ) → x ≡ driver.On k
+waits_on : (p : ℕ) (x : DriverState) (k : OpenSession) (rest late turns : List ℕ) → x ≡ driver.On k
     → k.caps.smudge ≡ true → waits p (talk_at x rest late turns) ≡ (contains p late || contains p turns)
 waits_on p x k rest late turns on smudge = ap (λ (z : DriverState). waits p (talk_at z rest late turns)) on
     ∙ ap (λ (b : Bool). waits p (cond b (InRound (round_of k rest late turns)) Refusing)) smudge

@@ -18,7 +18,7 @@ use Rattle.checkout_core.specs.declared.path.PathState.TheVariants.{Waiting, Hel
 use Rattle.checkout_core.specs.declared.path.Start.{Start}
 use Rattle.checkout_core.specs.declared.path.Start.TheVariants.{Pool, Desk, Done}
 use Rattle.checkout_core.specs.declared.path.Path.{Path}
-use Rattle.checkout_core.specs.declared.driver.Session.{Session}
+use Rattle.checkout_core.specs.declared.driver.OpenSession.{OpenSession}
 use Rattle.checkout_core.specs.declared.driver.DriverState.{DriverState}
 use Rattle.checkout_core.specs.declared.driver.DriverState.TheVariants as driver
 use Rattle.checkout_core.specs.declared.event.Event.{Event}
@@ -382,7 +382,7 @@ module _ (workers a d : ℕ) (mine : a ≡ workers + d) where
     name_alike p r s b driver.Aborted e = refl
     name_alike p r s b driver.Done e = refl
 
-    redo_known : (z : Core) (p : ℕ) (y : Reply) (k : Session) (s : PathState)
+    redo_known : (z : Core) (p : ℕ) (y : Reply) (k : OpenSession) (s : PathState)
         → redo z p y d k s ≡ redo z p y d k (known s)
     redo_known z p y k path.Delayed = refl
     redo_known z p y k (path.Named t) = refl
@@ -392,7 +392,7 @@ module _ (workers a d : ℕ) (mine : a ≡ workers + d) where
     redo_known z p y k (Held b raw) = refl
     redo_known z p y k (Closed v) = refl
 
-    redo_both : (p : ℕ) (y : Reply) (k : Session) (s : PathState) → redo c p y d k s ≡ redo x p y d k s
+    redo_both : (p : ℕ) (y : Reply) (k : OpenSession) (s : PathState) → redo c p y d k s ≡ redo x p y d k s
     redo_both p y k (path.Named t) =
         ap (λ u. given (not k.noting_list && (not (is_delay y) && (is_good_reply y && u))) (replied p d k y))
         (none_alike (is_named_below t) (below_known t) c.paths x.paths alike.paths)

@@ -15,7 +15,7 @@ use Rattle.checkout_core.specs.declared.path.PathState.TheVariants as path
 use Rattle.checkout_core.specs.declared.path.PathState.TheVariants.{Waiting, Held, Unasked, Closed}
 use Rattle.checkout_core.specs.declared.path.Start.{Start}
 use Rattle.checkout_core.specs.declared.path.Path.{Path}
-use Rattle.checkout_core.specs.declared.driver.Session.{Session}
+use Rattle.checkout_core.specs.declared.driver.OpenSession.{OpenSession}
 use Rattle.checkout_core.specs.declared.driver.DriverState.{DriverState}
 use Rattle.checkout_core.specs.declared.driver.DriverState.TheVariants as driver
 use Rattle.checkout_core.specs.declared.event.Event.{Event}
@@ -168,18 +168,18 @@ base_to (reply.Broken b) base = 0
 base_to reply.NoMemory base = 0
 base_to _ base = base
 
-pub replied_smudged : (k : Session) (y : Reply) → k.caps.smudge ≡ true → IsSmudged (replied_desk k y)
-replied_smudged k reply.Content i = λ l on h. ap (λ (s : Session). s.caps.smudge) (let e : l ≡ k = cc (on) in e) ∙ i
-replied_smudged k reply.Error i = λ l on h. ap (λ (s : Session). s.caps.smudge) (let e : l ≡ k = cc (on) in e) ∙ i
-replied_smudged k reply.ErrorAfter i = λ l on h. ap (λ (s : Session). s.caps.smudge) (let e : l ≡ k = cc (on) in e) ∙ i
-replied_smudged k reply.Delayed i = λ l on h. ap (λ (s : Session). s.caps.smudge)
+pub replied_smudged : (k : OpenSession) (y : Reply) → k.caps.smudge ≡ true → IsSmudged (replied_desk k y)
+replied_smudged k reply.Content i = λ l on h. ap (λ (s : OpenSession). s.caps.smudge) (let e : l ≡ k = cc (on) in e) ∙ i
+replied_smudged k reply.Error i = λ l on h. ap (λ (s : OpenSession). s.caps.smudge) (let e : l ≡ k = cc (on) in e) ∙ i
+replied_smudged k reply.ErrorAfter i = λ l on h. ap (λ (s : OpenSession). s.caps.smudge) (let e : l ≡ k = cc (on) in e) ∙ i
+replied_smudged k reply.Delayed i = λ l on h. ap (λ (s : OpenSession). s.caps.smudge)
     (let e : l ≡ delayed k = cc (on) in e) ∙ i
 replied_smudged k reply.Abort i = λ l on h. absurd (cc (on))
 replied_smudged k (reply.Broken b) i = λ l on h. absurd (cc (on))
 replied_smudged k reply.NoMemory i = λ l on h. absurd (cc (on))
 
-pub list_smudged : (k : Session) (y : ListReply) → k.caps.smudge ≡ true → IsSmudged (list_desk k y)
-list_smudged k (list.Names n) i = λ l on h. ap (λ (s : Session). s.caps.smudge)
+pub list_smudged : (k : OpenSession) (y : ListReply) → k.caps.smudge ≡ true → IsSmudged (list_desk k y)
+list_smudged k (list.Names n) i = λ l on h. ap (λ (s : OpenSession). s.caps.smudge)
     (let e : l ≡ listed k = cc (on) in e) ∙ i
 list_smudged k list.Empty i = λ l on h. absurd (cc (on))
 list_smudged k list.Abort i = λ l on h. absurd (cc (on))
@@ -188,12 +188,12 @@ list_smudged k list.NoMemory i = λ l on h. absurd (cc (on))
 
 pub fresh_smudged : (caps : Caps) (first : ℕ) → IsSmudged (driver.On (fresh caps first))
 fresh_smudged caps first = λ l on h. absurd (let e : fresh caps first ≡ l = cc (on) in let y : false ≡ true =
-    ap (λ (s : Session). s.any_delayed || s.noting_list) e ∙ h in cc (y))
+    ap (λ (s : OpenSession). s.any_delayed || s.noting_list) e ∙ h in cc (y))
 
-pub in_round : (k : Session) (r : Round) → k.caps.smudge ≡ true → InRound r ≡ cond k.caps.smudge (InRound r) Refusing
+pub in_round : (k : OpenSession) (r : Round) → k.caps.smudge ≡ true → InRound r ≡ cond k.caps.smudge (InRound r) Refusing
 in_round k r smudge = sym (ap (λ b. cond b (InRound r) Refusing) smudge)
 
-pub answered_is : (k : Session) (rest late turns : List ℕ) (q : ℕ) (y : Reply) → k.caps.smudge ≡ true
+pub answered_is : (k : OpenSession) (rest late turns : List ℕ) (q : ℕ) (y : Reply) → k.caps.smudge ≡ true
     → answered (round_of k (q ∷ rest) late turns) q rest y ≡ talk_at (replied_desk k y) rest (late_to y q late)
     (late_again y turns)
 answered_is k rest late turns q reply.Content smudge = in_round k (round_of k rest late turns) smudge
@@ -204,7 +204,7 @@ answered_is k rest late turns q reply.Abort smudge = refl
 answered_is k rest late turns q (reply.Broken b) smudge = refl
 answered_is k rest late turns q reply.NoMemory smudge = refl
 
-pub redone_is : (k : Session) (rest late turns qs : List ℕ) (y : Reply) → k.caps.smudge ≡ true
+pub redone_is : (k : OpenSession) (rest late turns qs : List ℕ) (y : Reply) → k.caps.smudge ≡ true
     → is_delay y ≡ false
     → redone (round_of k rest late turns) qs y ≡ talk_at (replied_desk k y) rest (late_again y late) (late_again y qs)
 redone_is k rest late turns qs reply.Content smudge n = in_round k (round_of k rest late qs) smudge
@@ -215,13 +215,13 @@ redone_is k rest late turns qs reply.Abort smudge n = refl
 redone_is k rest late turns qs (reply.Broken b) smudge n = refl
 redone_is k rest late turns qs reply.NoMemory smudge n = refl
 
-pub zero_reply : (k : Session) (y : Reply) (base : ℕ) → IsZero (driver.On k) base
+pub zero_reply : (k : OpenSession) (y : Reply) (base : ℕ) → IsZero (driver.On k) base
     → IsZero (replied_desk k y) (base_to y base)
 zero_reply k reply.Content base low = low
 zero_reply k reply.Error base low = low
 zero_reply k reply.ErrorAfter base low = low
 zero_reply k reply.Delayed base low = λ l on noting_list. low k refl
-    (ap (λ (s : Session). s.noting_list) (let i : delayed k ≡ l = cc (on) in i) ∙ noting_list)
+    (ap (λ (s : OpenSession). s.noting_list) (let i : delayed k ≡ l = cc (on) in i) ∙ noting_list)
 zero_reply k reply.Abort base low = λ l on noting_list. refl
 zero_reply k (reply.Broken b) base low = λ l on noting_list. refl
 zero_reply k reply.NoMemory base low = λ l on noting_list. refl
@@ -236,7 +236,7 @@ pub or_gone : (b : Bool) → (b || true) ≡ true
 or_gone true = refl
 or_gone false = refl
 
-pub names_may : (k : Session) (b : Bool) → (k.noting_list || b) ≡ true → (k.noting_list ≡ true) ⊎ (b ≡ true)
+pub names_may : (k : OpenSession) (b : Bool) → (k.noting_list || b) ≡ true → (k.noting_list ≡ true) ⊎ (b ≡ true)
 names_may k b i = go k.noting_list refl b i
   where
     go : (a : Bool) → k.noting_list ≡ a → (b : Bool) → (a || b) ≡ true → (k.noting_list ≡ true) ⊎ (b ≡ true)

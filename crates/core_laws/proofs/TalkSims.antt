@@ -14,7 +14,7 @@ use Rattle.checkout_core.specs.declared.path.PathState.TheVariants.{Unasked}
 use Rattle.checkout_core.specs.declared.path.Start.{Start}
 use Rattle.checkout_core.specs.declared.path.Start.TheVariants.{Desk}
 use Rattle.checkout_core.specs.declared.path.Path.{Path}
-use Rattle.checkout_core.specs.declared.driver.Session.{Session}
+use Rattle.checkout_core.specs.declared.driver.OpenSession.{OpenSession}
 use Rattle.checkout_core.specs.declared.driver.DriverState.{DriverState}
 use Rattle.checkout_core.specs.declared.driver.DriverState.TheVariants as driver
 use Rattle.checkout_core.specs.declared.event.Event.{Event}
@@ -126,7 +126,7 @@ module _ (starts : List Start) (c z : Core) (es : List Event) (d : ℕ) (good : 
       (subst (λ (w : Effect). driver_after w d x ≡ x) g.1 (ap (λ b. cond b driver.Done x) n)))
       (same_or d f)
 
-  list_smudge : (k : Session) (y : ListReply) → IsSmudged (driver.On k) → list_allowed c d k y ≡ true
+  list_smudge : (k : OpenSession) (y : ListReply) → IsSmudged (driver.On k) → list_allowed c d k y ≡ true
       → k.caps.smudge ≡ true
   list_smudge k y sm ok = sm k refl (go y ok)
     where

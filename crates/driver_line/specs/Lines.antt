@@ -36,8 +36,8 @@ use Rattle.std.specs.Prelude.{slice_get, slice_index_or}
 use Rattle.delay_table.specs.Table.{Table, is_pending}
 use Rattle.delay_table.specs.declared.place.Place.{Place}
 use Rattle.delay_table.specs.declared.place.Place.TheVariants as place
-use Rattle.driver_line.specs.declared.line.Start.{Start}
-use Rattle.driver_line.specs.declared.line.Start.TheVariants as starts
+use Rattle.driver_line.specs.declared.line.SessionStart.{SessionStart}
+use Rattle.driver_line.specs.declared.line.SessionStart.TheVariants as starts
 use Rattle.driver_line.specs.Conversations.{Exchange, NoStart, NoRoom, Opening, First, Listing, Second, Shutting}
 
 pub record LineView : Type 0 where
@@ -155,7 +155,7 @@ RunsTo paths old [] new = old ≡ new
 RunsTo paths old (e ∷ es) new = (mid : LineView) × Says paths old e mid × RunsTo paths mid es new
 
 -- the exchange of an opening
-abbrev pub OpenIs : ℕ → Start → Exchange → Type 0
+abbrev pub OpenIs : ℕ → SessionStart → Exchange → Type 0
 OpenIs p (starts.Live caps) e = e ≡ Opening p (Good caps)
 OpenIs p (starts.Failed opening.NotStarted) e = e ≡ NoStart p
 OpenIs p (starts.Failed (opening.Broken why)) e = (e ≡ Opening p (Broke why)) × (is_path_break why ≡ true)
@@ -187,7 +187,7 @@ pub record HasAnswered (d : Bool) (text : List ℕ) (s t : Wire) (old new : Leaf
   pub leaf : IsLeafAfter old new put r content
 
 -- the session after an opening
-abbrev pub SessionAfter : Start → Option SessionSeen → Type 0
+abbrev pub SessionAfter : SessionStart → Option SessionSeen → Type 0
 SessionAfter (starts.Live caps) session = (s : SessionSeen) × (session ≡ Some s) × (s.standing ≡ standing.Live)
     × (s.caps ≡ caps)
 SessionAfter (starts.Failed why) session = session ≡ None

@@ -12,4 +12,4 @@ pub use laws::{
     equal_outputs_give_equal_talks, equal_sessions_give_equal_talks, exchanges_are_spelled,
     links_are_given_back, one_part,
 };
-pub use line::{Line, Start};
+pub use line::{Line, SessionStart};

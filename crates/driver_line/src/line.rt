@@ -20,7 +20,7 @@ use std::marker::Model;
 
 /// What came of the opening of a session.
 #[derive(Clone, Copy)]
-pub enum Start {
+pub enum SessionStart {
     Live(Caps),
     Failed(OpenCause),
 }
@@ -74,7 +74,7 @@ impl<S: Starter> Line<S> {
 
 impl<S: Starter> Line<S> {
     /// Opens a session.
-    pub fn open(&mut self) -> Start
+    pub fn open(&mut self) -> SessionStart
         requires none { self.old.session ≡ None }
         requires few { length self.old.starter.had < 2 ^ 32 }
         ensures says { (p : ℕ) → (e : Exchange) × OpenIs p result e × ((paths : Paths)
@@ -87,19 +87,19 @@ impl<S: Starter> Line<S> {
                 Begun::Live(session) => {
                     let caps = session.caps();
                     self.session = Some(session);
-                    Start::Live(caps)
+                    SessionStart::Live(caps)
                 }
                 Begun::Broken(link, cause) => {
                     self.starter.end(link);
-                    Start::Failed(OpenCause::Broken(cause))
+                    SessionStart::Failed(OpenCause::Broken(cause))
                 }
                 Begun::NoMemory(link) => {
                     self.starter.end(link);
-                    Start::Failed(OpenCause::NoMemory)
+                    SessionStart::Failed(OpenCause::NoMemory)
                 }
             },
-            Err(SendFault::Failed) => Start::Failed(OpenCause::NotStarted),
-            Err(SendFault::NoMemory) => Start::Failed(OpenCause::NoMemory),
+            Err(SendFault::Failed) => SessionStart::Failed(OpenCause::NotStarted),
+            Err(SendFault::NoMemory) => SessionStart::Failed(OpenCause::NoMemory),
         }
     }
 

@@ -1,7 +1,7 @@
 -- What the code holds, as entries and bytes.
 use Rattle.std.specs.Prelude.{ℕ, List, ◌++◌, take}
 use Rattle.git_index.specs.declared.entry.Entry.{Entry}
-use Rattle.git_index.specs.declared.entry_bytes.Head.{Head}
+use Rattle.git_index.specs.declared.entry_bytes.EntryHead.{EntryHead}
 use Rattle.git_index.specs.declared.entry_bytes.Found.{Found}
 use Rattle.git_index.specs.declared.path_part.PathPart.{PathPart}
 
@@ -14,7 +14,7 @@ abbrev pub path_and_rest : List ℕ → PathPart → List ℕ × List ℕ
 path_and_rest last p = (joined_path last p, p.rest.now)
 
 -- the length of a fixed part, and its 16 more bits
-abbrev pub head_of : Head → ℕ × ℕ
+abbrev pub head_of : EntryHead → ℕ × ℕ
 head_of h = (h.length, h.more)
 
 -- an entry, and the bytes after it

@@ -14,7 +14,7 @@ use std::alloc::Global;
 
 /// The fixed part of an entry: its length, and the 16 more bits, of which none is set where they aren't there.
 #[derive(Clone, Copy)]
-pub struct Head {
+pub struct EntryHead {
     pub length: usize,
     pub more: u16,
 }
@@ -27,7 +27,7 @@ pub struct Found<'a> {
 }
 
 #[tactic(auto, unfolding(crate::specs::Reading::extended_at))]
-fn extended_of(k: u32, bytes: &[u8]) -> Result<Head, IndexFault>
+fn extended_of(k: u32, bytes: &[u8]) -> Result<EntryHead, IndexFault>
     requires { 62 ≤ length bytes.now }
     ensures value { seen_by head_of result ≡ extended_at k bytes.now }
     ensures within { IfOk result (λ h. (h.length ≤ length bytes.now) × (h.length ≤ 64)) }
@@ -39,18 +39,18 @@ fn extended_of(k: u32, bytes: &[u8]) -> Result<Head, IndexFault>
     if !is_known(more) {
         return Err(IndexFault::Entry(k, EntryKind::ExtendedBits));
     }
-    Ok(Head { length: 64, more })
+    Ok(EntryHead { length: 64, more })
 }
 
 /// The fixed part, by its flags. Version 2 has no more bits.
 #[tactic(auto, unfolding(crate::specs::Reading::more_at))]
-fn more_of(version: Version, k: u32, flags: u16, bytes: &[u8]) -> Result<Head, IndexFault>
+fn more_of(version: Version, k: u32, flags: u16, bytes: &[u8]) -> Result<EntryHead, IndexFault>
     requires { 62 ≤ length bytes.now }
     ensures value { seen_by head_of result ≡ more_at version k flags bytes.now }
     ensures within { IfOk result (λ h. (h.length ≤ length bytes.now) × (h.length ≤ 64)) }
 {
     if flags % 0x8000 < 0x4000 {
-        return Ok(Head {
+        return Ok(EntryHead {
             length: 62,
             more: 0,
         });
@@ -90,7 +90,7 @@ fn headed_of<'a>(
     before: &Before,
     k: u32,
     flags: u16,
-    head: Head,
+    head: EntryHead,
     bytes: &'a [u8],
 ) -> Result<Found<'a>, IndexFault>
     requires some { 62 ≤ length bytes.now }

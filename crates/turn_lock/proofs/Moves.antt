@@ -9,8 +9,8 @@ use lib.Seq.{set-get_or}
 use prog.Atomic.{either}
 use Rattle.atomic_table.specs.Table.{State, Me, step, keeps, takes, gives, stepped, Allows}
 use Rattle.atomic_table.proofs.Lists.{set_again, set_here}
-use Rattle.turn_lock.specs.declared.view.Place.{Place}
-use Rattle.turn_lock.specs.declared.view.Place.TheVariants.{Out, Inside}
+use Rattle.turn_lock.specs.declared.view.SeatPlace.{SeatPlace}
+use Rattle.turn_lock.specs.declared.view.SeatPlace.TheVariants.{Out, Inside}
 use Rattle.turn_lock.specs.declared.view.Old.{Old}
 use Rattle.turn_lock.specs.declared.view.View.{View}
 use Rattle.turn_lock.specs.declared.view.Knows.{Knows}
@@ -20,11 +20,11 @@ use Rattle.turn_lock.specs.Rule.{IsOld, Fits, InPlace, Live, entering, leaving, 
 use Rattle.turn_lock.proofs.Histories.{begins_self, follows_begins, follows_own}
 use Rattle.turn_lock.proofs.Seating.{live_set, live_one, Was, was, live_here, live_else, held_on}
 
-out_when_free : {E : Type 0} (word : ℕ) (log : List (ℕ × E)) (p : Place E) → word ≡ 0 → InPlace word log p → p ≡ Out
+out_when_free : {E : Type 0} (word : ℕ) (log : List (ℕ × E)) (p : SeatPlace E) → word ≡ 0 → InPlace word log p → p ≡ Out
 out_when_free word log Out e h = refl
 out_when_free word log (Inside f) e h = let a = h.0 in absurd (omega arith)
 
-in_place_out : {E : Type 0} (word : ℕ) (log : List (ℕ × E)) (p : Place E) → p ≡ Out → InPlace word log p
+in_place_out : {E : Type 0} (word : ℕ) (log : List (ℕ × E)) (p : SeatPlace E) → p ≡ Out → InPlace word log p
 in_place_out word log Out e = tt
 in_place_out word log (Inside f) e = absurd (cc (e))
 
@@ -120,7 +120,7 @@ module _ {T E D : Type 0} (hist : T → List (ℕ × E)) (fits : T → D → Typ
   pub tries : (slots id : ℕ) (m : Me (Option T) (Knows E D)) (v : View E D) → m ≡ (Seated v, []) → Allows R slots id m 0 (λ n. either (n == 0) 1 n) (tried hist fits (step slots 0 0 1 none) m)
   tries slots id m v is = subst (λ (x : Me (Option T) (Knows E D)). Allows R slots id x 0 (λ n. either (n == 0) 1 n) (tried hist fits (step slots 0 0 1 none) x)) (sym is) (tries_at slots id v)
 
-  others_out : (p : Place E) → ((f : List (ℕ × E)) → p ≡ Inside f → ⊥) → p ≡ Out
+  others_out : (p : SeatPlace E) → ((f : List (ℕ × E)) → p ≡ Inside f → ⊥) → p ≡ Out
   others_out Out never = refl
   others_out (Inside f) never = absurd (never f refl)
 

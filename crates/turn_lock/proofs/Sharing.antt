@@ -7,7 +7,7 @@ use native.Mathlib.Decide.{ℕ_discrete}
 use lib.ListN.{get_elem?}
 use Rattle.atomic_table.specs.Table.{State, Splits, Joins}
 use Rattle.atomic_table.proofs.Lists.{set_else}
-use Rattle.turn_lock.specs.declared.view.Place.TheVariants.{Out, Inside}
+use Rattle.turn_lock.specs.declared.view.SeatPlace.TheVariants.{Out, Inside}
 use Rattle.turn_lock.specs.declared.view.Old.{Old}
 use Rattle.turn_lock.specs.declared.view.View.{View}
 use Rattle.turn_lock.specs.declared.view.Knows.{Knows}

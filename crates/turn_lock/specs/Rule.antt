@@ -4,8 +4,8 @@ use Rattle.std.specs.Prelude.{Option, Some, None, MatchBool}
 use mathlib.Core.Option.{some}
 use lib.ListN.{get_elem?}
 use Rattle.atomic_table.specs.Table.{State, Me, Step, rest}
-use Rattle.turn_lock.specs.declared.view.Place.{Place}
-use Rattle.turn_lock.specs.declared.view.Place.TheVariants.{Out, Inside}
+use Rattle.turn_lock.specs.declared.view.SeatPlace.{SeatPlace}
+use Rattle.turn_lock.specs.declared.view.SeatPlace.TheVariants.{Out, Inside}
 use Rattle.turn_lock.specs.declared.view.Old.{Old}
 use Rattle.turn_lock.specs.declared.view.View.{View}
 use Rattle.turn_lock.specs.declared.view.Knows.{Knows}
@@ -16,7 +16,7 @@ module _ {E : Type 0} where
   abbrev pub IsOld : Old E → List (Old E) → Type 0
   IsOld o olds = (i : ℕ) × (get_elem? olds i ≡ some o)
 
-  abbrev pub InPlace : ℕ → List (ℕ × E) → Place E → Type 0
+  abbrev pub InPlace : ℕ → List (ℕ × E) → SeatPlace E → Type 0
   InPlace word log Out = Unit {0}
   InPlace word log (Inside found) = (word ≡ 1) × (found ≡ log)
 

@@ -2,8 +2,8 @@
 use Rattle.std.specs.Prelude.{◌≡◌, ℕ, List, [], ◌∷◌, Option, Some, None}
 use Rattle.atomic_table.specs.Table.{Me}
 use Rattle.atomic_table.specs.Seated.{TableId}
-use Rattle.turn_lock.specs.declared.view.Place.{Place}
-use Rattle.turn_lock.specs.declared.view.Place.TheVariants.{Out, Inside}
+use Rattle.turn_lock.specs.declared.view.SeatPlace.{SeatPlace}
+use Rattle.turn_lock.specs.declared.view.SeatPlace.TheVariants.{Out, Inside}
 use Rattle.turn_lock.specs.declared.view.View.{View}
 use Rattle.turn_lock.specs.declared.view.Knows.{Knows}
 use Rattle.turn_lock.specs.declared.view.Knows.TheVariants.{Spent, Seated}
@@ -18,11 +18,11 @@ pub record SeatView (E D : Type 0) : Type 0 where
   pub known : Knows E D
 
 module _ {E D : Type 0} where
-  abbrev pub place : Knows E D → Place E
+  abbrev pub place : Knows E D → SeatPlace E
   place Spent = Out
   place (Seated v) = v.place
 
-  abbrev pub place_of : SeatView E D → Place E
+  abbrev pub place_of : SeatView E D → SeatPlace E
   place_of s = place s.known
 
   abbrev pub told : Knows E D → Option D
@@ -80,7 +80,7 @@ module _ {E D : Type 0} where
   abbrev pub left : List (ℕ × E) → SeatView E D → SeatView E D
   left found s = record { lock = s.lock; known = leaves found s.known }
 
-abbrev pub Holds : {T E : Type 0} → Place E → List (ℕ × Option T) → Type 0
+abbrev pub Holds : {T E : Type 0} → SeatPlace E → List (ℕ × Option T) → Type 0
 Holds Out held = held ≡ []
 Holds (Inside found) held = held ≡ (0, None) ∷ []
 

@@ -5,7 +5,7 @@ ghost use Rattle.turn_lock.specs.Seat.{SeatView, place_of, told_of, seen_of, min
 ghost use Rattle.turn_lock.specs.Rule.{newcomer};
 ghost use Rattle.turn_lock.specs.Seat.{entered, left, made_of, raised};
 ghost use Rattle.turn_lock.specs.Seats.{AreSeats};
-ghost use Rattle.turn_lock.specs.declared.view.Place.TheVariants.{Out, Inside};
+ghost use Rattle.turn_lock.specs.declared.view.SeatPlace.TheVariants.{Out, Inside};
 
 use crate::kept::Kept;
 use crate::rule::Law;

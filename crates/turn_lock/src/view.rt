@@ -2,7 +2,7 @@
 // No value of these types is ever made.
 use std::collections::LinkedList;
 
-pub enum Place<E> {
+pub enum SeatPlace<E> {
     Out,
     /// With the history that it found.
     Inside(LinkedList<(u64, E)>),
@@ -17,7 +17,7 @@ pub struct Old<E> {
 
 pub struct View<E, D> {
     pub number: u64,
-    pub place: Place<E>,
+    pub place: SeatPlace<E>,
     /// The history at its last turn.
     pub seen: LinkedList<(u64, E)>,
     /// Its own entries.

@@ -13,7 +13,7 @@ use Rattle.std.proofs.lemmas.Grind.{common_steps}
 use Rattle.wild_match.specs.declared.compiled.Known.{Known}
 use Rattle.wild_match.specs.Steps.{single_of, IsSingle}
 use Rattle.wild_match.proofs.Splits.{one-parts}
-use Rattle.wild_match.specs.declared.compiled.Form.TheVariants.{Nothing, Name, Ending, InName, Path, InPath}
+use Rattle.wild_match.specs.declared.compiled.PatternForm.TheVariants.{Nothing, Name, Ending, InName, Path, InPath}
 use Rattle.wild_match.proofs.ReadPieces.{front-same, front-plain, pieces-front}
 
 -- ---- one plain byte

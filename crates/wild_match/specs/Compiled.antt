@@ -4,9 +4,9 @@ use Rattle.std.specs.Prelude.{List, [], ◌∷◌, length, take, drop}
 use Rattle.std.specs.Prelude.{slice_index, if◌then◌else◌}
 use Rattle.std.specs.List.{prefix_len, starts_with, ends_with}
 use Rattle.std.specs.Str.{bytes_eq}
-use Rattle.wild_match.specs.declared.compiled.Form.{Form}
+use Rattle.wild_match.specs.declared.compiled.PatternForm.{PatternForm}
 use Rattle.wild_match.specs.declared.compiled.Known.{Known}
-use Rattle.wild_match.specs.declared.compiled.Form.TheVariants.{Nothing, Name, Ending, InName, Path, InPath}
+use Rattle.wild_match.specs.declared.compiled.PatternForm.TheVariants.{Nothing, Name, Ending, InName, Path, InPath}
 use Rattle.wild_match.specs.Fits.{is_slash, fits, is_match, last_part, without_slash}
 use Rattle.wild_match.specs.Pieces.{pieces}
 use Rattle.byte_path.specs.Characters.{star, question_mark, open_bracket, backslash}
@@ -41,7 +41,7 @@ IsKnown pattern known = (fresh : Bool) (text : List ℕ) → fits (pieces fresh 
     → has_known known pattern text ≡ true
 
 -- what a form says of a path with that last part
-abbrev pub answer : Form → List ℕ → List ℕ → List ℕ → Bool
+abbrev pub answer : PatternForm → List ℕ → List ℕ → List ℕ → Bool
 answer Nothing pattern path name = false
 answer Name pattern path name = bytes_eq pattern name
 answer Ending pattern path name = ends_with nat_eq name (drop 1 pattern)
@@ -59,11 +59,11 @@ abbrev pub IsOfPath : List ℕ → Type 0
 IsOfPath pattern = (path : List ℕ) → is_match pattern path ≡ fits (pieces true (without_slash pattern)) path
 
 -- the byte that a form passes over
-abbrev pub passed_by : Form → ℕ
+abbrev pub passed_by : PatternForm → ℕ
 passed_by Ending = 1
 passed_by form = 0
 
 -- a form that decides each path as its pattern does
-pub record IsForm (form : Form) (pattern : List ℕ) : Type 0 where
+pub record IsForm (form : PatternForm) (pattern : List ℕ) : Type 0 where
   pub within : passed_by form ≤ length pattern
   pub right : (path : List ℕ) → answer form pattern path (last_part path) ≡ is_match pattern path

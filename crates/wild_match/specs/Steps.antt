@@ -3,12 +3,12 @@ use Rattle.std.specs.Prelude.{◌≡◌, ◌⊎◌, ℕ, ◌+◌, ◌<◌, ◌�
 use Rattle.std.specs.Prelude.{slice_index, Option, Some, None, if◌then◌else◌}
 use Rattle.std.specs.List.{position_or_len}
 use Rattle.wild_match.specs.Members.{is_close}
-use Rattle.wild_match.specs.declared.part.Step.{Step}
-use Rattle.wild_match.specs.declared.part.Step.TheVariants.{Star, Byte, Behind, Matched, Stuck}
-use Rattle.wild_match.specs.declared.part.Place.{Place}
-use Rattle.wild_match.specs.declared.part.Part.{Part}
-use Rattle.wild_match.specs.declared.part.Part.TheVariants.{Folders as OpenFolders, Behind as PartBehind}
-use Rattle.wild_match.specs.declared.part.Part.TheVariants.{Matched as PartMatched, Stuck as PartStuck}
+use Rattle.wild_match.specs.declared.part.MatchStep.{MatchStep}
+use Rattle.wild_match.specs.declared.part.MatchStep.TheVariants.{Star, Byte, Behind, Matched, Stuck}
+use Rattle.wild_match.specs.declared.part.Remaining.{Remaining}
+use Rattle.wild_match.specs.declared.part.PartEnd.{PartEnd}
+use Rattle.wild_match.specs.declared.part.PartEnd.TheVariants.{Folders as OpenFolders, Behind as PartBehind}
+use Rattle.wild_match.specs.declared.part.PartEnd.TheVariants.{Matched as PartMatched, Stuck as PartStuck}
 use Rattle.wild_match.specs.Pieces.{Piece, Slash, One, Run, Folders, Rest, Never, plain_front, pieces}
 use Rattle.wild_match.specs.Fits.{is_slash, fits}
 
@@ -70,7 +70,7 @@ pub record PassesStar (pattern : List ℕ) (n : ℕ) : Type 0 where
   pub some : 0 < n
   pub within : n ≤ length pattern
 
-abbrev pub IsStep : List ℕ → List ℕ → Step → Type 0
+abbrev pub IsStep : List ℕ → List ℕ → MatchStep → Type 0
 IsStep pattern text (Star n) = PassesStar pattern n
 IsStep pattern text (Byte n) = PassesByte pattern text n
 IsStep pattern text (Behind n) = PassesSlash pattern text n
@@ -105,17 +105,17 @@ pub record OpensFolders (first : List Piece) (pattern text later rest : List ℕ
   pub same : rest ≡ text
   pub shorter : length later < length pattern
 
-abbrev pub IsPart : List Piece → List ℕ → List ℕ → Part → Type 0
+abbrev pub IsPart : List Piece → List ℕ → List ℕ → PartEnd → Type 0
 IsPart first pattern text (OpenFolders at) = OpensFolders first pattern text at.pattern.now at.path.now
 IsPart first pattern text (PartBehind at) = BehindPart first pattern text at.pattern.now at.path.now
 IsPart first pattern text PartMatched = fits first text ≡ true
 IsPart first pattern text PartStuck = fits first text ≡ false
 
 -- a place, as texts
-abbrev pub texts_of : Place → List ℕ × List ℕ
+abbrev pub texts_of : Remaining → List ℕ × List ℕ
 texts_of at = (at.pattern.now, at.path.now)
 
-abbrev pub seen_back : Option Place → Option (List ℕ × List ℕ)
+abbrev pub seen_back : Option Remaining → Option (List ℕ × List ℕ)
 seen_back None = None
 seen_back (Some at) = Some (texts_of at)
 

@@ -13,7 +13,7 @@ use std::marker::Model;
 
 /// How a pattern decides a path. A plain byte stands for itself: it is no `*`, `?`, `[` or `\`.
 #[derive(Clone, Copy)]
-pub enum Form {
+pub enum PatternForm {
     /// It matches no path.
     Nothing,
     /// All bytes are plain, and none is a `/`: the last part is the pattern.
@@ -95,31 +95,31 @@ fn known_of(pattern: &[u8], front: usize) -> Known
 }
 
 /// The form of a pattern that is compared with the last part of a path.
-fn name_form(pattern: &[u8]) -> Form
+fn name_form(pattern: &[u8]) -> PatternForm
     requires { IsOfName pattern.now }
     ensures { IsForm result pattern.now }
 {
     let plain = plain_len(pattern);
     if plain == pattern.len() {
-        Form::Name
+        PatternForm::Name
     } else if is_ending(pattern) {
-        Form::Ending
+        PatternForm::Ending
     } else {
-        Form::InName(known_of(pattern, plain))
+        PatternForm::InName(known_of(pattern, plain))
     }
 }
 
 /// The form of a pattern that is compared with the whole path.
-fn path_form(pattern: &[u8]) -> Form
+fn path_form(pattern: &[u8]) -> PatternForm
     requires { IsOfPath pattern.now }
     ensures { IsForm result pattern.now }
 {
     let whole = without_slash(pattern);
     let plain = plain_len(whole);
     if plain == whole.len() {
-        Form::Path
+        PatternForm::Path
     } else {
-        Form::InPath(known_of(whole, plain))
+        PatternForm::InPath(known_of(whole, plain))
     }
 }
 
@@ -130,11 +130,11 @@ fn is_of_nothing(pattern: &[u8]) -> bool
     pattern.is_empty() || pattern[pattern.len() - 1] == b'/'
 }
 
-fn form_of(pattern: &[u8]) -> Form
+fn form_of(pattern: &[u8]) -> PatternForm
     ensures { IsForm result pattern.now }
 {
     if is_of_nothing(pattern) {
-        Form::Nothing
+        PatternForm::Nothing
     } else if pattern.contains(&b'/') {
         path_form(pattern)
     } else {
@@ -191,20 +191,20 @@ fn has_known(known: Known, pattern: &[u8], text: &[u8]) -> bool
 }
 
 /// Whether a pattern of that form matches a path with that last part.
-fn answer(form: Form, pattern: &[u8], path: &[u8], name: &[u8]) -> bool
+fn answer(form: PatternForm, pattern: &[u8], path: &[u8], name: &[u8]) -> bool
     requires { passed_by form ≤ length pattern.now }
     ensures { result ≡ answer form pattern.now path.now name.now }
 {
     match form {
-        Form::Nothing => false,
-        Form::Name => pattern == name,
-        Form::Ending => {
+        PatternForm::Nothing => false,
+        PatternForm::Name => pattern == name,
+        PatternForm::Ending => {
             let (_, ending) = pattern.split_at(1);
             ends(name, ending)
         }
-        Form::InName(known) => has_known(known, pattern, name) && fits(pattern, false, name),
-        Form::Path => without_slash(pattern) == path,
-        Form::InPath(known) => {
+        PatternForm::InName(known) => has_known(known, pattern, name) && fits(pattern, false, name),
+        PatternForm::Path => without_slash(pattern) == path,
+        PatternForm::InPath(known) => {
             let whole = without_slash(pattern);
             has_known(known, whole, path) && fits(whole, true, path)
         }
@@ -215,7 +215,7 @@ fn answer(form: Form, pattern: &[u8], path: &[u8], name: &[u8]) -> bool
 #[derive(Drop)]
 pub struct Compiled {
     pattern: Bytes,
-    form: Form,
+    form: PatternForm,
 }
 
 impl Model for Compiled {

@@ -5,7 +5,7 @@ ghost use Rattle.wild_match.specs.Fits.{fits, is_match, is_slash, last_part, wit
 ghost use Rattle.wild_match.specs.Pieces.{is_folders, is_rest, pieces};
 ghost use Rattle.wild_match.specs.Steps.{IsPart, next_folder, seen_back};
 
-use crate::part::{Part, Place, part_from};
+use crate::part::{PartEnd, Remaining, part_from};
 use memchr::memrchr;
 
 fn is_folders(pattern: &[u8]) -> bool
@@ -21,23 +21,23 @@ fn is_rest(pattern: &[u8]) -> bool
 }
 
 /// Goes over `**/`, over `**` at the end, or over one part. The first two are these only at the start of a part.
-fn fresh_part<'a>(at: Place<'a>, fresh: bool) -> Part<'a>
+fn fresh_part<'a>(at: Remaining<'a>, fresh: bool) -> PartEnd<'a>
     ensures { IsPart (pieces fresh at.entry.pattern.now) at.entry.pattern.now at.entry.path.now result }
 {
     let (pattern, path) = (at.pattern, at.path);
     if fresh {
         if is_folders(pattern) {
             let (_, later) = pattern.split_at(3);
-            return Part::Folders(Place {
+            return PartEnd::Folders(Remaining {
                 pattern: later,
                 path,
             });
         }
         if is_rest(pattern) {
             return if path.is_empty() {
-                Part::Stuck
+                PartEnd::Stuck
             } else {
-                Part::Matched
+                PartEnd::Matched
             };
         }
     }
@@ -52,14 +52,14 @@ fn slash_at(text: &[u8]) -> Option<usize>
 }
 
 /// Where what follows `**/` is tried next, which is after the next `/`.
-fn next_folder<'a>(back: Option<Place<'a>>) -> Option<Place<'a>>
+fn next_folder<'a>(back: Option<Remaining<'a>>) -> Option<Remaining<'a>>
     ensures { seen_back result ≡ next_folder (seen_back back.entry) }
 {
     let tried = back?;
     match slash_at(tried.path) {
         Some(slash) => {
             let (_, path) = tried.path.split_at(slash + 1);
-            Some(Place {
+            Some(Remaining {
                 pattern: tried.pattern,
                 path,
             })
@@ -75,18 +75,18 @@ fn next_folder<'a>(back: Option<Place<'a>>) -> Option<Place<'a>>
 pub fn fits(pattern: &[u8], fresh: bool, path: &[u8]) -> bool
     ensures { result ≡ fits (pieces fresh pattern.now) path.now }
 {
-    let mut at = Place { pattern, path };
+    let mut at = Remaining { pattern, path };
     let mut is_fresh = fresh;
     let mut back = None;
     'parts: loop {
         match fresh_part(at, is_fresh) {
-            Part::Folders(later) => {
+            PartEnd::Folders(later) => {
                 at = later;
                 back = Some(later);
             }
-            Part::Behind(later) => at = later,
-            Part::Matched => return true,
-            Part::Stuck => match next_folder(back) {
+            PartEnd::Behind(later) => at = later,
+            PartEnd::Matched => return true,
+            PartEnd::Stuck => match next_folder(back) {
                 Some(next) => {
                     at = next;
                     back = Some(next);

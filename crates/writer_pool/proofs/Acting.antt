@@ -14,9 +14,9 @@ use Rattle.checkout_core.specs.declared.path.Start.{Start}
 use Rattle.checkout_core.specs.declared.path.Start.TheVariants.{Desk}
 use Rattle.checkout_core.specs.Desks.{paths_of}
 use Rattle.checkout_core.specs.Notes.{noted, notes}
-use Rattle.checkout_book.specs.declared.plan.Plan.{Plan}
+use Rattle.checkout_book.specs.declared.plan.BookPlan.{BookPlan}
 use Rattle.checkout_book.specs.declared.plan.Parts.{Parts}
-use Rattle.checkout_book.specs.declared.plan.Entry.{Entry}
+use Rattle.checkout_book.specs.declared.plan.HistoryEntry.{HistoryEntry}
 use Rattle.checkout_book.specs.Sights.{Sight, seen}
 use Rattle.checkout_book.specs.Shelves.{cards_of}
 use Rattle.checkout_book.specs.Reserving.{AreIdle}
@@ -47,26 +47,26 @@ card_there (x ∷ ws) zero w at = ap (λ (y : WorkSeen). Some y.card) (some_is x
 card_there (x ∷ ws) (suc k) w at = card_there ws k w at
 
 -- a Close among what an actor did in turns, behind other entries, was claimed before
-pub turn_claim : (first more : List Entry) (i j p a : ℕ) (o : Own) → AreTurns (own_events more) → length first + i ≡ j
+pub turn_claim : (first more : List HistoryEntry) (i j p a : ℕ) (o : Own) → AreTurns (own_events more) → length first + i ≡ j
     → slice_get (own_events more) i ≡ Some (Close p a o)
     → (k : ℕ) × (k < j) × (slice_get (own_events (first ++ more)) k ≡ Some (Claim p a))
 turn_claim first more i j p a o turns place at =
     let t = turns_claimed (own_events more) i p a o turns at in
-    let c = get_map_back (λ (z : Entry). z.event) more t.0 (Claim p a) t.2 in
+    let c = get_map_back (λ (z : HistoryEntry). z.event) more t.0 (Claim p a) t.2 in
     let before = t.1 in (
       length first + t.0,
       omega (arith, before, place),
-      get_map (λ (z : Entry). z.event) (first ++ more) (length first + t.0) c.0 (get_second first more t.0 ∙ c.1)
+      get_map (λ (z : HistoryEntry). z.event) (first ++ more) (length first + t.0) c.0 (get_second first more t.0 ∙ c.1)
           ∙ ap (λ (z : Event). Some z) c.2,
     )
 
 module _ {B L : Type 0} (see : Sight B L) where
-  pub shown_each : (cards : List (Card B L)) (es : List Entry) (i : ℕ) (e : Entry) → AreShown see cards es
+  pub shown_each : (cards : List (Card B L)) (es : List HistoryEntry) (i : ℕ) (e : HistoryEntry) → AreShown see cards es
       → slice_get es i ≡ Some e → IsShown see cards e.event e.parts
   shown_each cards [] i e all at = absurd (cc (at))
   shown_each cards (x ∷ es) zero e all at =
       let is : x ≡ e = cc (at) in
-      subst (λ (y : Entry). IsShown see cards y.event y.parts) is all.0
+      subst (λ (y : HistoryEntry). IsShown see cards y.event y.parts) is all.0
   shown_each cards (x ∷ es) (suc i) e all at = shown_each cards es i e all.1 at
 
   shown_parts : (cards : List (Card B L)) (e : Event) (parts : Option Parts) (p a : ℕ) (o : Own) → e ≡ Close p a o
@@ -82,14 +82,14 @@ module _ {B L : Type 0} (see : Sight B L) where
       go (Some x) h = (x, refl, h.0, h.1, h.2, h.3, h.4)
 
   -- it shows how the writing ended
-  pub work_shown : (d : Plan B L) (first more : List Entry) → AreTurns (own_events more)
-      → AreShown see (cards_of d) more → (i j : ℕ) (e : Entry) (p a : ℕ) (o : Own) → length first + i ≡ j
+  pub work_shown : (d : BookPlan B L) (first more : List HistoryEntry) → AreTurns (own_events more)
+      → AreShown see (cards_of d) more → (i j : ℕ) (e : HistoryEntry) (p a : ℕ) (o : Own) → length first + i ≡ j
       → slice_get more i ≡ Some e → e.event ≡ Close p a o
       → ShowsEnd see d (own_events (first ++ more)) j p a o e.parts
   work_shown d first more turns shown i j e p a o place at is =
       let w = shown_parts (cards_of d) e.event e.parts p a o is (shown_each (cards_of d) more i e shown at) in
       let t = turn_claim first more i j p a o turns place
-      (get_map (λ (z : Entry). z.event) more i e at ∙ ap (λ (z : Event). Some z) is) in
+      (get_map (λ (z : HistoryEntry). z.event) more i e at ∙ ap (λ (z : Event). Some z) is) in
       record {
         ended = w.0;
         there = w.1;
@@ -101,22 +101,22 @@ module _ {B L : Type 0} (see : Sight B L) where
         desk = λ q required from. absurd (from.unclaimed t.0 t.1 t.2);
       }
 
-  pub is_back : (lock : TableId) (d : Plan B L) (n made : ℕ) (s t : SeatView Entry (Plan B L)) → n < d.workers
+  pub is_back : (lock : TableId) (d : BookPlan B L) (n made : ℕ) (s t : SeatView HistoryEntry (BookPlan B L)) → n < d.workers
       → mine_of s ≡ [] → Idled see lock d n made s t → IsBack see lock d n made t
   is_back lock d n made s t worker fresh idled =
       let mine : mine_of t ≡ idled.worked.more =
-      idled.worked.mine ∙ ap (λ (l : List Entry). l ++ idled.worked.more) fresh in
+      idled.worked.mine ∙ ap (λ (l : List HistoryEntry). l ++ idled.worked.more) fresh in
       record {
         nothing = idled.worked.nothing;
         shown = subst (IsShownAll see d) (sym mine) (λ i e p a o at is.
             work_shown d [] idled.worked.more idled.worked.turns idled.worked.shown i i e p a o (omega arith) at is);
         backs = λ i p q required at begun.
             absurd (turns_back (own_events idled.worked.more) i p idled.worked.turns
-            (ap (λ (l : List Entry). slice_get (own_events l) i) (sym mine) ∙ at));
+            (ap (λ (l : List HistoryEntry). slice_get (own_events l) i) (sym mine) ∙ at));
         left = λ q p lt desk own. absurd (omega (arith, worker, desk));
       }
 
-  pub job_at : (lock : TableId) (d : Plan B L) (k made : ℕ) (js : List (JobSeen B L)) (i : ℕ) (j : JobSeen B L)
+  pub job_at : (lock : TableId) (d : BookPlan B L) (k made : ℕ) (js : List (JobSeen B L)) (i : ℕ) (j : JobSeen B L)
       → AreJobs see lock d k made js → slice_get js i ≡ Some j → (m : ℕ) × IsJob see lock d (k + i) m j
   job_at lock d k made [] i j a e = absurd (cc (e))
   job_at lock d k made (x ∷ js) zero j a e =
@@ -128,13 +128,13 @@ module _ {B L : Type 0} (see : Sight B L) where
       let n : suc k + i ≡ k + suc i = omega arith in
       (r.0, subst (λ q. IsJob see lock d q r.0 j) n r.1)
 
-  pub back_idle : (lock : TableId) (d : Plan B L) (k made : ℕ) (ts : List (SeatView Entry (Plan B L)))
+  pub back_idle : (lock : TableId) (d : BookPlan B L) (k made : ℕ) (ts : List (SeatView HistoryEntry (BookPlan B L)))
       → AreBack see lock d k made ts → AreIdle lock d k made ts
   back_idle lock d k made [] a = tt
   back_idle lock d k made (t ∷ ts) a = (a.0.nothing, back_idle lock d (suc k) 0 ts a.1)
 
-  pub back_at : (lock : TableId) (d : Plan B L) (k made : ℕ) (ts : List (SeatView Entry (Plan B L))) (i : ℕ)
-      (t : SeatView Entry (Plan B L)) → AreBack see lock d k made ts → slice_get ts i ≡ Some t
+  pub back_at : (lock : TableId) (d : BookPlan B L) (k made : ℕ) (ts : List (SeatView HistoryEntry (BookPlan B L))) (i : ℕ)
+      (t : SeatView HistoryEntry (BookPlan B L)) → AreBack see lock d k made ts → slice_get ts i ≡ Some t
       → (m : ℕ) × IsBack see lock d (k + i) m t
   back_at lock d k made [] i t a e = absurd (cc (e))
   back_at lock d k made (x ∷ ts) zero t a e =
@@ -147,7 +147,7 @@ module _ {B L : Type 0} (see : Sight B L) where
       (r.0, subst (λ j. IsBack see lock d j r.0 t) n r.1)
 
 module _ {S B L : Type 0} (starter : S → StarterSeen) (see : Sight B L) where
-  pub through_all : (lock : TableId) (d : Plan B L) (k made : ℕ) (js : List (JobSeen B L)) (ts : List (EndSeen S B L))
+  pub through_all : (lock : TableId) (d : BookPlan B L) (k made : ℕ) (js : List (JobSeen B L)) (ts : List (EndSeen S B L))
       → length ts ≡ length js → AreJobs see lock d k made js
       → ((i m : ℕ) (j : JobSeen B L) → slice_get js i ≡ Some j → IsJob see lock d (k + i) m j
       → (t : EndSeen S B L) × (slice_get ts i ≡ Some t) × IsThroughJob starter see lock d (k + i) m j t)
@@ -168,14 +168,14 @@ module _ {S B L : Type 0} (starter : S → StarterSeen) (see : Sight B L) where
       )
 
   -- the passes are back
-  pub passes_back : (lock : TableId) (d : Plan B L) (k made : ℕ) (js : List (JobSeen B L)) (ts : List (EndSeen S B L))
+  pub passes_back : (lock : TableId) (d : BookPlan B L) (k made : ℕ) (js : List (JobSeen B L)) (ts : List (EndSeen S B L))
       → AreThroughJobs starter see lock d k made js ts → AreBack see lock d k made (passes_in ts)
   passes_back lock d k made [] [] h = tt
   passes_back lock d k made [] (t ∷ ts) h = absurd h
   passes_back lock d k made (j ∷ js) [] h = absurd h
   passes_back lock d k made (j ∷ js) (t ∷ ts) h = (h.0.back, passes_back lock d (suc k) 0 js ts h.1)
 
-  pub passes_length : (lock : TableId) (d : Plan B L) (k made : ℕ) (js : List (JobSeen B L))
+  pub passes_length : (lock : TableId) (d : BookPlan B L) (k made : ℕ) (js : List (JobSeen B L))
       (ts : List (EndSeen S B L)) → AreThroughJobs starter see lock d k made js ts
       → (length ts ≡ length js) × (length (passes_in ts) ≡ length js)
   passes_length lock d k made [] [] h = (refl, refl)
@@ -186,7 +186,7 @@ module _ {S B L : Type 0} (starter : S → StarterSeen) (see : Sight B L) where
       (ap suc r.0, ap suc r.1)
 
   -- each desk's starter is back
-  desks_count : (lock : TableId) (d : Plan B L) (k made workers q : ℕ) (xs : List (DeskSeed S B L))
+  desks_count : (lock : TableId) (d : BookPlan B L) (k made workers q : ℕ) (xs : List (DeskSeed S B L))
       (js : List (JobSeen B L)) (ts : List (EndSeen S B L)) → AreSeedJobs starter see workers q xs js
       → AreThroughJobs starter see lock d k made js ts → length (served_in ts) ≡ length xs
   desks_count lock d k made workers q [] [] [] a h = refl
@@ -207,7 +207,7 @@ module _ {S B L : Type 0} (starter : S → StarterSeen) (see : Sight B L) where
       go more None l = absurd l
       go more (Some s) l = ap suc more
 
-  pub served_count : (lock : TableId) (d : Plan B L) (k made workers n : ℕ) (xs : List (DeskSeed S B L))
+  pub served_count : (lock : TableId) (d : BookPlan B L) (k made workers n : ℕ) (xs : List (DeskSeed S B L))
       (js : List (JobSeen B L)) (ts : List (EndSeen S B L)) → AreActors starter see n workers xs js
       → AreThroughJobs starter see lock d k made js ts → length (served_in ts) ≡ length xs
   served_count lock d k made workers zero xs js ts a h = desks_count lock d k made workers 0 xs js ts a h
@@ -225,7 +225,7 @@ module _ {S B L : Type 0} (starter : S → StarterSeen) (see : Sight B L) where
 
   -- by the history and the leaves, its own list has the notes of its driver, and the leaves that it sealed, and a work
   -- that ended there as its object gave says did so in the history
-  pub record Tells (starts : List Start) (history : List Event) (leaves : List L) (q : ℕ) (mine : List Entry)
+  pub record Tells (starts : List Start) (history : List Event) (leaves : List L) (q : ℕ) (mine : List HistoryEntry)
       : Type 0 where
     pub notes_are : notes starts q history ≡ noted (own_events mine)
     pub seals : (p : ℕ) (leaf : LeafSeen) → EndsAt see starts history (leaf_at starts leaves) q p leaf
@@ -250,7 +250,7 @@ module _ {S B L : Type 0} (starter : S → StarterSeen) (see : Sight B L) where
       × AreTalks starts history q (map (λ s. s.talk) left)
 
   -- and has talked so
-  desks_back : (lock : TableId) (d : Plan B L) (k made workers q : ℕ) (xs : List (DeskSeed S B L))
+  desks_back : (lock : TableId) (d : BookPlan B L) (k made workers q : ℕ) (xs : List (DeskSeed S B L))
       (js : List (JobSeen B L)) (ts : List (EndSeen S B L)) (starts : List Start) (history : List Event)
       (leaves : List L)
       → AreSeedJobs starter see workers q xs js → AreThroughJobs starter see lock d k made js ts
@@ -298,7 +298,7 @@ module _ {S B L : Type 0} (starter : S → StarterSeen) (see : Sight B L) where
         (l.talk ∙ sym own.notes_are, more.1),
       )
 
-  pub starters_back : (lock : TableId) (d : Plan B L) (k made workers n : ℕ) (xs : List (DeskSeed S B L))
+  pub starters_back : (lock : TableId) (d : BookPlan B L) (k made workers n : ℕ) (xs : List (DeskSeed S B L))
       (js : List (JobSeen B L)) (ts : List (EndSeen S B L)) (starts : List Start) (history : List Event)
       (leaves : List L)
       → AreActors starter see n workers xs js → AreThroughJobs starter see lock d k made js ts

@@ -15,7 +15,7 @@ use Rattle.checkout_core.specs.Fates.{Untold, fate_of}
 use Rattle.checkout_core.specs.Notes.{is_noted, noted, is_note, notes}
 use Rattle.checkout_book.specs.declared.plan.Parts.{Parts}
 use Rattle.checkout_book.specs.declared.shelf.Slot.{Slot}
-use Rattle.checkout_book.specs.declared.plan.Entry.{Entry}
+use Rattle.checkout_book.specs.declared.plan.HistoryEntry.{HistoryEntry}
 use Rattle.checkout_book.specs.Entries.{number_or, number_in, entry_of, entries}
 use Rattle.writer_pool.specs.Writing.{WritesCard}
 use Rattle.writer_pool.specs.Closing.{IsFromBook, IsFromDesk, ServesCard, EndsAtDesk, EndsCard}
@@ -73,7 +73,7 @@ module _ {B L : Type 0} (tells : B → L → Parts) where
   own_notes starts workers d slots (e ∷ es) =
       go (number_in starts workers e == workers + d) refl (own_notes starts workers d slots es)
     where
-      mine : List Entry
+      mine : List HistoryEntry
       mine = own (workers + d) (entries tells starts workers slots es)
 
       go : (b : Bool) → (number_in starts workers e == workers + d) ≡ b

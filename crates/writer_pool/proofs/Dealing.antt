@@ -13,8 +13,8 @@ use Rattle.checkout_core.specs.declared.path.Start.TheVariants.{Desk}
 use Rattle.checkout_core.specs.States.{AreBelow, is_at}
 use Rattle.checkout_core.specs.Desks.{paths_of}
 use Rattle.checkout_core.specs.Talks.{contains}
-use Rattle.checkout_book.specs.declared.plan.Plan.{Plan}
-use Rattle.checkout_book.specs.declared.plan.Entry.{Entry}
+use Rattle.checkout_book.specs.declared.plan.BookPlan.{BookPlan}
+use Rattle.checkout_book.specs.declared.plan.HistoryEntry.{HistoryEntry}
 use Rattle.checkout_book.specs.Sights.{Sight, seen}
 use Rattle.checkout_book.specs.Shelves.{cards_of, joined}
 use Rattle.checkout_book.specs.Reserving as book
@@ -124,7 +124,7 @@ module _ {S B L : Type 0} (starter : S → StarterSeen) (see : Sight B L) where
   )
 
   -- the desk of a seed is dealt what its actor's standing says
-  seed_fits : (d : Plan B L) (xs : List (DeskSeed S B L)) (i : ℕ) (x : DeskSeed S B L)
+  seed_fits : (d : BookPlan B L) (xs : List (DeskSeed S B L)) (i : ℕ) (x : DeskSeed S B L)
       → AreBelow d.drivers d.starts.items → d.drivers ≡ length xs → d.desks.items ≡ map (λ x. x.cards) xs
       → IsSeed starter d.starts.items i x → slice_get xs i ≡ Some x
       → FitsActor see d (d.workers + i) (Some (record {
@@ -160,11 +160,11 @@ module _ {S B L : Type 0} (starter : S → StarterSeen) (see : Sight B L) where
   same_cards h v is = ap (λ (w : Vec (Card B L)). w.items) is
 
   -- the jobs of the desks
-  desk_part : (lock : TableId) (d : Plan B L) (k made q : ℕ) (xs : List (DeskSeed S B L))
-      (dealt : List (SeatView Entry (Plan B L) × Vec (Card B L)))
-      → map (λ (y : SeatView Entry (Plan B L) × Vec (Card B L)). y.1) dealt ≡ map (λ x. x.cards) xs
-      → AreIdle lock d k made (map (λ (y : SeatView Entry (Plan B L) × Vec (Card B L)). y.0) dealt)
-      → AreFresh (map (λ (y : SeatView Entry (Plan B L) × Vec (Card B L)). y.0) dealt) → k ≡ d.workers + q
+  desk_part : (lock : TableId) (d : BookPlan B L) (k made q : ℕ) (xs : List (DeskSeed S B L))
+      (dealt : List (SeatView HistoryEntry (BookPlan B L) × Vec (Card B L)))
+      → map (λ (y : SeatView HistoryEntry (BookPlan B L) × Vec (Card B L)). y.1) dealt ≡ map (λ x. x.cards) xs
+      → AreIdle lock d k made (map (λ (y : SeatView HistoryEntry (BookPlan B L) × Vec (Card B L)). y.0) dealt)
+      → AreFresh (map (λ (y : SeatView HistoryEntry (BookPlan B L) × Vec (Card B L)). y.0) dealt) → k ≡ d.workers + q
       → book.AreNew see (cards_of d) → AreDealt d.starts.items 0 d.desks.items
       → ((i : ℕ) (x : DeskSeed S B L) → slice_get xs i ≡ Some x
       → FitsActor see d (d.workers + (q + i)) (Some (record {
@@ -177,7 +177,7 @@ module _ {S B L : Type 0} (starter : S → StarterSeen) (see : Sight B L) where
   desk_part lock d k made q (x ∷ xs) (y ∷ dealt) same idle fresh is new deal fits =
       let z : q + 0 ≡ q = omega arith in
       let first : y.1 ≡ x.cards = cc (same) in
-      let rest : map (λ (y : SeatView Entry (Plan B L) × Vec (Card B L)). y.1) dealt ≡ map (λ x. x.cards) xs =
+      let rest : map (λ (y : SeatView HistoryEntry (BookPlan B L) × Vec (Card B L)). y.1) dealt ≡ map (λ x. x.cards) xs =
       cc (same) in
       let here = subst (λ (j : ℕ). FitsActor see d (d.workers + j) (Some (record {
         required = x.required;
@@ -205,16 +205,16 @@ module _ {S B L : Type 0} (starter : S → StarterSeen) (see : Sight B L) where
             }))) s (fits (suc i) w at)),
       )
 
-  jobs_part : (lock : TableId) (d : Plan B L) (k made : ℕ) (ps : List (SeatView Entry (Plan B L)))
-      (xs : List (DeskSeed S B L)) (dealt : List (SeatView Entry (Plan B L) × Vec (Card B L)))
-      → map (λ (y : SeatView Entry (Plan B L) × Vec (Card B L)). y.1) dealt ≡ map (λ x. x.cards) xs
-      → AreIdle lock d k made (ps ++ map (λ (y : SeatView Entry (Plan B L) × Vec (Card B L)). y.0) dealt)
-      → AreFresh (ps ++ map (λ (y : SeatView Entry (Plan B L) × Vec (Card B L)). y.0) dealt)
+  jobs_part : (lock : TableId) (d : BookPlan B L) (k made : ℕ) (ps : List (SeatView HistoryEntry (BookPlan B L)))
+      (xs : List (DeskSeed S B L)) (dealt : List (SeatView HistoryEntry (BookPlan B L) × Vec (Card B L)))
+      → map (λ (y : SeatView HistoryEntry (BookPlan B L) × Vec (Card B L)). y.1) dealt ≡ map (λ x. x.cards) xs
+      → AreIdle lock d k made (ps ++ map (λ (y : SeatView HistoryEntry (BookPlan B L) × Vec (Card B L)). y.0) dealt)
+      → AreFresh (ps ++ map (λ (y : SeatView HistoryEntry (BookPlan B L) × Vec (Card B L)). y.0) dealt)
       → k + length ps ≡ d.workers → book.AreNew see (cards_of d) → AreDealt d.starts.items 0 d.desks.items
       → ((i : ℕ) (x : DeskSeed S B L) → slice_get xs i ≡ Some x → FitsActor see d (d.workers + i) (Some (record {
         required = x.required;
         desk = desk_of starter see d.workers i (head_of x) x.cards.items;
-      }))) → AreJobs see lock d k made (map (λ (p : SeatView Entry (Plan B L)). record { pass = p; desk = None }) ps
+      }))) → AreJobs see lock d k made (map (λ (p : SeatView HistoryEntry (BookPlan B L)). record { pass = p; desk = None }) ps
       ++ desk_jobs starter see d.workers 0 (map (λ x. head_of x) xs) dealt)
   jobs_part lock d k made [] xs dealt same idle fresh is new deal fits =
       desk_part lock d k made 0 xs dealt same idle fresh (omega (arith, is)) new deal (λ i x at.
@@ -234,14 +234,14 @@ module _ {S B L : Type 0} (starter : S → StarterSeen) (see : Sight B L) where
     jobs_part lock d (suc k) 0 ps xs dealt same idle.1 fresh.2 (omega (arith, is)) new deal fits,
   )
 
-  pub jobs_are : (lock : TableId) (d : Plan B L) (made : ℕ) (ps : List (SeatView Entry (Plan B L)))
-      (xs : List (DeskSeed S B L)) (dealt : List (SeatView Entry (Plan B L) × Vec (Card B L)))
-      → map (λ (y : SeatView Entry (Plan B L) × Vec (Card B L)). y.1) dealt ≡ d.desks.items
-      → AreIdle lock d 0 made (ps ++ map (λ (y : SeatView Entry (Plan B L) × Vec (Card B L)). y.0) dealt)
-      → AreFresh (ps ++ map (λ (y : SeatView Entry (Plan B L) × Vec (Card B L)). y.0) dealt)
+  pub jobs_are : (lock : TableId) (d : BookPlan B L) (made : ℕ) (ps : List (SeatView HistoryEntry (BookPlan B L)))
+      (xs : List (DeskSeed S B L)) (dealt : List (SeatView HistoryEntry (BookPlan B L) × Vec (Card B L)))
+      → map (λ (y : SeatView HistoryEntry (BookPlan B L) × Vec (Card B L)). y.1) dealt ≡ d.desks.items
+      → AreIdle lock d 0 made (ps ++ map (λ (y : SeatView HistoryEntry (BookPlan B L) × Vec (Card B L)). y.0) dealt)
+      → AreFresh (ps ++ map (λ (y : SeatView HistoryEntry (BookPlan B L) × Vec (Card B L)). y.0) dealt)
       → length ps ≡ d.workers → book.AreNew see (cards_of d) → AreSeeds starter d.starts.items 0 xs
       → AreBelow d.drivers d.starts.items → d.drivers ≡ length xs → d.desks.items ≡ map (λ x. x.cards) xs
-      → AreJobs see lock d 0 made (map (λ (p : SeatView Entry (Plan B L)). record { pass = p; desk = None }) ps
+      → AreJobs see lock d 0 made (map (λ (p : SeatView HistoryEntry (BookPlan B L)). record { pass = p; desk = None }) ps
       ++ desk_jobs starter see d.workers 0 (map (λ x. head_of x) xs) dealt)
   jobs_are lock d made ps xs dealt same idle fresh count new seeds below drivers desks =
       jobs_part lock d 0 made ps xs dealt (same ∙ desks) idle fresh (omega (arith, count)) new
@@ -252,15 +252,15 @@ module _ {S B L : Type 0} (starter : S → StarterSeen) (see : Sight B L) where
 
   -- they are made of their seeds
   seed_jobs : (workers q : ℕ) (xs : List (DeskSeed S B L))
-      (dealt : List (SeatView Entry (Plan B L) × Vec (Card B L)))
-      → map (λ (y : SeatView Entry (Plan B L) × Vec (Card B L)). y.1) dealt ≡ map (λ x. x.cards) xs
+      (dealt : List (SeatView HistoryEntry (BookPlan B L) × Vec (Card B L)))
+      → map (λ (y : SeatView HistoryEntry (BookPlan B L) × Vec (Card B L)). y.1) dealt ≡ map (λ x. x.cards) xs
       → AreSeedJobs starter see workers q xs (desk_jobs starter see workers q (map (λ x. head_of x) xs) dealt)
   seed_jobs workers q [] [] same = tt
   seed_jobs workers q [] (y ∷ dealt) same = absurd (cc (same))
   seed_jobs workers q (x ∷ xs) [] same = absurd (cc (same))
   seed_jobs workers q (x ∷ xs) (y ∷ dealt) same =
       let first : y.1 ≡ x.cards = cc (same) in
-      let rest : map (λ (y : SeatView Entry (Plan B L) × Vec (Card B L)). y.1) dealt ≡ map (λ x. x.cards) xs =
+      let rest : map (λ (y : SeatView HistoryEntry (BookPlan B L) × Vec (Card B L)). y.1) dealt ≡ map (λ x. x.cards) xs =
       cc (same) in (
         ap (λ (v : Vec (Card B L)). Some (record {
           required = x.required;
@@ -269,11 +269,11 @@ module _ {S B L : Type 0} (starter : S → StarterSeen) (see : Sight B L) where
         seed_jobs workers (suc q) xs dealt rest,
       )
 
-  pub actors_are : (n workers : ℕ) (ps : List (SeatView Entry (Plan B L))) (xs : List (DeskSeed S B L))
-      (dealt : List (SeatView Entry (Plan B L) × Vec (Card B L)))
-      → map (λ (y : SeatView Entry (Plan B L) × Vec (Card B L)). y.1) dealt ≡ map (λ x. x.cards) xs → length ps ≡ n
+  pub actors_are : (n workers : ℕ) (ps : List (SeatView HistoryEntry (BookPlan B L))) (xs : List (DeskSeed S B L))
+      (dealt : List (SeatView HistoryEntry (BookPlan B L) × Vec (Card B L)))
+      → map (λ (y : SeatView HistoryEntry (BookPlan B L) × Vec (Card B L)). y.1) dealt ≡ map (λ x. x.cards) xs → length ps ≡ n
       → AreActors starter see n workers xs
-      (map (λ (p : SeatView Entry (Plan B L)). record { pass = p; desk = None }) ps
+      (map (λ (p : SeatView HistoryEntry (BookPlan B L)). record { pass = p; desk = None }) ps
       ++ desk_jobs starter see workers 0 (map (λ x. head_of x) xs) dealt)
   actors_are zero workers [] xs dealt same count = seed_jobs workers 0 xs dealt same
   actors_are zero workers (p ∷ ps) xs dealt same count = absurd (omega (arith, count))
@@ -282,7 +282,7 @@ module _ {S B L : Type 0} (starter : S → StarterSeen) (see : Sight B L) where
       (refl, actors_are n workers ps xs dealt same (omega (arith, count)))
 
   pub desk_jobs_length : (workers q : ℕ) (hs : List (DeskHead S))
-      (dealt : List (SeatView Entry (Plan B L) × Vec (Card B L))) → length hs ≡ length dealt
+      (dealt : List (SeatView HistoryEntry (BookPlan B L) × Vec (Card B L))) → length hs ≡ length dealt
       → length (desk_jobs starter see workers q hs dealt) ≡ length dealt
   desk_jobs_length workers q [] [] same = refl
   desk_jobs_length workers q [] (y ∷ dealt) same = absurd (omega (arith, same))
@@ -292,14 +292,14 @@ module _ {S B L : Type 0} (starter : S → StarterSeen) (see : Sight B L) where
 
   -- one more desk is made, and its job is pushed
   pub desks_more : (w q : ℕ) (jobs new all : List (JobSeen B L)) (hs0 hs : List (DeskHead S))
-      (xs0 xs : List (SeatView Entry (Plan B L) × Vec (Card B L))) (head : DeskHead S) (required : Bool)
-      (x : SeatView Entry (Plan B L) × Vec (Card B L)) (desk : DeskView)
+      (xs0 xs : List (SeatView HistoryEntry (BookPlan B L) × Vec (Card B L))) (head : DeskHead S) (required : Bool)
+      (x : SeatView HistoryEntry (BookPlan B L) × Vec (Card B L)) (desk : DeskView)
       → jobs ++ desk_jobs starter see w q hs0 xs0 ≡ all → hs0 ≡ head ∷ hs → xs0 ≡ x ∷ xs
       → desk ≡ desk_of starter see w q head x.1.items → head.required ≡ required
       → new ≡ jobs ++ record { pass = x.0; desk = Some (record { required = required; desk = desk }) } ∷ []
       → new ++ desk_jobs starter see w (q + 1) hs xs ≡ all
   desks_more w q jobs new all hs0 hs xs0 xs head required x desk whole heads cards made same pushed =
-      let X : Type 0 = SeatView Entry (Plan B L) × Vec (Card B L) in
+      let X : Type 0 = SeatView HistoryEntry (BookPlan B L) × Vec (Card B L) in
       let view = desk_of starter see w q head x.1.items in
       let job : JobSeen B L = desk_job view x.0 in
       let more = desk_jobs starter see w (q + 1) hs xs in

@@ -9,7 +9,7 @@ use Rattle.checkout_core.specs.declared.path.Start.{Start}
 use Rattle.checkout_core.specs.declared.path.Start.TheVariants.{Pool, Desk, Done}
 use Rattle.checkout_core.specs.States.{is_at}
 use Rattle.checkout_core.specs.Desks.{paths_of}
-use Rattle.checkout_book.specs.declared.plan.Plan.{Plan}
+use Rattle.checkout_book.specs.declared.plan.BookPlan.{BookPlan}
 use Rattle.checkout_book.specs.Shelves.{cards_of, joined}
 use Rattle.checkout_book.specs.Reserving.{ArePool, AreDealt}
 use Rattle.writer_pool.proofs.Places.{some_is, same_number, get_map, get_map_back, get_either}
@@ -175,7 +175,7 @@ module _ {B L : Type 0} where
     ]
   ]
 
-  pub fitting : (d : Plan B L) → ArePool d.starts.items d.pool.items → AreDealt d.starts.items 0 d.desks.items
+  pub fitting : (d : BookPlan B L) → ArePool d.starts.items d.pool.items → AreDealt d.starts.items 0 d.desks.items
       → IsFitting d.starts.items (cards_of d)
   fitting d pool dealt =
       let starts = d.starts.items in

@@ -16,9 +16,9 @@ use Rattle.checkout_core.specs.declared.verdict.Own.{Own}
 use Rattle.checkout_core.specs.Fates.{Untold, fate_of}
 use Rattle.checkout_core.specs.Notes.{noted, notes}
 use Rattle.checkout_core.specs.Talks.{contains}
-use Rattle.checkout_book.specs.declared.plan.Plan.{Plan}
+use Rattle.checkout_book.specs.declared.plan.BookPlan.{BookPlan}
 use Rattle.checkout_book.specs.declared.plan.Parts.{Parts}
-use Rattle.checkout_book.specs.declared.plan.Entry.{Entry}
+use Rattle.checkout_book.specs.declared.plan.HistoryEntry.{HistoryEntry}
 use Rattle.checkout_book.specs.Shelves.{cards_of}
 use Rattle.checkout_book.specs.Sights.{Sight, seen}
 use Rattle.checkout_book.specs.Passes.{IsPass}
@@ -42,7 +42,7 @@ use Rattle.writer_pool.proofs.DeskClosings.{DeskClose, desk_closed, desk_refused
 
 module _ {B L : Type 0} where
   -- a desk's pass of a book that begins
-  unfoldable pub new_desk : (lock : TableId) (d : Plan B L) (n made : ℕ) (s : SeatView Entry (Plan B L)) → d.workers ≤ n
+  unfoldable pub new_desk : (lock : TableId) (d : BookPlan B L) (n made : ℕ) (s : SeatView HistoryEntry (BookPlan B L)) → d.workers ≤ n
       → AreDealt d.starts.items 0 d.desks.items → HasNothing lock d n made s → mine_of s ≡ [] → IsDeskPass lock s
   new_desk lock d n made s le dealt nothing fresh =
       let named : number_of s ≡ n = nothing.1.seat.named in
@@ -59,7 +59,7 @@ module _ {B L : Type 0} where
 
 module _ {B L : Type 0} (see : Sight B L) where
   -- a recorder stands for its pass
-  pub same_standing : (s t : SeatView Entry (Plan B L)) (required : Bool) (r : Recording B L)
+  pub same_standing : (s t : SeatView HistoryEntry (BookPlan B L)) (required : Bool) (r : Recording B L)
       → standing_of see r ≡ standing_of see (recording required s) → place_of r ≡ place_of (recording required s)
       → t ≡ r.pass → standing_of see (recording required t) ≡ standing_of see r
   same_standing s t required r standing place is =
@@ -67,20 +67,20 @@ module _ {B L : Type 0} (see : Sight B L) where
       let number = ap (λ (p : Place B L). p.number) place in
       let at : standing_of see (recording required r.pass) ≡ standing_of see (recording required s) =
       λ k. standing_at see (told k) (number k) required in
-      ap (λ (x : SeatView Entry (Plan B L)). standing_of see (recording required x)) is ∙ (at ∙ sym standing)
+      ap (λ (x : SeatView HistoryEntry (BookPlan B L)). standing_of see (recording required x)) is ∙ (at ∙ sym standing)
 
   -- what it was given is what its pass lists
-  pub same_given : (s t : SeatView Entry (Plan B L)) (required : Bool) (r : Recording B L)
+  pub same_given : (s t : SeatView HistoryEntry (BookPlan B L)) (required : Bool) (r : Recording B L)
       → standing_of see r ≡ standing_of see (recording required s) → place_of r ≡ place_of (recording required s)
       → t ≡ r.pass → given_of see r ≡ given_of see (recording required t)
   same_given s t required r standing place is =
       sym (ap (λ (x : Standing). given_in x.cards (mine_of t)) (same_standing s t required r standing place is)
-      ∙ ap (λ (x : SeatView Entry (Plan B L)). given_in (standing_of see r).cards (mine_of x)) is)
+      ∙ ap (λ (x : SeatView HistoryEntry (BookPlan B L)). given_in (standing_of see r).cards (mine_of x)) is)
 
-  pub none_given : (s : SeatView Entry (Plan B L)) (required : Bool) (r : Recording B L)
+  pub none_given : (s : SeatView HistoryEntry (BookPlan B L)) (required : Bool) (r : Recording B L)
       → r ≡ record { pass = s; required = required } → mine_of s ≡ [] → given_of see r ≡ []
   none_given s required r is fresh =
-      ap (λ (l : List Entry). given_in (standing_of see r).cards l)
+      ap (λ (l : List HistoryEntry). given_in (standing_of see r).cards l)
       (ap (λ (x : Recording B L). mine_of x.pass) is ∙ fresh)
 
 no_claim_at : (es : List Event) (j p a : ℕ) → NoClaims es → slice_get es j ≡ Some (Claim p a) → ⊥
@@ -128,21 +128,21 @@ times_left s (HandedBack q ∷ gs) p some =
 
 module _ {B L : Type 0} (see : Sight B L) where
   -- what the desk gave has no claim, and closes no path of the pool
-  not_from_book : (d : Plan B L) (q : ℕ) (first more : List Entry) (i p a : ℕ) → NoClaims (own_events first)
+  not_from_book : (d : BookPlan B L) (q : ℕ) (first more : List HistoryEntry) (i p a : ℕ) → NoClaims (own_events first)
       → driver_at d.starts.items p ≡ Some q → i < length first
       → IsFromBook d.starts.items (own_events (first ++ more)) i p a → ⊥
   not_from_book d q first more i p a free driver lt from = ⊎_elim
       (λ (pool : slice_get d.starts.items p ≡ Some Pool). pool_free d.starts.items q p driver pool)
       (λ (claim : (j : ℕ) × (j < i) × (slice_get (own_events (first ++ more)) j ≡ Some (Claim p a))).
       let less = claim.1 in
-      let x = get_map_back (λ (z : Entry). z.event) (first ++ more) claim.0 (Claim p a) claim.2 in
+      let x = get_map_back (λ (z : HistoryEntry). z.event) (first ++ more) claim.0 (Claim p a) claim.2 in
       let there = sym (get_within first more claim.0 (omega (arith, less, lt))) ∙ x.1 in
       no_claim_at (own_events first) claim.0 p a free
-      (get_map (λ (z : Entry). z.event) first claim.0 x.0 there ∙ ap (λ (z : Event). Some z) x.2))
+      (get_map (λ (z : HistoryEntry). z.event) first claim.0 x.0 there ∙ ap (λ (z : Event). Some z) x.2))
       from
 
   -- a Close that the desk gave shows how the desk served the card
-  first_shown : (d : Plan B L) (q : ℕ) (first more : List Entry) (i p a : ℕ) (o : Own) (parts : Option Parts)
+  first_shown : (d : BookPlan B L) (q : ℕ) (first more : List HistoryEntry) (i p a : ℕ) (o : Own) (parts : Option Parts)
       → NoClaims (own_events first) → noted (own_events more) ≡ [] → i < length first
       → DeskClose see d q (own_events first) p a o parts
       → ShowsEnd see d (own_events (first ++ more)) i p a o parts
@@ -156,7 +156,7 @@ module _ {B L : Type 0} (see : Sight B L) where
     ends =
         let same : notes d.starts.items q (own_events first)
         ≡ notes d.starts.items q (own_events (first ++ more)) =
-        sym (ap (notes d.starts.items q) (map-append (λ (z : Entry). z.event) first more)
+        sym (ap (notes d.starts.items q) (map-append (λ (z : HistoryEntry). z.event) first more)
         ∙ notes_quiet d.starts.items q (own_events first) (own_events more) quiet) in
         inr (record {
           driver = q;
@@ -175,8 +175,8 @@ module _ {B L : Type 0} (see : Sight B L) where
         c.seat ∙ ap (λ (z : ℕ). d.workers + z) (some_is q k (sym c.driver ∙ begun));
   }
 
-  desk_shown : (d : Plan B L) (q : ℕ) (first more : List Entry) → NoClaims (own_events first)
-      → ((i : ℕ) (e : Entry) (p a : ℕ) (o : Own) → slice_get first i ≡ Some e → e.event ≡ Close p a o
+  desk_shown : (d : BookPlan B L) (q : ℕ) (first more : List HistoryEntry) → NoClaims (own_events first)
+      → ((i : ℕ) (e : HistoryEntry) (p a : ℕ) (o : Own) → slice_get first i ≡ Some e → e.event ≡ Close p a o
       → DeskClose see d q (own_events first) p a o e.parts)
       → noted (own_events more) ≡ [] → AreTurns (own_events more) → AreShown see (cards_of d) more
       → IsShownAll see d (first ++ more)
@@ -186,7 +186,7 @@ module _ {B L : Type 0} (see : Sight B L) where
       (λ le. work_shown see d first more turns shown (i - length first) i e p a o (omega (arith, le))
       (sym (get_behind first more i le) ∙ at) is)
 
-  pub standing_same : (s0 s : SeatView Entry (Plan B L)) (required : Bool)
+  pub standing_same : (s0 s : SeatView HistoryEntry (BookPlan B L)) (required : Bool)
       → place_of (record { pass = s; required = required }) ≡ place_of (record { pass = s0; required = required })
       → standing_of see (record { pass = s; required = required })
       ≡ standing_of see (record { pass = s0; required = required })
@@ -196,24 +196,24 @@ module _ {B L : Type 0} (see : Sight B L) where
       λ k. standing_at see (told k) (number k) required
 
   -- it is for the same plan
-  pub same_plan : (lock : TableId) (s0 s : SeatView Entry (Plan B L)) (required : Bool) (i : IsDeskPass lock s0)
+  pub same_plan : (lock : TableId) (s0 s : SeatView HistoryEntry (BookPlan B L)) (required : Bool) (i : IsDeskPass lock s0)
       (j : IsDeskPass lock s)
       → place_of (record { pass = s; required = required }) ≡ place_of (record { pass = s0; required = required })
       → j.plan ≡ i.plan
   same_plan lock s0 s required i j place =
       some_is j.plan i.plan (sym j.pass.seat.told ∙ (ap (λ (p : Place B L). p.plan) place ∙ i.pass.seat.told))
 
-  pub desk_ready : (lock : TableId) (s0 s : SeatView Entry (Plan B L)) (required : Bool) (i : IsDeskPass lock s0)
+  pub desk_ready : (lock : TableId) (s0 s : SeatView HistoryEntry (BookPlan B L)) (required : Bool) (i : IsDeskPass lock s0)
       (j : IsDeskPass lock s)
       → place_of (record { pass = s; required = required }) ≡ place_of (record { pass = s0; required = required })
       → AreNew see (cards_of i.plan) → IsReady see lock j.plan (number_of s) j.made s
   desk_ready lock s0 s required i j place new = (
     (j.core, j.pass, j.hands),
-    subst (λ (d : Plan B L). AreNew see (cards_of d)) (sym (same_plan lock s0 s required i j place)) new,
+    subst (λ (d : BookPlan B L). AreNew see (cards_of d)) (sym (same_plan lock s0 s required i j place)) new,
   )
 
   -- all paths of the driver are left
-  desk_left : (lock : TableId) (s0 s : SeatView Entry (Plan B L)) (required : Bool) (j : IsDeskPass lock s)
+  desk_left : (lock : TableId) (s0 s : SeatView HistoryEntry (BookPlan B L)) (required : Bool) (j : IsDeskPass lock s)
       (desk : DeskView)
       → place_of (record { pass = s; required = required }) ≡ place_of (record { pass = s0; required = required })
       → IsDealt (standing_of see (record { pass = s0; required = required })) desk
@@ -239,7 +239,7 @@ module _ {B L : Type 0} (see : Sight B L) where
       ∙ times_left x given p (λ z. omega (arith, one, z))
 
   -- what is known of a desk that served, by its plan
-  record Served (d : Plan B L) (n : ℕ) (required : Bool) (desk : DeskView) (mine : List Entry) : Type 0 where
+  record Served (d : BookPlan B L) (n : ℕ) (required : Bool) (desk : DeskView) (mine : List HistoryEntry) : Type 0 where
     pub dealt : IsDealt (standing_at see (Some d) n required) desk
     pub by : AllBy d.starts.items d.workers n mine
     pub through : AreThrough (standing_at see (Some d) n required)
@@ -247,7 +247,7 @@ module _ {B L : Type 0} (see : Sight B L) where
     pub events : events_in (standing_at see (Some d) n required)
         (given_in (standing_at see (Some d) n required).cards mine) ≡ own_events mine
 
-  served_by : (lock : TableId) (s0 s : SeatView Entry (Plan B L)) (required : Bool) (j : IsDeskPass lock s)
+  served_by : (lock : TableId) (s0 s : SeatView HistoryEntry (BookPlan B L)) (required : Bool) (j : IsDeskPass lock s)
       (desk : DeskView)
       → place_of (record { pass = s; required = required }) ≡ place_of (record { pass = s0; required = required })
       → IsDealt (standing_of see (record { pass = s0; required = required })) desk
@@ -266,25 +266,25 @@ module _ {B L : Type 0} (see : Sight B L) where
       }
 
   -- a path that is handed back in the whole list was handed back by the desk
-  backs_more : (d : Plan B L) (first more : List Entry) → RefusedBacks d.starts.items (own_events first)
+  backs_more : (d : BookPlan B L) (first more : List HistoryEntry) → RefusedBacks d.starts.items (own_events first)
       → noted (own_events more) ≡ [] → AreTurns (own_events more)
       → RefusedBacks d.starts.items (own_events (first ++ more))
   backs_more d first more backs quiet turns i p q required at begun =
-      let x = get_map_back (λ (z : Entry). z.event) (first ++ more) i (HandBack p) at in
+      let x = get_map_back (λ (z : HistoryEntry). z.event) (first ++ more) i (HandBack p) at in
       split i (length first)
       (λ lt.
-      let here = get_map (λ (z : Entry). z.event) first i x.0 (sym (get_within first more i lt) ∙ x.1)
+      let here = get_map (λ (z : HistoryEntry). z.event) first i x.0 (sym (get_within first more i lt) ∙ x.1)
       ∙ ap (λ (z : Event). Some z) x.2 in
       let r = backs i p q required here begun in
-      let same = ap (notes d.starts.items q) (map-append (λ (z : Entry). z.event) first more)
+      let same = ap (notes d.starts.items q) (map-append (λ (z : HistoryEntry). z.event) first more)
       ∙ notes_quiet d.starts.items q (own_events first) (own_events more) quiet in
       (r.0, r.1, ap (fate_of p Untold) same ∙ r.2))
       (λ le.
       absurd (turns_back (own_events more) (i - length first) p turns
-      (get_map (λ (z : Entry). z.event) more (i - length first) x.0 (sym (get_behind first more i le) ∙ x.1)
+      (get_map (λ (z : HistoryEntry). z.event) more (i - length first) x.0 (sym (get_behind first more i le) ∙ x.1)
       ∙ ap (λ (z : Event). Some z) x.2)))
 
-  pub desk_back : (lock : TableId) (s0 s t : SeatView Entry (Plan B L)) (required : Bool) (i : IsDeskPass lock s0)
+  pub desk_back : (lock : TableId) (s0 s t : SeatView HistoryEntry (BookPlan B L)) (required : Bool) (i : IsDeskPass lock s0)
       (j : IsDeskPass lock s) (desk : DeskView)
       → place_of (record { pass = s; required = required }) ≡ place_of (record { pass = s0; required = required })
       → IsDealt (standing_of see (record { pass = s0; required = required })) desk
@@ -304,16 +304,16 @@ module _ {B L : Type 0} (see : Sight B L) where
             (desk_shown j.plan (number_of s - j.plan.workers) (mine_of s) w.more free
             (desk_closed see j.plan (number_of s) required desk (mine_of s) (seat_is see lock s j) j.dealt j.own v.by
             v.dealt v.through v.events) w.quiet w.turns w.shown);
-        backs = subst (λ (l : List Entry). RefusedBacks j.plan.starts.items (own_events l)) (sym w.mine)
+        backs = subst (λ (l : List HistoryEntry). RefusedBacks j.plan.starts.items (own_events l)) (sym w.mine)
             (backs_more j.plan (mine_of s) w.more
             (desk_refused see j.plan (number_of s) required desk (mine_of s) v.by v.dealt v.through v.events) w.quiet
             w.turns);
         left = λ q p lt seat own.
             let first = desk_left lock s0 s required j desk place dealt through q p seat own in
-            ap (λ (l : List Entry). is_left p (own_events l)) w.mine
-            ∙ (ap (is_left p) (map-append (λ (z : Entry). z.event) (mine_of s) w.more)
+            ap (λ (l : List HistoryEntry). is_left p (own_events l)) w.mine
+            ∙ (ap (is_left p) (map-append (λ (z : HistoryEntry). z.event) (mine_of s) w.more)
             ∙ left_more p (own_events (mine_of s)) (own_events w.more) first);
       } in
-      subst (λ (d : Plan B L). IsBack see lock d (number_of s0) i.made t) (same_plan lock s0 s required i j place)
+      subst (λ (d : BookPlan B L). IsBack see lock d (number_of s0) i.made t) (same_plan lock s0 s required i j place)
       (subst (λ (n : ℕ). IsBack see lock j.plan n i.made t) number
       (subst (λ (m : ℕ). IsBack see lock j.plan (number_of s) m t) made back))

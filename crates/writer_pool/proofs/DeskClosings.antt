@@ -16,9 +16,9 @@ use Rattle.checkout_core.specs.Desks.{paths_of}
 use Rattle.checkout_core.specs.Fates.{Fate, Untold, Known, fate_of}
 use Rattle.checkout_core.specs.Notes.{notes}
 use Rattle.checkout_core.specs.Talks.{contains}
-use Rattle.checkout_book.specs.declared.plan.Plan.{Plan}
+use Rattle.checkout_book.specs.declared.plan.BookPlan.{BookPlan}
 use Rattle.checkout_book.specs.declared.plan.Parts.{Parts}
-use Rattle.checkout_book.specs.declared.plan.Entry.{Entry}
+use Rattle.checkout_book.specs.declared.plan.HistoryEntry.{HistoryEntry}
 use Rattle.checkout_book.specs.Sights.{Sight, seen}
 use Rattle.checkout_book.specs.Shelves.{cards_of}
 use Rattle.checkout_book.specs.Passes.{close_entry}
@@ -35,18 +35,18 @@ use Rattle.writer_pool.specs.Working.{blob_in, leaf_in, own_events}
 use Rattle.writer_pool.proofs.Places.{some_is, eqb_self, get_map, get_map_back}
 use Rattle.writer_pool.proofs.Recordings.{AllBy, is_found, in_cards, one_card}
 
-own_at : (starts : List Start) (q : ℕ) (es : List Entry) (i : ℕ) (e : Entry) → CloseOwn starts q es
+own_at : (starts : List Start) (q : ℕ) (es : List HistoryEntry) (i : ℕ) (e : HistoryEntry) → CloseOwn starts q es
     → slice_get es i ≡ Some e → ClosesOwn starts q e.event e.parts
 own_at starts q [] i e own at = absurd (cc (at))
 own_at starts q (x ∷ es) zero e own at =
-    subst (λ (z : Entry). ClosesOwn starts q z.event z.parts) (some_is x e at) own.0
+    subst (λ (z : HistoryEntry). ClosesOwn starts q z.event z.parts) (some_is x e at) own.0
 own_at starts q (x ∷ es) (suc i) e own at = own_at starts q es i e own.1 at
 
-by_at : (starts : List Start) (workers n : ℕ) (es : List Entry) (i : ℕ) (e : Entry) → AllBy starts workers n es
+by_at : (starts : List Start) (workers n : ℕ) (es : List HistoryEntry) (i : ℕ) (e : HistoryEntry) → AllBy starts workers n es
     → slice_get es i ≡ Some e → actor_of starts workers e.event ≡ Some n
 by_at starts workers n [] i e all at = absurd (cc (at))
 by_at starts workers n (x ∷ es) zero e all at =
-    subst (λ (z : Entry). actor_of starts workers z.event ≡ Some n) (some_is x e at) all.0
+    subst (λ (z : HistoryEntry). actor_of starts workers z.event ≡ Some n) (some_is x e at) all.0
 by_at starts workers n (x ∷ es) (suc i) e all at = by_at starts workers n es i e all.1 at
 
 closes_own : (starts : List Start) (q : ℕ) (e : Event) (x : Option Parts) (p a : ℕ) (o : Own) → e ≡ Close p a o
@@ -124,13 +124,13 @@ fits_at p content (x ∷ gs) zero g all at = subst (FitsEnd p content) (some_is 
 fits_at p content (x ∷ gs) (suc i) g all at = fits_at p content gs i g all.1 at
 
 -- a card that was handed back has a content
-pub back_fits : (cards : List CardSeen) (mine : List Entry) (content : Result (List ℕ) Own) (p : ℕ)
-    → AllFit p content (given_in cards mine) → (i : ℕ) (e : Entry) → slice_get mine i ≡ Some e
+pub back_fits : (cards : List CardSeen) (mine : List HistoryEntry) (content : Result (List ℕ) Own) (p : ℕ)
+    → AllFit p content (given_in cards mine) → (i : ℕ) (e : HistoryEntry) → slice_get mine i ≡ Some e
     → e.event ≡ HandBack p → HasContent content
 back_fits cards mine content p all i e at is =
     let here = subst (FitsEnd p content) (ap (λ (f : Event). given_by cards f e.parts) is)
     (fits_at p content (given_in cards mine) i (given_by cards e.event e.parts) all
-    (get_map (λ (z : Entry). given_by cards z.event z.parts) mine i e at)) in
+    (get_map (λ (z : HistoryEntry). given_by cards z.event z.parts) mine i e at)) in
     here refl
 
 -- the path that an actor hands back is its driver's
@@ -146,7 +146,7 @@ back_driver starts workers n p e = go (driver_at starts p) e
 
 module _ {B L : Type 0} (see : Sight B L) where
   -- a Close of a desk that claimed nothing, in its own list
-  pub record DeskClose (d : Plan B L) (q : ℕ) (mine : List Event) (p a : ℕ) (o : Own) (parts : Option Parts)
+  pub record DeskClose (d : BookPlan B L) (q : ℕ) (mine : List Event) (p a : ℕ) (o : Own) (parts : Option Parts)
       : Type 0 where
     pub ended : Parts
     pub there : parts ≡ Some ended
@@ -162,7 +162,7 @@ module _ {B L : Type 0} (see : Sight B L) where
         (blob_in ended) (leaf_in ended)
 
   -- its card
-  record ClosedCard (d : Plan B L) (q : ℕ) (required : Bool) (p : ℕ) : Type 0 where
+  record ClosedCard (d : BookPlan B L) (q : ℕ) (required : Bool) (p : ℕ) : Type 0 where
     pub place : ℕ
     pub card : Card B L
     pub number : ℕ
@@ -171,7 +171,7 @@ module _ {B L : Type 0} (see : Sight B L) where
     pub path : card.path ≡ p
     pub begun : slice_get d.starts.items p ≡ Some (Desk q required)
 
-  card_closed : (d : Plan B L) (n : ℕ) (required : Bool) (desk : DeskView) (p : ℕ)
+  card_closed : (d : BookPlan B L) (n : ℕ) (required : Bool) (desk : DeskView) (p : ℕ)
       → IsDealt (standing_at see (Some d) n required) desk → driver_at d.starts.items p ≡ Some (n - d.workers)
       → ClosedCard d (n - d.workers) required p
   card_closed d n required desk p dealt driver =
@@ -195,7 +195,7 @@ module _ {B L : Type 0} (see : Sight B L) where
       }
 
   -- what was given for its entry
-  given_closed : (d : Plan B L) (q : ℕ) (required : Bool) (e : Entry) (p a : ℕ) (o : Own) (x : Parts)
+  given_closed : (d : BookPlan B L) (q : ℕ) (required : Bool) (e : HistoryEntry) (p a : ℕ) (o : Own) (x : Parts)
       → AreDealt d.starts.items 0 d.desks.items → e.event ≡ Close p a o → e.parts ≡ Some x
       → (c : ClosedCard d q required p)
       → given_by (map (λ c. seen see c) (desk_cards d q)) e.event e.parts
@@ -206,7 +206,7 @@ module _ {B L : Type 0} (see : Sight B L) where
       (λ m y at same. one_card see d q dealt m c.place y (seen see c.card) at c.here (same ∙ sym c.path)) in
       (λ k. given_by cards (is k) (parts k)) ∙ ap (λ (f : Option CardSeen). closed_by (Close p a o) o x f) found
 
-  card_served : (d : Plan B L) (n : ℕ) (required : Bool) (given : List Given) (p : ℕ) (o : Own) (x : Parts)
+  card_served : (d : BookPlan B L) (n : ℕ) (required : Bool) (given : List Given) (p : ℕ) (o : Own) (x : Parts)
       → AreDealt d.starts.items 0 d.desks.items → (c : ClosedCard d (n - d.workers) required p)
       → ShowsClose (standing_at see (Some d) n required) given o
       (closed_card (seen see c.card) (blob_in x) (leaf_in x))
@@ -222,7 +222,7 @@ module _ {B L : Type 0} (see : Sight B L) where
       (subst (λ (y : CardSeen). ShowsUnread y o closed ⊎ ((h : Heard) × (fate_now s given card.path ≡ Known h)
       × ShowsRead required h y o closed)) is shows.shows)
 
-  pub desk_closed : (d : Plan B L) (n : ℕ) (required : Bool) (desk : DeskView) (mine : List Entry)
+  pub desk_closed : (d : BookPlan B L) (n : ℕ) (required : Bool) (desk : DeskView) (mine : List HistoryEntry)
       → d.workers + (n - d.workers) ≡ n → AreDealt d.starts.items 0 d.desks.items
       → CloseOwn d.starts.items (n - d.workers) mine → AllBy d.starts.items d.workers n mine
       → IsDealt (standing_at see (Some d) n required) desk
@@ -230,7 +230,7 @@ module _ {B L : Type 0} (see : Sight B L) where
       (given_in (standing_at see (Some d) n required).cards mine)
       → events_in (standing_at see (Some d) n required) (given_in (standing_at see (Some d) n required).cards mine)
       ≡ own_events mine
-      → (i : ℕ) (e : Entry) (p a : ℕ) (o : Own) → slice_get mine i ≡ Some e → e.event ≡ Close p a o
+      → (i : ℕ) (e : HistoryEntry) (p a : ℕ) (o : Own) → slice_get mine i ≡ Some e → e.event ≡ Close p a o
       → DeskClose d (n - d.workers) (own_events mine) p a o e.parts
   desk_closed d n required desk mine seat dealt closes by of through events i e p a o at is =
       let q = n - d.workers in
@@ -240,7 +240,7 @@ module _ {B L : Type 0} (see : Sight B L) where
       let c = card_closed d n required desk p of own.2 in
       let shows = subst (Shows s given) (given_closed d q required e p a o own.0 dealt is own.1 c)
       (shows_at s given given i (given_by s.cards e.event e.parts) through.shown
-      (get_map (λ (z : Entry). given_by s.cards z.event z.parts) mine i e at)) in
+      (get_map (λ (z : HistoryEntry). given_by s.cards z.event z.parts) mine i e at)) in
       let actor : Some a ≡ Some n = sym (ap (actor_of d.starts.items d.workers) is)
       ∙ by_at d.starts.items d.workers n mine i e by at in
       record {
@@ -260,7 +260,7 @@ module _ {B L : Type 0} (see : Sight B L) where
       }
 
   -- what holds of the leaf of each card that the desk closed
-  pub closed_own : (d : Plan B L) (n : ℕ) (required : Bool) (desk : DeskView) (mine : List Entry)
+  pub closed_own : (d : BookPlan B L) (n : ℕ) (required : Bool) (desk : DeskView) (mine : List HistoryEntry)
       → AreDealt d.starts.items 0 d.desks.items → CloseOwn d.starts.items (n - d.workers) mine
       → IsDealt (standing_at see (Some d) n required) desk → (P : ℕ → LeafSeen → Type 0)
       → AllClosed P (given_in (standing_at see (Some d) n required).cards mine)
@@ -272,15 +272,15 @@ module _ {B L : Type 0} (see : Sight B L) where
       let c = card_closed d n required desk p of (own_at d.starts.items q mine i e closes at) in
       let here = subst (IfClosed P) (given_closed d q required e p a o x dealt refl refl c)
       (closed_at P (given_in s.cards mine) i (given_by s.cards e.event e.parts) all
-      (get_map (λ (z : Entry). given_by s.cards z.event z.parts) mine i e at)) in
+      (get_map (λ (z : HistoryEntry). given_by s.cards z.event z.parts) mine i e at)) in
       subst (λ (z : ℕ). P z (leaf_in x)) c.path here
 
   -- each Close that the desk gave fits what its card's object gave
-  pub closed_fits : (d : Plan B L) (n : ℕ) (required : Bool) (desk : DeskView) (mine : List Entry)
+  pub closed_fits : (d : BookPlan B L) (n : ℕ) (required : Bool) (desk : DeskView) (mine : List HistoryEntry)
       → AreDealt d.starts.items 0 d.desks.items → CloseOwn d.starts.items (n - d.workers) mine
       → IsDealt (standing_at see (Some d) n required) desk → (content : Result (List ℕ) Own) (p : ℕ)
       → AllFit p content (given_in (standing_at see (Some d) n required).cards mine)
-      → (i a : ℕ) (o : Own) (e : Entry) → slice_get mine i ≡ Some e → e.event ≡ Close p a o → FitsOwn content o
+      → (i a : ℕ) (o : Own) (e : HistoryEntry) → slice_get mine i ≡ Some e → e.event ≡ Close p a o → FitsOwn content o
   closed_fits d n required desk mine dealt closes of content p all i a o e at is =
       let q = n - d.workers in
       let s = standing_at see (Some d) n required in
@@ -288,11 +288,11 @@ module _ {B L : Type 0} (see : Sight B L) where
       let c = card_closed d n required desk p of own.2 in
       let here = subst (FitsEnd p content) (given_closed d q required e p a o own.0 dealt is own.1 c)
       (fits_at p content (given_in s.cards mine) i (given_by s.cards e.event e.parts) all
-      (get_map (λ (z : Entry). given_by s.cards z.event z.parts) mine i e at)) in
+      (get_map (λ (z : HistoryEntry). given_by s.cards z.event z.parts) mine i e at)) in
       here c.path
 
   -- what was handed back was refused
-  pub desk_refused : (d : Plan B L) (n : ℕ) (required : Bool) (desk : DeskView) (mine : List Entry)
+  pub desk_refused : (d : BookPlan B L) (n : ℕ) (required : Bool) (desk : DeskView) (mine : List HistoryEntry)
       → AllBy d.starts.items d.workers n mine → IsDealt (standing_at see (Some d) n required) desk
       → AreThrough (standing_at see (Some d) n required)
       (given_in (standing_at see (Some d) n required).cards mine)
@@ -304,14 +304,14 @@ module _ {B L : Type 0} (see : Sight B L) where
       let starts = d.starts.items in
       let s = standing_at see (Some d) n required in
       let given = given_in s.cards mine in
-      let x = get_map_back (λ (e : Entry). e.event) mine i (HandBack p) at in
+      let x = get_map_back (λ (e : HistoryEntry). e.event) mine i (HandBack p) at in
       let e = x.0 in
       let actor = sym (ap (actor_of starts d.workers) x.2) ∙ by_at starts d.workers n mine i e by x.1 in
       let driver = back_driver starts d.workers n p actor in
       let c = card_closed d n required desk p of driver in
       let back = subst (Shows s given) (ap (λ (f : Event). given_by s.cards f e.parts) x.2)
       (shows_at s given given i (given_by s.cards e.event e.parts) through.shown
-      (get_map (λ (z : Entry). given_by s.cards z.event z.parts) mine i e x.1)) in
+      (get_map (λ (z : HistoryEntry). given_by s.cards z.event z.parts) mine i e x.1)) in
       let start : Desk q required ≡ Desk k wanted =
       some_is (Desk q required) (Desk k wanted) (sym c.begun ∙ begun) in
       let same_driver : q ≡ k = cc (start) in

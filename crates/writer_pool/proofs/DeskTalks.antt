@@ -9,8 +9,8 @@ use Rattle.checkout_core.specs.declared.event.Event.{Event}
 use Rattle.checkout_core.specs.declared.path.Start.{Start}
 use Rattle.checkout_core.specs.Actors.{is_actor, driver_in}
 use Rattle.checkout_core.specs.Notes.{is_noted, noted, notes}
-use Rattle.checkout_book.specs.declared.plan.Plan.{Plan}
-use Rattle.checkout_book.specs.declared.plan.Entry.{Entry}
+use Rattle.checkout_book.specs.declared.plan.BookPlan.{BookPlan}
+use Rattle.checkout_book.specs.declared.plan.HistoryEntry.{HistoryEntry}
 use Rattle.checkout_book.specs.Sights.{Sight}
 use Rattle.checkout_book.specs.Passes.{close_entry}
 use Rattle.driver_line.specs.Lines.{Paths}
@@ -63,7 +63,7 @@ notes_noted starts d (e ∷ es) = go (is_noted e) refl (is_actor d (driver_in st
 
 module _ {B L : Type 0} (see : Sight B L) where
   -- the leaves that the pass closed without a claim are those that its desk closed
-  desk_answered : (lock : TableId) (s0 s : SeatView Entry (Plan B L)) (more : List Entry) (required : Bool)
+  desk_answered : (lock : TableId) (s0 s : SeatView HistoryEntry (BookPlan B L)) (more : List HistoryEntry) (required : Bool)
       (j : IsDeskPass lock s) (desk : DeskView)
       → place_of (recording required s) ≡ place_of (recording required s0)
       → IsDealt (standing_of see (record { pass = s0; required = required })) desk → AreTurns (own_events more)
@@ -84,11 +84,11 @@ module _ {B L : Type 0} (see : Sight B L) where
       (λ le.
       let at = sym (get_behind (mine_of s) more z.place le) ∙ z.here in
       let t = turn_claim (mine_of s) more (z.place - length (mine_of s)) z.place p z.actor z.own turns
-      (omega (arith, le)) (get_map (λ (x : Entry). x.event) more (z.place - length (mine_of s)) e at) in
+      (omega (arith, le)) (get_map (λ (x : HistoryEntry). x.event) more (z.place - length (mine_of s)) e at) in
       absurd (z.unclaimed t.0 t.1 t.2))
 
   -- what the pass lists has just the notes of the desk's talk
-  pub desk_noted : (lock : TableId) (s t : SeatView Entry (Plan B L)) (required : Bool) (j : IsDeskPass lock s)
+  pub desk_noted : (lock : TableId) (s t : SeatView HistoryEntry (BookPlan B L)) (required : Bool) (j : IsDeskPass lock s)
       → AreThrough (standing_of see (recording required s)) (given_of see (recording required s))
       → Idled see lock j.plan (number_of s) j.made s t
       → noted (own_events (mine_of t)) ≡ noted_in (given_of see (recording required s))
@@ -100,12 +100,12 @@ module _ {B L : Type 0} (see : Sight B L) where
       let own : noted (own_events (mine_of s)) ≡ noted_in given =
       ap (λ (l : List Event). noted l) (sym (events_own see lock s required j)) ∙ noted_is x given all in
       let after : noted (own_events (mine_of t)) ≡ noted (own_events (mine_of s)) =
-      ap (λ (l : List Entry). noted (own_events l)) w.mine
-      ∙ (ap (λ (l : List Event). noted l) (map-append (λ (z : Entry). z.event) (mine_of s) w.more)
+      ap (λ (l : List HistoryEntry). noted (own_events l)) w.mine
+      ∙ (ap (λ (l : List Event). noted l) (map-append (λ (z : HistoryEntry). z.event) (mine_of s) w.more)
       ∙ noted_quiet (own_events (mine_of s)) (own_events w.more) w.quiet) in
       after ∙ own
 
-  pub desk_talked : (lock : TableId) (s0 s t : SeatView Entry (Plan B L)) (required : Bool) (j : IsDeskPass lock s)
+  pub desk_talked : (lock : TableId) (s0 s t : SeatView HistoryEntry (BookPlan B L)) (required : Bool) (j : IsDeskPass lock s)
       (desk : DeskView) → place_of (recording required s) ≡ place_of (recording required s0)
       → IsDealt (standing_of see (recording required s0)) desk
       → AreThrough (standing_of see (recording required s)) (given_of see (recording required s))
@@ -132,11 +132,11 @@ module _ {B L : Type 0} (see : Sight B L) where
             ∙ (ap (λ (l : List Given). noted_in l) served.told ∙ served.noted);
         answers = λ p leaf ends. desk_answered lock s0 s w.more required j desk place dealt w.turns
             (Holds served.exchanges) (subst (AllClosed (Holds served.exchanges)) (sym served.told) served.answers)
-            p leaf (subst (λ (l : List Entry). EndsIn l p leaf) w.mine ends);
+            p leaf (subst (λ (l : List HistoryEntry). EndsIn l p leaf) w.mine ends);
       }
 
   -- what is left of a desk that has served and worked
-  pub desk_left_so : {S : Type 0} (starter : S → StarterSeen) (lock : TableId) (s0 s t : SeatView Entry (Plan B L))
+  pub desk_left_so : {S : Type 0} (starter : S → StarterSeen) (lock : TableId) (s0 s t : SeatView HistoryEntry (BookPlan B L))
       (required : Bool) (desk : DeskView) (left : Served S)
       (e : IsServedOn starter see lock required desk s0 s left)
       → IsDealt (standing_of see (recording required s0)) desk

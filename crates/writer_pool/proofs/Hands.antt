@@ -19,8 +19,8 @@ use Rattle.checkout_core.specs.Actors.{is_step}
 use Rattle.checkout_core.specs.Hands.{held_at, is_held, Holds}
 use Rattle.checkout_core.specs.Notes.{noted}
 use Rattle.checkout_core.specs.Talks.{contains}
-use Rattle.checkout_book.specs.declared.plan.Plan.{Plan}
-use Rattle.checkout_book.specs.declared.plan.Entry.{Entry}
+use Rattle.checkout_book.specs.declared.plan.BookPlan.{BookPlan}
+use Rattle.checkout_book.specs.declared.plan.HistoryEntry.{HistoryEntry}
 use Rattle.checkout_book.specs.Sights.{Sight, seen, tell}
 use Rattle.checkout_book.specs.Shelves.{cards_of, IsOut}
 use Rattle.checkout_book.specs.Passes.{Claims, Closes, TookNone, TookCard, Keeps, claim_entry, close_entry}
@@ -168,7 +168,7 @@ module _ {B L : Type 0} (see : Sight B L) where
   held_more cards x n (g ∷ gs) h a new = (a.0, held_more cards x n gs h a.1 new)
 
   -- a hand with one card more
-  pub hand_claims : (lock : TableId) (w : Shift B L) (s t : SeatView Entry (Plan B L)) (x : Core)
+  pub hand_claims : (lock : TableId) (w : Shift B L) (s t : SeatView HistoryEntry (BookPlan B L)) (x : Core)
       (hs : List (Held B L)) (h : Held B L) (k : Card B L) (i : IsHand see lock w s hs) → length hs < 8
       → TookCard see lock w.plan (number_of s) w.made s t i.core x k
       → HoldsCard (seen see k) (seen see h.card) h.taken → IsHand see lock w t (hs ++ h ∷ [])
@@ -176,7 +176,7 @@ module _ {B L : Type 0} (see : Sight B L) where
       let n = w.number in
       let took = subst (λ (j : ℕ). TookCard see lock w.plan j w.made s t i.core x k) i.is_pass.seat.named took0 in
       let is : h.card.path ≡ k.path = held_path (seen see k) (seen see h.card) h.taken holds in
-      let one : List Entry = claim_entry k.path n ∷ [] in
+      let one : List HistoryEntry = claim_entry k.path n ∷ [] in
       let same = ap (λ (p : ℕ). claims_in n hs ++ Claim p n ∷ []) (sym is)
       ∙ sym (map-append (λ (g : Held B L). Claim g.card.path n) hs (h ∷ [])) in
       let paths = ap (λ (p : ℕ). paths_in hs ++ p ∷ []) (sym is)
@@ -201,23 +201,23 @@ module _ {B L : Type 0} (see : Sight B L) where
         mine = took.mine ∙ (ap (λ l. l ++ one) i.mine ∙ append_assoc (mine_of w.pass) i.more one);
         turns = subst (TurnSteps [] (own_events (i.more ++ one))) same
             (subst (λ (l : List Event). TurnSteps [] l (claims_in n hs ++ Claim k.path n ∷ []))
-            (sym (map-append (λ (e : Entry). e.event) i.more one))
+            (sym (map-append (λ (e : HistoryEntry). e.event) i.more one))
             (claims_more (own_events i.more) (claims_in n hs) k.path n i.turns
             (subst (λ (z : ℕ). z < 8) (sym (length-map hs (λ (g : Held B L). Claim g.card.path n))) few)));
         shown = shown_more see (cards_of w.plan) i.more one i.shown (tt, tt);
-        quiet = ap noted (map-append (λ (e : Entry). e.event) i.more one)
+        quiet = ap noted (map-append (λ (e : HistoryEntry). e.event) i.more one)
             ∙ noted_more (own_events i.more) (own_events one) refl i.quiet;
         begins = begins_trans (seen_of w.pass) (seen_of s) (seen_of t) i.begins took.turn.seen;
       }
 
-  pub took_none : (lock : TableId) (w : Shift B L) (s t : SeatView Entry (Plan B L)) (c : Core)
+  pub took_none : (lock : TableId) (w : Shift B L) (s t : SeatView HistoryEntry (BookPlan B L)) (c : Core)
       (o : Option (Card B L)) → Claims see lock w.plan (number_of s) w.made s t c o
       → ((k : Card B L) → o ≡ Some k → ⊥) → (x : Core) × TookNone lock w.plan (number_of s) w.made s t c x
   took_none lock w s t c None h other = h
   took_none lock w s t c (Some k) h other = absurd (other k refl)
 
   -- a hand after a claim that gave none
-  pub hand_stays : (lock : TableId) (w : Shift B L) (s t : SeatView Entry (Plan B L)) (x : Core)
+  pub hand_stays : (lock : TableId) (w : Shift B L) (s t : SeatView HistoryEntry (BookPlan B L)) (x : Core)
       (hs : List (Held B L)) (i : IsHand see lock w s hs)
       → TookNone lock w.plan (number_of s) w.made s t i.core x
       → IsHand see lock w t hs × SawNone lock w t
@@ -241,7 +241,7 @@ module _ {B L : Type 0} (see : Sight B L) where
       )
 
   -- how the first card in hand was written
-  pub written_so : (lock : TableId) (w : Shift B L) (s : SeatView Entry (Plan B L)) (h : Held B L)
+  pub written_so : (lock : TableId) (w : Shift B L) (s : SeatView HistoryEntry (BookPlan B L)) (h : Held B L)
       (hs : List (Held B L)) (x : Written B L) (i : IsHand see lock w s (h ∷ hs)) → IsWrittenSo see h x
       → WritesHeld (seen see i.held.0.card) (seen see x.card) x.own
   written_so lock w s h hs x i wrote =
@@ -249,7 +249,7 @@ module _ {B L : Type 0} (see : Sight B L) where
       wrote a.card (planned_to_write see (cards_of w.plan) a.card a.claimed.raw i.new a.claimed.planned a.claimed.ready)
       a.held
 
-  pub to_be_written : (lock : TableId) (w : Shift B L) (s : SeatView Entry (Plan B L)) (h : Held B L)
+  pub to_be_written : (lock : TableId) (w : Shift B L) (s : SeatView HistoryEntry (BookPlan B L)) (h : Held B L)
       (hs : List (Held B L)) → IsHand see lock w s (h ∷ hs) → IsToBeWritten see h
   to_be_written lock w s h hs i =
       let a = i.held.0 in (
@@ -261,7 +261,7 @@ module _ {B L : Type 0} (see : Sight B L) where
   -- it may be closed
   pub hand_may_close : ((c : Core) (p a : ℕ) (raw : Option FilterCause) (o : Own) (v : Verdict) → Holds c p a raw
       → held_close raw o ≡ Some v → is_step c (Close p a o) ≡ true)
-      → (lock : TableId) (w : Shift B L) (s : SeatView Entry (Plan B L)) (h : Held B L)
+      → (lock : TableId) (w : Shift B L) (s : SeatView HistoryEntry (BookPlan B L)) (h : Held B L)
       (hs : List (Held B L)) (x : Written B L) (i : IsHand see lock w s (h ∷ hs)) → IsWrittenSo see h x
       → (is_step i.core (Close x.card.path (number_of s) x.own) ≡ true) × IsOut see (cards_of w.plan) x.card
   hand_may_close law lock w s h hs x i wrote =
@@ -273,7 +273,7 @@ module _ {B L : Type 0} (see : Sight B L) where
         out_again see (cards_of w.plan) a.card x.card a.claimed.planned z.kept,
       )
 
-  pub hand_closes : (lock : TableId) (w : Shift B L) (s t : SeatView Entry (Plan B L)) (h : Held B L)
+  pub hand_closes : (lock : TableId) (w : Shift B L) (s t : SeatView HistoryEntry (BookPlan B L)) (h : Held B L)
       (hs : List (Held B L)) (x : Written B L) (i : IsHand see lock w s (h ∷ hs)) → IsWrittenSo see h x
       → Closes lock w.plan (number_of s) w.made s t i.core x.card.path x.own (tell see x.card.blob x.card.leaf)
       → IsHand see lock w t hs
@@ -286,7 +286,7 @@ module _ {B L : Type 0} (see : Sight B L) where
       i.is_pass.seat.named closes0 in
       let is : x.card.path ≡ h.card.path = ap (λ (y : CardSeen). y.path) z.kept
       ∙ sym (path_of_held (cards_of w.plan) i.core n h a) in
-      let one : List Entry = close_entry x.card.path n x.own parts ∷ [] in
+      let one : List HistoryEntry = close_entry x.card.path n x.own parts ∷ [] in
       record {
         new = i.new;
         core = closes.core;
@@ -300,18 +300,18 @@ module _ {B L : Type 0} (see : Sight B L) where
         more = i.more ++ one;
         mine = closes.mine ∙ (ap (λ l. l ++ one) i.mine ∙ append_assoc (mine_of w.pass) i.more one);
         turns = subst (λ (l : List Event). TurnSteps [] l (claims_in n hs))
-            (sym (map-append (λ (e : Entry). e.event) i.more one))
+            (sym (map-append (λ (e : HistoryEntry). e.event) i.more one))
             (closes_more (own_events i.more) (claims_in n hs) x.card.path n x.own
             (subst (λ (p : ℕ). TurnSteps [] (own_events i.more) (Claim p n ∷ claims_in n hs)) (sym is) i.turns));
         shown = shown_more see (cards_of w.plan) i.more one i.shown
             (shown see (cards_of w.plan) a.card x.card n x.own a.claimed.planned z.kept z.wrote, tt);
-        quiet = ap noted (map-append (λ (e : Entry). e.event) i.more one)
+        quiet = ap noted (map-append (λ (e : HistoryEntry). e.event) i.more one)
             ∙ noted_more (own_events i.more) (own_events one) refl i.quiet;
         begins = begins_trans (seen_of w.pass) (seen_of s) (seen_of t) i.begins closes.turn.seen;
       }
 
   -- a worker begins with nothing in hand
-  pub hand_begins : (lock : TableId) (d : Plan B L) (n made : ℕ) (s : SeatView Entry (Plan B L))
+  pub hand_begins : (lock : TableId) (d : BookPlan B L) (n made : ℕ) (s : SeatView HistoryEntry (BookPlan B L))
       → IsReady see lock d n made s
       → IsHand see lock (record { plan = d; number = n; made = made; pass = s }) s []
   hand_begins lock d n made s ready = record {
@@ -330,7 +330,7 @@ module _ {B L : Type 0} (see : Sight B L) where
   }
 
   -- with nothing in hand it is through with its turns
-  pub hand_ends : (lock : TableId) (w : Shift B L) (s : SeatView Entry (Plan B L)) → IsHand see lock w s []
+  pub hand_ends : (lock : TableId) (w : Shift B L) (s : SeatView HistoryEntry (BookPlan B L)) → IsHand see lock w s []
       → SawNone lock w s → Idled see lock w.plan w.number w.made w.pass s
   hand_ends lock w s i last = record {
     worked = record {
@@ -386,7 +386,7 @@ module _ {B L : Type 0} (see : Sight B L) where
   same_held cards c n [] (k ∷ ks) a held = absurd a
   same_held cards c n (h ∷ hs) [] a held = absurd a
 
-  pub hand_same : (lock : TableId) (w : Shift B L) (s : SeatView Entry (Plan B L)) (hs ks : List (Held B L))
+  pub hand_same : (lock : TableId) (w : Shift B L) (s : SeatView HistoryEntry (BookPlan B L)) (hs ks : List (Held B L))
       → AreSame see hs ks → IsHand see lock w s hs → IsHand see lock w s ks
   hand_same lock w s hs ks a i = record {
     new = i.new;
@@ -409,7 +409,7 @@ module _ {B L : Type 0} (see : Sight B L) where
       → AreSame see (items x.cards) (items y.cards) → AreSame see (items x.next) (items y.next)
       → IsInHand see lock w x → IsInHand see lock w y
   hand_found lock w x y pass same next i =
-      subst (λ (s : SeatView Entry (Plan B L)). IsHand see lock w s (items y.cards ++ items y.next)) (sym pass)
+      subst (λ (s : SeatView HistoryEntry (BookPlan B L)). IsHand see lock w s (items y.cards ++ items y.next)) (sym pass)
       (hand_same lock w x.pass (items x.cards ++ items x.next) (items y.cards ++ items y.next)
       (same_more (items x.cards) (items y.cards) (items x.next) (items y.next) same next) i)
 
@@ -417,7 +417,7 @@ module _ {B L : Type 0} (see : Sight B L) where
   pub hand_goes_on : (lock : TableId) (w : Shift B L) (x y : Hand B L) → y.pass ≡ x.pass → items x.cards ≡ []
       → items y.cards ≡ items x.next → items y.next ≡ [] → IsInHand see lock w x → IsInHand see lock w y
   hand_goes_on lock w x y pass none cards next i =
-      subst (λ (s : SeatView Entry (Plan B L)). IsHand see lock w s (items y.cards ++ items y.next)) (sym pass)
+      subst (λ (s : SeatView HistoryEntry (BookPlan B L)). IsHand see lock w s (items y.cards ++ items y.next)) (sym pass)
       (subst (IsHand see lock w x.pass)
       (ap (λ (l : List (Held B L)). l ++ items x.next) none
       ∙ (sym (append-nil (items x.next)) ∙ (ap (λ (l : List (Held B L)). l ++ []) (sym cards)

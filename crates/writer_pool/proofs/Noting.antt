@@ -9,8 +9,8 @@ use Rattle.checkout_core.specs.declared.event.Event.{Event}
 use Rattle.checkout_core.specs.declared.event.Event.TheVariants.{Claim, Close}
 use Rattle.checkout_core.specs.Actors.{actor_of, own_entries, is_actor, is_own, driver_in}
 use Rattle.checkout_core.specs.Notes.{is_note, is_noted, noted, notes}
-use Rattle.checkout_book.specs.declared.plan.Plan.{Plan}
-use Rattle.checkout_book.specs.declared.plan.Entry.{Entry}
+use Rattle.checkout_book.specs.declared.plan.BookPlan.{BookPlan}
+use Rattle.checkout_book.specs.declared.plan.HistoryEntry.{HistoryEntry}
 use Rattle.checkout_book.specs.declared.shelf.Slot.{Slot}
 use Rattle.checkout_book.specs.Shape.{Shelf}
 use Rattle.checkout_book.specs.Sights.{Sight, tell}
@@ -59,12 +59,12 @@ turned p q = ⊎_elim
     (λ (h : ((p ≡ q) → ⊥) × ((p == q) ≡ false)). h.1 ∙ sym (ne_eqb q p (λ e. h.0 (sym e))))
     (same_or p q)
 
-events_in : (b : Bool) (e : Entry) (es : List Entry) (fs : List Event) → own_events es ≡ fs
+events_in : (b : Bool) (e : HistoryEntry) (es : List HistoryEntry) (fs : List Event) → own_events es ≡ fs
     → own_events (cond b (e ∷ es) es) ≡ cond b (e.event ∷ fs) fs
 events_in true e es fs is = ap (λ (l : List Event). e.event ∷ l) is
 events_in false e es fs is = is
 
-own_here : (n : ℕ) (o : Option ℕ) (e : Entry) (es : List Entry) (fs : List Event) → is_some o ≡ true
+own_here : (n : ℕ) (o : Option ℕ) (e : HistoryEntry) (es : List HistoryEntry) (fs : List Event) → is_some o ≡ true
     → own_events es ≡ fs → own_events (cond (number_or o == n) (e ∷ es) es) ≡ cond (is_actor n o) (e.event ∷ fs) fs
 own_here n None e es fs some is = absurd (cc (some))
 own_here n (Some b) e es fs some is = events_in (b == n) e es fs is
@@ -82,24 +82,24 @@ module _ {B L : Type 0} (see : Sight B L) where
       (own_same starts workers n slots es a.1)
 
   -- an actor's own list is what the history has of it
-  pub entries_own : (d : Plan B L) (ts : List (SeatView Entry (Plan B L))) (s : Shelf B L) → IsFinished see d ts s
-      → (n : ℕ) (t : SeatView Entry (Plan B L)) → slice_get ts n ≡ Some t
+  pub entries_own : (d : BookPlan B L) (ts : List (SeatView HistoryEntry (BookPlan B L))) (s : Shelf B L) → IsFinished see d ts s
+      → (n : ℕ) (t : SeatView HistoryEntry (BookPlan B L)) → slice_get ts n ≡ Some t
       → own_entries d.starts.items d.workers n s.events.items ≡ own_events (mine_of t)
   entries_own d ts s f n t at =
-      subst (λ (x : Plan B L). own_entries x.starts.items x.workers n s.events.items ≡ own_events (mine_of t)) f.plan
+      subst (λ (x : BookPlan B L). own_entries x.starts.items x.workers n s.events.items ≡ own_events (mine_of t)) f.plan
       (sym (own_same s.starts.value.items s.workers n s.slots.items s.events.items f.sound.actors)
-      ∙ ap (λ (l : List Entry). own_events l) (f.mine n t at))
+      ∙ ap (λ (l : List HistoryEntry). own_events l) (f.mine n t at))
 
   -- a driver's notes are those of its desk's own list
   pub noted_own : ((starts : List Start) (workers d : ℕ) (history : List Event)
       → notes starts d history ≡ noted (own_entries starts workers (workers + d) history))
-      → (d : Plan B L) (ts : List (SeatView Entry (Plan B L))) (s : Shelf B L) → IsFinished see d ts s → (q : ℕ)
-      (t : SeatView Entry (Plan B L)) → slice_get ts (d.workers + q) ≡ Some t
+      → (d : BookPlan B L) (ts : List (SeatView HistoryEntry (BookPlan B L))) (s : Shelf B L) → IsFinished see d ts s → (q : ℕ)
+      (t : SeatView HistoryEntry (BookPlan B L)) → slice_get ts (d.workers + q) ≡ Some t
       → notes d.starts.items q s.events.items ≡ noted (own_events (mine_of t))
   noted_own law d ts s f q t at =
-      subst (λ (x : Plan B L). slice_get ts (x.workers + q) ≡ Some t
+      subst (λ (x : BookPlan B L). slice_get ts (x.workers + q) ≡ Some t
       → notes x.starts.items q s.events.items ≡ noted (own_events (mine_of t))) f.plan
       (λ here. law s.starts.value.items s.workers q s.events.items
       ∙ ap (λ (l : List Event). noted l)
       (sym (own_same s.starts.value.items s.workers (s.workers + q) s.slots.items s.events.items f.sound.actors)
-      ∙ ap (λ (l : List Entry). own_events l) (f.mine (s.workers + q) t here))) at
+      ∙ ap (λ (l : List HistoryEntry). own_events l) (f.mine (s.workers + q) t here))) at

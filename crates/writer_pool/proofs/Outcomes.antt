@@ -16,7 +16,7 @@ use Rattle.checkout_core.specs.States.{Core, AreBelow, verdict_at, verdict_of}
 use Rattle.checkout_core.specs.Steps.{IsLegal}
 use Rattle.checkout_core.specs.Closes.{IsComplete, own_of, own_after}
 use Rattle.checkout_core.specs.Fates.{Fate, verdict_from, told_verdict}
-use Rattle.checkout_book.specs.declared.plan.Plan.{Plan}
+use Rattle.checkout_book.specs.declared.plan.BookPlan.{BookPlan}
 use Rattle.checkout_book.specs.declared.shelf.Slot.{Slot}
 use Rattle.checkout_book.specs.declared.shelf.Slot.TheVariants.{Away, Waits, Ended}
 use Rattle.checkout_book.specs.Shape.{Shelf}
@@ -151,13 +151,13 @@ module _ {B L : Type 0} (see : Sight B L) where
       let m : p + suc i ≡ suc p + i = omega arith in
       subst (λ j. Fit starts history cards j t y) m (h (suc i) t y a b)))
 
-  pub completed : (d : Plan B L) (s : Shelf B L) → IsThrough see d s → IsComplete s.core
+  pub completed : (d : BookPlan B L) (s : Shelf B L) → IsThrough see d s → IsComplete s.core
   completed d s t = ends_closed s.core t.none t.quiet.hands t.quiet.away
 
-  pub ran : (d : Plan B L) (s : Shelf B L) (vs : List Verdict) → IsThrough see d s
+  pub ran : (d : BookPlan B L) (s : Shelf B L) (vs : List Verdict) → IsThrough see d s
       → ((p : ℕ) → slice_get vs p ≡ verdict_at s.core p)
       → IsRun d.starts.items d.workers d.drivers s.events.items vs
-  ran d s vs t each = subst (λ (x : Plan B L). IsRun x.starts.items x.workers x.drivers s.events.items vs) t.plan record {
+  ran d s vs t each = subst (λ (x : BookPlan B L). IsRun x.starts.items x.workers x.drivers s.events.items vs) t.plan record {
     core = s.core;
     legal = t.quiet.goes_on.sound.run;
     complete = completed d s t;
@@ -345,7 +345,7 @@ module _ {B L : Type 0} (see : Sight B L) where
   }
 
   -- the leaf of a card that a desk closed is that of its path's slot
-  pub seals_there : MovesPaths → TellsVerdict → (d : Plan B L) (s : Shelf B L) → IsThrough see d s
+  pub seals_there : MovesPaths → TellsVerdict → (d : BookPlan B L) (s : Shelf B L) → IsThrough see d s
       → IsFitting d.starts.items (cards_of d) → length s.slots.items ≡ length d.starts.items → (q p : ℕ)
       (leaf : LeafSeen)
       → EndsAt see d.starts.items s.events.items
@@ -353,21 +353,21 @@ module _ {B L : Type 0} (see : Sight B L) where
       → EndsOn see s q p leaf
   seals_there moves tells d s t fits long q p leaf z =
       plan_seals moves tells s (record { quiet = t.quiet; plan = refl; none = t.none })
-      (subst (λ (x : Plan B L). IsFitting x.starts.items (cards_of x)) (sym t.plan) fits)
-      (long ∙ ap (λ (x : Plan B L). length x.starts.items) (sym t.plan)) q p leaf
-      (subst (λ (x : Plan B L). EndsAt see x.starts.items s.events.items
+      (subst (λ (x : BookPlan B L). IsFitting x.starts.items (cards_of x)) (sym t.plan) fits)
+      (long ∙ ap (λ (x : BookPlan B L). length x.starts.items) (sym t.plan)) q p leaf
+      (subst (λ (x : BookPlan B L). EndsAt see x.starts.items s.events.items
       (leaf_at x.starts.items (map (λ (x : B × L). x.1) (parts_in s.slots.items))) q p leaf) (sym t.plan) z)
 
-  pub ends_are : MovesPaths → TellsVerdict → (d : Plan B L) (s : Shelf B L) → IsThrough see d s
+  pub ends_are : MovesPaths → TellsVerdict → (d : BookPlan B L) (s : Shelf B L) → IsThrough see d s
       → IsFitting d.starts.items (cards_of d) → length s.slots.items ≡ length d.starts.items
       → AreEnds see d.starts.items s.events.items (cards_of d) 0 d.starts.items
       (map (λ (x : B × L). x.0) (parts_in s.slots.items)) (map (λ (x : B × L). x.1) (parts_in s.slots.items))
-  ends_are moves tells d s t fits long = subst (λ (x : Plan B L). AreEnds see x.starts.items s.events.items (cards_of x) 0
+  ends_are moves tells d s t fits long = subst (λ (x : BookPlan B L). AreEnds see x.starts.items s.events.items (cards_of x) 0
       x.starts.items (map (λ (x : B × L). x.0) (parts_in s.slots.items))
       (map (λ (x : B × L). x.1) (parts_in s.slots.items))) t.plan
       (all_ends moves tells s (record { quiet = t.quiet; plan = refl; none = t.none })
-      (subst (λ (x : Plan B L). IsFitting x.starts.items (cards_of x)) (sym t.plan) fits)
-      (long ∙ ap (λ (x : Plan B L). length x.starts.items) (sym t.plan)))
+      (subst (λ (x : BookPlan B L). IsFitting x.starts.items (cards_of x)) (sym t.plan) fits)
+      (long ∙ ap (λ (x : BookPlan B L). length x.starts.items) (sym t.plan)))
 
 abbrev pub KeepsSize : Type 0
 KeepsSize = (starts : List Start) (workers drivers : ℕ) (history : List Event) (x : Core)
@@ -375,13 +375,13 @@ KeepsSize = (starts : List Start) (workers drivers : ℕ) (history : List Event)
     → (x.workers ≡ workers) × (length x.drivers ≡ drivers) × (length x.paths ≡ length starts)
 
 module _ {B L : Type 0} (see : Sight B L) where
-  pub paths_count : KeepsSize → (d : Plan B L) (s : Shelf B L) → IsThrough see d s
+  pub paths_count : KeepsSize → (d : BookPlan B L) (s : Shelf B L) → IsThrough see d s
       → length s.core.paths ≡ length d.starts.items
   paths_count law d s t =
       (law s.starts.value.items s.workers s.drivers s.events.items s.core t.quiet.goes_on.sound.run).2
-      ∙ ap (λ (x : Plan B L). length x.starts.items) t.plan
+      ∙ ap (λ (x : BookPlan B L). length x.starts.items) t.plan
 
-  pub slots_count : KeepsSize → (d : Plan B L) (s : Shelf B L) → IsThrough see d s
+  pub slots_count : KeepsSize → (d : BookPlan B L) (s : Shelf B L) → IsThrough see d s
       → length s.slots.items ≡ length d.starts.items
   slots_count law d s t =
       rows_length see (cards_of (plan_of s)) 0 s.slots.items s.core.paths (λ q.

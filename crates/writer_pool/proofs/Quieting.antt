@@ -16,9 +16,9 @@ use Rattle.checkout_core.specs.Desks.{paths_of, leaves, is_left}
 use Rattle.checkout_core.specs.Fates.{Untold, fate_of}
 use Rattle.checkout_core.specs.Notes.{notes}
 use Rattle.checkout_core.specs.Talks.{contains}
-use Rattle.checkout_book.specs.declared.plan.Plan.{Plan}
+use Rattle.checkout_book.specs.declared.plan.BookPlan.{BookPlan}
 use Rattle.checkout_book.specs.declared.plan.Parts.{Parts}
-use Rattle.checkout_book.specs.declared.plan.Entry.{Entry}
+use Rattle.checkout_book.specs.declared.plan.HistoryEntry.{HistoryEntry}
 use Rattle.checkout_book.specs.declared.shelf.Slot.{Slot}
 use Rattle.checkout_book.specs.declared.shelf.Slot.TheVariants.{Away, Waits, Ended}
 use Rattle.checkout_book.specs.Shape.{Shelf}
@@ -122,7 +122,7 @@ module _ {E : Type 0} where
   own_place a (x ∷ xs) (suc i) e at = own_behind a x xs i e (own_place a xs i e at)
 
 -- what an actor left, the history left
-left_own : (p a : ℕ) (h : List (ℕ × Entry)) → is_left p (own_events (own a h)) ≡ true → is_left p (events_of h) ≡ true
+left_own : (p a : ℕ) (h : List (ℕ × HistoryEntry)) → is_left p (own_events (own a h)) ≡ true → is_left p (events_of h) ≡ true
 left_own p a [] left = absurd (cc (left))
 left_own p a (x ∷ xs) left = go (x.0 == a) left (leaves p x.1.event) refl (left_own p a xs)
   where
@@ -158,14 +158,14 @@ module _ {B L : Type 0} (see : Sight B L) where
     pub ends : EndsCard starts history i p a o (seen see card) (see.blob b) (see.leaf l)
 
   -- A Close of the history, and its place in its actor's own list.
-  record OwnClose (d : Plan B L) (s : Shelf B L) (mine : List Entry) (i p a : ℕ) (o : Own) : Type 0 where
+  record OwnClose (d : BookPlan B L) (s : Shelf B L) (mine : List HistoryEntry) (i p a : ℕ) (o : Own) : Type 0 where
     pub is : own a (history_of (tell see) s) ≡ mine
     pub at : OwnPlace (history_of (tell see) s) a i (entry_of (tell see) s.slots.items (Close p a o))
     pub shown : ShowsEnd see d (own_events mine) at.place p a o
         (entry_of (tell see) s.slots.items (Close p a o)).parts
 
   -- the claims before it in the history are those before it in the own list
-  claim_own : (d : Plan B L) (s : Shelf B L) (mine : List Entry) (i p a : ℕ) (o : Own) (c : OwnClose d s mine i p a o)
+  claim_own : (d : BookPlan B L) (s : Shelf B L) (mine : List HistoryEntry) (i p a : ℕ) (o : Own) (c : OwnClose d s mine i p a o)
       → (j : ℕ) → j < i → slice_get s.events.items j ≡ Some (Claim p a)
       → (k : ℕ) × (k < c.at.place) × (slice_get (own_events mine) k ≡ Some (Claim p a))
   claim_own d s mine i p a o c j lt claim =
@@ -174,22 +174,22 @@ module _ {B L : Type 0} (see : Sight B L) where
       let k = c.at.before j x lt e in (
         k.0,
         k.1,
-        get_map (λ (x : Entry). x.event) mine k.0 x (ap (λ (l : List Entry). slice_get l k.0) (sym c.is) ∙ k.2),
+        get_map (λ (x : HistoryEntry). x.event) mine k.0 x (ap (λ (l : List HistoryEntry). slice_get l k.0) (sym c.is) ∙ k.2),
       )
 
-  claim_back : (d : Plan B L) (s : Shelf B L) (mine : List Entry) (i p a : ℕ) (o : Own)
+  claim_back : (d : BookPlan B L) (s : Shelf B L) (mine : List HistoryEntry) (i p a : ℕ) (o : Own)
       (c : OwnClose d s mine i p a o) → (k : ℕ) → k < c.at.place → slice_get (own_events mine) k ≡ Some (Claim p a)
       → (j : ℕ) × (j < i) × (slice_get s.events.items j ≡ Some (Claim p a))
   claim_back d s mine i p a o c k lt claim =
-      let x = get_map_back (λ (e : Entry). e.event) mine k (Claim p a) claim in
-      let j = c.at.back k x.0 lt (ap (λ (l : List Entry). slice_get l k) c.is ∙ x.1) in
+      let x = get_map_back (λ (e : HistoryEntry). e.event) mine k (Claim p a) claim in
+      let j = c.at.back k x.0 lt (ap (λ (l : List HistoryEntry). slice_get l k) c.is ∙ x.1) in
       let y = get_map_back (λ (e : Event).
       (number_in s.starts.value.items s.workers e, entry_of (tell see) s.slots.items e)) s.events.items j.0
       (a, x.0) j.2 in
-      (j.0, j.1, y.1 ∙ ap (λ (e : Event). Some e) (ap (λ (z : ℕ × Entry). z.1.event) y.2 ∙ x.2))
+      (j.0, j.1, y.1 ∙ ap (λ (e : Event). Some e) (ap (λ (z : ℕ × HistoryEntry). z.1.event) y.2 ∙ x.2))
 
   -- so a card was had from the book, or never left its desk, by both or by none
-  book_back : (d : Plan B L) (s : Shelf B L) (mine : List Entry) (i p a : ℕ) (o : Own)
+  book_back : (d : BookPlan B L) (s : Shelf B L) (mine : List HistoryEntry) (i p a : ℕ) (o : Own)
       (c : OwnClose d s mine i p a o) → IsFromBook d.starts.items (own_events mine) c.at.place p a
       → IsFromBook d.starts.items s.events.items i p a
   book_back d s mine i p a o c from = ⊎_elim
@@ -198,7 +198,7 @@ module _ {B L : Type 0} (see : Sight B L) where
       inr (claim_back d s mine i p a o c claim.0 claim.1 claim.2))
       from
 
-  desk_back : (d : Plan B L) (s : Shelf B L) (mine : List Entry) (i p a q : ℕ) (required : Bool) (o : Own)
+  desk_back : (d : BookPlan B L) (s : Shelf B L) (mine : List HistoryEntry) (i p a q : ℕ) (required : Bool) (o : Own)
       (c : OwnClose d s mine i p a o) → IsFromDesk d.starts.items (own_events mine) c.at.place p a q required
       → IsFromDesk d.starts.items s.events.items i p a q required
   desk_back d s mine i p a q required o c from = record {
@@ -208,7 +208,7 @@ module _ {B L : Type 0} (see : Sight B L) where
         from.unclaimed k.0 k.1 k.2;
   }
 
-  own_desk : (d : Plan B L) (s : Shelf B L) (mine : List Entry) (i p a q : ℕ) (required : Bool) (o : Own)
+  own_desk : (d : BookPlan B L) (s : Shelf B L) (mine : List HistoryEntry) (i p a q : ℕ) (required : Bool) (o : Own)
       (c : OwnClose d s mine i p a o) → IsFromDesk d.starts.items s.events.items i p a q required
       → IsFromDesk d.starts.items (own_events mine) c.at.place p a q required
   own_desk d s mine i p a q required o c from = record {
@@ -219,18 +219,18 @@ module _ {B L : Type 0} (see : Sight B L) where
   }
 
   -- the notes of a driver are those of its desk's own list
-  mine_notes : (d : Plan B L) (s : Shelf B L) (mine : List Entry) (q a : ℕ) → plan_of s ≡ d → a ≡ d.workers + q
+  mine_notes : (d : BookPlan B L) (s : Shelf B L) (mine : List HistoryEntry) (q a : ℕ) → plan_of s ≡ d → a ≡ d.workers + q
       → own a (history_of (tell see) s) ≡ mine
       → notes d.starts.items q (own_events mine) ≡ notes d.starts.items q s.events.items
   mine_notes d s mine q a plan seat is =
-      let desk : s.workers + q ≡ a = ap (λ (x : Plan B L). x.workers + q) plan ∙ sym seat in
+      let desk : s.workers + q ≡ a = ap (λ (x : BookPlan B L). x.workers + q) plan ∙ sym seat in
       let same : own (s.workers + q) (history_of (tell see) s) ≡ mine =
       ap (λ (n : ℕ). own n (history_of (tell see) s)) desk ∙ is in
-      subst (λ (x : Plan B L). notes x.starts.items q (own_events mine) ≡ notes x.starts.items q s.events.items) plan
-      (ap (λ (es : List Entry). notes s.starts.value.items q (own_events es)) (sym same)
+      subst (λ (x : BookPlan B L). notes x.starts.items q (own_events mine) ≡ notes x.starts.items q s.events.items) plan
+      (ap (λ (es : List HistoryEntry). notes s.starts.value.items q (own_events es)) (sym same)
       ∙ own_notes (tell see) s.starts.value.items s.workers q s.slots.items s.events.items)
 
-  own_end : (d : Plan B L) (s : Shelf B L) (mine : List Entry) (i p a : ℕ) (o : Own) (b : B) (l : L)
+  own_end : (d : BookPlan B L) (s : Shelf B L) (mine : List HistoryEntry) (i p a : ℕ) (o : Own) (b : B) (l : L)
       → plan_of s ≡ d → OwnClose d s mine i p a o → slice_get s.slots.items p ≡ Some (Ended b l)
       → CardEnd d.starts.items s.events.items (cards_of d) i p a o b l
   own_end d s mine i p a o b l plan c slot =
@@ -262,36 +262,36 @@ module _ {B L : Type 0} (see : Sight B L) where
       }
 
   -- an entry of the history, in its actor's own list
-  record OwnEntry (s : Shelf B L) (ts : List (SeatView Entry (Plan B L))) (i a : ℕ) (e : Event) : Type 0 where
-    pub pass : SeatView Entry (Plan B L)
+  record OwnEntry (s : Shelf B L) (ts : List (SeatView HistoryEntry (BookPlan B L))) (i a : ℕ) (e : Event) : Type 0 where
+    pub pass : SeatView HistoryEntry (BookPlan B L)
     pub there : slice_get ts a ≡ Some pass
     pub is : own a (history_of (tell see) s) ≡ mine_of pass
     pub at : OwnPlace (history_of (tell see) s) a i (entry_of (tell see) s.slots.items e)
     pub mine : slice_get (mine_of pass) at.place ≡ Some (entry_of (tell see) s.slots.items e)
 
-  own_entry : (d : Plan B L) (ts : List (SeatView Entry (Plan B L))) (s : Shelf B L) → IsFinished see d ts s
+  own_entry : (d : BookPlan B L) (ts : List (SeatView HistoryEntry (BookPlan B L))) (s : Shelf B L) → IsFinished see d ts s
       → (i a : ℕ) (e : Event) → slice_get s.events.items i ≡ Some e → number_in s.starts.value.items s.workers e ≡ a
       → OwnEntry s ts i a e
   own_entry d ts s f i a e at by = ⊎_elim
-      (λ (t : (x : SeatView Entry (Plan B L)) × (slice_get ts a ≡ Some x)).
+      (λ (t : (x : SeatView HistoryEntry (BookPlan B L)) × (slice_get ts a ≡ Some x)).
       let mine : own a h ≡ mine_of t.0 = f.mine a t.0 t.1 in
       record {
         pass = t.0;
         there = t.1;
         is = mine;
         at = own_at;
-        mine = ap (λ (l : List Entry). slice_get l own_at.place) (sym mine) ∙ own_at.there;
+        mine = ap (λ (l : List HistoryEntry). slice_get l own_at.place) (sym mine) ∙ own_at.there;
       })
       (λ (past : length ts ≤ a).
       let none = f.none a past in
-      let u : None ≡ Some x = sym (ap (λ (l : List Entry). slice_get l own_at.place) none) ∙ own_at.there in
+      let u : None ≡ Some x = sym (ap (λ (l : List HistoryEntry). slice_get l own_at.place) none) ∙ own_at.there in
       absurd (cc (u)))
       (there_or_past ts a)
     where
-      h : List (ℕ × Entry)
+      h : List (ℕ × HistoryEntry)
       h = history_of (tell see) s
 
-      x : Entry
+      x : HistoryEntry
       x = entry_of (tell see) s.slots.items e
 
       own_at : OwnPlace h a i x
@@ -300,10 +300,10 @@ module _ {B L : Type 0} (see : Sight B L) where
           ∙ ap (λ (n : ℕ). Some (n, x)) by)
 
   -- a Close of the history is one of its actor's own list
-  own_close : (lock : TableId) (d : Plan B L) (made : ℕ) (ts : List (SeatView Entry (Plan B L))) (s : Shelf B L)
+  own_close : (lock : TableId) (d : BookPlan B L) (made : ℕ) (ts : List (SeatView HistoryEntry (BookPlan B L))) (s : Shelf B L)
       → AreBack see lock d 0 made ts → IsFinished see d ts s → (i p a : ℕ) (o : Own)
       → slice_get s.events.items i ≡ Some (Close p a o)
-      → (x : SeatView Entry (Plan B L)) × (slice_get ts a ≡ Some x) × OwnClose d s (mine_of x) i p a o
+      → (x : SeatView HistoryEntry (BookPlan B L)) × (slice_get ts a ≡ Some x) × OwnClose d s (mine_of x) i p a o
   own_close lock d made ts s back f i p a o at =
       let c = own_entry d ts s f i a (Close p a o) at refl in
       let k = back_at see lock d 0 made ts a c.pass back c.there in (
@@ -317,21 +317,21 @@ module _ {B L : Type 0} (see : Sight B L) where
       )
 
   -- what a desk's own list says of what it handed back
-  finished_backs : (lock : TableId) (d : Plan B L) (made : ℕ) (ts : List (SeatView Entry (Plan B L)))
+  finished_backs : (lock : TableId) (d : BookPlan B L) (made : ℕ) (ts : List (SeatView HistoryEntry (BookPlan B L)))
       (s : Shelf B L) → AreBack see lock d 0 made ts → IsFinished see d ts s
       → RefusedBacks d.starts.items s.events.items
   finished_backs lock d made ts s back f i p q required at begun =
       let driver = ap (λ (o : Option Start). elim o as (λ _. Option ℕ) [ None ↦ None | Some s ↦ own_driver s ]) begun in
-      let by = subst (λ (x : Plan B L). number_in x.starts.items x.workers (HandBack p) ≡ d.workers + q)
+      let by = subst (λ (x : BookPlan B L). number_in x.starts.items x.workers (HandBack p) ≡ d.workers + q)
       (sym f.plan) (ap (λ (o : Option ℕ). number_or (seat d.workers o)) driver) in
       let c = own_entry d ts s f i (d.workers + q) (HandBack p) at by in
       let k = back_at see lock d 0 made ts (d.workers + q) c.pass back c.there in
       let r = k.1.backs c.at.place p q required
-      (get_map (λ (x : Entry). x.event) (mine_of c.pass) c.at.place (entry_of (tell see) s.slots.items (HandBack p))
+      (get_map (λ (x : HistoryEntry). x.event) (mine_of c.pass) c.at.place (entry_of (tell see) s.slots.items (HandBack p))
       c.mine) begun in
       (r.0, r.1, ap (fate_of p Untold) (sym (mine_notes d s (mine_of c.pass) q (d.workers + q) f.plan refl c.is)) ∙ r.2)
 
-  close_shown : (lock : TableId) (d : Plan B L) (made : ℕ) (ts : List (SeatView Entry (Plan B L))) (s : Shelf B L)
+  close_shown : (lock : TableId) (d : BookPlan B L) (made : ℕ) (ts : List (SeatView HistoryEntry (BookPlan B L))) (s : Shelf B L)
       → AreBack see lock d 0 made ts → IsFinished see d ts s → (i p a : ℕ) (o : Own) (b : B) (l : L)
       → slice_get s.events.items i ≡ Some (Close p a o) → slice_get s.slots.items p ≡ Some (Ended b l)
       → CardEnd d.starts.items s.events.items (cards_of d) i p a o b l
@@ -346,24 +346,24 @@ module _ {B L : Type 0} (see : Sight B L) where
   slot_of (Some (Ended b k)) l e = (b, ap (λ (z : L). Some (Ended b z)) (some_is k l e))
 
   -- the leaf of a card that a desk closed, by the history, is one of those that its own list tells of
-  pub seals_own : (lock : TableId) (d : Plan B L) (made : ℕ) (ts : List (SeatView Entry (Plan B L))) (s : Shelf B L)
-      → AreBack see lock d 0 made ts → IsFinished see d ts s → (q : ℕ) (t : SeatView Entry (Plan B L))
+  pub seals_own : (lock : TableId) (d : BookPlan B L) (made : ℕ) (ts : List (SeatView HistoryEntry (BookPlan B L))) (s : Shelf B L)
+      → AreBack see lock d 0 made ts → IsFinished see d ts s → (q : ℕ) (t : SeatView HistoryEntry (BookPlan B L))
       → slice_get ts (d.workers + q) ≡ Some t → (p : ℕ) (leaf : LeafSeen) → EndsOn see s q p leaf
       → EndsIn (mine_of t) p leaf
   seals_own lock d made ts s back f q t at p leaf z =
       let c = own_close lock d made ts s back f z.place p z.actor z.own z.entry in
       let own_from = own_desk d s (mine_of c.0) z.place p z.actor q z.required z.own c.2
-      (subst (λ (x : Plan B L). IsFromDesk x.starts.items s.events.items z.place p z.actor q z.required) f.plan
+      (subst (λ (x : BookPlan B L). IsFromDesk x.starts.items s.events.items z.place p z.actor q z.required) f.plan
       z.desk) in
       let seat = c.2.shown.desk q z.required own_from in
       let same : c.0 ≡ t = some_is c.0 t (sym c.1 ∙ (ap (slice_get ts) seat ∙ at)) in
       let slot = slot_of (slice_get s.slots.items p) z.leaf z.there in
-      subst (λ (x : SeatView Entry (Plan B L)). EndsIn (mine_of x) p leaf) same (record {
+      subst (λ (x : SeatView HistoryEntry (BookPlan B L)). EndsIn (mine_of x) p leaf) same (record {
         place = c.2.at.place;
         actor = z.actor;
         own = z.own;
         ended = tell see slot.0 z.leaf;
-        here = ap (λ (l : List Entry). slice_get l c.2.at.place) (sym c.2.is)
+        here = ap (λ (l : List HistoryEntry). slice_get l c.2.at.place) (sym c.2.is)
             ∙ (c.2.at.there
             ∙ ap (λ (o : Option (Slot B L)).
             Some (record { event = Close p z.actor z.own; parts = parts_at (tell see) o })) slot.1);
@@ -372,39 +372,39 @@ module _ {B L : Type 0} (see : Sight B L) where
       })
 
   -- the desks left each path of their drivers
-  all_left : (lock : TableId) (d : Plan B L) (made : ℕ) (ts : List (SeatView Entry (Plan B L))) (s : Shelf B L)
+  all_left : (lock : TableId) (d : BookPlan B L) (made : ℕ) (ts : List (SeatView HistoryEntry (BookPlan B L))) (s : Shelf B L)
       → AreBack see lock d 0 made ts → length ts ≡ d.workers + d.drivers → IsFinished see d ts s → (q p : ℕ)
       → q < d.drivers → contains p (paths_of q d.starts.items) ≡ true → is_left p s.events.items ≡ true
   all_left lock d made ts s back long f q p lt own_path = ⊎_elim
-      (λ (t : (x : SeatView Entry (Plan B L)) × (slice_get ts (d.workers + q) ≡ Some x)).
+      (λ (t : (x : SeatView HistoryEntry (BookPlan B L)) × (slice_get ts (d.workers + q) ≡ Some x)).
       let b = back_at see lock d 0 made ts (d.workers + q) t.0 back t.1 in
       let left = b.1.left q p lt (omega arith) own_path in
       subst (λ (es : List Event). is_left p es ≡ true)
       (shelf_events s.starts.value.items s.workers s.slots.items s.events.items)
       (left_own p (d.workers + q) (history_of (tell see) s)
-      (subst (λ (es : List Entry). is_left p (own_events es) ≡ true) (sym (f.mine (d.workers + q) t.0 t.1)) left)))
+      (subst (λ (es : List HistoryEntry). is_left p (own_events es) ≡ true) (sym (f.mine (d.workers + q) t.0 t.1)) left)))
       (λ (past : length ts ≤ d.workers + q). absurd (omega (arith, lt, past, long)))
       (there_or_past ts (d.workers + q))
 
-  pub quieted : TakesPath → ClosesPath → BacksPath → KeepsPaths → KeepsNone → (lock : TableId) (d : Plan B L)
-      (made : ℕ) (ts : List (SeatView Entry (Plan B L))) (s : Shelf B L) → AreBack see lock d 0 made ts
+  pub quieted : TakesPath → ClosesPath → BacksPath → KeepsPaths → KeepsNone → (lock : TableId) (d : BookPlan B L)
+      (made : ℕ) (ts : List (SeatView HistoryEntry (BookPlan B L))) (s : Shelf B L) → AreBack see lock d 0 made ts
       → 0 < length ts → length ts ≡ d.workers + d.drivers → IsFinished see d ts s → IsQuiet see s
   quieted takes closes backs keeps none lock d made ts s back some long f = record {
     goes_on = record {
       sound = f.sound;
       room = f.room;
-      some = subst (λ (x : Plan B L). 0 < x.workers + x.drivers) (sym f.plan) (omega (arith, some, long));
+      some = subst (λ (x : BookPlan B L). 0 < x.workers + x.drivers) (sym f.plan) (omega (arith, some, long));
     };
     hands = f.hands;
     away = none_with_driver takes closes backs keeps none s.starts.value.items s.workers s.drivers s.events.items s.core
         f.sound.below f.sound.run
-        (subst (λ (x : Plan B L). (q p : ℕ) → q < x.drivers → contains p (paths_of q x.starts.items) ≡ true
+        (subst (λ (x : BookPlan B L). (q p : ℕ) → q < x.drivers → contains p (paths_of q x.starts.items) ≡ true
         → is_left p s.events.items ≡ true) (sym f.plan) (all_left lock d made ts s back long f));
-    backs = subst (λ (x : Plan B L). RefusedBacks x.starts.items s.events.items) (sym f.plan)
+    backs = subst (λ (x : BookPlan B L). RefusedBacks x.starts.items s.events.items) (sym f.plan)
         (finished_backs lock d made ts s back f);
     closed = λ i p a o at.
         let e = ended_at s.slots.items s.events.items i p a o f.sound.ended at in
-        let c = subst (λ (x : Plan B L). CardEnd x.starts.items s.events.items (cards_of x) i p a o e.0 e.1)
+        let c = subst (λ (x : BookPlan B L). CardEnd x.starts.items s.events.items (cards_of x) i p a o e.0 e.1)
         (sym f.plan) (close_shown lock d made ts s back f i p a o e.0 e.1 at e.2) in
         (e.0, e.1, e.2, c.number, c.card, c.planned, c.path, c.ends);
   }

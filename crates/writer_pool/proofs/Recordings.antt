@@ -21,9 +21,9 @@ use Rattle.checkout_core.specs.Steps.{IsLegal}
 use Rattle.checkout_core.specs.Actors.{actor_of, own_entries, is_claim, is_step, driver_in, driver_at, seat, own_driver}
 use Rattle.checkout_core.specs.Desks.{MayNext, paths_of}
 use Rattle.checkout_core.specs.Notes.{is_noted}
-use Rattle.checkout_book.specs.declared.plan.Plan.{Plan}
+use Rattle.checkout_book.specs.declared.plan.BookPlan.{BookPlan}
 use Rattle.checkout_book.specs.declared.plan.Parts.{Parts}
-use Rattle.checkout_book.specs.declared.plan.Entry.{Entry}
+use Rattle.checkout_book.specs.declared.plan.HistoryEntry.{HistoryEntry}
 use Rattle.checkout_book.specs.Sights.{Sight, seen, tell}
 use Rattle.checkout_book.specs.Entries.{events_of}
 use Rattle.checkout_book.specs.Shelves.{cards_of, joined, IsOut, IsRefused}
@@ -37,11 +37,11 @@ use Rattle.writer_pool.proofs.Places.{some_is, same_number, eqb_self, get_map, g
 use Rattle.writer_pool.proofs.Dealt.{same_place, starts_at}
 
 -- the entries are the actor's
-abbrev pub AllBy : List Start → ℕ → ℕ → List Entry → Type 0
+abbrev pub AllBy : List Start → ℕ → ℕ → List HistoryEntry → Type 0
 AllBy starts workers n [] = Unit {0}
 AllBy starts workers n (e ∷ es) = (actor_of starts workers e.event ≡ Some n) × AllBy starts workers n es
 
-pub own_by : (starts : List Start) (workers n : ℕ) (h : List (ℕ × Entry)) → Stamped starts workers h
+pub own_by : (starts : List Start) (workers n : ℕ) (h : List (ℕ × HistoryEntry)) → Stamped starts workers h
     → AllBy starts workers n (own n h)
 own_by starts workers n [] s = tt
 own_by starts workers n (x ∷ xs) s = go (x.0 == n) refl (own_by starts workers n xs s.1)
@@ -103,16 +103,16 @@ given_event s n starts cards (ev.Listed d y) x seat by = refl
 given_event s n starts cards (ev.Redone p y) x seat by = refl
 given_event s n starts cards (ev.Shut d) x seat by = refl
 
-given_events : (s : Standing) (n : ℕ) (starts : List Start) (cards : List CardSeen) (es : List Entry)
+given_events : (s : Standing) (n : ℕ) (starts : List Start) (cards : List CardSeen) (es : List HistoryEntry)
     → s.workers + s.driver ≡ n → AllBy starts s.workers n es → events_in s (given_in cards es) ≡ own_events es
 given_events s n starts cards [] seat by = refl
 given_events s n starts cards (e ∷ es) seat by =
     ap (λ (f : Event). f ∷ events_in s (given_in cards es)) (given_event s n starts cards e.event e.parts seat by.0)
     ∙ ap (λ (l : List Event). e.event ∷ l) (given_events s n starts cards es seat by.1)
 
-given_more : (cards : List CardSeen) (xs : List Entry) (e : Entry)
+given_more : (cards : List CardSeen) (xs : List HistoryEntry) (e : HistoryEntry)
     → given_in cards (xs ++ e ∷ []) ≡ given_in cards xs ++ given_by cards e.event e.parts ∷ []
-given_more cards xs e = map-append (λ (z : Entry). given_by cards z.event z.parts) xs (e ∷ [])
+given_more cards xs e = map-append (λ (z : HistoryEntry). given_by cards z.event z.parts) xs (e ∷ [])
 
 -- a note is given as it is
 noted_given : (cards : List CardSeen) (e : Event) → is_noted e ≡ true → given_by cards e None ≡ Noted e
@@ -165,11 +165,11 @@ FollowIsStep = (starts : List Start) (workers drivers a : ℕ) (history : List E
     → is_step x e ≡ true
 
 abbrev pub ListsOwn : Type 0 → Type 0 → Type 0
-ListsOwn B L = (lock : TableId) (d : Plan B L) (n made : ℕ) (pass : SeatView Entry (Plan B L)) (c : Core)
+ListsOwn B L = (lock : TableId) (d : BookPlan B L) (n made : ℕ) (pass : SeatView HistoryEntry (BookPlan B L)) (c : Core)
     → IsPass lock d n made pass c
     → own_entries d.starts.items d.workers n (events_of (seen_of pass)) ≡ map (λ e. e.event) (mine_of pass)
 
-own_more : (starts : List Start) (q : ℕ) (xs : List Entry) (e : Entry) → CloseOwn starts q xs
+own_more : (starts : List Start) (q : ℕ) (xs : List HistoryEntry) (e : HistoryEntry) → CloseOwn starts q xs
     → ClosesOwn starts q e.event e.parts → CloseOwn starts q (xs ++ e ∷ [])
 own_more starts q [] e all last = (last, tt)
 own_more starts q (x ∷ xs) e all last = (all.0, own_more starts q xs e all.1 last)
@@ -208,7 +208,7 @@ module _ {B L : Type 0} where
       (length v.items + r.0, get_second v.items (joined vs) r.0 ∙ r.1)
 
   -- a desk's card is a planned one
-  pub in_cards : (d : Plan B L) (q k : ℕ) (c : Card B L) → slice_get (desk_cards d q) k ≡ Some c
+  pub in_cards : (d : BookPlan B L) (q k : ℕ) (c : Card B L) → slice_get (desk_cards d q) k ≡ Some c
       → (j : ℕ) × (slice_get (cards_of d) j ≡ Some c)
   in_cards d q k c e =
       let r = in_joined d.desks.items q k c e in
@@ -229,7 +229,7 @@ module _ {B L : Type 0} where
 
 module _ {B L : Type 0} (see : Sight B L) where
   -- a desk has one card of each path
-  pub one_card : (d : Plan B L) (q : ℕ) → AreDealt d.starts.items 0 d.desks.items → (i j : ℕ) (x y : CardSeen)
+  pub one_card : (d : BookPlan B L) (q : ℕ) → AreDealt d.starts.items 0 d.desks.items → (i j : ℕ) (x y : CardSeen)
       → slice_get (map (λ c. seen see c) (desk_cards d q)) i ≡ Some x
       → slice_get (map (λ c. seen see c) (desk_cards d q)) j ≡ Some y → x.path ≡ y.path → x ≡ y
   one_card d q dealt i j x y e f same =
@@ -246,7 +246,7 @@ module _ {B L : Type 0} (see : Sight B L) where
       let place : i ≡ j = same_place q d.starts.items i j x.path first second in
       some_is x y (sym e ∙ (ap (slice_get cards) place ∙ f))
 
-  close_own : (d : Plan B L) (q : ℕ) (card : Card B L) → AreDealt d.starts.items 0 d.desks.items
+  close_own : (d : BookPlan B L) (q : ℕ) (card : Card B L) → AreDealt d.starts.items 0 d.desks.items
       → IsOneOf (map (λ c. seen see c) (desk_cards d q)) (seen see card) → driver_at d.starts.items card.path ≡ Some q
   close_own d q card dealt of =
       let n : 0 + q ≡ q = omega arith in
@@ -264,7 +264,7 @@ module _ {B L : Type 0} (see : Sight B L) where
       sym (ap (λ (k : CardSeen). record k { blob = card.blob; leaf = card.leaf; ready = None }) of)
       ∙ ap (λ r. record card { ready = r }) (sym unready)
 
-  given_close : (d : Plan B L) (q n : ℕ) (o : Own) (card : Card B L) → AreDealt d.starts.items 0 d.desks.items
+  given_close : (d : BookPlan B L) (q n : ℕ) (o : Own) (card : Card B L) → AreDealt d.starts.items 0 d.desks.items
       → IsOneOf (map (λ c. seen see c) (desk_cards d q)) (seen see card) → card.ready ≡ None
       → given_by (map (λ c. seen see c) (desk_cards d q)) (Close card.path n o) (Some (tell see card.blob card.leaf))
       ≡ Closed o (seen see card)
@@ -279,7 +279,7 @@ module _ {B L : Type 0} (see : Sight B L) where
       ∙ ap (λ (c : CardSeen). Closed o c) (closed_whole planned (seen see card) of.3 unready)
 
   -- after an entry more
-  pub record After (lock : TableId) (r : Recording B L) (t : SeatView Entry (Plan B L)) (required : Bool) (g : Given)
+  pub record After (lock : TableId) (r : Recording B L) (t : SeatView HistoryEntry (BookPlan B L)) (required : Bool) (g : Given)
       : Type 0 where
     pub desk : IsDeskPass lock t
     pub given : given_of see (record { pass = t; required = required }) ≡ given_of see r ++ g ∷ []
@@ -297,14 +297,14 @@ module _ {B L : Type 0} (see : Sight B L) where
       recorded : Standing → List Given → Place B L → RecorderSeen (Place B L)
       recorded z gs p = record { standing = z; given = gs; fixed = p }
 
-  pub standing_is : (lock : TableId) (s : SeatView Entry (Plan B L)) (required : Bool) (i : IsDeskPass lock s)
+  pub standing_is : (lock : TableId) (s : SeatView HistoryEntry (BookPlan B L)) (required : Bool) (i : IsDeskPass lock s)
       → standing_of see (record { pass = s; required = required })
       ≡ standing_at see (Some i.plan) (number_of s) required
   standing_is lock s required i =
-      ap (λ (o : Option (Plan B L)). standing_at see o (number_of s) required) i.pass.seat.told
+      ap (λ (o : Option (BookPlan B L)). standing_at see o (number_of s) required) i.pass.seat.told
 
-  after : (lock : TableId) (s t : SeatView Entry (Plan B L)) (required : Bool) (g : Given) (i : IsDeskPass lock s)
-      (c : Core) (e : Entry) → IsPass lock i.plan (number_of s) i.made t c → mine_of t ≡ mine_of s ++ e ∷ []
+  after : (lock : TableId) (s t : SeatView HistoryEntry (BookPlan B L)) (required : Bool) (g : Given) (i : IsDeskPass lock s)
+      (c : Core) (e : HistoryEntry) → IsPass lock i.plan (number_of s) i.made t c → mine_of t ≡ mine_of s ++ e ∷ []
       → ((q : ℕ) → held_at c (number_of s) q ≡ false)
       → ClosesOwn i.plan.starts.items (number_of s - i.plan.workers) e.event e.parts
       → given_by (map (λ c. seen see c) (desk_cards i.plan (number_of s - i.plan.workers))) e.event e.parts ≡ g
@@ -334,19 +334,19 @@ module _ {B L : Type 0} (see : Sight B L) where
               (own_more d.starts.items (number_of s - d.workers) (mine_of s) e i.own own));
         };
         given = ap (λ (x : Standing). given_in x.cards (mine_of t)) standing
-            ∙ (ap (λ (l : List Entry). given_in cards0 l) mine
+            ∙ (ap (λ (l : List HistoryEntry). given_in cards0 l) mine
             ∙ (given_more cards0 (mine_of s) e
             ∙ ap (λ (x : Given). given_in cards0 (mine_of s) ++ x ∷ []) there));
         standing = standing;
         place = λ k. record { lock = place k; plan = told k; number = number k; made = made k };
       }
 
-  pub seat_is : (lock : TableId) (s : SeatView Entry (Plan B L)) (i : IsDeskPass lock s)
+  pub seat_is : (lock : TableId) (s : SeatView HistoryEntry (BookPlan B L)) (i : IsDeskPass lock s)
       → i.plan.workers + (number_of s - i.plan.workers) ≡ number_of s
   seat_is lock s i = let le = i.desk in omega (arith, le)
 
   -- what was given has the events of the pass's own list
-  pub events_own : (lock : TableId) (s : SeatView Entry (Plan B L)) (required : Bool) (i : IsDeskPass lock s)
+  pub events_own : (lock : TableId) (s : SeatView HistoryEntry (BookPlan B L)) (required : Bool) (i : IsDeskPass lock s)
       → events_in (standing_of see (record { pass = s; required = required }))
       (given_of see (record { pass = s; required = required })) ≡ own_events (mine_of s)
   events_own lock s required i =
@@ -359,7 +359,7 @@ module _ {B L : Type 0} (see : Sight B L) where
       ∙ given_events x n d.starts.items x.cards (mine_of s) (seat_is lock s i) by_own
 
   -- what the recorder may be given is a step of the book's pass
-  may_step : FollowIsStep → ListsOwn B L → (lock : TableId) (s : SeatView Entry (Plan B L)) (required : Bool)
+  may_step : FollowIsStep → ListsOwn B L → (lock : TableId) (s : SeatView HistoryEntry (BookPlan B L)) (required : Bool)
       (i : IsDeskPass lock s) (e : Event) → is_claim e ≡ false
       → actor_of i.plan.starts.items i.plan.workers e ≡ Some (number_of s)
       → MayDo (standing_at see (Some i.plan) (number_of s) required)
@@ -375,7 +375,7 @@ module _ {B L : Type 0} (see : Sight B L) where
       follows d.starts.items d.workers d.drivers n (events_of (seen_of s)) i.core e i.pass.reads.run by
       (subst (λ (l : List Event). MayNext d.starts.items d.workers d.drivers l e) same may) free
 
-  note_by : (lock : TableId) (s : SeatView Entry (Plan B L)) (required : Bool) (i : IsDeskPass lock s) (e : Event)
+  note_by : (lock : TableId) (s : SeatView HistoryEntry (BookPlan B L)) (required : Bool) (i : IsDeskPass lock s) (e : Event)
       → is_noted e ≡ true
       → driver_in (standing_of see (record { pass = s; required = required })).starts e
       ≡ Some (standing_of see (record { pass = s; required = required })).driver
@@ -385,7 +385,7 @@ module _ {B L : Type 0} (see : Sight B L) where
       note_actor i.plan.starts.items i.plan.workers (number_of s - i.plan.workers) e is own1
       ∙ ap (λ (n : ℕ). Some n) (seat_is lock s i)
 
-  note_step : FollowIsStep → ListsOwn B L → (lock : TableId) (s : SeatView Entry (Plan B L)) (required : Bool)
+  note_step : FollowIsStep → ListsOwn B L → (lock : TableId) (s : SeatView HistoryEntry (BookPlan B L)) (required : Bool)
       (i : IsDeskPass lock s) (e : Event) → is_noted e ≡ true
       → driver_in (standing_of see (record { pass = s; required = required })).starts e
       ≡ Some (standing_of see (record { pass = s; required = required })).driver
@@ -395,7 +395,7 @@ module _ {B L : Type 0} (see : Sight B L) where
       may_step follows lists lock s required i e (note_free e is) (note_by lock s required i e is own)
       (subst (λ (x : Standing). MayDo x (given_in x.cards (mine_of s)) e) (standing_is lock s required i) may)
 
-  after_note : (lock : TableId) (s t : SeatView Entry (Plan B L)) (required : Bool) (i : IsDeskPass lock s)
+  after_note : (lock : TableId) (s t : SeatView HistoryEntry (BookPlan B L)) (required : Bool) (i : IsDeskPass lock s)
       (e : Event) → is_noted e ≡ true → Appends lock i.plan (number_of s) i.made s t i.core e
       → After lock (record { pass = s; required = required }) t required (Noted e)
   after_note lock s t required i e is k =
@@ -403,7 +403,7 @@ module _ {B L : Type 0} (see : Sight B L) where
       (λ q. k.hands q ∙ i.hands q) (note_own i.plan.starts.items (number_of s - i.plan.workers) e is)
       (noted_given (map (λ (c : Card B L). seen see c) (desk_cards i.plan (number_of s - i.plan.workers))) e is)
 
-  close_step : FollowIsStep → ListsOwn B L → (lock : TableId) (s : SeatView Entry (Plan B L)) (required : Bool)
+  close_step : FollowIsStep → ListsOwn B L → (lock : TableId) (s : SeatView HistoryEntry (BookPlan B L)) (required : Bool)
       (i : IsDeskPass lock s) (p : ℕ) (o : Own)
       → MayDo (standing_of see (record { pass = s; required = required }))
       (given_of see (record { pass = s; required = required }))
@@ -417,7 +417,7 @@ module _ {B L : Type 0} (see : Sight B L) where
       may_step follows lists lock s required i (Close p (number_of s) o) refl refl
       (subst (λ (n : ℕ). MayDo x (given_in x.cards (mine_of s)) (Close p n o)) (seat_is lock s i) may1)
 
-  close_out : (lock : TableId) (s : SeatView Entry (Plan B L)) (required : Bool) (i : IsDeskPass lock s)
+  close_out : (lock : TableId) (s : SeatView HistoryEntry (BookPlan B L)) (required : Bool) (i : IsDeskPass lock s)
       (card : Card B L)
       → IsOneOf (standing_of see (record { pass = s; required = required })).cards (seen see card)
       → IsOut see (cards_of i.plan) card
@@ -428,7 +428,7 @@ module _ {B L : Type 0} (see : Sight B L) where
       let r = in_cards i.plan q of.0 b.0 b.1 in
       (r.0, b.0, r.1, subst (λ (c : CardSeen). IsCardOf c (seen see card)) (sym b.2) of.3)
 
-  after_close : (lock : TableId) (s t : SeatView Entry (Plan B L)) (required : Bool) (i : IsDeskPass lock s)
+  after_close : (lock : TableId) (s t : SeatView HistoryEntry (BookPlan B L)) (required : Bool) (i : IsDeskPass lock s)
       (card : Card B L) (o : Own)
       → IsOneOf (standing_of see (record { pass = s; required = required })).cards (seen see card)
       → card.ready ≡ None
@@ -443,7 +443,7 @@ module _ {B L : Type 0} (see : Sight B L) where
       (close_own i.plan q card i.dealt of)
       (given_close i.plan q (number_of s) o card i.dealt of unready)
 
-  back_by : (lock : TableId) (s : SeatView Entry (Plan B L)) (required : Bool) (i : IsDeskPass lock s) (p : ℕ)
+  back_by : (lock : TableId) (s : SeatView HistoryEntry (BookPlan B L)) (required : Bool) (i : IsDeskPass lock s) (p : ℕ)
       → driver_at (standing_of see (record { pass = s; required = required })).starts p
       ≡ Some (standing_of see (record { pass = s; required = required })).driver
       → actor_of i.plan.starts.items i.plan.workers (HandBack p) ≡ Some (number_of s)
@@ -451,7 +451,7 @@ module _ {B L : Type 0} (see : Sight B L) where
       let own1 = subst (λ (x : Standing). driver_at x.starts p ≡ Some x.driver) (standing_is lock s required i) own in
       ap (seat i.plan.workers) own1 ∙ ap (λ (n : ℕ). Some n) (seat_is lock s i)
 
-  back_step : FollowIsStep → ListsOwn B L → (lock : TableId) (s : SeatView Entry (Plan B L)) (required : Bool)
+  back_step : FollowIsStep → ListsOwn B L → (lock : TableId) (s : SeatView HistoryEntry (BookPlan B L)) (required : Bool)
       (i : IsDeskPass lock s) (p : ℕ)
       → driver_at (standing_of see (record { pass = s; required = required })).starts p
       ≡ Some (standing_of see (record { pass = s; required = required })).driver
@@ -462,7 +462,7 @@ module _ {B L : Type 0} (see : Sight B L) where
       (subst (λ (x : Standing). MayDo x (given_in x.cards (mine_of s)) (HandBack p)) (standing_is lock s required i)
       may)
 
-  back_refused : (lock : TableId) (s : SeatView Entry (Plan B L)) (required : Bool) (i : IsDeskPass lock s)
+  back_refused : (lock : TableId) (s : SeatView HistoryEntry (BookPlan B L)) (required : Bool) (i : IsDeskPass lock s)
       (card : Card B L)
       → IsRefusedOneOf (standing_of see (record { pass = s; required = required })).cards (seen see card)
       → IsRefused see (cards_of i.plan) card
@@ -473,7 +473,7 @@ module _ {B L : Type 0} (see : Sight B L) where
       let r = in_cards i.plan q of.0 b.0 b.1 in
       (r.0, b.0, r.1, subst (λ (c : CardSeen). IsRefusedCard c (seen see card)) (sym b.2) of.3)
 
-  after_back : (lock : TableId) (s t : SeatView Entry (Plan B L)) (required : Bool) (i : IsDeskPass lock s) (p : ℕ)
+  after_back : (lock : TableId) (s t : SeatView HistoryEntry (BookPlan B L)) (required : Bool) (i : IsDeskPass lock s) (p : ℕ)
       → Appends lock i.plan (number_of s) i.made s t i.core (HandBack p)
       → After lock (record { pass = s; required = required }) t required (HandedBack p)
   after_back lock s t required i p k =
@@ -481,7 +481,7 @@ module _ {B L : Type 0} (see : Sight B L) where
       (λ q. k.hands q ∙ i.hands q) tt refl
 
   -- the same of what is seen of a recorder
-  pub note_may : FollowIsStep → ListsOwn B L → (lock : TableId) (s : SeatView Entry (Plan B L)) (required : Bool)
+  pub note_may : FollowIsStep → ListsOwn B L → (lock : TableId) (s : SeatView HistoryEntry (BookPlan B L)) (required : Bool)
       (r : Recording B L) → record { pass = s; required = required } ≡ r → (i : IsDeskPass lock s) (e : Event)
       → is_noted e ≡ true → driver_in (standing_of see r).starts e ≡ Some (standing_of see r).driver
       → MayDo (standing_of see r) (given_of see r) e
@@ -495,13 +495,13 @@ module _ {B L : Type 0} (see : Sight B L) where
         note_step follows lists lock s required i e noted own may,
       ))
 
-  pub noted : (lock : TableId) (s t : SeatView Entry (Plan B L)) (required : Bool) (r : Recording B L)
+  pub noted : (lock : TableId) (s t : SeatView HistoryEntry (BookPlan B L)) (required : Bool) (r : Recording B L)
       → record { pass = s; required = required } ≡ r → (i : IsDeskPass lock s) (e : Event) → is_noted e ≡ true
       → Appends lock i.plan (number_of s) i.made s t i.core e → After lock r t required (Noted e)
   noted lock s t required r is i e free k =
       subst (λ (x : Recording B L). After lock x t required (Noted e)) is (after_note lock s t required i e free k)
 
-  pub close_may : FollowIsStep → ListsOwn B L → (lock : TableId) (s : SeatView Entry (Plan B L)) (required : Bool)
+  pub close_may : FollowIsStep → ListsOwn B L → (lock : TableId) (s : SeatView HistoryEntry (BookPlan B L)) (required : Bool)
       (r : Recording B L) → record { pass = s; required = required } ≡ r → (i : IsDeskPass lock s) (card : Card B L)
       (o : Own) → IsOneOf (standing_of see r).cards (seen see card)
       → MayDo (standing_of see r) (given_of see r)
@@ -516,7 +516,7 @@ module _ {B L : Type 0} (see : Sight B L) where
         close_out lock s required i card of,
       ))
 
-  pub closed : (lock : TableId) (s t : SeatView Entry (Plan B L)) (required : Bool) (r : Recording B L)
+  pub closed : (lock : TableId) (s t : SeatView HistoryEntry (BookPlan B L)) (required : Bool) (r : Recording B L)
       → record { pass = s; required = required } ≡ r → (i : IsDeskPass lock s) (card : Card B L) (o : Own)
       → IsOneOf (standing_of see r).cards (seen see card) → card.ready ≡ None
       → Closes lock i.plan (number_of s) i.made s t i.core card.path o (tell see card.blob card.leaf)
@@ -525,7 +525,7 @@ module _ {B L : Type 0} (see : Sight B L) where
       IsOneOf (standing_of see x).cards (seen see card) → After lock x t required (Closed o (seen see card))) is
       (λ of0. after_close lock s t required i card o of0 unready k) of
 
-  pub back_may : FollowIsStep → ListsOwn B L → (lock : TableId) (s : SeatView Entry (Plan B L)) (required : Bool)
+  pub back_may : FollowIsStep → ListsOwn B L → (lock : TableId) (s : SeatView HistoryEntry (BookPlan B L)) (required : Bool)
       (r : Recording B L) → record { pass = s; required = required } ≡ r → (i : IsDeskPass lock s) (card : Card B L)
       → IsRefusedOneOf (standing_of see r).cards (seen see card)
       → driver_at (standing_of see r).starts card.path ≡ Some (standing_of see r).driver
@@ -544,7 +544,7 @@ module _ {B L : Type 0} (see : Sight B L) where
         back_refused lock s required i card of,
       ))
 
-  pub handed_back : (lock : TableId) (s t : SeatView Entry (Plan B L)) (required : Bool) (r : Recording B L)
+  pub handed_back : (lock : TableId) (s t : SeatView HistoryEntry (BookPlan B L)) (required : Bool) (r : Recording B L)
       → record { pass = s; required = required } ≡ r → (i : IsDeskPass lock s) (p : ℕ)
       → Appends lock i.plan (number_of s) i.made s t i.core (HandBack p) → After lock r t required (HandedBack p)
   handed_back lock s t required r is i p k =

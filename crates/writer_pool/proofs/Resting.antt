@@ -18,7 +18,7 @@ use Rattle.checkout_core.specs.Fates.{Untold, fate_of}
 use Rattle.checkout_core.specs.Notes.{notes}
 use Rattle.checkout_core.specs.Hands.{is_held, held_at, Holds}
 use Rattle.core_laws.specs.Moves.{Moved, is_with_driver}
-use Rattle.checkout_book.specs.declared.plan.Plan.{Plan}
+use Rattle.checkout_book.specs.declared.plan.BookPlan.{BookPlan}
 use Rattle.checkout_book.specs.declared.shelf.Slot.{Slot}
 use Rattle.checkout_book.specs.declared.shelf.Slot.TheVariants.{Away, Waits, Ended}
 use Rattle.checkout_book.specs.Shape.{Shelf}
@@ -167,7 +167,7 @@ module _ {B L : Type 0} (see : Sight B L) where
         required = z.required;
         leaf = z.leaf;
         entry = oldest;
-        desk = subst (λ (d : Plan B L). IsFromDesk d.starts.items s0.events.items z.place p z.actor q z.required)
+        desk = subst (λ (d : BookPlan B L). IsFromDesk d.starts.items s0.events.items z.place p z.actor q z.required)
             (turned.plan ∙ c.turned.plan) before;
         there = ap leaf_in_slot (sym (slot_stays s0 s1 s2 k w o p c turned (sym is)
             (close_same s0 s1 k quiet c z.place p z.actor z.own oldest))) ∙ z.there;
@@ -190,7 +190,7 @@ module _ {B L : Type 0} (see : Sight B L) where
   rest_backs : (s0 s1 s2 : Shelf B L) (k w : Card B L) (o : Own) → IsQuiet see s0 → Claimed 0 s0 s1 k
       → Turned (Close w.path 0 o) w.path (Ended w.blob w.leaf) s1 s2
       → RefusedBacks (plan_of s2).starts.items s2.events.items
-  rest_backs s0 s1 s2 k w o quiet c turned = subst (λ (d : Plan B L). RefusedBacks d.starts.items s2.events.items)
+  rest_backs s0 s1 s2 k w o quiet c turned = subst (λ (d : BookPlan B L). RefusedBacks d.starts.items s2.events.items)
       (sym (turned.plan ∙ c.turned.plan)) (λ i p d required at begun. ⊎_elim
       (λ (older : slice_get s1.events.items i ≡ Some (HandBack p)). ⊎_elim
       (λ (oldest : slice_get s0.events.items i ≡ Some (HandBack p)).
@@ -239,9 +239,9 @@ module _ {B L : Type 0} (see : Sight B L) where
               slot_stays s0 s1 s2 k w o p c turned (sym is) other ∙ e.2,
               e.3,
               e.4,
-              ap (λ (d : Plan B L). slice_get (cards_of d) e.3) plan ∙ e.5,
+              ap (λ (d : BookPlan B L). slice_get (cards_of d) e.3) plan ∙ e.5,
               e.6,
-              subst (λ (d : Plan B L). EndsCard d.starts.items s2.events.items i p a x (seen see e.4) (see.blob e.0)
+              subst (λ (d : BookPlan B L). EndsCard d.starts.items s2.events.items i p a x (seen see e.4) (see.blob e.0)
                   (see.leaf e.1)) (sym plan) (ends_longer (plan_of s0).starts.items s0.events.items
                   (Claim k.path 0 ∷ Close w.path 0 o ∷ []) s2.events.items i p a x (seen see e.4) (see.blob e.0)
                   (see.leaf e.1) (turn_events s0 s1 s2 k w o c turned) refl oldest e.7),
@@ -264,7 +264,7 @@ module _ {B L : Type 0} (see : Sight B L) where
                   ∙ get_set_same s0.slots.items k.path Away (Waits k) c.was))),
               g.0,
               g.1,
-              ap (λ (d : Plan B L). slice_get (cards_of d) g.0) plan ∙ g.2,
+              ap (λ (d : BookPlan B L). slice_get (cards_of d) g.0) plan ∙ g.2,
               g.3 ∙ same,
               last_ends s0 s1 s2 k w o i p a x (seen see g.1) c turned (sym is) last.0 last.1 g.4,
             ))

@@ -12,8 +12,8 @@ use Rattle.checkout_core.specs.Actors.{actor_of, own_entries, is_actor, is_own, 
 use Rattle.checkout_core.specs.Desks.{was_read}
 use Rattle.checkout_core.specs.States.{Core}
 use Rattle.checkout_core.specs.Steps.{IsLegal}
-use Rattle.checkout_book.specs.declared.plan.Plan.{Plan}
-use Rattle.checkout_book.specs.declared.plan.Entry.{Entry}
+use Rattle.checkout_book.specs.declared.plan.BookPlan.{BookPlan}
+use Rattle.checkout_book.specs.declared.plan.HistoryEntry.{HistoryEntry}
 use Rattle.checkout_book.specs.Sights.{Sight}
 use Rattle.driver_desk.specs.Desks.{DeskView, IsDealt}
 use Rattle.driver_desk.specs.Recorders.{Standing}
@@ -42,22 +42,22 @@ tied_at (x ∷ ws) given zero w all at =
 tied_at (x ∷ ws) given (suc k) w all at = tied_at ws given k w all.1 at
 
 -- an event of a list is that of an entry
-entry_of : (es : List Entry) (i : ℕ) (e : Event) → slice_get (own_events es) i ≡ Some e
-    → (x : Entry) × (slice_get es i ≡ Some x) × (x.event ≡ e)
-entry_of es i e at = get_map_back (λ (z : Entry). z.event) es i e at
+entry_of : (es : List HistoryEntry) (i : ℕ) (e : Event) → slice_get (own_events es) i ≡ Some e
+    → (x : HistoryEntry) × (slice_get es i ≡ Some x) × (x.event ≡ e)
+entry_of es i e at = get_map_back (λ (z : HistoryEntry). z.event) es i e at
 
 -- behind the first entries, the event is one of the others
-later_event : (first more : List Entry) (i : ℕ) (e : Event) → length first ≤ i
+later_event : (first more : List HistoryEntry) (i : ℕ) (e : Event) → length first ≤ i
     → slice_get (own_events (first ++ more)) i ≡ Some e
     → slice_get (own_events more) (i - length first) ≡ Some e
 later_event first more i e le at =
     let x = entry_of (first ++ more) i e at in
-    get_map (λ (z : Entry). z.event) more (i - length first) x.0 (sym (get_behind first more i le) ∙ x.1)
+    get_map (λ (z : HistoryEntry). z.event) more (i - length first) x.0 (sym (get_behind first more i le) ∙ x.1)
     ∙ ap (λ (z : Event). Some z) x.2
 
 module _ {B L : Type 0} (see : Sight B L) where
   -- a card that the desk served ended as what its object gave says
-  work_tied : (lock : TableId) (s0 s : SeatView Entry (Plan B L)) (more : List Entry) (required : Bool)
+  work_tied : (lock : TableId) (s0 s : SeatView HistoryEntry (BookPlan B L)) (more : List HistoryEntry) (required : Bool)
       (j : IsDeskPass lock s) (desk : DeskView)
       → place_of (record { pass = s; required = required }) ≡ place_of (record { pass = s0; required = required })
       → IsDealt (standing_of see (record { pass = s0; required = required })) desk → AreTurns (own_events more)
@@ -90,7 +90,7 @@ module _ {B L : Type 0} (see : Sight B L) where
             (later_event (mine_of s) more i (HandBack p) le at)));
       }
 
-  pub desk_tied : (lock : TableId) (s0 s t : SeatView Entry (Plan B L)) (required : Bool)
+  pub desk_tied : (lock : TableId) (s0 s t : SeatView HistoryEntry (BookPlan B L)) (required : Bool)
       (j : IsDeskPass lock s) (desk : DeskView)
       → place_of (record { pass = s; required = required }) ≡ place_of (record { pass = s0; required = required })
       → IsDealt (standing_of see (record { pass = s0; required = required })) desk → (works : List WorkSeen)
@@ -98,7 +98,7 @@ module _ {B L : Type 0} (see : Sight B L) where
       → Idled see lock j.plan (number_of s) j.made s t → AreTiedIn (own_events (mine_of t)) works
   desk_tied lock s0 s t required j desk place dealt works tied idled k w at =
       let x = idled.worked in
-      subst (λ (l : List Entry). IsTiedIn (own_events l) w) (sym x.mine)
+      subst (λ (l : List HistoryEntry). IsTiedIn (own_events l) w) (sym x.mine)
       (work_tied lock s0 s x.more required j desk place dealt x.turns w
       (tied_at works (given_of see (record { pass = s; required = required })) k w tied at))
 

@@ -20,7 +20,7 @@ use Rattle.checkout_core.specs.Actors.{is_step}
 use Rattle.checkout_core.specs.Hands.{Holds}
 use Rattle.checkout_core.specs.Desks.{was_read}
 use Rattle.checkout_core.specs.Notes.{is_noted, noted}
-use Rattle.checkout_book.specs.declared.plan.Entry.{Entry}
+use Rattle.checkout_book.specs.declared.plan.HistoryEntry.{HistoryEntry}
 use Rattle.checkout_book.specs.Sights.{Sight, seen, tell}
 use Rattle.checkout_book.specs.Shelves.{IsPlanned, IsOut, WaitsSo}
 use Rattle.checkout_book.specs.Reserving.{AreNew}
@@ -113,7 +113,7 @@ module _ {B L : Type 0} (see : Sight B L) where
         (subst (λ (z : CardSeen). WritesCard z o (see.blob w.blob) (see.leaf w.leaf)) p.3 wrote),
   )
 
-  pub shown_more : (cards : List (Card B L)) (xs ys : List Entry) → AreShown see cards xs → AreShown see cards ys
+  pub shown_more : (cards : List (Card B L)) (xs ys : List HistoryEntry) → AreShown see cards xs → AreShown see cards ys
       → AreShown see cards (xs ++ ys)
   shown_more cards [] ys h k = k
   shown_more cards (x ∷ xs) ys h k = (h.0, shown_more cards xs ys h.1 k)

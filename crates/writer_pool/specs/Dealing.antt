@@ -6,8 +6,8 @@ use Rattle.delay_table.specs.Table.{IsRising}
 use Rattle.edge_kit.specs.Starters.{StarterSeen}
 use Rattle.convert_plan.specs.declared.card.Card.{Card}
 use Rattle.convert_plan.specs.Card.{CardSeen}
-use Rattle.checkout_book.specs.declared.plan.Plan.{Plan}
-use Rattle.checkout_book.specs.declared.plan.Entry.{Entry}
+use Rattle.checkout_book.specs.declared.plan.BookPlan.{BookPlan}
+use Rattle.checkout_book.specs.declared.plan.HistoryEntry.{HistoryEntry}
 use Rattle.checkout_book.specs.Sights.{Sight, seen}
 use Rattle.driver_desk.specs.Desks.{DeskView}
 use Rattle.driver_line.specs.SameHeard.{AreApart}
@@ -26,10 +26,10 @@ pub record IsDeck (cards : List CardSeen) : Type 0 where
 
 -- what an actor's job is seen as
 abbrev pub JobSeen : Type 0 → Type 0 → Type 0
-JobSeen B L = Job (SeatView Entry (Plan B L)) (DeskJob DeskView)
+JobSeen B L = Job (SeatView HistoryEntry (BookPlan B L)) (DeskJob DeskView)
 
 -- a desk and its pass
-abbrev pub desk_job : {B L : Type 0} → DeskView → SeatView Entry (Plan B L) → JobSeen B L
+abbrev pub desk_job : {B L : Type 0} → DeskView → SeatView HistoryEntry (BookPlan B L) → JobSeen B L
 desk_job desk pass = record { pass = pass; desk = Some (record { required = desk.required; desk = desk }) }
 
 module _ {B L : Type 0} (see : Sight B L) where
@@ -50,7 +50,7 @@ module _ {S B L : Type 0} (starter : S → StarterSeen) (see : Sight B L) where
   }
 
   -- the jobs of the desks from driver d on
-  abbrev pub desk_jobs : ℕ → ℕ → List (DeskHead S) → List (SeatView Entry (Plan B L) × Vec (Card B L))
+  abbrev pub desk_jobs : ℕ → ℕ → List (DeskHead S) → List (SeatView HistoryEntry (BookPlan B L) × Vec (Card B L))
       → List (JobSeen B L)
   desk_jobs workers d (h ∷ hs) (x ∷ xs) = desk_job (desk_of workers d h x.1.items) x.0
       ∷ desk_jobs workers (suc d) hs xs

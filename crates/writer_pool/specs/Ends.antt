@@ -17,9 +17,9 @@ use Rattle.checkout_core.specs.Hands.{held_at}
 use Rattle.checkout_core.specs.Desks.{paths_of, is_left}
 use Rattle.checkout_core.specs.Talks.{contains}
 use Rattle.core_laws.specs.Moves.{is_with_driver}
-use Rattle.checkout_book.specs.declared.plan.Plan.{Plan}
+use Rattle.checkout_book.specs.declared.plan.BookPlan.{BookPlan}
 use Rattle.checkout_book.specs.declared.plan.Parts.{Parts}
-use Rattle.checkout_book.specs.declared.plan.Entry.{Entry}
+use Rattle.checkout_book.specs.declared.plan.HistoryEntry.{HistoryEntry}
 use Rattle.checkout_book.specs.declared.shelf.Slot.TheVariants.{Ended}
 use Rattle.checkout_book.specs.Shape.{Shelf}
 use Rattle.checkout_book.specs.Sights.{Sight, seen}
@@ -45,7 +45,7 @@ NoneWithDriver c = (p : ℕ) (r : Path) → slice_get c.paths p ≡ Some r → i
 module _ {B L : Type 0} (see : Sight B L) where
   -- The Close of a path at this place of an actor's own list has the blob and the leaf of the path's card, and shows
   -- how the card ended. If the card never left its desk, the actor is this desk: the desks come after the workers.
-  pub record ShowsEnd (d : Plan B L) (mine : List Event) (place p actor : ℕ) (o : Own) (parts : Option Parts)
+  pub record ShowsEnd (d : BookPlan B L) (mine : List Event) (place p actor : ℕ) (o : Own) (parts : Option Parts)
       : Type 0 where
     pub ended : Parts
     pub there : parts ≡ Some ended
@@ -58,20 +58,21 @@ module _ {B L : Type 0} (see : Sight B L) where
         → actor ≡ d.workers + q
 
   -- each Close in an actor's own list does
-  abbrev pub IsShownAll : Plan B L → List Entry → Type 0
-  IsShownAll d mine = (i : ℕ) (e : Entry) (p a : ℕ) (o : Own) → slice_get mine i ≡ Some e → e.event ≡ Close p a o
+  abbrev pub IsShownAll : BookPlan B L → List HistoryEntry → Type 0
+  IsShownAll d mine = (i : ℕ) (e : HistoryEntry) (p a : ℕ) (o : Own) → slice_get mine i ≡ Some e → e.event ≡ Close p a o
       → ShowsEnd d (own_events mine) i p a o e.parts
 
   -- A pass that came back with nothing in hand. A desk closed each path of its driver, or handed it back because the
   -- driver refused it.
-  pub record IsBack (lock : TableId) (d : Plan B L) (n made : ℕ) (s : SeatView Entry (Plan B L)) : Type 0 where
+  pub record IsBack (lock : TableId) (d : BookPlan B L) (n made : ℕ) (s : SeatView HistoryEntry (BookPlan B L))
+      : Type 0 where
     pub nothing : HasNothing lock d n made s
     pub shown : IsShownAll d (mine_of s)
     pub backs : RefusedBacks d.starts.items (own_events (mine_of s))
     pub left : (q p : ℕ) → q < d.drivers → n ≡ d.workers + q → contains p (paths_of q d.starts.items) ≡ true
         → is_left p (own_events (mine_of s)) ≡ true
 
-  abbrev pub AreBack : TableId → Plan B L → ℕ → ℕ → List (SeatView Entry (Plan B L)) → Type 0
+  abbrev pub AreBack : TableId → BookPlan B L → ℕ → ℕ → List (SeatView HistoryEntry (BookPlan B L)) → Type 0
   AreBack lock d k made [] = Unit {0}
   AreBack lock d k made (s ∷ ss) = IsBack lock d k made s × AreBack lock d (suc k) 0 ss
 
@@ -116,7 +117,7 @@ module _ {B L : Type 0} (see : Sight B L) where
         × EndsCard (plan_of s).starts.items s.events.items i p a o (seen see card) (see.blob b) (see.leaf l)
 
   -- and no card waits
-  pub record IsThrough (d : Plan B L) (s : Shelf B L) : Type 0 where
+  pub record IsThrough (d : BookPlan B L) (s : Shelf B L) : Type 0 where
     pub quiet : IsQuiet s
     pub plan : plan_of s ≡ d
     pub none : NoneWaits s.core

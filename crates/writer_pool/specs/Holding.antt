@@ -17,8 +17,8 @@ use Rattle.checkout_core.specs.Hands.{Holds, held_at}
 use Rattle.checkout_core.specs.Notes.{noted}
 use Rattle.checkout_core.specs.States.{Core}
 use Rattle.checkout_core.specs.Talks.{contains}
-use Rattle.checkout_book.specs.declared.plan.Plan.{Plan}
-use Rattle.checkout_book.specs.declared.plan.Entry.{Entry}
+use Rattle.checkout_book.specs.declared.plan.BookPlan.{BookPlan}
+use Rattle.checkout_book.specs.declared.plan.HistoryEntry.{HistoryEntry}
 use Rattle.checkout_book.specs.Sights.{Sight, seen}
 use Rattle.checkout_book.specs.Shelves.{cards_of, IsPlanned, WaitsSo}
 use Rattle.checkout_book.specs.Passes.{IsPass}
@@ -48,10 +48,10 @@ pub record WritesHeld (claimed card : CardSeen) (o : Own) : Type 0 where
 
 -- for which plan a worker works, its number, how many numbers it gave, and its pass as it began
 pub record Shift (B L : Type 0) : Type 0 where
-  pub plan : Plan B L
+  pub plan : BookPlan B L
   pub number : ℕ
   pub made : ℕ
-  pub pass : SeatView Entry (Plan B L)
+  pub pass : SeatView HistoryEntry (BookPlan B L)
 
 module _ {B L : Type 0} where
   abbrev pub paths_in : List (Held B L) → List ℕ
@@ -71,7 +71,7 @@ module _ {B L : Type 0} where
   claims_in n hs = map (λ h. Claim h.card.path n) hs
 
   -- no path waits, by what the pass saw at its last turn
-  abbrev pub SawNone : TableId → Shift B L → SeatView Entry (Plan B L) → Type 0
+  abbrev pub SawNone : TableId → Shift B L → SeatView HistoryEntry (BookPlan B L) → Type 0
   SawNone lock w pass = (c : Core) × IsPass lock w.plan w.number w.made pass c × NoneWaits c
 
 module _ {B L : Type 0} (see : Sight B L) where
@@ -105,15 +105,15 @@ module _ {B L : Type 0} (see : Sight B L) where
 
   -- The worker has these cards, of different paths, in hand. What it did since it began are claims and closes in their
   -- order, and each Close shows how the writing ended.
-  pub record IsHand (lock : TableId) (w : Shift B L) (pass : SeatView Entry (Plan B L)) (hs : List (Held B L))
-      : Type 0 where
+  pub record IsHand (lock : TableId) (w : Shift B L) (pass : SeatView HistoryEntry (BookPlan B L))
+      (hs : List (Held B L)) : Type 0 where
     pub new : AreNew see (cards_of w.plan)
     pub core : Core
     pub is_pass : IsPass lock w.plan w.number w.made pass core
     pub none_other : (q : ℕ) → held_at core w.number q ≡ true → contains q (paths_in hs) ≡ true
     pub apart : AreApart (paths_in hs)
     pub held : AreHeld (cards_of w.plan) core w.number hs
-    pub more : List Entry
+    pub more : List HistoryEntry
     pub mine : mine_of pass ≡ mine_of w.pass ++ more
     pub turns : TurnSteps [] (own_events more) (claims_in w.number hs)
     pub shown : AreShown see (cards_of w.plan) more

@@ -6,8 +6,8 @@ use Rattle.edge_kit.specs.Starters.{StarterSeen}
 use Rattle.convert_plan.specs.declared.card.Card.{Card}
 use Rattle.checkout_core.specs.declared.path.Start.{Start}
 use Rattle.checkout_core.specs.Notes.{noted}
-use Rattle.checkout_book.specs.declared.plan.Plan.{Plan}
-use Rattle.checkout_book.specs.declared.plan.Entry.{Entry}
+use Rattle.checkout_book.specs.declared.plan.BookPlan.{BookPlan}
+use Rattle.checkout_book.specs.declared.plan.HistoryEntry.{HistoryEntry}
 use Rattle.checkout_book.specs.Sights.{Sight}
 use Rattle.checkout_book.specs.Shelves.{cards_of}
 use Rattle.checkout_book.specs.Reserving.{AreNew, AreDealt, HasNothing}
@@ -28,24 +28,24 @@ use Rattle.writer_pool.specs.Working.{own_events}
 
 -- what an actor leaves
 abbrev pub EndSeen : Type 0 → Type 0 → Type 0 → Type 0
-EndSeen S B L = JobEnd (SeatView Entry (Plan B L)) (Served S)
+EndSeen S B L = JobEnd (SeatView HistoryEntry (BookPlan B L)) (Served S)
 
 module _ {B L : Type 0} (see : Sight B L) where
   -- the actor n is a worker, or the desk is that of the driver n - workers, with the cards that the book dealt it
-  abbrev pub FitsActor : Plan B L → ℕ → Option (DeskJob DeskView) → Type 0
+  abbrev pub FitsActor : BookPlan B L → ℕ → Option (DeskJob DeskView) → Type 0
   FitsActor d n None = n < d.workers
   FitsActor d n (Some x) = (d.workers ≤ n) × (length x.desk.starter.had + length x.desk.cards < 2 ^ 32)
       × IsDealt (standing_at see (Some d) n x.required) x.desk
 
   -- the job of the actor n, which has done nothing yet, of a book with new cards
-  pub record IsJob (lock : TableId) (d : Plan B L) (n made : ℕ) (j : JobSeen B L) : Type 0 where
+  pub record IsJob (lock : TableId) (d : BookPlan B L) (n made : ℕ) (j : JobSeen B L) : Type 0 where
     pub nothing : HasNothing lock d n made j.pass
     pub fresh : mine_of j.pass ≡ []
     pub new : AreNew see (cards_of d)
     pub dealt : AreDealt d.starts.items 0 d.desks.items
     pub actor : FitsActor d n j.desk
 
-  abbrev pub AreJobs : TableId → Plan B L → ℕ → ℕ → List (JobSeen B L) → Type 0
+  abbrev pub AreJobs : TableId → BookPlan B L → ℕ → ℕ → List (JobSeen B L) → Type 0
   AreJobs lock d k made [] = Unit {0}
   AreJobs lock d k made (j ∷ js) = IsJob lock d k made j × AreJobs lock d (suc k) 0 js
 
@@ -53,7 +53,7 @@ module _ {S : Type 0} (starter : S → StarterSeen) where
   -- What is left of a desk that has served. Its talk has just the notes of the actor's own list. The sessions of its
   -- starter are a talk over the paths whose content was prepared, with these notes, and with what the leaf of each card
   -- holds that the desk closed. Each path ended as what its object gave says.
-  pub record HasServed (desk : DeskView) (left : Served S) (mine : List Entry) : Type 0 where
+  pub record HasServed (desk : DeskView) (left : Served S) (mine : List HistoryEntry) : Type 0 where
     pub talk : left.talk.items ≡ noted (own_events mine)
     pub works : List WorkSeen
     pub cards : desk.cards ≡ cards_in works
@@ -64,7 +64,7 @@ module _ {S : Type 0} (starter : S → StarterSeen) where
     pub tied : AreTiedIn (own_events mine) works
 
   -- a worker leaves no desk, and a desk what is left of it
-  abbrev pub LeavesDesk : Option (DeskJob DeskView) → Option (Served S) → List Entry → Type 0
+  abbrev pub LeavesDesk : Option (DeskJob DeskView) → Option (Served S) → List HistoryEntry → Type 0
   LeavesDesk None None mine = Unit {0}
   LeavesDesk (Some x) (Some left) mine = HasServed x.desk left mine
   LeavesDesk None (Some left) mine = ⊥
@@ -72,12 +72,12 @@ module _ {S : Type 0} (starter : S → StarterSeen) where
 
 module _ {S B L : Type 0} (starter : S → StarterSeen) (see : Sight B L) where
   -- the actor n is through with its job
-  pub record IsThroughJob (lock : TableId) (d : Plan B L) (n made : ℕ) (j : JobSeen B L) (t : EndSeen S B L)
+  pub record IsThroughJob (lock : TableId) (d : BookPlan B L) (n made : ℕ) (j : JobSeen B L) (t : EndSeen S B L)
       : Type 0 where
     pub back : IsBack see lock d n made t.pass
     pub desk_is : LeavesDesk starter j.desk t.served (mine_of t.pass)
 
-  abbrev pub AreThroughJobs : TableId → Plan B L → ℕ → ℕ → List (JobSeen B L) → List (EndSeen S B L) → Type 0
+  abbrev pub AreThroughJobs : TableId → BookPlan B L → ℕ → ℕ → List (JobSeen B L) → List (EndSeen S B L) → Type 0
   AreThroughJobs lock d k made [] [] = Unit {0}
   AreThroughJobs lock d k made (j ∷ js) (t ∷ ts) =
       IsThroughJob lock d k made j t × AreThroughJobs lock d (suc k) 0 js ts
@@ -104,7 +104,7 @@ module _ {S B L : Type 0} (starter : S → StarterSeen) (see : Sight B L) where
   -- worker and for each desk.
   pub record IsBegun (starts : List Start) (workers : ℕ) (pool : List (Card B L)) (seeds : List (DeskSeed S B L))
       (lock : TableId) (jobs : List (JobSeen B L)) : Type 0 where
-    pub plan : Plan B L
+    pub plan : BookPlan B L
     pub starts_are : plan.starts.items ≡ starts
     pub workers_are : plan.workers ≡ workers
     pub drivers_are : plan.drivers ≡ length seeds

@@ -13,9 +13,9 @@ use Rattle.checkout_core.specs.declared.path.Start.{Start}
 use Rattle.checkout_core.specs.Actors.{driver_at}
 use Rattle.checkout_core.specs.Hands.{held_at}
 use Rattle.checkout_core.specs.States.{Core}
-use Rattle.checkout_book.specs.declared.plan.Plan.{Plan}
+use Rattle.checkout_book.specs.declared.plan.BookPlan.{BookPlan}
 use Rattle.checkout_book.specs.declared.plan.Parts.{Parts}
-use Rattle.checkout_book.specs.declared.plan.Entry.{Entry}
+use Rattle.checkout_book.specs.declared.plan.HistoryEntry.{HistoryEntry}
 use Rattle.checkout_book.specs.Sights.{Sight, seen}
 use Rattle.checkout_book.specs.Passes.{IsPass}
 use Rattle.checkout_book.specs.Reserving.{AreDealt}
@@ -39,7 +39,7 @@ given_by cards (Close p a o) (Some x) = closed_by (Close p a o) o x (card_of p c
 given_by cards (HandBack p) x = HandedBack p
 given_by cards e x = Noted e
 
-abbrev pub given_in : List CardSeen → List Entry → List Given
+abbrev pub given_in : List CardSeen → List HistoryEntry → List Given
 given_in cards es = map (λ e. given_by cards e.event e.parts) es
 
 -- each path that these entries close is the driver's, and they tell what is seen of its blob and its leaf
@@ -48,19 +48,19 @@ ClosesOwn starts d (Close p a o) (Some x) = driver_at starts p ≡ Some d
 ClosesOwn starts d (Close p a o) None = ⊥
 ClosesOwn starts d e x = Unit {0}
 
-abbrev pub CloseOwn : List Start → ℕ → List Entry → Type 0
+abbrev pub CloseOwn : List Start → ℕ → List HistoryEntry → Type 0
 CloseOwn starts d [] = Unit {0}
 CloseOwn starts d (e ∷ es) = ClosesOwn starts d e.event e.parts × CloseOwn starts d es
 
 -- the pass, and whether its driver is required
 pub record Recording (B L : Type 0) : Type 0 where
-  pub pass : SeatView Entry (Plan B L)
+  pub pass : SeatView HistoryEntry (BookPlan B L)
   pub required : Bool
 
 -- what no call changes: the lock, the plan and the numbers of the pass
 pub record Place (B L : Type 0) : Type 0 where
   pub lock : TableId
-  pub plan : Option (Plan B L)
+  pub plan : Option (BookPlan B L)
   pub number : ℕ
   pub made : ℕ
 
@@ -73,13 +73,13 @@ module _ {B L : Type 0} where
   items_of (Some v) = v.items
 
   -- the planned cards of a driver
-  abbrev pub desk_cards : Plan B L → ℕ → List (Card B L)
+  abbrev pub desk_cards : BookPlan B L → ℕ → List (Card B L)
   desk_cards d q = items_of (slice_get d.desks.items q)
 
   -- The pass of a desk, which isn't inside. Its book deals each driver the cards of the driver's paths. It has nothing
   -- in hand, and each path that it closed is its driver's.
-  pub record IsDeskPass (lock : TableId) (s : SeatView Entry (Plan B L)) : Type 0 where
-    pub plan : Plan B L
+  pub record IsDeskPass (lock : TableId) (s : SeatView HistoryEntry (BookPlan B L)) : Type 0 where
+    pub plan : BookPlan B L
     pub made : ℕ
     pub core : Core
     pub pass : IsPass lock plan (number_of s) made s core
@@ -90,7 +90,7 @@ module _ {B L : Type 0} where
 
 module _ {B L : Type 0} (see : Sight B L) where
   -- the desks come after the workers
-  abbrev pub standing_at : Option (Plan B L) → ℕ → Bool → Standing
+  abbrev pub standing_at : Option (BookPlan B L) → ℕ → Bool → Standing
   standing_at None n required = record {
     starts = [];
     workers = 0;

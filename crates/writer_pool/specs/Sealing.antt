@@ -7,7 +7,7 @@ use Rattle.checkout_core.specs.declared.path.Start.{Start}
 use Rattle.checkout_core.specs.declared.path.Start.TheVariants.{Done}
 use Rattle.checkout_core.specs.declared.verdict.Own.{Own}
 use Rattle.checkout_book.specs.declared.plan.Parts.{Parts}
-use Rattle.checkout_book.specs.declared.plan.Entry.{Entry}
+use Rattle.checkout_book.specs.declared.plan.HistoryEntry.{HistoryEntry}
 use Rattle.checkout_book.specs.declared.shelf.Slot.{Slot}
 use Rattle.checkout_book.specs.declared.shelf.Slot.TheVariants.{Ended}
 use Rattle.checkout_book.specs.Shape.{Shelf}
@@ -17,7 +17,7 @@ use Rattle.writer_pool.specs.Closing.{IsFromDesk}
 use Rattle.writer_pool.specs.Working.{leaf_in, own_events}
 
 -- In its own list, an actor closed the path p, which it hadn't claimed, and its leaf ended so.
-pub record EndsIn (mine : List Entry) (p : ℕ) (leaf : LeafSeen) : Type 0 where
+pub record EndsIn (mine : List HistoryEntry) (p : ℕ) (leaf : LeafSeen) : Type 0 where
   pub place : ℕ
   pub actor : ℕ
   pub own : Own

@@ -3,8 +3,8 @@ use Rattle.std.specs.Prelude.{◌≡◌, Bool, List, []}
 use Rattle.atomic_table.specs.Seated.{TableId}
 use Rattle.turn_lock.specs.Seat.{SeatView}
 use Rattle.edge_kit.specs.Starters.{StarterSeen}
-use Rattle.checkout_book.specs.declared.plan.Plan.{Plan}
-use Rattle.checkout_book.specs.declared.plan.Entry.{Entry}
+use Rattle.checkout_book.specs.declared.plan.BookPlan.{BookPlan}
+use Rattle.checkout_book.specs.declared.plan.HistoryEntry.{HistoryEntry}
 use Rattle.checkout_book.specs.Sights.{Sight}
 use Rattle.driver_line.specs.Lines.{Paths}
 use Rattle.driver_desk.specs.declared.desk.Served.{Served}
@@ -15,14 +15,14 @@ use Rattle.driver_desk.specs.Works.{WorkSeen, AreRead, FitAll, asked_in, cards_i
 use Rattle.writer_pool.specs.OnBook.{IsDeskPass, Recording, place_of, standing_of, given_of}
 
 -- a pass of a desk whose driver is required or not
-abbrev pub recording : {B L : Type 0} → Bool → SeatView Entry (Plan B L) → Recording B L
+abbrev pub recording : {B L : Type 0} → Bool → SeatView HistoryEntry (BookPlan B L) → Recording B L
 recording required pass = record { pass = pass; required = required }
 
 -- The desk is through with its cards, and its pass lists what it did. What is left of the desk has the notes of its
 -- talk, and its starter, whose sessions are a talk over the works whose object was read. Each work ended as what its
 -- object gave says.
 pub record IsServedOn {S B L : Type 0} (starter : S → StarterSeen) (see : Sight B L) (lock : TableId) (required : Bool)
-    (desk : DeskView) (old new : SeatView Entry (Plan B L)) (left : Served S) : Type 0 where
+    (desk : DeskView) (old new : SeatView HistoryEntry (BookPlan B L)) (left : Served S) : Type 0 where
   pub pass : IsDeskPass lock new
   pub place : place_of (recording required new) ≡ place_of (recording required old)
   pub through : AreThrough (standing_of see (recording required new)) (given_of see (recording required new))

@@ -9,9 +9,9 @@ use Rattle.checkout_core.specs.declared.event.Event.{Event}
 use Rattle.checkout_core.specs.declared.event.Event.TheVariants.{Close}
 use Rattle.checkout_core.specs.States.{Core}
 use Rattle.checkout_core.specs.Notes.{noted}
-use Rattle.checkout_book.specs.declared.plan.Plan.{Plan}
+use Rattle.checkout_book.specs.declared.plan.BookPlan.{BookPlan}
 use Rattle.checkout_book.specs.declared.plan.Parts.{Parts}
-use Rattle.checkout_book.specs.declared.plan.Entry.{Entry}
+use Rattle.checkout_book.specs.declared.plan.HistoryEntry.{HistoryEntry}
 use Rattle.checkout_book.specs.Sights.{Sight, seen}
 use Rattle.checkout_book.specs.Shelves.{cards_of}
 use Rattle.checkout_book.specs.Turns.{NoneWaits}
@@ -28,7 +28,7 @@ abbrev pub leaf_in : Parts → LeafSeen
 leaf_in x = record { path = x.path; content = x.content; state = x.state; faults = x.leaf_faults }
 
 -- the events of a pass's own list
-abbrev pub own_events : List Entry → List Event
+abbrev pub own_events : List HistoryEntry → List Event
 own_events es = map (λ e. e.event) es
 
 module _ {B L : Type 0} (see : Sight B L) where
@@ -39,19 +39,20 @@ module _ {B L : Type 0} (see : Sight B L) where
   IsShown cards (Close p a o) None = ⊥
   IsShown cards e x = Unit {0}
 
-  abbrev pub AreShown : List (Card B L) → List Entry → Type 0
+  abbrev pub AreShown : List (Card B L) → List HistoryEntry → Type 0
   AreShown cards [] = Unit {0}
   AreShown cards (e ∷ es) = IsShown cards e.event e.parts × AreShown cards es
 
   -- the actor has nothing in hand, and the planned cards are new
-  abbrev pub IsReady : TableId → Plan B L → ℕ → ℕ → SeatView Entry (Plan B L) → Type 0
+  abbrev pub IsReady : TableId → BookPlan B L → ℕ → ℕ → SeatView HistoryEntry (BookPlan B L) → Type 0
   IsReady lock d n made s = HasNothing lock d n made s × AreNew see (cards_of d)
 
   -- The actor has nothing in hand again. What it did meanwhile are turns, in which each Close shows how the writing of
   -- its path's card ended.
-  pub record Worked (lock : TableId) (d : Plan B L) (n made : ℕ) (old new : SeatView Entry (Plan B L)) : Type 0 where
+  pub record Worked (lock : TableId) (d : BookPlan B L) (n made : ℕ) (old new : SeatView HistoryEntry (BookPlan B L))
+      : Type 0 where
     pub nothing : HasNothing lock d n made new
-    pub more : List Entry
+    pub more : List HistoryEntry
     pub mine : mine_of new ≡ mine_of old ++ more
     pub turns : AreTurns (own_events more)
     pub shown : AreShown (cards_of d) more
@@ -59,6 +60,7 @@ module _ {B L : Type 0} (see : Sight B L) where
     pub seen : Begins (seen_of old) (seen_of new)
 
   -- and at its last turn no path waited
-  pub record Idled (lock : TableId) (d : Plan B L) (n made : ℕ) (old new : SeatView Entry (Plan B L)) : Type 0 where
+  pub record Idled (lock : TableId) (d : BookPlan B L) (n made : ℕ) (old new : SeatView HistoryEntry (BookPlan B L))
+      : Type 0 where
     pub worked : Worked lock d n made old new
     pub last : (c : Core) × IsPass lock d n made new c × NoneWaits c

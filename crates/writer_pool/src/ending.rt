@@ -6,8 +6,8 @@ ghost use Rattle.checkout_core.specs.Actors.{own_entries};
 ghost use Rattle.checkout_core.specs.Notes.{noted, notes};
 ghost use Rattle.checkout_core.specs.States.{verdict_at};
 ghost use Rattle.checkout_core.specs.Closes.{IsComplete};
-ghost use Rattle.checkout_book.specs.declared.plan.Plan.{Plan};
-ghost use Rattle.checkout_book.specs.declared.plan.Entry.{Entry};
+ghost use Rattle.checkout_book.specs.declared.plan.BookPlan.{BookPlan};
+ghost use Rattle.checkout_book.specs.declared.plan.HistoryEntry.{HistoryEntry};
 ghost use Rattle.checkout_book.specs.Sights.{sight};
 ghost use Rattle.checkout_book.specs.Shelves.{plan_of, cards_of};
 ghost use Rattle.checkout_book.specs.Turns.{NoneWaits};
@@ -58,25 +58,28 @@ pub(crate) fn end_all<B: Blob, L: Leaf>(
     book: Book<B, L>,
     passes: Vec<Pass<B, L>>,
 ) -> Ended<B, L>
-    requires { (d : Plan B L)
+    requires { (d : BookPlan B L)
         × AreBack (sight B.told B.seen L.seen) book d 0 (length passes.items) passes.items
         × (0 < length passes.items) × (length passes.items ≡ d.workers + d.drivers) }
-    ensures through { (d : Plan B L)
+    ensures through { (d : BookPlan B L)
         → AreBack (sight B.told B.seen L.seen) book d 0 (length passes.items) passes.items
         → length passes.items ≡ d.workers + d.drivers
         → IsThrough (sight B.told B.seen L.seen) d result.shelf }
-    ensures seals { (d : Plan B L)
+    ensures seals { (d : BookPlan B L)
         → AreBack (sight B.told B.seen L.seen) book d 0 (length passes.items) passes.items
-        → (q : ℕ) (s : SeatView Entry (Plan B L)) → slice_get passes.items (d.workers + q) ≡ Some s
+        → (q : ℕ) (s : SeatView HistoryEntry (BookPlan B L))
+        → slice_get passes.items (d.workers + q) ≡ Some s
         → (p : ℕ) (leaf : LeafSeen) → EndsOn (sight B.told B.seen L.seen) result.shelf q p leaf
         → EndsIn (mine_of s) p leaf }
-    ensures notes { (d : Plan B L)
+    ensures notes { (d : BookPlan B L)
         → AreBack (sight B.told B.seen L.seen) book d 0 (length passes.items) passes.items
-        → (q : ℕ) (s : SeatView Entry (Plan B L)) → slice_get passes.items (d.workers + q) ≡ Some s
+        → (q : ℕ) (s : SeatView HistoryEntry (BookPlan B L))
+        → slice_get passes.items (d.workers + q) ≡ Some s
         → notes d.starts.items q result.shelf.events.items ≡ noted (own_events (mine_of s)) }
-    ensures own { (d : Plan B L)
+    ensures own { (d : BookPlan B L)
         → AreBack (sight B.told B.seen L.seen) book d 0 (length passes.items) passes.items
-        → (n : ℕ) (s : SeatView Entry (Plan B L)) → 0 < n → slice_get passes.items n ≡ Some s
+        → (n : ℕ) (s : SeatView HistoryEntry (BookPlan B L)) → 0 < n
+        → slice_get passes.items n ≡ Some s
         → own_entries d.starts.items d.workers n result.shelf.events.items ≡ own_events (mine_of s) }
 {
     laws::notes_are_own_entries();
@@ -138,16 +141,16 @@ pub(crate) fn leave<B: Blob, L: Leaf>(
     paths: u32,
     room: PathEnds<B, L>,
 ) -> (Vec<Event>, PathEnds<B, L>)
-    requires through { (d : Plan B L) × IsThrough (sight B.told B.seen L.seen) d ended.shelf
+    requires through { (d : BookPlan B L) × IsThrough (sight B.told B.seen L.seen) d ended.shelf
         × (length d.starts.items ≡ paths) }
     requires room { HasRoom paths room }
-    ensures run { (d : Plan B L) → IsThrough (sight B.told B.seen L.seen) d ended.shelf
+    ensures run { (d : BookPlan B L) → IsThrough (sight B.told B.seen L.seen) d ended.shelf
         → IsRun d.starts.items d.workers d.drivers result.0.items result.1.verdicts.items }
-    ensures ends { (d : Plan B L) → IsThrough (sight B.told B.seen L.seen) d ended.shelf
+    ensures ends { (d : BookPlan B L) → IsThrough (sight B.told B.seen L.seen) d ended.shelf
         → ArePool d.starts.items d.pool.items → AreDealt d.starts.items 0 d.desks.items
         → AreEnds (sight B.told B.seen L.seen) d.starts.items result.0.items (cards_of d) 0 d.starts.items
         result.1.blobs.items result.1.leaves.items }
-    ensures seals { (d : Plan B L) → IsThrough (sight B.told B.seen L.seen) d ended.shelf
+    ensures seals { (d : BookPlan B L) → IsThrough (sight B.told B.seen L.seen) d ended.shelf
         → ArePool d.starts.items d.pool.items → AreDealt d.starts.items 0 d.desks.items
         → (q p : ℕ) (leaf : LeafSeen)
         → EndsAt (sight B.told B.seen L.seen) d.starts.items result.0.items

@@ -1,7 +1,7 @@
 //! The actors of a pool, each in a thread of its own.
 ghost use Rattle.std.specs.Prelude.{ℕ, IfOk};
 ghost use Rattle.turn_lock.specs.Seat.{number_of};
-ghost use Rattle.checkout_book.specs.declared.plan.Plan.{Plan};
+ghost use Rattle.checkout_book.specs.declared.plan.BookPlan.{BookPlan};
 ghost use Rattle.checkout_book.specs.Sights.{sight};
 ghost use Rattle.writer_pool.specs.Jobs.{IsJob, AreJobs, IsThroughJob, AreThroughJobs};
 
@@ -51,9 +51,9 @@ fn act<S: Starter, B: Blob + Send, L: Leaf + Send, G: Gate, H: Threads + Wait>(
     gate: &G,
     job: ActorJob<S, B, L>,
 ) -> ActorEnd<S, B, L>
-    requires { (d : Plan B L) × (made : ℕ)
+    requires { (d : BookPlan B L) × (made : ℕ)
         × IsJob (sight B.told B.seen L.seen) book.now d (number_of job.pass) made job }
-    ensures { (d : Plan B L) (made : ℕ)
+    ensures { (d : BookPlan B L) (made : ℕ)
         → IsJob (sight B.told B.seen L.seen) book.now d (number_of job.pass) made job
         → IsThroughJob S.seen (sight B.told B.seen L.seen) book.now d (number_of job.pass) made job result }
 {
@@ -87,8 +87,9 @@ pub(crate) fn act_all<
     gate: &G,
     jobs: Vec<ActorJob<S, B, L>>,
 ) -> Result<Vec<ActorEnd<S, B, L>>, AllocError>
-    requires { (d : Plan B L) × (made : ℕ) × AreJobs (sight B.told B.seen L.seen) book.now d 0 made jobs.items }
-    ensures { IfOk result (λ v. (d : Plan B L) (made : ℕ)
+    requires { (d : BookPlan B L) × (made : ℕ)
+        × AreJobs (sight B.told B.seen L.seen) book.now d 0 made jobs.items }
+    ensures { IfOk result (λ v. (d : BookPlan B L) (made : ℕ)
         → AreJobs (sight B.told B.seen L.seen) book.now d 0 made jobs.items
         → AreThroughJobs S.seen (sight B.told B.seen L.seen) book.now d 0 made jobs.items v.items) }
 {
@@ -96,9 +97,9 @@ pub(crate) fn act_all<
         rt,
         jobs,
         &|job: ActorJob<S, B, L>| -> ActorEnd<S, B, L>
-            requires { (d : Plan B L) × (made : ℕ)
+            requires { (d : BookPlan B L) × (made : ℕ)
                 × IsJob (sight B.told B.seen L.seen) book.now d (number_of job.pass) made job }
-            ensures { (d : Plan B L) (made : ℕ)
+            ensures { (d : BookPlan B L) (made : ℕ)
                 → IsJob (sight B.told B.seen L.seen) book.entry.now d (number_of job.pass) made job
                 → IsThroughJob S.seen (sight B.told B.seen L.seen) book.entry.now d (number_of job.pass) made job
                 result }

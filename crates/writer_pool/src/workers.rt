@@ -1,7 +1,7 @@
 //! Workers: each claims cards and writes them.
 ghost use Rattle.std.specs.Prelude.{ℕ};
 ghost use Rattle.turn_lock.specs.Seat.{number_of};
-ghost use Rattle.checkout_book.specs.declared.plan.Plan.{Plan};
+ghost use Rattle.checkout_book.specs.declared.plan.BookPlan.{BookPlan};
 ghost use Rattle.checkout_book.specs.Sights.{sight};
 ghost use Rattle.writer_pool.specs.Working.{IsReady, Idled};
 
@@ -22,9 +22,9 @@ pub(crate) fn work<B: Blob + Send, L: Leaf + Send, G: Gate, H: Threads + Wait>(
     gate: &G,
     pass: Pass<B, L>,
 ) -> Pass<B, L>
-    requires { (d : Plan B L) × (made : ℕ)
+    requires { (d : BookPlan B L) × (made : ℕ)
         × IsReady (sight B.told B.seen L.seen) book.now d (number_of pass) made pass }
-    ensures { (d : Plan B L) (made : ℕ)
+    ensures { (d : BookPlan B L) (made : ℕ)
         → IsReady (sight B.told B.seen L.seen) book.now d (number_of pass) made pass
         → Idled (sight B.told B.seen L.seen) book.now d (number_of pass) made pass result }
 {

@@ -1,5 +1,5 @@
 use Rattle.std.proofs.Common.{◌≡◌, length, ap, arith}
-use Rattle.checkout_book.specs.declared.plan.Plan.{Plan}
+use Rattle.checkout_book.specs.declared.plan.BookPlan.{BookPlan}
 use Rattle.checkout_book.specs.Sights.{sight}
 use Rattle.book_bench.proofs.Working.{alone, pool_there, pool_all_new, pool_below, none_dealt}
 use Rattle.book_bench.proofs.runs.begin_pool.Goals as goal
@@ -29,7 +29,7 @@ pub returns : goal.returns
 returns g c =
     let e = c.in_ok-begun.ensures in
     let none : length c.new-desks.result.items ≡ 0 = ap length c.new-desks.ensures.items in
-    let d : Plan g.row.B.Denot g.row.L.Denot = record {
+    let d : BookPlan g.row.B.Denot g.row.L.Denot = record {
       pool = c.args.new.cards;
       desks = c.new-desks.result;
       starts = c.args.new.starts;

@@ -1,12 +1,12 @@
 use Rattle.std.proofs.Common.{ℕ}
 use Rattle.turn_lock.specs.Seat.{number_of}
-use Rattle.checkout_book.specs.declared.plan.Plan.{Plan}
+use Rattle.checkout_book.specs.declared.plan.BookPlan.{BookPlan}
 use Rattle.checkout_book.specs.Reserving.{HasNothing}
 use Rattle.book_bench.proofs.work.work.Given as goal
 
 abbrev pub invariant-loop-turn : goal.invariant-loop-turn
 invariant-loop-turn g l = record {
-  again : (d : Plan g.row.B.Denot g.row.L.Denot) (made : ℕ)
+  again : (d : BookPlan g.row.B.Denot g.row.L.Denot) (made : ℕ)
       → HasNothing l.fn.book d (number_of l.fn.pass) made l.fn.pass
       → HasNothing l.fn.book d (number_of l.fn.pass) made l.pass;
   can : (goal.iterator-loop-turn g).can_next l._turn-iterator;

@@ -1,7 +1,7 @@
 use Rattle.std.proofs.Common.{ℕ, ◌+◌, ◌<◌, sym, ◌∙◌, subst}
 use Rattle.std.specs.Prelude.{IfSome}
 use Rattle.turn_lock.specs.History.{Follows}
-use Rattle.checkout_book.specs.declared.plan.Plan.{Plan}
+use Rattle.checkout_book.specs.declared.plan.BookPlan.{BookPlan}
 use Rattle.checkout_book.specs.Turns.{Claimed}
 use Rattle.checkout_book.specs.Sights.{sight, tell}
 use Rattle.checkout_book.specs.Entries.{history_of}
@@ -21,7 +21,7 @@ pub claim-card-requires-clause-actor : goal.claim-card-requires-clause-actor
 claim-card-requires-clause-actor g c =
     let r = c.requires in
     let f = c.enter-value.ensures.fits r.0 r.3.seat.told in
-    subst (λ (x : Plan g.row.B.Denot g.row.L.Denot). c.number-actor.result < x.workers + x.drivers) (sym f.0)
+    subst (λ (x : BookPlan g.row.B.Denot g.row.L.Denot). c.number-actor.result < x.workers + x.drivers) (sym f.0)
     (subst (λ k. k < r.0.workers + r.0.drivers) (sym c.number-actor.ensures) r.3.actor)
 
 pub leave-requires-clause-inside : goal.leave-requires-clause-inside

@@ -2,7 +2,7 @@ use Rattle.std.proofs.Common.{◌≡◌, ℕ, true, inr, sym, ◌∙◌, subst}
 use Rattle.turn_lock.specs.History.{Follows}
 use Rattle.checkout_core.specs.Actors.{is_step}
 use Rattle.checkout_core.specs.declared.event.Event.TheVariants.{Close}
-use Rattle.checkout_book.specs.declared.plan.Plan.{Plan}
+use Rattle.checkout_book.specs.declared.plan.BookPlan.{BookPlan}
 use Rattle.checkout_book.specs.declared.shelf.Slot.TheVariants.{Ended}
 use Rattle.checkout_book.specs.Sights.{sight, tell}
 use Rattle.checkout_book.specs.Entries.{history_of}
@@ -37,7 +37,7 @@ close-requires-clause-from g c =
     let see = sight g.B.Blob.told g.B.Blob.seen g.L.Leaf.seen in
     let r = c.requires in
     let f = c.enter-value.ensures.fits r.0 r.3.seat.told in
-    subst (λ (x : Plan g.row.B.Denot g.row.L.Denot). IsFrom see (cards_of x) c.args.card.path c.args.card.blob
+    subst (λ (x : BookPlan g.row.B.Denot g.row.L.Denot). IsFrom see (cards_of x) c.args.card.path c.args.card.blob
     c.args.card.leaf) (sym f.0) (out_from see (cards_of r.0) c.args.card r.5)
 
 pub leave-requires-clause-inside : goal.leave-requires-clause-inside

@@ -4,7 +4,7 @@ use Rattle.turn_lock.specs.History.{Follows}
 use Rattle.turn_lock.specs.Seat.{number_of}
 use Rattle.checkout_core.specs.Actors.{actor_of}
 use Rattle.checkout_core.specs.declared.event.Event.TheVariants.{HandBack}
-use Rattle.checkout_book.specs.declared.plan.Plan.{Plan}
+use Rattle.checkout_book.specs.declared.plan.BookPlan.{BookPlan}
 use Rattle.checkout_book.specs.Sights.{sight, tell}
 use Rattle.checkout_book.specs.Entries.{history_of}
 use Rattle.checkout_book.specs.Shelves.{cards_of, IsRefused}
@@ -23,7 +23,7 @@ pub hand_back-requires-clause-by : goal.hand_back-requires-clause-by
 hand_back-requires-clause-by g c =
     let r = c.requires in
     let f = c.enter-value.ensures.fits r.0 r.3.seat.told in
-    subst (λ (x : Plan g.row.B.Denot g.row.L.Denot). is_some (actor_of x.starts.items x.workers (HandBack
+    subst (λ (x : BookPlan g.row.B.Denot g.row.L.Denot). is_some (actor_of x.starts.items x.workers (HandBack
     c.args.card.path)) ≡ true) (sym f.0) (ap (λ o. is_some o) r.4)
 
 pub hand_back-requires-clause-step : goal.hand_back-requires-clause-step
@@ -41,7 +41,7 @@ pub hand_back-requires-clause-refused : goal.hand_back-requires-clause-refused
 hand_back-requires-clause-refused g c =
     let r = c.requires in
     let f = c.enter-value.ensures.fits r.0 r.3.seat.told in
-    subst (λ (x : Plan g.row.B.Denot g.row.L.Denot). IsRefused (sight g.B.Blob.told g.B.Blob.seen g.L.Leaf.seen)
+    subst (λ (x : BookPlan g.row.B.Denot g.row.L.Denot). IsRefused (sight g.B.Blob.told g.B.Blob.seen g.L.Leaf.seen)
     (cards_of x) c.args.card) (sym f.0) r.6
 
 pub leave-requires-clause-inside : goal.leave-requires-clause-inside
@@ -52,7 +52,7 @@ leave-requires-clause-inside g c =
     let f = c.enter-value.ensures.fits r.0 r.3.seat.told in
     let w = c.a_turn_keeps_a_seat.ensures _ r.0 _ r.1 (history_of (tell see) v) c.args.pass.now
     c.enter-value.new.seat r.3.seat c.enter-value.ensures.inside in
-    let by = subst (λ (x : Plan g.row.B.Denot g.row.L.Denot). actor_of x.starts.items x.workers (HandBack
+    let by = subst (λ (x : BookPlan g.row.B.Denot g.row.L.Denot). actor_of x.starts.items x.workers (HandBack
     c.args.card.path) ≡ Some (number_of c.args.pass.now)) (sym f.0) r.4 in (
       history_of (tell see) v,
       w.place,

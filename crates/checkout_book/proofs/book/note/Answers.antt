@@ -3,7 +3,7 @@ use Rattle.std.specs.Prelude.{is_some}
 use Rattle.turn_lock.specs.History.{Follows}
 use Rattle.turn_lock.specs.Seat.{number_of}
 use Rattle.checkout_core.specs.Actors.{actor_of}
-use Rattle.checkout_book.specs.declared.plan.Plan.{Plan}
+use Rattle.checkout_book.specs.declared.plan.BookPlan.{BookPlan}
 use Rattle.checkout_book.specs.Sights.{sight, tell}
 use Rattle.checkout_book.specs.Entries.{history_of}
 use Rattle.checkout_book.specs.Passes.{note_entry}
@@ -24,7 +24,7 @@ pub note-requires-clause-by : goal.note-requires-clause-by
 note-requires-clause-by g c =
     let r = c.requires in
     let f = c.enter-value.ensures.fits r.0 r.3.seat.told in
-    subst (λ (x : Plan g.row.B.Denot g.row.L.Denot). is_some (actor_of x.starts.items x.workers c.args.event) ≡ true)
+    subst (λ (x : BookPlan g.row.B.Denot g.row.L.Denot). is_some (actor_of x.starts.items x.workers c.args.event) ≡ true)
     (sym f.0) (ap (λ o. is_some o) r.5)
 
 pub note-requires-clause-step : goal.note-requires-clause-step
@@ -45,7 +45,7 @@ leave-requires-clause-inside g c =
     let f = c.enter-value.ensures.fits r.0 r.3.seat.told in
     let w = c.a_turn_keeps_a_seat.ensures _ r.0 _ r.1 (history_of (tell see) v) c.args.pass.now
     c.enter-value.new.seat r.3.seat c.enter-value.ensures.inside in
-    let by = subst (λ (x : Plan g.row.B.Denot g.row.L.Denot). actor_of x.starts.items x.workers c.args.event ≡ Some
+    let by = subst (λ (x : BookPlan g.row.B.Denot g.row.L.Denot). actor_of x.starts.items x.workers c.args.event ≡ Some
     (number_of c.args.pass.now)) (sym f.0) r.5 in (
       history_of (tell see) v,
       w.place,

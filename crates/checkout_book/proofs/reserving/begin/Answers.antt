@@ -1,7 +1,7 @@
 use Rattle.std.proofs.Common.{◌≡◌, ◌+◌, ℕ, length, refl, ap, ◌∙◌, subst, arith}
 use Rattle.turn_lock.specs.Seats.{AreSeats}
 use Rattle.checkout_core.specs.States.{start}
-use Rattle.checkout_book.specs.declared.plan.Plan.{Plan}
+use Rattle.checkout_book.specs.declared.plan.BookPlan.{BookPlan}
 use Rattle.checkout_book.specs.Sights.{sight}
 use Rattle.checkout_book.specs.Reserving.{aways, placed, plan_for}
 use Rattle.checkout_book.proofs.Lists.{past_none}
@@ -87,7 +87,7 @@ returns g c =
       count = omega (arith, count, dr);
       idle = idle_new r.0 d 0 n r.1.items
           (subst (λ (m : ℕ). AreSeats r.0 d 0 (c.args.workers + m) r.1.items) dr
-          (subst (λ (x : Plan g.row.B.Denot g.row.L.Denot). AreSeats r.0 x 0 (c.args.workers + c.len-drivers.result)
+          (subst (λ (x : BookPlan g.row.B.Denot g.row.L.Denot). AreSeats r.0 x 0 (c.args.workers + c.len-drivers.result)
           r.1.items) is seats)) unseen (omega (arith, count, dr));
       fresh = fresh_seats r.0 _ 0 _ r.1.items seats unseen;
     }) c.make.ensures.count c.make.ensures.seats c.make.ensures.unseen

@@ -1,7 +1,7 @@
 use Rattle.std.proofs.Common.{List, sym, subst, arith}
 use Rattle.turn_lock.specs.Seat.{SeatView}
-use Rattle.checkout_book.specs.declared.plan.Plan.{Plan}
-use Rattle.checkout_book.specs.declared.plan.Entry.{Entry}
+use Rattle.checkout_book.specs.declared.plan.BookPlan.{BookPlan}
+use Rattle.checkout_book.specs.declared.plan.HistoryEntry.{HistoryEntry}
 use Rattle.checkout_book.specs.Reserving.{AreIdle, AreFresh, plan_for}
 use Rattle.checkout_book.proofs.reserving.reserve.Goals as goal
 

@@ -4,8 +4,8 @@ use Rattle.std.proofs.lemmas.List.{length-map}
 use Rattle.turn_lock.specs.Seat.{SeatView}
 use Rattle.convert_plan.specs.declared.card.Card.{Card}
 use Rattle.checkout_core.specs.States.{AreBelow}
-use Rattle.checkout_book.specs.declared.plan.Plan.{Plan}
-use Rattle.checkout_book.specs.declared.plan.Entry.{Entry}
+use Rattle.checkout_book.specs.declared.plan.BookPlan.{BookPlan}
+use Rattle.checkout_book.specs.declared.plan.HistoryEntry.{HistoryEntry}
 use Rattle.checkout_book.specs.Sights.{sight}
 use Rattle.checkout_book.specs.Shelves.{joined}
 use Rattle.checkout_book.specs.Reserving.{AreNew, AreDealt}
@@ -52,7 +52,7 @@ with_desks-requires-clause-few_desks g c κs within =
       arith,
       n,
       ap length c.in_ok-begun.ensures.cards,
-      length-map dealt (λ (x : SeatView Entry (Plan B L) × Vec (Card B L)). x.1),
+      length-map dealt (λ (x : SeatView HistoryEntry (BookPlan B L) × Vec (Card B L)). x.1),
       c.requires.few_desks,
     )
 
@@ -69,7 +69,7 @@ with_desks-requires-clause-heads g c κs within =
       n,
       m,
       ap length c.in_ok-begun.ensures.cards,
-      length-map dealt (λ (x : SeatView Entry (Plan B L) × Vec (Card B L)). x.1),
+      length-map dealt (λ (x : SeatView HistoryEntry (BookPlan B L) × Vec (Card B L)). x.1),
     )
 
 pub with_desks-requires-clause-decks : goal.with_desks-requires-clause-decks
@@ -84,7 +84,7 @@ returns g c =
     let S = g.row.S.Denot in
     let B = g.row.B.Denot in
     let L = g.row.L.Denot in
-    let P : Type 0 = SeatView Entry (Plan B L) in
+    let P : Type 0 = SeatView HistoryEntry (BookPlan B L) in
     let see = sight g.B.Blob.told g.B.Blob.seen g.L.Leaf.seen in
     let starter = g.S.Starter.seen in
     let seeds = c.args.desks.items in
@@ -94,7 +94,7 @@ returns g c =
     let dealt = c.in_ok-begun.begun.desks.items in
     let lock = c.in_ok-begun.begun.book in
     let w = c.args.workers in
-    let d : Plan B L = record {
+    let d : BookPlan B L = record {
       pool = c.args.pool;
       desks = c.in_ok-heads.cards;
       starts = c.args.starts;

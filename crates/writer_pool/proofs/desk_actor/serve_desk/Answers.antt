@@ -1,8 +1,8 @@
 use Rattle.std.proofs.Common.{[], List, sym, ap, ◌∙◌, subst}
 use Rattle.atomic_table.specs.Seated.{TableId}
 use Rattle.turn_lock.specs.Seat.{SeatView}
-use Rattle.checkout_book.specs.declared.plan.Plan.{Plan}
-use Rattle.checkout_book.specs.declared.plan.Entry.{Entry}
+use Rattle.checkout_book.specs.declared.plan.BookPlan.{BookPlan}
+use Rattle.checkout_book.specs.declared.plan.HistoryEntry.{HistoryEntry}
 use Rattle.checkout_book.specs.Sights.{sight}
 use Rattle.driver_desk.specs.Desks.{AreThrough}
 use Rattle.driver_desk.specs.Recorders.{Standing}
@@ -33,7 +33,7 @@ returns g c =
       pass = subst (λ (k : TableId). IsDeskPass k t)
           (ap (λ (p : Place g.row.B.Denot g.row.L.Denot). p.lock) place ∙ c.requires.desk.pass.seat.of)
           c.end.ensures.desk;
-      place = ap (λ (x : SeatView Entry (Plan g.row.B.Denot g.row.L.Denot)). place_of (recording required x))
+      place = ap (λ (x : SeatView HistoryEntry (BookPlan g.row.B.Denot g.row.L.Denot)). place_of (recording required x))
           c.end.ensures.same ∙ place;
       through = subst (λ (x : Standing). AreThrough x (given_of see (recording required t)))
           (sym (same_standing see s t required r stands place c.end.ensures.same))

@@ -2,8 +2,8 @@ use Rattle.std.proofs.Common.{List, map, length, refl, ap, subst, arith}
 use Rattle.std.specs.Global.{Vec}
 use Rattle.turn_lock.specs.Seat.{SeatView}
 use Rattle.convert_plan.specs.declared.card.Card.{Card}
-use Rattle.checkout_book.specs.declared.plan.Plan.{Plan}
-use Rattle.checkout_book.specs.declared.plan.Entry.{Entry}
+use Rattle.checkout_book.specs.declared.plan.BookPlan.{BookPlan}
+use Rattle.checkout_book.specs.declared.plan.HistoryEntry.{HistoryEntry}
 use Rattle.checkout_book.specs.Sights.{sight}
 use Rattle.writer_pool.specs.Dealing.{AreDecks}
 use Rattle.writer_pool.proofs.Dealing.{desks_more}
@@ -13,7 +13,7 @@ pub loop-pass-preserved : goal.loop-pass-preserved
 loop-pass-preserved g c =
     let B = g.row.B.Denot in
     let L = g.row.L.Denot in
-    let X : Type 0 = SeatView Entry (Plan B L) × Vec (Card B L) in
+    let X : Type 0 = SeatView HistoryEntry (BookPlan B L) × Vec (Card B L) in
     let see = sight g.B.Blob.told g.B.Blob.seen g.L.Leaf.seen in
     let i = c.loop-pass.invariant in
     let at_heads = c.in-Some-next.ensures.items in

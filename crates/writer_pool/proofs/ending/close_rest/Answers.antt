@@ -1,7 +1,7 @@
 use Rattle.std.proofs.Common.{sym, ap, ◌∙◌, subst}
 use Rattle.convert_plan.specs.Card.{CardSeen}
 use Rattle.checkout_core.specs.Hands.{held_at}
-use Rattle.checkout_book.specs.declared.plan.Plan.{Plan}
+use Rattle.checkout_book.specs.declared.plan.BookPlan.{BookPlan}
 use Rattle.checkout_book.specs.Sights.{sight}
 use Rattle.checkout_book.specs.Shelves.{cards_of, IsOut, plan_of}
 use Rattle.writer_pool.proofs.WorkTurns.{planned_to_write, held_may_close, out_again}
@@ -47,7 +47,7 @@ close-requires-clause-out g c =
     let q = c.loop-card.invariant.quiet in
     let h = in_hand see c.a_claim_takes_its_path.ensures c.loop-card.ended.shelf c.take_waiting.new.self.shelf
     c.in-Some.card q.goes_on c.in-Some.ensures.some in
-    subst (λ (d : Plan g.row.B.Denot g.row.L.Denot). IsOut see (cards_of d) c.write_card-card.result.card)
+    subst (λ (d : BookPlan g.row.B.Denot g.row.L.Denot). IsOut see (cards_of d) c.write_card-card.result.card)
     (sym c.in-Some.ensures.some.turned.plan)
     (out_again see (cards_of (plan_of c.loop-card.ended.shelf)) c.in-Some.card c.write_card-card.result.card
     h.planned c.write_card-card.ensures.kept)

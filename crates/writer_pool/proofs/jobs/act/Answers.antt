@@ -1,6 +1,6 @@
 use Rattle.std.proofs.Common.{Option, Some, None, sym, subst}
 use Rattle.turn_lock.specs.Seat.{mine_of, number_of}
-use Rattle.checkout_book.specs.declared.plan.Plan.{Plan}
+use Rattle.checkout_book.specs.declared.plan.BookPlan.{BookPlan}
 use Rattle.checkout_book.specs.Sights.{sight}
 use Rattle.driver_desk.specs.Desks.{DeskView, IsDealt}
 use Rattle.writer_pool.specs.declared.jobs.DeskJob.{DeskJob}
@@ -53,7 +53,7 @@ returns-in-Some g c d made j =
     let fits = subst (λ (o : Option (DeskJob DeskView)). FitsActor see d n o) c.in-Some.is j.actor in
     let i = new_desk lock d n made s0 fits.0 j.dealt j.nothing j.fresh in
     let job = c.in-Some.job in
-    let dealt = subst (λ (o : Option (Plan g.row.B.Denot g.row.L.Denot)). IsDealt (standing_at see o n required)
+    let dealt = subst (λ (o : Option (BookPlan g.row.B.Denot g.row.L.Denot)). IsDealt (standing_at see o n required)
     job.desk) (sym j.nothing.1.seat.told) fits.2 in
     let e = c.serve_desk-pass.ensures in
     let idled = c.work.ensures e.pass.plan e.pass.made (desk_ready see lock s0 s required i e.pass e.place j.new) in

@@ -2,7 +2,7 @@ use Rattle.std.proofs.Common.{◌≡◌, ◌<◌, ℕ, Some, None, length, get_o
 use Rattle.std.specs.Prelude.{slice_get}
 use Rattle.std.proofs.lemmas.Option.{slice_get-get_or}
 use Rattle.turn_lock.specs.Seat.{number_of}
-use Rattle.checkout_book.specs.declared.plan.Plan.{Plan}
+use Rattle.checkout_book.specs.declared.plan.BookPlan.{BookPlan}
 use Rattle.checkout_book.specs.Sights.{sight}
 use Rattle.writer_pool.specs.Dealing.{JobSeen}
 use Rattle.writer_pool.specs.Jobs.{EndSeen, IsJob, IsThroughJob}
@@ -44,7 +44,7 @@ returns g c =
     let t0 : EndSeen g.row.S.Denot B L = record { pass = s.pass; served = None } in
     let e = (each i t0 lt).1 in
     let t = get_or v.items i t0 in
-    let post : (d : Plan B L) (made : ℕ) → IsJob see lock d (number_of (e.job).pass) made e.job
+    let post : (d : BookPlan B L) (made : ℕ) → IsJob see lock d (number_of (e.job).pass) made e.job
     → IsThroughJob starter see lock d (number_of (e.job).pass) made e.job t = search (rules, of_calls) in
     let read : Some (get_or c.args.jobs.items i s) ≡ Some s =
     sym (slice_get-get_or c.args.jobs.items i s lt) ∙ at in

@@ -3,7 +3,7 @@ ghost use Rattle.checkout_engine.specs.Report.{number_of};
 
 /// How a run ends. The number of each is the status that the program ends with.
 #[derive(Clone, Copy)]
-pub enum Status {
+pub enum ExitStatus {
     Done = 0,
     /// Some path failed.
     DoneWithFailures = 1,
@@ -19,7 +19,7 @@ pub enum Status {
 }
 
 /// The number of a status, which the program ends with.
-pub fn number_of(status: Status) -> u8
+pub fn number_of(status: ExitStatus) -> u8
     ensures { result ≡ number_of status }
 {
     status as u8
