@@ -74,13 +74,13 @@ fn read_rows<'a>(
     asked: &AttributeQuery<'a>,
     states: &mut States<'a>,
     pending: &mut Vec<&'a Pair>,
-    compiled: CompiledRows<'a>,
+    compiled: &CompiledRows<'a>,
     path: &[u8],
 ) -> Result<(), AllocError>
-    requires { compiled.patterns.now ≡ map row_pattern compiled.rows.now }
-    ensures { OnOk result (Reads asked.now (rows_pairs path.now compiled.rows.now) states.old [] states.new) }
+    requires { compiled.now.patterns.now ≡ map row_pattern compiled.now.rows.now }
+    ensures { OnOk result (Reads asked.now (rows_pairs path.now compiled.now.rows.now) states.old [] states.new) }
 {
-    let CompiledRows { rows, patterns } = compiled;
+    let CompiledRows { rows, patterns } = *compiled;
     let name = last_part(path);
     for place in (0..rows.len()).rev() {
         if !patterns[place].matches_named(path, name) {
@@ -133,7 +133,8 @@ impl CompiledFile {
     {
         let rows = self.file.rows.as_slice();
         let patterns = &self.patterns;
-        read_rows(asked, states, pending, CompiledRows { rows, patterns }, path)
+        let compiled = CompiledRows { rows, patterns };
+        read_rows(asked, states, pending, &compiled, path)
     }
 }
 

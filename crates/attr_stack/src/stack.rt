@@ -94,10 +94,10 @@ fn read_level<'a>(
     asked: &AttributeQuery<'a>,
     states: &mut States<'a>,
     pending: &mut Vec<&'a Pair>,
-    branch: Branch<'a, '_>,
+    branch: &Branch<'a, '_>,
     level: Level,
 ) -> Result<(), AllocError>
-    ensures { OnOk result (Reads asked.now (level_pairs branch.folders.now branch.path.now level)
+    ensures { OnOk result (Reads asked.now (level_pairs branch.now.folders.now branch.now.path.now level)
         states.old [] states.new) }
 {
     match branch.folders.get(level.place) {
@@ -113,10 +113,10 @@ fn read_levels<'a>(
     asked: &AttributeQuery<'a>,
     states: &mut States<'a>,
     pending: &mut Vec<&'a Pair>,
-    branch: Branch<'a, '_>,
+    branch: &Branch<'a, '_>,
 ) -> Result<(), AllocError>
     ensures { OnOk result (Reads asked.now
-        (flat_map (level_pairs branch.folders.now branch.path.now) (reverse branch.levels.now))
+        (flat_map (level_pairs branch.now.folders.now branch.now.path.now) (reverse branch.now.levels.now))
         states.old [] states.new) }
 {
     let levels = branch.levels;
@@ -168,7 +168,7 @@ fn decided_of<'a>(
         levels: &chain.levels,
         path,
     };
-    read_levels(&asked, &mut states, &mut pending, branch)?;
+    read_levels(&asked, &mut states, &mut pending, &branch)?;
     read_base(&asked, &mut states, &mut pending, &rules.base, path)?;
     Ok(states)
 }

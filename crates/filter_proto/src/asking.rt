@@ -171,14 +171,15 @@ impl<K: Link> Session<K> {
 
     /// Sends a request and reads its reply.
     #[tactic(auto, using(crate::proofs::More::answered, crate::proofs::Lines::reply_fault, crate::proofs::Lines::reply_memory))]
-    fn request<L: Leaf>(&mut self, request: SmudgeRequest<'_>, leaf: &mut L) -> Asked
+    fn request<L: Leaf>(&mut self, request: &SmudgeRequest<'_>, leaf: &mut L) -> Asked
         requires usable { IsOpenLeaf (L.seen leaf.old).state }
-        requires some { 1 ≤ length request.path.now }
-        requires few { length request.path.now ≤ 4096 }
-        ensures exchange { IsExchange (reply_step request.can_delay) reply_start
-            (first_text request.path.now request.name.now request.can_delay request.content.now)
+        requires some { 1 ≤ length request.now.path.now }
+        requires few { length request.now.path.now ≤ 4096 }
+        ensures exchange { IsExchange (reply_step request.now.can_delay) reply_start
+            (first_text request.now.path.now request.now.name.now
+            request.now.can_delay request.now.content.now)
             self.old.wire self.new.wire (reply_end result.reply)
-            (EndPut request.can_delay (L.seen leaf.old) (L.seen leaf.new) result.put
+            (EndPut request.now.can_delay (L.seen leaf.old) (L.seen leaf.new) result.put
             (reply_end result.reply)) }
         ensures begins { TouchesNot result.reply (L.seen leaf.old) (L.seen leaf.new) result.put }
         ensures rest { self.new ≡ record self.old { wire = self.new.wire } }
@@ -226,7 +227,7 @@ impl<K: Link> Session<K> {
         complete();
         let can_delay = self.caps().delay;
         let request = SmudgeRequest { path, name, can_delay, content };
-        let asked = self.request(request, leaf);
+        let asked = self.request(&request, leaf);
         self.set_standing(standing_after(asked.reply));
         asked
     }
@@ -252,7 +253,7 @@ impl<K: Link> Session<K> {
     {
         complete();
         let request = SmudgeRequest { path, name, can_delay: false, content: b"" };
-        let asked = self.request(request, leaf);
+        let asked = self.request(&request, leaf);
         self.set_standing(standing_after(asked.reply));
         asked
     }

@@ -29,17 +29,18 @@ pub(crate) fn send_smudge<K: Link>(
     alloc: Global,
     link: &mut K,
     text: &mut Vec<u8>,
-    request: SmudgeRequest<'_>,
+    request: &SmudgeRequest<'_>,
 ) -> Result<(), SendFault>
-    requires some { 1 ≤ length request.path.now }
-    requires few { length request.path.now ≤ 4096 }
+    requires some { 1 ≤ length request.now.path.now }
+    requires few { length request.now.path.now ≤ 4096 }
     ensures { SendsAll
-        (first_text request.path.now request.name.now request.can_delay request.content.now)
+        (first_text request.now.path.now request.now.name.now
+        request.now.can_delay request.now.content.now)
         (K.seen link.old) (K.seen link.new) result }
 {
     request_in_parts();
     text.clear();
-    let SmudgeRequest { path, name, can_delay, content } = request;
+    let SmudgeRequest { path, name, can_delay, content } = *request;
     match push_smudge_keys(alloc, text, path, name, can_delay) {
         Ok(()) => send_behind(alloc, link, text, content),
         Err(_) => Err(SendFault::NoMemory),

@@ -142,11 +142,12 @@ impl<K: Link> Session<K> {
 
     /// Sends the request to smudge a content for a path.
     #[tactic(auto, using(crate::proofs::Told::sends_all_on))]
-    pub(crate) fn send_smudge(&mut self, request: SmudgeRequest<'_>) -> Result<(), SendFault>
-        requires some { 1 ≤ length request.path.now }
-        requires few { length request.path.now ≤ 4096 }
+    pub(crate) fn send_smudge(&mut self, request: &SmudgeRequest<'_>) -> Result<(), SendFault>
+        requires some { 1 ≤ length request.now.path.now }
+        requires few { length request.now.path.now ≤ 4096 }
         ensures sends { SendsOn
-            (first_text request.path.now request.name.now request.can_delay request.content.now)
+            (first_text request.now.path.now request.now.name.now
+            request.now.can_delay request.now.content.now)
             self.old.wire self.new.wire result }
         ensures rest { self.new ≡ record self.old { wire = self.new.wire } }
     {

@@ -75,13 +75,13 @@ struct AtLanes<'a> {
 }
 
 /// Takes the next `steps` blocks of four messages, each from the block that `done` says.
-fn run(h: &mut [u32x4; 5], at: AtLanes<'_>, done: [usize; 4], steps: usize)
-    ensures { let ms = at.m0.now ∷ at.m1.now ∷ at.m2.now ∷ at.m3.now ∷ [] in
+fn run(h: &mut [u32x4; 5], at: &AtLanes<'_>, done: [usize; 4], steps: usize)
+    ensures { let ms = at.now.m0.now ∷ at.now.m1.now ∷ at.now.m2.now ∷ at.now.m3.now ∷ [] in
         (j : ℕ) → j < 4 → slice_index done j + steps ≤ block_count (message ms j)
         → lane j h.old ≡ hash_after (padded_message (message ms j)) (slice_index done j)
         → lane j h.new ≡ hash_after (padded_message (message ms j)) (slice_index done j + steps) }
 {
-    let AtLanes { m0, m1, m2, m3 } = at;
+    let AtLanes { m0, m1, m2, m3 } = *at;
     let mut b0 = [0u8; 64];
     let mut b1 = [0u8; 64];
     let mut b2 = [0u8; 64];
@@ -135,7 +135,7 @@ impl Lanes {
             m2: message(messages, self.index[2]),
             m3: message(messages, self.index[3]),
         };
-        run(h, at, self.done, steps);
+        run(h, &at, self.done, steps);
         self.done = [
             self.done[0].wrapping_add(steps),
             self.done[1].wrapping_add(steps),

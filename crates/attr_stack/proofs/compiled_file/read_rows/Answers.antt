@@ -13,14 +13,14 @@ use Rattle.attr_line.specs.declared.file.AttrRow.TheVariants.{Macro}
 
 pub loop-place-preserved-then-not-matches_named : goal.loop-place-preserved-then-not-matches_named
 loop-place-preserved-then-not-matches_named c = λ lines are.
-    let rows = c.args.compiled.rows.now in
+    let rows = c.args.compiled.now.rows.now in
     let path = c.args.path.now in
     let names = is_asked c.args.asked.now.names.now in
     let i = c.loop-place.place - 1 in
     let within : i < length rows = omega (arith, c.loop-place.auto.place, c.loop-place-test.true) in
     let next : i + 1 ≡ c.loop-place.place = omega (arith, c.loop-place-test.true) in
     let first = c.index-patterns-place.result in
-    let stands : first ≡ get_or c.args.compiled.patterns.now i first = search rules in
+    let stands : first ≡ get_or c.args.compiled.now.patterns.now i first = search rules in
     let row : AttrRow = get_or rows i (Macro [] []) in
     let differs : is_match (row_pattern row) path ≡ false =
     sym (row-tested rows path i (Macro [] []) first (stands ∙ ap (λ (ps : List (List ℕ)). get_or ps i first) c.requires) within) ∙ sym c.if-not-matches_named.ensures in
@@ -31,7 +31,7 @@ loop-place-preserved-then-not-matches_named c = λ lines are.
 
 pub returns-then-branch : goal.returns-then-branch
 returns-then-branch c = λ lines are.
-    let rows = c.args.compiled.rows.now in
+    let rows = c.args.compiled.now.rows.now in
     let path = c.args.path.now in
     let row = c.index-rows-place.result in
     let names = is_asked c.args.asked.now.names.now in
@@ -40,7 +40,7 @@ returns-then-branch c = λ lines are.
     let within : i < length rows = omega (arith, c.loop-place.auto.place, c.loop-place-test.true) in
     let next : i + 1 ≡ c.loop-place.place = omega (arith, c.loop-place-test.true) in
     let first = c.index-patterns-place.result in
-    let stands : first ≡ get_or c.args.compiled.patterns.now i first = search rules in
+    let stands : first ≡ get_or c.args.compiled.now.patterns.now i first = search rules in
     let matches : is_match (row_pattern row) path ≡ true =
     ap (λ r. is_match (row_pattern r) path) here
     ∙ sym (row-tested rows path i row first (stands ∙ ap (λ (ps : List (List ℕ)). get_or ps i first) c.requires) within) ∙ sym c.if-not-matches_named.ensures in
@@ -54,7 +54,7 @@ returns-then-branch c = λ lines are.
 
 pub loop-place-preserved : goal.loop-place-preserved
 loop-place-preserved c = λ lines are.
-    let rows = c.args.compiled.rows.now in
+    let rows = c.args.compiled.now.rows.now in
     let path = c.args.path.now in
     let row = c.index-rows-place.result in
     let names = is_asked c.args.asked.now.names.now in
@@ -63,7 +63,7 @@ loop-place-preserved c = λ lines are.
     let within : i < length rows = omega (arith, c.loop-place.auto.place, c.loop-place-test.true) in
     let next : i + 1 ≡ c.loop-place.place = omega (arith, c.loop-place-test.true) in
     let first = c.index-patterns-place.result in
-    let stands : first ≡ get_or c.args.compiled.patterns.now i first = search rules in
+    let stands : first ≡ get_or c.args.compiled.now.patterns.now i first = search rules in
     let matches : is_match (row_pattern row) path ≡ true =
     ap (λ r. is_match (row_pattern r) path) here
     ∙ sym (row-tested rows path i row first (stands ∙ ap (λ (ps : List (List ℕ)). get_or ps i first) c.requires) within) ∙ sym c.if-not-matches_named.ensures in
