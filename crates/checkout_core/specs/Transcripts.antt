@@ -8,11 +8,12 @@ use Rattle.filter_words.specs.declared.reply.Reply.{Reply}
 use Rattle.filter_words.specs.declared.reply.Reply.TheVariants as reply
 use Rattle.filter_words.specs.declared.reply.ListReply.{ListReply}
 use Rattle.filter_words.specs.declared.reply.ListReply.TheVariants as list
+use Rattle.delay_table.specs.Table.{contains, without}
 use Rattle.checkout_core.specs.declared.event.OpenCause.{OpenCause}
 use Rattle.checkout_core.specs.declared.event.Event.{Event}
 use Rattle.checkout_core.specs.declared.event.Event.TheVariants as event
 use Rattle.checkout_core.specs.Conditions.{is_delay, is_good_reply, is_good_opening}
-use Rattle.checkout_core.specs.Talks.{contains, without, is_empty}
+use Rattle.checkout_core.specs.Talks.{is_empty}
 
 -- a request and its answer: the first for a path, one for a list of delayed paths, the second for a path
 pub data NotedExchange : Type 0 where

@@ -10,12 +10,12 @@ use Rattle.edge_kit.specs.Starters.{Had, Starts, StartsListed, StartTold}
 use Rattle.edge_kit.specs.declared.tree_file.TreeFile.{TreeFile}
 use Rattle.settings_view.specs.declared.view.Driver.{Driver}
 use Rattle.git_index.specs.Spelling.{OneReading, PathsAreOrdered}
+use Rattle.delay_table.specs.Table.{contains}
 use Rattle.checkout_core.specs.declared.event.Event.{Event}
 use Rattle.checkout_core.specs.declared.path.Start.{Start}
 use Rattle.checkout_core.specs.declared.path.Start.TheVariants as start
 use Rattle.checkout_core.specs.declared.verdict.Verdict.{Verdict}
 use Rattle.checkout_core.specs.States.{is_at}
-use Rattle.checkout_core.specs.Talks.{contains}
 use Rattle.checkout_core.specs.Fates.{heard_by}
 use Rattle.driver_line.specs.OneContent.{OneContent}
 use Rattle.driver_line.specs.EqualSessions.{EqualSessions, IsTalkWith}

@@ -13,6 +13,7 @@ use Rattle.object_dir.specs.Object.{IsObject}
 use Rattle.object_dir.specs.declared.fault.ObjectFault.{ObjectFault}
 use Rattle.object_dir.specs.declared.fault.ObjectFault.TheVariants as object
 use Rattle.tree_encoding.specs.declared.prepared.Prepared.{Prepared}
+use Rattle.delay_table.specs.Table.{contains}
 use Rattle.convert_plan.specs.Card.{IsPrepared}
 use Rattle.checkout_core.specs.declared.path.Heard.{Heard}
 use Rattle.checkout_core.specs.declared.path.Heard.TheVariants as heard
@@ -25,7 +26,6 @@ use Rattle.checkout_core.specs.declared.verdict.Verdict.{Verdict}
 use Rattle.checkout_core.specs.declared.verdict.Verdict.TheVariants as verdict
 use Rattle.checkout_core.specs.declared.verdict.FailCause.TheVariants as fail
 use Rattle.checkout_core.specs.Fates.{Fate, Untold, Later, Known, fate_of, heard_by, desk_verdict}
-use Rattle.checkout_core.specs.Talks.{contains}
 use Rattle.driver_line.specs.Conversations.{Exchange, NoStart, NoRoom, Opening, First, Listing, Second, Shutting, notes_in}
 use Rattle.filter_words.specs.declared.reply.Reply.TheVariants as reply
 use Rattle.driver_desk.specs.Serving.{IsAnswer, HasAnswer, HasPart, Holds, TellsPart}

@@ -8,6 +8,7 @@ use Rattle.edge_kit.specs.Told.{Told}
 use Rattle.edge_kit.specs.Starters.{Had, Starts, StarterSeen, SpawnerSeen, starter_back}
 use Rattle.settings_view.specs.declared.view.Driver.{Driver}
 use Rattle.tree_encoding.specs.declared.prepared.Prepared.{Prepared}
+use Rattle.delay_table.specs.Table.{contains}
 use Rattle.convert_plan.specs.declared.card.Card.{Card}
 use Rattle.convert_plan.specs.Card.{CardSeen, IsPrepared}
 use Rattle.checkout_core.specs.declared.event.Event.{Event}
@@ -23,7 +24,6 @@ use Rattle.checkout_core.specs.Desks.{was_read as own_read}
 use Rattle.checkout_core.specs.Fates.{Fate, Untold, Later, Known, fate_of, desk_verdict}
 use Rattle.checkout_core.specs.Notes.{notes}
 use Rattle.checkout_core.specs.States.{is_at}
-use Rattle.checkout_core.specs.Talks.{contains}
 use Rattle.checkout_core.specs.Verdicts.{heard_verdict, write_failed}
 use Rattle.checkout_book.specs.Sights.{Sight, seen}
 use Rattle.checkout_plan.specs.declared.path_plan.PathPlan.{PathPlan}

@@ -9,13 +9,13 @@ use Rattle.edge_kit.specs.Told.{Told}
 use Rattle.edge_kit.specs.Starters.{Starts, StartsListed, StartTold}
 use Rattle.settings_view.specs.declared.view.Driver.{Driver}
 use Rattle.filter_words.specs.declared.reply.Reply.TheVariants as reply
+use Rattle.delay_table.specs.Table.{contains}
 use Rattle.checkout_core.specs.declared.event.Event.{Event}
 use Rattle.checkout_core.specs.declared.path.Heard.TheVariants as heard
 use Rattle.checkout_core.specs.declared.path.Start.{Start}
 use Rattle.checkout_core.specs.declared.path.Start.TheVariants as start
 use Rattle.checkout_core.specs.declared.verdict.Verdict.{Verdict}
 use Rattle.checkout_core.specs.States.{is_at}
-use Rattle.checkout_core.specs.Talks.{contains}
 use Rattle.checkout_core.specs.Fates.{Known, heard_by}
 use Rattle.git_index.specs.Spelling.{pairwise}
 use Rattle.driver_desk.specs.Serving.{HasAnswer}

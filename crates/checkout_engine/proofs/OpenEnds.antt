@@ -6,6 +6,7 @@ use Rattle.edge_kit.specs.Told.{Told}
 use Rattle.edge_kit.specs.Joins.{JoinsLeaf}
 use Rattle.edge_kit.specs.Seen.{BlobSeen, LeafSeen}
 use Rattle.edge_kit.specs.declared.tree_file.TreeFile.{TreeFile}
+use Rattle.delay_table.specs.Table.{contains}
 use Rattle.convert_plan.specs.declared.card.Card.{Card}
 use Rattle.convert_plan.specs.Card.{CardSeen}
 use Rattle.checkout_core.specs.declared.event.Event.{Event}
@@ -18,7 +19,6 @@ use Rattle.checkout_core.specs.Closes.{own_of}
 use Rattle.checkout_core.specs.Fates.{Fate, Untold, Known, fate_of, pool_verdict, desk_verdict, told_verdict}
 use Rattle.checkout_core.specs.Notes.{notes}
 use Rattle.checkout_core.specs.States.{Core, AreBelow}
-use Rattle.checkout_core.specs.Talks.{contains}
 use Rattle.checkout_book.specs.Sights.{Sight, seen}
 use Rattle.checkout_plan.specs.declared.path_plan.PathPlan.{PathPlan}
 use Rattle.driver_line.specs.Conversations.{notes_in}

@@ -7,6 +7,7 @@ use Rattle.edge_kit.specs.declared.tree_file.TreeFile.{TreeFile}
 use Rattle.object_dir.specs.declared.fault.ObjectFault.{ObjectFault}
 use Rattle.object_dir.specs.declared.fault.ObjectFault.TheVariants as object
 use Rattle.tree_encoding.specs.declared.prepared.Prepared.{Prepared}
+use Rattle.delay_table.specs.Table.{contains}
 use Rattle.convert_plan.specs.Prepared.{prepared}
 use Rattle.checkout_core.specs.declared.verdict.ObjectKind.{ObjectKind}
 use Rattle.checkout_core.specs.declared.verdict.FilterCause.{FilterCause}
@@ -16,7 +17,6 @@ use Rattle.checkout_core.specs.declared.verdict.FailCause.TheVariants as fail
 use Rattle.checkout_core.specs.declared.path.Heard.{Heard}
 use Rattle.checkout_core.specs.declared.path.Heard.TheVariants as heard
 use Rattle.checkout_core.specs.Fates.{heard_by, fate_of, Untold}
-use Rattle.checkout_core.specs.Talks.{contains}
 use Rattle.driver_line.specs.Conversations.{notes_in}
 use Rattle.driver_line.specs.SameHeard.{content_of}
 use Rattle.checkout_plan.specs.declared.path_plan.PathPlan.{PathPlan}

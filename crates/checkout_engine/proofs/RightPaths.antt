@@ -13,6 +13,7 @@ use Rattle.git_index.specs.Spelling.{pairwise}
 use Rattle.object_dir.specs.Object.{Gives, IsObject, object_of, max_stored}
 use Rattle.object_dir.specs.declared.fault.ObjectFault.{ObjectFault}
 use Rattle.object_dir.specs.declared.fault.ObjectFault.TheVariants as object
+use Rattle.delay_table.specs.Table.{contains}
 use Rattle.checkout_core.specs.declared.event.Event.{Event}
 use Rattle.checkout_core.specs.declared.path.Heard.TheVariants as heard
 use Rattle.checkout_core.specs.declared.path.Start.{Start}
@@ -23,7 +24,6 @@ use Rattle.checkout_core.specs.declared.verdict.FailCause.TheVariants as fail
 use Rattle.checkout_core.specs.declared.verdict.ObjectKind.{ObjectKind}
 use Rattle.checkout_core.specs.Fates.{Known, heard_by}
 use Rattle.checkout_core.specs.States.{is_at}
-use Rattle.checkout_core.specs.Talks.{contains}
 use Rattle.checkout_report.specs.Report.{is_failed}
 use Rattle.driver_line.specs.SameHeard.{NoneFailed, SameHeard, IsToldTalk, HaveTexts, HaveSameTexts, fate_in}
 use Rattle.driver_line.specs.ToldStarts.{GoBy}

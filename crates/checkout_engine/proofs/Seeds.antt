@@ -9,6 +9,7 @@ use Rattle.std.proofs.lemmas.Option.{same_Some, slice_get_within}
 use Rattle.edge_kit.specs.Told.{Told}
 use Rattle.edge_kit.specs.Starters.{Starts, StarterSeen}
 use Rattle.settings_view.specs.declared.view.Driver.{Driver}
+use Rattle.delay_table.specs.Table.{IsRising, contains}
 use Rattle.convert_plan.specs.declared.card.Card.{Card}
 use Rattle.checkout_book.specs.Sights.{Sight}
 use Rattle.checkout_core.specs.declared.event.Event.{Event}
@@ -16,9 +17,7 @@ use Rattle.checkout_core.specs.declared.path.Start.{Start}
 use Rattle.checkout_core.specs.declared.path.Start.TheVariants as start
 use Rattle.checkout_core.specs.Desks.{paths_of}
 use Rattle.checkout_core.specs.States.{is_at, AreBelow}
-use Rattle.checkout_core.specs.Talks.{contains}
 use Rattle.checkout_plan.specs.declared.path_plan.PathPlan.{PathPlan}
-use Rattle.delay_table.specs.Table.{IsRising}
 use Rattle.git_index.specs.Spelling.{pairwise, is_before}
 use Rattle.writer_pool.specs.declared.pooled.DeskSeed.{DeskSeed}
 use Rattle.writer_pool.specs.Pools.{IsSeed, AreSeeds, AreStartersBack}

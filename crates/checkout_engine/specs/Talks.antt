@@ -4,6 +4,7 @@ use Rattle.edge_kit.specs.Told.{Told}
 use Rattle.edge_kit.specs.Starters.{Had, Starts, SpawnerSeen}
 use Rattle.tree_encoding.specs.declared.prepared.Prepared.{Prepared}
 use Rattle.settings_view.specs.declared.view.Driver.{Driver}
+use Rattle.delay_table.specs.Table.{contains}
 use Rattle.checkout_core.specs.declared.event.Event.{Event}
 use Rattle.checkout_core.specs.declared.path.Heard.{Heard}
 use Rattle.checkout_core.specs.declared.verdict.Verdict.{Verdict}
@@ -12,7 +13,6 @@ use Rattle.checkout_core.specs.declared.verdict.FailCause.TheVariants as fail
 use Rattle.checkout_core.specs.States.{is_at}
 use Rattle.checkout_core.specs.Fates.{heard_in}
 use Rattle.checkout_core.specs.Notes.{notes}
-use Rattle.checkout_core.specs.Talks.{contains}
 use Rattle.checkout_core.specs.Transcripts.{Item}
 use Rattle.checkout_core.specs.Transcripts as result
 use Rattle.driver_line.specs.Conversations.{Exchange, notes_in}

@@ -10,6 +10,7 @@ use Rattle.filter_words.specs.declared.reply.Reply.{Reply}
 use Rattle.filter_words.specs.declared.reply.Reply.TheVariants as reply
 use Rattle.filter_words.specs.declared.reply.ListReply.{ListReply}
 use Rattle.filter_words.specs.declared.reply.ListReply.TheVariants as list
+use Rattle.delay_table.specs.Table.{contains, without}
 use Rattle.checkout_core.specs.declared.verdict.Own.TheVariants as own
 use Rattle.checkout_core.specs.declared.path.Start.{Start}
 use Rattle.checkout_core.specs.declared.event.Event.{Event}
@@ -19,8 +20,8 @@ use Rattle.checkout_core.specs.Conditions.{is_good_opening, is_good_reply, is_de
 use Rattle.checkout_core.specs.Steps.{replay}
 use Rattle.checkout_core.specs.Notes.{is_note, notes}
 use Rattle.checkout_core.specs.Talks.{Round, Talk, Between, Refusing, InRound, Ended, talk_next, talk_run, is_with}
-use Rattle.checkout_core.specs.Talks.{opened, ask, answered, name, list_may, list_end, ask_again, redone, contains}
-use Rattle.checkout_core.specs.Talks.{without, is_empty}
+use Rattle.checkout_core.specs.Talks.{opened, ask, answered, name, list_may, list_end, ask_again, redone}
+use Rattle.checkout_core.specs.Talks.{is_empty}
 use Rattle.checkout_core.specs.Agreements.{IsThrough, rest_after, first_after}
 use Rattle.checkout_core.specs.Desks.{AtDesk, paths_of}
 use Rattle.checkout_core.proofs.Basics.{none_is_some, some_is, same_number, same_or, eqb_self}

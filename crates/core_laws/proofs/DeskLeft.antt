@@ -1,6 +1,7 @@
 -- A path that its desk closed or handed back isn't with its driver any more.
 use Rattle.std.proofs.Common.{◌≡◌, ℕ, Bool, true, false, List, [], ◌∷◌, map, Some, refl, sym, ap, ◌∙◌, subst}
 use Rattle.std.specs.Prelude.{slice_get, ◌||◌}
+use Rattle.delay_table.specs.Table.{contains}
 use Rattle.checkout_core.specs.declared.path.PathState.{PathState}
 use Rattle.checkout_core.specs.declared.path.PathState.TheVariants as path
 use Rattle.checkout_core.specs.declared.path.PathState.TheVariants.{Waiting, Held, Unasked, Closed}
@@ -16,7 +17,6 @@ use Rattle.checkout_core.specs.Effects.{after, path_after, driver_after, swept}
 use Rattle.checkout_core.specs.Conditions.{replied_sweep, list_sweep}
 use Rattle.checkout_core.specs.Steps.{replay}
 use Rattle.checkout_core.specs.Notes.{is_note}
-use Rattle.checkout_core.specs.Talks.{contains}
 use Rattle.checkout_core.specs.Desks.{paths_of, leaves, is_left}
 use Rattle.checkout_core.proofs.Basics.{some_is, eqb_self, get_each, start_after, step_is, first_step, same_row}
 use Rattle.core_laws.specs.Moves.{is_with_driver}

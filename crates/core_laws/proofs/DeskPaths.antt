@@ -4,6 +4,7 @@ use Rattle.std.proofs.Common.{Some}
 use Rattle.std.proofs.Common.{None, refl, sym, ap, ◌∙◌, subst, eq-eqb}
 use Rattle.std.specs.Prelude.{slice_get, ◌||◌}
 use Rattle.std.proofs.lemmas.Bool.{and_from}
+use Rattle.delay_table.specs.Table.{contains}
 use Rattle.checkout_core.specs.declared.verdict.FilterCause.TheVariants as cause
 use Rattle.checkout_core.specs.declared.path.Heard.{Heard}
 use Rattle.checkout_core.specs.declared.path.Heard.TheVariants as heard
@@ -23,7 +24,7 @@ use Rattle.checkout_core.specs.Steps.{replay}
 use Rattle.checkout_core.specs.Notes.{notes}
 use Rattle.checkout_core.specs.Closes.{own_of}
 use Rattle.checkout_core.specs.Fates.{Fate, Untold, Later, Known, fate_of}
-use Rattle.checkout_core.specs.Talks.{Talk, Refusing, InRound, contains}
+use Rattle.checkout_core.specs.Talks.{Talk, Refusing, InRound}
 use Rattle.checkout_core.specs.Agreements.{unasked, round_of, talk_at, Agrees}
 use Rattle.checkout_core.specs.Desks.{is_left}
 use Rattle.checkout_core.proofs.Basics.{eqb_self, same_or, other_number, same_row, same_desk}

@@ -8,6 +8,7 @@ use Rattle.filter_words.specs.declared.reply.Reply.{Reply}
 use Rattle.filter_words.specs.declared.reply.Reply.TheVariants as reply
 use Rattle.filter_words.specs.declared.reply.ListReply.{ListReply}
 use Rattle.filter_words.specs.declared.reply.ListReply.TheVariants as list
+use Rattle.delay_table.specs.Table.{contains, without}
 use Rattle.checkout_core.specs.declared.path.Heard.{Heard}
 use Rattle.checkout_core.specs.declared.event.Event.{Event}
 use Rattle.checkout_core.specs.declared.event.Event.TheVariants as ev
@@ -15,8 +16,8 @@ use Rattle.checkout_core.specs.Conditions.{is_good_opening, is_good_reply, is_de
 use Rattle.checkout_core.specs.Fates.{Fate, Untold, Later, Known, fate_here, fate_there, fate_opened, fate_listed}
 use Rattle.checkout_core.specs.Fates.{fate_after, fate_of, heard_by, heard_in}
 use Rattle.checkout_core.specs.Talks.{Round, Talk, Between, Refusing, InRound, Ended, talk_next, talk_run, IsOver}
-use Rattle.checkout_core.specs.Talks.{opened, ask, answered, name, list_may, list_end, ask_again, redone, contains}
-use Rattle.checkout_core.specs.Talks.{without, is_empty}
+use Rattle.checkout_core.specs.Talks.{opened, ask, answered, name, list_may, list_end, ask_again, redone}
+use Rattle.checkout_core.specs.Talks.{is_empty}
 use Rattle.checkout_core.specs.Transcripts.{Item, IsTalk, notes_of}
 use Rattle.checkout_core.proofs.Basics.{none_is_some, some_is, same_number}
 use Rattle.core_laws.proofs.Transcripts.{transcript_runs}

@@ -8,6 +8,7 @@ use Rattle.filter_words.specs.declared.reply.Reply.TheVariants as reply
 use Rattle.filter_words.specs.declared.reply.ListReply.{ListReply}
 use Rattle.filter_words.specs.declared.reply.ListReply.TheVariants as list
 use Rattle.filter_words.specs.declared.reply.Caps.{Caps}
+use Rattle.delay_table.specs.Table.{contains, without}
 use Rattle.checkout_core.specs.declared.event.Event.{Event}
 use Rattle.checkout_core.specs.declared.event.Event.TheVariants as ev
 use Rattle.checkout_core.specs.declared.path.Start.{Start}
@@ -17,7 +18,7 @@ use Rattle.checkout_core.specs.Conditions.{is_delay, is_good_reply, is_good_open
 use Rattle.checkout_core.specs.Steps.{replay}
 use Rattle.checkout_core.specs.Notes.{notes}
 use Rattle.checkout_core.specs.Desks.{paths_of}
-use Rattle.checkout_core.specs.Talks.{Talk, Between, Refusing, InRound, Ended, Round, contains, without, is_empty, opened}
+use Rattle.checkout_core.specs.Talks.{Talk, Between, Refusing, InRound, Ended, Round, is_empty, opened}
 use Rattle.checkout_core.specs.Talks.{between, answered, ask, name, list_end, list_may, redone, ask_again, in_session}
 use Rattle.checkout_core.specs.Talks.{refusing, talk_next, is_with, talk_step, talk_run, is_talk, picks, skipped}
 use Rattle.checkout_core.specs.Talks.{talk_paths, is_there}

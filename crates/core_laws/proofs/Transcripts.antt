@@ -8,11 +8,12 @@ use Rattle.filter_words.specs.declared.reply.Reply.{Reply}
 use Rattle.filter_words.specs.declared.reply.Reply.TheVariants as reply
 use Rattle.filter_words.specs.declared.reply.ListReply.{ListReply}
 use Rattle.filter_words.specs.declared.reply.ListReply.TheVariants as list
+use Rattle.delay_table.specs.Table.{contains, without}
 use Rattle.checkout_core.specs.declared.event.Event.{Event}
 use Rattle.checkout_core.specs.declared.event.Event.TheVariants as ev
 use Rattle.checkout_core.specs.Conditions.{is_good_opening, is_good_reply, is_delay}
 use Rattle.checkout_core.specs.Talks.{Round, Talk, Between, Refusing, InRound, Ended, talk_step, talk_run, IsOver}
-use Rattle.checkout_core.specs.Talks.{opened, answered, redone, contains, without, is_empty}
+use Rattle.checkout_core.specs.Talks.{opened, answered, redone, is_empty}
 use Rattle.checkout_core.specs.Transcripts.{NotedExchange, First, Listing, Second, End, Shut, NothingLeft, Aborted, Broke}
 use Rattle.checkout_core.specs.Transcripts.{OutOfMemory, Item, NoSession, Session, reply_end, list_reply_end, GoesOn}
 use Rattle.checkout_core.specs.Transcripts.{IsList, are_late, minus, Rounds, may_reply, late_after, Asks, IsSession}

@@ -9,11 +9,12 @@ use Rattle.filter_words.specs.declared.reply.Reply.{Reply}
 use Rattle.filter_words.specs.declared.reply.Reply.TheVariants as reply
 use Rattle.filter_words.specs.declared.reply.ListReply.{ListReply}
 use Rattle.filter_words.specs.declared.reply.ListReply.TheVariants as list
+use Rattle.delay_table.specs.Table.{contains, without}
 use Rattle.checkout_core.specs.declared.event.Event.{Event}
 use Rattle.checkout_core.specs.declared.event.Event.TheVariants as ev
 use Rattle.checkout_core.specs.Conditions.{is_good_opening, is_good_reply, is_delay}
 use Rattle.checkout_core.specs.Talks.{Talk, Between, Refusing, InRound, Ended, talk_next, talk_run, is_with, IsOver}
-use Rattle.checkout_core.specs.Talks.{opened, answered, redone, contains, without, is_empty}
+use Rattle.checkout_core.specs.Talks.{opened, answered, redone, is_empty}
 use Rattle.checkout_core.specs.Transcripts.{NotedExchange, First, Listing, Second, End, Shut, NothingLeft, Aborted, Broke}
 use Rattle.checkout_core.specs.Transcripts.{OutOfMemory, Item, NoSession, Session, are_late, minus, Rounds, may_reply}
 use Rattle.checkout_core.specs.Transcripts.{reply_end, GoesOn, late_after}

@@ -1,9 +1,10 @@
 -- What the notes of a driver tell of the paths that its desk still has, by where the talk is.
 use Rattle.std.specs.Prelude.{◌||◌, ℕ, Bool, false}
+use Rattle.delay_table.specs.Table.{contains}
 use Rattle.checkout_core.specs.declared.verdict.FilterCause.TheVariants as cause
 use Rattle.checkout_core.specs.declared.path.Heard.TheVariants as heard
 use Rattle.checkout_core.specs.Fates.{Fate, Untold, Known}
-use Rattle.checkout_core.specs.Talks.{Talk, Between, Refusing, InRound, Ended, contains}
+use Rattle.checkout_core.specs.Talks.{Talk, Between, Refusing, InRound, Ended}
 
 -- of a path that the driver wasn't asked for: a session without smudge and an abort refuse it
 abbrev pub ahead_fate : Talk → Fate

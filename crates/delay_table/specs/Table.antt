@@ -50,6 +50,7 @@ pub record IsLowest (t : Table) (p : ℕ) : Type 0 where
 abbrev pub NoneIsPending : Table → Type 0
 NoneIsPending t = (q : ℕ) → is_pending (slice_get t.places q) ≡ false
 
+-- whether a list has the number
 abbrev pub contains : ℕ → List ℕ → Bool
 contains p [] = false
 contains p (q ∷ qs) = cond (p == q) true (contains p qs)
@@ -58,10 +59,10 @@ abbrev pub without : ℕ → List ℕ → List ℕ
 without p [] = []
 without p (q ∷ qs) = cond (p == q) (without p qs) (q ∷ without p qs)
 
--- no place is there twice
+-- no number is there twice
 abbrev pub AreApart : List ℕ → Type 0
 AreApart [] = Unit {0}
-AreApart (p ∷ turns) = (contains p turns ≡ false) × AreApart turns
+AreApart (p ∷ ps) = (contains p ps ≡ false) × AreApart ps
 
 -- The turns are the listed places, each once.
 pub record AreListed (t : Table) : Type 0 where

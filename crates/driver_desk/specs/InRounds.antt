@@ -1,5 +1,6 @@
 -- A desk in rounds, and how a call changes it. No public contract speaks of this.
 use Rattle.std.specs.Prelude.{◌≡◌, ℕ, List}
+use Rattle.delay_table.specs.Table.{AreApart}
 use Rattle.driver_line.specs.Lines.{LineView, Paths}
 use Rattle.driver_desk.specs.declared.serving.Serving.{Serving}
 use Rattle.driver_desk.specs.Late.{KeepsNames, FitsNames, cards_of}
@@ -8,7 +9,6 @@ use Rattle.driver_desk.specs.On.{Grows, late_paths}
 use Rattle.driver_desk.specs.Places.{InRoundsAt}
 use Rattle.driver_desk.specs.Recorders.{RecorderSeen}
 use Rattle.driver_desk.specs.Rounds.{AreReady, FitLabels, IsNext, RoundsBy}
-use Rattle.driver_line.specs.SameHeard.{AreApart}
 use Rattle.driver_desk.specs.Serving.{Given}
 
 module _ {S K B L F : Type 0} where

@@ -14,11 +14,12 @@ use Rattle.filter_words.specs.declared.reply.ListReply.TheVariants as list
 use Rattle.edge_kit.specs.Files.{grown}
 use Rattle.edge_kit.specs.Told.{Tells}
 use Rattle.edge_kit.specs.Starters.{Had, Session, StartFailed, StartOutOfMemory, SessionHad}
+use Rattle.delay_table.specs.Table.{contains}
 use Rattle.filter_proto.specs.Exchanges.{Ends, Good, Broke, OutOfMemory}
 use Rattle.filter_proto.specs.Openings.{IsOpening}
 use Rattle.checkout_core.specs.declared.path.Heard.{Heard}
 use Rattle.checkout_core.specs.Fates.{Fate}
-use Rattle.checkout_core.specs.Talks.{Talk, Between, IsOver, contains}
+use Rattle.checkout_core.specs.Talks.{Talk, Between, IsOver}
 use Rattle.driver_line.specs.Conversations.{Exchange, NoStart, NoRoom, Opening, First, Listing, Second, Shutting, notes_in}
 use Rattle.driver_line.specs.Lines.{Paths}
 use Rattle.driver_line.specs.SameHeard.{HaveTexts, HaveSameTexts, HaveSamePaths}

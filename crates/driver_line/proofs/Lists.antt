@@ -18,8 +18,7 @@ use Rattle.filter_words.specs.declared.reply.ListReply.{ListReply}
 use Rattle.filter_words.specs.declared.reply.ListReply.TheVariants as list
 use Rattle.filter_words.specs.declared.answer_state.AnswerState.{AnswerState}
 use Rattle.edge_kit.specs.Starters.{StarterSeen}
-use Rattle.checkout_core.specs.Talks.{contains}
-use Rattle.delay_table.specs.Table.{Table, is_pending}
+use Rattle.delay_table.specs.Table.{Table, is_pending, contains}
 use Rattle.delay_table.specs.declared.place.Place.{Place}
 use Rattle.delay_table.specs.declared.place.Place.TheVariants as place
 use Rattle.filter_proto.specs.Wires.{Wire, SessionSeen}

@@ -2,9 +2,10 @@
 use Rattle.std.proofs.Common.{◌≡◌, ◌⊎◌, inl, inr, ℕ, Bool, true, List, [], ◌∷◌, Some, refl, sym, ap, ◌∙◌, map}
 use Rattle.filter_words.specs.Requests.{list_text, first_text, second_text}
 use Rattle.filter_words.specs.declared.reply.Caps.{Caps}
+use Rattle.delay_table.specs.Table.{contains}
 use Rattle.checkout_core.specs.declared.path.Heard.{Heard}
 use Rattle.checkout_core.specs.Fates.{Fate, Untold, Later, Known}
-use Rattle.checkout_core.specs.Talks.{Talk, contains, talk_run}
+use Rattle.checkout_core.specs.Talks.{Talk, talk_run}
 use Rattle.driver_line.specs.Conversations.{Exchange, NoStart, NoRoom, Opening, First, Listing, Second, Shutting, LeadsTo, notes_of}
 use Rattle.driver_line.specs.Lines.{Paths}
 use Rattle.driver_line.specs.SameHeard.{HaveSamePaths}

@@ -16,11 +16,12 @@ use Rattle.filter_words.specs.declared.reply.ListReply.TheVariants as list
 use Rattle.filter_words.specs.declared.smudge_reply.GoodReply.{GoodReply}
 use Rattle.filter_words.specs.declared.smudge_reply.GoodReply.TheVariants as good
 use Rattle.filter_words.specs.declared.smudge_reply.ReplyPhase.{ReplyPhase}
+use Rattle.delay_table.specs.Table.{contains}
 use Rattle.filter_proto.specs.Complete.{IsSettled}
 use Rattle.filter_proto.specs.Exchanges.{Ends, Good, Broke, OutOfMemory}
 use Rattle.filter_proto.specs.Replies.{reply_end}
 use Rattle.checkout_core.specs.Fates.{Fate, Later}
-use Rattle.checkout_core.specs.Talks.{Talk, contains, talk_run}
+use Rattle.checkout_core.specs.Talks.{Talk, talk_run}
 use Rattle.driver_line.specs.Conversations.{Exchange, NoStart, NoRoom, Opening, First, Listing, Second, Shutting, notes_of, FitsTalk, late_of}
 use Rattle.driver_line.specs.Lines.{Paths, HasContent, ListIs}
 use Rattle.driver_line.specs.Parts.{IsPartOf, IsOnePart}

@@ -5,6 +5,7 @@ use Rattle.std.proofs.lemmas.Bool.{eq-eqb}
 use Rattle.filter_words.specs.declared.reply.Reply.TheVariants as reply
 use Rattle.filter_words.specs.declared.reply.ListReply.{ListReply}
 use Rattle.filter_words.specs.declared.reply.ListReply.TheVariants as list
+use Rattle.delay_table.specs.Table.{contains}
 use Rattle.filter_proto.specs.Exchanges.{OutOfMemory}
 use Rattle.checkout_core.specs.declared.event.Event.{Event}
 use Rattle.checkout_core.specs.declared.event.Event.TheVariants as ev
@@ -12,7 +13,7 @@ use Rattle.checkout_core.specs.declared.event.OpenCause.TheVariants as opening
 use Rattle.checkout_core.specs.declared.path.Heard.{Heard}
 use Rattle.checkout_core.specs.declared.path.Heard.TheVariants as heard
 use Rattle.checkout_core.specs.Fates.{Fate, Untold, Later, Known, fate_of, fate_after}
-use Rattle.checkout_core.specs.Talks.{Talk, Between, Refusing, InRound, Ended, contains, talk_run}
+use Rattle.checkout_core.specs.Talks.{Talk, Between, Refusing, InRound, Ended, talk_run}
 use Rattle.driver_line.specs.Conversations.{Exchange, NoStart, NoRoom, Opening, First, Listing, Second, Shutting}
 use Rattle.driver_line.specs.Conversations.{notes_of, notes_in, LeadsTo, late_of}
 use Rattle.driver_line.specs.Transcripts.{wants}

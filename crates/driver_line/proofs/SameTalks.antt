@@ -13,6 +13,7 @@ use Rattle.edge_kit.specs.Files.{grown}
 use Rattle.edge_kit.specs.Told.{Tells}
 use Rattle.edge_kit.specs.Links.{Left, LeftUntold, LeftBytes, LeftAnswers, led, TellsLeft}
 use Rattle.edge_kit.specs.Starters.{Had, Session, StartFailed, StartOutOfMemory, SessionHad, StartTold, Fails, Gives, Starts, StartsListed, NextGives, NextFails}
+use Rattle.delay_table.specs.Table.{contains, AreApart}
 use Rattle.filter_proto.specs.Wires.{Wire}
 use Rattle.filter_proto.specs.Complete.{IsSettled}
 use Rattle.filter_proto.specs.Exchanges.{Ends, Good, Broke, OutOfMemory, IsHeard, Unsent}
@@ -21,11 +22,11 @@ use Rattle.checkout_core.specs.declared.event.Event.{Event}
 use Rattle.checkout_core.specs.declared.path.Heard.{Heard}
 use Rattle.checkout_core.specs.declared.path.Heard.TheVariants as heard
 use Rattle.checkout_core.specs.Fates.{Fate, Untold, Known, fate_of}
-use Rattle.checkout_core.specs.Talks.{Talk, Between, IsOver, contains}
+use Rattle.checkout_core.specs.Talks.{Talk, Between, IsOver}
 use Rattle.driver_line.specs.Conversations.{Exchange, NoStart, NoRoom, Opening, notes_in, LeadsTo}
 use Rattle.driver_line.specs.Lines.{Paths, IsFresh}
 use Rattle.driver_line.specs.Parts.{IsPartOf, IsOnePart}
-use Rattle.driver_line.specs.SameHeard.{NoneFailed, HaveTexts, HaveSameTexts, AreApart, SameHeard}
+use Rattle.driver_line.specs.SameHeard.{NoneFailed, HaveTexts, HaveSameTexts, SameHeard}
 use Rattle.driver_line.specs.ToldStarts.{GoBy, Fills}
 use Rattle.driver_line.specs.Transcripts.{IsPart, IsOpenedSession, IsFailedSession, IsSession, Matches, break_in}
 use Rattle.driver_line.proofs.Spoken.{stops_at}

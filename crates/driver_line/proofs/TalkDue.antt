@@ -7,12 +7,13 @@ use Rattle.filter_words.specs.declared.reply.Reply.TheVariants as reply
 use Rattle.filter_words.specs.declared.reply.ListReply.{ListReply}
 use Rattle.filter_words.specs.declared.reply.ListReply.TheVariants as list
 use Rattle.filter_words.specs.declared.reply.Caps.{Caps}
+use Rattle.delay_table.specs.Table.{contains}
 use Rattle.filter_proto.specs.Exchanges.{Ends}
 use Rattle.checkout_core.specs.declared.event.Event.{Event}
 use Rattle.checkout_core.specs.declared.event.Event.TheVariants as ev
 use Rattle.checkout_core.specs.declared.event.OpenCause.TheVariants as opening
 use Rattle.checkout_core.specs.Conditions.{is_delay, is_good_reply, is_good_opening}
-use Rattle.checkout_core.specs.Talks.{Talk, Between, Refusing, InRound, Ended, Round, contains, is_empty, opened}
+use Rattle.checkout_core.specs.Talks.{Talk, Between, Refusing, InRound, Ended, Round, is_empty, opened}
 use Rattle.checkout_core.specs.Talks.{between, answered, ask, name, list_end, list_may, redone, ask_again, in_session}
 use Rattle.checkout_core.specs.Talks.{refusing, talk_next, talk_run}
 use Rattle.driver_line.specs.Conversations.{Exchange, NoStart, NoRoom, Opening, First, Listing, Second, Shutting}

@@ -1,12 +1,12 @@
 -- Two talks with equal sessions: what they have in common, also where a link failed.
 use Rattle.std.specs.Prelude.{◌≡◌, ℕ, true, List}
 use Rattle.edge_kit.specs.Starters.{Had}
+use Rattle.delay_table.specs.Table.{contains, AreApart}
 use Rattle.checkout_core.specs.declared.path.Heard.TheVariants as heard
 use Rattle.checkout_core.specs.Fates.{Known}
-use Rattle.checkout_core.specs.Talks.{contains}
 use Rattle.driver_line.specs.Conversations.{Exchange}
 use Rattle.driver_line.specs.Lines.{Paths}
-use Rattle.driver_line.specs.SameHeard.{AreApart, HaveTexts, HaveSamePaths, NoneWanting, fate_in, content_of}
+use Rattle.driver_line.specs.SameHeard.{HaveTexts, HaveSamePaths, NoneWanting, fate_in, content_of}
 use Rattle.driver_line.specs.ToldStarts.{Fills}
 use Rattle.driver_line.specs.Transcripts.{IsTalk}
 

@@ -24,7 +24,6 @@ use Rattle.filter_proto.specs.Openings.{IsOpening}
 use Rattle.filter_proto.specs.declared.session.Standing.{Standing}
 use Rattle.filter_proto.specs.declared.session.Standing.TheVariants as standing
 use Rattle.std.specs.Prelude.{Result, Ok, ⊤, length, ◌<◌}
-use Rattle.checkout_core.specs.Talks.{contains}
 use Rattle.edge_kit.specs.Files.{grown}
 use Rattle.edge_kit.specs.declared.faults.SendFault.{SendFault}
 use Rattle.filter_words.specs.declared.reply.Reply.TheVariants as reply
@@ -33,7 +32,7 @@ use Rattle.filter_proto.specs.Replies.{IsFrontPut, IsKept, TouchesNot}
 use Rattle.checkout_core.specs.Conditions.{is_path_break}
 use Rattle.checkout_core.specs.declared.event.OpenCause.TheVariants as opening
 use Rattle.std.specs.Prelude.{slice_get, slice_index_or}
-use Rattle.delay_table.specs.Table.{Table, is_pending}
+use Rattle.delay_table.specs.Table.{Table, is_pending, contains}
 use Rattle.delay_table.specs.declared.place.Place.{Place}
 use Rattle.delay_table.specs.declared.place.Place.TheVariants as place
 use Rattle.driver_line.specs.declared.line.SessionStart.{SessionStart}

@@ -2,9 +2,10 @@
 use Rattle.std.specs.Prelude.{◌≡◌, ◌⊎◌, ℕ, Some, List, [], ◌∷◌}
 use Rattle.edge_kit.specs.Starters.{Had}
 use Rattle.filter_words.specs.declared.reply.Reply.TheVariants as reply
+use Rattle.delay_table.specs.Table.{AreApart}
 use Rattle.driver_line.specs.Conversations.{Exchange, First, Second}
 use Rattle.driver_line.specs.Lines.{Paths}
-use Rattle.driver_line.specs.SameHeard.{content_of, AreApart}
+use Rattle.driver_line.specs.SameHeard.{content_of}
 use Rattle.driver_line.specs.Transcripts.{IsTalk}
 
 -- the driver gave this content for the path

@@ -4,10 +4,10 @@ use Rattle.edge_kit.specs.Starters.{Had, Session, StartFailed, StartOutOfMemory,
 use Rattle.filter_words.specs.declared.reply.Caps.{Caps}
 use Rattle.filter_words.specs.declared.reply.Reply.TheVariants as reply
 use Rattle.filter_words.specs.declared.reply.ListReply.TheVariants as list
+use Rattle.delay_table.specs.Table.{contains, AreApart}
 use Rattle.filter_proto.specs.Exchanges.{OutOfMemory}
 use Rattle.checkout_core.specs.declared.path.Heard.TheVariants as heard
 use Rattle.checkout_core.specs.Fates.{Fate, Untold, Known, fate_of}
-use Rattle.checkout_core.specs.Talks.{contains}
 use Rattle.driver_line.specs.Conversations.{Exchange, NoRoom, Opening, First, Listing, Second, notes_in}
 use Rattle.driver_line.specs.Lines.{Paths}
 use Rattle.driver_line.specs.ToldStarts.{Fills, GoBy}
@@ -55,11 +55,6 @@ pub record IsToldTalk (d : ℕ) (paths : Paths) (asked : List ℕ) (told : List 
   pub fine : NoneFailed items
   pub memory : (p : ℕ) → contains p asked ≡ true
       → fate_in d p exchanges ≡ Known heard.OutOfMemory → ⊥
-
--- no path is asked twice
-abbrev pub AreApart : List ℕ → Type 0
-AreApart [] = Unit {0}
-AreApart (p ∷ ps) = (contains p ps ≡ false) × AreApart ps
 
 -- the paths have different texts
 abbrev pub HaveTexts : Paths → List ℕ → Type 0

@@ -1,7 +1,7 @@
 ghost use Rattle.std.specs.Prelude.{map, IsTrue, IsSome, ◌↔◌, ◌≡◌, ◌≢◌, ◌≤◌, ◌<◌, ◌+◌, ◌^◌, ℕ, Bool, true, false};
 ghost use Rattle.std.specs.Prelude.{Option, Some, None, List, [], length};
 ghost use Rattle.filter_words.specs.Requests.{first_text, second_text};
-ghost use Rattle.checkout_core.specs.Talks.{contains};
+ghost use Rattle.delay_table.specs.Table.{contains};
 ghost use Rattle.edge_kit.specs.declared.leaf_state.LeafState.TheVariants as state;
 ghost use Rattle.filter_proto.specs.Wires.{SessionSeen};
 ghost use Rattle.filter_proto.specs.Replies.{standing_after, IsKept, TouchesNot};

@@ -6,11 +6,12 @@ use Rattle.filter_words.specs.declared.reply.Reply.{Reply}
 use Rattle.filter_words.specs.declared.reply.Reply.TheVariants as reply
 use Rattle.filter_words.specs.declared.reply.ListReply.{ListReply}
 use Rattle.filter_words.specs.declared.reply.ListReply.TheVariants as list
+use Rattle.delay_table.specs.Table.{contains, without}
 use Rattle.checkout_core.specs.declared.event.Event.{Event}
 use Rattle.checkout_core.specs.declared.event.Event.TheVariants as ev
 use Rattle.checkout_core.specs.Conditions.{is_good_opening}
-use Rattle.checkout_core.specs.Talks.{Talk, Between, Refusing, InRound, Ended, Round, contains, opened, between, answered}
-use Rattle.checkout_core.specs.Talks.{list_end, list_may, redone, in_session, refusing, talk_next, talk_run, is_empty, without}
+use Rattle.checkout_core.specs.Talks.{Talk, Between, Refusing, InRound, Ended, Round, opened, between, answered}
+use Rattle.checkout_core.specs.Talks.{list_end, list_may, redone, in_session, refusing, talk_next, talk_run, is_empty}
 use Rattle.driver_line.specs.Conversations.{Exchange, NoStart, NoRoom, Opening, First, Listing, Second, Shutting}
 use Rattle.driver_line.specs.Conversations.{notes_of, LeadsTo}
 use Rattle.driver_line.specs.Lines.{Paths}

@@ -5,8 +5,7 @@ use Rattle.std.specs.Str.{bytes_eq}
 use Rattle.std.proofs.lemmas.Slice.Eq.{bytes_eq-Decides}
 use Rattle.std.proofs.lemmas.Bool.{eqb-true}
 use Rattle.filter_words.specs.Listing.{name_in}
-use Rattle.checkout_core.specs.Talks.{contains, without}
-use Rattle.driver_line.specs.SameHeard.{AreApart}
+use Rattle.delay_table.specs.Table.{contains, without, AreApart}
 use Rattle.driver_host.specs.HostText.{less}
 use Rattle.host_laws.specs.HostTalks.{count_if, times_in}
 

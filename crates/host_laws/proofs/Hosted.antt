@@ -4,13 +4,14 @@ use Rattle.std.proofs.Common.{Some, refl, sym, ap, ◌∙◌, subst, arith, appe
 use Rattle.filter_words.specs.declared.reply.Caps.{Caps}
 use Rattle.filter_words.specs.declared.reply.BreakCause.{BreakCause}
 use Rattle.edge_kit.specs.Starters.{Had, Session, StartFailed, StartOutOfMemory, SessionHad}
+use Rattle.delay_table.specs.Table.{contains}
 use Rattle.filter_proto.specs.Exchanges.{Ends, Good, Broke, OutOfMemory}
 use Rattle.checkout_core.specs.declared.event.Event.TheVariants as ev
 use Rattle.checkout_core.specs.declared.event.OpenCause.TheVariants as opening
 use Rattle.checkout_core.specs.declared.path.Heard.TheVariants as heard
 use Rattle.checkout_core.specs.Conditions.{is_good_opening, heard_opening}
 use Rattle.checkout_core.specs.Fates.{Fate, Untold, Later, Known, fate_of, fate_after}
-use Rattle.checkout_core.specs.Talks.{Talk, Between, IsOver, contains, opened, talk_run}
+use Rattle.checkout_core.specs.Talks.{Talk, Between, IsOver, opened, talk_run}
 use Rattle.driver_line.specs.Conversations.{Exchange, NoStart, NoRoom, Opening, First, Listing, Second, Shutting}
 use Rattle.driver_line.specs.Conversations.{notes_in, LeadsTo}
 use Rattle.driver_line.specs.Lines.{Paths}

@@ -6,8 +6,8 @@ use Rattle.edge_kit.specs.Told.{Tells}
 use Rattle.edge_kit.specs.Links.{RunTold, Replies, replies_in, Left}
 use Rattle.edge_kit.specs.Starters.{Had, Session, StartFailed, StartOutOfMemory, SessionHad, Starts, StartsAnswer}
 use Rattle.filter_words.specs.declared.reply.Caps.{Caps}
+use Rattle.delay_table.specs.Table.{contains}
 use Rattle.filter_proto.specs.Exchanges.{Ends, Good, Broke, OutOfMemory}
-use Rattle.checkout_core.specs.Talks.{contains}
 use Rattle.driver_line.specs.Conversations.{Exchange}
 use Rattle.driver_line.specs.Lines.{Paths}
 use Rattle.driver_line.specs.ToldStarts.{Fills, FillsSession, GoBy}

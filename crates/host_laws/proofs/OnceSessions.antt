@@ -17,6 +17,7 @@ use Rattle.filter_words.specs.declared.reply.ListReply.{ListReply}
 use Rattle.filter_words.specs.declared.reply.ListReply.TheVariants as list
 use Rattle.edge_kit.specs.Told.{Tells}
 use Rattle.edge_kit.specs.Starters.{SessionHad}
+use Rattle.delay_table.specs.Table.{contains}
 use Rattle.filter_proto.specs.Exchanges.{Good, Broke, OutOfMemory}
 use Rattle.filter_proto.specs.Replies.{reply_end}
 use Rattle.checkout_core.specs.declared.event.Event.{Event}
@@ -26,7 +27,7 @@ use Rattle.checkout_core.specs.declared.path.Heard.{Heard}
 use Rattle.checkout_core.specs.declared.path.Heard.TheVariants as heard
 use Rattle.checkout_core.specs.declared.verdict.FilterCause.TheVariants as refusal
 use Rattle.checkout_core.specs.Fates.{Fate, Untold, Known, fate_of, fate_here, fate_there}
-use Rattle.checkout_core.specs.Talks.{Talk, Between, InRound, Ended, IsOver, contains, is_empty, answered, talk_next, talk_run}
+use Rattle.checkout_core.specs.Talks.{Talk, Between, InRound, Ended, IsOver, is_empty, answered, talk_next, talk_run}
 use Rattle.driver_line.specs.Conversations.{Exchange, NoStart, NoRoom, Opening, First, Listing, Second, Shutting}
 use Rattle.driver_line.specs.Conversations.{notes_in, list_notes, LeadsTo}
 use Rattle.driver_line.specs.Lines.{Paths, HasContent}

@@ -12,10 +12,11 @@ use Rattle.filter_words.specs.Handshake.{handshake_step, handshake_start}
 use Rattle.filter_words.specs.declared.reply.Caps.{Caps}
 use Rattle.edge_kit.specs.Told.{Tells}
 use Rattle.edge_kit.specs.Starters.{SessionHad}
+use Rattle.delay_table.specs.Table.{contains}
 use Rattle.filter_proto.specs.Exchanges.{Ends, Good, Broke, OutOfMemory}
 use Rattle.filter_proto.specs.Openings.{BeginsHello}
 use Rattle.checkout_core.specs.declared.event.Event.TheVariants as ev
-use Rattle.checkout_core.specs.Talks.{Talk, Refusing, InRound, Ended, Round, IsOver, contains, opened}
+use Rattle.checkout_core.specs.Talks.{Talk, Refusing, InRound, Ended, Round, IsOver, opened}
 use Rattle.driver_line.specs.Conversations.{Exchange, NoStart, NoRoom, Opening, First, Listing, Second, Shutting}
 use Rattle.driver_line.specs.Conversations.{notes_of, LeadsTo}
 use Rattle.driver_line.specs.Lines.{Paths}

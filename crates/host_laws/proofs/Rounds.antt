@@ -6,12 +6,13 @@ use Rattle.std.proofs.lemmas.Bool.{and_parts, eqb-true}
 use Rattle.filter_words.specs.declared.reply.Reply.{Reply}
 use Rattle.filter_words.specs.declared.reply.ListReply.{ListReply}
 use Rattle.filter_words.specs.declared.reply.ListReply.TheVariants as list
+use Rattle.delay_table.specs.Table.{contains, without}
 use Rattle.filter_proto.specs.Exchanges.{Good, Broke, OutOfMemory}
 use Rattle.checkout_core.specs.declared.event.Event.{Event}
 use Rattle.checkout_core.specs.declared.event.Event.TheVariants as ev
 use Rattle.checkout_core.specs.declared.event.OpenCause.TheVariants as opening
 use Rattle.checkout_core.specs.Conditions.{is_delay, is_good_reply}
-use Rattle.checkout_core.specs.Talks.{Talk, InRound, Ended, Round, contains, without, is_empty}
+use Rattle.checkout_core.specs.Talks.{Talk, InRound, Ended, Round, is_empty}
 use Rattle.checkout_core.specs.Talks.{answered, ask, name, list_end, list_may, redone, ask_again}
 use Rattle.checkout_core.specs.Talks.{talk_next, is_with, talk_step, talk_run}
 use Rattle.driver_line.specs.Conversations.{Exchange, NoStart, NoRoom, Opening, First, Listing, Second, Shutting}

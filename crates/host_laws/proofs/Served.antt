@@ -14,6 +14,7 @@ use Rattle.filter_words.specs.declared.reply.Reply.TheVariants as reply
 use Rattle.filter_words.specs.declared.reply.ListReply.{ListReply}
 use Rattle.filter_words.specs.declared.reply.ListReply.TheVariants as list
 use Rattle.edge_kit.specs.Starters.{SessionHad}
+use Rattle.delay_table.specs.Table.{contains}
 use Rattle.filter_proto.specs.Exchanges.{Ends, Good, Broke, OutOfMemory}
 use Rattle.filter_proto.specs.Replies.{reply_end}
 use Rattle.checkout_core.specs.declared.event.Event.{Event}
@@ -23,7 +24,7 @@ use Rattle.checkout_core.specs.declared.path.Heard.{Heard}
 use Rattle.checkout_core.specs.declared.path.Heard.TheVariants as heard
 use Rattle.checkout_core.specs.declared.verdict.FilterCause.TheVariants as refusal
 use Rattle.checkout_core.specs.Fates.{Fate, Untold, Later, Known, fate_of, fate_after}
-use Rattle.checkout_core.specs.Talks.{Talk, InRound, Ended, Round, IsOver, contains}
+use Rattle.checkout_core.specs.Talks.{Talk, InRound, Ended, Round, IsOver}
 use Rattle.driver_line.specs.Conversations.{Exchange, NoStart, NoRoom, Opening, First, Listing, Second, Shutting}
 use Rattle.driver_line.specs.Conversations.{notes_in, LeadsTo}
 use Rattle.driver_line.specs.Lines.{Paths, HasContent, ListIs}

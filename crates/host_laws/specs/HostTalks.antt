@@ -9,14 +9,14 @@ use Rattle.filter_words.specs.declared.reply.Caps.{Caps}
 use Rattle.filter_words.specs.declared.reply.BreakCause.{BreakCause}
 use Rattle.filter_words.specs.declared.reply.Reply.TheVariants as reply
 use Rattle.edge_kit.specs.Starters.{Had, Session, StartFailed, StartOutOfMemory, SessionHad}
+use Rattle.delay_table.specs.Table.{contains, AreApart}
 use Rattle.filter_proto.specs.Exchanges.{Good}
 use Rattle.checkout_core.specs.declared.path.Heard.TheVariants as heard
 use Rattle.checkout_core.specs.Fates.{Known}
-use Rattle.checkout_core.specs.Talks.{contains}
 use Rattle.driver_line.specs.Conversations.{Exchange, Opening, First, Listing, Second}
 use Rattle.driver_line.specs.Lines.{Paths}
 use Rattle.driver_line.specs.Transcripts.{IsTalk, break_of, break_in, request_of}
-use Rattle.driver_line.specs.SameHeard.{NoneWanting, AreApart, HaveTexts, fate_in}
+use Rattle.driver_line.specs.SameHeard.{NoneWanting, HaveTexts, fate_in}
 use Rattle.driver_host.specs.declared.work.Choice.{Choice}
 use Rattle.driver_host.specs.Requests.{Request}
 use Rattle.driver_host.specs.HostText.{Stage, Fresh, HostEnd, Stopped, IsHostText, AllAnswered}

@@ -2,7 +2,7 @@
 use Rattle.std.specs.Prelude.{◌≡◌, ℕ, true, List, drop}
 use Rattle.edge_kit.specs.Links.{RunTold}
 use Rattle.edge_kit.specs.Starters.{Had, Starts}
-use Rattle.checkout_core.specs.Talks.{contains}
+use Rattle.delay_table.specs.Table.{contains}
 use Rattle.driver_line.specs.Conversations.{Exchange}
 use Rattle.driver_line.specs.Lines.{Paths}
 use Rattle.driver_line.specs.ToldStarts.{Fills, GoBy}

@@ -4,10 +4,10 @@ use Rattle.filter_words.specs.Outcomes.{limit}
 use Rattle.filter_words.specs.Requests.{first_text}
 use Rattle.filter_words.specs.declared.reply.BreakCause.TheVariants as broken
 use Rattle.edge_kit.specs.Starters.{Had, Session, StartFailed, StartOutOfMemory, SessionHad}
+use Rattle.delay_table.specs.Table.{contains}
 use Rattle.checkout_core.specs.declared.path.Heard.TheVariants as heard
 use Rattle.checkout_core.specs.declared.verdict.FilterCause.TheVariants as refusal
 use Rattle.checkout_core.specs.Fates.{Fate, Known}
-use Rattle.checkout_core.specs.Talks.{contains}
 use Rattle.driver_line.specs.Conversations.{Exchange}
 use Rattle.driver_line.specs.Lines.{Paths}
 use Rattle.driver_line.specs.Transcripts.{IsTalk}

@@ -2,11 +2,11 @@
 use Rattle.std.proofs.Common.{◌≡◌, ◌==◌, ◌⊎◌, inl, inr, ℕ, zero, suc, ◌+◌, ◌<◌, Bool, true, false, cond, List, [], ◌∷◌, Some, refl, sym, ap, subst, ◌∙◌, arith}
 use Rattle.std.specs.Prelude.{slice_get}
 use Rattle.std.proofs.lemmas.Bool.{eqb-true}
+use Rattle.delay_table.specs.Table.{contains}
 use Rattle.checkout_core.specs.declared.path.Start.{Start}
 use Rattle.checkout_core.specs.declared.path.Start.TheVariants.{Desk}
 use Rattle.checkout_core.specs.Desks.{paths_of}
 use Rattle.checkout_core.specs.States.{AreBelow}
-use Rattle.checkout_core.specs.Talks.{contains}
 use Rattle.driver_desk.specs.Desks.{DeskView, IsDealt}
 use Rattle.driver_desk.specs.Recorders.{Standing}
 use Rattle.driver_desk.specs.Works.{card_paths}

@@ -3,9 +3,9 @@ use Rattle.std.proofs.Common.{◌≡◌, ℕ, zero, suc, ◌+◌, ◌<◌, ◌�
 use Rattle.std.specs.Prelude.{slice_get}
 use Rattle.std.proofs.lemmas.Bool.{eqb-true}
 use Rattle.std.proofs.lemmas.List.{map-append, length-map}
+use Rattle.delay_table.specs.Table.{contains}
 use Rattle.checkout_core.specs.declared.path.Start.{Start}
 use Rattle.checkout_core.specs.Desks.{paths_of}
-use Rattle.checkout_core.specs.Talks.{contains}
 use Rattle.pool_tests.specs.Places.{goes_to, paths_to}
 
 one_more : (b : Bool) (k l : List ℕ) (n : ℕ) → l ≡ k ++ n ∷ []

@@ -3,12 +3,11 @@ use Rattle.std.proofs.Common.{◌≡◌, ℕ, suc, ◌+◌, ◌<◌, Bool, true,
 use Rattle.std.proofs.lemmas.Bool.{eqb-true}
 use Rattle.std.proofs.lemmas.List.{append-nil, append_assoc, length-map}
 use Rattle.edge_kit.specs.Starters.{StarterSeen}
-use Rattle.delay_table.specs.Table.{IsRising}
+use Rattle.delay_table.specs.Table.{IsRising, contains}
 use Rattle.convert_plan.specs.declared.card.Card.{Card}
 use Rattle.checkout_core.specs.declared.path.Start.{Start}
 use Rattle.checkout_core.specs.declared.path.Start.TheVariants as start
 use Rattle.checkout_core.specs.States.{AreBelow}
-use Rattle.checkout_core.specs.Talks.{contains}
 use Rattle.checkout_book.specs.Sights.{Sight}
 use Rattle.checkout_book.specs.Reserving.{AreNew}
 use Rattle.writer_pool.specs.declared.pooled.DeskSeed.{DeskSeed}

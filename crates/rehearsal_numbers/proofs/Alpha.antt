@@ -10,8 +10,8 @@ use Rattle.filter_words.specs.Outcomes.{limit}
 use Rattle.filter_words.specs.Listing.{Listed, list_step, list_start, name_in}
 use Rattle.filter_words.specs.declared.reply.Reply.TheVariants as reply
 use Rattle.filter_words.specs.declared.reply.ListReply.TheVariants as list
+use Rattle.delay_table.specs.Table.{without}
 use Rattle.filter_proto.specs.Exchanges.{Good}
-use Rattle.checkout_core.specs.Talks.{without}
 use Rattle.driver_line.specs.Conversations.{Exchange, First, Second, Listing, Shutting}
 use Rattle.driver_line.specs.Lines.{Paths}
 use Rattle.driver_line.specs.Transcripts.{Spoken, AnswerIs, IsPart, StopsAt, request_of}

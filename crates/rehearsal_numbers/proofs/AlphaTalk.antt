@@ -4,10 +4,11 @@ use Rattle.std.specs.Prelude.{codes, ◌==◌, if◌then◌else◌}
 use Rattle.std.proofs.lemmas.List.{append-nil}
 use Rattle.filter_words.specs.declared.reply.Reply.TheVariants as reply
 use Rattle.filter_words.specs.declared.reply.ListReply.TheVariants as list
+use Rattle.delay_table.specs.Table.{contains, without}
 use Rattle.filter_proto.specs.Exchanges.{Good}
 use Rattle.checkout_core.specs.declared.event.Event.{Event}
 use Rattle.checkout_core.specs.declared.event.Event.TheVariants as event
-use Rattle.checkout_core.specs.Talks.{Talk, Between, InRound, Ended, contains, without, talk_run}
+use Rattle.checkout_core.specs.Talks.{Talk, Between, InRound, Ended, talk_run}
 use Rattle.driver_line.specs.Conversations.{Exchange, Opening, First, Second, Listing, Shutting, notes_of, FitsTalk, LeadsTo}
 use Rattle.rehearsal.specs.Paths.{kind}
 use Rattle.rehearsal_numbers.proofs.Marked.{Mark, places, self}

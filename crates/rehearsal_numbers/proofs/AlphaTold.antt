@@ -13,12 +13,13 @@ use Rattle.filter_words.specs.Requests.{hello_text, caps_text}
 use Rattle.filter_words.specs.Listing.{name_in}
 use Rattle.filter_words.specs.declared.reply.Reply.TheVariants as reply
 use Rattle.filter_words.specs.declared.reply.ListReply.TheVariants as list
+use Rattle.delay_table.specs.Table.{contains}
 use Rattle.filter_proto.specs.Exchanges.{Good}
 use Rattle.checkout_core.specs.declared.event.Event.{Event}
 use Rattle.checkout_core.specs.declared.event.Event.TheVariants as event
 use Rattle.checkout_core.specs.declared.path.Heard.TheVariants as heard
 use Rattle.checkout_core.specs.Fates.{Fate, Untold, Later, Known, fate_of}
-use Rattle.checkout_core.specs.Talks.{Ended, contains}
+use Rattle.checkout_core.specs.Talks.{Ended}
 use Rattle.driver_line.specs.Conversations.{Exchange, Opening, First, Second, notes_in}
 use Rattle.driver_line.specs.Lines.{Paths}
 use Rattle.driver_line.specs.SameHeard.{IsToldTalk, HaveTexts, fate_in, content_of}

@@ -8,16 +8,16 @@ use Rattle.edge_kit.specs.Starters.{Had, Starts, StartsListed, Gives}
 use Rattle.edge_kit.specs.Told.{RepoTold}
 use Rattle.object_dir.specs.Spelling.{spelled_blob}
 use Rattle.settings_view.specs.declared.view.Driver.{Driver}
+use Rattle.delay_table.specs.Table.{contains, AreApart}
 use Rattle.checkout_core.specs.declared.event.Event.{Event}
 use Rattle.checkout_core.specs.declared.path.Heard.TheVariants as heard
 use Rattle.checkout_core.specs.declared.path.Start.{Start}
 use Rattle.checkout_core.specs.declared.path.Start.TheVariants as start
 use Rattle.checkout_core.specs.Fates.{Known, heard_by}
 use Rattle.checkout_core.specs.States.{is_at}
-use Rattle.checkout_core.specs.Talks.{contains}
 use Rattle.driver_line.specs.Conversations.{Exchange}
 use Rattle.driver_line.specs.OneContent.{Gives as GivesContent, HasGiven, OneContent}
-use Rattle.driver_line.specs.SameHeard.{AreApart, HaveTexts, IsToldTalk, SameHeard, fate_in, content_of}
+use Rattle.driver_line.specs.SameHeard.{HaveTexts, IsToldTalk, SameHeard, fate_in, content_of}
 use Rattle.driver_line.specs.Conversations.{First, Second, NoStart, NoRoom, Opening, Listing, Shutting}
 use Rattle.filter_words.specs.declared.reply.Reply.TheVariants as reply
 use Rattle.driver_line.specs.ToldStarts.{GoBy}

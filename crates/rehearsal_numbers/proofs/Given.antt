@@ -4,7 +4,7 @@ use Rattle.std.specs.Prelude.{◌==◌, ◌%◌, if◌then◌else◌}
 use Rattle.std.specs.List.{AllByRecursion}
 use Rattle.std.proofs.lemmas.Bool.{true≢false, and_parts}
 use Rattle.std.proofs.lemmas.List.{append-nil, map-append}
-use Rattle.checkout_core.specs.Talks.{contains, without}
+use Rattle.delay_table.specs.Table.{contains, without}
 use Rattle.rehearsal.specs.Paths.{kind}
 use Rattle.rehearsal.specs.Drivers.{is_delayed, is_given}
 use Rattle.rehearsal_numbers.proofs.Apart.{is_equal}

@@ -3,7 +3,7 @@ use Rattle.std.proofs.Common.{◌≡◌, ℕ, ◌<◌, inl, inr, ◌⊎◌, ⊎_
 use Rattle.std.specs.Prelude.{◌==◌}
 use Rattle.std.specs.List.{AllByRecursion}
 use Rattle.std.proofs.lemmas.Bool.{true≢false}
-use Rattle.checkout_core.specs.Talks.{contains}
+use Rattle.delay_table.specs.Table.{contains}
 use Rattle.rehearsal_numbers.proofs.Apart.{is_equal}
 
 pub record Mark : Type 0 where

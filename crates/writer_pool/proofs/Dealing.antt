@@ -6,13 +6,12 @@ use Rattle.std.proofs.lemmas.List.{length-map}
 use Rattle.atomic_table.specs.Seated.{TableId}
 use Rattle.turn_lock.specs.Seat.{SeatView}
 use Rattle.edge_kit.specs.Starters.{StarterSeen}
-use Rattle.delay_table.specs.Table.{IsRising}
+use Rattle.delay_table.specs.Table.{IsRising, contains, AreApart}
 use Rattle.convert_plan.specs.declared.card.Card.{Card}
 use Rattle.checkout_core.specs.declared.path.Start.{Start}
 use Rattle.checkout_core.specs.declared.path.Start.TheVariants.{Desk}
 use Rattle.checkout_core.specs.States.{AreBelow, is_at}
 use Rattle.checkout_core.specs.Desks.{paths_of}
-use Rattle.checkout_core.specs.Talks.{contains}
 use Rattle.checkout_book.specs.declared.plan.BookPlan.{BookPlan}
 use Rattle.checkout_book.specs.declared.plan.HistoryEntry.{HistoryEntry}
 use Rattle.checkout_book.specs.Sights.{Sight, seen}
@@ -20,7 +19,6 @@ use Rattle.checkout_book.specs.Shelves.{cards_of, joined}
 use Rattle.checkout_book.specs.Reserving as book
 use Rattle.checkout_book.specs.Reserving.{AreDealt, AreIdle, AreFresh}
 use Rattle.driver_desk.specs.Desks.{DeskView}
-use Rattle.driver_line.specs.SameHeard.{AreApart}
 use Rattle.driver_desk.specs.Works.{AreNew, card_paths, card_texts}
 use Rattle.writer_pool.specs.declared.pooled.DeskSeed.{DeskSeed}
 use Rattle.writer_pool.specs.declared.desks.DeskHead.{DeskHead}

@@ -3,6 +3,7 @@ use Rattle.std.proofs.Common.{◌≡◌, ◌==◌, ◌||◌, ℕ, zero, suc, ◌
 use Rattle.std.specs.Prelude.{slice_get}
 use mathlib.Core.List.{map-append}
 use Rattle.atomic_table.specs.Seated.{TableId}
+use Rattle.delay_table.specs.Table.{contains}
 use Rattle.turn_lock.specs.Seat.{SeatView, mine_of, number_of, seen_of}
 use Rattle.convert_plan.specs.Card.{CardSeen}
 use Rattle.checkout_core.specs.declared.path.Start.{Start}
@@ -15,7 +16,6 @@ use Rattle.checkout_core.specs.Hands.{NoClaims, held_at}
 use Rattle.checkout_core.specs.declared.verdict.Own.{Own}
 use Rattle.checkout_core.specs.Fates.{Untold, fate_of}
 use Rattle.checkout_core.specs.Notes.{noted, notes}
-use Rattle.checkout_core.specs.Talks.{contains}
 use Rattle.checkout_book.specs.declared.plan.BookPlan.{BookPlan}
 use Rattle.checkout_book.specs.declared.plan.Parts.{Parts}
 use Rattle.checkout_book.specs.declared.plan.HistoryEntry.{HistoryEntry}

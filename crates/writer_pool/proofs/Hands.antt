@@ -5,6 +5,7 @@ use mathlib.Core.List.{map-append}
 use Rattle.atomic_table.specs.Seated.{TableId}
 use Rattle.turn_lock.specs.Seat.{SeatView, mine_of, seen_of, number_of}
 use Rattle.object_dir.specs.declared.taking.Taken.{Taken}
+use Rattle.delay_table.specs.Table.{contains, AreApart}
 use Rattle.convert_plan.specs.declared.card.Card.{Card}
 use Rattle.convert_plan.specs.Card.{CardSeen}
 use Rattle.checkout_core.specs.declared.event.Event.{Event}
@@ -18,13 +19,11 @@ use Rattle.checkout_core.specs.Verdicts.{held_close}
 use Rattle.checkout_core.specs.Actors.{is_step}
 use Rattle.checkout_core.specs.Hands.{held_at, is_held, Holds}
 use Rattle.checkout_core.specs.Notes.{noted}
-use Rattle.checkout_core.specs.Talks.{contains}
 use Rattle.checkout_book.specs.declared.plan.BookPlan.{BookPlan}
 use Rattle.checkout_book.specs.declared.plan.HistoryEntry.{HistoryEntry}
 use Rattle.checkout_book.specs.Sights.{Sight, seen, tell}
 use Rattle.checkout_book.specs.Shelves.{cards_of, IsOut}
 use Rattle.checkout_book.specs.Passes.{Claims, Closes, TookNone, TookCard, Keeps, claim_entry, close_entry}
-use Rattle.driver_line.specs.SameHeard.{AreApart}
 use Rattle.writer_pool.specs.declared.hand.Hand.{Hand}
 use Rattle.writer_pool.specs.declared.held.Held.{Held}
 use Rattle.writer_pool.specs.declared.writing.Written.{Written}

@@ -1,11 +1,11 @@
 -- Which works a talk asks for, and the contents that they fit.
 use Rattle.std.proofs.Common.{◌≡◌, ◌==◌, ℕ, zero, suc, ◌<◌, ⊎_elim, Bool, true, false, cond, List, [], ◌∷◌, ◌++◌, map, Some, Result, Ok, Err, refl, sym, ap, ◌∙◌, subst, arith}
 use Rattle.std.specs.Prelude.{slice_get}
+use Rattle.delay_table.specs.Table.{contains}
 use Rattle.checkout_core.specs.declared.path.Start.{Start}
 use Rattle.checkout_core.specs.declared.verdict.Own.{Own}
 use Rattle.checkout_core.specs.Desks.{paths_of}
 use Rattle.checkout_core.specs.States.{is_at}
-use Rattle.checkout_core.specs.Talks.{contains}
 use Rattle.driver_line.specs.Lines.{Paths}
 use Rattle.driver_desk.specs.Works.{WorkSeen, FitsContent, FitsWork, FitAll, asked_of, asked_in, label_of}
 use Rattle.writer_pool.specs.Tying.{has_content, content_or_none, content_in}

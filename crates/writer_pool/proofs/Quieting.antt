@@ -3,6 +3,7 @@ use Rattle.std.proofs.Common.{◌≡◌, ◌==◌, ◌||◌, ℕ, zero, suc, ◌
 use Rattle.edge_kit.specs.Seen.{LeafSeen}
 use Rattle.std.specs.Prelude.{slice_get}
 use Rattle.atomic_table.specs.Seated.{TableId}
+use Rattle.delay_table.specs.Table.{contains}
 use Rattle.turn_lock.specs.History.{own}
 use Rattle.turn_lock.specs.Seat.{SeatView, mine_of}
 use Rattle.convert_plan.specs.declared.card.Card.{Card}
@@ -15,7 +16,6 @@ use Rattle.checkout_core.specs.Actors.{own_driver, seat}
 use Rattle.checkout_core.specs.Desks.{paths_of, leaves, is_left}
 use Rattle.checkout_core.specs.Fates.{Untold, fate_of}
 use Rattle.checkout_core.specs.Notes.{notes}
-use Rattle.checkout_core.specs.Talks.{contains}
 use Rattle.checkout_book.specs.declared.plan.BookPlan.{BookPlan}
 use Rattle.checkout_book.specs.declared.plan.Parts.{Parts}
 use Rattle.checkout_book.specs.declared.plan.HistoryEntry.{HistoryEntry}

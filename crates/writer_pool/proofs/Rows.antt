@@ -1,6 +1,7 @@
 -- What each path of a run keeps, and paths that are with no driver.
 use Rattle.std.proofs.Common.{◌≡◌, ◌==◌, ◌⊎◌, ℕ, zero, suc, ◌<◌, inl, inr, ⊎_elim, Bool, true, false, List, [], ◌∷◌, map, Option, Some, None, refl, sym, ap, ◌∙◌, subst}
 use Rattle.std.specs.Prelude.{slice_get}
+use Rattle.delay_table.specs.Table.{contains}
 use Rattle.checkout_core.specs.declared.verdict.FilterCause.{FilterCause}
 use Rattle.checkout_core.specs.declared.verdict.Verdict.{Verdict}
 use Rattle.checkout_core.specs.declared.path.PathState.{PathState}
@@ -15,7 +16,6 @@ use Rattle.checkout_core.specs.States.{Core, AreBelow, start, path_of, with_stat
 use Rattle.checkout_core.specs.Steps.{step_of, replay, IsLegal}
 use Rattle.checkout_core.specs.Actors.{own_driver}
 use Rattle.checkout_core.specs.Desks.{paths_of, is_left}
-use Rattle.checkout_core.specs.Talks.{contains}
 use Rattle.core_laws.specs.Moves.{Moved, RowStays, is_with_driver}
 use Rattle.checkout_core.specs.Notes.{is_noted}
 use Rattle.writer_pool.specs.Closing.{IsFromBook}

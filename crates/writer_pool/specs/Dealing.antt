@@ -1,8 +1,8 @@
 -- The desks of a pool, made of their seeds, and the jobs that begin with them.
 use Rattle.std.specs.Prelude.{◌<◌, ◌+◌, ◌^◌, ℕ, suc, List, [], ◌∷◌, map, length, Some}
 use Rattle.std.specs.Global.{Vec}
+use Rattle.delay_table.specs.Table.{IsRising, AreApart}
 use Rattle.turn_lock.specs.Seat.{SeatView}
-use Rattle.delay_table.specs.Table.{IsRising}
 use Rattle.edge_kit.specs.Starters.{StarterSeen}
 use Rattle.convert_plan.specs.declared.card.Card.{Card}
 use Rattle.convert_plan.specs.Card.{CardSeen}
@@ -10,7 +10,6 @@ use Rattle.checkout_book.specs.declared.plan.BookPlan.{BookPlan}
 use Rattle.checkout_book.specs.declared.plan.HistoryEntry.{HistoryEntry}
 use Rattle.checkout_book.specs.Sights.{Sight, seen}
 use Rattle.driver_desk.specs.Desks.{DeskView}
-use Rattle.driver_line.specs.SameHeard.{AreApart}
 use Rattle.driver_desk.specs.Works.{AreNew, card_paths, card_texts}
 use Rattle.writer_pool.specs.declared.pooled.DeskSeed.{DeskSeed}
 use Rattle.writer_pool.specs.declared.desks.DeskHead.{DeskHead}

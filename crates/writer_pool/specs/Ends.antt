@@ -1,6 +1,7 @@
 -- How the paths of a checkout end.
 use Rattle.std.specs.Prelude.{◌≡◌, ◌<◌, ◌+◌, ℕ, suc, Bool, true, false, List, [], ◌∷◌, Option, Some, None, slice_get}
 use Rattle.atomic_table.specs.Seated.{TableId}
+use Rattle.delay_table.specs.Table.{contains}
 use Rattle.turn_lock.specs.Seat.{SeatView, mine_of}
 use Rattle.convert_plan.specs.declared.card.Card.{Card}
 use Rattle.checkout_core.specs.declared.event.Event.{Event}
@@ -15,7 +16,6 @@ use Rattle.checkout_core.specs.Steps.{IsLegal}
 use Rattle.checkout_core.specs.Closes.{IsComplete, own_of}
 use Rattle.checkout_core.specs.Hands.{held_at}
 use Rattle.checkout_core.specs.Desks.{paths_of, is_left}
-use Rattle.checkout_core.specs.Talks.{contains}
 use Rattle.core_laws.specs.Moves.{is_with_driver}
 use Rattle.checkout_book.specs.declared.plan.BookPlan.{BookPlan}
 use Rattle.checkout_book.specs.declared.plan.Parts.{Parts}

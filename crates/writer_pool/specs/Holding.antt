@@ -5,6 +5,7 @@ use Rattle.turn_lock.specs.History.{Begins}
 use Rattle.turn_lock.specs.Seat.{SeatView, mine_of, seen_of}
 use Rattle.object_dir.specs.declared.taking.Taken.{Taken}
 use Rattle.object_dir.specs.Taking.{IsTaken, stored_in}
+use Rattle.delay_table.specs.Table.{contains, AreApart}
 use Rattle.convert_plan.specs.declared.card.Card.{Card}
 use Rattle.convert_plan.specs.Card.{CardSeen, IsCardOf}
 use Rattle.checkout_core.specs.declared.event.Event.{Event}
@@ -16,7 +17,6 @@ use Rattle.checkout_core.specs.Desks.{was_read}
 use Rattle.checkout_core.specs.Hands.{Holds, held_at}
 use Rattle.checkout_core.specs.Notes.{noted}
 use Rattle.checkout_core.specs.States.{Core}
-use Rattle.checkout_core.specs.Talks.{contains}
 use Rattle.checkout_book.specs.declared.plan.BookPlan.{BookPlan}
 use Rattle.checkout_book.specs.declared.plan.HistoryEntry.{HistoryEntry}
 use Rattle.checkout_book.specs.Sights.{Sight, seen}
@@ -25,7 +25,6 @@ use Rattle.checkout_book.specs.Passes.{IsPass}
 use Rattle.checkout_book.specs.Reserving.{AreNew}
 use Rattle.checkout_book.specs.Turns.{NoneWaits}
 use Rattle.driver_desk.specs.Cards.{KeepsCard}
-use Rattle.driver_line.specs.SameHeard.{AreApart}
 use Rattle.writer_pool.specs.declared.held.Held.{Held}
 use Rattle.writer_pool.specs.declared.hand.Hand.{Hand}
 use Rattle.writer_pool.specs.Fours.{items}

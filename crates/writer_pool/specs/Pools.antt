@@ -1,6 +1,7 @@
 -- What a pool is given, and what it leaves.
 use Rattle.std.specs.Prelude.{◌≡◌, ◌+◌, ◌<◌, ◌≤◌, ◌^◌, ℕ, suc, true, List, [], ◌∷◌, ◌++◌, map, length, Some, slice_get}
 use Rattle.std.specs.Global.{Vec}
+use Rattle.delay_table.specs.Table.{IsRising, contains}
 use Rattle.convert_plan.specs.declared.card.Card.{Card}
 use Rattle.checkout_core.specs.declared.event.Event.{Event}
 use Rattle.checkout_core.specs.declared.path.Start.{Start}
@@ -8,10 +9,8 @@ use Rattle.checkout_core.specs.declared.path.Start.TheVariants.{Desk}
 use Rattle.checkout_core.specs.Desks.{paths_of}
 use Rattle.checkout_core.specs.States.{AreBelow}
 use Rattle.checkout_core.specs.Notes.{notes}
-use Rattle.checkout_core.specs.Talks.{contains}
 use Rattle.checkout_core.specs.Transcripts.{Item}
 use Rattle.checkout_core.specs.Transcripts as result
-use Rattle.delay_table.specs.Table.{IsRising}
 use Rattle.edge_kit.specs.Starters.{Had, StarterSeen}
 use Rattle.driver_line.specs.Conversations.{Exchange, notes_in}
 use Rattle.driver_line.specs.Lines.{Paths}

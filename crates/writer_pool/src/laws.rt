@@ -1,9 +1,9 @@
 //! What follows from the clauses of a pool.
 ghost use Rattle.std.specs.Prelude.{◌≡◌, ◌<◌, ℕ, List, Some, map, true, slice_get};
+ghost use Rattle.delay_table.specs.Table.{contains};
 ghost use Rattle.convert_plan.specs.declared.card.Card.{Card};
 ghost use Rattle.checkout_core.specs.declared.event.Event.{Event};
 ghost use Rattle.checkout_core.specs.declared.path.Start.{Start};
-ghost use Rattle.checkout_core.specs.Talks.{contains};
 ghost use Rattle.checkout_book.specs.Sights.{seen, sight};
 ghost use Rattle.driver_desk.specs.Works.{WorkSeen, FitAll, asked_in, cards_in, label_of};
 ghost use Rattle.writer_pool.specs.declared.pooled.DeskSeed.{DeskSeed};

@@ -1,10 +1,10 @@
 use Rattle.std.proofs.Common.{refl, ap, inl, inr, List, sym, ℕ, Some, false, subst}
 use Rattle.std.proofs.lemmas.List.{append-nil}
+use Rattle.delay_table.specs.Table.{AreApart}
 use Rattle.driver_desk.specs.Late.{cards_of}
 use Rattle.driver_desk.specs.On.{late_paths}
 use Rattle.driver_desk.specs.Progress.{newest}
 use Rattle.driver_desk.specs.Rounds.{LateSeen, paths_of}
-use Rattle.driver_line.specs.SameHeard.{AreApart}
 use Rattle.driver_desk.proofs.Calls.{aborted_as}
 use Rattle.driver_desk.proofs.Gave.{gave_given, gave_standing}
 use Rattle.driver_desk.proofs.OnDesk.{grows_note, grows_same}

@@ -1,11 +1,10 @@
 use Rattle.std.proofs.Common.{ℕ, ◌≡◌, ◌<◌, ◌+◌, length, List, refl, ap, sym, subst, ◌∙◌}
-use Rattle.checkout_core.specs.Talks.{contains}
+use Rattle.delay_table.specs.Table.{contains, AreApart}
 use Rattle.driver_line.specs.Conversations.{list_notes}
 use Rattle.driver_line.specs.Lines.{names_in, weight}
 use Rattle.driver_desk.specs.Late.{cards_of}
 use Rattle.driver_desk.specs.Recorders.{Standing}
 use Rattle.driver_desk.specs.Rounds.{AreReady, FitLabels, LateSeen, paths_of}
-use Rattle.driver_line.specs.SameHeard.{AreApart}
 use Rattle.driver_desk.specs.Serving.{noted_in}
 use Rattle.driver_desk.proofs.OnRounds.{goes_both}
 use Rattle.driver_desk.proofs.RoundCalls.{lists, after_list_at, names_same}
