@@ -1,5 +1,5 @@
 ghost use Rattle.std.specs.Prelude.{◌≡◌};
-ghost use Rattle.checkout_engine.specs.Report.{number_of};
+ghost use Rattle.checkout_engine.specs.Report.{number_of, status_with};
 
 /// How a run ends. The number of each is the status that the program ends with.
 #[derive(Clone, Copy)]
@@ -18,9 +18,28 @@ pub enum ExitStatus {
     NotEmpty = 7,
 }
 
-/// The number of a status, which the program ends with.
-pub fn number_of(status: ExitStatus) -> u8
-    ensures { result ≡ number_of status }
-{
-    status as u8
+impl ExitStatus {
+    /// The status with this number, if one has it.
+    pub fn of(number: u8) -> Option<ExitStatus>
+        ensures { result ≡ status_with number }
+    {
+        match number {
+            0 => Some(ExitStatus::Done),
+            1 => Some(ExitStatus::DoneWithFailures),
+            2 => Some(ExitStatus::Usage),
+            3 => Some(ExitStatus::Refused),
+            4 => Some(ExitStatus::OutputNotWritten),
+            5 => Some(ExitStatus::OutOfMemory),
+            6 => Some(ExitStatus::ReadFault),
+            7 => Some(ExitStatus::NotEmpty),
+            _ => None,
+        }
+    }
+
+    /// The number that the program ends with.
+    pub fn number(self) -> u8
+        ensures { result ≡ number_of self }
+    {
+        self as u8
+    }
 }

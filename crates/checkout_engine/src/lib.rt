@@ -22,6 +22,7 @@ mod workers;
 
 pub use begin::{PlannedRun, planned_run};
 pub use command::run;
+pub use exit_status::ExitStatus;
 pub use laws::{
     a_told_repository_has_one_plan, actors_are_numbered, memory_tells_all, rehearsals_are_alike,
     same_faults_change_nothing, workers_change_nothing, written_paths_are_given,

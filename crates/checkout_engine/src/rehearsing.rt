@@ -9,7 +9,7 @@ ghost use Rattle.checkout_engine.specs.Rehearsed.{IsTried, IsTriedWell, IsRehear
 ghost use Rattle.checkout_engine.specs.Rehearsed.{IsRehearsedRun, IsSmallRun};
 
 use crate::cards::starts_of;
-use crate::exit_status::{ExitStatus, number_of};
+use crate::exit_status::ExitStatus;
 use crate::paths::{PathsDone, check_out_paths};
 use crate::planning::{Planned, read_plan};
 use crate::report::{lacks_memory, status_of};
@@ -93,7 +93,7 @@ fn summary(
 ) -> Result<String, AllocError>
     ensures { IfOk result (λ s. string_bytes s ≡ summary paths verdicts.now files.now) }
 {
-    let status = number_of(status_of(verdicts));
+    let status = status_of(verdicts).number();
     let written = written_count(verdicts);
     let unfiltered = unfiltered_count(verdicts);
     let failed = failed_count(verdicts);

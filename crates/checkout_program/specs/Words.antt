@@ -2,6 +2,8 @@
 use Rattle.std.specs.Prelude.{ℕ, ◌==◌, if◌then◌else◌, List, [], codes, slice_get, map, Option, Some, string_bytes, String}
 use Rattle.std.specs.Option.{unwrap_or}
 use Rattle.std.specs.declared.alloc.Global.{Global}
+use Rattle.checkout_engine.specs.declared.exit_status.ExitStatus.TheVariants.{Usage}
+use Rattle.checkout_engine.specs.Report.{number_of}
 use Rattle.program_kit.specs.Words.{message_of}
 
 -- the word with this number, or the empty text if it is missing
@@ -10,5 +12,6 @@ word_at words number = unwrap_or (slice_get (map string_bytes words) number) []
 
 -- what a status says on standard error
 abbrev pub message_for : ℕ → Option (List ℕ)
-message_for status =
-    if status == 2 then Some (codes "usage: REPO TREE checkout|plan|rehearse|journal|audit") else message_of status
+message_for number =
+    if number == number_of Usage then Some (codes "usage: REPO TREE checkout|plan|rehearse|journal|audit")
+    else message_of number

@@ -15,7 +15,7 @@ mod wrong_words;
 use crate::journal_place::{JournalPlace, journal_place};
 use crate::wrong_words::{answer, explanation};
 use checkout_core::Event;
-use checkout_engine::run;
+use checkout_engine::{ExitStatus, run};
 use edge_adapters::{FolderBlob, FolderRepo, FolderTree, OutputSink, ProcessSpawner};
 use edge_kit::NoGate;
 use journal_run::{is_journal, journal_run};
@@ -47,10 +47,10 @@ fn word_at(rt: HostRuntime, words: &[String], number: usize) -> Result<String, A
 fn message_for(status: u8) -> Option<&'static str>
     ensures { option_map (λ text. text.now) result ≡ message_for status }
 {
-    match status {
-        2 => Some("usage: REPO TREE checkout|plan|rehearse|journal|audit"),
-        _ => message_of(status),
+    if status == ExitStatus::Usage.number() {
+        return Some("usage: REPO TREE checkout|plan|rehearse|journal|audit");
     }
+    message_of(status)
 }
 
 /// The Git folder and the worktree's folder, by the first and the second word. It reads nothing.
@@ -114,26 +114,27 @@ fn show_message(rt: HostRuntime, status: u8) {
 fn end_wrong(rt: HostRuntime, words: &[String], are_text: bool) -> u8 {
     if let Some(text) = answer(words) {
         return match print!(rt; "{text}") {
-            Ok(()) => 2,
+            Ok(()) => ExitStatus::Usage.number(),
             Err(_) => {
-                show_message(rt, 4);
-                4
+                let status = ExitStatus::OutputNotWritten.number();
+                show_message(rt, status);
+                status
             }
         };
     }
-    show_message(rt, 2);
+    show_message(rt, ExitStatus::Usage.number());
     if !are_text {
         let _ = eprintln!(rt; "a word is not UTF-8");
     } else if let Ok(Some(why)) = explanation(rt.alloc(), words) {
         let _ = eprintln!(rt; "{why}");
     }
     let _ = eprintln!(rt; "the manual page is docs/siuwbren.1");
-    2
+    ExitStatus::Usage.number()
 }
 
 /// Says more of a status.
 fn end_with(rt: HostRuntime, status: u8, words: &[String], are_text: bool) -> u8 {
-    if status == 2 {
+    if status == ExitStatus::Usage.number() {
         return end_wrong(rt, words, are_text);
     }
     show_message(rt, status);
@@ -163,7 +164,7 @@ fn folder_words<H: Threads + Wait + Sync>(
     let (mut repo, tree) = folders_of(rt, words)?;
     let (status, history) = run_in(rt, threads, words, &mut repo, tree)?;
     let said = end_with(rt, status, words, are_text);
-    if status == 3 {
+    if status == ExitStatus::Refused.number() {
         show_refused_path(rt, &mut repo);
     }
     if let JournalPlace::File(journal) = place {
@@ -187,7 +188,7 @@ fn run_words<H: Threads + Wait + Sync>(rt: HostRuntime, threads: &H) -> Result<u
         return Ok(end_with(rt, status, &words, are_text));
     }
     match journal_place(rt, &words)? {
-        JournalPlace::Unusable => Ok(2),
+        JournalPlace::Unusable => Ok(ExitStatus::Usage.number()),
         place => folder_words(rt, threads, &words, are_text, place),
     }
 }
@@ -196,8 +197,9 @@ fn main(rt: HostRuntime) -> ExitCode {
     match run_words(rt, &rt) {
         Ok(status) => ExitCode::from(status),
         Err(_) => {
-            show_message(rt, 5);
-            ExitCode::from(5)
+            let status = ExitStatus::OutOfMemory.number();
+            show_message(rt, status);
+            ExitCode::from(status)
         }
     }
 }

@@ -1,6 +1,7 @@
 //! The file for the journal of a checkout.
 use anyhow::Result;
 use checkout_core::Event;
+use checkout_engine::ExitStatus;
 use edge_adapters::remove_own;
 use edge_kit::Repo;
 use journal_run::checkout_journal;
@@ -22,7 +23,11 @@ pub struct EndedCheckout<'a> {
 impl EndedCheckout<'_> {
     /// Whether the checkout reached its report.
     fn has_journal(&self) -> bool {
-        self.status < 2 || !self.history.is_empty()
+        let is_done = matches!(
+            ExitStatus::of(self.status),
+            Some(ExitStatus::Done | ExitStatus::DoneWithFailures)
+        );
+        is_done || !self.history.is_empty()
     }
 }
 

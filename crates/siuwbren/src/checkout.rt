@@ -4,7 +4,7 @@ use crate::ends::{end_with, refuse_repository, show_notes};
 use crate::engine_words::checkout_words;
 use crate::journal::journal_file;
 use checkout_core::Event;
-use checkout_engine::run;
+use checkout_engine::{ExitStatus, run};
 use edge_adapters::ProcessSpawner;
 use edge_kit::Spawner;
 use git_edge::GitRepo;
@@ -53,7 +53,7 @@ impl Left {
 /// Says what else is to be said of a status and of a repository.
 fn explain(rt: HostRuntime, status: u8, is_quiet: bool, repo: &mut GitRepo) {
     end_with(rt, status);
-    if status == 3 {
+    if status == ExitStatus::Refused.number() {
         show_refused_path(rt, repo);
     }
     if !is_quiet {
@@ -150,6 +150,6 @@ pub fn check_out<H: Threads + Wait + Sync>(
     };
     match journal_file(rt, path)? {
         Some(journal) => check_out_all(rt, threads, asked, repo, Some(journal)),
-        None => Ok(2),
+        None => Ok(ExitStatus::Usage.number()),
     }
 }

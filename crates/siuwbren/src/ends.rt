@@ -1,4 +1,5 @@
 //! How the program ends, and what it says of that.
+use checkout_engine::ExitStatus;
 use git_edge::{GitFault, GitRepo};
 use program_kit::message_of;
 
@@ -13,33 +14,33 @@ pub fn end_with(rt: HostRuntime, status: u8) -> u8 {
 /// Gives the help or the version that the words ask for.
 pub fn give(rt: HostRuntime, text: &str) -> u8 {
     match print!(rt; "{text}") {
-        Ok(()) => 0,
-        Err(_) => end_with(rt, 4),
+        Ok(()) => ExitStatus::Done.number(),
+        Err(_) => end_with(rt, ExitStatus::OutputNotWritten.number()),
     }
 }
 
 /// Says what is wrong with the words.
 pub fn refuse_words(rt: HostRuntime, text: &str) -> u8 {
     let _ = eprint!(rt; "{text}");
-    2
+    ExitStatus::Usage.number()
 }
 
 /// The status of a repository that can't be used.
-fn status_of(fault: &GitFault) -> u8 {
+fn status_of(fault: &GitFault) -> ExitStatus {
     match fault {
-        GitFault::NoGit(_) | GitFault::TooOld | GitFault::NoScratch(_) => 6,
-        GitFault::NoMemory => 5,
+        GitFault::NoGit(_) | GitFault::TooOld | GitFault::NoScratch(_) => ExitStatus::ReadFault,
+        GitFault::NoMemory => ExitStatus::OutOfMemory,
         GitFault::Refused(_)
         | GitFault::NoRevision(_)
         | GitFault::ObjectFormat(_)
-        | GitFault::BadPath => 3,
+        | GitFault::BadPath => ExitStatus::Refused,
     }
 }
 
 /// Says why a repository can't be used.
 pub fn refuse_repository(rt: HostRuntime, fault: &GitFault) -> u8 {
     let _ = eprintln!(rt; "error: {fault}");
-    status_of(fault)
+    status_of(fault).number()
 }
 
 /// Says what git would do otherwise.

@@ -19,6 +19,7 @@ use crate::ends::{end_with, give, refuse_words};
 use crate::journal::audit;
 use crate::plan::show_plan;
 use crate::rehearsing::rehearse;
+use checkout_engine::ExitStatus;
 use program_kit::words_of;
 use siuwbren_words::{Subcommand, UsageFault, read_words};
 use std::alloc::AllocError;
@@ -59,6 +60,6 @@ fn run_words<H: Threads + Wait + Sync>(rt: HostRuntime, threads: &H) -> Result<u
 fn main(rt: HostRuntime) -> ExitCode {
     match run_words(rt, &rt) {
         Ok(status) => ExitCode::from(status),
-        Err(_) => ExitCode::from(end_with(rt, 5)),
+        Err(_) => ExitCode::from(end_with(rt, ExitStatus::OutOfMemory.number())),
     }
 }

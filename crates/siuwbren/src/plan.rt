@@ -1,7 +1,7 @@
 //! The plan of a checkout.
 use crate::channel::sink_of;
 use crate::ends::{end_with, refuse_repository};
-use checkout_engine::plan_text;
+use checkout_engine::{ExitStatus, plan_text};
 use git_edge::GitRepo;
 use program_kit::show_refused_path;
 use siuwbren_words::PlanWords;
@@ -16,7 +16,7 @@ pub fn show_plan(rt: HostRuntime, asked: &PlanWords<'_>) -> Result<u8, AllocErro
     let mut out = sink_of(rt, asked.form);
     let status = plan_text(rt.alloc(), &mut repo, &mut out);
     end_with(rt, status);
-    if status == 3 {
+    if status == ExitStatus::Refused.number() {
         show_refused_path(rt, &mut repo);
     }
     repo.end();
