@@ -36,7 +36,7 @@ fn put_piece<L: Leaf>(put: &mut Result<(), SendFault>, leaf: &mut L, piece: &[u8
 }
 
 /// Puts a payload of the content. Other payloads aren't put.
-#[tactic(auto, using(crate::proofs::Lines::begun_content, crate::proofs::Lines::begun_keys, crate::proofs::Lines::begun_last, crate::proofs::Lines::put_nothing))]
+#[tactic(auto, using(crate::proofs::Lines::line_begun))]
 fn put_line<L: Leaf>(phase: ReplyPhase, put: &mut Result<(), SendFault>, leaf: &mut L, line: &[u8])
     requires { put.old ≡ Ok tt → IsOpenLeaf (L.seen leaf.old).state }
     ensures put { (before : LeafSeen) (content : List ℕ) → IsPut before (L.seen leaf.old) put.old content
@@ -169,7 +169,7 @@ impl<K: Link> Session<K> {
     }
 
     /// Sends a request and reads its reply.
-    #[tactic(auto, using(crate::proofs::More::answered, crate::proofs::Lines::reply_fault, crate::proofs::Lines::reply_memory))]
+    #[tactic(auto, using(crate::proofs::More::answered, crate::proofs::Lines::request_unsent))]
     fn request<L: Leaf>(
         &mut self,
         path: &[u8],
