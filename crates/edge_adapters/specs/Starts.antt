@@ -10,7 +10,8 @@ use Rattle.edge_adapters.specs.declared.process_starter.ReturnedDriver.{Returned
 
 -- a session, whose bytes aren't told
 abbrev pub session_of : PastSession → Had
-session_of s = Session (record { sent = None; taken = None; replies = None; faults = s.faults; ends = s.ends; shut = s.shut })
+session_of s =
+    Session (record { sent = None; taken = None; replies = None; faults = s.faults; ends = s.ends; shut = s.shut })
 
 abbrev pub outcome_of : PastOutcome → Had
 outcome_of (outcome.Session s) = session_of s

@@ -112,6 +112,8 @@ begun_last s line (LastKeyList t) before leaf put e = tt
 pub put_nothing : (before leaf : LeafSeen) (put : Result ⊤ SendFault) (content : List ℕ) → IsPut before leaf put content → IsPut before leaf put (content ++ [])
 put_nothing before leaf put content h = subst (λ (c : List ℕ). IsPut before leaf put c) (sym (append-nil content)) h
 
+pub ruleset line_begun = (begun_content, begun_keys, begun_last, put_nothing)
+
 -- the content after one more packet
 pub content_more : (d : Bool) (room : ℕ) (t : AnswerState ReplyPhase GoodReply) (ps : List Packet) (p : ReplyPhase) (x : Packet) → outcome (reply_step d) room t ps ≡ On p → content_in d t (ps ++ x ∷ []) ≡ content_in d t ps ++ piece_in (On p) x
 content_more d room t [] p x e = rw e (append-nil (piece_in (On p) x))
@@ -262,3 +264,5 @@ reply_fault d old new text leaf usable h = unsent_fault (reply_step d) reply_sta
 pub reply_memory : (d : Bool) (old new : Wire) (text : List ℕ) (leaf : LeafSeen) → IsOpenLeaf leaf.state → SendsOn {T = ⊤} text old new (Err send.NoMemory)
     → IsExchange (reply_step d) reply_start text old new (reply_end reply.NoMemory) (EndPut d leaf leaf (Ok tt) (reply_end reply.NoMemory))
 reply_memory d old new text leaf usable h = unsent_memory (reply_step d) reply_start old new text _ h (kept_all d leaf usable)
+
+pub ruleset request_unsent = (reply_fault, reply_memory)

@@ -264,6 +264,8 @@ never_late_list (part.KeyList s) e = none s (e [] [])
     none (Some status.Delayed) e = cc e
     none (Some status.Other) e = cc e
 
+pub ruleset flush_taken = (line_too_long, flush_on, flush_done, flush_broken, never_late_list)
+
 -- a reading, packet by packet
 
 stops_so : (u : AnswerState ListPhase GoodList) (s b : Wire) (end : Ends GoodList) → EndsSo u end → Still s b → Stops u s b end
@@ -337,3 +339,5 @@ list_fault old new t h = record { end = Broke cause.LinkFault; exchange = unsent
 
 pub list_memory : (old new : Wire) (t : Table) → SendsOn {T = ⊤} list_text old new (Err send.NoMemory) → IsListExchange old new t t reply.NoMemory
 list_memory old new t h = record { end = OutOfMemory; exchange = unsent_memory _ _ old new list_text _ h refl; reply = refl }
+
+pub ruleset list_asked = (listed, list_fault, list_memory)

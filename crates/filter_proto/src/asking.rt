@@ -37,7 +37,7 @@ fn put_piece<L: Leaf>(put: &mut Result<(), SendFault>, leaf: &mut L, piece: &[u8
 }
 
 /// Puts a payload of the content. Other payloads aren't put.
-#[tactic(auto, using(crate::proofs::Lines::begun_content, crate::proofs::Lines::begun_keys, crate::proofs::Lines::begun_last, crate::proofs::Lines::put_nothing))]
+#[tactic(auto, using(crate::proofs::Lines::line_begun))]
 fn put_line<L: Leaf>(phase: ReplyPhase, put: &mut Result<(), SendFault>, leaf: &mut L, line: &[u8])
     requires { put.old ≡ Ok tt → IsOpenLeaf (L.seen leaf.old).state }
     ensures put { (before : LeafSeen) (content : List ℕ) → IsPut before (L.seen leaf.old) put.old content
@@ -170,7 +170,7 @@ impl<K: Link> Session<K> {
     }
 
     /// Sends a request and reads its reply.
-    #[tactic(auto, using(crate::proofs::More::answered, crate::proofs::Lines::reply_fault, crate::proofs::Lines::reply_memory))]
+    #[tactic(auto, using(crate::proofs::More::answered, crate::proofs::Lines::request_unsent))]
     fn request<L: Leaf>(&mut self, request: &SmudgeRequest<'_>, leaf: &mut L) -> Asked
         requires usable { IsOpenLeaf (L.seen leaf.old).state }
         requires some { 1 ≤ length request.now.path.now }
@@ -226,7 +226,12 @@ impl<K: Link> Session<K> {
     {
         complete();
         let can_delay = self.caps().delay;
-        let request = SmudgeRequest { path, name, can_delay, content };
+        let request = SmudgeRequest {
+            path,
+            name,
+            can_delay,
+            content,
+        };
         let asked = self.request(&request, leaf);
         self.set_standing(standing_after(asked.reply));
         asked
@@ -252,7 +257,12 @@ impl<K: Link> Session<K> {
         } }
     {
         complete();
-        let request = SmudgeRequest { path, name, can_delay: false, content: b"" };
+        let request = SmudgeRequest {
+            path,
+            name,
+            can_delay: false,
+            content: b"",
+        };
         let asked = self.request(&request, leaf);
         self.set_standing(standing_after(asked.reply));
         asked

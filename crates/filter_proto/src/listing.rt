@@ -82,7 +82,7 @@ fn take_list_line(listing: &mut Listing, table: &mut DelayTable, line: &[u8]) ->
 }
 
 /// Takes a flush packet.
-#[tactic(auto, using(crate::proofs::Listings::line_too_long, crate::proofs::Listings::flush_on, crate::proofs::Listings::flush_done, crate::proofs::Listings::flush_broken, crate::proofs::Listings::never_late_list))]
+#[tactic(auto, using(crate::proofs::Listings::flush_taken))]
 fn take_list_flush(listing: &mut Listing) -> ListStep
     requires { listing.old.count + listing.old.room ≤ 536870912 }
     ensures takes { (table : Table) → TakesList listing.old Flush result listing.new table table }
@@ -159,7 +159,7 @@ impl<K: Link> Session<K> {
     }
 
     /// Asks for a list and reads it.
-    #[tactic(auto, using(crate::proofs::Listings::listed, crate::proofs::Listings::list_fault, crate::proofs::Listings::list_memory))]
+    #[tactic(auto, using(crate::proofs::Listings::list_asked))]
     fn ask_list(&mut self, table: &mut DelayTable) -> ListReply
         ensures exchange { IsListExchange self.old.wire self.new.wire table.old table.new result }
         ensures rest { self.new ≡ record self.old { wire = self.new.wire } }

@@ -40,7 +40,12 @@ pub(crate) fn send_smudge<K: Link>(
 {
     request_in_parts();
     text.clear();
-    let SmudgeRequest { path, name, can_delay, content } = *request;
+    let SmudgeRequest {
+        path,
+        name,
+        can_delay,
+        content,
+    } = *request;
     match push_smudge_keys(alloc, text, path, name, can_delay) {
         Ok(()) => send_behind(alloc, link, text, content),
         Err(_) => Err(SendFault::NoMemory),

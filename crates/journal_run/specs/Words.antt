@@ -21,25 +21,25 @@ with_numbers (Some seed) None = None
 with_numbers (Some seed) (Some paths) = Some (Rehearsal seed paths)
 
 -- `audit` alone, or `journal` with SEED, a decimal up to 2^64 - 1, and PATHS, a decimal up to 99,999
-abbrev pub named_form : List ℕ → List (List ℕ) → Option JournalTask
-named_form name [] = if bytes_eq name (codes "audit") then Some Audit else None
-named_form name (seed ∷ []) = None
-named_form name (seed ∷ paths ∷ []) =
+abbrev pub named_task : List ℕ → List (List ℕ) → Option JournalTask
+named_task name [] = if bytes_eq name (codes "audit") then Some Audit else None
+named_task name (seed ∷ []) = None
+named_task name (seed ∷ paths ∷ []) =
     if bytes_eq name (codes "journal")
     then with_numbers (decimal_within seed (2 ^ 64 - 1)) (decimal_within paths 99999)
     else None
-named_form name (seed ∷ paths ∷ other ∷ more) = None
+named_task name (seed ∷ paths ∷ other ∷ more) = None
 
 -- REPO and TREE, which may be any text, a name and its tail
-abbrev pub form_of : List (List ℕ) → Option JournalTask
-form_of [] = None
-form_of (repo ∷ []) = None
-form_of (repo ∷ tree ∷ []) = None
-form_of (repo ∷ tree ∷ name ∷ tail) = named_form name tail
+abbrev pub task_of : List (List ℕ) → Option JournalTask
+task_of [] = None
+task_of (repo ∷ []) = None
+task_of (repo ∷ tree ∷ []) = None
+task_of (repo ∷ tree ∷ name ∷ tail) = named_task name tail
 
 -- what the words ask for, if they are one of the two forms
 abbrev pub asked : List (String Global) → Option JournalTask
-asked words = form_of (map string_bytes words)
+asked words = task_of (map string_bytes words)
 
 -- a rehearsal that words ask for has at most 99,999 paths
 abbrev pub HasFewPaths : JournalTask → Type 0

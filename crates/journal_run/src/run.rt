@@ -12,7 +12,7 @@ ghost use Rattle.journal_run.specs.Ends.{Ends, EndsForm, IsAnswered, IsAnsweredB
 use crate::finding::{FindFault, find, finding_line, status_of};
 use crate::rehearsing::rehearsal_journal;
 use crate::status::{JournalStatus, number_of};
-use crate::words::{JournalTask, form_of};
+use crate::words::{JournalTask, task_of};
 use edge_kit::{Blob, Gate, SendFault, Sink};
 use std::alloc::Global;
 use std::sync::Wait;
@@ -82,7 +82,7 @@ fn obey<B: Blob, G: Gate, O: Sink, H: Threads + Wait + Sync>(
     ensures ends { Ends (asked words.now) (B.told text.old)
         (B.seen text.old) (B.seen text.new) (O.seen out.old) (O.seen out.new) result }
 {
-    match form_of(words) {
+    match task_of(words) {
         Some(JournalTask::Audit) => show_audit(alloc, text, out),
         Some(JournalTask::Rehearsal { seed, paths }) => show_journal(
             rt, alloc, seed, paths, gate, out,

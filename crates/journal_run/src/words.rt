@@ -1,7 +1,7 @@
 //! The words that ask for a journal, or for the audit of one.
 ghost use Rattle.std.specs.Prelude.{◌≡◌, ◌-◌, ◌^◌, map, string_bytes, IfSome};
 ghost use Rattle.byte_path.specs.Decimal.{decimal_within};
-ghost use Rattle.journal_run.specs.Words.{names_journal, with_numbers, named_form, asked, HasFewPaths};
+ghost use Rattle.journal_run.specs.Words.{names_journal, with_numbers, named_task, asked, HasFewPaths};
 
 use byte_path::read_decimal;
 
@@ -38,8 +38,8 @@ fn rehearsal_of(seed: &str, paths: &str) -> Option<JournalTask>
 }
 
 /// What a name and its tail ask for.
-fn named_form(name: &str, tail: &[String]) -> Option<JournalTask>
-    ensures { result ≡ named_form name.now (map string_bytes tail.now) }
+fn named_task(name: &str, tail: &[String]) -> Option<JournalTask>
+    ensures { result ≡ named_task name.now (map string_bytes tail.now) }
 {
     match tail {
         [] if name == "audit" => Some(JournalTask::Audit),
@@ -49,12 +49,12 @@ fn named_form(name: &str, tail: &[String]) -> Option<JournalTask>
 }
 
 /// What words ask for: `REPO TREE journal SEED PATHS` or `REPO TREE audit`. REPO and TREE may be any text.
-pub fn form_of(words: &[String]) -> Option<JournalTask>
-    ensures form { result ≡ asked words.now }
+pub fn task_of(words: &[String]) -> Option<JournalTask>
+    ensures task { result ≡ asked words.now }
     ensures few { IfSome result HasFewPaths }
 {
     match words {
-        [_, _, name, tail @ ..] => named_form(name.as_str(), tail),
+        [_, _, name, tail @ ..] => named_task(name.as_str(), tail),
         _ => None,
     }
 }

@@ -72,8 +72,7 @@ where
     pub fn sessions_are_served(&self)
         ensures { IsPlainBelow P.seen P.Starter.seen P.Starter.Link.seen
             → AllServed (⟦<OnceSpawner<P, M> as Spawner>⟧.seen self.now).returned }
-    {
-    }
+    {}
 
     /// The spawner of the other commands.
     pub fn inner(&self) -> &P

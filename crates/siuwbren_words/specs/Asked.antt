@@ -1,10 +1,11 @@
 -- The command that the words ask for.
-use Rattle.std.specs.Prelude.{◌≡◌, ℕ, Bool, ◌^◌, ◌-◌, if◌then◌else◌, List, Option, Some, None, Result, Ok, Err, codes, option_map, option_and_then}
+use Rattle.std.specs.Prelude.{◌≡◌, ℕ, Bool, ◌^◌, ◌-◌, if◌then◌else◌, List, Option, Some, None, Result, Ok, Err, codes}
+use Rattle.std.specs.Prelude.{option_map, option_and_then}
 use Rattle.std.specs.Str.{bytes_eq}
 use Rattle.clap.specs.Words.{Row, Text, first_of}
 use Rattle.byte_path.specs.Decimal.{decimal_within}
 use Rattle.report_forms.specs.declared.form.ReportForm.{ReportForm}
-use Rattle.siuwbren_words.specs.Parser.{command_in, siuwbren_app}
+use Rattle.siuwbren_words.specs.Parser.{GivesText, command_in, siuwbren_app}
 use Rattle.siuwbren_words.specs.Values.{is_set, workers_of, plan_form, report_form, progress_of}
 use Rattle.siuwbren_words.specs.declared.command.Checkout.{Checkout}
 use Rattle.siuwbren_words.specs.declared.command.PlanWords.{PlanWords}
@@ -12,7 +13,6 @@ use Rattle.siuwbren_words.specs.declared.command.ProgressChoice.{ProgressChoice}
 use Rattle.siuwbren_words.specs.declared.command.Subcommand.{Subcommand}
 use Rattle.siuwbren_words.specs.declared.command.Subcommand.TheVariants as command
 use Rattle.siuwbren_words.specs.declared.fault.UsageFault.{UsageFault}
-use Rattle.siuwbren_words.specs.declared.fault.UsageFault.TheVariants.{Wish, Wrong, NoMemory}
 
 pub record AskedCheckout : Type 0 where
   pub git_dir : Option Text
@@ -112,9 +112,7 @@ asked_in found = option_and_then (λ found. asked_by found.0 found.1) found
 abbrev pub asked_of : List Text → Option Asked
 asked_of words = asked_in (command_in siuwbren_app words)
 
--- the command that is asked for, or a text if there is none; or memory ran out
+-- the command that is asked for, or a text
 abbrev pub Gives : Option Asked → Result Subcommand UsageFault → Type 0
 Gives asked (Ok command) = asked ≡ Some (shown command)
-Gives asked (Err (Wish text)) = asked ≡ None
-Gives asked (Err (Wrong text)) = asked ≡ None
-Gives asked (Err NoMemory) = Unit {0}
+Gives asked (Err fault) = GivesText asked fault

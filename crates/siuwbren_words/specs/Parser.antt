@@ -89,9 +89,13 @@ unless_refused (kind ∷ more) found = None
 abbrev pub command_in : App → List Text → Option (Text × List Row)
 command_in app words = unless_refused (fault_of app words) (subcommand_of app words)
 
--- what a parse gives: that subcommand, or a text if there is none; or memory ran out
+-- a text comes where nothing was found; or memory ran out
+abbrev pub GivesText : {T : Type 0} → Option T → UsageFault → Type 0
+GivesText found (Wish text) = found ≡ None
+GivesText found (Wrong text) = found ≡ None
+GivesText found NoMemory = Unit {0}
+
+-- what a parse gives: that subcommand, or a text
 abbrev pub Finds : Option (Text × List Row) → Result ArgMatches UsageFault → Type 0
 Finds found (Ok matches) = found ≡ subcommand_rows_of matches
-Finds found (Err (Wish text)) = found ≡ None
-Finds found (Err (Wrong text)) = found ≡ None
-Finds found (Err NoMemory) = Unit {0}
+Finds found (Err fault) = GivesText found fault

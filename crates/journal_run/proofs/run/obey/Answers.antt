@@ -8,4 +8,4 @@ returns-in-Some-Rehearsal-clause-ends g c =
     let told = g.B.Blob.told c.args.text.now in
     let text = g.B.Blob.seen c.args.text.now in
     subst (λ (o : Option JournalTask). Ends o told text text (g.O.Sink.seen c.args.out.now) (g.O.Sink.seen c.show_journal.new.out) c.show_journal.result)
-    (ap Some (sym c.in-Some-Rehearsal.field-0-is) ∙ c.in-Some-Rehearsal.ensures.form) (c.show_journal.ensures told text)
+    (ap Some (sym c.in-Some-Rehearsal.field-0-is) ∙ c.in-Some-Rehearsal.ensures.task) (c.show_journal.ensures told text)

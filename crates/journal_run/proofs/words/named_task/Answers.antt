@@ -1,14 +1,14 @@
 use Rattle.std.proofs.Common.{◌≡◌, ◌≤◌, ◌<◌, ℕ, List, [], ◌∷◌, length, map, string_bytes, None, refl, arith}
 use Rattle.std.proofs.lemmas.List.{length-map}
-use Rattle.journal_run.specs.Words.{named_form}
-use Rattle.journal_run.proofs.words.named_form.Goals as goal
+use Rattle.journal_run.specs.Words.{named_task}
+use Rattle.journal_run.proofs.words.named_task.Goals as goal
 
-one_word : (name : List ℕ) (tail : List (List ℕ)) → 1 ≤ length tail → length tail < 2 → None ≡ named_form name tail
+one_word : (name : List ℕ) (tail : List (List ℕ)) → 1 ≤ length tail → length tail < 2 → None ≡ named_task name tail
 one_word name [] some few = absurd (omega arith)
 one_word name (seed ∷ []) some few = refl
 one_word name (seed ∷ paths ∷ more) some few = absurd (omega arith)
 
-more_words : (name : List ℕ) (tail : List (List ℕ)) → 3 ≤ length tail → None ≡ named_form name tail
+more_words : (name : List ℕ) (tail : List (List ℕ)) → 3 ≤ length tail → None ≡ named_task name tail
 more_words name [] many = absurd (omega arith)
 more_words name (seed ∷ []) many = absurd (omega arith)
 more_words name (seed ∷ paths ∷ []) many = absurd (omega arith)
