@@ -2,7 +2,7 @@
 ghost use Rattle.std.specs.Prelude.{◌≡◌, ◌≤◌, ◌++◌, Some, IfOk, OnOk, map, string_bytes};
 ghost use Rattle.checkout_words.specs.Words.{command_of};
 ghost use Rattle.checkout_words.specs.declared.Command.TheVariants as asked;
-ghost use Rattle.journal_run.specs.Words.{form_of};
+ghost use Rattle.journal_run.specs.Words.{task_of};
 ghost use Rattle.journal_run.specs.declared.words.JournalTask.TheVariants.{Audit};
 ghost use Rattle.siuwbren.specs.EngineWords.{workers_words, checkout_words, rehearse_words, audit_words};
 ghost use Rattle.siuwbren.specs.EngineWords.{IsWorkers};
@@ -88,7 +88,7 @@ pub fn rehearse_words(alloc: Global, seed: u64, paths: u32) -> Result<Vec<String
 /// The words of an audit, which `journal_run` reads as an audit of this file.
 pub fn audit_words(alloc: Global, file: &str) -> Result<Vec<String>, AllocError>
     ensures words { IfOk result (λ words. map string_bytes words.items ≡ audit_words file.now) }
-    ensures read { IfOk result (λ words. form_of (map string_bytes words.items) ≡ Some Audit) }
+    ensures read { IfOk result (λ words. task_of (map string_bytes words.items) ≡ Some Audit) }
 {
     let words = vec![in alloc;
         String::from_str(alloc, file)?,
