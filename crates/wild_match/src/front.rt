@@ -74,7 +74,7 @@ pub fn one_length(pattern: &[u8], byte: u8) -> Option<usize>
 }
 
 /// How many bytes a `/` in front of a pattern takes, which may have a `\` before it.
-#[tactic(auto, unfolding(crate::specs::Pieces::plain_front, crate::specs::Pieces::escape_front, crate::specs::Pieces::set_front))]
+#[tactic(auto, unfolding(crate::specs::Pieces::plain_front, crate::specs::Pieces::escape_front))]
 pub fn slash_length(pattern: &[u8]) -> Option<usize>
     requires { 0 < length pattern.now }
     ensures value { result ≡ slash_of (plain_front pattern.now) }
