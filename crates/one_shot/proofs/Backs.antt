@@ -1,7 +1,7 @@
 -- The starters that were given back, one after another.
-use Rattle.std.proofs.Common.{◌≡◌, ℕ, List, [], ◌∷◌, ◌++◌, map, reverse, Option, Some, None, ap, sym, subst, ◌∙◌, append-nil, append_assoc}
+use Rattle.std.proofs.Common.{◌≡◌, ◌<◌, ◌+◌, ℕ, length, take, get_or, arith, List, [], ◌∷◌, ◌++◌, map, reverse, Option, Some, None, ap, sym, subst, ◌∙◌, append-nil, append_assoc}
 use Rattle.std.specs.Option.{option_map}
-use Rattle.std.proofs.lemmas.List.{reverse-append, map-append}
+use Rattle.std.proofs.lemmas.List.{reverse-append, map-append, take_more, take_all}
 use Rattle.edge_kit.specs.Links.{LinkSeen}
 use Rattle.edge_kit.specs.Starters.{StarterSeen, SpawnerSeen, Had, starter_back}
 use Rattle.one_shot.specs.declared.kept.KeptLinks.{KeptLinks}
@@ -87,20 +87,51 @@ kept_both [] ys a b = b
 kept_both (Some x ∷ xs) ys a b = (a.0, kept_both xs ys a.1 b)
 kept_both (None ∷ xs) ys a b = kept_both xs ys a b
 
-kept_map : {S : Type 0} (tells : S → List ℕ × List Had) → ((s : S) → AreServed (tells s).1) → (back : List (Option S))
-    → AllKept (reverse (map (option_map tells) back))
-kept_map tells all [] = tt
-kept_map tells all (Some s ∷ back) =
-    subst AllKept (sym (reverse-append (Some (tells s) ∷ []) (map (option_map tells) back)))
-    (kept_both (reverse (map (option_map tells) back)) (Some (tells s) ∷ []) (kept_map tells all back) (all s, tt))
-kept_map tells all (None ∷ back) =
-    subst AllKept (sym (reverse-append (None ∷ []) (map (option_map tells) back)))
-    (kept_both (reverse (map (option_map tells) back)) (None ∷ []) (kept_map tells all back) tt)
+-- each starter that is kept here
+abbrev pub AllHeld : {S : Type 0} → (S → Type 0) → List (Option S) → Type 0
+AllHeld P [] = Unit {0}
+AllHeld P (Some s ∷ xs) = P s × AllHeld P xs
+AllHeld P (None ∷ xs) = AllHeld P xs
 
-pub all_back_served : {S : Type 0} (tells : S → List ℕ × List Had) → ((s : S) → AreServed (tells s).1) → (back : List (Option S)) (below : List (List ℕ × List Had))
-    → AllServed below → AllServed (all_back tells back below)
-all_back_served tells all back below a =
-    served_back _ (served_woven (reverse (map (option_map tells) back)) (reverse below) (kept_map tells all back) (served_back below a))
+held_more : {S : Type 0} (P : S → Type 0) (xs ys : List (Option S)) → AllHeld P xs → AllHeld P ys → AllHeld P (xs ++ ys)
+held_more P [] ys a b = b
+held_more P (Some s ∷ xs) ys a b = (a.0, held_more P xs ys a.1 b)
+held_more P (None ∷ xs) ys a b = held_more P xs ys a b
+
+-- the next of them, if it is kept
+pub held_next : {S : Type 0} (P : S → Type 0) (xs : List (Option S)) (i : ℕ) (x : Option S) → i < length xs → x ≡ get_or xs i x
+    → AllHeld P (take i xs) → AllHeld P (x ∷ []) → AllHeld P (take (i + 1) xs)
+held_next P xs i x lt is a b =
+    subst (AllHeld P) (sym (take_more xs i x lt ∙ ap (λ y. take i xs ++ y ∷ []) (sym is))) (held_more P (take i xs) (x ∷ []) a b)
+
+pub held_some : {S : Type 0} (P : S → Type 0) (x : Option S) (s : S) → x ≡ Some s → P s → AllHeld P (x ∷ [])
+held_some P x s e h = subst (λ y. AllHeld P (y ∷ [])) (sym e) (h, tt)
+
+pub held_none : {S : Type 0} (P : S → Type 0) (x : Option S) → x ≡ None → AllHeld P (x ∷ [])
+held_none P x e = subst (λ y. AllHeld P (y ∷ [])) (sym e) tt
+
+pub held_all : {S : Type 0} (P : S → Type 0) (xs ys : List (Option S)) (i : ℕ) → xs ≡ ys → i ≡ length xs → AllHeld P (take i xs) → AllHeld P ys
+held_all P xs ys i is end a = subst (AllHeld P) (take_all i xs (omega (arith, end)) ∙ is) a
+
+pub held_map : {S : Type 0} (P Q : S → Type 0) → ((s : S) → P s → Q s) → (xs : List (Option S)) → AllHeld P xs → AllHeld Q xs
+held_map P Q f [] a = tt
+held_map P Q f (Some s ∷ xs) a = (f s a.0, held_map P Q f xs a.1)
+held_map P Q f (None ∷ xs) a = held_map P Q f xs a
+
+kept_map : {S : Type 0} (tells : S → List ℕ × List Had) (back : List (Option S)) → AllHeld (λ s. AreServed (tells s).1) back
+    → AllKept (reverse (map (option_map tells) back))
+kept_map tells [] all = tt
+kept_map tells (Some s ∷ back) all =
+    subst AllKept (sym (reverse-append (Some (tells s) ∷ []) (map (option_map tells) back)))
+    (kept_both (reverse (map (option_map tells) back)) (Some (tells s) ∷ []) (kept_map tells back all.1) (all.0, tt))
+kept_map tells (None ∷ back) all =
+    subst AllKept (sym (reverse-append (None ∷ []) (map (option_map tells) back)))
+    (kept_both (reverse (map (option_map tells) back)) (None ∷ []) (kept_map tells back all) tt)
+
+pub all_back_served : {S : Type 0} (tells : S → List ℕ × List Had) (back : List (Option S)) (below : List (List ℕ × List Had))
+    → AllHeld (λ s. AreServed (tells s).1) back → AllServed below → AllServed (all_back tells back below)
+all_back_served tells back below all a =
+    served_back _ (served_woven (reverse (map (option_map tells) back)) (reverse below) (kept_map tells back all) (served_back below a))
 
 -- what one starter has
 pub starter_served : {S M K : Type 0} (starter : S → StarterSeen) (tells : M → RunsTold) (link : K → LinkSeen) (from : Source S M) (kept : KeptLinks K) (out : ℕ)

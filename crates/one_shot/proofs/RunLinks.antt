@@ -227,12 +227,12 @@ read_on told l k over count into result h going text answer host tells r all is 
     still zero e f = absurd (cc f)
     still (suc n) e f = some n e
 
+    risen : (n : ℕ) → n ≡ k.ends → Rose l.link.ends k.ends → 0 < k.ends
+    risen zero z rose = let lt : l.link.ends < k.ends = rose.risen (λ top. absurd (omega (arith, z, top))) in omega (arith, lt)
+    risen (suc n) z rose = omega (arith, z)
+
     met : (n : ℕ) → n ≡ count → (n == 0) ≡ true → 0 < k.ends
-    met zero e f =
-        let rose = (r.ended (sym e)).0 in
-        let before = h.going going in
-        let lt : l.link.ends < k.ends = rose.risen (λ top. absurd (omega (arith, before, top))) in
-        omega (arith, before, lt)
+    met zero e f = risen k.ends refl (r.ended (sym e)).0
     met (suc n) e f = absurd (cc f)
 
     whole : (n : ℕ) → n ≡ count → 0 < k.ends → left_of k ≡ []

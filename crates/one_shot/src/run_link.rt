@@ -56,7 +56,9 @@ impl<W: Work> RunLink<W> {
     #[tactic(auto, using(crate::proofs::RunLinks::serves))]
     pub(crate) fn serves(&self)
         ensures { IsServed (record_of (run_seen W.told self.now)) }
-    {}
+    {
+        let _link = &self.link;
+    }
 
     /// Counts a call that failed.
     fn fail(&mut self)

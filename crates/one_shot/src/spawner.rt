@@ -72,7 +72,14 @@ where
     pub fn sessions_are_served(&self)
         ensures { IsPlainBelow P.seen P.Starter.seen P.Starter.Link.seen
             → AllServed (⟦<OnceSpawner<P, M> as Spawner>⟧.seen self.now).returned }
-    {}
+    {
+        let back = self.back.as_slice();
+        for starter in back {
+            if let Some(starter) = starter {
+                starter.kept.serve();
+            }
+        }
+    }
 
     /// The spawner of the other commands.
     pub fn inner(&self) -> &P

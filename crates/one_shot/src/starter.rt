@@ -3,8 +3,8 @@ ghost use Rattle.std.specs.Prelude.{◌≡◌, ◌≤◌, ◌<◌, ◌+◌, ◌^
 ghost use Rattle.std.specs.Prelude.{vec_len, vec_capacity};
 ghost use Rattle.edge_kit.specs.Starters.{StartsOne, session_had};
 ghost use Rattle.one_shot.specs.Links.{either_seen};
-ghost use Rattle.one_shot.specs.Replies.{run_seen, AreServed, TellNoAnswers};
-ghost use Rattle.one_shot.specs.Starters.{IsEmpty, kept_had, starter_seen, out_below, Serves};
+ghost use Rattle.one_shot.specs.Replies.{run_seen};
+ghost use Rattle.one_shot.specs.Starters.{IsEmpty, starter_seen, out_below, Serves};
 ghost use Rattle.one_shot.specs.Spawners.{RunsBy};
 
 use crate::kept::KeptLinks;
@@ -31,7 +31,7 @@ pub type LinkOf<S: Starter, M: OnceMaker> = OnceLink<S::Link, RunLink<OnceWork<M
 
 /// Starts a long-running driver, or a host that stands for one.
 #[derive(Drop)]
-pub struct OnceStarter<S: Starter, M, K: Link> {
+pub struct OnceStarter<S: Starter, M, K> {
     pub(crate) alloc: Global,
     pub(crate) source: Source<S, M>,
     // the sessions that its source doesn't have
@@ -41,8 +41,6 @@ pub struct OnceStarter<S: Starter, M, K: Link> {
     ghost room: { vec_len kept.ended + out ≤ vec_capacity kept.ended },
     // until something is kept, a starter below has just these links out
     ghost lends: { IsEmpty kept → out_below S.seen source out ≡ out },
-    // what a link below tells of answers is not this starter's
-    ghost served: { TellNoAnswers S.Link.seen → AreServed (kept_had K.seen kept) },
 }
 
 impl<S: Starter, M: OnceMaker> Starter for OnceStarter<S, M, LinkOf<S, M>>
@@ -111,10 +109,7 @@ where
         let is_whole = self.kept.is_empty();
         match (&mut self.source, link) {
             (Source::Inner(starter), OnceLink::Inner(link)) if is_whole => starter.end(link),
-            (_, link) => {
-                link.serves();
-                self.kept.keep(link);
-            }
+            (_, link) => self.kept.keep(link),
         }
         self.out -= 1;
     }
