@@ -1,6 +1,7 @@
 -- A link to a host that runs a command, call by call.
 use Rattle.std.specs.Prelude.{IsTrue}
 use Rattle.std.proofs.Common.{◌≡◌, ◌==◌, ℕ, zero, suc, ◌<◌, ◌≤◌, ◌+◌, Bool, true, false, List, [], ◌++◌, take, drop, length, Option, Some, None, refl, sym, ap, subst, ◌∙◌, arith}
+use Rattle.std.proofs.lemmas.Bool.{eqb-true}
 use Rattle.std.proofs.lemmas.List.{append-nil}
 use Rattle.edge_kit.specs.Faults.{Rose}
 use Rattle.edge_kit.specs.Files.{grown}
@@ -233,7 +234,7 @@ read_on told l k over count into result h going text answer host tells r all is 
 
     met : (n : ℕ) → n ≡ count → (n == 0) ≡ true → 0 < k.ends
     met zero e f = risen k.ends refl (r.ended (sym e)).0
-    met (suc n) e f = absurd (cc f)
+    met (suc n) e f = let no : ◌≡◌ {A = ℕ} (suc n) 0 = eqb-true (suc n) 0 f in absurd (omega (arith, no))
 
     whole : (n : ℕ) → n ≡ count → 0 < k.ends → left_of k ≡ []
     whole zero e lt = all (sym e)

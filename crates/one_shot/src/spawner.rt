@@ -75,8 +75,9 @@ where
     {
         let back = self.back.as_slice();
         for starter in back {
-            if let Some(starter) = starter {
-                starter.kept.serve();
+            match starter {
+                Some(starter) => starter.kept.serve(),
+                None => {}
             }
         }
     }
