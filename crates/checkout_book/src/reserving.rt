@@ -2,10 +2,9 @@
 ghost use Rattle.std.specs.Prelude.{◌≡◌, ◌≤◌, ◌<◌, ◌+◌, ◌*◌, ◌++◌, ◌^◌, [], ℕ, Some, length};
 ghost use Rattle.std.specs.Prelude.{slice_get, map, IfOk, vec_capacity};
 ghost use Rattle.convert_plan.specs.declared.card.Card.{Card};
-ghost use Rattle.checkout_core.specs.States.{AreBelow};
 ghost use Rattle.checkout_book.specs.declared.plan.BookPlan.{BookPlan};
-ghost use Rattle.checkout_book.specs.Shelves.{waits, joined};
-ghost use Rattle.checkout_book.specs.Reserving.{aways, placed, ArePool, AreDealt, AreNew, AreIdle};
+ghost use Rattle.checkout_book.specs.Shelves.{waits};
+ghost use Rattle.checkout_book.specs.Reserving.{aways, placed, AreDealt, AreIdle};
 ghost use Rattle.checkout_book.specs.Reserving.{AreFresh, IsFinished, IsPlan, IsBegun, plan_for};
 ghost use Rattle.checkout_book.specs.Sights.{sight};
 
@@ -170,17 +169,10 @@ pub fn reserve<B: Blob, L: Leaf>(
     starts: Vec<Start>,
     workers: u32,
 ) -> Result<BookBegun<B, L>, AllocError>
-    requires few_paths { length starts.items < 2 ^ 32 }
-    requires below { AreBelow (length desks.items) starts.items }
-    requires some { 1 ≤ workers }
-    requires few_workers { workers ≤ 16 }
-    requires few_desks { length desks.items ≤ 16 }
-    requires pool { ArePool starts.items pool.items }
+    requires plan { IsPlan (sight B.told B.seen L.seen) (plan_for pool desks starts workers) }
     requires desks { AreDealt starts.items 0 desks.items }
-    requires new { AreNew (sight B.told B.seen L.seen) (pool.items ++ joined desks.items) }
     ensures count { IfOk result (λ r. length r.workers.items ≡ workers) }
-    ensures passes { IfOk result (λ r. AreIdle r.book
-        (record { pool = pool; desks = desks; starts = starts; workers = workers; drivers = length desks.items })
+    ensures passes { IfOk result (λ r. AreIdle r.book (plan_for pool desks starts workers)
         0 (workers + length desks.items) (r.workers.items ++ map (λ x. x.0) r.desks.items)) }
     ensures fresh { IfOk result (λ r. AreFresh (r.workers.items ++ map (λ x. x.0) r.desks.items)) }
     ensures cards { IfOk result (λ r. map (λ x. x.1) r.desks.items ≡ desks.items) }

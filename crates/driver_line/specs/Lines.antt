@@ -191,6 +191,11 @@ SessionAfter (starts.Live caps) session = (s : SessionSeen) × (session ≡ Some
     × (s.caps ≡ caps)
 SessionAfter (starts.Failed why) session = session ≡ None
 
+-- a session after a reply: its capabilities are the same, and it stands as the reply leaves it
+pub record StandsAfter (r : Reply) (old new : SessionSeen) : Type 0 where
+  pub caps : new.caps ≡ old.caps
+  pub standing : new.standing ≡ standing_after r
+
 -- the session after a request
 abbrev pub GoesOn : SessionSeen → Standing → Option SessionSeen → Type 0
 GoesOn s standing.Live new = (wire : Wire)

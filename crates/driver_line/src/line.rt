@@ -4,10 +4,10 @@ ghost use Rattle.filter_words.specs.Requests.{first_text, second_text};
 ghost use Rattle.delay_table.specs.Table.{contains};
 ghost use Rattle.edge_kit.specs.declared.leaf_state.LeafState.TheVariants as state;
 ghost use Rattle.filter_proto.specs.Wires.{SessionSeen};
-ghost use Rattle.filter_proto.specs.Replies.{standing_after, IsKept, TouchesNot};
+ghost use Rattle.filter_proto.specs.Replies.{standing_after};
 ghost use Rattle.driver_line.specs.Conversations.{Exchange, First, Second, Listing, Shutting};
 ghost use Rattle.driver_line.specs.Lines.{LineView, Paths, Says, IsEnded, OpenIs, IsOpen, IsLeafAfter, MayReply};
-ghost use Rattle.driver_line.specs.Lines.{HasAnswered, SessionAfter, GoesOn, NamesAre, IsLive, list_standing};
+ghost use Rattle.driver_line.specs.Lines.{HasAnswered, SessionAfter, StandsAfter, GoesOn, NamesAre, IsLive, list_standing};
 ghost use Rattle.driver_line.specs.Lines.{late_in, names_in, AreDelayed, IsListedTable, starts_of};
 
 use checkout_core::OpenCause;
@@ -145,8 +145,6 @@ impl<S: Starter> Line<S> {
         ensures says { (p : ℕ) → (c : List ℕ) × ((paths : Paths) → paths.text p ≡ text.now
             → paths.name p ≡ name.now → paths.content p ≡ content.now → Says paths self.old (First p result.reply c) self.new)
             × IsLeafAfter (L.seen leaf.old) (L.seen leaf.new) result.put result.reply c }
-        ensures kept { IsKept (L.seen leaf.old) (L.seen leaf.new) result.put }
-        ensures touches { TouchesNot result.reply (L.seen leaf.old) (L.seen leaf.new) result.put }
         ensures goes { (s : SessionSeen) → self.old.session ≡ Some s
             → GoesOn s (standing_after result.reply) self.new.session }
         ensures may { (s : SessionSeen) → self.old.session ≡ Some s → MayReply s.caps.delay result.reply }
@@ -171,8 +169,6 @@ impl<S: Starter> Line<S> {
         ensures says { (p : ℕ) → (c : List ℕ) × ((paths : Paths) → paths.text p ≡ text.now
             → paths.name p ≡ name.now → Says paths self.old (Second p result.reply c) self.new)
             × IsLeafAfter (L.seen leaf.old) (L.seen leaf.new) result.put result.reply c }
-        ensures kept { IsKept (L.seen leaf.old) (L.seen leaf.new) result.put }
-        ensures touches { TouchesNot result.reply (L.seen leaf.old) (L.seen leaf.new) result.put }
         ensures goes { (s : SessionSeen) → self.old.session ≡ Some s
             → GoesOn s (standing_after result.reply) self.new.session }
         ensures may { MayReply false result.reply }
@@ -243,8 +239,7 @@ fn ask_in<K: Link, L: Leaf>(
         (first_text text.now name.now session.old.caps.delay content.now) session.old.wire session.new.wire
         (L.seen leaf.old) (L.seen leaf.new) result.put result.reply }
     ensures may { MayReply session.old.caps.delay result.reply }
-    ensures caps { session.new.caps ≡ session.old.caps }
-    ensures standing { session.new.standing ≡ standing_after result.reply }
+    ensures after { StandsAfter result.reply session.old session.new }
 {
     session.ask(text, name, content, leaf)
 }
@@ -265,8 +260,7 @@ fn ask_again_in<K: Link, L: Leaf>(
     ensures answered { HasAnswered false (second_text text.now name.now) session.old.wire session.new.wire
         (L.seen leaf.old) (L.seen leaf.new) result.put result.reply }
     ensures may { MayReply false result.reply }
-    ensures caps { session.new.caps ≡ session.old.caps }
-    ensures standing { session.new.standing ≡ standing_after result.reply }
+    ensures after { StandsAfter result.reply session.old session.new }
 {
     session.ask_again(text, name, leaf)
 }

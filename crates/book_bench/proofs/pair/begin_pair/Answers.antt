@@ -4,35 +4,25 @@ use Rattle.book_bench.specs.Pairs.{pair_plan}
 use Rattle.book_bench.proofs.Pairing.{pair_below, pair_pool, pair_new, pair_dealt, begun}
 use Rattle.book_bench.proofs.pair.begin_pair.Goals as goal
 
-pub reserve-requires-clause-pool : goal.reserve-requires-clause-pool
-reserve-requires-clause-pool g c =
-    pair_pool (sight g.B.Blob.told g.B.Blob.seen g.L.Leaf.seen) (pair_plan c.in_ok-cards.cards) _ _
-    c.in_ok-cards.ensures
+pub reserve-requires-clause-plan : goal.reserve-requires-clause-plan
+reserve-requires-clause-plan g c =
+    let see = sight g.B.Blob.told g.B.Blob.seen g.L.Leaf.seen in
+    let d = pair_plan c.in_ok-cards.cards in
+    let two_paths : length c.in_ok-cards.cards.starts.items ≡ 2 = ap length c.in_ok-cards.ensures.starts in
+    let one : length c.in_ok-cards.cards.desks.items ≡ 1 = c.in_ok-cards.ensures.count in record {
+      few_paths = omega (arith, two_paths);
+      below = pair_below see d _ _ c.in_ok-cards.ensures;
+      some = omega arith;
+      few_workers = omega arith;
+      few_desks = omega (arith, one);
+      pool_is = pair_pool see d _ _ c.in_ok-cards.ensures;
+      new = pair_new see d _ _ c.in_ok-cards.ensures;
+    }
 
 pub reserve-requires-clause-desks : goal.reserve-requires-clause-desks
 reserve-requires-clause-desks g c =
     pair_dealt (sight g.B.Blob.told g.B.Blob.seen g.L.Leaf.seen) (pair_plan c.in_ok-cards.cards) _ _
     c.in_ok-cards.ensures
-
-pub reserve-requires-clause-below : goal.reserve-requires-clause-below
-reserve-requires-clause-below g c =
-    pair_below (sight g.B.Blob.told g.B.Blob.seen g.L.Leaf.seen) (pair_plan c.in_ok-cards.cards) _ _
-    c.in_ok-cards.ensures
-
-pub reserve-requires-clause-new : goal.reserve-requires-clause-new
-reserve-requires-clause-new g c =
-    pair_new (sight g.B.Blob.told g.B.Blob.seen g.L.Leaf.seen) (pair_plan c.in_ok-cards.cards) _ _
-    c.in_ok-cards.ensures
-
-pub reserve-requires-clause-few_paths : goal.reserve-requires-clause-few_paths
-reserve-requires-clause-few_paths g c =
-    let two_paths : length c.in_ok-cards.cards.starts.items ≡ 2 = ap length c.in_ok-cards.ensures.starts in
-    omega (arith, two_paths)
-
-pub reserve-requires-clause-few_desks : goal.reserve-requires-clause-few_desks
-reserve-requires-clause-few_desks g c =
-    let one : length c.in_ok-cards.cards.desks.items ≡ 1 = c.in_ok-cards.ensures.count in
-    omega (arith, one)
 
 pub returns : goal.returns
 returns g c =

@@ -4,26 +4,23 @@ use Rattle.checkout_book.specs.Sights.{sight}
 use Rattle.book_bench.proofs.Working.{alone, pool_there, pool_all_new, pool_below, none_dealt}
 use Rattle.book_bench.proofs.runs.begin_pool.Goals as goal
 
-pub reserve-requires-clause-few_paths : goal.reserve-requires-clause-few_paths
-reserve-requires-clause-few_paths g c = c.requires.few
-
-pub reserve-requires-clause-pool : goal.reserve-requires-clause-pool
-reserve-requires-clause-pool g c =
-    pool_there (sight g.B.Blob.told g.B.Blob.seen g.L.Leaf.seen) _ _ _ c.requires.pool.1
-
-pub reserve-requires-clause-below : goal.reserve-requires-clause-below
-reserve-requires-clause-below g c =
-    pool_below (sight g.B.Blob.told g.B.Blob.seen g.L.Leaf.seen) _ _ _ _ c.requires.pool.1
+pub reserve-requires-clause-plan : goal.reserve-requires-clause-plan
+reserve-requires-clause-plan g c =
+    let see = sight g.B.Blob.told g.B.Blob.seen g.L.Leaf.seen in
+    let none : length c.new-desks.result.items ≡ 0 = ap length c.new-desks.ensures.items in record {
+      few_paths = c.requires.few;
+      below = pool_below see _ _ _ _ c.requires.pool.1;
+      some = omega arith;
+      few_workers = omega arith;
+      few_desks = omega (arith, none);
+      pool_is = pool_there see _ _ _ c.requires.pool.1;
+      new = pool_all_new see _ _ _ _ c.requires.pool.1 c.new-desks.ensures.items;
+    }
 
 pub reserve-requires-clause-desks : goal.reserve-requires-clause-desks
 reserve-requires-clause-desks g c =
     none_dealt (sight g.B.Blob.told g.B.Blob.seen g.L.Leaf.seen) c.args.new.starts.items
     c.new-desks.result.items c.new-desks.ensures.items
-
-pub reserve-requires-clause-new : goal.reserve-requires-clause-new
-reserve-requires-clause-new g c =
-    pool_all_new (sight g.B.Blob.told g.B.Blob.seen g.L.Leaf.seen) _ _ _ _ c.requires.pool.1
-    c.new-desks.ensures.items
 
 pub returns : goal.returns
 returns g c =

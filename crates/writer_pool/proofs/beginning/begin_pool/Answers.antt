@@ -16,30 +16,27 @@ use Rattle.writer_pool.specs.Jobs.{AreJobs, AreActors}
 use Rattle.writer_pool.proofs.Dealing.{new_back, joined_seeds, seeds_dealt, decks_are, jobs_are, actors_are, desk_jobs_length}
 use Rattle.writer_pool.proofs.beginning.begin_pool.Goals as goal
 
-pub reserve-requires-clause-below : goal.reserve-requires-clause-below
-reserve-requires-clause-below g c =
+pub reserve-requires-clause-plan : goal.reserve-requires-clause-plan
+reserve-requires-clause-plan g c =
+    let see = sight g.B.Blob.told g.B.Blob.seen g.L.Leaf.seen in
     let n = ap length c.in_ok-heads.ensures.cards
     ∙ length-map c.args.desks.items (λ (x : DeskSeed g.row.S.Denot g.row.B.Denot g.row.L.Denot). x.cards) in
-    subst (λ (j : ℕ). AreBelow j c.args.starts.items) (sym n) c.requires.below
-
-pub reserve-requires-clause-few_desks : goal.reserve-requires-clause-few_desks
-reserve-requires-clause-few_desks g c =
-    let n = ap length c.in_ok-heads.ensures.cards
-    ∙ length-map c.args.desks.items (λ (x : DeskSeed g.row.S.Denot g.row.B.Denot g.row.L.Denot). x.cards) in
-    omega (arith, n, c.requires.few_desks)
+    let cards = ap (λ (l : List (Vec (Card g.row.B.Denot g.row.L.Denot))). joined l) c.in_ok-heads.ensures.cards
+    ∙ joined_seeds c.args.desks.items in record {
+      few_paths = c.requires.few_paths;
+      below = subst (λ (j : ℕ). AreBelow j c.args.starts.items) (sym n) c.requires.below;
+      some = c.requires.some;
+      few_workers = c.requires.few_workers;
+      few_desks = omega (arith, n, c.requires.few_desks);
+      pool_is = c.requires.pool_is;
+      new = subst (λ (l : List (Card g.row.B.Denot g.row.L.Denot)). AreNew see (c.args.pool.items ++ l)) (sym cards)
+          c.requires.new;
+    }
 
 pub reserve-requires-clause-desks : goal.reserve-requires-clause-desks
 reserve-requires-clause-desks g c =
     subst (AreDealt c.args.starts.items 0) (sym c.in_ok-heads.ensures.cards)
     (seeds_dealt g.S.Starter.seen c.args.starts.items 0 c.args.desks.items c.requires.seeds_are)
-
-pub reserve-requires-clause-new : goal.reserve-requires-clause-new
-reserve-requires-clause-new g c =
-    let see = sight g.B.Blob.told g.B.Blob.seen g.L.Leaf.seen in
-    let cards = ap (λ (l : List (Vec (Card g.row.B.Denot g.row.L.Denot))). joined l) c.in_ok-heads.ensures.cards
-    ∙ joined_seeds c.args.desks.items in
-    subst (λ (l : List (Card g.row.B.Denot g.row.L.Denot)). AreNew see (c.args.pool.items ++ l)) (sym cards)
-    c.requires.new
 
 pub with_desks-requires-clause-few_desks : goal.with_desks-requires-clause-few_desks
 with_desks-requires-clause-few_desks g c κs within =

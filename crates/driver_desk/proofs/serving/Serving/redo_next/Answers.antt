@@ -49,7 +49,7 @@ end_told-requires g c =
     let names = step_names c.args.self.now.late c.next_listed.new.self n.0 n.1 _ _ _ n.2 n.3 c.next_listed.ensures.numbers n.4 in
     let a = asks_again c.desk_laws.ensures _ _ _ c.args.self.now.line.session c.ask_again-reply.new.self.session c.in-Some.work.card.path c.ask_again-reply.result.reply (paths_of (cards_of c.args.self.now.late)) (names_at c.next_listed.new.self) c.requires.opened c.ask_again-reply.ensures.may c.ask_again-reply.ensures.goes (gave_given _ _ _ c.note_down.ensures.gave) (redo_has _ _ _ _ n.4)
     (redo_turns (g.C.Recorder.seen c.args.recorder.now).standing (g.C.Recorder.seen c.args.recorder.now).given c.args.self.now.line.session _ _ _ _ names h.state) in record {
-      asked = asked_again _ _ (card_seen g.B.Blob.told g.B.Blob.seen g.L.Leaf.seen c.in-Some.work.card) _ _ _ (gave_standing _ _ _ c.note_down.ensures.gave) (taken_ready _ _ _ _ _ n.4 h.ready).0 refl c.ask_again-reply.ensures.kept;
+      asked = asked_again _ _ (card_seen g.B.Blob.told g.B.Blob.seen g.L.Leaf.seen c.in-Some.work.card) _ _ _ (gave_standing _ _ _ c.note_down.ensures.gave) (taken_ready _ _ _ _ _ n.4 h.ready).0 refl (c.ask_again-reply.ensures.says c.in-Some.work.card.path).2.kept;
       required = ap (λ (s : Standing). s.required) (gave_standing _ _ _ c.note_down.ensures.gave) ∙ h.required;
       may = λ k is. end_as _ _ _ c.in-Some.work.card.path k (gave_standing _ _ _ c.note_down.ensures.gave) (a.told k is);
       told = never_later c.ask_again-reply.result.reply c.ask_again-reply.ensures.may;
