@@ -113,7 +113,7 @@ held_none P x e = subst (λ y. AllHeld P (y ∷ [])) (sym e) tt
 pub held_all : {S : Type 0} (P : S → Type 0) (xs ys : List (Option S)) (i : ℕ) → xs ≡ ys → i ≡ length xs → AllHeld P (take i xs) → AllHeld P ys
 held_all P xs ys i is end a = subst (AllHeld P) (take_all i xs (omega (arith, end)) ∙ is) a
 
-pub held_map : {S : Type 0} (P Q : S → Type 0) → ((s : S) → P s → Q s) → (xs : List (Option S)) → AllHeld P xs → AllHeld Q xs
+held_map : {S : Type 0} (P Q : S → Type 0) → ((s : S) → P s → Q s) → (xs : List (Option S)) → AllHeld P xs → AllHeld Q xs
 held_map P Q f [] a = tt
 held_map P Q f (Some s ∷ xs) a = (f s a.0, held_map P Q f xs a.1)
 held_map P Q f (None ∷ xs) a = held_map P Q f xs a
@@ -128,13 +128,23 @@ kept_map tells (None ∷ back) all =
     subst AllKept (sym (reverse-append (None ∷ []) (map (option_map tells) back)))
     (kept_both (reverse (map (option_map tells) back)) (None ∷ []) (kept_map tells back all) tt)
 
-pub all_back_served : {S : Type 0} (tells : S → List ℕ × List Had) (back : List (Option S)) (below : List (List ℕ × List Had))
+all_back_served : {S : Type 0} (tells : S → List ℕ × List Had) (back : List (Option S)) (below : List (List ℕ × List Had))
     → AllHeld (λ s. AreServed (tells s).1) back → AllServed below → AllServed (all_back tells back below)
 all_back_served tells back below all a =
     served_back _ (served_woven (reverse (map (option_map tells) back)) (reverse below) (kept_map tells back all) (served_back below a))
 
 -- what one starter has
-pub starter_served : {S M K : Type 0} (starter : S → StarterSeen) (tells : M → RunsTold) (link : K → LinkSeen) (from : Source S M) (kept : KeptLinks K) (out : ℕ)
+starter_served : {S M K : Type 0} (starter : S → StarterSeen) (tells : M → RunsTold) (link : K → LinkSeen) (from : Source S M) (kept : KeptLinks K) (out : ℕ)
     → ((s : S) → AreServed (starter s).had) → AreServed (kept_had link kept) → AreServed (starter_back (starter_seen starter tells link from kept out)).1
 starter_served starter tells link (source.Inner s) kept out below here = served_both (starter s).had (kept_had link kept) (below s) here
 starter_served starter tells link (source.Single run) kept out below here = here
+
+-- so it is with starters that have these parts
+pub starters_served : {T S M K : Type 0} (starter : S → StarterSeen) (tells : M → RunsTold) (link : K → LinkSeen)
+    (source : T → Source S M) (kept : T → KeptLinks K) (out : T → ℕ) → ((s : S) → AreServed (starter s).had)
+    → (back : List (Option T)) (below : List (List ℕ × List Had)) → AllHeld (λ (t : T). AreServed (kept_had link (kept t))) back → AllServed below
+    → AllServed (all_back (λ (t : T). starter_back (starter_seen starter tells link (source t) (kept t) (out t))) back below)
+starters_served {T} starter tells link source kept out here back below held a =
+    all_back_served (λ (t : T). starter_back (starter_seen starter tells link (source t) (kept t) (out t))) back below
+    (held_map (λ (t : T). AreServed (kept_had link (kept t))) (λ (t : T). AreServed (starter_back (starter_seen starter tells link (source t) (kept t) (out t))).1)
+    (λ (t : T) served. starter_served starter tells link (source t) (kept t) (out t) here served) back held) a
