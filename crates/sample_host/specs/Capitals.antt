@@ -1,5 +1,5 @@
 -- What becomes of contents.
-use Rattle.std.specs.Prelude.{map, if◌then◌else◌, Some}
+use Rattle.std.specs.Prelude.{map, if◌then◌else◌, Some, None}
 use Rattle.std.specs.Char.{to_ascii_uppercase}
 use Rattle.driver_host.specs.declared.work.Choice.TheVariants as choice
 use Rattle.driver_host.specs.declared.work.LateChoice.TheVariants as late
