@@ -9,11 +9,12 @@ IsRising xs = (i j m n : ℕ) → i < j → slice_get xs i ≡ Some m → slice_
 
 contains_at : (p : ℕ) (xs : List ℕ) → contains p xs ≡ true → (i : ℕ) × (slice_get xs i ≡ Some p)
 contains_at p [] is = absurd cc
-contains_at p (q ∷ qs) is = by (p == q) refl is
+contains_at p (q ∷ qs) is = by (p == q) refl is (contains_at p qs)
   where
-    by : (b : Bool) → (p == q) ≡ b → cond b true (contains p qs) ≡ true → (i : ℕ) × (slice_get (q ∷ qs) i ≡ Some p)
-    by true e is = (zero, ap Some (sym (eqb-true p q e)))
-    by false e is = let r = contains_at p qs is in (suc r.0, r.1)
+    by : (b : Bool) → (p == q) ≡ b → cond b true (contains p qs) ≡ true → (contains p qs ≡ true → (i : ℕ) × (slice_get qs i ≡ Some p))
+        → (i : ℕ) × (slice_get (q ∷ qs) i ≡ Some p)
+    by true e is behind = (zero, ap Some (sym (eqb-true p q e)))
+    by false e is behind = let r = behind is in (suc r.0, r.1)
 
 not_behind : (x : ℕ) (xs : List ℕ) → IsRising (x ∷ xs) → (b : Bool) → contains x xs ≡ b → b ≡ false
 not_behind x xs rise false e = refl

@@ -36,11 +36,11 @@ AreHeard runs d t = (n : ℕ) → contains n t.asked ≡ true
     → IsHeardOf (run_at runs t n) (once_request t.paths n) (fate_in d n t.exchanges) (content_of n t.exchanges)
 
 -- The file of a path is the output that its run gave.
-pub record IsOutput (run : OnceTold) (request : List ℕ) (p : PathPlan) (file : Option TreeFile) : Type 0 where
+pub record IsOutput (run : OnceTold) (request : List ℕ) (p : PathPlan) (left : Option TreeFile) : Type 0 where
   pub output : List ℕ
   pub fits : length request ≤ limit
   pub gave : choice_told run ≡ Some (choice.Give output)
-  pub file : file ≡ Some (file_with p output)
+  pub file : left ≡ Some (file_with p output)
 
 -- a path is refused since its request is over the limit, or with an error since its run gave no output
 abbrev pub IsRefusedFor : OnceTold → List ℕ → FilterCause → Type 0
