@@ -1,17 +1,16 @@
 -- A talk that a starter of single runs tells and keeps is one with hosts that run its command.
-use Rattle.std.proofs.Common.{◌≡◌, ◌⊎◌, inl, inr, ℕ, zero, suc, ◌<◌, Bool, true, false, List, [], ◌∷◌, ◌++◌, drop, Option, Some, None, refl, sym, ap, subst, ◌∙◌, arith}
+use Rattle.std.proofs.Common.{◌≡◌, ◌⊎◌, inl, inr, ℕ, zero, suc, ◌<◌, Bool, true, false, List, [], ◌∷◌, ◌++◌, Option, Some, refl, sym, ap, subst, ◌∙◌, arith}
 use Rattle.std.specs.Prelude.{◌&&◌, if◌then◌else◌}
 use Rattle.std.specs.Str.{bytes_eq}
 use Rattle.edge_kit.specs.Told.{Tells}
-use Rattle.edge_kit.specs.Links.{RunTold, Replies, replies_in, Left}
+use Rattle.edge_kit.specs.Links.{RunTold, Replies, replies_in}
 use Rattle.edge_kit.specs.Starters.{Had, Session, StartFailed, StartOutOfMemory, SessionHad, Starts, StartsAnswer}
 use Rattle.filter_words.specs.declared.reply.Caps.{Caps}
-use Rattle.delay_table.specs.Table.{contains}
 use Rattle.filter_proto.specs.Exchanges.{Ends, Good, Broke, OutOfMemory}
 use Rattle.driver_line.specs.Conversations.{Exchange}
 use Rattle.driver_line.specs.Lines.{Paths}
 use Rattle.driver_line.specs.ToldStarts.{Fills, FillsSession, GoBy}
-use Rattle.driver_line.specs.Transcripts.{IsTalk, IsSession, Matches, HasOneCount}
+use Rattle.driver_line.specs.Transcripts.{IsSession, Matches, HasOneCount}
 use Rattle.driver_host.specs.declared.work.Choice.{Choice}
 use Rattle.driver_host.specs.HostText.{Fresh, HostEnd}
 use Rattle.driver_host.specs.Chosen.{IsChosenText}

@@ -1,5 +1,5 @@
 -- The paths of a driver that is a command, in a checkout.
-use Rattle.std.proofs.Common.{◌≡◌, ◌+◌, ◌<◌, ◌≤◌, ◌⊎◌, inl, inr, ℕ, zero, suc, Bool, true, false, cond, if◌then◌else◌, List, [], ◌∷◌, ◌++◌, map, length, Option, Some, None, refl, sym, ap, ◌∙◌, subst, arith}
+use Rattle.std.proofs.Common.{◌≡◌, ◌+◌, ◌≤◌, inl, inr, ℕ, zero, suc, Bool, true, false, cond, if◌then◌else◌, List, [], ◌∷◌, ◌++◌, map, length, Option, Some, None, refl, sym, ap, ◌∙◌, subst, arith}
 use Rattle.std.specs.Prelude.{slice_get, nat_lt}
 use Rattle.std.proofs.lemmas.Bool.{eqb-true, ltb-true, ltb-false}
 use Rattle.std.proofs.lemmas.Option.{same_Some}
@@ -25,13 +25,13 @@ use Rattle.checkout_core.specs.declared.verdict.Verdict.{Verdict}
 use Rattle.checkout_core.specs.declared.verdict.Verdict.TheVariants as verdict
 use Rattle.driver_line.specs.Conversations.{Exchange, NoStart, NoRoom, Opening, First, Listing, Second, Shutting}
 use Rattle.driver_line.specs.OneContent.{OneContent, Gives, HasGiven}
-use Rattle.driver_line.specs.SameHeard.{NoneWanting, fate_in, content_of}
+use Rattle.driver_line.specs.SameHeard.{fate_in, content_of}
 use Rattle.driver_line.specs.ToldStarts.{GoBy}
 use Rattle.driver_desk.specs.Serving.{HasAnswer, IsAnswer}
 use Rattle.driver_host.specs.declared.work.Choice.{Choice}
 use Rattle.driver_host.specs.declared.work.Choice.TheVariants as choice
 use Rattle.checkout_plan.specs.declared.path_plan.PathPlan.{PathPlan}
-use Rattle.checkout_engine.specs.Ends.{Seen, IsCheckedOut, verdicts_of}
+use Rattle.checkout_engine.specs.Ends.{verdicts_of}
 use Rattle.checkout_engine.specs.Outcome.{Outcome, HasOutcome, HasDeskVerdict, AreOutcomes}
 use Rattle.checkout_engine.specs.Talks.{DriverTalk, IsDriverTalk, AreDriverTalks, heard_at, Gave}
 use Rattle.one_shot.specs.Onces.{OnceTold, RunsListed}
@@ -39,10 +39,9 @@ use Rattle.one_shot.specs.Works.{choice_told}
 use Rattle.one_shot.specs.Replies.{AreServed}
 use Rattle.one_shot.specs.Starters.{is_single_run, single_starts}
 use Rattle.one_shot.specs.Spawners.{commands_tell, AllServed}
-use Rattle.host_laws.specs.HostTalks.{ArePaths}
 use Rattle.host_laws.specs.KeptTalks.{IsKeptTalk, KeptHeard}
 use Rattle.host_laws.specs.OnceTalks.{IsHeardOf, HearsChoice, once_request}
-use Rattle.smudge_laws.specs.SingleRuns.{run_at, AreHeard, IsOutput, IsRefusedFor, EndsBy, AreEnded, SingleRunsAreHeard}
+use Rattle.smudge_laws.specs.SingleRuns.{run_at, AreHeard, IsRefusedFor, EndsBy, AreEnded, SingleRunsAreHeard}
 use Rattle.smudge_laws.proofs.Rising.{apart}
 
 -- the talk with a driver, by its number
