@@ -2,3 +2,4 @@ pub mod AttributeFiles
 pub mod Paths
 pub mod Making
 pub mod Seen
+pub mod WithFiles

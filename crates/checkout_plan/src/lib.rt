@@ -11,6 +11,7 @@ mod paths;
 mod skipped;
 mod starts;
 
+pub use attribute_files::object_content;
 pub use fault::{PlanFault, object_kind};
-pub use making::{closed_paths_have_causes, make_plan};
+pub use making::{PlanWithFiles, closed_paths_have_causes, make_plan, make_plan_with_files};
 pub use path_plan::{PathPlan, Plan};

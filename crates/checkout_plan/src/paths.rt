@@ -206,7 +206,8 @@ impl<'a> Asking<'a> {
     /// One path for each distinct path of an index, in order.
     fn asked_paths(&mut self, alloc: Global, entries: &[Entry]) -> Result<Vec<PathPlan>, AllocError>
         requires { IsReady self.old }
-        ensures { IfOk result (λ paths. paths.items
+        ensures kept { self.new ≡ self.old }
+        ensures paths { IfOk result (λ paths. paths.items
             ≡ asked_paths self.old.stack self.old.settings.now entries.now) }
     {
         let mut paths = Vec::new(alloc);
@@ -222,15 +223,25 @@ impl<'a> Asking<'a> {
     }
 }
 
+/// The paths of an index, and the attribute files that decide about them.
+#[derive(Drop)]
+pub struct AskedPaths {
+    pub paths: Vec<PathPlan>,
+    pub files: AttrStack,
+}
+
 /// The paths of an index, if these attribute files reach them.
 pub fn asked_paths(
     alloc: Global,
     files: AttrFiles,
     settings: &Settings,
     entries: &[Entry],
-) -> Result<Vec<PathPlan>, AllocError>
-    ensures { IfOk result (λ paths. paths.items ≡ asked_paths files settings.now entries.now) }
+) -> Result<AskedPaths, AllocError>
+    ensures paths { IfOk result (λ asked. asked.paths.items ≡ asked_paths files settings.now entries.now) }
+    ensures files { IfOk result (λ asked. asked.files ≡ files) }
 {
     let mut asking = Asking::new(alloc, files, settings)?;
-    asking.asked_paths(alloc, entries)
+    let paths = asking.asked_paths(alloc, entries)?;
+    let Asking { stack: files, .. } = asking;
+    Ok(AskedPaths { paths, files })
 }

@@ -12,7 +12,7 @@ use Rattle.sha1.specs.Sha1.{sha1}
 use Rattle.git_index.specs.declared.entry.Entry.{Entry}
 use Rattle.git_index.specs.declared.version.Version.{Version as Release}
 use Rattle.git_index.specs.declared.version.Version.TheVariants.{Two, Three, Four}
-use Rattle.git_index.specs.Spelling.{Written, IsWritten, AreWritten, all_spelled, header, body, is_hash_of, IsIndexText, IsIndex, IsEntry, EntriesHaveAText, is_flagged, plain, plain_version, plain_spelled, plain_body, plain_text}
+use Rattle.git_index.specs.Spelling.{Written, IsWritten, AreWritten, all_spelled, header, body, is_hash_of, IsIndexText, IsIndex, IsEntry, CanStand, EntriesCanStand, EntriesHaveAText, is_flagged, plain, plain_version, plain_spelled, plain_body, plain_text}
 use Rattle.git_index.proofs.Whole.{entries_of}
 
 neither : (a b : Bool) → (a || b) ≡ false → (a ≡ false) × (b ≡ false)
@@ -93,17 +93,21 @@ have_a_text es are few rising alone apart = record {
 index_entries : (bytes : List ℕ) (es : List Entry) → IsIndex bytes es → AllByRecursion IsEntry es
 index_entries bytes es index = subst (AllByRecursion IsEntry) index.text.same (entries_are index.text.version [] index.text.written index.text.fit)
 
-pub plain_index : (bytes : List ℕ) (es : List Entry) → IsIndex bytes es → IsIndexText (plain_text es) es
-plain_index bytes es index = let text = index.text in have_a_text es (index_entries bytes es index) text.few text.rising text.alone text.apart
+-- the entries of an index can stand in one
+pub can_stand : EntriesCanStand
+can_stand bytes es index = let text = index.text in record { each = index_entries bytes es index; few = text.few; rising = text.rising; alone = text.alone; apart = text.apart }
+
+pub plain_index : (es : List Entry) → CanStand es → IsIndexText (plain_text es) es
+plain_index es can = have_a_text es can.each can.few can.rising can.alone can.apart
 
 stages : (es : List Entry) → AllByRecursion IsEntry es → (i : ℕ) (d : Entry) → i < length es → (get_or es i d).stage < 4
 stages [] are i d lt = absurd (omega arith)
 stages (e ∷ es) are zero d lt = are.0.stage
 stages (e ∷ es) are (suc i) d lt = stages es are.1 i d (omega arith)
 
--- each entry of an index has a stage of two bits
-pub stage_at : (bytes : List ℕ) (es : List Entry) → IsIndex bytes es → (i : ℕ) (e : Entry) → i < length es → e ≡ get_or es i e → e.stage < 4
-stage_at bytes es index i e lt is = subst (λ (x : Entry). x.stage < 4) (sym is) (stages es (index_entries bytes es index) i e lt)
+-- each entry that an index may have has a stage of two bits
+pub stage_at : (es : List Entry) → CanStand es → (i : ℕ) (e : Entry) → i < length es → e ≡ get_or es i e → e.stage < 4
+stage_at es can i e lt is = subst (λ (x : Entry). x.stage < 4) (sym is) (stages es can.each i e lt)
 
 -- one more entry
 pub one_more : (es : List Entry) (i : ℕ) (e : Entry) (start text more : List ℕ) → i < length es → e ≡ get_or es i e → text ≡ start ++ flat_map plain_spelled (take i es) → more ≡ text ++ plain_spelled e → more ≡ start ++ flat_map plain_spelled (take (i + 1) es)

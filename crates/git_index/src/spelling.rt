@@ -1,6 +1,6 @@
 //! The bytes of an index.
 ghost use Rattle.std.specs.Prelude.{◌≡◌, ◌++◌, ◌<◌, ◌≤◌, length, IfOk, OnOk};
-ghost use Rattle.git_index.specs.Spelling.{IsIndexText, AreEntries, mode_number, padding, flags, more, more_flags};
+ghost use Rattle.git_index.specs.Spelling.{IsIndexText, AreEntries, CanStand, mode_number, padding, flags, more, more_flags};
 ghost use Rattle.git_index.specs.Spelling.{is_flagged, head_length, plain, plain_version, plain_spelled, plain_body};
 ghost use Rattle.git_index.specs.Spelling.{plain_text, header, bit};
 ghost use Rattle.std.specs.List.{list_any};
@@ -98,9 +98,10 @@ fn version_of(entries: &[Entry]) -> Version
 /// The index of these entries (gitformat-index(5)): all fields zero but the mode and the flags, no extension, and the
 /// hash. It has version 3 exactly if an entry is sparse or intent, and version 2 if not.
 ///
-/// The entries have to be those of some index: in order, with paths that may be written, and with no clash.
-pub fn spell_index(alloc: Global, entries: &[Entry]) -> Result<Vec<u8>, AllocError>
-    requires { AreEntries entries.now }
+/// The entries have to be such as an index may have: in order, with paths that may be written, and with no clash.
+/// Their index may be larger than what is read again.
+pub fn spell_entries(alloc: Global, entries: &[Entry]) -> Result<Vec<u8>, AllocError>
+    requires { CanStand entries.now }
     ensures index { IfOk result (λ text. IsIndexText text.items entries.now) }
     ensures value { IfOk result (λ text. text.items ≡ plain_text entries.now) }
 {
@@ -114,4 +115,13 @@ pub fn spell_index(alloc: Global, entries: &[Entry]) -> Result<Vec<u8>, AllocErr
     let hash = Sha1::digest(&text);
     text.extend_from_slice(&hash)?;
     Ok(text)
+}
+
+/// The same for the entries of some index.
+pub fn spell_index(alloc: Global, entries: &[Entry]) -> Result<Vec<u8>, AllocError>
+    requires { AreEntries entries.now }
+    ensures index { IfOk result (λ text. IsIndexText text.items entries.now) }
+    ensures value { IfOk result (λ text. text.items ≡ plain_text entries.now) }
+{
+    spell_entries(alloc, entries)
 }
