@@ -6,7 +6,8 @@ ghost use Rattle.edge_kit.specs.declared.leaf_state.LeafState.TheVariants as sta
 ghost use Rattle.filter_proto.specs.Wires.{SessionSeen};
 ghost use Rattle.filter_proto.specs.Replies.{standing_after};
 ghost use Rattle.driver_line.specs.Conversations.{Exchange, First, Second, Listing, Shutting};
-ghost use Rattle.driver_line.specs.Lines.{LineView, Paths, Says, IsEnded, OpenIs, IsOpen, IsLeafAfter, MayReply};
+ghost use Rattle.driver_line.specs.Lines.{LineView, Paths, Says, IsEnded, OpenIs, IsOpen};
+ghost use Rattle.driver_line.specs.Lines.{IsLeafAfter, MayReply};
 ghost use Rattle.driver_line.specs.Lines.{HasAnswered, SessionAfter, StandsAfter, GoesOn, NamesAre, IsLive, list_standing};
 ghost use Rattle.driver_line.specs.Lines.{late_in, names_in, AreDelayed, IsListedTable, starts_of};
 
@@ -147,7 +148,8 @@ impl<S: Starter> Line<S> {
             × IsLeafAfter (L.seen leaf.old) (L.seen leaf.new) result.put result.reply c }
         ensures goes { (s : SessionSeen) → self.old.session ≡ Some s
             → GoesOn s (standing_after result.reply) self.new.session }
-        ensures may { (s : SessionSeen) → self.old.session ≡ Some s → MayReply s.caps.delay result.reply }
+        ensures may { (s : SessionSeen) → self.old.session ≡ Some s
+            → MayReply s.caps.delay result.reply }
         ensures starts { starts_of self.new ≤ starts_of self.old }
     {
         let Some(session) = &mut self.session else {

@@ -7,6 +7,8 @@ use Rattle.filter_words.specs.declared.reply.Caps.{Caps}
 use Rattle.driver_host.specs.HostLinks.{HasText, LinkState, link_seen}
 use Rattle.driver_host.specs.Works.{WorkTold}
 use Rattle.one_shot.specs.Onces.{RunsListed}
+use Rattle.one_shot.specs.Links.{either_seen}
+use Rattle.one_shot.specs.declared.link.OnceLink.{OnceLink}
 use Rattle.one_shot.specs.Works.{work_told}
 
 -- what a host announces that runs a command
@@ -38,6 +40,10 @@ run_seen told l = record (link_seen l.link) {
   left = answers_if l.link.tells (told l.link.host.talk.work);
   faults = l.faults;
 }
+
+-- a link of a starter: one of the starter below, or one to a host that runs a command
+abbrev pub once_seen : {L W : Type 0} → (L → LinkSeen) → (W → WorkTold) → OnceLink L (RunState W) → LinkSeen
+once_seen inner told = either_seen inner (run_seen told)
 
 -- What was taken is a first part of a host's text of what was sent, and all of it if an end of input was met.
 pub record HasTalk (told : WorkTold) (sent taken : Option (List ℕ)) (ends : ℕ) : Type 0 where

@@ -2,8 +2,7 @@
 ghost use Rattle.std.specs.Prelude.{◌≡◌, ◌≤◌, ◌<◌, ◌+◌, ◌^◌, ◌∷◌, ◌++◌, [], true, IfOk, OnOk, length};
 ghost use Rattle.std.specs.Prelude.{vec_len, vec_capacity};
 ghost use Rattle.edge_kit.specs.Starters.{session_had, StartOutOfMemory};
-ghost use Rattle.one_shot.specs.Links.{either_seen};
-ghost use Rattle.one_shot.specs.Replies.{run_seen, AreServed, TellNoAnswers};
+ghost use Rattle.one_shot.specs.Replies.{once_seen, AreServed, TellNoAnswers};
 ghost use Rattle.one_shot.specs.Starters.{IsEmpty, kept_had};
 
 use crate::link::OnceLink;
@@ -89,7 +88,7 @@ impl<K: Link> KeptLinks<K> {
 impl<L: Link, W: Work> KeptLinks<OnceLink<L, RunLink<W>>> {
     /// What the sessions tell of their drivers' answers is so, unless they are of the spawner below.
     pub(crate) fn serve(&self)
-        ensures { TellNoAnswers L.seen → AreServed (kept_had (either_seen L.seen (run_seen W.told)) self.now) }
+        ensures { TellNoAnswers L.seen → AreServed (kept_had (once_seen L.seen W.told) self.now) }
     {
         let ended = self.ended.as_slice();
         for session in ended {

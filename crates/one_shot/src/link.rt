@@ -1,6 +1,6 @@
 //! A link to a long-running driver, or to a host that stands for one.
 ghost use Rattle.one_shot.specs.Links.{either_seen};
-ghost use Rattle.one_shot.specs.Replies.{run_seen, record_of, IsServed, TellNoAnswers};
+ghost use Rattle.one_shot.specs.Replies.{once_seen, record_of, IsServed, TellNoAnswers};
 
 use crate::run_link::RunLink;
 use driver_host::Work;
@@ -18,7 +18,7 @@ impl<L: Link, W: Work> OnceLink<L, RunLink<W>> {
     #[tactic(auto, using(crate::proofs::RunLinks::unanswered))]
     pub(crate) fn serves(&self)
         ensures { TellNoAnswers L.seen
-            → IsServed (record_of (either_seen L.seen (run_seen W.told) self.now)) }
+            → IsServed (record_of (once_seen L.seen W.told self.now)) }
     {
         match self {
             OnceLink::Inner(_) => {}

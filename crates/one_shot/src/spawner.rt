@@ -1,8 +1,7 @@
 //! The maker of the starters of long-running drivers and of single runs.
 ghost use Rattle.std.specs.Prelude.{◌≡◌, ◌≤◌, ◌<◌, ◌+◌, ◌∷◌, ◌++◌, [], IfOk, OnOk, OnErr, vec_len, vec_capacity};
 ghost use Rattle.edge_kit.specs.Starters.{new_starter, starter_back};
-ghost use Rattle.one_shot.specs.Links.{either_seen};
-ghost use Rattle.one_shot.specs.Replies.{run_seen};
+ghost use Rattle.one_shot.specs.Replies.{once_seen};
 ghost use Rattle.one_shot.specs.Starters.{is_single_run, starter_seen};
 ghost use Rattle.one_shot.specs.Spawners.{commands_tell, all_back, RunsBy, AllServed, IsPlainBelow};
 
@@ -100,7 +99,7 @@ where
 
     ghost seen = { λ s. record {
       returned = all_back (λ t. starter_back (starter_seen P.Starter.seen M.told
-          (either_seen P.Starter.Link.seen (run_seen ⟦<OnceWork<M::Once> as Work>⟧.told))
+          (once_seen P.Starter.Link.seen ⟦<OnceWork<M::Once> as Work>⟧.told)
           t.source t.kept t.out)) s.back.items (P.seen s.inner).returned;
       out = s.out;
     } };

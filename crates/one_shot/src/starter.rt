@@ -2,8 +2,7 @@
 ghost use Rattle.std.specs.Prelude.{◌≡◌, ◌≤◌, ◌<◌, ◌+◌, ◌^◌, ◌++◌, ◌∷◌, [], ℕ, List, Bool, IfOk, IfErr, OnErr, length};
 ghost use Rattle.std.specs.Prelude.{vec_len, vec_capacity};
 ghost use Rattle.edge_kit.specs.Starters.{StartsOne, session_had};
-ghost use Rattle.one_shot.specs.Links.{either_seen};
-ghost use Rattle.one_shot.specs.Replies.{run_seen};
+ghost use Rattle.one_shot.specs.Replies.{once_seen};
 ghost use Rattle.one_shot.specs.Starters.{IsEmpty, starter_seen, out_below, Serves};
 ghost use Rattle.one_shot.specs.Spawners.{RunsBy};
 
@@ -49,14 +48,15 @@ where
 {
     type Link = LinkOf<S, M>;
 
-    ghost seen = { λ s. starter_seen S.seen M.told (either_seen S.Link.seen (run_seen ⟦<OnceWork<M::Once> as Work>⟧.told)) s.source s.kept s.out };
+    ghost seen = { λ s.
+        starter_seen S.seen M.told (once_seen S.Link.seen ⟦<OnceWork<M::Once> as Work>⟧.told) s.source s.kept s.out };
 
     /// A starter below starts nothing more once a link ended here that isn't its own, or once there was no room.
     fn start(&mut self) -> Result<LinkOf<S, M>, SendFault>
         requires { let seen = ⟦<OnceStarter<S, M, LinkOf<S, M>> as Starter>⟧.seen in
             length (seen self.old).had < 2 ^ 32 }
         ensures started { let seen = ⟦<OnceStarter<S, M, LinkOf<S, M>> as Starter>⟧.seen in
-            StartsOne (either_seen S.Link.seen (run_seen ⟦<OnceWork<M::Once> as Work>⟧.told)) (seen self.old) (seen self.new) result }
+            StartsOne (once_seen S.Link.seen ⟦<OnceWork<M::Once> as Work>⟧.told) (seen self.old) (seen self.new) result }
         ensures serves { Serves M.told ⟦<OnceWork<M::Once> as Work>⟧.told self.old.source result }
         ensures stays { (maker : M) (keeps : Bool) (command : List ℕ)
             → RunsBy M.told maker keeps command self.old.source
@@ -99,7 +99,8 @@ where
             (seen self.new).out + 1 ≡ (seen self.old).out }
         ensures back { let seen = ⟦<OnceStarter<S, M, LinkOf<S, M>> as Starter>⟧.seen in
             seen self.new ≡ record (seen self.old) {
-              had = (seen self.old).had ++ session_had (either_seen S.Link.seen (run_seen ⟦<OnceWork<M::Once> as Work>⟧.told) link) ∷ [];
+              had = (seen self.old).had
+                  ++ session_had (once_seen S.Link.seen ⟦<OnceWork<M::Once> as Work>⟧.told link) ∷ [];
               out = (seen self.new).out;
             } }
         ensures stays { (maker : M) (keeps : Bool) (command : List ℕ)
