@@ -22,6 +22,7 @@ pub mod Workers
 -- what its parts promise each other
 pub mod Reading
 pub mod Cards
+pub mod PlannedPaths
 pub mod Dealing
 pub mod Writing
 pub mod Ending

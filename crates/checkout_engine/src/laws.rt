@@ -2,6 +2,7 @@
 ghost use Rattle.checkout_engine.specs.Alike.{MemoryTellsAll, WorkersChangeNothing, SettingsChangeNothing};
 ghost use Rattle.checkout_engine.specs.Alike.{ActorsAreNumbered, OnePlan};
 ghost use Rattle.checkout_engine.specs.Given.{WrittenIsGiven};
+ghost use Rattle.checkout_engine.specs.PlannedPaths.{PlannedPathsAreSized};
 ghost use Rattle.checkout_engine.specs.Rehearsed.{RehearsalsAreAlike};
 ghost use Rattle.checkout_engine.specs.SameFaults.{SameFaultsChangeNothing};
 
@@ -77,3 +78,8 @@ pub fn actors_are_numbered()
     laws::a_history_keeps_its_size();
     laws::own_entries_tell_what_is_in_hand();
 }
+
+/// Each path of a plan that is read and written is text of 1 to 4,096 bytes, and each object's name has 20 bytes.
+pub fn planned_paths_are_sized()
+    ensures { PlannedPathsAreSized }
+{}
