@@ -1,2 +1,3 @@
 pub mod Rising
+mod Sized
 pub mod Runs

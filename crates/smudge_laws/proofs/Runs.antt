@@ -1,7 +1,7 @@
 -- The paths of a driver that is a command, in a checkout.
 use Rattle.std.proofs.Common.{◌≡◌, ◌+◌, ◌≤◌, inl, inr, ℕ, zero, suc, Bool, true, false, cond, if◌then◌else◌, List, [], ◌∷◌, ◌++◌, map, length, Option, Some, None, refl, sym, ap, ◌∙◌, subst, arith}
 use Rattle.std.specs.Prelude.{slice_get, nat_lt}
-use Rattle.std.proofs.lemmas.Bool.{eqb-true, ltb-true, ltb-false}
+use Rattle.std.proofs.lemmas.Bool.{ltb-true, ltb-false}
 use Rattle.std.proofs.lemmas.Option.{same_Some}
 use Rattle.filter_words.specs.Outcomes.{limit}
 use Rattle.filter_words.specs.declared.reply.Reply.TheVariants as reply
@@ -32,6 +32,7 @@ use Rattle.driver_host.specs.declared.work.Choice.{Choice}
 use Rattle.driver_host.specs.declared.work.Choice.TheVariants as choice
 use Rattle.checkout_plan.specs.declared.path_plan.PathPlan.{PathPlan}
 use Rattle.checkout_engine.specs.Ends.{verdicts_of}
+use Rattle.checkout_engine.specs.PlannedPaths.{PlannedPathsAreSized}
 use Rattle.checkout_engine.specs.Outcome.{Outcome, HasOutcome, HasDeskVerdict, AreOutcomes}
 use Rattle.checkout_engine.specs.Talks.{DriverTalk, IsDriverTalk, AreDriverTalks, heard_at, Gave}
 use Rattle.one_shot.specs.Onces.{OnceTold, RunsListed}
@@ -43,6 +44,7 @@ use Rattle.host_laws.specs.KeptTalks.{IsKeptTalk, KeptHeard}
 use Rattle.host_laws.specs.OnceTalks.{IsHeardOf, HearsChoice, once_request}
 use Rattle.smudge_laws.specs.SingleRuns.{run_at, AreHeard, IsRefusedFor, EndsBy, AreEnded, SingleRunsAreHeard}
 use Rattle.smudge_laws.proofs.Rising.{apart}
+use Rattle.smudge_laws.proofs.Sized.{desk_of, are_paths}
 
 -- the talk with a driver, by its number
 
@@ -71,11 +73,6 @@ outcome_from object talks m (q ∷ ps) (r ∷ os) are zero p o at there =
 outcome_from object talks m (q ∷ ps) (r ∷ os) are (suc n) p o at there =
     let same : ◌≡◌ {A = ℕ} (suc m + n) (m + suc n) = omega arith in
     subst (λ (k : ℕ). HasOutcome object talks p.start k p o) same (outcome_from object talks (suc m) ps os are.1 n p o at there)
-
-desk_of : (d : ℕ) (s : Start) → is_at d s ≡ true → (required : Bool) × (s ≡ start.Desk d required)
-desk_of d (start.Desk e required) is = (required, ap (λ (k : ℕ). start.Desk k required) (sym (eqb-true d e is)))
-desk_of d start.Pool is = absurd cc
-desk_of d (start.Done v) is = absurd cc
 
 -- its sessions are served
 
@@ -206,8 +203,8 @@ module _ (required : Bool) (d : ℕ) (t : DriverTalk) (n : ℕ) (told : Told) (p
       record { output = x.5; fits = g.0; gave = g.1; file = x.7 }
   ends_by (verdict.Skipped cause) x = tt
 
-pub are_heard : KeptHeard → OneContent → SingleRunsAreHeard
-are_heard law one told below runs asked old new c served d t at single paths memory = (hears, ends)
+pub are_heard : KeptHeard → OneContent → PlannedPathsAreSized → SingleRunsAreHeard
+are_heard law one sized told below runs asked old new c served d t at single memory = (hears, ends)
   where
     said : (x : Driver) × IsDriverTalk (commands_tell below true (RunsListed runs)) told.object c.plan.paths (verdicts_of c.outcomes) new.history d x t
     said =
@@ -220,7 +217,7 @@ are_heard law one told below runs asked old new c served d t at single paths mem
 
     kept : IsKeptTalk runs t.command d t.paths t.asked t.had t.exchanges
     kept = record {
-      names = paths;
+      names = are_paths told.object c.plan.paths (verdicts_of c.outcomes) d t said.1.over (sized told c.plan c.planned);
       full = said.1.talk.full;
       fills = said.1.talk.fills;
       left = said.1.talk.left;

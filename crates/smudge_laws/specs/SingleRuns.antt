@@ -23,7 +23,6 @@ use Rattle.one_shot.specs.Onces.{OnceTold, RunsListed}
 use Rattle.one_shot.specs.Works.{choice_told}
 use Rattle.one_shot.specs.Starters.{is_single_run}
 use Rattle.one_shot.specs.Spawners.{commands_tell, AllServed}
-use Rattle.host_laws.specs.HostTalks.{ArePaths}
 use Rattle.host_laws.specs.OnceTalks.{IsHeardOf, run_of, once_request}
 
 -- the told run for a path of a talk
@@ -62,12 +61,12 @@ AreEnded runs ps outcomes d t = (n : ℕ) (p : PathPlan) (o : Outcome) → slice
     → slice_get outcomes n ≡ Some o → is_at d p.start ≡ true
     → EndsBy (run_at runs t n) (once_request t.paths n) p o.file o.verdict
 
--- A checkout over a spawner of single runs that keeps their sessions and tells the runs, of which the sessions that were
--- given back tell nothing false. So is each path of a driver heard that is a single run, and so it ends, if memory never
--- ran out in the talk.
+-- A checkout over a spawner of single runs that keeps their sessions and tells the runs, of which the sessions that
+-- were given back tell nothing false. So is each path of a driver heard that is a single run, and so it ends, if memory
+-- never ran out in the talk.
 abbrev pub SingleRunsAreHeard : Type 0
 SingleRunsAreHeard = (told : RepoTold) (below : List ℕ → Starts) (runs : List RunTold) (asked : Option ℕ)
     (old new : Seen) → (c : IsCheckedOut told (commands_tell below true (RunsListed runs)) asked old new)
     → AllServed new.spawner.returned → (d : ℕ) (t : DriverTalk) → slice_get c.talks d ≡ Some t
-    → is_single_run t.command ≡ true → ArePaths t.paths t.asked → NoneWanting t.exchanges
+    → is_single_run t.command ≡ true → NoneWanting t.exchanges
     → AreHeard runs d t × AreEnded runs c.plan.paths c.outcomes d t
