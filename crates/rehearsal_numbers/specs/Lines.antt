@@ -21,7 +21,8 @@ bytes_with seed paths = 136 + sum_by (file_size seed) (range_with_len 0 paths)
 unfoldable pub line : ℕ → ℕ → List ℕ
 line seed paths =
     first_words paths (status_with (counted (path_is_failed seed) paths)) (1 + counted (path_is_written seed) paths)
-    ++ last_words (counted (path_is_unfiltered seed) paths) (counted (path_is_failed seed) paths) (bytes_with seed paths)
+    ++ last_words (counted (path_is_unfiltered seed) paths) (counted (path_is_failed seed) paths)
+    (bytes_with seed paths)
 
 -- What a rehearsal writes is that line.
 abbrev pub LinesAreRight : Type 0
