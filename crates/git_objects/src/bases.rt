@@ -1,0 +1,88 @@
+//! The objects that deltas were made of, kept for the next ones.
+ghost use Rattle.std.specs.Prelude.{◌≡◌, ◌≤◌, ◌+◌};
+ghost use Rattle.git_objects.specs.Costs.{object_cost, whole_cost};
+
+use crate::object::Object;
+use lru::LruCache;
+use std::alloc::{AllocError, Global};
+
+/// Where an entry is: the number of its pack and where it begins there.
+#[derive(Clone, Copy, PartialEq, Eq, Hash)]
+pub struct Spot {
+    pub pack: u64,
+    pub offset: u64,
+}
+
+/// The most bytes that are kept.
+const MOST: u64 = 16 << 20;
+
+/// What an object costs beside its bytes.
+const COST: u64 = 256;
+
+/// The bases that were used last. What they cost comes to at most 16 MiB.
+#[derive(Drop)]
+pub struct Bases {
+    kept: LruCache<Spot, Object>,
+    // what they cost together
+    cost: u64,
+    ghost counted: { whole_cost kept.entries ≤ cost },
+    ghost within: { cost ≤ 16777216 },
+}
+
+/// What an object costs.
+fn cost_of(object: &Object) -> u64
+    ensures { result ≡ object_cost object.now }
+{
+    object.content.len() as u64 + COST
+}
+
+impl Bases {
+    /// None yet.
+    pub fn new(alloc: Global) -> Result<Bases, AllocError> {
+        Ok(Bases {
+            kept: LruCache::unbounded(alloc)?,
+            cost: 0,
+        })
+    }
+
+    /// Takes out the object at a spot, if it is kept.
+    pub fn take(&mut self, spot: Spot) -> Option<Object> {
+        let object = self.kept.pop(&spot)?;
+        self.cost -= cost_of(&object);
+        Some(object)
+    }
+
+    /// Keeps an object as the one that was used last, and drops others if they come to too much. One that is large, or
+    /// for which there is no memory, isn't kept.
+    pub fn keep(&mut self, spot: Spot, object: Object) {
+        let cost = cost_of(&object);
+        if cost > MOST / 2 || self.kept.contains(&spot) {
+            return;
+        }
+        self.make_room(cost);
+        if self.cost > MOST - cost {
+            return;
+        }
+        match self.kept.put(spot, object) {
+            Ok(_) => self.cost += cost,
+            Err(_) => {}
+        }
+    }
+
+    /// Drops the objects that weren't used for longest until there is room for one of this cost.
+    fn make_room(&mut self, cost: u64) {
+        for _ in 0..self.kept.len() {
+            if self.cost.saturating_add(cost) <= MOST {
+                return;
+            }
+            self.drop_oldest();
+        }
+    }
+
+    /// Drops the object that wasn't used for longest.
+    fn drop_oldest(&mut self) {
+        if let Some((_, object)) = self.kept.pop_lru() {
+            self.cost -= cost_of(&object);
+        }
+    }
+}

@@ -1,0 +1,219 @@
+//! The objects of a repository.
+ghost use Rattle.std.specs.Prelude.{◌≡◌, None, IfOk, IfSome, ◌≤◌, length};
+
+use crate::alternates::Folders;
+use crate::bases::Bases;
+use crate::fault::ObjectsFault;
+use crate::loose::loose_object;
+use crate::pack::Pack;
+use crate::placed_file::PlacedFile;
+use edge_adapters::path_in;
+use std::fs::read_dir;
+use std::io;
+use std::io::ErrorKind;
+
+/// The objects of a repository: its own and those that it borrows, loose ones and packs. A thread that reads has a
+/// reader of its own.
+#[derive(Drop)]
+pub struct Objects {
+    rt: HostRuntime,
+    folders: Folders,
+    // the one that gave an object last is first
+    packs: Vec<Pack>,
+    // how many packs were opened
+    opened: u64,
+    bases: Bases,
+    // why an object may be there that isn't found
+    lack: Option<ObjectsFault>,
+}
+
+/// The first cause, if there is one.
+fn first_of(first: Option<ObjectsFault>, second: ObjectsFault) -> Option<ObjectsFault> {
+    match first {
+        Some(fault) => Some(fault),
+        None => Some(second),
+    }
+}
+
+/// A file that may be gone meanwhile.
+fn still_there(opened: io::Result<PlacedFile>) -> Result<Option<PlacedFile>, ObjectsFault> {
+    match opened {
+        Ok(source) => Ok(Some(source)),
+        Err(error) if error.kind() == ErrorKind::NotFound => Ok(None),
+        Err(error) => Err(ObjectsFault::from(error)),
+    }
+}
+
+impl Objects {
+    /// The objects of the repository that has this Git folder. Packs are listed, and no object is read.
+    pub fn open(rt: HostRuntime, git_dir: &str) -> Result<Objects, ObjectsFault> {
+        Objects::in_folder(rt, path_in(rt.alloc(), git_dir, "objects")?)
+    }
+
+    /// The objects in this folder `objects`, and in those that it borrows from.
+    pub fn in_folder(rt: HostRuntime, folder: String) -> Result<Objects, ObjectsFault> {
+        let alloc = rt.alloc();
+        let folders = Folders::of(rt, folder)?;
+        let lack = if folders.are_partial {
+            Some(ObjectsFault::Elsewhere)
+        } else {
+            None
+        };
+        let mut objects = Objects {
+            rt,
+            folders,
+            packs: Vec::new(alloc),
+            opened: 0,
+            bases: Bases::new(alloc)?,
+            lack,
+        };
+        objects.list()?;
+        Ok(objects)
+    }
+
+    /// Opens the packs that aren't open yet.
+    fn list(&mut self) -> Result<(), ObjectsFault> {
+        for place in 0..self.folders.paths.len() {
+            match self.list_folder(place) {
+                Err(ObjectsFault::NoMemory) => return Err(ObjectsFault::NoMemory),
+                Err(fault) => self.lack = first_of(self.lack, fault),
+                Ok(()) => {}
+            }
+        }
+        Ok(())
+    }
+
+    /// Opens the packs of a folder that aren't open yet.
+    fn list_folder(&mut self, place: usize) -> Result<(), ObjectsFault> {
+        let Some(folder) = self.folders.paths.get(place) else {
+            return Ok(());
+        };
+        let folder = path_in(self.rt.alloc(), folder.as_str(), "pack")?;
+        let entries = match read_dir(&self.rt, folder.as_str()) {
+            Ok(entries) => entries,
+            Err(error) if error.kind() == ErrorKind::NotFound => return Ok(()),
+            Err(error) => return Err(ObjectsFault::from(error)),
+        };
+        for entry in entries {
+            self.note_file(folder.as_str(), entry?.file_name())?;
+        }
+        Ok(())
+    }
+
+    /// Opens the pack of an index. What a partial clone lacks git may fetch.
+    fn note_file(&mut self, folder: &str, file: &str) -> Result<(), ObjectsFault> {
+        if file.ends_with(".promisor") {
+            self.lack = first_of(self.lack, ObjectsFault::Elsewhere);
+        }
+        let Some(name) = file.strip_suffix(".idx") else {
+            return Ok(());
+        };
+        let name = path_in(self.rt.alloc(), folder, name)?;
+        if self.packs.iter().any(|pack| pack.name == name) {
+            return Ok(());
+        }
+        match self.add_pack(name) {
+            Err(ObjectsFault::NoMemory) => Err(ObjectsFault::NoMemory),
+            Err(fault) => {
+                self.lack = first_of(self.lack, fault);
+                Ok(())
+            }
+            Ok(()) => Ok(()),
+        }
+    }
+
+    /// Opens the pack with this name. One that is gone meanwhile isn't missed.
+    fn add_pack(&mut self, name: String) -> Result<(), ObjectsFault> {
+        let alloc = self.rt.alloc();
+        let index = format!(in alloc; "{name}.idx")?;
+        let pack = format!(in alloc; "{name}.pack")?;
+        let Some(index) = still_there(PlacedFile::open(self.rt, index.as_str()))? else {
+            return Ok(());
+        };
+        let Some(pack) = still_there(PlacedFile::open(self.rt, pack.as_str()))? else {
+            return Ok(());
+        };
+        let pack = Pack::new(alloc, self.opened, name, index, pack)?;
+        self.packs.push(pack)?;
+        self.opened = self.opened.saturating_add(1);
+        Ok(())
+    }
+
+    /// What the packs have of an object. Where one fails another may have it too.
+    fn in_packs(&mut self, name: &[u8; 20], limit: u64) -> Result<Option<Vec<u8>>, ObjectsFault>
+        ensures { IfOk result (λ taken. IfSome taken (λ stored. length stored.items ≤ limit)) }
+    {
+        let mut first = None;
+        for place in 0..self.packs.len() {
+            match self.packs[place].object(&mut self.bases, name, limit) {
+                Ok(Some(stored)) => {
+                    self.packs.swap(0, place);
+                    return Ok(Some(stored));
+                }
+                Ok(None) => {}
+                Err(fault) => first = first_of(first, fault),
+            }
+        }
+        match first {
+            Some(fault) => Err(fault),
+            None => Ok(None),
+        }
+    }
+
+    /// What the files of loose objects have of an object.
+    fn in_files(&self, name: &[u8; 20], limit: u64) -> Result<Option<Vec<u8>>, ObjectsFault>
+        ensures { IfOk result (λ taken. IfSome taken (λ stored. length stored.items ≤ limit)) }
+    {
+        let mut first = None;
+        for folder in self.folders.paths.iter() {
+            match loose_object(self.rt, folder.as_str(), name, limit) {
+                Ok(Some(stored)) => return Ok(Some(stored)),
+                Ok(None) => {}
+                Err(fault) => first = first_of(first, fault),
+            }
+        }
+        match first {
+            Some(fault) => Err(fault),
+            None => Ok(None),
+        }
+    }
+
+    /// What packs or files have of an object.
+    fn look(&mut self, name: &[u8; 20], limit: u64) -> Result<Option<Vec<u8>>, ObjectsFault>
+        ensures { IfOk result (λ taken. IfSome taken (λ stored. length stored.items ≤ limit)) }
+    {
+        let packed = self.in_packs(name, limit);
+        if let Ok(Some(_)) = &packed {
+            return packed;
+        }
+        match self.in_files(name, limit) {
+            Ok(None) => packed,
+            Ok(Some(stored)) => Ok(Some(stored)),
+            Err(fault) => match packed {
+                Err(fault) => Err(fault),
+                Ok(_) => Err(fault),
+            },
+        }
+    }
+
+    /// The stored form of the object with this name: its kind, its size in decimal, a NUL and its content. `None` if
+    /// it isn't there. One that is longer than the limit isn't made, and nothing is checked against the name.
+    ///
+    /// Where it isn't found packs are listed again, since git may have packed objects anew.
+    pub fn take(&mut self, name: &[u8; 20], limit: u64) -> Result<Option<Vec<u8>>, ObjectsFault>
+        ensures within { IfOk result (λ taken. IfSome taken (λ stored. length stored.items ≤ limit)) }
+        ensures absent { IfOk result (λ taken. taken ≡ None → self.new.lack ≡ None) }
+    {
+        if let Some(stored) = self.look(name, limit)? {
+            return Ok(Some(stored));
+        }
+        self.list()?;
+        if let Some(stored) = self.in_packs(name, limit)? {
+            return Ok(Some(stored));
+        }
+        match self.lack {
+            Some(fault) => Err(fault),
+            None => Ok(None),
+        }
+    }
+}

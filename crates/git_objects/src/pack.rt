@@ -1,0 +1,244 @@
+//! A pack (gitformat-pack(5)).
+ghost use Rattle.std.specs.Prelude.{IfOk, IfSome, ◌≤◌, length};
+
+use crate::bases::{Bases, Spot};
+use crate::delta::apply_delta;
+use crate::entry::{Inside, MOST, PackEntry, read_head};
+use crate::fault::ObjectsFault;
+use crate::index::PackIndex;
+use crate::object::Object;
+use crate::placed_file::PlacedFile;
+use inflate::{InflateFault, inflate};
+use std::alloc::Global;
+
+/// A pack and its index.
+#[derive(Drop)]
+pub struct Pack {
+    alloc: Global,
+    // told apart from every other pack
+    number: u64,
+    pub name: String,
+    index: PackIndex,
+    source: PlacedFile,
+}
+
+/// A stream of a pack: where it begins and how many bytes are in it.
+#[derive(Clone, Copy)]
+struct Stream {
+    place: u64,
+    size: u64,
+}
+
+/// A delta, and where the entry begins that has it.
+#[derive(Clone, Copy)]
+struct Step {
+    offset: u64,
+    delta: Stream,
+}
+
+/// An object and the deltas that make another one of it, the last one first.
+struct Chain {
+    offset: u64,
+    base: Object,
+    deltas: Vec<Step>,
+}
+
+/// The most bytes that zlib makes of so many. A stream of more is for git alone.
+pub fn deflated(size: u64) -> u64 {
+    size.saturating_add(size / 256).saturating_add(1024)
+}
+
+/// The same cause, where a thing that isn't itself wanted is longer than the limit.
+fn of_part(fault: ObjectsFault) -> ObjectsFault {
+    match fault {
+        ObjectsFault::TooLong => ObjectsFault::Elsewhere,
+        other => other,
+    }
+}
+
+impl Pack {
+    /// The pack of this number, by its name and its two files. One of another version is for git alone.
+    pub fn new(
+        alloc: Global,
+        number: u64,
+        name: String,
+        index: PlacedFile,
+        source: PlacedFile,
+    ) -> Result<Pack, ObjectsFault> {
+        let index = PackIndex::new(index)?;
+        let head = source.read(0, 12)?;
+        let [b'P', b'A', b'C', b'K', version @ .., a, b, c, d] = head.as_slice() else {
+            return Err(ObjectsFault::Broken);
+        };
+        if version != [0, 0, 0, 2].as_slice() {
+            return Err(ObjectsFault::Elsewhere);
+        }
+        if u32::from_be_bytes([*a, *b, *c, *d]) != index.count {
+            return Err(ObjectsFault::Broken);
+        }
+        Ok(Pack {
+            alloc,
+            number,
+            name,
+            index,
+            source,
+        })
+    }
+
+    /// The entry that begins at an offset.
+    fn entry_at(&self, offset: u64) -> Result<PackEntry, ObjectsFault> {
+        match read_head(self.source.read(offset, MOST)?.as_slice()) {
+            Some(entry) => Ok(entry),
+            None => Err(ObjectsFault::Broken),
+        }
+    }
+
+    /// What is in a stream. One that is longer than the limit isn't read.
+    fn inflated(&self, stream: Stream, limit: u64) -> Result<Vec<u8>, ObjectsFault>
+        ensures { IfOk result (λ content. length content.items ≤ limit) }
+    {
+        if stream.size > limit {
+            return Err(ObjectsFault::TooLong);
+        }
+        let most = deflated(stream.size);
+        let stored = self.source.read(stream.place, most)?;
+        let mut content = Vec::new(self.alloc);
+        match inflate(
+            self.alloc,
+            stored.as_slice(),
+            &mut content,
+            stream.size as usize,
+        ) {
+            Ok(_) if content.len() as u64 == stream.size => Ok(content),
+            Err(InflateFault::NoMemory) => Err(ObjectsFault::NoMemory),
+            Err(InflateFault::CutShort) if stored.len() as u64 == most => {
+                Err(ObjectsFault::Elsewhere)
+            }
+            _ => Err(ObjectsFault::Broken),
+        }
+    }
+
+    /// Where the base of a delta begins whose entry begins at an offset.
+    fn base_of(&self, offset: u64, inside: Inside) -> Result<Option<u64>, ObjectsFault> {
+        match inside {
+            Inside::Before(distance) => Ok(offset.checked_sub(distance)),
+            Inside::On(name) => self.index.offset_of(&name),
+            Inside::Whole(_) => Ok(None),
+        }
+    }
+
+    /// The chain of the object whose entry begins at an offset. A ring of deltas is longer than the pack has objects.
+    fn chain_from(&self, bases: &mut Bases, start: u64, limit: u64) -> Result<Chain, ObjectsFault> {
+        let mut deltas = Vec::new(self.alloc);
+        let mut offset = start;
+        for _ in 0..self.index.count {
+            if let Some(base) = bases.take(self.spot(offset)) {
+                return Ok(Chain {
+                    offset,
+                    base,
+                    deltas,
+                });
+            }
+            let entry = self.entry_at(offset)?;
+            let stream = Stream {
+                place: offset.saturating_add(entry.head as u64),
+                size: entry.size,
+            };
+            if let Inside::Whole(kind) = entry.inside {
+                let content = match self.inflated(stream, limit) {
+                    Err(fault) if !deltas.is_empty() => return Err(of_part(fault)),
+                    other => other?,
+                };
+                let base = Object { kind, content };
+                return Ok(Chain {
+                    offset,
+                    base,
+                    deltas,
+                });
+            }
+            deltas.push(Step {
+                offset,
+                delta: stream,
+            })?;
+            let Some(base) = self.base_of(offset, entry.inside)? else {
+                return Err(ObjectsFault::Broken);
+            };
+            offset = base;
+        }
+        Err(ObjectsFault::Broken)
+    }
+
+    /// Makes the object whose entry begins at an offset by its chain, and keeps what it was made of.
+    fn made_by(
+        &self,
+        bases: &mut Bases,
+        start: u64,
+        chain: Chain,
+        limit: u64,
+    ) -> Result<Object, ObjectsFault> {
+        let Chain {
+            mut offset,
+            mut base,
+            deltas,
+        } = chain;
+        for step in deltas.iter().rev() {
+            let Step {
+                offset: next,
+                delta,
+            } = *step;
+            let content = match self.applied(&base, delta, limit) {
+                Err(fault) if next != start => return Err(of_part(fault)),
+                other => other?,
+            };
+            let made = Object {
+                kind: base.kind,
+                content,
+            };
+            bases.keep(self.spot(offset), base);
+            base = made;
+            offset = next;
+        }
+        Ok(base)
+    }
+
+    /// The content that a delta in a stream makes of its base.
+    fn applied(&self, base: &Object, delta: Stream, limit: u64) -> Result<Vec<u8>, ObjectsFault>
+        ensures { IfOk result (λ content. length content.items ≤ limit) }
+    {
+        let delta = match self.inflated(delta, limit) {
+            Ok(delta) => delta,
+            Err(fault) => return Err(of_part(fault)),
+        };
+        apply_delta(self.alloc, base.content.as_slice(), delta.as_slice(), limit)
+    }
+
+    /// The stored form of the object with this name, if it is there and is within the limit.
+    pub fn object(
+        &self,
+        bases: &mut Bases,
+        name: &[u8; 20],
+        limit: u64,
+    ) -> Result<Option<Vec<u8>>, ObjectsFault>
+        ensures { IfOk result (λ taken. IfSome taken (λ stored. length stored.items ≤ limit)) }
+    {
+        let Some(start) = self.index.offset_of(name)? else {
+            return Ok(None);
+        };
+        let chain = self.chain_from(bases, start, limit)?;
+        let is_base = chain.deltas.is_empty();
+        let object = self.made_by(bases, start, chain, limit)?;
+        let stored = object.stored(self.alloc, limit)?;
+        if is_base {
+            bases.keep(self.spot(start), object);
+        }
+        Ok(Some(stored))
+    }
+
+    /// Where this pack has the entry that begins at an offset.
+    fn spot(&self, offset: u64) -> Spot {
+        Spot {
+            pack: self.number,
+            offset,
+        }
+    }
+}
