@@ -1,7 +1,7 @@
 ghost use Rattle.std.specs.Prelude.{◌≡◌};
 ghost use Rattle.edge_kit.specs.Told.{Untold};
 
-use crate::cat_pool::CatPool;
+use crate::object_pool::ObjectPool;
 use edge_kit::{Blob, TakeFault};
 use std::alloc::Global;
 use std::sync::Arc;
@@ -9,7 +9,7 @@ use std::sync::Arc;
 /// An object of a repository, which a process of git gives.
 #[derive(Drop)]
 pub struct GitBlob {
-    pool: Arc<CatPool, Global>,
+    pool: Arc<ObjectPool, Global>,
     pub name: [u8; 20],
     // its place among those that were lent, if it is known
     place: Option<usize>,
@@ -20,7 +20,7 @@ pub struct GitBlob {
 
 impl GitBlob {
     /// The object with this name, which was lent in this place, and of which nothing was read.
-    pub fn new(pool: Arc<CatPool, Global>, name: [u8; 20], place: Option<usize>) -> GitBlob
+    pub fn new(pool: Arc<ObjectPool, Global>, name: [u8; 20], place: Option<usize>) -> GitBlob
         ensures name { result.name ≡ name }
         ensures unfailed { result.faults ≡ 0 }
     {

@@ -4,7 +4,6 @@ ghost use Rattle.edge_kit.specs.Faults.{AfterTake};
 ghost use Rattle.edge_kit.specs.Told.{Untold, Takes};
 
 use crate::attribute_files::base_attributes;
-use crate::cat_pool::CatPool;
 use crate::fault::GitFault;
 use crate::finding::{FoundRepository, find, list, tree_of};
 use crate::git::Git;
@@ -13,6 +12,7 @@ use crate::index_file::{index_of_tree, own_index};
 use crate::lender::lender_of;
 use crate::listing::SettingsList;
 use crate::notes::{notes_of, place_of};
+use crate::object_pool::ObjectPool;
 use edge_adapters::{DriverPlace, read_whole};
 use edge_kit::{Repo, TakeFault};
 use git_tree::Keeps;
@@ -27,7 +27,7 @@ pub struct GitRepo {
     listing: SettingsList,
     // the name of the tree that is wanted in place of the index
     tree: Option<String>,
-    pool: Arc<CatPool, Global>,
+    pool: Arc<ObjectPool, Global>,
     faults: u64,
     out: usize,
     returned: Vec<([u8; 20], u64)>,

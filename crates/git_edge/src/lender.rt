@@ -1,9 +1,9 @@
 //! What gives the objects of a repository.
-use crate::cat_pool::CatPool;
 use crate::fault::GitFault;
 use crate::finding::FoundRepository;
 use crate::git::Git;
 use crate::listing::SettingsList;
+use crate::object_pool::ObjectPool;
 use crate::scratch::Scratch;
 use std::fs::{create_dir, write};
 use std::io;
@@ -17,20 +17,21 @@ fn make_git_dir(git: &Git, scratch: &Scratch) -> io::Result<()> {
 }
 
 /// Another Git folder over the same objects. Git asks no remote for what isn't there, since it knows of none.
-fn borrowing(git: &Git, found: &FoundRepository) -> io::Result<CatPool> {
+fn borrowing(git: &Git, found: &FoundRepository) -> io::Result<ObjectPool> {
     let scratch = Scratch::make(git.rt, git.alloc)?;
     make_git_dir(git, &scratch)?;
     let borrower = git.about(Some(scratch.path.as_str()), Some(found.objects.as_str()))?;
-    Ok(CatPool::new(borrower, Some(scratch))?)
+    let objects = String::from_str(git.alloc, found.objects.as_str())?;
+    Ok(ObjectPool::new(borrower, Some(scratch), objects)?)
 }
 
-/// The processes that give the objects of a repository. In a partial clone they would end at an object that isn't
-/// there, so they are asked in another Git folder.
+/// What gives the objects of a repository. In a partial clone a process of git would end at an object that isn't there,
+/// so such processes are asked in another Git folder.
 pub fn lender_of(
     git: &Git,
     found: &FoundRepository,
     listing: &SettingsList,
-) -> Result<CatPool, GitFault> {
+) -> Result<ObjectPool, GitFault> {
     if listing.promisor().is_some() {
         return match borrowing(git, found) {
             Ok(pool) => Ok(pool),
@@ -38,5 +39,6 @@ pub fn lender_of(
         };
     }
     let own = git.about(git.named.as_deref(), None)?;
-    Ok(CatPool::new(own, None)?)
+    let objects = String::from_str(git.alloc, found.objects.as_str())?;
+    Ok(ObjectPool::new(own, None, objects)?)
 }

@@ -6,7 +6,6 @@
 
 mod attribute_files;
 mod cat_file;
-mod cat_pool;
 mod fault;
 mod finding;
 mod git;
@@ -17,6 +16,8 @@ mod lender;
 mod lent;
 mod listing;
 mod notes;
+mod object_pool;
+mod object_reader;
 mod scratch;
 
 pub use fault::GitFault;

@@ -8,7 +8,7 @@ use std::test::Fail;
 /// Makes the objects of a row, and has each child write a line, and then do this.
 const MAKE: &str =
     "new; echo ho | git hash-object -w --stdin > ../out; yes | head -c 200000 | git hash-object -w --stdin > ../out; \
-    cd ..; child() { fake \"case \\$* in *cat-file*) echo a >> $PWD/children\n$1\n;; esac\"; }; ";
+    lend; cd ..; child() { fake \"case \\$* in *cat-file*) echo a >> $PWD/children\n$1\n;; esac\"; }; ";
 
 /// What the shell does, the objects that are lent, the places of those that are taken, what comes, and how many
 /// children that takes. `i` is `hi`, `o` is `ho`, `y` an object of 200,000 bytes, and `-` one that isn't there; `x`

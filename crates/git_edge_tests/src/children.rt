@@ -7,7 +7,7 @@ use std::test::Fail;
 
 /// The program git leaves the numbers of the children that give objects.
 const COUNTED: &str =
-    "new; cd ..; fake \"case \\$* in *cat-file*) echo \\$\\$ >> $PWD/children;; esac\"";
+    "new; lend; cd ..; fake \"case \\$* in *cat-file*) echo \\$\\$ >> $PWD/children;; esac\"";
 
 /// There was a child, and none of them is there.
 const NONE_RUNS: &str =

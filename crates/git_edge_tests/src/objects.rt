@@ -12,18 +12,23 @@ const CASES: &[&str] = &[
     "new~o:=blob 3\0hi\n",
     "new; git pack-objects -q .git/objects/pack/p < ../hi; rm -r .git/objects/45~o:=blob 3\0hi\n",
     "new; cd ..; mv repo a; git init -q repo; echo \"$PWD/a/.git/objects\" > repo/.git/objects/info/alternates~o:=blob 3\0hi\n",
+    "new; lend~o:=blob 3\0hi\n",
     "new~o9l",
+    "new; lend~o9l",
+    // where the files give it git isn't asked, and a broken file is a failure
+    "new; cd ..; fake 'case $* in *cat-file*) kill -9 $$;; esac'~o:=blob 3\0hi\n",
+    "new; cd .git/objects/45; f=$(ls); head -c 9 $f > new; mv -f new $f~o:x",
     "git init -q repo~o:.",
     // one that is replaced is given as it is
     "new; git replace $(cat ../hi) $(echo ho | git hash-object -w --stdin)~o:=blob 3\0hi\n",
     // a child that is killed, and answers that are cut short, too long, of another object, or none
-    "new; cd ..; fake 'case $* in *cat-file*) kill -9 $$;; esac'~o:x",
-    "new; cd ..; fake 'case $* in *cat-file*) read n; printf \"$n blob 3\\nhi\"; exit;; esac'~o:x",
-    "new; cd ..; fake 'case $* in *cat-file*) read n; printf \"$n blob 3\\nhi\\n more\\n\"; exit;; esac'~o:x",
-    "new; cd ..; fake 'case $* in *cat-file*) read n; printf \"$n blob 99999\\nhi\\n\\n\"; exit;; esac'~o:l",
-    "new; cd ..; fake 'case $* in *cat-file*) read n; printf \"0$n blob 3\\nhi\\n\\n\"; exit;; esac'~o:x",
-    "new; cd ..; fake 'case $* in *cat-file*) read n; printf \"$n blob\\nhi\\n\\n\"; exit;; esac'~o:x",
-    "new; cd ..; fake 'case $* in *cat-file*) exit;; esac'~o:x",
+    "new; lend; cd ..; fake 'case $* in *cat-file*) kill -9 $$;; esac'~o:x",
+    "new; lend; cd ..; fake 'case $* in *cat-file*) read n; printf \"$n blob 3\\nhi\"; exit;; esac'~o:x",
+    "new; lend; cd ..; fake 'case $* in *cat-file*) read n; printf \"$n blob 3\\nhi\\n more\\n\"; exit;; esac'~o:x",
+    "new; lend; cd ..; fake 'case $* in *cat-file*) read n; printf \"$n blob 99999\\nhi\\n\\n\"; exit;; esac'~o:l",
+    "new; lend; cd ..; fake 'case $* in *cat-file*) read n; printf \"0$n blob 3\\nhi\\n\\n\"; exit;; esac'~o:x",
+    "new; lend; cd ..; fake 'case $* in *cat-file*) read n; printf \"$n blob\\nhi\\n\\n\"; exit;; esac'~o:x",
+    "new; lend; cd ..; fake 'case $* in *cat-file*) exit;; esac'~o:x",
     // what isn't there in a partial clone is not fetched
     "new; git config uploadpack.allowFilter true; echo hi > f; git add f; git commit -qm f; cd ..; mv repo a; \
       git clone -qn --filter=blob:none file://$PWD/a repo~o:.",

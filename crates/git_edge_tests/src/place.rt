@@ -9,7 +9,8 @@ use std::test::Fail;
 use std::{io, process};
 
 /// What a test's shell begins with. `git` and the program `git` of the folder are git without the settings of the user
-/// and of the system. `new` makes a repository `repo` with the object `hi`, and `fake` has the program do this first.
+/// and of the system. `new` makes a repository `repo` with the object `hi`, `lend` has it borrow its objects by a quoted
+/// path, which git alone reads, and `fake` has the program do this first.
 const PRELUDE: &str = r#"
 set -e
 unset GIT_DIR GIT_INDEX_FILE GIT_OBJECT_DIRECTORY GIT_ALTERNATE_OBJECT_DIRECTORIES GIT_WORK_TREE
@@ -21,6 +22,11 @@ fake() {
     chmod +x git
 }
 new() { git init -q repo; cd repo; echo hi | git hash-object -w --stdin > ../hi; }
+lend() {
+    mv .git/objects ../lent
+    mkdir .git/objects .git/objects/info .git/objects/pack
+    echo "\"$PWD/../lent\"" > .git/objects/info/alternates
+}
 fake ''
 "#;
 

@@ -1,0 +1,98 @@
+//! Readers of objects, shared by the threads that read them.
+ghost use Rattle.edge_kit.specs.Told.{Untold, Takes};
+
+use crate::git::Git;
+use crate::lent::Lent;
+use crate::object_reader::{ObjectReader, Wanted};
+use crate::scratch::Scratch;
+use edge_kit::TakeFault;
+use std::alloc::AllocError;
+use std::sync::Mutex;
+
+/// The readers of the objects of a repository. Each begins when it is first asked while those before it are busy, so as
+/// many are at work as threads have read at once.
+#[derive(Drop)]
+pub struct ObjectPool {
+    // what a child of git is asked by
+    git: Git,
+    // the Git folder that it is asked in, if it isn't the repository's
+    scratch: Option<Scratch>,
+    // the folder `objects` of the repository
+    folder: String,
+    seats: Vec<Mutex<ObjectReader>>,
+    lent: Lent,
+}
+
+/// More than threads ever read at once.
+const SEATS: usize = 64;
+
+impl ObjectPool {
+    /// A pool over this folder `objects` that has opened and started nothing.
+    pub fn new(
+        git: Git,
+        scratch: Option<Scratch>,
+        folder: String,
+    ) -> Result<ObjectPool, AllocError> {
+        let mut seats = Vec::with_capacity(git.alloc, SEATS)?;
+        for _ in 0..SEATS {
+            seats.push(Mutex::new(ObjectReader::new()))?;
+        }
+        let lent = Lent::new(git.alloc);
+        Ok(ObjectPool {
+            git,
+            scratch,
+            folder,
+            seats,
+            lent,
+        })
+    }
+
+    /// Notes that an object will be taken after those before it, and returns its place among them, if it is known.
+    pub fn lend(&self, name: &[u8; 20]) -> Result<Option<usize>, AllocError> {
+        self.lent.add(name)
+    }
+
+    /// Takes an object, which was lent in this place, by the first reader that is idle. It waits for no other thread.
+    ///
+    /// The child of the first reader alone is asked ahead, and only until another reader is asked at all. While one
+    /// thread reads, git gets the next object ready. Of several threads each has a child, and those are at work beside
+    /// each other.
+    pub fn take(
+        &self,
+        name: &[u8; 20],
+        place: Option<usize>,
+        limit: u64,
+    ) -> Result<Option<Vec<u8>>, TakeFault>
+        ensures { Takes Untold limit result }
+    {
+        for (number, seat) in self.seats.iter().enumerate() {
+            if let Some(mut reader) = seat.try_lock() {
+                if number > 0 {
+                    self.lent.share();
+                }
+                let wanted = Wanted {
+                    name: *name,
+                    next: self.lent.next(place),
+                    limit,
+                };
+                return reader.take(&self.git, self.folder.as_str(), wanted);
+            }
+        }
+        let mut own = ObjectReader::new();
+        let wanted = Wanted {
+            name: *name,
+            next: None,
+            limit,
+        };
+        own.take(&self.git, self.folder.as_str(), wanted)
+    }
+
+    /// Ends the child of each reader that is idle, waits for it, and closes the reader's files.
+    pub fn end(&self) {
+        for seat in self.seats.iter() {
+            if let Some(mut reader) = seat.try_lock() {
+                *reader = ObjectReader::new();
+            }
+        }
+    }
+}

@@ -1,0 +1,123 @@
+//! What gives objects to one thread at a time.
+ghost use Rattle.std.specs.Prelude.{◌≢◌, ◌≤◌, IfOk, IfSome, None, length};
+ghost use Rattle.edge_kit.specs.Told.{Untold, Takes};
+
+use crate::cat_file::CatFile;
+use crate::git::{Git, fault_of};
+use edge_kit::TakeFault;
+use git_objects::{Objects, ObjectsFault};
+
+/// The files that hold the objects of a repository.
+#[derive(Drop)]
+enum Files {
+    Unopened,
+    Open(Objects),
+    // git alone can read them
+    Refused,
+}
+
+/// Reads objects from the files of their repository. A child of git is asked for what these don't give.
+#[derive(Drop)]
+pub struct ObjectReader {
+    files: Files,
+    child: Option<CatFile>,
+}
+
+/// An object to take, and the one that will probably be taken after it.
+#[derive(Clone, Copy)]
+pub struct Wanted {
+    pub name: [u8; 20],
+    pub next: Option<[u8; 20]>,
+    pub limit: u64,
+}
+
+impl ObjectReader {
+    /// One that has opened and started nothing.
+    pub fn new() -> ObjectReader {
+        ObjectReader {
+            files: Files::Unopened,
+            child: None,
+        }
+    }
+
+    /// Opens the files in this folder `objects`, if they aren't open yet.
+    fn open(&mut self, git: &Git, folder: &str) -> Result<(), ObjectsFault> {
+        if let Files::Unopened = self.files {
+            let folder = String::from_str(git.alloc, folder)?;
+            self.files = match Objects::in_folder(git.rt, folder) {
+                Ok(objects) => Files::Open(objects),
+                Err(ObjectsFault::NoMemory) => return Err(ObjectsFault::NoMemory),
+                Err(_) => Files::Refused,
+            };
+        }
+        Ok(())
+    }
+
+    /// What the files in this folder `objects` have of an object.
+    fn from_files(
+        &mut self,
+        git: &Git,
+        folder: &str,
+        wanted: Wanted,
+    ) -> Result<Option<Vec<u8>>, ObjectsFault>
+        ensures { IfOk result (λ taken. IfSome taken (λ stored. length stored.items ≤ wanted.limit)) }
+    {
+        self.open(git, folder)?;
+        match &mut self.files {
+            Files::Open(objects) => objects.take(&wanted.name, wanted.limit),
+            _ => Err(ObjectsFault::Elsewhere),
+        }
+    }
+
+    /// Takes an object by the child, which is started if there is none, and asks it ahead for the next one. After an
+    /// error there is none.
+    fn from_git(&mut self, git: &Git, wanted: Wanted) -> Result<Option<Vec<u8>>, TakeFault>
+        ensures { Takes Untold wanted.limit result }
+    {
+        let mut child = match self.child.take() {
+            Some(child) => child,
+            None => match CatFile::start(git) {
+                Ok(child) => child,
+                Err(error) => return Err(fault_of(&error)),
+            },
+        };
+        let taken = child.take(git, &wanted.name, wanted.limit);
+        if taken.is_ok() && child.ask_ahead(wanted.next) {
+            self.child = Some(child);
+        }
+        taken
+    }
+
+    /// The same where the files are broken. An object of which they have something isn't absent.
+    fn from_git_if_there(&mut self, git: &Git, wanted: Wanted) -> Result<Option<Vec<u8>>, TakeFault>
+        ensures takes { Takes Untold wanted.limit result }
+        ensures there { IfOk result (λ stored. stored ≢ None) }
+    {
+        match self.from_git(git, wanted) {
+            Ok(Some(stored)) => Ok(Some(stored)),
+            Ok(None) => Err(TakeFault::Failed),
+            Err(fault) => Err(fault),
+        }
+    }
+
+    /// The stored form of an object, from the files in this folder `objects`, or from a child of git: of a partial
+    /// clone, of a pack of another version, and of what can't be read here, git knows what becomes.
+    pub fn take(
+        &mut self,
+        git: &Git,
+        folder: &str,
+        wanted: Wanted,
+    ) -> Result<Option<Vec<u8>>, TakeFault>
+        ensures { Takes Untold wanted.limit result }
+    {
+        match self.from_files(git, folder, wanted) {
+            Ok(Some(stored)) => Ok(Some(stored)),
+            Err(ObjectsFault::TooLong) => Err(TakeFault::TooLong),
+            Err(ObjectsFault::NoMemory) => Err(TakeFault::NoMemory),
+            Err(ObjectsFault::Broken) => self.from_git_if_there(git, wanted),
+            Ok(None) | Err(ObjectsFault::Elsewhere) | Err(ObjectsFault::Unread) => {
+                self.from_git(git, wanted)
+            }
+        }
+    }
+}
