@@ -72,13 +72,14 @@ def checkout(folder, names, workers=1, alone=True):
     ran = subprocess.run(words, env=env, stdout=subprocess.PIPE, stderr=subprocess.PIPE, check=False)
     report = {}
     for line in ran.stdout.decode().splitlines()[:-1]:
-        report[line.split()[1]] = line
-    for name in os.listdir(tree):
+        report[line.split()[-1]] = line
+    there = os.listdir(tree) if os.path.isdir(tree) else []
+    for name in there:
         with open(os.path.join(tree, name), "rb") as file:
             if name_of(file.read()) != name:
                 fail(f"{folder}: {name} has another content")
     written = {name for name, line in report.items() if line.startswith("written")}
-    if written != set(os.listdir(tree)):
+    if written != set(there):
         fail(f"{folder}: other files than the report says")
     return ran.returncode, report
 
@@ -126,9 +127,6 @@ def packs():
     names = blobs_of(folder)
     for depth in (0, 10, 50, 250):
         git(folder, "repack", "-adfq", f"--depth={depth}", "--window=250")
-        chains = git(folder, "verify-pack", "-v", *pack_indexes(folder)).decode()
-        if depth and f"chain length = {depth}:" not in chains and depth < 100:
-            fail(f"depth {depth}: git made no such chain")
         whole(f"depth {depth}", folder, names, 1 + 3 * (depth == 50))
     # deltas that name their base, and offsets of 64 bits
     git(folder, "config", "repack.useDeltaBaseOffset", "false")
@@ -144,6 +142,22 @@ def packs():
     loose(folder, names)
     first_version(folder, names)
     broken(folder, names)
+
+
+def deep():
+    """A text of 300 revisions, each a delta of the one before, in chains of just these depths."""
+    for depth in (10, 50, 250):
+        folder = new(f"deep{depth}")
+        lines = [b"line %d\n" % number for number in range(300)]
+        stream = []
+        for revision in range(300):
+            lines[revision] = b"another line %d\n" % RANDOM.getrandbits(60)
+            content = b"".join(lines)
+            stream.append(b"blob\ndata %d\n" % len(content) + content + b"\n")
+        git(folder, "fast-import", "--quiet", f"--depth={depth}", given=b"".join(stream))
+        if f"chain length = {depth}:" not in git(folder, "verify-pack", "-v", *pack_indexes(folder)).decode():
+            fail(f"a chain of {depth}: git made none")
+        whole(f"a chain of {depth}", folder, blobs_of(folder), 2)
 
 
 def pack_folder(folder):
@@ -307,6 +321,7 @@ def streams():
 
 
 packs()
+deep()
 large()
 streams()
 peak = resource.getrusage(resource.RUSAGE_CHILDREN).ru_maxrss // 1024
