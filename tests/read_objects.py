@@ -243,9 +243,16 @@ def at_the_limit():
     most, more = bytes(LIMIT), bytes(LIMIT + 1)
     for content in (most, more):
         put_loose(folder, name_of(content), zlib.compress(b"blob %d\0" % len(content) + content, 1))
-    status, report = checkout(folder, [name_of(most), name_of(more)])
-    if status != 1 or not report[name_of(most)].startswith("written") or "object-too-large" not in report[name_of(more)]:
-        fail(f"contents at the limit: status {status}, {report}")
+    names = [name_of(most), name_of(more)]
+    for where in ("loose", "packed"):
+        status, report = checkout(folder, names)
+        if status != 1 or not report[names[0]].startswith("written") or "object-too-large" not in report[names[1]]:
+            fail(f"{where} contents at the limit: status {status}, {report}")
+        if where == "loose":
+            git(folder, "pack-objects", "-q", "--compression=1", "--window=0", os.path.join(pack_folder(folder), "pack"),
+                given="".join(f"{name}\n" for name in names).encode())
+            for name in names:
+                os.remove(os.path.join(folder, ".git", "objects", name[:2], name[2:]))
 
 
 # Streams
