@@ -96,9 +96,9 @@ def whole(what, folder, names, workers=1, alone=True):
 
 # Histories
 
-def history():
+def history(name="history"):
     """A repository with 60 revisions of 12 texts, of which each differs a little from the one before."""
-    folder = new("history")
+    folder = new(name)
     texts = [[b"line %d of text %d\n" % (line, text) for line in range(400)] for text in range(12)]
     stream = []
     for revision in range(60):
@@ -221,6 +221,35 @@ def broken(folder, names):
         fail("a broken pack: an object is absent")
 
 
+def damaged_packs():
+    """Packs and indexes with wrong, missing or more bytes: each path fails or is right, and the program ends as it says."""
+    folder = history("damaged")
+    names = RANDOM.sample(blobs_of(folder), 60)
+    git(folder, "repack", "-adfq", "--depth=50", "--window=250")
+    [index] = pack_indexes(folder)
+    sound = {}
+    for path in (index, index[:-3] + "pack"):
+        os.chmod(path, 0o644)
+        with open(path, "rb") as file:
+            sound[path] = file.read()
+    failed = 0
+    for number in range(60):
+        # an index is damaged in its head and its tables as often as elsewhere
+        path = list(sound)[number % 2]
+        near = len(sound[path]) if number % 4 < 2 else 1100
+        with open(path, "wb") as file:
+            file.write(damaged(sound[path], near))
+        status, report = checkout(folder, names, 1 + number % 2)
+        if status not in (0, 1):
+            fail(f"a damaged pack, number {number}: status {status}")
+        failed += sum(line.startswith("failed") for line in report.values())
+        with open(path, "wb") as file:
+            file.write(sound[path])
+    if not failed:
+        fail("damaged packs: no path failed")
+    whole("the pack as it was", folder, names)
+
+
 # Sizes
 
 def large():
@@ -296,7 +325,8 @@ def stream_of(number, content):
     return packer.compress(stored[:half]) + packer.flush(flush) + packer.compress(stored[half:]) + packer.flush()
 
 
-def damaged(stream):
+def damaged(stream, near=None):
+    """The bytes with the end cut off, with more bytes, or with a bit or two flipped, at the front if that is near enough."""
     how = RANDOM.randrange(4)
     if how == 0:
         return stream[: RANDOM.randrange(len(stream))]
@@ -304,7 +334,7 @@ def damaged(stream):
         return stream + RANDOM.randbytes(RANDOM.randrange(1, 9))
     wrong = bytearray(stream)
     for _ in range(how - 1):
-        wrong[RANDOM.randrange(len(wrong))] ^= 1 << RANDOM.randrange(8)
+        wrong[RANDOM.randrange(min(len(wrong), near or len(wrong)))] ^= 1 << RANDOM.randrange(8)
     return bytes(wrong)
 
 
@@ -328,6 +358,7 @@ def streams():
 
 
 packs()
+damaged_packs()
 deep()
 large()
 streams()
