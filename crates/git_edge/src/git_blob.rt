@@ -6,7 +6,7 @@ use edge_kit::{Blob, TakeFault};
 use std::alloc::Global;
 use std::sync::Arc;
 
-/// An object of a repository, which a process of git gives.
+/// An object of a repository, which its files give, or a process of git.
 #[derive(Drop)]
 pub struct GitBlob {
     pool: Arc<ObjectPool, Global>,

@@ -1,4 +1,4 @@
-//! A repository as git has it, read through git's own processes.
+//! A repository as git has it, read from its files and through git's own processes.
 ghost use Rattle.std.specs.Prelude.{◌≡◌, ◌+◌, ◌≤◌, IfOk, vec_len, vec_capacity};
 ghost use Rattle.edge_kit.specs.Faults.{AfterTake};
 ghost use Rattle.edge_kit.specs.Told.{Untold, Takes};
@@ -19,7 +19,7 @@ use git_tree::Keeps;
 use std::alloc::{AllocError, Global};
 use std::sync::Arc;
 
-/// A repository whose objects processes of git give.
+/// A repository whose objects its files give, and processes of git where these don't.
 #[derive(Drop)]
 pub struct GitRepo {
     git: Git,
@@ -108,7 +108,7 @@ impl GitRepo {
         )
     }
 
-    /// Ends the processes that give objects, and waits for each. No blob may be in use.
+    /// Closes the files of objects, ends the processes that give some, and waits for each. No blob may be in use.
     pub fn end(&self) {
         self.pool.end();
     }

@@ -1,7 +1,7 @@
 //! A repository as git has it: the outside of a checkout straight from a Git folder.
 //!
-//! Git itself is asked for all that it knows of the repository. Its processes give the objects, the settings and where
-//! the files are. Nothing is told of what they give, and each object counts its faults.
+//! Git itself is asked where the files are and for the settings. Objects are read from their files, and a process of
+//! git gives those that the files don't. Nothing is told of what they give, and each object counts its faults.
 #![tactic(auto)]
 
 mod attribute_files;

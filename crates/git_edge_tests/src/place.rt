@@ -9,16 +9,19 @@ use std::test::Fail;
 use std::{io, process};
 
 /// What a test's shell begins with. `git` and the program `git` of the folder are git without the settings of the user
-/// and of the system. `new` makes a repository `repo` with the object `hi`, `lend` has it borrow its objects by a quoted
-/// path, which git alone reads, and `fake` has the program do this first.
+/// and of the system. `new` makes a repository `repo` with the object `hi`, `lend` has it borrow its objects by a
+/// quoted path, which git alone reads, and `fake` has the program do this first.
 const PRELUDE: &str = r#"
 set -e
 unset GIT_DIR GIT_INDEX_FILE GIT_OBJECT_DIRECTORY GIT_ALTERNATE_OBJECT_DIRECTORIES GIT_WORK_TREE
 export HOME="$PWD" XDG_CONFIG_HOME="$PWD/git" GIT_CONFIG_NOSYSTEM=1 GIT_ATTR_NOSYSTEM=1
 export GIT_AUTHOR_NAME=a GIT_AUTHOR_EMAIL=a@b GIT_COMMITTER_NAME=a GIT_COMMITTER_EMAIL=a@b
 fake() {
-    printf '#!/bin/sh\nexport HOME="%s" XDG_CONFIG_HOME="%s/git" GIT_CONFIG_NOSYSTEM=1 GIT_ATTR_NOSYSTEM=1\n%s\nexec git "$@"\n' \
-        "$PWD" "$PWD" "$1" > git
+    {
+        echo '#!/bin/sh'
+        printf 'export HOME="%s" XDG_CONFIG_HOME="%s/git"\n' "$PWD" "$PWD"
+        printf 'export GIT_CONFIG_NOSYSTEM=1 GIT_ATTR_NOSYSTEM=1\n%s\nexec git "$@"\n' "$1"
+    } > git
     chmod +x git
 }
 new() { git init -q repo; cd repo; echo hi | git hash-object -w --stdin > ../hi; }
