@@ -1,5 +1,6 @@
 -- The program's words, and what it says of a status.
-use Rattle.std.specs.Prelude.{ℕ, ◌==◌, if◌then◌else◌, List, [], codes, slice_get, map, Option, Some, string_bytes, String}
+use Rattle.std.specs.Prelude.{ℕ, ◌==◌, if◌then◌else◌, List, [], codes, slice_get, map, Option, Some}
+use Rattle.std.specs.Prelude.{string_bytes, String}
 use Rattle.std.specs.Option.{unwrap_or}
 use Rattle.std.specs.declared.alloc.Global.{Global}
 use Rattle.checkout_engine.specs.declared.exit_status.ExitStatus.TheVariants.{Usage}

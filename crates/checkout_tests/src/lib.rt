@@ -1,8 +1,8 @@
 //! The tests of a checkout: its runs, its plan, its report and what becomes of a content.
 //!
 //! They are over the built libraries, as those of `format_tests` are: `runs`, `drivers`, `mistakes`, `many` and
-//! `children` (with filter drivers), `workers`, `meeting` (of threads), `rehearsals`, `plans`, `reports` and `conversions`. It has
-//! nothing but tests.
+//! `children` (with filter drivers), `workers`, `meeting` (of threads), `rehearsals`, `plans`, `reports` and
+//! `conversions`. It has nothing but tests.
 #![tactic(auto)]
 
 #[cfg(test)]

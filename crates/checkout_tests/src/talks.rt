@@ -7,8 +7,8 @@
 //! - `Piece`: a read gives at most so many bytes;
 //! - `Gives`: a start, and all that the driver writes, and `Fails`: a start that fails;
 //! - `Cut`: the first `send` or the first `read` of the last start's session fails;
-//! - `Sent`: what the session of the last start must be sent after the handshake, `All`: what it must be sent in all, and
-//!   `Open`: it need not be shut;
+//! - `Sent`: what the session of the last start must be sent after the handshake, `All`: what it must be sent in
+//!   all, and `Open`: it need not be shut;
 //! - `Notes`: what the desk must note of the talk, in order;
 //! - `Back`: the numbers of the paths that it must hand back.
 use crate::cases::{Case, case_of, left_by_own, session_of, set, text_of};

@@ -58,8 +58,8 @@ pub record IsFresh (w : Wire) : Type 0 where
   pub ends : w.ends ≡ 0
   pub stage : w.stage ≡ Open
 
--- The session is over, and its starter keeps it. Its count of faults rose in each of the two calls that shut it and failed,
--- and in no other.
+-- The session is over, and its starter keeps it. Its count of faults rose in each of the two calls that shut it and
+-- failed, and in no other.
 pub record IsEnded (old : StarterSeen) (last : Wire) (how : Standing) (new : LineView) : Type 0 where
   pub seen : SessionHad
   pub none : new.session ≡ None

@@ -8,7 +8,8 @@ ghost use Rattle.filter_proto.specs.Replies.{standing_after};
 ghost use Rattle.driver_line.specs.Conversations.{Exchange, First, Second, Listing, Shutting};
 ghost use Rattle.driver_line.specs.Lines.{LineView, Paths, Says, IsEnded, OpenIs, IsOpen};
 ghost use Rattle.driver_line.specs.Lines.{IsLeafAfter, MayReply};
-ghost use Rattle.driver_line.specs.Lines.{HasAnswered, SessionAfter, StandsAfter, GoesOn, NamesAre, IsLive, list_standing};
+ghost use Rattle.driver_line.specs.Lines.{HasAnswered, SessionAfter, StandsAfter, GoesOn, NamesAre, IsLive};
+ghost use Rattle.driver_line.specs.Lines.{list_standing};
 ghost use Rattle.driver_line.specs.Lines.{late_in, names_in, AreDelayed, IsListedTable, starts_of};
 
 use checkout_core::OpenCause;
@@ -144,7 +145,8 @@ impl<S: Starter> Line<S> {
         requires some { 1 ≤ length text.now }
         requires few { length text.now ≤ 4096 }
         ensures says { (p : ℕ) → (c : List ℕ) × ((paths : Paths) → paths.text p ≡ text.now
-            → paths.name p ≡ name.now → paths.content p ≡ content.now → Says paths self.old (First p result.reply c) self.new)
+            → paths.name p ≡ name.now → paths.content p ≡ content.now
+            → Says paths self.old (First p result.reply c) self.new)
             × IsLeafAfter (L.seen leaf.old) (L.seen leaf.new) result.put result.reply c }
         ensures goes { (s : SessionSeen) → self.old.session ≡ Some s
             → GoesOn s (standing_after result.reply) self.new.session }

@@ -5,8 +5,8 @@ use crate::writing::{told, write_whole};
 use edge_kit::{SendFault, Sink};
 use std::io::Write;
 
-/// A writer that is written to, such as the program's standard output. Each piece is written at once. Where the reader is
-/// slow it is waited for, also if the writer is a pipe that is set not to block.
+/// A writer that is written to, such as the program's standard output. Each piece is written at once. Where the
+/// reader is slow it is waited for, also if the writer is a pipe that is set not to block.
 #[derive(Drop)]
 pub struct OutputSink<W: Write + Drop> {
     out: Patient<W>,

@@ -100,9 +100,9 @@ pub fn says_no(value: &[u8]) -> bool {
         || value.eq_ignore_ascii_case(b"off")
 }
 
-/// The remote that a setting says a partial clone is of, as git takes it: by `remote.<name>.promisor` where that is true, by
-/// `remote.<name>.partialCloneFilter` or, as it was said before, by `extensions.partialClone`. A later setting takes
-/// nothing back.
+/// The remote that a setting says a partial clone is of, as git takes it: by `remote.<name>.promisor` where that is
+/// true, by `remote.<name>.partialCloneFilter` or, as it was said before, by `extensions.partialClone`. A later
+/// setting takes nothing back.
 fn promised_by<'a>(setting: Setting<'a>) -> Option<&'a [u8]> {
     if setting.key == b"extensions.partialclone".as_slice() {
         return setting.value;

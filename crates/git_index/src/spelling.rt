@@ -1,6 +1,7 @@
 //! The bytes of an index.
 ghost use Rattle.std.specs.Prelude.{◌≡◌, ◌++◌, ◌<◌, ◌≤◌, length, IfOk, OnOk};
-ghost use Rattle.git_index.specs.Spelling.{IsIndexText, AreEntries, CanStand, mode_number, padding, flags, more, more_flags};
+ghost use Rattle.git_index.specs.Spelling.{IsIndexText, AreEntries, CanStand, mode_number, padding, flags};
+ghost use Rattle.git_index.specs.Spelling.{more, more_flags};
 ghost use Rattle.git_index.specs.Spelling.{is_flagged, head_length, plain, plain_version, plain_spelled, plain_body};
 ghost use Rattle.git_index.specs.Spelling.{plain_text, header, bit};
 ghost use Rattle.std.specs.List.{list_any};

@@ -8,7 +8,8 @@ use Rattle.driver_host.specs.declared.work.Choice.TheVariants as choice
 use Rattle.driver_host.specs.declared.work.LateChoice.TheVariants as late
 use Rattle.driver_host.specs.Works.{WorkTold}
 use Rattle.one_shot.specs.Commands.{once_command}
-use Rattle.one_shot.specs.Onces.{OnceTold, Ended, Failing, Untold, RunsTold, RunsUntold, RunsListed, told_of, TellsEnd, TellsLong, MayFail}
+use Rattle.one_shot.specs.Onces.{OnceTold, Ended, Failing, Untold, RunsTold, RunsUntold, RunsListed, told_of}
+use Rattle.one_shot.specs.Onces.{TellsEnd, TellsLong, MayFail}
 
 -- how many bytes an output may have
 abbrev pub most_output : ℕ

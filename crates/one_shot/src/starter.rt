@@ -56,7 +56,8 @@ where
         requires { let seen = ⟦<OnceStarter<S, M, LinkOf<S, M>> as Starter>⟧.seen in
             length (seen self.old).had < 2 ^ 32 }
         ensures started { let seen = ⟦<OnceStarter<S, M, LinkOf<S, M>> as Starter>⟧.seen in
-            StartsOne (once_seen S.Link.seen ⟦<OnceWork<M::Once> as Work>⟧.told) (seen self.old) (seen self.new) result }
+            StartsOne (once_seen S.Link.seen ⟦<OnceWork<M::Once> as Work>⟧.told)
+            (seen self.old) (seen self.new) result }
         ensures serves { Serves M.told ⟦<OnceWork<M::Once> as Work>⟧.told self.old.source result }
         ensures stays { (maker : M) (keeps : Bool) (command : List ℕ)
             → RunsBy M.told maker keeps command self.old.source
