@@ -24,7 +24,9 @@ pub use listing::{
 };
 pub use packet::ReadPacket;
 pub use reply::{BreakCause, Caps, ListReply, Reply};
-pub use requests::{push_caps, push_hello, push_list, push_smudge, push_smudge_keys};
+pub use requests::{
+    push_caps, push_clean, push_clean_keys, push_hello, push_list, push_smudge, push_smudge_keys,
+};
 pub use smudge_reply::{
     GoodReply, ReplyPhase, reply_after_flush, reply_after_line, reply_after_packet, reply_of,
 };
