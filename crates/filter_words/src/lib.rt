@@ -13,7 +13,8 @@ mod words;
 
 pub use answer_state::{AnswerState, MOST_ANSWER};
 pub use handshake::{
-    HandshakePhase, handshake_after_flush, handshake_after_line, handshake_after_packet,
+    HandshakePhase, announces_clean, handshake_after_flush, handshake_after_line,
+    handshake_after_packet,
 };
 pub use laws::{
     handshake_grammar, list_grammar, one_handshake, one_list, one_reply, own_causes, reply_content,
