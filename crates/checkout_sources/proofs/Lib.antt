@@ -1,0 +1,2 @@
+mod PlanFaults
+mod Stopped

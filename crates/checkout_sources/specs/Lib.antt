@@ -1,0 +1,5 @@
+pub mod Sources
+pub mod Causes
+pub mod RefusalText
+pub mod Reading
+pub mod Attributed
