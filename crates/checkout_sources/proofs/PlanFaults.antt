@@ -66,7 +66,7 @@ blobs_next (x ∷ xs) (suc k) e there is =
     ] refl
 
 -- what memory ran out after: the blobs up to an attribute file
-part_to : (told : RepoTold) (old new : RepoSeen) (es : List Entry) (settings : Settings) (outer : OuterFiles) (k : ℕ) (e : Entry) → HasSources told es settings outer → slice_get es k ≡ Some e → is_attribute_file e ≡ true
+pub part_to : (told : RepoTold) (old new : RepoSeen) (es : List Entry) (settings : Settings) (outer : OuterFiles) (k : ℕ) (e : Entry) → HasSources told es settings outer → slice_get es k ≡ Some e → is_attribute_file e ≡ true
     → new ≡ record old { returned = old.returned ++ blobs_to es k e 0 } → IsPartRead told old new
 part_to told old new es settings outer k e sources there is seen =
     let within = slice_get_within es k e there in record {

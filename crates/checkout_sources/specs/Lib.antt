@@ -3,3 +3,4 @@ pub mod Causes
 pub mod RefusalText
 pub mod Reading
 pub mod Attributed
+pub mod CutShort

@@ -3,12 +3,14 @@
 #![tactic(auto)]
 
 mod attributed;
+mod laws;
 mod planning;
 mod refusal;
 mod sources;
 mod stop;
 
 pub use attributed::{Attributed, read_attributed};
+pub use laws::readings_leave_parts;
 pub use planning::{Planned, read_plan};
 pub use refusal::refusal_line;
 pub use sources::{Sources, read_sources};
