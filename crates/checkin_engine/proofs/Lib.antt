@@ -1,0 +1,9 @@
+pub mod KeptPaths
+mod Standing
+mod Names
+mod Checked
+mod Looked
+mod Kept
+mod Texts
+mod Finish
+mod BackAgain

@@ -1,0 +1,8 @@
+//! The tests of check-ins, over the built libraries: what becomes of a path, of its object and of the index. It has
+//! nothing but tests.
+#![tactic(auto)]
+
+#[cfg(test)]
+mod checkins;
+#[cfg(test)]
+mod many_drivers;
