@@ -23,8 +23,8 @@ use Rattle.checkin_engine.specs.declared.fate.Fate.{Fate}
 use Rattle.checkin_engine.specs.declared.reading.PathsRead.{PathsRead}
 use Rattle.checkin_engine.specs.declared.reading.Halt.{Halt}
 use Rattle.checkin_engine.specs.declared.reading.Halt.TheVariants as halt
-use Rattle.checkin_engine.specs.declared.status.Status.{Status}
-use Rattle.checkin_engine.specs.declared.status.Status.TheVariants as status
+use Rattle.checkin_engine.specs.declared.status.CheckinStatus.{CheckinStatus}
+use Rattle.checkin_engine.specs.declared.status.CheckinStatus.TheVariants as status
 use Rattle.checkin_engine.specs.Outside.{FilesSeen, KeepSeen}
 use Rattle.checkin_engine.specs.Paths.{paths_in}
 use Rattle.checkin_engine.specs.Outcomes.{Outcome, AreOutcomes, fates_of, AreKept, AreObjectsCut, IsIndexCut, AreBrokenOff, MakesNextBlob}
@@ -74,11 +74,11 @@ reports ps fates old new written = at (list_any is_failed fates) refl
     at false is = (ap (λ (b : Bool). if b then status.DoneWithFailures else status.Done) is, written)
 
 module _ (told : RepoTold) (tells : List ℕ → Told) (old new : RepoSeen) (files : FilesSeen) (keep : KeepSeen) (sink sink' : SinkSeen) where
-  abbrev ends_so : Status → Type 0
+  abbrev ends_so : CheckinStatus → Type 0
   ends_so s = EndsCheckin told tells (seen old files keep sink) (seen new files keep sink') s
 
   -- a line was to be written
-  line_ends : (line : List ℕ) (s : Status) → IsRefusedWith told line old new → WritesLine line sink sink' s → ends_so s
+  line_ends : (line : List ℕ) (s : CheckinStatus) → IsRefusedWith told line old new → WritesLine line sink sink' s → ends_so s
   line_ends line status.Refused refused written = record { line = line; has = record { refused = refused; untouched = record { files = refl; keep = refl } }; written = written }
   line_ends line status.OutputNotWritten refused cut = inl (record { line = line; has = record { refused = refused; untouched = record { files = refl; keep = refl } }; cut = cut })
   line_ends line status.OutOfMemory refused left = inl (record { repo = inr (line, refused); untouched = record { files = refl; keep = refl }; silent = left })
@@ -88,7 +88,7 @@ module _ (told : RepoTold) (tells : List ℕ → Told) (old new : RepoSeen) (fil
   line_ends line status.ReadFault refused never = absurd never
 
   -- a check-in that halted before a file was looked at
-  pub halted_ends : (h : Halt) (s : Status) → ReadsPaths told old new (Err h) → EndsHalted h sink sink' s → ends_so s
+  pub halted_ends : (h : Halt) (s : CheckinStatus) → ReadsPaths told old new (Err h) → EndsHalted h sink sink' s → ends_so s
   halted_ends (halt.Stopped (stop.Refused r)) s reads ends = line_ends (refusal_line r) s (inl (r, reads, refl)) ends
   halted_ends (halt.Stopped stop.ReadFault) s reads ends = subst ends_so (sym ends.0) (record { cause = reads; untouched = record { files = refl; keep = refl }; silent = ends.1 })
   halted_ends (halt.Stopped stop.NoMemory) s reads ends = subst ends_so (sym ends.0) (inl (record { repo = inl reads; untouched = record { files = refl; keep = refl }; silent = ends.1 }))
@@ -123,7 +123,7 @@ module _ (told : RepoTold) (tells : List ℕ → Told) (r : PathsRead) (old mid 
   }
 
   -- the index was kept, and the report was to be written
-  report_ends : (fates : List Fate) (s : Status) → AreKept told.object tells r.index r.paths.items mid new files files' keep keep' fates → WritesReport r.paths.items fates sink sink' s → EndsCheckin told tells before after s
+  report_ends : (fates : List Fate) (s : CheckinStatus) → AreKept told.object tells r.index r.paths.items mid new files files' keep keep' fates → WritesReport r.paths.items fates sink sink' s → EndsCheckin told tells before after s
   report_ends fates status.Done kept (is, written) = record { checked = checked fates kept; report = written; status = sym is }
   report_ends fates status.DoneWithFailures kept (is, written) = record { checked = checked fates kept; report = written; status = sym is }
   report_ends fates status.OutputNotWritten kept cut = inr (inr (record { checked = checked fates kept; cut = cut }))
@@ -161,7 +161,7 @@ module _ (told : RepoTold) (tells : List ℕ → Told) (r : PathsRead) (old mid 
   lengths told' same ps fates v same_paths same_fates kept =
       ap (λ (l : List CheckinPath). length l) same_paths ∙ kept_length told.object tells r.index r.paths.items mid new files files' keep keep' v.items (told_so told' same (Ok v) kept) ∙ ap (λ (l : List Fate). length l) (sym same_fates)
 
-  pub reported : (told' : RepoTold) → told' ≡ told → (ps : List CheckinPath) (fates : List Fate) (v : Vec Fate) (s : Status) → ps ≡ r.paths.items → fates ≡ v.items → KeepsAll told'.object tells r.index r.paths.items mid new files files' keep keep' (Ok v)
+  pub reported : (told' : RepoTold) → told' ≡ told → (ps : List CheckinPath) (fates : List Fate) (v : Vec Fate) (s : CheckinStatus) → ps ≡ r.paths.items → fates ≡ v.items → KeepsAll told'.object tells r.index r.paths.items mid new files files' keep keep' (Ok v)
       → WritesReport ps fates sink sink' s → EndsCheckin told tells before after s
   reported told' same ps fates v s same_paths same_fates kept writes = report_ends v.items s (told_so told' same (Ok v) kept)
       (subst (λ (l : List Fate). WritesReport r.paths.items l sink sink' s) same_fates (subst (λ (l : List CheckinPath). WritesReport l fates sink sink' s) same_paths writes))
@@ -193,7 +193,7 @@ module _ (told : RepoTold) (tells : List ℕ → Told) (old new : Seen) where
   checked_back : IsCheckedIn told tells old new → new.repo.out ≡ old.repo.out
   checked_back is = ap (λ (r : RepoSeen). r.out) is.kept.checked.looked.blobs
 
-  pub all_back : (s : Status) → EndsCheckin told tells old new s → new.repo.out ≡ old.repo.out
+  pub all_back : (s : CheckinStatus) → EndsCheckin told tells old new s → new.repo.out ≡ old.repo.out
   all_back status.Done ends = checked_back ends.checked
   all_back status.DoneWithFailures ends = checked_back ends.checked
   all_back status.Usage ends = absurd ends

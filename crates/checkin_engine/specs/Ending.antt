@@ -14,8 +14,8 @@ use Rattle.checkin_engine.specs.declared.path.CheckinPath.{CheckinPath}
 use Rattle.checkin_engine.specs.declared.reading.PathsRead.{PathsRead}
 use Rattle.checkin_engine.specs.declared.reading.Halt.{Halt}
 use Rattle.checkin_engine.specs.declared.reading.Halt.TheVariants as halt
-use Rattle.checkin_engine.specs.declared.status.Status.{Status}
-use Rattle.checkin_engine.specs.declared.status.Status.TheVariants as status
+use Rattle.checkin_engine.specs.declared.status.CheckinStatus.{CheckinStatus}
+use Rattle.checkin_engine.specs.declared.status.CheckinStatus.TheVariants as status
 use Rattle.checkin_engine.specs.Paths.{paths_in, HasPaths, is_driven}
 use Rattle.checkin_engine.specs.Looking.{IsOpen}
 use Rattle.checkin_engine.specs.Report.{report_of}
@@ -42,25 +42,25 @@ ReadsPaths told old new (Err (halt.Stopped s)) = ReadsPlan told old new (Err s)
 ReadsPaths told old new (Err halt.Driven) = IsDriven told old new
 
 -- a line was to be written: it was, or the sink failed, or memory ran out and nothing was written
-abbrev pub WritesLine : List ℕ → SinkSeen → SinkSeen → Status → Type 0
+abbrev pub WritesLine : List ℕ → SinkSeen → SinkSeen → CheckinStatus → Type 0
 WritesLine line old new status.Refused = new ≡ with_text line old
 WritesLine line old new status.OutputNotWritten = IsWriteCut line old new
 WritesLine line old new status.OutOfMemory = new ≡ old
 WritesLine line old new s = ⊥
 
 -- how a check-in ends for which nothing could be read
-abbrev pub EndsStopped : Stop → SinkSeen → SinkSeen → Status → Type 0
+abbrev pub EndsStopped : Stop → SinkSeen → SinkSeen → CheckinStatus → Type 0
 EndsStopped (stop.Refused r) old new s = WritesLine (refusal_line r) old new s
 EndsStopped stop.ReadFault old new s = (s ≡ status.ReadFault) × (new ≡ old)
 EndsStopped stop.NoMemory old new s = (s ≡ status.OutOfMemory) × (new ≡ old)
 
 -- how one ends that halted before a file was looked at
-abbrev pub EndsHalted : Halt → SinkSeen → SinkSeen → Status → Type 0
+abbrev pub EndsHalted : Halt → SinkSeen → SinkSeen → CheckinStatus → Type 0
 EndsHalted (halt.Stopped s) old new ended = EndsStopped s old new ended
 EndsHalted halt.Driven old new ended = WritesLine driven_line old new ended
 
 -- the report was to be written, in the same way
-abbrev pub WritesReport : List CheckinPath → List Fate → SinkSeen → SinkSeen → Status → Type 0
+abbrev pub WritesReport : List CheckinPath → List Fate → SinkSeen → SinkSeen → CheckinStatus → Type 0
 WritesReport ps fates old new status.Done =
     (status_of fates ≡ status.Done) × (new ≡ with_text (report_of ps fates) old)
 WritesReport ps fates old new status.DoneWithFailures =
