@@ -1,9 +1,10 @@
 -- What the parts of a check-in promise each other about its end.
-use Rattle.std.specs.Prelude.{◌≡◌, ℕ, true, false, List, Result, Ok, Err}
+use Rattle.std.specs.Prelude.{◌≡◌, ℕ, Bool, true, false, not, List, Result, Ok, Err}
 use Rattle.std.specs.List.{AllByRecursion, list_any}
 use Rattle.edge_kit.specs.Seen.{RepoSeen, SinkSeen, IsWriteCut}
 use Rattle.edge_kit.specs.Told.{RepoTold}
-use Rattle.git_index.specs.Spelling.{CanStand}
+use Rattle.std.specs.Str.{bytes_eq}
+use Rattle.git_index.specs.Spelling.{CanStand, pairwise}
 use Rattle.checkout_sources.specs.declared.attributed.Attributed.{Attributed}
 use Rattle.checkout_sources.specs.declared.stop.Stop.{Stop}
 use Rattle.checkout_sources.specs.declared.stop.Stop.TheVariants as stop
@@ -28,11 +29,16 @@ PathsOf a (Ok r) =
 PathsOf a (Err (halt.Stopped s)) = s ≡ stop.NoMemory
 PathsOf a (Err halt.Driven) = list_any is_driven (paths_in a) ≡ true
 
+-- no two paths have one name
+abbrev pub are_apart : List CheckinPath → Bool
+are_apart ps = pairwise (λ p q. not (bytes_eq p.path q.path)) ps
+
 -- the paths of the index were read, none of which a driver has
 pub record ArePathsRead (told : RepoTold) (r : PathsRead) (old new : RepoSeen) : Type 0 where
   pub has : HasPaths told r.index r.paths.items
   pub stand : CanStand r.index
   pub are_open : AllByRecursion IsOpen r.paths.items
+  pub apart : are_apart r.paths.items ≡ true
   pub seen : new ≡ after_reading r.index old
 
 -- how the reading of the paths ends

@@ -16,6 +16,7 @@ use Rattle.checkin_engine.specs.declared.status.CheckinStatus.{CheckinStatus}
 use Rattle.checkin_engine.specs.declared.status.CheckinStatus.TheVariants as status
 use Rattle.checkin_engine.specs.Outside.{FilesSeen, KeepSeen}
 use Rattle.checkin_engine.specs.Paths.{HasPaths, is_driven}
+use Rattle.checkin_engine.specs.Indexes.{new_entries}
 use Rattle.checkin_engine.specs.Outcomes.{AreKept, AreObjectsCut, IsIndexCut, AreBrokenOff, with_blobs}
 use Rattle.checkin_engine.specs.Report.{report_of, is_failed}
 
@@ -48,8 +49,8 @@ pub record IsCheckedIn (told : RepoTold) (files : List ℕ → Told) (old new : 
   pub paths : List CheckinPath
   pub has : HasPaths told entries paths
   pub fates : List Fate
-  pub kept : AreKept told.object files entries paths (after_reading entries old.repo) new.repo old.files new.files
-      old.keep new.keep fates
+  pub kept : AreKept told.object files (new_entries paths fates entries) paths (after_reading entries old.repo) new.repo
+      old.files new.files old.keep new.keep fates
 
 -- 0, or 1 if some path failed: the report was written after that
 pub record IsDone (told : RepoTold) (files : List ℕ → Told) (old new : Seen) (s : CheckinStatus) : Type 0 where
