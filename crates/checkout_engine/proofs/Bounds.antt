@@ -26,6 +26,7 @@ use Rattle.settings_view.specs.View.{settings_of}
 use Rattle.settings_view.specs.Keys.{is_key, last_value, crlf_told, eol_told, workers_told, workers_at, threshold_told, has_sha1, told}
 use Rattle.settings_view.specs.Drivers.{drivers_told}
 use Rattle.settings_view.specs.Number.{number_of, workers_of}
+use Rattle.settings_view.specs.declared.drivers.SingleRun.TheVariants.{Smudge}
 use Rattle.settings_view.specs.declared.number.Number.{Number}
 use Rattle.settings_view.specs.declared.view.Settings.{Settings}
 use Rattle.settings_view.specs.declared.view.Driver.{Driver}
@@ -96,8 +97,8 @@ workers_in (Ok x) (Ok y) (Ok n) (Ok k) true g (Ok ds) s e = (n, refl, ap workers
 
 pub settings_few : (list : List Setting) (s : Settings) → settings_of list ≡ Ok s → IsWithin16 s.workers
 settings_few list s e =
-    let same : joined (crlf_told list) (eol_told list) (workers_told list) (threshold_told list) (has_sha1 list) (BadChoice ObjectFormat) (drivers_told list) ≡ Ok s = unfold settings_of in e in
-    let found = workers_in (crlf_told list) (eol_told list) (workers_told list) (threshold_told list) (has_sha1 list) (BadChoice ObjectFormat) (drivers_told list) s same in
+    let same : joined (crlf_told list) (eol_told list) (workers_told list) (threshold_told list) (has_sha1 list) (BadChoice ObjectFormat) (drivers_told Smudge list) ≡ Ok s = unfold settings_of in e in
+    let found = workers_in (crlf_told list) (eol_told list) (workers_told list) (threshold_told list) (has_sha1 list) (BadChoice ObjectFormat) (drivers_told Smudge list) s same in
     subst IsWithin16 found.2 (told_few (last_value (is_key (codes "checkout") (codes "workers")) list) (BadNumber Workers) found.0 found.1)
 
 -- the numbers of a command are within their limits

@@ -1,5 +1,5 @@
 -- The two answers of a driver to a handshake, packet by packet.
-use Rattle.std.specs.Prelude.{◌≡◌, ℕ, false, ◌||◌, if◌then◌else◌, List, codes}
+use Rattle.std.specs.Prelude.{◌≡◌, ℕ, Bool, false, ◌||◌, if◌then◌else◌, List, codes}
 use Rattle.std.specs.Str.{bytes_eq}
 use Rattle.pkt_line.specs.Packets.{Packet, Payload, Flush}
 use Rattle.filter_words.specs.Outcomes.{outcome, limit}
@@ -42,3 +42,7 @@ handshake_start = On Server
 -- the packets are a right first answer: what follows them are capabilities
 abbrev pub IsHello : List Packet → Type 0
 IsHello packets = outcome handshake_step limit handshake_start packets ≡ On (Capabilities no_caps)
+
+-- a line of capabilities that says that the driver cleans contents too
+abbrev pub announces_clean : List ℕ → Bool
+announces_clean line = bytes_eq (without_lf line) (codes "capability=clean")

@@ -30,6 +30,13 @@ smudge_keys path name can_delay =
 abbrev pub smudge_packets : List ℕ → List ℕ → Bool → List ℕ → List Packet
 smudge_packets path name can_delay content = smudge_keys path name can_delay ++ content_packets content ++ Flush ∷ []
 
+-- the key list of a request to clean the content of a path
+abbrev pub clean_keys : List ℕ → List Packet
+clean_keys path = line (codes "command=clean") ∷ line (codes "pathname=" ++ path) ∷ Flush ∷ []
+
+abbrev pub clean_packets : List ℕ → List ℕ → List Packet
+clean_packets path content = clean_keys path ++ content_packets content ++ Flush ∷ []
+
 unfoldable pub hello_text : List ℕ
 hello_text = spelling_all hello_packets
 
@@ -54,3 +61,11 @@ first_text path name can_delay content = spelling_all (smudge_packets path name 
 -- the request for a path that was delayed and then listed
 unfoldable pub second_text : List ℕ → List ℕ → List ℕ
 second_text path name = first_text path name false []
+
+-- the key list of a request to clean, which the content follows
+unfoldable pub clean_keys_text : List ℕ → List ℕ
+clean_keys_text path = spelling_all (clean_keys path)
+
+-- the request to clean the content of a path
+unfoldable pub clean_text : List ℕ → List ℕ → List ℕ
+clean_text path content = spelling_all (clean_packets path content)

@@ -4,6 +4,7 @@ ghost use Rattle.pkt_line.specs.Packets.{Packet, Payload, Flush, size};
 ghost use Rattle.filter_words.specs.Outcomes.{outcome, limit, packet_of};
 ghost use Rattle.filter_words.specs.Words.{without_lf};
 ghost use Rattle.filter_words.specs.Handshake.{handshake_step, handshake_start, wanted_line, with_capability};
+ghost use Rattle.filter_words.specs.Handshake.{announces_clean};
 
 use crate::answer_state::AnswerState;
 use crate::packet::ReadPacket;
@@ -72,6 +73,14 @@ fn more_caps(caps: Caps, line: &[u8]) -> Caps
         smudge: caps.smudge || text == b"capability=smudge".as_slice(),
         delay: caps.delay || text == b"capability=delay".as_slice(),
     }
+}
+
+/// Whether a line of capabilities says that the driver cleans contents too: `capability=clean`. It is none of `Caps`,
+/// since a checkout asks for no clean.
+pub fn announces_clean(line: &[u8]) -> bool
+    ensures { result ≡ announces_clean line.now }
+{
+    without_end(line) == b"capability=clean".as_slice()
 }
 
 /// What one more packet makes of a handshake's two answers, with this much room for it, and the room that is left. A

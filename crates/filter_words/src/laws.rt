@@ -6,7 +6,7 @@ ghost use Rattle.filter_words.specs.Answer.{IsAnswer};
 ghost use Rattle.filter_words.specs.Grammar.{block, IsOpen, IsBroken, IsOwnCause};
 ghost use Rattle.filter_words.specs.SmudgeReply.{reply_step, reply_start, content_in};
 ghost use Rattle.filter_words.specs.Words.{last_status};
-ghost use Rattle.filter_words.specs.Requests.{first_text, keys_text, content_text};
+ghost use Rattle.filter_words.specs.Requests.{first_text, keys_text, content_text, clean_text, clean_keys_text};
 ghost use Rattle.filter_words.specs.ReplyGrammar.{IsReply, BreaksReply, joined};
 ghost use Rattle.filter_words.specs.Listing.{ListPhase, GoodList, list_step, list_start};
 ghost use Rattle.filter_words.specs.ListGrammar.{IsList, BreaksList};
@@ -177,6 +177,8 @@ pub fn own_causes()
 
 /// The request for a path is its key list and then its content, which may be sent apart.
 pub fn request_in_parts()
-    ensures { (path name : List ℕ) (d : Bool) (content : List ℕ)
+    ensures smudge { (path name : List ℕ) (d : Bool) (content : List ℕ)
         → first_text path name d content ≡ keys_text path name d ++ content_text content }
+    ensures clean { (path content : List ℕ)
+        → clean_text path content ≡ clean_keys_text path ++ content_text content }
 {}

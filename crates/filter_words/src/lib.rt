@@ -13,7 +13,8 @@ mod words;
 
 pub use answer_state::{AnswerState, MOST_ANSWER};
 pub use handshake::{
-    HandshakePhase, handshake_after_flush, handshake_after_line, handshake_after_packet,
+    HandshakePhase, announces_clean, handshake_after_flush, handshake_after_line,
+    handshake_after_packet,
 };
 pub use laws::{
     handshake_grammar, list_grammar, one_handshake, one_list, one_reply, own_causes, reply_content,
@@ -24,7 +25,9 @@ pub use listing::{
 };
 pub use packet::ReadPacket;
 pub use reply::{BreakCause, Caps, ListReply, Reply};
-pub use requests::{push_caps, push_hello, push_list, push_smudge, push_smudge_keys};
+pub use requests::{
+    push_caps, push_clean, push_clean_keys, push_hello, push_list, push_smudge, push_smudge_keys,
+};
 pub use smudge_reply::{
     GoodReply, ReplyPhase, reply_after_flush, reply_after_line, reply_after_packet, reply_of,
 };

@@ -4,13 +4,14 @@ ghost use Rattle.hex.specs.Hex.{encode_lower};
 ghost use Rattle.filter_words.specs.Requests.{line, hello_packets, caps_packets, list_packets, can_delay_line};
 ghost use Rattle.filter_words.specs.Requests.{smudge_keys, smudge_packets, hello_text, caps_text, list_text};
 ghost use Rattle.filter_words.specs.Requests.{keys_text, first_text};
+ghost use Rattle.filter_words.specs.Requests.{clean_keys, clean_packets, clean_keys_text, clean_text};
 
 use pkt_line::{push_content, push_flush, push_line};
 use std::alloc::{AllocError, Global};
 
 /// Appends what a client sends first: the lines `git-filter-client` and `version=2`, and flush.
 ///
-/// This call and the three below append texts of gitattributes(5), "Long Running Filter Process". Their only error is
+/// This call and the others here append texts of gitattributes(5), "Long Running Filter Process". Their only error is
 /// out of memory, and then `out` is as it was.
 #[tactic(auto, unfolding(crate::specs::Requests::hello_text))]
 pub fn push_hello(alloc: Global, out: &mut Vec<u8>) -> Result<(), AllocError>
@@ -87,6 +88,38 @@ pub fn push_smudge_keys(
 {
     let before = out.len();
     let pushed = push_key_packets(alloc, out, path, name, can_delay);
+    whole_or_nothing(out, before, pushed)
+}
+
+/// Appends the request to clean a content of a path of 1 to 4,096 bytes: the lines `command=clean` and
+/// `pathname=<path>`, flush, the content, and flush.
+#[tactic(auto, unfolding(crate::specs::Requests::clean_text))]
+pub fn push_clean(
+    alloc: Global,
+    out: &mut Vec<u8>,
+    path: &[u8],
+    content: &[u8],
+) -> Result<(), AllocError>
+    requires some { 1 ≤ length path.now }
+    requires few { length path.now ≤ 4096 }
+    ensures ok { OnOk result (out.new.items ≡ out.old.items ++ clean_text path.now content.now) }
+    ensures err { OnErr result (out.new.items ≡ out.old.items) }
+{
+    let before = out.len();
+    let pushed = push_clean_packets(alloc, out, path, content);
+    whole_or_nothing(out, before, pushed)
+}
+
+/// Appends the key list of such a request alone. Its content follows as for `push_smudge_keys`.
+#[tactic(auto, unfolding(crate::specs::Requests::clean_keys_text))]
+pub fn push_clean_keys(alloc: Global, out: &mut Vec<u8>, path: &[u8]) -> Result<(), AllocError>
+    requires some { 1 ≤ length path.now }
+    requires few { length path.now ≤ 4096 }
+    ensures ok { OnOk result (out.new.items ≡ out.old.items ++ clean_keys_text path.now) }
+    ensures err { OnErr result (out.new.items ≡ out.old.items) }
+{
+    let before = out.len();
+    let pushed = push_clean_key_packets(alloc, out, path);
     whole_or_nothing(out, before, pushed)
 }
 
@@ -168,6 +201,32 @@ fn push_key_packets(
     push_pathname(alloc, out, path)?;
     push_blob(alloc, out, name)?;
     push_can_delay(alloc, out, can_delay)?;
+    push_flush(alloc, out)
+}
+
+fn push_clean_packets(
+    alloc: Global,
+    out: &mut Vec<u8>,
+    path: &[u8],
+    content: &[u8],
+) -> Result<(), AllocError>
+    requires { length path.now ≤ 4096 }
+    ensures ok { OnOk result
+        (out.new.items ≡ out.old.items ++ spelling_all (clean_packets path.now content.now)) }
+    ensures err { OnErr result (take (vec_len out.old) out.new.items ≡ out.old.items) }
+{
+    push_clean_key_packets(alloc, out, path)?;
+    push_content(alloc, out, content)?;
+    push_flush(alloc, out)
+}
+
+fn push_clean_key_packets(alloc: Global, out: &mut Vec<u8>, path: &[u8]) -> Result<(), AllocError>
+    requires { length path.now ≤ 4096 }
+    ensures ok { OnOk result (out.new.items ≡ out.old.items ++ spelling_all (clean_keys path.now)) }
+    ensures err { OnErr result (take (vec_len out.old) out.new.items ≡ out.old.items) }
+{
+    push_line(alloc, out, b"command=clean")?;
+    push_pathname(alloc, out, path)?;
     push_flush(alloc, out)
 }
 

@@ -18,6 +18,7 @@ use Rattle.std.specs.declared.cmp.Ordering.TheVariants.{Less, Equal, Greater}
 use Rattle.std.specs.Cmp.Lexicographic.{slice_cmp}
 use Rattle.git_config.specs.declared.setting.Setting.{Setting}
 use Rattle.settings_view.specs.declared.drivers.Draft.{Draft}
+use Rattle.settings_view.specs.declared.drivers.SingleRun.{SingleRun}
 use Rattle.settings_view.specs.declared.view.Driver.{Driver}
 use Rattle.settings_view.specs.declared.fault.SettingFault.{SettingFault}
 use Rattle.settings_view.specs.Fault.{◌>>=◌}
@@ -50,19 +51,24 @@ smudge_more : (s : Setting) (name : List ℕ) (before : Option (Option (List ℕ
 unfolding is_driver_key
 smudge_more s name before said e = grind (arith, common_steps)
 
+clean_more : (s : Setting) (name : List ℕ) (before : Option (Option (List ℕ))) (said : Said) → command_told before ≡ said.clean
+    → command_told (later (is_driver_key name (codes "clean")) before s) ≡ (said_after s name said).clean
+unfolding is_driver_key
+clean_more s name before said e = grind (arith, common_steps)
+
 required_more : (s : Setting) (name : List ℕ) (before : Option (Option (List ℕ))) (said : Said) → required_told before ≡ said.required
     → required_told (later (is_driver_key name (codes "required")) before s) ≡ (said_after s name said).required
 unfolding is_driver_key
 required_more s name before said e = grind (arith, common_steps)
 
-said_as : Option (List ℕ) → Option (List ℕ) → Option Bool → Said
-said_as process smudge required = record { process = process; smudge = smudge; required = required }
+said_as : Option (List ℕ) → Option (List ℕ) → Option (List ℕ) → Option Bool → Said
+said_as process smudge clean required = record { process = process; smudge = smudge; clean = clean; required = required }
 
-said_is : (a b : Said) → a.process ≡ b.process → a.smudge ≡ b.smudge → a.required ≡ b.required → a ≡ b
+said_is : (a b : Said) → a.process ≡ b.process → a.smudge ≡ b.smudge → a.clean ≡ b.clean → a.required ≡ b.required → a ≡ b
 unfolding said_as
-said_is a b p m r =
-    ap (λ (x : Option (List ℕ)). said_as x a.smudge a.required) p ∙ ap (λ (x : Option (List ℕ)). said_as b.process x a.required) m
-    ∙ ap (λ (x : Option Bool). said_as b.process b.smudge x) r
+said_is a b p m l r =
+    ap (λ (x : Option (List ℕ)). said_as x a.smudge a.clean a.required) p ∙ ap (λ (x : Option (List ℕ)). said_as b.process x a.clean a.required) m
+    ∙ ap (λ (x : Option (List ℕ)). said_as b.process b.smudge x a.required) l ∙ ap (λ (x : Option Bool). said_as b.process b.smudge b.clean x) r
 
 pub said_of_more : (xs : List Setting) (i : ℕ) (d : Setting) (name : List ℕ) → i < length xs → said_of (take (i + 1) xs) name ≡ said_after (get_or xs i d) name (said_of (take i xs) name)
 unfolding said_of
@@ -70,6 +76,7 @@ said_of_more xs i d name lt =
     said_is _ _
     (ap command_told (last_value_more (is_driver_key name (codes "process")) xs i d lt) ∙ process_more (get_or xs i d) name _ (said_of (take i xs) name) refl)
     (ap command_told (last_value_more (is_driver_key name (codes "smudge")) xs i d lt) ∙ smudge_more (get_or xs i d) name _ (said_of (take i xs) name) refl)
+    (ap command_told (last_value_more (is_driver_key name (codes "clean")) xs i d lt) ∙ clean_more (get_or xs i d) name _ (said_of (take i xs) name) refl)
     (ap required_told (last_value_more (is_driver_key name (codes "required")) xs i d lt) ∙ required_more (get_or xs i d) name _ (said_of (take i xs) name) refl)
 
 -- ---- one setting put into a map
@@ -90,7 +97,7 @@ names_insert k v (e ∷ es) = names_insert_at (slice_cmp nat_cmp k.now e.0.now) 
 pub names_taken : (m n : Drafts) (s : Setting) (k : Bor (List ℕ)) (v : Draft) → Some k.now ≡ driver_name s → n.entries ≡ insert_entry name_cmp m.entries k v → names_in n ≡ with_driver (names_in m) (driver_name s)
 names_taken m n s k v named is = rw (is, ← named) (names_insert k v m.entries)
 
-pub said_by-unwrap_or : (o : Option Draft) → said_by (unwrap_or o (record { process = None; smudge = None; required = Some false })) ≡ said_if o
+pub said_by-unwrap_or : (o : Option Draft) → said_by (unwrap_or o (record { process = None; smudge = None; clean = None; required = Some false })) ≡ said_if o
 said_by-unwrap_or None = refl
 said_by-unwrap_or (Some d) = refl
 
@@ -131,40 +138,40 @@ entries_are m settings ordered names said =
 
 -- ---- the drivers
 
-abbrev pub drivers_seen : List (List ℕ × Said) → Result (List Driver) SettingFault
-drivers_seen [] = Ok []
-drivers_seen (e ∷ es) = do
-  driver ← driver_from e.0 e.1
-  drivers ← drivers_seen es
+abbrev pub drivers_seen : SingleRun → List (List ℕ × Said) → Result (List Driver) SettingFault
+drivers_seen single [] = Ok []
+drivers_seen single (e ∷ es) = do
+  driver ← driver_from single e.0 e.1
+  drivers ← drivers_seen single es
   Ok (driver ∷ drivers)
 
-drivers_seen-map : (settings : List Setting) (names : List (List ℕ)) → drivers_seen (map (entry_of settings) names) ≡ drivers_named settings names
-drivers_seen-map settings [] = refl
-drivers_seen-map settings (name ∷ names) = rw (drivers_seen-map settings names) refl
+drivers_seen-map : (single : SingleRun) (settings : List Setting) (names : List (List ℕ)) → drivers_seen single (map (entry_of settings) names) ≡ drivers_named single settings names
+drivers_seen-map single settings [] = refl
+drivers_seen-map single settings (name ∷ names) = rw (drivers_seen-map single settings names) refl
 
-abbrev pub drivers_behind : List Driver → List (List ℕ × Said) → Result (List Driver) SettingFault
-drivers_behind done es = drivers_seen es >>= λ drivers. Ok (done ++ drivers)
+abbrev pub drivers_behind : SingleRun → List Driver → List (List ℕ × Said) → Result (List Driver) SettingFault
+drivers_behind single done es = drivers_seen single es >>= λ drivers. Ok (done ++ drivers)
 
 behind_step : (done : List Driver) (driver : Driver) (r : Result (List Driver) SettingFault)
     → (r >>= λ drivers. Ok (driver ∷ drivers)) >>= (λ drivers. Ok (done ++ drivers)) ≡ (r >>= λ drivers. Ok ((done ++ driver ∷ []) ++ drivers))
 behind_step done driver (Ok drivers) = ap Ok (sym (append_assoc done (driver ∷ []) drivers))
 behind_step done driver (Err f) = refl
 
-pub driver_more : (done : List Driver) (driver : Driver) (e : List ℕ × Said) (es : List (List ℕ × Said)) → driver_from e.0 e.1 ≡ Ok driver → drivers_behind done (e ∷ es) ≡ drivers_behind (done ++ driver ∷ []) es
-driver_more done driver e es is = rw is (behind_step done driver (drivers_seen es))
+pub driver_more : (single : SingleRun) (done : List Driver) (driver : Driver) (e : List ℕ × Said) (es : List (List ℕ × Said)) → driver_from single e.0 e.1 ≡ Ok driver → drivers_behind single done (e ∷ es) ≡ drivers_behind single (done ++ driver ∷ []) es
+driver_more single done driver e es is = rw is (behind_step done driver (drivers_seen single es))
 
-pub driver_fails : (done : List Driver) (f : SettingFault) (e : List ℕ × Said) (es : List (List ℕ × Said)) → driver_from e.0 e.1 ≡ Err f → drivers_behind done (e ∷ es) ≡ Err f
-driver_fails done f e es is = rw is refl
+pub driver_fails : (single : SingleRun) (done : List Driver) (f : SettingFault) (e : List ℕ × Said) (es : List (List ℕ × Said)) → driver_from single e.0 e.1 ≡ Err f → drivers_behind single done (e ∷ es) ≡ Err f
+driver_fails single done f e es is = rw is refl
 
-pub driver_done : (done : List Driver) → drivers_behind done [] ≡ Ok done
-driver_done done = ap Ok (append-nil done)
+pub driver_done : (single : SingleRun) (done : List Driver) → drivers_behind single done [] ≡ Ok done
+driver_done single done = ap Ok (append-nil done)
 
 behind_none : (r : Result (List Driver) SettingFault) → (r >>= λ drivers. Ok ([] ++ drivers)) ≡ r
 behind_none (Ok drivers) = refl
 behind_none (Err f) = refl
 
-pub driver_none : (settings : List Setting) (names : List (List ℕ)) → drivers_named settings names ≡ drivers_behind [] (map (entry_of settings) names)
-driver_none settings names = sym (drivers_seen-map settings names) ∙ sym (behind_none (drivers_seen (map (entry_of settings) names)))
+pub driver_none : (single : SingleRun) (settings : List Setting) (names : List (List ℕ)) → drivers_named single settings names ≡ drivers_behind single [] (map (entry_of settings) names)
+driver_none single settings names = sym (drivers_seen-map single settings names) ∙ sym (behind_none (drivers_seen single (map (entry_of settings) names)))
 
 -- ---- the loop over the settings
 
@@ -186,21 +193,21 @@ said_step xs i s m n lt is before after name =
 
 -- ---- the loop over the map
 
-pub driver_start : (settings : List Setting) (m : Drafts) (es : List (Bor (List ℕ) × Draft)) (done : List Driver) → entries_seen m ≡ map (entry_of settings) (names_of settings) → es ≡ m.entries → done ≡ []
-    → drivers_told settings ≡ drivers_behind done (map entry_seen es)
-driver_start settings m es done is all none = rw (all, none, is) (driver_none settings (names_of settings))
+pub driver_start : (single : SingleRun) (settings : List Setting) (m : Drafts) (es : List (Bor (List ℕ) × Draft)) (done : List Driver) → entries_seen m ≡ map (entry_of settings) (names_of settings) → es ≡ m.entries → done ≡ []
+    → drivers_told single settings ≡ drivers_behind single done (map entry_seen es)
+driver_start single settings m es done is all none = rw (all, none, is) (driver_none single settings (names_of settings))
 
-pub driver_step : (settings : List Setting) (done next : List Driver) (driver : Driver) (e : Bor (List ℕ) × Draft) (es rest : List (Bor (List ℕ) × Draft))
-    → drivers_told settings ≡ drivers_behind done (map entry_seen es) → es ≡ e ∷ rest → driver_from e.0.now (said_by e.1) ≡ Ok driver → next ≡ done ++ driver ∷ []
-    → drivers_told settings ≡ drivers_behind next (map entry_seen rest)
-driver_step settings done next driver e es rest before taken is pushed =
-    before ∙ ap (λ (xs : List (Bor (List ℕ) × Draft)). drivers_behind done (map entry_seen xs)) taken ∙ driver_more done driver (entry_seen e) (map entry_seen rest) is
-    ∙ ap (λ (ds : List Driver). drivers_behind ds (map entry_seen rest)) (sym pushed)
+pub driver_step : (single : SingleRun) (settings : List Setting) (done next : List Driver) (driver : Driver) (e : Bor (List ℕ) × Draft) (es rest : List (Bor (List ℕ) × Draft))
+    → drivers_told single settings ≡ drivers_behind single done (map entry_seen es) → es ≡ e ∷ rest → driver_from single e.0.now (said_by e.1) ≡ Ok driver → next ≡ done ++ driver ∷ []
+    → drivers_told single settings ≡ drivers_behind single next (map entry_seen rest)
+driver_step single settings done next driver e es rest before taken is pushed =
+    before ∙ ap (λ (xs : List (Bor (List ℕ) × Draft)). drivers_behind single done (map entry_seen xs)) taken ∙ driver_more single done driver (entry_seen e) (map entry_seen rest) is
+    ∙ ap (λ (ds : List Driver). drivers_behind single ds (map entry_seen rest)) (sym pushed)
 
-pub driver_end : (settings : List Setting) (done : List Driver) (es : List (Bor (List ℕ) × Draft)) → drivers_told settings ≡ drivers_behind done (map entry_seen es) → es ≡ [] → drivers_told settings ≡ Ok done
-driver_end settings done es before none = before ∙ ap (λ (xs : List (Bor (List ℕ) × Draft)). drivers_behind done (map entry_seen xs)) none ∙ driver_done done
+pub driver_end : (single : SingleRun) (settings : List Setting) (done : List Driver) (es : List (Bor (List ℕ) × Draft)) → drivers_told single settings ≡ drivers_behind single done (map entry_seen es) → es ≡ [] → drivers_told single settings ≡ Ok done
+driver_end single settings done es before none = before ∙ ap (λ (xs : List (Bor (List ℕ) × Draft)). drivers_behind single done (map entry_seen xs)) none ∙ driver_done single done
 
-pub driver_stop : (settings : List Setting) (done : List Driver) (f : SettingFault) (e : Bor (List ℕ) × Draft) (es rest : List (Bor (List ℕ) × Draft))
-    → drivers_told settings ≡ drivers_behind done (map entry_seen es) → es ≡ e ∷ rest → driver_from e.0.now (said_by e.1) ≡ Err f → drivers_told settings ≡ Err f
-driver_stop settings done f e es rest before taken is =
-    before ∙ ap (λ (xs : List (Bor (List ℕ) × Draft)). drivers_behind done (map entry_seen xs)) taken ∙ driver_fails done f (entry_seen e) (map entry_seen rest) is
+pub driver_stop : (single : SingleRun) (settings : List Setting) (done : List Driver) (f : SettingFault) (e : Bor (List ℕ) × Draft) (es rest : List (Bor (List ℕ) × Draft))
+    → drivers_told single settings ≡ drivers_behind single done (map entry_seen es) → es ≡ e ∷ rest → driver_from single e.0.now (said_by e.1) ≡ Err f → drivers_told single settings ≡ Err f
+driver_stop single settings done f e es rest before taken is =
+    before ∙ ap (λ (xs : List (Bor (List ℕ) × Draft)). drivers_behind single done (map entry_seen xs)) taken ∙ driver_fails single done f (entry_seen e) (map entry_seen rest) is

@@ -9,10 +9,11 @@ use Rattle.std.specs.Str.{bytes_eq}
 use Rattle.std.specs.Ordering.{match_ordering, ordering_reverse}
 use Rattle.std.specs.declared.cmp.Ordering.TheVariants.{Less, Equal, Greater}
 use Rattle.git_config.specs.declared.setting.Setting.{Setting}
+use Rattle.settings_view.specs.declared.drivers.SingleRun.{SingleRun}
 use Rattle.settings_view.specs.declared.view.Driver.{Driver}
 use Rattle.settings_view.specs.declared.fault.SettingFault.{SettingFault}
 use Rattle.settings_view.specs.Fault.{◌>>=◌}
-use Rattle.settings_view.specs.Drivers.{name_order, with_name, with_driver, driver_name, is_named, speaks_of, names_of, said_of, process_by, required_driver, drivers_named, drivers_told, IsRising, StandsByName}
+use Rattle.settings_view.specs.Drivers.{name_order, with_name, with_driver, driver_name, is_named, speaks_of, names_of, said_of, single_of, process_by, required_driver, drivers_named, drivers_told, IsRising, StandsByName}
 
 IsAbove : List ℕ → List (List ℕ) → Type 0
 IsAbove n names = AllByRecursion (λ m. name_order n m ≡ Less) names
@@ -84,13 +85,13 @@ named_more name names process (Some required) (Ok ds) drivers later is =
     let rest : map (λ d. d.name) ds ≡ names = later ds refl in
     rw (e, rest) refl
 
-named : (settings : List Setting) (names : List (List ℕ)) (drivers : List Driver) → drivers_named settings names ≡ Ok drivers → map (λ d. d.name) drivers ≡ names
-named settings [] drivers is = let e : drivers ≡ [] = cc in rw e refl
-named settings (name ∷ names) drivers is =
-    named_more name names (process_by (said_of settings name).process (said_of settings name).smudge) (said_of settings name).required (drivers_named settings names) drivers (λ ds. named settings names ds) is
+named : (single : SingleRun) (settings : List Setting) (names : List (List ℕ)) (drivers : List Driver) → drivers_named single settings names ≡ Ok drivers → map (λ d. d.name) drivers ≡ names
+named single settings [] drivers is = let e : drivers ≡ [] = cc in rw e refl
+named single settings (name ∷ names) drivers is =
+    named_more name names (process_by (said_of settings name).process (single_of single (said_of settings name))) (said_of settings name).required (drivers_named single settings names) drivers (λ ds. named single settings names ds) is
 
-pub drivers_stand_by_name : (settings : List Setting) (drivers : List Driver) → drivers_told settings ≡ Ok drivers → StandsByName drivers
-drivers_stand_by_name settings drivers is = rw (named settings (names_of settings) drivers is) (names_of-rises settings)
+pub drivers_stand_by_name : (single : SingleRun) (settings : List Setting) (drivers : List Driver) → drivers_told single settings ≡ Ok drivers → StandsByName drivers
+drivers_stand_by_name single settings drivers is = rw (named single settings (names_of settings) drivers is) (names_of-rises settings)
 
 -- ---- a name is among them if some setting has it
 

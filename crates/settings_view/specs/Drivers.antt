@@ -9,6 +9,8 @@ use Rattle.std.specs.Cmp.Lexicographic.{slice_cmp}
 use Rattle.std.specs.List.Sorted.{IsStrictlySortedBy}
 use Rattle.byte_path.specs.Characters.{nul, is_nul}
 use Rattle.git_config.specs.declared.setting.Setting.{Setting}
+use Rattle.settings_view.specs.declared.drivers.SingleRun.{SingleRun}
+use Rattle.settings_view.specs.declared.drivers.SingleRun.TheVariants.{Smudge, Clean}
 use Rattle.settings_view.specs.declared.fault.KeyId.TheVariants.{Required}
 use Rattle.settings_view.specs.declared.fault.SettingFault.{SettingFault}
 use Rattle.settings_view.specs.declared.fault.SettingFault.TheVariants.{BadBool}
@@ -61,10 +63,10 @@ abbrev pub command_told : Option (Option (List ℕ)) → Option (List ℕ)
 command_told None = None
 command_told (Some value) = command_text (text_of value)
 
--- what runs a driver: its `process`, or else a NUL and its `smudge`
+-- what runs a driver: its `process`, or else a NUL and the command of a single run
 abbrev pub process_by : Option (List ℕ) → Option (List ℕ) → Option (List ℕ)
-process_by (Some process) smudge = Some process
-process_by None (Some smudge) = Some (nul ∷ smudge)
+process_by (Some process) single = Some process
+process_by None (Some single) = Some (nul ∷ single)
 process_by None None = None
 
 -- a driver isn't required if nothing says so
@@ -76,13 +78,20 @@ required_told (Some value) = bool_of value
 pub record Said : Type 0 where
   pub process : Option (List ℕ)
   pub smudge : Option (List ℕ)
+  pub clean : Option (List ℕ)
   pub required : Option Bool
 
--- what the last values of its three keys say of a driver
+-- the command of a single run, by what it does
+abbrev pub single_of : SingleRun → Said → Option (List ℕ)
+single_of Smudge said = said.smudge
+single_of Clean said = said.clean
+
+-- what the last values of its four keys say of a driver
 unfoldable pub said_of : List Setting → List ℕ → Said
 said_of settings name = record {
   process = command_told (last_value (is_driver_key name (codes "process")) settings);
   smudge = command_told (last_value (is_driver_key name (codes "smudge")) settings);
+  clean = command_told (last_value (is_driver_key name (codes "clean")) settings);
   required = required_told (last_value (is_driver_key name (codes "required")) settings);
 }
 
@@ -91,20 +100,21 @@ abbrev pub required_driver : List ℕ → Option (List ℕ) → Option Bool → 
 required_driver name process None = Err (BadBool Required)
 required_driver name process (Some required) = Ok (record { name = name; process = process; required = required })
 
-abbrev pub driver_from : List ℕ → Said → Result Driver SettingFault
-driver_from name said = required_driver name (process_by said.process said.smudge) said.required
+abbrev pub driver_from : SingleRun → List ℕ → Said → Result Driver SettingFault
+driver_from single name said =
+    required_driver name (process_by said.process (single_of single said)) said.required
 
 -- the drivers of these names, or the first fault
-abbrev pub drivers_named : List Setting → List (List ℕ) → Result (List Driver) SettingFault
-drivers_named settings [] = Ok []
-drivers_named settings (name ∷ names) = do
-  driver ← driver_from name (said_of settings name)
-  drivers ← drivers_named settings names
+abbrev pub drivers_named : SingleRun → List Setting → List (List ℕ) → Result (List Driver) SettingFault
+drivers_named single settings [] = Ok []
+drivers_named single settings (name ∷ names) = do
+  driver ← driver_from single name (said_of settings name)
+  drivers ← drivers_named single settings names
   Ok (driver ∷ drivers)
 
 -- the drivers in order of name
-abbrev pub drivers_told : List Setting → Result (List Driver) SettingFault
-drivers_told settings = drivers_named settings (names_of settings)
+abbrev pub drivers_told : SingleRun → List Setting → Result (List Driver) SettingFault
+drivers_told single settings = drivers_named single settings (names_of settings)
 
 abbrev pub IsRising : List (List ℕ) → Type 0
 IsRising names = IsStrictlySortedBy name_order names

@@ -15,12 +15,13 @@ abbrev pub said_by : Draft → Said
 said_by d = record {
   process = option_copied d.process;
   smudge = option_copied d.smudge;
+  clean = option_copied d.clean;
   required = d.required;
 }
 
 -- what is said of a driver, which is nothing before its first setting
 abbrev pub said_if : Option Draft → Said
-said_if None = record { process = None; smudge = None; required = Some false }
+said_if None = record { process = None; smudge = None; clean = None; required = Some false }
 said_if (Some d) = said_by d
 
 abbrev pub Drafts : Type 0
@@ -53,6 +54,7 @@ abbrev pub said_with : Setting → Said → Said
 said_with s said = record {
   process = if bytes_eq s.key (codes "process") then command_told (Some s.value) else said.process;
   smudge = if bytes_eq s.key (codes "smudge") then command_told (Some s.value) else said.smudge;
+  clean = if bytes_eq s.key (codes "clean") then command_told (Some s.value) else said.clean;
   required = if bytes_eq s.key (codes "required") then bool_of s.value else said.required;
 }
 

@@ -3,7 +3,7 @@ ghost use Rattle.std.specs.Prelude.{◌≡◌, ◌∷◌, ℕ, List, Some, IfOk,
 ghost use Rattle.byte_path.specs.Characters.{nul};
 ghost use Rattle.settings_view.specs.Fault.{Gives};
 ghost use Rattle.settings_view.specs.Drivers.{driver_name, with_driver, names_of, is_command, command_told};
-ghost use Rattle.settings_view.specs.Drivers.{process_by, driver_from, drivers_told, StandsByName};
+ghost use Rattle.settings_view.specs.Drivers.{process_by, single_of, driver_from, drivers_told, StandsByName};
 ghost use Rattle.settings_view.specs.Seen.{said_by, said_at, said_with, said_after, names_in, entries_seen};
 ghost use Rattle.settings_view.specs.Seen.{entry_of, IsInOrder};
 
@@ -15,11 +15,19 @@ use git_config::Setting;
 use std::alloc::{AllocError, Global};
 use std::collections::BTreeMap;
 
+/// What the command of a single run does, for a driver without a `process`.
+#[derive(Clone, Copy)]
+pub enum SingleRun {
+    Smudge,
+    Clean,
+}
+
 /// What the settings so far say of a driver.
 #[derive(Clone, Copy)]
 struct Draft<'a> {
     process: Option<&'a [u8]>,
     smudge: Option<&'a [u8]>,
+    clean: Option<&'a [u8]>,
     /// `None` if the value is no truth value.
     required: Option<bool>,
 }
@@ -55,6 +63,16 @@ fn command_told(value: &Option<Bytes>) -> Option<&[u8]>
 }
 
 impl<'a> Draft<'a> {
+    /// The command of a single run.
+    fn single(self, single: SingleRun) -> Option<&'a [u8]>
+        ensures { option_copied result ≡ single_of single (said_by self.entry) }
+    {
+        match single {
+            SingleRun::Smudge => self.smudge,
+            SingleRun::Clean => self.clean,
+        }
+    }
+
     /// What the settings say with one more setting of the driver.
     fn with(self, setting: &'a Setting) -> Draft<'a>
         ensures { said_by result ≡ said_with setting.now (said_by self.entry) }
@@ -70,6 +88,11 @@ impl<'a> Draft<'a> {
                 command_told(&setting.value)
             } else {
                 self.smudge
+            },
+            clean: if key == b"clean".as_slice() {
+                command_told(&setting.value)
+            } else {
+                self.clean
             },
             required: if key == b"required".as_slice() {
                 bool_of(&setting.value)
@@ -96,6 +119,7 @@ fn take_setting<'a>(
     let draft = drafts.get(&name).copied().unwrap_or(Draft {
         process: None,
         smudge: None,
+        clean: None,
         required: Some(false),
     });
     drafts.insert(name, draft.with(setting))?;
@@ -122,29 +146,34 @@ fn single_run(alloc: Global, command: &[u8]) -> Result<Bytes, AllocError>
     Ok(Bytes::from_vec(text))
 }
 
-/// What runs a driver: its `process`, or else its `smudge`, once for each content.
+/// What runs a driver: its `process`, or else the command of a single run, once for each content.
 fn process_by(
     alloc: Global,
     process: Option<&[u8]>,
-    smudge: Option<&[u8]>,
+    single: Option<&[u8]>,
 ) -> Result<Option<Bytes>, AllocError>
-    ensures { IfOk result (λ text. text ≡ process_by (option_copied process.entry) (option_copied smudge.entry)) }
+    ensures { IfOk result (λ text. text ≡ process_by (option_copied process.entry) (option_copied single.entry)) }
 {
-    match (process, smudge) {
+    match (process, single) {
         (Some(process), _) => Ok(Some(Bytes::copy_of(alloc, process)?)),
-        (None, Some(smudge)) => Ok(Some(single_run(alloc, smudge)?)),
+        (None, Some(single)) => Ok(Some(single_run(alloc, single)?)),
         (None, None) => Ok(None),
     }
 }
 
-fn driver_from(alloc: Global, name: &[u8], draft: Draft) -> Result<Driver, SettingFault>
-    ensures { Gives (λ d. d) result (driver_from name.now (said_by draft.entry)) }
+fn driver_from(
+    alloc: Global,
+    single: SingleRun,
+    name: &[u8],
+    draft: Draft,
+) -> Result<Driver, SettingFault>
+    ensures { Gives (λ d. d) result (driver_from single name.now (said_by draft.entry)) }
 {
     let Some(required) = draft.required else {
         return Err(SettingFault::BadBool(KeyId::Required));
     };
     let name = Bytes::copy_of(alloc, name)?;
-    let process = process_by(alloc, draft.process, draft.smudge)?;
+    let process = process_by(alloc, draft.process, draft.single(single))?;
     Ok(Driver {
         name,
         process,
@@ -152,15 +181,19 @@ fn driver_from(alloc: Global, name: &[u8], draft: Draft) -> Result<Driver, Setti
     })
 }
 
-/// The filter drivers by name.
-pub fn drivers_told(alloc: Global, settings: &[Setting]) -> Result<Items<Driver>, SettingFault>
-    ensures value { Gives (λ x. x) result (drivers_told settings.now) }
+/// The filter drivers by name, each with what runs it.
+pub fn drivers_told(
+    alloc: Global,
+    single: SingleRun,
+    settings: &[Setting],
+) -> Result<Items<Driver>, SettingFault>
+    ensures value { Gives (λ x. x) result (drivers_told single settings.now) }
     ensures rising { IfOk result StandsByName }
 {
     let drafts = drafts(alloc, settings)?;
     let mut drivers = Vec::new(alloc);
     for (name, draft) in drafts {
-        drivers.push(driver_from(alloc, name, draft)?)?;
+        drivers.push(driver_from(alloc, single, name, draft)?)?;
     }
     Ok(Items::from_vec(drivers))
 }

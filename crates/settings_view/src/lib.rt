@@ -10,5 +10,5 @@ mod value;
 mod view;
 
 pub use fault::{KeyId, SettingFault};
-pub use reading::{drivers_are_those_spoken_of, settings};
+pub use reading::{cleaning_drivers, drivers_are_those_spoken_of, settings};
 pub use view::{Driver, Settings};

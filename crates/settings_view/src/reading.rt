@@ -2,14 +2,16 @@
 ghost use Rattle.std.specs.Prelude.{◌≡◌, ℕ, List, IfOk};
 ghost use Rattle.std.specs.List.{list_any};
 ghost use Rattle.std.specs.Str.{bytes_eq};
-ghost use Rattle.settings_view.specs.Drivers.{names_of, speaks_of, StandsByName};
+ghost use Rattle.settings_view.specs.Drivers.{names_of, speaks_of, drivers_told, StandsByName};
+ghost use Rattle.settings_view.specs.declared.drivers.SingleRun.TheVariants.{Clean};
 ghost use Rattle.settings_view.specs.Fault.{Gives};
 ghost use Rattle.settings_view.specs.View.{settings_of};
 
-use crate::drivers::drivers_told;
+use crate::drivers::{SingleRun, drivers_told};
 use crate::fault::{KeyId, SettingFault};
 use crate::keys::{crlf_told, eol_told, has_sha1, threshold_told, workers_told};
-use crate::view::Settings;
+use crate::view::{Driver, Settings};
+use byte_path::Items;
 use git_config::Config;
 use std::alloc::Global;
 
@@ -30,7 +32,7 @@ pub fn settings(alloc: Global, config: &Config) -> Result<Settings, SettingFault
     if !has_sha1(settings) {
         return Err(SettingFault::BadChoice(KeyId::ObjectFormat));
     }
-    let drivers = drivers_told(alloc, settings)?;
+    let drivers = drivers_told(alloc, SingleRun::Smudge, settings)?;
     Ok(Settings {
         autocrlf,
         eol,
@@ -38,6 +40,14 @@ pub fn settings(alloc: Global, config: &Config) -> Result<Settings, SettingFault
         threshold,
         drivers,
     })
+}
+
+/// The drivers as they clean contents on the way back: by `process`, or else a NUL and `clean` in place of `smudge`.
+pub fn cleaning_drivers(alloc: Global, config: &Config) -> Result<Items<Driver>, SettingFault>
+    ensures said { Gives (λ x. x) result (drivers_told Clean config.now) }
+    ensures rising { IfOk result StandsByName }
+{
+    drivers_told(alloc, SingleRun::Clean, config.settings())
 }
 
 /// The law that the names of the drivers are those that settings of `filter` have as their subsection. It does nothing.

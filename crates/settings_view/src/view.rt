@@ -8,8 +8,8 @@ pub struct Driver {
     /// The subsection of `filter` that its keys are in.
     pub name: Bytes,
     /// What runs it: `filter.<name>.process`, the command of a long-running filter process, or else a NUL and
-    /// `filter.<name>.smudge`, the command that runs once for each content. A value that is empty or holds a NUL counts
-    /// as none.
+    /// `filter.<name>.smudge`, the command that runs once for each content. On the way back that is
+    /// `filter.<name>.clean`. A value that is empty or holds a NUL counts as none.
     pub process: Option<Bytes>,
     /// `filter.<name>.required`.
     pub required: bool,

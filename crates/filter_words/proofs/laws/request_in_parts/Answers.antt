@@ -1,12 +1,12 @@
-use Rattle.std.proofs.Common.{◌∷◌, [], ◌++◌, ap, ◌∙◌, append_assoc}
-use Rattle.pkt_line.specs.Packets.{Flush}
-use Rattle.pkt_line.specs.Spelling.{spelling_all, content_packets}
-use Rattle.filter_words.specs.Requests.{smudge_keys, first_text, keys_text, content_text}
-use Rattle.filter_words.proofs.Texts.{spelling_all-append}
+use Rattle.filter_words.specs.Requests.{smudge_keys, clean_keys, first_text, keys_text, content_text}
+use Rattle.filter_words.specs.Requests.{clean_text, clean_keys_text}
+use Rattle.filter_words.proofs.Texts.{in_parts}
 use Rattle.filter_words.proofs.laws.request_in_parts.Goals as goal
 
-pub returns : goal.returns
+pub returns-clause-smudge : goal.returns-clause-smudge
 unfolding first_text keys_text content_text
-returns c path name d content =
-    ap spelling_all (append_assoc (smudge_keys path name d) (content_packets content) (Flush ∷ []))
-    ∙ spelling_all-append (smudge_keys path name d) (content_packets content ++ Flush ∷ [])
+returns-clause-smudge c path name d content = in_parts (smudge_keys path name d) content
+
+pub returns-clause-clean : goal.returns-clause-clean
+unfolding clean_text clean_keys_text content_text
+returns-clause-clean c path content = in_parts (clean_keys path) content

@@ -8,4 +8,4 @@ abbrev pub invariant-loop-name : goal.invariant-loop-name
 invariant-loop-name l =
     (goal.iterator-loop-name).can_next l.name-iterator ×
     (goal.iterator-loop-name).is_finite l.name-iterator ×
-    (drivers_told l.settings ≡ drivers_behind l.drivers.items (map entry_seen l.name-iterator))
+    (drivers_told l.single l.settings ≡ drivers_behind l.single l.drivers.items (map entry_seen l.name-iterator))
