@@ -1,5 +1,5 @@
 -- The entries that the fates in turn leave are those that the paths' fates leave.
-use Rattle.std.proofs.Common.{◌≡◌, ◌⊎◌, ℕ, suc, Bool, true, false, if◌then◌else◌, Ordering, Less, Equal, Greater, List, [], ◌∷◌, ◌++◌, map, length, Option, None, refl, sym, ap, subst, ◌∙◌, inl, inr}
+use Rattle.std.proofs.Common.{◌≡◌, ◌⊎◌, ℕ, suc, Bool, true, false, if◌then◌else◌, Ordering, Less, Equal, Greater, List, [], ◌∷◌, ◌++◌, map, length, Option, None, refl, sym, ap, subst, ◌∙◌, inl, inr, arith}
 use Rattle.std.specs.Prelude.{flat_map, not}
 use Rattle.std.specs.List.{list_all, AllByRecursion}
 use Rattle.std.specs.Ordering.{nat_cmp, is_lt, is_eq}
@@ -133,15 +133,16 @@ paths_named : (files : AttrFiles) (config : List Setting) (settings : Settings) 
 paths_named files config settings [] = refl
 paths_named files config settings (e ∷ es) = ap (λ (l : List (List ℕ)). e.path ∷ l) (paths_named files config settings es)
 
-head_of : List (List ℕ) → List ℕ
+abbrev head_of : List (List ℕ) → List ℕ
 head_of [] = []
 head_of (x ∷ xs) = x
 
-rest_of : List (List ℕ) → List (List ℕ)
+abbrev rest_of : List (List ℕ) → List (List ℕ)
 rest_of [] = []
 rest_of (x ∷ xs) = xs
 
 not_empty : (path : List ℕ) → path_fault path ≡ None → bytes_eq path [] ≡ false
+unfolding path_fault
 not_empty [] is = absurd cc
 not_empty (x ∷ xs) is = refl
 
@@ -168,12 +169,12 @@ module _ (f : List ℕ → Fate) where
 
   turn : (es : List Entry) → Turns es
   turn [] before fate ps fates at named many agrees = refl
-  turn (e ∷ es) before fate ps fates at named many agrees = by (bytes_eq e.path before) refl named
+  turn (e ∷ es) before fate ps fates at named many agrees = by (turn es) (bytes_eq e.path before) refl named
     where
-      by : (b : Bool) → bytes_eq e.path before ≡ b → names_of ps ≡ entry_names (if b then first_entries_after before es else e ∷ first_entries_after e.path es)
+      by : Turns es → (b : Bool) → bytes_eq e.path before ≡ b → names_of ps ≡ entry_names (if b then first_entries_after before es else e ∷ first_entries_after e.path es)
           → (if b then entry_after fate e ++ entries_after fate before es fates else entry_after (next_fate fates) e ++ entries_after (next_fate fates) e.path es (fates_behind fates)) ≡ by_fate f e ++ flat_map (by_fate f) es
-      by true is named = same_path e fate (entries_after fate before es fates) (flat_map (by_fate f) es) (ap f ((bytes_eq-Decides e.path before).0 is) ∙ at) (turn es before fate ps fates at named many agrees)
-      by false is named = next e es ps fates (turn es) named many agrees
+      by turns true is named = same_path e fate (entries_after fate before es fates) (flat_map (by_fate f) es) (ap f ((bytes_eq-Decides e.path before).0 is) ∙ at) (turns before fate ps fates at named many agrees)
+      by turns false is named = next e es ps fates turns named many agrees
 
   -- no path is empty, so the first fate doesn't matter
   first_turn : (es : List Entry) (ps : List CheckinPath) (fates : List Fate) → AllByRecursion IsEntry es → names_of ps ≡ entry_names (first_entries es) → length ps ≡ length fates → Agrees f ps fates
