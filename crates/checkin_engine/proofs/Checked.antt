@@ -4,12 +4,13 @@ use Rattle.std.specs.List.{AllByRecursion}
 use Rattle.std.specs.Option.{option_map}
 use Rattle.std.proofs.lemmas.List.{map-append, take-append-drop}
 use Rattle.std.proofs.Math.Seq.{take-suc}
+use Rattle.edge_kit.specs.Faults.{Rose}
 use Rattle.edge_kit.specs.Seen.{RepoSeen}
 use Rattle.edge_kit.specs.Told.{Told}
 use Rattle.checkin_engine.specs.declared.path.CheckinPath.{CheckinPath}
 use Rattle.checkin_engine.specs.declared.fate.Fate.{Fate}
 use Rattle.checkin_engine.specs.Outside.{FilesSeen, KeepSeen, IsKeepFailed, with_objects}
-use Rattle.checkin_engine.specs.Outcomes.{Outcome, IsOutcome, AreOutcomes, AreLookedAt, AreChecked, AreObjectsCut, AreBrokenOff, MakesNextBlob, object_of, objects_of, blob_back, blobs_back, failed_at, failed_paths, with_blobs}
+use Rattle.checkin_engine.specs.Outcomes.{Outcome, IsOutcome, AreOutcomes, AreLookedAt, AreChecked, AreObjectsCut, AreBrokenOff, MakesNextBlob, object_of, objects_of, blob_back, blobs_back, failed_at, failed_paths, with_blobs, HasCounted}
 use Rattle.checkin_engine.specs.Looking.{with_blob, FailsIf, IsPathLookedAt, IsOpen}
 use Rattle.checkin_engine.specs.Keeping.{IsPathChecked, IsPathCut, IsPathLeft, ArePathsChecked}
 
@@ -50,17 +51,15 @@ fails_paths : (failed : Bool) (p : CheckinPath) (files files' : FilesSeen) → F
 fails_paths true p files files' fails = fails.paths
 fails_paths false p files files' fails = ap (λ (f : FilesSeen). f.failed) fails ∙ sym (append-nil files.failed)
 
-fails_steady : (failed : Bool) (p : CheckinPath) (files files' : FilesSeen) → FailsIf failed p.path files files' → failed_at p failed ≡ [] → files' ≡ files
-fails_steady true p files files' fails none = absurd cc
-fails_steady false p files files' fails none = fails
+rose_twice : (a b c : ℕ) → Rose a b → Rose b c → Rose a c
+rose_twice a b c first second = record { kept = omega (arith, first.kept, second.kept); risen = λ below. let more : b < c = second.risen below in omega (arith, first.kept, more) }
 
-front_none : (xs ys : List (List ℕ)) → xs ++ ys ≡ [] → xs ≡ []
-front_none [] ys none = refl
-front_none (x ∷ xs) ys none = absurd cc
-
-back_none : (xs ys : List (List ℕ)) → xs ++ ys ≡ [] → ys ≡ []
-back_none [] ys none = none
-back_none (x ∷ xs) ys none = absurd cc
+-- the count of faults goes with the paths at which the files failed
+counts_more : (paths : List (List ℕ)) (failed : Bool) (p : CheckinPath) (count : ℕ) (files files' : FilesSeen) → HasCounted paths count files.faults → FailsIf failed p.path files files' → HasCounted (paths ++ failed_at p failed) count files'.faults
+counts_more [] true p count files files' counted fails = subst (λ (n : ℕ). Rose n files'.faults) counted fails.rose
+counts_more [] false p count files files' counted fails = ap (λ (f : FilesSeen). f.faults) fails ∙ counted
+counts_more (path ∷ paths) true p count files files' counted fails = rose_twice count files.faults files'.faults counted fails.rose
+counts_more (path ∷ paths) false p count files files' counted fails = subst (λ (f : FilesSeen). Rose count f.faults) (sym fails) counted
 
 -- one path more was looked at
 looked_more : (object told : List ℕ → Told) (ps : List CheckinPath) (os : List Outcome) (p : CheckinPath) (o : Outcome) (repo repo' repo'' : RepoSeen) (files files' files'' : FilesSeen) → AreOutcomes object told ps os
@@ -72,10 +71,8 @@ looked_more object told ps os p o repo repo' repo'' files files' files'' each ar
   failed = fails_paths o.failed p files' files'' is.fails ∙ ap (λ (l : List (List ℕ)). l ++ failed_at p o.failed) are.failed
       ∙ append_assoc files.failed (failed_paths ps os) (failed_at p o.failed)
       ∙ ap (λ (l : List (List ℕ)). files.failed ++ l) (sym (paths_more object told ps os p o each));
-  steady = λ none.
-      let both : failed_paths ps os ++ failed_at p o.failed ≡ [] = sym (paths_more object told ps os p o each) ∙ none in
-      ap (λ (f : FilesSeen). f.faults) (fails_steady o.failed p files' files'' is.fails (back_none (failed_paths ps os) (failed_at p o.failed) both))
-      ∙ are.steady (front_none (failed_paths ps os) (failed_at p o.failed) both);
+  counted = subst (λ (l : List (List ℕ)). HasCounted l files.faults files''.faults) (sym (paths_more object told ps os p o each))
+      (counts_more (failed_paths ps os) o.failed p files.faults files' files'' are.counted is.fails);
 }
 
 objects_told : (kept : Option (List (List ℕ × List ℕ))) (a b : List (List ℕ × List ℕ)) → option_map (λ k. k ++ b) (option_map (λ k. k ++ a) kept) ≡ option_map (λ k. k ++ (a ++ b)) kept
@@ -100,7 +97,7 @@ none_checked object told repo files keep = record {
     looked = record {
       blobs = ap (λ (l : List (List ℕ × ℕ)). record repo { returned = l }) (sym (append-nil repo.returned));
       failed = sym (append-nil files.failed);
-      steady = λ none. refl;
+      counted = refl;
     };
     objects = with_no_object keep;
   };

@@ -9,7 +9,7 @@ use Rattle.edge_kit.specs.Told.{Told, RepoTold}
 use Rattle.edge_kit.specs.declared.faults.SendFault.{SendFault}
 use Rattle.edge_kit.specs.declared.faults.SendFault.TheVariants as send
 use Rattle.git_index.specs.declared.entry.Entry.{Entry}
-use Rattle.git_index.specs.Spelling.{CanStand, EntriesCanStand}
+use Rattle.git_index.specs.Spelling.{CanStand, EntriesCanStand, PathsAreOrdered}
 use Rattle.checkout_plan.specs.Making.{blobs_of}
 use Rattle.checkout_sources.specs.declared.attributed.Attributed.{Attributed}
 use Rattle.checkout_sources.specs.declared.stop.Stop.{Stop}
@@ -23,17 +23,20 @@ use Rattle.checkin_engine.specs.declared.fate.Fate.{Fate}
 use Rattle.checkin_engine.specs.declared.reading.PathsRead.{PathsRead}
 use Rattle.checkin_engine.specs.declared.reading.Halt.{Halt}
 use Rattle.checkin_engine.specs.declared.reading.Halt.TheVariants as halt
-use Rattle.checkin_engine.specs.declared.status.Status.{Status}
-use Rattle.checkin_engine.specs.declared.status.Status.TheVariants as status
+use Rattle.checkin_engine.specs.declared.status.CheckinStatus.{CheckinStatus}
+use Rattle.checkin_engine.specs.declared.status.CheckinStatus.TheVariants as status
 use Rattle.checkin_engine.specs.Outside.{FilesSeen, KeepSeen}
-use Rattle.checkin_engine.specs.Paths.{paths_in}
+use Rattle.checkin_engine.specs.Paths.{paths_in, checkin_paths}
+use Rattle.checkin_engine.specs.Indexes.{new_entries}
+use Rattle.checkin_engine.specs.InTurn.{entries_in_turn}
 use Rattle.checkin_engine.specs.Outcomes.{Outcome, AreOutcomes, fates_of, AreKept, AreObjectsCut, IsIndexCut, AreBrokenOff, MakesNextBlob}
 use Rattle.checkin_engine.specs.Report.{report_of, is_failed}
 use Rattle.checkin_engine.specs.Looking.{IsOpen}
 use Rattle.checkin_engine.specs.Keeping.{KeepsAll}
 use Rattle.checkin_engine.specs.Ends.{Seen, seen, with_text, after_reading, status_of, driven_line, IsRefusedWith, IsCheckedIn, EndsCheckin}
-use Rattle.checkin_engine.specs.Ending.{PathsOf, ArePathsRead, ReadsPaths, WritesLine, EndsHalted, WritesReport}
+use Rattle.checkin_engine.specs.Ending.{are_apart, PathsOf, ArePathsRead, ReadsPaths, WritesLine, EndsHalted, WritesReport}
 use Rattle.checkin_engine.proofs.Texts.{paths_are_open}
+use Rattle.checkin_engine.proofs.ByPath.{paths_are_apart, in_turn}
 
 -- memory ran out once the attribute files were read
 cut_short : (told : RepoTold) (a : Attributed) (old new : RepoSeen) → AreAttributed told a old new → IsCutShort told old new
@@ -48,16 +51,17 @@ cut_short told a old new read = inr (record {
 })
 
 -- the paths of what was read, or why there are none
-pub reads_paths : (told : RepoTold) (a : Attributed) (old new : RepoSeen) (r : Result PathsRead Halt) → EntriesCanStand → AreAttributed told a old new → PathsOf a r → ReadsPaths told old new r
-reads_paths told a old new (Ok r) law read (entries, paths, none) = record {
+pub reads_paths : (told : RepoTold) (a : Attributed) (old new : RepoSeen) (r : Result PathsRead Halt) → EntriesCanStand → PathsAreOrdered → AreAttributed told a old new → PathsOf a r → ReadsPaths told old new r
+reads_paths told a old new (Ok r) law order read (entries, paths, none) = record {
   has = record { attributed = a; has = read.has; entries = entries; paths = paths };
   stand = subst CanStand (sym entries) (law read.has.sources.index.bytes a.index read.has.sources.index.is_index);
   are_open = subst (λ (ps : List CheckinPath). AllByRecursion IsOpen ps) (sym paths) (paths_are_open a.files a.config a.settings a.index none);
+  apart = subst (λ (ps : List CheckinPath). are_apart ps ≡ true) (sym paths) (paths_are_apart a.files a.config a.settings order a.index read.has.sources.index.is_index.text.rising);
   seen = read.seen ∙ ap (λ (es : List Entry). after_reading es old) (sym entries);
 }
-reads_paths told a old new (Err (halt.Stopped s)) law read is =
+reads_paths told a old new (Err (halt.Stopped s)) law order read is =
     subst (λ (s : Stop). ReadsPlan told old new (Err s)) (sym is) (cut_short told a old new read)
-reads_paths told a old new (Err halt.Driven) law read driven = record {
+reads_paths told a old new (Err halt.Driven) law order read driven = record {
   entries = a.index;
   paths = paths_in a;
   has = record { attributed = a; has = read.has; entries = refl; paths = refl };
@@ -74,11 +78,11 @@ reports ps fates old new written = at (list_any is_failed fates) refl
     at false is = (ap (λ (b : Bool). if b then status.DoneWithFailures else status.Done) is, written)
 
 module _ (told : RepoTold) (tells : List ℕ → Told) (old new : RepoSeen) (files : FilesSeen) (keep : KeepSeen) (sink sink' : SinkSeen) where
-  abbrev ends_so : Status → Type 0
+  abbrev ends_so : CheckinStatus → Type 0
   ends_so s = EndsCheckin told tells (seen old files keep sink) (seen new files keep sink') s
 
   -- a line was to be written
-  line_ends : (line : List ℕ) (s : Status) → IsRefusedWith told line old new → WritesLine line sink sink' s → ends_so s
+  line_ends : (line : List ℕ) (s : CheckinStatus) → IsRefusedWith told line old new → WritesLine line sink sink' s → ends_so s
   line_ends line status.Refused refused written = record { line = line; has = record { refused = refused; untouched = record { files = refl; keep = refl } }; written = written }
   line_ends line status.OutputNotWritten refused cut = inl (record { line = line; has = record { refused = refused; untouched = record { files = refl; keep = refl } }; cut = cut })
   line_ends line status.OutOfMemory refused left = inl (record { repo = inr (line, refused); untouched = record { files = refl; keep = refl }; silent = left })
@@ -88,7 +92,7 @@ module _ (told : RepoTold) (tells : List ℕ → Told) (old new : RepoSeen) (fil
   line_ends line status.ReadFault refused never = absurd never
 
   -- a check-in that halted before a file was looked at
-  pub halted_ends : (h : Halt) (s : Status) → ReadsPaths told old new (Err h) → EndsHalted h sink sink' s → ends_so s
+  pub halted_ends : (h : Halt) (s : CheckinStatus) → ReadsPaths told old new (Err h) → EndsHalted h sink sink' s → ends_so s
   halted_ends (halt.Stopped (stop.Refused r)) s reads ends = line_ends (refusal_line r) s (inl (r, reads, refl)) ends
   halted_ends (halt.Stopped stop.ReadFault) s reads ends = subst ends_so (sym ends.0) (record { cause = reads; untouched = record { files = refl; keep = refl }; silent = ends.1 })
   halted_ends (halt.Stopped stop.NoMemory) s reads ends = subst ends_so (sym ends.0) (inl (record { repo = inl reads; untouched = record { files = refl; keep = refl }; silent = ends.1 }))
@@ -101,9 +105,9 @@ outcomes_length object files (p ∷ ps) [] are = absurd are
 outcomes_length object files (p ∷ ps) (o ∷ os) are = ap suc (outcomes_length object files ps os are.1)
 
 -- there is a fate of each path
-kept_length : (object tells : List ℕ → Told) (es : List Entry) (ps : List CheckinPath) (repo repo' : RepoSeen) (files files' : FilesSeen) (keep keep' : KeepSeen) (fates : List Fate)
-    → AreKept object tells es ps repo repo' files files' keep keep' fates → length ps ≡ length fates
-kept_length object tells es ps repo repo' files files' keep keep' fates kept = outcomes_length object tells ps kept.outcomes kept.each ∙ ap (λ (l : List Fate). length l) kept.same
+kept_length : (object tells : List ℕ → Told) (list : List Entry) (ps : List CheckinPath) (repo repo' : RepoSeen) (files files' : FilesSeen) (keep keep' : KeepSeen) (fates : List Fate)
+    → AreKept object tells list ps repo repo' files files' keep keep' fates → length ps ≡ length fates
+kept_length object tells list ps repo repo' files files' keep keep' fates kept = outcomes_length object tells ps kept.outcomes kept.each ∙ ap (λ (l : List Fate). length l) kept.same
 
 -- what was read, and what the look at the paths left
 module _ (told : RepoTold) (tells : List ℕ → Told) (r : PathsRead) (old mid new : RepoSeen) (files files' : FilesSeen) (keep keep' : KeepSeen) (sink sink' : SinkSeen) (read : ArePathsRead told r old mid) where
@@ -113,17 +117,25 @@ module _ (told : RepoTold) (tells : List ℕ → Told) (r : PathsRead) (old mid 
   abbrev after : Seen
   after = seen new files' keep' sink'
 
-  abbrev checked : (fates : List Fate) → AreKept told.object tells r.index r.paths.items mid new files files' keep keep' fates → IsCheckedIn told tells before after
+  by_path : (fates : List Fate) → AreKept told.object tells (entries_in_turn r.index fates) r.paths.items mid new files files' keep keep' fates → entries_in_turn r.index fates ≡ new_entries r.paths.items fates r.index
+  by_path fates kept =
+      let a : Attributed = read.has.attributed in
+      in_turn a.files a.config a.settings r.index r.paths.items fates read.stand.each
+      (subst (λ (es : List Entry). r.paths.items ≡ checkin_paths a.files a.config a.settings es) (sym read.has.entries) read.has.paths) read.apart
+      (kept_length told.object tells (entries_in_turn r.index fates) r.paths.items mid new files files' keep keep' fates kept)
+
+  abbrev checked : (fates : List Fate) → AreKept told.object tells (entries_in_turn r.index fates) r.paths.items mid new files files' keep keep' fates → IsCheckedIn told tells before after
   checked fates kept = record {
     entries = r.index;
     paths = r.paths.items;
     has = read.has;
     fates = fates;
-    kept = subst (λ (m : RepoSeen). AreKept told.object tells r.index r.paths.items m new files files' keep keep' fates) read.seen kept;
+    kept = subst (λ (m : RepoSeen). AreKept told.object tells (new_entries r.paths.items fates r.index) r.paths.items m new files files' keep keep' fates) read.seen
+        (subst (λ (list : List Entry). AreKept told.object tells list r.paths.items mid new files files' keep keep' fates) (by_path fates kept) kept);
   }
 
   -- the index was kept, and the report was to be written
-  report_ends : (fates : List Fate) (s : Status) → AreKept told.object tells r.index r.paths.items mid new files files' keep keep' fates → WritesReport r.paths.items fates sink sink' s → EndsCheckin told tells before after s
+  report_ends : (fates : List Fate) (s : CheckinStatus) → AreKept told.object tells (entries_in_turn r.index fates) r.paths.items mid new files files' keep keep' fates → WritesReport r.paths.items fates sink sink' s → EndsCheckin told tells before after s
   report_ends fates status.Done kept (is, written) = record { checked = checked fates kept; report = written; status = sym is }
   report_ends fates status.DoneWithFailures kept (is, written) = record { checked = checked fates kept; report = written; status = sym is }
   report_ends fates status.OutputNotWritten kept cut = inr (inr (record { checked = checked fates kept; cut = cut }))
@@ -159,9 +171,9 @@ module _ (told : RepoTold) (tells : List ℕ → Told) (r : PathsRead) (old mid 
   -- there is a fate of each path that is reported
   pub lengths : (told' : RepoTold) → told' ≡ told → (ps : List CheckinPath) (fates : List Fate) (v : Vec Fate) → ps ≡ r.paths.items → fates ≡ v.items → KeepsAll told'.object tells r.index r.paths.items mid new files files' keep keep' (Ok v) → length ps ≡ length fates
   lengths told' same ps fates v same_paths same_fates kept =
-      ap (λ (l : List CheckinPath). length l) same_paths ∙ kept_length told.object tells r.index r.paths.items mid new files files' keep keep' v.items (told_so told' same (Ok v) kept) ∙ ap (λ (l : List Fate). length l) (sym same_fates)
+      ap (λ (l : List CheckinPath). length l) same_paths ∙ kept_length told.object tells (entries_in_turn r.index v.items) r.paths.items mid new files files' keep keep' v.items (told_so told' same (Ok v) kept) ∙ ap (λ (l : List Fate). length l) (sym same_fates)
 
-  pub reported : (told' : RepoTold) → told' ≡ told → (ps : List CheckinPath) (fates : List Fate) (v : Vec Fate) (s : Status) → ps ≡ r.paths.items → fates ≡ v.items → KeepsAll told'.object tells r.index r.paths.items mid new files files' keep keep' (Ok v)
+  pub reported : (told' : RepoTold) → told' ≡ told → (ps : List CheckinPath) (fates : List Fate) (v : Vec Fate) (s : CheckinStatus) → ps ≡ r.paths.items → fates ≡ v.items → KeepsAll told'.object tells r.index r.paths.items mid new files files' keep keep' (Ok v)
       → WritesReport ps fates sink sink' s → EndsCheckin told tells before after s
   reported told' same ps fates v s same_paths same_fates kept writes = report_ends v.items s (told_so told' same (Ok v) kept)
       (subst (λ (l : List Fate). WritesReport r.paths.items l sink sink' s) same_fates (subst (λ (l : List CheckinPath). WritesReport l fates sink sink' s) same_paths writes))
@@ -193,7 +205,7 @@ module _ (told : RepoTold) (tells : List ℕ → Told) (old new : Seen) where
   checked_back : IsCheckedIn told tells old new → new.repo.out ≡ old.repo.out
   checked_back is = ap (λ (r : RepoSeen). r.out) is.kept.checked.looked.blobs
 
-  pub all_back : (s : Status) → EndsCheckin told tells old new s → new.repo.out ≡ old.repo.out
+  pub all_back : (s : CheckinStatus) → EndsCheckin told tells old new s → new.repo.out ≡ old.repo.out
   all_back status.Done ends = checked_back ends.checked
   all_back status.DoneWithFailures ends = checked_back ends.checked
   all_back status.Usage ends = absurd ends

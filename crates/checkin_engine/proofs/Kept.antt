@@ -11,7 +11,7 @@ use Rattle.checkin_engine.specs.declared.path.CheckinPath.{CheckinPath}
 use Rattle.checkin_engine.specs.declared.fate.Fate.{Fate}
 use Rattle.checkin_engine.specs.declared.fate.Fate.TheVariants.{Same, Changed, Gone, Kept, Failed}
 use Rattle.checkin_engine.specs.Outside.{FilesSeen, KeepSeen, KeepsObject, KeepsIndex, with_objects}
-use Rattle.checkin_engine.specs.Indexes.{new_entries}
+use Rattle.checkin_engine.specs.InTurn.{entries_in_turn}
 use Rattle.checkin_engine.specs.Outcomes.{object_by, AreKept, AreObjectsCut, AreBrokenOff}
 use Rattle.checkin_engine.specs.Looking.{Looks}
 use Rattle.checkin_engine.specs.Keeping.{KeepsStored, ChecksPath, ArePathsChecked, ChecksPaths, KeepsAll, HaveNames}
@@ -63,8 +63,8 @@ module _ (told told' : RepoTold) (tells tells' : List ℕ → Told) (same_told :
       left_behind told.object tells ps repo repo'' repo'' files files'' files'' keep keep'' keep'' (fates ++ fate ∷ []) (i + 1) (goes_on (fates ++ fate ∷ []) fate checks refl)
 
 -- the text of the new index was to be kept
-pub index_keeps : (T : Type 0) (text : List ℕ) (es : List Entry) (fates : List Fate) (kept : List Entry) (old new : KeepSeen) (r : Result T SendFault) → kept ≡ new_entries es fates → text ≡ plain_text kept → KeepsIndex text old new r
-    → KeepsIndex (plain_text (new_entries es fates)) old new r
+pub index_keeps : (T : Type 0) (text : List ℕ) (es : List Entry) (fates : List Fate) (kept : List Entry) (old new : KeepSeen) (r : Result T SendFault) → kept ≡ entries_in_turn es fates → text ≡ plain_text kept → KeepsIndex text old new r
+    → KeepsIndex (plain_text (entries_in_turn es fates)) old new r
 index_keeps T text es fates kept old new r are is keeps = subst (λ (t : List ℕ). KeepsIndex {T = T} t old new r) (is ∙ ap plain_text are) keeps
 
 -- the whole, by the paths and the entries that the calls were given
@@ -84,16 +84,16 @@ module _ (object told : List ℕ → Told) (es es' : List Entry) (ps ps' : List 
   pub checked_names : HaveNames fates'
   checked_names = subst HaveNames (are.same ∙ sym same_fates) (fates_have_names object told ps are.outcomes are.each)
 
-  index_so : (T : Type 0) (keep' : KeepSeen) (r : Result T SendFault) → KeepsIndex {T = T} (plain_text (new_entries es' fates')) mid keep' r → KeepsIndex {T = T} (plain_text (new_entries es fates)) mid keep' r
-  index_so T keep' r index = subst (λ (l : List Entry). KeepsIndex {T = T} (plain_text (new_entries l fates)) mid keep' r) same_entries
-      (subst (λ (l : List Fate). KeepsIndex {T = T} (plain_text (new_entries es' l)) mid keep' r) same_fates index)
+  index_so : (T : Type 0) (keep' : KeepSeen) (r : Result T SendFault) → KeepsIndex {T = T} (plain_text (entries_in_turn es' fates')) mid keep' r → KeepsIndex {T = T} (plain_text (entries_in_turn es fates)) mid keep' r
+  index_so T keep' r index = subst (λ (l : List Entry). KeepsIndex {T = T} (plain_text (entries_in_turn l fates)) mid keep' r) same_entries
+      (subst (λ (l : List Fate). KeepsIndex {T = T} (plain_text (entries_in_turn es' l)) mid keep' r) same_fates index)
 
   -- the index was kept
-  pub all_kept : (T : Type 0) (keep' : KeepSeen) (x : T) → KeepsIndex {T = T} (plain_text (new_entries es' fates')) mid keep' (Ok x) → AreKept object told es ps repo repo' files files' keep keep' fates
+  pub all_kept : (T : Type 0) (keep' : KeepSeen) (x : T) → KeepsIndex {T = T} (plain_text (entries_in_turn es' fates')) mid keep' (Ok x) → AreKept object told (entries_in_turn es fates) ps repo repo' files files' keep keep' fates
   all_kept T keep' x index = record { outcomes = are.outcomes; same = are.same; each = are.each; mid = mid; checked = are.checked; index = index_so T keep' (Ok x) index }
 
   -- it wasn't
-  pub index_fails : (T : Type 0) (keep' : KeepSeen) (f : SendFault) → KeepsIndex {T = T} (plain_text (new_entries es' fates')) mid keep' (Err f) → KeepsAll object told es ps repo repo' files files' keep keep' (Err f)
+  pub index_fails : (T : Type 0) (keep' : KeepSeen) (f : SendFault) → KeepsIndex {T = T} (plain_text (entries_in_turn es' fates')) mid keep' (Err f) → KeepsAll object told es ps repo repo' files files' keep keep' (Err f)
   index_fails T keep' send.Failed index = inr (record { outcomes = are.outcomes; each = are.each; mid = mid; checked = are.checked; failed = index })
   index_fails T keep' send.NoMemory index =
       left_behind_all object told ps repo repo' repo' files files' files' keep keep' keep' fates (subst (λ (k : KeepSeen). ArePathsChecked object told ps repo repo' files files' keep k fates) (sym index) are)

@@ -1,5 +1,6 @@
 pub mod KeptPaths
 mod Standing
+mod ByPath
 mod Names
 mod Checked
 mod Looked

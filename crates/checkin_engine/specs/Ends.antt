@@ -12,10 +12,11 @@ use Rattle.checkout_sources.specs.Causes.{IsReadCause, IsRefusedFor, IsCutShort}
 use Rattle.checkout_sources.specs.RefusalText.{refusal_line}
 use Rattle.checkin_engine.specs.declared.path.CheckinPath.{CheckinPath}
 use Rattle.checkin_engine.specs.declared.fate.Fate.{Fate}
-use Rattle.checkin_engine.specs.declared.status.Status.{Status}
-use Rattle.checkin_engine.specs.declared.status.Status.TheVariants as status
+use Rattle.checkin_engine.specs.declared.status.CheckinStatus.{CheckinStatus}
+use Rattle.checkin_engine.specs.declared.status.CheckinStatus.TheVariants as status
 use Rattle.checkin_engine.specs.Outside.{FilesSeen, KeepSeen}
 use Rattle.checkin_engine.specs.Paths.{HasPaths, is_driven}
+use Rattle.checkin_engine.specs.Indexes.{new_entries}
 use Rattle.checkin_engine.specs.Outcomes.{AreKept, AreObjectsCut, IsIndexCut, AreBrokenOff, with_blobs}
 use Rattle.checkin_engine.specs.Report.{report_of, is_failed}
 
@@ -34,7 +35,7 @@ abbrev pub with_text : List ℕ → SinkSeen → SinkSeen
 with_text text sink = record sink { written = grown sink.written text }
 
 -- 1 if some path failed, and 0 if none did
-abbrev pub status_of : List Fate → Status
+abbrev pub status_of : List Fate → CheckinStatus
 status_of fates = if list_any is_failed fates then status.DoneWithFailures else status.Done
 
 -- once its attribute files were read, none of whose blobs failed
@@ -48,11 +49,11 @@ pub record IsCheckedIn (told : RepoTold) (files : List ℕ → Told) (old new : 
   pub paths : List CheckinPath
   pub has : HasPaths told entries paths
   pub fates : List Fate
-  pub kept : AreKept told.object files entries paths (after_reading entries old.repo) new.repo old.files new.files
-      old.keep new.keep fates
+  pub kept : AreKept told.object files (new_entries paths fates entries) paths (after_reading entries old.repo) new.repo
+      old.files new.files old.keep new.keep fates
 
 -- 0, or 1 if some path failed: the report was written after that
-pub record IsDone (told : RepoTold) (files : List ℕ → Told) (old new : Seen) (s : Status) : Type 0 where
+pub record IsDone (told : RepoTold) (files : List ℕ → Told) (old new : Seen) (s : CheckinStatus) : Type 0 where
   pub checked : IsCheckedIn told files old new
   pub report : new.sink ≡ with_text (report_of checked.paths checked.fates) old.sink
   pub status : s ≡ status_of checked.fates
@@ -150,7 +151,7 @@ pub record IsReadFault (told : RepoTold) (old new : Seen) : Type 0 where
   pub silent : new.sink ≡ old.sink
 
 -- what holds at each end
-abbrev pub EndsCheckin : RepoTold → (List ℕ → Told) → Seen → Seen → Status → Type 0
+abbrev pub EndsCheckin : RepoTold → (List ℕ → Told) → Seen → Seen → CheckinStatus → Type 0
 EndsCheckin told files old new status.Done = IsDone told files old new status.Done
 EndsCheckin told files old new status.DoneWithFailures = IsDone told files old new status.DoneWithFailures
 EndsCheckin told files old new status.Usage = ⊥
@@ -160,7 +161,7 @@ EndsCheckin told files old new status.OutOfMemory = IsOutOfMemory told files old
 EndsCheckin told files old new status.ReadFault = IsReadFault told old new
 
 -- the number of a status, which the program ends with
-abbrev pub number_of : Status → ℕ
+abbrev pub number_of : CheckinStatus → ℕ
 number_of status.Done = 0
 number_of status.DoneWithFailures = 1
 number_of status.Usage = 2

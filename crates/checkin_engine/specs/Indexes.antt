@@ -1,7 +1,8 @@
 -- The index of what was checked in.
-use Rattle.std.specs.Prelude.{ℕ, List, [], ◌∷◌, ◌++◌, if◌then◌else◌}
+use Rattle.std.specs.Prelude.{ℕ, List, [], ◌∷◌, flat_map, if◌then◌else◌}
 use Rattle.std.specs.Str.{bytes_eq}
 use Rattle.git_index.specs.declared.entry.Entry.{Entry}
+use Rattle.checkin_engine.specs.declared.path.CheckinPath.{CheckinPath}
 use Rattle.checkin_engine.specs.declared.fate.Fate.{Fate}
 use Rattle.checkin_engine.specs.declared.fate.Fate.TheVariants.{Same, Changed, Gone, Kept, Failed}
 
@@ -16,22 +17,12 @@ entry_after Same e = e ∷ []
 entry_after Kept e = e ∷ []
 entry_after (Failed cause) e = e ∷ []
 
--- the next fate, and what follows it; without one an entry stays
-abbrev pub next_fate : List Fate → Fate
-next_fate [] = Kept
-next_fate (fate ∷ fates) = fate
+-- the fate of the path with that name; the entries of any other name stay
+abbrev pub fate_at : List CheckinPath → List Fate → List ℕ → Fate
+fate_at [] fates name = Kept
+fate_at (p ∷ ps) [] name = Kept
+fate_at (p ∷ ps) (fate ∷ fates) name = if bytes_eq p.path name then fate else fate_at ps fates name
 
-abbrev pub fates_behind : List Fate → List Fate
-fates_behind [] = []
-fates_behind (fate ∷ fates) = fates
-
--- The entries after a check-in. The first entry of each path takes the path's fate. The others of an unmerged path stay.
-abbrev pub entries_after : List ℕ → List Entry → List Fate → List Entry
-entries_after before [] fates = []
-entries_after before (e ∷ es) fates =
-    if bytes_eq e.path before then e ∷ entries_after before es fates
-    else entry_after (next_fate fates) e ++ entries_after e.path es (fates_behind fates)
-
--- the same from the first entry on: no path is empty
-abbrev pub new_entries : List Entry → List Fate → List Entry
-new_entries es fates = entries_after [] es fates
+-- the entries after a check-in in which the paths came to these fates
+abbrev pub new_entries : List CheckinPath → List Fate → List Entry → List Entry
+new_entries ps fates es = flat_map (λ e. entry_after (fate_at ps fates e.path) e) es

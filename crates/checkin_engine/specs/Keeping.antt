@@ -13,6 +13,7 @@ use Rattle.checkin_engine.specs.declared.fate.Fate.TheVariants.{Same, Changed, G
 use Rattle.checkin_engine.specs.Outside.{FilesSeen, KeepSeen, IsKeepFailed, with_objects}
 use Rattle.checkin_engine.specs.Outcomes.{Outcome, AreOutcomes, AreChecked, fates_of, object_of, object_by}
 use Rattle.checkin_engine.specs.Outcomes.{MakesBlob, AreKept, AreObjectsCut, IsIndexCut, AreBrokenOff}
+use Rattle.checkin_engine.specs.InTurn.{entries_in_turn}
 use Rattle.checkin_engine.specs.Looking.{IsPathLookedAt}
 
 -- the object of a path is kept if it has changed, and nothing is done if it hasn't
@@ -79,7 +80,7 @@ ChecksPaths object told ps repo repo' files files' keep keep' (Err send.NoMemory
 abbrev pub KeepsAll : (List ℕ → Told) → (List ℕ → Told) → List Entry → List CheckinPath → RepoSeen → RepoSeen
     → FilesSeen → FilesSeen → KeepSeen → KeepSeen → Result (Vec Fate) SendFault → Type 0
 KeepsAll object told es ps repo repo' files files' keep keep' (Ok fates) =
-    AreKept object told es ps repo repo' files files' keep keep' fates.items
+    AreKept object told (entries_in_turn es fates.items) ps repo repo' files files' keep keep' fates.items
 KeepsAll object told es ps repo repo' files files' keep keep' (Err send.Failed) =
     AreObjectsCut object told ps repo repo' files files' keep keep'
     ⊎ IsIndexCut object told ps repo repo' files files' keep keep'

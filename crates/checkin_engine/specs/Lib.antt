@@ -7,6 +7,7 @@ pub mod Paths
 pub mod Fates
 pub mod Outcomes
 pub mod Indexes
+pub mod InTurn
 pub mod Report
 -- what `checkin` promises
 pub mod Words

@@ -1,6 +1,7 @@
 -- What the paths of an index come to, with what they leave in the counts of the outside.
 use Rattle.std.specs.Prelude.{◌≡◌, ◌⊎◌, ◌<◌, ℕ, Bool, true, false, List, [], ◌∷◌, ◌++◌, map, Option, Some, None}
 use Rattle.std.specs.Prelude.{if◌then◌else◌}
+use Rattle.edge_kit.specs.Faults.{Rose}
 use Rattle.edge_kit.specs.Seen.{RepoSeen}
 use Rattle.edge_kit.specs.Told.{Told, MayFail}
 use Rattle.git_index.specs.declared.entry.Entry.{Entry}
@@ -15,7 +16,6 @@ use Rattle.checkin_engine.specs.declared.fate.Fate.TheVariants.{Same, Changed, G
 use Rattle.checkin_engine.specs.declared.fate.CheckinCause.TheVariants.{Read}
 use Rattle.checkin_engine.specs.Outside.{FilesSeen, KeepSeen, IsKeepFailed, with_objects, with_index}
 use Rattle.checkin_engine.specs.Fates.{is_auto, IsThere, HasFate}
-use Rattle.checkin_engine.specs.Indexes.{new_entries}
 
 -- What a path comes to: its fate, the content of its file if it is stored, whether the files failed at it, and the count
 -- of its blob if one was made.
@@ -104,12 +104,17 @@ objects_of (o ∷ os) = object_of o ++ objects_of os
 abbrev pub with_blobs : List (List ℕ × ℕ) → RepoSeen → RepoSeen
 with_blobs blobs repo = record repo { returned = repo.returned ++ blobs }
 
+-- the count of faults is as it was, or rose if there is a path at which the files failed
+abbrev pub HasCounted : List (List ℕ) → ℕ → ℕ → Type 0
+HasCounted [] old new = new ≡ old
+HasCounted (path ∷ paths) old new = Rose old new
+
 -- The paths were looked at: their blobs were given back, and the files failed at just these.
 pub record AreLookedAt (ps : List CheckinPath) (os : List Outcome) (repo repo' : RepoSeen) (files files' : FilesSeen)
     : Type 0 where
   pub blobs : repo' ≡ with_blobs (blobs_back ps os) repo
   pub failed : files'.failed ≡ files.failed ++ failed_paths ps os
-  pub steady : failed_paths ps os ≡ [] → files'.faults ≡ files.faults
+  pub counted : HasCounted (failed_paths ps os) files.faults files'.faults
 
 -- the paths were looked at, in order, and the objects of the changed ones kept
 pub record AreChecked (ps : List CheckinPath) (os : List Outcome) (repo repo' : RepoSeen) (files files' : FilesSeen)
@@ -117,15 +122,16 @@ pub record AreChecked (ps : List CheckinPath) (os : List Outcome) (repo repo' : 
   pub looked : AreLookedAt ps os repo repo' files files'
   pub objects : keep' ≡ with_objects (objects_of os) keep
 
--- all paths were looked at and came to these fates, the objects of the changed ones were kept, and then the index
-pub record AreKept (object told : List ℕ → Told) (es : List Entry) (ps : List CheckinPath) (repo repo' : RepoSeen)
+-- All paths were looked at and came to these fates, the objects of the changed ones were kept, and then the index of
+-- these entries.
+pub record AreKept (object told : List ℕ → Told) (kept : List Entry) (ps : List CheckinPath) (repo repo' : RepoSeen)
     (files files' : FilesSeen) (keep keep' : KeepSeen) (fates : List Fate) : Type 0 where
   pub outcomes : List Outcome
   pub same : fates_of outcomes ≡ fates
   pub each : AreOutcomes object told ps outcomes
   pub mid : KeepSeen
   pub checked : AreChecked ps outcomes repo repo' files files' keep mid
-  pub index : keep' ≡ with_index (plain_text (new_entries es fates)) mid
+  pub index : keep' ≡ with_index (plain_text kept) mid
 
 -- The keeper failed at the object of a changed path. The objects of the paths before it were kept, and nothing else.
 pub record AreObjectsCut (object told : List ℕ → Told) (ps : List CheckinPath) (repo repo' : RepoSeen)

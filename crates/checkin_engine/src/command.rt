@@ -2,7 +2,7 @@
 ghost use Rattle.std.specs.Prelude.{◌≡◌, length, true, false};
 ghost use Rattle.checkin_engine.specs.Words.{is_checkin};
 ghost use Rattle.checkout_sources.specs.RefusalText.{refusal_line};
-ghost use Rattle.checkin_engine.specs.declared.status.Status.{Status};
+ghost use Rattle.checkin_engine.specs.declared.status.CheckinStatus.{CheckinStatus};
 ghost use Rattle.checkin_engine.specs.Ends.{seen, number_of, status_of, EndsCheckin};
 ghost use Rattle.checkin_engine.specs.Ending.{WritesLine, EndsStopped, EndsHalted, WritesReport};
 
@@ -13,7 +13,7 @@ use crate::keeping::keep_all;
 use crate::path::CheckinPath;
 use crate::reading::{Halt, read_paths};
 use crate::report::{has_failed, report_text};
-use crate::status::{Status, number_of};
+use crate::status::{CheckinStatus, number_of};
 use crate::words::is_checkin;
 use checkout_sources::{Refusal, Stop, refusal_line};
 use edge_kit::{Repo, SendFault, Sink, Spawner};
@@ -24,43 +24,43 @@ use std::alloc::Global;
 const DRIVEN_LINE: &[u8] = b"refused drivers unbuilt\n";
 
 /// Writes a line that says why a repository is refused.
-fn write_line<S: Sink>(out: &mut S, line: &[u8]) -> Status
+fn write_line<S: Sink>(out: &mut S, line: &[u8]) -> CheckinStatus
     ensures { WritesLine line.now (S.seen out.old) (S.seen out.new) result }
 {
     match out.write(line) {
-        Ok(()) => Status::Refused,
-        Err(SendFault::Failed) => Status::OutputNotWritten,
-        Err(SendFault::NoMemory) => Status::OutOfMemory,
+        Ok(()) => CheckinStatus::Refused,
+        Err(SendFault::Failed) => CheckinStatus::OutputNotWritten,
+        Err(SendFault::NoMemory) => CheckinStatus::OutOfMemory,
     }
 }
 
 /// Writes the line of a refusal.
-fn refuse<S: Sink>(alloc: Global, out: &mut S, refusal: &Refusal) -> Status
+fn refuse<S: Sink>(alloc: Global, out: &mut S, refusal: &Refusal) -> CheckinStatus
     ensures { WritesLine (refusal_line refusal.now) (S.seen out.old) (S.seen out.new) result }
 {
     let Ok(line) = refusal_line(alloc, refusal) else {
-        return Status::OutOfMemory;
+        return CheckinStatus::OutOfMemory;
     };
     match out.write(&line) {
-        Ok(()) => Status::Refused,
-        Err(SendFault::Failed) => Status::OutputNotWritten,
-        Err(SendFault::NoMemory) => Status::OutOfMemory,
+        Ok(()) => CheckinStatus::Refused,
+        Err(SendFault::Failed) => CheckinStatus::OutputNotWritten,
+        Err(SendFault::NoMemory) => CheckinStatus::OutOfMemory,
     }
 }
 
 /// How a check-in ends for which nothing could be read.
-fn stopped<S: Sink>(alloc: Global, out: &mut S, stop: Stop) -> Status
+fn stopped<S: Sink>(alloc: Global, out: &mut S, stop: Stop) -> CheckinStatus
     ensures { EndsStopped stop (S.seen out.old) (S.seen out.new) result }
 {
     match stop {
         Stop::Refused(refusal) => refuse(alloc, out, &refusal),
-        Stop::ReadFault => Status::ReadFault,
-        Stop::NoMemory => Status::OutOfMemory,
+        Stop::ReadFault => CheckinStatus::ReadFault,
+        Stop::NoMemory => CheckinStatus::OutOfMemory,
     }
 }
 
 /// How a check-in ends that halted before a file was looked at.
-fn halted<S: Sink>(alloc: Global, out: &mut S, halt: Halt) -> Status
+fn halted<S: Sink>(alloc: Global, out: &mut S, halt: Halt) -> CheckinStatus
     ensures { EndsHalted halt (S.seen out.old) (S.seen out.new) result }
 {
     match halt {
@@ -70,13 +70,13 @@ fn halted<S: Sink>(alloc: Global, out: &mut S, halt: Halt) -> Status
 }
 
 /// 1 if some path failed, and 0 if none did.
-fn status_of(fates: &[Fate]) -> Status
+fn status_of(fates: &[Fate]) -> CheckinStatus
     ensures { result ≡ status_of fates.now }
 {
     if has_failed(fates) {
-        Status::DoneWithFailures
+        CheckinStatus::DoneWithFailures
     } else {
-        Status::Done
+        CheckinStatus::Done
     }
 }
 
@@ -86,17 +86,17 @@ fn write_report<S: Sink>(
     out: &mut S,
     paths: &[CheckinPath],
     fates: &[Fate],
-) -> Status
+) -> CheckinStatus
     requires { length paths.now ≡ length fates.now }
     ensures { WritesReport paths.now fates.now (S.seen out.old) (S.seen out.new) result }
 {
     let Ok(text) = report_text(alloc, paths, fates) else {
-        return Status::OutOfMemory;
+        return CheckinStatus::OutOfMemory;
     };
     match out.write(&text) {
         Ok(()) => status_of(fates),
-        Err(SendFault::Failed) => Status::OutputNotWritten,
-        Err(SendFault::NoMemory) => Status::OutOfMemory,
+        Err(SendFault::Failed) => CheckinStatus::OutputNotWritten,
+        Err(SendFault::NoMemory) => CheckinStatus::OutOfMemory,
     }
 }
 
@@ -107,7 +107,7 @@ fn check_in<R: Repo, F: Files, K: Keep, S: Sink>(
     files: &mut F,
     keep: &mut K,
     out: &mut S,
-) -> Status
+) -> CheckinStatus
     ensures told { R.told repo.new ≡ R.told repo.old }
     ensures files { F.told files.new ≡ F.told files.old }
     ensures ends { EndsCheckin (R.told repo.old) (F.told files.old)
@@ -120,8 +120,8 @@ fn check_in<R: Repo, F: Files, K: Keep, S: Sink>(
     };
     match keep_all(alloc, repo, files, keep, &read) {
         Ok(fates) => write_report(alloc, out, &read.paths, &fates),
-        Err(SendFault::Failed) => Status::OutputNotWritten,
-        Err(SendFault::NoMemory) => Status::OutOfMemory,
+        Err(SendFault::Failed) => CheckinStatus::OutputNotWritten,
+        Err(SendFault::NoMemory) => CheckinStatus::OutOfMemory,
     }
 }
 
@@ -147,7 +147,7 @@ pub fn checkin<R: Repo, F: Files, P: Spawner, O: Once, K: Keep, S: Sink>(
     out: &mut S,
 ) -> u8
     // How it ends, and what holds then. It is never 2.
-    ensures ends { is_checkin words.now ≡ true → (s : Status) × (result ≡ number_of s)
+    ensures ends { is_checkin words.now ≡ true → (s : CheckinStatus) × (result ≡ number_of s)
         × EndsCheckin (R.told repo.old) (F.told files.old)
         (seen (R.seen repo.old) (F.seen files.old) (K.seen keep.old) (S.seen out.old))
         (seen (R.seen repo.new) (F.seen files.new) (K.seen keep.new) (S.seen out.new)) s }
@@ -167,7 +167,7 @@ pub fn checkin<R: Repo, F: Files, P: Spawner, O: Once, K: Keep, S: Sink>(
     ensures runs { (O.told once.new ≡ O.told once.old) × (O.faults once.new ≡ O.faults once.old) }
 {
     if !is_checkin(words) {
-        return number_of(Status::Usage);
+        return number_of(CheckinStatus::Usage);
     }
     number_of(check_in(alloc, repo, files, keep, out))
 }

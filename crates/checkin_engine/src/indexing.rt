@@ -1,6 +1,7 @@
 //! The index of what was checked in.
 ghost use Rattle.std.specs.Prelude.{◌≡◌, ◌++◌, IfOk, OnOk};
-ghost use Rattle.checkin_engine.specs.Indexes.{entry_after, new_entries, with_name, next_fate, fates_behind};
+ghost use Rattle.checkin_engine.specs.Indexes.{entry_after, with_name};
+ghost use Rattle.checkin_engine.specs.InTurn.{next_fate, fates_behind, entries_in_turn};
 
 use crate::fate::Fate;
 use byte_path::Bytes;
@@ -50,24 +51,26 @@ fn next_fate(fates: &[Fate]) -> (Fate, &[Fate])
     }
 }
 
-/// The entries after a check-in with these fates of its paths.
-pub fn new_entries(
+/// The entries after a check-in with these fates of its paths, which stand in the order of the entries.
+pub fn entries_in_turn(
     alloc: Global,
     entries: &[Entry],
     fates: &[Fate],
 ) -> Result<Vec<Entry>, AllocError>
-    ensures { IfOk result (λ kept. kept.items ≡ new_entries entries.now fates.now) }
+    ensures { IfOk result (λ kept. kept.items ≡ entries_in_turn entries.now fates.now) }
 {
     let mut kept = Vec::with_capacity(alloc, entries.len())?;
     let mut before: &[u8] = &[];
+    let mut fate = Fate::Kept;
     let mut rest = fates;
     for entry in entries {
         let path = entry.path.as_slice();
         if path == before {
-            push_after(alloc, &mut kept, entry, Fate::Kept)?;
-        } else {
-            let (fate, behind) = next_fate(rest);
             push_after(alloc, &mut kept, entry, fate)?;
+        } else {
+            let (next, behind) = next_fate(rest);
+            push_after(alloc, &mut kept, entry, next)?;
+            fate = next;
             rest = behind;
             before = path;
         }

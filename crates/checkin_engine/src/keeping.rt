@@ -3,13 +3,13 @@ ghost use Rattle.std.specs.Prelude.{◌≡◌};
 ghost use Rattle.std.specs.List.{AllByRecursion};
 ghost use Rattle.git_index.specs.Spelling.{CanStand, plain_text};
 ghost use Rattle.checkin_engine.specs.Outside.{KeepsIndex};
-ghost use Rattle.checkin_engine.specs.Indexes.{new_entries};
+ghost use Rattle.checkin_engine.specs.InTurn.{entries_in_turn};
 ghost use Rattle.checkin_engine.specs.Looking.{IsOpen};
 ghost use Rattle.checkin_engine.specs.Keeping.{ChecksPath, ChecksPaths, KeepsAll, KeepsStored, HaveNames};
 
 use crate::fate::Fate;
 use crate::files::Files;
-use crate::indexing::new_entries;
+use crate::indexing::entries_in_turn;
 use crate::keep::Keep;
 use crate::looking::{Looked, look_at};
 use crate::path::CheckinPath;
@@ -102,9 +102,9 @@ fn keep_index<K: Keep>(
 ) -> Result<(), SendFault>
     requires entries { CanStand entries.now }
     requires names { HaveNames fates.now }
-    ensures { KeepsIndex (plain_text (new_entries entries.now fates.now)) (K.seen keep.old) (K.seen keep.new) result }
+    ensures { KeepsIndex (plain_text (entries_in_turn entries.now fates.now)) (K.seen keep.old) (K.seen keep.new) result }
 {
-    let Ok(kept) = new_entries(alloc, entries, fates) else {
+    let Ok(kept) = entries_in_turn(alloc, entries, fates) else {
         return Err(SendFault::NoMemory);
     };
     let Ok(text) = spell_entries(alloc, &kept) else {

@@ -8,7 +8,7 @@ use crate::path::CheckinPath;
 use crate::paths::{checkin_paths, is_driven};
 use checkout_sources::{Attributed, Stop, read_attributed};
 use edge_kit::Repo;
-use git_index::{Index, entries_can_stand};
+use git_index::{Index, entries_can_stand, paths_are_ordered};
 use std::alloc::Global;
 
 /// An index and its paths.
@@ -57,6 +57,7 @@ pub fn read_paths<R: Repo>(alloc: Global, repo: &mut R) -> Result<PathsRead, Hal
     ensures reads { ReadsPaths (R.told repo.old) (R.seen repo.old) (R.seen repo.new) result }
 {
     entries_can_stand();
+    paths_are_ordered();
     match read_attributed(alloc, repo) {
         Ok(attributed) => paths_of(alloc, attributed),
         Err(stop) => Err(Halt::Stopped(stop)),

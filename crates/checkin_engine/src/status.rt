@@ -3,7 +3,7 @@ ghost use Rattle.checkin_engine.specs.Ends.{number_of};
 
 /// How a check-in ends. The number of each is the status that the program ends with.
 #[derive(Clone, Copy)]
-pub enum Status {
+pub enum CheckinStatus {
     Done = 0,
     /// Some path failed.
     DoneWithFailures = 1,
@@ -17,7 +17,7 @@ pub enum Status {
 }
 
 /// The number of a status, which the program ends with.
-pub fn number_of(status: Status) -> u8
+pub fn number_of(status: CheckinStatus) -> u8
     ensures { result ≡ number_of status }
 {
     status as u8

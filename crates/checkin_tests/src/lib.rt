@@ -3,6 +3,12 @@
 #![tactic(auto)]
 
 #[cfg(test)]
+mod cases;
+#[cfg(test)]
 mod checkins;
 #[cfg(test)]
-mod many_drivers;
+mod index;
+#[cfg(test)]
+mod long_files;
+#[cfg(test)]
+mod table;
