@@ -59,7 +59,7 @@ impl<K: Link> Model for CleanSession<K> {
 }
 
 impl<K: Link> CleanSession<K> {
-    /// Opens a session over a link, as `Session::begin` does. It is live if a line of the driver's second answer is
+    /// Opens a session over a link, as `Session::begin` does. After a good handshake it is live if a line of that is
     /// `capability=clean`, and `NoClean` if none is.
     pub fn begin(alloc: Global, link: K) -> CleanBegun<K>
         ensures live { (s : SessionSeen) → result ≡ CleanBegun.Live s
@@ -67,16 +67,21 @@ impl<K: Link> CleanSession<K> {
         ensures standing { (s : SessionSeen) → result ≡ CleanBegun.Live s → s.standing ≡ Standing.Live }
         ensures no_clean { (l : K) → result ≡ CleanBegun.NoClean l → (unread : List ℕ) × (caps : Caps)
             × Announces false (wire_of [] (K.seen link)) (wire_of unread (K.seen l)) caps }
-        ensures live_told { (s : SessionSeen) → result ≡ CleanBegun.Live s → TellsClean true (wire_of [] (K.seen link)) }
-        ensures no_clean_told { (l : K) → result ≡ CleanBegun.NoClean l → TellsClean false (wire_of [] (K.seen link)) }
+        ensures live_told { (s : SessionSeen) → result ≡ CleanBegun.Live s
+            → TellsClean true (wire_of [] (K.seen link)) }
+        ensures no_clean_told { (l : K) → result ≡ CleanBegun.NoClean l
+            → TellsClean false (wire_of [] (K.seen link)) }
         ensures broken { (l : K) (why : BreakCause) → result ≡ CleanBegun.Broken l why
-            → (unread : List ℕ) × IsOpening (wire_of [] (K.seen link)) (wire_of unread (K.seen l)) (Broke why) }
+            → (unread : List ℕ)
+            × IsOpening (wire_of [] (K.seen link)) (wire_of unread (K.seen l)) (Broke why) }
         ensures live_complete { (s : SessionSeen) → result ≡ CleanBegun.Live s
             → IsComplete handshake_step handshake_start (wire_of [] (K.seen link)) s.wire (Good s.caps) }
         ensures broken_complete { (l : K) (why : BreakCause) → result ≡ CleanBegun.Broken l why
-            → IsComplete handshake_step handshake_start (wire_of [] (K.seen link)) (wire_of [] (K.seen l)) (Broke why) }
+            → IsComplete handshake_step handshake_start
+            (wire_of [] (K.seen link)) (wire_of [] (K.seen l)) (Broke why) }
         ensures no_memory { (l : K) → result ≡ CleanBegun.NoMemory l
-            → (unread : List ℕ) × IsOpening (wire_of [] (K.seen link)) (wire_of unread (K.seen l)) OutOfMemory }
+            → (unread : List ℕ)
+            × IsOpening (wire_of [] (K.seen link)) (wire_of unread (K.seen l)) OutOfMemory }
     {
         complete();
         let Opened { begun, clean } = Session::open(alloc, link);
@@ -100,14 +105,15 @@ impl<K: Link> CleanSession<K> {
         self.session.live()
     }
 
-    /// Asks the driver to clean a content for a path of 1 to 4,096 bytes. The content of the reply is kept in memory. If
-    /// there is no room for it, the rest of the reply is read and dropped.
+    /// Asks the driver to clean a content for a path of 1 to 4,096 bytes. The content of the reply is kept in memory,
+    /// and has fewer than 536,870,912 bytes. If memory has no room for it, the rest of the reply is read and dropped.
     pub fn ask(&mut self, path: &[u8], content: &[u8]) -> Cleaned
         requires live { self.old.standing ≡ Standing.Live }
         requires some { 1 ≤ length path.now }
         requires few { length path.now ≤ 4096 }
         ensures exchange { IsCleaning (clean_text path.now content.now) self.old.wire self.new.wire result }
-        ensures complete { IsComplete (reply_step false) reply_start self.old.wire self.new.wire (cleaned_end result) }
+        ensures complete { IsComplete (reply_step false) reply_start
+            self.old.wire self.new.wire (cleaned_end result) }
         ensures standing { self.new ≡ record self.old {
           wire = self.new.wire;
           standing = standing_after_clean result;

@@ -112,7 +112,8 @@ impl<K: Link> Session<K> {
             (HelloWith (is_early reading.old.phase) reading.old.clean)
             → HandIs (is_early reading.old.phase) start self.new.wire result reading.new }
         ensures late { is_early reading.old.phase ≡ true → (caps : Caps) → result ≡ hand.End (Ok caps) → ⊥ }
-        ensures stays { result ≡ hand.On → is_early reading.old.phase ≡ false → is_early reading.new.phase ≡ false }
+        ensures stays { result ≡ hand.On → is_early reading.old.phase ≡ false
+            → is_early reading.new.phase ≡ false }
         ensures smaller { result ≡ hand.On → 2 * reading.new.room + (65520 - length self.new.wire.unread)
             < 2 * reading.old.room + (65520 - length self.old.wire.unread) }
         ensures sent { self.new.wire.sent ≡ self.old.wire.sent }
