@@ -106,8 +106,8 @@ fn a_driver_without_clean_has_no_session(rt: HostRuntime) -> Result<(), Fail> {
     Ok(())
 }
 
-/// A content of two packets goes out in two pieces, the first with the key list before it, and comes back as it was. The
-/// texts of the handshake have 108 bytes, the key list 43, the packets 65,520 and 5, and the last flush four.
+/// A content of two packets goes out in two pieces, the first with the key list before it, and comes back as it was.
+/// The texts of the handshake have 108 bytes, the key list 43, the packets 65,520 and 5, and the last flush four.
 #[test]
 fn a_content_of_two_packets_is_cleaned(rt: HostRuntime) -> Result<(), Fail> {
     let alloc = rt.alloc();
