@@ -53,10 +53,10 @@ use Rattle.checkout_engine.proofs.LeftOut.{left_out_by}
 use Rattle.checkout_engine.specs.Cards.{IsText, IsTextIn, AreTexts}
 use Rattle.edge_kit.specs.Seen.{RepoSeen}
 use Rattle.edge_kit.specs.Told.{RepoTold}
-use Rattle.checkout_engine.specs.declared.planning.Planned.{Planned}
+use Rattle.checkout_sources.specs.declared.planning.Planned.{Planned}
 use Rattle.checkout_engine.specs.declared.workers.Pace.{Pace}
-use Rattle.checkout_engine.specs.Reading.{IsRead}
-use Rattle.checkout_engine.specs.Sources.{IsPlanned}
+use Rattle.checkout_sources.specs.Reading.{IsRead}
+use Rattle.checkout_sources.specs.Sources.{IsPlanned}
 use Rattle.checkout_engine.specs.Workers.{IsAsked, IsPace, workers_for}
 
 -- 1 to 16

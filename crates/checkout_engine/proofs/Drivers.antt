@@ -31,7 +31,7 @@ use Rattle.checkout_plan.specs.Paths.{start_by, start_at, start_named, filter_st
 use Rattle.checkout_engine.proofs.LeftOut.{left_out_by}
 use Rattle.checkout_engine.specs.Cards.{AreOrdered, AreDrivers, HasDriver}
 use Rattle.checkout_engine.specs.Dealing.{IsWork}
-use Rattle.checkout_engine.specs.Sources.{IsPlanned}
+use Rattle.checkout_sources.specs.Sources.{IsPlanned}
 use Rattle.checkout_engine.proofs.Bounds.{planned_texts, planned_size}
 use Rattle.checkout_engine.proofs.Order.{precedes, plan_rises}
 

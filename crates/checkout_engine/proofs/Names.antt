@@ -25,7 +25,7 @@ use Rattle.checkout_plan.specs.declared.path_plan.Plan.{Plan}
 use Rattle.checkout_engine.proofs.LeftOut.{left_out_by}
 use Rattle.checkout_engine.proofs.Bounds.{planned_texts}
 use Rattle.checkout_engine.specs.PlannedPaths.{AreSized}
-use Rattle.checkout_engine.specs.Sources.{IsPlanned}
+use Rattle.checkout_sources.specs.Sources.{IsPlanned}
 
 -- the path names the object of its entry
 

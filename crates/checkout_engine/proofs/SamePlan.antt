@@ -25,7 +25,7 @@ use Rattle.checkout_plan.specs.declared.path_plan.PathPlan.{PathPlan}
 use Rattle.checkout_plan.specs.Paths.{closed, path_of_mode, asked_path, first_entries, plan_with, plan_of}
 use Rattle.checkout_plan.specs.Making.{HasContent, HaveContents}
 use Rattle.checkout_engine.specs.Alike.{IsTold, RepoTellsAll, DifferInWorkers, OnePlan}
-use Rattle.checkout_engine.specs.Sources.{HasIndex, HasSettings, HasAttributes, IsPlanned}
+use Rattle.checkout_sources.specs.Sources.{HasIndex, HasSettings, HasAttributes, IsPlanned}
 use Rattle.checkout_engine.proofs.ToldObjects.{same_told, same_bytes, gives_found}
 
 pub same_ok : {A E : Type 0} (x y : A) → ◌≡◌ {A = Result A E} (Ok x) (Ok y) → x ≡ y

@@ -16,13 +16,13 @@ use Rattle.checkout_words.specs.declared.Command.{Command}
 use Rattle.checkout_words.specs.declared.Command.TheVariants as command
 use Rattle.writer_pool.specs.Ends.{IsRun}
 use Rattle.checkout_engine.specs.declared.begin.PlannedRun.{PlannedRun}
-use Rattle.checkout_engine.specs.declared.planning.Planned.{Planned}
+use Rattle.checkout_sources.specs.declared.planning.Planned.{Planned}
 use Rattle.checkout_engine.specs.declared.rehearsing.TriedRun.{TriedRun}
 use Rattle.checkout_engine.specs.Begun.{IsSmallStart, PlansRun}
 use Rattle.checkout_engine.specs.Ends.{verdicts_of}
-use Rattle.checkout_engine.specs.Reading.{IsRead}
+use Rattle.checkout_sources.specs.Reading.{IsRead}
 use Rattle.checkout_engine.specs.Rehearsed.{IsRehearsed, IsRehearsedRun, IsSmallRun}
-use Rattle.checkout_engine.specs.Sources.{IsPlanned}
+use Rattle.checkout_sources.specs.Sources.{IsPlanned}
 use Rattle.checkout_engine.specs.Workers.{starts_of, in_pool, worker_count, workers_for, IsAsked}
 use Rattle.checkout_engine.proofs.Bounds.{no_more_paths, settings_few, count_few, asked_few}
 use Rattle.checkout_engine.proofs.Drivers.{planned_drivers}

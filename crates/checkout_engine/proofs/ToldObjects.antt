@@ -13,7 +13,7 @@ use Rattle.object_dir.specs.declared.fault.ObjectFault.TheVariants as object
 use Rattle.checkout_core.specs.declared.verdict.ObjectKind.{ObjectKind}
 use Rattle.checkout_plan.specs.Making.{FitsKind, object_kind}
 use Rattle.checkout_engine.specs.Alike.{IsTold, MemoryTellsAll}
-use Rattle.checkout_engine.specs.Sources.{HasBytes}
+use Rattle.checkout_sources.specs.Sources.{HasBytes}
 
 pub same_told : (told : Told) (x y : List ℕ) → IsTold told → TellsBytes told x → TellsBytes told y → x ≡ y
 same_told (Raw raw) x y is a b = a ∙ sym b

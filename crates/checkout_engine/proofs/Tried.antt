@@ -9,11 +9,11 @@ use Rattle.writer_pool.specs.Ends.{IsRun}
 use Rattle.settings_view.specs.declared.view.Driver.{Driver}
 use Rattle.checkout_plan.specs.declared.path_plan.PathPlan.{PathPlan}
 use Rattle.checkout_plan.specs.Making.{blobs_of}
-use Rattle.checkout_engine.specs.declared.planning.Planned.{Planned}
+use Rattle.checkout_sources.specs.declared.planning.Planned.{Planned}
 use Rattle.checkout_engine.specs.declared.rehearsing.TriedRun.{TriedRun}
 use Rattle.checkout_engine.specs.Ends.{seen}
 use Rattle.checkout_engine.specs.Paths.{with_blobs}
-use Rattle.checkout_engine.specs.Reading.{IsRead}
+use Rattle.checkout_sources.specs.Reading.{IsRead}
 use Rattle.checkout_engine.specs.Rehearsed.{new_memory, IsTried}
 use Rattle.checkout_engine.specs.Workers.{starts_of, in_pool, workers_for, worker_count}
 use Rattle.checkout_engine.specs.Writing.{ArePathsDone}

@@ -9,10 +9,10 @@ use Rattle.checkout_plan.specs.Paths.{HasCause}
 use Rattle.checkout_plan.specs.declared.path_plan.Plan.{Plan}
 use Rattle.checkout_words.specs.declared.Command.{Command}
 use Rattle.checkout_engine.specs.declared.begin.PlannedRun.{PlannedRun}
-use Rattle.checkout_engine.specs.declared.stop.Stop.{Stop}
-use Rattle.checkout_engine.specs.Causes.{IsPlanRead}
+use Rattle.checkout_sources.specs.declared.stop.Stop.{Stop}
+use Rattle.checkout_sources.specs.Causes.{IsPlanRead}
 use Rattle.checkout_engine.specs.Ends.{IsCheckout, workers_asked}
-use Rattle.checkout_engine.specs.Reading.{ReadsPlan}
+use Rattle.checkout_sources.specs.Reading.{ReadsPlan}
 use Rattle.checkout_engine.specs.Workers.{starts_of, worker_count}
 
 -- How large a checkout is. Each path begins as in a plan: at the desk of one of the drivers, in the pool, or closed

@@ -13,13 +13,15 @@ use Rattle.checkout_words.specs.declared.Command.TheVariants as command
 use Rattle.checkout_plan.specs.declared.path_plan.PathPlan.{PathPlan}
 use Rattle.writer_pool.specs.Ends.{IsRun}
 use Rattle.checkout_engine.specs.Workers.{starts_of}
-use Rattle.checkout_engine.specs.Reading.{IsRead}
-use Rattle.checkout_engine.specs.declared.planning.Planned.{Planned}
+use Rattle.checkout_sources.specs.Reading.{IsRead}
+use Rattle.checkout_sources.specs.declared.planning.Planned.{Planned}
+use Rattle.checkout_engine.specs.declared.halt.Halt.{Halt}
+use Rattle.checkout_engine.specs.declared.halt.Halt.TheVariants as halt
 use Rattle.checkout_engine.specs.declared.exit_status.ExitStatus.{ExitStatus}
 use Rattle.checkout_engine.specs.declared.exit_status.ExitStatus.TheVariants as status
-use Rattle.checkout_engine.specs.declared.stop.Stop.{Stop}
-use Rattle.checkout_engine.specs.declared.stop.Stop.TheVariants as stop
-use Rattle.checkout_engine.specs.Causes.{IsReadCause, IsRefusedFor, IsCutShort}
+use Rattle.checkout_sources.specs.declared.stop.Stop.{Stop}
+use Rattle.checkout_sources.specs.declared.stop.Stop.TheVariants as stop
+use Rattle.checkout_sources.specs.Causes.{IsReadCause, IsRefusedFor, IsCutShort}
 use Rattle.checkout_engine.specs.Ends.{Seen, IsCheckedOut, IsReported, IsRefused, IsCutOff}
 use Rattle.checkout_engine.specs.Ends.{IsOutOfMemory, IsReadFault, IsNotEmpty, verdicts_of}
 use Rattle.checkout_engine.specs.Shown.{Refuses, EndsPlan}
@@ -31,35 +33,39 @@ use Rattle.checkout_engine.specs.Made.{BreaksOff}
 use Rattle.settings_view.specs.declared.view.Driver.{Driver}
 
 -- why a run stops at the worktree
-abbrev pub StopsTree : {T : Type 0} → TreeSeen → TreeSeen → Result T Stop → Type 0
+abbrev pub StopsTree : {T : Type 0} → TreeSeen → TreeSeen → Result T Halt → Type 0
 StopsTree old new (Ok x) = Tells old.empty true × (new.faults ≡ old.faults)
-StopsTree old new (Err stop.NotEmpty) = Tells old.empty false × (new.faults ≡ old.faults)
-StopsTree old new (Err stop.ReadFault) = Rose old.faults new.faults
-StopsTree old new (Err (stop.Refused r)) = ⊥
-StopsTree old new (Err stop.NoMemory) = ⊥
+StopsTree old new (Err halt.NotEmpty) = Tells old.empty false × (new.faults ≡ old.faults)
+StopsTree old new (Err (halt.Stop stop.ReadFault)) = Rose old.faults new.faults
+StopsTree old new (Err (halt.Stop (stop.Refused r))) = ⊥
+StopsTree old new (Err (halt.Stop stop.NoMemory)) = ⊥
 
 -- why a checkout stops before it touches a file
-abbrev pub StopsRun : RepoTold → TreeSeen → TreeSeen → RepoSeen → RepoSeen → Result Planned Stop
+abbrev pub StopsRun : RepoTold → TreeSeen → TreeSeen → RepoSeen → RepoSeen → Result Planned Halt
     → Type 0
 StopsRun told tree tree' old new (Ok r) =
     Tells tree.empty true × (tree'.faults ≡ tree.faults)
     × IsRead told r old new
-StopsRun told tree tree' old new (Err stop.NotEmpty) =
+StopsRun told tree tree' old new (Err halt.NotEmpty) =
     Tells tree.empty false × (tree'.faults ≡ tree.faults) × (new ≡ old)
-StopsRun told tree tree' old new (Err stop.ReadFault) =
+StopsRun told tree tree' old new (Err (halt.Stop stop.ReadFault)) =
     (Rose tree.faults tree'.faults × (new ≡ old))
     ⊎ (Tells tree.empty true × (tree'.faults ≡ tree.faults) × IsReadCause told old new)
-StopsRun told tree tree' old new (Err (stop.Refused r)) =
+StopsRun told tree tree' old new (Err (halt.Stop (stop.Refused r))) =
     Tells tree.empty true × IsRefusedFor told r old new × (tree'.faults ≡ tree.faults)
-StopsRun told tree tree' old new (Err stop.NoMemory) =
+StopsRun told tree tree' old new (Err (halt.Stop stop.NoMemory)) =
     (tree'.faults ≡ tree.faults) × IsCutShort told old new
 
--- how a run ends that stopped before it touched a file, by why it stopped
+-- how a run ends whose reading of the repository stopped, by why it stopped
 abbrev pub ReportsStop : Stop → SinkSeen → SinkSeen → ExitStatus → Type 0
 ReportsStop (stop.Refused r) old new s = Refuses r old new s
-ReportsStop stop.NotEmpty old new s = (s ≡ status.NotEmpty) × (new ≡ old)
 ReportsStop stop.ReadFault old new s = (s ≡ status.ReadFault) × (new ≡ old)
 ReportsStop stop.NoMemory old new s = (s ≡ status.OutOfMemory) × (new ≡ old)
+
+-- the same for a checkout that stopped before it touched a file
+abbrev pub ReportsHalt : Halt → SinkSeen → SinkSeen → ExitStatus → Type 0
+ReportsHalt halt.NotEmpty old new s = (s ≡ status.NotEmpty) × (new ≡ old)
+ReportsHalt (halt.Stop x) old new s = ReportsStop x old new s
 
 -- The report is written whole, and the status is that of the verdicts. Or a first part of it is
 -- written: the sink failed, or memory ran out.

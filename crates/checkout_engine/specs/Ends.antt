@@ -17,9 +17,9 @@ use Rattle.checkout_words.specs.declared.Command.TheVariants as command
 use Rattle.checkout_plan.specs.declared.path_plan.PathPlan.{PathPlan}
 use Rattle.checkout_plan.specs.declared.path_plan.Plan.{Plan}
 use Rattle.checkout_plan.specs.Making.{blobs_of}
-use Rattle.checkout_engine.specs.declared.stop.Refusal.{Refusal}
-use Rattle.checkout_engine.specs.Sources.{IsPlanned}
-use Rattle.checkout_engine.specs.Causes.{IsReadCause, IsRepoSteady, IsRefusedFor, IsCutShort}
+use Rattle.checkout_sources.specs.declared.stop.Refusal.{Refusal}
+use Rattle.checkout_sources.specs.Sources.{IsPlanned}
+use Rattle.checkout_sources.specs.Causes.{IsReadCause, IsRepoSteady, IsRefusedFor, IsCutShort}
 use Rattle.checkout_engine.specs.Outcome.{Outcome, AreOutcomes}
 use Rattle.checkout_engine.specs.Talks.{DriverTalk, AreDriverTalks, with_talks}
 use Rattle.checkout_engine.specs.Made.{BreaksOff}
@@ -27,7 +27,7 @@ use Rattle.checkout_engine.specs.Paths.{with_blobs, blobs_back, leaves_back, Got
 use Rattle.checkout_engine.specs.Output.{IsCut, with_text}
 use Rattle.checkout_engine.specs.Workers.{starts_of, worker_count}
 use Rattle.checkout_engine.specs.Report.{status_of, lacks_memory, report, number_of}
-use Rattle.checkout_engine.specs.RefusalText.{refusal_line}
+use Rattle.checkout_sources.specs.RefusalText.{refusal_line}
 
 -- the command that the words give
 abbrev pub asked : List (String Global) → Option Command

@@ -25,7 +25,7 @@ use Rattle.checkout_engine.specs.Outcome.{MayLeavePart, MayLeaveFile, MayBePut, 
 use Rattle.checkout_engine.specs.Output.{with_text}
 use Rattle.checkout_engine.specs.Prepared.{IsPreparedTo}
 use Rattle.checkout_engine.specs.Report.{report}
-use Rattle.checkout_engine.specs.Sources.{IsPlanned}
+use Rattle.checkout_sources.specs.Sources.{IsPlanned}
 use Rattle.checkout_engine.specs.Talks.{DriverTalk, heard_at, Gave, AreDriverTalks, with_talks}
 use Rattle.checkout_engine.specs.Workers.{starts_of, worker_count, HaveActorsBelow}
 

@@ -26,8 +26,8 @@ use Rattle.checkout_report.specs.Report.{is_written, is_unfiltered, is_failed}
 use Rattle.checkout_engine.specs.declared.rehearsing.TriedRun.{TriedRun}
 use Rattle.checkout_engine.specs.declared.exit_status.ExitStatus.{ExitStatus}
 use Rattle.checkout_engine.specs.declared.exit_status.ExitStatus.TheVariants as status
-use Rattle.checkout_engine.specs.declared.stop.Stop.{Stop}
-use Rattle.checkout_engine.specs.declared.stop.Stop.TheVariants as stop
+use Rattle.checkout_sources.specs.declared.stop.Stop.{Stop}
+use Rattle.checkout_sources.specs.declared.stop.Stop.TheVariants as stop
 use Rattle.checkout_engine.specs.Alike.{IsUndisturbed}
 use Rattle.checkout_engine.specs.Begun.{IsSmallStart}
 use Rattle.checkout_engine.specs.Ends.{Seen, begun, IsCheckedOut, verdicts_of}

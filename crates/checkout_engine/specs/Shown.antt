@@ -6,11 +6,11 @@ use Rattle.edge_kit.specs.Told.{RepoTold}
 use Rattle.checkout_plan.specs.declared.path_plan.Plan.{Plan}
 use Rattle.checkout_engine.specs.declared.exit_status.ExitStatus.{ExitStatus}
 use Rattle.checkout_engine.specs.declared.exit_status.ExitStatus.TheVariants as status
-use Rattle.checkout_engine.specs.declared.stop.Refusal.{Refusal}
-use Rattle.checkout_engine.specs.Causes.{IsReadCause, IsPlanRead, IsRefusedFor, IsCutShort}
+use Rattle.checkout_sources.specs.declared.stop.Refusal.{Refusal}
+use Rattle.checkout_sources.specs.Causes.{IsReadCause, IsPlanRead, IsRefusedFor, IsCutShort}
 use Rattle.checkout_engine.specs.Ends.{Seen}
 use Rattle.checkout_engine.specs.Output.{IsCut, with_text}
-use Rattle.checkout_engine.specs.RefusalText.{refusal_line}
+use Rattle.checkout_sources.specs.RefusalText.{refusal_line}
 use Rattle.plan_report.specs.Lines.{plan_lines}
 
 -- How the writing of a refusal's line ends, by its status.

@@ -4,11 +4,10 @@ ghost use Rattle.checkout_engine.specs.Begun.{PlansRun};
 ghost use Rattle.checkout_engine.specs.Ends.{asked};
 
 use crate::cards::{count_of, starts_of};
-use crate::planning::read_plan;
-use crate::stop::Stop;
 use crate::workers::{Pace, workers_for};
 use checkout_core::Start;
 use checkout_plan::closed_paths_have_causes;
+use checkout_sources::{Stop, read_plan, readings_leave_parts};
 use checkout_words::{Command, WordFault, read_words};
 use edge_kit::Repo;
 use std::alloc::Global;
@@ -34,6 +33,7 @@ pub fn planned_run<R: Repo>(
     ensures plans { PlansRun (R.told repo.old) (asked words.now) (R.seen repo.old) (R.seen repo.new) result }
 {
     closed_paths_have_causes();
+    readings_leave_parts();
     let asked = match read_words(alloc, words) {
         Ok(Command::Checkout { workers }) => workers,
         Ok(Command::Plan | Command::Rehearse { .. }) | Err(WordFault::Usage) => return Ok(None),

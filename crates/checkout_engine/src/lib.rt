@@ -7,16 +7,13 @@ mod command;
 mod dealing;
 mod exit_status;
 mod giving_back;
+mod halt;
 mod laws;
 mod output;
 mod paths;
-mod planning;
-mod refusal;
 mod rehearsing;
 mod report;
 mod show;
-mod sources;
-mod stop;
 mod work;
 mod workers;
 
@@ -30,4 +27,3 @@ pub use laws::{
 };
 pub use rehearsing::{RehearsedRun, rehearsed_run};
 pub use show::plan_text;
-pub use stop::{Refusal, Stop};

@@ -2,7 +2,7 @@
 ghost use Rattle.std.specs.Prelude.{◌≡◌, ◌≤◌, IfOk, Some, string_bytes};
 ghost use Rattle.std.specs.List.{list_any};
 ghost use Rattle.checkout_engine.specs.Complete.{IsValid};
-ghost use Rattle.checkout_engine.specs.Reading.{IsRead};
+ghost use Rattle.checkout_sources.specs.Reading.{IsRead};
 ghost use Rattle.checkout_engine.specs.Rehearsed.{is_memory, bytes_of, first_words, last_words, summary, new_memory};
 ghost use Rattle.checkout_engine.specs.Rehearsed.{is_write_failed, is_link_failed, is_driver_failed, is_disturbed};
 ghost use Rattle.checkout_engine.specs.Rehearsed.{IsTried, IsTriedWell, IsRehearsed, IsSummed, Rehearses};
@@ -11,14 +11,13 @@ ghost use Rattle.checkout_engine.specs.Rehearsed.{IsRehearsedRun, IsSmallRun};
 use crate::cards::starts_of;
 use crate::exit_status::ExitStatus;
 use crate::paths::{PathsDone, check_out_paths};
-use crate::planning::{Planned, read_plan};
 use crate::report::{lacks_memory, status_of};
-use crate::stop::Stop;
 use crate::work::{Means, PlannedWork};
 use crate::workers::Pace;
 use checkout_core::{Event, FailCause, Start, Verdict};
 use checkout_plan::{Plan, closed_paths_have_causes};
 use checkout_report::{failed_count, unfiltered_count, written_count};
+use checkout_sources::{Planned, Stop, read_plan};
 use core_laws::laws;
 use edge_kit::{
     DriverSeen, Gate, MemoryRepo, MemorySpawner, MemoryTree, Repo, SendFault, Sink, Spawner,

@@ -1,6 +1,6 @@
 -- One more packet of a handshake.
 use Rattle.std.proofs.Common.{◌≡◌, ◌⊎◌, inl, inr, ℕ, Bool, true, false, List, [], ◌∷◌, ◌++◌, Ok, Err, refl, sym, ap, subst, ◌∙◌, append_assoc}
-use Rattle.std.specs.Prelude.{if◌then◌else◌, codes}
+use Rattle.std.specs.Prelude.{if◌then◌else◌, codes, ◌||◌}
 use Rattle.std.specs.Str.{bytes_eq}
 use Rattle.std.proofs.lemmas.List.{append-nil}
 use Rattle.pkt_line.specs.Packets.{Packet, Payload, Flush}
@@ -15,7 +15,8 @@ use Rattle.filter_words.specs.declared.answer_state.AnswerState.{AnswerState}
 use Rattle.filter_words.specs.declared.answer_state.AnswerState.TheVariants.{On, Done, Broken, Late}
 use Rattle.filter_proto.specs.Wires.{Wire}
 use Rattle.filter_proto.specs.Exchanges.{Ends, Good, Broke, IsReading, IsHeard}
-use Rattle.filter_proto.specs.Openings.{LacksHello, BeginsHello, HelloBy, is_early, HandIs, TakesState}
+use Rattle.filter_proto.specs.Openings.{LacksHello, BeginsHello, HelloBy, HelloWith, is_clean, has_clean, is_early, HandIs, TakesState}
+use Rattle.filter_proto.specs.declared.opening.HandReading.{HandReading}
 use Rattle.filter_proto.specs.declared.opening.HandStep.{HandStep}
 use Rattle.filter_proto.specs.declared.opening.HandStep.TheVariants as hand
 use Rattle.filter_proto.proofs.More.{Skips, reading_on_with, heard_with, too_long, fitting, still_skip}
@@ -73,18 +74,36 @@ on_more (Capabilities c) q (Payload l) ps e out h =
     rw (sym v) (begins_more ps (Payload l) h)
 on_more (Capabilities c) q Flush ps e out h = absurd (cc e)
 
-pub hand_turn : (s a b : Wire) (room left : ℕ) (p q : HandshakePhase) (x : Packet) (step : HandStep) → IsReading handshake_step handshake_start s a room p (HelloBy (is_early p)) → Skips a x b → TakesState room p x step left q → HandIs (is_early p) s b step left q
-hand_turn s a b room left p q x hand.On r k t =
-    reading_on_with handshake_step handshake_start s a b room left p q (HelloBy (is_early p)) (HelloBy (is_early q)) x r k t.0 t.1 (λ ps out h. on_more p q x ps t.1 out h)
-hand_turn s a b room left p q x (hand.End (Ok caps)) r k t =
-    heard_with handshake_step handshake_start (Done caps) s a b room p (Good caps) (HelloBy (is_early p)) (HelloBy (is_early p)) x r k (fitting handshake_step room p x (Done caps) t.0 t.1) (refl, still_skip s a b x k r.still)
-    (λ ps out h. stays_by p ps x (λ hello. cc (sym hello ∙ out)) h)
-hand_turn s a b room left p q x (hand.End (Err why)) r k (inl t) =
-    rw t.1 (heard_with handshake_step handshake_start (Broken cause.TooLong) s a b room p (Broke cause.TooLong) (HelloBy (is_early p)) (HelloBy (is_early p)) x r k (too_long handshake_step room p x t.0) (refl, still_skip s a b x k r.still)
-    (λ ps out h. stays_by p ps x (λ hello. cc (sym hello ∙ out)) h))
-hand_turn s a b room left p q x (hand.End (Err why)) r k (inr t) =
-    heard_with handshake_step handshake_start (Broken why) s a b room p (Broke why) (HelloBy (is_early p)) (HelloBy (is_early p)) x r k (fitting handshake_step room p x (Broken why) t.0 t.1) (refl, still_skip s a b x k r.still)
-    (λ ps out h. stays_by p ps x (λ hello. cc (sym hello ∙ out)) h)
+pub or_false : (b : Bool) → b || false ≡ b
+or_false true = refl
+or_false false = refl
+
+or_assoc : (a b c : Bool) → (a || b) || c ≡ a || (b || c)
+or_assoc true b c = refl
+or_assoc false b c = refl
+
+-- whether a line announces `clean`, with one more packet
+any_more : (ps : List Packet) (x : Packet) → has_clean (ps ++ x ∷ []) ≡ has_clean ps || is_clean x
+any_more [] x = or_false (is_clean x)
+any_more (p ∷ ps) x = ap (λ (b : Bool). is_clean p || b) (any_more ps x) ∙ sym (or_assoc (is_clean p) (has_clean ps) (is_clean x))
+
+clean_more : (ps : List Packet) (x : Packet) (old new : Bool) → new ≡ old || is_clean x → has_clean ps ≡ old → has_clean (ps ++ x ∷ []) ≡ new
+clean_more ps x old new e h = any_more ps x ∙ (ap (λ (b : Bool). b || is_clean x) h ∙ sym e)
+
+pub hand_turn : (s a b : Wire) (room : ℕ) (p : HandshakePhase) (clean : Bool) (next : HandReading) (x : Packet) (step : HandStep) → IsReading handshake_step handshake_start s a room p (HelloWith (is_early p) clean) → Skips a x b
+    → TakesState room p x step next.room next.phase → next.clean ≡ clean || is_clean x → HandIs (is_early p) s b step next
+hand_turn s a b room p clean next x hand.On r k t c =
+    reading_on_with handshake_step handshake_start s a b room next.room p next.phase (HelloWith (is_early p) clean) (HelloWith (is_early next.phase) next.clean) x r k t.0 t.1
+    (λ ps out h. (on_more p next.phase x ps t.1 out h.0, clean_more ps x clean next.clean c h.1))
+hand_turn s a b room p clean next x (hand.End (Ok caps)) r k t c =
+    heard_with handshake_step handshake_start (Done caps) s a b room p (Good caps) (HelloWith (is_early p) clean) (HelloWith (is_early p) next.clean) x r k (fitting handshake_step room p x (Done caps) t.0 t.1) (refl, still_skip s a b x k r.still)
+    (λ ps out h. (stays_by p ps x (λ hello. cc (sym hello ∙ out)) h.0, clean_more ps x clean next.clean c h.1))
+hand_turn s a b room p clean next x (hand.End (Err why)) r k (inl t) c =
+    rw t.1 (heard_with handshake_step handshake_start (Broken cause.TooLong) s a b room p (Broke cause.TooLong) (HelloWith (is_early p) clean) (HelloWith (is_early p) next.clean) x r k (too_long handshake_step room p x t.0) (refl, still_skip s a b x k r.still)
+    (λ ps out h. (stays_by p ps x (λ hello. cc (sym hello ∙ out)) h.0, clean_more ps x clean next.clean c h.1)))
+hand_turn s a b room p clean next x (hand.End (Err why)) r k (inr t) c =
+    heard_with handshake_step handshake_start (Broken why) s a b room p (Broke why) (HelloWith (is_early p) clean) (HelloWith (is_early p) next.clean) x r k (fitting handshake_step room p x (Broken why) t.0 t.1) (refl, still_skip s a b x k r.still)
+    (λ ps out h. (stays_by p ps x (λ hello. cc (sym hello ∙ out)) h.0, clean_more ps x clean next.clean c h.1))
 
 -- nothing yet
 pub lacks_nothing : LacksHello []
@@ -119,11 +138,8 @@ late_stays room left (Capabilities c) q (Payload l) hand.On t is early =
     ap is_early (sym v)
 late_stays room left (Capabilities c) q Flush hand.On t is early = absurd (cc (t.1))
 
-pub hello_as : (s a : Wire) (room : ℕ) (p : HandshakePhase) (b c : Bool) → b ≡ c → IsReading handshake_step handshake_start s a room p (HelloBy b) → IsReading handshake_step handshake_start s a room p (HelloBy c)
-hello_as s a room p b c e h = subst (λ (x : Bool). IsReading handshake_step handshake_start s a room p (HelloBy x)) e h
-
-pub heard_as : (s a : Wire) (end : Ends Caps) (b c : Bool) → b ≡ c → IsHeard handshake_step handshake_start s a end (HelloBy b) → IsHeard handshake_step handshake_start s a end (HelloBy c)
-heard_as s a end b c e h = subst (λ (x : Bool). IsHeard handshake_step handshake_start s a end (HelloBy x)) e h
+pub heard_as : (s a : Wire) (end : Ends Caps) (b c clean : Bool) → b ≡ c → IsHeard handshake_step handshake_start s a end (HelloWith b clean) → IsHeard handshake_step handshake_start s a end (HelloWith c clean)
+heard_as s a end b c clean e h = subst (λ (x : Bool). IsHeard handshake_step handshake_start s a end (HelloWith x clean)) e h
 
 -- no packet of a handshake comes late
 pub hand_late : (p : HandshakePhase) (x : Packet) → handshake_step p x ≡ Late → ⊥

@@ -7,3 +7,4 @@ pub mod Hands
 pub mod Tables
 pub mod Listings
 pub mod Once
+pub mod Cleanings

@@ -257,7 +257,7 @@ open_from p old mid new text (Broke cause.TooLong) e h = absurd h
 open_from p old mid new text (Broke cause.StrangePath) e h = absurd h
 open_from p old mid new text (Broke cause.ListRefused) e h = absurd h
 
-stops_from : {P G : Type 0} (t : AnswerState P G) (old mid new : Wire) (text : List ℕ) (end : Ends G) → mid ≡ record old { sent = grown old.sent text } → Stops t mid new end → Stops t old new end
+pub stops_from : {P G : Type 0} (t : AnswerState P G) (old mid new : Wire) (text : List ℕ) (end : Ends G) → mid ≡ record old { sent = grown old.sent text } → Stops t mid new end → Stops t old new end
 stops_from (On p) old mid new text end e h = open_from p old mid new text end e h
 stops_from (Done g) old mid new text end e h = (h.0, still_from old mid new text e h.1)
 stops_from (Broken c) old mid new text end e h = (h.0, still_from old mid new text e h.1)

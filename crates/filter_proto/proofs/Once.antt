@@ -206,11 +206,20 @@ same_end (Broke a) (Broke b) s e = let w : a ≡ b = cc e in ap Broke w
 same_end (Broke a) OutOfMemory s e = absurd (cc e)
 same_end OutOfMemory y s e = absurd s
 
-is_done : {P G : Type 0} (t : AnswerState P G) (old new : Wire) (g : G) → Stops t old new (Good g) → t ≡ Done g
+pub is_done : {P G : Type 0} (t : AnswerState P G) (old new : Wire) (g : G) → Stops t old new (Good g) → t ≡ Done g
 is_done (On p) old new g h = absurd h
 is_done (Done x) old new g h = let e = h.0 in let w : g ≡ x = cc e in ap Done (sym w)
 is_done (Broken c) old new g h = let e = h.0 in absurd (cc e)
 is_done Late old new g h = absurd h
+
+-- a good answer that was heard is the one with which what was left unread began
+pub heard_packets : {P G : Type 0} (step : P → Packet → AnswerState P G) (start : AnswerState P G) → SameLaw P G step start → (old new : Wire) (x g : G) (extra : List Packet → Type 0) (h : IsHeard step start old new (Good x) extra) (b : BeginsGood step start old g)
+    → h.packets ≡ b.packets
+heard_packets step start same old new x g extra h b =
+    let a = ahead_of h.took.came b.left new.left (sym h.took.left ∙ b.told) in
+    let e : h.used ++ (new.unread ++ a.ahead) ≡ b.used ++ b.rest =
+    sym (joins old.unread h.took.came a.ahead h.used new.unread h.took.unread) ∙ (ap (λ (u : List ℕ). old.unread ++ u) (sym a.whole) ∙ b.whole) in
+    (same h.packets b.packets h.used b.used (new.unread ++ a.ahead) b.rest (Done x) (Done g) h.spelled b.spelled e (is_done (outcome step limit start h.packets) old new x h.stops) b.good tt tt).0
 
 pub heard_once : (P G : Type 0) (step : P → Packet → AnswerState P G) (start : AnswerState P G) → SameLaw P G step start → HeardLaw P G step start → IsHeardOnce P G step start
 heard_once P G step start same law output a b c d x y one two =

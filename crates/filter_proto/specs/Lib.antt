@@ -7,3 +7,4 @@ pub mod Openings
 pub mod Lists
 pub mod ListSteps
 pub mod Complete
+pub mod Cleans

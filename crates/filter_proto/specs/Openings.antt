@@ -1,7 +1,8 @@
 -- The opening of a session: two texts, and the two answers of a handshake.
 use Rattle.std.specs.Prelude.{◌≡◌, ◌⊎◌, ℕ, List, ◌++◌}
-use Rattle.pkt_line.specs.Packets.{Packet, SpellAll}
-use Rattle.filter_words.specs.Handshake.{handshake_step, handshake_start, IsHello}
+use Rattle.std.specs.List.{list_any}
+use Rattle.pkt_line.specs.Packets.{Packet, Payload, Flush, SpellAll}
+use Rattle.filter_words.specs.Handshake.{handshake_step, handshake_start, IsHello, announces_clean}
 use Rattle.filter_words.specs.Requests.{hello_text, caps_text}
 use Rattle.filter_words.specs.declared.reply.BreakCause.{BreakCause}
 use Rattle.filter_words.specs.declared.reply.Caps.{Caps}
@@ -10,6 +11,8 @@ use Rattle.pkt_line.specs.Packets.{size}
 use Rattle.filter_words.specs.declared.reply.BreakCause.TheVariants as cause
 use Rattle.filter_words.specs.declared.handshake.HandshakePhase.{HandshakePhase}
 use Rattle.filter_words.specs.declared.handshake.HandshakePhase.TheVariants.{Server, Version, EndOfHello, Capabilities}
+use Rattle.filter_proto.specs.declared.opening.Announced.{Announced}
+use Rattle.filter_proto.specs.declared.opening.HandReading.{HandReading}
 use Rattle.filter_proto.specs.declared.opening.OpenFault.{OpenFault}
 use Rattle.filter_proto.specs.declared.opening.OpenFault.TheVariants as fault
 use Rattle.filter_proto.specs.declared.opening.HandStep.{HandStep}
@@ -61,10 +64,26 @@ abbrev pub IsOpening : Wire → Wire → Ends Caps → Type 0
 IsOpening old new end = IsUnsent hello_text old new end (λ _. Unit {0}) ⊎ IsRefusedHello old new end
     ⊎ IsUnsentCaps old new end ⊎ IsOpened old new end
 
--- the same, by whether the first answer is still being read
+abbrev pub is_clean : Packet → Bool
+is_clean (Payload line) = announces_clean line
+is_clean Flush = false
+
+-- some line of the packets announces `clean`
+abbrev pub has_clean : List Packet → Bool
+has_clean packets = list_any is_clean packets
+
+-- Both texts were sent, a good handshake was read, and this is whether it announces `clean`.
+abbrev pub Announces : Bool → Wire → Wire → Caps → Type 0
+Announces clean old new caps = (opened : IsOpened old new (Good caps)) × (has_clean opened.heard.packets ≡ clean)
+
+-- what first part of the packets is a right first answer, by whether that is still being read
 abbrev pub HelloBy : Bool → List Packet → Type 0
 HelloBy true ps = LacksHello ps
 HelloBy false ps = BeginsHello ps
+
+-- the same, and whether a line so far announces `clean`
+abbrev pub HelloWith : Bool → Bool → List Packet → Type 0
+HelloWith early clean ps = HelloBy early ps × (has_clean ps ≡ clean)
 
 abbrev pub is_early : HandshakePhase → Bool
 is_early Server = true
@@ -78,11 +97,12 @@ caps_end (Ok caps) = Good caps
 caps_end (Err why) = Broke why
 
 -- one more packet of a handshake goes on or ends
-abbrev pub HandIs : Bool → Wire → Wire → HandStep → ℕ → HandshakePhase → Type 0
-HandIs early start new hand.On room phase =
-    IsReading handshake_step handshake_start start new room phase (HelloBy (is_early phase))
-HandIs early start new (hand.End end) room phase =
-    IsHeard handshake_step handshake_start start new (caps_end end) (HelloBy early)
+abbrev pub HandIs : Bool → Wire → Wire → HandStep → HandReading → Type 0
+HandIs early start new hand.On reading =
+    IsReading handshake_step handshake_start start new reading.room reading.phase
+    (HelloWith (is_early reading.phase) reading.clean)
+HandIs early start new (hand.End end) reading =
+    IsHeard handshake_step handshake_start start new (caps_end end) (HelloWith early reading.clean)
 
 -- the result of a packet that was taken
 abbrev pub TakesState : ℕ → HandshakePhase → Packet → HandStep → ℕ → HandshakePhase → Type 0
@@ -91,9 +111,9 @@ TakesState room phase x (hand.End (Ok caps)) left next = (size x ≤ room) × (h
 TakesState room phase x (hand.End (Err why)) left next = ((room < size x) × (why ≡ cause.TooLong))
     ⊎ ((size x ≤ room) × (handshake_step phase x ≡ Broken why))
 
--- how a handshake failed
-abbrev pub opening_end : Result Caps OpenFault → Ends Caps
-opening_end (Ok caps) = Good caps
+-- what came of a handshake
+abbrev pub opening_end : Result Announced OpenFault → Ends Caps
+opening_end (Ok a) = Good a.caps
 opening_end (Err (fault.Broken why)) = Broke why
 opening_end (Err fault.NoMemory) = OutOfMemory
 
@@ -112,10 +132,15 @@ pub record CutsCaps (old new : Wire) (end : Ends Caps) : Type 0 where
   pub hello : HasHello old mid
   pub unsent : IsUnsent caps_text mid new end (λ _. Unit {0})
 
-pub record HearsCaps (old new : Wire) (end : Ends Caps) : Type 0 where
+-- the first answer was right, and of a good handshake it is known whether it announces `clean`
+abbrev pub EndHello : Result Announced OpenFault → List Packet → Type 0
+EndHello (Ok a) ps = HelloWith false a.clean ps
+EndHello (Err fault) ps = BeginsHello ps
+
+pub record HearsCaps (old new : Wire) (r : Result Announced OpenFault) : Type 0 where
   pub sent : new.sent ≡ grown old.sent caps_text
   pub stage : new.stage ≡ old.stage
-  pub heard : IsHeard handshake_step handshake_start old new end BeginsHello
+  pub heard : IsHeard handshake_step handshake_start old new (opening_end r) (EndHello r)
 
-abbrev pub GoesAfter : Wire → Wire → Ends Caps → Type 0
-GoesAfter old new end = StaysHello old new end ⊎ CutsCaps old new end ⊎ HearsCaps old new end
+abbrev pub GoesAfter : Wire → Wire → Result Announced OpenFault → Type 0
+GoesAfter old new r = StaysHello old new (opening_end r) ⊎ CutsCaps old new (opening_end r) ⊎ HearsCaps old new r

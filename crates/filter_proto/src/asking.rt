@@ -1,13 +1,13 @@
 //! The reply to a request for a path: each payload of its content is put when its packet is whole.
 ghost use Rattle.std.specs.Prelude.{◌≡◌, ◌≤◌, ◌<◌, ◌+◌, ◌-◌, ◌*◌, ◌++◌, ℕ, Bool, true, false, Ok, List, [], length};
 ghost use Rattle.pkt_line.specs.Packets.{Payload};
-ghost use Rattle.filter_words.specs.Requests.{first_text, second_text};
+ghost use Rattle.filter_words.specs.Requests.{first_text, second_text, clean_text};
 ghost use Rattle.filter_words.specs.SmudgeReply.{reply_step, reply_start, piece_in};
 ghost use Rattle.filter_words.specs.declared.answer_state.AnswerState.TheVariants as state;
 ghost use Rattle.edge_kit.specs.Files.{IsOpenLeaf};
 ghost use Rattle.edge_kit.specs.Seen.{LeafSeen};
 ghost use Rattle.edge_kit.specs.declared.leaf_state.LeafState.TheVariants as leaf_state;
-ghost use Rattle.filter_proto.specs.Wires.{Wire};
+ghost use Rattle.filter_proto.specs.Wires.{Wire, SendsOn};
 ghost use Rattle.filter_proto.specs.Exchanges.{IsReading, IsHeard, IsExchange};
 ghost use Rattle.filter_proto.specs.Replies.{IsPut, HasPut, EndPut, NotBegun, TouchesNot, reply_end, standing_after};
 ghost use Rattle.filter_proto.specs.Complete.{IsComplete};
@@ -169,8 +169,35 @@ impl<K: Link> Session<K> {
         }
     }
 
-    /// Sends a request and reads its reply.
+    /// Reads the reply to a request, if that was sent.
     #[tactic(auto, using(crate::proofs::More::answered, crate::proofs::Lines::request_unsent))]
+    fn reply_to<L: Leaf>(
+        &mut self,
+        sent: Result<(), SendFault>,
+        can_delay: bool,
+        leaf: &mut L,
+    ) -> Asked
+        requires usable { IsOpenLeaf (L.seen leaf.old).state }
+        ensures exchange { (text : List ℕ) (start : Wire) → SendsOn text start self.old.wire sent
+            → IsExchange (reply_step can_delay) reply_start text start self.new.wire (reply_end result.reply)
+            (EndPut can_delay (L.seen leaf.old) (L.seen leaf.new) result.put (reply_end result.reply)) }
+        ensures begins { TouchesNot result.reply (L.seen leaf.old) (L.seen leaf.new) result.put }
+        ensures rest { self.new ≡ record self.old { wire = self.new.wire } }
+    {
+        match sent {
+            Ok(()) => self.read_reply(can_delay, leaf),
+            Err(SendFault::Failed) => Asked {
+                reply: Reply::Broken(BreakCause::LinkFault),
+                put: Ok(()),
+            },
+            Err(SendFault::NoMemory) => Asked {
+                reply: Reply::NoMemory,
+                put: Ok(()),
+            },
+        }
+    }
+
+    /// Sends a request and reads its reply.
     fn request<L: Leaf>(&mut self, request: &SmudgeRequest<'_>, leaf: &mut L) -> Asked
         requires usable { IsOpenLeaf (L.seen leaf.old).state }
         requires some { 1 ≤ length request.now.path.now }
@@ -184,17 +211,27 @@ impl<K: Link> Session<K> {
         ensures begins { TouchesNot result.reply (L.seen leaf.old) (L.seen leaf.new) result.put }
         ensures rest { self.new ≡ record self.old { wire = self.new.wire } }
     {
-        match self.send_smudge(request) {
-            Ok(()) => self.read_reply(request.can_delay, leaf),
-            Err(SendFault::Failed) => Asked {
-                reply: Reply::Broken(BreakCause::LinkFault),
-                put: Ok(()),
-            },
-            Err(SendFault::NoMemory) => Asked {
-                reply: Reply::NoMemory,
-                put: Ok(()),
-            },
-        }
+        let sent = self.send_smudge(request);
+        self.reply_to(sent, request.can_delay, leaf)
+    }
+
+    /// Sends a request to clean a content and reads its reply.
+    pub(crate) fn request_clean<L: Leaf>(
+        &mut self,
+        path: &[u8],
+        content: &[u8],
+        leaf: &mut L,
+    ) -> Asked
+        requires usable { IsOpenLeaf (L.seen leaf.old).state }
+        requires some { 1 ≤ length path.now }
+        requires few { length path.now ≤ 4096 }
+        ensures exchange { IsExchange (reply_step false) reply_start (clean_text path.now content.now)
+            self.old.wire self.new.wire (reply_end result.reply)
+            (EndPut false (L.seen leaf.old) (L.seen leaf.new) result.put (reply_end result.reply)) }
+        ensures rest { self.new ≡ record self.old { wire = self.new.wire } }
+    {
+        let sent = self.send_clean(path, content);
+        self.reply_to(sent, false, leaf)
     }
 
     /// Asks for a path with the name of its blob, and with `can-delay=1` exactly if the driver announced `delay`. The

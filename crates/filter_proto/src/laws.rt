@@ -8,7 +8,8 @@ ghost use Rattle.filter_words.specs.declared.smudge_reply.GoodReply.{GoodReply};
 ghost use Rattle.filter_words.specs.declared.smudge_reply.ReplyPhase.{ReplyPhase};
 ghost use Rattle.filter_proto.specs.Wires.{Wire};
 ghost use Rattle.filter_proto.specs.Exchanges.{Ends, IsExchange};
-ghost use Rattle.filter_proto.specs.Openings.{IsOpening};
+ghost use Rattle.filter_proto.specs.Openings.{IsOpening, Announces};
+ghost use Rattle.filter_proto.specs.Cleans.{TellsClean};
 ghost use Rattle.filter_proto.specs.Complete.{IsComplete, IsHeardOnce};
 
 use filter_words::{one_handshake, one_list, one_reply};
@@ -28,7 +29,7 @@ pub fn same_heard()
 }
 
 /// If what is left unread begins with a good answer, an exchange gives that answer, or its link failed, or memory ran
-/// out.
+/// out. Whether a good handshake announces `clean` is what its output tells.
 pub(crate) fn complete()
     ensures reply { (d : Bool) (text : List ℕ) (old new : Wire) (end : Ends GoodReply)
         → IsExchange (reply_step d) reply_start text old new end (λ _. Unit {0})
@@ -38,6 +39,8 @@ pub(crate) fn complete()
         → IsComplete (list_step delayed) list_start old new end }
     ensures handshake { (old new : Wire) (end : Ends Caps) → IsOpening old new end
         → IsComplete handshake_step handshake_start old new end }
+    ensures clean { (clean : Bool) (old new : Wire) (caps : Caps) → Announces clean old new caps
+        → TellsClean clean old }
 {
     one_reply();
     one_list();

@@ -5,6 +5,8 @@
 #![tactic(auto)]
 
 mod asking;
+mod cleaning;
+mod content;
 mod laws;
 mod listing;
 mod opening;
@@ -12,6 +14,7 @@ mod reading;
 mod sending;
 mod session;
 
+pub use cleaning::{CleanBegun, CleanSession, Cleaned};
 pub use laws::same_heard;
 pub use opening::Begun;
 pub use reading::Asked;

@@ -1,8 +1,8 @@
 //! The handshake of a session, gitattributes(5), "Long Running Filter Process": two texts, and two answers that count
 //! as one.
 ghost use Rattle.std.specs.Prelude.{◌≡◌, ◌<◌, ◌+◌, ◌-◌, ◌*◌, ℕ, true, false, List, []};
-ghost use Rattle.std.specs.Prelude.{IfOk, OnOk, IfErr, length, vec_len};
-ghost use Rattle.pkt_line.specs.Packets.{Packet};
+ghost use Rattle.std.specs.Prelude.{IfOk, OnOk, IfErr, length, vec_len, ◌||◌};
+ghost use Rattle.pkt_line.specs.Packets.{Packet, Payload};
 ghost use Rattle.pkt_line.specs.Packets.{size as packet_size};
 ghost use Rattle.filter_words.specs.declared.reply.BreakCause.{BreakCause};
 ghost use Rattle.filter_words.specs.declared.reply.Caps.{Caps};
@@ -11,7 +11,7 @@ ghost use Rattle.filter_words.specs.Requests.{hello_text, caps_text};
 ghost use Rattle.filter_proto.specs.Wires.{Wire, SessionSeen, wire_of};
 ghost use Rattle.filter_proto.specs.Exchanges.{Good, Broke, OutOfMemory, IsReading, IsHeard};
 ghost use Rattle.filter_proto.specs.Complete.{IsComplete};
-ghost use Rattle.filter_proto.specs.Openings.{IsOpening, HelloBy, is_early, HandIs, TakesState};
+ghost use Rattle.filter_proto.specs.Openings.{IsOpening, Announces, is_clean, HelloWith, is_early, HandIs, TakesState};
 ghost use Rattle.filter_proto.specs.Openings.{caps_end, opening_end, GoesAfter};
 ghost use Rattle.filter_proto.specs.declared.opening.HandStep.TheVariants as hand;
 
@@ -19,8 +19,8 @@ use crate::laws::complete;
 use crate::session::{Session, Standing};
 use edge_kit::{Link, SendFault};
 use filter_words::{
-    AnswerState, BreakCause, Caps, HandshakePhase, MOST_ANSWER, handshake_after_flush,
-    handshake_after_line, push_caps, push_hello,
+    AnswerState, BreakCause, Caps, HandshakePhase, MOST_ANSWER, announces_clean,
+    handshake_after_flush, handshake_after_line, push_caps, push_hello,
 };
 use pkt_line::{Next, PktReader};
 use std::alloc::{AllocError, Global};
@@ -31,6 +31,28 @@ pub enum Begun<K: Link> {
     Live(Session<K>),
     Broken(K, BreakCause),
     NoMemory(K),
+}
+
+/// What came of the opening of a session. If it is live, `clean` says whether the driver announced `clean`.
+#[derive(Drop)]
+pub(crate) struct Opened<K: Link> {
+    pub begun: Begun<K>,
+    pub clean: bool,
+}
+
+/// What a good handshake announces.
+#[derive(Clone, Copy)]
+pub(crate) struct Announced {
+    pub caps: Caps,
+    pub clean: bool,
+}
+
+/// How far the reading of a handshake has come, and whether a line so far announces `clean`.
+#[derive(Drop)]
+pub(crate) struct HandReading {
+    pub room: u64,
+    pub phase: HandshakePhase,
+    pub clean: bool,
 }
 
 /// Why a handshake failed.
@@ -74,16 +96,25 @@ fn take_state(
     }
 }
 
+/// Whether a line so far announces `clean`, after one more line.
+fn clean_after(before: bool, line: &[u8]) -> bool
+    ensures { result ≡ before || is_clean (Payload line.now) }
+{
+    before || announces_clean(line)
+}
+
 impl<K: Link> Session<K> {
     /// Takes one more packet of a handshake, or more bytes.
     #[tactic(auto, using(crate::proofs::More::stands_long))]
-    fn hand_step(&mut self, room: &mut u64, phase: &mut HandshakePhase) -> HandStep
-        ensures step { (start : Wire) → IsReading handshake_step handshake_start start self.old.wire room.old phase.old
-            (HelloBy (is_early phase.old)) → HandIs (is_early phase.old) start self.new.wire result room.new phase.new }
-        ensures late { is_early phase.old ≡ true → (caps : Caps) → result ≡ hand.End (Ok caps) → ⊥ }
-        ensures stays { result ≡ hand.On → is_early phase.old ≡ false → is_early phase.new ≡ false }
-        ensures smaller { result ≡ hand.On → 2 * room.new + (65520 - length self.new.wire.unread)
-            < 2 * room.old + (65520 - length self.old.wire.unread) }
+    fn hand_step(&mut self, reading: &mut HandReading) -> HandStep
+        ensures step { (start : Wire) → IsReading handshake_step handshake_start start
+            self.old.wire reading.old.room reading.old.phase
+            (HelloWith (is_early reading.old.phase) reading.old.clean)
+            → HandIs (is_early reading.old.phase) start self.new.wire result reading.new }
+        ensures late { is_early reading.old.phase ≡ true → (caps : Caps) → result ≡ hand.End (Ok caps) → ⊥ }
+        ensures stays { result ≡ hand.On → is_early reading.old.phase ≡ false → is_early reading.new.phase ≡ false }
+        ensures smaller { result ≡ hand.On → 2 * reading.new.room + (65520 - length self.new.wire.unread)
+            < 2 * reading.old.room + (65520 - length self.old.wire.unread) }
         ensures sent { self.new.wire.sent ≡ self.old.wire.sent }
         ensures stage { self.new.wire.stage ≡ self.old.wire.stage }
         ensures rest { self.new ≡ record self.old { wire = self.new.wire } }
@@ -94,15 +125,16 @@ impl<K: Link> Session<K> {
                 Err(cause) => HandStep::End(Err(cause)),
             },
             Ok(Next::Flush) => {
-                let state = handshake_after_flush(*phase);
-                let step = take_state(state, 4, room, phase);
+                let state = handshake_after_flush(reading.phase);
+                let step = take_state(state, 4, &mut reading.room, &mut reading.phase);
                 self.skip(4);
                 step
             }
             Ok(Next::Payload(line)) => {
                 let size = 4 + line.len();
-                let state = handshake_after_line(*phase, line);
-                let step = take_state(state, size as u64, room, phase);
+                let state = handshake_after_line(reading.phase, line);
+                reading.clean = clean_after(reading.clean, line);
+                let step = take_state(state, size as u64, &mut reading.room, &mut reading.phase);
                 self.skip(size);
                 step
             }
@@ -111,21 +143,23 @@ impl<K: Link> Session<K> {
     }
 
     /// Reads the first answer.
-    fn read_hello(&mut self, room: &mut u64, phase: &mut HandshakePhase) -> Result<(), BreakCause>
-        requires { is_early phase.old ≡ true }
-        ensures ok { OnOk result ((start : Wire) → IsReading handshake_step handshake_start start self.old.wire room.old
-            phase.old (HelloBy true)
-            → IsReading handshake_step handshake_start start self.new.wire room.new phase.new (HelloBy false)) }
-        ensures late { OnOk result (is_early phase.new ≡ false) }
-        ensures err { IfErr result (λ why. (start : Wire) → IsReading handshake_step handshake_start start self.old.wire
-            room.old phase.old (HelloBy true)
-            → IsHeard handshake_step handshake_start start self.new.wire (Broke why) (HelloBy true)) }
+    fn read_hello(&mut self, reading: &mut HandReading) -> Result<(), BreakCause>
+        requires { is_early reading.old.phase ≡ true }
+        ensures ok { OnOk result ((start : Wire) → IsReading handshake_step handshake_start start
+            self.old.wire reading.old.room reading.old.phase (HelloWith true reading.old.clean)
+            → IsReading handshake_step handshake_start start
+            self.new.wire reading.new.room reading.new.phase (HelloWith false reading.new.clean)) }
+        ensures late { OnOk result (is_early reading.new.phase ≡ false) }
+        ensures err { IfErr result (λ why. (start : Wire) → IsReading handshake_step handshake_start start
+            self.old.wire reading.old.room reading.old.phase (HelloWith true reading.old.clean)
+            → IsHeard handshake_step handshake_start start self.new.wire (Broke why)
+            (HelloWith true reading.new.clean)) }
         ensures sent { self.new.wire.sent ≡ self.old.wire.sent }
         ensures stage { self.new.wire.stage ≡ self.old.wire.stage }
         ensures rest { self.new ≡ record self.old { wire = self.new.wire } }
     {
-        while is_early(*phase) {
-            match self.hand_step(room, phase) {
+        while is_early(reading.phase) {
+            match self.hand_step(reading) {
                 HandStep::On => {}
                 HandStep::End(Err(cause)) => return Err(cause),
                 HandStep::End(Ok(_)) => unreachable!(),
@@ -135,17 +169,18 @@ impl<K: Link> Session<K> {
     }
 
     /// Reads the second answer.
-    fn read_caps(&mut self, room: &mut u64, phase: &mut HandshakePhase) -> Result<Caps, BreakCause>
-        requires { is_early phase.old ≡ false }
-        ensures heard { (start : Wire) → IsReading handshake_step handshake_start start self.old.wire room.old phase.old
-            (HelloBy false)
-            → IsHeard handshake_step handshake_start start self.new.wire (caps_end result) (HelloBy false) }
+    fn read_caps(&mut self, reading: &mut HandReading) -> Result<Caps, BreakCause>
+        requires { is_early reading.old.phase ≡ false }
+        ensures heard { (start : Wire) → IsReading handshake_step handshake_start start
+            self.old.wire reading.old.room reading.old.phase (HelloWith false reading.old.clean)
+            → IsHeard handshake_step handshake_start start self.new.wire (caps_end result)
+            (HelloWith false reading.new.clean) }
         ensures sent { self.new.wire.sent ≡ self.old.wire.sent }
         ensures stage { self.new.wire.stage ≡ self.old.wire.stage }
         ensures rest { self.new ≡ record self.old { wire = self.new.wire } }
     {
         loop {
-            match self.hand_step(room, phase) {
+            match self.hand_step(reading) {
                 HandStep::On => {}
                 HandStep::End(end) => return end,
             }
@@ -153,36 +188,38 @@ impl<K: Link> Session<K> {
     }
 
     /// Reads the first answer, sends the second text and reads the second answer.
-    fn shake_on(&mut self, caps: &[u8]) -> Result<Caps, OpenFault>
+    fn shake_on(&mut self, caps: &[u8]) -> Result<Announced, OpenFault>
         requires { caps.now ≡ caps_text }
-        ensures after { GoesAfter self.old.wire self.new.wire (opening_end result) }
+        ensures after { GoesAfter self.old.wire self.new.wire result }
         ensures rest { self.new ≡ record self.old { wire = self.new.wire } }
     {
-        let mut room = MOST_ANSWER;
-        let mut phase = HandshakePhase::Server;
-        match self.read_hello(&mut room, &mut phase) {
-            Ok(()) => self.shake_caps(caps, &mut room, &mut phase),
+        let mut reading = HandReading {
+            room: MOST_ANSWER,
+            phase: HandshakePhase::Server,
+            clean: false,
+        };
+        match self.read_hello(&mut reading) {
+            Ok(()) => self.shake_caps(caps, &mut reading),
             Err(cause) => Err(OpenFault::Broken(cause)),
         }
     }
 
     /// Sends the second text and reads the second answer.
-    fn shake_caps(
-        &mut self,
-        caps: &[u8],
-        room: &mut u64,
-        phase: &mut HandshakePhase,
-    ) -> Result<Caps, OpenFault>
+    fn shake_caps(&mut self, caps: &[u8], reading: &mut HandReading) -> Result<Announced, OpenFault>
         requires text { caps.now ≡ caps_text }
-        requires late { is_early phase.old ≡ false }
+        requires late { is_early reading.old.phase ≡ false }
         ensures after { (start : Wire) → self.old.wire.sent ≡ start.sent → self.old.wire.stage ≡ start.stage
-            → IsReading handshake_step handshake_start start self.old.wire room.old phase.old (HelloBy false)
-            → GoesAfter start self.new.wire (opening_end result) }
+            → IsReading handshake_step handshake_start start
+            self.old.wire reading.old.room reading.old.phase (HelloWith false reading.old.clean)
+            → GoesAfter start self.new.wire result }
         ensures rest { self.new ≡ record self.old { wire = self.new.wire } }
     {
         match self.send(caps) {
-            Ok(()) => match self.read_caps(room, phase) {
-                Ok(caps) => Ok(caps),
+            Ok(()) => match self.read_caps(reading) {
+                Ok(caps) => Ok(Announced {
+                    caps,
+                    clean: reading.clean,
+                }),
                 Err(cause) => Err(OpenFault::Broken(cause)),
             },
             Err(SendFault::Failed) => Err(OpenFault::Broken(BreakCause::LinkFault)),
@@ -191,10 +228,11 @@ impl<K: Link> Session<K> {
     }
 
     /// The handshake.
-    fn shake(&mut self, hello: &[u8], caps: &[u8]) -> Result<Caps, OpenFault>
+    fn shake(&mut self, hello: &[u8], caps: &[u8]) -> Result<Announced, OpenFault>
         requires hello { hello.now ≡ hello_text }
         requires caps { caps.now ≡ caps_text }
         ensures opening { IsOpening self.old.wire self.new.wire (opening_end result) }
+        ensures announced { IfOk result (λ a. Announces a.clean self.old.wire self.new.wire a.caps) }
         ensures rest { self.new ≡ record self.old { wire = self.new.wire } }
     {
         match self.send(hello) {
@@ -205,10 +243,11 @@ impl<K: Link> Session<K> {
     }
 
     /// The handshake. It is complete if what is left unread begins with two good answers.
-    fn shake_whole(&mut self, hello: &[u8], caps: &[u8]) -> Result<Caps, OpenFault>
+    fn shake_whole(&mut self, hello: &[u8], caps: &[u8]) -> Result<Announced, OpenFault>
         requires hello { hello.now ≡ hello_text }
         requires caps { caps.now ≡ caps_text }
         ensures opening { IsOpening self.old.wire self.new.wire (opening_end result) }
+        ensures announced { IfOk result (λ a. Announces a.clean self.old.wire self.new.wire a.caps) }
         ensures complete { IsComplete handshake_step handshake_start self.old.wire self.new.wire (opening_end result) }
         ensures rest { self.new ≡ record self.old { wire = self.new.wire } }
     {
@@ -230,8 +269,27 @@ impl<K: Link> Session<K> {
         ensures no_memory { (l : K) → result ≡ Begun.NoMemory l
             → (unread : List ℕ) × IsOpening (wire_of [] (K.seen link)) (wire_of unread (K.seen l)) OutOfMemory }
     {
+        Session::open(alloc, link).begun
+    }
+
+    /// Opens a session over a link, as `begin` does, and says what the driver announced of `clean`.
+    pub(crate) fn open(alloc: Global, link: K) -> Opened<K>
+        ensures live { (s : SessionSeen) → result.begun ≡ Begun.Live s
+            → IsOpening (wire_of [] (K.seen link)) s.wire (Good s.caps) }
+        ensures announced { (s : SessionSeen) → result.begun ≡ Begun.Live s
+            → Announces result.clean (wire_of [] (K.seen link)) s.wire s.caps }
+        ensures standing { (s : SessionSeen) → result.begun ≡ Begun.Live s → s.standing ≡ Standing.Live }
+        ensures broken { (l : K) (why : BreakCause) → result.begun ≡ Begun.Broken l why
+            → (unread : List ℕ) × IsOpening (wire_of [] (K.seen link)) (wire_of unread (K.seen l)) (Broke why) }
+        ensures live_complete { (s : SessionSeen) → result.begun ≡ Begun.Live s
+            → IsComplete handshake_step handshake_start (wire_of [] (K.seen link)) s.wire (Good s.caps) }
+        ensures broken_complete { (l : K) (why : BreakCause) → result.begun ≡ Begun.Broken l why
+            → IsComplete handshake_step handshake_start (wire_of [] (K.seen link)) (wire_of [] (K.seen l)) (Broke why) }
+        ensures no_memory { (l : K) → result.begun ≡ Begun.NoMemory l
+            → (unread : List ℕ) × IsOpening (wire_of [] (K.seen link)) (wire_of unread (K.seen l)) OutOfMemory }
+    {
         let Ok(rooms) = rooms_for(alloc) else {
-            return Begun::NoMemory(link);
+            return unclean(Begun::NoMemory(link));
         };
         let Rooms {
             reader,
@@ -241,13 +299,24 @@ impl<K: Link> Session<K> {
         } = rooms;
         let mut session = Session::over(alloc, link, reader, piece);
         match session.shake_whole(hello.as_slice(), caps.as_slice()) {
-            Ok(caps) => {
+            Ok(Announced { caps, clean }) => {
                 session.set_caps(caps);
-                Begun::Live(session)
+                let begun = Begun::Live(session);
+                Opened { begun, clean }
             }
-            Err(OpenFault::Broken(cause)) => Begun::Broken(session.into_link(), cause),
-            Err(OpenFault::NoMemory) => Begun::NoMemory(session.into_link()),
+            Err(OpenFault::Broken(cause)) => unclean(Begun::Broken(session.into_link(), cause)),
+            Err(OpenFault::NoMemory) => unclean(Begun::NoMemory(session.into_link())),
         }
+    }
+}
+
+/// An opening in which nothing was announced.
+fn unclean<K: Link>(begun: Begun<K>) -> Opened<K>
+    ensures { result.begun ≡ begun }
+{
+    Opened {
+        begun,
+        clean: false,
     }
 }
 

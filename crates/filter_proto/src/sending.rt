@@ -2,11 +2,11 @@
 ghost use Rattle.std.specs.Prelude.{◌≡◌, ◌≤◌, ◌<◌, ◌++◌, [], length, OnOk, OnErr};
 ghost use Rattle.pkt_line.specs.Packets.{Payload};
 ghost use Rattle.pkt_line.specs.Spelling.{spelling};
-ghost use Rattle.filter_words.specs.Requests.{content_text, first_text, list_text};
+ghost use Rattle.filter_words.specs.Requests.{content_text, first_text, clean_text, list_text};
 ghost use Rattle.filter_proto.specs.Sending.{SendsAll};
 
 use edge_kit::{Link, SendFault};
-use filter_words::{push_list, push_smudge_keys, request_in_parts};
+use filter_words::{push_clean_keys, push_list, push_smudge_keys, request_in_parts};
 use pkt_line::{push_flush, push_payload, spells};
 use std::alloc::{AllocError, Global};
 
@@ -47,6 +47,27 @@ pub(crate) fn send_smudge<K: Link>(
         content,
     } = *request;
     match push_smudge_keys(alloc, text, path, name, can_delay) {
+        Ok(()) => send_behind(alloc, link, text, content),
+        Err(_) => Err(SendFault::NoMemory),
+    }
+}
+
+/// Sends the request to clean a content for a path of 1 to 4,096 bytes, packet by packet too. gitattributes(5), `clean`
+#[tactic(auto, using(crate::proofs::Sent::sent_none, crate::proofs::Sent::sent_as))]
+pub(crate) fn send_clean<K: Link>(
+    alloc: Global,
+    link: &mut K,
+    text: &mut Vec<u8>,
+    path: &[u8],
+    content: &[u8],
+) -> Result<(), SendFault>
+    requires some { 1 ≤ length path.now }
+    requires few { length path.now ≤ 4096 }
+    ensures { SendsAll (clean_text path.now content.now) (K.seen link.old) (K.seen link.new) result }
+{
+    request_in_parts();
+    text.clear();
+    match push_clean_keys(alloc, text, path) {
         Ok(()) => send_behind(alloc, link, text, content),
         Err(_) => Err(SendFault::NoMemory),
     }

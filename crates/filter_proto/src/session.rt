@@ -1,12 +1,12 @@
 //! A session with a driver: its calls, each over one exchange.
 ghost use Rattle.std.specs.Prelude.{◌≡◌, IsTrue, ◌↔◌, ◌≤◌, ◌<◌, IfOk, OnOk, take, drop, length, vec_len};
 ghost use Rattle.pkt_line.specs.Packets.{IsPartial, HasPacketOf};
-ghost use Rattle.filter_words.specs.Requests.{first_text, list_text};
+ghost use Rattle.filter_words.specs.Requests.{first_text, clean_text, list_text};
 ghost use Rattle.edge_kit.specs.Faults.{AfterCall};
 ghost use Rattle.edge_kit.specs.Links.{Reads};
 ghost use Rattle.filter_proto.specs.Wires.{wire_of, Filled, FillFails, Sees, SendsOn, IsShutAfter};
 
-use crate::sending::{SmudgeRequest, send_list, send_smudge};
+use crate::sending::{SmudgeRequest, send_clean, send_list, send_smudge};
 use edge_kit::{Failed, Link, SendFault};
 use filter_words::{BreakCause, Caps};
 use pkt_line::{Next, PktFault, PktReader};
@@ -152,6 +152,17 @@ impl<K: Link> Session<K> {
         ensures rest { self.new ≡ record self.old { wire = self.new.wire } }
     {
         send_smudge(self.alloc, &mut self.link, &mut self.text, request)
+    }
+
+    /// Sends the request to clean a content for a path.
+    #[tactic(auto, using(crate::proofs::Told::sends_all_on))]
+    pub(crate) fn send_clean(&mut self, path: &[u8], content: &[u8]) -> Result<(), SendFault>
+        requires some { 1 ≤ length path.now }
+        requires few { length path.now ≤ 4096 }
+        ensures sends { SendsOn (clean_text path.now content.now) self.old.wire self.new.wire result }
+        ensures rest { self.new ≡ record self.old { wire = self.new.wire } }
+    {
+        send_clean(self.alloc, &mut self.link, &mut self.text, path, content)
     }
 
     /// Sends the request for a list.

@@ -6,16 +6,15 @@ use Rattle.checkout_core.specs.declared.event.Event.{Event}
 use Rattle.checkout_core.specs.declared.path.Start.{Start}
 use Rattle.checkout_words.specs.declared.Command.{Command}
 use Rattle.checkout_engine.specs.declared.begin.PlannedRun.{PlannedRun}
-use Rattle.checkout_engine.specs.declared.stop.Stop.{Stop}
-use Rattle.checkout_engine.specs.declared.stop.Stop.TheVariants as stop
+use Rattle.checkout_sources.specs.declared.stop.Stop.{Stop}
+use Rattle.checkout_sources.specs.declared.stop.Stop.TheVariants as stop
 use Rattle.checkout_engine.specs.Begun.{IsPlannedRun}
-use Rattle.checkout_engine.specs.Reading.{ReadsPlan}
+use Rattle.checkout_sources.specs.Reading.{ReadsPlan}
 use Rattle.checkout_engine.specs.Workers.{starts_of, worker_count}
 use Rattle.journal_audit.specs.Audits.{Spells, journal_of}
 use Rattle.journal_run.specs.Planned.{IsCheckoutJournal, Journals, fault_of}
 
 pub no_journal : (told : RepoTold) (command : Option Command) (history : List Event) (old new : RepoSeen) (s : Stop) → ReadsPlan told old new (Err s) → Journals told command history old new (Err (fault_of s))
-no_journal told command history old new stop.NotEmpty reads = absurd reads
 no_journal told command history old new stop.ReadFault reads = inl reads
 no_journal told command history old new (stop.Refused r) reads = inr (r, reads)
 no_journal told command history old new stop.NoMemory reads = inl reads

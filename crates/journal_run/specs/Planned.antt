@@ -6,10 +6,10 @@ use Rattle.edge_kit.specs.Told.{RepoTold}
 use Rattle.checkout_core.specs.declared.event.Event.{Event}
 use Rattle.checkout_words.specs.declared.Command.{Command}
 use Rattle.checkout_plan.specs.declared.path_plan.Plan.{Plan}
-use Rattle.checkout_engine.specs.declared.stop.Refusal.{Refusal}
-use Rattle.checkout_engine.specs.declared.stop.Stop.{Stop}
-use Rattle.checkout_engine.specs.declared.stop.Stop.TheVariants as stop
-use Rattle.checkout_engine.specs.Causes.{IsPlanRead, IsReadCause, IsRefusedFor, IsCutShort}
+use Rattle.checkout_sources.specs.declared.stop.Refusal.{Refusal}
+use Rattle.checkout_sources.specs.declared.stop.Stop.{Stop}
+use Rattle.checkout_sources.specs.declared.stop.Stop.TheVariants as stop
+use Rattle.checkout_sources.specs.Causes.{IsPlanRead, IsReadCause, IsRefusedFor, IsCutShort}
 use Rattle.checkout_engine.specs.Ends.{IsCheckout, workers_asked}
 use Rattle.checkout_engine.specs.Workers.{starts_of, worker_count}
 use Rattle.journal_audit.specs.Audits.{Spells, journal_of}

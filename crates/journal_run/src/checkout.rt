@@ -5,7 +5,8 @@ ghost use Rattle.journal_run.specs.declared.checkout.JournalFault.TheVariants.{N
 ghost use Rattle.journal_run.specs.Planned.{Journals, fault_of};
 
 use checkout_core::Event;
-use checkout_engine::{Stop, planned_run};
+use checkout_engine::planned_run;
+use checkout_sources::Stop;
 use edge_kit::Repo;
 use journal_audit::print_journal;
 use std::alloc::{AllocError, Global};
@@ -43,7 +44,7 @@ fn fault_of(stop: Stop) -> JournalFault
 {
     match stop {
         Stop::NoMemory => JournalFault::NoMemory,
-        Stop::NotEmpty | Stop::ReadFault | Stop::Refused(_) => JournalFault::NoPlan,
+        Stop::ReadFault | Stop::Refused(_) => JournalFault::NoPlan,
     }
 }
 

@@ -31,7 +31,7 @@ use Rattle.rehearsal.specs.Paths.{in_order}
 use Rattle.rehearsal.specs.Repository.{File, attributes, attributes_name, config, files, entry_of, entries, IsRepository}
 use Rattle.rehearsal.specs.Repository as repository
 use Rattle.rehearsal.specs.Repository.{FilesHaveAnIndex, AttributesAreRight}
-use Rattle.checkout_engine.specs.Sources.{HasSettings, HasAttributes, HasBytes, IsPlanned}
+use Rattle.checkout_sources.specs.Sources.{HasSettings, HasAttributes, HasBytes, IsPlanned}
 use Rattle.rehearsal_numbers.specs.Plans.{IsPlanOf, HavePlans}
 use Rattle.rehearsal_numbers.proofs.Rows.{rows_are}
 use Rattle.rehearsal_numbers.proofs.Asked.{settings, no_file, none_is, given, first}

@@ -14,7 +14,7 @@ use Rattle.checkout_plan.specs.declared.path_plan.PathPlan.{PathPlan}
 use Rattle.checkout_plan.specs.declared.path_plan.Plan.{Plan}
 use Rattle.rehearsal.specs.Paths.{kind, name, content, in_order}
 use Rattle.rehearsal.specs.Repository.{attributes_name, files, IsRepository}
-use Rattle.checkout_engine.specs.Sources.{IsPlanned}
+use Rattle.checkout_sources.specs.Sources.{IsPlanned}
 use Rattle.rehearsal_numbers.specs.Contents.{name_of}
 
 -- CR and LF for kind 1, the keyword for kind 2, and UTF-16LE for kind 3

@@ -3,14 +3,13 @@ use Rattle.std.proofs.lemmas.Result.{err_from_is_err_and}
 use Rattle.std.specs.List.{filter}
 use Rattle.checkout_words.specs.declared.Command.{Command}
 use Rattle.checkout_engine.specs.Workers.{starts_of, in_pool, workers_for}
-use Rattle.checkout_engine.proofs.Planned.{plan_part}
 use Rattle.checkout_engine.proofs.SmallRuns.{run_planned}
 use Rattle.checkout_engine.proofs.begin.planned_run.Goals as goal
 
 pub returns-in_err-starts-clause-plans : goal.returns-in_err-starts-clause-plans
 returns-in_err-starts-clause-plans g c =
     let p = err_from_is_err_and c.from_residual-in_err-starts.result c.from_residual-in_err-starts.ensures.1 in
-    rw (p.1, p.2) (plan_part (g.R.Repo.told c.args.repo.now) _ (g.R.Repo.seen c.args.repo.now) (g.R.Repo.seen c.read_plan.new.repo) c.in_ok-planned.ensures.reads.read)
+    rw (p.1, p.2) (c.readings_leave_parts.ensures.after_plan (g.R.Repo.told c.args.repo.now) _ (g.R.Repo.seen c.args.repo.now) (g.R.Repo.seen c.read_plan.new.repo) c.in_ok-planned.ensures.reads.read)
 
 pub returns-clause-plans : goal.returns-clause-plans
 returns-clause-plans g c =

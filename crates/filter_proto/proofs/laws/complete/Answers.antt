@@ -1,6 +1,7 @@
 use Rattle.filter_words.specs.SmudgeReply.{reply_step, reply_start}
 use Rattle.filter_words.specs.Listing.{list_step, list_start}
 use Rattle.filter_proto.proofs.Once.{exchange_gives, opening_gives}
+use Rattle.filter_proto.proofs.Cleanings.{tells}
 use Rattle.filter_proto.proofs.laws.complete.Goals as goal
 
 pub returns-clause-reply : goal.returns-clause-reply
@@ -11,3 +12,6 @@ returns-clause-list c delayed text old new end = exchange_gives (list_step delay
 
 pub returns-clause-handshake : goal.returns-clause-handshake
 returns-clause-handshake c = opening_gives c.fault_stays.ensures.fed c.one_handshake.ensures.same c.one_handshake.ensures.none_longer
+
+pub returns-clause-clean : goal.returns-clause-clean
+returns-clause-clean c = tells c.one_handshake.ensures.same

@@ -1,0 +1,194 @@
+-- The entries that the fates in turn leave are those that the paths' fates leave.
+use Rattle.std.proofs.Common.{◌≡◌, ◌⊎◌, ℕ, suc, Bool, true, false, if◌then◌else◌, Ordering, Less, Equal, Greater, List, [], ◌∷◌, ◌++◌, map, length, Option, None, refl, sym, ap, subst, ◌∙◌, inl, inr, arith}
+use Rattle.std.specs.Prelude.{flat_map, not}
+use Rattle.std.specs.List.{list_all, AllByRecursion}
+use Rattle.std.specs.Ordering.{nat_cmp, is_lt, is_eq}
+use Rattle.std.specs.Cmp.Lexicographic.{slice_cmp}
+use Rattle.std.specs.Str.{bytes_eq}
+use Rattle.std.proofs.lemmas.Bool.{and_parts, and_from}
+use Rattle.std.proofs.lemmas.Map.Text.{is_eq-slice_cmp}
+use Rattle.std.proofs.lemmas.Slice.Eq.{bytes_eq-Decides}
+use Rattle.git_index.specs.declared.entry.Entry.{Entry}
+use Rattle.byte_path.specs.Path.{path_fault}
+use Rattle.git_index.specs.Spelling.{pairwise, is_before, is_below, IsEntry, PathsAreOrdered}
+use Rattle.git_config.specs.declared.setting.Setting.{Setting}
+use Rattle.attr_stack.specs.declared.files.AttrFiles.{AttrFiles}
+use Rattle.settings_view.specs.declared.view.Settings.{Settings}
+use Rattle.checkout_plan.specs.Paths.{first_entries_after, first_entries}
+use Rattle.checkin_engine.specs.declared.path.CheckinPath.{CheckinPath}
+use Rattle.checkin_engine.specs.declared.fate.Fate.{Fate}
+use Rattle.checkin_engine.specs.declared.fate.Fate.TheVariants.{Kept}
+use Rattle.checkin_engine.specs.Paths.{checkin_path, checkin_paths}
+use Rattle.checkin_engine.specs.Indexes.{entry_after, fate_at, new_entries}
+use Rattle.checkin_engine.specs.InTurn.{next_fate, fates_behind, entries_after, entries_in_turn}
+use Rattle.checkin_engine.specs.Ending.{are_apart}
+
+abbrev entry_precedes : Entry → Entry → Bool
+entry_precedes d e = is_before d.path e.path
+
+-- the path is the entry's, or comes before it
+abbrev IsUpTo : List ℕ → Entry → Type 0
+IsUpTo path e = (e.path ≡ path) ⊎ (is_before path e.path ≡ true)
+
+up_to_below : PathsAreOrdered → (e : Entry) (es : List Entry) → list_all (is_below e) es ≡ true → AllByRecursion (IsUpTo e.path) es
+up_to_below law e [] h = tt
+up_to_below law e (f ∷ es) h =
+    let p = and_parts (is_below e f) (list_all (is_below e) es) h in
+    let first : IsUpTo e.path f = elim (law.entries e f p.0) [ inl before ↦ inr before | inr tied ↦ inl (sym tied.0) ] in
+    (first, up_to_below law e es p.1)
+
+-- if an entry has another path than the last one, its path comes after the last
+other_is_behind : (path : List ℕ) (e : Entry) → bytes_eq e.path path ≡ false → IsUpTo path e → is_before path e.path ≡ true
+other_is_behind path e other (inl same) = let no : true ≡ false = sym ((bytes_eq-Decides e.path path).1 same) ∙ other in absurd cc
+other_is_behind path e other (inr before) = before
+
+-- the first entries after a path come after each path up to it
+first_is_behind : PathsAreOrdered → (b c : List ℕ) (es : List Entry) → (b ≡ c) ⊎ (is_before b c ≡ true) → AllByRecursion (IsUpTo c) es → pairwise is_below es ≡ true
+    → list_all (λ q. is_before b q.path) (first_entries_after c es) ≡ true
+first_is_behind law b c [] up all rise = refl
+first_is_behind law b c (e ∷ es) up all rise = elim (bytes_eq e.path c) as (λ t. bytes_eq e.path c ≡ t
+    → list_all (λ q. is_before b q.path) (if t then first_entries_after c es else e ∷ first_entries_after e.path es) ≡ true) [
+      | true ↦ λ same. first_is_behind law b c es up all.1 (and_parts (list_all (is_below e) es) (pairwise is_below es) rise).1
+      | false ↦ λ other.
+          let parts = and_parts (list_all (is_below e) es) (pairwise is_below es) rise in
+          let behind : is_before b e.path ≡ true = elim up [
+            | inl same ↦ subst (λ (p : List ℕ). is_before p e.path ≡ true) (sym same) (other_is_behind c e other all.0)
+            | inr before ↦ law.passes b c e.path before (other_is_behind c e other all.0)
+          ] in
+          and_from (is_before b e.path) (list_all (λ q. is_before b q.path) (first_entries_after e.path es)) behind (first_is_behind law b e.path es (inr behind) (up_to_below law e es parts.0) parts.1)
+    ] refl
+
+first_rise : PathsAreOrdered → (c : List ℕ) (es : List Entry) → pairwise is_below es ≡ true → pairwise entry_precedes (first_entries_after c es) ≡ true
+first_rise law c [] rise = refl
+first_rise law c (e ∷ es) rise = elim (bytes_eq e.path c) as (λ t. bytes_eq e.path c ≡ t
+    → pairwise entry_precedes (if t then first_entries_after c es else e ∷ first_entries_after e.path es) ≡ true) [
+      | true ↦ λ same. first_rise law c es (and_parts (list_all (is_below e) es) (pairwise is_below es) rise).1
+      | false ↦ λ other.
+          let parts = and_parts (list_all (is_below e) es) (pairwise is_below es) rise in
+          and_from (list_all (λ q. is_before e.path q.path) (first_entries_after e.path es)) (pairwise entry_precedes (first_entries_after e.path es))
+          (first_is_behind law e.path e.path es (inl refl) (up_to_below law e es parts.0) parts.1) (first_rise law e.path es parts.1)
+    ] refl
+
+-- paths in order are two paths
+ordered_differ : (o : Ordering) → is_lt o ≡ true → not (is_eq o) ≡ true
+ordered_differ Less lt = refl
+ordered_differ Equal lt = absurd cc
+ordered_differ Greater lt = absurd cc
+
+differ : (p q : List ℕ) → is_before p q ≡ true → not (bytes_eq p q) ≡ true
+differ p q lt = subst (λ (b : Bool). not b ≡ true) (is_eq-slice_cmp p q) (ordered_differ (slice_cmp nat_cmp p q) lt)
+
+module _ (files : AttrFiles) (config : List Setting) (settings : Settings) where
+  all_differ : (e : Entry) (es : List Entry) → list_all (entry_precedes e) es ≡ true → list_all (λ (q : CheckinPath). not (bytes_eq e.path q.path)) (map (checkin_path files config settings) es) ≡ true
+  all_differ e [] all = refl
+  all_differ e (f ∷ es) all =
+      let parts = and_parts (entry_precedes e f) (list_all (entry_precedes e) es) all in
+      and_from (not (bytes_eq e.path f.path)) (list_all (λ (q : CheckinPath). not (bytes_eq e.path q.path)) (map (checkin_path files config settings) es)) (differ e.path f.path parts.0) (all_differ e es parts.1)
+
+  paths_differ : (es : List Entry) → pairwise entry_precedes es ≡ true → are_apart (map (checkin_path files config settings) es) ≡ true
+  paths_differ [] rise = refl
+  paths_differ (e ∷ es) rise =
+      let parts = and_parts (list_all (entry_precedes e) es) (pairwise entry_precedes es) rise in
+      and_from (list_all (λ (q : CheckinPath). not (bytes_eq e.path q.path)) (map (checkin_path files config settings) es)) (are_apart (map (checkin_path files config settings) es)) (all_differ e es parts.0) (paths_differ es parts.1)
+
+  -- the paths of entries that rise have a name each
+  pub paths_are_apart : PathsAreOrdered → (es : List Entry) → pairwise is_below es ≡ true → are_apart (checkin_paths files config settings es) ≡ true
+  paths_are_apart law es rise = paths_differ (first_entries es) (first_rise law [] es rise)
+
+-- a function has these fates at the names of these paths
+abbrev Agrees : (List ℕ → Fate) → List CheckinPath → List Fate → Type 0
+Agrees f [] fates = Unit {0}
+Agrees f (p ∷ ps) [] = Unit {0}
+Agrees f (p ∷ ps) (fate ∷ fates) = (f p.path ≡ fate) × Agrees f ps fates
+
+not_true : (b : Bool) → not b ≡ true → b ≡ false
+not_true true is = absurd cc
+not_true false is = refl
+
+-- another path before them doesn't matter
+behind_agrees : (f : List ℕ → Fate) (name : List ℕ) (first : Fate) (ps : List CheckinPath) (fates : List Fate) → list_all (λ (q : CheckinPath). not (bytes_eq name q.path)) ps ≡ true → Agrees f ps fates
+    → Agrees (λ (n : List ℕ). if bytes_eq name n then first else f n) ps fates
+behind_agrees f name first [] fates all agrees = tt
+behind_agrees f name first (p ∷ ps) [] all agrees = tt
+behind_agrees f name first (p ∷ ps) (fate ∷ fates) all agrees =
+    let parts = and_parts (not (bytes_eq name p.path)) (list_all (λ (q : CheckinPath). not (bytes_eq name q.path)) ps) all in
+    (ap (λ (b : Bool). if b then first else f p.path) (not_true (bytes_eq name p.path) parts.0) ∙ agrees.0, behind_agrees f name first ps fates parts.1 agrees.1)
+
+fates_agree : (ps : List CheckinPath) (fates : List Fate) → are_apart ps ≡ true → Agrees (fate_at ps fates) ps fates
+fates_agree [] fates apart = tt
+fates_agree (p ∷ ps) [] apart = tt
+fates_agree (p ∷ ps) (fate ∷ fates) apart =
+    let parts = and_parts (list_all (λ (q : CheckinPath). not (bytes_eq p.path q.path)) ps) (are_apart ps) apart in (
+      ap (λ (b : Bool). if b then fate else fate_at ps fates p.path) ((bytes_eq-Decides p.path p.path).1 refl),
+      behind_agrees (fate_at ps fates) p.path fate ps fates parts.0 (fates_agree ps fates parts.1),
+    )
+
+abbrev names_of : List CheckinPath → List (List ℕ)
+names_of ps = map (λ p. p.path) ps
+
+abbrev entry_names : List Entry → List (List ℕ)
+entry_names es = map (λ e. e.path) es
+
+paths_named : (files : AttrFiles) (config : List Setting) (settings : Settings) (es : List Entry) → names_of (map (checkin_path files config settings) es) ≡ entry_names es
+paths_named files config settings [] = refl
+paths_named files config settings (e ∷ es) = ap (λ (l : List (List ℕ)). e.path ∷ l) (paths_named files config settings es)
+
+abbrev head_of : List (List ℕ) → List ℕ
+head_of [] = []
+head_of (x ∷ xs) = x
+
+abbrev rest_of : List (List ℕ) → List (List ℕ)
+rest_of [] = []
+rest_of (x ∷ xs) = xs
+
+not_empty : (path : List ℕ) → path_fault path ≡ None → bytes_eq path [] ≡ false
+unfolding path_fault
+not_empty [] is = absurd cc
+not_empty (x ∷ xs) is = refl
+
+-- what each entry is by its path's fate
+abbrev by_fate : (List ℕ → Fate) → Entry → List Entry
+by_fate f e = entry_after (f e.path) e
+
+module _ (f : List ℕ → Fate) where
+  same_path : (e : Entry) (fate : Fate) (rest rest' : List Entry) → f e.path ≡ fate → rest ≡ rest' → entry_after fate e ++ rest ≡ by_fate f e ++ rest'
+  same_path e fate rest rest' is same = ap (λ (g : Fate). entry_after g e ++ rest) (sym is) ∙ ap (λ (l : List Entry). by_fate f e ++ l) same
+
+  -- what the entries behind come to, whatever stands before them
+  abbrev Turns : List Entry → Type 0
+  Turns es = (before : List ℕ) (fate : Fate) (ps : List CheckinPath) (fates : List Fate) → f before ≡ fate → names_of ps ≡ entry_names (first_entries_after before es) → length ps ≡ length fates → Agrees f ps fates
+      → entries_after fate before es fates ≡ flat_map (by_fate f) es
+
+  next : (e : Entry) (es : List Entry) (ps : List CheckinPath) (fates : List Fate) → Turns es → names_of ps ≡ e.path ∷ entry_names (first_entries_after e.path es) → length ps ≡ length fates → Agrees f ps fates
+      → entry_after (next_fate fates) e ++ entries_after (next_fate fates) e.path es (fates_behind fates) ≡ by_fate f e ++ flat_map (by_fate f) es
+  next e es [] fates turns named many agrees = absurd cc
+  next e es (p ∷ ps) [] turns named many agrees = absurd cc
+  next e es (p ∷ ps) (fate ∷ fates) turns named many agrees =
+      let here : f e.path ≡ fate = ap f (sym (ap head_of named)) ∙ agrees.0 in
+      same_path e fate (entries_after fate e.path es fates) (flat_map (by_fate f) es) here (turns e.path fate ps fates here (ap rest_of named) (omega (arith, many)) agrees.1)
+
+  turn : (es : List Entry) → Turns es
+  turn [] before fate ps fates at named many agrees = refl
+  turn (e ∷ es) before fate ps fates at named many agrees = by (turn es) (bytes_eq e.path before) refl named
+    where
+      by : Turns es → (b : Bool) → bytes_eq e.path before ≡ b → names_of ps ≡ entry_names (if b then first_entries_after before es else e ∷ first_entries_after e.path es)
+          → (if b then entry_after fate e ++ entries_after fate before es fates else entry_after (next_fate fates) e ++ entries_after (next_fate fates) e.path es (fates_behind fates)) ≡ by_fate f e ++ flat_map (by_fate f) es
+      by turns true is named = same_path e fate (entries_after fate before es fates) (flat_map (by_fate f) es) (ap f ((bytes_eq-Decides e.path before).0 is) ∙ at) (turns before fate ps fates at named many agrees)
+      by turns false is named = next e es ps fates turns named many agrees
+
+  -- no path is empty, so the first fate doesn't matter
+  first_turn : (es : List Entry) (ps : List CheckinPath) (fates : List Fate) → AllByRecursion IsEntry es → names_of ps ≡ entry_names (first_entries es) → length ps ≡ length fates → Agrees f ps fates
+      → entries_in_turn es fates ≡ flat_map (by_fate f) es
+  first_turn [] ps fates each named many agrees = refl
+  first_turn (e ∷ es) ps fates each named many agrees = by (bytes_eq e.path []) (not_empty e.path each.0.path) named
+    where
+      by : (b : Bool) → b ≡ false → names_of ps ≡ entry_names (if b then first_entries_after [] es else e ∷ first_entries_after e.path es)
+          → (if b then entry_after Kept e ++ entries_after Kept [] es fates else entry_after (next_fate fates) e ++ entries_after (next_fate fates) e.path es (fates_behind fates)) ≡ by_fate f e ++ flat_map (by_fate f) es
+      by true is named = absurd cc
+      by false is named = next e es ps fates (turn es) named many agrees
+
+-- the entries that the fates in turn leave are those after the check-in
+pub in_turn : (files : AttrFiles) (config : List Setting) (settings : Settings) (es : List Entry) (ps : List CheckinPath) (fates : List Fate) → AllByRecursion IsEntry es → ps ≡ checkin_paths files config settings es
+    → are_apart ps ≡ true → length ps ≡ length fates → entries_in_turn es fates ≡ new_entries ps fates es
+in_turn files config settings es ps fates each is apart many =
+    first_turn (fate_at ps fates) es ps fates each (ap names_of is ∙ paths_named files config settings (first_entries es)) many (fates_agree ps fates apart)

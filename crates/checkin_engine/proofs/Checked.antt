@@ -1,0 +1,216 @@
+-- The paths that were looked at, one more at a time.
+use Rattle.std.proofs.Common.{◌≡◌, ℕ, zero, suc, ◌+◌, ◌<◌, Bool, true, false, List, [], ◌∷◌, ◌++◌, length, take, drop, get_or, Option, Some, None, refl, sym, ap, subst, inl, ◌∙◌, append_assoc, append-nil, add-one, arith}
+use Rattle.std.specs.List.{AllByRecursion}
+use Rattle.std.specs.Option.{option_map}
+use Rattle.std.proofs.lemmas.List.{map-append, take-append-drop}
+use Rattle.std.proofs.Math.Seq.{take-suc}
+use Rattle.edge_kit.specs.Faults.{Rose}
+use Rattle.edge_kit.specs.Seen.{RepoSeen}
+use Rattle.edge_kit.specs.Told.{Told}
+use Rattle.checkin_engine.specs.declared.path.CheckinPath.{CheckinPath}
+use Rattle.checkin_engine.specs.declared.fate.Fate.{Fate}
+use Rattle.checkin_engine.specs.Outside.{FilesSeen, KeepSeen, IsKeepFailed, with_objects}
+use Rattle.checkin_engine.specs.Outcomes.{Outcome, IsOutcome, AreOutcomes, AreLookedAt, AreChecked, AreObjectsCut, AreBrokenOff, MakesNextBlob, object_of, objects_of, blob_back, blobs_back, failed_at, failed_paths, with_blobs, HasCounted}
+use Rattle.checkin_engine.specs.Looking.{with_blob, FailsIf, IsPathLookedAt, IsOpen}
+use Rattle.checkin_engine.specs.Keeping.{IsPathChecked, IsPathCut, IsPathLeft, ArePathsChecked}
+
+outcomes_more : (object files : List ℕ → Told) (ps : List CheckinPath) (os : List Outcome) (p : CheckinPath) (o : Outcome) → AreOutcomes object files ps os → IsOutcome object files p o → AreOutcomes object files (ps ++ p ∷ []) (os ++ o ∷ [])
+outcomes_more object files [] [] p o are is = (is, tt)
+outcomes_more object files [] (x ∷ os) p o are is = absurd are
+outcomes_more object files (q ∷ ps) [] p o are is = absurd are
+outcomes_more object files (q ∷ ps) (x ∷ os) p o are is = (are.0, outcomes_more object files ps os p o are.1 is)
+
+blobs_more : (object files : List ℕ → Told) (ps : List CheckinPath) (os : List Outcome) (p : CheckinPath) (o : Outcome) → AreOutcomes object files ps os → blobs_back (ps ++ p ∷ []) (os ++ o ∷ []) ≡ blobs_back ps os ++ blob_back p o.blob
+blobs_more object files [] [] p o are = append-nil (blob_back p o.blob)
+blobs_more object files [] (x ∷ os) p o are = absurd are
+blobs_more object files (q ∷ ps) [] p o are = absurd are
+blobs_more object files (q ∷ ps) (x ∷ os) p o are =
+    ap (λ (l : List (List ℕ × ℕ)). blob_back q x.blob ++ l) (blobs_more object files ps os p o are.1)
+    ∙ sym (append_assoc (blob_back q x.blob) (blobs_back ps os) (blob_back p o.blob))
+
+paths_more : (object files : List ℕ → Told) (ps : List CheckinPath) (os : List Outcome) (p : CheckinPath) (o : Outcome) → AreOutcomes object files ps os → failed_paths (ps ++ p ∷ []) (os ++ o ∷ []) ≡ failed_paths ps os ++ failed_at p o.failed
+paths_more object files [] [] p o are = append-nil (failed_at p o.failed)
+paths_more object files [] (x ∷ os) p o are = absurd are
+paths_more object files (q ∷ ps) [] p o are = absurd are
+paths_more object files (q ∷ ps) (x ∷ os) p o are =
+    ap (λ (l : List (List ℕ)). failed_at q x.failed ++ l) (paths_more object files ps os p o are.1)
+    ∙ sym (append_assoc (failed_at q x.failed) (failed_paths ps os) (failed_at p o.failed))
+
+objects_more : (os : List Outcome) (o : Outcome) → objects_of (os ++ o ∷ []) ≡ objects_of os ++ object_of o
+objects_more [] o = append-nil (object_of o)
+objects_more (x ∷ os) o =
+    ap (λ (l : List (List ℕ × List ℕ)). object_of x ++ l) (objects_more os o) ∙ sym (append_assoc (object_of x) (objects_of os) (object_of o))
+
+-- a blob is given back, or none
+pub one_blob : (p : CheckinPath) (blob : Option ℕ) (repo : RepoSeen) → with_blob p.object blob repo ≡ with_blobs (blob_back p blob) repo
+one_blob p None repo = ap (λ (l : List (List ℕ × ℕ)). record repo { returned = l }) (sym (append-nil repo.returned))
+one_blob p (Some count) repo = refl
+
+-- the files failed at a path, or they are as they were
+fails_paths : (failed : Bool) (p : CheckinPath) (files files' : FilesSeen) → FailsIf failed p.path files files' → files'.failed ≡ files.failed ++ failed_at p failed
+fails_paths true p files files' fails = fails.paths
+fails_paths false p files files' fails = ap (λ (f : FilesSeen). f.failed) fails ∙ sym (append-nil files.failed)
+
+rose_twice : (a b c : ℕ) → Rose a b → Rose b c → Rose a c
+rose_twice a b c first second = record { kept = omega (arith, first.kept, second.kept); risen = λ below. let more : b < c = second.risen below in omega (arith, first.kept, more) }
+
+-- the count of faults goes with the paths at which the files failed
+counts_more : (paths : List (List ℕ)) (failed : Bool) (p : CheckinPath) (count : ℕ) (files files' : FilesSeen) → HasCounted paths count files.faults → FailsIf failed p.path files files' → HasCounted (paths ++ failed_at p failed) count files'.faults
+counts_more [] true p count files files' counted fails = subst (λ (n : ℕ). Rose n files'.faults) counted fails.rose
+counts_more [] false p count files files' counted fails = ap (λ (f : FilesSeen). f.faults) fails ∙ counted
+counts_more (path ∷ paths) true p count files files' counted fails = rose_twice count files.faults files'.faults counted fails.rose
+counts_more (path ∷ paths) false p count files files' counted fails = subst (λ (f : FilesSeen). Rose count f.faults) (sym fails) counted
+
+-- one path more was looked at
+looked_more : (object told : List ℕ → Told) (ps : List CheckinPath) (os : List Outcome) (p : CheckinPath) (o : Outcome) (repo repo' repo'' : RepoSeen) (files files' files'' : FilesSeen) → AreOutcomes object told ps os
+    → AreLookedAt ps os repo repo' files files' → IsPathLookedAt object told p repo' repo'' files' files'' o → AreLookedAt (ps ++ p ∷ []) (os ++ o ∷ []) repo repo'' files files''
+looked_more object told ps os p o repo repo' repo'' files files' files'' each are is = record {
+  blobs = is.back ∙ one_blob p o.blob repo' ∙ ap (with_blobs (blob_back p o.blob)) are.blobs
+      ∙ ap (λ (l : List (List ℕ × ℕ)). record repo { returned = l }) (append_assoc repo.returned (blobs_back ps os) (blob_back p o.blob)
+      ∙ ap (λ (l : List (List ℕ × ℕ)). repo.returned ++ l) (sym (blobs_more object told ps os p o each)));
+  failed = fails_paths o.failed p files' files'' is.fails ∙ ap (λ (l : List (List ℕ)). l ++ failed_at p o.failed) are.failed
+      ∙ append_assoc files.failed (failed_paths ps os) (failed_at p o.failed)
+      ∙ ap (λ (l : List (List ℕ)). files.failed ++ l) (sym (paths_more object told ps os p o each));
+  counted = subst (λ (l : List (List ℕ)). HasCounted l files.faults files''.faults) (sym (paths_more object told ps os p o each))
+      (counts_more (failed_paths ps os) o.failed p files.faults files' files'' are.counted is.fails);
+}
+
+objects_told : (kept : Option (List (List ℕ × List ℕ))) (a b : List (List ℕ × List ℕ)) → option_map (λ k. k ++ b) (option_map (λ k. k ++ a) kept) ≡ option_map (λ k. k ++ (a ++ b)) kept
+objects_told None a b = refl
+objects_told (Some kept) a b = ap (λ (l : List (List ℕ × List ℕ)). Some l) (append_assoc kept a b)
+
+no_objects : (kept : Option (List (List ℕ × List ℕ))) → kept ≡ option_map (λ k. k ++ []) kept
+no_objects None = refl
+no_objects (Some kept) = ap (λ (l : List (List ℕ × List ℕ)). Some l) (sym (append-nil kept))
+
+-- nothing more is kept
+pub with_no_object : (keep : KeepSeen) → keep ≡ with_objects [] keep
+with_no_object keep = ap (λ (o : Option (List (List ℕ × List ℕ))). record keep { objects = o }) (no_objects keep.objects)
+
+-- before the first path
+pub none_checked : (object told : List ℕ → Told) (repo : RepoSeen) (files : FilesSeen) (keep : KeepSeen) → ArePathsChecked object told [] repo repo files files keep keep []
+none_checked object told repo files keep = record {
+  outcomes = [];
+  same = refl;
+  each = tt;
+  checked = record {
+    looked = record {
+      blobs = ap (λ (l : List (List ℕ × ℕ)). record repo { returned = l }) (sym (append-nil repo.returned));
+      failed = sym (append-nil files.failed);
+      counted = refl;
+    };
+    objects = with_no_object keep;
+  };
+}
+
+-- one path more
+pub one_checked : (object told : List ℕ → Told) (ps : List CheckinPath) (p : CheckinPath) (repo repo' repo'' : RepoSeen) (files files' files'' : FilesSeen) (keep keep' keep'' : KeepSeen) (fates : List Fate) (fate : Fate)
+    → ArePathsChecked object told ps repo repo' files files' keep keep' fates → IsPathChecked object told p repo' repo'' files' files'' keep' keep'' fate
+    → ArePathsChecked object told (ps ++ p ∷ []) repo repo'' files files'' keep keep'' (fates ++ fate ∷ [])
+one_checked object told ps p repo repo' repo'' files files' files'' keep keep' keep'' fates fate are is =
+    let os : List Outcome = are.outcomes in
+    let o : Outcome = is.outcome in record {
+      outcomes = os ++ o ∷ [];
+      same = map-append (λ (x : Outcome). x.fate) os (o ∷ []) ∙ ap (λ (l : List Fate). l ++ o.fate ∷ []) are.same ∙ ap (λ (f : Fate). fates ++ f ∷ []) is.same;
+      each = outcomes_more object told ps os p o are.each is.looked.is;
+      checked = record {
+        looked = looked_more object told ps os p o repo repo' repo'' files files' files'' are.each are.checked.looked is.looked;
+        objects = is.object_kept ∙ ap (with_objects (object_of o)) are.checked.objects
+            ∙ ap (λ (x : Option (List (List ℕ × List ℕ))). record keep { objects = x }) (objects_told keep.objects (objects_of os) (object_of o))
+            ∙ ap (λ (l : List (List ℕ × List ℕ)). with_objects l keep) (sym (objects_more os o));
+      };
+    }
+
+-- the next path of a list
+pub next_path : (ps : List CheckinPath) (i : ℕ) (p : CheckinPath) → i < length ps → p ≡ get_or ps i p → take (i + 1) ps ≡ take i ps ++ p ∷ []
+next_path ps i p lt is = ap (λ (n : ℕ). take n ps) (add-one i) ∙ take-suc ps i p lt ∙ ap (λ (x : CheckinPath). take i ps ++ x ∷ []) (sym is)
+
+parts_at : (ps : List CheckinPath) (i : ℕ) (p : CheckinPath) → i < length ps → p ≡ get_or ps i p → ps ≡ take i ps ++ p ∷ drop (i + 1) ps
+parts_at ps i p lt is =
+    sym (take-append-drop (i + 1) ps) ∙ ap (λ (l : List CheckinPath). l ++ drop (i + 1) ps) (next_path ps i p lt is) ∙ append_assoc (take i ps) (p ∷ []) (drop (i + 1) ps)
+
+opens_at : (ps : List CheckinPath) → AllByRecursion IsOpen ps → (i : ℕ) (d : CheckinPath) → i < length ps → IsOpen (get_or ps i d)
+opens_at [] are i d lt = absurd (omega arith)
+opens_at (p ∷ ps) are zero d lt = are.0
+opens_at (p ∷ ps) are (suc i) d lt = opens_at ps are.1 i d (omega arith)
+
+-- each path is open
+pub open_at : (ps : List CheckinPath) (i : ℕ) (p : CheckinPath) → AllByRecursion IsOpen ps → i < length ps → p ≡ get_or ps i p → IsOpen p
+open_at ps i p are lt is = subst IsOpen (sym is) (opens_at ps are i p lt)
+
+no_blob : (ps : List CheckinPath) (repo : RepoSeen) → MakesNextBlob ps repo repo
+no_blob [] repo = refl
+no_blob (p ∷ ps) repo = inl refl
+
+module _ (object told : List ℕ → Told) (ps : List CheckinPath) (repo repo' repo'' : RepoSeen) (files files' files'' : FilesSeen) (keep keep' keep'' : KeepSeen) (fates : List Fate) where
+  -- the keeper failed at the next path
+  pub cut_at : (i : ℕ) (p : CheckinPath) → i < length ps → p ≡ get_or ps i p → ArePathsChecked object told (take i ps) repo repo' files files' keep keep' fates
+      → IsPathCut object told p repo' repo'' files' files'' keep' keep'' → AreObjectsCut object told ps repo repo'' files files'' keep keep''
+  cut_at i p lt is are cut = record {
+    front = take i ps;
+    path = p;
+    after = drop (i + 1) ps;
+    parts = parts_at ps i p lt is;
+    outcomes = are.outcomes;
+    outcome = cut.outcome;
+    each = outcomes_more object told (take i ps) are.outcomes p cut.outcome are.each cut.looked.is;
+    name = cut.name;
+    changed = cut.changed;
+    looked = looked_more object told (take i ps) are.outcomes p cut.outcome repo repo' repo'' files files' files'' are.each are.checked.looked cut.looked;
+    failed = subst (λ (k : KeepSeen). IsKeepFailed k keep'') are.checked.objects cut.failed;
+  }
+
+  -- memory ran out at the next path
+  pub left_at : (i : ℕ) (p : CheckinPath) → i < length ps → p ≡ get_or ps i p → ArePathsChecked object told (take i ps) repo repo' files files' keep keep' fates
+      → IsPathLeft p repo' repo'' files' files'' keep' keep'' → AreBrokenOff object told ps repo repo'' files files'' keep keep''
+  left_at i p lt is are left = record {
+    front = take i ps;
+    after = p ∷ drop (i + 1) ps;
+    parts = parts_at ps i p lt is;
+    outcomes = are.outcomes;
+    each = are.each;
+    mid = repo';
+    checked = subst (λ (f : FilesSeen). AreChecked (take i ps) are.outcomes repo repo' files f keep keep'') (sym left.files_same)
+        (subst (λ (k : KeepSeen). AreChecked (take i ps) are.outcomes repo repo' files files' keep k) (sym left.keep_same) are.checked);
+    next = left.blob;
+  }
+
+  -- memory ran out behind these paths
+  pub left_behind : (i : ℕ) → ArePathsChecked object told (take i ps) repo repo' files files' keep keep' fates → AreBrokenOff object told ps repo repo' files files' keep keep'
+  left_behind i are = record {
+    front = take i ps;
+    after = drop i ps;
+    parts = sym (take-append-drop i ps);
+    outcomes = are.outcomes;
+    each = are.each;
+    mid = repo';
+    checked = are.checked;
+    next = no_blob (drop i ps) repo';
+  }
+
+  -- memory ran out behind all paths
+  pub left_behind_all : ArePathsChecked object told ps repo repo' files files' keep keep' fates → AreBrokenOff object told ps repo repo' files files' keep keep'
+  left_behind_all are = record {
+    front = ps;
+    after = [];
+    parts = sym (append-nil ps);
+    outcomes = are.outcomes;
+    each = are.each;
+    mid = repo';
+    checked = are.checked;
+    next = refl;
+  }
+
+-- memory ran out before the first path
+pub left_before : (object told : List ℕ → Told) (ps : List CheckinPath) (repo : RepoSeen) (files : FilesSeen) (keep : KeepSeen) → AreBrokenOff object told ps repo repo files files keep keep
+left_before object told ps repo files keep =
+    let none : ArePathsChecked object told [] repo repo files files keep keep [] = none_checked object told repo files keep in record {
+      front = [];
+      after = ps;
+      parts = refl;
+      outcomes = none.outcomes;
+      each = none.each;
+      mid = repo;
+      checked = none.checked;
+      next = no_blob ps repo;
+    }

@@ -1,0 +1,10 @@
+pub mod KeptPaths
+mod Standing
+mod ByPath
+mod Names
+mod Checked
+mod Looked
+mod Kept
+mod Texts
+mod Finish
+mod BackAgain

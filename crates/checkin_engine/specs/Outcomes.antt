@@ -1,0 +1,180 @@
+-- What the paths of an index come to, with what they leave in the counts of the outside.
+use Rattle.std.specs.Prelude.{◌≡◌, ◌⊎◌, ◌<◌, ℕ, Bool, true, false, List, [], ◌∷◌, ◌++◌, map, Option, Some, None}
+use Rattle.std.specs.Prelude.{if◌then◌else◌}
+use Rattle.edge_kit.specs.Faults.{Rose}
+use Rattle.edge_kit.specs.Seen.{RepoSeen}
+use Rattle.edge_kit.specs.Told.{Told, MayFail}
+use Rattle.git_index.specs.declared.entry.Entry.{Entry}
+use Rattle.git_index.specs.Spelling.{plain_text}
+use Rattle.object_dir.specs.Spelling.{spelled_blob}
+use Rattle.checkin_engine.specs.declared.path.Storing.{Storing}
+use Rattle.checkin_engine.specs.declared.path.Way.{Way}
+use Rattle.checkin_engine.specs.declared.path.Way.TheVariants as way
+use Rattle.checkin_engine.specs.declared.path.CheckinPath.{CheckinPath}
+use Rattle.checkin_engine.specs.declared.fate.Fate.{Fate}
+use Rattle.checkin_engine.specs.declared.fate.Fate.TheVariants.{Same, Changed, Gone, Kept, Failed}
+use Rattle.checkin_engine.specs.declared.fate.CheckinCause.TheVariants.{Read}
+use Rattle.checkin_engine.specs.Outside.{FilesSeen, KeepSeen, IsKeepFailed, with_objects, with_index}
+use Rattle.checkin_engine.specs.Fates.{is_auto, IsThere, HasFate}
+
+-- What a path comes to: its fate, the content of its file if it is stored, whether the files failed at it, and the count
+-- of its blob if one was made.
+pub record Outcome : Type 0 where
+  pub fate : Fate
+  pub content : List ℕ
+  pub failed : Bool
+  pub blob : Option ℕ
+
+-- nothing failed, and there was no blob or one
+abbrev pub IsUnfailed : Outcome → Option ℕ → Type 0
+IsUnfailed o blob = (o.failed ≡ false) × (o.blob ≡ blob)
+
+-- The files failed at the path, and there was no blob. Or a file is there, the action asks for the index's content, and
+-- its blob failed.
+abbrev pub IsUnread : Told → Told → Storing → Outcome → Type 0
+IsUnread object file storing o =
+    (MayFail file × (o.failed ≡ true) × (o.blob ≡ None))
+    ⊎ (IsThere file × (is_auto storing.action ≡ true) × MayFail object × (o.failed ≡ false)
+    × ((n : ℕ) × (0 < n) × (o.blob ≡ Some n)))
+
+-- the blob of a path whose action looks at the index's content
+abbrev pub blob_by : Bool → Option ℕ
+blob_by auto = if auto then Some 0 else None
+
+-- the counts of a path whose file is stored
+abbrev pub HasStoredCounts : Told → Told → Storing → Outcome → Fate → Type 0
+HasStoredCounts object file storing o Same = IsUnfailed o (blob_by (is_auto storing.action))
+HasStoredCounts object file storing o (Changed name) = IsUnfailed o (blob_by (is_auto storing.action))
+HasStoredCounts object file storing o Gone = IsUnfailed o None
+HasStoredCounts object file storing o Kept = ⊥
+HasStoredCounts object file storing o (Failed Read) = IsUnread object file storing o
+HasStoredCounts object file storing o (Failed cause) = IsUnfailed o (blob_by (is_auto storing.action))
+
+-- a file is taken and a blob is made only for a path whose file is stored
+abbrev pub HasCounts : Told → Told → Way → Outcome → Type 0
+HasCounts object file (way.Stored storing) o = HasStoredCounts object file storing o o.fate
+HasCounts object file w o = IsUnfailed o None
+
+-- what a path comes to, by what is told
+pub record IsOutcome (object files : List ℕ → Told) (p : CheckinPath) (o : Outcome) : Type 0 where
+  pub fate : HasFate (object p.object) (files p.path) p.object p.way o.content o.fate
+  pub counts : HasCounts (object p.object) (files p.path) p.way o
+
+abbrev pub AreOutcomes : (List ℕ → Told) → (List ℕ → Told) → List CheckinPath → List Outcome → Type 0
+AreOutcomes object files [] [] = Unit {0}
+AreOutcomes object files (p ∷ ps) (o ∷ os) = IsOutcome object files p o × AreOutcomes object files ps os
+AreOutcomes object files ps os = ⊥
+
+abbrev pub fates_of : List Outcome → List Fate
+fates_of os = map (λ o. o.fate) os
+
+-- the blob of a path as it is given back
+abbrev pub blob_back : CheckinPath → Option ℕ → List (List ℕ × ℕ)
+blob_back p None = []
+blob_back p (Some count) = (p.object, count) ∷ []
+
+-- the blobs of the paths, in order
+abbrev pub blobs_back : List CheckinPath → List Outcome → List (List ℕ × ℕ)
+blobs_back (p ∷ ps) (o ∷ os) = blob_back p o.blob ++ blobs_back ps os
+blobs_back ps os = []
+
+-- the path, if the files failed at it
+abbrev pub failed_at : CheckinPath → Bool → List (List ℕ)
+failed_at p failed = if failed then p.path ∷ [] else []
+
+-- the paths at which the files failed, in order
+abbrev pub failed_paths : List CheckinPath → List Outcome → List (List ℕ)
+failed_paths (p ∷ ps) (o ∷ os) = failed_at p o.failed ++ failed_paths ps os
+failed_paths ps os = []
+
+-- the object of a path, if it is another than its entry's: its name and its stored bytes
+abbrev pub object_by : Fate → List ℕ → List (List ℕ × List ℕ)
+object_by (Changed name) content = (name, spelled_blob content) ∷ []
+object_by fate content = []
+
+abbrev pub object_of : Outcome → List (List ℕ × List ℕ)
+object_of o = object_by o.fate o.content
+
+-- the objects of the changed paths, in order
+abbrev pub objects_of : List Outcome → List (List ℕ × List ℕ)
+objects_of [] = []
+objects_of (o ∷ os) = object_of o ++ objects_of os
+
+-- a repository with these blobs after those that it was given back
+abbrev pub with_blobs : List (List ℕ × ℕ) → RepoSeen → RepoSeen
+with_blobs blobs repo = record repo { returned = repo.returned ++ blobs }
+
+-- the count of faults is as it was, or rose if there is a path at which the files failed
+abbrev pub HasCounted : List (List ℕ) → ℕ → ℕ → Type 0
+HasCounted [] old new = new ≡ old
+HasCounted (path ∷ paths) old new = Rose old new
+
+-- The paths were looked at: their blobs were given back, and the files failed at just these.
+pub record AreLookedAt (ps : List CheckinPath) (os : List Outcome) (repo repo' : RepoSeen) (files files' : FilesSeen)
+    : Type 0 where
+  pub blobs : repo' ≡ with_blobs (blobs_back ps os) repo
+  pub failed : files'.failed ≡ files.failed ++ failed_paths ps os
+  pub counted : HasCounted (failed_paths ps os) files.faults files'.faults
+
+-- the paths were looked at, in order, and the objects of the changed ones kept
+pub record AreChecked (ps : List CheckinPath) (os : List Outcome) (repo repo' : RepoSeen) (files files' : FilesSeen)
+    (keep keep' : KeepSeen) : Type 0 where
+  pub looked : AreLookedAt ps os repo repo' files files'
+  pub objects : keep' ≡ with_objects (objects_of os) keep
+
+-- All paths were looked at and came to these fates, the objects of the changed ones were kept, and then the index of
+-- these entries.
+pub record AreKept (object told : List ℕ → Told) (kept : List Entry) (ps : List CheckinPath) (repo repo' : RepoSeen)
+    (files files' : FilesSeen) (keep keep' : KeepSeen) (fates : List Fate) : Type 0 where
+  pub outcomes : List Outcome
+  pub same : fates_of outcomes ≡ fates
+  pub each : AreOutcomes object told ps outcomes
+  pub mid : KeepSeen
+  pub checked : AreChecked ps outcomes repo repo' files files' keep mid
+  pub index : keep' ≡ with_index (plain_text kept) mid
+
+-- The keeper failed at the object of a changed path. The objects of the paths before it were kept, and nothing else.
+pub record AreObjectsCut (object told : List ℕ → Told) (ps : List CheckinPath) (repo repo' : RepoSeen)
+    (files files' : FilesSeen) (keep keep' : KeepSeen) : Type 0 where
+  pub front : List CheckinPath
+  pub path : CheckinPath
+  pub after : List CheckinPath
+  pub parts : ps ≡ front ++ path ∷ after
+  pub outcomes : List Outcome
+  pub outcome : Outcome
+  pub each : AreOutcomes object told (front ++ path ∷ []) (outcomes ++ outcome ∷ [])
+  pub name : List ℕ
+  pub changed : outcome.fate ≡ Changed name
+  pub looked : AreLookedAt (front ++ path ∷ []) (outcomes ++ outcome ∷ []) repo repo' files files'
+  pub failed : IsKeepFailed (with_objects (objects_of outcomes) keep) keep'
+
+-- the keeper failed at the index, once all objects were kept
+pub record IsIndexCut (object told : List ℕ → Told) (ps : List CheckinPath) (repo repo' : RepoSeen)
+    (files files' : FilesSeen) (keep keep' : KeepSeen) : Type 0 where
+  pub outcomes : List Outcome
+  pub each : AreOutcomes object told ps outcomes
+  pub mid : KeepSeen
+  pub checked : AreChecked ps outcomes repo repo' files files' keep mid
+  pub failed : IsKeepFailed mid keep'
+
+-- a blob of that name was made and given back, or none was made
+abbrev pub MakesBlob : List ℕ → RepoSeen → RepoSeen → Type 0
+MakesBlob name repo repo' = (repo' ≡ repo) ⊎ (repo' ≡ with_blobs ((name, 0) ∷ []) repo)
+
+-- the same for the first of these paths, if there is one
+abbrev pub MakesNextBlob : List CheckinPath → RepoSeen → RepoSeen → Type 0
+MakesNextBlob [] repo repo' = repo' ≡ repo
+MakesNextBlob (p ∷ ps) repo repo' = MakesBlob p.object repo repo'
+
+-- Memory ran out before the index was kept. The first paths were looked at and their objects kept, and nothing else. The
+-- blob of the next one may have been made and given back.
+pub record AreBrokenOff (object told : List ℕ → Told) (ps : List CheckinPath) (repo repo' : RepoSeen)
+    (files files' : FilesSeen) (keep keep' : KeepSeen) : Type 0 where
+  pub front : List CheckinPath
+  pub after : List CheckinPath
+  pub parts : ps ≡ front ++ after
+  pub outcomes : List Outcome
+  pub each : AreOutcomes object told front outcomes
+  pub mid : RepoSeen
+  pub checked : AreChecked front outcomes repo mid files files' keep keep'
+  pub next : MakesNextBlob after mid repo'

@@ -1,0 +1,173 @@
+//! A worktree back into blobs and an index.
+ghost use Rattle.std.specs.Prelude.{◌≡◌, length, true, false};
+ghost use Rattle.checkin_engine.specs.Words.{is_checkin};
+ghost use Rattle.checkout_sources.specs.RefusalText.{refusal_line};
+ghost use Rattle.checkin_engine.specs.declared.status.CheckinStatus.{CheckinStatus};
+ghost use Rattle.checkin_engine.specs.Ends.{seen, number_of, status_of, EndsCheckin};
+ghost use Rattle.checkin_engine.specs.Ending.{WritesLine, EndsStopped, EndsHalted, WritesReport};
+
+use crate::fate::Fate;
+use crate::files::Files;
+use crate::keep::Keep;
+use crate::keeping::keep_all;
+use crate::path::CheckinPath;
+use crate::reading::{Halt, read_paths};
+use crate::report::{has_failed, report_text};
+use crate::status::{CheckinStatus, number_of};
+use crate::words::is_checkin;
+use checkout_sources::{Refusal, Stop, refusal_line};
+use edge_kit::{Repo, SendFault, Sink, Spawner};
+use one_shot::Once;
+use std::alloc::Global;
+
+/// The line of a repository in which a driver with a way has a path.
+const DRIVEN_LINE: &[u8] = b"refused drivers unbuilt\n";
+
+/// Writes a line that says why a repository is refused.
+fn write_line<S: Sink>(out: &mut S, line: &[u8]) -> CheckinStatus
+    ensures { WritesLine line.now (S.seen out.old) (S.seen out.new) result }
+{
+    match out.write(line) {
+        Ok(()) => CheckinStatus::Refused,
+        Err(SendFault::Failed) => CheckinStatus::OutputNotWritten,
+        Err(SendFault::NoMemory) => CheckinStatus::OutOfMemory,
+    }
+}
+
+/// Writes the line of a refusal.
+fn refuse<S: Sink>(alloc: Global, out: &mut S, refusal: &Refusal) -> CheckinStatus
+    ensures { WritesLine (refusal_line refusal.now) (S.seen out.old) (S.seen out.new) result }
+{
+    let Ok(line) = refusal_line(alloc, refusal) else {
+        return CheckinStatus::OutOfMemory;
+    };
+    match out.write(&line) {
+        Ok(()) => CheckinStatus::Refused,
+        Err(SendFault::Failed) => CheckinStatus::OutputNotWritten,
+        Err(SendFault::NoMemory) => CheckinStatus::OutOfMemory,
+    }
+}
+
+/// How a check-in ends for which nothing could be read.
+fn stopped<S: Sink>(alloc: Global, out: &mut S, stop: Stop) -> CheckinStatus
+    ensures { EndsStopped stop (S.seen out.old) (S.seen out.new) result }
+{
+    match stop {
+        Stop::Refused(refusal) => refuse(alloc, out, &refusal),
+        Stop::ReadFault => CheckinStatus::ReadFault,
+        Stop::NoMemory => CheckinStatus::OutOfMemory,
+    }
+}
+
+/// How a check-in ends that halted before a file was looked at.
+fn halted<S: Sink>(alloc: Global, out: &mut S, halt: Halt) -> CheckinStatus
+    ensures { EndsHalted halt (S.seen out.old) (S.seen out.new) result }
+{
+    match halt {
+        Halt::Stopped(stop) => stopped(alloc, out, stop),
+        Halt::Driven => write_line(out, DRIVEN_LINE),
+    }
+}
+
+/// 1 if some path failed, and 0 if none did.
+fn status_of(fates: &[Fate]) -> CheckinStatus
+    ensures { result ≡ status_of fates.now }
+{
+    if has_failed(fates) {
+        CheckinStatus::DoneWithFailures
+    } else {
+        CheckinStatus::Done
+    }
+}
+
+/// Writes the report of the paths.
+fn write_report<S: Sink>(
+    alloc: Global,
+    out: &mut S,
+    paths: &[CheckinPath],
+    fates: &[Fate],
+) -> CheckinStatus
+    requires { length paths.now ≡ length fates.now }
+    ensures { WritesReport paths.now fates.now (S.seen out.old) (S.seen out.new) result }
+{
+    let Ok(text) = report_text(alloc, paths, fates) else {
+        return CheckinStatus::OutOfMemory;
+    };
+    match out.write(&text) {
+        Ok(()) => status_of(fates),
+        Err(SendFault::Failed) => CheckinStatus::OutputNotWritten,
+        Err(SendFault::NoMemory) => CheckinStatus::OutOfMemory,
+    }
+}
+
+/// A check-in.
+fn check_in<R: Repo, F: Files, K: Keep, S: Sink>(
+    alloc: Global,
+    repo: &mut R,
+    files: &mut F,
+    keep: &mut K,
+    out: &mut S,
+) -> CheckinStatus
+    ensures told { R.told repo.new ≡ R.told repo.old }
+    ensures files { F.told files.new ≡ F.told files.old }
+    ensures ends { EndsCheckin (R.told repo.old) (F.told files.old)
+        (seen (R.seen repo.old) (F.seen files.old) (K.seen keep.old) (S.seen out.old))
+        (seen (R.seen repo.new) (F.seen files.new) (K.seen keep.new) (S.seen out.new)) result }
+{
+    let read = match read_paths(alloc, repo) {
+        Ok(read) => read,
+        Err(halt) => return halted(alloc, out, halt),
+    };
+    match keep_all(alloc, repo, files, keep, &read) {
+        Ok(fates) => write_report(alloc, out, &read.paths, &fates),
+        Err(SendFault::Failed) => CheckinStatus::OutputNotWritten,
+        Err(SendFault::NoMemory) => CheckinStatus::OutOfMemory,
+    }
+}
+
+/// The command `checkin`: turns the files of a worktree back into blobs and an index.
+///
+/// The words are the repository's folder, the worktree's folder and `checkin`. Each path of the index is looked at, in
+/// order. The object of a changed one is kept, then the index, and then the report is written. Each blob is taken back
+/// right after it was read.
+///
+/// It returns 0, or 1 if some path failed. 2 if the words are no check-in, 3 if the repository is refused, 4 if the
+/// keeper or the sink failed, 5 if out of memory, and 6 if a read of the repository failed.
+///
+/// No driver is run: an index is refused in which a path has a driver with a way to store it. So nothing is done with
+/// the spawner and the single runs.
+pub fn checkin<R: Repo, F: Files, P: Spawner, O: Once, K: Keep, S: Sink>(
+    alloc: Global,
+    words: &[String],
+    repo: &mut R,
+    files: &mut F,
+    spawner: &mut P,
+    once: &mut O,
+    keep: &mut K,
+    out: &mut S,
+) -> u8
+    // How it ends, and what holds then. It is never 2.
+    ensures ends { is_checkin words.now ≡ true → (s : CheckinStatus) × (result ≡ number_of s)
+        × EndsCheckin (R.told repo.old) (F.told files.old)
+        (seen (R.seen repo.old) (F.seen files.old) (K.seen keep.old) (S.seen out.old))
+        (seen (R.seen repo.new) (F.seen files.new) (K.seen keep.new) (S.seen out.new)) s }
+    // Words that are no check-in end with 2.
+    ensures usage { is_checkin words.now ≡ false → result ≡ 2 }
+    // Nothing at all is done for them.
+    ensures unasked { is_checkin words.now ≡ false
+        → seen (R.seen repo.new) (F.seen files.new) (K.seen keep.new) (S.seen out.new)
+        ≡ seen (R.seen repo.old) (F.seen files.old) (K.seen keep.old) (S.seen out.old) }
+    // Each blob that was made is given back.
+    ensures back { (R.seen repo.new).out ≡ (R.seen repo.old).out }
+    // What the repository and the files tell stays.
+    ensures told { R.told repo.new ≡ R.told repo.old }
+    ensures files { F.told files.new ≡ F.told files.old }
+    // No driver is started.
+    ensures drivers { (P.told spawner.new ≡ P.told spawner.old) × (P.seen spawner.new ≡ P.seen spawner.old) }
+    ensures runs { (O.told once.new ≡ O.told once.old) × (O.faults once.new ≡ O.faults once.old) }
+{
+    if !is_checkin(words) {
+        return number_of(CheckinStatus::Usage);
+    }
+    number_of(check_in(alloc, repo, files, keep, out))
+}

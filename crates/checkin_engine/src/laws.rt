@@ -1,0 +1,21 @@
+//! What comes back unchanged: a law over the definitions alone.
+ghost use Rattle.checkin_engine.specs.BackAgain.{LosesNothing, ComesBack};
+
+use crate::path::Storing;
+use back_convert::content_comes_back;
+use object_dir::content_has_one_spelling;
+
+/// The law that a path comes back: if its file is what a checkout makes of the content that its stored object gives, and
+/// that content loses nothing on the way, then the path is reported as the same. It does nothing.
+pub fn path_comes_back(stored: &[u8], name: &[u8; 20], content: &[u8], storing: Storing)
+    requires { LosesNothing storing name.now content.now }
+    ensures { ComesBack storing stored.now name.now content.now }
+{
+    let Storing {
+        ident,
+        action,
+        encoding,
+    } = storing;
+    content_comes_back(content, name, ident, action, encoding);
+    content_has_one_spelling(stored, name);
+}

@@ -1,0 +1,37 @@
+//! What is done with a path on its way back.
+use byte_path::Bytes;
+use eol_convert::Action;
+use tree_encoding::Encoding;
+
+/// How a file's content is stored.
+#[derive(Clone, Copy)]
+pub struct Storing {
+    /// Whether the keyword `$Id$` is undone.
+    pub ident: bool,
+    pub action: Action,
+    /// The encoding, or `None` for UTF-8.
+    pub encoding: Option<Encoding>,
+}
+
+/// What is done with a path.
+#[derive(Clone, Copy)]
+pub enum Way {
+    /// Its entry stays: a checkout skips the path, or its name isn't text.
+    Kept,
+    /// Its encoding is unknown.
+    UnknownEncoding,
+    /// Its filter driver is required, and has no way to store a content.
+    NoProcess,
+    /// Its filter driver has a way.
+    Driver,
+    /// Its file is stored, as it is for a link.
+    Stored(Storing),
+}
+
+/// A path of the index: its object is that of its entry with the lowest stage.
+#[derive(Drop)]
+pub struct CheckinPath {
+    pub path: Bytes,
+    pub object: [u8; 20],
+    pub way: Way,
+}

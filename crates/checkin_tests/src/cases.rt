@@ -1,0 +1,317 @@
+//! The cases of the tests: what a check-in meets, and what it leaves.
+//!
+//! A case is a row of cells. Its last cell is what it leaves: the report, the status, a line for each object that was
+//! kept, with its name and its stored bytes, and a line for the index, with the name that `git hash-object` gives to
+//! it. The other cells say what it meets, each by a word, whose first letter tells, and what stands behind it. Any
+//! other is an error:
+//!
+//! - `words`: the word after the two folders, `checkin` if there is none;
+//! - `entry`: the letters of its kind and of its object, and its path;
+//! - `absent`: there is no index;
+//! - `config` and `info`: the configuration, and what `info/attributes` holds;
+//! - `drivers`: so many entries `a`, `b` and so on, each with a driver of its own that has a `smudge` alone;
+//! - `read-fails`: what can't be read: the `index`, the `config`, or the object with this letter;
+//! - `file`: its path and its bytes, and `long`: its path and how many bytes it has, if they are more than is taken;
+//! - `unread`: the path of a file that can't be read;
+//! - `keep` and `sink`: the call of the keeper and the write that fails, counted from 0.
+use crate::index::{index_bytes, kind_of, push_entry};
+use crate::long_files::LongFiles;
+use crate::table::{number_of, parted, rows_of, text_of_row, unknown};
+use byte_path::Bytes;
+use checkin_engine::{MemoryFiles, MemoryKeep, checkin};
+use edge_kit::{Mark, MemoryRepo, MemorySink, MemorySpawner, RepoFail, TreeFile};
+use object_dir::blob_name;
+use one_shot::MemoryOnce;
+use std::alloc::{AllocError, Global};
+use std::process::Abort;
+use std::string::String;
+use std::test::Fail;
+
+/// The name that `git hash-object` gives to `old` and a line feed.
+const OLD: [u8; 20] =
+    *b"\x33\x67\xaf\xdb\xbf\x91\xe6\x38\xef\xe9\x83\x61\x63\x77\xc6\x04\x77\xcc\x66\x12";
+
+/// The same of `hi` and a line feed.
+const HI: [u8; 20] =
+    *b"\x45\xb9\x83\xbe\x36\xb7\x3c\x07\x88\xdc\x9c\xbc\xb7\x6c\xbb\x80\xfc\x7b\xb0\x57";
+
+/// The same of `a$Id$` and a line feed.
+const KEYWORD: [u8; 20] =
+    *b"\x21\x19\x01\xea\xc5\x21\xea\x1a\x72\xc6\xa0\x04\x73\x1f\x59\xf6\x3e\x3e\xc9\xcf";
+
+/// The same of `old`, a carriage return and a line feed.
+const OLD_CRLF: [u8; 20] =
+    *b"\x9c\xca\x7e\x3e\x36\x14\x6d\xc4\x80\x0a\x36\x3b\x55\x40\x52\x1c\x03\x69\xa6\xac";
+
+/// The same of nothing.
+const EMPTY: [u8; 20] =
+    *b"\xe6\x9d\xe2\x9b\xb2\xd1\xd6\x43\x4b\x8b\x29\xae\x77\x5a\xd8\xc2\xe4\x8c\x53\x91";
+
+/// The objects of each repository, as they are stored.
+const OBJECTS: [([u8; 20], &[u8]); 5] = [
+    (OLD, b"blob 4\0old\n"),
+    (HI, b"blob 3\0hi\n"),
+    (KEYWORD, b"blob 6\0a$Id$\n"),
+    (OLD_CRLF, b"blob 5\0old\r\n"),
+    (EMPTY, b"blob 0\0"),
+];
+
+/// The name of the object with this letter. There is none with the name of `9`.
+fn name_of(letters: &[u8]) -> Result<[u8; 20], Fail> {
+    Ok(match letters {
+        [b'o'] => OLD,
+        [b'h'] => HI,
+        [b'k'] => KEYWORD,
+        [b'c'] => OLD_CRLF,
+        [b'e'] => EMPTY,
+        [b'9'] => [9; 20],
+        _ => return Err(unknown(letters)),
+    })
+}
+
+/// What a check-in meets.
+#[derive(Drop)]
+struct Case {
+    words: Vec<String>,
+    version: u32,
+    count: u32,
+    entries: Vec<u8>,
+    has_index: bool,
+    config: Vec<u8>,
+    info: Vec<u8>,
+    read_fails: Vec<RepoFail>,
+    files: Vec<TreeFile>,
+    long: Vec<(Bytes, u32)>,
+    unread: Vec<Bytes>,
+    keep_fails: Option<u32>,
+    sink_fails: Option<u32>,
+}
+
+/// The two folders and this word.
+fn words_of(alloc: Global, last: &[u8]) -> Result<Vec<String>, Fail> {
+    let mut words = Vec::new(alloc);
+    words.push(String::from_str(alloc, "R")?)?;
+    words.push(String::from_str(alloc, "T")?)?;
+    words.push(String::from_str(alloc, str::from_utf8(last)?)?)?;
+    Ok(words)
+}
+
+/// A check-in of no path.
+fn no_case(alloc: Global) -> Result<Case, Fail> {
+    Ok(Case {
+        words: words_of(alloc, b"checkin")?,
+        version: 2,
+        count: 0,
+        entries: Vec::new(alloc),
+        has_index: true,
+        config: Vec::new(alloc),
+        info: Vec::new(alloc),
+        read_fails: Vec::new(alloc),
+        files: Vec::new(alloc),
+        long: Vec::new(alloc),
+        unread: Vec::new(alloc),
+        keep_fails: None,
+        sink_fails: None,
+    })
+}
+
+fn add_entry(case: &mut Case, value: &[u8]) -> Result<(), Fail> {
+    let [kind, object, b' ', path @ ..] = value else {
+        return Err(unknown(value));
+    };
+    let kind = kind_of(*kind)?;
+    if kind.more != 0 {
+        case.version = 3;
+    }
+    push_entry(&mut case.entries, kind, &name_of(&[*object])?, path)?;
+    case.count = case.count.wrapping_add(1);
+    Ok(())
+}
+
+/// Adds the entry with this letter as its path, and a driver of the same name that has it.
+fn add_driven(case: &mut Case, letter: u8) -> Result<(), Fail> {
+    push_entry(&mut case.entries, kind_of(b'-')?, &OLD, &[letter])?;
+    case.count = case.count.wrapping_add(1);
+    case.config.extend_from_slice(b"[filter \"")?;
+    case.config.push(letter)?;
+    case.config.extend_from_slice(b"\"]\nsmudge = cat\n")?;
+    case.info.push(letter)?;
+    case.info.extend_from_slice(b" filter=")?;
+    case.info.push(letter)?;
+    case.info.push(b'\n')?;
+    Ok(())
+}
+
+fn add_drivers(case: &mut Case, count: u32) -> Result<(), Fail> {
+    for place in 0..count {
+        add_driven(case, b'a'.wrapping_add(place as u8))?;
+    }
+    Ok(())
+}
+
+fn read_fail_of(word: &[u8]) -> Result<RepoFail, Fail> {
+    match word {
+        b"index" => Ok(RepoFail::Index),
+        b"config" => Ok(RepoFail::Config),
+        _ => Ok(RepoFail::Object(name_of(word)?)),
+    }
+}
+
+fn add_file(alloc: Global, case: &mut Case, path: &[u8], bytes: &[u8]) -> Result<(), AllocError> {
+    case.files.push(TreeFile {
+        path: Bytes::copy_of(alloc, path)?,
+        bytes: Bytes::copy_of(alloc, bytes)?,
+        mark: Mark::Plain,
+    })?;
+    Ok(())
+}
+
+/// Takes what a cell says of the repository. Whether it is such a cell.
+fn set_repo(alloc: Global, case: &mut Case, letter: u8, value: &[u8]) -> Result<bool, Fail> {
+    match letter {
+        b'e' => add_entry(case, value)?,
+        b'a' => case.has_index = false,
+        b'c' => case.config = Vec::from_slice(alloc, value)?,
+        b'i' => case.info = Vec::from_slice(alloc, value)?,
+        b'd' => add_drivers(case, number_of(value)?)?,
+        b'r' => case.read_fails.push(read_fail_of(value)?)?,
+        _ => return Ok(false),
+    }
+    Ok(true)
+}
+
+/// Takes what a cell says of all else. Whether it is such a cell.
+fn set_rest(alloc: Global, case: &mut Case, letter: u8, value: &[u8]) -> Result<bool, Fail> {
+    let (path, bytes) = parted(value);
+    match letter {
+        b'w' => case.words = words_of(alloc, value)?,
+        b'f' => add_file(alloc, case, path, bytes)?,
+        b'l' => case
+            .long
+            .push((Bytes::copy_of(alloc, path)?, number_of(bytes)?))?,
+        b'u' => case.unread.push(Bytes::copy_of(alloc, value)?)?,
+        b'k' => case.keep_fails = Some(number_of(value)?),
+        b's' => case.sink_fails = Some(number_of(value)?),
+        _ => return Ok(false),
+    }
+    Ok(true)
+}
+
+fn set(alloc: Global, case: &mut Case, cell: &[u8]) -> Result<(), Fail> {
+    let (_, value) = parted(cell);
+    let [letter, ..] = cell else {
+        return Err(unknown(cell));
+    };
+    if set_repo(alloc, case, *letter, value)? || set_rest(alloc, case, *letter, value)? {
+        return Ok(());
+    }
+    Err(unknown(cell))
+}
+
+/// The case of these cells.
+fn case_of(alloc: Global, cells: &[Vec<u8>]) -> Result<Case, Fail> {
+    let mut case = no_case(alloc)?;
+    for cell in cells {
+        set(alloc, &mut case, cell)?;
+    }
+    Ok(case)
+}
+
+fn index_of(alloc: Global, case: &Case) -> Result<Option<Vec<u8>>, AllocError> {
+    if !case.has_index {
+        return Ok(None);
+    }
+    let index = index_bytes(alloc, case.version, case.count, &case.entries)?;
+    Ok(Some(index))
+}
+
+fn repo_of(alloc: Global, case: &Case) -> Result<MemoryRepo, AllocError> {
+    let mut objects = Vec::new(alloc);
+    for (name, stored) in OBJECTS {
+        objects.push((name, Vec::from_slice(alloc, stored)?))?;
+    }
+    Ok(MemoryRepo::new(
+        alloc,
+        index_of(alloc, case)?,
+        Some(Vec::from_slice(alloc, &case.config)?),
+        Some(Vec::from_slice(alloc, &case.info)?),
+        objects,
+        Vec::from_slice(alloc, &case.read_fails)?,
+    ))
+}
+
+/// What a check-in leaves.
+#[derive(Drop)]
+struct Left {
+    status: u8,
+    out: MemorySink,
+    keep: MemoryKeep,
+}
+
+fn left_by(alloc: Global, case: Case) -> Result<Left, Fail> {
+    let mut repo = repo_of(alloc, &case)?;
+    let words = case.words;
+    let mut files = LongFiles {
+        files: MemoryFiles::new(alloc, case.files, case.unread),
+        long: case.long,
+    };
+    let mut spawner = MemorySpawner::new(alloc, Vec::new(alloc));
+    let mut once = MemoryOnce::new(alloc, Vec::new(alloc));
+    let mut keep = MemoryKeep::new(alloc, case.keep_fails);
+    let mut out = MemorySink::new(alloc, case.sink_fails);
+    let status = checkin(
+        alloc,
+        &words,
+        &mut repo,
+        &mut files,
+        &mut spawner,
+        &mut once,
+        &mut keep,
+        &mut out,
+    );
+    Ok(Left { status, out, keep })
+}
+
+fn push_name(seen: &mut String, name: &[u8; 20]) -> Result<(), Fail> {
+    for byte in name {
+        write!(seen, "{byte:02x}")?;
+    }
+    Ok(())
+}
+
+fn push_objects(seen: &mut String, objects: &[([u8; 20], Bytes)]) -> Result<(), Fail> {
+    for (name, stored) in objects {
+        push_name(seen, name)?;
+        seen.push_str(" ")?;
+        seen.push_str(str::from_utf8(stored.as_slice())?)?;
+    }
+    Ok(())
+}
+
+/// The report, the status, a line for each object, and one for the index.
+fn text_of(alloc: Global, left: &Left) -> Result<String, Fail> {
+    let mut seen = String::from_str(alloc, str::from_utf8(left.out.bytes())?)?;
+    writeln!(seen, "status {}", left.status)?;
+    push_objects(&mut seen, left.keep.objects())?;
+    if let Some(index) = left.keep.index_text() {
+        seen.push_str("index ")?;
+        push_name(&mut seen, &blob_name(index))?;
+        seen.push_str("\n")?;
+    }
+    Ok(seen)
+}
+
+/// Each case leaves what its last cell says.
+pub fn check(rt: &impl Abort, alloc: Global, table: &[u8]) -> Result<(), Fail> {
+    let rows = rows_of(alloc, table)?;
+    for row in rows.as_slice() {
+        let [cells @ .., wanted] = row.as_slice() else {
+            panic!(rt; "no cells");
+        };
+        let left = left_by(alloc, case_of(alloc, cells)?)?;
+        let seen = text_of(alloc, &left)?;
+        let row = text_of_row(alloc, cells)?;
+        assert_eq!(rt; seen.as_str(), str::from_utf8(wanted)?, "{row}");
+    }
+    Ok(())
+}

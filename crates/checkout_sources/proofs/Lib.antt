@@ -1,0 +1,3 @@
+mod PlanFaults
+mod CutShort
+mod Stopped

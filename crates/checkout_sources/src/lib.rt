@@ -1,0 +1,17 @@
+//! What a repository holds before its objects: the index, the configuration and the attribute files. Why it is refused,
+//! and the line that says so.
+#![tactic(auto)]
+
+mod attributed;
+mod laws;
+mod planning;
+mod refusal;
+mod sources;
+mod stop;
+
+pub use attributed::{Attributed, read_attributed};
+pub use laws::readings_leave_parts;
+pub use planning::{Planned, read_plan};
+pub use refusal::refusal_line;
+pub use sources::{Sources, read_sources};
+pub use stop::{Refusal, Stop};
