@@ -1,7 +1,7 @@
 //! The line to a driver.
 ghost use Rattle.std.specs.Prelude.{◌≡◌, ◌≤◌, ◌<◌, ◌+◌, ◌^◌, Some, None, Ok, Err, IsSome, IfErr, OnOk, length};
 ghost use Rattle.filter_proto.specs.Wires.{SessionSeen};
-ghost use Rattle.clean_line.specs.CleanLines.{line_of, Cleans, IsAsked, Replies, IsGivenBack, Begins, Closes};
+ghost use Rattle.clean_line.specs.CleanLines.{line_of, Cleans, CleansBy, StartsFor, IsAsked, Replies, Begins, Closes};
 ghost use Rattle.clean_line.specs.CleanLines.{answer_of, lasting, lasting_in, starts_of};
 
 use crate::cause::{CleanCause, CleanFault};
@@ -58,13 +58,42 @@ impl<S: Starter> CleanLine<S> {
         ensures cleans { Cleans path.now content.now self.old self.new result }
         ensures starts { starts_of self.new ≤ starts_of self.old + 1 }
     {
-        if let Some(why) = self.refusing {
-            return Err(CleanFault::Refused(why));
+        match self.refusing {
+            Some(why) => Err(CleanFault::Refused(why)),
+            None => self.clean_willing(path, content),
         }
-        if self.session.is_none() {
-            self.open()?;
+    }
+
+    /// The same where no path before was refused for good.
+    fn clean_willing(&mut self, path: &[u8], content: &[u8]) -> Result<Bytes, CleanFault>
+        requires willing { self.old.refusing ≡ None }
+        requires few { length self.old.starter.had < 2 ^ 32 }
+        requires some { 1 ≤ length path.now }
+        requires within { length path.now ≤ 4096 }
+        ensures cleans { CleansBy path.now content.now None self.old.session self.old self.new result }
+        ensures starts { starts_of self.new ≤ starts_of self.old + 1 }
+    {
+        if self.session.is_some() {
+            self.ask(path, content)
+        } else {
+            self.start_for(path, content)
         }
-        self.ask(path, content)
+    }
+
+    /// The same where no session is open.
+    fn start_for(&mut self, path: &[u8], content: &[u8]) -> Result<Bytes, CleanFault>
+        requires willing { self.old.refusing ≡ None }
+        requires none { self.old.session ≡ None }
+        requires few { length self.old.starter.had < 2 ^ 32 }
+        requires some { 1 ≤ length path.now }
+        requires within { length path.now ≤ 4096 }
+        ensures cleans { StartsFor path.now content.now self.old.starter self.new result }
+        ensures starts { starts_of self.new ≤ starts_of self.old + 1 }
+    {
+        match self.open() {
+            Ok(()) => self.ask(path, content),
+            Err(fault) => Err(fault),
+        }
     }
 
     /// What starts the driver, once the open session is shut.
@@ -128,26 +157,16 @@ impl<S: Starter> CleanLine<S> {
             → Replies path.now content.now self.old.starter s self.new result }
         ensures starts { starts_of self.new ≤ starts_of self.old }
     {
-        let Some(session) = &mut self.session else {
+        let Some(mut session) = self.session.take() else {
             unreachable!()
         };
         let cleaned = session.ask(path, content);
-        if !session.live() {
-            self.finish();
-        }
-        cleaned
-    }
-
-    /// Ends the open session.
-    fn finish(&mut self)
-        ensures ended { (s : SessionSeen) → self.old.session ≡ Some s
-            → IsGivenBack self.old.starter s.wire s.standing self.new.starter }
-        ensures none { self.new ≡ line_of self.new.starter None self.old.refusing }
-        ensures starts { starts_of self.new ≤ starts_of self.old }
-    {
-        if let Some(session) = self.session.take() {
+        if session.live() {
+            self.session = Some(session);
+        } else {
             end_session(&mut self.starter, session);
         }
+        cleaned
     }
 }
 

@@ -44,11 +44,11 @@ fn open<S: Starter>(
             Err(CleanFault::Refused(CleanCause::NoClean))
         }
         CleanBegun::Broken(link, why) => {
-            starter.end(link);
+            end_unopened(starter, link);
             Err(CleanFault::Refused(CleanCause::Broken(why)))
         }
         CleanBegun::NoMemory(link) => {
-            starter.end(link);
+            end_unopened(starter, link);
             Err(CleanFault::NoMemory)
         }
     }
@@ -57,11 +57,22 @@ fn open<S: Starter>(
 /// Shuts a link whose driver doesn't clean, and gives it back. A fault of the two calls changes nothing else.
 fn end_unclean<S: Starter>(starter: &mut S, mut link: S::Link)
     requires { 0 < (S.seen starter.old).out }
-    ensures { (unread : List ℕ) → IsGivenBack (S.seen starter.old) (wire_of unread (S.Link.seen link)) Live
+    ensures ended { (unread : List ℕ) → IsGivenBack (S.seen starter.old) (wire_of unread (S.Link.seen link)) Live
         (S.seen starter.new) }
+    ensures had { length (S.seen starter.new).had ≡ length (S.seen starter.old).had + 1 }
 {
     let _ = link.shut_input();
     let _ = link.wait_end();
+    starter.end(link);
+}
+
+/// Gives a link back over which no session came about. Nothing is called on it.
+fn end_unopened<S: Starter>(starter: &mut S, link: S::Link)
+    requires { 0 < (S.seen starter.old).out }
+    ensures ended { (unread : List ℕ) → IsGivenBack (S.seen starter.old) (wire_of unread (S.Link.seen link)) Over
+        (S.seen starter.new) }
+    ensures had { length (S.seen starter.new).had ≡ length (S.seen starter.old).had + 1 }
+{
     starter.end(link);
 }
 
