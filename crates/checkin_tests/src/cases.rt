@@ -143,8 +143,10 @@ fn add_driven(case: &mut Case, letter: u8) -> Result<(), Fail> {
 }
 
 fn add_drivers(case: &mut Case, count: u32) -> Result<(), Fail> {
-    for place in 0..count {
-        add_driven(case, b'a'.wrapping_add(place as u8))?;
+    let mut letter = b'a';
+    for _ in 0..count {
+        add_driven(case, letter)?;
+        letter = letter.wrapping_add(1);
     }
     Ok(())
 }
