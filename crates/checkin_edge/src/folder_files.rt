@@ -1,5 +1,5 @@
 //! The files of a worktree's folder.
-ghost use Rattle.std.specs.Prelude.{◌≡◌, ◌++◌, ◌∷◌, []};
+ghost use Rattle.std.specs.Prelude.{◌≡◌, ◌++◌, ◌∷◌, [], ◌<◌, vec_len, vec_capacity};
 ghost use Rattle.edge_kit.specs.Told.{Untold};
 ghost use Rattle.edge_kit.specs.Faults.{Rose};
 
@@ -49,7 +49,11 @@ impl FolderFiles {
     }
 
     /// Counts a fault at a path, for which there is room.
-    fn fail(&mut self, path: Bytes, error: &io::Error) {
+    fn fail(&mut self, path: Bytes, error: &io::Error)
+        requires { vec_len self.old.failed < vec_capacity self.old.failed }
+        ensures paths { self.new.failed.items ≡ self.old.failed.items ++ path ∷ [] }
+        ensures rose { Rose self.old.faults self.new.faults }
+    {
         self.errors.add(error, path.as_slice());
         let _ = self.failed.push(path);
         self.faults = self.faults.saturating_add(1);
