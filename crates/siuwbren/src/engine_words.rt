@@ -1,5 +1,5 @@
 //! The words that the engines and `journal_run` get.
-ghost use Rattle.std.specs.Prelude.{◌≡◌, ◌≤◌, ◌++◌, true, Some, IfOk, OnOk, map, string_bytes};
+ghost use Rattle.std.specs.Prelude.{◌≡◌, ◌≤◌, [], ◌∷◌, ◌++◌, true, Some, IfOk, OnOk, map, string_bytes};
 ghost use Rattle.checkout_words.specs.Words.{command_of};
 ghost use Rattle.checkout_words.specs.declared.Command.TheVariants as asked;
 ghost use Rattle.checkin_engine.specs.Words.{is_checkin};
@@ -27,6 +27,24 @@ fn push_workers(
     Ok(())
 }
 
+/// The words of a command of this name over two folders.
+fn folder_words(
+    alloc: Global,
+    git_dir: &str,
+    tree: &str,
+    name: &str,
+) -> Result<Vec<String>, AllocError>
+    ensures { IfOk result (λ words.
+        map string_bytes words.items ≡ git_dir.now ∷ tree.now ∷ name.now ∷ []) }
+{
+    let words = vec![in alloc;
+        String::from_str(alloc, git_dir)?,
+        String::from_str(alloc, tree)?,
+        String::from_str(alloc, name)?,
+    ]?;
+    Ok(words)
+}
+
 /// The words of a checkout into this folder.
 fn spelled_checkout(
     alloc: Global,
@@ -37,11 +55,7 @@ fn spelled_checkout(
     ensures { IfOk result (λ words.
         map string_bytes words.items ≡ checkout_words git_dir.now tree.now workers) }
 {
-    let mut words = vec![in alloc;
-        String::from_str(alloc, git_dir)?,
-        String::from_str(alloc, tree)?,
-        String::from_str(alloc, "checkout")?,
-    ]?;
+    let mut words = folder_words(alloc, git_dir, tree, "checkout")?;
     push_workers(alloc, &mut words, workers)?;
     Ok(words)
 }
@@ -71,12 +85,7 @@ pub fn checkin_words(alloc: Global, git_dir: &str, tree: &str) -> Result<Vec<Str
     ensures words { IfOk result (λ words. map string_bytes words.items ≡ checkin_words git_dir.now tree.now) }
     ensures read { IfOk result (λ words. is_checkin words.items ≡ true) }
 {
-    let words = vec![in alloc;
-        String::from_str(alloc, git_dir)?,
-        String::from_str(alloc, tree)?,
-        String::from_str(alloc, "checkin")?,
-    ]?;
-    Ok(words)
+    folder_words(alloc, git_dir, tree, "checkin")
 }
 
 /// The words of a rehearsal, which the engine reads as a rehearsal of these two numbers.
