@@ -3,9 +3,9 @@ _siuwbren() {
   local current=${COMP_WORDS[COMP_CWORD]} before=${COMP_WORDS[COMP_CWORD - 1]} command=${COMP_WORDS[1]} words=
   COMPREPLY=()
   if [ "$COMP_CWORD" -eq 1 ]; then
-    words='checkout plan rehearse audit help --help --version'
+    words='checkout checkin plan rehearse audit help --help --version'
   elif [ "$command" = help ]; then
-    [ "$COMP_CWORD" -ne 2 ] || words='checkout plan rehearse audit'
+    [ "$COMP_CWORD" -ne 2 ] || words='checkout checkin plan rehearse audit'
   else
     case $before in
       --git-dir)
@@ -25,10 +25,11 @@ _siuwbren() {
       *)
         case $command in
           checkout) words='--git-dir --commit --workers --report -z --journal --progress --no-progress -q --quiet --help' ;;
+          checkin) words='--git-dir --help' ;;
           plan) words='--git-dir --report -z --help' ;;
           rehearse | audit) words='--help' ;;
         esac
-        if [ "$command" = checkout ] && [[ $current != -* ]]; then
+        if [[ $command == check* && $current != -* ]]; then
           mapfile -t COMPREPLY < <(compgen -d -- "$current")
           return
         fi

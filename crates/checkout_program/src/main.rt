@@ -1,5 +1,5 @@
 //! Checks out the index of a Git folder with uncompressed objects into an empty folder, by its configuration and its
-//! attributes, or shows the plan of that. It also writes and judges journals.
+//! attributes, or shows the plan of that, or checks the files in again. It also writes and judges journals.
 //!
 //! A checkout shows how many paths are closed, if standard error is a terminal. Standard error also says what is wrong
 //! with words, why files weren't written, and what a driver wrote in place of packets. A checkout writes its journal if
@@ -9,11 +9,14 @@
 ghost use Rattle.std.specs.Prelude.{◌≡◌, IfOk, option_map, string_bytes};
 ghost use Rattle.checkout_program.specs.Words.{word_at, message_for};
 
+mod checking_in;
 mod journal_place;
 mod wrong_words;
 
+use crate::checking_in::checkin_words;
 use crate::journal_place::{JournalPlace, journal_place};
 use crate::wrong_words::{answer, explanation};
+use checkin_engine::is_checkin;
 use checkout_core::Event;
 use checkout_engine::{ExitStatus, run};
 use edge_adapters::{FolderBlob, FolderRepo, FolderTree, OutputSink, ProcessSpawner};
@@ -48,7 +51,7 @@ fn message_for(status: u8) -> Option<&'static str>
     ensures { option_map (λ text. text.now) result ≡ message_for status }
 {
     if status == ExitStatus::Usage.number() {
-        return Some("usage: REPO TREE checkout|plan|rehearse|journal|audit");
+        return Some("usage: REPO TREE checkout|checkin|plan|rehearse|journal|audit");
     }
     message_of(status)
 }
@@ -185,6 +188,10 @@ fn run_words<H: Threads + Wait + Sync>(rt: HostRuntime, threads: &H) -> Result<u
     let words = words_of(rt.alloc(), all)?;
     if is_journal(&words) {
         let status = journal_words(rt, threads, &words)?;
+        return Ok(end_with(rt, status, &words, are_text));
+    }
+    if is_checkin(&words) {
+        let status = checkin_words(rt, threads, &words)?;
         return Ok(end_with(rt, status, &words, are_text));
     }
     match journal_place(rt, &words)? {

@@ -9,12 +9,14 @@ use std::alloc::{AllocError, Global};
 /// What words that ask for help get.
 const HELP: &str = "\
 usage: REPO TREE checkout [--workers N]
+       REPO TREE checkin
        REPO TREE plan
        REPO TREE rehearse SEED PATHS
        REPO TREE journal SEED PATHS
        FILE TREE audit
 
 checkout  writes the files of the index of REPO into the folder TREE, and prints a report
+checkin   keeps the files of TREE as objects and a new index in REPO, index-checkin, and prints a report
 plan      prints what a checkout would do
 rehearse  checks out a made-up repository in memory, and prints a line
 journal   does the same, and prints all that happened
@@ -124,6 +126,7 @@ fn explain(alloc: Global, words: &[String]) -> Result<String, AllocError> {
         [_, _] => String::from_str(alloc, "the command is missing"),
         [_, _, name, tail @ ..] => match name.as_str() {
             "checkout" => explain_checkout(alloc, tail),
+            "checkin" => explain_bare(alloc, tail, ": checkin takes no more words"),
             "plan" => explain_bare(alloc, tail, ": plan takes no more words"),
             "audit" => explain_bare(alloc, tail, ": audit takes no more words"),
             "rehearse" => explain_numbers(alloc, tail, ": rehearse takes SEED and PATHS alone"),

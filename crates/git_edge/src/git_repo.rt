@@ -83,6 +83,16 @@ impl GitRepo {
         self.found.git_dir.as_str()
     }
 
+    /// The absolute path of its folder of objects, to which new ones go.
+    pub fn objects(&self) -> &str {
+        self.found.objects.as_str()
+    }
+
+    /// The absolute path of its own index.
+    pub fn index_file(&self) -> &str {
+        self.found.index.as_str()
+    }
+
     /// What the file system of its worktree keeps.
     pub fn keeps(&self) -> Keeps {
         Keeps {

@@ -1,7 +1,8 @@
-//! What the programs share: their words, what standard error says of a run beside the report, its progress, and the
-//! file of its journal.
+//! What the programs share: their words, what standard error says of a run beside the report, its progress, the file of
+//! its journal, and a check-in.
 #![tactic(auto)]
 
+mod checking_in;
 mod journal_file;
 mod messages;
 mod notes;
@@ -9,6 +10,7 @@ mod own_words;
 mod progress;
 mod refused;
 
+pub use checking_in::check_in;
 pub use journal_file::{EndedCheckout, JournalFile};
 pub use messages::message_of;
 pub use notes::{show_drivers, show_errors};

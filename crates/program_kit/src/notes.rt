@@ -1,5 +1,5 @@
-//! What standard error says, beside the report, of files that weren't written and of drivers that don't speak the
-//! protocol.
+//! What standard error says, beside the report, of files that weren't written or read, of objects and an index that
+//! weren't kept, and of drivers that don't speak the protocol.
 use byte_path::quote_path;
 use edge_adapters::{ErrorCount, ReturnedDriver, WriteErrors};
 use std::alloc::{AllocError, Global};
@@ -42,7 +42,7 @@ fn show_error(rt: HostRuntime, count: &ErrorCount) -> Result<(), AllocError> {
     Ok(())
 }
 
-/// Says why files weren't written: each error once, with the number of its paths and the first of them.
+/// Says why files weren't written or read: each error once, with the number of its paths and the first of them.
 pub fn show_errors(rt: HostRuntime, errors: &WriteErrors) {
     for count in errors.counts() {
         let _ = show_error(rt, count);
@@ -51,6 +51,19 @@ pub fn show_errors(rt: HostRuntime, errors: &WriteErrors) {
     if others > 0 {
         let unit = unit(others);
         let _ = eprintln!(rt; "{others} {unit}: other errors");
+    }
+}
+
+fn show_fault(rt: HostRuntime, error: &io::Error) -> Result<(), AllocError> {
+    let words = words_of(rt.alloc(), error)?;
+    let _ = eprintln!(rt; "not kept: {words}");
+    Ok(())
+}
+
+/// Says why objects and the index of a check-in weren't kept.
+pub fn show_unkept(rt: HostRuntime, error: Option<&io::Error>) {
+    if let Some(error) = error {
+        let _ = show_fault(rt, error);
     }
 }
 

@@ -1,4 +1,4 @@
--- The words that the engine gets.
+-- The words that the engines get.
 use Rattle.std.specs.Prelude.{ℕ, ◌≤◌, List, [], ◌∷◌, ◌++◌, Option, Some, None, codes}
 use Rattle.std.specs.Fmt.{decimal}
 
@@ -10,6 +10,10 @@ workers_words (Some n) = codes "--workers" ∷ decimal n ∷ []
 -- the git folder, the worktree's folder and `checkout [--workers N]`
 abbrev pub checkout_words : List ℕ → List ℕ → Option ℕ → List (List ℕ)
 checkout_words git_dir tree workers = git_dir ∷ tree ∷ codes "checkout" ∷ workers_words workers
+
+-- the git folder, the worktree's folder and `checkin`
+abbrev pub checkin_words : List ℕ → List ℕ → List (List ℕ)
+checkin_words git_dir tree = git_dir ∷ tree ∷ codes "checkin" ∷ []
 
 -- no folders, and `rehearse SEED PATHS`
 abbrev pub rehearse_words : ℕ → ℕ → List (List ℕ)

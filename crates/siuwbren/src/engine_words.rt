@@ -1,11 +1,12 @@
-//! The words that the engine and `journal_run` get.
-ghost use Rattle.std.specs.Prelude.{◌≡◌, ◌≤◌, ◌++◌, Some, IfOk, OnOk, map, string_bytes};
+//! The words that the engines and `journal_run` get.
+ghost use Rattle.std.specs.Prelude.{◌≡◌, ◌≤◌, [], ◌∷◌, ◌++◌, true, Some, IfOk, OnOk, map, string_bytes};
 ghost use Rattle.checkout_words.specs.Words.{command_of};
 ghost use Rattle.checkout_words.specs.declared.Command.TheVariants as asked;
+ghost use Rattle.checkin_engine.specs.Words.{is_checkin};
 ghost use Rattle.journal_run.specs.Words.{task_of};
 ghost use Rattle.journal_run.specs.declared.words.JournalTask.TheVariants.{Audit};
-ghost use Rattle.siuwbren.specs.EngineWords.{workers_words, checkout_words, rehearse_words, audit_words};
-ghost use Rattle.siuwbren.specs.EngineWords.{IsWorkers};
+ghost use Rattle.siuwbren.specs.EngineWords.{workers_words, checkout_words, checkin_words};
+ghost use Rattle.siuwbren.specs.EngineWords.{rehearse_words, audit_words, IsWorkers};
 
 use byte_path::decimal_reads_back;
 use std::alloc::{AllocError, Global};
@@ -26,6 +27,24 @@ fn push_workers(
     Ok(())
 }
 
+/// The words of a command of this name over two folders.
+fn folder_words(
+    alloc: Global,
+    git_dir: &str,
+    tree: &str,
+    name: &str,
+) -> Result<Vec<String>, AllocError>
+    ensures { IfOk result (λ words.
+        map string_bytes words.items ≡ git_dir.now ∷ tree.now ∷ name.now ∷ []) }
+{
+    let words = vec![in alloc;
+        String::from_str(alloc, git_dir)?,
+        String::from_str(alloc, tree)?,
+        String::from_str(alloc, name)?,
+    ]?;
+    Ok(words)
+}
+
 /// The words of a checkout into this folder.
 fn spelled_checkout(
     alloc: Global,
@@ -36,11 +55,7 @@ fn spelled_checkout(
     ensures { IfOk result (λ words.
         map string_bytes words.items ≡ checkout_words git_dir.now tree.now workers) }
 {
-    let mut words = vec![in alloc;
-        String::from_str(alloc, git_dir)?,
-        String::from_str(alloc, tree)?,
-        String::from_str(alloc, "checkout")?,
-    ]?;
+    let mut words = folder_words(alloc, git_dir, tree, "checkout")?;
     push_workers(alloc, &mut words, workers)?;
     Ok(words)
 }
@@ -63,6 +78,14 @@ pub fn checkout_words(
         }
     }
     spelled_checkout(alloc, git_dir, tree, workers)
+}
+
+/// The words of a check-in of this folder, which `checkin` reads as such.
+pub fn checkin_words(alloc: Global, git_dir: &str, tree: &str) -> Result<Vec<String>, AllocError>
+    ensures words { IfOk result (λ words. map string_bytes words.items ≡ checkin_words git_dir.now tree.now) }
+    ensures read { IfOk result (λ words. is_checkin words.items ≡ true) }
+{
+    folder_words(alloc, git_dir, tree, "checkin")
 }
 
 /// The words of a rehearsal, which the engine reads as a rehearsal of these two numbers.

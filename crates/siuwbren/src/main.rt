@@ -1,5 +1,5 @@
-//! Checks out a Git repository into an empty folder, straight from its git folder, or shows the plan of that.
-//! It also judges the journals of checkouts.
+//! Checks out a Git repository into an empty folder, straight from its git folder, or shows the plan of that, or checks
+//! the files of a folder in again. It also judges the journals of checkouts.
 //!
 //! Git itself is asked for the repository's index, settings and objects. Standard output has the report, in the form
 //! that the words ask for. Standard error says what is wrong with words or with the repository, why files weren't
@@ -7,6 +7,7 @@
 #![tactic(auto)]
 
 mod channel;
+mod checking_in;
 mod checkout;
 mod ends;
 mod engine_words;
@@ -14,6 +15,7 @@ mod journal;
 mod plan;
 mod rehearsing;
 
+use crate::checking_in::check_in_tree;
 use crate::checkout::check_out;
 use crate::ends::{end_with, give, refuse_words};
 use crate::journal::audit;
@@ -36,6 +38,7 @@ fn obey<H: Threads + Wait + Sync>(
 ) -> Result<u8, AllocError> {
     match command {
         Subcommand::Checkout(asked) => check_out(rt, threads, asked),
+        Subcommand::Checkin(asked) => check_in_tree(rt, threads, asked),
         Subcommand::Plan(asked) => show_plan(rt, asked),
         Subcommand::Rehearse { seed, paths } => rehearse(rt, threads, *seed, *paths),
         Subcommand::Audit { file } => audit(rt, threads, *file),

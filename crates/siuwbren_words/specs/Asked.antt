@@ -8,6 +8,7 @@ use Rattle.report_forms.specs.declared.form.ReportForm.{ReportForm}
 use Rattle.siuwbren_words.specs.Parser.{GivesText, command_in, siuwbren_app}
 use Rattle.siuwbren_words.specs.Values.{is_set, workers_of, plan_form, report_form, progress_of}
 use Rattle.siuwbren_words.specs.declared.command.Checkout.{Checkout}
+use Rattle.siuwbren_words.specs.declared.command.CheckinWords.{CheckinWords}
 use Rattle.siuwbren_words.specs.declared.command.PlanWords.{PlanWords}
 use Rattle.siuwbren_words.specs.declared.command.ProgressChoice.{ProgressChoice}
 use Rattle.siuwbren_words.specs.declared.command.Subcommand.{Subcommand}
@@ -24,6 +25,10 @@ pub record AskedCheckout : Type 0 where
   pub journal : Option Text
   pub tree : Text
 
+pub record AskedCheckin : Type 0 where
+  pub git_dir : Option Text
+  pub tree : Text
+
 pub record AskedPlan : Type 0 where
   pub git_dir : Option Text
   pub form : ReportForm
@@ -31,6 +36,7 @@ pub record AskedPlan : Type 0 where
 -- a command by its texts
 pub data Asked : Type 0 where
   checkout : AskedCheckout → Asked
+  checkin : AskedCheckin → Asked
   plan : AskedPlan → Asked
   rehearse : ℕ → ℕ → Asked
   audit : Text → Asked
@@ -47,11 +53,15 @@ shown_checkout c = record {
   tree = c.tree.now;
 }
 
+abbrev pub shown_checkin : CheckinWords → AskedCheckin
+shown_checkin c = record { git_dir = option_map (λ t. t.now) c.git_dir; tree = c.tree.now }
+
 abbrev pub shown_plan : PlanWords → AskedPlan
 shown_plan p = record { git_dir = option_map (λ t. t.now) p.git_dir; form = p.form }
 
 abbrev pub shown : Subcommand → Asked
 shown (command.Checkout c) = checkout (shown_checkout c)
+shown (command.Checkin c) = checkin (shown_checkin c)
 shown (command.Plan p) = plan (shown_plan p)
 shown (command.Rehearse seed paths) = rehearse seed paths
 shown (command.Audit file) = audit file.now
@@ -80,6 +90,11 @@ checkout_by rows =
     (report_form (first_of (codes "report") rows) (has_flag rows (codes "nul"))))
     (workers_of (first_of (codes "workers") rows))
 
+abbrev pub checkin_by : List Row → Option AskedCheckin
+checkin_by rows =
+    option_map (λ tree. record { git_dir = first_of (codes "git-dir") rows; tree = tree })
+    (first_of (codes "tree") rows)
+
 abbrev pub plan_by : List Row → Option AskedPlan
 plan_by rows =
     option_map (λ form. record { git_dir = first_of (codes "git-dir") rows; form = form })
@@ -99,6 +114,7 @@ audit_by rows = option_map audit (first_of (codes "file") rows)
 abbrev pub asked_by : Text → List Row → Option Asked
 asked_by name rows =
     if bytes_eq name (codes "checkout") then option_map checkout (checkout_by rows)
+    else if bytes_eq name (codes "checkin") then option_map checkin (checkin_by rows)
     else if bytes_eq name (codes "plan") then option_map plan (plan_by rows)
     else if bytes_eq name (codes "rehearse") then rehearse_by rows
     else if bytes_eq name (codes "audit") then audit_by rows

@@ -46,6 +46,11 @@ checkout_progress =
 abbrev pub checkout_app : App
 checkout_app = with_rule checkout_progress (place_rule (codes "tree"))
 
+-- checkin [--git-dir DIR] TREE
+abbrev pub checkin_app : App
+checkin_app =
+    with_rule (with_rule (new_app (codes "checkin")) (option_rule (codes "git-dir"))) (place_rule (codes "tree"))
+
 -- plan [--git-dir DIR] [--report FORM] [-z]
 abbrev pub plan_app : App
 plan_app =
@@ -61,7 +66,7 @@ rehearse_app =
 abbrev pub audit_app : App
 audit_app = with_rule (new_app (codes "audit")) (place_rule (codes "file"))
 
--- the program: it has a version, and needs one of the four commands
+-- the program: it has a version, and needs one of the five commands
 abbrev pub siuwbren_shape : Shape
 siuwbren_shape = record (new_app (codes "siuwbren")).top {
   no_binary_name = true;
@@ -74,7 +79,8 @@ top_app = record { top = siuwbren_shape; subs = [] }
 
 -- with the commands that read a repository
 abbrev pub repository_app : App
-repository_app = with_subcommand (with_subcommand top_app checkout_app.top) plan_app.top
+repository_app =
+    with_subcommand (with_subcommand (with_subcommand top_app checkout_app.top) checkin_app.top) plan_app.top
 
 abbrev pub siuwbren_app : App
 siuwbren_app = with_subcommand (with_subcommand repository_app rehearse_app.top) audit_app.top

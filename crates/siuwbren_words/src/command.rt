@@ -36,10 +36,20 @@ pub struct PlanWords<'a> {
     pub form: ReportForm,
 }
 
+/// A check-in of the folder `tree`.
+#[derive(Clone, Copy, Debug)]
+pub struct CheckinWords<'a> {
+    /// The git folder, or none for the one that git finds.
+    pub git_dir: Option<&'a str>,
+    pub tree: &'a str,
+}
+
 #[derive(Clone, Copy, Debug)]
 pub enum Subcommand<'a> {
     /// Write the worktree.
     Checkout(Checkout<'a>),
+    /// Keep a worktree's files as objects and a new index.
+    Checkin(CheckinWords<'a>),
     /// Show what a checkout would do.
     Plan(PlanWords<'a>),
     /// Check out a made-up repository of this many paths, up to 99,999.

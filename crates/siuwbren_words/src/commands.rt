@@ -2,10 +2,10 @@
 ghost use Rattle.std.specs.Prelude.{◌≡◌, option_map};
 ghost use Rattle.std.specs.Result.{result_ok};
 ghost use Rattle.clap.specs.Words.{found_of, rows_of};
-ghost use Rattle.siuwbren_words.specs.Asked.{shown_checkout, shown_plan, shown, checkout_by, plan_by};
-ghost use Rattle.siuwbren_words.specs.Asked.{rehearse_by, audit_by, asked_by};
+ghost use Rattle.siuwbren_words.specs.Asked.{shown_checkout, shown_checkin, shown_plan, shown};
+ghost use Rattle.siuwbren_words.specs.Asked.{checkout_by, checkin_by, plan_by, rehearse_by, audit_by, asked_by};
 
-use crate::command::{Checkout, PlanWords, Subcommand};
+use crate::command::{CheckinWords, Checkout, PlanWords, Subcommand};
 use crate::values::{
     Mistake, has_flag, paths_of, plan_form, progress_of, report_form, seed_of, value_of, workers_of,
 };
@@ -31,6 +31,16 @@ fn checkout_of<'a>(matches: &ArgMatches<'a>) -> Result<Checkout<'a>, Mistake<'a>
         progress,
         quiet,
         journal: value_of(matches, "journal"),
+        tree,
+    })
+}
+
+fn checkin_of<'a>(matches: &ArgMatches<'a>) -> Result<CheckinWords<'a>, Mistake<'a>>
+    ensures { option_map shown_checkin (result_ok result) ≡ checkin_by (rows_of (found_of matches.now)) }
+{
+    let tree = value_of(matches, "tree").ok_or(Mistake::NoTree)?;
+    Ok(CheckinWords {
+        git_dir: value_of(matches, "git-dir"),
         tree,
     })
 }
@@ -66,6 +76,7 @@ pub fn command_of<'a>(name: &str, matches: &ArgMatches<'a>) -> Result<Subcommand
 {
     match name {
         "checkout" => Ok(Subcommand::Checkout(checkout_of(matches)?)),
+        "checkin" => Ok(Subcommand::Checkin(checkin_of(matches)?)),
         "plan" => Ok(Subcommand::Plan(plan_of(matches)?)),
         "rehearse" => rehearsal_of(matches),
         "audit" => audit_of(matches),

@@ -1,5 +1,5 @@
-//! The words after the program's name: `checkout`, `plan`, `rehearse` or `audit` with its arguments, or a wish for
-//! help.
+//! The words after the program's name: `checkout`, `checkin`, `plan`, `rehearse` or `audit` with its arguments, or a
+//! wish for help.
 #![tactic(auto)]
 
 mod command;
@@ -9,6 +9,6 @@ mod parser;
 mod reading;
 mod values;
 
-pub use command::{Checkout, PlanWords, ProgressChoice, Subcommand};
+pub use command::{CheckinWords, Checkout, PlanWords, ProgressChoice, Subcommand};
 pub use fault::UsageFault;
 pub use reading::read_words;

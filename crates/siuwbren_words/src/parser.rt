@@ -3,7 +3,7 @@ ghost use Rattle.std.specs.Prelude.{◌≡◌, IfOk, false, codes};
 ghost use Rattle.clap.specs.Words.{app_of, rule_of};
 ghost use Rattle.clap.specs.declared.builder.command.Command.TheViews.{out-Command};
 ghost use Rattle.siuwbren_words.specs.Parser.{option_rule, flag_rule, letter_rule, place_rule};
-ghost use Rattle.siuwbren_words.specs.Parser.{checkout_app, plan_app, rehearse_app, audit_app};
+ghost use Rattle.siuwbren_words.specs.Parser.{checkout_app, checkin_app, plan_app, rehearse_app, audit_app};
 ghost use Rattle.siuwbren_words.specs.Parser.{quiet_rule, checkout_source, checkout_report, checkout_progress};
 ghost use Rattle.siuwbren_words.specs.Parser.{top_app, repository_app, siuwbren_app};
 
@@ -18,6 +18,14 @@ Example, in a repository, of its index, of a release, and with a journal for siu
 
 Status: 0 if all is written, 1 if some path failed, 2 for wrong words, 3 if the repository is refused,
 4 if output failed, 5 out of memory, 6 for a read fault, 7 if TREE isn't empty. See siuwbren(1).";
+
+const CHECKIN_END: &str = "\
+Example, after which git takes the new index for its own:
+  siuwbren checkin /tmp/tree
+  mv .git/index-checkin .git/index
+
+Status: 0 if each path is looked at, 1 if some path failed, 2 for wrong words, 3 if the repository is
+refused, 4 if output failed, 5 out of memory, 6 for a read fault. See siuwbren(1).";
 
 const PLAN_END: &str = "\
 Example:
@@ -174,6 +182,19 @@ fn checkout<'a>(alloc: Global) -> Result<Command<'a>, AllocError>
         .arg(tree)
 }
 
+fn checkin<'a>(alloc: Global) -> Result<Command<'a>, AllocError>
+    ensures app { IfOk result (λ command. app_of command ≡ checkin_app) }
+    ensures local { IfOk result (λ command. (out-Command command).has_globals ≡ false) }
+{
+    let tree = place(alloc, "tree", "TREE", "The folder with the files");
+    Command::new(alloc, "checkin")
+        .about("Keep the files of a folder as objects and a new index")
+        .override_usage("siuwbren checkin [OPTIONS] TREE")
+        .after_help(CHECKIN_END)
+        .arg(git_dir(alloc))?
+        .arg(tree)
+}
+
 fn plan<'a>(alloc: Global) -> Result<Command<'a>, AllocError>
     ensures app { IfOk result (λ command. app_of command ≡ plan_app) }
     ensures local { IfOk result (λ command. (out-Command command).has_globals ≡ false) }
@@ -231,8 +252,12 @@ fn repository_commands<'a>(alloc: Global) -> Result<Command<'a>, AllocError>
     ensures { IfOk result (λ command. app_of command ≡ repository_app) }
 {
     let checkout = checkout(alloc)?;
+    let checkin = checkin(alloc)?;
     let plan = plan(alloc)?;
-    top(alloc).subcommand(checkout)?.subcommand(plan)
+    top(alloc)
+        .subcommand(checkout)?
+        .subcommand(checkin)?
+        .subcommand(plan)
 }
 
 /// The program's parser.

@@ -1,0 +1,138 @@
+//! What keeps objects and an index in folders.
+ghost use Rattle.std.specs.Prelude.{◌≡◌, ◌++◌, IfOk, None, string_bytes};
+ghost use Rattle.edge_kit.specs.Faults.{AfterSend};
+ghost use Rattle.checkin_edge.specs.Places.{folder_of, file_of};
+
+use crate::new_file::{replace, write_once};
+use checkin_engine::Keep;
+use edge_adapters::path_in;
+use edge_kit::SendFault;
+use std::alloc::{AllocError, Global};
+use std::fs::symlink_metadata;
+use std::io;
+use std::io::ErrorKind;
+use zlib_store::zlib_stored;
+
+/// How an object's file has the stored bytes.
+#[derive(Clone, Copy)]
+pub enum ObjectForm {
+    /// As they are.
+    Plain,
+    /// As a zlib stream (gitrepository-layout(5)), which doesn't compress them.
+    Zlib,
+}
+
+/// A folder of objects, and the file of an index. An object that is there stays as it is. Each file gets its name once
+/// it is whole, so that one that has it is whole, and an index stays until the next one is.
+#[derive(Drop)]
+pub struct FolderKeep {
+    rt: HostRuntime,
+    alloc: Global,
+    pub objects: String,
+    pub index: String,
+    pub form: ObjectForm,
+    faults: u64,
+    // its first fault
+    error: Option<io::Error>,
+}
+
+/// The folder of the object with this name, in a folder of objects: by the first two digits of the name.
+fn object_folder(alloc: Global, objects: &str, name: &[u8; 20]) -> Result<String, AllocError>
+    ensures { IfOk result (λ path. string_bytes path ≡ folder_of objects.now name.now) }
+{
+    let (first, _) = name.as_slice().split_at(1);
+    let digits = hex::encode(alloc, first)?;
+    path_in(alloc, objects, digits.as_str())
+}
+
+/// The file of the object with this name, in its folder: by the other 38 digits.
+fn object_file(alloc: Global, folder: &str, name: &[u8; 20]) -> Result<String, AllocError>
+    ensures { IfOk result (λ path. string_bytes path ≡ file_of folder.now name.now) }
+{
+    let (_, others) = name.as_slice().split_at(1);
+    let digits = hex::encode(alloc, others)?;
+    path_in(alloc, folder, digits.as_str())
+}
+
+/// Whether something is at the path.
+fn is_there(rt: HostRuntime, path: &str) -> io::Result<bool> {
+    match symlink_metadata(&rt, path) {
+        Ok(_) => Ok(true),
+        Err(error) if error.kind() == ErrorKind::NotFound => Ok(false),
+        Err(error) => Err(error),
+    }
+}
+
+impl FolderKeep {
+    /// A keeper in this folder of objects, in this form, and in this file of an index. It touches nothing.
+    pub fn new(rt: HostRuntime, objects: String, index: String, form: ObjectForm) -> FolderKeep
+        ensures objects { result.objects ≡ objects }
+        ensures index { result.index ≡ index }
+        ensures form { result.form ≡ form }
+        ensures seen { ⟦<FolderKeep as Keep>⟧.seen result ≡ record { objects = None; index = None; faults = 0 } }
+    {
+        FolderKeep {
+            rt,
+            alloc: rt.alloc(),
+            objects,
+            index,
+            form,
+            faults: 0,
+            error: None,
+        }
+    }
+
+    /// Its first fault.
+    pub fn error(&self) -> Option<&io::Error> {
+        self.error.as_ref()
+    }
+
+    /// Writes an object's file, unless it is there.
+    fn write_object(&self, name: &[u8; 20], raw: &[u8]) -> io::Result<()> {
+        let folder = object_folder(self.alloc, self.objects.as_str(), name)?;
+        let path = object_file(self.alloc, folder.as_str(), name)?;
+        if is_there(self.rt, path.as_str())? {
+            return Ok(());
+        }
+        match self.form {
+            ObjectForm::Plain => {
+                write_once(self.rt, self.alloc, folder.as_str(), path.as_str(), raw)
+            }
+            ObjectForm::Zlib => {
+                let stream = zlib_stored(self.alloc, raw)?;
+                write_once(self.rt, self.alloc, folder.as_str(), path.as_str(), &stream)
+            }
+        }
+    }
+
+    /// Counts a fault if it didn't write.
+    fn counted(&mut self, written: io::Result<()>) -> Result<(), SendFault>
+        ensures { AfterSend self.old.faults self.new.faults result }
+    {
+        match written {
+            Ok(()) => Ok(()),
+            Err(error) if error.kind() == ErrorKind::OutOfMemory => Err(SendFault::NoMemory),
+            Err(error) => {
+                self.faults = self.faults.saturating_add(1);
+                if self.error.is_none() {
+                    self.error = Some(error);
+                }
+                Err(SendFault::Failed)
+            }
+        }
+    }
+}
+
+impl Keep for FolderKeep {
+    ghost seen = { λ k. record { objects = None; index = None; faults = k.faults } };
+
+    fn object(&mut self, name: &[u8; 20], raw: &[u8]) -> Result<(), SendFault> {
+        let written = self.write_object(name, raw);
+        self.counted(written)
+    }
+
+    fn index(&mut self, bytes: &[u8]) -> Result<(), SendFault> {
+        let written = replace(self.rt, self.alloc, self.index.as_str(), bytes);
+        self.counted(written)
+    }
+}

@@ -1,0 +1,126 @@
+//! What stands at a path below a worktree's folder, read without following a link.
+//!
+//! Each folder on the way is looked at first, and then what stands at the path. If another process puts something else
+//! in its place between the look and the opening, that is opened and not read. The kit has no call that opens without
+//! following a link or without waiting: a FIFO that is put there in between is waited for. The path of the worktree's
+//! folder itself may lead over links.
+ghost use Rattle.std.specs.Prelude.{◌≤◌, IfOk, length};
+ghost use Rattle.checkin_edge.specs.Reads.{IsWithin};
+
+use std::alloc::Global;
+use std::fs::{File, Metadata, read_link, symlink_metadata};
+use std::io;
+use std::io::{Error, ErrorKind, Read};
+use std::os::unix::fs::MetadataExt;
+
+/// What was read at a path.
+#[derive(Drop)]
+pub enum FileRead {
+    /// All bytes of a file, or the text of a link.
+    Whole(Vec<u8>),
+    /// More bytes than the limit.
+    TooLong,
+    /// There is no file.
+    Absent,
+}
+
+/// A folder has to be at the path. A link to a folder is none.
+fn need_folder(rt: HostRuntime, path: &str) -> io::Result<()> {
+    if symlink_metadata(&rt, path)?.is_dir() {
+        Ok(())
+    } else {
+        Err(Error::from(ErrorKind::NotADirectory))
+    }
+}
+
+/// Folders have to be at all parts of a path that are named after its first `top` bytes, but for the last.
+fn need_folders(rt: HostRuntime, path: &str, top: usize) -> io::Result<()> {
+    for end in top.saturating_add(1)..path.len() {
+        match path.split_at_checked(end) {
+            Some((folder, rest)) if rest.starts_with('/') => need_folder(rt, folder)?,
+            _ => {}
+        }
+    }
+    Ok(())
+}
+
+/// The text of a link within the limit.
+fn link_text(rt: HostRuntime, path: &str, limit: u64) -> io::Result<FileRead>
+    ensures { IfOk result (IsWithin limit) }
+{
+    let text = read_link(&rt, path)?.into_os_string().into_bytes();
+    if text.len() as u64 > limit {
+        return Ok(FileRead::TooLong);
+    }
+    Ok(FileRead::Whole(text))
+}
+
+/// Opens the regular file that was found at a path.
+fn open_found(rt: HostRuntime, path: &str, found: &Metadata) -> io::Result<File> {
+    let file = File::open(&rt, path)?;
+    let opened = file.metadata()?;
+    if opened.dev() != found.dev() || opened.ino() != found.ino() {
+        return Err(Error::other("another file has its place now"));
+    }
+    Ok(file)
+}
+
+/// The bytes of an open file within the limit. Its length says how much room they need.
+fn file_bytes(alloc: Global, file: File, limit: u64) -> io::Result<FileRead>
+    ensures { IfOk result (IsWithin limit) }
+{
+    let len = file.metadata()?.len();
+    if len > limit {
+        return Ok(FileRead::TooLong);
+    }
+    // one byte more than the file, so that its end is seen without growing
+    let room = len.saturating_add(1);
+    let mut bytes = Vec::with_capacity(alloc, room as usize)?;
+    file.take(limit.saturating_add(1)).read_to_end(&mut bytes)?;
+    if bytes.len() as u64 > limit {
+        return Ok(FileRead::TooLong);
+    }
+    Ok(FileRead::Whole(bytes))
+}
+
+/// The whole file or the text of the link at a path, within the limit. What is neither is a fault, and isn't opened,
+/// since that may wait forever.
+fn read_there(
+    rt: HostRuntime,
+    alloc: Global,
+    path: &str,
+    top: usize,
+    limit: u64,
+) -> io::Result<FileRead>
+    ensures { IfOk result (IsWithin limit) }
+{
+    need_folders(rt, path, top)?;
+    let found = symlink_metadata(&rt, path)?;
+    if found.is_symlink() {
+        return link_text(rt, path, limit);
+    }
+    if !found.is_file() {
+        return Err(Error::other("no regular file"));
+    }
+    file_bytes(alloc, open_found(rt, path, &found)?, limit)
+}
+
+/// The same, where the first `top` bytes of the path name the worktree's folder. There is no file where a part of the
+/// path isn't there or is no folder, as where it is a link to one.
+pub fn read_below(
+    rt: HostRuntime,
+    alloc: Global,
+    path: &str,
+    top: usize,
+    limit: u64,
+) -> io::Result<FileRead>
+    ensures { IfOk result (IsWithin limit) }
+{
+    match read_there(rt, alloc, path, top, limit) {
+        Err(error) => match error.kind() {
+            ErrorKind::NotFound | ErrorKind::NotADirectory => Ok(FileRead::Absent),
+            _ => Err(error),
+        },
+        read => read,
+    }
+}
