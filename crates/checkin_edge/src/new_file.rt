@@ -87,7 +87,8 @@ fn make_in(
     NewFile::make(rt, alloc, begin, mode)
 }
 
-/// Writes a file that nobody may change into a folder under this name, all or nothing. The name that the file has first is one that `git prune` removes if it is left over.
+/// Writes a file that nobody may change into a folder under this name, all or nothing. The name that the file has first
+/// is one that `git prune` removes if it is left over.
 pub fn write_once(
     rt: HostRuntime,
     alloc: Global,
