@@ -1,5 +1,5 @@
-//! The outside of a check-in as the system has it: the files of a worktree's folder, and what keeps objects and an index
-//! beside those of a repository. They tell nothing of what they hold, and each counts its faults.
+//! The outside of a check-in as the system has it: the files of a worktree's folder, and what keeps objects and an
+//! index beside those of a repository. They tell nothing of what they hold, and each counts its faults.
 #![tactic(auto)]
 
 mod folder_files;

@@ -14,8 +14,8 @@ pub record LinesView : Type 0 where
   pub lines : List (Option CleanLineView)
   pub asked : ℕ
 
--- The lines of the drivers, by their places: a driver that was asked for no path has none. And what started them, and how
--- often single runs have failed.
+-- The lines of the drivers, by their places: a driver that was asked for no path has none. And what started them, and
+-- how often single runs have failed.
 pub record DriversSeen : Type 0 where
   pub lines : List (Option CleanLineView)
   pub spawner : SpawnerSeen
