@@ -113,7 +113,10 @@ def check_in(words, status):
     ran = subprocess.run(words, capture_output=True, check=False)
     if ran.returncode not in status or ran.stderr:
         sys.exit(f"checkin_round_trips: {words}: status {ran.returncode}: {ran.stderr.decode()[:500]}")
-    return ran.stdout.decode().splitlines()
+    report = ran.stdout.decode().splitlines()
+    if "checkin" in words and not counts_are_right(report, ran.returncode):
+        sys.exit(f"checkin_round_trips: {words}: status {ran.returncode}, and {report[-1:]}")
+    return report
 
 
 def listed(gitdir, index):
@@ -131,6 +134,25 @@ def wanted_index(before, said):
         words = said[path].split()
         rows.append(f"{mode} {words[1] if words[0] == 'changed' else name} {stage}\t{path}")
     return rows
+
+
+def counts_are_right(report, status):
+    """Whether the last line and the status go with the lines."""
+    words = [line.split(" ")[0] for line in report[:-1]]
+    counts = [words.count(word) for word in ("same", "changed", "gone", "kept", "failed")]
+    return report[-1] == "done " + " ".join(map(str, counts)) and status == (counts[4] > 0)
+
+
+def unkept(said, gitdir, raw):
+    """The names of changed paths whose objects aren't there for git, or whose uncompressed objects are others."""
+    names = sorted({words.split(" ")[1] for words in said.values() if words.startswith("changed ")})
+    found = run("git", f"--git-dir={gitdir}", "cat-file", "--batch-check=%(objectname)", given="".join(f"{name}\n" for name in names).encode())
+    lost = set(names) - set(found.decode().split("\n"))
+    for name in names:
+        path = pathlib.Path(raw, "objects", name[:2], name[2:])
+        if not path.is_file() or hashlib.sha1(path.read_bytes()).hexdigest() != name:
+            lost.add(name)
+    return lost
 
 
 def look(paths, said, differs):
@@ -164,6 +186,9 @@ def main():
             differs.append(f"{setting}: the two programs differ")
         said = said_of(report[:-1])
         before, after = listed(gitdir, f"{gitdir}/index"), listed(gitdir, f"{gitdir}/index-checkin")
+        lost = unkept(said, gitdir, raw)
+        if lost:
+            differs.append(f"{setting}: {len(lost)} objects aren't kept, among them {min(lost)}")
         if after != wanted_index(before, said) or after != listed(gitdir, f"{raw}/index-checkin"):
             differs.append(f"{setting}: the new index isn't that of the report")
         files, back = files + len(paths), back + look(paths, said, differs)

@@ -3,6 +3,7 @@
 import hashlib
 import os
 import random
+import re
 import subprocess
 import sys
 
@@ -10,6 +11,7 @@ sys.dont_write_bytecode = True
 import checkin_contents as contents
 
 FILES = 1000
+KEYWORD = re.compile(rb"\$Id:[^$\n]*\$")
 # For each configuration its attributes, each of a folder of its own.
 ENCODED = [f"text working-tree-encoding={name}" for name in contents.ENCODINGS]
 GROUPS = {
@@ -139,17 +141,45 @@ def known_difference(repository, path):
     return None
 
 
+def kept_name(repository, path):
+    """The name of the blob of a file whose CR LF stay."""
+    attributes, encoding = repository.groups[path]
+    made = repository.files[path] if encoding is None else repository.files[path].decode(encoding).encode()
+    return blob_name(KEYWORD.sub(b"$Id$", made) if "ident" in attributes else made)
+
+
+def own_answer(repository, path, known):
+    """What siuwbren says of a path that git refuses for its mark, or takes without one."""
+    if known == "takes":
+        return ["failed", "encoding-form"]
+    encoding = repository.groups[path][1]
+    if known != "refuses" or encoding is None:
+        return None
+    try:
+        text = repository.files[path].decode(encoding)
+    except UnicodeDecodeError:
+        return ["failed", "encoding-form"]
+    name = blob_name(text.encode().replace(b"\r\n", b"\n") if "text" in repository.groups[path][0].split() else text.encode())
+    return ["same"] if name == repository.index[path] else ["changed", name]
+
+
 def compare(program, repository, said, ours, differs):
     """Compares the names with git's."""
+    if list(said) != list(repository.files) or list(ours) != list(repository.files):
+        differs.append(f"{repository.setting}: the report or the index has other paths")
+        return repository.index, 0
     skipped = []
     for path, words in said.items():
         known = known_difference(repository, path)
         if words == ["failed", "encoding-form"] or known == "refuses":
             skipped.append(path)
             wanted = known != "takes"
+            ours_is = own_answer(repository, path, known)
+            if ours_is and words != ours_is:
+                differs.append(f"{repository.groups[path][0]}: {repository.files[path][:60]!r}: {words}, and not {ours_is}")
             if repository.refuses(path) != wanted:
                 differs.append(f"{repository.groups[path][0]}: {repository.files[path][:60]!r}: {words}, and git {'takes' if wanted else 'refuses'} it")
-        elif words[0] not in ("same", "changed"):
+        elif words[0] not in ("same", "changed") or known == "takes":
             differs.append(f"{repository.groups[path][0]}: {repository.files[path][:60]!r}: {words}")
     skip = set(skipped)
     listed = "".join(f"{path}\0" for path in said if path not in skip).encode()
@@ -165,7 +195,7 @@ def compare(program, repository, said, ours, differs):
             continue
         if name == theirs[path]:
             continue
-        if known_difference(repository, path) == "converts":
+        if known_difference(repository, path) == "converts" and name == kept_name(repository, path):
             known += 1
             continue
         differs.append(f"{repository.setting} {repository.groups[path][0]}: {repository.files[path][:60]!r}: {words[0]} {name}, and git's is {theirs[path]}")

@@ -22,8 +22,8 @@ pub enum ObjectForm {
     Zlib,
 }
 
-/// A folder of objects, and the file of an index. An object that is there stays as it is. Each file gets its name once
-/// it is whole, so that one that has it is whole, and an index stays until the next one is.
+/// A folder of objects, and the file of an index. An object's file that is there stays as it is. Each file gets its name
+/// once it is whole, so that one that has it is whole, and an index stays until the next one is.
 #[derive(Drop)]
 pub struct FolderKeep {
     rt: HostRuntime,
@@ -54,10 +54,10 @@ fn object_file(alloc: Global, folder: &str, name: &[u8; 20]) -> Result<String, A
     path_in(alloc, folder, digits.as_str())
 }
 
-/// Whether something is at the path.
+/// Whether a file with some bytes is at the path. A link is none, and an empty file is what a crash left.
 fn is_there(rt: HostRuntime, path: &str) -> io::Result<bool> {
     match symlink_metadata(&rt, path) {
-        Ok(_) => Ok(true),
+        Ok(found) => Ok(found.is_file() && found.len() > 0),
         Err(error) if error.kind() == ErrorKind::NotFound => Ok(false),
         Err(error) => Err(error),
     }

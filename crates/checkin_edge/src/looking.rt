@@ -1,9 +1,10 @@
 //! What stands at a path below a worktree's folder, read without following a link.
 //!
 //! Each folder on the way is looked at first, and then what stands at the path. If another process puts something else
-//! in its place between the look and the opening, that is opened and not read. The kit has no call that opens without
-//! following a link or without waiting: a FIFO that is put there in between is waited for. The path of the worktree's
-//! folder itself may lead over links.
+//! in its place between the look and the opening, that is opened and not read. The folders are looked at once more
+//! before the file is read: one that is a link for that moment alone isn't noticed. The kit has no call that opens
+//! without following a link or without waiting: a FIFO that is put there in between is waited for. The path of the
+//! worktree's folder itself may lead over links.
 ghost use Rattle.std.specs.Prelude.{◌≤◌, IfOk, length};
 ghost use Rattle.checkin_edge.specs.Reads.{IsWithin};
 
@@ -102,7 +103,9 @@ fn read_there(
     if !found.is_file() {
         return Err(Error::other("no regular file"));
     }
-    file_bytes(alloc, open_found(rt, path, &found)?, limit)
+    let file = open_found(rt, path, &found)?;
+    need_folders(rt, path, top)?;
+    file_bytes(alloc, file, limit)
 }
 
 /// The same, where the first `top` bytes of the path name the worktree's folder. There is no file where a part of the

@@ -79,11 +79,13 @@ fn make_in(
     begin: &str,
     mode: u32,
 ) -> io::Result<NewFile> {
-    match NewFile::make(rt, alloc, begin, mode) {
-        Err(error) if error.kind() == ErrorKind::NotFound => {}
-        made => return made,
+    // twice, since `git gc` may remove the folder while it is empty
+    for _ in 0..2 {
+        match NewFile::make(rt, alloc, begin, mode) {
+            Err(error) if error.kind() == ErrorKind::NotFound => create_dir_all(&rt, folder)?,
+            made => return made,
+        }
     }
-    create_dir_all(&rt, folder)?;
     NewFile::make(rt, alloc, begin, mode)
 }
 

@@ -15,9 +15,11 @@ const CASES: &[&str] = &[
     "~p~+ohi~test $(stat -c %a $f) = 444; printf 'blob 2\\0hi' | cmp - $f",
     "~p~+ohi;+ohi~printf 'blob 2\\0hi' | cmp - $f; test $(find . -type f | wc -l) = 1",
     "mkdir objects~p~+ohi~printf 'blob 2\\0hi' | cmp - $f",
-    // one that is there stays, whatever it is
+    // a file that is there stays, but a link or an empty file is none
     "mkdir -p ${f%/*}; printf old > $f~p~+ohi~test $(cat $f) = old",
-    "mkdir -p ${f%/*}; ln -s nowhere $f~p~+ohi~test -L $f",
+    "mkdir -p ${f%/*}; ln -s nowhere $f~p~+ohi~test ! -L $f; printf 'blob 2\\0hi' | cmp - $f",
+    "mkdir -p ${f%/*}; : > $f~p~+ohi~printf 'blob 2\\0hi' | cmp - $f",
+    "mkdir -p $f~p~-ohi~rmdir $f; test $(find . -type f | wc -l) = 0",
     // a new index takes the place of the last one
     "~p~+iold;+inew~test $(cat index-checkin) = new; test $(ls | wc -l) = 1",
     "printf a > index~p~+inew~test $(cat index) = a; test $(cat index-checkin) = new",
