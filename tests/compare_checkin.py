@@ -135,7 +135,8 @@ def known_difference(repository, path):
     other = {"UTF-16LE": b"\xfe\xff", "UTF-16BE": b"\xff\xfe", "UTF-32LE": b"\0\0\xfe\xff", "UTF-32BE": b"\xff\xfe\0\0"}.get(encoding)
     if other and made.startswith(other):
         return "refuses"
-    is_auto = "text=auto" in attributes or repository.setting in ("core.autocrlf=true", "core.autocrlf=input") and "text" not in attributes.replace("!text", "")
+    is_set = repository.setting in ("core.autocrlf=true", "core.autocrlf=input") and "text" not in attributes.replace("!text", "")
+    is_auto = "text=auto" in attributes or is_set
     if is_auto and is_binary(repository.index_content(path)) == (True, True):
         return "converts"
     return None
@@ -163,27 +164,27 @@ def own_answer(repository, path, known):
     return ["same"] if name == repository.index[path] else ["changed", name]
 
 
-def compare(program, repository, said, ours, differs):
+def compare(repository, said, ours, differs):
     """Compares the names with git's."""
     if list(said) != list(repository.files) or list(ours) != list(repository.files):
         differs.append(f"{repository.setting}: the report or the index has other paths")
         return repository.index, 0
-    skipped = []
+    skip = set()
     for path, words in said.items():
         known = known_difference(repository, path)
+        about = f"{repository.setting} {repository.groups[path][0]}: {repository.files[path][:60]!r}: {words}"
         if words == ["failed", "encoding-form"] or known == "refuses":
-            skipped.append(path)
+            skip.add(path)
             wanted = known != "takes"
-            ours_is = own_answer(repository, path, known)
-            if ours_is and words != ours_is:
-                differs.append(f"{repository.groups[path][0]}: {repository.files[path][:60]!r}: {words}, and not {ours_is}")
             if repository.refuses(path) != wanted:
-                differs.append(f"{repository.groups[path][0]}: {repository.files[path][:60]!r}: {words}, and git {'takes' if wanted else 'refuses'} it")
+                differs.append(f"{about}, and git {'takes' if wanted else 'refuses'} it")
+            own = own_answer(repository, path, known)
+            if own and words != own:
+                differs.append(f"{about}, and not {own}")
         elif words[0] not in ("same", "changed") or known == "takes":
-            differs.append(f"{repository.groups[path][0]}: {repository.files[path][:60]!r}: {words}")
-    skip = set(skipped)
+            differs.append(about)
     listed = "".join(f"{path}\0" for path in said if path not in skip).encode()
-    run("git", "-C", repository.folder, "-c", "advice.addEmbeddedRepo=false", "add", "--pathspec-from-file=-", "--pathspec-file-nul", given=listed)
+    run("git", "-C", repository.folder, "add", "--pathspec-from-file=-", "--pathspec-file-nul", given=listed)
     theirs = repository.listed(f"{repository.folder}/.git/index")
     known = 0
     for path, words in said.items():
@@ -221,7 +222,7 @@ def main():
             lacking = objects_are_there(repository, said)
             if lacking:
                 differs.append(f"git lacks {lacking} objects")
-            theirs, more = compare(program, repository, said, ours, differs)
+            theirs, more = compare(repository, said, ours, differs)
             known, files, rounds = known + more, files + len(said), rounds + 1
             repository.index = theirs
         run("git", "-C", repository.folder, "fsck", "--no-dangling")

@@ -8,8 +8,8 @@ use std::fs::remove_dir_all;
 use std::test::Fail;
 
 /// What the shell does, the form of objects, `p` or `z`, the calls, and what the shell finds. A call is well after `+`
-/// and not after `-`: `o` keeps the object of these bytes, `z` that of 200,000 zeros, and `i` an index. `$f` is the file
-/// of the object of `hi`, whose name git gives.
+/// and not after `-`: `o` keeps the object of these bytes, `z` that of 200,000 zeros, and `i` an index. `$f` is the
+/// file of the object of `hi`, and `$n` its name, which git gives.
 const CASES: &[&str] = &[
     // an object as it is, which nobody may change
     "~p~+ohi~test $(stat -c %a $f) = 444; printf 'blob 2\\0hi' | cmp - $f",
@@ -28,10 +28,10 @@ const CASES: &[&str] = &[
     "mkdir -p objects; : > ${f%/*}~p~-ohi~test $(find . -type f | wc -l) = 1",
     "mkdir index-checkin~p~-inew~rmdir index-checkin; test $(ls | wc -l) = 0",
     // git reads an object of each size
-    "git init -q --bare .~z~+ohi~test $(git --git-dir=. cat-file blob $n) = hi",
-    "git init -q --bare .~z~+o~git --git-dir=. cat-file -e $(: | git hash-object --stdin)",
-    "git init -q --bare .~z~+z~head -c 200000 /dev/zero > z; git --git-dir=. cat-file blob $(git hash-object z) | cmp - z",
-    "git init -q --bare .~z~+z;+ohi~git --git-dir=. fsck 2>&1 | grep -c dangling | grep -qx 2",
+    "git init -q --bare .~z~+ohi~test $(git cat-file blob $n) = hi",
+    "git init -q --bare .~z~+o~git cat-file -e $(: | git hash-object --stdin)",
+    "git init -q --bare .~z~+z~head -c 200000 /dev/zero > z; git cat-file blob $(git hash-object z) | cmp - z",
+    "git init -q --bare .~z~+z;+ohi~git fsck 2>&1 | grep -c dangling | grep -qx 2",
 ];
 
 /// What stands before a shell's text.

@@ -4,7 +4,8 @@ use inflate::inflate;
 use std::test::Fail;
 use zlib_store::zlib_stored;
 
-/// A content and its stream in hexadecimal digits, as zlib makes it without compression (Python's `zlib.compress(.., 0)`).
+/// A content and its stream in hexadecimal digits, as zlib makes it without compression: Python's
+/// `zlib.compress(.., 0)`.
 const STREAMS: &[&str] = &[
     "|7801010000ffff00000001",
     "hi\n|7801010300fcff68690a021700dc",
