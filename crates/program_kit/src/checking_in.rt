@@ -1,5 +1,5 @@
 //! A check-in of a worktree's folder, and what standard error says of it.
-use crate::notes::{show_errors, show_unkept};
+use crate::notes::{show_drivers, show_errors, show_unkept};
 use checkin_edge::{FolderFiles, FolderKeep};
 use checkin_engine::checkin;
 use edge_adapters::{OutputSink, ProcessSpawner};
@@ -7,10 +7,10 @@ use edge_kit::Repo;
 use one_shot::OnceMaker;
 use std::alloc::AllocError;
 use std::io::writer;
+use std::mem::forget;
 use std::thread::Threads;
 
-/// Checks in the files of a folder by these words, and prints the report. What the drivers of its paths are run by is
-/// given, and none is run.
+/// Checks in the files of a folder by these words, under the drivers of this spawner, and prints the report.
 pub fn check_in<R: Repo, T: Threads + Copy + Send>(
     rt: HostRuntime,
     threads: T,
@@ -32,7 +32,10 @@ pub fn check_in<R: Repo, T: Threads + Copy + Send>(
         &mut keep,
         &mut out,
     );
+    show_drivers(rt, spawner.drivers());
     show_errors(rt, files.errors());
     show_unkept(rt, keep.error());
+    // the program ends now, and its system takes back what is left
+    forget(spawner);
     Ok(status)
 }
