@@ -30,12 +30,16 @@ fn first_sixteens<F: Form<WIDE>, const WIDE: usize>(bytes: &[u8]) -> Option<([[u
     Some(([first, second, third, fourth], bytes))
 }
 
-/// Appends the first characters of bytes, up to sixteen, and gives what follows them. There are none where the bytes
-/// end, or are refused. `few` is room for them.
+/// So many characters are read one by one before sixteen are tried at once again.
+const FEW: u8 = 16;
+
+/// Appends the first characters of bytes, up to `most`, and gives what follows them. There are none where the bytes end,
+/// or are refused. `few` is room for them.
 fn push_few<'a, F: Form<WIDE>, const WIDE: usize>(
     text: &mut Vec<u8>,
     few: &mut String,
     bytes: &'a [u8],
+    most: u8,
 ) -> Result<Option<&'a [u8]>, AllocError>
     ensures none { IfOk result (λ behind. IfNone behind (F.chars bytes.now ≡ ending bytes.now)) }
     ensures some { IfOk result (λ behind. IfSome behind (λ r.
@@ -48,7 +52,7 @@ fn push_few<'a, F: Form<WIDE>, const WIDE: usize>(
     few.clear();
     few.push(character)?;
     let mut rest = behind;
-    for _count in 1..16u8 {
+    for _count in 1..most {
         let Some((character, behind)) = F::first(rest) else {
             break;
         };
@@ -60,10 +64,13 @@ fn push_few<'a, F: Form<WIDE>, const WIDE: usize>(
 }
 
 /// Appends the first characters of bytes, as many as are read at once. The rest is as for `push_few`.
+///
+/// Where no sixteen are found at once, twice as many characters are read one by one the next time.
 fn push_first<'a, F: Form<WIDE>, const WIDE: usize>(
     text: &mut Vec<u8>,
     few: &mut String,
     bytes: &'a [u8],
+    most: &mut u8,
 ) -> Result<Option<&'a [u8]>, AllocError>
     ensures none { IfOk result (λ behind. IfNone behind (F.chars bytes.now ≡ ending bytes.now)) }
     ensures some { IfOk result (λ behind. IfSome behind (λ r.
@@ -73,14 +80,18 @@ fn push_first<'a, F: Form<WIDE>, const WIDE: usize>(
     if let Some(found) = first_sixteens::<F, WIDE>(bytes) {
         let (sixteens, behind) = found;
         text.extend_from_slice(sixteens.as_flattened())?;
+        *most = FEW;
         return Ok(Some(behind));
     }
     if let Some(found) = first_sixteen::<F, WIDE>(bytes) {
         let (sixteen, behind) = found;
         text.extend_from_slice(&sixteen)?;
+        *most = FEW;
         return Ok(Some(behind));
     }
-    push_few::<F, WIDE>(text, few, bytes)
+    let count = *most;
+    *most = count.saturating_mul(2);
+    push_few::<F, WIDE>(text, few, bytes, count)
 }
 
 /// A content in a form, as UTF-8.
@@ -93,8 +104,9 @@ pub(crate) fn decoded<F: Form<WIDE>, const WIDE: usize>(
 {
     let mut text = Vec::with_capacity(alloc, bytes.len() / 2)?;
     let mut few = String::with_capacity(alloc, 64)?;
+    let mut most = FEW;
     let mut rest = bytes;
-    'text: while let Some(behind) = push_first::<F, WIDE>(&mut text, &mut few, rest)? {
+    'text: while let Some(behind) = push_first::<F, WIDE>(&mut text, &mut few, rest, &mut most)? {
         rest = behind;
     }
     if !rest.is_empty() {
