@@ -1,10 +1,11 @@
-use crate::table::{Row, Seen, check, cut, filled, noted, shown, unknown};
+use crate::table::{Row, Seen, check, cut, filled, is_right, noted, parted, shown, unknown};
 use attr_line::AttrState;
 use back_convert::{
     Action, BackFault, back_encode, back_ends, back_ident, has_crlf, has_expanded, to_stored,
 };
 use byte_path::Bytes;
 use std::alloc::{AllocError, Global};
+use std::process::Abort;
 use std::test::Fail;
 use tree_encoding::{Encoding, encoding_of};
 
@@ -252,6 +253,119 @@ impl Row for Decoded {
 fn files_are_read_out_of_their_encoding(rt: HostRuntime) -> Result<(), Fail> {
     check::<Decoded, _>(&rt, rt.alloc(), TEXTS)?;
     check::<Decoded, _>(&rt, rt.alloc(), NO_TEXTS)
+}
+
+/// Sixteen characters of ASCII, the first and the last one among them.
+const SIXTEEN: &[u8] = b"\0abcdefghijklmn\x7f";
+
+/// Encodings, and what python's codecs make of the sixteen in them. Behind it stand U+0080, U+0100 and U+1F600, each in
+/// the encoding and in UTF-8.
+const SAMPLES: &[u8] = b"\
+    UTF-16LE|\0\0a\0b\0c\0d\0e\0f\0g\0h\0i\0j\0k\0l\0m\0n\0\x7f\0|\x80\0|\xc2\x80|\0\x01|\xc4\x80|=\
+    \xd8\0\xde|\xf0\x9f\x98\x80|%\
+    UTF-16BE|\0\0\0a\0b\0c\0d\0e\0f\0g\0h\0i\0j\0k\0l\0m\0n\0\x7f|\0\x80|\xc2\x80|\x01\0|\xc4\x80|\
+    \xd8=\xde\0|\xf0\x9f\x98\x80|%\
+    UTF-32LE|\0\0\0\0a\0\0\0b\0\0\0c\0\0\0d\0\0\0e\0\0\0f\0\0\0g\0\0\0h\0\0\0i\0\0\0j\0\0\0k\0\0\0l\
+    \0\0\0m\0\0\0n\0\0\0\x7f\0\0\0|\x80\0\0\0|\xc2\x80|\0\x01\0\0|\xc4\x80|\0\xf6\x01\0|\xf0\x9f\
+    \x98\x80|%\
+    UTF-32BE|\0\0\0\0\0\0\0a\0\0\0b\0\0\0c\0\0\0d\0\0\0e\0\0\0f\0\0\0g\0\0\0h\0\0\0i\0\0\0j\0\0\0k\
+    \0\0\0l\0\0\0m\0\0\0n\0\0\0\x7f|\0\0\0\x80|\xc2\x80|\0\0\x01\0|\xc4\x80|\0\x01\xf6\0|\xf0\x9f\
+    \x98\x80|";
+
+/// How many characters of ASCII there are: less than is read at once, as many, or more.
+const LENGTHS: [usize; 7] = [15, 16, 17, 63, 64, 65, 1000];
+
+/// An encoding, and the sixteen in it.
+#[derive(Clone, Copy)]
+struct Sample<'a> {
+    encoding: Encoding,
+    sixteen: &'a [u8],
+}
+
+/// So many characters of the sixteen, over and over again. Each takes a sixteenth of the bytes.
+fn repeated(alloc: Global, sixteen: &[u8], count: usize) -> Result<Vec<u8>, AllocError> {
+    let mut text = Vec::new(alloc);
+    for _ in 0..count / 16 + 1 {
+        text.extend_from_slice(sixteen)?;
+    }
+    text.truncate((sixteen.len() / 16).saturating_mul(count));
+    Ok(text)
+}
+
+/// So many characters of the sixteen, some bytes, and again so many characters.
+fn spliced(
+    alloc: Global,
+    sixteen: &[u8],
+    places: (usize, usize),
+    middle: &[u8],
+) -> Result<Vec<u8>, AllocError> {
+    let front = repeated(alloc, sixteen, places.0)?;
+    let back = repeated(alloc, sixteen, places.1)?;
+    [front.as_slice(), middle, back.as_slice()].concat(alloc)
+}
+
+/// What a file is read as.
+fn is_read(
+    rt: &impl Abort,
+    alloc: Global,
+    sample: Sample,
+    file: &[u8],
+    want: &[u8],
+) -> Result<(), Fail> {
+    let came = told(alloc, back_encode(alloc, file, sample.encoding))?;
+    is_right(rt, file, &came, want);
+    Ok(())
+}
+
+/// Texts of the sixteen are read, each length, and with another character at each place. A part of a unit behind them
+/// is refused.
+fn check_sample(rt: &impl Abort, alloc: Global, row: &[u8]) -> Result<(), Fail> {
+    let (name, rest) = cut(row, b'|')?;
+    let (sixteen, rest) = cut(rest, b'|')?;
+    let Some(encoding) = named(alloc, name)? else {
+        return Err(unknown(name));
+    };
+    let sample = Sample { encoding, sixteen };
+    for length in &LENGTHS {
+        let file = repeated(alloc, sixteen, *length)?;
+        let want = repeated(alloc, SIXTEEN, *length)?;
+        is_read(rt, alloc, sample, &file, &want)?;
+        let part = spliced(alloc, sixteen, (*length, 0), b"a")?;
+        is_read(rt, alloc, sample, &part, b"Form")?;
+    }
+    check_places(rt, alloc, sample, rest)
+}
+
+/// The other characters of a row, each at each place before, in and behind what is read at once.
+fn check_places(
+    rt: &impl Abort,
+    alloc: Global,
+    sample: Sample,
+    others: &[u8],
+) -> Result<(), Fail> {
+    let mut rest = others;
+    for _ in 0..3 {
+        let (other, behind) = cut(rest, b'|')?;
+        let (text, more) = cut(behind, b'|')?;
+        for place in 0..81 {
+            let file = spliced(alloc, sample.sixteen, (place, 80 - place), other)?;
+            let want = spliced(alloc, SIXTEEN, (place, 80 - place), text)?;
+            is_read(rt, alloc, sample, &file, &want)?;
+        }
+        rest = more;
+    }
+    Ok(())
+}
+
+#[test]
+fn ascii_is_read_out_of_its_encoding_at_each_place(rt: HostRuntime) -> Result<(), Fail> {
+    let mut rest = SAMPLES;
+    for _ in 0..4 {
+        let (row, more) = parted(rest, b'%').unwrap_or((rest, b""));
+        check_sample(&rt, rt.alloc(), row)?;
+        rest = more;
+    }
+    Ok(())
 }
 
 /// Whether `ident` is set, what is done with line ends, the encoding, the index's content, a file, and what `git add`
