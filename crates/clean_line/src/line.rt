@@ -23,22 +23,24 @@ pub struct CleanLine<S: Starter> {
 }
 
 impl<S: Starter> Model for CleanLine<S> {
-    ghost use Rattle.std.specs.Prelude.{◌≡◌, ◌<◌, Some};
+    ghost use Rattle.std.specs.Prelude.{◌≡◌, Some};
     ghost use Rattle.filter_proto.specs.Wires.{SessionSeen};
     ghost use Rattle.filter_proto.specs.declared.session.Standing.TheVariants.{Live};
-    ghost use Rattle.clean_line.specs.CleanLines.{CleanLineView, line_of};
+    ghost use Rattle.clean_line.specs.CleanLines.{CleanLineView, line_of, weight};
 
     ghost Value = { CleanLineView };
 
     ghost view = { λ l. line_of (S.seen l.starter) l.session l.refusing };
 
-    ghost invariant = { λ l. (s : SessionSeen) → l.session ≡ Some s
-        → (0 < (S.seen l.starter).out) × (s.standing ≡ Live) };
+    // A link is out exactly while a session is open, and that can be asked.
+    ghost invariant = { λ l. ((S.seen l.starter).out ≡ weight l.session)
+        × ((s : SessionSeen) → l.session ≡ Some s → s.standing ≡ Live) };
 }
 
 impl<S: Starter> CleanLine<S> {
-    /// A line with no session.
+    /// A line with no session, over a starter none of whose links is out.
     pub fn new(alloc: Global, starter: S) -> CleanLine<S>
+        requires { (S.seen starter).out ≡ 0 }
         ensures { result ≡ line_of (S.seen starter) None None }
     {
         CleanLine {
@@ -96,9 +98,10 @@ impl<S: Starter> CleanLine<S> {
         }
     }
 
-    /// What starts the driver, once the open session is shut.
+    /// What starts the driver, once the open session is shut. None of its links is out then.
     pub fn into_starter(self) -> S
-        ensures { Closes self (S.seen result) }
+        ensures closes { Closes self (S.seen result) }
+        ensures none_out { (S.seen result).out ≡ 0 }
     {
         let CleanLine {
             mut starter,

@@ -1,5 +1,5 @@
 //! How a session begins, and how it ends.
-ghost use Rattle.std.specs.Prelude.{◌≡◌, ◌≤◌, ◌<◌, ◌+◌, ◌^◌, ℕ, List, IfOk, length};
+ghost use Rattle.std.specs.Prelude.{◌≡◌, ◌≤◌, ◌<◌, ◌+◌, ◌^◌, ℕ, List, OnOk, OnErr, length};
 ghost use Rattle.filter_proto.specs.Wires.{wire_of};
 ghost use Rattle.filter_proto.specs.declared.session.Standing.TheVariants.{Live, Over};
 ghost use Rattle.clean_line.specs.CleanLines.{IsGivenBack, Opens, Begins};
@@ -16,7 +16,8 @@ pub fn begin<S: Starter>(
 ) -> Result<CleanSession<S::Link>, CleanFault>
     requires few { length (S.seen starter.old).had < 2 ^ 32 }
     ensures begins { Begins (S.seen starter.old) (S.seen starter.new) result }
-    ensures out { IfOk result (λ _. 0 < (S.seen starter.new).out) }
+    ensures out { OnOk result ((S.seen starter.new).out ≡ (S.seen starter.old).out + 1) }
+    ensures back { OnErr result ((S.seen starter.new).out ≡ (S.seen starter.old).out) }
     ensures had { length (S.seen starter.new).had ≤ length (S.seen starter.old).had + 1 }
 {
     match starter.start() {
@@ -34,7 +35,8 @@ fn open<S: Starter>(
 ) -> Result<CleanSession<S::Link>, CleanFault>
     requires out { 0 < (S.seen starter.old).out }
     ensures opens { Opens (S.Link.seen link) (S.seen starter.old) (S.seen starter.new) result }
-    ensures out { IfOk result (λ _. S.seen starter.new ≡ S.seen starter.old) }
+    ensures out { OnOk result (S.seen starter.new ≡ S.seen starter.old) }
+    ensures back { OnErr result ((S.seen starter.new).out + 1 ≡ (S.seen starter.old).out) }
     ensures had { length (S.seen starter.new).had ≤ length (S.seen starter.old).had + 1 }
 {
     match CleanSession::begin(alloc, link) {
@@ -60,6 +62,7 @@ fn end_unclean<S: Starter>(starter: &mut S, mut link: S::Link)
     ensures ended { (unread : List ℕ) → IsGivenBack (S.seen starter.old) (wire_of unread (S.Link.seen link)) Live
         (S.seen starter.new) }
     ensures had { length (S.seen starter.new).had ≡ length (S.seen starter.old).had + 1 }
+    ensures out { (S.seen starter.new).out + 1 ≡ (S.seen starter.old).out }
 {
     let _ = link.shut_input();
     let _ = link.wait_end();
@@ -72,6 +75,7 @@ fn end_unopened<S: Starter>(starter: &mut S, link: S::Link)
     ensures ended { (unread : List ℕ) → IsGivenBack (S.seen starter.old) (wire_of unread (S.Link.seen link)) Over
         (S.seen starter.new) }
     ensures had { length (S.seen starter.new).had ≡ length (S.seen starter.old).had + 1 }
+    ensures out { (S.seen starter.new).out + 1 ≡ (S.seen starter.old).out }
 {
     starter.end(link);
 }
@@ -81,6 +85,7 @@ pub fn end_session<S: Starter>(starter: &mut S, session: CleanSession<S::Link>)
     requires { 0 < (S.seen starter.old).out }
     ensures ended { IsGivenBack (S.seen starter.old) session.wire session.standing (S.seen starter.new) }
     ensures had { length (S.seen starter.new).had ≡ length (S.seen starter.old).had + 1 }
+    ensures out { (S.seen starter.new).out + 1 ≡ (S.seen starter.old).out }
 {
     starter.end(session.shut());
 }
