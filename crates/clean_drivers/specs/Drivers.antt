@@ -47,6 +47,12 @@ pub record TalksWith (starts : List ℕ → Starts) (place : ℕ) (command path 
 abbrev pub IsUnasked : DriversSeen → DriversSeen → Result (List ℕ) CleanFault → Type 0
 IsUnasked old new answer = (answer ≡ Err NoMemory) × (new ≡ old)
 
+-- the driver at that place was asked over its line, or there was no memory for that
+abbrev pub IsTalk : (List ℕ → Starts) → ℕ → List ℕ → List ℕ → List ℕ → DriversSeen → DriversSeen
+    → Result (List ℕ) CleanFault → Type 0
+IsTalk starts place text path content old new answer =
+    TalksWith starts place text path content old new answer ⊎ IsUnasked old new answer
+
 -- by whether what runs the driver is a NUL and a command
 abbrev pub AsksBy : Bool → (List ℕ → Starts) → RunsTold → ℕ → List ℕ → List ℕ → List ℕ → DriversSeen → DriversSeen
     → Result (List ℕ) CleanFault → Type 0
@@ -54,7 +60,7 @@ AsksBy true starts runs place text path content old new answer =
     RunsSingle runs (drop 1 text) path content old.faults new.faults answer
     × (new ≡ record old { faults = new.faults })
 AsksBy false starts runs place text path content old new answer =
-    TalksWith starts place text path content old new answer ⊎ IsUnasked old new answer
+    IsTalk starts place text path content old new answer
 
 -- the driver at that place was asked to clean a content for a path
 abbrev pub Asks : (List ℕ → Starts) → RunsTold → ℕ → List ℕ → List ℕ → List ℕ → DriversSeen → DriversSeen
@@ -63,24 +69,21 @@ Asks starts runs place text path content old new answer =
     AsksBy (is_single_run text) starts runs place text path content old new answer
 
 -- how many lines there are
+abbrev pub out_of : Option CleanLineView → ℕ
+out_of None = 0
+out_of (Some line) = 1
+
 abbrev pub lines_out : List (Option CleanLineView) → ℕ
 lines_out [] = 0
-lines_out (None ∷ lines) = lines_out lines
-lines_out (Some line ∷ lines) = lines_out lines + 1
+lines_out (line ∷ lines) = out_of line + lines_out lines
 
--- a starter was given back
-abbrev pub IsTakenBack : StarterSeen → SpawnerSeen → SpawnerSeen → Type 0
-IsTakenBack starter old new = (new.out + 1 ≡ old.out)
+-- a line was closed, and its starter given back
+abbrev pub GivesLine : Option CleanLineView → SpawnerSeen → SpawnerSeen → Type 0
+GivesLine None old new = new ≡ old
+GivesLine (Some line) old new = (starter : StarterSeen) × Closes line starter × (new.out + 1 ≡ old.out)
     × (new ≡ record old { out = new.out; returned = old.returned ++ starter_back starter ∷ [] })
 
 -- the lines were closed and their starters given back, in order
 abbrev pub GivesBack : List (Option CleanLineView) → SpawnerSeen → SpawnerSeen → Type 0
 GivesBack [] old new = new ≡ old
-GivesBack (None ∷ lines) old new = GivesBack lines old new
-GivesBack (Some line ∷ lines) old new = (starter : StarterSeen) × (mid : SpawnerSeen) × Closes line starter
-    × IsTakenBack starter old mid × GivesBack lines mid new
-
--- no driver has a line yet
-abbrev pub no_lines : {A : Type 0} → List A → List (Option CleanLineView)
-no_lines [] = []
-no_lines (x ∷ xs) = None ∷ no_lines xs
+GivesBack (line ∷ lines) old new = (mid : SpawnerSeen) × GivesLine line old mid × GivesBack lines mid new

@@ -1,10 +1,7 @@
 //! The lines of the drivers.
-ghost use Rattle.std.specs.Prelude.{◌≡◌, ◌≤◌, ◌<◌, ◌+◌, ◌^◌, Some, None, IfOk, OnErr, length, false, replicate};
-ghost use Rattle.std.specs.Prelude.{slice_get};
-ghost use Rattle.one_shot.specs.Starters.{is_single_run};
-ghost use Rattle.clean_line.specs.CleanLines.{CleanLineView, starts_of};
-ghost use Rattle.clean_drivers.specs.Drivers.{LinesView, drivers_seen, HasLine, TalksWith, IsUnasked, AsksBy, Asks};
-ghost use Rattle.clean_drivers.specs.Drivers.{lines_out, GivesBack};
+ghost use Rattle.std.specs.Prelude.{◌≡◌, ◌≤◌, ◌<◌, ◌+◌, ◌^◌, ℕ, None, IfOk, OnErr, length, replicate};
+ghost use Rattle.clean_drivers.specs.Drivers.{LinesView, drivers_seen, HasLine, IsTalk, Asks};
+ghost use Rattle.clean_drivers.specs.Drivers.{lines_out, out_of, GivesLine, GivesBack};
 
 use crate::single::run_single;
 use byte_path::Bytes;
@@ -72,16 +69,16 @@ pub fn clean<P: Spawner, O: Once>(
     drivers: &mut CleanDrivers<P::Starter>,
     spawner: &mut P,
     once: &mut O,
-    question: Question<'_>,
+    question: &Question<'_>,
 ) -> Result<Bytes, CleanFault>
-    requires place { question.driver < length drivers.old.lines }
+    requires place { question.now.driver < length drivers.old.lines }
     requires few { drivers.old.asked + 1 < 2 ^ 32 }
-    requires some { 1 ≤ length question.path.now }
-    requires within { length question.path.now ≤ 4096 }
+    requires some { 1 ≤ length question.now.path.now }
+    requires within { length question.now.path.now ≤ 4096 }
     ensures starts { P.told spawner.new ≡ P.told spawner.old }
     ensures runs { O.told once.new ≡ O.told once.old }
-    ensures asks { Asks (P.told spawner.old) (O.told once.old) question.driver question.text.now question.path.now
-        question.content.now
+    ensures asks { Asks (P.told spawner.old) (O.told once.old) question.now.driver question.now.text.now
+        question.now.path.now question.now.content.now
         (drivers_seen drivers.old.lines (P.seen spawner.old) (O.faults once.old))
         (drivers_seen drivers.new.lines (P.seen spawner.new) (O.faults once.new)) result }
     ensures asked { drivers.new.asked ≤ drivers.old.asked + 1 }
@@ -90,7 +87,13 @@ pub fn clean<P: Spawner, O: Once>(
         ≡ (P.seen spawner.old).out + lines_out drivers.new.lines }
 {
     match question.text {
-        [0, command @ ..] => run_single(drivers.alloc, once, command, question.path, question.content),
+        [0, command @ ..] => run_single(
+            drivers.alloc,
+            once,
+            command,
+            question.path,
+            question.content,
+        ),
         _ => talk(drivers, spawner, question),
     }
 }
@@ -99,8 +102,21 @@ pub fn clean<P: Spawner, O: Once>(
 fn talk<P: Spawner>(
     drivers: &mut CleanDrivers<P::Starter>,
     spawner: &mut P,
-    question: Question<'_>,
+    question: &Question<'_>,
 ) -> Result<Bytes, CleanFault>
+    requires place { question.now.driver < length drivers.old.lines }
+    requires few { drivers.old.asked + 1 < 2 ^ 32 }
+    requires some { 1 ≤ length question.now.path.now }
+    requires within { length question.now.path.now ≤ 4096 }
+    ensures told { P.told spawner.new ≡ P.told spawner.old }
+    ensures talks { (faults : ℕ) → IsTalk (P.told spawner.old) question.now.driver question.now.text.now
+        question.now.path.now question.now.content.now
+        (drivers_seen drivers.old.lines (P.seen spawner.old) faults)
+        (drivers_seen drivers.new.lines (P.seen spawner.new) faults) result }
+    ensures asked { drivers.new.asked ≤ drivers.old.asked + 1 }
+    ensures places { length drivers.new.lines ≡ length drivers.old.lines }
+    ensures out { (P.seen spawner.new).out + lines_out drivers.old.lines
+        ≡ (P.seen spawner.old).out + lines_out drivers.new.lines }
 {
     let alloc = drivers.alloc;
     let found = drivers.lines[question.driver].take();
@@ -140,8 +156,18 @@ pub fn give_back<P: Spawner>(drivers: CleanDrivers<P::Starter>, spawner: &mut P)
 {
     let CleanDrivers { lines, .. } = drivers;
     for line in lines {
-        if let Some(line) = line {
-            spawner.take_back(line.into_starter());
-        }
+        give_line(spawner, line);
+    }
+}
+
+/// Shuts what is open on a line, and gives its starter back.
+fn give_line<P: Spawner>(spawner: &mut P, line: Option<CleanLine<P::Starter>>)
+    requires { out_of line ≤ (P.seen spawner.old).out }
+    ensures told { P.told spawner.new ≡ P.told spawner.old }
+    ensures back { GivesLine line (P.seen spawner.old) (P.seen spawner.new) }
+    ensures out { (P.seen spawner.new).out + out_of line ≡ (P.seen spawner.old).out }
+{
+    if let Some(line) = line {
+        spawner.take_back(line.into_starter());
     }
 }
