@@ -19,7 +19,7 @@ use Rattle.clean_line.specs.declared.cause.CleanFault.TheVariants as clean
 use Rattle.clean_drivers.specs.Drivers.{DriversSeen}
 use Rattle.checkin_engine.specs.declared.path.PathDriver.{PathDriver}
 use Rattle.checkin_engine.specs.declared.finding.Found.{Found}
-use Rattle.checkin_engine.specs.declared.finding.Found.TheVariants as found
+use Rattle.checkin_engine.specs.declared.finding.Found.TheVariants as find
 use Rattle.checkin_engine.specs.Cleaning.{Asked, Cleaning, IsCleaned, AsksOne, AsksInVain}
 use Rattle.checkin_engine.specs.declared.path.Storing.{Storing}
 use Rattle.checkin_engine.specs.declared.path.Way.{Way}
@@ -84,12 +84,12 @@ IsCleanedFate name storing old (Err clean.NoMemory) content fate = ⊥
 
 -- what was found of a file that is there, which is too large if it gave no bytes
 abbrev pub IsTakenSo : Bool → Option (Vec ℕ) → Found → Type 0
-IsTakenSo old None found = found ≡ found.TooLarge
-IsTakenSo old (Some bytes) found = found ≡ found.There bytes old
+IsTakenSo old None found = found ≡ find.TooLarge
+IsTakenSo old (Some bytes) found = found ≡ find.There bytes old
 
 -- the same by what the index's content says: nothing if its blob failed
 abbrev pub IsFoundBy : Option Bool → Option (Vec ℕ) → Found → Type 0
-IsFoundBy None bytes found = found ≡ found.Unread
+IsFoundBy None bytes found = found ≡ find.Unread
 IsFoundBy (Some old) bytes found = IsTakenSo old bytes found
 
 -- a file is there: the index's content is looked at, if the action asks for it
@@ -102,20 +102,20 @@ abbrev pub FindsTaken : Told → List ℕ → Action → Result (Option (Vec ℕ
     → Type 0
 FindsTaken object name action (Ok (Some bytes)) repo repo' found =
     FindsThere object name action (Some bytes) repo repo' found
-FindsTaken object name action (Ok None) repo repo' found = (found ≡ found.Gone) × (repo' ≡ repo)
+FindsTaken object name action (Ok None) repo repo' found = (found ≡ find.Gone) × (repo' ≡ repo)
 FindsTaken object name action (Err take.TooLong) repo repo' found = FindsThere object name action None repo repo' found
-FindsTaken object name action (Err take.Failed) repo repo' found = (found ≡ found.Unread) × (repo' ≡ repo)
+FindsTaken object name action (Err take.Failed) repo repo' found = (found ≡ find.Unread) × (repo' ≡ repo)
 FindsTaken object name action (Err take.NoMemory) repo repo' found = ⊥
 
 -- What was found of a file, by what is told, with whether the files failed at it and the count of the blob, if one was
 -- made.
 abbrev pub IsFound : Told → Told → List ℕ → Action → Found → Bool → Option ℕ → Type 0
-IsFound object file name action found.Gone failed blob = TellsNone file × (failed ≡ false) × (blob ≡ None)
-IsFound object file name action found.Unread failed blob = IsUnread object file action failed blob
-IsFound object file name action found.TooLarge failed blob =
+IsFound object file name action find.Gone failed blob = TellsNone file × (failed ≡ false) × (blob ≡ None)
+IsFound object file name action find.Unread failed blob = IsUnread object file action failed blob
+IsFound object file name action find.TooLarge failed blob =
     TellsLong file max_file × ((old : Bool) × HasOld action object name old)
     × (failed ≡ false) × (blob ≡ blob_by (is_auto action))
-IsFound object file name action (found.There bytes old) failed blob =
+IsFound object file name action (find.There bytes old) failed blob =
     TellsBytes file bytes.items × (length bytes.items ≤ max_file) × HasOld action object name old
     × (failed ≡ false) × (blob ≡ blob_by (is_auto action))
 
@@ -142,10 +142,10 @@ pub record Finds (object told : List ℕ → Told) (p : CheckinPath) (action : A
 
 -- what becomes of a file that was found so, and for which its driver was asked so
 abbrev pub ComesTo : List ℕ → Storing → Found → Option Asked → List ℕ → Fate → Type 0
-ComesTo name storing found.Gone asked content fate = (fate ≡ Gone) × (asked ≡ None)
-ComesTo name storing found.Unread asked content fate = (fate ≡ Failed Read) × (asked ≡ None)
-ComesTo name storing found.TooLarge asked content fate = (fate ≡ Failed TooLarge) × (asked ≡ None)
-ComesTo name storing (found.There bytes old) asked content fate = (cleaned : Result (List ℕ) CleanCause)
+ComesTo name storing find.Gone asked content fate = (fate ≡ Gone) × (asked ≡ None)
+ComesTo name storing find.Unread asked content fate = (fate ≡ Failed Read) × (asked ≡ None)
+ComesTo name storing find.TooLarge asked content fate = (fate ≡ Failed TooLarge) × (asked ≡ None)
+ComesTo name storing (find.There bytes old) asked content fate = (cleaned : Result (List ℕ) CleanCause)
     × IsCleaned storing.driver asked bytes.items cleaned × IsCleanedSo name storing old cleaned content fate
 
 -- the same, with what the driver did
@@ -155,7 +155,7 @@ Becomes c p storing found old new content fate = (asked : Option Asked)
 
 -- Memory ran out after a file was found so, which is there. Its driver was asked for its bytes, or nothing was.
 abbrev pub BecomesNothing : Cleaning → CheckinPath → Storing → Found → DriversSeen → DriversSeen → Type 0
-BecomesNothing c p storing (found.There bytes old) before after =
+BecomesNothing c p storing (find.There bytes old) before after =
     (after ≡ before) ⊎ AsksInVain c p.path storing.driver bytes.items before after
 BecomesNothing c p storing found before after = ⊥
 

@@ -64,15 +64,15 @@ pub fn clean_file<P: Spawner, O: Once>(
     lines: &mut CleanDrivers<P::Starter>,
     spawner: &mut P,
     once: &mut O,
-    visit: Visit<'_>,
+    visit: &Visit<'_>,
     driver: Option<PathDriver>,
     bytes: Vec<u8>,
 ) -> Result<Vec<u8>, CleanFault>
-    requires askable { IsAskableBy (length lines.old.lines) visit.path.now.path driver }
+    requires askable { IsAskableBy (length lines.old.lines) visit.now.path.now.path driver }
     requires few { lines.old.asked + 1 < 2 ^ 32 }
     ensures starts { P.told spawner.new ≡ P.told spawner.old }
     ensures runs { O.told once.new ≡ O.told once.old }
-    ensures cleans { CleansFile (cleaning visit.drivers.now (P.told spawner.old) (O.told once.old)) visit.path.now.path
+    ensures cleans { CleansFile (cleaning visit.now.drivers.now (P.told spawner.old) (O.told once.old)) visit.now.path.now.path
         driver bytes.items
         (drivers_seen lines.old.lines (P.seen spawner.old) (O.faults once.old))
         (drivers_seen lines.new.lines (P.seen spawner.new) (O.faults once.new)) result }

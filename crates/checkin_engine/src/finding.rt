@@ -1,5 +1,5 @@
 //! What is found of a path whose file is stored: its file is taken, and its object is looked at.
-ghost use Rattle.std.specs.Prelude.{◌≡◌, IfOk, OnErr};
+ghost use Rattle.std.specs.Prelude.{◌≡◌, IfOk, OnErr, true};
 ghost use Rattle.std.specs.Str.{IsUtf8};
 ghost use Rattle.checkin_engine.specs.Fates.{is_auto};
 ghost use Rattle.checkin_engine.specs.Outcomes.{MakesBlob};

@@ -53,16 +53,16 @@ fn check_in_path<R: Repo, F: Files, P: Spawner, O: Once, K: Keep>(
     spawner: &mut P,
     once: &mut O,
     keep: &mut K,
-    visit: Visit<'_>,
+    visit: &Visit<'_>,
 ) -> Result<Fate, SendFault>
-    requires open { IsOpen (length lines.old.lines) visit.path.now }
+    requires open { IsOpen (length lines.old.lines) visit.now.path.now }
     requires few { lines.old.asked + 1 < 2 ^ 32 }
     ensures told { R.told repo.new ≡ R.told repo.old }
     ensures files { F.told files.new ≡ F.told files.old }
     ensures starts { P.told spawner.new ≡ P.told spawner.old }
     ensures runs { O.told once.new ≡ O.told once.old }
     ensures checks { ChecksPath (R.told repo.old).object (F.told files.old)
-        (cleaning visit.drivers.now (P.told spawner.old) (O.told once.old)) visit.path.now
+        (cleaning visit.now.drivers.now (P.told spawner.old) (O.told once.old)) visit.now.path.now
         (R.seen repo.old) (R.seen repo.new)
         (work_seen (F.seen files.old) (drivers_seen lines.old.lines (P.seen spawner.old) (O.faults once.old)))
         (work_seen (F.seen files.new) (drivers_seen lines.new.lines (P.seen spawner.new) (O.faults once.new)))
@@ -116,7 +116,7 @@ fn check_in_paths<R: Repo, F: Files, P: Spawner, O: Once, K: Keep>(
     };
     for path in paths {
         let visit = Visit { drivers, path };
-        let fate = match check_in_path(alloc, repo, files, lines, spawner, once, keep, visit) {
+        let fate = match check_in_path(alloc, repo, files, lines, spawner, once, keep, &visit) {
             Ok(fate) => fate,
             Err(fault) => return Err(fault),
         };

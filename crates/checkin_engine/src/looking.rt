@@ -106,20 +106,20 @@ fn found_fate<P: Spawner, O: Once>(
     lines: &mut CleanDrivers<P::Starter>,
     spawner: &mut P,
     once: &mut O,
-    visit: Visit<'_>,
+    visit: &Visit<'_>,
     storing: Storing,
     found: Found,
 ) -> Result<Looked, AllocError>
-    requires askable { IsAskableBy (length lines.old.lines) visit.path.now.path storing.driver }
+    requires askable { IsAskableBy (length lines.old.lines) visit.now.path.now.path storing.driver }
     requires few { lines.old.asked + 1 < 2 ^ 32 }
     ensures starts { P.told spawner.new ≡ P.told spawner.old }
     ensures runs { O.told once.new ≡ O.told once.old }
     ensures becomes { IfOk result (λ l.
-        Becomes (cleaning visit.drivers.now (P.told spawner.old) (O.told once.old)) visit.path.now storing found
+        Becomes (cleaning visit.now.drivers.now (P.told spawner.old) (O.told once.old)) visit.now.path.now storing found
         (drivers_seen lines.old.lines (P.seen spawner.old) (O.faults once.old))
         (drivers_seen lines.new.lines (P.seen spawner.new) (O.faults once.new)) l.content.items l.fate) }
     ensures vain { OnErr result
-        (BecomesNothing (cleaning visit.drivers.now (P.told spawner.old) (O.told once.old)) visit.path.now storing found
+        (BecomesNothing (cleaning visit.now.drivers.now (P.told spawner.old) (O.told once.old)) visit.now.path.now storing found
         (drivers_seen lines.old.lines (P.seen spawner.old) (O.faults once.old))
         (drivers_seen lines.new.lines (P.seen spawner.new) (O.faults once.new))) }
     ensures asked { lines.new.asked ≤ lines.old.asked + 1 }
@@ -146,9 +146,9 @@ pub fn look_at<R: Repo, F: Files, P: Spawner, O: Once>(
     lines: &mut CleanDrivers<P::Starter>,
     spawner: &mut P,
     once: &mut O,
-    visit: Visit<'_>,
+    visit: &Visit<'_>,
 ) -> Result<Looked, AllocError>
-    requires open { IsOpen (length lines.old.lines) visit.path.now }
+    requires open { IsOpen (length lines.old.lines) visit.now.path.now }
     requires few { lines.old.asked + 1 < 2 ^ 32 }
     ensures told { R.told repo.new ≡ R.told repo.old }
     ensures files { F.told files.new ≡ F.told files.old }
@@ -156,15 +156,15 @@ pub fn look_at<R: Repo, F: Files, P: Spawner, O: Once>(
     ensures runs { O.told once.new ≡ O.told once.old }
     ensures looks { IfOk result (λ l.
         Looks (R.told repo.old).object (F.told files.old)
-        (cleaning visit.drivers.now (P.told spawner.old) (O.told once.old)) visit.path.now
+        (cleaning visit.now.drivers.now (P.told spawner.old) (O.told once.old)) visit.now.path.now
         (R.seen repo.old) (R.seen repo.new)
         (work_seen (F.seen files.old) (drivers_seen lines.old.lines (P.seen spawner.old) (O.faults once.old)))
         (work_seen (F.seen files.new) (drivers_seen lines.new.lines (P.seen spawner.new) (O.faults once.new)))
         l.content.items l.fate) }
-    ensures left { OnErr result (MakesBlob visit.path.now.object (R.seen repo.old) (R.seen repo.new)) }
+    ensures left { OnErr result (MakesBlob visit.now.path.now.object (R.seen repo.old) (R.seen repo.new)) }
     ensures unfailed { OnErr result (F.seen files.new ≡ F.seen files.old) }
     ensures vain { OnErr result (MayAsk (F.told files.old)
-        (cleaning visit.drivers.now (P.told spawner.old) (O.told once.old)) visit.path.now
+        (cleaning visit.now.drivers.now (P.told spawner.old) (O.told once.old)) visit.now.path.now
         (drivers_seen lines.old.lines (P.seen spawner.old) (O.faults once.old))
         (drivers_seen lines.new.lines (P.seen spawner.new) (O.faults once.new))) }
     ensures asked { lines.new.asked ≤ lines.old.asked + 1 }
