@@ -1,5 +1,5 @@
 -- How the keeping of objects and of the index ends, from how its calls end.
-use Rattle.std.proofs.Common.{◌≡◌, ℕ, zero, suc, ◌+◌, ◌<◌, List, [], ◌∷◌, ◌++◌, length, replicate, take, get_or, Option, None, Result, Ok, Err, refl, sym, ap, subst, inl, inr, ◌∙◌}
+use Rattle.std.proofs.Common.{◌≡◌, ℕ, zero, suc, ◌+◌, ◌<◌, List, [], ◌∷◌, ◌++◌, length, replicate, take, get_or, Option, None, Result, Ok, Err, refl, sym, ap, subst, inl, inr, ◌∙◌, arith}
 use Rattle.std.specs.Global.{Vec}
 use Rattle.edge_kit.specs.Seen.{RepoSeen}
 use Rattle.edge_kit.specs.Starters.{Starts, SpawnerSeen}
@@ -117,15 +117,22 @@ module _ (object told : List ℕ → Told) (c c' : Cleaning) (same_cleaning : c'
 -- no line, and so no starter to give back
 none_given : (n : ℕ) (spawner : SpawnerSeen) → GivesBack (replicate n None) spawner spawner
 none_given zero spawner = refl
-none_given (suc n) spawner = none_given n spawner
+none_given (suc n) spawner = (spawner, refl, none_given n spawner)
 
-pub none_out : (n : ℕ) → lines_out (replicate n None) ≡ 0
+none_out : (n : ℕ) → lines_out (replicate n None) ≡ 0
 none_out zero = refl
-none_out (suc n) = none_out n
+none_out (suc n) = let rest : lines_out (replicate n None) ≡ 0 = none_out n in omega (arith, rest)
 
-pub many_lines : (n : ℕ) → length (replicate n (None {A = CleanLineView})) ≡ n
-many_lines zero = refl
-many_lines (suc n) = ap suc (many_lines n)
+as_many : (n : ℕ) → length (replicate {A = Option CleanLineView} n None) ≡ n
+as_many zero = refl
+as_many (suc n) = ap suc (as_many n)
+
+-- no driver has a line
+pub no_lines_out : (lines : List (Option CleanLineView)) (n : ℕ) → lines ≡ replicate n None → lines_out lines ≡ 0
+no_lines_out lines n is = ap lines_out is ∙ none_out n
+
+pub many_lines : (lines : List (Option CleanLineView)) (ds ds' : List Driver) → lines ≡ replicate (length ds') None → ds' ≡ ds → length lines ≡ length ds
+many_lines lines ds ds' is same = ap (λ (l : List (Option CleanLineView)). length l) is ∙ as_many (length ds') ∙ ap (λ (l : List Driver). length l) same
 
 -- there was no memory for the lines
 pub leaves_none : (object told : List ℕ → Told) (c : Cleaning) (es : List Entry) (ps : List CheckinPath) (repo : RepoSeen) (files : FilesSeen) (spawner : SpawnerSeen) (runs : ℕ) (keep : KeepSeen)

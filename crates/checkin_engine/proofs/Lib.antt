@@ -3,6 +3,7 @@ mod Standing
 mod ByPath
 mod Names
 mod Checked
+mod Drivers
 mod Found
 mod Looked
 mod Kept

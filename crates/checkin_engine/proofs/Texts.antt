@@ -47,7 +47,7 @@ not_long (x ∷ xs) is = at (nat_lt 4096 (length (x ∷ xs))) refl is
   where
     at : (t : Bool) → nat_lt 4096 (length (x ∷ xs)) ≡ t → (if t then Some TooLong else first_fault (parts (x ∷ xs))) ≡ None → length (x ∷ xs) ≤ 4096
     at true lt never = absurd cc
-    at false lt never = omega (arith, lt)
+    at false lt never = grind (arith, lt)
 
 last_of : (a b c d text : Bool) → (not a || b || c || d || not text) ≡ false → text ≡ true
 last_of true false false false true is = refl
@@ -59,18 +59,18 @@ last_of false b c d text is = absurd cc
 
 named_place : (place : ℕ) (ds : List Driver) (name : List ℕ) (at : ℕ) (required : Bool) → start_named place ds name ≡ start.Desk at required → at < place + length ds
 named_place place [] name at required is = absurd cc
-named_place place (d ∷ ds) name at required is = by (bytes_eq d.name name) is
+named_place place (d ∷ ds) name at required is = by (bytes_eq d.name name) (λ later. named_place (suc place) ds name at required later) is
   where
     by_command : (process : Option (List ℕ)) (needed : Bool) → start_by place process needed ≡ start.Desk at required → at < place + length (d ∷ ds)
     by_command (Some text) needed is = let here : place ≡ at = cc in omega (arith, here)
     by_command None true is = absurd cc
     by_command None false is = absurd cc
-    by : (t : Bool) → (if t then start_at place d else start_named (suc place) ds name) ≡ start.Desk at required → at < place + length (d ∷ ds)
-    by true is = by_command d.process d.required is
-    by false is = let later : at < suc place + length ds = named_place (suc place) ds name at required is in omega (arith, later)
+    by : (t : Bool) → (start_named (suc place) ds name ≡ start.Desk at required → at < suc place + length ds) → (if t then start_at place d else start_named (suc place) ds name) ≡ start.Desk at required → at < place + length (d ∷ ds)
+    by true rest is = by_command d.process d.required is
+    by false rest is = let later : at < suc place + length ds = rest is in omega (arith, later)
 
 filter_place : (ds : List Driver) (s : AttrState) (at : ℕ) (required : Bool) → filter_start ds s ≡ start.Desk at required → at < length ds
-filter_place ds (state.Value name) at required is = named_place 0 ds name at required is
+filter_place ds (state.Value name) at required is = let found : at < 0 + length ds = named_place 0 ds name at required is in omega (arith, found)
 filter_place ds state.Set at required is = absurd cc
 filter_place ds state.Unset at required is = absurd cc
 filter_place ds state.Unspecified at required is = absurd cc
@@ -101,11 +101,12 @@ one_open files ds settings e is = at (is_kept files settings e) refl
 
 all_open : (files : AttrFiles) (ds : List Driver) (settings : Settings) (before : List ℕ) (es : List Entry) → AllByRecursion IsEntry es → AllByRecursion (IsOpen (length ds)) (map (checkin_path files ds settings) (first_entries_after before es))
 all_open files ds settings before [] each = tt
-all_open files ds settings before (e ∷ es) each = at (bytes_eq e.path before)
+all_open files ds settings before (e ∷ es) each = at (bytes_eq e.path before) (all_open files ds settings before es each.1) (all_open files ds settings e.path es each.1)
   where
-    at : (t : Bool) → AllByRecursion (IsOpen (length ds)) (map (checkin_path files ds settings) (if t then first_entries_after before es else e ∷ first_entries_after e.path es))
-    at true = all_open files ds settings before es each.1
-    at false = (one_open files ds settings e each.0, all_open files ds settings e.path es each.1)
+    at : (t : Bool) → AllByRecursion (IsOpen (length ds)) (map (checkin_path files ds settings) (first_entries_after before es)) → AllByRecursion (IsOpen (length ds)) (map (checkin_path files ds settings) (first_entries_after e.path es))
+        → AllByRecursion (IsOpen (length ds)) (map (checkin_path files ds settings) (if t then first_entries_after before es else e ∷ first_entries_after e.path es))
+    at true same other = same
+    at false same other = (one_open files ds settings e each.0, other)
 
 -- each path of an index can be looked at
 pub paths_are_open : (files : AttrFiles) (ds : List Driver) (settings : Settings) (es : List Entry) → AllByRecursion IsEntry es → AllByRecursion (IsOpen (length ds)) (checkin_paths files ds settings es)
@@ -113,11 +114,12 @@ paths_are_open files ds settings es each = all_open files ds settings [] es each
 
 fewer : (files : AttrFiles) (ds : List Driver) (settings : Settings) (before : List ℕ) (es : List Entry) → length (map (checkin_path files ds settings) (first_entries_after before es)) ≤ length es
 fewer files ds settings before [] = omega arith
-fewer files ds settings before (e ∷ es) = at (bytes_eq e.path before)
+fewer files ds settings before (e ∷ es) = at (bytes_eq e.path before) (fewer files ds settings before es) (fewer files ds settings e.path es)
   where
-    at : (t : Bool) → length (map (checkin_path files ds settings) (if t then first_entries_after before es else e ∷ first_entries_after e.path es)) ≤ length (e ∷ es)
-    at true = let rest : length (map (checkin_path files ds settings) (first_entries_after before es)) ≤ length es = fewer files ds settings before es in omega (arith, rest)
-    at false = let rest : length (map (checkin_path files ds settings) (first_entries_after e.path es)) ≤ length es = fewer files ds settings e.path es in omega (arith, rest)
+    at : (t : Bool) → length (map (checkin_path files ds settings) (first_entries_after before es)) ≤ length es → length (map (checkin_path files ds settings) (first_entries_after e.path es)) ≤ length es
+        → length (map (checkin_path files ds settings) (if t then first_entries_after before es else e ∷ first_entries_after e.path es)) ≤ length (e ∷ es)
+    at true same other = omega (arith, same)
+    at false same other = omega (arith, other)
 
 -- and there are few
 pub paths_are_few : (files : AttrFiles) (ds : List Driver) (settings : Settings) (es : List Entry) → length es ≤ 100000 → length (checkin_paths files ds settings es) < 2 ^ 32

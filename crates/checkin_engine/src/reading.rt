@@ -1,6 +1,8 @@
 //! The paths of an index, or why a check-in stops before it looks at a file.
 ghost use Rattle.std.specs.Prelude.{◌≡◌, Ok};
 ghost use Rattle.settings_view.specs.View.{settings_of};
+ghost use Rattle.settings_view.specs.declared.fault.SettingFault.TheVariants.{NoMemory as Wanting};
+ghost use Rattle.checkout_sources.specs.declared.stop.Stop.TheVariants as stop;
 ghost use Rattle.checkin_engine.specs.Ending.{PathsOf, ReadsPaths};
 
 use crate::path::CheckinPath;
@@ -21,7 +23,18 @@ pub struct PathsRead {
     pub paths: Vec<CheckinPath>,
 }
 
-/// The paths of what was read.
+/// The stop for a fault that is want of memory.
+fn stop_of(fault: SettingFault) -> Stop
+    requires { fault ≡ Wanting }
+    ensures { result ≡ stop.NoMemory }
+{
+    match fault {
+        SettingFault::NoMemory => Stop::NoMemory,
+        _ => unreachable!(),
+    }
+}
+
+/// The paths of what was read. Its settings could be read, so nothing but memory can be wanting for the drivers.
 fn paths_of(alloc: Global, attributed: Attributed) -> Result<PathsRead, Stop>
     requires { settings_of attributed.config ≡ Ok attributed.settings }
     ensures { PathsOf attributed result }
@@ -34,9 +47,7 @@ fn paths_of(alloc: Global, attributed: Attributed) -> Result<PathsRead, Stop>
     } = attributed;
     let drivers = match cleaning_drivers(alloc, &config) {
         Ok(drivers) => drivers,
-        Err(SettingFault::NoMemory) => return Err(Stop::NoMemory),
-        // The settings were read, and they fail for the same keys.
-        Err(_) => unreachable!(),
+        Err(fault) => return Err(stop_of(fault)),
     };
     let Ok(paths) = checkin_paths(alloc, files, drivers.as_slice(), &settings, index.entries())
     else {

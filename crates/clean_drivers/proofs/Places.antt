@@ -18,6 +18,11 @@ set_twice [] p x y = refl
 set_twice (z ∷ xs) zero x y = refl
 set_twice (z ∷ xs) (suc p) x y = ap (λ (l : Lines). z ∷ l) (set_twice xs p x y)
 
+pub set_same : (xs : Lines) (p : ℕ) (x : Option CleanLineView) → slice_get xs p ≡ Some x → slice_set xs p x ≡ xs
+set_same [] p x at = absurd (cc at)
+set_same (y ∷ xs) zero x at = let same : x ≡ y = cc at in ap (λ (z : Option CleanLineView). z ∷ xs) same
+set_same (y ∷ xs) (suc p) x at = ap (λ (l : Lines). y ∷ l) (set_same xs p x at)
+
 pub out_set : (xs : Lines) (p : ℕ) (x y : Option CleanLineView) → slice_get xs p ≡ Some y
     → lines_out (slice_set xs p x) + out_of y ≡ lines_out xs + out_of x
 out_set [] p x y at = absurd (cc at)

@@ -9,13 +9,13 @@ use Rattle.clean_line.specs.declared.cause.CleanFault.{CleanFault}
 use Rattle.clean_line.specs.declared.cause.CleanFault.TheVariants.{NoMemory}
 use Rattle.clean_drivers.specs.Singles.{RunsSingle}
 
--- the lines of the drivers by their places, and how many paths they were asked for
+-- the lines of the drivers by their places, and how many questions were asked over them
 pub record LinesView : Type 0 where
   pub lines : List (Option CleanLineView)
   pub asked : ℕ
 
--- The lines of the drivers, by their places: a driver that was asked for no path has none. And what started them, and how
--- often single runs have failed.
+-- The lines of the drivers, by their places: a driver that was asked for no path has none. And what started them, and
+-- how often single runs have failed.
 pub record DriversSeen : Type 0 where
   pub lines : List (Option CleanLineView)
   pub spawner : SpawnerSeen
@@ -43,15 +43,15 @@ pub record TalksWith (starts : List ℕ → Starts) (place : ℕ) (command path 
   pub lines : new.lines ≡ slice_set old.lines place (Some last)
   pub faults : new.faults ≡ old.faults
 
--- there was no memory, and nothing was asked
-abbrev pub IsUnasked : DriversSeen → DriversSeen → Result (List ℕ) CleanFault → Type 0
-IsUnasked old new answer = (answer ≡ Err NoMemory) × (new ≡ old)
+-- there was no memory for a first line, and nothing was asked
+abbrev pub IsUnasked : ℕ → DriversSeen → DriversSeen → Result (List ℕ) CleanFault → Type 0
+IsUnasked place old new answer = (slice_get old.lines place ≡ Some None) × (answer ≡ Err NoMemory) × (new ≡ old)
 
--- the driver at that place was asked over its line, or there was no memory for that
+-- the driver at that place was asked over its line, or there was no memory for a first one
 abbrev pub IsTalk : (List ℕ → Starts) → ℕ → List ℕ → List ℕ → List ℕ → DriversSeen → DriversSeen
     → Result (List ℕ) CleanFault → Type 0
 IsTalk starts place text path content old new answer =
-    TalksWith starts place text path content old new answer ⊎ IsUnasked old new answer
+    TalksWith starts place text path content old new answer ⊎ IsUnasked place old new answer
 
 -- by whether what runs the driver is a NUL and a command
 abbrev pub AsksBy : Bool → (List ℕ → Starts) → RunsTold → ℕ → List ℕ → List ℕ → List ℕ → DriversSeen → DriversSeen

@@ -1,5 +1,5 @@
 -- A command that runs once for each content.
-use Rattle.std.specs.Prelude.{◌≡◌, ◌⊎◌, ℕ, List, Result, Ok, Err, if◌then◌else◌}
+use Rattle.std.specs.Prelude.{◌≡◌, ℕ, List, Result, Ok, Err, if◌then◌else◌}
 use Rattle.edge_kit.specs.Faults.{AfterTake}
 use Rattle.edge_kit.specs.declared.faults.TakeFault.{TakeFault}
 use Rattle.edge_kit.specs.declared.faults.TakeFault.TheVariants as take
@@ -21,9 +21,8 @@ run_answer (Err take.Failed) = Err (Refused cause.Error)
 run_answer (Err take.TooLong) = Err (Refused cause.Error)
 run_answer (Err take.NoMemory) = Err NoMemory
 
--- the command for the path was run, or there was no memory for its text
+-- the command for the path was run, or memory ran out
 abbrev pub RunsSingle : RunsTold → List ℕ → List ℕ → List ℕ → ℕ → ℕ → Result (List ℕ) CleanFault → Type 0
 RunsSingle told command path content before after answer =
-    ((end : Result OnceEnd TakeFault) × EndsSo (told_of told (once_command command path) content) most_output end
-    × AfterTake before after end × (answer ≡ run_answer end))
-    ⊎ ((answer ≡ Err NoMemory) × (after ≡ before))
+    (end : Result OnceEnd TakeFault) × EndsSo (told_of told (once_command command path) content) most_output end
+    × AfterTake before after end × (answer ≡ run_answer end)

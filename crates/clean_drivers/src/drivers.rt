@@ -29,7 +29,7 @@ pub struct Question<'a> {
 pub struct CleanDrivers<S: Starter> {
     alloc: Global,
     lines: Vec<Option<CleanLine<S>>>,
-    /// How many paths they were asked for.
+    /// How many questions were asked over the lines.
     asked: u32,
 }
 

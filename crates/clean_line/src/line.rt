@@ -51,8 +51,8 @@ impl<S: Starter> CleanLine<S> {
         }
     }
 
-    /// What the driver makes of a content for a path of 1 to 4,096 bytes. It is started, and a session opened, if none is
-    /// open and no path before was refused for good.
+    /// What the driver makes of a content for a path of 1 to 4,096 bytes. It is started, and a session opened, if none
+    /// is open and no path before was refused for good.
     pub fn clean(&mut self, path: &[u8], content: &[u8]) -> Result<Bytes, CleanFault>
         requires few { length self.old.starter.had < 2 ^ 32 }
         requires some { 1 ≤ length path.now }
