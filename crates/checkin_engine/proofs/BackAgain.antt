@@ -167,13 +167,15 @@ by_name : (place : ℕ) (ds es : List Driver) (name : List ℕ) (v : Verdict) �
 by_name place [] [] name v alike is idle = cc
 by_name place [] (e ∷ es) name v alike is idle = absurd alike
 by_name place (d ∷ ds) [] name v alike is idle = absurd alike
-by_name place (d ∷ ds) (e ∷ es) name v alike is idle = at (bytes_eq d.name name) is (subst (λ (n : List ℕ). (if bytes_eq n name then start_at place e else start_named (suc place) es name) ≡ start.Pool) (sym alike.0) idle)
+by_name place (d ∷ ds) (e ∷ es) name v alike is idle = at (bytes_eq d.name name) is (subst (λ (n : List ℕ). (if bytes_eq n name then start_at place e else start_named (suc place) es name) ≡ start.Pool) (sym alike.0) idle) (λ closed left. by_name (suc place) ds es name v alike.2 closed left)
   where
     here : d.required ≡ true → e.required ≡ false → ⊥
     here needed free = let never : true ≡ false = sym needed ∙ alike.1 ∙ free in cc
-    at : (t : Bool) → (if t then start_at place d else start_named (suc place) ds name) ≡ start.Done v → (if t then start_at place e else start_named (suc place) es name) ≡ start.Pool → ⊥
-    at true is idle = here (by_command place d.process d.required v is) (by_none place e.process e.required idle)
-    at false is idle = by_name (suc place) ds es name v alike.2 is idle
+
+    at : (t : Bool) → (if t then start_at place d else start_named (suc place) ds name) ≡ start.Done v → (if t then start_at place e else start_named (suc place) es name) ≡ start.Pool
+        → (start_named (suc place) ds name ≡ start.Done v → start_named (suc place) es name ≡ start.Pool → ⊥) → ⊥
+    at true is idle rest = here (by_command place d.process d.required v is) (by_none place e.process e.required idle)
+    at false is idle rest = rest is idle
 
 not_closed : (ds es : List Driver) (s : AttrState) (v : Verdict) → AreAlike ds es → filter_start ds s ≡ start.Done v → filter_start es s ≡ start.Pool → ⊥
 not_closed ds es (state.Value name) v alike is idle = by_name 0 ds es name v alike is idle
@@ -187,6 +189,9 @@ idle_by e (start.Done v) ident action encoding storing never is = absurd (never 
 idle_by e start.Pool ident action encoding storing never is = let same : record { driver = None; ident = ident; action = action; encoding = encoding } ≡ storing = cc in ap conversion_of same
 idle_by e (start.Desk place required) ident action encoding storing never is = let same : record { driver = None; ident = ident; action = action; encoding = encoding } ≡ storing = cc in ap conversion_of same
 
+no_driver : (d : PathDriver) → Some d ≡ None → ⊥
+no_driver d is = cc
+
 file_by : (e : Entry) (begin back : Start) (ident : Bool) (action : Action) (r : Result (Option Encoding) UnknownEncoding) (storing : Storing) → ((v : Verdict) → begin ≡ start.Done v → back ≡ start.Pool → ⊥) → storing.driver ≡ None
     → encoded_way r back (λ encoding. record { driver = None; ident = ident; action = action; encoding = encoding }) ≡ Stored storing → (converted e begin (with_encoding ident (ends_of action) r)).conversion ≡ conversion_of storing
 file_by e begin back ident action (Err u) storing never none is = cc
@@ -194,8 +199,7 @@ file_by e begin (start.Done v) ident action (Ok encoding) storing never none is 
 file_by e begin start.Pool ident action (Ok encoding) storing never none is = idle_by e begin ident action encoding storing (λ v done. never v done refl) is
 file_by e begin (start.Desk place required) ident action (Ok encoding) storing never none is =
     let same : record { driver = Some (record { place = place; required = required }); ident = ident; action = action; encoding = encoding } ≡ storing = cc in
-    let never : Some (record { place = place; required = required }) ≡ None = ap (λ (x : Storing). x.driver) same ∙ none in
-    cc
+    absurd (no_driver (record { place = place; required = required }) (ap (λ (x : Storing). x.driver) same ∙ none))
 
 module _ (files : AttrFiles) (drivers : List Driver) (settings : Settings) (e : Entry) (storing : Storing) (alike : AreAlike settings.drivers drivers) (none : storing.driver ≡ None) where
   of_file : file_way files drivers settings e ≡ Stored storing → (file_path files settings e).conversion ≡ conversion_of storing

@@ -1,6 +1,8 @@
 -- The drivers that smudge and those that clean, of one configuration.
 use Rattle.std.proofs.Common.{◌≡◌, Bool, true, false, List, [], ◌∷◌, ℕ, Option, Some, None, Result, Ok, Err, refl, sym, ap, subst, ◌∙◌}
 use Rattle.byte_path.specs.Steps.{◌>>=◌, want}
+use Rattle.eol_convert.specs.declared.setting.AutoCrlf.{AutoCrlf}
+use Rattle.eol_convert.specs.declared.setting.EolSetting.{EolSetting}
 use Rattle.git_config.specs.declared.setting.Setting.{Setting}
 use Rattle.settings_view.specs.Drivers.{said_of, single_of, process_by, required_driver, driver_from, drivers_named, drivers_told, names_of}
 use Rattle.settings_view.specs.Keys.{crlf_told, eol_told, workers_told, threshold_told, has_sha1}
@@ -49,6 +51,13 @@ all_alike config (name ∷ names) ds is =
     both : (e : Driver) (es : List Driver) → driver_from Clean name (said_of config name) ≡ Ok e → drivers_named Clean config names ≡ Ok es → drivers_named Clean config (name ∷ names) ≡ Ok (e ∷ es)
     both e es first rest = rw first (rw rest refl)
 
+drivers_in : (a : AutoCrlf) (b : EolSetting) (workers threshold : ℕ) (ds : List Driver) (s : Settings) (r : Result Settings SettingFault) → r ≡ Ok (record { autocrlf = a; eol = b; workers = workers; threshold = threshold; drivers = ds }) → r ≡ Ok s
+    → ds ≡ s.drivers
+drivers_in a b workers threshold ds s r is so =
+    let both : Ok (record { autocrlf = a; eol = b; workers = workers; threshold = threshold; drivers = ds }) ≡ Ok s = sym is ∙ so in
+    let made : record { autocrlf = a; eol = b; workers = workers; threshold = threshold; drivers = ds } ≡ s = cc in
+    ap (λ (x : Settings). x.drivers) made
+
 -- the settings say the drivers that smudge
 smudging : (config : List Setting) (s : Settings) → settings_of config ≡ Ok s → drivers_told Smudge config ≡ Ok s.drivers
 unfolding settings_of
@@ -58,10 +67,7 @@ smudging config s is =
     let three = then_ok _ _ _ (workers_told config) _ s two.2 in
     let four = then_ok _ _ _ (threshold_told config) _ s three.2 in
     let five = then_ok _ _ _ (drivers_told Smudge config) _ s (wanted _ _ (has_sha1 config) (BadChoice ObjectFormat) _ s four.2) in
-    five.1 ∙ ap (λ (ds : List Driver). Ok ds) (last one.0 two.0 three.0 four.0 five.0 five.2)
-  where
-    last : (a : _) (b : _) (c : _) (d : _) (ds : List Driver) → Ok (record { autocrlf = a; eol = b; workers = c; threshold = d; drivers = ds }) ≡ Ok s → ds ≡ s.drivers
-    last a b c d ds is = let made : record { autocrlf = a; eol = b; workers = c; threshold = d; drivers = ds } ≡ s = cc in ap (λ (x : Settings). x.drivers) made
+    five.1 ∙ ap (λ (ds : List Driver). Ok ds) (drivers_in one.0 two.0 three.0 four.0 five.0 s _ refl five.2)
 
 -- Where there are settings there are drivers that clean, and they are those that the settings say.
 pub are_alike : (config : List Setting) (s : Settings) → settings_of config ≡ Ok s → (es : List Driver) × (drivers_told Clean config ≡ Ok es) × AreAlike s.drivers es

@@ -5,7 +5,8 @@ use Rattle.std.specs.List.{AllByRecursion}
 use Rattle.std.specs.Str.{bytes_eq, is_utf8, IsUtf8}
 use Rattle.std.proofs.lemmas.Str.{IsUtf8-from_is_utf8}
 use Rattle.byte_path.specs.Path.{path_fault, first_fault, parts}
-use Rattle.byte_path.specs.declared.path.PathFault.TheVariants.{TooLong}
+use Rattle.byte_path.specs.declared.path.PathFault.{PathFault}
+use Rattle.byte_path.specs.declared.path.PathFault.TheVariants.{Empty, TooLong}
 use Rattle.git_index.specs.declared.entry.Entry.{Entry}
 use Rattle.git_index.specs.declared.entry.Mode.{Mode}
 use Rattle.git_index.specs.declared.entry.Mode.TheVariants as mode
@@ -40,14 +41,14 @@ unfolding path_fault
 not_empty [] is = absurd cc
 not_empty (x ∷ xs) is = omega arith
 
+long_by : (empty long : Bool) (rest : Option PathFault) → (if empty then Some Empty else if long then Some TooLong else rest) ≡ None → long ≡ false
+long_by true long rest is = absurd cc
+long_by false true rest is = absurd cc
+long_by false false rest is = refl
+
 not_long : (path : List ℕ) → path_fault path ≡ None → length path ≤ 4096
 unfolding path_fault
-not_long [] is = omega arith
-not_long (x ∷ xs) is = at (nat_lt 4096 (length (x ∷ xs))) refl is
-  where
-    at : (t : Bool) → nat_lt 4096 (length (x ∷ xs)) ≡ t → (if t then Some TooLong else first_fault (parts (x ∷ xs))) ≡ None → length (x ∷ xs) ≤ 4096
-    at true lt never = absurd cc
-    at false lt never = grind (arith, lt)
+not_long path is = let short : nat_lt 4096 (length path) ≡ false = long_by (length path == 0) (nat_lt 4096 (length path)) (first_fault (parts path)) is in grind (arith, short)
 
 last_of : (a b c d text : Bool) → (not a || b || c || d || not text) ≡ false → text ≡ true
 last_of true false false false true is = refl
@@ -65,6 +66,7 @@ named_place place (d ∷ ds) name at required is = by (bytes_eq d.name name) (λ
     by_command (Some text) needed is = let here : place ≡ at = cc in omega (arith, here)
     by_command None true is = absurd cc
     by_command None false is = absurd cc
+
     by : (t : Bool) → (start_named (suc place) ds name ≡ start.Desk at required → at < suc place + length ds) → (if t then start_at place d else start_named (suc place) ds name) ≡ start.Desk at required → at < place + length (d ∷ ds)
     by true rest is = by_command d.process d.required is
     by false rest is = let later : at < suc place + length ds = rest is in omega (arith, later)

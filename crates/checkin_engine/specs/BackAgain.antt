@@ -32,7 +32,8 @@ tree_file files settings e content = prepared (asked_path files settings e).conv
 abbrev pub conversion_of : Storing → Conversion
 conversion_of storing = conversion storing.ident storing.action storing.encoding
 
--- The content loses nothing on the way to the worktree and back: in its encoding, in its line ends, and in its keywords.
+-- The content loses nothing on the way to the worktree and back: in its encoding, in its line ends, and in its
+-- keywords.
 pub record LosesNothing (storing : Storing) (name content : List ℕ) : Type 0 where
   pub encoded : (prepared (conversion_of storing) name content).unencoded ≡ false
   pub ends : HasSafeEnds storing.ident storing.action name content

@@ -20,7 +20,8 @@ cleaned_by required bytes (Ok cleaned) = Ok cleaned
 cleaned_by true bytes (Err why) = Err why
 cleaned_by false bytes (Err why) = Ok bytes
 
--- What the bytes of a file are cleaned to, or why they are refused. Without a driver they stay, and with one it was asked.
+-- What the bytes of a file are cleaned to, or why they are refused. Without a driver they stay, and with one it was
+-- asked.
 abbrev pub IsCleaned : Option PathDriver → Option Asked → List ℕ → Result (List ℕ) CleanCause → Type 0
 IsCleaned None None bytes cleaned = cleaned ≡ Ok bytes
 IsCleaned (Some d) (Some a) bytes cleaned = (a.bytes ≡ bytes) × (cleaned ≡ cleaned_by d.required bytes a.answer)
@@ -56,7 +57,8 @@ as_answer (Err why) = Err (Refused why)
 -- a driver was asked to clean these bytes for a path
 abbrev pub AsksFor : Cleaning → List ℕ → PathDriver → List ℕ → DriversSeen → DriversSeen
     → Result (List ℕ) CleanFault → Type 0
-AsksFor c path d bytes old new answer = Asks c.starts c.runs d.place (text_at c.drivers d.place) path bytes old new answer
+AsksFor c path d bytes old new answer =
+    Asks c.starts c.runs d.place (text_at c.drivers d.place) path bytes old new answer
 
 -- the driver of a path was asked, or nothing was
 abbrev pub AsksOne : Cleaning → List ℕ → Option PathDriver → Option Asked → DriversSeen → DriversSeen → Type 0

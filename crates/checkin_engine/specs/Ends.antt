@@ -70,8 +70,8 @@ status_of fates = if list_any is_failed fates then status.DoneWithFailures else 
 abbrev pub after_reading : List Entry → RepoSeen → RepoSeen
 after_reading es repo = with_blobs (blobs_of es) repo
 
--- The paths of the index came to these fates. The objects of the changed ones were kept, and then the index. The blobs of
--- the attribute files and then those of the paths were given back, and the starters of the drivers that were asked.
+-- The paths of the index came to these fates. The objects of the changed ones were kept, and then the index. The blobs
+-- of the attribute files and then those of the paths were given back, and the starters of the drivers that were asked.
 pub record IsCheckedIn (told : AllTold) (old new : Seen) : Type 0 where
   pub entries : List Entry
   pub paths : List CheckinPath

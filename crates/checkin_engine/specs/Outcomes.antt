@@ -191,8 +191,8 @@ abbrev pub MayAskNext : (List ℕ → Told) → Cleaning → List CheckinPath �
 MayAskNext told c [] old new = new ≡ old
 MayAskNext told c (p ∷ ps) old new = MayAsk told c p old new
 
--- Memory ran out before the index was kept. The first paths were looked at and their objects kept, and nothing else. The
--- blob of the next one may have been made and given back, and its driver asked.
+-- Memory ran out before the index was kept. The first paths were looked at and their objects kept, and nothing else.
+-- The blob of the next one may have been made and given back, and its driver asked.
 pub record AreBrokenOff (object told : List ℕ → Told) (c : Cleaning) (ps : List CheckinPath) (repo repo' : RepoSeen)
     (work work' : WorkSeen) (keep keep' : KeepSeen) : Type 0 where
   pub front : List CheckinPath

@@ -72,8 +72,8 @@ pub fn clean_file<P: Spawner, O: Once>(
     requires few { lines.old.asked + 1 < 2 ^ 32 }
     ensures starts { P.told spawner.new ≡ P.told spawner.old }
     ensures runs { O.told once.new ≡ O.told once.old }
-    ensures cleans { CleansFile (cleaning visit.now.drivers.now (P.told spawner.old) (O.told once.old)) visit.now.path.now.path
-        driver bytes.items
+    ensures cleans { CleansFile (cleaning visit.now.drivers.now (P.told spawner.old) (O.told once.old))
+        visit.now.path.now.path driver bytes.items
         (drivers_seen lines.old.lines (P.seen spawner.old) (O.faults once.old))
         (drivers_seen lines.new.lines (P.seen spawner.new) (O.faults once.new)) result }
     ensures asked { lines.new.asked ≤ lines.old.asked + 1 }

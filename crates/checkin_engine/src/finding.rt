@@ -43,8 +43,8 @@ fn is_auto(action: Action) -> bool
     }
 }
 
-/// What an object says that gave no content. An object that is absent or wrong has no CR directly before an LF, and there
-/// is no answer if reading it failed.
+/// What an object says that gave no content. An object that is absent or wrong has no CR directly before an LF, and
+/// there is no answer if reading it failed.
 fn crlf_without(fault: ObjectFault) -> Result<Option<bool>, AllocError>
     ensures { AnswersWithout fault result }
 {

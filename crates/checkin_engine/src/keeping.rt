@@ -136,7 +136,8 @@ fn keep_index<K: Keep>(
 ) -> Result<(), SendFault>
     requires entries { CanStand entries.now }
     requires names { HaveNames fates.now }
-    ensures { KeepsIndex (plain_text (entries_in_turn entries.now fates.now)) (K.seen keep.old) (K.seen keep.new) result }
+    ensures { KeepsIndex (plain_text (entries_in_turn entries.now fates.now))
+        (K.seen keep.old) (K.seen keep.new) result }
 {
     let Ok(kept) = entries_in_turn(alloc, entries, fates) else {
         return Err(SendFault::NoMemory);

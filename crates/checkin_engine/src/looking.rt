@@ -115,11 +115,13 @@ fn found_fate<P: Spawner, O: Once>(
     ensures starts { P.told spawner.new ≡ P.told spawner.old }
     ensures runs { O.told once.new ≡ O.told once.old }
     ensures becomes { IfOk result (λ l.
-        Becomes (cleaning visit.now.drivers.now (P.told spawner.old) (O.told once.old)) visit.now.path.now storing found
+        Becomes (cleaning visit.now.drivers.now (P.told spawner.old) (O.told once.old))
+        visit.now.path.now storing found
         (drivers_seen lines.old.lines (P.seen spawner.old) (O.faults once.old))
         (drivers_seen lines.new.lines (P.seen spawner.new) (O.faults once.new)) l.content.items l.fate) }
     ensures vain { OnErr result
-        (BecomesNothing (cleaning visit.now.drivers.now (P.told spawner.old) (O.told once.old)) visit.now.path.now storing found
+        (BecomesNothing (cleaning visit.now.drivers.now (P.told spawner.old) (O.told once.old))
+        visit.now.path.now storing found
         (drivers_seen lines.old.lines (P.seen spawner.old) (O.faults once.old))
         (drivers_seen lines.new.lines (P.seen spawner.new) (O.faults once.new))) }
     ensures asked { lines.new.asked ≤ lines.old.asked + 1 }

@@ -103,7 +103,8 @@ impl<'a> Asking<'a> {
     fn way(&mut self, alloc: Global, entry: &Entry) -> Result<Way, AllocError>
         requires { IsReady self.old }
         ensures kept { self.new ≡ self.old }
-        ensures way { IfOk result (λ way. way ≡ way_of self.old.stack self.old.drivers.now self.old.settings.now entry.now) }
+        ensures way { IfOk result (λ way.
+            way ≡ way_of self.old.stack self.old.drivers.now self.old.settings.now entry.now) }
     {
         if is_left_out(entry) {
             return Ok(Way::Kept);
@@ -119,7 +120,8 @@ impl<'a> Asking<'a> {
     fn path(&mut self, alloc: Global, entry: &Entry) -> Result<CheckinPath, AllocError>
         requires { IsReady self.old }
         ensures kept { self.new ≡ self.old }
-        ensures path { IfOk result (λ path. path ≡ checkin_path self.old.stack self.old.drivers.now self.old.settings.now entry.now) }
+        ensures path { IfOk result (λ path.
+            path ≡ checkin_path self.old.stack self.old.drivers.now self.old.settings.now entry.now) }
     {
         let object = entry.name;
         Ok(CheckinPath {

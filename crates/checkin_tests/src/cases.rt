@@ -26,8 +26,10 @@ use crate::long_files::LongFiles;
 use crate::table::{number_of, parted, rows_of, text_of_row, unknown};
 use byte_path::{Bytes, Items};
 use checkin_engine::{MemoryFiles, MemoryKeep, checkin};
-use edge_kit::{DriverScript, DriverSeen, Mark, MemoryRepo, MemorySink, MemorySpawner, RepoFail};
-use edge_kit::{SessionScript, StartOutcome, TreeFile};
+use edge_kit::{
+    DriverScript, DriverSeen, Mark, MemoryRepo, MemorySink, MemorySpawner, RepoFail, SessionScript,
+    StartOutcome, TreeFile,
+};
 use object_dir::blob_name;
 use one_shot::{MemoryOnce, OnceScript};
 use std::alloc::{AllocError, Global};
@@ -233,7 +235,12 @@ fn set_rest(alloc: Global, case: &mut Case, letter: u8, value: &[u8]) -> Result<
 }
 
 /// Adds a start of the driver, with all that it writes in the session.
-fn add_start(alloc: Global, case: &mut Case, starts: bool, output: &[u8]) -> Result<(), AllocError> {
+fn add_start(
+    alloc: Global,
+    case: &mut Case,
+    starts: bool,
+    output: &[u8],
+) -> Result<(), AllocError> {
     case.sessions.push(SessionScript {
         starts,
         output: Bytes::copy_of(alloc, output)?,
@@ -398,7 +405,11 @@ fn push_start(seen: &mut String, start: &StartOutcome) -> Result<(), Fail> {
 /// The starters that were given back, with what came of their starts.
 fn push_drivers(seen: &mut String, drivers: &[DriverSeen]) -> Result<(), Fail> {
     for driver in drivers {
-        writeln!(seen, "driver {}", str::from_utf8(driver.command.as_slice())?)?;
+        writeln!(
+            seen,
+            "driver {}",
+            str::from_utf8(driver.command.as_slice())?
+        )?;
         for start in driver.starts.as_slice() {
             push_start(seen, &start.outcome)?;
         }
