@@ -1,5 +1,5 @@
 -- What is found of a path's file.
-use Rattle.std.proofs.Common.{◌≡◌, ℕ, ◌<◌, ◌≤◌, Bool, true, false, List, [], ◌∷◌, ◌++◌, length, Option, Some, None, refl, sym, ap, subst, inl, inr, ◌∙◌}
+use Rattle.std.proofs.Common.{◌≡◌, ℕ, ◌≤◌, Bool, true, false, List, [], ◌∷◌, ◌++◌, length, Option, Some, None, refl, sym, ap, subst, inl, inr, ◌∙◌}
 use Rattle.std.specs.Prelude.{Result, Ok, Err, IfOk, OnErr}
 use Rattle.std.specs.Global.{Vec}
 use Rattle.edge_kit.specs.Seen.{RepoSeen}
@@ -14,7 +14,6 @@ use Rattle.eol_convert.specs.declared.action.Action.{Action}
 use Rattle.checkout_plan.specs.Seen.{ReturnsObject}
 use Rattle.checkin_engine.specs.declared.path.CheckinPath.{CheckinPath}
 use Rattle.checkin_engine.specs.declared.finding.Found.{Found}
-use Rattle.checkin_engine.specs.declared.finding.Found.TheVariants as find
 use Rattle.checkin_engine.specs.Outside.{LeavesFiles, FilesSeen}
 use Rattle.checkin_engine.specs.Fates.{max_file, is_auto, IsWrong, IsThere}
 use Rattle.checkin_engine.specs.Outcomes.{blob_by, with_blobs, MakesBlob}

@@ -1,11 +1,11 @@
 -- What becomes of a path that was looked at, and what is left of it.
-use Rattle.std.proofs.Common.{◌≡◌, ◌≢◌, ◌⊎◌, ℕ, Bool, true, false, List, [], ◌∷◌, Option, Some, None, refl, sym, ap, subst, inl, inr, ◌∙◌}
+use Rattle.std.proofs.Common.{◌≡◌, ◌≢◌, ◌⊎◌, ℕ, Bool, true, false, List, Option, Some, None, refl, sym, ap, subst, inl, inr, ◌∙◌}
 use Rattle.std.specs.Prelude.{Result, Ok, Err, IfOk, OnErr, if◌then◌else◌}
 use Rattle.std.specs.Global.{Vec}
 use Rattle.std.specs.Str.{bytes_eq}
 use Rattle.std.proofs.lemmas.Slice.Eq.{bytes_eq-Decides}
 use Rattle.edge_kit.specs.Seen.{RepoSeen}
-use Rattle.edge_kit.specs.Told.{Told, TellsBytes}
+use Rattle.edge_kit.specs.Told.{Told}
 use Rattle.back_convert.specs.Encoding.{Explains}
 use Rattle.back_convert.specs.declared.encoding.BackFault.{BackFault}
 use Rattle.back_convert.specs.declared.encoding.BackFault.TheVariants.{Form}

@@ -1,5 +1,5 @@
 -- What the parts of a check-in promise each other about its end.
-use Rattle.std.specs.Prelude.{◌≡◌, ◌<◌, ◌^◌, ℕ, Bool, true, false, not, List, length, Result, Ok, Err}
+use Rattle.std.specs.Prelude.{◌≡◌, ◌<◌, ◌^◌, ℕ, Bool, true, not, List, length, Result, Ok, Err}
 use Rattle.std.specs.List.{AllByRecursion}
 use Rattle.edge_kit.specs.Seen.{RepoSeen, SinkSeen, IsWriteCut}
 use Rattle.edge_kit.specs.Told.{RepoTold}

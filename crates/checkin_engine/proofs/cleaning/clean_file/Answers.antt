@@ -1,9 +1,4 @@
-use Rattle.std.proofs.Common.{ℕ, List, Option, Some, Result, sym, subst, ◌∙◌}
-use Rattle.clean_line.specs.declared.cause.CleanFault.{CleanFault}
-use Rattle.clean_drivers.specs.Drivers.{Asks}
-use Rattle.checkin_engine.specs.declared.path.PathDriver.{PathDriver}
 use Rattle.checkin_engine.specs.Cleaning.{cleaning}
-use Rattle.checkin_engine.specs.Looking.{CleansFile}
 use Rattle.checkin_engine.proofs.Looked.{asked_cleans}
 use Rattle.checkin_engine.proofs.cleaning.clean_file.Goals as goal
 

@@ -1,5 +1,3 @@
-use Rattle.std.proofs.Common.{List, ap, subst, sym}
-use Rattle.checkin_engine.specs.declared.finding.Found.{Found}
 use Rattle.checkin_engine.proofs.Looked.{there_becomes, there_nothing}
 use Rattle.checkin_engine.proofs.looking.found_fate.Goals as goal
 

@@ -1,7 +1,5 @@
-use Rattle.std.proofs.Common.{ℕ, length, refl, subst}
-use Rattle.checkin_engine.specs.declared.path.Way.{Way}
+use Rattle.std.proofs.Common.{refl}
 use Rattle.checkin_engine.specs.declared.path.Way.TheVariants.{Kept, UnknownEncoding as Unknown, NoProcess}
-use Rattle.checkin_engine.specs.Looking.{IsOpenBy}
 use Rattle.checkin_engine.proofs.Looked.{untaken_looks, found_comes, found_leaves}
 use Rattle.checkin_engine.proofs.looking.look_at.Goals as goal
 
