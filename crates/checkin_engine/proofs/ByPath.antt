@@ -1,5 +1,5 @@
 -- The entries that the fates in turn leave are those that the paths' fates leave.
-use Rattle.std.proofs.Common.{◌≡◌, ◌⊎◌, ℕ, suc, Bool, true, false, if◌then◌else◌, Ordering, Less, Equal, Greater, List, [], ◌∷◌, ◌++◌, map, length, Option, None, refl, sym, ap, subst, ◌∙◌, inl, inr, arith}
+use Rattle.std.proofs.Common.{◌≡◌, ◌⊎◌, ℕ, Bool, true, false, if◌then◌else◌, Ordering, Less, Equal, Greater, List, [], ◌∷◌, ◌++◌, map, length, None, refl, sym, ap, subst, ◌∙◌, inl, inr, arith}
 use Rattle.std.specs.Prelude.{flat_map, not}
 use Rattle.std.specs.List.{list_all, AllByRecursion}
 use Rattle.std.specs.Ordering.{nat_cmp, is_lt, is_eq}
@@ -11,8 +11,8 @@ use Rattle.std.proofs.lemmas.Slice.Eq.{bytes_eq-Decides}
 use Rattle.git_index.specs.declared.entry.Entry.{Entry}
 use Rattle.byte_path.specs.Path.{path_fault}
 use Rattle.git_index.specs.Spelling.{pairwise, is_before, is_below, IsEntry, PathsAreOrdered}
-use Rattle.git_config.specs.declared.setting.Setting.{Setting}
 use Rattle.attr_stack.specs.declared.files.AttrFiles.{AttrFiles}
+use Rattle.settings_view.specs.declared.view.Driver.{Driver}
 use Rattle.settings_view.specs.declared.view.Settings.{Settings}
 use Rattle.checkout_plan.specs.Paths.{first_entries_after, first_entries}
 use Rattle.checkin_engine.specs.declared.path.CheckinPath.{CheckinPath}
@@ -78,21 +78,21 @@ ordered_differ Greater lt = absurd cc
 differ : (p q : List ℕ) → is_before p q ≡ true → not (bytes_eq p q) ≡ true
 differ p q lt = subst (λ (b : Bool). not b ≡ true) (is_eq-slice_cmp p q) (ordered_differ (slice_cmp nat_cmp p q) lt)
 
-module _ (files : AttrFiles) (config : List Setting) (settings : Settings) where
-  all_differ : (e : Entry) (es : List Entry) → list_all (entry_precedes e) es ≡ true → list_all (λ (q : CheckinPath). not (bytes_eq e.path q.path)) (map (checkin_path files config settings) es) ≡ true
+module _ (files : AttrFiles) (drivers : List Driver) (settings : Settings) where
+  all_differ : (e : Entry) (es : List Entry) → list_all (entry_precedes e) es ≡ true → list_all (λ (q : CheckinPath). not (bytes_eq e.path q.path)) (map (checkin_path files drivers settings) es) ≡ true
   all_differ e [] all = refl
   all_differ e (f ∷ es) all =
       let parts = and_parts (entry_precedes e f) (list_all (entry_precedes e) es) all in
-      and_from (not (bytes_eq e.path f.path)) (list_all (λ (q : CheckinPath). not (bytes_eq e.path q.path)) (map (checkin_path files config settings) es)) (differ e.path f.path parts.0) (all_differ e es parts.1)
+      and_from (not (bytes_eq e.path f.path)) (list_all (λ (q : CheckinPath). not (bytes_eq e.path q.path)) (map (checkin_path files drivers settings) es)) (differ e.path f.path parts.0) (all_differ e es parts.1)
 
-  paths_differ : (es : List Entry) → pairwise entry_precedes es ≡ true → are_apart (map (checkin_path files config settings) es) ≡ true
+  paths_differ : (es : List Entry) → pairwise entry_precedes es ≡ true → are_apart (map (checkin_path files drivers settings) es) ≡ true
   paths_differ [] rise = refl
   paths_differ (e ∷ es) rise =
       let parts = and_parts (list_all (entry_precedes e) es) (pairwise entry_precedes es) rise in
-      and_from (list_all (λ (q : CheckinPath). not (bytes_eq e.path q.path)) (map (checkin_path files config settings) es)) (are_apart (map (checkin_path files config settings) es)) (all_differ e es parts.0) (paths_differ es parts.1)
+      and_from (list_all (λ (q : CheckinPath). not (bytes_eq e.path q.path)) (map (checkin_path files drivers settings) es)) (are_apart (map (checkin_path files drivers settings) es)) (all_differ e es parts.0) (paths_differ es parts.1)
 
   -- the paths of entries that rise have a name each
-  pub paths_are_apart : PathsAreOrdered → (es : List Entry) → pairwise is_below es ≡ true → are_apart (checkin_paths files config settings es) ≡ true
+  pub paths_are_apart : PathsAreOrdered → (es : List Entry) → pairwise is_below es ≡ true → are_apart (checkin_paths files drivers settings es) ≡ true
   paths_are_apart law es rise = paths_differ (first_entries es) (first_rise law [] es rise)
 
 -- a function has these fates at the names of these paths
@@ -129,9 +129,9 @@ names_of ps = map (λ p. p.path) ps
 abbrev entry_names : List Entry → List (List ℕ)
 entry_names es = map (λ e. e.path) es
 
-paths_named : (files : AttrFiles) (config : List Setting) (settings : Settings) (es : List Entry) → names_of (map (checkin_path files config settings) es) ≡ entry_names es
-paths_named files config settings [] = refl
-paths_named files config settings (e ∷ es) = ap (λ (l : List (List ℕ)). e.path ∷ l) (paths_named files config settings es)
+paths_named : (files : AttrFiles) (drivers : List Driver) (settings : Settings) (es : List Entry) → names_of (map (checkin_path files drivers settings) es) ≡ entry_names es
+paths_named files drivers settings [] = refl
+paths_named files drivers settings (e ∷ es) = ap (λ (l : List (List ℕ)). e.path ∷ l) (paths_named files drivers settings es)
 
 abbrev head_of : List (List ℕ) → List ℕ
 head_of [] = []
@@ -188,7 +188,7 @@ module _ (f : List ℕ → Fate) where
       by false is named = next e es ps fates (turn es) named many agrees
 
 -- the entries that the fates in turn leave are those after the check-in
-pub in_turn : (files : AttrFiles) (config : List Setting) (settings : Settings) (es : List Entry) (ps : List CheckinPath) (fates : List Fate) → AllByRecursion IsEntry es → ps ≡ checkin_paths files config settings es
+pub in_turn : (files : AttrFiles) (drivers : List Driver) (settings : Settings) (es : List Entry) (ps : List CheckinPath) (fates : List Fate) → AllByRecursion IsEntry es → ps ≡ checkin_paths files drivers settings es
     → are_apart ps ≡ true → length ps ≡ length fates → entries_in_turn es fates ≡ new_entries ps fates es
-in_turn files config settings es ps fates each is apart many =
-    first_turn (fate_at ps fates) es ps fates each (ap names_of is ∙ paths_named files config settings (first_entries es)) many (fates_agree ps fates apart)
+in_turn files drivers settings es ps fates each is apart many =
+    first_turn (fate_at ps fates) es ps fates each (ap names_of is ∙ paths_named files drivers settings (first_entries es)) many (fates_agree ps fates apart)

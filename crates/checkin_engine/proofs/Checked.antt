@@ -7,33 +7,36 @@ use Rattle.std.proofs.Math.Seq.{take-suc}
 use Rattle.edge_kit.specs.Faults.{Rose}
 use Rattle.edge_kit.specs.Seen.{RepoSeen}
 use Rattle.edge_kit.specs.Told.{Told}
+use Rattle.clean_drivers.specs.Drivers.{DriversSeen}
 use Rattle.checkin_engine.specs.declared.path.CheckinPath.{CheckinPath}
 use Rattle.checkin_engine.specs.declared.fate.Fate.{Fate}
-use Rattle.checkin_engine.specs.Outside.{FilesSeen, KeepSeen, IsKeepFailed, with_objects}
-use Rattle.checkin_engine.specs.Outcomes.{Outcome, IsOutcome, AreOutcomes, AreLookedAt, AreChecked, AreObjectsCut, AreBrokenOff, MakesNextBlob, object_of, objects_of, blob_back, blobs_back, failed_at, failed_paths, with_blobs, HasCounted}
+use Rattle.checkin_engine.specs.Outside.{FilesSeen, WorkSeen, KeepSeen, IsKeepFailed, with_objects}
+use Rattle.checkin_engine.specs.Cleaning.{Cleaning, AsksOne}
+use Rattle.checkin_engine.specs.Fates.{driver_of}
+use Rattle.checkin_engine.specs.Outcomes.{Outcome, IsOutcome, AreOutcomes, AreAsked, AreLookedAt, AreChecked, AreObjectsCut, AreBrokenOff, MakesNextBlob, MayAskNext, object_of, objects_of, blob_back, blobs_back, failed_at, failed_paths, with_blobs, HasCounted}
 use Rattle.checkin_engine.specs.Looking.{with_blob, FailsIf, IsPathLookedAt, IsOpen}
 use Rattle.checkin_engine.specs.Keeping.{IsPathChecked, IsPathCut, IsPathLeft, ArePathsChecked}
 
-outcomes_more : (object files : List ℕ → Told) (ps : List CheckinPath) (os : List Outcome) (p : CheckinPath) (o : Outcome) → AreOutcomes object files ps os → IsOutcome object files p o → AreOutcomes object files (ps ++ p ∷ []) (os ++ o ∷ [])
-outcomes_more object files [] [] p o are is = (is, tt)
-outcomes_more object files [] (x ∷ os) p o are is = absurd are
-outcomes_more object files (q ∷ ps) [] p o are is = absurd are
-outcomes_more object files (q ∷ ps) (x ∷ os) p o are is = (are.0, outcomes_more object files ps os p o are.1 is)
+outcomes_more : (object told : List ℕ → Told) (ps : List CheckinPath) (os : List Outcome) (p : CheckinPath) (o : Outcome) → AreOutcomes object told ps os → IsOutcome object told p o → AreOutcomes object told (ps ++ p ∷ []) (os ++ o ∷ [])
+outcomes_more object told [] [] p o are is = (is, tt)
+outcomes_more object told [] (x ∷ os) p o are is = absurd are
+outcomes_more object told (q ∷ ps) [] p o are is = absurd are
+outcomes_more object told (q ∷ ps) (x ∷ os) p o are is = (are.0, outcomes_more object told ps os p o are.1 is)
 
-blobs_more : (object files : List ℕ → Told) (ps : List CheckinPath) (os : List Outcome) (p : CheckinPath) (o : Outcome) → AreOutcomes object files ps os → blobs_back (ps ++ p ∷ []) (os ++ o ∷ []) ≡ blobs_back ps os ++ blob_back p o.blob
-blobs_more object files [] [] p o are = append-nil (blob_back p o.blob)
-blobs_more object files [] (x ∷ os) p o are = absurd are
-blobs_more object files (q ∷ ps) [] p o are = absurd are
-blobs_more object files (q ∷ ps) (x ∷ os) p o are =
-    ap (λ (l : List (List ℕ × ℕ)). blob_back q x.blob ++ l) (blobs_more object files ps os p o are.1)
+blobs_more : (object told : List ℕ → Told) (ps : List CheckinPath) (os : List Outcome) (p : CheckinPath) (o : Outcome) → AreOutcomes object told ps os → blobs_back (ps ++ p ∷ []) (os ++ o ∷ []) ≡ blobs_back ps os ++ blob_back p o.blob
+blobs_more object told [] [] p o are = append-nil (blob_back p o.blob)
+blobs_more object told [] (x ∷ os) p o are = absurd are
+blobs_more object told (q ∷ ps) [] p o are = absurd are
+blobs_more object told (q ∷ ps) (x ∷ os) p o are =
+    ap (λ (l : List (List ℕ × ℕ)). blob_back q x.blob ++ l) (blobs_more object told ps os p o are.1)
     ∙ sym (append_assoc (blob_back q x.blob) (blobs_back ps os) (blob_back p o.blob))
 
-paths_more : (object files : List ℕ → Told) (ps : List CheckinPath) (os : List Outcome) (p : CheckinPath) (o : Outcome) → AreOutcomes object files ps os → failed_paths (ps ++ p ∷ []) (os ++ o ∷ []) ≡ failed_paths ps os ++ failed_at p o.failed
-paths_more object files [] [] p o are = append-nil (failed_at p o.failed)
-paths_more object files [] (x ∷ os) p o are = absurd are
-paths_more object files (q ∷ ps) [] p o are = absurd are
-paths_more object files (q ∷ ps) (x ∷ os) p o are =
-    ap (λ (l : List (List ℕ)). failed_at q x.failed ++ l) (paths_more object files ps os p o are.1)
+paths_more : (object told : List ℕ → Told) (ps : List CheckinPath) (os : List Outcome) (p : CheckinPath) (o : Outcome) → AreOutcomes object told ps os → failed_paths (ps ++ p ∷ []) (os ++ o ∷ []) ≡ failed_paths ps os ++ failed_at p o.failed
+paths_more object told [] [] p o are = append-nil (failed_at p o.failed)
+paths_more object told [] (x ∷ os) p o are = absurd are
+paths_more object told (q ∷ ps) [] p o are = absurd are
+paths_more object told (q ∷ ps) (x ∷ os) p o are =
+    ap (λ (l : List (List ℕ)). failed_at q x.failed ++ l) (paths_more object told ps os p o are.1)
     ∙ sym (append_assoc (failed_at q x.failed) (failed_paths ps os) (failed_at p o.failed))
 
 objects_more : (os : List Outcome) (o : Outcome) → objects_of (os ++ o ∷ []) ≡ objects_of os ++ object_of o
@@ -45,6 +48,13 @@ objects_more (x ∷ os) o =
 pub one_blob : (p : CheckinPath) (blob : Option ℕ) (repo : RepoSeen) → with_blob p.object blob repo ≡ with_blobs (blob_back p blob) repo
 one_blob p None repo = ap (λ (l : List (List ℕ × ℕ)). record repo { returned = l }) (sym (append-nil repo.returned))
 one_blob p (Some count) repo = refl
+
+asked_more : (object told : List ℕ → Told) (c : Cleaning) (ps : List CheckinPath) (os : List Outcome) (p : CheckinPath) (o : Outcome) (old mid new : DriversSeen) → AreOutcomes object told ps os → AreAsked c ps os old mid
+    → AsksOne c p.path (driver_of p.way) o.asked mid new → AreAsked c (ps ++ p ∷ []) (os ++ o ∷ []) old new
+asked_more object told c [] [] p o old mid new each are asks = (new, subst (λ (d : DriversSeen). AsksOne c p.path (driver_of p.way) o.asked d new) are asks, refl)
+asked_more object told c [] (x ∷ os) p o old mid new each are asks = absurd each
+asked_more object told c (q ∷ ps) [] p o old mid new each are asks = absurd each
+asked_more object told c (q ∷ ps) (x ∷ os) p o old mid new each (first, asked, rest) asks = (first, asked, asked_more object told c ps os p o first mid new each.1 rest asks)
 
 -- the files failed at a path, or they are as they were
 fails_paths : (failed : Bool) (p : CheckinPath) (files files' : FilesSeen) → FailsIf failed p.path files files' → files'.failed ≡ files.failed ++ failed_at p failed
@@ -62,17 +72,18 @@ counts_more (path ∷ paths) true p count files files' counted fails = rose_twic
 counts_more (path ∷ paths) false p count files files' counted fails = subst (λ (f : FilesSeen). Rose count f.faults) (sym fails) counted
 
 -- one path more was looked at
-looked_more : (object told : List ℕ → Told) (ps : List CheckinPath) (os : List Outcome) (p : CheckinPath) (o : Outcome) (repo repo' repo'' : RepoSeen) (files files' files'' : FilesSeen) → AreOutcomes object told ps os
-    → AreLookedAt ps os repo repo' files files' → IsPathLookedAt object told p repo' repo'' files' files'' o → AreLookedAt (ps ++ p ∷ []) (os ++ o ∷ []) repo repo'' files files''
-looked_more object told ps os p o repo repo' repo'' files files' files'' each are is = record {
+looked_more : (object told : List ℕ → Told) (c : Cleaning) (ps : List CheckinPath) (os : List Outcome) (p : CheckinPath) (o : Outcome) (repo repo' repo'' : RepoSeen) (work work' work'' : WorkSeen) → AreOutcomes object told ps os
+    → AreLookedAt c ps os repo repo' work work' → IsPathLookedAt object told c p repo' repo'' work' work'' o → AreLookedAt c (ps ++ p ∷ []) (os ++ o ∷ []) repo repo'' work work''
+looked_more object told c ps os p o repo repo' repo'' work work' work'' each are is = record {
   blobs = is.back ∙ one_blob p o.blob repo' ∙ ap (with_blobs (blob_back p o.blob)) are.blobs
       ∙ ap (λ (l : List (List ℕ × ℕ)). record repo { returned = l }) (append_assoc repo.returned (blobs_back ps os) (blob_back p o.blob)
       ∙ ap (λ (l : List (List ℕ × ℕ)). repo.returned ++ l) (sym (blobs_more object told ps os p o each)));
-  failed = fails_paths o.failed p files' files'' is.fails ∙ ap (λ (l : List (List ℕ)). l ++ failed_at p o.failed) are.failed
-      ∙ append_assoc files.failed (failed_paths ps os) (failed_at p o.failed)
-      ∙ ap (λ (l : List (List ℕ)). files.failed ++ l) (sym (paths_more object told ps os p o each));
-  counted = subst (λ (l : List (List ℕ)). HasCounted l files.faults files''.faults) (sym (paths_more object told ps os p o each))
-      (counts_more (failed_paths ps os) o.failed p files.faults files' files'' are.counted is.fails);
+  failed = fails_paths o.failed p work'.files work''.files is.fails ∙ ap (λ (l : List (List ℕ)). l ++ failed_at p o.failed) are.failed
+      ∙ append_assoc work.files.failed (failed_paths ps os) (failed_at p o.failed)
+      ∙ ap (λ (l : List (List ℕ)). work.files.failed ++ l) (sym (paths_more object told ps os p o each));
+  counted = subst (λ (l : List (List ℕ)). HasCounted l work.files.faults work''.files.faults) (sym (paths_more object told ps os p o each))
+      (counts_more (failed_paths ps os) o.failed p work.files.faults work'.files work''.files are.counted is.fails);
+  asked = asked_more object told c ps os p o work.drivers work'.drivers work''.drivers each are.asked is.asks;
 }
 
 objects_told : (kept : Option (List (List ℕ × List ℕ))) (a b : List (List ℕ × List ℕ)) → option_map (λ k. k ++ b) (option_map (λ k. k ++ a) kept) ≡ option_map (λ k. k ++ (a ++ b)) kept
@@ -88,33 +99,34 @@ pub with_no_object : (keep : KeepSeen) → keep ≡ with_objects [] keep
 with_no_object keep = ap (λ (o : Option (List (List ℕ × List ℕ))). record keep { objects = o }) (no_objects keep.objects)
 
 -- before the first path
-pub none_checked : (object told : List ℕ → Told) (repo : RepoSeen) (files : FilesSeen) (keep : KeepSeen) → ArePathsChecked object told [] repo repo files files keep keep []
-none_checked object told repo files keep = record {
+pub none_checked : (object told : List ℕ → Told) (c : Cleaning) (repo : RepoSeen) (work : WorkSeen) (keep : KeepSeen) → ArePathsChecked object told c [] repo repo work work keep keep []
+none_checked object told c repo work keep = record {
   outcomes = [];
   same = refl;
   each = tt;
   checked = record {
     looked = record {
       blobs = ap (λ (l : List (List ℕ × ℕ)). record repo { returned = l }) (sym (append-nil repo.returned));
-      failed = sym (append-nil files.failed);
+      failed = sym (append-nil work.files.failed);
       counted = refl;
+      asked = refl;
     };
     objects = with_no_object keep;
   };
 }
 
 -- one path more
-pub one_checked : (object told : List ℕ → Told) (ps : List CheckinPath) (p : CheckinPath) (repo repo' repo'' : RepoSeen) (files files' files'' : FilesSeen) (keep keep' keep'' : KeepSeen) (fates : List Fate) (fate : Fate)
-    → ArePathsChecked object told ps repo repo' files files' keep keep' fates → IsPathChecked object told p repo' repo'' files' files'' keep' keep'' fate
-    → ArePathsChecked object told (ps ++ p ∷ []) repo repo'' files files'' keep keep'' (fates ++ fate ∷ [])
-one_checked object told ps p repo repo' repo'' files files' files'' keep keep' keep'' fates fate are is =
+pub one_checked : (object told : List ℕ → Told) (c : Cleaning) (ps : List CheckinPath) (p : CheckinPath) (repo repo' repo'' : RepoSeen) (work work' work'' : WorkSeen) (keep keep' keep'' : KeepSeen) (fates : List Fate) (fate : Fate)
+    → ArePathsChecked object told c ps repo repo' work work' keep keep' fates → IsPathChecked object told c p repo' repo'' work' work'' keep' keep'' fate
+    → ArePathsChecked object told c (ps ++ p ∷ []) repo repo'' work work'' keep keep'' (fates ++ fate ∷ [])
+one_checked object told c ps p repo repo' repo'' work work' work'' keep keep' keep'' fates fate are is =
     let os : List Outcome = are.outcomes in
     let o : Outcome = is.outcome in record {
       outcomes = os ++ o ∷ [];
       same = map-append (λ (x : Outcome). x.fate) os (o ∷ []) ∙ ap (λ (l : List Fate). l ++ o.fate ∷ []) are.same ∙ ap (λ (f : Fate). fates ++ f ∷ []) is.same;
       each = outcomes_more object told ps os p o are.each is.looked.is;
       checked = record {
-        looked = looked_more object told ps os p o repo repo' repo'' files files' files'' are.each are.checked.looked is.looked;
+        looked = looked_more object told c ps os p o repo repo' repo'' work work' work'' are.each are.checked.looked is.looked;
         objects = is.object_kept ∙ ap (with_objects (object_of o)) are.checked.objects
             ∙ ap (λ (x : Option (List (List ℕ × List ℕ))). record keep { objects = x }) (objects_told keep.objects (objects_of os) (object_of o))
             ∙ ap (λ (l : List (List ℕ × List ℕ)). with_objects l keep) (sym (objects_more os o));
@@ -129,23 +141,27 @@ parts_at : (ps : List CheckinPath) (i : ℕ) (p : CheckinPath) → i < length ps
 parts_at ps i p lt is =
     sym (take-append-drop (i + 1) ps) ∙ ap (λ (l : List CheckinPath). l ++ drop (i + 1) ps) (next_path ps i p lt is) ∙ append_assoc (take i ps) (p ∷ []) (drop (i + 1) ps)
 
-opens_at : (ps : List CheckinPath) → AllByRecursion IsOpen ps → (i : ℕ) (d : CheckinPath) → i < length ps → IsOpen (get_or ps i d)
-opens_at [] are i d lt = absurd (omega arith)
-opens_at (p ∷ ps) are zero d lt = are.0
-opens_at (p ∷ ps) are (suc i) d lt = opens_at ps are.1 i d (omega arith)
+opens_at : (count : ℕ) (ps : List CheckinPath) → AllByRecursion (IsOpen count) ps → (i : ℕ) (d : CheckinPath) → i < length ps → IsOpen count (get_or ps i d)
+opens_at count [] are i d lt = absurd (omega arith)
+opens_at count (p ∷ ps) are zero d lt = are.0
+opens_at count (p ∷ ps) are (suc i) d lt = opens_at count ps are.1 i d (omega arith)
 
 -- each path is open
-pub open_at : (ps : List CheckinPath) (i : ℕ) (p : CheckinPath) → AllByRecursion IsOpen ps → i < length ps → p ≡ get_or ps i p → IsOpen p
-open_at ps i p are lt is = subst IsOpen (sym is) (opens_at ps are i p lt)
+pub open_at : (count : ℕ) (ps : List CheckinPath) (i : ℕ) (p : CheckinPath) → AllByRecursion (IsOpen count) ps → i < length ps → p ≡ get_or ps i p → IsOpen count p
+open_at count ps i p are lt is = subst (IsOpen count) (sym is) (opens_at count ps are i p lt)
 
 no_blob : (ps : List CheckinPath) (repo : RepoSeen) → MakesNextBlob ps repo repo
 no_blob [] repo = refl
 no_blob (p ∷ ps) repo = inl refl
 
-module _ (object told : List ℕ → Told) (ps : List CheckinPath) (repo repo' repo'' : RepoSeen) (files files' files'' : FilesSeen) (keep keep' keep'' : KeepSeen) (fates : List Fate) where
+none_vain : (told : List ℕ → Told) (c : Cleaning) (ps : List CheckinPath) (drivers : DriversSeen) → MayAskNext told c ps drivers drivers
+none_vain told c [] drivers = refl
+none_vain told c (p ∷ ps) drivers = inl refl
+
+module _ (object told : List ℕ → Told) (c : Cleaning) (ps : List CheckinPath) (repo repo' repo'' : RepoSeen) (work work' work'' : WorkSeen) (keep keep' keep'' : KeepSeen) (fates : List Fate) where
   -- the keeper failed at the next path
-  pub cut_at : (i : ℕ) (p : CheckinPath) → i < length ps → p ≡ get_or ps i p → ArePathsChecked object told (take i ps) repo repo' files files' keep keep' fates
-      → IsPathCut object told p repo' repo'' files' files'' keep' keep'' → AreObjectsCut object told ps repo repo'' files files'' keep keep''
+  pub cut_at : (i : ℕ) (p : CheckinPath) → i < length ps → p ≡ get_or ps i p → ArePathsChecked object told c (take i ps) repo repo' work work' keep keep' fates
+      → IsPathCut object told c p repo' repo'' work' work'' keep' keep'' → AreObjectsCut object told c ps repo repo'' work work'' keep keep''
   cut_at i p lt is are cut = record {
     front = take i ps;
     path = p;
@@ -156,13 +172,13 @@ module _ (object told : List ℕ → Told) (ps : List CheckinPath) (repo repo' r
     each = outcomes_more object told (take i ps) are.outcomes p cut.outcome are.each cut.looked.is;
     name = cut.name;
     changed = cut.changed;
-    looked = looked_more object told (take i ps) are.outcomes p cut.outcome repo repo' repo'' files files' files'' are.each are.checked.looked cut.looked;
+    looked = looked_more object told c (take i ps) are.outcomes p cut.outcome repo repo' repo'' work work' work'' are.each are.checked.looked cut.looked;
     failed = subst (λ (k : KeepSeen). IsKeepFailed k keep'') are.checked.objects cut.failed;
   }
 
   -- memory ran out at the next path
-  pub left_at : (i : ℕ) (p : CheckinPath) → i < length ps → p ≡ get_or ps i p → ArePathsChecked object told (take i ps) repo repo' files files' keep keep' fates
-      → IsPathLeft p repo' repo'' files' files'' keep' keep'' → AreBrokenOff object told ps repo repo'' files files'' keep keep''
+  pub left_at : (i : ℕ) (p : CheckinPath) → i < length ps → p ≡ get_or ps i p → ArePathsChecked object told c (take i ps) repo repo' work work' keep keep' fates
+      → IsPathLeft told c p repo' repo'' work' work'' keep' keep'' → AreBrokenOff object told c ps repo repo'' work work'' keep keep''
   left_at i p lt is are left = record {
     front = take i ps;
     after = p ∷ drop (i + 1) ps;
@@ -170,13 +186,15 @@ module _ (object told : List ℕ → Told) (ps : List CheckinPath) (repo repo' r
     outcomes = are.outcomes;
     each = are.each;
     mid = repo';
-    checked = subst (λ (f : FilesSeen). AreChecked (take i ps) are.outcomes repo repo' files f keep keep'') (sym left.files_same)
-        (subst (λ (k : KeepSeen). AreChecked (take i ps) are.outcomes repo repo' files files' keep k) (sym left.keep_same) are.checked);
+    mid_work = work';
+    checked = subst (λ (k : KeepSeen). AreChecked c (take i ps) are.outcomes repo repo' work work' keep k) (sym left.keep_same) are.checked;
     next = left.blob;
+    files_same = left.files_same;
+    vain = left.vain;
   }
 
   -- memory ran out behind these paths
-  pub left_behind : (i : ℕ) → ArePathsChecked object told (take i ps) repo repo' files files' keep keep' fates → AreBrokenOff object told ps repo repo' files files' keep keep'
+  pub left_behind : (i : ℕ) → ArePathsChecked object told c (take i ps) repo repo' work work' keep keep' fates → AreBrokenOff object told c ps repo repo' work work' keep keep'
   left_behind i are = record {
     front = take i ps;
     after = drop i ps;
@@ -184,12 +202,15 @@ module _ (object told : List ℕ → Told) (ps : List CheckinPath) (repo repo' r
     outcomes = are.outcomes;
     each = are.each;
     mid = repo';
+    mid_work = work';
     checked = are.checked;
     next = no_blob (drop i ps) repo';
+    files_same = refl;
+    vain = none_vain told c (drop i ps) work'.drivers;
   }
 
   -- memory ran out behind all paths
-  pub left_behind_all : ArePathsChecked object told ps repo repo' files files' keep keep' fates → AreBrokenOff object told ps repo repo' files files' keep keep'
+  pub left_behind_all : ArePathsChecked object told c ps repo repo' work work' keep keep' fates → AreBrokenOff object told c ps repo repo' work work' keep keep'
   left_behind_all are = record {
     front = ps;
     after = [];
@@ -197,20 +218,26 @@ module _ (object told : List ℕ → Told) (ps : List CheckinPath) (repo repo' r
     outcomes = are.outcomes;
     each = are.each;
     mid = repo';
+    mid_work = work';
     checked = are.checked;
     next = refl;
+    files_same = refl;
+    vain = refl;
   }
 
 -- memory ran out before the first path
-pub left_before : (object told : List ℕ → Told) (ps : List CheckinPath) (repo : RepoSeen) (files : FilesSeen) (keep : KeepSeen) → AreBrokenOff object told ps repo repo files files keep keep
-left_before object told ps repo files keep =
-    let none : ArePathsChecked object told [] repo repo files files keep keep [] = none_checked object told repo files keep in record {
+pub left_before : (object told : List ℕ → Told) (c : Cleaning) (ps : List CheckinPath) (repo : RepoSeen) (work : WorkSeen) (keep : KeepSeen) → AreBrokenOff object told c ps repo repo work work keep keep
+left_before object told c ps repo work keep =
+    let none : ArePathsChecked object told c [] repo repo work work keep keep [] = none_checked object told c repo work keep in record {
       front = [];
       after = ps;
       parts = refl;
       outcomes = none.outcomes;
       each = none.each;
       mid = repo;
+      mid_work = work;
       checked = none.checked;
       next = no_blob ps repo;
+      files_same = refl;
+      vain = none_vain told c ps work.drivers;
     }

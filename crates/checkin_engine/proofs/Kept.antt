@@ -1,6 +1,12 @@
 -- How the keeping of objects and of the index ends, from how its calls end.
-use Rattle.std.proofs.Common.{◌≡◌, ℕ, ◌+◌, ◌<◌, List, [], ◌∷◌, ◌++◌, length, take, get_or, Result, Ok, Err, refl, sym, ap, subst, inl, inr, ◌∙◌}
+use Rattle.std.proofs.Common.{◌≡◌, ℕ, zero, suc, ◌+◌, ◌<◌, List, [], ◌∷◌, ◌++◌, length, replicate, take, get_or, Option, None, Result, Ok, Err, refl, sym, ap, subst, inl, inr, ◌∙◌, arith}
+use Rattle.std.specs.Global.{Vec}
 use Rattle.edge_kit.specs.Seen.{RepoSeen}
+use Rattle.edge_kit.specs.Starters.{Starts, SpawnerSeen}
+use Rattle.one_shot.specs.Onces.{RunsTold}
+use Rattle.settings_view.specs.declared.view.Driver.{Driver}
+use Rattle.clean_line.specs.CleanLines.{CleanLineView}
+use Rattle.clean_drivers.specs.Drivers.{drivers_seen, GivesBack, lines_out}
 use Rattle.edge_kit.specs.Told.{Told, RepoTold}
 use Rattle.edge_kit.specs.declared.faults.SendFault.{SendFault}
 use Rattle.edge_kit.specs.declared.faults.SendFault.TheVariants as send
@@ -10,12 +16,13 @@ use Rattle.object_dir.specs.Spelling.{spelled_blob}
 use Rattle.checkin_engine.specs.declared.path.CheckinPath.{CheckinPath}
 use Rattle.checkin_engine.specs.declared.fate.Fate.{Fate}
 use Rattle.checkin_engine.specs.declared.fate.Fate.TheVariants.{Same, Changed, Gone, Kept, Failed}
-use Rattle.checkin_engine.specs.Outside.{FilesSeen, KeepSeen, KeepsObject, KeepsIndex, with_objects}
+use Rattle.checkin_engine.specs.Outside.{FilesSeen, WorkSeen, work_seen, KeepSeen, KeepsObject, KeepsIndex, with_objects}
+use Rattle.checkin_engine.specs.Cleaning.{Cleaning, cleaning}
 use Rattle.checkin_engine.specs.InTurn.{entries_in_turn}
 use Rattle.checkin_engine.specs.Outcomes.{object_by, AreKept, AreObjectsCut, AreBrokenOff}
 use Rattle.checkin_engine.specs.Looking.{Looks}
-use Rattle.checkin_engine.specs.Keeping.{KeepsStored, ChecksPath, ArePathsChecked, ChecksPaths, KeepsAll, HaveNames}
-use Rattle.checkin_engine.proofs.Checked.{with_no_object, one_checked, next_path, cut_at, left_at, left_behind, left_behind_all}
+use Rattle.checkin_engine.specs.Keeping.{KeepsStored, ChecksPath, ArePathsChecked, ChecksPaths, KeepsAll, first_work, KeepsAndLeaves, HaveNames}
+use Rattle.checkin_engine.proofs.Checked.{with_no_object, one_checked, next_path, cut_at, left_at, left_before, left_behind, left_behind_all}
 use Rattle.checkin_engine.proofs.Looked.{path_cut, path_left}
 use Rattle.checkin_engine.proofs.Names.{fates_have_names}
 
@@ -35,32 +42,38 @@ changed_keeps T fate content name raw old new (Err send.Failed) is spelled keeps
 changed_keeps T fate content name raw old new (Err send.NoMemory) is spelled keeps = ((name, is), keeps)
 
 -- a path whose object wasn't kept
-pub path_fails : (T : Type 0) (object told : List ℕ → Told) (p : CheckinPath) (repo repo' : RepoSeen) (files files' : FilesSeen) (keep keep' : KeepSeen) (content : List ℕ) (fate : Fate) (f : SendFault)
-    → Looks object told p repo repo' files files' content fate → KeepsStored {T = T} fate content keep keep' (Err f) → ChecksPath object told p repo repo' files files' keep keep' (Err f)
-path_fails T object told p repo repo' files files' keep keep' content fate send.Failed looks kept = path_cut object told p repo repo' files files' keep keep' content fate looks kept.0.0 kept.0.1 kept.1
-path_fails T object told p repo repo' files files' keep keep' content fate send.NoMemory looks kept = path_left object told p repo repo' files files' keep keep' content fate looks kept.0.0 kept.0.1 kept.1
+pub path_fails : (T : Type 0) (object told : List ℕ → Told) (c : Cleaning) (p : CheckinPath) (repo repo' : RepoSeen) (work work' : WorkSeen) (keep keep' : KeepSeen) (content : List ℕ) (fate : Fate) (f : SendFault)
+    → Looks object told c p repo repo' work work' content fate → KeepsStored {T = T} fate content keep keep' (Err f) → ChecksPath object told c p repo repo' work work' keep keep' (Err f)
+path_fails T object told c p repo repo' work work' keep keep' content fate send.Failed looks kept = path_cut object told c p repo repo' work work' keep keep' content fate looks kept.0.0 kept.0.1 kept.1
+path_fails T object told c p repo repo' work work' keep keep' content fate send.NoMemory looks kept = path_left object told c p repo repo' work work' keep keep' content fate looks kept.0.0 kept.0.1 kept.1
+
+-- the same is told of the drivers
+pub told_cleaning : (ds ds' : List Driver) (s s' : List ℕ → Starts) (r r' : RunsTold) → ds' ≡ ds → s' ≡ s → r' ≡ r → cleaning ds' s' r' ≡ cleaning ds s r
+told_cleaning ds ds' s s' r r' same_drivers same_starts same_runs =
+    ap (λ (x : List Driver). cleaning x s' r') same_drivers ∙ ap (λ (x : List ℕ → Starts). cleaning ds x r') same_starts ∙ ap (cleaning ds s) same_runs
 
 -- one path more, by what is told before and after the paths before it
-module _ (told told' : RepoTold) (tells tells' : List ℕ → Told) (same_told : told' ≡ told) (same_tells : tells' ≡ tells) (ps : List CheckinPath) (i : ℕ) (p : CheckinPath) (lt : i < length ps) (is : p ≡ get_or ps i p)
-    (repo repo' repo'' : RepoSeen) (files files' files'' : FilesSeen) (keep keep' keep'' : KeepSeen) (fates : List Fate) (are : ArePathsChecked told.object tells (take i ps) repo repo' files files' keep keep' fates) where
-  told_so : (r : Result Fate SendFault) → ChecksPath told'.object tells' p repo' repo'' files' files'' keep' keep'' r → ChecksPath told.object tells p repo' repo'' files' files'' keep' keep'' r
-  told_so r checks = subst (λ (t : RepoTold). ChecksPath t.object tells p repo' repo'' files' files'' keep' keep'' r) same_told
-      (subst (λ (f : List ℕ → Told). ChecksPath told'.object f p repo' repo'' files' files'' keep' keep'' r) same_tells checks)
+module _ (told told' : RepoTold) (tells tells' : List ℕ → Told) (same_told : told' ≡ told) (same_tells : tells' ≡ tells) (c c' : Cleaning) (same_cleaning : c' ≡ c) (ps : List CheckinPath) (i : ℕ) (p : CheckinPath) (lt : i < length ps) (is : p ≡ get_or ps i p)
+    (repo repo' repo'' : RepoSeen) (work work' work'' : WorkSeen) (keep keep' keep'' : KeepSeen) (fates : List Fate) (are : ArePathsChecked told.object tells c (take i ps) repo repo' work work' keep keep' fates) where
+  told_so : (r : Result Fate SendFault) → ChecksPath told'.object tells' c' p repo' repo'' work' work'' keep' keep'' r → ChecksPath told.object tells c p repo' repo'' work' work'' keep' keep'' r
+  told_so r checks = subst (λ (t : RepoTold). ChecksPath t.object tells c p repo' repo'' work' work'' keep' keep'' r) same_told
+      (subst (λ (f : List ℕ → Told). ChecksPath told'.object f c p repo' repo'' work' work'' keep' keep'' r) same_tells
+      (subst (λ (d : Cleaning). ChecksPath told'.object tells' d p repo' repo'' work' work'' keep' keep'' r) same_cleaning checks))
 
-  pub goes_on : (fates' : List Fate) (fate : Fate) → ChecksPath told'.object tells' p repo' repo'' files' files'' keep' keep'' (Ok fate) → fates' ≡ fates ++ fate ∷ []
-      → ArePathsChecked told.object tells (take (i + 1) ps) repo repo'' files files'' keep keep'' fates'
-  goes_on fates' fate checks more = subst (λ (l : List CheckinPath). ArePathsChecked told.object tells l repo repo'' files files'' keep keep'' fates') (sym (next_path ps i p lt is))
-      (subst (λ (l : List Fate). ArePathsChecked told.object tells (take i ps ++ p ∷ []) repo repo'' files files'' keep keep'' l) (sym more)
-      (one_checked told.object tells (take i ps) p repo repo' repo'' files files' files'' keep keep' keep'' fates fate are (told_so (Ok fate) checks)))
+  pub goes_on : (fates' : List Fate) (fate : Fate) → ChecksPath told'.object tells' c' p repo' repo'' work' work'' keep' keep'' (Ok fate) → fates' ≡ fates ++ fate ∷ []
+      → ArePathsChecked told.object tells c (take (i + 1) ps) repo repo'' work work'' keep keep'' fates'
+  goes_on fates' fate checks more = subst (λ (l : List CheckinPath). ArePathsChecked told.object tells c l repo repo'' work work'' keep keep'' fates') (sym (next_path ps i p lt is))
+      (subst (λ (l : List Fate). ArePathsChecked told.object tells c (take i ps ++ p ∷ []) repo repo'' work work'' keep keep'' l) (sym more)
+      (one_checked told.object tells c (take i ps) p repo repo' repo'' work work' work'' keep keep' keep'' fates fate are (told_so (Ok fate) checks)))
 
-  pub paths_fail : (f : SendFault) → ChecksPath told'.object tells' p repo' repo'' files' files'' keep' keep'' (Err f) → ChecksPaths told.object tells ps repo repo'' files files'' keep keep'' (Err f)
-  paths_fail send.Failed cut = cut_at told.object tells ps repo repo' repo'' files files' files'' keep keep' keep'' fates i p lt is are (told_so (Err send.Failed) cut)
-  paths_fail send.NoMemory left = left_at told.object tells ps repo repo' repo'' files files' files'' keep keep' keep'' fates i p lt is are (told_so (Err send.NoMemory) left)
+  pub paths_fail : (f : SendFault) → ChecksPath told'.object tells' c' p repo' repo'' work' work'' keep' keep'' (Err f) → ChecksPaths told.object tells c ps repo repo'' work work'' keep keep'' (Err f)
+  paths_fail send.Failed cut = cut_at told.object tells c ps repo repo' repo'' work work' work'' keep keep' keep'' fates i p lt is are (told_so (Err send.Failed) cut)
+  paths_fail send.NoMemory left = left_at told.object tells c ps repo repo' repo'' work work' work'' keep keep' keep'' fates i p lt is are (told_so (Err send.NoMemory) left)
 
   -- memory ran out once it was looked at
-  pub breaks_behind : (fate : Fate) → ChecksPath told'.object tells' p repo' repo'' files' files'' keep' keep'' (Ok fate) → ChecksPaths told.object tells ps repo repo'' files files'' keep keep'' (Err send.NoMemory)
+  pub breaks_behind : (fate : Fate) → ChecksPath told'.object tells' c' p repo' repo'' work' work'' keep' keep'' (Ok fate) → ChecksPaths told.object tells c ps repo repo'' work work'' keep keep'' (Err send.NoMemory)
   breaks_behind fate checks =
-      left_behind told.object tells ps repo repo'' repo'' files files'' files'' keep keep'' keep'' (fates ++ fate ∷ []) (i + 1) (goes_on (fates ++ fate ∷ []) fate checks refl)
+      left_behind told.object tells c ps repo repo'' repo'' work work'' work'' keep keep'' keep'' (fates ++ fate ∷ []) (i + 1) (goes_on (fates ++ fate ∷ []) fate checks refl)
 
 -- the text of the new index was to be kept
 pub index_keeps : (T : Type 0) (text : List ℕ) (es : List Entry) (fates : List Fate) (kept : List Entry) (old new : KeepSeen) (r : Result T SendFault) → kept ≡ entries_in_turn es fates → text ≡ plain_text kept → KeepsIndex text old new r
@@ -68,17 +81,20 @@ pub index_keeps : (T : Type 0) (text : List ℕ) (es : List Entry) (fates : List
 index_keeps T text es fates kept old new r are is keeps = subst (λ (t : List ℕ). KeepsIndex {T = T} t old new r) (is ∙ ap plain_text are) keeps
 
 -- the whole, by the paths and the entries that the calls were given
-module _ (object told : List ℕ → Told) (es es' : List Entry) (ps ps' : List CheckinPath) (same_entries : es' ≡ es) (same_paths : ps' ≡ ps) (repo repo' : RepoSeen) (files files' : FilesSeen) (keep : KeepSeen) where
+module _ (object told : List ℕ → Told) (c c' : Cleaning) (same_cleaning : c' ≡ c) (es es' : List Entry) (ps ps' : List CheckinPath) (same_entries : es' ≡ es) (same_paths : ps' ≡ ps) (repo repo' : RepoSeen) (work work' : WorkSeen) (keep : KeepSeen) where
   -- the look at the paths ended before the index
-  pub paths_end : (keep' : KeepSeen) (f : SendFault) → ChecksPaths object told ps' repo repo' files files' keep keep' (Err f) → KeepsAll object told es ps repo repo' files files' keep keep' (Err f)
-  paths_end keep' send.Failed cut = inl (subst (λ (l : List CheckinPath). AreObjectsCut object told l repo repo' files files' keep keep') same_paths cut)
-  paths_end keep' send.NoMemory broken = subst (λ (l : List CheckinPath). AreBrokenOff object told l repo repo' files files' keep keep') same_paths broken
+  pub paths_end : (keep' : KeepSeen) (f : SendFault) → ChecksPaths object told c' ps' repo repo' work work' keep keep' (Err f) → KeepsAll object told c es ps repo repo' work work' keep keep' (Err f)
+  paths_end keep' send.Failed cut = inl (subst (λ (d : Cleaning). AreObjectsCut object told d ps repo repo' work work' keep keep') same_cleaning
+      (subst (λ (l : List CheckinPath). AreObjectsCut object told c' l repo repo' work work' keep keep') same_paths cut))
+  paths_end keep' send.NoMemory broken = subst (λ (d : Cleaning). AreBrokenOff object told d ps repo repo' work work' keep keep') same_cleaning
+      (subst (λ (l : List CheckinPath). AreBrokenOff object told c' l repo repo' work work' keep keep') same_paths broken)
 
 -- once all paths were looked at
-module _ (object told : List ℕ → Told) (es es' : List Entry) (ps ps' : List CheckinPath) (same_entries : es' ≡ es) (same_paths : ps' ≡ ps) (repo repo' : RepoSeen) (files files' : FilesSeen) (keep : KeepSeen)
-    (mid : KeepSeen) (fates fates' : List Fate) (same_fates : fates' ≡ fates) (are' : ArePathsChecked object told ps' repo repo' files files' keep mid fates) where
-  are : ArePathsChecked object told ps repo repo' files files' keep mid fates
-  are = subst (λ (l : List CheckinPath). ArePathsChecked object told l repo repo' files files' keep mid fates) same_paths are'
+module _ (object told : List ℕ → Told) (c c' : Cleaning) (same_cleaning : c' ≡ c) (es es' : List Entry) (ps ps' : List CheckinPath) (same_entries : es' ≡ es) (same_paths : ps' ≡ ps) (repo repo' : RepoSeen) (work work' : WorkSeen) (keep : KeepSeen)
+    (mid : KeepSeen) (fates fates' : List Fate) (same_fates : fates' ≡ fates) (are' : ArePathsChecked object told c' ps' repo repo' work work' keep mid fates) where
+  are : ArePathsChecked object told c ps repo repo' work work' keep mid fates
+  are = subst (λ (d : Cleaning). ArePathsChecked object told d ps repo repo' work work' keep mid fates) same_cleaning
+      (subst (λ (l : List CheckinPath). ArePathsChecked object told c' l repo repo' work work' keep mid fates) same_paths are')
 
   -- the names of the changed objects are such as an entry has
   pub checked_names : HaveNames fates'
@@ -89,11 +105,51 @@ module _ (object told : List ℕ → Told) (es es' : List Entry) (ps ps' : List 
       (subst (λ (l : List Fate). KeepsIndex {T = T} (plain_text (entries_in_turn es' l)) mid keep' r) same_fates index)
 
   -- the index was kept
-  pub all_kept : (T : Type 0) (keep' : KeepSeen) (x : T) → KeepsIndex {T = T} (plain_text (entries_in_turn es' fates')) mid keep' (Ok x) → AreKept object told (entries_in_turn es fates) ps repo repo' files files' keep keep' fates
+  pub all_kept : (T : Type 0) (keep' : KeepSeen) (x : T) → KeepsIndex {T = T} (plain_text (entries_in_turn es' fates')) mid keep' (Ok x) → AreKept object told c (entries_in_turn es fates) ps repo repo' work work' keep keep' fates
   all_kept T keep' x index = record { outcomes = are.outcomes; same = are.same; each = are.each; mid = mid; checked = are.checked; index = index_so T keep' (Ok x) index }
 
   -- it wasn't
-  pub index_fails : (T : Type 0) (keep' : KeepSeen) (f : SendFault) → KeepsIndex {T = T} (plain_text (entries_in_turn es' fates')) mid keep' (Err f) → KeepsAll object told es ps repo repo' files files' keep keep' (Err f)
+  pub index_fails : (T : Type 0) (keep' : KeepSeen) (f : SendFault) → KeepsIndex {T = T} (plain_text (entries_in_turn es' fates')) mid keep' (Err f) → KeepsAll object told c es ps repo repo' work work' keep keep' (Err f)
   index_fails T keep' send.Failed index = inr (record { outcomes = are.outcomes; each = are.each; mid = mid; checked = are.checked; failed = index })
   index_fails T keep' send.NoMemory index =
-      left_behind_all object told ps repo repo' repo' files files' files' keep keep' keep' fates (subst (λ (k : KeepSeen). ArePathsChecked object told ps repo repo' files files' keep k fates) (sym index) are)
+      left_behind_all object told c ps repo repo' repo' work work' work' keep keep' keep' fates (subst (λ (k : KeepSeen). ArePathsChecked object told c ps repo repo' work work' keep k fates) (sym index) are)
+
+-- no line, and so no starter to give back
+none_given : (n : ℕ) (spawner : SpawnerSeen) → GivesBack (replicate n None) spawner spawner
+none_given zero spawner = refl
+none_given (suc n) spawner = (spawner, refl, none_given n spawner)
+
+none_out : (n : ℕ) → lines_out (replicate n None) ≡ 0
+none_out zero = refl
+none_out (suc n) = let rest : lines_out (replicate n None) ≡ 0 = none_out n in omega (arith, rest)
+
+as_many : (n : ℕ) → length (replicate {A = Option CleanLineView} n None) ≡ n
+as_many zero = refl
+as_many (suc n) = ap suc (as_many n)
+
+-- no driver has a line
+pub no_lines_out : (lines : List (Option CleanLineView)) (n : ℕ) → lines ≡ replicate n None → lines_out lines ≡ 0
+no_lines_out lines n is = ap lines_out is ∙ none_out n
+
+pub many_lines : (lines : List (Option CleanLineView)) (ds ds' : List Driver) → lines ≡ replicate (length ds') None → ds' ≡ ds → length lines ≡ length ds
+many_lines lines ds ds' is same = ap (λ (l : List (Option CleanLineView)). length l) is ∙ as_many (length ds') ∙ ap (λ (l : List Driver). length l) same
+
+-- there was no memory for the lines
+pub leaves_none : (object told : List ℕ → Told) (c : Cleaning) (es : List Entry) (ps : List CheckinPath) (repo : RepoSeen) (files : FilesSeen) (spawner : SpawnerSeen) (runs : ℕ) (keep : KeepSeen)
+    → KeepsAndLeaves object told c es ps repo repo files files spawner spawner runs runs keep keep (Err send.NoMemory)
+leaves_none object told c es ps repo files spawner runs keep = record {
+  last = first_work c.drivers files spawner runs;
+  keeps = left_before object told c ps repo (first_work c.drivers files spawner runs) keep;
+  left = record { files_same = refl; back = none_given (length c.drivers) spawner; faults = refl };
+}
+
+-- the starters were given back once all were kept
+pub keeps_leaves : (object told : List ℕ → Told) (c : Cleaning) (es : List Entry) (ps : List CheckinPath) (repo repo' : RepoSeen) (files files' : FilesSeen) (spawner mid spawner' : SpawnerSeen) (runs runs' : ℕ) (keep keep' : KeepSeen)
+    (lines lines' : List (Option CleanLineView)) (r : Result (Vec Fate) SendFault) → lines ≡ replicate (length c.drivers) None
+    → KeepsAll object told c es ps repo repo' (work_seen files (drivers_seen lines spawner runs)) (work_seen files' (drivers_seen lines' mid runs')) keep keep' r → GivesBack lines' mid spawner'
+    → KeepsAndLeaves object told c es ps repo repo' files files' spawner spawner' runs runs' keep keep' r
+keeps_leaves object told c es ps repo repo' files files' spawner mid spawner' runs runs' keep keep' lines lines' r is keeps back = record {
+  last = work_seen files' (drivers_seen lines' mid runs');
+  keeps = subst (λ (l : List (Option CleanLineView)). KeepsAll object told c es ps repo repo' (work_seen files (drivers_seen l spawner runs)) (work_seen files' (drivers_seen lines' mid runs')) keep keep' r) is keeps;
+  left = record { files_same = refl; back = back; faults = refl };
+}

@@ -8,7 +8,6 @@ use Rattle.git_index.specs.declared.entry.Mode.TheVariants as mode
 use Rattle.attr_line.specs.declared.state.AttrState.{AttrState}
 use Rattle.attr_line.specs.declared.state.AttrState.TheVariants as state
 use Rattle.attr_stack.specs.declared.files.AttrFiles.{AttrFiles}
-use Rattle.git_config.specs.declared.setting.Setting.{Setting}
 use Rattle.settings_view.specs.declared.view.Driver.{Driver}
 use Rattle.settings_view.specs.declared.view.Settings.{Settings}
 use Rattle.tree_encoding.specs.declared.encoding.UnknownEncoding.{UnknownEncoding}
@@ -86,31 +85,31 @@ kept_is_left_out files settings e = elim (e.stage == 0) as (λ t. is_kept_start 
 ]
 
 -- what is done with an entry's path that is left out, and with any other
-pub left_out_way : (files : AttrFiles) (config : List Setting) (settings : Settings) (e : Entry) → is_left_out e ≡ true → way_of files config settings e ≡ Kept
-left_out_way files config settings e is = by (is_kept files settings e) (kept_is_left_out files settings e ∙ is)
+pub left_out_way : (files : AttrFiles) (drivers : List Driver) (settings : Settings) (e : Entry) → is_left_out e ≡ true → way_of files drivers settings e ≡ Kept
+left_out_way files drivers settings e is = by (is_kept files settings e) (kept_is_left_out files settings e ∙ is)
   where
-    by : (b : Bool) → b ≡ true → (if b then Kept else way_of_mode e.mode files config settings e) ≡ Kept
+    by : (b : Bool) → b ≡ true → (if b then Kept else way_of_mode e.mode files drivers settings e) ≡ Kept
     by true is = refl
     by false is = absurd cc
 
-pub open_way : (files : AttrFiles) (config : List Setting) (settings : Settings) (e : Entry) → is_left_out e ≡ false → way_of files config settings e ≡ way_of_mode e.mode files config settings e
-open_way files config settings e is = by (is_kept files settings e) (kept_is_left_out files settings e ∙ is)
+pub open_way : (files : AttrFiles) (drivers : List Driver) (settings : Settings) (e : Entry) → is_left_out e ≡ false → way_of files drivers settings e ≡ way_of_mode e.mode files drivers settings e
+open_way files drivers settings e is = by (is_kept files settings e) (kept_is_left_out files settings e ∙ is)
   where
-    by : (b : Bool) → b ≡ false → (if b then Kept else way_of_mode e.mode files config settings e) ≡ way_of_mode e.mode files config settings e
+    by : (b : Bool) → b ≡ false → (if b then Kept else way_of_mode e.mode files drivers settings e) ≡ way_of_mode e.mode files drivers settings e
     by true is = absurd cc
     by false is = refl
 
 -- the same by a test of the entry and its mode
-pub open_as : (files : AttrFiles) (config : List Setting) (settings : Settings) (e : Entry) (m : Mode) (left : Bool) → left ≡ is_left_out e → left ≡ false → e.mode ≡ m → way_of_mode m files config settings e ≡ way_of files config settings e
-open_as files config settings e m left is stays of_m = sym (open_way files config settings e (sym is ∙ stays) ∙ ap (λ (n : Mode). way_of_mode n files config settings e) of_m)
+pub open_as : (files : AttrFiles) (drivers : List Driver) (settings : Settings) (e : Entry) (m : Mode) (left : Bool) → left ≡ is_left_out e → left ≡ false → e.mode ≡ m → way_of_mode m files drivers settings e ≡ way_of files drivers settings e
+open_as files drivers settings e m left is stays of_m = sym (open_way files drivers settings e (sym is ∙ stays) ∙ ap (λ (n : Mode). way_of_mode n files drivers settings e) of_m)
 
 -- a file whose states were looked up
-file_open : (files : AttrFiles) (config : List Setting) (settings : Settings) (e : Entry) (path : List ℕ) (left : Bool) → path ≡ e.path → left ≡ is_left_out e → left ≡ false → (e.mode ≡ mode.Plain) ⊎ (e.mode ≡ mode.Executable)
-    → way_by_states config settings (map (state_of files path) asked_names) ≡ way_of files config settings e
-file_open files config settings e path left same is stays (inl plain) = ap (λ (q : List ℕ). way_by_states config settings (map (state_of files q) asked_names)) same ∙ open_as files config settings e mode.Plain left is stays plain
-file_open files config settings e path left same is stays (inr executable) = ap (λ (q : List ℕ). way_by_states config settings (map (state_of files q) asked_names)) same ∙ open_as files config settings e mode.Executable left is stays executable
+file_open : (files : AttrFiles) (drivers : List Driver) (settings : Settings) (e : Entry) (path : List ℕ) (left : Bool) → path ≡ e.path → left ≡ is_left_out e → left ≡ false → (e.mode ≡ mode.Plain) ⊎ (e.mode ≡ mode.Executable)
+    → way_by_states drivers settings (map (state_of files path) asked_names) ≡ way_of files drivers settings e
+file_open files drivers settings e path left same is stays (inl plain) = ap (λ (q : List ℕ). way_by_states drivers settings (map (state_of files q) asked_names)) same ∙ open_as files drivers settings e mode.Plain left is stays plain
+file_open files drivers settings e path left same is stays (inr executable) = ap (λ (q : List ℕ). way_by_states drivers settings (map (state_of files q) asked_names)) same ∙ open_as files drivers settings e mode.Executable left is stays executable
 
-pub file_opens : (E : Type 0) (files : AttrFiles) (config : List Setting) (settings : Settings) (e : Entry) (path : List ℕ) (left : Bool) (r : Result Way E) → path ≡ e.path → left ≡ is_left_out e → left ≡ false
-    → (e.mode ≡ mode.Plain) ⊎ (e.mode ≡ mode.Executable) → IfOk r (λ way. way ≡ way_by_states config settings (map (state_of files path) asked_names)) → IfOk r (λ way. way ≡ way_of files config settings e)
-file_opens E files config settings e path left (Ok way) same is stays file by = by ∙ file_open files config settings e path left same is stays file
-file_opens E files config settings e path left (Err error) same is stays file by = tt
+pub file_opens : (E : Type 0) (files : AttrFiles) (drivers : List Driver) (settings : Settings) (e : Entry) (path : List ℕ) (left : Bool) (r : Result Way E) → path ≡ e.path → left ≡ is_left_out e → left ≡ false
+    → (e.mode ≡ mode.Plain) ⊎ (e.mode ≡ mode.Executable) → IfOk r (λ way. way ≡ way_by_states drivers settings (map (state_of files path) asked_names)) → IfOk r (λ way. way ≡ way_of files drivers settings e)
+file_opens E files drivers settings e path left (Ok way) same is stays file by = by ∙ file_open files drivers settings e path left same is stays file
+file_opens E files drivers settings e path left (Err error) same is stays file by = tt

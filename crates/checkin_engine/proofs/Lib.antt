@@ -3,6 +3,8 @@ mod Standing
 mod ByPath
 mod Names
 mod Checked
+mod Drivers
+mod Found
 mod Looked
 mod Kept
 mod Texts

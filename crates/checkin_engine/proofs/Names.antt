@@ -1,5 +1,5 @@
 -- A SHA-1 has 20 bytes.
-use Rattle.std.proofs.Common.{◌≡◌, ℕ, List, [], ◌∷◌, length, refl, sym, ap, ◌∙◌}
+use Rattle.std.proofs.Common.{◌≡◌, ℕ, List, [], ◌∷◌, length, Option, refl, sym, ap, ◌∙◌}
 use Rattle.sha1.specs.Sha1.{sha1, digest_bytes}
 use Rattle.edge_kit.specs.Told.{Told}
 use Rattle.checkin_engine.specs.declared.path.Way.{Way}
@@ -7,6 +7,7 @@ use Rattle.checkin_engine.specs.declared.path.Way.TheVariants as way
 use Rattle.checkin_engine.specs.declared.path.CheckinPath.{CheckinPath}
 use Rattle.checkin_engine.specs.declared.fate.Fate.{Fate}
 use Rattle.checkin_engine.specs.declared.fate.Fate.TheVariants.{Same, Changed, Gone, Kept, Failed}
+use Rattle.checkin_engine.specs.Cleaning.{Asked}
 use Rattle.checkin_engine.specs.Fates.{HasFate, name_of}
 use Rattle.checkin_engine.specs.Outcomes.{Outcome, AreOutcomes, fates_of}
 use Rattle.checkin_engine.specs.Keeping.{HasName, HaveNames}
@@ -15,16 +16,15 @@ sha1_length : (m : List ℕ) → length (sha1 m) ≡ 20
 unfolding digest_bytes sha1
 sha1_length m = refl
 
-fate_has_name : (object file : Told) (name : List ℕ) (w : Way) (content : List ℕ) (fate : Fate) → HasFate object file name w content fate → HasName fate
-fate_has_name object file name w content Same has = tt
-fate_has_name object file name w content Gone has = tt
-fate_has_name object file name w content Kept has = tt
-fate_has_name object file name w content (Failed cause) has = tt
-fate_has_name object file name way.Kept content (Changed new) has = absurd cc
-fate_has_name object file name way.UnknownEncoding content (Changed new) has = absurd cc
-fate_has_name object file name way.NoProcess content (Changed new) has = absurd cc
-fate_has_name object file name way.Driver content (Changed new) has = absurd has
-fate_has_name object file name (way.Stored storing) content (Changed new) has = let is : name_of content ≡ new = has.1 in sym (ap (length {A = ℕ}) is) ∙ sha1_length _
+fate_has_name : (object file : Told) (name : List ℕ) (w : Way) (asked : Option Asked) (content : List ℕ) (fate : Fate) → HasFate object file name w asked content fate → HasName fate
+fate_has_name object file name w asked content Same has = tt
+fate_has_name object file name w asked content Gone has = tt
+fate_has_name object file name w asked content Kept has = tt
+fate_has_name object file name w asked content (Failed cause) has = tt
+fate_has_name object file name way.Kept asked content (Changed new) has = absurd cc
+fate_has_name object file name way.UnknownEncoding asked content (Changed new) has = absurd cc
+fate_has_name object file name way.NoProcess asked content (Changed new) has = absurd cc
+fate_has_name object file name (way.Stored storing) asked content (Changed new) has = let is : name_of content ≡ new = has.1 in sym (ap (length {A = ℕ}) is) ∙ sha1_length _
 
 -- the fates of outcomes have names
 pub fates_have_names : (object files : List ℕ → Told) (ps : List CheckinPath) (os : List Outcome) → AreOutcomes object files ps os → HaveNames (fates_of os)
@@ -32,4 +32,4 @@ fates_have_names object files [] [] are = tt
 fates_have_names object files (p ∷ ps) [] are = tt
 fates_have_names object files [] (o ∷ os) are = absurd are
 fates_have_names object files (p ∷ ps) (o ∷ os) are =
-    (fate_has_name (object p.object) (files p.path) p.object p.way o.content o.fate are.0.fate, fates_have_names object files ps os are.1)
+    (fate_has_name (object p.object) (files p.path) p.object p.way o.asked o.content o.fate are.0.fate, fates_have_names object files ps os are.1)

@@ -1,5 +1,5 @@
 -- What the code holds and meets while it asks for what is done with each path.
-use Rattle.std.specs.Prelude.{◌≡◌, ℕ, Bool, true, false, ◌||◌, ◌==◌, not, List, [], ◌∷◌, codes}
+use Rattle.std.specs.Prelude.{◌≡◌, ℕ, Bool, true, false, ◌||◌, ◌==◌, not, List, [], ◌∷◌, codes, None}
 use Rattle.std.specs.Str.{is_utf8}
 use Rattle.git_index.specs.declared.entry.Entry.{Entry}
 use Rattle.git_index.specs.declared.entry.Mode.{Mode}
@@ -8,13 +8,13 @@ use Rattle.attr_line.specs.declared.state.AttrState.{AttrState}
 use Rattle.eol_convert.specs.Action.{action_of}
 use Rattle.tree_encoding.specs.Named.{encoding_of}
 use Rattle.convert_plan.specs.Conversion.{is_set}
-use Rattle.git_config.specs.declared.setting.Setting.{Setting}
+use Rattle.settings_view.specs.declared.view.Driver.{Driver}
 use Rattle.settings_view.specs.declared.view.Settings.{Settings}
+use Rattle.checkout_plan.specs.Paths.{filter_start}
 use Rattle.checkin_engine.specs.declared.path.Way.{Way}
 use Rattle.checkin_engine.specs.declared.path.Way.TheVariants.{Kept}
 use Rattle.checkin_engine.specs.declared.paths.Asking.{Asking}
-use Rattle.checkin_engine.specs.Filters.{filter_of}
-use Rattle.checkin_engine.specs.Paths.{way_by}
+use Rattle.checkin_engine.specs.Paths.{encoded_way}
 
 abbrev pub is_gitlink : Mode → Bool
 is_gitlink mode.Gitlink = true
@@ -32,14 +32,15 @@ asked_names =
     codes "text" ∷ codes "crlf" ∷ codes "eol" ∷ codes "ident" ∷ codes "working-tree-encoding" ∷ codes "filter" ∷ []
 
 -- what is done with a file by the states of these
-abbrev pub way_by_states : List Setting → Settings → List AttrState → Way
-way_by_states config settings (text ∷ crlf ∷ eol ∷ ident ∷ encoding ∷ filter ∷ []) =
-    way_by (encoding_of encoding) (filter_of config settings.drivers filter) (λ encoding. record {
+abbrev pub way_by_states : List Driver → Settings → List AttrState → Way
+way_by_states drivers settings (text ∷ crlf ∷ eol ∷ ident ∷ encoding ∷ filter ∷ []) =
+    encoded_way (encoding_of encoding) (filter_start drivers filter) (λ encoding. record {
+      driver = None;
       ident = is_set ident;
       action = action_of text crlf eol settings.autocrlf settings.eol;
       encoding = encoding;
     })
-way_by_states config settings states = Kept
+way_by_states drivers settings states = Kept
 
 -- it has the names of these attributes
 abbrev pub IsReady : Asking → Type 0

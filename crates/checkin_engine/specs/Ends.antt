@@ -1,10 +1,12 @@
 -- How a check-in ends, and what holds at each end.
-use Rattle.std.specs.Prelude.{◌≡◌, ◌⊎◌, ℕ, true, List, codes, ◌∷◌, ◌++◌, [], if◌then◌else◌}
+use Rattle.std.specs.Prelude.{◌≡◌, ◌⊎◌, ℕ, List, if◌then◌else◌}
 use Rattle.std.specs.List.{list_any}
-use Rattle.byte_path.specs.Characters.{line_feed}
 use Rattle.edge_kit.specs.Files.{grown}
 use Rattle.edge_kit.specs.Seen.{RepoSeen, SinkSeen, IsWriteCut}
+use Rattle.edge_kit.specs.Starters.{Starts, SpawnerSeen}
 use Rattle.edge_kit.specs.Told.{Told, RepoTold}
+use Rattle.one_shot.specs.Onces.{RunsTold}
+use Rattle.settings_view.specs.declared.view.Driver.{Driver}
 use Rattle.git_index.specs.declared.entry.Entry.{Entry}
 use Rattle.checkout_plan.specs.Making.{blobs_of}
 use Rattle.checkout_sources.specs.declared.stop.Refusal.{Refusal}
@@ -14,8 +16,10 @@ use Rattle.checkin_engine.specs.declared.path.CheckinPath.{CheckinPath}
 use Rattle.checkin_engine.specs.declared.fate.Fate.{Fate}
 use Rattle.checkin_engine.specs.declared.status.CheckinStatus.{CheckinStatus}
 use Rattle.checkin_engine.specs.declared.status.CheckinStatus.TheVariants as status
-use Rattle.checkin_engine.specs.Outside.{FilesSeen, KeepSeen}
-use Rattle.checkin_engine.specs.Paths.{HasPaths, is_driven}
+use Rattle.checkin_engine.specs.Outside.{FilesSeen, WorkSeen, KeepSeen}
+use Rattle.checkin_engine.specs.Paths.{HasPaths}
+use Rattle.checkin_engine.specs.Cleaning.{Cleaning, cleaning}
+use Rattle.checkin_engine.specs.Keeping.{IsLeft, first_work}
 use Rattle.checkin_engine.specs.Indexes.{new_entries}
 use Rattle.checkin_engine.specs.Outcomes.{AreKept, AreObjectsCut, IsIndexCut, AreBrokenOff, with_blobs}
 use Rattle.checkin_engine.specs.Report.{report_of, is_failed}
@@ -24,11 +28,35 @@ use Rattle.checkin_engine.specs.Report.{report_of, is_failed}
 pub record Seen : Type 0 where
   pub repo : RepoSeen
   pub files : FilesSeen
+  pub spawner : SpawnerSeen
+  pub runs : ℕ
   pub keep : KeepSeen
   pub sink : SinkSeen
 
-abbrev pub seen : RepoSeen → FilesSeen → KeepSeen → SinkSeen → Seen
-seen repo files keep sink = record { repo = repo; files = files; keep = keep; sink = sink }
+abbrev pub seen : RepoSeen → FilesSeen → SpawnerSeen → ℕ → KeepSeen → SinkSeen → Seen
+seen repo files spawner runs keep sink =
+    record { repo = repo; files = files; spawner = spawner; runs = runs; keep = keep; sink = sink }
+
+-- what is told of the repository, of the files, of the starts of the drivers and of single runs
+pub record AllTold : Type 0 where
+  pub repo : RepoTold
+  pub files : List ℕ → Told
+  pub starts : List ℕ → Starts
+  pub runs : RunsTold
+
+abbrev pub all_told : RepoTold → (List ℕ → Told) → (List ℕ → Starts) → RunsTold → AllTold
+all_told repo files starts runs = record { repo = repo; files = files; starts = starts; runs = runs }
+
+abbrev pub cleaning_told : AllTold → List Driver → Cleaning
+cleaning_told told drivers = cleaning drivers told.starts told.runs
+
+-- before the first path
+abbrev pub work_before : List Driver → Seen → WorkSeen
+work_before drivers old = first_work drivers old.files old.spawner old.runs
+
+-- the starters of the drivers were given back
+abbrev pub IsLeftBy : WorkSeen → Seen → Type 0
+IsLeftBy last new = IsLeft last new.files new.spawner new.runs
 
 -- the sink with this text after what was written before
 abbrev pub with_text : List ℕ → SinkSeen → SinkSeen
@@ -42,44 +70,36 @@ status_of fates = if list_any is_failed fates then status.DoneWithFailures else 
 abbrev pub after_reading : List Entry → RepoSeen → RepoSeen
 after_reading es repo = with_blobs (blobs_of es) repo
 
--- The paths of the index came to these fates. The objects of the changed ones were kept, and then the index. The blobs of
--- the attribute files and then those of the paths were given back.
-pub record IsCheckedIn (told : RepoTold) (files : List ℕ → Told) (old new : Seen) : Type 0 where
+-- The paths of the index came to these fates. The objects of the changed ones were kept, and then the index. The blobs
+-- of the attribute files and then those of the paths were given back, and the starters of the drivers that were asked.
+pub record IsCheckedIn (told : AllTold) (old new : Seen) : Type 0 where
   pub entries : List Entry
   pub paths : List CheckinPath
-  pub has : HasPaths told entries paths
+  pub drivers : List Driver
+  pub has : HasPaths told.repo drivers entries paths
   pub fates : List Fate
-  pub kept : AreKept told.object files (new_entries paths fates entries) paths (after_reading entries old.repo) new.repo
-      old.files new.files old.keep new.keep fates
+  pub last : WorkSeen
+  pub kept : AreKept told.repo.object told.files (cleaning_told told drivers) (new_entries paths fates entries) paths
+      (after_reading entries old.repo) new.repo (work_before drivers old) last old.keep new.keep fates
+  pub left : IsLeftBy last new
 
 -- 0, or 1 if some path failed: the report was written after that
-pub record IsDone (told : RepoTold) (files : List ℕ → Told) (old new : Seen) (s : CheckinStatus) : Type 0 where
-  pub checked : IsCheckedIn told files old new
+pub record IsDone (told : AllTold) (old new : Seen) (s : CheckinStatus) : Type 0 where
+  pub checked : IsCheckedIn told old new
   pub report : new.sink ≡ with_text (report_of checked.paths checked.fates) old.sink
   pub status : s ≡ status_of checked.fates
 
--- neither the files were looked at nor anything was kept
+-- neither were the files looked at, nor a driver asked, nor anything kept
 pub record IsUntouched (old new : Seen) : Type 0 where
   pub files : new.files ≡ old.files
+  pub spawner : new.spawner ≡ old.spawner
+  pub runs : new.runs ≡ old.runs
   pub keep : new.keep ≡ old.keep
-
--- the line of a repository in which a driver with a way has a path: drivers aren't run
-abbrev pub driven_line : List ℕ
-driven_line = codes "refused drivers unbuilt" ++ line_feed ∷ []
-
--- a driver with a way has a path of the index; the attribute files were read for that
-pub record IsDriven (told : RepoTold) (old new : RepoSeen) : Type 0 where
-  pub entries : List Entry
-  pub paths : List CheckinPath
-  pub has : HasPaths told entries paths
-  pub driven : list_any is_driven paths ≡ true
-  pub seen : new ≡ after_reading entries old
 
 -- the repository is refused with this line before a file is looked at
 abbrev pub IsRefusedWith : RepoTold → List ℕ → RepoSeen → RepoSeen → Type 0
 IsRefusedWith told line old new =
-    ((refusal : Refusal) × IsRefusedFor told refusal old new × (line ≡ refusal_line refusal))
-    ⊎ (IsDriven told old new × (line ≡ driven_line))
+    (refusal : Refusal) × IsRefusedFor told refusal old new × (line ≡ refusal_line refusal)
 
 pub record HasRefusal (told : RepoTold) (line : List ℕ) (old new : Seen) : Type 0 where
   pub refused : IsRefusedWith told line old.repo new.repo
@@ -98,26 +118,29 @@ pub record IsLineCut (told : RepoTold) (old new : Seen) : Type 0 where
   pub cut : IsWriteCut line old.sink new.sink
 
 -- the keeper failed, at an object or at the index
-pub record IsKeepCut (told : RepoTold) (files : List ℕ → Told) (old new : Seen) : Type 0 where
+pub record IsKeepCut (told : AllTold) (old new : Seen) : Type 0 where
   pub entries : List Entry
   pub paths : List CheckinPath
-  pub has : HasPaths told entries paths
+  pub drivers : List Driver
+  pub has : HasPaths told.repo drivers entries paths
+  pub last : WorkSeen
   pub cut :
-      AreObjectsCut told.object files paths (after_reading entries old.repo) new.repo old.files new.files
-      old.keep new.keep
-      ⊎ IsIndexCut told.object files paths (after_reading entries old.repo) new.repo old.files new.files
-      old.keep new.keep
+      AreObjectsCut told.repo.object told.files (cleaning_told told drivers) paths
+      (after_reading entries old.repo) new.repo (work_before drivers old) last old.keep new.keep
+      ⊎ IsIndexCut told.repo.object told.files (cleaning_told told drivers) paths
+      (after_reading entries old.repo) new.repo (work_before drivers old) last old.keep new.keep
+  pub left : IsLeftBy last new
   pub silent : new.sink ≡ old.sink
 
 -- the sink failed in the report, once the objects and the index were kept
-pub record IsReportCut (told : RepoTold) (files : List ℕ → Told) (old new : Seen) : Type 0 where
-  pub checked : IsCheckedIn told files old new
+pub record IsReportCut (told : AllTold) (old new : Seen) : Type 0 where
+  pub checked : IsCheckedIn told old new
   pub cut : IsWriteCut (report_of checked.paths checked.fates) old.sink new.sink
 
 -- 4: the keeper or the sink failed, at one of these
-abbrev pub IsCutOff : RepoTold → (List ℕ → Told) → Seen → Seen → Type 0
-IsCutOff told files old new =
-    IsLineCut told old new ⊎ IsKeepCut told files old new ⊎ IsReportCut told files old new
+abbrev pub IsCutOff : AllTold → Seen → Seen → Type 0
+IsCutOff told old new =
+    IsLineCut told.repo old new ⊎ IsKeepCut told old new ⊎ IsReportCut told old new
 
 -- Memory ran out before a file was looked at. Blobs of the first attribute files may have been made and given back.
 pub record IsStopped (told : RepoTold) (old new : Seen) : Type 0 where
@@ -126,23 +149,26 @@ pub record IsStopped (told : RepoTold) (old new : Seen) : Type 0 where
   pub silent : new.sink ≡ old.sink
 
 -- memory ran out before the index was kept, once the objects of the first paths were kept
-pub record IsBrokenOff (told : RepoTold) (files : List ℕ → Told) (old new : Seen) : Type 0 where
+pub record IsBrokenOff (told : AllTold) (old new : Seen) : Type 0 where
   pub entries : List Entry
   pub paths : List CheckinPath
-  pub has : HasPaths told entries paths
-  pub broken : AreBrokenOff told.object files paths (after_reading entries old.repo) new.repo old.files new.files
-      old.keep new.keep
+  pub drivers : List Driver
+  pub has : HasPaths told.repo drivers entries paths
+  pub last : WorkSeen
+  pub broken : AreBrokenOff told.repo.object told.files (cleaning_told told drivers) paths
+      (after_reading entries old.repo) new.repo (work_before drivers old) last old.keep new.keep
+  pub left : IsLeftBy last new
   pub silent : new.sink ≡ old.sink
 
 -- memory ran out once the objects and the index were kept, and nothing is reported
-pub record IsUnreported (told : RepoTold) (files : List ℕ → Told) (old new : Seen) : Type 0 where
-  pub checked : IsCheckedIn told files old new
+pub record IsUnreported (told : AllTold) (old new : Seen) : Type 0 where
+  pub checked : IsCheckedIn told old new
   pub silent : new.sink ≡ old.sink
 
 -- 5: memory ran out, at one of these
-abbrev pub IsOutOfMemory : RepoTold → (List ℕ → Told) → Seen → Seen → Type 0
-IsOutOfMemory told files old new =
-    IsStopped told old new ⊎ IsBrokenOff told files old new ⊎ IsUnreported told files old new
+abbrev pub IsOutOfMemory : AllTold → Seen → Seen → Type 0
+IsOutOfMemory told old new =
+    IsStopped told.repo old new ⊎ IsBrokenOff told old new ⊎ IsUnreported told old new
 
 -- 6: a read of the repository failed before a file was looked at, and nothing else
 pub record IsReadFault (told : RepoTold) (old new : Seen) : Type 0 where
@@ -151,14 +177,14 @@ pub record IsReadFault (told : RepoTold) (old new : Seen) : Type 0 where
   pub silent : new.sink ≡ old.sink
 
 -- what holds at each end
-abbrev pub EndsCheckin : RepoTold → (List ℕ → Told) → Seen → Seen → CheckinStatus → Type 0
-EndsCheckin told files old new status.Done = IsDone told files old new status.Done
-EndsCheckin told files old new status.DoneWithFailures = IsDone told files old new status.DoneWithFailures
-EndsCheckin told files old new status.Usage = ⊥
-EndsCheckin told files old new status.Refused = IsRefused told old new
-EndsCheckin told files old new status.OutputNotWritten = IsCutOff told files old new
-EndsCheckin told files old new status.OutOfMemory = IsOutOfMemory told files old new
-EndsCheckin told files old new status.ReadFault = IsReadFault told old new
+abbrev pub EndsCheckin : AllTold → Seen → Seen → CheckinStatus → Type 0
+EndsCheckin told old new status.Done = IsDone told old new status.Done
+EndsCheckin told old new status.DoneWithFailures = IsDone told old new status.DoneWithFailures
+EndsCheckin told old new status.Usage = ⊥
+EndsCheckin told old new status.Refused = IsRefused told.repo old new
+EndsCheckin told old new status.OutputNotWritten = IsCutOff told old new
+EndsCheckin told old new status.OutOfMemory = IsOutOfMemory told old new
+EndsCheckin told old new status.ReadFault = IsReadFault told.repo old new
 
 -- the number of a status, which the program ends with
 abbrev pub number_of : CheckinStatus → ℕ

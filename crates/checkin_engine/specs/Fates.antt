@@ -1,5 +1,6 @@
 -- What becomes of each path, by what is told of its file and of its object.
-use Rattle.std.specs.Prelude.{◌≡◌, ◌≢◌, ◌⊎◌, ◌≤◌, ℕ, Bool, true, false, List, length, codes, Some, None, Ok, Err}
+use Rattle.std.specs.Prelude.{◌≡◌, ◌≢◌, ◌⊎◌, ◌≤◌, ℕ, Bool, true, false, List, length, codes, Option, Some, None}
+use Rattle.std.specs.Prelude.{Ok, Err}
 use Rattle.edge_kit.specs.Told.{Told, TellsBytes, TellsNone, TellsLong}
 use Rattle.sha1.specs.Sha1.{sha1}
 use Rattle.object_dir.specs.Object.{Gives, IsObject}
@@ -10,13 +11,17 @@ use Rattle.eol_convert.specs.declared.action.Action.{Action}
 use Rattle.eol_convert.specs.declared.action.Action.TheVariants.{Binary, TextLf, TextCrlf, AutoLf, AutoCrlf}
 use Rattle.back_convert.specs.Ends.{has_crlf}
 use Rattle.back_convert.specs.Laws.{back_encoded_if, stored}
+use Rattle.clean_line.specs.Causes.{cause_word as clean_word}
+use Rattle.checkin_engine.specs.declared.path.PathDriver.{PathDriver}
 use Rattle.checkin_engine.specs.declared.path.Storing.{Storing}
 use Rattle.checkin_engine.specs.declared.path.Way.{Way}
 use Rattle.checkin_engine.specs.declared.path.Way.TheVariants as way
+use Rattle.checkin_engine.specs.Cleaning.{Asked, IsCleaned}
 use Rattle.checkin_engine.specs.declared.fate.Fate.{Fate}
 use Rattle.checkin_engine.specs.declared.fate.Fate.TheVariants.{Same, Changed, Gone, Kept, Failed}
 use Rattle.checkin_engine.specs.declared.fate.CheckinCause.{CheckinCause}
-use Rattle.checkin_engine.specs.declared.fate.CheckinCause.TheVariants.{Encoding, NoProcess, Read, TooLarge, EncodingForm}
+use Rattle.checkin_engine.specs.declared.fate.CheckinCause.TheVariants.{Encoding, NoProcess, Read, TooLarge, Filter}
+use Rattle.checkin_engine.specs.declared.fate.CheckinCause.TheVariants.{EncodingForm}
 
 -- the most bytes of a file
 abbrev pub max_file : ℕ
@@ -62,10 +67,17 @@ pub record HasFile (object file : Told) (name : List ℕ) (action : Action) : Ty
   pub old : Bool
   pub has_old : HasOld action object name old
 
--- the file's bytes, out of their encoding, with the line ends of the repository and `$Id$`, are this content
-pub record IsBlobOf (object file : Told) (name : List ℕ) (storing : Storing) (content : List ℕ) : Type 0 where
+-- the file's bytes, as the driver cleaned them if there is one
+pub record IsClean (object file : Told) (name : List ℕ) (storing : Storing) (asked : Option Asked) : Type 0 where
   pub has : HasFile object file name storing.action
-  pub is : stored storing.ident storing.action storing.encoding has.old has.bytes ≡ Some content
+  pub cleaned : List ℕ
+  pub is_cleaned : IsCleaned storing.driver asked has.bytes (Ok cleaned)
+
+-- the same, out of their encoding, with the line ends of the repository and `$Id$`, are this content
+pub record IsBlobOf (object file : Told) (name : List ℕ) (storing : Storing) (asked : Option Asked) (content : List ℕ)
+    : Type 0 where
+  pub clean : IsClean object file name storing asked
+  pub is : stored storing.ident storing.action storing.encoding clean.has.old clean.cleaned ≡ Some content
 
 -- the name of the blob with a content
 abbrev pub name_of : List ℕ → List ℕ
@@ -75,30 +87,39 @@ name_of content = sha1 (spelled_blob content)
 abbrev pub IsThere : Told → Type 0
 IsThere file = (bytes : List ℕ) × TellsBytes file bytes
 
--- What becomes of a file that is stored, whose content is this if it has one. What lets it be unread is said with the
--- counts.
-abbrev pub HasStoredFate : Told → Told → List ℕ → Storing → List ℕ → Fate → Type 0
-HasStoredFate object file name storing content Same =
-    IsBlobOf object file name storing content × (name_of content ≡ name)
-HasStoredFate object file name storing content (Changed new) =
-    IsBlobOf object file name storing content × (name_of content ≡ new) × (new ≢ name)
-HasStoredFate object file name storing content Gone = TellsNone file
-HasStoredFate object file name storing content Kept = ⊥
-HasStoredFate object file name storing content (Failed Encoding) = ⊥
-HasStoredFate object file name storing content (Failed NoProcess) = ⊥
-HasStoredFate object file name storing content (Failed Read) = Unit {0}
-HasStoredFate object file name storing content (Failed TooLarge) =
-    TellsLong file max_file × ((old : Bool) × HasOld storing.action object name old)
-HasStoredFate object file name storing content (Failed EncodingForm) =
-    (has : HasFile object file name storing.action) × (back_encoded_if storing.encoding has.bytes ≡ None)
+-- What becomes of a file that is stored, for which its driver was asked so, and whose content is this if it has one.
+-- What lets it be unread is said with the counts.
+abbrev pub HasStoredFate : Told → Told → List ℕ → Storing → Option Asked → List ℕ → Fate → Type 0
+HasStoredFate object file name storing asked content Same =
+    IsBlobOf object file name storing asked content × (name_of content ≡ name)
+HasStoredFate object file name storing asked content (Changed new) =
+    IsBlobOf object file name storing asked content × (name_of content ≡ new) × (new ≢ name)
+HasStoredFate object file name storing asked content Gone = TellsNone file × (asked ≡ None)
+HasStoredFate object file name storing asked content Kept = ⊥
+HasStoredFate object file name storing asked content (Failed Encoding) = ⊥
+HasStoredFate object file name storing asked content (Failed NoProcess) = ⊥
+HasStoredFate object file name storing asked content (Failed Read) = asked ≡ None
+HasStoredFate object file name storing asked content (Failed TooLarge) =
+    TellsLong file max_file × ((old : Bool) × HasOld storing.action object name old) × (asked ≡ None)
+HasStoredFate object file name storing asked content (Failed (Filter why)) =
+    (has : HasFile object file name storing.action) × IsCleaned storing.driver asked has.bytes (Err why)
+HasStoredFate object file name storing asked content (Failed EncodingForm) =
+    (clean : IsClean object file name storing asked) × (back_encoded_if storing.encoding clean.cleaned ≡ None)
 
--- what becomes of a path; one that a driver has comes to none
-abbrev pub HasFate : Told → Told → List ℕ → Way → List ℕ → Fate → Type 0
-HasFate object file name way.Kept content fate = fate ≡ Kept
-HasFate object file name way.UnknownEncoding content fate = fate ≡ Failed Encoding
-HasFate object file name way.NoProcess content fate = fate ≡ Failed NoProcess
-HasFate object file name way.Driver content fate = ⊥
-HasFate object file name (way.Stored storing) content fate = HasStoredFate object file name storing content fate
+-- what becomes of a path, for which its driver was asked so
+abbrev pub HasFate : Told → Told → List ℕ → Way → Option Asked → List ℕ → Fate → Type 0
+HasFate object file name way.Kept asked content fate = (fate ≡ Kept) × (asked ≡ None)
+HasFate object file name way.UnknownEncoding asked content fate = (fate ≡ Failed Encoding) × (asked ≡ None)
+HasFate object file name way.NoProcess asked content fate = (fate ≡ Failed NoProcess) × (asked ≡ None)
+HasFate object file name (way.Stored storing) asked content fate =
+    HasStoredFate object file name storing asked content fate
+
+-- the driver that a path has
+abbrev pub driver_of : Way → Option PathDriver
+driver_of (way.Stored storing) = storing.driver
+driver_of way.Kept = None
+driver_of way.UnknownEncoding = None
+driver_of way.NoProcess = None
 
 -- the words of the causes
 abbrev pub cause_word : CheckinCause → List ℕ
@@ -106,4 +127,5 @@ cause_word Encoding = codes "encoding"
 cause_word NoProcess = codes "no-process"
 cause_word Read = codes "read"
 cause_word TooLarge = codes "too-large"
+cause_word (Filter why) = clean_word why
 cause_word EncodingForm = codes "encoding-form"

@@ -1,18 +1,22 @@
 -- What the keeping of objects and of the index promises.
-use Rattle.std.specs.Prelude.{◌≡◌, ◌⊎◌, ℕ, List, length, Result, Ok, Err}
+use Rattle.std.specs.Prelude.{◌≡◌, ◌⊎◌, ℕ, List, length, replicate, None, Result, Ok, Err}
 use Rattle.std.specs.List.{AllByRecursion}
 use Rattle.std.specs.Global.{Vec}
 use Rattle.edge_kit.specs.Seen.{RepoSeen}
+use Rattle.edge_kit.specs.Starters.{SpawnerSeen}
 use Rattle.edge_kit.specs.Told.{Told}
 use Rattle.edge_kit.specs.declared.faults.SendFault.{SendFault}
 use Rattle.edge_kit.specs.declared.faults.SendFault.TheVariants as send
 use Rattle.git_index.specs.declared.entry.Entry.{Entry}
+use Rattle.settings_view.specs.declared.view.Driver.{Driver}
+use Rattle.clean_drivers.specs.Drivers.{drivers_seen, GivesBack}
 use Rattle.checkin_engine.specs.declared.path.CheckinPath.{CheckinPath}
 use Rattle.checkin_engine.specs.declared.fate.Fate.{Fate}
 use Rattle.checkin_engine.specs.declared.fate.Fate.TheVariants.{Same, Changed, Gone, Kept, Failed}
-use Rattle.checkin_engine.specs.Outside.{FilesSeen, KeepSeen, IsKeepFailed, with_objects}
+use Rattle.checkin_engine.specs.Outside.{FilesSeen, WorkSeen, work_seen, KeepSeen, IsKeepFailed, with_objects}
 use Rattle.checkin_engine.specs.Outcomes.{Outcome, AreOutcomes, AreChecked, fates_of, object_of, object_by}
-use Rattle.checkin_engine.specs.Outcomes.{MakesBlob, AreKept, AreObjectsCut, IsIndexCut, AreBrokenOff}
+use Rattle.checkin_engine.specs.Outcomes.{MakesBlob, MayAsk, AreKept, AreObjectsCut, IsIndexCut, AreBrokenOff}
+use Rattle.checkin_engine.specs.Cleaning.{Cleaning}
 use Rattle.checkin_engine.specs.InTurn.{entries_in_turn}
 use Rattle.checkin_engine.specs.Looking.{IsPathLookedAt}
 
@@ -25,67 +29,87 @@ KeepsStored fate content keep keep' (Err send.NoMemory) =
     ((name : List ℕ) × (fate ≡ Changed name)) × (keep' ≡ keep)
 
 -- a path was looked at, and its object kept if it is another than its entry's
-pub record IsPathChecked (object told : List ℕ → Told) (p : CheckinPath) (repo repo' : RepoSeen)
-    (files files' : FilesSeen) (keep keep' : KeepSeen) (fate : Fate) : Type 0 where
+pub record IsPathChecked (object told : List ℕ → Told) (c : Cleaning) (p : CheckinPath) (repo repo' : RepoSeen)
+    (work work' : WorkSeen) (keep keep' : KeepSeen) (fate : Fate) : Type 0 where
   pub outcome : Outcome
   pub same : outcome.fate ≡ fate
-  pub looked : IsPathLookedAt object told p repo repo' files files' outcome
+  pub looked : IsPathLookedAt object told c p repo repo' work work' outcome
   pub object_kept : keep' ≡ with_objects (object_of outcome) keep
 
 -- the keeper failed at its object
-pub record IsPathCut (object told : List ℕ → Told) (p : CheckinPath) (repo repo' : RepoSeen)
-    (files files' : FilesSeen) (keep keep' : KeepSeen) : Type 0 where
+pub record IsPathCut (object told : List ℕ → Told) (c : Cleaning) (p : CheckinPath) (repo repo' : RepoSeen)
+    (work work' : WorkSeen) (keep keep' : KeepSeen) : Type 0 where
   pub outcome : Outcome
   pub name : List ℕ
   pub changed : outcome.fate ≡ Changed name
-  pub looked : IsPathLookedAt object told p repo repo' files files' outcome
+  pub looked : IsPathLookedAt object told c p repo repo' work work' outcome
   pub failed : IsKeepFailed keep keep'
 
 -- memory ran out at the path
-pub record IsPathLeft (p : CheckinPath) (repo repo' : RepoSeen) (files files' : FilesSeen) (keep keep' : KeepSeen)
-    : Type 0 where
+pub record IsPathLeft (told : List ℕ → Told) (c : Cleaning) (p : CheckinPath) (repo repo' : RepoSeen)
+    (work work' : WorkSeen) (keep keep' : KeepSeen) : Type 0 where
   pub blob : MakesBlob p.object repo repo'
-  pub files_same : files' ≡ files
+  pub files_same : work'.files ≡ work.files
+  pub vain : MayAsk told c p work.drivers work'.drivers
   pub keep_same : keep' ≡ keep
 
 -- how the look at a path ends
-abbrev pub ChecksPath : (List ℕ → Told) → (List ℕ → Told) → CheckinPath → RepoSeen → RepoSeen → FilesSeen → FilesSeen
-    → KeepSeen → KeepSeen → Result Fate SendFault → Type 0
-ChecksPath object told p repo repo' files files' keep keep' (Ok fate) =
-    IsPathChecked object told p repo repo' files files' keep keep' fate
-ChecksPath object told p repo repo' files files' keep keep' (Err send.Failed) =
-    IsPathCut object told p repo repo' files files' keep keep'
-ChecksPath object told p repo repo' files files' keep keep' (Err send.NoMemory) =
-    IsPathLeft p repo repo' files files' keep keep'
+abbrev pub ChecksPath : (List ℕ → Told) → (List ℕ → Told) → Cleaning → CheckinPath → RepoSeen → RepoSeen → WorkSeen
+    → WorkSeen → KeepSeen → KeepSeen → Result Fate SendFault → Type 0
+ChecksPath object told c p repo repo' work work' keep keep' (Ok fate) =
+    IsPathChecked object told c p repo repo' work work' keep keep' fate
+ChecksPath object told c p repo repo' work work' keep keep' (Err send.Failed) =
+    IsPathCut object told c p repo repo' work work' keep keep'
+ChecksPath object told c p repo repo' work work' keep keep' (Err send.NoMemory) =
+    IsPathLeft told c p repo repo' work work' keep keep'
 
 -- all paths were looked at, and came to these fates
-pub record ArePathsChecked (object told : List ℕ → Told) (ps : List CheckinPath) (repo repo' : RepoSeen)
-    (files files' : FilesSeen) (keep keep' : KeepSeen) (fates : List Fate) : Type 0 where
+pub record ArePathsChecked (object told : List ℕ → Told) (c : Cleaning) (ps : List CheckinPath) (repo repo' : RepoSeen)
+    (work work' : WorkSeen) (keep keep' : KeepSeen) (fates : List Fate) : Type 0 where
   pub outcomes : List Outcome
   pub same : fates_of outcomes ≡ fates
   pub each : AreOutcomes object told ps outcomes
-  pub checked : AreChecked ps outcomes repo repo' files files' keep keep'
+  pub checked : AreChecked c ps outcomes repo repo' work work' keep keep'
 
 -- how the look at all paths ends
-abbrev pub ChecksPaths : (List ℕ → Told) → (List ℕ → Told) → List CheckinPath → RepoSeen → RepoSeen → FilesSeen
-    → FilesSeen → KeepSeen → KeepSeen → Result (Vec Fate) SendFault → Type 0
-ChecksPaths object told ps repo repo' files files' keep keep' (Ok fates) =
-    ArePathsChecked object told ps repo repo' files files' keep keep' fates.items
-ChecksPaths object told ps repo repo' files files' keep keep' (Err send.Failed) =
-    AreObjectsCut object told ps repo repo' files files' keep keep'
-ChecksPaths object told ps repo repo' files files' keep keep' (Err send.NoMemory) =
-    AreBrokenOff object told ps repo repo' files files' keep keep'
+abbrev pub ChecksPaths : (List ℕ → Told) → (List ℕ → Told) → Cleaning → List CheckinPath → RepoSeen → RepoSeen
+    → WorkSeen → WorkSeen → KeepSeen → KeepSeen → Result (Vec Fate) SendFault → Type 0
+ChecksPaths object told c ps repo repo' work work' keep keep' (Ok fates) =
+    ArePathsChecked object told c ps repo repo' work work' keep keep' fates.items
+ChecksPaths object told c ps repo repo' work work' keep keep' (Err send.Failed) =
+    AreObjectsCut object told c ps repo repo' work work' keep keep'
+ChecksPaths object told c ps repo repo' work work' keep keep' (Err send.NoMemory) =
+    AreBrokenOff object told c ps repo repo' work work' keep keep'
 
 -- the same with the index, which is kept after them
-abbrev pub KeepsAll : (List ℕ → Told) → (List ℕ → Told) → List Entry → List CheckinPath → RepoSeen → RepoSeen
-    → FilesSeen → FilesSeen → KeepSeen → KeepSeen → Result (Vec Fate) SendFault → Type 0
-KeepsAll object told es ps repo repo' files files' keep keep' (Ok fates) =
-    AreKept object told (entries_in_turn es fates.items) ps repo repo' files files' keep keep' fates.items
-KeepsAll object told es ps repo repo' files files' keep keep' (Err send.Failed) =
-    AreObjectsCut object told ps repo repo' files files' keep keep'
-    ⊎ IsIndexCut object told ps repo repo' files files' keep keep'
-KeepsAll object told es ps repo repo' files files' keep keep' (Err send.NoMemory) =
-    AreBrokenOff object told ps repo repo' files files' keep keep'
+abbrev pub KeepsAll : (List ℕ → Told) → (List ℕ → Told) → Cleaning → List Entry → List CheckinPath → RepoSeen → RepoSeen
+    → WorkSeen → WorkSeen → KeepSeen → KeepSeen → Result (Vec Fate) SendFault → Type 0
+KeepsAll object told c es ps repo repo' work work' keep keep' (Ok fates) =
+    AreKept object told c (entries_in_turn es fates.items) ps repo repo' work work' keep keep' fates.items
+KeepsAll object told c es ps repo repo' work work' keep keep' (Err send.Failed) =
+    AreObjectsCut object told c ps repo repo' work work' keep keep'
+    ⊎ IsIndexCut object told c ps repo repo' work work' keep keep'
+KeepsAll object told c es ps repo repo' work work' keep keep' (Err send.NoMemory) =
+    AreBrokenOff object told c ps repo repo' work work' keep keep'
+
+-- what the drivers leave: their lines were closed, and their starters given back, in order
+pub record IsLeft (last : WorkSeen) (files : FilesSeen) (spawner : SpawnerSeen) (runs : ℕ) : Type 0 where
+  pub files_same : files ≡ last.files
+  pub back : GivesBack last.drivers.lines last.drivers.spawner spawner
+  pub faults : runs ≡ last.drivers.faults
+
+-- before the first path: no driver has a line
+abbrev pub first_work : List Driver → FilesSeen → SpawnerSeen → ℕ → WorkSeen
+first_work drivers files spawner runs =
+    work_seen files (drivers_seen (replicate (length drivers) None) spawner runs)
+
+-- the same as the keeping of all, with the starters given back at the end
+pub record KeepsAndLeaves (object told : List ℕ → Told) (c : Cleaning) (es : List Entry) (ps : List CheckinPath)
+    (repo repo' : RepoSeen) (files files' : FilesSeen) (spawner spawner' : SpawnerSeen) (runs runs' : ℕ)
+    (keep keep' : KeepSeen) (r : Result (Vec Fate) SendFault) : Type 0 where
+  pub last : WorkSeen
+  pub keeps : KeepsAll object told c es ps repo repo' (first_work c.drivers files spawner runs) last keep keep' r
+  pub left : IsLeft last files' spawner' runs'
 
 -- each changed path has a name of 20 bytes
 abbrev pub HasName : Fate → Type 0

@@ -2,8 +2,8 @@
 pub mod Outside
 pub mod Memory
 -- what becomes of each path
-pub mod Filters
 pub mod Paths
+pub mod Cleaning
 pub mod Fates
 pub mod Outcomes
 pub mod Indexes

@@ -3,10 +3,12 @@ use Rattle.std.specs.Prelude.{◌≡◌, ◌⊎◌, ◌<◌, ℕ, Bool, true, fa
 use Rattle.std.specs.Prelude.{if◌then◌else◌}
 use Rattle.edge_kit.specs.Faults.{Rose}
 use Rattle.edge_kit.specs.Seen.{RepoSeen}
-use Rattle.edge_kit.specs.Told.{Told, MayFail}
+use Rattle.edge_kit.specs.Told.{Told, TellsBytes, MayFail}
 use Rattle.git_index.specs.declared.entry.Entry.{Entry}
 use Rattle.git_index.specs.Spelling.{plain_text}
 use Rattle.object_dir.specs.Spelling.{spelled_blob}
+use Rattle.eol_convert.specs.declared.action.Action.{Action}
+use Rattle.clean_drivers.specs.Drivers.{DriversSeen}
 use Rattle.checkin_engine.specs.declared.path.Storing.{Storing}
 use Rattle.checkin_engine.specs.declared.path.Way.{Way}
 use Rattle.checkin_engine.specs.declared.path.Way.TheVariants as way
@@ -14,13 +16,15 @@ use Rattle.checkin_engine.specs.declared.path.CheckinPath.{CheckinPath}
 use Rattle.checkin_engine.specs.declared.fate.Fate.{Fate}
 use Rattle.checkin_engine.specs.declared.fate.Fate.TheVariants.{Same, Changed, Gone, Kept, Failed}
 use Rattle.checkin_engine.specs.declared.fate.CheckinCause.TheVariants.{Read}
-use Rattle.checkin_engine.specs.Outside.{FilesSeen, KeepSeen, IsKeepFailed, with_objects, with_index}
-use Rattle.checkin_engine.specs.Fates.{is_auto, IsThere, HasFate}
+use Rattle.checkin_engine.specs.Outside.{WorkSeen, KeepSeen, IsKeepFailed, with_objects, with_index}
+use Rattle.checkin_engine.specs.Fates.{is_auto, IsThere, HasFate, driver_of}
+use Rattle.checkin_engine.specs.Cleaning.{Asked, Cleaning, AsksOne, AsksInVain}
 
--- What a path comes to: its fate, the content of its file if it is stored, whether the files failed at it, and the count
--- of its blob if one was made.
+-- What a path comes to: its fate, what its driver was asked if it was, the content of its file if it is stored, whether
+-- the files failed at it, and the count of its blob if one was made.
 pub record Outcome : Type 0 where
   pub fate : Fate
+  pub asked : Option Asked
   pub content : List ℕ
   pub failed : Bool
   pub blob : Option ℕ
@@ -31,11 +35,11 @@ IsUnfailed o blob = (o.failed ≡ false) × (o.blob ≡ blob)
 
 -- The files failed at the path, and there was no blob. Or a file is there, the action asks for the index's content, and
 -- its blob failed.
-abbrev pub IsUnread : Told → Told → Storing → Outcome → Type 0
-IsUnread object file storing o =
-    (MayFail file × (o.failed ≡ true) × (o.blob ≡ None))
-    ⊎ (IsThere file × (is_auto storing.action ≡ true) × MayFail object × (o.failed ≡ false)
-    × ((n : ℕ) × (0 < n) × (o.blob ≡ Some n)))
+abbrev pub IsUnread : Told → Told → Action → Bool → Option ℕ → Type 0
+IsUnread object file action failed blob =
+    (MayFail file × (failed ≡ true) × (blob ≡ None))
+    ⊎ (IsThere file × (is_auto action ≡ true) × MayFail object × (failed ≡ false)
+    × ((n : ℕ) × (0 < n) × (blob ≡ Some n)))
 
 -- the blob of a path whose action looks at the index's content
 abbrev pub blob_by : Bool → Option ℕ
@@ -47,7 +51,7 @@ HasStoredCounts object file storing o Same = IsUnfailed o (blob_by (is_auto stor
 HasStoredCounts object file storing o (Changed name) = IsUnfailed o (blob_by (is_auto storing.action))
 HasStoredCounts object file storing o Gone = IsUnfailed o None
 HasStoredCounts object file storing o Kept = ⊥
-HasStoredCounts object file storing o (Failed Read) = IsUnread object file storing o
+HasStoredCounts object file storing o (Failed Read) = IsUnread object file storing.action o.failed o.blob
 HasStoredCounts object file storing o (Failed cause) = IsUnfailed o (blob_by (is_auto storing.action))
 
 -- a file is taken and a blob is made only for a path whose file is stored
@@ -57,7 +61,7 @@ HasCounts object file w o = IsUnfailed o None
 
 -- what a path comes to, by what is told
 pub record IsOutcome (object files : List ℕ → Told) (p : CheckinPath) (o : Outcome) : Type 0 where
-  pub fate : HasFate (object p.object) (files p.path) p.object p.way o.content o.fate
+  pub fate : HasFate (object p.object) (files p.path) p.object p.way o.asked o.content o.fate
   pub counts : HasCounts (object p.object) (files p.path) p.way o
 
 abbrev pub AreOutcomes : (List ℕ → Told) → (List ℕ → Told) → List CheckinPath → List Outcome → Type 0
@@ -109,33 +113,40 @@ abbrev pub HasCounted : List (List ℕ) → ℕ → ℕ → Type 0
 HasCounted [] old new = new ≡ old
 HasCounted (path ∷ paths) old new = Rose old new
 
--- The paths were looked at: their blobs were given back, and the files failed at just these.
-pub record AreLookedAt (ps : List CheckinPath) (os : List Outcome) (repo repo' : RepoSeen) (files files' : FilesSeen)
-    : Type 0 where
+-- the drivers of these paths were asked, one after another
+abbrev pub AreAsked : Cleaning → List CheckinPath → List Outcome → DriversSeen → DriversSeen → Type 0
+AreAsked c (p ∷ ps) (o ∷ os) old new =
+    (mid : DriversSeen) × AsksOne c p.path (driver_of p.way) o.asked old mid × AreAsked c ps os mid new
+AreAsked c ps os old new = new ≡ old
+
+-- The paths were looked at: their blobs were given back, the files failed at just these, and their drivers were asked.
+pub record AreLookedAt (c : Cleaning) (ps : List CheckinPath) (os : List Outcome) (repo repo' : RepoSeen)
+    (work work' : WorkSeen) : Type 0 where
   pub blobs : repo' ≡ with_blobs (blobs_back ps os) repo
-  pub failed : files'.failed ≡ files.failed ++ failed_paths ps os
-  pub counted : HasCounted (failed_paths ps os) files.faults files'.faults
+  pub failed : work'.files.failed ≡ work.files.failed ++ failed_paths ps os
+  pub counted : HasCounted (failed_paths ps os) work.files.faults work'.files.faults
+  pub asked : AreAsked c ps os work.drivers work'.drivers
 
 -- the paths were looked at, in order, and the objects of the changed ones kept
-pub record AreChecked (ps : List CheckinPath) (os : List Outcome) (repo repo' : RepoSeen) (files files' : FilesSeen)
-    (keep keep' : KeepSeen) : Type 0 where
-  pub looked : AreLookedAt ps os repo repo' files files'
+pub record AreChecked (c : Cleaning) (ps : List CheckinPath) (os : List Outcome) (repo repo' : RepoSeen)
+    (work work' : WorkSeen) (keep keep' : KeepSeen) : Type 0 where
+  pub looked : AreLookedAt c ps os repo repo' work work'
   pub objects : keep' ≡ with_objects (objects_of os) keep
 
 -- All paths were looked at and came to these fates, the objects of the changed ones were kept, and then the index of
 -- these entries.
-pub record AreKept (object told : List ℕ → Told) (kept : List Entry) (ps : List CheckinPath) (repo repo' : RepoSeen)
-    (files files' : FilesSeen) (keep keep' : KeepSeen) (fates : List Fate) : Type 0 where
+pub record AreKept (object told : List ℕ → Told) (c : Cleaning) (kept : List Entry) (ps : List CheckinPath)
+    (repo repo' : RepoSeen) (work work' : WorkSeen) (keep keep' : KeepSeen) (fates : List Fate) : Type 0 where
   pub outcomes : List Outcome
   pub same : fates_of outcomes ≡ fates
   pub each : AreOutcomes object told ps outcomes
   pub mid : KeepSeen
-  pub checked : AreChecked ps outcomes repo repo' files files' keep mid
+  pub checked : AreChecked c ps outcomes repo repo' work work' keep mid
   pub index : keep' ≡ with_index (plain_text kept) mid
 
 -- The keeper failed at the object of a changed path. The objects of the paths before it were kept, and nothing else.
-pub record AreObjectsCut (object told : List ℕ → Told) (ps : List CheckinPath) (repo repo' : RepoSeen)
-    (files files' : FilesSeen) (keep keep' : KeepSeen) : Type 0 where
+pub record AreObjectsCut (object told : List ℕ → Told) (c : Cleaning) (ps : List CheckinPath) (repo repo' : RepoSeen)
+    (work work' : WorkSeen) (keep keep' : KeepSeen) : Type 0 where
   pub front : List CheckinPath
   pub path : CheckinPath
   pub after : List CheckinPath
@@ -145,16 +156,16 @@ pub record AreObjectsCut (object told : List ℕ → Told) (ps : List CheckinPat
   pub each : AreOutcomes object told (front ++ path ∷ []) (outcomes ++ outcome ∷ [])
   pub name : List ℕ
   pub changed : outcome.fate ≡ Changed name
-  pub looked : AreLookedAt (front ++ path ∷ []) (outcomes ++ outcome ∷ []) repo repo' files files'
+  pub looked : AreLookedAt c (front ++ path ∷ []) (outcomes ++ outcome ∷ []) repo repo' work work'
   pub failed : IsKeepFailed (with_objects (objects_of outcomes) keep) keep'
 
 -- the keeper failed at the index, once all objects were kept
-pub record IsIndexCut (object told : List ℕ → Told) (ps : List CheckinPath) (repo repo' : RepoSeen)
-    (files files' : FilesSeen) (keep keep' : KeepSeen) : Type 0 where
+pub record IsIndexCut (object told : List ℕ → Told) (c : Cleaning) (ps : List CheckinPath) (repo repo' : RepoSeen)
+    (work work' : WorkSeen) (keep keep' : KeepSeen) : Type 0 where
   pub outcomes : List Outcome
   pub each : AreOutcomes object told ps outcomes
   pub mid : KeepSeen
-  pub checked : AreChecked ps outcomes repo repo' files files' keep mid
+  pub checked : AreChecked c ps outcomes repo repo' work work' keep mid
   pub failed : IsKeepFailed mid keep'
 
 -- a blob of that name was made and given back, or none was made
@@ -166,15 +177,32 @@ abbrev pub MakesNextBlob : List CheckinPath → RepoSeen → RepoSeen → Type 0
 MakesNextBlob [] repo repo' = repo' ≡ repo
 MakesNextBlob (p ∷ ps) repo repo' = MakesBlob p.object repo repo'
 
--- Memory ran out before the index was kept. The first paths were looked at and their objects kept, and nothing else. The
--- blob of the next one may have been made and given back.
-pub record AreBrokenOff (object told : List ℕ → Told) (ps : List CheckinPath) (repo repo' : RepoSeen)
-    (files files' : FilesSeen) (keep keep' : KeepSeen) : Type 0 where
+-- the driver of a path was asked for its file, and then memory ran out
+pub record IsAskedInVain (told : List ℕ → Told) (c : Cleaning) (p : CheckinPath) (old new : DriversSeen) : Type 0 where
+  pub bytes : List ℕ
+  pub tells : TellsBytes (told p.path) bytes
+  pub asks : AsksInVain c p.path (driver_of p.way) bytes old new
+
+abbrev pub MayAsk : (List ℕ → Told) → Cleaning → CheckinPath → DriversSeen → DriversSeen → Type 0
+MayAsk told c p old new = (new ≡ old) ⊎ IsAskedInVain told c p old new
+
+-- the same for the first of these paths, if there is one
+abbrev pub MayAskNext : (List ℕ → Told) → Cleaning → List CheckinPath → DriversSeen → DriversSeen → Type 0
+MayAskNext told c [] old new = new ≡ old
+MayAskNext told c (p ∷ ps) old new = MayAsk told c p old new
+
+-- Memory ran out before the index was kept. The first paths were looked at and their objects kept, and nothing else.
+-- The blob of the next one may have been made and given back, and its driver asked.
+pub record AreBrokenOff (object told : List ℕ → Told) (c : Cleaning) (ps : List CheckinPath) (repo repo' : RepoSeen)
+    (work work' : WorkSeen) (keep keep' : KeepSeen) : Type 0 where
   pub front : List CheckinPath
   pub after : List CheckinPath
   pub parts : ps ≡ front ++ after
   pub outcomes : List Outcome
   pub each : AreOutcomes object told front outcomes
   pub mid : RepoSeen
-  pub checked : AreChecked front outcomes repo mid files files' keep keep'
+  pub mid_work : WorkSeen
+  pub checked : AreChecked c front outcomes repo mid work mid_work keep keep'
   pub next : MakesNextBlob after mid repo'
+  pub files_same : work'.files ≡ mid_work.files
+  pub vain : MayAskNext told c after mid_work.drivers work'.drivers

@@ -1,7 +1,8 @@
--- What is seen of a worktree's files and of a keeper, and how their calls change that.
+-- What is seen of a worktree's files, of the drivers and of a keeper, and how their calls change that.
 use Rattle.std.specs.Prelude.{◌≡◌, ℕ, List, [], ◌∷◌, ◌++◌, Option, Some, Result, Ok, Err}
 use Rattle.std.specs.Option.{option_map}
 use Rattle.edge_kit.specs.Faults.{Rose}
+use Rattle.clean_drivers.specs.Drivers.{DriversSeen}
 use Rattle.edge_kit.specs.declared.faults.TakeFault.{TakeFault}
 use Rattle.edge_kit.specs.declared.faults.TakeFault.TheVariants as take
 use Rattle.edge_kit.specs.declared.faults.SendFault.{SendFault}
@@ -11,6 +12,14 @@ use Rattle.edge_kit.specs.declared.faults.SendFault.TheVariants as send
 pub record FilesSeen : Type 0 where
   pub faults : ℕ
   pub failed : List (List ℕ)
+
+-- what is seen of the files, and of the drivers
+pub record WorkSeen : Type 0 where
+  pub files : FilesSeen
+  pub drivers : DriversSeen
+
+abbrev pub work_seen : FilesSeen → DriversSeen → WorkSeen
+work_seen files drivers = record { files = files; drivers = drivers }
 
 -- The objects that were kept, in order, each with its name, and the last index, if there is one, each if it is told;
 -- and how often the keeper has failed.

@@ -3,15 +3,15 @@ ghost use Rattle.std.specs.Prelude.{◌≡◌, length, true, false};
 ghost use Rattle.checkin_engine.specs.Words.{is_checkin};
 ghost use Rattle.checkout_sources.specs.RefusalText.{refusal_line};
 ghost use Rattle.checkin_engine.specs.declared.status.CheckinStatus.{CheckinStatus};
-ghost use Rattle.checkin_engine.specs.Ends.{seen, number_of, status_of, EndsCheckin};
-ghost use Rattle.checkin_engine.specs.Ending.{WritesLine, EndsStopped, EndsHalted, WritesReport};
+ghost use Rattle.checkin_engine.specs.Ends.{seen, all_told, number_of, status_of, EndsCheckin};
+ghost use Rattle.checkin_engine.specs.Ending.{WritesLine, EndsStopped, WritesReport};
 
 use crate::fate::Fate;
 use crate::files::Files;
 use crate::keep::Keep;
-use crate::keeping::keep_all;
+use crate::keeping::keep_and_leave;
 use crate::path::CheckinPath;
-use crate::reading::{Halt, read_paths};
+use crate::reading::read_paths;
 use crate::report::{has_failed, report_text};
 use crate::status::{CheckinStatus, number_of};
 use crate::words::is_checkin;
@@ -19,20 +19,6 @@ use checkout_sources::{Refusal, Stop, refusal_line};
 use edge_kit::{Repo, SendFault, Sink, Spawner};
 use one_shot::Once;
 use std::alloc::Global;
-
-/// The line of a repository in which a driver with a way has a path.
-const DRIVEN_LINE: &[u8] = b"refused drivers unbuilt\n";
-
-/// Writes a line that says why a repository is refused.
-fn write_line<S: Sink>(out: &mut S, line: &[u8]) -> CheckinStatus
-    ensures { WritesLine line.now (S.seen out.old) (S.seen out.new) result }
-{
-    match out.write(line) {
-        Ok(()) => CheckinStatus::Refused,
-        Err(SendFault::Failed) => CheckinStatus::OutputNotWritten,
-        Err(SendFault::NoMemory) => CheckinStatus::OutOfMemory,
-    }
-}
 
 /// Writes the line of a refusal.
 fn refuse<S: Sink>(alloc: Global, out: &mut S, refusal: &Refusal) -> CheckinStatus
@@ -56,16 +42,6 @@ fn stopped<S: Sink>(alloc: Global, out: &mut S, stop: Stop) -> CheckinStatus
         Stop::Refused(refusal) => refuse(alloc, out, &refusal),
         Stop::ReadFault => CheckinStatus::ReadFault,
         Stop::NoMemory => CheckinStatus::OutOfMemory,
-    }
-}
-
-/// How a check-in ends that halted before a file was looked at.
-fn halted<S: Sink>(alloc: Global, out: &mut S, halt: Halt) -> CheckinStatus
-    ensures { EndsHalted halt (S.seen out.old) (S.seen out.new) result }
-{
-    match halt {
-        Halt::Stopped(stop) => stopped(alloc, out, stop),
-        Halt::Driven => write_line(out, DRIVEN_LINE),
     }
 }
 
@@ -101,24 +77,32 @@ fn write_report<S: Sink>(
 }
 
 /// A check-in.
-fn check_in<R: Repo, F: Files, K: Keep, S: Sink>(
+fn check_in<R: Repo, F: Files, P: Spawner, O: Once, K: Keep, S: Sink>(
     alloc: Global,
     repo: &mut R,
     files: &mut F,
+    spawner: &mut P,
+    once: &mut O,
     keep: &mut K,
     out: &mut S,
 ) -> CheckinStatus
     ensures told { R.told repo.new ≡ R.told repo.old }
     ensures files { F.told files.new ≡ F.told files.old }
-    ensures ends { EndsCheckin (R.told repo.old) (F.told files.old)
-        (seen (R.seen repo.old) (F.seen files.old) (K.seen keep.old) (S.seen out.old))
-        (seen (R.seen repo.new) (F.seen files.new) (K.seen keep.new) (S.seen out.new)) result }
+    ensures starts { P.told spawner.new ≡ P.told spawner.old }
+    ensures runs { O.told once.new ≡ O.told once.old }
+    ensures starters { (P.seen spawner.new).out ≡ (P.seen spawner.old).out }
+    ensures ends { EndsCheckin
+        (all_told (R.told repo.old) (F.told files.old) (P.told spawner.old) (O.told once.old))
+        (seen (R.seen repo.old) (F.seen files.old) (P.seen spawner.old) (O.faults once.old) (K.seen keep.old)
+        (S.seen out.old))
+        (seen (R.seen repo.new) (F.seen files.new) (P.seen spawner.new) (O.faults once.new) (K.seen keep.new)
+        (S.seen out.new)) result }
 {
     let read = match read_paths(alloc, repo) {
         Ok(read) => read,
-        Err(halt) => return halted(alloc, out, halt),
+        Err(stop) => return stopped(alloc, out, stop),
     };
-    match keep_all(alloc, repo, files, keep, &read) {
+    match keep_and_leave(alloc, repo, files, spawner, once, keep, &read) {
         Ok(fates) => write_report(alloc, out, &read.paths, &fates),
         Err(SendFault::Failed) => CheckinStatus::OutputNotWritten,
         Err(SendFault::NoMemory) => CheckinStatus::OutOfMemory,
@@ -128,14 +112,12 @@ fn check_in<R: Repo, F: Files, K: Keep, S: Sink>(
 /// The command `checkin`: turns the files of a worktree back into blobs and an index.
 ///
 /// The words are the repository's folder, the worktree's folder and `checkin`. Each path of the index is looked at, in
-/// order. The object of a changed one is kept, then the index, and then the report is written. Each blob is taken back
-/// right after it was read.
+/// order. The file of one that has a filter driver is cleaned by it first: by the driver's `process`, or else by its
+/// `clean`, which runs once for each content. The object of a changed path is kept, then the index, and then the report
+/// is written. Each blob is taken back right after it was read, and each starter of a driver before the report.
 ///
 /// It returns 0, or 1 if some path failed. 2 if the words are no check-in, 3 if the repository is refused, 4 if the
 /// keeper or the sink failed, 5 if out of memory, and 6 if a read of the repository failed.
-///
-/// No driver is run: an index is refused in which a path has a driver with a way to store it. So nothing is done with
-/// the spawner and the single runs.
 pub fn checkin<R: Repo, F: Files, P: Spawner, O: Once, K: Keep, S: Sink>(
     alloc: Global,
     words: &[String],
@@ -147,27 +129,31 @@ pub fn checkin<R: Repo, F: Files, P: Spawner, O: Once, K: Keep, S: Sink>(
     out: &mut S,
 ) -> u8
     // How it ends, and what holds then. It is never 2.
-    ensures ends { is_checkin words.now ≡ true → (s : CheckinStatus) × (result ≡ number_of s)
-        × EndsCheckin (R.told repo.old) (F.told files.old)
-        (seen (R.seen repo.old) (F.seen files.old) (K.seen keep.old) (S.seen out.old))
-        (seen (R.seen repo.new) (F.seen files.new) (K.seen keep.new) (S.seen out.new)) s }
+    ensures ends { is_checkin words.now ≡ true → (s : CheckinStatus) × (result ≡ number_of s) × EndsCheckin
+        (all_told (R.told repo.old) (F.told files.old) (P.told spawner.old) (O.told once.old))
+        (seen (R.seen repo.old) (F.seen files.old) (P.seen spawner.old) (O.faults once.old) (K.seen keep.old)
+        (S.seen out.old))
+        (seen (R.seen repo.new) (F.seen files.new) (P.seen spawner.new) (O.faults once.new) (K.seen keep.new)
+        (S.seen out.new)) s }
     // Words that are no check-in end with 2.
     ensures usage { is_checkin words.now ≡ false → result ≡ 2 }
     // Nothing at all is done for them.
     ensures unasked { is_checkin words.now ≡ false
-        → seen (R.seen repo.new) (F.seen files.new) (K.seen keep.new) (S.seen out.new)
-        ≡ seen (R.seen repo.old) (F.seen files.old) (K.seen keep.old) (S.seen out.old) }
-    // Each blob that was made is given back.
+        → seen (R.seen repo.new) (F.seen files.new) (P.seen spawner.new) (O.faults once.new) (K.seen keep.new)
+        (S.seen out.new)
+        ≡ seen (R.seen repo.old) (F.seen files.old) (P.seen spawner.old) (O.faults once.old) (K.seen keep.old)
+        (S.seen out.old) }
+    // Each blob that was made is given back, and each starter.
     ensures back { (R.seen repo.new).out ≡ (R.seen repo.old).out }
-    // What the repository and the files tell stays.
+    ensures starters { (P.seen spawner.new).out ≡ (P.seen spawner.old).out }
+    // What the repository, the files, the drivers and the single runs tell stays.
     ensures told { R.told repo.new ≡ R.told repo.old }
     ensures files { F.told files.new ≡ F.told files.old }
-    // No driver is started.
-    ensures drivers { (P.told spawner.new ≡ P.told spawner.old) × (P.seen spawner.new ≡ P.seen spawner.old) }
-    ensures runs { (O.told once.new ≡ O.told once.old) × (O.faults once.new ≡ O.faults once.old) }
+    ensures starts { P.told spawner.new ≡ P.told spawner.old }
+    ensures runs { O.told once.new ≡ O.told once.old }
 {
     if !is_checkin(words) {
         return number_of(CheckinStatus::Usage);
     }
-    number_of(check_in(alloc, repo, files, keep, out))
+    number_of(check_in(alloc, repo, files, spawner, once, keep, out))
 }

@@ -2,17 +2,21 @@
 ghost use Rattle.std.specs.Prelude.{◌≡◌};
 ghost use Rattle.checkin_engine.specs.Fates.{cause_word};
 
+use clean_line::CleanCause;
+
 /// Why a path isn't checked in.
 #[derive(Clone, Copy)]
 pub enum CheckinCause {
     /// Its encoding is unknown.
     Encoding,
-    /// Its filter driver is required, and has no way to store a content.
+    /// Its filter driver is required, and has no way to clean a content.
     NoProcess,
     /// The file, or the index's content of the path, couldn't be read.
     Read,
     /// The file has more than 268,435,456 bytes.
     TooLarge,
+    /// Its filter driver is required, and refused it.
+    Filter(CleanCause),
     /// The file isn't in its encoding.
     EncodingForm,
 }
@@ -41,6 +45,7 @@ impl CheckinCause {
             CheckinCause::NoProcess => "no-process",
             CheckinCause::Read => "read",
             CheckinCause::TooLarge => "too-large",
+            CheckinCause::Filter(why) => why.word(),
             CheckinCause::EncodingForm => "encoding-form",
         }
     }

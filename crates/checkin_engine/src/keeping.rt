@@ -1,12 +1,16 @@
 //! The paths are looked at, one after another, and the objects of the changed ones kept, and then the index.
-ghost use Rattle.std.specs.Prelude.{◌≡◌};
+ghost use Rattle.std.specs.Prelude.{◌≡◌, ◌≤◌, ◌<◌, ◌+◌, ◌^◌, length};
 ghost use Rattle.std.specs.List.{AllByRecursion};
 ghost use Rattle.git_index.specs.Spelling.{CanStand, plain_text};
-ghost use Rattle.checkin_engine.specs.Outside.{KeepsIndex};
+ghost use Rattle.clean_drivers.specs.Drivers.{drivers_seen, lines_out};
+ghost use Rattle.checkin_engine.specs.Outside.{work_seen, KeepsIndex};
+ghost use Rattle.checkin_engine.specs.Cleaning.{cleaning};
 ghost use Rattle.checkin_engine.specs.InTurn.{entries_in_turn};
 ghost use Rattle.checkin_engine.specs.Looking.{IsOpen};
-ghost use Rattle.checkin_engine.specs.Keeping.{ChecksPath, ChecksPaths, KeepsAll, KeepsStored, HaveNames};
+ghost use Rattle.checkin_engine.specs.Keeping.{ChecksPath, ChecksPaths, KeepsAll, KeepsAndLeaves};
+ghost use Rattle.checkin_engine.specs.Keeping.{KeepsStored, HaveNames};
 
+use crate::cleaning::Visit;
 use crate::fate::Fate;
 use crate::files::Files;
 use crate::indexing::entries_in_turn;
@@ -14,9 +18,12 @@ use crate::keep::Keep;
 use crate::looking::{Looked, look_at};
 use crate::path::CheckinPath;
 use crate::reading::PathsRead;
-use edge_kit::{Repo, SendFault};
+use clean_drivers::{CleanDrivers, give_back};
+use edge_kit::{Repo, SendFault, Spawner};
 use git_index::{Entry, spell_entries};
 use object_dir::spell_blob;
+use one_shot::Once;
+use settings_view::Driver;
 use std::alloc::{AllocError, Global};
 
 /// Keeps the object of a path that has changed.
@@ -38,21 +45,34 @@ fn keep_changed<K: Keep>(
 }
 
 /// Looks at a path, and keeps its object if it is another than its entry's.
-fn check_in_path<R: Repo, F: Files, K: Keep>(
+fn check_in_path<R: Repo, F: Files, P: Spawner, O: Once, K: Keep>(
     alloc: Global,
     repo: &mut R,
     files: &mut F,
+    lines: &mut CleanDrivers<P::Starter>,
+    spawner: &mut P,
+    once: &mut O,
     keep: &mut K,
-    path: &CheckinPath,
+    visit: &Visit<'_>,
 ) -> Result<Fate, SendFault>
-    requires { IsOpen path.now }
+    requires open { IsOpen (length lines.old.lines) visit.now.path.now }
+    requires few { lines.old.asked + 1 < 2 ^ 32 }
     ensures told { R.told repo.new ≡ R.told repo.old }
     ensures files { F.told files.new ≡ F.told files.old }
-    ensures checks { ChecksPath (R.told repo.old).object (F.told files.old) path.now
-        (R.seen repo.old) (R.seen repo.new) (F.seen files.old) (F.seen files.new)
+    ensures starts { P.told spawner.new ≡ P.told spawner.old }
+    ensures runs { O.told once.new ≡ O.told once.old }
+    ensures checks { ChecksPath (R.told repo.old).object (F.told files.old)
+        (cleaning visit.now.drivers.now (P.told spawner.old) (O.told once.old)) visit.now.path.now
+        (R.seen repo.old) (R.seen repo.new)
+        (work_seen (F.seen files.old) (drivers_seen lines.old.lines (P.seen spawner.old) (O.faults once.old)))
+        (work_seen (F.seen files.new) (drivers_seen lines.new.lines (P.seen spawner.new) (O.faults once.new)))
         (K.seen keep.old) (K.seen keep.new) result }
+    ensures asked { lines.new.asked ≤ lines.old.asked + 1 }
+    ensures places { length lines.new.lines ≡ length lines.old.lines }
+    ensures out { (P.seen spawner.new).out + lines_out lines.old.lines
+        ≡ (P.seen spawner.old).out + lines_out lines.new.lines }
 {
-    let looked = match look_at(alloc, repo, files, path) {
+    let looked = match look_at(alloc, repo, files, lines, spawner, once, visit) {
         Ok(looked) => looked,
         Err(AllocError) => return Err(SendFault::NoMemory),
     };
@@ -64,25 +84,39 @@ fn check_in_path<R: Repo, F: Files, K: Keep>(
 }
 
 /// Looks at all paths, in order, and keeps the objects of the changed ones.
-pub fn check_in_paths<R: Repo, F: Files, K: Keep>(
+fn check_in_paths<R: Repo, F: Files, P: Spawner, O: Once, K: Keep>(
     alloc: Global,
     repo: &mut R,
     files: &mut F,
+    lines: &mut CleanDrivers<P::Starter>,
+    spawner: &mut P,
+    once: &mut O,
     keep: &mut K,
+    drivers: &[Driver],
     paths: &[CheckinPath],
 ) -> Result<Vec<Fate>, SendFault>
-    requires { AllByRecursion IsOpen paths.now }
+    requires are_open { AllByRecursion (IsOpen (length lines.old.lines)) paths.now }
+    requires few { length paths.now < 2 ^ 32 }
+    requires fresh { lines.old.asked ≡ 0 }
     ensures told { R.told repo.new ≡ R.told repo.old }
     ensures files { F.told files.new ≡ F.told files.old }
-    ensures checks { ChecksPaths (R.told repo.old).object (F.told files.old) paths.now
-        (R.seen repo.old) (R.seen repo.new) (F.seen files.old) (F.seen files.new)
+    ensures starts { P.told spawner.new ≡ P.told spawner.old }
+    ensures runs { O.told once.new ≡ O.told once.old }
+    ensures checks { ChecksPaths (R.told repo.old).object (F.told files.old)
+        (cleaning drivers.now (P.told spawner.old) (O.told once.old)) paths.now
+        (R.seen repo.old) (R.seen repo.new)
+        (work_seen (F.seen files.old) (drivers_seen lines.old.lines (P.seen spawner.old) (O.faults once.old)))
+        (work_seen (F.seen files.new) (drivers_seen lines.new.lines (P.seen spawner.new) (O.faults once.new)))
         (K.seen keep.old) (K.seen keep.new) result }
+    ensures out { (P.seen spawner.new).out + lines_out lines.old.lines
+        ≡ (P.seen spawner.old).out + lines_out lines.new.lines }
 {
     let Ok(mut fates) = Vec::with_capacity(alloc, paths.len()) else {
         return Err(SendFault::NoMemory);
     };
     for path in paths {
-        let fate = match check_in_path(alloc, repo, files, keep, path) {
+        let visit = Visit { drivers, path };
+        let fate = match check_in_path(alloc, repo, files, lines, spawner, once, keep, &visit) {
             Ok(fate) => fate,
             Err(fault) => return Err(fault),
         };
@@ -102,7 +136,8 @@ fn keep_index<K: Keep>(
 ) -> Result<(), SendFault>
     requires entries { CanStand entries.now }
     requires names { HaveNames fates.now }
-    ensures { KeepsIndex (plain_text (entries_in_turn entries.now fates.now)) (K.seen keep.old) (K.seen keep.new) result }
+    ensures { KeepsIndex (plain_text (entries_in_turn entries.now fates.now))
+        (K.seen keep.old) (K.seen keep.new) result }
 {
     let Ok(kept) = entries_in_turn(alloc, entries, fates) else {
         return Err(SendFault::NoMemory);
@@ -114,22 +149,45 @@ fn keep_index<K: Keep>(
 }
 
 /// Looks at all paths that were read, keeps the objects of the changed ones, and then the index.
-pub fn keep_all<R: Repo, F: Files, K: Keep>(
+fn keep_all<R: Repo, F: Files, P: Spawner, O: Once, K: Keep>(
     alloc: Global,
     repo: &mut R,
     files: &mut F,
+    lines: &mut CleanDrivers<P::Starter>,
+    spawner: &mut P,
+    once: &mut O,
     keep: &mut K,
     read: &PathsRead,
 ) -> Result<Vec<Fate>, SendFault>
-    requires are_open { AllByRecursion IsOpen read.now.paths.items }
+    requires are_open { AllByRecursion (IsOpen (length lines.old.lines)) read.now.paths.items }
+    requires few { length read.now.paths.items < 2 ^ 32 }
+    requires fresh { lines.old.asked ≡ 0 }
     requires stand { CanStand read.now.index }
     ensures told { R.told repo.new ≡ R.told repo.old }
     ensures files { F.told files.new ≡ F.told files.old }
-    ensures keeps { KeepsAll (R.told repo.old).object (F.told files.old) read.now.index read.now.paths.items
-        (R.seen repo.old) (R.seen repo.new) (F.seen files.old) (F.seen files.new)
+    ensures starts { P.told spawner.new ≡ P.told spawner.old }
+    ensures runs { O.told once.new ≡ O.told once.old }
+    ensures keeps { KeepsAll (R.told repo.old).object (F.told files.old)
+        (cleaning read.now.drivers (P.told spawner.old) (O.told once.old)) read.now.index read.now.paths.items
+        (R.seen repo.old) (R.seen repo.new)
+        (work_seen (F.seen files.old) (drivers_seen lines.old.lines (P.seen spawner.old) (O.faults once.old)))
+        (work_seen (F.seen files.new) (drivers_seen lines.new.lines (P.seen spawner.new) (O.faults once.new)))
         (K.seen keep.old) (K.seen keep.new) result }
+    ensures out { (P.seen spawner.new).out + lines_out lines.old.lines
+        ≡ (P.seen spawner.old).out + lines_out lines.new.lines }
 {
-    let fates = match check_in_paths(alloc, repo, files, keep, &read.paths) {
+    let drivers = read.drivers.as_slice();
+    let fates = match check_in_paths(
+        alloc,
+        repo,
+        files,
+        lines,
+        spawner,
+        once,
+        keep,
+        drivers,
+        &read.paths,
+    ) {
         Ok(fates) => fates,
         Err(fault) => return Err(fault),
     };
@@ -137,4 +195,36 @@ pub fn keep_all<R: Repo, F: Files, K: Keep>(
         Ok(()) => Ok(fates),
         Err(fault) => Err(fault),
     }
+}
+
+/// The same with the drivers of the configuration. Each starter is given back at the end.
+pub fn keep_and_leave<R: Repo, F: Files, P: Spawner, O: Once, K: Keep>(
+    alloc: Global,
+    repo: &mut R,
+    files: &mut F,
+    spawner: &mut P,
+    once: &mut O,
+    keep: &mut K,
+    read: &PathsRead,
+) -> Result<Vec<Fate>, SendFault>
+    requires are_open { AllByRecursion (IsOpen (length read.now.drivers)) read.now.paths.items }
+    requires few { length read.now.paths.items < 2 ^ 32 }
+    requires stand { CanStand read.now.index }
+    ensures told { R.told repo.new ≡ R.told repo.old }
+    ensures files { F.told files.new ≡ F.told files.old }
+    ensures starts { P.told spawner.new ≡ P.told spawner.old }
+    ensures runs { O.told once.new ≡ O.told once.old }
+    ensures keeps { KeepsAndLeaves (R.told repo.old).object (F.told files.old)
+        (cleaning read.now.drivers (P.told spawner.old) (O.told once.old)) read.now.index read.now.paths.items
+        (R.seen repo.old) (R.seen repo.new) (F.seen files.old) (F.seen files.new)
+        (P.seen spawner.old) (P.seen spawner.new) (O.faults once.old) (O.faults once.new)
+        (K.seen keep.old) (K.seen keep.new) result }
+    ensures out { (P.seen spawner.new).out ≡ (P.seen spawner.old).out }
+{
+    let Ok(mut lines) = CleanDrivers::new(alloc, read.drivers.as_slice().len()) else {
+        return Err(SendFault::NoMemory);
+    };
+    let kept = keep_all(alloc, repo, files, &mut lines, spawner, once, keep, read);
+    give_back(lines, spawner);
+    kept
 }

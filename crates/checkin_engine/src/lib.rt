@@ -1,10 +1,11 @@
-//! A worktree back into blobs and an index, without filter drivers.
+//! A worktree back into blobs and an index.
 #![tactic(auto)]
 
+mod cleaning;
 mod command;
 mod fate;
 mod files;
-mod filter;
+mod finding;
 mod indexing;
 mod keep;
 mod keeping;
@@ -17,6 +18,7 @@ mod paths;
 mod reading;
 mod report;
 mod status;
+mod ways;
 mod words;
 
 pub use command::checkin;
@@ -26,5 +28,5 @@ pub use keep::Keep;
 pub use laws::path_comes_back;
 pub use memory_files::MemoryFiles;
 pub use memory_keep::MemoryKeep;
-pub use path::Storing;
+pub use path::{PathDriver, Storing};
 pub use words::is_checkin;

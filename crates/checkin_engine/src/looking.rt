@@ -1,24 +1,25 @@
-//! What becomes of a path: its file is taken and stored, and its object is looked at.
-ghost use Rattle.std.specs.Prelude.{◌≡◌, IfOk, OnErr, IsSome, true};
-ghost use Rattle.std.specs.Str.{IsUtf8};
-ghost use Rattle.checkin_engine.specs.Fates.{is_auto};
-ghost use Rattle.checkin_engine.specs.Outcomes.{MakesBlob};
-ghost use Rattle.checkin_engine.specs.declared.path.Way.TheVariants.{Stored};
-ghost use Rattle.checkin_engine.specs.Looking.{fate_by, AnswersWithout, AnswersCrlf, LooksOld, IsStoredSo};
-ghost use Rattle.checkin_engine.specs.Looking.{IsFoundSo, IsUnfailedTake, LooksThere, LooksTaken, Looks, IsOpen};
+//! What becomes of a path: its file is found, cleaned by its driver, and stored.
+ghost use Rattle.std.specs.Prelude.{◌≡◌, ◌≤◌, ◌<◌, ◌+◌, ◌^◌, IfOk, OnErr, length};
+ghost use Rattle.clean_drivers.specs.Drivers.{drivers_seen, lines_out};
+ghost use Rattle.checkin_engine.specs.declared.fate.Fate.TheVariants.{Failed};
+ghost use Rattle.checkin_engine.specs.Outside.{work_seen};
+ghost use Rattle.checkin_engine.specs.Outcomes.{MakesBlob, MayAsk};
+ghost use Rattle.checkin_engine.specs.Cleaning.{cleaning};
+ghost use Rattle.checkin_engine.specs.Looking.{fate_by, IsStoredSo, IsCleanedFate, Becomes};
+ghost use Rattle.checkin_engine.specs.Looking.{BecomesNothing, Looks, IsAskableBy, IsOpen};
 
+use crate::cleaning::{Visit, clean_file};
 use crate::fate::{CheckinCause, Fate};
 use crate::files::Files;
-use crate::path::{CheckinPath, Storing, Way};
-use back_convert::{BackFault, has_crlf, to_stored};
-use checkout_plan::object_content;
-use edge_kit::{Repo, TakeFault};
-use eol_convert::Action;
-use object_dir::{ObjectFault, blob_name};
+use crate::finding::{Found, find_file};
+use crate::path::{Storing, Way};
+use back_convert::{BackFault, to_stored};
+use clean_drivers::CleanDrivers;
+use clean_line::CleanFault;
+use edge_kit::{Repo, Spawner};
+use object_dir::blob_name;
+use one_shot::Once;
 use std::alloc::{AllocError, Global};
-
-/// The most bytes of a file.
-const MAX_FILE: u64 = 268_435_456;
 
 /// What becomes of a path, with the content that its file is stored as. Without one it is empty.
 #[derive(Drop)]
@@ -37,68 +38,11 @@ fn without_content(alloc: Global, fate: Fate) -> Looked
     }
 }
 
-fn is_auto(action: Action) -> bool
-    ensures { result ≡ is_auto action }
+/// A failure without a content.
+fn failed(alloc: Global, cause: CheckinCause) -> Looked
+    ensures fate { result.fate ≡ Failed cause }
 {
-    match action {
-        Action::Binary | Action::TextLf | Action::TextCrlf => false,
-        Action::AutoLf | Action::AutoCrlf => true,
-    }
-}
-
-/// What an object says that gave no content. An object that is absent or wrong has no CR directly before an LF, and there
-/// is no answer if reading it failed.
-fn crlf_without(fault: ObjectFault) -> Result<Option<bool>, AllocError>
-    ensures { AnswersWithout fault result }
-{
-    match fault {
-        ObjectFault::ReadFailed => Ok(None),
-        ObjectFault::NoMemory => Err(AllocError),
-        _ => Ok(Some(false)),
-    }
-}
-
-/// Whether a content has a CR directly before an LF.
-fn crlf_of(content: Result<Vec<u8>, ObjectFault>) -> Result<Option<bool>, AllocError>
-    ensures { AnswersCrlf content result }
-{
-    match content {
-        Ok(content) => Ok(Some(has_crlf(&content))),
-        Err(fault) => crlf_without(fault),
-    }
-}
-
-/// The same for the content of an object.
-fn read_old<R: Repo>(
-    alloc: Global,
-    repo: &mut R,
-    name: &[u8; 20],
-) -> Result<Option<bool>, AllocError>
-    ensures told { R.told repo.new ≡ R.told repo.old }
-    ensures looks { IfOk result (LooksOld true ((R.told repo.old).object name.now) name.now
-        (R.seen repo.old) (R.seen repo.new)) }
-    ensures left { OnErr result (MakesBlob name.now (R.seen repo.old) (R.seen repo.new)) }
-{
-    crlf_of(object_content(alloc, repo, name))
-}
-
-/// The same if the action asks for it, and no if it doesn't.
-fn old_for<R: Repo>(
-    alloc: Global,
-    repo: &mut R,
-    action: Action,
-    name: &[u8; 20],
-) -> Result<Option<bool>, AllocError>
-    ensures told { R.told repo.new ≡ R.told repo.old }
-    ensures looks { IfOk result (LooksOld (is_auto action) ((R.told repo.old).object name.now) name.now
-        (R.seen repo.old) (R.seen repo.new)) }
-    ensures left { OnErr result (MakesBlob name.now (R.seen repo.old) (R.seen repo.new)) }
-{
-    if is_auto(action) {
-        read_old(alloc, repo, name)
-    } else {
-        Ok(Some(false))
-    }
+    without_content(alloc, Fate::Failed(cause))
 }
 
 /// Whether a content has the name that the index has.
@@ -127,129 +71,115 @@ fn stored_fate(
         ident,
         action,
         encoding,
+        ..
     } = storing;
     match to_stored(alloc, ident, action, encoding, old, bytes) {
         Ok(content) => Ok(Looked {
             fate: fate_by(name, &content),
             content,
         }),
-        Err(BackFault::Form) => Ok(without_content(
-            alloc,
-            Fate::Failed(CheckinCause::EncodingForm),
-        )),
+        Err(BackFault::Form) => Ok(failed(alloc, CheckinCause::EncodingForm)),
         Err(BackFault::NoMemory) => Err(AllocError),
     }
 }
 
-/// What becomes of a file that is there, by what was found of the index's content. It is unread if nothing was, and too
-/// large if it gave no bytes.
-fn found_fate(
+/// What becomes of a file that is there, by what its bytes were cleaned to.
+fn cleaned_fate(
     alloc: Global,
     name: &[u8; 20],
     storing: Storing,
-    found: Option<bool>,
-    bytes: Option<Vec<u8>>,
+    old: bool,
+    cleaned: Result<Vec<u8>, CleanFault>,
 ) -> Result<Looked, AllocError>
-    ensures fate { IfOk result (λ l. IsFoundSo name.now storing found bytes l.content.items l.fate) }
-    ensures found { OnErr result (IsSome found) }
+    ensures { IfOk result (λ l. IsCleanedFate name.now storing old cleaned l.content.items l.fate) }
 {
-    let Some(old) = found else {
-        return Ok(without_content(alloc, Fate::Failed(CheckinCause::Read)));
-    };
-    match bytes {
-        Some(bytes) => stored_fate(alloc, name, storing, old, bytes),
-        None => Ok(without_content(alloc, Fate::Failed(CheckinCause::TooLarge))),
+    match cleaned {
+        Ok(bytes) => stored_fate(alloc, name, storing, old, bytes),
+        Err(CleanFault::Refused(why)) => Ok(failed(alloc, CheckinCause::Filter(why))),
+        Err(CleanFault::NoMemory) => Err(AllocError),
     }
 }
 
-/// The same, once the index's content is looked at if the action asks for it.
-fn there_fate<R: Repo>(
+/// What becomes of a file, by what was found of it.
+fn found_fate<P: Spawner, O: Once>(
     alloc: Global,
-    repo: &mut R,
-    name: &[u8; 20],
+    lines: &mut CleanDrivers<P::Starter>,
+    spawner: &mut P,
+    once: &mut O,
+    visit: &Visit<'_>,
     storing: Storing,
-    bytes: Option<Vec<u8>>,
+    found: Found,
 ) -> Result<Looked, AllocError>
-    ensures told { R.told repo.new ≡ R.told repo.old }
-    ensures looks { IfOk result (λ l. LooksThere ((R.told repo.old).object name.now) name.now storing bytes
-        (R.seen repo.old) (R.seen repo.new) l.content.items l.fate) }
-    ensures left { OnErr result (MakesBlob name.now (R.seen repo.old) (R.seen repo.new)) }
+    requires askable { IsAskableBy (length lines.old.lines) visit.now.path.now.path storing.driver }
+    requires few { lines.old.asked + 1 < 2 ^ 32 }
+    ensures starts { P.told spawner.new ≡ P.told spawner.old }
+    ensures runs { O.told once.new ≡ O.told once.old }
+    ensures becomes { IfOk result (λ l.
+        Becomes (cleaning visit.now.drivers.now (P.told spawner.old) (O.told once.old))
+        visit.now.path.now storing found
+        (drivers_seen lines.old.lines (P.seen spawner.old) (O.faults once.old))
+        (drivers_seen lines.new.lines (P.seen spawner.new) (O.faults once.new)) l.content.items l.fate) }
+    ensures vain { OnErr result
+        (BecomesNothing (cleaning visit.now.drivers.now (P.told spawner.old) (O.told once.old))
+        visit.now.path.now storing found
+        (drivers_seen lines.old.lines (P.seen spawner.old) (O.faults once.old))
+        (drivers_seen lines.new.lines (P.seen spawner.new) (O.faults once.new))) }
+    ensures asked { lines.new.asked ≤ lines.old.asked + 1 }
+    ensures places { length lines.new.lines ≡ length lines.old.lines }
+    ensures out { (P.seen spawner.new).out + lines_out lines.old.lines
+        ≡ (P.seen spawner.old).out + lines_out lines.new.lines }
 {
-    let found = old_for(alloc, repo, storing.action, name)?;
-    found_fate(alloc, name, storing, found, bytes)
-}
-
-/// What becomes of a file that is stored, by what taking it gave.
-fn taken_fate<R: Repo>(
-    alloc: Global,
-    repo: &mut R,
-    name: &[u8; 20],
-    storing: Storing,
-    taken: Result<Option<Vec<u8>>, TakeFault>,
-) -> Result<Looked, AllocError>
-    ensures told { R.told repo.new ≡ R.told repo.old }
-    ensures looks { IfOk result (λ l. LooksTaken ((R.told repo.old).object name.now) name.now storing taken
-        (R.seen repo.old) (R.seen repo.new) l.content.items l.fate) }
-    ensures left { OnErr result (MakesBlob name.now (R.seen repo.old) (R.seen repo.new)) }
-    ensures unfailed { OnErr result (IsUnfailedTake taken) }
-{
-    match taken {
-        Ok(Some(bytes)) => there_fate(alloc, repo, name, storing, Some(bytes)),
-        Ok(None) => Ok(without_content(alloc, Fate::Gone)),
-        Err(fault) => match fault {
-            TakeFault::TooLong => there_fate(alloc, repo, name, storing, None),
-            TakeFault::Failed => Ok(without_content(alloc, Fate::Failed(CheckinCause::Read))),
-            TakeFault::NoMemory => Err(AllocError),
-        },
+    match found {
+        Found::Gone => Ok(without_content(alloc, Fate::Gone)),
+        Found::Unread => Ok(failed(alloc, CheckinCause::Read)),
+        Found::TooLarge => Ok(failed(alloc, CheckinCause::TooLarge)),
+        Found::There { bytes, old } => {
+            let cleaned = clean_file(alloc, lines, spawner, once, visit, storing.driver, bytes);
+            cleaned_fate(alloc, &visit.path.object, storing, old, cleaned)
+        }
     }
-}
-
-/// What becomes of a path whose file is stored.
-fn look_at_file<R: Repo, F: Files>(
-    alloc: Global,
-    repo: &mut R,
-    files: &mut F,
-    path: &CheckinPath,
-    storing: Storing,
-) -> Result<Looked, AllocError>
-    requires text { IsUtf8 path.now.path }
-    requires way { path.now.way ≡ Stored storing }
-    ensures told { R.told repo.new ≡ R.told repo.old }
-    ensures files { F.told files.new ≡ F.told files.old }
-    ensures looks { IfOk result (λ l.
-        Looks (R.told repo.old).object (F.told files.old) path.now (R.seen repo.old) (R.seen repo.new)
-        (F.seen files.old) (F.seen files.new) l.content.items l.fate) }
-    ensures left { OnErr result (MakesBlob path.now.object (R.seen repo.old) (R.seen repo.new)) }
-    ensures unfailed { OnErr result (F.seen files.new ≡ F.seen files.old) }
-{
-    let Ok(name) = str::from_utf8(path.path.as_slice()) else {
-        unreachable!()
-    };
-    let taken = files.take(name, MAX_FILE);
-    taken_fate(alloc, repo, &path.object, storing, taken)
 }
 
 /// What becomes of a path.
-pub fn look_at<R: Repo, F: Files>(
+pub fn look_at<R: Repo, F: Files, P: Spawner, O: Once>(
     alloc: Global,
     repo: &mut R,
     files: &mut F,
-    path: &CheckinPath,
+    lines: &mut CleanDrivers<P::Starter>,
+    spawner: &mut P,
+    once: &mut O,
+    visit: &Visit<'_>,
 ) -> Result<Looked, AllocError>
-    requires { IsOpen path.now }
+    requires open { IsOpen (length lines.old.lines) visit.now.path.now }
+    requires few { lines.old.asked + 1 < 2 ^ 32 }
     ensures told { R.told repo.new ≡ R.told repo.old }
     ensures files { F.told files.new ≡ F.told files.old }
+    ensures starts { P.told spawner.new ≡ P.told spawner.old }
+    ensures runs { O.told once.new ≡ O.told once.old }
     ensures looks { IfOk result (λ l.
-        Looks (R.told repo.old).object (F.told files.old) path.now (R.seen repo.old) (R.seen repo.new)
-        (F.seen files.old) (F.seen files.new) l.content.items l.fate) }
-    ensures left { OnErr result (MakesBlob path.now.object (R.seen repo.old) (R.seen repo.new)) }
+        Looks (R.told repo.old).object (F.told files.old)
+        (cleaning visit.now.drivers.now (P.told spawner.old) (O.told once.old)) visit.now.path.now
+        (R.seen repo.old) (R.seen repo.new)
+        (work_seen (F.seen files.old) (drivers_seen lines.old.lines (P.seen spawner.old) (O.faults once.old)))
+        (work_seen (F.seen files.new) (drivers_seen lines.new.lines (P.seen spawner.new) (O.faults once.new)))
+        l.content.items l.fate) }
+    ensures left { OnErr result (MakesBlob visit.now.path.now.object (R.seen repo.old) (R.seen repo.new)) }
     ensures unfailed { OnErr result (F.seen files.new ≡ F.seen files.old) }
+    ensures vain { OnErr result (MayAsk (F.told files.old)
+        (cleaning visit.now.drivers.now (P.told spawner.old) (O.told once.old)) visit.now.path.now
+        (drivers_seen lines.old.lines (P.seen spawner.old) (O.faults once.old))
+        (drivers_seen lines.new.lines (P.seen spawner.new) (O.faults once.new))) }
+    ensures asked { lines.new.asked ≤ lines.old.asked + 1 }
+    ensures places { length lines.new.lines ≡ length lines.old.lines }
+    ensures out { (P.seen spawner.new).out + lines_out lines.old.lines
+        ≡ (P.seen spawner.old).out + lines_out lines.new.lines }
 {
-    match path.way {
-        Way::Kept => Ok(without_content(alloc, Fate::Kept)),
-        Way::UnknownEncoding => Ok(without_content(alloc, Fate::Failed(CheckinCause::Encoding))),
-        Way::NoProcess => Ok(without_content(alloc, Fate::Failed(CheckinCause::NoProcess))),
-        Way::Driver => unreachable!(),
-        Way::Stored(storing) => look_at_file(alloc, repo, files, path, storing),
-    }
+    let storing = match visit.path.way {
+        Way::Kept => return Ok(without_content(alloc, Fate::Kept)),
+        Way::UnknownEncoding => return Ok(failed(alloc, CheckinCause::Encoding)),
+        Way::NoProcess => return Ok(failed(alloc, CheckinCause::NoProcess)),
+        Way::Stored(storing) => storing,
+    };
+    let found = find_file(alloc, repo, files, visit.path, storing.action)?;
+    found_fate(alloc, lines, spawner, once, visit, storing, found)
 }

@@ -3,9 +3,20 @@ use byte_path::Bytes;
 use eol_convert::Action;
 use tree_encoding::Encoding;
 
+/// The filter driver that cleans the content of a path.
+#[derive(Clone, Copy)]
+pub struct PathDriver {
+    /// Its place among the drivers of the configuration.
+    pub place: usize,
+    /// Whether a path fails that it refuses. If not, the content stays as it is.
+    pub required: bool,
+}
+
 /// How a file's content is stored.
 #[derive(Clone, Copy)]
 pub struct Storing {
+    /// The driver that cleans it first, if one does.
+    pub driver: Option<PathDriver>,
     /// Whether the keyword `$Id$` is undone.
     pub ident: bool,
     pub action: Action,
@@ -20,10 +31,8 @@ pub enum Way {
     Kept,
     /// Its encoding is unknown.
     UnknownEncoding,
-    /// Its filter driver is required, and has no way to store a content.
+    /// Its filter driver is required, and has no way to clean a content.
     NoProcess,
-    /// Its filter driver has a way.
-    Driver,
     /// Its file is stored, as it is for a link.
     Stored(Storing),
 }

@@ -1,24 +1,24 @@
 //! What is done with each path of an index.
 ghost use Rattle.std.specs.Prelude.{◌≡◌, IfOk, length, map};
-ghost use Rattle.checkin_engine.specs.Paths.{way_of, checkin_path, checkin_paths, is_driven};
+ghost use Rattle.checkin_engine.specs.Paths.{way_of, checkin_path, checkin_paths};
 ghost use Rattle.std.specs.Str.{is_utf8};
 ghost use Rattle.attr_stack.specs.Decided.{state_of};
 ghost use Rattle.checkin_engine.specs.Asking.{is_left_out, asked_names, way_by_states, IsReady};
 
-use crate::filter::{Filter, filter_of};
 use crate::path::{CheckinPath, Storing, Way};
+use crate::ways::filter_way;
 use attr_line::AttrState;
 use attr_stack::AttrStack;
 use byte_path::Bytes;
 use eol_convert::{Action, action_of};
-use git_config::{Config, Setting};
 use git_index::{Entry, Mode};
-use settings_view::Settings;
+use settings_view::{Driver, Settings};
 use std::alloc::{AllocError, Global};
 use tree_encoding::encoding_of;
 
 /// The bytes alone.
 const AS_IT_IS: Storing = Storing {
+    driver: None,
     ident: false,
     action: Action::Binary,
     encoding: None,
@@ -59,9 +59,9 @@ fn asked_names(alloc: Global) -> Result<Vec<Bytes>, AllocError>
 }
 
 /// What is done with a file, by the states of its attributes.
-fn file_way(config: &[Setting], settings: &Settings, states: &[AttrState]) -> Way
+fn file_way(drivers: &[Driver], settings: &Settings, states: &[AttrState]) -> Way
     requires { length states.now ≡ 6 }
-    ensures { result ≡ way_by_states config.now settings.now states.now }
+    ensures { result ≡ way_by_states drivers.now settings.now states.now }
 {
     let [text, crlf, eol, ident, encoding, filter] = states else {
         unreachable!()
@@ -69,22 +69,20 @@ fn file_way(config: &[Setting], settings: &Settings, states: &[AttrState]) -> Wa
     let Ok(encoding) = encoding_of(encoding) else {
         return Way::UnknownEncoding;
     };
-    match filter_of(config, settings.drivers.as_slice(), filter) {
-        Filter::Driven => Way::Driver,
-        Filter::Lacking => Way::NoProcess,
-        Filter::Idle => Way::Stored(Storing {
-            ident: matches!(ident, AttrState::Set),
-            action: action_of(text, crlf, eol, settings.autocrlf, settings.eol),
-            encoding,
-        }),
-    }
+    let storing = Storing {
+        driver: None,
+        ident: matches!(ident, AttrState::Set),
+        action: action_of(text, crlf, eol, settings.autocrlf, settings.eol),
+        encoding,
+    };
+    filter_way(drivers, filter, storing)
 }
 
 /// What decides about the paths of an index.
 #[derive(Drop)]
 struct Asking<'a> {
     stack: AttrStack,
-    config: &'a [Setting],
+    drivers: &'a [Driver],
     settings: &'a Settings,
     names: Vec<Bytes>,
 }
@@ -94,18 +92,19 @@ impl<'a> Asking<'a> {
     fn file_way(&mut self, alloc: Global, path: &[u8]) -> Result<Way, AllocError>
         requires { IsReady self.old }
         ensures kept { self.new ≡ self.old }
-        ensures way { IfOk result (λ way. way ≡ way_by_states self.old.config.now self.old.settings.now
+        ensures way { IfOk result (λ way. way ≡ way_by_states self.old.drivers.now self.old.settings.now
             (map (state_of self.old.stack path.now) asked_names)) }
     {
         let states = self.stack.states(alloc, path, &self.names)?;
-        Ok(file_way(self.config, self.settings, &states))
+        Ok(file_way(self.drivers, self.settings, &states))
     }
 
     #[tactic(auto, using(crate::proofs::KeptPaths::left_out_way, crate::proofs::KeptPaths::open_way))]
     fn way(&mut self, alloc: Global, entry: &Entry) -> Result<Way, AllocError>
         requires { IsReady self.old }
         ensures kept { self.new ≡ self.old }
-        ensures way { IfOk result (λ way. way ≡ way_of self.old.stack self.old.config.now self.old.settings.now entry.now) }
+        ensures way { IfOk result (λ way.
+            way ≡ way_of self.old.stack self.old.drivers.now self.old.settings.now entry.now) }
     {
         if is_left_out(entry) {
             return Ok(Way::Kept);
@@ -121,7 +120,8 @@ impl<'a> Asking<'a> {
     fn path(&mut self, alloc: Global, entry: &Entry) -> Result<CheckinPath, AllocError>
         requires { IsReady self.old }
         ensures kept { self.new ≡ self.old }
-        ensures path { IfOk result (λ path. path ≡ checkin_path self.old.stack self.old.config.now self.old.settings.now entry.now) }
+        ensures path { IfOk result (λ path.
+            path ≡ checkin_path self.old.stack self.old.drivers.now self.old.settings.now entry.now) }
     {
         let object = entry.name;
         Ok(CheckinPath {
@@ -135,7 +135,7 @@ impl<'a> Asking<'a> {
     fn paths(&mut self, alloc: Global, entries: &[Entry]) -> Result<Vec<CheckinPath>, AllocError>
         requires { IsReady self.old }
         ensures { IfOk result (λ paths. paths.items
-            ≡ checkin_paths self.old.stack self.old.config.now self.old.settings.now entries.now) }
+            ≡ checkin_paths self.old.stack self.old.drivers.now self.old.settings.now entries.now) }
     {
         let mut paths = Vec::new(alloc);
         let mut before: &[u8] = &[];
@@ -154,24 +154,17 @@ impl<'a> Asking<'a> {
 pub fn checkin_paths(
     alloc: Global,
     files: AttrStack,
-    config: &Config,
+    drivers: &[Driver],
     settings: &Settings,
     entries: &[Entry],
 ) -> Result<Vec<CheckinPath>, AllocError>
-    ensures { IfOk result (λ paths. paths.items ≡ checkin_paths files config.now settings.now entries.now) }
+    ensures { IfOk result (λ paths. paths.items ≡ checkin_paths files drivers.now settings.now entries.now) }
 {
     let mut asking = Asking {
         stack: files,
-        config: config.settings(),
+        drivers,
         settings,
         names: asked_names(alloc)?,
     };
     asking.paths(alloc, entries)
-}
-
-/// Whether a filter driver has the path.
-pub fn is_driven(path: &CheckinPath) -> bool
-    ensures { result ≡ is_driven path.now }
-{
-    matches!(path.way, Way::Driver)
 }

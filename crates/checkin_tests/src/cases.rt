@@ -13,15 +13,25 @@
 //! - `read-fails`: what can't be read: the `index`, the `config`, or the object with this letter;
 //! - `file`: its path and its bytes, and `long`: its path and how many bytes it has, if they are more than is taken;
 //! - `unread`: the path of a file that can't be read;
-//! - `keep` and `sink`: the call of the keeper and the write that fails, counted from 0.
+//! - `keep` and `sink`: the call of the keeper and the write that fails, counted from 0;
+//! - `process`: the command of a driver, and of its starts, in order, `gives`: all that it writes in the session, and
+//!   `not-started`: a start that fails;
+//! - `once`: a command that runs once, `takes` and `yields`: its input and its output, and `bad`: its exit status
+//!   isn't 0.
+//!
+//! Behind the index there is a line for each starter that was given back, with its command. Below it each start has the
+//! bytes that were sent, and whether the session was shut.
 use crate::index::{index_bytes, kind_of, push_entry};
 use crate::long_files::LongFiles;
 use crate::table::{number_of, parted, rows_of, text_of_row, unknown};
-use byte_path::Bytes;
+use byte_path::{Bytes, Items};
 use checkin_engine::{MemoryFiles, MemoryKeep, checkin};
-use edge_kit::{Mark, MemoryRepo, MemorySink, MemorySpawner, RepoFail, TreeFile};
+use edge_kit::{
+    DriverScript, DriverSeen, Mark, MemoryRepo, MemorySink, MemorySpawner, RepoFail, SessionScript,
+    StartOutcome, TreeFile,
+};
 use object_dir::blob_name;
-use one_shot::MemoryOnce;
+use one_shot::{MemoryOnce, OnceScript};
 use std::alloc::{AllocError, Global};
 use std::process::Abort;
 use std::string::String;
@@ -47,6 +57,10 @@ const OLD_CRLF: [u8; 20] =
 const EMPTY: [u8; 20] =
     *b"\xe6\x9d\xe2\x9b\xb2\xd1\xd6\x43\x4b\x8b\x29\xae\x77\x5a\xd8\xc2\xe4\x8c\x53\x91";
 
+/// The same of a pointer to a large file, of 130 bytes.
+const POINTER: [u8; 20] =
+    *b"\x60\xc8\xd8\xab\x2a\xdc\xf5\x7a\x39\x11\x63\xa7\xee\xb0\xcd\xb8\xbf\x34\x8e\x44";
+
 /// The objects of each repository, as they are stored.
 const OBJECTS: [([u8; 20], &[u8]); 5] = [
     (OLD, b"blob 4\0old\n"),
@@ -56,7 +70,7 @@ const OBJECTS: [([u8; 20], &[u8]); 5] = [
     (EMPTY, b"blob 0\0"),
 ];
 
-/// The name of the object with this letter. There is none with the name of `9`.
+/// The name of the object with this letter. There is none with the name of `9`, or of `p`.
 fn name_of(letters: &[u8]) -> Result<[u8; 20], Fail> {
     Ok(match letters {
         [b'o'] => OLD,
@@ -64,6 +78,7 @@ fn name_of(letters: &[u8]) -> Result<[u8; 20], Fail> {
         [b'k'] => KEYWORD,
         [b'c'] => OLD_CRLF,
         [b'e'] => EMPTY,
+        [b'p'] => POINTER,
         [b'9'] => [9; 20],
         _ => return Err(unknown(letters)),
     })
@@ -85,6 +100,18 @@ struct Case {
     unread: Vec<Bytes>,
     keep_fails: Option<u32>,
     sink_fails: Option<u32>,
+    process: Vec<u8>,
+    sessions: Vec<SessionScript>,
+    run: Run,
+}
+
+/// A command that runs once, its input and its output, and whether its exit status is 0.
+#[derive(Drop)]
+struct Run {
+    command: Vec<u8>,
+    input: Vec<u8>,
+    output: Vec<u8>,
+    zero: bool,
 }
 
 /// The two folders and this word.
@@ -112,6 +139,14 @@ fn no_case(alloc: Global) -> Result<Case, Fail> {
         unread: Vec::new(alloc),
         keep_fails: None,
         sink_fails: None,
+        process: Vec::new(alloc),
+        sessions: Vec::new(alloc),
+        run: Run {
+            command: Vec::new(alloc),
+            input: Vec::new(alloc),
+            output: Vec::new(alloc),
+            zero: true,
+        },
     })
 }
 
@@ -199,12 +234,47 @@ fn set_rest(alloc: Global, case: &mut Case, letter: u8, value: &[u8]) -> Result<
     Ok(true)
 }
 
+/// Adds a start of the driver, with all that it writes in the session.
+fn add_start(
+    alloc: Global,
+    case: &mut Case,
+    starts: bool,
+    output: &[u8],
+) -> Result<(), AllocError> {
+    case.sessions.push(SessionScript {
+        starts,
+        output: Bytes::copy_of(alloc, output)?,
+        piece: u32::MAX,
+        fail_send: None,
+        fail_read: None,
+    })?;
+    Ok(())
+}
+
+/// Takes what a cell says of a driver and of a single run. Whether it is such a cell.
+fn set_driver(alloc: Global, case: &mut Case, letter: u8, value: &[u8]) -> Result<bool, Fail> {
+    match letter {
+        b'p' => case.process = Vec::from_slice(alloc, value)?,
+        b'g' => add_start(alloc, case, true, value)?,
+        b'n' => add_start(alloc, case, false, value)?,
+        b'o' => case.run.command = Vec::from_slice(alloc, value)?,
+        b't' => case.run.input = Vec::from_slice(alloc, value)?,
+        b'y' => case.run.output = Vec::from_slice(alloc, value)?,
+        b'b' => case.run.zero = false,
+        _ => return Ok(false),
+    }
+    Ok(true)
+}
+
 fn set(alloc: Global, case: &mut Case, cell: &[u8]) -> Result<(), Fail> {
     let (_, value) = parted(cell);
     let [letter, ..] = cell else {
         return Err(unknown(cell));
     };
-    if set_repo(alloc, case, *letter, value)? || set_rest(alloc, case, *letter, value)? {
+    if set_repo(alloc, case, *letter, value)?
+        || set_rest(alloc, case, *letter, value)?
+        || set_driver(alloc, case, *letter, value)?
+    {
         return Ok(());
     }
     Err(unknown(cell))
@@ -248,6 +318,31 @@ struct Left {
     status: u8,
     out: MemorySink,
     keep: MemoryKeep,
+    spawner: MemorySpawner,
+}
+
+fn spawner_of(
+    alloc: Global,
+    process: &[u8],
+    sessions: Vec<SessionScript>,
+) -> Result<MemorySpawner, AllocError> {
+    let mut scripts = Vec::new(alloc);
+    scripts.push(DriverScript {
+        command: Bytes::copy_of(alloc, process)?,
+        sessions: Items::from_vec(sessions),
+    })?;
+    Ok(MemorySpawner::new(alloc, scripts))
+}
+
+fn once_of(alloc: Global, run: Run) -> Result<MemoryOnce, AllocError> {
+    let mut scripts = Vec::new(alloc);
+    scripts.push(OnceScript {
+        command: Bytes::from_vec(run.command),
+        input: Bytes::from_vec(run.input),
+        output: Bytes::from_vec(run.output),
+        zero: run.zero,
+    })?;
+    Ok(MemoryOnce::new(alloc, scripts))
 }
 
 fn left_by(alloc: Global, case: Case) -> Result<Left, Fail> {
@@ -257,8 +352,8 @@ fn left_by(alloc: Global, case: Case) -> Result<Left, Fail> {
         files: MemoryFiles::new(alloc, case.files, case.unread),
         long: case.long,
     };
-    let mut spawner = MemorySpawner::new(alloc, Vec::new(alloc));
-    let mut once = MemoryOnce::new(alloc, Vec::new(alloc));
+    let mut spawner = spawner_of(alloc, &case.process, case.sessions)?;
+    let mut once = once_of(alloc, case.run)?;
     let mut keep = MemoryKeep::new(alloc, case.keep_fails);
     let mut out = MemorySink::new(alloc, case.sink_fails);
     let status = checkin(
@@ -271,7 +366,12 @@ fn left_by(alloc: Global, case: Case) -> Result<Left, Fail> {
         &mut keep,
         &mut out,
     );
-    Ok(Left { status, out, keep })
+    Ok(Left {
+        status,
+        out,
+        keep,
+        spawner,
+    })
 }
 
 fn push_name(seen: &mut String, name: &[u8; 20]) -> Result<(), Fail> {
@@ -290,7 +390,34 @@ fn push_objects(seen: &mut String, objects: &[([u8; 20], Bytes)]) -> Result<(), 
     Ok(())
 }
 
-/// The report, the status, a line for each object, and one for the index.
+fn push_start(seen: &mut String, start: &StartOutcome) -> Result<(), Fail> {
+    match start {
+        StartOutcome::Session(session) => {
+            let end = if session.shut { "shut" } else { "left" };
+            let sent = str::from_utf8(session.sent.as_slice())?;
+            writeln!(seen, "sent {sent}\n{end}")?;
+        }
+        StartOutcome::Failed => seen.push_str("not started\n")?,
+    }
+    Ok(())
+}
+
+/// The starters that were given back, with what came of their starts.
+fn push_drivers(seen: &mut String, drivers: &[DriverSeen]) -> Result<(), Fail> {
+    for driver in drivers {
+        writeln!(
+            seen,
+            "driver {}",
+            str::from_utf8(driver.command.as_slice())?
+        )?;
+        for start in driver.starts.as_slice() {
+            push_start(seen, &start.outcome)?;
+        }
+    }
+    Ok(())
+}
+
+/// The report, the status, a line for each object, one for the index, and those of the drivers.
 fn text_of(alloc: Global, left: &Left) -> Result<String, Fail> {
     let mut seen = String::from_str(alloc, str::from_utf8(left.out.bytes())?)?;
     writeln!(seen, "status {}", left.status)?;
@@ -300,6 +427,7 @@ fn text_of(alloc: Global, left: &Left) -> Result<String, Fail> {
         push_name(&mut seen, &blob_name(index))?;
         seen.push_str("\n")?;
     }
+    push_drivers(&mut seen, left.spawner.drivers())?;
     Ok(seen)
 }
 

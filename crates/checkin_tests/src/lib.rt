@@ -7,6 +7,8 @@ mod cases;
 #[cfg(test)]
 mod checkins;
 #[cfg(test)]
+mod drivers;
+#[cfg(test)]
 mod index;
 #[cfg(test)]
 mod long_files;

@@ -1,7 +1,7 @@
 //! Tables in one literal each.
 //!
 //! The check goes through each literal of a program, so a table of many literals costs much. Here a table is one
-//! literal: `|` stands between the cells of a row, and `%` ends the row. What stands after the last `%` is a row too.
+//! literal: `|` stands between the cells of a row, and `^` ends the row. What stands after the last `^` is a row too.
 use std::alloc::{AllocError, Global};
 use std::string::String;
 use std::test::Fail;
@@ -20,7 +20,7 @@ pub fn rows_of(alloc: Global, table: &[u8]) -> Result<Vec<Row>, AllocError> {
                 row.push(cell)?;
                 cell = Vec::new(alloc);
             }
-            b'%' => {
+            b'^' => {
                 row.push(cell)?;
                 rows.push(row)?;
                 row = Vec::new(alloc);

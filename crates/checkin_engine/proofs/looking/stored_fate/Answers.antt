@@ -9,5 +9,5 @@ returns-in-Ok c =
 
 pub returns-in-Err-Form : goal.returns-in-Err-Form
 returns-in-Err-Form c =
-    unstored_is c.args.name.now c.args.storing c.args.old c.args.bytes.items c.without_content.result.content.items c.without_content.result.fate c.without_content.ensures.fate
+    unstored_is c.args.name.now c.args.storing c.args.old c.args.bytes.items c.failed.result.content.items c.failed.result.fate c.failed.ensures.fate
     (no_form c.in-Err-Form.field-0 _ c.in-Err-Form.field-0-is c.in-Err-Form.ensures)

@@ -10,5 +10,5 @@ file_way-requires c =
 
 pub returns-clause-way : goal.returns-clause-way
 returns-clause-way c =
-    c.file_way.ensures ∙ ap (way_by_states c.args.self.now.config.now c.args.self.now.settings.now)
+    c.file_way.ensures ∙ ap (way_by_states c.args.self.now.drivers.now c.args.self.now.settings.now)
     (c.deref-2.ensures.value ∙ c.in_ok-states.ensures.states ∙ ap (λ (names : List (List ℕ)). map (state_of c.args.self.now.stack c.args.path.now) names) (c.deref.ensures.value ∙ c.requires))

@@ -6,5 +6,5 @@ use Rattle.checkin_engine.proofs.paths.Asking.paths.Given as goal
 abbrev pub invariant-loop-entry : goal.invariant-loop-entry
 invariant-loop-entry l = record {
   kept : l.self ≡ l.initial.self;
-  paths : l.paths.items ++ map (checkin_path l.self.stack l.self.config.now l.self.settings.now) (first_entries_after l.before (drop l.entry-index l.entries)) ≡ checkin_paths l.self.stack l.self.config.now l.self.settings.now l.entries;
+  paths : l.paths.items ++ map (checkin_path l.self.stack l.self.drivers.now l.self.settings.now) (first_entries_after l.before (drop l.entry-index l.entries)) ≡ checkin_paths l.self.stack l.self.drivers.now l.self.settings.now l.entries;
 }

@@ -1,5 +1,5 @@
-use Rattle.checkin_engine.proofs.Looked.{old_looks}
-use Rattle.checkin_engine.proofs.looking.read_old.Goals as goal
+use Rattle.checkin_engine.proofs.Found.{old_looks}
+use Rattle.checkin_engine.proofs.finding.read_old.Goals as goal
 
 pub returns-clause-looks : goal.returns-clause-looks
 returns-clause-looks g c =
