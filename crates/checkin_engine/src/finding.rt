@@ -20,7 +20,7 @@ const MAX_FILE: u64 = 268_435_456;
 
 /// What was found of a path's file.
 #[derive(Drop)]
-pub enum Found {
+pub(crate) enum Found {
     /// There is none.
     Gone,
     /// It, or the index's content of the path, couldn't be read.
@@ -155,7 +155,7 @@ fn find_taken<R: Repo>(
 }
 
 /// What is found of a path whose file is stored.
-pub fn find_file<R: Repo, F: Files>(
+pub(crate) fn find_file<R: Repo, F: Files>(
     alloc: Global,
     repo: &mut R,
     files: &mut F,
