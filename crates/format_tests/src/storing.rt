@@ -337,12 +337,7 @@ fn check_sample(rt: &impl Abort, alloc: Global, row: &[u8]) -> Result<(), Fail> 
 }
 
 /// The other characters of a row, each at each place before, in and behind what is read at once.
-fn check_places(
-    rt: &impl Abort,
-    alloc: Global,
-    sample: Sample,
-    others: &[u8],
-) -> Result<(), Fail> {
+fn check_places(rt: &impl Abort, alloc: Global, sample: Sample, others: &[u8]) -> Result<(), Fail> {
     let mut rest = others;
     for _ in 0..3 {
         let (other, behind) = cut(rest, b'|')?;
