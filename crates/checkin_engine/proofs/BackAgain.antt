@@ -137,8 +137,8 @@ module _ (name : List ℕ) (storing : Storing) (raw content ready bytes made : L
       let same : Some other ≡ Some content = sym blob.is ∙ so in
       cc
 
-  one_fate : (o : Outcome) (other : List ℕ) (fate : Fate) → HasStoredFate (Raw raw) (Raw bytes) name storing asked other fate → HasStoredCounts (Raw raw) (Raw bytes) storing o fate → fate ≡ Same
-  one_fate o other Same has counts = refl
+  one_fate : (o : Outcome) (other : List ℕ) (fate : Fate) → HasStoredFate (Raw raw) (Raw bytes) name storing asked other fate → HasStoredCounts (Raw raw) (Raw bytes) storing o fate → (fate ≡ Same) × (other ≡ content)
+  one_fate o other Same has counts = (refl, same_content other has.0)
   one_fate o other (Changed new) (blob, is, differs) counts = absurd (differs (sym is ∙ ap name_of (same_content other blob) ∙ named))
   one_fate o other Gone has counts = absurd has.0
   one_fate o other KeptFate has counts = absurd has

@@ -24,7 +24,7 @@ use Rattle.checkin_engine.specs.Fates.{max_file}
 use Rattle.checkin_engine.specs.Paths.{way_of, checkin_path}
 use Rattle.checkin_engine.specs.Outcomes.{Outcome, IsOutcome}
 
--- what a checkout makes of the content of an entry's object
+-- what a checkout without drivers makes of the content of an entry's object
 abbrev pub tree_file : AttrFiles → Settings → Entry → List ℕ → Prepared
 tree_file files settings e content = prepared (asked_path files settings e).conversion e.name content
 
@@ -40,8 +40,8 @@ pub record LosesNothing (storing : Storing) (name content : List ℕ) : Type 0 w
   pub keywords : HasSafeKeywords storing.ident content
   pub mark : HasSafeMarkIf storing.encoding content
 
--- The bytes of a path's file: those that a checkout makes of the content, or with a driver any that it cleans to the
--- content as it was before the driver.
+-- The bytes of a path's file: those that a checkout without drivers makes of the content. With a driver: any bytes that
+-- the driver cleans to the prepared content.
 abbrev pub IsFileOf : Option PathDriver → Option Asked → List ℕ → List ℕ → List ℕ → Type 0
 IsFileOf None asked made ready bytes = bytes ≡ made
 IsFileOf (Some d) asked made ready bytes = (a : Asked) → asked ≡ Some a → a.answer ≡ Ok ready
@@ -63,10 +63,10 @@ pub record IsAsCheckedOut (object told : List ℕ → Told) (files : AttrFiles) 
       (prepared (conversion_of storing) e.name content).bytes bytes
   pub within : length bytes ≤ max_file
 
--- a path of that name with that content comes to no other fate than that it is the same
+-- a path of that name with that content is the same, and its file is stored as that content
 abbrev pub ComesBack : Storing → List ℕ → List ℕ → List ℕ → Type 0
 ComesBack storing raw name content = (object told : List ℕ → Told) (files : AttrFiles) (config : List Setting)
     (settings : Settings) (drivers : List Driver) (e : Entry) (o : Outcome) → e.name ≡ name
     → AreOfOne config settings drivers
     → IsAsCheckedOut object told files drivers settings e storing raw content o.asked
-    → IsOutcome object told (checkin_path files drivers settings e) o → o.fate ≡ Same
+    → IsOutcome object told (checkin_path files drivers settings e) o → (o.fate ≡ Same) × (o.content ≡ content)

@@ -88,7 +88,7 @@ abbrev pub IsThere : Told → Type 0
 IsThere file = (bytes : List ℕ) × TellsBytes file bytes
 
 -- What becomes of a file that is stored, for which its driver was asked so, and whose content is this if it has one.
--- What lets it be unread is said with the counts.
+-- Why a file is unread is said by the counts (`IsUnread`).
 abbrev pub HasStoredFate : Told → Told → List ℕ → Storing → Option Asked → List ℕ → Fate → Type 0
 HasStoredFate object file name storing asked content Same =
     IsBlobOf object file name storing asked content × (name_of content ≡ name)

@@ -62,15 +62,20 @@ const POINTER: [u8; 20] =
     *b"\x60\xc8\xd8\xab\x2a\xdc\xf5\x7a\x39\x11\x63\xa7\xee\xb0\xcd\xb8\xbf\x34\x8e\x44";
 
 /// The objects of each repository, as they are stored.
-const OBJECTS: [([u8; 20], &[u8]); 5] = [
+const OBJECTS: [([u8; 20], &[u8]); 6] = [
     (OLD, b"blob 4\0old\n"),
     (HI, b"blob 3\0hi\n"),
     (KEYWORD, b"blob 6\0a$Id$\n"),
     (OLD_CRLF, b"blob 5\0old\r\n"),
     (EMPTY, b"blob 0\0"),
+    (
+        POINTER,
+        b"blob 130\0version https://git-lfs.github.com/spec/v1\n\
+        oid sha256:4d7a214614ab2935c943f9e0ff69d22eadbb8f32b1258daaa5e2ca24d17e2393\nsize 12345\n",
+    ),
 ];
 
-/// The name of the object with this letter. There is none with the name of `9`, or of `p`.
+/// The name of the object with this letter. There is none with the name of `9`.
 fn name_of(letters: &[u8]) -> Result<[u8; 20], Fail> {
     Ok(match letters {
         [b'o'] => OLD,
@@ -352,7 +357,8 @@ fn left_by(alloc: Global, case: Case) -> Result<Left, Fail> {
         files: MemoryFiles::new(alloc, case.files, case.unread),
         long: case.long,
     };
-    let mut spawner = spawner_of(alloc, &case.process, case.sessions)?;
+    let process = case.process;
+    let mut spawner = spawner_of(alloc, &process, case.sessions)?;
     let mut once = once_of(alloc, case.run)?;
     let mut keep = MemoryKeep::new(alloc, case.keep_fails);
     let mut out = MemorySink::new(alloc, case.sink_fails);

@@ -30,7 +30,8 @@ const AUTOMATIC: &[u8] = b"\
         failed read a\ndone 0 0 0 0 1\nstatus 1\nindex 80401d843f244814906089231b89abdf43e3635d\n^\
     info a text=auto\n|read-fails o|entry -o a|long a 268435457|\
         failed read a\ndone 0 0 0 0 1\nstatus 1\nindex 80401d843f244814906089231b89abdf43e3635d\n^\
-    info a text=auto\n|read-fails o|entry -o a|gone a\ndone 0 0 1 0 0\nstatus 0\nindex 3330d716f1541c5acb1ed77867020cc7d88df5b7\n^\
+    info a text=auto\n|read-fails o|entry -o a|gone a\ndone 0 0 1 0 0\nstatus 0\n\
+        index 3330d716f1541c5acb1ed77867020cc7d88df5b7\n^\
     info a text=auto\n|entry -9 a|file a hi\r\n|\
         changed 45b983be36b73c0788dc9cbcb76cbb80fc7bb057 a\ndone 0 1 0 0 0\nstatus 0\n\
         45b983be36b73c0788dc9cbcb76cbb80fc7bb057 blob 3\0hi\nindex 2f073065af12317d76f3070d3cf555514ed97710\n^\
@@ -52,7 +53,8 @@ const KINDS: &[u8] = b"\
         index 07abee35d38377c82802e0c8a5475842aa948865\n^\
     info a text ident working-tree-encoding=UTF-16\n|entry lo a|file a x\r\n$Id: y $\n|\
         changed 18861a10ce839337cdfc8d3687c9d1fab27c92d6 a\ndone 0 1 0 0 0\nstatus 0\n\
-        18861a10ce839337cdfc8d3687c9d1fab27c92d6 blob 12\0x\r\n$Id: y $\nindex d2025a6136953938c06eb74b5281a3249e656163\n^";
+        18861a10ce839337cdfc8d3687c9d1fab27c92d6 blob 12\0x\r\n$Id: y $\n\
+        index d2025a6136953938c06eb74b5281a3249e656163\n^";
 
 #[test]
 fn each_kind_of_entry_is_kept_or_stored(rt: HostRuntime) -> Result<(), Fail> {

@@ -76,6 +76,19 @@ fn a_refused_file_stays_or_fails(rt: HostRuntime) -> Result<(), Fail> {
     check(&rt, rt.alloc(), REFUSED)
 }
 
+/// The keeper fails while a session is open, which is shut. A driver's `process` goes before its `clean`.
+const SHUT: &[u8] = b"\
+    keep 0|config [filter \"f\"]\nprocess = p\nclean = tr\n|info a filter=f\n|entry -o a|file a x\n\
+        |process p|gives 0016git-filter-server\n000eversion=2\n00000015capability=clean\n\
+        00000013status=success\n00000007hi\n00000000|status 4\ndriver p\nsent 0016git-filter-client\n\
+        000eversion=2\n00000015capability=clean\n0016capability=smudge\n0015capability=delay\n\
+        00000012command=clean\n000fpathname=a\n00000006x\n0000\nshut\n^";
+
+#[test]
+fn a_session_is_shut_where_the_keeper_fails(rt: HostRuntime) -> Result<(), Fail> {
+    check(&rt, rt.alloc(), SHUT)
+}
+
 /// A session that breaks and a start that fails cost one path, and the next one starts the driver again. One that
 /// doesn't clean is started once.
 const STARTED: &[u8] = b"\
@@ -109,8 +122,11 @@ fn a_driver_is_started_again_after_a_break(rt: HostRuntime) -> Result<(), Fail> 
     check(&rt, rt.alloc(), STARTED)
 }
 
-/// A driver is not asked for a path that is gone, unread, or too large.
+/// A driver is not asked for a path that is gone, unread or too large, or whose encoding is unknown.
 const UNASKED: &[u8] = b"\
+    config [filter \"f\"]\nprocess = p\n|info a filter=f working-tree-encoding=klingon\n\
+        |entry -o a|file a hi\n|process p|failed encoding a\ndone 0 0 0 0 1\nstatus 1\n\
+        index 80401d843f244814906089231b89abdf43e3635d\n^\
     config [filter \"f\"]\nprocess = p\nrequired\n|info a filter=f\n|entry -o a|process p|gone a\n\
         done 0 0 1 0 0\nstatus 0\nindex 3330d716f1541c5acb1ed77867020cc7d88df5b7\n^\
     config [filter \"f\"]\nprocess = p\nrequired\n|info a filter=f\n|entry -o a|file a hi\n\
@@ -132,6 +148,12 @@ fn a_path_without_bytes_asks_nothing(rt: HostRuntime) -> Result<(), Fail> {
 const ONCE: &[u8] = b"\
     config [filter \"f\"]\nclean = tr %f\n|info a filter=f\n|entry -o a|file a hi\n\
         |once tr 'a'|takes hi\n|yields old\n|same a\ndone 1 0 0 0 0\nstatus 0\n\
+        index 80401d843f244814906089231b89abdf43e3635d\n^\
+    config [filter \"f\"]\nprocess =\nclean = tr\n|info a filter=f\n|entry -o a|file a hi\n\
+        |once tr|takes hi\n|yields old\n|same a\ndone 1 0 0 0 0\nstatus 0\n\
+        index 80401d843f244814906089231b89abdf43e3635d\n^\
+    config [filter \"f\"]\nclean = tr\nrequired\n|info a filter=f\n|entry -o a|file a hi\n\
+        |failed filter-error a\ndone 0 0 0 0 1\nstatus 1\n\
         index 80401d843f244814906089231b89abdf43e3635d\n^\
     config [filter \"f\"]\nclean = tr\nrequired\n|info a filter=f\n|entry -o a|file a hi\n\
         |once tr|takes hi\n|yields old\n|bad|failed filter-error a\ndone 0 0 0 0 1\nstatus 1\n\
