@@ -45,8 +45,8 @@ fn an_automatic_text_is_stored_by_the_content_of_the_index(rt: HostRuntime) -> R
     check(&rt, rt.alloc(), AUTOMATIC)
 }
 
-/// A sparse entry, a gitlink, one that is to be added, an unmerged path and one that isn't UTF-8. None of their files is
-/// looked at. A link is stored as its text.
+/// A sparse entry, a gitlink, one that is to be added, an unmerged path and one that isn't UTF-8. None of their files
+/// is looked at. A link is stored as its text.
 const KINDS: &[u8] = b"\
     entry so s|entry go sub|entry ie t|entry 1o u|entry 2h u|entry 3k u|entry -o \xFF|file s hi\n|unread t|unread u|\
         kept s\nkept sub\nkept t\nkept u\nkept \"\\377\"\ndone 0 0 0 5 0\nstatus 0\n\
