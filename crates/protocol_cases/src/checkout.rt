@@ -1,0 +1,255 @@
+//! Events of a checkout, and what they make of its paths.
+//!
+//! The kind `checkout` has a step for each event, spelled as a line of the journal: its word, and behind it what the line
+//! has. A step answers `ok` or `refused`. The step `verdict` and a path gives its verdict, `unclosed` how many paths are
+//! open, and `replay` what a replay of events answers, between which `;` stands. A refused event has to leave the number
+//! of open paths. With a first cell `two` the checkout has the first two paths alone.
+use case_kit::{Cell, noted, number_of, parted, push_all, shown, unknown};
+use checkout_core::{
+    Event, ObjectKind, OpenCause, Own, SkipCause, Start, State, Verdict, replay, step,
+};
+use filter_words::{BreakCause, Caps, ListReply, Reply};
+use std::alloc::{AllocError, Global};
+use std::test::Fail;
+
+/// Path 0 is the pool's. Paths 1 and 2 are of driver 0, which is required. Paths 3 and 4 are of driver 1, which isn't.
+/// Path 5 is a gitlink.
+const STARTS: [Start; 6] = [
+    Start::Pool,
+    Start::Desk {
+        driver: 0,
+        required: true,
+    },
+    Start::Desk {
+        driver: 0,
+        required: true,
+    },
+    Start::Desk {
+        driver: 1,
+        required: false,
+    },
+    Start::Desk {
+        driver: 1,
+        required: false,
+    },
+    Start::Done(Verdict::Skipped(SkipCause::Gitlink)),
+];
+
+/// One worker, actor 0, and a desk for each driver: actor 1 and actor 2.
+fn fresh(alloc: Global) -> Result<State, AllocError> {
+    State::start(alloc, Vec::from_slice(alloc, &STARTS)?, 1, 2)
+}
+
+/// The same with the first two paths alone, and one driver.
+fn fresh_of_two(alloc: Global) -> Result<State, AllocError> {
+    let [first, second, ..] = STARTS;
+    State::start(alloc, Vec::from_slice(alloc, &[first, second])?, 1, 1)
+}
+
+/// What a word means.
+type Words<T> = &'static [(&'static [u8], T)];
+
+const CAPS: Words<(bool, bool)> = &[
+    (b"smudge delay", (true, true)),
+    (b"smudge -", (true, false)),
+    (b"- -", (false, false)),
+];
+
+const CAUSES: Words<OpenCause> = &[
+    (b"not-started", OpenCause::NotStarted),
+    (b"no-memory", OpenCause::NoMemory),
+    (b"broken-ended", OpenCause::Broken(BreakCause::Ended)),
+    (
+        b"broken-strange-path",
+        OpenCause::Broken(BreakCause::StrangePath),
+    ),
+    (b"broken-list", OpenCause::Broken(BreakCause::ListRefused)),
+];
+
+const REPLIES: Words<Reply> = &[
+    (b"content", Reply::Content),
+    (b"error", Reply::Error),
+    (b"error-late", Reply::ErrorAfter),
+    (b"delayed", Reply::Delayed),
+    (b"abort", Reply::Abort),
+    (b"no-memory", Reply::NoMemory),
+    (
+        b"broken-strange-path",
+        Reply::Broken(BreakCause::StrangePath),
+    ),
+    (b"broken-list", Reply::Broken(BreakCause::ListRefused)),
+];
+
+const LIST_REPLIES: Words<ListReply> = &[
+    (b"names 0", ListReply::Names(0)),
+    (b"names 1", ListReply::Names(1)),
+    (b"names 2", ListReply::Names(2)),
+    (b"empty", ListReply::Empty),
+];
+
+const OWNS: Words<Own> = &[
+    (b"fine", Own::Fine { unencoded: false }),
+    (b"fine-unencoded", Own::Fine { unencoded: true }),
+    (b"object-size", Own::Object(ObjectKind::Size)),
+    (b"read", Own::ReadFailed),
+    (b"write", Own::WriteFailed),
+    (b"no-memory", Own::NoMemory),
+];
+
+/// The meaning of a word.
+fn found<T: Copy>(words: &[(&'static [u8], T)], word: &[u8]) -> Result<T, Fail> {
+    for (known, meant) in words {
+        if *known == word {
+            return Ok(*meant);
+        }
+    }
+    Err(unknown(word))
+}
+
+/// The event of a path.
+fn event_of_path(word: &[u8], path: u32, rest: &[u8]) -> Result<Event, Fail> {
+    if word == b"claim".as_slice() {
+        let actor = number_of(rest)?;
+        Ok(Event::Claim { path, actor })
+    } else if word == b"close".as_slice() {
+        let (actor, own) = parted(rest);
+        let actor = number_of(actor)?;
+        let own = found(OWNS, own)?;
+        Ok(Event::Close { path, actor, own })
+    } else if word == b"open-failed".as_slice() {
+        let cause = found(CAUSES, rest)?;
+        Ok(Event::OpenFailed { path, cause })
+    } else if word == b"answered".as_slice() {
+        let reply = found(REPLIES, rest)?;
+        Ok(Event::Answered { path, reply })
+    } else if word == b"redone".as_slice() {
+        let reply = found(REPLIES, rest)?;
+        Ok(Event::Redone { path, reply })
+    } else if word == b"named".as_slice() {
+        Ok(Event::Named { path })
+    } else if word == b"hand-back".as_slice() {
+        Ok(Event::HandBack { path })
+    } else {
+        Err(unknown(word))
+    }
+}
+
+/// The event of a journal's line.
+fn event_of(word: &[u8], text: &[u8]) -> Result<Event, Fail> {
+    let (number, rest) = parted(text);
+    let number = number_of(number)?;
+    if word == b"opened".as_slice() {
+        let (smudge, delay) = found(CAPS, rest)?;
+        let caps = Caps { smudge, delay };
+        Ok(Event::Opened {
+            driver: number,
+            caps,
+        })
+    } else if word == b"listed".as_slice() {
+        let reply = found(LIST_REPLIES, rest)?;
+        Ok(Event::Listed {
+            driver: number,
+            reply,
+        })
+    } else if word == b"shut".as_slice() {
+        Ok(Event::Shut { driver: number })
+    } else {
+        event_of_path(word, number, rest)
+    }
+}
+
+/// The events between which `;` stands.
+fn events_of(alloc: Global, text: &[u8]) -> Result<Vec<Event>, Fail> {
+    let mut events = Vec::new(alloc);
+    for line in text.split(|byte| *byte == b';') {
+        let (word, rest) = parted(line);
+        events.push(event_of(word, rest)?)?;
+    }
+    Ok(events)
+}
+
+/// What a replay of events answers.
+fn replayed(alloc: Global, state: &mut State, text: &[u8]) -> Result<Vec<u8>, Fail> {
+    let events = events_of(alloc, text)?;
+    if events.len() > 1000 {
+        return Err(unknown(text));
+    }
+    Ok(shown(alloc, replay(state, &events))?)
+}
+
+/// A word, the cause behind it, and a note if the text isn't encoded.
+fn verdict_text(
+    alloc: Global,
+    word: &[u8],
+    cause: &str,
+    unencoded: bool,
+) -> Result<Vec<u8>, AllocError> {
+    let mut text = Vec::from_slice(alloc, word)?;
+    text.extend_from_slice(cause.as_bytes())?;
+    if unencoded {
+        text.extend_from_slice(b" unencoded")?;
+    }
+    Ok(text)
+}
+
+/// The verdict of a path.
+fn verdict_of(alloc: Global, state: &State, path: u32) -> Result<Vec<u8>, AllocError> {
+    match state.verdict(path) {
+        None => Vec::from_slice(alloc, b"none"),
+        Some(Verdict::Written { unencoded }) => verdict_text(alloc, b"written", "", unencoded),
+        Some(Verdict::Unfiltered { cause, unencoded }) => {
+            verdict_text(alloc, b"unfiltered ", cause.word(), unencoded)
+        }
+        Some(Verdict::Failed(cause)) => verdict_text(alloc, b"failed ", cause.word(), false),
+        Some(Verdict::NoMemory) => Vec::from_slice(alloc, b"no-memory"),
+        Some(Verdict::Skipped(cause)) => verdict_text(alloc, b"skipped ", cause.word(), false),
+    }
+}
+
+/// What an event answers.
+fn answer_of(alloc: Global, state: &mut State, event: Event) -> Result<Vec<u8>, AllocError> {
+    let open = state.unclosed();
+    if step(state, event).is_ok() {
+        return Vec::from_slice(alloc, b"ok");
+    }
+    let is_kept = state.unclosed() == open;
+    noted(
+        Vec::from_slice(alloc, b"refused")?,
+        is_kept,
+        b"other paths are open",
+    )
+}
+
+/// What a step answers.
+fn step_of(alloc: Global, state: &mut State, cell: &Cell) -> Result<Vec<u8>, Fail> {
+    let key = cell.key.as_slice();
+    if key == b"verdict".as_slice() {
+        Ok(verdict_of(alloc, state, number_of(&cell.value)?)?)
+    } else if key == b"unclosed".as_slice() {
+        Ok(shown(alloc, state.unclosed())?)
+    } else if key == b"replay".as_slice() {
+        replayed(alloc, state, &cell.value)
+    } else {
+        let event = event_of(key, &cell.value)?;
+        Ok(answer_of(alloc, state, event)?)
+    }
+}
+
+/// What comes of a case of the kind `checkout`.
+pub fn followed(alloc: Global, cells: &[Cell]) -> Result<Vec<u8>, Fail> {
+    let is_two = match cells.first() {
+        Some(cell) => cell.key.as_slice() == b"two".as_slice(),
+        None => false,
+    };
+    let (mut state, begun) = if is_two {
+        (fresh_of_two(alloc)?, 1)
+    } else {
+        (fresh(alloc)?, 0)
+    };
+    let mut came = Vec::new(alloc);
+    for cell in cells.iter().skip(begun) {
+        let answer = step_of(alloc, &mut state, cell)?;
+        push_all(&mut came, &[&answer, b"\n"])?;
+    }
+    Ok(came)
+}

@@ -1,0 +1,144 @@
+//! What a reader gives of packets.
+//!
+//! A payload is shown between brackets, a flush packet as `~`, a front of which more is needed as `.`, bad digits as
+//! `#` and their place, and a bad length as `!`, its place and itself.
+//!
+//! - `packets`: the cell `bytes`. Any pieces of them have to give the same.
+//! - `reader`: the steps `feed` and these bytes, `fill` up to the last byte that a reader holds, `next` packet, which has
+//!   to be what a look at it told before, and `skip` a flush packet after a look at it.
+use crate::runs::{folded, unfolded};
+use case_kit::{Cell, noted, push_all, unknown};
+use pkt_line::{Next, PktFault, PktReader};
+use std::alloc::{AllocError, Global};
+use std::test::Fail;
+
+/// Appends what a reader gave.
+fn push_given(
+    alloc: Global,
+    text: &mut Vec<u8>,
+    given: Result<Next<'_>, PktFault>,
+) -> Result<(), AllocError> {
+    match given {
+        Ok(Next::Payload(payload)) => push_all(text, &[b"[", payload, b"]"]),
+        Ok(Next::Flush) => text.extend_from_slice(b"~"),
+        Ok(Next::NeedMore) => text.extend_from_slice(b"."),
+        Err(PktFault::BadDigits { place }) => {
+            text.extend_from_slice(format!(in alloc; "#{place}")?.as_bytes())
+        }
+        Err(PktFault::BadLength { place, length }) => {
+            text.extend_from_slice(format!(in alloc; "!{place},{length}")?.as_bytes())
+        }
+    }
+}
+
+/// Appends each packet that the reader can give after it took so many bytes.
+fn drain(
+    alloc: Global,
+    reader: &mut PktReader,
+    count: usize,
+    text: &mut Vec<u8>,
+) -> Result<(), AllocError> {
+    for _ in 0..count {
+        if reader.peek() == Ok(Next::NeedMore) {
+            break;
+        }
+        push_given(alloc, text, reader.next())?;
+    }
+    Ok(())
+}
+
+/// What comes of the bytes in pieces of this size.
+fn given_in_pieces(alloc: Global, bytes: &[u8], size: usize) -> Result<Vec<u8>, AllocError> {
+    let mut reader = PktReader::reserve(alloc)?;
+    let mut text = Vec::new(alloc);
+    for piece in bytes.chunks(size.max(1)) {
+        if reader.feed(piece) != piece.len() {
+            text.extend_from_slice(b" not taken whole ")?;
+        }
+        drain(alloc, &mut reader, piece.len(), &mut text)?;
+    }
+    Ok(text)
+}
+
+/// What comes of a case of the kind `packets`.
+pub fn read_anyhow(alloc: Global, cells: &[Cell]) -> Result<Vec<u8>, Fail> {
+    let [bytes] = cells else {
+        return Err(unknown(b"packets"));
+    };
+    let bytes = unfolded(alloc, &bytes.value)?;
+    let whole = given_in_pieces(alloc, &bytes, 65_520)?;
+    let mut is_same = true;
+    for size in [1, 2, 3, 1000] {
+        let given = given_in_pieces(alloc, &bytes, size)?;
+        is_same = is_same && given.as_slice() == whole.as_slice();
+    }
+    Ok(noted(
+        folded(alloc, &whole)?,
+        is_same,
+        b"other pieces give other packets",
+    )?)
+}
+
+/// Fills the reader, and returns whether it takes all that it has room for and no more.
+fn fills(alloc: Global, reader: &mut PktReader) -> Result<bool, AllocError> {
+    let longest = vec![in alloc; b'x'; 65_516]?;
+    let room = reader.room();
+    let taken = reader.feed(&longest);
+    let more = reader.feed(b"y");
+    Ok(taken == room && more == 0)
+}
+
+/// Appends the next packet.
+fn push_next(alloc: Global, reader: &mut PktReader, text: &mut Vec<u8>) -> Result<(), AllocError> {
+    let mut seen = Vec::new(alloc);
+    push_given(alloc, &mut seen, reader.peek())?;
+    let mut given = Vec::new(alloc);
+    push_given(alloc, &mut given, reader.next())?;
+    let is_told = seen.as_slice() == given.as_slice();
+    let given = noted(given, is_told, b"another one was told")?;
+    text.extend_from_slice(&given)
+}
+
+/// Drops a flush packet, if one is at the front.
+fn skip_flush(reader: &mut PktReader) {
+    if let Ok(Next::Flush) = reader.peek() {
+        reader.skip(4);
+    }
+}
+
+/// Takes a step of a case of the kind `reader`.
+fn take_step(
+    alloc: Global,
+    reader: &mut PktReader,
+    text: &mut Vec<u8>,
+    cell: &Cell,
+) -> Result<(), Fail> {
+    let key = cell.key.as_slice();
+    if key == b"feed".as_slice() {
+        if reader.feed(&cell.value) != cell.value.len() {
+            text.extend_from_slice(b" not taken whole ")?;
+        }
+    } else if key == b"fill".as_slice() {
+        if !fills(alloc, reader)? {
+            text.extend_from_slice(b" not full ")?;
+        }
+    } else if key == b"next".as_slice() {
+        push_next(alloc, reader, text)?;
+    } else if key == b"skip".as_slice() {
+        push_given(alloc, text, reader.peek())?;
+        skip_flush(reader);
+    } else {
+        return Err(unknown(key));
+    }
+    Ok(())
+}
+
+/// What comes of a case of the kind `reader`.
+pub fn read_by_steps(alloc: Global, cells: &[Cell]) -> Result<Vec<u8>, Fail> {
+    let mut reader = PktReader::reserve(alloc)?;
+    let mut text = Vec::new(alloc);
+    for cell in cells {
+        take_step(alloc, &mut reader, &mut text, cell)?;
+    }
+    Ok(folded(alloc, &text)?)
+}

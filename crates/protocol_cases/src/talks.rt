@@ -1,0 +1,270 @@
+//! A talk with a driver that has written all its output.
+//!
+//! The kind `talk` first has the cells of the driver and its link, in any order:
+//!
+//! - `part`: a part of the output, and `parts`: a number, and a part that comes so often. A read gives bytes of one part;
+//! - `piece`: how many bytes a read gives at most;
+//! - `fails`: `send` or `read`, which fails at once;
+//! - `forgets`: neither the link nor a page keeps its bytes.
+//!
+//! Where the handshake breaks, its cause comes. Otherwise each step has a line:
+//!
+//! - `ask` and `again`, each with a path and behind a space the content: the reply, what the puts answered, the page's
+//!   state, how many bytes it was put and, if it keeps them, these. With `ask-broken` the page's next put fails;
+//! - `list`: the reply; `listed`: the places that are listed; `deliver`: the first of them; `puts`: how many there were.
+//!
+//! Then come `live` or `over`, and how far the link is shut. A last cell `then` asks for what was `sent`, for the `sizes`
+//! of all and of the longest send, or for the puts at each of the `reads`.
+ghost use Rattle.std.specs.Prelude.{◌≡◌};
+ghost use Rattle.edge_kit.specs.declared.leaf_state.LeafState.TheVariants as leaf_state;
+
+use crate::delays::table_of_six;
+use crate::page::{Counter, Page};
+use crate::pipe::Pipe;
+use crate::runs::{folded, unfolded};
+use case_kit::{Cell, number_of, parted, push_all, shown, unknown};
+use delay_table::DelayTable;
+use edge_kit::{Link, SendFault};
+use filter_proto::{Begun, Session};
+use filter_words::{BreakCause, Reply};
+use std::alloc::{AllocError, Global};
+use std::test::Fail;
+
+/// The name that `git hash-object` gives to a pointer of 130 bytes to a large file. Each request has this name.
+const NAME: [u8; 20] =
+    *b"\x60\xc8\xd8\xab\x2a\xdc\xf5\x7a\x39\x11\x63\xa7\xee\xb0\xcd\xb8\xbf\x34\x8e\x44";
+
+/// What came of a request.
+type Came = (Reply, Result<(), SendFault>);
+
+/// What a talk has beside its session.
+#[derive(Drop)]
+pub struct Talk {
+    alloc: Global,
+    table: DelayTable,
+    puts: Counter,
+    keeps: bool,
+    /// The lines so far.
+    pub came: Vec<u8>,
+}
+
+impl Talk {
+    /// A talk in which nothing was said.
+    pub fn new(alloc: Global, puts: Counter, keeps: bool) -> Result<Talk, AllocError> {
+        Ok(Talk {
+            alloc,
+            table: table_of_six(alloc)?,
+            puts,
+            keeps,
+            came: Vec::new(alloc),
+        })
+    }
+
+    /// Adds the line of a request.
+    fn push_asked(&mut self, came: Came, page: &Page) -> Result<(), AllocError> {
+        let alloc = self.alloc;
+        let came = shown(alloc, came)?;
+        let state = shown(alloc, page.state)?;
+        let bytes = shown(alloc, page.bytes)?;
+        let texts: [&[u8]; 8] = [
+            &came,
+            b" ",
+            &state,
+            b" ",
+            &bytes,
+            b":",
+            &page.content,
+            b"\n",
+        ];
+        push_all(&mut self.came, &texts)
+    }
+
+    /// Adds a line.
+    pub fn push_line(&mut self, line: &[u8]) -> Result<(), AllocError> {
+        push_all(&mut self.came, &[line, b"\n"])
+    }
+
+    /// Takes a step that looks at the table or at the puts.
+    fn take_look(&mut self, key: &[u8]) -> Result<(), Fail> {
+        let alloc = self.alloc;
+        let line = if key == b"listed".as_slice() {
+            shown(alloc, self.table.listed())?
+        } else if key == b"deliver".as_slice() {
+            shown(alloc, self.table.deliver())?
+        } else if key == b"puts".as_slice() {
+            shown(alloc, self.puts.get())?
+        } else if key == b"then".as_slice() {
+            return Ok(());
+        } else {
+            return Err(unknown(key));
+        };
+        self.push_line(&line)?;
+        Ok(())
+    }
+}
+
+/// Asks for a path and its content, or again for a path, if that is allowed.
+fn ask<K: Link>(
+    session: &mut Session<K>,
+    path: &[u8],
+    content: Option<&[u8]>,
+    page: &mut Page,
+) -> Option<Came>
+    requires { page.old.state ≡ leaf_state.Fresh }
+{
+    if !session.live() {
+        return None;
+    }
+    if !session.caps().smudge {
+        return None;
+    }
+    if path.is_empty() || path.len() > 4096 {
+        return None;
+    }
+    let asked = match content {
+        Some(content) => session.ask(path, &NAME, content, page),
+        None => session.ask_again(path, &NAME, page),
+    };
+    Some((asked.reply, asked.put))
+}
+
+/// A request with a fresh page, of which the put with this number fails.
+fn take_request<K: Link>(
+    talk: &mut Talk,
+    session: &mut Session<K>,
+    path: &[u8],
+    content: Option<&[u8]>,
+    fails: Option<u32>,
+) -> Result<(), Fail> {
+    let mut page = Page::new(talk.alloc, talk.puts.clone()?, talk.keeps, fails);
+    let Some(came) = ask(session, path, content, &mut page) else {
+        return Err(unknown(path));
+    };
+    talk.push_asked(came, &page)?;
+    Ok(())
+}
+
+/// A list request.
+fn take_list<K: Link>(talk: &mut Talk, session: &mut Session<K>) -> Result<(), Fail> {
+    if !session.live() {
+        return Err(unknown(b"list"));
+    }
+    let reply = session.list(&mut talk.table);
+    let line = shown(talk.alloc, reply)?;
+    talk.push_line(&line)?;
+    Ok(())
+}
+
+/// Takes a step.
+pub fn take_step<K: Link>(
+    talk: &mut Talk,
+    session: &mut Session<K>,
+    cell: &Cell,
+) -> Result<(), Fail> {
+    let key = cell.key.as_slice();
+    let (path, content) = parted(&cell.value);
+    if key == b"ask".as_slice() {
+        let content = unfolded(talk.alloc, content)?;
+        take_request(talk, session, path, Some(&content), None)
+    } else if key == b"ask-broken".as_slice() {
+        let fails = talk.puts.get();
+        take_request(talk, session, path, Some(content), Some(fails))
+    } else if key == b"again".as_slice() {
+        take_request(talk, session, path, None, None)
+    } else if key == b"list".as_slice() {
+        take_list(talk, session)
+    } else {
+        talk.take_look(key)
+    }
+}
+
+/// Takes a cell of the driver, and returns whether it is one.
+pub fn take_part(alloc: Global, pipe: &mut Pipe, cell: &Cell) -> Result<bool, Fail> {
+    let key = cell.key.as_slice();
+    let value = cell.value.as_slice();
+    if key == b"part".as_slice() {
+        pipe.add(alloc, &unfolded(alloc, value)?, 1)?;
+    } else if key == b"parts".as_slice() {
+        let (times, part) = parted(value);
+        pipe.add(alloc, &unfolded(alloc, part)?, number_of(times)?)?;
+    } else if key == b"piece".as_slice() {
+        pipe.piece = number_of(value)? as usize;
+    } else if key == b"fails".as_slice() {
+        pipe.fails_send = value == b"send".as_slice();
+        pipe.fails_read = value == b"read".as_slice();
+    } else if key == b"forgets".as_slice() {
+        pipe.keeps = false;
+    } else {
+        return Ok(false);
+    }
+    Ok(true)
+}
+
+/// The driver of the first cells, and how many they are.
+pub fn pipe_of(alloc: Global, cells: &[Cell]) -> Result<(Pipe, usize), Fail> {
+    let mut pipe = Pipe::new(alloc)?;
+    let mut count = 0usize;
+    for cell in cells {
+        if !take_part(alloc, &mut pipe, cell)? {
+            break;
+        }
+        count = count.saturating_add(1);
+    }
+    Ok((pipe, count))
+}
+
+/// What a last cell asks for.
+fn then_of(alloc: Global, pipe: &Pipe, what: &[u8]) -> Result<Vec<u8>, Fail> {
+    if what == b"sent".as_slice() {
+        Ok(folded(alloc, &pipe.sent)?)
+    } else if what == b"sizes".as_slice() {
+        Ok(shown(alloc, (pipe.sent_bytes, pipe.most_sent))?)
+    } else if what == b"reads".as_slice() {
+        Ok(shown(alloc, pipe.puts.as_slice())?)
+    } else {
+        Err(unknown(what))
+    }
+}
+
+/// Appends how a session and its link end, and what the last cell asks for.
+pub fn push_end(
+    alloc: Global,
+    came: &mut Vec<u8>,
+    live: bool,
+    pipe: &Pipe,
+    cells: &[Cell],
+) -> Result<(), Fail> {
+    came.extend_from_slice(if live { b"live " } else { b"over " })?;
+    came.extend_from_slice(pipe.end_word())?;
+    if let Some(last) = cells.last() {
+        if last.key.as_slice() == b"then".as_slice() {
+            push_all(came, &[b"\n", &then_of(alloc, pipe, &last.value)?])?;
+        }
+    }
+    Ok(())
+}
+
+/// What comes of a broken handshake.
+pub fn broken(alloc: Global, cause: BreakCause, pipe: &Pipe) -> Result<Vec<u8>, AllocError> {
+    let mut came = shown(alloc, cause)?;
+    push_all(&mut came, &[b" ", pipe.end_word()])?;
+    Ok(came)
+}
+
+/// What comes of a case of the kind `talk`.
+pub fn talked(alloc: Global, cells: &[Cell]) -> Result<Vec<u8>, Fail> {
+    let (pipe, count) = pipe_of(alloc, cells)?;
+    let mut talk = Talk::new(alloc, pipe.counter()?, pipe.keeps)?;
+    let mut session = match Session::begin(alloc, pipe) {
+        Begun::Live(session) => session,
+        Begun::Broken(pipe, cause) => return Ok(broken(alloc, cause, &pipe)?),
+        Begun::NoMemory(_) => return Err(Fail::from(AllocError)),
+    };
+    for cell in cells.iter().skip(count) {
+        take_step(&mut talk, &mut session, cell)?;
+    }
+    let live = session.live();
+    let pipe = session.shut();
+    push_end(alloc, &mut talk.came, live, &pipe, cells)?;
+    Ok(talk.came)
+}
