@@ -236,10 +236,13 @@ pub fn push_end(
 ) -> Result<(), Fail> {
     came.extend_from_slice(if live { b"live " } else { b"over " })?;
     came.extend_from_slice(pipe.end_word())?;
-    if let Some(last) = cells.last() {
-        if last.key.as_slice() == b"then".as_slice() {
-            push_all(came, &[b"\n", &then_of(alloc, pipe, &last.value)?])?;
-        }
+    let Some(last) = cells.last() else {
+        return Ok(());
+    };
+    if last.key.as_slice() == b"then".as_slice() {
+        let then = then_of(alloc, pipe, &last.value)?;
+        came.extend_from_slice(b"\n")?;
+        came.extend_from_slice(&then)?;
     }
     Ok(())
 }
