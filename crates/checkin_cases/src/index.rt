@@ -1,5 +1,5 @@
-//! An index as git spells it (gitformat-index(5)), for the tests.
-use crate::table::unknown;
+//! An index as git spells it (gitformat-index(5)).
+use case_kit::unknown;
 use std::alloc::{AllocError, Global};
 use std::test::Fail;
 
