@@ -1,15 +1,12 @@
 #!/bin/sh
 # Replays runs of 10,000, 30,000, 100,000 and 300,000 paths, five times each, and prints a table: the paths, the events, the
 # least time of the replay alone in nanoseconds an event, and the peak of memory of the whole program.
-cd "$(dirname "$0")/../crates/replay_bench" || exit 1
-program=out/replay_bench
-rt run -- 1000 >/dev/null 2>&1
-[ -x "$program" ] || { echo "replay: the build failed" >&2; exit 1; }
+program=$("$(dirname "$0")/../tests/program" bench_kit) || exit 1
 echo '| Paths | Events | ns an event | MiB |'
 echo '|---|---|---|---|'
 for paths in 10000 30000 100000 300000; do
     for _ in 1 2 3 4 5; do
-        /usr/bin/time -f '%M kibibytes' "$program" "$paths" 2>&1 || exit 1
+        /usr/bin/time -f '%M kibibytes' "$program" replay "$paths" 2>&1 || exit 1
     done | awk '
         / paths, / { paths = $1; events = $3 }
         / microseconds/ { if (!least || $1 < least) least = $1 }

@@ -1,0 +1,4 @@
+mod Below
+mod Pairing
+pub mod Places
+mod Working
