@@ -66,7 +66,7 @@ fn shortened(
     long: &[u8],
     short: &[u8],
 ) -> Result<Vec<u8>, AllocError> {
-    if long.is_empty() {
+    if long.is_empty() || long.len() > text.len() {
         return Ok(text);
     }
     let Some(at) = memmem::find(&text, long) else {
