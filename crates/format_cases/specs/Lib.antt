@@ -1,0 +1,4 @@
+pub mod Answer
+pub mod Drafts
+pub mod Listing
+pub mod Task

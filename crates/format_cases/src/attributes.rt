@@ -1,0 +1,60 @@
+//! The lines of attribute files.
+use crate::answer::text_of;
+use attr_line::{AttrRow, Pair, Skipped, read_attributes};
+use case_kit::{push_all, unknown};
+use std::alloc::{AllocError, Global};
+use std::test::Fail;
+
+/// Appends pairs as `git check-attr` writes them, and ends the line.
+fn push_pairs(list: &mut Vec<u8>, pairs: &[Pair]) -> Result<(), AllocError> {
+    for pair in pairs {
+        let state = text_of(&pair.state);
+        push_all(list, &[b" ", pair.name.as_slice(), b":", state])?;
+    }
+    list.extend_from_slice(b"\n")
+}
+
+/// Appends a row: its pattern or, after `macro `, its name, and then its pairs.
+fn push_row(list: &mut Vec<u8>, row: &AttrRow) -> Result<(), AllocError> {
+    match row {
+        AttrRow::Rule { pattern, pairs } => {
+            push_all(list, &[pattern.as_slice()])?;
+            push_pairs(list, pairs.as_slice())
+        }
+        AttrRow::Macro { name, pairs } => {
+            push_all(list, &[b"macro ", name.as_slice()])?;
+            push_pairs(list, pairs.as_slice())
+        }
+    }
+}
+
+/// Whether a folder is the top folder.
+fn is_top(folder: &[u8]) -> Result<bool, Fail> {
+    if folder == b"top".as_slice() {
+        Ok(true)
+    } else if folder == b"below".as_slice() {
+        Ok(false)
+    } else {
+        Err(unknown(folder))
+    }
+}
+
+/// The rows of a folder's file, and after `|` how many lines are skipped: lines that are too long, negative patterns, bad
+/// names, and macros where none is allowed.
+pub fn read(alloc: Global, text: &[u8], folder: &[u8]) -> Result<Vec<u8>, Fail> {
+    let file = read_attributes(alloc, text, is_top(folder)?)?;
+    let mut list = Vec::new(alloc);
+    let rows = file.rows.as_slice();
+    for row in rows {
+        push_row(&mut list, row)?;
+    }
+    let Skipped {
+        long,
+        negative,
+        name,
+        place,
+    } = file.skipped;
+    let counts = format!(in alloc; "|{long} {negative} {name} {place}")?;
+    push_all(&mut list, &[counts.as_bytes()])?;
+    Ok(list)
+}

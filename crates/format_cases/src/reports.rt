@@ -1,0 +1,40 @@
+//! The forms of a report or a plan.
+use case_kit::{noted, unknown};
+use edge_kit::{MemorySink, SendFault, Sink};
+use report_forms::{FormSink, ReportForm};
+use std::alloc::{AllocError, Global};
+use std::test::Fail;
+
+fn form_of(cell: &[u8]) -> Result<ReportForm, Fail> {
+    if cell == b"text".as_slice() {
+        Ok(ReportForm::Text)
+    } else if cell == b"nul".as_slice() {
+        Ok(ReportForm::Nul)
+    } else if cell == b"json".as_slice() {
+        Ok(ReportForm::Json)
+    } else if cell == b"failures".as_slice() {
+        Ok(ReportForm::Failures)
+    } else {
+        Err(unknown(cell))
+    }
+}
+
+/// The lines in a form, or `fault` if they have none in it or the sink's write with this number fails, with a note if it
+/// counts otherwise or something is written all the same.
+pub fn formed(
+    alloc: Global,
+    form: &[u8],
+    lines: &[u8],
+    fail_at: Option<u32>,
+) -> Result<Vec<u8>, Fail> {
+    let mut sink = FormSink::new(alloc, form_of(form)?, MemorySink::new(alloc, fail_at));
+    match sink.write(lines) {
+        Ok(()) => Ok(Vec::from_slice(alloc, sink.out().bytes())?),
+        Err(SendFault::Failed) => {
+            let is_so = sink.faults == 1 && sink.out().bytes().is_empty();
+            let came = Vec::from_slice(alloc, b"fault")?;
+            Ok(noted(came, is_so, b"it counts otherwise, or writes")?)
+        }
+        Err(SendFault::NoMemory) => Err(AllocError.into()),
+    }
+}

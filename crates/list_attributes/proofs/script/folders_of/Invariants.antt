@@ -1,7 +1,0 @@
-use Rattle.std.proofs.Common.{◌≡◌, take}
-use Rattle.std.specs.List.{flat_map}
-use Rattle.list_attributes.specs.Drafts.{files_of}
-use Rattle.list_attributes.proofs.script.folders_of.Given as goal
-
-abbrev pub invariant-loop-draft : goal.invariant-loop-draft
-invariant-loop-draft l = l.files.items ≡ flat_map files_of (take l.draft-index l.drafts)
