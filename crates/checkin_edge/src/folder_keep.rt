@@ -4,11 +4,11 @@ ghost use Rattle.edge_kit.specs.Faults.{AfterSend};
 ghost use Rattle.checkin_edge.specs.Places.{folder_of, file_of};
 
 use crate::new_file::{replace, write_once};
+use crate::stored_object::has_object;
 use checkin_engine::Keep;
 use edge_adapters::path_in;
 use edge_kit::SendFault;
 use std::alloc::{AllocError, Global};
-use std::fs::symlink_metadata;
 use std::io;
 use std::io::ErrorKind;
 use zlib_store::zlib_stored;
@@ -22,8 +22,8 @@ pub enum ObjectForm {
     Zlib,
 }
 
-/// A folder of objects, and the file of an index. An object's file that is there stays as it is. Each file gets its name
-/// once it is whole, so that one that has it is whole, and an index stays until the next one is.
+/// A folder of objects, and the file of an index. An object's file that has the object stays, and any other is replaced.
+/// Each file gets its name once it is whole, so an index stays until the next one is.
 #[derive(Drop)]
 pub struct FolderKeep {
     rt: HostRuntime,
@@ -54,15 +54,6 @@ fn object_file(alloc: Global, folder: &str, name: &[u8; 20]) -> Result<String, A
     path_in(alloc, folder, digits.as_str())
 }
 
-/// Whether a file with some bytes is at the path. A link is none, and an empty file is what a crash left.
-fn is_there(rt: HostRuntime, path: &str) -> io::Result<bool> {
-    match symlink_metadata(&rt, path) {
-        Ok(found) => Ok(found.is_file() && found.len() > 0),
-        Err(error) if error.kind() == ErrorKind::NotFound => Ok(false),
-        Err(error) => Err(error),
-    }
-}
-
 impl FolderKeep {
     /// A keeper in this folder of objects, in this form, and in this file of an index. It touches nothing.
     pub fn new(rt: HostRuntime, objects: String, index: String, form: ObjectForm) -> FolderKeep
@@ -87,11 +78,11 @@ impl FolderKeep {
         self.error.as_ref()
     }
 
-    /// Writes an object's file, unless it is there.
+    /// Writes an object's file, unless it is there with just these bytes.
     fn write_object(&self, name: &[u8; 20], raw: &[u8]) -> io::Result<()> {
         let folder = object_folder(self.alloc, self.objects.as_str(), name)?;
         let path = object_file(self.alloc, folder.as_str(), name)?;
-        if is_there(self.rt, path.as_str())? {
+        if has_object(self.rt, self.form, path.as_str(), raw)? {
             return Ok(());
         }
         match self.form {

@@ -6,6 +6,7 @@ mod folder_files;
 mod folder_keep;
 mod looking;
 mod new_file;
+mod stored_object;
 
 pub use folder_files::FolderFiles;
 pub use folder_keep::{FolderKeep, ObjectForm};

@@ -15,8 +15,9 @@ const CASES: &[&str] = &[
     "~p~+ohi~test $(stat -c %a $f) = 444; printf 'blob 2\\0hi' | cmp - $f",
     "~p~+ohi;+ohi~printf 'blob 2\\0hi' | cmp - $f; test $(find . -type f | wc -l) = 1",
     "mkdir objects~p~+ohi~printf 'blob 2\\0hi' | cmp - $f",
-    // a file that is there stays, but a link or an empty file is none
-    "mkdir -p ${f%/*}; printf old > $f~p~+ohi~test $(cat $f) = old",
+    // a file that has the object stays, and any other is replaced: other bytes, a link, an empty file
+    "mkdir -p ${f%/*}; printf 'blob 2\\0hi' > $f; ln $f first~p~+ohi~test $f -ef first",
+    "mkdir -p ${f%/*}; printf old > $f~p~+ohi~printf 'blob 2\\0hi' | cmp - $f",
     "mkdir -p ${f%/*}; ln -s nowhere $f~p~+ohi~test ! -L $f; printf 'blob 2\\0hi' | cmp - $f",
     "mkdir -p ${f%/*}; : > $f~p~+ohi~printf 'blob 2\\0hi' | cmp - $f",
     "mkdir -p $f~p~-ohi~rmdir $f; test $(find . -type f | wc -l) = 0",
@@ -32,6 +33,13 @@ const CASES: &[&str] = &[
     "git init -q --bare .~z~+o~git cat-file -e $(: | git hash-object --stdin)",
     "git init -q --bare .~z~+z~head -c 200000 /dev/zero > z; git cat-file blob $(git hash-object z) | cmp - z",
     "git init -q --bare .~z~+z;+ohi~git fsck 2>&1 | grep -c dangling | grep -qx 2",
+    // the object's file as git writes it stays, and a broken one is replaced: garbage, a cut stream, bytes behind it,
+    // another object's stream
+    "git init -q --bare .; printf hi | git hash-object -w --stdin; ln $f first~z~+ohi~test $f -ef first",
+    "git init -q --bare .; mkdir -p ${f%/*}; printf old > $f~z~+ohi~git fsck && test $(git cat-file blob $n) = hi",
+    "git init -q --bare .; printf hi | git hash-object -w --stdin; chmod u+w $f; truncate -s -1 $f~z~+ohi~git fsck && test $(git cat-file blob $n) = hi",
+    "git init -q --bare .; printf hi | git hash-object -w --stdin; chmod u+w $f; printf x >> $f~z~+ohi~git fsck && test $(git cat-file blob $n) = hi",
+    "git init -q --bare .; o=$(printf ho | git hash-object -w --stdin); mkdir -p ${f%/*}; cp objects/$(echo $o | cut -c1-2)/$(echo $o | cut -c3-) $f~z~+ohi~test $(git cat-file blob $n) = hi",
 ];
 
 /// What stands before a shell's text.

@@ -19,7 +19,9 @@ use crate::wrong_words::{answer, explanation};
 use checkin_engine::is_checkin;
 use checkout_core::Event;
 use checkout_engine::{ExitStatus, run};
-use edge_adapters::{FolderBlob, FolderRepo, FolderTree, OutputSink, ProcessSpawner};
+use edge_adapters::{
+    FolderBlob, FolderRepo, FolderTree, OutputSink, ProcessSpawner, hold_standard,
+};
 use edge_kit::NoGate;
 use journal_run::{is_journal, journal_run};
 use one_shot::OnceSpawner;
@@ -183,6 +185,7 @@ fn folder_words<H: Threads + Wait + Sync>(
 }
 
 fn run_words<H: Threads + Wait + Sync>(rt: HostRuntime, threads: &H) -> Result<u8, AllocError> {
+    let _held = hold_standard(rt);
     let all = args(&rt);
     let are_text = all.is_ok();
     let words = words_of(rt.alloc(), all)?;

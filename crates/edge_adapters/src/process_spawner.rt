@@ -5,7 +5,7 @@ ghost use Rattle.edge_adapters.specs.Starts.{driver_of};
 
 use crate::process_once::ProcessOnceMaker;
 use crate::process_starter::{ProcessStarter, ReturnedDriver};
-use crate::standard_error::{is_closed, stand_ins};
+use crate::standard_files::{hold_standard, is_silent};
 use byte_path::Bytes;
 use edge_kit::{Spawner, Starter};
 use std::alloc::{AllocError, Global};
@@ -29,7 +29,7 @@ pub struct ProcessSpawner {
     alloc: Global,
     returned: Vec<ReturnedDriver>,
     out: usize,
-    // whether standard error is closed, and what has its number then
+    // whether standard error leads to nothing, and what has the numbers of closed descriptors
     quiet: bool,
     held: Vec<File>,
     // if it is none, drivers run where this program was started
@@ -39,8 +39,8 @@ pub struct ProcessSpawner {
 }
 
 impl ProcessSpawner {
-    /// A spawner that has given nothing. It starts nothing. If standard error is closed, its number is taken until the
-    /// spawner is dropped, so this comes before anything is opened.
+    /// A spawner that has given nothing. It starts nothing. If standard input, output or error is closed, its number is
+    /// taken until the spawner is dropped, so this comes before anything is opened.
     pub fn new(rt: HostRuntime) -> ProcessSpawner {
         ProcessSpawner::with_place(rt, None)
     }
@@ -53,18 +53,14 @@ impl ProcessSpawner {
 
     fn with_place(rt: HostRuntime, place: Option<Arc<DriverPlace, Global>>) -> ProcessSpawner {
         let alloc = rt.alloc();
-        let quiet = is_closed(rt);
+        let quiet = is_silent(rt);
         ProcessSpawner {
             rt,
             alloc,
             returned: Vec::new(alloc),
             out: 0,
             quiet,
-            held: if quiet {
-                stand_ins(rt, alloc)
-            } else {
-                Vec::new(alloc)
-            },
+            held: hold_standard(rt),
             place,
         }
     }

@@ -33,24 +33,33 @@ impl Answer {
     }
 }
 
-/// No object is fetched, and one that `git replace` replaces is given as it is.
-const VARIABLES: [(&str, &str); 4] = [
+/// No object is fetched, one that `git replace` replaces is given as it is, and nobody is asked for a password.
+const VARIABLES: [(&str, &str); 6] = [
     ("GIT_NO_REPLACE_OBJECTS", "1"),
     ("GIT_NO_LAZY_FETCH", "1"),
     // for a git that doesn't know the one above: no protocol is allowed
     ("GIT_ALLOW_PROTOCOL", "none"),
     ("GIT_OPTIONAL_LOCKS", "0"),
+    ("GIT_TERMINAL_PROMPT", "0"),
+    ("GIT_EDITOR", "false"),
 ];
 
-/// The settings by which git writes a whole index, asks no watcher of files, and leaves it to others which paths
-/// are bad.
-const WHOLE: [&str; 10] = [
+/// The words by which git runs no program that a repository names, as it only looks: no watcher of files, no hook and
+/// no pager.
+const QUIET: [&str; 5] = [
+    "-c",
+    "core.fsmonitor=false",
+    "-c",
+    "core.hooksPath=/dev/null",
+    "--no-pager",
+];
+
+/// The settings by which git writes a whole index, and leaves it to others which paths are bad.
+const WHOLE: [&str; 8] = [
     "-c",
     "core.splitIndex=false",
     "-c",
     "index.sparse=false",
-    "-c",
-    "core.fsmonitor=false",
     "-c",
     "core.protectNTFS=false",
     "-c",
@@ -79,7 +88,8 @@ pub fn fault_of(error: &io::Error) -> TakeFault {
     }
 }
 
-fn copy_of(alloc: Global, text: Option<&str>) -> Result<Option<String>, AllocError> {
+/// The text in memory of its own, if there is one.
+pub fn copy_of(alloc: Global, text: Option<&str>) -> Result<Option<String>, AllocError> {
     match text {
         Some(text) => Ok(Some(String::from_str(alloc, text)?)),
         None => Ok(None),
@@ -125,6 +135,7 @@ impl Git {
     /// What starts git with these settings and words.
     fn command_with(&self, settings: &[&str], words: &[&str]) -> Result<Command, AllocError> {
         let mut command = Command::new(self.alloc, self.program.as_str())?;
+        add_words(&mut command, QUIET.as_slice())?;
         self.add_repository(&mut command)?;
         add_words(&mut command, settings)?;
         add_words(&mut command, words)?;

@@ -11,7 +11,7 @@ use crate::git_blob::GitBlob;
 use crate::index_file::{index_of_tree, own_index};
 use crate::lender::lender_of;
 use crate::listing::SettingsList;
-use crate::notes::{notes_of, place_of};
+use crate::notes::{notes_of, place_of, word_of, worktree_of};
 use crate::object_pool::ObjectPool;
 use edge_adapters::{DriverPlace, read_whole};
 use edge_kit::{Repo, TakeFault};
@@ -99,6 +99,18 @@ impl GitRepo {
             links: self.listing.is_on(b"core.symlinks"),
             modes: self.listing.is_on(b"core.filemode"),
         }
+    }
+
+    /// The absolute path of its worktree's top, if it has a worktree.
+    pub fn worktree(&self) -> Result<Option<String>, AllocError> {
+        worktree_of(&self.git)
+    }
+
+    /// The shell's command that puts an index in place of its own.
+    pub fn command_to_take(&self, index: &str) -> Result<String, AllocError> {
+        let own = word_of(self.git.alloc, self.found.index.as_str())?;
+        let index = word_of(self.git.alloc, index)?;
+        format!(in self.git.alloc; "mv {index} {own}")
     }
 
     /// Where git runs the drivers of its paths.

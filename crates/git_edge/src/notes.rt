@@ -1,5 +1,5 @@
 //! What is to be said of a repository beside the report, and where its drivers run.
-use crate::git::Git;
+use crate::git::{Git, copy_of};
 use byte_path::quote_path;
 use edge_adapters::DriverPlace;
 use std::alloc::{AllocError, Global};
@@ -78,7 +78,7 @@ fn is_plain(byte: u8) -> bool {
 }
 
 /// A text as one word of a shell's command.
-fn word_of(alloc: Global, text: &str) -> Result<String, AllocError> {
+pub fn word_of(alloc: Global, text: &str) -> Result<String, AllocError> {
     if text.bytes().all(is_plain) {
         return String::from_str(alloc, text);
     }
@@ -184,15 +184,20 @@ pub fn notes_of(
     Ok(notes)
 }
 
-/// The folder in which git runs drivers: the top of the worktree, or the Git folder of a repository without one.
-fn folder_of(git: &Git, git_dir: &str) -> Result<String, AllocError> {
+/// The top of the worktree, unless git names none.
+pub fn worktree_of(git: &Git) -> Result<Option<String>, AllocError> {
     let top = said(git, &["rev-parse", "--show-toplevel"])?;
     match str::from_utf8(top.as_slice()) {
-        Ok(text) => match text.strip_suffix("\n") {
-            Some(folder) => String::from_str(git.alloc, folder),
-            None => String::from_str(git.alloc, git_dir),
-        },
-        Err(_) => String::from_str(git.alloc, git_dir),
+        Ok(text) => copy_of(git.alloc, text.strip_suffix("\n")),
+        Err(_) => Ok(None),
+    }
+}
+
+/// The folder in which git runs drivers: the top of the worktree, or the Git folder of a repository without one.
+fn folder_of(git: &Git, git_dir: &str) -> Result<String, AllocError> {
+    match worktree_of(git)? {
+        Some(top) => Ok(top),
+        None => String::from_str(git.alloc, git_dir),
     }
 }
 

@@ -3,11 +3,12 @@ ghost use Rattle.edge_kit.specs.Told.{Untold, Takes};
 
 use crate::git::Git;
 use crate::lent::Lent;
-use crate::object_reader::{ObjectReader, Wanted};
+use crate::object_reader::{ObjectReader, Store, Wanted};
 use crate::scratch::Scratch;
 use edge_kit::TakeFault;
-use std::alloc::AllocError;
-use std::sync::Mutex;
+use git_objects::PackShelf;
+use std::alloc::{AllocError, Global};
+use std::sync::{Arc, Mutex};
 
 /// The readers of the objects of a repository. Each begins when it is first asked while those before it are busy, so as
 /// many are at work as threads have read at once.
@@ -19,6 +20,8 @@ pub struct ObjectPool {
     scratch: Option<Scratch>,
     // the folder `objects` of the repository
     folder: String,
+    // the files that the readers share
+    shelf: Arc<PackShelf, Global>,
     seats: Vec<Mutex<ObjectReader>>,
     lent: Lent,
 }
@@ -38,13 +41,23 @@ impl ObjectPool {
             seats.push(Mutex::new(ObjectReader::new()))?;
         }
         let lent = Lent::new(git.alloc);
+        let shelf = Arc::new(git.alloc, PackShelf::new(git.rt)?)?;
         Ok(ObjectPool {
             git,
             scratch,
             folder,
+            shelf,
             seats,
             lent,
         })
+    }
+
+    /// Where the readers find objects.
+    fn store(&self) -> Store<'_> {
+        Store {
+            folder: self.folder.as_str(),
+            shelf: &self.shelf,
+        }
     }
 
     /// Notes that an object will be taken after those before it, and returns its place among them, if it is known.
@@ -75,7 +88,7 @@ impl ObjectPool {
                     next: self.lent.next(place),
                     limit,
                 };
-                return reader.take(&self.git, self.folder.as_str(), wanted);
+                return reader.take(&self.git, self.store(), wanted);
             }
         }
         let mut own = ObjectReader::new();
@@ -84,7 +97,7 @@ impl ObjectPool {
             next: None,
             limit,
         };
-        own.take(&self.git, self.folder.as_str(), wanted)
+        own.take(&self.git, self.store(), wanted)
     }
 
     /// Ends the child of each reader that is idle, waits for it, and closes the reader's files.

@@ -5,7 +5,9 @@ ghost use Rattle.edge_kit.specs.Told.{Untold, Takes};
 use crate::cat_file::CatFile;
 use crate::git::{Git, fault_of};
 use edge_kit::TakeFault;
-use git_objects::{Objects, ObjectsFault};
+use git_objects::{Objects, ObjectsFault, PackShelf};
+use std::alloc::Global;
+use std::sync::Arc;
 
 /// The files that hold the objects of a repository.
 #[derive(Drop)]
@@ -31,6 +33,13 @@ pub struct Wanted {
     pub limit: u64,
 }
 
+/// Where objects are: a folder `objects`, and the shelf that opens its packs.
+#[derive(Clone, Copy)]
+pub struct Store<'a> {
+    pub folder: &'a str,
+    pub shelf: &'a Arc<PackShelf, Global>,
+}
+
 impl ObjectReader {
     /// One that has opened and started nothing.
     pub fn new() -> ObjectReader {
@@ -40,11 +49,12 @@ impl ObjectReader {
         }
     }
 
-    /// Opens the files in this folder `objects`, if they aren't open yet.
-    fn open(&mut self, git: &Git, folder: &str) -> Result<(), ObjectsFault> {
+    /// Lists the files of this store, if they aren't listed yet.
+    fn open(&mut self, git: &Git, store: Store<'_>) -> Result<(), ObjectsFault> {
         if let Files::Unopened = self.files {
-            let folder = String::from_str(git.alloc, folder)?;
-            self.files = match Objects::in_folder(git.rt, folder) {
+            let folder = String::from_str(git.alloc, store.folder)?;
+            let shelf = Arc::try_clone(store.shelf)?;
+            self.files = match Objects::in_folder(git.rt, folder, shelf) {
                 Ok(objects) => Files::Open(objects),
                 Err(ObjectsFault::NoMemory) => return Err(ObjectsFault::NoMemory),
                 Err(_) => Files::Refused,
@@ -53,16 +63,16 @@ impl ObjectReader {
         Ok(())
     }
 
-    /// What the files in this folder `objects` have of an object.
+    /// What the files of this store have of an object.
     fn from_files(
         &mut self,
         git: &Git,
-        folder: &str,
+        store: Store<'_>,
         wanted: Wanted,
     ) -> Result<Option<Vec<u8>>, ObjectsFault>
         ensures { IfOk result (λ taken. IfSome taken (λ stored. length stored.items ≤ wanted.limit)) }
     {
-        self.open(git, folder)?;
+        self.open(git, store)?;
         match &mut self.files {
             Files::Open(objects) => objects.take(&wanted.name, wanted.limit),
             _ => Err(ObjectsFault::Elsewhere),
@@ -100,17 +110,16 @@ impl ObjectReader {
         }
     }
 
-    /// The stored form of an object, from the files in this folder `objects`, or from a child of git: of a partial
-    /// clone, of a pack of another version, and of what can't be read here, git knows what becomes.
+    /// The stored form of an object, from the files of this store, or from a child of git: of a partial clone, of a pack of another version, and of what can't be read here, git knows what becomes.
     pub fn take(
         &mut self,
         git: &Git,
-        folder: &str,
+        store: Store<'_>,
         wanted: Wanted,
     ) -> Result<Option<Vec<u8>>, TakeFault>
         ensures { Takes Untold wanted.limit result }
     {
-        match self.from_files(git, folder, wanted) {
+        match self.from_files(git, store, wanted) {
             Ok(Some(stored)) => Ok(Some(stored)),
             Err(ObjectsFault::TooLong) => Err(TakeFault::TooLong),
             Err(ObjectsFault::NoMemory) => Err(TakeFault::NoMemory),

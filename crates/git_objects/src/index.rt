@@ -10,10 +10,34 @@ const HEAD: u64 = 1032;
 /// How many names are read at once.
 const ROWS: u32 = 200;
 
+/// The most bytes of an index that is kept in memory.
+const MOST_KEPT: u64 = 64 << 20;
+
+/// The bytes of an index, kept in memory or read by position.
+#[derive(Drop)]
+enum IndexBytes {
+    Kept(Vec<u8>),
+    Placed(PlacedFile),
+}
+
+impl IndexBytes {
+    /// The bytes from a place on, as a file gives them.
+    fn read(&self, place: u64, most: u64) -> Result<Vec<u8>, ObjectsFault> {
+        match self {
+            IndexBytes::Kept(bytes) => {
+                let behind = bytes.get(place as usize..).unwrap_or(&[]);
+                let (front, _) = behind.split_at((most as usize).min(behind.len()));
+                Ok(front.to_vec(*bytes.allocator())?)
+            }
+            IndexBytes::Placed(source) => source.read(place, most),
+        }
+    }
+}
+
 /// The names of a pack's objects and where their entries begin.
 #[derive(Drop)]
 pub struct PackIndex {
-    source: PlacedFile,
+    bytes: IndexBytes,
     head: Vec<u8>,
     pub count: u32,
 }
@@ -54,11 +78,12 @@ impl PackIndex {
         if source.len < least_len(count) {
             return Err(ObjectsFault::Broken);
         }
-        Ok(PackIndex {
-            source,
-            head,
-            count,
-        })
+        let bytes = if source.len <= MOST_KEPT {
+            IndexBytes::Kept(source.read(0, source.len)?)
+        } else {
+            IndexBytes::Placed(source)
+        };
+        Ok(PackIndex { bytes, head, count })
     }
 
     /// From where and up to where the names stand that begin with this byte.
@@ -81,7 +106,7 @@ impl PackIndex {
 
     /// Names from a place on.
     fn names(&self, start: u32, count: u32) -> Result<Vec<u8>, ObjectsFault> {
-        self.source
+        self.bytes
             .read(HEAD + 20 * u64::from(start), 20 * u64::from(count))
     }
 
@@ -123,7 +148,7 @@ impl PackIndex {
     /// The number at a place of the file, which has eight bytes.
     fn far_offset(&self, row: u32) -> Result<u64, ObjectsFault> {
         let place = HEAD + 28 * u64::from(self.count) + 8 * u64::from(row);
-        match self.source.read(place, 8)?.as_slice().first_chunk::<8>() {
+        match self.bytes.read(place, 8)?.as_slice().first_chunk::<8>() {
             Some(bytes) => Ok(u64::from_be_bytes(*bytes)),
             None => Err(ObjectsFault::Broken),
         }
@@ -134,7 +159,7 @@ impl PackIndex {
         requires { number < self.now.count }
     {
         let place = HEAD + 24 * u64::from(self.count) + 4 * u64::from(number);
-        let Some(offset) = number_at(self.source.read(place, 4)?.as_slice(), 0) else {
+        let Some(offset) = number_at(self.bytes.read(place, 4)?.as_slice(), 0) else {
             return Err(ObjectsFault::Broken);
         };
         if offset < 0x8000_0000 {

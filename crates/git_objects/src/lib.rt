@@ -14,9 +14,12 @@ mod loose;
 mod number;
 mod object;
 mod objects;
+mod open_files;
 mod pack;
 mod placed_file;
+mod shelf;
 
 pub use delta::apply_delta;
 pub use fault::ObjectsFault;
 pub use objects::Objects;
+pub use shelf::PackShelf;

@@ -7,16 +7,20 @@ use crate::fault::ObjectsFault;
 use crate::loose::loose_object;
 use crate::pack::Pack;
 use crate::placed_file::PlacedFile;
+use crate::shelf::PackShelf;
 use edge_adapters::path_in;
+use std::alloc::Global;
 use std::fs::read_dir;
 use std::io;
 use std::io::ErrorKind;
+use std::sync::Arc;
 
 /// The objects of a repository: its own and those that it borrows, loose ones and packs. A thread that reads has a
-/// reader of its own.
+/// reader of its own. Readers of one shelf share the open files of packs.
 #[derive(Drop)]
 pub struct Objects {
     rt: HostRuntime,
+    shelf: Arc<PackShelf, Global>,
     folders: Folders,
     // the one that gave an object last is first
     packs: Vec<Pack>,
@@ -47,11 +51,16 @@ fn still_there(opened: io::Result<PlacedFile>) -> Result<Option<PlacedFile>, Obj
 impl Objects {
     /// The objects of the repository that has this Git folder. Packs are listed, and no object is read.
     pub fn open(rt: HostRuntime, git_dir: &str) -> Result<Objects, ObjectsFault> {
-        Objects::in_folder(rt, path_in(rt.alloc(), git_dir, "objects")?)
+        let shelf = Arc::new(rt.alloc(), PackShelf::new(rt)?)?;
+        Objects::in_folder(rt, path_in(rt.alloc(), git_dir, "objects")?, shelf)
     }
 
-    /// The objects in this folder `objects`, and in those that it borrows from.
-    pub fn in_folder(rt: HostRuntime, folder: String) -> Result<Objects, ObjectsFault> {
+    /// The objects in this folder `objects`, and in those that it borrows from. The shelf opens the packs.
+    pub fn in_folder(
+        rt: HostRuntime,
+        folder: String,
+        shelf: Arc<PackShelf, Global>,
+    ) -> Result<Objects, ObjectsFault> {
         let alloc = rt.alloc();
         let folders = Folders::of(rt, folder)?;
         let lack = if folders.are_partial {
@@ -61,6 +70,7 @@ impl Objects {
         };
         let mut objects = Objects {
             rt,
+            shelf,
             folders,
             packs: Vec::new(alloc),
             opened: 0,
@@ -71,7 +81,7 @@ impl Objects {
         Ok(objects)
     }
 
-    /// Opens the packs that aren't open yet.
+    /// Lists the packs that aren't known yet.
     fn list(&mut self) -> Result<(), ObjectsFault> {
         for place in 0..self.folders.paths.len() {
             match self.list_folder(place) {
@@ -83,7 +93,7 @@ impl Objects {
         Ok(())
     }
 
-    /// Opens the packs of a folder that aren't open yet.
+    /// Lists the packs of a folder that aren't known yet.
     fn list_folder(&mut self, place: usize) -> Result<(), ObjectsFault> {
         let Some(folder) = self.folders.paths.get(place) else {
             return Ok(());
@@ -100,7 +110,7 @@ impl Objects {
         Ok(())
     }
 
-    /// Opens the pack of an index. What a partial clone lacks git may fetch.
+    /// Lists the pack of an index. What a partial clone lacks git may fetch.
     fn note_file(&mut self, folder: &str, file: &str) -> Result<(), ObjectsFault> {
         if file.ends_with(".promisor") {
             self.lack = first_of(self.lack, ObjectsFault::Elsewhere);
@@ -122,17 +132,18 @@ impl Objects {
         }
     }
 
-    /// Opens the pack with this name. One that is gone meanwhile isn't missed.
+    /// Lists the pack with this name. One that is gone meanwhile isn't missed.
     fn add_pack(&mut self, name: String) -> Result<(), ObjectsFault> {
         let alloc = self.rt.alloc();
         let index = format!(in alloc; "{name}.idx")?;
         let pack = format!(in alloc; "{name}.pack")?;
-        let Some(index) = still_there(PlacedFile::open(self.rt, index.as_str()))? else {
+        let Some(index) = still_there(self.shelf.file_at(index))? else {
             return Ok(());
         };
-        let Some(pack) = still_there(PlacedFile::open(self.rt, pack.as_str()))? else {
+        let Some(pack) = still_there(self.shelf.file_at(pack))? else {
             return Ok(());
         };
+        let index = self.shelf.index_in(index)?;
         let pack = Pack::new(alloc, self.opened, name, index, pack)?;
         self.packs.push(pack)?;
         self.opened = self.opened.saturating_add(1);

@@ -10,6 +10,7 @@ use crate::object::Object;
 use crate::placed_file::PlacedFile;
 use inflate::{InflateFault, inflate};
 use std::alloc::Global;
+use std::sync::Arc;
 
 /// A pack and its index.
 #[derive(Drop)]
@@ -18,7 +19,7 @@ pub struct Pack {
     // told apart from every other pack
     number: u64,
     pub name: String,
-    index: PackIndex,
+    index: Arc<PackIndex, Global>,
     source: PlacedFile,
 }
 
@@ -57,15 +58,14 @@ fn of_part(fault: ObjectsFault) -> ObjectsFault {
 }
 
 impl Pack {
-    /// The pack of this number, by its name and its two files. One of another version is for git alone.
+    /// The pack of this number, by its name, its index and its file. One of another version is for git alone.
     pub fn new(
         alloc: Global,
         number: u64,
         name: String,
-        index: PlacedFile,
+        index: Arc<PackIndex, Global>,
         source: PlacedFile,
     ) -> Result<Pack, ObjectsFault> {
-        let index = PackIndex::new(index)?;
         let head = source.read(0, 12)?;
         let [b'P', b'A', b'C', b'K', version @ .., a, b, c, d] = head.as_slice() else {
             return Err(ObjectsFault::Broken);

@@ -2,30 +2,38 @@
 ghost use Rattle.std.specs.Prelude.{IfOk, vec_len, ◌≤◌};
 
 use crate::fault::ObjectsFault;
+use crate::open_files::OpenFiles;
 use std::alloc::Global;
-use std::fs::{File, metadata};
+use std::fs::metadata;
 use std::io;
 use std::io::ErrorKind;
 use std::os::unix::fs::FileExt;
+use std::sync::Arc;
 
-/// A regular file that is read by position.
+/// A regular file that is read by position. It is opened with the first read, and may be closed between two.
 #[derive(Drop)]
 pub struct PlacedFile {
     alloc: Global,
-    file: File,
+    files: Arc<OpenFiles, Global>,
+    pub path: String,
     pub len: u64,
 }
 
 impl PlacedFile {
-    /// Opens the regular file at a path. Anything else is a fault and isn't opened, since that may wait forever.
-    pub fn open(rt: HostRuntime, path: &str) -> io::Result<PlacedFile> {
-        let found = metadata(&rt, path)?;
+    /// The regular file at a path. Anything else is a fault and is never opened, since that may wait forever.
+    pub fn find(
+        rt: HostRuntime,
+        files: &Arc<OpenFiles, Global>,
+        path: String,
+    ) -> io::Result<PlacedFile> {
+        let found = metadata(&rt, path.as_str())?;
         if !found.is_file() {
             return Err(io::Error::from(ErrorKind::InvalidInput));
         }
         Ok(PlacedFile {
             alloc: rt.alloc(),
-            file: File::open(&rt, path)?,
+            files: Arc::try_clone(files)?,
+            path,
             len: found.len(),
         })
     }
@@ -36,7 +44,8 @@ impl PlacedFile {
     {
         let count = most.min(self.len.saturating_sub(place));
         let mut bytes = Vec::from_elem(self.alloc, 0u8, count as usize)?;
-        self.file.read_exact_at(bytes.as_mut_slice(), place)?;
+        let file = self.files.file_at(self.path.as_str())?;
+        file.read_exact_at(bytes.as_mut_slice(), place)?;
         Ok(bytes)
     }
 }

@@ -1,6 +1,7 @@
 //! A check-in into a git folder.
-use crate::ends::{end_with, refuse_repository, show_notes};
+use crate::ends::{end_with, refuse_repository, say, show_notes};
 use crate::engine_words::checkin_words;
+use crate::worktree::{refused_tree, tree_of};
 use checkin_edge::{FolderFiles, FolderKeep, ObjectForm};
 use checkout_engine::ExitStatus;
 use edge_adapters::ProcessSpawner;
@@ -11,11 +12,15 @@ use std::alloc::AllocError;
 use std::sync::Wait;
 use std::thread::Threads;
 
+/// The file of a check-in's index, beside that of the repository.
+fn new_index(rt: HostRuntime, repo: &GitRepo) -> Result<String, AllocError> {
+    format!(in rt.alloc(); "{}-checkin", repo.index_file())
+}
+
 /// What keeps objects among those of a repository, and an index beside its own. It touches nothing.
 fn keep_of(rt: HostRuntime, repo: &GitRepo) -> Result<FolderKeep, AllocError> {
-    let alloc = rt.alloc();
-    let objects = String::from_str(alloc, repo.objects())?;
-    let index = format!(in alloc; "{}-checkin", repo.index_file())?;
+    let objects = String::from_str(rt.alloc(), repo.objects())?;
+    let index = new_index(rt, repo)?;
     Ok(FolderKeep::new(rt, objects, index, ObjectForm::Zlib))
 }
 
@@ -33,13 +38,46 @@ fn check_in_with<H: Threads + Wait + Sync>(
     check_in(rt, threads, words.as_slice(), repo, spawner, files, keep)
 }
 
+/// Says where the new index is, and how it takes the place of the repository's own.
+fn show_index(rt: HostRuntime, repo: &GitRepo) -> Result<(), AllocError> {
+    let made = new_index(rt, repo)?;
+    let command = repo.command_to_take(made.as_str())?;
+    say(
+        rt,
+        format!(in rt.alloc(); "note: the new index is {made}. To take it: {command}")?.as_str(),
+    );
+    Ok(())
+}
+
 /// Says what else is to be said of a status and of a repository.
-fn explain(rt: HostRuntime, status: u8, repo: &mut GitRepo) {
+fn explain(rt: HostRuntime, status: u8, repo: &mut GitRepo) -> Result<(), AllocError> {
     end_with(rt, status);
-    if status == ExitStatus::Refused.number() {
-        show_refused_path(rt, repo);
+    match ExitStatus::of(status) {
+        Some(ExitStatus::Refused) => show_refused_path(rt, repo),
+        Some(ExitStatus::Done | ExitStatus::DoneWithFailures) => show_index(rt, repo)?,
+        _ => {}
     }
     show_notes(rt, repo);
+    Ok(())
+}
+
+/// Checks in the files of the folder that the words name, once it is clear that they are meant.
+fn check_in_words<H: Threads + Wait + Sync>(
+    rt: HostRuntime,
+    threads: &H,
+    asked: &CheckinWords<'_>,
+    repo: &mut GitRepo,
+) -> Result<u8, AllocError> {
+    let tree = match tree_of(rt, repo, asked)? {
+        Ok(tree) => tree,
+        Err(status) => return Ok(status.number()),
+    };
+    if let Some(status) = refused_tree(rt, repo, tree.as_str(), asked)? {
+        return Ok(status.number());
+    }
+    let status = check_in_with(rt, threads, tree.as_str(), repo)?;
+    explain(rt, status, repo)?;
+    Ok(status)
 }
 
 /// Checks in the files of a folder. No process of git is left running.
@@ -52,10 +90,7 @@ pub fn check_in_tree<H: Threads + Wait + Sync>(
         Ok(repo) => repo,
         Err(fault) => return Ok(refuse_repository(rt, &fault)),
     };
-    let ended = check_in_with(rt, threads, asked.tree, &mut repo);
-    if let Ok(status) = ended {
-        explain(rt, status, &mut repo);
-    }
+    let ended = check_in_words(rt, threads, asked, &mut repo);
     repo.end();
     ended
 }

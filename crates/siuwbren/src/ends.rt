@@ -11,6 +11,11 @@ pub fn end_with(rt: HostRuntime, status: u8) -> u8 {
     status
 }
 
+/// Writes a line on standard error.
+pub fn say(rt: HostRuntime, line: &str) {
+    let _ = eprintln!(rt; "{line}");
+}
+
 /// Gives the help or the version that the words ask for.
 pub fn give(rt: HostRuntime, text: &str) -> u8 {
     match print!(rt; "{text}") {

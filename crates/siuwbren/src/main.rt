@@ -14,6 +14,7 @@ mod engine_words;
 mod journal;
 mod plan;
 mod rehearsing;
+mod worktree;
 
 use crate::checking_in::check_in_tree;
 use crate::checkout::check_out;
@@ -22,6 +23,7 @@ use crate::journal::audit;
 use crate::plan::show_plan;
 use crate::rehearsing::rehearse;
 use checkout_engine::ExitStatus;
+use edge_adapters::hold_standard;
 use program_kit::words_of;
 use siuwbren_words::{Subcommand, UsageFault, read_words};
 use std::alloc::AllocError;
@@ -46,6 +48,7 @@ fn obey<H: Threads + Wait + Sync>(
 }
 
 fn run_words<H: Threads + Wait + Sync>(rt: HostRuntime, threads: &H) -> Result<u8, AllocError> {
+    let _held = hold_standard(rt);
     let all = args(&rt);
     let are_text = all.is_ok();
     let words = words_of(rt.alloc(), all)?;

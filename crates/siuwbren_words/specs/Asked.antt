@@ -27,7 +27,8 @@ pub record AskedCheckout : Type 0 where
 
 pub record AskedCheckin : Type 0 where
   pub git_dir : Option Text
-  pub tree : Text
+  pub allow_empty : Bool
+  pub tree : Option Text
 
 pub record AskedPlan : Type 0 where
   pub git_dir : Option Text
@@ -54,7 +55,11 @@ shown_checkout c = record {
 }
 
 abbrev pub shown_checkin : CheckinWords → AskedCheckin
-shown_checkin c = record { git_dir = option_map (λ t. t.now) c.git_dir; tree = c.tree.now }
+shown_checkin c = record {
+  git_dir = option_map (λ t. t.now) c.git_dir;
+  allow_empty = c.allow_empty;
+  tree = option_map (λ t. t.now) c.tree;
+}
 
 abbrev pub shown_plan : PlanWords → AskedPlan
 shown_plan p = record { git_dir = option_map (λ t. t.now) p.git_dir; form = p.form }
@@ -90,10 +95,12 @@ checkout_by rows =
     (report_form (first_of (codes "report") rows) (has_flag rows (codes "nul"))))
     (workers_of (first_of (codes "workers") rows))
 
-abbrev pub checkin_by : List Row → Option AskedCheckin
-checkin_by rows =
-    option_map (λ tree. record { git_dir = first_of (codes "git-dir") rows; tree = tree })
-    (first_of (codes "tree") rows)
+abbrev pub checkin_by : List Row → AskedCheckin
+checkin_by rows = record {
+  git_dir = first_of (codes "git-dir") rows;
+  allow_empty = has_flag rows (codes "allow-empty");
+  tree = first_of (codes "tree") rows;
+}
 
 abbrev pub plan_by : List Row → Option AskedPlan
 plan_by rows =
@@ -114,7 +121,7 @@ audit_by rows = option_map audit (first_of (codes "file") rows)
 abbrev pub asked_by : Text → List Row → Option Asked
 asked_by name rows =
     if bytes_eq name (codes "checkout") then option_map checkout (checkout_by rows)
-    else if bytes_eq name (codes "checkin") then option_map checkin (checkin_by rows)
+    else if bytes_eq name (codes "checkin") then Some (checkin (checkin_by rows))
     else if bytes_eq name (codes "plan") then option_map plan (plan_by rows)
     else if bytes_eq name (codes "rehearse") then rehearse_by rows
     else if bytes_eq name (codes "audit") then audit_by rows

@@ -21,6 +21,10 @@ letter_rule name letter = record (new_rule name) { short = Some letter; action =
 abbrev pub place_rule : Text → Rule
 place_rule name = record (new_rule name) { value_names = 1; required = true }
 
+-- a word that may be missing
+abbrev pub free_rule : Text → Rule
+free_rule name = record (new_rule name) { value_names = 1 }
+
 abbrev pub quiet_rule : Rule
 quiet_rule = record (flag_rule (codes "quiet")) { short = Some 113 }
 
@@ -46,10 +50,11 @@ checkout_progress =
 abbrev pub checkout_app : App
 checkout_app = with_rule checkout_progress (place_rule (codes "tree"))
 
--- checkin [--git-dir DIR] TREE
+-- checkin [--git-dir DIR] [--allow-empty] [TREE]
 abbrev pub checkin_app : App
 checkin_app =
-    with_rule (with_rule (new_app (codes "checkin")) (option_rule (codes "git-dir"))) (place_rule (codes "tree"))
+    with_rule (with_rule (with_rule (new_app (codes "checkin"))
+    (option_rule (codes "git-dir"))) (flag_rule (codes "allow-empty"))) (free_rule (codes "tree"))
 
 -- plan [--git-dir DIR] [--report FORM] [-z]
 abbrev pub plan_app : App

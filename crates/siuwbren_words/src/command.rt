@@ -36,12 +36,14 @@ pub struct PlanWords<'a> {
     pub form: ReportForm,
 }
 
-/// A check-in of the folder `tree`.
+/// A check-in of the folder `tree`, or of the worktree's top.
 #[derive(Clone, Copy, Debug)]
 pub struct CheckinWords<'a> {
     /// The git folder, or none for the one that git finds.
     pub git_dir: Option<&'a str>,
-    pub tree: &'a str,
+    /// Whether no file at all may be there.
+    pub allow_empty: bool,
+    pub tree: Option<&'a str>,
 }
 
 #[derive(Clone, Copy, Debug)]

@@ -35,14 +35,14 @@ fn checkout_of<'a>(matches: &ArgMatches<'a>) -> Result<Checkout<'a>, Mistake<'a>
     })
 }
 
-fn checkin_of<'a>(matches: &ArgMatches<'a>) -> Result<CheckinWords<'a>, Mistake<'a>>
-    ensures { option_map shown_checkin (result_ok result) ≡ checkin_by (rows_of (found_of matches.now)) }
+fn checkin_of<'a>(matches: &ArgMatches<'a>) -> CheckinWords<'a>
+    ensures { shown_checkin result ≡ checkin_by (rows_of (found_of matches.now)) }
 {
-    let tree = value_of(matches, "tree").ok_or(Mistake::NoTree)?;
-    Ok(CheckinWords {
+    CheckinWords {
         git_dir: value_of(matches, "git-dir"),
-        tree,
-    })
+        allow_empty: has_flag(matches, "allow-empty"),
+        tree: value_of(matches, "tree"),
+    }
 }
 
 fn plan_of<'a>(matches: &ArgMatches<'a>) -> Result<PlanWords<'a>, Mistake<'a>>
@@ -76,7 +76,7 @@ pub fn command_of<'a>(name: &str, matches: &ArgMatches<'a>) -> Result<Subcommand
 {
     match name {
         "checkout" => Ok(Subcommand::Checkout(checkout_of(matches)?)),
-        "checkin" => Ok(Subcommand::Checkin(checkin_of(matches)?)),
+        "checkin" => Ok(Subcommand::Checkin(checkin_of(matches))),
         "plan" => Ok(Subcommand::Plan(plan_of(matches)?)),
         "rehearse" => rehearsal_of(matches),
         "audit" => audit_of(matches),

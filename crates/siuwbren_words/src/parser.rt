@@ -2,7 +2,7 @@
 ghost use Rattle.std.specs.Prelude.{◌≡◌, IfOk, false, codes};
 ghost use Rattle.clap.specs.Words.{app_of, rule_of};
 ghost use Rattle.clap.specs.declared.builder.command.Command.TheViews.{out-Command};
-ghost use Rattle.siuwbren_words.specs.Parser.{option_rule, flag_rule, letter_rule, place_rule};
+ghost use Rattle.siuwbren_words.specs.Parser.{option_rule, flag_rule, letter_rule, place_rule, free_rule};
 ghost use Rattle.siuwbren_words.specs.Parser.{checkout_app, checkin_app, plan_app, rehearse_app, audit_app};
 ghost use Rattle.siuwbren_words.specs.Parser.{quiet_rule, checkout_source, checkout_report, checkout_progress};
 ghost use Rattle.siuwbren_words.specs.Parser.{top_app, repository_app, siuwbren_app};
@@ -21,11 +21,12 @@ Status: 0 if all is written, 1 if some path failed, 2 for wrong words, 3 if the 
 
 const CHECKIN_END: &str = "\
 Example, after which git takes the new index for its own:
-  siuwbren checkin /tmp/tree
+  siuwbren checkin
   mv .git/index-checkin .git/index
 
 Status: 0 if each path is looked at, 1 if some path failed, 2 for wrong words, 3 if the repository is
-refused, 4 if output failed, 5 out of memory, 6 for a read fault. See siuwbren(1).";
+refused, 4 if output failed, 5 out of memory, 6 for a read fault, 7 if TREE has no file of the index.
+See siuwbren(1).";
 
 const PLAN_END: &str = "\
 Example:
@@ -74,6 +75,14 @@ fn place<'a>(alloc: Global, name: &'a str, value: &'a str, help: &'a str) -> Arg
         .value_name(value)
         .required(true)
         .help(help)
+}
+
+/// A word that may be missing.
+fn free_place<'a>(alloc: Global, name: &'a str, value: &'a str, help: &'a str) -> Arg<'a>
+    ensures rule { rule_of result ≡ free_rule name.entry.now }
+    ensures local { result.global ≡ false }
+{
+    Arg::new(alloc, name).value_name(value).help(help)
 }
 
 fn git_dir<'a>(alloc: Global) -> Arg<'a>
@@ -186,12 +195,23 @@ fn checkin<'a>(alloc: Global) -> Result<Command<'a>, AllocError>
     ensures app { IfOk result (λ command. app_of command ≡ checkin_app) }
     ensures local { IfOk result (λ command. (out-Command command).has_globals ≡ false) }
 {
-    let tree = place(alloc, "tree", "TREE", "The folder with the files");
+    let empty = flag(
+        alloc,
+        "allow-empty",
+        "Take all paths for deleted if no file is there",
+    );
+    let tree = free_place(
+        alloc,
+        "tree",
+        "TREE",
+        "The folder with the files [default: the top of the worktree]",
+    );
     Command::new(alloc, "checkin")
         .about("Keep the files of a folder as objects and a new index")
-        .override_usage("siuwbren checkin [OPTIONS] TREE")
+        .override_usage("siuwbren checkin [OPTIONS] [TREE]")
         .after_help(CHECKIN_END)
         .arg(git_dir(alloc))?
+        .arg(empty)?
         .arg(tree)
 }
 
