@@ -40,9 +40,10 @@ fn limit_of(rt: HostRuntime) -> Option<usize> {
     line.split_whitespace().nth(3)?.parse::<usize>().ok()
 }
 
-/// The place of the file at this path among those that are open.
-fn place_of(open: &[OpenFile], path: &str) -> Option<usize> {
-    open.iter().position(|it| it.path.as_str() == path)
+/// Takes out the file at this path, if it is open.
+fn taken(open: &mut Vec<OpenFile>, path: &str) -> Option<OpenFile> {
+    let place = open.iter().position(|it| it.path.as_str() == path)?;
+    Some(open.remove(place))
 }
 
 impl OpenFiles {
@@ -87,8 +88,7 @@ impl OpenFiles {
         let Some(mut open) = self.open.try_lock() else {
             return self.opened(path);
         };
-        if let Some(place) = place_of(open.as_slice(), path) {
-            let used = open.remove(place);
+        if let Some(used) = taken(&mut open, path) {
             let file = Arc::try_clone(&used.file)?;
             open.insert(0, used)?;
             return Ok(file);
