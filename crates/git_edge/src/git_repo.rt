@@ -1,5 +1,5 @@
 //! A repository as git has it, read from its files and through git's own processes.
-ghost use Rattle.std.specs.Prelude.{◌≡◌, ◌+◌, ◌≤◌, IfOk, vec_len, vec_capacity};
+ghost use Rattle.std.specs.Prelude.{◌≡◌, ◌+◌, ◌≤◌, IfOk, IfSome, length, vec_len, vec_capacity};
 ghost use Rattle.edge_kit.specs.Faults.{AfterTake};
 ghost use Rattle.edge_kit.specs.Told.{Untold, Takes};
 
@@ -19,6 +19,13 @@ use git_tree::Keeps;
 use std::alloc::{AllocError, Global};
 use std::sync::Arc;
 
+/// On which other file systems no path may be one of git's own (git-config(1), core.protectNTFS and core.protectHFS).
+#[derive(Clone, Copy, Debug)]
+pub struct Guards {
+    pub ntfs: bool,
+    pub hfs: bool,
+}
+
 /// A repository whose objects its files give, and processes of git where these don't.
 #[derive(Drop)]
 pub struct GitRepo {
@@ -27,6 +34,8 @@ pub struct GitRepo {
     listing: SettingsList,
     // the name of the tree that is wanted in place of the index
     tree: Option<String>,
+    // the index, once it was read
+    index: Option<Vec<u8>>,
     pool: Arc<ObjectPool, Global>,
     faults: u64,
     out: usize,
@@ -70,6 +79,7 @@ impl GitRepo {
             found,
             listing,
             tree,
+            index: None,
             pool,
             faults: 0,
             out: 0,
@@ -113,6 +123,14 @@ impl GitRepo {
         format!(in self.git.alloc; "mv {index} {own}")
     }
 
+    /// Which file systems its paths are guarded for: both, unless a setting says no.
+    pub fn guards(&self) -> Guards {
+        Guards {
+            ntfs: self.listing.is_on(b"core.protectntfs"),
+            hfs: self.listing.is_on(b"core.protecthfs"),
+        }
+    }
+
     /// Where git runs the drivers of its paths.
     pub fn driver_place(&self) -> Result<DriverPlace, AllocError> {
         place_of(&self.git, self.found.git_dir.as_str())
@@ -133,6 +151,16 @@ impl GitRepo {
     /// Closes the files of objects, ends the processes that give some, and waits for each. No blob may be in use.
     pub fn end(&self) {
         self.pool.end();
+    }
+
+    /// The index as it was read before, if it is within the limit.
+    fn read_before(&self, limit: u64) -> Result<Option<Vec<u8>>, AllocError>
+        ensures { IfOk result (λ index. IfSome index (λ bytes. length bytes.items ≤ limit)) }
+    {
+        match &self.index {
+            Some(index) if index.len() as u64 <= limit => Ok(Some(index.clone()?)),
+            _ => Ok(None),
+        }
     }
 
     /// Counts a fault if the content wasn't taken for one.
@@ -159,11 +187,18 @@ impl Repo for GitRepo {
 
     ghost seen = { λ r. record { faults = r.faults; out = r.out; returned = r.returned.items } };
 
+    /// It is read once, so that all who ask have the same.
     fn index_bytes(&mut self, limit: u64) -> Result<Option<Vec<u8>>, TakeFault> {
+        if let Some(index) = self.read_before(limit)? {
+            return Ok(Some(index));
+        }
         let taken = match &self.tree {
             Some(tree) => index_of_tree(&self.git, tree.as_str(), limit),
             None => own_index(&self.git, self.found.index.as_str(), limit),
         };
+        if let Ok(Some(index)) = &taken {
+            self.index = Some(index.clone()?);
+        }
         self.counted(taken)
     }
 

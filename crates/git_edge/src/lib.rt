@@ -22,4 +22,4 @@ mod scratch;
 
 pub use fault::GitFault;
 pub use git_blob::GitBlob;
-pub use git_repo::GitRepo;
+pub use git_repo::{GitRepo, Guards};

@@ -1,12 +1,14 @@
 //! A check-in into a git folder.
 use crate::ends::{end_with, refuse_repository, say, show_notes};
 use crate::engine_words::checkin_words;
+use crate::own_index::refuse_guarded;
 use crate::worktree::{refused_tree, tree_of};
 use checkin_edge::{FolderFiles, FolderKeep, ObjectForm};
 use checkout_engine::ExitStatus;
 use edge_adapters::ProcessSpawner;
 use git_edge::GitRepo;
 use program_kit::{check_in, show_refused_path};
+use report_forms::ReportForm;
 use siuwbren_words::CheckinWords;
 use std::alloc::AllocError;
 use std::sync::Wait;
@@ -68,6 +70,9 @@ fn check_in_words<H: Threads + Wait + Sync>(
     asked: &CheckinWords<'_>,
     repo: &mut GitRepo,
 ) -> Result<u8, AllocError> {
+    if let Some(status) = refuse_guarded(rt, repo, ReportForm::Text)? {
+        return Ok(status);
+    }
     let tree = match tree_of(rt, repo, asked)? {
         Ok(tree) => tree,
         Err(status) => return Ok(status.number()),

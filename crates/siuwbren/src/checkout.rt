@@ -3,6 +3,7 @@ use crate::channel::sink_of;
 use crate::ends::{end_with, refuse_repository, show_notes};
 use crate::engine_words::checkout_words;
 use crate::journal::journal_file;
+use crate::own_index::refuse_guarded;
 use checkout_core::Event;
 use checkout_engine::{ExitStatus, run};
 use edge_adapters::ProcessSpawner;
@@ -141,10 +142,13 @@ pub fn check_out<H: Threads + Wait + Sync>(
     threads: &H,
     asked: &Checkout<'_>,
 ) -> Result<u8, AllocError> {
-    let repo = match GitRepo::open(rt, asked.git_dir, asked.commit) {
+    let mut repo = match GitRepo::open(rt, asked.git_dir, asked.commit) {
         Ok(repo) => repo,
         Err(fault) => return Ok(refuse_repository(rt, &fault)),
     };
+    if let Some(status) = refuse_guarded(rt, &mut repo, asked.form)? {
+        return Ok(status);
+    }
     let Some(path) = asked.journal else {
         return check_out_all(rt, threads, asked, repo, None);
     };

@@ -1,6 +1,7 @@
 //! The plan of a checkout.
 use crate::channel::sink_of;
 use crate::ends::{end_with, refuse_repository};
+use crate::own_index::refuse_guarded;
 use checkout_engine::{ExitStatus, plan_text};
 use git_edge::GitRepo;
 use program_kit::show_refused_path;
@@ -13,6 +14,9 @@ pub fn show_plan(rt: HostRuntime, asked: &PlanWords<'_>) -> Result<u8, AllocErro
         Ok(repo) => repo,
         Err(fault) => return Ok(refuse_repository(rt, &fault)),
     };
+    if let Some(status) = refuse_guarded(rt, &mut repo, asked.form)? {
+        return Ok(status);
+    }
     let mut out = sink_of(rt, asked.form);
     let status = plan_text(rt.alloc(), &mut repo, &mut out);
     end_with(rt, status);

@@ -1,18 +1,15 @@
 //! The folder that is checked in, looked at before anything is kept: a wrong one would make all its paths deleted ones.
 use crate::ends::say;
+use crate::own_index::index_of;
 use checkout_engine::ExitStatus;
-use edge_kit::Repo;
 use git_edge::GitRepo;
-use git_index::{Entry, Index, read_index};
+use git_index::Entry;
 use siuwbren_words::CheckinWords;
 use std::alloc::AllocError;
 use std::env::var;
 use std::fs::{canonicalize, metadata, symlink_metadata};
 use std::io;
 use std::io::ErrorKind;
-
-/// The most bytes of an index that is read.
-const MOST_INDEX: u64 = 67_108_864;
 
 /// The folder of a check-in by its words, or the status if there is none.
 pub fn tree_of(
@@ -79,12 +76,6 @@ fn has_some(rt: HostRuntime, tree: &str, entries: &[Entry]) -> Result<bool, Allo
         }
     }
     Ok(entries.is_empty())
-}
-
-/// The repository's index, or nothing where the check-in itself will say what is wrong with it.
-fn index_of(rt: HostRuntime, repo: &mut GitRepo) -> Option<Index> {
-    let bytes = repo.index_bytes(MOST_INDEX).ok()??;
-    read_index(rt.alloc(), bytes.as_slice()).ok()
 }
 
 /// A folder has to be at the path.

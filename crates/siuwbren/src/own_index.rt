@@ -1,0 +1,72 @@
+//! The repository's index, and the refusal of one that other file systems would let change git's own folder.
+use crate::channel::sink_of;
+use crate::ends::{end_with, say};
+use crate::guarded::is_guarded;
+use byte_path::quote_path;
+use checkout_engine::ExitStatus;
+use edge_kit::{Repo, SendFault, Sink};
+use git_edge::{GitRepo, Guards};
+use git_index::{Entry, Index, Mode, read_index};
+use report_forms::ReportForm;
+use std::alloc::AllocError;
+
+/// The most bytes of an index that is read.
+const MOST_INDEX: u64 = 67_108_864;
+
+/// The repository's index, or nothing where the engine will say what is wrong with it.
+pub fn index_of(rt: HostRuntime, repo: &mut GitRepo) -> Option<Index> {
+    let bytes = repo.index_bytes(MOST_INDEX).ok()??;
+    read_index(rt.alloc(), bytes.as_slice()).ok()
+}
+
+/// Whether the entry's path is one of git's own on a guarded file system.
+fn is_guarded_entry(entry: &Entry, guards: Guards) -> bool {
+    is_guarded(
+        entry.path.as_slice(),
+        matches!(entry.mode, Mode::Link),
+        guards,
+    )
+}
+
+/// Writes the refusal of the entry with this number in the form of the report, and gives the status.
+fn refuse(
+    rt: HostRuntime,
+    number: usize,
+    entry: &Entry,
+    form: ReportForm,
+) -> Result<ExitStatus, AllocError> {
+    let line = format!(in rt.alloc(); "refused index path {number} dot-git\n")?;
+    let mut out = sink_of(rt, form);
+    match out.write(line.as_bytes()) {
+        Ok(()) => {}
+        Err(SendFault::Failed) => return Ok(ExitStatus::OutputNotWritten),
+        Err(SendFault::NoMemory) => return Err(AllocError),
+    }
+    if let Ok(path) = String::from_utf8(quote_path(rt.alloc(), entry.path.as_slice())?) {
+        say(
+            rt,
+            format!(in rt.alloc(); "the entry's path: {path}")?.as_str(),
+        );
+    }
+    Ok(ExitStatus::Refused)
+}
+
+/// The status if the index has a path that is one of git's own on a guarded file system: the folder `.git`, or a link
+/// `.gitmodules`. The first such entry is refused, before anything is done.
+pub fn refuse_guarded(
+    rt: HostRuntime,
+    repo: &mut GitRepo,
+    form: ReportForm,
+) -> Result<Option<u8>, AllocError> {
+    let Some(index) = index_of(rt, repo) else {
+        return Ok(None);
+    };
+    let guards = repo.guards();
+    for (number, entry) in index.entries().iter().enumerate() {
+        if is_guarded_entry(entry, guards) {
+            let status = refuse(rt, number, entry, form)?;
+            return Ok(Some(end_with(rt, status.number())));
+        }
+    }
+    Ok(None)
+}
