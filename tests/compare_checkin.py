@@ -121,9 +121,11 @@ def checked_in(program, repository):
         said[words[-1]] = words[:-1]
     failed = sum(words[0] == "failed" for words in said.values())
     counts = [sum(words[0] == word for words in said.values()) for word in ("same", "changed", "gone", "kept", "failed")]
-    if ran.returncode != bool(failed) or lines[-1] != "done " + " ".join(map(str, counts)) or ran.stderr:
+    index = f"{repository.folder}/.git/index-checkin"
+    note = f"note: the new index is {index}. To take it: mv {index} {repository.folder}/.git/index\n"
+    if ran.returncode != bool(failed) or lines[-1] != "done " + " ".join(map(str, counts)) or ran.stderr.decode() != note:
         sys.exit(f"compare_checkin: status {ran.returncode}, {lines[-1:]}, {ran.stderr.decode()}")
-    return said, repository.listed(f"{repository.folder}/.git/index-checkin")
+    return said, repository.listed(index)
 
 
 def known_difference(repository, path):
