@@ -155,8 +155,8 @@ fn a_child_that_has_ended_is_no_zombie_while_an_older_one_goes_on(
     let mut starter = spawner.starter(command.as_bytes())?;
     let first = number_of(rt.alloc(), &mut starter)?;
     let second = number_of(rt.alloc(), &mut starter)?;
-    // time to end, and a start, which looks
-    sleep(&rt, Duration::from_millis(300));
+    // time to end, also where others are at work, and a start, which looks
+    sleep(&rt, Duration::from_millis(2000));
     let third = number_of(rt.alloc(), &mut starter)?;
     assert!(rt; is_there(rt, first.as_str())? && !is_there(rt, second.as_str())?);
     spawner.take_back(starter);
