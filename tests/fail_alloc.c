@@ -1,7 +1,7 @@
 /* Loaded before the C library, it makes one allocation fail, and says so on standard error. The number of that allocation,
    from 1, is in FAIL_AT. It counts those of the program whose name is in FAIL_IN alone, or of each program where that is
-   unset. With COUNT_IN, a file, it writes there at the end how many there were. With LINES_IN, a file, it writes there what the
-   program writes on standard output, and before each such text how many there were until then. */
+   unset. With LINES_IN, a file, it writes there what the program writes on standard output, and before each such text how
+   many there were until then. */
 #define _GNU_SOURCE
 #include <dlfcn.h>
 #include <errno.h>
@@ -18,17 +18,6 @@ static unsigned long count;
 static int is_meant(void) {
   const char *name = getenv("FAIL_IN");
   return !name || strcmp(name, program_invocation_short_name) == 0;
-}
-
-/* without a stream, which would allocate */
-__attribute__((destructor)) static void tell(void) {
-  const char *path = getenv("COUNT_IN");
-  char text[32];
-  int file;
-  if (!path || !is_meant()) return;
-  file = open(path, O_WRONLY | O_CREAT | O_TRUNC, 0666);
-  if (file < 0 || write(file, text, (size_t)snprintf(text, sizeof text, "%lu\n", count)) < 0) abort();
-  close(file);
 }
 
 static int fails(void) {
