@@ -14,5 +14,5 @@ word_at words number = unwrap_or (slice_get (map string_bytes words) number) []
 -- what a status says on standard error
 abbrev pub message_for : ℕ → Option (List ℕ)
 message_for number =
-    if number == number_of Usage then Some (codes "usage: REPO TREE checkout|checkin|plan|rehearse|journal|audit")
+    if number == number_of Usage then Some (codes "usage: REPO TREE checkout|plan|rehearse")
     else message_of number

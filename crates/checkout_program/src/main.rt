@@ -1,21 +1,18 @@
 //! Checks out the index of a Git folder with uncompressed objects into an empty folder, by its configuration and its
 //! attributes, or shows the plan of that, or checks the files in again. It also writes and judges journals.
 //!
-//! A checkout shows how many paths are closed, if standard error is a terminal. Standard error also says what is wrong
-//! with words, why files weren't written, and what a driver wrote in place of packets. A checkout writes its journal if
-//! the environment names a file for it.
+//! Standard error says in one line why a status isn't that of a report; beside it drivers write there. A checkout writes
+//! its journal if the environment names a file for it.
 #![tactic(auto)]
 
 ghost use Rattle.std.specs.Prelude.{◌≡◌, IfOk, option_map, string_bytes};
 ghost use Rattle.checkout_program.specs.Words.{word_at, message_for};
 
-mod checking_in;
+mod checkin;
 mod journal_place;
-mod wrong_words;
 
-use crate::checking_in::checkin_words;
+use crate::checkin::checkin_words;
 use crate::journal_place::{JournalPlace, journal_place};
-use crate::wrong_words::{answer, explanation};
 use checkin_engine::is_checkin;
 use checkout_core::Event;
 use checkout_engine::{ExitStatus, run};
@@ -25,17 +22,13 @@ use edge_adapters::{
 use edge_kit::NoGate;
 use journal_run::{is_journal, journal_run};
 use one_shot::OnceSpawner;
-use program_kit::{
-    CountingTree, EndedCheckout, Progress, has_terminal, message_of, show_drivers, show_errors,
-    show_refused_path, words_of,
-};
-use std::alloc::{AllocError, Global};
+use program_kit::{EndedCheckout, message_of, words_of};
+use std::alloc::AllocError;
 use std::env::args;
 use std::io::writer;
 use std::mem::forget;
 use std::process::ExitCode;
 use std::sync::Wait;
-use std::sync::atomic::AtomicU32;
 use std::thread::Threads;
 
 /// The word with this number, or the empty text if it is missing.
@@ -53,7 +46,7 @@ fn message_for(status: u8) -> Option<&'static str>
     ensures { option_map (λ text. text.now) result ≡ message_for status }
 {
     if status == ExitStatus::Usage.number() {
-        return Some("usage: REPO TREE checkout|checkin|plan|rehearse|journal|audit");
+        return Some("usage: REPO TREE checkout|plan|rehearse");
     }
     message_of(status)
 }
@@ -68,25 +61,18 @@ fn folders_of(rt: HostRuntime, words: &[String]) -> Result<(FolderRepo, FolderTr
     Ok((FolderRepo::new(rt, repo)?, FolderTree::new(rt, tree)))
 }
 
-/// Runs these words in these folders, and shows how many paths are closed, and then what else is to be said. With the
-/// status come the events of a checkout.
+/// Runs these words in these folders. With the status come the events of a checkout.
 fn run_in<H: Threads + Wait + Sync>(
     rt: HostRuntime,
     threads: &H,
     words: &[String],
     repo: &mut FolderRepo,
-    tree: FolderTree,
+    mut tree: FolderTree,
 ) -> Result<(u8, Vec<Event>), AllocError> {
     // first, since it takes the number of a closed standard error
     let spawner = ProcessSpawner::new(rt);
     let maker = spawner.once_maker(threads)?;
     let mut spawner = OnceSpawner::new(rt.alloc(), spawner, maker, false);
-    let leaves = AtomicU32::new(0);
-    let progress = Progress::new(rt, &leaves, has_terminal(rt));
-    let mut tree = CountingTree {
-        tree,
-        leaves: &leaves,
-    };
     let mut out = OutputSink::new(rt, writer(&rt));
     let mut history = Vec::new(rt.alloc());
     let status = run(
@@ -96,13 +82,10 @@ fn run_in<H: Threads + Wait + Sync>(
         repo,
         &mut tree,
         &mut spawner,
-        &progress,
+        &NoGate,
         &mut out,
         &mut history,
     );
-    progress.end();
-    show_errors(rt, tree.tree.errors());
-    show_drivers(rt, spawner.inner().drivers());
     // the program ends now, and its system takes back what is left
     forget(spawner);
     Ok((status, history))
@@ -113,37 +96,6 @@ fn show_message(rt: HostRuntime, status: u8) {
     if let Some(message) = message_for(status) {
         let _ = eprintln!(rt; "{message}");
     }
-}
-
-/// Says that the words name no command, and why. If they ask for help or the version, they get it on standard output.
-fn end_wrong(rt: HostRuntime, words: &[String], are_text: bool) -> u8 {
-    if let Some(text) = answer(words) {
-        return match print!(rt; "{text}") {
-            Ok(()) => ExitStatus::Usage.number(),
-            Err(_) => {
-                let status = ExitStatus::OutputNotWritten.number();
-                show_message(rt, status);
-                status
-            }
-        };
-    }
-    show_message(rt, ExitStatus::Usage.number());
-    if !are_text {
-        let _ = eprintln!(rt; "a word is not UTF-8");
-    } else if let Ok(Some(why)) = explanation(rt.alloc(), words) {
-        let _ = eprintln!(rt; "{why}");
-    }
-    let _ = eprintln!(rt; "the manual page is docs/siuwbren.1");
-    ExitStatus::Usage.number()
-}
-
-/// Says more of a status.
-fn end_with(rt: HostRuntime, status: u8, words: &[String], are_text: bool) -> u8 {
-    if status == ExitStatus::Usage.number() {
-        return end_wrong(rt, words, are_text);
-    }
-    show_message(rt, status);
-    status
 }
 
 /// Writes or judges a journal, as these words ask for it: the status.
@@ -163,15 +115,10 @@ fn folder_words<H: Threads + Wait + Sync>(
     rt: HostRuntime,
     threads: &H,
     words: &[String],
-    are_text: bool,
     place: JournalPlace,
 ) -> Result<u8, AllocError> {
     let (mut repo, tree) = folders_of(rt, words)?;
     let (status, history) = run_in(rt, threads, words, &mut repo, tree)?;
-    let said = end_with(rt, status, words, are_text);
-    if status == ExitStatus::Refused.number() {
-        show_refused_path(rt, &mut repo);
-    }
     if let JournalPlace::File(journal) = place {
         let history = history.as_slice();
         let ended = EndedCheckout {
@@ -181,25 +128,36 @@ fn folder_words<H: Threads + Wait + Sync>(
         };
         journal.end(&mut repo, ended);
     }
-    Ok(said)
+    Ok(status)
+}
+
+/// Runs these words, and gives the status. It is `None` where standard error has said already why there is none.
+fn status_of<H: Threads + Wait + Sync>(
+    rt: HostRuntime,
+    threads: &H,
+    words: &[String],
+) -> Result<Option<u8>, AllocError> {
+    if is_journal(words) {
+        return Ok(Some(journal_words(rt, threads, words)?));
+    }
+    if is_checkin(words) {
+        return Ok(Some(checkin_words(rt, threads, words)?));
+    }
+    match journal_place(rt, words)? {
+        JournalPlace::Unusable => Ok(None),
+        place => Ok(Some(folder_words(rt, threads, words, place)?)),
+    }
 }
 
 fn run_words<H: Threads + Wait + Sync>(rt: HostRuntime, threads: &H) -> Result<u8, AllocError> {
     let _held = hold_standard(rt);
-    let all = args(&rt);
-    let are_text = all.is_ok();
-    let words = words_of(rt.alloc(), all)?;
-    if is_journal(&words) {
-        let status = journal_words(rt, threads, &words)?;
-        return Ok(end_with(rt, status, &words, are_text));
-    }
-    if is_checkin(&words) {
-        let status = checkin_words(rt, threads, &words)?;
-        return Ok(end_with(rt, status, &words, are_text));
-    }
-    match journal_place(rt, &words)? {
-        JournalPlace::Unusable => Ok(ExitStatus::Usage.number()),
-        place => folder_words(rt, threads, &words, are_text, place),
+    let words = words_of(rt.alloc(), args(&rt))?;
+    match status_of(rt, threads, &words)? {
+        Some(status) => {
+            show_message(rt, status);
+            Ok(status)
+        }
+        None => Ok(ExitStatus::Usage.number()),
     }
 }
 

@@ -10,6 +10,36 @@ use std::io::writer;
 use std::mem::forget;
 use std::thread::Threads;
 
+/// A check-in that has printed its report.
+#[derive(Drop)]
+pub struct EndedCheckin {
+    status: u8,
+    spawner: ProcessSpawner,
+    files: FolderFiles,
+    keep: FolderKeep,
+}
+
+impl EndedCheckin {
+    /// Says on standard error what drivers wrote, which files weren't read and what wasn't kept.
+    pub fn show_notes(&self, rt: HostRuntime) {
+        show_drivers(rt, self.spawner.drivers());
+        show_errors(rt, self.files.errors());
+        show_unkept(rt, self.keep.error());
+    }
+
+    /// The status. The program ends now, and its system takes back what is left of the drivers.
+    pub fn end(self) -> u8 {
+        let EndedCheckin {
+            status,
+            spawner,
+            files: _,
+            keep: _,
+        } = self;
+        forget(spawner);
+        status
+    }
+}
+
 /// Checks in the files of a folder by these words, under the drivers of this spawner, and prints the report.
 pub fn check_in<R: Repo, T: Threads + Copy + Send>(
     rt: HostRuntime,
@@ -19,7 +49,7 @@ pub fn check_in<R: Repo, T: Threads + Copy + Send>(
     mut spawner: ProcessSpawner,
     mut files: FolderFiles,
     mut keep: FolderKeep,
-) -> Result<u8, AllocError> {
+) -> Result<EndedCheckin, AllocError> {
     let mut once = spawner.once_maker(threads)?.once()?;
     let mut out = OutputSink::new(rt, writer(&rt));
     let status = checkin(
@@ -32,10 +62,10 @@ pub fn check_in<R: Repo, T: Threads + Copy + Send>(
         &mut keep,
         &mut out,
     );
-    show_drivers(rt, spawner.drivers());
-    show_errors(rt, files.errors());
-    show_unkept(rt, keep.error());
-    // the program ends now, and its system takes back what is left
-    forget(spawner);
-    Ok(status)
+    Ok(EndedCheckin {
+        status,
+        spawner,
+        files,
+        keep,
+    })
 }

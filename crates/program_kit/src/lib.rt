@@ -10,7 +10,7 @@ mod own_words;
 mod progress;
 mod refused;
 
-pub use checking_in::check_in;
+pub use checking_in::{EndedCheckin, check_in};
 pub use journal_file::{EndedCheckout, JournalFile};
 pub use messages::message_of;
 pub use notes::{show_drivers, show_errors};

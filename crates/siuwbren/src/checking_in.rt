@@ -37,7 +37,9 @@ fn check_in_with<H: Threads + Wait + Sync>(
     let words = checkin_words(rt.alloc(), repo.git_dir(), tree)?;
     let files = FolderFiles::new(rt, String::from_str(rt.alloc(), tree)?);
     let keep = keep_of(rt, repo)?;
-    check_in(rt, threads, words.as_slice(), repo, spawner, files, keep)
+    let ended = check_in(rt, threads, words.as_slice(), repo, spawner, files, keep)?;
+    ended.show_notes(rt);
+    Ok(ended.end())
 }
 
 /// Says where the new index is, and how it takes the place of the repository's own.

@@ -1,9 +1,8 @@
 //! A check-in into a Git folder with uncompressed objects.
 use crate::word_at;
 use checkin_edge::{FolderFiles, FolderKeep, ObjectForm};
-use checkout_engine::ExitStatus;
 use edge_adapters::{FolderRepo, ProcessSpawner, path_in};
-use program_kit::{check_in, show_refused_path};
+use program_kit::check_in;
 use std::alloc::AllocError;
 use std::sync::Wait;
 use std::thread::Threads;
@@ -15,8 +14,8 @@ fn keep_of(rt: HostRuntime, folder: &str) -> Result<FolderKeep, AllocError> {
     Ok(FolderKeep::new(rt, objects, index, ObjectForm::Plain))
 }
 
-/// Checks in the files of the folder that the second word names into the Git folder that the first one names: the
-/// status.
+/// The status of a check-in: the files of the folder that the second word names go into the Git folder that the first
+/// one names.
 pub fn checkin_words<H: Threads + Wait + Sync>(
     rt: HostRuntime,
     threads: &H,
@@ -28,9 +27,5 @@ pub fn checkin_words<H: Threads + Wait + Sync>(
     let keep = keep_of(rt, folder.as_str())?;
     let mut repo = FolderRepo::new(rt, folder)?;
     let files = FolderFiles::new(rt, word_at(rt, words, 1)?);
-    let status = check_in(rt, threads, words, &mut repo, spawner, files, keep)?;
-    if status == ExitStatus::Refused.number() {
-        show_refused_path(rt, &mut repo);
-    }
-    Ok(status)
+    Ok(check_in(rt, threads, words, &mut repo, spawner, files, keep)?.end())
 }
