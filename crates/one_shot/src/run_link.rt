@@ -1,8 +1,10 @@
 //! A link to a host that runs a command once for each content.
-ghost use Rattle.std.specs.Prelude.{◌≡◌, true, Some};
-ghost use Rattle.edge_kit.specs.Faults.{Rose};
-ghost use Rattle.edge_kit.specs.Links.{IsNewLink, Replies};
-ghost use Rattle.driver_host.specs.HostLinks.{link_seen};
+ghost use Rattle.std.specs.Prelude.{◌≡◌, ◌<◌, ℕ, List, true, Some, length, OnOk, IfOk};
+ghost use Rattle.edge_kit.specs.Faults.{Rose, AfterSend, AfterCall};
+ghost use Rattle.edge_kit.specs.Links.{IsNewLink, Replies, Sends, Reads};
+ghost use Rattle.driver_host.specs.HostLinks.{link_seen, left_of, IsFrontRead};
+ghost use Rattle.driver_host.specs.Hosts.{IsHostAfter, TakesPiece};
+ghost use Rattle.driver_host.specs.declared.work.Choice.{Choice};
 ghost use Rattle.one_shot.specs.Replies.{smudge_alone, told_by, run_seen, IsServed, record_of};
 
 use driver_host::{HostLink, Work};
@@ -74,7 +76,15 @@ impl<W: Work> RunLink<W> {
 impl<W: Work> Link for RunLink<W> {
     ghost seen = { λ l. run_seen W.told l };
 
-    fn send(&mut self, piece: &[u8]) -> Result<(), SendFault> {
+    fn send(&mut self, piece: &[u8]) -> Result<(), SendFault>
+        ensures sent { let seen = run_seen W.told in Sends piece.now (seen self.old) (seen self.new) result }
+        ensures faults { let seen = run_seen W.told in
+            AfterSend (seen self.old).faults (seen self.new).faults result }
+        ensures gives { OnOk result ((bytes : List ℕ) (cs : List Choice) (text : List ℕ)
+            → IsHostAfter W.told W.latest bytes cs text self.old.link.host
+            → TakesPiece W.told W.latest bytes cs text piece.now self.new.link.host
+            (left_of self.old.link) (left_of self.new.link)) }
+    {
         if self.over {
             self.fail();
             return Err(SendFault::Failed);
@@ -86,7 +96,13 @@ impl<W: Work> Link for RunLink<W> {
         Ok(())
     }
 
-    fn read(&mut self, into: &mut [u8]) -> Result<usize, Failed> {
+    fn read(&mut self, into: &mut [u8]) -> Result<usize, Failed>
+        requires { 0 < length into.old }
+        ensures taken { let seen = run_seen W.told in Reads into.new (seen self.old) (seen self.new) result }
+        ensures faults { let seen = run_seen W.told in
+            AfterCall (seen self.old).faults (seen self.new).faults result }
+        ensures front { IfOk result (λ n. IsFrontRead (left_of self.old.link) into.new n (left_of self.new.link)) }
+    {
         if self.over {
             self.fail();
             return Err(Failed);
