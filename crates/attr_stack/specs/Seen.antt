@@ -1,6 +1,7 @@
 -- What the lists and maps of the code say.
 use Rattle.std.specs.Prelude.{◌≡◌, ℕ, Bool, true, false, List, [], map, reverse, Option, Some, is_some, if◌then◌else◌}
-use Rattle.std.specs.Option.{option_map, unwrap_or}
+use Rattle.std.specs.List.{All}
+use Rattle.std.specs.Option.{option_map, unwrap_or, ForSome}
 use Rattle.std.specs.Cmp.Lexicographic.{slice_cmp}
 use Rattle.std.specs.Ordering.{nat_cmp}
 use Rattle.std.specs.BTreeMap as tree
@@ -17,11 +18,20 @@ use Rattle.attr_stack.specs.Macros.{MacroLine, meaning}
 abbrev pub from_end : List (Bor Pair) → List Pair
 from_end pairs = reverse (map (λ (pair : Bor Pair). pair.now) pairs)
 
+-- the states of the names of which something is decided
+abbrev pub Decided : Type 0
+Decided = BTreeMap (Bor (List ℕ)) (Bor AttrState)
+
 -- what a map from names to states has for a name
-abbrev pub state_at : BTreeMap (Bor (List ℕ)) (Bor AttrState) → List ℕ → Option AttrState
+abbrev pub state_at : Decided → List ℕ → Option AttrState
 state_at states name =
     option_map (λ (state : Bor AttrState). state.now)
     (tree.get_by (λ (key : Bor (List ℕ)). slice_cmp nat_cmp name key.now) states)
+
+-- something is decided of each name that stands at one of these places
+abbrev pub AreKnown : List (Option (Bor (List ℕ))) → Decided → Type 0
+AreKnown recent states =
+    All (λ (slot : Option (Bor (List ℕ))). ForSome slot (λ name. is_some (state_at states name.now) ≡ true)) recent
 
 -- what is decided of a name
 abbrev pub said_in : BTreeMap (Bor (List ℕ)) (Bor AttrState) → List ℕ → AttrState

@@ -7,8 +7,9 @@ ghost use Rattle.attr_stack.specs.Levels.{row_pattern, row_rule, rows_pairs};
 ghost use Rattle.attr_stack.specs.Search.{Reads};
 ghost use Rattle.attr_stack.specs.Seen.{state_at};
 
-use crate::decide::{AttributeQuery, States, is_done, read_rule};
+use crate::decide::{AttributeQuery, is_done, read_rule};
 use crate::files::FileAt;
+use crate::noted::States;
 use attr_line::{AttrFile, AttrRow, Pair};
 use byte_path::Bytes;
 use std::alloc::{AllocError, Global};
@@ -53,9 +54,9 @@ fn read_row<'a>(
     pending: &mut Vec<&'a Pair>,
     row: &'a AttrRow,
 ) -> Result<bool, AllocError>
-    ensures states { IfOk result (λ done. Reads asked.now (reverse (row_rule row.now)) states.old [] states.new) }
+    ensures states { IfOk result (λ done. Reads asked.now (reverse (row_rule row.now)) states.old.decided [] states.new.decided) }
     ensures done { IfOk result (λ done. OnTrue done
-        (list_all (λ name. is_some (state_at states.new name)) asked.now.names.now ≡ true)) }
+        (list_all (λ name. is_some (state_at states.new.decided name)) asked.now.names.now ≡ true)) }
 {
     read_rule(asked, states, pending, row_rule(row))?;
     Ok(is_done(asked.names, states))
@@ -78,7 +79,7 @@ fn read_rows<'a>(
     path: &[u8],
 ) -> Result<(), AllocError>
     requires { compiled.now.patterns.now ≡ map row_pattern compiled.now.rows.now }
-    ensures { OnOk result (Reads asked.now (rows_pairs path.now compiled.now.rows.now) states.old [] states.new) }
+    ensures { OnOk result (Reads asked.now (rows_pairs path.now compiled.now.rows.now) states.old.decided [] states.new.decided) }
 {
     let CompiledRows { rows, patterns } = *compiled;
     let name = last_part(path);
@@ -129,7 +130,7 @@ impl CompiledFile {
         pending: &mut Vec<&'a Pair>,
         path: &[u8],
     ) -> Result<(), AllocError>
-        ensures { OnOk result (Reads asked.now (file_pairs path.now self.now) states.old [] states.new) }
+        ensures { OnOk result (Reads asked.now (file_pairs path.now self.now) states.old.decided [] states.new.decided) }
     {
         let rows = self.file.rows.as_slice();
         let patterns = &self.patterns;

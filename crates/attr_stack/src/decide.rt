@@ -1,18 +1,18 @@
 //! Which pair decides each attribute that is asked for.
 ghost use Rattle.std.specs.Bool.{OnTrue};
-ghost use Rattle.std.specs.Prelude.{◌≡◌, true, [], ◌++◌, List, IfOk, OnOk, is_some, reverse};
+ghost use Rattle.std.specs.Prelude.{◌≡◌, true, [], ◌++◌, List, OnOk, is_some, reverse};
 ghost use Rattle.std.specs.List.{list_all};
 ghost use Rattle.attr_stack.specs.Macros.{MacroLine};
 ghost use Rattle.attr_stack.specs.Decided.{body_of};
-ghost use Rattle.attr_stack.specs.Seen.{from_end, state_at, pairs_at, AreMacros, Notes};
+ghost use Rattle.attr_stack.specs.Seen.{from_end, state_at, pairs_at, AreMacros};
 ghost use Rattle.attr_stack.specs.Search.{is_asked, is_needed, Reads};
 
 use crate::macros::Macros;
+use crate::noted::States;
 use crate::reach::push_pairs;
 use attr_line::{AttrState, Pair};
 use byte_path::Bytes;
 use std::alloc::AllocError;
-use std::collections::BTreeMap;
 
 /// What a search is for.
 #[derive(Clone, Copy)]
@@ -20,9 +20,6 @@ pub struct AttributeQuery<'a> {
     pub names: &'a [Bytes],
     pub macros: &'a Macros,
 }
-
-/// What is decided of the names that are asked for and of macros. No other name stands here.
-pub type States<'a> = BTreeMap<&'a [u8], &'a AttrState>;
 
 /// What a name stands for: nothing, if it is no macro.
 fn meaning_of<'a>(macros: &'a Macros, name: &[u8]) -> &'a [Pair]
@@ -66,31 +63,23 @@ fn is_needed(asked: &AttributeQuery<'_>, name: &[u8]) -> bool
     asked.macros.contains_key(name)
 }
 
-/// Whether a pair decides. What it says is noted then.
-fn decides<'a>(states: &mut States<'a>, pair: &'a Pair) -> Result<bool, AllocError>
-    ensures { IfOk result (λ decides. Notes pair.now (state_at states.old) (state_at states.new) decides) }
-{
-    let name = pair.name.as_slice();
-    if states.contains_key(name) {
-        return Ok(false);
-    }
-    states.insert(name, &pair.state)?;
-    Ok(true)
-}
-
 /// Notes what these pairs decide, of which the last is read first. None is left.
 pub fn read_pairs<'a>(
     asked: &AttributeQuery<'a>,
     states: &mut States<'a>,
     pending: &mut Vec<&'a Pair>,
 ) -> Result<(), AllocError>
-    ensures { OnOk result (Reads asked.now (from_end pending.old.items) states.old [] states.new) }
+    ensures { OnOk result (Reads asked.now (from_end pending.old.items) states.old.decided [] states.new.decided) }
 {
     'reading: while let Some(pair) = pending.pop() {
-        if !is_needed(asked, pair.name.as_slice()) {
+        let name = pair.name.as_slice();
+        if states.is_recent(name) {
             continue;
         }
-        if decides(states, pair)? {
+        if !is_needed(asked, name) {
+            continue;
+        }
+        if states.note(pair)? {
             push_body(pending, asked.macros, pair)?;
         }
     }
@@ -104,7 +93,7 @@ pub fn read_rule<'a>(
     pending: &mut Vec<&'a Pair>,
     pairs: &'a [Pair],
 ) -> Result<(), AllocError>
-    ensures { OnOk result (Reads asked.now (reverse pairs.now) states.old [] states.new) }
+    ensures { OnOk result (Reads asked.now (reverse pairs.now) states.old.decided [] states.new.decided) }
 {
     pending.clear();
     push_pairs(pending, pairs)?;
@@ -113,17 +102,15 @@ pub fn read_rule<'a>(
 
 /// Whether something is decided of each of these names.
 fn are_known(names: &[Bytes], states: &States<'_>) -> bool
-    ensures { result ≡ list_all (λ name. is_some (state_at states.now name)) names.now }
+    ensures { result ≡ list_all (λ name. is_some (state_at states.now.decided name)) names.now }
 {
-    names
-        .iter()
-        .all(|name| states.contains_key(name.as_slice()))
+    names.iter().all(|name| states.is_known(name.as_slice()))
 }
 
 /// Whether each name that is asked for is decided, so that no other pair counts. The names are looked up only where as
 /// many are decided as are asked for, so where a name is asked for twice the answer may be `false` all the same.
 pub fn is_done(names: &[Bytes], states: &States<'_>) -> bool
-    ensures { OnTrue result (list_all (λ name. is_some (state_at states.now name)) names.now ≡ true) }
+    ensures { OnTrue result (list_all (λ name. is_some (state_at states.now.decided name)) names.now ≡ true) }
 {
     if states.len() < names.len() {
         return false;

@@ -7,6 +7,7 @@ mod decide;
 mod files;
 mod laws;
 mod macros;
+mod noted;
 mod reach;
 mod stack;
 mod states;

@@ -10,14 +10,14 @@ ghost use Rattle.attr_stack.specs.Rules.{files_of, IsRules, IsStack};
 
 use crate::chain::{Chain, Level, Places, places_of};
 use crate::compiled_file::{CompiledAt, CompiledFile};
-use crate::decide::{AttributeQuery, States, is_done};
+use crate::decide::{AttributeQuery, is_done};
 use crate::files::{AttrFiles, FileAt};
 use crate::macros::{Macros, macros_of};
+use crate::noted::States;
 use crate::states::states_in;
 use attr_line::{AttrState, Pair};
 use byte_path::{Bytes, Items};
 use std::alloc::{AllocError, Global};
-use std::collections::BTreeMap;
 use std::marker::Model;
 use wild_match::last_part;
 
@@ -98,7 +98,7 @@ fn read_level<'a>(
     level: Level,
 ) -> Result<(), AllocError>
     ensures { OnOk result (Reads asked.now (level_pairs branch.now.folders.now branch.now.path.now level)
-        states.old [] states.new) }
+        states.old.decided [] states.new.decided) }
 {
     match branch.folders.get(level.place) {
         Some(at) => at
@@ -117,7 +117,7 @@ fn read_levels<'a>(
 ) -> Result<(), AllocError>
     ensures { OnOk result (Reads asked.now
         (flat_map (level_pairs branch.now.folders.now branch.now.path.now) (reverse branch.now.levels.now))
-        states.old [] states.new) }
+        states.old.decided [] states.new.decided) }
 {
     let levels = branch.levels;
     for place in (0..levels.len()).rev() {
@@ -137,7 +137,7 @@ fn read_base<'a>(
     base: &'a CompiledFile,
     path: &[u8],
 ) -> Result<(), AllocError>
-    ensures { OnOk result (Reads asked.now (file_pairs path.now base.now) states.old [] states.new) }
+    ensures { OnOk result (Reads asked.now (file_pairs path.now base.now) states.old.decided [] states.new.decided) }
 {
     if is_done(asked.names, states) {
         return Ok(());
@@ -156,11 +156,11 @@ fn decided_of<'a>(
     requires stack { IsStack rules.now chain.now }
     requires within { StandsIn path.now chain.now.folder.items }
     ensures { IfOk result (λ states. (name : List ℕ) → is_asked names.now name ≡ true
-        → state_at states name ≡ decision (files_of rules.now) path.now name) }
+        → state_at states.decided name ≡ decision (files_of rules.now) path.now name) }
 {
     let macros = &rules.macros;
     let asked = AttributeQuery { names, macros };
-    let mut states = BTreeMap::new(alloc);
+    let mut states = States::new(alloc, macros.len())?;
     let mut pending = Vec::new(alloc);
     rules.info.read(&asked, &mut states, &mut pending, path)?;
     let branch = Branch {
@@ -187,6 +187,7 @@ fn folder_of(path: &[u8]) -> &[u8]
 /// It keeps the files that reach the paths of one folder, and has looked at each pattern once.
 #[derive(Drop)]
 pub struct AttrStack {
+    alloc: Global,
     rules: Rules,
     chain: Chain,
 }
@@ -209,20 +210,20 @@ impl AttrStack {
     {
         let rules = rules_of(alloc, files)?;
         let chain = Chain::of(alloc, &rules.places, b"")?;
-        Ok(AttrStack { rules, chain })
+        Ok(AttrStack {
+            alloc,
+            rules,
+            chain,
+        })
     }
 
     /// The answer of `attributes_of` for these files. Paths may come in any order, and the fewest files are looked up
     /// where those of one folder come together. After out of memory it gives right answers all the same.
-    pub fn states(
-        &mut self,
-        alloc: Global,
-        path: &[u8],
-        names: &[Bytes],
-    ) -> Result<Vec<AttrState>, AllocError>
+    pub fn states(&mut self, path: &[u8], names: &[Bytes]) -> Result<Vec<AttrState>, AllocError>
         ensures kept { self.new ≡ self.old }
         ensures states { IfOk result (λ states. states.items ≡ map (state_of self.old path.now) names.now) }
     {
+        let alloc = self.alloc;
         let rules = &self.rules;
         let chain = &mut self.chain;
         let folder = folder_of(path);

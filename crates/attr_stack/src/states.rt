@@ -1,16 +1,18 @@
 //! The decided state of each name that is asked for.
-ghost use Rattle.std.specs.Prelude.{◌≡◌, IfOk, map};
-ghost use Rattle.attr_stack.specs.Decided.{state_of};
-ghost use Rattle.attr_stack.specs.Seen.{said_in};
+ghost use Rattle.std.specs.Prelude.{◌≡◌, ℕ, true, List, IfOk, map};
+ghost use Rattle.attr_stack.specs.Decided.{decision, state_of};
+ghost use Rattle.attr_stack.specs.Macros.{macros_of};
+ghost use Rattle.attr_stack.specs.Search.{is_asked};
+ghost use Rattle.attr_stack.specs.Seen.{said_in, state_at, AreMacros};
 
-use crate::decide::{AttributeQuery, States, read_pairs};
+use crate::decide::{AttributeQuery, read_pairs};
 use crate::files::AttrFiles;
-use crate::macros::macros_of;
+use crate::macros::{Macros, macros_of};
+use crate::noted::States;
 use crate::reach::push_all;
 use attr_line::AttrState;
 use byte_path::Bytes;
 use std::alloc::{AllocError, Global};
-use std::collections::BTreeMap;
 
 /// A copy of a state.
 pub fn copy_of(alloc: Global, state: &AttrState) -> Result<AttrState, AllocError>
@@ -26,7 +28,7 @@ pub fn copy_of(alloc: Global, state: &AttrState) -> Result<AttrState, AllocError
 
 /// What is decided of a name.
 fn state_in(alloc: Global, states: &States<'_>, name: &[u8]) -> Result<AttrState, AllocError>
-    ensures { IfOk result (λ state. state ≡ said_in states.now name.now) }
+    ensures { IfOk result (λ state. state ≡ said_in states.now.decided name.now) }
 {
     match states.get(name) {
         Some(state) => copy_of(alloc, state),
@@ -40,12 +42,32 @@ pub fn states_in(
     decided: &States<'_>,
     names: &[Bytes],
 ) -> Result<Vec<AttrState>, AllocError>
-    ensures { IfOk result (λ states. states.items ≡ map (said_in decided.now) names.now) }
+    ensures { IfOk result (λ states. states.items ≡ map (said_in decided.now.decided) names.now) }
 {
     let mut states = Vec::with_capacity(alloc, names.len())?;
     for name in names {
         states.push_reserved(state_in(alloc, decided, name.as_slice())?);
     }
+    Ok(states)
+}
+
+/// What is decided of some names for a path.
+fn decided_of<'a>(
+    alloc: Global,
+    files: &'a AttrFiles,
+    macros: &'a Macros,
+    path: &[u8],
+    names: &'a [Bytes],
+) -> Result<States<'a>, AllocError>
+    requires { AreMacros macros.now (macros_of files.now) }
+    ensures { IfOk result (λ states. (name : List ℕ) → is_asked names.now name ≡ true
+        → state_at states.decided name ≡ decision files.now path.now name) }
+{
+    let mut pending = Vec::new(alloc);
+    push_all(&mut pending, files, path)?;
+    let asked = AttributeQuery { names, macros };
+    let mut states = States::new(alloc, macros.len())?;
+    read_pairs(&asked, &mut states, &mut pending)?;
     Ok(states)
 }
 
@@ -62,13 +84,6 @@ pub fn attributes_of(
     ensures { IfOk result (λ states. states.items ≡ map (state_of files.now path.now) names.now) }
 {
     let macros = macros_of(alloc, files)?;
-    let mut pending = Vec::new(alloc);
-    push_all(&mut pending, files, path)?;
-    let asked = AttributeQuery {
-        names,
-        macros: &macros,
-    };
-    let mut states = BTreeMap::new(alloc);
-    read_pairs(&asked, &mut states, &mut pending)?;
-    states_in(alloc, &states, names)
+    let decided = decided_of(alloc, files, &macros, path, names)?;
+    states_in(alloc, &decided, names)
 }

@@ -89,18 +89,18 @@ struct Asking<'a> {
 
 impl<'a> Asking<'a> {
     /// What is done with a file, by its attributes.
-    fn file_way(&mut self, alloc: Global, path: &[u8]) -> Result<Way, AllocError>
+    fn file_way(&mut self, path: &[u8]) -> Result<Way, AllocError>
         requires { IsReady self.old }
         ensures kept { self.new ≡ self.old }
         ensures way { IfOk result (λ way. way ≡ way_by_states self.old.drivers.now self.old.settings.now
             (map (state_of self.old.stack path.now) asked_names)) }
     {
-        let states = self.stack.states(alloc, path, &self.names)?;
+        let states = self.stack.states(path, &self.names)?;
         Ok(file_way(self.drivers, self.settings, &states))
     }
 
     #[tactic(auto, using(crate::proofs::KeptPaths::left_out_way, crate::proofs::KeptPaths::open_way))]
-    fn way(&mut self, alloc: Global, entry: &Entry) -> Result<Way, AllocError>
+    fn way(&mut self, entry: &Entry) -> Result<Way, AllocError>
         requires { IsReady self.old }
         ensures kept { self.new ≡ self.old }
         ensures way { IfOk result (λ way.
@@ -112,7 +112,7 @@ impl<'a> Asking<'a> {
         match entry.mode {
             Mode::Gitlink => Ok(Way::Kept),
             Mode::Link => Ok(Way::Stored(AS_IT_IS)),
-            Mode::Plain | Mode::Executable => self.file_way(alloc, entry.path.as_slice()),
+            Mode::Plain | Mode::Executable => self.file_way(entry.path.as_slice()),
         }
     }
 
@@ -127,7 +127,7 @@ impl<'a> Asking<'a> {
         Ok(CheckinPath {
             path: Bytes::copy_of(alloc, entry.path.as_slice())?,
             object,
-            way: self.way(alloc, entry)?,
+            way: self.way(entry)?,
         })
     }
 

@@ -168,7 +168,7 @@ impl<'a> Asking<'a> {
         ensures path { IfOk result (λ path. path ≡ file_path self.old.stack self.old.settings.now entry.now) }
     {
         let path = entry.path.as_slice();
-        let states = self.stack.states(alloc, path, &self.names)?;
+        let states = self.stack.states(path, &self.names)?;
         path_by(alloc, self.settings, &self.starts, entry, &states)
     }
 

@@ -115,7 +115,7 @@ fn names_of(alloc: Global, text: &[u8]) -> Result<Vec<Bytes>, AllocError> {
 fn answer_of(alloc: Global, question: &mut Question, path: &[u8]) -> Result<Vec<u8>, AllocError> {
     let mut text = Vec::new(alloc);
     let names = question.names.as_slice();
-    let states = question.stack.states(alloc, path, names)?;
+    let states = question.stack.states(path, names)?;
     push_answer(&mut text, alloc, path, names, states.as_slice())?;
     if let Some(files) = &question.again {
         let mut alone = Vec::new(alloc);

@@ -47,8 +47,8 @@ returns-then-branch c = λ lines are.
     let turned : rows_pairs path (take c.loop-place.place rows) ≡ reverse (row_rule row) ++ rows_pairs path (take i rows) =
     ap (λ (n : ℕ). rows_pairs path (take n rows)) (sym next) ∙ rows-last rows path i row within
     ∙ ap (λ r. row_pairs path r ++ rows_pairs path (take i rows)) (sym here) ∙ ap (λ ps. ps ++ rows_pairs path (take i rows)) (row-matched row path matches) in
-    let read : Leads lines names (rows_pairs path rows) (state_at c.args.states.now) (rows_pairs path (take i rows)) (state_at c.read_row.new.states) =
-    leads-on lines names (rows_pairs path rows) (reverse (row_rule row)) (rows_pairs path (take i rows)) (state_at c.args.states.now) (state_at c.loop-place.states) (state_at c.read_row.new.states)
+    let read : Leads lines names (rows_pairs path rows) (state_at c.args.states.now.decided) (rows_pairs path (take i rows)) (state_at c.read_row.new.states.decided) =
+    leads-on lines names (rows_pairs path rows) (reverse (row_rule row)) (rows_pairs path (take i rows)) (state_at c.args.states.now.decided) (state_at c.loop-place.states.decided) (state_at c.read_row.new.states.decided)
     (leads-turn lines names _ _ _ _ _ turned (c.loop-place.invariant lines are)) (c.in_ok-read_row.ensures.states lines are) in
     leads-done lines c.args.asked.now.names.now _ _ [] _ _ (OnTrue_at c.if-branch.true c.in_ok-read_row.ensures.done) read
 
@@ -70,5 +70,5 @@ loop-place-preserved c = λ lines are.
     let turned : rows_pairs path (take c.loop-place.place rows) ≡ reverse (row_rule row) ++ rows_pairs path (take i rows) =
     ap (λ (n : ℕ). rows_pairs path (take n rows)) (sym next) ∙ rows-last rows path i row within
     ∙ ap (λ r. row_pairs path r ++ rows_pairs path (take i rows)) (sym here) ∙ ap (λ ps. ps ++ rows_pairs path (take i rows)) (row-matched row path matches) in
-    leads-on lines names (rows_pairs path rows) (reverse (row_rule row)) (rows_pairs path (take i rows)) (state_at c.args.states.now) (state_at c.loop-place.states) (state_at c.read_row.new.states)
+    leads-on lines names (rows_pairs path rows) (reverse (row_rule row)) (rows_pairs path (take i rows)) (state_at c.args.states.now.decided) (state_at c.loop-place.states.decided) (state_at c.read_row.new.states.decided)
     (leads-turn lines names _ _ _ _ _ turned (c.loop-place.invariant lines are)) (c.in_ok-read_row.ensures.states lines are)

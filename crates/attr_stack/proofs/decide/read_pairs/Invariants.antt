@@ -6,7 +6,7 @@ use Rattle.attr_stack.proofs.decide.read_pairs.Given as goal
 
 abbrev pub invariant-reading : goal.invariant-reading
 invariant-reading l =
-    Leads (lines_in l.asked.macros.now) (is_asked l.asked.names.now) (from_end l.initial.pending.items) (state_at l.initial.states) (from_end l.pending.items) (state_at l.states)
+    Leads (lines_in l.asked.macros.now) (is_asked l.asked.names.now) (from_end l.initial.pending.items) (state_at l.initial.states.decided) (from_end l.pending.items) (state_at l.states.decided)
 
 abbrev pub decreases-reading : goal.decreases-reading
-decreases-reading l = room (lines_in l.asked.macros.now) (from_end l.pending.items) (known (state_at l.states))
+decreases-reading l = room (lines_in l.asked.macros.now) (from_end l.pending.items) (known (state_at l.states.decided))

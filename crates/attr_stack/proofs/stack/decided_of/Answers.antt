@@ -20,17 +20,17 @@ returns c = λ name asked.
     let lines = macros_of (files_of c.args.rules.now) in
     let names = is_asked c.args.names.now in
     let info = file_pairs path c.args.rules.now.info in
-    let none = state_at c.new-states.result in
-    let mid = state_at c.read.new.states in
-    let later = state_at c.read_levels.new.states in
-    let new = state_at c.read_base.new.states in
+    let none = state_at c.in_ok-states.states.decided in
+    let mid = state_at c.read.new.states.decided in
+    let later = state_at c.read_levels.new.states.decided in
+    let new = state_at c.read_base.new.states.decided in
     let before = pairs_before files path (length path) in
     let base = file_pairs path c.args.rules.now.base in
     let reached : flat_map (level_pairs c.deref.result.now path) (reverse c.deref-2.result.now) ≡ pairs_before files path (length path) =
     ap (λ (fs : List FileAt). flat_map (level_pairs fs path) (reverse c.deref-2.result.now)) c.deref.ensures.value
     ∙ ap (λ (ls : List Level). flat_map (level_pairs files path) (reverse ls)) c.deref-2.ensures.value
     ∙ chain_gives files c.args.chain.now path c.requires.stack.entered c.requires.within in
-    leads-decides lines names (info ++ (before ++ base)) none new name (nothing-noted c.new-states.result c.new-states.ensures.empty)
+    leads-decides lines names (info ++ (before ++ base)) none new name (nothing-noted c.in_ok-states.states.decided c.in_ok-states.ensures)
     (leads-both lines names info (before ++ base) none mid new
     (c.in_ok-read.ensures lines c.requires.stack.right.macros)
     (leads-both lines names before base mid later new

@@ -14,6 +14,6 @@ returns-clause-states c =
     let same : files_of c.self.inside.rules ≡ c.args.self.now = search rules in
     subst (λ (files : AttrFiles). IfOk c.states_in.result (λ states. states.items ≡ map (state_of files c.args.path.now) c.args.names.now)) same
     (subst (λ (xs : List AttrState). IfOk c.states_in.result (λ states. states.items ≡ xs))
-    (map-asked (said_in c.in_ok-decided.decided) (state_of (files_of c.self.inside.rules) c.args.path.now) c.args.names.now
+    (map-asked (said_in c.in_ok-decided.decided.decided) (state_of (files_of c.self.inside.rules) c.args.path.now) c.args.names.now
     (λ name asked. ap (λ (o : Option AttrState). unwrap_or o Unspecified) (c.in_ok-decided.ensures name asked)))
     c.states_in.ensures)
