@@ -1,7 +1,9 @@
 //! A check-in into a git folder.
-use crate::ends::{end_with, refuse_repository, say, show_notes};
+use crate::assumed::hold_assumed;
+use crate::ends::{end_run, refuse_repository, say, show_notes};
 use crate::engine_words::checkin_words;
-use crate::own_index::refuse_guarded;
+use crate::kept_notes::show_kept;
+use crate::own_index::{links_of, refuse_guarded};
 use crate::worktree::{refused_tree, tree_of};
 use checkin_edge::{FolderFiles, FolderKeep, ObjectForm};
 use checkout_engine::ExitStatus;
@@ -33,10 +35,12 @@ fn check_in_with<H: Threads + Wait + Sync>(
     tree: &str,
     repo: &mut GitRepo,
 ) -> Result<u8, AllocError> {
+    let held = hold_assumed(rt, repo)?;
     let spawner = ProcessSpawner::in_place(rt, repo.driver_place()?)?;
     let words = checkin_words(rt.alloc(), repo.git_dir(), tree)?;
-    let files = FolderFiles::new(rt, String::from_str(rt.alloc(), tree)?);
-    let keep = keep_of(rt, repo)?;
+    let links = links_of(rt, repo)?;
+    let files = FolderFiles::new(rt, String::from_str(rt.alloc(), tree)?).of_links(links);
+    let keep = keep_of(rt, repo)?.holding(held);
     check_in(rt, threads, words.as_slice(), repo, spawner, files, keep)
 }
 

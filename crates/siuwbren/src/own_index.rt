@@ -2,7 +2,8 @@
 use crate::channel::sink_of;
 use crate::ends::{end_with, say};
 use crate::guarded::is_guarded;
-use byte_path::quote_path;
+use byte_path::{Bytes, quote_path};
+use checkin_edge::IndexLinks;
 use checkout_engine::ExitStatus;
 use edge_kit::{Repo, SendFault, Sink};
 use git_edge::{GitRepo, Guards};
@@ -17,6 +18,20 @@ const MOST_INDEX: u64 = 67_108_864;
 pub fn index_of(rt: HostRuntime, repo: &mut GitRepo) -> Option<Index> {
     let bytes = repo.index_bytes(MOST_INDEX).ok()??;
     read_index(rt.alloc(), bytes.as_slice()).ok()
+}
+
+/// The links of the repository's index.
+pub fn links_of(rt: HostRuntime, repo: &mut GitRepo) -> Result<IndexLinks, AllocError> {
+    let mut paths = Vec::new(rt.alloc());
+    if let Some(index) = index_of(rt, repo) {
+        for entry in index.entries() {
+            if matches!(entry.mode, Mode::Link) {
+                paths.push(Bytes::copy_of(rt.alloc(), entry.path.as_slice())?)?;
+            }
+        }
+    }
+    let kept = repo.keeps().links;
+    Ok(IndexLinks { paths, kept })
 }
 
 /// Whether the entry's path is one of git's own on a guarded file system.
