@@ -1,6 +1,6 @@
 //! A checkout from a git folder.
 use crate::channel::sink_of;
-use crate::ends::{end_with, refuse_repository, show_notes};
+use crate::ends::{end_run, refuse_repository, show_notes};
 use crate::engine_words::checkout_words;
 use crate::journal::journal_file;
 use crate::own_index::refuse_guarded;
@@ -53,7 +53,7 @@ impl Left {
 
 /// Says what else is to be said of a status and of a repository.
 fn explain(rt: HostRuntime, status: u8, is_quiet: bool, repo: &mut GitRepo) {
-    end_with(rt, status);
+    end_run(rt, status, repo);
     if status == ExitStatus::Refused.number() {
         show_refused_path(rt, repo);
     }
