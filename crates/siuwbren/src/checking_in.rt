@@ -55,12 +55,15 @@ fn show_index(rt: HostRuntime, repo: &GitRepo) -> Result<(), AllocError> {
     Ok(())
 }
 
-/// Says what else is to be said of a status and of a repository.
-fn explain(rt: HostRuntime, status: u8, repo: &mut GitRepo) -> Result<(), AllocError> {
-    end_with(rt, status);
+/// Says what else is to be said of a status, of a repository and of the folder that was checked in.
+fn explain(rt: HostRuntime, status: u8, repo: &mut GitRepo, tree: &str) -> Result<(), AllocError> {
+    end_run(rt, status, repo);
     match ExitStatus::of(status) {
         Some(ExitStatus::Refused) => show_refused_path(rt, repo),
-        Some(ExitStatus::Done | ExitStatus::DoneWithFailures) => show_index(rt, repo)?,
+        Some(ExitStatus::Done | ExitStatus::DoneWithFailures) => {
+            show_index(rt, repo)?;
+            show_kept(rt, repo, tree)?;
+        }
         _ => {}
     }
     show_notes(rt, repo);
@@ -85,7 +88,7 @@ fn check_in_words<H: Threads + Wait + Sync>(
         return Ok(status.number());
     }
     let status = check_in_with(rt, threads, tree.as_str(), repo)?;
-    explain(rt, status, repo)?;
+    explain(rt, status, repo, tree.as_str())?;
     Ok(status)
 }
 

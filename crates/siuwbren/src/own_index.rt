@@ -12,7 +12,7 @@ use report_forms::ReportForm;
 use std::alloc::AllocError;
 
 /// The most bytes of an index that is read.
-const MOST_INDEX: u64 = 67_108_864;
+pub const MOST_INDEX: u64 = 67_108_864;
 
 /// The repository's index, or nothing where the engine will say what is wrong with it.
 pub fn index_of(rt: HostRuntime, repo: &mut GitRepo) -> Option<Index> {
