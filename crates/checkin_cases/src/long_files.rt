@@ -26,4 +26,8 @@ impl Files for LongFiles {
         }
         self.files.take(path, limit)
     }
+
+    fn failed_by_kind(&self) -> bool {
+        self.files.failed_by_kind()
+    }
 }

@@ -8,3 +8,4 @@ abbrev pub IsWithin : ℕ → FileRead → Type 0
 IsWithin limit (read.Whole bytes) = length bytes.items ≤ limit
 IsWithin limit read.TooLong = Unit {0}
 IsWithin limit read.Absent = Unit {0}
+IsWithin limit read.OtherKind = Unit {0}

@@ -3,6 +3,7 @@ ghost use Rattle.std.specs.Prelude.{◌≡◌, ◌++◌, IfOk, None, string_byte
 ghost use Rattle.edge_kit.specs.Faults.{AfterSend};
 ghost use Rattle.checkin_edge.specs.Places.{folder_of, file_of};
 
+use crate::held_entries::{HeldEntry, with_held};
 use crate::new_file::{replace, write_once};
 use crate::stored_object::has_object;
 use checkin_engine::Keep;
@@ -34,6 +35,8 @@ pub struct FolderKeep {
     faults: u64,
     // its first fault
     error: Option<io::Error>,
+    // the entries of an index that get their marks back
+    held: Vec<HeldEntry>,
 }
 
 /// The folder of the object with this name, in a folder of objects: by the first two digits of the name.
@@ -70,7 +73,21 @@ impl FolderKeep {
             form,
             faults: 0,
             error: None,
+            held: Vec::new(rt.alloc()),
         }
+    }
+
+    /// The same keeper, which gives these entries of an index their marks back: assume-valid, and skip-worktree alone where
+    /// they had it. They stand in the index's order.
+    pub fn holding(self, held: Vec<HeldEntry>) -> FolderKeep
+        ensures objects { result.objects ≡ self.objects }
+        ensures index { result.index ≡ self.index }
+        ensures form { result.form ≡ self.form }
+        ensures seen { ⟦<FolderKeep as Keep>⟧.seen result ≡ ⟦<FolderKeep as Keep>⟧.seen self }
+    {
+        let mut keep = self;
+        keep.held = held;
+        keep
     }
 
     /// Its first fault.
@@ -94,6 +111,16 @@ impl FolderKeep {
                 write_once(self.rt, self.alloc, folder.as_str(), path.as_str(), &stream)
             }
         }
+    }
+
+    /// Writes the index's file.
+    fn write_index(&self, bytes: &[u8]) -> io::Result<()> {
+        let path = self.index.as_str();
+        if self.held.is_empty() {
+            return replace(self.rt, self.alloc, path, bytes);
+        }
+        let marked = with_held(self.alloc, bytes, self.held.as_slice())?;
+        replace(self.rt, self.alloc, path, &marked)
     }
 
     /// Counts a fault if it didn't write.
@@ -123,7 +150,7 @@ impl Keep for FolderKeep {
     }
 
     fn index(&mut self, bytes: &[u8]) -> Result<(), SendFault> {
-        let written = replace(self.rt, self.alloc, self.index.as_str(), bytes);
+        let written = self.write_index(bytes);
         self.counted(written)
     }
 }

@@ -4,9 +4,13 @@
 
 mod folder_files;
 mod folder_keep;
+mod held_entries;
 mod looking;
 mod new_file;
+mod raw_index;
 mod stored_object;
 
-pub use folder_files::FolderFiles;
+pub use folder_files::{FolderFiles, IndexLinks};
 pub use folder_keep::{FolderKeep, ObjectForm};
+pub use held_entries::HeldEntry;
+pub use raw_index::{RawEntry, RawIndex};

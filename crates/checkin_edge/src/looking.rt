@@ -8,6 +8,7 @@
 ghost use Rattle.std.specs.Prelude.{◌≤◌, IfOk, length};
 ghost use Rattle.checkin_edge.specs.Reads.{IsWithin};
 
+use edge_adapters::LeafPlace;
 use std::alloc::Global;
 use std::fs::{File, Metadata, read_link, symlink_metadata};
 use std::io;
@@ -23,6 +24,16 @@ pub enum FileRead {
     TooLong,
     /// There is no file.
     Absent,
+    /// A file stands where a link is wanted, or a link where a file is.
+    OtherKind,
+}
+
+/// What has to stand at a path.
+#[derive(Clone, Copy, PartialEq, Eq)]
+pub enum Wanted {
+    Either,
+    File,
+    Link,
 }
 
 /// A folder has to be at the path. A link to a folder is none.
@@ -84,19 +95,32 @@ fn file_bytes(alloc: Global, file: File, limit: u64) -> io::Result<FileRead>
     Ok(FileRead::Whole(bytes))
 }
 
-/// The whole file or the text of the link at a path, within the limit. What is neither is a fault, and isn't opened,
+/// Whether what was found is a link where a file is wanted, or a file where a link is.
+fn is_other_kind(found: &Metadata, wanted: Wanted) -> bool {
+    match wanted {
+        Wanted::Either => false,
+        Wanted::File => found.is_symlink(),
+        Wanted::Link => found.is_file(),
+    }
+}
+
+/// The whole file or the text of the link at a place, within the limit. What is neither is a fault, and isn't opened,
 /// since that may wait forever.
 fn read_there(
     rt: HostRuntime,
     alloc: Global,
-    path: &str,
-    top: usize,
+    place: &LeafPlace,
+    wanted: Wanted,
     limit: u64,
 ) -> io::Result<FileRead>
     ensures { IfOk result (IsWithin limit) }
 {
+    let (path, top) = (place.full(), place.top());
     need_folders(rt, path, top)?;
     let found = symlink_metadata(&rt, path)?;
+    if is_other_kind(&found, wanted) {
+        return Ok(FileRead::OtherKind);
+    }
     if found.is_symlink() {
         return link_text(rt, path, limit);
     }
@@ -108,18 +132,18 @@ fn read_there(
     file_bytes(alloc, file, limit)
 }
 
-/// The same, where the first `top` bytes of the path name the worktree's folder. There is no file where a part of the
-/// path isn't there or is no folder, as where it is a link to one.
+/// The same. There is no file where a part of the path below the worktree's folder isn't there or is no folder, as where
+/// it is a link to one.
 pub fn read_below(
     rt: HostRuntime,
     alloc: Global,
-    path: &str,
-    top: usize,
+    place: &LeafPlace,
+    wanted: Wanted,
     limit: u64,
 ) -> io::Result<FileRead>
     ensures { IfOk result (IsWithin limit) }
 {
-    match read_there(rt, alloc, path, top, limit) {
+    match read_there(rt, alloc, place, wanted, limit) {
         Err(error) => match error.kind() {
             ErrorKind::NotFound | ErrorKind::NotADirectory => Ok(FileRead::Absent),
             _ => Err(error),

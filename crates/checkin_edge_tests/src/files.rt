@@ -1,7 +1,8 @@
 //! What is read of a worktree's folder.
 use crate::place::{folder_after, path_in};
 use crate::table::{cut, is_right};
-use checkin_edge::FolderFiles;
+use byte_path::Bytes;
+use checkin_edge::{FolderFiles, IndexLinks};
 use checkin_engine::Files;
 use edge_kit::TakeFault;
 use std::fs::remove_dir_all;
@@ -37,41 +38,68 @@ const CASES: &[&str] = &[
     "mkfifo a~a~9x",
 ];
 
+/// The same where `l` is a link in the index, and `a` a file. `k` is a failure by the kind of the file.
+const KINDS: &[&str] = &[
+    "printf hi > a~a~9=hi",
+    "ln -s nowhere a~a~9k",
+    "ln -s nowhere l~l~9=nowhere",
+    "printf hi > l~l~9k",
+    "mkdir l~l~9x",
+    "~l~9.",
+];
+
 /// Whether a read gives what is wanted.
 fn is_read(taken: &Result<Option<Vec<u8>>, TakeFault>, want: &[u8]) -> bool {
     match (taken, want) {
         (Ok(Some(bytes)), [b'=', wanted @ ..]) => bytes.as_slice() == wanted,
         (Ok(None), [b'.']) => true,
         (Err(TakeFault::TooLong), [b'l']) => true,
-        (Err(TakeFault::Failed), [b'x']) => true,
+        (Err(TakeFault::Failed), [b'x' | b'k']) => true,
         _ => false,
     }
 }
 
-/// Whether a failure is one that is kept with its error, and no other is.
+/// Whether a failure is one that is kept with its error, and no other is, and whether it is by the kind of the file.
 fn is_counted(files: &FolderFiles, want: &[u8]) -> bool {
-    files.errors().counts().len() == usize::from(want == b"x".as_slice())
+    let is_kind = want == b"k".as_slice();
+    let is_failure = is_kind || want == b"x".as_slice();
+    files.errors().counts().len() == usize::from(is_failure) && files.failed_by_kind() == is_kind
 }
 
-/// Whether a path in this folder gives this: a path, a limit of one digit, and what is read.
-fn gives(rt: HostRuntime, folder: &str, cells: &str) -> Result<bool, Fail> {
+/// Whether a path of these files gives this: a path, a limit of one digit, and what is read.
+fn gives(mut files: FolderFiles, cells: &str) -> Result<bool, Fail> {
     let (path, cells) = cut(cells, '~');
     let [limit, want @ ..] = cells.as_bytes() else {
         return Ok(false);
     };
-    let mut files = FolderFiles::new(rt, path_in(rt, folder, "tree")?);
     let taken = files.take(path, u64::from(limit.wrapping_sub(b'0')));
     Ok(is_read(&taken, want) && is_counted(&files, want))
+}
+
+/// Looks at a row, whose files are those of an index with the link `l` if kinds count.
+fn look_at(rt: HostRuntime, row: &str, kinds: bool) -> Result<(), Fail> {
+    let (script, cells) = cut(row, '~');
+    let script = format!(in rt.alloc(); "mkdir tree; cd tree; {script}")?;
+    let folder = folder_after(rt, "files", script.as_str())?;
+    let mut files = FolderFiles::new(rt, path_in(rt, folder.as_str(), "tree")?);
+    if kinds {
+        files = files.of_links(IndexLinks {
+            paths: vec![in rt.alloc(); Bytes::copy_of(rt.alloc(), b"l")?]?,
+            kept: true,
+        });
+    }
+    is_right(&rt, gives(files, cells)?, row, "other bytes");
+    remove_dir_all(&rt, folder.as_str())?;
+    Ok(())
 }
 
 #[test]
 fn files_are_read_and_links_are_not_followed(rt: HostRuntime) -> Result<(), Fail> {
     for row in CASES {
-        let (script, cells) = cut(row, '~');
-        let script = format!(in rt.alloc(); "mkdir tree; cd tree; {script}")?;
-        let folder = folder_after(rt, "files", script.as_str())?;
-        is_right(&rt, gives(rt, folder.as_str(), cells)?, row, "other bytes");
-        remove_dir_all(&rt, folder.as_str())?;
+        look_at(rt, row, false)?;
+    }
+    for row in KINDS {
+        look_at(rt, row, true)?;
     }
     Ok(())
 }

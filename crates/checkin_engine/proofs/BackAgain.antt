@@ -146,6 +146,7 @@ module _ (name : List ℕ) (storing : Storing) (raw content ready bytes made : L
   one_fate o other (Failed cause.NoProcess) has counts = absurd has
   one_fate o other (Failed cause.Read) has (inl (may, failed, none)) = absurd may
   one_fate o other (Failed cause.Read) has (inr (there, auto, may, still, blob)) = absurd may
+  one_fate o other (Failed cause.OtherKind) has (may, failed, none) = absurd may
   one_fate o other (Failed cause.TooLarge) (long, old, none) counts = absurd (omega (arith, within, long))
   one_fate o other (Failed (cause.Filter why)) (has, clean) counts = absurd (no_refusal why has clean)
   one_fate o other (Failed cause.EncodingForm) (clean, none) counts = absurd (no_form (ap (back_encoded_if storing.encoding) (sym (cleaned_is clean)) ∙ none))

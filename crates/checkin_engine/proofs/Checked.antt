@@ -10,11 +10,16 @@ use Rattle.edge_kit.specs.Told.{Told}
 use Rattle.clean_drivers.specs.Drivers.{DriversSeen}
 use Rattle.checkin_engine.specs.declared.path.CheckinPath.{CheckinPath}
 use Rattle.checkin_engine.specs.declared.fate.Fate.{Fate}
-use Rattle.checkin_engine.specs.Outside.{FilesSeen, WorkSeen, KeepSeen, IsKeepFailed, with_objects}
+use Rattle.checkin_engine.specs.declared.fate.Fate.TheVariants.{Same, Changed, Gone, Kept, Failed}
+use Rattle.checkin_engine.specs.declared.fate.CheckinCause.TheVariants.{Encoding, NoProcess, Read, OtherKind, TooLarge, Filter, EncodingForm}
+use Rattle.checkin_engine.specs.declared.path.Storing.{Storing}
+use Rattle.checkin_engine.specs.declared.path.Way.{Way}
+use Rattle.checkin_engine.specs.declared.path.Way.TheVariants as way
+use Rattle.checkin_engine.specs.Outside.{FilesSeen, WorkSeen, KeepSeen, IsKeepFailed, with_objects, path_if}
 use Rattle.checkin_engine.specs.Cleaning.{Cleaning, AsksOne}
-use Rattle.checkin_engine.specs.Fates.{driver_of}
-use Rattle.checkin_engine.specs.Outcomes.{Outcome, IsOutcome, AreOutcomes, AreAsked, AreLookedAt, AreChecked, AreObjectsCut, AreBrokenOff, MakesNextBlob, MayAskNext, object_of, objects_of, blob_back, blobs_back, failed_at, failed_paths, with_blobs, HasCounted}
-use Rattle.checkin_engine.specs.Looking.{with_blob, FailsIf, IsPathLookedAt, IsOpen}
+use Rattle.checkin_engine.specs.Fates.{driver_of, HasFate}
+use Rattle.checkin_engine.specs.Outcomes.{Outcome, IsOutcome, HasCounts, HasStoredCounts, is_of_other_kind, other_kinds, AreOutcomes, AreAsked, AreLookedAt, AreChecked, AreObjectsCut, AreBrokenOff, MakesNextBlob, MayAskNext, object_of, objects_of, blob_back, blobs_back, failed_at, failed_paths, with_blobs, HasCounted}
+use Rattle.checkin_engine.specs.Looking.{with_blob, FailsIf, SaysKind, IsPathLookedAt, IsOpen}
 use Rattle.checkin_engine.specs.Keeping.{IsPathChecked, IsPathCut, IsPathLeft, ArePathsChecked}
 
 outcomes_more : (object told : List ℕ → Told) (ps : List CheckinPath) (os : List Outcome) (p : CheckinPath) (o : Outcome) → AreOutcomes object told ps os → IsOutcome object told p o → AreOutcomes object told (ps ++ p ∷ []) (os ++ o ∷ [])
@@ -39,6 +44,14 @@ paths_more object told (q ∷ ps) (x ∷ os) p o are =
     ap (λ (l : List (List ℕ)). failed_at q x.failed ++ l) (paths_more object told ps os p o are.1)
     ∙ sym (append_assoc (failed_at q x.failed) (failed_paths ps os) (failed_at p o.failed))
 
+kinds_more : (object told : List ℕ → Told) (ps : List CheckinPath) (os : List Outcome) (p : CheckinPath) (o : Outcome) → AreOutcomes object told ps os → other_kinds (ps ++ p ∷ []) (os ++ o ∷ []) ≡ other_kinds ps os ++ path_if (is_of_other_kind o.fate) p.path
+kinds_more object told [] [] p o are = append-nil (path_if (is_of_other_kind o.fate) p.path)
+kinds_more object told [] (x ∷ os) p o are = absurd are
+kinds_more object told (q ∷ ps) [] p o are = absurd are
+kinds_more object told (q ∷ ps) (x ∷ os) p o are =
+    ap (λ (l : List (List ℕ)). path_if (is_of_other_kind x.fate) q.path ++ l) (kinds_more object told ps os p o are.1)
+    ∙ sym (append_assoc (path_if (is_of_other_kind x.fate) q.path) (other_kinds ps os) (path_if (is_of_other_kind o.fate) p.path))
+
 objects_more : (os : List Outcome) (o : Outcome) → objects_of (os ++ o ∷ []) ≡ objects_of os ++ object_of o
 objects_more [] o = append-nil (object_of o)
 objects_more (x ∷ os) o =
@@ -61,6 +74,35 @@ fails_paths : (failed : Bool) (p : CheckinPath) (files files' : FilesSeen) → F
 fails_paths true p files files' fails = fails.paths
 fails_paths false p files files' fails = ap (λ (f : FilesSeen). f.failed) fails ∙ sym (append-nil files.failed)
 
+-- a path that failed by the kind is one at which the files failed
+stored_kind : (object file : Told) (storing : Storing) (o : Outcome) (fate : Fate) → HasStoredCounts object file storing o fate → is_of_other_kind fate ≡ true → o.failed ≡ true
+stored_kind object file storing o Same counts is = absurd (cc is)
+stored_kind object file storing o (Changed name) counts is = absurd (cc is)
+stored_kind object file storing o Gone counts is = absurd (cc is)
+stored_kind object file storing o Kept counts is = absurd (cc is)
+stored_kind object file storing o (Failed Encoding) counts is = absurd (cc is)
+stored_kind object file storing o (Failed NoProcess) counts is = absurd (cc is)
+stored_kind object file storing o (Failed Read) counts is = absurd (cc is)
+stored_kind object file storing o (Failed OtherKind) counts is = counts.1
+stored_kind object file storing o (Failed TooLarge) counts is = absurd (cc is)
+stored_kind object file storing o (Failed (Filter why)) counts is = absurd (cc is)
+stored_kind object file storing o (Failed EncodingForm) counts is = absurd (cc is)
+
+other_fate : (fate other : Fate) → fate ≡ other → is_of_other_kind other ≡ false → is_of_other_kind fate ≡ true → ⊥
+other_fate fate other same no is = cc (sym (ap is_of_other_kind same ∙ no) ∙ is)
+
+kind_fails : (object file : Told) (name : List ℕ) (w : Way) (o : Outcome) → HasFate object file name w o.asked o.content o.fate → HasCounts object file w o → is_of_other_kind o.fate ≡ true → o.failed ≡ true
+kind_fails object file name (way.Stored storing) o has counts is = stored_kind object file storing o o.fate counts is
+kind_fails object file name way.Kept o has counts is = absurd (other_fate o.fate Kept has.0 refl is)
+kind_fails object file name way.UnknownEncoding o has counts is = absurd (other_fate o.fate (Failed Encoding) has.0 refl is)
+kind_fails object file name way.NoProcess o has counts is = absurd (other_fate o.fate (Failed NoProcess) has.0 refl is)
+
+-- the paths that failed by the kind go with those of which the files say so
+adds_kind : (failed kind : Bool) (path : List ℕ) (files files' : FilesSeen) → FailsIf failed path files files' → SaysKind failed kind files' → (kind ≡ true → failed ≡ true) → files'.of_other_kind ≡ files.of_other_kind ++ path_if kind path
+adds_kind true kind path files files' fails says needs = fails.kinds ∙ ap (λ (k : Bool). files.of_other_kind ++ path_if k path) (says refl)
+adds_kind false false path files files' fails says needs = ap (λ (f : FilesSeen). f.of_other_kind) fails ∙ sym (append-nil files.of_other_kind)
+adds_kind false true path files files' fails says needs = absurd (cc (needs refl))
+
 rose_twice : (a b c : ℕ) → Rose a b → Rose b c → Rose a c
 rose_twice a b c first second = record { kept = omega (arith, first.kept, second.kept); risen = λ below. let more : b < c = second.risen below in omega (arith, first.kept, more) }
 
@@ -81,6 +123,10 @@ looked_more object told c ps os p o repo repo' repo'' work work' work'' each are
   failed = fails_paths o.failed p work'.files work''.files is.fails ∙ ap (λ (l : List (List ℕ)). l ++ failed_at p o.failed) are.failed
       ∙ append_assoc work.files.failed (failed_paths ps os) (failed_at p o.failed)
       ∙ ap (λ (l : List (List ℕ)). work.files.failed ++ l) (sym (paths_more object told ps os p o each));
+  kinds = adds_kind o.failed (is_of_other_kind o.fate) p.path work'.files work''.files is.fails is.says (kind_fails (object p.object) (told p.path) p.object p.way o is.is.fate is.is.counts)
+      ∙ ap (λ (l : List (List ℕ)). l ++ path_if (is_of_other_kind o.fate) p.path) are.kinds
+      ∙ append_assoc work.files.of_other_kind (other_kinds ps os) (path_if (is_of_other_kind o.fate) p.path)
+      ∙ ap (λ (l : List (List ℕ)). work.files.of_other_kind ++ l) (sym (kinds_more object told ps os p o each));
   counted = subst (λ (l : List (List ℕ)). HasCounted l work.files.faults work''.files.faults) (sym (paths_more object told ps os p o each))
       (counts_more (failed_paths ps os) o.failed p work.files.faults work'.files work''.files are.counted is.fails);
   asked = asked_more object told c ps os p o work.drivers work'.drivers work''.drivers each are.asked is.asks;
@@ -108,6 +154,7 @@ none_checked object told c repo work keep = record {
     looked = record {
       blobs = ap (λ (l : List (List ℕ × ℕ)). record repo { returned = l }) (sym (append-nil repo.returned));
       failed = sym (append-nil work.files.failed);
+      kinds = sym (append-nil work.files.of_other_kind);
       counted = refl;
       asked = refl;
     };

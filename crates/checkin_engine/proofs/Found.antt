@@ -3,7 +3,7 @@ use Rattle.std.proofs.Common.{◌≡◌, ℕ, ◌≤◌, Bool, true, false, List
 use Rattle.std.specs.Prelude.{Result, Ok, Err, IfOk, OnErr}
 use Rattle.std.specs.Global.{Vec}
 use Rattle.edge_kit.specs.Seen.{RepoSeen}
-use Rattle.edge_kit.specs.Told.{Told, Raw, Absent, Failing, Untold, TellsBytes, TellsLong, Takes}
+use Rattle.edge_kit.specs.Told.{Told, Raw, Absent, Failing, Untold, TellsBytes, TellsLong, MayFail, Takes}
 use Rattle.edge_kit.specs.declared.faults.TakeFault.{TakeFault}
 use Rattle.edge_kit.specs.declared.faults.TakeFault.TheVariants as take
 use Rattle.object_dir.specs.Object.{IsObject}
@@ -14,10 +14,10 @@ use Rattle.eol_convert.specs.declared.action.Action.{Action}
 use Rattle.checkout_plan.specs.Seen.{ReturnsObject}
 use Rattle.checkin_engine.specs.declared.path.CheckinPath.{CheckinPath}
 use Rattle.checkin_engine.specs.declared.finding.Found.{Found}
-use Rattle.checkin_engine.specs.Outside.{LeavesFiles, FilesSeen}
+use Rattle.checkin_engine.specs.Outside.{LeavesFiles, AreFailedAt, FilesSeen}
 use Rattle.checkin_engine.specs.Fates.{max_file, is_auto, IsWrong, IsThere}
 use Rattle.checkin_engine.specs.Outcomes.{blob_by, with_blobs, MakesBlob}
-use Rattle.checkin_engine.specs.Looking.{AnswersCrlf, with_blob, LooksOld, FindsThere, FindsTaken, IsUnfailedTake, Finds}
+use Rattle.checkin_engine.specs.Looking.{AnswersCrlf, with_blob, LooksOld, FindsThere, FindsTaken, IsUnfailedTake, Finds, SaysKind, found_failed}
 
 -- a blob was given back, and nothing else has changed
 given_back : (name : List ℕ) (count : ℕ) (old new : RepoSeen) → new ≡ record old { returned = new.returned } → new.returned ≡ old.returned ++ (name, count) ∷ [] → new ≡ with_blobs ((name, count) ∷ []) old
@@ -66,6 +66,10 @@ there_by : (file : Told) (bytes : Option (Vec ℕ)) → IsTaken file bytes → I
 there_by file None is = there_long file is
 there_by file (Some bytes) is = (bytes.items, is.0)
 
+-- where the files didn't fail, nothing is said of a kind
+pub no_kind : (kind : Bool) (files : FilesSeen) → SaysKind false kind files
+no_kind kind files never = absurd (cc never)
+
 module _ (object told : List ℕ → Told) (p : CheckinPath) (action : Action) (repo repo' : RepoSeen) (files files' : FilesSeen) where
   abbrev finds : Found → Type 0
   finds = Finds object told p action repo repo' files files'
@@ -73,24 +77,31 @@ module _ (object told : List ℕ → Told) (p : CheckinPath) (action : Action) (
   -- a file that is there
   there_finds : (bytes : Option (Vec ℕ)) (f : Found) → IsTaken (told p.path) bytes → FindsThere (object p.object) p.object action bytes repo repo' f → files' ≡ files → finds f
   there_finds bytes f is (None, (auto, (may, (n, risen, back))), unread) still =
-      subst finds (sym unread) (record { failed = false; blob = Some n; is = inr (there_by (told p.path) bytes is, auto, may, refl, (n, risen, refl)); back = back; fails = still })
+      subst finds (sym unread) (record { failed = false; blob = Some n; is = inr (there_by (told p.path) bytes is, auto, may, refl, (n, risen, refl)); back = back; fails = still; says = no_kind _ files' })
   there_finds None f is (Some old, (has_old, back), so) still =
-      subst finds (sym so) (record { failed = false; blob = blob_by (is_auto action); is = (is, (old, has_old), refl, refl); back = back; fails = still })
+      subst finds (sym so) (record { failed = false; blob = blob_by (is_auto action); is = (is, (old, has_old), refl, refl); back = back; fails = still; says = no_kind _ files' })
   there_finds (Some bytes) f is (Some old, (has_old, back), so) still =
-      subst finds (sym so) (record { failed = false; blob = blob_by (is_auto action); is = (is.0, is.1, has_old, refl, refl); back = back; fails = still })
+      subst finds (sym so) (record { failed = false; blob = blob_by (is_auto action); is = (is.0, is.1, has_old, refl, refl); back = back; fails = still; says = no_kind _ files' })
+
+  -- a file that couldn't be taken, by whether that was for its kind
+  failed_finds : (kind : Bool) (f : Found) → MayFail (told p.path) → AreFailedAt p.path files files' → kind ≡ files'.by_kind → f ≡ found_failed kind → repo' ≡ repo → finds f
+  failed_finds true f may failed by is same =
+      subst finds (sym is) (record { failed = true; blob = None; is = (may, refl, refl); back = same; fails = failed; says = λ did. sym by })
+  failed_finds false f may failed by is same =
+      subst finds (sym is) (record { failed = true; blob = None; is = inl (may, refl, refl); back = same; fails = failed; says = λ did. sym by })
 
   -- a file that was to be taken, by the answer
-  taken_finds : (taken : Result (Option (Vec ℕ)) TakeFault) (f : Found) → Takes (told p.path) max_file taken → LeavesFiles p.path files files' taken → FindsTaken (object p.object) p.object action taken repo repo' f → finds f
-  taken_finds (Ok (Some bytes)) f takes still is = there_finds (Some bytes) f takes is still
-  taken_finds (Ok None) f none still (gone, same) = subst finds (sym gone) (record { failed = false; blob = None; is = (none, refl, refl); back = same; fails = still })
-  taken_finds (Err take.TooLong) f long still is = there_finds None f long is still
-  taken_finds (Err take.Failed) f may failed (unread, same) = subst finds (sym unread) (record { failed = true; blob = None; is = inl (may, refl, refl); back = same; fails = failed })
-  taken_finds (Err take.NoMemory) f takes still is = absurd is
+  taken_finds : (kind : Bool) (taken : Result (Option (Vec ℕ)) TakeFault) (f : Found) → Takes (told p.path) max_file taken → LeavesFiles p.path files files' taken → kind ≡ files'.by_kind → FindsTaken (object p.object) p.object action taken kind repo repo' f → finds f
+  taken_finds kind (Ok (Some bytes)) f takes still by is = there_finds (Some bytes) f takes is still
+  taken_finds kind (Ok None) f none still by (gone, same) = subst finds (sym gone) (record { failed = false; blob = None; is = (none, refl, refl); back = same; fails = still; says = no_kind _ files' })
+  taken_finds kind (Err take.TooLong) f long still by is = there_finds None f long is still
+  taken_finds kind (Err take.Failed) f may failed by (is, same) = failed_finds kind f may failed by is same
+  taken_finds kind (Err take.NoMemory) f takes still by is = absurd is
 
-  pub file_finds : (E : Type 0) (path : List ℕ) (taken : Result (Option (Vec ℕ)) TakeFault) (r : Result Found E) → path ≡ p.path → Takes (told path) max_file taken → LeavesFiles path files files' taken
-      → IfOk r (FindsTaken (object p.object) p.object action taken repo repo') → IfOk r finds
-  file_finds E path taken (Ok f) same takes leaves is = taken_finds taken f (subst (λ (q : List ℕ). Takes (told q) max_file taken) same takes) (subst (λ (q : List ℕ). LeavesFiles q files files' taken) same leaves) is
-  file_finds E path taken (Err e) same takes leaves is = tt
+  pub file_finds : (E : Type 0) (path : List ℕ) (kind : Bool) (taken : Result (Option (Vec ℕ)) TakeFault) (r : Result Found E) → path ≡ p.path → Takes (told path) max_file taken → LeavesFiles path files files' taken
+      → kind ≡ files'.by_kind → IfOk r (FindsTaken (object p.object) p.object action taken kind repo repo') → IfOk r finds
+  file_finds E path kind taken (Ok f) same takes leaves by is = taken_finds kind taken f (subst (λ (q : List ℕ). Takes (told q) max_file taken) same takes) (subst (λ (q : List ℕ). LeavesFiles q files files' taken) same leaves) by is
+  file_finds E path kind taken (Err e) same takes leaves by is = tt
 
 -- what holds anyway holds if there is an error
 pub on_err : (T E P : Type 0) (r : Result T E) → P → OnErr r P

@@ -23,17 +23,17 @@ use Rattle.checkin_engine.specs.declared.path.CheckinPath.{CheckinPath}
 use Rattle.checkin_engine.specs.declared.fate.Fate.{Fate}
 use Rattle.checkin_engine.specs.declared.fate.Fate.TheVariants.{Same, Changed, Gone, Kept, Failed}
 use Rattle.checkin_engine.specs.declared.fate.CheckinCause.{CheckinCause}
-use Rattle.checkin_engine.specs.declared.fate.CheckinCause.TheVariants.{Encoding, NoProcess, Read, TooLarge, Filter, EncodingForm}
+use Rattle.checkin_engine.specs.declared.fate.CheckinCause.TheVariants.{Encoding, NoProcess, Read, OtherKind, TooLarge, Filter, EncodingForm}
 use Rattle.checkin_engine.specs.declared.finding.Found.{Found}
 use Rattle.checkin_engine.specs.declared.finding.Found.TheVariants as find
 use Rattle.checkin_engine.specs.declared.looking.Looked.{Looked}
 use Rattle.checkin_engine.specs.Cleaning.{Asked, Cleaning, cleaned_by, IsCleaned, text_at, as_answer, AsksFor, AsksOne, AsksInVain}
 use Rattle.checkin_engine.specs.Outside.{WorkSeen, work_seen, FilesSeen, KeepSeen, IsKeepFailed, with_objects}
 use Rattle.checkin_engine.specs.Fates.{is_auto, IsClean, name_of, HasStoredFate, HasFate, driver_of}
-use Rattle.checkin_engine.specs.Outcomes.{Outcome, IsUnfailed, HasStoredCounts, HasCounts, blob_by, object_by, MakesBlob, MayAsk}
-use Rattle.checkin_engine.specs.Looking.{fate_by, with_blob, FailsIf, IsFound, Finds, IsStoredSo, IsCleanedFate, ComesTo, Becomes, BecomesNothing, AnswersFor, CleansFile, Looks}
+use Rattle.checkin_engine.specs.Outcomes.{Outcome, IsUnfailed, HasStoredCounts, HasCounts, is_of_other_kind, blob_by, object_by, MakesBlob, MayAsk}
+use Rattle.checkin_engine.specs.Looking.{fate_by, with_blob, FailsIf, IsFound, Finds, is_other_found, IsStoredSo, IsCleanedFate, ComesTo, Becomes, BecomesNothing, AnswersFor, CleansFile, Looks}
 use Rattle.checkin_engine.specs.Keeping.{IsPathChecked, IsPathCut, IsPathLeft}
-use Rattle.checkin_engine.proofs.Found.{blob_made}
+use Rattle.checkin_engine.proofs.Found.{blob_made, no_kind}
 
 -- the fate of a content is that it is the same or changed, by its name
 same_by : (name content : List ℕ) (t : Bool) → bytes_eq (name_of content) name ≡ t → Same ≡ (if t then Same else Changed (name_of content)) → name_of content ≡ name
@@ -73,6 +73,7 @@ stored_is name storing old bytes content Kept fated is = (is, fated)
 stored_is name storing old bytes content (Failed Encoding) fated is = (is, fated)
 stored_is name storing old bytes content (Failed NoProcess) fated is = (is, fated)
 stored_is name storing old bytes content (Failed Read) fated is = (is, fated)
+stored_is name storing old bytes content (Failed OtherKind) fated is = (is, fated)
 stored_is name storing old bytes content (Failed TooLarge) fated is = (is, fated)
 stored_is name storing old bytes content (Failed (Filter why)) fated is = (is, fated)
 stored_is name storing old bytes content (Failed EncodingForm) fated is = absurd (no_failure EncodingForm content (bytes_eq (name_of content) name) fated)
@@ -105,6 +106,7 @@ module _ (object file : Told) (name : List ℕ) (storing : Storing) (asked : Opt
   stored_fate content (Failed Encoding) clean (is, fated) = absurd (no_failure Encoding content (bytes_eq (name_of content) name) fated)
   stored_fate content (Failed NoProcess) clean (is, fated) = absurd (no_failure NoProcess content (bytes_eq (name_of content) name) fated)
   stored_fate content (Failed Read) clean (is, fated) = absurd (no_failure Read content (bytes_eq (name_of content) name) fated)
+  stored_fate content (Failed OtherKind) clean (is, fated) = absurd (no_failure OtherKind content (bytes_eq (name_of content) name) fated)
   stored_fate content (Failed TooLarge) clean (is, fated) = absurd (no_failure TooLarge content (bytes_eq (name_of content) name) fated)
   stored_fate content (Failed (Filter why)) clean (is, fated) = absurd (no_failure (Filter why) content (bytes_eq (name_of content) name) fated)
   stored_fate content (Failed EncodingForm) clean is = (clean, is)
@@ -118,6 +120,7 @@ module _ (object file : Told) (name : List ℕ) (storing : Storing) (asked : Opt
   stored_counts o old bytes content (Failed Encoding) so unfailed = unfailed
   stored_counts o old bytes content (Failed NoProcess) so unfailed = unfailed
   stored_counts o old bytes content (Failed Read) (is, fated) unfailed = absurd (no_failure Read content (bytes_eq (name_of content) name) fated)
+  stored_counts o old bytes content (Failed OtherKind) (is, fated) unfailed = absurd (no_failure OtherKind content (bytes_eq (name_of content) name) fated)
   stored_counts o old bytes content (Failed TooLarge) so unfailed = unfailed
   stored_counts o old bytes content (Failed (Filter why)) so unfailed = unfailed
   stored_counts o old bytes content (Failed EncodingForm) so unfailed = unfailed
@@ -129,6 +132,7 @@ module _ (object file : Told) (name : List ℕ) (storing : Storing) (asked : Opt
   found_has : (f : Found) (o : Outcome) (content : List ℕ) (fate : Fate) → IsFound object file name storing.action f o.failed o.blob → ComesTo name storing f asked content fate → Has o content fate
   found_has find.Gone o content fate is (gone, none) = subst (Has o content) (sym gone) ((is.0, none), (is.1, is.2))
   found_has find.Unread o content fate is (unread, none) = subst (Has o content) (sym unread) (none, is)
+  found_has find.OtherKind o content fate is (kind, none) = subst (Has o content) (sym kind) (none, is)
   found_has find.TooLarge o content fate is (large, none) = subst (Has o content) (sym large) ((is.0, is.1, none), (is.2, is.3))
   found_has (find.There bytes old) o content fate is (Ok cleaned, is_cleaned, so) = (
     stored_fate content fate (record { has = record { bytes = bytes.items; tells = is.0; within = is.1; old = old; has_old = is.2 }; cleaned = cleaned; is_cleaned = is_cleaned }) so,
@@ -138,6 +142,14 @@ module _ (object file : Told) (name : List ℕ) (storing : Storing) (asked : Opt
     (record { bytes = bytes.items; tells = is.0; within = is.1; old = old; has_old = is.2 }, is_cleaned),
     (is.3, is.4),
   )
+
+  -- where the files failed, the fate is by the kind just where what was found is
+  kind_comes : (f : Found) (failed : Bool) (blob : Option ℕ) (content : List ℕ) (fate : Fate) → IsFound object file name storing.action f failed blob → ComesTo name storing f asked content fate → failed ≡ true → is_other_found f ≡ is_of_other_kind fate
+  kind_comes find.Gone failed blob content fate is (gone, none) did = ap is_of_other_kind (sym gone)
+  kind_comes find.Unread failed blob content fate is (unread, none) did = ap is_of_other_kind (sym unread)
+  kind_comes find.OtherKind failed blob content fate is (kind, none) did = ap is_of_other_kind (sym kind)
+  kind_comes find.TooLarge failed blob content fate is (large, none) did = ap is_of_other_kind (sym large)
+  kind_comes (find.There bytes old) failed blob content fate is comes did = absurd (cc (sym is.3 ∙ did))
 
 module _ (object told : List ℕ → Told) (c : Cleaning) (p : CheckinPath) (storing : Storing) (by : p.way ≡ way.Stored storing) (repo repo' : RepoSeen) (files files' : FilesSeen) (before after : DriversSeen) where
   -- a path whose file was found, and came to a fate
@@ -156,6 +168,7 @@ module _ (object told : List ℕ → Told) (c : Cleaning) (p : CheckinPath) (sto
           };
           back = finds.back;
           fails = finds.fails;
+          says = λ did. finds.says did ∙ kind_comes (object p.object) (told p.path) p.object storing asked f finds.failed finds.blob content fate finds.is comes did;
           asks = subst (λ (w : Way). AsksOne c p.path (driver_of w) asked before after) (sym by) asks;
         };
       }
@@ -247,12 +260,14 @@ module _ (object told : List ℕ → Told) (c : Cleaning) (p : CheckinPath) (sto
   found_blob (find.There bytes old) finds nothing = blob_made p.object (is_auto storing.action) repo repo' (finds.back ∙ ap (λ (b : Option ℕ). with_blob p.object b repo) finds.is.4)
   found_blob find.Gone finds nothing = absurd nothing
   found_blob find.Unread finds nothing = absurd nothing
+  found_blob find.OtherKind finds nothing = absurd nothing
   found_blob find.TooLarge finds nothing = absurd nothing
 
   found_still : (f : Found) → Finds object told p storing.action repo repo' files files' f → BecomesNothing c p storing f before after → files' ≡ files
   found_still (find.There bytes old) finds nothing = still_by finds.failed p.path files files' finds.fails finds.is.3
   found_still find.Gone finds nothing = absurd nothing
   found_still find.Unread finds nothing = absurd nothing
+  found_still find.OtherKind finds nothing = absurd nothing
   found_still find.TooLarge finds nothing = absurd nothing
 
   found_vain : (f : Found) → Finds object told p storing.action repo repo' files files' f → BecomesNothing c p storing f before after → MayAsk told c p before after
@@ -260,6 +275,7 @@ module _ (object told : List ℕ → Told) (c : Cleaning) (p : CheckinPath) (sto
   found_vain (find.There bytes old) finds (inr asks) = inr (record { bytes = bytes.items; tells = finds.is.0; asks = subst (λ (w : Way). AsksInVain c p.path (driver_of w) bytes.items before after) (sym by) asks })
   found_vain find.Gone finds nothing = absurd nothing
   found_vain find.Unread finds nothing = absurd nothing
+  found_vain find.OtherKind finds nothing = absurd nothing
   found_vain find.TooLarge finds nothing = absurd nothing
 
   pub found_leaves : (E : Type 0) (f : Found) (x : Result Looked E) → Finds object told p storing.action repo repo' files files' f → OnErr x (BecomesNothing c p storing f before after)
@@ -287,6 +303,7 @@ untaken_looks object told c p w repo work content fate by has counts =
         };
         back = refl;
         fails = refl;
+        says = no_kind (is_of_other_kind fate) work.files;
         asks = refl;
       };
     }

@@ -21,7 +21,7 @@ use Rattle.checkin_engine.specs.declared.fate.Fate.{Fate}
 use Rattle.checkin_engine.specs.declared.fate.Fate.TheVariants.{Same, Changed, Gone, Kept, Failed}
 use Rattle.checkin_engine.specs.declared.fate.CheckinCause.{CheckinCause}
 use Rattle.checkin_engine.specs.declared.fate.CheckinCause.TheVariants.{Encoding, NoProcess, Read, TooLarge, Filter}
-use Rattle.checkin_engine.specs.declared.fate.CheckinCause.TheVariants.{EncodingForm}
+use Rattle.checkin_engine.specs.declared.fate.CheckinCause.TheVariants.{EncodingForm, OtherKind}
 
 -- the most bytes of a file
 abbrev pub max_file : ℕ
@@ -88,7 +88,7 @@ abbrev pub IsThere : Told → Type 0
 IsThere file = (bytes : List ℕ) × TellsBytes file bytes
 
 -- What becomes of a file that is stored, for which its driver was asked so, and whose content is this if it has one.
--- Why a file is unread is said by the counts (`IsUnread`).
+-- Why a file is unread or of another kind is said by the counts (`IsUnread`, `IsOfOtherKind`).
 abbrev pub HasStoredFate : Told → Told → List ℕ → Storing → Option Asked → List ℕ → Fate → Type 0
 HasStoredFate object file name storing asked content Same =
     IsBlobOf object file name storing asked content × (name_of content ≡ name)
@@ -99,6 +99,7 @@ HasStoredFate object file name storing asked content Kept = ⊥
 HasStoredFate object file name storing asked content (Failed Encoding) = ⊥
 HasStoredFate object file name storing asked content (Failed NoProcess) = ⊥
 HasStoredFate object file name storing asked content (Failed Read) = asked ≡ None
+HasStoredFate object file name storing asked content (Failed OtherKind) = asked ≡ None
 HasStoredFate object file name storing asked content (Failed TooLarge) =
     TellsLong file max_file × ((old : Bool) × HasOld storing.action object name old) × (asked ≡ None)
 HasStoredFate object file name storing asked content (Failed (Filter why)) =
@@ -126,6 +127,7 @@ abbrev pub cause_word : CheckinCause → List ℕ
 cause_word Encoding = codes "encoding"
 cause_word NoProcess = codes "no-process"
 cause_word Read = codes "read"
+cause_word OtherKind = codes "type"
 cause_word TooLarge = codes "too-large"
 cause_word (Filter why) = clean_word why
 cause_word EncodingForm = codes "encoding-form"

@@ -27,10 +27,12 @@ use Rattle.checkin_engine.specs.declared.path.Way.TheVariants as way
 use Rattle.checkin_engine.specs.declared.path.CheckinPath.{CheckinPath}
 use Rattle.checkin_engine.specs.declared.fate.Fate.{Fate}
 use Rattle.checkin_engine.specs.declared.fate.Fate.TheVariants.{Same, Changed, Gone, Failed}
-use Rattle.checkin_engine.specs.declared.fate.CheckinCause.TheVariants.{Read, TooLarge, Filter, EncodingForm}
+use Rattle.checkin_engine.specs.declared.fate.CheckinCause.TheVariants.{Read, TooLarge, Filter}
+use Rattle.checkin_engine.specs.declared.fate.CheckinCause.TheVariants.{EncodingForm, OtherKind}
 use Rattle.checkin_engine.specs.Outside.{FilesSeen, WorkSeen, AreFailedAt}
 use Rattle.checkin_engine.specs.Fates.{max_file, is_auto, HasOldBy, HasOld, name_of, driver_of}
-use Rattle.checkin_engine.specs.Outcomes.{Outcome, IsOutcome, IsUnread, blob_by, with_blobs}
+use Rattle.checkin_engine.specs.Outcomes.{Outcome, IsOutcome, IsUnread, IsOfOtherKind, is_of_other_kind}
+use Rattle.checkin_engine.specs.Outcomes.{blob_by, with_blobs}
 
 -- the fate of a file with this content, by the name in the index
 abbrev pub fate_by : List ℕ → List ℕ → Fate
@@ -97,21 +99,28 @@ abbrev pub FindsThere : Told → List ℕ → Action → Option (Vec ℕ) → Re
 FindsThere object name action bytes repo repo' found =
     (old : Option Bool) × LooksOld (is_auto action) object name repo repo' old × IsFoundBy old bytes found
 
--- the same for each answer of taking the file
-abbrev pub FindsTaken : Told → List ℕ → Action → Result (Option (Vec ℕ)) TakeFault → RepoSeen → RepoSeen → Found
+-- what was found of a file that couldn't be taken
+abbrev pub found_failed : Bool → Found
+found_failed by_kind = if by_kind then find.OtherKind else find.Unread
+
+-- the same for each answer of taking the file, and by whether it failed by the file's kind
+abbrev pub FindsTaken : Told → List ℕ → Action → Result (Option (Vec ℕ)) TakeFault → Bool → RepoSeen → RepoSeen → Found
     → Type 0
-FindsTaken object name action (Ok (Some bytes)) repo repo' found =
+FindsTaken object name action (Ok (Some bytes)) kind repo repo' found =
     FindsThere object name action (Some bytes) repo repo' found
-FindsTaken object name action (Ok None) repo repo' found = (found ≡ find.Gone) × (repo' ≡ repo)
-FindsTaken object name action (Err take.TooLong) repo repo' found = FindsThere object name action None repo repo' found
-FindsTaken object name action (Err take.Failed) repo repo' found = (found ≡ find.Unread) × (repo' ≡ repo)
-FindsTaken object name action (Err take.NoMemory) repo repo' found = ⊥
+FindsTaken object name action (Ok None) kind repo repo' found = (found ≡ find.Gone) × (repo' ≡ repo)
+FindsTaken object name action (Err take.TooLong) kind repo repo' found =
+    FindsThere object name action None repo repo' found
+FindsTaken object name action (Err take.Failed) kind repo repo' found =
+    (found ≡ found_failed kind) × (repo' ≡ repo)
+FindsTaken object name action (Err take.NoMemory) kind repo repo' found = ⊥
 
 -- What was found of a file, by what is told, with whether the files failed at it and the count of the blob, if one was
 -- made.
 abbrev pub IsFound : Told → Told → List ℕ → Action → Found → Bool → Option ℕ → Type 0
 IsFound object file name action find.Gone failed blob = TellsNone file × (failed ≡ false) × (blob ≡ None)
 IsFound object file name action find.Unread failed blob = IsUnread object file action failed blob
+IsFound object file name action find.OtherKind failed blob = IsOfOtherKind file failed blob
 IsFound object file name action find.TooLarge failed blob =
     TellsLong file max_file × ((old : Bool) × HasOld action object name old)
     × (failed ≡ false) × (blob ≡ blob_by (is_auto action))
@@ -131,6 +140,18 @@ abbrev pub FailsIf : Bool → List ℕ → FilesSeen → FilesSeen → Type 0
 FailsIf true path files files' = AreFailedAt path files files'
 FailsIf false path files files' = files' ≡ files
 
+-- a file of another kind was found
+abbrev pub is_other_found : Found → Bool
+is_other_found find.OtherKind = true
+is_other_found find.Gone = false
+is_other_found find.Unread = false
+is_other_found find.TooLarge = false
+is_other_found (find.There bytes old) = false
+
+-- where the files failed, they say whether that was by the kind
+abbrev pub SaysKind : Bool → Bool → FilesSeen → Type 0
+SaysKind failed by_kind files' = failed ≡ true → files'.by_kind ≡ by_kind
+
 -- the file of a path was looked for, and this was found
 pub record Finds (object told : List ℕ → Told) (p : CheckinPath) (action : Action) (repo repo' : RepoSeen)
     (files files' : FilesSeen) (found : Found) : Type 0 where
@@ -139,11 +160,13 @@ pub record Finds (object told : List ℕ → Told) (p : CheckinPath) (action : A
   pub is : IsFound (object p.object) (told p.path) p.object action found failed blob
   pub back : repo' ≡ with_blob p.object blob repo
   pub fails : FailsIf failed p.path files files'
+  pub says : SaysKind failed (is_other_found found) files'
 
 -- what becomes of a file that was found so, and for which its driver was asked so
 abbrev pub ComesTo : List ℕ → Storing → Found → Option Asked → List ℕ → Fate → Type 0
 ComesTo name storing find.Gone asked content fate = (fate ≡ Gone) × (asked ≡ None)
 ComesTo name storing find.Unread asked content fate = (fate ≡ Failed Read) × (asked ≡ None)
+ComesTo name storing find.OtherKind asked content fate = (fate ≡ Failed OtherKind) × (asked ≡ None)
 ComesTo name storing find.TooLarge asked content fate = (fate ≡ Failed TooLarge) × (asked ≡ None)
 ComesTo name storing (find.There bytes old) asked content fate = (cleaned : Result (List ℕ) CleanCause)
     × IsCleaned storing.driver asked bytes.items cleaned × IsCleanedSo name storing old cleaned content fate
@@ -186,6 +209,7 @@ pub record IsPathLookedAt (object told : List ℕ → Told) (c : Cleaning) (p : 
   pub is : IsOutcome object told p outcome
   pub back : repo' ≡ with_blob p.object outcome.blob repo
   pub fails : FailsIf outcome.failed p.path work.files work'.files
+  pub says : SaysKind outcome.failed (is_of_other_kind outcome.fate) work'.files
   pub asks : AsksOne c p.path (driver_of p.way) outcome.asked work.drivers work'.drivers
 
 -- it came to this fate, with this content

@@ -15,8 +15,8 @@ use Rattle.checkin_engine.specs.declared.path.Way.TheVariants as way
 use Rattle.checkin_engine.specs.declared.path.CheckinPath.{CheckinPath}
 use Rattle.checkin_engine.specs.declared.fate.Fate.{Fate}
 use Rattle.checkin_engine.specs.declared.fate.Fate.TheVariants.{Same, Changed, Gone, Kept, Failed}
-use Rattle.checkin_engine.specs.declared.fate.CheckinCause.TheVariants.{Read}
-use Rattle.checkin_engine.specs.Outside.{WorkSeen, KeepSeen, IsKeepFailed, with_objects, with_index}
+use Rattle.checkin_engine.specs.declared.fate.CheckinCause.TheVariants.{Read, OtherKind}
+use Rattle.checkin_engine.specs.Outside.{WorkSeen, KeepSeen, IsKeepFailed, with_objects, with_index, path_if}
 use Rattle.checkin_engine.specs.Fates.{is_auto, IsThere, HasFate, driver_of}
 use Rattle.checkin_engine.specs.Cleaning.{Asked, Cleaning, AsksOne, AsksInVain}
 
@@ -41,6 +41,10 @@ IsUnread object file action failed blob =
     ⊎ (IsThere file × (is_auto action ≡ true) × MayFail object × (failed ≡ false)
     × ((n : ℕ) × (0 < n) × (blob ≡ Some n)))
 
+-- the files failed at the path by the kind of its file, and there was no blob
+abbrev pub IsOfOtherKind : Told → Bool → Option ℕ → Type 0
+IsOfOtherKind file failed blob = MayFail file × (failed ≡ true) × (blob ≡ None)
+
 -- the blob of a path whose action looks at the index's content
 abbrev pub blob_by : Bool → Option ℕ
 blob_by auto = if auto then Some 0 else None
@@ -52,6 +56,7 @@ HasStoredCounts object file storing o (Changed name) = IsUnfailed o (blob_by (is
 HasStoredCounts object file storing o Gone = IsUnfailed o None
 HasStoredCounts object file storing o Kept = ⊥
 HasStoredCounts object file storing o (Failed Read) = IsUnread object file storing.action o.failed o.blob
+HasStoredCounts object file storing o (Failed OtherKind) = IsOfOtherKind file o.failed o.blob
 HasStoredCounts object file storing o (Failed cause) = IsUnfailed o (blob_by (is_auto storing.action))
 
 -- a file is taken and a blob is made only for a path whose file is stored
@@ -91,6 +96,16 @@ abbrev pub failed_paths : List CheckinPath → List Outcome → List (List ℕ)
 failed_paths (p ∷ ps) (o ∷ os) = failed_at p o.failed ++ failed_paths ps os
 failed_paths ps os = []
 
+-- a path failed by the kind of its file
+abbrev pub is_of_other_kind : Fate → Bool
+is_of_other_kind (Failed OtherKind) = true
+is_of_other_kind fate = false
+
+-- the paths that failed so, in order
+abbrev pub other_kinds : List CheckinPath → List Outcome → List (List ℕ)
+other_kinds (p ∷ ps) (o ∷ os) = path_if (is_of_other_kind o.fate) p.path ++ other_kinds ps os
+other_kinds ps os = []
+
 -- the object of a path, if it is another than its entry's: its name and its stored bytes
 abbrev pub object_by : Fate → List ℕ → List (List ℕ × List ℕ)
 object_by (Changed name) content = (name, spelled_blob content) ∷ []
@@ -119,11 +134,13 @@ AreAsked c (p ∷ ps) (o ∷ os) old new =
     (mid : DriversSeen) × AsksOne c p.path (driver_of p.way) o.asked old mid × AreAsked c ps os mid new
 AreAsked c ps os old new = new ≡ old
 
--- The paths were looked at: their blobs were given back, the files failed at just these, and their drivers were asked.
+-- The paths were looked at: their blobs were given back, the files failed at just these, and by the kind at just those
+-- that failed by it, and their drivers were asked.
 pub record AreLookedAt (c : Cleaning) (ps : List CheckinPath) (os : List Outcome) (repo repo' : RepoSeen)
     (work work' : WorkSeen) : Type 0 where
   pub blobs : repo' ≡ with_blobs (blobs_back ps os) repo
   pub failed : work'.files.failed ≡ work.files.failed ++ failed_paths ps os
+  pub kinds : work'.files.of_other_kind ≡ work.files.of_other_kind ++ other_kinds ps os
   pub counted : HasCounted (failed_paths ps os) work.files.faults work'.files.faults
   pub asked : AreAsked c ps os work.drivers work'.drivers
 

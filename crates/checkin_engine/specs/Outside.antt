@@ -1,5 +1,5 @@
 -- What is seen of a worktree's files, of the drivers and of a keeper, and how their calls change that.
-use Rattle.std.specs.Prelude.{◌≡◌, ℕ, List, [], ◌∷◌, ◌++◌, Option, Some, Result, Ok, Err}
+use Rattle.std.specs.Prelude.{◌≡◌, ℕ, Bool, true, false, List, [], ◌∷◌, ◌++◌, Option, Some, Result, Ok, Err}
 use Rattle.std.specs.Option.{option_map}
 use Rattle.edge_kit.specs.Faults.{Rose}
 use Rattle.clean_drivers.specs.Drivers.{DriversSeen}
@@ -8,10 +8,21 @@ use Rattle.edge_kit.specs.declared.faults.TakeFault.TheVariants as take
 use Rattle.edge_kit.specs.declared.faults.SendFault.{SendFault}
 use Rattle.edge_kit.specs.declared.faults.SendFault.TheVariants as send
 
--- How often files have failed, and at which paths, in order.
+-- How often files have failed, and at which paths, in order; whether the last of these failed by the kind of its file,
+-- and all that did, in order.
 pub record FilesSeen : Type 0 where
   pub faults : ℕ
   pub failed : List (List ℕ)
+  pub by_kind : Bool
+  pub of_other_kind : List (List ℕ)
+
+abbrev pub no_files_failed : FilesSeen
+no_files_failed = record { faults = 0; failed = []; by_kind = false; of_other_kind = [] }
+
+-- the path, if it failed by the kind of its file
+abbrev pub path_if : Bool → List ℕ → List (List ℕ)
+path_if true path = path ∷ []
+path_if false path = []
 
 -- what is seen of the files, and of the drivers
 pub record WorkSeen : Type 0 where
@@ -28,10 +39,12 @@ pub record KeepSeen : Type 0 where
   pub index : Option (Option (List ℕ))
   pub faults : ℕ
 
--- the files failed at a path: the count rose, and the path stands behind those before
+-- the files failed at a path: the count rose, and the path stands behind those before, also among those of another
+-- kind if it failed by that
 pub record AreFailedAt (path : List ℕ) (old new : FilesSeen) : Type 0 where
   pub paths : new.failed ≡ old.failed ++ path ∷ []
   pub rose : Rose old.faults new.faults
+  pub kinds : new.of_other_kind ≡ old.of_other_kind ++ path_if new.by_kind path
 
 -- a call that fails adds its path, and any other one leaves the files as they were
 abbrev pub LeavesFiles : {T : Type 0} → List ℕ → FilesSeen → FilesSeen → Result T TakeFault → Type 0

@@ -13,6 +13,8 @@ pub enum CheckinCause {
     NoProcess,
     /// The file, or the index's content of the path, couldn't be read.
     Read,
+    /// A file stands in a link's place, or a link in a file's.
+    OtherKind,
     /// The file has more than 268,435,456 bytes.
     TooLarge,
     /// Its filter driver is required, and refused it.
@@ -44,6 +46,7 @@ impl CheckinCause {
             CheckinCause::Encoding => "encoding",
             CheckinCause::NoProcess => "no-process",
             CheckinCause::Read => "read",
+            CheckinCause::OtherKind => "type",
             CheckinCause::TooLarge => "too-large",
             CheckinCause::Filter(why) => why.word(),
             CheckinCause::EncodingForm => "encoding-form",

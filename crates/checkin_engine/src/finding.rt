@@ -4,7 +4,7 @@ ghost use Rattle.std.specs.Str.{IsUtf8};
 ghost use Rattle.checkin_engine.specs.Fates.{is_auto};
 ghost use Rattle.checkin_engine.specs.Outcomes.{MakesBlob};
 ghost use Rattle.checkin_engine.specs.Looking.{AnswersWithout, AnswersCrlf, LooksOld, IsFoundBy};
-ghost use Rattle.checkin_engine.specs.Looking.{IsUnfailedTake, FindsThere, FindsTaken, Finds};
+ghost use Rattle.checkin_engine.specs.Looking.{IsUnfailedTake, FindsThere, FindsTaken, Finds, found_failed};
 
 use crate::files::Files;
 use crate::path::CheckinPath;
@@ -25,6 +25,8 @@ pub(crate) enum Found {
     Gone,
     /// It, or the index's content of the path, couldn't be read.
     Unread,
+    /// It is of another kind than the index has.
+    OtherKind,
     /// It has more than 268,435,456 bytes.
     TooLarge,
     There {
@@ -129,16 +131,28 @@ fn find_there<R: Repo>(
     Ok(found_by(old, bytes))
 }
 
-/// What was found of a file, by what taking it gave.
+/// What was found of a file that couldn't be taken.
+fn found_failed(by_kind: bool) -> Found
+    ensures { result ≡ found_failed by_kind }
+{
+    if by_kind {
+        Found::OtherKind
+    } else {
+        Found::Unread
+    }
+}
+
+/// What was found of a file, by what taking it gave, and by whether it failed by the file's kind if it did.
 fn find_taken<R: Repo>(
     alloc: Global,
     repo: &mut R,
     name: &[u8; 20],
     action: Action,
     taken: Result<Option<Vec<u8>>, TakeFault>,
+    by_kind: bool,
 ) -> Result<Found, AllocError>
     ensures told { R.told repo.new ≡ R.told repo.old }
-    ensures finds { IfOk result (FindsTaken ((R.told repo.old).object name.now) name.now action taken
+    ensures finds { IfOk result (FindsTaken ((R.told repo.old).object name.now) name.now action taken by_kind
         (R.seen repo.old) (R.seen repo.new)) }
     ensures left { OnErr result (MakesBlob name.now (R.seen repo.old) (R.seen repo.new)) }
     ensures unfailed { OnErr result (IsUnfailedTake taken) }
@@ -148,7 +162,7 @@ fn find_taken<R: Repo>(
         Ok(None) => Ok(Found::Gone),
         Err(fault) => match fault {
             TakeFault::TooLong => find_there(alloc, repo, name, action, None),
-            TakeFault::Failed => Ok(Found::Unread),
+            TakeFault::Failed => Ok(found_failed(by_kind)),
             TakeFault::NoMemory => Err(AllocError),
         },
     }
@@ -174,5 +188,6 @@ pub(crate) fn find_file<R: Repo, F: Files>(
         unreachable!()
     };
     let taken = files.take(name, MAX_FILE);
-    find_taken(alloc, repo, &path.object, action, taken)
+    let by_kind = files.failed_by_kind();
+    find_taken(alloc, repo, &path.object, action, taken, by_kind)
 }

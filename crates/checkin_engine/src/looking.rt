@@ -132,6 +132,7 @@ fn found_fate<P: Spawner, O: Once>(
     match found {
         Found::Gone => Ok(without_content(alloc, Fate::Gone)),
         Found::Unread => Ok(failed(alloc, CheckinCause::Read)),
+        Found::OtherKind => Ok(failed(alloc, CheckinCause::OtherKind)),
         Found::TooLarge => Ok(failed(alloc, CheckinCause::TooLarge)),
         Found::There { bytes, old } => {
             let cleaned = clean_file(alloc, lines, spawner, once, visit, storing.driver, bytes);

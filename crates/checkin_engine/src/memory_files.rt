@@ -1,9 +1,10 @@
 //! Files in memory.
-ghost use Rattle.std.specs.Prelude.{◌≡◌, IfOk, [], OnOk, Some, vec_len, vec_capacity, ◌<◌};
+ghost use Rattle.std.specs.Prelude.{◌≡◌, IfOk, [], OnOk, Some, false, vec_len, vec_capacity, ◌<◌};
 ghost use Rattle.std.specs.List.{list_any};
 ghost use Rattle.std.specs.Str.{bytes_eq};
 ghost use Rattle.edge_kit.specs.Told.{Takes};
 ghost use Rattle.checkin_engine.specs.Memory.{first_file, file_told};
+ghost use Rattle.checkin_engine.specs.Outside.{no_files_failed};
 
 use crate::files::Files;
 use byte_path::Bytes;
@@ -53,7 +54,7 @@ impl MemoryFiles {
     /// These files. Of two with one path the first counts. At the paths of `fails` each call fails.
     pub fn new(alloc: Global, files: Vec<TreeFile>, fails: Vec<Bytes>) -> MemoryFiles
         ensures told { ⟦<MemoryFiles as Files>⟧.told result ≡ file_told files.items fails.items }
-        ensures seen { ⟦<MemoryFiles as Files>⟧.seen result ≡ record { faults = 0; failed = [] } }
+        ensures seen { ⟦<MemoryFiles as Files>⟧.seen result ≡ no_files_failed }
     {
         MemoryFiles {
             alloc,
@@ -68,7 +69,8 @@ impl MemoryFiles {
 impl Files for MemoryFiles {
     ghost told = { λ f. file_told f.files.items f.fails.items };
 
-    ghost seen = { λ f. record { faults = f.faults; failed = f.failed.items } };
+    // it has no kinds
+    ghost seen = { λ f. record { faults = f.faults; failed = f.failed.items; by_kind = false; of_other_kind = [] } };
 
     fn take(&mut self, path: &str, limit: u64) -> Result<Option<Vec<u8>>, TakeFault> {
         let name = Bytes::copy_of(self.alloc, path.as_bytes())?;
@@ -84,5 +86,9 @@ impl Files for MemoryFiles {
             // a copy ends early for want of memory alone
             Err(TakeFault::Failed | TakeFault::NoMemory) => Err(TakeFault::NoMemory),
         }
+    }
+
+    fn failed_by_kind(&self) -> bool {
+        false
     }
 }

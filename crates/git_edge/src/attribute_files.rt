@@ -2,7 +2,8 @@
 ghost use Rattle.edge_kit.specs.Told.{Untold, Takes};
 
 use crate::git::{Answer, Git, fault_of};
-use crate::listing::{SettingsList, says_no};
+use crate::listing::SettingsList;
+use crate::notes::worktree_of;
 use byte_path::unmarked;
 use edge_adapters::read_whole;
 use edge_kit::TakeFault;
@@ -42,18 +43,29 @@ fn variable(git: &Git, name: &str) -> Option<String> {
 }
 
 /// Where the system's file is, if it is to be read.
-fn system_path(git: &Git) -> io::Result<Option<String>> {
+fn system_path(git: &Git, listing: &SettingsList) -> io::Result<Option<String>> {
     let answer = git.ask(&["var", "GIT_ATTR_SYSTEM"])?;
     if let Some(path) = path_said(git, &answer)? {
         return Ok(path);
     }
-    match variable(git, "GIT_ATTR_NOSYSTEM") {
-        Some(value) if !says_no(value.as_bytes()) => Ok(None),
-        _ => Ok(Some(String::from_str(git.alloc, SYSTEM)?)),
+    if listing.no_system {
+        return Ok(None);
+    }
+    Ok(Some(String::from_str(git.alloc, SYSTEM)?))
+}
+
+/// A path as git looks for it, which goes to the top of the worktree first.
+fn from_top(git: &Git, path: String) -> io::Result<String> {
+    if path.as_str().starts_with('/') {
+        return Ok(path);
+    }
+    match worktree_of(git)? {
+        Some(top) => Ok(format!(in git.alloc; "{top}/{path}")?),
+        None => Ok(path),
     }
 }
 
-/// Where the user's file is if no setting names one.
+/// Where the user's file is if no setting names one, as the variables have it.
 fn default_path(git: &Git) -> io::Result<Option<String>> {
     if let Some(folder) = variable(git, "XDG_CONFIG_HOME") {
         return Ok(Some(format!(in git.alloc; "{folder}/git/attributes")?));
@@ -64,13 +76,21 @@ fn default_path(git: &Git) -> io::Result<Option<String>> {
     }
 }
 
-/// Where the user's file is, if there may be one.
-fn user_path(git: &Git, listing: &SettingsList) -> io::Result<Option<String>> {
+/// Where a setting or the variables say that the user's file is.
+fn named_path(git: &Git, listing: &SettingsList) -> io::Result<Option<String>> {
     if listing.last(b"core.attributesfile").is_none() {
         return default_path(git);
     }
     let answer = git.ask(&["config", "--type=path", "--get", "core.attributesFile"])?;
     Ok(path_said(git, &answer)?.flatten())
+}
+
+/// Where the user's file is, if there may be one.
+fn user_path(git: &Git, listing: &SettingsList) -> io::Result<Option<String>> {
+    match named_path(git, listing)? {
+        Some(path) => Ok(Some(from_top(git, path)?)),
+        None => Ok(None),
+    }
 }
 
 /// Whether nothing is at a path, or one of its folders is none, as in that of a home which is `/dev/null`.
@@ -103,7 +123,7 @@ pub fn base_attributes(
 ) -> Result<Option<Vec<u8>>, TakeFault>
     ensures { Takes Untold limit result }
 {
-    let system = file_at(git, system_path(git), limit)?;
+    let system = file_at(git, system_path(git, listing), limit)?;
     let user = file_at(git, user_path(git, listing), limit)?;
     if system.is_empty() && user.is_empty() {
         return Ok(None);

@@ -129,7 +129,7 @@ fn read_line(pipe: &mut PipeReader, into: &mut [u8]) -> io::Result<(usize, usize
 impl CatFile {
     /// Starts a child.
     pub fn start(git: &Git) -> io::Result<CatFile> {
-        let mut command = git.command(&["cat-file", "--batch"])?;
+        let mut command = git.object_giver()?;
         let (asked, input) = io::pipe(&git.rt)?;
         let (output, given) = io::pipe(&git.rt)?;
         command.stdin(asked);

@@ -3,6 +3,7 @@ use crate::fault::GitFault;
 use crate::git::{Answer, Git};
 use crate::listing::SettingsList;
 use std::alloc::{AllocError, Global};
+use std::env::var;
 
 /// The absolute paths of a repository's parts.
 #[derive(Drop)]
@@ -17,6 +18,9 @@ pub struct FoundRepository {
 
 /// The word that git 2.31 was the first to know. `git rev-parse` writes a word as it is if it doesn't know it.
 const NEWEST: &str = "--path-format=absolute";
+
+/// The variable that says whether the system's attribute file is left out.
+const NO_SYSTEM: &str = "GIT_ATTR_NOSYSTEM";
 
 /// What is asked of `git rev-parse`: the paths, each a line, and then what object names are by.
 const ASKED: [&str; 10] = [
@@ -96,13 +100,54 @@ pub fn find(git: &Git) -> Result<FoundRepository, GitFault> {
     }
 }
 
+/// Whether git reads the value as a switch that is on, or `None` if it is no switch.
+fn switch_of(git: &Git, value: &str) -> Result<Option<bool>, GitFault> {
+    let setting = format!(in git.alloc; "siuwbren.switch={value}")?;
+    let answer = git.ask(&[
+        "-c",
+        setting.as_str(),
+        "config",
+        "--type=bool",
+        "siuwbren.switch",
+    ])?;
+    if answer.is_good() {
+        Ok(Some(answer.bytes.starts_with(b"true")))
+    } else {
+        Ok(None)
+    }
+}
+
+/// Whether the variable says that the system's attribute file isn't read. Git stops where it is no switch.
+fn has_no_system(git: &Git) -> Result<bool, GitFault> {
+    let value = match var(&git.rt, NO_SYSTEM) {
+        Ok(value) if !value.is_empty() => value,
+        _ => return Ok(false),
+    };
+    match switch_of(git, value.as_str())? {
+        Some(on) => Ok(on),
+        None => Err(GitFault::Refused(format!(in git.alloc;
+            "bad boolean config value '{value}' for '{NO_SYSTEM}'"
+        )?)),
+    }
+}
+
+/// The setting has a value if it is there. Git stops where a setting has none that needs one.
+fn need_value(git: &Git, listing: &SettingsList, key: &str) -> Result<(), GitFault> {
+    match listing.last(key.as_bytes()) {
+        Some(None) => Err(GitFault::Refused(format!(in git.alloc; "missing value for '{key}'")?)),
+        _ => Ok(()),
+    }
+}
+
 /// The settings that git uses in the repository.
 pub fn list(git: &Git) -> Result<SettingsList, GitFault> {
     let answer = git.ask(&["config", "--list", "-z"])?;
     if !answer.is_good() {
         return Err(refused(git, &answer, "git finds no repository"));
     }
-    Ok(SettingsList::new(answer.bytes))
+    let listing = SettingsList::new(answer.bytes, has_no_system(git)?);
+    need_value(git, &listing, "core.attributesfile")?;
+    Ok(listing)
 }
 
 /// What is asked of `git rev-parse` before a revision. It says nothing and ends with the status 1 if there is none.

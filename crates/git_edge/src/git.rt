@@ -33,9 +33,8 @@ impl Answer {
     }
 }
 
-/// No object is fetched, one that `git replace` replaces is given as it is, and nobody is asked for a password.
-const VARIABLES: [(&str, &str); 6] = [
-    ("GIT_NO_REPLACE_OBJECTS", "1"),
+/// No object is fetched, and nobody is asked for a password.
+const VARIABLES: [(&str, &str); 5] = [
     ("GIT_NO_LAZY_FETCH", "1"),
     // for a git that doesn't know the one above: no protocol is allowed
     ("GIT_ALLOW_PROTOCOL", "none"),
@@ -77,6 +76,8 @@ fn add_variables(command: &mut Command) -> Result<(), AllocError> {
     for (name, value) in VARIABLES {
         command.env(name, value)?;
     }
+    // it names a file to `git config` alone, and no other command goes by it
+    command.env_remove("GIT_CONFIG")?;
     Ok(())
 }
 
@@ -130,6 +131,14 @@ impl Git {
     /// What starts git with these words.
     pub fn command(&self, words: &[&str]) -> Result<Command, AllocError> {
         self.command_with(&[], words)
+    }
+
+    /// What starts the process that gives one object after another, each as it is stored, also one that `git replace`
+    /// replaces: what replaces it has another name.
+    pub fn object_giver(&self) -> Result<Command, AllocError> {
+        let mut command = self.command(&["cat-file", "--batch"])?;
+        command.env("GIT_NO_REPLACE_OBJECTS", "1")?;
+        Ok(command)
     }
 
     /// What starts git with these settings and words.

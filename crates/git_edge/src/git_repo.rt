@@ -17,6 +17,7 @@ use edge_adapters::{DriverPlace, read_whole};
 use edge_kit::{Repo, TakeFault};
 use git_tree::Keeps;
 use std::alloc::{AllocError, Global};
+use std::io;
 use std::sync::Arc;
 
 /// On which other file systems no path may be one of git's own (git-config(1), core.protectNTFS and core.protectHFS).
@@ -36,6 +37,8 @@ pub struct GitRepo {
     tree: Option<String>,
     // the index, once it was read
     index: Option<Vec<u8>>,
+    // why no folder could be made for it
+    unmade: Option<io::Error>,
     pool: Arc<ObjectPool, Global>,
     faults: u64,
     out: usize,
@@ -80,6 +83,7 @@ impl GitRepo {
             listing,
             tree,
             index: None,
+            unmade: None,
             pool,
             faults: 0,
             out: 0,
@@ -121,6 +125,16 @@ impl GitRepo {
         let own = word_of(self.git.alloc, self.found.index.as_str())?;
         let index = word_of(self.git.alloc, index)?;
         format!(in self.git.alloc; "mv {index} {own}")
+    }
+
+    /// Gives this index from now on.
+    pub fn take_index(&mut self, index: Vec<u8>) {
+        self.index = Some(index);
+    }
+
+    /// Why its index couldn't be read, if that is for want of a folder for temporary files.
+    pub fn index_fault(&self) -> Option<GitFault> {
+        Some(GitFault::NoScratch(self.unmade?))
     }
 
     /// Which file systems its paths are guarded for: both, unless a setting says no.
@@ -193,8 +207,13 @@ impl Repo for GitRepo {
             return Ok(Some(index));
         }
         let taken = match &self.tree {
-            Some(tree) => index_of_tree(&self.git, tree.as_str(), limit),
-            None => own_index(&self.git, self.found.index.as_str(), limit),
+            Some(tree) => index_of_tree(&self.git, tree.as_str(), limit, &mut self.unmade),
+            None => own_index(
+                &self.git,
+                self.found.index.as_str(),
+                limit,
+                &mut self.unmade,
+            ),
         };
         if let Ok(Some(index)) = &taken {
             self.index = Some(index.clone()?);

@@ -45,10 +45,24 @@ fn may_be_partial(index: &[u8]) -> bool {
     may_have(index, b"link") || may_have(index, b"sdir")
 }
 
+/// A folder for an index, or why none can be made, which is kept.
+fn scratch_of(git: &Git, unmade: &mut Option<io::Error>) -> io::Result<Scratch> {
+    let made = Scratch::make(git.rt, git.alloc);
+    if let Err(error) = &made {
+        *unmade = Some(*error);
+    }
+    made
+}
+
 /// The bytes of an index that git writes in a folder of its own, where these bytes are first if there are any. `None`
-/// if git can't.
-fn written(git: &Git, before: Option<&[u8]>, words: &[&str]) -> io::Result<Option<Vec<u8>>> {
-    let scratch = Scratch::make(git.rt, git.alloc)?;
+/// if git can't. What keeps the folder from being made is kept.
+fn written(
+    git: &Git,
+    before: Option<&[u8]>,
+    words: &[&str],
+    unmade: &mut Option<io::Error>,
+) -> io::Result<Option<Vec<u8>>> {
+    let scratch = scratch_of(git, unmade)?;
     let path = scratch.path_of(git.alloc, "index")?;
     if let Some(before) = before {
         fs::write(&git.rt, path.as_str(), before)?;
@@ -71,16 +85,26 @@ fn limited(written: io::Result<Option<Vec<u8>>>, limit: u64) -> Result<Option<Ve
     }
 }
 
-/// An index of this tree.
-pub fn index_of_tree(git: &Git, tree: &str, limit: u64) -> Result<Option<Vec<u8>>, TakeFault>
+/// An index of this tree. What keeps a folder for it from being made is kept.
+pub fn index_of_tree(
+    git: &Git,
+    tree: &str,
+    limit: u64,
+    unmade: &mut Option<io::Error>,
+) -> Result<Option<Vec<u8>>, TakeFault>
     ensures { Takes Untold limit result }
 {
-    limited(written(git, None, &["read-tree", tree]), limit)
+    limited(written(git, None, &["read-tree", tree], unmade), limit)
 }
 
 /// The index at this path, which git makes whole if it is split or has folders among its entries. One that is broken
-/// stays as it is.
-pub fn own_index(git: &Git, path: &str, limit: u64) -> Result<Option<Vec<u8>>, TakeFault>
+/// stays as it is. What keeps a folder for it from being made is kept.
+pub fn own_index(
+    git: &Git,
+    path: &str,
+    limit: u64,
+    unmade: &mut Option<io::Error>,
+) -> Result<Option<Vec<u8>>, TakeFault>
     ensures { Takes Untold limit result }
 {
     let Some(bytes) = read_whole(git.rt, git.alloc, path, limit)? else {
@@ -90,7 +114,7 @@ pub fn own_index(git: &Git, path: &str, limit: u64) -> Result<Option<Vec<u8>>, T
         return Ok(Some(bytes));
     }
     let words = ["update-index", "--no-split-index"];
-    match written(git, Some(bytes.as_slice()), words.as_slice()) {
+    match written(git, Some(bytes.as_slice()), words.as_slice(), unmade) {
         Ok(None) => Ok(Some(bytes)),
         whole => limited(whole, limit),
     }

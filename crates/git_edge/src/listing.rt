@@ -13,6 +13,8 @@ struct Setting<'a> {
 #[derive(Drop)]
 pub struct SettingsList {
     bytes: Vec<u8>,
+    /// Whether a variable says that the system's attribute file isn't read.
+    pub no_system: bool,
 }
 
 fn setting_of(text: &[u8]) -> Setting<'_> {
@@ -92,7 +94,7 @@ fn add_setting(config: &mut Vec<u8>, setting: Setting<'_>) -> Result<(), AllocEr
 }
 
 /// Whether a value of a switch says no (git-config(1)).
-pub fn says_no(value: &[u8]) -> bool {
+fn says_no(value: &[u8]) -> bool {
     value.is_empty()
         || value == b"0".as_slice()
         || value.eq_ignore_ascii_case(b"false")
@@ -119,8 +121,8 @@ fn promised_by<'a>(setting: Setting<'a>) -> Option<&'a [u8]> {
 }
 
 impl SettingsList {
-    pub fn new(bytes: Vec<u8>) -> SettingsList {
-        SettingsList { bytes }
+    pub fn new(bytes: Vec<u8>, no_system: bool) -> SettingsList {
+        SettingsList { bytes, no_system }
     }
 
     /// The value of the last setting with this key.

@@ -118,16 +118,30 @@ fn fetch_of(git: &Git, remote: &[u8], tree: Option<&str>) -> Result<String, Allo
     )
 }
 
-/// The note on the objects that a partial clone lacks.
+/// How many objects a clone lacks of a tree, or else of its own index, as git counts them.
+fn lacked(git: &Git, tree: Option<&str>) -> Result<usize, AllocError> {
+    let wanted = tree.unwrap_or("--indexed-objects");
+    let listed = said(git, &["rev-list", "--objects", "--missing=print", wanted])?;
+    Ok(
+        listed
+            .split(|byte| *byte == b'\n')
+            .filter(|line| line.starts_with(b"?"))
+            .count(),
+    )
+}
+
+/// The note on the objects that a partial clone lacks: at least those that were met, each once.
 fn lack_of(
     git: &Git,
     remote: &[u8],
     tree: Option<&str>,
     absent: &[[u8; 20]],
 ) -> Result<String, AllocError> {
-    let count = each_once(absent.to_vec(git.alloc)?).len();
+    let met = each_once(absent.to_vec(git.alloc)?).len();
+    let count = lacked(git, tree)?.max(met);
+    let unit = if count == 1 { "object" } else { "objects" };
     let fetch = fetch_of(git, remote, tree)?;
-    format!(in git.alloc; "this partial clone lacks {count} objects. To fetch them: {fetch}")
+    format!(in git.alloc; "this partial clone lacks {count} {unit}. To fetch them: {fetch}")
 }
 
 fn add_replaced(

@@ -3,34 +3,35 @@ use crate::place::{folder_after, path_in, runs};
 use crate::table::{cut, is_right};
 use edge_kit::{Leaf, LeafState, Mark, Worktree};
 use git_tree::{GitLeaf, GitTree, Keeps};
-use std::fs::remove_dir_all;
+use std::fs::{remove_dir_all, remove_file};
+use std::sync::atomic::AtomicBool;
 use std::test::Fail;
 
 /// A piece that is longer than a link's text.
 const LONG: [u8; 5000] = [b'z'; 5000];
 
-fn seal(leaf: &mut GitLeaf, mark: Mark) -> bool {
+fn seal(leaf: &mut GitLeaf<'_>, mark: Mark) -> bool {
     match leaf.state {
         LeafState::Fresh | LeafState::Partly => leaf.seal(mark).is_ok(),
         _ => false,
     }
 }
 
-fn put(leaf: &mut GitLeaf, piece: &[u8]) -> bool {
+fn put(leaf: &mut GitLeaf<'_>, piece: &[u8]) -> bool {
     match leaf.state {
         LeafState::Fresh | LeafState::Partly => leaf.put(piece).is_ok(),
         _ => false,
     }
 }
 
-fn restart(leaf: &mut GitLeaf) -> bool {
+fn restart(leaf: &mut GitLeaf<'_>) -> bool {
     match leaf.state {
         LeafState::Fresh | LeafState::Partly => leaf.restart().is_ok(),
         _ => false,
     }
 }
 
-fn discard(leaf: &mut GitLeaf) -> bool {
+fn discard(leaf: &mut GitLeaf<'_>) -> bool {
     match leaf.state {
         LeafState::Sealed(_) => false,
         _ => leaf.discard().is_ok(),
@@ -38,8 +39,8 @@ fn discard(leaf: &mut GitLeaf) -> bool {
 }
 
 /// Calls the leaf, and returns whether that went well: `p` puts these bytes, `z` a long piece, `r` restarts, `d`
-/// discards, and `s`, `x` and `l` seal a file, a program and a link.
-fn goes_well(leaf: &mut GitLeaf, call: &[u8]) -> bool {
+/// discards, and `s`, `x` and `l` seal a file, a program and a link. `m` removes its file, as a driver may.
+fn goes_well(rt: HostRuntime, leaf: &mut GitLeaf<'_>, call: &[u8]) -> bool {
     match call {
         [b'p', piece @ ..] => put(leaf, piece),
         [b'z'] => put(leaf, LONG.as_slice()),
@@ -48,17 +49,18 @@ fn goes_well(leaf: &mut GitLeaf, call: &[u8]) -> bool {
         [b's'] => seal(leaf, Mark::Plain),
         [b'x'] => seal(leaf, Mark::Executable),
         [b'l'] => seal(leaf, Mark::LinkText),
+        [b'm'] => remove_file(&rt, leaf.place.full()).is_ok(),
         _ => false,
     }
 }
 
 /// Whether each call goes as it should, well after `+` and not after `-`.
-fn all_go(leaf: &mut GitLeaf, calls: &str) -> bool {
+fn all_go(rt: HostRuntime, leaf: &mut GitLeaf<'_>, calls: &str) -> bool {
     let mut rest = calls;
     for _ in 0..calls.len() {
         let (call, more) = cut(rest, ';');
         if let [well, made @ ..] = call.as_bytes() {
-            if goes_well(leaf, made) != (*well == b'+') {
+            if goes_well(rt, leaf, made) != (*well == b'+') {
                 return false;
             }
         }
@@ -67,7 +69,7 @@ fn all_go(leaf: &mut GitLeaf, calls: &str) -> bool {
     true
 }
 
-/// What the shell does, `l` if links are kept or `-`, the path of a leaf, the calls on it, and what a shell finds. A
+/// What the shell does, `l` if links are kept or `-`, with `d` if a driver has run, the path of a leaf, the calls on it, and what a shell finds. A
 /// file that it makes has the mode of a plain file by its umask, and a folder that of a program.
 const CASES: &[&str] = &[
     "|l|a/b|+px;+s|test -f tree/a/b; test $(stat -c %a tree/a/b) = $(stat -c %a plain)",
@@ -78,6 +80,9 @@ const CASES: &[&str] = &[
     "|l|a|+z;+px;+x|test $(wc -c < tree/a) = 5001; test $(stat -c %a tree/a) = $(stat -c %a made)",
     "|l|a|+z;+r;+py;+s|test $(cat tree/a) = y; test $(stat -c %a tree/a) = $(stat -c %a plain)",
     "|l|a|+z;+d|test ! -e tree/a",
+    // a file that a driver removed, or replaced, isn't sealed, and what has its name now stays
+    "|ld|a|+z;+m;-s|test ! -e tree/a",
+    "|ld|a|+z;+px;+s|test $(wc -c < tree/a) = 5001",
     // a link is made by its seal, and leads anywhere
     "|l|a/b|+p../;+pc;+l|test $(readlink tree/a/b) = ../c",
     "|l|a|+pb|test ! -e tree",
@@ -97,12 +102,13 @@ fn leaf_goes(rt: HostRuntime, folder: &str, rest: &str) -> Result<bool, Fail> {
     let (kept, rest) = cut(rest, '|');
     let (path, calls) = cut(rest, '|');
     let keeps = Keeps {
-        links: kept == "l",
+        links: kept.starts_with('l'),
         modes: true,
     };
-    let mut tree = GitTree::new(rt, path_in(rt, folder, "tree")?, keeps);
+    let driven = AtomicBool::new(kept.ends_with('d'));
+    let mut tree = GitTree::new(rt, path_in(rt, folder, "tree")?, keeps, &driven);
     let mut leaf = tree.leaf(path)?;
-    let well = all_go(&mut leaf, calls);
+    let well = all_go(rt, &mut leaf, calls);
     tree.take_back(leaf);
     Ok(well)
 }

@@ -9,10 +9,11 @@ use crate::kinds::{FileKind, Keeps, kind_of, mode_of};
 use byte_path::Bytes;
 use edge_adapters::{LeafPlace, create_in_tree, empty_file, link_in_tree, remove_own};
 use edge_kit::{Failed, Leaf, LeafState, Mark, SendFault};
-use std::fs::{File, Permissions};
+use std::fs::{File, Permissions, symlink_metadata};
 use std::io;
 use std::io::{ErrorKind, Write};
 use std::os::unix::fs::{MetadataExt, PermissionsExt};
+use std::sync::atomic::{AtomicBool, Ordering};
 
 /// How long the text of a link may be (PATH_MAX with its end).
 const LONGEST_LINK: usize = 4095;
@@ -24,7 +25,7 @@ const EARLY: u32 = 0o777;
 /// in memory while a link may have it as its text. A longer content goes to a file at once, and the seal takes its
 /// executable bits if it isn't to have them. A link is made by the seal alone.
 #[derive(Drop)]
-pub struct GitLeaf {
+pub struct GitLeaf<'a> {
     rt: HostRuntime,
     pub place: LeafPlace,
     pub keeps: Keeps,
@@ -38,11 +39,18 @@ pub struct GitLeaf {
     pub faults: u64,
     /// Its first fault.
     pub error: Option<io::Error>,
+    // whether a driver has run, which may have removed files
+    driven: &'a AtomicBool,
 }
 
-impl GitLeaf {
+impl<'a> GitLeaf<'a> {
     /// A leaf for what will be at this place. It touches nothing.
-    pub fn new(rt: HostRuntime, place: LeafPlace, keeps: Keeps) -> GitLeaf
+    pub fn new(
+        rt: HostRuntime,
+        place: LeafPlace,
+        keeps: Keeps,
+        driven: &'a AtomicBool,
+    ) -> GitLeaf<'a>
         ensures place { result.place ≡ place }
         ensures keeps { result.keeps ≡ keeps }
         ensures empty { result.text.items ≡ [] }
@@ -60,6 +68,7 @@ impl GitLeaf {
             state: LeafState::Fresh,
             faults: 0,
             error: None,
+            driven,
         }
     }
 
@@ -183,8 +192,20 @@ impl GitLeaf {
         let early = self.file.is_some();
         self.write_out(mode, &[])?;
         match &self.file {
-            Some(file) if early && mode != EARLY => self.limited(file, mode),
+            Some(file) if early => self.finish(file, mode),
             _ => Ok(()),
+        }
+    }
+
+    /// Ends a file that was made before its mark was known. Where a driver has run, it has to have its name still.
+    fn finish(&self, file: &File, mode: u32) -> io::Result<()> {
+        if self.driven.load(Ordering::SeqCst) {
+            need_name(self.rt, file, self.place.full())?;
+        }
+        if mode == EARLY {
+            Ok(())
+        } else {
+            self.limited(file, mode)
         }
     }
 
@@ -212,13 +233,24 @@ fn write_both(file: &mut File, first: &[u8], second: &[u8]) -> io::Result<()> {
     file.write_all(second)
 }
 
+/// The file has to be the one at the path.
+fn need_name(rt: HostRuntime, file: &File, path: &str) -> io::Result<()> {
+    let own = file.metadata()?;
+    let found = symlink_metadata(&rt, path)?;
+    if own.dev() == found.dev() && own.ino() == found.ino() {
+        Ok(())
+    } else {
+        Err(io::Error::from(ErrorKind::NotFound))
+    }
+}
+
 /// Takes from an open file the permissions that aren't in the mode. What the umask took is never given.
 fn limit_mode(file: &File, mode: u32) -> io::Result<()> {
     let found = file.metadata()?;
     file.set_permissions(Permissions::from_mode(found.mode() & mode))
 }
 
-impl Leaf for GitLeaf {
+impl Leaf for GitLeaf<'_> {
     ghost seen = { λ l. record { path = l.place.path; content = None; state = l.state; faults = l.faults } };
 
     ghost fresh_content = { λ _ _. tt };

@@ -9,10 +9,11 @@ use edge_adapters::{LeafPlace, WriteErrors, holds_nothing};
 use edge_kit::{Failed, LeafState, Worktree};
 use std::alloc::{AllocError, Global};
 use std::io::ErrorKind;
+use std::sync::atomic::AtomicBool;
 
 /// A folder that a checkout fills as git does, with executable files and links.
 #[derive(Drop)]
-pub struct GitTree {
+pub struct GitTree<'a> {
     rt: HostRuntime,
     alloc: Global,
     pub folder: String,
@@ -20,15 +21,18 @@ pub struct GitTree {
     faults: u64,
     out: usize,
     returned: Vec<(Bytes, LeafState, u64)>,
+    // whether a driver has run
+    driven: &'a AtomicBool,
     // what the leaves that were given back failed for
     errors: WriteErrors,
     // there is room for each leaf that is out
     ghost room: { vec_len returned + out ≤ vec_capacity returned },
 }
 
-impl GitTree {
-    /// The folder at this path, there or not, on a file system that keeps this. It reads nothing.
-    pub fn new(rt: HostRuntime, folder: String, keeps: Keeps) -> GitTree
+impl<'a> GitTree<'a> {
+    /// The folder at this path, there or not, on a file system that keeps this. It reads nothing. Once `driven` is true,
+    /// each leaf that has a file looks whether that is still there before it is sealed.
+    pub fn new(rt: HostRuntime, folder: String, keeps: Keeps, driven: &'a AtomicBool) -> GitTree<'a>
         ensures folder { result.folder ≡ folder }
         ensures keeps { result.keeps ≡ keeps }
     {
@@ -41,6 +45,7 @@ impl GitTree {
             faults: 0,
             out: 0,
             returned: Vec::new(alloc),
+            driven,
             errors: WriteErrors::new(alloc),
         }
     }
@@ -51,7 +56,7 @@ impl GitTree {
     }
 
     /// A leaf for the file with this path.
-    fn file(&self, path: &str) -> Result<GitLeaf, AllocError>
+    fn file(&self, path: &str) -> Result<GitLeaf<'a>, AllocError>
         ensures path { IfOk result (λ l. l.place.path ≡ path.now) }
         ensures full { IfOk result (λ l.
             l.place.full ≡ path_in (string_bytes self.now.folder) path.now) }
@@ -60,12 +65,12 @@ impl GitTree {
         ensures unfailed { IfOk result (λ l. l.faults ≡ 0) }
     {
         let place = LeafPlace::new(self.alloc, self.folder.as_str(), path)?;
-        Ok(GitLeaf::new(self.rt, place, self.keeps))
+        Ok(GitLeaf::new(self.rt, place, self.keeps, self.driven))
     }
 }
 
-impl Worktree for GitTree {
-    type Leaf = GitLeaf;
+impl<'a> Worktree for GitTree<'a> {
+    type Leaf = GitLeaf<'a>;
 
     ghost seen = { λ t. record {
       empty = None;
@@ -92,7 +97,7 @@ impl Worktree for GitTree {
         }
     }
 
-    fn leaf(&mut self, path: &str) -> Result<GitLeaf, AllocError> {
+    fn leaf(&mut self, path: &str) -> Result<GitLeaf<'a>, AllocError> {
         let leaf = self.file(path)?;
         self.errors.reserve()?;
         self.returned.reserve(self.out + 1)?;
@@ -100,7 +105,7 @@ impl Worktree for GitTree {
         Ok(leaf)
     }
 
-    fn take_back(&mut self, leaf: GitLeaf) {
+    fn take_back(&mut self, leaf: GitLeaf<'a>) {
         if let Some(error) = &leaf.error {
             self.errors.add(error, leaf.place.path());
         }

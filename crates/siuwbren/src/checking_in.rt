@@ -1,7 +1,9 @@
 //! A check-in into a git folder.
-use crate::ends::{end_with, refuse_repository, say, show_notes};
+use crate::assumed::hold_assumed;
+use crate::ends::{end_run, refuse_repository, say, show_notes};
 use crate::engine_words::checkin_words;
-use crate::own_index::refuse_guarded;
+use crate::kept_notes::show_kept;
+use crate::own_index::{links_of, refuse_guarded};
 use crate::worktree::{refused_tree, tree_of};
 use checkin_edge::{FolderFiles, FolderKeep, ObjectForm};
 use checkout_engine::ExitStatus;
@@ -33,10 +35,12 @@ fn check_in_with<H: Threads + Wait + Sync>(
     tree: &str,
     repo: &mut GitRepo,
 ) -> Result<u8, AllocError> {
+    let held = hold_assumed(rt, repo)?;
     let spawner = ProcessSpawner::in_place(rt, repo.driver_place()?)?;
     let words = checkin_words(rt.alloc(), repo.git_dir(), tree)?;
-    let files = FolderFiles::new(rt, String::from_str(rt.alloc(), tree)?);
-    let keep = keep_of(rt, repo)?;
+    let links = links_of(rt, repo)?;
+    let files = FolderFiles::new(rt, String::from_str(rt.alloc(), tree)?).of_links(links);
+    let keep = keep_of(rt, repo)?.holding(held);
     let ended = check_in(rt, threads, words.as_slice(), repo, spawner, files, keep)?;
     ended.show_notes(rt);
     Ok(ended.end())
@@ -53,12 +57,15 @@ fn show_index(rt: HostRuntime, repo: &GitRepo) -> Result<(), AllocError> {
     Ok(())
 }
 
-/// Says what else is to be said of a status and of a repository.
-fn explain(rt: HostRuntime, status: u8, repo: &mut GitRepo) -> Result<(), AllocError> {
-    end_with(rt, status);
+/// Says what else is to be said of a status, of a repository and of the folder that was checked in.
+fn explain(rt: HostRuntime, status: u8, repo: &mut GitRepo, tree: &str) -> Result<(), AllocError> {
+    end_run(rt, status, repo);
     match ExitStatus::of(status) {
         Some(ExitStatus::Refused) => show_refused_path(rt, repo),
-        Some(ExitStatus::Done | ExitStatus::DoneWithFailures) => show_index(rt, repo)?,
+        Some(ExitStatus::Done | ExitStatus::DoneWithFailures) => {
+            show_index(rt, repo)?;
+            show_kept(rt, repo, tree)?;
+        }
         _ => {}
     }
     show_notes(rt, repo);
@@ -83,7 +90,7 @@ fn check_in_words<H: Threads + Wait + Sync>(
         return Ok(status.number());
     }
     let status = check_in_with(rt, threads, tree.as_str(), repo)?;
-    explain(rt, status, repo)?;
+    explain(rt, status, repo, tree.as_str())?;
     Ok(status)
 }
 

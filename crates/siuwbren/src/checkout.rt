@@ -1,13 +1,13 @@
 //! A checkout from a git folder.
 use crate::channel::sink_of;
-use crate::ends::{end_with, refuse_repository, show_notes};
+use crate::ends::{end_run, refuse_repository, show_notes};
 use crate::engine_words::checkout_words;
 use crate::journal::journal_file;
 use crate::own_index::refuse_guarded;
 use checkout_core::Event;
 use checkout_engine::{ExitStatus, run};
 use edge_adapters::ProcessSpawner;
-use edge_kit::Spawner;
+use edge_kit::{Gate, Point, Spawner};
 use git_edge::GitRepo;
 use git_tree::GitTree;
 use one_shot::OnceSpawner;
@@ -19,7 +19,7 @@ use siuwbren_words::{Checkout, ProgressChoice};
 use std::alloc::AllocError;
 use std::mem::forget;
 use std::sync::Wait;
-use std::sync::atomic::AtomicU32;
+use std::sync::atomic::{AtomicBool, AtomicU32, Ordering};
 use std::thread::Threads;
 
 /// Whether progress is to be shown.
@@ -28,6 +28,22 @@ fn is_shown(rt: HostRuntime, wanted: ProgressChoice) -> bool {
         ProgressChoice::Shown => true,
         ProgressChoice::Hidden => false,
         ProgressChoice::OnTerminal => has_terminal(rt),
+    }
+}
+
+/// A gate that shows the progress, and notes that a driver has answered.
+#[derive(Clone, Copy)]
+struct DriverGate<'a> {
+    progress: &'a Progress<'a>,
+    driven: &'a AtomicBool,
+}
+
+impl Gate for DriverGate<'_> {
+    fn at(&self, actor: u32, path: u32, point: Point) {
+        if let Point::Replied = point {
+            self.driven.store(true, Ordering::SeqCst);
+        }
+        self.progress.at(actor, path, point);
     }
 }
 
@@ -53,7 +69,7 @@ impl Left {
 
 /// Says what else is to be said of a status and of a repository.
 fn explain(rt: HostRuntime, status: u8, is_quiet: bool, repo: &mut GitRepo) {
-    end_with(rt, status);
+    end_run(rt, status, repo);
     if status == ExitStatus::Refused.number() {
         show_refused_path(rt, repo);
     }
@@ -74,8 +90,13 @@ fn check_out_with<P: Spawner, H: Threads + Wait + Sync>(
     let folder = String::from_str(rt.alloc(), asked.tree)?;
     let leaves = AtomicU32::new(0);
     let progress = Progress::new(rt, &leaves, is_shown(rt, asked.progress));
+    let driven = AtomicBool::new(false);
+    let gate = DriverGate {
+        progress: &progress,
+        driven: &driven,
+    };
     let mut tree = CountingTree {
-        tree: GitTree::new(rt, folder, repo.keeps()),
+        tree: GitTree::new(rt, folder, repo.keeps(), &driven),
         leaves: &leaves,
     };
     let mut out = sink_of(rt, asked.form);
@@ -87,7 +108,7 @@ fn check_out_with<P: Spawner, H: Threads + Wait + Sync>(
         repo,
         &mut tree,
         spawner,
-        &progress,
+        &gate,
         &mut out,
         &mut history,
     );

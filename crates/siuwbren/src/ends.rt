@@ -11,6 +11,14 @@ pub fn end_with(rt: HostRuntime, status: u8) -> u8 {
     status
 }
 
+/// Says what a status of the engine means over a repository: for want of a temporary folder its index can't be read.
+pub fn end_run(rt: HostRuntime, status: u8, repo: &GitRepo) -> u8 {
+    match repo.index_fault() {
+        Some(fault) if status == ExitStatus::ReadFault.number() => refuse_repository(rt, &fault),
+        _ => end_with(rt, status),
+    }
+}
+
 /// Writes a line on standard error.
 pub fn say(rt: HostRuntime, line: &str) {
     let _ = eprintln!(rt; "{line}");

@@ -6,6 +6,7 @@
 //! written, what a driver wrote in place of packets, and what git would do otherwise.
 #![tactic(auto)]
 
+mod assumed;
 mod channel;
 mod checking_in;
 mod checkout;
@@ -13,6 +14,7 @@ mod ends;
 mod engine_words;
 mod guarded;
 mod journal;
+mod kept_notes;
 mod own_index;
 mod plan;
 mod rehearsing;

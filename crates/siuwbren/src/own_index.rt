@@ -2,7 +2,8 @@
 use crate::channel::sink_of;
 use crate::ends::{end_with, say};
 use crate::guarded::is_guarded;
-use byte_path::quote_path;
+use byte_path::{Bytes, quote_path};
+use checkin_edge::IndexLinks;
 use checkout_engine::ExitStatus;
 use edge_kit::{Repo, SendFault, Sink};
 use git_edge::{GitRepo, Guards};
@@ -11,12 +12,26 @@ use report_forms::ReportForm;
 use std::alloc::AllocError;
 
 /// The most bytes of an index that is read.
-const MOST_INDEX: u64 = 67_108_864;
+pub const MOST_INDEX: u64 = 67_108_864;
 
 /// The repository's index, or nothing where the engine will say what is wrong with it.
 pub fn index_of(rt: HostRuntime, repo: &mut GitRepo) -> Option<Index> {
     let bytes = repo.index_bytes(MOST_INDEX).ok()??;
     read_index(rt.alloc(), bytes.as_slice()).ok()
+}
+
+/// The links of the repository's index.
+pub fn links_of(rt: HostRuntime, repo: &mut GitRepo) -> Result<IndexLinks, AllocError> {
+    let mut paths = Vec::new(rt.alloc());
+    if let Some(index) = index_of(rt, repo) {
+        for entry in index.entries() {
+            if matches!(entry.mode, Mode::Link) {
+                paths.push(Bytes::copy_of(rt.alloc(), entry.path.as_slice())?)?;
+            }
+        }
+    }
+    let kept = repo.keeps().links;
+    Ok(IndexLinks { paths, kept })
 }
 
 /// Whether the entry's path is one of git's own on a guarded file system.

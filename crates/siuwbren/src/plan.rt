@@ -1,6 +1,6 @@
 //! The plan of a checkout.
 use crate::channel::sink_of;
-use crate::ends::{end_with, refuse_repository};
+use crate::ends::{end_run, refuse_repository};
 use crate::own_index::refuse_guarded;
 use checkout_engine::{ExitStatus, plan_text};
 use git_edge::GitRepo;
@@ -19,7 +19,7 @@ pub fn show_plan(rt: HostRuntime, asked: &PlanWords<'_>) -> Result<u8, AllocErro
     }
     let mut out = sink_of(rt, asked.form);
     let status = plan_text(rt.alloc(), &mut repo, &mut out);
-    end_with(rt, status);
+    end_run(rt, status, &repo);
     if status == ExitStatus::Refused.number() {
         show_refused_path(rt, &mut repo);
     }
