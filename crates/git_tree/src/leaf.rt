@@ -74,7 +74,7 @@ impl<'a> GitLeaf<'a> {
 
     /// Its path, its state and its count of faults. A file that is open is closed.
     pub fn ended(self) -> (Bytes, LeafState, u64)
-        ensures { result ≡ (self.place.path, self.state, self.faults) }
+        ensures { result ≡ (self.entry.place.path, self.entry.state, self.entry.faults) }
     {
         (self.place.into_path(), self.state, self.faults)
     }
