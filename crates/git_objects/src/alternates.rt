@@ -2,6 +2,8 @@
 use crate::fault::ObjectsFault;
 use edge_adapters::{path_in, read_whole};
 use std::alloc::{AllocError, Global};
+use std::fs::metadata;
+use std::os::unix::fs::MetadataExt;
 
 /// The most bytes of a file that names folders.
 const MOST: u64 = 1 << 20;
@@ -12,10 +14,30 @@ const FOLDERS: usize = 1000;
 /// How often a folder that is borrowed from may borrow: as often as for git.
 const DEEP: usize = 6;
 
-/// The folders of a repository's objects.
+/// What tells a folder from every other one, however its path is spelled: its device and its inode.
+#[derive(Clone, Copy, PartialEq, Eq)]
+struct Identity {
+    device: u64,
+    inode: u64,
+}
+
+/// What tells the folder at a path from others, if one is there.
+fn identity_of(rt: HostRuntime, path: &str) -> Option<Identity> {
+    let found = metadata(&rt, path).ok()?;
+    if !found.is_dir() {
+        return None;
+    }
+    Some(Identity {
+        device: found.dev(),
+        inode: found.ino(),
+    })
+}
+
+/// The folders of a repository's objects, each once.
 #[derive(Drop)]
 pub struct Folders {
     pub paths: Vec<String>,
+    identities: Vec<Identity>,
     /// Whether there are others, which git alone finds.
     pub are_partial: bool,
 }
@@ -32,10 +54,15 @@ fn named_by(alloc: Global, folder: &str, line: &str) -> Result<String, AllocErro
 impl Folders {
     /// A folder and those that it borrows from.
     pub fn of(rt: HostRuntime, own: String) -> Result<Folders, ObjectsFault> {
+        let mut identities = Vec::new(rt.alloc());
+        if let Some(identity) = identity_of(rt, own.as_str()) {
+            identities.push(identity)?;
+        }
         let mut paths = Vec::new(rt.alloc());
         paths.push(own)?;
         let mut folders = Folders {
             paths,
+            identities,
             are_partial: false,
         };
         let mut begun = 0;
@@ -71,13 +98,14 @@ impl Folders {
             return Ok(());
         };
         for line in text.split('\n') {
-            self.add_line(alloc, folder.as_str(), line)?;
+            self.add_line(rt, folder.as_str(), line)?;
         }
         Ok(())
     }
 
-    /// Adds the folder that a line names. A path in quotes is left to git.
-    fn add_line(&mut self, alloc: Global, folder: &str, line: &str) -> Result<(), ObjectsFault> {
+    /// Adds the folder that a line names, unless it is known. What isn't there lends nothing. A path in quotes is left to
+    /// git.
+    fn add_line(&mut self, rt: HostRuntime, folder: &str, line: &str) -> Result<(), ObjectsFault> {
         if line.is_empty() || line.starts_with('#') {
             return Ok(());
         }
@@ -85,8 +113,12 @@ impl Folders {
             self.are_partial = true;
             return Ok(());
         }
-        let path = named_by(alloc, folder, line)?;
-        if !self.paths.iter().any(|known| *known == path) {
+        let path = named_by(rt.alloc(), folder, line)?;
+        let Some(identity) = identity_of(rt, path.as_str()) else {
+            return Ok(());
+        };
+        if !self.identities.contains(&identity) {
+            self.identities.push(identity)?;
             self.paths.push(path)?;
         }
         Ok(())

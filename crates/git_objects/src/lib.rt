@@ -17,9 +17,10 @@ mod objects;
 mod open_files;
 mod pack;
 mod placed_file;
+mod shared_object;
 mod shelf;
 
 pub use delta::apply_delta;
 pub use fault::ObjectsFault;
 pub use objects::Objects;
-pub use shelf::PackShelf;
+pub use shelf::{PackShelf, USUAL_BASES};

@@ -2,12 +2,11 @@
 ghost use Rattle.std.specs.Prelude.{◌≡◌, None, IfOk, IfSome, ◌≤◌, length};
 
 use crate::alternates::Folders;
-use crate::bases::Bases;
 use crate::fault::ObjectsFault;
 use crate::loose::loose_object;
 use crate::pack::Pack;
 use crate::placed_file::PlacedFile;
-use crate::shelf::PackShelf;
+use crate::shelf::{PackShelf, USUAL_BASES};
 use edge_adapters::path_in;
 use std::alloc::Global;
 use std::fs::read_dir;
@@ -24,9 +23,6 @@ pub struct Objects {
     folders: Folders,
     // the one that gave an object last is first
     packs: Vec<Pack>,
-    // how many packs were opened
-    opened: u64,
-    bases: Bases,
     // why an object may be there that isn't found
     lack: Option<ObjectsFault>,
 }
@@ -51,7 +47,7 @@ fn still_there(opened: io::Result<PlacedFile>) -> Result<Option<PlacedFile>, Obj
 impl Objects {
     /// The objects of the repository that has this Git folder. Packs are listed, and no object is read.
     pub fn open(rt: HostRuntime, git_dir: &str) -> Result<Objects, ObjectsFault> {
-        let shelf = Arc::new(rt.alloc(), PackShelf::new(rt)?)?;
+        let shelf = Arc::new(rt.alloc(), PackShelf::new(rt, USUAL_BASES)?)?;
         Objects::in_folder(rt, path_in(rt.alloc(), git_dir, "objects")?, shelf)
     }
 
@@ -73,8 +69,6 @@ impl Objects {
             shelf,
             folders,
             packs: Vec::new(alloc),
-            opened: 0,
-            bases: Bases::new(alloc)?,
             lack,
         };
         objects.list()?;
@@ -144,9 +138,8 @@ impl Objects {
             return Ok(());
         };
         let index = self.shelf.index_in(index)?;
-        let pack = Pack::new(alloc, self.opened, name, index, pack)?;
+        let pack = Pack::new(alloc, name, index, pack)?;
         self.packs.push(pack)?;
-        self.opened = self.opened.saturating_add(1);
         Ok(())
     }
 
@@ -156,7 +149,7 @@ impl Objects {
     {
         let mut first = None;
         for place in 0..self.packs.len() {
-            match self.packs[place].object(&mut self.bases, name, limit) {
+            match self.packs[place].object(&self.shelf, name, limit) {
                 Ok(Some(stored)) => {
                     self.packs.swap(0, place);
                     return Ok(Some(stored));

@@ -1,13 +1,15 @@
 //! A pack (gitformat-pack(5)).
 ghost use Rattle.std.specs.Prelude.{IfOk, IfSome, ◌≤◌, length};
 
-use crate::bases::{Bases, Spot};
+use crate::bases::Spot;
 use crate::delta::apply_delta;
 use crate::entry::{Inside, MOST, PackEntry, read_head};
 use crate::fault::ObjectsFault;
 use crate::index::PackIndex;
 use crate::object::Object;
 use crate::placed_file::PlacedFile;
+use crate::shared_object::SharedObject;
+use crate::shelf::{NumberedIndex, PackShelf};
 use inflate::{InflateFault, inflate};
 use std::alloc::Global;
 use std::sync::Arc;
@@ -40,7 +42,7 @@ struct Step {
 /// An object and the deltas that make another one of it, the last one first.
 struct Chain {
     offset: u64,
-    base: Object,
+    base: SharedObject,
     deltas: Vec<Step>,
 }
 
@@ -58,14 +60,14 @@ fn of_part(fault: ObjectsFault) -> ObjectsFault {
 }
 
 impl Pack {
-    /// The pack of this number, by its name, its index and its file. One of another version is for git alone.
+    /// The pack with this name, by its index and its file. One of another version is for git alone.
     pub fn new(
         alloc: Global,
-        number: u64,
         name: String,
-        index: Arc<PackIndex, Global>,
+        index: NumberedIndex,
         source: PlacedFile,
     ) -> Result<Pack, ObjectsFault> {
+        let NumberedIndex { number, index } = index;
         let head = source.read(0, 12)?;
         let [b'P', b'A', b'C', b'K', version @ .., a, b, c, d] = head.as_slice() else {
             return Err(ObjectsFault::Broken);
@@ -128,11 +130,11 @@ impl Pack {
     }
 
     /// The chain of the object whose entry begins at an offset. A ring of deltas is longer than the pack has objects.
-    fn chain_from(&self, bases: &mut Bases, start: u64, limit: u64) -> Result<Chain, ObjectsFault> {
+    fn chain_from(&self, shelf: &PackShelf, start: u64, limit: u64) -> Result<Chain, ObjectsFault> {
         let mut deltas = Vec::new(self.alloc);
         let mut offset = start;
         for _ in 0..self.index.count {
-            if let Some(base) = bases.take(self.spot(offset)) {
+            if let Some(base) = shelf.base_at(self.spot(offset)) {
                 return Ok(Chain {
                     offset,
                     base,
@@ -149,7 +151,7 @@ impl Pack {
                     Err(fault) if !deltas.is_empty() => return Err(of_part(fault)),
                     other => other?,
                 };
-                let base = Object { kind, content };
+                let base = SharedObject::of(self.alloc, Object { kind, content })?;
                 return Ok(Chain {
                     offset,
                     base,
@@ -171,11 +173,11 @@ impl Pack {
     /// Makes the object whose entry begins at an offset by its chain, and keeps what it was made of.
     fn made_by(
         &self,
-        bases: &mut Bases,
+        shelf: &PackShelf,
         start: u64,
         chain: Chain,
         limit: u64,
-    ) -> Result<Object, ObjectsFault> {
+    ) -> Result<SharedObject, ObjectsFault> {
         let Chain {
             mut offset,
             mut base,
@@ -186,15 +188,13 @@ impl Pack {
                 offset: next,
                 delta,
             } = *step;
-            let content = match self.applied(&base, delta, limit) {
+            let content = match self.applied(base.get(), delta, limit) {
                 Err(fault) if next != start => return Err(of_part(fault)),
                 other => other?,
             };
-            let made = Object {
-                kind: base.kind,
-                content,
-            };
-            bases.keep(self.spot(offset), base);
+            let kind = base.get().kind;
+            let made = SharedObject::of(self.alloc, Object { kind, content })?;
+            shelf.keep_base(self.spot(offset), base);
             base = made;
             offset = next;
         }
@@ -215,7 +215,7 @@ impl Pack {
     /// The stored form of the object with this name, if it is there and is within the limit.
     pub fn object(
         &self,
-        bases: &mut Bases,
+        shelf: &PackShelf,
         name: &[u8; 20],
         limit: u64,
     ) -> Result<Option<Vec<u8>>, ObjectsFault>
@@ -224,12 +224,12 @@ impl Pack {
         let Some(start) = self.index.offset_of(name)? else {
             return Ok(None);
         };
-        let chain = self.chain_from(bases, start, limit)?;
+        let chain = self.chain_from(shelf, start, limit)?;
         let is_base = chain.deltas.is_empty();
-        let object = self.made_by(bases, start, chain, limit)?;
-        let stored = object.stored(self.alloc, limit)?;
+        let object = self.made_by(shelf, start, chain, limit)?;
+        let stored = object.get().stored(self.alloc, limit)?;
         if is_base {
-            bases.keep(self.spot(start), object);
+            shelf.keep_base(self.spot(start), object);
         }
         Ok(Some(stored))
     }
