@@ -5,6 +5,7 @@ use crate::git::Git;
 use crate::listing::SettingsList;
 use crate::object_pool::ObjectPool;
 use crate::scratch::Scratch;
+use git_objects::USUAL_BASES;
 use std::fs::{create_dir, write};
 use std::io;
 
@@ -17,12 +18,12 @@ fn make_git_dir(git: &Git, scratch: &Scratch) -> io::Result<()> {
 }
 
 /// Another Git folder over the same objects. Git asks no remote for what isn't there, since it knows of none.
-fn borrowing(git: &Git, found: &FoundRepository) -> io::Result<ObjectPool> {
+fn borrowing(git: &Git, found: &FoundRepository, most_of_bases: u64) -> io::Result<ObjectPool> {
     let scratch = Scratch::make(git.rt, git.alloc)?;
     make_git_dir(git, &scratch)?;
     let borrower = git.about(Some(scratch.path.as_str()), Some(found.objects.as_str()))?;
     let objects = String::from_str(git.alloc, found.objects.as_str())?;
-    Ok(ObjectPool::new(borrower, Some(scratch), objects)?)
+    Ok(ObjectPool::new(borrower, Some(scratch), objects, most_of_bases)?)
 }
 
 /// What gives the objects of a repository. In a partial clone a process of git would end at an object that isn't there,
@@ -32,13 +33,17 @@ pub fn lender_of(
     found: &FoundRepository,
     listing: &SettingsList,
 ) -> Result<ObjectPool, GitFault> {
+    let most_of_bases = match listing.size(b"core.deltabasecachelimit") {
+        Some(size) => size,
+        None => USUAL_BASES,
+    };
     if listing.promisor().is_some() {
-        return match borrowing(git, found) {
+        return match borrowing(git, found, most_of_bases) {
             Ok(pool) => Ok(pool),
             Err(error) => Err(GitFault::of_scratch(error)),
         };
     }
     let own = git.about(git.named.as_deref(), None)?;
     let objects = String::from_str(git.alloc, found.objects.as_str())?;
-    Ok(ObjectPool::new(own, None, objects)?)
+    Ok(ObjectPool::new(own, None, objects, most_of_bases)?)
 }

@@ -1,4 +1,5 @@
 //! The settings that git uses, as `git config --list -z` has them.
+use byte_path::read_decimal;
 use memchr::{memchr, memrchr};
 use std::alloc::{AllocError, Global};
 
@@ -102,6 +103,17 @@ fn says_no(value: &[u8]) -> bool {
         || value.eq_ignore_ascii_case(b"off")
 }
 
+/// How many bytes a value says: a number, with `k`, `m` or `g` at its end so many times 1,024 (git-config(1)).
+fn size_said(value: &[u8]) -> Option<u64> {
+    let (digits, unit) = match value {
+        [digits @ .., b'k' | b'K'] => (digits, 1 << 10),
+        [digits @ .., b'm' | b'M'] => (digits, 1 << 20),
+        [digits @ .., b'g' | b'G'] => (digits, 1 << 30),
+        digits => (digits, 1),
+    };
+    read_decimal(digits, u64::MAX)?.checked_mul(unit)
+}
+
 /// The remote that a setting says a partial clone is of, as git takes it: by `remote.<name>.promisor` where that is
 /// true, by `remote.<name>.partialCloneFilter` or, as it was said before, by `extensions.partialClone`. A later
 /// setting takes nothing back.
@@ -135,6 +147,11 @@ impl SettingsList {
             }
         }
         last
+    }
+
+    /// How many bytes the last setting with this key says. `None` if there is none, or it says no number.
+    pub fn size(&self, key: &[u8]) -> Option<u64> {
+        size_said(self.last(key)??)
     }
 
     /// Whether a switch is on, that is so if nothing is said of it.

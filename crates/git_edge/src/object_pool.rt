@@ -30,18 +30,20 @@ pub struct ObjectPool {
 const SEATS: usize = 64;
 
 impl ObjectPool {
-    /// A pool over this folder `objects` that has opened and started nothing.
+    /// A pool over this folder `objects` that has opened and started nothing. What deltas were made of is to cost no more
+    /// than so many bytes.
     pub fn new(
         git: Git,
         scratch: Option<Scratch>,
         folder: String,
+        most_of_bases: u64,
     ) -> Result<ObjectPool, AllocError> {
         let mut seats = Vec::with_capacity(git.alloc, SEATS)?;
         for _ in 0..SEATS {
             seats.push(Mutex::new(ObjectReader::new()))?;
         }
         let lent = Lent::new(git.alloc);
-        let shelf = Arc::new(git.alloc, PackShelf::new(git.rt)?)?;
+        let shelf = Arc::new(git.alloc, PackShelf::new(git.rt, most_of_bases)?)?;
         Ok(ObjectPool {
             git,
             scratch,

@@ -2,13 +2,28 @@
 use std::alloc::{AllocError, Global};
 use std::env::temp_dir;
 use std::fs::{DirBuilder, remove_dir_all};
-use std::io::ErrorKind;
+use std::io::{ErrorKind, PipeWriter, Read};
 use std::os::unix::fs::DirBuilderExt;
+use std::process::{Child, Command, Stdio};
 use std::{io, process};
 
-/// A folder that this user alone can read. It is removed when it is dropped.
+/// What a shell does with a folder: it makes it, says so by a byte, waits for the end of its input and removes the folder.
+/// That end comes however this program ends. Signals that a terminal sends to both don't end the shell.
+const KEEPING: &str =
+    "trap '' HUP INT QUIT PIPE TERM; mkdir -m 700 -- \"$1\" || exit 1; echo; read -r _; \
+                       rm -rf -- \"$1\" || { sleep 1; rm -rf -- \"$1\"; }";
+
+/// A shell that keeps a folder.
+struct Keeper {
+    child: Child,
+    input: PipeWriter,
+}
+
+/// A folder that this user alone can read. It is removed when it is dropped, and when a signal ends the program.
 pub struct Scratch {
     rt: HostRuntime,
+    // none where there is no shell: a signal then leaves the folder
+    keeper: Option<Keeper>,
     pub path: String,
 }
 
@@ -21,6 +36,40 @@ fn make_private(rt: HostRuntime, path: &str) -> io::Result<()> {
     builder.create(&rt, path)
 }
 
+impl Keeper {
+    /// Has a shell make a folder. There is no keeper if it can't, and then it removes nothing.
+    fn of(rt: HostRuntime, alloc: Global, path: &str) -> io::Result<Option<Keeper>> {
+        let mut shell = Command::new(alloc, "sh")?;
+        shell.arg("-c")?;
+        shell.arg(KEEPING)?;
+        shell.arg("siuwbren")?;
+        shell.arg(path)?;
+        let (waited, input) = io::pipe(&rt)?;
+        let (mut output, said) = io::pipe(&rt)?;
+        shell.stdin(waited);
+        shell.stdout(said);
+        shell.stderr(Stdio::null());
+        let mut child = shell.spawn(&rt)?;
+        drop(shell);
+        let mut byte = [0u8];
+        match output.read(byte.as_mut_slice()) {
+            Ok(1) => Ok(Some(Keeper { child, input })),
+            _ => {
+                drop(input);
+                let _ = child.wait();
+                Ok(None)
+            }
+        }
+    }
+
+    /// Has the folder removed.
+    fn end(self) {
+        let Keeper { mut child, input } = self;
+        drop(input);
+        let _ = child.wait();
+    }
+}
+
 impl Scratch {
     /// Makes a folder in the folder for temporary files (`TMPDIR`, or else `/tmp`), under a name that was free.
     pub fn make(rt: HostRuntime, alloc: Global) -> io::Result<Scratch> {
@@ -28,13 +77,26 @@ impl Scratch {
         let id = process::id(rt.process());
         for number in 0..TRIES {
             let path = format!(in alloc; "{}/siuwbren-{id}-{number}", base.display())?;
-            match make_private(rt, path.as_str()) {
-                Ok(()) => return Ok(Scratch { rt, path }),
+            match Scratch::at(rt, alloc, path) {
                 Err(error) if error.kind() == ErrorKind::AlreadyExists => {}
-                Err(error) => return Err(error),
+                made => return made,
             }
         }
         Err(io::Error::from(ErrorKind::AlreadyExists))
+    }
+
+    /// Makes the folder at a path. Where no shell does it, it tells why.
+    fn at(rt: HostRuntime, alloc: Global, path: String) -> io::Result<Scratch> {
+        if let Ok(Some(keeper)) = Keeper::of(rt, alloc, path.as_str()) {
+            let keeper = Some(keeper);
+            return Ok(Scratch { rt, keeper, path });
+        }
+        make_private(rt, path.as_str())?;
+        Ok(Scratch {
+            rt,
+            keeper: None,
+            path,
+        })
     }
 
     /// The path of what has this name in the folder.
@@ -45,7 +107,12 @@ impl Scratch {
 
 impl Drop for Scratch {
     fn drop(self) {
-        let Scratch { rt, path } = self;
-        let _ = remove_dir_all(&rt, path.as_str());
+        let Scratch { rt, keeper, path } = self;
+        match keeper {
+            Some(keeper) => keeper.end(),
+            None => {
+                let _ = remove_dir_all(&rt, path.as_str());
+            }
+        }
     }
 }
