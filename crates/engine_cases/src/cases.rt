@@ -4,6 +4,7 @@
 //!
 //! - `words`: the words after the two folders, `checkout` if there are none;
 //! - `entry`: the letters of its kind and of its object, and its path;
+//! - `file`: the letter of its kind, its path, and what its object holds;
 //! - `given`: the same letters, and the bytes of the entry from its flags on;
 //! - `version`: that of the index. Without it, it is 3 if the kind of an entry asks for it, and else 2;
 //! - `plain`: so many plain files of the object `HI`, `gitlinks`: so many gitlinks, and `more`: the letter of an object,
@@ -29,10 +30,12 @@
 //!   actors are held.
 use crate::gate::Watch;
 use crate::index::{GITLINK, PLAIN, kind_of, push_entry, push_head, whole};
-use crate::objects::{HI, NO_ENTRIES, ONE_ENTRY, name_of};
+use crate::objects::{HI, NO_ENTRIES, ONE_ENTRY, name_of, named_by};
+use crate::work::asks;
 use byte_path::{Bytes, Items};
 use case_kit::{Cell, number_of, parted, push_all, unknown};
 use edge_kit::{DriverScript, LeafCall, Point, RepoFail, SessionScript};
+use object_dir::{blob_name, spell_blob};
 use one_shot::OnceScript;
 use std::alloc::{AllocError, Global};
 use std::string::String;
@@ -51,6 +54,8 @@ pub struct Case {
     pub has_index: bool,
     pub object: [u8; 20],
     pub stored: Vec<u8>,
+    /// The names of the other objects, and what is stored.
+    pub objects: Vec<([u8; 20], Vec<u8>)>,
     pub config: Option<Vec<u8>>,
     pub info: Option<Vec<u8>>,
     pub base: Option<Vec<u8>>,
@@ -105,6 +110,7 @@ fn no_case(alloc: Global) -> Result<Case, Fail> {
         has_index: true,
         object: HI,
         stored: Vec::from_slice(alloc, b"blob 3\0hi\n")?,
+        objects: Vec::new(alloc),
         config: None,
         info: None,
         base: None,
@@ -124,28 +130,41 @@ fn no_case(alloc: Global) -> Result<Case, Fail> {
     })
 }
 
-fn add_entry(case: &mut Case, value: &[u8]) -> Result<(), Fail> {
-    let [kind, object, b' ', path @ ..] = value else {
-        return Err(unknown(value));
-    };
-    let kind = kind_of(*kind)?;
+/// Adds an entry of this kind with the object of this name.
+fn add_named(case: &mut Case, kind: u8, name: &[u8; 20], path: &[u8]) -> Result<(), Fail> {
+    let kind = kind_of(kind)?;
     if kind.more != 0 {
         case.version = 3;
     }
-    push_entry(&mut case.entries, kind, &name_of(&[*object])?, path)?;
+    push_entry(&mut case.entries, kind, name, path)?;
     case.count = case.count.wrapping_add(1);
     Ok(())
 }
 
-fn add_given(case: &mut Case, value: &[u8]) -> Result<(), Fail> {
-    let [kind, object, b' ', bytes @ ..] = value else {
-        return Err(unknown(value));
+fn add_entry(case: &mut Case, letters: &[u8], path: &[u8]) -> Result<(), Fail> {
+    let [kind, object] = letters else {
+        return Err(unknown(letters));
     };
-    push_head(
-        &mut case.entries,
-        kind_of(*kind)?.mode,
-        &name_of(&[*object])?,
-    )?;
+    add_named(case, *kind, &name_of(*object)?, path)
+}
+
+/// Adds an entry, and its object.
+fn add_file(alloc: Global, case: &mut Case, front: &[u8], content: &[u8]) -> Result<(), Fail> {
+    let Some((kind, path)) = front.split_first() else {
+        return Err(unknown(front));
+    };
+    let name = blob_name(content);
+    add_named(case, *kind, &name, path)?;
+    case.objects.push((name, spell_blob(alloc, content)?))?;
+    Ok(())
+}
+
+fn add_given(case: &mut Case, letters: &[u8], bytes: &[u8]) -> Result<(), Fail> {
+    let [kind, object] = letters else {
+        return Err(unknown(letters));
+    };
+    let mode = kind_of(*kind)?.mode;
+    push_head(&mut case.entries, mode, &name_of(*object)?)?;
     case.entries.extend_from_slice(bytes)?;
     case.count = case.count.wrapping_add(1);
     Ok(())
@@ -189,7 +208,7 @@ fn read_fail_of(word: &[u8]) -> Result<RepoFail, Fail> {
     } else if word == b"base".as_slice() {
         Ok(RepoFail::Base)
     } else {
-        Ok(RepoFail::Object(name_of(word)?))
+        Ok(RepoFail::Object(named_by(word)?))
     }
 }
 
@@ -254,17 +273,19 @@ fn repeated(alloc: Global, value: &[u8]) -> Result<Vec<u8>, Fail> {
 
 /// Takes what a cell says of the index. Whether it is such a cell.
 fn set_index(alloc: Global, case: &mut Case, word: &[u8], value: &[u8]) -> Result<bool, Fail> {
-    let (letter, count) = parted(value);
+    let (front, rest) = parted(value);
     if word == b"entry".as_slice() {
-        add_entry(case, value)?;
+        add_entry(case, front, rest)?;
+    } else if word == b"file".as_slice() {
+        add_file(alloc, case, front, rest)?;
     } else if word == b"given".as_slice() {
-        add_given(case, value)?;
+        add_given(case, front, rest)?;
     } else if word == b"version".as_slice() {
         case.version = number_of(value)?;
     } else if word == b"plain".as_slice() {
         add_many(alloc, case, PLAIN, &HI, number_of(value)?)?;
     } else if word == b"more".as_slice() {
-        add_many(alloc, case, PLAIN, &name_of(letter)?, number_of(count)?)?;
+        add_many(alloc, case, PLAIN, &named_by(front)?, number_of(rest)?)?;
     } else if word == b"gitlinks".as_slice() {
         add_many(alloc, case, GITLINK, &[0; 20], number_of(value)?)?;
     } else if word == b"tail".as_slice() {
@@ -282,7 +303,7 @@ fn set_index(alloc: Global, case: &mut Case, word: &[u8], value: &[u8]) -> Resul
 /// Takes what a cell says of the rest of the repository. Whether it is such a cell.
 fn set_repo(alloc: Global, case: &mut Case, word: &[u8], value: &[u8]) -> Result<bool, Fail> {
     if word == b"object".as_slice() {
-        case.object = name_of(value)?;
+        case.object = named_by(value)?;
     } else if word == b"bytes".as_slice() {
         case.stored = Vec::from_slice(alloc, value)?;
     } else if word == b"nuls".as_slice() {
@@ -311,9 +332,9 @@ fn set_repo(alloc: Global, case: &mut Case, word: &[u8], value: &[u8]) -> Result
 fn set_memory(case: &mut Case, value: &[u8]) -> Result<(), Fail> {
     let (word, letter) = parted(value);
     if word == b"make".as_slice() {
-        case.unmade = Some(name_of(letter)?);
+        case.unmade = Some(named_by(letter)?);
     } else if word == b"read".as_slice() {
-        case.unread = Some(name_of(letter)?);
+        case.unread = Some(named_by(letter)?);
     } else {
         return Err(unknown(word));
     }
@@ -425,7 +446,7 @@ fn set_rest(alloc: Global, case: &mut Case, word: &[u8], value: &[u8]) -> Result
 }
 
 /// Takes what a cell says of a case.
-pub fn set(alloc: Global, case: &mut Case, cell: &Cell) -> Result<(), Fail> {
+fn set(alloc: Global, case: &mut Case, cell: &Cell) -> Result<(), Fail> {
     let word = cell.key.as_slice();
     let value = cell.value.as_slice();
     if set_index(alloc, case, word, value)?
@@ -438,10 +459,29 @@ pub fn set(alloc: Global, case: &mut Case, cell: &Cell) -> Result<(), Fail> {
 }
 
 /// The case of these cells.
-pub fn case_of(alloc: Global, cells: &[Cell]) -> Result<Case, Fail> {
+fn case_of(alloc: Global, cells: &[Cell]) -> Result<Case, Fail> {
     let mut case = no_case(alloc)?;
     for cell in cells {
         set(alloc, &mut case, cell)?;
     }
     Ok(case)
+}
+
+/// The case of those of the cells that ask for no lines, with these words, if there are any.
+pub fn case_with(alloc: Global, cells: &[Cell], words: &[u8]) -> Result<Case, Fail> {
+    let mut case = no_case(alloc)?;
+    for cell in cells {
+        if !asks(&cell.key) {
+            set(alloc, &mut case, cell)?;
+        }
+    }
+    if !words.is_empty() {
+        case.words = engine_words(alloc, words)?;
+    }
+    Ok(case)
+}
+
+/// The single runs of these cells.
+pub fn singles_of(alloc: Global, cells: &[Cell]) -> Result<Vec<OnceScript>, Fail> {
+    Ok(case_of(alloc, cells)?.singles)
 }

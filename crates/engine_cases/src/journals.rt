@@ -1,10 +1,10 @@
 //! Journals: what the words get, and the journal of a checkout.
-use crate::cases::{case_of, words_of};
+use crate::cases::words_of;
 use crate::gate::Watch;
-use crate::left::left_by;
+use crate::left::Left;
 use case_kit::{Cell, number_of, unknown};
 use edge_kit::{Blob, MemoryBlob, MemoryRepo, MemorySink, Repo, RepoFail};
-use journal_run::{checkout_journal, journal_run};
+use journal_run::{JournalFault, journal_run};
 use std::alloc::{AllocError, Global};
 use std::string::String;
 use std::sync::Wait;
@@ -18,6 +18,7 @@ struct Asked {
     file: Option<Vec<u8>>,
     is_failing: bool,
     sink_fails: Option<u32>,
+    is_audited: bool,
 }
 
 /// An audit of this file.
@@ -27,6 +28,7 @@ fn audit_of(alloc: Global, file: Option<Vec<u8>>) -> Result<Asked, AllocError> {
         file,
         is_failing: false,
         sink_fails: None,
+        is_audited: false,
     })
 }
 
@@ -68,6 +70,8 @@ fn take(alloc: Global, asked: &mut Asked, cell: &Cell) -> Result<(), Fail> {
         asked.is_failing = true;
     } else if word == b"sink".as_slice() {
         asked.sink_fails = Some(number_of(&cell.value)?);
+    } else if word == b"audited".as_slice() {
+        asked.is_audited = true;
     } else {
         return Err(unknown(word));
     }
@@ -75,7 +79,8 @@ fn take(alloc: Global, asked: &mut Asked, cell: &Cell) -> Result<(), Fail> {
 }
 
 /// The status and the answer to these cells: `words`, all of them; `file`, if there is one, and `failing`, if it can't be
-/// read; `sink`, the write that fails.
+/// read; `sink`, the write that fails. With `audited`, whether an audit finds that the answer is a journal that is legal
+/// and whole stands in its place.
 pub fn journal_of<H: Threads + Wait + Sync>(
     rt: &H,
     alloc: Global,
@@ -88,44 +93,37 @@ pub fn journal_of<H: Threads + Wait + Sync>(
     let (status, text) = answered(rt, alloc, &asked)?;
     let mut seen = String::new(alloc);
     writeln!(seen, "status {status}")?;
-    seen.push_str(str::from_utf8(&text)?)?;
+    if asked.is_audited {
+        let (judged, said) = answered(rt, alloc, &audit_of(alloc, Some(text))?)?;
+        let said = str::from_utf8(&said)?;
+        let is_legal = judged == 0 && said.starts_with("legal ") && said.ends_with(" 0\n");
+        writeln!(seen, "legal {is_legal}")?;
+    } else {
+        seen.push_str(str::from_utf8(&text)?)?;
+    }
     Ok(seen)
 }
 
-/// The status of these words, and whether an audit finds that the journal that they write is legal and whole.
-pub fn audited<H: Threads + Wait + Sync>(
+/// Appends the first line of a checkout's journal, whether the checkout came to its end, and whether an audit finds that
+/// all its events are legal and the journal whole; or why there is none.
+pub fn push_recorded<H: Threads + Wait + Sync>(
     rt: &H,
     alloc: Global,
-    cells: &[Cell],
-) -> Result<String, Fail> {
-    let mut asked = audit_of(alloc, None)?;
-    for cell in cells {
-        take(alloc, &mut asked, cell)?;
-    }
-    let (status, journal) = answered(rt, alloc, &asked)?;
-    let (judged, said) = answered(rt, alloc, &audit_of(alloc, Some(journal))?)?;
-    let said = str::from_utf8(&said)?;
-    let is_legal = judged == 0 && said.starts_with("legal ") && said.ends_with(" 0\n");
-    Ok(format!(in alloc; "status {status} legal {is_legal}\n")?)
-}
-
-/// The first line of a checkout's journal, whether the checkout came to its end, and whether an audit finds that all its
-/// events are legal and the journal whole; or why there is none.
-pub fn recorded<H: Threads + Wait + Sync>(
-    rt: &H,
-    alloc: Global,
-    cells: &[Cell],
-) -> Result<String, Fail> {
-    let mut left = left_by(rt, alloc, case_of(alloc, cells)?)?;
-    let journal = match checkout_journal(alloc, &left.words, &mut left.repo, &left.history) {
+    seen: &mut String,
+    left: &Left<'_>,
+    journal: Result<Vec<u8>, JournalFault>,
+) -> Result<(), Fail> {
+    let journal = match journal {
         Ok(journal) => journal,
-        Err(fault) => return Ok(format!(in alloc; "{fault:?}\n")?),
+        Err(fault) => {
+            writeln!(seen, "{fault:?}")?;
+            return Ok(());
+        }
     };
-    let mut seen = String::new(alloc);
     seen.push_str(str::from_utf8(&journal)?.lines().next().ok_or("no line")?)?;
     let (_, said) = answered(rt, alloc, &audit_of(alloc, Some(journal))?)?;
     let all = format!(in alloc; "legal {} 0\n", left.history.len())?;
     let is_legal = said.as_slice() == all.as_bytes();
     writeln!(seen, " over {} legal {is_legal}", left.status < 2)?;
-    Ok(seen)
+    Ok(())
 }

@@ -1,137 +1,117 @@
-//! What runs leave.
-use crate::cases::Case;
+//! What runs leave, and its text.
+use crate::cases::case_with;
 use crate::gate::Watch;
-use crate::index::index_bytes;
-use crate::objects::OBJECTS;
-use crate::out_of_memory::OutOfMemoryRepo;
-use byte_path::{Bytes, Items};
-use case_kit::unknown;
+use crate::journals::push_recorded;
+use crate::talks::push_talks;
+use crate::work::{push_asked, push_counted, push_work};
+use crate::world::{play, world_of};
+use case_kit::Cell;
 use checkout_core::Event;
-use checkout_engine::run;
-use edge_kit::{DriverScript, MemoryRepo, MemorySink, MemorySpawner, MemoryTree, TreeFile};
-use one_shot::{MemoryOnceMaker, OnceSpawner};
-use rehearsal::{Rehearsed, rehearse};
-use std::alloc::{AllocError, Global};
+use edge_kit::{DriverSeen, TreeFile};
+use journal_run::checkout_journal;
+use std::alloc::Global;
 use std::string::String;
 use std::sync::Wait;
 use std::test::Fail;
 use std::thread::Threads;
-use std::vec::Vec;
-
-fn copied(alloc: Global, file: &Option<Vec<u8>>) -> Result<Option<Vec<u8>>, AllocError> {
-    match file {
-        Some(bytes) => Ok(Some(Vec::from_slice(alloc, bytes)?)),
-        None => Ok(None),
-    }
-}
-
-fn memory_repo_of(alloc: Global, case: &Case) -> Result<MemoryRepo, AllocError> {
-    let index = if case.has_index {
-        let entries = case.entries.as_slice();
-        Some(index_bytes(
-            alloc,
-            case.version,
-            case.count,
-            entries,
-            &case.tail,
-            &case.hash,
-        )?)
-    } else {
-        None
-    };
-    let mut objects = Vec::new(alloc);
-    objects.push((case.object, Vec::from_slice(alloc, &case.stored)?))?;
-    for (name, stored) in OBJECTS {
-        objects.push((name, Vec::from_slice(alloc, stored)?))?;
-    }
-    let config = copied(alloc, &case.config)?;
-    let info = copied(alloc, &case.info)?;
-    let mut fails = Vec::new(alloc);
-    for fail in case.read_fails.as_slice() {
-        fails.push(*fail)?;
-    }
-    let repo = MemoryRepo::new(alloc, index, config, info, objects, fails);
-    match &case.base {
-        Some(base) => Ok(repo.with_base(Vec::from_slice(alloc, base)?)),
-        None => Ok(repo),
-    }
-}
-
-/// The repository and the drivers of a rehearsal of so many paths.
-fn rehearsed(alloc: Global, paths: u32) -> Result<Rehearsed, Fail> {
-    if paths > 99_999 {
-        return Err(unknown(b"rehearsed"));
-    }
-    Ok(rehearse(alloc, 0, paths)?)
-}
-
-/// The repository and the drivers of a case.
-fn met_by(alloc: Global, case: &mut Case) -> Result<Rehearsed, Fail> {
-    if let Some(paths) = case.rehearsed {
-        return rehearsed(alloc, paths);
-    }
-    let repo = memory_repo_of(alloc, case)?;
-    let mut scripts = std::mem::replace(&mut case.scripts, Vec::new(alloc));
-    let starts = std::mem::replace(&mut case.starts, Vec::new(alloc));
-    scripts.push(DriverScript {
-        command: Bytes::copy_of(alloc, b"lfs")?,
-        sessions: Items::from_vec(starts),
-    })?;
-    let spawner = MemorySpawner::new(alloc, scripts);
-    Ok(Rehearsed { repo, spawner })
-}
 
 /// What a run leaves.
 #[derive(Drop)]
-pub struct Left {
+pub struct Left<'a> {
     pub status: u8,
-    pub output: Vec<u8>,
-    pub words: Vec<String>,
-    pub repo: OutOfMemoryRepo,
-    pub tree: MemoryTree,
-    pub spawner: OnceSpawner<MemorySpawner, MemoryOnceMaker>,
-    pub gate: Watch,
-    pub history: Vec<Event>,
+    pub output: &'a [u8],
+    pub files: &'a [TreeFile],
+    /// How many blobs were given back.
+    pub blobs: u32,
+    /// The drivers that were given back.
+    pub drivers: &'a [DriverSeen],
+    pub gate: &'a Watch,
+    pub history: &'a [Event],
+    /// How many entries the index has.
+    pub paths: u32,
 }
 
-/// What the run of a case leaves. It begins with a history that isn't empty.
-pub fn left_by<H: Threads + Wait + Sync>(
+/// What of a run is shown.
+#[derive(Clone, Copy)]
+pub enum View {
+    /// The report, the status and the files.
+    Run,
+    /// The same, and the talk with a driver.
+    Talk,
+    /// The same of many paths, in few lines.
+    Work,
+    /// How many files there are, and the status.
+    Counted,
+    /// The journal.
+    Journal,
+}
+
+/// The view of a kind of blocks.
+pub fn view_of(kind: &[u8]) -> Option<View> {
+    if kind == b"run".as_slice() {
+        Some(View::Run)
+    } else if kind == b"work".as_slice() {
+        Some(View::Work)
+    } else if kind == b"counted".as_slice() {
+        Some(View::Counted)
+    } else if kind == b"recorded".as_slice() {
+        Some(View::Journal)
+    } else {
+        None
+    }
+}
+
+/// What comes of these cells, with these words, if there are any.
+pub fn ran<H: Threads + Wait + Sync>(
     rt: &H,
     alloc: Global,
-    mut case: Case,
-) -> Result<Left, Fail> {
-    let met = met_by(alloc, &mut case)?;
-    let mut repo = OutOfMemoryRepo {
-        repo: met.repo,
-        unmade: case.unmade,
-        unread: case.unread,
-    };
-    let maker = MemoryOnceMaker::new(alloc, case.singles);
-    let mut spawner = OnceSpawner::new(alloc, met.spawner, maker, true);
-    let mut out = MemorySink::new(alloc, case.sink_fails);
-    let mut tree = MemoryTree::new(alloc, case.empty, case.leaf_fails, case.check_fails);
-    let mut history = Vec::from_slice(alloc, &[Event::Claim { path: 7, actor: 99 }])?;
-    let status = run(
-        rt,
-        alloc,
-        &case.words,
-        &mut repo,
-        &mut tree,
-        &mut spawner,
-        &case.gate,
-        &mut out,
-        &mut history,
-    );
-    Ok(Left {
+    view: View,
+    cells: &[Cell],
+    words: &[u8],
+) -> Result<String, Fail> {
+    let mut case = case_with(alloc, cells, words)?;
+    let mut world = world_of(alloc, &mut case)?;
+    let status = play(rt, alloc, &case, &mut world);
+    let left = Left {
         status,
-        output: Vec::from_slice(alloc, out.bytes())?,
-        words: case.words,
-        repo,
-        tree,
-        spawner,
-        gate: case.gate,
-        history,
-    })
+        output: world.out.bytes(),
+        files: world.tree.files(),
+        blobs: world.repo.blobs,
+        drivers: world.spawner.inner().drivers(),
+        gate: &case.gate,
+        history: &world.history,
+        paths: case.count,
+    };
+    let mut seen = String::new(alloc);
+    match view {
+        View::Run => push_run(&mut seen, &left)?,
+        View::Talk => push_talks(&mut seen, &left)?,
+        View::Work => push_work(alloc, &mut seen, &left)?,
+        View::Counted => push_counted(&mut seen, &left)?,
+        View::Journal => {
+            let journal = checkout_journal(alloc, &case.words, &mut world.repo, left.history);
+            push_recorded(rt, alloc, &mut seen, &left, journal)?;
+        }
+    }
+    for cell in cells {
+        push_asked(alloc, &mut seen, &left, cell)?;
+    }
+    Ok(seen)
+}
+
+/// What comes of these cells by one worker, and by more if another text comes of them.
+pub fn talked<H: Threads + Wait + Sync>(
+    rt: &H,
+    alloc: Global,
+    cells: &[Cell],
+) -> Result<String, Fail> {
+    let mut seen = ran(rt, alloc, View::Talk, cells, b"checkout --workers=1")?;
+    let two = ran(rt, alloc, View::Talk, cells, b"checkout --workers=2")?;
+    let many = ran(rt, alloc, View::Talk, cells, b"checkout --workers=16")?;
+    if two.as_str() != seen.as_str() || many.as_str() != seen.as_str() {
+        write!(seen, "but by 2 {two}and by 16 {many}")?;
+    }
+    Ok(seen)
 }
 
 /// Appends a content, in hex if it isn't text.
@@ -147,19 +127,14 @@ pub fn push_content(seen: &mut String, content: &[u8]) -> Result<(), Fail> {
     Ok(())
 }
 
-fn push_files(seen: &mut String, files: &[TreeFile]) -> Result<(), Fail> {
-    for file in files {
+/// Appends the output, the status, and a line for each file.
+pub fn push_run(seen: &mut String, left: &Left<'_>) -> Result<(), Fail> {
+    seen.push_str(str::from_utf8(left.output)?)?;
+    writeln!(seen, "status {}", left.status)?;
+    for file in left.files {
         seen.push_str(str::from_utf8(file.path.as_slice())?)?;
         seen.push_str(": ")?;
         push_content(seen, file.bytes.as_slice())?;
     }
     Ok(())
-}
-
-/// The output, the status, and a line for each file.
-pub fn text_of(alloc: Global, left: &Left) -> Result<String, Fail> {
-    let mut seen = String::from_str(alloc, str::from_utf8(&left.output)?)?;
-    writeln!(seen, "status {}", left.status)?;
-    push_files(&mut seen, left.tree.files())?;
-    Ok(seen)
 }

@@ -76,21 +76,29 @@ pub const OBJECTS: [([u8; 20], &[u8]); 9] = [
 ];
 
 /// The name of the object with this letter.
-pub fn name_of(letters: &[u8]) -> Result<[u8; 20], Fail> {
-    Ok(match letters {
-        [b'h'] => HI,
-        [b'b'] => BIN,
-        [b'm'] => MIXED,
-        [b'i'] => IDENT,
-        [b'w'] => WIDE,
-        [b'e'] => EMPTY,
-        [b'o'] => ODD,
-        [b'a'] => ATTRIBUTES,
-        [b'n'] => NULS,
-        [b'4'] => LETTERS,
-        [b'p'] => POINTER,
-        [b'l'] => LARGE,
-        [b'9'] => [9; 20],
-        _ => return Err(unknown(letters)),
+pub fn name_of(letter: u8) -> Result<[u8; 20], Fail> {
+    Ok(match letter {
+        b'h' => HI,
+        b'b' => BIN,
+        b'm' => MIXED,
+        b'i' => IDENT,
+        b'w' => WIDE,
+        b'e' => EMPTY,
+        b'o' => ODD,
+        b'a' => ATTRIBUTES,
+        b'n' => NULS,
+        b'4' => LETTERS,
+        b'p' => POINTER,
+        b'l' => LARGE,
+        b'9' => [9; 20],
+        _ => return Err(unknown(&[letter])),
     })
+}
+
+/// The name of the object of which a text is the letter.
+pub fn named_by(text: &[u8]) -> Result<[u8; 20], Fail> {
+    match text {
+        [letter] => name_of(*letter),
+        _ => Err(unknown(text)),
+    }
 }

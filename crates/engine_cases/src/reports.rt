@@ -1,19 +1,12 @@
-//! Reports, and contents that were converted.
-use attr_line::AttrState;
+//! Reports of paths.
 use byte_path::Bytes;
-use case_kit::{Block, Cell, push_all, unknown};
+use case_kit::{Cell, unknown};
 use checkout_core::{FailCause, FilterCause, ObjectKind, SkipCause, Verdict};
 use checkout_report::{ReportPath, is_failed, report_text};
-use convert_plan::{conversion_of, prepare};
 use edge_kit::Mark;
-use eol_convert::{AutoCrlf, EolSetting};
 use filter_words::BreakCause;
-use std::alloc::{AllocError, Global};
+use std::alloc::Global;
 use std::test::Fail;
-
-/// The name that `git hash-object` gives to `$Id$` and a line feed.
-const NAME: [u8; 20] =
-    *b"\x05\x5c\x87\x29\xcd\xcc\x37\x25\x00\xa0\x8d\xb6\x59\xc0\x45\xe1\x6c\x44\x09\xfb";
 
 fn mark_of(letter: &[u8]) -> Result<Mark, Fail> {
     match letter {
@@ -78,37 +71,4 @@ pub fn reported(alloc: Global, cells: &[Cell]) -> Result<Vec<u8>, Fail> {
     let mut text = report_text(alloc, &paths, &verdicts)?;
     text.extend_from_slice(&fails)?;
     Ok(text)
-}
-
-/// The state of an attribute: `+`, `-`, nothing, or `=` and a value.
-fn state_of(alloc: Global, text: &[u8]) -> Result<AttrState, Fail> {
-    match text {
-        [b'+'] => Ok(AttrState::Set),
-        [b'-'] => Ok(AttrState::Unset),
-        [] => Ok(AttrState::Unspecified),
-        [b'=', value @ ..] => Ok(AttrState::Value(Bytes::copy_of(alloc, value)?)),
-        _ => Err(unknown(text)),
-    }
-}
-
-/// What becomes of a content. The cells are the states of `text`, `crlf`, `eol`, `ident` and `working-tree-encoding`, and
-/// the content.
-pub fn prepared(alloc: Global, block: &Block) -> Result<Vec<u8>, Fail> {
-    let [text, crlf, eol, ident, encoding, content] = block.cells.as_slice() else {
-        return Err(unknown(&block.form));
-    };
-    let mut states = Vec::new(alloc);
-    states.push(state_of(alloc, &text.value)?)?;
-    states.push(state_of(alloc, &crlf.value)?)?;
-    states.push(state_of(alloc, &eol.value)?)?;
-    states.push(state_of(alloc, &ident.value)?)?;
-    states.push(state_of(alloc, &encoding.value)?)?;
-    let conversion = conversion_of(&states, AutoCrlf::False, EolSetting::Native)?;
-    let content = Vec::from_slice(alloc, &content.value)?;
-    let prepared = prepare(alloc, &conversion, &NAME, content)?;
-    let mut seen = Vec::from_slice(alloc, prepared.bytes.as_slice())?;
-    if prepared.unencoded {
-        seen.extend_from_slice(b" unencoded")?;
-    }
-    Ok(seen)
 }

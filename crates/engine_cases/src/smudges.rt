@@ -1,5 +1,5 @@
 //! Commands that run once for each content, in memory.
-use crate::cases::case_of;
+use crate::cases::singles_of;
 use case_kit::{Block, number_of, unknown};
 use edge_kit::{Failed, Link, MemorySpawner, Spawner, Starter};
 use one_shot::{MemoryOnceMaker, Once, OnceMaker, OnceSpawner, once_command};
@@ -20,9 +20,8 @@ pub fn run_of(alloc: Global, block: &Block) -> Result<Vec<u8>, Fail> {
     let [scripts @ .., command, input, limit] = block.cells.as_slice() else {
         return Err(unknown(&block.form));
     };
-    let case = case_of(alloc, scripts)?;
     let limit = number_of(&limit.value)?;
-    let mut once = MemoryOnceMaker::new(alloc, case.singles).once()?;
+    let mut once = MemoryOnceMaker::new(alloc, singles_of(alloc, scripts)?).once()?;
     let text = match once.run_once(&command.value, &input.value, u64::from(limit)) {
         Ok(end) => format!(in alloc; "{} {}", end.zero, str::from_utf8(end.output.as_slice())?)?,
         Err(fault) => format!(in alloc; "{fault:?}")?,
@@ -52,9 +51,8 @@ pub fn host_of(alloc: Global, block: &Block) -> Result<Vec<u8>, Fail> {
     let [scripts @ .., command, sent] = block.cells.as_slice() else {
         return Err(unknown(&block.form));
     };
-    let case = case_of(alloc, scripts)?;
     let inner = MemorySpawner::new(alloc, Vec::new(alloc));
-    let maker = MemoryOnceMaker::new(alloc, case.singles);
+    let maker = MemoryOnceMaker::new(alloc, singles_of(alloc, scripts)?);
     let mut spawner = OnceSpawner::new(alloc, inner, maker, true);
     let mut starter = spawner.starter(&command.value)?;
     let Ok(mut link) = starter.start() else {

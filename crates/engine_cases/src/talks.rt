@@ -1,15 +1,10 @@
 //! Checkouts with one filter driver in memory: what becomes of the paths, the notes of the talk, how each path changed
 //! hands, and what each start was sent. All that is the text of a case, the same whatever the number of workers.
-use crate::cases::{case_of, engine_words};
-use crate::left::{left_by, push_content, text_of};
-use case_kit::Cell;
+use crate::left::{Left, push_content, push_run};
 use checkout_core::Event;
 use edge_kit::{DriverSeen, SessionSeen, StartOutcome};
-use std::alloc::Global;
 use std::string::String;
-use std::sync::Wait;
 use std::test::Fail;
-use std::thread::Threads;
 
 /// Adds what the driver's talk has, if the event is a note of it.
 fn push_note(seen: &mut String, event: Event) -> Result<(), Fail> {
@@ -66,41 +61,18 @@ fn push_driver(seen: &mut String, driver: &DriverSeen) -> Result<(), Fail> {
     Ok(())
 }
 
-/// What comes of these cells with these words.
-fn seen_with<H: Threads + Wait + Sync>(
-    rt: &H,
-    alloc: Global,
-    cells: &[Cell],
-    words: &[u8],
-) -> Result<String, Fail> {
-    let mut case = case_of(alloc, cells)?;
-    case.words = engine_words(alloc, words)?;
-    let paths = case.count;
-    let left = left_by(rt, alloc, case)?;
-    let mut seen = text_of(alloc, &left)?;
-    for event in left.history.as_slice() {
-        push_note(&mut seen, *event)?;
+/// Appends the output, the status and the files, the notes of the talk, how each path changed hands, and what each start
+/// was sent.
+pub fn push_talks(seen: &mut String, left: &Left<'_>) -> Result<(), Fail> {
+    push_run(seen, left)?;
+    for event in left.history {
+        push_note(seen, *event)?;
     }
-    for path in 0..paths {
-        push_steps(&mut seen, &left.history, path)?;
+    for path in 0..left.paths {
+        push_steps(seen, left.history, path)?;
     }
-    for driver in left.spawner.inner().drivers() {
-        push_driver(&mut seen, driver)?;
+    for driver in left.drivers {
+        push_driver(seen, driver)?;
     }
-    Ok(seen)
-}
-
-/// What comes of these cells, by one worker, and by more if another text comes of them.
-pub fn talked<H: Threads + Wait + Sync>(
-    rt: &H,
-    alloc: Global,
-    cells: &[Cell],
-) -> Result<String, Fail> {
-    let mut seen = seen_with(rt, alloc, cells, b"checkout --workers=1")?;
-    let two = seen_with(rt, alloc, cells, b"checkout --workers=2")?;
-    let many = seen_with(rt, alloc, cells, b"checkout --workers=16")?;
-    if two.as_str() != seen.as_str() || many.as_str() != seen.as_str() {
-        write!(seen, "but by 2 {two}and by 16 {many}")?;
-    }
-    Ok(seen)
+    Ok(())
 }

@@ -4,23 +4,20 @@
 //! closed. Lines that differ in their last number alone, which grows by one, are one line. These cells, beside those of
 //! a case, ask for more lines, in their order:
 //!
-//! - `silent`: the text begins with the status, and has how many files there are;
 //! - `below`: how often the actors below this number claimed and closed a path, and how much else happened;
 //! - `closer`: the actor that closed this path, and `hands`: how it changed hands;
 //! - `steps`: which paths are claimed (`+`) and closed (`-`), in order;
-//! - `talk`: the notes of this driver's talk of these paths;
-//! - `met`: whether the two actors met.
-use crate::cases::{case_of, set};
-use crate::left::{Left, left_by};
+//! - `notes`: the notes of this driver's talk of these paths;
+//! - `met`: whether the two actors met;
+//! - `back`: how many blobs and drivers were given back.
+use crate::left::Left;
 use crate::talks::push_steps;
 use case_kit::{Cell, number_of, parted, push_all};
 use checkout_core::Event;
-use edge_kit::TreeFile;
+use edge_kit::{Mark, TreeFile};
 use std::alloc::{AllocError, Global};
 use std::string::String;
-use std::sync::Wait;
 use std::test::Fail;
-use std::thread::Threads;
 
 /// What stands before the last five bytes, and the number that these are.
 fn numbered(line: &[u8]) -> Option<(&[u8], u32)> {
@@ -81,25 +78,56 @@ fn file_line(alloc: Global, file: &TreeFile) -> Result<Vec<u8>, AllocError> {
         }
     }
     push_all(&mut line, &[b" ", file.path.as_slice()])?;
+    if file.mark != Mark::Plain {
+        line.extend_from_slice(b" marked")?;
+    }
     Ok(line)
 }
 
-/// The report and the files.
-fn report_of(alloc: Global, left: &Left) -> Result<Vec<u8>, Fail> {
-    let mut text = Vec::new(alloc);
+/// The lines of a text that ends in a line feed.
+fn lines_of(alloc: Global, text: &[u8]) -> Result<Vec<Vec<u8>>, AllocError> {
     let mut lines = Vec::new(alloc);
-    for line in left.output.split(|byte| *byte == b'\n') {
+    for line in text.split(|byte| *byte == b'\n') {
         lines.push(Vec::from_slice(alloc, line)?)?;
     }
     // what stands behind the last line feed
     let _ = lines.pop();
-    push_folded(&mut text, &lines)?;
-    let mut files = Vec::new(alloc);
-    for file in left.tree.files() {
-        files.push(file_line(alloc, file)?)?;
+    Ok(lines)
+}
+
+/// A line for each file.
+fn file_lines(alloc: Global, files: &[TreeFile]) -> Result<Vec<Vec<u8>>, AllocError> {
+    let mut lines = Vec::new(alloc);
+    for file in files {
+        lines.push(file_line(alloc, file)?)?;
     }
-    push_folded(&mut text, &files)?;
-    Ok(text)
+    Ok(lines)
+}
+
+/// Appends the status, and how many paths the gate saw closed.
+fn push_end(seen: &mut String, left: &Left<'_>) -> Result<(), Fail> {
+    writeln!(
+        seen,
+        "status {} closed {}",
+        left.status,
+        left.gate.closings()
+    )?;
+    Ok(())
+}
+
+/// Appends the report, the files, the status, and how many paths the gate saw closed.
+pub fn push_work(alloc: Global, seen: &mut String, left: &Left<'_>) -> Result<(), Fail> {
+    let mut text = Vec::new(alloc);
+    push_folded(&mut text, &lines_of(alloc, left.output)?)?;
+    push_folded(&mut text, &file_lines(alloc, left.files)?)?;
+    seen.push_str(str::from_utf8(&text)?)?;
+    push_end(seen, left)
+}
+
+/// Appends how many files there are, the status, and how many paths the gate saw closed.
+pub fn push_counted(seen: &mut String, left: &Left<'_>) -> Result<(), Fail> {
+    writeln!(seen, "files {}", left.files.len())?;
+    push_end(seen, left)
 }
 
 /// How often the actors below this number claimed and closed a path, and how much else happened.
@@ -161,7 +189,12 @@ fn is_of_talk(event: Event, of: u32, paths: &[u32]) -> bool {
 }
 
 /// Adds the notes of a driver's talk, a line for each. The text has its number and those of its paths.
-fn push_talk(alloc: Global, seen: &mut String, history: &[Event], text: &[u8]) -> Result<(), Fail> {
+fn push_notes(
+    alloc: Global,
+    seen: &mut String,
+    history: &[Event],
+    text: &[u8],
+) -> Result<(), Fail> {
     let (driver, rest) = parted(text);
     let driver = number_of(driver)?;
     let mut paths = Vec::new(alloc);
@@ -177,73 +210,44 @@ fn push_talk(alloc: Global, seen: &mut String, history: &[Event], text: &[u8]) -
 }
 
 /// Whether a cell asks for more lines.
-fn asks(word: &[u8]) -> bool {
+pub fn asks(word: &[u8]) -> bool {
     word == b"below".as_slice()
         || word == b"closer".as_slice()
         || word == b"hands".as_slice()
         || word == b"steps".as_slice()
-        || word == b"talk".as_slice()
+        || word == b"notes".as_slice()
         || word == b"met".as_slice()
-        || word == b"silent".as_slice()
+        || word == b"back".as_slice()
 }
 
 /// Adds the lines that a cell asks for.
-fn push_asked(
+pub fn push_asked(
     alloc: Global,
     seen: &mut String,
-    left: &Left,
-    word: &[u8],
-    value: &[u8],
+    left: &Left<'_>,
+    cell: &Cell,
 ) -> Result<(), Fail> {
-    let history = left.history.as_slice();
+    let word = cell.key.as_slice();
+    let value = cell.value.as_slice();
     if word == b"below".as_slice() {
-        push_counts(seen, history, number_of(value)?)?;
+        push_counts(seen, left.history, number_of(value)?)?;
     } else if word == b"closer".as_slice() {
-        push_closer(seen, history, number_of(value)?)?;
+        push_closer(seen, left.history, number_of(value)?)?;
     } else if word == b"hands".as_slice() {
-        push_steps(seen, history, number_of(value)?)?;
+        push_steps(seen, left.history, number_of(value)?)?;
     } else if word == b"steps".as_slice() {
-        push_all_steps(seen, history)?;
-    } else if word == b"talk".as_slice() {
-        push_talk(alloc, seen, history, value)?;
+        push_all_steps(seen, left.history)?;
+    } else if word == b"notes".as_slice() {
+        push_notes(alloc, seen, left.history, value)?;
     } else if word == b"met".as_slice() {
         writeln!(seen, "met {}", left.gate.is_met())?;
+    } else if word == b"back".as_slice() {
+        writeln!(
+            seen,
+            "back {} blobs {} drivers",
+            left.blobs,
+            left.drivers.len()
+        )?;
     }
     Ok(())
-}
-
-/// What comes of these cells.
-pub fn worked<H: Threads + Wait + Sync>(
-    rt: &H,
-    alloc: Global,
-    cells: &[Cell],
-) -> Result<String, Fail> {
-    let mut case = case_of(alloc, &[])?;
-    let mut is_silent = false;
-    for cell in cells {
-        if cell.key.as_slice() == b"silent".as_slice() {
-            is_silent = true;
-        }
-        if !asks(&cell.key) {
-            set(alloc, &mut case, cell)?;
-        }
-    }
-    let left = left_by(rt, alloc, case)?;
-    let mut seen = String::new(alloc);
-    if is_silent {
-        writeln!(seen, "files {}", left.tree.files().len())?;
-    } else {
-        let report = report_of(alloc, &left)?;
-        seen.push_str(str::from_utf8(&report)?)?;
-    }
-    writeln!(
-        seen,
-        "status {} closed {}",
-        left.status,
-        left.gate.closings()
-    )?;
-    for cell in cells {
-        push_asked(alloc, &mut seen, &left, &cell.key, &cell.value)?;
-    }
-    Ok(seen)
 }
