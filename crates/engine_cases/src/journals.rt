@@ -1,10 +1,10 @@
 //! Journals: what the words get, and the journal of a checkout.
-use crate::cases::words_of;
+use crate::cases::{case_of, words_of};
 use crate::gate::Watch;
-use crate::left::Left;
+use crate::world::{play, world_of};
 use case_kit::{Cell, number_of, unknown};
 use edge_kit::{Blob, MemoryBlob, MemoryRepo, MemorySink, Repo, RepoFail};
-use journal_run::{JournalFault, journal_run};
+use journal_run::{checkout_journal, journal_run};
 use std::alloc::{AllocError, Global};
 use std::string::String;
 use std::sync::Wait;
@@ -104,26 +104,36 @@ pub fn journal_of<H: Threads + Wait + Sync>(
     Ok(seen)
 }
 
-/// Appends the first line of a checkout's journal, whether the checkout came to its end, and whether an audit finds that
-/// all its events are legal and the journal whole; or why there is none.
-pub fn push_recorded<H: Threads + Wait + Sync>(
+/// The first line of a journal of so many events, whether its checkout came to its end, and whether an audit finds that
+/// all the events are legal and the journal whole.
+fn judged<H: Threads + Wait + Sync>(
     rt: &H,
     alloc: Global,
-    seen: &mut String,
-    left: &Left<'_>,
-    journal: Result<Vec<u8>, JournalFault>,
-) -> Result<(), Fail> {
-    let journal = match journal {
-        Ok(journal) => journal,
-        Err(fault) => {
-            writeln!(seen, "{fault:?}")?;
-            return Ok(());
-        }
-    };
-    seen.push_str(str::from_utf8(&journal)?.lines().next().ok_or("no line")?)?;
+    status: u8,
+    events: usize,
+    journal: Vec<u8>,
+) -> Result<String, Fail> {
+    let head = str::from_utf8(&journal)?.lines().next().ok_or("no line")?;
+    let mut seen = String::from_str(alloc, head)?;
     let (_, said) = answered(rt, alloc, &audit_of(alloc, Some(journal))?)?;
-    let all = format!(in alloc; "legal {} 0\n", left.history.len())?;
+    let all = format!(in alloc; "legal {events} 0\n")?;
     let is_legal = said.as_slice() == all.as_bytes();
-    writeln!(seen, " over {} legal {is_legal}", left.status < 2)?;
-    Ok(())
+    writeln!(seen, " over {} legal {is_legal}", status < 2)?;
+    Ok(seen)
+}
+
+/// What is said of the journal of these cells' checkout, or why there is none.
+pub fn recorded<H: Threads + Wait + Sync>(
+    rt: &H,
+    alloc: Global,
+    cells: &[Cell],
+) -> Result<String, Fail> {
+    let mut case = case_of(alloc, cells, b"")?;
+    let mut world = world_of(alloc, &mut case)?;
+    let status = play(rt, alloc, &case, &mut world);
+    let events = world.history.len();
+    match checkout_journal(alloc, &case.words, &mut world.repo, &world.history) {
+        Ok(journal) => judged(rt, alloc, status, events, journal),
+        Err(fault) => Ok(format!(in alloc; "{fault:?}\n")?),
+    }
 }

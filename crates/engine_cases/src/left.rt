@@ -1,14 +1,12 @@
 //! What runs leave, and its text.
-use crate::cases::case_with;
+use crate::cases::case_of;
 use crate::gate::Watch;
-use crate::journals::push_recorded;
 use crate::talks::push_talks;
 use crate::work::{push_asked, push_counted, push_work};
 use crate::world::{play, world_of};
 use case_kit::Cell;
 use checkout_core::Event;
 use edge_kit::{DriverSeen, TreeFile};
-use journal_run::checkout_journal;
 use std::alloc::Global;
 use std::string::String;
 use std::sync::Wait;
@@ -42,8 +40,6 @@ pub enum View {
     Work,
     /// How many files there are, and the status.
     Counted,
-    /// The journal.
-    Journal,
 }
 
 /// The view of a kind of blocks.
@@ -54,11 +50,24 @@ pub fn view_of(kind: &[u8]) -> Option<View> {
         Some(View::Work)
     } else if kind == b"counted".as_slice() {
         Some(View::Counted)
-    } else if kind == b"recorded".as_slice() {
-        Some(View::Journal)
     } else {
         None
     }
+}
+
+/// The text of what a run left, and the lines that the cells ask for.
+fn said(alloc: Global, view: View, cells: &[Cell], left: &Left<'_>) -> Result<String, Fail> {
+    let mut seen = String::new(alloc);
+    match view {
+        View::Run => push_run(&mut seen, left)?,
+        View::Talk => push_talks(&mut seen, left)?,
+        View::Work => push_work(alloc, &mut seen, left)?,
+        View::Counted => push_counted(&mut seen, left)?,
+    }
+    for cell in cells {
+        push_asked(alloc, &mut seen, left, cell)?;
+    }
+    Ok(seen)
 }
 
 /// What comes of these cells, with these words, if there are any.
@@ -69,7 +78,7 @@ pub fn ran<H: Threads + Wait + Sync>(
     cells: &[Cell],
     words: &[u8],
 ) -> Result<String, Fail> {
-    let mut case = case_with(alloc, cells, words)?;
+    let mut case = case_of(alloc, cells, words)?;
     let mut world = world_of(alloc, &mut case)?;
     let status = play(rt, alloc, &case, &mut world);
     let left = Left {
@@ -80,23 +89,9 @@ pub fn ran<H: Threads + Wait + Sync>(
         drivers: world.spawner.inner().drivers(),
         gate: &case.gate,
         history: &world.history,
-        paths: case.count,
+        paths: case.index.count,
     };
-    let mut seen = String::new(alloc);
-    match view {
-        View::Run => push_run(&mut seen, &left)?,
-        View::Talk => push_talks(&mut seen, &left)?,
-        View::Work => push_work(alloc, &mut seen, &left)?,
-        View::Counted => push_counted(&mut seen, &left)?,
-        View::Journal => {
-            let journal = checkout_journal(alloc, &case.words, &mut world.repo, left.history);
-            push_recorded(rt, alloc, &mut seen, &left, journal)?;
-        }
-    }
-    for cell in cells {
-        push_asked(alloc, &mut seen, &left, cell)?;
-    }
-    Ok(seen)
+    said(alloc, view, cells, &left)
 }
 
 /// What comes of these cells by one worker, and by more if another text comes of them.

@@ -12,13 +12,15 @@ mod left;
 mod objects;
 mod out_of_memory;
 mod reports;
+mod scripts;
 mod smudges;
+mod stored;
 mod talks;
 mod work;
 mod world;
 
 use case_kit::{Block, named_blocks, parted, print_verdict, unknown};
-use journals::journal_of;
+use journals::{journal_of, recorded};
 use left::{ran, talked, view_of};
 use reports::reported;
 use smudges::{command_of, host_of, run_of};
@@ -42,6 +44,8 @@ fn text_of<H: Threads + Wait + Sync>(
         Ok(Some(talked(rt, alloc, cells)?))
     } else if kind == b"journal".as_slice() {
         Ok(Some(journal_of(rt, alloc, cells)?))
+    } else if kind == b"recorded".as_slice() {
+        Ok(Some(recorded(rt, alloc, cells)?))
     } else {
         Ok(None)
     }

@@ -1,5 +1,5 @@
 //! Commands that run once for each content, in memory.
-use crate::cases::singles_of;
+use crate::scripts::singles_of;
 use case_kit::{Block, number_of, unknown};
 use edge_kit::{Failed, Link, MemorySpawner, Spawner, Starter};
 use one_shot::{MemoryOnceMaker, Once, OnceMaker, OnceSpawner, once_command};
@@ -15,7 +15,7 @@ pub fn command_of(alloc: Global, block: &Block) -> Result<Vec<u8>, Fail> {
     Ok(Vec::from_slice(alloc, text.as_slice())?)
 }
 
-/// What a single run gives. The cells are those of the runs in memory, and at last the command, the input and the limit.
+/// What a single run gives. The cells are those of the single runs, and at last the command, the input and the limit.
 pub fn run_of(alloc: Global, block: &Block) -> Result<Vec<u8>, Fail> {
     let [scripts @ .., command, input, limit] = block.cells.as_slice() else {
         return Err(unknown(&block.form));
@@ -45,7 +45,7 @@ fn read_all<K: Link>(alloc: Global, link: &mut K) -> Result<Vec<u8>, AllocError>
     Ok(all)
 }
 
-/// What a host answers. The cells are those of the runs in memory, and at last the command and what it is sent. If it
+/// What a host answers. The cells are those of the single runs, and at last the command and what it is sent. If it
 /// doesn't start, the text has how many drivers were asked for below.
 pub fn host_of(alloc: Global, block: &Block) -> Result<Vec<u8>, Fail> {
     let [scripts @ .., command, sent] = block.cells.as_slice() else {

@@ -12,6 +12,7 @@
 //! - `back`: how many blobs and drivers were given back.
 use crate::left::Left;
 use crate::talks::push_steps;
+use byte_path::read_decimal;
 use case_kit::{Cell, number_of, parted, push_all};
 use checkout_core::Event;
 use edge_kit::{Mark, TreeFile};
@@ -20,11 +21,10 @@ use std::string::String;
 use std::test::Fail;
 
 /// What stands before the last five bytes, and the number that these are.
-fn numbered(line: &[u8]) -> Option<(&[u8], u32)> {
+fn numbered(line: &[u8]) -> Option<(&[u8], u64)> {
     let at = line.len().checked_sub(5)?;
     let (head, digits) = line.split_at(at);
-    let number = str::from_utf8(digits).ok()?.parse::<u32>().ok()?;
-    Some((head, number))
+    Some((head, read_decimal(digits, 99_999)?))
 }
 
 /// Whether a line differs from the one before in its last number alone, which is the next one.
