@@ -12,5 +12,5 @@ mod spelling;
 mod text;
 
 pub use block::{Block, Cell, blocks_of};
-pub use report::{Cases, report_files};
+pub use report::{Cases, named_blocks, print_verdict, report_files};
 pub use text::{filled, noted, number_of, parted, push_all, shown, unknown};

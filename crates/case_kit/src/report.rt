@@ -16,19 +16,15 @@ fn wantless(block: &Block) -> Fail {
     Fail::new(format_args!("nothing is wanted of `{}`", block.name.escape_ascii()))
 }
 
-/// Appends `ok` and the block's name, or both texts where another than the wanted one came.
-fn push_verdict(
-    alloc: Global,
-    report: &mut Vec<u8>,
-    block: &Block,
-    came: &[u8],
-) -> Result<(), Fail> {
+/// `ok` and the block's name, or both texts where another than the wanted one came.
+fn verdict_on(alloc: Global, block: &Block, came: &[u8]) -> Result<Vec<u8>, Fail> {
     let Some(wanted) = &block.wanted else {
         return Err(wantless(block));
     };
     if came == wanted.as_slice() {
-        push_all(report, &[b"ok ", &block.name, b"\n"])?;
-        return Ok(());
+        let mut line = Vec::new(alloc);
+        push_all(&mut line, &[b"ok ", &block.name, b"\n"])?;
+        return Ok(line);
     }
     let text = format!(in alloc;
         "{}\n wanted {}\n came {}\n",
@@ -36,28 +32,33 @@ fn push_verdict(
         wanted.escape_ascii(),
         came.escape_ascii()
     )?;
-    report.extend_from_slice(text.as_bytes())?;
+    Ok(Vec::from_slice(alloc, text.as_bytes())?)
+}
+
+/// Prints the verdict on a block of which this came.
+pub fn print_verdict(rt: HostRuntime, block: &Block, came: &[u8]) -> Result<(), Fail> {
+    let line = verdict_on(rt.alloc(), block, came)?;
+    io::writer(&rt).write_all(&line)?;
     Ok(())
 }
 
-/// The verdicts of a file's blocks, a line for each that is right.
-fn report_of<C: Cases>(cases: &C, alloc: Global, file: &[u8]) -> Result<Vec<u8>, Fail> {
-    let mut report = Vec::new(alloc);
-    for block in blocks_of(alloc, file)?.as_slice() {
-        let came = cases.came_of(alloc, block)?;
-        push_verdict(alloc, &mut report, block, &came)?;
-    }
-    Ok(report)
-}
-
-/// Prints the verdicts of each file that an argument of the program names.
-pub fn report_files<C: Cases>(rt: HostRuntime, cases: &C) -> Result<(), Fail> {
+/// The blocks of each file that an argument of the program names.
+pub fn named_blocks(rt: HostRuntime) -> Result<Vec<Block>, Fail> {
+    let mut blocks = Vec::new(rt.alloc());
     let mut words = env::args(&rt)?;
     let _program = words.next();
     for word in words {
         let file = fs::read(&rt, word.as_str())?;
-        let report = report_of(cases, rt.alloc(), &file)?;
-        io::writer(&rt).write_all(&report)?;
+        blocks.append(&mut blocks_of(rt.alloc(), &file)?)?;
+    }
+    Ok(blocks)
+}
+
+/// Prints the verdicts on the blocks of each file that an argument of the program names.
+pub fn report_files<C: Cases>(rt: HostRuntime, cases: &C) -> Result<(), Fail> {
+    for block in named_blocks(rt)?.as_slice() {
+        let came = cases.came_of(rt.alloc(), block)?;
+        print_verdict(rt, block, &came)?;
     }
     Ok(())
 }

@@ -74,7 +74,9 @@ fn text_read(alloc: Global, form: &[u8], text: &[u8]) -> Result<Vec<u8>, Fail> {
     } else if form == b"unmarked text".as_slice() {
         Ok(Vec::from_slice(alloc, unmarked(text))?)
     } else if form == b"copied text".as_slice() {
-        Ok(texts::copied(alloc, text)?)
+        texts::copied(alloc, text)
+    } else if form == b"kept numbers".as_slice() {
+        texts::kept(alloc, text)
     } else {
         Err(unknown(form))
     }

@@ -1,6 +1,6 @@
 //! Paths, quoted texts and numbers.
 use byte_path::{ByteKind, Bytes, Items, check_path, from_first, len_to, read_decimal, unquote};
-use case_kit::{push_all, shown, unknown};
+use case_kit::{number_of, push_all, shown, unknown};
 use std::alloc::{AllocError, Global};
 use std::test::Fail;
 
@@ -54,23 +54,20 @@ pub fn cut(alloc: Global, text: &[u8]) -> Result<Vec<u8>, Fail> {
     beside(alloc, &len, from_first::<Blank>(text))
 }
 
-/// The text of a copy, of a text that is handed over, and of items.
-pub fn copied(alloc: Global, text: &[u8]) -> Result<Vec<u8>, AllocError> {
+/// The text of a copy, and of a text that is handed over.
+pub fn copied(alloc: Global, text: &[u8]) -> Result<Vec<u8>, Fail> {
     let copy = Bytes::copy_of(alloc, text)?;
     let whole = Bytes::from_vec(Vec::from_slice(alloc, text)?);
-    let items = Items::from_vec(Vec::from_slice(alloc, text)?);
-    let mut list = Vec::new(alloc);
-    push_all(
-        &mut list,
-        &[
-            copy.as_slice(),
-            b"|",
-            whole.as_slice(),
-            b"|",
-            items.as_slice(),
-            b"|",
-        ],
-    )?;
-    push_all(&mut list, &[&items.into_vec()])?;
-    Ok(list)
+    beside(alloc, copy.as_slice(), whole.as_slice())
+}
+
+/// The numbers of a text as items, and as a vector again.
+pub fn kept(alloc: Global, text: &[u8]) -> Result<Vec<u8>, Fail> {
+    let mut numbers = Vec::new(alloc);
+    for word in text.split(|byte| *byte == b' ') {
+        numbers.push(number_of(word)?)?;
+    }
+    let items = Items::from_vec(numbers);
+    let held = shown(alloc, items.as_slice())?;
+    beside(alloc, &held, &shown(alloc, items.into_vec().as_slice())?)
 }

@@ -1,0 +1,244 @@
+//! The index of a case, as git spells it (gitformat-index(5)).
+use crate::objects::{HI, NO_ENTRIES, ONE_ENTRY, name_of, named_by};
+use case_kit::{number_of, parted, unknown};
+use std::alloc::{AllocError, Global};
+use std::test::Fail;
+
+const PLAIN: u32 = 0o100644;
+
+const EXECUTABLE: u32 = 0o100755;
+
+const LINK: u32 = 0o120000;
+
+const GITLINK: u32 = 0o160000;
+
+const SPARSE: u16 = 0x4000;
+
+const INTENT: u16 = 0x2000;
+
+/// What the fixed part of an entry says beside its object.
+#[derive(Clone, Copy)]
+struct Kind {
+    mode: u32,
+    stage: u16,
+    /// The 16 more bits, which are there if one is set.
+    more: u16,
+}
+
+/// The kind of an entry of stage 0 with this mode.
+fn whole(mode: u32) -> Kind {
+    Kind {
+        mode,
+        stage: 0,
+        more: 0,
+    }
+}
+
+/// The kind of a plain entry with one of git's stage numbers: 0, or 1 to 3 for a side of a merge (git-ls-files(1)).
+fn staged(stage: u16) -> Kind {
+    Kind {
+        mode: PLAIN,
+        stage,
+        more: 0,
+    }
+}
+
+/// The kind of an entry of stage 0 with this mode and these bits.
+fn marked(mode: u32, more: u16) -> Kind {
+    Kind {
+        mode,
+        stage: 0,
+        more,
+    }
+}
+
+/// The kind of an entry, by a letter: `-` plain, `x` executable, `l` link, `g` gitlink, a digit a plain one of that
+/// stage, `y` an executable one of stage 1, and `6` one with a mode that isn't right. `s` is a sparse plain one, `i`
+/// one that is to be added, `b` both, `t` a sparse gitlink, and `u` a sparse one of stage 1.
+fn kind_of(letter: u8) -> Result<Kind, Fail> {
+    match letter {
+        b'-' => Ok(whole(PLAIN)),
+        b'x' => Ok(whole(EXECUTABLE)),
+        b'l' => Ok(whole(LINK)),
+        b'g' => Ok(whole(GITLINK)),
+        b'1' => Ok(staged(1)),
+        b'2' => Ok(staged(2)),
+        b'3' => Ok(staged(3)),
+        b'6' => Ok(whole(0o100600)),
+        b'y' => Ok(Kind {
+            mode: EXECUTABLE,
+            stage: 1,
+            more: 0,
+        }),
+        b's' => Ok(marked(PLAIN, SPARSE)),
+        b'i' => Ok(marked(PLAIN, INTENT)),
+        b'b' => Ok(marked(PLAIN, SPARSE | INTENT)),
+        b't' => Ok(marked(GITLINK, SPARSE)),
+        b'u' => Ok(Kind {
+            mode: PLAIN,
+            stage: 1,
+            more: SPARSE,
+        }),
+        _ => Err(unknown(&[letter])),
+    }
+}
+
+/// Appends the fixed part of an entry up to its flags.
+fn push_head(index: &mut Vec<u8>, mode: u32, name: &[u8; 20]) -> Result<(), AllocError> {
+    index.extend_from_slice(&[0; 24])?;
+    index.extend_from_slice(&mode.to_be_bytes())?;
+    index.extend_from_slice(&[0; 12])?;
+    index.extend_from_slice(name)?;
+    Ok(())
+}
+
+/// Appends an entry.
+fn push_entry(
+    index: &mut Vec<u8>,
+    kind: Kind,
+    name: &[u8; 20],
+    path: &[u8],
+) -> Result<(), AllocError> {
+    let len = path.len() % 0x1000;
+    let (extended, head) = if kind.more == 0 {
+        (0, 62)
+    } else {
+        (0x4000, 64)
+    };
+    let flags = extended + (kind.stage % 4) * 0x1000 + len as u16;
+    push_head(index, kind.mode, name)?;
+    index.extend_from_slice(&flags.to_be_bytes())?;
+    if kind.more != 0 {
+        index.extend_from_slice(&kind.more.to_be_bytes())?;
+    }
+    index.extend_from_slice(path)?;
+    let padding = 8 - (head + len) % 8;
+    index.extend_from_slice([0u8; 8].split_at(padding).0)?;
+    Ok(())
+}
+
+fn hash_of(word: &[u8]) -> Result<[u8; 20], Fail> {
+    if word == b"one".as_slice() {
+        Ok(ONE_ENTRY)
+    } else if word == b"none".as_slice() {
+        Ok(NO_ENTRIES)
+    } else if word == b"other".as_slice() {
+        Ok([1; 20])
+    } else {
+        Err(unknown(word))
+    }
+}
+
+/// The index of a case.
+#[derive(Drop)]
+pub struct IndexCase {
+    is_there: bool,
+    version: u32,
+    entries: Vec<u8>,
+    /// How many entries there are.
+    pub count: u32,
+    tail: Vec<u8>,
+    hash: [u8; 20],
+}
+
+impl IndexCase {
+    /// An index of no entries.
+    pub fn new(alloc: Global) -> IndexCase {
+        IndexCase {
+            is_there: true,
+            version: 2,
+            entries: Vec::new(alloc),
+            count: 0,
+            tail: Vec::new(alloc),
+            hash: [0; 20],
+        }
+    }
+
+    /// The bytes of the index, if there is one: its entries, and what follows them, extensions and the hash.
+    pub fn bytes(&self, alloc: Global) -> Result<Option<Vec<u8>>, AllocError> {
+        if !self.is_there {
+            return Ok(None);
+        }
+        let mut index = Vec::from_slice(alloc, b"DIRC")?;
+        index.extend_from_slice(&self.version.to_be_bytes())?;
+        index.extend_from_slice(&self.count.to_be_bytes())?;
+        index.extend_from_slice(&self.entries)?;
+        index.extend_from_slice(&self.tail)?;
+        index.extend_from_slice(&self.hash)?;
+        Ok(Some(index))
+    }
+
+    /// Adds an entry of this kind with the object of this name.
+    pub fn add(&mut self, kind: u8, name: &[u8; 20], path: &[u8]) -> Result<(), Fail> {
+        let kind = kind_of(kind)?;
+        if kind.more != 0 {
+            self.version = 3;
+        }
+        push_entry(&mut self.entries, kind, name, path)?;
+        self.count = self.count.wrapping_add(1);
+        Ok(())
+    }
+
+    /// Adds an entry of the kind and the object of these letters.
+    fn add_lettered(&mut self, letters: &[u8], path: &[u8]) -> Result<(), Fail> {
+        let [kind, object] = letters else {
+            return Err(unknown(letters));
+        };
+        self.add(*kind, &name_of(*object)?, path)
+    }
+
+    /// Adds an entry of the kind and the object of these letters, with these bytes from its flags on.
+    fn add_given(&mut self, letters: &[u8], bytes: &[u8]) -> Result<(), Fail> {
+        let [kind, object] = letters else {
+            return Err(unknown(letters));
+        };
+        let mode = kind_of(*kind)?.mode;
+        push_head(&mut self.entries, mode, &name_of(*object)?)?;
+        self.entries.extend_from_slice(bytes)?;
+        self.count = self.count.wrapping_add(1);
+        Ok(())
+    }
+
+    /// Adds so many entries with this mode and this object.
+    fn add_many(
+        &mut self,
+        alloc: Global,
+        mode: u32,
+        object: &[u8; 20],
+        count: u32,
+    ) -> Result<(), AllocError> {
+        for _ in 0..count {
+            let path = format!(in alloc; "p{}", 10_000u32.wrapping_add(self.count))?;
+            push_entry(&mut self.entries, whole(mode), object, path.as_bytes())?;
+            self.count = self.count.wrapping_add(1);
+        }
+        Ok(())
+    }
+
+    /// Takes what a cell says of the index. Whether it is such a cell.
+    pub fn set(&mut self, alloc: Global, word: &[u8], value: &[u8]) -> Result<bool, Fail> {
+        let (front, rest) = parted(value);
+        if word == b"entry".as_slice() {
+            self.add_lettered(front, rest)?;
+        } else if word == b"given".as_slice() {
+            self.add_given(front, rest)?;
+        } else if word == b"version".as_slice() {
+            self.version = number_of(value)?;
+        } else if word == b"plain".as_slice() {
+            self.add_many(alloc, PLAIN, &HI, number_of(value)?)?;
+        } else if word == b"more".as_slice() {
+            self.add_many(alloc, PLAIN, &named_by(front)?, number_of(rest)?)?;
+        } else if word == b"gitlinks".as_slice() {
+            self.add_many(alloc, GITLINK, &[0; 20], number_of(value)?)?;
+        } else if word == b"tail".as_slice() {
+            self.tail = Vec::from_slice(alloc, value)?;
+        } else if word == b"hash".as_slice() {
+            self.hash = hash_of(value)?;
+        } else if word == b"absent".as_slice() {
+            self.is_there = false;
+        } else {
+            return Ok(false);
+        }
+        Ok(true)
+    }
+}

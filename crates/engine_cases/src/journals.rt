@@ -1,0 +1,139 @@
+//! Journals: what the words get, and the journal of a checkout.
+use crate::cases::{case_of, words_of};
+use crate::gate::Watch;
+use crate::world::{play, world_of};
+use case_kit::{Cell, number_of, unknown};
+use edge_kit::{Blob, MemoryBlob, MemoryRepo, MemorySink, Repo, RepoFail};
+use journal_run::{checkout_journal, journal_run};
+use std::alloc::{AllocError, Global};
+use std::string::String;
+use std::sync::Wait;
+use std::test::Fail;
+use std::thread::Threads;
+
+/// What is asked: the words, the file, whether it can't be read, and the write of the answer that fails.
+#[derive(Drop)]
+struct Asked {
+    words: Vec<u8>,
+    file: Option<Vec<u8>>,
+    is_failing: bool,
+    sink_fails: Option<u32>,
+    is_audited: bool,
+}
+
+/// An audit of this file.
+fn audit_of(alloc: Global, file: Option<Vec<u8>>) -> Result<Asked, AllocError> {
+    Ok(Asked {
+        words: Vec::from_slice(alloc, b"R T audit")?,
+        file,
+        is_failing: false,
+        sink_fails: None,
+        is_audited: false,
+    })
+}
+
+/// The file in memory.
+fn blob_of(alloc: Global, asked: &Asked) -> Result<MemoryBlob, AllocError> {
+    let name = [0; 20];
+    let mut objects = Vec::new(alloc);
+    let mut fails = Vec::new(alloc);
+    if asked.is_failing {
+        fails.push(RepoFail::Object(name))?;
+    }
+    if let Some(file) = &asked.file {
+        objects.push((name, Vec::from_slice(alloc, file)?))?;
+    }
+    MemoryRepo::new(alloc, None, None, None, objects, fails).blob(&name)
+}
+
+/// The status and the answer.
+fn answered<H: Threads + Wait + Sync>(
+    rt: &H,
+    alloc: Global,
+    asked: &Asked,
+) -> Result<(u8, Vec<u8>), Fail> {
+    let words = words_of(alloc, &asked.words)?;
+    let mut blob = blob_of(alloc, asked)?;
+    let mut sink = MemorySink::new(alloc, asked.sink_fails);
+    let status = journal_run(rt, alloc, &words, &mut blob, &Watch::new(), &mut sink);
+    Ok((status, Vec::from_slice(alloc, sink.bytes())?))
+}
+
+/// Takes what a cell says of a question.
+fn take(alloc: Global, asked: &mut Asked, cell: &Cell) -> Result<(), Fail> {
+    let word = cell.key.as_slice();
+    if word == b"words".as_slice() {
+        asked.words = Vec::from_slice(alloc, &cell.value)?;
+    } else if word == b"file".as_slice() {
+        asked.file = Some(Vec::from_slice(alloc, &cell.value)?);
+    } else if word == b"failing".as_slice() {
+        asked.is_failing = true;
+    } else if word == b"sink".as_slice() {
+        asked.sink_fails = Some(number_of(&cell.value)?);
+    } else if word == b"audited".as_slice() {
+        asked.is_audited = true;
+    } else {
+        return Err(unknown(word));
+    }
+    Ok(())
+}
+
+/// The status and the answer to these cells: `words`, all of them; `file`, if there is one, and `failing`, if it can't be
+/// read; `sink`, the write that fails. With `audited`, whether an audit finds that the answer is a journal that is legal
+/// and whole stands in its place.
+pub fn journal_of<H: Threads + Wait + Sync>(
+    rt: &H,
+    alloc: Global,
+    cells: &[Cell],
+) -> Result<String, Fail> {
+    let mut asked = audit_of(alloc, None)?;
+    for cell in cells {
+        take(alloc, &mut asked, cell)?;
+    }
+    let (status, text) = answered(rt, alloc, &asked)?;
+    let mut seen = String::new(alloc);
+    writeln!(seen, "status {status}")?;
+    if asked.is_audited {
+        let (judged, said) = answered(rt, alloc, &audit_of(alloc, Some(text))?)?;
+        let said = str::from_utf8(&said)?;
+        let is_legal = judged == 0 && said.starts_with("legal ") && said.ends_with(" 0\n");
+        writeln!(seen, "legal {is_legal}")?;
+    } else {
+        seen.push_str(str::from_utf8(&text)?)?;
+    }
+    Ok(seen)
+}
+
+/// The first line of a journal of so many events, whether its checkout came to its end, and whether an audit finds that
+/// all the events are legal and the journal whole.
+fn judged<H: Threads + Wait + Sync>(
+    rt: &H,
+    alloc: Global,
+    status: u8,
+    events: usize,
+    journal: Vec<u8>,
+) -> Result<String, Fail> {
+    let head = str::from_utf8(&journal)?.lines().next().ok_or("no line")?;
+    let mut seen = String::from_str(alloc, head)?;
+    let (_, said) = answered(rt, alloc, &audit_of(alloc, Some(journal))?)?;
+    let all = format!(in alloc; "legal {events} 0\n")?;
+    let is_legal = said.as_slice() == all.as_bytes();
+    writeln!(seen, " over {} legal {is_legal}", status < 2)?;
+    Ok(seen)
+}
+
+/// What is said of the journal of these cells' checkout, or why there is none.
+pub fn recorded<H: Threads + Wait + Sync>(
+    rt: &H,
+    alloc: Global,
+    cells: &[Cell],
+) -> Result<String, Fail> {
+    let mut case = case_of(alloc, cells, b"")?;
+    let mut world = world_of(alloc, &mut case)?;
+    let status = play(rt, alloc, &case, &mut world);
+    let events = world.history.len();
+    match checkout_journal(alloc, &case.words, &mut world.repo, &world.history) {
+        Ok(journal) => judged(rt, alloc, status, events, journal),
+        Err(fault) => Ok(format!(in alloc; "{fault:?}\n")?),
+    }
+}
