@@ -1,7 +1,7 @@
 -- What becomes of the cost of the objects that are kept.
 use Rattle.std.proofs.Common.{◌≡◌, ℕ, zero, suc, ◌+◌, ◌-◌, ◌≤◌, Bool, List, [], ◌∷◌, take, Option, Some, None, unwrap_or, ap, subst, arith}
 use Rattle.std.specs.Option.{option_map, option_map_or}
-use Rattle.std.specs.List.{sum_by, slice_get}
+use Rattle.std.specs.List.{slice_get}
 use Rattle.std.specs.Map.{values_of, lookup, remove_entry, lookup_entry}
 use Rattle.std.proofs.lemmas.List.Sums.{sum_by-cons}
 use Rattle.std.proofs.lemmas.Map.Entries.{sum_by-remove_entry}

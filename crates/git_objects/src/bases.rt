@@ -1,5 +1,5 @@
 //! The objects that deltas were made of, kept for the next ones.
-ghost use Rattle.std.specs.Prelude.{◌≡◌, ◌≤◌, ◌+◌};
+ghost use Rattle.std.specs.Prelude.{◌≡◌, ◌≤◌};
 ghost use Rattle.git_objects.specs.Costs.{object_cost, whole_cost};
 
 use crate::shared_object::SharedObject;
@@ -67,19 +67,18 @@ impl Bases {
             return;
         }
         self.make_room(cost);
-        if self.cost > self.limit - cost {
-            return;
-        }
+        let whole = match self.cost.checked_add(cost) {
+            Some(whole) if whole <= self.limit => whole,
+            _ => return,
+        };
         match self.kept.put(spot, object) {
-            Ok(_) => self.cost += cost,
+            Ok(_) => self.cost = whole,
             Err(_) => {}
         }
     }
 
     /// Drops the objects that weren't used for longest until there is room for one of this cost.
-    fn make_room(&mut self, cost: u64)
-        ensures { self.new.limit ≡ self.old.limit }
-    {
+    fn make_room(&mut self, cost: u64) {
         for _ in 0..self.kept.len() {
             if self.cost.saturating_add(cost) <= self.limit {
                 return;
@@ -89,9 +88,7 @@ impl Bases {
     }
 
     /// Drops the object that wasn't used for longest.
-    fn drop_oldest(&mut self)
-        ensures { self.new.limit ≡ self.old.limit }
-    {
+    fn drop_oldest(&mut self) {
         if let Some((_, object)) = self.kept.pop_lru() {
             self.cost -= cost_of(&object);
         }
