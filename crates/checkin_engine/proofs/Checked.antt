@@ -89,7 +89,7 @@ stored_kind object file storing o (Failed (Filter why)) counts is = absurd (cc i
 stored_kind object file storing o (Failed EncodingForm) counts is = absurd (cc is)
 
 other_fate : (fate other : Fate) → fate ≡ other → is_of_other_kind other ≡ false → is_of_other_kind fate ≡ true → ⊥
-other_fate fate other same no is = cc (sym (ap is_of_other_kind same ∙ no) ∙ is)
+other_fate fate other same never is = cc (sym (ap is_of_other_kind same ∙ never) ∙ is)
 
 kind_fails : (object file : Told) (name : List ℕ) (w : Way) (o : Outcome) → HasFate object file name w o.asked o.content o.fate → HasCounts object file w o → is_of_other_kind o.fate ≡ true → o.failed ≡ true
 kind_fails object file name (way.Stored storing) o has counts is = stored_kind object file storing o o.fate counts is
