@@ -29,46 +29,46 @@ abbrev pub quiet_rule : Rule
 quiet_rule = record (flag_rule (codes "quiet")) { short = Some 113 }
 
 -- checkout [--git-dir DIR] [--commit REV] [--workers N] ..
-abbrev pub checkout_source : App
+unfoldable pub checkout_source : App
 checkout_source =
     with_rule (with_rule (with_rule (new_app (codes "checkout"))
     (option_rule (codes "git-dir"))) (option_rule (codes "commit"))) (option_rule (codes "workers"))
 
 -- .. [--report FORM] [-z] [--journal FILE] ..
-abbrev pub checkout_report : App
+unfoldable pub checkout_report : App
 checkout_report =
     with_rule (with_rule (with_rule checkout_source
     (option_rule (codes "report"))) (letter_rule (codes "nul") 122)) (option_rule (codes "journal"))
 
 -- .. [--progress] [--no-progress] [-q] ..
-abbrev pub checkout_progress : App
+unfoldable pub checkout_progress : App
 checkout_progress =
     with_rule (with_rule (with_rule checkout_report
     (flag_rule (codes "progress"))) (flag_rule (codes "no-progress"))) quiet_rule
 
 -- .. TREE
-abbrev pub checkout_app : App
+unfoldable pub checkout_app : App
 checkout_app = with_rule checkout_progress (place_rule (codes "tree"))
 
 -- checkin [--git-dir DIR] [--allow-empty] [TREE]
-abbrev pub checkin_app : App
+unfoldable pub checkin_app : App
 checkin_app =
     with_rule (with_rule (with_rule (new_app (codes "checkin"))
     (option_rule (codes "git-dir"))) (flag_rule (codes "allow-empty"))) (free_rule (codes "tree"))
 
 -- plan [--git-dir DIR] [--report FORM] [-z]
-abbrev pub plan_app : App
+unfoldable pub plan_app : App
 plan_app =
     with_rule (with_rule (with_rule (new_app (codes "plan")) (option_rule (codes "git-dir")))
     (option_rule (codes "report"))) (letter_rule (codes "nul") 122)
 
 -- rehearse SEED PATHS
-abbrev pub rehearse_app : App
+unfoldable pub rehearse_app : App
 rehearse_app =
     with_rule (with_rule (new_app (codes "rehearse")) (place_rule (codes "seed"))) (place_rule (codes "paths"))
 
 -- audit FILE
-abbrev pub audit_app : App
+unfoldable pub audit_app : App
 audit_app = with_rule (new_app (codes "audit")) (place_rule (codes "file"))
 
 -- the program: it has a version, and needs one of the five commands
@@ -79,15 +79,15 @@ siuwbren_shape = record (new_app (codes "siuwbren")).top {
   subcommand_required = true;
 }
 
-abbrev pub top_app : App
+unfoldable pub top_app : App
 top_app = record { top = siuwbren_shape; subs = [] }
 
 -- with the commands that read a repository
-abbrev pub repository_app : App
+unfoldable pub repository_app : App
 repository_app =
     with_subcommand (with_subcommand (with_subcommand top_app checkout_app.top) checkin_app.top) plan_app.top
 
-abbrev pub siuwbren_app : App
+unfoldable pub siuwbren_app : App
 siuwbren_app = with_subcommand (with_subcommand repository_app rehearse_app.top) audit_app.top
 
 -- what was found, unless some kind of refusal comes

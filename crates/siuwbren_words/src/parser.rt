@@ -116,27 +116,36 @@ fn quiet<'a>(alloc: Global) -> Arg<'a>
     flag(alloc, "quiet", "Say only of failures on standard error").short('q')
 }
 
+/// A command with its texts for help, which a parse doesn't look at.
+fn with_texts<'a>(command: Command<'a>, about: &'a str, usage: &'a str, end: &'a str) -> Command<'a>
+    ensures app { app_of result ≡ app_of command.entry }
+    ensures local { (out-Command result).has_globals ≡ (out-Command command.entry).has_globals }
+{
+    command.about(about).override_usage(usage).after_help(end)
+}
+
 /// What is checked out, and by how many workers.
 fn checkout_source<'a>(alloc: Global) -> Result<Command<'a>, AllocError>
     ensures app { IfOk result (λ command. app_of command ≡ checkout_source) }
     ensures local { IfOk result (λ command. (out-Command command).has_globals ≡ false) }
 {
+    let dir = git_dir(alloc);
+    let bare = Command::new(alloc, "checkout");
+    let first = bare.arg(dir)?;
     let commit = option(
         alloc,
         "commit",
         "REV",
         "A commit, tag or tree to check out [default: the index]",
     );
+    let second = first.arg(commit)?;
     let workers = option(
         alloc,
         "workers",
         "N",
         "1 to 16 [default: by checkout.workers]",
     );
-    Command::new(alloc, "checkout")
-        .arg(git_dir(alloc))?
-        .arg(commit)?
-        .arg(workers)
+    second.arg(workers)
 }
 
 /// And how that is reported.
@@ -144,22 +153,23 @@ fn checkout_report<'a>(alloc: Global) -> Result<Command<'a>, AllocError>
     ensures app { IfOk result (λ command. app_of command ≡ checkout_report) }
     ensures local { IfOk result (λ command. (out-Command command).has_globals ≡ false) }
 {
+    let source = checkout_source(alloc)?;
     let report = option(
         alloc,
         "report",
         "FORM",
         "text, json or none [default: text]",
     );
+    let first = source.arg(report)?;
+    let nul = nul(alloc);
+    let second = first.arg(nul)?;
     let journal = option(
         alloc,
         "journal",
         "FILE",
         "Write all that happened, in order, into a new file",
     );
-    checkout_source(alloc)?
-        .arg(report)?
-        .arg(nul(alloc))?
-        .arg(journal)
+    second.arg(journal)
 }
 
 /// And what else is said of it.
@@ -167,92 +177,111 @@ fn checkout_progress<'a>(alloc: Global) -> Result<Command<'a>, AllocError>
     ensures app { IfOk result (λ command. app_of command ≡ checkout_progress) }
     ensures local { IfOk result (λ command. (out-Command command).has_globals ≡ false) }
 {
+    let report = checkout_report(alloc)?;
     let shown = flag(
         alloc,
         "progress",
         "Show progress, also where no terminal is",
     );
+    let first = report.arg(shown)?;
     let hidden = flag(alloc, "no-progress", "Show no progress");
-    checkout_report(alloc)?
-        .arg(shown)?
-        .arg(hidden)?
-        .arg(quiet(alloc))
+    let second = first.arg(hidden)?;
+    let quiet = quiet(alloc);
+    second.arg(quiet)
 }
 
 fn checkout<'a>(alloc: Global) -> Result<Command<'a>, AllocError>
     ensures app { IfOk result (λ command. app_of command ≡ checkout_app) }
     ensures local { IfOk result (λ command. (out-Command command).has_globals ≡ false) }
 {
+    let options = checkout_progress(alloc)?;
+    let told = with_texts(
+        options,
+        "Write the files of the index, or of a commit, into a folder",
+        "siuwbren checkout [OPTIONS] TREE",
+        CHECKOUT_END,
+    );
     let tree = place(alloc, "tree", "TREE", "The folder to fill: absent or empty");
-    checkout_progress(alloc)?
-        .about("Write the files of the index, or of a commit, into a folder")
-        .override_usage("siuwbren checkout [OPTIONS] TREE")
-        .after_help(CHECKOUT_END)
-        .arg(tree)
+    told.arg(tree)
 }
 
 fn checkin<'a>(alloc: Global) -> Result<Command<'a>, AllocError>
     ensures app { IfOk result (λ command. app_of command ≡ checkin_app) }
     ensures local { IfOk result (λ command. (out-Command command).has_globals ≡ false) }
 {
+    let bare = Command::new(alloc, "checkin");
+    let told = with_texts(
+        bare,
+        "Keep the files of a folder as objects and a new index",
+        "siuwbren checkin [OPTIONS] [TREE]",
+        CHECKIN_END,
+    );
+    let dir = git_dir(alloc);
+    let first = told.arg(dir)?;
     let empty = flag(
         alloc,
         "allow-empty",
         "Take all paths for deleted if no file is there",
     );
+    let second = first.arg(empty)?;
     let tree = free_place(
         alloc,
         "tree",
         "TREE",
         "The folder with the files [default: the top of the worktree]",
     );
-    Command::new(alloc, "checkin")
-        .about("Keep the files of a folder as objects and a new index")
-        .override_usage("siuwbren checkin [OPTIONS] [TREE]")
-        .after_help(CHECKIN_END)
-        .arg(git_dir(alloc))?
-        .arg(empty)?
-        .arg(tree)
+    second.arg(tree)
 }
 
 fn plan<'a>(alloc: Global) -> Result<Command<'a>, AllocError>
     ensures app { IfOk result (λ command. app_of command ≡ plan_app) }
     ensures local { IfOk result (λ command. (out-Command command).has_globals ≡ false) }
 {
+    let bare = Command::new(alloc, "plan");
+    let told = with_texts(
+        bare,
+        "Show what a checkout of the index would do",
+        "siuwbren plan [OPTIONS]",
+        PLAN_END,
+    );
+    let dir = git_dir(alloc);
+    let first = told.arg(dir)?;
     let report = option(alloc, "report", "FORM", "text or json [default: text]");
-    Command::new(alloc, "plan")
-        .about("Show what a checkout of the index would do")
-        .override_usage("siuwbren plan [OPTIONS]")
-        .after_help(PLAN_END)
-        .arg(git_dir(alloc))?
-        .arg(report)?
-        .arg(nul(alloc))
+    let second = first.arg(report)?;
+    let nul = nul(alloc);
+    second.arg(nul)
 }
 
 fn rehearse<'a>(alloc: Global) -> Result<Command<'a>, AllocError>
     ensures app { IfOk result (λ command. app_of command ≡ rehearse_app) }
     ensures local { IfOk result (λ command. (out-Command command).has_globals ≡ false) }
 {
+    let bare = Command::new(alloc, "rehearse");
+    let told = with_texts(
+        bare,
+        "Check out a made-up repository in memory",
+        "siuwbren rehearse SEED PATHS",
+        REHEARSE_END,
+    );
     let seed = place(alloc, "seed", "SEED", "A number");
+    let first = told.arg(seed)?;
     let paths = place(alloc, "paths", "PATHS", "How many paths, up to 99999");
-    Command::new(alloc, "rehearse")
-        .about("Check out a made-up repository in memory")
-        .override_usage("siuwbren rehearse SEED PATHS")
-        .after_help(REHEARSE_END)
-        .arg(seed)?
-        .arg(paths)
+    first.arg(paths)
 }
 
 fn audit<'a>(alloc: Global) -> Result<Command<'a>, AllocError>
     ensures app { IfOk result (λ command. app_of command ≡ audit_app) }
     ensures local { IfOk result (λ command. (out-Command command).has_globals ≡ false) }
 {
+    let bare = Command::new(alloc, "audit");
+    let told = with_texts(
+        bare,
+        "Say whether the rules of a checkout allow a journal",
+        "siuwbren audit FILE",
+        AUDIT_END,
+    );
     let file = place(alloc, "file", "FILE", "A journal");
-    Command::new(alloc, "audit")
-        .about("Say whether the rules of a checkout allow a journal")
-        .override_usage("siuwbren audit FILE")
-        .after_help(AUDIT_END)
-        .arg(file)
+    told.arg(file)
 }
 
 /// The program without its commands. The words don't begin with its name.
@@ -272,12 +301,12 @@ fn repository_commands<'a>(alloc: Global) -> Result<Command<'a>, AllocError>
     ensures { IfOk result (λ command. app_of command ≡ repository_app) }
 {
     let checkout = checkout(alloc)?;
+    let bare = top(alloc);
+    let first = bare.subcommand(checkout)?;
     let checkin = checkin(alloc)?;
+    let second = first.subcommand(checkin)?;
     let plan = plan(alloc)?;
-    top(alloc)
-        .subcommand(checkout)?
-        .subcommand(checkin)?
-        .subcommand(plan)
+    second.subcommand(plan)
 }
 
 /// The program's parser.
@@ -285,8 +314,8 @@ pub fn siuwbren<'a>(alloc: Global) -> Result<Command<'a>, AllocError>
     ensures { IfOk result (λ command. app_of command ≡ siuwbren_app) }
 {
     let rehearse = rehearse(alloc)?;
+    let repository = repository_commands(alloc)?;
+    let first = repository.subcommand(rehearse)?;
     let audit = audit(alloc)?;
-    repository_commands(alloc)?
-        .subcommand(rehearse)?
-        .subcommand(audit)
+    first.subcommand(audit)
 }

@@ -1,0 +1,15 @@
+use Rattle.std.proofs.Common.{◌∙◌, ap₂}
+use Rattle.std.proofs.lemmas.Result.{IfOk-weaker}
+use Rattle.clap.specs.Words.{with_rule}
+use Rattle.siuwbren_words.proofs.Local.{local_still}
+use Rattle.siuwbren_words.specs.Parser.{checkout_app}
+use Rattle.siuwbren_words.proofs.parser.checkout.Goals as goal
+
+pub returns : goal.returns
+unfolding checkout_app
+returns c =
+    record {
+      app = IfOk-weaker c.arg.result _ _ (λ r h. h.shape c.place-tree.ensures.local ∙ ap₂ with_rule (c.with_texts-told.ensures.app ∙ c.in_ok-options.ensures.app) c.place-tree.ensures.rule)
+          c.arg.ensures;
+      local = IfOk-weaker c.arg.result _ _ (λ r h. local_still _ _ _ h (c.with_texts-told.ensures.local ∙ c.in_ok-options.ensures.local) c.place-tree.ensures.local) c.arg.ensures;
+    }

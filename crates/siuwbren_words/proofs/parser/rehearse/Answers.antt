@@ -1,0 +1,17 @@
+use Rattle.std.proofs.Common.{◌∙◌, ap₂}
+use Rattle.std.proofs.lemmas.Result.{IfOk-weaker}
+use Rattle.clap.specs.Words.{with_rule}
+use Rattle.siuwbren_words.proofs.Local.{local_still}
+use Rattle.siuwbren_words.specs.Parser.{rehearse_app}
+use Rattle.siuwbren_words.proofs.parser.rehearse.Goals as goal
+
+pub returns : goal.returns
+unfolding rehearse_app
+returns c =
+    let first_is = c.in_ok-first.ensures.shape c.place-seed.ensures.local ∙ ap₂ with_rule (c.with_texts-told.ensures.app ∙ c.new-bare.ensures.app) c.place-seed.ensures.rule in
+    let first_local = local_still _ _ _ c.in_ok-first.ensures (c.with_texts-told.ensures.local ∙ c.new-bare.ensures.local) c.place-seed.ensures.local in
+    record {
+      app = IfOk-weaker c.arg-2.result _ _ (λ r h. h.shape c.place-paths.ensures.local ∙ ap₂ with_rule first_is c.place-paths.ensures.rule)
+          c.arg-2.ensures;
+      local = IfOk-weaker c.arg-2.result _ _ (λ r h. local_still _ _ _ h first_local c.place-paths.ensures.local) c.arg-2.ensures;
+    }
