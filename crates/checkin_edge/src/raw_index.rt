@@ -102,6 +102,13 @@ fn split_entry(version: u8, bytes: &[u8]) -> Option<(RawEntry<'_>, &[u8])> {
     Some((entry, after))
 }
 
+/// The second fields of flags without skip-worktree.
+fn without_sparse(more: Option<[u8; 2]>) -> Option<[u8; 2]> {
+    let fields = more?;
+    let [high, low] = fields;
+    Some([high & !SPARSE, low])
+}
+
 impl<'a> RawEntry<'a> {
     /// Whether it is assumed to be as its file is (assume-valid), and merged.
     pub fn is_assumed(&self) -> bool {
@@ -154,9 +161,10 @@ impl<'a> RawEntry<'a> {
     /// The same entry with assume-valid, and with skip-worktree only if it is to have that.
     pub fn assumed(self, sparse: bool) -> RawEntry<'a> {
         let [high, low] = self.flags;
-        let more = match self.more {
-            Some([more_high, more_low]) if !sparse => Some([more_high & !SPARSE, more_low]),
-            more => more,
+        let more = if sparse {
+            self.more
+        } else {
+            without_sparse(self.more)
         };
         RawEntry {
             flags: [high | VALID, low],
