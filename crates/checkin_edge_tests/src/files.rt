@@ -76,8 +76,8 @@ fn gives(mut files: FolderFiles, cells: &str) -> Result<bool, Fail> {
     Ok(is_read(&taken, want) && is_counted(&files, want))
 }
 
-/// Looks at a row, whose files are those of an index with the link `l` if kinds count.
-fn look_at(rt: HostRuntime, row: &str, kinds: bool) -> Result<(), Fail> {
+/// Whether a row is right. Its files are those of an index with the link `l` if kinds count.
+fn goes(rt: HostRuntime, row: &str, kinds: bool) -> Result<bool, Fail> {
     let (script, cells) = cut(row, '~');
     let script = format!(in rt.alloc(); "mkdir tree; cd tree; {script}")?;
     let folder = folder_after(rt, "files", script.as_str())?;
@@ -88,18 +88,18 @@ fn look_at(rt: HostRuntime, row: &str, kinds: bool) -> Result<(), Fail> {
             kept: true,
         });
     }
-    is_right(&rt, gives(files, cells)?, row, "other bytes");
+    let goes = gives(files, cells)?;
     remove_dir_all(&rt, folder.as_str())?;
-    Ok(())
+    Ok(goes)
 }
 
 #[test]
 fn files_are_read_and_links_are_not_followed(rt: HostRuntime) -> Result<(), Fail> {
     for row in CASES {
-        look_at(rt, row, false)?;
+        is_right(&rt, goes(rt, row, false)?, row, "other bytes");
     }
     for row in KINDS {
-        look_at(rt, row, true)?;
+        is_right(&rt, goes(rt, row, true)?, row, "other bytes");
     }
     Ok(())
 }

@@ -69,8 +69,8 @@ fn all_go(rt: HostRuntime, leaf: &mut GitLeaf<'_>, calls: &str) -> bool {
     true
 }
 
-/// What the shell does, `l` if links are kept or `-`, with `d` if a driver has run, the path of a leaf, the calls on it, and what a shell finds. A
-/// file that it makes has the mode of a plain file by its umask, and a folder that of a program.
+/// What the shell does, `l` if links are kept or `-`, with `d` if a driver has run, the path of a leaf, the calls on it,
+/// and what a shell finds. A file that it makes has the mode of a plain file by its umask, and a folder that of a program.
 const CASES: &[&str] = &[
     "|l|a/b|+px;+s|test -f tree/a/b; test $(stat -c %a tree/a/b) = $(stat -c %a plain)",
     "|l|a/b|+px;+x|test $(cat tree/a/b) = x; test $(stat -c %a tree/a/b) = $(stat -c %a made)",
