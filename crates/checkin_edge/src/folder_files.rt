@@ -4,7 +4,7 @@ ghost use Rattle.edge_kit.specs.Told.{Untold};
 ghost use Rattle.edge_kit.specs.Faults.{Rose};
 ghost use Rattle.checkin_engine.specs.Outside.{no_files_failed};
 
-use crate::looking::{FileRead, Wanted, read_below};
+use crate::looking::{FileRead, WantedKind, read_below};
 use byte_path::Bytes;
 use checkin_engine::Files;
 use edge_adapters::{LeafPlace, WriteErrors};
@@ -24,14 +24,14 @@ pub struct IndexLinks {
 
 impl IndexLinks {
     /// What has to stand at the path.
-    fn wanted_at(&self, path: &[u8]) -> Wanted {
+    fn wanted_at(&self, path: &[u8]) -> WantedKind {
         match self
             .paths
             .binary_search_by(|link| link.as_slice().cmp(path))
         {
-            Ok(_) if self.kept => Wanted::Link,
-            Ok(_) => Wanted::Either,
-            Err(_) => Wanted::File,
+            Ok(_) if self.kept => WantedKind::Link,
+            Ok(_) => WantedKind::Either,
+            Err(_) => WantedKind::File,
         }
     }
 }
@@ -87,10 +87,10 @@ impl FolderFiles {
     }
 
     /// What has to stand at the path.
-    fn wanted_at(&self, path: &[u8]) -> Wanted {
+    fn wanted_at(&self, path: &[u8]) -> WantedKind {
         match &self.links {
             Some(links) => links.wanted_at(path),
-            None => Wanted::Either,
+            None => WantedKind::Either,
         }
     }
 

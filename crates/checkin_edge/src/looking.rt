@@ -30,7 +30,7 @@ pub enum FileRead {
 
 /// What has to stand at a path.
 #[derive(Clone, Copy, PartialEq, Eq)]
-pub enum Wanted {
+pub enum WantedKind {
     Either,
     File,
     Link,
@@ -96,11 +96,11 @@ fn file_bytes(alloc: Global, file: File, limit: u64) -> io::Result<FileRead>
 }
 
 /// Whether what was found is a link where a file is wanted, or a file where a link is.
-fn is_other_kind(found: &Metadata, wanted: Wanted) -> bool {
+fn is_other_kind(found: &Metadata, wanted: WantedKind) -> bool {
     match wanted {
-        Wanted::Either => false,
-        Wanted::File => found.is_symlink(),
-        Wanted::Link => found.is_file(),
+        WantedKind::Either => false,
+        WantedKind::File => found.is_symlink(),
+        WantedKind::Link => found.is_file(),
     }
 }
 
@@ -110,7 +110,7 @@ fn read_there(
     rt: HostRuntime,
     alloc: Global,
     place: &LeafPlace,
-    wanted: Wanted,
+    wanted: WantedKind,
     limit: u64,
 ) -> io::Result<FileRead>
     ensures { IfOk result (IsWithin limit) }
@@ -138,7 +138,7 @@ pub fn read_below(
     rt: HostRuntime,
     alloc: Global,
     place: &LeafPlace,
-    wanted: Wanted,
+    wanted: WantedKind,
     limit: u64,
 ) -> io::Result<FileRead>
     ensures { IfOk result (IsWithin limit) }
