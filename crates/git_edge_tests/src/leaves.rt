@@ -4,34 +4,35 @@ use crate::table::{cut, is_right};
 use edge_kit::{Leaf, LeafState, Mark, Worktree};
 use git_tree::{GitLeaf, GitTree, Keeps};
 use std::fs::{remove_dir_all, remove_file};
+use std::sync::Arc;
 use std::sync::atomic::AtomicBool;
 use std::test::Fail;
 
 /// A piece that is longer than a link's text.
 const LONG: [u8; 5000] = [b'z'; 5000];
 
-fn seal(leaf: &mut GitLeaf<'_>, mark: Mark) -> bool {
+fn seal(leaf: &mut GitLeaf, mark: Mark) -> bool {
     match leaf.state {
         LeafState::Fresh | LeafState::Partly => leaf.seal(mark).is_ok(),
         _ => false,
     }
 }
 
-fn put(leaf: &mut GitLeaf<'_>, piece: &[u8]) -> bool {
+fn put(leaf: &mut GitLeaf, piece: &[u8]) -> bool {
     match leaf.state {
         LeafState::Fresh | LeafState::Partly => leaf.put(piece).is_ok(),
         _ => false,
     }
 }
 
-fn restart(leaf: &mut GitLeaf<'_>) -> bool {
+fn restart(leaf: &mut GitLeaf) -> bool {
     match leaf.state {
         LeafState::Fresh | LeafState::Partly => leaf.restart().is_ok(),
         _ => false,
     }
 }
 
-fn discard(leaf: &mut GitLeaf<'_>) -> bool {
+fn discard(leaf: &mut GitLeaf) -> bool {
     match leaf.state {
         LeafState::Sealed(_) => false,
         _ => leaf.discard().is_ok(),
@@ -40,7 +41,7 @@ fn discard(leaf: &mut GitLeaf<'_>) -> bool {
 
 /// Calls the leaf, and returns whether that went well: `p` puts these bytes, `z` a long piece, `r` restarts, `d`
 /// discards, and `s`, `x` and `l` seal a file, a program and a link. `m` removes its file, as a driver may.
-fn goes_well(rt: HostRuntime, leaf: &mut GitLeaf<'_>, call: &[u8]) -> bool {
+fn goes_well(rt: HostRuntime, leaf: &mut GitLeaf, call: &[u8]) -> bool {
     match call {
         [b'p', piece @ ..] => put(leaf, piece),
         [b'z'] => put(leaf, LONG.as_slice()),
@@ -55,7 +56,7 @@ fn goes_well(rt: HostRuntime, leaf: &mut GitLeaf<'_>, call: &[u8]) -> bool {
 }
 
 /// Whether each call goes as it should, well after `+` and not after `-`.
-fn all_go(rt: HostRuntime, leaf: &mut GitLeaf<'_>, calls: &str) -> bool {
+fn all_go(rt: HostRuntime, leaf: &mut GitLeaf, calls: &str) -> bool {
     let mut rest = calls;
     for _ in 0..calls.len() {
         let (call, more) = cut(rest, ';');
@@ -105,8 +106,8 @@ fn leaf_goes(rt: HostRuntime, folder: &str, rest: &str) -> Result<bool, Fail> {
         links: kept.starts_with('l'),
         modes: true,
     };
-    let driven = AtomicBool::new(kept.ends_with('d'));
-    let mut tree = GitTree::new(rt, path_in(rt, folder, "tree")?, keeps, &driven);
+    let driven = Arc::new(rt.alloc(), AtomicBool::new(kept.ends_with('d')))?;
+    let mut tree = GitTree::new(rt, path_in(rt, folder, "tree")?, keeps, driven);
     let mut leaf = tree.leaf(path)?;
     let well = all_go(rt, &mut leaf, calls);
     tree.take_back(leaf);

@@ -9,10 +9,12 @@ use crate::kinds::{FileKind, Keeps, kind_of, mode_of};
 use byte_path::Bytes;
 use edge_adapters::{LeafPlace, create_in_tree, empty_file, link_in_tree, remove_own};
 use edge_kit::{Failed, Leaf, LeafState, Mark, SendFault};
+use std::alloc::Global;
 use std::fs::{File, Permissions, symlink_metadata};
 use std::io;
 use std::io::{ErrorKind, Write};
 use std::os::unix::fs::{MetadataExt, PermissionsExt};
+use std::sync::Arc;
 use std::sync::atomic::{AtomicBool, Ordering};
 
 /// How long the text of a link may be (PATH_MAX with its end).
@@ -21,11 +23,14 @@ const LONGEST_LINK: usize = 4095;
 /// The mode of a file whose mark isn't known yet. The seal can only take from it.
 const EARLY: u32 = 0o777;
 
+/// Whether a driver has run in a checkout, which may have removed files. All leaves of a worktree share it.
+pub type Driven = Arc<AtomicBool, Global>;
+
 /// An executable or other file or a link that a worktree will have. Only the seal tells which. So what is put is kept
 /// in memory while a link may have it as its text. A longer content goes to a file at once, and the seal takes its
 /// executable bits if it isn't to have them. A link is made by the seal alone.
 #[derive(Drop)]
-pub struct GitLeaf<'a> {
+pub struct GitLeaf {
     rt: HostRuntime,
     pub place: LeafPlace,
     pub keeps: Keeps,
@@ -40,17 +45,12 @@ pub struct GitLeaf<'a> {
     /// Its first fault.
     pub error: Option<io::Error>,
     // whether a driver has run, which may have removed files
-    driven: &'a AtomicBool,
+    driven: Driven,
 }
 
-impl<'a> GitLeaf<'a> {
+impl GitLeaf {
     /// A leaf for what will be at this place. It touches nothing.
-    pub fn new(
-        rt: HostRuntime,
-        place: LeafPlace,
-        keeps: Keeps,
-        driven: &'a AtomicBool,
-    ) -> GitLeaf<'a>
+    pub fn new(rt: HostRuntime, place: LeafPlace, keeps: Keeps, driven: Driven) -> GitLeaf
         ensures place { result.place ≡ place }
         ensures keeps { result.keeps ≡ keeps }
         ensures empty { result.text.items ≡ [] }
@@ -74,7 +74,7 @@ impl<'a> GitLeaf<'a> {
 
     /// Its path, its state and its count of faults. A file that is open is closed.
     pub fn ended(self) -> (Bytes, LeafState, u64)
-        ensures { result ≡ (self.entry.place.path, self.entry.state, self.entry.faults) }
+        ensures { result ≡ (self.place.path, self.state, self.faults) }
     {
         (self.place.into_path(), self.state, self.faults)
     }
@@ -250,7 +250,7 @@ fn limit_mode(file: &File, mode: u32) -> io::Result<()> {
     file.set_permissions(Permissions::from_mode(found.mode() & mode))
 }
 
-impl Leaf for GitLeaf<'_> {
+impl Leaf for GitLeaf {
     ghost seen = { λ l. record { path = l.place.path; content = None; state = l.state; faults = l.faults } };
 
     ghost fresh_content = { λ _ _. tt };

@@ -7,5 +7,5 @@ mod leaf;
 mod tree;
 
 pub use kinds::{FileKind, Keeps};
-pub use leaf::GitLeaf;
+pub use leaf::{Driven, GitLeaf};
 pub use tree::GitTree;

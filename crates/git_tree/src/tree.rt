@@ -3,17 +3,17 @@ ghost use Rattle.edge_kit.specs.declared.leaf_state.LeafState.TheVariants.{Fresh
 ghost use Rattle.edge_adapters.specs.Paths.{path_in};
 
 use crate::kinds::Keeps;
-use crate::leaf::GitLeaf;
+use crate::leaf::{Driven, GitLeaf};
 use byte_path::Bytes;
 use edge_adapters::{LeafPlace, WriteErrors, holds_nothing};
 use edge_kit::{Failed, LeafState, Worktree};
 use std::alloc::{AllocError, Global};
 use std::io::ErrorKind;
-use std::sync::atomic::AtomicBool;
+use std::sync::Arc;
 
 /// A folder that a checkout fills as git does, with executable files and links.
 #[derive(Drop)]
-pub struct GitTree<'a> {
+pub struct GitTree {
     rt: HostRuntime,
     alloc: Global,
     pub folder: String,
@@ -22,17 +22,17 @@ pub struct GitTree<'a> {
     out: usize,
     returned: Vec<(Bytes, LeafState, u64)>,
     // whether a driver has run
-    driven: &'a AtomicBool,
+    driven: Driven,
     // what the leaves that were given back failed for
     errors: WriteErrors,
     // there is room for each leaf that is out
     ghost room: { vec_len returned + out ≤ vec_capacity returned },
 }
 
-impl<'a> GitTree<'a> {
+impl GitTree {
     /// The folder at this path, there or not, on a file system that keeps this. It reads nothing. Once `driven` is true,
     /// each leaf that has a file looks whether that is still there before it is sealed.
-    pub fn new(rt: HostRuntime, folder: String, keeps: Keeps, driven: &'a AtomicBool) -> GitTree<'a>
+    pub fn new(rt: HostRuntime, folder: String, keeps: Keeps, driven: Driven) -> GitTree
         ensures folder { result.folder ≡ folder }
         ensures keeps { result.keeps ≡ keeps }
     {
@@ -56,7 +56,7 @@ impl<'a> GitTree<'a> {
     }
 
     /// A leaf for the file with this path.
-    fn file(&self, path: &str) -> Result<GitLeaf<'a>, AllocError>
+    fn file(&self, path: &str) -> Result<GitLeaf, AllocError>
         ensures path { IfOk result (λ l. l.place.path ≡ path.now) }
         ensures full { IfOk result (λ l.
             l.place.full ≡ path_in (string_bytes self.now.folder) path.now) }
@@ -65,12 +65,13 @@ impl<'a> GitTree<'a> {
         ensures unfailed { IfOk result (λ l. l.faults ≡ 0) }
     {
         let place = LeafPlace::new(self.alloc, self.folder.as_str(), path)?;
-        Ok(GitLeaf::new(self.rt, place, self.keeps, self.driven))
+        let driven = Arc::try_clone(&self.driven)?;
+        Ok(GitLeaf::new(self.rt, place, self.keeps, driven))
     }
 }
 
-impl<'a> Worktree for GitTree<'a> {
-    type Leaf = GitLeaf<'a>;
+impl Worktree for GitTree {
+    type Leaf = GitLeaf;
 
     ghost seen = { λ t. record {
       empty = None;
@@ -97,7 +98,7 @@ impl<'a> Worktree for GitTree<'a> {
         }
     }
 
-    fn leaf(&mut self, path: &str) -> Result<GitLeaf<'a>, AllocError> {
+    fn leaf(&mut self, path: &str) -> Result<GitLeaf, AllocError> {
         let leaf = self.file(path)?;
         self.errors.reserve()?;
         self.returned.reserve(self.out + 1)?;
@@ -105,7 +106,7 @@ impl<'a> Worktree for GitTree<'a> {
         Ok(leaf)
     }
 
-    fn take_back(&mut self, leaf: GitLeaf<'a>) {
+    fn take_back(&mut self, leaf: GitLeaf) {
         if let Some(error) = &leaf.error {
             self.errors.add(error, leaf.place.path());
         }

@@ -18,8 +18,8 @@ use program_kit::{
 use siuwbren_words::{Checkout, ProgressChoice};
 use std::alloc::AllocError;
 use std::mem::forget;
-use std::sync::Wait;
 use std::sync::atomic::{AtomicBool, AtomicU32, Ordering};
+use std::sync::{Arc, Wait};
 use std::thread::Threads;
 
 /// Whether progress is to be shown.
@@ -90,13 +90,14 @@ fn check_out_with<P: Spawner, H: Threads + Wait + Sync>(
     let folder = String::from_str(rt.alloc(), asked.tree)?;
     let leaves = AtomicU32::new(0);
     let progress = Progress::new(rt, &leaves, is_shown(rt, asked.progress));
-    let driven = AtomicBool::new(false);
+    let driven = Arc::new(rt.alloc(), AtomicBool::new(false))?;
+    let shared = Arc::try_clone(&driven)?;
     let gate = DriverGate {
         progress: &progress,
         driven: &driven,
     };
     let mut tree = CountingTree {
-        tree: GitTree::new(rt, folder, repo.keeps(), &driven),
+        tree: GitTree::new(rt, folder, repo.keeps(), shared),
         leaves: &leaves,
     };
     let mut out = sink_of(rt, asked.form);
