@@ -103,9 +103,11 @@ const NOTES: &[&str] = &[
     // a partial clone is one whose remote is said to be a promisor, or has a filter, whatever is said behind
     "git init -q repo; git -C repo config remote.a.promisor false~",
     "git init -q repo; git -C repo config remote.a.promisor true; git -C repo config --add remote.a.promisor false~\
-      this partial clone lacks 1 objects",
-    "git init -q repo; git -C repo config remote.a.partialCloneFilter blob:none~this partial clone lacks 1 objects",
-    "git init -q repo; git -C repo config extensions.partialClone a~this partial clone lacks 1 objects",
+      this partial clone lacks 1 object. To fetch them: ",
+    "git init -q repo; git -C repo config remote.a.partialCloneFilter blob:none~\
+      this partial clone lacks 1 object. To fetch them: ",
+    "git init -q repo; git -C repo config extensions.partialClone a~\
+      this partial clone lacks 1 object. To fetch them: ",
     "new; printf '100644 %s 1\\td/.gitattributes\\n100644 %s 2\\td/.gitattributes\\n' $(cat ../hi) $(cat ../hi) | \
       git update-index --index-info~d/.gitattributes is unmerged",
 ];
