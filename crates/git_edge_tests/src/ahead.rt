@@ -2,7 +2,10 @@
 use crate::place::{folder_after, has_git, open, runs};
 use crate::table::{cut, is_right};
 use edge_kit::{Blob, Repo, TakeFault};
+use git_edge::{GitBlob, GitRepo};
+use std::alloc::AllocError;
 use std::fs::remove_dir_all;
+use std::io;
 use std::test::Fail;
 
 /// Makes the objects of a row, and has each child write a line, and then do this.
@@ -75,23 +78,69 @@ fn letter_of(taken: &Result<Option<Vec<u8>>, TakeFault>) -> &'static str {
     }
 }
 
-/// What comes if these objects are lent, and then those in these places are taken.
-fn what_comes(rt: HostRuntime, folder: &str, lent: &str, places: &str) -> Result<String, Fail> {
-    let mut came = String::new(rt.alloc());
-    let Ok(mut repo) = open(rt, folder, "-") else {
-        return Ok(came);
-    };
+/// The objects that these letters stand for.
+fn lent_by(rt: HostRuntime, repo: &mut GitRepo, lent: &str) -> Result<Vec<GitBlob>, AllocError> {
     let mut blobs = Vec::new(rt.alloc());
     for letter in lent.bytes() {
         blobs.push(repo.blob(&name_of(letter))?)?;
     }
+    Ok(blobs)
+}
+
+/// What comes if those in these places are taken.
+fn taken_of(rt: HostRuntime, blobs: &mut [GitBlob], places: &str) -> Result<String, AllocError> {
+    let mut came = String::new(rt.alloc());
     for digit in places.bytes() {
         if let Some(blob) = blobs.get_mut(usize::from(digit.wrapping_sub(b'0'))) {
             came.push_str(letter_of(&blob.take_all(1_000_000)))?;
         }
     }
-    repo.end();
     Ok(came)
+}
+
+/// What comes if these objects are lent, and then those in these places are taken.
+fn comes_of(
+    rt: HostRuntime,
+    repo: &mut GitRepo,
+    lent: &str,
+    places: &str,
+) -> Result<String, AllocError> {
+    let mut blobs = lent_by(rt, repo, lent)?;
+    taken_of(rt, blobs.as_mut_slice(), places)
+}
+
+/// What comes of the repository in the folder, whose children are ended then.
+fn what_comes(
+    rt: HostRuntime,
+    folder: &str,
+    lent: &str,
+    places: &str,
+) -> Result<String, AllocError> {
+    let Ok(mut repo) = open(rt, folder, "-") else {
+        return Ok(String::new(rt.alloc()));
+    };
+    let came = comes_of(rt, &mut repo, lent, places);
+    repo.end();
+    came
+}
+
+/// What comes of a told row (the objects that are lent, the places, what is wanted, how many children), and whether
+/// there were so many children.
+fn looked_at(rt: HostRuntime, folder: &str, told: &str) -> io::Result<(String, bool)> {
+    let (lent, rest) = cut(told, '~');
+    let (places, rest) = cut(rest, '~');
+    let (_, children) = cut(rest, '~');
+    let came = what_comes(rt, folder, lent, places)?;
+    let counted = format!(in rt.alloc(); "test $(wc -l < children) = {children}")?;
+    let are_so_many = runs(rt, folder, counted.as_str())?;
+    Ok((came, are_so_many))
+}
+
+/// What is wanted of a told row.
+fn wanted_of(told: &str) -> &str {
+    let (_, rest) = cut(told, '~');
+    let (_, rest) = cut(rest, '~');
+    cut(rest, '~').0
 }
 
 #[test]
@@ -100,22 +149,14 @@ fn what_is_asked_ahead_is_no_other_object(rt: HostRuntime) -> Result<(), Fail> {
         return Ok(());
     }
     for row in CASES {
-        let (script, rest) = cut(row, '~');
-        let (lent, rest) = cut(rest, '~');
-        let (places, rest) = cut(rest, '~');
-        let (want, children) = cut(rest, '~');
+        let (script, told) = cut(row, '~');
         let script = format!(in rt.alloc(); "{MAKE}{script}")?;
         let folder = folder_after(rt, "ahead", script.as_str())?;
-        let came = what_comes(rt, folder.as_str(), lent, places)?;
-        is_right(&rt, came.as_str() == want, row, came.as_str());
-        let counted = format!(in rt.alloc(); "test $(wc -l < children) = {children}")?;
-        is_right(
-            &rt,
-            runs(rt, folder.as_str(), counted.as_str())?,
-            row,
-            "other children",
-        );
+        let looked = looked_at(rt, folder.as_str(), told);
         remove_dir_all(&rt, folder.as_str())?;
+        let (came, are_so_many) = looked?;
+        is_right(&rt, came.as_str() == wanted_of(told), row, came.as_str());
+        is_right(&rt, are_so_many, row, "other children");
     }
     Ok(())
 }

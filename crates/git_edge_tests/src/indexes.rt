@@ -3,8 +3,10 @@ use crate::place::{folder_after, has_git, open, read_hi, runs};
 use crate::table::{cut, is_right};
 use edge_kit::{Blob, Repo};
 use git_edge::GitRepo;
-use git_index::read_index;
+use git_index::{Entry, read_index};
+use std::alloc::{AllocError, Global};
 use std::fs::remove_dir_all;
+use std::io;
 use std::test::Fail;
 
 /// What the shell does, a revision, and the first words of the refusal.
@@ -24,6 +26,14 @@ const REFUSED: &[&str] = &[
     "new; rm ../git~-~git can't be run: No such file or directory",
 ];
 
+/// What is said where the repository is refused.
+fn refusal_of(rt: HostRuntime, folder: &str, revision: &str) -> Result<String, AllocError> {
+    match open(rt, folder, revision) {
+        Ok(_) => Ok(String::new(rt.alloc())),
+        Err(fault) => format!(in rt.alloc(); "{fault}"),
+    }
+}
+
 #[test]
 fn what_git_cannot_give_is_refused_in_words(rt: HostRuntime) -> Result<(), Fail> {
     if !has_git(rt)? {
@@ -33,11 +43,9 @@ fn what_git_cannot_give_is_refused_in_words(rt: HostRuntime) -> Result<(), Fail>
         let (script, rest) = cut(row, '~');
         let (revision, words) = cut(rest, '~');
         let folder = folder_after(rt, "refused", script)?;
-        let said = match open(rt, folder.as_str(), revision) {
-            Ok(_) => String::new(rt.alloc()),
-            Err(fault) => format!(in rt.alloc(); "{fault}")?,
-        };
+        let said = refusal_of(rt, folder.as_str(), revision);
         remove_dir_all(&rt, folder.as_str())?;
+        let said = said?;
         is_right(&rt, said.as_str().starts_with(words), row, said.as_str());
     }
     Ok(())
@@ -56,27 +64,39 @@ const INDEXES: &[&str] = &[
     "new; echo a > a; git add .; git commit -qm a; git rm -q a~HEAD^{tree}~a ",
 ];
 
-/// The paths of the index, or `!` if there is none.
-fn paths_of(rt: HostRuntime, folder: &str, revision: &str) -> Result<String, Fail> {
-    let mut paths = String::new(rt.alloc());
-    let Ok(mut repo) = open(rt, folder, revision) else {
-        return Ok(paths);
-    };
-    let Ok(taken) = repo.index_bytes(1_048_576) else {
-        return Ok(paths);
-    };
-    let Some(bytes) = taken else {
-        paths.push_str("!")?;
-        return Ok(paths);
-    };
-    let Ok(index) = read_index(rt.alloc(), bytes.as_slice()) else {
-        return Ok(paths);
-    };
-    for entry in index.entries() {
+/// The paths of these entries.
+fn paths_in(alloc: Global, entries: &[Entry]) -> Result<String, AllocError> {
+    let mut paths = String::new(alloc);
+    for entry in entries {
         paths.push_str(str::from_utf8(entry.path.as_slice()).unwrap_or("?"))?;
         paths.push_str(if entry.sparse { "* " } else { " " })?;
     }
     Ok(paths)
+}
+
+/// The paths of an index.
+fn paths_told(alloc: Global, bytes: &[u8]) -> Result<String, AllocError> {
+    match read_index(alloc, bytes) {
+        Ok(index) => paths_in(alloc, index.entries()),
+        Err(_) => Ok(String::new(alloc)),
+    }
+}
+
+/// The paths of the repository's index, or `!` if there is none.
+fn paths_from(rt: HostRuntime, repo: &mut GitRepo) -> Result<String, AllocError> {
+    match repo.index_bytes(1_048_576) {
+        Ok(Some(bytes)) => paths_told(rt.alloc(), bytes.as_slice()),
+        Ok(None) => String::from_str(rt.alloc(), "!"),
+        Err(_) => Ok(String::new(rt.alloc())),
+    }
+}
+
+/// The paths of the index of the repository in the folder.
+fn paths_of(rt: HostRuntime, folder: &str, revision: &str) -> Result<String, AllocError> {
+    match open(rt, folder, revision) {
+        Ok(mut repo) => paths_from(rt, &mut repo),
+        Err(_) => Ok(String::new(rt.alloc())),
+    }
 }
 
 #[test]
@@ -88,8 +108,9 @@ fn indexes_are_whole_however_git_keeps_them(rt: HostRuntime) -> Result<(), Fail>
         let (script, rest) = cut(row, '~');
         let (revision, want) = cut(rest, '~');
         let folder = folder_after(rt, "index", script)?;
-        let paths = paths_of(rt, folder.as_str(), revision)?;
+        let paths = paths_of(rt, folder.as_str(), revision);
         remove_dir_all(&rt, folder.as_str())?;
+        let paths = paths?;
         is_right(&rt, paths.as_str() == want, row, paths.as_str());
     }
     Ok(())
@@ -112,15 +133,20 @@ const NOTES: &[&str] = &[
       git update-index --index-info~d/.gitattributes is unmerged",
 ];
 
-/// The first note on a repository once this object was read.
-fn first_note(rt: HostRuntime, folder: &str) -> Result<String, Fail> {
-    let Ok(mut repo) = open(rt, folder, "-") else {
-        return Ok(String::from_str(rt.alloc(), "no repository")?);
-    };
-    let _ = read_hi(&mut repo, 99);
+/// The first note on a repository once the object `hi` was read.
+fn note_from(rt: HostRuntime, repo: &mut GitRepo) -> Result<String, AllocError> {
+    let _ = read_hi(repo, 99);
     match repo.notes()?.first() {
-        Some(note) => Ok(note.clone()?),
+        Some(note) => note.clone(),
         None => Ok(String::new(rt.alloc())),
+    }
+}
+
+/// The first note on the repository in the folder.
+fn first_note(rt: HostRuntime, folder: &str) -> Result<String, AllocError> {
+    match open(rt, folder, "-") {
+        Ok(mut repo) => note_from(rt, &mut repo),
+        Err(_) => String::from_str(rt.alloc(), "no repository"),
     }
 }
 
@@ -132,8 +158,9 @@ fn notes_name_what_git_would_give_otherwise(rt: HostRuntime) -> Result<(), Fail>
     for row in NOTES {
         let (script, want) = cut(row, '~');
         let folder = folder_after(rt, "notes", script)?;
-        let note = first_note(rt, folder.as_str())?;
+        let note = first_note(rt, folder.as_str());
         remove_dir_all(&rt, folder.as_str())?;
+        let note = note?;
         let is_so = note.as_str().starts_with(want) && note.is_empty() == want.is_empty();
         is_right(&rt, is_so, row, note.as_str());
     }
@@ -147,29 +174,58 @@ const PARTIAL: &str =
     git -C repo read-tree HEAD";
 
 /// Whether the object with this name is there.
-fn is_there(repo: &mut GitRepo, name: &[u8; 20]) -> Result<bool, Fail> {
+fn is_there(repo: &mut GitRepo, name: &[u8; 20]) -> io::Result<bool> {
     let mut blob = repo.blob(name)?;
     let taken = blob.take_all(99);
     repo.take_back(blob);
     Ok(matches!(taken, Ok(Some(_))))
 }
 
-/// How many objects of the index are there. Each is read twice.
-fn count_there(rt: HostRuntime, repo: &mut GitRepo) -> Result<usize, Fail> {
+/// How many objects of these entries are there. Each is read twice.
+fn count_of(repo: &mut GitRepo, entries: &[Entry]) -> io::Result<usize> {
     let mut count = 0usize;
-    let Ok(Some(bytes)) = repo.index_bytes(1_048_576) else {
-        return Ok(count);
-    };
-    let Ok(index) = read_index(rt.alloc(), bytes.as_slice()) else {
-        return Ok(count);
-    };
-    for entry in index.entries() {
+    for entry in entries {
         let was_there = is_there(repo, &entry.name)?;
         if is_there(repo, &entry.name)? && was_there {
             count = count.saturating_add(1);
         }
     }
     Ok(count)
+}
+
+/// How many objects of the index are there.
+fn count_there(rt: HostRuntime, repo: &mut GitRepo) -> io::Result<usize> {
+    let Ok(Some(bytes)) = repo.index_bytes(1_048_576) else {
+        return Ok(0);
+    };
+    match read_index(rt.alloc(), bytes.as_slice()) {
+        Ok(index) => count_of(repo, index.entries()),
+        Err(_) => Ok(0),
+    }
+}
+
+/// Whether the first note says what is lacking, and its command ends well.
+fn runs_note(rt: HostRuntime, folder: &str, repo: &mut GitRepo) -> io::Result<bool> {
+    let notes = repo.notes()?;
+    let (words, command) = cut(notes.first().map_or("", |note| note.as_str()), ':');
+    let is_said = words == "this partial clone lacks 30 objects. To fetch them";
+    Ok(is_said && runs(rt, folder, command)?)
+}
+
+/// Whether no object is there before the note's command, and each after it.
+fn fetches_all(rt: HostRuntime, folder: &str, repo: &mut GitRepo) -> io::Result<bool> {
+    let before = count_there(rt, repo)?;
+    let is_run = runs_note(rt, folder, repo)?;
+    let after = count_there(rt, repo)?;
+    Ok(is_run && before == 0 && after == 30)
+}
+
+/// Whether the note on the repository in the folder has the command that fetches what is lacking.
+fn is_fetched(rt: HostRuntime, folder: &str, revision: &str) -> io::Result<bool> {
+    match open(rt, folder, revision) {
+        Ok(mut repo) => fetches_all(rt, folder, &mut repo),
+        Err(_) => Ok(false),
+    }
 }
 
 #[test]
@@ -181,17 +237,9 @@ fn a_note_has_the_command_that_fetches_what_a_partial_clone_lacks(
     }
     for revision in ["-", "HEAD"] {
         let folder = folder_after(rt, "partial", PARTIAL)?;
-        let Ok(mut repo) = open(rt, folder.as_str(), revision) else {
-            panic!(rt; "no repository");
-        };
-        let before = count_there(rt, &mut repo)?;
-        let notes = repo.notes()?;
-        let (words, command) = cut(notes.first().map_or("", |note| note.as_str()), ':');
-        let is_fetched = runs(rt, folder.as_str(), command)?;
-        let after = count_there(rt, &mut repo)?;
+        let is_so = is_fetched(rt, folder.as_str(), revision);
         remove_dir_all(&rt, folder.as_str())?;
-        assert!(rt; words == "this partial clone lacks 30 objects. To fetch them");
-        assert!(rt; is_fetched && before == 0 && after == 30);
+        is_right(&rt, is_so?, revision, "it isn't fetched");
     }
     Ok(())
 }

@@ -33,24 +33,34 @@ lend() {
 fake ''
 "#;
 
+/// Whether git says its version.
+fn says_version(rt: HostRuntime, git: &mut Command) -> io::Result<bool> {
+    git.arg("--version")?;
+    Ok(git.output(&rt)?.status.success())
+}
+
 /// Whether git is there. Where it isn't, a test of it passes without a look.
 pub fn has_git(rt: HostRuntime) -> io::Result<bool> {
-    let mut command = Command::new(rt.alloc(), "git")?;
-    command.arg("--version")?;
-    match command.output(&rt) {
-        Ok(ran) => Ok(ran.status.success()),
+    let mut git = Command::new(rt.alloc(), "git")?;
+    match says_version(rt, &mut git) {
         Err(error) if error.kind() == io::ErrorKind::NotFound => Ok(false),
-        Err(error) => Err(error),
+        said => said,
     }
+}
+
+/// Runs a text by a shell in the folder, and returns whether it ended well.
+fn runs_by(rt: HostRuntime, shell: &mut Command, folder: &str, text: &str) -> io::Result<bool> {
+    shell.arg("-c")?;
+    shell.arg(text)?;
+    shell.current_dir(folder)?;
+    Ok(shell.status(&rt)?.success())
 }
 
 /// Runs a shell's text in the folder, and returns whether it ended well.
 pub fn runs(rt: HostRuntime, folder: &str, text: &str) -> io::Result<bool> {
+    let whole = format!(in rt.alloc(); "{PRELUDE}{text}")?;
     let mut shell = Command::new(rt.alloc(), "sh")?;
-    shell.arg("-c")?;
-    shell.arg(format!(in rt.alloc(); "{PRELUDE}{text}")?.as_str())?;
-    shell.current_dir(folder)?;
-    Ok(shell.status(&rt)?.success())
+    runs_by(rt, &mut shell, folder, whole.as_str())
 }
 
 /// The path of what is in a folder.
