@@ -1,5 +1,5 @@
 -- What was made for a checkout, and what of it is back.
-use Rattle.std.proofs.Common.{◌≡◌, ◌+◌, ◌++◌, ℕ, suc, List, [], ◌∷◌, map, Option, refl, sym, ap, ◌∙◌, subst, arith, append_assoc, append-nil}
+use Rattle.std.proofs.Common.{◌≡◌, ◌+◌, ◌++◌, ℕ, suc, List, [], ◌∷◌, length, length-append, map, Option, refl, sym, ap, ◌∙◌, subst, arith, append_assoc, append-nil}
 use Rattle.std.specs.Prelude.{Result, Ok, Err, OnErr}
 use Rattle.std.proofs.lemmas.List.{map-append}
 use Rattle.edge_kit.specs.Joins.{JoinsBy, JoinsLeaf, leaf_back}
@@ -45,6 +45,7 @@ nothing_made repo tree = record {
   paths = [];
   repo_kept = sym (ap (λ (n : ℕ). record repo { out = n; returned = repo.returned ++ [] }) (plus_none repo.out) ∙ ap (λ (l : List (List ℕ × ℕ)). record repo { returned = l }) (append-nil repo.returned));
   files = refl;
+  empty = λ _. refl;
   tree_kept = same_tree tree;
 }
 
@@ -55,6 +56,7 @@ none_back n repo repo' tree tree' r t = record {
   paths = [];
   repo_kept = r ∙ ap (λ (l : List (List ℕ × ℕ)). record repo { out = repo.out + n; returned = l }) (sym (append-nil repo.returned));
   files = ap (λ (x : TreeSeen). x.files) t;
+  empty = λ _. ap (λ (x : TreeSeen). x.empty) t;
   tree_kept = t ∙ ap (λ (e : Option _). record tree { empty = e; out = tree.out + n }) (sym (ap (λ (x : TreeSeen). x.empty) t))
       ∙ ap (λ (l : List (List ℕ × LeafState × ℕ)). record tree { empty = tree'.empty; out = tree.out + n; returned = l }) (sym (append-nil tree.returned));
 }
@@ -68,6 +70,7 @@ more_made n m old mid new tree tree' tree'' r t h = record {
   repo_kept = h.repo_kept ∙ ap (λ (x : RepoSeen). record x { out = x.out + m; returned = x.returned ++ map unused_blob h.names }) r
       ∙ ap (λ (k : ℕ). record old { out = k; returned = old.returned ++ map unused_blob h.names }) (omega arith);
   files = h.files ∙ ap (λ (x : TreeSeen). x.files) t;
+  empty = λ e. h.empty e ∙ ap (λ (x : TreeSeen). x.empty) t;
   tree_kept = h.tree_kept ∙ ap (λ (x : TreeSeen). record x { empty = tree''.empty; out = x.out + m; returned = x.returned ++ map unused_leaf h.paths }) t
       ∙ ap (λ (k : ℕ). record tree { empty = tree''.empty; out = k; returned = tree.returned ++ map unused_leaf h.paths }) (omega arith);
 }
@@ -121,6 +124,7 @@ card_returns n name path blob leaf repo repo' repo'' tree tree' tree'' is fresh 
       paths = h.paths ++ path ∷ [];
       repo_kept = blob_returns n name h.names repo repo' repo'' blob is h.repo_kept b.out b.back;
       files = files;
+      empty = λ e. absurd (omega (arith, ap length e, length-append h.paths (path ∷ [])));
       tree_kept = tree_by tree'' (record tree { out = tree.out + n; returned = tree.returned ++ map unused_leaf (h.paths ++ path ∷ []) }) files
           (l.faults ∙ ap (λ (t : TreeSeen). t.faults) kept) out returned;
     }
@@ -132,6 +136,7 @@ blob_alone name blob old mid new tree is made b = record {
   paths = [];
   repo_kept = blob_returns 0 name [] old mid new blob is (made ∙ ap (λ (l : List (List ℕ × ℕ)). record old { out = old.out + 1; returned = l }) (sym (append-nil old.returned))) b.out b.back;
   files = refl;
+  empty = λ _. refl;
   tree_kept = same_tree tree;
 }
 

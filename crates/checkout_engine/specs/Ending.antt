@@ -23,10 +23,10 @@ use Rattle.checkout_sources.specs.declared.stop.Stop.{Stop}
 use Rattle.checkout_sources.specs.declared.stop.Stop.TheVariants as stop
 use Rattle.checkout_sources.specs.Causes.{IsReadCause, IsRefusedFor, IsCutShort}
 use Rattle.checkout_engine.specs.Ends.{Seen, IsCheckedOut, IsReported, IsRefused, IsCutOff}
-use Rattle.checkout_engine.specs.Ends.{IsOutOfMemory, IsReadFault, IsNotEmpty, verdicts_of}
+use Rattle.checkout_engine.specs.Ends.{IsOutOfMemory, IsReadFault, IsNotEmpty, EndsReport, verdicts_of}
 use Rattle.checkout_engine.specs.Shown.{Refuses, EndsPlan}
 use Rattle.checkout_engine.specs.Rehearsed.{EndsRehearsal}
-use Rattle.checkout_engine.specs.Output.{IsCut, with_text}
+use Rattle.checkout_engine.specs.Output.{IsCut, IsLineCut, with_text}
 use Rattle.checkout_engine.specs.Report.{report, status_of, lacks_memory}
 use Rattle.checkout_engine.specs.Writing.{ArePathsDone}
 use Rattle.checkout_engine.specs.Made.{BreaksOff}
@@ -76,8 +76,7 @@ Reports text verdicts old new status.DoneWithFailures =
     (status_of verdicts ≡ status.DoneWithFailures) × (new ≡ with_text text old)
 Reports text verdicts old new status.OutputNotWritten =
     (lacks_memory verdicts ≡ false) × IsCut text old new × Rose old.faults new.faults
-Reports text verdicts old new status.OutOfMemory =
-    IsCut text old new × (lacks_memory verdicts ≡ false → new.faults ≡ old.faults)
+Reports text verdicts old new status.OutOfMemory = EndsReport text verdicts old new
 Reports text verdicts old new s = ⊥
 
 -- how the writing of open and closed paths ends, by so many workers and the desks of these drivers, and that of their
@@ -94,11 +93,11 @@ ReportsPaths ahead object paths drivers workers old new s =
     × IsRun (starts_of paths) workers (length drivers) new.history verdicts
     × Reports (report paths verdicts) verdicts old.sink new.sink s)
 
--- the whole text was written, or some first part of it
+-- The whole text was written, or some first part of it. Where the sink didn't fail, that is whole lines.
 abbrev pub WritesLines : {T : Type 0} → List ℕ → SinkSeen → SinkSeen → Result T SendFault → Type 0
 WritesLines text old new (Ok x) = new ≡ with_text text old
 WritesLines text old new (Err send.Failed) = IsCut text old new × Rose old.faults new.faults
-WritesLines text old new (Err send.NoMemory) = IsCut text old new × (new.faults ≡ old.faults)
+WritesLines text old new (Err send.NoMemory) = IsLineCut text old new
 
 -- how the writing of a text in one piece ends
 abbrev pub ShowsLines : List ℕ → SinkSeen → SinkSeen → ExitStatus → Type 0

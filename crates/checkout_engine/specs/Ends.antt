@@ -24,7 +24,7 @@ use Rattle.checkout_engine.specs.Outcome.{Outcome, AreOutcomes}
 use Rattle.checkout_engine.specs.Talks.{DriverTalk, AreDriverTalks, with_talks}
 use Rattle.checkout_engine.specs.Made.{BreaksOff}
 use Rattle.checkout_engine.specs.Paths.{with_blobs, blobs_back, leaves_back, GotLeaves}
-use Rattle.checkout_engine.specs.Output.{IsCut, with_text}
+use Rattle.checkout_engine.specs.Output.{IsCut, IsLineCut, with_text}
 use Rattle.checkout_engine.specs.Workers.{starts_of, worker_count}
 use Rattle.checkout_engine.specs.Report.{status_of, lacks_memory, report, number_of}
 use Rattle.checkout_sources.specs.RefusalText.{refusal_line}
@@ -138,13 +138,19 @@ pub record IsIdle (old new : Seen) : Type 0 where
   pub untouched : IsUntouched old new
   pub silent : new.sink ≡ old.sink
 
--- The checkout is done, and a first part of its report was written. If no path ran out of memory,
--- the sink didn't fail.
+-- How a report ends as memory ran out: while it was written, at the end of a line; or for some path before that, and then
+-- it was written whole, or the sink failed.
+abbrev pub EndsReport : List ℕ → List Verdict → SinkSeen → SinkSeen → Type 0
+EndsReport text verdicts old new =
+    IsLineCut text old new
+    ⊎ ((lacks_memory verdicts ≡ true)
+    × ((new ≡ with_text text old) ⊎ (IsCut text old new × Rose old.faults new.faults)))
+
+-- The checkout is done, and memory ran out.
 pub record IsReportCut (told : RepoTold) (ahead : List ℕ → Starts) (asked : Option ℕ) (old new : Seen) : Type 0 where
   pub checkout : IsCheckedOut told ahead asked old new
-  pub report : IsCut (report checkout.plan.paths (verdicts_of checkout.outcomes)) old.sink new.sink
-  pub sink : lacks_memory (verdicts_of checkout.outcomes) ≡ false
-      → new.sink.faults ≡ old.sink.faults
+  pub report : EndsReport (report checkout.plan.paths (verdicts_of checkout.outcomes))
+      (verdicts_of checkout.outcomes) old.sink new.sink
 
 -- Memory ran out once the plan was read and before the paths were done, and nothing is reported. What was made is back,
 -- unused, or all of it is out.

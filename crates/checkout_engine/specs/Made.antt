@@ -35,6 +35,7 @@ pub record HasCards (cards : ℕ) (repo repo' : RepoSeen) (tree tree' : TreeSeen
   pub paths : List (List ℕ)
   pub repo_kept : repo' ≡ record repo { out = repo.out + cards; returned = repo.returned ++ map unused_blob names }
   pub files : tree'.files ≡ tree.files
+  pub empty : paths ≡ [] → tree'.empty ≡ tree.empty
   pub tree_kept : tree' ≡ record tree {
     empty = tree'.empty;
     out = tree.out + cards;

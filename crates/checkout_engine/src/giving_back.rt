@@ -1,5 +1,5 @@
 //! The blobs and the leaves of a checkout, given back in path order, and its starters, in order of the drivers.
-ghost use Rattle.std.specs.Prelude.{◌≡◌, ◌+◌, ◌≤◌, ◌++◌, length, map};
+ghost use Rattle.std.specs.Prelude.{◌≡◌, ◌+◌, ◌≤◌, ◌++◌, [], length, map};
 ghost use Rattle.edge_kit.specs.Joins.{leaf_back};
 ghost use Rattle.edge_kit.specs.Seen.{blob_back};
 ghost use Rattle.edge_kit.specs.Starters.{starter_back};
@@ -31,6 +31,7 @@ pub fn give_leaves<T: Worktree>(tree: &mut T, leaves: Vec<T::Leaf>)
     ensures back { (T.seen tree.new).returned
         ≡ (T.seen tree.old).returned ++ map (λ l. leaf_back (T.Leaf.seen l)) leaves.items }
     ensures files { JoinAll (map T.Leaf.seen leaves.items) (T.seen tree.old).files (T.seen tree.new).files }
+    ensures none { leaves.items ≡ [] → T.seen tree.new ≡ T.seen tree.old }
 {
     for leaf in leaves {
         tree.take_back(leaf);

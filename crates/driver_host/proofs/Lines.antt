@@ -1,7 +1,10 @@
 -- Lines as they are written, read again.
-use Rattle.std.proofs.Common.{◌≡◌, ℕ, ◌-◌, true, List, [], ◌∷◌, ◌++◌, length}
+use Rattle.std.proofs.Common.{◌≡◌, ℕ, ◌+◌, ◌-◌, ◌<◌, Bool, true, false, List, [], ◌∷◌, ◌++◌, length}
 use Rattle.std.proofs.Common.{take, drop, Option, Some, None, refl, ap, ◌∙◌, arith}
-use Rattle.std.specs.Prelude.{codes, position, ◌==◌, nat_lt}
+use Rattle.std.proofs.Math.Seq.{drop-append-add}
+use Rattle.std.specs.Prelude.{codes, position, ◌==◌, nat_lt, nat_eq, if◌then◌else◌}
+use Rattle.std.specs.Cmp.Lexicographic.{pointwise}
+use Rattle.std.specs.List.{ends_with}
 use Rattle.std.proofs.lemmas.Grind.{common_steps}
 use Rattle.filter_words.specs.Words.{without_lf, value_of, key_and_value, cut_at, value_with}
 
@@ -36,6 +39,29 @@ keyed path =
 
 pub named : (path : List ℕ) → value_of (codes "pathname") (raw path) ≡ Some path
 named path = ap (λ (o : Option (List ℕ × List ℕ)). value_with (codes "pathname") o) (keyed path)
+
+-- the last byte of a line is that of its path
+last_of : (path : List ℕ) → 0 < length path
+    → drop (length (codes "pathname=" ++ path) - 1) (codes "pathname=" ++ path) ≡ drop (length path - 1) path
+last_of path some =
+    let k : length (codes "pathname=" ++ path) - 1 ≡ length (codes "pathname=") + (length path - 1) =
+    grind (arith, common_steps, some) in
+    ap (λ (n : ℕ). drop n (codes "pathname=" ++ path)) k ∙ drop-append-add (codes "pathname=") path (length path - 1)
+
+-- a line without an LF stays
+no_lf : (path : List ℕ) → 0 < length path → ends_with nat_eq path (10 ∷ []) ≡ false
+    → without_lf (codes "pathname=" ++ path) ≡ codes "pathname=" ++ path
+no_lf path some ends =
+    let text = codes "pathname=" ++ path in
+    ap (λ (z : List ℕ). if pointwise nat_eq (10 ∷ []) z then take (length text - 1) text else text) (last_of path some)
+    ∙ ap (λ (b : Bool). if b then take (length text - 1) text else text) ends
+
+pub named_whole : (path : List ℕ) → 0 < length path → ends_with nat_eq path (10 ∷ []) ≡ false
+    → value_of (codes "pathname") (codes "pathname=" ++ path) ≡ Some path
+named_whole path some ends =
+    ap (λ (o : Option (List ℕ × List ℕ)). value_with (codes "pathname") o)
+    (ap (λ (z : List ℕ). cut_at (position (λ b. b == 61) z) z) (no_lf path some ends)
+    ∙ ap (λ (o : Option ℕ). cut_at o (codes "pathname=" ++ path)) (at_equals path))
 
 pub no_command : (path : List ℕ) → value_of (codes "command") (raw path) ≡ None
 no_command path = ap (λ (o : Option (List ℕ × List ℕ)). value_with (codes "command") o) (keyed path)

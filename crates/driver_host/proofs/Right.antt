@@ -1,7 +1,7 @@
 -- Answers of a host, as a client's grammar has them, and requests of a client as a host's has them.
-use Rattle.std.proofs.Common.{◌≡◌, ℕ, ◌≤◌, inl, inr, Bool, true, false, List, [], ◌∷◌, ◌++◌, length, map, refl, sym, ap}
+use Rattle.std.proofs.Common.{◌≡◌, ℕ, ◌≤◌, ◌<◌, inl, inr, Bool, true, false, List, [], ◌∷◌, ◌++◌, length, map, Some, refl, sym, ap, ◌∙◌}
 use Rattle.std.proofs.Common.{append_assoc, arith}
-use Rattle.std.specs.Prelude.{codes, nat_le}
+use Rattle.std.specs.Prelude.{codes, nat_le, if◌then◌else◌}
 use Rattle.std.proofs.lemmas.Grind.{common_steps}
 use Rattle.pkt_line.specs.Packets.{Packet, Payload, Flush, total}
 use Rattle.filter_words.specs.Outcomes.{limit}
@@ -11,14 +11,16 @@ use Rattle.filter_words.specs.Requests.{line, smudge_packets}
 use Rattle.filter_words.specs.Grammar.{block}
 use Rattle.filter_words.specs.ReplyGrammar.{IsReply}
 use Rattle.filter_words.specs.HandshakeGrammar.{IsHandshake}
+use Rattle.filter_words.specs.Words.{value_of}
 use Rattle.filter_words.specs.ListGrammar.{IsList, AreExpected, names_of}
 use Rattle.filter_words.specs.Listing.{Listed}
 use Rattle.driver_host.specs.declared.work.Choice.{Choice}
 use Rattle.driver_host.specs.declared.work.Choice.TheVariants.{Give, Refuse, Later, Stop}
 use Rattle.driver_host.specs.Requests.{IsSmudge}
-use Rattle.driver_host.specs.Answers.{hello_answer, caps_answer, choice_answer, list_answer, reply_to, AreShort, name_line}
+use Rattle.driver_host.specs.Answers.{hello_answer, caps_answer, choice_answer, list_answer, reply_to, name_line}
+use Rattle.driver_host.specs.Answers.{IsListable, AreListable}
 use Rattle.hex.specs.Hex.{encode_lower}
-use Rattle.driver_host.proofs.Lines.{raw, named, no_command, no_can_delay}
+use Rattle.driver_host.proofs.Lines.{raw, named, named_whole, no_command, no_can_delay}
 use Rattle.driver_host.proofs.Lines.{raw_blob, blob_no_command, blob_no_path, blob_no_can_delay}
 use Rattle.driver_host.proofs.Contents.{joined_content}
 
@@ -89,25 +91,44 @@ replies d Refuse e = inl (record { keys = lf (codes "status=error") ∷ []; whol
 replies d Later e = inl (record { keys = lf (codes "status=delayed") ∷ []; whole = refl; ends = (refl, e refl) })
 replies d Stop e = inl (record { keys = lf (codes "status=abort") ∷ []; whole = refl; ends = refl })
 
-name_fits : (n : List ℕ) → length n ≤ 65506 → name_line n ≡ Payload (raw n)
-name_fits n le = let e : nat_le (length n) 65506 ≡ true = grind (arith, common_steps, le) in rw e refl
+-- what the line of a path holds
+abbrev pub line_or : Bool → List ℕ → List ℕ
+line_or true path = raw path
+line_or false path = codes "pathname=" ++ path
 
-lines_fit : (names : List (List ℕ)) → AreShort names → map name_line names ≡ map Payload (map raw names)
-lines_fit [] s = refl
-lines_fit (n ∷ ns) s = rw (name_fits n s.0, lines_fit ns s.1) refl
+abbrev pub line_for : List ℕ → List ℕ
+line_for path = line_or (nat_le (length path) 65506) path
 
-names_again : (names : List (List ℕ)) → names_of (map raw names) ≡ names
-names_again [] = refl
-names_again (n ∷ ns) = rw (named n, names_again ns) refl
+held_by : (fits : Bool) (n : List ℕ)
+    → (if fits then line (codes "pathname=" ++ n) else Payload (codes "pathname=" ++ n)) ≡ Payload (line_or fits n)
+held_by true n = refl
+held_by false n = refl
 
-pub lists : (delayed names : List (List ℕ)) → AreShort names → AreExpected delayed [] names
+lines_are : (names : List (List ℕ)) → map name_line names ≡ map Payload (map line_for names)
+lines_are [] = refl
+lines_are (n ∷ ns) = rw (held_by (nat_le (length n) 65506) n, lines_are ns) refl
+
+name_again : (n : List ℕ) → IsListable n → value_of (codes "pathname") (line_for n) ≡ Some n
+name_again n (inl few) =
+    let e : nat_le (length n) 65506 ≡ true = grind (arith, common_steps, few) in
+    ap (λ (b : Bool). value_of (codes "pathname") (line_or b n)) e ∙ named n
+name_again n (inr full) =
+    let some : 0 < length n = omega (arith, full.0) in
+    let e : nat_le (length n) 65506 ≡ false = grind (arith, common_steps, full.0) in
+    ap (λ (b : Bool). value_of (codes "pathname") (line_or b n)) e ∙ named_whole n some full.1
+
+names_again : (names : List (List ℕ)) → AreListable names → names_of (map line_for names) ≡ names
+names_again [] s = refl
+names_again (n ∷ ns) s = rw (name_again n s.0, names_again ns s.1) refl
+
+pub lists : (delayed names : List (List ℕ)) → AreListable names → AreExpected delayed [] names
     → IsList delayed (list_answer names) (Listed names)
-lists delayed names short expected = record {
-  lines = map raw names;
+lists delayed names listable expected = record {
+  lines = map line_for names;
   keys = success_keys;
-  whole = rw (lines_fit names short) (sym (append_assoc (map Payload (map raw names)) (Flush ∷ []) (block success_keys)));
-  expected = rw (names_again names) expected;
-  ends = (refl, sym (names_again names));
+  whole = rw (lines_are names) (sym (append_assoc (map Payload (map line_for names)) (Flush ∷ []) (block success_keys)));
+  expected = rw (names_again names listable) expected;
+  ends = (refl, sym (names_again names listable));
 }
 
 pub smudges : (path name content : List ℕ) (d : Bool) → IsSmudge path d content (smudge_packets path name d content)

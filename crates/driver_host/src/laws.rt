@@ -11,7 +11,7 @@ ghost use Rattle.driver_host.specs.declared.work.Choice.{Choice};
 ghost use Rattle.driver_host.specs.declared.work.Choice.TheVariants as choice;
 ghost use Rattle.driver_host.specs.Requests.{IsRequest, Hello, Offer, Smudge, Listing};
 ghost use Rattle.driver_host.specs.Answers.{hello_answer, caps_answer, choice_answer, list_answer, reply_to, given};
-ghost use Rattle.driver_host.specs.Answers.{AreShort};
+ghost use Rattle.driver_host.specs.Answers.{AreListable};
 ghost use Rattle.pkt_line.specs.Packets.{Packet, total};
 ghost use Rattle.filter_words.specs.Outcomes.{outcome, limit};
 ghost use Rattle.filter_words.specs.Handshake.{handshake_step, handshake_start};
@@ -37,7 +37,7 @@ pub fn right_replies()
 
 /// The answer to a request for a list is a good list of these names, if each is expected.
 pub fn right_lists()
-    ensures { (delayed names : List (List ℕ)) → AreShort names → AreExpected delayed [] names
+    ensures { (delayed names : List (List ℕ)) → AreListable names → AreExpected delayed [] names
         → IsList delayed (list_answer names) (Listed names) }
 {}
 
@@ -59,7 +59,7 @@ pub fn good_answers()
         (d : Bool) (cs : List Choice) (ps : List Packet) (t : Stage)
         → Answers own batch (Serving agreed owed) (Smudge path d content) cs ps t
         → total ps ≤ limit → IsHeardAs d cs ps }
-    ensures list { (delayed names : List (List ℕ)) → AreShort names → AreExpected delayed [] names
+    ensures list { (delayed names : List (List ℕ)) → AreListable names → AreExpected delayed [] names
         → total (list_answer names) ≤ limit
         → outcome (list_step delayed) limit list_start (list_answer names)
         ≡ state.Done (Listed names) }

@@ -11,7 +11,7 @@ use Rattle.driver_line.specs.Parts.{IsPartOf}
 use Rattle.driver_line.specs.Transcripts.{IsPart}
 use Rattle.driver_host.specs.declared.work.Choice.{Choice}
 use Rattle.driver_host.specs.declared.work.Choice.TheVariants as choice
-use Rattle.driver_host.specs.Answers.{AreShort}
+use Rattle.driver_host.specs.Answers.{AreListable}
 use Rattle.driver_host.specs.HostText.{Owed, MayChoose}
 
 pub spelled_both : (ps qs : List Packet) → spelling_all (ps ++ qs) ≡ spelling_all ps ++ spelling_all qs
@@ -45,10 +45,10 @@ later_waits owed path d choice.Refuse m e = absurd cc
 later_waits owed path d choice.Later m e = m.0
 later_waits owed path d choice.Stop m e = absurd cc
 
-pub short_take : (n : ℕ) (names : List (List ℕ)) → AreShort names → AreShort (take n names)
-short_take zero names s = tt
-short_take (suc n) [] s = tt
-short_take (suc n) (x ∷ xs) s = (s.0, short_take n xs s.1)
+pub listable_take : (n : ℕ) (names : List (List ℕ)) → AreListable names → AreListable (take n names)
+listable_take zero names s = tt
+listable_take (suc n) [] s = tt
+listable_take (suc n) (x ∷ xs) s = (s.0, listable_take n xs s.1)
 
 pub expected_take : (n : ℕ) (delayed before names : List (List ℕ)) → AreExpected delayed before names
     → AreExpected delayed before (take n names)

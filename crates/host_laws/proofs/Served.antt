@@ -33,7 +33,7 @@ use Rattle.driver_line.specs.SameHeard.{NoneWanting, HaveTexts}
 use Rattle.driver_host.specs.declared.work.Choice.{Choice}
 use Rattle.driver_host.specs.declared.work.Choice.TheVariants as choice
 use Rattle.driver_host.specs.Requests.{Request}
-use Rattle.driver_host.specs.Answers.{AreShort, reply_to}
+use Rattle.driver_host.specs.Answers.{AreListable, reply_to}
 use Rattle.driver_host.specs.declared.host.HostFault.TheVariants as fault
 use Rattle.driver_host.specs.HostText.{AllAnswered, EndsSo}
 use Rattle.driver_host.specs.HostText.{Stage, Serving, Over, Owed, HostEnd, Waits, Stopped, Refused, MayChoose, after_choice, after_list, less}
@@ -579,11 +579,11 @@ module _ (replies : RepliesAreGood) (lists : ListsAreGood) (own : Caps) (batch :
 
   -- a list
 
-  short_names : (xs : List ℕ) → AreAmong asked_paths xs → AreShort (map paths.text xs)
-  short_names [] among = tt
-  short_names (x ∷ xs) among =
+  listable_names : (xs : List ℕ) → AreAmong asked_paths xs → AreListable (map paths.text xs)
+  listable_names [] among = tt
+  listable_names (x ∷ xs) among =
       let f = (fine x (among x (some_here x xs))).long in
-      (omega (arith, f), short_names xs (among_tail asked_paths x xs among))
+      (inl (omega (arith, f)), listable_names xs (among_tail asked_paths x xs among))
 
   expected_names : (late before xs : List ℕ) → ((q : ℕ) → times_in q before + times_in q xs ≤ 1)
       → AreAmong asked_paths before → AreAmong asked_paths xs
@@ -625,7 +625,7 @@ module _ (replies : RepliesAreGood) (lists : ListsAreGood) (own : Caps) (batch :
   list_of late names y es r owed answers taken used later ag late_is at awaits output parts came is part fit wants =
       lists own batch agreed owed (map paths.text late) (sent_packets paths agreed es) answers end used later came
       (ag.waits at.any)
-      (subst (λ (z : List (List ℕ)). AreShort z) (sym ag.delayed) (short_names ag.late (among_late owed r ag)))
+      (subst (λ (z : List (List ℕ)). AreListable z) (sym ag.delayed) (listable_names ag.late (among_late owed r ag)))
       (subst (λ (z : List (List ℕ)). AreExpected (map paths.text late) [] z) (sym ag.delayed)
       (expected_names late [] ag.late
       (λ q. (let o = ag.once q in omega (arith, o)))

@@ -1,5 +1,5 @@
 -- What a host answers is packets of the standard's length.
-use Rattle.std.proofs.Common.{◌≡◌, ℕ, zero, suc, ◌+◌, ◌≤◌, Bool, true, false, List, [], ◌∷◌, ◌++◌, length, map, drop}
+use Rattle.std.proofs.Common.{◌≡◌, ℕ, zero, suc, ◌+◌, ◌≤◌, inl, inr, Bool, true, false, List, [], ◌∷◌, ◌++◌, length, map, drop}
 use Rattle.std.proofs.Common.{refl, sym, subst, arith, length-take}
 use Rattle.std.specs.Prelude.{codes, nat_le}
 use Rattle.std.proofs.lemmas.Grind.{common_steps}
@@ -12,7 +12,8 @@ use Rattle.filter_proto.specs.Exchanges.{Good}
 use Rattle.driver_line.specs.Transcripts.{IsPart, StopsAt}
 use Rattle.driver_host.specs.declared.work.Choice.{Choice}
 use Rattle.driver_host.specs.declared.work.Choice.TheVariants.{Give, Refuse, Later, Stop}
-use Rattle.driver_host.specs.Answers.{hello_answer, caps_answer, choice_answer, list_answer, name_line, status_answer, AreShort}
+use Rattle.driver_host.specs.Answers.{hello_answer, caps_answer, choice_answer, list_answer, name_line, status_answer}
+use Rattle.driver_host.specs.Answers.{IsListable, AreListable}
 
 abbrev pub AreSmall : List Packet → Type 0
 AreSmall [] = Unit {0}
@@ -45,16 +46,18 @@ small_choice Refuse = (omega arith, (omega arith, tt))
 small_choice Later = (omega arith, (omega arith, tt))
 small_choice Stop = (omega arith, (omega arith, tt))
 
-small_name : (n : List ℕ) → length n ≤ 65506 → pkt_len (name_line n) ≤ 65520
-small_name n le =
+small_name : (n : List ℕ) → IsListable n → pkt_len (name_line n) ≤ 65520
+small_name n (inl le) =
     let e : nat_le (length n) 65506 ≡ true = grind (arith, common_steps, le) in
     rw e (let l : length (n ++ 10 ∷ []) ≡ length n + 1 = grind (arith, common_steps) in omega (arith, l, le))
+small_name n (inr full) =
+    let e : nat_le (length n) 65506 ≡ false = grind (arith, common_steps, full.0) in rw e (omega (arith, full.0))
 
-small_names : (names : List (List ℕ)) → AreShort names → AreSmall (map name_line names)
+small_names : (names : List (List ℕ)) → AreListable names → AreSmall (map name_line names)
 small_names [] s = tt
 small_names (n ∷ ns) s = (small_name n s.0, small_names ns s.1)
 
-pub small_list : (names : List (List ℕ)) → AreShort names → AreSmall (list_answer names)
+pub small_list : (names : List (List ℕ)) → AreListable names → AreSmall (list_answer names)
 small_list names s = both_small (map name_line names) (Flush ∷ status_answer (codes "success")) (small_names names s)
     (omega arith, (omega arith, (omega arith, tt)))
 

@@ -15,7 +15,7 @@ use Rattle.driver_line.specs.Parts.{IsPartOf}
 use Rattle.driver_host.specs.declared.work.Choice.{Choice}
 use Rattle.driver_host.specs.Requests.{Smudge, Listing}
 use Rattle.driver_host.specs.Answers.{choice_answer, list_answer, hello_answer, caps_answer, both, reply_to, given}
-use Rattle.driver_host.specs.Answers.{AreShort}
+use Rattle.driver_host.specs.Answers.{AreListable}
 use Rattle.driver_host.specs.HostText.{Fresh, Serving, Owed, HostEnd, MayChoose, after_choice, after_list, none_owed}
 use Rattle.host_laws.specs.Awaiting.{Awaits, MayCome}
 
@@ -57,7 +57,7 @@ pub record HasNames (own : Caps) (batch : ℕ) (agreed : Caps) (owed : Owed) (se
 abbrev pub ListsAreGood : Type 0
 ListsAreGood = (own : Caps) (batch : ℕ) (agreed : Caps) (owed : Owed) (delayed : List (List ℕ))
     (sent answers : List Packet) (end : HostEnd) (used rest : List ℕ) (came : Ends GoodList)
-    → MayCome (Serving agreed owed) Listing → AreShort owed.delayed → AreExpected delayed [] owed.delayed
+    → MayCome (Serving agreed owed) Listing → AreListable owed.delayed → AreExpected delayed [] owed.delayed
     → Awaits own batch (Serving agreed owed) (list_packets ++ sent) answers end
     → IsPartOf (list_step delayed) list_start (spelling_all answers) used rest came
     → HasNames own batch agreed owed sent answers end used came

@@ -14,7 +14,7 @@ ghost use Rattle.driver_line.specs.Transcripts.{IsPart};
 ghost use Rattle.driver_host.specs.declared.work.Choice.{Choice};
 ghost use Rattle.driver_host.specs.declared.work.Choice.TheVariants as choice;
 ghost use Rattle.driver_host.specs.Answers.{hello_answer, caps_answer, choice_answer, list_answer};
-ghost use Rattle.driver_host.specs.Answers.{reply_to, given, AreShort};
+ghost use Rattle.driver_host.specs.Answers.{reply_to, given, AreListable};
 ghost use Rattle.pkt_line.specs.Packets.{Packet};
 ghost use Rattle.driver_host.specs.Requests.{Request, IsRequest};
 ghost use Rattle.driver_host.specs.HostText.{Stage, Fresh, HostEnd};
@@ -39,7 +39,7 @@ pub fn one_exchange()
         → total (choice_answer c) ≤ limit
         → IsPart (reply_step d) reply_start (spelling_all (choice_answer c)) rest (Good (reply_to c))
         (HasContent d (given c)) }
-    ensures list { (delayed names : List (List ℕ)) (rest : List ℕ) → AreShort names
+    ensures list { (delayed names : List (List ℕ)) (rest : List ℕ) → AreListable names
         → AreExpected delayed [] names → total (list_answer names) ≤ limit
         → IsPart (list_step delayed) list_start (spelling_all (list_answer names)) rest
         (Good (Listed names)) (λ _. Unit {0}) }

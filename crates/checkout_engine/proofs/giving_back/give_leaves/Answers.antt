@@ -14,6 +14,7 @@ loop-leaf-init g c = record {
   out = omega arith;
   back = sym (append-nil (g.T.Worktree.seen c.args.tree.now).returned);
   files = refl;
+  none = λ _. refl;
   can = tt;
   ends = tt;
 }
@@ -49,6 +50,7 @@ loop-leaf-preserved g c =
           ∙ append_assoc old.returned (map f y) (f x ∷ []) ∙ ap (λ l. old.returned ++ l) (sym (map-append f y (x ∷ [])));
       files = subst (λ (ls : List LeafSeen). JoinAll ls old.files new.files) (sym (map-append see y (x ∷ [])))
           (joins_more (map see y) (see x) old.files mid.files new.files i.files c.take_back.ensures.files);
+      none = λ e. absurd (omega (arith, ap length e, length-append y (x ∷ [])));
       can = tt;
       ends = tt;
     }
@@ -67,4 +69,5 @@ returns g c =
       out = omega (arith, i.out, ap length whole);
       back = i.back ∙ ap (λ l. old.returned ++ map (λ x. leaf_back (g.T.Leaf.Leaf.seen x)) l) whole;
       files = subst (λ l. JoinAll (map (λ x. g.T.Leaf.Leaf.seen x) l) old.files new.files) whole i.files;
+      none = λ e. i.none (whole ∙ e);
     }

@@ -1,4 +1,4 @@
-use Rattle.std.proofs.Common.{◌≡◌, ◌+◌, ◌++◌, length, map}
+use Rattle.std.proofs.Common.{◌≡◌, ◌+◌, ◌++◌, [], length, map}
 use Rattle.edge_kit.specs.Joins.{leaf_back}
 use Rattle.checkout_engine.specs.Cards.{JoinAll}
 use Rattle.checkout_engine.proofs.giving_back.give_leaves.Given as goal
@@ -11,6 +11,7 @@ invariant-loop-leaf g l = record {
   back : (g.T.Worktree.seen l.tree).returned
       ≡ (g.T.Worktree.seen l.initial.tree).returned ++ map (λ x. leaf_back (g.T.Leaf.Leaf.seen x)) l.yielded;
   files : JoinAll (map (λ x. g.T.Leaf.Leaf.seen x) l.yielded) (g.T.Worktree.seen l.initial.tree).files (g.T.Worktree.seen l.tree).files;
+  none : l.yielded ≡ [] → g.T.Worktree.seen l.tree ≡ g.T.Worktree.seen l.initial.tree;
   can : (goal.iterator-loop-leaf g).can_next l.leaf-iterator;
   ends : (goal.iterator-loop-leaf g).is_finite l.leaf-iterator;
 }

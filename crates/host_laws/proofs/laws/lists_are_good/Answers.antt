@@ -9,7 +9,7 @@ use Rattle.driver_host.specs.Requests.{Listing}
 use Rattle.driver_host.specs.Answers.{list_answer}
 use Rattle.driver_host.specs.HostText.{Stage, Serving}
 use Rattle.host_laws.specs.Awaiting.{Awaits}
-use Rattle.host_laws.proofs.Good.{host_part, short_take, expected_take}
+use Rattle.host_laws.proofs.Good.{host_part, listable_take, expected_take}
 use Rattle.host_laws.proofs.laws.lists_are_good.Goals as goal
 
 pub returns : goal.returns
@@ -20,7 +20,7 @@ returns c own batch agreed owed delayed sent answers end used rest came may shor
     c.client_requests.ensures.listing few awaits in
     let x = t.is in
     let whole : answers ≡ list_answer names ++ t.later = t.whole ∙ ap (λ (z : List Packet). z ++ t.later) x.2 in
-    let part = c.one_exchange.ensures.list delayed names (spelling_all t.later) (short_take batch owed.delayed short)
+    let part = c.one_exchange.ensures.list delayed names (spelling_all t.later) (listable_take batch owed.delayed short)
     (expected_take batch delayed [] owed.delayed expected)
     (subst (λ (z : List Packet). total z ≤ limit) x.2 t.fit) in
     let host = host_part (list_step delayed) list_start answers (list_answer names) t.later (Listed names)
