@@ -1,5 +1,5 @@
 //! The lines of an answer, as `git check-attr` prints them.
-ghost use Rattle.std.specs.Prelude.{◌≡◌, ◌++◌, OnOk, length};
+ghost use Rattle.std.specs.Prelude.{◌≡◌, ◌++◌, IfOk, OnOk, length};
 ghost use Rattle.byte_path.specs.Quote.{quoted};
 ghost use Rattle.format_cases.specs.Answer.{state_text, line, answer};
 
@@ -37,7 +37,7 @@ fn push_line(
 }
 
 /// A line for each name with its state, for a path that is quoted if it needs quotes.
-pub fn push_answer(
+fn push_answer(
     text: &mut Vec<u8>,
     alloc: Global,
     path: &[u8],
@@ -52,4 +52,19 @@ pub fn push_answer(
         push_line(text, &shown, name.as_slice(), &states[place])?;
     }
     Ok(())
+}
+
+/// The lines of a path's answer.
+pub fn answer_with(
+    alloc: Global,
+    path: &[u8],
+    names: &[Bytes],
+    states: &[AttrState],
+) -> Result<Vec<u8>, AllocError>
+    requires { length names.now ≡ length states.now }
+    ensures { IfOk result (λ text. text.items ≡ answer (quoted path.now) names.now states.now) }
+{
+    let mut text = Vec::new(alloc);
+    push_answer(&mut text, alloc, path, names, states)?;
+    Ok(text)
 }

@@ -1,6 +1,6 @@
 //! The lines of attribute files.
 use crate::answer::text_of;
-use attr_line::{AttrRow, Pair, Skipped, read_attributes};
+use attr_line::{AttrFile, AttrRow, Pair, Skipped, read_attributes};
 use case_kit::{push_all, unknown};
 use std::alloc::{AllocError, Global};
 use std::test::Fail;
@@ -28,6 +28,28 @@ fn push_row(list: &mut Vec<u8>, row: &AttrRow) -> Result<(), AllocError> {
     }
 }
 
+/// Appends how many lines are skipped for each cause.
+fn push_skipped(alloc: Global, list: &mut Vec<u8>, skipped: &Skipped) -> Result<(), AllocError> {
+    let Skipped {
+        long,
+        negative,
+        name,
+        place,
+    } = skipped;
+    let counts = format!(in alloc; "|{long} {negative} {name} {place}")?;
+    push_all(list, &[counts.as_bytes()])
+}
+
+/// The rows of a file, and how many lines are skipped.
+fn listed(alloc: Global, file: &AttrFile) -> Result<Vec<u8>, AllocError> {
+    let mut list = Vec::new(alloc);
+    for row in file.rows.as_slice() {
+        push_row(&mut list, row)?;
+    }
+    push_skipped(alloc, &mut list, &file.skipped)?;
+    Ok(list)
+}
+
 /// Whether a folder is the top folder.
 fn is_top(folder: &[u8]) -> Result<bool, Fail> {
     if folder == b"top".as_slice() {
@@ -43,18 +65,5 @@ fn is_top(folder: &[u8]) -> Result<bool, Fail> {
 /// names, and macros where none is allowed.
 pub fn read(alloc: Global, text: &[u8], folder: &[u8]) -> Result<Vec<u8>, Fail> {
     let file = read_attributes(alloc, text, is_top(folder)?)?;
-    let mut list = Vec::new(alloc);
-    let rows = file.rows.as_slice();
-    for row in rows {
-        push_row(&mut list, row)?;
-    }
-    let Skipped {
-        long,
-        negative,
-        name,
-        place,
-    } = file.skipped;
-    let counts = format!(in alloc; "|{long} {negative} {name} {place}")?;
-    push_all(&mut list, &[counts.as_bytes()])?;
-    Ok(list)
+    Ok(listed(alloc, &file)?)
 }

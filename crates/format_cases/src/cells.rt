@@ -44,6 +44,14 @@ fn take(alloc: Global, whole: &mut Block, cell: &Cell) -> Result<(), Fail> {
     }
 }
 
+/// Takes the cells of a block.
+fn take_all(alloc: Global, whole: &mut Block, cells: &[Cell]) -> Result<(), Fail> {
+    for cell in cells {
+        take(alloc, whole, cell)?;
+    }
+    Ok(())
+}
+
 /// The block with whole cells.
 pub fn whole(alloc: Global, block: &Block) -> Result<Block, Fail> {
     let (kind, _) = parted(&block.form);
@@ -53,9 +61,7 @@ pub fn whole(alloc: Global, block: &Block) -> Result<Block, Fail> {
         cells: Vec::new(alloc),
         wanted: None,
     };
-    for cell in block.cells.as_slice() {
-        take(alloc, &mut whole, cell)?;
-    }
+    take_all(alloc, &mut whole, block.cells.as_slice())?;
     Ok(whole)
 }
 

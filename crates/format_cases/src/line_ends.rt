@@ -41,17 +41,29 @@ fn ends_of(cell: &[u8]) -> Result<LineEnds, Fail> {
     }
 }
 
-/// What the attributes `text`, `crlf` and `eol` and the settings `core.autocrlf` and `core.eol` make of the line ends.
-pub fn decided(
+/// The line ends by three attributes and two settings.
+fn ends_by(
     alloc: Global,
     [text, crlf, eol]: [&[u8]; 3],
-    auto: &[u8],
-    setting: &[u8],
-) -> Result<Vec<u8>, Fail> {
+    auto: AutoCrlf,
+    setting: EolSetting,
+) -> Result<LineEnds, Fail> {
     let text = state_of(alloc, text)?;
     let crlf = state_of(alloc, crlf)?;
     let eol = state_of(alloc, eol)?;
-    let ends = line_ends_of(&text, &crlf, &eol, auto_of(auto)?, setting_of(setting)?);
+    Ok(line_ends_of(&text, &crlf, &eol, auto, setting))
+}
+
+/// What the attributes `text`, `crlf` and `eol` and the settings `core.autocrlf` and `core.eol` make of the line ends.
+pub fn decided(
+    alloc: Global,
+    states: [&[u8]; 3],
+    auto: &[u8],
+    setting: &[u8],
+) -> Result<Vec<u8>, Fail> {
+    let auto = auto_of(auto)?;
+    let setting = setting_of(setting)?;
+    let ends = ends_by(alloc, states, auto, setting)?;
     Ok(shown(alloc, ends)?)
 }
 

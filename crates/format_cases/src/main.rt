@@ -28,7 +28,7 @@ mod views;
 mod words;
 
 use byte_path::{quote_path, unmarked};
-use case_kit::{Block, Cases, number_of, report_files, unknown};
+use case_kit::{Block, Cases, Cell, number_of, report_files, unknown};
 use std::alloc::Global;
 use std::io::{Read, Write};
 use std::test::Fail;
@@ -115,21 +115,46 @@ fn five_read(alloc: Global, form: &[u8], cells: [&[u8]; 5]) -> Result<Vec<u8>, F
     }
 }
 
+/// What comes of a block with one cell or none, about the words of a program or about a text.
+fn word_read(alloc: Global, form: &[u8], cells: &[Cell]) -> Result<Vec<u8>, Fail> {
+    if form.starts_with(b"checkout_program") {
+        return words::plain(alloc, cells);
+    }
+    if form.starts_with(b"siuwbren") {
+        return words::asked(alloc, cells);
+    }
+    match cells {
+        [text] => file_read(alloc, form, &text.value),
+        _ => Err(unknown(form)),
+    }
+}
+
+/// What comes of a block with three cells.
+fn three_read(alloc: Global, form: &[u8], cells: [&[u8]; 3]) -> Result<Vec<u8>, Fail> {
+    if form != b"report form lines fail-at".as_slice() {
+        return Err(unknown(form));
+    }
+    let [a, b, c] = cells;
+    reports::formed(alloc, a, b, Some(number_of(c)?))
+}
+
+/// What comes of a block with four cells.
+fn four_read(alloc: Global, form: &[u8], cells: [&[u8]; 4]) -> Result<Vec<u8>, Fail> {
+    if form != b"digests a b c d".as_slice() {
+        return Err(unknown(form));
+    }
+    Ok(digests::digested(alloc, cells)?)
+}
+
 /// What comes of a block with whole cells.
 fn whole_read(alloc: Global, block: &Block) -> Result<Vec<u8>, Fail> {
     let form = block.form.as_slice();
     let cells = block.cells.as_slice();
     match cells {
-        [] | [_] if form.starts_with(b"checkout_program") => words::plain(alloc, cells),
-        [] | [_] if form.starts_with(b"siuwbren") => words::asked(alloc, cells),
-        [text] => file_read(alloc, form, &text.value),
+        [] | [_] => word_read(alloc, form, cells),
         [first, second] => pair_read(alloc, form, &first.value, &second.value),
-        [a, b, c] if form == b"report form lines fail-at".as_slice() => {
-            reports::formed(alloc, &a.value, &b.value, Some(number_of(&c.value)?))
-        }
-        [a, b, c, d] if form == b"digests a b c d".as_slice() => {
-            Ok(digests::digested(alloc, [&a.value, &b.value, &c.value, &d.value])?)
-        }
+        [a, b, c] => three_read(alloc, form, [&a.value, &b.value, &c.value]),
+        [a, b, c, d] => four_read(alloc, form, [&a.value, &b.value, &c.value, &d.value]),
         [a, b, c, d, e] => {
             five_read(
                 alloc,
@@ -162,18 +187,25 @@ fn listed(alloc: Global, word: &str, text: &[u8]) -> Result<Vec<u8>, Fail> {
     }
 }
 
+/// Prints what the word asks for of standard input.
+fn print_list(rt: HostRuntime, word: &str) -> Result<(), Fail> {
+    let mut text = Vec::new(rt.alloc());
+    rt.reader().read_to_end(&mut text)?;
+    let list = listed(rt.alloc(), word, &text)?;
+    io::writer(&rt).write_all(&list)?;
+    Ok(())
+}
+
+/// Whether a first argument asks for something of standard input.
+fn is_asked(word: &str) -> bool {
+    word == "index" || word == "attributes" || word == "conversions"
+}
+
 fn main(rt: HostRuntime) -> Result<(), Fail> {
     let mut words = env::args(&rt)?;
     let _program = words.next();
-    if let Some(word) = words.next() {
-        let word = word.as_str();
-        if word == "index" || word == "attributes" || word == "conversions" {
-            let mut text = Vec::new(rt.alloc());
-            rt.reader().read_to_end(&mut text)?;
-            let list = listed(rt.alloc(), word, &text)?;
-            io::writer(&rt).write_all(&list)?;
-            return Ok(());
-        }
+    match words.next() {
+        Some(word) if is_asked(word.as_str()) => print_list(rt, word.as_str()),
+        _ => report_files(rt, &FormatCases),
     }
-    report_files(rt, &FormatCases)
 }

@@ -12,7 +12,7 @@ ghost use Rattle.std.specs.Prelude.{◌≡◌, ◌++◌, IfOk, OnOk};
 ghost use Rattle.std.specs.List.{flat_map};
 ghost use Rattle.format_cases.specs.Drafts.{files_at, files_of};
 
-use crate::answer::push_answer;
+use crate::answer::answer_with;
 use attr_line::{AttrFile, read_attributes};
 use attr_stack::{AttrFiles, AttrStack, FileAt, attributes_of};
 use byte_path::{Bytes, Items};
@@ -111,21 +111,82 @@ fn names_of(alloc: Global, text: &[u8]) -> Result<Vec<Bytes>, AllocError> {
     Ok(names)
 }
 
-/// The answer for a path.
-fn answer_of(alloc: Global, question: &mut Question, path: &[u8]) -> Result<Vec<u8>, AllocError> {
-    let mut text = Vec::new(alloc);
+/// The answer of the files for a path without a stack.
+fn answer_alone(
+    alloc: Global,
+    files: &AttrFiles,
+    path: &[u8],
+    names: &[Bytes],
+) -> Result<Vec<u8>, AllocError> {
+    let states = attributes_of(alloc, files, path, names)?;
+    answer_with(alloc, path, names, states.as_slice())
+}
+
+/// Adds the answer for a path.
+fn push_asked(
+    alloc: Global,
+    answers: &mut Vec<u8>,
+    question: &mut Question,
+    path: &[u8],
+) -> Result<(), AllocError> {
     let names = question.names.as_slice();
     let states = question.stack.states(path, names)?;
-    push_answer(&mut text, alloc, path, names, states.as_slice())?;
-    if let Some(files) = &question.again {
-        let mut alone = Vec::new(alloc);
-        let states = attributes_of(alloc, files, path, names)?;
-        push_answer(&mut alone, alloc, path, names, states.as_slice())?;
-        if alone.as_slice() != text.as_slice() {
-            push_all(&mut text, &[b"but without a stack\n", &alone])?;
+    let text = answer_with(alloc, path, names, states.as_slice())?;
+    answers.extend_from_slice(&text)?;
+    match &question.again {
+        Some(files) => {
+            let alone = answer_alone(alloc, files, path, names)?;
+            push_other(answers, &text, &alone)
         }
+        None => Ok(()),
     }
-    Ok(text)
+}
+
+/// Adds an answer after another one from which it differs.
+fn push_other(answers: &mut Vec<u8>, text: &[u8], alone: &[u8]) -> Result<(), AllocError> {
+    if alone == text {
+        return Ok(());
+    }
+    push_all(answers, &[b"but without a stack\n", alone])
+}
+
+/// The files of the drafts, if they are wanted again.
+fn again_of(
+    alloc: Global,
+    drafts: &[Draft],
+    is_wanted: bool,
+) -> Result<Option<AttrFiles>, AllocError> {
+    if !is_wanted {
+        return Ok(None);
+    }
+    Ok(Some(all_of(alloc, drafts)?))
+}
+
+/// A stack over the files of the drafts.
+fn stack_of(alloc: Global, drafts: &[Draft]) -> Result<AttrStack, AllocError> {
+    AttrStack::begin(alloc, all_of(alloc, drafts)?)
+}
+
+/// What paths are asked for with, over the files of the drafts.
+fn question_of(
+    alloc: Global,
+    drafts: &[Draft],
+    names: &[u8],
+    is_compared: bool,
+) -> Result<Question, AllocError> {
+    let names = names_of(alloc, names)?;
+    let again = again_of(alloc, drafts, is_compared)?;
+    let stack = stack_of(alloc, drafts)?;
+    Ok(Question {
+        stack,
+        again,
+        names,
+    })
+}
+
+/// Puts another value in place of one.
+fn put<T: Drop>(place: &mut T, value: T) {
+    *place = value;
 }
 
 impl Script {
@@ -158,32 +219,21 @@ impl Script {
     }
 
     fn ask(&mut self, alloc: Global, names: &[u8]) -> Result<(), AllocError> {
-        let stack = AttrStack::begin(alloc, all_of(alloc, self.drafts.as_slice())?)?;
-        let again = if self.is_compared {
-            Some(all_of(alloc, self.drafts.as_slice())?)
-        } else {
-            None
-        };
-        let names = names_of(alloc, names)?;
-        self.question = Some(Question {
-            stack,
-            again,
-            names,
-        });
+        let question = question_of(alloc, self.drafts.as_slice(), names, self.is_compared)?;
+        put(&mut self.question, Some(question));
         Ok(())
     }
 
     fn answer(&mut self, alloc: Global, path: &[u8]) -> Result<(), AllocError> {
-        let Some(question) = &mut self.question else {
-            return Ok(());
-        };
-        let text = answer_of(alloc, question, path)?;
-        self.answers.extend_from_slice(&text)
+        match &mut self.question {
+            Some(question) => push_asked(alloc, &mut self.answers, question, path),
+            None => Ok(()),
+        }
     }
 
     fn forget(&mut self) {
         self.drafts.clear();
-        self.question = None;
+        put(&mut self.question, None);
     }
 
     /// Does what a line says.
@@ -209,14 +259,25 @@ impl Script {
             Ok(())
         }
     }
+
+    /// Does what each line says.
+    fn take_all(&mut self, alloc: Global, text: &[u8]) -> Result<(), AllocError> {
+        for line in text.split(|byte| *byte == b'\n') {
+            self.take(alloc, line)?;
+        }
+        Ok(())
+    }
+
+    /// What was answered.
+    fn into_answers(self) -> Vec<u8> {
+        self.answers
+    }
 }
 
 /// The answers to a script as `git check-attr` gives them, each compared with that of the files without a stack if this is
 /// wanted.
 pub fn answered(alloc: Global, text: &[u8], is_compared: bool) -> Result<Vec<u8>, AllocError> {
     let mut script = Script::new(alloc, is_compared);
-    for line in text.split(|byte| *byte == b'\n') {
-        script.take(alloc, line)?;
-    }
-    Ok(script.answers)
+    script.take_all(alloc, text)?;
+    Ok(script.into_answers())
 }

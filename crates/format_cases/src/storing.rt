@@ -44,7 +44,7 @@ fn told(alloc: Global, came: Result<Vec<u8>, BackFault>) -> Result<Vec<u8>, Allo
 
 /// How a file is stored: whether `ident` is set, what is done with its line ends, whether the index's content has CR LF,
 /// and the encoding.
-#[derive(Drop)]
+#[derive(Clone, Copy)]
 struct Storing {
     ident: bool,
     action: Action,
@@ -72,30 +72,33 @@ fn by_steps(alloc: Global, file: &[u8], storing: &Storing) -> Result<Vec<u8>, Ba
     Ok(ended)
 }
 
-/// What is stored of a file, with a note if it comes otherwise step by step.
-pub fn stored(
-    alloc: Global,
-    file: &[u8],
-    [ident, action, encoding, old]: [&[u8]; 4],
-) -> Result<Vec<u8>, Fail> {
-    let storing = Storing {
-        ident: is_set(ident)?,
-        action: action_of(action)?,
-        old_crlf: has_crlf(old),
-        encoding: named(alloc, encoding)?,
-    };
-    let steps = told(alloc, by_steps(alloc, file, &storing))?;
+/// What is stored of a file, at once.
+fn at_once(alloc: Global, file: &[u8], storing: &Storing) -> Result<Vec<u8>, BackFault> {
     let Storing {
         ident,
         action,
         old_crlf,
         encoding,
-    } = storing;
+    } = *storing;
     let file = Vec::from_slice(alloc, file)?;
-    let came = told(
-        alloc,
-        to_stored(alloc, ident, action, encoding, old_crlf, file),
-    )?;
+    to_stored(alloc, ident, action, encoding, old_crlf, file)
+}
+
+/// How the cells say that a file is stored.
+fn storing_of(alloc: Global, [ident, action, encoding, old]: [&[u8]; 4]) -> Result<Storing, Fail> {
+    Ok(Storing {
+        ident: is_set(ident)?,
+        action: action_of(action)?,
+        old_crlf: has_crlf(old),
+        encoding: named(alloc, encoding)?,
+    })
+}
+
+/// What is stored of a file, with a note if it comes otherwise step by step.
+pub fn stored(alloc: Global, file: &[u8], cells: [&[u8]; 4]) -> Result<Vec<u8>, Fail> {
+    let storing = storing_of(alloc, cells)?;
+    let steps = told(alloc, by_steps(alloc, file, &storing))?;
+    let came = told(alloc, at_once(alloc, file, &storing))?;
     let is_same = came.as_slice() == steps.as_slice();
     Ok(noted(came, is_same, b"step by step it is another")?)
 }
@@ -120,20 +123,32 @@ fn spliced(
     Ok(text)
 }
 
+/// Whether the other character is read at a place out of the encoding.
+fn is_read(
+    alloc: Global,
+    encoding: Encoding,
+    [sixteen, other]: [&[u8]; 2],
+    [plain, text]: [&[u8]; 2],
+    place: usize,
+) -> Result<bool, AllocError> {
+    let wanted = spliced(alloc, plain, place, text)?;
+    let file = spliced(alloc, sixteen, place, other)?;
+    let came = told(alloc, back_encode(alloc, &file, encoding))?;
+    Ok(came.as_slice() == wanted.as_slice())
+}
+
 /// How many places before, between and behind eighty characters there are, at which another one is read out of the
 /// encoding with them. The sixteen and the other stand here in the encoding, and there as plain text.
 pub fn placed(
     alloc: Global,
     encoding: &[u8],
-    [sixteen, other]: [&[u8]; 2],
-    [plain, text]: [&[u8]; 2],
+    encoded: [&[u8]; 2],
+    plain: [&[u8]; 2],
 ) -> Result<Vec<u8>, Fail> {
     let encoding = encoding_named(alloc, encoding)?;
     let mut count = 0u32;
     for place in 0..81 {
-        let file = spliced(alloc, sixteen, place, other)?;
-        let came = told(alloc, back_encode(alloc, &file, encoding))?;
-        if came.as_slice() == spliced(alloc, plain, place, text)?.as_slice() {
+        if is_read(alloc, encoding, encoded, plain, place)? {
             count = count.saturating_add(1);
         }
     }

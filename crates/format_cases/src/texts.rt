@@ -61,13 +61,17 @@ pub fn copied(alloc: Global, text: &[u8]) -> Result<Vec<u8>, Fail> {
     beside(alloc, copy.as_slice(), whole.as_slice())
 }
 
-/// The numbers of a text as items, and as a vector again.
-pub fn kept(alloc: Global, text: &[u8]) -> Result<Vec<u8>, Fail> {
+fn numbers_of(alloc: Global, text: &[u8]) -> Result<Vec<u32>, Fail> {
     let mut numbers = Vec::new(alloc);
     for word in text.split(|byte| *byte == b' ') {
         numbers.push(number_of(word)?)?;
     }
-    let items = Items::from_vec(numbers);
+    Ok(numbers)
+}
+
+/// The numbers of a text as items, and as a vector again.
+pub fn kept(alloc: Global, text: &[u8]) -> Result<Vec<u8>, Fail> {
+    let items = Items::from_vec(numbers_of(alloc, text)?);
     let held = shown(alloc, items.as_slice())?;
     beside(alloc, &held, &shown(alloc, items.into_vec().as_slice())?)
 }
