@@ -17,7 +17,7 @@ use Rattle.checkout_core.specs.Hands.{Holds, held_at, is_held}
 use Rattle.core_laws.specs.Moves.{Moved, RowStays, is_with_driver}
 use Rattle.checkout_core.specs.Notes.{is_noted}
 use Rattle.atomic_table.specs.Seated.{TableId}
-use Rattle.turn_lock.specs.Seat.{SeatView, entered}
+use Rattle.turn_lock.specs.Seat.{SeatView, turns_of, entered}
 use Rattle.turn_lock.specs.Seats.{IsSeat, Within}
 
 -- a claim takes its path
@@ -80,4 +80,4 @@ Decides = (starts : List Start) (workers drivers a : ℕ) (history other : List 
 -- a turn keeps a seat
 abbrev pub KeepsSeat : Type 0 → Type 0 → Type 0
 KeepsSeat E D = (lock : TableId) (d : D) (number made : ℕ) (found : List (ℕ × E)) (s t : SeatView E D)
-    → IsSeat lock d number made s → t ≡ entered found s → Within d number made found lock t
+    → IsSeat lock d number made s → t ≡ entered found s → Within d number made (turns_of s + 1) found lock t

@@ -1,11 +1,11 @@
 -- A turn at the book.
-use Rattle.std.proofs.Common.{◌≡◌, ◌==◌, ℕ, ◌<◌, inl, inr, ⊎_elim, Bool, true, false, cond, List, []}
+use Rattle.std.proofs.Common.{◌≡◌, ◌==◌, ℕ, ◌+◌, ◌<◌, inl, inr, ⊎_elim, Bool, true, false, cond, List, []}
 use Rattle.std.proofs.Common.{◌∷◌, ◌++◌, set, Option, Some, None, refl, sym, ap, ◌∙◌, subst, arith}
 use Rattle.std.specs.Prelude.{slice_get, IfSome, IfNone}
 use mathlib.Core.List.{map-append}
 use Rattle.atomic_table.specs.Seated.{TableId}
 use Rattle.turn_lock.specs.History.{own, Begins, Follows}
-use Rattle.turn_lock.specs.Seat.{SeatView, seen_of, mine_of, entered, left}
+use Rattle.turn_lock.specs.Seat.{SeatView, seen_of, mine_of, turns_of, entered, left}
 use Rattle.turn_lock.specs.Seats.{IsSeat}
 use Rattle.convert_plan.specs.declared.card.Card.{Card}
 use Rattle.checkout_core.specs.declared.verdict.FilterCause.{FilterCause}
@@ -143,6 +143,7 @@ module _ {B L : Type 0} (see : Sight B L) where
     pub left : IsSeat lock d n made s2
     pub seen : seen_of s2 ≡ history_of (tell see) w
     pub made_now : mine_of s2 ≡ own n (history_of (tell see) w)
+    pub turns : turns_of s2 ≡ turns_of s0 + 1
 
   pub went : KeepsSeat HistoryEntry (BookPlan B L) → (lock : TableId) (d : BookPlan B L) (n made : ℕ)
       (s0 s1 s2 : SeatView HistoryEntry (BookPlan B L)) (c : Core) (v w : Shelf B L) → IsPass lock d n made s0 c
@@ -161,6 +162,7 @@ module _ {B L : Type 0} (see : Sight B L) where
         left = subst (λ (s : SeatView HistoryEntry (BookPlan B L)). IsSeat lock d n made s) (sym l) t.0;
         seen = ap seen_of l ∙ t.1;
         made_now = ap mine_of l ∙ t.2;
+        turns = ap turns_of l ∙ t.3;
       }
 
   turned : (lock : TableId) (d : BookPlan B L) (n made : ℕ) (s0 s2 : SeatView HistoryEntry (BookPlan B L)) (c : Core)
@@ -172,6 +174,7 @@ module _ {B L : Type 0} (see : Sight B L) where
       reads = subst (λ h. IsRun d h w.core) (sym t.seen) (reads_of see d w (same ∙ t.is) t.later);
       actor = t.pass.actor;
     };
+    turns = t.turns;
     seen = subst (Begins (seen_of s0)) (sym t.seen)
         (follows_more n (seen_of s0) (history_of (tell see) v) (history_of (tell see) w) follows t.begins);
   }

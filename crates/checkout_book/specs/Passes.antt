@@ -3,7 +3,7 @@ use Rattle.std.specs.Prelude.{◌≡◌, ◌==◌, ℕ, ◌+◌, ◌<◌, true, 
 use Rattle.std.specs.Prelude.{MatchOption, slice_get}
 use Rattle.atomic_table.specs.Seated.{TableId}
 use Rattle.turn_lock.specs.History.{Begins}
-use Rattle.turn_lock.specs.Seat.{SeatView, seen_of, mine_of}
+use Rattle.turn_lock.specs.Seat.{SeatView, seen_of, mine_of, turns_of}
 use Rattle.turn_lock.specs.Seats.{IsSeat}
 use Rattle.convert_plan.specs.declared.card.Card.{Card}
 use Rattle.checkout_core.specs.declared.verdict.FilterCause.{FilterCause}
@@ -56,10 +56,11 @@ module _ {B L : Type 0} where
     pub reads : IsRun d (seen_of s) c
     pub actor : n < d.workers + d.drivers
 
-  -- after a turn
+  -- After exactly one turn: the pass now saw the history as this turn left it.
   pub record IsTurned (lock : TableId) (d : BookPlan B L) (n made : ℕ) (old new : SeatView HistoryEntry (BookPlan B L))
       (x : Core) : Type 0 where
     pub pass : IsPass lock d n made new x
+    pub turns : turns_of new ≡ turns_of old + 1
     pub seen : Begins (seen_of old) (seen_of new)
 
   -- what the pass saw then ends with this entry

@@ -45,6 +45,7 @@ pub struct Progress<'a> {
     /// How many paths are to be closed.
     total: &'a AtomicU32,
     closed: AtomicU32,
+    /// Whether a line was begun that isn't ended.
     shown: AtomicBool,
 }
 
@@ -72,7 +73,15 @@ impl<'a> Progress<'a> {
             .is_ok_and(|time| time.as_secs() >= 1)
     }
 
-    /// Ends the line, if one was begun.
+    /// Shows how far the checkout is. The last step ends the line, so that the report begins one of its own.
+    fn show(&self, share: u64, closed: u32, total: u32) {
+        let is_last = closed >= total;
+        self.shown.store(!is_last, Ordering::SeqCst);
+        let ending = if is_last { ", done\n" } else { "" };
+        let _ = eprint!(self.rt; "\rChecking out files: {share:3}% ({closed}/{total}){ending}");
+    }
+
+    /// Ends the line, if one was begun and not ended.
     pub fn end(&self) {
         if self.shown.load(Ordering::SeqCst) {
             let _ = eprintln!(self.rt; "");
@@ -104,7 +113,6 @@ impl Gate for Progress<'_> {
         if share == percent(before, total) || !self.is_late(begun) {
             return;
         }
-        self.shown.store(true, Ordering::SeqCst);
-        let _ = eprint!(self.rt; "\rChecking out files: {share:3}% ({closed}/{total})");
+        self.show(share, closed, total);
     }
 }

@@ -1,9 +1,9 @@
 //! Checks out a Git repository into an empty folder, straight from its git folder, or shows the plan of that, or checks
 //! the files of a folder in again. It also judges the journals of checkouts.
 //!
-//! Git itself is asked for the repository's index, settings and objects. Standard output has the report, in the form
-//! that the words ask for. Standard error says what is wrong with words or with the repository, why files weren't
-//! written, what a driver wrote in place of packets, and what git would do otherwise.
+//! Git itself is asked for the repository's index and settings, and for objects that its files don't have. Standard
+//! output has the report, in the form that the words ask for. Standard error says what is wrong with words or with the
+//! repository, why files weren't written, what a driver wrote in place of packets, and what git would do otherwise.
 #![tactic(auto)]
 
 mod assumed;

@@ -16,9 +16,9 @@ use Rattle.turn_lock.proofs.Seating.{live_one}
 
 module _ {T E D : Type 0} (hist : T → List (ℕ × E)) (fits : T → D → Type 0) (told : D) where
   first : View E D
-  first = record { number = 0; place = Out; seen = []; mine = []; told = told; made = 1; olds = [] }
+  first = record { number = 0; place = Out; turns = 0; seen = []; mine = []; told = told; made = 1; olds = [] }
 
-  only_first : (j : ℕ) (u : View E D) → Live (opened told ∷ []) j u → (j ≡ 0) × (record { number = 0; place = Out; seen = []; mine = []; told = told; made = 1; olds = [] } ≡ u)
+  only_first : (j : ℕ) (u : View E D) → Live (opened told ∷ []) j u → (j ≡ 0) × (record { number = 0; place = Out; turns = 0; seen = []; mine = []; told = told; made = 1; olds = [] } ≡ u)
   only_first zero u e = (refl, let p = some-injective (opened told) (Seated u) e in cc (p))
   only_first (suc j) u e = absurd (some-ne-none (Seated u) (sym e))
 
@@ -35,17 +35,17 @@ module _ {T E D : Type 0} (hist : T → List (ℕ × E)) (fits : T → D → Typ
     alone = λ i j a b f g ea eb pa pb. (only_first i a ea).0 ∙ sym (only_first j b eb).0;
     taken = λ held. absurd (held refl);
     home = λ _. (value, refl, blank, ok);
-    top = (0, record { number = 0; place = Out; seen = []; mine = []; told = told; made = 1; olds = [] }, refl, refl);
+    top = (0, record { number = 0; place = Out; turns = 0; seen = []; mine = []; told = told; made = 1; olds = [] }, refl, refl);
     apart = λ i j a b ea eb n. (only_first i a ea).0 ∙ sym (only_first j b eb).0;
     makers = λ i j a b ea eb m n. (only_first i a ea).0 ∙ sym (only_first j b eb).0;
     giver = (
       0,
-      record { number = 0; place = Out; seen = []; mine = []; told = told; made = 1; olds = [] },
+      record { number = 0; place = Out; turns = 0; seen = []; mine = []; told = told; made = 1; olds = [] },
       refl,
       omega arith,
     );
     fresh = λ k le. refl;
-    held = λ k lt. (0, record { number = 0; place = Out; seen = []; mine = []; told = told; made = 1; olds = [] }, refl, inl (omega arith));
+    held = λ k lt. (0, record { number = 0; place = Out; turns = 0; seen = []; mine = []; told = told; made = 1; olds = [] }, refl, inl (omega arith));
     gone = λ i j a b o ea eb h n. some-ne-none o (sym (subst (IsOld o) (sym (ap (λ (x : View E D). x.olds) (only_first i a ea).1)) h).1);
   }
 

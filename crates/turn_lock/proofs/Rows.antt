@@ -19,7 +19,7 @@ made_at made (suc i) = 0
 module _ {E D : Type 0} where
   -- the first seat, after n numbers were given
   abbrev pub first_at : D → ℕ → View E D
-  first_at told n = record { number = 0; place = Out; seen = []; mine = []; told = told; made = n; olds = [] }
+  first_at told n = record { number = 0; place = Out; turns = 0; seen = []; mine = []; told = told; made = n; olds = [] }
 
 module _ {E D : Type 0} where
   abbrev pub view_at : TableId → View E D → SeatView E D

@@ -42,10 +42,20 @@ module _ {E D : Type 0} where
 
   -- the first view
   abbrev pub opened : D → Knows E D
-  opened told = Seated (record { number = 0; place = Out; seen = []; mine = []; told = told; made = 1; olds = [] })
+  opened told = Seated (record {
+    number = 0;
+    place = Out;
+    turns = 0;
+    seen = [];
+    mine = [];
+    told = told;
+    made = 1;
+    olds = [];
+  })
 
+  -- a turn begins
   abbrev pub entering : List (ℕ × E) → View E D → View E D
-  entering found v = record v { place = Inside found }
+  entering found v = record v { place = Inside found; turns = v.turns + 1 }
 
   abbrev pub leaving : List (ℕ × E) → View E D → View E D
   leaving seen v = record v { place = Out; seen = seen; mine = own v.number seen }
@@ -56,7 +66,16 @@ module _ {E D : Type 0} where
 
   -- the seat that gets the number
   abbrev pub new_seat : View E D → View E D
-  new_seat v = record { number = v.made; place = Out; seen = v.seen; mine = []; told = v.told; made = 0; olds = [] }
+  new_seat v = record {
+    number = v.made;
+    place = Out;
+    turns = 0;
+    seen = v.seen;
+    mine = [];
+    told = v.told;
+    made = 0;
+    olds = [];
+  }
 
   abbrev pub gave : Knows E D → Knows E D
   gave Spent = Spent
@@ -74,6 +93,7 @@ module _ {E D : Type 0} where
   with_other v w = record {
     number = v.number;
     place = v.place;
+    turns = v.turns;
     seen = longer v.seen w.seen;
     mine = v.mine;
     told = v.told;

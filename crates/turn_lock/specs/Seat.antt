@@ -60,6 +60,13 @@ module _ {E D : Type 0} where
   abbrev pub made_of : SeatView E D → ℕ
   made_of s = made s.known
 
+  abbrev pub turns : Knows E D → ℕ
+  turns Spent = 0
+  turns (Seated v) = v.turns
+
+  abbrev pub turns_of : SeatView E D → ℕ
+  turns_of s = turns s.known
+
   abbrev pub enters : List (ℕ × E) → Knows E D → Knows E D
   enters found Spent = Spent
   enters found (Seated v) = Seated (entering found v)

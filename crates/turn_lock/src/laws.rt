@@ -1,17 +1,17 @@
 //! What a whole turn does to a seat, and what holds of the seats of a lock, one by one.
 ghost use Rattle.std.specs.Prelude.{◌≡◌, ◌+◌, ℕ, List, Some, length, slice_get};
 ghost use Rattle.atomic_table.specs.Seated.{TableId};
-ghost use Rattle.turn_lock.specs.Seat.{SeatView, number_of, entered};
+ghost use Rattle.turn_lock.specs.Seat.{SeatView, number_of, turns_of, entered};
 ghost use Rattle.turn_lock.specs.Seats.{IsSeat, AreSeats, Within};
 
 use crate::kept::Kept;
 
 /// A seat that entered is still a seat of its lock, with its number and its data. When it has left, it is out again and
-/// has seen the history that it left. Its own entries are those of its number in that history.
+/// has seen the history that it left. Its own entries are those of its number in that history, and it took one turn more.
 pub fn a_turn_keeps_a_seat<T: Kept>()
     ensures { (lock : TableId) (d : T.Told) (number made : ℕ) (found : List (ℕ × T.Entry))
         (s t : SeatView T.Entry T.Told) → IsSeat lock d number made s → t ≡ entered found s
-        → Within d number made found lock t }
+        → Within d number made (turns_of s + 1) found lock t }
 {}
 
 /// Each of a lock's seats has its place in the list as its number.

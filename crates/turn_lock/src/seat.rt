@@ -7,7 +7,7 @@ use atomic_table::Seat;
 use std::marker::Model;
 
 /// One of a lock's seats. A contract sees the lock that it belongs to and what it knows: its number, whether it is
-/// inside, the history at its last turn, its own entries in it, and the data that `make` fixed.
+/// inside, how many turns it took, the history at its last turn, its own entries in it, and the data that `make` fixed.
 #[derive(Drop)]
 pub struct TurnSeat<T: Kept> {
     pub(crate) seat: Seat<Option<T>, Knows<T::Entry, T::Told>>,

@@ -18,6 +18,8 @@ pub struct Old<E> {
 pub struct View<E, D> {
     pub number: u64,
     pub place: SeatPlace<E>,
+    /// How many turns it took. The one that it is in counts.
+    pub turns: u64,
     /// The history at its last turn.
     pub seen: LinkedList<(u64, E)>,
     /// Its own entries.
