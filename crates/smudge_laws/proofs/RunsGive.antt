@@ -1,22 +1,17 @@
 -- A driver that is a single run gives all its paths if each run ends well.
-use Rattle.std.proofs.Common.{◌≡◌, ℕ, zero, suc, ◌≤◌, Bool, true, false, cond, ◌&&◌, if◌then◌else◌, List, [], ◌∷◌, drop, length, Option, Some, None, refl, sym, ap, ◌∙◌, subst}
-use Rattle.std.specs.Prelude.{slice_get, nat_le}
+use Rattle.std.proofs.Common.{◌≡◌, ℕ, zero, suc, Bool, true, false, cond, ◌&&◌, if◌then◌else◌, List, [], ◌∷◌, length, Option, Some, None, sym, ap, ◌∙◌, subst}
+use Rattle.std.specs.Prelude.{slice_get}
 use Rattle.std.proofs.lemmas.Bool.{le-leb}
 use Rattle.std.proofs.lemmas.Option.{same_Some}
-use Rattle.filter_words.specs.Outcomes.{limit}
 use Rattle.filter_words.specs.Requests.{first_text}
-use Rattle.edge_kit.specs.Links.{RunTold}
 use Rattle.edge_kit.specs.Starters.{Had}
-use Rattle.delay_table.specs.Table.{contains}
 use Rattle.tree_encoding.specs.declared.prepared.Prepared.{Prepared}
 use Rattle.checkout_core.specs.Fates.{Fate, Known, heard_by}
 use Rattle.checkout_core.specs.declared.path.Heard.TheVariants as heard
 use Rattle.driver_host.specs.declared.work.Choice.{Choice}
 use Rattle.driver_host.specs.declared.work.Choice.TheVariants as choice
 use Rattle.driver_line.specs.SameHeard.{fate_in, content_of}
-use Rattle.checkout_engine.specs.Talks.{DriverTalk, heard_at}
-use Rattle.one_shot.specs.Commands.{once_command}
-use Rattle.one_shot.specs.Onces.{OnceTold, Ended, RunsListed, told_of}
+use Rattle.one_shot.specs.Onces.{OnceTold}
 use Rattle.one_shot.specs.Replies.{AreServed}
 use Rattle.one_shot.specs.Works.{choice_told, most_output}
 use Rattle.one_shot.specs.Starters.{is_single_run}

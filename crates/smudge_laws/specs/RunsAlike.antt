@@ -1,7 +1,7 @@
 -- What two checkouts have in common over spawners of single runs, whatever the number of their workers.
 use Rattle.std.specs.Prelude.{◌≡◌, ◌⊎◌, ℕ, true, false, List, Option}
 use Rattle.edge_kit.specs.Links.{RunTold}
-use Rattle.edge_kit.specs.Starters.{Starts, SpawnerSeen}
+use Rattle.edge_kit.specs.Starters.{Starts}
 use Rattle.edge_kit.specs.Told.{RepoTold}
 use Rattle.checkout_engine.specs.Alike.{RepoTellsAll, DifferInWorkers, IsUndisturbed, AreAlike, AreListed}
 use Rattle.checkout_engine.specs.Ends.{Seen, IsCheckedOut}

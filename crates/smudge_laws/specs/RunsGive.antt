@@ -1,5 +1,5 @@
 -- What a checkout needs to be done as a whole if its driver is a command, which runs once for each content.
-use Rattle.std.specs.Prelude.{◌≡◌, ◌≤◌, ℕ, true, false, List, length, drop, Option, Some, slice_get}
+use Rattle.std.specs.Prelude.{◌≡◌, ◌≤◌, ℕ, true, false, List, length, drop, Some, slice_get}
 use Rattle.filter_words.specs.Outcomes.{limit}
 use Rattle.filter_words.specs.Requests.{first_text}
 use Rattle.edge_kit.specs.Links.{RunTold}
