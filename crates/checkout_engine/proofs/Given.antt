@@ -4,8 +4,6 @@ use Rattle.std.specs.Prelude.{slice_get}
 use Rattle.std.proofs.lemmas.Option.{same_Some}
 use Rattle.edge_kit.specs.Starters.{Starts, StartsListed, StartTold}
 use Rattle.edge_kit.specs.Told.{Told}
-use Rattle.git_index.specs.Spelling.{PathsAreOrdered}
-use Rattle.driver_line.specs.OneContent.{OneContent}
 use Rattle.driver_line.specs.SameHeard.{NoneFailed}
 use Rattle.settings_view.specs.declared.view.Driver.{Driver}
 use Rattle.checkout_core.specs.declared.event.Event.{Event}
@@ -21,10 +19,9 @@ use Rattle.checkout_engine.specs.Ends.{verdicts_of}
 use Rattle.checkout_engine.specs.Outcome.{Outcome, HasOutcome, HasDeskVerdict}
 use Rattle.checkout_engine.specs.Talks.{DriverTalk, IsDriverTalk, AreDriverTalks, heard_at}
 use Rattle.checkout_engine.proofs.Alike.{side_of}
-use Rattle.checkout_engine.proofs.Drivers.{planned_ordered}
 use Rattle.checkout_engine.proofs.Places.{get_map}
 use Rattle.checkout_engine.proofs.Seeds.{at_desk}
-use Rattle.checkout_engine.proofs.OneSide.{Ground, IsSide, holds_at, outcome_at, told_talk}
+use Rattle.checkout_engine.proofs.OneSide.{IsSide, holds_at, outcome_at, told_talk}
 
 talk_with : (ahead : List ℕ → Starts) (object : List ℕ → Told) (ps : List PathPlan) (vs : List Verdict) (history : List Event) (m : ℕ) (xs : List Driver) (ts : List DriverTalk) → AreDriverTalks ahead object ps vs history m xs ts
     → (d : ℕ) (x : Driver) → slice_get xs d ≡ Some x → (t : DriverTalk) × (slice_get ts d ≡ Some t) × IsDriverTalk ahead object ps vs history (m + d) x t
@@ -41,7 +38,7 @@ talk_with ahead object ps vs history m (y ∷ xs) (t ∷ ts) are (suc d) x at =
 got_by : (required : Bool) (d : ℕ) (t : DriverTalk) (n : ℕ) (told : Told) (p : PathPlan) (o : Outcome) (v : Verdict) (u : Bool) → v ≡ verdict.Written u → HasDeskVerdict required d t n told p o v → heard_at d t n ≡ Some heard.Got
 got_by required d t n told p o v u is has = let own : HasDeskVerdict required d t n told p o (verdict.Written u) = subst (HasDeskVerdict required d t n told p o) is has in own.0
 
-module _ (object : List ℕ → Told) (ahead : List ℕ → Starts) (ps : List PathPlan) (g : Ground object ps) (starts : (command : List ℕ) → (starts : List StartTold) × (ahead command ≡ StartsListed starts)) (drivers : List Driver) (talks : List DriverTalk) (outcomes : List Outcome) (history : List Event)
+module _ (object : List ℕ → Told) (ahead : List ℕ → Starts) (ps : List PathPlan) (starts : (command : List ℕ) → (starts : List StartTold) × (ahead command ≡ StartsListed starts)) (drivers : List Driver) (talks : List DriverTalk) (outcomes : List Outcome) (history : List Event)
     (s : IsSide object ahead ps drivers talks outcomes history)
     (written : AreWritten ps outcomes) where
   gives_all : (d : ℕ) (x : Driver) → slice_get drivers d ≡ Some x → GivesAll ahead ps d x
@@ -58,16 +55,16 @@ module _ (object : List ℕ → Told) (ahead : List ℕ → Starts) (ps : List P
         told = told.1;
         over = record {
           asked = λ n p here is.
-              let o = outcome_at object ahead ps g drivers talks outcomes history s.ends n p here in
+              let o = outcome_at object ahead ps drivers talks outcomes history s.ends n p here in
               let w = written n d p o.0 here is o.1 in
               said.over.asked n p (verdict.Written w.0) here (get_map (λ (y : Outcome). y.verdict) outcomes n o.0 o.1 ∙ ap Some w.1) is refl;
           each = λ n is. let e = said.over.each n is in (e.0, e.1, e.2, e.3);
           rises = said.over.rises;
         };
-        goes = told_talk object ahead ps g drivers talks outcomes history s.ends d t found.1 told.0 told.1 (holds_at (λ (y : DriverTalk). NoneFailed y.had) talks d t s.links found.1);
+        goes = told_talk object ahead ps drivers talks outcomes history s.ends d t found.1 told.0 told.1 (holds_at (λ (y : DriverTalk). NoneFailed y.had) talks d t s.links found.1);
         got = λ n is.
             let e = said.over.each n is in
-            let o = outcome_at object ahead ps g drivers talks outcomes history s.ends n e.0 e.1 in
+            let o = outcome_at object ahead ps drivers talks outcomes history s.ends n e.0 e.1 in
             let w = written n d e.0 o.0 e.1 e.2 o.1 in
             let desk = at_desk d (e.0).start e.2 in
             let has : HasOutcome object talks (start.Desk d desk.0) n e.0 o.0 = subst (λ (y : Start). HasOutcome object talks y n e.0 o.0) desk.1 o.2.has in
@@ -75,7 +72,6 @@ module _ (object : List ℕ → Told) (ahead : List ℕ → Starts) (ps : List P
             got_by desk.0 d t n (object (e.0).object) e.0 o.0 (o.0).verdict w.0 w.1 (subst (λ (y : DriverTalk). HasDeskVerdict desk.0 d y n (object (e.0).object) e.0 o.0 (o.0).verdict) same has.3);
       }
 
-pub written_given : PathsAreOrdered → OneContent → WrittenIsGiven
-written_given ordered one told ahead asked old new all c u written =
-    let ground : Ground told.object c.plan.paths = record { told = all.repo.object; rise = planned_ordered ordered told c.plan c.planned; one = one } in
-    gives_all told.object ahead c.plan.paths ground all.starts c.plan.drivers c.talks c.outcomes new.history (side_of told ahead asked old new c u) written
+pub written_given : WrittenIsGiven
+written_given told ahead asked old new all c u written =
+    gives_all told.object ahead c.plan.paths all.starts c.plan.drivers c.talks c.outcomes new.history (side_of told ahead asked old new c u) written

@@ -25,7 +25,7 @@ use Rattle.driver_line.specs.SameHeard.{NoneFailed, IsToldTalk, content_of, fate
 use Rattle.driver_line.specs.ToldStarts.{GoBy}
 use Rattle.checkout_plan.specs.declared.path_plan.PathPlan.{PathPlan}
 use Rattle.checkout_engine.specs.Alike.{IsTold}
-use Rattle.checkout_engine.specs.Complete.{failed_leaves}
+use Rattle.checkout_engine.specs.Complete.{failed_leaves, HadMemory}
 use Rattle.checkout_engine.specs.Ends.{verdicts_of}
 use Rattle.checkout_engine.specs.Outcome.{Outcome, HasOutcome, AreOutcomes, HasDeskVerdict, leaf_back}
 use Rattle.checkout_engine.specs.Paths.{leaves_back}
@@ -153,7 +153,7 @@ answers_given (e ∷ es) n answer has = elim (answer_given e n answer es has) [
   | inr more ↦ inr (answers_given es n answer more)
 ]
 
-module _ (object : List ℕ → Told) (ahead : List ℕ → Starts) (ps : List PathPlan) (g : Ground object ps) (drivers : List Driver) (talks : List DriverTalk) (outcomes : List Outcome) (history : List Event)
+module _ (object : List ℕ → Told) (ahead : List ℕ → Starts) (ps : List PathPlan) (drivers : List Driver) (talks : List DriverTalk) (outcomes : List Outcome) (history : List Event)
     (s : HasEnds object ahead ps drivers talks outcomes history) where
   pub outcome_at : (n : ℕ) (p : PathPlan) → slice_get ps n ≡ Some p → (o : Outcome) × (slice_get outcomes n ≡ Some o) × EndsAt object talks n p o
   outcome_at n p at =
@@ -174,24 +174,8 @@ module _ (object : List ℕ → Told) (ahead : List ℕ → Starts) (ps : List P
     pub said : IsDriverTalk ahead object ps (verdicts_of outcomes) history d driver t
     said = (talk_at d t there).2
 
-    pub given : (n : ℕ) (answer : List ℕ) → Gave t n answer → content_of n t.exchanges ≡ Some answer
-    given n answer gave = g.one d t.paths t.asked said.talk.full t.exchanges (apart t.asked said.over.rises) said.talk.talk n answer (answers_given t.exchanges n answer gave)
-
-    -- a path that is asked for has an object that is right
-    pub read_in : (n : ℕ) (p : PathPlan) → slice_get ps n ≡ Some p → contains n t.asked ≡ true → (content : List ℕ) × (found_of (object p.object) p.object ≡ Ok content)
-    read_in n p at is =
-        let e = said.over.each n is in
-        let same : e.0 ≡ p = same_Some e.0 p (sym e.1 ∙ at) in
-        let content : List ℕ = e.6.content in
-        (content, subst (λ (q : PathPlan). found_of (object q.object) q.object ≡ Ok content) same (gives_found (object (e.0).object) (e.0).object (Ok content) (g.told (e.0).object) e.6.object))
-
-    -- how a path of the driver ends
-    pub desk_end_is : (n : ℕ) (p : PathPlan) (o : Outcome) (required : Bool) → slice_get ps n ≡ Some p → HasDeskVerdict required d t n (object p.object) p o o.verdict → is_no_memory o.verdict ≡ false → failed_leaves (leaf_back p o.leaf) ≡ 0
-        → end_at o.verdict o.file ≡ desk_end (found_of (object p.object) p.object) (heard_at d t n) required (content_of n t.exchanges) p
-    desk_end_is n p o required at has memory leaf = desk_is required d t n (object p.object) p o (g.told p.object) (read_in n p at) (given n) o.verdict has memory leaf
-
     -- the outcome of a path of the driver
-    at_desk : (n : ℕ) (p : PathPlan) → slice_get ps n ≡ Some p → is_at d p.start ≡ true
+    pub at_desk : (n : ℕ) (p : PathPlan) → slice_get ps n ≡ Some p → is_at d p.start ≡ true
         → (o : Outcome) × (slice_get outcomes n ≡ Some o) × (required : Bool) × HasDeskVerdict required d t n (object p.object) p o o.verdict × (is_no_memory o.verdict ≡ false)
     at_desk n p at is =
         let o = outcome_at n p at in
@@ -201,16 +185,10 @@ module _ (object : List ℕ → Told) (ahead : List ℕ → Starts) (ps : List P
         (o.0, o.1, desk.0, subst (λ (u : DriverTalk). HasDeskVerdict desk.0 d u n (object p.object) p o.0 (o.0).verdict) same has.3, o.2.memory)
 
     -- the talk asks for the verdict's path if its object was read
-    verdict_asked : (n : ℕ) (p : PathPlan) (o : Outcome) → slice_get ps n ≡ Some p → is_at d p.start ≡ true → slice_get outcomes n ≡ Some o → is_no_memory o.verdict ≡ false → contains n t.asked ≡ was_read o.verdict
+    pub verdict_asked : (n : ℕ) (p : PathPlan) (o : Outcome) → slice_get ps n ≡ Some p → is_at d p.start ≡ true → slice_get outcomes n ≡ Some o → is_no_memory o.verdict ≡ false → contains n t.asked ≡ was_read o.verdict
     verdict_asked n p o at is has memory = said.over.asked n p o.verdict at (get_map (λ (x : Outcome). x.verdict) outcomes n o has) is memory
 
-    -- just the paths of the driver whose object is right are asked for
-    pub asked_is : (n : ℕ) (p : PathPlan) → slice_get ps n ≡ Some p → is_at d p.start ≡ true → contains n t.asked ≡ has_read (found_of (object p.object) p.object)
-    asked_is n p at is =
-        let o = at_desk n p at is in
-        verdict_asked n p o.0 at is o.1 o.4 ∙ read_by o.2 d t n (object p.object) p o.0 (g.told p.object) (read_in n p at) (o.0).verdict o.3 o.4
-
-    pub memory_is : (n : ℕ) → contains n t.asked ≡ true → fate_in d n t.exchanges ≡ Known heard.OutOfMemory → ⊥
+    pub memory_is : HadMemory d t
     memory_is n is wants =
         let e = said.over.each n is in
         let o = at_desk n e.0 e.1 e.2 in
@@ -227,3 +205,30 @@ module _ (object : List ℕ → Told) (ahead : List ℕ → Starts) (ps : List P
       fine = fine;
       memory = memory_is;
     }
+
+module _ (object : List ℕ → Told) (ahead : List ℕ → Starts) (ps : List PathPlan) (g : Ground object ps) (drivers : List Driver) (talks : List DriverTalk) (outcomes : List Outcome) (history : List Event)
+    (s : HasEnds object ahead ps drivers talks outcomes history) (d : ℕ) (t : DriverTalk) (there : slice_get talks d ≡ Some t) where
+  abbrev own : IsDriverTalk ahead object ps (verdicts_of outcomes) history d (driver object ahead ps drivers talks outcomes history s d t there) t
+  own = said object ahead ps drivers talks outcomes history s d t there
+
+  pub given : (n : ℕ) (answer : List ℕ) → Gave t n answer → content_of n t.exchanges ≡ Some answer
+  given n answer gave = g.one d t.paths t.asked own.talk.full t.exchanges (apart t.asked own.over.rises) own.talk.talk n answer (answers_given t.exchanges n answer gave)
+
+  -- a path that is asked for has an object that is right
+  pub read_in : (n : ℕ) (p : PathPlan) → slice_get ps n ≡ Some p → contains n t.asked ≡ true → (content : List ℕ) × (found_of (object p.object) p.object ≡ Ok content)
+  read_in n p at is =
+      let e = own.over.each n is in
+      let same : e.0 ≡ p = same_Some e.0 p (sym e.1 ∙ at) in
+      let content : List ℕ = e.6.content in
+      (content, subst (λ (q : PathPlan). found_of (object q.object) q.object ≡ Ok content) same (gives_found (object (e.0).object) (e.0).object (Ok content) (g.told (e.0).object) e.6.object))
+
+  -- how a path of the driver ends
+  pub desk_end_is : (n : ℕ) (p : PathPlan) (o : Outcome) (required : Bool) → slice_get ps n ≡ Some p → HasDeskVerdict required d t n (object p.object) p o o.verdict → is_no_memory o.verdict ≡ false → failed_leaves (leaf_back p o.leaf) ≡ 0
+      → end_at o.verdict o.file ≡ desk_end (found_of (object p.object) p.object) (heard_at d t n) required (content_of n t.exchanges) p
+  desk_end_is n p o required at has memory leaf = desk_is required d t n (object p.object) p o (g.told p.object) (read_in n p at) (given n) o.verdict has memory leaf
+
+  -- just the paths of the driver whose object is right are asked for
+  pub asked_is : (n : ℕ) (p : PathPlan) → slice_get ps n ≡ Some p → is_at d p.start ≡ true → contains n t.asked ≡ has_read (found_of (object p.object) p.object)
+  asked_is n p at is =
+      let o = at_desk object ahead ps drivers talks outcomes history s d t there n p at is in
+      verdict_asked object ahead ps drivers talks outcomes history s d t there n p o.0 at is o.1 o.4 ∙ read_by o.2 d t n (object p.object) p o.0 (g.told p.object) (read_in n p at) (o.0).verdict o.3 o.4

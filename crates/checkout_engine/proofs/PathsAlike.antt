@@ -205,10 +205,19 @@ module _ (required : Bool) (d : ℕ) (t : DriverTalk) (n : ℕ) (told : Told) (p
   read_by (verdict.Failed fail.NoProcess) has memory = absurd has
   read_by (verdict.Failed fail.UnknownEncoding) has memory = absurd has
 
+-- a content counts only for a path that got one
+same_heard_end : (h : Option Heard) (required : Bool) (a b : Option (List ℕ)) (p : PathPlan) (ready : Prepared) → (h ≡ Some heard.Got → a ≡ b)
+    → heard_end h required a p ready ≡ heard_end h required b p ready
+same_heard_end (Some heard.Got) required a b p ready same = ap (λ (x : Option (List ℕ)). got_end x p ready) (same refl)
+same_heard_end (Some (heard.Refused why)) required a b p ready same = refl
+same_heard_end (Some heard.Lost) required a b p ready same = refl
+same_heard_end (Some heard.OutOfMemory) required a b p ready same = refl
+same_heard_end None required a b p ready same = refl
+
 -- what is heard of a path counts only if its object is right
-pub same_desk_end : (r : Result (List ℕ) ObjectFault) (h k : Option Heard) (required : Bool) (a b : Option (List ℕ)) (p : PathPlan) → (has_read r ≡ true → (h ≡ k) × (a ≡ b))
+pub same_desk_end : (r : Result (List ℕ) ObjectFault) (h k : Option Heard) (required : Bool) (a b : Option (List ℕ)) (p : PathPlan) → (has_read r ≡ true → (h ≡ k) × (h ≡ Some heard.Got → a ≡ b))
     → desk_end r h required a p ≡ desk_end r k required b p
 same_desk_end (Ok content) h k required a b p same =
     let s = same refl in
-    ap (λ (x : Option Heard). desk_end (Ok content) x required a p) s.0 ∙ ap (λ (x : Option (List ℕ)). desk_end (Ok content) k required x p) s.1
+    same_heard_end h required a b p (prepared p.conversion p.object content) s.1 ∙ ap (λ (x : Option Heard). desk_end (Ok content) x required b p) s.0
 same_desk_end (Err f) h k required a b p same = refl

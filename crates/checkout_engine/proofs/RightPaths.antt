@@ -1,12 +1,12 @@
 -- A right path of a plan whose drivers give all their paths doesn't fail, unless its leaf or a link failed or memory ran out.
 use Rattle.std.specs.Str.{IsUtf8}
-use Rattle.std.proofs.Common.{◌≡◌, ℕ, ◌+◌, ◌<◌, zero, suc, Bool, true, false, ◌||◌, List, [], ◌∷◌, length, Option, Some, None, Result, Ok, Err, refl, sym, ap, ◌∙◌, subst, arith}
+use Rattle.std.proofs.Common.{◌≡◌, ◌⊎◌, inl, inr, ℕ, ◌+◌, ◌<◌, zero, suc, Bool, true, false, ◌||◌, List, [], ◌∷◌, length, Option, Some, None, Result, Ok, Err, refl, sym, ap, ◌∙◌, subst, arith}
 use Rattle.std.specs.Prelude.{slice_get}
 use Rattle.std.specs.List.{list_any, AllByRecursion}
 use Rattle.std.proofs.lemmas.Bool.{lt-ltb, eq-eqb}
 use Rattle.std.proofs.lemmas.Option.{same_Some}
 use Rattle.edge_kit.specs.Told.{Told, Raw, TellsNone, TellsLong, MayFail}
-use Rattle.edge_kit.specs.Starters.{Starts, StartsListed}
+use Rattle.edge_kit.specs.Starters.{Had, Starts, StartsListed}
 use Rattle.edge_kit.specs.declared.leaf_state.LeafState.{LeafState}
 use Rattle.settings_view.specs.declared.view.Driver.{Driver}
 use Rattle.git_index.specs.Spelling.{pairwise}
@@ -29,10 +29,11 @@ use Rattle.driver_line.specs.SameHeard.{NoneFailed, SameHeard, IsToldTalk, HaveT
 use Rattle.driver_line.specs.ToldStarts.{GoBy}
 use Rattle.checkout_plan.specs.declared.path_plan.PathPlan.{PathPlan}
 use Rattle.checkout_plan.specs.Making.{FitsKind, object_kind}
-use Rattle.checkout_engine.specs.Complete.{IsRightObject, IsRightStart, IsRightPath, GivesAll, failed_leaves}
+use Rattle.checkout_engine.specs.Complete.{IsRightObject, IsRightStart, IsRightPath, GivesAll, TalksGiveAll, failed_leaves}
 use Rattle.checkout_engine.specs.Ends.{verdicts_of}
 use Rattle.checkout_engine.specs.Outcome.{Outcome, HasVerdict, HasDeskVerdict, HasOutcome, AreOutcomes, leaf_back}
 use Rattle.checkout_engine.specs.Paths.{leaves_back}
+use Rattle.checkout_engine.specs.PlannedPaths.{AreSized}
 use Rattle.checkout_engine.specs.Report.{lacks_memory}
 use Rattle.checkout_engine.specs.Talks.{DriverTalk, IsDriverTalk, heard_at, was_read}
 use Rattle.checkout_engine.proofs.Order.{precedes}
@@ -40,7 +41,7 @@ use Rattle.checkout_engine.proofs.Places.{get_map}
 use Rattle.checkout_engine.proofs.PathsAlike.{heard_if_asked, leaf_failed, not_wanting}
 use Rattle.checkout_engine.proofs.Rising.{apart, same_rising}
 use Rattle.checkout_engine.proofs.Seeds.{at_desk, same_place}
-use Rattle.checkout_engine.proofs.OneSide.{IsSide, EndsAt, FineAt, first_fine, outcome_from, talk_from, holds_at}
+use Rattle.checkout_engine.proofs.OneSide.{IsSide, EndsAt, FineAt, first_fine, outcome_at, talk_at, memory_is, told_talk, holds_at}
 
 -- a right object gives nothing but its content
 pub gives_right : (told : Told) (name raw content : List ℕ) (answer : Result (List ℕ) ObjectFault) → told ≡ Raw raw → object_of raw name ≡ Ok content → Gives told name answer → answer ≡ Ok content
@@ -129,24 +130,15 @@ content_of_desk d start.Pool told p is right = right.1
 content_of_desk d (start.Done v) told p is right = absurd cc
 
 module _ (object : List ℕ → Told) (ahead : List ℕ → Starts) (ps : List PathPlan) (drivers : List Driver) (talks : List DriverTalk) (outcomes : List Outcome) (history : List Event)
-    (s : IsSide object ahead ps drivers talks outcomes history) (right : AllByRecursion (IsRightPath object) ps) (rise : pairwise precedes ps ≡ true) (law : SameHeard)
-    (gives : (d : ℕ) (x : Driver) → slice_get drivers d ≡ Some x → GivesAll ahead ps d x) where
+    (s : IsSide object ahead ps drivers talks outcomes history) (right : AllByRecursion (IsRightPath object) ps) (rise : pairwise precedes ps ≡ true) (law : SameHeard) (sized : AreSized ps)
+    (back : List (List ℕ × List Had)) (returned : (d : ℕ) (t : DriverTalk) → slice_get talks d ≡ Some t → (k : ℕ) × (slice_get back k ≡ Some (t.command, t.had)))
+    (gives : (d : ℕ) (x : Driver) → slice_get drivers d ≡ Some x → GivesAll ahead ps d x ⊎ TalksGiveAll object ahead back ps d x) where
   fine_at : (n : ℕ) (p : PathPlan) → slice_get ps n ≡ Some p → (o : Outcome) × (slice_get outcomes n ≡ Some o) × EndsAt object talks n p o
-  fine_at n p at =
-      let o = outcome_from object talks 0 ps outcomes s.ends.fit s.ends.memory n p at in
-      let same : ◌≡◌ {A = ℕ} (0 + n) n = omega arith in
-      (o.0, o.1, subst (λ (m : ℕ). EndsAt object talks m p o.0) same o.2)
+  fine_at = outcome_at object ahead ps drivers talks outcomes history s.ends
 
   module _ (d : ℕ) (t : DriverTalk) (there : slice_get talks d ≡ Some t) where
     said : (x : Driver) × (slice_get drivers d ≡ Some x) × IsDriverTalk ahead object ps (verdicts_of outcomes) history d x t
-    said =
-        let x = talk_from ahead object ps (verdicts_of outcomes) history 0 drivers talks s.ends.conversations d t there in
-        let same : ◌≡◌ {A = ℕ} (0 + d) d = omega arith in
-        (x.0, x.1, subst (λ (k : ℕ). IsDriverTalk ahead object ps (verdicts_of outcomes) history k x.0 t) same x.2)
-
-    -- the talk in which each path got a content
-    best : GivesAll ahead ps d said.0
-    best = gives d said.0 said.1
+    said = talk_at object ahead ps drivers talks outcomes history s.ends d t there
 
     -- the verdict of a path of the driver
     desk_verdict_at : (n : ℕ) (p : PathPlan) (o : Outcome) → is_at d p.start ≡ true → HasOutcome object talks p.start n p o → (required : Bool) × HasDeskVerdict required d t n (object p.object) p o o.verdict
@@ -171,60 +163,59 @@ module _ (object : List ℕ → Told) (ahead : List ℕ → Starts) (ps : List P
         let o = fine_at n p at in
         said.2.over.asked n p (o.0).verdict at (get_map (λ (x : Outcome). x.verdict) outcomes n o.0 o.1) is o.2.memory ∙ read_at n p o.0 at is o.2.has
 
-    same_number : (n : ℕ) → contains n best.talk.asked ≡ contains n t.asked
-    same_number n = by (contains n best.talk.asked) (contains n t.asked) refl refl
-      where
-        by : (x y : Bool) → contains n best.talk.asked ≡ x → contains n t.asked ≡ y → contains n best.talk.asked ≡ contains n t.asked
-        by true y e f = let p = best.over.each n e in e ∙ sym (all_asked n p.0 p.1 p.2)
-        by false true e f = let p = said.2.over.each n f in best.over.asked n p.0 p.1 p.2 ∙ sym f
-        by false false e f = e ∙ sym f
+    none_failed : NoneFailed t.had
+    none_failed = holds_at (λ (u : DriverTalk). NoneFailed u.had) talks d t s.links there
 
-    same_asked : t.asked ≡ best.talk.asked
-    same_asked = sym (same_rising best.talk.asked t.asked best.over.rises said.2.over.rises same_number)
+    -- the talk in which each path got a content
+    module _ (best : GivesAll ahead ps d said.0) where
+      same_number : (n : ℕ) → contains n best.talk.asked ≡ contains n t.asked
+      same_number n = by (contains n best.talk.asked) (contains n t.asked) refl refl
+        where
+          by : (x y : Bool) → contains n best.talk.asked ≡ x → contains n t.asked ≡ y → contains n best.talk.asked ≡ contains n t.asked
+          by true y e f = let p = best.over.each n e in e ∙ sym (all_asked n p.0 p.1 p.2)
+          by false true e f = let p = said.2.over.each n f in best.over.asked n p.0 p.1 p.2 ∙ sym f
+          by false false e f = e ∙ sym f
 
-    have_texts : HaveTexts best.talk.paths best.talk.asked
-    have_texts m n is are same =
-        let p = best.over.each m is in
-        let q = best.over.each n are in
-        same_place ps rise m n p.0 q.0 p.1 q.1 (sym p.3 ∙ same ∙ q.3)
+      same_asked : t.asked ≡ best.talk.asked
+      same_asked = sym (same_rising best.talk.asked t.asked best.over.rises said.2.over.rises same_number)
 
-    have_same_texts : HaveSameTexts best.talk.paths t.paths best.talk.asked
-    have_same_texts n is =
-        let p = best.over.each n is in
-        let q = said.2.over.each n (sym (same_number n) ∙ is) in
-        let same : p.0 ≡ q.0 = same_Some p.0 q.0 (sym p.1 ∙ q.1) in
-        p.3 ∙ ap (λ (z : PathPlan). z.path) same ∙ sym q.3
+      have_texts : HaveTexts best.talk.paths best.talk.asked
+      have_texts m n is are same =
+          let p = best.over.each m is in
+          let q = best.over.each n are in
+          same_place ps rise m n p.0 q.0 p.1 q.1 (sym p.3 ∙ same ∙ q.3)
 
-    none_wants : (n : ℕ) → contains n t.asked ≡ true → fate_in d n t.exchanges ≡ Known heard.OutOfMemory → ⊥
-    none_wants n is wants =
-        let e = said.2.over.each n is in
-        let o = fine_at n e.0 e.1 in
-        let own = desk_verdict_at n e.0 o.0 e.2 o.2.has in
-        not_wanting own.0 d t n (object (e.0).object) e.0 o.0 (o.0).verdict own.1 o.2.memory (read_at n e.0 o.0 e.1 e.2 o.2.has) (heard_if_asked d t n is ∙ ap heard_by wants)
+      have_same_texts : HaveSameTexts best.talk.paths t.paths best.talk.asked
+      have_same_texts n is =
+          let p = best.over.each n is in
+          let q = said.2.over.each n (sym (same_number n) ∙ is) in
+          let same : p.0 ≡ q.0 = same_Some p.0 q.0 (sym p.1 ∙ q.1) in
+          p.3 ∙ ap (λ (z : PathPlan). z.path) same ∙ sym q.3
 
-    same_starts : ahead t.command ≡ StartsListed best.starts
-    same_starts = ap ahead (same_Some t.command best.talk.command (sym said.2.command ∙ best.command)) ∙ best.told
+      same_starts : ahead t.command ≡ StartsListed best.starts
+      same_starts = ap ahead (same_Some t.command best.talk.command (sym said.2.command ∙ best.command)) ∙ best.told
 
-    told_talk : IsToldTalk d t.paths t.asked best.starts t.had t.exchanges
-    told_talk = record {
-      full = said.2.talk.full;
-      fills = said.2.talk.fills;
-      talk = said.2.talk.talk;
-      left = said.2.talk.left;
-      goes = subst (λ (told : Starts). GoBy told said.2.talk.full said.2.talk.left) same_starts said.2.talk.starts;
-      fine = holds_at (λ (u : DriverTalk). NoneFailed u.had) talks d t s.links there;
-      memory = none_wants;
-    }
+      told_by_best : IsToldTalk d t.paths t.asked best.starts t.had t.exchanges
+      told_by_best = told_talk object ahead ps drivers talks outcomes history s.ends d t there best.starts same_starts none_failed
 
-    -- each path of the driver got a content
+      -- each path of the driver got a content
+      got_as_told : (n : ℕ) → contains n t.asked ≡ true → heard_at d t n ≡ Some heard.Got
+      got_as_told n asked =
+          let u = best.talk in
+          let own : contains n u.asked ≡ true = same_number n ∙ asked in
+          let moved : IsToldTalk d t.paths u.asked best.starts t.had t.exchanges = subst (λ (ns : List ℕ). IsToldTalk d t.paths ns best.starts t.had t.exchanges) same_asked told_by_best in
+          let same = (law d u.paths t.paths u.asked best.starts u.had t.had u.exchanges t.exchanges (apart u.asked best.over.rises) have_texts have_same_texts best.goes moved).0 n own in
+          heard_if_asked d t n asked ∙ ap heard_by (sym same.0) ∙ sym (heard_if_asked d u n own) ∙ best.got n own
+
+    -- by what is told of the starts, or by the talk itself
+    got_if_asked : GivesAll ahead ps d said.0 ⊎ TalksGiveAll object ahead back ps d said.0 → (n : ℕ) → contains n t.asked ≡ true → heard_at d t n ≡ Some heard.Got
+    got_if_asked (inl best) = got_as_told best
+    got_if_asked (inr all) =
+        let at = returned d t there in
+        all (verdicts_of outcomes) history t sized said.2 at.0 at.1 none_failed (memory_is object ahead ps drivers talks outcomes history s.ends d t there)
+
     got : (n : ℕ) (p : PathPlan) → slice_get ps n ≡ Some p → is_at d p.start ≡ true → heard_at d t n ≡ Some heard.Got
-    got n p at is =
-        let u = best.talk in
-        let asked : contains n t.asked ≡ true = all_asked n p at is in
-        let own : contains n u.asked ≡ true = same_number n ∙ asked in
-        let moved : IsToldTalk d t.paths u.asked best.starts t.had t.exchanges = subst (λ (ns : List ℕ). IsToldTalk d t.paths ns best.starts t.had t.exchanges) same_asked told_talk in
-        let same = (law d u.paths t.paths u.asked best.starts u.had t.had u.exchanges t.exchanges (apart u.asked best.over.rises) have_texts have_same_texts best.goes moved).0 n own in
-        heard_if_asked d t n asked ∙ ap heard_by (sym same.0) ∙ sym (heard_if_asked d u n own) ∙ best.got n own
+    got n p at is = got_if_asked (gives d said.0 said.1) n (all_asked n p at is)
 
   -- a path doesn't fail
   path_fails_not : (n : ℕ) (p : PathPlan) (o : Outcome) → slice_get ps n ≡ Some p → FineAt object talks n p o → is_failed o.verdict ≡ false
@@ -256,8 +247,10 @@ none_fails object talks n (p ∷ ps) (o ∷ os) fit memory none each =
 
 -- no path fails
 pub paths_fail_not : (object : List ℕ → Told) (ahead : List ℕ → Starts) (ps : List PathPlan) (drivers : List Driver) (talks : List DriverTalk) (outcomes : List Outcome) (history : List Event) → IsSide object ahead ps drivers talks outcomes history
-    → AllByRecursion (IsRightPath object) ps → pairwise precedes ps ≡ true → SameHeard → ((d : ℕ) (x : Driver) → slice_get drivers d ≡ Some x → GivesAll ahead ps d x) → list_any is_failed (verdicts_of outcomes) ≡ false
-paths_fail_not object ahead ps drivers talks outcomes history s right rise law gives =
+    → AllByRecursion (IsRightPath object) ps → pairwise precedes ps ≡ true → SameHeard → AreSized ps
+    → (back : List (List ℕ × List Had)) → ((d : ℕ) (t : DriverTalk) → slice_get talks d ≡ Some t → (k : ℕ) × (slice_get back k ≡ Some (t.command, t.had)))
+    → ((d : ℕ) (x : Driver) → slice_get drivers d ≡ Some x → GivesAll ahead ps d x ⊎ TalksGiveAll object ahead back ps d x) → list_any is_failed (verdicts_of outcomes) ≡ false
+paths_fail_not object ahead ps drivers talks outcomes history s right rise law sized back returned gives =
     none_fails object talks 0 ps outcomes s.ends.fit s.ends.memory s.leaves (λ k p o at fine.
     let same : ◌≡◌ {A = ℕ} (0 + k) k = omega arith in
-    path_fails_not object ahead ps drivers talks outcomes history s right rise law gives k p o at (subst (λ (m : ℕ). FineAt object talks m p o) same fine))
+    path_fails_not object ahead ps drivers talks outcomes history s right rise law sized back returned gives k p o at (subst (λ (m : ℕ). FineAt object talks m p o) same fine))

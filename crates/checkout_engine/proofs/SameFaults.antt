@@ -21,7 +21,7 @@ use Rattle.checkout_engine.specs.Rehearsed.{is_write_failed}
 use Rattle.checkout_engine.specs.Report.{lacks_memory, report}
 use Rattle.checkout_engine.specs.SameFaults.{HaveSameFile, SameFaultsChangeNothing, leaf_counts}
 use Rattle.checkout_engine.specs.Talks.{DriverTalk}
-use Rattle.checkout_engine.proofs.Alike.{HearAlike, ends_of, same_path, same_sessions}
+use Rattle.checkout_engine.proofs.Alike.{AllHearAlike, ends_of, same_path, same_sessions}
 use Rattle.checkout_engine.proofs.Drivers.{planned_ordered}
 use Rattle.checkout_engine.proofs.OneSide.{Ground, HasEnds, EndsAt, FineAt, first_ends}
 use Rattle.checkout_engine.proofs.PathsAlike.{PathEnd}
@@ -115,7 +115,7 @@ same_faults reading ordered law one told told' ahead ahead' a b old new before a
     subst (λ (object : List ℕ → Told). HasEnds object ahead' e.plan.paths e.plan.drivers e.talks e.outcomes after.history) differ.object (ends_of told' ahead' b before after e faults.second_memory) in
     let second : HasEnds told.object ahead' c.plan.paths c.plan.drivers e.talks e.outcomes after.history =
     subst (λ (p : Plan). HasEnds told.object ahead' p.paths p.drivers e.talks e.outcomes after.history) (sym plan) other in
-    let hear : HearAlike told.object c.plan.paths ground c.plan.drivers ahead c.talks c.outcomes new.history first ahead' e.talks e.outcomes after.history second = λ d t u here there.
+    let hear : AllHearAlike told.object c.plan.paths ground c.plan.drivers ahead c.talks c.outcomes new.history first ahead' e.talks e.outcomes after.history second = λ d t u here there.
     same_sessions told.object c.plan.paths ground c.plan.drivers ahead c.talks c.outcomes new.history first ahead' e.talks e.outcomes after.history second d t u here there law
     (faults.starts d t u here there) in
     let same = same_ends told.object c.talks e.talks 0 c.plan.paths c.outcomes e.outcomes first.fit second.fit first.memory second.memory faults.leaves (λ k p o q at fine fine'.

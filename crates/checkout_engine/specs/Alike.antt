@@ -1,5 +1,5 @@
 -- What two checkouts have in common, whatever the number of their workers, and how that number binds each.
-use Rattle.std.specs.Prelude.{◌≡◌, ◌+◌, ℕ, false, List, length, Option, Some}
+use Rattle.std.specs.Prelude.{◌≡◌, ◌⊎◌, ◌+◌, ℕ, true, false, List, length, Option, Some, slice_get}
 use Rattle.std.specs.List.{AllByRecursion}
 use Rattle.std.specs.Global.{Vec}
 use Rattle.edge_kit.specs.Memory.{repo_told}
@@ -9,12 +9,16 @@ use Rattle.edge_kit.specs.Told.{Told, Raw, Absent, Failing, Untold, RepoTold}
 use Rattle.edge_kit.specs.declared.memory_repo.RepoFail.{RepoFail}
 use Rattle.edge_kit.specs.declared.script.DriverScript.{DriverScript}
 use Rattle.edge_kit.specs.declared.tree_file.TreeFile.{TreeFile}
-use Rattle.driver_line.specs.SameHeard.{NoneFailed}
+use Rattle.delay_table.specs.Table.{contains}
+use Rattle.checkout_core.specs.declared.path.Heard.TheVariants as heard
+use Rattle.checkout_core.specs.Fates.{Known}
+use Rattle.driver_line.specs.SameHeard.{NoneFailed, HaveSamePaths, fate_in, content_of}
 use Rattle.settings_view.specs.declared.view.Settings.{Settings}
 use Rattle.checkout_plan.specs.declared.path_plan.Plan.{Plan}
-use Rattle.checkout_engine.specs.Complete.{failed_leaves}
+use Rattle.checkout_engine.specs.Complete.{failed_leaves, HadMemory}
 use Rattle.checkout_engine.specs.Ends.{Seen, IsCheckedOut, verdicts_of, files_of}
 use Rattle.checkout_engine.specs.Report.{lacks_memory, report}
+use Rattle.checkout_engine.specs.Talks.{DriverTalk}
 use Rattle.checkout_sources.specs.Sources.{HasSettings, IsPlanned}
 use Rattle.checkout_engine.specs.Workers.{starts_of, worker_count, HaveActorsBelow}
 
@@ -93,6 +97,38 @@ SettingsChangeNothing = (told told' : RepoTold) (ahead : List ℕ → Starts) (a
     (old new before after : Seen) → TellAll told ahead → DifferInWorkers told told'
     → (c : IsCheckedOut told ahead a old new) → (e : IsCheckedOut told' ahead b before after)
     → IsUndisturbed c → IsUndisturbed e → AreAlike c e
+
+-- Both talks are by one command, over the same paths, which have the same texts, objects' names and prepared bytes.
+pub record AreSameTalks (t u : DriverTalk) : Type 0 where
+  pub command : u.command ≡ t.command
+  pub asked : u.asked ≡ t.asked
+  pub paths : HaveSamePaths t.paths u.paths t.asked
+
+-- each path heard the same in both, and got the same content if it got one
+abbrev pub HearAlike : ℕ → DriverTalk → DriverTalk → Type 0
+HearAlike d t u = (n : ℕ) → contains n t.asked ≡ true → (fate_in d n t.exchanges ≡ fate_in d n u.exchanges)
+    × (fate_in d n t.exchanges ≡ Known heard.Got → content_of n t.exchanges ≡ content_of n u.exchanges)
+
+-- the starts are told one by one
+abbrev pub AreListed : Starts → Type 0
+AreListed starts = (list : List StartTold) × (starts ≡ StartsListed list)
+
+-- What the drivers say decides the rest: two checkouts of one repository that tells all, or of two such ones, are alike
+-- if neither was disturbed, and if for each driver its starts are told one by one, or its paths hear the same in both.
+abbrev pub TalksDecide : Type 0
+TalksDecide = (told told' : RepoTold) (ahead : List ℕ → Starts) (a b : Option ℕ)
+    (old new before after : Seen) → RepoTellsAll told → (told' ≡ told) ⊎ DifferInWorkers told told'
+    → (c : IsCheckedOut told ahead a old new) → (e : IsCheckedOut told' ahead b before after)
+    → IsUndisturbed c → IsUndisturbed e
+    → ((d : ℕ) (t u : DriverTalk) → slice_get c.talks d ≡ Some t → slice_get e.talks d ≡ Some u → AreSameTalks t u
+    → AreListed (ahead t.command) ⊎ HearAlike d t u)
+    → AreAlike c e
+
+-- No path of a talk hears that memory ran out, where no path of the checkout ends so.
+abbrev pub TalksHaveMemory : Type 0
+TalksHaveMemory = (told : RepoTold) (ahead : List ℕ → Starts) (asked : Option ℕ) (old new : Seen)
+    → (c : IsCheckedOut told ahead asked old new) → lacks_memory (verdicts_of c.outcomes) ≡ false
+    → (d : ℕ) (t : DriverTalk) → slice_get c.talks d ≡ Some t → HadMemory d t
 
 -- Whoever made an entry of the history of a checkout is below the number of its workers and its drivers.
 abbrev pub ActorsAreNumbered : Type 0

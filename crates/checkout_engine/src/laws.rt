@@ -1,6 +1,6 @@
 //! What follows from the contracts of a checkout.
 ghost use Rattle.checkout_engine.specs.Alike.{MemoryTellsAll, WorkersChangeNothing, SettingsChangeNothing};
-ghost use Rattle.checkout_engine.specs.Alike.{ActorsAreNumbered, OnePlan};
+ghost use Rattle.checkout_engine.specs.Alike.{ActorsAreNumbered, OnePlan, TalksDecide, TalksHaveMemory};
 ghost use Rattle.checkout_engine.specs.Given.{WrittenIsGiven};
 ghost use Rattle.checkout_engine.specs.PlannedPaths.{PlannedPathsAreSized};
 ghost use Rattle.checkout_engine.specs.Rehearsed.{RehearsalsAreAlike};
@@ -26,6 +26,22 @@ pub fn workers_change_nothing()
     equal_outputs_give_equal_talks();
     a_path_gets_one_content();
 }
+
+/// What the drivers say decides the rest: two such checkouts have the same plan, verdicts, files and report if for each
+/// driver what it writes is told of each start, or each of its paths heard the same in both.
+pub fn talks_decide()
+    ensures { TalksDecide }
+{
+    one_reading();
+    paths_are_ordered();
+    equal_outputs_give_equal_talks();
+    a_path_gets_one_content();
+}
+
+/// Where memory was left for each path, no path of a driver heard that it ran out.
+pub fn talks_have_memory()
+    ensures { TalksHaveMemory }
+{}
 
 /// Where leaves or links failed, the verdicts and the reports of two checkouts of one repository are equal if their
 /// sessions, their failed starts and the counts of their leaves are, with any two numbers of workers, and memory was
@@ -55,10 +71,7 @@ pub fn a_told_repository_has_one_plan()
 /// that was not disturbed wrote all of these.
 pub fn written_paths_are_given()
     ensures { WrittenIsGiven }
-{
-    paths_are_ordered();
-    a_path_gets_one_content();
-}
+{}
 
 /// A rehearsal has one line: two with the same seed and as many paths that wrote their line wrote the same.
 pub fn rehearsals_are_alike()

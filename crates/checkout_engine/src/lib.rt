@@ -22,8 +22,8 @@ pub use command::run;
 pub use exit_status::ExitStatus;
 pub use laws::{
     a_told_repository_has_one_plan, actors_are_numbered, memory_tells_all, planned_paths_are_sized,
-    rehearsals_are_alike, same_faults_change_nothing, workers_change_nothing,
-    written_paths_are_given,
+    rehearsals_are_alike, same_faults_change_nothing, talks_decide, talks_have_memory,
+    workers_change_nothing, written_paths_are_given,
 };
 pub use rehearsing::{RehearsedRun, rehearsed_run};
 pub use show::plan_text;

@@ -15,3 +15,5 @@ pub mod OnceSessions
 pub mod OnceItems
 pub mod OnceFits
 pub mod KeptTalks
+pub mod PlainCaps
+pub mod Remembered

@@ -97,7 +97,7 @@ told_choice (Some x) c p h = ap (λ (z : Choice). Some z) h
 
 -- what is known of a path stays
 
-known_stays : (p : ℕ) (h : Heard) (es : List Event) → fate_of p (Known h) es ≡ Known h
+pub known_stays : (p : ℕ) (h : Heard) (es : List Event) → fate_of p (Known h) es ≡ Known h
 known_stays p h [] = refl
 known_stays p h (e ∷ es) = known_stays p h es
 
@@ -163,11 +163,11 @@ ended_part laws seen p y content used later d extra quiet fits none no_used no_l
 
 -- no exchange of a session stands between sessions
 
-not_answered : (rest : List ℕ) (p : ℕ) (y : Reply) (u : Talk) → talk_next (Between rest) (ev.Answered p y) ≡ Some u → ⊥
+pub not_answered : (rest : List ℕ) (p : ℕ) (y : Reply) (u : Talk) → talk_next (Between rest) (ev.Answered p y) ≡ Some u → ⊥
 not_answered [] p y u h = cc h
 not_answered (q ∷ rest) p y u h = cc h
 
-not_redone : (rest : List ℕ) (p : ℕ) (y : Reply) (u : Talk) → talk_next (Between rest) (ev.Redone p y) ≡ Some u → ⊥
+pub not_redone : (rest : List ℕ) (p : ℕ) (y : Reply) (u : Talk) → talk_next (Between rest) (ev.Redone p y) ≡ Some u → ⊥
 not_redone [] p y u h = cc h
 not_redone (q ∷ rest) p y u h = cc h
 
@@ -179,11 +179,11 @@ not_listed : (rest : List ℕ) (d : ℕ) (y : ListReply) (u : Talk) → talk_nex
 not_listed [] d y u h = cc h
 not_listed (q ∷ rest) d y u h = cc h
 
-not_shut : (rest : List ℕ) (d : ℕ) (u : Talk) → talk_next (Between rest) (ev.Shut d) ≡ Some u → ⊥
+pub not_shut : (rest : List ℕ) (d : ℕ) (u : Talk) → talk_next (Between rest) (ev.Shut d) ≡ Some u → ⊥
 not_shut [] d u h = cc h
 not_shut (q ∷ rest) d u h = cc h
 
-not_listing : (d : ℕ) (rest : List ℕ) (names : List ℕ) (y : ListReply) (u : Talk)
+pub not_listing : (d : ℕ) (rest : List ℕ) (names : List ℕ) (y : ListReply) (u : Talk)
     → talk_run d (Between rest) (list_notes d names y) ≡ Some u → ⊥
 not_listing d rest [] (list.Names n) u h = not_listed rest d (list.Names n) u (one_step d (Between rest) (ev.Listed d (list.Names n)) u h)
 not_listing d rest (q ∷ names) (list.Names n) u h =
@@ -223,6 +223,21 @@ nothing_between paths d more u rest (Opening p end ∷ es) sent taken (inl (none
     no_cut (inl e) = cc e
     no_cut (inr e) = cc e
 nothing_between paths d more u rest (Opening p end ∷ es) sent taken (inr s) leads = absurd s.5
+
+-- nothing is delayed, so nothing is listed or asked for again
+
+pub no_list : (d : ℕ) (rest names : List ℕ) (y : ListReply) (mid : Talk)
+    → talk_run d (InRound (first_round smudge_alone rest)) (list_notes d names y) ≡ Some mid → ⊥
+no_list d rest names (list.Names n) mid h =
+    let a = listed d n (first_round smudge_alone rest) names mid refl h in let no = a.0.any in cc no
+no_list d rest names list.Empty mid h = let a = empty_list d (first_round smudge_alone rest) mid h in let no = a.0.any in cc no
+no_list d rest names list.Abort mid h = let a = any_list d (first_round smudge_alone rest) list.Abort mid refl h in let no = a.any in cc no
+no_list d rest names (list.Broken why) mid h = let a = any_list d (first_round smudge_alone rest) (list.Broken why) mid refl h in let no = a.any in cc no
+no_list d rest names list.NoMemory mid h = let a = any_list d (first_round smudge_alone rest) list.NoMemory mid refl h in let no = a.any in cc no
+
+pub no_second : (d : ℕ) (rest : List ℕ) (p : ℕ) (y : Reply) (mid : Talk)
+    → talk_run d (InRound (first_round smudge_alone rest)) (ev.Redone p y ∷ []) ≡ Some mid → ⊥
+no_second d rest p y mid h = let a = again d (first_round smudge_alone rest) p y mid h in let no = a.turns_is in cc no
 
 module _ (laws : OnceLaws) (tells : RunsTold) (command : List ℕ) (paths : Paths) (asked_paths : List ℕ) (told : AreTold tells command paths asked_paths) (d : ℕ) where
   -- each of these paths hears what it should
@@ -450,27 +465,14 @@ module _ (laws : OnceLaws) (tells : RunsTold) (command : List ℕ) (paths : Path
         by_more (Second p y c ∷ next) o h = absurd o
         by_more (Shutting ∷ next) o h = absurd o
 
-    no_list : (rest names : List ℕ) (y : ListReply) (mid : Talk)
-        → talk_run d (InRound (first_round smudge_alone rest)) (list_notes d names y) ≡ Some mid → ⊥
-    no_list rest names (list.Names n) mid h =
-        let a = listed d n (first_round smudge_alone rest) names mid refl h in let no = a.0.any in cc no
-    no_list rest names list.Empty mid h = let a = empty_list d (first_round smudge_alone rest) mid h in let no = a.0.any in cc no
-    no_list rest names list.Abort mid h = let a = any_list d (first_round smudge_alone rest) list.Abort mid refl h in let no = a.any in cc no
-    no_list rest names (list.Broken why) mid h = let a = any_list d (first_round smudge_alone rest) (list.Broken why) mid refl h in let no = a.any in cc no
-    no_list rest names list.NoMemory mid h = let a = any_list d (first_round smudge_alone rest) list.NoMemory mid refl h in let no = a.any in cc no
-
-    no_second : (rest : List ℕ) (p : ℕ) (y : Reply) (mid : Talk)
-        → talk_run d (InRound (first_round smudge_alone rest)) (ev.Redone p y ∷ []) ≡ Some mid → ⊥
-    no_second rest p y mid h = let a = again d (first_round smudge_alone rest) p y mid h in let no = a.turns_is in cc no
-
     pub walk : (es : List Exchange) → Walks es
     walk [] = at_end
     walk (First p y content ∷ es) = on_first p y content es (walk es)
     walk (Shutting ∷ es) = on_shut es
     walk (Listing late names y ∷ es) = λ rest answers sent taken are asks waits output spoken fit wants leads onward.
-        absurd (no_list rest names y leads.0 leads.2)
+        absurd (no_list d rest names y leads.0 leads.2)
     walk (Second p y content ∷ es) = λ rest answers sent taken are asks waits output spoken fit wants leads onward.
-        absurd (no_second rest p y leads.0 leads.2)
+        absurd (no_second d rest p y leads.0 leads.2)
     walk (NoStart p ∷ es) = λ rest answers sent taken are asks waits output spoken fit wants leads onward.
         absurd (cc (one_step d (InRound (first_round smudge_alone rest)) (ev.OpenFailed p opening.NotStarted) leads.0 leads.2))
     walk (NoRoom p ∷ es) = λ rest answers sent taken are asks waits output spoken fit wants leads onward.

@@ -280,7 +280,7 @@ hands laws law handshakes own batch paths caps es seen end h o wants asks fit =
 
 -- a driver that can't smudge
 
-refusing_is : (d : ℕ) (e : Exchange) (mid : Talk) → talk_run d Refusing (notes_of d e) ≡ Some mid
+pub refusing_is : (d : ℕ) (e : Exchange) (mid : Talk) → talk_run d Refusing (notes_of d e) ≡ Some mid
     → (e ≡ Shutting) × (mid ≡ Ended)
 refusing_is d Shutting mid h = (refl, sym (cc (one_step d Refusing (ev.Shut d) mid h)))
 refusing_is d (NoStart p) mid h = absurd (cc (one_step d Refusing (ev.OpenFailed p opening.NotStarted) mid h))

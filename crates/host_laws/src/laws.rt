@@ -26,7 +26,7 @@ ghost use Rattle.one_shot.specs.Replies.{smudge_alone};
 ghost use Rattle.one_shot.specs.Works.{work_told};
 ghost use Rattle.host_laws.specs.HostTalks.{AnswersFit, HostedTalk};
 ghost use Rattle.host_laws.specs.OnceTalks.{OnceHeard};
-ghost use Rattle.host_laws.specs.KeptTalks.{KeptHeard};
+ghost use Rattle.host_laws.specs.KeptTalks.{KeptHeard, KeptHadMemory};
 
 use driver_host::{client_requests, right_handshake, right_lists, right_replies};
 use driver_line::one_part;
@@ -142,11 +142,21 @@ pub fn single_runs_serve()
     no_packet();
 }
 
-/// The same of a talk whose starts are told to run a command and whose sessions a starter keeps: each path gets the
-/// output that its command gave, or is refused as there.
+/// The same of a talk whose starts are told to run a command and whose sessions a starter keeps, if memory never ran
+/// out: each path gets the output that its command gave, or is refused as there.
 pub fn kept_runs_serve()
     ensures { KeptHeard }
 {
     single_runs_serve();
     told_answers_fit();
+}
+
+/// Memory never ran out in a talk whose starts are told to run a command and whose sessions a starter keeps, if its
+/// paths differ and none heard that it did.
+pub fn kept_runs_have_memory()
+    ensures { KeptHadMemory }
+{
+    told_answers_fit();
+    one_exchange();
+    one_part();
 }

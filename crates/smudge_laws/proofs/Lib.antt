@@ -1,3 +1,7 @@
 pub mod Rising
-mod Sized
+pub mod Sized
+pub mod KeptRuns
 pub mod Runs
+pub mod RunsAlike
+pub mod RunsGive
+pub mod Plain

@@ -1,5 +1,5 @@
 -- The paths of a driver that is a command, in a checkout.
-use Rattle.std.proofs.Common.{◌≡◌, ◌+◌, ◌≤◌, inl, inr, ℕ, zero, suc, Bool, true, false, cond, if◌then◌else◌, List, [], ◌∷◌, ◌++◌, map, length, Option, Some, None, refl, sym, ap, ◌∙◌, subst, arith}
+use Rattle.std.proofs.Common.{◌≡◌, ◌⊎◌, ◌+◌, ◌≤◌, inl, inr, ℕ, zero, suc, Bool, true, false, cond, List, [], ◌∷◌, ◌++◌, map, length, Option, Some, None, refl, sym, ap, ◌∙◌, subst, arith}
 use Rattle.std.specs.Prelude.{slice_get, nat_lt}
 use Rattle.std.proofs.lemmas.Bool.{ltb-true, ltb-false}
 use Rattle.std.proofs.lemmas.Option.{same_Some}
@@ -7,12 +7,11 @@ use Rattle.filter_words.specs.Outcomes.{limit}
 use Rattle.filter_words.specs.declared.reply.Reply.TheVariants as reply
 use Rattle.filter_words.specs.declared.reply.BreakCause.TheVariants as broken
 use Rattle.edge_kit.specs.Links.{RunTold}
-use Rattle.edge_kit.specs.Starters.{Had, Starts}
-use Rattle.edge_kit.specs.Told.{Told}
+use Rattle.edge_kit.specs.Starters.{Had, Starts, SpawnerSeen}
+use Rattle.edge_kit.specs.Told.{Told, RepoTold}
 use Rattle.delay_table.specs.Table.{contains}
 use Rattle.settings_view.specs.declared.view.Driver.{Driver}
 use Rattle.checkout_core.specs.Fates.{Fate, Untold, Later, Known, heard_by}
-use Rattle.checkout_core.specs.States.{is_at}
 use Rattle.checkout_core.specs.declared.event.Event.{Event}
 use Rattle.checkout_core.specs.declared.path.Heard.{Heard}
 use Rattle.checkout_core.specs.declared.path.Heard.TheVariants as heard
@@ -25,26 +24,28 @@ use Rattle.checkout_core.specs.declared.verdict.Verdict.{Verdict}
 use Rattle.checkout_core.specs.declared.verdict.Verdict.TheVariants as verdict
 use Rattle.driver_line.specs.Conversations.{Exchange, NoStart, NoRoom, Opening, First, Listing, Second, Shutting}
 use Rattle.driver_line.specs.OneContent.{OneContent, Gives, HasGiven}
-use Rattle.driver_line.specs.SameHeard.{fate_in, content_of}
-use Rattle.driver_line.specs.ToldStarts.{GoBy}
+use Rattle.driver_line.specs.SameHeard.{NoneWanting, fate_in, content_of}
 use Rattle.driver_desk.specs.Serving.{HasAnswer, IsAnswer}
 use Rattle.driver_host.specs.declared.work.Choice.{Choice}
 use Rattle.driver_host.specs.declared.work.Choice.TheVariants as choice
 use Rattle.checkout_plan.specs.declared.path_plan.PathPlan.{PathPlan}
-use Rattle.checkout_engine.specs.Ends.{verdicts_of}
+use Rattle.checkout_engine.specs.Alike.{TalksHaveMemory}
+use Rattle.checkout_engine.specs.Ends.{Seen, IsCheckedOut, verdicts_of}
+use Rattle.checkout_engine.specs.Report.{lacks_memory}
 use Rattle.checkout_engine.specs.PlannedPaths.{PlannedPathsAreSized}
 use Rattle.checkout_engine.specs.Outcome.{Outcome, HasOutcome, HasDeskVerdict, AreOutcomes}
 use Rattle.checkout_engine.specs.Talks.{DriverTalk, IsDriverTalk, AreDriverTalks, heard_at, Gave}
 use Rattle.one_shot.specs.Onces.{OnceTold, RunsListed}
 use Rattle.one_shot.specs.Works.{choice_told}
 use Rattle.one_shot.specs.Replies.{AreServed}
-use Rattle.one_shot.specs.Starters.{is_single_run, single_starts}
+use Rattle.one_shot.specs.Starters.{is_single_run}
 use Rattle.one_shot.specs.Spawners.{commands_tell, AllServed}
-use Rattle.host_laws.specs.KeptTalks.{IsKeptTalk, KeptHeard}
+use Rattle.host_laws.specs.KeptTalks.{KeptHeard, KeptHadMemory}
 use Rattle.host_laws.specs.OnceTalks.{IsHeardOf, HearsChoice, once_request}
-use Rattle.smudge_laws.specs.SingleRuns.{run_at, AreHeard, IsRefusedFor, EndsBy, AreEnded, SingleRunsAreHeard}
+use Rattle.smudge_laws.specs.SingleRuns.{run_at, AreHeard, IsRefusedFor, EndsBy, AreEnded, SingleRunsAreHeard, OwnRunsAreHeard}
 use Rattle.smudge_laws.proofs.Rising.{apart}
-use Rattle.smudge_laws.proofs.Sized.{desk_of, are_paths}
+use Rattle.smudge_laws.proofs.Sized.{desk_of}
+use Rattle.smudge_laws.proofs.KeptRuns.{hears, wants_none}
 
 -- the talk with a driver, by its number
 
@@ -84,10 +85,6 @@ served_at : (ts : List DriverTalk) (d : ℕ) (t : DriverTalk) → AllServed (map
 served_at [] d t a at = absurd cc
 served_at (u ∷ ts) zero t a at = subst (λ (x : DriverTalk). AreServed x.had) (same_Some u t at) a.0
 served_at (u ∷ ts) (suc d) t a at = served_at ts d t a.1 at
-
-single_told : (below : List ℕ → Starts) (runs : List RunTold) (command : List ℕ) → is_single_run command ≡ true
-    → commands_tell below true (RunsListed runs) command ≡ single_starts true (RunsListed runs) command
-single_told below runs command is = ap (λ (b : Bool). if b then single_starts true (RunsListed runs) command else below command) is
 
 -- what a path heard
 
@@ -203,32 +200,46 @@ module _ (required : Bool) (d : ℕ) (t : DriverTalk) (n : ℕ) (told : Told) (p
       record { output = x.5; fits = g.0; gave = g.1; file = x.7 }
   ends_by (verdict.Skipped cause) x = tt
 
-pub are_heard : KeptHeard → OneContent → PlannedPathsAreSized → SingleRunsAreHeard
-are_heard law one sized told below runs asked old new c served d t at single memory = (hears, ends)
+-- a talk of the checkout with a driver, whose sessions are served
+
+said_at : (told : RepoTold) (ahead : List ℕ → Starts) (asked : Option ℕ) (old new : Seen) (c : IsCheckedOut told ahead asked old new) (d : ℕ) (t : DriverTalk) → slice_get c.talks d ≡ Some t
+    → (x : Driver) × IsDriverTalk ahead told.object c.plan.paths (verdicts_of c.outcomes) new.history d x t
+said_at told ahead asked old new c d t at =
+    let x = talk_from ahead told.object c.plan.paths (verdicts_of c.outcomes) new.history 0 c.plan.drivers c.talks c.conversations d t at in
+    let same : ◌≡◌ {A = ℕ} (0 + d) d = omega arith in
+    (x.0, subst (λ (k : ℕ). IsDriverTalk ahead told.object c.plan.paths (verdicts_of c.outcomes) new.history k x.0 t) same x.1)
+
+served_in : (told : RepoTold) (ahead : List ℕ → Starts) (asked : Option ℕ) (old new : Seen) (c : IsCheckedOut told ahead asked old new) (d : ℕ) (t : DriverTalk) → slice_get c.talks d ≡ Some t
+    → AllServed new.spawner.returned → AreServed t.had
+served_in told ahead asked old new c d t at served =
+    served_at c.talks d t (served_behind old.spawner.returned _ (subst (λ (s : List (List ℕ × List Had)). AllServed s) (ap (λ s. s.returned) c.starters) served)) at
+
+-- each path of a single run is heard in a checkout, if memory never ran out in the talk
+pub heard_in_checkout : KeptHeard → PlannedPathsAreSized → (told : RepoTold) (below : List ℕ → Starts) (runs : List RunTold) (asked : Option ℕ) (old new : Seen) (c : IsCheckedOut told (commands_tell below true (RunsListed runs)) asked old new)
+    → AllServed new.spawner.returned → (d : ℕ) (t : DriverTalk) → slice_get c.talks d ≡ Some t → is_single_run t.command ≡ true → NoneWanting t.exchanges → AreHeard runs d t
+heard_in_checkout law sized told below runs asked old new c served d t at single =
+    let said = said_at told (commands_tell below true (RunsListed runs)) asked old new c d t at in
+    hears told.object below runs c.plan.paths (verdicts_of c.outcomes) new.history d said.0 t said.1 single
+    (served_in told (commands_tell below true (RunsListed runs)) asked old new c d t at served) (sized told c.plan c.planned) law
+
+-- and memory never did where it was left for each path
+pub wants_in_checkout : KeptHadMemory → TalksHaveMemory → PlannedPathsAreSized → (told : RepoTold) (below : List ℕ → Starts) (runs : List RunTold) (asked : Option ℕ) (old new : Seen) (c : IsCheckedOut told (commands_tell below true (RunsListed runs)) asked old new)
+    → AllServed new.spawner.returned → (d : ℕ) (t : DriverTalk) → slice_get c.talks d ≡ Some t → is_single_run t.command ≡ true → (lacks_memory (verdicts_of c.outcomes) ≡ false) ⊎ NoneWanting t.exchanges → NoneWanting t.exchanges
+wants_in_checkout had talks sized told below runs asked old new c served d t at single (inr wants) = wants
+wants_in_checkout had talks sized told below runs asked old new c served d t at single (inl memory) =
+    let said = said_at told (commands_tell below true (RunsListed runs)) asked old new c d t at in
+    wants_none told.object below runs c.plan.paths (verdicts_of c.outcomes) new.history d said.0 t said.1 single
+    (served_in told (commands_tell below true (RunsListed runs)) asked old new c d t at served) (sized told c.plan c.planned) had
+    (talks told (commands_tell below true (RunsListed runs)) asked old new c memory d t at)
+
+pub are_heard : KeptHeard → KeptHadMemory → OneContent → PlannedPathsAreSized → TalksHaveMemory → SingleRunsAreHeard
+are_heard law had one sized talks told below runs asked old new c served d t at single memory = (heard_all, ends)
   where
+    heard_all : AreHeard runs d t
+    heard_all = heard_in_checkout law sized told below runs asked old new c served d t at single (wants_in_checkout had talks sized told below runs asked old new c served d t at single memory)
+
     said : (x : Driver) × IsDriverTalk (commands_tell below true (RunsListed runs)) told.object c.plan.paths (verdicts_of c.outcomes) new.history d x t
-    said =
-        let x = talk_from _ told.object c.plan.paths (verdicts_of c.outcomes) new.history 0 c.plan.drivers c.talks c.conversations d t at in
-        let same : ◌≡◌ {A = ℕ} (0 + d) d = omega arith in
-        (x.0, subst (λ (k : ℕ). IsDriverTalk (commands_tell below true (RunsListed runs)) told.object c.plan.paths (verdicts_of c.outcomes) new.history k x.0 t) same x.1)
-
-    own : AreServed t.had
-    own = served_at c.talks d t (served_behind old.spawner.returned _ (subst (λ (s : List (List ℕ × List Had)). AllServed s) (ap (λ s. s.returned) c.starters) served)) at
-
-    kept : IsKeptTalk runs t.command d t.paths t.asked t.had t.exchanges
-    kept = record {
-      names = are_paths told.object c.plan.paths (verdicts_of c.outcomes) d t said.1.over (sized told c.plan c.planned);
-      full = said.1.talk.full;
-      fills = said.1.talk.fills;
-      left = said.1.talk.left;
-      starts = subst (λ (s : Starts). GoBy s said.1.talk.full said.1.talk.left) (single_told below runs t.command single) said.1.talk.starts;
-      talk = said.1.talk.talk;
-      served = own;
-      memory = memory;
-    }
-
-    hears : AreHeard runs d t
-    hears n is = law runs t.command d t.paths t.asked t.had t.exchanges kept n is
+    said = said_at told (commands_tell below true (RunsListed runs)) asked old new c d t at
 
     gives : (n : ℕ) (answer : List ℕ) → Gave t n answer → content_of n t.exchanges ≡ Some answer
     gives n answer gave = one d t.paths t.asked said.1.talk.full t.exchanges (apart t.asked said.1.over.rises) said.1.talk.talk n answer (has_given t.exchanges n answer gave)
@@ -241,5 +252,12 @@ are_heard law one sized told below runs asked old new c served d t at single mem
         subst (λ (k : ℕ). HasOutcome told.object c.talks p.start k p o) same (outcome_from told.object c.talks 0 c.plan.paths c.outcomes c.verdicts n p o here there) in
         let has : HasOutcome told.object c.talks (start.Desk d desk.0) n p o = subst (λ (s : Start). HasOutcome told.object c.talks s n p o) desk.1 all in
         let this : has.1 ≡ t = same_Some has.1 t (sym has.2 ∙ at) in
-        ends_by desk.0 d t n (told.object p.object) p o (run_at runs t n) (hears n) (gives n) o.verdict
+        ends_by desk.0 d t n (told.object p.object) p o (run_at runs t n) (heard_all n) (gives n) o.verdict
         (subst (λ (u : DriverTalk). HasDeskVerdict desk.0 d u n (told.object p.object) p o o.verdict) this has.3)
+
+-- the same of a checkout that left its spawner so
+pub own_heard : SingleRunsAreHeard → (ahead : List ℕ → Starts) (left : SpawnerSeen) → AllServed left.returned → OwnRunsAreHeard ahead left
+own_heard law ahead left served told below runs asked old new is same =
+    subst (λ (f : List ℕ → Starts). (c : IsCheckedOut told f asked old new) → (d : ℕ) (t : DriverTalk) → slice_get c.talks d ≡ Some t → is_single_run t.command ≡ true
+    → (lacks_memory (verdicts_of c.outcomes) ≡ false) ⊎ NoneWanting t.exchanges → AreHeard runs d t × AreEnded runs c.plan.paths c.outcomes d t) (sym is)
+    (λ c. law told below runs asked old new c (subst (λ (s : SpawnerSeen). AllServed s.returned) (sym same) served))

@@ -1,1 +1,3 @@
 pub mod SingleRuns
+pub mod RunsAlike
+pub mod RunsGive

@@ -1,9 +1,9 @@
 -- What becomes of the paths of a checkout whose driver is a command, which runs once for each content.
-use Rattle.std.specs.Prelude.{◌≡◌, ◌⊎◌, ◌<◌, ◌≤◌, ℕ, true, List, length, drop, Option, Some, slice_get}
+use Rattle.std.specs.Prelude.{◌≡◌, ◌⊎◌, ◌<◌, ◌≤◌, ℕ, true, false, List, length, drop, Option, Some, slice_get}
 use Rattle.filter_words.specs.Outcomes.{limit}
 use Rattle.filter_words.specs.declared.reply.BreakCause.TheVariants as broken
 use Rattle.edge_kit.specs.Links.{RunTold}
-use Rattle.edge_kit.specs.Starters.{Starts}
+use Rattle.edge_kit.specs.Starters.{Starts, SpawnerSeen}
 use Rattle.edge_kit.specs.Told.{RepoTold}
 use Rattle.edge_kit.specs.declared.tree_file.TreeFile.{TreeFile}
 use Rattle.delay_table.specs.Table.{contains}
@@ -16,8 +16,9 @@ use Rattle.checkout_core.specs.declared.verdict.FilterCause.TheVariants as refus
 use Rattle.driver_line.specs.SameHeard.{NoneWanting, fate_in, content_of}
 use Rattle.driver_host.specs.declared.work.Choice.TheVariants as choice
 use Rattle.checkout_plan.specs.declared.path_plan.PathPlan.{PathPlan}
-use Rattle.checkout_engine.specs.Ends.{Seen, IsCheckedOut}
+use Rattle.checkout_engine.specs.Ends.{Seen, IsCheckedOut, verdicts_of}
 use Rattle.checkout_engine.specs.Outcome.{Outcome, file_with}
+use Rattle.checkout_engine.specs.Report.{lacks_memory}
 use Rattle.checkout_engine.specs.Talks.{DriverTalk}
 use Rattle.one_shot.specs.Onces.{OnceTold, RunsListed}
 use Rattle.one_shot.specs.Works.{choice_told}
@@ -63,10 +64,20 @@ AreEnded runs ps outcomes d t = (n : ℕ) (p : PathPlan) (o : Outcome) → slice
 
 -- A checkout over a spawner of single runs that keeps their sessions and tells the runs, of which the sessions that
 -- were given back tell nothing false. So is each path of a driver heard that is a single run, and so it ends, if memory
--- never ran out in the talk.
+-- was left for each path of the checkout, or never ran out in the talk.
 abbrev pub SingleRunsAreHeard : Type 0
 SingleRunsAreHeard = (told : RepoTold) (below : List ℕ → Starts) (runs : List RunTold) (asked : Option ℕ)
     (old new : Seen) → (c : IsCheckedOut told (commands_tell below true (RunsListed runs)) asked old new)
     → AllServed new.spawner.returned → (d : ℕ) (t : DriverTalk) → slice_get c.talks d ≡ Some t
-    → is_single_run t.command ≡ true → NoneWanting t.exchanges
+    → is_single_run t.command ≡ true
+    → (lacks_memory (verdicts_of c.outcomes) ≡ false) ⊎ NoneWanting t.exchanges
+    → AreHeard runs d t × AreEnded runs c.plan.paths c.outcomes d t
+
+-- The same of a checkout that told its drivers' starts so, and left its spawner so.
+abbrev pub OwnRunsAreHeard : (List ℕ → Starts) → SpawnerSeen → Type 0
+OwnRunsAreHeard ahead left = (told : RepoTold) (below : List ℕ → Starts) (runs : List RunTold) (asked : Option ℕ)
+    (old new : Seen) → ahead ≡ commands_tell below true (RunsListed runs) → new.spawner ≡ left
+    → (c : IsCheckedOut told ahead asked old new) → (d : ℕ) (t : DriverTalk) → slice_get c.talks d ≡ Some t
+    → is_single_run t.command ≡ true
+    → (lacks_memory (verdicts_of c.outcomes) ≡ false) ⊎ NoneWanting t.exchanges
     → AreHeard runs d t × AreEnded runs c.plan.paths c.outcomes d t
