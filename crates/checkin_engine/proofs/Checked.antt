@@ -16,11 +16,11 @@ use Rattle.checkin_engine.specs.declared.path.Storing.{Storing}
 use Rattle.checkin_engine.specs.declared.path.Way.{Way}
 use Rattle.checkin_engine.specs.declared.path.Way.TheVariants as way
 use Rattle.checkin_engine.specs.Outside.{FilesSeen, WorkSeen, KeepSeen, IsKeepFailed, with_objects, path_if}
-use Rattle.checkin_engine.specs.Cleaning.{Cleaning, AsksOne}
-use Rattle.checkin_engine.specs.Fates.{driver_of, HasFate}
-use Rattle.checkin_engine.specs.Outcomes.{Outcome, IsOutcome, HasCounts, HasStoredCounts, is_of_other_kind, other_kinds, AreOutcomes, AreAsked, AreLookedAt, AreChecked, AreObjectsCut, AreBrokenOff, MakesNextBlob, MayAskNext, object_of, objects_of, blob_back, blobs_back, failed_at, failed_paths, with_blobs, HasCounted}
-use Rattle.checkin_engine.specs.Looking.{with_blob, FailsIf, SaysKind, IsPathLookedAt, IsOpen}
-use Rattle.checkin_engine.specs.Keeping.{IsPathChecked, IsPathCut, IsPathLeft, ArePathsChecked}
+use Rattle.checkin_engine.specs.Cleaning.{Cleaning}
+use Rattle.checkin_engine.specs.Fates.{HasFate}
+use Rattle.checkin_engine.specs.Outcomes.{Outcome, IsOutcome, HasCounts, HasStoredCounts, is_of_other_kind, other_kinds, AreOutcomes, IsLookedAt, AreInTurn, AreLookedAt, AreChecked, ArePathsChecked, AreObjectsCut, AreBrokenOff, IsLeftNext, object_of, objects_of, blob_back, blobs_back, failed_at, failed_paths, with_blob, with_blobs, FailsIf, HasCounted}
+use Rattle.checkin_engine.specs.Looking.{SaysKind, IsPathLookedAt, IsOpen}
+use Rattle.checkin_engine.specs.Keeping.{IsPathChecked, IsPathCut, IsPathLeft}
 
 outcomes_more : (object told : List ℕ → Told) (ps : List CheckinPath) (os : List Outcome) (p : CheckinPath) (o : Outcome) → AreOutcomes object told ps os → IsOutcome object told p o → AreOutcomes object told (ps ++ p ∷ []) (os ++ o ∷ [])
 outcomes_more object told [] [] p o are is = (is, tt)
@@ -62,12 +62,15 @@ pub one_blob : (p : CheckinPath) (blob : Option ℕ) (repo : RepoSeen) → with_
 one_blob p None repo = ap (λ (l : List (List ℕ × ℕ)). record repo { returned = l }) (sym (append-nil repo.returned))
 one_blob p (Some count) repo = refl
 
-asked_more : (object told : List ℕ → Told) (c : Cleaning) (ps : List CheckinPath) (os : List Outcome) (p : CheckinPath) (o : Outcome) (old mid new : DriversSeen) → AreOutcomes object told ps os → AreAsked c ps os old mid
-    → AsksOne c p.path (driver_of p.way) o.asked mid new → AreAsked c (ps ++ p ∷ []) (os ++ o ∷ []) old new
-asked_more object told c [] [] p o old mid new each are asks = (new, subst (λ (d : DriversSeen). AsksOne c p.path (driver_of p.way) o.asked d new) are asks, refl)
-asked_more object told c [] (x ∷ os) p o old mid new each are asks = absurd each
-asked_more object told c (q ∷ ps) [] p o old mid new each are asks = absurd each
-asked_more object told c (q ∷ ps) (x ∷ os) p o old mid new each (first, asked, rest) asks = (first, asked, asked_more object told c ps os p o first mid new each.1 rest asks)
+-- one turn more
+turns_more : (object told : List ℕ → Told) (c : Cleaning) (ps : List CheckinPath) (os : List Outcome) (p : CheckinPath) (o : Outcome) (repo repo' repo'' : RepoSeen) (work work' work'' : WorkSeen) → AreOutcomes object told ps os
+    → AreInTurn c ps os repo repo' work work' → IsLookedAt c p o repo' repo'' work' work'' → AreInTurn c (ps ++ p ∷ []) (os ++ o ∷ []) repo repo'' work work''
+turns_more object told c [] [] p o repo repo' repo'' work work' work'' each (same, still) is =
+    (repo'', work'', subst (λ (w : WorkSeen). IsLookedAt c p o repo repo'' w work'') still (subst (λ (r : RepoSeen). IsLookedAt c p o r repo'' work' work'') same is), (refl, refl))
+turns_more object told c [] (x ∷ os) p o repo repo' repo'' work work' work'' each are is = absurd each
+turns_more object told c (q ∷ ps) [] p o repo repo' repo'' work work' work'' each are is = absurd each
+turns_more object told c (q ∷ ps) (x ∷ os) p o repo repo' repo'' work work' work'' each (mid, mid_work, first, rest) is =
+    (mid, mid_work, first, turns_more object told c ps os p o mid repo' repo'' mid_work work' work'' each.1 rest is)
 
 -- the files failed at a path, or they are as they were
 fails_paths : (failed : Bool) (p : CheckinPath) (files files' : FilesSeen) → FailsIf failed p.path files files' → files'.failed ≡ files.failed ++ failed_at p failed
@@ -117,19 +120,19 @@ counts_more (path ∷ paths) false p count files files' counted fails = subst (�
 looked_more : (object told : List ℕ → Told) (c : Cleaning) (ps : List CheckinPath) (os : List Outcome) (p : CheckinPath) (o : Outcome) (repo repo' repo'' : RepoSeen) (work work' work'' : WorkSeen) → AreOutcomes object told ps os
     → AreLookedAt c ps os repo repo' work work' → IsPathLookedAt object told c p repo' repo'' work' work'' o → AreLookedAt c (ps ++ p ∷ []) (os ++ o ∷ []) repo repo'' work work''
 looked_more object told c ps os p o repo repo' repo'' work work' work'' each are is = record {
-  blobs = is.back ∙ one_blob p o.blob repo' ∙ ap (with_blobs (blob_back p o.blob)) are.blobs
+  blobs = is.looked.back ∙ one_blob p o.blob repo' ∙ ap (with_blobs (blob_back p o.blob)) are.blobs
       ∙ ap (λ (l : List (List ℕ × ℕ)). record repo { returned = l }) (append_assoc repo.returned (blobs_back ps os) (blob_back p o.blob)
       ∙ ap (λ (l : List (List ℕ × ℕ)). repo.returned ++ l) (sym (blobs_more object told ps os p o each)));
-  failed = fails_paths o.failed p work'.files work''.files is.fails ∙ ap (λ (l : List (List ℕ)). l ++ failed_at p o.failed) are.failed
+  failed = fails_paths o.failed p work'.files work''.files is.looked.fails ∙ ap (λ (l : List (List ℕ)). l ++ failed_at p o.failed) are.failed
       ∙ append_assoc work.files.failed (failed_paths ps os) (failed_at p o.failed)
       ∙ ap (λ (l : List (List ℕ)). work.files.failed ++ l) (sym (paths_more object told ps os p o each));
-  kinds = adds_kind o.failed (is_of_other_kind o.fate) p.path work'.files work''.files is.fails is.says (kind_fails (object p.object) (told p.path) p.object p.way o is.is.fate is.is.counts)
+  kinds = adds_kind o.failed (is_of_other_kind o.fate) p.path work'.files work''.files is.looked.fails is.says (kind_fails (object p.object) (told p.path) p.object p.way o is.is.fate is.is.counts)
       ∙ ap (λ (l : List (List ℕ)). l ++ path_if (is_of_other_kind o.fate) p.path) are.kinds
       ∙ append_assoc work.files.of_other_kind (other_kinds ps os) (path_if (is_of_other_kind o.fate) p.path)
       ∙ ap (λ (l : List (List ℕ)). work.files.of_other_kind ++ l) (sym (kinds_more object told ps os p o each));
   counted = subst (λ (l : List (List ℕ)). HasCounted l work.files.faults work''.files.faults) (sym (paths_more object told ps os p o each))
-      (counts_more (failed_paths ps os) o.failed p work.files.faults work'.files work''.files are.counted is.fails);
-  asked = asked_more object told c ps os p o work.drivers work'.drivers work''.drivers each are.asked is.asks;
+      (counts_more (failed_paths ps os) o.failed p work.files.faults work'.files work''.files are.counted is.looked.fails);
+  turns = turns_more object told c ps os p o repo repo' repo'' work work' work'' each are.turns is.looked;
 }
 
 objects_told : (kept : Option (List (List ℕ × List ℕ))) (a b : List (List ℕ × List ℕ)) → option_map (λ k. k ++ b) (option_map (λ k. k ++ a) kept) ≡ option_map (λ k. k ++ (a ++ b)) kept
@@ -156,7 +159,7 @@ none_checked object told c repo work keep = record {
       failed = sym (append-nil work.files.failed);
       kinds = sym (append-nil work.files.of_other_kind);
       counted = refl;
-      asked = refl;
+      turns = (refl, refl);
     };
     objects = with_no_object keep;
   };
@@ -197,13 +200,10 @@ opens_at count (p ∷ ps) are (suc i) d lt = opens_at count ps are.1 i d (omega 
 pub open_at : (count : ℕ) (ps : List CheckinPath) (i : ℕ) (p : CheckinPath) → AllByRecursion (IsOpen count) ps → i < length ps → p ≡ get_or ps i p → IsOpen count p
 open_at count ps i p are lt is = subst (IsOpen count) (sym is) (opens_at count ps are i p lt)
 
-no_blob : (ps : List CheckinPath) (repo : RepoSeen) → MakesNextBlob ps repo repo
-no_blob [] repo = refl
-no_blob (p ∷ ps) repo = inl refl
-
-none_vain : (told : List ℕ → Told) (c : Cleaning) (ps : List CheckinPath) (drivers : DriversSeen) → MayAskNext told c ps drivers drivers
-none_vain told c [] drivers = refl
-none_vain told c (p ∷ ps) drivers = inl refl
+-- nothing was done with the next path
+none_left : (object told : List ℕ → Told) (c : Cleaning) (ps : List CheckinPath) (repo : RepoSeen) (drivers : DriversSeen) → IsLeftNext object told c ps repo repo drivers drivers
+none_left object told c [] repo drivers = (refl, refl)
+none_left object told c (p ∷ ps) repo drivers = inl (refl, inl refl)
 
 module _ (object told : List ℕ → Told) (c : Cleaning) (ps : List CheckinPath) (repo repo' repo'' : RepoSeen) (work work' work'' : WorkSeen) (keep keep' keep'' : KeepSeen) (fates : List Fate) where
   -- the keeper failed at the next path
@@ -225,7 +225,7 @@ module _ (object told : List ℕ → Told) (c : Cleaning) (ps : List CheckinPath
 
   -- memory ran out at the next path
   pub left_at : (i : ℕ) (p : CheckinPath) → i < length ps → p ≡ get_or ps i p → ArePathsChecked object told c (take i ps) repo repo' work work' keep keep' fates
-      → IsPathLeft told c p repo' repo'' work' work'' keep' keep'' → AreBrokenOff object told c ps repo repo'' work work'' keep keep''
+      → IsPathLeft object told c p repo' repo'' work' work'' keep' keep'' → AreBrokenOff object told c ps repo repo'' work work'' keep keep''
   left_at i p lt is are left = record {
     front = take i ps;
     after = p ∷ drop (i + 1) ps;
@@ -235,9 +235,8 @@ module _ (object told : List ℕ → Told) (c : Cleaning) (ps : List CheckinPath
     mid = repo';
     mid_work = work';
     checked = subst (λ (k : KeepSeen). AreChecked c (take i ps) are.outcomes repo repo' work work' keep k) (sym left.keep_same) are.checked;
-    next = left.blob;
+    next = left.left;
     files_same = left.files_same;
-    vain = left.vain;
   }
 
   -- memory ran out behind these paths
@@ -251,9 +250,8 @@ module _ (object told : List ℕ → Told) (c : Cleaning) (ps : List CheckinPath
     mid = repo';
     mid_work = work';
     checked = are.checked;
-    next = no_blob (drop i ps) repo';
+    next = none_left object told c (drop i ps) repo' work'.drivers;
     files_same = refl;
-    vain = none_vain told c (drop i ps) work'.drivers;
   }
 
   -- memory ran out behind all paths
@@ -267,9 +265,8 @@ module _ (object told : List ℕ → Told) (c : Cleaning) (ps : List CheckinPath
     mid = repo';
     mid_work = work';
     checked = are.checked;
-    next = refl;
+    next = (refl, refl);
     files_same = refl;
-    vain = refl;
   }
 
 -- memory ran out before the first path
@@ -284,7 +281,6 @@ left_before object told c ps repo work keep =
       mid = repo;
       mid_work = work;
       checked = none.checked;
-      next = no_blob ps repo;
+      next = none_left object told c ps repo work.drivers;
       files_same = refl;
-      vain = none_vain told c ps work.drivers;
     }

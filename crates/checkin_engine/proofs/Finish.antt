@@ -1,5 +1,5 @@
 -- How a check-in ends, from how its parts end.
-use Rattle.std.proofs.Common.{◌≡◌, ℕ, suc, ◌^◌, ◌<◌, Bool, true, false, List, [], ◌∷◌, ◌++◌, length, ◌⊎◌, Result, Ok, Err, refl, sym, ap, subst, ◌∙◌, inl, inr, arith}
+use Rattle.std.proofs.Common.{Option, Some, None, ◌≡◌, ℕ, suc, ◌^◌, ◌<◌, Bool, true, false, List, [], ◌∷◌, ◌++◌, length, ◌⊎◌, Result, Ok, Err, refl, sym, ap, subst, ◌∙◌, inl, inr, arith}
 use Rattle.std.specs.Prelude.{if◌then◌else◌}
 use Rattle.std.specs.Global.{Vec}
 use Rattle.std.specs.List.{list_any, AllByRecursion}
@@ -10,7 +10,8 @@ use Rattle.edge_kit.specs.Told.{Told, RepoTold}
 use Rattle.edge_kit.specs.declared.faults.SendFault.{SendFault}
 use Rattle.edge_kit.specs.declared.faults.SendFault.TheVariants as send
 use Rattle.git_index.specs.declared.entry.Entry.{Entry}
-use Rattle.git_index.specs.Spelling.{CanStand, EntriesCanStand, PathsAreOrdered}
+use Rattle.git_index.specs.Spelling.{CanStand, EntriesCanStand, PathsAreOrdered, plain_text}
+use Rattle.clean_drivers.specs.Drivers.{DriversSeen}
 use Rattle.checkout_plan.specs.Making.{blobs_of}
 use Rattle.checkout_sources.specs.declared.attributed.Attributed.{Attributed}
 use Rattle.checkout_sources.specs.declared.stop.Stop.{Stop}
@@ -24,16 +25,17 @@ use Rattle.checkin_engine.specs.declared.fate.Fate.{Fate}
 use Rattle.checkin_engine.specs.declared.reading.PathsRead.{PathsRead}
 use Rattle.checkin_engine.specs.declared.status.CheckinStatus.{CheckinStatus}
 use Rattle.checkin_engine.specs.declared.status.CheckinStatus.TheVariants as status
-use Rattle.checkin_engine.specs.Outside.{FilesSeen, WorkSeen, KeepSeen}
+use Rattle.checkin_engine.specs.Outside.{FilesSeen, WorkSeen, KeepSeen, with_index}
+use Rattle.checkin_engine.specs.Fates.{is_auto}
 use Rattle.checkin_engine.specs.Cleaning.{Cleaning}
 use Rattle.checkin_engine.specs.Paths.{checkin_paths}
 use Rattle.checkin_engine.specs.Indexes.{new_entries}
 use Rattle.checkin_engine.specs.InTurn.{entries_in_turn}
-use Rattle.checkin_engine.specs.Outcomes.{Outcome, AreOutcomes, fates_of, AreKept, AreObjectsCut, IsIndexCut, AreBrokenOff, MakesNextBlob}
+use Rattle.checkin_engine.specs.Outcomes.{Outcome, AreOutcomes, fates_of, ArePathsChecked, AreObjectsCut, AreBrokenOff, IsLeftNext, blob_by, with_blob}
 use Rattle.checkin_engine.specs.Report.{report_of, is_failed}
 use Rattle.checkin_engine.specs.Looking.{IsOpen}
-use Rattle.checkin_engine.specs.Keeping.{KeepsAndLeaves}
-use Rattle.checkin_engine.specs.Ends.{Seen, seen, AllTold, cleaning_told, work_before, IsLeftBy, with_text, after_reading, status_of, IsUntouched, IsRefusedWith, IsCheckedIn, EndsCheckin}
+use Rattle.checkin_engine.specs.Keeping.{ChecksAndLeaves, KeepsAfter}
+use Rattle.checkin_engine.specs.Ends.{Seen, seen, AllTold, cleaning_told, work_before, with_text, after_reading, status_of, IsUntouched, IsRefusedWith, IsLookedThrough, IsCheckedIn, EndsCheckin}
 use Rattle.checkin_engine.specs.Ending.{are_apart, PathsOf, ArePathsRead, ReadsPaths, WritesLine, EndsStopped, WritesReport}
 use Rattle.checkin_engine.proofs.Texts.{paths_are_open, paths_are_few}
 use Rattle.checkin_engine.proofs.ByPath.{paths_are_apart, in_turn}
@@ -105,9 +107,9 @@ outcomes_length object files (p ∷ ps) [] are = absurd are
 outcomes_length object files (p ∷ ps) (o ∷ os) are = ap suc (outcomes_length object files ps os are.1)
 
 -- there is a fate of each path
-kept_length : (object tells : List ℕ → Told) (c : Cleaning) (list : List Entry) (ps : List CheckinPath) (repo repo' : RepoSeen) (work work' : WorkSeen) (keep keep' : KeepSeen) (fates : List Fate)
-    → AreKept object tells c list ps repo repo' work work' keep keep' fates → length ps ≡ length fates
-kept_length object tells c list ps repo repo' work work' keep keep' fates kept = outcomes_length object tells ps kept.outcomes kept.each ∙ ap (λ (l : List Fate). length l) kept.same
+checked_length : (object tells : List ℕ → Told) (c : Cleaning) (ps : List CheckinPath) (repo repo' : RepoSeen) (work work' : WorkSeen) (keep keep' : KeepSeen) (fates : List Fate)
+    → ArePathsChecked object tells c ps repo repo' work work' keep keep' fates → length ps ≡ length fates
+checked_length object tells c ps repo repo' work work' keep keep' fates are = outcomes_length object tells ps are.outcomes are.each ∙ ap (λ (l : List Fate). length l) are.same
 
 -- what was read, and what the look at the paths left
 module _ (told : AllTold) (r : PathsRead) (old mid new : RepoSeen) (files files' : FilesSeen) (spawner spawner' : SpawnerSeen) (runs runs' : ℕ) (keep keep' : KeepSeen) (sink sink' : SinkSeen) (read : ArePathsRead told.repo r old mid) where
@@ -117,77 +119,94 @@ module _ (told : AllTold) (r : PathsRead) (old mid new : RepoSeen) (files files'
   abbrev after : Seen
   after = seen new files' spawner' runs' keep' sink'
 
+  -- once all was looked through, with this left of the keeper
+  abbrev behind : KeepSeen → Seen
+  behind kept = seen new files' spawner' runs' kept sink
+
   abbrev by : Cleaning
   by = cleaning_told told r.drivers
 
   abbrev first : WorkSeen
   first = work_before r.drivers before
 
-  abbrev Kept : WorkSeen → List Fate → Type 0
-  Kept last fates = AreKept told.repo.object told.files by (entries_in_turn r.index fates) r.paths.items mid new first last keep keep' fates
+  abbrev Leaves : KeepSeen → Result (Vec Fate) SendFault → Type 0
+  Leaves = ChecksAndLeaves told.repo.object told.files by r.paths.items mid new files files' spawner spawner' runs runs' keep
 
-  by_path : (last : WorkSeen) (fates : List Fate) → Kept last fates → entries_in_turn r.index fates ≡ new_entries r.paths.items fates r.index
-  by_path last fates kept =
+  by_path : (kept : KeepSeen) (fates : Vec Fate) → Leaves kept (Ok fates) → entries_in_turn r.index fates.items ≡ new_entries r.paths.items fates.items r.index
+  by_path kept fates leaves =
       let a : Attributed = read.has.attributed in
-      in_turn a.files r.drivers a.settings r.index r.paths.items fates read.stand.each
+      in_turn a.files r.drivers a.settings r.index r.paths.items fates.items read.stand.each
       (subst (λ (es : List Entry). r.paths.items ≡ checkin_paths a.files r.drivers a.settings es) (sym read.has.entries) read.has.paths) read.apart
-      (kept_length told.repo.object told.files by (entries_in_turn r.index fates) r.paths.items mid new first last keep keep' fates kept)
+      (checked_length told.repo.object told.files by r.paths.items mid new first leaves.last keep kept fates.items leaves.checks)
 
-  abbrev checked : (last : WorkSeen) (fates : List Fate) → Kept last fates → IsLeftBy last after → IsCheckedIn told before after
-  checked last fates kept left = record {
+  abbrev through : (kept : KeepSeen) (fates : Vec Fate) → Leaves kept (Ok fates) → IsLookedThrough told before (behind kept)
+  through kept fates leaves = record {
     entries = r.index;
     paths = r.paths.items;
     drivers = r.drivers;
     has = read.has;
-    fates = fates;
-    last = last;
-    kept = subst (λ (m : RepoSeen). AreKept told.repo.object told.files by (new_entries r.paths.items fates r.index) r.paths.items m new first last keep keep' fates) read.seen
-        (subst (λ (list : List Entry). AreKept told.repo.object told.files by list r.paths.items mid new first last keep keep' fates) (by_path last fates kept) kept);
-    left = left;
+    fates = fates.items;
+    last = leaves.last;
+    checked = subst (λ (m : RepoSeen). ArePathsChecked told.repo.object told.files by r.paths.items m new first leaves.last keep kept fates.items) read.seen leaves.checks;
+    left = leaves.left;
+    silent = refl;
+  }
+
+  abbrev Kept : KeepSeen → Vec Fate → Type 0
+  Kept kept fates = Leaves kept (Ok fates) × (keep' ≡ with_index (plain_text (entries_in_turn r.index fates.items)) kept)
+
+  abbrev checked : (kept : KeepSeen) (fates : Vec Fate) → Kept kept fates → IsCheckedIn told before after
+  checked kept fates (leaves, index) = record {
+    mid = behind kept;
+    done = through kept fates leaves;
+    index = ap (λ (k : KeepSeen). seen new files' spawner' runs' k sink') (index ∙ ap (λ (es : List Entry). with_index (plain_text es) kept) (by_path kept fates leaves));
   }
 
   -- the index was kept, and the report was to be written
-  report_ends : (last : WorkSeen) (fates : List Fate) (s : CheckinStatus) → Kept last fates → IsLeftBy last after → WritesReport r.paths.items fates sink sink' s → EndsCheckin told before after s
-  report_ends last fates status.Done kept left (is, written) = record { checked = checked last fates kept left; report = written; status = sym is }
-  report_ends last fates status.DoneWithFailures kept left (is, written) = record { checked = checked last fates kept left; report = written; status = sym is }
-  report_ends last fates status.OutputNotWritten kept left cut = inr (inr (record { checked = checked last fates kept left; cut = cut }))
-  report_ends last fates status.OutOfMemory kept left silent = inr (inr (record { checked = checked last fates kept left; silent = silent }))
-  report_ends last fates status.Usage kept left never = absurd never
-  report_ends last fates status.Refused kept left never = absurd never
-  report_ends last fates status.ReadFault kept left never = absurd never
-
-  abbrev Cut : WorkSeen → RepoSeen → Type 0
-  Cut last m = AreObjectsCut told.repo.object told.files by r.paths.items m new first last keep keep' ⊎ IsIndexCut told.repo.object told.files by r.paths.items m new first last keep keep'
+  report_ends : (kept : KeepSeen) (fates : Vec Fate) (s : CheckinStatus) → Kept kept fates → WritesReport r.paths.items fates.items sink sink' s → EndsCheckin told before after s
+  report_ends kept fates status.Done is (same, written) = record { checked = checked kept fates is; report = written; status = sym same }
+  report_ends kept fates status.DoneWithFailures is (same, written) = record { checked = checked kept fates is; report = written; status = sym same }
+  report_ends kept fates status.OutputNotWritten is cut = inr (inr (inr (record { checked = checked kept fates is; cut = cut })))
+  report_ends kept fates status.OutOfMemory is silent = inr (inr (record { checked = checked kept fates is; silent = silent }))
+  report_ends kept fates status.Usage is never = absurd never
+  report_ends kept fates status.Refused is never = absurd never
+  report_ends kept fates status.ReadFault is never = absurd never
 
   -- the keeper failed
-  cut_ends : (last : WorkSeen) → Cut last mid → IsLeftBy last after → sink' ≡ sink → EndsCheckin told before after status.OutputNotWritten
-  cut_ends last cut left silent = inr (inl (record {
+  cut_ends : KeepsAfter Leaves r.index keep' (Err send.Failed) → sink' ≡ sink → EndsCheckin told before after status.OutputNotWritten
+  cut_ends (inl leaves) silent = inr (inl (record {
     entries = r.index;
     paths = r.paths.items;
     drivers = r.drivers;
     has = read.has;
-    last = last;
-    cut = subst (Cut last) read.seen cut;
-    left = left;
+    last = leaves.last;
+    cut = subst (λ (m : RepoSeen). AreObjectsCut told.repo.object told.files by r.paths.items m new first leaves.last keep keep') read.seen leaves.checks;
+    left = leaves.left;
     silent = silent;
   }))
+  cut_ends (inr (kept, fates, leaves, failed)) silent = inr (inr (inl (record {
+    mid = behind kept;
+    done = through kept fates leaves;
+    failed = failed;
+    same = ap (λ (s : SinkSeen). seen new files' spawner' runs' keep' s) silent;
+  })))
 
   -- memory ran out before the index was kept
-  broken_ends : (last : WorkSeen) → AreBrokenOff told.repo.object told.files by r.paths.items mid new first last keep keep' → IsLeftBy last after → sink' ≡ sink → EndsCheckin told before after status.OutOfMemory
-  broken_ends last broken left silent = inr (inl (record {
+  broken_ends : Leaves keep' (Err send.NoMemory) → sink' ≡ sink → EndsCheckin told before after status.OutOfMemory
+  broken_ends leaves silent = inr (inl (record {
     entries = r.index;
     paths = r.paths.items;
     drivers = r.drivers;
     has = read.has;
-    last = last;
-    broken = subst (λ (m : RepoSeen). AreBrokenOff told.repo.object told.files by r.paths.items m new first last keep keep') read.seen broken;
-    left = left;
+    last = leaves.last;
+    broken = subst (λ (m : RepoSeen). AreBrokenOff told.repo.object told.files by r.paths.items m new first leaves.last keep keep') read.seen leaves.checks;
+    left = leaves.left;
     silent = silent;
   }))
 
   -- how the keeping ended, by what the repository tells before it
   abbrev Keeps : RepoTold → Result (Vec Fate) SendFault → Type 0
-  Keeps told' x = KeepsAndLeaves told'.object told.files by r.index r.paths.items mid new files files' spawner spawner' runs runs' keep keep' x
+  Keeps told' x = KeepsAfter (ChecksAndLeaves told'.object told.files by r.paths.items mid new files files' spawner spawner' runs runs' keep) r.index keep' x
 
   told_so : (told' : RepoTold) → told' ≡ told.repo → (x : Result (Vec Fate) SendFault) → Keeps told' x → Keeps told.repo x
   told_so told' same x kept = subst (λ (t : RepoTold). Keeps t x) same kept
@@ -196,23 +215,23 @@ module _ (told : AllTold) (r : PathsRead) (old mid new : RepoSeen) (files files'
   pub lengths : (told' : RepoTold) → told' ≡ told.repo → (ps : List CheckinPath) (fates : List Fate) (v : Vec Fate) → ps ≡ r.paths.items → fates ≡ v.items → Keeps told' (Ok v) → length ps ≡ length fates
   lengths told' same ps fates v same_paths same_fates kept =
       let so : Keeps told.repo (Ok v) = told_so told' same (Ok v) kept in
-      ap (λ (l : List CheckinPath). length l) same_paths ∙ kept_length told.repo.object told.files by (entries_in_turn r.index v.items) r.paths.items mid new first so.last keep keep' v.items so.keeps ∙ ap (λ (l : List Fate). length l) (sym same_fates)
+      ap (λ (l : List CheckinPath). length l) same_paths ∙ checked_length told.repo.object told.files by r.paths.items mid new first so.1.last keep so.0 v.items so.1.checks ∙ ap (λ (l : List Fate). length l) (sym same_fates)
 
   pub reported : (told' : RepoTold) → told' ≡ told.repo → (ps : List CheckinPath) (fates : List Fate) (v : Vec Fate) (s : CheckinStatus) → ps ≡ r.paths.items → fates ≡ v.items → Keeps told' (Ok v)
       → WritesReport ps fates sink sink' s → EndsCheckin told before after s
   reported told' same ps fates v s same_paths same_fates kept writes =
       let so : Keeps told.repo (Ok v) = told_so told' same (Ok v) kept in
-      report_ends so.last v.items s so.keeps so.left
+      report_ends so.0 v s (so.1, so.2)
       (subst (λ (l : List Fate). WritesReport r.paths.items l sink sink' s) same_fates (subst (λ (l : List CheckinPath). WritesReport l fates sink sink' s) same_paths writes))
 
   keeps_so : (told' : RepoTold) → told' ≡ told.repo → (f f' : SendFault) → f ≡ f' → Keeps told' (Err f) → Keeps told.repo (Err f')
   keeps_so told' same f f' is kept = told_so told' same (Err f') (subst (λ (e : SendFault). Keeps told' (Err e)) is kept)
 
   pub keeper_failed : (told' : RepoTold) → told' ≡ told.repo → (f : SendFault) → f ≡ send.Failed → Keeps told' (Err f) → sink' ≡ sink → EndsCheckin told before after status.OutputNotWritten
-  keeper_failed told' same f is kept silent = let so : Keeps told.repo (Err send.Failed) = keeps_so told' same f send.Failed is kept in cut_ends so.last so.keeps so.left silent
+  keeper_failed told' same f is kept silent = cut_ends (keeps_so told' same f send.Failed is kept) silent
 
   pub memory_ended : (told' : RepoTold) → told' ≡ told.repo → (f : SendFault) → f ≡ send.NoMemory → Keeps told' (Err f) → sink' ≡ sink → EndsCheckin told before after status.OutOfMemory
-  memory_ended told' same f is kept silent = let so : Keeps told.repo (Err send.NoMemory) = keeps_so told' same f send.NoMemory is kept in broken_ends so.last so.keeps so.left silent
+  memory_ended told' same f is kept silent = broken_ends (keeps_so told' same f send.NoMemory is kept) silent
 
 -- each blob that was made is given back
 refused_back : (told : RepoTold) (line : List ℕ) (old new : RepoSeen) → IsRefusedWith told line old new → new.out ≡ old.out
@@ -222,14 +241,22 @@ short_back : (told : RepoTold) (old new : RepoSeen) → IsCutShort told old new 
 short_back told old new (inl same) = ap (λ (r : RepoSeen). r.out) same
 short_back told old new (inr is) = ap (λ (r : RepoSeen). r.out) is.seen
 
-next_back : (ps : List CheckinPath) (old new : RepoSeen) → MakesNextBlob ps old new → new.out ≡ old.out
-next_back [] old new is = ap (λ (r : RepoSeen). r.out) is
-next_back (p ∷ ps) old new (inl is) = ap (λ (r : RepoSeen). r.out) is
-next_back (p ∷ ps) old new (inr is) = ap (λ (r : RepoSeen). r.out) is
+blob_back : (name : List ℕ) (blob : Option ℕ) (old new : RepoSeen) → new ≡ with_blob name blob old → new.out ≡ old.out
+blob_back name None old new is = ap (λ (r : RepoSeen). r.out) is
+blob_back name (Some count) old new is = ap (λ (r : RepoSeen). r.out) is
+
+next_back : (object tells : List ℕ → Told) (c : Cleaning) (ps : List CheckinPath) (old new : RepoSeen) (drivers drivers' : DriversSeen) → IsLeftNext object tells c ps old new drivers drivers' → new.out ≡ old.out
+next_back object tells c [] old new drivers drivers' is = ap (λ (r : RepoSeen). r.out) is.1
+next_back object tells c (p ∷ ps) old new drivers drivers' (inl (same, inl none)) = ap (λ (r : RepoSeen). r.out) none
+next_back object tells c (p ∷ ps) old new drivers drivers' (inl (same, inr made)) = ap (λ (r : RepoSeen). r.out) made.1
+next_back object tells c (p ∷ ps) old new drivers drivers' (inr asked) = blob_back p.object (blob_by (is_auto asked.storing.action)) old new asked.back
 
 module _ (told : AllTold) (old new : Seen) where
+  through_back : (mid : Seen) → IsLookedThrough told old mid → mid.repo.out ≡ old.repo.out
+  through_back mid done = ap (λ (r : RepoSeen). r.out) done.checked.checked.looked.blobs
+
   checked_back : IsCheckedIn told old new → new.repo.out ≡ old.repo.out
-  checked_back is = ap (λ (r : RepoSeen). r.out) is.kept.checked.looked.blobs
+  checked_back is = ap (λ (s : Seen). s.repo.out) is.index ∙ through_back is.mid is.done
 
   pub all_back : (s : CheckinStatus) → EndsCheckin told old new s → new.repo.out ≡ old.repo.out
   all_back status.Done ends = checked_back ends.checked
@@ -237,19 +264,16 @@ module _ (told : AllTold) (old new : Seen) where
   all_back status.Usage ends = absurd ends
   all_back status.Refused ends = refused_back told.repo ends.line old.repo new.repo ends.has.refused
   all_back status.OutputNotWritten (inl cut) = refused_back told.repo cut.line old.repo new.repo cut.has.refused
-  all_back status.OutputNotWritten (inr (inl cut)) = cut_back cut.cut
-    where
-      cut_back : AreObjectsCut told.repo.object told.files (cleaning_told told cut.drivers) cut.paths (after_reading cut.entries old.repo) new.repo (work_before cut.drivers old) cut.last old.keep new.keep
-          ⊎ IsIndexCut told.repo.object told.files (cleaning_told told cut.drivers) cut.paths (after_reading cut.entries old.repo) new.repo (work_before cut.drivers old) cut.last old.keep new.keep → new.repo.out ≡ old.repo.out
-      cut_back (inl is) = ap (λ (r : RepoSeen). r.out) is.looked.blobs
-      cut_back (inr is) = ap (λ (r : RepoSeen). r.out) is.checked.looked.blobs
-  all_back status.OutputNotWritten (inr (inr cut)) = checked_back cut.checked
+  all_back status.OutputNotWritten (inr (inl cut)) = ap (λ (r : RepoSeen). r.out) cut.cut.looked.blobs
+  all_back status.OutputNotWritten (inr (inr (inl cut))) = ap (λ (s : Seen). s.repo.out) cut.same ∙ through_back cut.mid cut.done
+  all_back status.OutputNotWritten (inr (inr (inr cut))) = checked_back cut.checked
   all_back status.OutOfMemory (inl is) = stopped_back is.repo
     where
       stopped_back : IsCutShort told.repo old.repo new.repo ⊎ ((line : List ℕ) × IsRefusedWith told.repo line old.repo new.repo) → new.repo.out ≡ old.repo.out
       stopped_back (inl short) = short_back told.repo old.repo new.repo short
       stopped_back (inr (line, refused)) = refused_back told.repo line old.repo new.repo refused
-  all_back status.OutOfMemory (inr (inl is)) = next_back is.broken.after is.broken.mid new.repo is.broken.next ∙ ap (λ (r : RepoSeen). r.out) is.broken.checked.looked.blobs
+  all_back status.OutOfMemory (inr (inl is)) =
+      next_back told.repo.object told.files (cleaning_told told is.drivers) is.broken.after is.broken.mid new.repo is.broken.mid_work.drivers is.last.drivers is.broken.next ∙ ap (λ (r : RepoSeen). r.out) is.broken.checked.looked.blobs
   all_back status.OutOfMemory (inr (inr is)) = checked_back is.checked
   all_back status.ReadFault ends = fault_back ends.cause
     where

@@ -16,20 +16,20 @@ use Rattle.checkin_engine.specs.declared.path.CheckinPath.{CheckinPath}
 use Rattle.checkin_engine.specs.declared.finding.Found.{Found}
 use Rattle.checkin_engine.specs.Outside.{LeavesFiles, AreFailedAt, FilesSeen}
 use Rattle.checkin_engine.specs.Fates.{max_file, is_auto, IsWrong, IsThere}
-use Rattle.checkin_engine.specs.Outcomes.{blob_by, with_blobs, MakesBlob}
-use Rattle.checkin_engine.specs.Looking.{AnswersCrlf, with_blob, LooksOld, FindsThere, FindsTaken, IsUnfailedTake, Finds, SaysKind, found_failed}
+use Rattle.checkin_engine.specs.Outcomes.{blob_by, with_blob, with_blobs, MakesBlob}
+use Rattle.checkin_engine.specs.Looking.{AnswersCrlf, LooksOld, FindsThere, FindsTaken, IsUnfailedTake, Finds, SaysKind, found_failed}
 
 -- a blob was given back, and nothing else has changed
 given_back : (name : List ℕ) (count : ℕ) (old new : RepoSeen) → new ≡ record old { returned = new.returned } → new.returned ≡ old.returned ++ (name, count) ∷ [] → new ≡ with_blobs ((name, count) ∷ []) old
 given_back name count old new kept back = kept ∙ ap (λ (l : List (List ℕ × ℕ)). record old { returned = l }) back
 
-pub blob_made : (name : List ℕ) (auto : Bool) (repo repo' : RepoSeen) → repo' ≡ with_blob name (blob_by auto) repo → MakesBlob name repo repo'
-blob_made name true repo repo' is = inr is
+pub blob_made : (name : List ℕ) (auto : Bool) (repo repo' : RepoSeen) → repo' ≡ with_blob name (blob_by auto) repo → MakesBlob auto name repo repo'
+blob_made name true repo repo' is = inr (refl, is)
 blob_made name false repo repo' is = inl is
 
 -- what is found of an object's content, and what memory ran out after
 abbrev FindsOld : {E : Type 0} → Told → List ℕ → RepoSeen → RepoSeen → Result (Option Bool) E → Type 0
-FindsOld object name old new answer = IfOk answer (LooksOld true object name old new) × OnErr answer (MakesBlob name old new)
+FindsOld object name old new answer = IfOk answer (LooksOld true object name old new) × OnErr answer (MakesBlob true name old new)
 
 module _ (E : Type 0) (object : Told) (name : List ℕ) (old new : RepoSeen) (kept : new ≡ record old { returned = new.returned }) where
   finds_so : (answer : Result (Option Bool) E) (so : Result (Option Bool) E) → answer ≡ so → FindsOld object name old new so → FindsOld object name old new answer
@@ -44,7 +44,7 @@ module _ (E : Type 0) (object : Told) (name : List ℕ) (old new : RepoSeen) (ke
   old_looks (Err fault.ReadFailed) answer is (count, risen, back) so = finds_so answer (Ok None) so ((refl, (is, (count, risen, given_back name count old new kept back))), tt)
   old_looks (Err fault.NoMemory) (Ok found) is back never = absurd never
   old_looks (Err fault.NoMemory) (Err e) is (inl same) never = (tt, inl (kept ∙ ap (λ (l : List (List ℕ × ℕ)). record old { returned = l }) same))
-  old_looks (Err fault.NoMemory) (Err e) is (inr back) never = (tt, inr (given_back name 0 old new kept back))
+  old_looks (Err fault.NoMemory) (Err e) is (inr back) never = (tt, inr (refl, given_back name 0 old new kept back))
   old_looks (Err fault.Absent) answer is back so = no_old fault.Absent answer tt is back so
   old_looks (Err fault.TooLarge) answer is back so = no_old fault.TooLarge answer tt is back so
   old_looks (Err fault.Header) answer is back so = no_old fault.Header answer tt is back so

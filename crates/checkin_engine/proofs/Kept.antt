@@ -19,9 +19,9 @@ use Rattle.checkin_engine.specs.declared.fate.Fate.TheVariants.{Same, Changed, G
 use Rattle.checkin_engine.specs.Outside.{FilesSeen, WorkSeen, work_seen, KeepSeen, KeepsObject, KeepsIndex, with_objects}
 use Rattle.checkin_engine.specs.Cleaning.{Cleaning, cleaning}
 use Rattle.checkin_engine.specs.InTurn.{entries_in_turn}
-use Rattle.checkin_engine.specs.Outcomes.{object_by, AreKept, AreObjectsCut, AreBrokenOff}
+use Rattle.checkin_engine.specs.Outcomes.{object_by, ArePathsChecked, AreBrokenOff}
 use Rattle.checkin_engine.specs.Looking.{Looks}
-use Rattle.checkin_engine.specs.Keeping.{KeepsStored, ChecksPath, ArePathsChecked, ChecksPaths, KeepsAll, first_work, KeepsAndLeaves, HaveNames}
+use Rattle.checkin_engine.specs.Keeping.{KeepsStored, ChecksPath, ChecksPaths, first_work, ChecksAndLeaves, KeepsAfter, HaveNames}
 use Rattle.checkin_engine.proofs.Checked.{with_no_object, one_checked, next_path, cut_at, left_at, left_before, left_behind, left_behind_all}
 use Rattle.checkin_engine.proofs.Looked.{path_cut, path_left}
 use Rattle.checkin_engine.proofs.Names.{fates_have_names}
@@ -80,39 +80,10 @@ pub index_keeps : (T : Type 0) (text : List ℕ) (es : List Entry) (fates : List
     → KeepsIndex (plain_text (entries_in_turn es fates)) old new r
 index_keeps T text es fates kept old new r are is keeps = subst (λ (t : List ℕ). KeepsIndex {T = T} t old new r) (is ∙ ap plain_text are) keeps
 
--- the whole, by the paths and the entries that the calls were given
-module _ (object told : List ℕ → Told) (c c' : Cleaning) (same_cleaning : c' ≡ c) (es es' : List Entry) (ps ps' : List CheckinPath) (same_entries : es' ≡ es) (same_paths : ps' ≡ ps) (repo repo' : RepoSeen) (work work' : WorkSeen) (keep : KeepSeen) where
-  -- the look at the paths ended before the index
-  pub paths_end : (keep' : KeepSeen) (f : SendFault) → ChecksPaths object told c' ps' repo repo' work work' keep keep' (Err f) → KeepsAll object told c es ps repo repo' work work' keep keep' (Err f)
-  paths_end keep' send.Failed cut = inl (subst (λ (d : Cleaning). AreObjectsCut object told d ps repo repo' work work' keep keep') same_cleaning
-      (subst (λ (l : List CheckinPath). AreObjectsCut object told c' l repo repo' work work' keep keep') same_paths cut))
-  paths_end keep' send.NoMemory broken = subst (λ (d : Cleaning). AreBrokenOff object told d ps repo repo' work work' keep keep') same_cleaning
-      (subst (λ (l : List CheckinPath). AreBrokenOff object told c' l repo repo' work work' keep keep') same_paths broken)
-
--- once all paths were looked at
-module _ (object told : List ℕ → Told) (c c' : Cleaning) (same_cleaning : c' ≡ c) (es es' : List Entry) (ps ps' : List CheckinPath) (same_entries : es' ≡ es) (same_paths : ps' ≡ ps) (repo repo' : RepoSeen) (work work' : WorkSeen) (keep : KeepSeen)
-    (mid : KeepSeen) (fates fates' : List Fate) (same_fates : fates' ≡ fates) (are' : ArePathsChecked object told c' ps' repo repo' work work' keep mid fates) where
-  are : ArePathsChecked object told c ps repo repo' work work' keep mid fates
-  are = subst (λ (d : Cleaning). ArePathsChecked object told d ps repo repo' work work' keep mid fates) same_cleaning
-      (subst (λ (l : List CheckinPath). ArePathsChecked object told c' l repo repo' work work' keep mid fates) same_paths are')
-
-  -- the names of the changed objects are such as an entry has
-  pub checked_names : HaveNames fates'
-  checked_names = subst HaveNames (are.same ∙ sym same_fates) (fates_have_names object told ps are.outcomes are.each)
-
-  index_so : (T : Type 0) (keep' : KeepSeen) (r : Result T SendFault) → KeepsIndex {T = T} (plain_text (entries_in_turn es' fates')) mid keep' r → KeepsIndex {T = T} (plain_text (entries_in_turn es fates)) mid keep' r
-  index_so T keep' r index = subst (λ (l : List Entry). KeepsIndex {T = T} (plain_text (entries_in_turn l fates)) mid keep' r) same_entries
-      (subst (λ (l : List Fate). KeepsIndex {T = T} (plain_text (entries_in_turn es' l)) mid keep' r) same_fates index)
-
-  -- the index was kept
-  pub all_kept : (T : Type 0) (keep' : KeepSeen) (x : T) → KeepsIndex {T = T} (plain_text (entries_in_turn es' fates')) mid keep' (Ok x) → AreKept object told c (entries_in_turn es fates) ps repo repo' work work' keep keep' fates
-  all_kept T keep' x index = record { outcomes = are.outcomes; same = are.same; each = are.each; mid = mid; checked = are.checked; index = index_so T keep' (Ok x) index }
-
-  -- it wasn't
-  pub index_fails : (T : Type 0) (keep' : KeepSeen) (f : SendFault) → KeepsIndex {T = T} (plain_text (entries_in_turn es' fates')) mid keep' (Err f) → KeepsAll object told c es ps repo repo' work work' keep keep' (Err f)
-  index_fails T keep' send.Failed index = inr (record { outcomes = are.outcomes; each = are.each; mid = mid; checked = are.checked; failed = index })
-  index_fails T keep' send.NoMemory index =
-      left_behind_all object told c ps repo repo' repo' work work' work' keep keep' keep' fates (subst (λ (k : KeepSeen). ArePathsChecked object told c ps repo repo' work work' keep k fates) (sym index) are)
+-- the names of the changed objects are such as an entry has
+pub checked_names : (object told : List ℕ → Told) (c : Cleaning) (ps : List CheckinPath) (repo repo' : RepoSeen) (work work' : WorkSeen) (keep keep' : KeepSeen) (fates fates' : List Fate) → fates' ≡ fates
+    → ArePathsChecked object told c ps repo repo' work work' keep keep' fates → HaveNames fates'
+checked_names object told c ps repo repo' work work' keep keep' fates fates' same are = subst HaveNames (are.same ∙ sym same) (fates_have_names object told ps are.outcomes are.each)
 
 -- no line, and so no starter to give back
 none_given : (n : ℕ) (spawner : SpawnerSeen) → GivesBack (replicate n None) spawner spawner
@@ -135,21 +106,54 @@ pub many_lines : (lines : List (Option CleanLineView)) (ds ds' : List Driver) �
 many_lines lines ds ds' is same = ap (λ (l : List (Option CleanLineView)). length l) is ∙ as_many (length ds') ∙ ap (λ (l : List Driver). length l) same
 
 -- there was no memory for the lines
-pub leaves_none : (object told : List ℕ → Told) (c : Cleaning) (es : List Entry) (ps : List CheckinPath) (repo : RepoSeen) (files : FilesSeen) (spawner : SpawnerSeen) (runs : ℕ) (keep : KeepSeen)
-    → KeepsAndLeaves object told c es ps repo repo files files spawner spawner runs runs keep keep (Err send.NoMemory)
-leaves_none object told c es ps repo files spawner runs keep = record {
+pub leaves_none : (object told : List ℕ → Told) (c : Cleaning) (ps : List CheckinPath) (repo : RepoSeen) (files : FilesSeen) (spawner : SpawnerSeen) (runs : ℕ) (keep : KeepSeen)
+    → ChecksAndLeaves object told c ps repo repo files files spawner spawner runs runs keep keep (Err send.NoMemory)
+leaves_none object told c ps repo files spawner runs keep = record {
   last = first_work c.drivers files spawner runs;
-  keeps = left_before object told c ps repo (first_work c.drivers files spawner runs) keep;
+  checks = left_before object told c ps repo (first_work c.drivers files spawner runs) keep;
   left = record { files_same = refl; back = none_given (length c.drivers) spawner; faults = refl };
 }
 
--- the starters were given back once all were kept
-pub keeps_leaves : (object told : List ℕ → Told) (c : Cleaning) (es : List Entry) (ps : List CheckinPath) (repo repo' : RepoSeen) (files files' : FilesSeen) (spawner mid spawner' : SpawnerSeen) (runs runs' : ℕ) (keep keep' : KeepSeen)
+-- the starters were given back once all paths were looked at, by the paths and the drivers that the call was given
+pub checks_leave : (object told : List ℕ → Told) (c c' : Cleaning) → c' ≡ c → (ps ps' : List CheckinPath) → ps' ≡ ps → (repo repo' : RepoSeen) (files files' : FilesSeen) (spawner mid spawner' : SpawnerSeen) (runs runs' : ℕ) (keep keep' : KeepSeen)
     (lines lines' : List (Option CleanLineView)) (r : Result (Vec Fate) SendFault) → lines ≡ replicate (length c.drivers) None
-    → KeepsAll object told c es ps repo repo' (work_seen files (drivers_seen lines spawner runs)) (work_seen files' (drivers_seen lines' mid runs')) keep keep' r → GivesBack lines' mid spawner'
-    → KeepsAndLeaves object told c es ps repo repo' files files' spawner spawner' runs runs' keep keep' r
-keeps_leaves object told c es ps repo repo' files files' spawner mid spawner' runs runs' keep keep' lines lines' r is keeps back = record {
+    → ChecksPaths object told c' ps' repo repo' (work_seen files (drivers_seen lines spawner runs)) (work_seen files' (drivers_seen lines' mid runs')) keep keep' r → GivesBack lines' mid spawner'
+    → ChecksAndLeaves object told c ps repo repo' files files' spawner spawner' runs runs' keep keep' r
+checks_leave object told c c' same_cleaning ps ps' same_paths repo repo' files files' spawner mid spawner' runs runs' keep keep' lines lines' r is checks back = record {
   last = work_seen files' (drivers_seen lines' mid runs');
-  keeps = subst (λ (l : List (Option CleanLineView)). KeepsAll object told c es ps repo repo' (work_seen files (drivers_seen l spawner runs)) (work_seen files' (drivers_seen lines' mid runs')) keep keep' r) is keeps;
+  checks = subst (λ (l : List (Option CleanLineView)). ChecksPaths object told c ps repo repo' (work_seen files (drivers_seen l spawner runs)) (work_seen files' (drivers_seen lines' mid runs')) keep keep' r) is
+      (subst (λ (d : Cleaning). ChecksPaths object told d ps repo repo' (work_seen files (drivers_seen lines spawner runs)) (work_seen files' (drivers_seen lines' mid runs')) keep keep' r) same_cleaning
+      (subst (λ (l : List CheckinPath). ChecksPaths object told c' l repo repo' (work_seen files (drivers_seen lines spawner runs)) (work_seen files' (drivers_seen lines' mid runs')) keep keep' r) same_paths checks));
   left = record { files_same = refl; back = back; faults = refl };
 }
+
+-- the look at the paths ended before the index
+pub ends_before : (object told : List ℕ → Told) (c : Cleaning) (es : List Entry) (ps : List CheckinPath) (repo repo' : RepoSeen) (files files' : FilesSeen) (spawner spawner' : SpawnerSeen) (runs runs' : ℕ) (keep keep' : KeepSeen) (f : SendFault)
+    → ChecksAndLeaves object told c ps repo repo' files files' spawner spawner' runs runs' keep keep' (Err f)
+    → KeepsAfter (ChecksAndLeaves object told c ps repo repo' files files' spawner spawner' runs runs' keep) es keep' (Err f)
+ends_before object told c es ps repo repo' files files' spawner spawner' runs runs' keep keep' send.Failed is = inl is
+ends_before object told c es ps repo repo' files files' spawner spawner' runs runs' keep keep' send.NoMemory is = is
+
+-- once all paths were looked at, by the entries and the fates that the call was given
+module _ (object told : List ℕ → Told) (c : Cleaning) (es es' : List Entry) (same_entries : es' ≡ es) (ps : List CheckinPath) (repo repo' : RepoSeen) (files files' : FilesSeen) (spawner spawner' : SpawnerSeen) (runs runs' : ℕ) (keep mid : KeepSeen)
+    (fates : Vec Fate) (fates' : List Fate) (same_fates : fates' ≡ fates.items) (are : ChecksAndLeaves object told c ps repo repo' files files' spawner spawner' runs runs' keep mid (Ok fates)) where
+  abbrev Leaves : KeepSeen → Result (Vec Fate) SendFault → Type 0
+  Leaves = ChecksAndLeaves object told c ps repo repo' files files' spawner spawner' runs runs' keep
+
+  index_so : (T : Type 0) (keep' : KeepSeen) (r : Result T SendFault) → KeepsIndex {T = T} (plain_text (entries_in_turn es' fates')) mid keep' r → KeepsIndex {T = T} (plain_text (entries_in_turn es fates.items)) mid keep' r
+  index_so T keep' r index = subst (λ (l : List Entry). KeepsIndex {T = T} (plain_text (entries_in_turn l fates.items)) mid keep' r) same_entries
+      (subst (λ (l : List Fate). KeepsIndex {T = T} (plain_text (entries_in_turn es' l)) mid keep' r) same_fates index)
+
+  -- the index was kept
+  pub all_kept : (T : Type 0) (keep' : KeepSeen) (x : T) → KeepsIndex {T = T} (plain_text (entries_in_turn es' fates')) mid keep' (Ok x) → KeepsAfter Leaves es keep' (Ok fates)
+  all_kept T keep' x index = (mid, are, index_so T keep' (Ok x) index)
+
+  -- it wasn't
+  pub index_fails : (T : Type 0) (keep' : KeepSeen) (f : SendFault) → KeepsIndex {T = T} (plain_text (entries_in_turn es' fates')) mid keep' (Err f) → KeepsAfter Leaves es keep' (Err f)
+  index_fails T keep' send.Failed index = inr (mid, fates, are, index)
+  index_fails T keep' send.NoMemory index = record {
+    last = are.last;
+    checks = subst (λ (k : KeepSeen). AreBrokenOff object told c ps repo repo' (first_work c.drivers files spawner runs) are.last keep k) (sym index)
+        (left_behind_all object told c ps repo repo' repo' (first_work c.drivers files spawner runs) are.last are.last keep mid mid fates.items are.checks);
+    left = are.left;
+  }

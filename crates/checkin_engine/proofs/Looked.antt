@@ -29,9 +29,9 @@ use Rattle.checkin_engine.specs.declared.finding.Found.TheVariants as find
 use Rattle.checkin_engine.specs.declared.looking.Looked.{Looked}
 use Rattle.checkin_engine.specs.Cleaning.{Asked, Cleaning, cleaned_by, IsCleaned, text_at, as_answer, AsksFor, AsksOne, AsksInVain}
 use Rattle.checkin_engine.specs.Outside.{WorkSeen, work_seen, FilesSeen, KeepSeen, IsKeepFailed, with_objects}
-use Rattle.checkin_engine.specs.Fates.{is_auto, IsClean, name_of, HasStoredFate, HasFate, driver_of}
-use Rattle.checkin_engine.specs.Outcomes.{Outcome, IsUnfailed, HasStoredCounts, HasCounts, is_of_other_kind, blob_by, object_by, MakesBlob, MayAsk}
-use Rattle.checkin_engine.specs.Looking.{fate_by, with_blob, FailsIf, IsFound, Finds, is_other_found, IsStoredSo, IsCleanedFate, ComesTo, Becomes, BecomesNothing, AnswersFor, CleansFile, Looks}
+use Rattle.checkin_engine.specs.Fates.{is_auto, HasFile, IsClean, name_of, HasStoredFate, HasFate, driver_of}
+use Rattle.checkin_engine.specs.Outcomes.{Outcome, IsUnfailed, HasStoredCounts, HasCounts, is_of_other_kind, blob_by, with_blob, FailsIf, object_by, looks_at_old, MakesBlob, IsLeftAt}
+use Rattle.checkin_engine.specs.Looking.{fate_by, IsFound, Finds, is_other_found, IsStoredSo, IsCleanedFate, ComesTo, Becomes, BecomesNothing, AnswersFor, CleansFile, Looks}
 use Rattle.checkin_engine.specs.Keeping.{IsPathChecked, IsPathCut, IsPathLeft}
 use Rattle.checkin_engine.proofs.Found.{blob_made, no_kind}
 
@@ -166,10 +166,8 @@ module _ (object told : List ℕ → Told) (c : Cleaning) (p : CheckinPath) (sto
             fate = subst (λ (w : Way). HasFate (object p.object) (told p.path) p.object w asked content fate) (sym by) has.0;
             counts = subst (λ (w : Way). HasCounts (object p.object) (told p.path) w o) (sym by) has.1;
           };
-          back = finds.back;
-          fails = finds.fails;
+          looked = record { back = finds.back; fails = finds.fails; asks = subst (λ (w : Way). AsksOne c p.path (driver_of w) asked before after) (sym by) asks };
           says = λ did. finds.says did ∙ kind_comes (object p.object) (told p.path) p.object storing asked f finds.failed finds.blob content fate finds.is comes did;
-          asks = subst (λ (w : Way). AsksOne c p.path (driver_of w) asked before after) (sym by) asks;
         };
       }
 
@@ -254,15 +252,26 @@ still_by : (failed : Bool) (path : List ℕ) (files files' : FilesSeen) → Fail
 still_by true path files files' fails unfailed = absurd cc
 still_by false path files files' fails unfailed = fails
 
+-- memory ran out before a driver was asked for a file that is stored
+pub left_unasked : (object told : List ℕ → Told) (c : Cleaning) (p : CheckinPath) (storing : Storing) → p.way ≡ way.Stored storing → (repo repo' : RepoSeen) (old : DriversSeen) → MakesBlob (is_auto storing.action) p.object repo repo'
+    → IsLeftAt object told c p repo repo' old old
+left_unasked object told c p storing by repo repo' old blob = inl (refl, subst (λ (w : Way). MakesBlob (looks_at_old w) p.object repo repo') (sym by) blob)
+
+-- the same for a call that may have ended so
+pub unfound_left : (E : Type 0) (object told : List ℕ → Told) (c : Cleaning) (p : CheckinPath) (storing : Storing) → p.way ≡ way.Stored storing → (repo repo' : RepoSeen) (old new : DriversSeen) → new ≡ old → MakesBlob (is_auto storing.action) p.object repo repo'
+    → IsLeftAt object told c p repo repo' old new
+unfound_left E object told c p storing by repo repo' old new same blob = subst (λ (d : DriversSeen). IsLeftAt object told c p repo repo' old d) (sym same) (left_unasked object told c p storing by repo repo' old blob)
+
+-- memory ran out at a file that is there, once its blob was given back
+left_stored : (object told : List ℕ → Told) (c : Cleaning) (p : CheckinPath) (storing : Storing) → p.way ≡ way.Stored storing → (repo repo' : RepoSeen) (old new : DriversSeen)
+    → (has : HasFile (object p.object) (told p.path) p.object storing.action) → repo' ≡ with_blob p.object (blob_by (is_auto storing.action)) repo → (new ≡ old) ⊎ AsksInVain c p.path storing.driver has.bytes old new
+    → IsLeftAt object told c p repo repo' old new
+left_stored object told c p storing by repo repo' old new has back (inl same) =
+    subst (λ (d : DriversSeen). IsLeftAt object told c p repo repo' old d) (sym same) (left_unasked object told c p storing by repo repo' old (blob_made p.object (is_auto storing.action) repo repo' back))
+left_stored object told c p storing by repo repo' old new has back (inr asks) = inr (record { storing = storing; stores = by; has = has; back = back; asks = asks })
+
 -- where memory ran out behind a file that was found
 module _ (object told : List ℕ → Told) (c : Cleaning) (p : CheckinPath) (storing : Storing) (by : p.way ≡ way.Stored storing) (repo repo' : RepoSeen) (files files' : FilesSeen) (before after : DriversSeen) where
-  found_blob : (f : Found) → Finds object told p storing.action repo repo' files files' f → BecomesNothing c p storing f before after → MakesBlob p.object repo repo'
-  found_blob (find.There bytes old) finds nothing = blob_made p.object (is_auto storing.action) repo repo' (finds.back ∙ ap (λ (b : Option ℕ). with_blob p.object b repo) finds.is.4)
-  found_blob find.Gone finds nothing = absurd nothing
-  found_blob find.Unread finds nothing = absurd nothing
-  found_blob find.OtherKind finds nothing = absurd nothing
-  found_blob find.TooLarge finds nothing = absurd nothing
-
   found_still : (f : Found) → Finds object told p storing.action repo repo' files files' f → BecomesNothing c p storing f before after → files' ≡ files
   found_still (find.There bytes old) finds nothing = still_by finds.failed p.path files files' finds.fails finds.is.3
   found_still find.Gone finds nothing = absurd nothing
@@ -270,18 +279,20 @@ module _ (object told : List ℕ → Told) (c : Cleaning) (p : CheckinPath) (sto
   found_still find.OtherKind finds nothing = absurd nothing
   found_still find.TooLarge finds nothing = absurd nothing
 
-  found_vain : (f : Found) → Finds object told p storing.action repo repo' files files' f → BecomesNothing c p storing f before after → MayAsk told c p before after
-  found_vain (find.There bytes old) finds (inl same) = inl same
-  found_vain (find.There bytes old) finds (inr asks) = inr (record { bytes = bytes.items; tells = finds.is.0; asks = subst (λ (w : Way). AsksInVain c p.path (driver_of w) bytes.items before after) (sym by) asks })
-  found_vain find.Gone finds nothing = absurd nothing
-  found_vain find.Unread finds nothing = absurd nothing
-  found_vain find.OtherKind finds nothing = absurd nothing
-  found_vain find.TooLarge finds nothing = absurd nothing
+  found_left : (f : Found) → Finds object told p storing.action repo repo' files files' f → BecomesNothing c p storing f before after → IsLeftAt object told c p repo repo' before after
+  found_left (find.There bytes old) finds nothing =
+      left_stored object told c p storing by repo repo' before after
+      (record { bytes = bytes.items; tells = finds.is.0; within = finds.is.1; old = old; has_old = finds.is.2 })
+      (finds.back ∙ ap (λ (b : Option ℕ). with_blob p.object b repo) finds.is.4) nothing
+  found_left find.Gone finds nothing = absurd nothing
+  found_left find.Unread finds nothing = absurd nothing
+  found_left find.OtherKind finds nothing = absurd nothing
+  found_left find.TooLarge finds nothing = absurd nothing
 
   pub found_leaves : (E : Type 0) (f : Found) (x : Result Looked E) → Finds object told p storing.action repo repo' files files' f → OnErr x (BecomesNothing c p storing f before after)
-      → OnErr x (MakesBlob p.object repo repo') × OnErr x (files' ≡ files) × OnErr x (MayAsk told c p before after)
-  found_leaves E f (Ok l) finds nothing = (tt, tt, tt)
-  found_leaves E f (Err e) finds nothing = (found_blob f finds nothing, found_still f finds nothing, found_vain f finds nothing)
+      → OnErr x (files' ≡ files) × OnErr x (IsLeftAt object told c p repo repo' before after)
+  found_leaves E f (Ok l) finds nothing = (tt, tt)
+  found_leaves E f (Err e) finds nothing = (found_still f finds nothing, found_left f finds nothing)
 
   pub found_comes : (E : Type 0) (f : Found) (x : Result Looked E) → Finds object told p storing.action repo repo' files files' f → IfOk x (λ l. Becomes c p storing f before after l.content.items l.fate)
       → IfOk x (λ l. Looks object told c p repo repo' (work_seen files before) (work_seen files' after) l.content.items l.fate)
@@ -301,10 +312,8 @@ untaken_looks object told c p w repo work content fate by has counts =
           fate = subst (λ (v : Way). HasFate (object p.object) (told p.path) p.object v None content fate) (sym by) has;
           counts = subst (λ (v : Way). HasCounts (object p.object) (told p.path) v o) (sym by) (counts o (refl, refl));
         };
-        back = refl;
-        fails = refl;
+        looked = record { back = refl; fails = refl; asks = refl };
         says = no_kind (is_of_other_kind fate) work.files;
-        asks = refl;
       };
     }
 
@@ -315,17 +324,17 @@ changed_counts object file way.Kept o name counts is = (false, counts)
 changed_counts object file way.UnknownEncoding o name counts is = (false, counts)
 changed_counts object file way.NoProcess o name counts is = (false, counts)
 
--- what the driver of a changed path was asked
-changed_asks : (told : List ℕ → Told) (c : Cleaning) (object : Told) (p : CheckinPath) (w : Way) (asked : Option Asked) (content name : List ℕ) (old new : DriversSeen) → p.way ≡ w → HasFate object (told p.path) p.object w asked content (Changed name)
-    → AsksOne c p.path (driver_of w) asked old new → MayAsk told c p old new
-changed_asks told c object p way.Kept asked content name old new by has asks = absurd cc
-changed_asks told c object p way.UnknownEncoding asked content name old new by has asks = absurd cc
-changed_asks told c object p way.NoProcess asked content name old new by has asks = absurd cc
-changed_asks told c object p (way.Stored storing) asked content name old new by has asks = at (vain_by c p.path storing.driver asked has.0.clean.has.bytes (Ok has.0.clean.cleaned) old new has.0.clean.is_cleaned asks)
-  where
-    at : (new ≡ old) ⊎ AsksInVain c p.path storing.driver has.0.clean.has.bytes old new → MayAsk told c p old new
-    at (inl same) = inl same
-    at (inr asks) = inr (record { bytes = has.0.clean.has.bytes; tells = has.0.clean.has.tells; asks = subst (λ (w : Way). AsksInVain c p.path (driver_of w) has.0.clean.has.bytes old new) (sym by) asks })
+-- where memory ran out behind a path that has changed
+changed_left : (object told : List ℕ → Told) (c : Cleaning) (p : CheckinPath) (w : Way) (o : Outcome) (name : List ℕ) (repo repo' : RepoSeen) (old new : DriversSeen) → p.way ≡ w
+    → HasFate (object p.object) (told p.path) p.object w o.asked o.content (Changed name) → HasCounts (object p.object) (told p.path) w o → o.fate ≡ Changed name → repo' ≡ with_blob p.object o.blob repo
+    → AsksOne c p.path (driver_of w) o.asked old new → IsLeftAt object told c p repo repo' old new
+changed_left object told c p way.Kept o name repo repo' old new by has counts is back asks = absurd cc
+changed_left object told c p way.UnknownEncoding o name repo repo' old new by has counts is back asks = absurd cc
+changed_left object told c p way.NoProcess o name repo repo' old new by has counts is back asks = absurd cc
+changed_left object told c p (way.Stored storing) o name repo repo' old new by has counts is back asks =
+    let unfailed : IsUnfailed o (blob_by (is_auto storing.action)) = subst (λ (f : Fate). HasStoredCounts (object p.object) (told p.path) storing o f) is counts in
+    left_stored object told c p storing by repo repo' old new has.0.clean.has (back ∙ ap (λ (b : Option ℕ). with_blob p.object b repo) unfailed.1)
+    (vain_by c p.path storing.driver o.asked has.0.clean.has.bytes (Ok has.0.clean.cleaned) old new has.0.clean.is_cleaned asks)
 
 module _ (object told : List ℕ → Told) (c : Cleaning) (p : CheckinPath) (repo repo' : RepoSeen) (work work' : WorkSeen) (keep keep' : KeepSeen) (content : List ℕ) (fate : Fate) (looks : Looks object told c p repo repo' work work' content fate) where
   -- a path that was looked at, and whose object was kept if it has changed
@@ -342,12 +351,12 @@ module _ (object told : List ℕ → Told) (c : Cleaning) (p : CheckinPath) (rep
   path_cut name is failed = record { outcome = looks.outcome; name = name; changed = looks.fated ∙ is; looked = looks.looked; failed = failed }
 
   -- memory ran out at it
-  pub path_left : (name : List ℕ) → fate ≡ Changed name → keep' ≡ keep → IsPathLeft told c p repo repo' work work' keep keep'
+  pub path_left : (name : List ℕ) → fate ≡ Changed name → keep' ≡ keep → IsPathLeft object told c p repo repo' work work' keep keep'
   path_left name is same =
       let counts = changed_counts (object p.object) (told p.path) p.way looks.outcome name looks.looked.is.counts (looks.fated ∙ is) in record {
-        blob = blob_made p.object counts.0 repo repo' (looks.looked.back ∙ ap (λ (b : Option ℕ). with_blob p.object b repo) counts.1.1);
-        files_same = still_by looks.outcome.failed p.path work.files work'.files looks.looked.fails counts.1.0;
-        vain = changed_asks told c (object p.object) p p.way looks.outcome.asked looks.outcome.content name work.drivers work'.drivers refl
-            (subst (λ (f : Fate). HasFate (object p.object) (told p.path) p.object p.way looks.outcome.asked looks.outcome.content f) (looks.fated ∙ is) looks.looked.is.fate) looks.looked.asks;
+        left = changed_left object told c p p.way looks.outcome name repo repo' work.drivers work'.drivers refl
+            (subst (λ (f : Fate). HasFate (object p.object) (told p.path) p.object p.way looks.outcome.asked looks.outcome.content f) (looks.fated ∙ is) looks.looked.is.fate) looks.looked.is.counts (looks.fated ∙ is)
+            looks.looked.looked.back looks.looked.looked.asks;
+        files_same = still_by looks.outcome.failed p.path work.files work'.files looks.looked.looked.fails counts.1.0;
         keep_same = same;
       }

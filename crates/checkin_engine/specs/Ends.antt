@@ -8,6 +8,7 @@ use Rattle.edge_kit.specs.Told.{Told, RepoTold}
 use Rattle.one_shot.specs.Onces.{RunsTold}
 use Rattle.settings_view.specs.declared.view.Driver.{Driver}
 use Rattle.git_index.specs.declared.entry.Entry.{Entry}
+use Rattle.git_index.specs.Spelling.{plain_text}
 use Rattle.checkout_plan.specs.Making.{blobs_of}
 use Rattle.checkout_sources.specs.declared.stop.Refusal.{Refusal}
 use Rattle.checkout_sources.specs.Causes.{IsReadCause, IsRefusedFor, IsCutShort}
@@ -16,12 +17,12 @@ use Rattle.checkin_engine.specs.declared.path.CheckinPath.{CheckinPath}
 use Rattle.checkin_engine.specs.declared.fate.Fate.{Fate}
 use Rattle.checkin_engine.specs.declared.status.CheckinStatus.{CheckinStatus}
 use Rattle.checkin_engine.specs.declared.status.CheckinStatus.TheVariants as status
-use Rattle.checkin_engine.specs.Outside.{FilesSeen, WorkSeen, KeepSeen}
+use Rattle.checkin_engine.specs.Outside.{FilesSeen, WorkSeen, KeepSeen, IsKeepFailed, with_index}
 use Rattle.checkin_engine.specs.Paths.{HasPaths}
 use Rattle.checkin_engine.specs.Cleaning.{Cleaning, cleaning}
 use Rattle.checkin_engine.specs.Keeping.{IsLeft, first_work}
 use Rattle.checkin_engine.specs.Indexes.{new_entries}
-use Rattle.checkin_engine.specs.Outcomes.{AreKept, AreObjectsCut, IsIndexCut, AreBrokenOff, with_blobs}
+use Rattle.checkin_engine.specs.Outcomes.{ArePathsChecked, AreObjectsCut, AreBrokenOff, with_blobs}
 use Rattle.checkin_engine.specs.Report.{report_of, is_failed}
 
 -- all that a check-in can change
@@ -70,24 +71,36 @@ status_of fates = if list_any is_failed fates then status.DoneWithFailures else 
 abbrev pub after_reading : List Entry → RepoSeen → RepoSeen
 after_reading es repo = with_blobs (blobs_of es) repo
 
--- The paths of the index came to these fates. The objects of the changed ones were kept, and then the index. The blobs
--- of the attribute files and then those of the paths were given back, and the starters of the drivers that were asked.
-pub record IsCheckedIn (told : AllTold) (old new : Seen) : Type 0 where
+-- The paths of the index came to these fates, and the objects of the changed ones were kept. The blobs of the attribute
+-- files and then those of the paths were given back, and then the starters of the drivers that were asked. The index
+-- isn't kept yet, and nothing is written.
+pub record IsLookedThrough (told : AllTold) (old new : Seen) : Type 0 where
   pub entries : List Entry
   pub paths : List CheckinPath
   pub drivers : List Driver
   pub has : HasPaths told.repo drivers entries paths
   pub fates : List Fate
   pub last : WorkSeen
-  pub kept : AreKept told.repo.object told.files (cleaning_told told drivers) (new_entries paths fates entries) paths
+  pub checked : ArePathsChecked told.repo.object told.files (cleaning_told told drivers) paths
       (after_reading entries old.repo) new.repo (work_before drivers old) last old.keep new.keep fates
   pub left : IsLeftBy last new
+  pub silent : new.sink ≡ old.sink
+
+-- All was looked through, with all blobs and starters given back, and after that the index was kept. Nothing but that
+-- and what is written is another then.
+pub record IsCheckedIn (told : AllTold) (old new : Seen) : Type 0 where
+  pub mid : Seen
+  pub done : IsLookedThrough told old mid
+  pub index : new ≡ record mid {
+    keep = with_index (plain_text (new_entries done.paths done.fates done.entries)) mid.keep;
+    sink = new.sink;
+  }
 
 -- 0, or 1 if some path failed: the report was written after that
 pub record IsDone (told : AllTold) (old new : Seen) (s : CheckinStatus) : Type 0 where
   pub checked : IsCheckedIn told old new
-  pub report : new.sink ≡ with_text (report_of checked.paths checked.fates) old.sink
-  pub status : s ≡ status_of checked.fates
+  pub report : new.sink ≡ with_text (report_of checked.done.paths checked.done.fates) old.sink
+  pub status : s ≡ status_of checked.done.fates
 
 -- neither were the files looked at, nor a driver asked, nor anything kept
 pub record IsUntouched (old new : Seen) : Type 0 where
@@ -117,30 +130,34 @@ pub record IsLineCut (told : RepoTold) (old new : Seen) : Type 0 where
   pub has : HasRefusal told line old new
   pub cut : IsWriteCut line old.sink new.sink
 
--- the keeper failed, at an object or at the index
-pub record IsKeepCut (told : AllTold) (old new : Seen) : Type 0 where
+-- the keeper failed at an object, and then the starters were given back
+pub record IsObjectCut (told : AllTold) (old new : Seen) : Type 0 where
   pub entries : List Entry
   pub paths : List CheckinPath
   pub drivers : List Driver
   pub has : HasPaths told.repo drivers entries paths
   pub last : WorkSeen
-  pub cut :
-      AreObjectsCut told.repo.object told.files (cleaning_told told drivers) paths
-      (after_reading entries old.repo) new.repo (work_before drivers old) last old.keep new.keep
-      ⊎ IsIndexCut told.repo.object told.files (cleaning_told told drivers) paths
+  pub cut : AreObjectsCut told.repo.object told.files (cleaning_told told drivers) paths
       (after_reading entries old.repo) new.repo (work_before drivers old) last old.keep new.keep
   pub left : IsLeftBy last new
   pub silent : new.sink ≡ old.sink
 
+-- the keeper failed at the index, once all was looked through
+pub record IsIndexCut (told : AllTold) (old new : Seen) : Type 0 where
+  pub mid : Seen
+  pub done : IsLookedThrough told old mid
+  pub failed : IsKeepFailed mid.keep new.keep
+  pub same : new ≡ record mid { keep = new.keep }
+
 -- the sink failed in the report, once the objects and the index were kept
 pub record IsReportCut (told : AllTold) (old new : Seen) : Type 0 where
   pub checked : IsCheckedIn told old new
-  pub cut : IsWriteCut (report_of checked.paths checked.fates) old.sink new.sink
+  pub cut : IsWriteCut (report_of checked.done.paths checked.done.fates) old.sink new.sink
 
 -- 4: the keeper or the sink failed, at one of these
 abbrev pub IsCutOff : AllTold → Seen → Seen → Type 0
 IsCutOff told old new =
-    IsLineCut told.repo old new ⊎ IsKeepCut told old new ⊎ IsReportCut told old new
+    IsLineCut told.repo old new ⊎ IsObjectCut told old new ⊎ IsIndexCut told old new ⊎ IsReportCut told old new
 
 -- Memory ran out before a file was looked at. Blobs of the first attribute files may have been made and given back.
 pub record IsStopped (told : RepoTold) (old new : Seen) : Type 0 where

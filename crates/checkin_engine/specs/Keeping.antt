@@ -8,14 +8,16 @@ use Rattle.edge_kit.specs.Told.{Told}
 use Rattle.edge_kit.specs.declared.faults.SendFault.{SendFault}
 use Rattle.edge_kit.specs.declared.faults.SendFault.TheVariants as send
 use Rattle.git_index.specs.declared.entry.Entry.{Entry}
+use Rattle.git_index.specs.Spelling.{plain_text}
 use Rattle.settings_view.specs.declared.view.Driver.{Driver}
 use Rattle.clean_drivers.specs.Drivers.{drivers_seen, GivesBack}
 use Rattle.checkin_engine.specs.declared.path.CheckinPath.{CheckinPath}
 use Rattle.checkin_engine.specs.declared.fate.Fate.{Fate}
 use Rattle.checkin_engine.specs.declared.fate.Fate.TheVariants.{Same, Changed, Gone, Kept, Failed}
 use Rattle.checkin_engine.specs.Outside.{FilesSeen, WorkSeen, work_seen, KeepSeen, IsKeepFailed, with_objects}
-use Rattle.checkin_engine.specs.Outcomes.{Outcome, AreOutcomes, AreChecked, fates_of, object_of, object_by}
-use Rattle.checkin_engine.specs.Outcomes.{MakesBlob, MayAsk, AreKept, AreObjectsCut, IsIndexCut, AreBrokenOff}
+use Rattle.checkin_engine.specs.Outside.{with_index}
+use Rattle.checkin_engine.specs.Outcomes.{Outcome, object_of, object_by, ArePathsChecked, IsLeftAt, AreObjectsCut}
+use Rattle.checkin_engine.specs.Outcomes.{AreBrokenOff}
 use Rattle.checkin_engine.specs.Cleaning.{Cleaning}
 use Rattle.checkin_engine.specs.InTurn.{entries_in_turn}
 use Rattle.checkin_engine.specs.Looking.{IsPathLookedAt}
@@ -46,11 +48,10 @@ pub record IsPathCut (object told : List ℕ → Told) (c : Cleaning) (p : Check
   pub failed : IsKeepFailed keep keep'
 
 -- memory ran out at the path
-pub record IsPathLeft (told : List ℕ → Told) (c : Cleaning) (p : CheckinPath) (repo repo' : RepoSeen)
+pub record IsPathLeft (object told : List ℕ → Told) (c : Cleaning) (p : CheckinPath) (repo repo' : RepoSeen)
     (work work' : WorkSeen) (keep keep' : KeepSeen) : Type 0 where
-  pub blob : MakesBlob p.object repo repo'
+  pub left : IsLeftAt object told c p repo repo' work.drivers work'.drivers
   pub files_same : work'.files ≡ work.files
-  pub vain : MayAsk told c p work.drivers work'.drivers
   pub keep_same : keep' ≡ keep
 
 -- how the look at a path ends
@@ -61,15 +62,7 @@ ChecksPath object told c p repo repo' work work' keep keep' (Ok fate) =
 ChecksPath object told c p repo repo' work work' keep keep' (Err send.Failed) =
     IsPathCut object told c p repo repo' work work' keep keep'
 ChecksPath object told c p repo repo' work work' keep keep' (Err send.NoMemory) =
-    IsPathLeft told c p repo repo' work work' keep keep'
-
--- all paths were looked at, and came to these fates
-pub record ArePathsChecked (object told : List ℕ → Told) (c : Cleaning) (ps : List CheckinPath) (repo repo' : RepoSeen)
-    (work work' : WorkSeen) (keep keep' : KeepSeen) (fates : List Fate) : Type 0 where
-  pub outcomes : List Outcome
-  pub same : fates_of outcomes ≡ fates
-  pub each : AreOutcomes object told ps outcomes
-  pub checked : AreChecked c ps outcomes repo repo' work work' keep keep'
+    IsPathLeft object told c p repo repo' work work' keep keep'
 
 -- how the look at all paths ends
 abbrev pub ChecksPaths : (List ℕ → Told) → (List ℕ → Told) → Cleaning → List CheckinPath → RepoSeen → RepoSeen
@@ -79,17 +72,6 @@ ChecksPaths object told c ps repo repo' work work' keep keep' (Ok fates) =
 ChecksPaths object told c ps repo repo' work work' keep keep' (Err send.Failed) =
     AreObjectsCut object told c ps repo repo' work work' keep keep'
 ChecksPaths object told c ps repo repo' work work' keep keep' (Err send.NoMemory) =
-    AreBrokenOff object told c ps repo repo' work work' keep keep'
-
--- the same with the index, which is kept after them
-abbrev pub KeepsAll : (List ℕ → Told) → (List ℕ → Told) → Cleaning → List Entry → List CheckinPath → RepoSeen → RepoSeen
-    → WorkSeen → WorkSeen → KeepSeen → KeepSeen → Result (Vec Fate) SendFault → Type 0
-KeepsAll object told c es ps repo repo' work work' keep keep' (Ok fates) =
-    AreKept object told c (entries_in_turn es fates.items) ps repo repo' work work' keep keep' fates.items
-KeepsAll object told c es ps repo repo' work work' keep keep' (Err send.Failed) =
-    AreObjectsCut object told c ps repo repo' work work' keep keep'
-    ⊎ IsIndexCut object told c ps repo repo' work work' keep keep'
-KeepsAll object told c es ps repo repo' work work' keep keep' (Err send.NoMemory) =
     AreBrokenOff object told c ps repo repo' work work' keep keep'
 
 -- what the drivers leave: their lines were closed, and their starters given back, in order
@@ -103,13 +85,22 @@ abbrev pub first_work : List Driver → FilesSeen → SpawnerSeen → ℕ → Wo
 first_work drivers files spawner runs =
     work_seen files (drivers_seen (replicate (length drivers) None) spawner runs)
 
--- the same as the keeping of all, with the starters given back at the end
-pub record KeepsAndLeaves (object told : List ℕ → Told) (c : Cleaning) (es : List Entry) (ps : List CheckinPath)
+-- the same as the look at all paths, with the starters given back at its end
+pub record ChecksAndLeaves (object told : List ℕ → Told) (c : Cleaning) (ps : List CheckinPath)
     (repo repo' : RepoSeen) (files files' : FilesSeen) (spawner spawner' : SpawnerSeen) (runs runs' : ℕ)
     (keep keep' : KeepSeen) (r : Result (Vec Fate) SendFault) : Type 0 where
   pub last : WorkSeen
-  pub keeps : KeepsAll object told c es ps repo repo' (first_work c.drivers files spawner runs) last keep keep' r
+  pub checks : ChecksPaths object told c ps repo repo' (first_work c.drivers files spawner runs) last keep keep' r
   pub left : IsLeft last files' spawner' runs'
+
+-- The same with the index, which is kept after that. `leaves` is what a look with this end leaves of the keeper.
+abbrev pub KeepsAfter : (KeepSeen → Result (Vec Fate) SendFault → Type 0) → List Entry → KeepSeen
+    → Result (Vec Fate) SendFault → Type 0
+KeepsAfter leaves es keep' (Ok fates) = (mid : KeepSeen) × leaves mid (Ok fates)
+    × (keep' ≡ with_index (plain_text (entries_in_turn es fates.items)) mid)
+KeepsAfter leaves es keep' (Err send.Failed) = leaves keep' (Err send.Failed)
+    ⊎ ((mid : KeepSeen) × (fates : Vec Fate) × leaves mid (Ok fates) × IsKeepFailed mid keep')
+KeepsAfter leaves es keep' (Err send.NoMemory) = leaves keep' (Err send.NoMemory)
 
 -- each changed path has a name of 20 bytes
 abbrev pub HasName : Fate → Type 0

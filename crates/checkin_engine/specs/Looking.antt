@@ -29,10 +29,10 @@ use Rattle.checkin_engine.specs.declared.fate.Fate.{Fate}
 use Rattle.checkin_engine.specs.declared.fate.Fate.TheVariants.{Same, Changed, Gone, Failed}
 use Rattle.checkin_engine.specs.declared.fate.CheckinCause.TheVariants.{Read, TooLarge, Filter}
 use Rattle.checkin_engine.specs.declared.fate.CheckinCause.TheVariants.{EncodingForm, OtherKind}
-use Rattle.checkin_engine.specs.Outside.{FilesSeen, WorkSeen, AreFailedAt}
-use Rattle.checkin_engine.specs.Fates.{max_file, is_auto, HasOldBy, HasOld, name_of, driver_of}
+use Rattle.checkin_engine.specs.Outside.{FilesSeen, WorkSeen}
+use Rattle.checkin_engine.specs.Fates.{max_file, is_auto, HasOldBy, HasOld, name_of}
 use Rattle.checkin_engine.specs.Outcomes.{Outcome, IsOutcome, IsUnread, IsOfOtherKind, is_of_other_kind}
-use Rattle.checkin_engine.specs.Outcomes.{blob_by, with_blobs}
+use Rattle.checkin_engine.specs.Outcomes.{blob_by, with_blob, with_blobs, FailsIf, IsLookedAt}
 
 -- the fate of a file with this content, by the name in the index
 abbrev pub fate_by : List ℕ → List ℕ → Fate
@@ -48,11 +48,6 @@ AnswersWithout fault answer = answer ≡ Ok (Some false)
 abbrev pub AnswersCrlf : {E : Type 0} → Result (Vec ℕ) ObjectFault → Result (Option Bool) E → Type 0
 AnswersCrlf (Ok content) answer = answer ≡ Ok (Some (has_crlf content.items))
 AnswersCrlf (Err fault) answer = AnswersWithout fault answer
-
--- a repository with the blob of that name after those that it was given back, if one was made
-abbrev pub with_blob : List ℕ → Option ℕ → RepoSeen → RepoSeen
-with_blob name None repo = repo
-with_blob name (Some count) repo = with_blobs ((name, count) ∷ []) repo
 
 -- the blob of that name failed, and was given back
 abbrev pub FailsBlob : Told → List ℕ → RepoSeen → RepoSeen → Type 0
@@ -135,11 +130,6 @@ IsUnfailedTake (Err take.TooLong) = Unit {0}
 IsUnfailedTake (Err take.Failed) = ⊥
 IsUnfailedTake (Err take.NoMemory) = Unit {0}
 
--- the files failed at a path, or they are as they were
-abbrev pub FailsIf : Bool → List ℕ → FilesSeen → FilesSeen → Type 0
-FailsIf true path files files' = AreFailedAt path files files'
-FailsIf false path files files' = files' ≡ files
-
 -- a file of another kind was found
 abbrev pub is_other_found : Found → Bool
 is_other_found find.OtherKind = true
@@ -176,7 +166,7 @@ abbrev pub Becomes : Cleaning → CheckinPath → Storing → Found → DriversS
 Becomes c p storing found old new content fate = (asked : Option Asked)
     × ComesTo p.object storing found asked content fate × AsksOne c p.path storing.driver asked old new
 
--- Memory ran out after a file was found so, which is there. Its driver was asked for its bytes, or nothing was.
+-- Memory ran out after a file was found so, which is there. Its driver was asked for its bytes, or nothing was asked.
 abbrev pub BecomesNothing : Cleaning → CheckinPath → Storing → Found → DriversSeen → DriversSeen → Type 0
 BecomesNothing c p storing (find.There bytes old) before after =
     (after ≡ before) ⊎ AsksInVain c p.path storing.driver bytes.items before after
@@ -207,10 +197,8 @@ CleansFile c path driver bytes old new (Err clean.NoMemory) = AsksInVain c path 
 pub record IsPathLookedAt (object told : List ℕ → Told) (c : Cleaning) (p : CheckinPath) (repo repo' : RepoSeen)
     (work work' : WorkSeen) (outcome : Outcome) : Type 0 where
   pub is : IsOutcome object told p outcome
-  pub back : repo' ≡ with_blob p.object outcome.blob repo
-  pub fails : FailsIf outcome.failed p.path work.files work'.files
+  pub looked : IsLookedAt c p outcome repo repo' work work'
   pub says : SaysKind outcome.failed (is_of_other_kind outcome.fate) work'.files
-  pub asks : AsksOne c p.path (driver_of p.way) outcome.asked work.drivers work'.drivers
 
 -- it came to this fate, with this content
 pub record Looks (object told : List ℕ → Told) (c : Cleaning) (p : CheckinPath) (repo repo' : RepoSeen)

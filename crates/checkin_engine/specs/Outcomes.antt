@@ -3,9 +3,7 @@ use Rattle.std.specs.Prelude.{◌≡◌, ◌⊎◌, ◌<◌, ℕ, Bool, true, fa
 use Rattle.std.specs.Prelude.{if◌then◌else◌}
 use Rattle.edge_kit.specs.Faults.{Rose}
 use Rattle.edge_kit.specs.Seen.{RepoSeen}
-use Rattle.edge_kit.specs.Told.{Told, TellsBytes, MayFail}
-use Rattle.git_index.specs.declared.entry.Entry.{Entry}
-use Rattle.git_index.specs.Spelling.{plain_text}
+use Rattle.edge_kit.specs.Told.{Told, MayFail}
 use Rattle.object_dir.specs.Spelling.{spelled_blob}
 use Rattle.eol_convert.specs.declared.action.Action.{Action}
 use Rattle.clean_drivers.specs.Drivers.{DriversSeen}
@@ -16,8 +14,9 @@ use Rattle.checkin_engine.specs.declared.path.CheckinPath.{CheckinPath}
 use Rattle.checkin_engine.specs.declared.fate.Fate.{Fate}
 use Rattle.checkin_engine.specs.declared.fate.Fate.TheVariants.{Same, Changed, Gone, Kept, Failed}
 use Rattle.checkin_engine.specs.declared.fate.CheckinCause.TheVariants.{Read, OtherKind}
-use Rattle.checkin_engine.specs.Outside.{WorkSeen, KeepSeen, IsKeepFailed, with_objects, with_index, path_if}
-use Rattle.checkin_engine.specs.Fates.{is_auto, IsThere, HasFate, driver_of}
+use Rattle.checkin_engine.specs.Outside.{WorkSeen, FilesSeen, KeepSeen, AreFailedAt, IsKeepFailed, with_objects}
+use Rattle.checkin_engine.specs.Outside.{path_if}
+use Rattle.checkin_engine.specs.Fates.{is_auto, IsThere, HasFile, HasFate, driver_of}
 use Rattle.checkin_engine.specs.Cleaning.{Asked, Cleaning, AsksOne, AsksInVain}
 
 -- What a path comes to: its fate, what its driver was asked if it was, the content of its file if it is stored, whether
@@ -123,26 +122,44 @@ objects_of (o ∷ os) = object_of o ++ objects_of os
 abbrev pub with_blobs : List (List ℕ × ℕ) → RepoSeen → RepoSeen
 with_blobs blobs repo = record repo { returned = repo.returned ++ blobs }
 
+-- a repository with the blob of that name after those that it was given back, if one was made
+abbrev pub with_blob : List ℕ → Option ℕ → RepoSeen → RepoSeen
+with_blob name None repo = repo
+with_blob name (Some count) repo = with_blobs ((name, count) ∷ []) repo
+
+-- the files failed at a path, or they are as they were
+abbrev pub FailsIf : Bool → List ℕ → FilesSeen → FilesSeen → Type 0
+FailsIf true path files files' = AreFailedAt path files files'
+FailsIf false path files files' = files' ≡ files
+
 -- the count of faults is as it was, or rose if there is a path at which the files failed
 abbrev pub HasCounted : List (List ℕ) → ℕ → ℕ → Type 0
 HasCounted [] old new = new ≡ old
 HasCounted (path ∷ paths) old new = Rose old new
 
--- the drivers of these paths were asked, one after another
-abbrev pub AreAsked : Cleaning → List CheckinPath → List Outcome → DriversSeen → DriversSeen → Type 0
-AreAsked c (p ∷ ps) (o ∷ os) old new =
-    (mid : DriversSeen) × AsksOne c p.path (driver_of p.way) o.asked old mid × AreAsked c ps os mid new
-AreAsked c ps os old new = new ≡ old
+-- a path was looked at: its blob was given back, the files failed at it if they did, and its driver was asked
+pub record IsLookedAt (c : Cleaning) (p : CheckinPath) (o : Outcome) (repo repo' : RepoSeen) (work work' : WorkSeen)
+    : Type 0 where
+  pub back : repo' ≡ with_blob p.object o.blob repo
+  pub fails : FailsIf o.failed p.path work.files work'.files
+  pub asks : AsksOne c p.path (driver_of p.way) o.asked work.drivers work'.drivers
 
--- The paths were looked at: their blobs were given back, the files failed at just these, and by the kind at just those
--- that failed by it, and their drivers were asked.
+-- The paths were looked at one after another. Before the next one is, the blob of a path was given back, and its driver
+-- asked.
+abbrev pub AreInTurn : Cleaning → List CheckinPath → List Outcome → RepoSeen → RepoSeen → WorkSeen → WorkSeen → Type 0
+AreInTurn c (p ∷ ps) (o ∷ os) repo repo' work work' = (mid : RepoSeen) × (mid_work : WorkSeen)
+    × IsLookedAt c p o repo mid work mid_work × AreInTurn c ps os mid repo' mid_work work'
+AreInTurn c ps os repo repo' work work' = (repo' ≡ repo) × (work' ≡ work)
+
+-- The paths were looked at in turn: their blobs were given back, and the files failed at just these, and by the kind at
+-- just those that failed by it.
 pub record AreLookedAt (c : Cleaning) (ps : List CheckinPath) (os : List Outcome) (repo repo' : RepoSeen)
     (work work' : WorkSeen) : Type 0 where
   pub blobs : repo' ≡ with_blobs (blobs_back ps os) repo
   pub failed : work'.files.failed ≡ work.files.failed ++ failed_paths ps os
   pub kinds : work'.files.of_other_kind ≡ work.files.of_other_kind ++ other_kinds ps os
   pub counted : HasCounted (failed_paths ps os) work.files.faults work'.files.faults
-  pub asked : AreAsked c ps os work.drivers work'.drivers
+  pub turns : AreInTurn c ps os repo repo' work work'
 
 -- the paths were looked at, in order, and the objects of the changed ones kept
 pub record AreChecked (c : Cleaning) (ps : List CheckinPath) (os : List Outcome) (repo repo' : RepoSeen)
@@ -150,16 +167,13 @@ pub record AreChecked (c : Cleaning) (ps : List CheckinPath) (os : List Outcome)
   pub looked : AreLookedAt c ps os repo repo' work work'
   pub objects : keep' ≡ with_objects (objects_of os) keep
 
--- All paths were looked at and came to these fates, the objects of the changed ones were kept, and then the index of
--- these entries.
-pub record AreKept (object told : List ℕ → Told) (c : Cleaning) (kept : List Entry) (ps : List CheckinPath)
-    (repo repo' : RepoSeen) (work work' : WorkSeen) (keep keep' : KeepSeen) (fates : List Fate) : Type 0 where
+-- all paths were looked at and came to these fates, and the objects of the changed ones were kept
+pub record ArePathsChecked (object told : List ℕ → Told) (c : Cleaning) (ps : List CheckinPath) (repo repo' : RepoSeen)
+    (work work' : WorkSeen) (keep keep' : KeepSeen) (fates : List Fate) : Type 0 where
   pub outcomes : List Outcome
   pub same : fates_of outcomes ≡ fates
   pub each : AreOutcomes object told ps outcomes
-  pub mid : KeepSeen
-  pub checked : AreChecked c ps outcomes repo repo' work work' keep mid
-  pub index : keep' ≡ with_index (plain_text kept) mid
+  pub checked : AreChecked c ps outcomes repo repo' work work' keep keep'
 
 -- The keeper failed at the object of a changed path. The objects of the paths before it were kept, and nothing else.
 pub record AreObjectsCut (object told : List ℕ → Told) (c : Cleaning) (ps : List CheckinPath) (repo repo' : RepoSeen)
@@ -176,40 +190,42 @@ pub record AreObjectsCut (object told : List ℕ → Told) (c : Cleaning) (ps : 
   pub looked : AreLookedAt c (front ++ path ∷ []) (outcomes ++ outcome ∷ []) repo repo' work work'
   pub failed : IsKeepFailed (with_objects (objects_of outcomes) keep) keep'
 
--- the keeper failed at the index, once all objects were kept
-pub record IsIndexCut (object told : List ℕ → Told) (c : Cleaning) (ps : List CheckinPath) (repo repo' : RepoSeen)
-    (work work' : WorkSeen) (keep keep' : KeepSeen) : Type 0 where
-  pub outcomes : List Outcome
-  pub each : AreOutcomes object told ps outcomes
-  pub mid : KeepSeen
-  pub checked : AreChecked c ps outcomes repo repo' work work' keep mid
-  pub failed : IsKeepFailed mid keep'
+-- the action of a path whose file is stored looks at the index's content
+abbrev pub looks_at_old : Way → Bool
+looks_at_old (way.Stored storing) = is_auto storing.action
+looks_at_old way.Kept = false
+looks_at_old way.UnknownEncoding = false
+looks_at_old way.NoProcess = false
 
--- a blob of that name was made and given back, or none was made
-abbrev pub MakesBlob : List ℕ → RepoSeen → RepoSeen → Type 0
-MakesBlob name repo repo' = (repo' ≡ repo) ⊎ (repo' ≡ with_blobs ((name, 0) ∷ []) repo)
+-- a blob of that name was made and given back, where the index's content is looked at; or none was made
+abbrev pub MakesBlob : Bool → List ℕ → RepoSeen → RepoSeen → Type 0
+MakesBlob auto name repo repo' =
+    (repo' ≡ repo) ⊎ ((auto ≡ true) × (repo' ≡ with_blobs ((name, 0) ∷ []) repo))
+
+-- The driver of a path was asked to clean the bytes of its file, and then memory ran out. Before that its blob was made
+-- and given back, if its action asks for it.
+pub record IsAskedInVain (object told : List ℕ → Told) (c : Cleaning) (p : CheckinPath) (repo repo' : RepoSeen)
+    (old new : DriversSeen) : Type 0 where
+  pub storing : Storing
+  pub stores : p.way ≡ way.Stored storing
+  pub has : HasFile (object p.object) (told p.path) p.object storing.action
+  pub back : repo' ≡ with_blob p.object (blob_by (is_auto storing.action)) repo
+  pub asks : AsksInVain c p.path storing.driver has.bytes old new
+
+-- Memory ran out at a path: its driver was asked in vain, or none was asked, and its blob may have been made.
+abbrev pub IsLeftAt : (List ℕ → Told) → (List ℕ → Told) → Cleaning → CheckinPath → RepoSeen → RepoSeen → DriversSeen
+    → DriversSeen → Type 0
+IsLeftAt object told c p repo repo' old new = ((new ≡ old) × MakesBlob (looks_at_old p.way) p.object repo repo')
+    ⊎ IsAskedInVain object told c p repo repo' old new
 
 -- the same for the first of these paths, if there is one
-abbrev pub MakesNextBlob : List CheckinPath → RepoSeen → RepoSeen → Type 0
-MakesNextBlob [] repo repo' = repo' ≡ repo
-MakesNextBlob (p ∷ ps) repo repo' = MakesBlob p.object repo repo'
-
--- the driver of a path was asked for its file, and then memory ran out
-pub record IsAskedInVain (told : List ℕ → Told) (c : Cleaning) (p : CheckinPath) (old new : DriversSeen) : Type 0 where
-  pub bytes : List ℕ
-  pub tells : TellsBytes (told p.path) bytes
-  pub asks : AsksInVain c p.path (driver_of p.way) bytes old new
-
-abbrev pub MayAsk : (List ℕ → Told) → Cleaning → CheckinPath → DriversSeen → DriversSeen → Type 0
-MayAsk told c p old new = (new ≡ old) ⊎ IsAskedInVain told c p old new
-
--- the same for the first of these paths, if there is one
-abbrev pub MayAskNext : (List ℕ → Told) → Cleaning → List CheckinPath → DriversSeen → DriversSeen → Type 0
-MayAskNext told c [] old new = new ≡ old
-MayAskNext told c (p ∷ ps) old new = MayAsk told c p old new
+abbrev pub IsLeftNext : (List ℕ → Told) → (List ℕ → Told) → Cleaning → List CheckinPath → RepoSeen → RepoSeen
+    → DriversSeen → DriversSeen → Type 0
+IsLeftNext object told c [] repo repo' old new = (new ≡ old) × (repo' ≡ repo)
+IsLeftNext object told c (p ∷ ps) repo repo' old new = IsLeftAt object told c p repo repo' old new
 
 -- Memory ran out before the index was kept. The first paths were looked at and their objects kept, and nothing else.
--- The blob of the next one may have been made and given back, and its driver asked.
+-- The next one was left.
 pub record AreBrokenOff (object told : List ℕ → Told) (c : Cleaning) (ps : List CheckinPath) (repo repo' : RepoSeen)
     (work work' : WorkSeen) (keep keep' : KeepSeen) : Type 0 where
   pub front : List CheckinPath
@@ -220,6 +236,5 @@ pub record AreBrokenOff (object told : List ℕ → Told) (c : Cleaning) (ps : L
   pub mid : RepoSeen
   pub mid_work : WorkSeen
   pub checked : AreChecked c front outcomes repo mid work mid_work keep keep'
-  pub next : MakesNextBlob after mid repo'
+  pub next : IsLeftNext object told c after mid repo' mid_work.drivers work'.drivers
   pub files_same : work'.files ≡ mid_work.files
-  pub vain : MayAskNext told c after mid_work.drivers work'.drivers

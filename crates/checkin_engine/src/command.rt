@@ -9,7 +9,7 @@ ghost use Rattle.checkin_engine.specs.Ending.{WritesLine, EndsStopped, WritesRep
 use crate::fate::Fate;
 use crate::files::Files;
 use crate::keep::Keep;
-use crate::keeping::keep_and_leave;
+use crate::keeping::keep_all;
 use crate::path::CheckinPath;
 use crate::reading::read_paths;
 use crate::report::{has_failed, report_text};
@@ -102,7 +102,7 @@ fn check_in<R: Repo, F: Files, P: Spawner, O: Once, K: Keep, S: Sink>(
         Ok(read) => read,
         Err(stop) => return stopped(alloc, out, stop),
     };
-    match keep_and_leave(alloc, repo, files, spawner, once, keep, &read) {
+    match keep_all(alloc, repo, files, spawner, once, keep, &read) {
         Ok(fates) => write_report(alloc, out, &read.paths, &fates),
         Err(SendFault::Failed) => CheckinStatus::OutputNotWritten,
         Err(SendFault::NoMemory) => CheckinStatus::OutOfMemory,
@@ -114,7 +114,8 @@ fn check_in<R: Repo, F: Files, P: Spawner, O: Once, K: Keep, S: Sink>(
 /// The words are the repository's folder, the worktree's folder and `checkin`. Each path of the index is looked at, in
 /// order. The file of one that has a filter driver is cleaned by it first: by the driver's `process`, or else by its
 /// `clean`, which runs once for each content. The object of a changed path is kept, then the index, and then the report
-/// is written. Each blob is taken back right after it was read, and each starter of a driver before the report.
+/// is written. Each blob is taken back right after it was read, before the next path is looked at, and each starter of a
+/// driver before the index is kept.
 ///
 /// It returns 0, or 1 if some path failed. 2 if the words are no check-in, 3 if the repository is refused, 4 if the
 /// keeper or the sink failed, 5 if out of memory, and 6 if a read of the repository failed.

@@ -76,7 +76,7 @@ fn read_old<R: Repo>(
     ensures told { R.told repo.new ≡ R.told repo.old }
     ensures looks { IfOk result (LooksOld true ((R.told repo.old).object name.now) name.now
         (R.seen repo.old) (R.seen repo.new)) }
-    ensures left { OnErr result (MakesBlob name.now (R.seen repo.old) (R.seen repo.new)) }
+    ensures left { OnErr result (MakesBlob true name.now (R.seen repo.old) (R.seen repo.new)) }
 {
     crlf_of(object_content(alloc, repo, name))
 }
@@ -91,7 +91,7 @@ fn old_for<R: Repo>(
     ensures told { R.told repo.new ≡ R.told repo.old }
     ensures looks { IfOk result (LooksOld (is_auto action) ((R.told repo.old).object name.now) name.now
         (R.seen repo.old) (R.seen repo.new)) }
-    ensures left { OnErr result (MakesBlob name.now (R.seen repo.old) (R.seen repo.new)) }
+    ensures left { OnErr result (MakesBlob (is_auto action) name.now (R.seen repo.old) (R.seen repo.new)) }
 {
     if is_auto(action) {
         read_old(alloc, repo, name)
@@ -125,7 +125,7 @@ fn find_there<R: Repo>(
     ensures told { R.told repo.new ≡ R.told repo.old }
     ensures finds { IfOk result (FindsThere ((R.told repo.old).object name.now) name.now action bytes
         (R.seen repo.old) (R.seen repo.new)) }
-    ensures left { OnErr result (MakesBlob name.now (R.seen repo.old) (R.seen repo.new)) }
+    ensures left { OnErr result (MakesBlob (is_auto action) name.now (R.seen repo.old) (R.seen repo.new)) }
 {
     let old = old_for(alloc, repo, action, name)?;
     Ok(found_by(old, bytes))
@@ -154,7 +154,7 @@ fn find_taken<R: Repo>(
     ensures told { R.told repo.new ≡ R.told repo.old }
     ensures finds { IfOk result (FindsTaken ((R.told repo.old).object name.now) name.now action taken by_kind
         (R.seen repo.old) (R.seen repo.new)) }
-    ensures left { OnErr result (MakesBlob name.now (R.seen repo.old) (R.seen repo.new)) }
+    ensures left { OnErr result (MakesBlob (is_auto action) name.now (R.seen repo.old) (R.seen repo.new)) }
     ensures unfailed { OnErr result (IsUnfailedTake taken) }
 {
     match taken {
@@ -181,7 +181,7 @@ pub(crate) fn find_file<R: Repo, F: Files>(
     ensures files { F.told files.new ≡ F.told files.old }
     ensures finds { IfOk result (Finds (R.told repo.old).object (F.told files.old) path.now action
         (R.seen repo.old) (R.seen repo.new) (F.seen files.old) (F.seen files.new)) }
-    ensures left { OnErr result (MakesBlob path.now.object (R.seen repo.old) (R.seen repo.new)) }
+    ensures left { OnErr result (MakesBlob (is_auto action) path.now.object (R.seen repo.old) (R.seen repo.new)) }
     ensures unfailed { OnErr result (F.seen files.new ≡ F.seen files.old) }
 {
     let Ok(name) = str::from_utf8(path.path.as_slice()) else {

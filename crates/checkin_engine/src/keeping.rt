@@ -7,7 +7,7 @@ ghost use Rattle.checkin_engine.specs.Outside.{work_seen, KeepsIndex};
 ghost use Rattle.checkin_engine.specs.Cleaning.{cleaning};
 ghost use Rattle.checkin_engine.specs.InTurn.{entries_in_turn};
 ghost use Rattle.checkin_engine.specs.Looking.{IsOpen};
-ghost use Rattle.checkin_engine.specs.Keeping.{ChecksPath, ChecksPaths, KeepsAll, KeepsAndLeaves};
+ghost use Rattle.checkin_engine.specs.Keeping.{ChecksPath, ChecksPaths, ChecksAndLeaves, KeepsAfter};
 ghost use Rattle.checkin_engine.specs.Keeping.{KeepsStored, HaveNames};
 
 use crate::cleaning::Visit;
@@ -148,57 +148,51 @@ fn keep_index<K: Keep>(
     keep.index(&text)
 }
 
-/// Looks at all paths that were read, keeps the objects of the changed ones, and then the index.
-fn keep_all<R: Repo, F: Files, P: Spawner, O: Once, K: Keep>(
+/// Looks at all paths that were read, and keeps the objects of the changed ones. Each starter of a driver is given back
+/// then.
+fn check_and_leave<R: Repo, F: Files, P: Spawner, O: Once, K: Keep>(
     alloc: Global,
     repo: &mut R,
     files: &mut F,
-    lines: &mut CleanDrivers<P::Starter>,
     spawner: &mut P,
     once: &mut O,
     keep: &mut K,
     read: &PathsRead,
 ) -> Result<Vec<Fate>, SendFault>
-    requires are_open { AllByRecursion (IsOpen (length lines.old.lines)) read.now.paths.items }
+    requires are_open { AllByRecursion (IsOpen (length read.now.drivers)) read.now.paths.items }
     requires few { length read.now.paths.items < 2 ^ 32 }
-    requires fresh { lines.old.asked ≡ 0 }
-    requires stand { CanStand read.now.index }
     ensures told { R.told repo.new ≡ R.told repo.old }
     ensures files { F.told files.new ≡ F.told files.old }
     ensures starts { P.told spawner.new ≡ P.told spawner.old }
     ensures runs { O.told once.new ≡ O.told once.old }
-    ensures keeps { KeepsAll (R.told repo.old).object (F.told files.old)
-        (cleaning read.now.drivers (P.told spawner.old) (O.told once.old)) read.now.index read.now.paths.items
-        (R.seen repo.old) (R.seen repo.new)
-        (work_seen (F.seen files.old) (drivers_seen lines.old.lines (P.seen spawner.old) (O.faults once.old)))
-        (work_seen (F.seen files.new) (drivers_seen lines.new.lines (P.seen spawner.new) (O.faults once.new)))
+    ensures checks { ChecksAndLeaves (R.told repo.old).object (F.told files.old)
+        (cleaning read.now.drivers (P.told spawner.old) (O.told once.old)) read.now.paths.items
+        (R.seen repo.old) (R.seen repo.new) (F.seen files.old) (F.seen files.new)
+        (P.seen spawner.old) (P.seen spawner.new) (O.faults once.old) (O.faults once.new)
         (K.seen keep.old) (K.seen keep.new) result }
-    ensures out { (P.seen spawner.new).out + lines_out lines.old.lines
-        ≡ (P.seen spawner.old).out + lines_out lines.new.lines }
+    ensures out { (P.seen spawner.new).out ≡ (P.seen spawner.old).out }
 {
     let drivers = read.drivers.as_slice();
-    let fates = match check_in_paths(
+    let Ok(mut lines) = CleanDrivers::new(alloc, drivers.len()) else {
+        return Err(SendFault::NoMemory);
+    };
+    let checked = check_in_paths(
         alloc,
         repo,
         files,
-        lines,
+        &mut lines,
         spawner,
         once,
         keep,
         drivers,
         &read.paths,
-    ) {
-        Ok(fates) => fates,
-        Err(fault) => return Err(fault),
-    };
-    match keep_index(alloc, keep, read.index.entries(), &fates) {
-        Ok(()) => Ok(fates),
-        Err(fault) => Err(fault),
-    }
+    );
+    give_back(lines, spawner);
+    checked
 }
 
-/// The same with the drivers of the configuration. Each starter is given back at the end.
-pub fn keep_and_leave<R: Repo, F: Files, P: Spawner, O: Once, K: Keep>(
+/// The same, and then the index is kept.
+pub fn keep_all<R: Repo, F: Files, P: Spawner, O: Once, K: Keep>(
     alloc: Global,
     repo: &mut R,
     files: &mut F,
@@ -214,17 +208,19 @@ pub fn keep_and_leave<R: Repo, F: Files, P: Spawner, O: Once, K: Keep>(
     ensures files { F.told files.new ≡ F.told files.old }
     ensures starts { P.told spawner.new ≡ P.told spawner.old }
     ensures runs { O.told once.new ≡ O.told once.old }
-    ensures keeps { KeepsAndLeaves (R.told repo.old).object (F.told files.old)
-        (cleaning read.now.drivers (P.told spawner.old) (O.told once.old)) read.now.index read.now.paths.items
+    ensures keeps { KeepsAfter (ChecksAndLeaves (R.told repo.old).object (F.told files.old)
+        (cleaning read.now.drivers (P.told spawner.old) (O.told once.old)) read.now.paths.items
         (R.seen repo.old) (R.seen repo.new) (F.seen files.old) (F.seen files.new)
-        (P.seen spawner.old) (P.seen spawner.new) (O.faults once.old) (O.faults once.new)
-        (K.seen keep.old) (K.seen keep.new) result }
+        (P.seen spawner.old) (P.seen spawner.new) (O.faults once.old) (O.faults once.new) (K.seen keep.old))
+        read.now.index (K.seen keep.new) result }
     ensures out { (P.seen spawner.new).out ≡ (P.seen spawner.old).out }
 {
-    let Ok(mut lines) = CleanDrivers::new(alloc, read.drivers.as_slice().len()) else {
-        return Err(SendFault::NoMemory);
+    let fates = match check_and_leave(alloc, repo, files, spawner, once, keep, read) {
+        Ok(fates) => fates,
+        Err(fault) => return Err(fault),
     };
-    let kept = keep_all(alloc, repo, files, &mut lines, spawner, once, keep, read);
-    give_back(lines, spawner);
-    kept
+    match keep_index(alloc, keep, read.index.entries(), &fates) {
+        Ok(()) => Ok(fates),
+        Err(fault) => Err(fault),
+    }
 }

@@ -3,7 +3,7 @@ ghost use Rattle.std.specs.Prelude.{◌≡◌, ◌≤◌, ◌<◌, ◌+◌, ◌^
 ghost use Rattle.clean_drivers.specs.Drivers.{drivers_seen, lines_out};
 ghost use Rattle.checkin_engine.specs.declared.fate.Fate.TheVariants.{Failed};
 ghost use Rattle.checkin_engine.specs.Outside.{work_seen};
-ghost use Rattle.checkin_engine.specs.Outcomes.{MakesBlob, MayAsk};
+ghost use Rattle.checkin_engine.specs.Outcomes.{IsLeftAt};
 ghost use Rattle.checkin_engine.specs.Cleaning.{cleaning};
 ghost use Rattle.checkin_engine.specs.Looking.{fate_by, IsStoredSo, IsCleanedFate, Becomes};
 ghost use Rattle.checkin_engine.specs.Looking.{BecomesNothing, Looks, IsAskableBy, IsOpen};
@@ -164,10 +164,10 @@ pub fn look_at<R: Repo, F: Files, P: Spawner, O: Once>(
         (work_seen (F.seen files.old) (drivers_seen lines.old.lines (P.seen spawner.old) (O.faults once.old)))
         (work_seen (F.seen files.new) (drivers_seen lines.new.lines (P.seen spawner.new) (O.faults once.new)))
         l.content.items l.fate) }
-    ensures left { OnErr result (MakesBlob visit.now.path.now.object (R.seen repo.old) (R.seen repo.new)) }
     ensures unfailed { OnErr result (F.seen files.new ≡ F.seen files.old) }
-    ensures vain { OnErr result (MayAsk (F.told files.old)
+    ensures left { OnErr result (IsLeftAt (R.told repo.old).object (F.told files.old)
         (cleaning visit.now.drivers.now (P.told spawner.old) (O.told once.old)) visit.now.path.now
+        (R.seen repo.old) (R.seen repo.new)
         (drivers_seen lines.old.lines (P.seen spawner.old) (O.faults once.old))
         (drivers_seen lines.new.lines (P.seen spawner.new) (O.faults once.new))) }
     ensures asked { lines.new.asked ≤ lines.old.asked + 1 }

@@ -7,7 +7,7 @@ use Rattle.checkin_engine.proofs.Kept.{path_fails}
 use Rattle.checkin_engine.proofs.keeping.check_in_path.Goals as goal
 
 pub returns-in-Err-clause-checks : goal.returns-in-Err-clause-checks
-returns-in-Err-clause-checks g c = record { blob = c.in-Err.ensures.left; files_same = c.in-Err.ensures.unfailed; vain = c.in-Err.ensures.vain; keep_same = refl }
+returns-in-Err-clause-checks g c = record { left = c.in-Err.ensures.left; files_same = c.in-Err.ensures.unfailed; keep_same = refl }
 
 pub returns-in-Ok-keep_changed-clause-checks : goal.returns-in-Ok-keep_changed-clause-checks
 returns-in-Ok-keep_changed-clause-checks g c =

@@ -5,7 +5,7 @@ use Rattle.checkin_engine.specs.declared.fate.Fate.{Fate}
 use Rattle.checkin_engine.specs.declared.path.CheckinPath.{CheckinPath}
 use Rattle.checkin_engine.specs.Outside.{work_seen}
 use Rattle.checkin_engine.specs.Cleaning.{cleaning}
-use Rattle.checkin_engine.specs.Keeping.{ArePathsChecked}
+use Rattle.checkin_engine.specs.Outcomes.{ArePathsChecked}
 use Rattle.checkin_engine.specs.Looking.{IsOpen}
 use Rattle.checkin_engine.proofs.Checked.{none_checked, open_at, left_before}
 use Rattle.checkin_engine.proofs.Kept.{told_cleaning, goes_on, paths_fail, breaks_behind}

@@ -2,7 +2,7 @@ use Rattle.std.proofs.Common.{◌≡◌, ◌+◌, ◌≤◌, length, take}
 use Rattle.clean_drivers.specs.Drivers.{drivers_seen, lines_out}
 use Rattle.checkin_engine.specs.Outside.{work_seen}
 use Rattle.checkin_engine.specs.Cleaning.{cleaning}
-use Rattle.checkin_engine.specs.Keeping.{ArePathsChecked}
+use Rattle.checkin_engine.specs.Outcomes.{ArePathsChecked}
 use Rattle.checkin_engine.proofs.keeping.check_in_paths.Given as goal
 
 abbrev pub invariant-loop-path : goal.invariant-loop-path

@@ -16,14 +16,10 @@ pub returns-clause-looks : goal.returns-clause-looks
 returns-clause-looks g c =
     found_comes _ _ _ c.args.visit.now.path.now c.in-Stored.storing c.in-Stored.is _ _ _ _ _ _ _ c.in_ok-found.found c.found_fate.result c.in_ok-found.ensures.finds c.found_fate.ensures.becomes
 
-pub returns-clause-left : goal.returns-clause-left
-returns-clause-left g c =
-    (found_leaves _ _ _ c.args.visit.now.path.now c.in-Stored.storing c.in-Stored.is _ _ _ _ _ _ _ c.in_ok-found.found c.found_fate.result c.in_ok-found.ensures.finds c.found_fate.ensures.vain).0
-
 pub returns-clause-unfailed : goal.returns-clause-unfailed
 returns-clause-unfailed g c =
-    (found_leaves _ _ _ c.args.visit.now.path.now c.in-Stored.storing c.in-Stored.is _ _ _ _ _ _ _ c.in_ok-found.found c.found_fate.result c.in_ok-found.ensures.finds c.found_fate.ensures.vain).1
+    (found_leaves _ _ _ c.args.visit.now.path.now c.in-Stored.storing c.in-Stored.is _ _ _ _ _ _ _ c.in_ok-found.found c.found_fate.result c.in_ok-found.ensures.finds c.found_fate.ensures.vain).0
 
-pub returns-clause-vain : goal.returns-clause-vain
-returns-clause-vain g c =
-    (found_leaves _ _ _ c.args.visit.now.path.now c.in-Stored.storing c.in-Stored.is _ _ _ _ _ _ _ c.in_ok-found.found c.found_fate.result c.in_ok-found.ensures.finds c.found_fate.ensures.vain).2
+pub returns-clause-left : goal.returns-clause-left
+returns-clause-left g c =
+    (found_leaves _ _ _ c.args.visit.now.path.now c.in-Stored.storing c.in-Stored.is _ _ _ _ _ _ _ c.in_ok-found.found c.found_fate.result c.in_ok-found.ensures.finds c.found_fate.ensures.vain).1
