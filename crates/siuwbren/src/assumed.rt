@@ -25,22 +25,33 @@ fn assumed_of(
     Ok(held)
 }
 
+/// The index of the repository as it is spelled, if it can be read.
+fn spelled_index(repo: &mut GitRepo) -> Option<Vec<u8>> {
+    repo.index_bytes(MOST_INDEX).ok()?
+}
+
+/// Has the repository give this index with skip-worktree at each of these entries that has assume-valid.
+fn hold_in(
+    rt: HostRuntime,
+    repo: &mut GitRepo,
+    entries: &[Entry],
+    spelled: &[u8],
+) -> Result<Vec<HeldEntry>, AllocError> {
+    let Some(raw) = RawIndex::read(rt.alloc(), spelled)? else {
+        return Ok(Vec::new(rt.alloc()));
+    };
+    let held = assumed_of(rt.alloc(), entries, &raw)?;
+    if !held.is_empty() {
+        repo.take_index(raw.with_assumed_sparse(rt.alloc())?);
+    }
+    Ok(held)
+}
+
 /// Has the repository give its index with skip-worktree at each entry that has assume-valid, so that a check-in keeps it.
 /// The keeper gives these entries their marks back.
 pub fn hold_assumed(rt: HostRuntime, repo: &mut GitRepo) -> Result<Vec<HeldEntry>, AllocError> {
-    let alloc = rt.alloc();
-    let Some(index) = index_of(rt, repo) else {
-        return Ok(Vec::new(alloc));
+    let (Some(index), Some(spelled)) = (index_of(rt, repo), spelled_index(repo)) else {
+        return Ok(Vec::new(rt.alloc()));
     };
-    let Ok(Some(bytes)) = repo.index_bytes(MOST_INDEX) else {
-        return Ok(Vec::new(alloc));
-    };
-    let Some(raw) = RawIndex::read(alloc, bytes.as_slice())? else {
-        return Ok(Vec::new(alloc));
-    };
-    let held = assumed_of(alloc, index.entries(), &raw)?;
-    if !held.is_empty() {
-        repo.take_index(raw.with_assumed_sparse(alloc)?);
-    }
-    Ok(held)
+    hold_in(rt, repo, index.entries(), spelled.as_slice())
 }

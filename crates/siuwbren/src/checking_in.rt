@@ -5,7 +5,7 @@ use crate::engine_words::checkin_words;
 use crate::kept_notes::show_kept;
 use crate::own_index::{links_of, refuse_guarded};
 use crate::worktree::{refused_tree, tree_of};
-use checkin_edge::{FolderFiles, FolderKeep, ObjectForm};
+use checkin_edge::{FolderFiles, FolderKeep, HeldEntry, ObjectForm};
 use checkout_engine::ExitStatus;
 use edge_adapters::ProcessSpawner;
 use git_edge::GitRepo;
@@ -21,11 +21,28 @@ fn new_index(rt: HostRuntime, repo: &GitRepo) -> Result<String, AllocError> {
     format!(in rt.alloc(); "{}-checkin", repo.index_file())
 }
 
-/// What keeps objects among those of a repository, and an index beside its own. It touches nothing.
-fn keep_of(rt: HostRuntime, repo: &GitRepo) -> Result<FolderKeep, AllocError> {
+/// What keeps objects among those of a repository, and an index beside its own with these entries as they were. It
+/// touches nothing.
+fn keep_of(
+    rt: HostRuntime,
+    repo: &GitRepo,
+    held: Vec<HeldEntry>,
+) -> Result<FolderKeep, AllocError> {
     let objects = String::from_str(rt.alloc(), repo.objects())?;
     let index = new_index(rt, repo)?;
-    Ok(FolderKeep::new(rt, objects, index, ObjectForm::Zlib))
+    Ok(FolderKeep::new(rt, objects, index, ObjectForm::Zlib).holding(held))
+}
+
+/// The files of a folder, with the links that the index has.
+fn files_of(rt: HostRuntime, repo: &mut GitRepo, tree: &str) -> Result<FolderFiles, AllocError> {
+    let links = links_of(rt, repo)?;
+    let folder = String::from_str(rt.alloc(), tree)?;
+    Ok(FolderFiles::new(rt, folder).of_links(links))
+}
+
+/// What starts the drivers of a repository.
+fn spawner_of(rt: HostRuntime, repo: &GitRepo) -> Result<ProcessSpawner, AllocError> {
+    ProcessSpawner::in_place(rt, repo.driver_place()?)
 }
 
 /// Checks in the files of a folder into a repository that is open.
@@ -36,11 +53,10 @@ fn check_in_with<H: Threads + Wait + Sync>(
     repo: &mut GitRepo,
 ) -> Result<u8, AllocError> {
     let held = hold_assumed(rt, repo)?;
-    let spawner = ProcessSpawner::in_place(rt, repo.driver_place()?)?;
+    let keep = keep_of(rt, repo, held)?;
+    let files = files_of(rt, repo, tree)?;
     let words = checkin_words(rt.alloc(), repo.git_dir(), tree)?;
-    let links = links_of(rt, repo)?;
-    let files = FolderFiles::new(rt, String::from_str(rt.alloc(), tree)?).of_links(links);
-    let keep = keep_of(rt, repo)?.holding(held);
+    let spawner = spawner_of(rt, repo)?;
     let ended = check_in(rt, threads, words.as_slice(), repo, spawner, files, keep)?;
     ended.show_notes(rt);
     Ok(ended.end())

@@ -9,7 +9,7 @@ use checkout_engine::{ExitStatus, run};
 use edge_adapters::ProcessSpawner;
 use edge_kit::{Gate, Point, Spawner};
 use git_edge::GitRepo;
-use git_tree::GitTree;
+use git_tree::{Driven, GitTree, Keeps};
 use one_shot::OnceSpawner;
 use program_kit::{
     CountingTree, EndedCheckout, JournalFile, Progress, has_terminal, show_drivers, show_errors,
@@ -78,6 +78,14 @@ fn explain(rt: HostRuntime, status: u8, is_quiet: bool, repo: &mut GitRepo) {
     }
 }
 
+/// The worktree in this folder, and whether a driver has answered, which they share.
+fn tree_of(rt: HostRuntime, folder: &str, keeps: Keeps) -> Result<(GitTree, Driven), AllocError> {
+    let driven = Arc::new(rt.alloc(), AtomicBool::new(false))?;
+    let shared = Arc::try_clone(&driven)?;
+    let folder = String::from_str(rt.alloc(), folder)?;
+    Ok((GitTree::new(rt, folder, keeps, shared), driven))
+}
+
 /// Checks out a repository that is open, with this spawner of its drivers.
 fn check_out_with<P: Spawner, H: Threads + Wait + Sync>(
     rt: HostRuntime,
@@ -87,17 +95,15 @@ fn check_out_with<P: Spawner, H: Threads + Wait + Sync>(
     spawner: &mut P,
 ) -> Result<Left, AllocError> {
     let words = checkout_words(rt.alloc(), repo.git_dir(), asked.tree, asked.workers)?;
-    let folder = String::from_str(rt.alloc(), asked.tree)?;
+    let (tree, driven) = tree_of(rt, asked.tree, repo.keeps())?;
     let leaves = AtomicU32::new(0);
     let progress = Progress::new(rt, &leaves, is_shown(rt, asked.progress));
-    let driven = Arc::new(rt.alloc(), AtomicBool::new(false))?;
-    let shared = Arc::try_clone(&driven)?;
     let gate = DriverGate {
         progress: &progress,
         driven: &driven,
     };
     let mut tree = CountingTree {
-        tree: GitTree::new(rt, folder, repo.keeps(), shared),
+        tree,
         leaves: &leaves,
     };
     let mut out = sink_of(rt, asked.form);
@@ -139,36 +145,30 @@ fn check_out_of<H: Threads + Wait + Sync>(
     left
 }
 
-/// Checks out a repository into an empty folder. No process of git is left running.
+/// Checks out a repository into an empty folder, and writes its journal, if there is to be one.
 fn check_out_all<H: Threads + Wait + Sync>(
     rt: HostRuntime,
     threads: &H,
     asked: &Checkout<'_>,
-    mut repo: GitRepo,
+    repo: &mut GitRepo,
     journal: Option<JournalFile>,
 ) -> Result<u8, AllocError> {
-    let left = check_out_of(rt, threads, asked, &mut repo);
-    if let Ok(left) = &left {
-        explain(rt, left.status, asked.quiet, &mut repo);
-        if let Some(journal) = journal {
-            journal.end(&mut repo, left.ended());
-        }
+    let left = check_out_of(rt, threads, asked, repo)?;
+    explain(rt, left.status, asked.quiet, repo);
+    if let Some(journal) = journal {
+        journal.end(repo, left.ended());
     }
-    repo.end();
-    Ok(left?.status)
+    Ok(left.status)
 }
 
 /// Checks out a repository into an empty folder, if its journal can be made where it is to be.
-pub fn check_out<H: Threads + Wait + Sync>(
+fn check_out_words<H: Threads + Wait + Sync>(
     rt: HostRuntime,
     threads: &H,
     asked: &Checkout<'_>,
+    repo: &mut GitRepo,
 ) -> Result<u8, AllocError> {
-    let mut repo = match GitRepo::open(rt, asked.git_dir, asked.commit) {
-        Ok(repo) => repo,
-        Err(fault) => return Ok(refuse_repository(rt, &fault)),
-    };
-    if let Some(status) = refuse_guarded(rt, &mut repo, asked.form)? {
+    if let Some(status) = refuse_guarded(rt, repo, asked.form)? {
         return Ok(status);
     }
     let Some(path) = asked.journal else {
@@ -177,5 +177,21 @@ pub fn check_out<H: Threads + Wait + Sync>(
     match journal_file(rt, path)? {
         Some(journal) => check_out_all(rt, threads, asked, repo, Some(journal)),
         None => Ok(ExitStatus::Usage.number()),
+    }
+}
+
+/// Checks out a repository into an empty folder. No process of git is left running.
+pub fn check_out<H: Threads + Wait + Sync>(
+    rt: HostRuntime,
+    threads: &H,
+    asked: &Checkout<'_>,
+) -> Result<u8, AllocError> {
+    match GitRepo::open(rt, asked.git_dir, asked.commit) {
+        Ok(mut repo) => {
+            let status = check_out_words(rt, threads, asked, &mut repo);
+            repo.end();
+            status
+        }
+        Err(fault) => Ok(refuse_repository(rt, &fault)),
     }
 }

@@ -81,13 +81,9 @@ fn lost_with(signature: [u8; 4]) -> Option<&'static str> {
     Some("an extension that isn't known")
 }
 
-/// Says what the new index is without.
-fn show_lost(rt: HostRuntime, index: &[u8]) -> Result<(), AllocError> {
-    let Some(raw) = RawIndex::read(rt.alloc(), index)? else {
-        return Ok(());
-    };
-    let signatures = raw.extensions(rt.alloc())?;
-    for signature in signatures.iter() {
+/// Says what the new index is without, of these extensions of the old one.
+fn show_lost_ones(rt: HostRuntime, signatures: &[[u8; 4]]) -> Result<(), AllocError> {
+    for signature in signatures {
         if let Some(words) = lost_with(*signature) {
             let text = format!(in rt.alloc(); "note: the new index is without {words}")?;
             say(rt, text.as_str());
@@ -96,14 +92,29 @@ fn show_lost(rt: HostRuntime, index: &[u8]) -> Result<(), AllocError> {
     Ok(())
 }
 
-/// Says of a check-in of this folder what git would do otherwise, and what the new index is without.
-pub fn show_kept(rt: HostRuntime, repo: &mut GitRepo, tree: &str) -> Result<(), AllocError> {
-    let Some(index) = index_of(rt, repo) else {
+/// Says what the new index is without.
+fn show_lost(rt: HostRuntime, index: &[u8]) -> Result<(), AllocError> {
+    let Some(raw) = RawIndex::read(rt.alloc(), index)? else {
         return Ok(());
     };
-    show_paths(rt, tree, index.entries())?;
+    let signatures = raw.extensions(rt.alloc())?;
+    show_lost_ones(rt, signatures.as_slice())
+}
+
+/// Says what the new index of this repository is without.
+fn show_lost_of(rt: HostRuntime, repo: &mut GitRepo) -> Result<(), AllocError> {
     match repo.index_bytes(MOST_INDEX) {
         Ok(Some(bytes)) => show_lost(rt, bytes.as_slice()),
         _ => Ok(()),
     }
+}
+
+/// Says of a check-in of this folder what git would do otherwise, and what the new index is without.
+pub fn show_kept(rt: HostRuntime, repo: &mut GitRepo, tree: &str) -> Result<(), AllocError> {
+    let shown = match index_of(rt, repo) {
+        Some(index) => show_paths(rt, tree, index.entries()),
+        None => return Ok(()),
+    };
+    shown?;
+    show_lost_of(rt, repo)
 }

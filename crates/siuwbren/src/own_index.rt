@@ -9,7 +9,7 @@ use edge_kit::{Repo, SendFault, Sink};
 use git_edge::{GitRepo, Guards};
 use git_index::{Entry, Index, Mode, read_index};
 use report_forms::ReportForm;
-use std::alloc::AllocError;
+use std::alloc::{AllocError, Global};
 
 /// The most bytes of an index that is read.
 pub const MOST_INDEX: u64 = 67_108_864;
@@ -20,17 +20,24 @@ pub fn index_of(rt: HostRuntime, repo: &mut GitRepo) -> Option<Index> {
     read_index(rt.alloc(), bytes.as_slice()).ok()
 }
 
-/// The links of the repository's index.
-pub fn links_of(rt: HostRuntime, repo: &mut GitRepo) -> Result<IndexLinks, AllocError> {
-    let mut paths = Vec::new(rt.alloc());
-    if let Some(index) = index_of(rt, repo) {
-        for entry in index.entries() {
-            if matches!(entry.mode, Mode::Link) {
-                paths.push(Bytes::copy_of(rt.alloc(), entry.path.as_slice())?)?;
-            }
+/// The paths of the links among these entries.
+fn links_in(alloc: Global, entries: &[Entry]) -> Result<Vec<Bytes>, AllocError> {
+    let mut paths = Vec::new(alloc);
+    for entry in entries {
+        if matches!(entry.mode, Mode::Link) {
+            paths.push(Bytes::copy_of(alloc, entry.path.as_slice())?)?;
         }
     }
+    Ok(paths)
+}
+
+/// The links of the repository's index.
+pub fn links_of(rt: HostRuntime, repo: &mut GitRepo) -> Result<IndexLinks, AllocError> {
     let kept = repo.keeps().links;
+    let paths = match index_of(rt, repo) {
+        Some(index) => links_in(rt.alloc(), index.entries())?,
+        None => Vec::new(rt.alloc()),
+    };
     Ok(IndexLinks { paths, kept })
 }
 
@@ -66,6 +73,22 @@ fn refuse(
     Ok(ExitStatus::Refused)
 }
 
+/// The status if one of these entries has a path that is one of git's own on a guarded file system.
+fn refuse_entries(
+    rt: HostRuntime,
+    entries: &[Entry],
+    guards: Guards,
+    form: ReportForm,
+) -> Result<Option<u8>, AllocError> {
+    for (number, entry) in entries.iter().enumerate() {
+        if is_guarded_entry(entry, guards) {
+            let status = refuse(rt, number, entry, form)?;
+            return Ok(Some(end_with(rt, status.number())));
+        }
+    }
+    Ok(None)
+}
+
 /// The status if the index has a path that is one of git's own on a guarded file system: the folder `.git`, or a link
 /// `.gitmodules`. The first such entry is refused, before anything is done.
 pub fn refuse_guarded(
@@ -73,15 +96,9 @@ pub fn refuse_guarded(
     repo: &mut GitRepo,
     form: ReportForm,
 ) -> Result<Option<u8>, AllocError> {
-    let Some(index) = index_of(rt, repo) else {
-        return Ok(None);
-    };
     let guards = repo.guards();
-    for (number, entry) in index.entries().iter().enumerate() {
-        if is_guarded_entry(entry, guards) {
-            let status = refuse(rt, number, entry, form)?;
-            return Ok(Some(end_with(rt, status.number())));
-        }
+    match index_of(rt, repo) {
+        Some(index) => refuse_entries(rt, index.entries(), guards, form),
+        None => Ok(None),
     }
-    Ok(None)
 }

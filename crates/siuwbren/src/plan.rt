@@ -8,21 +8,32 @@ use program_kit::show_refused_path;
 use siuwbren_words::PlanWords;
 use std::alloc::AllocError;
 
-/// Shows what a checkout of a repository's index would do.
-pub fn show_plan(rt: HostRuntime, asked: &PlanWords<'_>) -> Result<u8, AllocError> {
-    let mut repo = match GitRepo::open(rt, asked.git_dir, None) {
-        Ok(repo) => repo,
-        Err(fault) => return Ok(refuse_repository(rt, &fault)),
-    };
-    if let Some(status) = refuse_guarded(rt, &mut repo, asked.form)? {
+/// Shows what a checkout of a repository that is open would do.
+fn show_plan_of(
+    rt: HostRuntime,
+    asked: &PlanWords<'_>,
+    repo: &mut GitRepo,
+) -> Result<u8, AllocError> {
+    if let Some(status) = refuse_guarded(rt, repo, asked.form)? {
         return Ok(status);
     }
     let mut out = sink_of(rt, asked.form);
-    let status = plan_text(rt.alloc(), &mut repo, &mut out);
-    end_run(rt, status, &repo);
+    let status = plan_text(rt.alloc(), repo, &mut out);
+    end_run(rt, status, repo);
     if status == ExitStatus::Refused.number() {
-        show_refused_path(rt, &mut repo);
+        show_refused_path(rt, repo);
     }
-    repo.end();
     Ok(status)
+}
+
+/// Shows what a checkout of a repository's index would do.
+pub fn show_plan(rt: HostRuntime, asked: &PlanWords<'_>) -> Result<u8, AllocError> {
+    match GitRepo::open(rt, asked.git_dir, None) {
+        Ok(mut repo) => {
+            let status = show_plan_of(rt, asked, &mut repo);
+            repo.end();
+            status
+        }
+        Err(fault) => Ok(refuse_repository(rt, &fault)),
+    }
 }

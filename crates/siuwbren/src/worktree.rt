@@ -100,6 +100,55 @@ fn found_top(
     repo.worktree()
 }
 
+/// Refuses a folder that is one of the worktree with this top, if it is.
+fn refused_subfolder(
+    rt: HostRuntime,
+    tree: &str,
+    top: &str,
+    entries: &[Entry],
+) -> Result<Option<ExitStatus>, AllocError> {
+    if !is_subfolder(rt, tree, top, entries) {
+        return Ok(None);
+    }
+    let text = format!(in rt.alloc(); "error: TREE is a folder of the worktree {top}: name that")?;
+    say(rt, text.as_str());
+    Ok(Some(ExitStatus::NotEmpty))
+}
+
+/// Refuses a folder that has no file of the index, if that isn't allowed.
+fn refused_empty(
+    rt: HostRuntime,
+    tree: &str,
+    entries: &[Entry],
+    asked: &CheckinWords<'_>,
+) -> Result<Option<ExitStatus>, AllocError> {
+    if asked.allow_empty || has_some(rt, tree, entries)? {
+        return Ok(None);
+    }
+    say(rt, "error: no file of the index is in TREE");
+    say(
+        rt,
+        "hint: with --allow-empty all its paths are taken for deleted",
+    );
+    Ok(Some(ExitStatus::NotEmpty))
+}
+
+/// Refuses a folder that is a part of the worktree with this top, or has no file of the index.
+fn refused_part(
+    rt: HostRuntime,
+    tree: &str,
+    top: Option<String>,
+    entries: &[Entry],
+    asked: &CheckinWords<'_>,
+) -> Result<Option<ExitStatus>, AllocError> {
+    if let Some(top) = top {
+        if let Some(status) = refused_subfolder(rt, tree, top.as_str(), entries)? {
+            return Ok(Some(status));
+        }
+    }
+    refused_empty(rt, tree, entries, asked)
+}
+
 /// The status if the folder can't be checked in: it is none, is a part of the worktree, or has no file of the index.
 /// Standard error says why.
 pub fn refused_tree(
@@ -115,25 +164,9 @@ pub fn refused_tree(
         );
         return Ok(Some(ExitStatus::ReadFault));
     }
-    let Some(index) = index_of(rt, repo) else {
-        return Ok(None);
-    };
-    if let Some(top) = found_top(rt, repo, asked)? {
-        if is_subfolder(rt, tree, top.as_str(), index.entries()) {
-            let text = format!(in rt.alloc();
-                "error: TREE is a folder of the worktree {top}: name that"
-            )?;
-            say(rt, text.as_str());
-            return Ok(Some(ExitStatus::NotEmpty));
-        }
+    let top = found_top(rt, repo, asked)?;
+    match index_of(rt, repo) {
+        Some(index) => refused_part(rt, tree, top, index.entries(), asked),
+        None => Ok(None),
     }
-    if asked.allow_empty || has_some(rt, tree, index.entries())? {
-        return Ok(None);
-    }
-    say(rt, "error: no file of the index is in TREE");
-    say(
-        rt,
-        "hint: with --allow-empty all its paths are taken for deleted",
-    );
-    Ok(Some(ExitStatus::NotEmpty))
 }
