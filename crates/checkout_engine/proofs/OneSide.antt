@@ -11,17 +11,16 @@ use Rattle.settings_view.specs.declared.view.Driver.{Driver}
 use Rattle.filter_words.specs.declared.reply.Reply.TheVariants as reply
 use Rattle.delay_table.specs.Table.{contains}
 use Rattle.checkout_core.specs.declared.event.Event.{Event}
-use Rattle.checkout_core.specs.declared.path.Heard.TheVariants as heard
 use Rattle.checkout_core.specs.declared.path.Start.{Start}
 use Rattle.checkout_core.specs.declared.path.Start.TheVariants as start
 use Rattle.checkout_core.specs.declared.verdict.Verdict.{Verdict}
 use Rattle.checkout_core.specs.States.{is_at}
-use Rattle.checkout_core.specs.Fates.{Known, heard_by}
+use Rattle.checkout_core.specs.Fates.{heard_by}
 use Rattle.git_index.specs.Spelling.{pairwise}
 use Rattle.driver_desk.specs.Serving.{HasAnswer}
 use Rattle.driver_line.specs.Conversations.{Exchange, NoStart, NoRoom, Opening, First, Listing, Second, Shutting}
 use Rattle.driver_line.specs.OneContent.{OneContent, HasGiven, Gives}
-use Rattle.driver_line.specs.SameHeard.{NoneFailed, IsToldTalk, content_of, fate_in}
+use Rattle.driver_line.specs.SameHeard.{NoneFailed, IsToldTalk, content_of}
 use Rattle.driver_line.specs.ToldStarts.{GoBy}
 use Rattle.checkout_plan.specs.declared.path_plan.PathPlan.{PathPlan}
 use Rattle.checkout_engine.specs.Alike.{IsTold}

@@ -22,11 +22,10 @@ use Rattle.checkout_core.specs.declared.verdict.Verdict.{Verdict}
 use Rattle.checkout_core.specs.declared.verdict.Verdict.TheVariants as verdict
 use Rattle.checkout_core.specs.declared.verdict.FailCause.TheVariants as fail
 use Rattle.checkout_core.specs.declared.verdict.ObjectKind.{ObjectKind}
-use Rattle.checkout_core.specs.Fates.{Known, heard_by}
+use Rattle.checkout_core.specs.Fates.{heard_by}
 use Rattle.checkout_core.specs.States.{is_at}
 use Rattle.checkout_report.specs.Report.{is_failed}
-use Rattle.driver_line.specs.SameHeard.{NoneFailed, SameHeard, IsToldTalk, HaveTexts, HaveSameTexts, fate_in}
-use Rattle.driver_line.specs.ToldStarts.{GoBy}
+use Rattle.driver_line.specs.SameHeard.{NoneFailed, SameHeard, IsToldTalk, HaveTexts, HaveSameTexts}
 use Rattle.checkout_plan.specs.declared.path_plan.PathPlan.{PathPlan}
 use Rattle.checkout_plan.specs.Making.{FitsKind, object_kind}
 use Rattle.checkout_engine.specs.Complete.{IsRightObject, IsRightStart, IsRightPath, GivesAll, TalksGiveAll, failed_leaves}
@@ -38,7 +37,7 @@ use Rattle.checkout_engine.specs.Report.{lacks_memory}
 use Rattle.checkout_engine.specs.Talks.{DriverTalk, IsDriverTalk, heard_at, was_read}
 use Rattle.checkout_engine.proofs.Order.{precedes}
 use Rattle.checkout_engine.proofs.Places.{get_map}
-use Rattle.checkout_engine.proofs.PathsAlike.{heard_if_asked, leaf_failed, not_wanting}
+use Rattle.checkout_engine.proofs.PathsAlike.{heard_if_asked, leaf_failed}
 use Rattle.checkout_engine.proofs.Rising.{apart, same_rising}
 use Rattle.checkout_engine.proofs.Seeds.{at_desk, same_place}
 use Rattle.checkout_engine.proofs.OneSide.{IsSide, EndsAt, FineAt, first_fine, outcome_at, talk_at, memory_is, told_talk, holds_at}

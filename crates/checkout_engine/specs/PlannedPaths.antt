@@ -1,5 +1,5 @@
 -- What holds of each path of a plan that was read.
-use Rattle.std.specs.Prelude.{◌≡◌, ℕ, List, length}
+use Rattle.std.specs.Prelude.{◌≡◌, List, length}
 use Rattle.std.specs.List.{AllByRecursion}
 use Rattle.edge_kit.specs.Told.{RepoTold}
 use Rattle.checkout_plan.specs.declared.path_plan.PathPlan.{PathPlan}

@@ -1,4 +1,4 @@
-use Rattle.std.proofs.Common.{◌+◌, ◌++◌, ℕ, length, length-append, sym, ap, ◌∙◌, subst, arith}
+use Rattle.std.proofs.Common.{◌++◌, ℕ, length, length-append, sym, ap, ◌∙◌, subst, arith}
 use Rattle.edge_kit.specs.Seen.{RepoSeen, TreeSeen}
 use Rattle.edge_kit.specs.Told.{RepoTold}
 use Rattle.checkout_book.specs.Sights.{sight}
