@@ -1,6 +1,6 @@
 -- A line to a driver that cleans contents, and what each path does to it.
-use Rattle.std.specs.Prelude.{◌≡◌, ◌⊎◌, ℕ, ◌+◌, Bool, true, false, List, [], ◌∷◌, ◌++◌, length, Option, Some, None}
-use Rattle.std.specs.Prelude.{Result, Ok, Err, ⊤}
+use Rattle.std.specs.Prelude.{◌≡◌, ◌⊎◌, ℕ, ◌+◌, true, false, List, [], ◌∷◌, ◌++◌, length, Option, Some, None}
+use Rattle.std.specs.Prelude.{Result, Ok, Err}
 use Rattle.filter_words.specs.Requests.{clean_text}
 use Rattle.filter_words.specs.declared.reply.Caps.{Caps}
 use Rattle.edge_kit.specs.Links.{LinkSeen}

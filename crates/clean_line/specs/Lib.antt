@@ -1,2 +1,4 @@
 pub mod Causes
 pub mod CleanLines
+pub mod CleanTalks
+pub mod EqualAnswers

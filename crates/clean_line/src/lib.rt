@@ -5,8 +5,10 @@
 #![tactic(auto)]
 
 mod cause;
+mod laws;
 mod line;
 mod starting;
 
 pub use cause::{CleanCause, CleanFault};
+pub use laws::{equal_sessions_give_equal_answers, turns_are_talks};
 pub use line::CleanLine;
