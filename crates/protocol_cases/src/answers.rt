@@ -128,15 +128,19 @@ pub fn answered(alloc: Global, cells: &[Cell]) -> Result<Vec<u8>, Fail> {
         return Err(unknown(b"answer"));
     };
     let packets = packets_of(alloc, rest, &longest)?;
-    let to = to.value.as_slice();
+    answer_to(alloc, &to.value, &packets)
+}
+
+/// What packets make of the answer to this.
+fn answer_to(alloc: Global, to: &[u8], packets: &[ReadPacket<'_>]) -> Result<Vec<u8>, Fail> {
     if to == b"path".as_slice() {
-        Ok(reply_to(alloc, false, &packets)?)
+        Ok(reply_to(alloc, false, packets)?)
     } else if to == b"late-path".as_slice() {
-        Ok(reply_to(alloc, true, &packets)?)
+        Ok(reply_to(alloc, true, packets)?)
     } else if to == b"handshake".as_slice() {
-        Ok(handshake_of(alloc, &packets)?)
+        Ok(handshake_of(alloc, packets)?)
     } else if to == b"list".as_slice() {
-        Ok(list_of(alloc, &packets)?)
+        Ok(list_of(alloc, packets)?)
     } else {
         Err(unknown(to))
     }

@@ -235,21 +235,33 @@ fn step_of(alloc: Global, state: &mut State, cell: &Cell) -> Result<Vec<u8>, Fai
     }
 }
 
+/// Appends what each step answers.
+fn push_steps(
+    alloc: Global,
+    came: &mut Vec<u8>,
+    state: &mut State,
+    cells: &[Cell],
+) -> Result<(), Fail> {
+    for cell in cells {
+        let answer = step_of(alloc, state, cell)?;
+        push_all(came, &[&answer, b"\n"])?;
+    }
+    Ok(())
+}
+
+/// What the steps answer.
+fn answers_of(alloc: Global, mut state: State, cells: &[Cell]) -> Result<Vec<u8>, Fail> {
+    let mut came = Vec::new(alloc);
+    push_steps(alloc, &mut came, &mut state, cells)?;
+    Ok(came)
+}
+
 /// What comes of a case of the kind `checkout`.
 pub fn followed(alloc: Global, cells: &[Cell]) -> Result<Vec<u8>, Fail> {
-    let is_two = match cells.first() {
-        Some(cell) => cell.key.as_slice() == b"two".as_slice(),
-        None => false,
-    };
-    let (mut state, begun) = if is_two {
-        (fresh_of_two(alloc)?, 1)
-    } else {
-        (fresh(alloc)?, 0)
-    };
-    let mut came = Vec::new(alloc);
-    for cell in cells.iter().skip(begun) {
-        let answer = step_of(alloc, &mut state, cell)?;
-        push_all(&mut came, &[&answer, b"\n"])?;
+    match cells {
+        [first, rest @ ..] if first.key.as_slice() == b"two".as_slice() => {
+            answers_of(alloc, fresh_of_two(alloc)?, rest)
+        }
+        _ => answers_of(alloc, fresh(alloc)?, cells),
     }
-    Ok(came)
 }

@@ -46,25 +46,51 @@ fn take_step(
     Ok(())
 }
 
+/// Takes each step behind this many cells.
+fn take_steps(
+    alloc: Global,
+    came: &mut Vec<u8>,
+    session: &mut CleanSession<Pipe>,
+    cells: &[Cell],
+    count: usize,
+) -> Result<(), Fail> {
+    for cell in cells.iter().skip(count) {
+        take_step(alloc, came, session, cell)?;
+    }
+    Ok(())
+}
+
+/// Takes the steps behind this many cells with a session that has begun, and ends it.
+fn take_session(
+    alloc: Global,
+    came: &mut Vec<u8>,
+    mut session: CleanSession<Pipe>,
+    cells: &[Cell],
+    count: usize,
+) -> Result<(), Fail> {
+    take_steps(alloc, came, &mut session, cells, count)?;
+    let live = session.live();
+    push_end(alloc, came, live, &session.shut(), cells)
+}
+
+/// What comes of a driver that doesn't announce `clean`.
+fn uncleaned(alloc: Global, pipe: &Pipe) -> Result<Vec<u8>, AllocError> {
+    let mut came = Vec::from_slice(alloc, b"no clean ")?;
+    came.extend_from_slice(pipe.end_word())?;
+    Ok(came)
+}
+
 /// What comes of a case of the kind `clean`.
 pub fn cleaned(alloc: Global, cells: &[Cell]) -> Result<Vec<u8>, Fail> {
     let (pipe, count) = pipe_of(alloc, cells)?;
-    let mut session = match CleanSession::begin(alloc, pipe) {
-        CleanBegun::Live(session) => session,
-        CleanBegun::NoClean(pipe) => {
-            let mut came = Vec::from_slice(alloc, b"no clean ")?;
-            came.extend_from_slice(pipe.end_word())?;
-            return Ok(came);
+    match CleanSession::begin(alloc, pipe) {
+        CleanBegun::Live(session) => {
+            let mut came = Vec::new(alloc);
+            take_session(alloc, &mut came, session, cells, count)?;
+            Ok(came)
         }
-        CleanBegun::Broken(pipe, cause) => return Ok(broken(alloc, cause, &pipe)?),
-        CleanBegun::NoMemory(_) => return Err(Fail::from(AllocError)),
-    };
-    let mut came = Vec::new(alloc);
-    for cell in cells.iter().skip(count) {
-        take_step(alloc, &mut came, &mut session, cell)?;
+        CleanBegun::NoClean(pipe) => Ok(uncleaned(alloc, &pipe)?),
+        CleanBegun::Broken(pipe, cause) => Ok(broken(alloc, cause, &pipe)?),
+        CleanBegun::NoMemory(_) => Err(Fail::from(AllocError)),
     }
-    let live = session.live();
-    let pipe = session.shut();
-    push_end(alloc, &mut came, live, &pipe, cells)?;
-    Ok(came)
 }

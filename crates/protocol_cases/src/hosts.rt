@@ -7,7 +7,7 @@
 ghost use Rattle.std.specs.Prelude.{None};
 
 use crate::page::counter_from_zero;
-use crate::talks::{Talk, take_step};
+use crate::talks::{Talk, take_steps};
 use byte_path::Bytes;
 use case_kit::{Cell, noted, push_all, shown, unknown};
 use driver_host::{Choice, Host, HostFault, HostLink, HostState, LateChoice, LateWork, Work};
@@ -55,6 +55,20 @@ fn host(alloc: Global, delay: bool) -> Result<Host<Obeying>, AllocError> {
     Host::reserve(alloc, Obeying { alloc }, caps, 2)
 }
 
+/// What the host answers to the last piece of an input in pieces of this size.
+fn last_taken(
+    host: &mut Host<Obeying>,
+    output: &mut Vec<u8>,
+    input: &[u8],
+    size: usize,
+) -> Result<HostState, HostFault> {
+    let mut last = Ok(HostState::Open);
+    for piece in input.chunks(size.max(1)) {
+        last = host.take(piece, output);
+    }
+    last
+}
+
 /// What comes of an input in pieces of this size.
 fn taken_in_pieces(
     alloc: Global,
@@ -62,12 +76,8 @@ fn taken_in_pieces(
     input: &[u8],
     size: usize,
 ) -> Result<Vec<u8>, AllocError> {
-    let mut host = host(alloc, delay)?;
     let mut output = Vec::new(alloc);
-    let mut last: Result<HostState, HostFault> = Ok(HostState::Open);
-    for piece in input.chunks(size.max(1)) {
-        last = host.take(piece, &mut output);
-    }
+    let last = last_taken(&mut host(alloc, delay)?, &mut output, input, size);
     let mut came = shown(alloc, last)?;
     push_all(&mut came, &[b"\n", &output])?;
     Ok(came)
@@ -95,17 +105,25 @@ fn late_link(alloc: Global) -> Result<HostLink<LateWork>, AllocError> {
     Ok(HostLink::begin(alloc, host, true))
 }
 
+/// A session over such a link.
+fn late_session(alloc: Global) -> Result<Session<HostLink<LateWork>>, Fail> {
+    match Session::begin(alloc, late_link(alloc)?) {
+        Begun::Live(session) => Ok(session),
+        Begun::Broken(..) | Begun::NoMemory(_) => Err(unknown(b"late")),
+    }
+}
+
+/// Takes the steps, and returns whether the host's link tells all.
+fn take_late(alloc: Global, talk: &mut Talk, cells: &[Cell]) -> Result<bool, Fail> {
+    let mut session = late_session(alloc)?;
+    take_steps(talk, &mut session, cells, 0)?;
+    Ok(session.shut().tells())
+}
+
 /// What comes of a case of the kind `late`.
 pub fn served(alloc: Global, cells: &[Cell]) -> Result<Vec<u8>, Fail> {
     let mut talk = Talk::new(alloc, counter_from_zero(alloc)?, true)?;
-    let Begun::Live(mut session) = Session::begin(alloc, late_link(alloc)?) else {
-        return Err(unknown(b"late"));
-    };
-    for cell in cells {
-        take_step(&mut talk, &mut session, cell)?;
-    }
-    let link = session.shut();
-    let line = shown(alloc, link.tells())?;
-    talk.push_line(&line)?;
-    Ok(talk.came)
+    let tells = take_late(alloc, &mut talk, cells)?;
+    talk.push_line(if tells { b"true" } else { b"false" })?;
+    Ok(talk.into_came())
 }

@@ -47,17 +47,50 @@ fn drain(
     Ok(())
 }
 
-/// What comes of the bytes in pieces of this size.
-fn given_in_pieces(alloc: Global, bytes: &[u8], size: usize) -> Result<Vec<u8>, AllocError> {
-    let mut reader = PktReader::reserve(alloc)?;
-    let mut text = Vec::new(alloc);
+/// Appends what the reader gives of the bytes in pieces of this size.
+fn push_pieces(
+    alloc: Global,
+    reader: &mut PktReader,
+    bytes: &[u8],
+    size: usize,
+    text: &mut Vec<u8>,
+) -> Result<(), AllocError> {
     for piece in bytes.chunks(size.max(1)) {
         if reader.feed(piece) != piece.len() {
             text.extend_from_slice(b" not taken whole ")?;
         }
-        drain(alloc, &mut reader, piece.len(), &mut text)?;
+        drain(alloc, reader, piece.len(), text)?;
     }
+    Ok(())
+}
+
+/// What comes of the bytes in pieces of this size.
+fn given_in_pieces(alloc: Global, bytes: &[u8], size: usize) -> Result<Vec<u8>, AllocError> {
+    let mut reader = PktReader::reserve(alloc)?;
+    let mut text = Vec::new(alloc);
+    push_pieces(alloc, &mut reader, bytes, size, &mut text)?;
     Ok(text)
+}
+
+/// Whether other pieces give this too.
+fn is_anyhow(alloc: Global, bytes: &[u8], whole: &[u8]) -> Result<bool, AllocError> {
+    let mut is_same = true;
+    for size in [1, 2, 3, 1000] {
+        let given = given_in_pieces(alloc, bytes, size)?;
+        is_same = is_same && given.as_slice() == whole;
+    }
+    Ok(is_same)
+}
+
+/// What comes of the bytes, with a note if other pieces give something else.
+fn given_anyhow(alloc: Global, bytes: &[u8]) -> Result<Vec<u8>, AllocError> {
+    let whole = given_in_pieces(alloc, bytes, 65_520)?;
+    let is_same = is_anyhow(alloc, bytes, &whole)?;
+    noted(
+        folded(alloc, &whole)?,
+        is_same,
+        b"other pieces give other packets",
+    )
 }
 
 /// What comes of a case of the kind `packets`.
@@ -66,17 +99,7 @@ pub fn read_anyhow(alloc: Global, cells: &[Cell]) -> Result<Vec<u8>, Fail> {
         return Err(unknown(b"packets"));
     };
     let bytes = unfolded(alloc, &bytes.value)?;
-    let whole = given_in_pieces(alloc, &bytes, 65_520)?;
-    let mut is_same = true;
-    for size in [1, 2, 3, 1000] {
-        let given = given_in_pieces(alloc, &bytes, size)?;
-        is_same = is_same && given.as_slice() == whole.as_slice();
-    }
-    Ok(noted(
-        folded(alloc, &whole)?,
-        is_same,
-        b"other pieces give other packets",
-    )?)
+    Ok(given_anyhow(alloc, &bytes)?)
 }
 
 /// Fills the reader, and returns whether it takes all that it has room for and no more.
@@ -88,12 +111,17 @@ fn fills(alloc: Global, reader: &mut PktReader) -> Result<bool, AllocError> {
     Ok(taken == room && more == 0)
 }
 
+/// What a reader gave.
+fn given_of(alloc: Global, given: Result<Next<'_>, PktFault>) -> Result<Vec<u8>, AllocError> {
+    let mut text = Vec::new(alloc);
+    push_given(alloc, &mut text, given)?;
+    Ok(text)
+}
+
 /// Appends the next packet.
 fn push_next(alloc: Global, reader: &mut PktReader, text: &mut Vec<u8>) -> Result<(), AllocError> {
-    let mut seen = Vec::new(alloc);
-    push_given(alloc, &mut seen, reader.peek())?;
-    let mut given = Vec::new(alloc);
-    push_given(alloc, &mut given, reader.next())?;
+    let seen = given_of(alloc, reader.peek())?;
+    let given = given_of(alloc, reader.next())?;
     let is_told = seen.as_slice() == given.as_slice();
     let given = noted(given, is_told, b"another one was told")?;
     text.extend_from_slice(&given)
@@ -133,12 +161,29 @@ fn take_step(
     Ok(())
 }
 
-/// What comes of a case of the kind `reader`.
-pub fn read_by_steps(alloc: Global, cells: &[Cell]) -> Result<Vec<u8>, Fail> {
+/// All that the steps give.
+fn given_by_steps(alloc: Global, cells: &[Cell]) -> Result<Vec<u8>, Fail> {
     let mut reader = PktReader::reserve(alloc)?;
     let mut text = Vec::new(alloc);
+    take_steps(alloc, &mut reader, &mut text, cells)?;
+    Ok(text)
+}
+
+/// Takes each step of a case of the kind `reader`.
+fn take_steps(
+    alloc: Global,
+    reader: &mut PktReader,
+    text: &mut Vec<u8>,
+    cells: &[Cell],
+) -> Result<(), Fail> {
     for cell in cells {
-        take_step(alloc, &mut reader, &mut text, cell)?;
+        take_step(alloc, reader, text, cell)?;
     }
+    Ok(())
+}
+
+/// What comes of a case of the kind `reader`.
+pub fn read_by_steps(alloc: Global, cells: &[Cell]) -> Result<Vec<u8>, Fail> {
+    let text = given_by_steps(alloc, cells)?;
     Ok(folded(alloc, &text)?)
 }

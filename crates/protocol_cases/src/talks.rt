@@ -44,8 +44,8 @@ pub struct Talk {
     table: DelayTable,
     puts: Counter,
     keeps: bool,
-    /// The lines so far.
-    pub came: Vec<u8>,
+    // the lines so far
+    came: Vec<u8>,
 }
 
 impl Talk {
@@ -62,21 +62,13 @@ impl Talk {
 
     /// Adds the line of a request.
     fn push_asked(&mut self, came: Came, page: &Page) -> Result<(), AllocError> {
-        let alloc = self.alloc;
-        let came = shown(alloc, came)?;
-        let state = shown(alloc, page.state)?;
-        let bytes = shown(alloc, page.bytes)?;
-        let texts: [&[u8]; 8] = [
-            &came,
-            b" ",
-            &state,
-            b" ",
-            &bytes,
-            b":",
-            &page.content,
-            b"\n",
-        ];
-        push_all(&mut self.came, &texts)
+        let told = format!(in self.alloc; "{came:?} {:?} {}:", page.state, page.bytes)?;
+        push_all(&mut self.came, &[told.as_bytes(), &page.content, b"\n"])
+    }
+
+    /// The lines.
+    pub fn into_came(self) -> Vec<u8> {
+        self.came
     }
 
     /// Adds a line.
@@ -156,11 +148,7 @@ fn take_list<K: Link>(talk: &mut Talk, session: &mut Session<K>) -> Result<(), F
 }
 
 /// Takes a step.
-pub fn take_step<K: Link>(
-    talk: &mut Talk,
-    session: &mut Session<K>,
-    cell: &Cell,
-) -> Result<(), Fail> {
+fn take_step<K: Link>(talk: &mut Talk, session: &mut Session<K>, cell: &Cell) -> Result<(), Fail> {
     let key = cell.key.as_slice();
     let (path, content) = parted(&cell.value);
     if key == b"ask".as_slice() {
@@ -178,8 +166,21 @@ pub fn take_step<K: Link>(
     }
 }
 
+/// Takes each step behind this many cells.
+pub fn take_steps<K: Link>(
+    talk: &mut Talk,
+    session: &mut Session<K>,
+    cells: &[Cell],
+    count: usize,
+) -> Result<(), Fail> {
+    for cell in cells.iter().skip(count) {
+        take_step(talk, session, cell)?;
+    }
+    Ok(())
+}
+
 /// Takes a cell of the driver, and returns whether it is one.
-pub fn take_part(alloc: Global, pipe: &mut Pipe, cell: &Cell) -> Result<bool, Fail> {
+fn take_part(alloc: Global, pipe: &mut Pipe, cell: &Cell) -> Result<bool, Fail> {
     let key = cell.key.as_slice();
     let value = cell.value.as_slice();
     if key == b"part".as_slice() {
@@ -200,16 +201,22 @@ pub fn take_part(alloc: Global, pipe: &mut Pipe, cell: &Cell) -> Result<bool, Fa
     Ok(true)
 }
 
-/// The driver of the first cells, and how many they are.
-pub fn pipe_of(alloc: Global, cells: &[Cell]) -> Result<(Pipe, usize), Fail> {
-    let mut pipe = Pipe::new(alloc)?;
+/// Takes the first cells, which are the driver's, and returns how many they are.
+fn take_parts(alloc: Global, pipe: &mut Pipe, cells: &[Cell]) -> Result<usize, Fail> {
     let mut count = 0usize;
     for cell in cells {
-        if !take_part(alloc, &mut pipe, cell)? {
+        if !take_part(alloc, pipe, cell)? {
             break;
         }
         count = count.saturating_add(1);
     }
+    Ok(count)
+}
+
+/// The driver of the first cells, and how many they are.
+pub fn pipe_of(alloc: Global, cells: &[Cell]) -> Result<(Pipe, usize), Fail> {
+    let mut pipe = Pipe::new(alloc)?;
+    let count = take_parts(alloc, &mut pipe, cells)?;
     Ok((pipe, count))
 }
 
@@ -254,20 +261,38 @@ pub fn broken(alloc: Global, cause: BreakCause, pipe: &Pipe) -> Result<Vec<u8>, 
     Ok(came)
 }
 
+/// Takes the steps behind this many cells with a session that has begun, and ends it.
+fn take_session(
+    talk: &mut Talk,
+    mut session: Session<Pipe>,
+    cells: &[Cell],
+    count: usize,
+) -> Result<(), Fail> {
+    take_steps(talk, &mut session, cells, count)?;
+    let live = session.live();
+    push_end(talk.alloc, &mut talk.came, live, &session.shut(), cells)
+}
+
+/// A talk about this pipe in which nothing was said.
+fn talk_over(alloc: Global, pipe: &Pipe) -> Result<Talk, AllocError> {
+    Talk::new(alloc, pipe.counter()?, pipe.keeps)
+}
+
+/// What comes of the steps behind this many cells.
+fn told(mut talk: Talk, begun: Begun<Pipe>, cells: &[Cell], count: usize) -> Result<Vec<u8>, Fail> {
+    match begun {
+        Begun::Live(session) => {
+            take_session(&mut talk, session, cells, count)?;
+            Ok(talk.into_came())
+        }
+        Begun::Broken(pipe, cause) => Ok(broken(talk.alloc, cause, &pipe)?),
+        Begun::NoMemory(_) => Err(Fail::from(AllocError)),
+    }
+}
+
 /// What comes of a case of the kind `talk`.
 pub fn talked(alloc: Global, cells: &[Cell]) -> Result<Vec<u8>, Fail> {
     let (pipe, count) = pipe_of(alloc, cells)?;
-    let mut talk = Talk::new(alloc, pipe.counter()?, pipe.keeps)?;
-    let mut session = match Session::begin(alloc, pipe) {
-        Begun::Live(session) => session,
-        Begun::Broken(pipe, cause) => return Ok(broken(alloc, cause, &pipe)?),
-        Begun::NoMemory(_) => return Err(Fail::from(AllocError)),
-    };
-    for cell in cells.iter().skip(count) {
-        take_step(&mut talk, &mut session, cell)?;
-    }
-    let live = session.live();
-    let pipe = session.shut();
-    push_end(alloc, &mut talk.came, live, &pipe, cells)?;
-    Ok(talk.came)
+    let talk = talk_over(alloc, &pipe)?;
+    told(talk, Session::begin(alloc, pipe), cells, count)
 }
