@@ -6,13 +6,13 @@ ghost use Rattle.checkin_edge.specs.Places.{folder_of, file_of};
 use crate::held_entries::{HeldEntry, with_held};
 use crate::new_file::{replace, write_once};
 use crate::stored_object::has_object;
+use crate::zlib_store::zlib_stored;
 use checkin_engine::Keep;
 use edge_adapters::path_in;
 use edge_kit::SendFault;
 use std::alloc::{AllocError, Global};
 use std::io;
 use std::io::ErrorKind;
-use zlib_store::zlib_stored;
 
 /// How an object's file has the stored bytes.
 #[derive(Clone, Copy)]

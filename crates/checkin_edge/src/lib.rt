@@ -9,8 +9,10 @@ mod looking;
 mod new_file;
 mod raw_index;
 mod stored_object;
+mod zlib_store;
 
 pub use folder_files::{FolderFiles, IndexLinks};
 pub use folder_keep::{FolderKeep, ObjectForm};
 pub use held_entries::HeldEntry;
 pub use raw_index::{RawEntry, RawIndex};
+pub use zlib_store::zlib_stored;

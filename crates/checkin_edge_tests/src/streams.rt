@@ -1,8 +1,8 @@
 //! Zlib streams of stored blocks.
 use crate::table::cut;
+use checkin_edge::zlib_stored;
 use inflate::inflate;
 use std::test::Fail;
-use zlib_store::zlib_stored;
 
 /// A content and its stream in hexadecimal digits, as zlib makes it without compression: Python's
 /// `zlib.compress(.., 0)`.
