@@ -13,7 +13,7 @@ use Rattle.checkin_engine.specs.Cleaning.{Asked, as_answer, text_in}
 use Rattle.checkin_engine.specs.Fates.{driver_of}
 use Rattle.checkin_engine.specs.Outcomes.{Outcome}
 use Rattle.checkin_engine.specs.Talks.{turn_of, turns_of, GivesTalk, GiveTalks}
-use Rattle.checkin_engine.specs.EqualTurns.{IsAskedAlike, AreAlike, HadAlike, AreLikeCheckins, EqualTurns}
+use Rattle.checkin_engine.specs.EqualTurns.{IsAskedAlike, AreAlike, HadAlike, EqualTurns}
 
 -- memory ran out for no turn
 some_memory : (answer : Result (List ℕ) CleanCause) → as_answer answer ≡ Err NoMemory → ⊥

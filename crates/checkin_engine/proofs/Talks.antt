@@ -2,7 +2,7 @@
 use Rattle.std.proofs.Common.{◌≡◌, ℕ, zero, suc, ◌+◌, eqb, Bool, true, false, List, [], ◌∷◌, ◌++◌, length, replicate, Option, Some, None, Result, Ok, Err, if◌then◌else◌, slice_get, slice_set, refl, sym, ap, subst, inl, inr, ◌∙◌, append_assoc, append-nil, arith}
 use Rattle.std.proofs.lemmas.Bool.{eqb-true, eqb-false}
 use Rattle.edge_kit.specs.Seen.{RepoSeen}
-use Rattle.edge_kit.specs.Starters.{Starts, StarterSeen, SpawnerSeen, Had, new_starter, starter_back}
+use Rattle.edge_kit.specs.Starters.{Starts, SpawnerSeen, Had, new_starter, starter_back}
 use Rattle.one_shot.specs.Starters.{is_single_run}
 use Rattle.settings_view.specs.declared.view.Driver.{Driver}
 use Rattle.clean_line.specs.declared.cause.CleanCause.{CleanCause}
