@@ -11,6 +11,7 @@ use Rattle.edge_kit.specs.declared.faults.SendFault.{SendFault}
 use Rattle.edge_kit.specs.declared.faults.SendFault.TheVariants as send
 use Rattle.git_index.specs.declared.entry.Entry.{Entry}
 use Rattle.git_index.specs.Spelling.{CanStand, EntriesCanStand, PathsAreOrdered, plain_text}
+use Rattle.clean_line.specs.CleanTalks.{TurnsAreTalks}
 use Rattle.clean_drivers.specs.Drivers.{DriversSeen}
 use Rattle.checkout_plan.specs.Making.{blobs_of}
 use Rattle.checkout_sources.specs.declared.attributed.Attributed.{Attributed}
@@ -39,6 +40,7 @@ use Rattle.checkin_engine.specs.Ends.{Seen, seen, AllTold, cleaning_told, work_b
 use Rattle.checkin_engine.specs.Ending.{are_apart, PathsOf, ArePathsRead, ReadsPaths, WritesLine, EndsStopped, WritesReport}
 use Rattle.checkin_engine.proofs.Texts.{paths_are_open, paths_are_few}
 use Rattle.checkin_engine.proofs.ByPath.{paths_are_apart, in_turn}
+use Rattle.checkin_engine.proofs.Talks.{have_talks}
 
 -- memory ran out once the attribute files were read
 cut_short : (told : RepoTold) (a : Attributed) (old new : RepoSeen) → AreAttributed told a old new → IsCutShort told old new
@@ -112,7 +114,7 @@ checked_length : (object tells : List ℕ → Told) (c : Cleaning) (ps : List Ch
 checked_length object tells c ps repo repo' work work' keep keep' fates are = outcomes_length object tells ps are.outcomes are.each ∙ ap (λ (l : List Fate). length l) are.same
 
 -- what was read, and what the look at the paths left
-module _ (told : AllTold) (r : PathsRead) (old mid new : RepoSeen) (files files' : FilesSeen) (spawner spawner' : SpawnerSeen) (runs runs' : ℕ) (keep keep' : KeepSeen) (sink sink' : SinkSeen) (read : ArePathsRead told.repo r old mid) where
+module _ (told : AllTold) (r : PathsRead) (old mid new : RepoSeen) (files files' : FilesSeen) (spawner spawner' : SpawnerSeen) (runs runs' : ℕ) (keep keep' : KeepSeen) (sink sink' : SinkSeen) (read : ArePathsRead told.repo r old mid) (law : TurnsAreTalks) where
   abbrev before : Seen
   before = seen old files spawner runs keep sink
 
@@ -139,6 +141,9 @@ module _ (told : AllTold) (r : PathsRead) (old mid new : RepoSeen) (files files'
       (subst (λ (es : List Entry). r.paths.items ≡ checkin_paths a.files r.drivers a.settings es) (sym read.has.entries) read.has.paths) read.apart
       (checked_length told.repo.object told.files by r.paths.items mid new first leaves.last keep kept fates.items leaves.checks)
 
+  abbrev seen_so : (kept : KeepSeen) (fates : Vec Fate) (leaves : Leaves kept (Ok fates)) → ArePathsChecked told.repo.object told.files by r.paths.items (after_reading r.index old) new first leaves.last keep kept fates.items
+  seen_so kept fates leaves = subst (λ (m : RepoSeen). ArePathsChecked told.repo.object told.files by r.paths.items m new first leaves.last keep kept fates.items) read.seen leaves.checks
+
   abbrev through : (kept : KeepSeen) (fates : Vec Fate) → Leaves kept (Ok fates) → IsLookedThrough told before (behind kept)
   through kept fates leaves = record {
     entries = r.index;
@@ -147,8 +152,9 @@ module _ (told : AllTold) (r : PathsRead) (old mid new : RepoSeen) (files files'
     has = read.has;
     fates = fates.items;
     last = leaves.last;
-    checked = subst (λ (m : RepoSeen). ArePathsChecked told.repo.object told.files by r.paths.items m new first leaves.last keep kept fates.items) read.seen leaves.checks;
+    checked = seen_so kept fates leaves;
     left = leaves.left;
+    talks = have_talks law by r.paths.items (seen_so kept fates leaves).outcomes (after_reading r.index old) new files files' spawner spawner' runs runs' leaves.last (seen_so kept fates leaves).checked.looked leaves.left;
     silent = refl;
   }
 
@@ -174,16 +180,20 @@ module _ (told : AllTold) (r : PathsRead) (old mid new : RepoSeen) (files files'
 
   -- the keeper failed
   cut_ends : KeepsAfter Leaves r.index keep' (Err send.Failed) → sink' ≡ sink → EndsCheckin told before after status.OutputNotWritten
-  cut_ends (inl leaves) silent = inr (inl (record {
-    entries = r.index;
-    paths = r.paths.items;
-    drivers = r.drivers;
-    has = read.has;
-    last = leaves.last;
-    cut = subst (λ (m : RepoSeen). AreObjectsCut told.repo.object told.files by r.paths.items m new first leaves.last keep keep') read.seen leaves.checks;
-    left = leaves.left;
-    silent = silent;
-  }))
+  cut_ends (inl leaves) silent =
+      let cut : AreObjectsCut told.repo.object told.files by r.paths.items (after_reading r.index old) new first leaves.last keep keep' =
+      subst (λ (m : RepoSeen). AreObjectsCut told.repo.object told.files by r.paths.items m new first leaves.last keep keep') read.seen leaves.checks in
+      inr (inl (record {
+        entries = r.index;
+        paths = r.paths.items;
+        drivers = r.drivers;
+        has = read.has;
+        last = leaves.last;
+        cut = cut;
+        left = leaves.left;
+        talks = have_talks law by (cut.front ++ cut.path ∷ []) (cut.outcomes ++ cut.outcome ∷ []) (after_reading r.index old) new files files' spawner spawner' runs runs' leaves.last cut.looked leaves.left;
+        silent = silent;
+      }))
   cut_ends (inr (kept, fates, leaves, failed)) silent = inr (inr (inl (record {
     mid = behind kept;
     done = through kept fates leaves;

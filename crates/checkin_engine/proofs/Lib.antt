@@ -8,5 +8,7 @@ mod Found
 mod Looked
 mod Kept
 mod Texts
+mod Talks
 mod Finish
 mod BackAgain
+mod EqualTurns

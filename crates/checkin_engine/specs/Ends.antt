@@ -1,5 +1,5 @@
 -- How a check-in ends, and what holds at each end.
-use Rattle.std.specs.Prelude.{◌≡◌, ◌⊎◌, ℕ, List, if◌then◌else◌}
+use Rattle.std.specs.Prelude.{◌≡◌, ◌⊎◌, ℕ, List, [], ◌∷◌, ◌++◌, if◌then◌else◌}
 use Rattle.std.specs.List.{list_any}
 use Rattle.edge_kit.specs.Files.{grown}
 use Rattle.edge_kit.specs.Seen.{RepoSeen, SinkSeen, IsWriteCut}
@@ -24,6 +24,7 @@ use Rattle.checkin_engine.specs.Keeping.{IsLeft, first_work}
 use Rattle.checkin_engine.specs.Indexes.{new_entries}
 use Rattle.checkin_engine.specs.Outcomes.{ArePathsChecked, AreObjectsCut, AreBrokenOff, with_blobs}
 use Rattle.checkin_engine.specs.Report.{report_of, is_failed}
+use Rattle.checkin_engine.specs.Talks.{HaveTalks}
 
 -- all that a check-in can change
 pub record Seen : Type 0 where
@@ -72,8 +73,8 @@ abbrev pub after_reading : List Entry → RepoSeen → RepoSeen
 after_reading es repo = with_blobs (blobs_of es) repo
 
 -- The paths of the index came to these fates, and the objects of the changed ones were kept. The blobs of the attribute
--- files and then those of the paths were given back, and then the starters of the drivers that were asked. The index
--- isn't kept yet, and nothing is written.
+-- files and then those of the paths were given back, and then the starters of the drivers that were asked, each with
+-- one talk over its paths. The index isn't kept yet, and nothing is written.
 pub record IsLookedThrough (told : AllTold) (old new : Seen) : Type 0 where
   pub entries : List Entry
   pub paths : List CheckinPath
@@ -84,6 +85,7 @@ pub record IsLookedThrough (told : AllTold) (old new : Seen) : Type 0 where
   pub checked : ArePathsChecked told.repo.object told.files (cleaning_told told drivers) paths
       (after_reading entries old.repo) new.repo (work_before drivers old) last old.keep new.keep fates
   pub left : IsLeftBy last new
+  pub talks : HaveTalks drivers paths checked.outcomes old.spawner new.spawner
   pub silent : new.sink ≡ old.sink
 
 -- All was looked through, with all blobs and starters given back, and after that the index was kept. Nothing but that
@@ -130,7 +132,7 @@ pub record IsLineCut (told : RepoTold) (old new : Seen) : Type 0 where
   pub has : HasRefusal told line old new
   pub cut : IsWriteCut line old.sink new.sink
 
--- the keeper failed at an object, and then the starters were given back
+-- the keeper failed at an object, and then the starters were given back, each with its talk up to that
 pub record IsObjectCut (told : AllTold) (old new : Seen) : Type 0 where
   pub entries : List Entry
   pub paths : List CheckinPath
@@ -140,6 +142,7 @@ pub record IsObjectCut (told : AllTold) (old new : Seen) : Type 0 where
   pub cut : AreObjectsCut told.repo.object told.files (cleaning_told told drivers) paths
       (after_reading entries old.repo) new.repo (work_before drivers old) last old.keep new.keep
   pub left : IsLeftBy last new
+  pub talks : HaveTalks drivers (cut.front ++ cut.path ∷ []) (cut.outcomes ++ cut.outcome ∷ []) old.spawner new.spawner
   pub silent : new.sink ≡ old.sink
 
 -- the keeper failed at the index, once all was looked through

@@ -6,6 +6,7 @@ pub mod Paths
 pub mod Cleaning
 pub mod Fates
 pub mod Outcomes
+pub mod Talks
 pub mod Indexes
 pub mod InTurn
 pub mod Report
@@ -19,3 +20,5 @@ pub mod Keeping
 pub mod Ending
 -- what comes back unchanged
 pub mod BackAgain
+-- what two check-ins have in common
+pub mod EqualTurns

@@ -16,6 +16,7 @@ use crate::report::{has_failed, report_text};
 use crate::status::{CheckinStatus, number_of};
 use crate::words::is_checkin;
 use checkout_sources::{Refusal, Stop, refusal_line};
+use clean_line::turns_are_talks;
 use edge_kit::{Repo, SendFault, Sink, Spawner};
 use one_shot::Once;
 use std::alloc::Global;
@@ -102,6 +103,7 @@ fn check_in<R: Repo, F: Files, P: Spawner, O: Once, K: Keep, S: Sink>(
         Ok(read) => read,
         Err(stop) => return stopped(alloc, out, stop),
     };
+    turns_are_talks();
     match keep_all(alloc, repo, files, spawner, once, keep, &read) {
         Ok(fates) => write_report(alloc, out, &read.paths, &fates),
         Err(SendFault::Failed) => CheckinStatus::OutputNotWritten,

@@ -1,8 +1,10 @@
-//! What comes back unchanged: a law over the definitions alone.
+//! Laws over the definitions alone: what comes back unchanged, and what two check-ins have in common.
 ghost use Rattle.checkin_engine.specs.BackAgain.{LosesNothing, ComesBack};
+ghost use Rattle.checkin_engine.specs.EqualTurns.{EqualTurns};
 
 use crate::path::Storing;
 use back_convert::content_comes_back;
+use clean_line::equal_sessions_give_equal_answers;
 use object_dir::content_has_one_spelling;
 
 /// The law that a path comes back: if its file is what a checkout without drivers makes of the content that its stored
@@ -20,4 +22,12 @@ pub fn path_comes_back(stored: &[u8], name: &[u8; 20], content: &[u8], storing: 
     } = storing;
     content_comes_back(content, name, ident, action, encoding);
     content_has_one_spelling(stored, name);
+}
+
+/// The law that equal sessions give equal turns: in two check-ins over the same paths, drivers and bytes, whose
+/// sessions have equal outputs, each driver gives the same answers, where no link failed. It does nothing.
+pub fn equal_sessions_give_equal_turns()
+    ensures { EqualTurns }
+{
+    equal_sessions_give_equal_answers();
 }

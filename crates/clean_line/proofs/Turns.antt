@@ -15,6 +15,7 @@ use Rattle.clean_line.specs.declared.cause.CleanFault.{CleanFault}
 use Rattle.clean_line.specs.declared.cause.CleanFault.TheVariants.{Refused, NoMemory}
 use Rattle.clean_line.specs.CleanLines.{CleanLineView, line_of, IsGivenBack, lasting, lasting_in, answer_of, Begins, GoesOn, IsAsked, StartsFor, CleansBy, Closes, ClosesBy}
 use Rattle.clean_line.specs.CleanTalks.{Turn, AreHad, AreRefused, Follows, IsCleanTalk, CleansAll, HasTalk, TurnsAreTalks}
+use Rattle.clean_line.proofs.Commands.{kept_command}
 
 -- the turns that are left where a session is open: some are had in it, and the talk goes on behind it
 record IsOpenTalk (wire : Wire) (starter : StarterSeen) (ts : List Turn) (end : StarterSeen) : Type 0 where
@@ -266,4 +267,4 @@ runs [] line last end same closes = none_more line.refusing line.session line.st
 runs (t ∷ ts) line last end (mid, cleans, rest) closes = one_turn line.refusing line.session line t ts mid end refl refl cleans (runs ts mid last end rest closes)
 
 pub turns_are_talks : TurnsAreTalks
-turns_are_talks ts starter end last cleans closes = runs ts (line_of starter None None) last end cleans closes
+turns_are_talks ts starter end last cleans closes = (runs ts (line_of starter None None) last end cleans closes, kept_command ts starter end last cleans closes)

@@ -146,6 +146,8 @@ pub record HasTalk (ts : List Turn) (old new : StarterSeen) : Type 0 where
   pub had : new.had ≡ old.had ++ items
   pub talk : IsCleanTalk items ts
 
+-- the same for all turns of a line, whose starter keeps its command
 abbrev pub TurnsAreTalks : Type 0
 TurnsAreTalks = (ts : List Turn) (starter end : StarterSeen) (last : CleanLineView)
-    → CleansAll ts (line_of starter None None) last → Closes last end → HasTalk ts starter end
+    → CleansAll ts (line_of starter None None) last → Closes last end
+    → HasTalk ts starter end × (end.command ≡ starter.command)
