@@ -4,11 +4,27 @@
 //!   bytes, and so many NULs behind them, under this name: `content` and it, or the fault. With the cells `name` and
 //!   `has` the repository has the object, no or failing: `has` is `nothing` or `failure`.
 //! - `content`: the cell `bytes`. The name of this content, its spelling and its path, parted by line feeds.
-use case_kit::{Cell, filled, number_of, push_all, shown, unknown};
+use case_kit::{Cell, filled, number_of, shown, unknown};
 use edge_kit::{MemoryRepo, Repo, RepoFail};
-use object_dir::{blob_name, object_path, read_blob, spell_blob};
+use object_dir::{ObjectFault, blob_name, object_path, read_blob, spell_blob};
 use std::alloc::{AllocError, Global};
 use std::test::Fail;
+
+/// What a read gave: `content` and it, or the fault.
+fn told(alloc: Global, answer: Result<Vec<u8>, ObjectFault>) -> Result<Vec<u8>, AllocError> {
+    match answer {
+        Ok(content) => [b"content ", content.as_slice()].concat(alloc),
+        Err(fault) => shown(alloc, fault),
+    }
+}
+
+/// What the object with this name gives in a repository.
+fn object_in(alloc: Global, repo: &mut MemoryRepo, name: &[u8; 20]) -> Result<Vec<u8>, AllocError> {
+    let mut blob = repo.blob(name)?;
+    let answer = read_blob(alloc, &mut blob, name);
+    repo.take_back(blob);
+    told(alloc, answer)
+}
 
 /// What the object with this name gives in a repository with these objects and failures.
 fn read_named(
@@ -18,17 +34,7 @@ fn read_named(
     fails: Vec<RepoFail>,
 ) -> Result<Vec<u8>, AllocError> {
     let mut repo = MemoryRepo::new(alloc, None, None, None, objects, fails);
-    let mut blob = repo.blob(name)?;
-    let answer = read_blob(alloc, &mut blob, name);
-    repo.take_back(blob);
-    match answer {
-        Ok(content) => {
-            let mut came = Vec::from_slice(alloc, b"content ")?;
-            came.extend_from_slice(&content)?;
-            Ok(came)
-        }
-        Err(fault) => shown(alloc, fault),
-    }
+    object_in(alloc, &mut repo, name)
 }
 
 /// The name that a cell spells.
@@ -39,27 +45,50 @@ pub fn name_of(cell: &Cell) -> Result<[u8; 20], Fail> {
     }
 }
 
+/// What the object with this name gives that is stored as these bytes and so many NULs.
+fn read_stored(
+    alloc: Global,
+    name: &[u8; 20],
+    stored: &[u8],
+    count: usize,
+) -> Result<Vec<u8>, AllocError> {
+    let stored = filled(alloc, stored, 0, count, b"")?;
+    let objects = vec![in alloc; (*name, stored)]?;
+    read_named(alloc, name, objects, Vec::new(alloc))
+}
+
+/// What an object with this name gives that isn't there or fails.
+fn read_unstored(alloc: Global, name: &[u8; 20], is_failing: bool) -> Result<Vec<u8>, AllocError> {
+    let mut fails = Vec::new(alloc);
+    if is_failing {
+        fails.push(RepoFail::Object(*name))?;
+    }
+    read_named(alloc, name, Vec::new(alloc), fails)
+}
+
 /// What comes of a case of the kind `object`.
 pub fn read(alloc: Global, cells: &[Cell]) -> Result<Vec<u8>, Fail> {
-    let mut objects = Vec::new(alloc);
-    let mut fails = Vec::new(alloc);
-    let name = match cells {
+    match cells {
         [name, stored, nulls] => {
             let name = name_of(name)?;
             let count = number_of(&nulls.value)? as usize;
-            objects.push((name, filled(alloc, &stored.value, 0, count, b"")?))?;
-            name
+            Ok(read_stored(alloc, &name, &stored.value, count)?)
         }
         [name, has] => {
             let name = name_of(name)?;
-            if has.value.as_slice() == b"failure".as_slice() {
-                fails.push(RepoFail::Object(name))?;
-            }
-            name
+            let is_failing = has.value.as_slice() == b"failure".as_slice();
+            Ok(read_unstored(alloc, &name, is_failing)?)
         }
-        _ => return Err(unknown(b"object")),
-    };
-    Ok(read_named(alloc, &name, objects, fails)?)
+        _ => Err(unknown(b"object")),
+    }
+}
+
+/// The name of a content, its spelling and its path.
+fn names_of(alloc: Global, content: &[u8]) -> Result<Vec<u8>, AllocError> {
+    let name = blob_name(content);
+    let stored = spell_blob(alloc, content)?;
+    let path = object_path(alloc, &name)?;
+    [name.as_slice(), b"\n", &stored, b"\n", path.as_bytes()].concat(alloc)
 }
 
 /// What comes of a case of the kind `content`.
@@ -67,10 +96,5 @@ pub fn named(alloc: Global, cells: &[Cell]) -> Result<Vec<u8>, Fail> {
     let [bytes] = cells else {
         return Err(unknown(b"content"));
     };
-    let name = blob_name(&bytes.value);
-    let stored = spell_blob(alloc, &bytes.value)?;
-    let path = object_path(alloc, &name)?;
-    let mut came = Vec::new(alloc);
-    push_all(&mut came, &[&name, b"\n", &stored, b"\n", path.as_bytes()])?;
-    Ok(came)
+    Ok(names_of(alloc, &bytes.value)?)
 }

@@ -4,8 +4,8 @@
 //! index, `contents` each path and behind a line feed its content, `drivers` each driver's command, how many bytes a read
 //! gives, and what its session writes.
 use case_kit::{Cell, number_of, push_all, shown, unknown};
-use edge_kit::{DriverScript, MemoryRepo, Repo};
-use git_index::read_index;
+use edge_kit::{DriverScript, MemoryRepo, Repo, SessionScript};
+use git_index::{Entry, read_index};
 use object_dir::read_blob;
 use rehearsal::{Rehearsed, rehearse};
 use std::alloc::{AllocError, Global};
@@ -26,39 +26,96 @@ fn content_of(
     }
 }
 
-/// The paths of the index, each with its content if they are asked for.
-fn files_of(alloc: Global, repo: &mut MemoryRepo, contents: bool) -> Result<Vec<u8>, Fail> {
-    let bytes = repo.index_bytes(10_000)?.unwrap_or(Vec::new(alloc));
-    let index = read_index(alloc, &bytes)?;
+/// Appends an entry's path, and its content if it is asked for.
+fn push_file(
+    alloc: Global,
+    came: &mut Vec<u8>,
+    repo: &mut MemoryRepo,
+    entry: &Entry,
+    contents: bool,
+) -> Result<(), AllocError> {
+    push_all(came, &[entry.path.as_slice(), b"\n"])?;
+    if !contents {
+        return Ok(());
+    }
+    let content = content_of(alloc, repo, &entry.name)?;
+    came.extend_from_slice(&content)
+}
+
+/// The paths of the entries, each with its content if they are asked for.
+fn listed(
+    alloc: Global,
+    repo: &mut MemoryRepo,
+    entries: &[Entry],
+    contents: bool,
+) -> Result<Vec<u8>, Fail> {
     let mut came = Vec::new(alloc);
-    for entry in index.entries() {
-        push_all(&mut came, &[entry.path.as_slice(), b"\n"])?;
-        if contents {
-            came.extend_from_slice(&content_of(alloc, repo, &entry.name)?)?;
-        }
+    for entry in entries {
+        push_file(alloc, &mut came, repo, entry, contents)?;
     }
     Ok(came)
+}
+
+/// The paths of an index, each with its content if they are asked for.
+fn files_by(
+    alloc: Global,
+    repo: &mut MemoryRepo,
+    bytes: &[u8],
+    contents: bool,
+) -> Result<Vec<u8>, Fail> {
+    let index = read_index(alloc, bytes)?;
+    listed(alloc, repo, index.entries(), contents)
+}
+
+/// The paths of the repository's index, each with its content if they are asked for.
+fn files_of(alloc: Global, repo: &mut MemoryRepo, contents: bool) -> Result<Vec<u8>, Fail> {
+    match repo.index_bytes(10_000)? {
+        Some(bytes) => files_by(alloc, repo, &bytes, contents),
+        None => files_by(alloc, repo, b"", contents),
+    }
+}
+
+/// Appends how many bytes a read of a session gives, and what it writes.
+fn push_session(
+    alloc: Global,
+    came: &mut Vec<u8>,
+    session: &SessionScript,
+) -> Result<(), AllocError> {
+    let starts = shown(alloc, session.starts)?;
+    let piece = shown(alloc, session.piece)?;
+    let output = session.output.as_slice();
+    push_all(came, &[b" ", &starts, b" ", &piece, b"\n", output, b"\n"])
 }
 
 /// Appends a driver's command, and for each session how many bytes a read gives, and what it writes.
 fn push_driver(alloc: Global, came: &mut Vec<u8>, script: &DriverScript) -> Result<(), AllocError> {
     came.extend_from_slice(script.command.as_slice())?;
     for session in script.sessions.as_slice() {
-        let starts = shown(alloc, session.starts)?;
-        let piece = shown(alloc, session.piece)?;
-        let output = session.output.as_slice();
-        push_all(came, &[b" ", &starts, b" ", &piece, b"\n", output, b"\n"])?;
+        push_session(alloc, came, session)?;
     }
     Ok(())
 }
 
 /// What the drivers write.
-fn drivers_of(alloc: Global, rehearsed: &Rehearsed) -> Result<Vec<u8>, AllocError> {
+fn drivers_of(alloc: Global, scripts: &[DriverScript]) -> Result<Vec<u8>, AllocError> {
     let mut came = Vec::new(alloc);
-    for script in rehearsed.spawner.scripts.as_slice() {
+    for script in scripts {
         push_driver(alloc, &mut came, script)?;
     }
     Ok(came)
+}
+
+/// What a rehearsal tells.
+fn told(alloc: Global, rehearsed: &mut Rehearsed, tells: &[u8]) -> Result<Vec<u8>, Fail> {
+    if tells == b"paths".as_slice() {
+        files_of(alloc, &mut rehearsed.repo, false)
+    } else if tells == b"contents".as_slice() {
+        files_of(alloc, &mut rehearsed.repo, true)
+    } else if tells == b"drivers".as_slice() {
+        Ok(drivers_of(alloc, &rehearsed.spawner.scripts)?)
+    } else {
+        Err(unknown(tells))
+    }
 }
 
 /// What comes of a case of the kind `rehearsal`.
@@ -72,14 +129,5 @@ pub fn rehearsed(alloc: Global, cells: &[Cell]) -> Result<Vec<u8>, Fail> {
         return Err(unknown(b"paths"));
     }
     let mut rehearsed = rehearse(alloc, seed, paths)?;
-    let tells = tells.value.as_slice();
-    if tells == b"paths".as_slice() {
-        files_of(alloc, &mut rehearsed.repo, false)
-    } else if tells == b"contents".as_slice() {
-        files_of(alloc, &mut rehearsed.repo, true)
-    } else if tells == b"drivers".as_slice() {
-        Ok(drivers_of(alloc, &rehearsed)?)
-    } else {
-        Err(unknown(tells))
-    }
+    told(alloc, &mut rehearsed, &tells.value)
 }

@@ -16,18 +16,50 @@ use edge_kit::{Leaf, LeafCall, Mark, MemoryLeaf, MemorySink, MemoryTree, Sink, W
 use std::alloc::{AllocError, Global};
 use std::test::Fail;
 
+/// Appends a line of an answer, and of all that was written.
+fn push_line(came: &mut Vec<u8>, answer: &[u8], bytes: &[u8]) -> Result<(), AllocError> {
+    push_all(came, &[answer, b" ", bytes, b"\n"])
+}
+
+/// Appends what a write answers, and all that was written.
+fn push_write(
+    alloc: Global,
+    came: &mut Vec<u8>,
+    sink: &mut MemorySink,
+    piece: &[u8],
+) -> Result<(), AllocError> {
+    let answer = shown(alloc, sink.write(piece))?;
+    push_line(came, &answer, sink.bytes())
+}
+
+/// Appends what each write answers.
+fn push_writes(
+    alloc: Global,
+    came: &mut Vec<u8>,
+    sink: &mut MemorySink,
+    writes: &[Cell],
+) -> Result<(), AllocError> {
+    for write in writes {
+        push_write(alloc, came, sink, &write.value)?;
+    }
+    Ok(())
+}
+
+/// What writes answer of which the one with this number fails.
+fn written(alloc: Global, fails: u32, writes: &[Cell]) -> Result<Vec<u8>, AllocError> {
+    let mut sink = MemorySink::new(alloc, Some(fails));
+    let mut came = Vec::new(alloc);
+    push_writes(alloc, &mut came, &mut sink, writes)?;
+    Ok(came)
+}
+
 /// What comes of a case of the kind `sink`.
 pub fn sunk(alloc: Global, cells: &[Cell]) -> Result<Vec<u8>, Fail> {
     let [fails, writes @ ..] = cells else {
         return Err(unknown(b"sink"));
     };
-    let mut sink = MemorySink::new(alloc, Some(number_of(&fails.value)?));
-    let mut came = Vec::new(alloc);
-    for write in writes {
-        let answer = shown(alloc, sink.write(&write.value))?;
-        push_all(&mut came, &[&answer, b" ", sink.bytes(), b"\n"])?;
-    }
-    Ok(came)
+    let fails = number_of(&fails.value)?;
+    Ok(written(alloc, fails, writes)?)
 }
 
 /// The call that a word names.
@@ -57,6 +89,21 @@ fn goes_well(leaf: &mut MemoryLeaf, call: LeafCall) -> bool
     }
 }
 
+/// Whether a call on the leaf `path` goes well.
+fn goes_in(tree: &mut MemoryTree, path: &str, call: LeafCall) -> Result<bool, AllocError> {
+    let mut leaf = tree.leaf(path)?;
+    let well = goes_well(&mut leaf, call);
+    tree.take_back(leaf);
+    Ok(well)
+}
+
+/// The call on the leaf `a` that fails.
+fn fails_of(alloc: Global, fail: LeafCall) -> Result<Vec<(Bytes, LeafCall)>, AllocError> {
+    let path = Bytes::copy_of(alloc, b"a")?;
+    let fails = vec![in alloc; (path, fail)]?;
+    Ok(fails)
+}
+
 /// Whether a call on the leaf `path` goes well if the call `fail` on the leaf `a` is to fail.
 fn goes_beside(
     alloc: Global,
@@ -64,13 +111,8 @@ fn goes_beside(
     path: &str,
     call: LeafCall,
 ) -> Result<bool, AllocError> {
-    let mut fails = Vec::new(alloc);
-    fails.push((Bytes::copy_of(alloc, b"a")?, fail))?;
-    let mut tree = MemoryTree::new(alloc, true, fails, false);
-    let mut leaf = tree.leaf(path)?;
-    let well = goes_well(&mut leaf, call);
-    tree.take_back(leaf);
-    Ok(well)
+    let mut tree = MemoryTree::new(alloc, true, fails_of(alloc, fail)?, false);
+    goes_in(&mut tree, path, call)
 }
 
 /// What comes of a case of the kind `leaf`.
@@ -131,17 +173,39 @@ fn answer_of(alloc: Global, tree: &mut MemoryTree, cell: &Cell) -> Result<Vec<u8
     }
 }
 
+/// Appends what each step answers, on a line.
+fn push_answers(
+    alloc: Global,
+    came: &mut Vec<u8>,
+    tree: &mut MemoryTree,
+    steps: &[Cell],
+) -> Result<(), Fail> {
+    for step in steps {
+        let answer = answer_of(alloc, tree, step)?;
+        push_all(came, &[&answer, b"\n"])?;
+    }
+    Ok(())
+}
+
+/// Whether the question fails, and the steps.
+fn steps_of(cells: &[Cell]) -> (bool, &[Cell]) {
+    match cells {
+        [first, steps @ ..] => {
+            if first.key.as_slice() == b"broken".as_slice() {
+                (true, steps)
+            } else {
+                (false, cells)
+            }
+        }
+        [] => (false, cells),
+    }
+}
+
 /// What comes of a case of the kind `worktree`.
 pub fn grown(alloc: Global, cells: &[Cell]) -> Result<Vec<u8>, Fail> {
-    let is_broken = match cells.first() {
-        Some(cell) => cell.key.as_slice() == b"broken".as_slice(),
-        None => false,
-    };
+    let (is_broken, steps) = steps_of(cells);
     let mut tree = MemoryTree::new(alloc, true, Vec::new(alloc), is_broken);
     let mut came = Vec::new(alloc);
-    for cell in cells.iter().skip(usize::from(is_broken)) {
-        let answer = answer_of(alloc, &mut tree, cell)?;
-        push_all(&mut came, &[&answer, b"\n"])?;
-    }
+    push_answers(alloc, &mut came, &mut tree, steps)?;
     Ok(came)
 }
