@@ -1,8 +1,7 @@
 -- The same files are cleaned from the same bytes.
-use Rattle.std.proofs.Common.{◌≡◌, ◌<◌, ◌≤◌, ◌⊎◌, ℕ, List, [], ◌∷◌, length, Option, Some, None, Result, Ok, Err, refl, sym, ap, subst, inl, inr, ◌∙◌, arith}
+use Rattle.std.proofs.Common.{◌≡◌, ◌≤◌, ◌⊎◌, ℕ, List, [], ◌∷◌, length, Option, Some, None, Result, Ok, Err, refl, sym, ap, subst, inl, inr, ◌∙◌, arith}
 use Rattle.edge_kit.specs.Told.{Told, Raw, Absent, Failing, Untold, MayFail, TellsBytes}
 use Rattle.clean_line.specs.declared.cause.CleanCause.{CleanCause}
-use Rattle.eol_convert.specs.declared.action.Action.{Action}
 use Rattle.checkin_engine.specs.declared.path.CheckinPath.{CheckinPath}
 use Rattle.checkin_engine.specs.declared.path.PathDriver.{PathDriver}
 use Rattle.checkin_engine.specs.declared.path.Storing.{Storing}
@@ -14,8 +13,8 @@ use Rattle.checkin_engine.specs.declared.fate.CheckinCause.TheVariants.{Encoding
 use Rattle.checkin_engine.specs.declared.fate.CheckinCause.TheVariants.{EncodingForm, OtherKind}
 use Rattle.checkin_engine.specs.Cleaning.{Asked, IsCleaned}
 use Rattle.checkin_engine.specs.Fates.{max_file, HasFile, HasStoredFate, HasFate}
-use Rattle.checkin_engine.specs.Outcomes.{Outcome, HasStoredCounts, HasCounts, IsUnread, IsOutcome, AreOutcomes}
-use Rattle.checkin_engine.specs.EqualTurns.{IsAskedAlike, AreAlike, IsAllTold, HaveSameFiles, SameFilesAskAlike}
+use Rattle.checkin_engine.specs.Outcomes.{Outcome, HasStoredCounts, HasCounts, IsUnread, AreOutcomes}
+use Rattle.checkin_engine.specs.EqualTurns.{IsAskedAlike, AreAlike, IsAllTold, SameFilesAskAlike}
 
 told_bytes : (file : Told) → (MayFail file → ⊥) → (bytes : List ℕ) → TellsBytes file bytes → file ≡ Raw bytes
 told_bytes (Raw told) ready bytes is = ap Raw (sym is)
