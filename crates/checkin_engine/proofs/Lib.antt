@@ -12,3 +12,4 @@ mod Talks
 mod Finish
 mod BackAgain
 mod EqualTurns
+mod SameFiles

@@ -1,6 +1,7 @@
 -- Two check-ins whose drivers' sessions have equal outputs: what they have in common.
 use Rattle.std.specs.Prelude.{◌≡◌, ℕ, false, List, [], ◌∷◌, Option, Some, None, slice_get}
 use Rattle.edge_kit.specs.Starters.{Had, StartTold}
+use Rattle.edge_kit.specs.Told.{Told, MayFail}
 use Rattle.one_shot.specs.Starters.{is_single_run}
 use Rattle.settings_view.specs.declared.view.Driver.{Driver}
 use Rattle.clean_line.specs.EqualAnswers.{AreOf}
@@ -43,3 +44,22 @@ EqualTurns = (told other : AllTold) (old new past now : Seen) (a : IsLookedThrou
     (b : IsLookedThrough other past now) → AreLikeCheckins told other old new past now a b → (place : ℕ) (d : Driver)
     → slice_get a.drivers place ≡ Some d → is_single_run (text_in (Some d)) ≡ false
     → turns_of place a.paths a.checked.outcomes ≡ turns_of place b.paths b.checked.outcomes
+
+-- all is told, and that nothing fails
+abbrev pub IsAllTold : (List ℕ → Told) → Type 0
+IsAllTold tells = (name : List ℕ) → MayFail (tells name) → ⊥
+
+-- two check-ins with the same paths and the same files, none of which fails, nor an object
+pub record HaveSameFiles (told other : AllTold) (old new past now : Seen) (a : IsLookedThrough told old new)
+    (b : IsLookedThrough other past now) : Type 0 where
+  pub paths : a.paths ≡ b.paths
+  pub files : told.files ≡ other.files
+  pub ready : IsAllTold told.files
+  pub objects : IsAllTold told.repo.object
+  pub others : IsAllTold other.repo.object
+
+-- in two such check-ins each path is asked for with the same bytes, or not at all
+abbrev pub SameFilesAskAlike : Type 0
+SameFilesAskAlike = (told other : AllTold) (old new past now : Seen) (a : IsLookedThrough told old new)
+    (b : IsLookedThrough other past now) → HaveSameFiles told other old new past now a b
+    → AreAlike a.checked.outcomes b.checked.outcomes

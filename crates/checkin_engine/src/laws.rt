@@ -1,6 +1,6 @@
 //! Laws over the definitions alone: what comes back unchanged, and what two check-ins have in common.
 ghost use Rattle.checkin_engine.specs.BackAgain.{LosesNothing, ComesBack};
-ghost use Rattle.checkin_engine.specs.EqualTurns.{EqualTurns};
+ghost use Rattle.checkin_engine.specs.EqualTurns.{EqualTurns, SameFilesAskAlike};
 
 use crate::path::Storing;
 use back_convert::content_comes_back;
@@ -31,3 +31,9 @@ pub fn equal_sessions_give_equal_turns()
 {
     equal_sessions_give_equal_answers();
 }
+
+/// The law that the same files ask alike: in two check-ins over the same paths and files, where all is told and nothing
+/// fails, each path's driver is asked for the same bytes, or in both for none. It does nothing.
+pub fn same_files_ask_alike()
+    ensures { SameFilesAskAlike }
+{}

@@ -25,7 +25,7 @@ pub use command::checkin;
 pub use fate::{CheckinCause, Fate};
 pub use files::Files;
 pub use keep::Keep;
-pub use laws::{equal_sessions_give_equal_turns, path_comes_back};
+pub use laws::{equal_sessions_give_equal_turns, path_comes_back, same_files_ask_alike};
 pub use memory_files::MemoryFiles;
 pub use memory_keep::MemoryKeep;
 pub use path::{PathDriver, Storing};
