@@ -45,17 +45,29 @@ pub struct Case {
     pub once: OnceScript,
 }
 
+/// Appends a word.
+fn push_word(alloc: Global, words: &mut Vec<String>, word: &str) -> Result<(), AllocError> {
+    words.push(String::from_str(alloc, word)?)?;
+    Ok(())
+}
+
+/// Appends the two folders and this word.
+fn push_words(alloc: Global, words: &mut Vec<String>, last: &str) -> Result<(), AllocError> {
+    push_word(alloc, words, "R")?;
+    push_word(alloc, words, "T")?;
+    push_word(alloc, words, last)
+}
+
 /// The two folders and this word.
 pub fn words_of(alloc: Global, last: &[u8]) -> Result<Vec<String>, Fail> {
+    let last = str::from_utf8(last)?;
     let mut words = Vec::new(alloc);
-    words.push(String::from_str(alloc, "R")?)?;
-    words.push(String::from_str(alloc, "T")?)?;
-    words.push(String::from_str(alloc, str::from_utf8(last)?)?)?;
+    push_words(alloc, &mut words, last)?;
     Ok(words)
 }
 
 /// No command that runs once.
-fn no_once(alloc: Global) -> Result<OnceScript, AllocError> {
+pub fn no_once(alloc: Global) -> Result<OnceScript, AllocError> {
     Ok(OnceScript {
         command: Bytes::copy_of(alloc, b"")?,
         input: Bytes::copy_of(alloc, b"")?,
@@ -66,8 +78,11 @@ fn no_once(alloc: Global) -> Result<OnceScript, AllocError> {
 
 /// A check-in of no path.
 pub fn no_case(alloc: Global) -> Result<Case, Fail> {
+    let process = Bytes::copy_of(alloc, b"")?;
+    let words = words_of(alloc, b"checkin")?;
+    let once = no_once(alloc)?;
     Ok(Case {
-        words: words_of(alloc, b"checkin")?,
+        words,
         version: 2,
         count: 0,
         entries: Vec::new(alloc),
@@ -80,9 +95,9 @@ pub fn no_case(alloc: Global) -> Result<Case, Fail> {
         unread: Vec::new(alloc),
         keep_fails: None,
         sink_fails: None,
-        process: Bytes::copy_of(alloc, b"")?,
+        process,
         starts: Vec::new(alloc),
-        once: no_once(alloc)?,
+        once,
     })
 }
 
@@ -101,18 +116,23 @@ impl Case {
         Ok(())
     }
 
+    /// Adds an entry of this name, and a driver of the same name that has it.
+    fn add_driver(&mut self, name: &[u8]) -> Result<(), Fail> {
+        push_entry(&mut self.entries, kind_of(b'-')?, &name_of(b'o')?, name)?;
+        self.count = self.count.wrapping_add(1);
+        push_all(
+            &mut self.config,
+            &[b"[filter \"", name, b"\"]\nsmudge = cat\n"],
+        )?;
+        push_all(&mut self.info, &[name, b" filter=", name, b"\n"])?;
+        Ok(())
+    }
+
     /// Adds an entry for each of so many letters, and a driver of the same name that has it.
     pub fn add_drivers(&mut self, count: u32) -> Result<(), Fail> {
         let mut letter = b'a';
         for _ in 0..count {
-            let name = [letter];
-            push_entry(&mut self.entries, kind_of(b'-')?, &name_of(b'o')?, &name)?;
-            self.count = self.count.wrapping_add(1);
-            push_all(
-                &mut self.config,
-                &[b"[filter \"", &name, b"\"]\nsmudge = cat\n"],
-            )?;
-            push_all(&mut self.info, &[&name, b" filter=", &name, b"\n"])?;
+            self.add_driver(&[letter])?;
             letter = letter.wrapping_add(1);
         }
         Ok(())
@@ -160,19 +180,21 @@ pub fn read_fail_of(word: &[u8]) -> Result<RepoFail, Fail> {
     }
 }
 
+/// The index of a case, if it has one.
+fn index_of(alloc: Global, case: &Case) -> Result<Option<Vec<u8>>, AllocError> {
+    if !case.has_index {
+        return Ok(None);
+    }
+    let bytes = index_bytes(alloc, case.version, case.count, &case.entries)?;
+    Ok(Some(bytes))
+}
+
 /// The repository of a case.
 pub fn repo_of(alloc: Global, case: &Case) -> Result<MemoryRepo, AllocError> {
-    let index = if case.has_index {
-        Some(index_bytes(alloc, case.version, case.count, &case.entries)?)
-    } else {
-        None
-    };
-    Ok(MemoryRepo::new(
-        alloc,
-        index,
-        Some(Vec::from_slice(alloc, &case.config)?),
-        Some(Vec::from_slice(alloc, &case.info)?),
-        objects(alloc)?,
-        Vec::from_slice(alloc, &case.read_fails)?,
-    ))
+    let fails = Vec::from_slice(alloc, &case.read_fails)?;
+    let config = Vec::from_slice(alloc, &case.config)?;
+    let info = Vec::from_slice(alloc, &case.info)?;
+    let index = index_of(alloc, case)?;
+    let objects = objects(alloc)?;
+    Ok(MemoryRepo::new(alloc, index, Some(config), Some(info), objects, fails))
 }

@@ -31,8 +31,8 @@ fn set_rest(alloc: Global, case: &mut Case, key: &[u8], value: &[u8]) -> Result<
     if key == b"file".as_slice() {
         case.add_file(alloc, path, bytes)?;
     } else if key == b"long".as_slice() {
-        case.long
-            .push((Bytes::copy_of(alloc, path)?, number_of(bytes)?))?;
+        let size = number_of(bytes)?;
+        case.long.push((Bytes::copy_of(alloc, path)?, size))?;
     } else if key == b"unread".as_slice() {
         case.unread.push(Bytes::copy_of(alloc, value)?)?;
     } else if key == b"keep".as_slice() {
@@ -69,17 +69,28 @@ fn set_driver(alloc: Global, case: &mut Case, key: &[u8], value: &[u8]) -> Resul
     Ok(true)
 }
 
+/// Takes what a cell says.
+fn set(alloc: Global, case: &mut Case, key: &[u8], value: &[u8]) -> Result<(), Fail> {
+    if set_repo(alloc, case, key, value)?
+        || set_rest(alloc, case, key, value)?
+        || set_driver(alloc, case, key, value)?
+    {
+        return Ok(());
+    }
+    Err(unknown(key))
+}
+
+/// Takes what the cells say.
+fn set_all(alloc: Global, case: &mut Case, cells: &[Cell]) -> Result<(), Fail> {
+    for cell in cells {
+        set(alloc, case, &cell.key, &cell.value)?;
+    }
+    Ok(())
+}
+
 /// The case of these cells.
 pub fn case_of(alloc: Global, cells: &[Cell]) -> Result<Case, Fail> {
     let mut case = no_case(alloc)?;
-    for cell in cells {
-        let (key, value) = (cell.key.as_slice(), cell.value.as_slice());
-        let known = set_repo(alloc, &mut case, key, value)?
-            || set_rest(alloc, &mut case, key, value)?
-            || set_driver(alloc, &mut case, key, value)?;
-        if !known {
-            return Err(unknown(key));
-        }
-    }
+    set_all(alloc, &mut case, cells)?;
     Ok(case)
 }

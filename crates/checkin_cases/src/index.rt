@@ -69,10 +69,7 @@ pub fn index_bytes(
     count: u32,
     entries: &[u8],
 ) -> Result<Vec<u8>, AllocError> {
-    let mut index = Vec::from_slice(alloc, b"DIRC")?;
-    index.extend_from_slice(&version.to_be_bytes())?;
-    index.extend_from_slice(&count.to_be_bytes())?;
-    index.extend_from_slice(entries)?;
-    index.extend_from_slice(&[0; 20])?;
-    Ok(index)
+    let version = version.to_be_bytes();
+    let count = count.to_be_bytes();
+    [b"DIRC".as_slice(), &version, &count, entries, &[0; 20]].concat(alloc)
 }

@@ -15,7 +15,7 @@ mod outcome;
 
 use case_kit::{Block, Cases, parted, report_files, unknown};
 use cells::case_of;
-use outcome::{left_by, text_of};
+use outcome::left_by;
 use std::alloc::Global;
 use std::test::Fail;
 
@@ -28,8 +28,8 @@ impl Cases for Checkins {
         if kind != b"checkin".as_slice() {
             return Err(unknown(kind));
         }
-        let left = left_by(alloc, case_of(alloc, &block.cells)?)?;
-        text_of(alloc, &left)
+        let mut case = case_of(alloc, &block.cells)?;
+        Ok(left_by(alloc, &mut case)?)
     }
 }
 

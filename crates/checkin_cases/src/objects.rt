@@ -59,11 +59,18 @@ pub fn name_of(letter: u8) -> Result<[u8; 20], Fail> {
     Err(unknown(&[letter]))
 }
 
+/// Appends the objects with their names, as they are stored.
+fn push_objects(alloc: Global, objects: &mut Vec<([u8; 20], Vec<u8>)>) -> Result<(), AllocError> {
+    for object in OBJECTS {
+        let stored = Vec::from_slice(alloc, object.stored)?;
+        objects.push((object.name, stored))?;
+    }
+    Ok(())
+}
+
 /// The objects with their names, as they are stored.
 pub fn objects(alloc: Global) -> Result<Vec<([u8; 20], Vec<u8>)>, AllocError> {
     let mut objects = Vec::new(alloc);
-    for object in OBJECTS {
-        objects.push((object.name, Vec::from_slice(alloc, object.stored)?))?;
-    }
+    push_objects(alloc, &mut objects)?;
     Ok(objects)
 }
