@@ -1,15 +1,15 @@
 //! Drivers in memory: their links, their starts, and what is kept of both.
 //!
-//! - `session`: the cells `output`, `piece`, `fail-send` and `fail-read`, of which the last two are a number or `-`, and
-//!   then the calls: `send` and a piece, `read` into four bytes, `shut` the input, and `wait` for the end. What each call
-//!   answers has a line, and then comes what is kept of the driver `d`.
-//! - `starts`: the cells `start` with a command. What its three starts give, each read whole, or `!` for one that fails,
-//!   has a line, and then comes what is kept of each driver. With the first cell `at-once` two sessions of `a` are held at
-//!   once, of which the second ends first, and a starter of `b` is given back first. The driver `a` starts, fails and
-//!   starts; `b` starts once; a second `a` is ignored.
+//! - `session`: the cells `output`, `piece`, `fail-send` and `fail-read`, of which the last two are a number or `-`,
+//!   and then the calls: `send` and a piece, `read` into four bytes, `shut` the input, and `wait` for the end. What
+//!   each call answers has a line, and then comes what is kept of the driver `d`.
+//! - `starts`: the cells `start` with a command. What its three starts give, each read whole, or `!` for one that
+//!   fails, has a line, and then comes what is kept of each driver. With the first cell `at-once` two sessions of `a`
+//!   are held at once, of which the second ends first, and a starter of `b` is given back first. The driver `a`
+//!   starts, fails and starts; `b` starts once; a second `a` is ignored.
 //!
-//! What is kept of a driver is its command, and then in order a `!` for each failed start, and for each session what was
-//! sent and taken, its counts of faults and of ends, and a dot if it was shut.
+//! What is kept of a driver is its command, and then in order a `!` for each failed start, and for each session what
+//! was sent and taken, its counts of faults and of ends, and a dot if it was shut.
 ghost use Rattle.std.specs.Prelude.{◌≡◌, ◌≤◌, ◌<◌, ◌+◌, ◌^◌, length};
 
 use byte_path::{Bytes, Items};

@@ -1,9 +1,9 @@
 //! Events of a checkout, and what they make of its paths.
 //!
-//! The kind `checkout` has a step for each event, spelled as a line of the journal: its word, and behind it what the line
-//! has. A step answers `ok` or `refused`. The step `verdict` and a path gives its verdict, `unclosed` how many paths are
-//! open, and `replay` what a replay of events answers, between which `;` stands. A refused event has to leave the number
-//! of open paths. With a first cell `two` the checkout has the first two paths alone.
+//! The kind `checkout` has a step for each event, spelled as a line of the journal: its word, and behind it what the
+//! line has. A step answers `ok` or `refused`. The step `verdict` and a path gives its verdict, `unclosed` how many
+//! paths are open, and `replay` what a replay of events answers, between which `;` stands. A refused event has to
+//! leave the number of open paths. With a first cell `two` the checkout has the first two paths alone.
 use case_kit::{Cell, noted, number_of, parted, push_all, shown, unknown};
 use checkout_core::{
     Event, ObjectKind, OpenCause, Own, SkipCause, Start, State, Verdict, replay, step,

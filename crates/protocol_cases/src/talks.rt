@@ -2,7 +2,8 @@
 //!
 //! The kind `talk` first has the cells of the driver and its link, in any order:
 //!
-//! - `part`: a part of the output, and `parts`: a number, and a part that comes so often. A read gives bytes of one part;
+//! - `part`: a part of the output, and `parts`: a number, and a part that comes so often. A read gives bytes of one
+//!   part;
 //! - `piece`: how many bytes a read gives at most;
 //! - `fails`: `send` or `read`, which fails at once;
 //! - `forgets`: neither the link nor a page keeps its bytes.
@@ -11,10 +12,11 @@
 //!
 //! - `ask` and `again`, each with a path and behind a space the content: the reply, what the puts answered, the page's
 //!   state, how many bytes it was put and, if it keeps them, these. With `ask-broken` the page's next put fails;
-//! - `list`: the reply; `listed`: the places that are listed; `deliver`: the first of them; `puts`: how many there were.
+//! - `list`: the reply; `listed`: the places that are listed; `deliver`: the first of them; `puts`: how many there
+//!   were.
 //!
-//! Then come `live` or `over`, and how far the link is shut. A last cell `then` asks for what was `sent`, for the `sizes`
-//! of all and of the longest send, or for the puts at each of the `reads`.
+//! Then come `live` or `over`, and how far the link is shut. A last cell `then` asks for what was `sent`, for the
+//! `sizes` of all and of the longest send, or for the puts at each of the `reads`.
 ghost use Rattle.std.specs.Prelude.{◌≡◌};
 ghost use Rattle.edge_kit.specs.declared.leaf_state.LeafState.TheVariants as leaf_state;
 
