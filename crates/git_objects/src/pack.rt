@@ -51,7 +51,7 @@ pub fn deflated(size: u64) -> u64 {
     size.saturating_add(size / 256).saturating_add(1024)
 }
 
-/// The same cause, where a thing that isn't itself wanted is longer than the limit.
+/// The cause where a thing that isn't itself wanted has a fault. One that is too long is for git alone.
 fn of_part(fault: ObjectsFault) -> ObjectsFault {
     match fault {
         ObjectsFault::TooLong => ObjectsFault::Elsewhere,
@@ -225,13 +225,8 @@ impl Pack {
             return Ok(None);
         };
         let chain = self.chain_from(shelf, start, limit)?;
-        let is_base = chain.deltas.is_empty();
         let object = self.made_by(shelf, start, chain, limit)?;
-        let stored = object.get().stored(self.alloc, limit)?;
-        if is_base {
-            shelf.keep_base(self.spot(start), object);
-        }
-        Ok(Some(stored))
+        Ok(Some(object.get().stored(self.alloc, limit)?))
     }
 
     /// Where this pack has the entry that begins at an offset.
