@@ -66,7 +66,7 @@ fn new_card<R: Repo, T: Worktree>(
     };
     let text = Bytes::copy_of(alloc, path.path.as_slice())?;
     let blob = repo.blob(&path.object)?;
-    let leaf = match tree.leaf(name) {
+    let leaf = match tree.leaf_for(name, path.mark) {
         Ok(leaf) => leaf,
         Err(AllocError) => {
             repo.take_back(blob);

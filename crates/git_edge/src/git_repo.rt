@@ -61,7 +61,7 @@ impl GitRepo {
         GitRepo::open_by(rt, "git", git_dir, revision)
     }
 
-    /// The same, where git is this program.
+    /// A repository as `open` has it, where git is this program.
     pub fn open_by(
         rt: HostRuntime,
         program: &str,
@@ -111,7 +111,6 @@ impl GitRepo {
     pub fn keeps(&self) -> Keeps {
         Keeps {
             links: self.listing.is_on(b"core.symlinks"),
-            modes: self.listing.is_on(b"core.filemode"),
         }
     }
 

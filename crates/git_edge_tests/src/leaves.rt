@@ -70,33 +70,45 @@ fn all_go(rt: HostRuntime, leaf: &mut GitLeaf, calls: &str) -> bool {
     true
 }
 
-/// What the shell does, `l` if links are kept or `-`, with `d` if a driver has run, the path of a leaf, the calls on it,
-/// and what a shell finds. A file that it makes has the mode of a plain file by its umask, and a folder that of a program.
+/// What the shell does, `l` if links are kept or `-`, with `d` if a driver has run and then the seal that a leaf is made
+/// for, its path, the calls on it, and what a shell finds. A file that the shell makes has the mode of a plain file by its
+/// umask, and a folder that of a program.
 const CASES: &[&str] = &[
-    "|l|a/b|+px;+s|test -f tree/a/b; test $(stat -c %a tree/a/b) = $(stat -c %a plain)",
-    "|l|a/b|+px;+x|test $(cat tree/a/b) = x; test $(stat -c %a tree/a/b) = $(stat -c %a made)",
-    "|l|a|+x|test ! -s tree/a; test $(stat -c %a tree/a) = $(stat -c %a made)",
-    // a long content is made before its mark is known
-    "|l|a|+z;+s|test $(wc -c < tree/a) = 5000; test $(stat -c %a tree/a) = $(stat -c %a plain)",
-    "|l|a|+z;+px;+x|test $(wc -c < tree/a) = 5001; test $(stat -c %a tree/a) = $(stat -c %a made)",
-    "|l|a|+z;+r;+py;+s|test $(cat tree/a) = y; test $(stat -c %a tree/a) = $(stat -c %a plain)",
-    "|l|a|+z;+d|test ! -e tree/a",
+    "|ls|a/b|+px;+s|test -f tree/a/b; test $(stat -c %a tree/a/b) = $(stat -c %a plain)",
+    "|lx|a/b|+px;+x|test $(cat tree/a/b) = x; test $(stat -c %a tree/a/b) = $(stat -c %a made)",
+    "|lx|a|+x|test ! -s tree/a; test $(stat -c %a tree/a) = $(stat -c %a made)",
+    // a long content
+    "|ls|a|+z;+s|test $(wc -c < tree/a) = 5000; test $(stat -c %a tree/a) = $(stat -c %a plain)",
+    "|lx|a|+z;+px;+x|test $(wc -c < tree/a) = 5001; test $(stat -c %a tree/a) = $(stat -c %a made)",
+    "|ls|a|+z;+r;+py;+s|test $(cat tree/a) = y; test $(stat -c %a tree/a) = $(stat -c %a plain)",
+    "|ls|a|+z;+d|test ! -e tree/a",
     // a file that a driver removed, or replaced, isn't sealed, and what has its name now stays
-    "|ld|a|+z;+m;-s|test ! -e tree/a",
-    "|ld|a|+z;+px;+s|test $(wc -c < tree/a) = 5001",
+    "|lds|a|+z;+m;-s|test ! -e tree/a",
+    "|lds|a|+z;+px;+s|test $(wc -c < tree/a) = 5001",
     // a link is made by its seal, and leads anywhere
-    "|l|a/b|+p../;+pc;+l|test $(readlink tree/a/b) = ../c",
-    "|l|a|+pb|test ! -e tree",
-    "|l|a|+z;+r;+pb;+l|test $(readlink tree/a) = b",
-    "|-|a|+pb;+l|test ! -L tree/a; test $(cat tree/a) = b",
+    "|ll|a/b|+p../;+pc;+l|test $(readlink tree/a/b) = ../c",
+    "|ll|a|+pb|test ! -e tree",
+    "|ll|a|+pc;+r;+pb;+l|test $(readlink tree/a) = b",
+    "|-l|a|+pb;+l|test ! -L tree/a; test $(cat tree/a) = b",
     // no text, and one that is too long for a link
-    "|l|a|-l;+d|test ! -e tree/a",
-    "|l|a|+z;-l;+d|test ! -e tree/a",
+    "|ll|a|-l;+d|test ! -e tree/a",
+    "|ll|a|-z;+d|test ! -e tree/a",
     // what is there stays, and no link is followed
-    "mkdir tree; printf old > tree/a|l|a|+pb;-l;+d|test $(cat tree/a) = old",
-    "mkdir tree; ln -s b tree/a|l|a|+px;-s;+d|test ! -e tree/b",
-    "mkdir tree c; ln -s ../c tree/a|l|a/b|+px;-l;+d|test ! -e c/b; test ! -L c/b",
+    "mkdir tree; printf old > tree/a|ll|a|+pb;-l;+d|test $(cat tree/a) = old",
+    "mkdir tree; ln -s b tree/a|ls|a|-px;+d|test ! -e tree/b",
+    "mkdir tree c; ln -s ../c tree/a|ll|a/b|+px;-l;+d|test ! -e c/b; test ! -L c/b",
+    // another mark than the one that it was made for
+    "|ls|a|+pb;-x;+d|test ! -e tree/a",
 ];
+
+/// The mark whose letter stands last.
+fn mark_of(kept: &str) -> Mark {
+    match kept.as_bytes() {
+        [.., b'x'] => Mark::Executable,
+        [.., b'l'] => Mark::LinkText,
+        _ => Mark::Plain,
+    }
+}
 
 /// Whether the calls on the leaf go as they should in this folder.
 fn leaf_goes(rt: HostRuntime, folder: &str, rest: &str) -> Result<bool, Fail> {
@@ -104,11 +116,10 @@ fn leaf_goes(rt: HostRuntime, folder: &str, rest: &str) -> Result<bool, Fail> {
     let (path, calls) = cut(rest, '|');
     let keeps = Keeps {
         links: kept.starts_with('l'),
-        modes: true,
     };
-    let driven = Arc::new(rt.alloc(), AtomicBool::new(kept.ends_with('d')))?;
+    let driven = Arc::new(rt.alloc(), AtomicBool::new(kept.contains('d')))?;
     let mut tree = GitTree::new(rt, path_in(rt, folder, "tree")?, keeps, driven);
-    let mut leaf = tree.leaf(path)?;
+    let mut leaf = tree.leaf_for(path, mark_of(kept))?;
     let well = all_go(rt, &mut leaf, calls);
     tree.take_back(leaf);
     Ok(well)

@@ -22,4 +22,3 @@ mode_of kind.Link = 438
 pub record HoldsSame (old new : GitLeaf) : Type 0 where
   pub text : new.text.items ≡ old.text.items
   pub file : new.file ≡ old.file
-  pub long : new.long ≡ old.long

@@ -7,11 +7,9 @@ use edge_kit::Mark;
 /// What a worktree's file system keeps (git-config(1)).
 #[derive(Clone, Copy)]
 pub struct Keeps {
-    /// Links, as `core.symlinks` says. Without them a link is a plain file with its text.
+    /// Links, as `core.symlinks` says. Without them a link is a plain file with its text. Git makes executable files
+    /// whatever `core.fileMode` says.
     pub links: bool,
-    /// Whether a file is executable, as `core.fileMode` says. Git makes executable files whatever it says. Without it a
-    /// file system may refuse to take the permission from a file.
-    pub modes: bool,
 }
 
 /// What stands at a path.

@@ -1,12 +1,13 @@
 ghost use Rattle.std.specs.Prelude.{◌≡◌, ◌+◌, ◌≤◌, IfOk, None, string_bytes, vec_len, vec_capacity};
 ghost use Rattle.edge_kit.specs.declared.leaf_state.LeafState.TheVariants.{Fresh};
 ghost use Rattle.edge_adapters.specs.Paths.{path_in};
+ghost use Rattle.git_tree.specs.Kinds.{kind_of};
 
-use crate::kinds::Keeps;
+use crate::kinds::{Keeps, kind_of};
 use crate::leaf::{Driven, GitLeaf};
 use byte_path::Bytes;
 use edge_adapters::{LeafPlace, WriteErrors, holds_nothing};
-use edge_kit::{Failed, LeafState, Worktree};
+use edge_kit::{Failed, LeafState, Mark, Worktree};
 use std::alloc::{AllocError, Global};
 use std::io::ErrorKind;
 use std::sync::Arc;
@@ -55,18 +56,20 @@ impl GitTree {
         &self.errors
     }
 
-    /// A leaf for the file with this path.
-    fn file(&self, path: &str) -> Result<GitLeaf, AllocError>
+    /// A leaf for what this path will have, by its mark.
+    fn made(&self, path: &str, mark: Mark) -> Result<GitLeaf, AllocError>
         ensures path { IfOk result (λ l. l.place.path ≡ path.now) }
         ensures full { IfOk result (λ l.
             l.place.full ≡ path_in (string_bytes self.now.folder) path.now) }
-        ensures keeps { IfOk result (λ l. l.keeps ≡ self.now.keeps) }
+        ensures mark { IfOk result (λ l. l.mark ≡ mark) }
+        ensures kind { IfOk result (λ l. l.kind ≡ kind_of self.now.keeps mark) }
         ensures fresh { IfOk result (λ l. l.state ≡ Fresh) }
         ensures unfailed { IfOk result (λ l. l.faults ≡ 0) }
     {
         let place = LeafPlace::new(self.alloc, self.folder.as_str(), path)?;
         let driven = Arc::try_clone(&self.driven)?;
-        Ok(GitLeaf::new(self.rt, place, self.keeps, driven))
+        let kind = kind_of(self.keeps, mark);
+        Ok(GitLeaf::new(self.rt, place, mark, kind, driven))
     }
 }
 
@@ -98,8 +101,13 @@ impl Worktree for GitTree {
         }
     }
 
+    /// A leaf for a plain file: with another mark its seal fails.
     fn leaf(&mut self, path: &str) -> Result<GitLeaf, AllocError> {
-        let leaf = self.file(path)?;
+        self.leaf_for(path, Mark::Plain)
+    }
+
+    fn leaf_for(&mut self, path: &str, mark: Mark) -> Result<GitLeaf, AllocError> {
+        let leaf = self.made(path, mark)?;
         self.errors.reserve()?;
         self.returned.reserve(self.out + 1)?;
         self.out += 1;

@@ -1,5 +1,5 @@
 //! How many paths of a checkout are closed, on standard error while it runs.
-use edge_kit::{Failed, Gate, Point, Worktree};
+use edge_kit::{Failed, Gate, Mark, Point, Worktree};
 use std::alloc::AllocError;
 use std::io::IsTerminal;
 use std::sync::atomic::{AtomicBool, AtomicU32, Ordering};
@@ -27,6 +27,12 @@ impl<T: Worktree + Drop> Worktree for CountingTree<'_, T> {
 
     fn leaf(&mut self, path: &str) -> Result<T::Leaf, AllocError> {
         let leaf = self.tree.leaf(path)?;
+        self.leaves.fetch_add(1, Ordering::SeqCst);
+        Ok(leaf)
+    }
+
+    fn leaf_for(&mut self, path: &str, mark: Mark) -> Result<T::Leaf, AllocError> {
+        let leaf = self.tree.leaf_for(path, mark)?;
         self.leaves.fetch_add(1, Ordering::SeqCst);
         Ok(leaf)
     }
