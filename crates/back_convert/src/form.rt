@@ -38,7 +38,7 @@ const LITTLE16_LIMITS: [u8; 32] = [
 /// Where the lowest bytes of sixteen characters stand.
 const LITTLE16_PLACES: [usize; 16] = [0, 2, 4, 6, 8, 10, 12, 14, 16, 18, 20, 22, 24, 26, 28, 30];
 
-/// The same for UTF-16, the highest byte first.
+/// The largest bytes of sixteen characters of ASCII in UTF-16, the highest byte first.
 const BIG16_LIMITS: [u8; 32] = [
     0, 127, 0, 127, 0, 127, 0, 127, 0, 127, 0, 127, 0, 127, 0, 127, 0, 127, 0, 127, 0, 127, 0, 127,
     0, 127, 0, 127, 0, 127, 0, 127,
@@ -46,7 +46,7 @@ const BIG16_LIMITS: [u8; 32] = [
 
 const BIG16_PLACES: [usize; 16] = [1, 3, 5, 7, 9, 11, 13, 15, 17, 19, 21, 23, 25, 27, 29, 31];
 
-/// The same for UTF-32, the lowest byte first.
+/// The largest bytes of sixteen characters of ASCII in UTF-32, the lowest byte first.
 const LITTLE32_LIMITS: [u8; 64] = [
     127, 0, 0, 0, 127, 0, 0, 0, 127, 0, 0, 0, 127, 0, 0, 0, 127, 0, 0, 0, 127, 0, 0, 0, 127, 0, 0,
     0, 127, 0, 0, 0, 127, 0, 0, 0, 127, 0, 0, 0, 127, 0, 0, 0, 127, 0, 0, 0, 127, 0, 0, 0, 127, 0,
@@ -55,7 +55,7 @@ const LITTLE32_LIMITS: [u8; 64] = [
 
 const LITTLE32_PLACES: [usize; 16] = [0, 4, 8, 12, 16, 20, 24, 28, 32, 36, 40, 44, 48, 52, 56, 60];
 
-/// The same for UTF-32, the highest byte first.
+/// The largest bytes of sixteen characters of ASCII in UTF-32, the highest byte first.
 const BIG32_LIMITS: [u8; 64] = [
     0, 0, 0, 127, 0, 0, 0, 127, 0, 0, 0, 127, 0, 0, 0, 127, 0, 0, 0, 127, 0, 0, 0, 127, 0, 0, 0,
     127, 0, 0, 0, 127, 0, 0, 0, 127, 0, 0, 0, 127, 0, 0, 0, 127, 0, 0, 0, 127, 0, 0, 0, 127, 0, 0,

@@ -18,7 +18,7 @@ fn first_sixteen<F: Form<WIDE>, const WIDE: usize>(bytes: &[u8]) -> Option<([u8;
     Some((ascii, behind))
 }
 
-/// The same of four times sixteen.
+/// The 64 characters of ASCII with which bytes begin, in four parts, and what follows them.
 #[inline(always)]
 fn first_sixteens<F: Form<WIDE>, const WIDE: usize>(bytes: &[u8]) -> Option<([[u8; 16]; 4], &[u8])>
     ensures { IfSome result (λ r. BeginsWithText F.chars bytes.now (flat_map (λ x. x) r.0) r.1.now) }

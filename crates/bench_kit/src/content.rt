@@ -71,7 +71,7 @@ fn lines(alloc: Global, mean: u8, end: &[u8]) -> Result<Vec<u8>, AllocError>
     Ok(text)
 }
 
-/// The same bytes with a keyword after each 4 KB.
+/// These bytes with a keyword after each 4 KB.
 fn with_keywords(alloc: Global, bytes: &[u8]) -> Result<Vec<u8>, AllocError> {
     let mut text = Vec::with_capacity(alloc, SIZE)?;
     for chunk in bytes.chunks(4096) {

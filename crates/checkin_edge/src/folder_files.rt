@@ -76,7 +76,7 @@ impl FolderFiles {
         }
     }
 
-    /// The same folder, where a file in the place of one of these links fails, and a link in any other place.
+    /// This folder, where a file in the place of one of these links fails, and a link in any other place.
     pub fn of_links(self, links: IndexLinks) -> FolderFiles
         ensures folder { result.folder ≡ self.folder }
         ensures seen { ⟦<FolderFiles as Files>⟧.seen result ≡ ⟦<FolderFiles as Files>⟧.seen self }

@@ -77,7 +77,7 @@ impl FolderKeep {
         }
     }
 
-    /// The same keeper, which gives these entries of an index their marks back: assume-valid, and skip-worktree alone where
+    /// This keeper, which gives these entries of an index their marks back: assume-valid, and skip-worktree alone where
     /// they had it. They stand in the index's order.
     pub fn holding(self, held: Vec<HeldEntry>) -> FolderKeep
         ensures objects { result.objects ≡ self.objects }

@@ -132,8 +132,8 @@ fn read_there(
     file_bytes(alloc, file, limit)
 }
 
-/// The same. There is no file where a part of the path below the worktree's folder isn't there or is no folder, as where
-/// it is a link to one.
+/// The bytes of the regular file at a place of the worktree. There is none where a part of its path below the folder of
+/// the worktree isn't there or is no folder, as where it is a link to one.
 pub fn read_below(
     rt: HostRuntime,
     alloc: Global,

@@ -10,7 +10,7 @@ const HASH: usize = 20;
 /// How many bytes stand before an entry's path, or before the 16 more bits if it has these.
 const FIELDS: usize = 62;
 
-/// The same with the 16 more bits.
+/// How many bytes stand before the path of an entry with the 16 more bits.
 const MORE_FIELDS: usize = 64;
 
 /// In the first byte of the flags: assume-valid, whether 16 more bits follow, and the stage.
@@ -147,7 +147,7 @@ impl<'a> RawEntry<'a> {
         Ok(())
     }
 
-    /// The same entry with skip-worktree.
+    /// This entry with skip-worktree.
     fn sparse(self) -> RawEntry<'a> {
         let [high, low] = self.flags;
         let [more_high, more_low] = self.more.unwrap_or([0, 0]);
@@ -158,7 +158,7 @@ impl<'a> RawEntry<'a> {
         }
     }
 
-    /// The same entry with assume-valid, and with skip-worktree only if it is to have that.
+    /// This entry with assume-valid, and with skip-worktree only if it is to have that.
     pub fn assumed(self, sparse: bool) -> RawEntry<'a> {
         let [high, low] = self.flags;
         let more = if sparse {

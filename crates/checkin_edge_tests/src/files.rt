@@ -38,7 +38,7 @@ const CASES: &[&str] = &[
     "mkfifo a~a~9x",
 ];
 
-/// The same where `l` is a link in the index, and `a` a file. `k` is a failure by the kind of the file.
+/// Rows as above where `l` is a link in the index, and `a` a file. `k` is a failure by the kind of the file.
 const KINDS: &[&str] = &[
     "printf hi > a~a~9=hi",
     "ln -s nowhere a~a~9k",

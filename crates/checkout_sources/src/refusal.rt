@@ -17,7 +17,7 @@ fn numbered(alloc: Global, word: &str, number: u32) -> Result<String, AllocError
     format!(in alloc; "{word} {number}")
 }
 
-/// The same, with a blank and what else is to be said.
+/// A word, a number and what else is to be said, with blanks between.
 fn detailed(alloc: Global, word: &str, number: u32, detail: &str) -> Result<String, AllocError>
     ensures { IfOk result (λ s. string_bytes s
         ≡ word.now ++ 32 ∷ decimal number ++ 32 ∷ detail.now) }

@@ -66,7 +66,7 @@ impl<S: Starter> CleanLine<S> {
         }
     }
 
-    /// The same where no path before was refused for good.
+    /// Cleans a content where no path before was refused for good.
     fn clean_willing(&mut self, path: &[u8], content: &[u8]) -> Result<Bytes, CleanFault>
         requires willing { self.old.refusing ≡ None }
         requires few { length self.old.starter.had < 2 ^ 32 }
@@ -82,7 +82,7 @@ impl<S: Starter> CleanLine<S> {
         }
     }
 
-    /// The same where no session is open.
+    /// Cleans a content by a session that it starts, where none is open.
     fn start_for(&mut self, path: &[u8], content: &[u8]) -> Result<Bytes, CleanFault>
         requires willing { self.old.refusing ≡ None }
         requires none { self.old.session ≡ None }

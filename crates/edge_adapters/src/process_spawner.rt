@@ -45,7 +45,7 @@ impl ProcessSpawner {
         ProcessSpawner::with_place(rt, None)
     }
 
-    /// The same for drivers that run in this place.
+    /// A spawner that has given nothing, of drivers that run in this place.
     pub fn in_place(rt: HostRuntime, place: DriverPlace) -> Result<ProcessSpawner, AllocError> {
         let place = Arc::new(rt.alloc(), place)?;
         Ok(ProcessSpawner::with_place(rt, Some(place)))

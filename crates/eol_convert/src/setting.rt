@@ -21,6 +21,6 @@ pub enum LineEnds {
     Keep,
     /// Each LF without a CR before it becomes CR LF.
     ToCrlf,
-    /// The same, if the content is a text without a CR.
+    /// Each LF becomes CR LF, if the content is a text without a CR.
     AutoCrlf,
 }

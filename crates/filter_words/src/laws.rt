@@ -81,7 +81,7 @@ pub fn one_reply()
     no_packet();
 }
 
-/// The same for the answer to a list request while these paths are delayed.
+/// The automaton and the grammar agree on the answer to a list request while these paths are delayed.
 pub fn list_grammar()
     ensures good { (delayed : List (List ℕ)) (ps : List Packet) (g : GoodList)
         → outcome (list_step delayed) limit list_start ps ≡ state.Done g
@@ -97,7 +97,7 @@ pub fn list_grammar()
         → IsBroken GoodList (IsList delayed) (BreaksList delayed) ps why }
 {}
 
-/// The same for two answers to a list request.
+/// Two ended answers to a list request at the front of the same bytes are equal.
 pub fn one_list()
     ensures same { (delayed : List (List ℕ)) (ps qs : List Packet) (a b x y : List ℕ)
         (u v : AnswerState ListPhase GoodList) → SpellAll ps a → SpellAll qs b → a ++ x ≡ b ++ y
@@ -124,7 +124,7 @@ pub fn one_list()
     no_packet();
 }
 
-/// The same for the two answers to a handshake.
+/// The automaton and the grammar agree on the two answers to a handshake.
 pub fn handshake_grammar()
     ensures good { (ps : List Packet) (caps : Caps)
         → outcome handshake_step limit handshake_start ps ≡ state.Done caps
@@ -139,7 +139,7 @@ pub fn handshake_grammar()
         → IsBroken Caps IsHandshake BreaksHandshake ps why }
 {}
 
-/// The same for two handshakes.
+/// Two ended handshakes at the front of the same bytes are equal.
 pub fn one_handshake()
     ensures same { (ps qs : List Packet) (a b x y : List ℕ) (u v : AnswerState HandshakePhase Caps)
         → SpellAll ps a → SpellAll qs b → a ++ x ≡ b ++ y

@@ -55,7 +55,7 @@ fn file_read(alloc: Global, form: &[u8], text: &[u8]) -> Result<Vec<u8>, Fail> {
     }
 }
 
-/// The same about another text.
+/// What a case says about another text.
 fn text_read(alloc: Global, form: &[u8], text: &[u8]) -> Result<Vec<u8>, Fail> {
     if form == b"keyword text".as_slice() {
         Ok(contents::expanded(alloc, text)?)

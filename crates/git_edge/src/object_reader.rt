@@ -98,7 +98,7 @@ impl ObjectReader {
         taken
     }
 
-    /// The same where the files are broken. An object of which they have something isn't absent.
+    /// An object from git where the files are broken. One of which they have something isn't absent.
     fn from_git_if_there(&mut self, git: &Git, wanted: Wanted) -> Result<Option<Vec<u8>>, TakeFault>
         ensures takes { Takes Untold wanted.limit result }
         ensures there { IfOk result (λ stored. stored ≢ None) }

@@ -29,7 +29,7 @@ impl SharedObject {
         Ok(SharedObject { object })
     }
 
-    /// The same object once more.
+    /// This object for one more reader.
     pub fn share(&self) -> Result<SharedObject, AllocError>
         ensures { IfOk result (λ shared. shared ≡ self.now) }
     {

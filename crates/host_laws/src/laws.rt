@@ -142,8 +142,8 @@ pub fn single_runs_serve()
     no_packet();
 }
 
-/// The same of a talk whose starts are told to run a command and whose sessions a starter keeps, if memory never ran
-/// out: each path gets the output that its command gave, or is refused as there.
+/// A talk whose starts are told to run a command and whose sessions a starter keeps, if memory never ran out: each path
+/// gets the output that its command gave, or is refused as in `single_runs_serve`.
 pub fn kept_runs_serve()
     ensures { KeptHeard }
 {

@@ -21,14 +21,14 @@ pub fn runs_are_legal()
     journal_fits_audit();
 }
 
-/// The same of the journal of a rehearsal: what `journal` writes with status 0 passes `audit`.
+/// The journal of a rehearsal, as `journal` writes it with status 0, passes `audit`.
 pub fn rehearsals_are_legal()
     ensures { RehearsalsAreLegal }
 {
     runs_are_legal();
 }
 
-/// The same of the journal of a checkout that reached its report, where the repository tells all that it holds.
+/// The journal of a checkout that reached its report passes `audit`, where the repository tells all that it holds.
 pub fn checkouts_are_legal()
     ensures { CheckoutsAreLegal }
 {

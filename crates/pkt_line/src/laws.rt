@@ -12,7 +12,7 @@ pub fn prefix_free()
         → (p ≡ q) × (a ≡ b) × (x ≡ y) }
 {}
 
-/// The same bytes give the same packets, up to bytes with no packet at their front.
+/// Equal bytes give equal packets, up to bytes with no packet at their front.
 pub fn one_reading()
     ensures { (ps qs : List Packet) (a b x y : List ℕ) → SpellAll ps a → SpellAll qs b
         → a ++ x ≡ b ++ y → HasNoPacket x → HasNoPacket y

@@ -40,7 +40,7 @@ fn fresh(alloc: Global) -> Result<State, AllocError> {
     State::start(alloc, Vec::from_slice(alloc, &STARTS)?, 1, 2)
 }
 
-/// The same with the first two paths alone, and one driver.
+/// The first two of these paths alone, with one worker and one driver.
 fn fresh_of_two(alloc: Global) -> Result<State, AllocError> {
     let [first, second, ..] = STARTS;
     State::start(alloc, Vec::from_slice(alloc, &[first, second])?, 1, 1)

@@ -246,7 +246,7 @@ impl Compiled {
         self.matches_named(path, last_part(path))
     }
 
-    /// The same, where the last part of the path is known: `name`.
+    /// The answer of `matches` where the last part of the path is known: `name`.
     pub fn matches_named(&self, path: &[u8], name: &[u8]) -> bool
         requires { name.now ≡ last_part path.now }
         ensures { result ≡ is_match self.now path.now }
