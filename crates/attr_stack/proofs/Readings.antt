@@ -4,7 +4,6 @@ use Rattle.std.proofs.lemmas.List.{append-nil}
 use Rattle.std.proofs.lemmas.Slice.Eq.{bytes_eq-Decides}
 use Rattle.std.proofs.lemmas.Bool.{false_from_ne_true}
 use Rattle.std.specs.List.{list_all}
-use Rattle.std.specs.Option.{unwrap_or}
 use Rattle.std.specs.Str.{bytes_eq}
 use Rattle.attr_line.specs.declared.state.AttrState.{AttrState}
 use Rattle.attr_line.specs.declared.state.AttrState.TheVariants.{Set, Unset, Unspecified, Value}
@@ -244,11 +243,11 @@ leads-same lines others asked pairs left old new same leads = λ rest name h.
     still-same : (ps : List Pair) (states : Noted) (name : List ℕ) → still_of lines ps states name ≡ still_of others ps states name
     still-same ps states name = ap (λ (ds : List Pair). or_else (states name) (said_of ds name)) (decided-same lines others ps (known states) same)
 
--- a name that isn't needed isn't asked for, and is no macro
-pub not-needed : (asked : Bool) (macro : Option (List Pair)) → (asked || is_some macro) ≡ false → (asked ≡ false) × (unwrap_or macro [] ≡ [])
-not-needed true macro is = absurd (cc)
-not-needed false None is = (refl, refl)
-not-needed false (Some pairs) is = absurd (cc)
+-- a name that isn't needed is no macro, and isn't asked for
+pub not-needed : (number : Option ℕ) (asked : Bool) → (is_some number || asked) ≡ false → (number ≡ None) × (asked ≡ false)
+not-needed None false is = (refl, refl)
+not-needed None true is = absurd (cc)
+not-needed (Some number) asked is = absurd (cc)
 
 -- ---- readings put together
 

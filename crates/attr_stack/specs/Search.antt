@@ -1,15 +1,13 @@
 -- What a search for the states of some names has found so far.
-use Rattle.std.specs.Prelude.{◌≡◌, ℕ, true, ◌||◌, List, ◌++◌, Option, Some, None, is_some}
+use Rattle.std.specs.Prelude.{◌≡◌, ℕ, true, List, ◌++◌, Option, Some, None, is_some}
 use Rattle.std.specs.List.{list_any}
 use Rattle.std.specs.Str.{bytes_eq}
-use Rattle.std.specs.BTreeMap.{BTreeMap}
-use denote.Ref.{Bor}
 use Rattle.attr_line.specs.declared.state.AttrState.{AttrState}
 use Rattle.attr_line.specs.declared.file.Pair.{Pair}
-use Rattle.attr_stack.specs.declared.decide.AttributeQuery.{AttributeQuery}
+use Rattle.attr_stack.specs.declared.noted.Decided.{Decided as Kept}
 use Rattle.attr_stack.specs.Macros.{MacroLine}
 use Rattle.attr_stack.specs.Decided.{Names, decided, said_of}
-use Rattle.attr_stack.specs.Seen.{AreMacros, macro_at, state_at}
+use Rattle.attr_stack.specs.Seen.{AreMacros, state_at}
 
 -- what is decided of each name so far
 abbrev pub Noted : Type 0
@@ -31,18 +29,13 @@ still_of lines pairs states name = or_else (states name) (said_of (decided lines
 abbrev pub is_asked : List (List ℕ) → Names
 is_asked names name = list_any (λ (other : List ℕ). bytes_eq other name) names
 
--- whether a name may decide one that is asked for: it is asked for itself, or it is a macro
-abbrev pub is_needed : AttributeQuery → Names
-is_needed asked name = is_asked asked.names.now name || is_some (macro_at asked.macros.now name)
-
 -- Of each name that is asked for, the same is decided by the pairs before, after what was noted then, as by the pairs
 -- that are left, after what is noted now.
 abbrev pub Leads : List MacroLine → Names → List Pair → Noted → List Pair → Noted → Type 0
 Leads lines asked pairs old left new = (rest : List Pair) (name : List ℕ) → asked name ≡ true
     → still_of lines (pairs ++ rest) old name ≡ still_of lines (left ++ rest) new name
 
--- the same for the maps of the code
-abbrev pub Reads : AttributeQuery → List Pair → BTreeMap (Bor (List ℕ)) (Bor AttrState) → List Pair
-    → BTreeMap (Bor (List ℕ)) (Bor AttrState) → Type 0
-Reads asked pairs old left new = (lines : List MacroLine) → AreMacros asked.macros.now lines
-    → Leads lines (is_asked asked.names.now) pairs (state_at old) left (state_at new)
+-- the same for what the code keeps, whose macros stay as they mean
+abbrev pub Reads : List (List ℕ) → List Pair → Kept → List Pair → Kept → Type 0
+Reads names pairs old left new = (lines : List MacroLine) → AreMacros old.macros.now lines
+    → AreMacros new.macros.now lines × Leads lines (is_asked names) pairs (state_at old) left (state_at new)

@@ -7,7 +7,7 @@ ghost use Rattle.attr_stack.specs.Levels.{row_pattern, row_rule, rows_pairs};
 ghost use Rattle.attr_stack.specs.Search.{Reads};
 ghost use Rattle.attr_stack.specs.Seen.{state_at};
 
-use crate::decide::{AttributeQuery, is_done, read_rule};
+use crate::decide::{is_done, read_rule};
 use crate::files::FileAt;
 use crate::noted::States;
 use attr_line::{AttrFile, AttrRow, Pair};
@@ -49,17 +49,18 @@ fn patterns_of(alloc: Global, rows: &[AttrRow]) -> Result<Vec<Compiled>, AllocEr
 
 /// Notes what a row that matches says, and gives whether the search may stop.
 fn read_row<'a>(
-    asked: &AttributeQuery<'a>,
+    names: &[Bytes],
     states: &mut States<'a>,
     pending: &mut Vec<&'a Pair>,
     row: &'a AttrRow,
 ) -> Result<bool, AllocError>
-    ensures states { IfOk result (λ done. Reads asked.now (reverse (row_rule row.now)) states.old.decided [] states.new.decided) }
+    ensures states { IfOk result (λ done. Reads names.now (reverse (row_rule row.now))
+        states.old.decided [] states.new.decided) }
     ensures done { IfOk result (λ done. OnTrue done
-        (list_all (λ name. is_some (state_at states.new.decided name)) asked.now.names.now ≡ true)) }
+        (list_all (λ name. is_some (state_at states.new.decided name)) names.now ≡ true)) }
 {
-    read_rule(asked, states, pending, row_rule(row))?;
-    Ok(is_done(asked.names, states))
+    read_rule(names, states, pending, row_rule(row))?;
+    Ok(is_done(names, states))
 }
 
 /// The rows of a file, with the pattern of each.
@@ -72,14 +73,15 @@ struct CompiledRows<'a> {
 /// Notes what these rows decide, from the last on, for a path in the folder of their file. It stops once all names are
 /// decided.
 fn read_rows<'a>(
-    asked: &AttributeQuery<'a>,
+    names: &[Bytes],
     states: &mut States<'a>,
     pending: &mut Vec<&'a Pair>,
     compiled: &CompiledRows<'a>,
     path: &[u8],
 ) -> Result<(), AllocError>
     requires { compiled.now.patterns.now ≡ map row_pattern compiled.now.rows.now }
-    ensures { OnOk result (Reads asked.now (rows_pairs path.now compiled.now.rows.now) states.old.decided [] states.new.decided) }
+    ensures { OnOk result (Reads names.now (rows_pairs path.now compiled.now.rows.now)
+        states.old.decided [] states.new.decided) }
 {
     let CompiledRows { rows, patterns } = *compiled;
     let name = last_part(path);
@@ -87,7 +89,7 @@ fn read_rows<'a>(
         if !patterns[place].matches_named(path, name) {
             continue;
         }
-        if read_row(asked, states, pending, &rows[place])? {
+        if read_row(names, states, pending, &rows[place])? {
             return Ok(());
         }
     }
@@ -125,17 +127,18 @@ impl CompiledFile {
     /// Notes what the file decides for a path in its folder.
     pub fn read<'a>(
         &'a self,
-        asked: &AttributeQuery<'a>,
+        names: &[Bytes],
         states: &mut States<'a>,
         pending: &mut Vec<&'a Pair>,
         path: &[u8],
     ) -> Result<(), AllocError>
-        ensures { OnOk result (Reads asked.now (file_pairs path.now self.now) states.old.decided [] states.new.decided) }
+        ensures { OnOk result (Reads names.now (file_pairs path.now self.now)
+            states.old.decided [] states.new.decided) }
     {
         let rows = self.file.rows.as_slice();
         let patterns = &self.patterns;
         let compiled = CompiledRows { rows, patterns };
-        read_rows(asked, states, pending, &compiled, path)
+        read_rows(names, states, pending, &compiled, path)
     }
 }
 

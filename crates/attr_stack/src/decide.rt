@@ -1,47 +1,32 @@
 //! Which pair decides each attribute that is asked for.
 ghost use Rattle.std.specs.Bool.{OnTrue};
-ghost use Rattle.std.specs.Prelude.{◌≡◌, true, [], ◌++◌, List, OnOk, is_some, reverse};
+ghost use Rattle.std.specs.Prelude.{◌≡◌, true, ◌||◌, [], ◌++◌, List, OnOk, is_some, reverse};
 ghost use Rattle.std.specs.List.{list_all};
 ghost use Rattle.attr_stack.specs.Macros.{MacroLine};
 ghost use Rattle.attr_stack.specs.Decided.{body_of};
-ghost use Rattle.attr_stack.specs.Seen.{from_end, state_at, pairs_at, AreMacros};
-ghost use Rattle.attr_stack.specs.Search.{is_asked, is_needed, Reads};
+ghost use Rattle.attr_stack.specs.Seen.{from_end, number_at, state_at, AreMacros};
+ghost use Rattle.attr_stack.specs.Search.{is_asked, Reads};
 
-use crate::macros::Macros;
+use crate::macros::{Macros, meaning_of, number_of};
 use crate::noted::States;
 use crate::reach::push_pairs;
 use attr_line::{AttrState, Pair};
 use byte_path::Bytes;
 use std::alloc::AllocError;
 
-/// What a search is for.
-#[derive(Clone, Copy)]
-pub struct AttributeQuery<'a> {
-    pub names: &'a [Bytes],
-    pub macros: &'a Macros,
-}
-
-/// What a name stands for: nothing, if it is no macro.
-fn meaning_of<'a>(macros: &'a Macros, name: &[u8]) -> &'a [Pair]
-    ensures { result.now ≡ pairs_at macros.now name.now }
-{
-    match macros.get(name) {
-        Some(pairs) => pairs.as_slice(),
-        None => &[],
-    }
-}
-
 /// What is read at the point of a pair that decides.
 fn push_body<'a>(
     pending: &mut Vec<&'a Pair>,
     macros: &'a Macros,
     pair: &Pair,
+    number: Option<usize>,
 ) -> Result<(), AllocError>
+    requires { number ≡ number_at macros.now pair.now.name }
     ensures { OnOk result ((lines : List MacroLine) → AreMacros macros.now lines
         → from_end pending.new.items ≡ body_of lines pair.now ++ from_end pending.old.items) }
 {
     match &pair.state {
-        AttrState::Set => push_pairs(pending, meaning_of(macros, pair.name.as_slice())),
+        AttrState::Set => push_pairs(pending, meaning_of(macros, number)),
         _ => Ok(()),
     }
 }
@@ -53,34 +38,34 @@ fn is_asked(names: &[Bytes], name: &[u8]) -> bool
     names.iter().any(|other| other.as_slice() == name)
 }
 
-/// Whether a name may decide one that is asked for.
-fn is_needed(asked: &AttributeQuery<'_>, name: &[u8]) -> bool
-    ensures { result ≡ is_needed asked.now name.now }
+/// Whether a name may decide one that is asked for: it is a macro, or it is asked for itself.
+fn is_needed(names: &[Bytes], number: Option<usize>, name: &[u8]) -> bool
+    ensures { result ≡ (is_some number || is_asked names.now name.now) }
 {
-    if is_asked(asked.names, name) {
-        return true;
-    }
-    asked.macros.contains_key(name)
+    number.is_some() || is_asked(names, name)
 }
 
 /// Notes what these pairs decide, of which the last is read first. None is left.
 pub fn read_pairs<'a>(
-    asked: &AttributeQuery<'a>,
+    names: &[Bytes],
     states: &mut States<'a>,
     pending: &mut Vec<&'a Pair>,
 ) -> Result<(), AllocError>
-    ensures { OnOk result (Reads asked.now (from_end pending.old.items) states.old.decided [] states.new.decided) }
+    ensures { OnOk result (Reads names.now (from_end pending.old.items)
+        states.old.decided [] states.new.decided) }
 {
+    let macros = states.decided.macros;
     'reading: while let Some(pair) = pending.pop() {
         let name = pair.name.as_slice();
         if states.is_recent(name) {
             continue;
         }
-        if !is_needed(asked, name) {
+        let number = number_of(macros, name);
+        if !is_needed(names, number, name) {
             continue;
         }
-        if states.note(pair)? {
-            push_body(pending, asked.macros, pair)?;
+        if states.note(pair, number)? {
+            push_body(pending, macros, pair, number)?;
         }
     }
     Ok(())
@@ -88,16 +73,16 @@ pub fn read_pairs<'a>(
 
 /// Notes what the pairs of a rule decide. They wait in `pending`, whose room serves one rule after another.
 pub fn read_rule<'a>(
-    asked: &AttributeQuery<'a>,
+    names: &[Bytes],
     states: &mut States<'a>,
     pending: &mut Vec<&'a Pair>,
     pairs: &'a [Pair],
 ) -> Result<(), AllocError>
-    ensures { OnOk result (Reads asked.now (reverse pairs.now) states.old.decided [] states.new.decided) }
+    ensures { OnOk result (Reads names.now (reverse pairs.now) states.old.decided [] states.new.decided) }
 {
     pending.clear();
     push_pairs(pending, pairs)?;
-    read_pairs(asked, states, pending)
+    read_pairs(names, states, pending)
 }
 
 /// Whether something is decided of each of these names.

@@ -1,7 +1,7 @@
 //! The macros of the top files.
 ghost use Rattle.std.specs.Prelude.{◌≡◌, ◌∷◌, ◌++◌, List, IfOk, OnOk};
 ghost use Rattle.attr_stack.specs.Macros.{MacroLine, unset, binary, row_macros, file_macros, top_macros, macros_of};
-ghost use Rattle.attr_stack.specs.Seen.{AreMacros};
+ghost use Rattle.attr_stack.specs.Seen.{number_at, number_pairs, AreMacros};
 
 use crate::files::{AttrFiles, FileAt, file_of};
 use crate::states::copy_of;
@@ -10,8 +10,46 @@ use byte_path::{Bytes, Items};
 use std::alloc::{AllocError, Global};
 use std::collections::BTreeMap;
 
-/// What each macro's name stands for.
-pub type Macros = BTreeMap<Vec<u8>, Items<Pair>>;
+/// A macro: its name, and what it stands for.
+#[derive(Drop)]
+pub struct Body {
+    pub name: Bytes,
+    pub pairs: Items<Pair>,
+}
+
+/// The macros. A number is a place among their bodies.
+#[derive(Drop)]
+pub struct Macros {
+    /// The number that each name got last.
+    pub numbers: BTreeMap<Vec<u8>, usize>,
+    pub bodies: Vec<Body>,
+}
+
+/// The number of a macro.
+pub fn number_of(macros: &Macros, name: &[u8]) -> Option<usize>
+    ensures { result ≡ number_at macros.now name.now }
+{
+    let number = *macros.numbers.get(name)?;
+    let body = macros.bodies.get(number)?;
+    if body.name.as_slice() == name {
+        Some(number)
+    } else {
+        None
+    }
+}
+
+/// What the macro with a number stands for: nothing, if there is none.
+pub fn meaning_of(macros: &Macros, number: Option<usize>) -> &[Pair]
+    ensures { result.now ≡ number_pairs macros.now number }
+{
+    let Some(number) = number else {
+        return &[];
+    };
+    match macros.bodies.get(number) {
+        Some(body) => body.pairs.as_slice(),
+        None => &[],
+    }
+}
 
 fn unset(alloc: Global, name: &[u8]) -> Result<Pair, AllocError>
     ensures { IfOk result (λ pair. pair ≡ unset name.now) }
@@ -63,8 +101,13 @@ fn define(
     ensures { OnOk result ((lines : List MacroLine) → AreMacros macros.old lines
         → AreMacros macros.new (record { name = name.now; pairs = pairs.items } ∷ lines)) }
 {
-    let name = Vec::from_slice(alloc, name)?;
-    macros.insert(name, Items::from_vec(pairs))?;
+    let number = macros.bodies.len();
+    let key = Vec::from_slice(alloc, name)?;
+    macros.bodies.push(Body {
+        name: Bytes::copy_of(alloc, name)?,
+        pairs: Items::from_vec(pairs),
+    })?;
+    macros.numbers.insert(key, number)?;
     Ok(())
 }
 
@@ -105,7 +148,10 @@ fn define_top(alloc: Global, macros: &mut Macros, files: &[FileAt]) -> Result<()
 pub fn macros_of(alloc: Global, files: &AttrFiles) -> Result<Macros, AllocError>
     ensures { IfOk result (λ macros. AreMacros macros (macros_of files.now)) }
 {
-    let mut macros = BTreeMap::new(alloc);
+    let mut macros = Macros {
+        numbers: BTreeMap::new(alloc),
+        bodies: Vec::new(alloc),
+    };
     define(alloc, &mut macros, b"binary", binary_pairs(alloc)?)?;
     define_rows(alloc, &mut macros, files.base.rows.as_slice())?;
     define_top(alloc, &mut macros, files.files.as_slice())?;

@@ -1,23 +1,126 @@
 //! What is decided so far of the attributes of a path.
 ghost use Rattle.std.specs.Bool.{OnTrue};
-ghost use Rattle.std.specs.Prelude.{◌≡◌, true, [], IfOk, is_some};
+ghost use Rattle.std.specs.Prelude.{◌≡◌, ◌<◌, ℕ, true, List, None, Some};
+ghost use Rattle.std.specs.Prelude.{IfOk, OnOk, MatchOption, is_some, length, set};
 ghost use Rattle.std.specs.Option.{option_map};
-ghost use Rattle.attr_stack.specs.Seen.{state_at, AreKnown, Decided, Notes};
+ghost use Rattle.attr_stack.specs.declared.noted.Decided.{Decided};
+ghost use Rattle.attr_stack.specs.Seen.{mark_at, number_at, other_at, said_by, state_at, with_state, AreKnown, Notes};
 
+use crate::macros::{Macros, number_of};
 use attr_line::{AttrState, Pair};
 use std::alloc::{AllocError, Global};
 use std::collections::BTreeMap;
 
-/// The state of each name of which something is decided.
-pub type Decided<'a> = BTreeMap<&'a [u8], &'a AttrState>;
+/// The states of names that are no macros.
+pub type Others<'a> = BTreeMap<&'a [u8], &'a AttrState>;
 
-/// Some names of which something is decided, each at a place that its bytes tell.
+/// What is decided so far: of a macro at its number, and of another name that is asked for by its bytes.
+#[derive(Drop)]
+pub struct Decided<'a> {
+    pub macros: &'a Macros,
+    pub marks: Vec<Option<&'a AttrState>>,
+    pub others: Others<'a>,
+}
+
+/// What is decided of a name that isn't a macro.
+fn other_of<'a>(others: &Others<'a>, name: &[u8]) -> Option<&'a AttrState>
+    ensures { option_map (λ s. s.now) result ≡ other_at others.now name.now }
+{
+    match others.get(name) {
+        Some(state) => Some(*state),
+        None => None,
+    }
+}
+
+/// Adds the state of a name that isn't a macro.
+fn put_other<'a>(others: &mut Others<'a>, pair: &'a Pair) -> Result<(), AllocError>
+    ensures { OnOk result ((name : List ℕ)
+        → other_at others.new name ≡ with_state pair.now (other_at others.old) name) }
+{
+    others.insert(pair.name.as_slice(), &pair.state)?;
+    Ok(())
+}
+
+/// Sets the mark of a macro.
+fn set_mark<'a>(marks: &mut Vec<Option<&'a AttrState>>, place: usize, state: &'a AttrState)
+    requires { place < length marks.old.items }
+    ensures { marks.new.items ≡ set marks.old.items place (Some state.entry) }
+{
+    marks[place] = Some(state);
+}
+
+impl<'a> Decided<'a> {
+    /// What is decided of a name with this number, if it is a macro.
+    fn at(&self, number: Option<usize>, name: &[u8]) -> Option<&'a AttrState>
+        ensures { option_map (λ s. s.now) result ≡ said_by self.now name.now number }
+    {
+        let Some(number) = number else {
+            return other_of(&self.others, name);
+        };
+        match self.marks.get(number) {
+            Some(mark) => *mark,
+            None => other_of(&self.others, name),
+        }
+    }
+
+    /// What is decided of a name.
+    fn get(&self, name: &[u8]) -> Option<&'a AttrState>
+        ensures { option_map (λ s. s.now) result ≡ state_at self.now name.now }
+    {
+        self.at(number_of(self.macros, name), name)
+    }
+
+    /// The place of the mark of a macro with this number.
+    fn place_of(&self, number: Option<usize>) -> Option<usize>
+        ensures { MatchOption result (mark_at self.now.marks.items number ≡ None)
+            (λ place. (number ≡ Some place) × (place < length self.now.marks.items)) }
+    {
+        let number = number?;
+        if number < self.marks.len() {
+            Some(number)
+        } else {
+            None
+        }
+    }
+
+    /// Adds what a pair says, whose name has this number if it is a macro.
+    fn put(&mut self, pair: &'a Pair, number: Option<usize>) -> Result<(), AllocError>
+        requires { number ≡ number_at self.old.macros.now pair.now.name }
+        ensures macros { self.new.macros ≡ self.old.macros }
+        ensures state { OnOk result ((name : List ℕ)
+            → state_at self.new name ≡ with_state pair.now (state_at self.old) name) }
+    {
+        match self.place_of(number) {
+            Some(place) => set_mark(&mut self.marks, place, &pair.state),
+            None => put_other(&mut self.others, pair)?,
+        }
+        Ok(())
+    }
+
+    /// Whether a pair decides. What it says is noted then.
+    fn note(&mut self, pair: &'a Pair, number: Option<usize>) -> Result<bool, AllocError>
+        requires { number ≡ number_at self.old.macros.now pair.now.name }
+        ensures macros { self.new.macros ≡ self.old.macros }
+        ensures decides { IfOk result (λ decides. Notes pair.now (state_at self.old) (state_at self.new) decides) }
+    {
+        if self.at(number, pair.name.as_slice()).is_some() {
+            return Ok(false);
+        }
+        self.put(pair, number)?;
+        Ok(true)
+    }
+}
+
+/// Some names of which something is decided, each at one of the two places that its bytes tell.
 type Recent<'a> = Vec<Option<&'a [u8]>>;
 
 /// What a hash begins with, and what it is multiplied by for each byte (FNV-1a).
 const SEED: u64 = 0xcbf2_9ce4_8422_2325;
 
 const PRIME: u64 = 0x0100_0000_01b3;
+
+/// How many places there are for each macro. Of two names few then have a place in common.
+const ROOM: usize = 16;
 
 /// The most places of recent names.
 const MOST: usize = 65_536;
@@ -30,35 +133,45 @@ fn hash_of(name: &[u8]) -> u64 {
     hash
 }
 
-/// The place of a name among so many.
-fn place_of(name: &[u8], count: usize) -> usize {
-    if count == 0 {
-        return 0;
-    }
-    (hash_of(name) % count as u64) as usize
+/// The two places of a name among so many, of which there is one at least.
+fn places_of(name: &[u8], count: usize) -> (usize, usize) {
+    let count = (count as u64).max(1);
+    let hash = hash_of(name);
+    ((hash % count) as usize, (hash / 65_536 % count) as usize)
 }
 
-/// Puts a name of which something is decided at its place.
+/// Whether a name stands at a place.
+fn stands_at(recent: &[Option<&[u8]>], place: usize, name: &[u8]) -> bool
+    ensures { (states : Decided) → AreKnown recent.now states
+        → OnTrue result (is_some (state_at states name.now) ≡ true) }
+{
+    match recent.get(place) {
+        Some(Some(there)) => *there == name,
+        _ => false,
+    }
+}
+
+fn is_free(recent: &[Option<&[u8]>], place: usize) -> bool {
+    match recent.get(place) {
+        Some(None) => true,
+        _ => false,
+    }
+}
+
+/// Puts a name of which something is decided at its first place, or at its second one if another name has that.
 fn remember<'a>(recent: &mut Recent<'a>, name: &'a [u8])
     ensures { (states : Decided) → AreKnown recent.old.items states → is_some (state_at states name.now) ≡ true
         → AreKnown recent.new.items states }
 {
-    let place = place_of(name, recent.len());
+    let (first, second) = places_of(name, recent.len());
+    let place = if is_free(recent.as_slice(), first) {
+        first
+    } else {
+        second
+    };
     if place < recent.len() {
         recent[place] = Some(name);
     }
-}
-
-/// Whether a pair decides. What it says is noted then.
-fn decides<'a>(states: &mut Decided<'a>, pair: &'a Pair) -> Result<bool, AllocError>
-    ensures { IfOk result (λ decides. Notes pair.now (state_at states.old) (state_at states.new) decides) }
-{
-    let name = pair.name.as_slice();
-    if states.contains_key(name) {
-        return Ok(false);
-    }
-    states.insert(name, &pair.state)?;
-    Ok(true)
 }
 
 /// What is decided of the names that are asked for and of macros. No other name stands here.
@@ -67,46 +180,62 @@ fn decides<'a>(states: &mut Decided<'a>, pair: &'a Pair) -> Result<bool, AllocEr
 #[derive(Drop)]
 pub struct States<'a> {
     pub decided: Decided<'a>,
+    /// How many names are decided.
+    count: usize,
     recent: Recent<'a>,
     ghost known: { AreKnown recent.items decided },
 }
 
 impl<'a> States<'a> {
-    /// Nothing is decided yet, where there are so many macros.
-    pub fn new(alloc: Global, macros: usize) -> Result<States<'a>, AllocError>
-        ensures { IfOk result (λ states. states.decided.entries ≡ []) }
+    /// Nothing is decided yet.
+    pub fn new(alloc: Global, macros: &'a Macros) -> Result<States<'a>, AllocError>
+        ensures macros { IfOk result (λ states. states.decided.macros ≡ macros.entry) }
+        ensures none { IfOk result (λ states. (name : List ℕ) → state_at states.decided name ≡ None) }
     {
-        let places = macros.saturating_mul(4).min(MOST);
+        let count = macros.bodies.len();
+        let decided = Decided {
+            macros,
+            marks: Vec::from_elem(alloc, None, count)?,
+            others: BTreeMap::new(alloc),
+        };
+        let places = count.saturating_mul(ROOM).min(MOST);
         Ok(States {
-            decided: BTreeMap::new(alloc),
+            decided,
+            count: 0,
             recent: Vec::from_elem(alloc, None, places)?,
         })
     }
 
-    /// Whether something is decided of a name. It may be `false` all the same, but not if the name came last of those
-    /// with its place.
+    /// Whether something is decided of a name, if it is seen at once. It may be `false` all the same, where other names
+    /// have its places.
     pub fn is_recent(&self, name: &[u8]) -> bool
         ensures { OnTrue result (is_some (state_at self.now.decided name.now) ≡ true) }
     {
-        match self.recent.get(place_of(name, self.recent.len())) {
-            Some(Some(recent)) => *recent == name,
-            _ => false,
+        let recent = self.recent.as_slice();
+        let (first, second) = places_of(name, recent.len());
+        if stands_at(recent, first, name) {
+            return true;
         }
+        stands_at(recent, second, name)
     }
 
     /// Whether something is decided of a name.
     pub fn is_known(&self, name: &[u8]) -> bool
         ensures { result ≡ is_some (state_at self.now.decided name.now) }
     {
-        self.decided.contains_key(name)
+        self.decided.get(name).is_some()
     }
 
-    /// Whether a pair decides. What it says is noted then.
-    pub fn note(&mut self, pair: &'a Pair) -> Result<bool, AllocError>
-        ensures { IfOk result (λ decides. Notes pair.now (state_at self.old.decided) (state_at self.new.decided) decides) }
+    /// Whether a pair decides, whose name has this number if it is a macro. What it says is noted then.
+    pub fn note(&mut self, pair: &'a Pair, number: Option<usize>) -> Result<bool, AllocError>
+        requires { number ≡ number_at self.old.decided.macros.now pair.now.name }
+        ensures macros { self.new.decided.macros ≡ self.old.decided.macros }
+        ensures decides { IfOk result (λ decides. Notes pair.now
+            (state_at self.old.decided) (state_at self.new.decided) decides) }
     {
-        match decides(&mut self.decided, pair) {
+        match self.decided.note(pair, number) {
             Ok(decides) => {
+                self.count = self.count.saturating_add(usize::from(decides));
                 remember(&mut self.recent, pair.name.as_slice());
                 Ok(decides)
             }
@@ -119,16 +248,13 @@ impl<'a> States<'a> {
 
     /// How many names are decided.
     pub fn len(&self) -> usize {
-        self.decided.len()
+        self.count
     }
 
     /// What is decided of a name.
     pub fn get(&self, name: &[u8]) -> Option<&AttrState>
         ensures { option_map (λ s. s.now) result ≡ state_at self.now.decided name.now }
     {
-        match self.decided.get(name) {
-            Some(state) => Some(*state),
-            None => None,
-        }
+        self.decided.get(name)
     }
 }

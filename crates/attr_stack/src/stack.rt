@@ -1,5 +1,7 @@
 //! The attribute files of a repository, for one path after another.
-ghost use Rattle.std.specs.Prelude.{◌≡◌, ℕ, true, List, [], ◌∷◌, ◌++◌, IfOk, OnOk, map, reverse, drop};
+ghost use Rattle.std.specs.Prelude.{◌≡◌, ◌<◌, ℕ, true, List, [], ◌∷◌, ◌++◌, IfOk, OnOk, map, reverse};
+ghost use Rattle.std.specs.Prelude.{drop, get_or, length, slice_get};
+ghost use Rattle.std.specs.Option.{option_map};
 ghost use Rattle.std.specs.List.{flat_map};
 ghost use Rattle.attr_stack.specs.Decided.{decision, state_of};
 ghost use Rattle.attr_stack.specs.Levels.{level_pairs, StandsIn};
@@ -10,7 +12,7 @@ ghost use Rattle.attr_stack.specs.Rules.{files_of, IsRules, IsStack};
 
 use crate::chain::{Chain, Level, Places, places_of};
 use crate::compiled_file::{CompiledAt, CompiledFile};
-use crate::decide::{AttributeQuery, is_done};
+use crate::decide::is_done;
 use crate::files::{AttrFiles, FileAt};
 use crate::macros::{Macros, macros_of};
 use crate::noted::States;
@@ -89,60 +91,76 @@ struct Branch<'a, 'p> {
     path: &'p [u8],
 }
 
+/// The file of the folder at a place.
+fn file_at(folders: &[CompiledAt], place: usize) -> Option<&CompiledFile>
+    ensures { option_map (λ f. f.now) result ≡ option_map (λ at. at.file) (slice_get folders.now place) }
+{
+    match folders.get(place) {
+        Some(at) => Some(at.file()),
+        None => None,
+    }
+}
+
 /// Notes what one file decides for a path.
 fn read_level<'a>(
-    asked: &AttributeQuery<'a>,
+    names: &[Bytes],
     states: &mut States<'a>,
     pending: &mut Vec<&'a Pair>,
     branch: &Branch<'a, '_>,
     level: Level,
 ) -> Result<(), AllocError>
-    ensures { OnOk result (Reads asked.now (level_pairs branch.now.folders.now branch.now.path.now level)
+    ensures { OnOk result (Reads names.now (level_pairs branch.now.folders.now branch.now.path.now level)
         states.old.decided [] states.new.decided) }
 {
-    match branch.folders.get(level.place) {
-        Some(at) => at
-            .file()
-            .read(asked, states, pending, behind(branch.path, level.start)),
+    match file_at(branch.folders, level.place) {
+        Some(file) => file.read(names, states, pending, behind(branch.path, level.start)),
         None => Ok(()),
     }
 }
 
+fn level_at(levels: &[Level], place: usize) -> Level
+    requires { place < length levels.now }
+    ensures { result ≡ get_or levels.now place result }
+{
+    levels[place]
+}
+
 /// Notes what these files decide for a path, from the last on. It stops once all names are decided.
 fn read_levels<'a>(
-    asked: &AttributeQuery<'a>,
+    names: &[Bytes],
     states: &mut States<'a>,
     pending: &mut Vec<&'a Pair>,
     branch: &Branch<'a, '_>,
 ) -> Result<(), AllocError>
-    ensures { OnOk result (Reads asked.now
+    ensures { OnOk result (Reads names.now
         (flat_map (level_pairs branch.now.folders.now branch.now.path.now) (reverse branch.now.levels.now))
         states.old.decided [] states.new.decided) }
 {
     let levels = branch.levels;
     for place in (0..levels.len()).rev() {
-        if is_done(asked.names, states) {
+        if is_done(names, states) {
             return Ok(());
         }
-        read_level(asked, states, pending, branch, levels[place])?;
+        read_level(names, states, pending, branch, level_at(levels, place))?;
     }
     Ok(())
 }
 
 /// Notes what the lowest file decides for a path, if a name is left.
 fn read_base<'a>(
-    asked: &AttributeQuery<'a>,
+    names: &[Bytes],
     states: &mut States<'a>,
     pending: &mut Vec<&'a Pair>,
     base: &'a CompiledFile,
     path: &[u8],
 ) -> Result<(), AllocError>
-    ensures { OnOk result (Reads asked.now (file_pairs path.now base.now) states.old.decided [] states.new.decided) }
+    ensures { OnOk result (Reads names.now (file_pairs path.now base.now)
+        states.old.decided [] states.new.decided) }
 {
-    if is_done(asked.names, states) {
+    if is_done(names, states) {
         return Ok(());
     }
-    base.read(asked, states, pending, path)
+    base.read(names, states, pending, path)
 }
 
 /// What is decided of some names for a path of the chain's folder.
@@ -151,25 +169,23 @@ fn decided_of<'a>(
     rules: &'a Rules,
     chain: &Chain,
     path: &[u8],
-    names: &'a [Bytes],
+    names: &[Bytes],
 ) -> Result<States<'a>, AllocError>
     requires stack { IsStack rules.now chain.now }
     requires within { StandsIn path.now chain.now.folder.items }
     ensures { IfOk result (λ states. (name : List ℕ) → is_asked names.now name ≡ true
         → state_at states.decided name ≡ decision (files_of rules.now) path.now name) }
 {
-    let macros = &rules.macros;
-    let asked = AttributeQuery { names, macros };
-    let mut states = States::new(alloc, macros.len())?;
+    let mut states = States::new(alloc, &rules.macros)?;
     let mut pending = Vec::new(alloc);
-    rules.info.read(&asked, &mut states, &mut pending, path)?;
+    rules.info.read(names, &mut states, &mut pending, path)?;
     let branch = Branch {
         folders: &rules.folders,
         levels: &chain.levels,
         path,
     };
-    read_levels(&asked, &mut states, &mut pending, &branch)?;
-    read_base(&asked, &mut states, &mut pending, &rules.base, path)?;
+    read_levels(names, &mut states, &mut pending, &branch)?;
+    read_base(names, &mut states, &mut pending, &rules.base, path)?;
     Ok(states)
 }
 

@@ -5,7 +5,7 @@ ghost use Rattle.attr_stack.specs.Macros.{macros_of};
 ghost use Rattle.attr_stack.specs.Search.{is_asked};
 ghost use Rattle.attr_stack.specs.Seen.{said_in, state_at, AreMacros};
 
-use crate::decide::{AttributeQuery, read_pairs};
+use crate::decide::read_pairs;
 use crate::files::AttrFiles;
 use crate::macros::{Macros, macros_of};
 use crate::noted::States;
@@ -57,7 +57,7 @@ fn decided_of<'a>(
     files: &'a AttrFiles,
     macros: &'a Macros,
     path: &[u8],
-    names: &'a [Bytes],
+    names: &[Bytes],
 ) -> Result<States<'a>, AllocError>
     requires { AreMacros macros.now (macros_of files.now) }
     ensures { IfOk result (λ states. (name : List ℕ) → is_asked names.now name ≡ true
@@ -65,9 +65,8 @@ fn decided_of<'a>(
 {
     let mut pending = Vec::new(alloc);
     push_all(&mut pending, files, path)?;
-    let asked = AttributeQuery { names, macros };
-    let mut states = States::new(alloc, macros.len())?;
-    read_pairs(&asked, &mut states, &mut pending)?;
+    let mut states = States::new(alloc, macros)?;
+    read_pairs(names, &mut states, &mut pending)?;
     Ok(states)
 }
 

@@ -13,9 +13,10 @@ use Rattle.attr_line.specs.declared.file.AttrRow.TheVariants.{Macro}
 
 pub loop-place-preserved-then-not-matches_named : goal.loop-place-preserved-then-not-matches_named
 loop-place-preserved-then-not-matches_named c = λ lines are.
+    let before = c.loop-place.invariant lines are in
     let rows = c.args.compiled.now.rows.now in
     let path = c.args.path.now in
-    let names = is_asked c.args.asked.now.names.now in
+    let names = is_asked c.args.names.now in
     let i = c.loop-place.place - 1 in
     let within : i < length rows = omega (arith, c.loop-place.auto.place, c.loop-place-test.true) in
     let next : i + 1 ≡ c.loop-place.place = omega (arith, c.loop-place-test.true) in
@@ -27,14 +28,15 @@ loop-place-preserved-then-not-matches_named c = λ lines are.
     let turned : rows_pairs path (take c.loop-place.place rows) ≡ rows_pairs path (take i rows) =
     ap (λ (n : ℕ). rows_pairs path (take n rows)) (sym next) ∙ rows-last rows path i (Macro [] []) within
     ∙ ap (λ ps. ps ++ rows_pairs path (take i rows)) (row-passed row path differs) in
-    leads-turn lines names _ _ _ _ _ turned (c.loop-place.invariant lines are)
+    (before.0, leads-turn lines names _ _ _ _ _ turned before.1)
 
 pub returns-then-branch : goal.returns-then-branch
 returns-then-branch c = λ lines are.
+    let before = c.loop-place.invariant lines are in
     let rows = c.args.compiled.now.rows.now in
     let path = c.args.path.now in
     let row = c.index-rows-place.result in
-    let names = is_asked c.args.asked.now.names.now in
+    let names = is_asked c.args.names.now in
     let i = c.loop-place.place - 1 in
     let here : row ≡ get_or rows i row = search rules in
     let within : i < length rows = omega (arith, c.loop-place.auto.place, c.loop-place-test.true) in
@@ -49,15 +51,16 @@ returns-then-branch c = λ lines are.
     ∙ ap (λ r. row_pairs path r ++ rows_pairs path (take i rows)) (sym here) ∙ ap (λ ps. ps ++ rows_pairs path (take i rows)) (row-matched row path matches) in
     let read : Leads lines names (rows_pairs path rows) (state_at c.args.states.now.decided) (rows_pairs path (take i rows)) (state_at c.read_row.new.states.decided) =
     leads-on lines names (rows_pairs path rows) (reverse (row_rule row)) (rows_pairs path (take i rows)) (state_at c.args.states.now.decided) (state_at c.loop-place.states.decided) (state_at c.read_row.new.states.decided)
-    (leads-turn lines names _ _ _ _ _ turned (c.loop-place.invariant lines are)) (c.in_ok-read_row.ensures.states lines are) in
-    leads-done lines c.args.asked.now.names.now _ _ [] _ _ (OnTrue_at c.if-branch.true c.in_ok-read_row.ensures.done) read
+    (leads-turn lines names _ _ _ _ _ turned before.1) (c.in_ok-read_row.ensures.states lines before.0).1 in
+    ((c.in_ok-read_row.ensures.states lines before.0).0, leads-done lines c.args.names.now _ _ [] _ _ (OnTrue_at c.if-branch.true c.in_ok-read_row.ensures.done) read)
 
 pub loop-place-preserved : goal.loop-place-preserved
 loop-place-preserved c = λ lines are.
+    let before = c.loop-place.invariant lines are in
     let rows = c.args.compiled.now.rows.now in
     let path = c.args.path.now in
     let row = c.index-rows-place.result in
-    let names = is_asked c.args.asked.now.names.now in
+    let names = is_asked c.args.names.now in
     let i = c.loop-place.place - 1 in
     let here : row ≡ get_or rows i row = search rules in
     let within : i < length rows = omega (arith, c.loop-place.auto.place, c.loop-place-test.true) in
@@ -69,6 +72,8 @@ loop-place-preserved c = λ lines are.
     ∙ sym (row-tested rows path i row first (stands ∙ ap (λ (ps : List (List ℕ)). get_or ps i first) c.requires) within) ∙ sym c.if-not-matches_named.ensures in
     let turned : rows_pairs path (take c.loop-place.place rows) ≡ reverse (row_rule row) ++ rows_pairs path (take i rows) =
     ap (λ (n : ℕ). rows_pairs path (take n rows)) (sym next) ∙ rows-last rows path i row within
-    ∙ ap (λ r. row_pairs path r ++ rows_pairs path (take i rows)) (sym here) ∙ ap (λ ps. ps ++ rows_pairs path (take i rows)) (row-matched row path matches) in
-    leads-on lines names (rows_pairs path rows) (reverse (row_rule row)) (rows_pairs path (take i rows)) (state_at c.args.states.now.decided) (state_at c.loop-place.states.decided) (state_at c.read_row.new.states.decided)
-    (leads-turn lines names _ _ _ _ _ turned (c.loop-place.invariant lines are)) (c.in_ok-read_row.ensures.states lines are)
+    ∙ ap (λ r. row_pairs path r ++ rows_pairs path (take i rows)) (sym here) ∙ ap (λ ps. ps ++ rows_pairs path (take i rows)) (row-matched row path matches) in (
+      (c.in_ok-read_row.ensures.states lines before.0).0,
+      leads-on lines names (rows_pairs path rows) (reverse (row_rule row)) (rows_pairs path (take i rows)) (state_at c.args.states.now.decided) (state_at c.loop-place.states.decided) (state_at c.read_row.new.states.decided)
+          (leads-turn lines names _ _ _ _ _ turned before.1) (c.in_ok-read_row.ensures.states lines before.0).1,
+    )

@@ -9,7 +9,7 @@ use Rattle.attr_stack.proofs.macros.macros_of.Goals as goal
 pub returns : goal.returns
 returns c =
     let built : AreMacros c.define.new.macros (binary ∷ []) =
-    λ name. c.in_ok-define.ensures [] (nothing-defined c.new-macros.result c.new-macros.ensures.empty) name ∙ ap (λ (pairs : List Pair). cond (bytes_eq binary.name name) pairs []) c.in_ok-binary_pairs.ensures in
+    λ name. c.in_ok-define.ensures [] (nothing-defined (record { numbers = c.new.result; bodies = c.new-2.result }) c.new.ensures.empty) name ∙ ap (λ (pairs : List Pair). cond (bytes_eq binary.name name) pairs []) c.in_ok-binary_pairs.ensures in
     let base = file_macros c.as_slice.result.now ++ binary ∷ [] in
     λ name. c.in_ok-define_rows-2.ensures (top_macros c.as_slice-2.result.now ++ base)
     (c.in_ok-define_top.ensures base (c.in_ok-define_rows.ensures (binary ∷ []) built)) name

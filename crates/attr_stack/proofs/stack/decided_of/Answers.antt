@@ -1,15 +1,16 @@
-use Rattle.std.proofs.Common.{◌≡◌, List, [], ◌++◌, length, reverse, ap, ◌∙◌}
+use Rattle.std.proofs.Common.{◌≡◌, List, [], ◌++◌, length, reverse, ap, sym, subst, ◌∙◌}
 use Rattle.std.specs.List.{flat_map}
 use Rattle.attr_stack.specs.declared.files.FileAt.{FileAt}
 use Rattle.attr_stack.specs.declared.chain.Level.{Level}
+use denote.Ref.{Bor}
+use Rattle.attr_stack.specs.declared.macros.Macros.{Macros}
 use Rattle.attr_stack.specs.Levels.{level_pairs}
 use Rattle.attr_stack.specs.Macros.{macros_of}
 use Rattle.attr_stack.specs.Pairs.{file_pairs, pairs_before}
 use Rattle.attr_stack.specs.Rules.{files_of}
 use Rattle.attr_stack.specs.Search.{is_asked}
-use Rattle.attr_stack.specs.Seen.{state_at}
+use Rattle.attr_stack.specs.Seen.{state_at, AreMacros}
 use Rattle.attr_stack.proofs.Chains.{chain_gives}
-use Rattle.attr_stack.proofs.Maps.{nothing-noted}
 use Rattle.attr_stack.proofs.Readings.{leads-from, leads-both, leads-decides}
 use Rattle.attr_stack.proofs.stack.decided_of.Goals as goal
 
@@ -30,9 +31,11 @@ returns c = λ name asked.
     ap (λ (fs : List FileAt). flat_map (level_pairs fs path) (reverse c.deref-2.result.now)) c.deref.ensures.value
     ∙ ap (λ (ls : List Level). flat_map (level_pairs files path) (reverse ls)) c.deref-2.ensures.value
     ∙ chain_gives files c.args.chain.now path c.requires.stack.entered c.requires.within in
-    leads-decides lines names (info ++ (before ++ base)) none new name (nothing-noted c.in_ok-states.states.decided c.in_ok-states.ensures)
-    (leads-both lines names info (before ++ base) none mid new
-    (c.in_ok-read.ensures lines c.requires.stack.right.macros)
+    let begun = subst (λ (macros : Bor Macros). AreMacros macros.now lines) (sym c.in_ok-states.ensures.macros) c.requires.stack.right.macros in
+    let first = c.in_ok-read.ensures lines begun in
+    let second = c.in_ok-read_levels.ensures lines first.0 in
+    leads-decides lines names (info ++ (before ++ base)) none new name c.in_ok-states.ensures.none
+    (leads-both lines names info (before ++ base) none mid new first.1
     (leads-both lines names before base mid later new
-    (leads-from lines names _ _ [] mid later reached (c.in_ok-read_levels.ensures lines c.requires.stack.right.macros))
-    (c.in_ok-read_base.ensures lines c.requires.stack.right.macros))) asked
+    (leads-from lines names _ _ [] mid later reached second.1)
+    (c.in_ok-read_base.ensures lines second.0).1)) asked

@@ -9,6 +9,8 @@ use Rattle.attr_stack.proofs.stack.read_base.Goals as goal
 pub returns-then-is_done : goal.returns-then-is_done
 returns-then-is_done c = λ lines are.
     let pairs = file_pairs c.args.path.now c.args.base.now in
-    let states = state_at c.args.states.now.decided in
-    leads-done lines c.args.asked.now.names.now pairs pairs [] states states (OnTrue_at c.if-is_done.true c.is_done.ensures)
-    (leads-none lines (is_asked c.args.asked.now.names.now) pairs states)
+    let states = state_at c.args.states.now.decided in (
+      are,
+      leads-done lines c.args.names.now pairs pairs [] states states (OnTrue_at c.if-is_done.true c.is_done.ensures)
+          (leads-none lines (is_asked c.args.names.now) pairs states),
+    )

@@ -1,4 +1,4 @@
-use Rattle.std.proofs.Common.{◌≡◌, List, Option, IfOk, map, ap, subst}
+use Rattle.std.proofs.Common.{◌≡◌, List, Option, IfOk, ap, subst}
 use Rattle.std.specs.Option.{unwrap_or}
 use Rattle.attr_line.specs.declared.state.AttrState.{AttrState}
 use Rattle.attr_line.specs.declared.state.AttrState.TheVariants.{Unspecified}
