@@ -24,7 +24,7 @@ _siuwbren() {
         ;;
       *)
         case $command in
-          checkout) words='--git-dir --commit --workers --report -z --journal --progress --no-progress -q --quiet --help' ;;
+          checkout) words='--git-dir --commit --workers --report -z --journal --progress --no-progress -q --quiet -u --update-index --help' ;;
           checkin) words='--git-dir --allow-empty --help' ;;
           plan) words='--git-dir --report -z --help' ;;
           rehearse | audit) words='--help' ;;

@@ -27,6 +27,12 @@ pub enum GitFault {
     /// A path of the repository isn't UTF-8 or has a line end in it.
     #[error("a path of the repository isn't UTF-8, or has a line end in it")]
     BadPath,
+    /// Another process has the index's lock, which stands at this path.
+    #[error("Unable to create '{0}': File exists.")]
+    Locked(String),
+    /// The index's lock can't be made at this path.
+    #[error("Unable to create '{0}': {1}")]
+    NoLock(String, io::Error),
     #[error("out of memory")]
     NoMemory,
 }

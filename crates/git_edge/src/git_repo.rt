@@ -9,6 +9,7 @@ use crate::finding::{FoundRepository, find, list, tree_of};
 use crate::git::Git;
 use crate::git_blob::GitBlob;
 use crate::index_file::{index_of_tree, own_index};
+use crate::index_lock::IndexLock;
 use crate::lender::lender_of;
 use crate::listing::SettingsList;
 use crate::notes::{notes_of, place_of, word_of, worktree_of};
@@ -105,6 +106,11 @@ impl GitRepo {
     /// The absolute path of its own index.
     pub fn index_file(&self) -> &str {
         self.found.index.as_str()
+    }
+
+    /// The lock of its own index, unless another process has it or it can't be made.
+    pub fn lock_index(&self) -> Result<IndexLock, GitFault> {
+        IndexLock::take(&self.git, self.found.index.as_str())
     }
 
     /// What the file system of its worktree keeps.

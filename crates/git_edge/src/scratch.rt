@@ -1,10 +1,10 @@
 //! A folder for what git is to write.
+use crate::keeper::Keeper;
 use std::alloc::{AllocError, Global};
 use std::env::temp_dir;
 use std::fs::{DirBuilder, remove_dir_all};
-use std::io::{ErrorKind, PipeWriter, Read};
+use std::io::ErrorKind;
 use std::os::unix::fs::DirBuilderExt;
-use std::process::{Child, Command, Stdio};
 use std::{io, process};
 
 /// What a shell does with a folder: it makes it, says so by a byte, waits for the end of its input and removes the folder.
@@ -12,12 +12,6 @@ use std::{io, process};
 const KEEPING: &str =
     "trap '' HUP INT QUIT PIPE TERM; mkdir -m 700 -- \"$1\" || exit 1; echo; read -r _; \
                        rm -rf -- \"$1\" || { sleep 1; rm -rf -- \"$1\"; }";
-
-/// A shell that keeps a folder.
-struct Keeper {
-    child: Child,
-    input: PipeWriter,
-}
 
 /// A folder that this user alone can read. It is removed when it is dropped, and when a signal ends the program.
 pub struct Scratch {
@@ -34,40 +28,6 @@ fn make_private(rt: HostRuntime, path: &str) -> io::Result<()> {
     let mut builder = DirBuilder::new();
     builder.mode(0o700);
     builder.create(&rt, path)
-}
-
-impl Keeper {
-    /// Has a shell make a folder. There is no keeper if it can't, and then it removes nothing.
-    fn of(rt: HostRuntime, alloc: Global, path: &str) -> io::Result<Option<Keeper>> {
-        let mut shell = Command::new(alloc, "sh")?;
-        shell.arg("-c")?;
-        shell.arg(KEEPING)?;
-        shell.arg("siuwbren")?;
-        shell.arg(path)?;
-        let (waited, input) = io::pipe(&rt)?;
-        let (mut output, said) = io::pipe(&rt)?;
-        shell.stdin(waited);
-        shell.stdout(said);
-        shell.stderr(Stdio::null());
-        let mut child = shell.spawn(&rt)?;
-        drop(shell);
-        let mut byte = [0u8];
-        match output.read(byte.as_mut_slice()) {
-            Ok(1) => Ok(Some(Keeper { child, input })),
-            _ => {
-                drop(input);
-                let _ = child.wait();
-                Ok(None)
-            }
-        }
-    }
-
-    /// Has the folder removed.
-    fn end(self) {
-        let Keeper { mut child, input } = self;
-        drop(input);
-        let _ = child.wait();
-    }
 }
 
 impl Scratch {
@@ -87,7 +47,7 @@ impl Scratch {
 
     /// Makes the folder at a path. Where no shell does it, it tells why.
     fn at(rt: HostRuntime, alloc: Global, path: String) -> io::Result<Scratch> {
-        if let Ok(Some(keeper)) = Keeper::of(rt, alloc, path.as_str()) {
+        if let Ok(Some(keeper)) = Keeper::start(rt, alloc, KEEPING, path.as_str()) {
             let keeper = Some(keeper);
             return Ok(Scratch { rt, keeper, path });
         }

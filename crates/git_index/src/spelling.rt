@@ -1,12 +1,14 @@
 //! The bytes of an index.
-ghost use Rattle.std.specs.Prelude.{◌≡◌, ◌++◌, ◌<◌, ◌≤◌, length, IfOk, OnOk};
+ghost use Rattle.std.specs.Prelude.{◌≡◌, ◌++◌, ◌<◌, ◌≤◌, length, drop, IfOk, OnOk};
 ghost use Rattle.git_index.specs.Spelling.{IsIndexText, AreEntries, CanStand, mode_number, padding, flags};
 ghost use Rattle.git_index.specs.Spelling.{more, more_flags};
-ghost use Rattle.git_index.specs.Spelling.{is_flagged, head_length, plain, plain_version, plain_spelled, plain_body};
-ghost use Rattle.git_index.specs.Spelling.{plain_text, header, bit};
+ghost use Rattle.git_index.specs.Spelling.{is_flagged, head_length, plain_version, plain_text, header, bit};
+ghost use Rattle.git_index.specs.Spelling.{written, before_of, after_of, stat_spelled, stat_text, first_stat};
 ghost use Rattle.std.specs.List.{list_any};
+ghost use Rattle.std.specs.Int.{w32, to_be_bytes};
 
 use crate::entry::{Entry, Mode};
+use crate::stat::Stat;
 use crate::version::Version;
 use sha1::Sha1;
 use std::alloc::{AllocError, Global};
@@ -22,12 +24,13 @@ fn number_of(mode: Mode) -> u32
     }
 }
 
-fn flags_of(entry: &Entry) -> u16
+fn flags_of(entry: &Entry, stat: Stat) -> u16
     requires { entry.now.stage < 4 }
-    ensures { result ≡ flags (plain entry.now) }
+    ensures { result ≡ flags (written stat entry.now) }
 {
+    let valid = if stat.valid { 0x8000 } else { 0 };
     let extended = if is_flagged(entry) { 0x4000 } else { 0 };
-    extended + entry.stage as u16 * 0x1000 + entry.path.as_slice().len().min(4095) as u16
+    valid + extended + entry.stage as u16 * 0x1000 + entry.path.as_slice().len().min(4095) as u16
 }
 
 /// Whether the entry needs the 16 more bits.
@@ -62,20 +65,58 @@ fn head_length_of(entry: &Entry) -> usize
     if is_flagged(entry) { 64 } else { 62 }
 }
 
-fn push_entry(text: &mut Vec<u8>, entry: &Entry) -> Result<(), AllocError>
+fn push_number(text: &mut Vec<u8>, number: u32) -> Result<(), AllocError>
+    ensures { OnOk result (text.new.items ≡ text.old.items ++ to_be_bytes w32 number) }
+{
+    text.extend_from_slice(&number.to_be_bytes())
+}
+
+/// The times, the device and the inode.
+fn push_before(text: &mut Vec<u8>, stat: Stat) -> Result<(), AllocError>
+    ensures { OnOk result (text.new.items ≡ text.old.items ++ before_of stat) }
+{
+    push_number(text, stat.ctime)?;
+    push_number(text, stat.ctime_nanos)?;
+    push_number(text, stat.mtime)?;
+    push_number(text, stat.mtime_nanos)?;
+    push_number(text, stat.dev)?;
+    push_number(text, stat.ino)
+}
+
+/// The user, the group and the size.
+fn push_after(text: &mut Vec<u8>, stat: Stat) -> Result<(), AllocError>
+    ensures { OnOk result (text.new.items ≡ text.old.items ++ after_of stat) }
+{
+    push_number(text, stat.uid)?;
+    push_number(text, stat.gid)?;
+    push_number(text, stat.size)
+}
+
+fn push_entry(text: &mut Vec<u8>, entry: &Entry, stat: Stat) -> Result<(), AllocError>
     requires { entry.now.stage < 4 }
-    ensures { OnOk result (text.new.items ≡ text.old.items ++ plain_spelled entry.now) }
+    ensures { OnOk result (text.new.items ≡ text.old.items ++ stat_spelled stat entry.now) }
 {
     let path = entry.path.as_slice();
-    text.extend_from_slice(&[0; 24])?;
-    text.extend_from_slice(&number_of(entry.mode).to_be_bytes())?;
-    text.extend_from_slice(&[0; 12])?;
+    push_before(text, stat)?;
+    push_number(text, number_of(entry.mode))?;
+    push_after(text, stat)?;
     text.extend_from_slice(&entry.name)?;
-    text.extend_from_slice(&flags_of(entry).to_be_bytes())?;
+    text.extend_from_slice(&flags_of(entry, stat).to_be_bytes())?;
     push_more(text, entry)?;
     text.extend_from_slice(path)?;
     text.extend_from_slice(&[0; 8][..8 - (head_length_of(entry) + path.len()) % 8])?;
     Ok(())
+}
+
+/// What is told of the first file, and of the others.
+fn split_stats(stats: &[Stat]) -> (Stat, &[Stat])
+    ensures first { result.0 ≡ first_stat stats.now }
+    ensures others { result.1.now ≡ drop 1 stats.now }
+{
+    match stats {
+        [first, others @ ..] => (*first, others),
+        [] => (Stat::NONE, stats),
+    }
 }
 
 /// Whether an entry needs the 16 more bits.
@@ -96,26 +137,43 @@ fn version_of(entries: &[Entry]) -> Version
     }
 }
 
-/// The index of these entries (gitformat-index(5)): all fields zero but the mode and the flags, no extension, and the
-/// hash. It has version 3 exactly if an entry is sparse or intent, and version 2 if not.
+/// The index of these entries (gitformat-index(5)), with what is told of their files in the same order: zeros where no
+/// stat is left for an entry. No extension, and the hash. It has version 3 exactly if an entry is sparse or intent, and
+/// version 2 if not.
 ///
 /// The entries have to be such as an index may have: in order, with paths that may be written, and with no clash.
 /// Their index may be larger than what is read again.
-pub fn spell_entries(alloc: Global, entries: &[Entry]) -> Result<Vec<u8>, AllocError>
+pub fn spell_stat_index(
+    alloc: Global,
+    entries: &[Entry],
+    stats: &[Stat],
+) -> Result<Vec<u8>, AllocError>
     requires { CanStand entries.now }
     ensures index { IfOk result (λ text. IsIndexText text.items entries.now) }
-    ensures value { IfOk result (λ text. text.items ≡ plain_text entries.now) }
+    ensures value { IfOk result (λ text. text.items ≡ stat_text entries.now stats.now) }
 {
     let mut text = Vec::new(alloc);
     text.extend_from_slice(b"DIRC")?;
     text.extend_from_slice(&version_of(entries).number().to_be_bytes())?;
     text.extend_from_slice(&(entries.len() as u32).to_be_bytes())?;
+    let mut rest = stats;
     for entry in entries {
-        push_entry(&mut text, entry)?;
+        let (stat, others) = split_stats(rest);
+        push_entry(&mut text, entry, stat)?;
+        rest = others;
     }
     let hash = Sha1::digest(&text);
     text.extend_from_slice(&hash)?;
     Ok(text)
+}
+
+/// The index of these entries with nothing told of their files: all fields zero but the mode and the flags.
+pub fn spell_entries(alloc: Global, entries: &[Entry]) -> Result<Vec<u8>, AllocError>
+    requires { CanStand entries.now }
+    ensures index { IfOk result (λ text. IsIndexText text.items entries.now) }
+    ensures value { IfOk result (λ text. text.items ≡ plain_text entries.now) }
+{
+    spell_stat_index(alloc, entries, &[])
 }
 
 /// The same for the entries of some index.

@@ -5,10 +5,12 @@ ghost use Rattle.git_tree.specs.Kinds.{HoldsSame};
 ghost use Rattle.edge_kit.specs.Faults.{Rose};
 ghost use Rattle.edge_kit.specs.declared.leaf_state.LeafState.TheVariants.{Fresh};
 
+use crate::file_stat::stat_of;
 use crate::kinds::{FileKind, mode_of};
 use byte_path::Bytes;
 use edge_adapters::{LeafPlace, create_in_tree, empty_file, link_in_tree, remove_own};
 use edge_kit::{Failed, Leaf, LeafState, Mark, SendFault};
+use git_index::Stat;
 use std::alloc::Global;
 use std::fs::{File, symlink_metadata};
 use std::io;
@@ -41,6 +43,8 @@ pub struct GitLeaf {
     pub faults: u64,
     /// Its first fault.
     pub error: Option<io::Error>,
+    /// What an index is to tell of its file once it is sealed, if that is asked for.
+    pub stat: Option<Stat>,
     // whether a driver has run, which may have removed files
     driven: Driven,
 }
@@ -72,6 +76,7 @@ impl GitLeaf {
             state: LeafState::Fresh,
             faults: 0,
             error: None,
+            stat: None,
             driven,
         }
     }
@@ -189,6 +194,22 @@ impl GitLeaf {
         }
     }
 
+    /// Looks at what was made, if its stat is asked for. Of what can't be looked at nothing is told.
+    fn look(&mut self)
+        ensures kept { self.new ≡ record self.old { stat = self.new.stat } }
+    {
+        if self.stat.is_none() {
+            return;
+        }
+        let found = match &self.file {
+            Some(file) => file.metadata(),
+            None => symlink_metadata(&self.rt, self.place.full()),
+        };
+        if let Ok(found) = found {
+            self.stat = Some(stat_of(&found));
+        }
+    }
+
     /// Makes what the mark asks for, which is the one that the leaf was made for.
     fn make(&mut self, mark: Mark) -> io::Result<()>
         ensures kept { self.new ≡ record self.old { file = self.new.file } }
@@ -251,6 +272,7 @@ impl Leaf for GitLeaf {
     fn seal(&mut self, mark: Mark) -> Result<(), Failed> {
         match self.make(mark) {
             Ok(()) => {
+                self.look();
                 self.file = None;
                 self.text = Vec::new(self.rt.alloc());
                 self.state = LeafState::Sealed(mark);

@@ -2,6 +2,7 @@
 //! files hold, and each object counts its faults.
 #![tactic(auto)]
 
+mod file_stat;
 mod kinds;
 mod leaf;
 mod tree;

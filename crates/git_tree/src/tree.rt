@@ -1,4 +1,4 @@
-ghost use Rattle.std.specs.Prelude.{◌≡◌, ◌+◌, ◌≤◌, IfOk, None, string_bytes, vec_len, vec_capacity};
+ghost use Rattle.std.specs.Prelude.{◌≡◌, ◌+◌, ◌≤◌, IfOk, None, true, string_bytes, vec_len, vec_capacity};
 ghost use Rattle.edge_kit.specs.declared.leaf_state.LeafState.TheVariants.{Fresh};
 ghost use Rattle.edge_adapters.specs.Paths.{path_in};
 ghost use Rattle.git_tree.specs.Kinds.{kind_of};
@@ -8,6 +8,7 @@ use crate::leaf::{Driven, GitLeaf};
 use byte_path::Bytes;
 use edge_adapters::{LeafPlace, WriteErrors, holds_nothing};
 use edge_kit::{Failed, LeafState, Mark, Worktree};
+use git_index::Stat;
 use std::alloc::{AllocError, Global};
 use std::io::ErrorKind;
 use std::sync::Arc;
@@ -26,6 +27,10 @@ pub struct GitTree {
     driven: Driven,
     // what the leaves that were given back failed for
     errors: WriteErrors,
+    // whether it is asked what an index tells of the files
+    looks: bool,
+    // that, and which of the leaves that were given back it is
+    stats: Vec<(usize, Stat)>,
     // there is room for each leaf that is out
     ghost room: { vec_len returned + out ≤ vec_capacity returned },
 }
@@ -48,7 +53,28 @@ impl GitTree {
             returned: Vec::new(alloc),
             driven,
             errors: WriteErrors::new(alloc),
+            looks: false,
+            stats: Vec::new(alloc),
         }
+    }
+
+    /// Has each leaf look at its file once that is sealed, by one call more.
+    pub fn look_at_files(&mut self)
+        ensures { self.new ≡ record self.old { looks = true } }
+    {
+        self.looks = true;
+    }
+
+    /// What an index is to tell of the files of the leaves that were given back, by their paths and in their order, if
+    /// the leaves looked at them. Of a file that isn't there nothing is told.
+    pub fn stats(&self) -> Result<Vec<(&[u8], Stat)>, AllocError> {
+        let mut told = Vec::with_capacity(self.alloc, self.stats.len())?;
+        for (place, stat) in self.stats.iter() {
+            if let Some((path, _, _)) = self.returned.get(*place) {
+                told.push((path.as_slice(), *stat))?;
+            }
+        }
+        Ok(told)
     }
 
     /// What the leaves that were given back failed for.
@@ -69,7 +95,11 @@ impl GitTree {
         let place = LeafPlace::new(self.alloc, self.folder.as_str(), path)?;
         let driven = Arc::try_clone(&self.driven)?;
         let kind = kind_of(self.keeps, mark);
-        Ok(GitLeaf::new(self.rt, place, mark, kind, driven))
+        let mut leaf = GitLeaf::new(self.rt, place, mark, kind, driven);
+        if self.looks {
+            leaf.stat = Some(Stat::NONE);
+        }
+        Ok(leaf)
     }
 }
 
@@ -109,6 +139,9 @@ impl Worktree for GitTree {
     fn leaf_for(&mut self, path: &str, mark: Mark) -> Result<GitLeaf, AllocError> {
         let leaf = self.made(path, mark)?;
         self.errors.reserve()?;
+        if self.looks {
+            self.stats.reserve(self.out.saturating_add(1))?;
+        }
         self.returned.reserve(self.out + 1)?;
         self.out += 1;
         Ok(leaf)
@@ -117,6 +150,9 @@ impl Worktree for GitTree {
     fn take_back(&mut self, leaf: GitLeaf) {
         if let Some(error) = &leaf.error {
             self.errors.add(error, leaf.place.path());
+        }
+        if let Some(stat) = leaf.stat {
+            let _ = self.stats.push((self.returned.len(), stat));
         }
         let _ = self.returned.push(leaf.ended());
         self.out -= 1;

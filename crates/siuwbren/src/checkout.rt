@@ -4,11 +4,12 @@ use crate::ends::{end_run, refuse_repository, show_notes};
 use crate::engine_words::checkout_words;
 use crate::journal::journal_file;
 use crate::own_index::refuse_guarded;
+use crate::update_index::{index_lock, put_index, updated_index};
 use checkout_core::Event;
 use checkout_engine::{ExitStatus, run};
 use edge_adapters::ProcessSpawner;
 use edge_kit::{Gate, Point, Spawner};
-use git_edge::GitRepo;
+use git_edge::{GitRepo, IndexLock};
 use git_tree::{Driven, GitTree, Keeps};
 use one_shot::OnceSpawner;
 use program_kit::{
@@ -54,6 +55,16 @@ struct Left {
     /// The words that the engine got, and the events of its run.
     words: Vec<String>,
     history: Vec<Event>,
+    /// The index with what is told of the files, if that is asked for and each path was looked at.
+    index: Option<Vec<u8>>,
+}
+
+/// What a checkout writes beside the files and the report.
+#[derive(Drop)]
+struct Beside {
+    journal: Option<JournalFile>,
+    /// The lock of the index, if that is to be updated.
+    index: Option<IndexLock>,
 }
 
 impl Left {
@@ -78,12 +89,36 @@ fn explain(rt: HostRuntime, status: u8, is_quiet: bool, repo: &mut GitRepo) {
     }
 }
 
-/// The worktree in this folder, and whether a driver has answered, which they share.
-fn tree_of(rt: HostRuntime, folder: &str, keeps: Keeps) -> Result<(GitTree, Driven), AllocError> {
+/// The worktree of a checkout, and whether a driver has answered, which they share.
+fn tree_of(
+    rt: HostRuntime,
+    asked: &Checkout<'_>,
+    keeps: Keeps,
+) -> Result<(GitTree, Driven), AllocError> {
     let driven = Arc::new(rt.alloc(), AtomicBool::new(false))?;
     let shared = Arc::try_clone(&driven)?;
-    let folder = String::from_str(rt.alloc(), folder)?;
-    Ok((GitTree::new(rt, folder, keeps, shared), driven))
+    let folder = String::from_str(rt.alloc(), asked.tree)?;
+    let mut tree = GitTree::new(rt, folder, keeps, shared);
+    if asked.update_index {
+        tree.look_at_files();
+    }
+    Ok((tree, driven))
+}
+
+/// The index of a checkout with this status, if it is asked for and each path was looked at.
+fn index_after(
+    rt: HostRuntime,
+    asked: &Checkout<'_>,
+    repo: &mut GitRepo,
+    tree: &GitTree,
+    status: u8,
+) -> Result<Option<Vec<u8>>, AllocError> {
+    match ExitStatus::of(status) {
+        Some(ExitStatus::Done | ExitStatus::DoneWithFailures) if asked.update_index => {
+            updated_index(rt, repo, tree.stats()?.as_slice())
+        }
+        _ => Ok(None),
+    }
 }
 
 /// Checks out a repository that is open, with this spawner of its drivers.
@@ -95,7 +130,7 @@ fn check_out_with<P: Spawner, H: Threads + Wait + Sync>(
     spawner: &mut P,
 ) -> Result<Left, AllocError> {
     let words = checkout_words(rt.alloc(), repo.git_dir(), asked.tree, asked.workers)?;
-    let (tree, driven) = tree_of(rt, asked.tree, repo.keeps())?;
+    let (tree, driven) = tree_of(rt, asked, repo.keeps())?;
     let leaves = AtomicU32::new(0);
     let progress = Progress::new(rt, &leaves, is_shown(rt, asked.progress));
     let gate = DriverGate {
@@ -121,10 +156,12 @@ fn check_out_with<P: Spawner, H: Threads + Wait + Sync>(
     );
     progress.end();
     show_errors(rt, tree.tree.errors());
+    let index = index_after(rt, asked, repo, &tree.tree, status)?;
     Ok(Left {
         status,
         words,
         history,
+        index,
     })
 }
 
@@ -145,20 +182,25 @@ fn check_out_of<H: Threads + Wait + Sync>(
     left
 }
 
-/// Checks out a repository into an empty folder, and writes its journal, if there is to be one.
+/// Checks out a repository into an empty folder, and writes what is to be written beside.
 fn check_out_all<H: Threads + Wait + Sync>(
     rt: HostRuntime,
     threads: &H,
     asked: &Checkout<'_>,
     repo: &mut GitRepo,
-    journal: Option<JournalFile>,
+    beside: Beside,
 ) -> Result<u8, AllocError> {
+    let Beside { journal, mut index } = beside;
     let left = check_out_of(rt, threads, asked, repo)?;
     explain(rt, left.status, asked.quiet, repo);
+    let mut status = left.status;
+    if let (Some(lock), Some(bytes)) = (&mut index, &left.index) {
+        status = put_index(rt, lock, bytes.as_slice(), status)?;
+    }
     if let Some(journal) = journal {
         journal.end(repo, left.ended());
     }
-    Ok(left.status)
+    Ok(status)
 }
 
 /// Checks out a repository into an empty folder, if its journal can be made where it is to be.
@@ -168,16 +210,24 @@ fn check_out_words<H: Threads + Wait + Sync>(
     asked: &Checkout<'_>,
     repo: &mut GitRepo,
 ) -> Result<u8, AllocError> {
+    let index = match index_lock(rt, repo, asked)? {
+        Ok(index) => index,
+        Err(status) => return Ok(status),
+    };
     if let Some(status) = refuse_guarded(rt, repo, asked.form)? {
         return Ok(status);
     }
-    let Some(path) = asked.journal else {
-        return check_out_all(rt, threads, asked, repo, None);
+    let mut beside = Beside {
+        journal: None,
+        index,
     };
-    match journal_file(rt, path)? {
-        Some(journal) => check_out_all(rt, threads, asked, repo, Some(journal)),
-        None => Ok(ExitStatus::Usage.number()),
+    if let Some(path) = asked.journal {
+        beside.journal = journal_file(rt, path)?;
+        if beside.journal.is_none() {
+            return Ok(ExitStatus::Usage.number());
+        }
     }
+    check_out_all(rt, threads, asked, repo, beside)
 }
 
 /// Checks out a repository into an empty folder. No process of git is left running.

@@ -46,7 +46,9 @@ fn status_of(fault: &GitFault) -> ExitStatus {
         GitFault::Refused(_)
         | GitFault::NoRevision(_)
         | GitFault::ObjectFormat(_)
-        | GitFault::BadPath => ExitStatus::Refused,
+        | GitFault::BadPath
+        | GitFault::Locked(_)
+        | GitFault::NoLock(..) => ExitStatus::Refused,
     }
 }
 

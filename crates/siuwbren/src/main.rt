@@ -18,6 +18,7 @@ mod kept_notes;
 mod own_index;
 mod plan;
 mod rehearsing;
+mod update_index;
 mod worktree;
 
 use crate::checking_in::check_in_tree;

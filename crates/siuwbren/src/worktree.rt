@@ -35,6 +35,14 @@ fn plain_path(rt: HostRuntime, path: &str) -> Option<String> {
     String::from_utf8(plain.into_os_string().into_bytes()).ok()
 }
 
+/// Whether both paths lead to one folder.
+pub fn is_same_folder(rt: HostRuntime, first: &str, second: &str) -> bool {
+    match (plain_path(rt, first), plain_path(rt, second)) {
+        (Some(first), Some(second)) => first.as_str() == second.as_str(),
+        _ => false,
+    }
+}
+
 /// What stands behind a folder and a slash.
 fn behind<'a>(path: &'a str, folder: &str) -> Option<&'a str> {
     path.strip_prefix(folder)?.strip_prefix("/")

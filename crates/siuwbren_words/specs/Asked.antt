@@ -23,6 +23,7 @@ pub record AskedCheckout : Type 0 where
   pub progress : ProgressChoice
   pub quiet : Bool
   pub journal : Option Text
+  pub update_index : Bool
   pub tree : Text
 
 pub record AskedCheckin : Type 0 where
@@ -51,6 +52,7 @@ shown_checkout c = record {
   progress = c.progress;
   quiet = c.quiet;
   journal = option_map (λ t. t.now) c.journal;
+  update_index = c.update_index;
   tree = c.tree.now;
 }
 
@@ -89,6 +91,7 @@ checkout_by rows =
       progress = progress;
       quiet = quiet;
       journal = first_of (codes "journal") rows;
+      update_index = has_flag rows (codes "update-index");
       tree = tree;
     }) (first_of (codes "tree") rows))
     (progress_of (has_flag rows (codes "progress")) (has_flag rows (codes "no-progress")) quiet))

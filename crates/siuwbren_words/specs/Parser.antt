@@ -28,6 +28,9 @@ free_rule name = record (new_rule name) { value_names = 1 }
 abbrev pub quiet_rule : Rule
 quiet_rule = record (flag_rule (codes "quiet")) { short = Some 113 }
 
+abbrev pub update_rule : Rule
+update_rule = record (flag_rule (codes "update-index")) { short = Some 117 }
+
 -- checkout [--git-dir DIR] [--commit REV] [--workers N] ..
 unfoldable pub checkout_source : App
 checkout_source =
@@ -46,9 +49,9 @@ checkout_progress =
     with_rule (with_rule (with_rule checkout_report
     (flag_rule (codes "progress"))) (flag_rule (codes "no-progress"))) quiet_rule
 
--- .. TREE
+-- .. [-u] TREE
 unfoldable pub checkout_app : App
-checkout_app = with_rule checkout_progress (place_rule (codes "tree"))
+checkout_app = with_rule (with_rule checkout_progress update_rule) (place_rule (codes "tree"))
 
 -- checkin [--git-dir DIR] [--allow-empty] [TREE]
 unfoldable pub checkin_app : App

@@ -25,6 +25,8 @@ pub struct Checkout<'a> {
     pub quiet: bool,
     /// The new file for the journal, if it is wanted.
     pub journal: Option<&'a str>,
+    /// Whether the repository's index becomes that of the files.
+    pub update_index: bool,
     pub tree: &'a str,
 }
 

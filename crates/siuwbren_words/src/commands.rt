@@ -31,6 +31,7 @@ fn checkout_of<'a>(matches: &ArgMatches<'a>) -> Result<Checkout<'a>, Mistake<'a>
         progress,
         quiet,
         journal: value_of(matches, "journal"),
+        update_index: has_flag(matches, "update-index"),
         tree,
     })
 }

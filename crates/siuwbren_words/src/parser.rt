@@ -4,14 +4,16 @@ ghost use Rattle.clap.specs.Words.{app_of, rule_of};
 ghost use Rattle.clap.specs.declared.builder.command.Command.TheViews.{out-Command};
 ghost use Rattle.siuwbren_words.specs.Parser.{option_rule, flag_rule, letter_rule, place_rule, free_rule};
 ghost use Rattle.siuwbren_words.specs.Parser.{checkout_app, checkin_app, plan_app, rehearse_app, audit_app};
-ghost use Rattle.siuwbren_words.specs.Parser.{quiet_rule, checkout_source, checkout_report, checkout_progress};
+ghost use Rattle.siuwbren_words.specs.Parser.{quiet_rule, update_rule, checkout_source, checkout_report, checkout_progress};
 ghost use Rattle.siuwbren_words.specs.Parser.{top_app, repository_app, siuwbren_app};
 
 use clap::{Arg, ArgAction, Command};
 use std::alloc::{AllocError, Global};
 
 const CHECKOUT_END: &str = "\
-Example, in a repository, of its index, of a release, and with a journal for siuwbren audit:
+Example, in a clone without files, and in a repository, of its index, of a release, and with a journal
+for siuwbren audit:
+  siuwbren checkout -u --commit HEAD .
   siuwbren checkout /tmp/tree
   siuwbren checkout --commit v1.0 --workers 4 --report json /tmp/release
   siuwbren checkout --journal /tmp/run /tmp/again
@@ -116,6 +118,19 @@ fn quiet<'a>(alloc: Global) -> Arg<'a>
     flag(alloc, "quiet", "Say only of failures on standard error").short('q')
 }
 
+/// `-u`.
+fn update_index<'a>(alloc: Global) -> Arg<'a>
+    ensures rule { rule_of result ≡ update_rule }
+    ensures local { result.global ≡ false }
+{
+    flag(
+        alloc,
+        "update-index",
+        "Make the index that of the files: TREE is the worktree",
+    )
+    .short('u')
+}
+
 /// A command with its texts for help, which a parse doesn't look at.
 fn with_texts<'a>(command: Command<'a>, about: &'a str, usage: &'a str, end: &'a str) -> Command<'a>
     ensures app { app_of result ≡ app_of command.entry }
@@ -201,8 +216,10 @@ fn checkout<'a>(alloc: Global) -> Result<Command<'a>, AllocError>
         "siuwbren checkout [OPTIONS] TREE",
         CHECKOUT_END,
     );
+    let update = update_index(alloc);
+    let first = told.arg(update)?;
     let tree = place(alloc, "tree", "TREE", "The folder to fill: absent or empty");
-    told.arg(tree)
+    first.arg(tree)
 }
 
 fn checkin<'a>(alloc: Global) -> Result<Command<'a>, AllocError>

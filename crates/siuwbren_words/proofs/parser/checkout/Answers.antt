@@ -8,8 +8,10 @@ use Rattle.siuwbren_words.proofs.parser.checkout.Goals as goal
 pub returns : goal.returns
 unfolding checkout_app
 returns c =
+    let first_is = c.in_ok-first.ensures.shape c.update_index-update.ensures.local ∙ ap₂ with_rule (c.with_texts-told.ensures.app ∙ c.in_ok-options.ensures.app) c.update_index-update.ensures.rule in
+    let first_local = local_still _ _ _ c.in_ok-first.ensures (c.with_texts-told.ensures.local ∙ c.in_ok-options.ensures.local) c.update_index-update.ensures.local in
     record {
-      app = IfOk-weaker c.arg.result _ _ (λ r h. h.shape c.place-tree.ensures.local ∙ ap₂ with_rule (c.with_texts-told.ensures.app ∙ c.in_ok-options.ensures.app) c.place-tree.ensures.rule)
-          c.arg.ensures;
-      local = IfOk-weaker c.arg.result _ _ (λ r h. local_still _ _ _ h (c.with_texts-told.ensures.local ∙ c.in_ok-options.ensures.local) c.place-tree.ensures.local) c.arg.ensures;
+      app = IfOk-weaker c.arg-2.result _ _ (λ r h. h.shape c.place-tree.ensures.local ∙ ap₂ with_rule first_is c.place-tree.ensures.rule)
+          c.arg-2.ensures;
+      local = IfOk-weaker c.arg-2.result _ _ (λ r h. local_still _ _ _ h first_local c.place-tree.ensures.local) c.arg-2.ensures;
     }

@@ -1,0 +1,151 @@
+//! The index that a checkout leaves, with what is told of its files, so that git needn't read them.
+use crate::ends::{refuse_repository, say};
+use crate::own_index::MOST_INDEX;
+use crate::worktree::is_same_folder;
+use checkin_edge::{RawEntry, RawIndex};
+use checkout_engine::ExitStatus;
+use edge_kit::Repo;
+use git_edge::{GitFault, GitRepo, IndexLock};
+use git_index::{Entry, Stat, entries_can_stand, read_index, spell_stat_index};
+use siuwbren_words::Checkout;
+use std::alloc::{AllocError, Global};
+
+/// What git says where another process has the lock of the index.
+const LOCKED: &str = "
+Another git process seems to be running in this repository, e.g.
+an editor opened by 'git commit'. Please make sure all processes
+are terminated then try again. If it still fails, a git process
+may have crashed in this repository earlier:
+remove the file manually to continue.";
+
+/// Says why a folder isn't the worktree of a repository, if it isn't.
+fn refused_tree(
+    rt: HostRuntime,
+    repo: &GitRepo,
+    tree: &str,
+) -> Result<Option<ExitStatus>, AllocError> {
+    let Some(top) = repo.worktree()? else {
+        say(
+            rt,
+            "error: the repository has no worktree, whose index is to be updated",
+        );
+        return Ok(Some(ExitStatus::Usage));
+    };
+    if is_same_folder(rt, tree, top.as_str()) {
+        return Ok(None);
+    }
+    let text = format!(in rt.alloc(); "error: --update-index needs the worktree for TREE: {top}")?;
+    say(rt, text.as_str());
+    Ok(Some(ExitStatus::Usage))
+}
+
+/// Says why the index can't be locked, and gives the status.
+fn refuse_lock(rt: HostRuntime, fault: &GitFault) -> u8 {
+    let status = refuse_repository(rt, fault);
+    if matches!(fault, GitFault::Locked(_)) {
+        say(rt, LOCKED);
+    }
+    status
+}
+
+/// The lock of the index, if a checkout is to update that, or the status if it can't.
+pub fn index_lock(
+    rt: HostRuntime,
+    repo: &GitRepo,
+    asked: &Checkout<'_>,
+) -> Result<Result<Option<IndexLock>, u8>, AllocError> {
+    if !asked.update_index {
+        return Ok(Ok(None));
+    }
+    if let Some(status) = refused_tree(rt, repo, asked.tree)? {
+        return Ok(Err(status.number()));
+    }
+    match repo.lock_index() {
+        Ok(lock) => Ok(Ok(Some(lock))),
+        Err(fault) => Ok(Err(refuse_lock(rt, &fault))),
+    }
+}
+
+/// What is told of files at this place, if that is of the entry's file.
+fn told_at(told: &[(&[u8], Stat)], place: usize, entry: &Entry) -> Option<Stat> {
+    match told.get(place) {
+        Some((path, stat)) if *path == entry.path.as_slice() => Some(*stat),
+        _ => None,
+    }
+}
+
+/// What an index tells of an entry's file. An unmerged path has none of its own.
+fn stat_of(entry: &Entry, raw: &RawEntry<'_>, told: Option<Stat>) -> Stat {
+    let stat = match told {
+        Some(stat) if entry.stage == 0 => stat,
+        _ => Stat::NONE,
+    };
+    Stat {
+        valid: raw.is_assumed(),
+        ..stat
+    }
+}
+
+/// What an index tells of the file of each entry, by what is told of files in the order of the entries.
+fn stats_of(
+    alloc: Global,
+    entries: &[Entry],
+    raw: &[RawEntry<'_>],
+    told: &[(&[u8], Stat)],
+) -> Result<Vec<Stat>, AllocError> {
+    let mut stats = Vec::with_capacity(alloc, entries.len())?;
+    let mut place = 0usize;
+    for (entry, raw) in entries.iter().zip(raw.iter()) {
+        let found = told_at(told, place, entry);
+        if found.is_some() {
+            place = place.saturating_add(1);
+        }
+        stats.push(stat_of(entry, raw, found))?;
+    }
+    Ok(stats)
+}
+
+/// An index with the entries of this one, and with what is told of their files, if it can be read.
+fn with_stats(
+    alloc: Global,
+    index: &[u8],
+    told: &[(&[u8], Stat)],
+) -> Result<Option<Vec<u8>>, AllocError> {
+    let (Ok(read), Some(raw)) = (read_index(alloc, index), RawIndex::read(alloc, index)?) else {
+        return Ok(None);
+    };
+    let stats = stats_of(alloc, read.entries(), raw.entries.as_slice(), told)?;
+    entries_can_stand();
+    Ok(Some(spell_stat_index(alloc, read.entries(), stats.as_slice())?))
+}
+
+/// The index of a repository with what is told of its files, if that is to take the place of its own one.
+pub fn updated_index(
+    rt: HostRuntime,
+    repo: &mut GitRepo,
+    told: &[(&[u8], Stat)],
+) -> Result<Option<Vec<u8>>, AllocError> {
+    match repo.index_bytes(MOST_INDEX) {
+        Ok(Some(index)) => with_stats(rt.alloc(), index.as_slice(), told),
+        _ => Ok(None),
+    }
+}
+
+/// Puts an index into the place of the repository's own, and gives the status of the checkout then.
+pub fn put_index(
+    rt: HostRuntime,
+    lock: &mut IndexLock,
+    index: &[u8],
+    status: u8,
+) -> Result<u8, AllocError> {
+    match lock.put(index) {
+        Ok(()) => Ok(status),
+        Err(error) => {
+            let text = format!(in rt.alloc();
+                "error: the index is as it was, since the new one can't be written: {error}"
+            )?;
+            say(rt, text.as_str());
+            Ok(ExitStatus::OutputNotWritten.number())
+        }
+    }
+}
