@@ -2,7 +2,7 @@
 ghost use Rattle.edge_kit.specs.Told.{Untold};
 
 use byte_path::Bytes;
-use checkin_engine::{Files, MemoryFiles};
+use checkin_paths::{Files, MemoryFiles};
 use edge_kit::TakeFault;
 
 /// Files in memory, and the paths of some with how many bytes they have. One that isn't longer than the limit is taken

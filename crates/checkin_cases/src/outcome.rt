@@ -3,7 +3,8 @@ use crate::case::{Case, no_once, repo_of};
 use crate::long_files::LongFiles;
 use byte_path::{Bytes, Items};
 use case_kit::push_all;
-use checkin_engine::{MemoryFiles, MemoryKeep, checkin};
+use checkin_engine::checkin;
+use checkin_paths::{MemoryFiles, MemoryKeep};
 use edge_kit::{
     DriverScript, DriverSeen, MemoryRepo, MemorySink, MemorySpawner, SessionScript, StartOutcome,
 };

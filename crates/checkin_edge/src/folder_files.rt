@@ -2,11 +2,11 @@
 ghost use Rattle.std.specs.Prelude.{◌≡◌, ◌++◌, ◌∷◌, [], ◌<◌, true, false, vec_len, vec_capacity};
 ghost use Rattle.edge_kit.specs.Told.{Untold};
 ghost use Rattle.edge_kit.specs.Faults.{Rose};
-ghost use Rattle.checkin_engine.specs.Outside.{no_files_failed};
+ghost use Rattle.checkin_paths.specs.Outside.{no_files_failed};
 
 use crate::looking::{FileRead, WantedKind, read_below};
 use byte_path::Bytes;
-use checkin_engine::Files;
+use checkin_paths::Files;
 use edge_adapters::{LeafPlace, WriteErrors};
 use edge_kit::TakeFault;
 use std::alloc::Global;

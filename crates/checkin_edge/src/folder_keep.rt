@@ -7,7 +7,7 @@ use crate::held_entries::{HeldEntry, with_held};
 use crate::new_file::{replace, write_once};
 use crate::stored_object::has_object;
 use crate::zlib_store::zlib_stored;
-use checkin_engine::Keep;
+use checkin_paths::Keep;
 use edge_adapters::path_in;
 use edge_kit::SendFault;
 use std::alloc::{AllocError, Global};

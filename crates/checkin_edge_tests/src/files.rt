@@ -3,7 +3,7 @@ use crate::place::{folder_after, path_in};
 use crate::table::{cut, is_right};
 use byte_path::Bytes;
 use checkin_edge::{FolderFiles, IndexLinks};
-use checkin_engine::Files;
+use checkin_paths::Files;
 use edge_kit::TakeFault;
 use std::fs::remove_dir_all;
 use std::test::Fail;

@@ -2,7 +2,7 @@
 use crate::place::{folder_after, has_git, path_in, runs};
 use crate::table::{cut, is_right};
 use checkin_edge::{FolderKeep, ObjectForm};
-use checkin_engine::Keep;
+use checkin_paths::Keep;
 use object_dir::{blob_name, spell_blob};
 use std::fs::remove_dir_all;
 use std::test::Fail;

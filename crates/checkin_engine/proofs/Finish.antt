@@ -1,72 +1,43 @@
 -- How a check-in ends, from how its parts end.
-use Rattle.std.proofs.Common.{Option, Some, None, ◌≡◌, ℕ, suc, ◌^◌, ◌<◌, Bool, true, false, List, [], ◌∷◌, ◌++◌, length, ◌⊎◌, Result, Ok, Err, refl, sym, ap, subst, ◌∙◌, inl, inr, arith}
+use Rattle.std.proofs.Common.{Option, Some, None, ◌≡◌, ℕ, suc, Bool, true, false, List, [], ◌∷◌, ◌++◌, length, ◌⊎◌, Result, Ok, Err, refl, sym, ap, subst, ◌∙◌, inl, inr}
 use Rattle.std.specs.Prelude.{if◌then◌else◌}
 use Rattle.std.specs.Global.{Vec}
-use Rattle.std.specs.List.{list_any, AllByRecursion}
-use Rattle.std.proofs.Math.Seq.{take-length}
+use Rattle.std.specs.List.{list_any}
 use Rattle.edge_kit.specs.Seen.{RepoSeen, SinkSeen}
 use Rattle.edge_kit.specs.Starters.{SpawnerSeen}
 use Rattle.edge_kit.specs.Told.{Told, RepoTold}
 use Rattle.edge_kit.specs.declared.faults.SendFault.{SendFault}
 use Rattle.edge_kit.specs.declared.faults.SendFault.TheVariants as send
 use Rattle.git_index.specs.declared.entry.Entry.{Entry}
-use Rattle.git_index.specs.Spelling.{CanStand, EntriesCanStand, PathsAreOrdered, plain_text}
+use Rattle.git_index.specs.Spelling.{plain_text}
 use Rattle.clean_line.specs.CleanTalks.{TurnsAreTalks}
 use Rattle.clean_drivers.specs.Drivers.{DriversSeen}
-use Rattle.checkout_plan.specs.Making.{blobs_of}
 use Rattle.checkout_sources.specs.declared.attributed.Attributed.{Attributed}
 use Rattle.checkout_sources.specs.declared.stop.Stop.{Stop}
 use Rattle.checkout_sources.specs.declared.stop.Stop.TheVariants as stop
-use Rattle.checkout_sources.specs.Attributed.{AreAttributed}
 use Rattle.checkout_sources.specs.Causes.{IsReadCause, IsCutShort}
-use Rattle.checkout_sources.specs.Reading.{ReadsPlan}
 use Rattle.checkout_sources.specs.RefusalText.{refusal_line}
-use Rattle.checkin_engine.specs.declared.path.CheckinPath.{CheckinPath}
-use Rattle.checkin_engine.specs.declared.fate.Fate.{Fate}
-use Rattle.checkin_engine.specs.declared.reading.PathsRead.{PathsRead}
+use Rattle.checkin_paths.specs.declared.path.CheckinPath.{CheckinPath}
+use Rattle.checkin_paths.specs.declared.fate.Fate.{Fate}
+use Rattle.checkin_paths.specs.declared.reading.PathsRead.{PathsRead}
 use Rattle.checkin_engine.specs.declared.status.CheckinStatus.{CheckinStatus}
 use Rattle.checkin_engine.specs.declared.status.CheckinStatus.TheVariants as status
-use Rattle.checkin_engine.specs.Outside.{FilesSeen, WorkSeen, KeepSeen, with_index}
-use Rattle.checkin_engine.specs.Fates.{is_auto}
-use Rattle.checkin_engine.specs.Cleaning.{Cleaning}
-use Rattle.checkin_engine.specs.Paths.{checkin_paths}
+use Rattle.checkin_paths.specs.Outside.{FilesSeen, WorkSeen, KeepSeen, with_index}
+use Rattle.checkin_paths.specs.Fates.{is_auto}
+use Rattle.checkin_paths.specs.Cleaning.{Cleaning}
+use Rattle.checkin_paths.specs.Paths.{checkin_paths}
 use Rattle.checkin_engine.specs.Indexes.{new_entries}
 use Rattle.checkin_engine.specs.InTurn.{entries_in_turn}
-use Rattle.checkin_engine.specs.Outcomes.{Outcome, AreOutcomes, fates_of, ArePathsChecked, AreObjectsCut, AreBrokenOff, IsLeftNext, blob_by, with_blob}
+use Rattle.checkin_paths.specs.Outcomes.{Outcome, AreOutcomes, fates_of, ArePathsChecked, AreObjectsCut, AreBrokenOff, IsLeftNext, blob_by, with_blob}
 use Rattle.checkin_engine.specs.Report.{report_of, is_failed}
-use Rattle.checkin_engine.specs.Looking.{IsOpen}
-use Rattle.checkin_engine.specs.Keeping.{ChecksAndLeaves, KeepsAfter}
-use Rattle.checkin_engine.specs.Ends.{Seen, seen, AllTold, cleaning_told, work_before, with_text, after_reading, status_of, IsUntouched, IsRefusedWith, IsLookedThrough, IsCheckedIn, EndsCheckin}
-use Rattle.checkin_engine.specs.Ending.{are_apart, PathsOf, ArePathsRead, ReadsPaths, WritesLine, EndsStopped, WritesReport}
-use Rattle.checkin_engine.proofs.Texts.{paths_are_open, paths_are_few}
-use Rattle.checkin_engine.proofs.ByPath.{paths_are_apart, in_turn}
+use Rattle.checkin_paths.specs.Keeping.{ChecksAndLeaves}
+use Rattle.checkin_engine.specs.Keeping.{KeepsAfter}
+use Rattle.checkin_paths.specs.Reading.{after_reading}
+use Rattle.checkin_engine.specs.Ends.{Seen, seen, AllTold, cleaning_told, work_before, with_text, status_of, IsUntouched, IsRefusedWith, IsLookedThrough, IsCheckedIn, EndsCheckin}
+use Rattle.checkin_paths.specs.Reading.{ArePathsRead, ReadsPaths}
+use Rattle.checkin_engine.specs.Ending.{WritesLine, EndsStopped, WritesReport}
+use Rattle.checkin_engine.proofs.ByPath.{in_turn}
 use Rattle.checkin_engine.proofs.Talks.{have_talks}
-
--- memory ran out once the attribute files were read
-cut_short : (told : RepoTold) (a : Attributed) (old new : RepoSeen) → AreAttributed told a old new → IsCutShort told old new
-cut_short told a old new read = inr (record {
-  entries = a.index;
-  settings = a.settings;
-  outer = read.has.outer;
-  sources = read.has.sources;
-  count = length a.index;
-  within = omega arith;
-  seen = read.seen ∙ ap (λ (es : List Entry). record old { returned = old.returned ++ blobs_of es }) (sym (take-length a.index));
-})
-
--- the paths of what was read, or why there are none
-pub reads_paths : (told : RepoTold) (a : Attributed) (old new : RepoSeen) (r : Result PathsRead Stop) → EntriesCanStand → PathsAreOrdered → AreAttributed told a old new → PathsOf a r → ReadsPaths told old new r
-reads_paths told a old new (Ok r) law order read (entries, cleaning, paths) =
-    let stand : CanStand a.index = law read.has.sources.index.bytes a.index read.has.sources.index.is_index in record {
-      has = record { attributed = a; has = read.has; cleaning = cleaning; entries = entries; paths = paths };
-      stand = subst CanStand (sym entries) stand;
-      few = subst (λ (ps : List CheckinPath). length ps < 2 ^ 32) (sym paths) (paths_are_few a.files r.drivers a.settings a.index stand.few);
-      are_open = subst (λ (ps : List CheckinPath). AllByRecursion (IsOpen (length r.drivers)) ps) (sym paths) (paths_are_open a.files r.drivers a.settings a.index stand.each);
-      apart = subst (λ (ps : List CheckinPath). are_apart ps ≡ true) (sym paths) (paths_are_apart a.files r.drivers a.settings order a.index read.has.sources.index.is_index.text.rising);
-      seen = read.seen ∙ ap (λ (es : List Entry). after_reading es old) (sym entries);
-    }
-reads_paths told a old new (Err s) law order read is =
-    subst (λ (s : Stop). ReadsPlan told old new (Err s)) (sym is) (cut_short told a old new read)
 
 -- the status of a report that was written
 pub reports : (ps : List CheckinPath) (fates : List Fate) (old new : SinkSeen) → new ≡ with_text (report_of ps fates) old → WritesReport ps fates old new (status_of fates)

@@ -2,14 +2,14 @@
 use Rattle.std.proofs.Common.{◌≡◌, ℕ, List, [], ◌∷◌, length, Option, refl, sym, ap, ◌∙◌}
 use Rattle.sha1.specs.Sha1.{sha1, digest_bytes}
 use Rattle.edge_kit.specs.Told.{Told}
-use Rattle.checkin_engine.specs.declared.path.Way.{Way}
-use Rattle.checkin_engine.specs.declared.path.Way.TheVariants as way
-use Rattle.checkin_engine.specs.declared.path.CheckinPath.{CheckinPath}
-use Rattle.checkin_engine.specs.declared.fate.Fate.{Fate}
-use Rattle.checkin_engine.specs.declared.fate.Fate.TheVariants.{Same, Changed, Gone, Kept, Failed}
-use Rattle.checkin_engine.specs.Cleaning.{Asked}
-use Rattle.checkin_engine.specs.Fates.{HasFate, name_of}
-use Rattle.checkin_engine.specs.Outcomes.{Outcome, AreOutcomes, fates_of}
+use Rattle.checkin_paths.specs.declared.path.Way.{Way}
+use Rattle.checkin_paths.specs.declared.path.Way.TheVariants as way
+use Rattle.checkin_paths.specs.declared.path.CheckinPath.{CheckinPath}
+use Rattle.checkin_paths.specs.declared.fate.Fate.{Fate}
+use Rattle.checkin_paths.specs.declared.fate.Fate.TheVariants.{Same, Changed, Gone, Kept, Failed}
+use Rattle.checkin_paths.specs.Cleaning.{Asked}
+use Rattle.checkin_paths.specs.Fates.{HasFate, name_of}
+use Rattle.checkin_paths.specs.Outcomes.{Outcome, AreOutcomes, fates_of}
 use Rattle.checkin_engine.specs.Keeping.{HasName, HaveNames}
 
 sha1_length : (m : List ℕ) → length (sha1 m) ≡ 20

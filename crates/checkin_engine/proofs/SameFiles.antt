@@ -2,18 +2,18 @@
 use Rattle.std.proofs.Common.{◌≡◌, ◌≤◌, ◌⊎◌, ℕ, List, [], ◌∷◌, length, Option, Some, None, Result, Ok, Err, refl, sym, ap, subst, inl, inr, ◌∙◌, arith}
 use Rattle.edge_kit.specs.Told.{Told, Raw, Absent, Failing, Untold, MayFail, TellsBytes}
 use Rattle.clean_line.specs.declared.cause.CleanCause.{CleanCause}
-use Rattle.checkin_engine.specs.declared.path.CheckinPath.{CheckinPath}
-use Rattle.checkin_engine.specs.declared.path.PathDriver.{PathDriver}
-use Rattle.checkin_engine.specs.declared.path.Storing.{Storing}
-use Rattle.checkin_engine.specs.declared.path.Way.{Way}
-use Rattle.checkin_engine.specs.declared.path.Way.TheVariants as way
-use Rattle.checkin_engine.specs.declared.fate.Fate.{Fate}
-use Rattle.checkin_engine.specs.declared.fate.Fate.TheVariants.{Same, Changed, Gone, Kept, Failed}
-use Rattle.checkin_engine.specs.declared.fate.CheckinCause.TheVariants.{Encoding, NoProcess, Read, TooLarge, Filter}
-use Rattle.checkin_engine.specs.declared.fate.CheckinCause.TheVariants.{EncodingForm, OtherKind}
-use Rattle.checkin_engine.specs.Cleaning.{Asked, IsCleaned}
-use Rattle.checkin_engine.specs.Fates.{max_file, HasFile, HasStoredFate, HasFate}
-use Rattle.checkin_engine.specs.Outcomes.{Outcome, HasStoredCounts, HasCounts, IsUnread, AreOutcomes}
+use Rattle.checkin_paths.specs.declared.path.CheckinPath.{CheckinPath}
+use Rattle.checkin_paths.specs.declared.path.PathDriver.{PathDriver}
+use Rattle.checkin_paths.specs.declared.path.Storing.{Storing}
+use Rattle.checkin_paths.specs.declared.path.Way.{Way}
+use Rattle.checkin_paths.specs.declared.path.Way.TheVariants as way
+use Rattle.checkin_paths.specs.declared.fate.Fate.{Fate}
+use Rattle.checkin_paths.specs.declared.fate.Fate.TheVariants.{Same, Changed, Gone, Kept, Failed}
+use Rattle.checkin_paths.specs.declared.fate.CheckinCause.TheVariants.{Encoding, NoProcess, Read, TooLarge, Filter}
+use Rattle.checkin_paths.specs.declared.fate.CheckinCause.TheVariants.{EncodingForm, OtherKind}
+use Rattle.checkin_paths.specs.Cleaning.{Asked, IsCleaned}
+use Rattle.checkin_paths.specs.Fates.{max_file, HasFile, HasStoredFate, HasFate}
+use Rattle.checkin_paths.specs.Outcomes.{Outcome, HasStoredCounts, HasCounts, IsUnread, AreOutcomes}
 use Rattle.checkin_engine.specs.EqualTurns.{IsAskedAlike, AreAlike, IsAllTold, SameFilesAskAlike}
 
 told_bytes : (file : Told) → (MayFail file → ⊥) → (bytes : List ℕ) → TellsBytes file bytes → file ≡ Raw bytes

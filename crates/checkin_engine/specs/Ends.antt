@@ -9,20 +9,20 @@ use Rattle.one_shot.specs.Onces.{RunsTold}
 use Rattle.settings_view.specs.declared.view.Driver.{Driver}
 use Rattle.git_index.specs.declared.entry.Entry.{Entry}
 use Rattle.git_index.specs.Spelling.{plain_text}
-use Rattle.checkout_plan.specs.Making.{blobs_of}
 use Rattle.checkout_sources.specs.declared.stop.Refusal.{Refusal}
 use Rattle.checkout_sources.specs.Causes.{IsReadCause, IsRefusedFor, IsCutShort}
 use Rattle.checkout_sources.specs.RefusalText.{refusal_line}
-use Rattle.checkin_engine.specs.declared.path.CheckinPath.{CheckinPath}
-use Rattle.checkin_engine.specs.declared.fate.Fate.{Fate}
+use Rattle.checkin_paths.specs.declared.path.CheckinPath.{CheckinPath}
+use Rattle.checkin_paths.specs.declared.fate.Fate.{Fate}
 use Rattle.checkin_engine.specs.declared.status.CheckinStatus.{CheckinStatus}
 use Rattle.checkin_engine.specs.declared.status.CheckinStatus.TheVariants as status
-use Rattle.checkin_engine.specs.Outside.{FilesSeen, WorkSeen, KeepSeen, IsKeepFailed, with_index}
-use Rattle.checkin_engine.specs.Paths.{HasPaths}
-use Rattle.checkin_engine.specs.Cleaning.{Cleaning, cleaning}
-use Rattle.checkin_engine.specs.Keeping.{IsLeft, first_work}
+use Rattle.checkin_paths.specs.Outside.{FilesSeen, WorkSeen, KeepSeen, IsKeepFailed, with_index}
+use Rattle.checkin_paths.specs.Paths.{HasPaths}
+use Rattle.checkin_paths.specs.Reading.{after_reading}
+use Rattle.checkin_paths.specs.Cleaning.{Cleaning, cleaning}
+use Rattle.checkin_paths.specs.Keeping.{IsLeft, first_work}
 use Rattle.checkin_engine.specs.Indexes.{new_entries}
-use Rattle.checkin_engine.specs.Outcomes.{ArePathsChecked, AreObjectsCut, AreBrokenOff, with_blobs}
+use Rattle.checkin_paths.specs.Outcomes.{ArePathsChecked, AreObjectsCut, AreBrokenOff}
 use Rattle.checkin_engine.specs.Report.{report_of, is_failed}
 use Rattle.checkin_engine.specs.Talks.{HaveTalks}
 
@@ -67,10 +67,6 @@ with_text text sink = record sink { written = grown sink.written text }
 -- 1 if some path failed, and 0 if none did
 abbrev pub status_of : List Fate → CheckinStatus
 status_of fates = if list_any is_failed fates then status.DoneWithFailures else status.Done
-
--- once its attribute files were read, none of whose blobs failed
-abbrev pub after_reading : List Entry → RepoSeen → RepoSeen
-after_reading es repo = with_blobs (blobs_of es) repo
 
 -- The paths of the index came to these fates, and the objects of the changed ones were kept. The blobs of the attribute
 -- files and then those of the paths were given back, and then the starters of the drivers that were asked, each with

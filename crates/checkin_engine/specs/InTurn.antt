@@ -2,8 +2,8 @@
 use Rattle.std.specs.Prelude.{ℕ, List, [], ◌∷◌, ◌++◌, if◌then◌else◌}
 use Rattle.std.specs.Str.{bytes_eq}
 use Rattle.git_index.specs.declared.entry.Entry.{Entry}
-use Rattle.checkin_engine.specs.declared.fate.Fate.{Fate}
-use Rattle.checkin_engine.specs.declared.fate.Fate.TheVariants.{Kept}
+use Rattle.checkin_paths.specs.declared.fate.Fate.{Fate}
+use Rattle.checkin_paths.specs.declared.fate.Fate.TheVariants.{Kept}
 use Rattle.checkin_engine.specs.Indexes.{entry_after}
 
 -- the next fate, and what follows it; without one an entry stays

@@ -5,11 +5,11 @@ use Rattle.edge_kit.specs.Starters.{Had, SpawnerSeen}
 use Rattle.one_shot.specs.Starters.{is_single_run}
 use Rattle.settings_view.specs.declared.view.Driver.{Driver}
 use Rattle.clean_line.specs.CleanTalks.{Turn, IsCleanTalk}
-use Rattle.checkin_engine.specs.declared.path.PathDriver.{PathDriver}
-use Rattle.checkin_engine.specs.declared.path.CheckinPath.{CheckinPath}
-use Rattle.checkin_engine.specs.Cleaning.{Asked, as_answer, text_in}
-use Rattle.checkin_engine.specs.Fates.{driver_of}
-use Rattle.checkin_engine.specs.Outcomes.{Outcome}
+use Rattle.checkin_paths.specs.declared.path.PathDriver.{PathDriver}
+use Rattle.checkin_paths.specs.declared.path.CheckinPath.{CheckinPath}
+use Rattle.checkin_paths.specs.Cleaning.{Asked, as_answer, text_in}
+use Rattle.checkin_paths.specs.Fates.{driver_of}
+use Rattle.checkin_paths.specs.Outcomes.{Outcome}
 
 -- the turn of a path, if its driver is the one at this place and was asked: the bytes of its file, and the answer
 abbrev pub turn_of : ℕ → List ℕ → Option PathDriver → Option Asked → List Turn

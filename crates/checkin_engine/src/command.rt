@@ -6,15 +6,11 @@ ghost use Rattle.checkin_engine.specs.declared.status.CheckinStatus.{CheckinStat
 ghost use Rattle.checkin_engine.specs.Ends.{seen, all_told, number_of, status_of, EndsCheckin};
 ghost use Rattle.checkin_engine.specs.Ending.{WritesLine, EndsStopped, WritesReport};
 
-use crate::fate::Fate;
-use crate::files::Files;
-use crate::keep::Keep;
 use crate::keeping::keep_all;
-use crate::path::CheckinPath;
-use crate::reading::read_paths;
 use crate::report::{has_failed, report_text};
 use crate::status::{CheckinStatus, number_of};
 use crate::words::is_checkin;
+use checkin_paths::{CheckinPath, Fate, Files, Keep, read_paths};
 use checkout_sources::{Refusal, Stop, refusal_line};
 use clean_line::turns_are_talks;
 use edge_kit::{Repo, SendFault, Sink, Spawner};

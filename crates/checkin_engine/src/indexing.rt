@@ -3,8 +3,8 @@ ghost use Rattle.std.specs.Prelude.{◌≡◌, ◌++◌, IfOk, OnOk};
 ghost use Rattle.checkin_engine.specs.Indexes.{entry_after, with_name};
 ghost use Rattle.checkin_engine.specs.InTurn.{next_fate, fates_behind, entries_in_turn};
 
-use crate::fate::Fate;
 use byte_path::Bytes;
+use checkin_paths::Fate;
 use git_index::Entry;
 use std::alloc::{AllocError, Global};
 

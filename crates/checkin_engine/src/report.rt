@@ -4,9 +4,8 @@ ghost use Rattle.checkin_engine.specs.Report.{is_same, is_changed, is_gone, is_k
 ghost use Rattle.checkin_engine.specs.Report.{fate_words, line_of, numbers_line, done_line, report_of};
 ghost use Rattle.std.specs.List.{list_any};
 
-use crate::fate::Fate;
-use crate::path::CheckinPath;
 use byte_path::quote_path;
+use checkin_paths::{CheckinPath, Fate};
 use std::alloc::{AllocError, Global};
 
 /// The words of a fate, with a space behind each.

@@ -23,8 +23,12 @@ use Rattle.checkout_core.specs.States.{Core, AreBelow, begins, path_of}
 use Rattle.checkout_core.specs.States as states
 use Rattle.checkout_core.specs.Steps.{done, step_of, replay, IsLegal}
 use Rattle.checkout_core.specs.Verdicts.{heard_close, unasked_close}
-use Rattle.checkout_engine.specs.Workers.{HaveActorsBelow}
-use Rattle.checkout_engine.proofs.PathsEnd.{KeepsSize}
+use Rattle.checkout_paths.specs.Workers.{HaveActorsBelow}
+
+-- the law of the core that a history keeps its numbers of workers, drivers and paths
+abbrev pub KeepsSize : Type 0
+KeepsSize = (starts : List Start) (workers drivers : ℕ) (history : List Event) (x : Core) → IsLegal starts workers drivers history x
+    → (x.workers ≡ workers) × (length x.drivers ≡ drivers) × (length x.paths ≡ length starts)
 
 -- the law of the core that an actor's own entries tell what it has in hand
 abbrev pub HandsAreTold : Type 0

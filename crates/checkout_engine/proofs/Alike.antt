@@ -26,17 +26,17 @@ use Rattle.checkout_plan.specs.declared.path_plan.PathPlan.{PathPlan}
 use Rattle.checkout_plan.specs.declared.path_plan.Plan.{Plan}
 use Rattle.checkout_engine.specs.Alike.{IsTold, RepoTellsAll, DifferInWorkers, IsUndisturbed, WorkersChangeNothing, SettingsChangeNothing, AreSameTalks, HearAlike, AreListed, TalksDecide, TalksHaveMemory}
 use Rattle.checkout_engine.specs.SameFaults.{HaveSameItems}
-use Rattle.checkout_engine.specs.Prepared.{IsPreparedTo}
+use Rattle.checkout_paths.specs.Prepared.{IsPreparedTo}
 use Rattle.tree_encoding.specs.declared.prepared.Prepared.{Prepared}
 use Rattle.convert_plan.specs.Prepared.{prepared}
 use Rattle.checkout_engine.specs.Complete.{failed_leaves}
 use Rattle.checkout_engine.specs.Ends.{Seen, IsCheckedOut, verdicts_of, files_of}
-use Rattle.checkout_engine.specs.Outcome.{Outcome, HasOutcome, AreOutcomes}
-use Rattle.checkout_engine.specs.Paths.{leaves_back}
+use Rattle.checkout_paths.specs.Outcome.{Outcome, HasOutcome, AreOutcomes}
+use Rattle.checkout_paths.specs.Paths.{leaves_back}
 use Rattle.checkout_engine.specs.Report.{lacks_memory, report}
-use Rattle.checkout_engine.specs.Talks.{DriverTalk, IsDriverTalk, heard_at}
+use Rattle.checkout_paths.specs.Talks.{DriverTalk, IsDriverTalk, heard_at}
 use Rattle.checkout_engine.proofs.Drivers.{planned_ordered}
-use Rattle.checkout_engine.proofs.Seeds.{same_place}
+use Rattle.checkout_engine.proofs.Order.{same_place}
 use Rattle.checkout_engine.proofs.Rising.{apart, same_rising}
 use Rattle.checkout_engine.proofs.SamePlan.{same_ok, same_plan, differs_not}
 use Rattle.checkout_engine.proofs.ToldObjects.{found_of, gives_found}

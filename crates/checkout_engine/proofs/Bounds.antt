@@ -50,14 +50,14 @@ use Rattle.checkout_plan.specs.Paths.{no_conversion, path_with, closed, converte
 use Rattle.checkout_plan.specs.declared.path_plan.PathPlan.{PathPlan}
 use Rattle.checkout_plan.specs.declared.path_plan.Plan.{Plan}
 use Rattle.checkout_engine.proofs.LeftOut.{left_out_by}
-use Rattle.checkout_engine.specs.Cards.{IsText, IsTextIn, AreTexts}
+use Rattle.checkout_paths.specs.Cards.{IsText, IsTextIn, AreTexts}
 use Rattle.edge_kit.specs.Seen.{RepoSeen}
 use Rattle.edge_kit.specs.Told.{RepoTold}
 use Rattle.checkout_sources.specs.declared.planning.Planned.{Planned}
-use Rattle.checkout_engine.specs.declared.workers.Pace.{Pace}
+use Rattle.checkout_paths.specs.declared.workers.Pace.{Pace}
 use Rattle.checkout_sources.specs.Reading.{IsRead}
 use Rattle.checkout_sources.specs.Sources.{IsPlanned}
-use Rattle.checkout_engine.specs.Workers.{IsAsked, IsPace, workers_for}
+use Rattle.checkout_paths.specs.Workers.{IsAsked, IsPace, workers_for}
 
 -- 1 to 16
 abbrev IsWithin16 : ℕ → Type 0

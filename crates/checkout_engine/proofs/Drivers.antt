@@ -29,11 +29,12 @@ use Rattle.checkout_plan.specs.AttributeFiles.{attribute_files}
 use Rattle.checkout_plan.specs.Paths.{no_conversion, path_with, closed, converted, file_path, text_path, link_path, path_of_mode, asked_path, asked_paths, first_entries, path_among, start_among, plan_of}
 use Rattle.checkout_plan.specs.Paths.{start_by, start_at, start_named, filter_start, is_desk_of, asks_for, is_used, used_from, number_at}
 use Rattle.checkout_engine.proofs.LeftOut.{left_out_by}
-use Rattle.checkout_engine.specs.Cards.{AreOrdered, AreDrivers, HasDriver}
-use Rattle.checkout_engine.specs.Dealing.{IsWork}
+use Rattle.checkout_paths.specs.Cards.{AreOrdered, AreDrivers, HasDriver}
+use Rattle.checkout_paths.specs.Dealing.{IsWork}
 use Rattle.checkout_sources.specs.Sources.{IsPlanned}
 use Rattle.checkout_engine.proofs.Bounds.{planned_texts, planned_size}
-use Rattle.checkout_engine.proofs.Order.{precedes, plan_rises}
+use Rattle.checkout_paths.specs.Cards.{precedes}
+use Rattle.checkout_engine.proofs.Order.{plan_rises}
 
 -- the driver has a command
 abbrev HasCommand : Driver → Type 0

@@ -1,7 +1,8 @@
 -- A checkout that was not disturbed and wrote each path of a driver shows that what is told of the starts gives these paths.
 use Rattle.std.proofs.Common.{◌≡◌, ◌+◌, ℕ, zero, suc, Bool, List, [], ◌∷◌, Some, refl, sym, ap, ◌∙◌, subst, arith}
 use Rattle.std.specs.Prelude.{slice_get}
-use Rattle.std.proofs.lemmas.Option.{same_Some}
+use Rattle.std.proofs.lemmas.Option.{same_Some, slice_get-map}
+use Rattle.std.specs.Option.{option_map}
 use Rattle.edge_kit.specs.Starters.{Starts, StartsListed, StartTold}
 use Rattle.edge_kit.specs.Told.{Told}
 use Rattle.driver_line.specs.SameHeard.{NoneFailed}
@@ -16,12 +17,10 @@ use Rattle.checkout_plan.specs.declared.path_plan.PathPlan.{PathPlan}
 use Rattle.checkout_engine.specs.Complete.{GivesAll}
 use Rattle.checkout_engine.specs.Given.{AreWritten, WrittenIsGiven}
 use Rattle.checkout_engine.specs.Ends.{verdicts_of}
-use Rattle.checkout_engine.specs.Outcome.{Outcome, HasOutcome, HasDeskVerdict}
-use Rattle.checkout_engine.specs.Talks.{DriverTalk, IsDriverTalk, AreDriverTalks, heard_at}
+use Rattle.checkout_paths.specs.Outcome.{Outcome, HasOutcome, HasDeskVerdict}
+use Rattle.checkout_paths.specs.Talks.{DriverTalk, IsDriverTalk, AreDriverTalks, heard_at}
 use Rattle.checkout_engine.proofs.Alike.{side_of}
-use Rattle.checkout_engine.proofs.Places.{get_map}
-use Rattle.checkout_engine.proofs.Seeds.{at_desk}
-use Rattle.checkout_engine.proofs.OneSide.{IsSide, holds_at, outcome_at, told_talk}
+use Rattle.checkout_engine.proofs.OneSide.{IsSide, desk_of, holds_at, outcome_at, told_talk}
 
 talk_with : (ahead : List ℕ → Starts) (object : List ℕ → Told) (ps : List PathPlan) (vs : List Verdict) (history : List Event) (m : ℕ) (xs : List Driver) (ts : List DriverTalk) → AreDriverTalks ahead object ps vs history m xs ts
     → (d : ℕ) (x : Driver) → slice_get xs d ≡ Some x → (t : DriverTalk) × (slice_get ts d ≡ Some t) × IsDriverTalk ahead object ps vs history (m + d) x t
@@ -57,7 +56,7 @@ module _ (object : List ℕ → Told) (ahead : List ℕ → Starts) (ps : List P
           asked = λ n p here is.
               let o = outcome_at object ahead ps drivers talks outcomes history s.ends n p here in
               let w = written n d p o.0 here is o.1 in
-              said.over.asked n p (verdict.Written w.0) here (get_map (λ (y : Outcome). y.verdict) outcomes n o.0 o.1 ∙ ap Some w.1) is refl;
+              said.over.asked n p (verdict.Written w.0) here (slice_get-map (λ (y : Outcome). y.verdict) outcomes n ∙ ap (option_map (λ (y : Outcome). y.verdict)) o.1 ∙ ap Some w.1) is refl;
           each = λ n is. let e = said.over.each n is in (e.0, e.1, e.2, e.3);
           rises = said.over.rises;
         };
@@ -66,7 +65,7 @@ module _ (object : List ℕ → Told) (ahead : List ℕ → Starts) (ps : List P
             let e = said.over.each n is in
             let o = outcome_at object ahead ps drivers talks outcomes history s.ends n e.0 e.1 in
             let w = written n d e.0 o.0 e.1 e.2 o.1 in
-            let desk = at_desk d (e.0).start e.2 in
+            let desk = desk_of d (e.0).start e.2 in
             let has : HasOutcome object talks (start.Desk d desk.0) n e.0 o.0 = subst (λ (y : Start). HasOutcome object talks y n e.0 o.0) desk.1 o.2.has in
             let same : has.1 ≡ t = same_Some has.1 t (sym has.2 ∙ found.1) in
             got_by desk.0 d t n (object (e.0).object) e.0 o.0 (o.0).verdict w.0 w.1 (subst (λ (y : DriverTalk). HasDeskVerdict desk.0 d y n (object (e.0).object) e.0 o.0 (o.0).verdict) same has.3);

@@ -22,16 +22,15 @@ use Rattle.checkout_engine.specs.Alike.{ActorsAreNumbered}
 use Rattle.checkout_engine.specs.Ending.{IsDone}
 use Rattle.checkout_engine.specs.Ends.{Seen, verdicts_of, files_of}
 use Rattle.checkout_engine.specs.Headline.{EndsInPool, EndsAtDesk, EndsWith, AllEnd, IsHeadline}
-use Rattle.checkout_engine.specs.Outcome.{Outcome, MayLeavePart, MayLeaveFile, LeavesPart, LeavesFile, HasVerdict, HasDeskVerdict, HasOutcome, AreOutcomes}
+use Rattle.checkout_paths.specs.Outcome.{Outcome, MayLeavePart, MayLeaveFile, LeavesPart, LeavesFile, HasVerdict, HasDeskVerdict, HasOutcome, AreOutcomes}
 use Rattle.checkout_engine.specs.Output.{with_text}
-use Rattle.checkout_engine.specs.Report.{is_no_memory, lacks_memory, status_of, number_of, report}
+use Rattle.checkout_engine.specs.Report.{lacks_memory, status_of, number_of, report}
 use Rattle.writer_pool.specs.Ends.{IsRun}
-use Rattle.checkout_engine.specs.Workers.{starts_of, worker_count}
-use Rattle.checkout_engine.proofs.Actors.{HandsAreTold, actors_below}
+use Rattle.checkout_paths.specs.Workers.{starts_of, worker_count}
+use Rattle.checkout_paths.specs.Cards.{DriversAreInUse}
+use Rattle.checkout_engine.proofs.Actors.{KeepsSize, HandsAreTold, actors_below}
 use Rattle.checkout_engine.proofs.Drivers.{planned_drivers}
-use Rattle.checkout_engine.proofs.PathsEnd.{KeepsSize}
-use Rattle.checkout_engine.proofs.Seeds.{below}
-use Rattle.checkout_engine.specs.Talks.{DriverTalk, AreDriverTalks}
+use Rattle.checkout_paths.specs.Talks.{DriverTalk, AreDriverTalks, is_no_memory}
 
 -- what may remain of a leaf that was given up
 part_left : (path content : List ℕ) (state : LeafState) (file : Option TreeFile) → LeavesPart path content state file → MayLeavePart path content file
@@ -145,13 +144,13 @@ number_is vs n left is = elim (list_any is_failed vs) as (λ failed. list_any is
 ] refl
 
 -- the actors of a run
-pub actors_of : KeepsSize → HandsAreTold → ActorsAreNumbered
-actors_of sizes hands told ahead asked old new c =
+pub actors_of : DriversAreInUse → KeepsSize → HandsAreTold → ActorsAreNumbered
+actors_of in_use sizes hands told ahead asked old new c =
     let known = planned_drivers told c.plan c.planned in
-    actors_below (starts_of c.plan.paths) (worker_count asked c.planned.settings c.plan.paths) (length c.plan.drivers) (below c.plan.drivers c.plan.paths known.of_paths) sizes hands new.history c.run.core c.run.legal
+    actors_below (starts_of c.plan.paths) (worker_count asked c.planned.settings c.plan.paths) (length c.plan.drivers) (in_use c.plan.drivers c.plan.paths known) sizes hands new.history c.run.core c.run.legal
 
-pub headline : KeepsSize → HandsAreTold → ClosedPathsHaveCauses → (told : RepoTold) (ahead : List ℕ → Starts) (asked : Option ℕ) (old new : Seen) (n : ℕ) → n < 2 → IsDone told ahead asked old new n → IsHeadline told ahead asked old new n
-headline sizes hands law told ahead asked old new n less (c, reported) =
+pub headline : DriversAreInUse → KeepsSize → HandsAreTold → ClosedPathsHaveCauses → (told : RepoTold) (ahead : List ℕ → Starts) (asked : Option ℕ) (old new : Seen) (n : ℕ) → n < 2 → IsDone told ahead asked old new n → IsHeadline told ahead asked old new n
+headline in_use sizes hands law told ahead asked old new n less (c, reported) =
     let causes : AllByRecursion (λ p. HasCause p.start) c.plan.paths = subst (λ (plan : Plan). AllByRecursion (λ p. HasCause p.start) plan.paths) (sym c.planned.made.is)
     (law c.planned.entries c.planned.settings c.planned.outer c.planned.made.contents) in
     let left = memory_left (verdicts_of c.outcomes) n less reported.status in
@@ -170,5 +169,5 @@ headline sizes hands law told ahead asked old new n less (c, reported) =
       leaves = ap (λ (t : TreeSeen). t.out) c.leaves;
       starters = c.starters;
       run = subst (λ (vs : List Verdict). IsRun (starts_of c.plan.paths) (worker_count asked c.planned.settings c.plan.paths) (length c.plan.drivers) new.history vs) (sym (same_verdicts c.outcomes)) c.run;
-      actors = actors_of sizes hands told ahead asked old new c;
+      actors = actors_of in_use sizes hands told ahead asked old new c;
     }

@@ -3,7 +3,8 @@ use Rattle.std.proofs.Common.{◌≡◌, ◌+◌, ◌||◌, ◌⊎◌, ℕ, zero
 use Rattle.std.specs.Prelude.{slice_get}
 use Rattle.std.specs.List.{AllByRecursion}
 use Rattle.std.proofs.lemmas.Bool.{eqb-true}
-use Rattle.std.proofs.lemmas.Option.{same_Some}
+use Rattle.std.proofs.lemmas.Option.{same_Some, slice_get-map}
+use Rattle.std.specs.Option.{option_map}
 use Rattle.std.proofs.lemmas.List.Sums.{sum_by-append}
 use Rattle.edge_kit.specs.Told.{Told}
 use Rattle.edge_kit.specs.Starters.{Starts, StartsListed, StartTold}
@@ -26,12 +27,11 @@ use Rattle.checkout_plan.specs.declared.path_plan.PathPlan.{PathPlan}
 use Rattle.checkout_engine.specs.Alike.{IsTold}
 use Rattle.checkout_engine.specs.Complete.{failed_leaves, HadMemory}
 use Rattle.checkout_engine.specs.Ends.{verdicts_of}
-use Rattle.checkout_engine.specs.Outcome.{Outcome, HasOutcome, AreOutcomes, HasDeskVerdict, leaf_back}
-use Rattle.checkout_engine.specs.Paths.{leaves_back}
-use Rattle.checkout_engine.specs.Report.{is_no_memory, lacks_memory}
-use Rattle.checkout_engine.specs.Talks.{DriverTalk, IsDriverTalk, AreDriverTalks, heard_at, Gave, was_read}
-use Rattle.checkout_engine.proofs.Order.{precedes}
-use Rattle.checkout_engine.proofs.Places.{get_map}
+use Rattle.checkout_paths.specs.Outcome.{Outcome, HasOutcome, AreOutcomes, HasDeskVerdict, leaf_back}
+use Rattle.checkout_paths.specs.Paths.{leaves_back}
+use Rattle.checkout_engine.specs.Report.{lacks_memory}
+use Rattle.checkout_paths.specs.Talks.{DriverTalk, IsDriverTalk, AreDriverTalks, heard_at, Gave, was_read, is_no_memory}
+use Rattle.checkout_paths.specs.Cards.{precedes}
 use Rattle.checkout_engine.proofs.Rising.{apart}
 use Rattle.checkout_engine.proofs.ToldObjects.{found_of, gives_found}
 use Rattle.checkout_engine.proofs.PathsAlike.{end_at, desk_end, has_read, desk_is, read_by, not_wanting, heard_if_asked}
@@ -118,7 +118,7 @@ holds_at P (y ∷ ys) zero x all at = subst P (same_Some y x at) all.0
 holds_at P (y ∷ ys) (suc k) x all at = holds_at P ys k x all.1 at
 
 -- the start of a driver's path
-desk_of : (d : ℕ) (s : Start) → is_at d s ≡ true → (required : Bool) × (s ≡ start.Desk d required)
+pub desk_of : (d : ℕ) (s : Start) → is_at d s ≡ true → (required : Bool) × (s ≡ start.Desk d required)
 desk_of d (start.Desk e required) is = (required, ap (λ (k : ℕ). start.Desk k required) (sym (eqb-true d e is)))
 desk_of d start.Pool is = absurd cc
 desk_of d (start.Done v) is = absurd cc
@@ -185,7 +185,7 @@ module _ (object : List ℕ → Told) (ahead : List ℕ → Starts) (ps : List P
 
     -- the talk asks for the verdict's path if its object was read
     pub verdict_asked : (n : ℕ) (p : PathPlan) (o : Outcome) → slice_get ps n ≡ Some p → is_at d p.start ≡ true → slice_get outcomes n ≡ Some o → is_no_memory o.verdict ≡ false → contains n t.asked ≡ was_read o.verdict
-    verdict_asked n p o at is has memory = said.over.asked n p o.verdict at (get_map (λ (x : Outcome). x.verdict) outcomes n o has) is memory
+    verdict_asked n p o at is has memory = said.over.asked n p o.verdict at (slice_get-map (λ (x : Outcome). x.verdict) outcomes n ∙ ap (option_map (λ (x : Outcome). x.verdict)) has) is memory
 
     pub memory_is : HadMemory d t
     memory_is n is wants =

@@ -1,11 +1,13 @@
 -- Files join in the order of the paths, each after the others.
-use Rattle.std.proofs.Common.{◌≡◌, ◌⊎◌, ℕ, suc, Bool, true, false, if◌then◌else◌, Ordering, Less, Equal, Greater, List, [], ◌∷◌, ◌++◌, map, ◌==◌, Option, Some, None, Result, Ok, Err, refl, sym, ap, subst, ◌∙◌, append_assoc, append-nil, inl, inr}
+use Rattle.std.proofs.Common.{◌≡◌, ◌⊎◌, ℕ, zero, suc, Bool, true, false, if◌then◌else◌, Ordering, Less, Equal, Greater, List, [], ◌∷◌, ◌++◌, map, ◌==◌, Option, Some, None, Result, Ok, Err, refl, sym, ap, subst, ◌∙◌, append_assoc, append-nil, inl, inr}
+use Rattle.std.specs.Prelude.{slice_get}
 use Rattle.std.specs.List.{list_all, AllByRecursion}
 use Rattle.std.specs.Ordering.{nat_cmp, is_lt, ordering_reverse}
 use Rattle.std.specs.Cmp.Lexicographic.{slice_cmp}
 use Rattle.std.specs.Str.{bytes_eq}
 use Rattle.std.proofs.lemmas.Cmp.{nat_list_cmp_total}
 use Rattle.std.proofs.lemmas.Bool.{and_parts, and_from}
+use Rattle.std.proofs.lemmas.Option.{same_Some}
 use Rattle.std.proofs.lemmas.Slice.Eq.{bytes_eq-Decides}
 use Rattle.edge_kit.specs.Told.{Told}
 use Rattle.edge_kit.specs.Files.{with_file}
@@ -32,14 +34,12 @@ use Rattle.checkout_core.specs.declared.verdict.SkipCause.TheVariants as skip
 use Rattle.checkout_plan.specs.AttributeFiles.{attribute_files}
 use Rattle.checkout_plan.specs.Paths.{no_conversion, path_with, closed, converted, file_path, text_path, link_path, path_of_mode, asked_path, first_entries_after, first_entries, asked_paths, path_among, plan_of}
 use Rattle.convert_plan.specs.Prepared.{prepared}
+use Rattle.checkout_paths.specs.Cards.{precedes}
 use Rattle.checkout_engine.proofs.LeftOut.{left_out_by}
 use Rattle.checkout_engine.specs.Ends.{files_of}
-use Rattle.checkout_engine.specs.Outcome.{Outcome, MayLeavePart, LeavesPart, LeavesFile, HasVerdict, HasDeskVerdict, HasOutcome, AreOutcomes}
-use Rattle.checkout_engine.specs.Talks.{DriverTalk}
-use Rattle.checkout_engine.specs.Writing.{joined, all_joined}
-
-abbrev pub precedes : PathPlan → PathPlan → Bool
-precedes p q = is_before p.path q.path
+use Rattle.checkout_paths.specs.Outcome.{Outcome, MayLeavePart, LeavesPart, LeavesFile, HasVerdict, HasDeskVerdict, HasOutcome, AreOutcomes}
+use Rattle.checkout_paths.specs.Talks.{DriverTalk}
+use Rattle.checkout_paths.specs.Writing.{joined, all_joined}
 
 abbrev entry_precedes : Entry → Entry → Bool
 entry_precedes d e = is_before d.path e.path
@@ -160,8 +160,33 @@ reversed Less p e h = rw e refl
 reversed Equal p e h = absurd cc
 reversed Greater p e h = absurd cc
 
-pub not_before : (p q : List ℕ) → is_before p q ≡ true → is_before q p ≡ false
+not_before : (p q : List ℕ) → is_before p q ≡ true → is_before q p ≡ false
 not_before p q h = reversed (slice_cmp nat_cmp p q) (slice_cmp nat_cmp q p) (nat_list_cmp_total.antisymm q p) h
+
+-- a path that comes before all others has none of their names
+first_apart : (p q : PathPlan) (xs : List PathPlan) (j : ℕ) → list_all (precedes p) xs ≡ true → slice_get xs j ≡ Some q → p.path ≡ q.path → ⊥
+first_apart p q [] j all at same = absurd cc
+first_apart p q (x ∷ xs) zero all at same =
+    let parts = and_parts (precedes p x) (list_all (precedes p) xs) all in
+    let named : x.path ≡ p.path = ap (λ (y : PathPlan). y.path) (same_Some x q at) ∙ sym same in
+    let self : is_before p.path p.path ≡ true = subst (λ (path : List ℕ). is_before p.path path ≡ true) named parts.0 in
+    let no : true ≡ false = sym self ∙ not_before p.path p.path self in
+    absurd cc
+first_apart p q (x ∷ xs) (suc j) all at same = first_apart p q xs j (and_parts (precedes p x) (list_all (precedes p) xs) all).1 at same
+
+-- two places of one path are one
+pub same_place : (ps : List PathPlan) → pairwise precedes ps ≡ true → (m n : ℕ) (p q : PathPlan) → slice_get ps m ≡ Some p → slice_get ps n ≡ Some q → p.path ≡ q.path → m ≡ n
+same_place [] rise m n p q at later same = absurd cc
+same_place (x ∷ xs) rise zero zero p q at later same = refl
+same_place (x ∷ xs) rise zero (suc n) p q at later same =
+    let parts = and_parts (list_all (precedes x) xs) (pairwise precedes xs) rise in
+    absurd (first_apart x q xs n parts.0 later (ap (λ (y : PathPlan). y.path) (same_Some x p at) ∙ same))
+same_place (x ∷ xs) rise (suc m) zero p q at later same =
+    let parts = and_parts (list_all (precedes x) xs) (pairwise precedes xs) rise in
+    absurd (first_apart x p xs m parts.0 at (ap (λ (y : PathPlan). y.path) (same_Some x q later) ∙ sym same))
+same_place (x ∷ xs) rise (suc m) (suc n) p q at later same =
+    let parts = and_parts (list_all (precedes x) xs) (pairwise precedes xs) rise in
+    ap suc (same_place xs parts.1 m n p q at later same)
 
 with_file-last : (f : TreeFile) (fs : List TreeFile) → AllByRecursion (λ g. is_before f.path g.path ≡ false) fs → with_file f fs ≡ fs ++ f ∷ []
 with_file-last f [] all = refl

@@ -23,9 +23,8 @@ use Rattle.checkout_plan.specs.declared.path_plan.PathPlan.{PathPlan}
 use Rattle.checkout_plan.specs.Making.{object_kind}
 use Rattle.checkout_engine.specs.Alike.{IsTold}
 use Rattle.checkout_engine.specs.Complete.{failed_leaves}
-use Rattle.checkout_engine.specs.Outcome.{Outcome, HasVerdict, HasDeskVerdict, file_with, leaf_back}
-use Rattle.checkout_engine.specs.Report.{is_no_memory}
-use Rattle.checkout_engine.specs.Talks.{DriverTalk, heard_at, Gave, was_read}
+use Rattle.checkout_paths.specs.Outcome.{Outcome, HasVerdict, HasDeskVerdict, file_with, leaf_back}
+use Rattle.checkout_paths.specs.Talks.{DriverTalk, heard_at, Gave, was_read, is_no_memory}
 use Rattle.checkout_engine.proofs.ToldObjects.{found_of, gives_found, fails_found, kind_found}
 
 -- the verdict of a path and its file

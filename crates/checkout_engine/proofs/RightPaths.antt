@@ -4,7 +4,8 @@ use Rattle.std.proofs.Common.{◌≡◌, ◌⊎◌, inl, inr, ℕ, ◌+◌, ◌<
 use Rattle.std.specs.Prelude.{slice_get}
 use Rattle.std.specs.List.{list_any, AllByRecursion}
 use Rattle.std.proofs.lemmas.Bool.{lt-ltb, eq-eqb}
-use Rattle.std.proofs.lemmas.Option.{same_Some}
+use Rattle.std.proofs.lemmas.Option.{same_Some, slice_get-map}
+use Rattle.std.specs.Option.{option_map}
 use Rattle.edge_kit.specs.Told.{Told, Raw, TellsNone, TellsLong, MayFail}
 use Rattle.edge_kit.specs.Starters.{Had, Starts, StartsListed}
 use Rattle.edge_kit.specs.declared.leaf_state.LeafState.{LeafState}
@@ -30,17 +31,16 @@ use Rattle.checkout_plan.specs.declared.path_plan.PathPlan.{PathPlan}
 use Rattle.checkout_plan.specs.Making.{FitsKind, object_kind}
 use Rattle.checkout_engine.specs.Complete.{IsRightObject, IsRightStart, IsRightPath, GivesAll, TalksGiveAll, failed_leaves}
 use Rattle.checkout_engine.specs.Ends.{verdicts_of}
-use Rattle.checkout_engine.specs.Outcome.{Outcome, HasVerdict, HasDeskVerdict, HasOutcome, AreOutcomes, leaf_back}
-use Rattle.checkout_engine.specs.Paths.{leaves_back}
+use Rattle.checkout_paths.specs.Outcome.{Outcome, HasVerdict, HasDeskVerdict, HasOutcome, AreOutcomes, leaf_back}
+use Rattle.checkout_paths.specs.Paths.{leaves_back}
 use Rattle.checkout_engine.specs.PlannedPaths.{AreSized}
 use Rattle.checkout_engine.specs.Report.{lacks_memory}
-use Rattle.checkout_engine.specs.Talks.{DriverTalk, IsDriverTalk, heard_at, was_read}
-use Rattle.checkout_engine.proofs.Order.{precedes}
-use Rattle.checkout_engine.proofs.Places.{get_map}
+use Rattle.checkout_paths.specs.Talks.{DriverTalk, IsDriverTalk, heard_at, was_read}
+use Rattle.checkout_paths.specs.Cards.{precedes}
+use Rattle.checkout_engine.proofs.Order.{same_place}
 use Rattle.checkout_engine.proofs.PathsAlike.{heard_if_asked, leaf_failed}
 use Rattle.checkout_engine.proofs.Rising.{apart, same_rising}
-use Rattle.checkout_engine.proofs.Seeds.{at_desk, same_place}
-use Rattle.checkout_engine.proofs.OneSide.{IsSide, EndsAt, FineAt, first_fine, outcome_at, talk_at, memory_is, told_talk, holds_at}
+use Rattle.checkout_engine.proofs.OneSide.{IsSide, desk_of, EndsAt, FineAt, first_fine, outcome_at, talk_at, memory_is, told_talk, holds_at}
 
 -- a right object gives nothing but its content
 pub gives_right : (told : Told) (name raw content : List ℕ) (answer : Result (List ℕ) ObjectFault) → told ≡ Raw raw → object_of raw name ≡ Ok content → Gives told name answer → answer ≡ Ok content
@@ -142,7 +142,7 @@ module _ (object : List ℕ → Told) (ahead : List ℕ → Starts) (ps : List P
     -- the verdict of a path of the driver
     desk_verdict_at : (n : ℕ) (p : PathPlan) (o : Outcome) → is_at d p.start ≡ true → HasOutcome object talks p.start n p o → (required : Bool) × HasDeskVerdict required d t n (object p.object) p o o.verdict
     desk_verdict_at n p o is has =
-        let desk = at_desk d p.start is in
+        let desk = desk_of d p.start is in
         let own : HasOutcome object talks (start.Desk d desk.0) n p o = subst (λ (x : Start). HasOutcome object talks x n p o) desk.1 has in
         let same : own.1 ≡ t = same_Some own.1 t (sym own.2 ∙ there) in
         (desk.0, subst (λ (u : DriverTalk). HasDeskVerdict desk.0 d u n (object p.object) p o o.verdict) same own.3)
@@ -160,7 +160,7 @@ module _ (object : List ℕ → Told) (ahead : List ℕ → Starts) (ps : List P
     all_asked : (n : ℕ) (p : PathPlan) → slice_get ps n ≡ Some p → is_at d p.start ≡ true → contains n t.asked ≡ true
     all_asked n p at is =
         let o = fine_at n p at in
-        said.2.over.asked n p (o.0).verdict at (get_map (λ (x : Outcome). x.verdict) outcomes n o.0 o.1) is o.2.memory ∙ read_at n p o.0 at is o.2.has
+        said.2.over.asked n p (o.0).verdict at (slice_get-map (λ (x : Outcome). x.verdict) outcomes n ∙ ap (option_map (λ (x : Outcome). x.verdict)) o.1) is o.2.memory ∙ read_at n p o.0 at is o.2.has
 
     none_failed : NoneFailed t.had
     none_failed = holds_at (λ (u : DriverTalk). NoneFailed u.had) talks d t s.links there

@@ -23,10 +23,10 @@ use Rattle.checkout_engine.specs.Ends.{verdicts_of}
 use Rattle.checkout_sources.specs.Reading.{IsRead}
 use Rattle.checkout_engine.specs.Rehearsed.{IsRehearsed, IsRehearsedRun, IsSmallRun}
 use Rattle.checkout_sources.specs.Sources.{IsPlanned}
-use Rattle.checkout_engine.specs.Workers.{starts_of, in_pool, worker_count, workers_for, IsAsked}
+use Rattle.checkout_paths.specs.Workers.{starts_of, in_pool, worker_count, workers_for, IsAsked}
+use Rattle.checkout_paths.specs.Cards.{DriversAreInUse}
 use Rattle.checkout_engine.proofs.Bounds.{no_more_paths, settings_few, count_few, asked_few}
 use Rattle.checkout_engine.proofs.Drivers.{planned_drivers}
-use Rattle.checkout_engine.proofs.Seeds.{below}
 
 -- ---- their starts
 
@@ -72,9 +72,9 @@ run_rehearsed seed n run tree starts drivers rehearsed starts_is drivers_is =
     }
 
 -- a plan is small, whatever number of workers is asked for
-pub start_small : ClosedPathsHaveCauses → (told : RepoTold) (asked : Option ℕ) (plan : Plan) (planned : IsPlanned told plan) → IsAsked asked
+pub start_small : DriversAreInUse → ClosedPathsHaveCauses → (told : RepoTold) (asked : Option ℕ) (plan : Plan) (planned : IsPlanned told plan) → IsAsked asked
     → IsSmallStart (starts_of plan.paths) (worker_count asked planned.settings plan.paths) (length plan.drivers)
-start_small closed told asked plan planned few =
+start_small in_use closed told asked plan planned few =
     let config = planned.sources.config in
     let pace = count_few asked planned.settings.workers planned.settings.threshold (length (filter in_pool plan.paths)) few (settings_few config.list planned.settings config.says) in
     let size : length plan.paths ≤ length planned.entries =
@@ -84,7 +84,7 @@ start_small closed told asked plan planned few =
       few_workers = pace.1;
       few_drivers = planned.few;
       few_starts = omega (arith, size, planned.sources.index.is_index.text.few, length-map plan.paths (λ (p : PathPlan). p.start));
-      desks = below plan.drivers plan.paths (planned_drivers told plan planned).of_paths;
+      desks = in_use plan.drivers plan.paths (planned_drivers told plan planned);
       causes = planned_causes closed told plan planned;
     }
 
@@ -96,10 +96,10 @@ small_as starts starts' workers workers' drivers drivers' a b c small =
     (subst (λ (k : ℕ). IsSmallStart starts' workers' k) (sym c) small))
 
 -- what is handed on of a plan that was read
-pub run_planned : ClosedPathsHaveCauses → (told : RepoTold) (words : List (List ℕ)) (asked : Option ℕ) (old new : RepoSeen) (p : Planned) (run : PlannedRun) → command_of words ≡ Some (command.Checkout asked) → IsRead told p old new
+pub run_planned : DriversAreInUse → ClosedPathsHaveCauses → (told : RepoTold) (words : List (List ℕ)) (asked : Option ℕ) (old new : RepoSeen) (p : Planned) (run : PlannedRun) → command_of words ≡ Some (command.Checkout asked) → IsRead told p old new
     → run.starts.items ≡ starts_of p.plan.paths → run.workers ≡ workers_for asked p.workers p.threshold (length (filter in_pool p.plan.paths)) → run.drivers ≡ length p.plan.drivers
     → PlansRun told (command_of words) old new (Ok (Some run))
-run_planned closed told words asked old new p run is read starts workers drivers =
+run_planned in_use closed told words asked old new p run is read starts workers drivers =
     let plan = p.plan in
     let planned : IsPlanned told plan = read.read.planned in
     let cards = length (filter in_pool plan.paths) in
@@ -113,14 +113,14 @@ run_planned closed told words asked old new p run is read starts workers drivers
         starts_are = starts;
         workers_are = begun;
         drivers_are = drivers;
-        small = small_as run.starts.items _ run.workers _ run.drivers _ starts begun drivers (start_small closed told asked plan planned (asked_few words asked is));
+        small = small_as run.starts.items _ run.workers _ run.drivers _ starts begun drivers (start_small in_use closed told asked plan planned (asked_few words asked is));
       },
     )
 
 -- and the run of a rehearsal is
-pub run_small : ClosedPathsHaveCauses → IsShort → (seed n : ℕ) (starts : List Start) (workers drivers : ℕ) (history : List Event) → IsRehearsedRun seed n starts workers drivers history → IsSmallRun starts workers drivers history
-run_small closed short seed n starts workers drivers history r =
+pub run_small : DriversAreInUse → ClosedPathsHaveCauses → IsShort → (seed n : ℕ) (starts : List Start) (workers drivers : ℕ) (history : List Event) → IsRehearsedRun seed n starts workers drivers history → IsSmallRun starts workers drivers history
+run_small in_use closed short seed n starts workers drivers history r =
     let c = r.checkout in
     let small : IsSmallStart starts workers drivers =
-    small_as starts _ workers _ drivers _ r.starts_are r.workers_are r.drivers_are (start_small closed r.told None c.plan c.planned tt) in
+    small_as starts _ workers _ drivers _ r.starts_are r.workers_are r.drivers_are (start_small in_use closed r.told None c.plan c.planned tt) in
     record { start = small; few_events = omega (arith, small.few_starts, short starts workers drivers history r.run.core small.desks r.run.legal) }

@@ -12,11 +12,11 @@ use Rattle.checkout_plan.specs.Making.{blobs_of}
 use Rattle.checkout_sources.specs.declared.planning.Planned.{Planned}
 use Rattle.checkout_engine.specs.declared.rehearsing.TriedRun.{TriedRun}
 use Rattle.checkout_engine.specs.Ends.{seen}
-use Rattle.checkout_engine.specs.Paths.{with_blobs}
+use Rattle.checkout_paths.specs.Paths.{with_blobs}
 use Rattle.checkout_sources.specs.Reading.{IsRead}
 use Rattle.checkout_engine.specs.Rehearsed.{new_memory, IsTried}
-use Rattle.checkout_engine.specs.Workers.{starts_of, in_pool, workers_for, worker_count}
-use Rattle.checkout_engine.specs.Writing.{ArePathsDone}
+use Rattle.checkout_paths.specs.Workers.{starts_of, in_pool, workers_for, worker_count}
+use Rattle.checkout_paths.specs.Writing.{ArePathsDone}
 use Rattle.checkout_engine.proofs.Done.{checks_out}
 
 -- the paths of a plan are done in memory

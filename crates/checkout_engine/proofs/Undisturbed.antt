@@ -23,11 +23,11 @@ use Rattle.checkout_plan.specs.declared.path_plan.PathPlan.{PathPlan}
 use Rattle.checkout_engine.specs.declared.rehearsing.TriedRun.{TriedRun}
 use Rattle.checkout_engine.specs.Complete.{failed_leaves}
 use Rattle.checkout_engine.specs.Ends.{verdicts_of}
-use Rattle.checkout_engine.specs.Outcome.{Outcome, HasCounts, HasVerdict, HasDeskVerdict, HasOutcome, AreOutcomes, leaf_back}
-use Rattle.checkout_engine.specs.Paths.{leaves_back}
+use Rattle.checkout_paths.specs.Outcome.{Outcome, HasCounts, HasVerdict, HasDeskVerdict, HasOutcome, AreOutcomes, leaf_back}
+use Rattle.checkout_paths.specs.Paths.{leaves_back}
 use Rattle.checkout_engine.specs.Rehearsed.{IsTried, IsTriedWell, new_memory, is_write_failed, is_link_failed, is_driver_failed, is_disturbed}
-use Rattle.checkout_engine.specs.Report.{is_no_memory, lacks_memory}
-use Rattle.checkout_engine.specs.Talks.{DriverTalk}
+use Rattle.checkout_engine.specs.Report.{lacks_memory}
+use Rattle.checkout_paths.specs.Talks.{DriverTalk, is_no_memory}
 use Rattle.checkout_engine.proofs.Completeness.{no_link_failed}
 
 neither : (a b : Bool) → (a || b) ≡ false → (a ≡ false) × (b ≡ false)

@@ -18,9 +18,9 @@ use Rattle.checkout_plan.specs.declared.path_plan.Plan.{Plan}
 use Rattle.checkout_engine.specs.Complete.{failed_leaves, HadMemory}
 use Rattle.checkout_engine.specs.Ends.{Seen, IsCheckedOut, verdicts_of, files_of}
 use Rattle.checkout_engine.specs.Report.{lacks_memory, report}
-use Rattle.checkout_engine.specs.Talks.{DriverTalk}
+use Rattle.checkout_paths.specs.Talks.{DriverTalk}
 use Rattle.checkout_sources.specs.Sources.{HasSettings, IsPlanned}
-use Rattle.checkout_engine.specs.Workers.{starts_of, worker_count, HaveActorsBelow}
+use Rattle.checkout_paths.specs.Workers.{starts_of, worker_count, HaveActorsBelow}
 
 -- something is told: bytes, that there are none, or that taking them fails
 abbrev pub IsTold : Told → Type 0

@@ -13,7 +13,7 @@ use Rattle.checkout_sources.specs.declared.stop.Stop.{Stop}
 use Rattle.checkout_sources.specs.Causes.{IsPlanRead}
 use Rattle.checkout_engine.specs.Ends.{IsCheckout, workers_asked}
 use Rattle.checkout_sources.specs.Reading.{ReadsPlan}
-use Rattle.checkout_engine.specs.Workers.{starts_of, worker_count}
+use Rattle.checkout_paths.specs.Workers.{starts_of, worker_count}
 
 -- How large a checkout is. Each path begins as in a plan: at the desk of one of the drivers, in the pool, or closed
 -- with a cause that a plan gives.

@@ -12,7 +12,7 @@ use Rattle.checkout_words.specs.declared.Command.{Command}
 use Rattle.checkout_words.specs.declared.Command.TheVariants as command
 use Rattle.checkout_plan.specs.declared.path_plan.PathPlan.{PathPlan}
 use Rattle.writer_pool.specs.Ends.{IsRun}
-use Rattle.checkout_engine.specs.Workers.{starts_of}
+use Rattle.checkout_paths.specs.Workers.{starts_of}
 use Rattle.checkout_sources.specs.Reading.{IsRead}
 use Rattle.checkout_sources.specs.declared.planning.Planned.{Planned}
 use Rattle.checkout_engine.specs.declared.halt.Halt.{Halt}
@@ -28,8 +28,8 @@ use Rattle.checkout_engine.specs.Shown.{Refuses, EndsPlan}
 use Rattle.checkout_engine.specs.Rehearsed.{EndsRehearsal}
 use Rattle.checkout_engine.specs.Output.{IsCut, IsLineCut, with_text}
 use Rattle.checkout_engine.specs.Report.{report, status_of, lacks_memory}
-use Rattle.checkout_engine.specs.Writing.{ArePathsDone}
-use Rattle.checkout_engine.specs.Made.{BreaksOff}
+use Rattle.checkout_paths.specs.Writing.{ArePathsDone}
+use Rattle.checkout_paths.specs.Made.{BreaksOff}
 use Rattle.settings_view.specs.declared.view.Driver.{Driver}
 
 -- why a run stops at the worktree

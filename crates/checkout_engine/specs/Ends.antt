@@ -20,12 +20,12 @@ use Rattle.checkout_plan.specs.Making.{blobs_of}
 use Rattle.checkout_sources.specs.declared.stop.Refusal.{Refusal}
 use Rattle.checkout_sources.specs.Sources.{IsPlanned}
 use Rattle.checkout_sources.specs.Causes.{IsReadCause, IsRepoSteady, IsRefusedFor, IsCutShort}
-use Rattle.checkout_engine.specs.Outcome.{Outcome, AreOutcomes}
-use Rattle.checkout_engine.specs.Talks.{DriverTalk, AreDriverTalks, with_talks}
-use Rattle.checkout_engine.specs.Made.{BreaksOff}
-use Rattle.checkout_engine.specs.Paths.{with_blobs, blobs_back, leaves_back, GotLeaves}
+use Rattle.checkout_paths.specs.Outcome.{Outcome, AreOutcomes}
+use Rattle.checkout_paths.specs.Talks.{DriverTalk, AreDriverTalks, with_talks}
+use Rattle.checkout_paths.specs.Made.{BreaksOff}
+use Rattle.checkout_paths.specs.Paths.{with_blobs, blobs_back, leaves_back, GotLeaves}
 use Rattle.checkout_engine.specs.Output.{IsCut, IsLineCut, with_text}
-use Rattle.checkout_engine.specs.Workers.{starts_of, worker_count}
+use Rattle.checkout_paths.specs.Workers.{starts_of, worker_count}
 use Rattle.checkout_engine.specs.Report.{status_of, lacks_memory, report, number_of}
 use Rattle.checkout_sources.specs.RefusalText.{refusal_line}
 

@@ -9,7 +9,7 @@ use Rattle.checkout_plan.specs.declared.path_plan.PathPlan.{PathPlan}
 use Rattle.checkout_engine.specs.Alike.{TellAll, IsUndisturbed}
 use Rattle.checkout_engine.specs.Complete.{GivesAll}
 use Rattle.checkout_engine.specs.Ends.{Seen, IsCheckedOut}
-use Rattle.checkout_engine.specs.Outcome.{Outcome}
+use Rattle.checkout_paths.specs.Outcome.{Outcome}
 
 -- each path of a driver was written
 abbrev pub AreWritten : List PathPlan → List Outcome → Type 0

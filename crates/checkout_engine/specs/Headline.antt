@@ -21,13 +21,13 @@ use Rattle.checkout_plan.specs.declared.path_plan.Plan.{Plan}
 use Rattle.checkout_plan.specs.Making.{FitsKind}
 use Rattle.checkout_plan.specs.Paths.{HasCause}
 use Rattle.checkout_engine.specs.Ends.{Seen}
-use Rattle.checkout_engine.specs.Outcome.{MayLeavePart, MayLeaveFile, MayBePut, file_with}
+use Rattle.checkout_paths.specs.Outcome.{MayLeavePart, MayLeaveFile, MayBePut, file_with}
 use Rattle.checkout_engine.specs.Output.{with_text}
-use Rattle.checkout_engine.specs.Prepared.{IsPreparedTo}
+use Rattle.checkout_paths.specs.Prepared.{IsPreparedTo}
 use Rattle.checkout_engine.specs.Report.{report}
 use Rattle.checkout_sources.specs.Sources.{IsPlanned}
-use Rattle.checkout_engine.specs.Talks.{DriverTalk, heard_at, Gave, AreDriverTalks, with_talks}
-use Rattle.checkout_engine.specs.Workers.{starts_of, worker_count, HaveActorsBelow}
+use Rattle.checkout_paths.specs.Talks.{DriverTalk, heard_at, Gave, AreDriverTalks, with_talks}
+use Rattle.checkout_paths.specs.Workers.{starts_of, worker_count, HaveActorsBelow}
 
 -- The file of a written path: its object's content, converted, with its mark. `unencoded` says that
 -- the content was left as it is because it isn't UTF-8.

@@ -4,7 +4,7 @@ use Rattle.std.specs.List.{AllByRecursion}
 use Rattle.edge_kit.specs.Told.{RepoTold}
 use Rattle.checkout_plan.specs.declared.path_plan.PathPlan.{PathPlan}
 use Rattle.checkout_plan.specs.declared.path_plan.Plan.{Plan}
-use Rattle.checkout_engine.specs.Cards.{AreTexts}
+use Rattle.checkout_paths.specs.Cards.{AreTexts}
 use Rattle.checkout_sources.specs.Sources.{IsPlanned}
 
 -- Each path that is read and written is text of 1 to 4,096 bytes, and each object's name has 20 bytes.

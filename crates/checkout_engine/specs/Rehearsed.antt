@@ -33,7 +33,7 @@ use Rattle.checkout_engine.specs.Begun.{IsSmallStart}
 use Rattle.checkout_engine.specs.Ends.{Seen, begun, IsCheckedOut, verdicts_of}
 use Rattle.checkout_engine.specs.Output.{IsCut, with_text}
 use Rattle.checkout_engine.specs.Report.{number_of, status_of, lacks_memory}
-use Rattle.checkout_engine.specs.Workers.{starts_of, worker_count}
+use Rattle.checkout_paths.specs.Workers.{starts_of, worker_count}
 
 -- the sum of all files' bytes
 abbrev pub bytes_of : List TreeFile → ℕ

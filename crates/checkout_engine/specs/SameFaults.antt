@@ -9,9 +9,9 @@ use Rattle.checkout_core.specs.declared.verdict.Verdict.TheVariants as verdict
 use Rattle.checkout_core.specs.declared.verdict.FailCause.TheVariants as fail
 use Rattle.checkout_engine.specs.Alike.{RepoTellsAll, DifferInWorkers}
 use Rattle.checkout_engine.specs.Ends.{Seen, IsCheckedOut, verdicts_of}
-use Rattle.checkout_engine.specs.Outcome.{Outcome}
+use Rattle.checkout_paths.specs.Outcome.{Outcome}
 use Rattle.checkout_engine.specs.Report.{lacks_memory, report}
-use Rattle.checkout_engine.specs.Talks.{DriverTalk, IsTalkBy}
+use Rattle.checkout_paths.specs.Talks.{DriverTalk, IsTalkBy}
 
 -- The same came of a driver's starts in both: the same starts failed, and the sessions are equal. What a session sent
 -- and took, told or not, its two counts and whether it was shut are the same.

@@ -3,9 +3,8 @@ ghost use Rattle.std.specs.Prelude.{◌≡◌};
 ghost use Rattle.checkout_engine.specs.Begun.{PlansRun};
 ghost use Rattle.checkout_engine.specs.Ends.{asked};
 
-use crate::cards::{count_of, starts_of};
-use crate::workers::{Pace, workers_for};
 use checkout_core::Start;
+use checkout_paths::{Pace, count_of, drivers_are_in_use, starts_of, workers_for};
 use checkout_plan::closed_paths_have_causes;
 use checkout_sources::{Stop, read_plan, readings_leave_parts};
 use checkout_words::{Command, WordFault, read_words};
@@ -33,6 +32,7 @@ pub fn planned_run<R: Repo>(
     ensures plans { PlansRun (R.told repo.old) (asked words.now) (R.seen repo.old) (R.seen repo.new) result }
 {
     closed_paths_have_causes();
+    drivers_are_in_use();
     readings_leave_parts();
     let asked = match read_words(alloc, words) {
         Ok(Command::Checkout { workers }) => workers,

@@ -6,6 +6,7 @@ ghost use Rattle.checkout_engine.specs.PlannedPaths.{PlannedPathsAreSized};
 ghost use Rattle.checkout_engine.specs.Rehearsed.{RehearsalsAreAlike};
 ghost use Rattle.checkout_engine.specs.SameFaults.{SameFaultsChangeNothing};
 
+use checkout_paths::drivers_are_in_use;
 use core_laws::laws;
 use driver_line::{
     a_path_gets_one_content, equal_outputs_give_equal_talks, equal_sessions_give_equal_talks,
@@ -88,6 +89,7 @@ pub fn rehearsals_are_alike()
 pub fn actors_are_numbered()
     ensures { ActorsAreNumbered }
 {
+    drivers_are_in_use();
     laws::a_history_keeps_its_size();
     laws::own_entries_tell_what_is_in_hand();
 }

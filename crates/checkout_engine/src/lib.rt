@@ -2,20 +2,14 @@
 #![tactic(auto)]
 
 mod begin;
-mod cards;
 mod command;
-mod dealing;
 mod exit_status;
-mod giving_back;
 mod halt;
 mod laws;
 mod output;
-mod paths;
 mod rehearsing;
 mod report;
 mod show;
-mod work;
-mod workers;
 
 pub use begin::{PlannedRun, planned_run};
 pub use command::run;

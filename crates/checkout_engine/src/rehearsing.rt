@@ -8,13 +8,12 @@ ghost use Rattle.checkout_engine.specs.Rehearsed.{is_write_failed, is_link_faile
 ghost use Rattle.checkout_engine.specs.Rehearsed.{IsTried, IsTriedWell, IsRehearsed, IsSummed, Rehearses};
 ghost use Rattle.checkout_engine.specs.Rehearsed.{IsRehearsedRun, IsSmallRun};
 
-use crate::cards::starts_of;
 use crate::exit_status::ExitStatus;
-use crate::paths::{PathsDone, check_out_paths};
 use crate::report::{lacks_memory, status_of};
-use crate::work::{Means, PlannedWork};
-use crate::workers::Pace;
 use checkout_core::{Event, FailCause, Start, Verdict};
+use checkout_paths::{
+    Means, Pace, PathsDone, PlannedWork, check_out_paths, drivers_are_in_use, starts_of,
+};
 use checkout_plan::{Plan, closed_paths_have_causes};
 use checkout_report::{failed_count, unfiltered_count, written_count};
 use checkout_sources::{Planned, Stop, read_plan};
@@ -280,6 +279,7 @@ pub fn rehearsed_run<G: Gate, H: Threads + Wait + Sync>(
     ensures small { IfOk result (λ r. IsSmallRun r.starts.items r.workers r.drivers r.history.items) }
 {
     closed_paths_have_causes();
+    drivers_are_in_use();
     laws::a_history_is_short();
     let means = Means { rt, alloc, gate };
     let (run, _) = rehearsed(&means, seed, paths)?;

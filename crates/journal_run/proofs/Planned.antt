@@ -10,7 +10,7 @@ use Rattle.checkout_sources.specs.declared.stop.Stop.{Stop}
 use Rattle.checkout_sources.specs.declared.stop.Stop.TheVariants as stop
 use Rattle.checkout_engine.specs.Begun.{IsPlannedRun}
 use Rattle.checkout_sources.specs.Reading.{ReadsPlan}
-use Rattle.checkout_engine.specs.Workers.{starts_of, worker_count}
+use Rattle.checkout_paths.specs.Workers.{starts_of, worker_count}
 use Rattle.journal_audit.specs.Audits.{Spells, journal_of}
 use Rattle.journal_run.specs.Planned.{IsCheckoutJournal, Journals, fault_of}
 

@@ -11,7 +11,7 @@ use Rattle.checkout_sources.specs.declared.stop.Stop.{Stop}
 use Rattle.checkout_sources.specs.declared.stop.Stop.TheVariants as stop
 use Rattle.checkout_sources.specs.Causes.{IsPlanRead, IsReadCause, IsRefusedFor, IsCutShort}
 use Rattle.checkout_engine.specs.Ends.{IsCheckout, workers_asked}
-use Rattle.checkout_engine.specs.Workers.{starts_of, worker_count}
+use Rattle.checkout_paths.specs.Workers.{starts_of, worker_count}
 use Rattle.journal_audit.specs.Audits.{Spells, journal_of}
 use Rattle.journal_run.specs.declared.checkout.JournalFault.{JournalFault}
 use Rattle.journal_run.specs.declared.checkout.JournalFault.TheVariants.{NoCheckout, NoPlan, TooManyEvents, NoMemory}

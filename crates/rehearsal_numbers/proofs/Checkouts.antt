@@ -18,10 +18,10 @@ use Rattle.driver_line.specs.SameHeard.{NoneFailed}
 use Rattle.checkout_plan.specs.declared.path_plan.PathPlan.{PathPlan}
 use Rattle.checkout_engine.specs.Complete.{failed_leaves}
 use Rattle.checkout_engine.specs.Ends.{verdicts_of}
-use Rattle.checkout_engine.specs.Outcome.{Outcome, HasOutcome, AreOutcomes, leaf_back}
-use Rattle.checkout_engine.specs.Paths.{leaves_back}
-use Rattle.checkout_engine.specs.Report.{is_no_memory, lacks_memory}
-use Rattle.checkout_engine.specs.Talks.{DriverTalk, IsDriverTalk, AreDriverTalks}
+use Rattle.checkout_paths.specs.Outcome.{Outcome, HasOutcome, AreOutcomes, leaf_back}
+use Rattle.checkout_paths.specs.Paths.{leaves_back}
+use Rattle.checkout_engine.specs.Report.{lacks_memory}
+use Rattle.checkout_paths.specs.Talks.{DriverTalk, IsDriverTalk, AreDriverTalks, is_no_memory}
 use Rattle.rehearsal.specs.Paths.{name, content}
 use Rattle.rehearsal.specs.Repository.{files, IsRepository}
 use Rattle.rehearsal.specs.Drivers.{scripts}

@@ -24,9 +24,8 @@ use Rattle.driver_line.specs.ToldStarts.{GoBy}
 use Rattle.driver_desk.specs.Serving.{HasAnswer, IsAnswer}
 use Rattle.checkout_plan.specs.declared.path_plan.PathPlan.{PathPlan}
 use Rattle.checkout_engine.specs.Ends.{verdicts_of}
-use Rattle.checkout_engine.specs.Outcome.{Outcome, HasOutcome, HasDeskVerdict}
-use Rattle.checkout_engine.specs.Report.{is_no_memory}
-use Rattle.checkout_engine.specs.Talks.{DriverTalk, IsDriverTalk, heard_at, Gave}
+use Rattle.checkout_paths.specs.Outcome.{Outcome, HasOutcome, HasDeskVerdict}
+use Rattle.checkout_paths.specs.Talks.{DriverTalk, IsDriverTalk, heard_at, Gave, is_no_memory}
 use Rattle.rehearsal.specs.Paths.{kind, name, content}
 use Rattle.rehearsal.specs.Drivers.{scripts}
 use Rattle.rehearsal_numbers.specs.Plans.{paths_of, attributes_path, path_at, start_at, beta_number}

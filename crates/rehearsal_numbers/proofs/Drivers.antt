@@ -19,8 +19,8 @@ use Rattle.driver_line.specs.Lines.{Paths}
 use Rattle.driver_line.specs.OneContent.{OneContent}
 use Rattle.driver_line.specs.SameHeard.{HaveTexts, IsToldTalk, SameHeard, fate_in, content_of}
 use Rattle.checkout_engine.specs.Ends.{verdicts_of}
-use Rattle.checkout_engine.specs.Outcome.{Outcome}
-use Rattle.checkout_engine.specs.Talks.{DriverTalk, IsDriverTalk, heard_at, Gave}
+use Rattle.checkout_paths.specs.Outcome.{Outcome}
+use Rattle.checkout_paths.specs.Talks.{DriverTalk, IsDriverTalk, heard_at, Gave}
 use Rattle.rehearsal.specs.Paths.{kind}
 use Rattle.rehearsal.specs.Drivers.{scripts, alpha_text, beta_text, beta_first}
 use Rattle.rehearsal_numbers.specs.Plans.{paths_of, drivers_of, alpha, beta, is_alpha, is_beta, has_kind, start_at, beta_number}

@@ -19,8 +19,8 @@ use Rattle.driver_line.specs.SameHeard.{SameHeard}
 use Rattle.convert_plan.specs.Prepared.{prepared}
 use Rattle.checkout_report.specs.Report as report
 use Rattle.checkout_plan.specs.declared.path_plan.PathPlan.{PathPlan}
-use Rattle.checkout_engine.specs.Outcome.{Outcome, HasOutcome, HasDeskVerdict, file_with}
-use Rattle.checkout_engine.specs.Talks.{DriverTalk, heard_at, Gave}
+use Rattle.checkout_paths.specs.Outcome.{Outcome, HasOutcome, HasDeskVerdict, file_with}
+use Rattle.checkout_paths.specs.Talks.{DriverTalk, heard_at, Gave}
 use Rattle.rehearsal.specs.Paths.{kind, line_count, line_of, content}
 use Rattle.rehearsal.specs.Drivers.{is_given}
 use Rattle.rehearsal.specs.Blocks.{path_is_written, path_is_unfiltered, path_is_failed, sized, file_size}

@@ -17,9 +17,8 @@ use Rattle.checkout_core.specs.declared.path.Heard.TheVariants as heard
 use Rattle.convert_plan.specs.Prepared.{prepared}
 use Rattle.checkout_plan.specs.declared.path_plan.PathPlan.{PathPlan}
 use Rattle.checkout_plan.specs.Making.{FitsKind, object_kind}
-use Rattle.checkout_engine.specs.Outcome.{Outcome, HasVerdict, HasDeskVerdict, HasCounts, file_with}
-use Rattle.checkout_engine.specs.Report.{is_no_memory}
-use Rattle.checkout_engine.specs.Talks.{DriverTalk, heard_at, was_read, Gave}
+use Rattle.checkout_paths.specs.Outcome.{Outcome, HasVerdict, HasDeskVerdict, HasCounts, file_with}
+use Rattle.checkout_paths.specs.Talks.{DriverTalk, heard_at, was_read, Gave, is_no_memory}
 use Rattle.rehearsal_numbers.proofs.Read.{told_bytes, one_content}
 
 -- the leaf of a path has not failed

@@ -11,7 +11,7 @@ use Rattle.driver_line.specs.ToldStarts.{GoBy}
 use Rattle.checkout_plan.specs.declared.path_plan.PathPlan.{PathPlan}
 use Rattle.checkout_engine.specs.Complete.{HadMemory}
 use Rattle.checkout_engine.specs.PlannedPaths.{AreSized}
-use Rattle.checkout_engine.specs.Talks.{DriverTalk, IsDriverTalk}
+use Rattle.checkout_paths.specs.Talks.{DriverTalk, IsDriverTalk}
 use Rattle.one_shot.specs.Onces.{RunsListed}
 use Rattle.one_shot.specs.Replies.{AreServed}
 use Rattle.one_shot.specs.Starters.{is_single_run, single_starts}

@@ -33,8 +33,8 @@ use Rattle.checkout_engine.specs.Alike.{TalksHaveMemory}
 use Rattle.checkout_engine.specs.Ends.{Seen, IsCheckedOut, verdicts_of}
 use Rattle.checkout_engine.specs.Report.{lacks_memory}
 use Rattle.checkout_engine.specs.PlannedPaths.{PlannedPathsAreSized}
-use Rattle.checkout_engine.specs.Outcome.{Outcome, HasOutcome, HasDeskVerdict, AreOutcomes}
-use Rattle.checkout_engine.specs.Talks.{DriverTalk, IsDriverTalk, AreDriverTalks, heard_at, Gave}
+use Rattle.checkout_paths.specs.Outcome.{Outcome, HasOutcome, HasDeskVerdict, AreOutcomes}
+use Rattle.checkout_paths.specs.Talks.{DriverTalk, IsDriverTalk, AreDriverTalks, heard_at, Gave}
 use Rattle.one_shot.specs.Onces.{OnceTold, RunsListed}
 use Rattle.one_shot.specs.Works.{choice_told}
 use Rattle.one_shot.specs.Replies.{AreServed}

@@ -16,7 +16,7 @@ use Rattle.driver_host.specs.declared.work.Choice.TheVariants as choice
 use Rattle.driver_line.specs.SameHeard.{fate_in, content_of}
 use Rattle.checkout_engine.specs.Alike.{TalksDecide, TalksHaveMemory, AreSameTalks, HearAlike, AreListed}
 use Rattle.checkout_engine.specs.PlannedPaths.{PlannedPathsAreSized}
-use Rattle.checkout_engine.specs.Talks.{DriverTalk}
+use Rattle.checkout_paths.specs.Talks.{DriverTalk}
 use Rattle.one_shot.specs.Commands.{once_command}
 use Rattle.one_shot.specs.Onces.{OnceTold, RunsListed, told_of}
 use Rattle.one_shot.specs.Works.{choice_told}

@@ -12,9 +12,9 @@ use Rattle.checkout_core.specs.declared.path.Start.{Start}
 use Rattle.checkout_core.specs.declared.path.Start.TheVariants as start
 use Rattle.checkout_core.specs.declared.verdict.Verdict.{Verdict}
 use Rattle.checkout_plan.specs.declared.path_plan.PathPlan.{PathPlan}
-use Rattle.checkout_engine.specs.Cards.{IsText, IsTextIn}
+use Rattle.checkout_paths.specs.Cards.{IsText, IsTextIn}
 use Rattle.checkout_engine.specs.PlannedPaths.{AreSized}
-use Rattle.checkout_engine.specs.Talks.{DriverTalk, IsOverPaths}
+use Rattle.checkout_paths.specs.Talks.{DriverTalk, IsOverPaths}
 use Rattle.host_laws.specs.HostTalks.{ArePaths}
 
 all_at : {X : Type 0} (P : X → Type 0) (xs : List X) (n : ℕ) (x : X) → AllByRecursion P xs → slice_get xs n ≡ Some x → P x

@@ -10,7 +10,7 @@ use Rattle.settings_view.specs.declared.view.Driver.{Driver}
 use Rattle.checkout_core.specs.States.{is_at}
 use Rattle.checkout_plan.specs.declared.path_plan.PathPlan.{PathPlan}
 use Rattle.checkout_engine.specs.Complete.{TalksGiveAll}
-use Rattle.checkout_engine.specs.Prepared.{IsPreparedTo}
+use Rattle.checkout_paths.specs.Prepared.{IsPreparedTo}
 use Rattle.one_shot.specs.Commands.{once_command}
 use Rattle.one_shot.specs.Onces.{OnceTold, Ended, RunsListed, told_of}
 use Rattle.one_shot.specs.Works.{most_output}

@@ -17,9 +17,9 @@ use Rattle.driver_line.specs.SameHeard.{NoneWanting, fate_in, content_of}
 use Rattle.driver_host.specs.declared.work.Choice.TheVariants as choice
 use Rattle.checkout_plan.specs.declared.path_plan.PathPlan.{PathPlan}
 use Rattle.checkout_engine.specs.Ends.{Seen, IsCheckedOut, verdicts_of}
-use Rattle.checkout_engine.specs.Outcome.{Outcome, file_with}
+use Rattle.checkout_paths.specs.Outcome.{Outcome, file_with}
 use Rattle.checkout_engine.specs.Report.{lacks_memory}
-use Rattle.checkout_engine.specs.Talks.{DriverTalk}
+use Rattle.checkout_paths.specs.Talks.{DriverTalk}
 use Rattle.one_shot.specs.Onces.{OnceTold, RunsListed}
 use Rattle.one_shot.specs.Works.{choice_told}
 use Rattle.one_shot.specs.Starters.{is_single_run}

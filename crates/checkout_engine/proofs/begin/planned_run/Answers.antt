@@ -2,7 +2,7 @@ use Rattle.std.proofs.Common.{Some, ◌∙◌, ap, length, map, string_bytes}
 use Rattle.std.proofs.lemmas.Result.{err_from_is_err_and}
 use Rattle.std.specs.List.{filter}
 use Rattle.checkout_words.specs.declared.Command.{Command}
-use Rattle.checkout_engine.specs.Workers.{starts_of, in_pool, workers_for}
+use Rattle.checkout_paths.specs.Workers.{starts_of, in_pool, workers_for}
 use Rattle.checkout_engine.proofs.SmallRuns.{run_planned}
 use Rattle.checkout_engine.proofs.begin.planned_run.Goals as goal
 
@@ -14,7 +14,7 @@ returns-in_err-starts-clause-plans g c =
 pub returns-clause-plans : goal.returns-clause-plans
 returns-clause-plans g c =
     let planned = c.in_ok-planned.planned in
-    run_planned c.closed_paths_have_causes.ensures (g.R.Repo.told c.args.repo.now) (map string_bytes c.args.words.now) c.in-Ok-Checkout.workers
+    run_planned c.drivers_are_in_use.ensures c.closed_paths_have_causes.ensures (g.R.Repo.told c.args.repo.now) (map string_bytes c.args.words.now) c.in-Ok-Checkout.workers
     (g.R.Repo.seen c.args.repo.now) (g.R.Repo.seen c.read_plan.new.repo) planned _
     (c.in-Ok-Checkout.ensures.reads ∙ ap (λ (command : Command). Some command) c.in-Ok-Checkout.field-0-is) c.in_ok-planned.ensures.reads
     (c.in_ok-starts.ensures ∙ ap starts_of c.as_slice-paths.ensures)

@@ -1,8 +1,8 @@
 use Rattle.std.proofs.Common.{List, refl, sym, subst}
 use Rattle.settings_view.specs.declared.view.Driver.{Driver}
 use Rattle.checkout_plan.specs.declared.path_plan.PathPlan.{PathPlan}
-use Rattle.checkout_engine.specs.Cards.{AreOrdered}
-use Rattle.checkout_engine.specs.Dealing.{IsWork}
+use Rattle.checkout_paths.specs.Cards.{AreOrdered}
+use Rattle.checkout_paths.specs.Dealing.{IsWork}
 use Rattle.checkout_engine.proofs.Bounds.{planned_pace}
 use Rattle.checkout_engine.proofs.Drivers.{planned_ordered, planned_work}
 use Rattle.checkout_engine.proofs.Tried.{tried}

@@ -1,0 +1,14 @@
+mod Places
+mod PoolCards
+mod OpenPaths
+mod SeedCards
+mod SeedSteps
+mod Seeds
+mod Made
+mod Back
+mod PathEnds
+mod DeskEnds
+mod PathsEnd
+mod DriverTalks
+mod OpenEnds
+mod Finished
