@@ -14,16 +14,21 @@ pub struct FoundRepository {
     pub info: String,
     /// The folder `objects`.
     pub objects: String,
+    /// Whether objects may be replaced (git-replace(1)).
+    pub replaces: bool,
 }
 
 /// The word that git 2.31 was the first to know. `git rev-parse` writes a word as it is if it doesn't know it.
 const NEWEST: &str = "--path-format=absolute";
 
+/// The variable that says where else the names of replaced objects are.
+const REPLACED_BY: &str = "GIT_REPLACE_REF_BASE";
+
 /// The variable that says whether the system's attribute file is left out.
 const NO_SYSTEM: &str = "GIT_ATTR_NOSYSTEM";
 
-/// What is asked of `git rev-parse`: the paths, each a line, and then what object names are by.
-const ASKED: [&str; 10] = [
+/// What is asked of `git rev-parse`: the paths, each a line, what object names are by, and what replaces objects.
+const ASKED: [&str; 11] = [
     "rev-parse",
     NEWEST,
     "--absolute-git-dir",
@@ -34,6 +39,7 @@ const ASKED: [&str; 10] = [
     "--git-path",
     "objects",
     "--show-object-format",
+    "--glob=refs/replace/",
 ];
 
 /// The first line that git wrote on standard error, without its first word, or these words if it wrote none.
@@ -62,11 +68,12 @@ fn lines_of(alloc: Global, text: &str) -> Result<Vec<&str>, AllocError> {
     whole.split('\n').collect(alloc)
 }
 
-fn found_in(alloc: Global, lines: &[&str]) -> Result<FoundRepository, GitFault> {
+fn found_in(git: &Git, lines: &[&str]) -> Result<FoundRepository, GitFault> {
+    let alloc = git.alloc;
     if lines.contains(&NEWEST) {
         return Err(GitFault::TooOld);
     }
-    let [git_dir, index, info, objects, format] = lines else {
+    let [git_dir, index, info, objects, format, replacing @ ..] = lines else {
         return Err(GitFault::BadPath);
     };
     if *format != "sha1" {
@@ -77,6 +84,7 @@ fn found_in(alloc: Global, lines: &[&str]) -> Result<FoundRepository, GitFault> 
         index: String::from_str(alloc, index)?,
         info: String::from_str(alloc, info)?,
         objects: String::from_str(alloc, objects)?,
+        replaces: !replacing.is_empty() || var(&git.rt, REPLACED_BY).is_ok(),
     })
 }
 
@@ -95,7 +103,7 @@ pub fn find(git: &Git) -> Result<FoundRepository, GitFault> {
         return Err(refused(git, &answer, "git finds no repository"));
     }
     match str::from_utf8(answer.bytes.as_slice()) {
-        Ok(text) => found_in(git.alloc, lines_of(git.alloc, text)?.as_slice()),
+        Ok(text) => found_in(git, lines_of(git.alloc, text)?.as_slice()),
         Err(_) => Err(GitFault::BadPath),
     }
 }
@@ -153,9 +161,9 @@ pub fn list(git: &Git) -> Result<SettingsList, GitFault> {
 /// What is asked of `git rev-parse` before a revision. It says nothing and ends with the status 1 if there is none.
 const NAMED: [&str; 4] = ["rev-parse", "--verify", "--quiet", "--end-of-options"];
 
-/// The name of the tree of a commit, a tag or a tree, in hex.
-pub fn tree_of(git: &Git, revision: &str) -> Result<String, GitFault> {
-    let wanted = format!(in git.alloc; "{revision}^{{tree}}")?;
+/// The name in hex that git gives a revision with this behind it.
+fn named(git: &Git, revision: &str, behind: &str) -> Result<String, GitFault> {
+    let wanted = format!(in git.alloc; "{revision}{behind}")?;
     let [asked, verify, quiet, end] = NAMED;
     let answer = git.ask(&[asked, verify, quiet, end, wanted.as_str()])?;
     if answer.status == Some(1) {
@@ -167,4 +175,14 @@ pub fn tree_of(git: &Git, revision: &str) -> Result<String, GitFault> {
         }
         _ => Err(refused(git, &answer, "git names no tree")),
     }
+}
+
+/// The name of the tree of a commit, a tag or a tree, in hex, as git reads them.
+pub fn tree_by_git(git: &Git, revision: &str) -> Result<String, GitFault> {
+    named(git, revision, "^{tree}")
+}
+
+/// The object that a tag is of, or the object itself, in hex.
+pub fn object_of(git: &Git, revision: &str) -> Result<String, GitFault> {
+    named(git, revision, "^{}")
 }

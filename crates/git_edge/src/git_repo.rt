@@ -5,20 +5,20 @@ ghost use Rattle.edge_kit.specs.Told.{Untold, Takes};
 
 use crate::attribute_files::base_attributes;
 use crate::fault::GitFault;
-use crate::finding::{FoundRepository, find, list, tree_of};
+use crate::finding::{FoundRepository, find, list};
 use crate::git::Git;
 use crate::git_blob::GitBlob;
-use crate::index_file::{index_of_tree, own_index};
+use crate::index_file::own_index;
 use crate::index_lock::IndexLock;
 use crate::lender::lender_of;
 use crate::listing::SettingsList;
 use crate::notes::{notes_of, place_of, word_of, worktree_of};
 use crate::object_pool::ObjectPool;
+use crate::wanted_tree::{IndexLack, WantedTree};
 use edge_adapters::{DriverPlace, read_whole};
 use edge_kit::{Repo, TakeFault};
 use git_tree::Keeps;
 use std::alloc::{AllocError, Global};
-use std::io;
 use std::sync::Arc;
 
 /// On which other file systems no path may be one of git's own (git-config(1), core.protectNTFS and core.protectHFS).
@@ -34,12 +34,12 @@ pub struct GitRepo {
     git: Git,
     found: FoundRepository,
     listing: SettingsList,
-    // the name of the tree that is wanted in place of the index
-    tree: Option<String>,
+    // the tree that is wanted in place of the index
+    tree: Option<WantedTree>,
     // the index, once it was read
     index: Option<Vec<u8>>,
-    // why no folder could be made for it
-    unmade: Option<io::Error>,
+    // why there is none
+    lack: IndexLack,
     pool: Arc<ObjectPool, Global>,
     faults: u64,
     out: usize,
@@ -72,11 +72,11 @@ impl GitRepo {
         let git = Git::new(rt, program, git_dir)?;
         let found = find(&git)?;
         let listing = list(&git)?;
+        let pool = lender_of(&git, &found, &listing)?;
         let tree = match revision {
-            Some(revision) => Some(tree_of(&git, revision)?),
+            Some(revision) => Some(WantedTree::of(&git, &found, &pool, revision)?),
             None => None,
         };
-        let pool = lender_of(&git, &found, &listing)?;
         let pool = Arc::new(rt.alloc(), pool)?;
         Ok(GitRepo {
             git,
@@ -84,7 +84,10 @@ impl GitRepo {
             listing,
             tree,
             index: None,
-            unmade: None,
+            lack: IndexLack {
+                unmade: None,
+                bad: None,
+            },
             pool,
             faults: 0,
             out: 0,
@@ -139,7 +142,16 @@ impl GitRepo {
 
     /// Why its index couldn't be read, if that is for want of a folder for temporary files.
     pub fn index_fault(&self) -> Option<GitFault> {
-        Some(GitFault::NoScratch(self.unmade?))
+        Some(GitFault::NoScratch(self.lack.unmade?))
+    }
+
+    /// The line of a report that refuses its tree, if its index couldn't be made since that tree, or one below it, is
+    /// lacking or broken.
+    pub fn tree_refusal(&self) -> Result<Option<String>, AllocError> {
+        match &self.lack.bad {
+            Some(tree) => Ok(Some(tree.refusal(self.git.alloc)?)),
+            None => Ok(None),
+        }
     }
 
     /// Which file systems its paths are guarded for: both, unless a setting says no.
@@ -158,12 +170,21 @@ impl GitRepo {
     /// What is to be said of it once its blobs are given back, each in a line without its end: attribute files that are
     /// unmerged, objects that a partial clone lacks, and objects that are replaced. What git can't say isn't said.
     pub fn notes(&self) -> Result<Vec<String>, AllocError> {
+        let tree = match &self.tree {
+            Some(tree) => Some(tree.name.as_str()),
+            None => None,
+        };
+        let replaced = if self.found.replaces {
+            Some(self.returned.as_slice())
+        } else {
+            None
+        };
         notes_of(
             &self.git,
-            self.tree.as_deref(),
+            tree,
             self.listing.promisor(),
             self.absent.as_slice(),
-            self.returned.as_slice(),
+            replaced,
         )
     }
 
@@ -212,12 +233,12 @@ impl Repo for GitRepo {
             return Ok(Some(index));
         }
         let taken = match &self.tree {
-            Some(tree) => index_of_tree(&self.git, tree.as_str(), limit, &mut self.unmade),
+            Some(tree) => tree.index(&self.git, &self.pool, limit, &mut self.lack),
             None => own_index(
                 &self.git,
                 self.found.index.as_str(),
                 limit,
-                &mut self.unmade,
+                &mut self.lack.unmade,
             ),
         };
         if let Ok(Some(index)) = &taken {

@@ -85,8 +85,8 @@ fn limited(written: io::Result<Option<Vec<u8>>>, limit: u64) -> Result<Option<Ve
     }
 }
 
-/// An index of this tree. What keeps a folder for it from being made is kept.
-pub fn index_of_tree(
+/// An index of this tree, by git. What keeps a folder for it from being made is kept.
+pub fn index_by_git(
     git: &Git,
     tree: &str,
     limit: u64,

@@ -18,9 +18,13 @@ mod lender;
 mod lent;
 mod listing;
 mod notes;
+mod object_lack;
 mod object_pool;
 mod object_reader;
 mod scratch;
+mod tree_index;
+mod tree_objects;
+mod wanted_tree;
 
 pub use fault::GitFault;
 pub use git_blob::GitBlob;

@@ -177,13 +177,13 @@ fn add_replaced(
 }
 
 /// What is to be said of a repository: of its own index if no tree was read in its place, of the objects that a clone
-/// of part of this remote lacks, and of those that were given back.
+/// of part of this remote lacks, and of those that were given back, if some may be replaced.
 pub fn notes_of(
     git: &Git,
     tree: Option<&str>,
     remote: Option<&[u8]>,
     absent: &[[u8; 20]],
-    returned: &[([u8; 20], u64)],
+    replaced: Option<&[([u8; 20], u64)]>,
 ) -> Result<Vec<String>, AllocError> {
     let mut notes = Vec::new(git.alloc);
     if tree.is_none() {
@@ -194,7 +194,9 @@ pub fn notes_of(
             notes.push(lack_of(git, remote, tree, absent)?)?;
         }
     }
-    add_replaced(git, returned, &mut notes)?;
+    if let Some(returned) = replaced {
+        add_replaced(git, returned, &mut notes)?;
+    }
     Ok(notes)
 }
 

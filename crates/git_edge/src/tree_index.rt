@@ -1,0 +1,150 @@
+//! The index of a tree, which is read here.
+use crate::object_lack::ObjectLack;
+use crate::object_pool::ObjectPool;
+use crate::tree_objects::TreeObjects;
+use byte_path::{Bytes, PathFault, quote_path};
+use edge_kit::TakeFault;
+use git_index::spell_entries;
+use git_trees::{
+    NameKind, TreeFault, TreeSource, WalkBounds, WalkFault, leaves_can_stand, read_leaves,
+};
+use std::alloc::{AllocError, Global};
+
+/// An index has no more entries, and no path of one stands in more folders.
+const BOUNDS: WalkBounds = WalkBounds {
+    limit: 100_000,
+    depth: 2048,
+    bytes: 67_108_864,
+};
+
+/// A tree that is lacking or broken.
+#[derive(Drop)]
+pub struct BadTree {
+    name: [u8; 20],
+    fault: WalkFault,
+    lack: ObjectLack,
+}
+
+/// The number of an entry and what is wrong with it.
+fn entry_cause(fault: TreeFault) -> (u32, &'static str) {
+    match fault {
+        TreeFault::Name(number, NameKind::Slash) => (number, "slash"),
+        TreeFault::Name(number, NameKind::Part(part)) => (number, part.word()),
+        TreeFault::Short(number)
+        | TreeFault::Mode(number)
+        | TreeFault::Order(number)
+        | TreeFault::Twice(number)
+        | TreeFault::Count(number) => (number, fault.word()),
+        TreeFault::NoMemory => (0, fault.word()),
+    }
+}
+
+/// A folder's path as the report has it. That of the root tree is `.`.
+fn folder_text(alloc: Global, folder: &[u8]) -> Result<String, AllocError> {
+    let path = match folder.strip_suffix(b"/") {
+        Some(path) => path,
+        None => b".".as_slice(),
+    };
+    match String::from_utf8(quote_path(alloc, path)?) {
+        Ok(text) => Ok(text),
+        Err(_) => Ok(String::new(alloc)),
+    }
+}
+
+impl BadTree {
+    /// The path of its folder, with a slash after it. That of the root tree is empty.
+    fn folder(&self) -> &[u8] {
+        match &self.fault {
+            WalkFault::Absent(folder) | WalkFault::Failed(folder) | WalkFault::Tree(folder, _) => {
+                folder.as_slice()
+            }
+            _ => b"".as_slice(),
+        }
+    }
+
+    /// What is wrong with it: one of its entries by its number, or the tree as a whole.
+    fn cause(&self, alloc: Global) -> Result<String, AllocError> {
+        match &self.fault {
+            WalkFault::Tree(_, fault) => {
+                let (number, word) = entry_cause(*fault);
+                format!(in alloc; "entry {number} {word}")
+            }
+            WalkFault::Absent(_) => String::from_str(alloc, ObjectLack::Absent.word()),
+            _ => String::from_str(alloc, self.lack.word()),
+        }
+    }
+
+    /// The line of a report that refuses it: its name, its folder and the cause.
+    pub fn refusal(&self, alloc: Global) -> Result<String, AllocError> {
+        let name = hex::encode(alloc, self.name.as_slice())?;
+        let folder = folder_text(alloc, self.folder())?;
+        let cause = self.cause(alloc)?;
+        format!(in alloc; "refused tree {name} {folder} {cause}\n")
+    }
+}
+
+/// The content of the root tree.
+fn root_content(
+    trees: &mut TreeObjects<'_>,
+    alloc: Global,
+    root: &[u8; 20],
+) -> Result<Vec<u8>, WalkFault> {
+    match trees.tree(root, BOUNDS.bytes) {
+        Ok(Some(content)) => Ok(content),
+        Ok(None) => Err(WalkFault::Absent(Bytes::from_vec(Vec::new(alloc)))),
+        Err(TakeFault::NoMemory) => Err(WalkFault::NoMemory),
+        Err(_) => Err(WalkFault::Failed(Bytes::from_vec(Vec::new(alloc)))),
+    }
+}
+
+/// The index of what this tree reaches.
+fn walk(trees: &mut TreeObjects<'_>, alloc: Global, root: &[u8; 20]) -> Result<Vec<u8>, WalkFault> {
+    let content = root_content(trees, alloc, root)?;
+    let leaves = read_leaves(trees, alloc, BOUNDS, content.as_slice())?;
+    leaves_can_stand();
+    Ok(spell_entries(alloc, leaves.as_slice())?)
+}
+
+/// Whether git may make an index where the walk makes none: of more entries or longer paths than are read, which the
+/// checkout refuses by their numbers, and of trees whose modes are spelled in an old way.
+fn is_for_git(fault: &WalkFault) -> bool {
+    match fault {
+        WalkFault::TooLong(_) | WalkFault::Deep(_) | WalkFault::Path(..) | WalkFault::Count => true,
+        WalkFault::Tree(_, fault) => matches!(
+            fault,
+            TreeFault::Mode(_)
+                | TreeFault::Count(_)
+                | TreeFault::Name(_, NameKind::Part(PathFault::TooLong))
+        ),
+        WalkFault::Absent(_) | WalkFault::Failed(_) | WalkFault::NoMemory => false,
+    }
+}
+
+/// What comes of a tree.
+#[derive(Drop)]
+pub enum TreeIndex {
+    /// The bytes of its index.
+    Made(Vec<u8>),
+    /// Git may make it.
+    ForGit,
+    Bad(BadTree),
+}
+
+/// The index of the tree with this name.
+pub fn index_of(
+    pool: &ObjectPool,
+    alloc: Global,
+    root: &[u8; 20],
+) -> Result<TreeIndex, AllocError> {
+    let mut trees = TreeObjects::new(pool, alloc);
+    match walk(&mut trees, alloc, root) {
+        Ok(index) => Ok(TreeIndex::Made(index)),
+        Err(WalkFault::NoMemory) => Err(AllocError),
+        Err(fault) if is_for_git(&fault) => Ok(TreeIndex::ForGit),
+        Err(fault) => Ok(TreeIndex::Bad(BadTree {
+            name: trees.last,
+            fault,
+            lack: trees.lack,
+        })),
+    }
+}

@@ -1,0 +1,110 @@
+//! The tree that is wanted in place of the index.
+ghost use Rattle.edge_kit.specs.Told.{Untold, Takes};
+
+use crate::fault::GitFault;
+use crate::finding::{FoundRepository, object_of, tree_by_git};
+use crate::git::Git;
+use crate::index_file::index_by_git;
+use crate::object_pool::ObjectPool;
+use crate::tree_index::{BadTree, TreeIndex, index_of};
+use crate::tree_objects::root_tree;
+use edge_kit::TakeFault;
+use std::alloc::AllocError;
+use std::io;
+
+/// A tree by its name in hex.
+#[derive(Drop)]
+pub struct WantedTree {
+    pub name: String,
+    // whether git alone reads it, since objects may be replaced
+    is_for_git: bool,
+}
+
+/// Why a tree has no index.
+#[derive(Drop)]
+pub struct IndexLack {
+    /// Why git had no folder for it.
+    pub unmade: Option<io::Error>,
+    /// Which tree is lacking or broken.
+    pub bad: Option<BadTree>,
+}
+
+fn name_in(digits: &str) -> Option<[u8; 20]> {
+    let mut name = [0u8; 20];
+    match hex::decode_to_slice(digits.as_bytes(), name.as_mut_slice()) {
+        Ok(()) => Some(name),
+        Err(_) => None,
+    }
+}
+
+/// The tree of a commit or a tag that git names, or the tree that it names, as the objects have it.
+fn tree_here(git: &Git, pool: &ObjectPool, revision: &str) -> Result<Option<String>, GitFault> {
+    let object = object_of(git, revision)?;
+    let Some(name) = name_in(object.as_str()) else {
+        return Ok(None);
+    };
+    match root_tree(pool, &name) {
+        Some(tree) => Ok(Some(hex::encode(git.alloc, tree.as_slice())?)),
+        None => Ok(None),
+    }
+}
+
+impl WantedTree {
+    /// The tree of a revision: git resolves the name, and says what it is of where the objects don't.
+    pub fn of(
+        git: &Git,
+        found: &FoundRepository,
+        pool: &ObjectPool,
+        revision: &str,
+    ) -> Result<WantedTree, GitFault> {
+        let is_for_git = found.replaces;
+        if !is_for_git {
+            if let Some(name) = tree_here(git, pool, revision)? {
+                return Ok(WantedTree { name, is_for_git });
+            }
+        }
+        let name = tree_by_git(git, revision)?;
+        Ok(WantedTree { name, is_for_git })
+    }
+
+    /// Its index as it is made here. `None` if git is to make it, or if a tree is bad, which is kept.
+    fn index_here(
+        &self,
+        git: &Git,
+        pool: &ObjectPool,
+        lack: &mut IndexLack,
+    ) -> Result<Option<Vec<u8>>, AllocError> {
+        let Some(name) = name_in(self.name.as_str()) else {
+            return Ok(None);
+        };
+        match index_of(pool, git.alloc, &name)? {
+            TreeIndex::Made(index) => Ok(Some(index)),
+            TreeIndex::ForGit => Ok(None),
+            TreeIndex::Bad(bad) => {
+                lack.bad = Some(bad);
+                Ok(None)
+            }
+        }
+    }
+
+    /// Its index. What keeps it from being made is kept.
+    pub fn index(
+        &self,
+        git: &Git,
+        pool: &ObjectPool,
+        limit: u64,
+        lack: &mut IndexLack,
+    ) -> Result<Option<Vec<u8>>, TakeFault>
+        ensures { Takes Untold limit result }
+    {
+        if !self.is_for_git {
+            match self.index_here(git, pool, lack)? {
+                Some(index) if index.len() as u64 <= limit => return Ok(Some(index)),
+                Some(_) => return Err(TakeFault::TooLong),
+                None if lack.bad.is_some() => return Err(TakeFault::Failed),
+                None => {}
+            }
+        }
+        index_by_git(git, self.name.as_str(), limit, &mut lack.unmade)
+    }
+}

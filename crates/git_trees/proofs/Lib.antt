@@ -1,0 +1,13 @@
+pub mod Keys
+pub mod Loop
+pub mod Ordered
+pub mod Again
+pub mod Taken
+pub mod Whole
+pub mod Rising
+pub mod Twins
+pub mod OneWalk
+pub mod Apart
+pub mod Stopped
+pub mod Taking
+pub mod Standing
