@@ -67,7 +67,7 @@ fn crlf_of(content: Result<Vec<u8>, ObjectFault>) -> Result<Option<bool>, AllocE
     }
 }
 
-/// The same for the content of an object.
+/// Whether the content of an object has a CR directly before an LF.
 fn read_old<R: Repo>(
     alloc: Global,
     repo: &mut R,
@@ -81,7 +81,7 @@ fn read_old<R: Repo>(
     crlf_of(object_content(alloc, repo, name))
 }
 
-/// The same if the action asks for it, and no if it doesn't.
+/// Whether the index's content has a CR directly before an LF, if the action asks for it, and no if it doesn't.
 fn old_for<R: Repo>(
     alloc: Global,
     repo: &mut R,
@@ -114,7 +114,7 @@ fn found_by(old: Option<bool>, bytes: Option<Vec<u8>>) -> Found
     }
 }
 
-/// The same, once the index's content is looked at if the action asks for it.
+/// What is found, once the index's content is looked at if the action asks for it.
 fn find_there<R: Repo>(
     alloc: Global,
     repo: &mut R,

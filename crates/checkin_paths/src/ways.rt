@@ -21,7 +21,7 @@ fn driver_way(place: usize, driver: &Driver, storing: Storing) -> Way
     }
 }
 
-/// The same by the driver's name. A name of no driver is no filter.
+/// What becomes of a file by its driver's name. A name of no driver is no filter.
 fn named_way(drivers: &[Driver], name: &[u8], storing: Storing) -> Way
     ensures { result ≡ way_by (start_named 0 drivers.now name.now) storing }
 {
@@ -33,7 +33,7 @@ fn named_way(drivers: &[Driver], name: &[u8], storing: Storing) -> Way
     Way::Stored(storing)
 }
 
-/// The same by the state of the file's `filter`.
+/// What becomes of a file by the state of its `filter`.
 pub fn filter_way(drivers: &[Driver], filter: &AttrState, storing: Storing) -> Way
     ensures { result ≡ way_by (filter_start drivers.now filter.now) storing }
 {

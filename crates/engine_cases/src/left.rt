@@ -34,9 +34,9 @@ pub struct Left<'a> {
 pub enum View {
     /// The report, the status and the files.
     Run,
-    /// The same, and the talk with a driver.
+    /// The report, the status, the files, and the talk with a driver.
     Talk,
-    /// The same of many paths, in few lines.
+    /// What a talk shows, of many paths, in few lines.
     Work,
     /// How many files there are, and the status.
     Counted,

@@ -176,7 +176,7 @@ pub fn spell_entries(alloc: Global, entries: &[Entry]) -> Result<Vec<u8>, AllocE
     spell_stat_index(alloc, entries, &[])
 }
 
-/// The same for the entries of some index.
+/// The index of these entries, which are those of some index.
 pub fn spell_index(alloc: Global, entries: &[Entry]) -> Result<Vec<u8>, AllocError>
     requires { AreEntries entries.now }
     ensures index { IfOk result (λ text. IsIndexText text.items entries.now) }

@@ -25,7 +25,7 @@ where
     spawner.sessions_are_served();
 }
 
-/// The same over the spawner of child processes.
+/// Sessions over the spawner of child processes tell truly how their drivers answer.
 pub fn runs_over_processes_are_served<M: OnceMaker + Send>(spawner: &OnceSpawner<ProcessSpawner, M>)
 where
     M::Once: Send,
@@ -47,7 +47,7 @@ where
     single_runs_are_heard();
 }
 
-/// The same over the spawner of child processes.
+/// Paths under a command are heard over the spawner of child processes.
 pub fn runs_over_processes_are_heard<M: OnceMaker + Send>(spawner: &OnceSpawner<ProcessSpawner, M>)
 where
     M::Once: Send,
