@@ -133,11 +133,16 @@ fn hash_of(name: &[u8]) -> u64 {
     hash
 }
 
-/// The two places of a name among so many, of which there is one at least.
+/// How many places there are for so many macros: a power of two.
+fn room_for(macros: usize) -> usize {
+    macros.saturating_mul(ROOM).min(MOST).next_power_of_two()
+}
+
+/// The two places of a name among so many, a power of two.
 fn places_of(name: &[u8], count: usize) -> (usize, usize) {
-    let count = (count as u64).max(1);
+    let mask = (count as u64).saturating_sub(1);
     let hash = hash_of(name);
-    ((hash % count) as usize, (hash / 65_536 % count) as usize)
+    ((hash & mask) as usize, ((hash / 65_536) & mask) as usize)
 }
 
 /// Whether a name stands at a place.
@@ -198,11 +203,10 @@ impl<'a> States<'a> {
             marks: Vec::from_elem(alloc, None, count)?,
             others: BTreeMap::new(alloc),
         };
-        let places = count.saturating_mul(ROOM).min(MOST);
         Ok(States {
             decided,
             count: 0,
-            recent: Vec::from_elem(alloc, None, places)?,
+            recent: Vec::from_elem(alloc, None, room_for(count))?,
         })
     }
 
