@@ -128,9 +128,12 @@ cut Below folder (x ∷ es) zero e xs less is r =
 cut Below folder (x ∷ es) (suc k) e xs less is r =
     let c = cut Below folder es k e r.1 (omega (arith, less)) is r.4 in
     record {
-      first = r.0 ++ c.first; here = c.here; others = c.others;
+      first = r.0 ++ c.first;
+      here = c.here;
+      others = c.others;
       whole = r.2 ∙ ap (λ (zs : List Entry). r.0 ++ zs) c.whole ∙ sym (append_assoc r.0 c.first (c.here ++ c.others));
-      before = (r.0, c.first, refl, r.3, c.before); below = c.below;
+      before = (r.0, c.first, refl, r.3, c.before);
+      below = c.below;
     }
 
 -- if an entry has more leaves than may come after those that are taken, so has its folder

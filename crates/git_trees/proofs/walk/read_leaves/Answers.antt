@@ -25,8 +25,8 @@ returns-in_err-take_folder-clause-stop g c =
     let step : WalkStep = record { alloc = c.args.alloc; bounds = c.args.bounds; left = c.args.bounds.depth } in
     let f = c.in_err-take_folder.field-0.0 in
     rw (p.1, p.2) (root_stops told step c.args.root.now f refl
-        (λ is. over_root told step c.args.root.now (length c.new-leaves.result.items) f refl (ap (length {A = Entry}) c.new-leaves.ensures.items) (c.in_err-take_folder.ensures.count is) is)
-        c.in_err-take_folder.ensures.stop)
+    (λ is. over_root told step c.args.root.now (length c.new-leaves.result.items) f refl (ap (length {A = Entry}) c.new-leaves.ensures.items) (c.in_err-take_folder.ensures.count is) is)
+    c.in_err-take_folder.ensures.stop)
 
 pub returns-in_err-take_folder-clause-complete : goal.returns-in_err-take_folder-clause-complete
 returns-in_err-take_folder-clause-complete g c leaves all of =
@@ -35,6 +35,6 @@ returns-in_err-take_folder-clause-complete g c leaves all of =
     let f = c.in_err-take_folder.field-0.0 in
     let step : WalkStep = record { alloc = c.args.alloc; bounds = c.args.bounds; left = c.args.bounds.depth } in
     let at = root_stops told step c.args.root.now f refl
-        (λ is. over_root told step c.args.root.now (length c.new-leaves.result.items) f refl (ap (length {A = Entry}) c.new-leaves.ensures.items) (c.in_err-take_folder.ensures.count is) is)
-        c.in_err-take_folder.ensures.stop in
+    (λ is. over_root told step c.args.root.now (length c.new-leaves.result.items) f refl (ap (length {A = Entry}) c.new-leaves.ensures.items) (c.in_err-take_folder.ensures.count is) is)
+    c.in_err-take_folder.ensures.stop in
     rw (p.1, p.2) (stop_is_free told c.args.bounds c.args.root.now leaves f all of at)
