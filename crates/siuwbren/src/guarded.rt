@@ -130,9 +130,17 @@ fn has_ntfs_guarded(path: &[u8], is_link: bool) -> bool {
     false
 }
 
-/// Whether one of the guarded file systems reads a part of the path as a name of git's own.
+/// Whether a part of the path is `.gitmodules`, in letters of any case.
+fn has_modules(path: &[u8]) -> bool {
+    path.split(|byte| *byte == b'/')
+        .any(|part| part.eq_ignore_ascii_case(b".gitmodules"))
+}
+
+/// Whether a part of the path is a name of git's own: for a link `.gitmodules`, and what one of the guarded file systems
+/// reads so.
 pub fn is_guarded(path: &[u8], is_link: bool, guards: Guards) -> bool {
-    guards.ntfs && has_ntfs_guarded(path, is_link)
+    is_link && has_modules(path)
+        || guards.ntfs && has_ntfs_guarded(path, is_link)
         || guards.hfs
             && path
                 .split(|byte| *byte == b'/')

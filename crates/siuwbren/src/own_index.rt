@@ -50,6 +50,16 @@ fn is_guarded_entry(entry: &Entry, guards: Guards) -> bool {
     )
 }
 
+/// Writes the line of a refusal in the form of the report, and gives the status.
+fn write_refusal(rt: HostRuntime, line: &str, form: ReportForm) -> Result<ExitStatus, AllocError> {
+    let mut out = sink_of(rt, form);
+    match out.write(line.as_bytes()) {
+        Ok(()) => Ok(ExitStatus::Refused),
+        Err(SendFault::Failed) => Ok(ExitStatus::OutputNotWritten),
+        Err(SendFault::NoMemory) => Err(AllocError),
+    }
+}
+
 /// Writes the refusal of the entry with this number in the form of the report, and gives the status.
 fn refuse(
     rt: HostRuntime,
@@ -58,11 +68,9 @@ fn refuse(
     form: ReportForm,
 ) -> Result<ExitStatus, AllocError> {
     let line = format!(in rt.alloc(); "refused index path {number} dot-git\n")?;
-    let mut out = sink_of(rt, form);
-    match out.write(line.as_bytes()) {
-        Ok(()) => {}
-        Err(SendFault::Failed) => return Ok(ExitStatus::OutputNotWritten),
-        Err(SendFault::NoMemory) => return Err(AllocError),
+    let status = write_refusal(rt, line.as_str(), form)?;
+    if !matches!(status, ExitStatus::Refused) {
+        return Ok(status);
     }
     if let Ok(path) = String::from_utf8(quote_path(rt.alloc(), entry.path.as_slice())?) {
         say(
@@ -70,7 +78,7 @@ fn refuse(
             format!(in rt.alloc(); "the entry's path: {path}")?.as_str(),
         );
     }
-    Ok(ExitStatus::Refused)
+    Ok(status)
 }
 
 /// The status if one of these entries has a path that is one of git's own on a guarded file system.
@@ -89,8 +97,23 @@ fn refuse_entries(
     Ok(None)
 }
 
+/// The status if the repository's index couldn't be made since a tree is lacking or broken.
+fn refuse_tree(
+    rt: HostRuntime,
+    repo: &GitRepo,
+    form: ReportForm,
+) -> Result<Option<u8>, AllocError> {
+    match repo.tree_refusal()? {
+        Some(line) => {
+            let status = write_refusal(rt, line.as_str(), form)?;
+            Ok(Some(end_with(rt, status.number())))
+        }
+        None => Ok(None),
+    }
+}
+
 /// The status if the index has a path that is one of git's own on a guarded file system: the folder `.git`, or a link
-/// `.gitmodules`. The first such entry is refused, before anything is done.
+/// `.gitmodules`. The first such entry is refused, before anything is done. So is a tree that is lacking or broken.
 pub fn refuse_guarded(
     rt: HostRuntime,
     repo: &mut GitRepo,
@@ -99,6 +122,6 @@ pub fn refuse_guarded(
     let guards = repo.guards();
     match index_of(rt, repo) {
         Some(index) => refuse_entries(rt, index.entries(), guards, form),
-        None => Ok(None),
+        None => refuse_tree(rt, repo, form),
     }
 }
