@@ -1,6 +1,7 @@
 //! The lines of an attribute file (gitattributes(5)).
 #![tactic(auto)]
 
+mod content;
 mod file;
 mod line;
 mod outcome;
@@ -9,6 +10,7 @@ mod reading;
 mod state;
 mod text;
 
+pub use content::AttrContent;
 pub use file::{AttrFile, AttrRow, Pair, Skipped};
 pub use reading::read_attributes;
 pub use state::AttrState;

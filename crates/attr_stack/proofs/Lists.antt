@@ -7,7 +7,7 @@ use Rattle.attr_line.specs.declared.file.Pair.{Pair}
 use Rattle.attr_line.specs.declared.file.AttrRow.{AttrRow}
 use Rattle.attr_line.specs.declared.file.AttrRow.TheVariants.{Rule, Macro}
 use Rattle.wild_match.specs.Fits.{is_match}
-use Rattle.attr_stack.specs.Levels.{row_pattern, row_rule, rows_pairs}
+use Rattle.attr_stack.specs.Rows.{row_pattern, row_rule, rows_pairs}
 use Rattle.attr_stack.specs.declared.files.FileAt.{FileAt}
 use Rattle.attr_stack.specs.Pairs.{row_pairs, pairs_before, pairs_ending}
 use Rattle.attr_stack.specs.Seen.{from_end}

@@ -3,12 +3,11 @@ ghost use Rattle.std.specs.Bool.{OnTrue};
 ghost use Rattle.std.specs.Prelude.{◌≡◌, true, [], IfOk, OnOk, is_some, map, reverse};
 ghost use Rattle.std.specs.List.{list_all};
 ghost use Rattle.attr_stack.specs.Pairs.{file_pairs};
-ghost use Rattle.attr_stack.specs.Levels.{row_pattern, row_rule, rows_pairs};
+ghost use Rattle.attr_stack.specs.Rows.{row_pattern, row_rule, rows_pairs};
 ghost use Rattle.attr_stack.specs.Search.{Reads};
 ghost use Rattle.attr_stack.specs.Seen.{state_at};
 
 use crate::decide::{is_done, read_rule};
-use crate::files::FileAt;
 use crate::noted::States;
 use attr_line::{AttrFile, AttrRow, Pair};
 use byte_path::Bytes;
@@ -106,7 +105,7 @@ pub struct CompiledFile {
 impl Model for CompiledFile {
     ghost use Rattle.std.specs.Prelude.{◌≡◌, map};
     ghost use Rattle.attr_line.specs.declared.file.AttrFile.{AttrFile};
-    ghost use Rattle.attr_stack.specs.Levels.{row_pattern};
+    ghost use Rattle.attr_stack.specs.Rows.{row_pattern};
 
     ghost Value = { AttrFile };
 
@@ -139,36 +138,5 @@ impl CompiledFile {
         let patterns = &self.patterns;
         let compiled = CompiledRows { rows, patterns };
         read_rows(names, states, pending, &compiled, path)
-    }
-}
-
-/// The attribute file of a folder, which contracts see as it was read.
-#[derive(Drop)]
-pub struct CompiledAt {
-    folder: Bytes,
-    file: CompiledFile,
-}
-
-impl Model for CompiledAt {
-    ghost use Rattle.attr_stack.specs.declared.files.FileAt.{FileAt};
-
-    ghost Value = { FileAt };
-
-    ghost view = { λ f. record { folder = f.folder; file = f.file } };
-}
-
-impl CompiledAt {
-    pub fn of(alloc: Global, at: FileAt) -> Result<CompiledAt, AllocError>
-        ensures { IfOk result (λ compiled. compiled ≡ at) }
-    {
-        let FileAt { folder, file } = at;
-        let file = CompiledFile::of(alloc, file)?;
-        Ok(CompiledAt { folder, file })
-    }
-
-    pub fn file(&self) -> &CompiledFile
-        ensures { result.now ≡ self.now.file }
-    {
-        &self.file
     }
 }

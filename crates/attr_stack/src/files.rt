@@ -3,7 +3,7 @@ ghost use Rattle.std.specs.Prelude.{◌≡◌};
 ghost use Rattle.std.specs.Option.{option_map};
 ghost use Rattle.attr_stack.specs.Pairs.{file_of};
 
-use attr_line::AttrFile;
+use attr_line::{AttrContent, AttrFile};
 use byte_path::{Bytes, Items};
 
 /// The attribute file of a folder.
@@ -11,7 +11,7 @@ use byte_path::{Bytes, Items};
 pub struct FileAt {
     /// The folder from the top, without a `/` at its end. The top folder is the empty text.
     pub folder: Bytes,
-    pub file: AttrFile,
+    pub file: AttrContent,
 }
 
 /// The attribute files that stand outside the index (gitattributes(5)).
@@ -35,7 +35,7 @@ pub struct AttrFiles {
 }
 
 /// The attribute file of a folder.
-pub fn file_of<'a>(files: &'a [FileAt], folder: &[u8]) -> Option<&'a AttrFile>
+pub fn file_of<'a>(files: &'a [FileAt], folder: &[u8]) -> Option<&'a AttrContent>
     ensures { option_map (λ x. x.now) result ≡ file_of files.now folder.now }
 {
     let at = files.iter().find(|at| at.folder.as_slice() == folder)?;

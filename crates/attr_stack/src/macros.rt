@@ -139,7 +139,10 @@ fn define_top(alloc: Global, macros: &mut Macros, files: &[FileAt]) -> Result<()
         → AreMacros macros.new (top_macros files.now ++ lines)) }
 {
     match file_of(files, b"") {
-        Some(file) => define_rows(alloc, macros, file.rows.as_slice()),
+        Some(content) => {
+            let file = content.open(alloc)?;
+            define_rows(alloc, macros, file.rows.as_slice())
+        }
         None => Ok(()),
     }
 }

@@ -3,7 +3,8 @@ ghost use Rattle.std.specs.Prelude.{◌≡◌, ◌<◌, ◌++◌, OnOk, length, 
 ghost use Rattle.attr_stack.specs.Pairs.{row_pairs, file_pairs, folder_pairs, pairs_ending, pairs_of};
 ghost use Rattle.attr_stack.specs.Seen.{from_end};
 
-use crate::files::{AttrFiles, FileAt, file_of};
+use crate::files::AttrFiles;
+use crate::open_file::{OpenFile, open_file_of};
 use attr_line::{AttrFile, AttrRow, Pair};
 use std::alloc::AllocError;
 use wild_match::matches;
@@ -52,14 +53,14 @@ fn push_file<'a>(
 /// The pairs that the file of a folder gives to a path, which the folder holds under the name `inner`.
 fn push_folder<'a>(
     pending: &mut Vec<&'a Pair>,
-    files: &'a [FileAt],
+    files: &'a [OpenFile],
     folder: &[u8],
     inner: &[u8],
 ) -> Result<(), AllocError>
     ensures { OnOk result (from_end pending.new.items ≡ folder_pairs files.now folder.now inner.now
         ++ from_end pending.old.items) }
 {
-    match file_of(files, folder) {
+    match open_file_of(files, folder) {
         Some(file) => push_file(pending, file, inner),
         None => Ok(()),
     }
@@ -68,7 +69,7 @@ fn push_folder<'a>(
 /// The pairs of the folder whose name ends at a place of a path, if one does.
 fn push_ending<'a>(
     pending: &mut Vec<&'a Pair>,
-    files: &'a [FileAt],
+    files: &'a [OpenFile],
     path: &[u8],
     place: usize,
 ) -> Result<(), AllocError>
@@ -84,15 +85,16 @@ fn push_ending<'a>(
     push_folder(pending, files, folder, inner)
 }
 
-/// All pairs of a path. The last is read first.
+/// All pairs of a path, whose folders' files were opened. The last is read first.
 pub fn push_all<'a>(
     pending: &mut Vec<&'a Pair>,
     files: &'a AttrFiles,
+    folders: &'a [OpenFile],
     path: &[u8],
 ) -> Result<(), AllocError>
+    requires { folders.now ≡ files.now.files }
     ensures { OnOk result (from_end pending.new.items ≡ pairs_of files.now path.now ++ from_end pending.old.items) }
 {
-    let folders = files.files.as_slice();
     push_file(pending, &files.base, path)?;
     push_folder(pending, folders, b"", path)?;
     for place in 0..path.len() {

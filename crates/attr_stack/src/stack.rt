@@ -1,7 +1,6 @@
 //! The attribute files of a repository, for one path after another.
-ghost use Rattle.std.specs.Prelude.{◌≡◌, ◌<◌, ℕ, true, List, [], ◌∷◌, ◌++◌, IfOk, OnOk, map, reverse};
-ghost use Rattle.std.specs.Prelude.{drop, get_or, length, slice_get};
-ghost use Rattle.std.specs.Option.{option_map};
+ghost use Rattle.std.specs.Prelude.{◌≡◌, ◌<◌, ℕ, true, List, [], IfOk, OnOk, map, reverse};
+ghost use Rattle.std.specs.Prelude.{drop, get_or, length};
 ghost use Rattle.std.specs.List.{flat_map};
 ghost use Rattle.attr_stack.specs.Decided.{decision, state_of};
 ghost use Rattle.attr_stack.specs.Levels.{level_pairs, StandsIn};
@@ -10,15 +9,16 @@ ghost use Rattle.attr_stack.specs.Seen.{state_at};
 ghost use Rattle.attr_stack.specs.Search.{is_asked, Reads};
 ghost use Rattle.attr_stack.specs.Rules.{files_of, IsRules, IsStack};
 
-use crate::chain::{Chain, Level, Places, places_of};
-use crate::compiled_file::{CompiledAt, CompiledFile};
+use crate::chain::{Chain, Level};
+use crate::compiled_file::CompiledFile;
 use crate::decide::is_done;
-use crate::files::{AttrFiles, FileAt};
+use crate::files::AttrFiles;
+use crate::folders::Folders;
 use crate::macros::{Macros, macros_of};
 use crate::noted::States;
 use crate::states::states_in;
 use attr_line::{AttrState, Pair};
-use byte_path::{Bytes, Items};
+use byte_path::Bytes;
 use std::alloc::{AllocError, Global};
 use std::marker::Model;
 use wild_match::last_part;
@@ -28,29 +28,8 @@ use wild_match::last_part;
 pub struct Rules {
     pub info: CompiledFile,
     pub base: CompiledFile,
-    pub folders: Vec<CompiledAt>,
+    pub folders: Folders,
     pub macros: Macros,
-    pub places: Places,
-}
-
-/// Looks at the patterns of one folder's file.
-fn push_compiled(alloc: Global, folders: &mut Vec<CompiledAt>, at: FileAt) -> Result<(), AllocError>
-    ensures { OnOk result (folders.new.items ≡ folders.old.items ++ at ∷ []) }
-{
-    let compiled = CompiledAt::of(alloc, at)?;
-    folders.push(compiled)?;
-    Ok(())
-}
-
-fn compiled_all(alloc: Global, files: Items<FileAt>) -> Result<Vec<CompiledAt>, AllocError>
-    ensures { IfOk result (λ folders. folders.items ≡ files) }
-{
-    let files = files.into_vec();
-    let mut folders = Vec::with_capacity(alloc, files.len())?;
-    for at in files {
-        push_compiled(alloc, &mut folders, at)?;
-    }
-    Ok(folders)
 }
 
 fn rules_of(alloc: Global, files: AttrFiles) -> Result<Rules, AllocError>
@@ -58,17 +37,15 @@ fn rules_of(alloc: Global, files: AttrFiles) -> Result<Rules, AllocError>
     ensures rules { IfOk result IsRules }
 {
     let macros = macros_of(alloc, &files)?;
-    let places = places_of(alloc, files.files.as_slice())?;
     let AttrFiles { info, base, files } = files;
     let info = CompiledFile::of(alloc, info)?;
     let base = CompiledFile::of(alloc, base)?;
-    let folders = compiled_all(alloc, files)?;
+    let folders = Folders::of(alloc, files)?;
     Ok(Rules {
         info,
         base,
         folders,
         macros,
-        places,
     })
 }
 
@@ -83,46 +60,27 @@ fn behind(path: &[u8], len: usize) -> &[u8]
     inner
 }
 
-/// A path, and the files of the folders above it, of which `levels` says where they stand.
-#[derive(Clone, Copy)]
-struct Branch<'a, 'p> {
-    folders: &'a [CompiledAt],
-    levels: &'p [Level],
-    path: &'p [u8],
-}
-
-/// The file of the folder at a place.
-fn file_at(folders: &[CompiledAt], place: usize) -> Option<&CompiledFile>
-    ensures { option_map (λ f. f.now) result ≡ option_map (λ at. at.file) (slice_get folders.now place) }
-{
-    match folders.get(place) {
-        Some(at) => Some(at.file()),
-        None => None,
-    }
-}
-
 /// Notes what one file decides for a path.
 fn read_level<'a>(
     names: &[Bytes],
     states: &mut States<'a>,
     pending: &mut Vec<&'a Pair>,
-    branch: &Branch<'a, '_>,
-    level: Level,
+    level: &'a Level,
+    path: &[u8],
 ) -> Result<(), AllocError>
-    ensures { OnOk result (Reads names.now (level_pairs branch.now.folders.now branch.now.path.now level)
+    ensures { OnOk result (Reads names.now (level_pairs path.now level.now)
         states.old.decided [] states.new.decided) }
 {
-    match file_at(branch.folders, level.place) {
-        Some(file) => file.read(names, states, pending, behind(branch.path, level.start)),
-        None => Ok(()),
-    }
+    level
+        .file
+        .read(names, states, pending, behind(path, level.start))
 }
 
-fn level_at(levels: &[Level], place: usize) -> Level
+fn level_at(levels: &[Level], place: usize) -> &Level
     requires { place < length levels.now }
-    ensures { result ≡ get_or levels.now place result }
+    ensures { result.now ≡ get_or levels.now place result.now }
 {
-    levels[place]
+    &levels[place]
 }
 
 /// Notes what these files decide for a path, from the last on. It stops once all names are decided.
@@ -130,18 +88,17 @@ fn read_levels<'a>(
     names: &[Bytes],
     states: &mut States<'a>,
     pending: &mut Vec<&'a Pair>,
-    branch: &Branch<'a, '_>,
+    levels: &'a [Level],
+    path: &[u8],
 ) -> Result<(), AllocError>
-    ensures { OnOk result (Reads names.now
-        (flat_map (level_pairs branch.now.folders.now branch.now.path.now) (reverse branch.now.levels.now))
+    ensures { OnOk result (Reads names.now (flat_map (level_pairs path.now) (reverse levels.now))
         states.old.decided [] states.new.decided) }
 {
-    let levels = branch.levels;
     for place in (0..levels.len()).rev() {
         if is_done(names, states) {
             return Ok(());
         }
-        read_level(names, states, pending, branch, level_at(levels, place))?;
+        read_level(names, states, pending, level_at(levels, place), path)?;
     }
     Ok(())
 }
@@ -167,7 +124,7 @@ fn read_base<'a>(
 fn decided_of<'a>(
     alloc: Global,
     rules: &'a Rules,
-    chain: &Chain,
+    chain: &'a Chain,
     path: &[u8],
     names: &[Bytes],
 ) -> Result<States<'a>, AllocError>
@@ -179,12 +136,7 @@ fn decided_of<'a>(
     let mut states = States::new(alloc, &rules.macros)?;
     let mut pending = Vec::new(alloc);
     rules.info.read(names, &mut states, &mut pending, path)?;
-    let branch = Branch {
-        folders: &rules.folders,
-        levels: &chain.levels,
-        path,
-    };
-    read_levels(names, &mut states, &mut pending, &branch)?;
+    read_levels(names, &mut states, &mut pending, &chain.levels, path)?;
     read_base(names, &mut states, &mut pending, &rules.base, path)?;
     Ok(states)
 }
@@ -200,7 +152,8 @@ fn folder_of(path: &[u8]) -> &[u8]
 
 /// The attribute files of a repository, which contracts see as they were read.
 ///
-/// It keeps the files that reach the paths of one folder, and has looked at each pattern once.
+/// Of the folders' files only those are open that reach the paths of the folder it was asked about last. It looks at each
+/// pattern of an open file once.
 #[derive(Drop)]
 pub struct AttrStack {
     alloc: Global,
@@ -225,7 +178,7 @@ impl AttrStack {
         ensures { IfOk result (λ stack. stack ≡ files) }
     {
         let rules = rules_of(alloc, files)?;
-        let chain = Chain::of(alloc, &rules.places, b"")?;
+        let chain = Chain::of_top(alloc, &rules.folders)?;
         Ok(AttrStack {
             alloc,
             rules,
@@ -233,18 +186,17 @@ impl AttrStack {
         })
     }
 
-    /// The answer of `attributes_of` for these files. Paths may come in any order, and the fewest files are looked up
-    /// where those of one folder come together. After out of memory it gives right answers all the same.
+    /// The answer of `attributes_of` for these files. A folder's file is opened where a path in that folder follows one
+    /// outside it. So paths may come in any order, and in an index's order each file is opened once. After out of memory
+    /// it gives right answers all the same.
     pub fn states(&mut self, path: &[u8], names: &[Bytes]) -> Result<Vec<AttrState>, AllocError>
         ensures kept { self.new ≡ self.old }
         ensures states { IfOk result (λ states. states.items ≡ map (state_of self.old path.now) names.now) }
     {
         let alloc = self.alloc;
-        let rules = &self.rules;
-        let chain = &mut self.chain;
-        let folder = folder_of(path);
-        chain.enter(alloc, &rules.places, folder)?;
-        let decided = decided_of(alloc, rules, chain, path, names)?;
+        self.chain
+            .enter(alloc, &self.rules.folders, folder_of(path))?;
+        let decided = decided_of(alloc, &self.rules, &self.chain, path, names)?;
         states_in(alloc, &decided, names)
     }
 }

@@ -9,6 +9,7 @@ use crate::decide::read_pairs;
 use crate::files::AttrFiles;
 use crate::macros::{Macros, macros_of};
 use crate::noted::States;
+use crate::open_file::{OpenFile, opened};
 use crate::reach::push_all;
 use attr_line::AttrState;
 use byte_path::Bytes;
@@ -51,20 +52,33 @@ pub fn states_in(
     Ok(states)
 }
 
+/// All attribute files with their rows, and the macros.
+#[derive(Clone, Copy)]
+struct Opened<'a> {
+    files: &'a AttrFiles,
+    folders: &'a [OpenFile],
+    macros: &'a Macros,
+}
+
 /// What is decided of some names for a path.
 fn decided_of<'a>(
     alloc: Global,
-    files: &'a AttrFiles,
-    macros: &'a Macros,
+    opened: &Opened<'a>,
     path: &[u8],
     names: &[Bytes],
 ) -> Result<States<'a>, AllocError>
-    requires { AreMacros macros.now (macros_of files.now) }
+    requires folders { opened.now.folders.now ≡ opened.now.files.now.files }
+    requires macros { AreMacros opened.now.macros.now (macros_of opened.now.files.now) }
     ensures { IfOk result (λ states. (name : List ℕ) → is_asked names.now name ≡ true
-        → state_at states.decided name ≡ decision files.now path.now name) }
+        → state_at states.decided name ≡ decision opened.now.files.now path.now name) }
 {
+    let Opened {
+        files,
+        folders,
+        macros,
+    } = *opened;
     let mut pending = Vec::new(alloc);
-    push_all(&mut pending, files, path)?;
+    push_all(&mut pending, files, folders, path)?;
     let mut states = States::new(alloc, macros)?;
     read_pairs(names, &mut states, &mut pending)?;
     Ok(states)
@@ -72,8 +86,8 @@ fn decided_of<'a>(
 
 /// The state of each name for a path, in the order of the names (gitattributes(5), "DESCRIPTION").
 ///
-/// The time is that of matching each row of the files that reach the path. Each of their pairs takes a look-up among
-/// the names, among the macros, and among what is decided.
+/// It opens the files of all folders. Then the time is that of matching each row of the files that reach the path. Each
+/// of their pairs takes a look-up among the names, among the macros, and among what is decided.
 pub fn attributes_of(
     alloc: Global,
     files: &AttrFiles,
@@ -83,6 +97,12 @@ pub fn attributes_of(
     ensures { IfOk result (λ states. states.items ≡ map (state_of files.now path.now) names.now) }
 {
     let macros = macros_of(alloc, files)?;
-    let decided = decided_of(alloc, files, &macros, path, names)?;
+    let folders = opened(alloc, files.files.as_slice())?;
+    let all = Opened {
+        files,
+        folders: &folders,
+        macros: &macros,
+    };
+    let decided = decided_of(alloc, &all, path, names)?;
     states_in(alloc, &decided, names)
 }

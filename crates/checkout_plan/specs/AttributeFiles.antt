@@ -9,6 +9,7 @@ use Rattle.git_index.specs.declared.entry.Entry.{Entry}
 use Rattle.git_index.specs.declared.entry.Mode.{Mode}
 use Rattle.git_index.specs.declared.entry.Mode.TheVariants as mode
 use Rattle.attr_line.specs.declared.file.AttrFile.{AttrFile}
+use Rattle.attr_line.specs.declared.file.Skipped.{Skipped}
 use Rattle.attr_line.specs.File.{attributes_at}
 use Rattle.attr_stack.specs.declared.files.FileAt.{FileAt}
 use Rattle.attr_stack.specs.declared.files.AttrFiles.{AttrFiles}
@@ -60,8 +61,11 @@ attribute_files outer es contents = record {
 }
 
 -- how many lines of a file were skipped
+abbrev pub sum_of : Skipped → ℕ
+sum_of skipped = skipped.long + skipped.negative + skipped.name + skipped.place
+
 abbrev pub skipped_in : AttrFile → ℕ
-skipped_in file = file.skipped.long + file.skipped.negative + file.skipped.name + file.skipped.place
+skipped_in file = sum_of file.skipped
 
 abbrev pub skipped_at : FileAt → ℕ
 skipped_at at = skipped_in at.file

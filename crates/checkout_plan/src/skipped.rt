@@ -1,14 +1,14 @@
 //! How many lines of attribute files were skipped.
 ghost use Rattle.std.specs.Prelude.{◌≡◌};
-ghost use Rattle.checkout_plan.specs.AttributeFiles.{skipped_in, skipped_lines};
+ghost use Rattle.checkout_plan.specs.AttributeFiles.{sum_of, skipped_lines};
 
-use attr_line::AttrFile;
+use attr_line::Skipped;
 use attr_stack::AttrFiles;
 
-fn skipped_in(file: &AttrFile) -> u64
-    ensures { result ≡ skipped_in file.now }
+/// How many lines of one file were skipped, by its counts.
+fn sum_of(skipped: Skipped) -> u64
+    ensures { result ≡ sum_of skipped }
 {
-    let skipped = &file.skipped;
     skipped.long as u64 + skipped.negative as u64 + skipped.name as u64 + skipped.place as u64
 }
 
@@ -17,10 +17,10 @@ fn skipped_in(file: &AttrFile) -> u64
 pub fn skipped_lines(files: &AttrFiles) -> u64
     ensures { result ≡ skipped_lines files.now }
 {
-    let mut lines = skipped_in(&files.info);
+    let mut lines = sum_of(files.info.skipped);
     let folders = files.files.as_slice();
     for at in folders {
-        lines = lines.saturating_add(skipped_in(&at.file));
+        lines = lines.saturating_add(sum_of(at.file.skipped()));
     }
-    lines.saturating_add(skipped_in(&files.base))
+    lines.saturating_add(sum_of(files.base.skipped))
 }

@@ -13,7 +13,7 @@ ghost use Rattle.std.specs.List.{flat_map};
 ghost use Rattle.format_cases.specs.Drafts.{files_at, files_of};
 
 use crate::answer::answer_with;
-use attr_line::{AttrFile, read_attributes};
+use attr_line::{AttrContent, AttrFile, read_attributes};
 use attr_stack::{AttrFiles, AttrStack, FileAt, attributes_of};
 use byte_path::{Bytes, Items};
 use case_kit::push_all;
@@ -62,7 +62,8 @@ fn push_file(alloc: Global, files: &mut Vec<FileAt>, draft: &Draft) -> Result<()
         return Ok(());
     };
     let folder = Bytes::copy_of(alloc, folder.as_slice())?;
-    let file = read_attributes(alloc, &draft.text, folder.as_slice().is_empty())?;
+    let text = Bytes::copy_of(alloc, &draft.text)?;
+    let file = AttrContent::of(alloc, text, folder.as_slice().is_empty())?;
     files.push(FileAt { folder, file })?;
     Ok(())
 }

@@ -1,5 +1,5 @@
 use Rattle.std.proofs.Common.{◌≡◌, length, map, take, vec_len, vec_capacity}
-use Rattle.attr_stack.specs.Levels.{row_pattern}
+use Rattle.attr_stack.specs.Rows.{row_pattern}
 use Rattle.attr_stack.proofs.compiled_file.patterns_of.Given as goal
 
 abbrev pub invariant-loop-row : goal.invariant-loop-row

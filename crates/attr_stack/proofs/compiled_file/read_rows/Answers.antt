@@ -1,7 +1,7 @@
 use Rattle.std.proofs.Common.{◌≡◌, ℕ, ◌+◌, ◌-◌, ◌<◌, true, false, List, [], ◌++◌, length, take, reverse, get_or, sym, ◌∙◌, ap, rules, arith}
 use Rattle.std.proofs.lemmas.Bool.{OnTrue_at}
 use Rattle.wild_match.specs.Fits.{is_match}
-use Rattle.attr_stack.specs.Levels.{row_pattern, row_rule, rows_pairs}
+use Rattle.attr_stack.specs.Rows.{row_pattern, row_rule, rows_pairs}
 use Rattle.attr_stack.specs.Pairs.{row_pairs}
 use Rattle.attr_stack.specs.Search.{is_asked, Leads}
 use Rattle.attr_stack.specs.Seen.{state_at}

@@ -1,5 +1,5 @@
 use Rattle.std.proofs.Common.{take}
-use Rattle.attr_stack.specs.Levels.{rows_pairs}
+use Rattle.attr_stack.specs.Rows.{rows_pairs}
 use Rattle.attr_stack.specs.Search.{Reads}
 use Rattle.attr_stack.proofs.compiled_file.read_rows.Given as goal
 

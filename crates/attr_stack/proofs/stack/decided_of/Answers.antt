@@ -1,6 +1,5 @@
 use Rattle.std.proofs.Common.{◌≡◌, List, [], ◌++◌, length, reverse, ap, sym, subst, ◌∙◌}
 use Rattle.std.specs.List.{flat_map}
-use Rattle.attr_stack.specs.declared.files.FileAt.{FileAt}
 use Rattle.attr_stack.specs.declared.chain.Level.{Level}
 use denote.Ref.{Bor}
 use Rattle.attr_stack.specs.declared.macros.Macros.{Macros}
@@ -16,7 +15,7 @@ use Rattle.attr_stack.proofs.stack.decided_of.Goals as goal
 
 pub returns : goal.returns
 returns c = λ name asked.
-    let files = c.args.rules.now.folders.items in
+    let files = c.args.rules.now.folders in
     let path = c.args.path.now in
     let lines = macros_of (files_of c.args.rules.now) in
     let names = is_asked c.args.names.now in
@@ -27,11 +26,10 @@ returns c = λ name asked.
     let new = state_at c.read_base.new.states.decided in
     let before = pairs_before files path (length path) in
     let base = file_pairs path c.args.rules.now.base in
-    let reached : flat_map (level_pairs c.deref.result.now path) (reverse c.deref-2.result.now) ≡ pairs_before files path (length path) =
-    ap (λ (fs : List FileAt). flat_map (level_pairs fs path) (reverse c.deref-2.result.now)) c.deref.ensures.value
-    ∙ ap (λ (ls : List Level). flat_map (level_pairs files path) (reverse ls)) c.deref-2.ensures.value
+    let reached : flat_map (level_pairs path) (reverse c.deref.result.now) ≡ pairs_before files path (length path) =
+    ap (λ (ls : List Level). flat_map (level_pairs path) (reverse ls)) c.deref.ensures.value
     ∙ chain_gives files c.args.chain.now path c.requires.stack.entered c.requires.within in
-    let begun = subst (λ (macros : Bor Macros). AreMacros macros.now lines) (sym c.in_ok-states.ensures.macros) c.requires.stack.right.macros in
+    let begun = subst (λ (macros : Bor Macros). AreMacros macros.now lines) (sym c.in_ok-states.ensures.macros) c.requires.stack.right in
     let first = c.in_ok-read.ensures lines begun in
     let second = c.in_ok-read_levels.ensures lines first.0 in
     leads-decides lines names (info ++ (before ++ base)) none new name c.in_ok-states.ensures.none

@@ -18,9 +18,9 @@ loop-place-preserved c = λ lines are.
     let before = c.loop-place.invariant lines are in
     let read = c.in_ok-read_level.ensures lines before.0 in
     let names = is_asked c.args.names.now in
-    let levels = c.args.branch.now.levels.now in
-    let given = level_pairs c.args.branch.now.folders.now c.args.branch.now.path.now in
-    let level = c.level_at.result in
+    let levels = c.args.levels.now in
+    let given = level_pairs c.args.path.now in
+    let level = c.level_at.result.now in
     let i = c.loop-place.place - 1 in
     let within : i < length levels = omega (arith, c.loop-place.auto.place, c.loop-place-test.true) in
     let next : i + 1 ≡ c.loop-place.place = omega (arith, c.loop-place-test.true) in
@@ -34,8 +34,8 @@ loop-place-preserved c = λ lines are.
 pub returns : goal.returns
 returns c = λ lines are.
     let before = c.loop-place.invariant lines are in
-    let levels = c.args.branch.now.levels.now in
-    let given = level_pairs c.args.branch.now.folders.now c.args.branch.now.path.now in
+    let levels = c.args.levels.now in
+    let given = level_pairs c.args.path.now in
     let none : c.loop-place.place ≡ 0 = omega (arith, c.loop-place-test.false, c.loop-place.auto.place) in
     let turned : flat_map given (reverse (take c.loop-place.place levels)) ≡ [] = ap (λ (n : ℕ). flat_map given (reverse (take n levels))) none in
     (before.0, leads-turn lines (is_asked c.args.names.now) _ _ _ _ _ turned before.1)

@@ -6,4 +6,4 @@ use Rattle.attr_stack.proofs.stack.read_levels.Given as goal
 
 abbrev pub invariant-loop-place : goal.invariant-loop-place
 invariant-loop-place l =
-    Reads l.names (flat_map (level_pairs l.branch.folders.now l.branch.path.now) (reverse l.branch.levels.now)) l.initial.states.decided (flat_map (level_pairs l.branch.folders.now l.branch.path.now) (reverse (take l.place l.branch.levels.now))) l.states.decided
+    Reads l.names (flat_map (level_pairs l.path) (reverse l.levels)) l.initial.states.decided (flat_map (level_pairs l.path) (reverse (take l.place l.levels))) l.states.decided

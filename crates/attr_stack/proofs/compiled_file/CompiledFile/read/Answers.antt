@@ -1,6 +1,6 @@
 use Rattle.std.proofs.Common.{◌≡◌, [], List, OnOk, subst, rules}
 use Rattle.attr_line.specs.declared.file.Pair.{Pair}
-use Rattle.attr_stack.specs.Levels.{rows_pairs}
+use Rattle.attr_stack.specs.Rows.{rows_pairs}
 use Rattle.attr_stack.specs.Pairs.{file_pairs}
 use Rattle.attr_stack.specs.Search.{Reads}
 use Rattle.attr_stack.proofs.compiled_file.CompiledFile.read.Goals as goal

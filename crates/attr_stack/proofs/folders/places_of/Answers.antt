@@ -1,6 +1,6 @@
 use Rattle.std.proofs.Common.{refl, ◌∙◌}
 use Rattle.attr_stack.proofs.Chains.{rest_more, places_more}
-use Rattle.attr_stack.proofs.chain.places_of.Goals as goal
+use Rattle.attr_stack.proofs.folders.places_of.Goals as goal
 
 pub loop-at-preserved : goal.loop-at-preserved
 loop-at-preserved c =

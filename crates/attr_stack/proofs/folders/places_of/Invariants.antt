@@ -1,6 +1,6 @@
 use Rattle.std.proofs.Common.{◌≡◌, ℕ, List, length, take, drop}
 use Rattle.attr_stack.specs.Levels.{place_in, place_from}
-use Rattle.attr_stack.proofs.chain.places_of.Given as goal
+use Rattle.attr_stack.proofs.folders.places_of.Given as goal
 
 abbrev pub invariant-loop-at : goal.invariant-loop-at
 invariant-loop-at l = record {
