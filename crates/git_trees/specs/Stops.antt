@@ -16,7 +16,8 @@ use Rattle.git_trees.specs.Reading.{tree_fault}
 use Rattle.git_trees.specs.Walk.{TreesTold, IsNoWalk, IsAllTold, AllReach, Reaches}
 
 -- a folder of a tree that the walk comes to, and its content
-pub record IsInto (told : TreesTold) (limit : ℕ) (Above : List ℕ → List ℕ → Type 0) (folder content : List ℕ) : Type 0 where
+pub record IsInto (told : TreesTold) (limit : ℕ) (Above : List ℕ → List ℕ → Type 0) (folder content : List ℕ)
+    : Type 0 where
   pub outer : List ℕ
   pub above : List ℕ
   pub comes : Above outer above
@@ -42,7 +43,8 @@ pub record IsMet (told : TreesTold) (limit : ℕ) (root : List ℕ) (n : ℕ) (f
   pub member : Contains entries e
 
 -- The walk comes to a folder with this path, of whose tree `Holds` says what is told.
-pub record IsAtFolder (told : TreesTold) (bounds : WalkBounds) (root : List ℕ) (Holds : Told → Type 0) (path : List ℕ) : Type 0 where
+pub record IsAtFolder (told : TreesTold) (bounds : WalkBounds) (root : List ℕ) (Holds : Told → Type 0) (path : List ℕ)
+    : Type 0 where
   pub n : ℕ
   pub within : n < bounds.depth
   pub folder : List ℕ
@@ -133,15 +135,19 @@ IsAskStop told bytes folder fault = ⊥
 
 -- Why the folder of this entry isn't opened.
 abbrev pub IsOpenStop : TreesTold → WalkStep → List ℕ → TreeEntry → WalkFault → Type 0
-IsOpenStop told step folder e (stop.Absent path) = (0 < step.left) × (path ≡ folder ++ key e) × TellsNone (told e.object)
-IsOpenStop told step folder e (stop.TooLong path) = (0 < step.left) × (path ≡ folder ++ key e) × TellsLong (told e.object) step.bounds.bytes
-IsOpenStop told step folder e (stop.Failed path) = (0 < step.left) × (path ≡ folder ++ key e) × MayFail (told e.object)
+IsOpenStop told step folder e (stop.Absent path) =
+    (0 < step.left) × (path ≡ folder ++ key e) × TellsNone (told e.object)
+IsOpenStop told step folder e (stop.TooLong path) =
+    (0 < step.left) × (path ≡ folder ++ key e) × TellsLong (told e.object) step.bounds.bytes
+IsOpenStop told step folder e (stop.Failed path) =
+    (0 < step.left) × (path ≡ folder ++ key e) × MayFail (told e.object)
 IsOpenStop told step folder e (stop.Deep path) = (step.left ≡ 0) × (path ≡ folder ++ key e)
 IsOpenStop told step folder e stop.NoMemory = Unit {0}
 IsOpenStop told step folder e fault = ⊥
 
 -- The leaves of a folder with this content are taken after the earlier ones, and are no more than the limit.
-pub record IsReached (told : TreesTold) (step : WalkStep) (folder content : List ℕ) (old new : List Entry) : Type 0 where
+pub record IsReached (told : TreesTold) (step : WalkStep) (folder content : List ℕ) (old new : List Entry)
+    : Type 0 where
   pub entries : List TreeEntry
   pub tree : IsTree step.bounds.limit content entries
   pub more : List Entry

@@ -43,7 +43,8 @@ IsAllTold told = (name : List ℕ) → told name ≢ Untold
 abbrev pub AllReach : (List ℕ → TreeEntry → List Entry → Type 0) → List ℕ → List TreeEntry → List Entry → Type 0
 AllReach Below folder [] leaves = leaves ≡ []
 AllReach Below folder (e ∷ es) leaves =
-    (first : List Entry) × (others : List Entry) × (leaves ≡ first ++ others) × Below folder e first × AllReach Below folder es others
+    (first : List Entry) × (others : List Entry) × (leaves ≡ first ++ others)
+    × Below folder e first × AllReach Below folder es others
 
 -- an entry that is no folder is one leaf, a gitlink too; its path may be written
 pub record IsLeaf (folder : List ℕ) (e : TreeEntry) (leaves : List Entry) : Type 0 where
@@ -52,7 +53,8 @@ pub record IsLeaf (folder : List ℕ) (e : TreeEntry) (leaves : List Entry) : Ty
   pub one : leaves ≡ leaf_of folder e ∷ []
 
 -- a folder reaches what the entries of its tree reach
-pub record IsInner (told : TreesTold) (limit : ℕ) (Below : List ℕ → TreeEntry → List Entry → Type 0) (folder : List ℕ) (e : TreeEntry) (leaves : List Entry) : Type 0 where
+pub record IsInner (told : TreesTold) (limit : ℕ) (Below : List ℕ → TreeEntry → List Entry → Type 0) (folder : List ℕ)
+    (e : TreeEntry) (leaves : List Entry) : Type 0 where
   pub kind : is_folder e.mode ≡ true
   pub content : List ℕ
   pub is_told : TellsBytes (told e.object) content
@@ -85,5 +87,5 @@ OneWalk = (told : TreesTold) (limit depth : ℕ) (root : List ℕ) (xs ys : List
 
 -- The leaves of a root tree can stand in an index, if they are as few as one may have.
 abbrev pub LeavesCanStand : Type 0
-LeavesCanStand = (told : TreesTold) (limit depth : ℕ) (root : List ℕ) (leaves : List Entry) → EntriesOf told limit depth root leaves
-    → length leaves ≤ 100000 → CanStand leaves
+LeavesCanStand = (told : TreesTold) (limit depth : ℕ) (root : List ℕ) (leaves : List Entry)
+    → EntriesOf told limit depth root leaves → length leaves ≤ 100000 → CanStand leaves
