@@ -63,7 +63,7 @@ alike_rehearsals reading ordered law one seed paths a b x y =
     let second : IsTriedWell told ahead y.run y.tree = subst (λ (t : RepoTold). IsTriedWell t ahead y.run y.tree) same y.rehearsed.well in
     let all = tells_all (files seed (in_order paths)) told (scripts seed (in_order paths)) x.rehearsed.made in
     let alike = alike_words reading ordered law one told ahead None None new_memory first.tried.left new_memory second.tried.left all first.tried.checkout second.tried.checkout first.undisturbed second.undisturbed in
-    let verdicts : (x.run).verdicts.items ≡ (y.run).verdicts.items = first.tried.verdicts_are ∙ alike.verdicts ∙ sym second.tried.verdicts_are in
+    let verdicts : (x.run).verdicts.items ≡ (y.run).verdicts.items = first.tried.own.verdicts_are ∙ alike.verdicts ∙ sym second.tried.own.verdicts_are in
     let trees : x.fs ≡ y.fs =
     alike.trees x.fs y.fs (ap (λ (t : TreeSeen). t.files) (sym first.tried.tree_is) ∙ x.has) (ap (λ (t : TreeSeen). t.files) (sym second.tried.tree_is) ∙ y.has) in
     x.is ∙ ap (λ (l : List Verdict). summary paths l x.fs) verdicts ∙ ap (λ (l : List TreeFile). summary paths (y.run).verdicts.items l) trees ∙ sym y.is

@@ -17,7 +17,7 @@ use Rattle.checkout_words.specs.declared.Command.TheVariants as command
 use Rattle.writer_pool.specs.Ends.{IsRun}
 use Rattle.checkout_engine.specs.declared.begin.PlannedRun.{PlannedRun}
 use Rattle.checkout_sources.specs.declared.planning.Planned.{Planned}
-use Rattle.checkout_engine.specs.declared.rehearsing.TriedRun.{TriedRun}
+use Rattle.checkout_engine.specs.declared.end.Run.{Run}
 use Rattle.checkout_engine.specs.Begun.{IsSmallStart, PlansRun}
 use Rattle.checkout_engine.specs.Ends.{verdicts_of}
 use Rattle.checkout_sources.specs.Reading.{IsRead}
@@ -46,13 +46,13 @@ abbrev pub IsShort : Type 0
 IsShort = (starts : List Start) (workers drivers : ℕ) (history : List Event) (x : Core) → AreBelow drivers starts → IsLegal starts workers drivers history x → length history ≤ 9 * length starts
 
 -- what is handed on is the run of the checkout
-pub run_rehearsed : (seed n : ℕ) (run : TriedRun) (tree : TreeSeen) (starts : List Start) (drivers : ℕ) → IsRehearsed seed n run tree → starts ≡ starts_of run.plan.paths → drivers ≡ length run.plan.drivers
+pub run_rehearsed : (seed n : ℕ) (run : Run) (tree : TreeSeen) (starts : List Start) (drivers : ℕ) → IsRehearsed seed n run tree → starts ≡ starts_of run.plan.paths → drivers ≡ length run.plan.drivers
     → IsRehearsedRun seed n starts run.workers drivers run.history.items
 run_rehearsed seed n run tree starts drivers rehearsed starts_is drivers_is =
     let tried = rehearsed.well.tried in
     let c = tried.checkout in
-    let begins : starts ≡ starts_of (c.plan).paths = starts_is ∙ ap (λ (p : Plan). starts_of p.paths) tried.plan_is in
-    let many : drivers ≡ length (c.plan).drivers = drivers_is ∙ ap (λ (p : Plan). length p.drivers) tried.plan_is in
+    let begins : starts ≡ starts_of (c.plan).paths = starts_is ∙ ap (λ (p : Plan). starts_of p.paths) tried.own.plan_is in
+    let many : drivers ≡ length (c.plan).drivers = drivers_is ∙ ap (λ (p : Plan). length p.drivers) tried.own.plan_is in
     let vs = verdicts_of c.outcomes in
     let count : ℕ = worker_count None (c.planned).settings (c.plan).paths in
     record {
@@ -62,13 +62,13 @@ run_rehearsed seed n run tree starts drivers rehearsed starts_is drivers_is =
       checkout = c;
       undisturbed = rehearsed.well.undisturbed;
       starts_are = begins;
-      workers_are = tried.workers_are;
+      workers_are = tried.own.workers_are;
       drivers_are = many;
-      history_is = tried.history_is;
+      history_is = tried.own.history_is;
       run = subst (λ (l : List Start). IsRun l run.workers drivers run.history.items vs) (sym begins)
-          (subst (λ (k : ℕ). IsRun (starts_of (c.plan).paths) k drivers run.history.items vs) (sym tried.workers_are)
+          (subst (λ (k : ℕ). IsRun (starts_of (c.plan).paths) k drivers run.history.items vs) (sym tried.own.workers_are)
           (subst (λ (k : ℕ). IsRun (starts_of (c.plan).paths) count k run.history.items vs) (sym many)
-          (subst (λ (h : List Event). IsRun (starts_of (c.plan).paths) count (length (c.plan).drivers) h vs) (sym tried.history_is) c.run)));
+          (subst (λ (h : List Event). IsRun (starts_of (c.plan).paths) count (length (c.plan).drivers) h vs) (sym tried.own.history_is) c.run)));
     }
 
 -- a plan is small, whatever number of workers is asked for

@@ -1,36 +1,31 @@
 -- What the parts of a run promise each other about its end.
-use Rattle.std.specs.Prelude.{◌≡◌, ◌⊎◌, true, false, List, length}
+use Rattle.std.specs.Prelude.{◌≡◌, ◌⊎◌, true, false, List}
 use Rattle.std.specs.Prelude.{ℕ, Option, Some, None, Result, Ok, Err}
 use Rattle.edge_kit.specs.Faults.{Rose}
-use Rattle.edge_kit.specs.Seen.{RepoSeen, TreeSeen, SinkSeen}
-use Rattle.edge_kit.specs.Starters.{Starts}
-use Rattle.edge_kit.specs.declared.faults.SendFault.{SendFault}
-use Rattle.edge_kit.specs.declared.faults.SendFault.TheVariants as send
+use Rattle.edge_kit.specs.Seen.{RepoSeen, TreeSeen}
+use Rattle.edge_kit.specs.Starters.{Starts, SpawnerSeen}
 use Rattle.edge_kit.specs.Told.{Told, RepoTold, Tells}
-use Rattle.checkout_core.specs.declared.verdict.Verdict.{Verdict}
 use Rattle.checkout_words.specs.declared.Command.{Command}
 use Rattle.checkout_words.specs.declared.Command.TheVariants as command
-use Rattle.checkout_plan.specs.declared.path_plan.PathPlan.{PathPlan}
-use Rattle.writer_pool.specs.Ends.{IsRun}
-use Rattle.checkout_paths.specs.Workers.{starts_of}
+use Rattle.checkout_paths.specs.declared.workers.Pace.{Pace}
+use Rattle.checkout_paths.specs.Writing.{ArePathsDone, IsRunAt}
 use Rattle.checkout_sources.specs.Reading.{IsRead}
 use Rattle.checkout_sources.specs.declared.planning.Planned.{Planned}
+use Rattle.checkout_sources.specs.declared.stop.Stop.{Stop}
+use Rattle.checkout_sources.specs.declared.stop.Stop.TheVariants as stop
+use Rattle.checkout_sources.specs.Causes.{IsReadCause, IsRefusedFor, IsCutShort}
+use Rattle.checkout_engine.specs.declared.steps.PacedPlan.{PacedPlan}
+use Rattle.checkout_engine.specs.declared.end.Checkout.{Checkout}
+use Rattle.checkout_engine.specs.declared.end.Checkout.TheVariants as ends
+use Rattle.checkout_engine.specs.declared.end.Run.{Run}
 use Rattle.checkout_engine.specs.declared.halt.Halt.{Halt}
 use Rattle.checkout_engine.specs.declared.halt.Halt.TheVariants as halt
 use Rattle.checkout_engine.specs.declared.exit_status.ExitStatus.{ExitStatus}
 use Rattle.checkout_engine.specs.declared.exit_status.ExitStatus.TheVariants as status
-use Rattle.checkout_sources.specs.declared.stop.Stop.{Stop}
-use Rattle.checkout_sources.specs.declared.stop.Stop.TheVariants as stop
-use Rattle.checkout_sources.specs.Causes.{IsReadCause, IsRefusedFor, IsCutShort}
 use Rattle.checkout_engine.specs.Ends.{Seen, IsCheckedOut, IsReported, IsRefused, IsCutOff}
-use Rattle.checkout_engine.specs.Ends.{IsOutOfMemory, IsReadFault, IsNotEmpty, EndsReport, verdicts_of}
-use Rattle.checkout_engine.specs.Shown.{Refuses, EndsPlan}
+use Rattle.checkout_engine.specs.Ends.{IsOutOfMemory, IsReadFault, IsNotEmpty, verdicts_of}
+use Rattle.checkout_engine.specs.Shown.{EndsPlan}
 use Rattle.checkout_engine.specs.Rehearsed.{EndsRehearsal}
-use Rattle.checkout_engine.specs.Output.{IsCut, IsLineCut, with_text}
-use Rattle.checkout_engine.specs.Report.{report, status_of, lacks_memory}
-use Rattle.checkout_paths.specs.Writing.{ArePathsDone}
-use Rattle.checkout_paths.specs.Made.{BreaksOff}
-use Rattle.settings_view.specs.declared.view.Driver.{Driver}
 
 -- why a run stops at the worktree
 abbrev pub StopsTree : {T : Type 0} → TreeSeen → TreeSeen → Result T Halt → Type 0
@@ -56,55 +51,27 @@ StopsRun told tree tree' old new (Err (halt.Stop (stop.Refused r))) =
 StopsRun told tree tree' old new (Err (halt.Stop stop.NoMemory)) =
     (tree'.faults ≡ tree.faults) × IsCutShort told old new
 
--- how a run ends whose reading of the repository stopped, by why it stopped
-abbrev pub ReportsStop : Stop → SinkSeen → SinkSeen → ExitStatus → Type 0
-ReportsStop (stop.Refused r) old new s = Refuses r old new s
-ReportsStop stop.ReadFault old new s = (s ≡ status.ReadFault) × (new ≡ old)
-ReportsStop stop.NoMemory old new s = (s ≡ status.OutOfMemory) × (new ≡ old)
+-- how a checkout ends that stopped before it touched a file
+abbrev pub halted : Halt → Checkout
+halted halt.NotEmpty = ends.NotEmpty
+halted (halt.Stop (stop.Refused r)) = ends.Refused r
+halted (halt.Stop stop.ReadFault) = ends.ReadFault
+halted (halt.Stop stop.NoMemory) = ends.NoMemory
 
--- the same for a checkout that stopped before it touched a file
-abbrev pub ReportsHalt : Halt → SinkSeen → SinkSeen → ExitStatus → Type 0
-ReportsHalt halt.NotEmpty old new s = (s ≡ status.NotEmpty) × (new ≡ old)
-ReportsHalt (halt.Stop x) old new s = ReportsStop x old new s
+-- how many workers are asked for, and what the settings of a plan say of them
+abbrev pub pace_of : PacedPlan → Pace
+pace_of paced =
+    record { asked = paced.asked; workers = paced.planned.workers; threshold = paced.planned.threshold }
 
--- The report is written whole, and the status is that of the verdicts. Or a first part of it is
--- written: the sink failed, or memory ran out.
-abbrev pub Reports : List ℕ → List Verdict → SinkSeen → SinkSeen → ExitStatus → Type 0
-Reports text verdicts old new status.Done =
-    (status_of verdicts ≡ status.Done) × (new ≡ with_text text old)
-Reports text verdicts old new status.DoneWithFailures =
-    (status_of verdicts ≡ status.DoneWithFailures) × (new ≡ with_text text old)
-Reports text verdicts old new status.OutputNotWritten =
-    (lacks_memory verdicts ≡ false) × IsCut text old new × Rose old.faults new.faults
-Reports text verdicts old new status.OutOfMemory = EndsReport text verdicts old new
-Reports text verdicts old new s = ⊥
-
--- how the writing of open and closed paths ends, by so many workers and the desks of these drivers, and that of their
--- report
-abbrev pub ReportsPaths : (List ℕ → Starts) → (List ℕ → Told) → List PathPlan → List Driver → ℕ → Seen → Seen
-    → ExitStatus → Type 0
-ReportsPaths ahead object paths drivers workers old new s =
-    ((s ≡ status.OutOfMemory)
-    × BreaksOff paths drivers old.repo new.repo old.tree new.tree old.spawner new.spawner
-    × (new.sink ≡ old.sink) × (new.history ≡ old.history))
-    ⊎ ((verdicts : List Verdict)
-    × ArePathsDone ahead object paths drivers verdicts new.history old.repo new.repo old.tree new.tree
-    old.spawner new.spawner
-    × IsRun (starts_of paths) workers (length drivers) new.history verdicts
-    × Reports (report paths verdicts) verdicts old.sink new.sink s)
-
--- The whole text was written, or some first part of it. Where the sink didn't fail, that is whole lines.
-abbrev pub WritesLines : {T : Type 0} → List ℕ → SinkSeen → SinkSeen → Result T SendFault → Type 0
-WritesLines text old new (Ok x) = new ≡ with_text text old
-WritesLines text old new (Err send.Failed) = IsCut text old new × Rose old.faults new.faults
-WritesLines text old new (Err send.NoMemory) = IsLineCut text old new
-
--- how the writing of a text in one piece ends
-abbrev pub ShowsLines : List ℕ → SinkSeen → SinkSeen → ExitStatus → Type 0
-ShowsLines text old new status.Done = new ≡ with_text text old
-ShowsLines text old new status.OutputNotWritten = Rose old.faults new.faults × IsCut text old new
-ShowsLines text old new status.OutOfMemory = new ≡ old
-ShowsLines text old new s = ⊥
+-- The paths of a plan that was read are done, and this is their run.
+pub record IsRunOver (ahead : List ℕ → Starts) (object : List ℕ → Told) (paced : PacedPlan) (run : Run)
+    (repo repo' : RepoSeen) (tree tree' : TreeSeen) (spawner spawner' : SpawnerSeen) : Type 0 where
+  pub plan_is : run.plan ≡ paced.planned.plan
+  pub done : let plan = paced.planned.plan in
+      ArePathsDone ahead object plan.paths plan.drivers run.verdicts.items run.history.items
+      repo repo' tree tree' spawner spawner'
+  pub at_pace : let plan = paced.planned.plan in
+      IsRunAt (pace_of paced) plan.paths plan.drivers run.workers run.history.items run.verdicts.items
 
 -- a checkout that is done, with its report and its number
 abbrev pub IsDone : RepoTold → (List ℕ → Starts) → Option ℕ → Seen → Seen → ℕ → Type 0

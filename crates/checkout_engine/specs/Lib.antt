@@ -1,5 +1,7 @@
 -- what `run` promises
 pub mod Ends
+pub mod Checkout
+pub mod Said
 pub mod Headline
 pub mod Shown
 pub mod Begun

@@ -23,13 +23,14 @@ use Rattle.checkout_core.specs.declared.event.Event.{Event}
 use Rattle.checkout_core.specs.declared.path.Start.{Start}
 use Rattle.writer_pool.specs.Ends.{IsRun}
 use Rattle.checkout_report.specs.Report.{is_written, is_unfiltered, is_failed}
-use Rattle.checkout_engine.specs.declared.rehearsing.TriedRun.{TriedRun}
+use Rattle.checkout_engine.specs.declared.end.Run.{Run}
 use Rattle.checkout_engine.specs.declared.exit_status.ExitStatus.{ExitStatus}
 use Rattle.checkout_engine.specs.declared.exit_status.ExitStatus.TheVariants as status
 use Rattle.checkout_sources.specs.declared.stop.Stop.{Stop}
 use Rattle.checkout_sources.specs.declared.stop.Stop.TheVariants as stop
 use Rattle.checkout_engine.specs.Alike.{IsUndisturbed}
 use Rattle.checkout_engine.specs.Begun.{IsSmallStart}
+use Rattle.checkout_engine.specs.Checkout.{IsRunOf}
 use Rattle.checkout_engine.specs.Ends.{Seen, begun, IsCheckedOut, verdicts_of}
 use Rattle.checkout_engine.specs.Output.{IsCut, with_text}
 use Rattle.checkout_engine.specs.Report.{number_of, status_of, lacks_memory}
@@ -69,34 +70,30 @@ new_memory = begun (record { faults = 0; out = 0; returned = [] })
     (record { written = None; faults = 0 })
 
 -- A repository was checked out into an empty worktree in memory, by its drivers and as many workers as its
--- configuration says. This is its plan, its workers, its history and the verdicts of its paths, and this is left of the
--- worktree and of the spawner.
-pub record IsTried (told : RepoTold) (ahead : List ℕ → Starts) (run : TriedRun) (tree : TreeSeen)
+-- configuration says. This is its run, and this is left of the worktree and of the spawner.
+pub record IsTried (told : RepoTold) (ahead : List ℕ → Starts) (run : Run) (tree : TreeSeen)
     (spawner : SpawnerSeen) : Type 0 where
   pub left : Seen
   pub checkout : IsCheckedOut told ahead None new_memory left
-  pub plan_is : run.plan ≡ checkout.plan
-  pub workers_are : run.workers ≡ worker_count None checkout.planned.settings checkout.plan.paths
-  pub history_is : run.history.items ≡ left.history
-  pub verdicts_are : run.verdicts.items ≡ verdicts_of checkout.outcomes
+  pub own : IsRunOf checkout run
   pub tree_is : tree ≡ left.tree
   pub spawner_is : spawner ≡ left.spawner
 
 -- The same, and nothing disturbed it: no leaf and no link failed, and there was memory for each path.
-pub record IsTriedWell (told : RepoTold) (ahead : List ℕ → Starts) (run : TriedRun) (tree : TreeSeen) : Type 0 where
+pub record IsTriedWell (told : RepoTold) (ahead : List ℕ → Starts) (run : Run) (tree : TreeSeen) : Type 0 where
   pub spawner : SpawnerSeen
   pub tried : IsTried told ahead run tree spawner
   pub undisturbed : IsUndisturbed tried.checkout
 
 -- the same for the repository and the drivers of a rehearsal
-pub record IsRehearsed (seed paths : ℕ) (run : TriedRun) (tree : TreeSeen) : Type 0 where
+pub record IsRehearsed (seed paths : ℕ) (run : Run) (tree : TreeSeen) : Type 0 where
   pub told : RepoTold
   pub made : IsRepository (files seed (in_order paths)) told
   pub well : IsTriedWell told (starts_for (scripts seed (in_order paths))) run tree
 
 -- A rehearsal ended, undisturbed, and its summary is this text.
 pub record IsSummed (seed paths : ℕ) (text : List ℕ) : Type 0 where
-  pub run : TriedRun
+  pub run : Run
   pub tree : TreeSeen
   pub rehearsed : IsRehearsed seed paths run tree
   pub fs : List TreeFile

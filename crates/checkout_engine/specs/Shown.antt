@@ -13,14 +13,6 @@ use Rattle.checkout_engine.specs.Output.{IsCut, with_text}
 use Rattle.checkout_sources.specs.RefusalText.{refusal_line}
 use Rattle.plan_report.specs.Lines.{plan_lines}
 
--- How the writing of a refusal's line ends, by its status.
-abbrev pub Refuses : Refusal → SinkSeen → SinkSeen → ExitStatus → Type 0
-Refuses refusal old new status.Refused = new ≡ with_text (refusal_line refusal) old
-Refuses refusal old new status.OutputNotWritten =
-    Rose old.faults new.faults × IsCut (refusal_line refusal) old new
-Refuses refusal old new status.OutOfMemory = new ≡ old
-Refuses refusal old new s = ⊥
-
 -- The plan was read, and a first part of its text was written.
 pub record IsPlanCut (told : RepoTold) (repo repo' : RepoSeen) (sink sink' : SinkSeen) : Type 0 where
   pub plan : Plan

@@ -1,11 +1,9 @@
 //! Why a checkout stops before it touches a file, and how it ends then.
-ghost use Rattle.checkout_engine.specs.Ending.{ReportsHalt};
+ghost use Rattle.std.specs.Prelude.{◌≡◌};
+ghost use Rattle.checkout_engine.specs.Ending.{halted};
 
-use crate::exit_status::ExitStatus;
-use crate::show::stopped;
+use crate::end::Checkout;
 use checkout_sources::Stop;
-use edge_kit::Sink;
-use std::alloc::Global;
 
 /// Why a checkout stops before it touches a file.
 #[derive(Drop)]
@@ -17,11 +15,13 @@ pub(crate) enum Halt {
 }
 
 /// How a checkout ends that stopped before it touched a file.
-pub(crate) fn halted<O: Sink>(alloc: Global, out: &mut O, halt: Halt) -> ExitStatus
-    ensures { ReportsHalt halt (O.seen out.old) (O.seen out.new) result }
+pub(crate) fn halted(halt: Halt) -> Checkout
+    ensures { result ≡ halted halt }
 {
     match halt {
-        Halt::NotEmpty => ExitStatus::NotEmpty,
-        Halt::Stop(stop) => stopped(alloc, out, stop),
+        Halt::NotEmpty => Checkout::NotEmpty,
+        Halt::Stop(Stop::Refused(refusal)) => Checkout::Refused(refusal),
+        Halt::Stop(Stop::ReadFault) => Checkout::ReadFault,
+        Halt::Stop(Stop::NoMemory) => Checkout::NoMemory,
     }
 }

@@ -3,6 +3,7 @@
 
 mod begin;
 mod command;
+mod end;
 mod exit_status;
 mod halt;
 mod laws;
@@ -10,9 +11,11 @@ mod output;
 mod rehearsing;
 mod report;
 mod show;
+mod steps;
 
 pub use begin::{PlannedRun, planned_run};
 pub use command::run;
+pub use end::{Checkout, Run};
 pub use exit_status::ExitStatus;
 pub use laws::{
     a_told_repository_has_one_plan, actors_are_numbered, memory_tells_all, planned_paths_are_sized,
@@ -21,3 +24,4 @@ pub use laws::{
 };
 pub use rehearsing::{RehearsedRun, rehearsed_run};
 pub use show::plan_text;
+pub use steps::checkout;

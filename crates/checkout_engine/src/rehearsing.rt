@@ -8,37 +8,26 @@ ghost use Rattle.checkout_engine.specs.Rehearsed.{is_write_failed, is_link_faile
 ghost use Rattle.checkout_engine.specs.Rehearsed.{IsTried, IsTriedWell, IsRehearsed, IsSummed, Rehearses};
 ghost use Rattle.checkout_engine.specs.Rehearsed.{IsRehearsedRun, IsSmallRun};
 
+use crate::end::Run;
 use crate::exit_status::ExitStatus;
+use crate::output::say;
 use crate::report::{lacks_memory, status_of};
+use crate::steps::{PacedPlan, write_paths};
 use checkout_core::{Event, FailCause, Start, Verdict};
-use checkout_paths::{
-    Means, Pace, PathsDone, PlannedWork, check_out_paths, drivers_are_in_use, starts_of,
-};
-use checkout_plan::{Plan, closed_paths_have_causes};
+use checkout_paths::{Means, drivers_are_in_use, starts_of};
+use checkout_plan::closed_paths_have_causes;
 use checkout_report::{failed_count, unfiltered_count, written_count};
 use checkout_sources::{Planned, Stop, read_plan};
 use core_laws::laws;
 use edge_kit::{
-    DriverSeen, Gate, MemoryRepo, MemorySpawner, MemoryTree, Repo, SendFault, Sink, Spawner,
-    StartOutcome, StartSeen, TreeFile, Worktree,
+    DriverSeen, Gate, MemoryRepo, MemorySpawner, MemoryTree, Repo, Sink, Spawner, StartOutcome,
+    StartSeen, TreeFile, Worktree,
 };
 use git_index::{index_has_no_fault, one_reading, paths_are_ordered};
 use rehearsal::{Rehearsed, attributes_are_right, files_have_an_index, rehearse};
 use std::alloc::{AllocError, Global};
 use std::sync::Wait;
 use std::thread::Threads;
-
-/// What a checkout in memory hands on of its run.
-#[derive(Drop)]
-pub struct TriedRun {
-    pub plan: Plan,
-    /// How many workers there were.
-    pub workers: u32,
-    /// The events of all workers, in the order in which they happened.
-    pub history: Vec<Event>,
-    /// The verdict of each path.
-    pub verdicts: Vec<Verdict>,
-}
 
 /// The run of a rehearsal, as a journal tells it.
 #[derive(Drop)]
@@ -176,7 +165,7 @@ fn tried<R: Repo, T: Worktree, P: Spawner, G: Gate, H: Threads + Wait + Sync>(
     repo: &mut R,
     tree: &mut T,
     spawner: &mut P,
-) -> Result<TriedRun, AllocError>
+) -> Result<Run, AllocError>
     requires valid { IsValid (R.told repo.old) }
     requires repo { R.seen repo.old ≡ new_memory.repo }
     requires tree { T.seen tree.old ≡ new_memory.tree }
@@ -186,30 +175,12 @@ fn tried<R: Repo, T: Worktree, P: Spawner, G: Gate, H: Threads + Wait + Sync>(
 {
     paths_are_ordered();
     let planned = valid_plan(means.alloc, repo)?;
-    let pace = Pace {
+    let paced = PacedPlan {
+        planned,
         asked: None,
-        workers: planned.workers,
-        threshold: planned.threshold,
     };
-    let slice = planned.plan.paths.as_slice();
-    let drivers = planned.plan.drivers.as_slice();
-    let work = PlannedWork {
-        paths: slice,
-        drivers,
-        pace,
-    };
-    let done = check_out_paths(means, repo, tree, spawner, &work)?;
-    let PathsDone {
-        history,
-        verdicts,
-        workers,
-    } = done;
-    Ok(TriedRun {
-        plan: planned.plan,
-        workers,
-        history,
-        verdicts,
-    })
+    let run = write_paths(means, repo, tree, spawner, paced)?;
+    Ok(run)
 }
 
 /// Checks out what a rehearsal is made of into an empty worktree in memory: its run, and that worktree. What disturbed
@@ -217,7 +188,7 @@ fn tried<R: Repo, T: Worktree, P: Spawner, G: Gate, H: Threads + Wait + Sync>(
 fn checked_out<G: Gate, H: Threads + Wait + Sync>(
     means: &Means<'_, G, H>,
     mut made: Rehearsed,
-) -> Result<(TriedRun, MemoryTree), AllocError>
+) -> Result<(Run, MemoryTree), AllocError>
     requires valid { IsValid (⟦<MemoryRepo as Repo>⟧.told made.repo) }
     requires repo { ⟦<MemoryRepo as Repo>⟧.seen made.repo ≡ new_memory.repo }
     requires spawner { ⟦<MemorySpawner as Spawner>⟧.seen made.spawner ≡ new_memory.spawner }
@@ -238,7 +209,7 @@ fn rehearsed<G: Gate, H: Threads + Wait + Sync>(
     means: &Means<'_, G, H>,
     seed: u64,
     paths: u32,
-) -> Result<(TriedRun, MemoryTree), AllocError>
+) -> Result<(Run, MemoryTree), AllocError>
     requires { paths ≤ 99999 }
     ensures { IfOk result (λ r. IsRehearsed seed paths r.0 (⟦<MemoryTree as Worktree>⟧.seen r.1)) }
 {
@@ -306,9 +277,5 @@ pub fn show_rehearsal<G: Gate, O: Sink, H: Threads + Wait + Sync>(
     let Ok(text) = rehearsal_summary(means, seed, paths) else {
         return ExitStatus::OutOfMemory;
     };
-    match out.write(text.as_bytes()) {
-        Ok(()) => ExitStatus::Done,
-        Err(SendFault::Failed) => ExitStatus::OutputNotWritten,
-        Err(SendFault::NoMemory) => ExitStatus::OutOfMemory,
-    }
+    say(out, text.as_bytes(), ExitStatus::Done)
 }

@@ -224,7 +224,7 @@ lines_right indexed right reading spells law one seed paths text few x =
     } in
     let sums = all_add_up right spells law one seed is told c.talks left.history c.outcomes g in
     let vs = verdicts_of c.outcomes in
-    let verdicts : (x.run).verdicts.items ≡ vs = (well.tried).verdicts_are in
+    let verdicts : (x.run).verdicts.items ≡ vs = (well.tried).own.verdicts_are in
     let trees : x.fs ≡ files_of c.outcomes =
     tells left.tree.files x.fs (files_of c.outcomes) (ap (λ (t : TreeSeen). t.files) (sym (well.tried).tree_is) ∙ x.has) c.files in
     let failed : count_by report.is_failed vs ≡ counted (path_is_failed seed) paths = sums.failed ∙ any_order (path_is_failed seed) paths in

@@ -3,7 +3,7 @@ use Rattle.edge_kit.specs.MemoryDrivers.{starts_for}
 use Rattle.edge_kit.specs.Seen.{TreeSeen}
 use Rattle.edge_kit.specs.Told.{RepoTold}
 use Rattle.edge_kit.specs.declared.script.DriverScript.{DriverScript}
-use Rattle.checkout_engine.specs.declared.rehearsing.TriedRun.{TriedRun}
+use Rattle.checkout_engine.specs.declared.end.Run.{Run}
 use Rattle.rehearsal.specs.Drivers.{scripts}
 use Rattle.rehearsal.specs.Paths.{in_order}
 use Rattle.rehearsal.specs.Repository.{files, IsRepository}
@@ -15,7 +15,7 @@ pub checked_out-requires-clause-valid : goal.checked_out-requires-clause-valid
 checked_out-requires-clause-valid g c κs within =
     valid c.files_have_an_index.ensures c.attributes_are_right.ensures c.args.seed c.args.paths c.requires _ c.in_ok-made.ensures.repo
 
-as_made : (seed paths : ℕ) (told : RepoTold) (made : List DriverScript) (run : TriedRun) (tree : TreeSeen)
+as_made : (seed paths : ℕ) (told : RepoTold) (made : List DriverScript) (run : Run) (tree : TreeSeen)
     → IsRepository (files seed (in_order paths)) told → made ≡ scripts seed (in_order paths)
     → IsTriedWell told (starts_for made) run tree → IsRehearsed seed paths run tree
 as_made seed paths told made run tree repo same tried = record {

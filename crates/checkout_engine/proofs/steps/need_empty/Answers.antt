@@ -1,6 +1,6 @@
 use Rattle.std.proofs.Common.{Bool, subst}
 use Rattle.edge_kit.specs.Told.{Tells}
-use Rattle.checkout_engine.proofs.command.need_empty.Goals as goal
+use Rattle.checkout_engine.proofs.steps.need_empty.Goals as goal
 
 pub returns-in-Ok-false-clause-no_file : goal.returns-in-Ok-false-clause-no_file
 returns-in-Ok-false-clause-no_file g c = tt
