@@ -18,9 +18,11 @@ use Rattle.attr_line.specs.declared.state.AttrState.{AttrState}
 use Rattle.attr_line.specs.declared.file.Pair.{Pair}
 use Rattle.attr_stack.specs.declared.macros.Body.{Body}
 use Rattle.attr_stack.specs.declared.macros.Macros.{Macros}
+use Rattle.attr_stack.specs.declared.linked_macros.LinkedMacros.{LinkedMacros}
 use Rattle.attr_stack.specs.declared.noted.Decided.{Decided}
 use Rattle.attr_stack.specs.Macros.{MacroLine, meaning}
-use Rattle.attr_stack.specs.Seen.{with_state, other_at, numbered, number_from, number_at, body_pairs, number_pairs, AreMacros, marked, mark_at, said_by, state_at}
+use Rattle.attr_stack.specs.Numbers.{numbered, number_from, number_at, body_pairs, number_pairs, AreMacros}
+use Rattle.attr_stack.specs.Seen.{with_state, other_at, marked, mark_at, said_by, state_at}
 
 -- the pairs of a body, if it has this name
 abbrev pub named_pairs : List ℕ → Option Body → List Pair
@@ -151,7 +153,7 @@ none-marked zero (suc marks) other none = refl
 none-marked (suc n) (suc marks) other none = none-marked n marks other none
 
 pub nothing-noted : (states : Decided) (marks : ℕ) → states.marks.items ≡ replicate marks None → states.others.entries ≡ [] → (name : List ℕ) → state_at states name ≡ None
-nothing-noted states marks clear empty name = at (number_at states.macros.now name)
+nothing-noted states marks clear empty name = at (number_at states.macros.now.macros name)
   where
     none : other_at states.others name ≡ None
     none = ap (λ entries. option_map (λ (s : Bor AttrState). s.now) (lookup (tree.is_at (λ (key : Bor (List ℕ)). slice_cmp nat_cmp name key.now)) entries)) empty
@@ -209,16 +211,16 @@ set-here (y ∷ xs) zero x within = refl
 set-here (y ∷ xs) (suc n) x within = set-here xs n x (omega (arith, within))
 
 -- the state of a macro, at its mark
-pub put-marked : (old new : Decided) (pair : Pair) (n : ℕ) (state : Bor AttrState) → number_at old.macros.now pair.name ≡ Some n → n < length old.marks.items
+pub put-marked : (old new : Decided) (pair : Pair) (n : ℕ) (state : Bor AttrState) → number_at old.macros.now.macros pair.name ≡ Some n → n < length old.marks.items
     → new.macros ≡ old.macros → new.marks.items ≡ set old.marks.items n (Some state) → new.others ≡ old.others → state.now ≡ pair.state
     → (name : List ℕ) → state_at new name ≡ with_state pair (state_at old) name
 put-marked old new pair n state is within macros marks others says name =
-    ap (λ (m : Bor Macros). said_by new name (number_at m.now name)) macros ∙ at (bytes_eq pair.name name) refl (number_at old.macros.now name) refl
+    ap (λ (m : Bor LinkedMacros). said_by new name (number_at m.now.macros name)) macros ∙ at (bytes_eq pair.name name) refl (number_at old.macros.now.macros name) refl
   where
-    at : (b : Bool) → b ≡ bytes_eq pair.name name → (number : Option ℕ) → number ≡ number_at old.macros.now name → said_by new name number ≡ cond b (Some pair.state) (said_by old name number)
+    at : (b : Bool) → b ≡ bytes_eq pair.name name → (number : Option ℕ) → number ≡ number_at old.macros.now.macros name → said_by new name number ≡ cond b (Some pair.state) (said_by old name number)
     at true same number here =
         let one : pair.name ≡ name = (bytes_eq-Decides pair.name name).0 (sym same) in
-        ap (λ (k : Option ℕ). said_by new name k) (here ∙ ap (number_at old.macros.now) (sym one) ∙ is)
+        ap (λ (k : Option ℕ). said_by new name k) (here ∙ ap (number_at old.macros.now.macros) (sym one) ∙ is)
         ∙ ap (λ (ms : List (Option (Bor AttrState))). marked (slice_get ms n) (other_at new.others name)) marks
         ∙ ap (λ (mark : Option (Option (Bor AttrState))). marked mark (other_at new.others name)) (set-here old.marks.items n (Some state) within)
         ∙ ap Some says
@@ -231,21 +233,26 @@ put-marked old new pair n state is within macros marks others says name =
         by : (n ≡ m) ⊎ (slice_get (set old.marks.items n (Some state)) m ≡ slice_get old.marks.items m)
             → marked (slice_get (set old.marks.items n (Some state)) m) (other_at old.others name) ≡ marked (slice_get old.marks.items m) (other_at old.others name)
         by (inr kept) = ap (λ (mark : Option (Option (Bor AttrState))). marked mark (other_at old.others name)) kept
-        by (inl one) = absurd (let no : true ≡ false = sym ((bytes_eq-Decides pair.name name).1 (one-name old.macros.now pair.name name n is (sym here ∙ ap Some (sym one)))) ∙ sym differ in cc)
+        by (inl one) = absurd (let no : true ≡ false = sym ((bytes_eq-Decides pair.name name).1 (one-name old.macros.now.macros pair.name name n is (sym here ∙ ap Some (sym one)))) ∙ sym differ in cc)
 
 -- the state of a name that has no mark
-pub put-other : (old new : Decided) (pair : Pair) → mark_at old.marks.items (number_at old.macros.now pair.name) ≡ None
+pub put-other : (old new : Decided) (pair : Pair) → mark_at old.marks.items (number_at old.macros.now.macros pair.name) ≡ None
     → new.macros ≡ old.macros → new.marks.items ≡ old.marks.items → ((name : List ℕ) → other_at new.others name ≡ with_state pair (other_at old.others) name)
     → (name : List ℕ) → state_at new name ≡ with_state pair (state_at old) name
 put-other old new pair unmarked macros marks puts name =
-    ap (λ (m : Bor Macros). said_by new name (number_at m.now name)) macros
-    ∙ ap (λ (ms : List (Option (Bor AttrState))). marked (mark_at ms (number_at old.macros.now name)) (other_at new.others name)) marks
-    ∙ ap (marked (mark_at old.marks.items (number_at old.macros.now name))) (puts name) ∙ at (bytes_eq pair.name name) refl
+    ap (λ (m : Bor LinkedMacros). said_by new name (number_at m.now.macros name)) macros
+    ∙ ap (λ (ms : List (Option (Bor AttrState))). marked (mark_at ms (number_at old.macros.now.macros name)) (other_at new.others name)) marks
+    ∙ ap (marked (mark_at old.marks.items (number_at old.macros.now.macros name))) (puts name) ∙ at (bytes_eq pair.name name) refl
   where
-    at : (b : Bool) → b ≡ bytes_eq pair.name name → marked (mark_at old.marks.items (number_at old.macros.now name)) (cond b (Some pair.state) (other_at old.others name))
-        ≡ cond b (Some pair.state) (said_by old name (number_at old.macros.now name))
+    at : (b : Bool) → b ≡ bytes_eq pair.name name → marked (mark_at old.marks.items (number_at old.macros.now.macros name)) (cond b (Some pair.state) (other_at old.others name))
+        ≡ cond b (Some pair.state) (said_by old name (number_at old.macros.now.macros name))
     at true same =
-        let none : mark_at old.marks.items (number_at old.macros.now name) ≡ None =
-        ap (λ (q : List ℕ). mark_at old.marks.items (number_at old.macros.now q)) (sym ((bytes_eq-Decides pair.name name).0 (sym same))) ∙ unmarked in
+        let none : mark_at old.marks.items (number_at old.macros.now.macros name) ≡ None =
+        ap (λ (q : List ℕ). mark_at old.marks.items (number_at old.macros.now.macros q)) (sym ((bytes_eq-Decides pair.name name).0 (sym same))) ∙ unmarked in
         ap (λ (mark : Option (Option (Bor AttrState))). marked mark (Some pair.state)) none
     at false differ = refl
+
+-- a name whose mark is set is known
+pub marked-known : (states : Decided) (name : List ℕ) (number : Option ℕ) → number ≡ number_at states.macros.now.macros name
+    → ((other : List ℕ) → is_some (said_by states other number) ≡ true) → is_some (state_at states name) ≡ true
+marked-known states name number is marked = ap (λ (k : Option ℕ). is_some (said_by states name k)) (sym is) ∙ marked name

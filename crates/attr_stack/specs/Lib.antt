@@ -1,6 +1,8 @@
 pub mod Decided
 pub mod Levels
+pub mod Links
 pub mod Macros
+pub mod Numbers
 pub mod Pairs
 pub mod Rows
 pub mod Rules

@@ -7,7 +7,8 @@ use Rattle.attr_line.specs.declared.file.Pair.{Pair}
 use Rattle.attr_stack.specs.declared.noted.Decided.{Decided as Kept}
 use Rattle.attr_stack.specs.Macros.{MacroLine}
 use Rattle.attr_stack.specs.Decided.{Names, decided, said_of}
-use Rattle.attr_stack.specs.Seen.{AreMacros, state_at}
+use Rattle.attr_stack.specs.Numbers.{AreMacros}
+use Rattle.attr_stack.specs.Seen.{state_at}
 
 -- what is decided of each name so far
 abbrev pub Noted : Type 0
@@ -37,5 +38,5 @@ Leads lines asked pairs old left new = (rest : List Pair) (name : List ℕ) → 
 
 -- the same for what the code keeps, whose macros stay as they mean
 abbrev pub Reads : List (List ℕ) → List Pair → Kept → List Pair → Kept → Type 0
-Reads names pairs old left new = (lines : List MacroLine) → AreMacros old.macros.now lines
-    → AreMacros new.macros.now lines × Leads lines (is_asked names) pairs (state_at old) left (state_at new)
+Reads names pairs old left new = (lines : List MacroLine) → AreMacros old.macros.now.macros lines
+    → AreMacros new.macros.now.macros lines × Leads lines (is_asked names) pairs (state_at old) left (state_at new)

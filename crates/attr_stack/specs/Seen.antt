@@ -1,5 +1,5 @@
 -- What the lists and maps of the code say.
-use Rattle.std.specs.Prelude.{◌≡◌, ℕ, Bool, true, false, List, [], map, reverse, Option, Some, None, is_some, slice_get, if◌then◌else◌}
+use Rattle.std.specs.Prelude.{◌≡◌, ℕ, Bool, true, false, List, map, reverse, Option, Some, None, is_some, slice_get, if◌then◌else◌}
 use Rattle.std.specs.List.{All}
 use Rattle.std.specs.Option.{option_map, unwrap_or, ForSome}
 use Rattle.std.specs.Cmp.Lexicographic.{slice_cmp}
@@ -7,15 +7,12 @@ use Rattle.std.specs.Ordering.{nat_cmp}
 use Rattle.std.specs.BTreeMap as tree
 use Rattle.std.specs.BTreeMap.{BTreeMap}
 use Rattle.std.specs.Str.{bytes_eq}
-use Rattle.std.specs.Global.{Vec}
 use denote.Ref.{Bor}
 use Rattle.attr_line.specs.declared.state.AttrState.{AttrState}
 use Rattle.attr_line.specs.declared.state.AttrState.TheVariants.{Unspecified}
 use Rattle.attr_line.specs.declared.file.Pair.{Pair}
-use Rattle.attr_stack.specs.declared.macros.Body.{Body}
-use Rattle.attr_stack.specs.declared.macros.Macros.{Macros}
 use Rattle.attr_stack.specs.declared.noted.Decided.{Decided}
-use Rattle.attr_stack.specs.Macros.{MacroLine, meaning}
+use Rattle.attr_stack.specs.Numbers.{number_at}
 
 -- pairs that are read from the end of a list
 abbrev pub from_end : List (Bor Pair) → List Pair
@@ -26,37 +23,6 @@ abbrev pub other_at : BTreeMap (Bor (List ℕ)) (Bor AttrState) → List ℕ →
 other_at others name =
     option_map (λ (state : Bor AttrState). state.now)
     (tree.get_by (λ (key : Bor (List ℕ)). slice_cmp nat_cmp name key.now) others)
-
--- the number of a body with this name
-abbrev pub numbered : List ℕ → ℕ → Option Body → Option ℕ
-numbered name number None = None
-numbered name number (Some body) = if bytes_eq body.name name then Some number else None
-
-abbrev pub number_from : Macros → List ℕ → Option ℕ → Option ℕ
-number_from macros name None = None
-number_from macros name (Some number) = numbered name number (slice_get macros.bodies.items number)
-
--- the number of a macro: the place of its body, which has its name
-abbrev pub number_at : Macros → List ℕ → Option ℕ
-number_at macros name =
-    number_from macros name (tree.get_by (λ (key : Vec ℕ). slice_cmp nat_cmp name key.items) macros.numbers)
-
-abbrev pub body_pairs : Option Body → List Pair
-body_pairs None = []
-body_pairs (Some body) = body.pairs
-
--- the pairs of the macro with a number
-abbrev pub number_pairs : Macros → Option ℕ → List Pair
-number_pairs macros None = []
-number_pairs macros (Some number) = body_pairs (slice_get macros.bodies.items number)
-
--- the pairs of a macro, and none for another name
-abbrev pub pairs_at : Macros → List ℕ → List Pair
-pairs_at macros name = number_pairs macros (number_at macros name)
-
--- these macros give each name the meaning that these lines give it
-abbrev pub AreMacros : Macros → List MacroLine → Type 0
-AreMacros macros lines = (name : List ℕ) → pairs_at macros name ≡ meaning lines name
 
 -- what a mark says, if there is one
 abbrev pub marked : Option (Option (Bor AttrState)) → Option AttrState → Option AttrState
@@ -73,7 +39,7 @@ said_by states name number = marked (mark_at states.marks.items number) (other_a
 
 -- what is decided of a name: at the number of a macro, and of another name in the map
 abbrev pub state_at : Decided → List ℕ → Option AttrState
-state_at states name = said_by states name (number_at states.macros.now name)
+state_at states name = said_by states name (number_at states.macros.now.macros name)
 
 -- something is decided of each name that stands at one of these places
 abbrev pub AreKnown : List (Option (Bor (List ℕ))) → Decided → Type 0

@@ -8,6 +8,7 @@ ghost use Rattle.attr_stack.specs.Search.{Reads};
 ghost use Rattle.attr_stack.specs.Seen.{state_at};
 
 use crate::decide::{is_done, read_rule};
+use crate::linked_macros::Frame;
 use crate::noted::States;
 use attr_line::{AttrFile, AttrRow, Pair};
 use byte_path::Bytes;
@@ -50,7 +51,7 @@ fn patterns_of(alloc: Global, rows: &[AttrRow]) -> Result<Vec<Compiled>, AllocEr
 fn read_row<'a>(
     names: &[Bytes],
     states: &mut States<'a>,
-    pending: &mut Vec<&'a Pair>,
+    frames: &mut Vec<Frame>,
     row: &'a AttrRow,
 ) -> Result<bool, AllocError>
     ensures states { IfOk result (λ done. Reads names.now (reverse (row_rule row.now))
@@ -58,7 +59,7 @@ fn read_row<'a>(
     ensures done { IfOk result (λ done. OnTrue done
         (list_all (λ name. is_some (state_at states.new.decided name)) names.now ≡ true)) }
 {
-    read_rule(names, states, pending, row_rule(row))?;
+    read_rule(names, states, frames, row_rule(row))?;
     Ok(is_done(names, states))
 }
 
@@ -74,7 +75,7 @@ struct CompiledRows<'a> {
 fn read_rows<'a>(
     names: &[Bytes],
     states: &mut States<'a>,
-    pending: &mut Vec<&'a Pair>,
+    frames: &mut Vec<Frame>,
     compiled: &CompiledRows<'a>,
     path: &[u8],
 ) -> Result<(), AllocError>
@@ -88,7 +89,7 @@ fn read_rows<'a>(
         if !patterns[place].matches_named(path, name) {
             continue;
         }
-        if read_row(names, states, pending, &rows[place])? {
+        if read_row(names, states, frames, &rows[place])? {
             return Ok(());
         }
     }
@@ -128,7 +129,7 @@ impl CompiledFile {
         &'a self,
         names: &[Bytes],
         states: &mut States<'a>,
-        pending: &mut Vec<&'a Pair>,
+        frames: &mut Vec<Frame>,
         path: &[u8],
     ) -> Result<(), AllocError>
         ensures { OnOk result (Reads names.now (file_pairs path.now self.now)
@@ -137,6 +138,6 @@ impl CompiledFile {
         let rows = self.file.rows.as_slice();
         let patterns = &self.patterns;
         let compiled = CompiledRows { rows, patterns };
-        read_rows(names, states, pending, &compiled, path)
+        read_rows(names, states, frames, &compiled, path)
     }
 }

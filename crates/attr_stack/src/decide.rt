@@ -1,32 +1,36 @@
 //! Which pair decides each attribute that is asked for.
 ghost use Rattle.std.specs.Bool.{OnTrue};
-ghost use Rattle.std.specs.Prelude.{◌≡◌, true, ◌||◌, [], ◌++◌, List, OnOk, is_some, reverse};
+ghost use Rattle.std.specs.Prelude.{◌≡◌, true, ◌||◌, [], ◌∷◌, ◌++◌, ◌+◌, ◌≤◌, List, OnOk};
+ghost use Rattle.std.specs.Prelude.{is_some, length, reverse};
 ghost use Rattle.std.specs.List.{list_all};
 ghost use Rattle.attr_stack.specs.Macros.{MacroLine};
 ghost use Rattle.attr_stack.specs.Decided.{body_of};
-ghost use Rattle.attr_stack.specs.Seen.{from_end, number_at, state_at, AreMacros};
+ghost use Rattle.attr_stack.specs.Links.{left_of};
+ghost use Rattle.attr_stack.specs.Numbers.{number_at, AreMacros};
+ghost use Rattle.attr_stack.specs.Seen.{from_end, state_at};
 ghost use Rattle.attr_stack.specs.Search.{is_asked, Reads};
 
-use crate::macros::{Macros, meaning_of, number_of};
+use crate::linked_macros::{Frame, LinkedMacros, push_frame};
 use crate::noted::States;
-use crate::reach::push_pairs;
 use attr_line::{AttrState, Pair};
 use byte_path::Bytes;
 use std::alloc::AllocError;
 
-/// What is read at the point of a pair that decides.
-fn push_body<'a>(
-    pending: &mut Vec<&'a Pair>,
-    macros: &'a Macros,
+/// Enters the macro that a pair sets, if it sets one.
+fn enter(
+    frames: &mut Vec<Frame>,
+    macros: &LinkedMacros,
     pair: &Pair,
     number: Option<usize>,
 ) -> Result<(), AllocError>
-    requires { number ≡ number_at macros.now pair.now.name }
-    ensures { OnOk result ((lines : List MacroLine) → AreMacros macros.now lines
-        → from_end pending.new.items ≡ body_of lines pair.now ++ from_end pending.old.items) }
+    requires { number ≡ number_at macros.now.macros pair.now.name }
+    ensures len { OnOk result (length frames.new.items ≤ length frames.old.items + 1) }
+    ensures left { OnOk result ((lines : List MacroLine) → AreMacros macros.now.macros lines
+        → left_of macros.now.macros frames.new.items
+        ≡ body_of lines pair.now ++ left_of macros.now.macros frames.old.items) }
 {
     match &pair.state {
-        AttrState::Set => push_pairs(pending, meaning_of(macros, number)),
+        AttrState::Set => push_frame(frames, macros, number),
         _ => Ok(()),
     }
 }
@@ -45,44 +49,92 @@ fn is_needed(names: &[Bytes], number: Option<usize>, name: &[u8]) -> bool
     number.is_some() || is_asked(names, name)
 }
 
-/// Notes what these pairs decide, of which the last is read first. None is left.
-pub fn read_pairs<'a>(
+/// Notes what is left of these macros, of which the last is read first. Nothing is left.
+///
+/// A pair of a macro that is decided costs two look-ups by number.
+fn read_macros<'a>(
     names: &[Bytes],
     states: &mut States<'a>,
-    pending: &mut Vec<&'a Pair>,
+    frames: &mut Vec<Frame>,
 ) -> Result<(), AllocError>
-    ensures { OnOk result (Reads names.now (from_end pending.old.items)
+    ensures { OnOk result (Reads names.now (left_of states.old.decided.macros.now.macros frames.old.items)
         states.old.decided [] states.new.decided) }
 {
     let macros = states.decided.macros;
-    'reading: while let Some(pair) = pending.pop() {
-        let name = pair.name.as_slice();
-        if states.is_recent(name) {
+    'reading: while let Some(frame) = frames.pop() {
+        let Some(last) = macros.last_of(frame) else {
+            continue;
+        };
+        frames.push(last.rest)?;
+        if states.is_marked(last.number) {
             continue;
         }
-        let number = number_of(macros, name);
-        if !is_needed(names, number, name) {
+        if !is_needed(names, last.number, last.pair.name.as_slice()) {
             continue;
         }
-        if states.note(pair, number)? {
-            push_body(pending, macros, pair, number)?;
+        if states.note(last.pair, last.number)? {
+            enter(frames, macros, last.pair, last.number)?;
         }
     }
     Ok(())
 }
 
-/// Notes what the pairs of a rule decide. They wait in `pending`, whose room serves one rule after another.
+/// Notes what a pair decides, and the macro that it sets. That is read in `frames`, whose room serves one pair after
+/// another.
+fn read_pair<'a>(
+    names: &[Bytes],
+    states: &mut States<'a>,
+    frames: &mut Vec<Frame>,
+    pair: &'a Pair,
+) -> Result<(), AllocError>
+    ensures { OnOk result (Reads names.now (pair.now ∷ []) states.old.decided [] states.new.decided) }
+{
+    let name = pair.name.as_slice();
+    if states.is_recent(name) {
+        return Ok(());
+    }
+    let macros = states.decided.macros;
+    let number = macros.number_of(name);
+    if !is_needed(names, number, name) {
+        return Ok(());
+    }
+    if states.note(pair, number)? {
+        frames.clear();
+        enter(frames, macros, pair, number)?;
+        read_macros(names, states, frames)?;
+    }
+    Ok(())
+}
+
+/// Notes what these pairs decide, of which the last is read first. None is left.
+pub fn read_pairs<'a>(
+    names: &[Bytes],
+    states: &mut States<'a>,
+    frames: &mut Vec<Frame>,
+    pending: &mut Vec<&'a Pair>,
+) -> Result<(), AllocError>
+    ensures { OnOk result (Reads names.now (from_end pending.old.items)
+        states.old.decided [] states.new.decided) }
+{
+    'reading: while let Some(pair) = pending.pop() {
+        read_pair(names, states, frames, pair)?;
+    }
+    Ok(())
+}
+
+/// Notes what the pairs of a rule decide, from the last on.
 pub fn read_rule<'a>(
     names: &[Bytes],
     states: &mut States<'a>,
-    pending: &mut Vec<&'a Pair>,
+    frames: &mut Vec<Frame>,
     pairs: &'a [Pair],
 ) -> Result<(), AllocError>
     ensures { OnOk result (Reads names.now (reverse pairs.now) states.old.decided [] states.new.decided) }
 {
-    pending.clear();
-    push_pairs(pending, pairs)?;
-    read_pairs(names, states, pending)
+    for place in (0..pairs.len()).rev() {
+        read_pair(names, states, frames, &pairs[place])?;
+    }
+    Ok(())
 }
 
 /// Whether something is decided of each of these names.

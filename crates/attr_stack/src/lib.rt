@@ -7,6 +7,7 @@ mod decide;
 mod files;
 mod folders;
 mod laws;
+mod linked_macros;
 mod macros;
 mod noted;
 mod open_file;

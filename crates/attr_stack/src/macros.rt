@@ -1,7 +1,7 @@
 //! The macros of the top files.
 ghost use Rattle.std.specs.Prelude.{◌≡◌, ◌∷◌, ◌++◌, List, IfOk, OnOk};
 ghost use Rattle.attr_stack.specs.Macros.{MacroLine, unset, binary, row_macros, file_macros, top_macros, macros_of};
-ghost use Rattle.attr_stack.specs.Seen.{number_at, number_pairs, AreMacros};
+ghost use Rattle.attr_stack.specs.Numbers.{number_at, number_pairs, AreMacros};
 
 use crate::files::{AttrFiles, FileAt, file_of};
 use crate::states::copy_of;

@@ -4,9 +4,10 @@ ghost use Rattle.std.specs.Prelude.{◌≡◌, ◌<◌, ℕ, true, List, None, S
 ghost use Rattle.std.specs.Prelude.{IfOk, OnOk, MatchOption, is_some, length, set};
 ghost use Rattle.std.specs.Option.{option_map};
 ghost use Rattle.attr_stack.specs.declared.noted.Decided.{Decided};
-ghost use Rattle.attr_stack.specs.Seen.{mark_at, number_at, other_at, said_by, state_at, with_state, AreKnown, Notes};
+ghost use Rattle.attr_stack.specs.Numbers.{number_at};
+ghost use Rattle.attr_stack.specs.Seen.{mark_at, other_at, said_by, state_at, with_state, AreKnown, Notes};
 
-use crate::macros::{Macros, number_of};
+use crate::linked_macros::LinkedMacros;
 use attr_line::{AttrState, Pair};
 use std::alloc::{AllocError, Global};
 use std::collections::BTreeMap;
@@ -17,7 +18,7 @@ pub type Others<'a> = BTreeMap<&'a [u8], &'a AttrState>;
 /// What is decided so far: of a macro at its number, and of another name that is asked for by its bytes.
 #[derive(Drop)]
 pub struct Decided<'a> {
-    pub macros: &'a Macros,
+    pub macros: &'a LinkedMacros,
     pub marks: Vec<Option<&'a AttrState>>,
     pub others: Others<'a>,
 }
@@ -67,7 +68,20 @@ impl<'a> Decided<'a> {
     fn get(&self, name: &[u8]) -> Option<&'a AttrState>
         ensures { option_map (λ s. s.now) result ≡ state_at self.now name.now }
     {
-        self.at(number_of(self.macros, name), name)
+        self.at(self.macros.number_of(name), name)
+    }
+
+    /// Whether something is decided of the macro with this number, if there is one.
+    fn is_marked(&self, number: Option<usize>) -> bool
+        ensures { OnTrue result ((name : List ℕ) → is_some (said_by self.now name number) ≡ true) }
+    {
+        let Some(number) = number else {
+            return false;
+        };
+        match self.marks.get(number) {
+            Some(mark) => mark.is_some(),
+            None => false,
+        }
     }
 
     /// The place of the mark of a macro with this number.
@@ -85,7 +99,7 @@ impl<'a> Decided<'a> {
 
     /// Adds what a pair says, whose name has this number if it is a macro.
     fn put(&mut self, pair: &'a Pair, number: Option<usize>) -> Result<(), AllocError>
-        requires { number ≡ number_at self.old.macros.now pair.now.name }
+        requires { number ≡ number_at self.old.macros.now.macros pair.now.name }
         ensures macros { self.new.macros ≡ self.old.macros }
         ensures state { OnOk result ((name : List ℕ)
             → state_at self.new name ≡ with_state pair.now (state_at self.old) name) }
@@ -99,7 +113,7 @@ impl<'a> Decided<'a> {
 
     /// Whether a pair decides. What it says is noted then.
     fn note(&mut self, pair: &'a Pair, number: Option<usize>) -> Result<bool, AllocError>
-        requires { number ≡ number_at self.old.macros.now pair.now.name }
+        requires { number ≡ number_at self.old.macros.now.macros pair.now.name }
         ensures macros { self.new.macros ≡ self.old.macros }
         ensures decides { IfOk result (λ decides. Notes pair.now (state_at self.old) (state_at self.new) decides) }
     {
@@ -193,11 +207,11 @@ pub struct States<'a> {
 
 impl<'a> States<'a> {
     /// Nothing is decided yet.
-    pub fn new(alloc: Global, macros: &'a Macros) -> Result<States<'a>, AllocError>
+    pub fn new(alloc: Global, macros: &'a LinkedMacros) -> Result<States<'a>, AllocError>
         ensures macros { IfOk result (λ states. states.decided.macros ≡ macros.entry) }
         ensures none { IfOk result (λ states. (name : List ℕ) → state_at states.decided name ≡ None) }
     {
-        let count = macros.bodies.len();
+        let count = macros.len();
         let decided = Decided {
             macros,
             marks: Vec::from_elem(alloc, None, count)?,
@@ -223,6 +237,13 @@ impl<'a> States<'a> {
         stands_at(recent, second, name)
     }
 
+    /// Whether something is decided of the macro with this number, if there is one.
+    pub fn is_marked(&self, number: Option<usize>) -> bool
+        ensures { OnTrue result ((name : List ℕ) → is_some (said_by self.now.decided name number) ≡ true) }
+    {
+        self.decided.is_marked(number)
+    }
+
     /// Whether something is decided of a name.
     pub fn is_known(&self, name: &[u8]) -> bool
         ensures { result ≡ is_some (state_at self.now.decided name.now) }
@@ -232,7 +253,7 @@ impl<'a> States<'a> {
 
     /// Whether a pair decides, whose name has this number if it is a macro. What it says is noted then.
     pub fn note(&mut self, pair: &'a Pair, number: Option<usize>) -> Result<bool, AllocError>
-        requires { number ≡ number_at self.old.decided.macros.now pair.now.name }
+        requires { number ≡ number_at self.old.decided.macros.now.macros pair.now.name }
         ensures macros { self.new.decided.macros ≡ self.old.decided.macros }
         ensures decides { IfOk result (λ decides. Notes pair.now
             (state_at self.old.decided) (state_at self.new.decided) decides) }

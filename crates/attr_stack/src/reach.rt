@@ -10,7 +10,7 @@ use std::alloc::AllocError;
 use wild_match::matches;
 
 /// Pairs to be read before those that wait, the last first.
-pub fn push_pairs<'a>(pending: &mut Vec<&'a Pair>, pairs: &'a [Pair]) -> Result<(), AllocError>
+fn push_pairs<'a>(pending: &mut Vec<&'a Pair>, pairs: &'a [Pair]) -> Result<(), AllocError>
     ensures { OnOk result (from_end pending.new.items ≡ reverse pairs.now ++ from_end pending.old.items) }
 {
     for pair in pairs {

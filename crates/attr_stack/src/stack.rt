@@ -14,10 +14,11 @@ use crate::compiled_file::CompiledFile;
 use crate::decide::is_done;
 use crate::files::AttrFiles;
 use crate::folders::Folders;
-use crate::macros::{Macros, macros_of};
+use crate::linked_macros::{Frame, LinkedMacros};
+use crate::macros::macros_of;
 use crate::noted::States;
 use crate::states::states_in;
-use attr_line::{AttrState, Pair};
+use attr_line::AttrState;
 use byte_path::Bytes;
 use std::alloc::{AllocError, Global};
 use std::marker::Model;
@@ -29,14 +30,14 @@ pub struct Rules {
     pub info: CompiledFile,
     pub base: CompiledFile,
     pub folders: Folders,
-    pub macros: Macros,
+    pub macros: LinkedMacros,
 }
 
 fn rules_of(alloc: Global, files: AttrFiles) -> Result<Rules, AllocError>
     ensures files { IfOk result (λ rules. files_of rules ≡ files) }
     ensures rules { IfOk result IsRules }
 {
-    let macros = macros_of(alloc, &files)?;
+    let macros = LinkedMacros::of(alloc, macros_of(alloc, &files)?)?;
     let AttrFiles { info, base, files } = files;
     let info = CompiledFile::of(alloc, info)?;
     let base = CompiledFile::of(alloc, base)?;
@@ -64,7 +65,7 @@ fn behind(path: &[u8], len: usize) -> &[u8]
 fn read_level<'a>(
     names: &[Bytes],
     states: &mut States<'a>,
-    pending: &mut Vec<&'a Pair>,
+    frames: &mut Vec<Frame>,
     level: &'a Level,
     path: &[u8],
 ) -> Result<(), AllocError>
@@ -73,7 +74,7 @@ fn read_level<'a>(
 {
     level
         .file
-        .read(names, states, pending, behind(path, level.start))
+        .read(names, states, frames, behind(path, level.start))
 }
 
 fn level_at(levels: &[Level], place: usize) -> &Level
@@ -87,7 +88,7 @@ fn level_at(levels: &[Level], place: usize) -> &Level
 fn read_levels<'a>(
     names: &[Bytes],
     states: &mut States<'a>,
-    pending: &mut Vec<&'a Pair>,
+    frames: &mut Vec<Frame>,
     levels: &'a [Level],
     path: &[u8],
 ) -> Result<(), AllocError>
@@ -98,7 +99,7 @@ fn read_levels<'a>(
         if is_done(names, states) {
             return Ok(());
         }
-        read_level(names, states, pending, level_at(levels, place), path)?;
+        read_level(names, states, frames, level_at(levels, place), path)?;
     }
     Ok(())
 }
@@ -107,7 +108,7 @@ fn read_levels<'a>(
 fn read_base<'a>(
     names: &[Bytes],
     states: &mut States<'a>,
-    pending: &mut Vec<&'a Pair>,
+    frames: &mut Vec<Frame>,
     base: &'a CompiledFile,
     path: &[u8],
 ) -> Result<(), AllocError>
@@ -117,7 +118,7 @@ fn read_base<'a>(
     if is_done(names, states) {
         return Ok(());
     }
-    base.read(names, states, pending, path)
+    base.read(names, states, frames, path)
 }
 
 /// What is decided of some names for a path of the chain's folder.
@@ -134,10 +135,10 @@ fn decided_of<'a>(
         → state_at states.decided name ≡ decision (files_of rules.now) path.now name) }
 {
     let mut states = States::new(alloc, &rules.macros)?;
-    let mut pending = Vec::new(alloc);
-    rules.info.read(names, &mut states, &mut pending, path)?;
-    read_levels(names, &mut states, &mut pending, &chain.levels, path)?;
-    read_base(names, &mut states, &mut pending, &rules.base, path)?;
+    let mut frames = Vec::new(alloc);
+    rules.info.read(names, &mut states, &mut frames, path)?;
+    read_levels(names, &mut states, &mut frames, &chain.levels, path)?;
+    read_base(names, &mut states, &mut frames, &rules.base, path)?;
     Ok(states)
 }
 

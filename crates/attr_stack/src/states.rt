@@ -3,11 +3,13 @@ ghost use Rattle.std.specs.Prelude.{◌≡◌, ℕ, true, List, IfOk, map};
 ghost use Rattle.attr_stack.specs.Decided.{decision, state_of};
 ghost use Rattle.attr_stack.specs.Macros.{macros_of};
 ghost use Rattle.attr_stack.specs.Search.{is_asked};
-ghost use Rattle.attr_stack.specs.Seen.{said_in, state_at, AreMacros};
+ghost use Rattle.attr_stack.specs.Numbers.{AreMacros};
+ghost use Rattle.attr_stack.specs.Seen.{said_in, state_at};
 
 use crate::decide::read_pairs;
 use crate::files::AttrFiles;
-use crate::macros::{Macros, macros_of};
+use crate::linked_macros::LinkedMacros;
+use crate::macros::macros_of;
 use crate::noted::States;
 use crate::open_file::{OpenFile, opened};
 use crate::reach::push_all;
@@ -57,7 +59,7 @@ pub fn states_in(
 struct Opened<'a> {
     files: &'a AttrFiles,
     folders: &'a [OpenFile],
-    macros: &'a Macros,
+    macros: &'a LinkedMacros,
 }
 
 /// What is decided of some names for a path.
@@ -68,7 +70,7 @@ fn decided_of<'a>(
     names: &[Bytes],
 ) -> Result<States<'a>, AllocError>
     requires folders { opened.now.folders.now ≡ opened.now.files.now.files }
-    requires macros { AreMacros opened.now.macros.now (macros_of opened.now.files.now) }
+    requires macros { AreMacros opened.now.macros.now.macros (macros_of opened.now.files.now) }
     ensures { IfOk result (λ states. (name : List ℕ) → is_asked names.now name ≡ true
         → state_at states.decided name ≡ decision opened.now.files.now path.now name) }
 {
@@ -80,7 +82,8 @@ fn decided_of<'a>(
     let mut pending = Vec::new(alloc);
     push_all(&mut pending, files, folders, path)?;
     let mut states = States::new(alloc, macros)?;
-    read_pairs(names, &mut states, &mut pending)?;
+    let mut frames = Vec::new(alloc);
+    read_pairs(names, &mut states, &mut frames, &mut pending)?;
     Ok(states)
 }
 
@@ -96,7 +99,7 @@ pub fn attributes_of(
 ) -> Result<Vec<AttrState>, AllocError>
     ensures { IfOk result (λ states. states.items ≡ map (state_of files.now path.now) names.now) }
 {
-    let macros = macros_of(alloc, files)?;
+    let macros = LinkedMacros::of(alloc, macros_of(alloc, files)?)?;
     let folders = opened(alloc, files.files.as_slice())?;
     let all = Opened {
         files,

@@ -77,3 +77,12 @@ loop-place-preserved c = λ lines are.
       leads-on lines names (rows_pairs path rows) (reverse (row_rule row)) (rows_pairs path (take i rows)) (state_at c.args.states.now.decided) (state_at c.loop-place.states.decided) (state_at c.read_row.new.states.decided)
           (leads-turn lines names _ _ _ _ _ turned before.1) (c.in_ok-read_row.ensures.states lines before.0).1,
     )
+
+pub returns : goal.returns
+returns c = λ lines are.
+    let before = c.loop-place.invariant lines are in
+    let rows = c.args.compiled.now.rows.now in
+    let path = c.args.path.now in
+    let none : c.loop-place.place ≡ 0 = omega (arith, c.loop-place-test.false, c.loop-place.auto.place) in
+    let turned : rows_pairs path (take c.loop-place.place rows) ≡ [] = ap (λ (n : ℕ). rows_pairs path (take n rows)) none in
+    (before.0, leads-turn lines (is_asked c.args.names.now) _ _ _ _ _ turned before.1)

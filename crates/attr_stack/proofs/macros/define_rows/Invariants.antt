@@ -1,7 +1,7 @@
 use Rattle.std.proofs.Common.{List, ◌++◌, reverse, take}
 use Rattle.std.specs.List.{flat_map}
 use Rattle.attr_stack.specs.Macros.{MacroLine, row_macros}
-use Rattle.attr_stack.specs.Seen.{AreMacros}
+use Rattle.attr_stack.specs.Numbers.{AreMacros}
 use Rattle.attr_stack.proofs.macros.define_rows.Given as goal
 
 abbrev pub invariant-loop-row : goal.invariant-loop-row

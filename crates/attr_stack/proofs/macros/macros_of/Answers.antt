@@ -2,7 +2,7 @@ use Rattle.std.proofs.Common.{[], ◌∷◌, ◌++◌, List, cond, ◌∙◌, ap
 use Rattle.std.specs.Str.{bytes_eq}
 use Rattle.attr_line.specs.declared.file.Pair.{Pair}
 use Rattle.attr_stack.specs.Macros.{binary, file_macros, top_macros, meaning}
-use Rattle.attr_stack.specs.Seen.{AreMacros}
+use Rattle.attr_stack.specs.Numbers.{AreMacros}
 use Rattle.attr_stack.proofs.Maps.{nothing-defined}
 use Rattle.attr_stack.proofs.macros.macros_of.Goals as goal
 

@@ -2,13 +2,14 @@ use Rattle.std.proofs.Common.{◌≡◌, List, [], ◌++◌, length, reverse, ap
 use Rattle.std.specs.List.{flat_map}
 use Rattle.attr_stack.specs.declared.chain.Level.{Level}
 use denote.Ref.{Bor}
-use Rattle.attr_stack.specs.declared.macros.Macros.{Macros}
+use Rattle.attr_stack.specs.declared.linked_macros.LinkedMacros.{LinkedMacros}
 use Rattle.attr_stack.specs.Levels.{level_pairs}
 use Rattle.attr_stack.specs.Macros.{macros_of}
 use Rattle.attr_stack.specs.Pairs.{file_pairs, pairs_before}
 use Rattle.attr_stack.specs.Rules.{files_of}
 use Rattle.attr_stack.specs.Search.{is_asked}
-use Rattle.attr_stack.specs.Seen.{state_at, AreMacros}
+use Rattle.attr_stack.specs.Numbers.{AreMacros}
+use Rattle.attr_stack.specs.Seen.{state_at}
 use Rattle.attr_stack.proofs.Chains.{chain_gives}
 use Rattle.attr_stack.proofs.Readings.{leads-from, leads-both, leads-decides}
 use Rattle.attr_stack.proofs.stack.decided_of.Goals as goal
@@ -29,7 +30,7 @@ returns c = λ name asked.
     let reached : flat_map (level_pairs path) (reverse c.deref.result.now) ≡ pairs_before files path (length path) =
     ap (λ (ls : List Level). flat_map (level_pairs path) (reverse ls)) c.deref.ensures.value
     ∙ chain_gives files c.args.chain.now path c.requires.stack.entered c.requires.within in
-    let begun = subst (λ (macros : Bor Macros). AreMacros macros.now lines) (sym c.in_ok-states.ensures.macros) c.requires.stack.right in
+    let begun = subst (λ (macros : Bor LinkedMacros). AreMacros macros.now.macros lines) (sym c.in_ok-states.ensures.macros) c.requires.stack.right in
     let first = c.in_ok-read.ensures lines begun in
     let second = c.in_ok-read_levels.ensures lines first.0 in
     leads-decides lines names (info ++ (before ++ base)) none new name c.in_ok-states.ensures.none
