@@ -10,7 +10,9 @@ mod block;
 mod report;
 mod spelling;
 mod text;
+mod words;
 
 pub use block::{Block, Cell, blocks_of};
 pub use report::{Cases, named_blocks, print_verdict, report_files};
 pub use text::{filled, noted, number_of, parted, push_all, shown, unknown};
+pub use words::{Words, found, given, meant};

@@ -5,7 +5,7 @@
 //! - `answer`: the cell `to` is what is answered: `path`, `late-path` for one that may wait, `handshake`, or `list`,
 //!   while `p1`, `p2` and `p3` are delayed. Then come the packets: `packet`, `flush`, and `longest`, so many packets of
 //!   65,516 bytes. What they make of the answer comes.
-use case_kit::{Cell, number_of, push_all, shown, unknown};
+use case_kit::{Cell, Words, found, given, number_of, push_all, shown, unknown};
 use filter_words::{
     AnswerState, HandshakePhase, ListPart, Listing, MOST_ANSWER, ReadPacket, ReplyPhase, Status,
     handshake_after_packet, key_value, list_after_packet, next_status, read_status,
@@ -26,49 +26,78 @@ fn word_of(status: Option<Status>) -> &'static [u8] {
     }
 }
 
+/// The status after a line.
+fn status_after(before: &[u8], line: &[u8]) -> Option<Status> {
+    if before.is_empty() {
+        return next_status(None, line);
+    }
+    next_status(Some(read_status(before)), line)
+}
+
+/// The key and the value of a line, and on the next line the word of a status.
+fn told(alloc: Global, line: &[u8], word: &[u8]) -> Result<Vec<u8>, AllocError> {
+    match key_value(line) {
+        Some((key, value)) => [key, b"|", value, b"\n", word].concat(alloc),
+        None => [b"!\n", word].concat(alloc),
+    }
+}
+
 /// What comes of a case of the kind `line`.
 pub fn line_of(alloc: Global, cells: &[Cell]) -> Result<Vec<u8>, Fail> {
     let [before, text] = cells else {
         return Err(unknown(b"line"));
     };
-    let before = match before.value.is_empty() {
-        true => None,
-        false => Some(read_status(&before.value)),
-    };
-    let mut came = Vec::new(alloc);
-    match key_value(&text.value) {
-        Some((key, value)) => push_all(&mut came, &[key, b"|", value])?,
-        None => came.extend_from_slice(b"!")?,
-    }
-    push_all(
-        &mut came,
-        &[b"\n", word_of(next_status(before, &text.value))],
-    )?;
-    Ok(came)
+    let word = word_of(status_after(&before.value, &text.value));
+    given(told(alloc, &text.value, word))
 }
 
-/// The packets of the cells.
-fn packets_of<'a>(
-    alloc: Global,
+/// What a cell of an answer gives.
+#[derive(Clone, Copy)]
+enum Part {
+    Payload,
+    Flush,
+    Longest,
+}
+
+const PARTS: Words<Part> = &[
+    (b"packet", Part::Payload),
+    (b"flush", Part::Flush),
+    (b"longest", Part::Longest),
+];
+
+/// Appends so many of the longest packets.
+fn push_longest<'a>(
+    packets: &mut Vec<ReadPacket<'a>>,
+    count: &[u8],
+    longest: &'a [u8],
+) -> Result<(), Fail> {
+    let len = packets.len().saturating_add(number_of(count)? as usize);
+    given(packets.resize(len, ReadPacket::Payload(longest)))
+}
+
+/// Appends the packets of a cell.
+fn push_part<'a>(
+    packets: &mut Vec<ReadPacket<'a>>,
+    cell: &'a Cell,
+    longest: &'a [u8],
+) -> Result<(), Fail> {
+    match found(PARTS, &cell.key)? {
+        Part::Payload => Ok(packets.push(ReadPacket::Payload(&cell.value))?),
+        Part::Flush => Ok(packets.push(ReadPacket::Flush)?),
+        Part::Longest => push_longest(packets, &cell.value, longest),
+    }
+}
+
+/// Appends the packets of the cells.
+fn push_parts<'a>(
+    packets: &mut Vec<ReadPacket<'a>>,
     cells: &'a [Cell],
     longest: &'a [u8],
-) -> Result<Vec<ReadPacket<'a>>, Fail> {
-    let mut packets = Vec::new(alloc);
+) -> Result<(), Fail> {
     for cell in cells {
-        let key = cell.key.as_slice();
-        if key == b"packet".as_slice() {
-            packets.push(ReadPacket::Payload(&cell.value))?;
-        } else if key == b"flush".as_slice() {
-            packets.push(ReadPacket::Flush)?;
-        } else if key == b"longest".as_slice() {
-            let count = number_of(&cell.value)? as usize;
-            let len = packets.len().saturating_add(count);
-            packets.resize(len, ReadPacket::Payload(longest))?;
-        } else {
-            return Err(unknown(key));
-        }
+        push_part(packets, cell, longest)?;
     }
-    Ok(packets)
+    Ok(())
 }
 
 /// What packets make of a reply.
@@ -121,27 +150,45 @@ fn list_of(alloc: Global, packets: &[ReadPacket<'_>]) -> Result<Vec<u8>, AllocEr
     shown(alloc, listing.reply())
 }
 
+/// What an answer is to.
+#[derive(Clone, Copy)]
+enum Asked {
+    Path,
+    LatePath,
+    Handshake,
+    List,
+}
+
+const ASKED: Words<Asked> = &[
+    (b"path", Asked::Path),
+    (b"late-path", Asked::LatePath),
+    (b"handshake", Asked::Handshake),
+    (b"list", Asked::List),
+];
+
+/// What packets make of the answer to this.
+fn answer_to(alloc: Global, to: Asked, packets: &[ReadPacket<'_>]) -> Result<Vec<u8>, AllocError> {
+    match to {
+        Asked::Path => reply_to(alloc, false, packets),
+        Asked::LatePath => reply_to(alloc, true, packets),
+        Asked::Handshake => handshake_of(alloc, packets),
+        Asked::List => list_of(alloc, packets),
+    }
+}
+
+/// What the packets of the cells make of the answer to this.
+fn answer_by(alloc: Global, to: Asked, cells: &[Cell], longest: &[u8]) -> Result<Vec<u8>, Fail> {
+    let mut packets = Vec::new(alloc);
+    push_parts(&mut packets, cells, longest)?;
+    given(answer_to(alloc, to, &packets))
+}
+
 /// What comes of a case of the kind `answer`.
 pub fn answered(alloc: Global, cells: &[Cell]) -> Result<Vec<u8>, Fail> {
-    let longest = vec![in alloc; b'c'; 65_516]?;
     let [to, rest @ ..] = cells else {
         return Err(unknown(b"answer"));
     };
-    let packets = packets_of(alloc, rest, &longest)?;
-    answer_to(alloc, &to.value, &packets)
-}
-
-/// What packets make of the answer to this.
-fn answer_to(alloc: Global, to: &[u8], packets: &[ReadPacket<'_>]) -> Result<Vec<u8>, Fail> {
-    if to == b"path".as_slice() {
-        Ok(reply_to(alloc, false, packets)?)
-    } else if to == b"late-path".as_slice() {
-        Ok(reply_to(alloc, true, packets)?)
-    } else if to == b"handshake".as_slice() {
-        Ok(handshake_of(alloc, packets)?)
-    } else if to == b"list".as_slice() {
-        Ok(list_of(alloc, packets)?)
-    } else {
-        Err(unknown(to))
-    }
+    let to = found(ASKED, &to.value)?;
+    let longest = vec![in alloc; b'c'; 65_516]?;
+    answer_by(alloc, to, rest, &longest)
 }

@@ -4,7 +4,9 @@
 //! line has. A step answers `ok` or `refused`. The step `verdict` and a path gives its verdict, `unclosed` how many
 //! paths are open, and `replay` what a replay of events answers, between which `;` stands. A refused event has to
 //! leave the number of open paths. With a first cell `two` the checkout has the first two paths alone.
-use case_kit::{Cell, noted, number_of, parted, push_all, shown, unknown};
+use case_kit::{
+    Cell, Words, found, given, meant, noted, number_of, parted, push_all, shown, unknown,
+};
 use checkout_core::{
     Event, ObjectKind, OpenCause, Own, SkipCause, Start, State, Verdict, replay, step,
 };
@@ -45,9 +47,6 @@ fn fresh_of_two(alloc: Global) -> Result<State, AllocError> {
     let [first, second, ..] = STARTS;
     State::start(alloc, Vec::from_slice(alloc, &[first, second])?, 1, 1)
 }
-
-/// What a word means.
-type Words<T> = &'static [(&'static [u8], T)];
 
 const CAPS: Words<(bool, bool)> = &[
     (b"smudge delay", (true, true)),
@@ -96,75 +95,101 @@ const OWNS: Words<Own> = &[
     (b"no-memory", Own::NoMemory),
 ];
 
-/// The meaning of a word.
-fn found<T: Copy>(words: &[(&'static [u8], T)], word: &[u8]) -> Result<T, Fail> {
-    for (known, meant) in words {
-        if *known == word {
-            return Ok(*meant);
-        }
-    }
-    Err(unknown(word))
+/// The event of a line.
+#[derive(Clone, Copy)]
+enum Told {
+    Opened,
+    Listed,
+    Shut,
+    Claim,
+    Close,
+    OpenFailed,
+    Answered,
+    Redone,
+    Named,
+    HandBack,
 }
 
-/// The event of a path.
-fn event_of_path(word: &[u8], path: u32, rest: &[u8]) -> Result<Event, Fail> {
-    if word == b"claim".as_slice() {
-        let actor = number_of(rest)?;
-        Ok(Event::Claim { path, actor })
-    } else if word == b"close".as_slice() {
-        let (actor, own) = parted(rest);
-        let actor = number_of(actor)?;
-        let own = found(OWNS, own)?;
-        Ok(Event::Close { path, actor, own })
-    } else if word == b"open-failed".as_slice() {
-        let cause = found(CAUSES, rest)?;
-        Ok(Event::OpenFailed { path, cause })
-    } else if word == b"answered".as_slice() {
-        let reply = found(REPLIES, rest)?;
-        Ok(Event::Answered { path, reply })
-    } else if word == b"redone".as_slice() {
-        let reply = found(REPLIES, rest)?;
-        Ok(Event::Redone { path, reply })
-    } else if word == b"named".as_slice() {
-        Ok(Event::Named { path })
-    } else if word == b"hand-back".as_slice() {
-        Ok(Event::HandBack { path })
-    } else {
-        Err(unknown(word))
-    }
+const EVENTS: Words<Told> = &[
+    (b"opened", Told::Opened),
+    (b"listed", Told::Listed),
+    (b"shut", Told::Shut),
+    (b"claim", Told::Claim),
+    (b"close", Told::Close),
+    (b"open-failed", Told::OpenFailed),
+    (b"answered", Told::Answered),
+    (b"redone", Told::Redone),
+    (b"named", Told::Named),
+    (b"hand-back", Told::HandBack),
+];
+
+/// The start of a driver's session, with what it announces.
+fn opened(driver: u32, caps: &[u8]) -> Result<Event, Fail> {
+    let (smudge, delay) = found(CAPS, caps)?;
+    let caps = Caps { smudge, delay };
+    Ok(Event::Opened { driver, caps })
+}
+
+/// The end of a path, by an actor.
+fn closed(path: u32, rest: &[u8]) -> Result<Event, Fail> {
+    let (actor, own) = parted(rest);
+    let actor = number_of(actor)?;
+    let own = found(OWNS, own)?;
+    Ok(Event::Close { path, actor, own })
+}
+
+/// An event with the number of a driver or a path, and what stands behind it.
+fn event_with(told: Told, number: u32, rest: &[u8]) -> Result<Event, Fail> {
+    let (driver, path) = (number, number);
+    Ok(match told {
+        Told::Opened => opened(driver, rest)?,
+        Told::Listed => Event::Listed {
+            driver,
+            reply: found(LIST_REPLIES, rest)?,
+        },
+        Told::Shut => Event::Shut { driver },
+        Told::Claim => Event::Claim {
+            path,
+            actor: number_of(rest)?,
+        },
+        Told::Close => closed(path, rest)?,
+        Told::OpenFailed => Event::OpenFailed {
+            path,
+            cause: found(CAUSES, rest)?,
+        },
+        Told::Answered => Event::Answered {
+            path,
+            reply: found(REPLIES, rest)?,
+        },
+        Told::Redone => Event::Redone {
+            path,
+            reply: found(REPLIES, rest)?,
+        },
+        Told::Named => Event::Named { path },
+        Told::HandBack => Event::HandBack { path },
+    })
 }
 
 /// The event of a journal's line.
 fn event_of(word: &[u8], text: &[u8]) -> Result<Event, Fail> {
+    let told = found(EVENTS, word)?;
     let (number, rest) = parted(text);
-    let number = number_of(number)?;
-    if word == b"opened".as_slice() {
-        let (smudge, delay) = found(CAPS, rest)?;
-        let caps = Caps { smudge, delay };
-        Ok(Event::Opened {
-            driver: number,
-            caps,
-        })
-    } else if word == b"listed".as_slice() {
-        let reply = found(LIST_REPLIES, rest)?;
-        Ok(Event::Listed {
-            driver: number,
-            reply,
-        })
-    } else if word == b"shut".as_slice() {
-        Ok(Event::Shut { driver: number })
-    } else {
-        event_of_path(word, number, rest)
+    event_with(told, number_of(number)?, rest)
+}
+
+/// Appends the events between which `;` stands.
+fn push_events(events: &mut Vec<Event>, text: &[u8]) -> Result<(), Fail> {
+    for line in text.split(|byte| *byte == b';') {
+        let (word, rest) = parted(line);
+        events.push(event_of(word, rest)?)?;
     }
+    Ok(())
 }
 
 /// The events between which `;` stands.
 fn events_of(alloc: Global, text: &[u8]) -> Result<Vec<Event>, Fail> {
     let mut events = Vec::new(alloc);
-    for line in text.split(|byte| *byte == b';') {
-        let (word, rest) = parted(line);
-        events.push(event_of(word, rest)?)?;
-    }
+    push_events(&mut events, text)?;
     Ok(events)
 }
 
@@ -220,18 +245,41 @@ fn answer_of(alloc: Global, state: &mut State, event: Event) -> Result<Vec<u8>, 
     )
 }
 
+/// What a step looks at.
+#[derive(Clone, Copy)]
+enum Look {
+    Verdict,
+    Unclosed,
+    Replay,
+}
+
+const LOOKS: Words<Look> = &[
+    (b"verdict", Look::Verdict),
+    (b"unclosed", Look::Unclosed),
+    (b"replay", Look::Replay),
+];
+
+/// What a look at a checkout tells.
+fn looked(alloc: Global, state: &mut State, look: Look, text: &[u8]) -> Result<Vec<u8>, Fail> {
+    match look {
+        Look::Verdict => {
+            let path = number_of(text)?;
+            given(verdict_of(alloc, state, path))
+        }
+        Look::Unclosed => given(shown(alloc, state.unclosed())),
+        Look::Replay => replayed(alloc, state, text),
+    }
+}
+
 /// What a step answers.
 fn step_of(alloc: Global, state: &mut State, cell: &Cell) -> Result<Vec<u8>, Fail> {
-    let key = cell.key.as_slice();
-    if key == b"verdict".as_slice() {
-        Ok(verdict_of(alloc, state, number_of(&cell.value)?)?)
-    } else if key == b"unclosed".as_slice() {
-        Ok(shown(alloc, state.unclosed())?)
-    } else if key == b"replay".as_slice() {
-        replayed(alloc, state, &cell.value)
-    } else {
-        let event = event_of(key, &cell.value)?;
-        Ok(answer_of(alloc, state, event)?)
+    let text = cell.value.as_slice();
+    match meant(LOOKS, &cell.key) {
+        Some(look) => looked(alloc, state, look, text),
+        None => {
+            let event = event_of(&cell.key, text)?;
+            given(answer_of(alloc, state, event))
+        }
     }
 }
 

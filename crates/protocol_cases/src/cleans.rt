@@ -1,7 +1,7 @@
 //! What a session that cleans makes of the answers that its driver may give.
 //!
-//! The kind `clean` has the cells of a driver as the kind `talk`, and then `ask`, each with a content of `big.psd`. What
-//! comes of it has a line. The end is as that of a talk. A driver that doesn't announce `clean` is `no clean`.
+//! The kind `clean` has the cells of a driver as the kind `talk`, and then `ask`, each with a content of `big.psd`.
+//! What comes of it has a line. The end is as that of a talk. A driver that doesn't announce `clean` is `no clean`.
 use crate::pipe::Pipe;
 use crate::runs::{folded, unfolded};
 use crate::talks::{broken, pipe_of, push_end};

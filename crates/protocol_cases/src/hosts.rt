@@ -1,9 +1,9 @@
 //! What the driver's side answers to a client.
 //!
-//! - `host`: the cells `delay`, which is `yes` or `no`, and `input`. What the last call answers comes, and behind a line
-//!   feed the output. The input at once and byte by byte have to give the same.
-//! - `late`: the steps of the kind `talk`, with a host that lets each path wait and lists two at once. Then comes whether
-//!   the host's link tells all.
+//! - `host`: the cells `delay`, which is `yes` or `no`, and `input`. What the last call answers comes, and behind a
+//!   line feed the output. The input at once and byte by byte have to give the same.
+//! - `late`: the steps of the kind `talk`, with a host that lets each path wait and lists two at once. Then comes
+//!   whether the host's link tells all.
 ghost use Rattle.std.specs.Prelude.{None};
 
 use crate::page::counter_from_zero;

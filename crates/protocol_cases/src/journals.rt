@@ -3,8 +3,8 @@
 //! The kind `journal` has one of these forms:
 //!
 //! - the cell `text`: the audit of this journal comes;
-//! - the cells `line` and `text`: the audit of a journal with each kind of line comes, with this text in place of the line
-//!   with this number;
+//! - the cells `line` and `text`: the audit of a journal with each kind of line comes, with this text in place of the
+//!   line with this number;
 //! - no cell: the journal of a run in which path 1 is delayed comes, as it is printed.
 use case_kit::{Cell, number_of, shown, unknown};
 use checkout_core::{Event, Own, Start};

@@ -18,9 +18,41 @@ mod runs;
 mod talks;
 mod writings;
 
-use case_kit::{Block, Cases, parted, report_files, unknown};
+use case_kit::{Block, Cases, Words, found, parted, report_files};
 use std::alloc::Global;
 use std::test::Fail;
+
+/// The kind of a case.
+#[derive(Clone, Copy)]
+enum Kind {
+    Packets,
+    Reader,
+    Writing,
+    Line,
+    Answer,
+    Delays,
+    Talk,
+    Late,
+    Host,
+    Clean,
+    Checkout,
+    Journal,
+}
+
+const KINDS: Words<Kind> = &[
+    (b"packets", Kind::Packets),
+    (b"reader", Kind::Reader),
+    (b"writing", Kind::Writing),
+    (b"line", Kind::Line),
+    (b"answer", Kind::Answer),
+    (b"delays", Kind::Delays),
+    (b"talk", Kind::Talk),
+    (b"late", Kind::Late),
+    (b"host", Kind::Host),
+    (b"clean", Kind::Clean),
+    (b"checkout", Kind::Checkout),
+    (b"journal", Kind::Journal),
+];
 
 /// The kinds of cases of the protocol.
 struct Protocol;
@@ -29,32 +61,19 @@ impl Cases for Protocol {
     fn came_of(&self, alloc: Global, block: &Block) -> Result<Vec<u8>, Fail> {
         let (kind, _) = parted(&block.form);
         let cells = block.cells.as_slice();
-        if kind == b"packets".as_slice() {
-            packets::read_anyhow(alloc, cells)
-        } else if kind == b"reader".as_slice() {
-            packets::read_by_steps(alloc, cells)
-        } else if kind == b"writing".as_slice() {
-            writings::written(alloc, cells)
-        } else if kind == b"line".as_slice() {
-            answers::line_of(alloc, cells)
-        } else if kind == b"answer".as_slice() {
-            answers::answered(alloc, cells)
-        } else if kind == b"delays".as_slice() {
-            delays::delayed(alloc, cells)
-        } else if kind == b"talk".as_slice() {
-            talks::talked(alloc, cells)
-        } else if kind == b"late".as_slice() {
-            hosts::served(alloc, cells)
-        } else if kind == b"host".as_slice() {
-            hosts::hosted(alloc, cells)
-        } else if kind == b"clean".as_slice() {
-            cleans::cleaned(alloc, cells)
-        } else if kind == b"checkout".as_slice() {
-            checkout::followed(alloc, cells)
-        } else if kind == b"journal".as_slice() {
-            journals::judged(alloc, cells)
-        } else {
-            Err(unknown(kind))
+        match found(KINDS, kind)? {
+            Kind::Packets => packets::read_anyhow(alloc, cells),
+            Kind::Reader => packets::read_by_steps(alloc, cells),
+            Kind::Writing => writings::written(alloc, cells),
+            Kind::Line => answers::line_of(alloc, cells),
+            Kind::Answer => answers::answered(alloc, cells),
+            Kind::Delays => delays::delayed(alloc, cells),
+            Kind::Talk => talks::talked(alloc, cells),
+            Kind::Late => hosts::served(alloc, cells),
+            Kind::Host => hosts::hosted(alloc, cells),
+            Kind::Clean => cleans::cleaned(alloc, cells),
+            Kind::Checkout => checkout::followed(alloc, cells),
+            Kind::Journal => journals::judged(alloc, cells),
         }
     }
 }

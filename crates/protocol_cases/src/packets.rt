@@ -4,10 +4,10 @@
 //! `#` and their place, and a bad length as `!`, its place and itself.
 //!
 //! - `packets`: the cell `bytes`. Any pieces of them have to give the same.
-//! - `reader`: the steps `feed` and these bytes, `fill` up to the last byte that a reader holds, `next` packet, which has
-//!   to be what a look at it told before, and `skip` a flush packet after a look at it.
+//! - `reader`: the steps `feed` and these bytes, `fill` up to the last byte that a reader holds, `next` packet, which
+//!   has to be what a look at it told before, and `skip` a flush packet after a look at it.
 use crate::runs::{folded, unfolded};
-use case_kit::{Cell, noted, push_all, unknown};
+use case_kit::{Cell, Words, found, given, noted, push_all, unknown};
 use pkt_line::{Next, PktFault, PktReader};
 use std::alloc::{AllocError, Global};
 use std::test::Fail;
@@ -56,9 +56,7 @@ fn push_pieces(
     text: &mut Vec<u8>,
 ) -> Result<(), AllocError> {
     for piece in bytes.chunks(size.max(1)) {
-        if reader.feed(piece) != piece.len() {
-            text.extend_from_slice(b" not taken whole ")?;
-        }
+        push_fed(reader, text, piece)?;
         drain(alloc, reader, piece.len(), text)?;
     }
     Ok(())
@@ -134,6 +132,57 @@ fn skip_flush(reader: &mut PktReader) {
     }
 }
 
+/// Appends what a look at the front tells, and drops a flush packet that is there.
+fn push_skipped(
+    alloc: Global,
+    reader: &mut PktReader,
+    text: &mut Vec<u8>,
+) -> Result<(), AllocError> {
+    push_given(alloc, text, reader.peek())?;
+    skip_flush(reader);
+    Ok(())
+}
+
+/// Appends a note, if something isn't so.
+fn push_unless(text: &mut Vec<u8>, is_so: bool, note: &[u8]) -> Result<(), AllocError> {
+    if is_so {
+        return Ok(());
+    }
+    text.extend_from_slice(note)
+}
+
+/// Fills the reader, and appends a note if it isn't full then.
+fn push_filled(
+    alloc: Global,
+    reader: &mut PktReader,
+    text: &mut Vec<u8>,
+) -> Result<(), AllocError> {
+    let is_full = fills(alloc, reader)?;
+    push_unless(text, is_full, b" not full ")
+}
+
+/// Gives the reader bytes, and appends a note if it doesn't take them all.
+fn push_fed(reader: &mut PktReader, text: &mut Vec<u8>, bytes: &[u8]) -> Result<(), AllocError> {
+    let is_whole = reader.feed(bytes) == bytes.len();
+    push_unless(text, is_whole, b" not taken whole ")
+}
+
+/// What a step does.
+#[derive(Clone, Copy)]
+enum Step {
+    Feed,
+    Fill,
+    Next,
+    Skip,
+}
+
+const STEPS: Words<Step> = &[
+    (b"feed", Step::Feed),
+    (b"fill", Step::Fill),
+    (b"next", Step::Next),
+    (b"skip", Step::Skip),
+];
+
 /// Takes a step of a case of the kind `reader`.
 fn take_step(
     alloc: Global,
@@ -141,24 +190,12 @@ fn take_step(
     text: &mut Vec<u8>,
     cell: &Cell,
 ) -> Result<(), Fail> {
-    let key = cell.key.as_slice();
-    if key == b"feed".as_slice() {
-        if reader.feed(&cell.value) != cell.value.len() {
-            text.extend_from_slice(b" not taken whole ")?;
-        }
-    } else if key == b"fill".as_slice() {
-        if !fills(alloc, reader)? {
-            text.extend_from_slice(b" not full ")?;
-        }
-    } else if key == b"next".as_slice() {
-        push_next(alloc, reader, text)?;
-    } else if key == b"skip".as_slice() {
-        push_given(alloc, text, reader.peek())?;
-        skip_flush(reader);
-    } else {
-        return Err(unknown(key));
-    }
-    Ok(())
+    given(match found(STEPS, &cell.key)? {
+        Step::Feed => push_fed(reader, text, &cell.value),
+        Step::Fill => push_filled(alloc, reader, text),
+        Step::Next => push_next(alloc, reader, text),
+        Step::Skip => push_skipped(alloc, reader, text),
+    })
 }
 
 /// All that the steps give.

@@ -24,7 +24,7 @@ use crate::delays::table_of_six;
 use crate::page::{Counter, Page};
 use crate::pipe::Pipe;
 use crate::runs::{folded, unfolded};
-use case_kit::{Cell, number_of, parted, push_all, shown, unknown};
+use case_kit::{Cell, Words, found, given, meant, number_of, parted, push_all, shown, unknown};
 use delay_table::DelayTable;
 use edge_kit::{Link, SendFault};
 use filter_proto::{Begun, Session};
@@ -78,23 +78,29 @@ impl Talk {
         push_all(&mut self.came, &[line, b"\n"])
     }
 
-    /// Takes a step that looks at the table or at the puts.
-    fn take_look(&mut self, key: &[u8]) -> Result<(), Fail> {
+    /// What a look at the table or at the puts tells.
+    fn looked(&mut self, look: Look) -> Result<Vec<u8>, AllocError> {
         let alloc = self.alloc;
-        let line = if key == b"listed".as_slice() {
-            shown(alloc, self.table.listed())?
-        } else if key == b"deliver".as_slice() {
-            shown(alloc, self.table.deliver())?
-        } else if key == b"puts".as_slice() {
-            shown(alloc, self.puts.get())?
-        } else if key == b"then".as_slice() {
-            return Ok(());
-        } else {
-            return Err(unknown(key));
-        };
-        self.push_line(&line)?;
-        Ok(())
+        match look {
+            Look::Listed => shown(alloc, self.table.listed()),
+            Look::Deliver => shown(alloc, self.table.deliver()),
+            Look::Puts => shown(alloc, self.puts.get()),
+        }
     }
+
+    /// Takes a step that looks at the table or at the puts.
+    fn take_look(&mut self, look: Look) -> Result<(), AllocError> {
+        let line = self.looked(look)?;
+        self.push_line(&line)
+    }
+}
+
+/// What a step looks at.
+#[derive(Clone, Copy)]
+enum Look {
+    Listed,
+    Deliver,
+    Puts,
 }
 
 /// Asks for a path and its content, or again for a path, if that is allowed.
@@ -149,22 +155,56 @@ fn take_list<K: Link>(talk: &mut Talk, session: &mut Session<K>) -> Result<(), F
     Ok(())
 }
 
+/// What a step does.
+#[derive(Clone, Copy)]
+enum Step {
+    Ask,
+    AskBroken,
+    Again,
+    List,
+    Listed,
+    Deliver,
+    Puts,
+    Then,
+}
+
+const STEPS: Words<Step> = &[
+    (b"ask", Step::Ask),
+    (b"ask-broken", Step::AskBroken),
+    (b"again", Step::Again),
+    (b"list", Step::List),
+    (b"listed", Step::Listed),
+    (b"deliver", Step::Deliver),
+    (b"puts", Step::Puts),
+    (b"then", Step::Then),
+];
+
+/// A request with a content in which long runs are folded.
+fn take_ask<K: Link>(
+    talk: &mut Talk,
+    session: &mut Session<K>,
+    path: &[u8],
+    content: &[u8],
+) -> Result<(), Fail> {
+    let content = unfolded(talk.alloc, content)?;
+    take_request(talk, session, path, Some(&content), None)
+}
+
 /// Takes a step.
 fn take_step<K: Link>(talk: &mut Talk, session: &mut Session<K>, cell: &Cell) -> Result<(), Fail> {
-    let key = cell.key.as_slice();
     let (path, content) = parted(&cell.value);
-    if key == b"ask".as_slice() {
-        let content = unfolded(talk.alloc, content)?;
-        take_request(talk, session, path, Some(&content), None)
-    } else if key == b"ask-broken".as_slice() {
-        let fails = talk.puts.get();
-        take_request(talk, session, path, Some(content), Some(fails))
-    } else if key == b"again".as_slice() {
-        take_request(talk, session, path, None, None)
-    } else if key == b"list".as_slice() {
-        take_list(talk, session)
-    } else {
-        talk.take_look(key)
+    match found(STEPS, &cell.key)? {
+        Step::Ask => take_ask(talk, session, path, content),
+        Step::AskBroken => {
+            let fails = talk.puts.get();
+            take_request(talk, session, path, Some(content), Some(fails))
+        }
+        Step::Again => take_request(talk, session, path, None, None),
+        Step::List => take_list(talk, session),
+        Step::Listed => given(talk.take_look(Look::Listed)),
+        Step::Deliver => given(talk.take_look(Look::Deliver)),
+        Step::Puts => given(talk.take_look(Look::Puts)),
+        Step::Then => Ok(()),
     }
 }
 
@@ -181,26 +221,57 @@ pub fn take_steps<K: Link>(
     Ok(())
 }
 
+/// What a cell says of the driver and its link.
+#[derive(Clone, Copy)]
+enum Part {
+    Part,
+    Parts,
+    Piece,
+    Fails,
+    Forgets,
+}
+
+const PARTS: Words<Part> = &[
+    (b"part", Part::Part),
+    (b"parts", Part::Parts),
+    (b"piece", Part::Piece),
+    (b"fails", Part::Fails),
+    (b"forgets", Part::Forgets),
+];
+
+/// Adds a part in which long runs are folded, which comes this many times.
+fn add_part(alloc: Global, pipe: &mut Pipe, part: &[u8], times: u32) -> Result<(), Fail> {
+    let part = unfolded(alloc, part)?;
+    given(pipe.add(alloc, &part, times))
+}
+
+/// Sets what a cell says of the driver and its link.
+fn set_part(alloc: Global, pipe: &mut Pipe, part: Part, value: &[u8]) -> Result<(), Fail> {
+    match part {
+        Part::Part => return add_part(alloc, pipe, value, 1),
+        Part::Parts => {
+            let (times, part) = parted(value);
+            return add_part(alloc, pipe, part, number_of(times)?);
+        }
+        Part::Piece => pipe.piece = number_of(value)? as usize,
+        Part::Fails => {
+            pipe.fails_send = value == b"send".as_slice();
+            pipe.fails_read = value == b"read".as_slice();
+        }
+        Part::Forgets => pipe.keeps = false,
+    }
+    Ok(())
+}
+
 /// Takes a cell of the driver, and returns whether it is one.
 fn take_part(alloc: Global, pipe: &mut Pipe, cell: &Cell) -> Result<bool, Fail> {
-    let key = cell.key.as_slice();
-    let value = cell.value.as_slice();
-    if key == b"part".as_slice() {
-        pipe.add(alloc, &unfolded(alloc, value)?, 1)?;
-    } else if key == b"parts".as_slice() {
-        let (times, part) = parted(value);
-        pipe.add(alloc, &unfolded(alloc, part)?, number_of(times)?)?;
-    } else if key == b"piece".as_slice() {
-        pipe.piece = number_of(value)? as usize;
-    } else if key == b"fails".as_slice() {
-        pipe.fails_send = value == b"send".as_slice();
-        pipe.fails_read = value == b"read".as_slice();
-    } else if key == b"forgets".as_slice() {
-        pipe.keeps = false;
-    } else {
-        return Ok(false);
+    match meant(PARTS, &cell.key) {
+        Some(part) => {
+            set_part(alloc, pipe, part, &cell.value)?;
+            Ok(true)
+        }
+        None => Ok(false),
     }
-    Ok(true)
 }
 
 /// Takes the first cells, which are the driver's, and returns how many they are.
@@ -223,15 +294,25 @@ pub fn pipe_of(alloc: Global, cells: &[Cell]) -> Result<(Pipe, usize), Fail> {
 }
 
 /// What a last cell asks for.
-fn then_of(alloc: Global, pipe: &Pipe, what: &[u8]) -> Result<Vec<u8>, Fail> {
-    if what == b"sent".as_slice() {
-        Ok(folded(alloc, &pipe.sent)?)
-    } else if what == b"sizes".as_slice() {
-        Ok(shown(alloc, (pipe.sent_bytes, pipe.most_sent))?)
-    } else if what == b"reads".as_slice() {
-        Ok(shown(alloc, pipe.puts.as_slice())?)
-    } else {
-        Err(unknown(what))
+#[derive(Clone, Copy)]
+enum Then {
+    Sent,
+    Sizes,
+    Reads,
+}
+
+const THENS: Words<Then> = &[
+    (b"sent", Then::Sent),
+    (b"sizes", Then::Sizes),
+    (b"reads", Then::Reads),
+];
+
+/// What a last cell asks for.
+fn then_of(alloc: Global, pipe: &Pipe, then: Then) -> Result<Vec<u8>, AllocError> {
+    match then {
+        Then::Sent => folded(alloc, &pipe.sent),
+        Then::Sizes => shown(alloc, (pipe.sent_bytes, pipe.most_sent)),
+        Then::Reads => shown(alloc, pipe.puts.as_slice()),
     }
 }
 
@@ -249,7 +330,7 @@ pub fn push_end(
         return Ok(());
     };
     if last.key.as_slice() == b"then".as_slice() {
-        let then = then_of(alloc, pipe, &last.value)?;
+        let then = then_of(alloc, pipe, found(THENS, &last.value)?)?;
         came.extend_from_slice(b"\n")?;
         came.extend_from_slice(&then)?;
     }

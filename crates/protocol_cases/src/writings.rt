@@ -4,7 +4,7 @@
 //! `smudge-late`, each with a path and behind a space the content. The step `nulls` says that the next requests have
 //! the name of 20 NULs, and not that with each hexadecimal digit.
 use crate::runs::{folded, unfolded};
-use case_kit::{Cell, parted, unknown};
+use case_kit::{Cell, Words, found, given, parted, unknown};
 use filter_words::{push_caps, push_hello, push_list, push_smudge};
 use pkt_line::{push_content, push_flush, push_line, push_payload};
 use std::alloc::Global;
@@ -26,8 +26,7 @@ fn push_request(
     if path.is_empty() || path.len() > 4096 {
         return Err(unknown(value));
     }
-    push_smudge(alloc, out, path, name, can_delay, content)?;
-    Ok(())
+    given(push_smudge(alloc, out, path, name, can_delay, content))
 }
 
 /// Appends a line or a payload that fits a packet.
@@ -35,13 +34,45 @@ fn push_short(alloc: Global, out: &mut Vec<u8>, is_line: bool, text: &[u8]) -> R
     if text.is_empty() || text.len() > 65_515 {
         return Err(unknown(text));
     }
-    if is_line {
-        push_line(alloc, out, text)?;
-    } else {
-        push_payload(alloc, out, text)?;
-    }
-    Ok(())
+    given(match is_line {
+        true => push_line(alloc, out, text),
+        false => push_payload(alloc, out, text),
+    })
 }
+
+/// Appends the packets of a content.
+fn push_long(alloc: Global, out: &mut Vec<u8>, text: &[u8]) -> Result<(), Fail> {
+    let content = unfolded(alloc, text)?;
+    given(push_content(alloc, out, &content))
+}
+
+/// What a step does.
+#[derive(Clone, Copy)]
+enum Step {
+    Hello,
+    Caps,
+    List,
+    Flush,
+    Line,
+    Payload,
+    Content,
+    Smudge,
+    SmudgeLate,
+    Nulls,
+}
+
+const STEPS: Words<Step> = &[
+    (b"hello", Step::Hello),
+    (b"caps", Step::Caps),
+    (b"list", Step::List),
+    (b"flush", Step::Flush),
+    (b"line", Step::Line),
+    (b"payload", Step::Payload),
+    (b"content", Step::Content),
+    (b"smudge", Step::Smudge),
+    (b"smudge-late", Step::SmudgeLate),
+    (b"nulls", Step::Nulls),
+];
 
 /// Takes a step.
 fn take_step(
@@ -50,32 +81,22 @@ fn take_step(
     name: &mut [u8; 20],
     cell: &Cell,
 ) -> Result<(), Fail> {
-    let key = cell.key.as_slice();
     let value = cell.value.as_slice();
-    if key == b"hello".as_slice() {
-        push_hello(alloc, out)?;
-    } else if key == b"caps".as_slice() {
-        push_caps(alloc, out)?;
-    } else if key == b"list".as_slice() {
-        push_list(alloc, out)?;
-    } else if key == b"flush".as_slice() {
-        push_flush(alloc, out)?;
-    } else if key == b"line".as_slice() {
-        push_short(alloc, out, true, value)?;
-    } else if key == b"payload".as_slice() {
-        push_short(alloc, out, false, value)?;
-    } else if key == b"content".as_slice() {
-        push_content(alloc, out, &unfolded(alloc, value)?)?;
-    } else if key == b"smudge".as_slice() {
-        push_request(alloc, out, name, false, value)?;
-    } else if key == b"smudge-late".as_slice() {
-        push_request(alloc, out, name, true, value)?;
-    } else if key == b"nulls".as_slice() {
-        *name = [0; 20];
-    } else {
-        return Err(unknown(key));
+    match found(STEPS, &cell.key)? {
+        Step::Hello => given(push_hello(alloc, out)),
+        Step::Caps => given(push_caps(alloc, out)),
+        Step::List => given(push_list(alloc, out)),
+        Step::Flush => given(push_flush(alloc, out)),
+        Step::Line => push_short(alloc, out, true, value),
+        Step::Payload => push_short(alloc, out, false, value),
+        Step::Content => push_long(alloc, out, value),
+        Step::Smudge => push_request(alloc, out, name, false, value),
+        Step::SmudgeLate => push_request(alloc, out, name, true, value),
+        Step::Nulls => {
+            *name = [0; 20];
+            Ok(())
+        }
     }
-    Ok(())
 }
 
 /// All that the steps write.
