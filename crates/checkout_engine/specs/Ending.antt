@@ -11,7 +11,6 @@ use Rattle.checkout_paths.specs.declared.workers.Pace.{Pace}
 use Rattle.checkout_paths.specs.Writing.{ArePathsDone, IsRunAt}
 use Rattle.checkout_sources.specs.Reading.{IsRead}
 use Rattle.checkout_sources.specs.declared.planning.Planned.{Planned}
-use Rattle.checkout_sources.specs.declared.stop.Stop.{Stop}
 use Rattle.checkout_sources.specs.declared.stop.Stop.TheVariants as stop
 use Rattle.checkout_sources.specs.Causes.{IsReadCause, IsRefusedFor, IsCutShort}
 use Rattle.checkout_engine.specs.declared.steps.PacedPlan.{PacedPlan}

@@ -1,8 +1,8 @@
-use Rattle.std.proofs.Common.{◌∙◌, ap, inr, refl, sym, subst}
+use Rattle.std.proofs.Common.{◌∙◌, inr, refl, sym, subst}
 use Rattle.edge_kit.specs.Told.{RepoTold}
 use Rattle.checkout_sources.specs.Reading.{IsRead}
 use Rattle.checkout_engine.specs.Ends.{begun, seen}
-use Rattle.checkout_engine.proofs.Done.{broken_off, done_over, over_verdicts}
+use Rattle.checkout_engine.proofs.Done.{broken_off, done_over, over_verdicts, same_tree}
 use Rattle.checkout_engine.proofs.Refused.{ends_halted, none_halted}
 use Rattle.checkout_engine.proofs.steps.checkout.Goals as goal
 
@@ -33,7 +33,7 @@ returns-in-Err-write_paths g c = record {
       let mid = begun (g.R.Repo.seen c.prepare.new.repo) (g.T.Worktree.seen c.prepare.new.tree) (g.P.Spawner.seen c.args.spawner.now) sink in
       let new = begun (g.R.Repo.seen c.write_paths.new.repo) (g.T.Worktree.seen c.write_paths.new.tree) (g.P.Spawner.seen c.write_paths.new.spawner) sink in
       inr (broken_off _ planned.plan old mid new c.in-Ok.ensures.stops.0 c.in-Ok.ensures.stops.2.read.planned c.in-Ok.ensures.stops.2.read.seen
-      (c.in-Ok.ensures.kept ∙ ap (λ n. record tree { faults = n }) c.in-Ok.ensures.stops.1) refl c.in-Err-write_paths.ensures.broken refl refl);
+      (same_tree tree (g.T.Worktree.seen c.prepare.new.tree) c.in-Ok.ensures.kept c.in-Ok.ensures.stops.1) refl c.in-Err-write_paths.ensures.broken refl refl);
 }
 
 pub returns-in-Ok-write_paths : goal.returns-in-Ok-write_paths
@@ -48,5 +48,5 @@ returns-in-Ok-write_paths g c = record {
       let mid = begun (g.R.Repo.seen c.prepare.new.repo) (g.T.Worktree.seen c.prepare.new.tree) (g.P.Spawner.seen c.args.spawner.now) sink in
       let new = seen (g.R.Repo.seen c.write_paths.new.repo) (g.T.Worktree.seen c.write_paths.new.tree) (g.P.Spawner.seen c.write_paths.new.spawner) sink run.history.items in
       done_over c.paths_are_ordered.ensures _ _ _ (record { planned = c.in-Ok.planned; asked = c.args.workers }) run old mid new c.in-Ok.ensures.told c.in-Ok.ensures.stops.0 c.in-Ok.ensures.no_file
-      c.in-Ok.ensures.stops.2 (c.in-Ok.ensures.kept ∙ ap (λ n. record tree { faults = n }) c.in-Ok.ensures.stops.1) refl c.in-Ok-write_paths.ensures.done refl;
+      c.in-Ok.ensures.stops.2 (same_tree tree (g.T.Worktree.seen c.prepare.new.tree) c.in-Ok.ensures.kept c.in-Ok.ensures.stops.1) refl c.in-Ok-write_paths.ensures.done refl;
 }
