@@ -1,6 +1,6 @@
 -- A quoted text is within the text that begins with it.
 use Rattle.std.proofs.Common.{◌≡◌, ℕ, zero, suc, ◌+◌, ◌<◌, ◌≤◌, Bool, true, false, eqb, List, [], ◌∷◌, length, drop, Option, Some, None, Result, Ok, Err, ap, arith, length-drop}
-use Rattle.byte_path.specs.declared.unquoting.QuoteFault.{QuoteFault}
+use Rattle.byte_path.specs.declared.unquoted.QuoteFault.{QuoteFault}
 use Rattle.byte_path.specs.Unquote.{prefixed, escaped, escape_at, from_byte, unquoted_behind, unquoted}
 
 abbrev size_of : Result (List ℕ × ℕ) QuoteFault → ℕ

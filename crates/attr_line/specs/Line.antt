@@ -2,7 +2,7 @@
 use Rattle.std.specs.Prelude.{ℕ, Bool, true, false, ◌&&◌, ◌||◌, ◌==◌, nat_eq, nat_lt, nat_le, not, List}
 use Rattle.std.specs.Prelude.{length, take, drop, codes, Option, Some, None, Result, Ok, Err, if◌then◌else◌}
 use Rattle.std.specs.List.{starts_with, position_or_len}
-use Rattle.byte_path.specs.declared.unquoting.QuoteFault.{QuoteFault}
+use Rattle.byte_path.specs.declared.unquoted.QuoteFault.{QuoteFault}
 use Rattle.byte_path.specs.Front.{begins}
 use Rattle.byte_path.specs.Unquote.{unquoted}
 use Rattle.attr_line.specs.declared.file.Pair.{Pair}

@@ -3,7 +3,7 @@ ghost use Rattle.std.specs.Prelude.{◌≡◌, IfOk};
 ghost use Rattle.attr_line.specs.File.{attributes_at};
 
 use crate::file::{AttrFile, Skipped};
-use crate::reading::read_attributes;
+use crate::reader::read_attributes;
 use byte_path::Bytes;
 use std::alloc::{AllocError, Global};
 use std::marker::Model;

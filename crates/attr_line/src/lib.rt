@@ -6,11 +6,11 @@ mod file;
 mod line;
 mod outcome;
 mod pairs;
-mod reading;
+mod reader;
 mod state;
 mod text;
 
 pub use content::AttrContent;
 pub use file::{AttrFile, AttrRow, Pair, Skipped};
-pub use reading::read_attributes;
+pub use reader::read_attributes;
 pub use state::AttrState;

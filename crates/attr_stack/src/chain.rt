@@ -5,7 +5,7 @@ ghost use Rattle.attr_stack.specs.Levels.{levels_at, levels_ending, levels_befor
 ghost use Rattle.attr_stack.specs.Pairs.{file_of};
 
 use crate::compiled_file::CompiledFile;
-use crate::folders::Folders;
+use crate::folders::FileFolders;
 use attr_line::AttrContent;
 use std::alloc::{AllocError, Global};
 
@@ -38,7 +38,7 @@ fn level_of(alloc: Global, content: &AttrContent, start: usize) -> Result<Level,
 fn push_level(
     alloc: Global,
     levels: &mut Vec<Level>,
-    folders: &Folders,
+    folders: &FileFolders,
     folder: &[u8],
     start: usize,
 ) -> Result<(), AllocError>
@@ -58,7 +58,7 @@ fn push_level(
 fn push_ending(
     alloc: Global,
     levels: &mut Vec<Level>,
-    folders: &Folders,
+    folders: &FileFolders,
     text: &[u8],
     place: usize,
 ) -> Result<(), AllocError>
@@ -76,7 +76,7 @@ fn push_ending(
 /// The files of the folders whose names end at a place of a text or behind it, the deepest last.
 fn levels_from(
     alloc: Global,
-    folders: &Folders,
+    folders: &FileFolders,
     text: &[u8],
     from: usize,
 ) -> Result<Vec<Level>, AllocError>
@@ -121,7 +121,7 @@ fn common_len(left: &[u8], right: &[u8]) -> usize
 
 impl Chain {
     /// The chain of the top folder.
-    pub fn of_top(alloc: Global, folders: &Folders) -> Result<Chain, AllocError>
+    pub fn of_top(alloc: Global, folders: &FileFolders) -> Result<Chain, AllocError>
         ensures { IfOk result (IsChain folders.now) }
     {
         let mut levels = Vec::new(alloc);
@@ -142,7 +142,12 @@ impl Chain {
     }
 
     /// Goes down to a folder, whose name begins with that of its own one.
-    fn descend(&mut self, alloc: Global, folders: &Folders, folder: &[u8]) -> Result<(), AllocError>
+    fn descend(
+        &mut self,
+        alloc: Global,
+        folders: &FileFolders,
+        folder: &[u8],
+    ) -> Result<(), AllocError>
         requires within { length self.old.folder.items ≤ length folder.now }
         requires front { self.old.folder.items ≡ take (length self.old.folder.items) folder.now }
         ensures folder { OnOk result (self.new.folder.items ≡ folder.now) }
@@ -159,7 +164,7 @@ impl Chain {
     pub fn enter(
         &mut self,
         alloc: Global,
-        folders: &Folders,
+        folders: &FileFolders,
         folder: &[u8],
     ) -> Result<(), AllocError>
         ensures folder { OnOk result (self.new.folder.items ≡ folder.now) }

@@ -50,12 +50,12 @@ fn file_in(files: &[FileAt], place: Option<usize>) -> Option<&AttrContent>
 
 /// The attribute files of the folders, which contracts see as a list.
 #[derive(Drop)]
-pub struct Folders {
+pub struct FileFolders {
     files: Items<FileAt>,
     places: Places,
 }
 
-impl Model for Folders {
+impl Model for FileFolders {
     ghost use Rattle.std.specs.Prelude.{List};
     ghost use Rattle.attr_stack.specs.declared.files.FileAt.{FileAt};
     ghost use Rattle.attr_stack.specs.Levels.{ArePlaces};
@@ -67,12 +67,12 @@ impl Model for Folders {
     ghost invariant = { λ f. ArePlaces f.places f.files };
 }
 
-impl Folders {
-    pub fn of(alloc: Global, files: Items<FileAt>) -> Result<Folders, AllocError>
+impl FileFolders {
+    pub fn of(alloc: Global, files: Items<FileAt>) -> Result<FileFolders, AllocError>
         ensures { IfOk result (λ folders. folders ≡ files) }
     {
         let places = places_of(alloc, files.as_slice())?;
-        Ok(Folders { files, places })
+        Ok(FileFolders { files, places })
     }
 
     /// The file of a folder.

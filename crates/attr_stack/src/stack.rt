@@ -13,7 +13,7 @@ use crate::chain::{Chain, Level};
 use crate::compiled_file::CompiledFile;
 use crate::decide::is_done;
 use crate::files::AttrFiles;
-use crate::folders::Folders;
+use crate::folders::FileFolders;
 use crate::linked_macros::{Frame, LinkedMacros};
 use crate::macros::macros_of;
 use crate::noted::States;
@@ -29,7 +29,7 @@ use wild_match::last_part;
 pub struct Rules {
     pub info: CompiledFile,
     pub base: CompiledFile,
-    pub folders: Folders,
+    pub folders: FileFolders,
     pub macros: LinkedMacros,
 }
 
@@ -41,7 +41,7 @@ fn rules_of(alloc: Global, files: AttrFiles) -> Result<Rules, AllocError>
     let AttrFiles { info, base, files } = files;
     let info = CompiledFile::of(alloc, info)?;
     let base = CompiledFile::of(alloc, base)?;
-    let folders = Folders::of(alloc, files)?;
+    let folders = FileFolders::of(alloc, files)?;
     Ok(Rules {
         info,
         base,

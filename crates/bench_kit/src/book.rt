@@ -15,7 +15,7 @@ mod runs;
 mod work;
 
 use cards::new_card;
-use checkout_book::ending::Ended;
+use checkout_book::ended::Ended;
 use checkout_core::Verdict;
 use convert_plan::Card;
 use edge_kit::{Blob, Leaf, MemoryBlob, MemoryLeaf, MemoryRepo, MemoryTree};

@@ -4,8 +4,8 @@ use Rattle.std.proofs.Math.Seq.{drop-cons}
 use Rattle.std.proofs.lemmas.Grind.{common_steps}
 use Rattle.std.proofs.lemmas.List.{append-nil, drop_all, length-drop, drop-drop}
 use Rattle.memchr.specs.Find.{is_byte2}
-use Rattle.byte_path.specs.declared.unquoting.QuoteFault.{QuoteFault}
-use Rattle.byte_path.specs.declared.unquoting.QuoteFault.TheVariants.{Unclosed, BadEscape}
+use Rattle.byte_path.specs.declared.unquoted.QuoteFault.{QuoteFault}
+use Rattle.byte_path.specs.declared.unquoted.QuoteFault.TheVariants.{Unclosed, BadEscape}
 use Rattle.byte_path.specs.Unquote.{byte_of_letter, has_octal, letter_or_octal, octal_value, escape_at, prefixed, escaped, unquoted_behind}
 
 -- the type of an answer

@@ -2,10 +2,10 @@
 use Rattle.std.specs.Prelude.{◌≡◌, ℕ, zero, suc, ◌+◌, ◌-◌, ◌*◌, ◌<◌, ◌≤◌, Bool, true, false, ◌&&◌, ◌==◌}
 use Rattle.std.specs.Prelude.{nat_le, List, [], ◌∷◌, ◌++◌, length, drop, slice_index, Option, Some, None}
 use Rattle.std.specs.Prelude.{Result, Ok, Err, if◌then◌else◌}
-use Rattle.byte_path.specs.declared.unquoting.QuoteFault.{QuoteFault}
-use Rattle.byte_path.specs.declared.unquoting.Stretch.{Stretch}
-use Rattle.byte_path.specs.declared.unquoting.Stretch.TheVariants.{Closed, Escaped}
-use Rattle.byte_path.specs.declared.unquoting.QuoteFault.TheVariants.{Unclosed, BadEscape, NoMemory}
+use Rattle.byte_path.specs.declared.unquoted.QuoteFault.{QuoteFault}
+use Rattle.byte_path.specs.declared.unquoted.Stretch.{Stretch}
+use Rattle.byte_path.specs.declared.unquoted.Stretch.TheVariants.{Closed, Escaped}
+use Rattle.byte_path.specs.declared.unquoted.QuoteFault.TheVariants.{Unclosed, BadEscape, NoMemory}
 use Rattle.byte_path.specs.Characters.{bell, backspace, tab, line_feed, vertical_tab, form_feed}
 use Rattle.byte_path.specs.Characters.{carriage_return, quote, digit_0, digit_3, digit_7, backslash, letter_a}
 use Rattle.byte_path.specs.Characters.{letter_b, letter_f, letter_n, letter_r, letter_t, letter_v}

@@ -18,7 +18,7 @@ use Rattle.checkin_paths.specs.declared.fate.Fate.TheVariants.{Kept}
 use Rattle.checkin_paths.specs.Paths.{checkin_path, checkin_paths}
 use Rattle.checkin_engine.specs.Indexes.{entry_after, fate_at, new_entries}
 use Rattle.checkin_engine.specs.InTurn.{next_fate, fates_behind, entries_after, entries_in_turn}
-use Rattle.checkin_paths.specs.Reading.{are_apart}
+use Rattle.checkin_paths.specs.ReadPaths.{are_apart}
 
 -- a function has these fates at the names of these paths
 abbrev Agrees : (List ℕ → Fate) → List CheckinPath → List Fate → Type 0

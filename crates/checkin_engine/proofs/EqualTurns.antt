@@ -9,7 +9,7 @@ use Rattle.clean_line.specs.CleanTalks.{Turn}
 use Rattle.clean_line.specs.EqualAnswers.{AreAskedAlike, HadMemory, EqualAnswers}
 use Rattle.checkin_paths.specs.declared.path.CheckinPath.{CheckinPath}
 use Rattle.checkin_paths.specs.declared.path.PathDriver.{PathDriver}
-use Rattle.checkin_paths.specs.Cleaning.{Asked, as_answer, text_in}
+use Rattle.checkin_paths.specs.CleanedFiles.{Asked, as_answer, text_in}
 use Rattle.checkin_paths.specs.Fates.{driver_of}
 use Rattle.checkin_paths.specs.Outcomes.{Outcome}
 use Rattle.checkin_engine.specs.Talks.{turn_of, turns_of, GivesTalk, GiveTalks}

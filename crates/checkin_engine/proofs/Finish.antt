@@ -19,22 +19,22 @@ use Rattle.checkout_sources.specs.Causes.{IsReadCause, IsCutShort}
 use Rattle.checkout_sources.specs.RefusalText.{refusal_line}
 use Rattle.checkin_paths.specs.declared.path.CheckinPath.{CheckinPath}
 use Rattle.checkin_paths.specs.declared.fate.Fate.{Fate}
-use Rattle.checkin_paths.specs.declared.reading.PathsRead.{PathsRead}
+use Rattle.checkin_paths.specs.declared.paths_read.PathsRead.{PathsRead}
 use Rattle.checkin_engine.specs.declared.status.CheckinStatus.{CheckinStatus}
 use Rattle.checkin_engine.specs.declared.status.CheckinStatus.TheVariants as status
 use Rattle.checkin_paths.specs.Outside.{FilesSeen, WorkSeen, KeepSeen, with_index}
 use Rattle.checkin_paths.specs.Fates.{is_auto}
-use Rattle.checkin_paths.specs.Cleaning.{Cleaning}
+use Rattle.checkin_paths.specs.CleanedFiles.{Cleaning}
 use Rattle.checkin_paths.specs.Paths.{checkin_paths}
 use Rattle.checkin_engine.specs.Indexes.{new_entries}
 use Rattle.checkin_engine.specs.InTurn.{entries_in_turn}
 use Rattle.checkin_paths.specs.Outcomes.{Outcome, AreOutcomes, fates_of, ArePathsChecked, AreObjectsCut, AreBrokenOff, IsLeftNext, blob_by, with_blob}
 use Rattle.checkin_engine.specs.Report.{report_of, is_failed}
-use Rattle.checkin_paths.specs.Keeping.{ChecksAndLeaves}
-use Rattle.checkin_engine.specs.Keeping.{KeepsAfter}
-use Rattle.checkin_paths.specs.Reading.{after_reading}
+use Rattle.checkin_paths.specs.KeptPaths.{ChecksAndLeaves}
+use Rattle.checkin_engine.specs.KeptIndex.{KeepsAfter}
+use Rattle.checkin_paths.specs.ReadPaths.{after_reading}
 use Rattle.checkin_engine.specs.Ends.{Seen, seen, AllTold, cleaning_told, work_before, with_text, status_of, IsUntouched, IsRefusedWith, IsLookedThrough, IsCheckedIn, EndsCheckin}
-use Rattle.checkin_paths.specs.Reading.{ArePathsRead, ReadsPaths}
+use Rattle.checkin_paths.specs.ReadPaths.{ArePathsRead, ReadsPaths}
 use Rattle.checkin_engine.specs.Ending.{WritesLine, EndsStopped, WritesReport}
 use Rattle.checkin_engine.proofs.ByPath.{in_turn}
 use Rattle.checkin_engine.proofs.Talks.{have_talks}

@@ -11,11 +11,11 @@ use Rattle.git_index.specs.Spelling.{plain_text}
 use Rattle.checkin_paths.specs.declared.path.CheckinPath.{CheckinPath}
 use Rattle.checkin_paths.specs.declared.fate.Fate.{Fate}
 use Rattle.checkin_paths.specs.Outside.{FilesSeen, WorkSeen, KeepSeen, KeepsIndex}
-use Rattle.checkin_paths.specs.Cleaning.{Cleaning}
+use Rattle.checkin_paths.specs.CleanedFiles.{Cleaning}
 use Rattle.checkin_engine.specs.InTurn.{entries_in_turn}
 use Rattle.checkin_paths.specs.Outcomes.{ArePathsChecked, AreBrokenOff}
-use Rattle.checkin_paths.specs.Keeping.{first_work, ChecksAndLeaves}
-use Rattle.checkin_engine.specs.Keeping.{KeepsAfter, HaveNames}
+use Rattle.checkin_paths.specs.KeptPaths.{first_work, ChecksAndLeaves}
+use Rattle.checkin_engine.specs.KeptIndex.{KeepsAfter, HaveNames}
 use Rattle.checkin_engine.proofs.Names.{fates_have_names}
 
 -- the text of the new index was to be kept

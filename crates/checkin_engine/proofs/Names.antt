@@ -7,10 +7,10 @@ use Rattle.checkin_paths.specs.declared.path.Way.TheVariants as way
 use Rattle.checkin_paths.specs.declared.path.CheckinPath.{CheckinPath}
 use Rattle.checkin_paths.specs.declared.fate.Fate.{Fate}
 use Rattle.checkin_paths.specs.declared.fate.Fate.TheVariants.{Same, Changed, Gone, Kept, Failed}
-use Rattle.checkin_paths.specs.Cleaning.{Asked}
+use Rattle.checkin_paths.specs.CleanedFiles.{Asked}
 use Rattle.checkin_paths.specs.Fates.{HasFate, name_of}
 use Rattle.checkin_paths.specs.Outcomes.{Outcome, AreOutcomes, fates_of}
-use Rattle.checkin_engine.specs.Keeping.{HasName, HaveNames}
+use Rattle.checkin_engine.specs.KeptIndex.{HasName, HaveNames}
 
 sha1_length : (m : List ℕ) → length (sha1 m) ≡ 20
 unfolding digest_bytes sha1

@@ -11,7 +11,7 @@ use Rattle.checkin_paths.specs.declared.fate.Fate.{Fate}
 use Rattle.checkin_paths.specs.declared.fate.Fate.TheVariants.{Same, Changed, Gone, Kept, Failed}
 use Rattle.checkin_paths.specs.declared.fate.CheckinCause.TheVariants.{Encoding, NoProcess, Read, TooLarge, Filter}
 use Rattle.checkin_paths.specs.declared.fate.CheckinCause.TheVariants.{EncodingForm, OtherKind}
-use Rattle.checkin_paths.specs.Cleaning.{Asked, IsCleaned}
+use Rattle.checkin_paths.specs.CleanedFiles.{Asked, IsCleaned}
 use Rattle.checkin_paths.specs.Fates.{max_file, HasFile, HasStoredFate, HasFate}
 use Rattle.checkin_paths.specs.Outcomes.{Outcome, HasStoredCounts, HasCounts, IsUnread, AreOutcomes}
 use Rattle.checkin_engine.specs.EqualTurns.{IsAskedAlike, AreAlike, IsAllTold, SameFilesAskAlike}

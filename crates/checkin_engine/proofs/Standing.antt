@@ -9,7 +9,7 @@ use Rattle.checkin_paths.specs.declared.fate.Fate.{Fate}
 use Rattle.checkin_paths.specs.declared.fate.Fate.TheVariants.{Same, Changed, Gone, Kept, Failed}
 use Rattle.checkin_engine.specs.Indexes.{with_name, entry_after}
 use Rattle.checkin_engine.specs.InTurn.{next_fate, fates_behind, entries_after, entries_in_turn}
-use Rattle.checkin_engine.specs.Keeping.{HasName, HaveNames}
+use Rattle.checkin_engine.specs.KeptIndex.{HasName, HaveNames}
 
 both : (a b : Bool) → a ≡ true → b ≡ true → (a && b) ≡ true
 both true b p q = q

@@ -14,10 +14,10 @@ use Rattle.clean_drivers.specs.Drivers.{DriversSeen, HasLine, TalksWith, AsksBy,
 use Rattle.checkin_paths.specs.declared.path.CheckinPath.{CheckinPath}
 use Rattle.checkin_paths.specs.declared.path.PathDriver.{PathDriver}
 use Rattle.checkin_paths.specs.Outside.{FilesSeen, WorkSeen}
-use Rattle.checkin_paths.specs.Cleaning.{Asked, Cleaning, text_in, text_at, as_answer, AsksOne}
+use Rattle.checkin_paths.specs.CleanedFiles.{Asked, Cleaning, text_in, text_at, as_answer, AsksOne}
 use Rattle.checkin_paths.specs.Fates.{driver_of}
 use Rattle.checkin_paths.specs.Outcomes.{Outcome, AreInTurn, AreLookedAt}
-use Rattle.checkin_paths.specs.Keeping.{IsLeft, first_work}
+use Rattle.checkin_paths.specs.KeptPaths.{IsLeft, first_work}
 use Rattle.checkin_engine.specs.Talks.{turn_of, turns_of, GivesTalk, GiveTalks, HaveTalks}
 
 -- one chain of turns behind another

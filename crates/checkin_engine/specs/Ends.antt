@@ -18,9 +18,9 @@ use Rattle.checkin_engine.specs.declared.status.CheckinStatus.{CheckinStatus}
 use Rattle.checkin_engine.specs.declared.status.CheckinStatus.TheVariants as status
 use Rattle.checkin_paths.specs.Outside.{FilesSeen, WorkSeen, KeepSeen, IsKeepFailed, with_index}
 use Rattle.checkin_paths.specs.Paths.{HasPaths}
-use Rattle.checkin_paths.specs.Reading.{after_reading}
-use Rattle.checkin_paths.specs.Cleaning.{Cleaning, cleaning}
-use Rattle.checkin_paths.specs.Keeping.{IsLeft, first_work}
+use Rattle.checkin_paths.specs.ReadPaths.{after_reading}
+use Rattle.checkin_paths.specs.CleanedFiles.{Cleaning, cleaning}
+use Rattle.checkin_paths.specs.KeptPaths.{IsLeft, first_work}
 use Rattle.checkin_engine.specs.Indexes.{new_entries}
 use Rattle.checkin_paths.specs.Outcomes.{ArePathsChecked, AreObjectsCut, AreBrokenOff}
 use Rattle.checkin_engine.specs.Report.{report_of, is_failed}

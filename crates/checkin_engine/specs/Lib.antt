@@ -7,7 +7,7 @@ pub mod Report
 pub mod Words
 pub mod Ends
 -- what its parts promise each other
-pub mod Keeping
+pub mod KeptIndex
 pub mod Ending
 -- what two check-ins have in common
 pub mod EqualTurns

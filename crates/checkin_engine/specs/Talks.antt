@@ -7,7 +7,7 @@ use Rattle.settings_view.specs.declared.view.Driver.{Driver}
 use Rattle.clean_line.specs.CleanTalks.{Turn, IsCleanTalk}
 use Rattle.checkin_paths.specs.declared.path.PathDriver.{PathDriver}
 use Rattle.checkin_paths.specs.declared.path.CheckinPath.{CheckinPath}
-use Rattle.checkin_paths.specs.Cleaning.{Asked, as_answer, text_in}
+use Rattle.checkin_paths.specs.CleanedFiles.{Asked, as_answer, text_in}
 use Rattle.checkin_paths.specs.Fates.{driver_of}
 use Rattle.checkin_paths.specs.Outcomes.{Outcome}
 

@@ -6,7 +6,7 @@ ghost use Rattle.checkin_engine.specs.declared.status.CheckinStatus.{CheckinStat
 ghost use Rattle.checkin_engine.specs.Ends.{seen, all_told, number_of, status_of, EndsCheckin};
 ghost use Rattle.checkin_engine.specs.Ending.{WritesLine, EndsStopped, WritesReport};
 
-use crate::keeping::keep_all;
+use crate::kept_index::keep_all;
 use crate::report::{has_failed, report_text};
 use crate::status::{CheckinStatus, number_of};
 use crate::words::is_checkin;

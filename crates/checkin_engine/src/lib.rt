@@ -2,8 +2,8 @@
 #![tactic(auto)]
 
 mod command;
-mod indexing;
-mod keeping;
+mod kept_entries;
+mod kept_index;
 mod laws;
 mod report;
 mod status;

@@ -16,7 +16,7 @@ use Rattle.settings_view.specs.declared.view.Settings.{Settings}
 use Rattle.checkout_plan.specs.Paths.{first_entries_after, first_entries}
 use Rattle.checkin_paths.specs.declared.path.CheckinPath.{CheckinPath}
 use Rattle.checkin_paths.specs.Paths.{checkin_path, checkin_paths}
-use Rattle.checkin_paths.specs.Reading.{are_apart}
+use Rattle.checkin_paths.specs.ReadPaths.{are_apart}
 
 abbrev entry_precedes : Entry → Entry → Bool
 entry_precedes d e = is_before d.path e.path

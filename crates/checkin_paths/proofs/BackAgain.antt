@@ -35,7 +35,7 @@ use Rattle.checkout_core.specs.declared.verdict.SkipCause.TheVariants as skip
 use Rattle.checkout_plan.specs.declared.path_plan.PathPlan.{PathPlan}
 use Rattle.checkout_plan.specs.Paths.{closed, start_by, start_at, start_named, filter_start, converted, file_path, text_path, link_path, path_of_mode, asked_path}
 use Rattle.clean_line.specs.declared.cause.CleanCause.{CleanCause}
-use Rattle.checkin_paths.specs.Cleaning.{Asked, cleaned_by, IsCleaned}
+use Rattle.checkin_paths.specs.CleanedFiles.{Asked, cleaned_by, IsCleaned}
 use Rattle.checkin_paths.specs.declared.path.PathDriver.{PathDriver}
 use Rattle.checkin_paths.specs.declared.path.Storing.{Storing}
 use Rattle.checkin_paths.specs.declared.path.Way.{Way}
@@ -45,7 +45,7 @@ use Rattle.checkin_paths.specs.declared.fate.Fate.TheVariants.{Same, Changed, Go
 use Rattle.checkin_paths.specs.declared.fate.CheckinCause.TheVariants as cause
 use Rattle.checkin_paths.specs.Fates.{max_file, IsWrong, ReadsOld, HasOld, HasFile, IsClean, IsBlobOf, name_of, HasStoredFate, HasFate}
 use Rattle.checkin_paths.specs.Paths.{is_kept, state_at, encoded_way, file_way, as_it_is, way_of_mode, way_of}
-use Rattle.checkin_paths.specs.Asking.{is_gitlink}
+use Rattle.checkin_paths.specs.Asked.{is_gitlink}
 use Rattle.checkin_paths.proofs.KeptPaths.{kept_is_left_out}
 use Rattle.checkin_paths.specs.Outcomes.{Outcome, HasStoredCounts, HasCounts}
 use Rattle.checkin_paths.specs.BackAgain.{tree_file, conversion_of, IsFileOf, ComesBack}

@@ -16,11 +16,11 @@ use Rattle.checkin_paths.specs.declared.path.Storing.{Storing}
 use Rattle.checkin_paths.specs.declared.path.Way.{Way}
 use Rattle.checkin_paths.specs.declared.path.Way.TheVariants as way
 use Rattle.checkin_paths.specs.Outside.{FilesSeen, WorkSeen, KeepSeen, IsKeepFailed, with_objects, path_if}
-use Rattle.checkin_paths.specs.Cleaning.{Cleaning}
+use Rattle.checkin_paths.specs.CleanedFiles.{Cleaning}
 use Rattle.checkin_paths.specs.Fates.{HasFate}
 use Rattle.checkin_paths.specs.Outcomes.{Outcome, IsOutcome, HasCounts, HasStoredCounts, is_of_other_kind, other_kinds, AreOutcomes, IsLookedAt, AreInTurn, AreLookedAt, AreChecked, ArePathsChecked, AreObjectsCut, AreBrokenOff, IsLeftNext, object_of, objects_of, blob_back, blobs_back, failed_at, failed_paths, with_blob, with_blobs, FailsIf, HasCounted}
-use Rattle.checkin_paths.specs.Looking.{SaysKind, IsPathLookedAt, IsOpen}
-use Rattle.checkin_paths.specs.Keeping.{IsPathChecked, IsPathCut, IsPathLeft}
+use Rattle.checkin_paths.specs.Looks.{SaysKind, IsPathLookedAt, IsOpen}
+use Rattle.checkin_paths.specs.KeptPaths.{IsPathChecked, IsPathCut, IsPathLeft}
 
 outcomes_more : (object told : List ℕ → Told) (ps : List CheckinPath) (os : List Outcome) (p : CheckinPath) (o : Outcome) → AreOutcomes object told ps os → IsOutcome object told p o → AreOutcomes object told (ps ++ p ∷ []) (os ++ o ∷ [])
 outcomes_more object told [] [] p o are is = (is, tt)

@@ -13,11 +13,11 @@ use Rattle.back_convert.specs.Ends.{has_crlf}
 use Rattle.eol_convert.specs.declared.action.Action.{Action}
 use Rattle.checkout_plan.specs.Seen.{ReturnsObject}
 use Rattle.checkin_paths.specs.declared.path.CheckinPath.{CheckinPath}
-use Rattle.checkin_paths.specs.declared.finding.Found.{Found}
+use Rattle.checkin_paths.specs.declared.found_file.Found.{Found}
 use Rattle.checkin_paths.specs.Outside.{LeavesFiles, AreFailedAt, FilesSeen}
 use Rattle.checkin_paths.specs.Fates.{max_file, is_auto, IsWrong, IsThere}
 use Rattle.checkin_paths.specs.Outcomes.{blob_by, with_blob, with_blobs, MakesBlob}
-use Rattle.checkin_paths.specs.Looking.{AnswersCrlf, LooksOld, FindsThere, FindsTaken, IsUnfailedTake, Finds, SaysKind, found_failed}
+use Rattle.checkin_paths.specs.Looks.{AnswersCrlf, LooksOld, FindsThere, FindsTaken, IsUnfailedTake, Finds, SaysKind, found_failed}
 
 -- a blob was given back, and nothing else has changed
 given_back : (name : List ℕ) (count : ℕ) (old new : RepoSeen) → new ≡ record old { returned = new.returned } → new.returned ≡ old.returned ++ (name, count) ∷ [] → new ≡ with_blobs ((name, count) ∷ []) old

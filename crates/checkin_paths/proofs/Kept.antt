@@ -15,10 +15,10 @@ use Rattle.checkin_paths.specs.declared.path.CheckinPath.{CheckinPath}
 use Rattle.checkin_paths.specs.declared.fate.Fate.{Fate}
 use Rattle.checkin_paths.specs.declared.fate.Fate.TheVariants.{Same, Changed, Gone, Kept, Failed}
 use Rattle.checkin_paths.specs.Outside.{FilesSeen, WorkSeen, work_seen, KeepSeen, KeepsObject, with_objects}
-use Rattle.checkin_paths.specs.Cleaning.{Cleaning, cleaning}
+use Rattle.checkin_paths.specs.CleanedFiles.{Cleaning, cleaning}
 use Rattle.checkin_paths.specs.Outcomes.{object_by, ArePathsChecked}
-use Rattle.checkin_paths.specs.Looking.{Looks}
-use Rattle.checkin_paths.specs.Keeping.{KeepsStored, ChecksPath, ChecksPaths, first_work, ChecksAndLeaves}
+use Rattle.checkin_paths.specs.Looks.{Looks}
+use Rattle.checkin_paths.specs.KeptPaths.{KeepsStored, ChecksPath, ChecksPaths, first_work, ChecksAndLeaves}
 use Rattle.checkin_paths.proofs.Checked.{with_no_object, one_checked, next_path, cut_at, left_at, left_before, left_behind}
 use Rattle.checkin_paths.proofs.Looked.{path_cut, path_left}
 

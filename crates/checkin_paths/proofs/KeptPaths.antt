@@ -23,7 +23,7 @@ use Rattle.checkin_paths.specs.Paths.{is_kept_start, is_kept, way_of, way_of_mod
 use Rattle.checkin_paths.specs.declared.path.Way.{Way}
 use Rattle.checkin_paths.specs.declared.path.Way.TheVariants.{Kept}
 use Rattle.attr_stack.specs.Decided.{state_of}
-use Rattle.checkin_paths.specs.Asking.{is_gitlink, is_left_out, asked_names, way_by_states}
+use Rattle.checkin_paths.specs.Asked.{is_gitlink, is_left_out, asked_names, way_by_states}
 
 by_command : (place : ℕ) (process : Option (List ℕ)) (required : Bool) → is_kept_start (start_by place process required) ≡ false
 by_command place (Some process) required = refl

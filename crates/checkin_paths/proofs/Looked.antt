@@ -24,15 +24,15 @@ use Rattle.checkin_paths.specs.declared.fate.Fate.{Fate}
 use Rattle.checkin_paths.specs.declared.fate.Fate.TheVariants.{Same, Changed, Gone, Kept, Failed}
 use Rattle.checkin_paths.specs.declared.fate.CheckinCause.{CheckinCause}
 use Rattle.checkin_paths.specs.declared.fate.CheckinCause.TheVariants.{Encoding, NoProcess, Read, OtherKind, TooLarge, Filter, EncodingForm}
-use Rattle.checkin_paths.specs.declared.finding.Found.{Found}
-use Rattle.checkin_paths.specs.declared.finding.Found.TheVariants as find
-use Rattle.checkin_paths.specs.declared.looking.Looked.{Looked}
-use Rattle.checkin_paths.specs.Cleaning.{Asked, Cleaning, cleaned_by, IsCleaned, text_at, as_answer, AsksFor, AsksOne, AsksInVain}
+use Rattle.checkin_paths.specs.declared.found_file.Found.{Found}
+use Rattle.checkin_paths.specs.declared.found_file.Found.TheVariants as find
+use Rattle.checkin_paths.specs.declared.look.Looked.{Looked}
+use Rattle.checkin_paths.specs.CleanedFiles.{Asked, Cleaning, cleaned_by, IsCleaned, text_at, as_answer, AsksFor, AsksOne, AsksInVain}
 use Rattle.checkin_paths.specs.Outside.{WorkSeen, work_seen, FilesSeen, KeepSeen, IsKeepFailed, with_objects}
 use Rattle.checkin_paths.specs.Fates.{is_auto, HasFile, IsClean, name_of, HasStoredFate, HasFate, driver_of}
 use Rattle.checkin_paths.specs.Outcomes.{Outcome, IsUnfailed, HasStoredCounts, HasCounts, is_of_other_kind, blob_by, with_blob, FailsIf, object_by, looks_at_old, MakesBlob, IsLeftAt}
-use Rattle.checkin_paths.specs.Looking.{fate_by, IsFound, Finds, is_other_found, IsStoredSo, IsCleanedFate, ComesTo, Becomes, BecomesNothing, AnswersFor, CleansFile, Looks}
-use Rattle.checkin_paths.specs.Keeping.{IsPathChecked, IsPathCut, IsPathLeft}
+use Rattle.checkin_paths.specs.Looks.{fate_by, IsFound, Finds, is_other_found, IsStoredSo, IsCleanedFate, ComesTo, Becomes, BecomesNothing, AnswersFor, CleansFile, Looks}
+use Rattle.checkin_paths.specs.KeptPaths.{IsPathChecked, IsPathCut, IsPathLeft}
 use Rattle.checkin_paths.proofs.Found.{blob_made, no_kind}
 
 -- the fate of a content is that it is the same or changed, by its name

@@ -13,10 +13,10 @@ use Rattle.checkout_sources.specs.Attributed.{AreAttributed}
 use Rattle.checkout_sources.specs.Causes.{IsCutShort}
 use Rattle.checkout_sources.specs.Reading.{ReadsPlan}
 use Rattle.checkin_paths.specs.declared.path.CheckinPath.{CheckinPath}
-use Rattle.checkin_paths.specs.declared.reading.PathsRead.{PathsRead}
-use Rattle.checkin_paths.specs.Looking.{IsOpen}
-use Rattle.checkin_paths.specs.Reading.{after_reading}
-use Rattle.checkin_paths.specs.Reading.{are_apart, PathsOf, ReadsPaths}
+use Rattle.checkin_paths.specs.declared.paths_read.PathsRead.{PathsRead}
+use Rattle.checkin_paths.specs.Looks.{IsOpen}
+use Rattle.checkin_paths.specs.ReadPaths.{after_reading}
+use Rattle.checkin_paths.specs.ReadPaths.{are_apart, PathsOf, ReadsPaths}
 use Rattle.checkin_paths.proofs.Texts.{paths_are_open, paths_are_few}
 use Rattle.checkin_paths.proofs.Apart.{paths_are_apart}
 

@@ -25,8 +25,8 @@ use Rattle.checkout_plan.specs.Paths.{start_by, start_at, start_named, filter_st
 use Rattle.checkin_paths.specs.declared.path.Storing.{Storing}
 use Rattle.checkin_paths.specs.declared.path.Way.TheVariants as way
 use Rattle.checkin_paths.specs.Paths.{is_kept, state_at, way_by, encoded_way, way_of_mode, checkin_path, checkin_paths}
-use Rattle.checkin_paths.specs.Asking.{is_gitlink}
-use Rattle.checkin_paths.specs.Looking.{IsAskableBy, IsOpenBy, IsOpen}
+use Rattle.checkin_paths.specs.Asked.{is_gitlink}
+use Rattle.checkin_paths.specs.Looks.{IsAskableBy, IsOpenBy, IsOpen}
 use Rattle.checkin_paths.proofs.KeptPaths.{kept_is_left_out}
 
 false_at : (b : Bool) → (b ≡ true → ⊥) → false ≡ b

@@ -17,7 +17,7 @@ use Rattle.back_convert.specs.Laws.{HasSafeEnds, HasSafeKeywords, HasSafeMarkIf,
 use Rattle.checkout_plan.specs.Paths.{asked_path}
 use Rattle.checkin_paths.specs.declared.path.PathDriver.{PathDriver}
 use Rattle.checkin_paths.specs.declared.path.Storing.{Storing}
-use Rattle.checkin_paths.specs.Cleaning.{Asked}
+use Rattle.checkin_paths.specs.CleanedFiles.{Asked}
 use Rattle.checkin_paths.specs.declared.path.Way.TheVariants.{Stored}
 use Rattle.checkin_paths.specs.declared.fate.Fate.TheVariants.{Same}
 use Rattle.checkin_paths.specs.Fates.{max_file}

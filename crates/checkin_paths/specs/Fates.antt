@@ -16,7 +16,7 @@ use Rattle.checkin_paths.specs.declared.path.PathDriver.{PathDriver}
 use Rattle.checkin_paths.specs.declared.path.Storing.{Storing}
 use Rattle.checkin_paths.specs.declared.path.Way.{Way}
 use Rattle.checkin_paths.specs.declared.path.Way.TheVariants as way
-use Rattle.checkin_paths.specs.Cleaning.{Asked, IsCleaned}
+use Rattle.checkin_paths.specs.CleanedFiles.{Asked, IsCleaned}
 use Rattle.checkin_paths.specs.declared.fate.Fate.{Fate}
 use Rattle.checkin_paths.specs.declared.fate.Fate.TheVariants.{Same, Changed, Gone, Kept, Failed}
 use Rattle.checkin_paths.specs.declared.fate.CheckinCause.{CheckinCause}

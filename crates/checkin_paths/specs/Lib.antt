@@ -3,14 +3,14 @@ pub mod Outside
 pub mod Memory
 -- what becomes of each path
 pub mod Paths
-pub mod Cleaning
+pub mod CleanedFiles
 pub mod Fates
 pub mod Outcomes
 -- what the reading of the paths and the look at them promise
-pub mod Reading
-pub mod Keeping
+pub mod ReadPaths
+pub mod KeptPaths
 -- what its parts promise each other
-pub mod Asking
-pub mod Looking
+pub mod Asked
+pub mod Looks
 -- what comes back unchanged
 pub mod BackAgain

@@ -17,7 +17,7 @@ use Rattle.checkin_paths.specs.declared.fate.CheckinCause.TheVariants.{Read, Oth
 use Rattle.checkin_paths.specs.Outside.{WorkSeen, FilesSeen, KeepSeen, AreFailedAt, IsKeepFailed, with_objects}
 use Rattle.checkin_paths.specs.Outside.{path_if}
 use Rattle.checkin_paths.specs.Fates.{is_auto, IsThere, HasFile, HasFate, driver_of}
-use Rattle.checkin_paths.specs.Cleaning.{Asked, Cleaning, AsksOne, AsksInVain}
+use Rattle.checkin_paths.specs.CleanedFiles.{Asked, Cleaning, AsksOne, AsksInVain}
 
 -- What a path comes to: its fate, what its driver was asked if it was, the content of its file if it is stored, whether
 -- the files failed at it, and the count of its blob if one was made.

@@ -3,7 +3,7 @@ ghost use Rattle.std.specs.Prelude.{◌≡◌, IfOk, length, map};
 ghost use Rattle.checkin_paths.specs.Paths.{way_of, checkin_path, checkin_paths};
 ghost use Rattle.std.specs.Str.{is_utf8};
 ghost use Rattle.attr_stack.specs.Decided.{state_of};
-ghost use Rattle.checkin_paths.specs.Asking.{is_left_out, asked_names, way_by_states, IsReady};
+ghost use Rattle.checkin_paths.specs.Asked.{is_left_out, asked_names, way_by_states, IsReady};
 
 use crate::path::{CheckinPath, Storing, Way};
 use crate::ways::filter_way;

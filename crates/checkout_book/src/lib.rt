@@ -2,10 +2,10 @@
 #![tactic(auto)]
 
 pub mod book;
-pub mod ending;
+pub mod ended;
 pub mod laws;
 pub mod plan;
-pub mod reserving;
+pub mod reserved_cards;
 pub mod shelf;
 mod turns;
 mod waiting;

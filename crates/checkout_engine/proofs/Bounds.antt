@@ -53,7 +53,7 @@ use Rattle.checkout_engine.proofs.LeftOut.{left_out_by}
 use Rattle.checkout_paths.specs.Cards.{IsText, IsTextIn, AreTexts}
 use Rattle.edge_kit.specs.Seen.{RepoSeen}
 use Rattle.edge_kit.specs.Told.{RepoTold}
-use Rattle.checkout_sources.specs.declared.planning.Planned.{Planned}
+use Rattle.checkout_sources.specs.declared.planned.Planned.{Planned}
 use Rattle.checkout_paths.specs.declared.workers.Pace.{Pace}
 use Rattle.checkout_sources.specs.Reading.{IsRead}
 use Rattle.checkout_sources.specs.Sources.{IsPlanned}

@@ -16,8 +16,8 @@ use Rattle.checkout_words.specs.declared.Command.{Command}
 use Rattle.checkout_words.specs.declared.Command.TheVariants as command
 use Rattle.writer_pool.specs.Ends.{IsRun}
 use Rattle.checkout_engine.specs.declared.begin.PlannedRun.{PlannedRun}
-use Rattle.checkout_sources.specs.declared.planning.Planned.{Planned}
-use Rattle.checkout_engine.specs.declared.end.Run.{Run}
+use Rattle.checkout_sources.specs.declared.planned.Planned.{Planned}
+use Rattle.checkout_engine.specs.declared.end.CheckoutRun.{CheckoutRun}
 use Rattle.checkout_engine.specs.Begun.{IsSmallStart, PlansRun}
 use Rattle.checkout_engine.specs.Ends.{verdicts_of}
 use Rattle.checkout_sources.specs.Reading.{IsRead}
@@ -46,7 +46,7 @@ abbrev pub IsShort : Type 0
 IsShort = (starts : List Start) (workers drivers : ℕ) (history : List Event) (x : Core) → AreBelow drivers starts → IsLegal starts workers drivers history x → length history ≤ 9 * length starts
 
 -- what is handed on is the run of the checkout
-pub run_rehearsed : (seed n : ℕ) (run : Run) (tree : TreeSeen) (starts : List Start) (drivers : ℕ) → IsRehearsed seed n run tree → starts ≡ starts_of run.plan.paths → drivers ≡ length run.plan.drivers
+pub run_rehearsed : (seed n : ℕ) (run : CheckoutRun) (tree : TreeSeen) (starts : List Start) (drivers : ℕ) → IsRehearsed seed n run tree → starts ≡ starts_of run.plan.paths → drivers ≡ length run.plan.drivers
     → IsRehearsedRun seed n starts run.workers drivers run.history.items
 run_rehearsed seed n run tree starts drivers rehearsed starts_is drivers_is =
     let tried = rehearsed.well.tried in

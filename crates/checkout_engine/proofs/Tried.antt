@@ -5,15 +5,15 @@ use Rattle.edge_kit.specs.Starters.{Starts, SpawnerSeen}
 use Rattle.edge_kit.specs.Told.{RepoTold}
 use Rattle.git_index.specs.Spelling.{PathsAreOrdered}
 use Rattle.checkout_sources.specs.Reading.{IsRead}
-use Rattle.checkout_sources.specs.declared.planning.Planned.{Planned}
-use Rattle.checkout_engine.specs.declared.end.Run.{Run}
+use Rattle.checkout_sources.specs.declared.planned.Planned.{Planned}
+use Rattle.checkout_engine.specs.declared.end.CheckoutRun.{CheckoutRun}
 use Rattle.checkout_engine.specs.Ending.{IsRunOver}
 use Rattle.checkout_engine.specs.Ends.{seen}
 use Rattle.checkout_engine.specs.Rehearsed.{new_memory, IsTried}
 use Rattle.checkout_engine.proofs.Done.{done_over}
 
 -- the paths of a plan are done in memory
-pub tried : PathsAreOrdered → (told told' : RepoTold) (ahead : List ℕ → Starts) (p : Planned) (r : Run) (repo mid repo' : RepoSeen) (tree tree' : TreeSeen) (spawner spawner' : SpawnerSeen)
+pub tried : PathsAreOrdered → (told told' : RepoTold) (ahead : List ℕ → Starts) (p : Planned) (r : CheckoutRun) (repo mid repo' : RepoSeen) (tree tree' : TreeSeen) (spawner spawner' : SpawnerSeen)
     → told' ≡ told → repo ≡ new_memory.repo → tree ≡ new_memory.tree → spawner ≡ new_memory.spawner → IsRead told p repo mid
     → IsRunOver ahead told'.object (record { planned = p; asked = None }) r mid repo' tree tree' spawner spawner' → IsTried told ahead r tree' spawner'
 tried law told told' ahead p r repo mid repo' tree tree' spawner spawner' same repo_is tree_is spawner_is read over =

@@ -20,7 +20,7 @@ use Rattle.checkout_core.specs.declared.verdict.Verdict.{Verdict}
 use Rattle.checkout_core.specs.declared.verdict.Verdict.TheVariants as verdict
 use Rattle.checkout_core.specs.declared.verdict.FailCause.TheVariants as fail
 use Rattle.checkout_plan.specs.declared.path_plan.PathPlan.{PathPlan}
-use Rattle.checkout_engine.specs.declared.end.Run.{Run}
+use Rattle.checkout_engine.specs.declared.end.CheckoutRun.{CheckoutRun}
 use Rattle.checkout_engine.specs.Complete.{failed_leaves}
 use Rattle.checkout_engine.specs.Ends.{verdicts_of}
 use Rattle.checkout_paths.specs.Outcome.{Outcome, HasCounts, HasVerdict, HasDeskVerdict, HasOutcome, AreOutcomes, leaf_back}
@@ -130,7 +130,7 @@ drivers_fine (d ∷ ds) is =
 
 -- ---- the whole
 
-pub tried_well : (told : RepoTold) (ahead : List ℕ → Starts) (run : Run) (ws : List Verdict) (tree : TreeSeen) (spawner : SpawnerSeen) (drivers : List DriverSeen) (b : Bool) → IsTried told ahead run tree spawner
+pub tried_well : (told : RepoTold) (ahead : List ℕ → Starts) (run : CheckoutRun) (ws : List Verdict) (tree : TreeSeen) (spawner : SpawnerSeen) (drivers : List DriverSeen) (b : Bool) → IsTried told ahead run tree spawner
     → map driver_back drivers ≡ spawner.returned → ws ≡ run.verdicts.items → b ≡ is_disturbed ws drivers → b ≡ false → IsTriedWell told ahead run tree
 tried_well told ahead run ws tree spawner drivers b tried kept same test none =
     let c = tried.checkout in

@@ -6,7 +6,7 @@ use Rattle.checkout_core.specs.declared.event.Event.{Event}
 use Rattle.checkout_paths.specs.Workers.{worker_count}
 use Rattle.checkout_engine.specs.declared.end.Checkout.{Checkout}
 use Rattle.checkout_engine.specs.declared.end.Checkout.TheVariants as ends
-use Rattle.checkout_engine.specs.declared.end.Run.{Run}
+use Rattle.checkout_engine.specs.declared.end.CheckoutRun.{CheckoutRun}
 use Rattle.checkout_engine.specs.Ends.{Seen, IsCheckedOut, verdicts_of, HasRefusal}
 use Rattle.checkout_engine.specs.Ends.{IsStopped, IsBrokenOff, IsReadFault, IsNotEmpty}
 
@@ -26,7 +26,7 @@ HasVerdicts e = Unit {0}
 -- This is the run of a checkout: its plan, as many workers as were asked for and its settings give, the verdicts of its
 -- paths, and its history.
 pub record IsRunOf {told : RepoTold} {ahead : List ℕ → Starts} {asked : Option ℕ} {old new : Seen}
-    (c : IsCheckedOut told ahead asked old new) (run : Run) : Type 0 where
+    (c : IsCheckedOut told ahead asked old new) (run : CheckoutRun) : Type 0 where
   pub plan_is : run.plan ≡ c.plan
   pub workers_are : run.workers ≡ worker_count asked c.planned.settings c.plan.paths
   pub verdicts_are : run.verdicts.items ≡ verdicts_of c.outcomes

@@ -10,13 +10,13 @@ use Rattle.checkout_words.specs.declared.Command.TheVariants as command
 use Rattle.checkout_paths.specs.declared.workers.Pace.{Pace}
 use Rattle.checkout_paths.specs.Writing.{ArePathsDone, IsRunAt}
 use Rattle.checkout_sources.specs.Reading.{IsRead}
-use Rattle.checkout_sources.specs.declared.planning.Planned.{Planned}
+use Rattle.checkout_sources.specs.declared.planned.Planned.{Planned}
 use Rattle.checkout_sources.specs.declared.stop.Stop.TheVariants as stop
 use Rattle.checkout_sources.specs.Causes.{IsReadCause, IsRefusedFor, IsCutShort}
 use Rattle.checkout_engine.specs.declared.steps.PacedPlan.{PacedPlan}
 use Rattle.checkout_engine.specs.declared.end.Checkout.{Checkout}
 use Rattle.checkout_engine.specs.declared.end.Checkout.TheVariants as ends
-use Rattle.checkout_engine.specs.declared.end.Run.{Run}
+use Rattle.checkout_engine.specs.declared.end.CheckoutRun.{CheckoutRun}
 use Rattle.checkout_engine.specs.declared.halt.Halt.{Halt}
 use Rattle.checkout_engine.specs.declared.halt.Halt.TheVariants as halt
 use Rattle.checkout_engine.specs.declared.exit_status.ExitStatus.{ExitStatus}
@@ -63,7 +63,7 @@ pace_of paced =
     record { asked = paced.asked; workers = paced.planned.workers; threshold = paced.planned.threshold }
 
 -- The paths of a plan that was read are done, and this is their run.
-pub record IsRunOver (ahead : List ℕ → Starts) (object : List ℕ → Told) (paced : PacedPlan) (run : Run)
+pub record IsRunOver (ahead : List ℕ → Starts) (object : List ℕ → Told) (paced : PacedPlan) (run : CheckoutRun)
     (repo repo' : RepoSeen) (tree tree' : TreeSeen) (spawner spawner' : SpawnerSeen) : Type 0 where
   pub plan_is : run.plan ≡ paced.planned.plan
   pub done : let plan = paced.planned.plan in

@@ -23,7 +23,7 @@ use Rattle.checkout_core.specs.declared.event.Event.{Event}
 use Rattle.checkout_core.specs.declared.path.Start.{Start}
 use Rattle.writer_pool.specs.Ends.{IsRun}
 use Rattle.checkout_report.specs.Report.{is_written, is_unfiltered, is_failed}
-use Rattle.checkout_engine.specs.declared.end.Run.{Run}
+use Rattle.checkout_engine.specs.declared.end.CheckoutRun.{CheckoutRun}
 use Rattle.checkout_engine.specs.declared.exit_status.ExitStatus.{ExitStatus}
 use Rattle.checkout_engine.specs.declared.exit_status.ExitStatus.TheVariants as status
 use Rattle.checkout_sources.specs.declared.stop.Stop.{Stop}
@@ -71,7 +71,7 @@ new_memory = begun (record { faults = 0; out = 0; returned = [] })
 
 -- A repository was checked out into an empty worktree in memory, by its drivers and as many workers as its
 -- configuration says. This is its run, and this is left of the worktree and of the spawner.
-pub record IsTried (told : RepoTold) (ahead : List ℕ → Starts) (run : Run) (tree : TreeSeen)
+pub record IsTried (told : RepoTold) (ahead : List ℕ → Starts) (run : CheckoutRun) (tree : TreeSeen)
     (spawner : SpawnerSeen) : Type 0 where
   pub left : Seen
   pub checkout : IsCheckedOut told ahead None new_memory left
@@ -80,20 +80,20 @@ pub record IsTried (told : RepoTold) (ahead : List ℕ → Starts) (run : Run) (
   pub spawner_is : spawner ≡ left.spawner
 
 -- The same, and nothing disturbed it: no leaf and no link failed, and there was memory for each path.
-pub record IsTriedWell (told : RepoTold) (ahead : List ℕ → Starts) (run : Run) (tree : TreeSeen) : Type 0 where
+pub record IsTriedWell (told : RepoTold) (ahead : List ℕ → Starts) (run : CheckoutRun) (tree : TreeSeen) : Type 0 where
   pub spawner : SpawnerSeen
   pub tried : IsTried told ahead run tree spawner
   pub undisturbed : IsUndisturbed tried.checkout
 
 -- the same for the repository and the drivers of a rehearsal
-pub record IsRehearsed (seed paths : ℕ) (run : Run) (tree : TreeSeen) : Type 0 where
+pub record IsRehearsed (seed paths : ℕ) (run : CheckoutRun) (tree : TreeSeen) : Type 0 where
   pub told : RepoTold
   pub made : IsRepository (files seed (in_order paths)) told
   pub well : IsTriedWell told (starts_for (scripts seed (in_order paths))) run tree
 
 -- A rehearsal ended, undisturbed, and its summary is this text.
 pub record IsSummed (seed paths : ℕ) (text : List ℕ) : Type 0 where
-  pub run : Run
+  pub run : CheckoutRun
   pub tree : TreeSeen
   pub rehearsed : IsRehearsed seed paths run tree
   pub fs : List TreeFile

@@ -6,7 +6,7 @@ use checkout_sources::Refusal;
 
 /// The run of a checkout over all paths of a plan.
 #[derive(Drop)]
-pub struct Run {
+pub struct CheckoutRun {
     pub plan: Plan,
     /// How many workers there were.
     pub workers: u32,
@@ -20,7 +20,7 @@ pub struct Run {
 #[derive(Drop)]
 pub enum Checkout {
     /// Each path of the plan has a verdict.
-    Done(Run),
+    Done(CheckoutRun),
     /// The worktree isn't empty, and nothing was done.
     NotEmpty,
     /// The repository can't be checked out, and no file was touched.

@@ -9,7 +9,7 @@ ghost use Rattle.checkout_engine.specs.Checkout.{HasVerdicts, Leaves, history_of
 ghost use Rattle.checkout_engine.specs.Ending.{StopsTree, StopsRun, IsRunOver};
 ghost use Rattle.checkout_engine.specs.Ends.{begun, seen};
 
-use crate::end::{Checkout, Run};
+use crate::end::{Checkout, CheckoutRun};
 use crate::halt::{Halt, halted};
 use checkout_paths::{Means, Pace, PathsDone, PlannedWork, check_out_paths};
 use checkout_sources::{Planned, Stop, read_plan, readings_leave_parts};
@@ -63,7 +63,7 @@ pub(crate) fn write_paths<R: Repo, T: Worktree, P: Spawner, G: Gate, H: Threads 
     tree: &mut T,
     spawner: &mut P,
     paced: PacedPlan,
-) -> Result<Run, AllocError>
+) -> Result<CheckoutRun, AllocError>
     requires asked { IsAsked paced.asked }
     requires read { (before : RepoSeen) × IsRead (R.told repo.old) paced.planned before (R.seen repo.old) }
     ensures told { R.told repo.new ≡ R.told repo.old }
@@ -102,7 +102,7 @@ pub(crate) fn write_paths<R: Repo, T: Worktree, P: Spawner, G: Gate, H: Threads 
         verdicts,
         workers,
     } = done;
-    Ok(Run {
+    Ok(CheckoutRun {
         plan,
         workers,
         verdicts,

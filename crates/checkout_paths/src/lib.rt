@@ -2,8 +2,8 @@
 #![tactic(auto)]
 
 mod cards;
-mod dealing;
-mod giving_back;
+mod dealt;
+mod given_back;
 mod laws;
 mod paths;
 mod work;

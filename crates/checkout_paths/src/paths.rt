@@ -7,8 +7,8 @@ ghost use Rattle.checkout_paths.specs.Workers.{IsPace};
 ghost use Rattle.checkout_paths.specs.Writing.{ArePathsDone, IsRunAt};
 
 use crate::cards::starts_of;
-use crate::dealing::{Dealt, deal};
-use crate::giving_back::{give_blobs, give_leaves, give_starters};
+use crate::dealt::{Dealt, deal};
+use crate::given_back::{give_blobs, give_leaves, give_starters};
 use crate::work::{Means, PlannedWork};
 use crate::workers::workers_for;
 use checkout_core::{Event, Verdict};

@@ -11,7 +11,7 @@ use Rattle.checkout_plan.specs.declared.fault.PlanFault.TheVariants as fault
 use Rattle.checkout_plan.specs.Paths.{plan_by, plan_of}
 use Rattle.checkout_plan.specs.Making.{HasPlan, MakesPlan, blobs_of}
 use Rattle.checkout_plan.specs.Seen.{ReadsAll}
-use Rattle.checkout_plan.specs.declared.making.PlanWithFiles.{PlanWithFiles}
+use Rattle.checkout_plan.specs.declared.made_plan.PlanWithFiles.{PlanWithFiles}
 use Rattle.checkout_plan.specs.WithFiles.{IsLimitedWith, IsMadeWith, MakesWithFiles, GivesBackWith}
 
 has_plan : (object : List ℕ → Told) (es : List Entry) (outer : OuterFiles) (settings : Settings) (files : AttrFiles) (plan : Plan) → ReadsAll object es outer files → plan ≡ plan_by files settings es → HasPlan object es outer settings plan

@@ -5,7 +5,7 @@ use Rattle.git_index.specs.declared.entry.Entry.{Entry}
 use Rattle.attr_stack.specs.declared.files.OuterFiles.{OuterFiles}
 use Rattle.settings_view.specs.declared.view.Settings.{Settings}
 use Rattle.checkout_plan.specs.declared.fault.PlanFault.{PlanFault}
-use Rattle.checkout_plan.specs.declared.making.PlanWithFiles.{PlanWithFiles}
+use Rattle.checkout_plan.specs.declared.made_plan.PlanWithFiles.{PlanWithFiles}
 use Rattle.checkout_plan.specs.Paths.{plan_by}
 use Rattle.checkout_plan.specs.Making.{HasPlanFault, GivesBack, blobs_of, max_drivers}
 use Rattle.checkout_plan.specs.Seen.{ReadsAll, IsLimited}

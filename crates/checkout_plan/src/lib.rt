@@ -4,7 +4,7 @@
 mod attribute_files;
 mod drivers;
 mod fault;
-mod making;
+mod made_plan;
 mod number;
 mod path_plan;
 mod paths;
@@ -13,5 +13,5 @@ mod starts;
 
 pub use attribute_files::object_content;
 pub use fault::{PlanFault, object_kind};
-pub use making::{PlanWithFiles, closed_paths_have_causes, make_plan, make_plan_with_files};
+pub use made_plan::{PlanWithFiles, closed_paths_have_causes, make_plan, make_plan_with_files};
 pub use path_plan::{PathPlan, Plan};

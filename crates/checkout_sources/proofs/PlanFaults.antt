@@ -13,7 +13,7 @@ use Rattle.checkout_plan.specs.declared.fault.PlanFault.{PlanFault}
 use Rattle.checkout_plan.specs.declared.fault.PlanFault.TheVariants as fault
 use Rattle.checkout_plan.specs.AttributeFiles.{is_attribute_file}
 use Rattle.checkout_plan.specs.Making.{IsFirstFault, HasPlanFault, MakesPlan, GivesBack, blobs_of, blobs_to, max_drivers}
-use Rattle.checkout_plan.specs.declared.making.PlanWithFiles.{PlanWithFiles}
+use Rattle.checkout_plan.specs.declared.made_plan.PlanWithFiles.{PlanWithFiles}
 use Rattle.checkout_plan.specs.WithFiles.{IsMadeWith}
 use Rattle.git_config.specs.declared.setting.Setting.{Setting}
 use Rattle.checkout_sources.specs.declared.stop.Stop.{Stop}

@@ -17,7 +17,7 @@ use Rattle.git_config.specs.declared.setting.Setting.{Setting}
 use Rattle.settings_view.specs.View.{settings_of}
 use Rattle.checkout_sources.specs.declared.sources.Configured.{Configured}
 use Rattle.settings_view.specs.declared.fault.SettingFault.{SettingFault}
-use Rattle.checkout_sources.specs.declared.planning.Planned.{Planned}
+use Rattle.checkout_sources.specs.declared.planned.Planned.{Planned}
 use Rattle.checkout_plan.specs.declared.fault.PlanFault.{PlanFault}
 use Rattle.checkout_plan.specs.declared.fault.PlanFault.TheVariants as fault
 use Rattle.checkout_sources.specs.declared.stop.Refusal.{Refusal}

@@ -3,7 +3,7 @@ ghost use Rattle.std.specs.Prelude.{◌≡◌};
 ghost use Rattle.checkout_sources.specs.Sources.{HasSources, IsConfigured};
 ghost use Rattle.checkout_sources.specs.Attributed.{ReadsAttributed};
 
-use crate::planning::stop_of;
+use crate::planned::stop_of;
 use crate::sources::{Sources, read_sources};
 use crate::stop::Stop;
 use attr_stack::AttrStack;

@@ -4,14 +4,14 @@
 
 mod attributed;
 mod laws;
-mod planning;
+mod planned;
 mod refusal;
 mod sources;
 mod stop;
 
 pub use attributed::{Attributed, read_attributed};
 pub use laws::readings_leave_parts;
-pub use planning::{Planned, read_plan};
+pub use planned::{Planned, read_plan};
 pub use refusal::refusal_line;
 pub use sources::{Sources, read_sources};
 pub use stop::{Refusal, Stop};

@@ -11,8 +11,8 @@ use Rattle.filter_proto.specs.Openings.{IsOpening, Announces}
 use Rattle.filter_proto.specs.Cleans.{IsCleaning, standing_after_clean}
 use Rattle.filter_proto.specs.declared.session.Standing.{Standing}
 use Rattle.filter_proto.specs.declared.session.Standing.TheVariants as standing
-use Rattle.filter_proto.specs.declared.cleaning.Cleaned.{Cleaned}
-use Rattle.filter_proto.specs.declared.cleaning.Cleaned.TheVariants as cleaned
+use Rattle.filter_proto.specs.declared.clean_session.Cleaned.{Cleaned}
+use Rattle.filter_proto.specs.declared.clean_session.Cleaned.TheVariants as cleaned
 use Rattle.clean_line.specs.declared.cause.CleanCause.{CleanCause}
 use Rattle.clean_line.specs.declared.cause.CleanCause.TheVariants as cause
 use Rattle.clean_line.specs.declared.cause.CleanFault.{CleanFault}

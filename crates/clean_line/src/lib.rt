@@ -7,7 +7,7 @@
 mod cause;
 mod laws;
 mod line;
-mod starting;
+mod session_start;
 
 pub use cause::{CleanCause, CleanFault};
 pub use laws::{equal_sessions_give_equal_answers, turns_are_talks};

@@ -5,7 +5,7 @@ ghost use Rattle.clean_line.specs.CleanLines.{line_of, Cleans, CleansBy, StartsF
 ghost use Rattle.clean_line.specs.CleanLines.{answer_of, lasting, lasting_in, starts_of};
 
 use crate::cause::{CleanCause, CleanFault};
-use crate::starting::{begin, end_session};
+use crate::session_start::{begin, end_session};
 use byte_path::Bytes;
 use edge_kit::Starter;
 use filter_proto::{CleanSession, Cleaned};

@@ -4,8 +4,8 @@
 
 mod card;
 mod conversion;
-mod preparing;
+mod prepared_content;
 
 pub use card::Card;
 pub use conversion::{Conversion, conversion_of};
-pub use preparing::prepare;
+pub use prepared_content::prepare;

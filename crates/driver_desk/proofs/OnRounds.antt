@@ -3,8 +3,8 @@ use Rattle.std.proofs.Common.{◌≡◌, ◌∙◌, ◌+◌, ◌<◌, ◌≤◌,
 use Rattle.std.specs.Prelude.{◌⊎◌}
 use Rattle.filter_proto.specs.Wires.{SessionSeen}
 use Rattle.driver_line.specs.Lines.{LineView, Paths, IsOpen, IsLive, weight}
-use Rattle.driver_desk.specs.declared.serving.Seat.{Seat}
-use Rattle.driver_desk.specs.declared.serving.Serving.{Serving}
+use Rattle.driver_desk.specs.declared.served.Seat.{Seat}
+use Rattle.driver_desk.specs.declared.served.Serving.{Serving}
 use Rattle.driver_desk.specs.InRounds.{IsInRounds, Goes}
 use Rattle.driver_desk.specs.On.{late_paths}
 use Rattle.driver_desk.specs.Places.{IsServing, IsDone}

@@ -2,7 +2,7 @@
 use Rattle.std.specs.Prelude.{◌≡◌, ℕ, List}
 use Rattle.delay_table.specs.Table.{AreApart}
 use Rattle.driver_line.specs.Lines.{LineView, Paths}
-use Rattle.driver_desk.specs.declared.serving.Serving.{Serving}
+use Rattle.driver_desk.specs.declared.served.Serving.{Serving}
 use Rattle.driver_desk.specs.Late.{KeepsNames, FitsNames, cards_of}
 use Rattle.driver_desk.specs.Noting.{IsNotes}
 use Rattle.driver_desk.specs.On.{Grows, late_paths}

@@ -1,7 +1,7 @@
 ghost use Rattle.std.specs.Prelude.{◌≡◌, None};
 
 use crate::patient::Patient;
-use crate::writing::{told, write_whole};
+use crate::whole_write::{told, write_whole};
 use edge_kit::{SendFault, Sink};
 use std::io::Write;
 

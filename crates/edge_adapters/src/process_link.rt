@@ -7,7 +7,7 @@ ghost use Rattle.edge_adapters.specs.Starts.{session_of};
 
 use crate::front::keep_front;
 use crate::process_starter::PastSession;
-use crate::writing::{told, write_whole};
+use crate::whole_write::{told, write_whole};
 use edge_kit::{Failed, Link, SendFault};
 use std::alloc::Global;
 use std::io;

@@ -4,7 +4,7 @@ ghost use Rattle.one_shot.specs.Onces.{RunsUntold};
 
 use crate::process_spawner::DriverPlace;
 use crate::process_starter::spawn;
-use crate::writing::write_whole;
+use crate::whole_write::write_whole;
 use byte_path::Bytes;
 use edge_kit::TakeFault;
 use one_shot::{Once, OnceEnd, OnceMaker};

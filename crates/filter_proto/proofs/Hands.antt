@@ -16,9 +16,9 @@ use Rattle.filter_words.specs.declared.answer_state.AnswerState.TheVariants.{On,
 use Rattle.filter_proto.specs.Wires.{Wire}
 use Rattle.filter_proto.specs.Exchanges.{Ends, Good, Broke, IsReading, IsHeard}
 use Rattle.filter_proto.specs.Openings.{LacksHello, BeginsHello, HelloBy, HelloWith, is_clean, has_clean, is_early, HandIs, TakesState}
-use Rattle.filter_proto.specs.declared.opening.HandReading.{HandReading}
-use Rattle.filter_proto.specs.declared.opening.HandStep.{HandStep}
-use Rattle.filter_proto.specs.declared.opening.HandStep.TheVariants as hand
+use Rattle.filter_proto.specs.declared.handshake.HandReading.{HandReading}
+use Rattle.filter_proto.specs.declared.handshake.HandStep.{HandStep}
+use Rattle.filter_proto.specs.declared.handshake.HandStep.TheVariants as hand
 use Rattle.filter_proto.proofs.More.{Skips, reading_on_with, heard_with, too_long, fitting, still_skip}
 
 snoc_split : (ps : List Packet) (x : Packet) (front rest : List Packet) → ps ++ x ∷ [] ≡ front ++ rest → (front ≡ ps ++ x ∷ []) ⊎ ((r : List Packet) × (ps ≡ front ++ r))

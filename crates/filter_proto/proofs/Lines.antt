@@ -25,9 +25,9 @@ use Rattle.filter_proto.specs.Wires.{Wire, SendsOn}
 use Rattle.filter_proto.specs.Exchanges.{Ends, Good, Broke, OutOfMemory, IsReading, IsHeard, IsExchange}
 use Rattle.filter_proto.specs.Replies.{IsFrontPut, IsPut, IsKept, HasPut, HasPutPart, EndPut, NotBegun, IsUntouched, reply_end}
 use Rattle.filter_proto.specs.Steps.{FlushEnds, FlushIs, StepIs, StepBegins}
-use Rattle.filter_proto.specs.declared.reading.Reading.{Reading}
-use Rattle.filter_proto.specs.declared.reading.Step.{Step}
-use Rattle.filter_proto.specs.declared.reading.Step.TheVariants as steps
+use Rattle.filter_proto.specs.declared.asked.Reading.{Reading}
+use Rattle.filter_proto.specs.declared.asked.Step.{Step}
+use Rattle.filter_proto.specs.declared.asked.Step.TheVariants as steps
 use Rattle.edge_kit.specs.Files.{IsOpenLeaf, grown}
 use Rattle.filter_proto.proofs.Told.{grown_nothing, grown_both}
 use Rattle.filter_proto.proofs.More.{Skips, reading_on, reading_long, reading_done, reading_broken, heard_less, unsent_fault, unsent_memory}

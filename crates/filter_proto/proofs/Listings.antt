@@ -28,9 +28,9 @@ use Rattle.filter_proto.specs.Wires.{Wire, SendsOn, Filled, FillFails}
 use Rattle.filter_proto.specs.Exchanges.{Ends, Good, Broke, OutOfMemory, Still, Stops}
 use Rattle.filter_proto.specs.Lists.{Lists, HasListed, BreaksLists, EndLists, IsBehindNames, delayed_in, listed_at, IsListExchange}
 use Rattle.filter_proto.specs.ListSteps.{ComesBehind, IsNamed, HasNames, IsListing, IsReadList, ListStepIs, EndsSo, TakesName, TakesList}
-use Rattle.filter_proto.specs.declared.listing.Listing.{Listing}
-use Rattle.filter_proto.specs.declared.listing.ListStep.{ListStep}
-use Rattle.filter_proto.specs.declared.listing.ListStep.TheVariants as step
+use Rattle.filter_proto.specs.declared.list_request.Listing.{Listing}
+use Rattle.filter_proto.specs.declared.list_request.ListStep.{ListStep}
+use Rattle.filter_proto.specs.declared.list_request.ListStep.TheVariants as step
 use Rattle.filter_proto.proofs.More.{Skips, reading_on, reading_fill, reading_stops, reading_bad, reading_starts, heard_packet, heard_less, still_skip, too_long, fitting, answered, unsent_fault, unsent_memory}
 use Rattle.filter_proto.proofs.Tables.{Differ, lists_more, expected, strange}
 

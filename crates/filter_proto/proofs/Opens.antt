@@ -16,9 +16,9 @@ use Rattle.edge_kit.specs.Faults.{Rose}
 use Rattle.filter_proto.specs.Complete.{BeginsGood, IsComplete}
 use Rattle.filter_proto.specs.Exchanges.{Ends, Good, Broke, OutOfMemory, Unsent, IsHeard, IsReading}
 use Rattle.filter_proto.specs.Openings.{GoesAfter, HelloWith, EndHello, LacksHello, BeginsHello, IsOpening, IsOpened, HearsCaps, Announces, HasHello, opening_end}
-use Rattle.filter_proto.specs.declared.opening.Announced.{Announced}
-use Rattle.filter_proto.specs.declared.opening.OpenFault.{OpenFault}
-use Rattle.filter_proto.specs.declared.opening.OpenFault.TheVariants as fault
+use Rattle.filter_proto.specs.declared.handshake.Announced.{Announced}
+use Rattle.filter_proto.specs.declared.handshake.OpenFault.{OpenFault}
+use Rattle.filter_proto.specs.declared.handshake.OpenFault.TheVariants as fault
 use Rattle.filter_proto.proofs.Told.{grown_both}
 use Rattle.filter_proto.proofs.More.{heard_from, heard_less, stops_from, took_from, still_from, sent_nothing}
 

@@ -14,8 +14,8 @@ use Rattle.filter_proto.specs.Wires.{Wire}
 use Rattle.filter_proto.specs.Exchanges.{Ends, Good, Broke, OutOfMemory, IsExchange}
 use Rattle.filter_proto.specs.Openings.{has_clean}
 use Rattle.filter_proto.specs.Complete.{BeginsGood}
-use Rattle.filter_proto.specs.declared.cleaning.Cleaned.{Cleaned}
-use Rattle.filter_proto.specs.declared.cleaning.Cleaned.TheVariants as cleaned
+use Rattle.filter_proto.specs.declared.clean_session.Cleaned.{Cleaned}
+use Rattle.filter_proto.specs.declared.clean_session.Cleaned.TheVariants as cleaned
 use Rattle.filter_proto.specs.declared.session.Standing.{Standing}
 use Rattle.filter_proto.specs.declared.session.Standing.TheVariants as standing
 

@@ -15,9 +15,9 @@ use Rattle.delay_table.specs.Table.{Table}
 use Rattle.filter_proto.specs.Wires.{Wire}
 use Rattle.filter_proto.specs.Exchanges.{Ends, Good, Broke, IsReading, IsHeard}
 use Rattle.filter_proto.specs.Lists.{Lists, EndLists, delayed_in, list_reply_of}
-use Rattle.filter_proto.specs.declared.listing.Listing.{Listing}
-use Rattle.filter_proto.specs.declared.listing.ListStep.{ListStep}
-use Rattle.filter_proto.specs.declared.listing.ListStep.TheVariants as step
+use Rattle.filter_proto.specs.declared.list_request.Listing.{Listing}
+use Rattle.filter_proto.specs.declared.list_request.ListStep.{ListStep}
+use Rattle.filter_proto.specs.declared.list_request.ListStep.TheVariants as step
 
 -- what comes after the lines with names: nothing while they are read, and then a flush packet first
 abbrev pub ComesBehind : ListPart → List Packet → Type 0

@@ -11,12 +11,12 @@ use Rattle.pkt_line.specs.Packets.{size}
 use Rattle.filter_words.specs.declared.reply.BreakCause.TheVariants as cause
 use Rattle.filter_words.specs.declared.handshake.HandshakePhase.{HandshakePhase}
 use Rattle.filter_words.specs.declared.handshake.HandshakePhase.TheVariants.{Server, Version, EndOfHello, Capabilities}
-use Rattle.filter_proto.specs.declared.opening.Announced.{Announced}
-use Rattle.filter_proto.specs.declared.opening.HandReading.{HandReading}
-use Rattle.filter_proto.specs.declared.opening.OpenFault.{OpenFault}
-use Rattle.filter_proto.specs.declared.opening.OpenFault.TheVariants as fault
-use Rattle.filter_proto.specs.declared.opening.HandStep.{HandStep}
-use Rattle.filter_proto.specs.declared.opening.HandStep.TheVariants as hand
+use Rattle.filter_proto.specs.declared.handshake.Announced.{Announced}
+use Rattle.filter_proto.specs.declared.handshake.HandReading.{HandReading}
+use Rattle.filter_proto.specs.declared.handshake.OpenFault.{OpenFault}
+use Rattle.filter_proto.specs.declared.handshake.OpenFault.TheVariants as fault
+use Rattle.filter_proto.specs.declared.handshake.HandStep.{HandStep}
+use Rattle.filter_proto.specs.declared.handshake.HandStep.TheVariants as hand
 use Rattle.filter_words.specs.declared.answer_state.AnswerState.TheVariants.{On, Done, Broken}
 use Rattle.edge_kit.specs.Files.{grown}
 use Rattle.filter_proto.specs.Wires.{Wire, Took}

@@ -9,9 +9,9 @@ use Rattle.edge_kit.specs.Seen.{LeafSeen}
 use Rattle.filter_proto.specs.Wires.{Wire}
 use Rattle.filter_proto.specs.Exchanges.{Ends, Good, Broke, OutOfMemory, IsReading, IsHeard}
 use Rattle.filter_proto.specs.Replies.{HasPut, EndPut, NotBegun, TouchesNot, reply_end}
-use Rattle.filter_proto.specs.declared.reading.Reading.{Reading}
-use Rattle.filter_proto.specs.declared.reading.Step.{Step}
-use Rattle.filter_proto.specs.declared.reading.Step.TheVariants as step
+use Rattle.filter_proto.specs.declared.asked.Reading.{Reading}
+use Rattle.filter_proto.specs.declared.asked.Step.{Step}
+use Rattle.filter_proto.specs.declared.asked.Step.TheVariants as step
 
 -- how a flush ends a reply
 abbrev pub FlushEnds : Bool → Reading → Ends GoodReply → Type 0

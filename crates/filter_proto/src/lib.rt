@@ -4,18 +4,18 @@
 //! whatever pieces the link gives it.
 #![tactic(auto)]
 
-mod asking;
-mod cleaning;
+mod request;
+mod clean_session;
 mod content;
 mod laws;
-mod listing;
-mod opening;
-mod reading;
-mod sending;
+mod list_request;
+mod handshake;
+mod asked;
+mod sent_parts;
 mod session;
 
-pub use cleaning::{CleanBegun, CleanSession, Cleaned};
+pub use clean_session::{CleanBegun, CleanSession, Cleaned};
 pub use laws::same_heard;
-pub use opening::Begun;
-pub use reading::Asked;
+pub use handshake::Begun;
+pub use asked::Asked;
 pub use session::{Session, Standing};

@@ -6,7 +6,7 @@ ghost use Rattle.edge_kit.specs.Faults.{AfterCall};
 ghost use Rattle.edge_kit.specs.Links.{Reads};
 ghost use Rattle.filter_proto.specs.Wires.{wire_of, Filled, FillFails, Sees, SendsOn, IsShutAfter};
 
-use crate::sending::{SmudgeRequest, send_clean, send_list, send_smudge};
+use crate::sent_parts::{SmudgeRequest, send_clean, send_list, send_smudge};
 use edge_kit::{Failed, Link, SendFault};
 use filter_words::{BreakCause, Caps};
 use pkt_line::{Next, PktFault, PktReader};

@@ -11,7 +11,7 @@ use Rattle.checkout_core.specs.declared.verdict.FailCause.TheVariants as fail
 use Rattle.checkout_core.specs.declared.verdict.SkipCause.TheVariants as skip
 use Rattle.checkout_core.specs.declared.path.Start.{Start}
 use Rattle.checkout_core.specs.declared.path.Start.TheVariants.{Pool, Desk, Done}
-use Rattle.journal_audit.specs.declared.reading.Head.{Head}
+use Rattle.journal_audit.specs.declared.line_reader.Head.{Head}
 use Rattle.journal_audit.specs.Journal.{start_words, start_fits, done_word, is_planned, need_word, fits, head_words}
 use Rattle.journal_audit.specs.Reading.{number, on, word_in, all_planned, need, start_one, start_two, start_three, start_of, done_of, below, IsLimited}
 use Rattle.journal_audit.specs.Reading.{is_head, limited_head, head_four, head_of}

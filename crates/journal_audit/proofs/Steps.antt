@@ -8,7 +8,7 @@ use Rattle.checkout_core.specs.declared.event.Event.{Event}
 use Rattle.checkout_core.specs.States.{Core, AreBelow}
 use Rattle.journal_audit.specs.declared.answer.Audit.{Audit}
 use Rattle.journal_audit.specs.declared.answer.Audit.TheVariants.{Unreadable}
-use Rattle.journal_audit.specs.declared.reading.Head.{Head}
+use Rattle.journal_audit.specs.declared.line_reader.Head.{Head}
 use Rattle.journal_audit.specs.Reading.{parts, event_of, start_of, head_of, is_end, is_last, core_after, wrong_after, audit_end, audit_events, audit_starts, audit_head, audit_text, IsNoStart, IsNextStart}
 use Rattle.journal_audit.specs.Journal.{start_fits}
 use Rattle.checkout_core.specs.declared.path.Start.TheVariants.{Desk}

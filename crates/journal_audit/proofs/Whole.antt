@@ -13,7 +13,7 @@ use Rattle.checkout_core.specs.States.{Core, start, unclosed_count}
 use Rattle.checkout_core.specs.Steps.{replay, StopsAt}
 use Rattle.journal_audit.specs.declared.answer.Audit.{Audit}
 use Rattle.journal_audit.specs.declared.answer.Audit.TheVariants.{Legal, Illegal, Unreadable}
-use Rattle.journal_audit.specs.declared.reading.Head.{Head}
+use Rattle.journal_audit.specs.declared.line_reader.Head.{Head}
 use Rattle.journal_audit.specs.Journal.{Journal, IsJournal, spelling, line, start_words, start_line, start_fits, event_line, end_words, head_words}
 use Rattle.journal_audit.specs.Fronts.{IsFront, IsStuckAfter}
 use Rattle.journal_audit.specs.Audits.{Spells, IsSpelling, IsAudit}

@@ -31,7 +31,7 @@ use Rattle.journal_audit.specs.Words.{own_word, opening_word, reply_word}
 use Rattle.journal_audit.specs.Journal.{done_word}
 use Rattle.journal_audit.specs.declared.answer.Audit.{Audit}
 use Rattle.journal_audit.specs.declared.answer.Audit.TheVariants.{Legal, Illegal, Unreadable}
-use Rattle.journal_audit.specs.declared.reading.Head.{Head}
+use Rattle.journal_audit.specs.declared.line_reader.Head.{Head}
 
 -- the parts of a text between bytes of this value
 abbrev pub parts : ℕ → List ℕ → List (List ℕ)

@@ -8,7 +8,7 @@ ghost use Rattle.journal_audit.specs.Audits.{IsAudit};
 
 use crate::answer::Audit;
 use crate::cut::{cut, words_in};
-use crate::reading::{Head, event_of, head_of, is_end, start_of};
+use crate::line_reader::{Head, event_of, head_of, is_end, start_of};
 use byte_path::one_decimal;
 use checkout_core::{Event, Refused, Start, State, step};
 use std::alloc::{AllocError, Global};

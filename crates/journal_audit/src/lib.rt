@@ -6,7 +6,7 @@ mod cut;
 mod judge;
 mod laws;
 mod print;
-mod reading;
+mod line_reader;
 mod words;
 
 pub use answer::Audit;

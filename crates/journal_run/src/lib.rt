@@ -4,7 +4,7 @@
 mod checkout;
 mod finding;
 mod laws;
-mod rehearsing;
+mod rehearsed;
 mod run;
 mod status;
 mod words;

@@ -10,7 +10,7 @@ ghost use Rattle.journal_run.specs.Words.{asked};
 ghost use Rattle.journal_run.specs.Ends.{Ends, EndsForm, IsAnswered, IsAnsweredBy, IsCutOff, IsUnread, Writes};
 
 use crate::finding::{FindFault, find, finding_line, status_of};
-use crate::rehearsing::rehearsal_journal;
+use crate::rehearsed::rehearsal_journal;
 use crate::status::{JournalStatus, number_of};
 use crate::words::{JournalTask, task_of};
 use edge_kit::{Blob, Gate, SendFault, Sink};

@@ -6,7 +6,7 @@ use Rattle.edge_kit.specs.Faults.{AfterTake}
 use Rattle.edge_kit.specs.Told.{Told, Takes}
 use Rattle.edge_kit.specs.declared.faults.TakeFault.{TakeFault}
 use Rattle.sha1.specs.Sha1.{sha1}
-use Rattle.object_dir.specs.declared.taking.Taken.{Taken}
+use Rattle.object_dir.specs.declared.taken_blob.Taken.{Taken}
 use Rattle.object_dir.specs.Object.{max_stored}
 
 -- the stored bytes, if there are any

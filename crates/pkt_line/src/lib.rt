@@ -5,10 +5,10 @@
 mod laws;
 mod length;
 mod reader;
-mod writing;
+mod writer;
 
 pub use laws::{
     fault_stays, given_so_far, no_packet, one_answer, one_reading, prefix_free, spells,
 };
 pub use reader::{Next, PktFault, PktReader};
-pub use writing::{push_content, push_flush, push_line, push_payload};
+pub use writer::{push_content, push_flush, push_line, push_payload};

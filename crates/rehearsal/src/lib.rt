@@ -3,11 +3,11 @@
 
 mod answers;
 mod files;
-mod making;
+mod rehearsed;
 mod order;
 mod paths;
 mod scripts;
 
-pub use making::{
+pub use rehearsed::{
     Rehearsed, attributes_are_right, blocks_are_alike, files_have_an_index, rehearse,
 };

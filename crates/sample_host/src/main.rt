@@ -7,10 +7,10 @@ ghost use Rattle.std.specs.Prelude.{◌≡◌};
 ghost use Rattle.sample_host.specs.Modes.{caps_named};
 
 mod capitals;
-mod serving;
+mod served;
 
 use crate::capitals::Capitals;
-use crate::serving::serve;
+use crate::served::serve;
 use anyhow::Context;
 use driver_host::Host;
 use filter_words::Caps;

@@ -5,10 +5,10 @@ mod drivers;
 mod fault;
 mod keys;
 mod number;
-mod reading;
+mod settings_read;
 mod value;
 mod view;
 
 pub use fault::{KeyId, SettingFault};
-pub use reading::{cleaning_drivers, drivers_are_those_spoken_of, settings};
+pub use settings_read::{cleaning_drivers, drivers_are_those_spoken_of, settings};
 pub use view::{Driver, Settings};

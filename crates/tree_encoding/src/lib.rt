@@ -7,9 +7,9 @@ mod form;
 mod named;
 mod prepared;
 mod text;
-mod writing;
+mod encoded_text;
 
 pub use encoding::{Encoding, UnknownEncoding, name_names_encoding, one_content};
 pub use named::encoding_of;
 pub use prepared::Prepared;
-pub use writing::{encode, encode_text};
+pub use encoded_text::{encode, encode_text};

@@ -4,7 +4,7 @@ use Rattle.std.proofs.lemmas.List.{append-nil, length-map}
 use mathlib.Core.List.{map-append}
 use Rattle.atomic_table.specs.Seated.{TableId}
 use Rattle.turn_lock.specs.Seat.{SeatView, mine_of, seen_of, number_of}
-use Rattle.object_dir.specs.declared.taking.Taken.{Taken}
+use Rattle.object_dir.specs.declared.taken_blob.Taken.{Taken}
 use Rattle.delay_table.specs.Table.{contains, AreApart}
 use Rattle.convert_plan.specs.declared.card.Card.{Card}
 use Rattle.convert_plan.specs.Card.{CardSeen}
@@ -26,7 +26,7 @@ use Rattle.checkout_book.specs.Shelves.{cards_of, IsOut}
 use Rattle.checkout_book.specs.Passes.{Claims, Closes, TookNone, TookCard, Keeps, claim_entry, close_entry}
 use Rattle.writer_pool.specs.declared.hand.Hand.{Hand}
 use Rattle.writer_pool.specs.declared.held.Held.{Held}
-use Rattle.writer_pool.specs.declared.writing.Written.{Written}
+use Rattle.writer_pool.specs.declared.written.Written.{Written}
 use Rattle.writer_pool.specs.Fours.{items}
 use Rattle.writer_pool.specs.Turns.{TurnSteps}
 use Rattle.writer_pool.specs.Holding.{HoldsCard, WritesHeld, Shift, paths_in, claims_in, IsClaimed, IsHeld, AreHeld, IsHand, IsInHand, SawNone, SameHeld, AreSame, IsToBeWritten, IsWrittenSo}

@@ -7,7 +7,7 @@ use Rattle.edge_kit.specs.declared.leaf_state.Mark.{Mark}
 use Rattle.object_dir.specs.Object.{IsObject}
 use Rattle.object_dir.specs.declared.fault.ObjectFault.{ObjectFault}
 use Rattle.object_dir.specs.declared.fault.ObjectFault.TheVariants as fault
-use Rattle.object_dir.specs.declared.taking.Taken.{Taken}
+use Rattle.object_dir.specs.declared.taken_blob.Taken.{Taken}
 use Rattle.tree_encoding.specs.declared.prepared.Prepared.{Prepared}
 use Rattle.convert_plan.specs.Card.{CardSeen, IsCardOf, IsPrepared}
 use Rattle.checkout_core.specs.declared.verdict.Own.{Own}

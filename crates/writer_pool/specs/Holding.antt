@@ -3,7 +3,7 @@ use Rattle.std.specs.Prelude.{◌≡◌, ◌++◌, ℕ, true, List, [], ◌∷�
 use Rattle.atomic_table.specs.Seated.{TableId}
 use Rattle.turn_lock.specs.History.{Begins}
 use Rattle.turn_lock.specs.Seat.{SeatView, mine_of, seen_of}
-use Rattle.object_dir.specs.declared.taking.Taken.{Taken}
+use Rattle.object_dir.specs.declared.taken_blob.Taken.{Taken}
 use Rattle.object_dir.specs.Taking.{IsTaken, stored_in}
 use Rattle.delay_table.specs.Table.{contains, AreApart}
 use Rattle.convert_plan.specs.declared.card.Card.{Card}
@@ -28,7 +28,7 @@ use Rattle.driver_desk.specs.Cards.{KeepsCard}
 use Rattle.writer_pool.specs.declared.held.Held.{Held}
 use Rattle.writer_pool.specs.declared.hand.Hand.{Hand}
 use Rattle.writer_pool.specs.Fours.{items}
-use Rattle.writer_pool.specs.declared.writing.Written.{Written}
+use Rattle.writer_pool.specs.declared.written.Written.{Written}
 use Rattle.writer_pool.specs.Turns.{TurnSteps}
 use Rattle.writer_pool.specs.Working.{AreShown, own_events}
 use Rattle.writer_pool.specs.Writing.{IsToWrite, WritesCard}

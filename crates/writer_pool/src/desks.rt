@@ -5,7 +5,7 @@ ghost use Rattle.writer_pool.specs.Dealing.{AreDecks, desk_jobs, head_of};
 
 use crate::jobs::{ActorJob, DeskJob, Job};
 use crate::pooled::DeskSeed;
-use checkout_book::reserving::DeskPass;
+use checkout_book::reserved_cards::DeskPass;
 use convert_plan::Card;
 use driver_desk::Desk;
 use edge_kit::{Blob, Leaf, Starter};

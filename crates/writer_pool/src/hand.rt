@@ -9,7 +9,7 @@ ghost use Rattle.writer_pool.specs.Holding.{Shift, IsHand, IsInHand, IsWrittenSo
 use crate::ahead::{is_worth_ahead, read_and_find, stored_len};
 use crate::four::Four;
 use crate::held::{Held, Reading, hold_card, write_held};
-use crate::writing::Written;
+use crate::written::Written;
 use checkout_book::book::{Book, Pass, claim, close};
 use core_laws::laws;
 use edge_kit::{Blob, Gate, Leaf, Point};

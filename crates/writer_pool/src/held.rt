@@ -6,7 +6,7 @@ ghost use Rattle.checkout_book.specs.Sights.{sight};
 ghost use Rattle.writer_pool.specs.Holding.{HoldsCard, SameHeld, IsToBeWritten, IsWrittenSo, stored_in_held};
 
 use crate::leaf::write_leaf;
-use crate::writing::{Written, write_card};
+use crate::written::{Written, write_card};
 use convert_plan::Card;
 use driver_desk::prepared_from;
 use edge_kit::{Blob, Leaf};

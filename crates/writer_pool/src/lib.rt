@@ -4,10 +4,10 @@
 
 mod ahead;
 mod back;
-mod beginning;
+mod begun;
 mod desk_actor;
 mod desks;
-mod ending;
+mod pool_end;
 mod four;
 mod hand;
 mod held;
@@ -19,7 +19,7 @@ mod path_ends;
 mod pooled;
 mod run;
 mod workers;
-mod writing;
+mod written;
 
 pub use pooled::{DeskSeed, Pooled};
 pub use run::pool_run;

@@ -7,8 +7,8 @@ ghost use Rattle.writer_pool.specs.Ends.{IsRun, AreEnds};
 ghost use Rattle.writer_pool.specs.Pools.{AreSeeds, AreStartersBack, AreTalks, seed_cards};
 
 use crate::back::{Back, back_room, came_back};
-use crate::beginning::begin_pool;
-use crate::ending::{end_all, leave};
+use crate::begun::begin_pool;
+use crate::pool_end::{end_all, leave};
 use crate::hand::Gathering;
 use crate::jobs::act_all;
 use crate::path_ends::{PathEnds, room_for};

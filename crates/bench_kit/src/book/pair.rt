@@ -7,7 +7,7 @@ ghost use Rattle.bench_kit.specs.Pairs.{two, IsPair, IsBegun, pair_plan};
 
 use crate::book::lists::apart;
 use checkout_book::book::{Book, Pass};
-use checkout_book::reserving::{BookBegun, reserve};
+use checkout_book::reserved_cards::{BookBegun, reserve};
 use checkout_core::Start;
 use convert_plan::Card;
 use edge_kit::{Blob, Leaf};

@@ -1,5 +1,5 @@
 use Rattle.std.proofs.Common.{Option, ap, subst}
-use Rattle.object_dir.specs.declared.taking.Taken.{Taken}
+use Rattle.object_dir.specs.declared.taken_blob.Taken.{Taken}
 use Rattle.convert_plan.specs.Card.{CardSeen}
 use Rattle.checkout_book.specs.Sights.{sight, seen}
 use Rattle.writer_pool.specs.Holding.{HoldsCard}

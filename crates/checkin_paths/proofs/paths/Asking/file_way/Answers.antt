@@ -1,7 +1,7 @@
 use Rattle.std.proofs.Common.{ℕ, List, length, map, ap, ◌∙◌}
 use Rattle.attr_line.specs.declared.state.AttrState.{AttrState}
 use Rattle.attr_stack.specs.Decided.{state_of}
-use Rattle.checkin_paths.specs.Asking.{way_by_states}
+use Rattle.checkin_paths.specs.Asked.{way_by_states}
 use Rattle.checkin_paths.proofs.paths.Asking.file_way.Goals as goal
 
 pub file_way-requires : goal.file_way-requires

@@ -2,7 +2,7 @@ use Rattle.std.proofs.Common.{ap}
 use Rattle.pkt_line.specs.Packets.{Payload}
 use Rattle.filter_proto.specs.Wires.{SessionSeen}
 use Rattle.filter_proto.proofs.More.{reading_fill, reading_stops, reading_bad, reading_on}
-use Rattle.filter_proto.specs.declared.reading.Reading.{Reading}
+use Rattle.filter_proto.specs.declared.asked.Reading.{Reading}
 use Rattle.filter_proto.proofs.Lines.{flush_steps, put_more, stopped, line_long}
 use Rattle.filter_proto.proofs.session.Session.step.Goals as goal
 

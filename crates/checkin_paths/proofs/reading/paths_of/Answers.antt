@@ -1,5 +1,0 @@
-use Rattle.checkin_paths.proofs.Drivers.{memory_alone}
-use Rattle.checkin_paths.proofs.reading.paths_of.Goals as goal
-
-pub stop_of-requires : goal.stop_of-requires
-stop_of-requires c = memory_alone c.args.attributed.config c.args.attributed.settings c.in-Err.fault c.requires c.in-Err.ensures.said

@@ -1,4 +1,0 @@
-use Rattle.checkout_book.proofs.reserving.reserve.Goals as goal
-
-pub begin-requires : goal.begin-requires
-begin-requires g c = c.requires.plan

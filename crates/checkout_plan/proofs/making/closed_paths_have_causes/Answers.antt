@@ -1,5 +1,0 @@
-use Rattle.checkout_plan.proofs.Closed.{closed_causes}
-use Rattle.checkout_plan.proofs.making.closed_paths_have_causes.Goals as goal
-
-pub returns : goal.returns
-returns c = closed_causes

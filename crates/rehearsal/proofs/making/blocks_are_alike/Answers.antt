@@ -1,5 +1,0 @@
-use Rattle.rehearsal.proofs.Blocks.{blocks_alike}
-use Rattle.rehearsal.proofs.making.blocks_are_alike.Goals as goal
-
-pub returns : goal.returns
-returns c = blocks_alike
