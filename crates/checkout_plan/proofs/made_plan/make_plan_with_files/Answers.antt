@@ -1,8 +1,6 @@
-use Rattle.std.proofs.Common.{◌≡◌, List, ◌++◌, ap, ◌∙◌, subst}
+use Rattle.std.proofs.Common.{List, ◌++◌, ap, ◌∙◌, subst}
 use Rattle.git_index.specs.declared.entry.Entry.{Entry}
-use Rattle.checkout_plan.specs.Paths.{plan_by}
 use Rattle.checkout_plan.specs.Making.{HasPlanFault, blobs_of}
-use Rattle.checkout_plan.specs.Seen.{ReadsAll}
 use Rattle.checkout_plan.proofs.Files.{all_returned}
 use Rattle.checkout_plan.proofs.Whole.{made_with_files, given_with_files}
 use Rattle.checkout_plan.proofs.made_plan.make_plan_with_files.Goals as goal
